@@ -1,0 +1,28 @@
+use Rattle.std.specs.Prelude.{◌≡◌, ℕ, ◌==◌, ◌<◌, ◌≤◌, List, length, Bool, true, false, Option, Some, None, IsSomeAnd, Result, Ok, Err}
+use Rattle.std.specs.List.{list_any}
+use Rattle.ts_link.specs.Files.{file_in}
+use Rattle.ts_link.specs.declared.shelf.ShelfFault.{ShelfFault}
+use Rattle.ts_link.specs.declared.shelf.ShelfFault.TheVariants.{Failed, TooLong, NoMemory}
+use Rattle.ts_link.specs.declared.octets.Octets.{Octets}
+
+-- the files in order, the numbers of the read calls that fail, the number of read calls, and the counts
+pub record ShelfState : Type 0 where
+  pub files : List (List ℕ × List ℕ)
+  pub failing : List ℕ
+  pub calls : ℕ
+  pub faults : ℕ
+  pub longs : ℕ
+
+-- whether a call of this number is to fail
+abbrev pub fails_at : ℕ → List ℕ → Bool
+fails_at call failing = list_any (λ y. y == call) failing
+
+-- a shelf in memory fails exactly at the calls of its list and where it has no file of the name; a file that is
+-- too long was seen whole
+abbrev pub ReadsAt : ShelfState → ShelfState → List ℕ → ℕ → Result Octets ShelfFault → Type 0
+ReadsAt old new name most (Ok bytes) =
+    (fails_at new.calls old.failing ≡ false) × (file_in old.files name ≡ Some bytes) × (length bytes ≤ most)
+ReadsAt old new name most (Err Failed) = fails_at new.calls old.failing ≡ false → file_in old.files name ≡ None
+ReadsAt old new name most (Err (TooLong seen)) =
+    (fails_at new.calls old.failing ≡ false) × IsSomeAnd (file_in old.files name) (λ bytes. (seen ≡ length bytes) × (most < length bytes))
+ReadsAt old new name most (Err NoMemory) = fails_at new.calls old.failing ≡ false
