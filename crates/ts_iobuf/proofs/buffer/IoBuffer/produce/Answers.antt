@@ -1,0 +1,17 @@
+use Rattle.std.proofs.Common.{◌≤◌, ◌+◌, length, take, drop, refl, sym, subst, arith, length-take}
+use Rattle.ts_iobuf.specs.Buffer.{Buffer}
+use Rattle.ts_iobuf.specs.View.{seen, shown}
+use Rattle.ts_iobuf.proofs.Growing.{grows, held-more, within_held}
+use Rattle.ts_iobuf.proofs.buffer.IoBuffer.produce.Goals as goal
+
+-- The part of the room that is added stands right behind the bytes.
+pub returns-clause-grows : goal.returns-clause-grows
+returns-clause-grows c =
+    let s = c.self.inside in
+    let filled : s.filled ≤ length s.store.items = omega (arith, c.self.invariant.room) in
+    let asked : c.args.n ≤ length (seen s).room = subst (λ (b : Buffer). c.args.n ≤ length b.room) (sym c.self.view_is) c.requires in
+    let few : c.args.n ≤ s.room = omega (arith, asked, length-take s.room (drop s.filled s.store.items)) in
+    rw (← c.self.view_is)
+    (grows (seen s) (shown s.start (s.filled + c.args.n) 0 s.slots.items s.mark s.store.items) (take c.args.n (seen s).room)
+    (held-more s.start s.filled c.args.n s.room s.store.items c.self.invariant.start few c.self.invariant.room) refl refl
+    (within_held s.start s.filled s.store.items s.slots.items filled c.self.invariant.places))

@@ -1,0 +1,51 @@
+-- What a contract sees of an IO buffer (the Developer's Guide's chapter "IO Buffers": a buffer, its readers, each at
+-- a place of its own, and blocks that are read without copying).
+use Rattle.std.specs.Prelude.{◌≡◌, ℕ, ◌-◌, ◌++◌, List, [], ◌∷◌, length, drop, Bool, IsTrue, Option, Some, None, is_some, if◌then◌else◌, nat_lt}
+use Rattle.ts_iobuf.specs.declared.readers.ReaderId.{ReaderId}
+use Rattle.ts_iobuf.specs.declared.readers.Slot.{Slot}
+use Rattle.ts_iobuf.specs.Places.{place_in, bytes_from}
+
+-- the bytes that were not dropped, the readers' places among them, the room that was handed out last, the blocks
+-- that the bytes stand in, and the water mark
+pub record Buffer : Type 0 where
+  pub bytes : List ℕ
+  pub readers : List Slot
+  pub room : List ℕ
+  pub blocks : List (List ℕ)
+  pub mark : ℕ
+
+abbrev pub is_reader : Buffer → ReaderId → Bool
+is_reader b r = is_some (place_in b.readers r)
+
+-- what a reader can read: the bytes from its place on
+abbrev pub readable : Buffer → ReaderId → List ℕ
+readable b r = bytes_from (place_in b.readers r) b.bytes
+
+-- the blocks after the first n bytes
+abbrev pub blocks_after : ℕ → List (List ℕ) → List (List ℕ)
+blocks_after n [] = []
+blocks_after n (x ∷ xs) = if nat_lt n (length x) then drop n x ∷ xs else blocks_after (n - length x) xs
+
+abbrev pub blocks_from : Option ℕ → List (List ℕ) → List (List ℕ)
+blocks_from None blocks = []
+blocks_from (Some place) blocks = blocks_after place blocks
+
+-- the blocks that a reader can read
+abbrev pub blocks_of : Buffer → ReaderId → List (List ℕ)
+blocks_of b r = blocks_from (place_in b.readers r) b.blocks
+
+-- the one block of a list, if it is not empty
+abbrev pub one_block : List ℕ → List (List ℕ)
+one_block [] = []
+one_block (b ∷ bs) = (b ∷ bs) ∷ []
+
+-- the new buffer has more bytes behind those of the old one, for each reader, and all else but the room is as it was
+pub record Grows (old new : Buffer) (more : List ℕ) : Type 0 where
+  pub bytes : new.bytes ≡ old.bytes ++ more
+  pub readers : new.readers ≡ old.readers
+  pub mark : new.mark ≡ old.mark
+  pub read : (q : ReaderId) → IsTrue (is_reader old q) → readable new q ≡ readable old q ++ more
+
+-- the bytes that a buffer got behind those that it had
+abbrev pub appended : Buffer → Buffer → List ℕ
+appended old new = drop (length old.bytes) new.bytes

@@ -1,0 +1,25 @@
+-- How the fields of a buffer are seen.
+use Rattle.std.specs.Prelude.{ℕ, ◌+◌, ◌-◌, ◌≤◌, List, take, drop, length}
+use Rattle.ts_iobuf.specs.declared.readers.Slot.{Slot}
+use Rattle.ts_iobuf.specs.declared.buffer.IoBuffer.TheInside.{Inside}
+use Rattle.ts_iobuf.specs.Buffer.{Buffer, one_block}
+use Rattle.ts_iobuf.specs.Held.{held}
+use Rattle.ts_iobuf.specs.Places.{StandsWithin}
+
+-- the buffer whose bytes stand in the store from start to filled, with `room` bytes lent behind them
+abbrev pub shown : ℕ → ℕ → ℕ → List Slot → ℕ → List ℕ → Buffer
+shown start filled room readers mark store = record {
+  bytes = held start filled store;
+  readers = readers;
+  room = take room (drop filled store);
+  blocks = one_block (held start filled store);
+  mark = mark;
+}
+
+abbrev pub seen : Inside → Buffer
+seen s = shown s.start s.filled s.room s.slots.items s.mark s.store.items
+
+pub record Fits (s : Inside) : Type 0 where
+  pub start : s.start ≤ s.filled
+  pub room : s.filled + s.room ≤ length s.store.items
+  pub places : StandsWithin (s.filled - s.start) s.slots.items

@@ -1,0 +1,174 @@
+// The buffer and its calls, but `space`.
+ghost use Rattle.std.specs.Prelude.{◌≡◌, ◌≢◌, ℕ, ◌+◌, ◌-◌, ◌^◌, ◌<◌, ◌≤◌, ◌++◌, ◌∷◌, [], List, length, take, drop, map, flat_map, slice_get, IsTrue, All, IfOk, OnOk, OnErr, MatchOption, Some, false, ◌↔◌};
+ghost use Rattle.std.specs.Option.{option_copied};
+
+mod space;
+
+use crate::readers::{ReaderId, Slot, move_on, place_of};
+use crate::store::{block_at, bytes_between, compact, put};
+use std::alloc::Global;
+use std::marker::Model;
+use ts_link::NoMemory;
+
+/// Bytes that are written at the end and read by any number of readers, each at a place of its own. What no
+/// reader stands before is dropped. (The Developer's Guide, "IO Buffers".)
+#[derive(Drop)]
+pub struct IoBuffer {
+    // The bytes are those from `start` to `filled`, and the `room` bytes behind them are those that were lent last.
+    store: Vec<u8>,
+    start: usize,
+    filled: usize,
+    room: usize,
+    slots: Vec<Slot>,
+    mark: usize,
+}
+
+impl Model for IoBuffer {
+    ghost use Rattle.ts_iobuf.specs.Buffer.{Buffer};
+
+    ghost Value = { Buffer };
+
+    ghost use Rattle.ts_iobuf.specs.View.{seen, Fits};
+
+    ghost view = { seen };
+
+    ghost invariant = { Fits };
+}
+
+impl IoBuffer {
+    ghost use Rattle.ts_iobuf.specs.Buffer.{Grows, is_reader, readable, blocks_of};
+    ghost use Rattle.ts_iobuf.specs.Places.{place_in, moved, least_place, lowered};
+
+    /// An empty buffer with no readers and the water mark 0.
+    pub fn new(alloc: Global) -> Result<IoBuffer, NoMemory>
+        ensures { IfOk result (λ b. b ≡ record { bytes = []; readers = []; room = []; blocks = []; mark = 0 }) }
+    {
+        Ok(IoBuffer {
+            store: Vec::new(alloc),
+            start: 0,
+            filled: 0,
+            room: 0,
+            slots: Vec::new(alloc),
+            mark: 0,
+        })
+    }
+
+    /// A new reader at the front of the bytes.
+    pub fn reader(&mut self) -> Result<ReaderId, NoMemory>
+        ensures fresh { IfOk result (λ r. is_reader self.old r ≡ false) }
+        ensures front { IfOk result (λ r. place_in self.new.readers r ≡ Some 0) }
+        ensures others { IfOk result (λ r. (q : _) → q ≢ r → place_in self.new.readers q ≡ place_in self.old.readers q) }
+        ensures rest { OnOk result (self.new ≡ record self.old { readers = self.new.readers }) }
+        ensures err { OnErr result (self.new ≡ self.old) }
+    {
+        let Ok(index) = u32::try_from(self.slots.len()) else {
+            return Err(NoMemory);
+        };
+        let generation = 1;
+        let place = Some(0);
+        self.slots.push(Slot { generation, place })?;
+        Ok(ReaderId { index, generation })
+    }
+
+    /// Whether the buffer has this reader.
+    pub fn is_reader(&self, reader: ReaderId) -> bool
+        ensures { result ≡ is_reader self.now reader }
+    {
+        place_of(self.slots.as_slice(), reader).is_some()
+    }
+
+    /// How many bytes the reader can read.
+    pub fn avail(&self, reader: ReaderId) -> usize
+        requires { IsTrue (is_reader self.now reader) }
+        ensures { result ≡ length (readable self.now reader) }
+    {
+        match place_of(self.slots.as_slice(), reader) {
+            Some(place) => self.filled - self.start - place,
+            None => unreachable!(),
+        }
+    }
+
+    /// Lends the k-th block, counted from 0, of what the reader can read; the blocks joined are all of that, and
+    /// none is empty. `None` where there are no more than `k`.
+    pub fn block(&self, reader: ReaderId, k: usize) -> Option<&[u8]>
+        requires { IsTrue (is_reader self.now reader) }
+        ensures block { option_copied result ≡ slice_get (blocks_of self.now reader) k }
+        ensures joined { flat_map (λ b. b) (blocks_of self.now reader) ≡ readable self.now reader }
+        ensures full { All (λ b. 0 < length b) (blocks_of self.now reader) }
+
+        // So the first block, if there is one, is a part at the front of what the reader can read.
+        ensures first { k ≡ 0 → MatchOption result (readable self.now reader ≡ [])
+            (λ b. (0 < length b.now) × (length b.now ≤ length (readable self.now reader))
+            × (b.now ≡ take (length b.now) (readable self.now reader))) }
+    {
+        let bytes = bytes_between(self.store.as_slice(), self.start, self.filled);
+        match place_of(self.slots.as_slice(), reader) {
+            Some(place) => block_at(bytes.split_at(place).1, k),
+            None => unreachable!(),
+        }
+    }
+
+    /// Adds these bytes behind the others.
+    pub fn write(&mut self, bytes: &[u8]) -> Result<(), NoMemory>
+        ensures grows { OnOk result (Grows self.old self.new bytes.now) }
+        ensures room { OnOk result (self.new.room ≡ []) }
+        ensures err { OnErr result (self.new ≡ self.old) }
+    {
+        put(&mut self.store, self.filled, bytes)?;
+        self.filled = self.store.len();
+        self.room = 0;
+        Ok(())
+    }
+
+    /// Adds the first `n` bytes of the room that was lent last, as they were left there.
+    pub fn produce(&mut self, n: usize)
+        requires { n ≤ length self.old.room }
+        ensures grows { Grows self.old self.new (take n self.old.room) }
+        ensures room { self.new.room ≡ [] }
+    {
+        self.filled += n;
+        self.room = 0;
+    }
+
+    /// Moves the reader over the next `n` bytes, and then drops the bytes that no reader stands before.
+    pub fn consume(&mut self, reader: ReaderId, n: usize)
+        requires live { IsTrue (is_reader self.old reader) }
+        requires within { n ≤ length (readable self.old reader) }
+        ensures readers { let slots = moved self.old.readers reader n in
+            self.new.readers ≡ map (lowered (least_place slots (length self.old.bytes))) slots }
+        ensures bytes { self.new.bytes
+            ≡ drop (least_place (moved self.old.readers reader n) (length self.old.bytes)) self.old.bytes }
+        ensures room { self.new.room ≡ self.old.room }
+        ensures mark { self.new.mark ≡ self.old.mark }
+        ensures live { (q : _) → is_reader self.new q ≡ is_reader self.old q }
+        ensures moved { readable self.new reader ≡ drop n (readable self.old reader) }
+        ensures others { (q : _) → q ≢ reader → readable self.new q ≡ readable self.old q }
+    {
+        let passed = move_on(&mut self.slots, reader, n, self.filled - self.start);
+        self.start += passed;
+        compact(&mut self.store, &mut self.start, &mut self.filled);
+    }
+
+    /// How many bytes a reader is to have before it is `ready`.
+    pub fn water_mark(&self) -> usize
+        ensures { result ≡ self.now.mark }
+    {
+        self.mark
+    }
+
+    /// Sets the water mark, in bytes.
+    pub fn set_water_mark(&mut self, mark: usize)
+        ensures { self.new ≡ record self.old { mark = mark } }
+    {
+        self.mark = mark;
+    }
+
+    /// Whether the reader can read at least one byte, and at least as many as the water mark says.
+    pub fn ready(&self, reader: ReaderId) -> bool
+        requires { IsTrue (is_reader self.now reader) }
+        ensures { IsTrue result ↔ ((1 ≤ length (readable self.now reader)) × (self.now.mark ≤ length (readable self.now reader))) }
+    {
+        let avail = self.avail(reader);
+        avail >= 1 && avail >= self.mark
+    }
+}

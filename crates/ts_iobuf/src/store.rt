@@ -1,0 +1,110 @@
+// One vector as the store of a buffer's bytes.
+ghost use Rattle.std.specs.Prelude.{◌≡◌, ◌+◌, ◌-◌, ◌≤◌, ◌++◌, List, length, take, drop, slice_get, OnOk, OnErr};
+ghost use Rattle.std.specs.Vec.{vec_len, vec_capacity};
+ghost use Rattle.std.specs.Option.{option_copied};
+ghost use Rattle.ts_iobuf.specs.Buffer.{one_block};
+ghost use Rattle.ts_iobuf.specs.Held.{held};
+
+use ts_link::NoMemory;
+
+// How many bytes of room are lent at once.
+const ROOM: usize = 32_768;
+
+// The bytes from `start` to `filled`.
+pub fn bytes_between(store: &[u8], start: usize, filled: usize) -> &[u8]
+    requires order { start ≤ filled }
+    requires within { filled ≤ length store.now }
+    ensures { result.now ≡ held start filled store.now }
+{
+    let (front, _) = store.split_at(filled);
+    let (_, bytes) = front.split_at(start);
+    bytes
+}
+
+// Sees to it that `count` bytes fit behind the first `filled`.
+fn reserve_behind(store: &mut Vec<u8>, filled: usize, count: usize) -> Result<(), NoMemory>
+    requires { filled ≤ vec_len store.old }
+    ensures items { store.new.items ≡ store.old.items }
+    ensures ok { OnOk result (filled + count ≤ vec_capacity store.new) }
+{
+    let spare = store.len() - filled;
+    if count > spare {
+        store.reserve(count - spare)?;
+    }
+    Ok(())
+}
+
+// Puts bytes in the place of all that comes after the first `filled`.
+pub fn put(store: &mut Vec<u8>, filled: usize, bytes: &[u8]) -> Result<(), NoMemory>
+    requires { filled ≤ vec_len store.old }
+    ensures ok { OnOk result (store.new.items ≡ take filled store.old.items ++ bytes.now) }
+    ensures err { OnErr result (store.new.items ≡ store.old.items) }
+{
+    reserve_behind(store, filled, bytes.len())?;
+    store.truncate(filled);
+    match store.extend_from_slice(bytes) {
+        Ok(()) => Ok(()),
+        Err(_) => unreachable!(),
+    }
+}
+
+// Cuts off the first `n` bytes.
+fn cut_front(store: &mut Vec<u8>, n: usize)
+    requires { n ≤ vec_len store.old }
+    ensures { store.new.items ≡ drop n store.old.items }
+{
+    let left = store.len() - n;
+    store.copy_within(n.., 0);
+    store.truncate(left);
+}
+
+// Moves the bytes to the store's front once at least as many as are moved were dropped before them, so that the
+// moves cost a constant for each byte that is dropped.
+pub fn compact(store: &mut Vec<u8>, start: &mut usize, filled: &mut usize)
+    requires order { start.old ≤ filled.old }
+    requires within { filled.old ≤ vec_len store.old }
+    ensures bytes { held start.new filled.new store.new.items ≡ held start.old filled.old store.old.items }
+    ensures room { drop filled.new store.new.items ≡ drop filled.old store.old.items }
+    ensures order { start.new ≤ filled.new }
+    ensures spare { vec_len store.new - filled.new ≡ vec_len store.old - filled.old }
+    ensures within { filled.new ≤ vec_len store.new }
+    ensures count { filled.new - start.new ≡ filled.old - start.old }
+{
+    let dropped = *start;
+    if store.len() - dropped > dropped {
+        return;
+    }
+    cut_front(store, dropped);
+    *start = 0;
+    *filled -= dropped;
+}
+
+// Makes room behind the first `filled` bytes, if there is none.
+pub fn make_room(store: &mut Vec<u8>, filled: usize) -> Result<(), NoMemory>
+    requires { filled ≤ vec_len store.old }
+    ensures ok { OnOk result (filled + 1 ≤ vec_len store.new) }
+    ensures front { take filled store.new.items ≡ take filled store.old.items }
+    ensures room { filled + 1 ≤ vec_len store.old → store.new.items ≡ store.old.items }
+    ensures err { OnErr result (store.new.items ≡ store.old.items) }
+    ensures none { OnErr result (vec_len store.new ≡ filled) }
+{
+    if store.len() > filled {
+        return Ok(());
+    }
+    let Some(most) = filled.checked_add(ROOM) else {
+        return Err(NoMemory);
+    };
+    store.resize(most, 0)?;
+    Ok(())
+}
+
+// The k-th block of these bytes, which stand in one block.
+pub fn block_at(bytes: &[u8], k: usize) -> Option<&[u8]>
+    ensures { option_copied result ≡ slice_get (one_block bytes.now) k }
+{
+    if k == 0 && !bytes.is_empty() {
+        Some(bytes)
+    } else {
+        None
+    }
+}
