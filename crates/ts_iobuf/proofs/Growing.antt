@@ -1,11 +1,12 @@
 -- A buffer that grows: what was appended to its store is what every reader gets more to read.
-use Rattle.std.proofs.Common.{◌≡◌, ℕ, ◌+◌, ◌-◌, ◌≤◌, List, ◌++◌, length, take, drop, Option, Some, None, IfSome, IsTrue, is_some, arith, sym, ap, subst, ◌∙◌, length-drop, length-take}
+use Rattle.std.proofs.Common.{◌≡◌, ℕ, ◌+◌, ◌-◌, ◌≤◌, List, ◌++◌, length, take, drop, Option, Some, None, IfSome, IsTrue, is_some, arith, refl, sym, ap, subst, ◌∙◌, length-drop, length-take}
 use Rattle.std.proofs.lemmas.List.{take-take, take_all, drop-append-le, length-take-le}
 use Rattle.std.proofs.Math.Seq.{take-add}
 use Rattle.ts_iobuf.specs.declared.readers.ReaderId.{ReaderId}
 use Rattle.ts_iobuf.specs.declared.readers.Slot.{Slot}
 use Rattle.ts_iobuf.specs.Buffer.{Buffer, Grows, is_reader, readable}
 use Rattle.ts_iobuf.specs.Held.{held}
+use Rattle.ts_iobuf.specs.View.{shown}
 use Rattle.ts_iobuf.specs.Places.{place_in, bytes_from, StandsWithin}
 use Rattle.ts_iobuf.proofs.Places.{all_by_recursion, place_at-all}
 
@@ -53,3 +54,13 @@ pub within_held : (start filled : ℕ) (store : List ℕ) (ss : List Slot) → f
     → StandsWithin (length (held start filled store)) ss
 within_held start filled store ss within places =
     subst (λ n. StandsWithin n ss) (sym (length-held start filled store within)) places
+
+-- a buffer into whose store more bytes were put right behind its own
+pub grows-put : (start filled room : ℕ) (readers : List Slot) (mark : ℕ) (store : List ℕ) (n : ℕ) (more store' : List ℕ)
+    → start ≤ filled → filled + room ≤ length store → StandsWithin (filled - start) readers → n ≡ length store' → store' ≡ take filled store ++ more
+    → Grows (shown start filled room readers mark store) (shown start n 0 readers mark store') more
+grows-put start filled room readers mark store n more store' order within places count is =
+    let below : filled ≤ length store = omega arith in
+    grows (shown start filled room readers mark store) (shown start n 0 readers mark store') more
+    (ap (λ k. held start k store') count ∙ held-put start filled store more store' order below is) refl refl
+    (within_held start filled store readers below places)

@@ -5,7 +5,7 @@ ghost use Rattle.std.specs.Option.{option_copied};
 mod space;
 
 use crate::readers::{ReaderId, Slot, move_on, place_of};
-use crate::store::{block_at, bytes_between, compact, put};
+use crate::store::{block_at, bytes_between, compact, put, put_parts};
 use std::alloc::Global;
 use std::marker::Model;
 use ts_link::NoMemory;
@@ -120,6 +120,18 @@ impl IoBuffer {
         Ok(())
     }
 
+    /// Adds these parts, one behind the other, behind the bytes: all of them, or none for want of memory.
+    pub fn write_parts(&mut self, parts: &[&[u8]]) -> Result<(), NoMemory>
+        ensures grows { OnOk result (Grows self.old self.new (flat_map (λ p. p.now) parts.now)) }
+        ensures room { OnOk result (self.new.room ≡ []) }
+        ensures err { OnErr result (self.new ≡ self.old) }
+    {
+        put_parts(&mut self.store, self.filled, parts)?;
+        self.filled = self.store.len();
+        self.room = 0;
+        Ok(())
+    }
+
     /// Adds the first `n` bytes of the room that was lent last, as they were left there.
     pub fn produce(&mut self, n: usize)
         requires { n ≤ length self.old.room }
@@ -128,6 +140,22 @@ impl IoBuffer {
     {
         self.filled += n;
         self.room = 0;
+    }
+
+    /// Copies what the reader can read, or its first `most` bytes where there are more, behind the bytes of `out`.
+    pub fn copy_out(&self, reader: ReaderId, most: usize, out: &mut Vec<u8>) -> Result<(), NoMemory>
+        requires { IsTrue (is_reader self.now reader) }
+        ensures ok { OnOk result (out.new.items ≡ out.old.items ++ take most (readable self.now reader)) }
+        ensures err { OnErr result (out.new.items ≡ out.old.items) }
+    {
+        let bytes = bytes_between(self.store.as_slice(), self.start, self.filled);
+        let Some(place) = place_of(self.slots.as_slice(), reader) else {
+            unreachable!()
+        };
+        let (_, readable) = bytes.split_at(place);
+        let (front, _) = readable.split_at(most.min(readable.len()));
+        out.extend_from_slice(front)?;
+        Ok(())
     }
 
     /// Moves the reader over the next `n` bytes, and then drops the bytes that no reader stands before.

@@ -1,5 +1,5 @@
 // One vector as the store of a buffer's bytes.
-ghost use Rattle.std.specs.Prelude.{◌≡◌, ◌+◌, ◌-◌, ◌≤◌, ◌++◌, List, length, take, drop, slice_get, OnOk, OnErr};
+ghost use Rattle.std.specs.Prelude.{◌≡◌, ◌+◌, ◌-◌, ◌≤◌, ◌++◌, length, take, drop, flat_map, slice_get, OnOk, OnErr, IfSome};
 ghost use Rattle.std.specs.Vec.{vec_len, vec_capacity};
 ghost use Rattle.std.specs.Option.{option_copied};
 ghost use Rattle.ts_iobuf.specs.Buffer.{one_block};
@@ -46,6 +46,45 @@ pub fn put(store: &mut Vec<u8>, filled: usize, bytes: &[u8]) -> Result<(), NoMem
         Ok(()) => Ok(()),
         Err(_) => unreachable!(),
     }
+}
+
+// How many bytes these parts have in all, if that is a `usize`.
+fn joined_len(parts: &[&[u8]]) -> Option<usize>
+    ensures { IfSome result (λ n. n ≡ length (flat_map (λ p. p.now) parts.now)) }
+{
+    let mut total = 0usize;
+    for part in parts {
+        total = total.checked_add(part.len())?;
+    }
+    Some(total)
+}
+
+// Adds the parts, for which there is room.
+fn append_parts(store: &mut Vec<u8>, parts: &[&[u8]])
+    requires { vec_len store.old + length (flat_map (λ p. p.now) parts.now) ≤ vec_capacity store.old }
+    ensures { store.new.items ≡ store.old.items ++ flat_map (λ p. p.now) parts.now }
+{
+    for part in parts {
+        match store.extend_from_slice(part) {
+            Ok(()) => {}
+            Err(_) => unreachable!(),
+        }
+    }
+}
+
+// Puts these parts, joined, in the place of all that comes after the first `filled`.
+pub fn put_parts(store: &mut Vec<u8>, filled: usize, parts: &[&[u8]]) -> Result<(), NoMemory>
+    requires { filled ≤ vec_len store.old }
+    ensures ok { OnOk result (store.new.items ≡ take filled store.old.items ++ flat_map (λ p. p.now) parts.now) }
+    ensures err { OnErr result (store.new.items ≡ store.old.items) }
+{
+    let Some(count) = joined_len(parts) else {
+        return Err(NoMemory);
+    };
+    reserve_behind(store, filled, count)?;
+    store.truncate(filled);
+    append_parts(store, parts);
+    Ok(())
 }
 
 // Cuts off the first `n` bytes.

@@ -70,6 +70,14 @@ impl Waiting {
         self.buffer.block(self.reader, 0)
     }
 
+    /// Copies the bytes, or the first `most` of them where there are more, in one piece behind those of `out`.
+    pub fn gather(&self, most: usize, out: &mut Vec<u8>) -> Result<(), NoMemory>
+        ensures ok { OnOk result (out.new.items ≡ out.old.items ++ take most self.now) }
+        ensures err { OnErr result (out.new.items ≡ out.old.items) }
+    {
+        self.buffer.copy_out(self.reader, most, out)
+    }
+
     /// Takes the first `n` bytes away.
     pub fn take(&mut self, n: usize)
         requires { n ≤ length self.old }
