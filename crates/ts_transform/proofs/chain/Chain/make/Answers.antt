@@ -1,0 +1,11 @@
+use Rattle.std.proofs.Common.{◌++◌, ◌∙◌, ap, map}
+use Rattle.ts_transform.specs.Flow.{flow_from, fresh_stage}
+use Rattle.ts_transform.proofs.Flowing.{flow_from-fresh}
+use Rattle.ts_transform.proofs.chain.Chain.make.Goals as goal
+
+pub returns-clause-flow : goal.returns-clause-flow
+returns-clause-flow g c = λ z.
+    let rest = g.P.Transform.rest in
+    ap (λ ss. flow_from rest ss (c.in_ok-first.first ++ z)) c.in_ok-stages.ensures
+    ∙ ap (λ first. flow_from rest (map fresh_stage c.args.parts.items) (first ++ z)) c.in_ok-first.ensures
+    ∙ flow_from-fresh rest c.args.parts.items z

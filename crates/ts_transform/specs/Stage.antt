@@ -1,0 +1,68 @@
+-- One stage of a chain: a transform, and the bytes that wait after it.
+use Rattle.std.specs.Prelude.{◌≡◌, ℕ, ◌≤◌, ◌++◌, List, [], ◌∷◌, Bool, true, false, nat_le, length, drop, take}
+use Rattle.ts_transform.specs.Law.{Adds}
+use Rattle.ts_transform.specs.declared.pump.Stage.{Stage}
+use Rattle.ts_transform.specs.declared.pump.Pumped.{Pumped}
+use Rattle.ts_transform.specs.declared.pump.Pumped.TheVariants.{Moved, Ended, Blocked, Idle}
+
+-- what a stage still writes
+abbrev pub rest_if : {P : Type 0} → (P → List ℕ → List ℕ) → Bool → P → List ℕ → List ℕ
+rest_if rest true part v = []
+rest_if rest false part v = rest part v
+
+-- what still comes after a stage, if v is what still comes before it
+abbrev pub passed : {P : Type 0} → (P → List ℕ → List ℕ) → Stage P → List ℕ → List ℕ
+passed rest s v = s.after ++ rest_if rest s.ended s.part v
+
+-- a stage has work: it has not ended, and bytes wait before it or no more come
+abbrev pub has_work : Bool → Bool → List ℕ → Bool
+has_work true up from = false
+has_work false true from = true
+has_work false false [] = false
+has_work false false (b ∷ bs) = true
+
+-- a stage that has work is blocked, ends, or moves at most 32,768 bytes, in this order
+abbrev pub AnswersWork : Bool → List ℕ → List ℕ → Pumped → Type 0
+AnswersWork true from after r = r ≡ Blocked (length after)
+AnswersWork false [] after r = r ≡ Ended
+AnswersWork false (b ∷ bs) after r = IsMoved (b ∷ bs) r
+  where
+    IsMoved : List ℕ → Pumped → Type 0
+    IsMoved from (Moved n) = (1 ≤ n) × (n ≤ 32768) × (n ≤ length from)
+    IsMoved from Ended = ⊥
+    IsMoved from (Blocked w) = ⊥
+    IsMoved from Idle = ⊥
+
+abbrev pub AnswersIf : Bool → List ℕ → List ℕ → Pumped → Type 0
+AnswersIf true from after r = AnswersWork (nat_le 65536 (length after)) from after r
+AnswersIf false from after r = r ≡ Idle
+
+-- what a pump of a stage answers: idle exactly where it has no work
+abbrev pub Answers : {P : Type 0} → Bool → List ℕ → Stage P → Pumped → Type 0
+Answers up from s r = AnswersIf (has_work s.ended up from) from s.after r
+
+-- what a pump leaves before and after its stage, with what it wrote
+abbrev pub Steps : {P : Type 0} → (P → List ℕ → List ℕ) → List ℕ → Stage P → Pumped → List ℕ → Stage P → Type 0
+Steps rest from s (Moved n) from' s' = (from' ≡ drop n from) × (s'.ended ≡ s.ended) × Adds (rest s.part) (rest s'.part) (take n from) s.after s'.after
+Steps rest from s Ended from' s' = (from' ≡ from) × (s'.ended ≡ true) × (s'.after ≡ s.after ++ rest s.part [])
+Steps rest from s (Blocked w) from' s' = (from' ≡ from) × (s' ≡ s)
+Steps rest from s Idle from' s' = (from' ≡ from) × (s' ≡ s)
+
+-- how much less is left to do after a pump
+abbrev pub done_by : Pumped → ℕ
+done_by (Moved n) = n
+done_by Ended = 1
+done_by (Blocked w) = 0
+done_by Idle = 0
+
+-- the end of a stage is one thing to do
+abbrev pub to_end : Bool → ℕ
+to_end true = 0
+to_end false = 1
+
+-- what holds where a pump did nothing
+abbrev pub IfRests : Pumped → Type 0 → Type 0
+IfRests (Moved n) P = Unit {0}
+IfRests Ended P = Unit {0}
+IfRests (Blocked w) P = P
+IfRests Idle P = P

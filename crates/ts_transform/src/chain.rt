@@ -1,0 +1,136 @@
+ghost use Rattle.std.specs.Prelude.{◌≡◌, ◌+◌, ◌<◌, ◌≤◌, ◌++◌, ◌↔◌, List, ℕ, [], length, take, drop, map, true, false, IsTrue, IfOk, OnOk, OnErr, MatchOption};
+ghost use Rattle.std.specs.Bool.{OnTrue};
+ghost use Rattle.ts_transform.specs.Stage.{IfRests, done_by};
+ghost use Rattle.ts_transform.specs.Flow.{flow, compose, left_to_do, wait_at, last_wait, last_ended, fresh_stage, IsFinished, AnswersAt, StepsAt, Takes};
+
+use crate::pump::{Pumped, Stage, pump_at};
+use crate::stages::{fresh_stages, has_ended, last_block, take_last, waiting_at};
+use crate::transform::Transform;
+use std::alloc::Global;
+use std::marker::Model;
+use ts_iobuf::Waiting;
+use ts_link::NoMemory;
+
+/// A chain of transforms, with the bytes that wait before, between and after them. Boundary 0 lies before the first
+/// stage, and boundary `stages()` at the client.
+#[derive(Drop)]
+pub struct Chain<P> {
+    first: Waiting,
+    stages: Vec<Stage<P>>,
+    given: bool,
+}
+
+impl<P> Model for Chain<P> {
+    ghost use Rattle.ts_transform.specs.Flow.{ChainState};
+
+    ghost Value = { ChainState P };
+
+    ghost view = { λ c. record { first = c.first; stages = c.stages.items; given = c.given } };
+}
+
+impl<P: Transform + Drop> Chain<P> {
+    /// A chain of these parts, the first of which acts first. What it gives is their composition over what it gets.
+    pub fn make(alloc: Global, parts: Vec<P>) -> Result<Chain<P>, NoMemory>
+        ensures made { IfOk result (λ c. c ≡ record { first = []; stages = map fresh_stage parts.items; given = false }) }
+        ensures flow { IfOk result (λ c. (z : List ℕ) → flow P.rest c z ≡ compose P.rest parts.items z) }
+    {
+        let first = Waiting::new(alloc)?;
+        let stages = fresh_stages(alloc, parts)?;
+        Ok(Chain {
+            first,
+            stages,
+            given: false,
+        })
+    }
+
+    /// How many stages it has.
+    pub fn stages(&self) -> usize
+        ensures { result ≡ length self.now.stages }
+    {
+        self.stages.len()
+    }
+
+    /// Gives it more bytes, in front of what is still to come.
+    pub fn give(&mut self, bytes: &[u8]) -> Result<(), NoMemory>
+        requires { self.old.given ≡ false }
+        ensures ok { OnOk result (self.new ≡ record self.old { first = self.old.first ++ bytes.now }) }
+        ensures flow { OnOk result ((z : List ℕ) → flow P.rest self.new z ≡ flow P.rest self.old (bytes.now ++ z)) }
+        ensures err { OnErr result (self.new ≡ self.old) }
+    {
+        self.first.write(bytes)
+    }
+
+    /// Says that no more bytes come.
+    pub fn give_end(&mut self)
+        requires { self.old.given ≡ false }
+        ensures given { self.new ≡ record self.old { given = true } }
+        ensures flow { (z : List ℕ) → flow P.rest self.new z ≡ flow P.rest self.old z }
+    {
+        self.given = true;
+    }
+
+    /// How many bytes wait at a boundary.
+    pub fn waiting(&self, boundary: usize) -> usize
+        requires { boundary ≤ length self.now.stages }
+        ensures { result ≡ length (wait_at self.now.first self.now.stages boundary) }
+    {
+        waiting_at(&self.first, self.stages.as_slice(), boundary)
+    }
+
+    /// Lets a stage work. It is `Idle` where it has ended, or where nothing waits before it and more may come; else
+    /// `Blocked` where 65,536 bytes or more wait after it; else it ends where nothing waits before it; else it takes
+    /// at most 32,768 bytes.
+    pub fn pump(&mut self, stage: usize) -> Result<Pumped, NoMemory>
+        requires { stage < length self.old.stages }
+        ensures answer { IfOk result (AnswersAt self.old.given self.old.first self.old.stages stage) }
+
+        // Only its own stage and the boundaries beside it change, and the flow stays: for whatever still comes before
+        // the end was given, and for nothing afterwards.
+        ensures steps { IfOk result (λ r. StepsAt P.rest self.old.first self.old.stages stage r self.new.first self.new.stages) }
+        ensures flow { OnOk result ((z : List ℕ) → OnTrue self.old.given (z ≡ []) →
+            flow P.rest self.new z ≡ flow P.rest self.old z) }
+        ensures rests { IfOk result (λ r. IfRests r (self.new ≡ self.old)) }
+        ensures falls { IfOk result (λ r. (z : List ℕ) → OnTrue self.old.given (z ≡ []) →
+            left_to_do P.rest self.new z + done_by r ≡ left_to_do P.rest self.old z) }
+        ensures given { self.new.given ≡ self.old.given }
+        ensures len { length self.new.stages ≡ length self.old.stages }
+        ensures err { OnErr result (self.new ≡ self.old) }
+    {
+        pump_at(self.given, &mut self.first, &mut self.stages, stage)
+    }
+
+    /// Lends the first of the bytes that wait for the client, without a copy; `None` where none waits.
+    pub fn out_block(&self) -> Option<&[u8]>
+        ensures { let out = last_wait self.now.first self.now.stages in
+            MatchOption result (out ≡ []) (λ b. (0 < length b.now) × (length b.now ≤ length out)
+            × (b.now ≡ take (length b.now) out)) }
+    {
+        last_block(&self.first, self.stages.as_slice())
+    }
+
+    /// Takes away the first `n` bytes that wait for the client.
+    pub fn take(&mut self, n: usize)
+        requires { n ≤ length (last_wait self.old.first self.old.stages) }
+        ensures flow { (z : List ℕ) → flow P.rest self.old z
+            ≡ take n (last_wait self.old.first self.old.stages) ++ flow P.rest self.new z }
+        ensures takes { Takes self.old.first self.old.stages n self.new.first self.new.stages }
+        ensures falls { (z : List ℕ) → left_to_do P.rest self.new z + n ≡ left_to_do P.rest self.old z }
+        ensures wait { last_wait self.new.first self.new.stages ≡ drop n (last_wait self.old.first self.old.stages) }
+        ensures ended { last_ended self.new.given self.new.stages ≡ last_ended self.old.given self.old.stages }
+        ensures given { self.new.given ≡ self.old.given }
+        ensures len { length self.new.stages ≡ length self.old.stages }
+    {
+        take_last(&mut self.first, &mut self.stages, n);
+    }
+
+    /// Whether the client has all that it gets.
+    pub fn is_finished(&self) -> bool
+        ensures finished { IsTrue result ↔ IsFinished self.now }
+        ensures flow { IsTrue result → flow P.rest self.now [] ≡ [] }
+    {
+        match last_block(&self.first, self.stages.as_slice()) {
+            Some(_) => false,
+            None => has_ended(self.given, self.stages.as_slice()),
+        }
+    }
+}

@@ -1,0 +1,11 @@
+//! Transforms of a body, and chains of them (the Developer's Guide, "HTTP Transformation Plugin").
+#![tactic(auto)]
+
+mod chain;
+mod pump;
+mod stages;
+mod transform;
+
+pub use chain::Chain;
+pub use pump::Pumped;
+pub use transform::Transform;

@@ -1,0 +1,117 @@
+// The work of one stage, and of the stage at a place of several.
+ghost use Rattle.std.specs.Prelude.{◌≡◌, ℕ, ◌+◌, ◌<◌, ◌≤◌, ◌++◌, List, [], length, take, true, IfOk, OnOk, OnErr};
+ghost use Rattle.std.specs.Bool.{OnTrue};
+ghost use Rattle.ts_transform.specs.Law.{Adds};
+ghost use Rattle.ts_transform.specs.Stage.{passed, Answers, Steps, IfRests, to_end, done_by};
+ghost use Rattle.ts_transform.specs.Flow.{flow_from, AnswersAt, StepsAt, passing};
+
+use crate::transform::Transform;
+use ts_iobuf::Waiting;
+use ts_link::NoMemory;
+
+/// What a pump of a stage did: it moved bytes, ended the stage, found too many bytes waiting after it, or found no
+/// work.
+#[derive(Clone, Copy, Debug, PartialEq, Eq)]
+pub enum Pumped {
+    Moved(usize),
+    Ended,
+    Blocked { waiting: usize },
+    Idle,
+}
+
+// A transform, whether it has ended, and the bytes that wait after it.
+#[derive(Drop)]
+pub struct Stage<P> {
+    pub part: P,
+    pub ended: bool,
+    pub after: Waiting,
+}
+
+// A stage takes no input where as many bytes wait after it.
+const MOST_WAITING: usize = 65_536;
+
+// The most bytes that a stage is fed at once.
+const MOST_FED: usize = 32_768;
+
+// Feeds a transform, which writes behind the bytes that wait.
+fn feed_into<P: Transform>(part: &mut P, input: &[u8], after: &mut Waiting) -> Result<usize, NoMemory>
+    requires { 0 < length input.now }
+    ensures count { IfOk result (λ n. (1 ≤ n) × (n ≤ length input.now)) }
+    ensures adds { IfOk result (λ n. Adds (P.rest part.old) (P.rest part.new) (take n input.now) after.old after.new) }
+    ensures err { OnErr result ((part.new ≡ part.old) × (after.new ≡ after.old)) }
+{
+    part.feed(input, &mut after.buffer)
+}
+
+// Ends a transform, which writes behind the bytes that wait.
+fn end_into<P: Transform>(part: &mut P, after: &mut Waiting) -> Result<(), NoMemory>
+    ensures ok { OnOk result (after.new ≡ after.old ++ P.rest part.old []) }
+    ensures err { OnErr result ((part.new ≡ part.old) × (after.new ≡ after.old)) }
+{
+    part.end(&mut after.buffer)
+}
+
+// Runs one stage on what waits before it. `up_ended` says that nothing more comes there.
+pub fn pump_stage<P: Transform + Drop>(
+    up_ended: bool,
+    from: &mut Waiting,
+    stage: &mut Stage<P>,
+) -> Result<Pumped, NoMemory>
+    ensures answer { IfOk result (Answers up_ended from.old stage.old) }
+    ensures steps { IfOk result (λ r. Steps P.rest from.old stage.old r from.new stage.new) }
+    ensures flow { OnOk result ((x : List ℕ) → OnTrue up_ended (x ≡ []) →
+        passed P.rest stage.new (from.new ++ x) ≡ passed P.rest stage.old (from.old ++ x)) }
+    ensures rests { IfOk result (λ r. IfRests r ((from.new ≡ from.old) × (stage.new ≡ stage.old))) }
+    ensures falls { IfOk result (λ r. length from.new + to_end stage.new.ended + done_by r ≡ length from.old + to_end stage.old.ended) }
+    ensures err { OnErr result ((from.new ≡ from.old) × (stage.new ≡ stage.old)) }
+{
+    if stage.ended {
+        return Ok(Pumped::Idle);
+    }
+    let waiting = stage.after.len();
+    let Some(block) = from.block() else {
+        if !up_ended {
+            return Ok(Pumped::Idle);
+        }
+        if waiting >= MOST_WAITING {
+            return Ok(Pumped::Blocked { waiting });
+        }
+        end_into(&mut stage.part, &mut stage.after)?;
+        stage.ended = true;
+        return Ok(Pumped::Ended);
+    };
+    if waiting >= MOST_WAITING {
+        return Ok(Pumped::Blocked { waiting });
+    }
+    let (input, _) = block.split_at(block.len().min(MOST_FED));
+    let taken = feed_into(&mut stage.part, input, &mut stage.after)?;
+    from.take(taken);
+    Ok(Pumped::Moved(taken))
+}
+
+// Runs the stage at a place of these, on what waits before them.
+pub fn pump_at<P: Transform + Drop>(
+    up_ended: bool,
+    from: &mut Waiting,
+    stages: &mut [Stage<P>],
+    at: usize,
+) -> Result<Pumped, NoMemory>
+    requires { at < length stages.old }
+    ensures answer { IfOk result (AnswersAt up_ended from.old stages.old at) }
+    ensures steps { IfOk result (λ r. StepsAt P.rest from.old stages.old at r from.new stages.new) }
+    ensures flow { OnOk result ((x : List ℕ) → OnTrue up_ended (x ≡ []) →
+        flow_from P.rest stages.new (from.new ++ x) ≡ flow_from P.rest stages.old (from.old ++ x)) }
+    ensures rests { IfOk result (λ r. IfRests r ((from.new ≡ from.old) × (stages.new ≡ stages.old))) }
+    ensures falls { IfOk result (λ r. (x : List ℕ) → OnTrue up_ended (x ≡ []) →
+        passing P.rest stages.new (from.new ++ x) + done_by r ≡ passing P.rest stages.old (from.old ++ x)) }
+    ensures err { OnErr result ((from.new ≡ from.old) × (stages.new ≡ stages.old)) }
+{
+    let Some((first, others)) = stages.split_first_mut() else {
+        unreachable!()
+    };
+    if at == 0 {
+        pump_stage(up_ended, from, first)
+    } else {
+        pump_at(first.ended, &mut first.after, others, at - 1)
+    }
+}
