@@ -1,0 +1,20 @@
+-- The parts of a chain, made one by one, compose as their lines do.
+use Rattle.std.proofs.Common.{◌≡◌, ℕ, List, [], ◌∷◌, ◌++◌, refl, sym, ap, ◌∙◌}
+use Rattle.ts_transform.specs.Flow.{compose}
+use Rattle.ts_proxy.specs.declared.stock.Stock.{Stock}
+use Rattle.ts_proxy.specs.declared.stock.StockLine.{StockLine}
+use Rattle.ts_proxy.specs.Stock.{makes_of, still_writes, compose_lines}
+
+compose-push : (ps : List Stock) (p : Stock) (z : List ℕ) → compose still_writes (ps ++ p ∷ []) z ≡ still_writes p (compose still_writes ps z)
+compose-push [] p z = refl
+compose-push (q ∷ ps) p z = compose-push ps p (still_writes q z)
+
+-- one line more
+pub composing-more : (ps : List Stock) (p : Stock) (all left rest : List StockLine) (l : StockLine) → left ≡ l ∷ rest
+    → ((w : List ℕ) → still_writes p w ≡ makes_of l w)
+    → ((z : List ℕ) → compose_lines left (compose still_writes ps z) ≡ compose_lines all z)
+    → (z : List ℕ) → compose_lines rest (compose still_writes (ps ++ p ∷ []) z) ≡ compose_lines all z
+composing-more ps p all left rest l is fresh before z =
+    ap (compose_lines rest) (compose-push ps p z ∙ fresh (compose still_writes ps z))
+    ∙ ap (λ ls. compose_lines ls (compose still_writes ps z)) (sym is)
+    ∙ before z
