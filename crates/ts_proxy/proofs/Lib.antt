@@ -1,2 +1,5 @@
 pub mod Composing
+pub mod Filling
 pub mod Lines
+pub mod Opening
+pub mod Passing

@@ -1,16 +1,21 @@
 // The configuration: one transform a line.
-ghost use Rattle.std.specs.Prelude.{◌≡◌, [], ◌∷◌, ◌++◌, ◌+◌, ◌<◌, ◌≤◌, length, vec_len, IfOk, IfErr, OnOk};
+ghost use Rattle.std.specs.Prelude.{◌≡◌, [], ◌∷◌, ◌++◌, ◌+◌, ◌<◌, ◌≤◌, length, IsTrue, IfOk, IfErr, OnOk};
+ghost use Rattle.std.specs.Str.{IsAscii};
+ghost use Rattle.std.specs.VecDeque.{deque_len};
 ghost use Rattle.ts_proxy.specs.Config.{lines, line_len, is_name_byte, is_file, line_of, config_of, IsFault};
 ghost use Rattle.ts_proxy.specs.Reading.{Good};
 
+use crate::file_name::FileName;
 use std::alloc::Global;
-use ts_link::{NoMemory, Octets};
+use std::collections::VecDeque;
+use std::str;
+use ts_link::NoMemory;
 
 // A line of a configuration: the transform that passes a body on, and the one that appends a file.
 #[derive(Drop)]
 pub enum ConfigLine {
     Null,
-    Append(Octets),
+    Append(FileName),
 }
 
 // The rule that a line breaks.
@@ -84,7 +89,8 @@ fn is_byte_of_name(byte: u8) -> bool
 }
 
 fn is_name_of_file(name: &[u8]) -> bool
-    ensures { result ≡ is_file name.now }
+    ensures value { result ≡ is_file name.now }
+    ensures ascii { IsTrue result → IsAscii name.now }
 {
     for byte in name {
         if !is_byte_of_name(*byte) {
@@ -108,24 +114,29 @@ fn parse_line(alloc: Global, line: &[u8]) -> Result<Option<ConfigLine>, NoMemory
     if !is_name_of_file(file) {
         return Ok(None);
     }
-    let name = Octets::copy_of(alloc, file)?;
-    Ok(Some(ConfigLine::Append(name)))
+    match str::from_utf8(file) {
+        Ok(text) => {
+            let name = FileName::copy_of(alloc, text)?;
+            Ok(Some(ConfigLine::Append(name)))
+        }
+        Err(_) => unreachable!(),
+    }
 }
 
-fn push_line(lines: &mut Vec<ConfigLine>, line: ConfigLine) -> Result<(), NoMemory>
+fn push_line(lines: &mut VecDeque<ConfigLine>, line: ConfigLine) -> Result<(), NoMemory>
     ensures items { OnOk result (lines.new.items ≡ lines.old.items ++ line ∷ []) }
-    ensures len { OnOk result (vec_len lines.new ≡ vec_len lines.old + 1) }
+    ensures len { OnOk result (deque_len lines.new ≡ deque_len lines.old + 1) }
 {
-    lines.push(line)?;
+    lines.push_back(line)?;
     Ok(())
 }
 
 // The lines of a configuration, or the first that is not in the grammar.
-pub fn read_config(alloc: Global, bytes: &[u8]) -> Result<Vec<ConfigLine>, ConfigRefusal>
+pub fn read_config(alloc: Global, bytes: &[u8]) -> Result<VecDeque<ConfigLine>, ConfigRefusal>
     ensures ok { IfOk result (λ ls. config_of bytes.now ≡ Good ls.items) }
     ensures fault { IfErr result (λ e. IsFault e (config_of bytes.now)) }
 {
-    let mut said = Vec::new(alloc);
+    let mut said = VecDeque::new(alloc);
     let mut rest = bytes;
     while !rest.is_empty() {
         let (line, after) = split_line(rest);

@@ -1,6 +1,12 @@
 //! The proxy's top call: all that the program does, over the files and the sinks that are handed in.
 #![tactic(auto)]
 
+mod answer;
 mod chain_of;
 mod config;
+mod drive;
+mod file_name;
+mod reading;
 mod stock;
+mod transform;
+mod writing;

@@ -1,0 +1,18 @@
+use Rattle.std.proofs.Common.{◌≡◌, List, ◌++◌, true}
+use Rattle.std.specs.VecDeque.{deque_len}
+use Rattle.ts_proxy.specs.declared.config.ConfigLine.{ConfigLine}
+use Rattle.ts_proxy.proofs.Filling.{FillsBut}
+use Rattle.ts_proxy.proofs.reading.fill_lines.Given as goal
+
+-- all lines but those that are left were filled, and no count rose
+abbrev pub invariant-loop-line : goal.invariant-loop-line
+invariant-loop-line g l = record {
+  told : g.S.Shelf.tells ≡ true → FillsBut (g.S.Shelf.file l.initial.shelf) l.initial.lines.items l.found.items l.lines.items;
+  passed : (xs : List ConfigLine) × (l.initial.lines.items ≡ xs ++ l.lines.items);
+  files : g.S.Shelf.tells ≡ true → g.S.Shelf.file l.shelf ≡ g.S.Shelf.file l.initial.shelf;
+  faults : g.S.Shelf.faults l.shelf ≡ g.S.Shelf.faults l.initial.shelf;
+  longs : g.S.Shelf.longs l.shelf ≡ g.S.Shelf.longs l.initial.shelf;
+}
+
+abbrev pub decreases-loop-line : goal.decreases-loop-line
+decreases-loop-line g l = deque_len l.lines

@@ -1,0 +1,142 @@
+-- When each answer of a command comes, and what it leaves.
+use Rattle.std.specs.Prelude.{◌≡◌, ℕ, ◌++◌, List, ⊤, Option, IsSomeAnd, Contains, Result, Ok, Err}
+use Rattle.ts_link.specs.Counts.{Rose}
+use Rattle.ts_link.specs.declared.shelf.ShelfFault.{ShelfFault}
+use Rattle.ts_link.specs.declared.shelf.ShelfFault.TheVariants as fault
+use Rattle.ts_proxy.specs.declared.answer.Answer.{Answer}
+use Rattle.ts_proxy.specs.declared.answer.Answer.TheVariants as a
+use Rattle.ts_proxy.specs.declared.answer.NamedFile.{NamedFile}
+use Rattle.ts_proxy.specs.declared.answer.NamedFile.TheVariants as file
+use Rattle.ts_proxy.specs.declared.config.ConfigLine.{ConfigLine}
+use Rattle.ts_proxy.specs.declared.config.ConfigLine.TheVariants as said
+use Rattle.ts_proxy.specs.Config.{config_of}
+use Rattle.ts_proxy.specs.Reading.{Reading, Good, Bad}
+use Rattle.ts_proxy.specs.Outcome.{Outcome, Usage, BadLine, Missing, Long, Text}
+use Rattle.ts_proxy.specs.Took.{TookFront}
+
+-- the name of a file of a command with these names of its configuration and its body
+abbrev pub name_of : List ℕ → List ℕ → NamedFile → List ℕ
+name_of config body file.Config = config
+name_of config body file.Body = body
+name_of config body (file.Appended name) = name
+
+-- the answer of a read that was refused
+abbrev pub answer_of : ShelfFault → NamedFile → Answer
+answer_of fault.Failed f = a.CannotRead f
+answer_of (fault.TooLong seen) f = a.TooLong f
+answer_of fault.NoMemory f = a.OutOfMemory
+
+abbrev pub IsText : Outcome → Type 0
+IsText Usage = ⊥
+IsText (BadLine n k) = ⊥
+IsText (Missing name) = ⊥
+IsText (Long name) = ⊥
+IsText (Text t) = ⊤
+
+abbrev pub IsCommand : Outcome → Type 0
+IsCommand Usage = ⊥
+IsCommand (BadLine n k) = ⊤
+IsCommand (Missing name) = ⊤
+IsCommand (Long name) = ⊤
+IsCommand (Text t) = ⊤
+
+-- at which outcome an answer comes; a failed read and want of memory may come at any
+abbrev pub ComesAt : List ℕ → List ℕ → Answer → Outcome → Type 0
+ComesAt config body a.Done o = IsText o
+ComesAt config body a.Usage o = o ≡ Usage
+ComesAt config body (a.BadLine f) o = o ≡ BadLine f.line f.kind
+ComesAt config body (a.CannotRead f) o = ⊤
+ComesAt config body a.CannotWrite o = IsText o
+ComesAt config body a.OutOfMemory o = ⊤
+ComesAt config body (a.TooLong f) o = o ≡ Long (name_of config body f)
+
+-- a part of the work went on as the outcome does, or its answer comes at the outcome
+abbrev pub Leads : {X : Type 0} → List ℕ → List ℕ → Result X Answer → Outcome → (X → Outcome) → Type 0
+Leads config body (Ok x) o next = o ≡ next x
+Leads config body (Err answer) o next = ComesAt config body answer o
+
+-- the file whose read failed is named by these lines
+abbrev pub IsNamedBy : List ConfigLine → NamedFile → Type 0
+IsNamedBy ls file.Config = ⊥
+IsNamedBy ls file.Body = ⊥
+IsNamedBy ls (file.Appended name) = Contains ls (said.Append name)
+
+abbrev pub IsNamedIn : Reading → NamedFile → Type 0
+IsNamedIn (Good ls) f = IsNamedBy ls f
+IsNamedIn (Bad n k) f = ⊥
+
+-- the file whose read failed is one that the command reads
+abbrev pub IsReadBy : Option (List ℕ) → NamedFile → Type 0
+IsReadBy config file.Config = ⊤
+IsReadBy config file.Body = ⊤
+IsReadBy config (file.Appended name) = IsSomeAnd config (λ bytes. IsNamedIn (config_of bytes) (file.Appended name))
+
+-- what is said of the file of a failed read
+abbrev pub OnCannotRead : Answer → (NamedFile → Type 0) → Type 0
+OnCannotRead a.Done P = ⊤
+OnCannotRead a.Usage P = ⊤
+OnCannotRead (a.BadLine f) P = ⊤
+OnCannotRead (a.CannotRead f) P = P f
+OnCannotRead a.CannotWrite P = ⊤
+OnCannotRead a.OutOfMemory P = ⊤
+OnCannotRead (a.TooLong f) P = ⊤
+
+-- an answer of the part of the work that reads, with the shelf's counts of faults and of files that were too long
+abbrev pub IsOfReading : Answer → ℕ → ℕ → ℕ → ℕ → Type 0
+IsOfReading a.Done f f' l l' = ⊥
+IsOfReading a.Usage f f' l l' = ⊥
+IsOfReading (a.BadLine b) f f' l l' = ⊤
+IsOfReading (a.CannotRead n) f f' l l' = Rose f f'
+IsOfReading a.CannotWrite f f' l l' = ⊥
+IsOfReading a.OutOfMemory f f' l l' = ⊤
+IsOfReading (a.TooLong n) f f' l l' = Rose l l'
+
+-- an answer of the part that writes, with out's count of faults
+abbrev pub IsOfWriting : Answer → ℕ → ℕ → Type 0
+IsOfWriting a.Done f f' = ⊤
+IsOfWriting a.Usage f f' = ⊥
+IsOfWriting (a.BadLine b) f f' = ⊥
+IsOfWriting (a.CannotRead n) f f' = ⊥
+IsOfWriting a.CannotWrite f f' = Rose f f'
+IsOfWriting a.OutOfMemory f f' = ⊤
+IsOfWriting (a.TooLong n) f f' = ⊥
+
+-- the counts that show the cause of an answer: of the shelf's faults and of its files that were too long, and of out's
+-- faults
+abbrev pub IsCausedBy : Answer → ℕ → ℕ → ℕ → ℕ → ℕ → ℕ → Type 0
+IsCausedBy a.Done f f' l l' o o' = ⊤
+IsCausedBy a.Usage f f' l l' o o' = ⊥
+IsCausedBy (a.BadLine b) f f' l l' o o' = ⊤
+IsCausedBy (a.CannotRead n) f f' l l' o o' = Rose f f'
+IsCausedBy a.CannotWrite f f' l l' o o' = Rose o o'
+IsCausedBy a.OutOfMemory f f' l l' o o' = ⊤
+IsCausedBy (a.TooLong n) f f' l l' o o' = Rose l l'
+
+-- what out took of a text: all of it where the job was done, a front of it where writing failed or memory lacked, and
+-- nothing with an answer that comes before anything is written
+abbrev pub TookText : Answer → List ℕ → List ℕ → List ℕ → Type 0
+TookText a.Done old new text = new ≡ old ++ text
+TookText a.Usage old new text = new ≡ old
+TookText (a.BadLine b) old new text = new ≡ old
+TookText (a.CannotRead n) old new text = new ≡ old
+TookText a.CannotWrite old new text = TookFront old new text
+TookText a.OutOfMemory old new text = TookFront old new text
+TookText (a.TooLong n) old new text = new ≡ old
+
+-- what out took at an outcome
+abbrev pub TookAt : Answer → List ℕ → List ℕ → Outcome → Type 0
+TookAt answer old new Usage = new ≡ old
+TookAt answer old new (BadLine n k) = new ≡ old
+TookAt answer old new (Missing name) = new ≡ old
+TookAt answer old new (Long name) = new ≡ old
+TookAt answer old new (Text t) = TookText answer old new t
+
+-- out took nothing with an answer that comes before anything is written
+abbrev pub OnQuiet : Answer → Type 0 → Type 0
+OnQuiet a.Done P = ⊤
+OnQuiet a.Usage P = P
+OnQuiet (a.BadLine b) P = P
+OnQuiet (a.CannotRead n) P = P
+OnQuiet a.CannotWrite P = ⊤
+OnQuiet a.OutOfMemory P = ⊤
+OnQuiet (a.TooLong n) P = P

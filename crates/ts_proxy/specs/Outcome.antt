@@ -1,0 +1,65 @@
+-- What a command comes to if nothing fails: a function of its words and of the files. It is the first trouble in the
+-- order of the work, or the text that is written.
+use Rattle.std.specs.Prelude.{ℕ, nat_le, Bool, true, false, List, [], ◌∷◌, length, Option, Some, None, codes, unwrap_or, slice_get, if◌then◌else◌}
+use Rattle.std.specs.Str.{bytes_eq}
+use Rattle.ts_proxy.specs.declared.config.ConfigLine.{ConfigLine}
+use Rattle.ts_proxy.specs.declared.config.ConfigLine.TheVariants as said
+use Rattle.ts_proxy.specs.declared.config.ConfigKind.{ConfigKind}
+use Rattle.ts_proxy.specs.declared.stock.StockLine.{StockLine}
+use Rattle.ts_proxy.specs.declared.stock.StockLine.TheVariants as line
+use Rattle.ts_proxy.specs.Config.{config_of}
+use Rattle.ts_proxy.specs.Reading.{Reading, Good, Bad}
+use Rattle.ts_proxy.specs.Stock.{compose_lines}
+
+-- the words are of no command; the configuration's line of this number breaks this rule; the file of this name is not
+-- there, or longer than its limit; this text is written
+pub data Outcome : Type 0 where
+  Usage : Outcome
+  BadLine : ℕ → ConfigKind → Outcome
+  Missing : List ℕ → Outcome
+  Long : List ℕ → Outcome
+  Text : List ℕ → Outcome
+
+-- goes on with the bytes of a file, if it is there and has at most `most` of them
+abbrev pub opened : Option (List ℕ) → ℕ → List ℕ → (List ℕ → Outcome) → Outcome
+opened None most name next = Missing name
+opened (Some bytes) most name next = if nat_le (length bytes) most then next bytes else Long name
+
+-- goes on with the lines of a configuration, if all are in the grammar
+abbrev pub understood : Reading → (List ConfigLine → Outcome) → Outcome
+understood (Good ls) next = next ls
+understood (Bad n k) next = BadLine n k
+
+-- goes on with a line and the text of the file that it names, of at most 16,384 bytes
+abbrev pub line_filled : (List ℕ → Option (List ℕ)) → ConfigLine → (StockLine → Outcome) → Outcome
+line_filled files said.Null next = next line.Null
+line_filled files (said.Append name) next = opened (files name) 16384 name (λ text. next (line.Append text))
+
+-- the same of all lines, in their order
+abbrev pub filled : (List ℕ → Option (List ℕ)) → List ConfigLine → (List StockLine → Outcome) → Outcome
+filled files [] next = next []
+filled files (l ∷ ls) next = line_filled files l (λ first. filled files ls (λ rest. next (first ∷ rest)))
+
+-- a configuration of at most 1 MiB is read and understood, and its files are read
+abbrev pub set_up : (List ℕ → Option (List ℕ)) → List ℕ → (List StockLine → Outcome) → Outcome
+set_up files config next = opened (files config) 1048576 config (λ bytes. understood (config_of bytes) (λ ls. filled files ls next))
+
+-- then a body of at most 64 MiB is read, and passes through the lines
+abbrev pub transformed : (List ℕ → Option (List ℕ)) → List ℕ → List ℕ → Outcome
+transformed files config body = set_up files config (λ lines. opened (files body) 67108864 body (λ x. Text (compose_lines lines x)))
+
+-- the words after the program's name are those of `transform`
+abbrev pub is_transform : List (List ℕ) → Bool
+is_transform [] = false
+is_transform (a ∷ []) = false
+is_transform (a ∷ b ∷ []) = false
+is_transform (a ∷ b ∷ c ∷ []) = bytes_eq a (codes "transform")
+is_transform (a ∷ b ∷ c ∷ d ∷ ws) = false
+
+-- the word at a place, or none
+abbrev pub word : ℕ → List (List ℕ) → List ℕ
+word k ws = unwrap_or (slice_get ws k) []
+
+-- the command of the words after the program's name
+abbrev pub outcome_of : (List ℕ → Option (List ℕ)) → List (List ℕ) → Outcome
+outcome_of files ws = if is_transform ws then transformed files (word 1 ws) (word 2 ws) else Usage
