@@ -1,5 +1,8 @@
 pub mod Composing
+pub mod Ending
 pub mod Filling
 pub mod Lines
 pub mod Opening
+pub mod Parts
 pub mod Passing
+pub mod Words

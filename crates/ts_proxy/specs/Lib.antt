@@ -1,6 +1,8 @@
 pub mod Answers
 pub mod Config
 pub mod Driven
+pub mod Ends
+pub mod Lines
 pub mod Outcome
 pub mod Reading
 pub mod Stock

@@ -8,5 +8,9 @@ mod drive;
 mod file_name;
 mod reading;
 mod stock;
+mod telling;
+mod top;
 mod transform;
 mod writing;
+
+pub use top::{Ended, run};

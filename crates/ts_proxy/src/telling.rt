@@ -1,0 +1,83 @@
+// The line on the error sink, which takes no memory of its own.
+ghost use Rattle.std.specs.Prelude.{◌≡◌, true, map};
+ghost use Rattle.ts_proxy.specs.Lines.{joined, kind_text, line_of, LineTold};
+ghost use Rattle.ts_proxy.specs.Answers.{name_of};
+
+use crate::answer::{Answer, NamedFile};
+use crate::config::ConfigKind;
+use crate::drive::{Driven, write_all};
+use itoa::Buffer;
+use ts_link::Sink;
+
+const USAGE: &[u8] = b"tsx: usage: transform CONFIG BODY | replay [--threads N] CONFIG RECORDING | serve --listen L --origin A --config F [--threads N] [--connections N] | generate SEED COUNT SIZE\n";
+
+const BAD_LINE: &[u8] = b"tsx: configuration line ";
+
+const CANNOT_READ: &[u8] = b"tsx: cannot read ";
+
+const CANNOT_WRITE: &[u8] = b"tsx: cannot write\n";
+
+const OUT_OF_MEMORY: &[u8] = b"tsx: out of memory\n";
+
+const TOO_LONG: &[u8] = b"tsx: too long: ";
+
+const COLON: &[u8] = b": ";
+
+const LINE_FEED: &[u8] = b"\n";
+
+const PLUGIN: &[u8] = b"plugin";
+
+const TOO_MANY: &[u8] = b"too-many";
+
+fn text_of(kind: ConfigKind) -> &'static [u8]
+    ensures { result.now ≡ kind_text kind }
+{
+    match kind {
+        ConfigKind::Plugin => PLUGIN,
+        ConfigKind::TooMany => TOO_MANY,
+    }
+}
+
+// Writes the parts of a line, one behind the other, until one is not taken whole.
+fn tell<E: Sink>(err: &mut E, parts: &[&[u8]])
+    ensures { E.tells ≡ true → LineTold (E.taken err.old) (E.taken err.new) (joined (map (λ p. p.now) parts.now))
+        (E.faults err.old) (E.faults err.new) (E.lacks err.old) (E.lacks err.new) }
+{
+    for part in parts {
+        match write_all(err, part) {
+            Driven::Done => {}
+            Driven::Failed => return,
+            Driven::NoMemory => return,
+        }
+    }
+}
+
+fn name<'a>(config: &'a str, body: &'a str, file: &'a NamedFile) -> &'a str
+    ensures { result.now ≡ name_of config.now body.now file.now }
+{
+    match file {
+        NamedFile::Config => config,
+        NamedFile::Body => body,
+        NamedFile::Appended(name) => name.as_str(),
+    }
+}
+
+// Tells the line of an answer.
+pub fn say<E: Sink>(err: &mut E, answer: &Answer, config: &str, body: &str)
+    ensures { E.tells ≡ true → LineTold (E.taken err.old) (E.taken err.new) (line_of config.now body.now answer.now)
+        (E.faults err.old) (E.faults err.new) (E.lacks err.old) (E.lacks err.new) }
+{
+    match answer {
+        Answer::Done => {}
+        Answer::Usage => tell(err, &[USAGE]),
+        Answer::BadLine(fault) => {
+            let mut digits = Buffer::new();
+            let number = digits.format(fault.line).as_bytes();
+            tell(err, &[BAD_LINE, number, COLON, text_of(fault.kind), LINE_FEED]);
+        }
+        Answer::CannotRead(file) => tell(err, &[CANNOT_READ, name(config, body, file).as_bytes(), LINE_FEED]),
+        Answer::CannotWrite => tell(err, &[CANNOT_WRITE]),
+        Answer::OutOfMemory => tell(err, &[OUT_OF_MEMORY]),
+        Answer::TooLong(file) => tell(err, &[TOO_LONG, name(config, body, file).as_bytes(), LINE_FEED]),
+    }
+}

@@ -1,0 +1,95 @@
+ghost use Rattle.std.specs.Prelude.{◌≡◌, ◌∷◌, ◌++◌, ◌↔◌, [], map, string_bytes, codes, true, false, MatchOption};
+ghost use Rattle.ts_link.specs.Counts.{Rose};
+ghost use Rattle.ts_proxy.specs.Outcome.{outcome_of, is_transform, word};
+ghost use Rattle.ts_proxy.specs.Ends.{status_of, EndsAt, TakesAt, IsQuiet, IsStatus};
+ghost use Rattle.ts_proxy.specs.Lines.{SaysLine};
+ghost use Rattle.ts_proxy.specs.Answers.{ComesAt, OnCannotRead, IsReadBy};
+ghost use Rattle.ts_proxy.specs.declared.answer.Answer.{Answer};
+
+use crate::answer::Answer;
+use crate::telling::say;
+use crate::transform::transform;
+use std::alloc::Global;
+use ts_link::{Shelf, Sink};
+
+/// How the program ended: 0 the job was done; 2 the words are of no command; 3 a line of the configuration is not in
+/// the grammar; 5 a file could not be read; 6 the output could not be written; 7 memory was lacking; 9 a file is longer
+/// than its limit.
+#[derive(Clone, Copy, Debug, PartialEq, Eq)]
+pub struct Ended {
+    pub status: u8,
+}
+
+fn status(answer: &Answer) -> u8
+    ensures { result ≡ status_of answer.now }
+{
+    match answer {
+        Answer::Done => 0,
+        Answer::Usage => 2,
+        Answer::BadLine(_) => 3,
+        Answer::CannotRead(_) => 5,
+        Answer::CannotWrite => 6,
+        Answer::OutOfMemory => 7,
+        Answer::TooLong(_) => 9,
+    }
+}
+
+// The names of the configuration and the body, if the words are those of `transform`.
+fn names_of(words: &[String]) -> Option<(&str, &str)>
+    ensures { MatchOption result (is_transform (map string_bytes words.now) ≡ false)
+        (λ p. map string_bytes words.now ≡ codes "transform" ∷ p.0.now ∷ p.1.now ∷ []) }
+{
+    match words {
+        [command, config, body] if command.as_str() == "transform" => Some((config.as_str(), body.as_str())),
+        _ => None,
+    }
+}
+
+/// Runs the command that the words name, which are those after the program's name: it reads from the shelf, writes to
+/// `out`, and says on `err` in one line why it did not end with status 0.
+///
+/// What it comes to is a function of the words and the files, the outcome. Each clause on content holds where the shelf
+/// tells its files and the sink tells what it took.
+pub fn run<S: Shelf, K: Sink, E: Sink>(
+    alloc: Global,
+    words: &[String],
+    shelf: &mut S,
+    out: &mut K,
+    err: &mut E,
+) -> Ended
+    // Status 2 comes exactly where the words are not of the table.
+    ensures usage { (result.status ≡ 2) ↔ (is_transform (map string_bytes words.now) ≡ false) }
+    ensures known { IsStatus result.status }
+
+    // Each other status comes at its outcome, and at each outcome its status comes, unless a read failed or memory
+    // lacked.
+    ensures ends { S.tells ≡ true → EndsAt (outcome_of (S.file shelf.old) (map string_bytes words.now)) result.status }
+
+    // A failure is one of the shelf or the sink that was handed in.
+    ensures cannot_read { result.status ≡ 5 → Rose (S.faults shelf.old) (S.faults shelf.new) }
+    ensures too_long { result.status ≡ 9 → Rose (S.longs shelf.old) (S.longs shelf.new) }
+    ensures cannot_write { result.status ≡ 6 → Rose (K.faults out.old) (K.faults out.new) }
+
+    // What out took: with status 0 the whole text, else a front of it, and nothing where there is no such text.
+    ensures takes { S.tells ≡ true → K.tells ≡ true →
+        TakesAt (outcome_of (S.file shelf.old) (map string_bytes words.now)) result.status (K.taken out.old) (K.taken out.new) }
+    ensures quiet { K.tells ≡ true → IsQuiet result.status → K.taken out.new ≡ K.taken out.old }
+
+    // What err took: the line of an answer that has this status, and that comes at the outcome.
+    ensures line { E.tells ≡ true → (answer : Answer)
+        × SaysLine result.status (word 1 (map string_bytes words.now)) (word 2 (map string_bytes words.now))
+            (E.taken err.old) (E.taken err.new) (E.faults err.old) (E.faults err.new) (E.lacks err.old) (E.lacks err.new) answer
+        × (S.tells ≡ true → ComesAt (word 1 (map string_bytes words.now)) (word 2 (map string_bytes words.now)) answer
+            (outcome_of (S.file shelf.old) (map string_bytes words.now)))
+        × (S.tells ≡ true → OnCannotRead answer (IsReadBy (S.file shelf.old (word 1 (map string_bytes words.now))))) }
+{
+    let Some((config, body)) = names_of(words) else {
+        say(err, &Answer::Usage, "", "");
+        return Ended { status: 2 };
+    };
+    let answer = transform(alloc, config, body, shelf, out);
+    say(err, &answer, config, body);
+    Ended {
+        status: status(&answer),
+    }
+}
