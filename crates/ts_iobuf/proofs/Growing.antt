@@ -42,9 +42,9 @@ grows old new more bytes readers mark within = record {
   readers = readers;
   mark = mark;
   read = λ q live.
-    ap (λ l. bytes_from (place_in new.readers q) l) bytes
-    ∙ ap (λ ss. bytes_from (place_in ss q) (old.bytes ++ more)) readers
-    ∙ bytes_from-append (place_in old.readers q) old.bytes more
+      ap (λ l. bytes_from (place_in new.readers q) l) bytes
+      ∙ ap (λ ss. bytes_from (place_in ss q) (old.bytes ++ more)) readers
+      ∙ bytes_from-append (place_in old.readers q) old.bytes more
       (place_at-all old.readers q.index q.generation (λ p. p ≤ length old.bytes)
       (all_by_recursion old.readers (λ s. IfSome s.place (λ p. p ≤ length old.bytes)) within)) live;
 }

@@ -63,4 +63,4 @@ shown-over start filled room readers mark store w within =
     let below : filled ≤ length store = omega arith in
     ap (λ front. made start readers mark front (take room (drop filled (over filled w store)))) (over-front filled w store below)
     ∙ ap (made start readers mark (take filled store))
-      (over-room filled room w store within ∙ ap (λ n. take n (w ++ drop (length w) whole)) (sym long))
+    (over-room filled room w store within ∙ ap (λ n. take n (w ++ drop (length w) whole)) (sym long))

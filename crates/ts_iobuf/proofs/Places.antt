@@ -125,8 +125,9 @@ is_some-map (Some p) f = refl
 
 same_reader : (q r : ReaderId) → ((q.index ≡ r.index) × (q.generation ≡ r.generation)) ⊎ (q.index ≡ r.index → q.generation ≡ r.generation → ⊥)
 same_reader q r = elim (cases_eq q.index r.index) [
-    inl e ↦ elim (cases_eq q.generation r.generation) [ inl f ↦ inl (e, f) | inr n ↦ inr (λ _ f. n f) ]
-  | inr n ↦ inr (λ e _. n e) ]
+  | inl e ↦ elim (cases_eq q.generation r.generation) [ inl f ↦ inl (e, f) | inr n ↦ inr (λ _ f. n f) ]
+  | inr n ↦ inr (λ e _. n e)
+]
 
 abbrev reader_at : ℕ → ℕ → ReaderId
 reader_at i g = record { index = i; generation = g }
@@ -136,10 +137,11 @@ the_reader q r e f = ap (λ i. reader_at i q.generation) e ∙ ap (λ g. reader_
 
 moved-live : (ss : List Slot) (r q : ReaderId) (n p : ℕ) → place_in ss r ≡ Some p → is_some (place_in (moved ss r n) q) ≡ is_some (place_in ss q)
 moved-live ss r q n p is = elim (same_reader q r) [
-    inl e ↦ let P : ReaderId → Type 0 = λ x. is_some (place_in (moved ss r n) x) ≡ is_some (place_in ss x) in
+  | inl e ↦ let P : ReaderId → Type 0 = λ x. is_some (place_in (moved ss r n) x) ≡ is_some (place_in ss x) in
       subst P (sym (the_reader q r e.0 e.1))
       (ap is_some (place_at-moved ss r.index r.generation p (Some (unwrap_or (place_in ss r) 0 + n)) is) ∙ sym (ap is_some is))
-  | inr d ↦ ap is_some (place_at-moved_other ss r.index r.generation q.index q.generation p (Some (unwrap_or (place_in ss r) 0 + n)) is d) ]
+  | inr d ↦ ap is_some (place_at-moved_other ss r.index r.generation q.index q.generation p (Some (unwrap_or (place_in ss r) 0 + n)) is d)
+]
 
 -- the same readers are live
 pub settled-live : (ss : List Slot) (r q : ReaderId) (n most p : ℕ) → place_in ss r ≡ Some p → is_some (place_in (settled ss r n most) q) ≡ is_some (place_in ss q)

@@ -31,11 +31,11 @@ impl Model for MemShelf {
     ghost Value = { ShelfState };
 
     ghost view = { λ s. record {
-        files = map (λ f. (f.name, f.bytes)) s.files.items;
-        failing = s.failing.items;
-        calls = s.calls;
-        faults = s.faults;
-        longs = s.longs;
+      files = map (λ f. (f.name, f.bytes)) s.files.items;
+      failing = s.failing.items;
+      calls = s.calls;
+      faults = s.faults;
+      longs = s.longs;
     } };
 }
 

@@ -22,12 +22,12 @@ impl Model for MemSink {
     ghost Value = { SinkState };
 
     ghost view = { λ s. record {
-        taken = s.written.items;
-        most = s.take;
-        failing = s.failing.items;
-        calls = s.calls;
-        faults = s.faults;
-        lacks = s.lacks;
+      taken = s.written.items;
+      most = s.take;
+      failing = s.failing.items;
+      calls = s.calls;
+      faults = s.faults;
+      lacks = s.lacks;
     } };
 
     ghost invariant = { λ s. 1 ≤ s.take };

@@ -44,7 +44,7 @@ transformed-command : (files : List ℕ → Option (List ℕ)) (config body : Li
 transformed-command files config body =
     opened-command (files config) 1048576 config (λ bytes. understood (config_of bytes) (λ ls. filled files ls last))
     (λ bytes. understood-command (config_of bytes) (λ ls. filled files ls last) (λ ls. filled-command files ls last
-      (λ lines. opened-command (files body) 67108864 body (λ x. Text (compose_lines lines x)) (λ x. tt))))
+    (λ lines. opened-command (files body) 67108864 body (λ x. Text (compose_lines lines x)) (λ x. tt))))
   where
     last : List StockLine → Outcome
     last lines = opened (files body) 67108864 body (λ x. Text (compose_lines lines x))

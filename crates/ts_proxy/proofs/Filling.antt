@@ -22,10 +22,10 @@ pub fills-more : (files : List ℕ → Option (List ℕ)) (all left left' : List
     → found' ≡ found ++ first ∷ [] → FillsBut files all found' left'
 fills-more files all left left' found found' line first before is fills more = record {
   goes = λ next.
-    before.goes next
-    ∙ ap (λ ls. filled files ls (λ rest. next (found ++ rest))) is
-    ∙ fills (λ one. filled files left' (λ rest. next (found ++ one ∷ rest)))
-    ∙ ap (filled files left') (fun_ext (λ rest. ap next (sym (append_assoc found (first ∷ []) rest) ∙ ap (λ l. l ++ rest) (sym more))));
+      before.goes next
+      ∙ ap (λ ls. filled files ls (λ rest. next (found ++ rest))) is
+      ∙ fills (λ one. filled files left' (λ rest. next (found ++ one ∷ rest)))
+      ∙ ap (filled files left') (fun_ext (λ rest. ap next (sym (append_assoc found (first ∷ []) rest) ∙ ap (λ l. l ++ rest) (sym more))));
 }
 
 -- the answer of the line that could not be filled is that of all lines

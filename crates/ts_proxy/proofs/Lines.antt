@@ -59,7 +59,7 @@ pub line_of-other : (l w : List ℕ) (n : ℕ) (differs : Bool) → bytes_eq l (
 line_of-other l w n differs other count front is so =
     let start : w ≡ take 20 l = front ∙ ap (λ k. take k l) count ∙ take_min 20 l in
     let unlike : bytes_eq (take 20 l) (codes "append_transform.so ") ≡ false =
-      ap (λ t. bytes_eq t (codes "append_transform.so ")) (sym start) ∙ not-true (bytes_eq w (codes "append_transform.so ")) (sym is ∙ so) in
+    ap (λ t. bytes_eq t (codes "append_transform.so ")) (sym start) ∙ not-true (bytes_eq w (codes "append_transform.so ")) (sym is ∙ so) in
     ap (λ b. if b then Some Null else (if bytes_eq (take 20 l) (codes "append_transform.so ") && is_file (drop 20 l) then Some (Append (drop 20 l)) else None)) other
     ∙ ap (λ b. if b && is_file (drop 20 l) then Some (Append (drop 20 l)) else None) unlike
   where

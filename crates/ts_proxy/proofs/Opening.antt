@@ -59,4 +59,4 @@ transformed-refused files files' config body lines f read same limit told =
     let next : List StockLine → Outcome = λ ls. opened (files body) 67108864 body (λ x. Text (compose_lines ls x)) in
     subst (λ o. ComesAt config body (answer_of f file.Body) o) (sym (read next))
     (refused-comes config body body 67108864 (files body) f file.Body (λ x. Text (compose_lines lines x)) refl limit
-      (subst (λ g. ReadsFile (g body) 67108864 (Err f)) same told))
+    (subst (λ g. ReadsFile (g body) 67108864 (Err f)) same told))

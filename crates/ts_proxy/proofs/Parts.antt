@@ -17,9 +17,9 @@ took-broken old mid new text left part rest before is broken = record {
   left = broken.left ++ rest;
   grew = broken.grew ∙ ap (λ l. l ++ broken.took) before.grew ∙ append_assoc old before.took broken.took;
   front =
-    append_assoc before.took broken.took (broken.left ++ rest)
-    ∙ ap (λ l. before.took ++ l) (sym (append_assoc broken.took broken.left rest) ∙ ap (λ l. l ++ rest) broken.front ∙ sym is)
-    ∙ before.front;
+      append_assoc before.took broken.took (broken.left ++ rest)
+      ∙ ap (λ l. before.took ++ l) (sym (append_assoc broken.took broken.left rest) ∙ ap (λ l. l ++ rest) broken.front ∙ sym is)
+      ∙ before.front;
 }
 
 -- a part was not taken whole, since a count rose
@@ -28,7 +28,7 @@ pub told-broken : (parts : List (Bor (List ℕ))) (i : ℕ) (d : Bor (List ℕ))
     → TookFront mid new (get_or parts i d).now → (Rose f f' ⊎ Rose l l') → LineTold old new (joined (map (λ p. p.now) parts)) f f' l l'
 told-broken parts i d old mid new f f' l l' before below broken rose = record {
   front = took-broken old mid new (joined (map (λ p. p.now) parts)) (joined (map (λ p. p.now) (drop i parts))) (get_or parts i d).now
-    (joined (map (λ p. p.now) (drop (i + 1) parts))) before (joined-drop parts i d below) broken;
+      (joined (map (λ p. p.now) (drop (i + 1) parts))) before (joined-drop parts i d below) broken;
   whole = inr rose;
 }
 

@@ -29,11 +29,11 @@ sending-cut rest r t u c c₁ c₂ c₃ body left piece left' n ended s front ba
       took = s.took ++ p.took;
       grew = p.grew ∙ ap (λ l. l ++ p.took) s.grew ∙ append_assoc r s.took p.took;
       front = λ z.
-        s.front z
-        ∙ ap (λ l. s.took ++ flow rest c₁ (l ++ z)) (joined-split n left piece left' front back)
-        ∙ ap (λ l. s.took ++ flow rest c₁ l) (append_assoc piece left' z)
-        ∙ ap (λ l. s.took ++ l) (sym (given (left' ++ z)) ∙ p.front (left' ++ z) (goes_on z))
-        ∙ sym (append_assoc s.took p.took (flow rest c₃ (left' ++ z)));
+          s.front z
+          ∙ ap (λ l. s.took ++ flow rest c₁ (l ++ z)) (joined-split n left piece left' front back)
+          ∙ ap (λ l. s.took ++ flow rest c₁ l) (append_assoc piece left' z)
+          ∙ ap (λ l. s.took ++ l) (sym (given (left' ++ z)) ∙ p.front (left' ++ z) (goes_on z))
+          ∙ sym (append_assoc s.took p.took (flow rest c₃ (left' ++ z)));
     })
   where
     goes_on : (z : List ℕ) → OnTrue ended (left' ++ z ≡ [])

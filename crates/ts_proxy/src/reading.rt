@@ -41,7 +41,11 @@ fn keep(found: &mut Vec<StockLine>, line: StockLine) -> Result<(), NoMemory>
 }
 
 // The lines with the texts of the files that they name.
-fn fill_lines<S: Shelf>(alloc: Global, shelf: &mut S, mut lines: VecDeque<ConfigLine>) -> Result<Vec<StockLine>, Answer>
+fn fill_lines<S: Shelf>(
+    alloc: Global,
+    shelf: &mut S,
+    mut lines: VecDeque<ConfigLine>,
+) -> Result<Vec<StockLine>, Answer>
     ensures told { S.tells ≡ true → (config body : List ℕ) (next : List StockLine → Outcome) →
         Leads config body result (filled (S.file shelf.old) lines.items next) (λ ls. next ls.items) }
     ensures named { IfErr result (λ a. OnCannotRead a (IsNamedBy lines.items)) }
@@ -63,7 +67,11 @@ fn fill_lines<S: Shelf>(alloc: Global, shelf: &mut S, mut lines: VecDeque<Config
 }
 
 // The lines of a configuration, with the texts of the files that they name.
-pub fn read_setup<S: Shelf>(alloc: Global, shelf: &mut S, config: &str) -> Result<Vec<StockLine>, Answer>
+pub fn read_setup<S: Shelf>(
+    alloc: Global,
+    shelf: &mut S,
+    config: &str,
+) -> Result<Vec<StockLine>, Answer>
     ensures told { S.tells ≡ true → (body : List ℕ) (next : List StockLine → Outcome) →
         Leads config.now body result (set_up (S.file shelf.old) config.now next) (λ ls. next ls.items) }
     ensures named { S.tells ≡ true → IfErr result (λ a. OnCannotRead a (IsReadBy (S.file shelf.old config.now))) }

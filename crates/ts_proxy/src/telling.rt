@@ -9,7 +9,8 @@ use crate::drive::{Driven, write_all};
 use itoa::Buffer;
 use ts_link::Sink;
 
-const USAGE: &[u8] = b"tsx: usage: transform CONFIG BODY | replay [--threads N] CONFIG RECORDING | serve --listen L --origin A --config F [--threads N] [--connections N] | generate SEED COUNT SIZE\n";
+const USAGE: &[u8] =
+    b"tsx: usage: transform CONFIG BODY | replay [--threads N] CONFIG RECORDING | serve --listen L --origin A --config F [--threads N] [--connections N] | generate SEED COUNT SIZE\n";
 
 const BAD_LINE: &[u8] = b"tsx: configuration line ";
 
@@ -73,11 +74,20 @@ pub fn say<E: Sink>(err: &mut E, answer: &Answer, config: &str, body: &str)
         Answer::BadLine(fault) => {
             let mut digits = Buffer::new();
             let number = digits.format(fault.line).as_bytes();
-            tell(err, &[BAD_LINE, number, COLON, text_of(fault.kind), LINE_FEED]);
+            tell(
+                err,
+                &[BAD_LINE, number, COLON, text_of(fault.kind), LINE_FEED],
+            );
         }
-        Answer::CannotRead(file) => tell(err, &[CANNOT_READ, name(config, body, file).as_bytes(), LINE_FEED]),
+        Answer::CannotRead(file) => tell(
+            err,
+            &[CANNOT_READ, name(config, body, file).as_bytes(), LINE_FEED],
+        ),
         Answer::CannotWrite => tell(err, &[CANNOT_WRITE]),
         Answer::OutOfMemory => tell(err, &[OUT_OF_MEMORY]),
-        Answer::TooLong(file) => tell(err, &[TOO_LONG, name(config, body, file).as_bytes(), LINE_FEED]),
+        Answer::TooLong(file) => tell(
+            err,
+            &[TOO_LONG, name(config, body, file).as_bytes(), LINE_FEED],
+        ),
     }
 }

@@ -40,7 +40,10 @@ fn names_of(words: &[String]) -> Option<(&str, &str)>
         (λ p. map string_bytes words.now ≡ codes "transform" ∷ p.0.now ∷ p.1.now ∷ []) }
 {
     match words {
-        [command, config, body] if command.as_str() == "transform" => Some((config.as_str(), body.as_str())),
+        [command, config, body] if command.as_str() == "transform" => Some((
+            config.as_str(),
+            body.as_str(),
+        )),
         _ => None,
     }
 }
@@ -78,9 +81,9 @@ pub fn run<S: Shelf, K: Sink, E: Sink>(
     // What err took: the line of an answer that has this status, and that comes at the outcome.
     ensures line { E.tells ≡ true → (answer : Answer)
         × SaysLine result.status (word 1 (map string_bytes words.now)) (word 2 (map string_bytes words.now))
-            (E.taken err.old) (E.taken err.new) (E.faults err.old) (E.faults err.new) (E.lacks err.old) (E.lacks err.new) answer
+        (E.taken err.old) (E.taken err.new) (E.faults err.old) (E.faults err.new) (E.lacks err.old) (E.lacks err.new) answer
         × (S.tells ≡ true → ComesAt (word 1 (map string_bytes words.now)) (word 2 (map string_bytes words.now)) answer
-            (outcome_of (S.file shelf.old) (map string_bytes words.now)))
+        (outcome_of (S.file shelf.old) (map string_bytes words.now)))
         × (S.tells ≡ true → OnCannotRead answer (IsReadBy (S.file shelf.old (word 1 (map string_bytes words.now))))) }
 {
     let Some((config, body)) = names_of(words) else {

@@ -12,7 +12,13 @@ use ts_link::{Shelf, Sink};
 const MOST_BODY: u64 = 67_108_864;
 
 // Writes a body through the lines of a configuration.
-pub fn transform<S: Shelf, K: Sink>(alloc: Global, config: &str, body: &str, shelf: &mut S, out: &mut K) -> Answer
+pub fn transform<S: Shelf, K: Sink>(
+    alloc: Global,
+    config: &str,
+    body: &str,
+    shelf: &mut S,
+    out: &mut K,
+) -> Answer
     ensures told { S.tells ≡ true → ComesAt config.now body.now result (transformed (S.file shelf.old) config.now body.now) }
     ensures named { S.tells ≡ true → OnCannotRead result (IsReadBy (S.file shelf.old config.now)) }
     ensures took { S.tells ≡ true → K.tells ≡ true →

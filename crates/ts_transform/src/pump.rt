@@ -34,7 +34,11 @@ const MOST_WAITING: usize = 65_536;
 const MOST_FED: usize = 32_768;
 
 // Feeds a transform, which writes behind the bytes that wait.
-fn feed_into<P: Transform>(part: &mut P, input: &[u8], after: &mut Waiting) -> Result<usize, NoMemory>
+fn feed_into<P: Transform>(
+    part: &mut P,
+    input: &[u8],
+    after: &mut Waiting,
+) -> Result<usize, NoMemory>
     requires { 0 < length input.now }
     ensures count { IfOk result (λ n. (1 ≤ n) × (n ≤ length input.now)) }
     ensures adds { IfOk result (λ n. Adds (P.rest part.old) (P.rest part.new) (take n input.now) after.old after.new) }

@@ -8,7 +8,7 @@ returns c =
     let ss = c.args.slots.now in
     let stands = the_some (place_in ss c.args.reader) (λ p. p + c.args.n ≤ c.args.most) c.requires.reader in
     let steps = settled-steps ss c.advance.new.slots c.lower.new.slots c.args.reader c.args.n c.args.most c.least-passed.result
-      c.advance.ensures c.least-passed.ensures c.lower.ensures in
+    c.advance.ensures c.least-passed.ensures c.lower.ensures in
     record {
       least = steps.1;
       slots = c.lower.ensures ∙ ap (λ m. map (lowered c.least-passed.result) m) c.advance.ensures;

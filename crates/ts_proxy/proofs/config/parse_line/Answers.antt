@@ -6,7 +6,7 @@ use Rattle.ts_proxy.proofs.config.parse_line.Goals as goal
 pub returns-then-ne : goal.returns-then-ne
 returns-then-ne c =
     sym (line_of-other c.args.line.now c.split_at.result.0.now c.min.result c.ne.result (sym c.if-eq.ensures) c.min.ensures c.split_at.ensures.front
-      c.ne.ensures c.if-ne.true)
+    c.ne.ensures c.if-ne.true)
 
 -- A name of visible ASCII bytes is text.
 pub unreachable-requires : goal.unreachable-requires

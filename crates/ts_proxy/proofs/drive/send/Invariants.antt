@@ -6,7 +6,7 @@ use Rattle.ts_proxy.proofs.drive.send.Given as goal
 abbrev pub invariant-loop-left : goal.invariant-loop-left
 invariant-loop-left g l = record {
   sending : g.K.Sink.tells ≡ true
-    → Sending g.P.Transform.rest (g.K.Sink.taken l.initial.out) (g.K.Sink.taken l.out) l.initial.chain l.chain l.body l.left;
+      → Sending g.P.Transform.rest (g.K.Sink.taken l.initial.out) (g.K.Sink.taken l.out) l.initial.chain l.chain l.body l.left;
   faults : g.K.Sink.faults l.out ≡ g.K.Sink.faults l.initial.out;
   given : l.chain.given ≡ false;
 }

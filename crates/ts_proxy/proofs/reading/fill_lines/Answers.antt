@@ -14,12 +14,14 @@ loop-line-preserved g c =
     let passed = c.loop-line.invariant.passed in
     record {
       told = λ tells.
-        fills-more (g.S.Shelf.file c.args.shelf.now) c.args.lines.items c.loop-line.lines.items c.pop_front.new.self.items c.loop-line.found.items
+          fills-more (g.S.Shelf.file c.args.shelf.now) c.args.lines.items c.loop-line.lines.items c.pop_front.new.self.items c.loop-line.found.items
           c.keep.new.found.items c.in-Some.line c.in-Ok.filled (c.loop-line.invariant.told tells) c.in-Some.ensures.items
           (λ next. ap (λ files. line_filled files c.in-Some.line next) (sym (c.loop-line.invariant.files tells)) ∙ c.in-Ok.ensures.told tells [] [] next)
           c.in-Ok-keep.ensures;
-      passed = (passed.0 ++ c.in-Some.line ∷ [],
-        passed.1 ∙ ap (λ ls. passed.0 ++ ls) c.in-Some.ensures.items ∙ sym (append_assoc passed.0 (c.in-Some.line ∷ []) c.pop_front.new.self.items));
+      passed = (
+        passed.0 ++ c.in-Some.line ∷ [],
+        passed.1 ∙ ap (λ ls. passed.0 ++ ls) c.in-Some.ensures.items ∙ sym (append_assoc passed.0 (c.in-Some.line ∷ []) c.pop_front.new.self.items),
+      );
       files = λ tells. c.in-Ok.ensures.files tells ∙ c.loop-line.invariant.files tells;
       faults = c.in-Ok.ensures.same.0 ∙ c.loop-line.invariant.faults;
       longs = c.in-Ok.ensures.same.1 ∙ c.loop-line.invariant.longs;

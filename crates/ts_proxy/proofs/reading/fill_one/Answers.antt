@@ -10,6 +10,6 @@ returns-in-Err-clause-told g c = λ tells config body next.
     let name = c.in-Append.name in
     let read = g.S.Shelf.file c.args.shelf.now in
     let told : ReadsFile (read name) 16384 (Err c.in-Err.fault) =
-      subst (λ (n : List ℕ). ReadsFile (read n) 16384 (Err c.in-Err.fault)) c.as_str.ensures (c.in-Err.ensures.told tells) in
+    subst (λ (n : List ℕ). ReadsFile (read n) 16384 (Err c.in-Err.fault)) c.as_str.ensures (c.in-Err.ensures.told tells) in
     rw (c.in-Append.is, c.refused.ensures)
     (refused-comes config body name 16384 (read name) c.in-Err.fault (file.Appended name) (λ text. next (line.Append text)) refl c.in-Err.ensures.limit told)

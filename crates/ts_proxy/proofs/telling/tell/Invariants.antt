@@ -7,7 +7,7 @@ use Rattle.ts_proxy.proofs.telling.tell.Given as goal
 abbrev pub invariant-loop-part : goal.invariant-loop-part
 invariant-loop-part g l = record {
   took : g.E.Sink.tells ≡ true → TookBut (g.E.Sink.taken l.initial.err) (g.E.Sink.taken l.err)
-    (joined (map (λ p. p.now) l.parts)) (joined (map (λ p. p.now) (drop l.part-index l.parts)));
+      (joined (map (λ p. p.now) l.parts)) (joined (map (λ p. p.now) (drop l.part-index l.parts)));
   faults : g.E.Sink.faults l.err ≡ g.E.Sink.faults l.initial.err;
   lacks : g.E.Sink.lacks l.err ≡ g.E.Sink.lacks l.initial.err;
 }

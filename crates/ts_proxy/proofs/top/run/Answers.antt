@@ -7,9 +7,12 @@ use Rattle.ts_proxy.proofs.top.run.Goals as goal
 
 pub returns-in_default-clause-line : goal.returns-in_default-clause-line
 returns-in_default-clause-line g c = λ tells.
-    let words = map string_bytes c.args.words.now in
-    (answer.Usage, record { is = refl; told = c.say.ensures tells },
-      (λ told. ap (λ b. if b then transformed (g.S.Shelf.file c.args.shelf.now) (word 1 words) (word 2 words) else Usage) c.in_default.ensures), λ told. tt)
+    let words = map string_bytes c.args.words.now in (
+      answer.Usage,
+      record { is = refl; told = c.say.ensures tells },
+      (λ told. ap (λ b. if b then transformed (g.S.Shelf.file c.args.shelf.now) (word 1 words) (word 2 words) else Usage) c.in_default.ensures),
+      λ told. tt,
+    )
 
 pub returns-clause-ends : goal.returns-clause-ends
 returns-clause-ends g c = λ tells.
@@ -20,4 +23,4 @@ pub returns-clause-takes : goal.returns-clause-takes
 returns-clause-takes g c = λ tells out_tells.
     rw (c.in-Some.ensures, c.status.ensures)
     (takes-took c.transform-answer.result (transformed (g.S.Shelf.file c.args.shelf.now) c.in-Some.config.now c.in-Some.body.now)
-      (g.K.Sink.taken c.args.out.now) (g.K.Sink.taken c.transform-answer.new.out) (c.transform-answer.ensures.took tells out_tells))
+    (g.K.Sink.taken c.args.out.now) (g.K.Sink.taken c.transform-answer.new.out) (c.transform-answer.ensures.took tells out_tells))

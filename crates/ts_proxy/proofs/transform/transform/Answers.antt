@@ -8,20 +8,20 @@ use Rattle.ts_proxy.proofs.transform.transform.Goals as goal
 pub returns-in-Ok-read-clause-told : goal.returns-in-Ok-read-clause-told
 returns-in-Ok-read-clause-told g c = λ tells.
     rw (transformed-text (g.S.Shelf.file c.args.shelf.now) (g.S.Shelf.file c.read_setup.new.shelf) c.args.config.now c.args.body.now c.in-Ok-read.bytes
-      c.in-Ok.lines.items (c.in-Ok.ensures.told tells c.args.body.now) (c.in-Ok.ensures.files tells) (c.in-Ok-read.ensures.told tells) c.in-Ok-read.ensures.limit)
+    c.in-Ok.lines.items (c.in-Ok.ensures.told tells c.args.body.now) (c.in-Ok.ensures.files tells) (c.in-Ok-read.ensures.told tells) c.in-Ok-read.ensures.limit)
     (writing-comes c.args.config.now c.args.body.now (compose_lines c.in-Ok.lines.items c.in-Ok-read.bytes) c.send_body.result _ _ c.send_body.ensures.cause)
 
 pub returns-in-Ok-read-clause-took : goal.returns-in-Ok-read-clause-took
 returns-in-Ok-read-clause-took g c = λ tells out_tells.
     let text : compose_lines c.as_slice.result.now c.bytes-in-Ok-read.result.now ≡ compose_lines c.in-Ok.lines.items c.in-Ok-read.bytes =
-      ap (λ ls. compose_lines ls c.bytes-in-Ok-read.result.now) c.as_slice.ensures.value
-      ∙ ap (compose_lines c.in-Ok.lines.items) c.bytes-in-Ok-read.ensures in
+    ap (λ ls. compose_lines ls c.bytes-in-Ok-read.result.now) c.as_slice.ensures.value
+    ∙ ap (compose_lines c.in-Ok.lines.items) c.bytes-in-Ok-read.ensures in
     rw (transformed-text (g.S.Shelf.file c.args.shelf.now) (g.S.Shelf.file c.read_setup.new.shelf) c.args.config.now c.args.body.now c.in-Ok-read.bytes
-      c.in-Ok.lines.items (c.in-Ok.ensures.told tells c.args.body.now) (c.in-Ok.ensures.files tells) (c.in-Ok-read.ensures.told tells) c.in-Ok-read.ensures.limit)
+    c.in-Ok.lines.items (c.in-Ok.ensures.told tells c.args.body.now) (c.in-Ok.ensures.files tells) (c.in-Ok-read.ensures.told tells) c.in-Ok-read.ensures.limit)
     (subst (λ t. TookText c.send_body.result (g.K.Sink.taken c.args.out.now) (g.K.Sink.taken c.send_body.new.out) t) text (c.send_body.ensures.told out_tells))
 
 pub returns-clause-told : goal.returns-clause-told
 returns-clause-told g c = λ tells.
     rw c.refused.ensures
     (transformed-refused (g.S.Shelf.file c.args.shelf.now) (g.S.Shelf.file c.read_setup.new.shelf) c.args.config.now c.args.body.now c.in-Ok.lines.items
-      c.in-Err-read.fault (c.in-Ok.ensures.told tells c.args.body.now) (c.in-Ok.ensures.files tells) c.in-Err-read.ensures.limit (c.in-Err-read.ensures.told tells))
+    c.in-Err-read.fault (c.in-Ok.ensures.told tells c.args.body.now) (c.in-Ok.ensures.files tells) c.in-Err-read.ensures.limit (c.in-Err-read.ensures.told tells))

@@ -9,5 +9,5 @@ returns-clause-flow g c = λ x given.
     let s' : Stage g.row.P.Denot = record { part = c.feed_into.new.part; ended = c.args.stage.now.ended; after = c.feed_into.new.after } in
     ap (λ l. passed g.P.Transform.rest s' (l ++ x)) c.take.ensures
     ∙ moved-flow g.P.Transform.rest c.args.stage.now s' c.args.from.now c.split_at.result.0.now c.in_ok-taken.taken c.min.result
-      (length c.in-Some.block.now) c.if-stage.false refl
-      (c.split_at.ensures.front ∙ ap (take c.min.result) c.in-Some.ensures.2) c.in_ok-taken.ensures.count.1 c.in_ok-taken.ensures.adds x
+    (length c.in-Some.block.now) c.if-stage.false refl
+    (c.split_at.ensures.front ∙ ap (take c.min.result) c.in-Some.ensures.2) c.in_ok-taken.ensures.count.1 c.in_ok-taken.ensures.adds x

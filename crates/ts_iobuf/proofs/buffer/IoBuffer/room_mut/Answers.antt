@@ -8,12 +8,16 @@ pub returns : goal.returns
 returns c =
     let s = c.self.inside in
     let count : s.filled + s.room - s.filled ≡ s.room = omega arith in
-    let len : s.store.len ≡ length s.store.items = s.store.ok.0 in
-    ((refl, λ w. rw (← c.self.view_is) (
-      let written = take s.filled s.store.items ++ (w ++ drop (length w) (drop s.filled s.store.items)) in
-      ap (λ n. shown s.start s.filled s.room s.slots.items s.mark (take n (written ++ drop (length written) s.store.items))) len
-      ∙ shown-over s.start s.filled s.room s.slots.items s.mark s.store.items w c.self.invariant.room)),
-    record {
-      writes_back = tt;
-      room = c.slice_mut.ensures.value ∙ ap (λ n. take n (drop s.filled s.store.items)) count ∙ ap (λ b. b.room) c.self.view_is;
-    })
+    let len : s.store.len ≡ length s.store.items = s.store.ok.0 in (
+      (
+        refl,
+        λ w. rw (← c.self.view_is) (
+            let written = take s.filled s.store.items ++ (w ++ drop (length w) (drop s.filled s.store.items)) in
+            ap (λ n. shown s.start s.filled s.room s.slots.items s.mark (take n (written ++ drop (length written) s.store.items))) len
+            ∙ shown-over s.start s.filled s.room s.slots.items s.mark s.store.items w c.self.invariant.room),
+      ),
+      record {
+        writes_back = tt;
+        room = c.slice_mut.ensures.value ∙ ap (λ n. take n (drop s.filled s.store.items)) count ∙ ap (λ b. b.room) c.self.view_is;
+      },
+    )

@@ -1,0 +1,19 @@
+-- What is read of a file.
+use Rattle.std.specs.Prelude.{ℕ, ◌≤◌, ◌<◌, ⊤, Result, Ok, Err, vec_len}
+use Rattle.std.specs.declared.vec.Vec.{Vec}
+use Rattle.ts_link.specs.declared.shelf.ShelfFault.{ShelfFault}
+use Rattle.ts_link.specs.declared.shelf.ShelfFault.TheVariants.{Failed, TooLong, NoMemory}
+
+-- the whole file within the limit, or more than the limit was seen
+abbrev pub KeepsMost : {Z : Type 0} → ℕ → Result (Vec ℕ Z) ShelfFault → Type 0
+KeepsMost most (Ok bytes) = vec_len bytes ≤ most
+KeepsMost most (Err Failed) = ⊤
+KeepsMost most (Err (TooLong seen)) = most < seen
+KeepsMost most (Err NoMemory) = ⊤
+
+-- a read of a part knows nothing of limits
+abbrev pub IsNotLong : {X : Type 0} → Result X ShelfFault → Type 0
+IsNotLong (Ok x) = ⊤
+IsNotLong (Err Failed) = ⊤
+IsNotLong (Err (TooLong seen)) = ⊥
+IsNotLong (Err NoMemory) = ⊤
