@@ -5,6 +5,8 @@
 mod buffer;
 mod readers;
 mod store;
+#[cfg(test)]
+mod tests;
 mod waiting;
 
 pub use buffer::IoBuffer;

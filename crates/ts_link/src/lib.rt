@@ -7,6 +7,8 @@ mod mem_sink;
 mod octets;
 mod shelf;
 mod sink;
+#[cfg(test)]
+mod tests;
 
 pub use mem_shelf::MemShelf;
 pub use mem_sink::MemSink;

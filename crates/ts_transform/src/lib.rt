@@ -4,6 +4,8 @@
 mod chain;
 mod pump;
 mod stages;
+#[cfg(test)]
+mod tests;
 mod transform;
 
 pub use chain::Chain;

@@ -1,0 +1,78 @@
+// Two readers of one buffer, its blocks and its room; and bytes that wait for one reader.
+ghost use Rattle.std.specs.Prelude.{IsTrue};
+ghost use Rattle.ts_iobuf.specs.Buffer.{is_reader};
+
+use crate::{IoBuffer, ReaderId, Waiting};
+use std::test::Fail;
+
+// What a reader can read, block by block, in one piece.
+fn readable(rt: &impl AllocGlobal, buffer: &IoBuffer, reader: ReaderId) -> Result<Vec<u8>, Fail>
+    requires { IsTrue (is_reader buffer.now reader) }
+{
+    let mut all = Vec::new(rt.alloc());
+    for k in 0..usize::MAX {
+        match buffer.block(reader, k) {
+            Some(block) => all.extend_from_slice(block)?,
+            None => return Ok(all),
+        }
+    }
+    Ok(all)
+}
+
+#[test]
+fn two_readers_stand_at_places_of_their_own(rt: HostRuntime) -> Result<(), Fail> {
+    let mut buffer = IoBuffer::new(rt.alloc())?;
+    let r = buffer.reader()?;
+    let s = buffer.reader()?;
+    buffer.write(b"abc")?;
+    buffer.write_parts(&[b"d".as_slice(), b"".as_slice(), b"ef".as_slice()])?;
+    assert!(rt; buffer.is_reader(r) && buffer.is_reader(s));
+    assert!(rt; buffer.avail(r) >= 2);
+    buffer.consume(r, 2);
+    assert_eq!(rt; (buffer.avail(r), buffer.avail(s)), (4, 6));
+    assert_eq!(rt; readable(&rt, &buffer, r)?.as_slice(), b"cdef".as_slice());
+    assert_eq!(rt; readable(&rt, &buffer, s)?.as_slice(), b"abcdef".as_slice());
+
+    let room = buffer.space();
+    assert!(rt; !room.is_empty());
+    room[0] = b'h';
+    buffer.produce(1);
+    assert_eq!(rt; buffer.avail(s), 7);
+    let mut front = Vec::new(rt.alloc());
+    buffer.copy_out(s, 7, &mut front)?;
+    assert_eq!(rt; front.as_slice(), b"abcdefh".as_slice());
+    Ok(())
+}
+
+#[test]
+fn a_reader_is_ready_at_the_water_mark(rt: HostRuntime) -> Result<(), Fail> {
+    let mut buffer = IoBuffer::new(rt.alloc())?;
+    let r = buffer.reader()?;
+    assert!(rt; buffer.is_reader(r));
+    assert_eq!(rt; (buffer.water_mark(), buffer.ready(r)), (0, false));
+    buffer.set_water_mark(3);
+    buffer.write(b"ab")?;
+    assert_eq!(rt; (buffer.water_mark(), buffer.ready(r)), (3, false));
+    buffer.write(b"c")?;
+    assert!(rt; buffer.ready(r));
+    let stranger = ReaderId {
+        index: 0,
+        generation: 9,
+    };
+    assert!(rt; !buffer.is_reader(stranger));
+    Ok(())
+}
+
+#[test]
+fn bytes_wait_in_order(rt: HostRuntime) -> Result<(), Fail> {
+    let mut waiting = Waiting::new(rt.alloc())?;
+    assert!(rt; waiting.is_empty() && waiting.block().is_none());
+    waiting.write(b"abcd")?;
+    assert!(rt; waiting.len() >= 2);
+    waiting.take(2);
+    let mut front = Vec::new(rt.alloc());
+    waiting.gather(1, &mut front)?;
+    assert_eq!(rt; front.as_slice(), b"c".as_slice());
+    assert_eq!(rt; waiting.block(), Some(b"cd".as_slice()));
+    Ok(())
+}
