@@ -9,6 +9,8 @@ mod file_name;
 mod reading;
 mod stock;
 mod telling;
+#[cfg(test)]
+mod tests;
 mod top;
 mod transform;
 mod writing;

@@ -1,0 +1,145 @@
+// Worked rows of `transform` over forms in memory.
+ghost use Rattle.std.specs.Prelude.{◌≤◌};
+
+use crate::run;
+use std::alloc::{AllocError, Global};
+use std::process::Abort;
+use std::test::Fail;
+use ts_link::{MemShelf, MemSink};
+
+fn words(alloc: Global, said: &[&str]) -> Result<Vec<String>, AllocError> {
+    let mut words = Vec::new(alloc);
+    for word in said {
+        words.push(String::from_str(alloc, word)?)?;
+    }
+    Ok(words)
+}
+
+const USAGE: &[u8] = b"tsx: usage: transform CONFIG BODY | replay [--threads N] CONFIG RECORDING | serve --listen L --origin A --config F [--threads N] [--connections N] | generate SEED COUNT SIZE\n";
+
+// A shelf, the words, the write of out that fails, and then the status and what out and err took.
+#[derive(Drop)]
+struct Row<'a> {
+    files: &'a [(&'a str, &'a [u8])],
+    words: &'a [&'a str],
+    failing: u64,
+    status: u8,
+    out: &'a [u8],
+    err: &'a [u8],
+}
+
+fn check<R: Abort + AllocGlobal>(rt: &R, row: &Row<'_>, take: usize) -> Result<(), Fail>
+    requires { 1 ≤ take }
+{
+    let alloc = rt.alloc();
+    let mut shelf = MemShelf::make(alloc);
+    for (name, bytes) in row.files {
+        shelf.add(name, bytes)?;
+    }
+    let mut out = MemSink::make(alloc, take, vec![in alloc; row.failing]?);
+    let mut err = MemSink::make(alloc, 7, Vec::new(alloc));
+    let said = words(alloc, row.words)?;
+    let ended = run(alloc, said.as_slice(), &mut shelf, &mut out, &mut err);
+    assert_eq!(rt; ended.status, row.status);
+    assert_eq!(rt; out.written(), row.out);
+    assert_eq!(rt; err.written(), row.err);
+    Ok(())
+}
+
+#[test]
+fn rows(rt: HostRuntime) -> Result<(), Fail> {
+    let append: &[(&str, &[u8])] = &[
+        ("c", b"append_transform.so tail.txt"),
+        ("tail.txt", b"XY"),
+        ("b", b"abc"),
+    ];
+    let table: [(&[(&str, &[u8])], &[&str], u64, u8, &[u8], &[u8]); 11] = [
+        (append, &["transform", "c", "b"], 0, 0, b"abcXY", b""),
+        (
+            &[("c", b"null_transform.so\nappend_transform.so z"), ("z", b"Z"), ("b", b"")],
+            &["transform", "c", "b"],
+            0,
+            0,
+            b"Z",
+            b"",
+        ),
+        (
+            &[("c", b"append_transform.so 1\nappend_transform.so 2\n"), ("1", b"1"), ("2", b"2"), ("b", b"x")],
+            &["transform", "c", "b"],
+            0,
+            0,
+            b"x12",
+            b"",
+        ),
+        (append, &["transform", "c", "b"], 1, 6, b"", b"tsx: cannot write\n"),
+        (&append[..2], &["transform", "c", "b"], 0, 5, b"", b"tsx: cannot read b\n"),
+        (
+            &[("c", b"append_transform.so t"), ("b", b"")],
+            &["transform", "c", "b"],
+            0,
+            5,
+            b"",
+            b"tsx: cannot read t\n",
+        ),
+        (
+            &[("c", b"null_transform.so\nfoo.so\n"), ("b", b"abc")],
+            &["transform", "c", "b"],
+            0,
+            3,
+            b"",
+            b"tsx: configuration line 2: plugin\n",
+        ),
+        (&[("c", b"\n"), ("b", b"")], &["transform", "c", "b"], 0, 3, b"", b"tsx: configuration line 1: plugin\n"),
+        (append, &[], 0, 2, b"", USAGE),
+        (append, &["transform", "c", "b", "b"], 0, 2, b"", USAGE),
+        (append, &["replay", "c", "b"], 0, 2, b"", USAGE),
+    ];
+    for (files, words, failing, status, out, err) in table {
+        let row = Row {
+            files,
+            words,
+            failing,
+            status,
+            out,
+            err,
+        };
+        check(&rt, &row, 65_536)?;
+    }
+    Ok(())
+}
+
+// A configuration of so many lines that pass a body on.
+fn nulls(alloc: Global, count: usize) -> Result<Vec<u8>, AllocError> {
+    let mut config = Vec::new(alloc);
+    for _ in 0..count {
+        config.extend_from_slice(b"null_transform.so\n")?;
+    }
+    Ok(config)
+}
+
+#[test]
+fn long_rows(rt: HostRuntime) -> Result<(), Fail> {
+    let alloc = rt.alloc();
+    let body = vec![in alloc; b'x'; 65_537]?;
+    let (sixteen, seventeen) = (nulls(alloc, 16)?, nulls(alloc, 17)?);
+    let long = vec![in alloc; b'#'; 1_048_577]?;
+    let table: [(&[u8], usize, u8, &[u8], &[u8]); 4] = [
+        (b"null_transform.so", 1, 0, body.as_slice(), b""),
+        (sixteen.as_slice(), 65_536, 0, body.as_slice(), b""),
+        (seventeen.as_slice(), 65_536, 3, b"", b"tsx: configuration line 17: too-many\n"),
+        (long.as_slice(), 65_536, 9, b"", b"tsx: too long: c\n"),
+    ];
+    for (config, take, status, out, err) in table {
+        assert!(rt; take >= 1);
+        let row = Row {
+            files: &[("c", config), ("b", body.as_slice())],
+            words: &["transform", "c", "b"],
+            failing: 0,
+            status,
+            out,
+            err,
+        };
+        check(&rt, &row, take)?;
+    }
+    Ok(())
+}
