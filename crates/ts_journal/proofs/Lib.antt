@@ -1,0 +1,10 @@
+pub mod Cases
+pub mod Scans
+pub mod Steps
+pub mod Keys
+pub mod Events
+pub mod Lookups
+pub mod Lawful
+pub mod Validity
+pub mod Facts
+pub mod Extends

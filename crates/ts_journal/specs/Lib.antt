@@ -1,0 +1,5 @@
+pub mod State
+pub mod Machine
+pub mod Log
+pub mod Tables
+pub mod Laws

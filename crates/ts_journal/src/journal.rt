@@ -1,0 +1,197 @@
+//! The journal of a mutex group.
+
+ghost use Rattle.std.specs.Prelude.{◌≡◌, ℕ, ◌+◌, ◌<◌, ◌≤◌, [], ◌∷◌, IfSome, IfOk, OnOk, IsTrue, ◌↔◌, length};
+ghost use Rattle.ts_journal.specs.State.{fresh, fresh_with, pending_at, generation_at, IsLive};
+ghost use Rattle.ts_journal.specs.Machine.{Allowed, after, IsLawful, IsValid, IsKnown, Balances, replay};
+ghost use Rattle.ts_journal.specs.Log.{Log, Extends, IsSameLog, sets_of, keys_of};
+
+use crate::entry::{ContKey, Counts, Entry, NoMemory, Pending};
+use crate::tables::{Tables, event_at, generation_of};
+use std::alloc::Global;
+use std::marker::Model;
+
+/// The journal of a mutex group: where it began, what happened since, and where that leads. It takes memory only in
+/// `make`, `with_key` and `reserve`.
+#[derive(Drop)]
+pub struct Journal {
+    base: Tables,
+    entries: Vec<Entry>,
+    tables: Tables,
+}
+
+impl Model for Journal {
+    ghost use Rattle.std.specs.Prelude.{◌≡◌, ◌-◌, length};
+    ghost use Rattle.std.specs.Vec.{vec_capacity};
+    ghost use Rattle.ts_journal.specs.Log.{Log};
+
+    ghost Value = { Log };
+
+    ghost use Rattle.ts_journal.specs.Machine.{IsReached};
+    ghost use Rattle.ts_journal.specs.Tables.{state_of, set_room_of, key_room_of};
+
+    ghost view = { λ j. record {
+      base = state_of j.base;
+      entries = j.entries.items;
+      state = state_of j.tables;
+      room = vec_capacity j.entries - length j.entries.items;
+      set_room = set_room_of j.tables;
+      key_room = key_room_of j.tables;
+    } };
+
+    ghost invariant = { λ j. IsReached (state_of j.base) j.entries.items (state_of j.tables) };
+}
+
+impl Journal {
+    /// The journal of a group that has made so many turns elsewhere, and nothing else.
+    #[tactic(auto, using(crate::proofs::Validity::reached_fresh))]
+    pub fn make(alloc: Global, turns: u64) -> Result<Journal, NoMemory>
+        ensures base { IfOk result (λ j. (j.base ≡ fresh turns) × (j.state ≡ fresh turns)) }
+        ensures entries { IfOk result (λ j. j.entries ≡ []) }
+    {
+        Ok(Journal {
+            base: Tables::make(alloc, turns),
+            entries: Vec::new(alloc),
+            tables: Tables::make(alloc, turns),
+        })
+    }
+
+    /// The same with one key, which is live. The index is below 1,024.
+    #[tactic(auto, using(crate::proofs::Validity::reached_fresh_with))]
+    pub fn with_key(alloc: Global, turns: u64, key: ContKey) -> Result<Journal, NoMemory>
+        requires { key.index < 1024 }
+        ensures base { IfOk result (λ j. (j.base ≡ fresh_with turns key) × (j.state ≡ fresh_with turns key)) }
+        ensures entries { IfOk result (λ j. j.entries ≡ []) }
+    {
+        Ok(Journal {
+            base: Tables::with_key(alloc, turns, key)?,
+            entries: Vec::new(alloc),
+            tables: Tables::with_key(alloc, turns, key)?,
+        })
+    }
+
+    /// Makes room for so many entries, whatever they are. At want of memory the room may have grown, and nothing else
+    /// changed.
+    pub fn reserve(&mut self, entries: usize) -> Result<(), NoMemory>
+        ensures same { IsSameLog self.old self.new }
+        ensures ok { OnOk result ((entries ≤ self.new.room) × (entries ≤ self.new.set_room) × (entries ≤ self.new.key_room)) }
+        ensures kept { (self.old.room ≤ self.new.room) × (self.old.set_room ≤ self.new.set_room) × (self.old.key_room ≤ self.new.key_room) }
+    {
+        self.entries.reserve(entries)?;
+        self.tables.reserve(entries)
+    }
+
+    /// Adds an entry that the state allows, in room that was reserved.
+    pub fn push(&mut self, entry: Entry)
+        requires allowed { Allowed self.old.state entry }
+        requires room { 0 < self.old.room }
+        requires sets { sets_of entry ≤ self.old.set_room }
+        requires keys { keys_of entry ≤ self.old.key_room }
+        ensures log { Extends self.old self.new (entry ∷ []) }
+        ensures state { self.new.state ≡ after self.old.state entry }
+        ensures room { self.old.room ≤ self.new.room + 1 }
+        ensures set_room { self.old.set_room ≤ self.new.set_room + sets_of entry }
+        ensures key_room { self.old.key_room ≤ self.new.key_room + keys_of entry }
+    {
+        self.entries.push_reserved(entry);
+        self.tables.apply(entry);
+    }
+
+    /// The entries, in order. Each was allowed where it stands.
+    pub fn entries(&self) -> &[Entry]
+        ensures entries { result.now ≡ self.now.entries }
+        ensures lawful { IsLawful self.now.base result.now }
+        ensures state { self.now.state ≡ replay self.now.base result.now }
+    {
+        &self.entries
+    }
+
+    /// How many events were set since the base, and before it, and what became of them.
+    pub fn counts(&self) -> Counts
+        ensures counts { let s = self.now.state in result ≡ record { set = s.set_count; handled = s.handled_count; cancelled = s.cancelled_count; dropped = s.dropped_count; pending = length s.pending } }
+        ensures balance { result.set ≡ result.handled + result.cancelled + result.dropped + result.pending }
+    {
+        Counts {
+            set: self.tables.set_count,
+            handled: self.tables.handled_count,
+            cancelled: self.tables.cancelled_count,
+            dropped: self.tables.dropped_count,
+            pending: self.tables.pending.len() as u64,
+        }
+    }
+
+    /// The event of a number, if it is pending.
+    #[tactic(auto, using(crate::proofs::Events::is_known_if))]
+    pub fn event(&self, number: u64) -> Option<Pending>
+        ensures event { result ≡ pending_at number self.now.state.pending }
+        ensures known { IfSome result (λ p. IsKnown self.now.state number p) }
+    {
+        event_at(&self.tables.pending, number)
+    }
+
+    /// The pending events, by rising number.
+    pub fn pending(&self) -> &[Pending]
+        ensures { result.now ≡ self.now.state.pending }
+    {
+        &self.tables.pending
+    }
+
+    /// The keys that are live, in the order in which they were made.
+    pub fn live(&self) -> &[ContKey]
+        ensures { result.now ≡ self.now.state.live }
+    {
+        &self.tables.live
+    }
+
+    /// Whether a key is live.
+    pub fn is_live(&self, key: ContKey) -> bool
+        ensures { IsTrue result ↔ IsLive self.now.state.live key }
+    {
+        match generation_of(&self.tables.live, key.index) {
+            Some(generation) => generation == key.generation,
+            None => false,
+        }
+    }
+
+    /// The generation under which an index is live.
+    pub fn generation(&self, index: u32) -> Option<u64>
+        ensures { result ≡ generation_at index self.now.state.live }
+    {
+        generation_of(&self.tables.live, index)
+    }
+
+    /// The generation under which an index was given away last.
+    pub fn newest_generation(&self, index: u32) -> Option<u64>
+        ensures { result ≡ generation_at index self.now.state.newest }
+    {
+        generation_of(&self.tables.newest, index)
+    }
+
+    /// The number of the turn that was recorded last.
+    pub fn turns(&self) -> u64
+        ensures { result ≡ self.now.state.turns }
+    {
+        self.tables.turns
+    }
+
+    /// Whether that turn is still held.
+    pub fn is_held(&self) -> bool
+        ensures { result ≡ self.now.state.held }
+    {
+        self.tables.held
+    }
+
+    /// The number of the event that is set next.
+    pub fn next(&self) -> u64
+        ensures { result ≡ self.now.state.next }
+    {
+        self.tables.next
+    }
+
+    /// What holds of the state of every journal.
+    pub fn known(&self)
+        ensures valid_base { IsValid self.now.base }
+        ensures valid { IsValid self.now.state }
+    {
+        let _ = &self.tables;
+    }
+}
