@@ -1,0 +1,10 @@
+pub mod Room
+pub mod Facts
+pub mod Grows
+pub mod Scans
+pub mod Roles
+pub mod Drops
+pub mod First
+pub mod Runs
+pub mod Results
+pub mod Keeps

@@ -1,0 +1,89 @@
+-- What a handler may count on when it is called, and which events one call of `handle` handles.
+use Rattle.std.specs.Prelude.{◌≡◌, ℕ, zero, suc, ◌+◌, ◌≤◌, List, [], ◌∷◌, ◌++◌, Option, Some, None}
+use Rattle.ts_journal.specs.declared.entry.Event.{Event}
+use Rattle.ts_journal.specs.declared.entry.Pending.{Pending}
+use Rattle.ts_journal.specs.declared.entry.Entry.{Entry}
+use Rattle.ts_journal.specs.declared.entry.Entry.TheVariants.{Handled}
+use Rattle.ts_journal.specs.State.{State, pending_at}
+use Rattle.ts_journal.specs.Machine.{IsKnown, IsValid, replay}
+use Rattle.ts_journal.specs.Log.{Log, Extends}
+use Rattle.ts_group.specs.declared.action.Named.{Named}
+use Rattle.ts_group.specs.Context.{Context, IsOrderly, own_key, role_at}
+use Rattle.ts_group.specs.Entries.{AllOwn, AreCalls, CanRenew, renewal, asking_entries}
+use Rattle.ts_group.specs.Changes.{HasHandled}
+
+-- an event that can be handled at a moment
+pub record IsReady (log : Log) (moment : ℕ) (p : Pending) : Type 0 where
+  pub there : pending_at p.number log.state.pending ≡ Some p
+  pub known : IsKnown log.state p.number p
+  pub due : p.due ≤ moment
+  pub renew : CanRenew log p
+
+-- A handler of this role is called for this event: the event was handled in a state before, and the entries of that
+-- and of the next of its series led to the state now. Sound is what holds of the state before.
+pub record IsCalled (Sound : State → List Named → Type 0) (now : Context) (role : ℕ) (event : Event) : Type 0 where
+  pub before : State
+  pub handled : Pending
+  pub sound : Sound before now.roles
+  pub valid : IsValid before
+  pub there : pending_at handled.number before.pending ≡ Some handled
+  pub known : IsKnown before handled.number handled
+  pub due : handled.due ≤ now.moment
+  pub now_is : now.log.state ≡ replay before (Handled handled.number now.moment ∷ renewal handled before.next now.moment)
+  pub event_is : handled.event ≡ event
+  pub role_is : role_at handled.key.index now.roles ≡ Some role
+  pub running : now.running ≡ Some handled.key
+  pub orderly : IsOrderly now
+  pub has : HasHandled before now.log.state handled
+
+-- A question is asked: an event of the group's own key was set and handled in the state before.
+pub record IsAsked (Sound : State → List Named → Type 0) (now : Context) : Type 0 where
+  pub before : State
+  pub sound : Sound before now.roles
+  pub now_is : now.log.state ≡ replay before (asking_entries before.next now.moment)
+  pub running : now.running ≡ Some own_key
+  pub orderly : IsOrderly now
+  pub pending : now.log.state.pending ≡ before.pending
+  pub next : now.log.state.next ≡ before.next + 1
+  pub live : now.log.state.live ≡ before.live
+
+-- The entries of the event of a number that is handled, with those of its handler, which asked for these direct calls.
+pub record IsRun (s : State) (moment number : ℕ) (asked : List ℕ) (run : List Entry) : Type 0 where
+  pub event : Pending
+  pub there : pending_at number s.pending ≡ Some event
+  pub own : List Entry
+  pub all_own : AllOwn own
+  pub are_calls : AreCalls moment asked own
+  pub entries_are : run ≡ (Handled number moment ∷ renewal event s.next moment) ++ own
+
+abbrev pub if_pending : Option Pending → ℕ × List ℕ → Option (ℕ × List ℕ) → Option (ℕ × List ℕ)
+if_pending (Some p) this later = Some this
+if_pending None this later = later
+
+-- the first of these numbers that is pending, and those behind it
+abbrev pub next_in : List Pending → List ℕ → Option (ℕ × List ℕ)
+next_in ps [] = None
+next_in ps (n ∷ ns) = if_pending (pending_at n ps) (n, ns) (next_in ps ns)
+
+-- So many events are handled: first that of the number, and then the direct calls that these handlers asked for, in
+-- the order asked for. `queue` are those that were asked for before, and `left` those that are left.
+abbrev pub RunsFrom : State → ℕ → ℕ → List ℕ → ℕ → List Entry → List ℕ → Type 0
+RunsFrom s moment number queue zero es left = ⊥
+RunsFrom s moment number queue (suc zero) es left = (asked : List ℕ) × IsRun s moment number asked es × (left ≡ queue ++ asked)
+RunsFrom s moment number queue (suc (suc k)) es left =
+    (asked : List ℕ) × (run : List Entry) × (rest : List Entry) × IsRun s moment number asked run × (es ≡ run ++ rest)
+    × (next : ℕ) × (behind : List ℕ) × (next_in (replay s run).pending (queue ++ asked) ≡ Some (next, behind))
+    × RunsFrom (replay s run) moment next behind (suc k) rest left
+
+-- From a context to another, so many events are handled, the first under the number. The direct calls that wait are
+-- those that these handlers asked for and that were not handled.
+pub record Handles (old new : Context) (number moment events : ℕ) : Type 0 where
+  pub some : 1 ≤ events
+  pub most : events ≤ 64
+  pub es : List Entry
+  pub by : Extends old.log new.log es
+  pub runs : RunsFrom old.log.state moment number [] events es new.calls
+  pub rise : new.log.state.handled_count ≡ old.log.state.handled_count + events
+  pub now : new.moment ≡ moment
+  pub idle : new.running ≡ None
+  pub told : new.told ≡ old.told

@@ -1,0 +1,83 @@
+-- What a contract sees of a group's continuations.
+use Rattle.std.specs.Prelude.{◌≡◌, ℕ, ◌+◌, ◌<◌, ◌≤◌, ◌==◌, List, [], ◌∷◌, Option, Some, None, length, if◌then◌else◌, min, unwrap_or}
+use Rattle.ts_journal.specs.declared.entry.ContKey.{ContKey}
+use Rattle.ts_journal.specs.declared.entry.Pending.{Pending}
+use Rattle.ts_journal.specs.State.{State, IsLive, generation_at, pending_at}
+use Rattle.ts_journal.specs.Machine.{IsValid}
+use Rattle.ts_journal.specs.Log.{Log, IsSameLog}
+use Rattle.ts_group.specs.declared.action.Named.{Named}
+
+-- The journal; the role of each key that is live; the moment; the key of the handler that runs, and the role of the
+-- one that runs or ran last; the number below which each event was told as news; and the direct calls that wait.
+pub record Context : Type 0 where
+  pub log : Log
+  pub roles : List Named
+  pub moment : ℕ
+  pub running : Option ContKey
+  pub role : ℕ
+  pub told : ℕ
+  pub calls : List ℕ
+
+abbrev pub keys_of : List Named → List ContKey
+keys_of [] = []
+keys_of (r ∷ rs) = r.key ∷ keys_of rs
+
+-- the role with which the key of an index was made
+abbrev pub role_at : ℕ → List Named → Option ℕ
+role_at i [] = None
+role_at i (r ∷ rs) = if r.key.index == i then Some r.role else role_at i rs
+
+abbrev pub without_role : ℕ → List Named → List Named
+without_role i [] = []
+without_role i (r ∷ rs) = if r.key.index == i then rs else r ∷ without_role i rs
+
+-- The key of the continuation that a group is made with. It has the index that is given away last.
+abbrev pub own_key : ContKey
+own_key = record { index = 1023; generation = 1 }
+
+-- the entries that close all that is pending, destroy all that is live, and give the turn back
+abbrev pub needed : State → ℕ
+needed s = length s.pending + length s.live + (if s.held then 1 else 0)
+
+-- the journal has room for these entries, and the roles are those of the live keys
+pub record IsKept (log : Log) (roles : List Named) : Type 0 where
+  pub room : needed log.state ≤ log.room
+  pub keys : keys_of roles ≡ log.state.live
+
+-- a number of a direct call: while its event is pending, it is plain and due
+pub record IsCall (s : State) (moment n : ℕ) : Type 0 where
+  pub below : n < s.next
+  pub ready : (p : Pending) → pending_at n s.pending ≡ Some p → (p.due ≤ moment) × (p.period ≡ 0)
+
+abbrev pub AllCalls : State → ℕ → List ℕ → Type 0
+AllCalls s moment [] = Unit {0}
+AllCalls s moment (n ∷ ns) = IsCall s moment n × AllCalls s moment ns
+
+-- each key that is live has a role, and nothing else has; and the state is one that a lawful journal reaches
+pub record IsOrderly (now : Context) : Type 0 where
+  pub valid : IsValid now.log.state
+  pub keys : keys_of now.roles ≡ now.log.state.live
+  pub named : (key : ContKey) → IsLive now.log.state.live key → (role : ℕ) × (role_at key.index now.roles ≡ Some role)
+
+-- nothing changed, but that the journal may have got more room
+pub record IsSame (old new : Context) : Type 0 where
+  pub log : IsSameLog old.log new.log
+  pub roles : new.roles ≡ old.roles
+  pub moment : new.moment ≡ old.moment
+  pub running : new.running ≡ old.running
+  pub role : new.role ≡ old.role
+  pub told : new.told ≡ old.told
+  pub calls : new.calls ≡ old.calls
+
+-- a moment so much later; it stays at the last moment that a number can say
+abbrev pub moment_after : ℕ → ℕ → ℕ
+moment_after moment wait = min (moment + wait) 18446744073709551615
+
+-- an index is not live, and its generation can still rise
+abbrev pub CanUse : State → ℕ → Type 0
+CanUse s i = (generation_at i s.live ≡ None) × (unwrap_or (generation_at i s.newest) 0 < 18446744073709551615)
+
+-- no pending event is periodic
+abbrev pub AllPlain : List Pending → Type 0
+AllPlain [] = Unit {0}
+AllPlain (p ∷ ps) = (p.period ≡ 0) × AllPlain ps

@@ -1,0 +1,63 @@
+-- The entries that calls append to a journal.
+use Rattle.std.specs.Prelude.{◌≡◌, ℕ, ◌+◌, ◌≤◌, ◌&&◌, ◌⊎◌, List, [], ◌∷◌, ◌++◌, if◌then◌else◌, nat_lt}
+use Rattle.ts_journal.specs.declared.entry.ContKey.{ContKey}
+use Rattle.ts_journal.specs.declared.entry.Event.{Event}
+use Rattle.ts_journal.specs.declared.entry.Event.TheVariants.{Timeout, Hook}
+use Rattle.ts_journal.specs.declared.entry.Pending.{Pending}
+use Rattle.ts_journal.specs.declared.entry.Entry.{Entry}
+use Rattle.ts_journal.specs.declared.entry.Entry.TheVariants.{Took, Gave, Set, Handled, Dropped}
+use Rattle.ts_journal.specs.Log.{Log, Extends}
+use Rattle.ts_group.specs.Context.{Context, moment_after, needed, own_key}
+
+-- the entries that drop these events
+abbrev pub drops : List ℕ → List Entry
+drops [] = []
+drops (n ∷ ns) = Dropped n ∷ drops ns
+
+-- The next occurrence of a periodic event that is handled at a moment: one period later, under the next number. There
+-- is none where the numbers are used up.
+abbrev pub renewal : Pending → ℕ → ℕ → List Entry
+renewal p next moment = if nat_lt 0 p.period && nat_lt next 18446744073709551615 then Set next p.key Timeout (moment_after moment p.period) p.series p.period ∷ [] else []
+
+-- the entries of a question: an event of the group's own key is set and handled
+abbrev pub asking_entries : ℕ → ℕ → List Entry
+asking_entries number moment = Set number own_key Hook moment number 0 ∷ Handled number moment ∷ []
+
+-- an entry that a handler's own calls make
+abbrev pub IsOwn : Entry → Type 0
+IsOwn (Took turn seat) = ⊥
+IsOwn (Gave turn) = ⊥
+IsOwn (Handled number moment) = ⊥
+IsOwn _ = Unit {0}
+
+abbrev pub AllOwn : List Entry → Type 0
+AllOwn [] = Unit {0}
+AllOwn (e ∷ es) = IsOwn e × AllOwn es
+
+-- these are the numbers of direct calls that the entries set at this moment, in this order
+abbrev pub AreCalls : ℕ → List ℕ → List Entry → Type 0
+AreCalls moment [] own = Unit {0}
+AreCalls moment (n ∷ ns) own =
+    (before : List Entry) × (after : List Entry) × (key : ContKey) × (event : Event)
+    × (own ≡ before ++ Set n key event moment n 0 ∷ after) × AreCalls moment ns after
+
+-- a journal goes on by entries of a handler's own calls, and so do the direct calls that wait
+pub record GoesOn (old new : Log) (moment : ℕ) (old_calls new_calls : List ℕ) : Type 0 where
+  pub own : List Entry
+  pub by : Extends old new own
+  pub all_own : AllOwn own
+  pub asked : List ℕ
+  pub calls : new_calls ≡ old_calls ++ asked
+  pub are_calls : AreCalls moment asked own
+
+-- what a handler's own calls leave
+pub record Grows (old new : Context) : Type 0 where
+  pub log : GoesOn old.log new.log old.moment old.calls new.calls
+  pub moment : new.moment ≡ old.moment
+  pub running : new.running ≡ old.running
+  pub role : new.role ≡ old.role
+  pub told : new.told ≡ old.told
+
+-- room to handle an event and set its next occurrence, beside what is always kept
+abbrev pub CanRenew : Log → Pending → Type 0
+CanRenew log p = (p.period ≡ 0) ⊎ ((needed log.state + 2 ≤ log.room) × (1 ≤ log.set_room))

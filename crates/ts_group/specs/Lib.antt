@@ -1,0 +1,9 @@
+pub mod Context
+pub mod Changes
+pub mod Calls
+pub mod Own
+pub mod Entries
+pub mod Due
+pub mod Sooner
+pub mod Answers
+pub mod Slot

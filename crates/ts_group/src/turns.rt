@@ -1,0 +1,46 @@
+//! Turns in a journal: how one begins and how it ends.
+
+ghost use Rattle.std.specs.Prelude.{◌≡◌, ◌<◌, ◌≤◌, true, false, [], ◌∷◌, OnOk, OnErr};
+ghost use Rattle.ts_journal.specs.declared.entry.Entry.TheVariants as Entry;
+ghost use Rattle.ts_journal.specs.Machine.{after};
+ghost use Rattle.ts_journal.specs.Log.{Extends, IsSameLog};
+ghost use Rattle.ts_group.specs.Context.{needed};
+ghost use Rattle.ts_group.specs.Own.{CallsStay};
+
+use crate::events::spare;
+use ts_journal::{Entry, Journal};
+use ts_link::NoMemory;
+
+/// Enters that a seat took the mutex.
+#[tactic(auto, using(crate::proofs::Room::needed_took, crate::proofs::Facts::stay_same))]
+pub fn take_turn(journal: &mut Journal, turn: u64, seat: u64) -> Result<(), NoMemory>
+    requires idle { journal.old.state.held ≡ false }
+    requires later { journal.old.state.turns < turn }
+    requires room { needed journal.old.state ≤ journal.old.room }
+    ensures ok { OnOk result (Extends journal.old journal.new (Entry.Took turn seat ∷ [])) }
+    ensures state { OnOk result (journal.new.state ≡ after journal.old.state (Entry.Took turn seat)) }
+    ensures room { needed journal.new.state ≤ journal.new.room }
+    ensures live { journal.new.state.live ≡ journal.old.state.live }
+    ensures err { OnErr result (IsSameLog journal.old journal.new) }
+{
+    if let Err(_) = spare(journal, 2) {
+        return Err(NoMemory);
+    }
+    journal.push(Entry::Took { turn, seat });
+    Ok(())
+}
+
+/// Enters that the mutex was given back.
+#[tactic(auto, using(crate::proofs::Room::needed_gave, crate::proofs::Facts::stay_same))]
+pub fn end_turn(journal: &mut Journal)
+    requires turn { journal.old.state.held ≡ true }
+    requires room { needed journal.old.state ≤ journal.old.room }
+    ensures given { Extends journal.old journal.new (Entry.Gave journal.old.state.turns ∷ []) }
+    ensures state { journal.new.state ≡ after journal.old.state (Entry.Gave journal.old.state.turns) }
+    ensures room { needed journal.new.state ≤ journal.new.room }
+    ensures live { journal.new.state.live ≡ journal.old.state.live }
+    ensures stay { CallsStay journal.old.state journal.new.state }
+{
+    let turn = journal.turns();
+    journal.push(Entry::Gave { turn });
+}
