@@ -1,0 +1,10 @@
+//! Small worlds of the event machine, a driver that is proved to end, and tests that run them.
+#![tactic(auto)]
+
+pub mod burst;
+pub mod drive;
+pub mod heir;
+pub mod pair;
+pub mod steps;
+#[cfg(test)]
+mod tests;

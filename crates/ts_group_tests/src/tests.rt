@@ -1,0 +1,191 @@
+use crate::burst::{Burst, CALLER};
+use crate::drive::{Driven, drive, serve};
+use crate::heir::Heir;
+use crate::pair::{Adder, Asker};
+use crate::steps::{Countdown, Steps};
+use std::test::Fail;
+use ts_group::{Action, Cancel, Destroy, Group, Handling};
+use ts_journal::{ContKey, Counts, Entry, Event};
+
+const FIRST: ContKey = ContKey {
+    index: 0,
+    generation: 1,
+};
+
+// An event that is cancelled is not pending, and the action of one that was handled is done.
+#[test]
+fn a_cancelled_event_is_not_handled(rt: HostRuntime) -> Result<(), Fail> {
+    let mut group = Group::make(rt.alloc(), Heir { key: None }, 0)?;
+    group.begin_turn(1, 0, 5)?;
+    let key = group.cx().make(0)?;
+    assert_eq!(rt; key, FIRST);
+    let action = group.cx().schedule(key, 0)?;
+    assert_eq!(rt; action, Action { series: 1 });
+    assert_eq!(rt; group.cx().cancel(action), Cancel::Cancelled);
+    let handling = group.handle(1, 5)?;
+    assert!(rt; matches!(handling, Handling::NotPending));
+    assert_eq!(rt;
+        group.journal().counts(),
+        Counts {
+            set: 1,
+            handled: 0,
+            cancelled: 1,
+            dropped: 0,
+            pending: 0
+        }
+    );
+    let plain = group.cx().schedule(key, 0)?;
+    let handling = group.handle(2, 5)?;
+    assert!(rt; matches!(handling, Handling::Handled { events: 1 }));
+    let entries = group.journal().entries().len();
+    assert_eq!(rt; group.cx().cancel(plain), Cancel::Done);
+    assert_eq!(rt; group.journal().entries().len(), entries);
+    assert_eq!(rt; group.cx().destroy(key), Destroy::Dead);
+    Ok(())
+}
+
+// The handler of a periodic event destroys its own continuation and makes another.
+#[test]
+fn a_periodic_event_goes_with_its_key(rt: HostRuntime) -> Result<(), Fail> {
+    let mut group = Group::make(rt.alloc(), Heir { key: None }, 0)?;
+    group.begin_turn(1, 0, 0)?;
+    let key = group.cx().make(0)?;
+    let action = group.cx().every(key, 10)?;
+    assert_eq!(rt; action, Action { series: 1 });
+    group.give_turn();
+    assert_eq!(rt; group.journal().turns(), 1);
+    group.begin_turn(2, 0, 10)?;
+    let handling = group.handle(1, 10)?;
+    assert!(rt; matches!(handling, Handling::Handled { events: 1 }));
+    assert!(rt; group.cx().is_done(action));
+    assert_eq!(rt; group.cx().cancel(action), Cancel::Done);
+    group.give_turn();
+    let second = ContKey {
+        index: 0,
+        generation: 2,
+    };
+    let (world, journal) = group.into_parts();
+    assert_eq!(rt; world.key, Some(second));
+    let entries = [
+        Entry::Took { turn: 1, seat: 0 },
+        Entry::Made { key: FIRST },
+        Entry::Set {
+            number: 1,
+            key: FIRST,
+            event: Event::Timeout,
+            due: 10,
+            series: 1,
+            period: 10,
+        },
+        Entry::Gave { turn: 1 },
+        Entry::Took { turn: 2, seat: 0 },
+        Entry::Handled {
+            number: 1,
+            moment: 10,
+        },
+        Entry::Set {
+            number: 2,
+            key: FIRST,
+            event: Event::Timeout,
+            due: 20,
+            series: 1,
+            period: 10,
+        },
+        Entry::Dropped { number: 2 },
+        Entry::Destroyed { key: FIRST },
+        Entry::Made { key: second },
+        Entry::Gave { turn: 2 },
+    ];
+    assert_eq!(rt; journal.entries(), entries.as_slice());
+    Ok(())
+}
+
+// A turn handles 64 events, the first and the direct calls of its handler, and leaves the rest pending.
+#[test]
+fn a_turn_handles_64_events(rt: HostRuntime) -> Result<(), Fail> {
+    let world = Burst {
+        target: None,
+        handled: 0,
+    };
+    let mut group = Group::make(rt.alloc(), world, 0)?;
+    group.begin_turn(1, 0, 0)?;
+    let caller = group.cx().make(CALLER)?;
+    let target = group.cx().make(2)?;
+    group.world_mut().target = Some(target);
+    let _action = group.cx().schedule(caller, 0)?;
+    assert_eq!(rt; group.next_news(), Some((1, 0)));
+    assert_eq!(rt; group.next_news(), None);
+    let handling = group.handle(1, 0)?;
+    assert!(rt; matches!(handling, Handling::Handled { events: 64 }));
+    assert_eq!(rt;
+        group.journal().counts(),
+        Counts {
+            set: 66,
+            handled: 64,
+            cancelled: 0,
+            dropped: 0,
+            pending: 2
+        }
+    );
+    assert_eq!(rt; group.next_due(), Some((0, 65)));
+    assert_eq!(rt; group.next_news(), Some((65, 0)));
+    assert_eq!(rt; group.next_news(), Some((66, 0)));
+    assert_eq!(rt; group.next_news(), None);
+    assert_eq!(rt; group.world().handled, 64);
+    Ok(())
+}
+
+// A world that does three steps is driven to its end.
+#[test]
+fn a_world_is_driven_to_its_end(rt: HostRuntime) -> Result<(), Fail> {
+    let part = Countdown { left: 3 };
+    let mut group = Group::make(rt.alloc(), Steps { part }, 0)?;
+    group.begin_turn(1, 0, 0)?;
+    group.start();
+    group.give_turn();
+    let driven = drive(&mut group)?;
+    assert_eq!(rt; driven, Driven::Done);
+    assert_eq!(rt; group.world().part.left, 0);
+    assert_eq!(rt; group.next_due(), None);
+    assert_eq!(rt;
+        group.journal().counts(),
+        Counts {
+            set: 4,
+            handled: 4,
+            cancelled: 0,
+            dropped: 0,
+            pending: 0
+        }
+    );
+    Ok(())
+}
+
+// A handler asks another group, and is told the reply.
+#[test]
+fn a_group_asks_another(rt: HostRuntime) -> Result<(), Fail> {
+    let world = Asker {
+        todo: 7,
+        last: 0,
+        main: None,
+    };
+    let mut asker = Group::make(rt.alloc(), world, 0)?;
+    let mut adder = Group::make(rt.alloc(), Adder { count: 0 }, 0)?;
+    asker.begin_turn(1, 0, 0)?;
+    adder.begin_turn(1, 0, 0)?;
+    asker.start();
+    let Handling::Asks {
+        group,
+        question,
+        ..
+    } = asker.handle(1, 0)?
+    else {
+        return Err("it asks")?;
+    };
+    assert_eq!(rt; (group, question), (1, 7));
+    serve(&mut asker, &mut adder, group, question, 0);
+    assert_eq!(rt; asker.world().last, 8);
+    assert_eq!(rt; asker.world().todo, 6);
+    assert_eq!(rt; adder.world().count, 1);
+    assert_eq!(rt; adder.journal().entries().len(), 3);
+    Ok(())
+}
