@@ -1,0 +1,8 @@
+use Rattle.ts_wire.proofs.FrameLemmas.{reads_back}
+use Rattle.ts_wire.proofs.frames.frame_end.Goals as goal
+
+pub returns-in-Plain-clause-read_back : goal.returns-in-Plain-clause-read_back
+returns-in-Plain-clause-read_back c = reads_back
+
+pub returns-in-Chunked-clause-read_back : goal.returns-in-Chunked-clause-read_back
+returns-in-Chunked-clause-read_back c = reads_back

@@ -1,0 +1,12 @@
+pub mod Answers
+pub mod Body
+pub mod Check
+pub mod FieldList
+pub mod Forward
+pub mod Frames
+pub mod Framing
+pub mod Heads
+pub mod Judged
+pub mod Place
+pub mod Printed
+pub mod Values

@@ -1,0 +1,146 @@
+//! Reads the body of a message, however its bytes are cut.
+ghost use Rattle.std.specs.Prelude.{◌≡◌, ◌≢◌, ◌≤◌, ◌↔◌, ℕ, List, [], take, slice_range, IfOk};
+ghost use Rattle.ts_wire.specs.declared.body.BodyState.{BodyState};
+ghost use Rattle.ts_wire.specs.Body.{IsCutShort, HasOneBody};
+ghost use Rattle.ts_wire.specs.Place.{room_of, state_of, IsSoundPhase, IsFed, Takes, GoesOn, GivesBody};
+
+use crate::framing::Framing;
+use crate::phases::{MAX_TRAILER, Phase, next_step};
+use std::alloc::Global;
+use std::marker::Model;
+use ts_link::NoMemory;
+
+/// How far a body is.
+#[derive(Clone, Copy, Debug, PartialEq, Eq)]
+pub enum BodyState {
+    /// More of it may come.
+    Unfinished,
+    /// It is whole.
+    Ended,
+    /// Its bytes are not what its framing says.
+    Bad,
+}
+
+/// How the bytes of a body ended.
+#[derive(Clone, Copy, Debug, PartialEq, Eq)]
+pub enum BodyEnd {
+    /// With the body.
+    Ended,
+    /// Before it.
+    Cut,
+}
+
+/// What a reader took of some bytes: the first `taken`, of which those from `from` to `to` are body.
+#[derive(Clone, Copy, Debug, PartialEq, Eq)]
+pub struct Fed {
+    pub taken: usize,
+    pub from: usize,
+    pub to: usize,
+    pub state: BodyState,
+}
+
+/// A reader of a body. A contract sees where it stands.
+#[derive(Drop)]
+pub struct BodyReader {
+    phase: Phase,
+    held: Vec<u8>,
+    total: u64,
+}
+
+impl Model for BodyReader {
+    ghost use Rattle.ts_wire.specs.Place.{Place, place_of, IsSound};
+
+    ghost Value = { Place };
+
+    ghost view = { place_of };
+
+    ghost invariant = { IsSound };
+}
+
+fn state_of(phase: Phase) -> BodyState
+    ensures { result ≡ state_of phase }
+{
+    match phase {
+        Phase::Ended => BodyState::Ended,
+        Phase::Bad => BodyState::Bad,
+        _ => BodyState::Unfinished,
+    }
+}
+
+/// A reader that begins in this phase.
+fn begin(alloc: Global, phase: Phase, room: usize) -> Result<BodyReader, NoMemory>
+    requires sound { IsSoundPhase phase [] 0 }
+    requires room { room_of phase ≤ room }
+    ensures { IfOk result (λ r. r ≡ record { phase = phase; held = []; total = 0 }) }
+{
+    let held = Vec::with_capacity(alloc, room)?;
+    Ok(BodyReader {
+        phase,
+        held,
+        total: 0,
+    })
+}
+
+impl BodyReader {
+    /// A reader that was fed nothing. It takes all the memory that it ever needs.
+    pub fn make(alloc: Global, framing: Framing) -> Result<BodyReader, NoMemory>
+        requires { framing ≢ Framing.Faulty }
+        ensures { IfOk result (IsFed framing [] []) }
+    {
+        match framing {
+            Framing::Nothing | Framing::Sized(0) => begin(alloc, Phase::Ended, 0),
+            Framing::Sized(n) => begin(alloc, Phase::Counted(n), 0),
+            Framing::Chunked => begin(alloc, Phase::Line, MAX_TRAILER),
+            Framing::UntilClose => begin(alloc, Phase::Open, 0),
+            Framing::Faulty => unreachable!(),
+        }
+    }
+
+    /// How far the body is.
+    pub fn state(&self) -> BodyState
+        ensures { result ≡ state_of self.now.phase }
+    {
+        state_of(self.phase)
+    }
+
+    /// Takes a front of the bytes, and says which part of it is body.
+    pub fn feed(&mut self, bytes: &[u8]) -> Fed
+        ensures takes { Takes self.old self.new bytes.now result }
+
+        // A body that has ended or is bad stays so, and takes nothing.
+        ensures rests { state_of self.old.phase ≢ BodyState.Unfinished → result.taken ≡ 0 }
+        ensures stays { state_of self.old.phase ≢ BodyState.Unfinished → result.state ≡ state_of self.old.phase }
+
+        // However the bytes are cut, what was given is the body of what was fed, in its state.
+        ensures goes_on { GoesOn self.old self.new (take result.taken bytes.now)
+            (slice_range bytes.now result.from result.to) }
+        ensures body { GivesBody self.old (take result.taken bytes.now)
+            (slice_range bytes.now result.from result.to) result.state }
+    {
+        let step = next_step(self.phase, &mut self.held, self.total, bytes);
+        self.phase = step.phase;
+        self.total += (step.to - step.from) as u64;
+        Fed {
+            taken: step.taken,
+            from: step.from,
+            to: step.to,
+            state: state_of(step.phase),
+        }
+    }
+
+    /// Says of bytes that have ended whether the body ended with them.
+    pub fn finish(&self) -> BodyEnd
+        requires { state_of self.now.phase ≢ BodyState.Bad }
+        ensures cut { (framing : Framing) (fed body : List ℕ) → IsFed framing fed body self.now
+            → ((result ≡ BodyEnd.Cut) ↔ IsCutShort framing fed body) }
+
+        // The law that makes the body of some bytes one.
+        ensures one_body { HasOneBody }
+    {
+        match self.phase {
+            Phase::Ended => BodyEnd::Ended,
+            Phase::Open => BodyEnd::Ended,
+            _ => BodyEnd::Cut,
+        }
+    }
+}
