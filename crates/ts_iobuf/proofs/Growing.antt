@@ -2,9 +2,8 @@
 use Rattle.std.proofs.Common.{◌≡◌, ℕ, ◌+◌, ◌-◌, ◌≤◌, List, ◌++◌, length, take, drop, Option, Some, None, IfSome, IsTrue, is_some, arith, refl, sym, ap, subst, ◌∙◌, length-drop, length-take}
 use Rattle.std.proofs.lemmas.List.{take-take, take_all, drop-append-le, length-take-le}
 use Rattle.std.proofs.Math.Seq.{take-add}
-use Rattle.ts_iobuf.specs.declared.readers.ReaderId.{ReaderId}
 use Rattle.ts_iobuf.specs.declared.readers.Slot.{Slot}
-use Rattle.ts_iobuf.specs.Buffer.{Buffer, Grows, is_reader, readable}
+use Rattle.ts_iobuf.specs.Buffer.{Buffer, Grows}
 use Rattle.ts_iobuf.specs.Held.{held}
 use Rattle.ts_iobuf.specs.View.{shown}
 use Rattle.ts_iobuf.specs.Places.{place_in, bytes_from, StandsWithin}

@@ -1,5 +1,5 @@
 -- Laws of the readers' places: what moving one reader and counting from a later byte do to what each reads.
-use Rattle.std.proofs.Common.{◌≡◌, ◌≢◌, ℕ, zero, suc, ◌+◌, ◌-◌, ◌≤◌, ◌<◌, ◌==◌, min, List, [], ◌∷◌, Option, Some, None, Bool, true, false, IsTrue, length, map, take, drop, ◌++◌, arith, refl, sym, ap, subst, ◌∙◌, IfSome, IsSomeAnd, All, slice_get, slice_set, unwrap_or, is_some, get_or, eq-eqb, eqb-true, drop-drop, ◌⊎◌, inl, inr}
+use Rattle.std.proofs.Common.{◌≡◌, ◌≢◌, ℕ, zero, suc, ◌+◌, ◌-◌, ◌≤◌, ◌<◌, ◌==◌, List, [], ◌∷◌, Option, Some, None, Bool, true, false, length, map, take, drop, ◌++◌, arith, refl, sym, ap, subst, ◌∙◌, IfSome, IsSomeAnd, All, slice_get, slice_set, unwrap_or, is_some, get_or, eq-eqb, eqb-true, drop-drop, ◌⊎◌, inl, inr}
 use Rattle.std.proofs.lemmas.Bool.{cases_eq}
 use Rattle.std.proofs.lemmas.List.{get_or_default}
 use Rattle.std.proofs.lemmas.List.Edits.{map_over_more}

@@ -1,5 +1,5 @@
 -- From the answer of a command to the status of the program.
-use Rattle.std.proofs.Common.{◌∷◌, ◌≡◌, ℕ, nat_le, Bool, true, false, List, [], ◌++◌, length, Option, Some, None, ◌⊎◌, inl, inr, refl, sym, ap, subst, ◌∙◌, if◌then◌else◌}
+use Rattle.std.proofs.Common.{◌∷◌, ◌≡◌, ℕ, nat_le, Bool, true, false, List, [], ◌++◌, length, Option, Some, None, inl, inr, refl, sym, subst, ◌∙◌, if◌then◌else◌}
 use Rattle.std.proofs.lemmas.List.{append-nil}
 use Rattle.ts_proxy.specs.declared.answer.Answer.{Answer}
 use Rattle.ts_proxy.specs.declared.answer.Answer.TheVariants as a
@@ -11,7 +11,7 @@ use Rattle.ts_proxy.specs.Config.{config_of}
 use Rattle.ts_proxy.specs.Reading.{Reading, Good, Bad}
 use Rattle.ts_proxy.specs.Stock.{compose_lines}
 use Rattle.ts_proxy.specs.Took.{TookFront}
-use Rattle.ts_proxy.specs.Outcome.{Outcome, Usage, BadLine, Missing, Long, Text, opened, understood, line_filled, filled, set_up, transformed}
+use Rattle.ts_proxy.specs.Outcome.{Outcome, Usage, BadLine, Missing, Long, Text, opened, understood, line_filled, filled, transformed}
 use Rattle.ts_proxy.specs.Answers.{IsText, IsCommand, ComesAt, TookText, TookAt}
 use Rattle.ts_proxy.specs.Ends.{status_of, EndsAt, TakesAt}
 

@@ -1,5 +1,5 @@
 -- The lines of a configuration, one by one.
-use Rattle.std.proofs.Common.{◌≡◌, ℕ, suc, ◌+◌, ◌≤◌, ◌<◌, ◌==◌, nat_lt, List, [], ◌∷◌, ◌++◌, Bool, true, false, Option, Some, None, length, take, drop, arith, refl, sym, ap, ◌∙◌, append_assoc, drop-drop, lt-ltb, min, not, ◌&&◌, codes, if◌then◌else◌}
+use Rattle.std.proofs.Common.{◌≡◌, ℕ, suc, ◌+◌, ◌≤◌, ◌<◌, ◌==◌, nat_lt, List, [], ◌∷◌, ◌++◌, Bool, true, false, Some, None, length, take, drop, arith, refl, sym, ap, ◌∙◌, append_assoc, drop-drop, lt-ltb, min, not, ◌&&◌, codes, if◌then◌else◌}
 use Rattle.std.specs.Str.{bytes_eq}
 use Rattle.ts_proxy.specs.declared.config.ConfigLine.TheVariants.{Null, Append}
 use Rattle.std.proofs.lemmas.List.{drop_all, take_min}

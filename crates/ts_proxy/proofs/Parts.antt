@@ -1,5 +1,5 @@
 -- A line that is told part by part.
-use Rattle.std.proofs.Common.{◌≡◌, ℕ, ◌+◌, ◌<◌, List, ◌∷◌, ◌++◌, Bor, length, get_or, drop, map, sym, ap, subst, ◌∙◌, append_assoc, inl, inr, ◌⊎◌}
+use Rattle.std.proofs.Common.{◌≡◌, ℕ, ◌+◌, ◌<◌, List, ◌++◌, Bor, length, get_or, drop, map, sym, ap, subst, ◌∙◌, append_assoc, inr, ◌⊎◌}
 use Rattle.std.proofs.lemmas.List.{drop_more}
 use Rattle.ts_link.specs.Counts.{Rose}
 use Rattle.ts_proxy.specs.Took.{TookBut, TookFront}

@@ -1,5 +1,5 @@
 -- The words of a command.
-use Rattle.std.proofs.Common.{◌≡◌, ℕ, ◌≤◌, ◌<◌, List, [], ◌∷◌, length, get_or, map, arith, sym, ap, ◌∙◌}
+use Rattle.std.proofs.Common.{◌≡◌, ◌≤◌, ◌<◌, List, [], ◌∷◌, length, get_or, map, arith, sym, ap, ◌∙◌}
 
 -- a list of three
 pub map-three : {X Y : Type 0} (f : X → Y) (xs : List X) (a b c : X) (u v w : Y) → 3 ≤ length xs → length xs < 4

@@ -5,7 +5,6 @@ use Rattle.std.specs.List.{list_all}
 use Rattle.std.specs.Str.{bytes_eq}
 use Rattle.ts_proxy.specs.declared.config.ConfigLine.{ConfigLine}
 use Rattle.ts_proxy.specs.declared.config.ConfigLine.TheVariants.{Null, Append}
-use Rattle.ts_proxy.specs.declared.config.ConfigKind.{ConfigKind}
 use Rattle.ts_proxy.specs.declared.config.ConfigKind.TheVariants.{Plugin, TooMany}
 use Rattle.ts_proxy.specs.declared.config.ConfigRefusal.{ConfigRefusal}
 use Rattle.ts_proxy.specs.declared.config.ConfigRefusal.TheVariants.{Fault, NoMemory}

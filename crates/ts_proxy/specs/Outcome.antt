@@ -1,6 +1,6 @@
 -- What a command comes to if nothing fails: a function of its words and of the files. It is the first trouble in the
 -- order of the work, or the text that is written.
-use Rattle.std.specs.Prelude.{ℕ, nat_le, Bool, true, false, List, [], ◌∷◌, length, Option, Some, None, codes, unwrap_or, slice_get, if◌then◌else◌}
+use Rattle.std.specs.Prelude.{ℕ, nat_le, Bool, false, List, [], ◌∷◌, length, Option, Some, None, codes, unwrap_or, slice_get, if◌then◌else◌}
 use Rattle.std.specs.Str.{bytes_eq}
 use Rattle.ts_proxy.specs.declared.config.ConfigLine.{ConfigLine}
 use Rattle.ts_proxy.specs.declared.config.ConfigLine.TheVariants as said

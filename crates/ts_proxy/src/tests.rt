@@ -15,7 +15,8 @@ fn words(alloc: Global, said: &[&str]) -> Result<Vec<String>, AllocError> {
     Ok(words)
 }
 
-const USAGE: &[u8] = b"tsx: usage: transform CONFIG BODY | replay [--threads N] CONFIG RECORDING | serve --listen L --origin A --config F [--threads N] [--connections N] | generate SEED COUNT SIZE\n";
+const USAGE: &[u8] =
+    b"tsx: usage: transform CONFIG BODY | replay [--threads N] CONFIG RECORDING | serve --listen L --origin A --config F [--threads N] [--connections N] | generate SEED COUNT SIZE\n";
 
 // A shelf, the words, the write of out that fails, and then the status and what out and err took.
 #[derive(Drop)]
@@ -56,7 +57,11 @@ fn rows(rt: HostRuntime) -> Result<(), Fail> {
     let table: [(&[(&str, &[u8])], &[&str], u64, u8, &[u8], &[u8]); 11] = [
         (append, &["transform", "c", "b"], 0, 0, b"abcXY", b""),
         (
-            &[("c", b"null_transform.so\nappend_transform.so z"), ("z", b"Z"), ("b", b"")],
+            &[
+                ("c", b"null_transform.so\nappend_transform.so z"),
+                ("z", b"Z"),
+                ("b", b""),
+            ],
             &["transform", "c", "b"],
             0,
             0,
@@ -64,15 +69,34 @@ fn rows(rt: HostRuntime) -> Result<(), Fail> {
             b"",
         ),
         (
-            &[("c", b"append_transform.so 1\nappend_transform.so 2\n"), ("1", b"1"), ("2", b"2"), ("b", b"x")],
+            &[
+                ("c", b"append_transform.so 1\nappend_transform.so 2\n"),
+                ("1", b"1"),
+                ("2", b"2"),
+                ("b", b"x"),
+            ],
             &["transform", "c", "b"],
             0,
             0,
             b"x12",
             b"",
         ),
-        (append, &["transform", "c", "b"], 1, 6, b"", b"tsx: cannot write\n"),
-        (&append[..2], &["transform", "c", "b"], 0, 5, b"", b"tsx: cannot read b\n"),
+        (
+            append,
+            &["transform", "c", "b"],
+            1,
+            6,
+            b"",
+            b"tsx: cannot write\n",
+        ),
+        (
+            &append[..2],
+            &["transform", "c", "b"],
+            0,
+            5,
+            b"",
+            b"tsx: cannot read b\n",
+        ),
         (
             &[("c", b"append_transform.so t"), ("b", b"")],
             &["transform", "c", "b"],
@@ -89,7 +113,14 @@ fn rows(rt: HostRuntime) -> Result<(), Fail> {
             b"",
             b"tsx: configuration line 2: plugin\n",
         ),
-        (&[("c", b"\n"), ("b", b"")], &["transform", "c", "b"], 0, 3, b"", b"tsx: configuration line 1: plugin\n"),
+        (
+            &[("c", b"\n"), ("b", b"")],
+            &["transform", "c", "b"],
+            0,
+            3,
+            b"",
+            b"tsx: configuration line 1: plugin\n",
+        ),
         (append, &[], 0, 2, b"", USAGE),
         (append, &["transform", "c", "b", "b"], 0, 2, b"", USAGE),
         (append, &["replay", "c", "b"], 0, 2, b"", USAGE),
@@ -126,7 +157,13 @@ fn long_rows(rt: HostRuntime) -> Result<(), Fail> {
     let table: [(&[u8], usize, u8, &[u8], &[u8]); 4] = [
         (b"null_transform.so", 1, 0, body.as_slice(), b""),
         (sixteen.as_slice(), 65_536, 0, body.as_slice(), b""),
-        (seventeen.as_slice(), 65_536, 3, b"", b"tsx: configuration line 17: too-many\n"),
+        (
+            seventeen.as_slice(),
+            65_536,
+            3,
+            b"",
+            b"tsx: configuration line 17: too-many\n",
+        ),
         (long.as_slice(), 65_536, 9, b"", b"tsx: too long: c\n"),
     ];
     for (config, take, status, out, err) in table {

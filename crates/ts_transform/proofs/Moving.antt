@@ -1,5 +1,5 @@
 -- A stage that took bytes keeps what is still to come.
-use Rattle.std.proofs.Common.{◌≡◌, ℕ, ◌≤◌, List, ◌++◌, Bool, false, length, take, drop, arith, sym, ap, subst, ◌∙◌, append_assoc, length-take}
+use Rattle.std.proofs.Common.{◌≡◌, ℕ, ◌≤◌, List, ◌++◌, false, length, take, drop, arith, sym, ap, subst, ◌∙◌, append_assoc, length-take}
 use Rattle.std.proofs.lemmas.List.{take-take, take-append-drop}
 use Rattle.ts_transform.specs.declared.pump.Stage.{Stage}
 use Rattle.ts_transform.specs.Law.{Adds}

@@ -1,4 +1,4 @@
-use Rattle.std.proofs.Common.{◌≡◌, ◌<◌, ◌≤◌, length, eqb-true, ◌+◌, ◌++◌, ◌∷◌, [], Some, arith, ap, sym, ◌∙◌}
+use Rattle.std.proofs.Common.{◌≡◌, ◌<◌, ◌≤◌, length, eqb-true, ◌++◌, ◌∷◌, [], Some, arith, ap, sym, ◌∙◌}
 use Rattle.std.specs.VecDeque.{deque_len}
 use Rattle.ts_proxy.specs.Config.{behind, read_lines, lines, line_of}
 use Rattle.ts_proxy.specs.Reading.{Good}

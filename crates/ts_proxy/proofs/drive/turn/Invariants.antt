@@ -1,4 +1,4 @@
-use Rattle.std.proofs.Common.{◌≡◌, ℕ, List, [], length, true}
+use Rattle.std.proofs.Common.{◌≡◌, ℕ, List, [], length}
 use Rattle.std.specs.Bool.{OnTrue}
 use Rattle.ts_transform.specs.Flow.{flow}
 use Rattle.ts_proxy.proofs.drive.turn.Given as goal

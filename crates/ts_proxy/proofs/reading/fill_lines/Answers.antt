@@ -1,6 +1,6 @@
-use Rattle.std.proofs.Common.{◌≡◌, ◌++◌, ◌∷◌, [], ap, sym, subst, ◌∙◌, append_assoc}
+use Rattle.std.proofs.Common.{◌++◌, ◌∷◌, [], ap, sym, ◌∙◌, append_assoc}
 use Rattle.ts_proxy.specs.Outcome.{line_filled}
-use Rattle.ts_proxy.proofs.Filling.{FillsBut, fills-more, stopped-named}
+use Rattle.ts_proxy.proofs.Filling.{fills-more, stopped-named}
 use Rattle.ts_proxy.proofs.reading.fill_lines.Goals as goal
 
 pub returns-in-Err-clause-named : goal.returns-in-Err-clause-named

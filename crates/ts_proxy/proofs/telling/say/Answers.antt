@@ -1,5 +1,5 @@
-use Rattle.std.proofs.Common.{List, ℕ, [], ◌∷◌, ap, codes, decimal, ◌∙◌}
-use Rattle.ts_proxy.specs.Lines.{joined, kind_text}
+use Rattle.std.proofs.Common.{[], ◌∷◌, ap, codes, decimal, ◌∙◌}
+use Rattle.ts_proxy.specs.Lines.{joined}
 use Rattle.ts_proxy.proofs.Parts.{told-same}
 use Rattle.ts_proxy.proofs.telling.say.Goals as goal
 

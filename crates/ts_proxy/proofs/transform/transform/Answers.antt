@@ -1,5 +1,4 @@
-use Rattle.std.proofs.Common.{◌≡◌, List, ap, sym, subst, ◌∙◌}
-use Rattle.ts_proxy.specs.declared.stock.StockLine.{StockLine}
+use Rattle.std.proofs.Common.{◌≡◌, ap, subst, ◌∙◌}
 use Rattle.ts_proxy.specs.Stock.{compose_lines}
 use Rattle.ts_proxy.specs.Answers.{TookText}
 use Rattle.ts_proxy.proofs.Opening.{writing-comes, transformed-text, transformed-refused}

@@ -1,5 +1,5 @@
 use Rattle.std.proofs.Common.{◌≡◌, ◌+◌, ◌-◌, ◌++◌, length, take, drop, refl, ap, ◌∙◌, arith}
-use Rattle.ts_iobuf.specs.View.{seen, shown}
+use Rattle.ts_iobuf.specs.View.{shown}
 use Rattle.ts_iobuf.proofs.Lent.{shown-over}
 use Rattle.ts_iobuf.proofs.buffer.IoBuffer.room_mut.Goals as goal
 
