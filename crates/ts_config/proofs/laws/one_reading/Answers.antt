@@ -1,0 +1,6 @@
+-- The law of the grammar.
+use Rattle.ts_config.proofs.ValueReads.{reading_is}
+use Rattle.ts_config.proofs.laws.one_reading.Goals as goal
+
+pub returns : goal.returns
+returns c = reading_is

@@ -1,0 +1,14 @@
+use Rattle.std.proofs.Common.{◌+◌, ◌≤◌, length}
+use Rattle.ts_config.proofs.LinesSoFar.{LinesRead}
+use Rattle.ts_config.proofs.read.read_config.Given as goal
+
+-- the lines before the rest were read
+abbrev pub invariant-loop-rest : goal.invariant-loop-rest
+invariant-loop-rest l = record {
+  read : LinesRead l.bytes l.rest l.line_number l.transforms.items;
+  few : length l.transforms.items ≤ 16;
+  counted : l.line_number + length l.rest ≤ length l.bytes;
+}
+
+abbrev pub decreases-loop-rest : goal.decreases-loop-rest
+decreases-loop-rest l = length l.rest

@@ -1,0 +1,10 @@
+pub mod Bodies
+pub mod Lines
+pub mod Numerals
+pub mod Printing
+pub mod Reading
+pub mod Scanning
+pub mod Setup
+pub mod Table
+pub mod Value
+pub mod Words

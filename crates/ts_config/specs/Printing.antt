@@ -1,0 +1,49 @@
+-- How a configuration is printed.
+use Rattle.std.specs.Prelude.{ℕ, Bool, true, List, [], ◌∷◌, ◌++◌, flat_map, if◌then◌else◌}
+use Rattle.std.specs.Fmt.{decimal}
+use Rattle.std.specs.List.{list_any}
+use Rattle.ts_config.specs.declared.setup.TransformLine.{TransformLine}
+use Rattle.ts_config.specs.declared.setup.TransformLine.TheVariants as t
+use Rattle.ts_config.specs.declared.table.PluginName.{PluginName}
+use Rattle.ts_config.specs.declared.table.PluginName.TheVariants as n
+use Rattle.ts_config.specs.Words.{is_end}
+use Rattle.ts_config.specs.Numerals.{byte_word}
+use Rattle.ts_config.specs.Table.{spelling}
+
+-- a word that stands between quotes: an empty one, and one with a blank or a `#`
+abbrev pub needs_quotes : List ℕ → Bool
+needs_quotes [] = true
+needs_quotes (b ∷ bs) = list_any is_end (b ∷ bs)
+
+abbrev pub spelled : List ℕ → List ℕ
+spelled w = if needs_quotes w then 34 ∷ w ++ 34 ∷ [] else w
+
+abbrev pub line_name : TransformLine → PluginName
+line_name t.Null = n.Null
+line_name (t.Append file text) = n.Append
+line_name t.Bnull = n.Bnull
+line_name (t.Prepend text) = n.Prepend
+line_name (t.Map from to) = n.Map
+line_name (t.Drop byte) = n.Drop
+line_name (t.Delay ms) = n.Delay
+
+-- the words behind the name
+abbrev pub line_arguments : TransformLine → List (List ℕ)
+line_arguments t.Null = []
+line_arguments (t.Append file text) = file ∷ []
+line_arguments t.Bnull = []
+line_arguments (t.Prepend text) = text ∷ []
+line_arguments (t.Map from to) = byte_word from ∷ byte_word to ∷ []
+line_arguments (t.Drop byte) = byte_word byte ∷ []
+line_arguments (t.Delay ms) = decimal ms ∷ []
+
+-- the words, each behind one space
+abbrev pub spelled_words : List (List ℕ) → List ℕ
+spelled_words words = flat_map (λ w. 32 ∷ spelled w) words
+
+-- a line with its line feed
+abbrev pub printed_line : TransformLine → List ℕ
+printed_line line = spelling (line_name line) ++ spelled_words (line_arguments line) ++ 10 ∷ []
+
+abbrev pub printed : List TransformLine → List ℕ
+printed lines = flat_map printed_line lines

@@ -1,0 +1,55 @@
+-- What the readers of a line answer, in the words of the grammar.
+use Rattle.std.specs.Prelude.{◌≡◌, ℕ, List, ◌∷◌, ◌++◌, Option, Some, None, Result, Ok, Err, ⊤}
+use Rattle.ts_config.specs.declared.setup.ConfigKind.{ConfigKind}
+use Rattle.ts_config.specs.declared.setup.ConfigRefusal.{ConfigRefusal}
+use Rattle.ts_config.specs.declared.setup.ConfigRefusal.TheVariants as c
+use Rattle.ts_config.specs.declared.setup.Entry.{Entry}
+use Rattle.ts_config.specs.declared.setup.TransformLine.{TransformLine}
+use Rattle.ts_config.specs.declared.read.LineRefusal.{LineRefusal}
+use Rattle.ts_config.specs.declared.read.LineRefusal.TheVariants as r
+use Rattle.ts_config.specs.declared.words.Next.{Next}
+use Rattle.ts_config.specs.declared.words.Next.TheVariants.{Nothing, Word, Unclosed}
+use Rattle.ts_config.specs.Reading.{Means, Breaks}
+use Rattle.ts_config.specs.Words.{IsWords, BeginsWith, HasNoWord, IsQuotable, EndsWord}
+
+-- a text behind a quote is this word, the second quote and the rest, or it is no such text
+abbrev pub IsQuoted : List ℕ → Next → Type 0
+IsQuoted text Nothing = ⊥
+IsQuoted text (Word word rest) = IsQuotable word.now × EndsWord rest.now × (text ≡ word.now ++ 34 ∷ rest.now)
+IsQuoted text Unclosed = (w rest : List ℕ) → IsQuotable w → EndsWord rest → text ≡ w ++ 34 ∷ rest → ⊥
+
+-- what a line begins with: no word, this word and the rest, or a quote that fits no word
+abbrev pub IsNext : List ℕ → Next → Type 0
+IsNext line Nothing = HasNoWord line
+IsNext line (Word word rest) = BeginsWith line word.now rest.now
+IsNext line Unclosed = (words : List (List ℕ)) → ¬ IsWords line words
+
+-- the words of a line, or none where a quote does not fit
+abbrev pub AreWords : List ℕ → Option (List (List ℕ)) → Type 0
+AreWords line (Some words) = IsWords line words
+AreWords line None = (words : List (List ℕ)) → ¬ IsWords line words
+
+-- an answer is what reading gives, unless memory ran out
+abbrev pub Refuses : {Y : Type 0} → LineRefusal → Result Y ConfigKind → Type 0
+Refuses r.NoMemory read = ⊤
+Refuses (r.Kind kind) read = read ≡ Err kind
+
+abbrev pub Gives : {Y : Type 0} → Result Y LineRefusal → Result Y ConfigKind → Type 0
+Gives (Ok x) read = read ≡ Ok x
+Gives (Err e) read = Refuses e read
+
+-- the line means what was answered, unless memory ran out
+abbrev pub MeansUnlessMemory : List ℕ → Result Entry LineRefusal → Type 0
+MeansUnlessMemory line (Ok e) = Means line (Ok e)
+MeansUnlessMemory line (Err r.NoMemory) = ⊤
+MeansUnlessMemory line (Err (r.Kind kind)) = Means line (Err kind)
+
+-- the line breaks this rule behind these transforms, unless memory ran out
+abbrev pub BreaksUnlessMemory : List TransformLine → List ℕ → LineRefusal → Type 0
+BreaksUnlessMemory so_far line r.NoMemory = ⊤
+BreaksUnlessMemory so_far line (r.Kind kind) = Breaks so_far line kind
+
+-- the refusal of a line, at its number
+abbrev pub refusal_at : ℕ → LineRefusal → ConfigRefusal
+refusal_at n r.NoMemory = c.NoMemory
+refusal_at n (r.Kind kind) = c.Fault (record { line = n; kind = kind })

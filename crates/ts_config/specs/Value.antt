@@ -1,0 +1,96 @@
+-- The reading of a configuration as a function of its bytes. That it is the grammar's is a law (`one_reading`).
+use Rattle.std.specs.Prelude.{◌≡◌, ℕ, suc, zero, ◌==◌, ◌+◌, not, nat_le, Bool, List, [], ◌∷◌, ◌++◌, length, take, drop, Option, Some, None, Result, Ok, Err, ⊤, if◌then◌else◌}
+use Rattle.std.specs.List.{prefix_len}
+use Rattle.std.specs.Option.{option_map}
+use Rattle.ts_config.specs.declared.setup.TransformLine.{TransformLine}
+use Rattle.ts_config.specs.declared.setup.ConfigKind.{ConfigKind}
+use Rattle.ts_config.specs.declared.setup.ConfigKind.TheVariants as k
+use Rattle.ts_config.specs.declared.setup.Entry.{Entry}
+use Rattle.ts_config.specs.declared.setup.ConfigRefusal.{ConfigRefusal}
+use Rattle.ts_config.specs.declared.setup.ConfigRefusal.TheVariants as c
+use Rattle.ts_config.specs.Lines.{config_lines}
+use Rattle.ts_config.specs.Words.{is_blank, is_end}
+use Rattle.ts_config.specs.Table.{entry_of}
+use Rattle.ts_config.specs.Reading.{is_text, transform_in, IsConfiguration, IsFault}
+
+-- what a line begins with: no word, a word and the rest, or a quote that fits no word
+pub data Front : Type 0 where
+  nothing : Front
+  word : List ℕ → List ℕ → Front
+  unclosed : Front
+
+abbrev pub is_plain_byte : ℕ → Bool
+is_plain_byte b = not (is_end b)
+
+abbrev pub is_quotable_byte : ℕ → Bool
+is_quotable_byte b = not (b == 34)
+
+-- a word between quotes, with what stands behind the second quote
+abbrev pub closed : List ℕ → List ℕ → Front
+closed w [] = word w []
+closed w (b ∷ bs) = if is_end b then word w (b ∷ bs) else unclosed
+
+-- a word between quotes, with the second quote, if it is there, and what stands behind it
+abbrev pub quoted : List ℕ → List ℕ → Front
+quoted w [] = unclosed
+quoted w (quote ∷ rest) = closed w rest
+
+-- the front of a text that does not begin with a blank
+abbrev pub front_of_text : List ℕ → Front
+front_of_text [] = nothing
+front_of_text (b ∷ bs) =
+    if b == 35 then nothing
+    else if b == 34 then quoted (take (prefix_len is_quotable_byte bs) bs) (drop (prefix_len is_quotable_byte bs) bs)
+    else word (take (prefix_len is_plain_byte (b ∷ bs)) (b ∷ bs)) (drop (prefix_len is_plain_byte (b ∷ bs)) (b ∷ bs))
+
+abbrev pub front_of : List ℕ → Front
+front_of line = front_of_text (drop (prefix_len is_blank line) line)
+
+abbrev pub words_behind : Front → (List ℕ → Option (List (List ℕ))) → Option (List (List ℕ))
+words_behind nothing words = Some []
+words_behind (word w rest) words = option_map (λ ws. w ∷ ws) (words rest)
+words_behind unclosed words = None
+
+-- the words of a line of fewer than n bytes, or none where a quote does not fit
+abbrev pub words_below : ℕ → List ℕ → Option (List (List ℕ))
+words_below zero line = None
+words_below (suc n) line = words_behind (front_of line) (words_below n)
+
+abbrev pub words_in : List ℕ → Option (List (List ℕ))
+words_in line = words_below (suc (length line)) line
+
+abbrev pub meaning_of_words : Option (List (List ℕ)) → Result Entry ConfigKind
+meaning_of_words (Some words) = entry_of words
+meaning_of_words None = Err k.Quote
+
+-- what a line means by itself, or the first rule that it breaks
+abbrev pub meaning_of : List ℕ → Result Entry ConfigKind
+meaning_of line = if is_text line then meaning_of_words (words_in line) else Err k.Text
+
+-- the transform lines of a configuration, or the number of the first line that is not in the grammar, counted from 1,
+-- and the first rule that it breaks
+pub data Reading : Type 0 where
+  Good : List TransformLine → Reading
+  Bad : ℕ → ConfigKind → Reading
+
+abbrev pub next_lines : Result Entry ConfigKind → ℕ → List TransformLine → (List TransformLine → Reading) → Reading
+next_lines (Err kind) n so_far next = Bad n kind
+next_lines (Ok e) n so_far next = if nat_le (length (so_far ++ transform_in e)) 16 then next (so_far ++ transform_in e) else Bad n k.TooMany
+
+-- the reading of lines behind n others, which have these transforms
+abbrev pub read_lines : List (List ℕ) → ℕ → List TransformLine → Reading
+read_lines [] n so_far = Good so_far
+read_lines (line ∷ lines) n so_far = next_lines (meaning_of line) (n + 1) so_far (read_lines lines (n + 1))
+
+abbrev pub config_of : List ℕ → Reading
+config_of bytes = read_lines (config_lines bytes) 0 []
+
+-- the reading by the grammar
+abbrev pub IsReading : List ℕ → Reading → Type 0
+IsReading bytes (Good transforms) = IsConfiguration bytes transforms
+IsReading bytes (Bad n kind) = IsFault (config_lines bytes) n kind
+
+-- a refusal is what was read, and want of memory says nothing
+abbrev pub IsRefusal : Reading → ConfigRefusal → Type 0
+IsRefusal reading (c.Fault f) = reading ≡ Bad f.line f.kind
+IsRefusal reading c.NoMemory = ⊤

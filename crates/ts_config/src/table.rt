@@ -1,0 +1,184 @@
+ghost use Rattle.std.specs.Prelude.{◌≡◌, ◌==◌, ℕ, List, length, map, find, Option, IfOk, if◌then◌else◌};
+ghost use Rattle.std.specs.Str.{bytes_eq};
+ghost use Rattle.ts_config.specs.Scanning.{Gives};
+ghost use Rattle.ts_config.specs.Table.{spelling, name_of, transform_of, entry_of};
+ghost use Rattle.ts_config.specs.declared.table.PluginName.TheVariants as n;
+
+use crate::numerals::{byte_of, number_of};
+use crate::read::LineRefusal;
+use crate::setup::{ConfigKind, Entry, TransformLine};
+use std::alloc::Global;
+use ts_link::{NoMemory, Octets};
+
+/// The plugins that a line can name.
+#[derive(Clone, Copy, Debug, PartialEq, Eq)]
+pub enum PluginName {
+    Null,
+    Append,
+    Bnull,
+    Prepend,
+    Map,
+    Drop,
+    Delay,
+}
+
+const NAMES: [PluginName; 7] = [
+    PluginName::Null,
+    PluginName::Append,
+    PluginName::Bnull,
+    PluginName::Prepend,
+    PluginName::Map,
+    PluginName::Drop,
+    PluginName::Delay,
+];
+
+// The most bytes of the text of a prepend line.
+const MOST_TEXT: usize = 16_384;
+
+// The most milliseconds of a delay line.
+const MOST_DELAY: u32 = 60_000;
+
+impl PluginName {
+    /// The first word of its lines.
+    pub fn spelling(self) -> &'static [u8]
+        ensures { result.now ≡ spelling self }
+    {
+        match self {
+            PluginName::Null => b"null_transform.so",
+            PluginName::Append => b"append_transform.so",
+            PluginName::Bnull => b"bnull_transform.so",
+            PluginName::Prepend => b"prepend.so",
+            PluginName::Map => b"map.so",
+            PluginName::Drop => b"drop.so",
+            PluginName::Delay => b"delay.so",
+        }
+    }
+}
+
+// The first of these names that the word spells.
+fn name_among(names: &[PluginName], word: &[u8]) -> Option<PluginName>
+    ensures { result ≡ find (λ n. bytes_eq (spelling n) word.now) names.now }
+{
+    for name in names {
+        if name.spelling() == word {
+            return Some(*name);
+        }
+    }
+    None
+}
+
+fn name_of(word: &[u8]) -> Option<PluginName>
+    ensures { result ≡ name_of word.now }
+{
+    name_among(&NAMES, word)
+}
+
+// A line that takes no words.
+fn alone(line: TransformLine, words: &[&[u8]]) -> Option<TransformLine>
+    ensures { result ≡ (if length words.now == 0 then Some line else None) }
+{
+    if words.is_empty() { Some(line) } else { None }
+}
+
+fn append_of(alloc: Global, words: &[&[u8]]) -> Result<Option<TransformLine>, NoMemory>
+    ensures { IfOk result (λ o. o ≡ transform_of n.Append (map (λ w. w.now) words.now)) }
+{
+    match words {
+        [file] => {
+            if file.is_empty() {
+                return Ok(None);
+            }
+            let text = Octets::of_vec(Vec::new(alloc));
+            let file = Octets::copy_of(alloc, file)?;
+            Ok(Some(TransformLine::Append { file, text }))
+        }
+        _ => Ok(None),
+    }
+}
+
+fn prepend_of(alloc: Global, words: &[&[u8]]) -> Result<Option<TransformLine>, NoMemory>
+    ensures { IfOk result (λ o. o ≡ transform_of n.Prepend (map (λ w. w.now) words.now)) }
+{
+    match words {
+        [text] => {
+            if text.len() > MOST_TEXT {
+                return Ok(None);
+            }
+            let text = Octets::copy_of(alloc, text)?;
+            Ok(Some(TransformLine::Prepend { text }))
+        }
+        _ => Ok(None),
+    }
+}
+
+fn map_of(words: &[&[u8]]) -> Option<TransformLine>
+    ensures { result ≡ transform_of n.Map (map (λ w. w.now) words.now) }
+{
+    match words {
+        [from, to] => {
+            let from = byte_of(from)?;
+            let to = byte_of(to)?;
+            Some(TransformLine::Map { from, to })
+        }
+        _ => None,
+    }
+}
+
+fn drop_of(words: &[&[u8]]) -> Option<TransformLine>
+    ensures { result ≡ transform_of n.Drop (map (λ w. w.now) words.now) }
+{
+    match words {
+        [byte] => {
+            let byte = byte_of(byte)?;
+            Some(TransformLine::Drop { byte })
+        }
+        _ => None,
+    }
+}
+
+fn delay_of(words: &[&[u8]]) -> Option<TransformLine>
+    ensures { result ≡ transform_of n.Delay (map (λ w. w.now) words.now) }
+{
+    match words {
+        [ms] => {
+            let ms = number_of(ms, MOST_DELAY)?;
+            Some(TransformLine::Delay { ms })
+        }
+        _ => None,
+    }
+}
+
+// The line that a name and the words behind it ask for, or nothing where they do not fit.
+fn transform_of(
+    alloc: Global,
+    name: PluginName,
+    words: &[&[u8]],
+) -> Result<Option<TransformLine>, NoMemory>
+    ensures { IfOk result (λ o. o ≡ transform_of name (map (λ w. w.now) words.now)) }
+{
+    match name {
+        PluginName::Null => Ok(alone(TransformLine::Null, words)),
+        PluginName::Append => append_of(alloc, words),
+        PluginName::Bnull => Ok(alone(TransformLine::Bnull, words)),
+        PluginName::Prepend => prepend_of(alloc, words),
+        PluginName::Map => Ok(map_of(words)),
+        PluginName::Drop => Ok(drop_of(words)),
+        PluginName::Delay => Ok(delay_of(words)),
+    }
+}
+
+/// What the words of a line mean, or the first rule that they break.
+pub fn entry_of(alloc: Global, words: &[&[u8]]) -> Result<Entry, LineRefusal>
+    ensures { Gives result (entry_of (map (λ w. w.now) words.now)) }
+{
+    let [first, others @ ..] = words else {
+        return Ok(Entry::Empty);
+    };
+    let Some(name) = name_of(first) else {
+        return Err(LineRefusal::Kind(ConfigKind::Plugin));
+    };
+    match transform_of(alloc, name, others)? {
+        Some(line) => Ok(Entry::Transform(line)),
+        None => Err(LineRefusal::Kind(ConfigKind::Arguments)),
+    }
+}

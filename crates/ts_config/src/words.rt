@@ -1,0 +1,128 @@
+ghost use Rattle.std.specs.Prelude.{◌≡◌, ◌==◌, ◌≤◌, length, map, IfOk, IsTrue};
+ghost use Rattle.std.specs.List.{position_or_len, prefix_len};
+ghost use Rattle.std.specs.Option.{option_map};
+ghost use Rattle.ts_config.specs.Words.{is_blank, is_end, EndsWord};
+ghost use Rattle.ts_config.specs.Scanning.{IsQuoted, IsNext, AreWords};
+
+use std::alloc::Global;
+use ts_link::NoMemory;
+
+fn is_blank(byte: u8) -> bool
+    ensures { result ≡ is_blank byte }
+{
+    byte == b' ' || byte == b'\t'
+}
+
+pub fn is_end(byte: u8) -> bool
+    ensures { result ≡ is_end byte }
+{
+    is_blank(byte) || byte == b'#'
+}
+
+// How many blanks the text begins with.
+fn count_blanks(text: &[u8]) -> usize
+    ensures count { result ≡ prefix_len is_blank text.now }
+    ensures within { result ≤ length text.now }
+{
+    for (i, byte) in text.iter().enumerate() {
+        if !is_blank(*byte) {
+            return i;
+        }
+    }
+    text.len()
+}
+
+// Where the plain word that the text begins with ends.
+fn count_plain(text: &[u8]) -> usize
+    ensures count { result ≡ position_or_len is_end text.now }
+    ensures within { result ≤ length text.now }
+{
+    for (i, byte) in text.iter().enumerate() {
+        if is_end(*byte) {
+            return i;
+        }
+    }
+    text.len()
+}
+
+// How many bytes stand before the first quote, or all.
+fn count_quoted(text: &[u8]) -> usize
+    ensures count { result ≡ position_or_len (λ b. b == 34) text.now }
+    ensures within { result ≤ length text.now }
+{
+    for (i, byte) in text.iter().enumerate() {
+        if *byte == b'"' {
+            return i;
+        }
+    }
+    text.len()
+}
+
+// What a line begins with.
+enum Next<'a> {
+    // No word, and maybe a comment.
+    Nothing,
+    Word { word: &'a [u8], rest: &'a [u8] },
+    // A quote that is not closed, or that does not end its word.
+    Unclosed,
+}
+
+// Whether a word ends before this text.
+fn ends_word(rest: &[u8]) -> bool
+    ensures yes { IsTrue result → EndsWord rest.now }
+    ensures no { EndsWord rest.now → IsTrue result }
+{
+    match rest.first() {
+        Some(byte) => is_end(*byte),
+        None => true,
+    }
+}
+
+// The word between quotes of which this is what stands behind the first.
+fn quoted_word(text: &[u8]) -> Next
+    ensures { IsQuoted text.now result }
+{
+    let (word, behind) = text.split_at(count_quoted(text));
+    let Some((_, rest)) = behind.split_first() else {
+        return Next::Unclosed;
+    };
+    if !ends_word(rest) {
+        return Next::Unclosed;
+    }
+    Next::Word { word, rest }
+}
+
+fn next_word(line: &[u8]) -> Next
+    ensures { IsNext line.now result }
+{
+    let (_, text) = line.split_at(count_blanks(line));
+    let Some((first, behind)) = text.split_first() else {
+        return Next::Nothing;
+    };
+    match *first {
+        b'#' => Next::Nothing,
+        b'"' => quoted_word(behind),
+        _ => {
+            let (word, rest) = text.split_at(count_plain(text));
+            Next::Word { word, rest }
+        }
+    }
+}
+
+/// The words of the line, or nothing where a quote does not fit.
+pub fn words_of(alloc: Global, line: &[u8]) -> Result<Option<Vec<&[u8]>>, NoMemory>
+    ensures { IfOk result (λ found. AreWords line.now (option_map (λ v. map (λ w. w.now) v.items) found)) }
+{
+    let mut words = Vec::new(alloc);
+    let mut rest = line;
+    loop {
+        match next_word(rest) {
+            Next::Nothing => return Ok(Some(words)),
+            Next::Unclosed => return Ok(None),
+            Next::Word { word, rest: behind } => {
+                words.push(word)?;
+                rest = behind;
+            }
+        }
+    }
+}

@@ -1,0 +1,12 @@
+//! The stock transforms: the state of each line of the configuration, which takes a body in pieces and writes what the
+//! line makes of the whole.
+#![tactic(auto)]
+
+mod blocks;
+mod held;
+mod stock;
+
+pub use stock::Stock;
+
+#[cfg(test)]
+mod tests;

@@ -1,0 +1,149 @@
+ghost use Rattle.std.specs.Prelude.{◌≡◌, ℕ, ◌<◌, ◌≤◌, ◌++◌, List, [], length, take, IfOk, OnOk, OnErr};
+ghost use Rattle.ts_config.specs.Bodies.{whole_of};
+ghost use Rattle.ts_iobuf.specs.Buffer.{Grows};
+ghost use Rattle.ts_transform.specs.Law.{Feeds};
+ghost use Rattle.ts_stock.specs.Stock.{still_writes, start_of, fed, written_at_feed, pause_of};
+
+use crate::blocks::{write_mapped, write_without};
+use crate::held::Held;
+use std::alloc::Global;
+use std::marker::Model;
+use ts_config::TransformLine;
+use ts_iobuf::IoBuffer;
+use ts_link::{NoMemory, Octets};
+use ts_transform::Transform;
+
+// The states of the transforms.
+#[derive(Drop)]
+pub enum State {
+    // Passes bytes on.
+    Passing,
+    // Passes bytes on, in a stage that pauses between its events.
+    Delaying { ms: u32 },
+    // Passes bytes on, and has this text still to write behind them.
+    Appending { text: Octets },
+    // Holds bytes back until the end.
+    Holding { held: Held },
+    // Got nothing yet, and has this text to write before the first byte.
+    Prepending { text: Octets },
+    // Passes bytes on, each byte `from` replaced by `to`.
+    Mapping { from: u8, to: u8 },
+    // Passes bytes on, but for this one.
+    Dropping { byte: u8 },
+}
+
+/// The transform of a line of the configuration.
+#[derive(Drop)]
+pub struct Stock {
+    state: State,
+}
+
+// Writes the text, and the input behind it, or neither.
+fn write_behind(text: &Octets, input: &[u8], out: &mut IoBuffer) -> Result<(), NoMemory>
+    ensures grows { OnOk result (Grows out.old out.new (text.now ++ input.now)) }
+    ensures err { OnErr result (out.new ≡ out.old) }
+{
+    out.write_parts(&[text.bytes(), input])
+}
+
+impl Model for Stock {
+    ghost use Rattle.ts_stock.specs.declared.stock.State.{State};
+
+    ghost Value = { State };
+
+    ghost view = { λ s. s.state };
+}
+
+impl Transform for Stock {
+    type Line = TransformLine;
+
+    ghost rest = { still_writes };
+
+    ghost whole = { whole_of };
+
+    fn fresh(alloc: Global, line: &TransformLine) -> Result<Stock, NoMemory>
+        ensures rest { IfOk result (λ s. (z : List ℕ) → still_writes s z ≡ whole_of line.now z) }
+        ensures state { IfOk result (λ s. s ≡ start_of line.now) }
+    {
+        let state = match line {
+            TransformLine::Null => State::Passing,
+            TransformLine::Append { text, .. } => State::Appending {
+                text: Octets::copy_of(alloc, text.bytes())?,
+            },
+            TransformLine::Bnull => State::Holding {
+                held: Held::new(alloc),
+            },
+            TransformLine::Prepend { text } => State::Prepending {
+                text: Octets::copy_of(alloc, text.bytes())?,
+            },
+            TransformLine::Map { from, to } => State::Mapping {
+                from: *from,
+                to: *to,
+            },
+            TransformLine::Drop { byte } => State::Dropping { byte: *byte },
+            TransformLine::Delay { ms } => State::Delaying { ms: *ms },
+        };
+        Ok(Stock { state })
+    }
+
+    fn feed(&mut self, input: &[u8], out: &mut IoBuffer) -> Result<usize, NoMemory>
+        requires { 0 < length input.now }
+        ensures count { IfOk result (λ n. (1 ≤ n) × (n ≤ length input.now)) }
+        ensures law { IfOk result (λ n. Feeds (still_writes self.old) (still_writes self.new) (take n input.now) out.old out.new) }
+        ensures err { OnErr result ((self.new ≡ self.old) × (out.new ≡ out.old)) }
+
+        // What a line other than bnull is fed it writes at once, and bnull writes nothing.
+        ensures writes { IfOk result (λ n. Grows out.old out.new (written_at_feed self.old (take n input.now))) }
+        ensures state { IfOk result (λ n. self.new ≡ fed self.old (take n input.now)) }
+    {
+        match &mut self.state {
+            State::Passing => {
+                out.write(input)?;
+                Ok(input.len())
+            }
+            State::Delaying { .. } => {
+                out.write(input)?;
+                Ok(input.len())
+            }
+            State::Appending { .. } => {
+                out.write(input)?;
+                Ok(input.len())
+            }
+            State::Holding { held } => {
+                held.add(input)?;
+                Ok(input.len())
+            }
+            State::Prepending { text } => {
+                write_behind(text, input, out)?;
+                self.state = State::Passing;
+                Ok(input.len())
+            }
+            State::Mapping { from, to } => write_mapped(*from, *to, input, out),
+            State::Dropping { byte } => write_without(*byte, input, out),
+        }
+    }
+
+    fn end(&mut self, out: &mut IoBuffer) -> Result<(), NoMemory>
+        ensures law { OnOk result (Grows out.old out.new (still_writes self.old [])) }
+        ensures err { OnErr result ((self.new ≡ self.old) × (out.new ≡ out.old)) }
+    {
+        match &self.state {
+            State::Appending { text } => out.write(text.bytes()),
+            State::Prepending { text } => out.write(text.bytes()),
+            State::Holding { held } => out.write(held.bytes()),
+            State::Passing => Ok(()),
+            State::Delaying { .. } => Ok(()),
+            State::Mapping { .. } => Ok(()),
+            State::Dropping { .. } => Ok(()),
+        }
+    }
+
+    fn pause(&self) -> u64
+        ensures { result ≡ pause_of self.now }
+    {
+        match &self.state {
+            State::Delaying { ms } => u64::from(*ms),
+            _ => 0,
+        }
+    }
+}
