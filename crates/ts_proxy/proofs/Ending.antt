@@ -3,13 +3,10 @@ use Rattle.std.proofs.Common.{◌∷◌, ◌≡◌, ℕ, nat_le, Bool, true, fal
 use Rattle.std.proofs.lemmas.List.{append-nil}
 use Rattle.ts_proxy.specs.declared.answer.Answer.{Answer}
 use Rattle.ts_proxy.specs.declared.answer.Answer.TheVariants as a
-use Rattle.ts_proxy.specs.declared.config.ConfigLine.{ConfigLine}
-use Rattle.ts_proxy.specs.declared.config.ConfigLine.TheVariants as said
-use Rattle.ts_proxy.specs.declared.stock.StockLine.{StockLine}
-use Rattle.ts_proxy.specs.declared.stock.StockLine.TheVariants as line
-use Rattle.ts_proxy.specs.Config.{config_of}
-use Rattle.ts_proxy.specs.Reading.{Reading, Good, Bad}
-use Rattle.ts_proxy.specs.Stock.{compose_lines}
+use Rattle.ts_config.specs.declared.setup.TransformLine.{TransformLine}
+use Rattle.ts_config.specs.declared.setup.TransformLine.TheVariants as t
+use Rattle.ts_config.specs.Value.{Reading, Good, Bad, config_of}
+use Rattle.ts_config.specs.Bodies.{compose_lines}
 use Rattle.ts_proxy.specs.Took.{TookFront}
 use Rattle.ts_proxy.specs.Outcome.{Outcome, Usage, BadLine, Missing, Long, Text, opened, understood, line_filled, filled, transformed}
 use Rattle.ts_proxy.specs.Answers.{IsText, IsCommand, ComesAt, TookText, TookAt}
@@ -23,16 +20,21 @@ opened-command : (o : Option (List ℕ)) (most : ℕ) (name : List ℕ) (next : 
 opened-command None most name next h = tt
 opened-command (Some bytes) most name next h = within-command (nat_le (length bytes) most) name (next bytes) (h bytes)
 
-understood-command : (r : Reading) (next : List ConfigLine → Outcome) → ((ls : List ConfigLine) → IsCommand (next ls)) → IsCommand (understood r next)
+understood-command : (r : Reading) (next : List TransformLine → Outcome) → ((ls : List TransformLine) → IsCommand (next ls)) → IsCommand (understood r next)
 understood-command (Good ls) next h = h ls
 understood-command (Bad n k) next h = tt
 
-line_filled-command : (files : List ℕ → Option (List ℕ)) (l : ConfigLine) (next : StockLine → Outcome) → ((x : StockLine) → IsCommand (next x))
+line_filled-command : (files : List ℕ → Option (List ℕ)) (l : TransformLine) (next : TransformLine → Outcome) → ((x : TransformLine) → IsCommand (next x))
     → IsCommand (line_filled files l next)
-line_filled-command files said.Null next h = h line.Null
-line_filled-command files (said.Append name) next h = opened-command (files name) 16384 name (λ text. next (line.Append text)) (λ text. h (line.Append text))
+line_filled-command files t.Null next h = h t.Null
+line_filled-command files (t.Append name text) next h = opened-command (files name) 16384 name (λ bytes. next (t.Append name bytes)) (λ bytes. h (t.Append name bytes))
+line_filled-command files t.Bnull next h = h t.Bnull
+line_filled-command files (t.Prepend text) next h = h (t.Prepend text)
+line_filled-command files (t.Map from to) next h = h (t.Map from to)
+line_filled-command files (t.Drop byte) next h = h (t.Drop byte)
+line_filled-command files (t.Delay ms) next h = h (t.Delay ms)
 
-filled-command : (files : List ℕ → Option (List ℕ)) (ls : List ConfigLine) (next : List StockLine → Outcome) → ((xs : List StockLine) → IsCommand (next xs))
+filled-command : (files : List ℕ → Option (List ℕ)) (ls : List TransformLine) (next : List TransformLine → Outcome) → ((xs : List TransformLine) → IsCommand (next xs))
     → IsCommand (filled files ls next)
 filled-command files [] next h = h []
 filled-command files (l ∷ ls) next h =
@@ -46,7 +48,7 @@ transformed-command files config body =
     (λ bytes. understood-command (config_of bytes) (λ ls. filled files ls last) (λ ls. filled-command files ls last
     (λ lines. opened-command (files body) 67108864 body (λ x. Text (compose_lines lines x)) (λ x. tt))))
   where
-    last : List StockLine → Outcome
+    last : List TransformLine → Outcome
     last lines = opened (files body) 67108864 body (λ x. Text (compose_lines lines x))
 
 ends-text : (o : Outcome) → IsText o → EndsAt o 0 × EndsAt o 6

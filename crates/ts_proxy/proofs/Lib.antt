@@ -1,7 +1,6 @@
 pub mod Composing
 pub mod Ending
 pub mod Filling
-pub mod Lines
 pub mod Opening
 pub mod Parts
 pub mod Passing

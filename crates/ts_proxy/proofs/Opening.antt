@@ -11,8 +11,8 @@ use Rattle.ts_proxy.specs.declared.answer.Answer.TheVariants as a
 use Rattle.ts_proxy.specs.Answers.{name_of, answer_of, ComesAt, IsOfWriting}
 use Rattle.ts_proxy.specs.Outcome.{Outcome, opened, set_up, transformed, Long, Text}
 use Rattle.ts_proxy.specs.declared.answer.NamedFile.TheVariants as file
-use Rattle.ts_proxy.specs.declared.stock.StockLine.{StockLine}
-use Rattle.ts_proxy.specs.Stock.{compose_lines}
+use Rattle.ts_config.specs.declared.setup.TransformLine.{TransformLine}
+use Rattle.ts_config.specs.Bodies.{compose_lines}
 
 -- a file that was read
 pub opened-read : (o : Option (List ℕ)) (most : ℕ) (name bytes : List ℕ) (next : List ℕ → Outcome) → o ≡ Some bytes → length bytes ≤ most
@@ -44,19 +44,19 @@ writing-comes config body text a.OutOfMemory f f' h = tt
 writing-comes config body text (a.TooLong n) f f' h = absurd h
 
 -- a command whose files were read writes its text
-pub transformed-text : (files files' : List ℕ → Option (List ℕ)) (config body bytes : List ℕ) (lines : List StockLine)
-    → ((next : List StockLine → Outcome) → set_up files config next ≡ next lines) → files' ≡ files → files' body ≡ Some bytes → length bytes ≤ 67108864
+pub transformed-text : (files files' : List ℕ → Option (List ℕ)) (config body bytes : List ℕ) (lines : List TransformLine)
+    → ((next : List TransformLine → Outcome) → set_up files config next ≡ next lines) → files' ≡ files → files' body ≡ Some bytes → length bytes ≤ 67108864
     → transformed files config body ≡ Text (compose_lines lines bytes)
 transformed-text files files' config body bytes lines read same is within =
     read (λ ls. opened (files body) 67108864 body (λ x. Text (compose_lines ls x)))
     ∙ opened-read (files body) 67108864 body bytes (λ x. Text (compose_lines lines x)) (ap (λ f. f body) (sym same) ∙ is) within
 
 -- a command whose body could not be read
-pub transformed-refused : (files files' : List ℕ → Option (List ℕ)) (config body : List ℕ) (lines : List StockLine) (f : ShelfFault)
-    → ((next : List StockLine → Outcome) → set_up files config next ≡ next lines) → files' ≡ files → KeepsLimit 67108864 (Err f)
+pub transformed-refused : (files files' : List ℕ → Option (List ℕ)) (config body : List ℕ) (lines : List TransformLine) (f : ShelfFault)
+    → ((next : List TransformLine → Outcome) → set_up files config next ≡ next lines) → files' ≡ files → KeepsLimit 67108864 (Err f)
     → ReadsFile (files' body) 67108864 (Err f) → ComesAt config body (answer_of f file.Body) (transformed files config body)
 transformed-refused files files' config body lines f read same limit told =
-    let next : List StockLine → Outcome = λ ls. opened (files body) 67108864 body (λ x. Text (compose_lines ls x)) in
+    let next : List TransformLine → Outcome = λ ls. opened (files body) 67108864 body (λ x. Text (compose_lines ls x)) in
     subst (λ o. ComesAt config body (answer_of f file.Body) o) (sym (read next))
     (refused-comes config body body 67108864 (files body) f file.Body (λ x. Text (compose_lines lines x)) refl limit
     (subst (λ g. ReadsFile (g body) 67108864 (Err f)) same told))

@@ -7,10 +7,9 @@ use Rattle.ts_proxy.specs.declared.answer.Answer.{Answer}
 use Rattle.ts_proxy.specs.declared.answer.Answer.TheVariants as a
 use Rattle.ts_proxy.specs.declared.answer.NamedFile.{NamedFile}
 use Rattle.ts_proxy.specs.declared.answer.NamedFile.TheVariants as file
-use Rattle.ts_proxy.specs.declared.config.ConfigLine.{ConfigLine}
-use Rattle.ts_proxy.specs.declared.config.ConfigLine.TheVariants as said
-use Rattle.ts_proxy.specs.Config.{config_of}
-use Rattle.ts_proxy.specs.Reading.{Reading, Good, Bad}
+use Rattle.ts_config.specs.declared.setup.TransformLine.{TransformLine}
+use Rattle.ts_config.specs.declared.setup.TransformLine.TheVariants as t
+use Rattle.ts_config.specs.Value.{Reading, Good, Bad, config_of}
 use Rattle.ts_proxy.specs.Outcome.{Outcome, Usage, BadLine, Missing, Long, Text}
 use Rattle.ts_proxy.specs.Took.{TookFront}
 
@@ -56,10 +55,10 @@ Leads config body (Ok x) o next = o ≡ next x
 Leads config body (Err answer) o next = ComesAt config body answer o
 
 -- the file whose read failed is named by these lines
-abbrev pub IsNamedBy : List ConfigLine → NamedFile → Type 0
+abbrev pub IsNamedBy : List TransformLine → NamedFile → Type 0
 IsNamedBy ls file.Config = ⊥
 IsNamedBy ls file.Body = ⊥
-IsNamedBy ls (file.Appended name) = Contains ls (said.Append name)
+IsNamedBy ls (file.Appended name) = (text : List ℕ) × Contains ls (t.Append name text)
 
 abbrev pub IsNamedIn : Reading → NamedFile → Type 0
 IsNamedIn (Good ls) f = IsNamedBy ls f

@@ -1,9 +1,6 @@
 pub mod Answers
-pub mod Config
 pub mod Driven
 pub mod Ends
 pub mod Lines
 pub mod Outcome
-pub mod Reading
-pub mod Stock
 pub mod Took

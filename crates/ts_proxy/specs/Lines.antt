@@ -3,8 +3,8 @@ use Rattle.std.specs.Prelude.{◌≡◌, ℕ, ◌++◌, List, [], ◌∷◌, ◌
 use Rattle.ts_link.specs.Counts.{Rose}
 use Rattle.ts_proxy.specs.declared.answer.Answer.{Answer}
 use Rattle.ts_proxy.specs.declared.answer.Answer.TheVariants as a
-use Rattle.ts_proxy.specs.declared.config.ConfigKind.{ConfigKind}
-use Rattle.ts_proxy.specs.declared.config.ConfigKind.TheVariants.{Plugin, TooMany}
+use Rattle.ts_config.specs.declared.setup.ConfigKind.{ConfigKind}
+use Rattle.ts_config.specs.declared.setup.ConfigKind.TheVariants as k
 use Rattle.ts_proxy.specs.Answers.{name_of}
 use Rattle.ts_proxy.specs.Ends.{status_of}
 use Rattle.ts_proxy.specs.Took.{TookFront}
@@ -14,8 +14,11 @@ joined [] = []
 joined (x ∷ xs) = x ++ joined xs
 
 abbrev pub kind_text : ConfigKind → List ℕ
-kind_text Plugin = codes "plugin"
-kind_text TooMany = codes "too-many"
+kind_text k.Text = codes "text"
+kind_text k.Quote = codes "quote"
+kind_text k.Plugin = codes "plugin"
+kind_text k.Arguments = codes "arguments"
+kind_text k.TooMany = codes "too-many"
 
 abbrev pub usage_line : List ℕ
 usage_line = codes "tsx: usage: transform CONFIG BODY | replay [--threads N] CONFIG RECORDING | serve --listen L --origin A --config F [--threads N] [--connections N] | generate SEED COUNT SIZE\n"

@@ -2,14 +2,11 @@
 -- order of the work, or the text that is written.
 use Rattle.std.specs.Prelude.{ℕ, nat_le, Bool, false, List, [], ◌∷◌, length, Option, Some, None, codes, unwrap_or, slice_get, if◌then◌else◌}
 use Rattle.std.specs.Str.{bytes_eq}
-use Rattle.ts_proxy.specs.declared.config.ConfigLine.{ConfigLine}
-use Rattle.ts_proxy.specs.declared.config.ConfigLine.TheVariants as said
-use Rattle.ts_proxy.specs.declared.config.ConfigKind.{ConfigKind}
-use Rattle.ts_proxy.specs.declared.stock.StockLine.{StockLine}
-use Rattle.ts_proxy.specs.declared.stock.StockLine.TheVariants as line
-use Rattle.ts_proxy.specs.Config.{config_of}
-use Rattle.ts_proxy.specs.Reading.{Reading, Good, Bad}
-use Rattle.ts_proxy.specs.Stock.{compose_lines}
+use Rattle.ts_config.specs.declared.setup.TransformLine.{TransformLine}
+use Rattle.ts_config.specs.declared.setup.TransformLine.TheVariants as t
+use Rattle.ts_config.specs.declared.setup.ConfigKind.{ConfigKind}
+use Rattle.ts_config.specs.Value.{Reading, Good, Bad, config_of}
+use Rattle.ts_config.specs.Bodies.{compose_lines}
 
 -- the words are of no command; the configuration's line of this number breaks this rule; the file of this name is not
 -- there, or longer than its limit; this text is written
@@ -26,22 +23,27 @@ opened None most name next = Missing name
 opened (Some bytes) most name next = if nat_le (length bytes) most then next bytes else Long name
 
 -- goes on with the lines of a configuration, if all are in the grammar
-abbrev pub understood : Reading → (List ConfigLine → Outcome) → Outcome
+abbrev pub understood : Reading → (List TransformLine → Outcome) → Outcome
 understood (Good ls) next = next ls
 understood (Bad n k) next = BadLine n k
 
--- goes on with a line and the text of the file that it names, of at most 16,384 bytes
-abbrev pub line_filled : (List ℕ → Option (List ℕ)) → ConfigLine → (StockLine → Outcome) → Outcome
-line_filled files said.Null next = next line.Null
-line_filled files (said.Append name) next = opened (files name) 16384 name (λ text. next (line.Append text))
+-- goes on with a line, and if it is an append, with the text of its file, of at most 16,384 bytes
+abbrev pub line_filled : (List ℕ → Option (List ℕ)) → TransformLine → (TransformLine → Outcome) → Outcome
+line_filled files t.Null next = next t.Null
+line_filled files (t.Append name text) next = opened (files name) 16384 name (λ bytes. next (t.Append name bytes))
+line_filled files t.Bnull next = next t.Bnull
+line_filled files (t.Prepend text) next = next (t.Prepend text)
+line_filled files (t.Map from to) next = next (t.Map from to)
+line_filled files (t.Drop byte) next = next (t.Drop byte)
+line_filled files (t.Delay ms) next = next (t.Delay ms)
 
 -- the same of all lines, in their order
-abbrev pub filled : (List ℕ → Option (List ℕ)) → List ConfigLine → (List StockLine → Outcome) → Outcome
+abbrev pub filled : (List ℕ → Option (List ℕ)) → List TransformLine → (List TransformLine → Outcome) → Outcome
 filled files [] next = next []
 filled files (l ∷ ls) next = line_filled files l (λ first. filled files ls (λ rest. next (first ∷ rest)))
 
 -- a configuration of at most 1 MiB is read and understood, and its files are read
-abbrev pub set_up : (List ℕ → Option (List ℕ)) → List ℕ → (List StockLine → Outcome) → Outcome
+abbrev pub set_up : (List ℕ → Option (List ℕ)) → List ℕ → (List TransformLine → Outcome) → Outcome
 set_up files config next = opened (files config) 1048576 config (λ bytes. understood (config_of bytes) (λ ls. filled files ls next))
 
 -- then a body of at most 64 MiB is read, and passes through the lines

@@ -2,16 +2,15 @@
 ghost use Rattle.std.specs.Prelude.{◌≡◌};
 ghost use Rattle.ts_proxy.specs.Answers.{answer_of};
 
-use crate::config::ConfigFault;
-use crate::file_name::FileName;
-use ts_link::ShelfFault;
+use ts_config::ConfigFault;
+use ts_link::{Octets, ShelfFault};
 
 // One of the files that a command reads.
 #[derive(Drop)]
 pub enum NamedFile {
     Config,
     Body,
-    Appended(FileName),
+    Appended(Octets),
 }
 
 // How a command ended.

@@ -3,11 +3,8 @@
 
 mod answer;
 mod chain_of;
-mod config;
 mod drive;
-mod file_name;
 mod reading;
-mod stock;
 mod telling;
 #[cfg(test)]
 mod tests;

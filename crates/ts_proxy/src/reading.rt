@@ -1,23 +1,51 @@
 // The files of a command, read in the order of the work.
-ghost use Rattle.std.specs.Prelude.{◌≡◌, ◌∷◌, ◌++◌, [], List, ℕ, true, IfErr, OnOk};
-ghost use Rattle.ts_proxy.specs.Outcome.{Outcome, line_filled, filled, set_up};
+ghost use Rattle.std.specs.Prelude.{◌≡◌, ◌∷◌, ◌++◌, [], List, ℕ, true, All, IfErr, OnOk};
+ghost use Rattle.std.specs.Str.{IsUtf8};
+ghost use Rattle.ts_config.specs.Setup.{HasFileName};
+ghost use Rattle.ts_config.specs.declared.setup.TransformLine.{TransformLine};
+ghost use Rattle.ts_config.specs.declared.setup.TransformLine.TheVariants as t;
+ghost use Rattle.ts_proxy.specs.declared.answer.NamedFile.TheVariants as named;
+ghost use Rattle.ts_proxy.specs.Outcome.{Outcome, opened, line_filled, filled, set_up};
 ghost use Rattle.ts_proxy.specs.Answers.{Leads, IsOfReading, OnCannotRead, IsNamedBy, IsReadBy};
-ghost use Rattle.ts_proxy.specs.declared.stock.StockLine.{StockLine};
 
 use crate::answer::{Answer, NamedFile, refused};
-use crate::config::{ConfigLine, ConfigRefusal, read_config};
-use crate::stock::StockLine;
 use std::alloc::Global;
 use std::collections::VecDeque;
-use ts_link::{NoMemory, Shelf};
+use std::str;
+use ts_config::{ConfigRefusal, TransformLine, read_config};
+use ts_link::{NoMemory, Octets, Shelf};
 
 const MOST_CONFIG: u64 = 1_048_576;
 
 const MOST_TEXT: u64 = 16_384;
 
-// A line with the text of the file that it names.
-fn fill_one<S: Shelf>(alloc: Global, shelf: &mut S, line: ConfigLine) -> Result<StockLine, Answer>
-    ensures told { S.tells ≡ true → (config body : List ℕ) (next : StockLine → Outcome) →
+// An append line with the text of its file.
+fn read_text<S: Shelf>(alloc: Global, shelf: &mut S, file: Octets) -> Result<TransformLine, Answer>
+    requires { IsUtf8 file }
+    ensures told { S.tells ≡ true → (config body : List ℕ) (next : TransformLine → Outcome) →
+        Leads config body result (opened (S.file shelf.old file) 16384 file (λ bytes. next (t.Append file bytes))) next }
+    ensures named { IfErr result (λ a. OnCannotRead a (λ f. f ≡ named.Appended file)) }
+    ensures files { S.tells ≡ true → S.file shelf.new ≡ S.file shelf.old }
+    ensures same { OnOk result ((S.faults shelf.new ≡ S.faults shelf.old) × (S.longs shelf.new ≡ S.longs shelf.old)) }
+    ensures cause { IfErr result (λ a. IsOfReading a (S.faults shelf.old) (S.faults shelf.new) (S.longs shelf.old) (S.longs shelf.new)) }
+{
+    let Ok(name) = str::from_utf8(file.bytes()) else {
+        unreachable!();
+    };
+    match shelf.read(alloc, name, MOST_TEXT) {
+        Ok(text) => Ok(TransformLine::Append { file, text }),
+        Err(fault) => Err(refused(fault, NamedFile::Appended(file))),
+    }
+}
+
+// A line, and if it is an append, with the text of its file.
+fn fill_one<S: Shelf>(
+    alloc: Global,
+    shelf: &mut S,
+    line: TransformLine,
+) -> Result<TransformLine, Answer>
+    requires { HasFileName line }
+    ensures told { S.tells ≡ true → (config body : List ℕ) (next : TransformLine → Outcome) →
         Leads config body result (line_filled (S.file shelf.old) line next) next }
     ensures named { IfErr result (λ a. OnCannotRead a (IsNamedBy (line ∷ []))) }
     ensures files { S.tells ≡ true → S.file shelf.new ≡ S.file shelf.old }
@@ -25,15 +53,12 @@ fn fill_one<S: Shelf>(alloc: Global, shelf: &mut S, line: ConfigLine) -> Result<
     ensures cause { IfErr result (λ a. IsOfReading a (S.faults shelf.old) (S.faults shelf.new) (S.longs shelf.old) (S.longs shelf.new)) }
 {
     match line {
-        ConfigLine::Null => Ok(StockLine::Null),
-        ConfigLine::Append(name) => match shelf.read(alloc, name.as_str(), MOST_TEXT) {
-            Ok(text) => Ok(StockLine::Append(text)),
-            Err(fault) => Err(refused(fault, NamedFile::Appended(name))),
-        },
+        TransformLine::Append { file, .. } => read_text(alloc, shelf, file),
+        line => Ok(line),
     }
 }
 
-fn keep(found: &mut Vec<StockLine>, line: StockLine) -> Result<(), NoMemory>
+fn keep(found: &mut Vec<TransformLine>, line: TransformLine) -> Result<(), NoMemory>
     ensures { OnOk result (found.new.items ≡ found.old.items ++ line ∷ []) }
 {
     found.push(line)?;
@@ -44,9 +69,10 @@ fn keep(found: &mut Vec<StockLine>, line: StockLine) -> Result<(), NoMemory>
 fn fill_lines<S: Shelf>(
     alloc: Global,
     shelf: &mut S,
-    mut lines: VecDeque<ConfigLine>,
-) -> Result<Vec<StockLine>, Answer>
-    ensures told { S.tells ≡ true → (config body : List ℕ) (next : List StockLine → Outcome) →
+    mut lines: VecDeque<TransformLine>,
+) -> Result<Vec<TransformLine>, Answer>
+    requires { All HasFileName lines.items }
+    ensures told { S.tells ≡ true → (config body : List ℕ) (next : List TransformLine → Outcome) →
         Leads config body result (filled (S.file shelf.old) lines.items next) (λ ls. next ls.items) }
     ensures named { IfErr result (λ a. OnCannotRead a (IsNamedBy lines.items)) }
     ensures files { S.tells ≡ true → S.file shelf.new ≡ S.file shelf.old }
@@ -71,8 +97,8 @@ pub fn read_setup<S: Shelf>(
     alloc: Global,
     shelf: &mut S,
     config: &str,
-) -> Result<Vec<StockLine>, Answer>
-    ensures told { S.tells ≡ true → (body : List ℕ) (next : List StockLine → Outcome) →
+) -> Result<Vec<TransformLine>, Answer>
+    ensures told { S.tells ≡ true → (body : List ℕ) (next : List TransformLine → Outcome) →
         Leads config.now body result (set_up (S.file shelf.old) config.now next) (λ ls. next ls.items) }
     ensures named { S.tells ≡ true → IfErr result (λ a. OnCannotRead a (IsReadBy (S.file shelf.old config.now))) }
     ensures files { S.tells ≡ true → S.file shelf.new ≡ S.file shelf.old }
@@ -84,7 +110,7 @@ pub fn read_setup<S: Shelf>(
         Err(fault) => return Err(refused(fault, NamedFile::Config)),
     };
     match read_config(alloc, bytes.bytes()) {
-        Ok(lines) => fill_lines(alloc, shelf, lines),
+        Ok(setup) => fill_lines(alloc, shelf, VecDeque::from_vec(setup.transforms)),
         Err(ConfigRefusal::Fault(fault)) => Err(Answer::BadLine(fault)),
         Err(ConfigRefusal::NoMemory) => Err(Answer::OutOfMemory),
     }

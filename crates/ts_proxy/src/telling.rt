@@ -4,9 +4,9 @@ ghost use Rattle.ts_proxy.specs.Lines.{joined, kind_text, line_of, LineTold};
 ghost use Rattle.ts_proxy.specs.Answers.{name_of};
 
 use crate::answer::{Answer, NamedFile};
-use crate::config::ConfigKind;
 use crate::drive::{Driven, write_all};
 use itoa::Buffer;
+use ts_config::ConfigKind;
 use ts_link::Sink;
 
 const USAGE: &[u8] =
@@ -26,7 +26,13 @@ const COLON: &[u8] = b": ";
 
 const LINE_FEED: &[u8] = b"\n";
 
+const TEXT: &[u8] = b"text";
+
+const QUOTE: &[u8] = b"quote";
+
 const PLUGIN: &[u8] = b"plugin";
+
+const ARGUMENTS: &[u8] = b"arguments";
 
 const TOO_MANY: &[u8] = b"too-many";
 
@@ -34,7 +40,10 @@ fn text_of(kind: ConfigKind) -> &'static [u8]
     ensures { result.now ≡ kind_text kind }
 {
     match kind {
+        ConfigKind::Text => TEXT,
+        ConfigKind::Quote => QUOTE,
         ConfigKind::Plugin => PLUGIN,
+        ConfigKind::Arguments => ARGUMENTS,
         ConfigKind::TooMany => TOO_MANY,
     }
 }
@@ -53,13 +62,13 @@ fn tell<E: Sink>(err: &mut E, parts: &[&[u8]])
     }
 }
 
-fn name<'a>(config: &'a str, body: &'a str, file: &'a NamedFile) -> &'a str
+fn name<'a>(config: &'a str, body: &'a str, file: &'a NamedFile) -> &'a [u8]
     ensures { result.now ≡ name_of config.now body.now file.now }
 {
     match file {
-        NamedFile::Config => config,
-        NamedFile::Body => body,
-        NamedFile::Appended(name) => name.as_str(),
+        NamedFile::Config => config.as_bytes(),
+        NamedFile::Body => body.as_bytes(),
+        NamedFile::Appended(name) => name.bytes(),
     }
 }
 
@@ -79,15 +88,9 @@ pub fn say<E: Sink>(err: &mut E, answer: &Answer, config: &str, body: &str)
                 &[BAD_LINE, number, COLON, text_of(fault.kind), LINE_FEED],
             );
         }
-        Answer::CannotRead(file) => tell(
-            err,
-            &[CANNOT_READ, name(config, body, file).as_bytes(), LINE_FEED],
-        ),
+        Answer::CannotRead(file) => tell(err, &[CANNOT_READ, name(config, body, file), LINE_FEED]),
         Answer::CannotWrite => tell(err, &[CANNOT_WRITE]),
         Answer::OutOfMemory => tell(err, &[OUT_OF_MEMORY]),
-        Answer::TooLong(file) => tell(
-            err,
-            &[TOO_LONG, name(config, body, file).as_bytes(), LINE_FEED],
-        ),
+        Answer::TooLong(file) => tell(err, &[TOO_LONG, name(config, body, file), LINE_FEED]),
     }
 }

@@ -54,7 +54,7 @@ fn rows(rt: HostRuntime) -> Result<(), Fail> {
         ("tail.txt", b"XY"),
         ("b", b"abc"),
     ];
-    let table: [(&[(&str, &[u8])], &[&str], u64, u8, &[u8], &[u8]); 11] = [
+    let table: [(&[(&str, &[u8])], &[&str], u64, u8, &[u8], &[u8]); 16] = [
         (append, &["transform", "c", "b"], 0, 0, b"abcXY", b""),
         (
             &[
@@ -114,12 +114,65 @@ fn rows(rt: HostRuntime) -> Result<(), Fail> {
             b"tsx: configuration line 2: plugin\n",
         ),
         (
-            &[("c", b"\n"), ("b", b"")],
+            &[("c", b"limit.so 5"), ("b", b"")],
             &["transform", "c", "b"],
             0,
             3,
             b"",
             b"tsx: configuration line 1: plugin\n",
+        ),
+        (
+            &[
+                (
+                    "c",
+                    b"prepend.so <\nappend_transform.so g # >\nbnull_transform.so\nmap.so > ]\r\n",
+                ),
+                ("g", b">"),
+                ("b", b"a"),
+            ],
+            &["transform", "c", "b"],
+            0,
+            0,
+            b"<a]",
+            b"",
+        ),
+        (
+            &[
+                (
+                    "c",
+                    b"\n# none\ndelay.so 60000\nprepend.so \"a b\" # c\ndrop.so q\nmap.so 0x0a 0x20",
+                ),
+                ("b", b"q\nx"),
+            ],
+            &["transform", "c", "b"],
+            0,
+            0,
+            b"a b x",
+            b"",
+        ),
+        (
+            &[("c", b"null_transform.so\nmap.so ab c"), ("b", b"")],
+            &["transform", "c", "b"],
+            0,
+            3,
+            b"",
+            b"tsx: configuration line 2: arguments\n",
+        ),
+        (
+            &[("c", b"prepend.so \"a"), ("b", b"")],
+            &["transform", "c", "b"],
+            0,
+            3,
+            b"",
+            b"tsx: configuration line 1: quote\n",
+        ),
+        (
+            &[("c", b"# \x7f"), ("b", b"")],
+            &["transform", "c", "b"],
+            0,
+            3,
+            b"",
+            b"tsx: configuration line 1: text\n",
         ),
         (append, &[], 0, 2, b"", USAGE),
         (append, &["transform", "c", "b", "b"], 0, 2, b"", USAGE),

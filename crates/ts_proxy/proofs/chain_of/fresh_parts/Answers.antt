@@ -1,7 +1,8 @@
 use Rattle.std.proofs.Common.{◌+◌, ◌∷◌, drop, ap, sym, ◌∙◌}
 use Rattle.std.proofs.lemmas.List.{drop_more}
 use Rattle.ts_transform.specs.Flow.{compose}
-use Rattle.ts_proxy.specs.Stock.{still_writes, compose_lines}
+use Rattle.ts_config.specs.Bodies.{compose_lines}
+use Rattle.ts_stock.specs.Stock.{still_writes}
 use Rattle.ts_proxy.proofs.Composing.{composing-more}
 use Rattle.ts_proxy.proofs.chain_of.fresh_parts.Goals as goal
 
@@ -11,4 +12,4 @@ loop-line-preserved c = λ z.
     ap (λ ps. compose_lines (drop (i + 1) c.args.lines.now) (compose still_writes ps z)) c.in_ok-push.ensures.items
     ∙ composing-more c.loop-line.parts.items c.in_ok-fresh.field-0 c.args.lines.now (drop i c.args.lines.now) (drop (i + 1) c.args.lines.now) c.line-item.result
     (drop_more c.args.lines.now i c.line-item.result c.loop-line-test.true ∙ ap (λ l. l ∷ drop (i + 1) c.args.lines.now) (sym c.line-item.is))
-    c.in_ok-fresh.ensures c.loop-line.invariant z
+    c.in_ok-fresh.ensures.rest c.loop-line.invariant z

@@ -1,7 +1,11 @@
 use Rattle.std.proofs.Common.{◌++◌, ◌∷◌, [], ap, sym, ◌∙◌, append_assoc}
 use Rattle.ts_proxy.specs.Outcome.{line_filled}
-use Rattle.ts_proxy.proofs.Filling.{fills-more, stopped-named}
+use Rattle.ts_config.specs.Setup.{HasFileName}
+use Rattle.ts_proxy.proofs.Filling.{all-first, fills-more, stopped-named}
 use Rattle.ts_proxy.proofs.reading.fill_lines.Goals as goal
+
+pub fill_one-requires : goal.fill_one-requires
+fill_one-requires g c = (all-first HasFileName c.loop-line.lines.items c.pop_front.new.self.items c.in-Some.line c.in-Some.ensures.items c.loop-line.invariant.names).0
 
 pub returns-in-Err-clause-named : goal.returns-in-Err-clause-named
 returns-in-Err-clause-named g c =
@@ -22,6 +26,7 @@ loop-line-preserved g c =
         passed.0 ++ c.in-Some.line ∷ [],
         passed.1 ∙ ap (λ ls. passed.0 ++ ls) c.in-Some.ensures.items ∙ sym (append_assoc passed.0 (c.in-Some.line ∷ []) c.pop_front.new.self.items),
       );
+      names = (all-first HasFileName c.loop-line.lines.items c.pop_front.new.self.items c.in-Some.line c.in-Some.ensures.items c.loop-line.invariant.names).1;
       files = λ tells. c.in-Ok.ensures.files tells ∙ c.loop-line.invariant.files tells;
       faults = c.in-Ok.ensures.same.0 ∙ c.loop-line.invariant.faults;
       longs = c.in-Ok.ensures.same.1 ∙ c.loop-line.invariant.longs;

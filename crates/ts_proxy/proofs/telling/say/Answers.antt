@@ -14,14 +14,14 @@ returns-in-CannotRead g c = λ tells.
     rw c.in-CannotRead.is
     (told-same (g.E.Sink.taken c.args.err.now) (g.E.Sink.taken c.tell-in-CannotRead.new.err) _ _
     (g.E.Sink.faults c.args.err.now) (g.E.Sink.faults c.tell-in-CannotRead.new.err) (g.E.Sink.lacks c.args.err.now) (g.E.Sink.lacks c.tell-in-CannotRead.new.err)
-    (ap (λ n. joined (codes "tsx: cannot read " ∷ n ∷ codes "\n" ∷ [])) (c.as_bytes.ensures.value ∙ c.name.ensures)) (c.tell-in-CannotRead.ensures tells))
+    (ap (λ n. joined (codes "tsx: cannot read " ∷ n ∷ codes "\n" ∷ [])) c.name.ensures) (c.tell-in-CannotRead.ensures tells))
 
 pub returns-in-TooLong : goal.returns-in-TooLong
 returns-in-TooLong g c = λ tells.
     rw c.in-TooLong.is
     (told-same (g.E.Sink.taken c.args.err.now) (g.E.Sink.taken c.tell-in-TooLong.new.err) _ _
     (g.E.Sink.faults c.args.err.now) (g.E.Sink.faults c.tell-in-TooLong.new.err) (g.E.Sink.lacks c.args.err.now) (g.E.Sink.lacks c.tell-in-TooLong.new.err)
-    (ap (λ n. joined (codes "tsx: too long: " ∷ n ∷ codes "\n" ∷ [])) (c.as_bytes-in-TooLong.ensures.value ∙ c.name-in-TooLong.ensures)) (c.tell-in-TooLong.ensures tells))
+    (ap (λ n. joined (codes "tsx: too long: " ∷ n ∷ codes "\n" ∷ [])) c.name-in-TooLong.ensures) (c.tell-in-TooLong.ensures tells))
 
 pub returns-in-BadLine : goal.returns-in-BadLine
 returns-in-BadLine g c = λ tells.

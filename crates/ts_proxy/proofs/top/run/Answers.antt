@@ -24,3 +24,12 @@ returns-clause-takes g c = λ tells out_tells.
     rw (c.in-Some.ensures, c.status.ensures)
     (takes-took c.transform-answer.result (transformed (g.S.Shelf.file c.args.shelf.now) c.in-Some.config.now c.in-Some.body.now)
     (g.K.Sink.taken c.args.out.now) (g.K.Sink.taken c.transform-answer.new.out) (c.transform-answer.ensures.took tells out_tells))
+
+pub returns-clause-line : goal.returns-clause-line
+returns-clause-line g c = λ tells.
+    rw (c.in-Some.ensures, c.status.ensures) (
+      c.transform-answer.result,
+      record { is = refl; told = c.say-2.ensures tells },
+      (λ told. c.transform-answer.ensures.told told),
+      λ told. c.transform-answer.ensures.named told,
+    )

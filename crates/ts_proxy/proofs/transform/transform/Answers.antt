@@ -1,5 +1,5 @@
 use Rattle.std.proofs.Common.{◌≡◌, ap, subst, ◌∙◌}
-use Rattle.ts_proxy.specs.Stock.{compose_lines}
+use Rattle.ts_config.specs.Bodies.{compose_lines}
 use Rattle.ts_proxy.specs.Answers.{TookText}
 use Rattle.ts_proxy.proofs.Opening.{writing-comes, transformed-text, transformed-refused}
 use Rattle.ts_proxy.proofs.transform.transform.Goals as goal
