@@ -1,5 +1,5 @@
 -- The states of the stock transforms. There are no others, so no line but bnull holds bytes back.
-use Rattle.std.specs.Prelude.{ℕ, ◌++◌, List, []}
+use Rattle.std.specs.Prelude.{◌≡◌, ◌≤◌, ℕ, ◌++◌, List, []}
 use Rattle.ts_config.specs.Bodies.{mapped, without}
 use Rattle.ts_config.specs.declared.setup.TransformLine.{TransformLine}
 use Rattle.ts_config.specs.declared.setup.TransformLine.TheVariants as t
@@ -45,6 +45,16 @@ fed (s.Holding held) c = s.Holding (held ++ c)
 fed (s.Prepending text) c = s.Passing
 fed (s.Mapping from to) c = s.Mapping from to
 fed (s.Dropping byte) c = s.Dropping byte
+
+-- n bytes of so many are taken at a feed: all, but by a map or a drop, which take as many as the room that they are lent
+abbrev pub CountTaken : State → ℕ → ℕ → Type 0
+CountTaken s.Passing n most = n ≡ most
+CountTaken (s.Delaying ms) n most = n ≡ most
+CountTaken (s.Appending text) n most = n ≡ most
+CountTaken (s.Holding held) n most = n ≡ most
+CountTaken (s.Prepending text) n most = n ≡ most
+CountTaken (s.Mapping from to) n most = n ≤ most
+CountTaken (s.Dropping byte) n most = n ≤ most
 
 -- how long its stage waits between two of its events, in milliseconds
 abbrev pub pause_of : State → ℕ

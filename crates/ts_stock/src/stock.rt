@@ -2,7 +2,7 @@ ghost use Rattle.std.specs.Prelude.{◌≡◌, ℕ, ◌<◌, ◌≤◌, ◌++◌
 ghost use Rattle.ts_config.specs.Bodies.{whole_of};
 ghost use Rattle.ts_iobuf.specs.Buffer.{Grows};
 ghost use Rattle.ts_transform.specs.Law.{Feeds};
-ghost use Rattle.ts_stock.specs.Stock.{still_writes, start_of, fed, written_at_feed, pause_of};
+ghost use Rattle.ts_stock.specs.Stock.{still_writes, start_of, fed, written_at_feed, pause_of, CountTaken};
 
 use crate::blocks::{write_mapped, write_without};
 use crate::held::Held;
@@ -95,6 +95,7 @@ impl Transform for Stock {
         // What a line other than bnull is fed it writes at once, and bnull writes nothing.
         ensures writes { IfOk result (λ n. Grows out.old out.new (written_at_feed self.old (take n input.now))) }
         ensures state { IfOk result (λ n. self.new ≡ fed self.old (take n input.now)) }
+        ensures taken { IfOk result (λ n. CountTaken self.old n (length input.now)) }
     {
         match &mut self.state {
             State::Passing => {
@@ -126,6 +127,9 @@ impl Transform for Stock {
     fn end(&mut self, out: &mut IoBuffer) -> Result<(), NoMemory>
         ensures law { OnOk result (Grows out.old out.new (still_writes self.old [])) }
         ensures err { OnErr result ((self.new ≡ self.old) × (out.new ≡ out.old)) }
+
+        // The state stays, with either answer.
+        ensures state { self.new ≡ self.old }
     {
         match &self.state {
             State::Appending { text } => out.write(text.bytes()),
