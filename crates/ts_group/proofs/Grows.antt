@@ -65,7 +65,7 @@ grows_log a b h c m k r t = record {
 -- one direct call
 pub grows_call : (a b : Context) (n : ℕ) (key : ContKey) (event : Event) → Extends a.log b.log (Set n key event a.moment n 0 ∷ []) → b.calls ≡ a.calls ++ n ∷ [] → b.moment ≡ a.moment → b.running ≡ a.running → b.role ≡ a.role → b.told ≡ a.told → Grows a b
 grows_call a b n key event h c m k r t = record {
-  log = record { own = Set n key event a.moment n 0 ∷ []; by = h; all_own = (tt, tt); asked = n ∷ []; calls = c; are_calls = ([], [], key, event, refl, tt) };
+  log = record { own = Set n key event a.moment n 0 ∷ []; by = h; all_own = (refl, tt); asked = n ∷ []; calls = c; are_calls = ([], [], key, event, refl, tt) };
   moment = m;
   running = k;
   role = r;
@@ -103,7 +103,7 @@ pub goes_call : (a b : Log) (moment n k : ℕ) (ns ms : List ℕ) (key : ContKey
 goes_call a b moment n k ns ms key event h e le = record {
   own = Set n key event moment n 0 ∷ [];
   by = h;
-  all_own = (tt, tt);
+  all_own = (refl, tt);
   asked = n ∷ [];
   calls = ap (drop k) e ∙ drop-append-le k ns (n ∷ []) le;
   are_calls = ([], [], key, event, refl, tt);

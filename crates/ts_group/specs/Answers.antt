@@ -1,5 +1,5 @@
 -- What a world and a group answer, and what then holds of the world.
-use Rattle.std.specs.Prelude.{◌≡◌, ℕ, ◌+◌, ◌<◌, ◌≤◌, [], Option, Some, None}
+use Rattle.std.specs.Prelude.{◌≡◌, ℕ, ◌+◌, ◌<◌, ◌≤◌, List, [], Option, Some, None}
 use Rattle.ts_journal.specs.declared.entry.Pending.{Pending}
 use Rattle.ts_journal.specs.State.{State, pending_at}
 use Rattle.ts_group.specs.declared.world.Asked.{Asked}
@@ -34,11 +34,11 @@ pub record IsTold {Q R : Type 0} (Asking : ℕ → Q → Type 0) (Right : ℕ �
 
 -- What a call of `handle` answers and leaves. Below 64 events none of the direct calls that its handlers asked for is
 -- pending.
-abbrev pub HandleGives : {Q : Type 0} → Context → Context → ℕ → ℕ → Handling Q → Type 0
-HandleGives old new number moment (Handled events) = Handles old new number moment events × (events < 64 → next_in new.log.state.pending new.calls ≡ None)
-HandleGives old new number moment (Asks events group question) = Handles old new number moment events
-HandleGives old new number moment NotPending = (pending_at number old.log.state.pending ≡ None) × IsSame old new
-HandleGives old new number moment (NotDue due) = (moment < due) × (p : Pending) × (pending_at number old.log.state.pending ≡ Some p) × (p.due ≡ due) × IsSame old new
+abbrev pub HandleGives : {Q W : Type 0} → (W → W → List ℕ → Type 0) → W → W → Context → Context → ℕ → ℕ → Handling Q → Type 0
+HandleGives Called old_world new_world old new number moment (Handled events) = Handles Called old_world new_world old new number moment events × (events < 64 → next_in new.log.state.pending new.calls ≡ None)
+HandleGives Called old_world new_world old new number moment (Asks events group question) = Handles Called old_world new_world old new number moment events
+HandleGives Called old_world new_world old new number moment NotPending = (pending_at number old.log.state.pending ≡ None) × IsSame old new
+HandleGives Called old_world new_world old new number moment (NotDue due) = (moment < due) × (p : Pending) × (pending_at number old.log.state.pending ≡ Some p) × (p.due ≡ due) × IsSame old new
 
 -- what then holds of the world
 abbrev pub HandleKeeps : {Q : Type 0} → Type 0 → (ℕ → Q → Type 0) → Handling Q → Type 0

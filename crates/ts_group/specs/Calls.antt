@@ -36,11 +36,14 @@ pub record IsCalled (Sound : State → List Named → Type 0) (now : Context) (r
   pub orderly : IsOrderly now
   pub has : HasHandled before now.log.state handled
 
--- A question is asked: an event of the group's own key was set and handled in the state before.
+-- A question is asked: an event of the group's own key was set and handled in the state before. These are the last
+-- entries, and their moment is the moment now.
 pub record IsAsked (Sound : State → List Named → Type 0) (now : Context) : Type 0 where
   pub before : State
   pub sound : Sound before now.roles
   pub now_is : now.log.state ≡ replay before (asking_entries before.next now.moment)
+  pub earlier : List Entry
+  pub entered : now.log.entries ≡ earlier ++ asking_entries before.next now.moment
   pub running : now.running ≡ Some own_key
   pub orderly : IsOrderly now
   pub pending : now.log.state.pending ≡ before.pending
@@ -66,23 +69,26 @@ next_in ps [] = None
 next_in ps (n ∷ ns) = if_pending (pending_at n ps) (n, ns) (next_in ps ns)
 
 -- So many events are handled: first that of the number, and then the direct calls that these handlers asked for, in
--- the order asked for. `queue` are those that were asked for before, and `left` those that are left.
-abbrev pub RunsFrom : State → ℕ → ℕ → List ℕ → ℕ → List Entry → List ℕ → Type 0
-RunsFrom s moment number queue zero es left = ⊥
-RunsFrom s moment number queue (suc zero) es left = (asked : List ℕ) × IsRun s moment number asked es × (left ≡ queue ++ asked)
-RunsFrom s moment number queue (suc (suc k)) es left =
+-- the order asked for. `queue` are those that were asked for before, and `left` those that are left. Each handler leads
+-- from one world to the next, and its calls are all that it asked for between the two.
+abbrev pub RunsFrom : {W : Type 0} → (W → W → List ℕ → Type 0) → W → W → State → ℕ → ℕ → List ℕ → ℕ → List Entry → List ℕ → Type 0
+RunsFrom {W} Called old new s moment number queue zero es left = ⊥
+RunsFrom {W} Called old new s moment number queue (suc zero) es left =
+    (asked : List ℕ) × IsRun s moment number asked es × Called old new asked × (left ≡ queue ++ asked)
+RunsFrom {W} Called old new s moment number queue (suc (suc k)) es left =
     (asked : List ℕ) × (run : List Entry) × (rest : List Entry) × IsRun s moment number asked run × (es ≡ run ++ rest)
+    × (mid : W) × Called old mid asked
     × (next : ℕ) × (behind : List ℕ) × (next_in (replay s run).pending (queue ++ asked) ≡ Some (next, behind))
-    × RunsFrom (replay s run) moment next behind (suc k) rest left
+    × RunsFrom Called mid new (replay s run) moment next behind (suc k) rest left
 
 -- From a context to another, so many events are handled, the first under the number. The direct calls that wait are
 -- those that these handlers asked for and that were not handled.
-pub record Handles (old new : Context) (number moment events : ℕ) : Type 0 where
+pub record Handles {W : Type 0} (Called : W → W → List ℕ → Type 0) (old_world new_world : W) (old new : Context) (number moment events : ℕ) : Type 0 where
   pub some : 1 ≤ events
   pub most : events ≤ 64
   pub es : List Entry
   pub by : Extends old.log new.log es
-  pub runs : RunsFrom old.log.state moment number [] events es new.calls
+  pub runs : RunsFrom Called old_world new_world old.log.state moment number [] events es new.calls
   pub rise : new.log.state.handled_count ≡ old.log.state.handled_count + events
   pub now : new.moment ≡ moment
   pub idle : new.running ≡ None

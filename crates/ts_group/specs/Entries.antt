@@ -23,11 +23,12 @@ renewal p next moment = if nat_lt 0 p.period && nat_lt next 18446744073709551615
 abbrev pub asking_entries : ℕ → ℕ → List Entry
 asking_entries number moment = Set number own_key Hook moment number 0 ∷ Handled number moment ∷ []
 
--- an entry that a handler's own calls make
+-- An entry that a handler's own calls make. An event that they set begins a series.
 abbrev pub IsOwn : Entry → Type 0
 IsOwn (Took turn seat) = ⊥
 IsOwn (Gave turn) = ⊥
 IsOwn (Handled number moment) = ⊥
+IsOwn (Set number key event due series period) = series ≡ number
 IsOwn _ = Unit {0}
 
 abbrev pub AllOwn : List Entry → Type 0

@@ -17,13 +17,14 @@ pub record GrowsLog (old new : Log) : Type 0 where
 pub record CallsStay (old new : State) : Type 0 where
   pub stay : (moment : ℕ) (ns : List ℕ) → AllCalls old moment ns → AllCalls new moment ns
 
--- one event was handled, under this number, and its handler has returned
-pub record HasRun (old new : Context) (moment number : ℕ) : Type 0 where
+-- one event was handled, under this number, and its handler, which led from one world to the other, has returned
+pub record HasRun {W : Type 0} (Called : W → W → List ℕ → Type 0) (old_world new_world : W) (old new : Context) (moment number : ℕ) : Type 0 where
   pub asked : List ℕ
   pub run : List Entry
   pub is_run : IsRun old.log.state moment number asked run
   pub by : Extends old.log new.log run
   pub calls : new.calls ≡ old.calls ++ asked
+  pub called : Called old_world new_world asked
   pub at_moment : new.moment ≡ moment
   pub idle : new.running ≡ None
   pub told : new.told ≡ old.told

@@ -355,7 +355,7 @@ impl Cx {
         ensures turns { (self.new.log.state.turns ≡ self.old.log.state.turns) × (self.new.log.state.held ≡ true) }
         ensures next { OnOk result (self.new.log.state.next ≡ self.old.log.state.next + 1) }
         ensures live { self.new.log.state.live ≡ self.old.log.state.live }
-        ensures kept { (self.new.roles ≡ self.old.roles) × (self.new.told ≡ self.old.told) }
+        ensures kept { (self.new.roles ≡ self.old.roles) × (self.new.told ≡ self.old.told) × (self.new.role ≡ self.old.role) }
         ensures err { OnErr result (IsSame self.old self.new) }
     {
         if let Err(_) = ask_own(&mut self.journal, moment) {

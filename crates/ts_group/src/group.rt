@@ -138,7 +138,7 @@ impl<W: World + Drop> Group<W> {
     pub fn handle(&mut self, number: u64, moment: u64) -> Result<Handling<W::Question>, NoMemory>
         requires turn { self.old.cx.log.state.held ≡ true }
         requires sound { W.sound self.old.world self.old.cx.log.state self.old.cx.roles }
-        ensures gives { IfOk result (HandleGives self.old.cx self.new.cx number moment) }
+        ensures gives { IfOk result (HandleGives W.called self.old.world self.new.world self.old.cx self.new.cx number moment) }
         ensures keeps { IfOk result (HandleKeeps (W.sound self.new.world self.new.cx.log.state self.new.cx.roles) (λ group question. W.asking self.new.world self.new.cx.log.state self.new.cx.roles self.new.cx.role group question × W.may_ask self.new.world group)) }
         ensures turn { self.new.cx.log.state.held ≡ true }
         ensures turns { self.new.cx.log.state.turns ≡ self.old.cx.log.state.turns }
@@ -170,7 +170,7 @@ impl<W: World + Drop> Group<W> {
         requires turn { self.old.cx.log.state.held ≡ true }
         requires sound { W.sound self.old.world self.old.cx.log.state self.old.cx.roles }
         requires ready { IsReady self.old.cx.log moment first }
-        ensures gives { HandleGives self.old.cx self.new.cx first.number moment result }
+        ensures gives { HandleGives W.called self.old.world self.new.world self.old.cx self.new.cx first.number moment result }
         ensures keeps { HandleKeeps (W.sound self.new.world self.new.cx.log.state self.new.cx.roles) (λ group question. W.asking self.new.world self.new.cx.log.state self.new.cx.roles self.new.cx.role group question × W.may_ask self.new.world group) result }
         ensures turn { self.new.cx.log.state.held ≡ true }
         ensures turns { self.new.cx.log.state.turns ≡ self.old.cx.log.state.turns }
@@ -210,7 +210,7 @@ impl<W: World + Drop> Group<W> {
         requires sound { W.sound self.old.world self.old.cx.log.state self.old.cx.roles }
         requires now { moment ≡ self.old.cx.moment }
         requires ready { IsReady self.old.cx.log moment event }
-        ensures run { HasRun self.old.cx self.new.cx moment event.number }
+        ensures run { HasRun W.called self.old.world self.new.world self.old.cx self.new.cx moment event.number }
         ensures nothing { IfNothing result (W.sound self.new.world self.new.cx.log.state self.new.cx.roles) }
         ensures asks { IfAsks result (λ group question. W.asking self.new.world self.new.cx.log.state self.new.cx.roles self.new.cx.role group question × W.may_ask self.new.world group) }
         ensures falls { Falls (W.left self.old.world self.old.cx.log.state) 1 (W.left self.new.world self.new.cx.log.state) }
@@ -259,7 +259,7 @@ impl<W: World + Drop> Group<W> {
         requires sound { W.sound self.old.world self.old.cx.log.state self.old.cx.roles }
         ensures asked { OnOk result ((own : List Entries) × AllOwn own × Extends self.old.cx.log self.new.cx.log (asking_entries self.old.cx.log.state.next moment ++ own)) }
         ensures now { OnOk result ((self.new.cx.moment ≡ moment) × (self.new.cx.running ≡ None)) }
-        ensures told { self.new.cx.told ≡ self.old.cx.told }
+        ensures told { (self.new.cx.told ≡ self.old.cx.told) × (self.new.cx.role ≡ self.old.cx.role) }
         ensures turn { self.new.cx.log.state.held ≡ true }
         ensures turns { self.new.cx.log.state.turns ≡ self.old.cx.log.state.turns }
         ensures sound { W.sound self.new.world self.new.cx.log.state self.new.cx.roles }

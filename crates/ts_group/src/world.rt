@@ -1,6 +1,6 @@
 //! The trait of the data and handlers of continuations.
 
-ghost use Rattle.std.specs.Prelude.{◌≡◌, ℕ, Option, None, List, true, false, Bool};
+ghost use Rattle.std.specs.Prelude.{◌≡◌, ◌++◌, ℕ, Option, None, List, true, false, Bool};
 ghost use Rattle.std.specs.Bool.{OnTrue};
 ghost use Rattle.ts_journal.specs.declared.entry.Entry.TheVariants.{Took, Gave};
 ghost use Rattle.ts_journal.specs.State.{State, IsLive};
@@ -84,6 +84,9 @@ pub trait World: Slotted {
     /// What `start` made of the world.
     ghost begun: { Self → Self → Type 0 } = { λ old new. Unit {0} };
 
+    /// The numbers of the direct calls, in order, that a handler asked for which led from one world to the other.
+    ghost called: { Self → Self → List ℕ → Type 0 } = { λ old new asked. Unit {0} };
+
     /// Sets the first events.
     fn start(&mut self, cx: &mut Cx)
         requires turn { cx.old.log.state.held ≡ true }
@@ -105,6 +108,7 @@ pub trait World: Slotted {
         ensures nothing { IfNothing result (sound self.new cx.new.log.state cx.new.roles) }
         ensures asks { IfAsks result (λ group question. asking self.new cx.new.log.state cx.new.roles role group question × may_ask self.new group) }
         ensures falls { (c : IsCalled (sound self.old) cx.old role event) → Falls (left self.old c.before) 1 (left self.new cx.new.log.state) }
+        ensures called { (asked : List ℕ) → cx.new.calls ≡ cx.old.calls ++ asked → called self.old self.new asked }
         ensures tags { KeepsTags Self.fits self.old self.new }
         ensures few { SetsAtMost Self.fits self.old 100 cx.old.log.state cx.new.log.state }
         ensures replies { SameReplies (right self.old) (right self.new) }

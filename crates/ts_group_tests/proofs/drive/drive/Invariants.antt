@@ -1,5 +1,5 @@
 -- What is left to do, as the world tells it, falls with each event.
-use Rattle.std.proofs.Common.{◌≡◌, false, ℕ}
+use Rattle.std.proofs.Common.{◌≡◌, false}
 use Rattle.std.specs.Prelude.{IsSome, unwrap_or}
 use Rattle.ts_group.specs.Answers.{KeepsTags}
 use Rattle.ts_group_tests.proofs.drive.drive.Given as goal

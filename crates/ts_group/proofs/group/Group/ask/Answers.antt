@@ -1,5 +1,5 @@
 -- An event of the group's own key is set and handled, and the world is asked.
-use Rattle.std.proofs.Common.{◌≡◌, sym, ap, subst, ◌∙◌}
+use Rattle.std.proofs.Common.{◌≡◌, ◌++◌, sym, ap, subst, ◌∙◌}
 use Rattle.ts_journal.specs.State.{State}
 use Rattle.ts_journal.specs.Machine.{replay}
 use Rattle.ts_journal.specs.Log.{Log}
@@ -25,6 +25,8 @@ returns-clause-falls g c =
       before = s;
       sound = subst (λ rs. g.W.World.sound w s rs) (sym c.enter_ask.ensures.kept.0) c.requires.sound;
       now_is = subst (λ m. c.enter_ask.new.self.log.state ≡ replay s (asking_entries s.next m)) (sym ok.1) ok.0.state;
+      earlier = c.args.self.now.cx.log.entries;
+      entered = subst (λ m. c.enter_ask.new.self.log.entries ≡ c.args.self.now.cx.log.entries ++ asking_entries s.next m) (sym ok.1) ok.0.entries;
       running = ok.2;
       orderly = c.known.ensures;
       pending = c.enter_ask.ensures.pending;

@@ -6,7 +6,7 @@ use Rattle.ts_group.proofs.group.Group.run_all.Given as goal
 
 abbrev pub invariant-runs : goal.invariant-runs
 invariant-runs g l = record {
-  run : InRun l.fn.self.cx l.self.cx l.moment l.fn.first.number l.events l.event;
+  run : InRun g.W.World.called l.fn.self.world l.self.world l.fn.self.cx l.self.cx l.moment l.fn.first.number l.events l.event;
   few : l.events < 64;
   sound : g.W.World.sound l.self.world l.self.cx.log.state l.self.cx.roles;
   falls : Falls (g.W.World.left l.fn.self.world l.fn.self.cx.log.state) l.events (g.W.World.left l.self.world l.self.cx.log.state);

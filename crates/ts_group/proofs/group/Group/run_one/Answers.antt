@@ -31,6 +31,7 @@ returns-clause-run g c =
       };
       by = subst (λ (l : Log). Extends c.args.self.now.cx.log l ((Handled c.args.event.number c.args.moment ∷ renewal c.args.event s.next c.args.moment) ++ grows.log.own)) log (extends_trans c.enter-role.ensures.log grows.log.by);
       calls = ap (λ (x : Context). x.calls) left ∙ grows.log.calls ∙ ap (λ ns. ns ++ grows.log.asked) (c.enter-role.ensures.kept.1);
+      called = c.handle-want.ensures.called grows.log.asked grows.log.calls;
       at_moment = ap (λ (x : Context). x.moment) left ∙ grows.moment ∙ c.enter-role.ensures.moment;
       idle = ap (λ (x : Context). x.running) left;
       told = ap (λ (x : Context). x.told) left ∙ grows.told ∙ c.enter-role.ensures.kept.2;
