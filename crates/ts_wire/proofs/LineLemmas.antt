@@ -112,7 +112,9 @@ line_steps Line held held' bytes text total len step sound t judged kept is =
     let piece : text ≡ held ++ take (len - length held) bytes = new.1 ∙ ap (λ k. held ++ take k bytes) (sym n) in
     let some : 0 < length bytes → 0 < len - length held =
     λ inside. omega (arith, judged.0, sound.0, ap length t.text_is, length-append held t.piece, ap length t.piece_is, length-take (line_limit - length held) bytes) in
-    frame_steps Line Line held held' bytes total (len - length held) step is (omega (arith, new.0, n)) refl (λ inside. inl (some inside)) (omega (arith, sound.1)) (omega arith)
+    let all : len - length held ≡ length bytes =
+    omega (arith, judged.0, judged.1, sound.0, ap length t.text_is, length-append held t.piece, ap length t.piece_is, length-take (line_limit - length held) bytes) in
+    frame_steps Line Line held held' bytes total (len - length held) step is (omega (arith, new.0, n)) (λ unfinished same. all) refl (λ inside. inl (some inside)) (omega (arith, sound.1)) (omega arith)
     (subst (λ h. IsSoundPhase Line h total) (sym kept) (judged.1, sound.1, judged.2))
     (λ framing fed body counted (chunked, after, may).
     (chunked, subst (λ h. AfterChunks (fed ++ take (len - length held) bytes) (body ++ []) h []) (sym kept) (grow fed body held [] (take (len - length held) bytes) [] text after piece), subst MayBecomeChunkLine (sym kept) judged.3))
@@ -131,7 +133,7 @@ line_steps (Content size) held held' bytes text total len step sound t (some, fi
         fits = omega (arith, length-append body [], fits, counted);
       },
     ) in
-    frame_steps Line (Content size) held held' bytes total (len - length held) step is new.1 refl (λ inside. inl new.0) (omega (arith, sound.1)) (omega arith)
+    frame_steps Line (Content size) held held' bytes total (len - length held) step is new.1 (λ unfinished other. absurd (omega arith)) refl (λ inside. inl new.0) (omega (arith, sound.1)) (omega arith)
     (kept, some, fits) goes
 line_steps Trailer held held' bytes text total len step sound t line kept is =
     let new = line_new held bytes text (line_limit - length held) len 0 sound.2 t line in
@@ -144,10 +146,10 @@ line_steps Trailer held held' bytes text total len step sound t line kept is =
     } in
     let goes : GoesTo Line held total Trailer held' piece [] = λ framing fed body counted (chunked, after, may).
     (chunked, subst (InTrailer (fed ++ piece) (body ++ [])) (sym kept) (trailer fed body after), subst MayBecomeSection (sym kept) section_may_begin, omega (arith, ap line_feeds kept)) in
-    frame_steps Line Trailer held held' bytes total (len - length held) step is new.1 refl (λ inside. inl new.0) (omega (arith, sound.1)) (omega arith)
+    frame_steps Line Trailer held held' bytes total (len - length held) step is new.1 (λ unfinished other. absurd (omega arith)) refl (λ inside. inl new.0) (omega (arith, sound.1)) (omega arith)
     (subst (λ h. IsSoundPhase Trailer h total) (sym kept) (omega arith, no_section_yet)) goes
 line_steps Bad held held' bytes text total len step sound t judged kept is =
-    frame_steps Line Bad held held' bytes total (len - length held) step is (bad_within judged) refl (λ inside. inr (λ e. absurd (let f : S.Bad ≡ S.Unfinished = e in cc))) (omega (arith, sound.1)) (omega arith) tt
+    frame_steps Line Bad held held' bytes total (len - length held) step is (bad_within judged) (λ unfinished other. absurd (omega arith)) refl (λ inside. inr (λ e. absurd (let f : S.Bad ≡ S.Unfinished = e in cc))) (omega (arith, sound.1)) (omega arith) tt
     (λ framing fed body counted (chunked, after, may).
     subst (λ f. StandsIn f (fed ++ take (len - length held) bytes) (body ++ []) held' Bad) (sym chunked) (bad fed body counted after judged))
   where

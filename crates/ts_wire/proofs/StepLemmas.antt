@@ -11,20 +11,21 @@ use Rattle.ts_wire.specs.declared.phases.Phase.TheVariants.{Counted, Open, Line,
 use Rattle.ts_wire.specs.declared.phases.Step.{Step}
 use Rattle.ts_wire.specs.Framing.{body_limit}
 use Rattle.ts_wire.specs.Body.{AfterChunks, InChunk, BreaksCrlf, no_crlf}
-use Rattle.ts_wire.specs.Place.{state_of, room_of, IsSoundPhase, StandsIn, GoesTo, StepsOn}
+use Rattle.ts_wire.specs.Place.{state_of, room_of, part_number, IsSoundPhase, StandsIn, GoesTo, StepsOn}
 use Rattle.ts_wire.proofs.BodyLemmas.{no_line_yet, line_may_begin, more_content, more_tail, close_chunk}
 
 -- a front of the bytes that is no body
 pub frame_steps : (old new : Phase) (held held' bytes : List ℕ) (total n : ℕ) (step : Step) → step ≡ record { phase = new; taken = n; from = 0; to = 0 }
-    → n ≤ length bytes → state_of old ≡ S.Unfinished → (0 < length bytes → (0 < n) ⊎ (state_of new ≢ S.Unfinished)) → total < 2 ^ 64
+    → n ≤ length bytes → (state_of new ≡ S.Unfinished → part_number old ≡ part_number new → n ≡ length bytes) → state_of old ≡ S.Unfinished → (0 < length bytes → (0 < n) ⊎ (state_of new ≢ S.Unfinished)) → total < 2 ^ 64
     → room_of new ≤ room_of old → IsSoundPhase new held' total → GoesTo old held total new held' (take n bytes) []
     → StepsOn old held total bytes step held'
-frame_steps old new held held' bytes total n step is within unfinished progress fits room sound goes =
+frame_steps old new held held' bytes total n step is within whole unfinished progress fits room sound goes =
     let same : total ≡ total + (0 - 0) = omega arith in
     subst (λ s. StepsOn old held total bytes s held') (sym is) (record {
       ordered = omega arith;
       within = omega arith;
       taken = within;
+      whole = whole;
       progress = λ some state. progress some;
       rests = λ over. absurd (over unfinished);
       stays = λ over. absurd (over unfinished);
@@ -36,15 +37,16 @@ frame_steps old new held held' bytes total n step is within unfinished progress 
 
 -- a front of the bytes that is body
 content_steps : (old new : Phase) (held bytes : List ℕ) (total n : ℕ) (step : Step) → step ≡ record { phase = new; taken = n; from = 0; to = n }
-    → n ≤ length bytes → state_of old ≡ S.Unfinished → (0 < length bytes → (0 < n) ⊎ (state_of new ≢ S.Unfinished)) → total + n < 2 ^ 64
+    → n ≤ length bytes → (state_of new ≡ S.Unfinished → part_number old ≡ part_number new → n ≡ length bytes) → state_of old ≡ S.Unfinished → (0 < length bytes → (0 < n) ⊎ (state_of new ≢ S.Unfinished)) → total + n < 2 ^ 64
     → room_of new ≤ room_of old → IsSoundPhase new held (total + n) → GoesTo old held total new held (take n bytes) (take n bytes)
     → StepsOn old held total bytes step held
-content_steps old new held bytes total n step is within unfinished progress fits room sound goes =
+content_steps old new held bytes total n step is within whole unfinished progress fits room sound goes =
     let same : n ≡ n - 0 = omega arith in
     subst (λ s. StepsOn old held total bytes s held) (sym is) (record {
       ordered = omega arith;
       within = omega arith;
       taken = within;
+      whole = whole;
       progress = λ some state. progress some;
       rests = λ over. absurd (over unfinished);
       stays = λ over. absurd (over unfinished);
@@ -75,7 +77,7 @@ counted_stays held bytes total left n rest step is sound least rest_is some =
     let goes : GoesTo (Counted left) held total (Counted rest) held (take n bytes) (take n bytes) =
     λ framing fed body counted (size, sized, same, whole).
     (size, sized, ap (λ l. l ++ take n bytes) same, omega (arith, length-append fed (take n bytes), length-take-le n bytes within)) in
-    content_steps (Counted left) (Counted rest) held bytes total n step is within refl
+    content_steps (Counted left) (Counted rest) held bytes total n step is within (λ unfinished same. omega arith) refl
     (λ inside. inl (some_of left n bytes least sound.0 inside)) (omega (arith, sound.1)) (omega arith) (omega arith, omega (arith, sound.1)) goes
 
 pub counted_ends : (held bytes : List ℕ) (total left n : ℕ) (step : Step) → step ≡ record { phase = Ended; taken = n; from = 0; to = n }
@@ -87,13 +89,13 @@ counted_ends held bytes total left n step is sound least none =
     λ framing fed body counted (size, sized, same, whole).
     subst (λ f. StandsIn f (fed ++ take n bytes) (body ++ take n bytes) held Ended) (sym sized)
     (ap (λ l. l ++ take n bytes) same, omega (arith, length-append fed (take n bytes), length-take-le n bytes within)) in
-    content_steps (Counted left) Ended held bytes total n step is within refl
+    content_steps (Counted left) Ended held bytes total n step is within (λ unfinished other. absurd (omega arith)) refl
     (λ inside. inl (some_of left n bytes least sound.0 inside)) (omega (arith, sound.1)) (omega arith) tt goes
 
 pub open_stays : (held bytes : List ℕ) (total n : ℕ) (step : Step) → step ≡ record { phase = Open; taken = n; from = 0; to = n }
     → IsSoundPhase Open held total → n ≡ min (body_limit - total) (length bytes) → n ≡ length bytes → StepsOn Open held total bytes step held
 open_stays held bytes total n step is sound least all =
-    content_steps Open Open held bytes total n step is (omega arith) refl (λ inside. inl (omega arith)) (omega (arith, sound)) (omega arith) (omega (arith, sound))
+    content_steps Open Open held bytes total n step is (omega arith) (λ unfinished same. all) refl (λ inside. inl (omega arith)) (omega (arith, sound)) (omega arith) (omega (arith, sound))
     (λ framing fed body counted (up, same). (up, ap (λ l. l ++ take n bytes) same))
 
 -- the bytes are more than a body may have
@@ -114,6 +116,7 @@ open_bad held bytes total n sound least more =
       ordered = omega arith;
       within = omega arith;
       taken = omega arith;
+      whole = λ unfinished same. omega arith;
       progress = λ some state. inl some;
       rests = λ over. absurd (over refl);
       stays = λ over. absurd (over refl);
@@ -134,7 +137,7 @@ content_stays held bytes total left n rest step is sound least rest_is some =
     λ framing fed body counted (chunked, part, chunk).
     let size : length part + left ≡ length (part ++ take n bytes) + rest = omega (arith, length-append part (take n bytes), length-take-le n bytes within) in
     (chunked, part ++ take n bytes, subst (λ k. InChunk (fed ++ take n bytes) (body ++ take n bytes) k (part ++ take n bytes) []) size (more_content fed body part (take n bytes) (length part + left) chunk)) in
-    content_steps (Content left) (Content rest) held bytes total n step is within refl
+    content_steps (Content left) (Content rest) held bytes total n step is within (λ unfinished same. omega arith) refl
     (λ inside. inl (some_of left n bytes least sound.1 inside)) (omega (arith, sound.2)) (omega arith) (sound.0, omega arith, omega (arith, sound.2)) goes
 
 pub content_ends : (held bytes : List ℕ) (total left n : ℕ) (step : Step) → step ≡ record { phase = Gap; taken = n; from = 0; to = n }
@@ -146,14 +149,14 @@ content_ends held bytes total left n step is sound least none =
     λ framing fed body counted (chunked, part, chunk).
     let size : length part + left ≡ length (part ++ take n bytes) = omega (arith, length-append part (take n bytes), length-take-le n bytes within) in
     (chunked, part ++ take n bytes, subst (λ k. InChunk (fed ++ take n bytes) (body ++ take n bytes) k (part ++ take n bytes) []) size (more_content fed body part (take n bytes) (length part + left) chunk)) in
-    content_steps (Content left) Gap held bytes total n step is within refl
+    content_steps (Content left) Gap held bytes total n step is within (λ unfinished other. absurd (omega arith)) refl
     (λ inside. inl (some_of left n bytes least sound.1 inside)) (omega (arith, sound.2)) (omega arith) (sound.0, omega (arith, sound.2)) goes
 
 -- a phase that was given no bytes
 pub none_stays : (phase : Phase) (held bytes : List ℕ) (total : ℕ) (step : Step) → step ≡ record { phase = phase; taken = 0; from = 0; to = 0 }
     → state_of phase ≡ S.Unfinished → length bytes ≡ 0 → total < 2 ^ 64 → IsSoundPhase phase held total → StepsOn phase held total bytes step held
 none_stays phase held bytes total step is unfinished empty fits sound =
-    frame_steps phase phase held held bytes total 0 step is (omega arith) unfinished (λ some. absurd (omega arith)) fits (omega arith) sound
+    frame_steps phase phase held held bytes total 0 step is (omega arith) (λ still same. omega arith) unfinished (λ some. absurd (omega arith)) fits (omega arith) sound
     (λ framing fed body counted stands. stays framing fed body held phase stands)
 
 -- what follows the content is no CR LF
@@ -166,7 +169,7 @@ pub gap_bad : (held bytes : List ℕ) (total : ℕ) (step : Step) → step ≡ r
     → IsSoundPhase Gap held total → 0 < length bytes → get_or bytes 0 0 ≢ 13 → StepsOn Gap held total bytes step held
 gap_bad held [] total step is sound some other = absurd (omega arith)
 gap_bad held (b ∷ bs) total step is sound some other =
-    frame_steps Gap Bad held held (b ∷ bs) total 1 step is (omega arith) refl (λ inside. inl (omega arith)) (omega (arith, sound.1)) (omega arith) tt
+    frame_steps Gap Bad held held (b ∷ bs) total 1 step is (omega arith) (λ unfinished other. absurd (omega arith)) refl (λ inside. inl (omega arith)) (omega (arith, sound.1)) (omega arith) tt
     (gap_breaks held (b ∷ []) total other)
 
 pub gap_cr : (held bytes : List ℕ) (total : ℕ) (step : Step) → step ≡ record { phase = GapEnd; taken = 1; from = 0; to = 0 }
@@ -176,14 +179,14 @@ gap_cr held (b ∷ bs) total step is sound some cr =
     let goes : GoesTo Gap held total GapEnd held (b ∷ []) [] =
     λ framing fed body counted (chunked, part, chunk).
     (chunked, part, subst (λ x. InChunk (fed ++ b ∷ []) (body ++ []) (length part) part (x ∷ [])) cr (more_tail fed body part [] (b ∷ []) (length part) chunk)) in
-    frame_steps Gap GapEnd held held (b ∷ bs) total 1 step is (omega arith) refl (λ inside. inl (omega arith)) (omega (arith, sound.1)) (omega arith) sound goes
+    frame_steps Gap GapEnd held held (b ∷ bs) total 1 step is (omega arith) (λ unfinished other. absurd (omega arith)) refl (λ inside. inl (omega arith)) (omega (arith, sound.1)) (omega arith) sound goes
 
 pub gap_bad_after : (held bytes : List ℕ) (total : ℕ) (step : Step) → step ≡ record { phase = Bad; taken = 2; from = 0; to = 0 }
     → IsSoundPhase Gap held total → 1 < length bytes → get_or bytes 1 0 ≢ 10 → StepsOn Gap held total bytes step held
 gap_bad_after held [] total step is sound some other = absurd (omega arith)
 gap_bad_after held (a ∷ []) total step is sound some other = absurd (omega arith)
 gap_bad_after held (a ∷ b ∷ bs) total step is sound some other =
-    frame_steps Gap Bad held held (a ∷ b ∷ bs) total 2 step is (omega arith) refl (λ inside. inl (omega arith)) (omega (arith, sound.1)) (omega arith) tt
+    frame_steps Gap Bad held held (a ∷ b ∷ bs) total 2 step is (omega arith) (λ unfinished other. absurd (omega arith)) refl (λ inside. inl (omega arith)) (omega (arith, sound.1)) (omega arith) tt
     (gap_breaks held (a ∷ b ∷ []) total (inr other))
 
 line_after_crlf : (fed body part held : List ℕ) → held ≡ [] → InChunk fed body (length part) part crlf_bytes → AfterChunks fed body held [] × MayBecomeChunkLine held
@@ -205,7 +208,7 @@ gap_crlf held (a ∷ b ∷ bs) total step is sound some cr lf =
     (subst (λ x. InChunk (fed ++ a ∷ b ∷ []) (body ++ []) (length part) part (x ∷ b ∷ [])) cr (more_tail fed body part [] (a ∷ b ∷ []) (length part) chunk)) in
     let line = line_after_crlf (fed ++ a ∷ b ∷ []) (body ++ []) part held sound.0 closed in
     (chunked, line.0, line.1) in
-    frame_steps Gap Line held held (a ∷ b ∷ bs) total 2 step is (omega arith) refl (λ inside. inl (omega arith)) (omega (arith, sound.1)) (omega arith)
+    frame_steps Gap Line held held (a ∷ b ∷ bs) total 2 step is (omega arith) (λ unfinished other. absurd (omega arith)) refl (λ inside. inl (omega arith)) (omega (arith, sound.1)) (omega arith)
     (line_sound held total sound.0 sound.1) goes
 
 pub gap_end_bad : (held bytes : List ℕ) (total : ℕ) (step : Step) → step ≡ record { phase = Bad; taken = 1; from = 0; to = 0 }
@@ -216,7 +219,7 @@ gap_end_bad held (b ∷ bs) total step is sound some other =
     λ framing fed body counted (chunked, part, chunk).
     subst (λ f. StandsIn f (fed ++ b ∷ []) (body ++ []) held Bad) (sym chunked)
     (no_crlf part (13 ∷ b ∷ []) (more_tail fed body part (13 ∷ []) (b ∷ []) (length part) chunk) (inr other)) in
-    frame_steps GapEnd Bad held held (b ∷ bs) total 1 step is (omega arith) refl (λ inside. inl (omega arith)) (omega (arith, sound.1)) (omega arith) tt goes
+    frame_steps GapEnd Bad held held (b ∷ bs) total 1 step is (omega arith) (λ unfinished other. absurd (omega arith)) refl (λ inside. inl (omega arith)) (omega (arith, sound.1)) (omega arith) tt goes
 
 pub gap_end_lf : (held bytes : List ℕ) (total : ℕ) (step : Step) → step ≡ record { phase = Line; taken = 1; from = 0; to = 0 }
     → IsSoundPhase GapEnd held total → 0 < length bytes → get_or bytes 0 0 ≡ 10 → StepsOn GapEnd held total bytes step held
@@ -228,5 +231,5 @@ gap_end_lf held (b ∷ bs) total step is sound some lf =
     subst (λ x. InChunk (fed ++ b ∷ []) (body ++ []) (length part) part (13 ∷ x ∷ [])) lf (more_tail fed body part (13 ∷ []) (b ∷ []) (length part) chunk) in
     let line = line_after_crlf (fed ++ b ∷ []) (body ++ []) part held sound.0 closed in
     (chunked, line.0, line.1) in
-    frame_steps GapEnd Line held held (b ∷ bs) total 1 step is (omega arith) refl (λ inside. inl (omega arith)) (omega (arith, sound.1)) (omega arith)
+    frame_steps GapEnd Line held held (b ∷ bs) total 1 step is (omega arith) (λ unfinished other. absurd (omega arith)) refl (λ inside. inl (omega arith)) (omega (arith, sound.1)) (omega arith)
     (line_sound held total sound.0 sound.1) goes

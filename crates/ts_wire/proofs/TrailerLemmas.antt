@@ -97,7 +97,9 @@ trailer_steps Trailer held held' bytes text total len step sound fits size t jud
     let piece : text ≡ held ++ take (len - length held) bytes = new.1 ∙ ap (λ k. held ++ take k bytes) (sym n) in
     let some : 0 < length bytes → 0 < len - length held =
     λ inside. omega (arith, judged.0, sound.0, ap length t.text_is, length-append held t.piece, ap length t.piece_is, length-take most bytes) in
-    frame_steps Trailer Trailer held held' bytes total (len - length held) step is (omega (arith, new.0, n)) refl (λ inside. inl (some inside)) fits (omega arith)
+    let all : len - length held ≡ length bytes =
+    omega (arith, judged.0, judged.1, sound.0, ap length t.text_is, length-append held t.piece, ap length t.piece_is, length-take most bytes) in
+    frame_steps Trailer Trailer held held' bytes total (len - length held) step is (omega (arith, new.0, n)) (λ unfinished same. all) refl (λ inside. inl (some inside)) fits (omega arith)
     (subst (λ h. IsSoundPhase Trailer h total) (sym kept) (judged.1, judged.3))
     (λ framing fed body counted (chunked, trailer, may, few). (
       chunked,
@@ -121,7 +123,7 @@ trailer_steps Ended held held' bytes text total len step sound fits size t whole
       few = whole.few;
       short = short;
     } in
-    frame_steps Trailer Ended held held' bytes total (len - length held) step is new.1 refl (λ inside. inl new.0) fits (omega arith) tt
+    frame_steps Trailer Ended held held' bytes total (len - length held) step is new.1 (λ unfinished other. absurd (omega arith)) refl (λ inside. inl new.0) fits (omega arith) tt
     (λ framing fed body counted (chunked, trailer, may, few).
     subst (λ f. StandsIn f (fed ++ piece) (body ++ []) held' Ended) (sym chunked) (ends fed body trailer, refl))
 trailer_steps Bad held held' bytes text total len step sound fits size t (all, judged) kept is =
@@ -129,7 +131,7 @@ trailer_steps Bad held held' bytes text total len step sound fits size t (all, j
     let new = all_new held bytes text most t in
     let n : len - length held ≡ length text - length held = omega (arith, all) in
     let piece : text ≡ held ++ take (len - length held) bytes = new.1 ∙ ap (λ k. held ++ take k bytes) (sym n) in
-    frame_steps Trailer Bad held held' bytes total (len - length held) step is (omega (arith, new.0, n)) refl (λ inside. inr (λ e. absurd (let f : S.Bad ≡ S.Unfinished = e in cc))) fits (omega arith) tt
+    frame_steps Trailer Bad held held' bytes total (len - length held) step is (omega (arith, new.0, n)) (λ unfinished other. absurd (omega arith)) refl (λ inside. inr (λ e. absurd (let f : S.Bad ≡ S.Unfinished = e in cc))) fits (omega arith) tt
     (λ framing fed body counted (chunked, trailer, may, few).
     subst (λ f. StandsIn f (fed ++ take (len - length held) bytes) (body ++ []) held' Bad) (sym chunked)
     (bad (fed ++ take (len - length held) bytes) (body ++ []) (subst (InTrailer (fed ++ take (len - length held) bytes) (body ++ [])) (sym piece) (more_trailer fed body held (take (len - length held) bytes) trailer)) judged))

@@ -65,7 +65,8 @@ pub record AwaitsRequest (bytes : List ℕ) : Type 0 where
   pub none : HasNoRequest bytes
   pub may : MayBecomeRequest bytes
 
--- no prefix is a head within the limits, whatever follows: all the bytes of a head are there, or a 65th field begins among them
+-- no prefix is a head within the limits, whatever follows: as many bytes as a head may have are there, or a 65th field line is
+-- among them
 pub record IsTooLongRequest (bytes : List ℕ) : Type 0 where
   pub lacks : (more : List ℕ) → LacksRequest (bytes ++ more)
   pub why : (head_limit ≤ length bytes) ⊎ RequestExceeds field_limit (take head_limit bytes)

@@ -37,6 +37,18 @@ room_of Trailer = trailer_limit
 room_of Ended = 0
 room_of Bad = 0
 
+-- the part of a body that a phase is in, as a number
+abbrev pub part_number : Phase → ℕ
+part_number (Counted left) = 0
+part_number Open = 1
+part_number Line = 2
+part_number (Content left) = 3
+part_number Gap = 4
+part_number GapEnd = 5
+part_number Trailer = 6
+part_number Ended = 7
+part_number Bad = 8
+
 -- what of a chunk line or a trailer section was kept is not whole, and the body is not too long
 abbrev pub IsSoundPhase : Phase → List ℕ → ℕ → Type 0
 IsSoundPhase (Counted left) held total = (0 < left) × (total + left < 2 ^ 64)
@@ -84,6 +96,7 @@ pub record StepsOn (old : Phase) (held : List ℕ) (total : ℕ) (bytes : List �
   pub ordered : step.from ≤ step.to
   pub within : step.to ≤ step.taken
   pub taken : step.taken ≤ length bytes
+  pub whole : state_of step.phase ≡ S.Unfinished → part_number old ≡ part_number step.phase → step.taken ≡ length bytes
   pub progress : 0 < length bytes → state_of old ≡ S.Unfinished → (0 < step.taken) ⊎ (state_of step.phase ≢ S.Unfinished)
   pub rests : state_of old ≢ S.Unfinished → step.taken ≡ 0
   pub stays : state_of old ≢ S.Unfinished → state_of step.phase ≡ state_of old
@@ -110,11 +123,13 @@ pub record IsFed (framing : Framing) (fed body : List ℕ) (place : Place) : Typ
   pub counted : place.total ≡ length body
   pub sound : IsSoundPhase place.phase place.held place.total
 
--- which front of the bytes is taken, and which part of it is body
+-- which front of the bytes is taken, and which part of it is body. A reader that stays in the same part of the body has
+-- taken all the bytes: it passes over a run of them as a whole.
 pub record Takes (old new : Place) (bytes : List ℕ) (answer : Fed) : Type 0 where
   pub ordered : answer.from ≤ answer.to
   pub within : answer.to ≤ answer.taken
   pub taken : answer.taken ≤ length bytes
+  pub whole : answer.state ≡ S.Unfinished → part_number old.phase ≡ part_number new.phase → answer.taken ≡ length bytes
   pub state : answer.state ≡ state_of new.phase
   pub progress : 0 < length bytes → state_of old.phase ≡ S.Unfinished → (0 < answer.taken) ⊎ (answer.state ≢ S.Unfinished)
 

@@ -17,7 +17,7 @@ pub const MAX_LINE: usize = 4096;
 /// How many bytes a trailer section may have.
 pub const MAX_TRAILER: usize = 16384;
 
-/// At this many line feeds a trailer section has more fields than it may.
+/// A trailer section that is not whole at this many line feeds has more fields than it may.
 pub const MAX_TRAILER_LINES: usize = 65;
 
 /// Which part of a body comes next.

@@ -37,7 +37,7 @@ fn checked(alloc: Global, bytes: &[u8]) -> Result<Vec<u8>, NoMemory> {
 
 #[test]
 fn checks_requests(rt: HostRuntime) -> Result<(), Fail> {
-    let rows: [(&[u8], &[u8]); 30] = [
+    let rows: [(&[u8], &[u8]); 31] = [
         (b"GET / HTTP/1.1\r\nHost: a\r\n\r\n", b"/ a"),
         (b"GET / HTTP/1.1\nHost: a\n\n", b"/ a"),
         (
@@ -88,6 +88,7 @@ fn checks_requests(rt: HostRuntime) -> Result<(), Fail> {
             b"400",
         ),
         (b"GET / HTTP/1.1\r\nHost: a\r\n b\r\n\r\n", b"bad"),
+        (b"GET / HTTP/1.1\r\nHost: a\rb\r\n\r\n", b"bad"),
         (b"GET / HTTP/1.1\r\nHost : a\r\n\r\n", b"bad"),
         (b"GET / HTTP/2.0\r\n\r\n", b"bad"),
         (b"GET / HTTP/1.1\r\nHost: a\r\n", b"more"),
@@ -141,6 +142,47 @@ fn keeps_limits_of_heads(rt: HostRuntime) -> Result<(), Fail> {
         let text = filled(rt.alloc(), b"GET / HTTP/1.0\r\na:", end, len)?;
         assert_eq!(rt; text.len(), len);
         assert_eq!(rt; checked(rt.alloc(), text.as_slice())?.as_slice(), want);
+    }
+    Ok(())
+}
+
+/// What is read as a response at the front of the bytes, in a word.
+fn response_word(alloc: Global, bytes: &[u8]) -> Result<&'static [u8], NoMemory> {
+    match read_response(alloc, bytes)? {
+        Read::Head { head: _, used: _ } => Ok(b"head"),
+        Read::More => Ok(b"more"),
+        Read::Bad => Ok(b"bad"),
+        Read::TooLong => Ok(b"too long"),
+    }
+}
+
+#[test]
+fn reads_responses(rt: HostRuntime) -> Result<(), Fail> {
+    let start: &[u8] = b"HTTP/1.1 200 OK\r\n";
+    let rows: [(&[u8], &[u8]); 6] = [
+        (b"HTTP/1.1 200\nA: b\n\n", b"head"),
+        (b"HTTP/1.1 200 OK\r\nA: b\r\n", b"more"),
+        (b"HTTP/1.1 200 OK\r\nA: b\r\n c\r\n\r\n", b"bad"),
+        (b"HTTP/1.1 200 OK\r\nA: b\rc\r\n\r\n", b"bad"),
+        (b"HTTP/1.1 20 OK\r\n\r\n", b"bad"),
+        (b"HTTP/1.2 200 OK\r\n\r\n", b"bad"),
+    ];
+    for (bytes, want) in rows {
+        assert_eq!(rt; response_word(rt.alloc(), bytes)?, want);
+    }
+    let lines: [(usize, &[u8], &[u8]); 3] = [
+        (64, b"\r\n", b"head"),
+        (64, b"", b"more"),
+        (65, b"\r\n", b"too long"),
+    ];
+    for (count, end, want) in lines {
+        let text = with_lines(rt.alloc(), start, count, end)?;
+        assert_eq!(rt; response_word(rt.alloc(), text.as_slice())?, want);
+    }
+    let long: [(usize, &[u8]); 2] = [(16384, b"head"), (16385, b"too long")];
+    for (len, want) in long {
+        let text = filled(rt.alloc(), b"HTTP/1.1 200 OK\r\na:", b"\r\n\r\n", len)?;
+        assert_eq!(rt; response_word(rt.alloc(), text.as_slice())?, want);
     }
     Ok(())
 }
@@ -367,7 +409,13 @@ fn reads_a_response_byte_by_byte(rt: HostRuntime) -> Result<(), Fail> {
 fn keeps_limits_of_chunks(rt: HostRuntime) -> Result<(), Fail> {
     let lines: [(usize, BodyState); 2] = [(4096, BodyState::Ended), (4097, BodyState::Bad)];
     let trailers: [(usize, BodyState); 2] = [(16384, BodyState::Ended), (16385, BodyState::Bad)];
-    let fields: [(usize, BodyState); 2] = [(64, BodyState::Ended), (65, BodyState::Bad)];
+    let fields: [(usize, &[u8], BodyState); 5] = [
+        (64, b"\r\n", BodyState::Ended),
+        (65, b"\r\n", BodyState::Bad),
+        (64, b"", BodyState::Unfinished),
+        (64, b"a:", BodyState::Unfinished),
+        (65, b"", BodyState::Bad),
+    ];
     for most in [1000, 20000] {
         for (len, state) in lines {
             let mut text = filled(rt.alloc(), b"0;", b"\r\n", len)?;
@@ -384,8 +432,8 @@ fn keeps_limits_of_chunks(rt: HostRuntime) -> Result<(), Fail> {
                 state
             );
         }
-        for (count, state) in fields {
-            let text = with_lines(rt.alloc(), b"0\r\n", count, b"\r\n")?;
+        for (count, end, state) in fields {
+            let text = with_lines(rt.alloc(), b"0\r\n", count, end)?;
             assert_eq!(rt;
                 read_body(rt.alloc(), Framing::Chunked, text.as_slice(), most)?.1,
                 state
