@@ -1,4 +1,5 @@
--- The grammar of a configuration: what each line means by itself, and what they mean together.
+-- The grammar of a configuration: what each line means by itself, and what they mean together. (plugin.config and its
+-- lines are the Developer's Guide's; the names, words and limits are this project's own.)
 use Rattle.std.specs.Prelude.{◌≡◌, ℕ, ◌==◌, ◌+◌, ◌<◌, ◌≤◌, ◌⊎◌, ◌&&◌, ◌||◌, not, Bool, nat_le, List, [], ◌∷◌, ◌++◌, length, map, Result, Ok, Err, MatchBool, ⊤}
 use Rattle.std.specs.List.{list_all, AllZip}
 use Rattle.std.specs.Str.{is_utf8}
@@ -14,7 +15,7 @@ use Rattle.ts_config.specs.Setup.{untexted}
 use Rattle.ts_config.specs.Words.{IsWords}
 use Rattle.ts_config.specs.Table.{entry_of}
 
--- a tab, or no control character
+-- a tab, or neither below 32 nor 127
 abbrev pub is_text_byte : ℕ → Bool
 is_text_byte b = b == 9 || (nat_le 32 b && not (b == 127))
 

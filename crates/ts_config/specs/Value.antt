@@ -1,4 +1,5 @@
--- The reading of a configuration as a function of its bytes. That it is the grammar's is a law (`one_reading`).
+-- The reading of a configuration as a function of its bytes, for computing. The grammar is Reading.antt; that the two
+-- agree is a law (`one_reading`).
 use Rattle.std.specs.Prelude.{◌≡◌, ℕ, suc, zero, ◌==◌, ◌+◌, not, nat_le, Bool, List, [], ◌∷◌, ◌++◌, length, take, drop, Option, Some, None, Result, Ok, Err, ⊤, if◌then◌else◌}
 use Rattle.std.specs.List.{prefix_len}
 use Rattle.std.specs.Option.{option_map}

@@ -15,13 +15,13 @@ pub enum TransformLine {
     Append { file: Octets, text: Octets },
     /// The body, stored whole and then written.
     Bnull,
-    /// The text, and then the body.
+    /// The text, of at most 16,384 bytes, and then the body.
     Prepend { text: Octets },
     /// The body with each byte `from` replaced by `to`.
     Map { from: u8, to: u8 },
     /// The body without a byte.
     Drop { byte: u8 },
-    /// The body as it is, with a pause of `ms` milliseconds between two events of its stage.
+    /// The body as it is, with a pause of `ms` milliseconds, at most 60,000, between two events of its stage.
     Delay { ms: u32 },
 }
 
@@ -36,7 +36,7 @@ pub enum Entry {
 /// The rules of a line, in the order in which they are tried.
 #[derive(Clone, Copy, Debug, PartialEq, Eq)]
 pub enum ConfigKind {
-    /// The line is UTF-8, and has no control character but tabs.
+    /// The line is UTF-8, and has no byte below 32 but tabs, and no byte 127.
     Text,
     /// Each quote is closed, and ends its word.
     Quote,
@@ -44,7 +44,7 @@ pub enum ConfigKind {
     Plugin,
     /// The other words fit the plugin.
     Arguments,
-    /// There are not too many lines of its kind so far.
+    /// It is at most the 16th transform line.
     TooMany,
 }
 

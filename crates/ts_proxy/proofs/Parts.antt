@@ -2,8 +2,14 @@
 use Rattle.std.proofs.Common.{◌≡◌, ℕ, ◌+◌, ◌<◌, List, ◌++◌, Bor, length, get_or, drop, map, sym, ap, subst, ◌∙◌, append_assoc, inr, ◌⊎◌}
 use Rattle.std.proofs.lemmas.List.{drop_more}
 use Rattle.ts_link.specs.Counts.{Rose}
-use Rattle.ts_proxy.specs.Took.{TookBut, TookFront}
+use Rattle.ts_proxy.specs.Took.{TookFront}
 use Rattle.ts_proxy.specs.Lines.{joined, LineTold}
+
+-- what was taken grew by all of the text but what is left
+pub record TookBut (old new text left : List ℕ) : Type 0 where
+  pub took : List ℕ
+  pub grew : new ≡ old ++ took
+  pub front : took ++ left ≡ text
 
 -- the part at place i stands in front of those behind it
 joined-drop : (parts : List (Bor (List ℕ))) (i : ℕ) (d : Bor (List ℕ)) → i < length parts
