@@ -1,5 +1,5 @@
 -- What reading a file says of the outcome.
-use Rattle.std.specs.Prelude.{◌≡◌, ℕ, ◌≤◌, ◌<◌, List, length, Option, Some, None, Err, IsSomeAnd}
+use Rattle.std.specs.Prelude.{◌≡◌, ℕ, ◌≤◌, ◌<◌, List, [], length, Option, Some, None, Err, IsSomeAnd}
 use Rattle.std.proofs.Common.{arith, refl, ap, sym, subst, ◌∙◌, if◌then◌else◌, le-leb}
 use Rattle.std.proofs.lemmas.Bool.{lt-leb}
 use Rattle.ts_link.specs.Shelf.{KeepsLimit, ReadsFile}
@@ -8,7 +8,7 @@ use Rattle.ts_link.specs.declared.shelf.ShelfFault.TheVariants as fault
 use Rattle.ts_proxy.specs.declared.answer.NamedFile.{NamedFile}
 use Rattle.ts_proxy.specs.declared.answer.Answer.{Answer}
 use Rattle.ts_proxy.specs.declared.answer.Answer.TheVariants as a
-use Rattle.ts_proxy.specs.Answers.{name_of, answer_of, ComesAt, IsOfWriting}
+use Rattle.ts_proxy.specs.Answers.{name_of, answer_of, ComesAt, IsOfWriting, OnCannotRead, IsReadBy, IsText}
 use Rattle.ts_proxy.specs.Outcome.{Outcome, opened, set_up, transformed, Long, Text}
 use Rattle.ts_proxy.specs.declared.answer.NamedFile.TheVariants as file
 use Rattle.ts_config.specs.declared.setup.TransformLine.{TransformLine}
@@ -60,3 +60,10 @@ transformed-refused files files' config body lines f read same limit told =
     subst (λ o. ComesAt config body (answer_of f file.Body) o) (sym (read next))
     (refused-comes config body body 67108864 (files body) f file.Body (λ x. Text (compose_lines lines x)) refl limit
     (subst (λ g. ReadsFile (g body) 67108864 (Err f)) same told))
+
+-- a command whose body could not be read had come to it
+pub body-refused : (files : List ℕ → Option (List ℕ)) (config : List ℕ) (lines : List TransformLine) (f : ShelfFault)
+    → ((next : List TransformLine → Outcome) → set_up files config next ≡ next lines) → OnCannotRead (answer_of f file.Body) (IsReadBy files config)
+body-refused files config lines fault.Failed read = subst IsText (sym (read (λ ls. Text []))) tt
+body-refused files config lines (fault.TooLong seen) read = tt
+body-refused files config lines fault.NoMemory read = tt

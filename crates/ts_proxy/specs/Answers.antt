@@ -1,5 +1,5 @@
 -- When each answer of a command comes, and what it leaves.
-use Rattle.std.specs.Prelude.{◌≡◌, ℕ, ◌++◌, List, ⊤, Option, IsSomeAnd, Contains, Result, Ok, Err}
+use Rattle.std.specs.Prelude.{◌≡◌, ℕ, ◌++◌, List, [], ⊤, Option, IsSomeAnd, Contains, Result, Ok, Err}
 use Rattle.ts_link.specs.Counts.{Rose}
 use Rattle.ts_link.specs.declared.shelf.ShelfFault.{ShelfFault}
 use Rattle.ts_link.specs.declared.shelf.ShelfFault.TheVariants as fault
@@ -10,7 +10,7 @@ use Rattle.ts_proxy.specs.declared.answer.NamedFile.TheVariants as file
 use Rattle.ts_config.specs.declared.setup.TransformLine.{TransformLine}
 use Rattle.ts_config.specs.declared.setup.TransformLine.TheVariants as t
 use Rattle.ts_config.specs.Value.{Reading, Good, Bad, config_of}
-use Rattle.ts_proxy.specs.Outcome.{Outcome, Usage, BadLine, Missing, Long, Text}
+use Rattle.ts_proxy.specs.Outcome.{Outcome, Usage, BadLine, Missing, Long, Text, set_up}
 use Rattle.ts_proxy.specs.Took.{TookFront}
 
 -- the name of a file of a command with these names of its configuration and its body
@@ -64,11 +64,12 @@ abbrev pub IsNamedIn : Reading → NamedFile → Type 0
 IsNamedIn (Good ls) f = IsNamedBy ls f
 IsNamedIn (Bad n k) f = ⊥
 
--- the file whose read failed is one that the command reads
-abbrev pub IsReadBy : Option (List ℕ) → NamedFile → Type 0
-IsReadBy config file.Config = ⊤
-IsReadBy config file.Body = ⊤
-IsReadBy config (file.Appended name) = IsSomeAnd config (λ bytes. IsNamedIn (config_of bytes) (file.Appended name))
+-- the file whose read failed is one that the command of this configuration comes to: the configuration, a file that a
+-- line of it names, or the body, once all the others were read
+abbrev pub IsReadBy : (List ℕ → Option (List ℕ)) → List ℕ → NamedFile → Type 0
+IsReadBy files config file.Config = ⊤
+IsReadBy files config file.Body = IsText (set_up files config (λ lines. Text []))
+IsReadBy files config (file.Appended name) = IsSomeAnd (files config) (λ bytes. IsNamedIn (config_of bytes) (file.Appended name))
 
 -- what is said of the file of a failed read
 abbrev pub OnCannotRead : Answer → (NamedFile → Type 0) → Type 0

@@ -1,5 +1,5 @@
 -- The line on the error sink for each answer.
-use Rattle.std.specs.Prelude.{◌≡◌, ℕ, ◌++◌, List, [], ◌∷◌, ◌⊎◌, codes, decimal}
+use Rattle.std.specs.Prelude.{◌≡◌, ℕ, ◌++◌, List, [], ◌∷◌, ◌⊎◌, Bool, true, codes, decimal}
 use Rattle.ts_link.specs.Counts.{Rose}
 use Rattle.ts_proxy.specs.declared.answer.Answer.{Answer}
 use Rattle.ts_proxy.specs.declared.answer.Answer.TheVariants as a
@@ -41,7 +41,7 @@ pub record LineTold (old new line : List ℕ) (faults faults' lacks lacks' : ℕ
   pub front : TookFront old new line
   pub whole : (new ≡ old ++ line) ⊎ (Rose faults faults' ⊎ Rose lacks lacks')
 
--- the line of a status was told: the line of an answer that has this status
-pub record SaysLine (status : ℕ) (config body old new : List ℕ) (faults faults' lacks lacks' : ℕ) (answer : Answer) : Type 0 where
+-- an answer has a status, and its line was told to a sink, if the sink tells what it took
+pub record SaysLine (tells : Bool) (status : ℕ) (config body old new : List ℕ) (faults faults' lacks lacks' : ℕ) (answer : Answer) : Type 0 where
   pub is : status ≡ status_of answer
-  pub told : LineTold old new (line_of config body answer) faults faults' lacks lacks'
+  pub told : tells ≡ true → LineTold old new (line_of config body answer) faults faults' lacks lacks'

@@ -100,7 +100,7 @@ pub fn read_setup<S: Shelf>(
 ) -> Result<Vec<TransformLine>, Answer>
     ensures told { S.tells ≡ true → (body : List ℕ) (next : List TransformLine → Outcome) →
         Leads config.now body result (set_up (S.file shelf.old) config.now next) (λ ls. next ls.items) }
-    ensures named { S.tells ≡ true → IfErr result (λ a. OnCannotRead a (IsReadBy (S.file shelf.old config.now))) }
+    ensures named { S.tells ≡ true → IfErr result (λ a. OnCannotRead a (IsReadBy (S.file shelf.old) config.now)) }
     ensures files { S.tells ≡ true → S.file shelf.new ≡ S.file shelf.old }
     ensures same { OnOk result ((S.faults shelf.new ≡ S.faults shelf.old) × (S.longs shelf.new ≡ S.longs shelf.old)) }
     ensures cause { IfErr result (λ a. IsOfReading a (S.faults shelf.old) (S.faults shelf.new) (S.longs shelf.old) (S.longs shelf.new)) }

@@ -79,12 +79,12 @@ pub fn run<S: Shelf, K: Sink, E: Sink>(
     ensures quiet { K.tells ≡ true → IsQuiet result.status → K.taken out.new ≡ K.taken out.old }
 
     // What err took: the line of an answer that has this status, and that comes at the outcome.
-    ensures line { E.tells ≡ true → (answer : Answer)
-        × SaysLine result.status (word 1 (map string_bytes words.now)) (word 2 (map string_bytes words.now))
+    ensures line { (answer : Answer)
+        × SaysLine E.tells result.status (word 1 (map string_bytes words.now)) (word 2 (map string_bytes words.now))
         (E.taken err.old) (E.taken err.new) (E.faults err.old) (E.faults err.new) (E.lacks err.old) (E.lacks err.new) answer
         × (S.tells ≡ true → ComesAt (word 1 (map string_bytes words.now)) (word 2 (map string_bytes words.now)) answer
         (outcome_of (S.file shelf.old) (map string_bytes words.now)))
-        × (S.tells ≡ true → OnCannotRead answer (IsReadBy (S.file shelf.old (word 1 (map string_bytes words.now))))) }
+        × (S.tells ≡ true → OnCannotRead answer (IsReadBy (S.file shelf.old) (word 1 (map string_bytes words.now)))) }
 {
     let Some((config, body)) = names_of(words) else {
         say(err, &Answer::Usage, "", "");

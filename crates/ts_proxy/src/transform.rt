@@ -20,7 +20,7 @@ pub fn transform<S: Shelf, K: Sink>(
     out: &mut K,
 ) -> Answer
     ensures told { S.tells ≡ true → ComesAt config.now body.now result (transformed (S.file shelf.old) config.now body.now) }
-    ensures named { S.tells ≡ true → OnCannotRead result (IsReadBy (S.file shelf.old config.now)) }
+    ensures named { S.tells ≡ true → OnCannotRead result (IsReadBy (S.file shelf.old) config.now) }
     ensures took { S.tells ≡ true → K.tells ≡ true →
         TookAt result (K.taken out.old) (K.taken out.new) (transformed (S.file shelf.old) config.now body.now) }
     ensures quiet { K.tells ≡ true → OnQuiet result (K.taken out.new ≡ K.taken out.old) }

@@ -6,10 +6,10 @@ use Rattle.ts_proxy.proofs.Ending.{ends-transformed, takes-took}
 use Rattle.ts_proxy.proofs.top.run.Goals as goal
 
 pub returns-in_default-clause-line : goal.returns-in_default-clause-line
-returns-in_default-clause-line g c = λ tells.
+returns-in_default-clause-line g c =
     let words = map string_bytes c.args.words.now in (
       answer.Usage,
-      record { is = refl; told = c.say.ensures tells },
+      record { is = refl; told = c.say.ensures },
       (λ told. ap (λ b. if b then transformed (g.S.Shelf.file c.args.shelf.now) (word 1 words) (word 2 words) else Usage) c.in_default.ensures),
       λ told. tt,
     )
@@ -26,10 +26,10 @@ returns-clause-takes g c = λ tells out_tells.
     (g.K.Sink.taken c.args.out.now) (g.K.Sink.taken c.transform-answer.new.out) (c.transform-answer.ensures.took tells out_tells))
 
 pub returns-clause-line : goal.returns-clause-line
-returns-clause-line g c = λ tells.
+returns-clause-line g c =
     rw (c.in-Some.ensures, c.status.ensures) (
       c.transform-answer.result,
-      record { is = refl; told = c.say-2.ensures tells },
-      (λ told. c.transform-answer.ensures.told told),
-      λ told. c.transform-answer.ensures.named told,
+      record { is = refl; told = c.say-2.ensures },
+      c.transform-answer.ensures.told,
+      c.transform-answer.ensures.named,
     )

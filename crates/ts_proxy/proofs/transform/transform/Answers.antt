@@ -1,7 +1,7 @@
 use Rattle.std.proofs.Common.{◌≡◌, ap, subst, ◌∙◌}
 use Rattle.ts_config.specs.Bodies.{compose_lines}
 use Rattle.ts_proxy.specs.Answers.{TookText}
-use Rattle.ts_proxy.proofs.Opening.{writing-comes, transformed-text, transformed-refused}
+use Rattle.ts_proxy.proofs.Opening.{writing-comes, transformed-text, transformed-refused, body-refused}
 use Rattle.ts_proxy.proofs.transform.transform.Goals as goal
 
 pub returns-in-Ok-read-clause-told : goal.returns-in-Ok-read-clause-told
@@ -24,3 +24,8 @@ returns-clause-told g c = λ tells.
     rw c.refused.ensures
     (transformed-refused (g.S.Shelf.file c.args.shelf.now) (g.S.Shelf.file c.read_setup.new.shelf) c.args.config.now c.args.body.now c.in-Ok.lines.items
     c.in-Err-read.fault (c.in-Ok.ensures.told tells c.args.body.now) (c.in-Ok.ensures.files tells) c.in-Err-read.ensures.limit (c.in-Err-read.ensures.told tells))
+
+pub returns-clause-named : goal.returns-clause-named
+returns-clause-named g c = λ tells.
+    rw c.refused.ensures
+    (body-refused (g.S.Shelf.file c.args.shelf.now) c.args.config.now c.in-Ok.lines.items c.in-Err-read.fault (c.in-Ok.ensures.told tells c.args.body.now))
