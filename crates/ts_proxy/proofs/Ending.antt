@@ -1,5 +1,5 @@
 -- From the answer of a command to the status of the program.
-use Rattle.std.proofs.Common.{◌∷◌, ◌≡◌, ℕ, nat_le, Bool, true, false, List, [], ◌++◌, length, Option, Some, None, inl, inr, refl, sym, subst, ◌∙◌, if◌then◌else◌}
+use Rattle.std.proofs.Common.{◌∷◌, ◌≡◌, ℕ, nat_le, Bool, true, false, List, [], ◌++◌, length, Option, Some, None, inl, inr, ◌⊎◌, refl, sym, subst, ◌∙◌, if◌then◌else◌}
 use Rattle.std.proofs.lemmas.List.{append-nil}
 use Rattle.ts_proxy.specs.declared.answer.Answer.{Answer}
 use Rattle.ts_proxy.specs.declared.answer.Answer.TheVariants as a
@@ -9,7 +9,8 @@ use Rattle.ts_config.specs.Value.{Reading, Good, Bad, config_of}
 use Rattle.ts_config.specs.Bodies.{compose_lines}
 use Rattle.ts_proxy.specs.Took.{TookFront}
 use Rattle.ts_proxy.specs.Outcome.{Outcome, Usage, BadLine, Missing, Long, Text, opened, understood, line_filled, filled, transformed}
-use Rattle.ts_proxy.specs.Answers.{IsText, IsCommand, ComesAt, TookText, TookAt}
+use Rattle.ts_link.specs.Counts.{Rose}
+use Rattle.ts_proxy.specs.Answers.{IsText, IsCommand, IsCausedBy, ComesAt, TookText, TookAt}
 use Rattle.ts_proxy.specs.Ends.{status_of, EndsAt, TakesAt}
 
 within-command : (b : Bool) (name : List ℕ) (o : Outcome) → IsCommand o → IsCommand (if b then o else Long name)
@@ -100,3 +101,14 @@ takes-took answer (BadLine n k) old new h = h
 takes-took answer (Missing name) old new h = h
 takes-took answer (Long name) old new h = h
 takes-took answer (Text t) old new h = takes-text answer old new t h
+
+-- where there is a text, and neither the shelf nor out failed, the job is done, or memory lacked
+pub completes-comes : (config body : List ℕ) (answer : Answer) (o : Outcome) (f f' l l' k k' : ℕ) → IsText o → ComesAt config body answer o
+    → IsCausedBy answer f f' l l' k k' → (Rose f f' → ⊥) → (Rose k k' → ⊥) → (status_of answer ≡ 0) ⊎ (status_of answer ≡ 7)
+completes-comes config body a.Done o f f' l l' k k' text comes cause read wrote = inl refl
+completes-comes config body a.Usage o f f' l l' k k' text comes cause read wrote = absurd cause
+completes-comes config body (a.BadLine b) o f f' l l' k k' text comes cause read wrote = absurd (subst IsText comes text)
+completes-comes config body (a.CannotRead n) o f f' l l' k k' text comes cause read wrote = absurd (read cause)
+completes-comes config body a.CannotWrite o f f' l l' k k' text comes cause read wrote = absurd (wrote cause)
+completes-comes config body a.OutOfMemory o f f' l l' k k' text comes cause read wrote = inr refl
+completes-comes config body (a.TooLong n) o f f' l l' k k' text comes cause read wrote = absurd (subst IsText comes text)

@@ -54,7 +54,7 @@ fn rows(rt: HostRuntime) -> Result<(), Fail> {
         ("tail.txt", b"XY"),
         ("b", b"abc"),
     ];
-    let table: [(&[(&str, &[u8])], &[&str], u64, u8, &[u8], &[u8]); 16] = [
+    let table: [(&[(&str, &[u8])], &[&str], u64, u8, &[u8], &[u8]); 17] = [
         (append, &["transform", "c", "b"], 0, 0, b"abcXY", b""),
         (
             &[
@@ -174,6 +174,14 @@ fn rows(rt: HostRuntime) -> Result<(), Fail> {
             b"",
             b"tsx: configuration line 1: text\n",
         ),
+        (
+            &[("c", b"null_transform.so\nfoo.so\n")],
+            &["transform", "c", "b"],
+            0,
+            3,
+            b"",
+            b"tsx: configuration line 2: plugin\n",
+        ),
         (append, &[], 0, 2, b"", USAGE),
         (append, &["transform", "c", "b", "b"], 0, 2, b"", USAGE),
         (append, &["replay", "c", "b"], 0, 2, b"", USAGE),
@@ -189,7 +197,15 @@ fn rows(rt: HostRuntime) -> Result<(), Fail> {
         };
         check(&rt, &row, 65_536)?;
     }
-    Ok(())
+    let second_write_fails = Row {
+        files: append,
+        words: &["transform", "c", "b"],
+        failing: 2,
+        status: 6,
+        out: b"a",
+        err: b"tsx: cannot write\n",
+    };
+    check(&rt, &second_write_fails, 1)
 }
 
 // A configuration of so many lines that pass a body on.

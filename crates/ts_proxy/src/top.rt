@@ -1,9 +1,9 @@
-ghost use Rattle.std.specs.Prelude.{◌≡◌, ◌∷◌, ◌++◌, ◌↔◌, [], map, string_bytes, codes, true, false, MatchOption};
+ghost use Rattle.std.specs.Prelude.{◌≡◌, ◌∷◌, ◌++◌, ◌↔◌, ◌⊎◌, [], map, string_bytes, codes, true, false, MatchOption};
 ghost use Rattle.ts_link.specs.Counts.{Rose};
 ghost use Rattle.ts_proxy.specs.Outcome.{outcome_of, is_transform, word};
 ghost use Rattle.ts_proxy.specs.Ends.{status_of, EndsAt, TakesAt, IsQuiet, IsStatus};
 ghost use Rattle.ts_proxy.specs.Lines.{SaysLine};
-ghost use Rattle.ts_proxy.specs.Answers.{ComesAt, OnCannotRead, IsReadBy};
+ghost use Rattle.ts_proxy.specs.Answers.{IsText, ComesAt, OnCannotRead, IsReadBy};
 ghost use Rattle.ts_proxy.specs.declared.answer.Answer.{Answer};
 
 use crate::answer::Answer;
@@ -72,6 +72,11 @@ pub fn run<S: Shelf, K: Sink, E: Sink>(
     ensures cannot_read { result.status ≡ 5 → Rose (S.faults shelf.old) (S.faults shelf.new) }
     ensures too_long { result.status ≡ 9 → Rose (S.longs shelf.old) (S.longs shelf.new) }
     ensures cannot_write { result.status ≡ 6 → Rose (K.faults out.old) (K.faults out.new) }
+
+    // Where there is a text and neither failed, the job is done, unless memory lacked.
+    ensures completes { S.tells ≡ true → IsText (outcome_of (S.file shelf.old) (map string_bytes words.now))
+        → (Rose (S.faults shelf.old) (S.faults shelf.new) → ⊥) → (Rose (K.faults out.old) (K.faults out.new) → ⊥)
+        → (result.status ≡ 0) ⊎ (result.status ≡ 7) }
 
     // What out took: with status 0 the whole text, else a front of it, and nothing where there is no such text.
     ensures takes { S.tells ≡ true → K.tells ≡ true →
