@@ -20,7 +20,7 @@ fn line_end(bytes: &[u8]) -> Option<usize>
     bytes.iter().position(|byte| *byte == b'\n')
 }
 
-// The first line of these bytes without its end, and the bytes behind that.
+/// The first line of these bytes without its end, and the bytes behind that.
 pub fn cut_line(bytes: &[u8]) -> (&[u8], &[u8])
     requires { 0 < length bytes.now }
     ensures lines { config_lines bytes.now ≡ result.0.now ∷ config_lines result.1.now }

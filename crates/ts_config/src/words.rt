@@ -13,6 +13,7 @@ fn is_blank(byte: u8) -> bool
     byte == b' ' || byte == b'\t'
 }
 
+/// Whether a plain word ends before this byte.
 pub fn is_end(byte: u8) -> bool
     ensures { result ≡ is_end byte }
 {

@@ -9,14 +9,14 @@ pub struct ReaderId {
     pub generation: u32,
 }
 
-// Where the reader of an index stands, counted from the first byte that was not dropped, if it is live.
+/// Where the reader of an index stands, counted from the first byte that was not dropped, if it is live.
 #[derive(Clone, Copy, Debug, PartialEq, Eq)]
 pub struct Slot {
     pub generation: u32,
     pub place: Option<usize>,
 }
 
-// The place of a reader, if it is live.
+/// The place of a reader, if it is live.
 pub fn place_of(slots: &[Slot], reader: ReaderId) -> Option<usize>
     ensures { result ≡ place_in slots.now reader }
 {
@@ -73,7 +73,7 @@ fn lower(slots: &mut [Slot], by: usize)
     }
 }
 
-// Moves a reader by `n` bytes, and counts every place from the least one. Answers how many bytes lie before that.
+/// Moves a reader by `n` bytes, and counts every place from the least one. Answers how many bytes lie before that.
 pub fn move_on(slots: &mut [Slot], reader: ReaderId, n: usize, most: usize) -> usize
     requires reader { IsSomeAnd (place_in slots.old reader) (λ p. p + n ≤ most) }
     requires within { StandsWithin most slots.old }

@@ -10,7 +10,7 @@ use ts_link::NoMemory;
 // How many bytes of room are lent at once.
 const ROOM: usize = 32_768;
 
-// The bytes from `start` to `filled`.
+/// The bytes from `start` to `filled`.
 pub fn bytes_between(store: &[u8], start: usize, filled: usize) -> &[u8]
     requires order { start ≤ filled }
     requires within { filled ≤ length store.now }
@@ -34,7 +34,7 @@ fn reserve_behind(store: &mut Vec<u8>, filled: usize, count: usize) -> Result<()
     Ok(())
 }
 
-// Puts bytes in the place of all that comes after the first `filled`.
+/// Puts bytes in the place of all that comes after the first `filled`.
 pub fn put(store: &mut Vec<u8>, filled: usize, bytes: &[u8]) -> Result<(), NoMemory>
     requires { filled ≤ vec_len store.old }
     ensures ok { OnOk result (store.new.items ≡ take filled store.old.items ++ bytes.now) }
@@ -72,7 +72,7 @@ fn append_parts(store: &mut Vec<u8>, parts: &[&[u8]])
     }
 }
 
-// Puts these parts, joined, in the place of all that comes after the first `filled`.
+/// Puts these parts, joined, in the place of all that comes after the first `filled`.
 pub fn put_parts(store: &mut Vec<u8>, filled: usize, parts: &[&[u8]]) -> Result<(), NoMemory>
     requires { filled ≤ vec_len store.old }
     ensures ok { OnOk result (store.new.items ≡ take filled store.old.items ++ flat_map (λ p. p.now) parts.now) }
@@ -97,8 +97,8 @@ fn cut_front(store: &mut Vec<u8>, n: usize)
     store.truncate(left);
 }
 
-// Moves the bytes to the store's front once at least as many as are moved were dropped before them, so that the
-// moves cost a constant for each byte that is dropped.
+/// Moves the bytes to the store's front once at least as many as are moved were dropped before them, so that the
+/// moves cost a constant for each byte that is dropped.
 pub fn compact(store: &mut Vec<u8>, start: &mut usize, filled: &mut usize)
     requires order { start.old ≤ filled.old }
     requires within { filled.old ≤ vec_len store.old }
@@ -108,6 +108,7 @@ pub fn compact(store: &mut Vec<u8>, start: &mut usize, filled: &mut usize)
     ensures spare { vec_len store.new - filled.new ≡ vec_len store.old - filled.old }
     ensures within { filled.new ≤ vec_len store.new }
     ensures count { filled.new - start.new ≡ filled.old - start.old }
+    ensures half { start.new + start.new ≤ vec_len store.new }
 {
     let dropped = *start;
     if store.len() - dropped > dropped {
@@ -118,26 +119,26 @@ pub fn compact(store: &mut Vec<u8>, start: &mut usize, filled: &mut usize)
     *filled -= dropped;
 }
 
-// Makes room behind the first `filled` bytes, if there is none.
+/// Tops the room behind the first `filled` bytes up to `ROOM`, or where memory lacks, leaves what there is.
 pub fn make_room(store: &mut Vec<u8>, filled: usize) -> Result<(), NoMemory>
     requires { filled ≤ vec_len store.old }
     ensures ok { OnOk result (filled + 1 ≤ vec_len store.new) }
     ensures front { take filled store.new.items ≡ take filled store.old.items }
-    ensures room { filled + 1 ≤ vec_len store.old → store.new.items ≡ store.old.items }
     ensures err { OnErr result (store.new.items ≡ store.old.items) }
     ensures none { OnErr result (vec_len store.new ≡ filled) }
 {
-    if store.len() > filled {
+    let most = filled.saturating_add(ROOM);
+    if store.len() >= most {
         return Ok(());
     }
-    let Some(most) = filled.checked_add(ROOM) else {
-        return Err(NoMemory);
-    };
-    store.resize(most, 0)?;
-    Ok(())
+    match store.resize(most, 0) {
+        Ok(()) => Ok(()),
+        Err(_) if store.len() > filled => Ok(()),
+        Err(_) => Err(NoMemory),
+    }
 }
 
-// The k-th block of these bytes, which stand in one block.
+/// The k-th block of these bytes, which stand in one block.
 pub fn block_at(bytes: &[u8], k: usize) -> Option<&[u8]>
     ensures { option_copied result ≡ slice_get (one_block bytes.now) k }
 {

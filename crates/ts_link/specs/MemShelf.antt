@@ -25,4 +25,5 @@ ReadsAt old new name most (Ok bytes) =
 ReadsAt old new name most (Err Failed) = fails_at new.calls old.failing ≡ false → file_in old.files name ≡ None
 ReadsAt old new name most (Err (TooLong seen)) =
     (fails_at new.calls old.failing ≡ false) × IsSomeAnd (file_in old.files name) (λ bytes. (seen ≡ length bytes) × (most < length bytes))
-ReadsAt old new name most (Err NoMemory) = fails_at new.calls old.failing ≡ false
+ReadsAt old new name most (Err NoMemory) =
+    (fails_at new.calls old.failing ≡ false) × IsSomeAnd (file_in old.files name) (λ bytes. length bytes ≤ most)

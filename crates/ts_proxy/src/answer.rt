@@ -5,7 +5,7 @@ ghost use Rattle.ts_proxy.specs.Answers.{answer_of};
 use ts_config::ConfigFault;
 use ts_link::{Octets, ShelfFault};
 
-// One of the files that a command reads.
+/// One of the files that a command reads.
 #[derive(Drop)]
 pub enum NamedFile {
     Config,
@@ -13,7 +13,7 @@ pub enum NamedFile {
     Appended(Octets),
 }
 
-// How a command ended.
+/// How a command ended.
 #[derive(Drop)]
 pub enum Answer {
     Done,
@@ -25,7 +25,7 @@ pub enum Answer {
     TooLong(NamedFile),
 }
 
-// The answer where the read of a file was refused.
+/// The answer where the read of a file was refused.
 pub fn refused(fault: ShelfFault, file: NamedFile) -> Answer
     ensures { result ≡ answer_of fault file }
 {

@@ -20,7 +20,7 @@ fn fresh_parts(alloc: Global, lines: &[TransformLine]) -> Result<Vec<Stock>, NoM
     Ok(parts)
 }
 
-// The chain of these lines, the first of which acts first.
+/// The chain of these lines, the first of which acts first.
 pub fn chain_of(alloc: Global, lines: &[TransformLine]) -> Result<Chain<Stock>, NoMemory>
     ensures given { IfOk result (λ c. c.given ≡ false) }
     ensures flow { IfOk result (λ c. (z : List ℕ) → flow still_writes c z ≡ compose_lines lines.now z) }

@@ -1,5 +1,5 @@
 // A body through a chain of transforms, and what comes out into a sink.
-ghost use Rattle.std.specs.Prelude.{◌≡◌, ℕ, ◌<◌, List, [], length, true, false};
+ghost use Rattle.std.specs.Prelude.{◌≡◌, ℕ, ◌<◌, ◌≤◌, List, [], length, true, false};
 ghost use Rattle.ts_link.specs.Counts.{Counted};
 ghost use Rattle.ts_transform.specs.Flow.{flow};
 ghost use Rattle.ts_proxy.specs.Driven.{WroteAll, Passes, Sends, is_failed, is_no_memory};
@@ -7,7 +7,7 @@ ghost use Rattle.ts_proxy.specs.Driven.{WroteAll, Passes, Sends, is_failed, is_n
 use ts_link::{Sink, Wrote};
 use ts_transform::{Chain, Transform};
 
-// How far a text or a chain got.
+/// How far a text or a chain got.
 #[derive(Clone, Copy, Debug, PartialEq, Eq)]
 pub enum Driven {
     Done,
@@ -15,10 +15,10 @@ pub enum Driven {
     NoMemory,
 }
 
-// The most bytes of a body that are given at once.
+// The most bytes of a body that wait before the first stage.
 const PIECE: usize = 32_768;
 
-// Writes a text to its end, if nothing fails.
+/// Writes a text to its end, if nothing fails.
 pub fn write_all<K: Sink>(out: &mut K, text: &[u8]) -> Driven
     ensures told { K.tells ≡ true → WroteAll result (K.taken out.old) (K.taken out.new) text.now }
     ensures faults { Counted (is_failed result) (K.faults out.old) (K.faults out.new) }
@@ -53,7 +53,7 @@ fn write_waiting<P: Transform + Drop, K: Sink>(chain: &mut Chain<P>, out: &mut K
 }
 
 // Lets each stage work once, and writes what comes out.
-fn turn<P: Transform + Drop, K: Sink>(chain: &mut Chain<P>, out: &mut K) -> Driven
+fn round<P: Transform + Drop, K: Sink>(chain: &mut Chain<P>, out: &mut K) -> Driven
     ensures told { K.tells ≡ true → Passes chain.old.given (K.taken out.old) (K.taken out.new) (flow P.rest chain.old) (flow P.rest chain.new) }
     ensures faults { Counted (is_failed result) (K.faults out.old) (K.faults out.new) }
     ensures given { chain.new.given ≡ chain.old.given }
@@ -67,6 +67,13 @@ fn turn<P: Transform + Drop, K: Sink>(chain: &mut Chain<P>, out: &mut K) -> Driv
     write_waiting(chain, out)
 }
 
+// How many bytes more may wait before the first stage, and one at least.
+fn next_piece<P: Transform + Drop>(chain: &Chain<P>) -> usize
+    ensures { 1 ≤ result }
+{
+    PIECE.saturating_sub(chain.waiting(0)).max(1)
+}
+
 // Sends a body into a chain, piece by piece, and writes what comes out.
 fn send<P: Transform + Drop, K: Sink>(chain: &mut Chain<P>, body: &[u8], out: &mut K) -> Driven
     requires { chain.old.given ≡ false }
@@ -76,11 +83,11 @@ fn send<P: Transform + Drop, K: Sink>(chain: &mut Chain<P>, body: &[u8], out: &m
 {
     let mut left = body;
     while !left.is_empty() {
-        let (piece, rest) = left.split_at(left.len().min(PIECE));
+        let (piece, rest) = left.split_at(left.len().min(next_piece(chain)));
         let Ok(()) = chain.give(piece) else {
             return Driven::NoMemory;
         };
-        match turn(chain, out) {
+        match round(chain, out) {
             Driven::Done => left = rest,
             Driven::Failed => return Driven::Failed,
             Driven::NoMemory => return Driven::NoMemory,
@@ -96,7 +103,7 @@ fn finish<P: Transform + Drop, K: Sink>(chain: &mut Chain<P>, out: &mut K) -> Dr
     ensures faults { Counted (is_failed result) (K.faults out.old) (K.faults out.new) }
 {
     for _ in 0..u64::MAX {
-        match turn(chain, out) {
+        match round(chain, out) {
             Driven::Done => {}
             Driven::Failed => return Driven::Failed,
             Driven::NoMemory => return Driven::NoMemory,
@@ -108,7 +115,7 @@ fn finish<P: Transform + Drop, K: Sink>(chain: &mut Chain<P>, out: &mut K) -> Dr
     Driven::NoMemory
 }
 
-// Sends a body through a chain that got nothing yet, and writes all that comes out.
+/// Sends a body through a chain that got nothing yet, and writes all that comes out.
 pub fn drive<P: Transform + Drop, K: Sink>(chain: &mut Chain<P>, body: &[u8], out: &mut K) -> Driven
     requires { chain.old.given ≡ false }
     ensures told { K.tells ≡ true → WroteAll result (K.taken out.old) (K.taken out.new) (flow P.rest chain.old body.now) }

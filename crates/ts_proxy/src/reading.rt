@@ -92,7 +92,7 @@ fn fill_lines<S: Shelf>(
     Ok(found)
 }
 
-// The lines of a configuration, with the texts of the files that they name.
+/// The lines of a configuration, with the texts of the files that they name.
 pub fn read_setup<S: Shelf>(
     alloc: Global,
     shelf: &mut S,

@@ -72,7 +72,7 @@ fn name<'a>(config: &'a str, body: &'a str, file: &'a NamedFile) -> &'a [u8]
     }
 }
 
-// Tells the line of an answer.
+/// Tells the line of an answer.
 pub fn say<E: Sink>(err: &mut E, answer: &Answer, config: &str, body: &str)
     ensures { E.tells ≡ true → LineTold (E.taken err.old) (E.taken err.new) (line_of config.now body.now answer.now)
         (E.faults err.old) (E.faults err.new) (E.lacks err.old) (E.lacks err.new) }

@@ -11,7 +11,7 @@ use ts_link::{Shelf, Sink};
 
 const MOST_BODY: u64 = 67_108_864;
 
-// Writes a body through the lines of a configuration.
+/// Writes a body through the lines of a configuration.
 pub fn transform<S: Shelf, K: Sink>(
     alloc: Global,
     config: &str,

@@ -10,7 +10,7 @@ use std::alloc::Global;
 use ts_config::TransformLine;
 use ts_link::Sink;
 
-// Writes a body through the lines, the first of which acts first.
+/// Writes a body through the lines, the first of which acts first.
 pub fn send_body<K: Sink>(
     alloc: Global,
     lines: &[TransformLine],

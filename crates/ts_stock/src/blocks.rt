@@ -37,7 +37,7 @@ fn drop_into(room: &mut [u8], input: &[u8], byte: u8) -> (usize, usize)
     (count, filled)
 }
 
-// Writes a front of the input with each byte `from` replaced by `to`, and answers how long that front is.
+/// Writes a front of the input with each byte `from` replaced by `to`, and answers how long that front is.
 pub fn write_mapped(from: u8, to: u8, input: &[u8], out: &mut IoBuffer) -> Result<usize, NoMemory>
     requires { 0 < length input.now }
     ensures count { IfOk result (λ n. (1 ≤ n) × (n ≤ length input.now)) }
@@ -53,7 +53,7 @@ pub fn write_mapped(from: u8, to: u8, input: &[u8], out: &mut IoBuffer) -> Resul
     Ok(count)
 }
 
-// Writes a front of the input without a byte, and answers how long that front is.
+/// Writes a front of the input without a byte, and answers how long that front is.
 pub fn write_without(byte: u8, input: &[u8], out: &mut IoBuffer) -> Result<usize, NoMemory>
     requires { 0 < length input.now }
     ensures count { IfOk result (λ n. (1 ≤ n) × (n ≤ length input.now)) }

@@ -4,7 +4,7 @@ use std::alloc::Global;
 use std::marker::Model;
 use ts_link::NoMemory;
 
-// Bytes that are held back until the end.
+/// Bytes that are held back until the end.
 #[derive(Drop)]
 pub struct Held {
     bytes: Vec<u8>,
@@ -19,6 +19,7 @@ impl Model for Held {
 }
 
 impl Held {
+    /// No bytes.
     pub fn new(alloc: Global) -> Held
         ensures { result ≡ [] }
     {
@@ -27,7 +28,7 @@ impl Held {
         }
     }
 
-    // Adds bytes behind those that are held.
+    /// Adds bytes behind those that are held.
     pub fn add(&mut self, bytes: &[u8]) -> Result<(), NoMemory>
         ensures ok { OnOk result (self.new ≡ self.old ++ bytes.now) }
         ensures err { OnErr result (self.new ≡ self.old) }
@@ -36,6 +37,7 @@ impl Held {
         Ok(())
     }
 
+    /// The bytes that are held.
     pub fn bytes(&self) -> &[u8]
         ensures { result.now ≡ self.now }
     {

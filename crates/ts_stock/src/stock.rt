@@ -13,7 +13,7 @@ use ts_iobuf::IoBuffer;
 use ts_link::{NoMemory, Octets};
 use ts_transform::Transform;
 
-// The states of the transforms.
+/// The states of the transforms.
 #[derive(Drop)]
 pub enum State {
     // Passes bytes on.

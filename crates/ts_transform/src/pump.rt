@@ -19,7 +19,7 @@ pub enum Pumped {
     Idle,
 }
 
-// A transform, whether it has ended, and the bytes that wait after it.
+/// A transform, whether it has ended, and the bytes that wait after it.
 #[derive(Drop)]
 pub struct Stage<P> {
     pub part: P,
@@ -55,7 +55,7 @@ fn end_into<P: Transform>(part: &mut P, after: &mut Waiting) -> Result<(), NoMem
     part.end(&mut after.buffer)
 }
 
-// Runs one stage on what waits before it. `up_ended` says that nothing more comes there.
+/// Runs one stage on what waits before it. `up_ended` says that nothing more comes there.
 pub fn pump_stage<P: Transform + Drop>(
     up_ended: bool,
     from: &mut Waiting,
@@ -93,7 +93,7 @@ pub fn pump_stage<P: Transform + Drop>(
     Ok(Pumped::Moved(taken))
 }
 
-// Runs the stage at a place of these, on what waits before them.
+/// Runs the stage at a place of these, on what waits before them.
 pub fn pump_at<P: Transform + Drop>(
     up_ended: bool,
     from: &mut Waiting,

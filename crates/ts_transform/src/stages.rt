@@ -8,7 +8,7 @@ use std::alloc::Global;
 use ts_iobuf::Waiting;
 use ts_link::NoMemory;
 
-// A stage for each part, that got nothing yet.
+/// A stage for each part, that got nothing yet.
 pub fn fresh_stages<P: Drop>(alloc: Global, parts: Vec<P>) -> Result<Vec<Stage<P>>, NoMemory>
     ensures { IfOk result (λ stages. stages.items ≡ map fresh_stage parts.items) }
 {
@@ -24,7 +24,7 @@ pub fn fresh_stages<P: Drop>(alloc: Global, parts: Vec<P>) -> Result<Vec<Stage<P
     Ok(stages)
 }
 
-// How many bytes wait at a boundary.
+/// How many bytes wait at a boundary.
 pub fn waiting_at<P>(first: &Waiting, stages: &[Stage<P>], boundary: usize) -> usize
     requires { boundary ≤ length stages.now }
     ensures { result ≡ length (wait_at first.now stages.now boundary) }
@@ -36,7 +36,7 @@ pub fn waiting_at<P>(first: &Waiting, stages: &[Stage<P>], boundary: usize) -> u
     }
 }
 
-// The first of the bytes that wait at the last boundary.
+/// The first of the bytes that wait at the last boundary.
 pub fn last_block<'a, P>(first: &'a Waiting, stages: &'a [Stage<P>]) -> Option<&'a [u8]>
     ensures { MatchOption result (last_wait first.now stages.now ≡ []) (λ b. (0 < length b.now)
         × (length b.now ≤ length (last_wait first.now stages.now))
@@ -48,7 +48,7 @@ pub fn last_block<'a, P>(first: &'a Waiting, stages: &'a [Stage<P>]) -> Option<&
     }
 }
 
-// Whether nothing more comes to the last boundary.
+/// Whether nothing more comes to the last boundary.
 pub fn has_ended<P>(given: bool, stages: &[Stage<P>]) -> bool
     ensures { result ≡ last_ended given stages.now }
 {
@@ -58,7 +58,7 @@ pub fn has_ended<P>(given: bool, stages: &[Stage<P>]) -> bool
     }
 }
 
-// Takes bytes away from the last boundary.
+/// Takes bytes away from the last boundary.
 pub fn take_last<P: Transform>(first: &mut Waiting, stages: &mut [Stage<P>], n: usize)
     requires { n ≤ length (last_wait first.old stages.old) }
     ensures flow { (x : List ℕ) → flow_from P.rest stages.old (first.old ++ x)

@@ -50,6 +50,15 @@ impl Fields {
         }
     }
 
+    /// No fields, with room for this many.
+    pub(crate) fn with_room(alloc: Global, count: usize) -> Result<Fields, NoMemory>
+        ensures { IfOk result (λ fields. fields ≡ []) }
+    {
+        Ok(Fields {
+            list: Vec::with_capacity(alloc, count)?,
+        })
+    }
+
     /// The fields.
     pub fn items(&self) -> &[Field]
         ensures { result.now ≡ self.now }

@@ -13,6 +13,9 @@ use crate::values::is_named;
 use std::alloc::Global;
 use ts_link::{NoMemory, Octets};
 
+// The room that a head is given first, in bytes; most heads fit.
+const HEAD_ROOM: usize = 512;
+
 /// What the head that the client gets says of the end of the body.
 #[derive(Clone, Copy, Debug, PartialEq, Eq)]
 pub enum ClientFraming {
@@ -121,7 +124,7 @@ pub fn client_head(
     ensures { IfOk result (λ text. text ≡ client_text status reason.now fields.now via framing) }
 {
     let digits = status_digits(status);
-    let mut out = Vec::new(alloc);
+    let mut out = Vec::with_capacity(alloc, HEAD_ROOM)?;
     add(&mut out, b"HTTP/1.1 ")?;
     add(&mut out, &digits)?;
     add(&mut out, b" ")?;
@@ -200,7 +203,7 @@ pub fn origin_head(
         (is_absolute head.now.target) head.now.minor target.now host.now fields.now) }
 {
     let absolute = is_absolute(head.target.bytes());
-    let mut out = Vec::new(alloc);
+    let mut out = Vec::with_capacity(alloc, HEAD_ROOM)?;
     add(&mut out, head.method.bytes())?;
     add(&mut out, b" ")?;
     add(&mut out, target)?;

@@ -40,6 +40,9 @@ fn name_at(alloc: Global, text: &Bytes, span: Span) -> Result<HeaderName, NoMemo
     requires name { IsFieldName (span_bytes text.now span) }
     ensures { IfOk result (λ n. n ≡ lowercase (span_bytes text.now span)) }
 {
+    if let Some(name) = HeaderName::standard(span.of(text.as_slice())) {
+        return Ok(name);
+    }
     match HeaderName::from_shared(alloc, text.slice(span.start..span.end)?) {
         Ok(name) => Ok(name),
         Err(error) => match error {
@@ -75,7 +78,7 @@ fn fields_at(alloc: Global, text: &[u8], headers: &[HeaderSpan]) -> Result<Field
     ensures { IfOk result (λ fields. fields ≡ map (span_field text.now) headers.now) }
 {
     let text = Bytes::copy_from_slice(alloc, text)?;
-    let mut fields = Fields::new(alloc);
+    let mut fields = Fields::with_room(alloc, headers.len())?;
     for header in headers {
         fields.push(field_at(alloc, &text, *header)?)?;
     }

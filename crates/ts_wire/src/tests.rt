@@ -13,7 +13,8 @@ use std::test::Fail;
 use ts_iobuf::IoBuffer;
 use ts_link::NoMemory;
 
-/// What is read and checked at the front of the bytes: the target, a blank and the host; a status; or why there is none.
+/// What is read and checked at the front of the bytes: the target, a blank and the host; a status; or why there
+/// is none.
 fn checked(alloc: Global, bytes: &[u8]) -> Result<Vec<u8>, NoMemory> {
     let head = match read_request(alloc, bytes)? {
         Read::Head { head, used: _ } => head,

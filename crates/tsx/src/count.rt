@@ -1,7 +1,7 @@
 // The counts of an adapter.
 ghost use Rattle.ts_link.specs.Counts.{Rose};
 
-// One more, or the greatest `u64`.
+/// One more, or the greatest `u64`.
 pub fn raised(count: u64) -> u64
     ensures { Rose count result }
 {

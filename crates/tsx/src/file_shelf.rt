@@ -10,7 +10,7 @@ use std::io::{ErrorKind, Read};
 use std::rt::Files;
 use ts_link::{Octets, Shelf, ShelfFault};
 
-// It tells nothing of its files.
+/// It tells nothing of its files.
 #[derive(Drop)]
 pub struct FileShelf<'a, R> {
     rt: &'a R,
@@ -19,7 +19,11 @@ pub struct FileShelf<'a, R> {
 }
 
 impl<'a, R: Files> FileShelf<'a, R> {
-    pub fn new(rt: &'a R) -> FileShelf<'a, R> {
+    /// A shelf over this system's files, with counts of zero.
+    pub fn new(rt: &'a R) -> FileShelf<'a, R>
+        ensures faults { result.faults ≡ 0 }
+        ensures longs { result.longs ≡ 0 }
+    {
         FileShelf {
             rt,
             faults: 0,

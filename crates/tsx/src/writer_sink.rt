@@ -1,11 +1,11 @@
 // A sink over a writer, as standard output is.
-ghost use Rattle.std.specs.Prelude.{◌≤◌, ◌<◌, [], length, false, IfSome};
+ghost use Rattle.std.specs.Prelude.{◌≡◌, ◌≤◌, ◌<◌, [], length, false, IfSome};
 
 use crate::count::raised;
 use std::io::{ErrorKind, Write};
 use ts_link::{Sink, Wrote};
 
-// It tells nothing of what it took.
+/// It tells nothing of what it took.
 #[derive(Drop)]
 pub struct WriterSink<W> {
     writer: W,
@@ -14,7 +14,11 @@ pub struct WriterSink<W> {
 }
 
 impl<W: Write + Drop> WriterSink<W> {
-    pub fn new(writer: W) -> WriterSink<W> {
+    /// A sink over the writer, with counts of zero.
+    pub fn new(writer: W) -> WriterSink<W>
+        ensures faults { result.faults ≡ 0 }
+        ensures lacks { result.lacks ≡ 0 }
+    {
         WriterSink {
             writer,
             faults: 0,

@@ -1,7 +1,7 @@
 use Rattle.std.proofs.Common.{◌≡◌, ℕ, List, [], length}
 use Rattle.std.specs.Bool.{OnTrue}
 use Rattle.ts_transform.specs.Flow.{flow}
-use Rattle.ts_proxy.proofs.drive.turn.Given as goal
+use Rattle.ts_proxy.proofs.drive.round.Given as goal
 
 -- the stages that worked kept the flow
 abbrev pub invariant-loop-stage : goal.invariant-loop-stage
