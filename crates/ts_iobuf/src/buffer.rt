@@ -8,7 +8,7 @@ use crate::readers::{ReaderId, Slot, move_on, place_of};
 use crate::store::{block_at, bytes_between, compact, put, put_parts};
 use std::alloc::Global;
 use std::marker::Model;
-use ts_link::NoMemory;
+use ts_link::{NoMemory, Octets};
 
 /// Bytes that are written at the end and read by any number of readers, each at a place of its own. What no
 /// reader stands before is dropped. (The Developer's Guide, "IO Buffers".)
@@ -36,7 +36,7 @@ impl Model for IoBuffer {
 }
 
 impl IoBuffer {
-    ghost use Rattle.ts_iobuf.specs.Buffer.{Grows, is_reader, readable, blocks_of};
+    ghost use Rattle.ts_iobuf.specs.Buffer.{Grows, one_block, is_reader, readable, blocks_of};
     ghost use Rattle.ts_iobuf.specs.Places.{place_in, moved, least_place, lowered};
 
     /// An empty buffer with no readers and the water mark 0.
@@ -47,6 +47,22 @@ impl IoBuffer {
             store: Vec::new(alloc),
             start: 0,
             filled: 0,
+            room: 0,
+            slots: Vec::new(alloc),
+            mark: 0,
+        })
+    }
+
+    /// A buffer of these bytes, which are taken over without a copy, with no readers and the water mark 0.
+    pub fn of_octets(alloc: Global, bytes: Octets) -> Result<IoBuffer, NoMemory>
+        ensures { IfOk result (λ b. b ≡ record { bytes = bytes; readers = []; room = []; blocks = one_block bytes; mark = 0 }) }
+    {
+        let store = bytes.into_vec();
+        let filled = store.len();
+        Ok(IoBuffer {
+            store,
+            start: 0,
+            filled,
             room: 0,
             slots: Vec::new(alloc),
             mark: 0,

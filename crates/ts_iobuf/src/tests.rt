@@ -4,6 +4,7 @@ ghost use Rattle.ts_iobuf.specs.Buffer.{is_reader};
 
 use crate::{IoBuffer, ReaderId, Waiting};
 use std::test::Fail;
+use ts_link::Octets;
 
 // What a reader can read, block by block, in one piece.
 fn readable(rt: &impl AllocGlobal, buffer: &IoBuffer, reader: ReaderId) -> Result<Vec<u8>, Fail>
@@ -60,6 +61,17 @@ fn a_reader_is_ready_at_the_water_mark(rt: HostRuntime) -> Result<(), Fail> {
         generation: 9,
     };
     assert!(rt; !buffer.is_reader(stranger));
+    Ok(())
+}
+
+#[test]
+fn a_body_is_taken_over(rt: HostRuntime) -> Result<(), Fail> {
+    let mut buffer = IoBuffer::of_octets(rt.alloc(), Octets::copy_of(rt.alloc(), b"body")?)?;
+    let r = buffer.reader()?;
+    buffer.write(b"!")?;
+    assert_eq!(rt; readable(&rt, &buffer, r)?.as_slice(), b"body!".as_slice());
+    let waiting = Waiting::of_octets(rt.alloc(), Octets::copy_of(rt.alloc(), b"body")?)?;
+    assert_eq!(rt; waiting.block(), Some(b"body".as_slice()));
     Ok(())
 }
 

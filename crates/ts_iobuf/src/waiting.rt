@@ -5,7 +5,7 @@ use crate::buffer::IoBuffer;
 use crate::readers::ReaderId;
 use std::alloc::Global;
 use std::marker::Model;
-use ts_link::NoMemory;
+use ts_link::{NoMemory, Octets};
 
 /// Bytes that wait for one reader, in the order in which they came. Contracts see the list of them. Whoever fills
 /// the buffer in place, as a transform does, borrows it; that the reader is the buffer's stays true whatever is
@@ -36,6 +36,15 @@ impl Waiting {
         ensures { IfOk result (λ w. w ≡ []) }
     {
         let mut buffer = IoBuffer::new(alloc)?;
+        let reader = buffer.reader()?;
+        Ok(Waiting { buffer, reader })
+    }
+
+    /// These bytes, which are taken over without a copy.
+    pub fn of_octets(alloc: Global, bytes: Octets) -> Result<Waiting, NoMemory>
+        ensures { IfOk result (λ w. w ≡ bytes) }
+    {
+        let mut buffer = IoBuffer::of_octets(alloc, bytes)?;
         let reader = buffer.reader()?;
         Ok(Waiting { buffer, reader })
     }

@@ -47,6 +47,14 @@ impl Octets {
         Octets { held: bytes }
     }
 
+    /// The `Vec` of the bytes, without a copy.
+    pub fn into_vec(self) -> Vec<u8>
+        ensures { result.items ≡ self }
+    {
+        let Octets { held } = self;
+        held
+    }
+
     /// The bytes.
     pub fn bytes(&self) -> &[u8]
         ensures { result.now ≡ self.now }

@@ -1,5 +1,5 @@
 // Each public call with ample memory: what a sink and a shelf in memory take, give and refuse.
-use crate::{MemShelf, MemSink, NoMemory, Octets, Shelf, ShelfFault, Sink, Wrote};
+use crate::{MemShelf, MemSink, Octets, Shelf, ShelfFault, Sink, Wrote};
 use std::test::Fail;
 
 #[test]
@@ -8,6 +8,7 @@ fn octets_hold_what_they_were_made_of(rt: HostRuntime) -> Result<(), Fail> {
     assert_eq!(rt; copy.bytes(), b"abc".as_slice());
     let taken_over = Octets::of_vec(Vec::from_slice(rt.alloc(), b"xy")?);
     assert_eq!(rt; taken_over.bytes(), b"xy".as_slice());
+    assert_eq!(rt; taken_over.into_vec().as_slice(), b"xy".as_slice());
     Ok(())
 }
 
@@ -52,9 +53,4 @@ fn a_shelf_gives_the_first_file_of_a_name(rt: HostRuntime) -> Result<(), Fail> {
         assert_eq!(rt; told(&answer), (bytes, number), "{name} within {most}");
     }
     Ok(())
-}
-
-#[test]
-fn want_of_memory_is_one_value(rt: HostRuntime) {
-    assert_eq!(rt; NoMemory, NoMemory);
 }
