@@ -5,7 +5,7 @@ ghost use Rattle.std.specs.Option.{option_copied};
 mod space;
 
 use crate::readers::{ReaderId, Slot, move_on, place_of};
-use crate::store::{block_at, bytes_between, compact, put, put_parts};
+use crate::store::{block_at, bytes_between, compact, put, put_parts, rewind};
 use std::alloc::Global;
 use std::marker::Model;
 use ts_link::{NoMemory, Octets};
@@ -124,8 +124,19 @@ impl IoBuffer {
         }
     }
 
-    /// Adds these bytes behind the others.
-    pub fn write(&mut self, bytes: &[u8]) -> Result<(), NoMemory>
+    // Drops what was consumed from the store, where enough of it was.
+    pub(crate) fn tidy(&mut self)
+        ensures { self.new ≡ self.old }
+    {
+        compact(
+            &mut self.store,
+            &mut self.start,
+            &mut self.filled,
+            self.room,
+        );
+    }
+
+    fn add(&mut self, bytes: &[u8]) -> Result<(), NoMemory>
         ensures grows { OnOk result (Grows self.old self.new bytes.now) }
         ensures room { OnOk result (self.new.room ≡ []) }
         ensures err { OnErr result (self.new ≡ self.old) }
@@ -136,8 +147,7 @@ impl IoBuffer {
         Ok(())
     }
 
-    /// Adds these parts, one behind the other, behind the bytes: all of them, or none for want of memory.
-    pub fn write_parts(&mut self, parts: &[&[u8]]) -> Result<(), NoMemory>
+    fn add_parts(&mut self, parts: &[&[u8]]) -> Result<(), NoMemory>
         ensures grows { OnOk result (Grows self.old self.new (flat_map (λ p. p.now) parts.now)) }
         ensures room { OnOk result (self.new.room ≡ []) }
         ensures err { OnErr result (self.new ≡ self.old) }
@@ -146,6 +156,26 @@ impl IoBuffer {
         self.filled = self.store.len();
         self.room = 0;
         Ok(())
+    }
+
+    /// Adds these bytes behind the others.
+    pub fn write(&mut self, bytes: &[u8]) -> Result<(), NoMemory>
+        ensures grows { OnOk result (Grows self.old self.new bytes.now) }
+        ensures room { OnOk result (self.new.room ≡ []) }
+        ensures err { OnErr result (self.new ≡ self.old) }
+    {
+        self.tidy();
+        self.add(bytes)
+    }
+
+    /// Adds these parts, one behind the other, behind the bytes: all of them, or none for want of memory.
+    pub fn write_parts(&mut self, parts: &[&[u8]]) -> Result<(), NoMemory>
+        ensures grows { OnOk result (Grows self.old self.new (flat_map (λ p. p.now) parts.now)) }
+        ensures room { OnOk result (self.new.room ≡ []) }
+        ensures err { OnErr result (self.new ≡ self.old) }
+    {
+        self.tidy();
+        self.add_parts(parts)
     }
 
     /// Adds the first `n` bytes of the room that was lent last, as they were left there.
@@ -190,7 +220,7 @@ impl IoBuffer {
     {
         let passed = move_on(&mut self.slots, reader, n, self.filled - self.start);
         self.start += passed;
-        compact(&mut self.store, &mut self.start, &mut self.filled);
+        rewind(&mut self.start, &mut self.filled, self.room);
     }
 
     /// How many bytes a reader is to have before it is `ready`.

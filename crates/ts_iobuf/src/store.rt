@@ -1,5 +1,5 @@
 // One vector as the store of a buffer's bytes.
-ghost use Rattle.std.specs.Prelude.{◌≡◌, ◌+◌, ◌-◌, ◌≤◌, ◌++◌, length, take, drop, flat_map, slice_get, OnOk, OnErr, IfSome};
+ghost use Rattle.std.specs.Prelude.{◌≡◌, List, ℕ, ◌+◌, ◌-◌, ◌≤◌, ◌++◌, length, take, drop, flat_map, slice_get, OnOk, OnErr, IfSome};
 ghost use Rattle.std.specs.Vec.{vec_len, vec_capacity};
 ghost use Rattle.std.specs.Option.{option_copied};
 ghost use Rattle.ts_iobuf.specs.Buffer.{one_block};
@@ -97,26 +97,42 @@ fn cut_front(store: &mut Vec<u8>, n: usize)
     store.truncate(left);
 }
 
-/// Moves the bytes to the store's front once at least as many as are moved were dropped before them, so that the
-/// moves cost a constant for each byte that is dropped.
-pub fn compact(store: &mut Vec<u8>, start: &mut usize, filled: &mut usize)
+/// Moves the bytes to the store's front where no room is lent and at least as many as are moved were dropped before them,
+/// so that the moves cost a constant for each byte that is dropped.
+pub fn compact(store: &mut Vec<u8>, start: &mut usize, filled: &mut usize, room: usize)
     requires order { start.old ≤ filled.old }
-    requires within { filled.old ≤ vec_len store.old }
+    requires within { filled.old + room ≤ vec_len store.old }
     ensures bytes { held start.new filled.new store.new.items ≡ held start.old filled.old store.old.items }
-    ensures room { drop filled.new store.new.items ≡ drop filled.old store.old.items }
+    ensures room { take room (drop filled.new store.new.items) ≡ take room (drop filled.old store.old.items) }
     ensures order { start.new ≤ filled.new }
-    ensures spare { vec_len store.new - filled.new ≡ vec_len store.old - filled.old }
-    ensures within { filled.new ≤ vec_len store.new }
+    ensures within { filled.new + room ≤ vec_len store.new }
     ensures count { filled.new - start.new ≡ filled.old - start.old }
-    ensures half { start.new + start.new ≤ vec_len store.new }
+    ensures half { room ≡ 0 → start.new + start.new ≤ filled.new }
 {
     let dropped = *start;
-    if store.len() - dropped > dropped {
+    if room > 0 || dropped == 0 || *filled - dropped > dropped {
         return;
     }
+    store.truncate(*filled);
     cut_front(store, dropped);
     *start = 0;
     *filled -= dropped;
+}
+
+/// Begins at the store's front again where nothing is held and no room is lent.
+pub fn rewind(start: &mut usize, filled: &mut usize, room: usize)
+    requires { start.old ≤ filled.old }
+    ensures bytes { (store : List ℕ) → held start.new filled.new store ≡ held start.old filled.old store }
+    ensures room { (store : List ℕ) → take room (drop filled.new store) ≡ take room (drop filled.old store) }
+    ensures order { start.new ≤ filled.new }
+    ensures less { filled.new ≤ filled.old }
+    ensures count { filled.new - start.new ≡ filled.old - start.old }
+    ensures front { start.old ≡ filled.old → room ≡ 0 → filled.new ≡ 0 }
+{
+    if room == 0 && *start == *filled {
+        *start = 0;
+        *filled = 0;
+    }
 }
 
 /// Tops the room behind the first `filled` bytes up to `ROOM`, or where memory lacks, leaves what there is.

@@ -8,8 +8,8 @@ use crate::store::make_room;
 use ts_link::NoMemory;
 
 impl IoBuffer {
-    // Makes room behind the bytes, if there is none.
-    fn make_space(&mut self) -> Result<(), NoMemory>
+    // Tops the room behind the bytes up.
+    fn top_up(&mut self) -> Result<(), NoMemory>
         ensures rest { self.new ≡ record self.old { room = self.new.room } }
         ensures ok { OnOk result (1 ≤ length self.new.room) }
         ensures none { OnErr result ((self.new.room ≡ []) × (self.old.room ≡ [])) }
@@ -17,6 +17,16 @@ impl IoBuffer {
         let made = make_room(&mut self.store, self.filled);
         self.room = self.store.len() - self.filled;
         made
+    }
+
+    // The same, once what was consumed has left the store.
+    fn make_space(&mut self) -> Result<(), NoMemory>
+        ensures rest { self.new ≡ record self.old { room = self.new.room } }
+        ensures ok { OnOk result (1 ≤ length self.new.room) }
+        ensures none { OnErr result ((self.new.room ≡ []) × (self.old.room ≡ [])) }
+    {
+        self.tidy();
+        self.top_up()
     }
 
     // The room behind the bytes.
