@@ -3,5 +3,5 @@ pub mod Ending
 pub mod Filling
 pub mod Opening
 pub mod Parts
-pub mod Passing
+pub mod Staying
 pub mod Words

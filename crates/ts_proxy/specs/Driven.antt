@@ -1,9 +1,15 @@
 -- How far a text got into a sink, and a body through a chain.
-use Rattle.std.specs.Prelude.{◌≡◌, ℕ, ◌++◌, List, [], Bool, true, false}
-use Rattle.std.specs.Bool.{OnTrue}
+use Rattle.std.specs.Prelude.{◌≡◌, ℕ, ◌+◌, ◌*◌, ◌≤◌, ◌++◌, List, [], ◌∷◌, Bool, true, false, Option, Some}
+use Rattle.ts_journal.specs.State.{State, pending_at}
+use Rattle.ts_journal.specs.Log.{Log}
 use Rattle.ts_proxy.specs.declared.drive.Driven.{Driven}
 use Rattle.ts_proxy.specs.declared.drive.Driven.TheVariants.{Done, Failed, NoMemory}
-use Rattle.ts_transform.specs.Flow.{flow, ChainState}
+use Rattle.ts_journal.specs.declared.entry.Pending.{Pending}
+use Rattle.ts_group.specs.declared.action.Named.{Named}
+use Rattle.ts_transform.specs.declared.continuation.StageContinuation.{StageContinuation}
+use Rattle.ts_transform.specs.Flow.{left_to_do, ChainState}
+use Rattle.ts_transform.specs.Cover.{IsSound, IsAwake}
+use Rattle.ts_proxy.specs.Journals.{IsFinal}
 use Rattle.ts_proxy.specs.Took.{TookFront}
 
 abbrev pub is_failed : Driven → Bool
@@ -16,28 +22,41 @@ is_no_memory Done = false
 is_no_memory Failed = false
 is_no_memory NoMemory = true
 
+-- what holds where all was done
+abbrev pub OnDone : Driven → Type 0 → Type 0
+OnDone Done P = P
+OnDone Failed P = Unit {0}
+OnDone NoMemory P = Unit {0}
+
 -- all of the text was taken, or a front of it
 abbrev pub WroteAll : Driven → List ℕ → List ℕ → List ℕ → Type 0
 WroteAll Done old new text = new ≡ old ++ text
 WroteAll Failed old new text = TookFront old new text
 WroteAll NoMemory old new text = TookFront old new text
 
--- what was taken grew, and that with what still comes is what was to come: for whatever still comes before the end
--- was given, and for nothing afterwards
-pub record Passes (only_end : Bool) (old new : List ℕ) (flow flow' : List ℕ → List ℕ) : Type 0 where
+-- what was taken grew, and that with what still comes is what was to come
+pub record Passes (old new flow flow' : List ℕ) : Type 0 where
   pub took : List ℕ
   pub grew : new ≡ old ++ took
-  pub front : (z : List ℕ) → OnTrue only_end (z ≡ []) → flow z ≡ took ++ flow' z
+  pub front : flow ≡ took ++ flow'
 
--- a body was given to a chain, but for what is left of it: what was taken grew, and that with what still comes is
--- what was to come
-pub record Sending {P : Type 0} (rest : P → List ℕ → List ℕ) (old new : List ℕ) (c c' : ChainState P) (body left : List ℕ) : Type 0 where
-  pub took : List ℕ
-  pub grew : new ≡ old ++ took
-  pub front : (z : List ℕ) → flow rest c (body ++ z) ≡ took ++ flow rest c' (left ++ z)
+-- a world of a chain that is sound stays so, if its last stage was woken where that was needed, and needs no waking then
+pub record StaysSound {P : Type 0} (c d : ChainState P) (ts us : List (Option StageContinuation)) (was now : Bool) : Type 0 where
+  pub sound : (pending : List Pending) (roles : List Named) → (was ≡ true → IsAwake c ts) → IsSound c ts was pending roles → IsSound d us now pending roles
+  pub awake : (was ≡ true → IsAwake c ts) → now ≡ true → IsAwake d us
 
--- all of a body was given, or a front of what was to come of it was taken
-abbrev pub Sends : {P : Type 0} → (P → List ℕ → List ℕ) → Driven → List ℕ → List ℕ → ChainState P → ChainState P → List ℕ → Type 0
-Sends rest Done old new c c' body = Sending rest old new c c' body []
-Sends rest Failed old new c c' body = TookFront old new (flow rest c body)
-Sends rest NoMemory old new c c' body = TookFront old new (flow rest c body)
+-- what a world of a chain has left to do, but for its pending events
+abbrev pub left_of : {P : Type 0} → (P → List ℕ → List ℕ) → ChainState P → ℕ → ℕ
+left_of rest c unharmed = 100 * (left_to_do rest c [] + unharmed)
+
+-- the event of a number is pending, and due at a moment
+pub record IsDue (s : State) (number moment : ℕ) : Type 0 where
+  pub event : Pending
+  pub there : pending_at number s.pending ≡ Some event
+  pub due : event.due ≤ moment
+
+-- where all was done a final journal was added, and else none
+abbrev pub AddsJournal : Driven → List Log → List Log → Type 0
+AddsJournal Done old new = (j : Log) × (new ≡ old ++ j ∷ []) × IsFinal j
+AddsJournal Failed old new = new ≡ old
+AddsJournal NoMemory old new = new ≡ old

@@ -1,11 +1,18 @@
-// A body through a chain of transforms, and what comes out into a sink.
-ghost use Rattle.std.specs.Prelude.{◌≡◌, ℕ, ◌<◌, ◌≤◌, List, [], length, true, false};
+// A body through a chain of transforms, driven by events, and what comes out into a sink.
+ghost use Rattle.std.specs.Prelude.{◌≡◌, ◌+◌, ◌<◌, ◌≤◌, List, [], ◌∷◌, ◌++◌, length, Some, true, false, OnOk, OnErr, nat_lt, if◌then◌else◌};
 ghost use Rattle.ts_link.specs.Counts.{Counted};
-ghost use Rattle.ts_transform.specs.Flow.{flow};
-ghost use Rattle.ts_proxy.specs.Driven.{WroteAll, Passes, Sends, is_failed, is_no_memory};
+ghost use Rattle.ts_journal.specs.declared.entry.Pending.{Pending};
+ghost use Rattle.ts_group.specs.declared.action.Named.{Named};
+ghost use Rattle.ts_group.specs.Context.{AllPlain};
+ghost use Rattle.ts_transform.specs.Flow.{flow, last_wait};
+ghost use Rattle.ts_transform.specs.Cover.{IsSound, IsAwake};
+ghost use Rattle.ts_proxy.specs.Driven.{WroteAll, Passes, OnDone, AddsJournal, StaysSound, IsDue, is_failed, is_no_memory, left_of};
 
-use ts_link::{Sink, Wrote};
-use ts_transform::{Chain, Transform};
+use std::alloc::Global;
+use ts_group::{Group, Handling};
+use ts_journal::Journal;
+use ts_link::{NoMemory, Sink, Wrote};
+use ts_transform::{ChainWorld, Transform};
 
 /// How far a text or a chain got.
 #[derive(Clone, Copy, Debug, PartialEq, Eq)]
@@ -15,8 +22,8 @@ pub enum Driven {
     NoMemory,
 }
 
-// The most bytes of a body that wait before the first stage.
-const PIECE: usize = 32_768;
+// The seat of whoever drives a group that nobody else owns.
+const SEAT: u64 = 0;
 
 /// Writes a text to its end, if nothing fails.
 pub fn write_all<K: Sink>(out: &mut K, text: &[u8]) -> Driven
@@ -36,15 +43,17 @@ pub fn write_all<K: Sink>(out: &mut K, text: &[u8]) -> Driven
 }
 
 // Writes what waits for the client.
-fn write_waiting<P: Transform + Drop, K: Sink>(chain: &mut Chain<P>, out: &mut K) -> Driven
-    ensures told { K.tells ≡ true → Passes false (K.taken out.old) (K.taken out.new) (flow P.rest chain.old) (flow P.rest chain.new) }
+fn drain<P: Transform + Drop, K: Sink>(world: &mut ChainWorld<P>, out: &mut K) -> Driven
+    ensures told { K.tells ≡ true → Passes (K.taken out.old) (K.taken out.new) (flow P.rest world.old.chain []) (flow P.rest world.new.chain []) }
     ensures faults { Counted (is_failed result) (K.faults out.old) (K.faults out.new) }
-    ensures given { chain.new.given ≡ chain.old.given }
-    ensures len { length chain.new.stages ≡ length chain.old.stages }
+    ensures dry { OnDone result (last_wait world.new.chain.first world.new.chain.stages ≡ []) }
+    ensures falls { left_of P.rest world.new.chain world.new.unharmed + length (last_wait world.old.chain.first world.old.chain.stages)
+        ≤ left_of P.rest world.old.chain world.old.unharmed + length (last_wait world.new.chain.first world.new.chain.stages) }
+    ensures stays { StaysSound world.old.chain world.new.chain world.old.table.items world.new.table.items world.old.running world.new.running }
 {
-    while let Some(block) = chain.out_block() {
+    while let Some(block) = world.chain().out_block() {
         match out.write(block) {
-            Wrote::Took(count) => chain.take(count),
+            Wrote::Took(count) => world.take(count),
             Wrote::Failed => return Driven::Failed,
             Wrote::NoMemory => return Driven::NoMemory,
         }
@@ -52,80 +61,168 @@ fn write_waiting<P: Transform + Drop, K: Sink>(chain: &mut Chain<P>, out: &mut K
     Driven::Done
 }
 
-// Lets each stage work once, and writes what comes out.
-fn round<P: Transform + Drop, K: Sink>(chain: &mut Chain<P>, out: &mut K) -> Driven
-    ensures told { K.tells ≡ true → Passes chain.old.given (K.taken out.old) (K.taken out.new) (flow P.rest chain.old) (flow P.rest chain.new) }
-    ensures faults { Counted (is_failed result) (K.faults out.old) (K.faults out.new) }
-    ensures given { chain.new.given ≡ chain.old.given }
-    ensures len { length chain.new.stages ≡ length chain.old.stages }
+// Handles the event of a number, which is due, in a turn, and sees that the last stage goes on once bytes were taken.
+fn handle<P: Transform + Drop>(
+    group: &mut Group<ChainWorld<P>>,
+    number: u64,
+    moment: u64,
+) -> Result<(), NoMemory>
+    requires turn { group.old.cx.log.state.held ≡ true }
+    requires sound { IsSound group.old.world.chain group.old.world.table.items group.old.world.running group.old.cx.log.state.pending group.old.cx.roles }
+    requires due { IsDue group.old.cx.log.state number moment }
+    ensures turn { group.new.cx.log.state.held ≡ true }
+    ensures turns { group.new.cx.log.state.turns ≡ group.old.cx.log.state.turns }
+    ensures flow { flow P.rest group.new.world.chain [] ≡ flow P.rest group.old.world.chain [] }
+    ensures sound { OnOk result (IsSound group.new.world.chain group.new.world.table.items group.new.world.running group.new.cx.log.state.pending group.new.cx.roles) }
+    ensures awake { OnOk result (group.new.world.running ≡ true → IsAwake group.new.world.chain group.new.world.table.items) }
+    ensures falls { OnOk result (left_of P.rest group.new.world.chain group.new.world.unharmed + length group.new.cx.log.state.pending
+        < left_of P.rest group.old.world.chain group.old.world.unharmed + length group.old.cx.log.state.pending
+        + (if nat_lt 0 (length (last_wait group.new.world.chain.first group.new.world.chain.stages)) then 1 else 0)) }
 {
-    for stage in 0..chain.stages() {
-        if chain.pump(stage).is_err() {
-            return Driven::NoMemory;
-        }
+    match group.handle(number, moment) {
+        Ok(Handling::Handled { events: _ }) => match ChainWorld::wake(group) {
+            Ok(()) => Ok(()),
+            Err(_) => Err(NoMemory),
+        },
+        Ok(_) => unreachable!(),
+        Err(_) => Err(NoMemory),
     }
-    write_waiting(chain, out)
 }
 
-// How many bytes more may wait before the first stage, and one at least.
-fn next_piece<P: Transform + Drop>(chain: &Chain<P>) -> usize
-    ensures { 1 ≤ result }
+// Handles the event of a number in a turn of its own.
+fn take_turn<P: Transform + Drop>(
+    group: &mut Group<ChainWorld<P>>,
+    number: u64,
+    moment: u64,
+) -> Result<(), NoMemory>
+    requires idle { group.old.cx.log.state.held ≡ false }
+    requires sound { IsSound group.old.world.chain group.old.world.table.items group.old.world.running group.old.cx.log.state.pending group.old.cx.roles }
+    requires due { IsDue group.old.cx.log.state number moment }
+    ensures idle { group.new.cx.log.state.held ≡ false }
+    ensures flow { flow P.rest group.new.world.chain [] ≡ flow P.rest group.old.world.chain [] }
+    ensures sound { OnOk result (IsSound group.new.world.chain group.new.world.table.items group.new.world.running group.new.cx.log.state.pending group.new.cx.roles) }
+    ensures awake { OnOk result (group.new.world.running ≡ true → IsAwake group.new.world.chain group.new.world.table.items) }
+    ensures falls { OnOk result (left_of P.rest group.new.world.chain group.new.world.unharmed + length group.new.cx.log.state.pending
+        < left_of P.rest group.old.world.chain group.old.world.unharmed + length group.old.cx.log.state.pending
+        + (if nat_lt 0 (length (last_wait group.new.world.chain.first group.new.world.chain.stages)) then 1 else 0)) }
 {
-    PIECE.saturating_sub(chain.waiting(0)).max(1)
+    let Some(turn) = group.journal().turns().checked_add(1) else {
+        return Err(NoMemory);
+    };
+    group.begin_turn(turn, SEAT, moment)?;
+    let handled = handle(group, number, moment);
+    group.give_turn();
+    handled
 }
 
-// Sends a body into a chain, piece by piece, and writes what comes out.
-fn send<P: Transform + Drop, K: Sink>(chain: &mut Chain<P>, body: &[u8], out: &mut K) -> Driven
-    requires { chain.old.given ≡ false }
-    ensures told { K.tells ≡ true → Sends P.rest result (K.taken out.old) (K.taken out.new) chain.old chain.new body.now }
+// Begins the work of a chain's world, in a turn of its own.
+fn start<P: Transform + Drop>(group: &mut Group<ChainWorld<P>>) -> Result<(), NoMemory>
+    requires idle { group.old.cx.log.state.held ≡ false }
+    requires sound { IsSound group.old.world.chain group.old.world.table.items group.old.world.running group.old.cx.log.state.pending group.old.cx.roles }
+    ensures idle { group.new.cx.log.state.held ≡ false }
+    ensures flow { flow P.rest group.new.world.chain [] ≡ flow P.rest group.old.world.chain [] }
+    ensures sound { OnOk result (IsSound group.new.world.chain group.new.world.table.items group.new.world.running group.new.cx.log.state.pending group.new.cx.roles) }
+    ensures awake { OnOk result (group.new.world.running ≡ true → IsAwake group.new.world.chain group.new.world.table.items) }
+{
+    let Some(turn) = group.journal().turns().checked_add(1) else {
+        return Err(NoMemory);
+    };
+    group.begin_turn(turn, SEAT, 0)?;
+    group.start();
+    let woken = ChainWorld::wake(group);
+    group.give_turn();
+    match woken {
+        Ok(()) => Ok(()),
+        Err(_) => Err(NoMemory),
+    }
+}
+
+// Handles events until none is pending, each in a turn of its own and the one that is due first before the others, and
+// writes between the turns. The moment moves on to the next due one where nothing is due.
+fn run_events<P: Transform + Drop, K: Sink>(group: &mut Group<ChainWorld<P>>, out: &mut K) -> Driven
+    requires idle { group.old.cx.log.state.held ≡ false }
+    requires sound { IsSound group.old.world.chain group.old.world.table.items group.old.world.running group.old.cx.log.state.pending group.old.cx.roles }
+    requires dry { last_wait group.old.world.chain.first group.old.world.chain.stages ≡ [] }
+    ensures told { K.tells ≡ true → Passes (K.taken out.old) (K.taken out.new) (flow P.rest group.old.world.chain []) (flow P.rest group.new.world.chain []) }
     ensures faults { Counted (is_failed result) (K.faults out.old) (K.faults out.new) }
-    ensures given { chain.new.given ≡ false }
+    ensures done { OnDone result (flow P.rest group.new.world.chain [] ≡ []) }
+    ensures idle { group.new.cx.log.state.held ≡ false }
+    ensures none { OnDone result (group.new.cx.log.state.pending ≡ []) }
 {
-    let mut left = body;
-    while !left.is_empty() {
-        let (piece, rest) = left.split_at(left.len().min(next_piece(chain)));
-        let Ok(()) = chain.give(piece) else {
+    let mut moment = 0;
+    'driving: while let Some((due, number)) = group.next_due() {
+        moment = due.max(moment);
+        let Ok(()) = take_turn(group, number, moment) else {
             return Driven::NoMemory;
         };
-        match round(chain, out) {
-            Driven::Done => left = rest,
-            Driven::Failed => return Driven::Failed,
-            Driven::NoMemory => return Driven::NoMemory,
-        }
-    }
-    Driven::Done
-}
-
-// Lets a chain work that gets nothing more, until it is finished.
-fn finish<P: Transform + Drop, K: Sink>(chain: &mut Chain<P>, out: &mut K) -> Driven
-    requires { chain.old.given ≡ true }
-    ensures told { K.tells ≡ true → WroteAll result (K.taken out.old) (K.taken out.new) (flow P.rest chain.old []) }
-    ensures faults { Counted (is_failed result) (K.faults out.old) (K.faults out.new) }
-{
-    for _ in 0..u64::MAX {
-        match round(chain, out) {
+        match drain(group.world_mut(), out) {
             Driven::Done => {}
             Driven::Failed => return Driven::Failed,
             Driven::NoMemory => return Driven::NoMemory,
         }
-        if chain.is_finished() {
-            return Driven::Done;
-        }
     }
-    Driven::NoMemory
+    if group.world().is_running() {
+        Driven::Done
+    } else {
+        Driven::NoMemory
+    }
 }
 
-/// Sends a body through a chain that got nothing yet, and writes all that comes out.
-pub fn drive<P: Transform + Drop, K: Sink>(chain: &mut Chain<P>, body: &[u8], out: &mut K) -> Driven
-    requires { chain.old.given ≡ false }
-    ensures told { K.tells ≡ true → WroteAll result (K.taken out.old) (K.taken out.new) (flow P.rest chain.old body.now) }
+// Drives the world of a group that was not started, to its end.
+fn drive_group<P: Transform + Drop, K: Sink>(
+    group: &mut Group<ChainWorld<P>>,
+    out: &mut K,
+) -> Driven
+    requires idle { group.old.cx.log.state.held ≡ false }
+    requires sound { IsSound group.old.world.chain group.old.world.table.items group.old.world.running group.old.cx.log.state.pending group.old.cx.roles }
+    ensures told { K.tells ≡ true → WroteAll result (K.taken out.old) (K.taken out.new) (flow P.rest group.old.world.chain []) }
     ensures faults { Counted (is_failed result) (K.faults out.old) (K.faults out.new) }
+    ensures idle { group.new.cx.log.state.held ≡ false }
+    ensures none { OnDone result (group.new.cx.log.state.pending ≡ []) }
 {
-    match send(chain, body, out) {
-        Driven::Done => {}
-        Driven::Failed => return Driven::Failed,
-        Driven::NoMemory => return Driven::NoMemory,
+    let Ok(()) = start(group) else {
+        return Driven::NoMemory;
+    };
+    match drain(group.world_mut(), out) {
+        Driven::Done => run_events(group, out),
+        Driven::Failed => Driven::Failed,
+        Driven::NoMemory => Driven::NoMemory,
     }
-    chain.give_end();
-    finish(chain, out)
+}
+
+// Adds a journal.
+fn keep(journals: &mut Vec<Journal>, journal: Journal) -> Result<(), NoMemory>
+    ensures ok { OnOk result (journals.new.items ≡ journals.old.items ++ journal ∷ []) }
+    ensures err { OnErr result (journals.new.items ≡ journals.old.items) }
+{
+    journals.push(journal)?;
+    Ok(())
+}
+
+/// Sends the body of a chain's world through the chain, and writes all that comes out. Where all was done, the journal of
+/// its events is added to the journals.
+pub fn drive<P: Transform + Drop, K: Sink>(
+    alloc: Global,
+    world: ChainWorld<P>,
+    out: &mut K,
+    journals: &mut Vec<Journal>,
+) -> Driven
+    requires sound { (pending : List Pending) → (roles : List Named) → AllPlain pending → IsSound world.chain world.table.items world.running pending roles }
+    ensures told { K.tells ≡ true → WroteAll result (K.taken out.old) (K.taken out.new) (flow P.rest world.chain []) }
+    ensures faults { Counted (is_failed result) (K.faults out.old) (K.faults out.new) }
+    ensures journals { AddsJournal result journals.old.items journals.new.items }
+{
+    let Ok(mut group) = Group::make(alloc, world, 0) else {
+        return Driven::NoMemory;
+    };
+    let driven = drive_group(&mut group, out);
+    let Driven::Done = driven else {
+        return driven;
+    };
+    let (_, journal) = group.into_parts();
+    let _ = journal.entries();
+    let Ok(()) = keep(journals, journal) else {
+        return Driven::NoMemory;
+    };
+    Driven::Done
 }

@@ -2,7 +2,6 @@
 #![tactic(auto)]
 
 mod answer;
-mod chain_of;
 mod drive;
 mod reading;
 mod telling;
@@ -10,6 +9,7 @@ mod telling;
 mod tests;
 mod top;
 mod transform;
+mod world_of;
 mod writing;
 
 pub use top::{Ended, run};

@@ -18,12 +18,15 @@ fn words(alloc: Global, said: &[&str]) -> Result<Vec<String>, AllocError> {
 const USAGE: &[u8] =
     b"tsx: usage: transform CONFIG BODY | replay [--threads N] CONFIG RECORDING | serve --listen L --origin A --config F [--threads N] [--connections N] | generate SEED COUNT SIZE\n";
 
-// A shelf, the words, the write of out that fails, and then the status and what out and err took.
+// A shelf, the words, the number of the read, of the write of out and of the write of err that fails, or 0, and then the
+// status and what out and err took.
 #[derive(Drop)]
 struct Row<'a> {
     files: &'a [(&'a str, &'a [u8])],
     words: &'a [&'a str],
+    unread: u64,
     failing: u64,
+    untold: u64,
     status: u8,
     out: &'a [u8],
     err: &'a [u8],
@@ -37,13 +40,18 @@ fn check<R: Abort + AllocGlobal>(rt: &R, row: &Row<'_>, take: usize) -> Result<(
     for (name, bytes) in row.files {
         shelf.add(name, bytes)?;
     }
+    shelf.fail_at(row.unread)?;
     let mut out = MemSink::make(alloc, take, vec![in alloc; row.failing]?);
-    let mut err = MemSink::make(alloc, 7, Vec::new(alloc));
+    let mut err = MemSink::make(alloc, 7, vec![in alloc; row.untold]?);
     let said = words(alloc, row.words)?;
     let ended = run(alloc, said.as_slice(), &mut shelf, &mut out, &mut err);
     assert_eq!(rt; ended.status, row.status);
     assert_eq!(rt; out.written(), row.out);
     assert_eq!(rt; err.written(), row.err);
+    assert_eq!(rt; ended.journals.len(), usize::from(row.status == 0));
+    for journal in ended.journals.as_slice() {
+        assert!(rt; !journal.is_held() && journal.pending().is_empty());
+    }
     Ok(())
 }
 
@@ -190,7 +198,9 @@ fn rows(rt: HostRuntime) -> Result<(), Fail> {
         let row = Row {
             files,
             words,
+            unread: 0,
             failing,
+            untold: 0,
             status,
             out,
             err,
@@ -200,7 +210,9 @@ fn rows(rt: HostRuntime) -> Result<(), Fail> {
     let second_write_fails = Row {
         files: append,
         words: &["transform", "c", "b"],
+        unread: 0,
         failing: 2,
+        untold: 0,
         status: 6,
         out: b"a",
         err: b"tsx: cannot write\n",
@@ -223,29 +235,95 @@ fn long_rows(rt: HostRuntime) -> Result<(), Fail> {
     let body = vec![in alloc; b'x'; 65_537]?;
     let (sixteen, seventeen) = (nulls(alloc, 16)?, nulls(alloc, 17)?);
     let long = vec![in alloc; b'#'; 1_048_577]?;
-    let table: [(&[u8], usize, u8, &[u8], &[u8]); 4] = [
-        (b"null_transform.so", 1, 0, body.as_slice(), b""),
-        (sixteen.as_slice(), 65_536, 0, body.as_slice(), b""),
+    let mebibyte = vec![in alloc; b'y'; 1_048_576]?;
+    let table: [(&[u8], &[u8], usize, u8, &[u8], &[u8]); 5] = [
+        (
+            b"null_transform.so",
+            body.as_slice(),
+            1,
+            0,
+            body.as_slice(),
+            b"",
+        ),
+        (
+            sixteen.as_slice(),
+            body.as_slice(),
+            65_536,
+            0,
+            body.as_slice(),
+            b"",
+        ),
+        (
+            sixteen.as_slice(),
+            mebibyte.as_slice(),
+            65_536,
+            0,
+            mebibyte.as_slice(),
+            b"",
+        ),
         (
             seventeen.as_slice(),
+            body.as_slice(),
             65_536,
             3,
             b"",
             b"tsx: configuration line 17: too-many\n",
         ),
-        (long.as_slice(), 65_536, 9, b"", b"tsx: too long: c\n"),
+        (
+            long.as_slice(),
+            body.as_slice(),
+            65_536,
+            9,
+            b"",
+            b"tsx: too long: c\n",
+        ),
     ];
-    for (config, take, status, out, err) in table {
+    for (config, body, take, status, out, err) in table {
         assert!(rt; take >= 1);
         let row = Row {
-            files: &[("c", config), ("b", body.as_slice())],
+            files: &[("c", config), ("b", body)],
             words: &["transform", "c", "b"],
+            unread: 0,
             failing: 0,
+            untold: 0,
             status,
             out,
             err,
         };
         check(&rt, &row, take)?;
+    }
+    Ok(())
+}
+
+// Reads that fail, the text of an append at its limit and above it, and an error sink that fails: it keeps the status.
+#[test]
+fn failures(rt: HostRuntime) -> Result<(), Fail> {
+    let alloc = rt.alloc();
+    let (most, more) = (vec![in alloc; b't'; 16_384]?, vec![in alloc; b't'; 16_385]?);
+    let table: [(&[u8], u64, u64, u8, &[u8], &[u8]); 6] = [
+        (b"XY", 1, 0, 5, b"", b"tsx: cannot read c\n"),
+        (b"XY", 2, 0, 5, b"", b"tsx: cannot read tail.txt\n"),
+        (b"XY", 3, 0, 5, b"", b"tsx: cannot read b\n"),
+        (b"XY", 2, 1, 5, b"", b""),
+        (most.as_slice(), 0, 0, 0, most.as_slice(), b""),
+        (more.as_slice(), 0, 0, 9, b"", b"tsx: too long: tail.txt\n"),
+    ];
+    for (tail, unread, untold, status, out, err) in table {
+        let row = Row {
+            files: &[
+                ("c", b"append_transform.so tail.txt"),
+                ("tail.txt", tail),
+                ("b", b""),
+            ],
+            words: &["transform", "c", "b"],
+            unread,
+            failing: 0,
+            untold,
+            status,
+            out,
+            err,
+        };
+        check(&rt, &row, 65_536)?;
     }
     Ok(())
 }

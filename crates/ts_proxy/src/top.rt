@@ -1,7 +1,7 @@
-ghost use Rattle.std.specs.Prelude.{◌≡◌, ◌∷◌, ◌++◌, ◌↔◌, ◌⊎◌, [], map, string_bytes, codes, true, false, MatchOption};
+ghost use Rattle.std.specs.Prelude.{◌≡◌, ◌∷◌, ◌↔◌, ◌⊎◌, [], map, string_bytes, codes, true, false, MatchOption};
 ghost use Rattle.ts_link.specs.Counts.{Rose};
 ghost use Rattle.ts_proxy.specs.Outcome.{outcome_of, is_transform, word};
-ghost use Rattle.ts_proxy.specs.Ends.{status_of, EndsAt, TakesAt, IsQuiet, IsStatus};
+ghost use Rattle.ts_proxy.specs.Ends.{status_of, EndsAt, TakesAt, JournalsAt, IsQuiet, IsStatus};
 ghost use Rattle.ts_proxy.specs.Lines.{SaysLine};
 ghost use Rattle.ts_proxy.specs.Answers.{IsText, ComesAt, OnCannotRead, IsReadBy};
 ghost use Rattle.ts_proxy.specs.declared.answer.Answer.{Answer};
@@ -10,14 +10,16 @@ use crate::answer::Answer;
 use crate::telling::say;
 use crate::transform::transform;
 use std::alloc::Global;
+use ts_journal::Journal;
 use ts_link::{Shelf, Sink};
 
 /// How the program ended: 0 the job was done; 2 the words are of no command; 3 a line of the configuration is not in
 /// the grammar; 5 a file could not be read; 6 the output could not be written; 7 memory was lacking; 9 a file is longer
-/// than its limit.
-#[derive(Clone, Copy, Debug, PartialEq, Eq)]
+/// than its limit. With status 0 there is the journal of the group that did the job, with another none.
+#[derive(Drop)]
 pub struct Ended {
     pub status: u8,
+    pub journals: Vec<Journal>,
 }
 
 fn status(answer: &Answer) -> u8
@@ -83,6 +85,9 @@ pub fn run<S: Shelf, K: Sink, E: Sink>(
         TakesAt (outcome_of (S.file shelf.old) (map string_bytes words.now)) result.status (K.taken out.old) (K.taken out.new) }
     ensures quiet { K.tells ≡ true → IsQuiet result.status → K.taken out.new ≡ K.taken out.old }
 
+    // With status 0 one journal, lawful and not held, with nothing pending.
+    ensures journals { JournalsAt result.status result.journals.items }
+
     // What err took: the line of an answer that has this status, and that comes at the outcome.
     ensures line { (answer : Answer)
         × SaysLine E.tells result.status (word 1 (map string_bytes words.now)) (word 2 (map string_bytes words.now))
@@ -93,11 +98,16 @@ pub fn run<S: Shelf, K: Sink, E: Sink>(
 {
     let Some((config, body)) = names_of(words) else {
         say(err, &Answer::Usage, "", "");
-        return Ended { status: 2 };
+        return Ended {
+            status: 2,
+            journals: Vec::new(alloc),
+        };
     };
-    let answer = transform(alloc, config, body, shelf, out);
+    let mut journals = Vec::new(alloc);
+    let answer = transform(alloc, config, body, shelf, out, &mut journals);
     say(err, &answer, config, body);
     Ended {
         status: status(&answer),
+        journals,
     }
 }

@@ -61,6 +61,8 @@ impl Transform for Stock {
 
     ghost whole = { whole_of };
 
+    ghost wait = { pause_of };
+
     fn fresh(alloc: Global, line: &TransformLine) -> Result<Stock, NoMemory>
         ensures rest { IfOk result (λ s. (z : List ℕ) → still_writes s z ≡ whole_of line.now z) }
         ensures state { IfOk result (λ s. s ≡ start_of line.now) }
@@ -142,9 +144,7 @@ impl Transform for Stock {
         }
     }
 
-    fn pause(&self) -> u64
-        ensures { result ≡ pause_of self.now }
-    {
+    fn pause(&self) -> u64 {
         match &self.state {
             State::Delaying { ms } => u64::from(*ms),
             _ => 0,

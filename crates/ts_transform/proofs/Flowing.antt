@@ -2,7 +2,7 @@
 use Rattle.std.proofs.Common.{◌≡◌, ℕ, List, [], ◌∷◌, ◌++◌, true, length, take, drop, map, arith, refl, sym, ap, ◌∙◌, append_assoc}
 use Rattle.std.proofs.lemmas.List.{take-append-drop, append-nil}
 use Rattle.ts_transform.specs.declared.pump.Stage.{Stage}
-use Rattle.ts_transform.specs.Flow.{ChainState, flow, flow_from, compose, fresh_stage, last_wait, last_ended}
+use Rattle.ts_transform.specs.Flow.{ChainState, flow, flow_from, compose, fresh_stage, last_wait, last_ended, closed, aborted, passing, left_to_do}
 use Rattle.ts_transform.proofs.Boundaries.{flow_from-finished}
 
 -- stages that got nothing yet compose their parts
@@ -25,3 +25,18 @@ pub flow-finished : {P : Type 0} (rest : P → List ℕ → List ℕ) (c : Chain
     → flow rest c [] ≡ []
 flow-finished rest c ended none =
     flow_from-finished rest c.stages c.given c.first (c.first ++ []) ended none (λ _. append-nil c.first)
+
+-- nothing comes out of a chain that was aborted, and it has nothing left to do
+flow_from-closed : {P : Type 0} (rest : P → List ℕ → List ℕ) (ss : List (Stage P)) → flow_from rest (map closed ss) [] ≡ []
+flow_from-closed rest [] = refl
+flow_from-closed rest (s ∷ ss) = flow_from-closed rest ss
+
+passing-closed : {P : Type 0} (rest : P → List ℕ → List ℕ) (ss : List (Stage P)) → passing rest (map closed ss) [] ≡ 0
+passing-closed rest [] = refl
+passing-closed rest (s ∷ ss) = let behind : passing rest (map closed ss) [] ≡ 0 = passing-closed rest ss in omega (arith, behind)
+
+pub flow_aborted : {P : Type 0} (rest : P → List ℕ → List ℕ) (c d : ChainState P) → d ≡ aborted c → flow rest d [] ≡ []
+flow_aborted rest c d is = ap (λ x. flow rest x []) is ∙ flow_from-closed rest c.stages
+
+pub left_aborted : {P : Type 0} (rest : P → List ℕ → List ℕ) (c d : ChainState P) → d ≡ aborted c → left_to_do rest d [] ≡ 0
+left_aborted rest c d is = ap (λ x. left_to_do rest x []) is ∙ passing-closed rest c.stages

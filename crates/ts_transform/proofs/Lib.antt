@@ -1,3 +1,10 @@
 pub mod Boundaries
+pub mod Closing
+pub mod Covering
 pub mod Flowing
+pub mod Handled
+pub mod Kept
 pub mod Moving
+pub mod Starting
+pub mod Taking
+pub mod Told

@@ -1,8 +1,8 @@
 -- A chain, and the flow through it: one expression for all that it still gives, whatever stands where on the way.
-use Rattle.std.specs.Prelude.{◌≡◌, ℕ, zero, suc, ◌+◌, ◌++◌, List, [], ◌∷◌, Bool, true, false, length, drop}
+use Rattle.std.specs.Prelude.{◌≡◌, ℕ, zero, suc, ◌+◌, ◌++◌, List, [], ◌∷◌, Bool, true, length, drop, map, Option, Some, None, ◌<◌, ◌⊎◌}
 use Rattle.ts_transform.specs.declared.pump.Stage.{Stage}
 use Rattle.ts_transform.specs.declared.pump.Pumped.{Pumped}
-use Rattle.ts_transform.specs.Stage.{passed, Answers, Steps, to_end}
+use Rattle.ts_transform.specs.Stage.{passed, has_ended, has_work, Answers, Steps, to_end}
 
 -- what still comes after the stages, if v is what still comes before them
 abbrev pub flow_from : {P : Type 0} → (P → List ℕ → List ℕ) → List (Stage P) → List ℕ → List ℕ
@@ -27,7 +27,7 @@ compose rest (p ∷ ps) z = compose rest ps (rest p z)
 
 -- a stage that got nothing yet
 abbrev pub fresh_stage : {P : Type 0} → P → Stage P
-fresh_stage part = record { part = part; ended = false; after = [] }
+fresh_stage part = record { part = Some part; after = [] }
 
 -- the bytes that wait at a boundary, of which number 0 is before the first stage
 abbrev pub wait_at : {P : Type 0} → List ℕ → List (Stage P) → ℕ → List ℕ
@@ -43,7 +43,7 @@ last_wait first (s ∷ ss) = last_wait s.after ss
 -- whether nothing more comes to the last boundary
 abbrev pub last_ended : {P : Type 0} → Bool → List (Stage P) → Bool
 last_ended given [] = given
-last_ended given (s ∷ ss) = last_ended s.ended ss
+last_ended given (s ∷ ss) = last_ended (has_ended s) ss
 
 -- the chain's client has all that it gets
 abbrev pub IsFinished : {P : Type 0} → ChainState P → Type 0
@@ -53,7 +53,7 @@ IsFinished c = (last_ended c.given c.stages ≡ true) × (last_wait c.first c.st
 abbrev pub AnswersAt : {P : Type 0} → Bool → List ℕ → List (Stage P) → ℕ → Pumped → Type 0
 AnswersAt up from [] at r = ⊥
 AnswersAt up from (s ∷ ss) zero r = Answers up from s r
-AnswersAt up from (s ∷ ss) (suc at) r = AnswersAt s.ended s.after ss at r
+AnswersAt up from (s ∷ ss) (suc at) r = AnswersAt (has_ended s) s.after ss at r
 
 -- what a pump of the stage at a place leaves: all else stays as it is
 abbrev pub StepsAt : {P : Type 0} → (P → List ℕ → List ℕ) → List ℕ → List (Stage P) → ℕ → Pumped → List ℕ → List (Stage P) → Type 0
@@ -61,20 +61,68 @@ StepsAt rest from [] at r from' ss' = ⊥
 StepsAt rest from (s ∷ ss) at r from' [] = ⊥
 StepsAt rest from (s ∷ ss) zero r from' (s' ∷ ss') = Steps rest from s r from' s' × (ss' ≡ ss)
 StepsAt rest from (s ∷ ss) (suc at) r from' (s' ∷ ss') =
-    (from' ≡ from) × (s'.part ≡ s.part) × (s'.ended ≡ s.ended) × StepsAt rest s.after ss at r s'.after ss'
+    (from' ≡ from) × (s'.part ≡ s.part) × StepsAt rest s.after ss at r s'.after ss'
 
 -- n bytes were taken from the last boundary, and all else stays as it is
 abbrev pub Takes : {P : Type 0} → List ℕ → List (Stage P) → ℕ → List ℕ → List (Stage P) → Type 0
 Takes from [] n from' ss' = (from' ≡ drop n from) × (ss' ≡ [])
 Takes from (s ∷ ss) n from' [] = ⊥
 Takes from (s ∷ ss) n from' (s' ∷ ss') =
-    (from' ≡ from) × (s'.part ≡ s.part) × (s'.ended ≡ s.ended) × Takes s.after ss n s'.after ss'
+    (from' ≡ from) × (s'.part ≡ s.part) × Takes s.after ss n s'.after ss'
 
 -- the bytes that still pass the boundaries, if v is what still comes to the first, and the stages that have not ended
 abbrev pub passing : {P : Type 0} → (P → List ℕ → List ℕ) → List (Stage P) → List ℕ → ℕ
 passing rest [] v = length v
-passing rest (s ∷ ss) v = length v + to_end s.ended + passing rest ss (passed rest s v)
+passing rest (s ∷ ss) v = length v + to_end (has_ended s) + passing rest ss (passed rest s v)
 
 -- what a chain has left to do, if z is all that it still gets: each pump that does something lowers it
 abbrev pub left_to_do : {P : Type 0} → (P → List ℕ → List ℕ) → ChainState P → List ℕ → ℕ
 left_to_do rest c z = passing rest c.stages (c.first ++ z)
+
+-- a stage that was closed: it has no transform, and nothing waits after it
+abbrev pub closed : {P : Type 0} → Stage P → Stage P
+closed s = record { part = None; after = [] }
+
+-- a chain that was aborted: nothing waits, nothing more comes, and each stage is closed
+abbrev pub aborted : {P : Type 0} → ChainState P → ChainState P
+aborted c = record { first = []; stages = map closed c.stages; given = true }
+
+-- the stage at a place has work
+abbrev pub HasWork : {P : Type 0} → Bool → List ℕ → List (Stage P) → ℕ → Type 0
+HasWork up from [] at = ⊥
+HasWork up from (s ∷ ss) zero = has_work (has_ended s) up from ≡ true
+HasWork up from (s ∷ ss) (suc at) = HasWork (has_ended s) s.after ss at
+
+-- the stage at a place must work: it has work, and there is room after it
+abbrev pub MustPump : {P : Type 0} → Bool → List ℕ → List (Stage P) → ℕ → Type 0
+MustPump up from [] at = ⊥
+MustPump up from (s ∷ ss) zero = (has_work (has_ended s) up from ≡ true) × (length s.after < 65536)
+MustPump up from (s ∷ ss) (suc at) = MustPump (has_ended s) s.after ss at
+
+-- the milliseconds that the stage at a place waits between two of its events
+abbrev pub pause_at : {P : Type 0} → (P → ℕ) → List (Stage P) → ℕ → ℕ
+pause_at wait [] at = 0
+pause_at wait (s ∷ ss) zero = pause_of wait s.part
+  where
+    pause_of : {P : Type 0} → (P → ℕ) → Option P → ℕ
+    pause_of wait None = 0
+    pause_of wait (Some part) = wait part
+pause_at wait (s ∷ ss) (suc at) = pause_at wait ss at
+
+-- whether the stage at a place has ended
+abbrev pub ended_at : {P : Type 0} → List (Stage P) → ℕ → Bool
+ended_at [] at = true
+ended_at (s ∷ ss) zero = has_ended s
+ended_at (s ∷ ss) (suc at) = ended_at ss at
+
+-- one stage was let work, by one pump
+pub record Pumps {P : Type 0} (rest : P → List ℕ → List ℕ) (c d : ChainState P) : Type 0 where
+  pub at : ℕ
+  pub pumped : Pumped
+  pub answers : AnswersAt c.given c.first c.stages at pumped
+  pub steps : StepsAt rest c.first c.stages at pumped d.first d.stages
+  pub given : d.given ≡ c.given
+
+-- at most one stage was let work, by one pump
+abbrev pub PumpsOnce : {P : Type 0} → (P → List ℕ → List ℕ) → ChainState P → ChainState P → Type 0
+PumpsOnce rest c d = (d ≡ c) ⊎ Pumps rest c d

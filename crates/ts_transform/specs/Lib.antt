@@ -1,3 +1,5 @@
+pub mod Cover
+pub mod Driving
 pub mod Flow
 pub mod Law
 pub mod Stage

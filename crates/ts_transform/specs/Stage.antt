@@ -1,18 +1,22 @@
--- One stage of a chain: a transform, and the bytes that wait after it.
-use Rattle.std.specs.Prelude.{◌≡◌, ℕ, ◌≤◌, ◌++◌, List, [], ◌∷◌, Bool, true, false, nat_le, length, drop, take}
+-- One stage of a chain: a transform, until it has ended, and the bytes that wait after it.
+use Rattle.std.specs.Prelude.{◌≡◌, ℕ, ◌≤◌, ◌++◌, List, [], ◌∷◌, Bool, true, false, nat_le, length, drop, take, Option, Some, None, is_none}
 use Rattle.ts_transform.specs.Law.{Adds}
 use Rattle.ts_transform.specs.declared.pump.Stage.{Stage}
 use Rattle.ts_transform.specs.declared.pump.Pumped.{Pumped}
 use Rattle.ts_transform.specs.declared.pump.Pumped.TheVariants.{Moved, Ended, Blocked, Idle}
 
--- what a stage still writes
-abbrev pub rest_if : {P : Type 0} → (P → List ℕ → List ℕ) → Bool → P → List ℕ → List ℕ
-rest_if rest true part v = []
-rest_if rest false part v = rest part v
+-- what the transform of a stage still writes, if it has one
+abbrev pub rest_of : {P : Type 0} → (P → List ℕ → List ℕ) → Option P → List ℕ → List ℕ
+rest_of rest None v = []
+rest_of rest (Some part) v = rest part v
+
+-- a stage has ended once it has no transform
+abbrev pub has_ended : {P : Type 0} → Stage P → Bool
+has_ended s = is_none s.part
 
 -- what still comes after a stage, if v is what still comes before it
 abbrev pub passed : {P : Type 0} → (P → List ℕ → List ℕ) → Stage P → List ℕ → List ℕ
-passed rest s v = s.after ++ rest_if rest s.ended s.part v
+passed rest s v = s.after ++ rest_of rest s.part v
 
 -- a stage has work: it has not ended, and bytes wait before it or no more come
 abbrev pub has_work : Bool → Bool → List ℕ → Bool
@@ -39,12 +43,12 @@ AnswersIf false from after r = r ≡ Idle
 
 -- what a pump of a stage answers: idle exactly where it has no work
 abbrev pub Answers : {P : Type 0} → Bool → List ℕ → Stage P → Pumped → Type 0
-Answers up from s r = AnswersIf (has_work s.ended up from) from s.after r
+Answers up from s r = AnswersIf (has_work (has_ended s) up from) from s.after r
 
 -- what a pump leaves before and after its stage, with what it wrote
 abbrev pub Steps : {P : Type 0} → (P → List ℕ → List ℕ) → List ℕ → Stage P → Pumped → List ℕ → Stage P → Type 0
-Steps rest from s (Moved n) from' s' = (from' ≡ drop n from) × (s'.ended ≡ s.ended) × Adds (rest s.part) (rest s'.part) (take n from) s.after s'.after
-Steps rest from s Ended from' s' = (from' ≡ from) × (s'.ended ≡ true) × (s'.after ≡ s.after ++ rest s.part [])
+Steps rest from s (Moved n) from' s' = (from' ≡ drop n from) × (has_ended s' ≡ has_ended s) × Adds (rest_of rest s.part) (rest_of rest s'.part) (take n from) s.after s'.after
+Steps rest from s Ended from' s' = (from' ≡ from) × (s'.part ≡ None) × (s'.after ≡ s.after ++ rest_of rest s.part [])
 Steps rest from s (Blocked w) from' s' = (from' ≡ from) × (s' ≡ s)
 Steps rest from s Idle from' s' = (from' ≡ from) × (s' ≡ s)
 
@@ -66,3 +70,10 @@ IfRests (Moved n) P = Unit {0}
 IfRests Ended P = Unit {0}
 IfRests (Blocked w) P = P
 IfRests Idle P = P
+
+-- the same of a transform alone, on what waits before it and after it
+abbrev pub Runs : {P : Type 0} → (P → List ℕ → List ℕ) → List ℕ → P → List ℕ → Pumped → List ℕ → P → List ℕ → Type 0
+Runs rest from part after (Moved n) from' part' after' = (from' ≡ drop n from) × Adds (rest part) (rest part') (take n from) after after'
+Runs rest from part after Ended from' part' after' = (from' ≡ from) × (after' ≡ after ++ rest part [])
+Runs rest from part after (Blocked w) from' part' after' = (from' ≡ from) × (part' ≡ part) × (after' ≡ after)
+Runs rest from part after Idle from' part' after' = (from' ≡ from) × (part' ≡ part) × (after' ≡ after)

@@ -1,15 +1,18 @@
 ghost use Rattle.std.specs.Prelude.{◌≡◌, ◌+◌, ◌<◌, ◌≤◌, ◌++◌, ◌↔◌, List, ℕ, [], length, take, drop, map, true, false, IsTrue, IfOk, OnOk, OnErr, MatchOption};
 ghost use Rattle.std.specs.Bool.{OnTrue};
 ghost use Rattle.ts_transform.specs.Stage.{IfRests, done_by};
-ghost use Rattle.ts_transform.specs.Flow.{flow, compose, left_to_do, wait_at, last_wait, last_ended, fresh_stage, IsFinished, AnswersAt, StepsAt, Takes};
+ghost use Rattle.ts_transform.specs.Flow.{flow, compose, left_to_do, wait_at, last_wait, last_ended, fresh_stage, aborted, ended_at, pause_at, IsFinished, MustPump, AnswersAt, StepsAt, Takes};
 
-use crate::pump::{Pumped, Stage, pump_at};
-use crate::stages::{fresh_stages, has_ended, last_block, take_last, waiting_at};
+use crate::pump::{MOST_WAITING, Pumped, Stage, pump_at};
+use crate::stages::{
+    close_all, ended_at, fresh_stages, has_ended, last_block, last_waiting, must_pump, pause_at,
+    take_last, waiting_at,
+};
 use crate::transform::Transform;
 use std::alloc::Global;
 use std::marker::Model;
 use ts_iobuf::Waiting;
-use ts_link::NoMemory;
+use ts_link::{NoMemory, Octets};
 
 /// A chain of transforms, with the bytes that wait before, between and after them. Boundary 0 lies before the first
 /// stage, and boundary `stages()` at the client.
@@ -40,6 +43,20 @@ impl<P: Transform + Drop> Chain<P> {
             first,
             stages,
             given: false,
+        })
+    }
+
+    /// A chain of these parts over a whole body, which is taken over without a copy; no more bytes come.
+    pub fn over(alloc: Global, parts: Vec<P>, body: Octets) -> Result<Chain<P>, NoMemory>
+        ensures made { IfOk result (λ c. c ≡ record { first = body; stages = map fresh_stage parts.items; given = true }) }
+        ensures flow { IfOk result (λ c. flow P.rest c [] ≡ compose P.rest parts.items body) }
+    {
+        let first = Waiting::of_octets(alloc, body)?;
+        let stages = fresh_stages(alloc, parts)?;
+        Ok(Chain {
+            first,
+            stages,
+            given: true,
         })
     }
 
@@ -132,5 +149,43 @@ impl<P: Transform + Drop> Chain<P> {
             Some(_) => false,
             None => has_ended(self.given, self.stages.as_slice()),
         }
+    }
+
+    /// Drops all that waits, and closes every stage; nothing more comes out. It takes no memory.
+    pub fn abort(&mut self)
+        ensures { self.new ≡ aborted self.old }
+    {
+        self.first.take(self.first.len());
+        close_all(&mut self.stages);
+        self.given = true;
+    }
+
+    /// Whether a stage has work, and room after it.
+    pub fn must_pump(&self, stage: usize) -> bool
+        ensures { IsTrue result ↔ MustPump self.now.given self.now.first self.now.stages stage }
+    {
+        must_pump(self.given, &self.first, self.stages.as_slice(), stage)
+    }
+
+    /// Whether the last stage has not ended, and 65,536 bytes or more wait after it; it takes no input then.
+    pub fn is_last_full(&self) -> bool
+        ensures { IsTrue result ↔ ((last_ended true self.now.stages ≡ false) × (65536 ≤ length (last_wait self.now.first self.now.stages))) }
+    {
+        let stages = self.stages.as_slice();
+        !has_ended(true, stages) && last_waiting(&self.first, stages) >= MOST_WAITING
+    }
+
+    /// Whether a stage has ended, or there is none of that place.
+    pub fn has_ended(&self, stage: usize) -> bool
+        ensures { result ≡ ended_at self.now.stages stage }
+    {
+        ended_at(self.stages.as_slice(), stage)
+    }
+
+    /// The milliseconds that a stage waits between two of its events.
+    pub fn pause(&self, stage: usize) -> u64
+        ensures { result ≡ pause_at P.wait self.now.stages stage }
+    {
+        pause_at(self.stages.as_slice(), stage)
     }
 }

@@ -2,12 +2,21 @@
 #![tactic(auto)]
 
 mod chain;
+mod continuation;
+mod handler;
 mod pump;
+mod rousing;
 mod stages;
+mod start;
 #[cfg(test)]
 mod tests;
 mod transform;
+mod wake;
+mod world;
+#[cfg(test)]
+mod world_tests;
 
 pub use chain::Chain;
 pub use pump::Pumped;
 pub use transform::Transform;
+pub use world::ChainWorld;

@@ -1,9 +1,9 @@
 // The work of one stage, and of the stage at a place of several.
-ghost use Rattle.std.specs.Prelude.{◌≡◌, ℕ, ◌+◌, ◌<◌, ◌≤◌, ◌++◌, List, [], length, take, true, IfOk, OnOk, OnErr};
+ghost use Rattle.std.specs.Prelude.{◌≡◌, ℕ, ◌+◌, ◌<◌, ◌≤◌, ◌++◌, List, [], length, take, false, IfOk, OnOk, OnErr};
 ghost use Rattle.std.specs.Bool.{OnTrue};
 ghost use Rattle.ts_transform.specs.Law.{Adds};
-ghost use Rattle.ts_transform.specs.Stage.{passed, Answers, Steps, IfRests, to_end, done_by};
-ghost use Rattle.ts_transform.specs.Flow.{flow_from, AnswersAt, StepsAt, passing};
+ghost use Rattle.ts_transform.specs.Stage.{has_ended, has_work, Answers, AnswersIf, Runs, Steps, IfRests, done_by};
+ghost use Rattle.ts_transform.specs.Flow.{flow_from, passing, AnswersAt, StepsAt};
 
 use crate::transform::Transform;
 use ts_iobuf::Waiting;
@@ -19,16 +19,24 @@ pub enum Pumped {
     Idle,
 }
 
-/// A transform, whether it has ended, and the bytes that wait after it.
+/// A transform, until it has ended, and the bytes that wait after it.
 #[derive(Drop)]
 pub struct Stage<P> {
-    pub part: P,
-    pub ended: bool,
+    pub part: Option<P>,
     pub after: Waiting,
 }
 
-// A stage takes no input where as many bytes wait after it.
-const MOST_WAITING: usize = 65_536;
+impl<P> Stage<P> {
+    /// Whether it has ended.
+    pub fn has_ended(&self) -> bool
+        ensures { result ≡ has_ended self.now }
+    {
+        self.part.is_none()
+    }
+}
+
+/// A stage takes no input where as many bytes wait after it.
+pub const MOST_WAITING: usize = 65_536;
 
 // The most bytes that a stage is fed at once.
 const MOST_FED: usize = 32_768;
@@ -55,24 +63,18 @@ fn end_into<P: Transform>(part: &mut P, after: &mut Waiting) -> Result<(), NoMem
     part.end(&mut after.buffer)
 }
 
-/// Runs one stage on what waits before it. `up_ended` says that nothing more comes there.
-pub fn pump_stage<P: Transform + Drop>(
+// Runs a transform on what waits before it, and writes behind what waits after it.
+fn pump_part<P: Transform>(
     up_ended: bool,
     from: &mut Waiting,
-    stage: &mut Stage<P>,
+    part: &mut P,
+    after: &mut Waiting,
 ) -> Result<Pumped, NoMemory>
-    ensures answer { IfOk result (Answers up_ended from.old stage.old) }
-    ensures steps { IfOk result (λ r. Steps P.rest from.old stage.old r from.new stage.new) }
-    ensures flow { OnOk result ((x : List ℕ) → OnTrue up_ended (x ≡ []) →
-        passed P.rest stage.new (from.new ++ x) ≡ passed P.rest stage.old (from.old ++ x)) }
-    ensures rests { IfOk result (λ r. IfRests r ((from.new ≡ from.old) × (stage.new ≡ stage.old))) }
-    ensures falls { IfOk result (λ r. length from.new + to_end stage.new.ended + done_by r ≡ length from.old + to_end stage.old.ended) }
-    ensures err { OnErr result ((from.new ≡ from.old) × (stage.new ≡ stage.old)) }
+    ensures answer { IfOk result (AnswersIf (has_work false up_ended from.old) from.old after.old) }
+    ensures runs { IfOk result (λ r. Runs P.rest from.old part.old after.old r from.new part.new after.new) }
+    ensures err { OnErr result ((from.new ≡ from.old) × (part.new ≡ part.old) × (after.new ≡ after.old)) }
 {
-    if stage.ended {
-        return Ok(Pumped::Idle);
-    }
-    let waiting = stage.after.len();
+    let waiting = after.len();
     let Some(block) = from.block() else {
         if !up_ended {
             return Ok(Pumped::Idle);
@@ -80,20 +82,67 @@ pub fn pump_stage<P: Transform + Drop>(
         if waiting >= MOST_WAITING {
             return Ok(Pumped::Blocked { waiting });
         }
-        end_into(&mut stage.part, &mut stage.after)?;
-        stage.ended = true;
+        end_into(part, after)?;
         return Ok(Pumped::Ended);
     };
     if waiting >= MOST_WAITING {
         return Ok(Pumped::Blocked { waiting });
     }
     let (input, _) = block.split_at(block.len().min(MOST_FED));
-    let taken = feed_into(&mut stage.part, input, &mut stage.after)?;
+    let taken = feed_into(part, input, after)?;
     from.take(taken);
     Ok(Pumped::Moved(taken))
 }
 
-/// Runs the stage at a place of these, on what waits before them.
+/// Runs one stage on what waits before it. `up_ended` says that nothing more comes there. Its transform is taken out of
+/// it meanwhile, and put back unless it ended.
+pub fn pump_stage<P: Transform + Drop>(
+    up_ended: bool,
+    from: &mut Waiting,
+    stage: &mut Stage<P>,
+) -> Result<Pumped, NoMemory>
+    ensures answer { IfOk result (Answers up_ended from.old stage.old) }
+    ensures steps { IfOk result (λ r. Steps P.rest from.old stage.old r from.new stage.new) }
+    ensures rests { IfOk result (λ r. IfRests r ((from.new ≡ from.old) × (stage.new ≡ stage.old))) }
+    ensures err { OnErr result ((from.new ≡ from.old) × (stage.new ≡ stage.old)) }
+{
+    let Some(mut part) = stage.part.take() else {
+        return Ok(Pumped::Idle);
+    };
+    match pump_part(up_ended, from, &mut part, &mut stage.after) {
+        Ok(Pumped::Ended) => Ok(Pumped::Ended),
+        other => {
+            stage.part = Some(part);
+            other
+        }
+    }
+}
+
+// Runs the stage at a place of these, on what waits before them.
+fn run_at<P: Transform + Drop>(
+    up_ended: bool,
+    from: &mut Waiting,
+    stages: &mut [Stage<P>],
+    at: usize,
+) -> Result<Pumped, NoMemory>
+    requires { at < length stages.old }
+    ensures answer { IfOk result (AnswersAt up_ended from.old stages.old at) }
+    ensures steps { IfOk result (λ r. StepsAt P.rest from.old stages.old at r from.new stages.new) }
+    ensures rests { IfOk result (λ r. IfRests r ((from.new ≡ from.old) × (stages.new ≡ stages.old))) }
+    ensures err { OnErr result ((from.new ≡ from.old) × (stages.new ≡ stages.old)) }
+{
+    let Some((first, others)) = stages.split_first_mut() else {
+        unreachable!()
+    };
+    if at == 0 {
+        pump_stage(up_ended, from, first)
+    } else {
+        run_at(first.has_ended(), &mut first.after, others, at - 1)
+    }
+}
+
+/// Runs the stage at a place of these, on what waits before them: the flow stays, and what is left to do is less by
+/// what was done.
 pub fn pump_at<P: Transform + Drop>(
     up_ended: bool,
     from: &mut Waiting,
@@ -110,12 +159,5 @@ pub fn pump_at<P: Transform + Drop>(
         passing P.rest stages.new (from.new ++ x) + done_by r ≡ passing P.rest stages.old (from.old ++ x)) }
     ensures err { OnErr result ((from.new ≡ from.old) × (stages.new ≡ stages.old)) }
 {
-    let Some((first, others)) = stages.split_first_mut() else {
-        unreachable!()
-    };
-    if at == 0 {
-        pump_stage(up_ended, from, first)
-    } else {
-        pump_at(first.ended, &mut first.after, others, at - 1)
-    }
+    run_at(up_ended, from, stages, at)
 }

@@ -1,8 +1,8 @@
 // The stages of a chain, and what waits at the boundaries between them.
-ghost use Rattle.std.specs.Prelude.{◌≡◌, ℕ, ◌+◌, ◌<◌, ◌≤◌, ◌++◌, List, [], length, take, drop, map, IfOk, MatchOption};
-ghost use Rattle.ts_transform.specs.Flow.{flow_from, wait_at, last_wait, last_ended, fresh_stage, Takes, passing};
+ghost use Rattle.std.specs.Prelude.{◌≡◌, ℕ, ◌+◌, ◌<◌, ◌≤◌, ◌++◌, List, [], length, take, drop, map, IfOk, IsTrue, MatchOption, ◌↔◌};
+ghost use Rattle.ts_transform.specs.Flow.{flow_from, wait_at, last_wait, last_ended, fresh_stage, closed, ended_at, pause_at, MustPump, Takes, passing};
 
-use crate::pump::Stage;
+use crate::pump::{MOST_WAITING, Stage};
 use crate::transform::Transform;
 use std::alloc::Global;
 use ts_iobuf::Waiting;
@@ -16,8 +16,7 @@ pub fn fresh_stages<P: Drop>(alloc: Global, parts: Vec<P>) -> Result<Vec<Stage<P
     for part in parts {
         let after = Waiting::new(alloc)?;
         stages.push(Stage {
-            part,
-            ended: false,
+            part: Some(part),
             after,
         })?;
     }
@@ -48,12 +47,22 @@ pub fn last_block<'a, P>(first: &'a Waiting, stages: &'a [Stage<P>]) -> Option<&
     }
 }
 
+/// How many bytes wait at the last boundary.
+pub fn last_waiting<P>(first: &Waiting, stages: &[Stage<P>]) -> usize
+    ensures { result ≡ length (last_wait first.now stages.now) }
+{
+    match stages.last() {
+        Some(stage) => stage.after.len(),
+        None => first.len(),
+    }
+}
+
 /// Whether nothing more comes to the last boundary.
 pub fn has_ended<P>(given: bool, stages: &[Stage<P>]) -> bool
     ensures { result ≡ last_ended given stages.now }
 {
     match stages.last() {
-        Some(stage) => stage.ended,
+        Some(stage) => stage.has_ended(),
         None => given,
     }
 }
@@ -72,5 +81,60 @@ pub fn take_last<P: Transform>(first: &mut Waiting, stages: &mut [Stage<P>], n: 
     match stages.split_first_mut() {
         Some((stage, others)) => take_last(&mut stage.after, others, n),
         None => first.take(n),
+    }
+}
+
+/// Closes the stages: each loses its transform, and what waits after it.
+pub fn close_all<P: Drop>(stages: &mut [Stage<P>])
+    ensures { stages.new ≡ map closed stages.old }
+{
+    if let Some((stage, others)) = stages.split_first_mut() {
+        stage.part = None;
+        stage.after.take(stage.after.len());
+        close_all(others);
+    }
+}
+
+/// Whether the stage at a place must work: it has work, and there is room after it.
+pub fn must_pump<P>(up_ended: bool, from: &Waiting, stages: &[Stage<P>], at: usize) -> bool
+    ensures { IsTrue result ↔ MustPump up_ended from.now stages.now at }
+{
+    let Some((first, others)) = stages.split_first() else {
+        return false;
+    };
+    if at == 0 {
+        !first.has_ended() && (up_ended || !from.is_empty()) && first.after.len() < MOST_WAITING
+    } else {
+        must_pump(first.has_ended(), &first.after, others, at - 1)
+    }
+}
+
+/// Whether the stage at a place has ended, or there is none.
+pub fn ended_at<P>(stages: &[Stage<P>], at: usize) -> bool
+    ensures { result ≡ ended_at stages.now at }
+{
+    let Some((first, others)) = stages.split_first() else {
+        return true;
+    };
+    if at == 0 {
+        first.has_ended()
+    } else {
+        ended_at(others, at - 1)
+    }
+}
+
+/// The milliseconds that the stage at a place waits between two of its events.
+pub fn pause_at<P: Transform>(stages: &[Stage<P>], at: usize) -> u64
+    ensures { result ≡ pause_at P.wait stages.now at }
+{
+    let Some((first, others)) = stages.split_first() else {
+        return 0;
+    };
+    if at > 0 {
+        return pause_at(others, at - 1);
+    }
+    match &first.part {
+        Some(part) => part.pause(),
+        None => 0,
     }
 }

@@ -7,10 +7,11 @@ use std::test::Fail;
 use ts_iobuf::IoBuffer;
 use ts_link::{NoMemory, Octets};
 
-// Passes a body on, and writes a tail behind it.
+/// Passes a body on, and writes a tail behind it.
 #[derive(Drop)]
-struct Tail {
-    text: Octets,
+pub struct Tail {
+    pub text: Octets,
+    pub pause: u64,
 }
 
 impl Transform for Tail {
@@ -20,9 +21,11 @@ impl Transform for Tail {
 
     ghost whole = { λ line z. z ++ line };
 
+    ghost wait = { λ s. s.pause };
+
     fn fresh(alloc: Global, line: &Octets) -> Result<Tail, NoMemory> {
         let text = Octets::copy_of(alloc, line.bytes())?;
-        Ok(Tail { text })
+        Ok(Tail { text, pause: 0 })
     }
 
     fn feed(&mut self, input: &[u8], out: &mut IoBuffer) -> Result<usize, NoMemory> {
@@ -35,7 +38,7 @@ impl Transform for Tail {
     }
 
     fn pause(&self) -> u64 {
-        0
+        self.pause
     }
 }
 
@@ -76,6 +79,7 @@ fn a_stage_is_blocked_where_65_536_bytes_wait_after_it(rt: HostRuntime) -> Resul
     let mut parts = Vec::new(rt.alloc());
     parts.push(Tail {
         text: Octets::copy_of(rt.alloc(), b"")?,
+        pause: 0,
     })?;
     let mut chain = Chain::make(rt.alloc(), parts)?;
     chain.give(vec![in rt.alloc(); b'x'; 65_537]?.as_slice())?;

@@ -18,6 +18,9 @@ pub trait Transform: Sized {
     // What a line makes of a whole body.
     ghost whole: { Self.Line → List ℕ → List ℕ };
 
+    // The milliseconds that a stage waits between two of its events.
+    ghost wait: { Self → ℕ };
+
     /// A transform that got nothing yet.
     fn fresh(alloc: Global, line: &Self::Line) -> Result<Self, NoMemory>
         ensures { IfOk result (λ t. (z : List ℕ) → rest t z ≡ whole line.now z) };
@@ -35,5 +38,6 @@ pub trait Transform: Sized {
         ensures err { OnErr result ((self.new ≡ self.old) × (out.new ≡ out.old)) };
 
     /// The milliseconds that a stage waits between two of its events.
-    fn pause(&self) -> u64;
+    fn pause(&self) -> u64
+        ensures { result ≡ wait self.now };
 }

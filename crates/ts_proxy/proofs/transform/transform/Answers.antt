@@ -1,4 +1,4 @@
-use Rattle.std.proofs.Common.{◌≡◌, ap, subst, ◌∙◌}
+use Rattle.std.proofs.Common.{◌≡◌, ap, subst}
 use Rattle.ts_config.specs.Bodies.{compose_lines}
 use Rattle.ts_proxy.specs.Answers.{TookText}
 use Rattle.ts_proxy.proofs.Opening.{writing-comes, transformed-text, transformed-refused, body-refused}
@@ -12,9 +12,8 @@ returns-in-Ok-read-clause-told g c = λ tells.
 
 pub returns-in-Ok-read-clause-took : goal.returns-in-Ok-read-clause-took
 returns-in-Ok-read-clause-took g c = λ tells out_tells.
-    let text : compose_lines c.as_slice.result.now c.bytes-in-Ok-read.result.now ≡ compose_lines c.in-Ok.lines.items c.in-Ok-read.bytes =
-    ap (λ ls. compose_lines ls c.bytes-in-Ok-read.result.now) c.as_slice.ensures.value
-    ∙ ap (compose_lines c.in-Ok.lines.items) c.bytes-in-Ok-read.ensures in
+    let text : compose_lines c.as_slice.result.now c.in-Ok-read.bytes ≡ compose_lines c.in-Ok.lines.items c.in-Ok-read.bytes =
+    ap (λ ls. compose_lines ls c.in-Ok-read.bytes) c.as_slice.ensures.value in
     rw (transformed-text (g.S.Shelf.file c.args.shelf.now) (g.S.Shelf.file c.read_setup.new.shelf) c.args.config.now c.args.body.now c.in-Ok-read.bytes
     c.in-Ok.lines.items (c.in-Ok.ensures.told tells c.args.body.now) (c.in-Ok.ensures.files tells) (c.in-Ok-read.ensures.told tells) c.in-Ok-read.ensures.limit)
     (subst (λ t. TookText c.send_body.result (g.K.Sink.taken c.args.out.now) (g.K.Sink.taken c.send_body.new.out) t) text (c.send_body.ensures.told out_tells))

@@ -1,0 +1,60 @@
+-- A world of a chain stays sound while its client takes bytes.
+use Rattle.std.proofs.Common.{◌≡◌, ℕ, ◌<◌, ◌≤◌, ◌++◌, List, [], Bool, true, Option, length, take, sym, ap, subst, ◌∙◌, append_assoc}
+use Rattle.std.proofs.lemmas.List.{take-take, append-nil}
+use Rattle.ts_journal.specs.declared.entry.Pending.{Pending}
+use Rattle.ts_group.specs.declared.action.Named.{Named}
+use Rattle.ts_transform.specs.declared.continuation.StageContinuation.{StageContinuation}
+use Rattle.ts_transform.specs.declared.world.ChainWorld.{ChainWorld}
+use Rattle.ts_transform.specs.Flow.{ChainState}
+use Rattle.ts_transform.specs.Cover.{IsSound, IsAwake}
+use Rattle.ts_proxy.specs.Took.{TookFront}
+use Rattle.ts_proxy.specs.Driven.{Passes, StaysSound}
+
+pub stays_refl : {P : Type 0} (c : ChainState P) (ts : List (Option StageContinuation)) (running : Bool) → StaysSound c c ts ts running running
+stays_refl c ts running = record { sound = λ pending roles awake s. s; awake = λ awake. awake }
+
+-- its client takes some more
+pub stays_taken : {P : Type 0} (c d e : ChainState P) (ts us vs : List (Option StageContinuation)) (was now next : Bool) → StaysSound c d ts us was now
+    → ((pending : List Pending) (roles : List Named) → IsSound d us now pending roles → (now ≡ true → IsAwake d us) → IsSound e vs next pending roles)
+    → (IsAwake d us → IsAwake e vs) → next ≡ now → StaysSound c e ts vs was next
+stays_taken c d e ts us vs was now next h sound awake same = record {
+  sound = λ pending roles woken s. sound pending roles (h.sound pending roles woken s) (h.awake woken);
+  awake = λ woken runs. awake (h.awake woken (sym same ∙ runs));
+}
+
+-- a world that was woken is sound after its client has taken bytes
+pub drained : {P : Type 0} (was before now : ChainWorld P) (pending : List Pending) (roles : List Named) → before ≡ was
+    → StaysSound before.chain now.chain before.table.items now.table.items before.running now.running
+    → (was.running ≡ true → IsAwake was.chain was.table.items) → IsSound was.chain was.table.items was.running pending roles
+    → IsSound now.chain now.table.items now.running pending roles
+drained was before now pending roles same h awake s =
+    h.sound pending roles
+    (subst (λ w. w.running ≡ true → IsAwake w.chain w.table.items) (sym same) awake)
+    (subst (λ w. IsSound w.chain w.table.items w.running pending roles) (sym same) s)
+
+-- more was taken
+pub passes_then : (old mid new a b c d : List ℕ) → Passes old mid a b → c ≡ b → Passes mid new c d → Passes old new a d
+passes_then old mid new a b c d p same q = record {
+  took = p.took ++ q.took;
+  grew = q.grew ∙ ap (λ l. l ++ q.took) p.grew ∙ append_assoc old p.took q.took;
+  front = p.front ∙ ap (λ l. p.took ++ l) (sym same ∙ q.front) ∙ sym (append_assoc p.took q.took d);
+}
+
+-- a block is a front of what waits
+abbrev pub IsFront : List ℕ → List ℕ → Type 0
+IsFront b w = (0 < length b) × (length b ≤ length w) × (b ≡ take (length b) w)
+
+-- a front of a block was taken, and so a front of what waits
+pub passes_taken : (old mid new a b c w block : List ℕ) (n : ℕ) → Passes old mid a b → new ≡ mid ++ take n block → block ≡ take (length block) w → n ≤ length block
+    → b ≡ take n w ++ c → Passes old new a c
+passes_taken old mid new a b c w block n p grew is within flow = record {
+  took = p.took ++ take n block;
+  grew = grew ∙ ap (λ l. l ++ take n block) p.grew ∙ append_assoc old p.took (take n block);
+  front =
+      let same : take n block ≡ take n w = ap (take n) is ∙ take-take n (length block) w within in
+      p.front ∙ ap (λ l. p.took ++ l) (flow ∙ ap (λ l. l ++ c) (sym same)) ∙ sym (append_assoc p.took (take n block) c);
+}
+
+-- the whole of a text is a front of it
+pub whole_front : (old new text : List ℕ) → new ≡ old ++ text → TookFront old new text
+whole_front old new text is = record { took = text; left = []; grew = is; front = append-nil text }

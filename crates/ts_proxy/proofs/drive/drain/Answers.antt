@@ -1,0 +1,22 @@
+use Rattle.std.proofs.Common.{◌≡◌, ◌-◌, [], rules, length, length-drop, arith, ap, subst, ◌∙◌}
+use Rattle.ts_transform.specs.Flow.{last_wait}
+use Rattle.ts_proxy.proofs.Staying.{IsFront, passes_taken, stays_taken}
+use Rattle.ts_proxy.proofs.drive.drain.Goals as goal
+
+pub loop-block-preserved : goal.loop-block-preserved
+loop-block-preserved g c =
+    let from = c.args.world.now in
+    let before = c.loop-block.world in
+    let after = c.take.new.self in
+    let block = subst (λ d. IsFront c.in-Some.block.now (last_wait d.first d.stages)) c.chain.ensures c.in-Some.ensures in
+    record {
+      passes = λ tells. passes_taken _ _ _ _ _ _ (last_wait before.chain.first before.chain.stages) c.in-Some.block.now c.in-Took.count (c.loop-block.invariant.passes tells)
+          (c.in-Took.ensures.taken tells) block.2 c.in-Took.ensures.count.1 (c.take.ensures.flow []);
+      faults = search rules;
+      falls =
+          let less : length (last_wait after.chain.first after.chain.stages) ≡ length (last_wait before.chain.first before.chain.stages) - c.in-Took.count =
+          ap length c.take.ensures.wait ∙ length-drop c.in-Took.count (last_wait before.chain.first before.chain.stages) in
+          omega (arith, c.loop-block.invariant.falls, c.take.ensures.falls [], c.take.ensures.kept.1, less, c.in-Took.ensures.count.1, block.1);
+      stays = stays_taken from.chain before.chain after.chain from.table.items before.table.items after.table.items from.running before.running after.running
+          c.loop-block.invariant.stays c.take.ensures.sound c.take.ensures.awake c.take.ensures.kept.2;
+    }

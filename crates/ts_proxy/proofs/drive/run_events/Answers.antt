@@ -1,0 +1,17 @@
+use Rattle.std.proofs.Common.{[], rules, ap, ◌∙◌}
+use Rattle.ts_transform.specs.Flow.{flow}
+use Rattle.ts_proxy.proofs.Staying.{drained, passes_then}
+use Rattle.ts_proxy.proofs.drive.run_events.Goals as goal
+
+pub driving-preserved : goal.driving-preserved
+driving-preserved g c =
+    let handled = c.take_turn.new.group in
+    record {
+      passes = λ tells. passes_then _ _ _ _ _ _ _ (c.driving.invariant.passes tells)
+          (ap (λ w. flow g.P.Transform.rest w.chain []) c.world_mut.ensures.value ∙ c.in-Ok.ensures.flow) (c.drain.ensures.told tells);
+      faults = search rules;
+      idle = search rules;
+      sound = drained handled.world c.world_mut.result.now c.drain.new.world handled.cx.log.state.pending handled.cx.roles c.world_mut.ensures.value c.drain.ensures.stays
+          c.in-Ok.ensures.awake c.in-Ok.ensures.sound;
+      dry = search rules;
+    }

@@ -1,0 +1,22 @@
+use Rattle.std.proofs.Common.{◌≡◌, ◌+◌, [], length, true, false}
+use Rattle.ts_transform.specs.Flow.{flow, last_wait}
+use Rattle.ts_transform.specs.Cover.{IsSound}
+use Rattle.ts_proxy.specs.Driven.{Passes, left_of}
+use Rattle.ts_proxy.proofs.drive.run_events.Given as goal
+
+-- what was taken and what still flows is what flowed, nothing failed, and nothing waits for the client between two turns
+abbrev pub invariant-driving : goal.invariant-driving
+invariant-driving g l =
+    let world = l.group.world in
+    record {
+      passes : g.K.Sink.tells ≡ true
+          → Passes (g.K.Sink.taken l.initial.out) (g.K.Sink.taken l.out) (flow g.P.Transform.rest l.initial.group.world.chain []) (flow g.P.Transform.rest world.chain []);
+      faults : g.K.Sink.faults l.out ≡ g.K.Sink.faults l.initial.out;
+      idle : l.group.cx.log.state.held ≡ false;
+      sound : IsSound world.chain world.table.items world.running l.group.cx.log.state.pending l.group.cx.roles;
+      dry : last_wait world.chain.first world.chain.stages ≡ [];
+    }
+
+-- each event that is handled, and each byte that is taken, leaves less to do
+abbrev pub decreases-driving : goal.decreases-driving
+decreases-driving g l = left_of g.P.Transform.rest l.group.world.chain l.group.world.unharmed + length l.group.cx.log.state.pending

@@ -1,0 +1,13 @@
+use Rattle.std.proofs.Common.{[], ◌++◌, ◌∙◌, ap, map}
+use Rattle.std.proofs.lemmas.List.{append-nil}
+use Rattle.ts_transform.specs.Flow.{flow_from, fresh_stage}
+use Rattle.ts_transform.proofs.Flowing.{flow_from-fresh}
+use Rattle.ts_transform.proofs.chain.Chain.over.Goals as goal
+
+pub returns-clause-flow : goal.returns-clause-flow
+returns-clause-flow g c =
+    let rest = g.P.Transform.rest in
+    ap (λ ss. flow_from rest ss (c.in_ok-first.first ++ [])) c.in_ok-stages.ensures
+    ∙ ap (λ first. flow_from rest (map fresh_stage c.args.parts.items) (first ++ [])) c.in_ok-first.ensures
+    ∙ ap (flow_from rest (map fresh_stage c.args.parts.items)) (append-nil c.args.body)
+    ∙ flow_from-fresh rest c.args.parts.items c.args.body

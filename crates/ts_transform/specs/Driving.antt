@@ -1,0 +1,134 @@
+-- Which continuation drives which stage, and that one that is roused has a pending event at which its stage works. (The
+-- Developer's Guide, "Writing a Transformation Plugin": a transformation's handler works at the events of its
+-- VConnection, and passes errors on.)
+use Rattle.std.specs.Prelude.{◌≡◌, ◌≢◌, ℕ, zero, suc, ◌+◌, ◌≤◌, List, [], ◌∷◌, length, Bool, true, false, Option, Some, None, map, slice_get, ◌⊎◌}
+use Rattle.ts_journal.specs.declared.entry.ContKey.{ContKey}
+use Rattle.ts_journal.specs.declared.entry.Event.{Event}
+use Rattle.ts_journal.specs.declared.entry.Event.TheVariants.{Immediate, Timeout, Error, ReadReady, WriteReady, ReadComplete, WriteComplete, Eos, InactivityTimeout, Hook}
+use Rattle.ts_journal.specs.declared.entry.Pending.{Pending}
+use Rattle.ts_journal.specs.State.{pending_at, IsLive}
+use Rattle.ts_group.specs.declared.action.Named.{Named}
+use Rattle.ts_group.specs.Changes.{HasLost}
+use Rattle.ts_group.specs.Context.{Context, role_at, moment_after, AllPlain}
+use Rattle.ts_transform.specs.declared.continuation.StageContinuation.{StageContinuation}
+
+-- a stage works at each event, but for an error, which it passes on, and for the end of its output
+abbrev pub works_at : Event → Bool
+works_at Immediate = true
+works_at Timeout = true
+works_at Error = false
+works_at ReadReady = true
+works_at WriteReady = true
+works_at ReadComplete = true
+works_at WriteComplete = false
+works_at Eos = true
+works_at InactivityTimeout = true
+works_at Hook = true
+
+-- an event of the key is pending at which its stage works
+pub record HasEvent (pending : List Pending) (key : ContKey) : Type 0 where
+  pub event : Pending
+  pub there : pending_at event.number pending ≡ Some event
+  pub of_key : event.key ≡ key
+  pub works : works_at event.event ≡ true
+
+-- an event of a kind is pending of the key
+pub record HasKind (pending : List Pending) (key : ContKey) (kind : Event) : Type 0 where
+  pub event : Pending
+  pub there : pending_at event.number pending ≡ Some event
+  pub of_key : event.key ≡ key
+  pub is : event.event ≡ kind
+
+-- a continuation has the role of its stage, and an event where it is roused
+pub record IsOfStage (pending : List Pending) (roles : List Named) (role : ℕ) (t : StageContinuation) : Type 0 where
+  pub named : role_at t.key.index roles ≡ Some role
+  pub event : t.roused ≡ true → HasEvent pending t.key
+
+abbrev pub IsOfStageIf : List Pending → List Named → ℕ → Option StageContinuation → Type 0
+IsOfStageIf pending roles role None = Unit {0}
+IsOfStageIf pending roles role (Some t) = IsOfStage pending roles role t
+
+-- the continuations of stages have the roles from this one on; a stage may have none
+abbrev pub AreOfStages : List Pending → List Named → ℕ → List (Option StageContinuation) → Type 0
+AreOfStages pending roles role [] = Unit {0}
+AreOfStages pending roles role (t ∷ ts) = IsOfStageIf pending roles role t × AreOfStages pending roles (role + 1) ts
+
+-- the keys of the continuations
+abbrev pub key_if : Option StageContinuation → Option ContKey
+key_if None = None
+key_if (Some t) = Some t.key
+
+abbrev pub keys_of : List (Option StageContinuation) → List (Option ContKey)
+keys_of ts = map key_if ts
+
+-- the stage has a continuation that is roused
+abbrev pub IsRousedIf : Option StageContinuation → Type 0
+IsRousedIf None = ⊥
+IsRousedIf (Some t) = t.roused ≡ true
+
+-- so has the stage at a place
+abbrev pub IsRoused : List (Option StageContinuation) → ℕ → Type 0
+IsRoused [] at = ⊥
+IsRoused (t ∷ ts) zero = IsRousedIf t
+IsRoused (t ∷ ts) (suc at) = IsRoused ts at
+
+-- the stage at a place is told of an event, if it has a continuation
+abbrev pub IsTold : List Pending → Event → List (Option StageContinuation) → ℕ → Type 0
+IsTold pending event ts at = (t : StageContinuation) → slice_get ts at ≡ Some (Some t) → HasKind pending t.key event
+
+-- a continuation was destroyed, if it was live
+abbrev pub IsDestroyed : Context → Context → ContKey → Type 0
+IsDestroyed old new key = HasLost old.log.state new.log.state old.roles new.roles key ⊎ (IsLive old.log.state.live key → ⊥)
+
+-- so was that of the stage at a place
+abbrev pub IsClosed : Context → Context → List (Option StageContinuation) → ℕ → Type 0
+IsClosed old new ts at = (t : StageContinuation) → slice_get ts at ≡ Some (Some t) → IsDestroyed old new t.key
+
+-- a continuation whose event was handled, and one that was destroyed
+abbrev pub calmed : Option StageContinuation → Option StageContinuation
+calmed None = None
+calmed (Some t) = Some (record t { roused = false })
+
+abbrev pub gone : Option StageContinuation → Option StageContinuation
+gone t = None
+
+-- the continuations with another at one place
+abbrev pub changed : (Option StageContinuation → Option StageContinuation) → List (Option StageContinuation) → ℕ → List (Option StageContinuation)
+changed f [] at = []
+changed f (t ∷ ts) zero = f t ∷ ts
+changed f (t ∷ ts) (suc at) = t ∷ changed f ts at
+
+-- the continuations when an event of one was handled, by whether its stage works at it
+abbrev pub calmed_for : Bool → List (Option StageContinuation) → ℕ → List (Option StageContinuation)
+calmed_for true ts at = changed calmed ts at
+calmed_for false ts at = ts
+
+-- what was pending is so, under the same roles, and no event that was added is periodic
+pub record Keeps (old new : Context) : Type 0 where
+  pub pending : (n : ℕ) (p : Pending) → pending_at n old.log.state.pending ≡ Some p → pending_at n new.log.state.pending ≡ Some p
+  pub roles : new.roles ≡ old.roles
+  pub plain : AllPlain old.log.state.pending → AllPlain new.log.state.pending
+  pub turn : new.log.state.held ≡ true
+
+-- each event that was set is due after the pause, and no later
+abbrev pub SetsAfter : ℕ → Context → Context → Type 0
+SetsAfter pause old new = (n : ℕ) (p : Pending) → pending_at n old.log.state.pending ≡ None → pending_at n new.log.state.pending ≡ Some p
+    → (moment_after old.moment pause ≤ p.due) × (p.due ≤ old.moment + pause)
+
+-- at most so many events were set
+pub record SetsFew (most : ℕ) (old new : Context) : Type 0 where
+  pub next : new.log.state.next ≤ old.log.state.next + most
+  pub pending : length new.log.state.pending ≤ length old.log.state.pending + most
+
+-- an event of the role was handled, and each other event stays as it was
+pub record IsHandled (before now : List Pending) (roles : List Named) (role : ℕ) (event : Event) : Type 0 where
+  pub handled : Pending
+  pub event_is : handled.event ≡ event
+  pub there : pending_at handled.number before ≡ Some handled
+  pub role_is : role_at handled.key.index roles ≡ Some role
+  pub others : (n : ℕ) (p : Pending) → n ≢ handled.number → pending_at n before ≡ Some p → pending_at n now ≡ Some p
+
+-- an event of the key is pending at which its stage works, if there is a key
+abbrev pub HasEventIf : List Pending → Option ContKey → Type 0
+HasEventIf pending None = Unit {0}
+HasEventIf pending (Some key) = HasEvent pending key

@@ -1,0 +1,84 @@
+// The continuations of stages, and how they are roused.
+ghost use Rattle.std.specs.Prelude.{◌≡◌, ℕ, ◌<◌, true, OnOk};
+ghost use Rattle.ts_group.specs.Entries.{Grows};
+ghost use Rattle.ts_journal.specs.declared.entry.Event.TheVariants.{WriteReady};
+ghost use Rattle.ts_transform.specs.declared.continuation.Rouser.TheVariants as Rouser;
+ghost use Rattle.ts_transform.specs.Driving.{works_at, HasEvent, HasKind, IsOfStageIf, IsRousedIf, Keeps, SetsAfter, SetsFew, key_if};
+
+use ts_group::{Action, Cx, SetFault};
+use ts_journal::{ContKey, Event};
+
+/// The continuation of a stage, and whether an event of it is pending at which the stage works.
+#[derive(Clone, Copy, Debug, PartialEq, Eq)]
+pub struct StageContinuation {
+    pub key: ContKey,
+    pub roused: bool,
+}
+
+/// Who rouses a stage: the stage itself or its upstream, which reenables its output, or its downstream, which calls it
+/// once there is room.
+#[derive(Clone, Copy, Debug, PartialEq, Eq)]
+pub enum Rouser {
+    Upstream,
+    Downstream,
+}
+
+/// Whether a stage works at an event.
+pub fn works(event: Event) -> bool
+    ensures { result ≡ works_at event }
+{
+    match event {
+        Event::Error | Event::WriteComplete => false,
+        _ => true,
+    }
+}
+
+// Sets an event at which the stage works: after its pause, and if it has none, at once.
+#[tactic(auto, using(crate::proofs::Kept::set_keeps, crate::proofs::Kept::set_event, crate::proofs::Kept::works_soon, crate::proofs::Kept::set_after, crate::proofs::Kept::set_kind, crate::proofs::Kept::soon_now, crate::proofs::Kept::soon_later))]
+fn set_event(key: ContKey, rouser: Rouser, pause: u64, cx: &mut Cx) -> Result<Action, SetFault>
+    requires turn { cx.old.log.state.held ≡ true }
+    ensures grows { Grows cx.old cx.new }
+    ensures keeps { Keeps cx.old cx.new }
+    ensures few { SetsFew 1 cx.old cx.new }
+    ensures after { SetsAfter pause cx.old cx.new }
+    ensures event { OnOk result (HasEvent cx.new.log.state.pending key) }
+    ensures called { rouser ≡ Rouser.Downstream → pause ≡ 0 → OnOk result (HasKind cx.new.log.state.pending key WriteReady) }
+{
+    if pause > 0 {
+        return cx.schedule(key, pause);
+    }
+    match rouser {
+        Rouser::Upstream => cx.schedule(key, 0),
+        Rouser::Downstream => cx.call(key, Event::WriteReady),
+    }
+}
+
+/// Sees that an event of the continuation is pending at which its stage works.
+#[tactic(auto, using(ts_group::proofs::Grows::grows_refl, crate::proofs::Kept::keeps_refl, crate::proofs::Kept::few_refl, crate::proofs::Kept::after_refl, crate::proofs::Kept::kept_if, crate::proofs::Kept::roused_if))]
+pub fn rouse(
+    slot: &mut Option<StageContinuation>,
+    rouser: Rouser,
+    pause: u64,
+    cx: &mut Cx,
+) -> Result<(), SetFault>
+    requires turn { cx.old.log.state.held ≡ true }
+    ensures grows { Grows cx.old cx.new }
+    ensures keeps { Keeps cx.old cx.new }
+    ensures few { SetsFew 1 cx.old cx.new }
+    ensures after { SetsAfter pause cx.old cx.new }
+    ensures of_stage { (role : ℕ) → IsOfStageIf cx.old.log.state.pending cx.old.roles role slot.old
+        → IsOfStageIf cx.new.log.state.pending cx.new.roles role slot.new }
+    ensures roused { OnOk result (IsRousedIf slot.new) }
+    ensures still { IsRousedIf slot.old → IsRousedIf slot.new }
+    ensures key { key_if slot.new ≡ key_if slot.old }
+{
+    let Some(continuation) = slot else {
+        return Err(SetFault::Dead);
+    };
+    if continuation.roused {
+        return Ok(());
+    }
+    set_event(continuation.key, rouser, pause, cx)?;
+    continuation.roused = true;
+    Ok(())
+}

@@ -1,0 +1,355 @@
+// The handler of a stage (the Developer's Guide, "Writing a Transformation Plugin"): it moves a piece, reenables its
+// output, and calls its upstream once there is room.
+ghost use Rattle.std.specs.Prelude.{◌≡◌, ℕ, ◌+◌, ◌*◌, ◌<◌, ◌≤◌, ◌⊎◌, List, [], length, true, false, OnOk, MatchOption};
+ghost use Rattle.std.specs.Bool.{OnTrue};
+ghost use Rattle.ts_journal.specs.declared.entry.Event.TheVariants.{Error, WriteComplete};
+ghost use Rattle.ts_journal.specs.declared.entry.Pending.{Pending};
+ghost use Rattle.ts_group.specs.Context.{AllPlain};
+ghost use Rattle.ts_group.specs.Entries.{Grows};
+ghost use Rattle.ts_transform.specs.Flow.{flow, left_to_do, PumpsOnce, ended_at, pause_at, MustPump};
+ghost use Rattle.ts_transform.specs.Driving.{AreOfStages, IsRoused, Keeps, SetsAfter, SetsFew, keys_of, IsTold, IsClosed, IsHandled, works_at, gone, changed};
+ghost use Rattle.ts_transform.specs.Cover.{IsDriven, IsDrivenBut, IsDrivenFor, IsRoundRoused};
+
+use crate::chain::Chain;
+use crate::continuation::{Rouser, StageContinuation, works};
+use crate::pump::Pumped;
+use crate::rousing::{calm_for, rouse_at, take_at, tell};
+use crate::transform::Transform;
+use ts_group::{Cx, SetFault};
+use ts_journal::Event;
+
+/// Rouses the stage at a place if it must work.
+#[tactic(auto, using(ts_group::proofs::Grows::grows_refl, crate::proofs::Kept::keeps_refl, crate::proofs::Kept::few_refl, crate::proofs::Kept::after_refl))]
+pub fn rouse_if_ready<P: Transform + Drop>(
+    chain: &Chain<P>,
+    table: &mut [Option<StageContinuation>],
+    at: usize,
+    rouser: Rouser,
+    cx: &mut Cx,
+) -> Result<(), SetFault>
+    requires turn { cx.old.log.state.held ≡ true }
+    ensures grows { Grows cx.old cx.new }
+    ensures keeps { Keeps cx.old cx.new }
+    ensures few { SetsFew 1 cx.old cx.new }
+    ensures after { SetsAfter (pause_at P.wait chain.now.stages at) cx.old cx.new }
+    ensures of_stages { (role : ℕ) → AreOfStages cx.old.log.state.pending cx.old.roles role table.old
+        → AreOfStages cx.new.log.state.pending cx.new.roles role table.new }
+    ensures ready { OnOk result (MustPump chain.now.given chain.now.first chain.now.stages at → IsRoused table.new at) }
+    ensures still { (j : ℕ) → IsRoused table.old j → IsRoused table.new j }
+    ensures len { length table.new ≡ length table.old }
+    ensures keys { keys_of table.new ≡ keys_of table.old }
+{
+    if !chain.must_pump(at) {
+        return Ok(());
+    }
+    if at >= table.len() {
+        return Err(SetFault::Dead);
+    }
+    rouse_at(table, at, rouser, chain.pause(at), cx)
+}
+
+// Rouses the stage before a place, if there is one that must work.
+#[tactic(auto, using(ts_group::proofs::Grows::grows_refl, crate::proofs::Kept::keeps_refl, crate::proofs::Kept::few_refl))]
+fn rouse_before<P: Transform + Drop>(
+    chain: &Chain<P>,
+    table: &mut [Option<StageContinuation>],
+    at: usize,
+    cx: &mut Cx,
+) -> Result<(), SetFault>
+    requires turn { cx.old.log.state.held ≡ true }
+    ensures grows { Grows cx.old cx.new }
+    ensures keeps { Keeps cx.old cx.new }
+    ensures few { SetsFew 1 cx.old cx.new }
+    ensures of_stages { (role : ℕ) → AreOfStages cx.old.log.state.pending cx.old.roles role table.old
+        → AreOfStages cx.new.log.state.pending cx.new.roles role table.new }
+    ensures ready { OnOk result ((j : ℕ) → j + 1 ≡ at → MustPump chain.now.given chain.now.first chain.now.stages j → IsRoused table.new j) }
+    ensures still { (j : ℕ) → IsRoused table.old j → IsRoused table.new j }
+    ensures len { length table.new ≡ length table.old }
+    ensures keys { keys_of table.new ≡ keys_of table.old }
+{
+    if at == 0 {
+        return Ok(());
+    }
+    rouse_if_ready(chain, table, at - 1, Rouser::Downstream, cx)
+}
+
+// Rouses the stages round one that worked, those of them that must work: the next, since its output has more; the one
+// before, since there is room; and itself.
+#[tactic(auto, using(ts_group::proofs::Grows::grows, crate::proofs::Kept::keeps_trans))]
+fn rouse_round<P: Transform + Drop>(
+    chain: &Chain<P>,
+    table: &mut [Option<StageContinuation>],
+    at: usize,
+    cx: &mut Cx,
+) -> Result<(), SetFault>
+    requires turn { cx.old.log.state.held ≡ true }
+    requires at { at < length table.old }
+    ensures grows { Grows cx.old cx.new }
+    ensures keeps { Keeps cx.old cx.new }
+    ensures few { SetsFew 3 cx.old cx.new }
+    ensures of_stages { (role : ℕ) → AreOfStages cx.old.log.state.pending cx.old.roles role table.old
+        → AreOfStages cx.new.log.state.pending cx.new.roles role table.new }
+    ensures round { OnOk result (IsRoundRoused chain.now table.new at) }
+    ensures still { (j : ℕ) → IsRoused table.old j → IsRoused table.new j }
+    ensures len { length table.new ≡ length table.old }
+    ensures keys { keys_of table.new ≡ keys_of table.old }
+{
+    rouse_if_ready(chain, table, at + 1, Rouser::Upstream, cx)?;
+    rouse_before(chain, table, at, cx)?;
+    rouse_if_ready(chain, table, at, Rouser::Upstream, cx)
+}
+
+// Lets a stage work whose event was handled, and rouses those round it that then must work.
+#[tactic(auto, using(ts_group::proofs::Grows::grows, crate::proofs::Kept::keeps_refl, crate::proofs::Kept::few_refl, crate::proofs::Kept::keeps_trans, crate::proofs::Told::pumped_once, crate::proofs::Told::pumped_none))]
+fn work<P: Transform + Drop>(
+    chain: &mut Chain<P>,
+    table: &mut [Option<StageContinuation>],
+    at: usize,
+    cx: &mut Cx,
+) -> Result<(), SetFault>
+    requires turn { cx.old.log.state.held ≡ true }
+    requires at { at < length table.old }
+    requires len { length table.old ≡ length chain.old.stages }
+    ensures grows { Grows cx.old cx.new }
+    ensures keeps { Keeps cx.old cx.new }
+    ensures few { SetsFew 4 cx.old cx.new }
+    ensures once_pumped { PumpsOnce P.rest chain.old chain.new }
+    ensures given { chain.new.given ≡ chain.old.given }
+    ensures flow { (z : List ℕ) → OnTrue chain.old.given (z ≡ []) → flow P.rest chain.new z ≡ flow P.rest chain.old z }
+    ensures pays { (z : List ℕ) → OnTrue chain.old.given (z ≡ []) →
+        100 * left_to_do P.rest chain.new z + length cx.new.log.state.pending ≤ 100 * left_to_do P.rest chain.old z + length cx.old.log.state.pending }
+    ensures driven { OnOk result (IsDrivenBut at chain.old table.old cx.old.log.state.pending cx.old.roles
+        → IsDriven chain.new table.new cx.new.log.state.pending cx.new.roles) }
+    ensures len { length table.new ≡ length table.old }
+    ensures stages { length chain.new.stages ≡ length chain.old.stages }
+
+    // Where it ended, the stage before it is told so.
+    ensures ended { OnOk result (ended_at chain.old.stages at ≡ false → ended_at chain.new.stages at ≡ true
+        → (j : ℕ) → j + 1 ≡ at → IsTold cx.new.log.state.pending WriteComplete table.new j) }
+    ensures keys { keys_of table.new ≡ keys_of table.old }
+{
+    let Ok(pumped) = chain.pump(at) else {
+        return Err(SetFault::NoMemory);
+    };
+    match pumped {
+        Pumped::Moved(_) => rouse_round(chain, table, at, cx),
+        Pumped::Ended => {
+            rouse_round(chain, table, at, cx)?;
+            tell_before(table, at, Event::WriteComplete, cx)
+        }
+        Pumped::Blocked { waiting: _ } => Ok(()),
+        Pumped::Idle => Ok(()),
+    }
+}
+
+// Calls the stage before a place with an event at which it does not work, if there is one.
+#[tactic(auto, using(ts_group::proofs::Grows::grows_refl, crate::proofs::Kept::keeps_refl, crate::proofs::Kept::few_refl))]
+fn tell_before(
+    table: &[Option<StageContinuation>],
+    at: usize,
+    event: Event,
+    cx: &mut Cx,
+) -> Result<(), SetFault>
+    requires turn { cx.old.log.state.held ≡ true }
+    requires at { at < length table.now }
+    ensures grows { Grows cx.old cx.new }
+    ensures keeps { Keeps cx.old cx.new }
+    ensures few { SetsFew 1 cx.old cx.new }
+    ensures told { OnOk result ((j : ℕ) → j + 1 ≡ at → IsTold cx.new.log.state.pending event table.now j) }
+{
+    if at == 0 {
+        return Ok(());
+    }
+    tell(table, at - 1, event, cx)
+}
+
+// Destroys the continuation of the stage at a place.
+#[tactic(auto, using(ts_group::proofs::Grows::grows_refl, crate::proofs::Closing::closed_gone, crate::proofs::Closing::closed_dead))]
+fn destroy_at(table: &mut [Option<StageContinuation>], at: usize, cx: &mut Cx)
+    requires turn { cx.old.log.state.held ≡ true }
+    requires at { at < length table.old }
+    ensures grows { Grows cx.old cx.new }
+    ensures turn { cx.new.log.state.held ≡ true }
+    ensures few { SetsFew 0 cx.old cx.new }
+    ensures plain { AllPlain cx.old.log.state.pending → AllPlain cx.new.log.state.pending }
+    ensures table { table.new ≡ changed gone table.old at }
+    ensures of_stages { (role : ℕ) → AreOfStages cx.old.log.state.pending cx.old.roles role table.old
+        → AreOfStages cx.new.log.state.pending cx.new.roles role table.new }
+    ensures closed { IsClosed cx.old cx.new table.old at }
+{
+    if let Some(continuation) = take_at(table, at) {
+        let _destroyed = cx.destroy(continuation.key);
+    }
+}
+
+// Acts at an event of the stage at a place. Where the stage has ended, its continuation is destroyed; it passes an
+// error on; at the end of its output it has nothing more to write there; else it works.
+#[tactic(auto, using(ts_group::proofs::Grows::grows_refl, crate::proofs::Kept::few_refl, crate::proofs::Told::pumped_none))]
+fn act<P: Transform + Drop>(
+    chain: &mut Chain<P>,
+    table: &mut [Option<StageContinuation>],
+    unharmed: &mut usize,
+    at: usize,
+    event: Event,
+    cx: &mut Cx,
+) -> Result<(), SetFault>
+    requires turn { cx.old.log.state.held ≡ true }
+    requires at { at < length table.old }
+    requires len { length table.old ≡ length chain.old.stages }
+    ensures grows { Grows cx.old cx.new }
+    ensures plain { AllPlain cx.old.log.state.pending → AllPlain cx.new.log.state.pending }
+    ensures few { SetsFew 4 cx.old cx.new }
+    ensures once_pumped { PumpsOnce P.rest chain.old chain.new }
+    ensures given { chain.new.given ≡ chain.old.given }
+    ensures flow { chain.old.given ≡ true → flow P.rest chain.new [] ≡ flow P.rest chain.old [] }
+    ensures pays { chain.old.given ≡ true →
+        100 * (left_to_do P.rest chain.new [] + unharmed.new) + length cx.new.log.state.pending
+        ≤ 100 * (left_to_do P.rest chain.old [] + unharmed.old) + length cx.old.log.state.pending }
+    ensures driven { OnOk result (IsDrivenFor (works_at event) at chain.old table.old cx.old.log.state.pending cx.old.roles
+        → IsDriven chain.new table.new cx.new.log.state.pending cx.new.roles) }
+    ensures len { length table.new ≡ length table.old }
+
+    // Where it had ended, its continuation is destroyed; and where it ends, the stage before it is told so.
+    ensures closed { ended_at chain.old.stages at ≡ true → IsClosed cx.old cx.new table.old at }
+    ensures ended { OnOk result (ended_at chain.old.stages at ≡ false → ended_at chain.new.stages at ≡ true
+        → (j : ℕ) → j + 1 ≡ at → IsTold cx.new.log.state.pending WriteComplete table.new j) }
+
+    // An error is passed on to the stage before it, once.
+    ensures passed { OnOk result (event ≡ Error → ended_at chain.old.stages at ≡ false → at < unharmed.old
+        → (j : ℕ) → j + 1 ≡ at → IsTold cx.new.log.state.pending Error table.new j) }
+    ensures harmed { event ≡ Error → ended_at chain.old.stages at ≡ false → unharmed.new ≤ at }
+    ensures once { event ≡ Error → SetsFew 1 cx.old cx.new }
+    ensures quiet { event ≡ Error → unharmed.old ≤ at → SetsFew 0 cx.old cx.new }
+
+    // At any other event nothing is passed on; and where the chain is as it was, no event is added.
+    ensures unharmed { (event ≡ Error → ⊥) → unharmed.new ≡ unharmed.old }
+    ensures rests { chain.old.given ≡ true → (event ≡ Error → ⊥) → chain.new ≡ chain.old → length cx.new.log.state.pending ≤ length cx.old.log.state.pending }
+
+    // No continuation is lost but that of a stage that had ended.
+    ensures keys { ended_at chain.old.stages at ≡ false → keys_of table.new ≡ keys_of table.old }
+{
+    if chain.has_ended(at) {
+        destroy_at(table, at, cx);
+        return Ok(());
+    }
+    if works(event) {
+        return work(chain, table, at, cx);
+    }
+    match event {
+        Event::Error if at < *unharmed => {
+            *unharmed = at;
+            tell_before(table, at, Event::Error, cx)
+        }
+        _ => Ok(()),
+    }
+}
+
+// Handles an event of the stage at a place.
+fn handle_at<P: Transform + Drop>(
+    chain: &mut Chain<P>,
+    table: &mut [Option<StageContinuation>],
+    unharmed: &mut usize,
+    at: usize,
+    event: Event,
+    cx: &mut Cx,
+) -> Result<(), SetFault>
+    requires turn { cx.old.log.state.held ≡ true }
+    requires at { at < length table.old }
+    requires len { length table.old ≡ length chain.old.stages }
+    ensures grows { Grows cx.old cx.new }
+    ensures plain { AllPlain cx.old.log.state.pending → AllPlain cx.new.log.state.pending }
+    ensures few { SetsFew 4 cx.old cx.new }
+    ensures once_pumped { PumpsOnce P.rest chain.old chain.new }
+    ensures given { chain.new.given ≡ chain.old.given }
+    ensures flow { chain.old.given ≡ true → flow P.rest chain.new [] ≡ flow P.rest chain.old [] }
+    ensures pays { chain.old.given ≡ true →
+        100 * (left_to_do P.rest chain.new [] + unharmed.new) + length cx.new.log.state.pending
+        ≤ 100 * (left_to_do P.rest chain.old [] + unharmed.old) + length cx.old.log.state.pending }
+    ensures driven { OnOk result ((before : List Pending) → IsHandled before cx.old.log.state.pending cx.old.roles (at + 1) event
+        → IsDriven chain.old table.old before cx.old.roles
+        → IsDriven chain.new table.new cx.new.log.state.pending cx.new.roles) }
+    ensures len { length table.new ≡ length table.old }
+
+    // Where it had ended, its continuation is destroyed; and where it ends, the stage before it is told so.
+    ensures closed { ended_at chain.old.stages at ≡ true → IsClosed cx.old cx.new table.old at }
+    ensures ended { OnOk result (ended_at chain.old.stages at ≡ false → ended_at chain.new.stages at ≡ true
+        → (j : ℕ) → j + 1 ≡ at → IsTold cx.new.log.state.pending WriteComplete table.new j) }
+
+    // An error is passed on to the stage before it, once.
+    ensures passed { OnOk result (event ≡ Error → ended_at chain.old.stages at ≡ false → at < unharmed.old
+        → (j : ℕ) → j + 1 ≡ at → IsTold cx.new.log.state.pending Error table.new j) }
+    ensures harmed { event ≡ Error → ended_at chain.old.stages at ≡ false → unharmed.new ≤ at }
+    ensures once { event ≡ Error → SetsFew 1 cx.old cx.new }
+    ensures quiet { event ≡ Error → unharmed.old ≤ at → SetsFew 0 cx.old cx.new }
+
+    // At any other event nothing is passed on; and where the chain is as it was, no event is added.
+    ensures unharmed { (event ≡ Error → ⊥) → unharmed.new ≡ unharmed.old }
+    ensures rests { chain.old.given ≡ true → (event ≡ Error → ⊥) → chain.new ≡ chain.old → length cx.new.log.state.pending ≤ length cx.old.log.state.pending }
+
+    // No continuation is lost but that of a stage that had ended.
+    ensures keys { ended_at chain.old.stages at ≡ false → keys_of table.new ≡ keys_of table.old }
+{
+    calm_for(table, at, event);
+    act(chain, table, unharmed, at, event, cx)
+}
+
+// The place of the stage of a role, among so many.
+fn place_of(role: u32, stages: usize) -> Option<usize>
+    ensures { MatchOption result ((role ≡ 0) ⊎ (1 + stages ≤ role)) (λ at. (role ≡ at + 1) × (at < stages)) }
+{
+    let at = (role as usize).checked_sub(1)?;
+    if at < stages { Some(at) } else { None }
+}
+
+/// Handles an event of the role of a stage; of another role it does nothing.
+#[tactic(auto, using(ts_group::proofs::Grows::grows_refl, crate::proofs::Kept::few_refl, crate::proofs::Told::pumped_none))]
+pub fn handle_stage<P: Transform + Drop>(
+    chain: &mut Chain<P>,
+    table: &mut Vec<Option<StageContinuation>>,
+    unharmed: &mut usize,
+    role: u32,
+    event: Event,
+    cx: &mut Cx,
+) -> Result<(), SetFault>
+    requires turn { cx.old.log.state.held ≡ true }
+    ensures grows { Grows cx.old cx.new }
+    ensures plain { AllPlain cx.old.log.state.pending → AllPlain cx.new.log.state.pending }
+    ensures few { SetsFew 4 cx.old cx.new }
+    ensures once_pumped { PumpsOnce P.rest chain.old chain.new }
+    ensures given { chain.new.given ≡ chain.old.given }
+    ensures flow { chain.old.given ≡ true → flow P.rest chain.new [] ≡ flow P.rest chain.old [] }
+    ensures pays { chain.old.given ≡ true →
+        100 * (left_to_do P.rest chain.new [] + unharmed.new) + length cx.new.log.state.pending
+        ≤ 100 * (left_to_do P.rest chain.old [] + unharmed.old) + length cx.old.log.state.pending }
+    ensures driven { OnOk result ((before : List Pending) → IsHandled before cx.old.log.state.pending cx.old.roles role event
+        → IsDriven chain.old table.old.items before cx.old.roles
+        → IsDriven chain.new table.new.items cx.new.log.state.pending cx.new.roles) }
+    ensures len { length table.new.items ≡ length table.old.items }
+    ensures fresh { length table.old.items ≡ 0 → chain.new ≡ chain.old }
+
+    // The stage of the role: where it had ended, its continuation is destroyed; where it ends, the stage before it is
+    // told so; and an error is passed on to the stage before it, once.
+    ensures closed { (at : ℕ) → role ≡ at + 1 → at < length table.old.items → length table.old.items ≡ length chain.old.stages
+        → ended_at chain.old.stages at ≡ true → IsClosed cx.old cx.new table.old.items at }
+    ensures ended { OnOk result ((at : ℕ) → role ≡ at + 1 → ended_at chain.old.stages at ≡ false → ended_at chain.new.stages at ≡ true
+        → (j : ℕ) → j + 1 ≡ at → IsTold cx.new.log.state.pending WriteComplete table.new.items j) }
+    ensures passed { OnOk result ((at : ℕ) → role ≡ at + 1 → at < length table.old.items → length table.old.items ≡ length chain.old.stages
+        → event ≡ Error → ended_at chain.old.stages at ≡ false → at < unharmed.old → (j : ℕ) → j + 1 ≡ at → IsTold cx.new.log.state.pending Error table.new.items j) }
+    ensures once { event ≡ Error → SetsFew 1 cx.old cx.new }
+    ensures quiet { event ≡ Error → unharmed.old < role → SetsFew 0 cx.old cx.new }
+
+    // At any other event nothing is passed on; and where the chain is as it was, no event is added.
+    ensures unharmed { (event ≡ Error → ⊥) → unharmed.new ≡ unharmed.old }
+    ensures rests { chain.old.given ≡ true → (event ≡ Error → ⊥) → chain.new ≡ chain.old → length cx.new.log.state.pending ≤ length cx.old.log.state.pending }
+
+    // No continuation is lost but that of a stage that had ended.
+    ensures keys { (at : ℕ) → role ≡ at + 1 → ended_at chain.old.stages at ≡ false → keys_of table.new.items ≡ keys_of table.old.items }
+{
+    if table.len() != chain.stages() {
+        return Ok(());
+    }
+    let Some(at) = place_of(role, table.len()) else {
+        return Ok(());
+    };
+    handle_at(chain, table, unharmed, at, event, cx)
+}

@@ -1,0 +1,142 @@
+// The continuations of a chain's stages, in the order of the stages.
+ghost use Rattle.std.specs.Prelude.{◌≡◌, ℕ, ◌+◌, ◌<◌, length, slice_get, Some, true, OnOk, IfOk};
+ghost use Rattle.ts_group.specs.Context.{Context};
+ghost use Rattle.ts_group.specs.Entries.{Grows};
+ghost use Rattle.ts_transform.specs.Driving.{IsOfStageIf, IsRousedIf, HasEventIf, AreOfStages, IsRoused, Keeps, SetsAfter, SetsFew, keys_of, IsTold, works_at, calmed, calmed_for, gone, changed};
+
+use crate::continuation::{Rouser, StageContinuation, rouse, works};
+use ts_group::{Cx, SetFault};
+use ts_journal::{ContKey, Event};
+
+/// Sees that an event of the stage at a place is pending at which it works.
+#[tactic(auto, using(crate::proofs::Kept::kept_if, crate::proofs::Kept::kept_all))]
+pub fn rouse_at(
+    table: &mut [Option<StageContinuation>],
+    at: usize,
+    rouser: Rouser,
+    pause: u64,
+    cx: &mut Cx,
+) -> Result<(), SetFault>
+    requires turn { cx.old.log.state.held ≡ true }
+    requires at { at < length table.old }
+    ensures grows { Grows cx.old cx.new }
+    ensures keeps { Keeps cx.old cx.new }
+    ensures few { SetsFew 1 cx.old cx.new }
+    ensures after { SetsAfter pause cx.old cx.new }
+    ensures of_stages { (role : ℕ) → AreOfStages cx.old.log.state.pending cx.old.roles role table.old
+        → AreOfStages cx.new.log.state.pending cx.new.roles role table.new }
+    ensures roused { OnOk result (IsRoused table.new at) }
+    ensures still { (j : ℕ) → IsRoused table.old j → IsRoused table.new j }
+    ensures keys { keys_of table.new ≡ keys_of table.old }
+{
+    let Some((first, others)) = table.split_first_mut() else {
+        unreachable!()
+    };
+    if at == 0 {
+        rouse(first, rouser, pause, cx)
+    } else {
+        rouse_at(others, at - 1, rouser, pause, cx)
+    }
+}
+
+// Says that the event of the stage at a place is handled.
+fn calm_at(table: &mut [Option<StageContinuation>], at: usize)
+    requires { at < length table.old }
+    ensures { table.new ≡ changed calmed table.old at }
+{
+    let Some((first, others)) = table.split_first_mut() else {
+        unreachable!()
+    };
+    if at > 0 {
+        calm_at(others, at - 1);
+    } else if let Some(continuation) = first {
+        continuation.roused = false;
+    }
+}
+
+/// Says so if the stage works at the event.
+#[tactic(auto, using(crate::proofs::Told::keys_calmed))]
+pub fn calm_for(table: &mut [Option<StageContinuation>], at: usize, event: Event)
+    requires { at < length table.old }
+    ensures table { table.new ≡ calmed_for (works_at event) table.old at }
+    ensures keys { keys_of table.new ≡ keys_of table.old }
+{
+    if works(event) {
+        calm_at(table, at);
+    }
+}
+
+/// Takes the continuation of the stage at a place out of the table.
+pub fn take_at(table: &mut [Option<StageContinuation>], at: usize) -> Option<StageContinuation>
+    requires { at < length table.old }
+    ensures table { table.new ≡ changed gone table.old at }
+    ensures taken { Some result ≡ slice_get table.old at }
+{
+    let Some((first, others)) = table.split_first_mut() else {
+        unreachable!()
+    };
+    if at == 0 {
+        first.take()
+    } else {
+        take_at(others, at - 1)
+    }
+}
+
+/// Calls the stage at a place with an event at which it does not work, if it has a continuation.
+#[tactic(auto, using(ts_group::proofs::Grows::grows_refl, crate::proofs::Kept::keeps_refl, crate::proofs::Kept::few_refl, crate::proofs::Kept::set_keeps, crate::proofs::Kept::set_few, crate::proofs::Kept::set_kind))]
+pub fn tell(
+    table: &[Option<StageContinuation>],
+    at: usize,
+    event: Event,
+    cx: &mut Cx,
+) -> Result<(), SetFault>
+    requires turn { cx.old.log.state.held ≡ true }
+    requires at { at < length table.now }
+    ensures grows { Grows cx.old cx.new }
+    ensures keeps { Keeps cx.old cx.new }
+    ensures few { SetsFew 1 cx.old cx.new }
+    ensures told { OnOk result (IsTold cx.new.log.state.pending event table.now at) }
+{
+    if let Some(continuation) = table[at] {
+        cx.call(continuation.key, event)?;
+    }
+    Ok(())
+}
+
+// Marks a continuation as roused, and answers the key for which an event has then to be set; `None` where it was roused
+// before.
+#[tactic(auto, using(crate::proofs::Kept::kept_if, crate::proofs::Kept::roused_if))]
+fn mark(slot: &mut Option<StageContinuation>) -> Result<Option<ContKey>, SetFault>
+    ensures marked { IfOk result (λ key. (a b : Context) → Keeps a b → HasEventIf b.log.state.pending key → (role : ℕ)
+        → IsOfStageIf a.log.state.pending a.roles role slot.old → IsOfStageIf b.log.state.pending b.roles role slot.new) }
+    ensures roused { OnOk result (IsRousedIf slot.new) }
+    ensures still { IsRousedIf slot.old → IsRousedIf slot.new }
+{
+    let Some(continuation) = slot else {
+        return Err(SetFault::Dead);
+    };
+    if continuation.roused {
+        return Ok(None);
+    }
+    continuation.roused = true;
+    Ok(Some(continuation.key))
+}
+
+/// Marks the last stage as roused, and answers the key for which an event has then to be set; `None` where it was
+/// roused before. It refuses where there is none, or it has no continuation.
+pub fn mark_last(table: &mut [Option<StageContinuation>]) -> Result<Option<ContKey>, SetFault>
+    ensures marked { IfOk result (λ key. (a b : Context) → Keeps a b → HasEventIf b.log.state.pending key → (role : ℕ)
+        → AreOfStages a.log.state.pending a.roles role table.old → AreOfStages b.log.state.pending b.roles role table.new) }
+    ensures last { OnOk result ((j : ℕ) → j + 1 ≡ length table.old → IsRoused table.new j) }
+    ensures still { (j : ℕ) → IsRoused table.old j → IsRoused table.new j }
+    ensures len { length table.new ≡ length table.old }
+{
+    let Some((first, others)) = table.split_first_mut() else {
+        return Err(SetFault::Dead);
+    };
+    if others.is_empty() {
+        mark(first)
+    } else {
+        mark_last(others)
+    }
+}

@@ -1,0 +1,42 @@
+// How a last stage goes on that found its client's boundary full.
+ghost use Rattle.std.specs.Prelude.{◌≡◌, ℕ, ◌+◌, ◌≤◌, length, true, false, OnOk, OnErr};
+ghost use Rattle.ts_transform.specs.Flow.{last_wait, pause_at};
+ghost use Rattle.ts_transform.specs.Driving.{SetsAfter};
+ghost use Rattle.ts_transform.specs.Cover.{IsSound, IsAwake};
+
+use crate::transform::Transform;
+use crate::world::ChainWorld;
+use ts_group::{Group, SetFault};
+
+impl<P: Transform + Drop> ChainWorld<P> {
+    /// Sets an event for the last stage, where that has not ended, 65,536 bytes or more wait after it, and it has none;
+    /// so it goes on once its client has taken bytes. It is asked in a turn, after its events, and bytes are taken before
+    /// the next: where none are, the stage finds its output full again.
+    pub fn wake(group: &mut Group<ChainWorld<P>>) -> Result<(), SetFault>
+        requires turn { group.old.cx.log.state.held ≡ true }
+        requires sound { IsSound group.old.world.chain group.old.world.table.items group.old.world.running group.old.cx.log.state.pending group.old.cx.roles }
+        ensures turn { group.new.cx.log.state.held ≡ true }
+        ensures turns { group.new.cx.log.state.turns ≡ group.old.cx.log.state.turns }
+        ensures chain { (group.new.world.chain ≡ group.old.world.chain) × (group.new.world.unharmed ≡ group.old.world.unharmed) }
+
+        // At most one event is set, and only where bytes wait for the client.
+        ensures few { length group.new.cx.log.state.pending ≤ length group.old.cx.log.state.pending + 1 }
+        ensures full { length group.new.cx.log.state.pending ≤ length group.old.cx.log.state.pending + length (last_wait group.old.world.chain.first group.old.world.chain.stages) }
+        ensures sound { IsSound group.new.world.chain group.new.world.table.items group.new.world.running group.new.cx.log.state.pending group.new.cx.roles }
+        ensures lost { OnErr result (group.new.world.running ≡ false) }
+
+        // It is due after the pause of the last stage.
+        ensures after { (at : ℕ) → at + 1 ≡ length group.old.world.chain.stages → SetsAfter (pause_at P.wait group.old.world.chain.stages at) group.old.cx group.new.cx }
+        ensures awake { OnOk result (group.new.world.running ≡ true → IsAwake group.new.world.chain group.new.world.table.items) }
+    {
+        let pause = group.world().last_pause();
+        let Some(key) = group.world_mut().mark() else {
+            return Ok(());
+        };
+        if let Err(fault) = group.cx().schedule(key, pause) {
+            group.world_mut().lose();
+            return Err(fault);
+        }
+        Ok(())
+    }
+}

@@ -1,0 +1,223 @@
+// A chain with its body, as a world of a mutex group.
+ghost use Rattle.std.specs.Prelude.{◌≡◌, ℕ, ◌+◌, ◌*◌, ◌<◌, ◌≤◌, ◌++◌, List, [], length, take, drop, map, true, false, refl, Some, None, IfOk, IfSome};
+ghost use Rattle.ts_journal.specs.declared.entry.Pending.{Pending};
+ghost use Rattle.ts_group.specs.declared.action.Named.{Named};
+ghost use Rattle.ts_group.specs.Context.{Context, AllPlain};
+ghost use Rattle.ts_group.specs.Entries.{Grows};
+ghost use Rattle.ts_transform.specs.Flow.{flow, compose, left_to_do, last_wait, last_ended, fresh_stage, pause_at, aborted, IsFinished, PumpsOnce, Takes};
+ghost use Rattle.ts_transform.specs.Driving.{Keeps, HasEventIf};
+ghost use Rattle.ts_transform.specs.Cover.{IsSound, IsDriven, IsAwake};
+
+use crate::chain::Chain;
+use crate::continuation::StageContinuation;
+use crate::handler::handle_stage;
+use crate::rousing::mark_last;
+use crate::start::begin;
+use crate::transform::Transform;
+use std::alloc::Global;
+use ts_group::{Asked, Cx, Want, World};
+use ts_journal::{ContKey, Event, Slotted};
+use ts_link::{NoMemory, Octets};
+
+/// A chain with its body. Each stage is a continuation, with the role of its place counted from 1.
+#[derive(Drop)]
+pub struct ChainWorld<P> {
+    chain: Chain<P>,
+    table: Vec<Option<StageContinuation>>,
+    // None of the first so many stages has passed an error on.
+    unharmed: usize,
+    // Each stage that must work has an event.
+    running: bool,
+}
+
+impl<P: Transform + Drop> ChainWorld<P> {
+    /// A chain of these parts, the first of which acts first, with the whole body before it. It was not started.
+    pub fn make(alloc: Global, parts: Vec<P>, body: Octets) -> Result<ChainWorld<P>, NoMemory>
+        ensures flow { IfOk result (λ w. flow P.rest w.chain [] ≡ compose P.rest parts.items body) }
+        ensures made { IfOk result (λ w. w.chain ≡ record { first = body; stages = map fresh_stage parts.items; given = true }) }
+        ensures fresh { IfOk result (λ w. (w.table.items ≡ []) × (w.running ≡ false) × (w.unharmed ≡ length parts.items)) }
+        ensures sound { IfOk result (λ w. (pending : List Pending) → (roles : List Named) → AllPlain pending → IsSound w.chain w.table.items w.running pending roles) }
+    {
+        let unharmed = parts.len();
+        let chain = Chain::over(alloc, parts, body)?;
+        Ok(ChainWorld {
+            chain,
+            table: Vec::new(alloc),
+            unharmed,
+            running: false,
+        })
+    }
+
+    /// The chain.
+    pub fn chain(&self) -> &Chain<P>
+        ensures { result.now ≡ self.now.chain }
+    {
+        &self.chain
+    }
+
+    /// Whether it was started and nothing was lost: each stage that must work has an event. So it has given all once
+    /// nothing is pending and nothing waits for its client.
+    #[tactic(auto, using(crate::proofs::Taking::all_given))]
+    pub fn is_running(&self) -> bool
+        ensures running { result ≡ self.now.running }
+        ensures all { result ≡ true → (roles : List Named) → IsSound self.now.chain self.now.table.items self.now.running [] roles
+            → last_wait self.now.chain.first self.now.chain.stages ≡ [] → flow P.rest self.now.chain [] ≡ [] }
+        ensures finished { result ≡ true → (roles : List Named) → IsSound self.now.chain self.now.table.items self.now.running [] roles
+            → last_wait self.now.chain.first self.now.chain.stages ≡ [] → IsFinished self.now.chain }
+    {
+        self.running
+    }
+}
+
+impl<P: Transform + Drop> ChainWorld<P> {
+    /// Takes away the first `n` bytes that wait for the client.
+    #[tactic(auto, using(crate::proofs::Taking::taken_awake))]
+    pub fn take(&mut self, n: usize)
+        requires { n ≤ length (last_wait self.old.chain.first self.old.chain.stages) }
+        ensures flow { (z : List ℕ) → flow P.rest self.old.chain z
+            ≡ take n (last_wait self.old.chain.first self.old.chain.stages) ++ flow P.rest self.new.chain z }
+        ensures takes { Takes self.old.chain.first self.old.chain.stages n self.new.chain.first self.new.chain.stages }
+        ensures falls { (z : List ℕ) → left_to_do P.rest self.new.chain z + n ≡ left_to_do P.rest self.old.chain z }
+        ensures wait { last_wait self.new.chain.first self.new.chain.stages ≡ drop n (last_wait self.old.chain.first self.old.chain.stages) }
+        ensures ended { last_ended self.new.chain.given self.new.chain.stages ≡ last_ended self.old.chain.given self.old.chain.stages }
+        ensures given { self.new.chain.given ≡ self.old.chain.given }
+        ensures len { length self.new.chain.stages ≡ length self.old.chain.stages }
+        ensures kept { (self.new.table.items ≡ self.old.table.items) × (self.new.unharmed ≡ self.old.unharmed) × (self.new.running ≡ self.old.running) }
+
+        // It stays sound, where `wake` was asked since a handler ran.
+        ensures sound { (pending : List Pending) → (roles : List Named) → IsSound self.old.chain self.old.table.items self.old.running pending roles
+            → (self.old.running ≡ true → IsAwake self.old.chain self.old.table.items)
+            → IsSound self.new.chain self.new.table.items self.new.running pending roles }
+        ensures awake { IsAwake self.old.chain self.old.table.items → IsAwake self.new.chain self.new.table.items }
+    {
+        self.chain.take(n);
+    }
+
+    /// Drops all that waits, and closes every stage: each destroys its continuation at its next event.
+    pub fn abort(&mut self)
+        ensures chain { self.new.chain ≡ aborted self.old.chain }
+        ensures flow { flow P.rest self.new.chain [] ≡ [] }
+        ensures left { left_to_do P.rest self.new.chain [] ≡ 0 }
+        ensures kept { (self.new.table.items ≡ self.old.table.items) × (self.new.unharmed ≡ self.old.unharmed) × (self.new.running ≡ self.old.running) }
+        ensures sound { (pending : List Pending) → (roles : List Named) → IsSound self.old.chain self.old.table.items self.old.running pending roles
+            → IsSound self.new.chain self.new.table.items self.new.running pending roles }
+    {
+        self.chain.abort();
+    }
+
+    // The milliseconds that the last stage waits between two of its events.
+    pub(crate) fn last_pause(&self) -> u64
+        ensures { (at : ℕ) → at + 1 ≡ length self.now.chain.stages → result ≡ pause_at P.wait self.now.chain.stages at }
+    {
+        match self.chain.stages().checked_sub(1) {
+            Some(last) => self.chain.pause(last),
+            None => 0,
+        }
+    }
+
+    // Says that an event was lost.
+    pub(crate) fn lose(&mut self)
+        ensures kept { (self.new.chain ≡ self.old.chain) × (self.new.table.items ≡ self.old.table.items) × (self.new.unharmed ≡ self.old.unharmed) }
+        ensures running { self.new.running ≡ false }
+    {
+        self.running = false;
+    }
+
+    // Marks the last stage as roused, where that has not ended and 65,536 bytes or more wait after it. It answers the
+    // key for which an event has then to be set.
+    pub(crate) fn mark(&mut self) -> Option<ContKey>
+        ensures chain { (self.new.chain ≡ self.old.chain) × (self.new.unharmed ≡ self.old.unharmed) }
+        ensures running { self.new.running ≡ true → self.old.running ≡ true }
+        ensures full { IfSome result (λ key. 65536 ≤ length (last_wait self.old.chain.first self.old.chain.stages)) }
+        ensures driven { (a b : Context) → Keeps a b → HasEventIf b.log.state.pending result → self.new.running ≡ true
+            → IsDriven self.old.chain self.old.table.items a.log.state.pending a.roles
+            → IsDriven self.new.chain self.new.table.items b.log.state.pending b.roles }
+        ensures awake { length self.old.table.items ≡ length self.old.chain.stages → self.new.running ≡ true → IsAwake self.new.chain self.new.table.items }
+        ensures len { length self.new.table.items ≡ length self.old.table.items }
+    {
+        if !self.chain.is_last_full() {
+            return None;
+        }
+        match mark_last(&mut self.table) {
+            Ok(key) => key,
+            Err(_) => {
+                self.running = false;
+                None
+            }
+        }
+    }
+}
+
+impl<P: Transform + Drop> Slotted for ChainWorld<P> {
+    type Tag = Octets;
+
+    type Trace = ();
+
+    // What the chain still gives.
+    ghost fits = { λ t w. flow P.rest w.chain [] ≡ t };
+
+    ghost trace = { λ w. tt };
+
+    ghost follows = { λ t u. Unit {0} };
+
+    ghost follows_itself = { λ t. tt };
+
+    ghost follows_on = { λ t u v a b. tt };
+}
+
+#[tactic(auto, using(ts_group::proofs::Grows::grows))]
+impl<P: Transform + Drop> World for ChainWorld<P> {
+    type Question = ();
+
+    type Reply = ();
+
+    ghost sound = { λ w s roles. IsSound w.chain w.table.items w.running s.pending roles };
+
+    ghost asking = { λ w s roles role group question. IsSound w.chain w.table.items w.running s.pending roles };
+
+    ghost left = { λ w s. Some (100 * (left_to_do P.rest w.chain [] + w.unharmed) + length s.pending) };
+
+    ghost begun = { λ old new. new.chain ≡ old.chain };
+
+    // A handler lets at most one stage work, by one pump.
+    ghost called = { λ old new asked. PumpsOnce P.rest old.chain new.chain };
+
+    fn start(&mut self, cx: &mut Cx) {
+        if self.table.is_empty() {
+            self.running = begin(&self.chain, &mut self.table, cx);
+        }
+    }
+
+    fn handle(&mut self, role: u32, event: Event, cx: &mut Cx) -> Want<()> {
+        if let Err(_) = handle_stage(
+            &mut self.chain,
+            &mut self.table,
+            &mut self.unharmed,
+            role,
+            event,
+            cx,
+        ) {
+            self.running = false;
+        }
+        Want::Nothing
+    }
+
+    fn told(&mut self, _role: u32, _asked: Asked<(), ()>, _cx: &mut Cx)
+        requires turn { _cx.old.log.state.held ≡ true }
+        requires sound { IsSound self.old.chain self.old.table.items self.old.running _cx.old.log.state.pending _cx.old.roles }
+        ensures grows { Grows _cx.old _cx.new }
+        ensures same { (_cx.new.log.state ≡ _cx.old.log.state) × (_cx.new.roles ≡ _cx.old.roles) × (self.new ≡ self.old) }
+    {}
+
+    fn asked(&mut self, _question: (), _cx: &mut Cx) {}
+
+    ghost sound_taken = { λ w s turn seat roles h. h };
+
+    ghost sound_given = { λ w s turn roles h. h };
+
+    ghost left_taken = { λ w s turn seat. refl };
+
+    ghost left_given = { λ w s turn. refl };
+
+    ghost rests = { λ t w s roles f h. tt };
+}

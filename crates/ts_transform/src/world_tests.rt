@@ -1,0 +1,468 @@
+// Chains as worlds of groups, driven to their ends; and chains and worlds that are aborted.
+ghost use Rattle.std.specs.Prelude.{◌≡◌, true, false, IfOk, OnOk};
+ghost use Rattle.ts_transform.specs.Cover.{IsSound, IsAwake};
+
+use crate::tests::Tail;
+use crate::{Chain, ChainWorld, Pumped};
+use std::alloc::Global;
+use std::test::Fail;
+use ts_group::{Group, Handling};
+use ts_journal::{ContKey, Entry, Event, Journal};
+use ts_link::{NoMemory, Octets};
+
+// More turns than any of the runs takes.
+const TURNS: u32 = 10_000;
+
+// A client that takes at most so many bytes after a turn, with the moment of its last turn.
+#[derive(Drop)]
+struct Client {
+    got: Vec<u8>,
+    most: usize,
+    moment: u64,
+}
+
+impl Client {
+    fn make(alloc: Global, most: usize) -> Client {
+        Client {
+            got: Vec::new(alloc),
+            most,
+            moment: 0,
+        }
+    }
+}
+
+// A tail for each text, with its pause.
+fn tails(alloc: Global, parts: &[(&[u8], u64)]) -> Result<Vec<Tail>, NoMemory> {
+    let mut tails = Vec::new(alloc);
+    for (text, pause) in parts {
+        let text = Octets::copy_of(alloc, text)?;
+        tails.push(Tail {
+            text,
+            pause: *pause,
+        })?;
+    }
+    Ok(tails)
+}
+
+// A body of so many bytes, no two pieces of which are alike.
+fn counting(alloc: Global, len: u32) -> Result<Vec<u8>, NoMemory> {
+    let mut body = Vec::new(alloc);
+    for i in 0..len {
+        body.push((i % 251) as u8)?;
+    }
+    Ok(body)
+}
+
+// A chain of tails over a body, started in the first turn.
+fn begin(alloc: Global, parts: Vec<Tail>, body: &[u8]) -> Result<Group<ChainWorld<Tail>>, Fail>
+    ensures idle { IfOk result (λ g. g.cx.log.state.held ≡ false) }
+    ensures sound { IfOk result (λ g. IsSound g.world.chain g.world.table.items g.world.running g.cx.log.state.pending g.cx.roles) }
+{
+    let body = Octets::copy_of(alloc, body)?;
+    let world = ChainWorld::make(alloc, parts, body)?;
+    let mut group = Group::make(alloc, world, 0)?;
+    group.begin_turn(1, 0, 0)?;
+    group.start();
+    group.give_turn();
+    Ok(group)
+}
+
+// Copies what waits for the client, at most so many bytes as it takes, and takes it away.
+fn take_some(group: &mut Group<ChainWorld<Tail>>, client: &mut Client) -> Result<(), Fail>
+    requires idle { group.old.cx.log.state.held ≡ false }
+    requires sound { IsSound group.old.world.chain group.old.world.table.items group.old.world.running group.old.cx.log.state.pending group.old.cx.roles }
+    requires awake { group.old.world.running ≡ true → IsAwake group.old.world.chain group.old.world.table.items }
+    ensures idle { OnOk result (group.new.cx.log.state.held ≡ false) }
+    ensures sound { OnOk result (IsSound group.new.world.chain group.new.world.table.items group.new.world.running group.new.cx.log.state.pending group.new.cx.roles) }
+{
+    let mut left = client.most;
+    'taking: while let Some(block) = group.world().chain().out_block() {
+        let n = block.len().min(left);
+        if n == 0 {
+            return Ok(());
+        }
+        let (piece, _) = block.split_at(n);
+        client.got.extend_from_slice(piece)?;
+        group.world_mut().take(n);
+        left -= n;
+    }
+    Ok(())
+}
+
+// Begins the next turn.
+fn begin_turn(group: &mut Group<ChainWorld<Tail>>, moment: u64) -> Result<(), Fail>
+    requires idle { group.old.cx.log.state.held ≡ false }
+    requires sound { IsSound group.old.world.chain group.old.world.table.items group.old.world.running group.old.cx.log.state.pending group.old.cx.roles }
+    ensures turn { OnOk result (group.new.cx.log.state.held ≡ true) }
+    ensures sound { OnOk result (IsSound group.new.world.chain group.new.world.table.items group.new.world.running group.new.cx.log.state.pending group.new.cx.roles) }
+{
+    let Some(turn) = group.journal().turns().checked_add(1) else {
+        return Err("a turn is left")?;
+    };
+    group.begin_turn(turn, 0, moment)?;
+    Ok(())
+}
+
+// Ends a turn: wakes the last stage and gives the turn back; then the client takes bytes.
+fn end_turn(group: &mut Group<ChainWorld<Tail>>, client: &mut Client) -> Result<(), Fail>
+    requires turn { group.old.cx.log.state.held ≡ true }
+    requires sound { IsSound group.old.world.chain group.old.world.table.items group.old.world.running group.old.cx.log.state.pending group.old.cx.roles }
+    ensures idle { OnOk result (group.new.cx.log.state.held ≡ false) }
+    ensures sound { OnOk result (IsSound group.new.world.chain group.new.world.table.items group.new.world.running group.new.cx.log.state.pending group.new.cx.roles) }
+{
+    ChainWorld::wake(group)?;
+    group.give_turn();
+    take_some(group, client)
+}
+
+// Makes one turn, which handles what is due first, and answers whether something was pending.
+fn step(group: &mut Group<ChainWorld<Tail>>, client: &mut Client) -> Result<bool, Fail>
+    requires idle { group.old.cx.log.state.held ≡ false }
+    requires sound { IsSound group.old.world.chain group.old.world.table.items group.old.world.running group.old.cx.log.state.pending group.old.cx.roles }
+    ensures idle { OnOk result (group.new.cx.log.state.held ≡ false) }
+    ensures sound { OnOk result (IsSound group.new.world.chain group.new.world.table.items group.new.world.running group.new.cx.log.state.pending group.new.cx.roles) }
+{
+    let Some((due, number)) = group.next_due() else {
+        return Ok(false);
+    };
+    let moment = due.max(client.moment);
+    begin_turn(group, moment)?;
+    let Handling::Handled { events: _ } = group.handle(number, moment)? else {
+        return Err("it is handled")?;
+    };
+    client.moment = moment;
+    end_turn(group, client)?;
+    Ok(true)
+}
+
+// Makes at most so many turns, and answers whether nothing is pending then.
+fn run(group: &mut Group<ChainWorld<Tail>>, client: &mut Client, turns: u32) -> Result<bool, Fail>
+    requires idle { group.old.cx.log.state.held ≡ false }
+    requires sound { IsSound group.old.world.chain group.old.world.table.items group.old.world.running group.old.cx.log.state.pending group.old.cx.roles }
+    ensures idle { OnOk result (group.new.cx.log.state.held ≡ false) }
+    ensures sound { OnOk result (IsSound group.new.world.chain group.new.world.table.items group.new.world.running group.new.cx.log.state.pending group.new.cx.roles) }
+{
+    'turns: for _ in 0..turns {
+        if !step(group, client)? {
+            return Ok(true);
+        }
+    }
+    Ok(group.next_due().is_none())
+}
+
+// Makes a turn in which the client takes all that waits.
+fn take_rest(group: &mut Group<ChainWorld<Tail>>, client: &mut Client) -> Result<(), Fail>
+    requires idle { group.old.cx.log.state.held ≡ false }
+    requires sound { IsSound group.old.world.chain group.old.world.table.items group.old.world.running group.old.cx.log.state.pending group.old.cx.roles }
+    ensures idle { OnOk result (group.new.cx.log.state.held ≡ false) }
+    ensures sound { OnOk result (IsSound group.new.world.chain group.new.world.table.items group.new.world.running group.new.cx.log.state.pending group.new.cx.roles) }
+{
+    client.most = usize::MAX;
+    begin_turn(group, client.moment)?;
+    end_turn(group, client)
+}
+
+// Aborts the chain of a world.
+fn abort(group: &mut Group<ChainWorld<Tail>>)
+    requires idle { group.old.cx.log.state.held ≡ false }
+    requires sound { IsSound group.old.world.chain group.old.world.table.items group.old.world.running group.old.cx.log.state.pending group.old.cx.roles }
+    ensures idle { group.new.cx.log.state.held ≡ false }
+    ensures sound { IsSound group.new.world.chain group.new.world.table.items group.new.world.running group.new.cx.log.state.pending group.new.cx.roles }
+{
+    group.world_mut().abort();
+}
+
+// Makes a turn in which the stage of a key is called with an error.
+fn tell_error(group: &mut Group<ChainWorld<Tail>>, key: ContKey, moment: u64) -> Result<(), Fail>
+    requires idle { group.old.cx.log.state.held ≡ false }
+    requires sound { IsSound group.old.world.chain group.old.world.table.items group.old.world.running group.old.cx.log.state.pending group.old.cx.roles }
+    ensures idle { OnOk result (group.new.cx.log.state.held ≡ false) }
+    ensures sound { OnOk result (IsSound group.new.world.chain group.new.world.table.items group.new.world.running group.new.cx.log.state.pending group.new.cx.roles) }
+{
+    begin_turn(group, moment)?;
+    group.cx().call(key, Event::Error)?;
+    group.give_turn();
+    Ok(())
+}
+
+// The keys of the stages that are live, in order. The group's own key stands before them.
+fn stage_keys(alloc: Global, journal: &Journal) -> Result<Vec<ContKey>, NoMemory> {
+    let mut keys = Vec::new(alloc);
+    if let Some((_, stages)) = journal.live().split_first() {
+        for key in stages {
+            keys.push(*key)?;
+        }
+    }
+    Ok(keys)
+}
+
+// The keys of which an event is pending.
+fn pending_keys(alloc: Global, journal: &Journal) -> Result<Vec<ContKey>, NoMemory> {
+    let mut keys = Vec::new(alloc);
+    for event in journal.pending() {
+        keys.push(event.key)?;
+    }
+    Ok(keys)
+}
+
+// The events of a key that were handled, with their moments.
+fn handled(alloc: Global, journal: &Journal, key: ContKey) -> Result<Vec<(Event, u64)>, NoMemory> {
+    let mut set = Vec::new(alloc);
+    let mut handled = Vec::new(alloc);
+    for entry in journal.entries() {
+        match *entry {
+            Entry::Set {
+                number,
+                key: of,
+                event,
+                ..
+            } => {
+                if of == key {
+                    set.push((number, event))?;
+                }
+            }
+            Entry::Handled { number, moment } => {
+                for (of, event) in &set {
+                    if *of == number {
+                        handled.push((*event, moment))?;
+                    }
+                }
+            }
+            _ => {}
+        }
+    }
+    Ok(handled)
+}
+
+// Whether the events at which a stage works are so many milliseconds apart.
+fn is_paused(handled: &[(Event, u64)], pause: u64) -> bool {
+    let mut next = 0;
+    for (event, moment) in handled {
+        if !matches!(*event, Event::Error | Event::WriteComplete) {
+            if *moment < next {
+                return false;
+            }
+            next = moment.saturating_add(pause);
+        }
+    }
+    true
+}
+
+// The moments of the errors among the events that were handled.
+fn errors_of(alloc: Global, handled: &[(Event, u64)]) -> Result<Vec<u64>, NoMemory> {
+    let mut errors = Vec::new(alloc);
+    for (event, moment) in handled {
+        if *event == Event::Error {
+            errors.push(*moment)?;
+        }
+    }
+    Ok(errors)
+}
+
+// The bytes of a body with the texts of the tails behind it.
+fn with_tails(alloc: Global, body: &[u8], parts: &[(&[u8], u64)]) -> Result<Vec<u8>, NoMemory> {
+    let mut whole = Vec::new(alloc);
+    whole.extend_from_slice(body)?;
+    for (text, _) in parts {
+        whole.extend_from_slice(text)?;
+    }
+    Ok(whole)
+}
+
+// A run that has ended: what its client got and, where it was upset, how many bytes of that it had got before; the keys
+// of the stages at the start, or that were live when it was upset, and those of them of which an event was pending
+// then.
+#[derive(Drop)]
+struct Ended {
+    group: Group<ChainWorld<Tail>>,
+    got: Vec<u8>,
+    before: usize,
+    keys: Vec<ContKey>,
+    called: Vec<ContKey>,
+}
+
+// Runs a chain of tails over a body to its end; its client takes at most so many bytes after a turn.
+fn run_whole(alloc: Global, parts: Vec<Tail>, body: &[u8], most: usize) -> Result<Ended, Fail> {
+    let mut group = begin(alloc, parts, body)?;
+    let keys = stage_keys(alloc, group.journal())?;
+    let mut client = Client::make(alloc, most);
+    if !run(&mut group, &mut client, TURNS)? {
+        return Err("it ends")?;
+    }
+    take_rest(&mut group, &mut client)?;
+    Ok(Ended {
+        group,
+        got: client.got,
+        before: 0,
+        keys,
+        called: Vec::new(alloc),
+    })
+}
+
+// The same, but after so many turns the stage at a place is called with an error.
+fn run_with_error(
+    alloc: Global,
+    parts: Vec<Tail>,
+    body: &[u8],
+    turns: u32,
+    place: usize,
+) -> Result<Ended, Fail> {
+    let mut group = begin(alloc, parts, body)?;
+    let keys = stage_keys(alloc, group.journal())?;
+    let Some(key) = keys.get(place) else {
+        return Err("there is such a stage")?;
+    };
+    let mut client = Client::make(alloc, 1_000_000);
+    if run(&mut group, &mut client, turns)? {
+        return Err("it has not ended yet")?;
+    }
+    let before = client.got.len();
+    tell_error(&mut group, *key, client.moment)?;
+    if !run(&mut group, &mut client, TURNS)? {
+        return Err("it ends")?;
+    }
+    Ok(Ended {
+        group,
+        got: client.got,
+        before,
+        keys,
+        called: Vec::new(alloc),
+    })
+}
+
+// The same, but after so many turns it is aborted.
+fn run_aborted(alloc: Global, parts: Vec<Tail>, body: &[u8], turns: u32) -> Result<Ended, Fail> {
+    let mut group = begin(alloc, parts, body)?;
+    let mut client = Client::make(alloc, 999);
+    if run(&mut group, &mut client, turns)? {
+        return Err("it has not ended yet")?;
+    }
+    let before = client.got.len();
+    let keys = stage_keys(alloc, group.journal())?;
+    let called = pending_keys(alloc, group.journal())?;
+    abort(&mut group);
+    if !run(&mut group, &mut client, TURNS)? {
+        return Err("it ends")?;
+    }
+    Ok(Ended {
+        group,
+        got: client.got,
+        before,
+        keys,
+        called,
+    })
+}
+
+#[test]
+fn a_world_gives_its_body_with_the_tails(rt: HostRuntime) -> Result<(), Fail> {
+    let long = counting(rt.alloc(), 200_000)?;
+    let three: [(&[u8], u64); 3] = [(b"1", 0), (b"22", 0), (b"333", 0)];
+    let cases: [(&[(&[u8], u64)], &[u8], usize); 9] = [
+        (&[(b"1", 0), (b"2", 0)], b"ab", 100_000),
+        (&[], b"ab", 100_000),
+        (&[(b"1", 0)], b"", 100_000),
+        (&three, &long, 1_000_000),
+        (&three, &long, 999),
+        (&[(b"1", 10)], b"ab", 100_000),
+        (&[(b"1", 10)], &long, 1_000_000),
+        (&[(b"1", 10)], &long, 9_999),
+        (&[(b"1", 0), (b"2", 10), (b"3", 0)], &long, 1_000_000),
+    ];
+    for (parts, body, most) in cases {
+        let ended = run_whole(rt.alloc(), tails(rt.alloc(), parts)?, body, most)?;
+        assert!(rt;
+            ended.got == with_tails(rt.alloc(), body, parts)?,
+            "{parts:?}, {most}"
+        );
+
+        // Nothing is left, and each stage but the last has destroyed its continuation.
+        let journal = ended.group.journal();
+        assert!(rt; ended.group.world().is_running());
+        assert!(rt; ended.group.world().chain().is_finished());
+        assert!(rt; !journal.is_held());
+        assert_eq!(rt; ended.group.next_due(), None);
+        assert_eq!(rt; ended.keys.len(), parts.len());
+        for ((_, pause), key) in parts.iter().zip(&ended.keys) {
+            let is_last = ended.keys.last() == Some(key);
+            assert_eq!(rt; journal.is_live(*key), is_last, "{parts:?}, {key:?}");
+            let events = handled(rt.alloc(), journal, *key)?;
+            assert!(rt; is_paused(&events, *pause), "{parts:?}: {events:?}");
+        }
+    }
+    Ok(())
+}
+
+#[test]
+fn an_error_is_passed_on_and_the_body_still_comes(rt: HostRuntime) -> Result<(), Fail> {
+    let body = counting(rt.alloc(), 100_000)?;
+    let parts: [(&[u8], u64); 3] = [(b"1", 0), (b"2", 0), (b"3", 0)];
+    for turns in [0, 1, 3] {
+        let ended = run_with_error(rt.alloc(), tails(rt.alloc(), &parts)?, &body, turns, 1)?;
+        assert!(rt;
+            ended.got == with_tails(rt.alloc(), &body, &parts)?,
+            "{turns}"
+        );
+        for (key, is_told) in ended.keys.iter().zip([true, true, false]) {
+            let events = handled(rt.alloc(), ended.group.journal(), *key)?;
+            let errors = errors_of(rt.alloc(), &events)?;
+            assert_eq!(rt; errors.len(), usize::from(is_told), "{turns}, {key:?}");
+        }
+    }
+    Ok(())
+}
+
+#[test]
+fn a_world_that_is_aborted_gives_nothing_more(rt: HostRuntime) -> Result<(), Fail> {
+    let body = counting(rt.alloc(), 200_000)?;
+    let parts: [(&[u8], u64); 3] = [(b"1", 0), (b"2", 0), (b"3", 0)];
+    for turns in [0, 1, 2, 3, 5, 8, 13] {
+        let ended = run_aborted(rt.alloc(), tails(rt.alloc(), &parts)?, &body, turns)?;
+        assert_eq!(rt; ended.got.len(), ended.before);
+        assert_eq!(rt; ended.group.next_due(), None);
+        assert!(rt; ended.group.world().is_running());
+        assert!(rt; ended.group.world().chain().is_finished());
+        assert_eq!(rt; ended.group.world().chain().out_block(), None);
+        assert!(rt; !ended.called.is_empty());
+        for key in &ended.keys {
+            let is_live = !ended.called.contains(key);
+            assert_eq!(rt; ended.group.journal().is_live(*key), is_live, "{turns}");
+        }
+    }
+    Ok(())
+}
+
+#[test]
+fn a_chain_that_is_aborted_gives_nothing_more(rt: HostRuntime) -> Result<(), Fail> {
+    let parts = tails(rt.alloc(), &[(b"1", 0), (b"2", 20)])?;
+    let body = Octets::of_vec(counting(rt.alloc(), 200_000)?);
+    let mut chain = Chain::over(rt.alloc(), parts, body)?;
+    for stage in [0, 0, 1] {
+        assert!(rt; stage < chain.stages());
+        assert!(rt; chain.must_pump(stage));
+        assert_eq!(rt; chain.pump(stage)?, Pumped::Moved(32_768));
+    }
+    assert_eq!(rt; chain.stages(), 2);
+    for (boundary, bytes) in [(0, 134_464), (1, 32_768), (2, 32_768)] {
+        assert!(rt; boundary <= chain.stages());
+        assert_eq!(rt; chain.waiting(boundary), bytes);
+    }
+    assert!(rt; !chain.has_ended(1));
+    assert!(rt; !chain.is_last_full());
+    assert_eq!(rt; chain.pause(1), 20);
+    chain.abort();
+    assert_eq!(rt; chain.stages(), 2);
+    for boundary in [0, 1, 2] {
+        assert!(rt; boundary <= chain.stages());
+        assert_eq!(rt; chain.waiting(boundary), 0);
+    }
+    for stage in [0, 1] {
+        assert!(rt; stage < chain.stages());
+        assert!(rt; chain.has_ended(stage));
+        assert!(rt; !chain.must_pump(stage));
+        assert_eq!(rt; chain.pause(stage), 0);
+        assert_eq!(rt; chain.pump(stage)?, Pumped::Idle);
+    }
+    assert!(rt; chain.is_finished());
+    assert_eq!(rt; chain.out_block(), None);
+    Ok(())
+}
