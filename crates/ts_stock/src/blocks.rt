@@ -3,6 +3,7 @@ ghost use Rattle.std.specs.Prelude.{◌≡◌, ◌==◌, ℕ, ◌<◌, ◌≤◌
 ghost use Rattle.ts_config.specs.Bodies.{mapped, without};
 ghost use Rattle.ts_iobuf.specs.Buffer.{Grows};
 
+use memchr::memchr;
 use ts_iobuf::IoBuffer;
 use ts_link::NoMemory;
 
@@ -20,21 +21,24 @@ fn map_into(room: &mut [u8], input: &[u8], from: u8, to: u8) -> usize
     count
 }
 
-// Fills the front of the room with those bytes of the front of the input that are not `byte`. Answers how long that
-// front is, as long as the room or whole, and how many bytes of the room are filled.
+// Fills the front of the room with those bytes of the front of the input that are not `byte`, run by run. Answers how
+// long that front is, as long as the room or whole, and how many bytes of the room are filled.
 fn drop_into(room: &mut [u8], input: &[u8], byte: u8) -> (usize, usize)
     ensures count { result.0 ≡ min (length room.old) (length input.now) }
     ensures within { result.1 ≤ length room.old }
     ensures bytes { take result.1 room.new ≡ without byte (take result.0 input.now) }
 {
     let count = room.len().min(input.len());
+    let mut rest = &input[..count];
     let mut filled = 0;
-    for i in 0..count {
-        let next = input[i];
-        room[filled] = next;
-        filled += usize::from(next != byte);
+    while let Some(run) = memchr(byte, rest) {
+        let (front, behind) = rest.split_at(run + 1);
+        room[filled..filled + run].copy_from_slice(&front[..run]);
+        filled += run;
+        rest = behind;
     }
-    (count, filled)
+    room[filled..filled + rest.len()].copy_from_slice(rest);
+    (count, filled + rest.len())
 }
 
 /// Writes a front of the input with each byte `from` replaced by `to`, and answers how long that front is.

@@ -10,10 +10,3 @@ KeepsMost most (Ok bytes) = vec_len bytes ≤ most
 KeepsMost most (Err Failed) = ⊤
 KeepsMost most (Err (TooLong seen)) = most < seen
 KeepsMost most (Err NoMemory) = ⊤
-
--- a read of a part knows nothing of limits
-abbrev pub IsNotLong : {X : Type 0} → Result X ShelfFault → Type 0
-IsNotLong (Ok x) = ⊤
-IsNotLong (Err Failed) = ⊤
-IsNotLong (Err (TooLong seen)) = ⊥
-IsNotLong (Err NoMemory) = ⊤

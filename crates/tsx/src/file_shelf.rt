@@ -1,6 +1,6 @@
 // A shelf over the files of the system.
-ghost use Rattle.std.specs.Prelude.{◌≡◌, ◌≤◌, false, None, length, IfSome};
-ghost use Rattle.tsx.specs.Whole.{KeepsMost, IsNotLong};
+ghost use Rattle.std.specs.Prelude.{◌≡◌, false, None};
+ghost use Rattle.tsx.specs.Whole.{KeepsMost};
 
 use crate::count::raised;
 use std::alloc::{AllocError, Global};
@@ -32,80 +32,37 @@ impl<'a, R: Files> FileShelf<'a, R> {
     }
 }
 
-// How many bytes are read at once.
-const CHUNK: usize = 65_536;
-
-// One read, begun again as often as a signal breaks it off; none where it failed.
-fn read_some<F: Read>(file: &mut F, room: &mut [u8]) -> Option<usize>
-    ensures { IfSome result (λ n. n ≤ length room.old) }
+// Takes room at once for a file of the size that the system tells, and for the read that finds its end.
+fn reserve_for<F: OpenFile>(file: &F, bytes: &mut Vec<u8>, most: u64) -> Result<(), AllocError>
+    ensures { bytes.new.items ≡ bytes.old.items }
 {
-    for _ in 0..u64::MAX {
-        match file.read(room) {
-            Ok(count) => return Some(count),
-            Err(e) if e.kind() == ErrorKind::Interrupted => {}
-            Err(_) => return None,
-        }
-    }
-    None
-}
-
-// Reads a chunk more behind the bytes, and answers how many there were; 0 at the end of the file.
-fn read_chunk<F: Read>(file: &mut F, bytes: &mut Vec<u8>) -> Result<usize, ShelfFault>
-    ensures { IsNotLong result }
-{
-    let start = bytes.len();
-    let Some(end) = start.checked_add(CHUNK) else {
-        return Err(ShelfFault::NoMemory);
-    };
-    if bytes.resize(end, 0).is_err() {
-        return Err(ShelfFault::NoMemory);
-    }
-    match read_some(file, &mut bytes[start..]) {
-        Some(count) => {
-            bytes.truncate(start + count);
-            Ok(count)
-        }
-        None => Err(ShelfFault::Failed),
+    match file.metadata() {
+        Ok(metadata) => bytes.reserve_exact((metadata.len().min(most) as usize).saturating_add(1)),
+        Err(_) => Ok(()),
     }
 }
 
-// The whole file of a name, of at most `most` bytes.
+// The whole file of a name, of at most `most` bytes. Of a longer one a byte more is read.
 fn read_whole<R: Files>(rt: &R, alloc: Global, name: &str, most: u64) -> Result<Vec<u8>, ShelfFault>
     ensures { KeepsMost most result }
 {
-    let Ok(mut file) = fs::open(rt, name) else {
+    let Ok(file) = fs::open(rt, name) else {
         return Err(ShelfFault::Failed);
     };
     let mut bytes = Vec::new(alloc);
     if reserve_for(&file, &mut bytes, most).is_err() {
         return Err(ShelfFault::NoMemory);
     }
-    for _ in 0..u64::MAX {
-        let count = match read_chunk(&mut file, &mut bytes) {
-            Ok(count) => count,
-            Err(fault) => return Err(fault),
-        };
-        let seen = bytes.len() as u64;
-        if seen > most {
-            return Err(ShelfFault::TooLong { seen });
-        }
-        if count == 0 {
-            return Ok(bytes);
-        }
+    match file.take(most.saturating_add(1)).read_to_end(&mut bytes) {
+        Ok(_) => {}
+        Err(e) if e.kind() == ErrorKind::OutOfMemory => return Err(ShelfFault::NoMemory),
+        Err(_) => return Err(ShelfFault::Failed),
     }
-    Err(ShelfFault::Failed)
-}
-
-// Takes room for the file at once, where the system tells its size.
-fn reserve_for<F: OpenFile>(file: &F, bytes: &mut Vec<u8>, most: u64) -> Result<(), AllocError>
-    ensures { bytes.new.items ≡ bytes.old.items }
-{
-    match file.metadata() {
-        Ok(metadata) => bytes.reserve_exact(
-            (metadata.len().min(most) as usize).saturating_add(CHUNK),
-        ),
-        Err(_) => Ok(()),
+    let seen = bytes.len() as u64;
+    if seen > most {
+        return Err(ShelfFault::TooLong { seen });
     }
+    Ok(bytes)
 }
 
 impl<'a, R: Files> Shelf for FileShelf<'a, R> {
