@@ -1,5 +1,6 @@
 // How a last stage goes on that found its client's boundary full.
 ghost use Rattle.std.specs.Prelude.{◌≡◌, ℕ, ◌+◌, ◌≤◌, length, true, false, OnOk, OnErr};
+ghost use Rattle.ts_group.specs.Entries.{Grows};
 ghost use Rattle.ts_transform.specs.Flow.{last_wait, pause_at};
 ghost use Rattle.ts_transform.specs.Driving.{SetsAfter};
 ghost use Rattle.ts_transform.specs.Cover.{IsSound, IsAwake};
@@ -17,6 +18,7 @@ impl<P: Transform + Drop> ChainWorld<P> {
         requires sound { IsSound group.old.world.chain group.old.world.table.items group.old.world.running group.old.cx.log.state.pending group.old.cx.roles }
         ensures turn { group.new.cx.log.state.held ≡ true }
         ensures turns { group.new.cx.log.state.turns ≡ group.old.cx.log.state.turns }
+        ensures grows { Grows group.old.cx group.new.cx }
         ensures chain { (group.new.world.chain ≡ group.old.world.chain) × (group.new.world.unharmed ≡ group.old.world.unharmed) }
 
         // At most one event is set, and only where bytes wait for the client.
