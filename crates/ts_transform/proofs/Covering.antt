@@ -12,7 +12,7 @@ use Rattle.ts_transform.specs.declared.pump.Pumped.TheVariants.{Moved, Ended, Bl
 use Rattle.ts_transform.specs.Stage.{has_ended, has_work, AnswersIf, AnswersWork}
 use Rattle.ts_transform.specs.Flow.{ChainState, HasWork, MustPump, AnswersAt, StepsAt, ended_at, last_ended, last_wait}
 use Rattle.ts_transform.specs.Driving.{AreOfStages, IsRoused, HasEventIf, Keeps}
-use Rattle.ts_transform.specs.Cover.{Cover, CoverBut, IsRoundRoused, IsDriven, IsDrivenBut, IsDrivenFor, IsSound, IsAwake}
+use Rattle.ts_transform.specs.Cover.{Cover, CoverBut, IsRoundRoused, IsDriven, IsDrivenBut, IsDrivenFor, IsCovered, IsAwake}
 use Rattle.ts_transform.proofs.Kept.{kept_all}
 
 -- a stage moves one byte at least
@@ -182,19 +182,19 @@ awake_unless_full c ts not_full j is goes full = absurd (not_full (last-goes c.s
 
 -- a sound world whose last stage was marked is sound once that has its event
 pub marked_sound : {P : Type 0} (a b : Context) (c d : ChainState P) (ts us : List (Option StageContinuation)) (was running : Bool) (key : Option ContKey)
-    → ((a b : Context) → Keeps a b → HasEventIf b.log.state.pending key → running ≡ true → IsDriven c ts a.log.state.pending a.roles → IsDriven d us b.log.state.pending b.roles)
-    → d ≡ c → (running ≡ true → was ≡ true) → length us ≡ length ts → Keeps a b → HasEventIf b.log.state.pending key
-    → IsSound c ts was a.log.state.pending a.roles → IsSound d us running b.log.state.pending b.roles
+    → ((a b : Context) → Keeps a b → HasEventIf b.log.state.pending key → IsDriven c ts a.log.state.pending a.roles → IsDriven d us b.log.state.pending b.roles)
+    → d ≡ c → running ≡ was → length us ≡ length ts → Keeps a b → HasEventIf b.log.state.pending key
+    → IsCovered c ts was a.log.state.pending a.roles → IsCovered d us running b.log.state.pending b.roles
 marked_sound a b c d ts us was running key marked same runs len keeps has s = record {
   given = ap (λ x. x.given) same ∙ s.given;
   plain = keeps.plain s.plain;
-  driven = λ now. marked a b keeps has now (s.driven (runs now));
+  driven = λ now. marked a b keeps has (s.driven (sym runs ∙ now));
   fresh = λ none j work. s.fresh (sym len ∙ none) j (subst (λ x. HasWork x.given x.first x.stages (j + 1)) same work);
 }
 
 -- so is one that says that an event was lost
 pub lost_sound : {P : Type 0} (a b : Context) (c d : ChainState P) (ts us : List (Option StageContinuation)) (was running : Bool)
-    → d ≡ c → length us ≡ length ts → running ≡ false → Keeps a b → IsSound c ts was a.log.state.pending a.roles → IsSound d us running b.log.state.pending b.roles
+    → d ≡ c → length us ≡ length ts → running ≡ false → Keeps a b → IsCovered c ts was a.log.state.pending a.roles → IsCovered d us running b.log.state.pending b.roles
 lost_sound a b c d ts us was running same len lost keeps s = record {
   given = ap (λ x. x.given) same ∙ s.given;
   plain = keeps.plain s.plain;
@@ -204,6 +204,6 @@ lost_sound a b c d ts us was running same len lost keeps s = record {
 
 -- more events leave a sound world sound
 pub sound_kept : {P : Type 0} (a b : Context) (c : ChainState P) (ts : List (Option StageContinuation)) (running : Bool) → Keeps a b
-    → IsSound c ts running a.log.state.pending a.roles → IsSound c ts running b.log.state.pending b.roles
+    → IsCovered c ts running a.log.state.pending a.roles → IsCovered c ts running b.log.state.pending b.roles
 sound_kept a b c ts running keeps s =
     record { given = s.given; plain = keeps.plain s.plain; driven = λ runs. driven_kept a b c ts keeps (s.driven runs); fresh = s.fresh }

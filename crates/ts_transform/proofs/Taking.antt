@@ -10,13 +10,13 @@ use Rattle.ts_transform.specs.declared.pump.Stage.{Stage}
 use Rattle.ts_transform.specs.Stage.{has_ended, has_work, passed}
 use Rattle.ts_transform.specs.Flow.{ChainState, HasWork, MustPump, Takes, closed, aborted, ended_at, flow, flow_from, last_wait, last_ended, fresh_stage, IsFinished}
 use Rattle.ts_transform.specs.Driving.{HasEvent, AreOfStages, IsRoused}
-use Rattle.ts_transform.specs.Cover.{IsSound, IsAwake}
+use Rattle.ts_transform.specs.Cover.{IsCovered, IsAwake}
 use Rattle.ts_transform.proofs.Boundaries.{rest_of-ended}
 use Rattle.ts_transform.proofs.Starting.{fresh-first}
 
 -- a world that is made is sound
 pub made_sound : {P : Type 0} (first : List ℕ) (ps : List P) (c : ChainState P) (ts : List (Option StageContinuation)) (running : Bool) (pending : List Pending) (roles : List Named)
-    → c ≡ record { first = first; stages = map fresh_stage ps; given = true } → running ≡ false → AllPlain pending → IsSound c ts running pending roles
+    → c ≡ record { first = first; stages = map fresh_stage ps; given = true } → running ≡ false → AllPlain pending → IsCovered c ts running pending roles
 made_sound {P} first ps c ts running pending roles is still plain = record {
   given = ap (λ d. d.given) is;
   plain = plain;
@@ -88,7 +88,7 @@ taken-fresh given from (s ∷ ss) n from' ss' takes j work = takes-work given fr
 
 -- a sound world is sound when its client has taken bytes
 pub taken_sound : {P : Type 0} (c d : ChainState P) (ts : List (Option StageContinuation)) (running : Bool) (n : ℕ) (pending : List Pending) (roles : List Named)
-    → Takes c.first c.stages n d.first d.stages → d.given ≡ c.given → IsSound c ts running pending roles → (running ≡ true → IsAwake c ts) → IsSound d ts running pending roles
+    → Takes c.first c.stages n d.first d.stages → d.given ≡ c.given → IsCovered c ts running pending roles → (running ≡ true → IsAwake c ts) → IsCovered d ts running pending roles
 taken_sound c d ts running n pending roles takes given s awake = record {
   given = given ∙ s.given;
   plain = s.plain;
@@ -134,14 +134,23 @@ length-closed (s ∷ ss) = ap suc (length-closed ss)
 
 -- a sound world is sound when it was aborted
 pub aborted_sound : {P : Type 0} (c d : ChainState P) (ts : List (Option StageContinuation)) (running : Bool) (pending : List Pending) (roles : List Named)
-    → d ≡ aborted c → IsSound c ts running pending roles → IsSound d ts running pending roles
-aborted_sound c d ts running pending roles is s = subst (λ x. IsSound x ts running pending roles) (sym is) (record {
+    → d ≡ aborted c → IsCovered c ts running pending roles → IsCovered d ts running pending roles
+aborted_sound c d ts running pending roles is s = subst (λ x. IsCovered x ts running pending roles) (sym is) (record {
   given = refl;
   plain = s.plain;
   driven = λ runs. let h = s.driven runs in
       record { len = h.len ∙ sym (length-closed c.stages); of_stages = h.of_stages; cover = λ j must. absurd (closed-idle true [] c.stages j must) };
   fresh = λ none j work. closed-rests true [] c.stages (j + 1) work;
 })
+
+-- nor has it a last stage that must be woken
+ended-closed : {P : Type 0} (ss : List (Stage P)) (j : ℕ) → ended_at (map closed ss) j ≡ true
+ended-closed [] j = refl
+ended-closed (s ∷ ss) zero = refl
+ended-closed (s ∷ ss) (suc j) = ended-closed ss j
+
+pub aborted_awake : {P : Type 0} (c d : ChainState P) (ts : List (Option StageContinuation)) → d ≡ aborted c → IsAwake d ts
+aborted_awake c d ts is = subst (λ x. IsAwake x ts) (sym is) (λ j last goes full. absurd (let wrong : true ≡ false = sym (ended-closed c.stages j) ∙ goes in cc))
 
 -- no stage is roused where nothing is pending
 none-roused : (roles : List Named) (role : ℕ) (ts : List (Option StageContinuation)) (j : ℕ) → AreOfStages [] roles role ts → IsRoused ts j → ⊥
@@ -201,14 +210,14 @@ ended-rests up from (s ∷ ss) input rests none =
 
 -- So a world that runs has given all once nothing is pending and nothing waits for its client.
 pub all_given : {P : Type 0} (rest : P → List ℕ → List ℕ) (c : ChainState P) (ts : List (Option StageContinuation)) (running : Bool) (roles : List Named)
-    → IsSound c ts running [] roles → running ≡ true → last_wait c.first c.stages ≡ [] → flow rest c [] ≡ []
+    → IsCovered c ts running [] roles → running ≡ true → last_wait c.first c.stages ≡ [] → flow rest c [] ≡ []
 all_given rest c ts running roles s runs none =
     let h = s.driven runs in
     flow_from-rests rest c.given c.first c.stages (c.first ++ []) (inl s.given)
     (λ j must. none-roused roles 1 ts j h.of_stages (h.cover j must)) none (λ _. append-nil c.first)
 
 pub all_ended : {P : Type 0} (c : ChainState P) (ts : List (Option StageContinuation)) (running : Bool) (roles : List Named)
-    → IsSound c ts running [] roles → running ≡ true → last_wait c.first c.stages ≡ [] → IsFinished c
+    → IsCovered c ts running [] roles → running ≡ true → last_wait c.first c.stages ≡ [] → IsFinished c
 all_ended c ts running roles s runs none =
     let h = s.driven runs in
     (ended-rests c.given c.first c.stages (inl s.given) (λ j must. none-roused roles 1 ts j h.of_stages (h.cover j must)) none, none)

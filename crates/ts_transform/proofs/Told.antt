@@ -1,7 +1,8 @@
 -- A stage that moved a piece has ended exactly where it had before.
-use Rattle.std.proofs.Common.{inl, inr, ◌∙◌, ◌≡◌, ℕ, zero, suc, List, [], ◌∷◌, Bool, true, false, Option, Some, None, slice_get, refl, sym, ap, subst}
+use Rattle.std.proofs.Common.{inl, inr, ◌∙◌, ◌≡◌, ℕ, zero, suc, List, [], ◌∷◌, Bool, true, false, Option, Some, None, slice_get, length, refl, sym, ap, subst}
+use Rattle.std.proofs.lemmas.List.{length-map}
 use Rattle.ts_transform.specs.declared.continuation.StageContinuation.{StageContinuation}
-use Rattle.ts_transform.specs.Driving.{calmed, calmed_for, changed, key_if, keys_of}
+use Rattle.ts_transform.specs.Driving.{calmed, calmed_for, changed, calm_all}
 use Rattle.ts_transform.specs.declared.pump.Stage.{Stage}
 use Rattle.ts_transform.specs.declared.pump.Pumped.{Pumped}
 use Rattle.ts_transform.specs.declared.pump.Pumped.TheVariants.{Moved}
@@ -31,14 +32,19 @@ pumped_once rest c d at r answers steps given = inr (record { at = at; pumped = 
 pub pumped_none : {P : Type 0} (rest : P → List ℕ → List ℕ) (c : ChainState P) → PumpsOnce rest c c
 pumped_none rest c = inl refl
 
-key_calmed : (t : Option StageContinuation) → key_if (calmed t) ≡ key_if t
-key_calmed None = refl
-key_calmed (Some t) = refl
+calmed_twice : (t : Option StageContinuation) → calmed (calmed t) ≡ calmed t
+calmed_twice None = refl
+calmed_twice (Some t) = refl
 
-keys_changed : (ts : List (Option StageContinuation)) (at : ℕ) → keys_of (changed calmed ts at) ≡ keys_of ts
-keys_changed [] at = refl
-keys_changed (t ∷ ts) zero = ap (λ k. k ∷ keys_of ts) (key_calmed t)
-keys_changed (t ∷ ts) (suc at) = ap (λ ks. key_if t ∷ ks) (keys_changed ts at)
+calm_changed : (ts : List (Option StageContinuation)) (at : ℕ) → calm_all (changed calmed ts at) ≡ calm_all ts
+calm_changed [] at = refl
+calm_changed (t ∷ ts) zero = ap (λ u. u ∷ calm_all ts) (calmed_twice t)
+calm_changed (t ∷ ts) (suc at) = ap (λ us. calmed t ∷ us) (calm_changed ts at)
 
-pub keys_calmed : (ts us : List (Option StageContinuation)) (at : ℕ) → us ≡ changed calmed ts at → keys_of us ≡ keys_of ts
-keys_calmed ts us at is = ap keys_of is ∙ keys_changed ts at
+-- there are as many
+pub calm_length : (ts us : List (Option StageContinuation)) → calm_all us ≡ calm_all ts → length us ≡ length ts
+calm_length ts us same = sym (length-map us calmed) ∙ ap length same ∙ length-map ts calmed
+
+-- a continuation whose event was handled changes in nothing but that it is not roused
+pub calm_calmed : (ts us : List (Option StageContinuation)) (at : ℕ) → us ≡ changed calmed ts at → calm_all us ≡ calm_all ts
+calm_calmed ts us at is = ap calm_all is ∙ calm_changed ts at

@@ -6,6 +6,8 @@ use Rattle.ts_group.specs.Context.{AllPlain}
 use Rattle.ts_transform.specs.Flow.{ChainState, HasWork, MustPump, ended_at, last_wait}
 use Rattle.ts_transform.specs.Driving.{AreOfStages, IsRoused}
 use Rattle.ts_transform.specs.declared.continuation.StageContinuation.{StageContinuation}
+use Rattle.ts_transform.specs.declared.world.ChainWorld.{ChainWorld}
+use Rattle.ts_group.specs.declared.group.Group.{Group}
 
 -- each stage that must work is roused
 abbrev pub Cover : {P : Type 0} → ChainState P → List (Option StageContinuation) → Type 0
@@ -41,7 +43,7 @@ IsDrivenFor false at c ts pending roles = IsDriven c ts pending roles
 
 -- What holds of a world of one chain: its body was given whole, no event is periodic, and once it runs, while nothing
 -- was lost, each stage that must work has an event. Before it was started only the first stage has work.
-pub record IsSound {P : Type 0} (c : ChainState P) (ts : List (Option StageContinuation)) (running : Bool) (pending : List Pending) (roles : List Named) : Type 0 where
+pub record IsCovered {P : Type 0} (c : ChainState P) (ts : List (Option StageContinuation)) (running : Bool) (pending : List Pending) (roles : List Named) : Type 0 where
   pub given : c.given ≡ true
   pub plain : AllPlain pending
   pub driven : running ≡ true → IsDriven c ts pending roles
@@ -50,3 +52,11 @@ pub record IsSound {P : Type 0} (c : ChainState P) (ts : List (Option StageConti
 -- the last stage is roused where it has not ended and is full, so that it goes on once its client has taken bytes
 abbrev pub IsAwake : {P : Type 0} → ChainState P → List (Option StageContinuation) → Type 0
 IsAwake c ts = (j : ℕ) → j + 1 ≡ length c.stages → ended_at c.stages j ≡ false → 65536 ≤ length (last_wait c.first c.stages) → IsRoused ts j
+
+-- what holds of such a world with these pending events and roles
+abbrev pub IsSound : {P : Type 0} → ChainWorld P → List Pending → List Named → Type 0
+IsSound w pending roles = IsCovered w.chain w.table.items w.running pending roles
+
+-- and of its group
+abbrev pub IsSoundGroup : {P Q R T U : Type 0} → Group (ChainWorld P) Q R T U → Type 0
+IsSoundGroup g = IsSound g.world g.cx.log.state.pending g.cx.roles

@@ -1,7 +1,7 @@
 -- Which continuation drives which stage, and that one that is roused has a pending event at which its stage works. (The
 -- Developer's Guide, "Writing a Transformation Plugin": a transformation's handler works at the events of its
 -- VConnection, and passes errors on.)
-use Rattle.std.specs.Prelude.{◌≡◌, ◌≢◌, ℕ, zero, suc, ◌+◌, ◌≤◌, List, [], ◌∷◌, length, Bool, true, false, Option, Some, None, map, slice_get, ◌⊎◌}
+use Rattle.std.specs.Prelude.{◌≡◌, ◌≢◌, ℕ, zero, suc, ◌+◌, ◌≤◌, List, [], ◌∷◌, length, Bool, true, false, Option, Some, None, map, slice_get, not, if◌then◌else◌, ◌⊎◌}
 use Rattle.ts_journal.specs.declared.entry.ContKey.{ContKey}
 use Rattle.ts_journal.specs.declared.entry.Event.{Event}
 use Rattle.ts_journal.specs.declared.entry.Event.TheVariants.{Immediate, Timeout, Error, ReadReady, WriteReady, ReadComplete, WriteComplete, Eos, InactivityTimeout, Hook}
@@ -53,14 +53,6 @@ abbrev pub AreOfStages : List Pending → List Named → ℕ → List (Option St
 AreOfStages pending roles role [] = Unit {0}
 AreOfStages pending roles role (t ∷ ts) = IsOfStageIf pending roles role t × AreOfStages pending roles (role + 1) ts
 
--- the keys of the continuations
-abbrev pub key_if : Option StageContinuation → Option ContKey
-key_if None = None
-key_if (Some t) = Some t.key
-
-abbrev pub keys_of : List (Option StageContinuation) → List (Option ContKey)
-keys_of ts = map key_if ts
-
 -- the stage has a continuation that is roused
 abbrev pub IsRousedIf : Option StageContinuation → Type 0
 IsRousedIf None = ⊥
@@ -84,10 +76,14 @@ IsDestroyed old new key = HasLost old.log.state new.log.state old.roles new.role
 abbrev pub IsClosed : Context → Context → List (Option StageContinuation) → ℕ → Type 0
 IsClosed old new ts at = (t : StageContinuation) → slice_get ts at ≡ Some (Some t) → IsDestroyed old new t.key
 
--- a continuation whose event was handled, and one that was destroyed
+-- a continuation whose event was handled, one that passed an error on, and one that was destroyed
 abbrev pub calmed : Option StageContinuation → Option StageContinuation
 calmed None = None
 calmed (Some t) = Some (record t { roused = false })
+
+abbrev pub harmed : Option StageContinuation → Option StageContinuation
+harmed None = None
+harmed (Some t) = Some (record t { passed_error = true })
 
 abbrev pub gone : Option StageContinuation → Option StageContinuation
 gone t = None
@@ -97,6 +93,31 @@ abbrev pub changed : (Option StageContinuation → Option StageContinuation) →
 changed f [] at = []
 changed f (t ∷ ts) zero = f t ∷ ts
 changed f (t ∷ ts) (suc at) = t ∷ changed f ts at
+
+-- the continuations, but for which of them are roused
+abbrev pub calm_all : List (Option StageContinuation) → List (Option StageContinuation)
+calm_all ts = map calmed ts
+
+-- whether there is a continuation that has passed no error on
+abbrev pub is_unharmed : Option StageContinuation → Bool
+is_unharmed None = false
+is_unharmed (Some t) = not t.passed_error
+
+abbrev pub is_unharmed_at : List (Option StageContinuation) → ℕ → Bool
+is_unharmed_at [] at = false
+is_unharmed_at (t ∷ ts) zero = is_unharmed t
+is_unharmed_at (t ∷ ts) (suc at) = is_unharmed_at ts at
+
+-- how many continuations have passed no error on
+abbrev pub unharmed_of : List (Option StageContinuation) → ℕ
+unharmed_of [] = 0
+unharmed_of (t ∷ ts) = (if is_unharmed t then 1 else 0) + unharmed_of ts
+
+-- the continuation of the last stage
+abbrev pub last_of : List (Option StageContinuation) → Option StageContinuation
+last_of [] = None
+last_of (t ∷ []) = t
+last_of (t ∷ u ∷ ts) = last_of (u ∷ ts)
 
 -- the continuations when an event of one was handled, by whether its stage works at it
 abbrev pub calmed_for : Bool → List (Option StageContinuation) → ℕ → List (Option StageContinuation)

@@ -3,16 +3,18 @@ ghost use Rattle.std.specs.Prelude.{◌≡◌, ℕ, ◌<◌, true, OnOk};
 ghost use Rattle.ts_group.specs.Entries.{Grows};
 ghost use Rattle.ts_journal.specs.declared.entry.Event.TheVariants.{WriteReady};
 ghost use Rattle.ts_transform.specs.declared.continuation.Rouser.TheVariants as Rouser;
-ghost use Rattle.ts_transform.specs.Driving.{works_at, HasEvent, HasKind, IsOfStageIf, IsRousedIf, Keeps, SetsAfter, SetsFew, key_if};
+ghost use Rattle.ts_transform.specs.Driving.{works_at, HasEvent, HasKind, IsOfStageIf, IsRousedIf, Keeps, SetsAfter, SetsFew, calmed};
 
 use ts_group::{Action, Cx, SetFault};
 use ts_journal::{ContKey, Event};
 
-/// The continuation of a stage, and whether an event of it is pending at which the stage works.
+/// The continuation of a stage: whether an event of it is pending at which the stage works, and whether it has passed an
+/// error on.
 #[derive(Clone, Copy, Debug, PartialEq, Eq)]
 pub struct StageContinuation {
     pub key: ContKey,
     pub roused: bool,
+    pub passed_error: bool,
 }
 
 /// Who rouses a stage: the stage itself or its upstream, which reenables its output, or its downstream, which calls it
@@ -70,7 +72,7 @@ pub fn rouse(
         → IsOfStageIf cx.new.log.state.pending cx.new.roles role slot.new }
     ensures roused { OnOk result (IsRousedIf slot.new) }
     ensures still { IsRousedIf slot.old → IsRousedIf slot.new }
-    ensures key { key_if slot.new ≡ key_if slot.old }
+    ensures calm { calmed slot.new ≡ calmed slot.old }
 {
     let Some(continuation) = slot else {
         return Err(SetFault::Dead);

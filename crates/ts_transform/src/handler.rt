@@ -7,13 +7,13 @@ ghost use Rattle.ts_journal.specs.declared.entry.Pending.{Pending};
 ghost use Rattle.ts_group.specs.Context.{AllPlain};
 ghost use Rattle.ts_group.specs.Entries.{Grows};
 ghost use Rattle.ts_transform.specs.Flow.{flow, left_to_do, PumpsOnce, ended_at, pause_at, MustPump};
-ghost use Rattle.ts_transform.specs.Driving.{AreOfStages, IsRoused, Keeps, SetsAfter, SetsFew, keys_of, IsTold, IsClosed, IsHandled, works_at, gone, changed};
+ghost use Rattle.ts_transform.specs.Driving.{AreOfStages, IsRoused, Keeps, SetsAfter, SetsFew, IsTold, IsClosed, IsHandled, works_at, harmed, gone, changed, calm_all, is_unharmed_at, unharmed_of};
 ghost use Rattle.ts_transform.specs.Cover.{IsDriven, IsDrivenBut, IsDrivenFor, IsRoundRoused};
 
 use crate::chain::Chain;
 use crate::continuation::{Rouser, StageContinuation, works};
 use crate::pump::Pumped;
-use crate::rousing::{calm_for, rouse_at, take_at, tell};
+use crate::rousing::{calm_for, harm_at, rouse_at, take_at, tell};
 use crate::transform::Transform;
 use ts_group::{Cx, SetFault};
 use ts_journal::Event;
@@ -37,7 +37,7 @@ pub fn rouse_if_ready<P: Transform + Drop>(
     ensures ready { OnOk result (MustPump chain.now.given chain.now.first chain.now.stages at → IsRoused table.new at) }
     ensures still { (j : ℕ) → IsRoused table.old j → IsRoused table.new j }
     ensures len { length table.new ≡ length table.old }
-    ensures keys { keys_of table.new ≡ keys_of table.old }
+    ensures calm { calm_all table.new ≡ calm_all table.old }
 {
     if !chain.must_pump(at) {
         return Ok(());
@@ -65,7 +65,7 @@ fn rouse_before<P: Transform + Drop>(
     ensures ready { OnOk result ((j : ℕ) → j + 1 ≡ at → MustPump chain.now.given chain.now.first chain.now.stages j → IsRoused table.new j) }
     ensures still { (j : ℕ) → IsRoused table.old j → IsRoused table.new j }
     ensures len { length table.new ≡ length table.old }
-    ensures keys { keys_of table.new ≡ keys_of table.old }
+    ensures calm { calm_all table.new ≡ calm_all table.old }
 {
     if at == 0 {
         return Ok(());
@@ -92,7 +92,7 @@ fn rouse_round<P: Transform + Drop>(
     ensures round { OnOk result (IsRoundRoused chain.now table.new at) }
     ensures still { (j : ℕ) → IsRoused table.old j → IsRoused table.new j }
     ensures len { length table.new ≡ length table.old }
-    ensures keys { keys_of table.new ≡ keys_of table.old }
+    ensures calm { calm_all table.new ≡ calm_all table.old }
 {
     rouse_if_ready(chain, table, at + 1, Rouser::Upstream, cx)?;
     rouse_before(chain, table, at, cx)?;
@@ -126,7 +126,7 @@ fn work<P: Transform + Drop>(
     // Where it ended, the stage before it is told so.
     ensures ended { OnOk result (ended_at chain.old.stages at ≡ false → ended_at chain.new.stages at ≡ true
         → (j : ℕ) → j + 1 ≡ at → IsTold cx.new.log.state.pending WriteComplete table.new j) }
-    ensures keys { keys_of table.new ≡ keys_of table.old }
+    ensures calm { calm_all table.new ≡ calm_all table.old }
 {
     let Ok(pumped) = chain.pump(at) else {
         return Err(SetFault::NoMemory);
@@ -163,8 +163,31 @@ fn tell_before(
     tell(table, at - 1, event, cx)
 }
 
+// Passes an error on from the stage at a place, where that has passed none on, to the stage before it.
+#[tactic(auto, using(ts_group::proofs::Grows::grows_refl, crate::proofs::Kept::keeps_refl, crate::proofs::Kept::few_refl, crate::proofs::Harmed::harmed_less, crate::proofs::Harmed::harmed_same))]
+fn pass_error(
+    table: &mut [Option<StageContinuation>],
+    at: usize,
+    cx: &mut Cx,
+) -> Result<(), SetFault>
+    requires turn { cx.old.log.state.held ≡ true }
+    requires at { at < length table.old }
+    ensures grows { Grows cx.old cx.new }
+    ensures keeps { Keeps cx.old cx.new }
+    ensures few { SetsFew 1 cx.old cx.new }
+    ensures table { table.new ≡ changed harmed table.old at }
+    ensures told { OnOk result (is_unharmed_at table.old at ≡ true → (j : ℕ) → j + 1 ≡ at → IsTold cx.new.log.state.pending Error table.new j) }
+    ensures quiet { is_unharmed_at table.old at ≡ false → SetsFew 0 cx.old cx.new }
+    ensures pays { 100 * unharmed_of table.new + length cx.new.log.state.pending ≤ 100 * unharmed_of table.old + length cx.old.log.state.pending }
+{
+    if !harm_at(table, at) {
+        return Ok(());
+    }
+    tell_before(table, at, Event::Error, cx)
+}
+
 // Destroys the continuation of the stage at a place.
-#[tactic(auto, using(ts_group::proofs::Grows::grows_refl, crate::proofs::Closing::closed_gone, crate::proofs::Closing::closed_dead))]
+#[tactic(auto, using(ts_group::proofs::Grows::grows_refl, crate::proofs::Closing::closed_gone, crate::proofs::Closing::closed_dead, crate::proofs::Harmed::gone_fewer))]
 fn destroy_at(table: &mut [Option<StageContinuation>], at: usize, cx: &mut Cx)
     requires turn { cx.old.log.state.held ≡ true }
     requires at { at < length table.old }
@@ -173,6 +196,7 @@ fn destroy_at(table: &mut [Option<StageContinuation>], at: usize, cx: &mut Cx)
     ensures few { SetsFew 0 cx.old cx.new }
     ensures plain { AllPlain cx.old.log.state.pending → AllPlain cx.new.log.state.pending }
     ensures table { table.new ≡ changed gone table.old at }
+    ensures fewer { unharmed_of table.new ≤ unharmed_of table.old }
     ensures of_stages { (role : ℕ) → AreOfStages cx.old.log.state.pending cx.old.roles role table.old
         → AreOfStages cx.new.log.state.pending cx.new.roles role table.new }
     ensures closed { IsClosed cx.old cx.new table.old at }
@@ -184,11 +208,10 @@ fn destroy_at(table: &mut [Option<StageContinuation>], at: usize, cx: &mut Cx)
 
 // Acts at an event of the stage at a place. Where the stage has ended, its continuation is destroyed; it passes an
 // error on; at the end of its output it has nothing more to write there; else it works.
-#[tactic(auto, using(ts_group::proofs::Grows::grows_refl, crate::proofs::Kept::few_refl, crate::proofs::Told::pumped_none))]
+#[tactic(auto, using(ts_group::proofs::Grows::grows_refl, crate::proofs::Kept::few_refl, crate::proofs::Told::pumped_none, crate::proofs::Harmed::unharmed_same))]
 fn act<P: Transform + Drop>(
     chain: &mut Chain<P>,
     table: &mut [Option<StageContinuation>],
-    unharmed: &mut usize,
     at: usize,
     event: Event,
     cx: &mut Cx,
@@ -203,8 +226,8 @@ fn act<P: Transform + Drop>(
     ensures given { chain.new.given ≡ chain.old.given }
     ensures flow { chain.old.given ≡ true → flow P.rest chain.new [] ≡ flow P.rest chain.old [] }
     ensures pays { chain.old.given ≡ true →
-        100 * (left_to_do P.rest chain.new [] + unharmed.new) + length cx.new.log.state.pending
-        ≤ 100 * (left_to_do P.rest chain.old [] + unharmed.old) + length cx.old.log.state.pending }
+        100 * (left_to_do P.rest chain.new [] + unharmed_of table.new) + length cx.new.log.state.pending
+        ≤ 100 * (left_to_do P.rest chain.old [] + unharmed_of table.old) + length cx.old.log.state.pending }
     ensures driven { OnOk result (IsDrivenFor (works_at event) at chain.old table.old cx.old.log.state.pending cx.old.roles
         → IsDriven chain.new table.new cx.new.log.state.pending cx.new.roles) }
     ensures len { length table.new ≡ length table.old }
@@ -214,19 +237,17 @@ fn act<P: Transform + Drop>(
     ensures ended { OnOk result (ended_at chain.old.stages at ≡ false → ended_at chain.new.stages at ≡ true
         → (j : ℕ) → j + 1 ≡ at → IsTold cx.new.log.state.pending WriteComplete table.new j) }
 
-    // An error is passed on to the stage before it, once.
-    ensures passed { OnOk result (event ≡ Error → ended_at chain.old.stages at ≡ false → at < unharmed.old
+    // It passes an error on to the stage before it, the first time.
+    ensures passed { OnOk result (event ≡ Error → ended_at chain.old.stages at ≡ false → is_unharmed_at table.old at ≡ true
         → (j : ℕ) → j + 1 ≡ at → IsTold cx.new.log.state.pending Error table.new j) }
-    ensures harmed { event ≡ Error → ended_at chain.old.stages at ≡ false → unharmed.new ≤ at }
+    ensures harmed { event ≡ Error → ended_at chain.old.stages at ≡ false → table.new ≡ changed harmed table.old at }
     ensures once { event ≡ Error → SetsFew 1 cx.old cx.new }
-    ensures quiet { event ≡ Error → unharmed.old ≤ at → SetsFew 0 cx.old cx.new }
+    ensures quiet { event ≡ Error → is_unharmed_at table.old at ≡ false → SetsFew 0 cx.old cx.new }
 
-    // At any other event nothing is passed on; and where the chain is as it was, no event is added.
-    ensures unharmed { (event ≡ Error → ⊥) → unharmed.new ≡ unharmed.old }
+    // At any other event no continuation changes but for who is roused; and where the chain is as it was, no event is
+    // added.
+    ensures calm { (event ≡ Error → ⊥) → ended_at chain.old.stages at ≡ false → calm_all table.new ≡ calm_all table.old }
     ensures rests { chain.old.given ≡ true → (event ≡ Error → ⊥) → chain.new ≡ chain.old → length cx.new.log.state.pending ≤ length cx.old.log.state.pending }
-
-    // No continuation is lost but that of a stage that had ended.
-    ensures keys { ended_at chain.old.stages at ≡ false → keys_of table.new ≡ keys_of table.old }
 {
     if chain.has_ended(at) {
         destroy_at(table, at, cx);
@@ -236,19 +257,16 @@ fn act<P: Transform + Drop>(
         return work(chain, table, at, cx);
     }
     match event {
-        Event::Error if at < *unharmed => {
-            *unharmed = at;
-            tell_before(table, at, Event::Error, cx)
-        }
+        Event::Error => pass_error(table, at, cx),
         _ => Ok(()),
     }
 }
 
 // Handles an event of the stage at a place.
+#[tactic(auto, using(crate::proofs::Harmed::unharmed_same, crate::proofs::Harmed::unharmed_at_same))]
 fn handle_at<P: Transform + Drop>(
     chain: &mut Chain<P>,
     table: &mut [Option<StageContinuation>],
-    unharmed: &mut usize,
     at: usize,
     event: Event,
     cx: &mut Cx,
@@ -263,8 +281,8 @@ fn handle_at<P: Transform + Drop>(
     ensures given { chain.new.given ≡ chain.old.given }
     ensures flow { chain.old.given ≡ true → flow P.rest chain.new [] ≡ flow P.rest chain.old [] }
     ensures pays { chain.old.given ≡ true →
-        100 * (left_to_do P.rest chain.new [] + unharmed.new) + length cx.new.log.state.pending
-        ≤ 100 * (left_to_do P.rest chain.old [] + unharmed.old) + length cx.old.log.state.pending }
+        100 * (left_to_do P.rest chain.new [] + unharmed_of table.new) + length cx.new.log.state.pending
+        ≤ 100 * (left_to_do P.rest chain.old [] + unharmed_of table.old) + length cx.old.log.state.pending }
     ensures driven { OnOk result ((before : List Pending) → IsHandled before cx.old.log.state.pending cx.old.roles (at + 1) event
         → IsDriven chain.old table.old before cx.old.roles
         → IsDriven chain.new table.new cx.new.log.state.pending cx.new.roles) }
@@ -275,22 +293,20 @@ fn handle_at<P: Transform + Drop>(
     ensures ended { OnOk result (ended_at chain.old.stages at ≡ false → ended_at chain.new.stages at ≡ true
         → (j : ℕ) → j + 1 ≡ at → IsTold cx.new.log.state.pending WriteComplete table.new j) }
 
-    // An error is passed on to the stage before it, once.
-    ensures passed { OnOk result (event ≡ Error → ended_at chain.old.stages at ≡ false → at < unharmed.old
+    // It passes an error on to the stage before it, the first time.
+    ensures passed { OnOk result (event ≡ Error → ended_at chain.old.stages at ≡ false → is_unharmed_at table.old at ≡ true
         → (j : ℕ) → j + 1 ≡ at → IsTold cx.new.log.state.pending Error table.new j) }
-    ensures harmed { event ≡ Error → ended_at chain.old.stages at ≡ false → unharmed.new ≤ at }
+    ensures harmed { event ≡ Error → ended_at chain.old.stages at ≡ false → table.new ≡ changed harmed table.old at }
     ensures once { event ≡ Error → SetsFew 1 cx.old cx.new }
-    ensures quiet { event ≡ Error → unharmed.old ≤ at → SetsFew 0 cx.old cx.new }
+    ensures quiet { event ≡ Error → is_unharmed_at table.old at ≡ false → SetsFew 0 cx.old cx.new }
 
-    // At any other event nothing is passed on; and where the chain is as it was, no event is added.
-    ensures unharmed { (event ≡ Error → ⊥) → unharmed.new ≡ unharmed.old }
+    // At any other event no continuation changes but for who is roused; and where the chain is as it was, no event is
+    // added.
+    ensures calm { (event ≡ Error → ⊥) → ended_at chain.old.stages at ≡ false → calm_all table.new ≡ calm_all table.old }
     ensures rests { chain.old.given ≡ true → (event ≡ Error → ⊥) → chain.new ≡ chain.old → length cx.new.log.state.pending ≤ length cx.old.log.state.pending }
-
-    // No continuation is lost but that of a stage that had ended.
-    ensures keys { ended_at chain.old.stages at ≡ false → keys_of table.new ≡ keys_of table.old }
 {
     calm_for(table, at, event);
-    act(chain, table, unharmed, at, event, cx)
+    act(chain, table, at, event, cx)
 }
 
 // The place of the stage of a role, among so many.
@@ -306,7 +322,6 @@ fn place_of(role: u32, stages: usize) -> Option<usize>
 pub fn handle_stage<P: Transform + Drop>(
     chain: &mut Chain<P>,
     table: &mut Vec<Option<StageContinuation>>,
-    unharmed: &mut usize,
     role: u32,
     event: Event,
     cx: &mut Cx,
@@ -319,8 +334,8 @@ pub fn handle_stage<P: Transform + Drop>(
     ensures given { chain.new.given ≡ chain.old.given }
     ensures flow { chain.old.given ≡ true → flow P.rest chain.new [] ≡ flow P.rest chain.old [] }
     ensures pays { chain.old.given ≡ true →
-        100 * (left_to_do P.rest chain.new [] + unharmed.new) + length cx.new.log.state.pending
-        ≤ 100 * (left_to_do P.rest chain.old [] + unharmed.old) + length cx.old.log.state.pending }
+        100 * (left_to_do P.rest chain.new [] + unharmed_of table.new.items) + length cx.new.log.state.pending
+        ≤ 100 * (left_to_do P.rest chain.old [] + unharmed_of table.old.items) + length cx.old.log.state.pending }
     ensures driven { OnOk result ((before : List Pending) → IsHandled before cx.old.log.state.pending cx.old.roles role event
         → IsDriven chain.old table.old.items before cx.old.roles
         → IsDriven chain.new table.new.items cx.new.log.state.pending cx.new.roles) }
@@ -328,22 +343,22 @@ pub fn handle_stage<P: Transform + Drop>(
     ensures fresh { length table.old.items ≡ 0 → chain.new ≡ chain.old }
 
     // The stage of the role: where it had ended, its continuation is destroyed; where it ends, the stage before it is
-    // told so; and an error is passed on to the stage before it, once.
+    // told so; and it passes an error on to the stage before it, the first time.
     ensures closed { (at : ℕ) → role ≡ at + 1 → at < length table.old.items → length table.old.items ≡ length chain.old.stages
         → ended_at chain.old.stages at ≡ true → IsClosed cx.old cx.new table.old.items at }
     ensures ended { OnOk result ((at : ℕ) → role ≡ at + 1 → ended_at chain.old.stages at ≡ false → ended_at chain.new.stages at ≡ true
         → (j : ℕ) → j + 1 ≡ at → IsTold cx.new.log.state.pending WriteComplete table.new.items j) }
     ensures passed { OnOk result ((at : ℕ) → role ≡ at + 1 → at < length table.old.items → length table.old.items ≡ length chain.old.stages
-        → event ≡ Error → ended_at chain.old.stages at ≡ false → at < unharmed.old → (j : ℕ) → j + 1 ≡ at → IsTold cx.new.log.state.pending Error table.new.items j) }
+        → event ≡ Error → ended_at chain.old.stages at ≡ false → is_unharmed_at table.old.items at ≡ true → (j : ℕ) → j + 1 ≡ at → IsTold cx.new.log.state.pending Error table.new.items j) }
+    ensures harmed { (at : ℕ) → role ≡ at + 1 → at < length table.old.items → length table.old.items ≡ length chain.old.stages
+        → event ≡ Error → ended_at chain.old.stages at ≡ false → table.new.items ≡ changed harmed table.old.items at }
     ensures once { event ≡ Error → SetsFew 1 cx.old cx.new }
-    ensures quiet { event ≡ Error → unharmed.old < role → SetsFew 0 cx.old cx.new }
+    ensures quiet { event ≡ Error → (at : ℕ) → role ≡ at + 1 → is_unharmed_at table.old.items at ≡ false → SetsFew 0 cx.old cx.new }
 
-    // At any other event nothing is passed on; and where the chain is as it was, no event is added.
-    ensures unharmed { (event ≡ Error → ⊥) → unharmed.new ≡ unharmed.old }
+    // At any other event no continuation changes but for who is roused; and where the chain is as it was, no event is
+    // added.
+    ensures calm { (event ≡ Error → ⊥) → (at : ℕ) → role ≡ at + 1 → ended_at chain.old.stages at ≡ false → calm_all table.new.items ≡ calm_all table.old.items }
     ensures rests { chain.old.given ≡ true → (event ≡ Error → ⊥) → chain.new ≡ chain.old → length cx.new.log.state.pending ≤ length cx.old.log.state.pending }
-
-    // No continuation is lost but that of a stage that had ended.
-    ensures keys { (at : ℕ) → role ≡ at + 1 → ended_at chain.old.stages at ≡ false → keys_of table.new.items ≡ keys_of table.old.items }
 {
     if table.len() != chain.stages() {
         return Ok(());
@@ -351,5 +366,5 @@ pub fn handle_stage<P: Transform + Drop>(
     let Some(at) = place_of(role, table.len()) else {
         return Ok(());
     };
-    handle_at(chain, table, unharmed, at, event, cx)
+    handle_at(chain, table, at, event, cx)
 }

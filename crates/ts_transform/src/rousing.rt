@@ -1,8 +1,9 @@
 // The continuations of a chain's stages, in the order of the stages.
-ghost use Rattle.std.specs.Prelude.{◌≡◌, ℕ, ◌+◌, ◌<◌, length, slice_get, Some, true, OnOk, IfOk};
+ghost use Rattle.std.specs.Prelude.{◌≡◌, ℕ, ◌+◌, ◌<◌, length, slice_get, Some, None, true, OnOk, IfOk, IfErr, IfSome};
+ghost use Rattle.ts_group.specs.declared.action.SetFault.TheVariants.{Dead};
 ghost use Rattle.ts_group.specs.Context.{Context};
 ghost use Rattle.ts_group.specs.Entries.{Grows};
-ghost use Rattle.ts_transform.specs.Driving.{IsOfStageIf, IsRousedIf, HasEventIf, AreOfStages, IsRoused, Keeps, SetsAfter, SetsFew, keys_of, IsTold, works_at, calmed, calmed_for, gone, changed};
+ghost use Rattle.ts_transform.specs.Driving.{IsOfStageIf, IsRousedIf, HasEventIf, AreOfStages, IsRoused, Keeps, SetsAfter, SetsFew, IsTold, works_at, calmed, calmed_for, harmed, gone, changed, calm_all, is_unharmed_at, last_of};
 
 use crate::continuation::{Rouser, StageContinuation, rouse, works};
 use ts_group::{Cx, SetFault};
@@ -27,7 +28,7 @@ pub fn rouse_at(
         → AreOfStages cx.new.log.state.pending cx.new.roles role table.new }
     ensures roused { OnOk result (IsRoused table.new at) }
     ensures still { (j : ℕ) → IsRoused table.old j → IsRoused table.new j }
-    ensures keys { keys_of table.new ≡ keys_of table.old }
+    ensures calm { calm_all table.new ≡ calm_all table.old }
 {
     let Some((first, others)) = table.split_first_mut() else {
         unreachable!()
@@ -55,15 +56,35 @@ fn calm_at(table: &mut [Option<StageContinuation>], at: usize)
 }
 
 /// Says so if the stage works at the event.
-#[tactic(auto, using(crate::proofs::Told::keys_calmed))]
+#[tactic(auto, using(crate::proofs::Told::calm_calmed))]
 pub fn calm_for(table: &mut [Option<StageContinuation>], at: usize, event: Event)
     requires { at < length table.old }
     ensures table { table.new ≡ calmed_for (works_at event) table.old at }
-    ensures keys { keys_of table.new ≡ keys_of table.old }
+    ensures calm { calm_all table.new ≡ calm_all table.old }
 {
     if works(event) {
         calm_at(table, at);
     }
+}
+
+/// Says that the stage at a place has passed an error on. It answers whether there is a continuation that had not.
+pub fn harm_at(table: &mut [Option<StageContinuation>], at: usize) -> bool
+    requires { at < length table.old }
+    ensures unharmed { result ≡ is_unharmed_at table.old at }
+    ensures table { table.new ≡ changed harmed table.old at }
+{
+    let Some((first, others)) = table.split_first_mut() else {
+        unreachable!()
+    };
+    if at > 0 {
+        return harm_at(others, at - 1);
+    }
+    let Some(continuation) = first else {
+        return false;
+    };
+    let unharmed = !continuation.passed_error;
+    continuation.passed_error = true;
+    unharmed
 }
 
 /// Takes the continuation of the stage at a place out of the table.
@@ -111,6 +132,9 @@ fn mark(slot: &mut Option<StageContinuation>) -> Result<Option<ContKey>, SetFaul
         → IsOfStageIf a.log.state.pending a.roles role slot.old → IsOfStageIf b.log.state.pending b.roles role slot.new) }
     ensures roused { OnOk result (IsRousedIf slot.new) }
     ensures still { IsRousedIf slot.old → IsRousedIf slot.new }
+    ensures calm { calmed slot.new ≡ calmed slot.old }
+    ensures key { IfOk result (λ key. IfSome key (λ k. (t : StageContinuation) → slot.old ≡ Some t → k ≡ t.key)) }
+    ensures dead { IfErr result (λ fault. (fault ≡ Dead) × (slot.old ≡ None)) }
 {
     let Some(continuation) = slot else {
         return Err(SetFault::Dead);
@@ -129,7 +153,9 @@ pub fn mark_last(table: &mut [Option<StageContinuation>]) -> Result<Option<ContK
         → AreOfStages a.log.state.pending a.roles role table.old → AreOfStages b.log.state.pending b.roles role table.new) }
     ensures last { OnOk result ((j : ℕ) → j + 1 ≡ length table.old → IsRoused table.new j) }
     ensures still { (j : ℕ) → IsRoused table.old j → IsRoused table.new j }
-    ensures len { length table.new ≡ length table.old }
+    ensures calm { calm_all table.new ≡ calm_all table.old }
+    ensures key { IfOk result (λ key. IfSome key (λ k. (t : StageContinuation) → last_of table.old ≡ Some t → k ≡ t.key)) }
+    ensures dead { IfErr result (λ fault. (fault ≡ Dead) × (last_of table.old ≡ None)) }
 {
     let Some((first, others)) = table.split_first_mut() else {
         return Err(SetFault::Dead);

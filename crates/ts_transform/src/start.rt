@@ -34,7 +34,11 @@ fn make_one(at: usize, cx: &mut Cx) -> Result<StageContinuation, MakeFault>
         return Err(MakeFault::TableFull);
     };
     let key = cx.make(role)?;
-    Ok(StageContinuation { key, roused: false })
+    Ok(StageContinuation {
+        key,
+        roused: false,
+        passed_error: false,
+    })
 }
 
 // Makes a continuation for each of so many stages, without an event.

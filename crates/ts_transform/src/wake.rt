@@ -1,9 +1,12 @@
 // How a last stage goes on that found its client's boundary full.
-ghost use Rattle.std.specs.Prelude.{◌≡◌, ℕ, ◌+◌, ◌≤◌, length, true, false, OnOk, OnErr};
+ghost use Rattle.std.specs.Prelude.{◌≡◌, ℕ, ◌+◌, ◌≤◌, length, true, false, Some, Err, OnOk, OnErr};
+ghost use Rattle.ts_journal.specs.State.{IsLive};
+ghost use Rattle.ts_group.specs.declared.action.SetFault.TheVariants as SetFault;
 ghost use Rattle.ts_group.specs.Entries.{Grows};
 ghost use Rattle.ts_transform.specs.Flow.{last_wait, pause_at};
-ghost use Rattle.ts_transform.specs.Driving.{SetsAfter};
-ghost use Rattle.ts_transform.specs.Cover.{IsSound, IsAwake};
+ghost use Rattle.ts_transform.specs.declared.continuation.StageContinuation.{StageContinuation};
+ghost use Rattle.ts_transform.specs.Driving.{SetsAfter, unharmed_of, last_of};
+ghost use Rattle.ts_transform.specs.Cover.{IsSound, IsSoundGroup, IsAwake};
 
 use crate::transform::Transform;
 use crate::world::ChainWorld;
@@ -13,26 +16,33 @@ impl<P: Transform + Drop> ChainWorld<P> {
     /// Sets an event for the last stage, where that has not ended, 65,536 bytes or more wait after it, and it has none;
     /// so it goes on once its client has taken bytes. It is asked in a turn, after its events, and bytes are taken before
     /// the next: where none are, the stage finds its output full again.
+    #[tactic(auto, using(ts_group::proofs::Grows::grows_refl, crate::proofs::Harmed::unharmed_same))]
     pub fn wake(group: &mut Group<ChainWorld<P>>) -> Result<(), SetFault>
         requires turn { group.old.cx.log.state.held ≡ true }
-        requires sound { IsSound group.old.world.chain group.old.world.table.items group.old.world.running group.old.cx.log.state.pending group.old.cx.roles }
+        requires sound { IsSoundGroup group.old }
         ensures turn { group.new.cx.log.state.held ≡ true }
         ensures turns { group.new.cx.log.state.turns ≡ group.old.cx.log.state.turns }
         ensures grows { Grows group.old.cx group.new.cx }
-        ensures chain { (group.new.world.chain ≡ group.old.world.chain) × (group.new.world.unharmed ≡ group.old.world.unharmed) }
+        ensures chain { group.new.world.chain ≡ group.old.world.chain }
+        ensures unharmed { unharmed_of group.new.world.table.items ≡ unharmed_of group.old.world.table.items }
 
         // At most one event is set, and only where bytes wait for the client.
         ensures few { length group.new.cx.log.state.pending ≤ length group.old.cx.log.state.pending + 1 }
         ensures full { length group.new.cx.log.state.pending ≤ length group.old.cx.log.state.pending + length (last_wait group.old.world.chain.first group.old.world.chain.stages) }
-        ensures sound { IsSound group.new.world.chain group.new.world.table.items group.new.world.running group.new.cx.log.state.pending group.new.cx.roles }
+        ensures sound { IsSoundGroup group.new }
+        ensures running { OnOk result (group.new.world.running ≡ group.old.world.running) }
         ensures lost { OnErr result (group.new.world.running ≡ false) }
+
+        // Without memory: its continuation is not live, or the event numbers are used up.
+        ensures dead { result ≡ Err SetFault.Dead → (t : StageContinuation) → last_of group.old.world.table.items ≡ Some t → IsLive group.old.cx.log.state.live t.key → ⊥ }
+        ensures spent { result ≡ Err SetFault.Spent → 18446744073709551615 ≤ group.old.cx.log.state.next }
 
         // It is due after the pause of the last stage.
         ensures after { (at : ℕ) → at + 1 ≡ length group.old.world.chain.stages → SetsAfter (pause_at P.wait group.old.world.chain.stages at) group.old.cx group.new.cx }
         ensures awake { OnOk result (group.new.world.running ≡ true → IsAwake group.new.world.chain group.new.world.table.items) }
     {
         let pause = group.world().last_pause();
-        let Some(key) = group.world_mut().mark() else {
+        let Some(key) = group.world_mut().mark()? else {
             return Ok(());
         };
         if let Err(fault) = group.cx().schedule(key, pause) {

@@ -1,11 +1,13 @@
 // A chain with its body, as a world of a mutex group.
-ghost use Rattle.std.specs.Prelude.{◌≡◌, ℕ, ◌+◌, ◌*◌, ◌<◌, ◌≤◌, ◌++◌, List, [], length, take, drop, map, true, false, refl, Some, None, IfOk, IfSome};
+ghost use Rattle.std.specs.Prelude.{◌≡◌, ℕ, ◌+◌, ◌*◌, ◌<◌, ◌≤◌, ◌++◌, List, [], length, take, drop, map, true, false, refl, Some, None, IfOk, IfErr, IfSome, OnOk, OnErr};
+ghost use Rattle.ts_group.specs.declared.action.SetFault.TheVariants.{Dead};
 ghost use Rattle.ts_journal.specs.declared.entry.Pending.{Pending};
 ghost use Rattle.ts_group.specs.declared.action.Named.{Named};
 ghost use Rattle.ts_group.specs.Context.{Context, AllPlain};
 ghost use Rattle.ts_group.specs.Entries.{Grows};
 ghost use Rattle.ts_transform.specs.Flow.{flow, compose, left_to_do, last_wait, last_ended, fresh_stage, pause_at, aborted, IsFinished, PumpsOnce, Takes};
-ghost use Rattle.ts_transform.specs.Driving.{Keeps, HasEventIf};
+ghost use Rattle.ts_transform.specs.declared.continuation.StageContinuation.{StageContinuation};
+ghost use Rattle.ts_transform.specs.Driving.{Keeps, HasEventIf, calm_all, unharmed_of, last_of};
 ghost use Rattle.ts_transform.specs.Cover.{IsSound, IsDriven, IsAwake};
 
 use crate::chain::Chain;
@@ -15,7 +17,7 @@ use crate::rousing::mark_last;
 use crate::start::begin;
 use crate::transform::Transform;
 use std::alloc::Global;
-use ts_group::{Asked, Cx, Want, World};
+use ts_group::{Asked, Cx, SetFault, Want, World};
 use ts_journal::{ContKey, Event, Slotted};
 use ts_link::{NoMemory, Octets};
 
@@ -24,8 +26,6 @@ use ts_link::{NoMemory, Octets};
 pub struct ChainWorld<P> {
     chain: Chain<P>,
     table: Vec<Option<StageContinuation>>,
-    // None of the first so many stages has passed an error on.
-    unharmed: usize,
     // Each stage that must work has an event.
     running: bool,
 }
@@ -35,15 +35,12 @@ impl<P: Transform + Drop> ChainWorld<P> {
     pub fn make(alloc: Global, parts: Vec<P>, body: Octets) -> Result<ChainWorld<P>, NoMemory>
         ensures flow { IfOk result (λ w. flow P.rest w.chain [] ≡ compose P.rest parts.items body) }
         ensures made { IfOk result (λ w. w.chain ≡ record { first = body; stages = map fresh_stage parts.items; given = true }) }
-        ensures fresh { IfOk result (λ w. (w.table.items ≡ []) × (w.running ≡ false) × (w.unharmed ≡ length parts.items)) }
-        ensures sound { IfOk result (λ w. (pending : List Pending) → (roles : List Named) → AllPlain pending → IsSound w.chain w.table.items w.running pending roles) }
+        ensures fresh { IfOk result (λ w. (w.table.items ≡ []) × (w.running ≡ false)) }
+        ensures sound { IfOk result (λ w. (pending : List Pending) → (roles : List Named) → AllPlain pending → IsSound w pending roles) }
     {
-        let unharmed = parts.len();
-        let chain = Chain::over(alloc, parts, body)?;
         Ok(ChainWorld {
-            chain,
+            chain: Chain::over(alloc, parts, body)?,
             table: Vec::new(alloc),
-            unharmed,
             running: false,
         })
     }
@@ -60,9 +57,9 @@ impl<P: Transform + Drop> ChainWorld<P> {
     #[tactic(auto, using(crate::proofs::Taking::all_given))]
     pub fn is_running(&self) -> bool
         ensures running { result ≡ self.now.running }
-        ensures all { result ≡ true → (roles : List Named) → IsSound self.now.chain self.now.table.items self.now.running [] roles
+        ensures all { result ≡ true → (roles : List Named) → IsSound self.now [] roles
             → last_wait self.now.chain.first self.now.chain.stages ≡ [] → flow P.rest self.now.chain [] ≡ [] }
-        ensures finished { result ≡ true → (roles : List Named) → IsSound self.now.chain self.now.table.items self.now.running [] roles
+        ensures finished { result ≡ true → (roles : List Named) → IsSound self.now [] roles
             → last_wait self.now.chain.first self.now.chain.stages ≡ [] → IsFinished self.now.chain }
     {
         self.running
@@ -82,25 +79,27 @@ impl<P: Transform + Drop> ChainWorld<P> {
         ensures ended { last_ended self.new.chain.given self.new.chain.stages ≡ last_ended self.old.chain.given self.old.chain.stages }
         ensures given { self.new.chain.given ≡ self.old.chain.given }
         ensures len { length self.new.chain.stages ≡ length self.old.chain.stages }
-        ensures kept { (self.new.table.items ≡ self.old.table.items) × (self.new.unharmed ≡ self.old.unharmed) × (self.new.running ≡ self.old.running) }
+        ensures kept { (self.new.table.items ≡ self.old.table.items) × (self.new.running ≡ self.old.running) }
 
         // It stays sound, where `wake` was asked since a handler ran.
-        ensures sound { (pending : List Pending) → (roles : List Named) → IsSound self.old.chain self.old.table.items self.old.running pending roles
+        ensures sound { (pending : List Pending) → (roles : List Named) → IsSound self.old pending roles
             → (self.old.running ≡ true → IsAwake self.old.chain self.old.table.items)
-            → IsSound self.new.chain self.new.table.items self.new.running pending roles }
+            → IsSound self.new pending roles }
         ensures awake { IsAwake self.old.chain self.old.table.items → IsAwake self.new.chain self.new.table.items }
     {
         self.chain.take(n);
     }
 
     /// Drops all that waits, and closes every stage: each destroys its continuation at its next event.
+    #[tactic(auto, using(crate::proofs::Taking::aborted_awake))]
     pub fn abort(&mut self)
         ensures chain { self.new.chain ≡ aborted self.old.chain }
         ensures flow { flow P.rest self.new.chain [] ≡ [] }
         ensures left { left_to_do P.rest self.new.chain [] ≡ 0 }
-        ensures kept { (self.new.table.items ≡ self.old.table.items) × (self.new.unharmed ≡ self.old.unharmed) × (self.new.running ≡ self.old.running) }
-        ensures sound { (pending : List Pending) → (roles : List Named) → IsSound self.old.chain self.old.table.items self.old.running pending roles
-            → IsSound self.new.chain self.new.table.items self.new.running pending roles }
+        ensures kept { (self.new.table.items ≡ self.old.table.items) × (self.new.running ≡ self.old.running) }
+        ensures sound { (pending : List Pending) → (roles : List Named) → IsSound self.old pending roles
+            → IsSound self.new pending roles }
+        ensures awake { IsAwake self.new.chain self.new.table.items }
     {
         self.chain.abort();
     }
@@ -117,34 +116,35 @@ impl<P: Transform + Drop> ChainWorld<P> {
 
     // Says that an event was lost.
     pub(crate) fn lose(&mut self)
-        ensures kept { (self.new.chain ≡ self.old.chain) × (self.new.table.items ≡ self.old.table.items) × (self.new.unharmed ≡ self.old.unharmed) }
+        ensures kept { (self.new.chain ≡ self.old.chain) × (self.new.table.items ≡ self.old.table.items) }
         ensures running { self.new.running ≡ false }
     {
         self.running = false;
     }
 
     // Marks the last stage as roused, where that has not ended and 65,536 bytes or more wait after it. It answers the
-    // key for which an event has then to be set.
-    pub(crate) fn mark(&mut self) -> Option<ContKey>
-        ensures chain { (self.new.chain ≡ self.old.chain) × (self.new.unharmed ≡ self.old.unharmed) }
-        ensures running { self.new.running ≡ true → self.old.running ≡ true }
-        ensures full { IfSome result (λ key. 65536 ≤ length (last_wait self.old.chain.first self.old.chain.stages)) }
-        ensures driven { (a b : Context) → Keeps a b → HasEventIf b.log.state.pending result → self.new.running ≡ true
+    // key for which an event has then to be set, and refuses where that stage has no continuation.
+    pub(crate) fn mark(&mut self) -> Result<Option<ContKey>, SetFault>
+        ensures chain { self.new.chain ≡ self.old.chain }
+        ensures running { OnOk result (self.new.running ≡ self.old.running) }
+        ensures lost { OnErr result (self.new.running ≡ false) }
+        ensures calm { calm_all self.new.table.items ≡ calm_all self.old.table.items }
+        ensures full { IfOk result (λ key. IfSome key (λ k. 65536 ≤ length (last_wait self.old.chain.first self.old.chain.stages))) }
+        ensures key { IfOk result (λ key. IfSome key (λ k. (t : StageContinuation) → last_of self.old.table.items ≡ Some t → k ≡ t.key)) }
+        ensures driven { IfOk result (λ key. (a b : Context) → Keeps a b → HasEventIf b.log.state.pending key
             → IsDriven self.old.chain self.old.table.items a.log.state.pending a.roles
-            → IsDriven self.new.chain self.new.table.items b.log.state.pending b.roles }
-        ensures awake { length self.old.table.items ≡ length self.old.chain.stages → self.new.running ≡ true → IsAwake self.new.chain self.new.table.items }
-        ensures len { length self.new.table.items ≡ length self.old.table.items }
+            → IsDriven self.new.chain self.new.table.items b.log.state.pending b.roles) }
+        ensures awake { OnOk result (length self.old.table.items ≡ length self.old.chain.stages → IsAwake self.new.chain self.new.table.items) }
+        ensures dead { IfErr result (λ fault. (fault ≡ Dead) × (last_of self.old.table.items ≡ None)) }
     {
         if !self.chain.is_last_full() {
-            return None;
+            return Ok(None);
         }
-        match mark_last(&mut self.table) {
-            Ok(key) => key,
-            Err(_) => {
-                self.running = false;
-                None
-            }
+        let marked = mark_last(&mut self.table);
+        if marked.is_err() {
+            self.running = false;
         }
+        marked
     }
 }
 
@@ -171,11 +171,11 @@ impl<P: Transform + Drop> World for ChainWorld<P> {
 
     type Reply = ();
 
-    ghost sound = { λ w s roles. IsSound w.chain w.table.items w.running s.pending roles };
+    ghost sound = { λ w s roles. IsSound w s.pending roles };
 
-    ghost asking = { λ w s roles role group question. IsSound w.chain w.table.items w.running s.pending roles };
+    ghost asking = { λ w s roles role group question. IsSound w s.pending roles };
 
-    ghost left = { λ w s. Some (100 * (left_to_do P.rest w.chain [] + w.unharmed) + length s.pending) };
+    ghost left = { λ w s. Some (100 * (left_to_do P.rest w.chain [] + unharmed_of w.table.items) + length s.pending) };
 
     ghost begun = { λ old new. new.chain ≡ old.chain };
 
@@ -189,14 +189,7 @@ impl<P: Transform + Drop> World for ChainWorld<P> {
     }
 
     fn handle(&mut self, role: u32, event: Event, cx: &mut Cx) -> Want<()> {
-        if let Err(_) = handle_stage(
-            &mut self.chain,
-            &mut self.table,
-            &mut self.unharmed,
-            role,
-            event,
-            cx,
-        ) {
+        if let Err(_) = handle_stage(&mut self.chain, &mut self.table, role, event, cx) {
             self.running = false;
         }
         Want::Nothing
@@ -204,7 +197,7 @@ impl<P: Transform + Drop> World for ChainWorld<P> {
 
     fn told(&mut self, _role: u32, _asked: Asked<(), ()>, _cx: &mut Cx)
         requires turn { _cx.old.log.state.held ≡ true }
-        requires sound { IsSound self.old.chain self.old.table.items self.old.running _cx.old.log.state.pending _cx.old.roles }
+        requires sound { IsSound self.old _cx.old.log.state.pending _cx.old.roles }
         ensures grows { Grows _cx.old _cx.new }
         ensures same { (_cx.new.log.state ≡ _cx.old.log.state) × (_cx.new.roles ≡ _cx.old.roles) × (self.new ≡ self.old) }
     {}

@@ -1,6 +1,6 @@
 // Chains as worlds of groups, driven to their ends; and chains and worlds that are aborted.
 ghost use Rattle.std.specs.Prelude.{◌≡◌, true, false, IfOk, OnOk};
-ghost use Rattle.ts_transform.specs.Cover.{IsSound, IsAwake};
+ghost use Rattle.ts_transform.specs.Cover.{IsSoundGroup, IsAwake};
 
 use crate::tests::Tail;
 use crate::{Chain, ChainWorld, Pumped};
@@ -56,7 +56,7 @@ fn counting(alloc: Global, len: u32) -> Result<Vec<u8>, NoMemory> {
 // A chain of tails over a body, started in the first turn.
 fn begin(alloc: Global, parts: Vec<Tail>, body: &[u8]) -> Result<Group<ChainWorld<Tail>>, Fail>
     ensures idle { IfOk result (λ g. g.cx.log.state.held ≡ false) }
-    ensures sound { IfOk result (λ g. IsSound g.world.chain g.world.table.items g.world.running g.cx.log.state.pending g.cx.roles) }
+    ensures sound { IfOk result (λ g. IsSoundGroup g) }
 {
     let body = Octets::copy_of(alloc, body)?;
     let world = ChainWorld::make(alloc, parts, body)?;
@@ -70,10 +70,10 @@ fn begin(alloc: Global, parts: Vec<Tail>, body: &[u8]) -> Result<Group<ChainWorl
 // Copies what waits for the client, at most so many bytes as it takes, and takes it away.
 fn take_some(group: &mut Group<ChainWorld<Tail>>, client: &mut Client) -> Result<(), Fail>
     requires idle { group.old.cx.log.state.held ≡ false }
-    requires sound { IsSound group.old.world.chain group.old.world.table.items group.old.world.running group.old.cx.log.state.pending group.old.cx.roles }
+    requires sound { IsSoundGroup group.old }
     requires awake { group.old.world.running ≡ true → IsAwake group.old.world.chain group.old.world.table.items }
     ensures idle { OnOk result (group.new.cx.log.state.held ≡ false) }
-    ensures sound { OnOk result (IsSound group.new.world.chain group.new.world.table.items group.new.world.running group.new.cx.log.state.pending group.new.cx.roles) }
+    ensures sound { OnOk result (IsSoundGroup group.new) }
 {
     let mut left = client.most;
     'taking: while let Some(block) = group.world().chain().out_block() {
@@ -92,9 +92,9 @@ fn take_some(group: &mut Group<ChainWorld<Tail>>, client: &mut Client) -> Result
 // Begins the next turn.
 fn begin_turn(group: &mut Group<ChainWorld<Tail>>, moment: u64) -> Result<(), Fail>
     requires idle { group.old.cx.log.state.held ≡ false }
-    requires sound { IsSound group.old.world.chain group.old.world.table.items group.old.world.running group.old.cx.log.state.pending group.old.cx.roles }
+    requires sound { IsSoundGroup group.old }
     ensures turn { OnOk result (group.new.cx.log.state.held ≡ true) }
-    ensures sound { OnOk result (IsSound group.new.world.chain group.new.world.table.items group.new.world.running group.new.cx.log.state.pending group.new.cx.roles) }
+    ensures sound { OnOk result (IsSoundGroup group.new) }
 {
     let Some(turn) = group.journal().turns().checked_add(1) else {
         return Err("a turn is left")?;
@@ -106,9 +106,9 @@ fn begin_turn(group: &mut Group<ChainWorld<Tail>>, moment: u64) -> Result<(), Fa
 // Ends a turn: wakes the last stage and gives the turn back; then the client takes bytes.
 fn end_turn(group: &mut Group<ChainWorld<Tail>>, client: &mut Client) -> Result<(), Fail>
     requires turn { group.old.cx.log.state.held ≡ true }
-    requires sound { IsSound group.old.world.chain group.old.world.table.items group.old.world.running group.old.cx.log.state.pending group.old.cx.roles }
+    requires sound { IsSoundGroup group.old }
     ensures idle { OnOk result (group.new.cx.log.state.held ≡ false) }
-    ensures sound { OnOk result (IsSound group.new.world.chain group.new.world.table.items group.new.world.running group.new.cx.log.state.pending group.new.cx.roles) }
+    ensures sound { OnOk result (IsSoundGroup group.new) }
 {
     ChainWorld::wake(group)?;
     group.give_turn();
@@ -118,9 +118,9 @@ fn end_turn(group: &mut Group<ChainWorld<Tail>>, client: &mut Client) -> Result<
 // Makes one turn, which handles what is due first, and answers whether something was pending.
 fn step(group: &mut Group<ChainWorld<Tail>>, client: &mut Client) -> Result<bool, Fail>
     requires idle { group.old.cx.log.state.held ≡ false }
-    requires sound { IsSound group.old.world.chain group.old.world.table.items group.old.world.running group.old.cx.log.state.pending group.old.cx.roles }
+    requires sound { IsSoundGroup group.old }
     ensures idle { OnOk result (group.new.cx.log.state.held ≡ false) }
-    ensures sound { OnOk result (IsSound group.new.world.chain group.new.world.table.items group.new.world.running group.new.cx.log.state.pending group.new.cx.roles) }
+    ensures sound { OnOk result (IsSoundGroup group.new) }
 {
     let Some((due, number)) = group.next_due() else {
         return Ok(false);
@@ -138,9 +138,9 @@ fn step(group: &mut Group<ChainWorld<Tail>>, client: &mut Client) -> Result<bool
 // Makes at most so many turns, and answers whether nothing is pending then.
 fn run(group: &mut Group<ChainWorld<Tail>>, client: &mut Client, turns: u32) -> Result<bool, Fail>
     requires idle { group.old.cx.log.state.held ≡ false }
-    requires sound { IsSound group.old.world.chain group.old.world.table.items group.old.world.running group.old.cx.log.state.pending group.old.cx.roles }
+    requires sound { IsSoundGroup group.old }
     ensures idle { OnOk result (group.new.cx.log.state.held ≡ false) }
-    ensures sound { OnOk result (IsSound group.new.world.chain group.new.world.table.items group.new.world.running group.new.cx.log.state.pending group.new.cx.roles) }
+    ensures sound { OnOk result (IsSoundGroup group.new) }
 {
     'turns: for _ in 0..turns {
         if !step(group, client)? {
@@ -153,9 +153,9 @@ fn run(group: &mut Group<ChainWorld<Tail>>, client: &mut Client, turns: u32) -> 
 // Makes a turn in which the client takes all that waits.
 fn take_rest(group: &mut Group<ChainWorld<Tail>>, client: &mut Client) -> Result<(), Fail>
     requires idle { group.old.cx.log.state.held ≡ false }
-    requires sound { IsSound group.old.world.chain group.old.world.table.items group.old.world.running group.old.cx.log.state.pending group.old.cx.roles }
+    requires sound { IsSoundGroup group.old }
     ensures idle { OnOk result (group.new.cx.log.state.held ≡ false) }
-    ensures sound { OnOk result (IsSound group.new.world.chain group.new.world.table.items group.new.world.running group.new.cx.log.state.pending group.new.cx.roles) }
+    ensures sound { OnOk result (IsSoundGroup group.new) }
 {
     client.most = usize::MAX;
     begin_turn(group, client.moment)?;
@@ -165,9 +165,9 @@ fn take_rest(group: &mut Group<ChainWorld<Tail>>, client: &mut Client) -> Result
 // Aborts the chain of a world.
 fn abort(group: &mut Group<ChainWorld<Tail>>)
     requires idle { group.old.cx.log.state.held ≡ false }
-    requires sound { IsSound group.old.world.chain group.old.world.table.items group.old.world.running group.old.cx.log.state.pending group.old.cx.roles }
+    requires sound { IsSoundGroup group.old }
     ensures idle { group.new.cx.log.state.held ≡ false }
-    ensures sound { IsSound group.new.world.chain group.new.world.table.items group.new.world.running group.new.cx.log.state.pending group.new.cx.roles }
+    ensures sound { IsSoundGroup group.new }
 {
     group.world_mut().abort();
 }
@@ -175,9 +175,9 @@ fn abort(group: &mut Group<ChainWorld<Tail>>)
 // Makes a turn in which the stage of a key is called with an error.
 fn tell_error(group: &mut Group<ChainWorld<Tail>>, key: ContKey, moment: u64) -> Result<(), Fail>
     requires idle { group.old.cx.log.state.held ≡ false }
-    requires sound { IsSound group.old.world.chain group.old.world.table.items group.old.world.running group.old.cx.log.state.pending group.old.cx.roles }
+    requires sound { IsSoundGroup group.old }
     ensures idle { OnOk result (group.new.cx.log.state.held ≡ false) }
-    ensures sound { OnOk result (IsSound group.new.world.chain group.new.world.table.items group.new.world.running group.new.cx.log.state.pending group.new.cx.roles) }
+    ensures sound { OnOk result (IsSoundGroup group.new) }
 {
     begin_turn(group, moment)?;
     group.cx().call(key, Event::Error)?;
@@ -299,25 +299,27 @@ fn run_whole(alloc: Global, parts: Vec<Tail>, body: &[u8], most: usize) -> Resul
     })
 }
 
-// The same, but after so many turns the stage at a place is called with an error.
-fn run_with_error(
+// The same, but after so many turns the stages at these places are called with an error, one after the other.
+fn run_with_errors(
     alloc: Global,
     parts: Vec<Tail>,
     body: &[u8],
     turns: u32,
-    place: usize,
+    places: &[usize],
 ) -> Result<Ended, Fail> {
     let mut group = begin(alloc, parts, body)?;
     let keys = stage_keys(alloc, group.journal())?;
-    let Some(key) = keys.get(place) else {
-        return Err("there is such a stage")?;
-    };
     let mut client = Client::make(alloc, 1_000_000);
     if run(&mut group, &mut client, turns)? {
         return Err("it has not ended yet")?;
     }
     let before = client.got.len();
-    tell_error(&mut group, *key, client.moment)?;
+    'places: for place in places {
+        let Some(key) = keys.get(*place) else {
+            return Err("there is such a stage")?;
+        };
+        tell_error(&mut group, *key, client.moment)?;
+    }
     if !run(&mut group, &mut client, TURNS)? {
         return Err("it ends")?;
     }
@@ -396,16 +398,24 @@ fn a_world_gives_its_body_with_the_tails(rt: HostRuntime) -> Result<(), Fail> {
 fn an_error_is_passed_on_and_the_body_still_comes(rt: HostRuntime) -> Result<(), Fail> {
     let body = counting(rt.alloc(), 100_000)?;
     let parts: [(&[u8], u64); 3] = [(b"1", 0), (b"2", 0), (b"3", 0)];
-    for turns in [0, 1, 3] {
-        let ended = run_with_error(rt.alloc(), tails(rt.alloc(), &parts)?, &body, turns, 1)?;
+    let cases: [(u32, &[usize], [usize; 3]); 6] = [
+        (0, &[1], [1, 1, 0]),
+        (1, &[1], [1, 1, 0]),
+        (3, &[1], [1, 1, 0]),
+        (1, &[1, 2], [1, 2, 1]),
+        (1, &[2, 2], [1, 1, 2]),
+        (3, &[0, 1, 2], [2, 2, 1]),
+    ];
+    for (turns, places, told) in cases {
+        let ended = run_with_errors(rt.alloc(), tails(rt.alloc(), &parts)?, &body, turns, places)?;
         assert!(rt;
             ended.got == with_tails(rt.alloc(), &body, &parts)?,
-            "{turns}"
+            "{turns}, {places:?}"
         );
-        for (key, is_told) in ended.keys.iter().zip([true, true, false]) {
+        for (key, times) in ended.keys.iter().zip(told) {
             let events = handled(rt.alloc(), ended.group.journal(), *key)?;
             let errors = errors_of(rt.alloc(), &events)?;
-            assert_eq!(rt; errors.len(), usize::from(is_told), "{turns}, {key:?}");
+            assert_eq!(rt; errors.len(), times, "{turns}, {places:?}, {key:?}");
         }
     }
     Ok(())

@@ -4,6 +4,7 @@ use Rattle.ts_transform.specs.Flow.{left_to_do}
 use Rattle.ts_transform.specs.Driving.{works_at}
 use Rattle.ts_transform.proofs.Closing.{closed_driven}
 use Rattle.ts_transform.proofs.Covering.{driven_but, driven_quiet, driven_kept, any_ok}
+use Rattle.ts_transform.proofs.Harmed.{harmed_driven}
 use Rattle.ts_transform.proofs.handler.act.Goals as goal
 
 pub returns-then-has_ended-clause-driven : goal.returns-then-has_ended-clause-driven
@@ -14,9 +15,12 @@ returns-then-has_ended-clause-driven g c = λ driven.
 
 pub returns-in-Error-clause-driven : goal.returns-in-Error-clause-driven
 returns-in-Error-clause-driven g c =
-    any_ok c.tell_before.result
-    (λ driven. driven_kept c.args.cx.now c.tell_before.new.cx c.args.chain.now c.args.table.now c.tell_before.ensures.keeps
-    (driven_quiet (works_at c.args.event) c.args.at c.args.chain.now c.args.table.now c.args.cx.now.log.state.pending c.args.cx.now.roles (ap works_at c.in-Error.is) driven))
+    let old = c.args.cx.now in
+    let new = c.pass_error.new.cx in
+    any_ok c.pass_error.result
+    (λ driven. harmed_driven c.args.chain.now c.args.table.now c.pass_error.new.table c.args.at new.log.state.pending new.roles c.pass_error.ensures.table
+    (driven_kept old new c.args.chain.now c.args.table.now c.pass_error.ensures.keeps
+    (driven_quiet (works_at c.args.event) c.args.at c.args.chain.now c.args.table.now old.log.state.pending old.roles (ap works_at c.in-Error.is) driven)))
 
 -- Where a stage rested, it was paid for no event.
 pub returns-then-works-clause-rests : goal.returns-then-works-clause-rests

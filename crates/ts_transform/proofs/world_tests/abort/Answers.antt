@@ -7,4 +7,4 @@ pub returns-clause-sound : goal.returns-clause-sound
 returns-clause-sound c =
     let cx = c.args.group.now.cx in
     c.abort.ensures.sound cx.log.state.pending cx.roles
-    (subst (λ w. IsSound w.chain w.table.items w.running cx.log.state.pending cx.roles) (sym c.world_mut.ensures.value) c.requires.sound)
+    (subst (λ w. IsSound w cx.log.state.pending cx.roles) (sym c.world_mut.ensures.value) c.requires.sound)

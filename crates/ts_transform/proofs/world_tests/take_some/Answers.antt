@@ -12,6 +12,6 @@ taking-preserved c =
     record {
       idle = c.taking.invariant.idle;
       sound = c.take.ensures.sound cx.log.state.pending cx.roles
-          (subst (λ w. IsSound w.chain w.table.items w.running cx.log.state.pending cx.roles) (sym c.world_mut.ensures.value) c.taking.invariant.sound) awake;
+          (subst (λ w. IsSound w cx.log.state.pending cx.roles) (sym c.world_mut.ensures.value) c.taking.invariant.sound) awake;
       awake = λ runs. c.take.ensures.awake (awake (sym c.take.ensures.kept.2 ∙ runs));
     }

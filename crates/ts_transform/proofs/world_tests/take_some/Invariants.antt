@@ -1,12 +1,12 @@
 -- The world stays sound and awake, and the client takes less with each block.
 use Rattle.std.specs.Prelude.{◌≡◌, true, false}
-use Rattle.ts_transform.specs.Cover.{IsSound, IsAwake}
+use Rattle.ts_transform.specs.Cover.{IsSoundGroup, IsAwake}
 use Rattle.ts_transform.proofs.world_tests.take_some.Given as goal
 
 abbrev pub invariant-taking : goal.invariant-taking
 invariant-taking l = record {
   idle : l.group.cx.log.state.held ≡ false;
-  sound : IsSound l.group.world.chain l.group.world.table.items l.group.world.running l.group.cx.log.state.pending l.group.cx.roles;
+  sound : IsSoundGroup l.group;
   awake : l.group.world.running ≡ true → IsAwake l.group.world.chain l.group.world.table.items;
 }
 

@@ -12,4 +12,4 @@ returns-clause-sound c =
     let now = c.call.new.self in
     c.give_turn.ensures.sound
     (sound_kept cx now world.chain world.table.items world.running (set_keeps cx now _ _ _ _ c.call.ensures.sets)
-    (subst (λ x. IsSound world.chain world.table.items world.running x.log.state.pending x.roles) (sym c.cx.ensures.value) c.in_ok-begin_turn.ensures.sound))
+    (subst (λ x. IsSound world x.log.state.pending x.roles) (sym c.cx.ensures.value) c.in_ok-begin_turn.ensures.sound))

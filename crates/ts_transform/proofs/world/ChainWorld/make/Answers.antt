@@ -4,4 +4,4 @@ use Rattle.ts_transform.proofs.world.ChainWorld.make.Goals as goal
 
 pub returns-clause-sound : goal.returns-clause-sound
 returns-clause-sound g c = λ pending roles plain.
-    made_sound c.args.body c.args.parts.items c.in_ok-chain.chain c.new.result.items _ pending roles c.in_ok-chain.ensures.made refl plain
+    made_sound c.args.body c.args.parts.items c.in_ok-over.field-0 c.new.result.items _ pending roles c.in_ok-over.ensures.made refl plain
