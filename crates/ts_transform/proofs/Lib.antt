@@ -9,3 +9,4 @@ pub mod Starting
 pub mod Taking
 pub mod Told
 pub mod Harmed
+pub mod Called

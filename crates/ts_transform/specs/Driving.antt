@@ -68,6 +68,10 @@ IsRoused (t ∷ ts) (suc at) = IsRoused ts at
 abbrev pub IsTold : List Pending → Event → List (Option StageContinuation) → ℕ → Type 0
 IsTold pending event ts at = (t : StageContinuation) → slice_get ts at ≡ Some (Some t) → HasKind pending t.key event
 
+-- the stage at a place was roused before, or is called with WriteReady
+abbrev pub IsCalledUnless : List (Option StageContinuation) → List Pending → List (Option StageContinuation) → ℕ → Type 0
+IsCalledUnless before pending ts at = IsRoused before at ⊎ IsTold pending WriteReady ts at
+
 -- a continuation was destroyed, if it was live
 abbrev pub IsDestroyed : Context → Context → ContKey → Type 0
 IsDestroyed old new key = HasLost old.log.state new.log.state old.roles new.roles key ⊎ (IsLive old.log.state.live key → ⊥)

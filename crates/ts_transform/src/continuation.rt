@@ -1,5 +1,5 @@
 // The continuations of stages, and how they are roused.
-ghost use Rattle.std.specs.Prelude.{◌≡◌, ℕ, ◌<◌, true, OnOk};
+ghost use Rattle.std.specs.Prelude.{◌≡◌, ℕ, ◌<◌, ◌⊎◌, true, Some, OnOk};
 ghost use Rattle.ts_group.specs.Entries.{Grows};
 ghost use Rattle.ts_journal.specs.declared.entry.Event.TheVariants.{WriteReady};
 ghost use Rattle.ts_transform.specs.declared.continuation.Rouser.TheVariants as Rouser;
@@ -71,6 +71,7 @@ pub fn rouse(
     ensures of_stage { (role : ℕ) → IsOfStageIf cx.old.log.state.pending cx.old.roles role slot.old
         → IsOfStageIf cx.new.log.state.pending cx.new.roles role slot.new }
     ensures roused { OnOk result (IsRousedIf slot.new) }
+    ensures called { rouser ≡ Rouser.Downstream → pause ≡ 0 → OnOk result (IsRousedIf slot.old ⊎ ((t : StageContinuation) → slot.new ≡ Some t → HasKind cx.new.log.state.pending t.key WriteReady)) }
     ensures still { IsRousedIf slot.old → IsRousedIf slot.new }
     ensures calm { calmed slot.new ≡ calmed slot.old }
 {

@@ -1,13 +1,14 @@
 // The handler of a stage (the Developer's Guide, "Writing a Transformation Plugin"): it moves a piece, reenables its
 // output, and calls its upstream once there is room.
-ghost use Rattle.std.specs.Prelude.{◌≡◌, ℕ, ◌+◌, ◌*◌, ◌<◌, ◌≤◌, ◌⊎◌, List, [], length, true, false, OnOk, MatchOption};
+ghost use Rattle.std.specs.Prelude.{◌≡◌, ◌≢◌, ℕ, ◌+◌, ◌*◌, ◌<◌, ◌≤◌, ◌⊎◌, List, [], length, slice_get, true, false, OnOk, MatchOption};
 ghost use Rattle.std.specs.Bool.{OnTrue};
 ghost use Rattle.ts_journal.specs.declared.entry.Event.TheVariants.{Error, WriteComplete};
 ghost use Rattle.ts_journal.specs.declared.entry.Pending.{Pending};
 ghost use Rattle.ts_group.specs.Context.{AllPlain};
+ghost use Rattle.ts_transform.specs.declared.continuation.Rouser.TheVariants as Rouser;
 ghost use Rattle.ts_group.specs.Entries.{Grows};
 ghost use Rattle.ts_transform.specs.Flow.{flow, left_to_do, PumpsOnce, ended_at, pause_at, MustPump};
-ghost use Rattle.ts_transform.specs.Driving.{AreOfStages, IsRoused, Keeps, SetsAfter, SetsFew, IsTold, IsClosed, IsHandled, works_at, harmed, gone, changed, calm_all, is_unharmed_at, unharmed_of};
+ghost use Rattle.ts_transform.specs.Driving.{AreOfStages, IsRoused, Keeps, SetsAfter, SetsFew, IsTold, IsCalledUnless, IsClosed, IsHandled, works_at, harmed, gone, changed, calm_all, is_unharmed_at, unharmed_of};
 ghost use Rattle.ts_transform.specs.Cover.{IsDriven, IsDrivenBut, IsDrivenFor, IsRoundRoused};
 
 use crate::chain::Chain;
@@ -35,6 +36,9 @@ pub fn rouse_if_ready<P: Transform + Drop>(
     ensures of_stages { (role : ℕ) → AreOfStages cx.old.log.state.pending cx.old.roles role table.old
         → AreOfStages cx.new.log.state.pending cx.new.roles role table.new }
     ensures ready { OnOk result (MustPump chain.now.given chain.now.first chain.now.stages at → IsRoused table.new at) }
+    ensures called { rouser ≡ Rouser.Downstream → pause_at P.wait chain.now.stages at ≡ 0
+        → OnOk result (MustPump chain.now.given chain.now.first chain.now.stages at → IsCalledUnless table.old cx.new.log.state.pending table.new at) }
+    ensures others { (j : ℕ) → j ≢ at → slice_get table.new j ≡ slice_get table.old j }
     ensures still { (j : ℕ) → IsRoused table.old j → IsRoused table.new j }
     ensures len { length table.new ≡ length table.old }
     ensures calm { calm_all table.new ≡ calm_all table.old }
@@ -63,6 +67,8 @@ fn rouse_before<P: Transform + Drop>(
     ensures of_stages { (role : ℕ) → AreOfStages cx.old.log.state.pending cx.old.roles role table.old
         → AreOfStages cx.new.log.state.pending cx.new.roles role table.new }
     ensures ready { OnOk result ((j : ℕ) → j + 1 ≡ at → MustPump chain.now.given chain.now.first chain.now.stages j → IsRoused table.new j) }
+    ensures called { OnOk result ((j : ℕ) → j + 1 ≡ at → pause_at P.wait chain.now.stages j ≡ 0
+        → MustPump chain.now.given chain.now.first chain.now.stages j → IsCalledUnless table.old cx.new.log.state.pending table.new j) }
     ensures still { (j : ℕ) → IsRoused table.old j → IsRoused table.new j }
     ensures len { length table.new ≡ length table.old }
     ensures calm { calm_all table.new ≡ calm_all table.old }
@@ -90,6 +96,8 @@ fn rouse_round<P: Transform + Drop>(
     ensures of_stages { (role : ℕ) → AreOfStages cx.old.log.state.pending cx.old.roles role table.old
         → AreOfStages cx.new.log.state.pending cx.new.roles role table.new }
     ensures round { OnOk result (IsRoundRoused chain.now table.new at) }
+    ensures called { OnOk result ((j : ℕ) → j + 1 ≡ at → pause_at P.wait chain.now.stages j ≡ 0
+        → MustPump chain.now.given chain.now.first chain.now.stages j → IsCalledUnless table.old cx.new.log.state.pending table.new j) }
     ensures still { (j : ℕ) → IsRoused table.old j → IsRoused table.new j }
     ensures len { length table.new ≡ length table.old }
     ensures calm { calm_all table.new ≡ calm_all table.old }
@@ -126,6 +134,10 @@ fn work<P: Transform + Drop>(
     // Where it ended, the stage before it is told so.
     ensures ended { OnOk result (ended_at chain.old.stages at ≡ false → ended_at chain.new.stages at ≡ true
         → (j : ℕ) → j + 1 ≡ at → IsTold cx.new.log.state.pending WriteComplete table.new j) }
+
+    // Where it did something, the stage before it is called if that must work, was not roused, and makes no pause.
+    ensures called { OnOk result ((chain.new ≡ chain.old → ⊥) → (j : ℕ) → j + 1 ≡ at → pause_at P.wait chain.new.stages j ≡ 0
+        → MustPump chain.new.given chain.new.first chain.new.stages j → IsCalledUnless table.old cx.new.log.state.pending table.new j) }
     ensures calm { calm_all table.new ≡ calm_all table.old }
 {
     let Ok(pumped) = chain.pump(at) else {
@@ -237,6 +249,10 @@ fn act<P: Transform + Drop>(
     ensures ended { OnOk result (ended_at chain.old.stages at ≡ false → ended_at chain.new.stages at ≡ true
         → (j : ℕ) → j + 1 ≡ at → IsTold cx.new.log.state.pending WriteComplete table.new j) }
 
+    // Where it did something, the stage before it is called if that must work, was not roused, and makes no pause.
+    ensures called { OnOk result ((chain.new ≡ chain.old → ⊥) → (j : ℕ) → j + 1 ≡ at → pause_at P.wait chain.new.stages j ≡ 0
+        → MustPump chain.new.given chain.new.first chain.new.stages j → IsCalledUnless table.old cx.new.log.state.pending table.new j) }
+
     // It passes an error on to the stage before it, the first time.
     ensures passed { OnOk result (event ≡ Error → ended_at chain.old.stages at ≡ false → is_unharmed_at table.old at ≡ true
         → (j : ℕ) → j + 1 ≡ at → IsTold cx.new.log.state.pending Error table.new j) }
@@ -293,6 +309,10 @@ fn handle_at<P: Transform + Drop>(
     ensures ended { OnOk result (ended_at chain.old.stages at ≡ false → ended_at chain.new.stages at ≡ true
         → (j : ℕ) → j + 1 ≡ at → IsTold cx.new.log.state.pending WriteComplete table.new j) }
 
+    // Where it did something, the stage before it is called if that must work, was not roused, and makes no pause.
+    ensures called { OnOk result ((chain.new ≡ chain.old → ⊥) → (j : ℕ) → j + 1 ≡ at → pause_at P.wait chain.new.stages j ≡ 0
+        → MustPump chain.new.given chain.new.first chain.new.stages j → IsCalledUnless table.old cx.new.log.state.pending table.new j) }
+
     // It passes an error on to the stage before it, the first time.
     ensures passed { OnOk result (event ≡ Error → ended_at chain.old.stages at ≡ false → is_unharmed_at table.old at ≡ true
         → (j : ℕ) → j + 1 ≡ at → IsTold cx.new.log.state.pending Error table.new j) }
@@ -343,11 +363,14 @@ pub fn handle_stage<P: Transform + Drop>(
     ensures fresh { length table.old.items ≡ 0 → chain.new ≡ chain.old }
 
     // The stage of the role: where it had ended, its continuation is destroyed; where it ends, the stage before it is
-    // told so; and it passes an error on to the stage before it, the first time.
+    // told so; where it did something, that stage is called if it must work, was not roused, and makes no pause; and it
+    // passes an error on to the stage before it, the first time.
     ensures closed { (at : ℕ) → role ≡ at + 1 → at < length table.old.items → length table.old.items ≡ length chain.old.stages
         → ended_at chain.old.stages at ≡ true → IsClosed cx.old cx.new table.old.items at }
     ensures ended { OnOk result ((at : ℕ) → role ≡ at + 1 → ended_at chain.old.stages at ≡ false → ended_at chain.new.stages at ≡ true
         → (j : ℕ) → j + 1 ≡ at → IsTold cx.new.log.state.pending WriteComplete table.new.items j) }
+    ensures called { OnOk result ((chain.new ≡ chain.old → ⊥) → (at : ℕ) → role ≡ at + 1 → (j : ℕ) → j + 1 ≡ at → pause_at P.wait chain.new.stages j ≡ 0
+        → MustPump chain.new.given chain.new.first chain.new.stages j → IsCalledUnless table.old.items cx.new.log.state.pending table.new.items j) }
     ensures passed { OnOk result ((at : ℕ) → role ≡ at + 1 → at < length table.old.items → length table.old.items ≡ length chain.old.stages
         → event ≡ Error → ended_at chain.old.stages at ≡ false → is_unharmed_at table.old.items at ≡ true → (j : ℕ) → j + 1 ≡ at → IsTold cx.new.log.state.pending Error table.new.items j) }
     ensures harmed { (at : ℕ) → role ≡ at + 1 → at < length table.old.items → length table.old.items ≡ length chain.old.stages

@@ -1,9 +1,10 @@
 // The continuations of a chain's stages, in the order of the stages.
-ghost use Rattle.std.specs.Prelude.{◌≡◌, ℕ, ◌+◌, ◌<◌, length, slice_get, Some, None, true, OnOk, IfOk, IfErr, IfSome};
+ghost use Rattle.std.specs.Prelude.{◌≡◌, ◌≢◌, ℕ, ◌+◌, ◌<◌, length, slice_get, Some, None, true, OnOk, IfOk, IfErr, IfSome};
 ghost use Rattle.ts_group.specs.declared.action.SetFault.TheVariants.{Dead};
 ghost use Rattle.ts_group.specs.Context.{Context};
+ghost use Rattle.ts_transform.specs.declared.continuation.Rouser.TheVariants as Rouser;
 ghost use Rattle.ts_group.specs.Entries.{Grows};
-ghost use Rattle.ts_transform.specs.Driving.{IsOfStageIf, IsRousedIf, HasEventIf, AreOfStages, IsRoused, Keeps, SetsAfter, SetsFew, IsTold, works_at, calmed, calmed_for, harmed, gone, changed, calm_all, is_unharmed_at, last_of};
+ghost use Rattle.ts_transform.specs.Driving.{IsOfStageIf, IsRousedIf, HasEventIf, AreOfStages, IsRoused, Keeps, SetsAfter, SetsFew, IsTold, IsCalledUnless, works_at, calmed, calmed_for, harmed, gone, changed, calm_all, is_unharmed_at, last_of};
 
 use crate::continuation::{Rouser, StageContinuation, rouse, works};
 use ts_group::{Cx, SetFault};
@@ -27,6 +28,8 @@ pub fn rouse_at(
     ensures of_stages { (role : ℕ) → AreOfStages cx.old.log.state.pending cx.old.roles role table.old
         → AreOfStages cx.new.log.state.pending cx.new.roles role table.new }
     ensures roused { OnOk result (IsRoused table.new at) }
+    ensures called { rouser ≡ Rouser.Downstream → pause ≡ 0 → OnOk result (IsCalledUnless table.old cx.new.log.state.pending table.new at) }
+    ensures others { (j : ℕ) → j ≢ at → slice_get table.new j ≡ slice_get table.old j }
     ensures still { (j : ℕ) → IsRoused table.old j → IsRoused table.new j }
     ensures calm { calm_all table.new ≡ calm_all table.old }
 {

@@ -2,6 +2,7 @@ use Rattle.std.proofs.Common.{refl, ap, subst, slice_get, ◌∙◌}
 use Rattle.ts_transform.specs.Driving.{works_at, IsDestroyed}
 use Rattle.ts_transform.proofs.Handled.{begun_for}
 use Rattle.ts_transform.proofs.Covering.{on_ok}
+use Rattle.ts_transform.proofs.Called.{called_calmed}
 use Rattle.ts_transform.proofs.Told.{calmed_key}
 use Rattle.ts_transform.proofs.handler.handle_at.Goals as goal
 
@@ -16,3 +17,10 @@ pub returns-clause-closed : goal.returns-clause-closed
 returns-clause-closed g c = λ ended t is.
     let k = calmed_key (works_at c.args.event) c.args.table.now c.args.at t is in
     subst (IsDestroyed c.args.cx.now c.act.new.cx) k.2 (c.act.ensures.closed ended k.0 (ap (λ us. slice_get us c.args.at) c.calm_for.ensures.table ∙ k.1))
+
+pub returns-clause-called : goal.returns-clause-called
+returns-clause-called g c =
+    on_ok c.act.result c.act.ensures.called
+    (λ called did j above pause must.
+    called_calmed (works_at c.args.event) c.args.table.now c.calm_for.new.table c.args.at c.act.new.cx.log.state.pending c.act.new.table j c.calm_for.ensures.table above
+    (called did j above pause must))

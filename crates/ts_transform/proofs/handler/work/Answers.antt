@@ -1,7 +1,8 @@
-use Rattle.std.proofs.Common.{◌≡◌, ◌≤◌, ap, subst, sym, arith, true, false, ◌∙◌}
+use Rattle.std.proofs.Common.{◌≡◌, ◌≤◌, refl, ap, subst, sym, arith, true, false, ◌∙◌}
 use Rattle.ts_transform.specs.Stage.{done_by, IfRests}
 use Rattle.ts_transform.specs.Flow.{AnswersAt, StepsAt}
 use Rattle.ts_transform.proofs.Covering.{moved-some, worked, rested, driven_kept, on_ok, any_ok, IsResting}
+use Rattle.ts_transform.proofs.Called.{called_kept}
 use Rattle.ts_transform.proofs.Told.{moved_goes}
 use Rattle.ts_transform.proofs.handler.work.Goals as goal
 
@@ -52,3 +53,12 @@ pub returns-in_ok-rouse_round-in-Ended-clause-ended :
     goal.returns-in_ok-rouse_round-in-Ended-clause-ended
 returns-in_ok-rouse_round-in-Ended-clause-ended g c =
     on_ok c.tell_before.result c.tell_before.ensures.told (λ told goes ended. told)
+
+pub returns-in_ok-rouse_round-in-Ended-clause-called :
+    goal.returns-in_ok-rouse_round-in-Ended-clause-called
+returns-in_ok-rouse_round-in-Ended-clause-called g c =
+    let before = c.rouse_round-in-Ended.new.cx in
+    let table = c.rouse_round-in-Ended.new.table in
+    any_ok c.tell_before.result (λ did j above pause must.
+    called_kept before c.tell_before.new.cx c.args.table.now c.args.table.now table table j refl refl c.tell_before.ensures.keeps
+    (c.in_ok-rouse_round-in-Ended.ensures.called j above pause must))
