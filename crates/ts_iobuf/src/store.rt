@@ -87,18 +87,18 @@ pub fn put_parts(store: &mut Vec<u8>, filled: usize, parts: &[&[u8]]) -> Result<
     Ok(())
 }
 
-// Cuts off the first `n` bytes.
-fn cut_front(store: &mut Vec<u8>, n: usize)
-    requires { n ≤ vec_len store.old }
-    ensures { store.new.items ≡ drop n store.old.items }
+// Moves the bytes from `start` up to `end` to the front, and leaves what stands behind `end`.
+fn move_to_front(store: &mut Vec<u8>, start: usize, end: usize)
+    requires order { start ≤ end }
+    requires within { end ≤ vec_len store.old }
+    ensures bytes { take (end - start) store.new.items ≡ take (end - start) (drop start store.old.items) }
+    ensures len { vec_len store.new ≡ vec_len store.old }
 {
-    let left = store.len() - n;
-    store.copy_within(n.., 0);
-    store.truncate(left);
+    store.copy_within(start..end, 0);
 }
 
 /// Moves the bytes to the store's front where no room is lent and at least as many as are moved were dropped before them,
-/// so that the moves cost a constant for each byte that is dropped.
+/// so that the moves cost a constant for each byte that is dropped. What stands behind them stays initialized.
 pub fn compact(store: &mut Vec<u8>, start: &mut usize, filled: &mut usize, room: usize)
     requires order { start.old ≤ filled.old }
     requires within { filled.old + room ≤ vec_len store.old }
@@ -113,8 +113,7 @@ pub fn compact(store: &mut Vec<u8>, start: &mut usize, filled: &mut usize, room:
     if room > 0 || dropped == 0 || *filled - dropped > dropped {
         return;
     }
-    store.truncate(*filled);
-    cut_front(store, dropped);
+    move_to_front(store, dropped, *filled);
     *start = 0;
     *filled -= dropped;
 }

@@ -48,7 +48,7 @@ length_named fields = content_length (members_named (codes "content-length") fie
 abbrev pub coding_named : List Field → TransferCoding
 coding_named fields = transfer_coding (values_named (codes "transfer-encoding") fields)
 
--- A transfer coding decides where there is one, and else the length. HTTP/1.0 has no transfer codings (section 6.1). Another
+-- A transfer coding decides where there is one, and else the length. HTTP/1.0 has no transfer codings (RFC 9112, section 6.1). Another
 -- coding than `chunked` alone is faulty: the RFC would read it, and this project does not.
 abbrev pub framing_by : ℕ → TransferCoding → ContentLength → Framing
 framing_by minor C.Absent L.Absent = F.UntilClose

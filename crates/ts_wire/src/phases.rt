@@ -237,6 +237,7 @@ fn judge_trailer(text: &[u8]) -> Judged
             len,
         },
         Ok(Status::Partial) => {
+            // The reader itself refuses a 65th whole line, but its contract does not say so.
             if text.len() < MAX_TRAILER && line_feeds(text) < MAX_TRAILER_LINES {
                 Judged {
                     phase: Phase::Trailer,
@@ -249,6 +250,7 @@ fn judge_trailer(text: &[u8]) -> Judged
                 }
             }
         }
+        // It is bad for one of two reasons: it has more fields than there is room for, or a line that is none.
         Err(error) => match error {
             Error::TooManyHeaders => Judged {
                 phase: Phase::Bad,

@@ -198,7 +198,7 @@ fn framed(alloc: Global, bytes: &[u8], to_head: bool) -> Result<Option<Framing>,
 
 #[test]
 fn frames_responses(rt: HostRuntime) -> Result<(), Fail> {
-    let rows: [(&[u8], bool, Framing); 16] = [
+    let rows: [(&[u8], bool, Framing); 17] = [
         (
             b"HTTP/1.1 200 OK\r\nContent-Length: 3\r\n\r\n",
             true,
@@ -221,6 +221,11 @@ fn frames_responses(rt: HostRuntime) -> Result<(), Fail> {
         ),
         (
             b"HTTP/1.1 200 OK\r\nContent-Length: 3\r\n\r\n",
+            false,
+            Framing::Sized(3),
+        ),
+        (
+            b"HTTP/1.1 200 OK\r\nContent-Length: 3, 3\r\n\r\n",
             false,
             Framing::Sized(3),
         ),
