@@ -1,13 +1,12 @@
 -- A world of a chain stays sound while its client takes bytes.
-use Rattle.std.proofs.Common.{◌≡◌, ℕ, ◌<◌, ◌≤◌, ◌++◌, List, [], Bool, true, Option, length, take, sym, ap, subst, ◌∙◌, append_assoc}
-use Rattle.std.proofs.lemmas.List.{take-take, append-nil}
+use Rattle.std.proofs.Common.{◌≡◌, ℕ, ◌<◌, ◌≤◌, ◌++◌, List, Bool, true, Option, length, take, sym, ap, subst, ◌∙◌, append_assoc}
+use Rattle.std.proofs.lemmas.List.{take-take}
 use Rattle.ts_journal.specs.declared.entry.Pending.{Pending}
 use Rattle.ts_group.specs.declared.action.Named.{Named}
 use Rattle.ts_transform.specs.declared.continuation.StageContinuation.{StageContinuation}
 use Rattle.ts_transform.specs.declared.world.ChainWorld.{ChainWorld}
 use Rattle.ts_transform.specs.Flow.{ChainState}
 use Rattle.ts_transform.specs.Cover.{IsSound, IsAwake}
-use Rattle.ts_proxy.specs.Took.{TookFront}
 use Rattle.ts_proxy.specs.Driven.{Passes, StaysSound}
 
 pub stays_refl : {P : Type 0} (c : ChainState P) (ts : List (Option StageContinuation)) (running : Bool) → StaysSound c c ts ts running running
@@ -54,7 +53,3 @@ passes_taken old mid new a b c w block n p grew is within flow = record {
       let same : take n block ≡ take n w = ap (take n) is ∙ take-take n (length block) w within in
       p.front ∙ ap (λ l. p.took ++ l) (flow ∙ ap (λ l. l ++ c) (sym same)) ∙ sym (append_assoc p.took (take n block) c);
 }
-
--- the whole of a text is a front of it
-pub whole_front : (old new text : List ℕ) → new ≡ old ++ text → TookFront old new text
-whole_front old new text is = record { took = text; left = []; grew = is; front = append-nil text }

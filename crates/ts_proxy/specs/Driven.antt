@@ -9,7 +9,7 @@ use Rattle.ts_group.specs.declared.action.Named.{Named}
 use Rattle.ts_transform.specs.declared.continuation.StageContinuation.{StageContinuation}
 use Rattle.ts_transform.specs.Flow.{left_to_do, ChainState}
 use Rattle.ts_transform.specs.Cover.{IsSound, IsAwake}
-use Rattle.ts_proxy.specs.Journals.{IsFinal}
+use Rattle.ts_proxy.specs.Journals.{IsDriven}
 use Rattle.ts_proxy.specs.Took.{TookFront}
 
 abbrev pub is_failed : Driven → Bool
@@ -55,8 +55,8 @@ pub record IsDue (s : State) (number moment : ℕ) : Type 0 where
   pub there : pending_at number s.pending ≡ Some event
   pub due : event.due ≤ moment
 
--- where all was done a final journal was added, and else none
+-- where all was done the journal of its driver was added, and else none
 abbrev pub AddsJournal : Driven → List Log → List Log → Type 0
-AddsJournal Done old new = (j : Log) × (new ≡ old ++ j ∷ []) × IsFinal j
+AddsJournal Done old new = (j : Log) × (new ≡ old ++ j ∷ []) × IsDriven j
 AddsJournal Failed old new = new ≡ old
 AddsJournal NoMemory old new = new ≡ old

@@ -1,11 +1,12 @@
 // A body through a chain of transforms, driven by events, and what comes out into a sink.
-ghost use Rattle.std.specs.Prelude.{◌≡◌, ◌+◌, ◌<◌, ◌≤◌, List, [], ◌∷◌, ◌++◌, length, Some, true, false, OnOk, OnErr, nat_lt, if◌then◌else◌};
+ghost use Rattle.std.specs.Prelude.{◌≡◌, ◌+◌, ◌<◌, ◌≤◌, List, [], ◌∷◌, ◌++◌, length, Some, true, false, OnOk, nat_lt, if◌then◌else◌};
 ghost use Rattle.ts_link.specs.Counts.{Counted};
 ghost use Rattle.ts_journal.specs.declared.entry.Pending.{Pending};
 ghost use Rattle.ts_group.specs.declared.action.Named.{Named};
 ghost use Rattle.ts_group.specs.Context.{AllPlain};
 ghost use Rattle.ts_transform.specs.Flow.{flow, last_wait};
 ghost use Rattle.ts_transform.specs.Cover.{IsSound, IsAwake};
+ghost use Rattle.ts_proxy.specs.Journals.{IsNext, GoesOnWithin, GoesOnSerially};
 ghost use Rattle.ts_proxy.specs.Driven.{WroteAll, Passes, OnDone, AddsJournal, StaysSound, IsDue, is_failed, is_no_memory, left_of};
 
 use std::alloc::Global;
@@ -70,8 +71,10 @@ fn handle<P: Transform + Drop>(
     requires turn { group.old.cx.log.state.held ≡ true }
     requires sound { IsSound group.old.world.chain group.old.world.table.items group.old.world.running group.old.cx.log.state.pending group.old.cx.roles }
     requires due { IsDue group.old.cx.log.state number moment }
+    requires next { IsNext group.old.cx.log.state number }
     ensures turn { group.new.cx.log.state.held ≡ true }
     ensures turns { group.new.cx.log.state.turns ≡ group.old.cx.log.state.turns }
+    ensures within { GoesOnWithin group.old.cx.log group.new.cx.log }
     ensures flow { flow P.rest group.new.world.chain [] ≡ flow P.rest group.old.world.chain [] }
     ensures sound { OnOk result (IsSound group.new.world.chain group.new.world.table.items group.new.world.running group.new.cx.log.state.pending group.new.cx.roles) }
     ensures awake { OnOk result (group.new.world.running ≡ true → IsAwake group.new.world.chain group.new.world.table.items) }
@@ -98,7 +101,9 @@ fn take_turn<P: Transform + Drop>(
     requires idle { group.old.cx.log.state.held ≡ false }
     requires sound { IsSound group.old.world.chain group.old.world.table.items group.old.world.running group.old.cx.log.state.pending group.old.cx.roles }
     requires due { IsDue group.old.cx.log.state number moment }
+    requires next { IsNext group.old.cx.log.state number }
     ensures idle { group.new.cx.log.state.held ≡ false }
+    ensures serial { GoesOnSerially group.old.cx.log group.new.cx.log }
     ensures flow { flow P.rest group.new.world.chain [] ≡ flow P.rest group.old.world.chain [] }
     ensures sound { OnOk result (IsSound group.new.world.chain group.new.world.table.items group.new.world.running group.new.cx.log.state.pending group.new.cx.roles) }
     ensures awake { OnOk result (group.new.world.running ≡ true → IsAwake group.new.world.chain group.new.world.table.items) }
@@ -120,6 +125,7 @@ fn start<P: Transform + Drop>(group: &mut Group<ChainWorld<P>>) -> Result<(), No
     requires idle { group.old.cx.log.state.held ≡ false }
     requires sound { IsSound group.old.world.chain group.old.world.table.items group.old.world.running group.old.cx.log.state.pending group.old.cx.roles }
     ensures idle { group.new.cx.log.state.held ≡ false }
+    ensures serial { GoesOnSerially group.old.cx.log group.new.cx.log }
     ensures flow { flow P.rest group.new.world.chain [] ≡ flow P.rest group.old.world.chain [] }
     ensures sound { OnOk result (IsSound group.new.world.chain group.new.world.table.items group.new.world.running group.new.cx.log.state.pending group.new.cx.roles) }
     ensures awake { OnOk result (group.new.world.running ≡ true → IsAwake group.new.world.chain group.new.world.table.items) }
@@ -139,6 +145,7 @@ fn start<P: Transform + Drop>(group: &mut Group<ChainWorld<P>>) -> Result<(), No
 
 // Handles events until none is pending, each in a turn of its own and the one that is due first before the others, and
 // writes between the turns. The moment moves on to the next due one where nothing is due.
+#[tactic(auto, using(crate::proofs::Serial::serial_trans))]
 fn run_events<P: Transform + Drop, K: Sink>(group: &mut Group<ChainWorld<P>>, out: &mut K) -> Driven
     requires idle { group.old.cx.log.state.held ≡ false }
     requires sound { IsSound group.old.world.chain group.old.world.table.items group.old.world.running group.old.cx.log.state.pending group.old.cx.roles }
@@ -147,6 +154,7 @@ fn run_events<P: Transform + Drop, K: Sink>(group: &mut Group<ChainWorld<P>>, ou
     ensures faults { Counted (is_failed result) (K.faults out.old) (K.faults out.new) }
     ensures done { OnDone result (flow P.rest group.new.world.chain [] ≡ []) }
     ensures idle { group.new.cx.log.state.held ≡ false }
+    ensures serial { GoesOnSerially group.old.cx.log group.new.cx.log }
     ensures none { OnDone result (group.new.cx.log.state.pending ≡ []) }
 {
     let mut moment = 0;
@@ -169,6 +177,7 @@ fn run_events<P: Transform + Drop, K: Sink>(group: &mut Group<ChainWorld<P>>, ou
 }
 
 // Drives the world of a group that was not started, to its end.
+#[tactic(auto, using(crate::proofs::Serial::serial_trans))]
 fn drive_group<P: Transform + Drop, K: Sink>(
     group: &mut Group<ChainWorld<P>>,
     out: &mut K,
@@ -178,6 +187,7 @@ fn drive_group<P: Transform + Drop, K: Sink>(
     ensures told { K.tells ≡ true → WroteAll result (K.taken out.old) (K.taken out.new) (flow P.rest group.old.world.chain []) }
     ensures faults { Counted (is_failed result) (K.faults out.old) (K.faults out.new) }
     ensures idle { group.new.cx.log.state.held ≡ false }
+    ensures serial { GoesOnSerially group.old.cx.log group.new.cx.log }
     ensures none { OnDone result (group.new.cx.log.state.pending ≡ []) }
 {
     let Ok(()) = start(group) else {
@@ -190,17 +200,8 @@ fn drive_group<P: Transform + Drop, K: Sink>(
     }
 }
 
-// Adds a journal.
-fn keep(journals: &mut Vec<Journal>, journal: Journal) -> Result<(), NoMemory>
-    ensures ok { OnOk result (journals.new.items ≡ journals.old.items ++ journal ∷ []) }
-    ensures err { OnErr result (journals.new.items ≡ journals.old.items) }
-{
-    journals.push(journal)?;
-    Ok(())
-}
-
 /// Sends the body of a chain's world through the chain, and writes all that comes out. Where all was done, the journal of
-/// its events is added to the journals.
+/// its events is added to the journals; the place for it is taken before anything is written.
 pub fn drive<P: Transform + Drop, K: Sink>(
     alloc: Global,
     world: ChainWorld<P>,
@@ -212,6 +213,9 @@ pub fn drive<P: Transform + Drop, K: Sink>(
     ensures faults { Counted (is_failed result) (K.faults out.old) (K.faults out.new) }
     ensures journals { AddsJournal result journals.old.items journals.new.items }
 {
+    let Ok(()) = journals.reserve(1) else {
+        return Driven::NoMemory;
+    };
     let Ok(mut group) = Group::make(alloc, world, 0) else {
         return Driven::NoMemory;
     };
@@ -220,9 +224,6 @@ pub fn drive<P: Transform + Drop, K: Sink>(
         return driven;
     };
     let (_, journal) = group.into_parts();
-    let _ = journal.entries();
-    let Ok(()) = keep(journals, journal) else {
-        return Driven::NoMemory;
-    };
+    journals.push_reserved(journal);
     Driven::Done
 }
