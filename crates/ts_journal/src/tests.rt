@@ -49,42 +49,38 @@ fn a_turn_is_recorded(rt: HostRuntime) -> Result<(), Fail> {
     Ok(())
 }
 
-// A group that has its own continuation handles one event of it, cancels another, drops a third and destroys it.
+// A group that has its own continuation handles one event of it and destroys it.
 #[test]
 fn a_key_goes(rt: HostRuntime) -> Result<(), Fail> {
     let mut journal = Journal::with_key(rt.alloc(), 6, KEY)?;
-    journal.reserve(8)?;
+    journal.reserve(7)?;
     journal.push(Entry::Took { turn: 7, seat: 2 });
-    for number in 1..4 {
-        journal.push(Entry::Set {
-            number,
-            key: KEY,
-            event: Event::Hook,
-            due: 5,
-            series: number,
-            period: 0,
-        });
-    }
+    journal.push(Entry::Set {
+        number: 1,
+        key: KEY,
+        event: Event::Hook,
+        due: 5,
+        series: 1,
+        period: 0,
+    });
     journal.push(Entry::Handled {
         number: 1,
         moment: 5,
     });
-    journal.push(Entry::Cancelled { number: 2 });
-    journal.push(Entry::Dropped { number: 3 });
     journal.push(Entry::Destroyed { key: KEY });
     assert_eq!(rt;
         journal.counts(),
         Counts {
-            set: 3,
+            set: 1,
             handled: 1,
-            cancelled: 1,
-            dropped: 1,
+            cancelled: 0,
+            dropped: 0,
             pending: 0
         }
     );
     assert!(rt; journal.live().is_empty());
     assert!(rt; journal.is_held());
     assert_eq!(rt; journal.turns(), 7);
-    assert_eq!(rt; journal.next(), 4);
+    assert_eq!(rt; journal.next(), 2);
     Ok(())
 }

@@ -5,7 +5,7 @@ use Rattle.ts_journal.specs.declared.entry.Event.TheVariants.{WriteReady}
 use Rattle.ts_journal.specs.declared.entry.Pending.{Pending}
 use Rattle.ts_group.specs.Context.{Context}
 use Rattle.ts_transform.specs.declared.continuation.StageContinuation.{StageContinuation}
-use Rattle.ts_transform.specs.Driving.{HasKind, IsRousedIf, IsRoused, IsTold, IsCalledUnless, Keeps, calmed, calmed_for, changed}
+use Rattle.ts_transform.specs.Driving.{HasKind, IsRousedIf, IsRoused, IsTold, IsCalledUnless, Keeps, unroused, unroused_for, changed}
 
 -- whether a stage is roused its place in the table tells
 roused_same : (ts us : List (Option StageContinuation)) (j : ℕ) → slice_get us j ≡ slice_get ts j → IsRoused us j → IsRoused ts j
@@ -22,9 +22,9 @@ slot_changed f (t ∷ ts) zero (suc j) other = refl
 slot_changed f (t ∷ ts) (suc at) zero other = refl
 slot_changed f (t ∷ ts) (suc at) (suc j) other = slot_changed f ts at j (λ e. other (ap suc e))
 
-slot_calmed : (b : Bool) (ts : List (Option StageContinuation)) (at j : ℕ) → j ≢ at → slice_get (calmed_for b ts at) j ≡ slice_get ts j
-slot_calmed false ts at j other = refl
-slot_calmed true ts at j other = slot_changed calmed ts at j other
+slot_unroused : (b : Bool) (ts : List (Option StageContinuation)) (at j : ℕ) → j ≢ at → slice_get (unroused_for b ts at) j ≡ slice_get ts j
+slot_unroused false ts at j other = refl
+slot_unroused true ts at j other = slot_changed unroused ts at j other
 
 -- what is pending of a kind stays so
 pub told_kept : (a b : Context) (event : Event) (ts us : List (Option StageContinuation)) (j : ℕ) → Keeps a b → slice_get us j ≡ slice_get ts j
@@ -41,8 +41,8 @@ called_kept a b before ts us vs j first last keeps (inl roused) = inl (roused_sa
 called_kept a b before ts us vs j first last keeps (inr told) = inr (told_kept a b WriteReady us vs j keeps last told)
 
 -- when the event of another stage was handled
-pub called_calmed : (b : Bool) (before ts : List (Option StageContinuation)) (at : ℕ) (pending : List Pending) (us : List (Option StageContinuation)) (j : ℕ) → ts ≡ calmed_for b before at → j + 1 ≡ at
+pub called_unroused : (b : Bool) (before ts : List (Option StageContinuation)) (at : ℕ) (pending : List Pending) (us : List (Option StageContinuation)) (j : ℕ) → ts ≡ unroused_for b before at → j + 1 ≡ at
     → IsCalledUnless ts pending us j → IsCalledUnless before pending us j
-called_calmed b before ts at pending us j is above (inl roused) =
-    inl (roused_same before ts j (ap (λ vs. slice_get vs j) is ∙ slot_calmed b before at j (λ e. omega (arith, e, above))) roused)
-called_calmed b before ts at pending us j is above (inr told) = inr told
+called_unroused b before ts at pending us j is above (inl roused) =
+    inl (roused_same before ts j (ap (λ vs. slice_get vs j) is ∙ slot_unroused b before at j (λ e. omega (arith, e, above))) roused)
+called_unroused b before ts at pending us j is above (inr told) = inr told

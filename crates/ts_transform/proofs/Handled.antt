@@ -8,7 +8,7 @@ use Rattle.ts_group.specs.Context.{Context, role_at}
 use Rattle.ts_group.specs.Calls.{IsCalled}
 use Rattle.ts_transform.specs.declared.continuation.StageContinuation.{StageContinuation}
 use Rattle.ts_transform.specs.Flow.{ChainState}
-use Rattle.ts_transform.specs.Driving.{works_at, HasEvent, IsOfStage, IsOfStageIf, AreOfStages, IsRoused, IsHandled, calmed, calmed_for, changed}
+use Rattle.ts_transform.specs.Driving.{works_at, HasEvent, IsOfStage, IsOfStageIf, AreOfStages, IsRoused, IsHandled, unroused, unroused_for, changed}
 use Rattle.ts_transform.specs.Cover.{IsDriven, IsDrivenBut, IsDrivenFor}
 
 -- what a handler is called with
@@ -73,18 +73,18 @@ stay_before before now roles role other event [] h above s = tt
 stay_before before now roles role other event (t ∷ ts) h above (here, others) =
     (stays_if before now roles role other event t h (λ e. omega (arith, e, above)) here, stay_before before now roles (role + 1) other event ts h (omega (arith, above)) others)
 
-calm_if : (before now : List Pending) (roles : List Named) (role : ℕ) (t : Option StageContinuation) → IsOfStageIf before roles role t → IsOfStageIf now roles role (calmed t)
-calm_if before now roles role None s = tt
-calm_if before now roles role (Some t) s = record { named = s.named; event = λ roused. absurd (let wrong : false ≡ true = roused in cc) }
+unroused_if : (before now : List Pending) (roles : List Named) (role : ℕ) (t : Option StageContinuation) → IsOfStageIf before roles role t → IsOfStageIf now roles role (unroused t)
+unroused_if before now roles role None s = tt
+unroused_if before now roles role (Some t) s = record { named = s.named; event = λ roused. absurd (let wrong : false ≡ true = roused in cc) }
 
--- the stage of the role is calm
-calm_at : (before now : List Pending) (roles : List Named) (role at other : ℕ) (event : Event) (ts : List (Option StageContinuation))
-    → IsHandled before now roles other event → other ≡ role + at → AreOfStages before roles role ts → AreOfStages now roles role (changed calmed ts at)
-calm_at before now roles role at other event [] h is s = tt
-calm_at before now roles role zero other event (t ∷ ts) h is (here, others) =
-    (calm_if before now roles role t here, stay_behind before now roles (role + 1) other event ts h (omega (arith, is)) others)
-calm_at before now roles role (suc at) other event (t ∷ ts) h is (here, others) =
-    (stays_if before now roles role other event t h (λ e. omega (arith, e, is)) here, calm_at before now roles (role + 1) at other event ts h (omega (arith, is)) others)
+-- the stage of the role is same
+unrouse_at : (before now : List Pending) (roles : List Named) (role at other : ℕ) (event : Event) (ts : List (Option StageContinuation))
+    → IsHandled before now roles other event → other ≡ role + at → AreOfStages before roles role ts → AreOfStages now roles role (changed unroused ts at)
+unrouse_at before now roles role at other event [] h is s = tt
+unrouse_at before now roles role zero other event (t ∷ ts) h is (here, others) =
+    (unroused_if before now roles role t here, stay_behind before now roles (role + 1) other event ts h (omega (arith, is)) others)
+unrouse_at before now roles role (suc at) other event (t ∷ ts) h is (here, others) =
+    (stays_if before now roles role other event t h (λ e. omega (arith, e, is)) here, unrouse_at before now roles (role + 1) at other event ts h (omega (arith, is)) others)
 
 quiet_if : (before now : List Pending) (roles : List Named) (role other : ℕ) (event : Event) (t : Option StageContinuation)
     → IsHandled before now roles other event → works_at event ≡ false → IsOfStageIf before roles role t → IsOfStageIf now roles role t
@@ -112,11 +112,11 @@ roused-changed f (t ∷ ts) (suc at) (suc j) differ h = roused-changed f ts at j
 
 -- What holds when the handler of a stage begins, once its flag was cleared if it works at the event.
 begun_works : {P : Type 0} (c : ChainState P) (ts : List (Option StageContinuation)) (before now : List Pending) (roles : List Named) (at role : ℕ) (event : Event)
-    → IsHandled before now roles role event → role ≡ at + 1 → IsDriven c ts before roles → IsDrivenBut at c (changed calmed ts at) now roles
+    → IsHandled before now roles role event → role ≡ at + 1 → IsDriven c ts before roles → IsDrivenBut at c (changed unroused ts at) now roles
 begun_works c ts before now roles at role event h is s = record {
-  len = length-changed calmed ts at ∙ s.len;
-  of_stages = calm_at before now roles 1 at role event ts h (omega (arith, is)) s.of_stages;
-  cover = λ j differ must. roused-changed calmed ts at j differ (s.cover j must);
+  len = length-changed unroused ts at ∙ s.len;
+  of_stages = unrouse_at before now roles 1 at role event ts h (omega (arith, is)) s.of_stages;
+  cover = λ j differ must. roused-changed unroused ts at j differ (s.cover j must);
 }
 
 begun_quiet : {P : Type 0} (c : ChainState P) (ts : List (Option StageContinuation)) (before now : List Pending) (roles : List Named) (role : ℕ) (event : Event)
@@ -124,7 +124,7 @@ begun_quiet : {P : Type 0} (c : ChainState P) (ts : List (Option StageContinuati
 begun_quiet c ts before now roles role event h rests s = record { len = s.len; of_stages = quiet_all before now roles 1 role event ts h rests s.of_stages; cover = s.cover }
 
 pub begun_for : {P : Type 0} (c : ChainState P) (ts : List (Option StageContinuation)) (before now : List Pending) (roles : List Named) (at role : ℕ) (event : Event) (b : Bool)
-    → IsHandled before now roles role event → role ≡ at + 1 → works_at event ≡ b → IsDriven c ts before roles → IsDrivenFor b at c (calmed_for b ts at) now roles
+    → IsHandled before now roles role event → role ≡ at + 1 → works_at event ≡ b → IsDriven c ts before roles → IsDrivenFor b at c (unroused_for b ts at) now roles
 begun_for c ts before now roles at role event true h is works s = begun_works c ts before now roles at role event h is s
 begun_for c ts before now roles at role event false h is rests s = begun_quiet c ts before now roles role event h rests s
 

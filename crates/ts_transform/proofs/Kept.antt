@@ -1,15 +1,13 @@
 -- What the calls of a handler leave of the events and the roles of stages.
-use Rattle.std.proofs.Common.{◌≡◌, ◌≢◌, ℕ, ◌+◌, ◌≤◌, List, [], ◌∷◌, Bool, true, false, Option, Some, None, Result, Ok, Err, OnOk, IfOk, eqb, ◌⊎◌, inl, inr, arith, refl, sym, ap, subst, ◌∙◌, if◌then◌else◌}
-use Rattle.std.proofs.lemmas.Bool.Decides.{eqb_tells}
+use Rattle.std.proofs.Common.{◌≡◌, ℕ, ◌+◌, ◌≤◌, List, [], ◌∷◌, Bool, true, false, Option, Some, None, Result, Ok, Err, OnOk, IfOk, arith, refl, ap, subst, ◌∙◌, if◌then◌else◌}
 use Rattle.ts_journal.specs.declared.entry.ContKey.{ContKey}
 use Rattle.ts_journal.specs.declared.entry.Event.{Event}
 use Rattle.ts_journal.specs.declared.entry.Event.TheVariants.{Immediate, Timeout}
-use Rattle.ts_journal.specs.State.{pending_at}
 use Rattle.ts_group.specs.declared.action.Action.{Action}
 use Rattle.ts_group.specs.declared.action.SetFault.{SetFault}
 use Rattle.ts_group.specs.Context.{Context, role_at, moment_after}
 use Rattle.ts_group.specs.Changes.{Sets}
-use Rattle.ts_transform.specs.Driving.{works_at, HasEvent, HasKind, HasEventIf, IsOfStage, IsOfStageIf, AreOfStages, Keeps, SetsAfter, SetsFew}
+use Rattle.ts_transform.specs.Driving.{works_at, HasEvent, HasKind, HasEventIf, IsOfStage, IsOfStageIf, AreOfStages, Keeps, SetsFew}
 use Rattle.ts_transform.specs.declared.continuation.StageContinuation.{StageContinuation}
 
 pub keeps_refl : (a : Context) → a.log.state.held ≡ true → Keeps a a
@@ -84,22 +82,7 @@ pub marked_front : (r : Result (Option ContKey) SetFault) (t t' : Option StageCo
 marked_front (Ok key) t t' ts all is here = λ a b keeps has role s. roused_front a b keeps role t t' ts all is (here a b keeps has role) s
 marked_front (Err e) t t' ts all is here = tt
 
--- an event that was set is due after the pause
-pub after_refl : (a : Context) (pause : ℕ) → SetsAfter pause a a
-after_refl a pause n p none some = absurd (let wrong : None ≡ Some p = sym none ∙ some in cc)
-
-pub set_after : (a b : Context) (r : Result Action SetFault) (key : ContKey) (event : Event) (due pause : ℕ) → Sets a b r key event due 0
-    → (moment_after a.moment pause ≤ due) × (due ≤ a.moment + pause) → SetsAfter pause a b
-set_after a b (Err e) key event due pause h soon n p none some = absurd (let wrong : None ≡ Some p = sym none ∙ ap (λ s. pending_at n s.pending) (sym h.err.log.state) ∙ some in cc)
-set_after a b (Ok x) key event due pause h soon n p none some = by_number (eqb_tells n x.series)
-  where
-    by_number : ((eqb n x.series ≡ true) × (n ≡ x.series)) ⊎ ((eqb n x.series ≡ false) × (n ≢ x.series)) → (moment_after a.moment pause ≤ p.due) × (p.due ≤ a.moment + pause)
-    by_number (inl (t, is)) =
-        let both : Some p ≡ Some (record { number = x.series; key = key; event = event; due = due; series = x.series; period = 0 }) = sym some ∙ ap (λ k. pending_at k b.log.state.pending) is ∙ h.there in
-        let same : p.due ≡ due = cc in
-        subst (λ d. (moment_after a.moment pause ≤ d) × (d ≤ a.moment + pause)) (sym same) soon
-    by_number (inr (t, other)) = absurd (let wrong : None ≡ Some p = sym none ∙ sym (h.others n other) ∙ some in cc)
-
+-- a call is due at once, and another event after its time
 pub soon_now : (moment : ℕ) → (moment_after moment 0 ≤ moment) × (moment ≤ moment + 0)
 soon_now moment = (omega arith, omega arith)
 

@@ -8,5 +8,7 @@ pub mod Moving
 pub mod Starting
 pub mod Taking
 pub mod Told
-pub mod Harmed
+pub mod PassedErrors
 pub mod Called
+pub mod Setting
+pub mod MaySet

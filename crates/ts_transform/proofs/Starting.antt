@@ -27,15 +27,15 @@ made_if a b events keys role (Some t) h = record {
 pub made_all : (a b : Context) → SameEvents a.log.state b.log.state → KeepsKeys a.log.state b.log.state a.roles b.roles → (role : ℕ) (ts : List (Option StageContinuation)) (t : StageContinuation)
     → role_at t.key.index b.roles ≡ Some (role + length ts) → t.roused ≡ false
     → AreOfStages a.log.state.pending a.roles role ts → AreOfStages b.log.state.pending b.roles role (ts ++ Some t ∷ [])
-made_all a b events keys role [] t named calm h = (
+made_all a b events keys role [] t named same h = (
   record {
     named = named ∙ ap Some (omega arith);
-    event = λ roused. absurd (let wrong : true ≡ false = sym roused ∙ calm in cc);
+    event = λ roused. absurd (let wrong : true ≡ false = sym roused ∙ same in cc);
   },
   tt,
 )
-made_all a b events keys role (u ∷ ts) t named calm (here, others) =
-    (made_if a b events keys role u here, made_all a b events keys (role + 1) ts t (named ∙ ap Some (omega arith)) calm others)
+made_all a b events keys role (u ∷ ts) t named same (here, others) =
+    (made_if a b events keys role u here, made_all a b events keys (role + 1) ts t (named ∙ ap Some (omega arith)) same others)
 
 -- a stage that must work has work
 must-work : {P : Type 0} (up : Bool) (from : List ℕ) (ss : List (Stage P)) (at : ℕ) → MustPump up from ss at → HasWork up from ss at

@@ -1,12 +1,12 @@
 -- A stage that moved a piece has ended exactly where it had before.
-use Rattle.std.proofs.Common.{inl, inr, ◌∙◌, ◌≡◌, ℕ, zero, suc, List, [], ◌∷◌, Bool, true, false, Option, Some, None, slice_get, length, refl, sym, ap, subst}
+use Rattle.std.proofs.Common.{◌⊎◌, inl, inr, ◌∙◌, ◌≡◌, ℕ, zero, suc, List, [], ◌∷◌, Bool, true, false, Option, Some, None, slice_get, length, refl, sym, ap, subst}
 use Rattle.std.proofs.lemmas.List.{length-map}
 use Rattle.ts_transform.specs.declared.continuation.StageContinuation.{StageContinuation}
-use Rattle.ts_transform.specs.Driving.{calmed, calmed_for, changed, calm_all}
+use Rattle.ts_transform.specs.Driving.{unroused, unroused_for, changed, all_unroused}
 use Rattle.ts_transform.specs.declared.pump.Stage.{Stage}
 use Rattle.ts_transform.specs.declared.pump.Pumped.{Pumped}
 use Rattle.ts_transform.specs.declared.pump.Pumped.TheVariants.{Moved}
-use Rattle.ts_transform.specs.Flow.{ChainState, AnswersAt, StepsAt, PumpsOnce, ended_at}
+use Rattle.ts_transform.specs.Flow.{ChainState, AnswersAt, StepsAt, PumpsAt, PumpsOnce, ended_at}
 
 pub moved_goes : {P : Type 0} (rest : P → List ℕ → List ℕ) (from : List ℕ) (ss : List (Stage P)) (at n : ℕ) (from' : List ℕ) (ss' : List (Stage P))
     → StepsAt rest from ss at (Moved n) from' ss' → ended_at ss' at ≡ ended_at ss at
@@ -16,35 +16,39 @@ moved_goes rest from (s ∷ ss) zero n from' (s' ∷ ss') h = h.0.1
 moved_goes rest from (s ∷ ss) (suc at) n from' (s' ∷ ss') h = moved_goes rest s.after ss at n s'.after ss' h.2
 
 -- a stage whose event was handled has the continuation that it had
-pub calmed_key : (b : Bool) (ts : List (Option StageContinuation)) (at : ℕ) (t : StageContinuation) → slice_get ts at ≡ Some (Some t)
-    → (u : StageContinuation) × (slice_get (calmed_for b ts at) at ≡ Some (Some u)) × (u.key ≡ t.key)
-calmed_key false ts at t is = (t, is, refl)
-calmed_key true [] at t is = absurd (let wrong : ◌≡◌ {A = Option (Option StageContinuation)} None (Some (Some t)) = is in cc)
-calmed_key true (x ∷ ts) zero t is =
+pub unroused_key : (b : Bool) (ts : List (Option StageContinuation)) (at : ℕ) (t : StageContinuation) → slice_get ts at ≡ Some (Some t)
+    → (u : StageContinuation) × (slice_get (unroused_for b ts at) at ≡ Some (Some u)) × (u.key ≡ t.key)
+unroused_key false ts at t is = (t, is, refl)
+unroused_key true [] at t is = absurd (let wrong : ◌≡◌ {A = Option (Option StageContinuation)} None (Some (Some t)) = is in cc)
+unroused_key true (x ∷ ts) zero t is =
     let same : x ≡ Some t = cc in
-    subst (λ y. (u : StageContinuation) × (◌≡◌ {A = Option (Option StageContinuation)} (Some (calmed y)) (Some (Some u))) × (u.key ≡ t.key)) (sym same) (record t { roused = false }, refl, refl)
-calmed_key true (x ∷ ts) (suc at) t is = calmed_key true ts at t is
+    subst (λ y. (u : StageContinuation) × (◌≡◌ {A = Option (Option StageContinuation)} (Some (unroused y)) (Some (Some u))) × (u.key ≡ t.key)) (sym same) (record t { roused = false }, refl, refl)
+unroused_key true (x ∷ ts) (suc at) t is = unroused_key true ts at t is
 
-pub pumped_once : {P : Type 0} (rest : P → List ℕ → List ℕ) (c d : ChainState P) (at : ℕ) (r : Pumped) → AnswersAt c.given c.first c.stages at r → StepsAt rest c.first c.stages at r d.first d.stages
-    → d.given ≡ c.given → PumpsOnce rest c d
-pumped_once rest c d at r answers steps given = inr (record { at = at; pumped = r; answers = answers; steps = steps; given = given })
+pub pumped_at : {P : Type 0} (rest : P → List ℕ → List ℕ) (c d : ChainState P) (at : ℕ) (r : Pumped) → AnswersAt c.given c.first c.stages at r → StepsAt rest c.first c.stages at r d.first d.stages
+    → d.given ≡ c.given → (d ≡ c) ⊎ PumpsAt rest at c d
+pumped_at rest c d at r answers steps given = inr (record { pumped = r; answers = answers; steps = steps; given = given })
+
+pub pumped_once : {P : Type 0} (rest : P → List ℕ → List ℕ) (c d : ChainState P) (at : ℕ) → (d ≡ c) ⊎ PumpsAt rest at c d → PumpsOnce rest c d
+pumped_once rest c d at (inl same) = inl same
+pumped_once rest c d at (inr pumps) = inr (at, pumps)
 
 pub pumped_none : {P : Type 0} (rest : P → List ℕ → List ℕ) (c : ChainState P) → PumpsOnce rest c c
 pumped_none rest c = inl refl
 
-calmed_twice : (t : Option StageContinuation) → calmed (calmed t) ≡ calmed t
-calmed_twice None = refl
-calmed_twice (Some t) = refl
+unroused_twice : (t : Option StageContinuation) → unroused (unroused t) ≡ unroused t
+unroused_twice None = refl
+unroused_twice (Some t) = refl
 
-calm_changed : (ts : List (Option StageContinuation)) (at : ℕ) → calm_all (changed calmed ts at) ≡ calm_all ts
-calm_changed [] at = refl
-calm_changed (t ∷ ts) zero = ap (λ u. u ∷ calm_all ts) (calmed_twice t)
-calm_changed (t ∷ ts) (suc at) = ap (λ us. calmed t ∷ us) (calm_changed ts at)
+same_changed : (ts : List (Option StageContinuation)) (at : ℕ) → all_unroused (changed unroused ts at) ≡ all_unroused ts
+same_changed [] at = refl
+same_changed (t ∷ ts) zero = ap (λ u. u ∷ all_unroused ts) (unroused_twice t)
+same_changed (t ∷ ts) (suc at) = ap (λ us. unroused t ∷ us) (same_changed ts at)
 
 -- there are as many
-pub calm_length : (ts us : List (Option StageContinuation)) → calm_all us ≡ calm_all ts → length us ≡ length ts
-calm_length ts us same = sym (length-map us calmed) ∙ ap length same ∙ length-map ts calmed
+pub same_length : (ts us : List (Option StageContinuation)) → all_unroused us ≡ all_unroused ts → length us ≡ length ts
+same_length ts us same = sym (length-map us unroused) ∙ ap length same ∙ length-map ts unroused
 
 -- a continuation whose event was handled changes in nothing but that it is not roused
-pub calm_calmed : (ts us : List (Option StageContinuation)) (at : ℕ) → us ≡ changed calmed ts at → calm_all us ≡ calm_all ts
-calm_calmed ts us at is = ap calm_all is ∙ calm_changed ts at
+pub same_unroused : (ts us : List (Option StageContinuation)) (at : ℕ) → us ≡ changed unroused ts at → all_unroused us ≡ all_unroused ts
+same_unroused ts us at is = ap all_unroused is ∙ same_changed ts at

@@ -1,10 +1,12 @@
 -- Each stage that must work is roused, so none of them is forgotten.
-use Rattle.std.specs.Prelude.{◌≡◌, ◌≢◌, ℕ, ◌≤◌, ◌+◌, List, length, Bool, true, false, Option}
+use Rattle.std.specs.Prelude.{◌≡◌, ◌≢◌, ℕ, ◌≤◌, ◌+◌, ◌⊎◌, List, length, Bool, true, false, Option}
+use Rattle.ts_journal.specs.declared.entry.Event.{Event}
+use Rattle.ts_journal.specs.declared.entry.Event.TheVariants.{Error, WriteComplete}
 use Rattle.ts_journal.specs.declared.entry.Pending.{Pending}
 use Rattle.ts_group.specs.declared.action.Named.{Named}
 use Rattle.ts_group.specs.Context.{AllPlain}
-use Rattle.ts_transform.specs.Flow.{ChainState, HasWork, MustPump, ended_at, last_wait}
-use Rattle.ts_transform.specs.Driving.{AreOfStages, IsRoused}
+use Rattle.ts_transform.specs.Flow.{ChainState, HasWork, MustPump, ended_at, last_wait, pause_at}
+use Rattle.ts_transform.specs.Driving.{AreOfStages, IsRoused, IsRousingOf, IsTelling}
 use Rattle.ts_transform.specs.declared.continuation.StageContinuation.{StageContinuation}
 use Rattle.ts_transform.specs.declared.world.ChainWorld.{ChainWorld}
 use Rattle.ts_group.specs.declared.group.Group.{Group}
@@ -22,6 +24,20 @@ pub record IsRoundRoused {P : Type 0} (c : ChainState P) (ts : List (Option Stag
   pub after : MustPump c.given c.first c.stages (at + 1) → IsRoused ts (at + 1)
   pub before : (j : ℕ) → j + 1 ≡ at → MustPump c.given c.first c.stages j → IsRoused ts j
   pub self : MustPump c.given c.first c.stages at → IsRoused ts at
+
+-- An event that rouses a stage: one at which it works, after its pause. The stage must work.
+pub record IsRousing {P : Type 0} (wait : P → ℕ) (c : ChainState P) (moment : ℕ) (roles : List Named) (p : Pending) : Type 0 where
+  pub at : ℕ
+  pub must : MustPump c.given c.first c.stages at
+  pub of_stage : IsRousingOf (at + 1) (pause_at wait c.stages at) moment roles p
+
+-- An event that the stage at a place may set when it handled one: it rouses a stage that must work; it tells the stage
+-- before that it has ended; or it passes an error on to that.
+abbrev pub MaySet : {P : Type 0} → (P → ℕ) → ChainState P → ChainState P → ℕ → Event → ℕ → List Named → Pending → Type 0
+MaySet wait old new at event moment roles p =
+    IsRousing wait new moment roles p
+    ⊎ (IsTelling WriteComplete at roles p × (ended_at old.stages at ≡ false) × (ended_at new.stages at ≡ true))
+    ⊎ (IsTelling Error at roles p × (event ≡ Error))
 
 -- the continuations of a chain's stages have the roles from 1 on, each that is roused has an event, and each stage that
 -- must work is roused

@@ -44,6 +44,16 @@ pub record IsOfStage (pending : List Pending) (roles : List Named) (role : ℕ) 
   pub named : role_at t.key.index roles ≡ Some role
   pub event : t.roused ≡ true → HasEvent pending t.key
 
+-- a continuation has its role, if there is one
+abbrev pub IsNamedIf : List Named → ℕ → Option StageContinuation → Type 0
+IsNamedIf roles role None = Unit {0}
+IsNamedIf roles role (Some t) = role_at t.key.index roles ≡ Some role
+
+-- continuations have the roles from this one on
+abbrev pub AreNamed : List Named → ℕ → List (Option StageContinuation) → Type 0
+AreNamed roles role [] = Unit {0}
+AreNamed roles role (t ∷ ts) = IsNamedIf roles role t × AreNamed roles (role + 1) ts
+
 abbrev pub IsOfStageIf : List Pending → List Named → ℕ → Option StageContinuation → Type 0
 IsOfStageIf pending roles role None = Unit {0}
 IsOfStageIf pending roles role (Some t) = IsOfStage pending roles role t
@@ -81,13 +91,13 @@ abbrev pub IsClosed : Context → Context → List (Option StageContinuation) �
 IsClosed old new ts at = (t : StageContinuation) → slice_get ts at ≡ Some (Some t) → IsDestroyed old new t.key
 
 -- a continuation whose event was handled, one that passed an error on, and one that was destroyed
-abbrev pub calmed : Option StageContinuation → Option StageContinuation
-calmed None = None
-calmed (Some t) = Some (record t { roused = false })
+abbrev pub unroused : Option StageContinuation → Option StageContinuation
+unroused None = None
+unroused (Some t) = Some (record t { roused = false })
 
-abbrev pub harmed : Option StageContinuation → Option StageContinuation
-harmed None = None
-harmed (Some t) = Some (record t { passed_error = true })
+abbrev pub error_passed : Option StageContinuation → Option StageContinuation
+error_passed None = None
+error_passed (Some t) = Some (record t { passed_error = true })
 
 abbrev pub gone : Option StageContinuation → Option StageContinuation
 gone t = None
@@ -99,23 +109,23 @@ changed f (t ∷ ts) zero = f t ∷ ts
 changed f (t ∷ ts) (suc at) = t ∷ changed f ts at
 
 -- the continuations, but for which of them are roused
-abbrev pub calm_all : List (Option StageContinuation) → List (Option StageContinuation)
-calm_all ts = map calmed ts
+abbrev pub all_unroused : List (Option StageContinuation) → List (Option StageContinuation)
+all_unroused ts = map unroused ts
 
 -- whether there is a continuation that has passed no error on
-abbrev pub is_unharmed : Option StageContinuation → Bool
-is_unharmed None = false
-is_unharmed (Some t) = not t.passed_error
+abbrev pub may_pass_error : Option StageContinuation → Bool
+may_pass_error None = false
+may_pass_error (Some t) = not t.passed_error
 
-abbrev pub is_unharmed_at : List (Option StageContinuation) → ℕ → Bool
-is_unharmed_at [] at = false
-is_unharmed_at (t ∷ ts) zero = is_unharmed t
-is_unharmed_at (t ∷ ts) (suc at) = is_unharmed_at ts at
+abbrev pub may_pass_error_at : List (Option StageContinuation) → ℕ → Bool
+may_pass_error_at [] at = false
+may_pass_error_at (t ∷ ts) zero = may_pass_error t
+may_pass_error_at (t ∷ ts) (suc at) = may_pass_error_at ts at
 
 -- how many continuations have passed no error on
-abbrev pub unharmed_of : List (Option StageContinuation) → ℕ
-unharmed_of [] = 0
-unharmed_of (t ∷ ts) = (if is_unharmed t then 1 else 0) + unharmed_of ts
+abbrev pub errors_to_pass : List (Option StageContinuation) → ℕ
+errors_to_pass [] = 0
+errors_to_pass (t ∷ ts) = (if may_pass_error t then 1 else 0) + errors_to_pass ts
 
 -- the continuation of the last stage
 abbrev pub last_of : List (Option StageContinuation) → Option StageContinuation
@@ -124,9 +134,9 @@ last_of (t ∷ []) = t
 last_of (t ∷ u ∷ ts) = last_of (u ∷ ts)
 
 -- the continuations when an event of one was handled, by whether its stage works at it
-abbrev pub calmed_for : Bool → List (Option StageContinuation) → ℕ → List (Option StageContinuation)
-calmed_for true ts at = changed calmed ts at
-calmed_for false ts at = ts
+abbrev pub unroused_for : Bool → List (Option StageContinuation) → ℕ → List (Option StageContinuation)
+unroused_for true ts at = changed unroused ts at
+unroused_for false ts at = ts
 
 -- what was pending is so, under the same roles, and no event that was added is periodic
 pub record Keeps (old new : Context) : Type 0 where
@@ -135,10 +145,30 @@ pub record Keeps (old new : Context) : Type 0 where
   pub plain : AllPlain old.log.state.pending → AllPlain new.log.state.pending
   pub turn : new.log.state.held ≡ true
 
--- each event that was set is due after the pause, and no later
-abbrev pub SetsAfter : ℕ → Context → Context → Type 0
-SetsAfter pause old new = (n : ℕ) (p : Pending) → pending_at n old.log.state.pending ≡ None → pending_at n new.log.state.pending ≡ Some p
-    → (moment_after old.moment pause ≤ p.due) × (p.due ≤ old.moment + pause)
+-- only such events were set
+abbrev pub SetsOnly : (Pending → Type 0) → Context → Context → Type 0
+SetsOnly Such old new = (n : ℕ) (p : Pending) → pending_at n old.log.state.pending ≡ None → pending_at n new.log.state.pending ≡ Some p → Such p
+
+-- the event is due after the pause, and no later
+abbrev pub IsDueAfter : ℕ → ℕ → Pending → Type 0
+IsDueAfter pause moment p = (moment_after moment pause ≤ p.due) × (p.due ≤ moment + pause)
+
+-- it is one of the key at which a stage works, after the pause
+pub record IsWorkOf (key : ContKey) (pause moment : ℕ) (p : Pending) : Type 0 where
+  pub of_key : p.key ≡ key
+  pub works : works_at p.event ≡ true
+  pub due : IsDueAfter pause moment p
+
+-- the same of the continuation of a role
+pub record IsRousingOf (role pause moment : ℕ) (roles : List Named) (p : Pending) : Type 0 where
+  pub role_is : role_at p.key.index roles ≡ Some role
+  pub works : works_at p.event ≡ true
+  pub due : IsDueAfter pause moment p
+
+-- the continuation of a role is told of an event
+pub record IsTelling (event : Event) (role : ℕ) (roles : List Named) (p : Pending) : Type 0 where
+  pub event_is : p.event ≡ event
+  pub role_is : role_at p.key.index roles ≡ Some role
 
 -- at most so many events were set
 pub record SetsFew (most : ℕ) (old new : Context) : Type 0 where

@@ -115,9 +115,8 @@ ended_at [] at = true
 ended_at (s ∷ ss) zero = has_ended s
 ended_at (s ∷ ss) (suc at) = ended_at ss at
 
--- one stage was let work, by one pump
-pub record Pumps {P : Type 0} (rest : P → List ℕ → List ℕ) (c d : ChainState P) : Type 0 where
-  pub at : ℕ
+-- the stage at a place was let work, by one pump
+pub record PumpsAt {P : Type 0} (rest : P → List ℕ → List ℕ) (at : ℕ) (c d : ChainState P) : Type 0 where
   pub pumped : Pumped
   pub answers : AnswersAt c.given c.first c.stages at pumped
   pub steps : StepsAt rest c.first c.stages at pumped d.first d.stages
@@ -125,4 +124,4 @@ pub record Pumps {P : Type 0} (rest : P → List ℕ → List ℕ) (c d : ChainS
 
 -- at most one stage was let work, by one pump
 abbrev pub PumpsOnce : {P : Type 0} → (P → List ℕ → List ℕ) → ChainState P → ChainState P → Type 0
-PumpsOnce rest c d = (d ≡ c) ⊎ Pumps rest c d
+PumpsOnce rest c d = (d ≡ c) ⊎ ((at : ℕ) × PumpsAt rest at c d)

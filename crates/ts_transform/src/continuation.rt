@@ -3,7 +3,7 @@ ghost use Rattle.std.specs.Prelude.{◌≡◌, ℕ, ◌<◌, ◌⊎◌, true, So
 ghost use Rattle.ts_group.specs.Entries.{Grows};
 ghost use Rattle.ts_journal.specs.declared.entry.Event.TheVariants.{WriteReady};
 ghost use Rattle.ts_transform.specs.declared.continuation.Rouser.TheVariants as Rouser;
-ghost use Rattle.ts_transform.specs.Driving.{works_at, HasEvent, HasKind, IsOfStageIf, IsRousedIf, Keeps, SetsAfter, SetsFew, calmed};
+ghost use Rattle.ts_transform.specs.Driving.{works_at, HasEvent, HasKind, IsOfStageIf, IsRousedIf, Keeps, SetsOnly, SetsFew, IsWorkOf, IsRousingOf, IsNamedIf, unroused};
 
 use ts_group::{Action, Cx, SetFault};
 use ts_journal::{ContKey, Event};
@@ -36,13 +36,13 @@ pub fn works(event: Event) -> bool
 }
 
 // Sets an event at which the stage works: after its pause, and if it has none, at once.
-#[tactic(auto, using(crate::proofs::Kept::set_keeps, crate::proofs::Kept::set_event, crate::proofs::Kept::works_soon, crate::proofs::Kept::set_after, crate::proofs::Kept::set_kind, crate::proofs::Kept::soon_now, crate::proofs::Kept::soon_later))]
+#[tactic(auto, using(crate::proofs::Kept::set_keeps, crate::proofs::Kept::set_event, crate::proofs::Kept::works_soon, crate::proofs::Kept::set_kind, crate::proofs::Kept::soon_now, crate::proofs::Kept::soon_later))]
 fn set_event(key: ContKey, rouser: Rouser, pause: u64, cx: &mut Cx) -> Result<Action, SetFault>
     requires turn { cx.old.log.state.held ≡ true }
     ensures grows { Grows cx.old cx.new }
     ensures keeps { Keeps cx.old cx.new }
     ensures few { SetsFew 1 cx.old cx.new }
-    ensures after { SetsAfter pause cx.old cx.new }
+    ensures only { SetsOnly (IsWorkOf key pause cx.old.moment) cx.old cx.new }
     ensures event { OnOk result (HasEvent cx.new.log.state.pending key) }
     ensures called { rouser ≡ Rouser.Downstream → pause ≡ 0 → OnOk result (HasKind cx.new.log.state.pending key WriteReady) }
 {
@@ -56,7 +56,7 @@ fn set_event(key: ContKey, rouser: Rouser, pause: u64, cx: &mut Cx) -> Result<Ac
 }
 
 /// Sees that an event of the continuation is pending at which its stage works.
-#[tactic(auto, using(ts_group::proofs::Grows::grows_refl, crate::proofs::Kept::keeps_refl, crate::proofs::Kept::few_refl, crate::proofs::Kept::after_refl, crate::proofs::Kept::kept_if, crate::proofs::Kept::roused_if))]
+#[tactic(auto, using(ts_group::proofs::Grows::grows_refl, crate::proofs::Kept::keeps_refl, crate::proofs::Kept::few_refl, crate::proofs::Kept::kept_if, crate::proofs::Kept::roused_if))]
 pub fn rouse(
     slot: &mut Option<StageContinuation>,
     rouser: Rouser,
@@ -67,13 +67,13 @@ pub fn rouse(
     ensures grows { Grows cx.old cx.new }
     ensures keeps { Keeps cx.old cx.new }
     ensures few { SetsFew 1 cx.old cx.new }
-    ensures after { SetsAfter pause cx.old cx.new }
+    ensures only { (role : ℕ) → IsNamedIf cx.old.roles role slot.old → SetsOnly (IsRousingOf role pause cx.old.moment cx.old.roles) cx.old cx.new }
     ensures of_stage { (role : ℕ) → IsOfStageIf cx.old.log.state.pending cx.old.roles role slot.old
         → IsOfStageIf cx.new.log.state.pending cx.new.roles role slot.new }
     ensures roused { OnOk result (IsRousedIf slot.new) }
     ensures called { rouser ≡ Rouser.Downstream → pause ≡ 0 → OnOk result (IsRousedIf slot.old ⊎ ((t : StageContinuation) → slot.new ≡ Some t → HasKind cx.new.log.state.pending t.key WriteReady)) }
     ensures still { IsRousedIf slot.old → IsRousedIf slot.new }
-    ensures calm { calmed slot.new ≡ calmed slot.old }
+    ensures same { unroused slot.new ≡ unroused slot.old }
 {
     let Some(continuation) = slot else {
         return Err(SetFault::Dead);

@@ -4,7 +4,7 @@ ghost use Rattle.ts_group.specs.declared.action.SetFault.TheVariants.{Dead};
 ghost use Rattle.ts_group.specs.Context.{Context};
 ghost use Rattle.ts_transform.specs.declared.continuation.Rouser.TheVariants as Rouser;
 ghost use Rattle.ts_group.specs.Entries.{Grows};
-ghost use Rattle.ts_transform.specs.Driving.{IsOfStageIf, IsRousedIf, HasEventIf, AreOfStages, IsRoused, Keeps, SetsAfter, SetsFew, IsTold, IsCalledUnless, works_at, calmed, calmed_for, harmed, gone, changed, calm_all, is_unharmed_at, last_of};
+ghost use Rattle.ts_transform.specs.Driving.{IsOfStageIf, IsRousedIf, HasEventIf, AreOfStages, AreNamed, IsRoused, Keeps, SetsOnly, SetsFew, IsRousingOf, IsTelling, IsTold, IsCalledUnless, works_at, unroused, unroused_for, error_passed, gone, changed, all_unroused, may_pass_error_at, last_of};
 
 use crate::continuation::{Rouser, StageContinuation, rouse, works};
 use ts_group::{Cx, SetFault};
@@ -24,14 +24,14 @@ pub fn rouse_at(
     ensures grows { Grows cx.old cx.new }
     ensures keeps { Keeps cx.old cx.new }
     ensures few { SetsFew 1 cx.old cx.new }
-    ensures after { SetsAfter pause cx.old cx.new }
+    ensures only { (role : ℕ) → AreNamed cx.old.roles role table.old → SetsOnly (IsRousingOf (role + at) pause cx.old.moment cx.old.roles) cx.old cx.new }
     ensures of_stages { (role : ℕ) → AreOfStages cx.old.log.state.pending cx.old.roles role table.old
         → AreOfStages cx.new.log.state.pending cx.new.roles role table.new }
     ensures roused { OnOk result (IsRoused table.new at) }
     ensures called { rouser ≡ Rouser.Downstream → pause ≡ 0 → OnOk result (IsCalledUnless table.old cx.new.log.state.pending table.new at) }
     ensures others { (j : ℕ) → j ≢ at → slice_get table.new j ≡ slice_get table.old j }
     ensures still { (j : ℕ) → IsRoused table.old j → IsRoused table.new j }
-    ensures calm { calm_all table.new ≡ calm_all table.old }
+    ensures same { all_unroused table.new ≡ all_unroused table.old }
 {
     let Some((first, others)) = table.split_first_mut() else {
         unreachable!()
@@ -44,50 +44,50 @@ pub fn rouse_at(
 }
 
 // Says that the event of the stage at a place is handled.
-fn calm_at(table: &mut [Option<StageContinuation>], at: usize)
+fn unrouse_at(table: &mut [Option<StageContinuation>], at: usize)
     requires { at < length table.old }
-    ensures { table.new ≡ changed calmed table.old at }
+    ensures { table.new ≡ changed unroused table.old at }
 {
     let Some((first, others)) = table.split_first_mut() else {
         unreachable!()
     };
     if at > 0 {
-        calm_at(others, at - 1);
+        unrouse_at(others, at - 1);
     } else if let Some(continuation) = first {
         continuation.roused = false;
     }
 }
 
 /// Says so if the stage works at the event.
-#[tactic(auto, using(crate::proofs::Told::calm_calmed))]
-pub fn calm_for(table: &mut [Option<StageContinuation>], at: usize, event: Event)
+#[tactic(auto, using(crate::proofs::Told::same_unroused))]
+pub fn unrouse_for(table: &mut [Option<StageContinuation>], at: usize, event: Event)
     requires { at < length table.old }
-    ensures table { table.new ≡ calmed_for (works_at event) table.old at }
-    ensures calm { calm_all table.new ≡ calm_all table.old }
+    ensures table { table.new ≡ unroused_for (works_at event) table.old at }
+    ensures same { all_unroused table.new ≡ all_unroused table.old }
 {
     if works(event) {
-        calm_at(table, at);
+        unrouse_at(table, at);
     }
 }
 
 /// Says that the stage at a place has passed an error on. It answers whether there is a continuation that had not.
-pub fn harm_at(table: &mut [Option<StageContinuation>], at: usize) -> bool
+pub fn mark_error_passed(table: &mut [Option<StageContinuation>], at: usize) -> bool
     requires { at < length table.old }
-    ensures unharmed { result ≡ is_unharmed_at table.old at }
-    ensures table { table.new ≡ changed harmed table.old at }
+    ensures first { result ≡ may_pass_error_at table.old at }
+    ensures table { table.new ≡ changed error_passed table.old at }
 {
     let Some((first, others)) = table.split_first_mut() else {
         unreachable!()
     };
     if at > 0 {
-        return harm_at(others, at - 1);
+        return mark_error_passed(others, at - 1);
     }
     let Some(continuation) = first else {
         return false;
     };
-    let unharmed = !continuation.passed_error;
+    let is_first = !continuation.passed_error;
     continuation.passed_error = true;
-    unharmed
+    is_first
 }
 
 /// Takes the continuation of the stage at a place out of the table.
@@ -120,10 +120,12 @@ pub fn tell(
     ensures keeps { Keeps cx.old cx.new }
     ensures few { SetsFew 1 cx.old cx.new }
     ensures told { OnOk result (IsTold cx.new.log.state.pending event table.now at) }
+    ensures only { (role : ℕ) → AreNamed cx.old.roles role table.now → SetsOnly (IsTelling event (role + at) cx.old.roles) cx.old cx.new }
 {
-    if let Some(continuation) = table[at] {
-        cx.call(continuation.key, event)?;
-    }
+    let Some(Some(continuation)) = table.get(at) else {
+        return Ok(());
+    };
+    cx.call(continuation.key, event)?;
     Ok(())
 }
 
@@ -135,7 +137,7 @@ fn mark(slot: &mut Option<StageContinuation>) -> Result<Option<ContKey>, SetFaul
         → IsOfStageIf a.log.state.pending a.roles role slot.old → IsOfStageIf b.log.state.pending b.roles role slot.new) }
     ensures roused { OnOk result (IsRousedIf slot.new) }
     ensures still { IsRousedIf slot.old → IsRousedIf slot.new }
-    ensures calm { calmed slot.new ≡ calmed slot.old }
+    ensures same { unroused slot.new ≡ unroused slot.old }
     ensures key { IfOk result (λ key. IfSome key (λ k. (t : StageContinuation) → slot.old ≡ Some t → k ≡ t.key)) }
     ensures dead { IfErr result (λ fault. (fault ≡ Dead) × (slot.old ≡ None)) }
 {
@@ -156,7 +158,7 @@ pub fn mark_last(table: &mut [Option<StageContinuation>]) -> Result<Option<ContK
         → AreOfStages a.log.state.pending a.roles role table.old → AreOfStages b.log.state.pending b.roles role table.new) }
     ensures last { OnOk result ((j : ℕ) → j + 1 ≡ length table.old → IsRoused table.new j) }
     ensures still { (j : ℕ) → IsRoused table.old j → IsRoused table.new j }
-    ensures calm { calm_all table.new ≡ calm_all table.old }
+    ensures same { all_unroused table.new ≡ all_unroused table.old }
     ensures key { IfOk result (λ key. IfSome key (λ k. (t : StageContinuation) → last_of table.old ≡ Some t → k ≡ t.key)) }
     ensures dead { IfErr result (λ fault. (fault ≡ Dead) × (last_of table.old ≡ None)) }
 {

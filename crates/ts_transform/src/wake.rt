@@ -1,11 +1,12 @@
 // How a last stage goes on that found its client's boundary full.
-ghost use Rattle.std.specs.Prelude.{◌≡◌, ℕ, ◌+◌, ◌≤◌, length, true, false, Some, Err, OnOk, OnErr};
+ghost use Rattle.std.specs.Prelude.{◌≡◌, ℕ, ◌+◌, ◌<◌, ◌≤◌, length, true, false, Some, Err, OnOk, OnErr};
 ghost use Rattle.ts_journal.specs.State.{IsLive};
 ghost use Rattle.ts_group.specs.declared.action.SetFault.TheVariants as SetFault;
+ghost use Rattle.ts_group.specs.Context.{IsSame};
 ghost use Rattle.ts_group.specs.Entries.{Grows};
 ghost use Rattle.ts_transform.specs.Flow.{last_wait, pause_at};
 ghost use Rattle.ts_transform.specs.declared.continuation.StageContinuation.{StageContinuation};
-ghost use Rattle.ts_transform.specs.Driving.{SetsAfter, unharmed_of, last_of};
+ghost use Rattle.ts_transform.specs.Driving.{SetsOnly, IsDueAfter, errors_to_pass, last_of};
 ghost use Rattle.ts_transform.specs.Cover.{IsSound, IsSoundGroup, IsAwake};
 
 use crate::transform::Transform;
@@ -16,7 +17,7 @@ impl<P: Transform + Drop> ChainWorld<P> {
     /// Sets an event for the last stage, where that has not ended, 65,536 bytes or more wait after it, and it has none;
     /// so it goes on once its client has taken bytes. It is asked in a turn, after its events, and bytes are taken before
     /// the next: where none are, the stage finds its output full again.
-    #[tactic(auto, using(ts_group::proofs::Grows::grows_refl, crate::proofs::Harmed::unharmed_same))]
+    #[tactic(auto, using(ts_group::proofs::Grows::grows_refl, crate::proofs::PassedErrors::errors_same))]
     pub fn wake(group: &mut Group<ChainWorld<P>>) -> Result<(), SetFault>
         requires turn { group.old.cx.log.state.held ≡ true }
         requires sound { IsSoundGroup group.old }
@@ -24,21 +25,24 @@ impl<P: Transform + Drop> ChainWorld<P> {
         ensures turns { group.new.cx.log.state.turns ≡ group.old.cx.log.state.turns }
         ensures grows { Grows group.old.cx group.new.cx }
         ensures chain { group.new.world.chain ≡ group.old.world.chain }
-        ensures unharmed { unharmed_of group.new.world.table.items ≡ unharmed_of group.old.world.table.items }
+        ensures errors { errors_to_pass group.new.world.table.items ≡ errors_to_pass group.old.world.table.items }
 
-        // At most one event is set, and only where bytes wait for the client.
+        // At most one event is set, and none where less waits for the client.
         ensures few { length group.new.cx.log.state.pending ≤ length group.old.cx.log.state.pending + 1 }
         ensures full { length group.new.cx.log.state.pending ≤ length group.old.cx.log.state.pending + length (last_wait group.old.world.chain.first group.old.world.chain.stages) }
+        ensures idle { length (last_wait group.old.world.chain.first group.old.world.chain.stages) < 65536 → IsSame group.old.cx group.new.cx }
         ensures sound { IsSoundGroup group.new }
         ensures running { OnOk result (group.new.world.running ≡ group.old.world.running) }
         ensures lost { OnErr result (group.new.world.running ≡ false) }
 
-        // Without memory: its continuation is not live, or the event numbers are used up.
+        // It refuses where its continuation is not live, the event numbers are used up, or memory lacks; then no event was
+        // set.
+        ensures err { OnErr result (IsSame group.old.cx group.new.cx) }
         ensures dead { result ≡ Err SetFault.Dead → (t : StageContinuation) → last_of group.old.world.table.items ≡ Some t → IsLive group.old.cx.log.state.live t.key → ⊥ }
         ensures spent { result ≡ Err SetFault.Spent → 18446744073709551615 ≤ group.old.cx.log.state.next }
 
         // It is due after the pause of the last stage.
-        ensures after { (at : ℕ) → at + 1 ≡ length group.old.world.chain.stages → SetsAfter (pause_at P.wait group.old.world.chain.stages at) group.old.cx group.new.cx }
+        ensures after { (at : ℕ) → at + 1 ≡ length group.old.world.chain.stages → SetsOnly (IsDueAfter (pause_at P.wait group.old.world.chain.stages at) group.old.cx.moment) group.old.cx group.new.cx }
         ensures awake { OnOk result (group.new.world.running ≡ true → IsAwake group.new.world.chain group.new.world.table.items) }
     {
         let pause = group.world().last_pause();

@@ -7,7 +7,7 @@ ghost use Rattle.ts_group.specs.Context.{Context, AllPlain};
 ghost use Rattle.ts_group.specs.Entries.{Grows};
 ghost use Rattle.ts_transform.specs.Flow.{flow, compose, left_to_do, last_wait, last_ended, fresh_stage, pause_at, aborted, IsFinished, PumpsOnce, Takes};
 ghost use Rattle.ts_transform.specs.declared.continuation.StageContinuation.{StageContinuation};
-ghost use Rattle.ts_transform.specs.Driving.{Keeps, HasEventIf, calm_all, unharmed_of, last_of};
+ghost use Rattle.ts_transform.specs.Driving.{Keeps, HasEventIf, all_unroused, errors_to_pass, last_of};
 ghost use Rattle.ts_transform.specs.Cover.{IsSound, IsDriven, IsAwake};
 
 use crate::chain::Chain;
@@ -128,7 +128,7 @@ impl<P: Transform + Drop> ChainWorld<P> {
         ensures chain { self.new.chain ≡ self.old.chain }
         ensures running { OnOk result (self.new.running ≡ self.old.running) }
         ensures lost { OnErr result (self.new.running ≡ false) }
-        ensures calm { calm_all self.new.table.items ≡ calm_all self.old.table.items }
+        ensures same { all_unroused self.new.table.items ≡ all_unroused self.old.table.items }
         ensures full { IfOk result (λ key. IfSome key (λ k. 65536 ≤ length (last_wait self.old.chain.first self.old.chain.stages))) }
         ensures key { IfOk result (λ key. IfSome key (λ k. (t : StageContinuation) → last_of self.old.table.items ≡ Some t → k ≡ t.key)) }
         ensures driven { IfOk result (λ key. (a b : Context) → Keeps a b → HasEventIf b.log.state.pending key
@@ -175,7 +175,7 @@ impl<P: Transform + Drop> World for ChainWorld<P> {
 
     ghost asking = { λ w s roles role group question. IsSound w s.pending roles };
 
-    ghost left = { λ w s. Some (100 * (left_to_do P.rest w.chain [] + unharmed_of w.table.items) + length s.pending) };
+    ghost left = { λ w s. Some (100 * (left_to_do P.rest w.chain [] + errors_to_pass w.table.items) + length s.pending) };
 
     ghost begun = { λ old new. new.chain ≡ old.chain };
 

@@ -3,6 +3,8 @@ use Rattle.ts_transform.specs.Stage.{done_by, IfRests}
 use Rattle.ts_transform.specs.Flow.{AnswersAt, StepsAt}
 use Rattle.ts_transform.proofs.Covering.{moved-some, worked, rested, driven_kept, on_ok, any_ok, IsResting}
 use Rattle.ts_transform.proofs.Called.{called_kept}
+use Rattle.ts_transform.proofs.Setting.{named_kept}
+use Rattle.ts_transform.proofs.MaySet.{may_tell}
 use Rattle.ts_transform.proofs.Told.{moved_goes}
 use Rattle.ts_transform.proofs.handler.work.Goals as goal
 
@@ -62,3 +64,12 @@ returns-in_ok-rouse_round-in-Ended-clause-called g c =
     any_ok c.tell_before.result (λ did j above pause must.
     called_kept before c.tell_before.new.cx c.args.table.now c.args.table.now table table j refl refl c.tell_before.ensures.keeps
     (c.in_ok-rouse_round-in-Ended.ensures.called j above pause must))
+
+-- What is set at the end of a stage: it rouses those round it, and tells the stage before it.
+pub returns-in_ok-rouse_round-in-Ended-clause-only :
+    goal.returns-in_ok-rouse_round-in-Ended-clause-only
+returns-in_ok-rouse_round-in-Ended-clause-only g c = λ event named.
+    let round = c.rouse_round-in-Ended in
+    may_tell g.P.Transform.wait g.P.Transform.rest c.args.chain.now c.pump.new.self c.args.at event c.in-Ok.pumped c.args.cx.now round.new.cx c.tell_before.new.cx c.in-Ended.is
+    c.in-Ok.ensures.answer c.in-Ok.ensures.steps round.ensures.keeps (round.ensures.only named) c.tell_before.ensures.keeps 
+    (c.tell_before.ensures.only (named_kept c.args.cx.now round.new.cx c.args.table.now round.new.table round.ensures.keeps round.ensures.same named))
