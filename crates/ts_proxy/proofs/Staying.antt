@@ -9,27 +9,27 @@ use Rattle.ts_transform.specs.Flow.{ChainState}
 use Rattle.ts_transform.specs.Cover.{IsSound, IsAwake}
 use Rattle.ts_proxy.specs.Driven.{Passes, StaysSound}
 
-pub stays_refl : {P : Type 0} (c : ChainState P) (ts : List (Option StageContinuation)) (running : Bool) → StaysSound c c ts ts running running
-stays_refl c ts running = record { sound = λ pending roles awake s. s; awake = λ awake. awake }
+pub stays_refl : {P : Type 0} (w : ChainWorld P) → StaysSound w w
+stays_refl w = record { sound = λ pending roles awake s. s; awake = λ awake. awake }
 
 -- its client takes some more
-pub stays_taken : {P : Type 0} (c d e : ChainState P) (ts us vs : List (Option StageContinuation)) (was now next : Bool) → StaysSound c d ts us was now
-    → ((pending : List Pending) (roles : List Named) → IsSound d us now pending roles → (now ≡ true → IsAwake d us) → IsSound e vs next pending roles)
-    → (IsAwake d us → IsAwake e vs) → next ≡ now → StaysSound c e ts vs was next
-stays_taken c d e ts us vs was now next h sound awake same = record {
+pub stays_taken : {P : Type 0} (u v w : ChainWorld P) → StaysSound u v
+    → ((pending : List Pending) (roles : List Named) → IsSound v pending roles → (v.running ≡ true → IsAwake v.chain v.table.items) → IsSound w pending roles)
+    → (IsAwake v.chain v.table.items → IsAwake w.chain w.table.items) → w.running ≡ v.running → StaysSound u w
+stays_taken u v w h sound awake same = record {
   sound = λ pending roles woken s. sound pending roles (h.sound pending roles woken s) (h.awake woken);
   awake = λ woken runs. awake (h.awake woken (sym same ∙ runs));
 }
 
 -- a world that was woken is sound after its client has taken bytes
 pub drained : {P : Type 0} (was before now : ChainWorld P) (pending : List Pending) (roles : List Named) → before ≡ was
-    → StaysSound before.chain now.chain before.table.items now.table.items before.running now.running
-    → (was.running ≡ true → IsAwake was.chain was.table.items) → IsSound was.chain was.table.items was.running pending roles
-    → IsSound now.chain now.table.items now.running pending roles
+    → StaysSound before now
+    → (was.running ≡ true → IsAwake was.chain was.table.items) → IsSound was pending roles
+    → IsSound now pending roles
 drained was before now pending roles same h awake s =
     h.sound pending roles
     (subst (λ w. w.running ≡ true → IsAwake w.chain w.table.items) (sym same) awake)
-    (subst (λ w. IsSound w.chain w.table.items w.running pending roles) (sym same) s)
+    (subst (λ w. IsSound w pending roles) (sym same) s)
 
 -- more was taken
 pub passes_then : (old mid new a b c d : List ℕ) → Passes old mid a b → c ≡ b → Passes mid new c d → Passes old new a d

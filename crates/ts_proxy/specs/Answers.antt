@@ -4,7 +4,7 @@ use Rattle.ts_link.specs.Counts.{Rose}
 use Rattle.ts_link.specs.declared.shelf.ShelfFault.{ShelfFault}
 use Rattle.ts_link.specs.declared.shelf.ShelfFault.TheVariants as fault
 use Rattle.ts_journal.specs.Log.{Log}
-use Rattle.ts_proxy.specs.Journals.{IsDriven}
+use Rattle.ts_proxy.specs.Journals.{IsOfDriver}
 use Rattle.ts_proxy.specs.declared.answer.Answer.{Answer}
 use Rattle.ts_proxy.specs.declared.answer.Answer.TheVariants as a
 use Rattle.ts_proxy.specs.declared.answer.NamedFile.{NamedFile}
@@ -145,7 +145,7 @@ OnQuiet (a.TooLong n) P = P
 
 -- where the job was done the journal of its events was added, and else none
 abbrev pub AnswerAdds : Answer → List Log → List Log → Type 0
-AnswerAdds a.Done old new = (j : Log) × (new ≡ old ++ j ∷ []) × IsDriven j
+AnswerAdds a.Done old new = (j : Log) × (new ≡ old ++ j ∷ []) × IsOfDriver j
 AnswerAdds a.Usage old new = new ≡ old
 AnswerAdds (a.BadLine b) old new = new ≡ old
 AnswerAdds (a.CannotRead n) old new = new ≡ old

@@ -6,10 +6,11 @@ use Rattle.ts_proxy.specs.declared.drive.Driven.{Driven}
 use Rattle.ts_proxy.specs.declared.drive.Driven.TheVariants.{Done, Failed, NoMemory}
 use Rattle.ts_journal.specs.declared.entry.Pending.{Pending}
 use Rattle.ts_group.specs.declared.action.Named.{Named}
-use Rattle.ts_transform.specs.declared.continuation.StageContinuation.{StageContinuation}
-use Rattle.ts_transform.specs.Flow.{left_to_do, ChainState}
+use Rattle.ts_transform.specs.declared.world.ChainWorld.{ChainWorld}
+use Rattle.ts_transform.specs.Flow.{left_to_do}
+use Rattle.ts_transform.specs.Driving.{errors_to_pass}
 use Rattle.ts_transform.specs.Cover.{IsSound, IsAwake}
-use Rattle.ts_proxy.specs.Journals.{IsDriven}
+use Rattle.ts_proxy.specs.Journals.{IsOfDriver}
 use Rattle.ts_proxy.specs.Took.{TookFront}
 
 abbrev pub is_failed : Driven → Bool
@@ -41,13 +42,13 @@ pub record Passes (old new flow flow' : List ℕ) : Type 0 where
   pub front : flow ≡ took ++ flow'
 
 -- a world of a chain that is sound stays so, if its last stage was woken where that was needed, and needs no waking then
-pub record StaysSound {P : Type 0} (c d : ChainState P) (ts us : List (Option StageContinuation)) (was now : Bool) : Type 0 where
-  pub sound : (pending : List Pending) (roles : List Named) → (was ≡ true → IsAwake c ts) → IsSound c ts was pending roles → IsSound d us now pending roles
-  pub awake : (was ≡ true → IsAwake c ts) → now ≡ true → IsAwake d us
+pub record StaysSound {P : Type 0} (v w : ChainWorld P) : Type 0 where
+  pub sound : (pending : List Pending) (roles : List Named) → (v.running ≡ true → IsAwake v.chain v.table.items) → IsSound v pending roles → IsSound w pending roles
+  pub awake : (v.running ≡ true → IsAwake v.chain v.table.items) → w.running ≡ true → IsAwake w.chain w.table.items
 
 -- what a world of a chain has left to do, but for its pending events
-abbrev pub left_of : {P : Type 0} → (P → List ℕ → List ℕ) → ChainState P → ℕ → ℕ
-left_of rest c unharmed = 100 * (left_to_do rest c [] + unharmed)
+abbrev pub left_of : {P : Type 0} → (P → List ℕ → List ℕ) → ChainWorld P → ℕ
+left_of rest w = 100 * (left_to_do rest w.chain [] + errors_to_pass w.table.items)
 
 -- the event of a number is pending, and due at a moment
 pub record IsDue (s : State) (number moment : ℕ) : Type 0 where
@@ -57,6 +58,6 @@ pub record IsDue (s : State) (number moment : ℕ) : Type 0 where
 
 -- where all was done the journal of its driver was added, and else none
 abbrev pub AddsJournal : Driven → List Log → List Log → Type 0
-AddsJournal Done old new = (j : Log) × (new ≡ old ++ j ∷ []) × IsDriven j
+AddsJournal Done old new = (j : Log) × (new ≡ old ++ j ∷ []) × IsOfDriver j
 AddsJournal Failed old new = new ≡ old
 AddsJournal NoMemory old new = new ≡ old

@@ -1,7 +1,7 @@
 -- How the program ends: its status, when each comes, and what it leaves in the sinks.
 use Rattle.std.specs.Prelude.{◌≡◌, ◌≢◌, ℕ, List, [], ◌∷◌, ◌++◌, ◌⊎◌}
 use Rattle.ts_journal.specs.Log.{Log}
-use Rattle.ts_proxy.specs.Journals.{IsDriven}
+use Rattle.ts_proxy.specs.Journals.{IsOfDriver}
 use Rattle.ts_proxy.specs.declared.answer.Answer.{Answer}
 use Rattle.ts_proxy.specs.declared.answer.Answer.TheVariants as a
 use Rattle.ts_proxy.specs.Outcome.{Outcome, Usage, BadLine, Missing, Long, Text}
@@ -42,5 +42,5 @@ IsStatus n = (n ≡ 0) ⊎ (n ≡ 2) ⊎ (n ≡ 3) ⊎ (n ≡ 5) ⊎ (n ≡ 6) �
 
 -- the journals at a status: with 0 that of the serial driver, with another none
 pub record JournalsAt (n : ℕ) (js : List Log) : Type 0 where
-  pub done : n ≡ 0 → (j : Log) × (js ≡ j ∷ []) × IsDriven j
+  pub done : n ≡ 0 → (j : Log) × (js ≡ j ∷ []) × IsOfDriver j
   pub else : n ≢ 0 → js ≡ []

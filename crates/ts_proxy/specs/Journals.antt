@@ -59,7 +59,7 @@ pub record IsFinal (j : Log) : Type 0 where
   pub none : j.state.pending ≡ []
 
 -- the journal of a new group that the serial driver alone drove, to its end
-pub record IsDriven (j : Log) : Type 0 where
+pub record IsOfDriver (j : Log) : Type 0 where
   pub base : j.base ≡ fresh_with 0 own_key
   pub serial : IsSerial j.base j.entries
   pub final : IsFinal j

@@ -5,7 +5,7 @@ ghost use Rattle.ts_journal.specs.declared.entry.Pending.{Pending};
 ghost use Rattle.ts_group.specs.declared.action.Named.{Named};
 ghost use Rattle.ts_group.specs.Context.{AllPlain};
 ghost use Rattle.ts_transform.specs.Flow.{flow, last_wait};
-ghost use Rattle.ts_transform.specs.Cover.{IsSound, IsAwake};
+ghost use Rattle.ts_transform.specs.Cover.{IsSound, IsSoundGroup, IsAwake};
 ghost use Rattle.ts_proxy.specs.Journals.{IsNext, GoesOnWithin, GoesOnSerially};
 ghost use Rattle.ts_proxy.specs.Driven.{WroteAll, Passes, OnDone, AddsJournal, StaysSound, IsDue, is_failed, is_no_memory, left_of};
 
@@ -48,9 +48,9 @@ fn drain<P: Transform + Drop, K: Sink>(world: &mut ChainWorld<P>, out: &mut K) -
     ensures told { K.tells ≡ true → Passes (K.taken out.old) (K.taken out.new) (flow P.rest world.old.chain []) (flow P.rest world.new.chain []) }
     ensures faults { Counted (is_failed result) (K.faults out.old) (K.faults out.new) }
     ensures dry { OnDone result (last_wait world.new.chain.first world.new.chain.stages ≡ []) }
-    ensures falls { left_of P.rest world.new.chain world.new.unharmed + length (last_wait world.old.chain.first world.old.chain.stages)
-        ≤ left_of P.rest world.old.chain world.old.unharmed + length (last_wait world.new.chain.first world.new.chain.stages) }
-    ensures stays { StaysSound world.old.chain world.new.chain world.old.table.items world.new.table.items world.old.running world.new.running }
+    ensures falls { left_of P.rest world.new + length (last_wait world.old.chain.first world.old.chain.stages)
+        ≤ left_of P.rest world.old + length (last_wait world.new.chain.first world.new.chain.stages) }
+    ensures stays { StaysSound world.old world.new }
 {
     while let Some(block) = world.chain().out_block() {
         match out.write(block) {
@@ -69,17 +69,17 @@ fn handle<P: Transform + Drop>(
     moment: u64,
 ) -> Result<(), NoMemory>
     requires turn { group.old.cx.log.state.held ≡ true }
-    requires sound { IsSound group.old.world.chain group.old.world.table.items group.old.world.running group.old.cx.log.state.pending group.old.cx.roles }
+    requires sound { IsSoundGroup group.old }
     requires due { IsDue group.old.cx.log.state number moment }
     requires next { IsNext group.old.cx.log.state number }
     ensures turn { group.new.cx.log.state.held ≡ true }
     ensures turns { group.new.cx.log.state.turns ≡ group.old.cx.log.state.turns }
     ensures within { GoesOnWithin group.old.cx.log group.new.cx.log }
     ensures flow { flow P.rest group.new.world.chain [] ≡ flow P.rest group.old.world.chain [] }
-    ensures sound { OnOk result (IsSound group.new.world.chain group.new.world.table.items group.new.world.running group.new.cx.log.state.pending group.new.cx.roles) }
+    ensures sound { OnOk result (IsSoundGroup group.new) }
     ensures awake { OnOk result (group.new.world.running ≡ true → IsAwake group.new.world.chain group.new.world.table.items) }
-    ensures falls { OnOk result (left_of P.rest group.new.world.chain group.new.world.unharmed + length group.new.cx.log.state.pending
-        < left_of P.rest group.old.world.chain group.old.world.unharmed + length group.old.cx.log.state.pending
+    ensures falls { OnOk result (left_of P.rest group.new.world + length group.new.cx.log.state.pending
+        < left_of P.rest group.old.world + length group.old.cx.log.state.pending
         + (if nat_lt 0 (length (last_wait group.new.world.chain.first group.new.world.chain.stages)) then 1 else 0)) }
 {
     match group.handle(number, moment) {
@@ -99,16 +99,16 @@ fn take_turn<P: Transform + Drop>(
     moment: u64,
 ) -> Result<(), NoMemory>
     requires idle { group.old.cx.log.state.held ≡ false }
-    requires sound { IsSound group.old.world.chain group.old.world.table.items group.old.world.running group.old.cx.log.state.pending group.old.cx.roles }
+    requires sound { IsSoundGroup group.old }
     requires due { IsDue group.old.cx.log.state number moment }
     requires next { IsNext group.old.cx.log.state number }
     ensures idle { group.new.cx.log.state.held ≡ false }
     ensures serial { GoesOnSerially group.old.cx.log group.new.cx.log }
     ensures flow { flow P.rest group.new.world.chain [] ≡ flow P.rest group.old.world.chain [] }
-    ensures sound { OnOk result (IsSound group.new.world.chain group.new.world.table.items group.new.world.running group.new.cx.log.state.pending group.new.cx.roles) }
+    ensures sound { OnOk result (IsSoundGroup group.new) }
     ensures awake { OnOk result (group.new.world.running ≡ true → IsAwake group.new.world.chain group.new.world.table.items) }
-    ensures falls { OnOk result (left_of P.rest group.new.world.chain group.new.world.unharmed + length group.new.cx.log.state.pending
-        < left_of P.rest group.old.world.chain group.old.world.unharmed + length group.old.cx.log.state.pending
+    ensures falls { OnOk result (left_of P.rest group.new.world + length group.new.cx.log.state.pending
+        < left_of P.rest group.old.world + length group.old.cx.log.state.pending
         + (if nat_lt 0 (length (last_wait group.new.world.chain.first group.new.world.chain.stages)) then 1 else 0)) }
 {
     let Some(turn) = group.journal().turns().checked_add(1) else {
@@ -123,11 +123,11 @@ fn take_turn<P: Transform + Drop>(
 // Begins the work of a chain's world, in a turn of its own.
 fn start<P: Transform + Drop>(group: &mut Group<ChainWorld<P>>) -> Result<(), NoMemory>
     requires idle { group.old.cx.log.state.held ≡ false }
-    requires sound { IsSound group.old.world.chain group.old.world.table.items group.old.world.running group.old.cx.log.state.pending group.old.cx.roles }
+    requires sound { IsSoundGroup group.old }
     ensures idle { group.new.cx.log.state.held ≡ false }
     ensures serial { GoesOnSerially group.old.cx.log group.new.cx.log }
     ensures flow { flow P.rest group.new.world.chain [] ≡ flow P.rest group.old.world.chain [] }
-    ensures sound { OnOk result (IsSound group.new.world.chain group.new.world.table.items group.new.world.running group.new.cx.log.state.pending group.new.cx.roles) }
+    ensures sound { OnOk result (IsSoundGroup group.new) }
     ensures awake { OnOk result (group.new.world.running ≡ true → IsAwake group.new.world.chain group.new.world.table.items) }
 {
     let Some(turn) = group.journal().turns().checked_add(1) else {
@@ -148,7 +148,7 @@ fn start<P: Transform + Drop>(group: &mut Group<ChainWorld<P>>) -> Result<(), No
 #[tactic(auto, using(crate::proofs::Serial::serial_trans))]
 fn run_events<P: Transform + Drop, K: Sink>(group: &mut Group<ChainWorld<P>>, out: &mut K) -> Driven
     requires idle { group.old.cx.log.state.held ≡ false }
-    requires sound { IsSound group.old.world.chain group.old.world.table.items group.old.world.running group.old.cx.log.state.pending group.old.cx.roles }
+    requires sound { IsSoundGroup group.old }
     requires dry { last_wait group.old.world.chain.first group.old.world.chain.stages ≡ [] }
     ensures told { K.tells ≡ true → Passes (K.taken out.old) (K.taken out.new) (flow P.rest group.old.world.chain []) (flow P.rest group.new.world.chain []) }
     ensures faults { Counted (is_failed result) (K.faults out.old) (K.faults out.new) }
@@ -183,7 +183,7 @@ fn drive_group<P: Transform + Drop, K: Sink>(
     out: &mut K,
 ) -> Driven
     requires idle { group.old.cx.log.state.held ≡ false }
-    requires sound { IsSound group.old.world.chain group.old.world.table.items group.old.world.running group.old.cx.log.state.pending group.old.cx.roles }
+    requires sound { IsSoundGroup group.old }
     ensures told { K.tells ≡ true → WroteAll result (K.taken out.old) (K.taken out.new) (flow P.rest group.old.world.chain []) }
     ensures faults { Counted (is_failed result) (K.faults out.old) (K.faults out.new) }
     ensures idle { group.new.cx.log.state.held ≡ false }
@@ -208,7 +208,7 @@ pub fn drive<P: Transform + Drop, K: Sink>(
     out: &mut K,
     journals: &mut Vec<Journal>,
 ) -> Driven
-    requires sound { (pending : List Pending) → (roles : List Named) → AllPlain pending → IsSound world.chain world.table.items world.running pending roles }
+    requires sound { (pending : List Pending) → (roles : List Named) → AllPlain pending → IsSound world pending roles }
     ensures told { K.tells ≡ true → WroteAll result (K.taken out.old) (K.taken out.new) (flow P.rest world.chain []) }
     ensures faults { Counted (is_failed result) (K.faults out.old) (K.faults out.new) }
     ensures journals { AddsJournal result journals.old.items journals.new.items }

@@ -31,7 +31,7 @@ pub fn world_of(
     body: Octets,
 ) -> Result<ChainWorld<Stock>, NoMemory>
     ensures flow { IfOk result (λ w. flow still_writes w.chain [] ≡ compose_lines lines.now body) }
-    ensures sound { IfOk result (λ w. (pending : List Pending) → (roles : List Named) → AllPlain pending → IsSound w.chain w.table.items w.running pending roles) }
+    ensures sound { IfOk result (λ w. (pending : List Pending) → (roles : List Named) → AllPlain pending → IsSound w pending roles) }
 {
     let parts = fresh_parts(alloc, lines)?;
     ChainWorld::make(alloc, parts, body)

@@ -1,5 +1,6 @@
 use Rattle.std.proofs.Common.{◌≡◌, ◌-◌, [], rules, length, length-drop, arith, ap, subst, ◌∙◌}
 use Rattle.ts_transform.specs.Flow.{last_wait}
+use Rattle.ts_transform.specs.Driving.{errors_to_pass}
 use Rattle.ts_proxy.proofs.Staying.{IsFront, passes_taken, stays_taken}
 use Rattle.ts_proxy.proofs.drive.drain.Goals as goal
 
@@ -16,7 +17,6 @@ loop-block-preserved g c =
       falls =
           let less : length (last_wait after.chain.first after.chain.stages) ≡ length (last_wait before.chain.first before.chain.stages) - c.in-Took.count =
           ap length c.take.ensures.wait ∙ length-drop c.in-Took.count (last_wait before.chain.first before.chain.stages) in
-          omega (arith, c.loop-block.invariant.falls, c.take.ensures.falls [], c.take.ensures.kept.1, less, c.in-Took.ensures.count.1, block.1);
-      stays = stays_taken from.chain before.chain after.chain from.table.items before.table.items after.table.items from.running before.running after.running
-          c.loop-block.invariant.stays c.take.ensures.sound c.take.ensures.awake c.take.ensures.kept.2;
+          omega (arith, c.loop-block.invariant.falls, c.take.ensures.falls [], ap errors_to_pass c.take.ensures.kept.0, less, c.in-Took.ensures.count.1, block.1);
+      stays = stays_taken from before after c.loop-block.invariant.stays c.take.ensures.sound c.take.ensures.awake c.take.ensures.kept.1;
     }

@@ -9,9 +9,9 @@ invariant-loop-block g l = record {
   passes : g.K.Sink.tells ≡ true
       → Passes (g.K.Sink.taken l.initial.out) (g.K.Sink.taken l.out) (flow g.P.Transform.rest l.initial.world.chain []) (flow g.P.Transform.rest l.world.chain []);
   faults : g.K.Sink.faults l.out ≡ g.K.Sink.faults l.initial.out;
-  falls : left_of g.P.Transform.rest l.world.chain l.world.unharmed + length (last_wait l.initial.world.chain.first l.initial.world.chain.stages)
-      ≤ left_of g.P.Transform.rest l.initial.world.chain l.initial.world.unharmed + length (last_wait l.world.chain.first l.world.chain.stages);
-  stays : StaysSound l.initial.world.chain l.world.chain l.initial.world.table.items l.world.table.items l.initial.world.running l.world.running;
+  falls : left_of g.P.Transform.rest l.world + length (last_wait l.initial.world.chain.first l.initial.world.chain.stages)
+      ≤ left_of g.P.Transform.rest l.initial.world + length (last_wait l.world.chain.first l.world.chain.stages);
+  stays : StaysSound l.initial.world l.world;
 }
 
 abbrev pub decreases-loop-block : goal.decreases-loop-block

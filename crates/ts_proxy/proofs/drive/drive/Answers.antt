@@ -6,5 +6,5 @@ use Rattle.ts_proxy.proofs.drive.drive.Goals as goal
 pub drive_group-driven-requires-clause-sound : goal.drive_group-driven-requires-clause-sound
 drive_group-driven-requires-clause-sound g c =
     let cx = c.in-Ok-make.group.cx in
-    subst (λ w. IsSound w.chain w.table.items w.running cx.log.state.pending cx.roles) (sym c.in-Ok-make.ensures.world)
+    subst (λ w. IsSound w cx.log.state.pending cx.roles) (sym c.in-Ok-make.ensures.world)
     (c.requires.sound cx.log.state.pending cx.roles (subst (λ s. AllPlain s.pending) (sym c.in-Ok-make.ensures.log.2) tt))

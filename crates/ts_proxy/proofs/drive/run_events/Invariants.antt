@@ -16,10 +16,10 @@ invariant-driving g l =
       faults : g.K.Sink.faults l.out ≡ g.K.Sink.faults l.initial.out;
       idle : l.group.cx.log.state.held ≡ false;
       serial : GoesOnSerially l.initial.group.cx.log l.group.cx.log;
-      sound : IsSound world.chain world.table.items world.running l.group.cx.log.state.pending l.group.cx.roles;
+      sound : IsSound world l.group.cx.log.state.pending l.group.cx.roles;
       dry : last_wait world.chain.first world.chain.stages ≡ [];
     }
 
 -- each event that is handled, and each byte that is taken, leaves less to do
 abbrev pub decreases-driving : goal.decreases-driving
-decreases-driving g l = left_of g.P.Transform.rest l.group.world.chain l.group.world.unharmed + length l.group.cx.log.state.pending
+decreases-driving g l = left_of g.P.Transform.rest l.group.world + length l.group.cx.log.state.pending
