@@ -1,11 +1,13 @@
 // A shelf over the files of the system.
-ghost use Rattle.std.specs.Prelude.{◌≡◌, false, None};
+ghost use Rattle.std.specs.Prelude.{◌≡◌, ◌⊎◌, false, None};
+ghost use Rattle.ts_link.specs.declared.shelf.ShelfFault.TheVariants.{Failed, NoMemory};
 ghost use Rattle.tsx.specs.Whole.{KeepsMost};
 
 use crate::count::raised;
 use std::alloc::{AllocError, Global};
 use std::fs;
 use std::fs::OpenFile;
+use std::io;
 use std::io::{ErrorKind, Read};
 use std::rt::Files;
 use ts_link::{Octets, Shelf, ShelfFault};
@@ -32,6 +34,17 @@ impl<'a, R: Files> FileShelf<'a, R> {
     }
 }
 
+// What an error of the system is to a shelf.
+fn fault_of(error: &io::Error) -> ShelfFault
+    ensures { (result ≡ Failed) ⊎ (result ≡ NoMemory) }
+{
+    if error.kind() == ErrorKind::OutOfMemory {
+        ShelfFault::NoMemory
+    } else {
+        ShelfFault::Failed
+    }
+}
+
 // Takes room at once for a file of the size that the system tells, and for the read that finds its end.
 fn reserve_for<F: OpenFile>(file: &F, bytes: &mut Vec<u8>, most: u64) -> Result<(), AllocError>
     ensures { bytes.new.items ≡ bytes.old.items }
@@ -46,17 +59,16 @@ fn reserve_for<F: OpenFile>(file: &F, bytes: &mut Vec<u8>, most: u64) -> Result<
 fn read_whole<R: Files>(rt: &R, alloc: Global, name: &str, most: u64) -> Result<Vec<u8>, ShelfFault>
     ensures { KeepsMost most result }
 {
-    let Ok(file) = fs::open(rt, name) else {
-        return Err(ShelfFault::Failed);
+    let file = match fs::open(rt, name) {
+        Ok(file) => file,
+        Err(e) => return Err(fault_of(&e)),
     };
     let mut bytes = Vec::new(alloc);
     if reserve_for(&file, &mut bytes, most).is_err() {
         return Err(ShelfFault::NoMemory);
     }
-    match file.take(most.saturating_add(1)).read_to_end(&mut bytes) {
-        Ok(_) => {}
-        Err(e) if e.kind() == ErrorKind::OutOfMemory => return Err(ShelfFault::NoMemory),
-        Err(_) => return Err(ShelfFault::Failed),
+    if let Err(e) = file.take(most.saturating_add(1)).read_to_end(&mut bytes) {
+        return Err(fault_of(&e));
     }
     let seen = bytes.len() as u64;
     if seen > most {

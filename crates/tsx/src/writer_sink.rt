@@ -1,5 +1,6 @@
 // A sink over a writer, as standard output is.
-ghost use Rattle.std.specs.Prelude.{◌≡◌, ◌≤◌, ◌<◌, [], length, false, IfSome};
+ghost use Rattle.std.specs.Prelude.{◌≡◌, ◌<◌, [], length, false};
+ghost use Rattle.ts_link.specs.Sink.{TakesSome};
 
 use crate::count::raised;
 use std::io::{ErrorKind, Write};
@@ -27,20 +28,21 @@ impl<W: Write + Drop> WriterSink<W> {
     }
 }
 
-// One write, begun again as often as a signal breaks it off; none where it failed or took nothing.
-fn write_some<W: Write>(writer: &mut W, piece: &[u8]) -> Option<usize>
+// One write, begun again as often as a signal breaks it off. To take nothing is to fail.
+fn write_some<W: Write>(writer: &mut W, piece: &[u8]) -> Wrote
     requires { 0 < length piece.now }
-    ensures { IfSome result (λ n. (1 ≤ n) × (n ≤ length piece.now)) }
+    ensures { TakesSome result piece.now }
 {
     for _ in 0..u64::MAX {
         match writer.write(piece) {
-            Ok(0) => return None,
-            Ok(count) => return Some(count),
+            Ok(0) => return Wrote::Failed,
+            Ok(count) => return Wrote::Took(count),
             Err(e) if e.kind() == ErrorKind::Interrupted => {}
-            Err(_) => return None,
+            Err(e) if e.kind() == ErrorKind::OutOfMemory => return Wrote::NoMemory,
+            Err(_) => return Wrote::Failed,
         }
     }
-    None
+    Wrote::Failed
 }
 
 impl<W: Write + Drop> Sink for WriterSink<W> {
@@ -53,12 +55,12 @@ impl<W: Write + Drop> Sink for WriterSink<W> {
     ghost lacks = { λ s. s.lacks };
 
     fn write(&mut self, piece: &[u8]) -> Wrote {
-        match write_some(&mut self.writer, piece) {
-            Some(count) => Wrote::Took(count),
-            None => {
-                self.faults = raised(self.faults);
-                Wrote::Failed
-            }
+        let wrote = write_some(&mut self.writer, piece);
+        match wrote {
+            Wrote::Took(_) => {}
+            Wrote::Failed => self.faults = raised(self.faults),
+            Wrote::NoMemory => self.lacks = raised(self.lacks),
         }
+        wrote
     }
 }
