@@ -10,12 +10,12 @@ use ts_journal::{Event, Slotted};
 
 /// Something that is done in steps.
 pub trait Part {
-    /// How many steps are left at most.
+    /// How many steps are left.
     ghost steps: { Self → ℕ };
 
     /// Does one step, and answers whether there was one to do.
     fn step(&mut self) -> bool
-        ensures { MatchBool result (steps self.new + 1 ≤ steps self.old) (steps self.new ≡ steps self.old) };
+        ensures { MatchBool result (steps self.new + 1 ≡ steps self.old) ((steps self.old ≡ 0) × (steps self.new ≡ steps self.old)) };
 }
 
 /// A part that counts down to zero.

@@ -1,5 +1,5 @@
 use crate::burst::{Burst, CALLER};
-use crate::drive::{Driven, drive, serve};
+use crate::drive::{Driven, ask_for, drive};
 use crate::heir::Heir;
 use crate::pair::{Adder, Asker};
 use crate::steps::{Countdown, Steps};
@@ -182,7 +182,7 @@ fn a_group_asks_another(rt: HostRuntime) -> Result<(), Fail> {
         return Err("it asks")?;
     };
     assert_eq!(rt; (group, question), (1, 7));
-    serve(&mut asker, &mut adder, group, question, 0);
+    ask_for(&mut asker, &mut adder, group, question, 0)?;
     assert_eq!(rt; asker.world().last, 8);
     assert_eq!(rt; asker.world().todo, 6);
     assert_eq!(rt; adder.world().count, 1);
