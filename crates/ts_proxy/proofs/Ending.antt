@@ -1,4 +1,5 @@
 -- From the answer of a command to the status of the program.
+use Rattle.std.specs.Prelude.{⊤}
 use Rattle.std.proofs.Common.{◌∷◌, ◌≡◌, ℕ, nat_le, Bool, true, false, List, [], ◌++◌, length, Option, Some, None, inl, inr, ◌⊎◌, refl, sym, subst, ◌∙◌, if◌then◌else◌}
 use Rattle.std.proofs.lemmas.List.{append-nil}
 use Rattle.ts_proxy.specs.declared.answer.Answer.{Answer}
@@ -10,8 +11,16 @@ use Rattle.ts_config.specs.Bodies.{compose_lines}
 use Rattle.ts_proxy.specs.Took.{TookFront}
 use Rattle.ts_proxy.specs.Outcome.{Outcome, Usage, BadLine, Missing, Long, Text, opened, understood, line_filled, filled, transformed}
 use Rattle.ts_link.specs.Counts.{Rose}
-use Rattle.ts_proxy.specs.Answers.{IsText, IsCommand, IsCausedBy, ComesAt, TookText, TookAt}
+use Rattle.ts_proxy.specs.Answers.{IsText, IsCausedBy, ComesAt, TookText, TookAt}
 use Rattle.ts_proxy.specs.Ends.{status_of, EndsAt, TakesAt}
+
+-- the outcome of a command
+abbrev IsCommand : Outcome → Type 0
+IsCommand Usage = ⊥
+IsCommand (BadLine n k) = ⊤
+IsCommand (Missing name) = ⊤
+IsCommand (Long name) = ⊤
+IsCommand (Text t) = ⊤
 
 within-command : (b : Bool) (name : List ℕ) (o : Outcome) → IsCommand o → IsCommand (if b then o else Long name)
 within-command true name o h = h
@@ -67,7 +76,7 @@ ends-any (Long name) h = (inr (inl refl), inr (inr refl))
 ends-any (Text t) h = (inr (inl refl), inr (inr (inr refl)))
 
 -- the status of an answer that comes at the outcome of a command
-pub ends-comes : (config body : List ℕ) (answer : Answer) (o : Outcome) → IsCommand o → ComesAt config body answer o → EndsAt o (status_of answer)
+ends-comes : (config body : List ℕ) (answer : Answer) (o : Outcome) → IsCommand o → ComesAt config body answer o → EndsAt o (status_of answer)
 ends-comes config body a.Done o command comes = (ends-text o comes).0
 ends-comes config body a.Usage o command comes = absurd (subst IsCommand comes command)
 ends-comes config body (a.BadLine f) o command comes = subst (λ p. EndsAt p 3) (sym comes) (inl refl)

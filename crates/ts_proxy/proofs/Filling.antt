@@ -1,19 +1,34 @@
 -- The lines of a configuration, filled one by one.
-use Rattle.std.proofs.Common.{◌≡◌, All, Contains, ℕ, zero, suc, List, [], ◌∷◌, ◌++◌, length, Option, arith, refl, sym, ap, ◌∙◌, append_assoc, length-append, subst}
+use Rattle.std.proofs.Common.{◌≡◌, All, ℕ, suc, List, [], ◌∷◌, ◌++◌, Option, arith, sym, ap, ◌∙◌, append_assoc, subst}
 use mathlib.Core.Path.{fun_ext}
-use Rattle.std.proofs.lemmas.List.{get_or_at}
 use Rattle.ts_config.specs.declared.setup.TransformLine.{TransformLine}
-use Rattle.ts_config.specs.declared.setup.TransformLine.TheVariants as t
 use Rattle.ts_proxy.specs.declared.answer.Answer.{Answer}
 use Rattle.ts_proxy.specs.declared.answer.Answer.TheVariants as a
 use Rattle.ts_proxy.specs.declared.answer.NamedFile.{NamedFile}
-use Rattle.ts_proxy.specs.declared.answer.NamedFile.TheVariants as file
-use Rattle.ts_proxy.specs.Outcome.{Outcome, line_filled, filled}
-use Rattle.ts_proxy.specs.Answers.{ComesAt, IsNamedBy, OnCannotRead}
+use Rattle.ts_proxy.specs.Outcome.{Outcome, Text, line_filled, filled}
+use Rattle.ts_proxy.specs.Answers.{IsText, IsNamedBy, ComesTo, OnCannotRead}
 
--- all lines but those that are left were filled
+-- all lines but those that are left were filled, so the work comes to what it comes to on these
 pub record FillsBut (files : List ℕ → Option (List ℕ)) (all : List TransformLine) (found : List TransformLine) (left : List TransformLine) : Type 0 where
   pub goes : (next : List TransformLine → Outcome) → filled files all next ≡ filled files left (λ ls. next (found ++ ls))
+  pub comes : (f : NamedFile) → ComesTo files left f → ComesTo files all f
+
+-- the work comes to the file of the first line
+comes-first : (files : List ℕ → Option (List ℕ)) (left left' : List TransformLine) (line : TransformLine) (f : NamedFile)
+    → left ≡ line ∷ left' → IsNamedBy line f → ComesTo files left f
+comes-first files left left' line f is names = record { before = []; line = line; after = left'; stands = is; names = names; read = tt }
+
+-- if the first line was filled, the work comes to what it comes to on the others
+comes-behind : (files : List ℕ → Option (List ℕ)) (left left' : List TransformLine) (line : TransformLine) (first : TransformLine) (f : NamedFile)
+    → left ≡ line ∷ left' → ((next : TransformLine → Outcome) → line_filled files line next ≡ next first) → ComesTo files left' f → ComesTo files left f
+comes-behind files left left' line first f is fills comes = record {
+  before = line ∷ comes.before;
+  line = comes.line;
+  after = comes.after;
+  stands = is ∙ ap (λ ls. line ∷ ls) comes.stands;
+  names = comes.names;
+  read = subst IsText (sym (fills (λ one. filled files comes.before (λ ls. Text [])))) comes.read;
+}
 
 -- one line more was filled
 pub fills-more : (files : List ℕ → Option (List ℕ)) (all left left' : List TransformLine) (found found' : List TransformLine) (line : TransformLine) (first : TransformLine)
@@ -25,39 +40,19 @@ fills-more files all left left' found found' line first before is fills more = r
       ∙ ap (λ ls. filled files ls (λ rest. next (found ++ rest))) is
       ∙ fills (λ one. filled files left' (λ rest. next (found ++ one ∷ rest)))
       ∙ ap (filled files left') (fun_ext (λ rest. ap next (sym (append_assoc found (first ∷ []) rest) ∙ ap (λ l. l ++ rest) (sym more))));
+  comes = λ f come. before.comes f (comes-behind files left left' line first f is fills come);
 }
 
--- the answer of the line that could not be filled is that of all lines
-pub fills-stopped : (files : List ℕ → Option (List ℕ)) (all left left' : List TransformLine) (found : List TransformLine) (line : TransformLine)
-    (config body : List ℕ) (answer : Answer) (next : List TransformLine → Outcome)
-    → FillsBut files all found left → left ≡ line ∷ left' → ((k : TransformLine → Outcome) → ComesAt config body answer (line_filled files line k))
-    → ComesAt config body answer (filled files all next)
-fills-stopped files all left left' found line config body answer next before is comes =
-    subst (λ o. ComesAt config body answer o) (sym (before.goes next ∙ ap (λ ls. filled files ls (λ rest. next (found ++ rest))) is))
-    (comes (λ one. filled files left' (λ rest. next (found ++ one ∷ rest))))
-
--- a file that one line names is named by all
-contained-among : (xs rest : List TransformLine) (line one : TransformLine) → Contains (line ∷ []) one → Contains (xs ++ line ∷ rest) one
-contained-among xs rest line one (zero, below, is) = (length xs, omega (arith, length-append xs (line ∷ rest)), get_or_at xs line rest one (length xs) refl ∙ is)
-contained-among xs rest line one (suc k, below, is) = absurd (omega arith)
-
-named-among : (xs rest : List TransformLine) (line : TransformLine) (f : NamedFile) → IsNamedBy (line ∷ []) f → IsNamedBy (xs ++ line ∷ rest) f
-named-among xs rest line file.Config named = named
-named-among xs rest line file.Body named = named
-named-among xs rest line (file.Appended name) (text, among) = (text, contained-among xs rest line (t.Append name text) among)
-
-pub stopped-named : (all xs rest : List TransformLine) (line : TransformLine) (answer : Answer) → all ≡ xs ++ line ∷ rest
-    → OnCannotRead answer (IsNamedBy (line ∷ [])) → OnCannotRead answer (IsNamedBy all)
-stopped-named all xs rest line answer is named = subst (λ ls. OnCannotRead answer (IsNamedBy ls)) (sym is) (among answer named)
-  where
-    among : (answer : Answer) → OnCannotRead answer (IsNamedBy (line ∷ [])) → OnCannotRead answer (IsNamedBy (xs ++ line ∷ rest))
-    among a.Done h = h
-    among a.Usage h = h
-    among (a.BadLine f) h = h
-    among (a.CannotRead f) h = named-among xs rest line f h
-    among a.CannotWrite h = h
-    among a.OutOfMemory h = h
-    among (a.TooLong f) h = h
+-- the work comes to the file of the line that could not be filled
+pub stopped-comes : (files : List ℕ → Option (List ℕ)) (all left left' : List TransformLine) (found : List TransformLine) (line : TransformLine) (answer : Answer)
+    → FillsBut files all found left → left ≡ line ∷ left' → OnCannotRead answer (IsNamedBy line) → OnCannotRead answer (ComesTo files all)
+stopped-comes files all left left' found line a.Done before is names = tt
+stopped-comes files all left left' found line a.Usage before is names = tt
+stopped-comes files all left left' found line (a.BadLine b) before is names = tt
+stopped-comes files all left left' found line (a.CannotRead f) before is names = before.comes f (comes-first files left left' line f is names)
+stopped-comes files all left left' found line a.CannotWrite before is names = tt
+stopped-comes files all left left' found line a.OutOfMemory before is names = tt
+stopped-comes files all left left' found line (a.TooLong f) before is names = tt
 
 -- what holds of all lines holds of the first and of the others
 pub all-first : (P : TransformLine → Type 0) (ls rest : List TransformLine) (l : TransformLine) → ls ≡ l ∷ rest → All P ls → P l × All P rest

@@ -1,5 +1,5 @@
 -- When each answer of a command comes, and what it leaves.
-use Rattle.std.specs.Prelude.{◌≡◌, ℕ, ◌++◌, List, [], ◌∷◌, ⊤, Option, IsSomeAnd, Contains, Result, Ok, Err}
+use Rattle.std.specs.Prelude.{◌≡◌, ℕ, ◌≤◌, ◌++◌, List, [], ◌∷◌, length, ⊤, Option, IsSomeAnd, Result, Ok, Err}
 use Rattle.ts_link.specs.Counts.{Rose}
 use Rattle.ts_link.specs.declared.shelf.ShelfFault.{ShelfFault}
 use Rattle.ts_link.specs.declared.shelf.ShelfFault.TheVariants as fault
@@ -11,8 +11,8 @@ use Rattle.ts_proxy.specs.declared.answer.NamedFile.{NamedFile}
 use Rattle.ts_proxy.specs.declared.answer.NamedFile.TheVariants as file
 use Rattle.ts_config.specs.declared.setup.TransformLine.{TransformLine}
 use Rattle.ts_config.specs.declared.setup.TransformLine.TheVariants as t
-use Rattle.ts_config.specs.Value.{Reading, Good, Bad, config_of}
-use Rattle.ts_proxy.specs.Outcome.{Outcome, Usage, BadLine, Missing, Long, Text, set_up}
+use Rattle.ts_config.specs.Value.{Good, config_of}
+use Rattle.ts_proxy.specs.Outcome.{Outcome, Usage, BadLine, Missing, Long, Text, filled, set_up}
 use Rattle.ts_proxy.specs.Took.{TookFront}
 
 -- the name of a file of a command with these names of its configuration and its body
@@ -34,13 +34,6 @@ IsText (Missing name) = ⊥
 IsText (Long name) = ⊥
 IsText (Text t) = ⊤
 
-abbrev pub IsCommand : Outcome → Type 0
-IsCommand Usage = ⊥
-IsCommand (BadLine n k) = ⊤
-IsCommand (Missing name) = ⊤
-IsCommand (Long name) = ⊤
-IsCommand (Text t) = ⊤
-
 -- at which outcome an answer comes; a failed read and want of memory may come at any
 abbrev pub ComesAt : List ℕ → List ℕ → Answer → Outcome → Type 0
 ComesAt config body a.Done o = IsText o
@@ -56,22 +49,29 @@ abbrev pub Leads : {X : Type 0} → List ℕ → List ℕ → Result X Answer �
 Leads config body (Ok x) o next = o ≡ next x
 Leads config body (Err answer) o next = ComesAt config body answer o
 
--- the file whose read failed is named by these lines
-abbrev pub IsNamedBy : List TransformLine → NamedFile → Type 0
-IsNamedBy ls file.Config = ⊥
-IsNamedBy ls file.Body = ⊥
-IsNamedBy ls (file.Appended name) = (text : List ℕ) × Contains ls (t.Append name text)
+-- the file of an append line
+abbrev pub IsNamedBy : TransformLine → NamedFile → Type 0
+IsNamedBy line file.Config = ⊥
+IsNamedBy line file.Body = ⊥
+IsNamedBy line (file.Appended name) = (text : List ℕ) × (line ≡ t.Append name text)
 
-abbrev pub IsNamedIn : Reading → NamedFile → Type 0
-IsNamedIn (Good ls) f = IsNamedBy ls f
-IsNamedIn (Bad n k) f = ⊥
+-- the work on these lines comes to a file: a line names it, and the files of all lines before that one are there within
+-- their limit
+pub record ComesTo (files : List ℕ → Option (List ℕ)) (lines : List TransformLine) (f : NamedFile) : Type 0 where
+  pub before : List TransformLine
+  pub line : TransformLine
+  pub after : List TransformLine
+  pub stands : lines ≡ before ++ line ∷ after
+  pub names : IsNamedBy line f
+  pub read : IsText (filled files before (λ ls. Text []))
 
--- the file whose read failed is one that the command of this configuration comes to: the configuration, a file that a
--- line of it names, or the body, once all the others were read
+-- the file whose read failed is one that the work comes to: the configuration; if that is there within its limit and has
+-- no faulty line, a file that the work on its lines comes to; and the body, once all the others were read
 abbrev pub IsReadBy : (List ℕ → Option (List ℕ)) → List ℕ → NamedFile → Type 0
 IsReadBy files config file.Config = ⊤
 IsReadBy files config file.Body = IsText (set_up files config (λ lines. Text []))
-IsReadBy files config (file.Appended name) = IsSomeAnd (files config) (λ bytes. IsNamedIn (config_of bytes) (file.Appended name))
+IsReadBy files config (file.Appended name) = IsSomeAnd (files config) (λ bytes. (length bytes ≤ 1048576)
+    × (lines : List TransformLine) × (config_of bytes ≡ Good lines) × ComesTo files lines (file.Appended name))
 
 -- what is said of the file of a failed read
 abbrev pub OnCannotRead : Answer → (NamedFile → Type 0) → Type 0

@@ -6,7 +6,7 @@ ghost use Rattle.ts_config.specs.declared.setup.TransformLine.{TransformLine};
 ghost use Rattle.ts_config.specs.declared.setup.TransformLine.TheVariants as t;
 ghost use Rattle.ts_proxy.specs.declared.answer.NamedFile.TheVariants as named;
 ghost use Rattle.ts_proxy.specs.Outcome.{Outcome, opened, line_filled, filled, set_up};
-ghost use Rattle.ts_proxy.specs.Answers.{Leads, IsOfReading, OnCannotRead, IsNamedBy, IsReadBy};
+ghost use Rattle.ts_proxy.specs.Answers.{Leads, IsOfReading, OnCannotRead, IsNamedBy, ComesTo, IsReadBy};
 
 use crate::answer::{Answer, NamedFile, refused};
 use std::alloc::Global;
@@ -47,7 +47,7 @@ fn fill_one<S: Shelf>(
     requires { HasFileName line }
     ensures told { S.tells ≡ true → (config body : List ℕ) (next : TransformLine → Outcome) →
         Leads config body result (line_filled (S.file shelf.old) line next) next }
-    ensures named { IfErr result (λ a. OnCannotRead a (IsNamedBy (line ∷ []))) }
+    ensures named { IfErr result (λ a. OnCannotRead a (IsNamedBy line)) }
     ensures files { S.tells ≡ true → S.file shelf.new ≡ S.file shelf.old }
     ensures same { OnOk result ((S.faults shelf.new ≡ S.faults shelf.old) × (S.longs shelf.new ≡ S.longs shelf.old)) }
     ensures cause { IfErr result (λ a. IsOfReading a (S.faults shelf.old) (S.faults shelf.new) (S.longs shelf.old) (S.longs shelf.new)) }
@@ -74,7 +74,7 @@ fn fill_lines<S: Shelf>(
     requires { All HasFileName lines.items }
     ensures told { S.tells ≡ true → (config body : List ℕ) (next : List TransformLine → Outcome) →
         Leads config body result (filled (S.file shelf.old) lines.items next) (λ ls. next ls.items) }
-    ensures named { IfErr result (λ a. OnCannotRead a (IsNamedBy lines.items)) }
+    ensures named { S.tells ≡ true → IfErr result (λ a. OnCannotRead a (ComesTo (S.file shelf.old) lines.items)) }
     ensures files { S.tells ≡ true → S.file shelf.new ≡ S.file shelf.old }
     ensures same { OnOk result ((S.faults shelf.new ≡ S.faults shelf.old) × (S.longs shelf.new ≡ S.longs shelf.old)) }
     ensures cause { IfErr result (λ a. IsOfReading a (S.faults shelf.old) (S.faults shelf.new) (S.longs shelf.old) (S.longs shelf.new)) }

@@ -62,7 +62,7 @@ fn rows(rt: HostRuntime) -> Result<(), Fail> {
         ("tail.txt", b"XY"),
         ("b", b"abc"),
     ];
-    let table: [(&[(&str, &[u8])], &[&str], u64, u8, &[u8], &[u8]); 17] = [
+    let table: [(&[(&str, &[u8])], &[&str], u64, u8, &[u8], &[u8]); 20] = [
         (append, &["transform", "c", "b"], 0, 0, b"abcXY", b""),
         (
             &[
@@ -128,6 +128,51 @@ fn rows(rt: HostRuntime) -> Result<(), Fail> {
             3,
             b"",
             b"tsx: configuration line 1: plugin\n",
+        ),
+        (
+            &[
+                (
+                    "c",
+                    b"prepend.so <\nappend_transform.so g\nbnull_transform.so",
+                ),
+                ("g", b">"),
+                ("b", b"a"),
+            ],
+            &["transform", "c", "b"],
+            0,
+            0,
+            b"<a>",
+            b"",
+        ),
+        (
+            &[
+                (
+                    "c",
+                    b"append_transform.so g\nprepend.so <\nbnull_transform.so",
+                ),
+                ("g", b">"),
+                ("b", b"a"),
+            ],
+            &["transform", "c", "b"],
+            0,
+            0,
+            b"<a>",
+            b"",
+        ),
+        (
+            &[
+                (
+                    "c",
+                    b"map.so > ]\nprepend.so <\nappend_transform.so g\nbnull_transform.so",
+                ),
+                ("g", b">"),
+                ("b", b"a"),
+            ],
+            &["transform", "c", "b"],
+            0,
+            0,
+            b"<a>",
+            b"",
         ),
         (
             &[
@@ -295,26 +340,65 @@ fn long_rows(rt: HostRuntime) -> Result<(), Fail> {
     Ok(())
 }
 
-// Reads that fail, the text of an append at its limit and above it, and an error sink that fails: it keeps the status.
+// Reads that fail, the text of an append at its limit and above it, files that are not there or too long, of which the
+// first is named, and an error sink that fails: it keeps the status.
 #[test]
 fn failures(rt: HostRuntime) -> Result<(), Fail> {
     let alloc = rt.alloc();
+    let one: &[u8] = b"append_transform.so tail.txt";
+    let two: &[u8] = b"append_transform.so x\nappend_transform.so y";
     let (most, more) = (vec![in alloc; b't'; 16_384]?, vec![in alloc; b't'; 16_385]?);
-    let table: [(&[u8], u64, u64, u8, &[u8], &[u8]); 6] = [
-        (b"XY", 1, 0, 5, b"", b"tsx: cannot read c\n"),
-        (b"XY", 2, 0, 5, b"", b"tsx: cannot read tail.txt\n"),
-        (b"XY", 3, 0, 5, b"", b"tsx: cannot read b\n"),
-        (b"XY", 2, 1, 5, b"", b""),
-        (most.as_slice(), 0, 0, 0, most.as_slice(), b""),
-        (more.as_slice(), 0, 0, 9, b"", b"tsx: too long: tail.txt\n"),
+    let (most, more) = (most.as_slice(), more.as_slice());
+    let table: [(&[u8], &str, &[u8], u64, u64, u8, &[u8], &[u8]); 9] = [
+        (
+            one,
+            "tail.txt",
+            b"XY",
+            1,
+            0,
+            5,
+            b"",
+            b"tsx: cannot read c\n",
+        ),
+        (
+            one,
+            "tail.txt",
+            b"XY",
+            2,
+            0,
+            5,
+            b"",
+            b"tsx: cannot read tail.txt\n",
+        ),
+        (
+            one,
+            "tail.txt",
+            b"XY",
+            3,
+            0,
+            5,
+            b"",
+            b"tsx: cannot read b\n",
+        ),
+        (one, "tail.txt", b"XY", 2, 1, 5, b"", b""),
+        (one, "tail.txt", most, 0, 0, 0, most, b""),
+        (
+            one,
+            "tail.txt",
+            more,
+            0,
+            0,
+            9,
+            b"",
+            b"tsx: too long: tail.txt\n",
+        ),
+        (two, "z", b"", 0, 0, 5, b"", b"tsx: cannot read x\n"),
+        (two, "x", more, 0, 0, 9, b"", b"tsx: too long: x\n"),
+        (two, "y", more, 0, 0, 5, b"", b"tsx: cannot read x\n"),
     ];
-    for (tail, unread, untold, status, out, err) in table {
+    for (config, name, text, unread, untold, status, out, err) in table {
         let row = Row {
-            files: &[
-                ("c", b"append_transform.so tail.txt"),
-                ("tail.txt", tail),
-                ("b", b""),
-            ],
+            files: &[("c", config), (name, text), ("b", b"")],
             words: &["transform", "c", "b"],
             unread,
             failing: 0,

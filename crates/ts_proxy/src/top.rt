@@ -66,8 +66,8 @@ pub fn run<S: Shelf, K: Sink, E: Sink>(
     ensures usage { (result.status ≡ 2) ↔ (is_transform (map string_bytes words.now) ≡ false) }
     ensures known { IsStatus result.status }
 
-    // Each other status comes at its outcome, and at each outcome its status comes, unless a read failed or memory
-    // lacked.
+    // Status 0, 3 or 9 comes at its outcome alone, and at each outcome its own status comes, unless a read failed (5),
+    // memory lacked (7) or, where there is a text, a write failed (6).
     ensures ends { S.tells ≡ true → EndsAt (outcome_of (S.file shelf.old) (map string_bytes words.now)) result.status }
 
     // A failure is one of the shelf or the sink that was handed in.
@@ -89,7 +89,8 @@ pub fn run<S: Shelf, K: Sink, E: Sink>(
     // the event that is due first, and what is set while it does, until nothing is pending.
     ensures journals { JournalsAt result.status result.journals.items }
 
-    // What err took: the line of an answer that has this status, and that comes at the outcome.
+    // What err took: the line of an answer that has this status, and that comes at the outcome. After a failed read it
+    // names a file that the work came to.
     ensures line { (answer : Answer)
         × SaysLine E.tells result.status (word 1 (map string_bytes words.now)) (word 2 (map string_bytes words.now))
         (E.taken err.old) (E.taken err.new) (E.faults err.old) (E.faults err.new) (E.lacks err.old) (E.lacks err.new) answer

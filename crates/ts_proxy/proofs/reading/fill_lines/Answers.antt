@@ -1,33 +1,26 @@
-use Rattle.std.proofs.Common.{◌++◌, ◌∷◌, [], ap, sym, ◌∙◌, append_assoc}
+use Rattle.std.proofs.Common.{[], ap, sym, ◌∙◌}
 use Rattle.ts_proxy.specs.Outcome.{line_filled}
 use Rattle.ts_config.specs.Setup.{HasFileName}
-use Rattle.ts_proxy.proofs.Filling.{all-first, fills-more, stopped-named}
+use Rattle.ts_proxy.proofs.Filling.{all-first, fills-more, stopped-comes}
 use Rattle.ts_proxy.proofs.reading.fill_lines.Goals as goal
 
 pub fill_one-requires : goal.fill_one-requires
 fill_one-requires g c = (all-first HasFileName c.loop-line.lines.items c.pop_front.new.self.items c.in-Some.line c.in-Some.ensures.items c.loop-line.invariant.names).0
 
 pub returns-in-Err-clause-named : goal.returns-in-Err-clause-named
-returns-in-Err-clause-named g c =
-    let passed = c.loop-line.invariant.passed in
-    stopped-named c.args.lines.items passed.0 c.pop_front.new.self.items c.in-Some.line c.in-Err.answer
-    (passed.1 ∙ ap (λ ls. passed.0 ++ ls) c.in-Some.ensures.items) c.in-Err.ensures.named
+returns-in-Err-clause-named g c = λ tells.
+    stopped-comes (g.S.Shelf.file c.args.shelf.now) c.args.lines.items c.loop-line.lines.items c.pop_front.new.self.items c.loop-line.found.items
+    c.in-Some.line c.in-Err.answer (c.loop-line.invariant.told tells) c.in-Some.ensures.items c.in-Err.ensures.named
 
 pub loop-line-preserved : goal.loop-line-preserved
-loop-line-preserved g c =
-    let passed = c.loop-line.invariant.passed in
-    record {
-      told = λ tells.
-          fills-more (g.S.Shelf.file c.args.shelf.now) c.args.lines.items c.loop-line.lines.items c.pop_front.new.self.items c.loop-line.found.items
-          c.keep.new.found.items c.in-Some.line c.in-Ok.filled (c.loop-line.invariant.told tells) c.in-Some.ensures.items
-          (λ next. ap (λ files. line_filled files c.in-Some.line next) (sym (c.loop-line.invariant.files tells)) ∙ c.in-Ok.ensures.told tells [] [] next)
-          c.in-Ok-keep.ensures;
-      passed = (
-        passed.0 ++ c.in-Some.line ∷ [],
-        passed.1 ∙ ap (λ ls. passed.0 ++ ls) c.in-Some.ensures.items ∙ sym (append_assoc passed.0 (c.in-Some.line ∷ []) c.pop_front.new.self.items),
-      );
-      names = (all-first HasFileName c.loop-line.lines.items c.pop_front.new.self.items c.in-Some.line c.in-Some.ensures.items c.loop-line.invariant.names).1;
-      files = λ tells. c.in-Ok.ensures.files tells ∙ c.loop-line.invariant.files tells;
-      faults = c.in-Ok.ensures.same.0 ∙ c.loop-line.invariant.faults;
-      longs = c.in-Ok.ensures.same.1 ∙ c.loop-line.invariant.longs;
-    }
+loop-line-preserved g c = record {
+  told = λ tells.
+      fills-more (g.S.Shelf.file c.args.shelf.now) c.args.lines.items c.loop-line.lines.items c.pop_front.new.self.items c.loop-line.found.items
+      c.keep.new.found.items c.in-Some.line c.in-Ok.filled (c.loop-line.invariant.told tells) c.in-Some.ensures.items
+      (λ next. ap (λ files. line_filled files c.in-Some.line next) (sym (c.loop-line.invariant.files tells)) ∙ c.in-Ok.ensures.told tells [] [] next)
+      c.in-Ok-keep.ensures;
+  names = (all-first HasFileName c.loop-line.lines.items c.pop_front.new.self.items c.in-Some.line c.in-Some.ensures.items c.loop-line.invariant.names).1;
+  files = λ tells. c.in-Ok.ensures.files tells ∙ c.loop-line.invariant.files tells;
+  faults = c.in-Ok.ensures.same.0 ∙ c.loop-line.invariant.faults;
+  longs = c.in-Ok.ensures.same.1 ∙ c.loop-line.invariant.longs;
+}

@@ -1,6 +1,5 @@
-use Rattle.std.proofs.Common.{◌≡◌, List, ◌++◌, All, true}
+use Rattle.std.proofs.Common.{◌≡◌, All, true}
 use Rattle.std.specs.VecDeque.{deque_len}
-use Rattle.ts_config.specs.declared.setup.TransformLine.{TransformLine}
 use Rattle.ts_config.specs.Setup.{HasFileName}
 use Rattle.ts_proxy.proofs.Filling.{FillsBut}
 use Rattle.ts_proxy.proofs.reading.fill_lines.Given as goal
@@ -9,7 +8,6 @@ use Rattle.ts_proxy.proofs.reading.fill_lines.Given as goal
 abbrev pub invariant-loop-line : goal.invariant-loop-line
 invariant-loop-line g l = record {
   told : g.S.Shelf.tells ≡ true → FillsBut (g.S.Shelf.file l.initial.shelf) l.initial.lines.items l.found.items l.lines.items;
-  passed : (xs : List TransformLine) × (l.initial.lines.items ≡ xs ++ l.lines.items);
   names : All HasFileName l.lines.items;
   files : g.S.Shelf.tells ≡ true → g.S.Shelf.file l.shelf ≡ g.S.Shelf.file l.initial.shelf;
   faults : g.S.Shelf.faults l.shelf ≡ g.S.Shelf.faults l.initial.shelf;
