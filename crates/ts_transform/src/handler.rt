@@ -15,7 +15,7 @@ ghost use Rattle.ts_transform.specs.Cover.{IsDriven, IsDrivenBut, IsDrivenFor, I
 use crate::chain::Chain;
 use crate::continuation::{Rouser, StageContinuation, works};
 use crate::pump::Pumped;
-use crate::rousing::{unrouse_for, mark_error_passed, rouse_at, take_at, tell};
+use crate::rousing::{mark_error_passed, rouse_at, take_at, tell, unrouse_for};
 use crate::transform::Transform;
 use ts_group::{Cx, SetFault};
 use ts_journal::Event;

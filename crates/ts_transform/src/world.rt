@@ -1,14 +1,17 @@
 // A chain with its body, as a world of a mutex group.
-ghost use Rattle.std.specs.Prelude.{◌≡◌, ℕ, ◌+◌, ◌*◌, ◌<◌, ◌≤◌, ◌++◌, List, [], length, take, drop, map, true, false, refl, Some, None, IfOk, IfErr, IfSome, OnOk, OnErr};
+ghost use Rattle.std.specs.Prelude.{◌≡◌, ℕ, ◌+◌, ◌*◌, ◌<◌, ◌≤◌, ◌⊎◌, ◌++◌, List, [], length, take, drop, map, true, false, refl, Some, None, IfOk, IfErr, IfSome, OnOk, OnErr};
 ghost use Rattle.ts_group.specs.declared.action.SetFault.TheVariants.{Dead};
 ghost use Rattle.ts_journal.specs.declared.entry.Pending.{Pending};
 ghost use Rattle.ts_group.specs.declared.action.Named.{Named};
-ghost use Rattle.ts_group.specs.Context.{Context, AllPlain};
+ghost use Rattle.ts_group.specs.declared.world.Want.TheVariants as Want;
+ghost use Rattle.ts_group.specs.Calls.{IsCalled};
+ghost use Rattle.ts_group.specs.Context.{Context, AllPlain, IsSame};
+ghost use Rattle.ts_journal.specs.declared.entry.Event.TheVariants.{Error, WriteComplete};
 ghost use Rattle.ts_group.specs.Entries.{Grows};
-ghost use Rattle.ts_transform.specs.Flow.{flow, compose, left_to_do, last_wait, last_ended, fresh_stage, pause_at, aborted, IsFinished, PumpsOnce, Takes};
+ghost use Rattle.ts_transform.specs.Flow.{flow, compose, left_to_do, last_wait, last_ended, fresh_stage, pause_at, aborted, ended_at, IsFinished, MustPump, PumpsAt, PumpsOnce, Takes};
 ghost use Rattle.ts_transform.specs.declared.continuation.StageContinuation.{StageContinuation};
-ghost use Rattle.ts_transform.specs.Driving.{Keeps, HasEventIf, all_unroused, errors_to_pass, last_of};
-ghost use Rattle.ts_transform.specs.Cover.{IsSound, IsDriven, IsAwake};
+ghost use Rattle.ts_transform.specs.Driving.{AreNamed, IsTold, IsClosed, IsCalledUnless, Keeps, SetsOnly, SetsFew, HasEventIf, all_unroused, changed, error_passed, errors_to_pass, may_pass_error_at, works_at, last_of};
+ghost use Rattle.ts_transform.specs.Cover.{IsSound, IsDriven, IsAwake, MaySet};
 
 use crate::chain::Chain;
 use crate::continuation::StageContinuation;
@@ -188,7 +191,42 @@ impl<P: Transform + Drop> World for ChainWorld<P> {
         }
     }
 
-    fn handle(&mut self, role: u32, event: Event, cx: &mut Cx) -> Want<()> {
+    fn handle(&mut self, role: u32, event: Event, cx: &mut Cx) -> Want<()>
+        requires turn { cx.old.log.state.held ≡ true }
+        requires called { IsCalled (λ s roles. IsSound self.old s.pending roles) cx.old role event }
+        ensures nothing { result ≡ Want.Nothing }
+        ensures grows { Grows cx.old cx.new }
+        ensures sound { IsSound self.new cx.new.log.state.pending cx.new.roles }
+        ensures few { SetsFew 4 cx.old cx.new }
+        ensures flow { flow P.rest self.new.chain [] ≡ flow P.rest self.old.chain [] }
+        ensures pays { 100 * (left_to_do P.rest self.new.chain [] + errors_to_pass self.new.table.items) + length cx.new.log.state.pending
+            ≤ 100 * (left_to_do P.rest self.old.chain [] + errors_to_pass self.old.table.items) + length cx.old.log.state.pending }
+        ensures once_pumped { PumpsOnce P.rest self.old.chain self.new.chain }
+        ensures running { self.new.running ≡ true → self.old.running ≡ true }
+
+        // Of the stages only that of the role works, and only at an event for that; of another role all is left as it was.
+        ensures own { (at : ℕ) → role ≡ at + 1 → (self.new.chain ≡ self.old.chain) ⊎ PumpsAt P.rest at self.old.chain self.new.chain }
+        ensures idle { works_at event ≡ false → self.new.chain ≡ self.old.chain }
+        ensures other { (role ≡ 0) ⊎ (length self.old.table.items < role) → (self.new.chain ≡ self.old.chain) × (self.new.table.items ≡ self.old.table.items) × IsSame cx.old cx.new }
+        ensures only { AreNamed cx.old.roles 1 self.old.table.items → (at : ℕ) → role ≡ at + 1
+            → SetsOnly (MaySet P.wait self.old.chain self.new.chain at event cx.old.moment cx.old.roles) cx.old cx.new }
+
+        // Where its stage had ended, its continuation is destroyed. While nothing was lost: where it ends, the stage
+        // before it is told so; where it did something, that stage is called if it must work, was not roused, and makes
+        // no pause; and the first time that it gets an error, it passes that on to that stage.
+        ensures closed { (at : ℕ) → role ≡ at + 1 → at < length self.old.table.items → length self.old.table.items ≡ length self.old.chain.stages
+            → ended_at self.old.chain.stages at ≡ true → IsClosed cx.old cx.new self.old.table.items at }
+        ensures ended { self.new.running ≡ true → (at : ℕ) → role ≡ at + 1 → ended_at self.old.chain.stages at ≡ false → ended_at self.new.chain.stages at ≡ true
+            → (j : ℕ) → j + 1 ≡ at → IsTold cx.new.log.state.pending WriteComplete self.new.table.items j }
+        ensures ready { self.new.running ≡ true → (self.new.chain ≡ self.old.chain → ⊥) → (at : ℕ) → role ≡ at + 1 → (j : ℕ) → j + 1 ≡ at
+            → pause_at P.wait self.new.chain.stages j ≡ 0 → MustPump self.new.chain.given self.new.chain.first self.new.chain.stages j
+            → IsCalledUnless self.old.table.items cx.new.log.state.pending self.new.table.items j }
+        ensures passed { self.new.running ≡ true → (at : ℕ) → role ≡ at + 1 → at < length self.old.table.items → length self.old.table.items ≡ length self.old.chain.stages
+            → event ≡ Error → ended_at self.old.chain.stages at ≡ false → may_pass_error_at self.old.table.items at ≡ true
+            → (j : ℕ) → j + 1 ≡ at → IsTold cx.new.log.state.pending Error self.new.table.items j }
+        ensures error_passed { (at : ℕ) → role ≡ at + 1 → at < length self.old.table.items → length self.old.table.items ≡ length self.old.chain.stages
+            → event ≡ Error → ended_at self.old.chain.stages at ≡ false → self.new.table.items ≡ changed error_passed self.old.table.items at }
+    {
         if let Err(_) = handle_stage(&mut self.chain, &mut self.table, role, event, cx) {
             self.running = false;
         }
