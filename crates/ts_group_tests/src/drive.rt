@@ -1,6 +1,6 @@
 //! What drives groups.
 
-ghost use Rattle.std.specs.Prelude.{◌≡◌, ℕ, ◌+◌, ◌<◌, ◌≤◌, true, false, List, [], ◌++◌, IsSome, IfOk, OnOk, OnErr};
+ghost use Rattle.std.specs.Prelude.{◌≡◌, ◌+◌, ◌<◌, true, false, List, ◌++◌, IsSome, IfOk, OnOk, OnErr};
 ghost use Rattle.ts_journal.specs.declared.entry.Entry.{Entry as Entries};
 ghost use Rattle.ts_journal.specs.State.{IsLive};
 ghost use Rattle.ts_journal.specs.Log.{Extends};

@@ -1,9 +1,8 @@
 //! A world that is generic over its part, and tells how much is left to do.
 
-ghost use Rattle.std.specs.Prelude.{◌≡◌, ℕ, ◌+◌, ◌*◌, ◌≤◌, true, refl, Some, length, MatchBool};
+ghost use Rattle.std.specs.Prelude.{◌≡◌, ℕ, ◌+◌, ◌*◌, true, refl, Some, length, MatchBool};
 ghost use Rattle.ts_group.specs.Context.{AllPlain};
 ghost use Rattle.ts_group.specs.Entries.{Grows};
-ghost use Rattle.ts_group.specs.Calls.{IsCalled};
 
 use ts_group::{Asked, Cx, Want, World};
 use ts_journal::{Event, Slotted};

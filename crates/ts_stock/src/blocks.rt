@@ -1,5 +1,5 @@
 // Whole blocks of a body, changed on their way into the room of a buffer.
-ghost use Rattle.std.specs.Prelude.{◌≡◌, ◌==◌, ℕ, ◌<◌, ◌≤◌, ◌++◌, List, length, take, min, IfOk, OnErr};
+ghost use Rattle.std.specs.Prelude.{◌≡◌, ◌==◌, ◌<◌, ◌≤◌, length, take, min, IfOk, OnErr};
 ghost use Rattle.ts_config.specs.Bodies.{mapped, without};
 ghost use Rattle.ts_iobuf.specs.Buffer.{Grows};
 

@@ -7,7 +7,7 @@ ghost use Rattle.ts_group.specs.Entries.{Grows};
 ghost use Rattle.ts_transform.specs.Flow.{last_wait, pause_at};
 ghost use Rattle.ts_transform.specs.declared.continuation.StageContinuation.{StageContinuation};
 ghost use Rattle.ts_transform.specs.Driving.{SetsOnly, IsDueAfter, errors_to_pass, last_of};
-ghost use Rattle.ts_transform.specs.Cover.{IsSound, IsSoundGroup, IsAwake};
+ghost use Rattle.ts_transform.specs.Cover.{IsSoundGroup, IsAwake};
 
 use crate::transform::Transform;
 use crate::world::ChainWorld;

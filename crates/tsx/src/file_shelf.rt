@@ -5,11 +5,10 @@ ghost use Rattle.tsx.specs.Whole.{KeepsMost};
 
 use crate::count::raised;
 use std::alloc::{AllocError, Global};
-use std::fs;
 use std::fs::OpenFile;
-use std::io;
 use std::io::{ErrorKind, Read};
 use std::rt::Files;
+use std::{fs, io};
 use ts_link::{Octets, Shelf, ShelfFault};
 
 /// It tells nothing of its files.

@@ -13,5 +13,5 @@ taking-preserved c =
       idle = c.taking.invariant.idle;
       sound = c.take.ensures.sound cx.log.state.pending cx.roles
           (subst (λ w. IsSound w cx.log.state.pending cx.roles) (sym c.world_mut.ensures.value) c.taking.invariant.sound) awake;
-      awake = λ runs. c.take.ensures.awake (awake (sym c.take.ensures.kept.2 ∙ runs));
+      awake = λ runs. c.take.ensures.awake (awake (sym c.take.ensures.kept.1 ∙ runs));
     }
