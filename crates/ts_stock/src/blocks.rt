@@ -21,24 +21,69 @@ fn map_into(room: &mut [u8], input: &[u8], from: u8, to: u8) -> usize
     count
 }
 
-// Fills the front of the room with those bytes of the front of the input that are not `byte`, run by run. Answers how
-// long that front is, as long as the room or whole, and how many bytes of the room are filled.
+// A run shorter than this costs less byte by byte than by a search and a copy.
+const SHORT_RUN: usize = 16;
+
+// How many bytes are then taken byte by byte before the next search.
+const CLOSE_BYTES: usize = 64;
+
+// Fills the front of the room with the bytes of the input that are not `byte`, one after the other, without a branch.
+// Answers how many they are.
+fn drop_bytes(room: &mut [u8], input: &[u8], byte: u8) -> usize
+    requires { length input.now ≤ length room.old }
+    ensures within { result ≤ length input.now }
+    ensures bytes { take result room.new ≡ without byte input.now }
+{
+    let mut filled = 0;
+    for i in 0..input.len() {
+        let next = input[i];
+        room[filled] = next;
+        filled += usize::from(next != byte);
+    }
+    filled
+}
+
+// Fills the front of the room with those bytes of a front of the input that are not `byte`: of the run before the byte's
+// first place, or, where that is near, of some bytes. Answers how long that front is, and how many bytes are filled.
+fn drop_front(room: &mut [u8], input: &[u8], byte: u8) -> (usize, usize)
+    requires some { 0 < length input.now }
+    requires room { length input.now ≤ length room.old }
+    ensures front { (1 ≤ result.0) × (result.0 ≤ length input.now) }
+    ensures within { result.1 ≤ result.0 }
+    ensures bytes { take result.1 room.new ≡ without byte (take result.0 input.now) }
+{
+    match memchr(byte, input) {
+        Some(run) if run < SHORT_RUN => {
+            let front = input.len().min(CLOSE_BYTES);
+            (front, drop_bytes(room, &input[..front], byte))
+        }
+        Some(run) => {
+            room[..run].copy_from_slice(&input[..run]);
+            (run + 1, run)
+        }
+        None => {
+            room[..input.len()].copy_from_slice(input);
+            (input.len(), input.len())
+        }
+    }
+}
+
+// Fills the front of the room with those bytes of the front of the input that are not `byte`. Answers how long that
+// front is, as long as the room or whole, and how many bytes of the room are filled.
 fn drop_into(room: &mut [u8], input: &[u8], byte: u8) -> (usize, usize)
     ensures count { result.0 ≡ min (length room.old) (length input.now) }
     ensures within { result.1 ≤ length room.old }
     ensures bytes { take result.1 room.new ≡ without byte (take result.0 input.now) }
 {
     let count = room.len().min(input.len());
-    let mut rest = &input[..count];
+    let mut done = 0;
     let mut filled = 0;
-    while let Some(run) = memchr(byte, rest) {
-        let (front, behind) = rest.split_at(run + 1);
-        room[filled..filled + run].copy_from_slice(&front[..run]);
-        filled += run;
-        rest = behind;
+    while done < count {
+        let (front, kept) = drop_front(&mut room[filled..], &input[done..count], byte);
+        done += front;
+        filled += kept;
     }
-    room[filled..filled + rest.len()].copy_from_slice(rest);
-    (count, filled + rest.len())
+    (count, filled)
 }
 
 /// Writes a front of the input with each byte `from` replaced by `to`, and answers how long that front is.

@@ -44,7 +44,7 @@ fn outcome(alloc: Global, config: &[u8], text: &[u8], body: &[u8]) -> Result<Vec
 #[test]
 fn chains_give_the_rows(rt: HostRuntime) -> Result<(), Fail> {
     let alloc = rt.alloc();
-    let rows: [(&'static [u8], &'static [u8], &'static [u8]); 14] = [
+    let rows: [(&'static [u8], &'static [u8], &'static [u8]); 15] = [
         (
             b"prepend.so <\nappend_transform.so g\nbnull_transform.so",
             b"a",
@@ -72,6 +72,11 @@ fn chains_give_the_rows(rt: HostRuntime) -> Result<(), Fail> {
         (b"", b"a", b"a"),
         (b"drop.so q", b"qaqqbq", b"ab"),
         (b"drop.so q", b"qq", b""),
+        (
+            b"drop.so q",
+            b"0123456789abcdefghijqq0123456789abcdefghijq",
+            b"0123456789abcdefghij0123456789abcdefghij",
+        ),
         (b"map.so 0x0a 0x20", b"a\nb\n", b"a b "),
         (b"delay.so 60000\nnull_transform.so", b"abc", b"abc"),
         (b"map.so a b\nmap.so b c\ndrop.so c", b"abcd", b"d"),
