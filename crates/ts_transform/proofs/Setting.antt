@@ -11,7 +11,7 @@ use Rattle.ts_group.specs.declared.action.SetFault.{SetFault}
 use Rattle.ts_group.specs.Context.{Context, role_at}
 use Rattle.ts_group.specs.Changes.{Sets, HasLost}
 use Rattle.ts_transform.specs.declared.continuation.StageContinuation.{StageContinuation}
-use Rattle.ts_transform.specs.Driving.{IsNamedIf, AreNamed, Keeps, SetsOnly, IsWorkOf, IsRousingOf, all_unroused, unroused, error_passed, changed}
+use Rattle.ts_transform.specs.Driving.{AreOfStages, IsNamedIf, AreNamed, Keeps, SetsOnly, IsWorkOf, IsRousingOf, all_unroused, unroused, error_passed, changed}
 
 -- nothing was set
 pub only_same : (Such : Pending → Type 0) (a b : Context) → b.log.state.pending ≡ a.log.state.pending → SetsOnly Such a b
@@ -112,3 +112,12 @@ named_marked roles role at ts us is named = subst (AreNamed roles role) (sym is)
 
 pub named_kept : (a b : Context) (ts us : List (Option StageContinuation)) → Keeps a b → all_unroused us ≡ all_unroused ts → AreNamed a.roles 1 ts → AreNamed b.roles 1 us
 named_kept a b ts us keeps same named = subst (λ roles. AreNamed roles 1 us) (sym keeps.roles) (named_same a.roles 1 ts us same named)
+
+-- continuations of stages have their roles
+of_stages_named : (pending : List Pending) (roles : List Named) (role : ℕ) (ts : List (Option StageContinuation)) → AreOfStages pending roles role ts → AreNamed roles role ts
+of_stages_named pending roles role [] s = tt
+of_stages_named pending roles role (None ∷ ts) (here, others) = (tt, of_stages_named pending roles (role + 1) ts others)
+of_stages_named pending roles role (Some t ∷ ts) (here, others) = (here.named, of_stages_named pending roles (role + 1) ts others)
+
+pub stages_named : (a : Context) (ts : List (Option StageContinuation)) → AreOfStages a.log.state.pending a.roles 1 ts → AreNamed a.roles 1 ts
+stages_named a ts s = of_stages_named a.log.state.pending a.roles 1 ts s

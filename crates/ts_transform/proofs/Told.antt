@@ -2,7 +2,7 @@
 use Rattle.std.proofs.Common.{◌⊎◌, inl, inr, ◌∙◌, ◌≡◌, ℕ, zero, suc, List, [], ◌∷◌, Bool, true, false, Option, Some, None, slice_get, length, refl, sym, ap, subst}
 use Rattle.std.proofs.lemmas.List.{length-map}
 use Rattle.ts_transform.specs.declared.continuation.StageContinuation.{StageContinuation}
-use Rattle.ts_transform.specs.Driving.{unroused, unroused_for, changed, all_unroused}
+use Rattle.ts_transform.specs.Driving.{unroused, unroused_for, gone, changed, all_unroused}
 use Rattle.ts_transform.specs.declared.pump.Stage.{Stage}
 use Rattle.ts_transform.specs.declared.pump.Pumped.{Pumped}
 use Rattle.ts_transform.specs.declared.pump.Pumped.TheVariants.{Moved}
@@ -52,3 +52,13 @@ same_length ts us same = sym (length-map us unroused) ∙ ap length same ∙ len
 -- a continuation whose event was handled changes in nothing but that it is not roused
 pub same_unroused : (ts us : List (Option StageContinuation)) (at : ℕ) → us ≡ changed unroused ts at → all_unroused us ≡ all_unroused ts
 same_unroused ts us at is = ap all_unroused is ∙ same_changed ts at
+
+-- whether it was roused or not, one that is destroyed is gone
+gone_changed : (ts : List (Option StageContinuation)) (at : ℕ) → changed gone (changed unroused ts at) at ≡ changed gone ts at
+gone_changed [] at = refl
+gone_changed (t ∷ ts) zero = refl
+gone_changed (t ∷ ts) (suc at) = ap (λ us. t ∷ us) (gone_changed ts at)
+
+pub gone_unroused : (b : Bool) (ts us : List (Option StageContinuation)) (at : ℕ) → us ≡ unroused_for b ts at → changed gone us at ≡ changed gone ts at
+gone_unroused false ts us at is = ap (λ vs. changed gone vs at) is
+gone_unroused true ts us at is = ap (λ vs. changed gone vs at) is ∙ gone_changed ts at

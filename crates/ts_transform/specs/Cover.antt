@@ -25,17 +25,18 @@ pub record IsRoundRoused {P : Type 0} (c : ChainState P) (ts : List (Option Stag
   pub before : (j : ℕ) → j + 1 ≡ at → MustPump c.given c.first c.stages j → IsRoused ts j
   pub self : MustPump c.given c.first c.stages at → IsRoused ts at
 
--- An event that rouses a stage: one at which it works, after its pause. The stage must work.
-pub record IsRousing {P : Type 0} (wait : P → ℕ) (c : ChainState P) (moment : ℕ) (roles : List Named) (p : Pending) : Type 0 where
+-- An event that rouses a stage: one at which it works, after its pause. The stage must work, and was not roused before.
+pub record IsRousing {P : Type 0} (wait : P → ℕ) (c : ChainState P) (ts : List (Option StageContinuation)) (moment : ℕ) (roles : List Named) (p : Pending) : Type 0 where
   pub at : ℕ
+  pub rests : IsRoused ts at → ⊥
   pub must : MustPump c.given c.first c.stages at
   pub of_stage : IsRousingOf (at + 1) (pause_at wait c.stages at) moment roles p
 
 -- An event that the stage at a place may set when it handled one: it rouses a stage that must work; it tells the stage
 -- before that it has ended; or it passes an error on to that.
-abbrev pub MaySet : {P : Type 0} → (P → ℕ) → ChainState P → ChainState P → ℕ → Event → ℕ → List Named → Pending → Type 0
-MaySet wait old new at event moment roles p =
-    IsRousing wait new moment roles p
+abbrev pub MaySet : {P : Type 0} → (P → ℕ) → ChainState P → ChainState P → List (Option StageContinuation) → ℕ → Event → ℕ → List Named → Pending → Type 0
+MaySet wait old new ts at event moment roles p =
+    IsRousing wait new ts moment roles p
     ⊎ (IsTelling WriteComplete at roles p × (ended_at old.stages at ≡ false) × (ended_at new.stages at ≡ true))
     ⊎ (IsTelling Error at roles p × (event ≡ Error))
 

@@ -56,7 +56,7 @@ fn set_event(key: ContKey, rouser: Rouser, pause: u64, cx: &mut Cx) -> Result<Ac
 }
 
 /// Sees that an event of the continuation is pending at which its stage works.
-#[tactic(auto, using(ts_group::proofs::Grows::grows_refl, crate::proofs::Kept::keeps_refl, crate::proofs::Kept::few_refl, crate::proofs::Kept::kept_if, crate::proofs::Kept::roused_if))]
+#[tactic(auto, using(ts_group::proofs::Grows::grows_refl, crate::proofs::Kept::keeps_refl, crate::proofs::Kept::few_refl, crate::proofs::Kept::kept_if, crate::proofs::Kept::roused_if, crate::proofs::Setting::only_none))]
 pub fn rouse(
     slot: &mut Option<StageContinuation>,
     rouser: Rouser,
@@ -67,6 +67,7 @@ pub fn rouse(
     ensures grows { Grows cx.old cx.new }
     ensures keeps { Keeps cx.old cx.new }
     ensures few { SetsFew 1 cx.old cx.new }
+    ensures rests { IsRousedIf slot.old → SetsOnly (λ p. ⊥) cx.old cx.new }
     ensures only { (role : ℕ) → IsNamedIf cx.old.roles role slot.old → SetsOnly (IsRousingOf role pause cx.old.moment cx.old.roles) cx.old cx.new }
     ensures of_stage { (role : ℕ) → IsOfStageIf cx.old.log.state.pending cx.old.roles role slot.old
         → IsOfStageIf cx.new.log.state.pending cx.new.roles role slot.new }

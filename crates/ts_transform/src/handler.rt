@@ -9,7 +9,7 @@ ghost use Rattle.ts_group.specs.Context.{AllPlain, IsSame};
 ghost use Rattle.ts_transform.specs.declared.continuation.Rouser.TheVariants as Rouser;
 ghost use Rattle.ts_group.specs.Entries.{Grows};
 ghost use Rattle.ts_transform.specs.Flow.{flow, left_to_do, PumpsOnce, PumpsAt, ended_at, pause_at, MustPump};
-ghost use Rattle.ts_transform.specs.Driving.{AreOfStages, AreNamed, IsRoused, Keeps, SetsOnly, SetsFew, IsTelling, IsTold, IsCalledUnless, IsClosed, IsHandled, works_at, error_passed, gone, changed, all_unroused, may_pass_error_at, errors_to_pass};
+ghost use Rattle.ts_transform.specs.Driving.{AreOfStages, AreNamed, IsRoused, Keeps, SetsOnly, SetsFew, IsTelling, IsTold, IsCalledUnless, IsClosed, IsHandled, works_at, error_passed, gone, changed, unroused_for, all_unroused, may_pass_error_at, errors_to_pass};
 ghost use Rattle.ts_transform.specs.Cover.{IsDriven, IsDrivenBut, IsDrivenFor, IsRoundRoused, IsRousing, MaySet};
 
 use crate::chain::Chain;
@@ -33,7 +33,7 @@ pub fn rouse_if_ready<P: Transform + Drop>(
     ensures grows { Grows cx.old cx.new }
     ensures keeps { Keeps cx.old cx.new }
     ensures few { SetsFew 1 cx.old cx.new }
-    ensures only { AreNamed cx.old.roles 1 table.old → SetsOnly (IsRousing P.wait chain.now cx.old.moment cx.old.roles) cx.old cx.new }
+    ensures only { AreNamed cx.old.roles 1 table.old → SetsOnly (IsRousing P.wait chain.now table.old cx.old.moment cx.old.roles) cx.old cx.new }
     ensures rests { (MustPump chain.now.given chain.now.first chain.now.stages at → ⊥) → SetsFew 0 cx.old cx.new }
     ensures of_stages { (role : ℕ) → AreOfStages cx.old.log.state.pending cx.old.roles role table.old
         → AreOfStages cx.new.log.state.pending cx.new.roles role table.new }
@@ -68,7 +68,7 @@ fn rouse_before<P: Transform + Drop>(
     ensures few { SetsFew 1 cx.old cx.new }
     ensures of_stages { (role : ℕ) → AreOfStages cx.old.log.state.pending cx.old.roles role table.old
         → AreOfStages cx.new.log.state.pending cx.new.roles role table.new }
-    ensures only { AreNamed cx.old.roles 1 table.old → SetsOnly (IsRousing P.wait chain.now cx.old.moment cx.old.roles) cx.old cx.new }
+    ensures only { AreNamed cx.old.roles 1 table.old → SetsOnly (IsRousing P.wait chain.now table.old cx.old.moment cx.old.roles) cx.old cx.new }
     ensures ready { OnOk result ((j : ℕ) → j + 1 ≡ at → MustPump chain.now.given chain.now.first chain.now.stages j → IsRoused table.new j) }
     ensures called { OnOk result ((j : ℕ) → j + 1 ≡ at → pause_at P.wait chain.now.stages j ≡ 0
         → MustPump chain.now.given chain.now.first chain.now.stages j → IsCalledUnless table.old cx.new.log.state.pending table.new j) }
@@ -98,7 +98,7 @@ fn rouse_round<P: Transform + Drop>(
     ensures few { SetsFew 3 cx.old cx.new }
     ensures of_stages { (role : ℕ) → AreOfStages cx.old.log.state.pending cx.old.roles role table.old
         → AreOfStages cx.new.log.state.pending cx.new.roles role table.new }
-    ensures only { AreNamed cx.old.roles 1 table.old → SetsOnly (IsRousing P.wait chain.now cx.old.moment cx.old.roles) cx.old cx.new }
+    ensures only { AreNamed cx.old.roles 1 table.old → SetsOnly (IsRousing P.wait chain.now table.old cx.old.moment cx.old.roles) cx.old cx.new }
     ensures round { OnOk result (IsRoundRoused chain.now table.new at) }
     ensures called { OnOk result ((j : ℕ) → j + 1 ≡ at → pause_at P.wait chain.now.stages j ≡ 0
         → MustPump chain.now.given chain.now.first chain.now.stages j → IsCalledUnless table.old cx.new.log.state.pending table.new j) }
@@ -126,7 +126,7 @@ fn work<P: Transform + Drop>(
     ensures keeps { Keeps cx.old cx.new }
     ensures few { SetsFew 4 cx.old cx.new }
     ensures own { (chain.new ≡ chain.old) ⊎ PumpsAt P.rest at chain.old chain.new }
-    ensures only { (event : Event) → AreNamed cx.old.roles 1 table.old → SetsOnly (MaySet P.wait chain.old chain.new at event cx.old.moment cx.old.roles) cx.old cx.new }
+    ensures only { (event : Event) → AreNamed cx.old.roles 1 table.old → SetsOnly (MaySet P.wait chain.old chain.new table.old at event cx.old.moment cx.old.roles) cx.old cx.new }
     ensures given { chain.new.given ≡ chain.old.given }
     ensures flow { (z : List ℕ) → OnTrue chain.old.given (z ≡ []) → flow P.rest chain.new z ≡ flow P.rest chain.old z }
     ensures pays { (z : List ℕ) → OnTrue chain.old.given (z ≡ []) →
@@ -244,7 +244,7 @@ fn act<P: Transform + Drop>(
     ensures few { SetsFew 4 cx.old cx.new }
     ensures own { (chain.new ≡ chain.old) ⊎ PumpsAt P.rest at chain.old chain.new }
     ensures idle { works_at event ≡ false → chain.new ≡ chain.old }
-    ensures only { AreNamed cx.old.roles 1 table.old → SetsOnly (MaySet P.wait chain.old chain.new at event cx.old.moment cx.old.roles) cx.old cx.new }
+    ensures only { AreNamed cx.old.roles 1 table.old → SetsOnly (MaySet P.wait chain.old chain.new table.old at event cx.old.moment cx.old.roles) cx.old cx.new }
     ensures given { chain.new.given ≡ chain.old.given }
     ensures flow { chain.old.given ≡ true → flow P.rest chain.new [] ≡ flow P.rest chain.old [] }
     ensures pays { chain.old.given ≡ true →
@@ -256,6 +256,7 @@ fn act<P: Transform + Drop>(
 
     // Where it had ended, its continuation is destroyed; and where it ends, the stage before it is told so.
     ensures closed { ended_at chain.old.stages at ≡ true → IsClosed cx.old cx.new table.old at }
+    ensures gone { ended_at chain.old.stages at ≡ true → table.new ≡ changed gone table.old at }
     ensures ended { OnOk result (ended_at chain.old.stages at ≡ false → ended_at chain.new.stages at ≡ true
         → (j : ℕ) → j + 1 ≡ at → IsTold cx.new.log.state.pending WriteComplete table.new j) }
 
@@ -267,7 +268,6 @@ fn act<P: Transform + Drop>(
     ensures passed { OnOk result (event ≡ Error → ended_at chain.old.stages at ≡ false → may_pass_error_at table.old at ≡ true
         → (j : ℕ) → j + 1 ≡ at → IsTold cx.new.log.state.pending Error table.new j) }
     ensures error_passed { event ≡ Error → ended_at chain.old.stages at ≡ false → table.new ≡ changed error_passed table.old at }
-    ensures once { event ≡ Error → SetsFew 1 cx.old cx.new }
     ensures quiet { event ≡ Error → may_pass_error_at table.old at ≡ false → SetsFew 0 cx.old cx.new }
 
     // At any other event no continuation changes but for who is roused; and where the chain is as it was, no event is
@@ -305,7 +305,7 @@ fn handle_at<P: Transform + Drop>(
     ensures few { SetsFew 4 cx.old cx.new }
     ensures own { (chain.new ≡ chain.old) ⊎ PumpsAt P.rest at chain.old chain.new }
     ensures idle { works_at event ≡ false → chain.new ≡ chain.old }
-    ensures only { AreNamed cx.old.roles 1 table.old → SetsOnly (MaySet P.wait chain.old chain.new at event cx.old.moment cx.old.roles) cx.old cx.new }
+    ensures only { AreNamed cx.old.roles 1 table.old → SetsOnly (MaySet P.wait chain.old chain.new (unroused_for (works_at event) table.old at) at event cx.old.moment cx.old.roles) cx.old cx.new }
     ensures given { chain.new.given ≡ chain.old.given }
     ensures flow { chain.old.given ≡ true → flow P.rest chain.new [] ≡ flow P.rest chain.old [] }
     ensures pays { chain.old.given ≡ true →
@@ -318,6 +318,7 @@ fn handle_at<P: Transform + Drop>(
 
     // Where it had ended, its continuation is destroyed; and where it ends, the stage before it is told so.
     ensures closed { ended_at chain.old.stages at ≡ true → IsClosed cx.old cx.new table.old at }
+    ensures gone { ended_at chain.old.stages at ≡ true → table.new ≡ changed gone table.old at }
     ensures ended { OnOk result (ended_at chain.old.stages at ≡ false → ended_at chain.new.stages at ≡ true
         → (j : ℕ) → j + 1 ≡ at → IsTold cx.new.log.state.pending WriteComplete table.new j) }
 
@@ -329,7 +330,6 @@ fn handle_at<P: Transform + Drop>(
     ensures passed { OnOk result (event ≡ Error → ended_at chain.old.stages at ≡ false → may_pass_error_at table.old at ≡ true
         → (j : ℕ) → j + 1 ≡ at → IsTold cx.new.log.state.pending Error table.new j) }
     ensures error_passed { event ≡ Error → ended_at chain.old.stages at ≡ false → table.new ≡ changed error_passed table.old at }
-    ensures once { event ≡ Error → SetsFew 1 cx.old cx.new }
     ensures quiet { event ≡ Error → may_pass_error_at table.old at ≡ false → SetsFew 0 cx.old cx.new }
 
     // At any other event no continuation changes but for who is roused; and where the chain is as it was, no event is
@@ -378,13 +378,13 @@ pub fn handle_stage<P: Transform + Drop>(
     ensures own { (at : ℕ) → role ≡ at + 1 → (chain.new ≡ chain.old) ⊎ PumpsAt P.rest at chain.old chain.new }
     ensures idle { works_at event ≡ false → chain.new ≡ chain.old }
     ensures other { (role ≡ 0) ⊎ (length table.old.items < role) → (chain.new ≡ chain.old) × (table.new.items ≡ table.old.items) × IsSame cx.old cx.new }
-    ensures only { AreNamed cx.old.roles 1 table.old.items → (at : ℕ) → role ≡ at + 1 → SetsOnly (MaySet P.wait chain.old chain.new at event cx.old.moment cx.old.roles) cx.old cx.new }
+    ensures only { AreNamed cx.old.roles 1 table.old.items → (at : ℕ) → role ≡ at + 1 → SetsOnly (MaySet P.wait chain.old chain.new (unroused_for (works_at event) table.old.items at) at event cx.old.moment cx.old.roles) cx.old cx.new }
 
     // The stage of the role: where it had ended, its continuation is destroyed; where it ends, the stage before it is
     // told so; where it did something, that stage is called if it must work, was not roused, and makes no pause; and it
     // passes an error on to the stage before it, the first time.
     ensures closed { (at : ℕ) → role ≡ at + 1 → at < length table.old.items → length table.old.items ≡ length chain.old.stages
-        → ended_at chain.old.stages at ≡ true → IsClosed cx.old cx.new table.old.items at }
+        → ended_at chain.old.stages at ≡ true → IsClosed cx.old cx.new table.old.items at × (table.new.items ≡ changed gone table.old.items at) }
     ensures ended { OnOk result ((at : ℕ) → role ≡ at + 1 → ended_at chain.old.stages at ≡ false → ended_at chain.new.stages at ≡ true
         → (j : ℕ) → j + 1 ≡ at → IsTold cx.new.log.state.pending WriteComplete table.new.items j) }
     ensures called { OnOk result ((chain.new ≡ chain.old → ⊥) → (at : ℕ) → role ≡ at + 1 → (j : ℕ) → j + 1 ≡ at → pause_at P.wait chain.new.stages j ≡ 0
@@ -393,7 +393,6 @@ pub fn handle_stage<P: Transform + Drop>(
         → event ≡ Error → ended_at chain.old.stages at ≡ false → may_pass_error_at table.old.items at ≡ true → (j : ℕ) → j + 1 ≡ at → IsTold cx.new.log.state.pending Error table.new.items j) }
     ensures error_passed { (at : ℕ) → role ≡ at + 1 → at < length table.old.items → length table.old.items ≡ length chain.old.stages
         → event ≡ Error → ended_at chain.old.stages at ≡ false → table.new.items ≡ changed error_passed table.old.items at }
-    ensures once { event ≡ Error → SetsFew 1 cx.old cx.new }
     ensures quiet { event ≡ Error → (at : ℕ) → role ≡ at + 1 → may_pass_error_at table.old.items at ≡ false → SetsFew 0 cx.old cx.new }
 
     // At any other event no continuation changes but for who is roused; and where the chain is as it was, no event is

@@ -24,6 +24,7 @@ pub fn rouse_at(
     ensures grows { Grows cx.old cx.new }
     ensures keeps { Keeps cx.old cx.new }
     ensures few { SetsFew 1 cx.old cx.new }
+    ensures rests { IsRoused table.old at → SetsOnly (λ p. ⊥) cx.old cx.new }
     ensures only { (role : ℕ) → AreNamed cx.old.roles role table.old → SetsOnly (IsRousingOf (role + at) pause cx.old.moment cx.old.roles) cx.old cx.new }
     ensures of_stages { (role : ℕ) → AreOfStages cx.old.log.state.pending cx.old.roles role table.old
         → AreOfStages cx.new.log.state.pending cx.new.roles role table.new }
@@ -139,6 +140,7 @@ fn mark(slot: &mut Option<StageContinuation>) -> Result<Option<ContKey>, SetFaul
     ensures still { IsRousedIf slot.old → IsRousedIf slot.new }
     ensures same { unroused slot.new ≡ unroused slot.old }
     ensures key { IfOk result (λ key. IfSome key (λ k. (t : StageContinuation) → slot.old ≡ Some t → k ≡ t.key)) }
+    ensures rests { IfOk result (λ key. IfSome key (λ k. IsRousedIf slot.old → ⊥)) }
     ensures dead { IfErr result (λ fault. (fault ≡ Dead) × (slot.old ≡ None)) }
 {
     let Some(continuation) = slot else {
@@ -160,6 +162,7 @@ pub fn mark_last(table: &mut [Option<StageContinuation>]) -> Result<Option<ContK
     ensures still { (j : ℕ) → IsRoused table.old j → IsRoused table.new j }
     ensures same { all_unroused table.new ≡ all_unroused table.old }
     ensures key { IfOk result (λ key. IfSome key (λ k. (t : StageContinuation) → last_of table.old ≡ Some t → k ≡ t.key)) }
+    ensures rests { IfOk result (λ key. IfSome key (λ k. (j : ℕ) → j + 1 ≡ length table.old → IsRoused table.old j → ⊥)) }
     ensures dead { IfErr result (λ fault. (fault ≡ Dead) × (last_of table.old ≡ None)) }
 {
     let Some((first, others)) = table.split_first_mut() else {

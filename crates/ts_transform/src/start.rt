@@ -4,8 +4,8 @@ ghost use Rattle.ts_group.specs.Context.{AllPlain, role_at};
 ghost use Rattle.ts_group.specs.Entries.{Grows};
 ghost use Rattle.ts_group.specs.Changes.{SameEvents, KeepsKeys};
 ghost use Rattle.ts_transform.specs.Flow.{HasWork};
-ghost use Rattle.ts_transform.specs.Driving.{AreOfStages, SetsFew};
-ghost use Rattle.ts_transform.specs.Cover.{IsDriven};
+ghost use Rattle.ts_transform.specs.Driving.{AreOfStages, AreNamed, Keeps, SetsOnly, SetsFew};
+ghost use Rattle.ts_transform.specs.Cover.{IsDriven, IsRousing};
 
 use crate::chain::Chain;
 use crate::continuation::{Rouser, StageContinuation};
@@ -75,6 +75,8 @@ fn rouse_first<P: Transform + Drop>(
     ensures grows { Grows cx.old cx.new }
     ensures plain { AllPlain cx.old.log.state.pending → AllPlain cx.new.log.state.pending }
     ensures few { SetsFew 1 cx.old cx.new }
+    ensures keeps { Keeps cx.old cx.new }
+    ensures only { AreNamed cx.old.roles 1 table.old → SetsOnly (IsRousing P.wait chain.now table.old cx.old.moment cx.old.roles) cx.old cx.new }
     ensures driven { OnOk result (length table.old ≡ length chain.now.stages → AreOfStages cx.old.log.state.pending cx.old.roles 1 table.old
         → ((j : ℕ) → HasWork chain.now.given chain.now.first chain.now.stages (j + 1) → ⊥)
         → IsDriven chain.now table.new cx.new.log.state.pending cx.new.roles) }
@@ -95,6 +97,7 @@ pub fn begin<P: Transform + Drop>(
     ensures grows { Grows cx.old cx.new }
     ensures plain { AllPlain cx.old.log.state.pending → AllPlain cx.new.log.state.pending }
     ensures few { SetsFew 1 cx.old cx.new }
+    ensures only { SetsOnly (IsRousing P.wait chain.now [] cx.old.moment cx.new.roles) cx.old cx.new }
     ensures driven { result ≡ true → ((j : ℕ) → HasWork chain.now.given chain.now.first chain.now.stages (j + 1) → ⊥)
         → IsDriven chain.now table.new.items cx.new.log.state.pending cx.new.roles }
 {

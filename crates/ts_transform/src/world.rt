@@ -10,8 +10,8 @@ ghost use Rattle.ts_journal.specs.declared.entry.Event.TheVariants.{Error, Write
 ghost use Rattle.ts_group.specs.Entries.{Grows};
 ghost use Rattle.ts_transform.specs.Flow.{flow, compose, left_to_do, last_wait, last_ended, fresh_stage, pause_at, aborted, ended_at, IsFinished, MustPump, PumpsAt, PumpsOnce, Takes};
 ghost use Rattle.ts_transform.specs.declared.continuation.StageContinuation.{StageContinuation};
-ghost use Rattle.ts_transform.specs.Driving.{AreNamed, IsTold, IsClosed, IsCalledUnless, Keeps, SetsOnly, SetsFew, HasEventIf, all_unroused, changed, error_passed, errors_to_pass, may_pass_error_at, works_at, last_of};
-ghost use Rattle.ts_transform.specs.Cover.{IsSound, IsDriven, IsAwake, MaySet};
+ghost use Rattle.ts_transform.specs.Driving.{AreNamed, IsRoused, IsTold, IsClosed, IsCalledUnless, Keeps, SetsOnly, SetsFew, HasEventIf, all_unroused, changed, error_passed, gone, unroused_for, errors_to_pass, may_pass_error_at, works_at, last_of};
+ghost use Rattle.ts_transform.specs.Cover.{IsSound, IsDriven, IsAwake, IsRousing, MaySet};
 
 use crate::chain::Chain;
 use crate::continuation::StageContinuation;
@@ -134,6 +134,8 @@ impl<P: Transform + Drop> ChainWorld<P> {
         ensures same { all_unroused self.new.table.items ≡ all_unroused self.old.table.items }
         ensures full { IfOk result (λ key. IfSome key (λ k. 65536 ≤ length (last_wait self.old.chain.first self.old.chain.stages))) }
         ensures key { IfOk result (λ key. IfSome key (λ k. (t : StageContinuation) → last_of self.old.table.items ≡ Some t → k ≡ t.key)) }
+        ensures rests { IfOk result (λ key. IfSome key (λ k. (last_ended true self.old.chain.stages ≡ false)
+            × ((j : ℕ) → j + 1 ≡ length self.old.table.items → IsRoused self.old.table.items j → ⊥))) }
         ensures driven { IfOk result (λ key. (a b : Context) → Keeps a b → HasEventIf b.log.state.pending key
             → IsDriven self.old.chain self.old.table.items a.log.state.pending a.roles
             → IsDriven self.new.chain self.new.table.items b.log.state.pending b.roles) }
@@ -185,7 +187,18 @@ impl<P: Transform + Drop> World for ChainWorld<P> {
     // A handler lets at most one stage work, by one pump.
     ghost called = { λ old new asked. PumpsOnce P.rest old.chain new.chain };
 
-    fn start(&mut self, cx: &mut Cx) {
+    fn start(&mut self, cx: &mut Cx)
+        requires turn { cx.old.log.state.held ≡ true }
+        requires sound { IsSound self.old cx.old.log.state.pending cx.old.roles }
+        ensures grows { Grows cx.old cx.new }
+        ensures sound { IsSound self.new cx.new.log.state.pending cx.new.roles }
+        ensures chain { self.new.chain ≡ self.old.chain }
+
+        // At most one event is set: it rouses the first stage, after its pause. A second start does nothing.
+        ensures few { SetsFew 1 cx.old cx.new }
+        ensures only { SetsOnly (IsRousing P.wait self.old.chain self.old.table.items cx.old.moment cx.new.roles) cx.old cx.new }
+        ensures again { (length self.old.table.items ≡ 0 → ⊥) → (self.new ≡ self.old) × IsSame cx.old cx.new }
+    {
         if self.table.is_empty() {
             self.running = begin(&self.chain, &mut self.table, cx);
         }
@@ -209,13 +222,13 @@ impl<P: Transform + Drop> World for ChainWorld<P> {
         ensures idle { works_at event ≡ false → self.new.chain ≡ self.old.chain }
         ensures other { (role ≡ 0) ⊎ (length self.old.table.items < role) → (self.new.chain ≡ self.old.chain) × (self.new.table.items ≡ self.old.table.items) × IsSame cx.old cx.new }
         ensures only { AreNamed cx.old.roles 1 self.old.table.items → (at : ℕ) → role ≡ at + 1
-            → SetsOnly (MaySet P.wait self.old.chain self.new.chain at event cx.old.moment cx.old.roles) cx.old cx.new }
+            → SetsOnly (MaySet P.wait self.old.chain self.new.chain (unroused_for (works_at event) self.old.table.items at) at event cx.old.moment cx.old.roles) cx.old cx.new }
 
         // Where its stage had ended, its continuation is destroyed. While nothing was lost: where it ends, the stage
         // before it is told so; where it did something, that stage is called if it must work, was not roused, and makes
         // no pause; and the first time that it gets an error, it passes that on to that stage.
         ensures closed { (at : ℕ) → role ≡ at + 1 → at < length self.old.table.items → length self.old.table.items ≡ length self.old.chain.stages
-            → ended_at self.old.chain.stages at ≡ true → IsClosed cx.old cx.new self.old.table.items at }
+            → ended_at self.old.chain.stages at ≡ true → IsClosed cx.old cx.new self.old.table.items at × (self.new.table.items ≡ changed gone self.old.table.items at) }
         ensures ended { self.new.running ≡ true → (at : ℕ) → role ≡ at + 1 → ended_at self.old.chain.stages at ≡ false → ended_at self.new.chain.stages at ≡ true
             → (j : ℕ) → j + 1 ≡ at → IsTold cx.new.log.state.pending WriteComplete self.new.table.items j }
         ensures ready { self.new.running ≡ true → (self.new.chain ≡ self.old.chain → ⊥) → (at : ℕ) → role ≡ at + 1 → (j : ℕ) → j + 1 ≡ at
@@ -226,6 +239,12 @@ impl<P: Transform + Drop> World for ChainWorld<P> {
             → (j : ℕ) → j + 1 ≡ at → IsTold cx.new.log.state.pending Error self.new.table.items j }
         ensures error_passed { (at : ℕ) → role ≡ at + 1 → at < length self.old.table.items → length self.old.table.items ≡ length self.old.chain.stages
             → event ≡ Error → ended_at self.old.chain.stages at ≡ false → self.new.table.items ≡ changed error_passed self.old.table.items at }
+        ensures quiet { event ≡ Error → (at : ℕ) → role ≡ at + 1 → may_pass_error_at self.old.table.items at ≡ false → SetsFew 0 cx.old cx.new }
+
+        // At any other event no continuation changes but for who is roused; and where the chain is as it was, no event is
+        // added.
+        ensures same { (event ≡ Error → ⊥) → (at : ℕ) → role ≡ at + 1 → ended_at self.old.chain.stages at ≡ false → all_unroused self.new.table.items ≡ all_unroused self.old.table.items }
+        ensures rests { (event ≡ Error → ⊥) → self.new.chain ≡ self.old.chain → length cx.new.log.state.pending ≤ length cx.old.log.state.pending }
     {
         if let Err(_) = handle_stage(&mut self.chain, &mut self.table, role, event, cx) {
             self.running = false;

@@ -234,9 +234,9 @@ fn handled(alloc: Global, journal: &Journal, key: ContKey) -> Result<Vec<(Event,
     Ok(handled)
 }
 
-// Whether the events at which a stage works are so many milliseconds apart.
+// Whether the events at which a stage works are so many milliseconds apart, and the first comes so many after the start.
 fn is_paused(handled: &[(Event, u64)], pause: u64) -> bool {
-    let mut next = 0;
+    let mut next = pause;
     for (event, moment) in handled {
         if !matches!(*event, Event::Error | Event::WriteComplete) {
             if *moment < next {

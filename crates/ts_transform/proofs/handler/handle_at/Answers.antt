@@ -1,10 +1,11 @@
 use Rattle.std.proofs.Common.{refl, ap, subst, slice_get, ◌∙◌}
-use Rattle.ts_transform.specs.Driving.{works_at, IsDestroyed}
+use Rattle.ts_transform.specs.Driving.{works_at, IsDestroyed, SetsOnly}
+use Rattle.ts_transform.specs.Cover.{MaySet}
 use Rattle.ts_transform.proofs.Handled.{begun_for}
 use Rattle.ts_transform.proofs.Covering.{on_ok}
 use Rattle.ts_transform.proofs.Called.{called_unroused}
 use Rattle.ts_transform.proofs.Setting.{named_same}
-use Rattle.ts_transform.proofs.Told.{unroused_key}
+use Rattle.ts_transform.proofs.Told.{unroused_key, gone_unroused}
 use Rattle.ts_transform.proofs.handler.handle_at.Goals as goal
 
 pub returns-clause-driven : goal.returns-clause-driven
@@ -27,4 +28,11 @@ returns-clause-called g c =
     (called did j above pause must))
 
 pub returns-clause-only : goal.returns-clause-only
-returns-clause-only g c = λ named. c.act.ensures.only (named_same c.args.cx.now.roles 1 c.args.table.now c.unrouse_for.new.table c.unrouse_for.ensures.same named)
+returns-clause-only g c = λ named.
+    let old = c.args.cx.now in
+    subst (λ ts. SetsOnly (MaySet g.P.Transform.wait c.args.chain.now c.act.new.chain ts c.args.at c.args.event old.moment old.roles) old c.act.new.cx) c.unrouse_for.ensures.table
+    (c.act.ensures.only (named_same old.roles 1 c.args.table.now c.unrouse_for.new.table c.unrouse_for.ensures.same named))
+
+pub returns-clause-gone : goal.returns-clause-gone
+returns-clause-gone g c = λ ended.
+    c.act.ensures.gone ended ∙ gone_unroused (works_at c.args.event) c.args.table.now c.unrouse_for.new.table c.args.at c.unrouse_for.ensures.table

@@ -70,6 +70,6 @@ pub returns-in_ok-rouse_round-in-Ended-clause-only :
     goal.returns-in_ok-rouse_round-in-Ended-clause-only
 returns-in_ok-rouse_round-in-Ended-clause-only g c = λ event named.
     let round = c.rouse_round-in-Ended in
-    may_tell g.P.Transform.wait g.P.Transform.rest c.args.chain.now c.pump.new.self c.args.at event c.in-Ok.pumped c.args.cx.now round.new.cx c.tell_before.new.cx c.in-Ended.is
+    may_tell g.P.Transform.wait g.P.Transform.rest c.args.chain.now c.pump.new.self c.args.table.now c.args.at event c.in-Ok.pumped c.args.cx.now round.new.cx c.tell_before.new.cx c.in-Ended.is
     c.in-Ok.ensures.answer c.in-Ok.ensures.steps round.ensures.keeps (round.ensures.only named) c.tell_before.ensures.keeps
     (c.tell_before.ensures.only (named_kept c.args.cx.now round.new.cx c.args.table.now round.new.table round.ensures.keeps round.ensures.same named))
