@@ -15,7 +15,7 @@ use Rattle.ts_journal.proofs.Extends.{extends_trans}
 use Rattle.ts_group.specs.Context.{Context, moment_after}
 use Rattle.ts_group.specs.Entries.{AllOwn, AreCalls, Grows, renewal}
 use Rattle.ts_group.specs.Calls.{Handles, IsRun, RunsFrom, if_pending, next_in}
-use Rattle.ts_proxy.specs.Journals.{IsNext, HandlesFrom, HandlesFirst, IsSerial, GoesOnWithin, GoesOnSerially}
+use Rattle.ts_proxy.specs.Journals.{IsNext, last_moment, moment_of, HandlesFrom, HandlesFirst, IsSerial, GoesOnWithin, GoesOnSerially}
 
 no_turns_append : (es fs : List Entry) → NoTurns es → NoTurns fs → NoTurns (es ++ fs)
 no_turns_append [] fs h k = k
@@ -23,33 +23,57 @@ no_turns_append (Took turn seat ∷ es) fs h k = absurd h
 no_turns_append (Gave turn ∷ es) fs h k = absurd h
 no_turns_append (e ∷ es) fs h k = no_turns_append es fs h k
 
-from_append : (low : ℕ) (es fs : List Entry) → HandlesFrom low es → HandlesFrom low fs → HandlesFrom low (es ++ fs)
-from_append low [] fs h k = k
-from_append low (Took turn seat ∷ es) fs h k = tt
-from_append low (Gave turn ∷ es) fs h k = tt
-from_append low (Handled number moment ∷ es) fs (a, b) k = (a, from_append low es fs b k)
-from_append low (e ∷ es) fs h k = from_append low es fs h k
+from_append : (low now : ℕ) (es fs : List Entry) → HandlesFrom low now es → HandlesFrom low now fs → HandlesFrom low now (es ++ fs)
+from_append low now [] fs h k = k
+from_append low now (Took turn seat ∷ es) fs h k = tt
+from_append low now (Gave turn ∷ es) fs h k = tt
+from_append low now (Handled number moment ∷ es) fs (a, same, b) k = (a, same, from_append low now es fs b k)
+from_append low now (e ∷ es) fs h k = from_append low now es fs h k
 
--- A handler's own entries neither begin nor end a turn, and handle nothing.
+-- the moment after entries behind others
+last_append : (m : ℕ) (es fs : List Entry) → last_moment m (es ++ fs) ≡ last_moment (last_moment m es) fs
+last_append m [] fs = refl
+last_append m (Handled number moment ∷ es) fs = last_append moment es fs
+last_append m (e ∷ es) fs = last_append m es fs
+
+-- a turn has one moment
+last_from : (low now : ℕ) (es : List Entry) → NoTurns es → HandlesFrom low now es → last_moment now es ≡ now
+last_from low now [] within h = refl
+last_from low now (Took turn seat ∷ es) within h = absurd within
+last_from low now (Gave turn ∷ es) within h = absurd within
+last_from low now (Handled number moment ∷ es) within (a, same, b) = subst (λ m. last_moment m es ≡ now) (sym same) (last_from low now es within b)
+last_from low now (e ∷ es) within h = last_from low now es within h
+
+-- the moment of a journal that went on
+pub moment_extends : {a b : Log} {es : List Entry} → Extends a b es → moment_of b ≡ last_moment (moment_of a) es
+moment_extends {a} {b} {es} by = ap (last_moment 0) by.entries ∙ last_append 0 a.entries es
+
+-- what is next stays so while a turn begins
+pub next_took : (a b : Log) (turn seat number moment : ℕ) → Extends a b (Took turn seat ∷ []) → IsNext (moment_of a) a.state number moment → IsNext (moment_of b) b.state number moment
+next_took a b turn seat number moment took next =
+    subst (λ s. IsNext (moment_of b) s number moment) (sym took.state) (subst (λ m. IsNext m a.state number moment) (sym (moment_extends took)) next)
+
+-- A handler's own entries neither begin nor end a turn, and handle nothing, so that the moment stays.
 record IsQuiet (es : List Entry) : Type 0 where
   within : NoTurns es
-  from : (low : ℕ) → HandlesFrom low es
-  first : (s : State) → HandlesFirst s es
+  from : (low now : ℕ) → HandlesFrom low now es
+  first : (m : ℕ) (s : State) → HandlesFirst m s es
+  still : (m : ℕ) → last_moment m es ≡ m
 
 own_quiet : (es : List Entry) → AllOwn es → IsQuiet es
-own_quiet [] h = record { within = tt; from = λ low. tt; first = λ s. tt }
+own_quiet [] h = record { within = tt; from = λ low now. tt; first = λ m s. tt; still = λ m. refl }
 own_quiet (Took turn seat ∷ es) (a, b) = absurd a
 own_quiet (Gave turn ∷ es) (a, b) = absurd a
 own_quiet (Handled number moment ∷ es) (a, b) = absurd a
-own_quiet (e ∷ es) (a, b) = let q = own_quiet es b in record { within = q.within; from = q.from; first = λ s. q.first (after s e) }
+own_quiet (e ∷ es) (a, b) = let q = own_quiet es b in record { within = q.within; from = q.from; first = λ m s. q.first m (after s e); still = q.still }
 
 -- so does the next occurrence of a periodic event
 renewal_quiet : (p : Pending) (next moment : ℕ) → IsQuiet (renewal p next moment)
 renewal_quiet p next moment =
     split (nat_lt 0 p.period && nat_lt next 18446744073709551615)
     (λ t. IsQuiet (cond t (Set next p.key Timeout (moment_after moment p.period) p.series p.period ∷ []) []))
-    (λ e. record { within = tt; from = λ low. tt; first = λ s. tt })
-    (λ e. record { within = tt; from = λ low. tt; first = λ s. tt })
+    (λ e. record { within = tt; from = λ low now. tt; first = λ m s. tt; still = λ m. refl })
+    (λ e. record { within = tt; from = λ low now. tt; first = λ m s. tt; still = λ m. refl })
 
 -- the number that is next does not fall
 next_rises : (low : ℕ) (s : State) (es : List Entry) → low ≤ s.next → low ≤ (replay s es).next
@@ -93,19 +117,19 @@ next_from low ps (n ∷ ns) next behind (a, b) is = found (pending_at n ps) is (
         (subst (λ k. low ≤ k) (ap (λ (x : ℕ × List ℕ). x.0) same) a, subst (AllFrom low) (ap (λ (x : ℕ × List ℕ). x.1) same) b)
 
 -- Entries within a turn of which the first handles the event of a number; the events that they handle then have no number
--- below the bound.
+-- below the bound, and the same moment.
 record HandlesThen (low number moment : ℕ) (es : List Entry) : Type 0 where
   rest : List Entry
   is : es ≡ Handled number moment ∷ rest
   within : NoTurns rest
-  from : HandlesFrom low rest
+  from : HandlesFrom low moment rest
 
-then_append : (low number moment : ℕ) (es fs : List Entry) → HandlesThen low number moment es → NoTurns fs → HandlesFrom low fs → HandlesThen low number moment (es ++ fs)
+then_append : (low number moment : ℕ) (es fs : List Entry) → HandlesThen low number moment es → NoTurns fs → HandlesFrom low moment fs → HandlesThen low number moment (es ++ fs)
 then_append low number moment es fs h within from = record {
   rest = h.rest ++ fs;
   is = ap (λ xs. xs ++ fs) h.is;
   within = no_turns_append h.rest fs h.within within;
-  from = from_append low h.rest fs h.from from;
+  from = from_append low moment h.rest fs h.from from;
 }
 
 -- one event with its handler
@@ -118,7 +142,7 @@ run_then low s moment number asked run r =
       rest = again ++ r.own;
       is = r.entries_are;
       within = no_turns_append again r.own a.within b.within;
-      from = from_append low again r.own (a.from low) (b.from low);
+      from = from_append low moment again r.own (a.from low moment) (b.from low moment);
     }
 
 run_asks : (low : ℕ) (s : State) (moment number : ℕ) (asked : List ℕ) (run : List Entry) → IsRun s moment number asked run → IsLawful s run → low ≤ s.next → AllFrom low asked
@@ -140,7 +164,7 @@ runs_then Called u v low s moment number queue (suc (suc k)) es left (asked, run
     let then = runs_then Called mid v low t moment next behind (suc k) rest left more (lawful_back s run rest both) (next_rises low s run below) found.1 in
     subst (HandlesThen low number moment) (sym e)
     (then_append low number moment run rest (run_then low s moment number asked run r)
-    (subst NoTurns (sym then.is) then.within) (subst (HandlesFrom low) (sym then.is) (found.0, then.from)))
+    (subst NoTurns (sym then.is) then.within) (subst (HandlesFrom low moment) (sym then.is) (found.0, refl, then.from)))
 
 -- these entries do not go on within a turn
 abbrev IsApart : List Entry → Type 0
@@ -156,55 +180,74 @@ idle_apart s (Took turn seat ∷ es) idle h = tt
 idle_apart s (Gave turn ∷ es) idle h = tt
 idle_apart s (e ∷ es) idle h = let clash : true ≡ false = sym h.0.0 ∙ idle in cc
 
-apart_from : (low : ℕ) (es : List Entry) → IsApart es → HandlesFrom low es
-apart_from low [] h = tt
-apart_from low (Took turn seat ∷ es) h = tt
-apart_from low (Gave turn ∷ es) h = tt
-apart_from low (e ∷ es) h = absurd h
+apart_from : (low now : ℕ) (es : List Entry) → IsApart es → HandlesFrom low now es
+apart_from low now [] h = tt
+apart_from low now (Took turn seat ∷ es) h = tt
+apart_from low now (Gave turn ∷ es) h = tt
+apart_from low now (e ∷ es) h = absurd h
 
-first_append : (s : State) (es fs : List Entry) → HandlesFirst s es → IsApart fs → HandlesFirst s (es ++ fs)
-first_append s [] [] h k = tt
-first_append s [] (Took turn seat ∷ fs) h k = tt
-first_append s [] (Gave turn ∷ fs) h k = tt
-first_append s [] (f ∷ fs) h k = absurd k
-first_append s (Took turn seat ∷ es) fs h k = tt
-first_append s (Gave turn ∷ es) fs h k = tt
-first_append s (Handled number moment ∷ es) fs (a, b) k = (a, from_append s.next es fs b (apart_from s.next fs k))
-first_append s (e ∷ es) fs h k = first_append (after s e) es fs h k
+first_append : (m : ℕ) (s : State) (es fs : List Entry) → HandlesFirst m s es → IsApart fs → HandlesFirst m s (es ++ fs)
+first_append m s [] [] h k = tt
+first_append m s [] (Took turn seat ∷ fs) h k = tt
+first_append m s [] (Gave turn ∷ fs) h k = tt
+first_append m s [] (f ∷ fs) h k = absurd k
+first_append m s (Took turn seat ∷ es) fs h k = tt
+first_append m s (Gave turn ∷ es) fs h k = tt
+first_append m s (Handled number moment ∷ es) fs (a, b) k = (a, from_append s.next moment es fs b (apart_from s.next moment fs k))
+first_append m s (e ∷ es) fs h k = first_append m (after s e) es fs h k
 
-serial_append : (s : State) (es fs : List Entry) → IsSerial s es → IsApart fs → IsSerial (replay s es) fs → IsSerial s (es ++ fs)
-serial_append s [] fs h apart k = k
-serial_append s (Took turn seat ∷ es) fs (next, seated, first, h) apart k =
+serial_append : (m : ℕ) (s : State) (es fs : List Entry) → IsSerial m s es → IsApart fs → IsSerial (last_moment m es) (replay s es) fs → IsSerial m s (es ++ fs)
+serial_append m s [] fs h apart k = k
+serial_append m s (Took turn seat ∷ es) fs (next, seated, first, h) apart k =
     let t = after s (Took turn seat) in
-    (next, seated, first_append t es fs first apart, serial_append t es fs h apart k)
-serial_append s (e ∷ es) fs h apart k = serial_append (after s e) es fs h apart k
+    (next, seated, first_append m t es fs first apart, serial_append m t es fs h apart k)
+serial_append m s (Handled number moment ∷ es) fs h apart k = serial_append moment (after s (Handled number moment)) es fs h apart k
+serial_append m s (e ∷ es) fs h apart k = serial_append m (after s e) es fs h apart k
 
-within_serial : (s : State) (es : List Entry) → NoTurns es → IsSerial s es
-within_serial s [] h = tt
-within_serial s (Took turn seat ∷ es) h = absurd h
-within_serial s (Gave turn ∷ es) h = absurd h
-within_serial s (e ∷ es) h = within_serial (after s e) es h
+within_serial : (m : ℕ) (s : State) (es : List Entry) → NoTurns es → IsSerial m s es
+within_serial m s [] h = tt
+within_serial m s (Took turn seat ∷ es) h = absurd h
+within_serial m s (Gave turn ∷ es) h = absurd h
+within_serial m s (Handled number moment ∷ es) h = within_serial moment (after s (Handled number moment)) es h
+within_serial m s (e ∷ es) h = within_serial m (after s e) es h
 
 -- a handler's own calls go on within its turn
 pub within_grows : (a b : Context) → Grows a b → GoesOnWithin a.log b.log
 within_grows a b g =
     let q = own_quiet g.log.own g.log.all_own in
-    record { added = g.log.own; by = g.log.by; within = q.within; first = q.first a.log.state }
+    record { added = g.log.own; by = g.log.by; within = q.within; first = q.first (moment_of a.log) a.log.state }
 
--- so do the events that are handled with that of the number that is next, and the calls after them
-pub within_handled : {W : Type 0} (Called : W → W → List ℕ → Type 0) (u v : W) (a b c : Context) (number moment events : ℕ) → Handles Called u v a b number moment events
-    → IsNext a.log.state number → Grows b c → GoesOnWithin a.log c.log
-within_handled Called u v a b c number moment events h next g =
+-- and leave the moment as it is
+pub moment_grows : (a b : Context) → Grows a b → moment_of b.log ≡ moment_of a.log
+moment_grows a b g = moment_extends g.log.by ∙ (own_quiet g.log.own g.log.all_own).still (moment_of a.log)
+
+-- the events that are handled with that of a number, and the calls after them
+then_grows : {W : Type 0} (Called : W → W → List ℕ → Type 0) (u v : W) (a b c : Context) (number moment events : ℕ) (h : Handles Called u v a b number moment events)
+    → (g : Grows b c) → HandlesThen a.log.state.next number moment (h.es ++ g.log.own)
+then_grows Called u v a b c number moment events h g =
     let low = a.log.state.next in
     let q = own_quiet g.log.own g.log.all_own in
     let runs = runs_then Called u v low a.log.state moment number [] events h.es b.calls h.runs h.by.lawful (omega arith) tt in
-    let all = then_append low number moment h.es g.log.own runs q.within (q.from low) in
+    then_append low number moment h.es g.log.own runs q.within (q.from low moment)
+
+-- they go on within a turn if the number is next
+pub within_handled : {W : Type 0} (Called : W → W → List ℕ → Type 0) (u v : W) (a b c : Context) (number moment events : ℕ) → Handles Called u v a b number moment events
+    → IsNext (moment_of a.log) a.log.state number moment → Grows b c → GoesOnWithin a.log c.log
+within_handled Called u v a b c number moment events h next g =
+    let all = then_grows Called u v a b c number moment events h g in
     record {
       added = h.es ++ g.log.own;
       by = extends_trans h.by g.log.by;
       within = subst NoTurns (sym all.is) all.within;
-      first = subst (HandlesFirst a.log.state) (sym all.is) (next, all.from);
+      first = subst (HandlesFirst (moment_of a.log) a.log.state) (sym all.is) (next, all.from);
     }
+
+-- and the moment moves on to theirs
+pub moment_handled : {W : Type 0} (Called : W → W → List ℕ → Type 0) (u v : W) (a b c : Context) (number moment events : ℕ) → Handles Called u v a b number moment events
+    → Grows b c → moment_of c.log ≡ moment
+moment_handled Called u v a b c number moment events h g =
+    let all = then_grows Called u v a b c number moment events h g in
+    moment_extends (extends_trans h.by g.log.by) ∙ ap (last_moment (moment_of a.log)) all.is ∙ last_from a.log.state.next moment all.rest all.within all.from
 
 -- turns after turns
 pub serial_trans : (a b c : Log) → GoesOnSerially a b → b.state.held ≡ false → GoesOnSerially b c → GoesOnSerially a c
@@ -212,20 +255,24 @@ serial_trans a b c p idle q = record {
   turns = p.turns ++ q.turns;
   by = extends_trans p.by q.by;
   serial =
-      serial_append a.state p.turns q.turns p.serial (idle_apart b.state q.turns idle q.by.lawful)
-      (subst (λ s. IsSerial s q.turns) p.by.state q.serial);
+      let from : IsSerial (last_moment (moment_of a) p.turns) b.state q.turns = subst (λ m. IsSerial m b.state q.turns) (moment_extends p.by) q.serial in
+      serial_append (moment_of a) a.state p.turns q.turns p.serial (idle_apart b.state q.turns idle q.by.lawful)
+      (subst (λ s. IsSerial (last_moment (moment_of a) p.turns) s q.turns) p.by.state from);
 }
 
 -- one turn
 pub serial_turn : (a b c d : Log) (turn given : ℕ) → turn ≡ a.state.turns + 1 → Extends a b (Took turn 0 ∷ []) → GoesOnWithin b c → Extends c d (Gave given ∷ []) → GoesOnSerially a d
 serial_turn a b c d turn given next took g gave =
-    let s = after a.state (Took turn 0) in record {
+    let m = moment_of a in
+    let s = after a.state (Took turn 0) in
+    let first : HandlesFirst m b.state g.added = subst (λ n. HandlesFirst n b.state g.added) (moment_extends took) g.first in
+    record {
       turns = Took turn 0 ∷ g.added ++ Gave given ∷ [];
       by = extends_trans took (extends_trans g.by gave);
       serial = (
         next,
         refl,
-        first_append s g.added (Gave given ∷ []) (subst (λ t. HandlesFirst t g.added) took.state g.first) tt,
-        serial_append s g.added (Gave given ∷ []) (within_serial s g.added g.within) tt tt,
+        first_append m s g.added (Gave given ∷ []) (subst (λ t. HandlesFirst m t g.added) took.state first) tt,
+        serial_append m s g.added (Gave given ∷ []) (within_serial m s g.added g.within) tt tt,
       );
     }

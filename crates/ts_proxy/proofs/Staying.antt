@@ -1,11 +1,9 @@
 -- A world of a chain stays sound while its client takes bytes.
-use Rattle.std.proofs.Common.{◌≡◌, ℕ, ◌<◌, ◌≤◌, ◌++◌, List, Bool, true, Option, length, take, sym, ap, subst, ◌∙◌, append_assoc}
+use Rattle.std.proofs.Common.{◌≡◌, ℕ, ◌<◌, ◌≤◌, ◌++◌, List, true, length, take, sym, ap, subst, ◌∙◌, append_assoc}
 use Rattle.std.proofs.lemmas.List.{take-take}
 use Rattle.ts_journal.specs.declared.entry.Pending.{Pending}
 use Rattle.ts_group.specs.declared.action.Named.{Named}
-use Rattle.ts_transform.specs.declared.continuation.StageContinuation.{StageContinuation}
 use Rattle.ts_transform.specs.declared.world.ChainWorld.{ChainWorld}
-use Rattle.ts_transform.specs.Flow.{ChainState}
 use Rattle.ts_transform.specs.Cover.{IsSound, IsAwake}
 use Rattle.ts_proxy.specs.Driven.{Passes, StaysSound}
 

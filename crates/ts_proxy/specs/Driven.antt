@@ -1,5 +1,5 @@
 -- How far a text got into a sink, and a body through a chain.
-use Rattle.std.specs.Prelude.{◌≡◌, ℕ, ◌+◌, ◌*◌, ◌≤◌, ◌++◌, List, [], ◌∷◌, Bool, true, false, Option, Some}
+use Rattle.std.specs.Prelude.{◌≡◌, ℕ, ◌+◌, ◌*◌, ◌≤◌, ◌++◌, List, [], ◌∷◌, Bool, true, false, Some}
 use Rattle.ts_journal.specs.State.{State, pending_at}
 use Rattle.ts_journal.specs.Log.{Log}
 use Rattle.ts_proxy.specs.declared.drive.Driven.{Driven}

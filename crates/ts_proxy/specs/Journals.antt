@@ -1,5 +1,5 @@
 -- How a journal goes on under its driver, and how it stands once all of its events are handled.
-use Rattle.std.specs.Prelude.{◌≡◌, ℕ, ◌+◌, ◌≤◌, false, List, [], ◌∷◌}
+use Rattle.std.specs.Prelude.{◌≡◌, ℕ, ◌+◌, ◌≤◌, false, List, [], ◌∷◌, max}
 use Rattle.ts_journal.specs.declared.entry.Entry.{Entry}
 use Rattle.ts_journal.specs.declared.entry.Entry.TheVariants.{Took, Gave, Handled}
 use Rattle.ts_journal.specs.declared.entry.Pending.{Pending}
@@ -10,46 +10,60 @@ use Rattle.ts_journal.specs.Machine.{IsLawful, after, replay}
 use Rattle.ts_group.specs.Context.{own_key}
 use Rattle.ts_group.specs.Due.{IsFirstDue}
 
--- the event of this number is pending, and no pending event is due before it
-abbrev pub IsNext : State → ℕ → Type 0
-IsNext s number = (p : Pending) × (p.number ≡ number) × IsFirstDue s p
+-- the moment of the last event that these entries handle, or the one before them
+abbrev pub last_moment : ℕ → List Entry → ℕ
+last_moment m [] = m
+last_moment m (Handled number moment ∷ es) = last_moment moment es
+last_moment m (_ ∷ es) = last_moment m es
 
--- what is left of a turn handles only events that have this number or a later one
-abbrev pub HandlesFrom : ℕ → List Entry → Type 0
-HandlesFrom low [] = Unit {0}
-HandlesFrom low (Took turn seat ∷ es) = Unit {0}
-HandlesFrom low (Gave turn ∷ es) = Unit {0}
-HandlesFrom low (Handled number moment ∷ es) = (low ≤ number) × HandlesFrom low es
-HandlesFrom low (_ ∷ es) = HandlesFrom low es
+-- the moment of a journal's driver, which begins at 0
+abbrev pub moment_of : Log → ℕ
+moment_of j = last_moment 0 j.entries
 
--- the event that a turn handles first is due first, and each that it handles then was set since
-abbrev pub HandlesFirst : State → List Entry → Type 0
-HandlesFirst s [] = Unit {0}
-HandlesFirst s (Took turn seat ∷ es) = Unit {0}
-HandlesFirst s (Gave turn ∷ es) = Unit {0}
-HandlesFirst s (Handled number moment ∷ es) = IsNext s number × HandlesFrom s.next es
-HandlesFirst s (e ∷ es) = HandlesFirst (after s e) es
+-- The event of this number is pending, and no pending event is due before it. The moment is the later one of the moment
+-- before and that at which the event is due.
+abbrev pub IsNext : ℕ → State → ℕ → ℕ → Type 0
+IsNext m s number moment = (p : Pending) × (p.number ≡ number) × (moment ≡ max m p.due) × IsFirstDue s p
 
--- The turns of one driver that nobody else drives beside: each has seat 0 and the number after the one before, and
--- handles one event, which is due first, and what is set while it is handled.
-abbrev pub IsSerial : State → List Entry → Type 0
-IsSerial s [] = Unit {0}
-IsSerial s (Took turn seat ∷ es) =
-    (turn ≡ s.turns + 1) × (seat ≡ 0) × HandlesFirst (after s (Took turn seat)) es × IsSerial (after s (Took turn seat)) es
-IsSerial s (e ∷ es) = IsSerial (after s e) es
+-- what is left of a turn handles only events that have this number or a later one, each at this moment
+abbrev pub HandlesFrom : ℕ → ℕ → List Entry → Type 0
+HandlesFrom low now [] = Unit {0}
+HandlesFrom low now (Took turn seat ∷ es) = Unit {0}
+HandlesFrom low now (Gave turn ∷ es) = Unit {0}
+HandlesFrom low now (Handled number moment ∷ es) = (low ≤ number) × (moment ≡ now) × HandlesFrom low now es
+HandlesFrom low now (_ ∷ es) = HandlesFrom low now es
+
+-- The event that a turn handles first is due first, and each that it handles then was set since. The moment moves on from
+-- the one before to that at which the first is due, if that is later, and stays for the turn.
+abbrev pub HandlesFirst : ℕ → State → List Entry → Type 0
+HandlesFirst m s [] = Unit {0}
+HandlesFirst m s (Took turn seat ∷ es) = Unit {0}
+HandlesFirst m s (Gave turn ∷ es) = Unit {0}
+HandlesFirst m s (Handled number moment ∷ es) = IsNext m s number moment × HandlesFrom s.next moment es
+HandlesFirst m s (e ∷ es) = HandlesFirst m (after s e) es
+
+-- The turns of one driver that nobody else drives beside, from a moment of it on: each has seat 0 and the number after the
+-- one before. It handles nothing, as the turn in which the work begins does, or one event, which is due first, and then
+-- only what is set while it is handled. The driver's moment moves on to what is due, and no further.
+abbrev pub IsSerial : ℕ → State → List Entry → Type 0
+IsSerial m s [] = Unit {0}
+IsSerial m s (Took turn seat ∷ es) =
+    (turn ≡ s.turns + 1) × (seat ≡ 0) × HandlesFirst m (after s (Took turn seat)) es × IsSerial m (after s (Took turn seat)) es
+IsSerial m s (Handled number moment ∷ es) = IsSerial moment (after s (Handled number moment)) es
+IsSerial m s (e ∷ es) = IsSerial m (after s e) es
 
 -- a journal goes on from the beginning of a turn, within that turn
 pub record GoesOnWithin (old new : Log) : Type 0 where
   pub added : List Entry
   pub by : Extends old new added
   pub within : NoTurns added
-  pub first : HandlesFirst old.state added
+  pub first : HandlesFirst (moment_of old) old.state added
 
 -- a journal goes on by turns of the serial driver
 pub record GoesOnSerially (old new : Log) : Type 0 where
   pub turns : List Entry
   pub by : Extends old new turns
-  pub serial : IsSerial old.state turns
+  pub serial : IsSerial (moment_of old) old.state turns
 
 -- a journal that is lawful and not held, with nothing pending
 pub record IsFinal (j : Log) : Type 0 where
@@ -61,5 +75,5 @@ pub record IsFinal (j : Log) : Type 0 where
 -- the journal of a new group that the serial driver alone drove, to its end
 pub record IsOfDriver (j : Log) : Type 0 where
   pub base : j.base ≡ fresh_with 0 own_key
-  pub serial : IsSerial j.base j.entries
+  pub serial : IsSerial 0 j.base j.entries
   pub final : IsFinal j

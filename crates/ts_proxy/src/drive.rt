@@ -6,7 +6,7 @@ ghost use Rattle.ts_group.specs.declared.action.Named.{Named};
 ghost use Rattle.ts_group.specs.Context.{AllPlain};
 ghost use Rattle.ts_transform.specs.Flow.{flow, last_wait};
 ghost use Rattle.ts_transform.specs.Cover.{IsSound, IsSoundGroup, IsAwake};
-ghost use Rattle.ts_proxy.specs.Journals.{IsNext, GoesOnWithin, GoesOnSerially};
+ghost use Rattle.ts_proxy.specs.Journals.{moment_of, IsNext, GoesOnWithin, GoesOnSerially};
 ghost use Rattle.ts_proxy.specs.Driven.{WroteAll, Passes, OnDone, AddsJournal, StaysSound, IsDue, is_failed, is_no_memory, left_of};
 
 use std::alloc::Global;
@@ -71,10 +71,11 @@ fn handle<P: Transform + Drop>(
     requires turn { group.old.cx.log.state.held ≡ true }
     requires sound { IsSoundGroup group.old }
     requires due { IsDue group.old.cx.log.state number moment }
-    requires next { IsNext group.old.cx.log.state number }
+    requires next { IsNext (moment_of group.old.cx.log) group.old.cx.log.state number moment }
     ensures turn { group.new.cx.log.state.held ≡ true }
     ensures turns { group.new.cx.log.state.turns ≡ group.old.cx.log.state.turns }
     ensures within { GoesOnWithin group.old.cx.log group.new.cx.log }
+    ensures moment { OnOk result (moment_of group.new.cx.log ≡ moment) }
     ensures flow { flow P.rest group.new.world.chain [] ≡ flow P.rest group.old.world.chain [] }
     ensures sound { OnOk result (IsSoundGroup group.new) }
     ensures awake { OnOk result (group.new.world.running ≡ true → IsAwake group.new.world.chain group.new.world.table.items) }
@@ -101,9 +102,10 @@ fn take_turn<P: Transform + Drop>(
     requires idle { group.old.cx.log.state.held ≡ false }
     requires sound { IsSoundGroup group.old }
     requires due { IsDue group.old.cx.log.state number moment }
-    requires next { IsNext group.old.cx.log.state number }
+    requires next { IsNext (moment_of group.old.cx.log) group.old.cx.log.state number moment }
     ensures idle { group.new.cx.log.state.held ≡ false }
     ensures serial { GoesOnSerially group.old.cx.log group.new.cx.log }
+    ensures moment { OnOk result (moment_of group.new.cx.log ≡ moment) }
     ensures flow { flow P.rest group.new.world.chain [] ≡ flow P.rest group.old.world.chain [] }
     ensures sound { OnOk result (IsSoundGroup group.new) }
     ensures awake { OnOk result (group.new.world.running ≡ true → IsAwake group.new.world.chain group.new.world.table.items) }
@@ -126,6 +128,7 @@ fn start<P: Transform + Drop>(group: &mut Group<ChainWorld<P>>) -> Result<(), No
     requires sound { IsSoundGroup group.old }
     ensures idle { group.new.cx.log.state.held ≡ false }
     ensures serial { GoesOnSerially group.old.cx.log group.new.cx.log }
+    ensures moment { OnOk result (moment_of group.new.cx.log ≡ moment_of group.old.cx.log) }
     ensures flow { flow P.rest group.new.world.chain [] ≡ flow P.rest group.old.world.chain [] }
     ensures sound { OnOk result (IsSoundGroup group.new) }
     ensures awake { OnOk result (group.new.world.running ≡ true → IsAwake group.new.world.chain group.new.world.table.items) }
@@ -148,6 +151,7 @@ fn start<P: Transform + Drop>(group: &mut Group<ChainWorld<P>>) -> Result<(), No
 #[tactic(auto, using(crate::proofs::Serial::serial_trans))]
 fn run_events<P: Transform + Drop, K: Sink>(group: &mut Group<ChainWorld<P>>, out: &mut K) -> Driven
     requires idle { group.old.cx.log.state.held ≡ false }
+    requires fresh { moment_of group.old.cx.log ≡ 0 }
     requires sound { IsSoundGroup group.old }
     requires dry { last_wait group.old.world.chain.first group.old.world.chain.stages ≡ [] }
     ensures told { K.tells ≡ true → Passes (K.taken out.old) (K.taken out.new) (flow P.rest group.old.world.chain []) (flow P.rest group.new.world.chain []) }
@@ -183,6 +187,7 @@ fn drive_group<P: Transform + Drop, K: Sink>(
     out: &mut K,
 ) -> Driven
     requires idle { group.old.cx.log.state.held ≡ false }
+    requires fresh { moment_of group.old.cx.log ≡ 0 }
     requires sound { IsSoundGroup group.old }
     ensures told { K.tells ≡ true → WroteAll result (K.taken out.old) (K.taken out.new) (flow P.rest group.old.world.chain []) }
     ensures faults { Counted (is_failed result) (K.faults out.old) (K.faults out.new) }

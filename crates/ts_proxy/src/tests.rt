@@ -411,3 +411,27 @@ fn failures(rt: HostRuntime) -> Result<(), Fail> {
     }
     Ok(())
 }
+
+// The driver's turns for two stages and a body of 40,000 bytes: it begins, then each stage moves two pieces and ends, and
+// in the last turn the first stage is told too that its output was written.
+#[test]
+fn turns_of_two_stages(rt: HostRuntime) -> Result<(), Fail> {
+    let alloc = rt.alloc();
+    let (config, body) = (nulls(alloc, 2)?, vec![in alloc; b'x'; 40_000]?);
+    let mut shelf = MemShelf::make(alloc);
+    shelf.add("c", config.as_slice())?;
+    shelf.add("b", body.as_slice())?;
+    let (mut out, mut err) = (
+        MemSink::make(alloc, 65_536, Vec::new(alloc)),
+        MemSink::make(alloc, 7, Vec::new(alloc)),
+    );
+    let said = words(alloc, &["transform", "c", "b"])?;
+    let ended = run(alloc, said.as_slice(), &mut shelf, &mut out, &mut err);
+    assert_eq!(rt; ended.journals.len(), 1);
+    for journal in ended.journals.as_slice() {
+        let counts = journal.counts();
+        assert_eq!(rt; journal.turns(), 7);
+        assert_eq!(rt; (counts.set, counts.handled, counts.pending), (7, 7, 0));
+    }
+    Ok(())
+}

@@ -12,6 +12,7 @@ driving-preserved g c =
           (ap (λ w. flow g.P.Transform.rest w.chain []) c.world_mut.ensures.value ∙ c.in-Ok.ensures.flow) (c.drain.ensures.told tells);
       faults = search rules;
       idle = search rules;
+      moment = search rules;
       serial = serial_trans c.args.group.now.cx.log c.driving.group.cx.log handled.cx.log c.driving.invariant.serial c.driving.invariant.idle c.in-Ok.ensures.serial;
       sound = drained handled.world c.world_mut.result.now c.drain.new.world handled.cx.log.state.pending handled.cx.roles c.world_mut.ensures.value c.drain.ensures.stays
           c.in-Ok.ensures.awake c.in-Ok.ensures.sound;
