@@ -1,44 +1,48 @@
 -- The runs of a body between the bytes that a drop line leaves out.
-use Rattle.std.proofs.Common.{◌≡◌, ◌==◌, ℕ, zero, suc, ◌+◌, ◌-◌, ◌<◌, ◌≤◌, ◌++◌, true, false, List, [], ◌∷◌, Some, None, length, take, drop, get_or, refl, sym, ap, ◌∙◌, arith, take-add, length-take-le}
-use Rattle.std.proofs.lemmas.Bool.{false_from_ne_true}
-use Rattle.std.proofs.lemmas.List.{take-take, take_at, drop_at, take-append-le}
+use Rattle.std.proofs.Common.{◌≡◌, ◌≢◌, ◌==◌, ℕ, zero, suc, ◌+◌, ◌-◌, ◌<◌, ◌≤◌, ◌++◌, true, false, not, cond, List, [], ◌∷◌, length, take, drop, get_or, refl, sym, ap, ◌∙◌, arith, take-add, length-take-le, length-drop}
+use Rattle.std.proofs.lemmas.Bool.{false_from_ne_true, eqb-true, eq-eqb}
+use Rattle.std.proofs.lemmas.List.{take_at, drop_at, take-append-le, get_or-take, get_or-drop}
 use borrow.Rule.Slice.PartMut.{put_mid}
 use Rattle.std.proofs.lemmas.List.Elements.{filter-append}
-use Rattle.memchr.specs.Find.{IsFirstByte, is_byte}
 use Rattle.ts_config.specs.Bodies.{without}
+use Rattle.ts_stock.specs.Dropping.{IsFree}
 use native.Mathlib.Numerals.{unary_clauses}
 
 -- bytes of which none is left out stay
-without_none : (byte : ℕ) (ys : List ℕ) → ((k : ℕ) → k < length ys → ¬ ((get_or ys k 0 == byte) ≡ true)) → without byte ys ≡ ys
-without_none byte [] none = refl
-without_none byte (y ∷ ys) none =
-    let other : (y == byte) ≡ false = false_from_ne_true (y == byte) (none 0 (omega arith)) in
-    rw (other, without_none byte ys (λ k below. none (suc k) (omega (arith, below)))) refl
-
--- a run stays, and the byte behind it does not
-without_one : (byte run : ℕ) (ys : List ℕ) → run < length ys → ((k : ℕ) → k < run → ¬ ((get_or ys k 0 == byte) ≡ true)) → (get_or ys run 0 == byte) ≡ true
-    → without byte (take (suc run) ys) ≡ take run ys
-without_one byte run [] below none there = absurd (omega (arith, below))
-without_one byte zero (y ∷ ys) below none there = rw there refl
-without_one byte (suc run) (y ∷ ys) below none there =
-    let other : (y == byte) ≡ false = false_from_ne_true (y == byte) (none 0 (omega arith)) in
-    rw (other, without_one byte run ys (omega (arith, below)) (λ k less. none (suc k) (omega (arith, less))) there) refl
-
--- of the bytes up to the byte's first place the run before it stays
-pub run_stays : (byte run : ℕ) (ys : List ℕ) → IsFirstByte (is_byte byte) ys (Some run) → without byte (take (run + 1) ys) ≡ take run ys
-run_stays byte run ys (none, there) =
-    simp unary_clauses (without_one byte run ys none.high (λ k below. none.before k (omega arith) below) there)
-
--- where the byte does not come, all stays
-pub all_stay : (byte : ℕ) (ys : List ℕ) → IsFirstByte (is_byte byte) ys None → without byte ys ≡ ys
-all_stay byte ys none = without_none byte ys (λ k below. none k (omega arith) below)
+none_left_out : (byte : ℕ) (ys : List ℕ) → ((k : ℕ) → k < length ys → get_or ys k 0 ≢ byte) → without byte ys ≡ ys
+none_left_out byte [] none = refl
+none_left_out byte (y ∷ ys) none =
+    let other : (y == byte) ≡ false = false_from_ne_true (y == byte) (λ same. none 0 (omega arith) (eqb-true y byte same)) in
+    rw (other, none_left_out byte ys (λ k below. none (suc k) (omega (arith, below)))) refl
 
 -- of a longer front stays what stays of the front and of the bytes behind it
-pub front_grows : (byte done front most : ℕ) (ys : List ℕ) → front ≤ most - done
-    → without byte (take (done + front) ys) ≡ without byte (take done ys) ++ without byte (take front (take (most - done) (drop done ys)))
-front_grows byte done front most ys within =
-    ap (without byte) (take-add done front ys) ∙ filter-append _ (take done ys) (take front (drop done ys))
-    ∙ ap (λ t. without byte (take done ys) ++ without byte t) (sym (take-take front (most - done) (drop done ys) within))
+pub front_grows : (byte from until : ℕ) (ys : List ℕ) → from ≤ until
+    → without byte (take until ys) ≡ without byte (take from ys) ++ without byte (take (until - from) (drop from ys))
+front_grows byte from until ys order =
+    let sum : until ≡ from + (until - from) = omega (arith, order) in
+    ap (λ n. without byte (take n ys)) sum ∙ ap (without byte) (take-add from (until - from) ys) ∙ filter-append _ (take from ys) (take (until - from) (drop from ys))
+
+-- a run without the byte stays whole
+pub run_stays : (byte from until : ℕ) (ys : List ℕ) → from ≤ until → until ≤ length ys → IsFree byte ys from until
+    → without byte (take until ys) ≡ without byte (take from ys) ++ take (until - from) (drop from ys)
+run_stays byte from until ys order within free =
+    let run = take (until - from) (drop from ys) in
+    let len : length run ≡ until - from = length-take-le (until - from) (drop from ys) (omega (arith, within, length-drop from ys)) in
+    front_grows byte from until ys order
+    ∙ ap (λ t. without byte (take from ys) ++ t) (none_left_out byte run (λ k below same.
+    let short : k < until - from = omega (arith, below, len) in
+    free (from + k) (omega arith) (omega (arith, short)) (sym (get_or-take (until - from) (drop from ys) k 0 short ∙ get_or-drop from ys k 0) ∙ same)))
+
+-- the byte itself does not stay
+left_out : (byte place : ℕ) (ys : List ℕ) → place < length ys → (get_or ys place 0 == byte) ≡ true → without byte (take (suc place) ys) ≡ without byte (take place ys)
+left_out byte place [] within there = absurd (omega (arith, within))
+left_out byte zero (y ∷ ys) within there = rw there refl
+left_out byte (suc place) (y ∷ ys) within there =
+    ap (λ t. cond (not (y == byte)) (y ∷ t) t) (left_out byte place ys (omega (arith, within)) there)
+
+-- up to and with a place of the byte stays what stays up to it
+pub place_left_out : (byte place : ℕ) (ys : List ℕ) → place < length ys → get_or ys place 0 ≡ byte → without byte (take (place + 1) ys) ≡ without byte (take place ys)
+place_left_out byte place ys within there = simp unary_clauses (left_out byte place ys within (eq-eqb _ byte there))
 
 -- what was filled before and what was filled behind it
 pub filled_grows : (filled kept most : ℕ) (room new : List ℕ) → filled ≤ length room → kept ≤ length new

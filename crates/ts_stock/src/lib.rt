@@ -2,8 +2,10 @@
 //! line makes of the whole.
 #![tactic(auto)]
 
-mod blocks;
+mod dropping;
 mod held;
+mod mapping;
+mod places;
 mod stock;
 
 pub use stock::Stock;

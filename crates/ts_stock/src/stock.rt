@@ -4,8 +4,9 @@ ghost use Rattle.ts_iobuf.specs.Buffer.{Grows};
 ghost use Rattle.ts_transform.specs.Law.{Feeds};
 ghost use Rattle.ts_stock.specs.Stock.{still_writes, start_of, fed, written_at_feed, pause_of, CountTaken};
 
-use crate::blocks::{write_mapped, write_without};
+use crate::dropping::write_without;
 use crate::held::Held;
+use crate::mapping::write_mapped;
 use std::alloc::Global;
 use std::marker::Model;
 use ts_config::TransformLine;

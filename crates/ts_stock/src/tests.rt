@@ -1,5 +1,6 @@
 use crate::Stock;
 use std::alloc::Global;
+use std::process::Abort;
 use std::test::Fail;
 use ts_config::{TransformLine, read_config};
 use ts_iobuf::IoBuffer;
@@ -85,14 +86,22 @@ fn chains_give_the_rows(rt: HostRuntime) -> Result<(), Fail> {
         let out = outcome(alloc, config, b">", body)?;
         assert_eq!(rt; out.as_slice(), *want);
     }
+    for (every, len) in [(1, 65_537), (3, 65_537), (63, 65_537), (64, 64)] {
+        long_bodies(&rt, alloc, every, len)?;
+    }
+    Ok(())
+}
+
+// A body of these many bytes, each of which is an `x` but for a `q` at the multiples of `every`, through three lines.
+fn long_bodies(rt: &impl Abort, alloc: Global, every: u32, len: u32) -> Result<(), Fail> {
     let mut body: Vec<u8> = Vec::new(alloc);
     let mut mapped: Vec<u8> = Vec::new(alloc);
     let mut kept: Vec<u8> = Vec::new(alloc);
-    for i in 0..65_537u32 {
-        let last = i % 3 == 2;
-        body.push(if last { b'q' } else { b'x' })?;
-        mapped.push(if last { b'q' } else { b'y' })?;
-        if !last {
+    for i in 0..len {
+        let dropped = i.is_multiple_of(every);
+        body.push(if dropped { b'q' } else { b'x' })?;
+        mapped.push(if dropped { b'q' } else { b'y' })?;
+        if !dropped {
             kept.push(b'x')?;
         }
     }

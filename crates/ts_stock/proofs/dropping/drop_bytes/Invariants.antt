@@ -1,6 +1,6 @@
 use Rattle.std.proofs.Common.{◌≡◌, ◌≤◌, take}
 use Rattle.ts_config.specs.Bodies.{without}
-use Rattle.ts_stock.proofs.blocks.drop_bytes.Given as goal
+use Rattle.ts_stock.proofs.dropping.drop_bytes.Given as goal
 
 -- the filled front of the room is the front of the input, less the byte
 abbrev pub invariant-loop-i : goal.invariant-loop-i
