@@ -11,7 +11,10 @@ ArePlaces byte block places = (k : ℕ) → (bit_at places k ≡ 1) ↔ ((k < le
 abbrev pub IsFree : (byte : ℕ) (input : List ℕ) (from until : ℕ) → Type 0
 IsFree byte input from until = (k : ℕ) → from ≤ k → k < until → slice_index input k ≢ byte
 
--- what comes before `done`, less the byte, is the filled front of the room
-pub record IsWritten (byte : ℕ) (input room : List ℕ) (done filled : ℕ) : Type 0 where
+-- up to `start` all is looked at: what comes before `done`, less the byte, is the filled front of the room, and from there
+-- on comes a run that stays and is not copied yet
+pub record IsUpTo (byte : ℕ) (input room : List ℕ) (done filled start : ℕ) : Type 0 where
+  pub order : done ≤ start
   pub within : filled ≤ done
   pub bytes : take filled room ≡ without byte (take done input)
+  pub free : IsFree byte input done start

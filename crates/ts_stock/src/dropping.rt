@@ -2,7 +2,7 @@
 ghost use Rattle.std.specs.Prelude.{◌≡◌, ◌+◌, ◌<◌, ◌≤◌, ◌++◌, length, take, drop, IfOk, OnErr};
 ghost use Rattle.ts_config.specs.Bodies.{without};
 ghost use Rattle.ts_iobuf.specs.Buffer.{Grows};
-ghost use Rattle.ts_stock.specs.Dropping.{ArePlaces, IsFree, IsWritten};
+ghost use Rattle.ts_stock.specs.Dropping.{ArePlaces, IsUpTo};
 
 use crate::places::{BLOCK, first_of, less, places_in};
 use ts_iobuf::IoBuffer;
@@ -11,7 +11,7 @@ use ts_link::NoMemory;
 // A block in which the byte stands at more places than these costs less byte by byte than by runs.
 const FEW: u32 = 8;
 
-// So many bytes are then taken by a loop without a branch.
+// Byte by byte, this many are taken by a loop that a compiler unrolls.
 const PIECE: usize = 32;
 
 // How far an input is written: what comes before `done` fills the first `filled` bytes of the room.
@@ -59,12 +59,10 @@ fn take_bytes(
     end: usize,
     written: Written,
 ) -> Written
-    requires order { (written.done ≤ start) × (start ≤ end) × (end ≤ length input.now) }
-    requires room { length input.now ≤ length room.old }
-    requires written { IsWritten byte input.now room.old written.done written.filled }
-    requires free { IsFree byte input.now written.done start }
+    requires within { (start ≤ end) × (end ≤ length input.now) × (length input.now ≤ length room.old) }
+    requires up_to { IsUpTo byte input.now room.old written.done written.filled start }
     ensures done { result.done ≡ end }
-    ensures written { IsWritten byte input.now room.new result.done result.filled }
+    ensures up_to { IsUpTo byte input.now room.new result.done result.filled end }
 {
     let filled = write_run(room, written.filled, &input[written.done..start]);
     let kept = drop_bytes(&mut room[filled..], &input[start..end], byte);
@@ -83,14 +81,10 @@ fn take_runs(
     places: u64,
     written: Written,
 ) -> Written
-    requires order { (written.done ≤ start) × (start + 64 ≤ length input.now) }
-    requires room { length input.now ≤ length room.old }
+    requires within { (start + 64 ≤ length input.now) × (length input.now ≤ length room.old) }
     requires places { ArePlaces byte (take 64 (drop start input.now)) places }
-    requires written { IsWritten byte input.now room.old written.done written.filled }
-    requires free { IsFree byte input.now written.done start }
-    ensures order { result.done ≤ start + 64 }
-    ensures written { IsWritten byte input.now room.new result.done result.filled }
-    ensures free { IsFree byte input.now result.done (start + 64) }
+    requires up_to { IsUpTo byte input.now room.old written.done written.filled start }
+    ensures { IsUpTo byte input.now room.new result.done result.filled (start + 64) }
 {
     let mut left = places;
     let mut written = written;
@@ -109,13 +103,9 @@ fn take_runs(
 
 // Goes on over the block at `start` byte by byte.
 fn take_pieces(room: &mut [u8], input: &[u8], byte: u8, start: usize, written: Written) -> Written
-    requires order { (written.done ≤ start) × (start + 64 ≤ length input.now) }
-    requires room { length input.now ≤ length room.old }
-    requires written { IsWritten byte input.now room.old written.done written.filled }
-    requires free { IsFree byte input.now written.done start }
-    ensures order { result.done ≤ start + 64 }
-    ensures written { IsWritten byte input.now room.new result.done result.filled }
-    ensures free { IsFree byte input.now result.done (start + 64) }
+    requires within { (start + 64 ≤ length input.now) × (length input.now ≤ length room.old) }
+    requires up_to { IsUpTo byte input.now room.old written.done written.filled start }
+    ensures { IsUpTo byte input.now room.new result.done result.filled (start + 64) }
 {
     let mut written = written;
     for k in 0..BLOCK / PIECE {
@@ -127,13 +117,9 @@ fn take_pieces(room: &mut [u8], input: &[u8], byte: u8, start: usize, written: W
 
 // Goes on over the block at `start`.
 fn take_block(room: &mut [u8], input: &[u8], byte: u8, start: usize, written: Written) -> Written
-    requires order { (written.done ≤ start) × (start + 64 ≤ length input.now) }
-    requires room { length input.now ≤ length room.old }
-    requires written { IsWritten byte input.now room.old written.done written.filled }
-    requires free { IsFree byte input.now written.done start }
-    ensures order { result.done ≤ start + 64 }
-    ensures written { IsWritten byte input.now room.new result.done result.filled }
-    ensures free { IsFree byte input.now result.done (start + 64) }
+    requires within { (start + 64 ≤ length input.now) × (length input.now ≤ length room.old) }
+    requires up_to { IsUpTo byte input.now room.old written.done written.filled start }
+    ensures { IsUpTo byte input.now room.new result.done result.filled (start + 64) }
 {
     let end = start + BLOCK;
     let places = places_in(&input[start..end], byte);

@@ -20,17 +20,15 @@ loop-left-preserved c =
     let inv = c.loop-left.invariant in
     let within = c.first_of-first.ensures.within in
     let there = (inv.left first).0 c.first_of-first.ensures.there in
-    let below : place < length input = omega (arith, within, c.requires.order.1) in
+    let below : place < length input = omega (arith, within, c.requires.within.0) in
     let run : length (take (place - done) (drop done input)) ≡ place - done = length-take-le (place - done) (drop done input) (omega (arith, there.1, below, length-drop done input)) in
-    let free : IsFree byte input done place = free_to byte start done first c.args.places c.loop-left.left input c.requires.order.1 (omega (arith, within)) c.requires.places inv.left inv.free c.first_of-first.ensures.first in
+    let free : IsFree byte input done place = free_to byte start done first c.args.places c.loop-left.left input c.requires.within.0 (omega (arith, within)) c.requires.places inv.left inv.free c.first_of-first.ensures.first in
     record {
       order = omega (arith, within);
-      written = record {
-        within = omega (arith, c.write_run-filled.ensures.count, run, inv.written.within, there.1);
-        bytes = c.write_run-filled.ensures.bytes ∙ ap (λ t. t ++ take (place - done) (drop done input)) inv.written.bytes
-            ∙ sym (run_stays byte done place input there.1 (omega (arith, below)) free)
-            ∙ sym (place_left_out byte place input below (place_holds byte start c.args.places input first within c.requires.places there.0));
-      };
+      within = omega (arith, c.write_run-filled.ensures.count, run, inv.within, there.1);
+      bytes = c.write_run-filled.ensures.bytes ∙ ap (λ t. t ++ take (place - done) (drop done input)) inv.bytes
+          ∙ sym (run_stays byte done place input there.1 (omega (arith, below)) free)
+          ∙ sym (place_left_out byte place input below (place_holds byte start c.args.places input first within c.requires.places there.0));
       free = λ k from until same. absurd (omega (arith, from, until));
       left = λ k. (
         λ set. (let old = (c.less-left.ensures.others k).0 set in (
@@ -45,8 +43,9 @@ loop-left-preserved c =
       );
     }
 
-pub returns-clause-free : goal.returns-clause-free
-returns-clause-free c =
+pub returns : goal.returns
+returns c =
     let inv = c.loop-left.invariant in
-    free_to c.args.byte c.args.start c.loop-left.written.done 64 c.args.places c.loop-left.left c.args.input.now c.requires.order.1 (omega arith) c.requires.places inv.left inv.free
-    (λ k below set. omega (arith, set, bit_at-zero k, c.loop-left-test.false))
+    let free = free_to c.args.byte c.args.start c.loop-left.written.done 64 c.args.places c.loop-left.left c.args.input.now c.requires.within.0 (omega arith) c.requires.places inv.left inv.free
+    (λ k below set. omega (arith, set, bit_at-zero k, c.loop-left-test.false)) in
+    record { order = inv.order; within = inv.within; bytes = inv.bytes; free = free }
