@@ -37,6 +37,7 @@ where
     ensures asks { IfOk result (StandsIfAsks (λ s to question. W.asking group.new.world s group.new.cx.roles group.new.cx.role to question) (W.may_ask group.new.world) group.new.cx.log.state) }
     ensures err { OnErr result ((group.new.cx.log.state.held ≡ false) × W.sound group.new.world group.new.cx.log.state group.new.cx.roles) }
     ensures tags { KeepsTags W.fits group.old.world group.new.world }
+    ensures tells { IsSome (W.left group.new.world group.new.cx.log.state) }
 {
     'driving: while let Some((due, number)) = group.next_due() {
         let Some(turn) = group.journal().turns().checked_add(1) else {
