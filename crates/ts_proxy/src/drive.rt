@@ -122,13 +122,14 @@ fn take_turn<P: Transform + Drop>(
     handled
 }
 
-// Begins the work of a chain's world, in a turn of its own.
+// Begins the work of a chain's world, in a turn of its own at the moment 0.
 fn start<P: Transform + Drop>(group: &mut Group<ChainWorld<P>>) -> Result<(), NoMemory>
     requires idle { group.old.cx.log.state.held ≡ false }
     requires sound { IsSoundGroup group.old }
     ensures idle { group.new.cx.log.state.held ≡ false }
     ensures serial { GoesOnSerially group.old.cx.log group.new.cx.log }
     ensures moment { OnOk result (moment_of group.new.cx.log ≡ moment_of group.old.cx.log) }
+    ensures begins { OnOk result (group.new.cx.moment ≡ 0) }
     ensures flow { flow P.rest group.new.world.chain [] ≡ flow P.rest group.old.world.chain [] }
     ensures sound { OnOk result (IsSoundGroup group.new) }
     ensures awake { OnOk result (group.new.world.running ≡ true → IsAwake group.new.world.chain group.new.world.table.items) }

@@ -46,7 +46,7 @@ fed (s.Prepending text) c = s.Passing
 fed (s.Mapping from to) c = s.Mapping from to
 fed (s.Dropping byte) c = s.Dropping byte
 
--- n bytes of so many are taken at a feed: all, but by a map or a drop, which take as many as the room that they are lent
+-- n bytes of so many are taken at a feed: all, but by a map or a drop, which may take fewer
 abbrev pub CountTaken : State → ℕ → ℕ → Type 0
 CountTaken s.Passing n most = n ≡ most
 CountTaken (s.Delaying ms) n most = n ≡ most
