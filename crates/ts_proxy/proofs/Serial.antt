@@ -1,5 +1,5 @@
 -- The turns of a serial driver, put together.
-use Rattle.std.proofs.Common.{◌≡◌, ℕ, zero, suc, ◌+◌, ◌≤◌, true, false, cond, List, [], ◌∷◌, ◌++◌, Option, Some, None, refl, sym, ap, subst, ◌∙◌, arith}
+use Rattle.std.proofs.Common.{◌≡◌, ◌⊎◌, ℕ, zero, suc, ◌+◌, ◌≤◌, true, false, cond, List, [], ◌∷◌, ◌++◌, Option, Some, None, Result, Ok, Err, OnOk, inl, inr, refl, sym, ap, subst, ◌∙◌, arith}
 use Rattle.std.specs.Prelude.{nat_lt, ◌&&◌}
 use Rattle.ts_journal.specs.declared.entry.Event.TheVariants.{Timeout}
 use Rattle.ts_journal.specs.declared.entry.Pending.{Pending}
@@ -15,7 +15,7 @@ use Rattle.ts_journal.proofs.Extends.{extends_trans}
 use Rattle.ts_group.specs.Context.{Context, moment_after}
 use Rattle.ts_group.specs.Entries.{AllOwn, AreCalls, Grows, renewal}
 use Rattle.ts_group.specs.Calls.{Handles, IsRun, RunsFrom, if_pending, next_in}
-use Rattle.ts_proxy.specs.Journals.{IsNext, last_moment, moment_of, HandlesFrom, HandlesFirst, IsSerial, GoesOnWithin, GoesOnSerially}
+use Rattle.ts_proxy.specs.Journals.{IsNext, last_moment, moment_of, HandlesFrom, HandlesFirst, IsSerial, GoesOnWithin, HandlesSome, HandlesWithin, GoesOnSerially}
 
 no_turns_append : (es fs : List Entry) → NoTurns es → NoTurns fs → NoTurns (es ++ fs)
 no_turns_append [] fs h k = k
@@ -166,35 +166,41 @@ runs_then Called u v low s moment number queue (suc (suc k)) es left (asked, run
     (then_append low number moment run rest (run_then low s moment number asked run r)
     (subst NoTurns (sym then.is) then.within) (subst (HandlesFrom low moment) (sym then.is) (found.0, refl, then.from)))
 
--- these entries do not go on within a turn
+-- these entries begin with a turn, if there are any
 abbrev IsApart : List Entry → Type 0
 IsApart [] = Unit {0}
 IsApart (Took turn seat ∷ es) = Unit {0}
-IsApart (Gave turn ∷ es) = Unit {0}
 IsApart (_ ∷ es) = ⊥
 
--- what goes on where no turn is held does not
+-- so do those that go on where no turn is held
 idle_apart : (s : State) (es : List Entry) → s.held ≡ false → IsLawful s es → IsApart es
 idle_apart s [] idle h = tt
 idle_apart s (Took turn seat ∷ es) idle h = tt
-idle_apart s (Gave turn ∷ es) idle h = tt
+idle_apart s (Gave turn ∷ es) idle h = let clash : true ≡ false = sym h.0.0 ∙ idle in cc
 idle_apart s (e ∷ es) idle h = let clash : true ≡ false = sym h.0.0 ∙ idle in cc
 
 apart_from : (low now : ℕ) (es : List Entry) → IsApart es → HandlesFrom low now es
 apart_from low now [] h = tt
 apart_from low now (Took turn seat ∷ es) h = tt
-apart_from low now (Gave turn ∷ es) h = tt
 apart_from low now (e ∷ es) h = absurd h
 
 first_append : (m : ℕ) (s : State) (es fs : List Entry) → HandlesFirst m s es → IsApart fs → HandlesFirst m s (es ++ fs)
 first_append m s [] [] h k = tt
 first_append m s [] (Took turn seat ∷ fs) h k = tt
-first_append m s [] (Gave turn ∷ fs) h k = tt
 first_append m s [] (f ∷ fs) h k = absurd k
 first_append m s (Took turn seat ∷ es) fs h k = tt
-first_append m s (Gave turn ∷ es) fs h k = tt
+first_append m s (Gave turn ∷ es) fs h k = h
 first_append m s (Handled number moment ∷ es) fs (a, b) k = (a, from_append s.next moment es fs b (apart_from s.next moment fs k))
 first_append m s (e ∷ es) fs h k = first_append m (after s e) es fs h k
+
+-- the end of a turn that handles something, or of turn 1
+first_gave : (m : ℕ) (s : State) (es : List Entry) (turn : ℕ) → NoTurns es → HandlesFirst m s es → HandlesSome es ⊎ (turn ≡ 1) → HandlesFirst m s (es ++ Gave turn ∷ [])
+first_gave m s [] turn within h (inl some) = absurd some
+first_gave m s [] turn within h (inr first) = first
+first_gave m s (Took number seat ∷ es) turn within h k = absurd within
+first_gave m s (Gave number ∷ es) turn within h k = absurd within
+first_gave m s (Handled number moment ∷ es) turn within (a, b) k = (a, from_append s.next moment es (Gave turn ∷ []) b tt)
+first_gave m s (e ∷ es) turn within h k = first_gave m (after s e) es turn within h k
 
 serial_append : (m : ℕ) (s : State) (es fs : List Entry) → IsSerial m s es → IsApart fs → IsSerial (last_moment m es) (replay s es) fs → IsSerial m s (es ++ fs)
 serial_append m s [] fs h apart k = k
@@ -204,12 +210,12 @@ serial_append m s (Took turn seat ∷ es) fs (next, seated, first, h) apart k =
 serial_append m s (Handled number moment ∷ es) fs h apart k = serial_append moment (after s (Handled number moment)) es fs h apart k
 serial_append m s (e ∷ es) fs h apart k = serial_append m (after s e) es fs h apart k
 
-within_serial : (m : ℕ) (s : State) (es : List Entry) → NoTurns es → IsSerial m s es
-within_serial m s [] h = tt
-within_serial m s (Took turn seat ∷ es) h = absurd h
-within_serial m s (Gave turn ∷ es) h = absurd h
-within_serial m s (Handled number moment ∷ es) h = within_serial moment (after s (Handled number moment)) es h
-within_serial m s (e ∷ es) h = within_serial m (after s e) es h
+gave_serial : (m : ℕ) (s : State) (es : List Entry) (turn : ℕ) → NoTurns es → IsSerial m s (es ++ Gave turn ∷ [])
+gave_serial m s [] turn h = tt
+gave_serial m s (Took number seat ∷ es) turn h = absurd h
+gave_serial m s (Gave number ∷ es) turn h = absurd h
+gave_serial m s (Handled number moment ∷ es) turn h = gave_serial moment (after s (Handled number moment)) es turn h
+gave_serial m s (e ∷ es) turn h = gave_serial m (after s e) es turn h
 
 -- a handler's own calls go on within its turn
 pub within_grows : (a b : Context) → Grows a b → GoesOnWithin a.log b.log
@@ -232,14 +238,17 @@ then_grows Called u v a b c number moment events h g =
 
 -- they go on within a turn if the number is next
 pub within_handled : {W : Type 0} (Called : W → W → List ℕ → Type 0) (u v : W) (a b c : Context) (number moment events : ℕ) → Handles Called u v a b number moment events
-    → IsNext (moment_of a.log) a.log.state number moment → Grows b c → GoesOnWithin a.log c.log
+    → IsNext (moment_of a.log) a.log.state number moment → Grows b c → HandlesWithin a.log c.log
 within_handled Called u v a b c number moment events h next g =
     let all = then_grows Called u v a b c number moment events h g in
     record {
-      added = h.es ++ g.log.own;
-      by = extends_trans h.by g.log.by;
-      within = subst NoTurns (sym all.is) all.within;
-      first = subst (HandlesFirst (moment_of a.log) a.log.state) (sym all.is) (next, all.from);
+      on = record {
+        added = h.es ++ g.log.own;
+        by = extends_trans h.by g.log.by;
+        within = subst NoTurns (sym all.is) all.within;
+        first = subst (HandlesFirst (moment_of a.log) a.log.state) (sym all.is) (next, all.from);
+      };
+      some = subst HandlesSome (sym all.is) tt;
     }
 
 -- and the moment moves on to theirs
@@ -261,8 +270,8 @@ serial_trans a b c p idle q = record {
 }
 
 -- one turn
-pub serial_turn : (a b c d : Log) (turn given : ℕ) → turn ≡ a.state.turns + 1 → Extends a b (Took turn 0 ∷ []) → GoesOnWithin b c → Extends c d (Gave given ∷ []) → GoesOnSerially a d
-serial_turn a b c d turn given next took g gave =
+pub serial_turn : (a b c d : Log) (turn given : ℕ) → turn ≡ a.state.turns + 1 → Extends a b (Took turn 0 ∷ []) → (g : GoesOnWithin b c) → HandlesSome g.added ⊎ (given ≡ 1) → Extends c d (Gave given ∷ []) → GoesOnSerially a d
+serial_turn a b c d turn given next took g some gave =
     let m = moment_of a in
     let s = after a.state (Took turn 0) in
     let first : HandlesFirst m b.state g.added = subst (λ n. HandlesFirst n b.state g.added) (moment_extends took) g.first in
@@ -272,7 +281,13 @@ serial_turn a b c d turn given next took g gave =
       serial = (
         next,
         refl,
-        first_append m s g.added (Gave given ∷ []) (subst (λ t. HandlesFirst m t g.added) took.state first) tt,
-        serial_append m s g.added (Gave given ∷ []) (within_serial m s g.added g.within) tt tt,
+        first_gave m s g.added given g.within (subst (λ t. HandlesFirst m t g.added) took.state first) some,
+        gave_serial m s g.added given g.within,
       );
     }
+
+-- one turn that handled its event, unless memory lacked
+pub serial_if_ok : {T E : Type 0} (r : Result T E) (a b c d : Log) (turn given : ℕ) → turn ≡ a.state.turns + 1 → Extends a b (Took turn 0 ∷ []) → OnOk r (HandlesWithin b c) → Extends c d (Gave given ∷ [])
+    → OnOk r (GoesOnSerially a d)
+serial_if_ok (Ok x) a b c d turn given next took h gave = serial_turn a b c d turn given next took h.on (inl h.some) gave
+serial_if_ok (Err e) a b c d turn given next took h gave = tt

@@ -34,17 +34,18 @@ HandlesFrom low now (Handled number moment ∷ es) = (low ≤ number) × (moment
 HandlesFrom low now (_ ∷ es) = HandlesFrom low now es
 
 -- The event that a turn handles first is due first, and each that it handles then was set since. The moment moves on from
--- the one before to that at which the first is due, if that is later, and stays for the turn.
+-- the one before to that at which the first is due, if that is later, and stays for the turn. Only turn 1, in which the
+-- work begins, handles nothing.
 abbrev pub HandlesFirst : ℕ → State → List Entry → Type 0
 HandlesFirst m s [] = Unit {0}
 HandlesFirst m s (Took turn seat ∷ es) = Unit {0}
-HandlesFirst m s (Gave turn ∷ es) = Unit {0}
+HandlesFirst m s (Gave turn ∷ es) = turn ≡ 1
 HandlesFirst m s (Handled number moment ∷ es) = IsNext m s number moment × HandlesFrom s.next moment es
 HandlesFirst m s (e ∷ es) = HandlesFirst m (after s e) es
 
 -- The turns of one driver that nobody else drives beside, from a moment of it on: each has seat 0 and the number after the
--- one before. It handles nothing, as the turn in which the work begins does, or one event, which is due first, and then
--- only what is set while it is handled. The driver's moment moves on to what is due, and no further.
+-- one before. It handles one event, which is due first, and then only what is set while it is handled; turn 1 may handle
+-- nothing. The driver's moment moves on to what is due, and no further.
 abbrev pub IsSerial : ℕ → State → List Entry → Type 0
 IsSerial m s [] = Unit {0}
 IsSerial m s (Took turn seat ∷ es) =
@@ -58,6 +59,17 @@ pub record GoesOnWithin (old new : Log) : Type 0 where
   pub by : Extends old new added
   pub within : NoTurns added
   pub first : HandlesFirst (moment_of old) old.state added
+
+-- one of these entries handles an event
+abbrev pub HandlesSome : List Entry → Type 0
+HandlesSome [] = ⊥
+HandlesSome (Handled number moment ∷ es) = Unit {0}
+HandlesSome (_ ∷ es) = HandlesSome es
+
+-- within a turn, a journal goes on with an event that is handled
+pub record HandlesWithin (old new : Log) : Type 0 where
+  pub on : GoesOnWithin old new
+  pub some : HandlesSome on.added
 
 -- a journal goes on by turns of the serial driver
 pub record GoesOnSerially (old new : Log) : Type 0 where

@@ -6,7 +6,7 @@ ghost use Rattle.ts_group.specs.declared.action.Named.{Named};
 ghost use Rattle.ts_group.specs.Context.{AllPlain};
 ghost use Rattle.ts_transform.specs.Flow.{flow, last_wait};
 ghost use Rattle.ts_transform.specs.Cover.{IsSound, IsSoundGroup, IsAwake};
-ghost use Rattle.ts_proxy.specs.Journals.{moment_of, IsNext, GoesOnWithin, GoesOnSerially};
+ghost use Rattle.ts_proxy.specs.Journals.{moment_of, IsNext, HandlesWithin, GoesOnSerially};
 ghost use Rattle.ts_proxy.specs.Driven.{WroteAll, Passes, OnDone, AddsJournal, StaysSound, IsDue, is_failed, is_no_memory, left_of};
 
 use std::alloc::Global;
@@ -74,7 +74,7 @@ fn handle<P: Transform + Drop>(
     requires next { IsNext (moment_of group.old.cx.log) group.old.cx.log.state number moment }
     ensures turn { group.new.cx.log.state.held ≡ true }
     ensures turns { group.new.cx.log.state.turns ≡ group.old.cx.log.state.turns }
-    ensures within { GoesOnWithin group.old.cx.log group.new.cx.log }
+    ensures within { OnOk result (HandlesWithin group.old.cx.log group.new.cx.log) }
     ensures moment { OnOk result (moment_of group.new.cx.log ≡ moment) }
     ensures flow { flow P.rest group.new.world.chain [] ≡ flow P.rest group.old.world.chain [] }
     ensures sound { OnOk result (IsSoundGroup group.new) }
@@ -104,7 +104,7 @@ fn take_turn<P: Transform + Drop>(
     requires due { IsDue group.old.cx.log.state number moment }
     requires next { IsNext (moment_of group.old.cx.log) group.old.cx.log.state number moment }
     ensures idle { group.new.cx.log.state.held ≡ false }
-    ensures serial { GoesOnSerially group.old.cx.log group.new.cx.log }
+    ensures serial { OnOk result (GoesOnSerially group.old.cx.log group.new.cx.log) }
     ensures moment { OnOk result (moment_of group.new.cx.log ≡ moment) }
     ensures flow { flow P.rest group.new.world.chain [] ≡ flow P.rest group.old.world.chain [] }
     ensures sound { OnOk result (IsSoundGroup group.new) }
@@ -125,9 +125,10 @@ fn take_turn<P: Transform + Drop>(
 // Begins the work of a chain's world, in a turn of its own at the moment 0.
 fn start<P: Transform + Drop>(group: &mut Group<ChainWorld<P>>) -> Result<(), NoMemory>
     requires idle { group.old.cx.log.state.held ≡ false }
+    requires first { group.old.cx.log.state.turns ≡ 0 }
     requires sound { IsSoundGroup group.old }
     ensures idle { group.new.cx.log.state.held ≡ false }
-    ensures serial { GoesOnSerially group.old.cx.log group.new.cx.log }
+    ensures serial { OnOk result (GoesOnSerially group.old.cx.log group.new.cx.log) }
     ensures moment { OnOk result (moment_of group.new.cx.log ≡ moment_of group.old.cx.log) }
     ensures begins { OnOk result (group.new.cx.moment ≡ 0) }
     ensures flow { flow P.rest group.new.world.chain [] ≡ flow P.rest group.old.world.chain [] }
@@ -159,7 +160,7 @@ fn run_events<P: Transform + Drop, K: Sink>(group: &mut Group<ChainWorld<P>>, ou
     ensures faults { Counted (is_failed result) (K.faults out.old) (K.faults out.new) }
     ensures done { OnDone result (flow P.rest group.new.world.chain [] ≡ []) }
     ensures idle { group.new.cx.log.state.held ≡ false }
-    ensures serial { GoesOnSerially group.old.cx.log group.new.cx.log }
+    ensures serial { OnDone result (GoesOnSerially group.old.cx.log group.new.cx.log) }
     ensures none { OnDone result (group.new.cx.log.state.pending ≡ []) }
 {
     let mut moment = 0;
@@ -188,12 +189,13 @@ fn drive_group<P: Transform + Drop, K: Sink>(
     out: &mut K,
 ) -> Driven
     requires idle { group.old.cx.log.state.held ≡ false }
+    requires first { group.old.cx.log.state.turns ≡ 0 }
     requires fresh { moment_of group.old.cx.log ≡ 0 }
     requires sound { IsSoundGroup group.old }
     ensures told { K.tells ≡ true → WroteAll result (K.taken out.old) (K.taken out.new) (flow P.rest group.old.world.chain []) }
     ensures faults { Counted (is_failed result) (K.faults out.old) (K.faults out.new) }
     ensures idle { group.new.cx.log.state.held ≡ false }
-    ensures serial { GoesOnSerially group.old.cx.log group.new.cx.log }
+    ensures serial { OnDone result (GoesOnSerially group.old.cx.log group.new.cx.log) }
     ensures none { OnDone result (group.new.cx.log.state.pending ≡ []) }
 {
     let Ok(()) = start(group) else {

@@ -85,8 +85,8 @@ pub fn run<S: Shelf, K: Sink, E: Sink>(
         TakesAt (outcome_of (S.file shelf.old) (map string_bytes words.now)) result.status (K.taken out.old) (K.taken out.new) }
     ensures quiet { K.tells ≡ true → IsQuiet result.status → K.taken out.new ≡ K.taken out.old }
 
-    // With status 0 one journal, of a group that was new: turns of seat 0 whose numbers go on by 1. Where one handles
-    // something, that is the event that is due first, and then what is set meanwhile. In the end nothing is pending.
+    // With status 0 one journal, of a group that was new: turns of seat 0 whose numbers go on by 1, each of which but the
+    // first handles the event that is due first, and then what is set meanwhile, until nothing is pending.
     ensures journals { JournalsAt result.status result.journals.items }
 
     // What err took: the line of an answer that has this status, and that comes at the outcome. After a failed read it

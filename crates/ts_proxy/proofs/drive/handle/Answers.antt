@@ -6,11 +6,6 @@ returns-in-Ok-wake-clause-within g c =
     let gives = rw c.in-Ok-Handled.field-0-is at c.in-Ok-Handled.ensures.gives in
     within_handled _ _ _ _ _ _ _ _ _ gives.0 c.requires.next c.wake.ensures.grows
 
-pub returns-in-Err-wake-clause-within : goal.returns-in-Err-wake-clause-within
-returns-in-Err-wake-clause-within g c =
-    let gives = rw c.in-Ok-Handled.field-0-is at c.in-Ok-Handled.ensures.gives in
-    within_handled _ _ _ _ _ _ _ _ _ gives.0 c.requires.next c.wake.ensures.grows
-
 pub returns-in-Ok-wake-clause-moment : goal.returns-in-Ok-wake-clause-moment
 returns-in-Ok-wake-clause-moment g c =
     let gives = rw c.in-Ok-Handled.field-0-is at c.in-Ok-Handled.ensures.gives in

@@ -1,4 +1,4 @@
-use Rattle.std.proofs.Common.{rules, ◌∙◌}
+use Rattle.std.proofs.Common.{◌≡◌, ◌+◌, inr, ap, arith, rules, ◌∙◌}
 use Rattle.ts_group.proofs.Grows.{grows_trans}
 use Rattle.ts_proxy.proofs.Serial.{moment_extends, within_grows, moment_grows, serial_turn}
 use Rattle.ts_proxy.proofs.drive.start.Goals as goal
@@ -7,15 +7,11 @@ pub returns-in-Ok-clause-serial : goal.returns-in-Ok-clause-serial
 returns-in-Ok-clause-serial g c =
     let before = c.begin_turn.new.self.cx in
     let after = c.wake-woken.new.group.cx in
-    serial_turn c.args.group.now.cx.log before.log after.log c.give_turn.new.self.cx.log c.in-Some.turn after.log.state.turns (search rules)
-    c.in_ok-begin_turn.ensures.ok.0 (within_grows before after (grows_trans c.start.ensures.grows c.wake-woken.ensures.grows)) c.give_turn.ensures.given
-
-pub returns-in-Err-clause-serial : goal.returns-in-Err-clause-serial
-returns-in-Err-clause-serial g c =
-    let before = c.begin_turn.new.self.cx in
-    let after = c.wake-woken.new.group.cx in
-    serial_turn c.args.group.now.cx.log before.log after.log c.give_turn.new.self.cx.log c.in-Some.turn after.log.state.turns (search rules)
-    c.in_ok-begin_turn.ensures.ok.0 (within_grows before after (grows_trans c.start.ensures.grows c.wake-woken.ensures.grows)) c.give_turn.ensures.given
+    let next : c.in-Some.turn ≡ c.args.group.now.cx.log.state.turns + 1 = search rules in
+    let given : after.log.state.turns ≡ 1 =
+    c.wake-woken.ensures.turns ∙ c.start.ensures.turns ∙ ap (λ s. s.turns) c.in_ok-begin_turn.ensures.ok.1 ∙ omega (arith, next, c.requires.first) in
+    serial_turn c.args.group.now.cx.log before.log after.log c.give_turn.new.self.cx.log c.in-Some.turn after.log.state.turns next
+    c.in_ok-begin_turn.ensures.ok.0 (within_grows before after (grows_trans c.start.ensures.grows c.wake-woken.ensures.grows)) (inr given) c.give_turn.ensures.given
 
 pub returns-in-Ok-clause-moment : goal.returns-in-Ok-clause-moment
 returns-in-Ok-clause-moment g c =
