@@ -1,4 +1,5 @@
 pub mod Bodies
+pub mod Bytes
 pub mod Lines
 pub mod Numerals
 pub mod Printing

@@ -6,6 +6,7 @@ use Rattle.ts_config.specs.declared.setup.TransformLine.{TransformLine}
 use Rattle.ts_config.specs.declared.setup.TransformLine.TheVariants as t
 use Rattle.ts_config.specs.declared.table.PluginName.{PluginName}
 use Rattle.ts_config.specs.declared.table.PluginName.TheVariants as n
+use Rattle.ts_config.specs.Bytes.{line_feed, quote_mark, space}
 use Rattle.ts_config.specs.Words.{is_end}
 use Rattle.ts_config.specs.Numerals.{byte_word}
 use Rattle.ts_config.specs.Table.{spelling}
@@ -15,9 +16,11 @@ abbrev pub needs_quotes : List ℕ → Bool
 needs_quotes [] = true
 needs_quotes (b ∷ bs) = list_any is_end (b ∷ bs)
 
+-- a word as it is printed
 abbrev pub spelled : List ℕ → List ℕ
-spelled w = if needs_quotes w then 34 ∷ w ++ 34 ∷ [] else w
+spelled w = if needs_quotes w then quote_mark ∷ w ++ quote_mark ∷ [] else w
 
+-- the name that a line begins with
 abbrev pub line_name : TransformLine → PluginName
 line_name t.Null = n.Null
 line_name (t.Append file text) = n.Append
@@ -39,11 +42,12 @@ line_arguments (t.Delay ms) = decimal ms ∷ []
 
 -- the words, each behind one space
 abbrev pub spelled_words : List (List ℕ) → List ℕ
-spelled_words words = flat_map (λ w. 32 ∷ spelled w) words
+spelled_words words = flat_map (λ w. space ∷ spelled w) words
 
 -- a line with its line feed
 abbrev pub printed_line : TransformLine → List ℕ
-printed_line line = spelling (line_name line) ++ spelled_words (line_arguments line) ++ 10 ∷ []
+printed_line line = spelling (line_name line) ++ spelled_words (line_arguments line) ++ line_feed ∷ []
 
+-- the lines, one behind the other
 abbrev pub printed : List TransformLine → List ℕ
 printed lines = flat_map printed_line lines

@@ -10,15 +10,17 @@ use Rattle.ts_config.specs.declared.setup.Entry.{Entry}
 use Rattle.ts_config.specs.declared.setup.Entry.TheVariants.{Empty, Transform}
 use Rattle.ts_config.specs.declared.setup.ConfigRefusal.{ConfigRefusal}
 use Rattle.ts_config.specs.declared.setup.ConfigRefusal.TheVariants as c
+use Rattle.ts_config.specs.Bytes.{delete, most_transforms, space, tab}
 use Rattle.ts_config.specs.Lines.{config_lines}
 use Rattle.ts_config.specs.Setup.{untexted}
 use Rattle.ts_config.specs.Words.{IsWords}
 use Rattle.ts_config.specs.Table.{entry_of}
 
--- a tab, or neither below 32 nor 127
+-- a tab, or neither below a space nor the byte 127
 abbrev pub is_text_byte : ℕ → Bool
-is_text_byte b = b == 9 || (nat_le 32 b && not (b == 127))
+is_text_byte b = b == tab || (nat_le space b && not (b == delete))
 
+-- a line is UTF-8, of such bytes
 abbrev pub is_text : List ℕ → Bool
 is_text line = is_utf8 line && list_all is_text_byte line
 
@@ -32,10 +34,12 @@ MeansByWords line meaning =
 abbrev pub Means : List ℕ → Result Entry ConfigKind → Type 0
 Means line meaning = MatchBool (is_text line) (MeansByWords line meaning) (meaning ≡ Err k.Text)
 
+-- the transform that a line asks for, if it does
 abbrev pub transform_in : Entry → List TransformLine
 transform_in Empty = []
 transform_in (Transform t) = t ∷ []
 
+-- those of all lines, in their order
 abbrev pub transforms_in : List Entry → List TransformLine
 transforms_in [] = []
 transforms_in (e ∷ es) = transform_in e ++ transforms_in es
@@ -43,13 +47,13 @@ transforms_in (e ∷ es) = transform_in e ++ transforms_in es
 -- each line is in the grammar, the lines mean these, and there are not too many transforms
 pub record AreRead (lines : List (List ℕ)) (es : List Entry) : Type 0 where
   pub each : AllZip (λ line e. Means line (Ok e)) lines es
-  pub few : length (transforms_in es) ≤ 16
+  pub few : length (transforms_in es) ≤ most_transforms
 
 -- behind these transforms the line breaks a rule of its own, or is one too many
 abbrev pub Breaks : List TransformLine → List ℕ → ConfigKind → Type 0
 Breaks so_far line kind =
     Means line (Err kind)
-    ⊎ ((e : Entry) × Means line (Ok e) × (16 < length (so_far ++ transform_in e)) × (kind ≡ k.TooMany))
+    ⊎ ((e : Entry) × Means line (Ok e) × (most_transforms < length (so_far ++ transform_in e)) × (kind ≡ k.TooMany))
 
 -- the n-th line, counted from 1, is the first that is not in the grammar, and this is the rule that it breaks
 pub record IsFault (lines : List (List ℕ)) (n : ℕ) (kind : ConfigKind) : Type 0 where

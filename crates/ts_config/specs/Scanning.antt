@@ -9,14 +9,15 @@ use Rattle.ts_config.specs.declared.read.LineRefusal.{LineRefusal}
 use Rattle.ts_config.specs.declared.read.LineRefusal.TheVariants as r
 use Rattle.ts_config.specs.declared.words.Next.{Next}
 use Rattle.ts_config.specs.declared.words.Next.TheVariants.{Nothing, Word, Unclosed}
+use Rattle.ts_config.specs.Bytes.{quote_mark}
 use Rattle.ts_config.specs.Reading.{Means, Breaks}
 use Rattle.ts_config.specs.Words.{IsWords, BeginsWith, HasNoWord, IsQuotable, EndsWord}
 
 -- a text behind a quote is this word, the second quote and the rest, or it is no such text
 abbrev pub IsQuoted : List ℕ → Next → Type 0
 IsQuoted text Nothing = ⊥
-IsQuoted text (Word word rest) = IsQuotable word.now × EndsWord rest.now × (text ≡ word.now ++ 34 ∷ rest.now)
-IsQuoted text Unclosed = (w rest : List ℕ) → IsQuotable w → EndsWord rest → text ≡ w ++ 34 ∷ rest → ⊥
+IsQuoted text (Word word rest) = IsQuotable word.now × EndsWord rest.now × (text ≡ word.now ++ quote_mark ∷ rest.now)
+IsQuoted text Unclosed = (w rest : List ℕ) → IsQuotable w → EndsWord rest → text ≡ w ++ quote_mark ∷ rest → ⊥
 
 -- what a line begins with: no word, this word and the rest, or a quote that fits no word
 abbrev pub IsNext : List ℕ → Next → Type 0
@@ -29,22 +30,23 @@ abbrev pub AreWords : List ℕ → Option (List (List ℕ)) → Type 0
 AreWords line (Some words) = IsWords line words
 AreWords line None = (words : List (List ℕ)) → ¬ IsWords line words
 
--- an answer is what reading gives, unless memory ran out
+-- a refusal is what reading says, unless memory lacked
 abbrev pub Refuses : {Y : Type 0} → LineRefusal → Result Y ConfigKind → Type 0
 Refuses r.NoMemory read = ⊤
 Refuses (r.Kind kind) read = read ≡ Err kind
 
+-- an answer is what reading gives, unless memory lacked
 abbrev pub Gives : {Y : Type 0} → Result Y LineRefusal → Result Y ConfigKind → Type 0
 Gives (Ok x) read = read ≡ Ok x
 Gives (Err e) read = Refuses e read
 
--- the line means what was answered, unless memory ran out
+-- the line means what was answered, unless memory lacked
 abbrev pub MeansUnlessMemory : List ℕ → Result Entry LineRefusal → Type 0
 MeansUnlessMemory line (Ok e) = Means line (Ok e)
 MeansUnlessMemory line (Err r.NoMemory) = ⊤
 MeansUnlessMemory line (Err (r.Kind kind)) = Means line (Err kind)
 
--- the line breaks this rule behind these transforms, unless memory ran out
+-- the line breaks this rule behind these transforms, unless memory lacked
 abbrev pub BreaksUnlessMemory : List TransformLine → List ℕ → LineRefusal → Type 0
 BreaksUnlessMemory so_far line r.NoMemory = ⊤
 BreaksUnlessMemory so_far line (r.Kind kind) = Breaks so_far line kind

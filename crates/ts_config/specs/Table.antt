@@ -10,8 +10,10 @@ use Rattle.ts_config.specs.declared.setup.Entry.{Entry}
 use Rattle.ts_config.specs.declared.setup.Entry.TheVariants.{Empty, Transform}
 use Rattle.ts_config.specs.declared.table.PluginName.{PluginName}
 use Rattle.ts_config.specs.declared.table.PluginName.TheVariants as n
+use Rattle.ts_config.specs.Bytes.{most_delay, most_text}
 use Rattle.ts_config.specs.Numerals.{byte_of, number_of}
 
+-- the word that a line of a plugin begins with
 abbrev pub spelling : PluginName → List ℕ
 spelling n.Null = codes "null_transform.so"
 spelling n.Append = codes "append_transform.so"
@@ -21,9 +23,11 @@ spelling n.Map = codes "map.so"
 spelling n.Drop = codes "drop.so"
 spelling n.Delay = codes "delay.so"
 
+-- all names of plugins
 abbrev pub all_names : List PluginName
 all_names = n.Null ∷ n.Append ∷ n.Bnull ∷ n.Prepend ∷ n.Map ∷ n.Drop ∷ n.Delay ∷ []
 
+-- the plugin that a word names
 abbrev pub name_of : List ℕ → Option PluginName
 name_of word = find (λ n. bytes_eq (spelling n) word) all_names
 
@@ -32,16 +36,18 @@ abbrev pub transform_of : PluginName → List (List ℕ) → Option TransformLin
 transform_of n.Null [] = Some t.Null
 transform_of n.Append ((b ∷ bs) ∷ []) = Some (t.Append (b ∷ bs) [])
 transform_of n.Bnull [] = Some t.Bnull
-transform_of n.Prepend (text ∷ []) = if nat_le (length text) 16384 then Some (t.Prepend text) else None
+transform_of n.Prepend (text ∷ []) = if nat_le (length text) most_text then Some (t.Prepend text) else None
 transform_of n.Map (from ∷ to ∷ []) = option_and_then (λ a. option_map (λ b. t.Map a b) (byte_of to)) (byte_of from)
 transform_of n.Drop (byte ∷ []) = option_map (λ b. t.Drop b) (byte_of byte)
-transform_of n.Delay (ms ∷ []) = option_map (λ m. t.Delay m) (number_of 60000 ms)
+transform_of n.Delay (ms ∷ []) = option_map (λ m. t.Delay m) (number_of most_delay ms)
 transform_of name others = None
 
+-- the line that a name and its words ask for, or that they do not fit
 abbrev pub fitting : Option TransformLine → Result Entry ConfigKind
 fitting (Some line) = Ok (Transform line)
 fitting None = Err k.Arguments
 
+-- what a line with this name and these words behind it means
 abbrev pub named_entry : Option PluginName → List (List ℕ) → Result Entry ConfigKind
 named_entry (Some name) words = fitting (transform_of name words)
 named_entry None words = Err k.Plugin

@@ -9,6 +9,7 @@ use Rattle.ts_config.specs.declared.setup.ConfigKind.TheVariants as k
 use Rattle.ts_config.specs.declared.setup.Entry.{Entry}
 use Rattle.ts_config.specs.declared.setup.ConfigRefusal.{ConfigRefusal}
 use Rattle.ts_config.specs.declared.setup.ConfigRefusal.TheVariants as c
+use Rattle.ts_config.specs.Bytes.{most_transforms, number_sign, quote_mark}
 use Rattle.ts_config.specs.Lines.{config_lines}
 use Rattle.ts_config.specs.Words.{is_blank, is_end}
 use Rattle.ts_config.specs.Table.{entry_of}
@@ -20,11 +21,13 @@ pub data Front : Type 0 where
   word : List ℕ → List ℕ → Front
   unclosed : Front
 
+-- a byte of a plain word
 abbrev pub is_plain_byte : ℕ → Bool
 is_plain_byte b = not (is_end b)
 
+-- a byte of a word between quotes
 abbrev pub is_quotable_byte : ℕ → Bool
-is_quotable_byte b = not (b == 34)
+is_quotable_byte b = not (b == quote_mark)
 
 -- a word between quotes, with what stands behind the second quote
 abbrev pub closed : List ℕ → List ℕ → Front
@@ -34,19 +37,21 @@ closed w (b ∷ bs) = if is_end b then word w (b ∷ bs) else unclosed
 -- a word between quotes, with the second quote, if it is there, and what stands behind it
 abbrev pub quoted : List ℕ → List ℕ → Front
 quoted w [] = unclosed
-quoted w (quote ∷ rest) = closed w rest
+quoted w (mark ∷ rest) = closed w rest
 
 -- the front of a text that does not begin with a blank
 abbrev pub front_of_text : List ℕ → Front
 front_of_text [] = nothing
 front_of_text (b ∷ bs) =
-    if b == 35 then nothing
-    else if b == 34 then quoted (take (prefix_len is_quotable_byte bs) bs) (drop (prefix_len is_quotable_byte bs) bs)
+    if b == number_sign then nothing
+    else if b == quote_mark then quoted (take (prefix_len is_quotable_byte bs) bs) (drop (prefix_len is_quotable_byte bs) bs)
     else word (take (prefix_len is_plain_byte (b ∷ bs)) (b ∷ bs)) (drop (prefix_len is_plain_byte (b ∷ bs)) (b ∷ bs))
 
+-- what a line begins with
 abbrev pub front_of : List ℕ → Front
 front_of line = front_of_text (drop (prefix_len is_blank line) line)
 
+-- the words of a line with this front, where `words` gives those of the rest
 abbrev pub words_behind : Front → (List ℕ → Option (List (List ℕ))) → Option (List (List ℕ))
 words_behind nothing words = Some []
 words_behind (word w rest) words = option_map (λ ws. w ∷ ws) (words rest)
@@ -57,9 +62,11 @@ abbrev pub words_below : ℕ → List ℕ → Option (List (List ℕ))
 words_below zero line = None
 words_below (suc n) line = words_behind (front_of line) (words_below n)
 
+-- the words of a line, or none where a quote does not fit
 abbrev pub words_in : List ℕ → Option (List (List ℕ))
 words_in line = words_below (suc (length line)) line
 
+-- what these words mean, or that a quote does not fit
 abbrev pub meaning_of_words : Option (List (List ℕ)) → Result Entry ConfigKind
 meaning_of_words (Some words) = entry_of words
 meaning_of_words None = Err k.Quote
@@ -74,15 +81,18 @@ pub data Reading : Type 0 where
   Good : List TransformLine → Reading
   Bad : ℕ → ConfigKind → Reading
 
+-- the reading that goes on behind a line with this meaning, which is the n-th, counted from 1
 abbrev pub next_lines : Result Entry ConfigKind → ℕ → List TransformLine → (List TransformLine → Reading) → Reading
 next_lines (Err kind) n so_far next = Bad n kind
-next_lines (Ok e) n so_far next = if nat_le (length (so_far ++ transform_in e)) 16 then next (so_far ++ transform_in e) else Bad n k.TooMany
+next_lines (Ok e) n so_far next =
+    if nat_le (length (so_far ++ transform_in e)) most_transforms then next (so_far ++ transform_in e) else Bad n k.TooMany
 
 -- the reading of lines behind n others, which have these transforms
 abbrev pub read_lines : List (List ℕ) → ℕ → List TransformLine → Reading
 read_lines [] n so_far = Good so_far
 read_lines (line ∷ lines) n so_far = next_lines (meaning_of line) (n + 1) so_far (read_lines lines (n + 1))
 
+-- the reading of a configuration
 abbrev pub config_of : List ℕ → Reading
 config_of bytes = read_lines (config_lines bytes) 0 []
 

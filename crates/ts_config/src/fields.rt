@@ -1,3 +1,4 @@
+//! The plugin lines that change a transaction: a deny list of sites, and rules for header fields.
 ghost use Rattle.std.specs.Prelude.{◌≡◌, ℕ, List, slice_get};
 ghost use Rattle.std.specs.Option.{option_copied};
 

@@ -1,3 +1,4 @@
+//! The law of the grammar: every text has exactly one reading.
 ghost use Rattle.std.specs.Prelude.{◌≡◌, ℕ, List, ◌↔◌};
 ghost use Rattle.ts_config.specs.Value.{Reading, IsReading, config_of};
 

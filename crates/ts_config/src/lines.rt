@@ -1,5 +1,7 @@
+//! The bytes of a configuration are cut into lines, without their ends.
 ghost use Rattle.std.specs.Prelude.{◌≡◌, ◌==◌, ◌<◌, ◌∷◌, length, position, IfSome};
 ghost use Rattle.std.specs.Str.Lines.{strip_carriage_return};
+ghost use Rattle.ts_config.specs.Bytes.{line_feed};
 ghost use Rattle.ts_config.specs.Lines.{config_lines};
 
 // The line without the carriage return that it may end with.
@@ -14,7 +16,7 @@ fn less_return(line: &[u8]) -> &[u8]
 
 // Where the first line feed stands.
 fn line_end(bytes: &[u8]) -> Option<usize>
-    ensures at { result ≡ position (λ b. b == 10) bytes.now }
+    ensures at { result ≡ position (λ b. b == line_feed) bytes.now }
     ensures within { IfSome result (λ end. end < length bytes.now) }
 {
     bytes.iter().position(|byte| *byte == b'\n')

@@ -1,3 +1,4 @@
+//! Words that stand for a byte or for a number.
 ghost use Rattle.std.specs.Prelude.{◌≡◌, ℕ, ◌≤◌, ◌<◌, Option, Bool};
 ghost use Rattle.std.specs.Str.{all_ascii_digits};
 ghost use Rattle.ts_config.specs.Numerals.{hex_value, hex_digit, byte_of, has_no_leading_zero, number_of};

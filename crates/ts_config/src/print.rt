@@ -1,4 +1,6 @@
+//! A configuration is printed, so that it reads back as the same lines.
 ghost use Rattle.std.specs.Prelude.{◌≡◌, ℕ, List, [], ◌∷◌, ◌++◌, map, OnOk, IfOk};
+ghost use Rattle.ts_config.specs.Bytes.{space};
 ghost use Rattle.ts_config.specs.Numerals.{byte_word};
 ghost use Rattle.ts_config.specs.Printing.{needs_quotes, spelled, spelled_words, line_arguments, line_name, printed_line, printed};
 ghost use Rattle.ts_config.specs.Reading.{IsConfiguration, ComeFromText};
@@ -25,7 +27,7 @@ fn needs_quotes(word: &[u8]) -> bool
 
 // Prints a word behind one space.
 fn print_word(out: &mut Vec<u8>, word: &[u8]) -> Result<(), NoMemory>
-    ensures { OnOk result (out.new.items ≡ out.old.items ++ (32 ∷ spelled word.now)) }
+    ensures { OnOk result (out.new.items ≡ out.old.items ++ (space ∷ spelled word.now)) }
 {
     out.push(b' ')?;
     if needs_quotes(word) {
@@ -40,7 +42,7 @@ fn print_word(out: &mut Vec<u8>, word: &[u8]) -> Result<(), NoMemory>
 
 // Prints a byte behind one space: a letter or a digit as itself, and else by its number.
 fn print_byte(out: &mut Vec<u8>, byte: u8) -> Result<(), NoMemory>
-    ensures { OnOk result (out.new.items ≡ out.old.items ++ (32 ∷ spelled (byte_word byte))) }
+    ensures { OnOk result (out.new.items ≡ out.old.items ++ (space ∷ spelled (byte_word byte))) }
 {
     if byte.is_ascii_alphanumeric() {
         print_word(out, &[byte])

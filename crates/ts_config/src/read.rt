@@ -1,7 +1,9 @@
+//! A configuration is read line by line, up to the first line that is not in the grammar.
 ghost use Rattle.std.specs.Prelude.{◌≡◌, ℕ, ◌≤◌, ◌++◌, ◌<◌, List, [], length, map, Result, Ok, OnOk, IfOk, IfErr, All};
 ghost use Rattle.std.specs.List.{list_all};
 ghost use Rattle.std.specs.Str.{is_utf8};
 ghost use Rattle.ts_config.specs.declared.setup.Entry.{Entry};
+ghost use Rattle.ts_config.specs.Bytes.{most_transforms};
 ghost use Rattle.ts_config.specs.Lines.{config_lines};
 ghost use Rattle.ts_config.specs.Reading.{is_text_byte, is_text, Means, transform_in, Breaks, RefusesRightly, IsConfiguration, ComeFromText};
 ghost use Rattle.ts_config.specs.Setup.{HasFileName};
@@ -91,9 +93,10 @@ fn add_line(
     transforms: &mut Vec<TransformLine>,
     line: &[u8],
 ) -> Result<(), LineRefusal>
-    requires { length transforms.old.items ≤ 16 }
-    ensures ok { OnOk result ((e : Entry) × Means line.now (Ok e) × (transforms.new.items ≡ transforms.old.items ++ transform_in e)) }
-    ensures few { OnOk result (length transforms.new.items ≤ 16) }
+    requires { length transforms.old.items ≤ most_transforms }
+    ensures ok { OnOk result ((e : Entry) × Means line.now (Ok e)
+        × (transforms.new.items ≡ transforms.old.items ++ transform_in e)) }
+    ensures few { OnOk result (length transforms.new.items ≤ most_transforms) }
     ensures fault { IfErr result (BreaksUnlessMemory transforms.old.items line.now) }
 {
     match line_meaning(alloc, line)? {

@@ -1,3 +1,4 @@
+//! What a configuration means as values: its lines, and the fault of one that is not in the grammar.
 ghost use Rattle.std.specs.Prelude.{◌≡◌, map, slice_get, slice_set, IfSome, IsSomeAnd, All};
 ghost use Rattle.ts_config.specs.Reading.{ComeFromText};
 ghost use Rattle.ts_config.specs.Setup.{HasFileName, IsAppend, untexted, with_text};

@@ -1,3 +1,4 @@
+//! The table of plugins: the first word of a line, and what the words behind it mean.
 ghost use Rattle.std.specs.Prelude.{◌≡◌, ◌==◌, ℕ, List, length, map, find, Option, IfOk, if◌then◌else◌};
 ghost use Rattle.std.specs.Str.{bytes_eq};
 ghost use Rattle.ts_config.specs.Scanning.{Gives};

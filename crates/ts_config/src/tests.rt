@@ -1,3 +1,4 @@
+//! Rows of configurations: what is printed of their reading, or the first faulty line and its kind.
 use crate::{
     ConfigFault, ConfigKind, ConfigRefusal, Sites, TransformLine, print_config, read_config,
 };

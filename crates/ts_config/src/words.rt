@@ -1,6 +1,8 @@
+//! A line is cut into its words, between blanks or quotes, up to a comment.
 ghost use Rattle.std.specs.Prelude.{◌≡◌, ◌==◌, ◌≤◌, length, map, IfOk, IsTrue};
 ghost use Rattle.std.specs.List.{position_or_len, prefix_len};
 ghost use Rattle.std.specs.Option.{option_map};
+ghost use Rattle.ts_config.specs.Bytes.{quote_mark};
 ghost use Rattle.ts_config.specs.Words.{is_blank, is_end, EndsWord};
 ghost use Rattle.ts_config.specs.Scanning.{IsQuoted, IsNext, AreWords};
 
@@ -48,7 +50,7 @@ fn count_plain(text: &[u8]) -> usize
 
 // How many bytes stand before the first quote, or all.
 fn count_quoted(text: &[u8]) -> usize
-    ensures count { result ≡ position_or_len (λ b. b == 34) text.now }
+    ensures count { result ≡ position_or_len (λ b. b == quote_mark) text.now }
     ensures within { result ≤ length text.now }
 {
     for (i, byte) in text.iter().enumerate() {

@@ -90,11 +90,7 @@ fn find<'a>(files: &'a [StoredFile], name: &[u8]) -> Option<&'a [u8]>
 impl Shelf for MemShelf {
     ghost tells = { true };
 
-    ghost file = { λ s. file_in s.files };
-
-    ghost faults = { λ s. s.faults };
-
-    ghost longs = { λ s. s.longs };
+    ghost seen = { λ s. record { file = file_in s.files; faults = s.faults; longs = s.longs } };
 
     fn read(&mut self, alloc: Global, name: &str, most: u64) -> Result<Octets, ShelfFault>
         ensures limit { KeepsLimit most result }

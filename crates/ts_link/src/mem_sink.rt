@@ -61,11 +61,7 @@ impl MemSink {
 impl Sink for MemSink {
     ghost tells = { true };
 
-    ghost taken = { λ s. s.taken };
-
-    ghost faults = { λ s. s.faults };
-
-    ghost lacks = { λ s. s.lacks };
+    ghost seen = { λ s. record { taken = s.taken; faults = s.faults; lacks = s.lacks } };
 
     fn write(&mut self, piece: &[u8]) -> Wrote
         requires { 0 < length piece.now }

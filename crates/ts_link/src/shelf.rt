@@ -1,5 +1,6 @@
-ghost use Rattle.std.specs.Prelude.{◌≡◌, ℕ, List, Bool, true, Option};
+ghost use Rattle.std.specs.Prelude.{◌≡◌, Bool, true};
 ghost use Rattle.ts_link.specs.Counts.{Counted};
+ghost use Rattle.ts_link.specs.Seen.{ShelfSeen};
 ghost use Rattle.ts_link.specs.Shelf.{KeepsLimit, ReadsFile, is_read_fault, is_too_long};
 
 use crate::octets::Octets;
@@ -22,20 +23,14 @@ pub trait Shelf {
     // Whether contracts see its files.
     ghost tells: { Bool };
 
-    // The bytes of the file of a name, if it has one.
-    ghost file: { Self → List ℕ → Option (List ℕ) };
-
-    // How many answers were `Failed`. The count never falls, and stays at the greatest `u64`.
-    ghost faults: { Self → ℕ };
-
-    // How many answers were `TooLong`, counted in the same way.
-    ghost longs: { Self → ℕ };
+    // Its files, and its counts.
+    ghost seen: { Self → ShelfSeen };
 
     /// The whole file of this name, if it has at most `most` bytes. No read changes a file.
     fn read(&mut self, alloc: Global, name: &str, most: u64) -> Result<Octets, ShelfFault>
         ensures limit { KeepsLimit most result }
-        ensures told { tells ≡ true → ReadsFile (file self.old name.now) most result }
-        ensures files { tells ≡ true → file self.new ≡ file self.old }
-        ensures faults { Counted (is_read_fault result) (faults self.old) (faults self.new) }
-        ensures longs { Counted (is_too_long result) (longs self.old) (longs self.new) };
+        ensures told { tells ≡ true → ReadsFile ((seen self.old).file name.now) most result }
+        ensures files { tells ≡ true → (seen self.new).file ≡ (seen self.old).file }
+        ensures faults { Counted (is_read_fault result) (seen self.old).faults (seen self.new).faults }
+        ensures longs { Counted (is_too_long result) (seen self.old).longs (seen self.new).longs };
 }

@@ -1,5 +1,6 @@
-ghost use Rattle.std.specs.Prelude.{◌≡◌, ℕ, ◌<◌, ◌++◌, List, Bool, true, length};
+ghost use Rattle.std.specs.Prelude.{◌≡◌, ◌<◌, ◌++◌, Bool, true, length};
 ghost use Rattle.ts_link.specs.Counts.{Counted};
+ghost use Rattle.ts_link.specs.Seen.{SinkSeen};
 ghost use Rattle.ts_link.specs.Sink.{TakesSome, is_fault, is_lack, taken_of};
 
 /// What a sink answers to a write. `Took` has the number of bytes that were taken from the piece's
@@ -16,20 +17,14 @@ pub trait Sink {
     // Whether contracts see what it took.
     ghost tells: { Bool };
 
-    // What it has taken since it was made, in order.
-    ghost taken: { Self → List ℕ };
-
-    // How many answers were `Failed`. The count never falls, and stays at the greatest `u64`.
-    ghost faults: { Self → ℕ };
-
-    // How many answers were `NoMemory`, counted in the same way.
-    ghost lacks: { Self → ℕ };
+    // What it has taken, and its counts.
+    ghost seen: { Self → SinkSeen };
 
     /// Takes some bytes from the front of a piece. To take none of them is `Failed`.
     fn write(&mut self, piece: &[u8]) -> Wrote
         requires { 0 < length piece.now }
         ensures count { TakesSome result piece.now }
-        ensures taken { tells ≡ true → taken self.new ≡ taken self.old ++ taken_of result piece.now }
-        ensures faults { Counted (is_fault result) (faults self.old) (faults self.new) }
-        ensures lacks { Counted (is_lack result) (lacks self.old) (lacks self.new) };
+        ensures taken { tells ≡ true → (seen self.new).taken ≡ (seen self.old).taken ++ taken_of result piece.now }
+        ensures faults { Counted (is_fault result) (seen self.old).faults (seen self.new).faults }
+        ensures lacks { Counted (is_lack result) (seen self.old).lacks (seen self.new).lacks };
 }

@@ -9,7 +9,8 @@ use Rattle.ts_proxy.specs.declared.answer.NamedFile.{NamedFile}
 use Rattle.ts_proxy.specs.declared.answer.Answer.{Answer}
 use Rattle.ts_proxy.specs.declared.answer.Answer.TheVariants as a
 use Rattle.ts_proxy.specs.Answers.{name_of, answer_of, ComesAt, IsOfWriting, OnCannotRead, IsReadBy, IsText}
-use Rattle.ts_proxy.specs.Outcome.{Outcome, opened, set_up, transformed, Long, Text}
+use Rattle.ts_link.specs.Seen.{ShelfSeen, SinkSeen}
+use Rattle.ts_proxy.specs.Outcome.{Outcome, most_body, opened, set_up, transformed, Long, Text}
 use Rattle.ts_proxy.specs.declared.answer.NamedFile.TheVariants as file
 use Rattle.ts_config.specs.declared.setup.TransformLine.{TransformLine}
 use Rattle.ts_config.specs.Bodies.{compose_lines}
@@ -34,36 +35,36 @@ refused-comes config body name most o (fault.TooLong seen) named next is limit t
 refused-comes config body name most o fault.NoMemory named next is limit told = tt
 
 -- an answer of the part that writes comes where there is a text to write
-pub writing-comes : (config body text : List ℕ) (answer : Answer) (f f' : ℕ) → IsOfWriting answer f f' → ComesAt config body answer (Text text)
-writing-comes config body text a.Done f f' h = tt
-writing-comes config body text a.Usage f f' h = absurd h
-writing-comes config body text (a.BadLine b) f f' h = absurd h
-writing-comes config body text (a.CannotRead n) f f' h = absurd h
-writing-comes config body text a.CannotWrite f f' h = tt
-writing-comes config body text a.OutOfMemory f f' h = tt
-writing-comes config body text (a.TooLong n) f f' h = absurd h
+pub writing-comes : (config body text : List ℕ) (answer : Answer) (old new : SinkSeen) → IsOfWriting answer old new → ComesAt config body answer (Text text)
+writing-comes config body text a.Done old new h = tt
+writing-comes config body text a.Usage old new h = absurd h
+writing-comes config body text (a.BadLine b) old new h = absurd h
+writing-comes config body text (a.CannotRead n) old new h = absurd h
+writing-comes config body text a.CannotWrite old new h = tt
+writing-comes config body text a.OutOfMemory old new h = tt
+writing-comes config body text (a.TooLong n) old new h = absurd h
 
 -- a command whose files were read writes its text
 pub transformed-text : (files files' : List ℕ → Option (List ℕ)) (config body bytes : List ℕ) (lines : List TransformLine)
-    → ((next : List TransformLine → Outcome) → set_up files config next ≡ next lines) → files' ≡ files → files' body ≡ Some bytes → length bytes ≤ 67108864
+    → ((next : List TransformLine → Outcome) → set_up files config next ≡ next lines) → files' ≡ files → files' body ≡ Some bytes → length bytes ≤ most_body
     → transformed files config body ≡ Text (compose_lines lines bytes)
 transformed-text files files' config body bytes lines read same is within =
-    read (λ ls. opened (files body) 67108864 body (λ x. Text (compose_lines ls x)))
-    ∙ opened-read (files body) 67108864 body bytes (λ x. Text (compose_lines lines x)) (ap (λ f. f body) (sym same) ∙ is) within
+    read (λ ls. opened (files body) most_body body (λ x. Text (compose_lines ls x)))
+    ∙ opened-read (files body) most_body body bytes (λ x. Text (compose_lines lines x)) (ap (λ f. f body) (sym same) ∙ is) within
 
 -- a command whose body could not be read
 pub transformed-refused : (files files' : List ℕ → Option (List ℕ)) (config body : List ℕ) (lines : List TransformLine) (f : ShelfFault)
-    → ((next : List TransformLine → Outcome) → set_up files config next ≡ next lines) → files' ≡ files → KeepsLimit 67108864 (Err f)
-    → ReadsFile (files' body) 67108864 (Err f) → ComesAt config body (answer_of f file.Body) (transformed files config body)
+    → ((next : List TransformLine → Outcome) → set_up files config next ≡ next lines) → files' ≡ files → KeepsLimit most_body (Err f)
+    → ReadsFile (files' body) most_body (Err f) → ComesAt config body (answer_of f file.Body) (transformed files config body)
 transformed-refused files files' config body lines f read same limit told =
-    let next : List TransformLine → Outcome = λ ls. opened (files body) 67108864 body (λ x. Text (compose_lines ls x)) in
+    let next : List TransformLine → Outcome = λ ls. opened (files body) most_body body (λ x. Text (compose_lines ls x)) in
     subst (λ o. ComesAt config body (answer_of f file.Body) o) (sym (read next))
-    (refused-comes config body body 67108864 (files body) f file.Body (λ x. Text (compose_lines lines x)) refl limit
-    (subst (λ g. ReadsFile (g body) 67108864 (Err f)) same told))
+    (refused-comes config body body most_body (files body) f file.Body (λ x. Text (compose_lines lines x)) refl limit
+    (subst (λ g. ReadsFile (g body) most_body (Err f)) same told))
 
 -- a command whose body could not be read had come to it
-pub body-refused : (files : List ℕ → Option (List ℕ)) (config : List ℕ) (lines : List TransformLine) (f : ShelfFault)
-    → ((next : List TransformLine → Outcome) → set_up files config next ≡ next lines) → OnCannotRead (answer_of f file.Body) (IsReadBy files config)
-body-refused files config lines fault.Failed read = subst IsText (sym (read (λ ls. Text []))) tt
-body-refused files config lines (fault.TooLong seen) read = tt
-body-refused files config lines fault.NoMemory read = tt
+pub body-refused : (shelf : ShelfSeen) (config : List ℕ) (lines : List TransformLine) (f : ShelfFault)
+    → ((next : List TransformLine → Outcome) → set_up shelf.file config next ≡ next lines) → OnCannotRead (answer_of f file.Body) (IsReadBy shelf config)
+body-refused shelf config lines fault.Failed read = subst IsText (sym (read (λ ls. Text []))) tt
+body-refused shelf config lines (fault.TooLong seen) read = tt
+body-refused shelf config lines fault.NoMemory read = tt

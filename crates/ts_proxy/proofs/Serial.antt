@@ -1,6 +1,6 @@
 -- The turns of a serial driver, put together.
 use Rattle.std.proofs.Common.{◌≡◌, ◌⊎◌, ℕ, zero, suc, ◌+◌, ◌≤◌, true, false, cond, List, [], ◌∷◌, ◌++◌, Option, Some, None, Result, Ok, Err, OnOk, inl, inr, refl, sym, ap, subst, ◌∙◌, arith}
-use Rattle.std.specs.Prelude.{nat_lt, ◌&&◌}
+use Rattle.std.specs.Prelude.{⊤, nat_lt, ◌&&◌}
 use Rattle.ts_journal.specs.declared.entry.Event.TheVariants.{Timeout}
 use Rattle.ts_journal.specs.declared.entry.Pending.{Pending}
 use Rattle.ts_journal.specs.declared.entry.Entry.{Entry}
@@ -15,7 +15,7 @@ use Rattle.ts_journal.proofs.Extends.{extends_trans}
 use Rattle.ts_group.specs.Context.{Context, moment_after}
 use Rattle.ts_group.specs.Entries.{AllOwn, AreCalls, Grows, renewal}
 use Rattle.ts_group.specs.Calls.{Handles, IsRun, RunsFrom, if_pending, next_in}
-use Rattle.ts_proxy.specs.Journals.{IsNext, last_moment, moment_of, HandlesFrom, HandlesFirst, IsSerial, GoesOnWithin, HandlesSome, HandlesWithin, GoesOnSerially}
+use Rattle.ts_proxy.specs.Journals.{first_moment, first_turn, only_seat, IsNext, last_moment, moment_of, HandlesFrom, HandlesFirst, IsSerial, GoesOnWithin, HandlesSome, HandlesWithin, GoesOnSerially, GoesOnTo}
 
 no_turns_append : (es fs : List Entry) → NoTurns es → NoTurns fs → NoTurns (es ++ fs)
 no_turns_append [] fs h k = k
@@ -46,7 +46,7 @@ last_from low now (e ∷ es) within h = last_from low now es within h
 
 -- the moment of a journal that went on
 pub moment_extends : {a b : Log} {es : List Entry} → Extends a b es → moment_of b ≡ last_moment (moment_of a) es
-moment_extends {a} {b} {es} by = ap (last_moment 0) by.entries ∙ last_append 0 a.entries es
+moment_extends {a} {b} {es} by = ap (last_moment first_moment) by.entries ∙ last_append first_moment a.entries es
 
 -- what is next stays so while a turn begins
 pub next_took : (a b : Log) (turn seat number moment : ℕ) → Extends a b (Took turn seat ∷ []) → IsNext (moment_of a) a.state number moment → IsNext (moment_of b) b.state number moment
@@ -83,7 +83,7 @@ next_rises low s (e ∷ es) h = next_rises low (after s e) es h
 
 -- none of these numbers is below the bound
 abbrev AllFrom : ℕ → List ℕ → Type 0
-AllFrom low [] = Unit {0}
+AllFrom low [] = ⊤
 AllFrom low (n ∷ ns) = (low ≤ n) × AllFrom low ns
 
 all_from_append : (low : ℕ) (ns ms : List ℕ) → AllFrom low ns → AllFrom low ms → AllFrom low (ns ++ ms)
@@ -168,8 +168,8 @@ runs_then Called u v low s moment number queue (suc (suc k)) es left (asked, run
 
 -- these entries begin with a turn, if there are any
 abbrev IsApart : List Entry → Type 0
-IsApart [] = Unit {0}
-IsApart (Took turn seat ∷ es) = Unit {0}
+IsApart [] = ⊤
+IsApart (Took turn seat ∷ es) = ⊤
 IsApart (_ ∷ es) = ⊥
 
 -- so do those that go on where no turn is held
@@ -194,7 +194,7 @@ first_append m s (Handled number moment ∷ es) fs (a, b) k = (a, from_append s.
 first_append m s (e ∷ es) fs h k = first_append m (after s e) es fs h k
 
 -- the end of a turn that handles something, or of turn 1
-first_gave : (m : ℕ) (s : State) (es : List Entry) (turn : ℕ) → NoTurns es → HandlesFirst m s es → HandlesSome es ⊎ (turn ≡ 1) → HandlesFirst m s (es ++ Gave turn ∷ [])
+first_gave : (m : ℕ) (s : State) (es : List Entry) (turn : ℕ) → NoTurns es → HandlesFirst m s es → HandlesSome es ⊎ (turn ≡ first_turn) → HandlesFirst m s (es ++ Gave turn ∷ [])
 first_gave m s [] turn within h (inl some) = absurd some
 first_gave m s [] turn within h (inr first) = first
 first_gave m s (Took number seat ∷ es) turn within h k = absurd within
@@ -236,9 +236,9 @@ then_grows Called u v a b c number moment events h g =
     let runs = runs_then Called u v low a.log.state moment number [] events h.es b.calls h.runs h.by.lawful (omega arith) tt in
     then_append low number moment h.es g.log.own runs q.within (q.from low moment)
 
--- they go on within a turn if the number is next
+-- they go on within a turn if the number is next, and the moment moves on to theirs
 pub within_handled : {W : Type 0} (Called : W → W → List ℕ → Type 0) (u v : W) (a b c : Context) (number moment events : ℕ) → Handles Called u v a b number moment events
-    → IsNext (moment_of a.log) a.log.state number moment → Grows b c → HandlesWithin a.log c.log
+    → IsNext (moment_of a.log) a.log.state number moment → Grows b c → HandlesWithin moment a.log c.log
 within_handled Called u v a b c number moment events h next g =
     let all = then_grows Called u v a b c number moment events h g in
     record {
@@ -249,14 +249,10 @@ within_handled Called u v a b c number moment events h next g =
         first = subst (HandlesFirst (moment_of a.log) a.log.state) (sym all.is) (next, all.from);
       };
       some = subst HandlesSome (sym all.is) tt;
+      now =
+          moment_extends (extends_trans h.by g.log.by) ∙ ap (last_moment (moment_of a.log)) all.is
+          ∙ last_from a.log.state.next moment all.rest all.within all.from;
     }
-
--- and the moment moves on to theirs
-pub moment_handled : {W : Type 0} (Called : W → W → List ℕ → Type 0) (u v : W) (a b c : Context) (number moment events : ℕ) → Handles Called u v a b number moment events
-    → Grows b c → moment_of c.log ≡ moment
-moment_handled Called u v a b c number moment events h g =
-    let all = then_grows Called u v a b c number moment events h g in
-    moment_extends (extends_trans h.by g.log.by) ∙ ap (last_moment (moment_of a.log)) all.is ∙ last_from a.log.state.next moment all.rest all.within all.from
 
 -- turns after turns
 pub serial_trans : (a b c : Log) → GoesOnSerially a b → b.state.held ≡ false → GoesOnSerially b c → GoesOnSerially a c
@@ -270,13 +266,13 @@ serial_trans a b c p idle q = record {
 }
 
 -- one turn
-pub serial_turn : (a b c d : Log) (turn given : ℕ) → turn ≡ a.state.turns + 1 → Extends a b (Took turn 0 ∷ []) → (g : GoesOnWithin b c) → HandlesSome g.added ⊎ (given ≡ 1) → Extends c d (Gave given ∷ []) → GoesOnSerially a d
+pub serial_turn : (a b c d : Log) (turn given : ℕ) → turn ≡ a.state.turns + 1 → Extends a b (Took turn only_seat ∷ []) → (g : GoesOnWithin b c) → HandlesSome g.added ⊎ (given ≡ first_turn) → Extends c d (Gave given ∷ []) → GoesOnSerially a d
 serial_turn a b c d turn given next took g some gave =
     let m = moment_of a in
-    let s = after a.state (Took turn 0) in
+    let s = after a.state (Took turn only_seat) in
     let first : HandlesFirst m b.state g.added = subst (λ n. HandlesFirst n b.state g.added) (moment_extends took) g.first in
     record {
-      turns = Took turn 0 ∷ g.added ++ Gave given ∷ [];
+      turns = Took turn only_seat ∷ g.added ++ Gave given ∷ [];
       by = extends_trans took (extends_trans g.by gave);
       serial = (
         next,
@@ -287,7 +283,10 @@ serial_turn a b c d turn given next took g some gave =
     }
 
 -- one turn that handled its event, unless memory lacked
-pub serial_if_ok : {T E : Type 0} (r : Result T E) (a b c d : Log) (turn given : ℕ) → turn ≡ a.state.turns + 1 → Extends a b (Took turn 0 ∷ []) → OnOk r (HandlesWithin b c) → Extends c d (Gave given ∷ [])
-    → OnOk r (GoesOnSerially a d)
-serial_if_ok (Ok x) a b c d turn given next took h gave = serial_turn a b c d turn given next took h.on (inl h.some) gave
-serial_if_ok (Err e) a b c d turn given next took h gave = tt
+pub serial_if_ok : {T E : Type 0} (r : Result T E) (a b c d : Log) (turn given moment : ℕ) → turn ≡ a.state.turns + 1 → Extends a b (Took turn only_seat ∷ []) → OnOk r (HandlesWithin moment b c)
+    → Extends c d (Gave given ∷ []) → OnOk r (GoesOnTo moment a d)
+serial_if_ok (Ok x) a b c d turn given moment next took h gave = record {
+  on = serial_turn a b c d turn given next took h.on (inl h.some) gave;
+  now = moment_extends gave ∙ h.now;
+}
+serial_if_ok (Err e) a b c d turn given moment next took h gave = tt

@@ -1,6 +1,7 @@
 -- When each answer of a command comes, and what it leaves.
 use Rattle.std.specs.Prelude.{◌≡◌, ℕ, ◌≤◌, ◌++◌, List, [], ◌∷◌, length, ⊤, Option, IsSomeAnd, Result, Ok, Err}
 use Rattle.ts_link.specs.Counts.{Rose}
+use Rattle.ts_link.specs.Seen.{ShelfSeen, SinkSeen}
 use Rattle.ts_link.specs.declared.shelf.ShelfFault.{ShelfFault}
 use Rattle.ts_link.specs.declared.shelf.ShelfFault.TheVariants as fault
 use Rattle.ts_journal.specs.Log.{Log}
@@ -12,8 +13,8 @@ use Rattle.ts_proxy.specs.declared.answer.NamedFile.TheVariants as file
 use Rattle.ts_config.specs.declared.setup.TransformLine.{TransformLine}
 use Rattle.ts_config.specs.declared.setup.TransformLine.TheVariants as t
 use Rattle.ts_config.specs.Value.{Good, config_of}
-use Rattle.ts_proxy.specs.Outcome.{Outcome, Usage, BadLine, Missing, Long, Text, filled, set_up}
-use Rattle.ts_proxy.specs.Took.{TookFront}
+use Rattle.ts_proxy.specs.Outcome.{Outcome, Usage, BadLine, Long, Text, most_config, filled, set_up}
+use Rattle.ts_proxy.specs.Took.{TookAll, TookFront, TookNothing}
 
 -- the name of a file of a command with these names of its configuration and its body
 abbrev pub name_of : List ℕ → List ℕ → NamedFile → List ℕ
@@ -27,22 +28,19 @@ answer_of fault.Failed f = a.CannotRead f
 answer_of (fault.TooLong seen) f = a.TooLong f
 answer_of fault.NoMemory f = a.OutOfMemory
 
+-- an outcome is a text to write
 abbrev pub IsText : Outcome → Type 0
-IsText Usage = ⊥
-IsText (BadLine n k) = ⊥
-IsText (Missing name) = ⊥
-IsText (Long name) = ⊥
 IsText (Text t) = ⊤
+IsText _ = ⊥
 
 -- at which outcome an answer comes; a failed read and want of memory may come at any
 abbrev pub ComesAt : List ℕ → List ℕ → Answer → Outcome → Type 0
 ComesAt config body a.Done o = IsText o
 ComesAt config body a.Usage o = o ≡ Usage
 ComesAt config body (a.BadLine f) o = o ≡ BadLine f.line f.kind
-ComesAt config body (a.CannotRead f) o = ⊤
 ComesAt config body a.CannotWrite o = IsText o
-ComesAt config body a.OutOfMemory o = ⊤
 ComesAt config body (a.TooLong f) o = o ≡ Long (name_of config body f)
+ComesAt config body _ o = ⊤
 
 -- a part of the work went on as the outcome does, or its answer comes at the outcome
 abbrev pub Leads : {X : Type 0} → List ℕ → List ℕ → Result X Answer → Outcome → (X → Outcome) → Type 0
@@ -51,9 +49,8 @@ Leads config body (Err answer) o next = ComesAt config body answer o
 
 -- the file of an append line
 abbrev pub IsNamedBy : TransformLine → NamedFile → Type 0
-IsNamedBy line file.Config = ⊥
-IsNamedBy line file.Body = ⊥
 IsNamedBy line (file.Appended name) = (text : List ℕ) × (line ≡ t.Append name text)
+IsNamedBy line _ = ⊥
 
 -- the work on these lines comes to a file: a line names it, and the files of all lines before that one are there within
 -- their limit
@@ -65,90 +62,73 @@ pub record ComesTo (files : List ℕ → Option (List ℕ)) (lines : List Transf
   pub names : IsNamedBy line f
   pub read : IsText (filled files before (λ ls. Text []))
 
--- the file whose read failed is one that the work comes to: the configuration; if that is there within its limit and has
--- no faulty line, a file that the work on its lines comes to; and the body, once all the others were read
-abbrev pub IsReadBy : (List ℕ → Option (List ℕ)) → List ℕ → NamedFile → Type 0
-IsReadBy files config file.Config = ⊤
-IsReadBy files config file.Body = IsText (set_up files config (λ lines. Text []))
-IsReadBy files config (file.Appended name) = IsSomeAnd (files config) (λ bytes. (length bytes ≤ 1048576)
-    × (lines : List TransformLine) × (config_of bytes ≡ Good lines) × ComesTo files lines (file.Appended name))
+-- the configuration is there within its limit and has no faulty line, and the work on its lines comes to a file
+abbrev pub IsReadFor : (List ℕ → Option (List ℕ)) → List ℕ → NamedFile → Type 0
+IsReadFor files config f = IsSomeAnd (files config) (λ bytes. (length bytes ≤ most_config)
+    × (lines : List TransformLine) × (config_of bytes ≡ Good lines) × ComesTo files lines f)
+
+-- the file whose read failed is one that the work comes to: the configuration; a file that one of its lines names; and
+-- the body, once all the others were read
+abbrev pub IsReadBy : ShelfSeen → List ℕ → NamedFile → Type 0
+IsReadBy shelf config file.Config = ⊤
+IsReadBy shelf config file.Body = IsText (set_up shelf.file config (λ lines. Text []))
+IsReadBy shelf config (file.Appended name) = IsReadFor shelf.file config (file.Appended name)
 
 -- what is said of the file of a failed read
 abbrev pub OnCannotRead : Answer → (NamedFile → Type 0) → Type 0
-OnCannotRead a.Done P = ⊤
-OnCannotRead a.Usage P = ⊤
-OnCannotRead (a.BadLine f) P = ⊤
 OnCannotRead (a.CannotRead f) P = P f
-OnCannotRead a.CannotWrite P = ⊤
-OnCannotRead a.OutOfMemory P = ⊤
-OnCannotRead (a.TooLong f) P = ⊤
+OnCannotRead _ P = ⊤
 
--- an answer of the part of the work that reads, with the shelf's counts of faults and of files that were too long
-abbrev pub IsOfReading : Answer → ℕ → ℕ → ℕ → ℕ → Type 0
-IsOfReading a.Done f f' l l' = ⊥
-IsOfReading a.Usage f f' l l' = ⊥
-IsOfReading (a.BadLine b) f f' l l' = ⊤
-IsOfReading (a.CannotRead n) f f' l l' = Rose f f'
-IsOfReading a.CannotWrite f f' l l' = ⊥
-IsOfReading a.OutOfMemory f f' l l' = ⊤
-IsOfReading (a.TooLong n) f f' l l' = Rose l l'
+-- an answer of the part of the work that reads, with what a shelf showed before and after it
+abbrev pub IsOfReading : Answer → ShelfSeen → ShelfSeen → Type 0
+IsOfReading (a.BadLine b) old new = ⊤
+IsOfReading (a.CannotRead f) old new = Rose old.faults new.faults
+IsOfReading a.OutOfMemory old new = ⊤
+IsOfReading (a.TooLong f) old new = Rose old.longs new.longs
+IsOfReading _ old new = ⊥
 
--- an answer of the part that writes, with out's count of faults
-abbrev pub IsOfWriting : Answer → ℕ → ℕ → Type 0
-IsOfWriting a.Done f f' = ⊤
-IsOfWriting a.Usage f f' = ⊥
-IsOfWriting (a.BadLine b) f f' = ⊥
-IsOfWriting (a.CannotRead n) f f' = ⊥
-IsOfWriting a.CannotWrite f f' = Rose f f'
-IsOfWriting a.OutOfMemory f f' = ⊤
-IsOfWriting (a.TooLong n) f f' = ⊥
+-- no count of a shelf rose
+pub record IsUnfailed (old new : ShelfSeen) : Type 0 where
+  pub faults : new.faults ≡ old.faults
+  pub longs : new.longs ≡ old.longs
 
--- the counts that show the cause of an answer: of the shelf's faults and of its files that were too long, and of out's
--- faults
-abbrev pub IsCausedBy : Answer → ℕ → ℕ → ℕ → ℕ → ℕ → ℕ → Type 0
-IsCausedBy a.Done f f' l l' o o' = ⊤
-IsCausedBy a.Usage f f' l l' o o' = ⊥
-IsCausedBy (a.BadLine b) f f' l l' o o' = ⊤
-IsCausedBy (a.CannotRead n) f f' l l' o o' = Rose f f'
-IsCausedBy a.CannotWrite f f' l l' o o' = Rose o o'
-IsCausedBy a.OutOfMemory f f' l l' o o' = ⊤
-IsCausedBy (a.TooLong n) f f' l l' o o' = Rose l l'
+-- an answer of the part that writes, with what the sink showed before and after it
+abbrev pub IsOfWriting : Answer → SinkSeen → SinkSeen → Type 0
+IsOfWriting a.Done old new = ⊤
+IsOfWriting a.CannotWrite old new = Rose old.faults new.faults
+IsOfWriting a.OutOfMemory old new = ⊤
+IsOfWriting _ old new = ⊥
 
--- what out took of a text: all of it where the job was done, a front of it where writing failed or memory lacked, and
+-- the count that shows the cause of an answer: of the shelf's faults, of its files that were too long, or of the
+-- sink's faults
+abbrev pub IsCausedBy : Answer → ShelfSeen → ShelfSeen → SinkSeen → SinkSeen → Type 0
+IsCausedBy a.Usage shelf shelf' out out' = ⊥
+IsCausedBy (a.CannotRead f) shelf shelf' out out' = Rose shelf.faults shelf'.faults
+IsCausedBy a.CannotWrite shelf shelf' out out' = Rose out.faults out'.faults
+IsCausedBy (a.TooLong f) shelf shelf' out out' = Rose shelf.longs shelf'.longs
+IsCausedBy _ shelf shelf' out out' = ⊤
+
+-- what a sink took of a text: all of it where the job was done, a front of it where writing failed or memory lacked, and
 -- nothing with an answer that comes before anything is written
-abbrev pub TookText : Answer → List ℕ → List ℕ → List ℕ → Type 0
-TookText a.Done old new text = new ≡ old ++ text
-TookText a.Usage old new text = new ≡ old
-TookText (a.BadLine b) old new text = new ≡ old
-TookText (a.CannotRead n) old new text = new ≡ old
+abbrev pub TookText : Answer → SinkSeen → SinkSeen → List ℕ → Type 0
+TookText a.Done old new text = TookAll old new text
 TookText a.CannotWrite old new text = TookFront old new text
 TookText a.OutOfMemory old new text = TookFront old new text
-TookText (a.TooLong n) old new text = new ≡ old
+TookText _ old new text = TookNothing old new
 
--- what out took at an outcome
-abbrev pub TookAt : Answer → List ℕ → List ℕ → Outcome → Type 0
-TookAt answer old new Usage = new ≡ old
-TookAt answer old new (BadLine n k) = new ≡ old
-TookAt answer old new (Missing name) = new ≡ old
-TookAt answer old new (Long name) = new ≡ old
+-- what it took at an outcome
+abbrev pub TookAt : Answer → SinkSeen → SinkSeen → Outcome → Type 0
 TookAt answer old new (Text t) = TookText answer old new t
+TookAt answer old new _ = TookNothing old new
 
--- out took nothing with an answer that comes before anything is written
+-- what is said of an answer that comes before anything is written
 abbrev pub OnQuiet : Answer → Type 0 → Type 0
 OnQuiet a.Done P = ⊤
-OnQuiet a.Usage P = P
-OnQuiet (a.BadLine b) P = P
-OnQuiet (a.CannotRead n) P = P
 OnQuiet a.CannotWrite P = ⊤
 OnQuiet a.OutOfMemory P = ⊤
-OnQuiet (a.TooLong n) P = P
+OnQuiet _ P = P
 
 -- where the job was done the journal of its events was added, and else none
 abbrev pub AnswerAdds : Answer → List Log → List Log → Type 0
 AnswerAdds a.Done old new = (j : Log) × (new ≡ old ++ j ∷ []) × IsOfDriver j
-AnswerAdds a.Usage old new = new ≡ old
-AnswerAdds (a.BadLine b) old new = new ≡ old
-AnswerAdds (a.CannotRead n) old new = new ≡ old
-AnswerAdds a.CannotWrite old new = new ≡ old
-AnswerAdds a.OutOfMemory old new = new ≡ old
-AnswerAdds (a.TooLong n) old new = new ≡ old
+AnswerAdds _ old new = new ≡ old

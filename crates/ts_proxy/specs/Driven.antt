@@ -1,54 +1,90 @@
 -- How far a text got into a sink, and a body through a chain.
-use Rattle.std.specs.Prelude.{◌≡◌, ℕ, ◌+◌, ◌*◌, ◌≤◌, ◌++◌, List, [], ◌∷◌, Bool, true, false, Some}
+use Rattle.std.specs.Prelude.{◌≡◌, ℕ, ◌+◌, ◌*◌, ◌<◌, ◌≤◌, ◌++◌, List, [], ◌∷◌, length, Bool, true, false, Some, ⊤, nat_lt, if◌then◌else◌}
+use Rattle.ts_link.specs.Seen.{SinkSeen}
 use Rattle.ts_journal.specs.State.{State, pending_at}
 use Rattle.ts_journal.specs.Log.{Log}
-use Rattle.ts_proxy.specs.declared.drive.Driven.{Driven}
-use Rattle.ts_proxy.specs.declared.drive.Driven.TheVariants.{Done, Failed, NoMemory}
 use Rattle.ts_journal.specs.declared.entry.Pending.{Pending}
+use Rattle.ts_group.specs.Context.{AllPlain}
 use Rattle.ts_group.specs.declared.action.Named.{Named}
+use Rattle.ts_group.specs.declared.group.Group.{Group}
 use Rattle.ts_transform.specs.declared.world.ChainWorld.{ChainWorld}
-use Rattle.ts_transform.specs.Flow.{left_to_do}
+use Rattle.ts_transform.specs.Flow.{flow, last_wait, left_to_do}
 use Rattle.ts_transform.specs.Driving.{errors_to_pass}
-use Rattle.ts_transform.specs.Cover.{IsSound, IsAwake}
-use Rattle.ts_proxy.specs.Journals.{IsOfDriver}
-use Rattle.ts_proxy.specs.Took.{TookFront}
+use Rattle.ts_transform.specs.Cover.{IsSound, IsSoundGroup, IsAwake}
+use Rattle.ts_proxy.specs.declared.writing.Driven.{Driven}
+use Rattle.ts_proxy.specs.declared.writing.Driven.TheVariants.{Done, Failed, NoMemory}
+use Rattle.ts_proxy.specs.Journals.{IsNext, IsOfDriver, moment_of}
+use Rattle.ts_proxy.specs.Took.{TookAll, TookFront}
 
+-- the sink failed
 abbrev pub is_failed : Driven → Bool
-is_failed Done = false
 is_failed Failed = true
-is_failed NoMemory = false
+is_failed _ = false
 
+-- memory lacked
 abbrev pub is_no_memory : Driven → Bool
-is_no_memory Done = false
-is_no_memory Failed = false
 is_no_memory NoMemory = true
+is_no_memory _ = false
 
 -- what holds where all was done
 abbrev pub OnDone : Driven → Type 0 → Type 0
 OnDone Done P = P
-OnDone Failed P = Unit {0}
-OnDone NoMemory P = Unit {0}
+OnDone _ P = ⊤
 
 -- all of the text was taken, or a front of it
-abbrev pub WroteAll : Driven → List ℕ → List ℕ → List ℕ → Type 0
-WroteAll Done old new text = new ≡ old ++ text
-WroteAll Failed old new text = TookFront old new text
-WroteAll NoMemory old new text = TookFront old new text
+abbrev pub WroteAll : Driven → SinkSeen → SinkSeen → List ℕ → Type 0
+WroteAll Done old new text = TookAll old new text
+WroteAll _ old new text = TookFront old new text
 
--- what was taken grew, and that with what still comes is what was to come
-pub record Passes (old new flow flow' : List ℕ) : Type 0 where
+-- what was taken grew, and that with what is still to come is what was to come
+pub record Passes (old new : SinkSeen) (coming coming' : List ℕ) : Type 0 where
   pub took : List ℕ
-  pub grew : new ≡ old ++ took
-  pub front : flow ≡ took ++ flow'
+  pub grew : new.taken ≡ old.taken ++ took
+  pub front : coming ≡ took ++ coming'
 
--- a world of a chain that is sound stays so, if its last stage was woken where that was needed, and needs no waking then
-pub record StaysSound {P : Type 0} (v w : ChainWorld P) : Type 0 where
-  pub sound : (pending : List Pending) (roles : List Named) → (v.running ≡ true → IsAwake v.chain v.table.items) → IsSound v pending roles → IsSound w pending roles
-  pub awake : (v.running ≡ true → IsAwake v.chain v.table.items) → w.running ≡ true → IsAwake w.chain w.table.items
+-- what a world of a chain still gives
+abbrev pub to_come : {P : Type 0} → (P → List ℕ → List ℕ) → ChainWorld P → List ℕ
+to_come rest w = flow rest w.chain []
 
--- what a world of a chain has left to do, but for its pending events
+-- what waits for its client
+abbrev pub for_client : {P : Type 0} → ChainWorld P → List ℕ
+for_client w = last_wait w.chain.first w.chain.stages
+
+-- what it has left to do, but for its pending events: each step of a stage counts as a hundred events
 abbrev pub left_of : {P : Type 0} → (P → List ℕ → List ℕ) → ChainWorld P → ℕ
 left_of rest w = 100 * (left_to_do rest w.chain [] + errors_to_pass w.table.items)
+
+-- what is left to do in its group
+abbrev pub left_in : {P Q R T U : Type 0} → (P → List ℕ → List ℕ) → Group (ChainWorld P) Q R T U → ℕ
+left_in rest g = left_of rest g.world + length g.cx.log.state.pending
+
+-- less is left to do in its group, where what waits for the client counts as one event
+abbrev pub LeavesLess : {P Q R T U : Type 0} → (P → List ℕ → List ℕ) → Group (ChainWorld P) Q R T U → Group (ChainWorld P) Q R T U → Type 0
+LeavesLess rest old new = left_in rest new < left_in rest old + (if nat_lt 0 (length (for_client new.world)) then 1 else 0)
+
+-- while it runs, its last stage is roused where it is full, so that it goes on once its client has taken bytes
+abbrev pub IsWoken : {P : Type 0} → ChainWorld P → Type 0
+IsWoken w = w.running ≡ true → IsAwake w.chain w.table.items
+
+-- it is sound in any group that has no periodic event, as before it was started
+abbrev pub IsSoundAlone : {P : Type 0} → ChainWorld P → Type 0
+IsSoundAlone w = (pending : List Pending) → (roles : List Named) → AllPlain pending → IsSound w pending roles
+
+-- a world that is sound stays so, if its last stage was woken where that was needed, and needs no waking then
+pub record StaysSound {P : Type 0} (v w : ChainWorld P) : Type 0 where
+  pub sound : (pending : List Pending) (roles : List Named) → IsWoken v → IsSound v pending roles → IsSound w pending roles
+  pub awake : IsWoken v → IsWoken w
+
+-- the world of a group is sound, and stays so while its client takes bytes
+pub record IsReadyForClient {P Q R T U : Type 0} (g : Group (ChainWorld P) Q R T U) : Type 0 where
+  pub sound : IsSoundGroup g
+  pub awake : IsWoken g.world
+
+-- between two turns: none is held, the world is sound, and nothing waits for its client
+pub record IsBetweenTurns {P Q R T U : Type 0} (g : Group (ChainWorld P) Q R T U) : Type 0 where
+  pub idle : g.cx.log.state.held ≡ false
+  pub sound : IsSoundGroup g
+  pub dry : for_client g.world ≡ []
 
 -- the event of a number is pending, and due at a moment
 pub record IsDue (s : State) (number moment : ℕ) : Type 0 where
@@ -56,8 +92,12 @@ pub record IsDue (s : State) (number moment : ℕ) : Type 0 where
   pub there : pending_at number s.pending ≡ Some event
   pub due : event.due ≤ moment
 
+-- the event of a number is what the driver of a journal handles next, and this is the moment for it
+pub record IsDueNext (log : Log) (number moment : ℕ) : Type 0 where
+  pub due : IsDue log.state number moment
+  pub next : IsNext (moment_of log) log.state number moment
+
 -- where all was done the journal of its driver was added, and else none
 abbrev pub AddsJournal : Driven → List Log → List Log → Type 0
 AddsJournal Done old new = (j : Log) × (new ≡ old ++ j ∷ []) × IsOfDriver j
-AddsJournal Failed old new = new ≡ old
-AddsJournal NoMemory old new = new ≡ old
+AddsJournal _ old new = new ≡ old

@@ -1,5 +1,5 @@
 -- How a journal goes on under its driver, and how it stands once all of its events are handled.
-use Rattle.std.specs.Prelude.{◌≡◌, ℕ, ◌+◌, ◌≤◌, false, List, [], ◌∷◌, max}
+use Rattle.std.specs.Prelude.{◌≡◌, ℕ, ◌+◌, ◌≤◌, false, List, [], ◌∷◌, ⊤, max}
 use Rattle.ts_journal.specs.declared.entry.Entry.{Entry}
 use Rattle.ts_journal.specs.declared.entry.Entry.TheVariants.{Took, Gave, Handled}
 use Rattle.ts_journal.specs.declared.entry.Pending.{Pending}
@@ -10,15 +10,27 @@ use Rattle.ts_journal.specs.Machine.{IsLawful, after, replay}
 use Rattle.ts_group.specs.Context.{own_key}
 use Rattle.ts_group.specs.Due.{IsFirstDue}
 
+-- the seat of a driver that nobody else drives beside
+abbrev pub only_seat : ℕ
+only_seat = 0
+
+-- the turn in which the work begins
+abbrev pub first_turn : ℕ
+first_turn = 1
+
+-- the moment at which it begins
+abbrev pub first_moment : ℕ
+first_moment = 0
+
 -- the moment of the last event that these entries handle, or the one before them
 abbrev pub last_moment : ℕ → List Entry → ℕ
 last_moment m [] = m
 last_moment m (Handled number moment ∷ es) = last_moment moment es
 last_moment m (_ ∷ es) = last_moment m es
 
--- the moment of a journal's driver, which begins at 0
+-- the moment of a journal's driver
 abbrev pub moment_of : Log → ℕ
-moment_of j = last_moment 0 j.entries
+moment_of j = last_moment first_moment j.entries
 
 -- The event of this number is pending, and no pending event is due before it. The moment is the later one of the moment
 -- before and that at which the event is due.
@@ -27,29 +39,30 @@ IsNext m s number moment = (p : Pending) × (p.number ≡ number) × (moment ≡
 
 -- what is left of a turn handles only events that have this number or a later one, each at this moment
 abbrev pub HandlesFrom : ℕ → ℕ → List Entry → Type 0
-HandlesFrom low now [] = Unit {0}
-HandlesFrom low now (Took turn seat ∷ es) = Unit {0}
-HandlesFrom low now (Gave turn ∷ es) = Unit {0}
+HandlesFrom low now [] = ⊤
+HandlesFrom low now (Took turn seat ∷ es) = ⊤
+HandlesFrom low now (Gave turn ∷ es) = ⊤
 HandlesFrom low now (Handled number moment ∷ es) = (low ≤ number) × (moment ≡ now) × HandlesFrom low now es
 HandlesFrom low now (_ ∷ es) = HandlesFrom low now es
 
 -- The event that a turn handles first is due first, and each that it handles then was set since. The moment moves on from
--- the one before to that at which the first is due, if that is later, and stays for the turn. Only turn 1, in which the
--- work begins, handles nothing.
+-- the one before to that at which the first is due, if that is later, and stays for the turn. Only the first turn, in
+-- which the work begins, may handle nothing.
 abbrev pub HandlesFirst : ℕ → State → List Entry → Type 0
-HandlesFirst m s [] = Unit {0}
-HandlesFirst m s (Took turn seat ∷ es) = Unit {0}
-HandlesFirst m s (Gave turn ∷ es) = turn ≡ 1
+HandlesFirst m s [] = ⊤
+HandlesFirst m s (Took turn seat ∷ es) = ⊤
+HandlesFirst m s (Gave turn ∷ es) = turn ≡ first_turn
 HandlesFirst m s (Handled number moment ∷ es) = IsNext m s number moment × HandlesFrom s.next moment es
 HandlesFirst m s (e ∷ es) = HandlesFirst m (after s e) es
 
--- The turns of one driver that nobody else drives beside, from a moment of it on: each has seat 0 and the number after the
--- one before. It handles one event, which is due first, and then only what is set while it is handled; turn 1 may handle
--- nothing. The driver's moment moves on to what is due, and no further.
+-- The turns of one driver that nobody else drives beside, from a moment of it on: each has its seat and the number after
+-- the one before. It handles one event, which is due first, and then only what is set while it is handled; the first turn
+-- may handle nothing. The driver's moment moves on to what is due, and no further.
 abbrev pub IsSerial : ℕ → State → List Entry → Type 0
-IsSerial m s [] = Unit {0}
+IsSerial m s [] = ⊤
 IsSerial m s (Took turn seat ∷ es) =
-    (turn ≡ s.turns + 1) × (seat ≡ 0) × HandlesFirst m (after s (Took turn seat)) es × IsSerial m (after s (Took turn seat)) es
+    (turn ≡ s.turns + 1) × (seat ≡ only_seat)
+    × HandlesFirst m (after s (Took turn seat)) es × IsSerial m (after s (Took turn seat)) es
 IsSerial m s (Handled number moment ∷ es) = IsSerial moment (after s (Handled number moment)) es
 IsSerial m s (e ∷ es) = IsSerial m (after s e) es
 
@@ -63,19 +76,37 @@ pub record GoesOnWithin (old new : Log) : Type 0 where
 -- one of these entries handles an event
 abbrev pub HandlesSome : List Entry → Type 0
 HandlesSome [] = ⊥
-HandlesSome (Handled number moment ∷ es) = Unit {0}
+HandlesSome (Handled number moment ∷ es) = ⊤
 HandlesSome (_ ∷ es) = HandlesSome es
 
--- within a turn, a journal goes on with an event that is handled
-pub record HandlesWithin (old new : Log) : Type 0 where
+-- within a turn, a journal goes on with an event that is handled, and its driver is then at this moment
+pub record HandlesWithin (moment : ℕ) (old new : Log) : Type 0 where
   pub on : GoesOnWithin old new
   pub some : HandlesSome on.added
+  pub now : moment_of new ≡ moment
 
 -- a journal goes on by turns of the serial driver
 pub record GoesOnSerially (old new : Log) : Type 0 where
   pub turns : List Entry
   pub by : Extends old new turns
   pub serial : IsSerial (moment_of old) old.state turns
+
+-- it does, and its driver is then at this moment
+pub record GoesOnTo (moment : ℕ) (old new : Log) : Type 0 where
+  pub on : GoesOnSerially old new
+  pub now : moment_of new ≡ moment
+
+-- a journal of which no turn was taken yet
+pub record IsUnused (log : Log) : Type 0 where
+  pub idle : log.state.held ≡ false
+  pub none : log.state.turns ≡ 0
+  pub fresh : moment_of log ≡ first_moment
+
+-- a journal goes on by turns of the serial driver, until nothing is pending
+pub record EndsSerially (old new : Log) : Type 0 where
+  pub on : GoesOnSerially old new
+  pub given : new.state.held ≡ false
+  pub none : new.state.pending ≡ []
 
 -- a journal that is lawful and not held, with nothing pending
 pub record IsFinal (j : Log) : Type 0 where
@@ -87,5 +118,5 @@ pub record IsFinal (j : Log) : Type 0 where
 -- the journal of a new group that the serial driver alone drove, to its end
 pub record IsOfDriver (j : Log) : Type 0 where
   pub base : j.base ≡ fresh_with 0 own_key
-  pub serial : IsSerial 0 j.base j.entries
+  pub serial : IsSerial first_moment j.base j.entries
   pub final : IsFinal j

@@ -1,4 +1,4 @@
-// What a command answers.
+//! What a command answers: the job was done, or the first trouble that it met.
 ghost use Rattle.std.specs.Prelude.{◌≡◌};
 ghost use Rattle.ts_proxy.specs.Answers.{answer_of};
 

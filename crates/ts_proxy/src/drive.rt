@@ -1,55 +1,30 @@
-// A body through a chain of transforms, driven by events, and what comes out into a sink.
-ghost use Rattle.std.specs.Prelude.{◌≡◌, ◌+◌, ◌<◌, ◌≤◌, List, [], length, Some, true, false, OnOk, nat_lt, if◌then◌else◌};
+//! The serial driver: a body goes through a chain of transforms by events, each in a turn of its own, and what comes out
+//! is written into a sink between the turns.
+ghost use Rattle.std.specs.Prelude.{◌≡◌, ◌+◌, ◌≤◌, [], length, true, false, OnOk};
 ghost use Rattle.ts_link.specs.Counts.{Counted};
-ghost use Rattle.ts_journal.specs.declared.entry.Pending.{Pending};
-ghost use Rattle.ts_group.specs.declared.action.Named.{Named};
-ghost use Rattle.ts_group.specs.Context.{AllPlain};
-ghost use Rattle.ts_transform.specs.Flow.{flow, last_wait};
-ghost use Rattle.ts_transform.specs.Cover.{IsSound, IsSoundGroup, IsAwake};
-ghost use Rattle.ts_proxy.specs.Journals.{moment_of, IsNext, HandlesWithin, GoesOnSerially};
-ghost use Rattle.ts_proxy.specs.Driven.{WroteAll, Passes, OnDone, AddsJournal, StaysSound, IsDue, is_failed, is_no_memory, left_of};
+ghost use Rattle.ts_transform.specs.Cover.{IsSoundGroup};
+ghost use Rattle.ts_proxy.specs.Journals.{moment_of, first_moment, HandlesWithin, GoesOnTo, IsUnused, EndsSerially};
+ghost use Rattle.ts_proxy.specs.Driven.{WroteAll, Passes, OnDone, AddsJournal, StaysSound, IsDueNext, is_failed};
+ghost use Rattle.ts_proxy.specs.Driven.{left_of, to_come, for_client, LeavesLess, IsSoundAlone, IsReadyForClient, IsBetweenTurns};
 
+use crate::writing::Driven;
 use std::alloc::Global;
 use ts_group::{Group, Handling};
 use ts_journal::Journal;
 use ts_link::{NoMemory, Sink, Wrote};
 use ts_transform::{ChainWorld, Transform};
 
-/// How far a text or a chain got.
-#[derive(Clone, Copy, Debug, PartialEq, Eq)]
-pub enum Driven {
-    Done,
-    Failed,
-    NoMemory,
-}
-
 // The seat of whoever drives a group that nobody else owns.
 const SEAT: u64 = 0;
 
-/// Writes a text to its end, if nothing fails.
-pub fn write_all<K: Sink>(out: &mut K, text: &[u8]) -> Driven
-    ensures told { K.tells ≡ true → WroteAll result (K.taken out.old) (K.taken out.new) text.now }
-    ensures faults { Counted (is_failed result) (K.faults out.old) (K.faults out.new) }
-    ensures lacks { Counted (is_no_memory result) (K.lacks out.old) (K.lacks out.new) }
-{
-    let mut rest = text;
-    while !rest.is_empty() {
-        match out.write(rest) {
-            Wrote::Took(count) => rest = rest.split_at(count).1,
-            Wrote::Failed => return Driven::Failed,
-            Wrote::NoMemory => return Driven::NoMemory,
-        }
-    }
-    Driven::Done
-}
-
 // Writes what waits for the client.
 fn drain<P: Transform + Drop, K: Sink>(world: &mut ChainWorld<P>, out: &mut K) -> Driven
-    ensures told { K.tells ≡ true → Passes (K.taken out.old) (K.taken out.new) (flow P.rest world.old.chain []) (flow P.rest world.new.chain []) }
-    ensures faults { Counted (is_failed result) (K.faults out.old) (K.faults out.new) }
-    ensures dry { OnDone result (last_wait world.new.chain.first world.new.chain.stages ≡ []) }
-    ensures falls { left_of P.rest world.new + length (last_wait world.old.chain.first world.old.chain.stages)
-        ≤ left_of P.rest world.old + length (last_wait world.new.chain.first world.new.chain.stages) }
+    ensures told { K.tells ≡ true →
+        Passes (K.seen out.old) (K.seen out.new) (to_come P.rest world.old) (to_come P.rest world.new) }
+    ensures faults { Counted (is_failed result) (K.seen out.old).faults (K.seen out.new).faults }
+    ensures dry { OnDone result (for_client world.new ≡ []) }
+    ensures falls { left_of P.rest world.new + length (for_client world.old)
+        ≤ left_of P.rest world.old + length (for_client world.new) }
     ensures stays { StaysSound world.old world.new }
 {
     while let Some(block) = world.chain().out_block() {
@@ -62,26 +37,20 @@ fn drain<P: Transform + Drop, K: Sink>(world: &mut ChainWorld<P>, out: &mut K) -
     Driven::Done
 }
 
-// Handles the event of a number, which is due, in a turn, and sees that the last stage goes on once bytes were taken.
-fn handle<P: Transform + Drop>(
+// Handles the event that is due next, under its number, and sees that the last stage goes on once bytes were taken.
+fn handle_next<P: Transform + Drop>(
     group: &mut Group<ChainWorld<P>>,
     number: u64,
     moment: u64,
 ) -> Result<(), NoMemory>
     requires turn { group.old.cx.log.state.held ≡ true }
     requires sound { IsSoundGroup group.old }
-    requires due { IsDue group.old.cx.log.state number moment }
-    requires next { IsNext (moment_of group.old.cx.log) group.old.cx.log.state number moment }
+    requires next { IsDueNext group.old.cx.log number moment }
     ensures turn { group.new.cx.log.state.held ≡ true }
-    ensures turns { group.new.cx.log.state.turns ≡ group.old.cx.log.state.turns }
-    ensures within { OnOk result (HandlesWithin group.old.cx.log group.new.cx.log) }
-    ensures moment { OnOk result (moment_of group.new.cx.log ≡ moment) }
-    ensures flow { flow P.rest group.new.world.chain [] ≡ flow P.rest group.old.world.chain [] }
-    ensures sound { OnOk result (IsSoundGroup group.new) }
-    ensures awake { OnOk result (group.new.world.running ≡ true → IsAwake group.new.world.chain group.new.world.table.items) }
-    ensures falls { OnOk result (left_of P.rest group.new.world + length group.new.cx.log.state.pending
-        < left_of P.rest group.old.world + length group.old.cx.log.state.pending
-        + (if nat_lt 0 (length (last_wait group.new.world.chain.first group.new.world.chain.stages)) then 1 else 0)) }
+    ensures within { OnOk result (HandlesWithin moment group.old.cx.log group.new.cx.log) }
+    ensures flow { to_come P.rest group.new.world ≡ to_come P.rest group.old.world }
+    ensures ready { OnOk result (IsReadyForClient group.new) }
+    ensures falls { OnOk result (LeavesLess P.rest group.old group.new) }
 {
     match group.handle(number, moment) {
         Ok(Handling::Handled { events: _ }) => match ChainWorld::wake(group) {
@@ -93,47 +62,39 @@ fn handle<P: Transform + Drop>(
     }
 }
 
-// Handles the event of a number in a turn of its own.
-fn take_turn<P: Transform + Drop>(
+// Handles the event that is due next, under its number, in a turn of its own.
+fn drive_turn<P: Transform + Drop>(
     group: &mut Group<ChainWorld<P>>,
     number: u64,
     moment: u64,
 ) -> Result<(), NoMemory>
     requires idle { group.old.cx.log.state.held ≡ false }
     requires sound { IsSoundGroup group.old }
-    requires due { IsDue group.old.cx.log.state number moment }
-    requires next { IsNext (moment_of group.old.cx.log) group.old.cx.log.state number moment }
+    requires next { IsDueNext group.old.cx.log number moment }
     ensures idle { group.new.cx.log.state.held ≡ false }
-    ensures serial { OnOk result (GoesOnSerially group.old.cx.log group.new.cx.log) }
-    ensures moment { OnOk result (moment_of group.new.cx.log ≡ moment) }
-    ensures flow { flow P.rest group.new.world.chain [] ≡ flow P.rest group.old.world.chain [] }
-    ensures sound { OnOk result (IsSoundGroup group.new) }
-    ensures awake { OnOk result (group.new.world.running ≡ true → IsAwake group.new.world.chain group.new.world.table.items) }
-    ensures falls { OnOk result (left_of P.rest group.new.world + length group.new.cx.log.state.pending
-        < left_of P.rest group.old.world + length group.old.cx.log.state.pending
-        + (if nat_lt 0 (length (last_wait group.new.world.chain.first group.new.world.chain.stages)) then 1 else 0)) }
+    ensures serial { OnOk result (GoesOnTo moment group.old.cx.log group.new.cx.log) }
+    ensures flow { to_come P.rest group.new.world ≡ to_come P.rest group.old.world }
+    ensures ready { OnOk result (IsReadyForClient group.new) }
+    ensures falls { OnOk result (LeavesLess P.rest group.old group.new) }
 {
     let Some(turn) = group.journal().turns().checked_add(1) else {
         return Err(NoMemory);
     };
     group.begin_turn(turn, SEAT, moment)?;
-    let handled = handle(group, number, moment);
+    let handled = handle_next(group, number, moment);
     group.give_turn();
     handled
 }
 
-// Begins the work of a chain's world, in a turn of its own at the moment 0.
+// Begins the work of a chain's world, in the first turn and at the first moment.
 fn start<P: Transform + Drop>(group: &mut Group<ChainWorld<P>>) -> Result<(), NoMemory>
-    requires idle { group.old.cx.log.state.held ≡ false }
-    requires first { group.old.cx.log.state.turns ≡ 0 }
+    requires unused { IsUnused group.old.cx.log }
     requires sound { IsSoundGroup group.old }
     ensures idle { group.new.cx.log.state.held ≡ false }
-    ensures serial { OnOk result (GoesOnSerially group.old.cx.log group.new.cx.log) }
-    ensures moment { OnOk result (moment_of group.new.cx.log ≡ moment_of group.old.cx.log) }
-    ensures begins { OnOk result (group.new.cx.moment ≡ 0) }
-    ensures flow { flow P.rest group.new.world.chain [] ≡ flow P.rest group.old.world.chain [] }
-    ensures sound { OnOk result (IsSoundGroup group.new) }
-    ensures awake { OnOk result (group.new.world.running ≡ true → IsAwake group.new.world.chain group.new.world.table.items) }
+    ensures serial { OnOk result (GoesOnTo first_moment group.old.cx.log group.new.cx.log) }
+    ensures begins { OnOk result (group.new.cx.moment ≡ first_moment) }
+    ensures flow { to_come P.rest group.new.world ≡ to_come P.rest group.old.world }
+    ensures ready { OnOk result (IsReadyForClient group.new) }
 {
     let Some(turn) = group.journal().turns().checked_add(1) else {
         return Err(NoMemory);
@@ -152,21 +113,18 @@ fn start<P: Transform + Drop>(group: &mut Group<ChainWorld<P>>) -> Result<(), No
 // writes between the turns. The moment moves on to the next due one where nothing is due.
 #[tactic(auto, using(crate::proofs::Serial::serial_trans))]
 fn run_events<P: Transform + Drop, K: Sink>(group: &mut Group<ChainWorld<P>>, out: &mut K) -> Driven
-    requires idle { group.old.cx.log.state.held ≡ false }
-    requires fresh { moment_of group.old.cx.log ≡ 0 }
-    requires sound { IsSoundGroup group.old }
-    requires dry { last_wait group.old.world.chain.first group.old.world.chain.stages ≡ [] }
-    ensures told { K.tells ≡ true → Passes (K.taken out.old) (K.taken out.new) (flow P.rest group.old.world.chain []) (flow P.rest group.new.world.chain []) }
-    ensures faults { Counted (is_failed result) (K.faults out.old) (K.faults out.new) }
-    ensures done { OnDone result (flow P.rest group.new.world.chain [] ≡ []) }
-    ensures idle { group.new.cx.log.state.held ≡ false }
-    ensures serial { OnDone result (GoesOnSerially group.old.cx.log group.new.cx.log) }
-    ensures none { OnDone result (group.new.cx.log.state.pending ≡ []) }
+    requires between { IsBetweenTurns group.old }
+    requires fresh { moment_of group.old.cx.log ≡ first_moment }
+    ensures told { K.tells ≡ true →
+        Passes (K.seen out.old) (K.seen out.new) (to_come P.rest group.old.world) (to_come P.rest group.new.world) }
+    ensures faults { Counted (is_failed result) (K.seen out.old).faults (K.seen out.new).faults }
+    ensures done { OnDone result (to_come P.rest group.new.world ≡ []) }
+    ensures ends { OnDone result (EndsSerially group.old.cx.log group.new.cx.log) }
 {
     let mut moment = 0;
     'driving: while let Some((due, number)) = group.next_due() {
         moment = due.max(moment);
-        let Ok(()) = take_turn(group, number, moment) else {
+        let Ok(()) = drive_turn(group, number, moment) else {
             return Driven::NoMemory;
         };
         match drain(group.world_mut(), out) {
@@ -188,15 +146,12 @@ fn drive_group<P: Transform + Drop, K: Sink>(
     group: &mut Group<ChainWorld<P>>,
     out: &mut K,
 ) -> Driven
-    requires idle { group.old.cx.log.state.held ≡ false }
-    requires first { group.old.cx.log.state.turns ≡ 0 }
-    requires fresh { moment_of group.old.cx.log ≡ 0 }
+    requires unused { IsUnused group.old.cx.log }
     requires sound { IsSoundGroup group.old }
-    ensures told { K.tells ≡ true → WroteAll result (K.taken out.old) (K.taken out.new) (flow P.rest group.old.world.chain []) }
-    ensures faults { Counted (is_failed result) (K.faults out.old) (K.faults out.new) }
-    ensures idle { group.new.cx.log.state.held ≡ false }
-    ensures serial { OnDone result (GoesOnSerially group.old.cx.log group.new.cx.log) }
-    ensures none { OnDone result (group.new.cx.log.state.pending ≡ []) }
+    ensures told { K.tells ≡ true →
+        WroteAll result (K.seen out.old) (K.seen out.new) (to_come P.rest group.old.world) }
+    ensures faults { Counted (is_failed result) (K.seen out.old).faults (K.seen out.new).faults }
+    ensures ends { OnDone result (EndsSerially group.old.cx.log group.new.cx.log) }
 {
     let Ok(()) = start(group) else {
         return Driven::NoMemory;
@@ -216,9 +171,9 @@ pub fn drive<P: Transform + Drop, K: Sink>(
     out: &mut K,
     journals: &mut Vec<Journal>,
 ) -> Driven
-    requires sound { (pending : List Pending) → (roles : List Named) → AllPlain pending → IsSound world pending roles }
-    ensures told { K.tells ≡ true → WroteAll result (K.taken out.old) (K.taken out.new) (flow P.rest world.chain []) }
-    ensures faults { Counted (is_failed result) (K.faults out.old) (K.faults out.new) }
+    requires sound { IsSoundAlone world }
+    ensures told { K.tells ≡ true → WroteAll result (K.seen out.old) (K.seen out.new) (to_come P.rest world) }
+    ensures faults { Counted (is_failed result) (K.seen out.old).faults (K.seen out.new).faults }
     ensures journals { AddsJournal result journals.old.items journals.new.items }
 {
     let Ok(()) = journals.reserve(1) else {

@@ -9,7 +9,6 @@ mod telling;
 mod tests;
 mod top;
 mod transform;
-mod world_of;
 mod writing;
 
 pub use top::{Ended, run};

@@ -1,12 +1,12 @@
-// The files of a command, read in the order of the work.
+//! The files of a command are read in the order of the work: the configuration, then the files of its append lines.
 ghost use Rattle.std.specs.Prelude.{◌≡◌, ◌∷◌, ◌++◌, [], List, ℕ, true, All, IfErr, OnOk};
 ghost use Rattle.std.specs.Str.{IsUtf8};
 ghost use Rattle.ts_config.specs.Setup.{HasFileName};
 ghost use Rattle.ts_config.specs.declared.setup.TransformLine.{TransformLine};
 ghost use Rattle.ts_config.specs.declared.setup.TransformLine.TheVariants as t;
 ghost use Rattle.ts_proxy.specs.declared.answer.NamedFile.TheVariants as named;
-ghost use Rattle.ts_proxy.specs.Outcome.{Outcome, opened, line_filled, filled, set_up};
-ghost use Rattle.ts_proxy.specs.Answers.{Leads, IsOfReading, OnCannotRead, IsNamedBy, ComesTo, IsReadBy};
+ghost use Rattle.ts_proxy.specs.Outcome.{Outcome, most_text, opened, line_filled, filled, set_up};
+ghost use Rattle.ts_proxy.specs.Answers.{Leads, IsOfReading, IsUnfailed, OnCannotRead, IsNamedBy, ComesTo, IsReadBy};
 
 use crate::answer::{Answer, NamedFile, refused};
 use std::alloc::Global;
@@ -23,11 +23,12 @@ const MOST_TEXT: u64 = 16_384;
 fn read_text<S: Shelf>(alloc: Global, shelf: &mut S, file: Octets) -> Result<TransformLine, Answer>
     requires { IsUtf8 file }
     ensures told { S.tells ≡ true → (config body : List ℕ) (next : TransformLine → Outcome) →
-        Leads config body result (opened (S.file shelf.old file) 16384 file (λ bytes. next (t.Append file bytes))) next }
+        Leads config body result
+        (opened ((S.seen shelf.old).file file) most_text file (λ bytes. next (t.Append file bytes))) next }
     ensures named { IfErr result (λ a. OnCannotRead a (λ f. f ≡ named.Appended file)) }
-    ensures files { S.tells ≡ true → S.file shelf.new ≡ S.file shelf.old }
-    ensures same { OnOk result ((S.faults shelf.new ≡ S.faults shelf.old) × (S.longs shelf.new ≡ S.longs shelf.old)) }
-    ensures cause { IfErr result (λ a. IsOfReading a (S.faults shelf.old) (S.faults shelf.new) (S.longs shelf.old) (S.longs shelf.new)) }
+    ensures files { S.tells ≡ true → (S.seen shelf.new).file ≡ (S.seen shelf.old).file }
+    ensures same { OnOk result (IsUnfailed (S.seen shelf.old) (S.seen shelf.new)) }
+    ensures cause { IfErr result (λ a. IsOfReading a (S.seen shelf.old) (S.seen shelf.new)) }
 {
     let Ok(name) = str::from_utf8(file.bytes()) else {
         unreachable!();
@@ -46,11 +47,11 @@ fn fill_one<S: Shelf>(
 ) -> Result<TransformLine, Answer>
     requires { HasFileName line }
     ensures told { S.tells ≡ true → (config body : List ℕ) (next : TransformLine → Outcome) →
-        Leads config body result (line_filled (S.file shelf.old) line next) next }
+        Leads config body result (line_filled (S.seen shelf.old).file line next) next }
     ensures named { IfErr result (λ a. OnCannotRead a (IsNamedBy line)) }
-    ensures files { S.tells ≡ true → S.file shelf.new ≡ S.file shelf.old }
-    ensures same { OnOk result ((S.faults shelf.new ≡ S.faults shelf.old) × (S.longs shelf.new ≡ S.longs shelf.old)) }
-    ensures cause { IfErr result (λ a. IsOfReading a (S.faults shelf.old) (S.faults shelf.new) (S.longs shelf.old) (S.longs shelf.new)) }
+    ensures files { S.tells ≡ true → (S.seen shelf.new).file ≡ (S.seen shelf.old).file }
+    ensures same { OnOk result (IsUnfailed (S.seen shelf.old) (S.seen shelf.new)) }
+    ensures cause { IfErr result (λ a. IsOfReading a (S.seen shelf.old) (S.seen shelf.new)) }
 {
     match line {
         TransformLine::Append { file, .. } => read_text(alloc, shelf, file),
@@ -73,11 +74,11 @@ fn fill_lines<S: Shelf>(
 ) -> Result<Vec<TransformLine>, Answer>
     requires { All HasFileName lines.items }
     ensures told { S.tells ≡ true → (config body : List ℕ) (next : List TransformLine → Outcome) →
-        Leads config body result (filled (S.file shelf.old) lines.items next) (λ ls. next ls.items) }
-    ensures named { S.tells ≡ true → IfErr result (λ a. OnCannotRead a (ComesTo (S.file shelf.old) lines.items)) }
-    ensures files { S.tells ≡ true → S.file shelf.new ≡ S.file shelf.old }
-    ensures same { OnOk result ((S.faults shelf.new ≡ S.faults shelf.old) × (S.longs shelf.new ≡ S.longs shelf.old)) }
-    ensures cause { IfErr result (λ a. IsOfReading a (S.faults shelf.old) (S.faults shelf.new) (S.longs shelf.old) (S.longs shelf.new)) }
+        Leads config body result (filled (S.seen shelf.old).file lines.items next) (λ ls. next ls.items) }
+    ensures named { S.tells ≡ true → IfErr result (λ a. OnCannotRead a (ComesTo (S.seen shelf.old).file lines.items)) }
+    ensures files { S.tells ≡ true → (S.seen shelf.new).file ≡ (S.seen shelf.old).file }
+    ensures same { OnOk result (IsUnfailed (S.seen shelf.old) (S.seen shelf.new)) }
+    ensures cause { IfErr result (λ a. IsOfReading a (S.seen shelf.old) (S.seen shelf.new)) }
 {
     let mut found = Vec::new(alloc);
     while let Some(line) = lines.pop_front() {
@@ -99,11 +100,11 @@ pub fn read_setup<S: Shelf>(
     config: &str,
 ) -> Result<Vec<TransformLine>, Answer>
     ensures told { S.tells ≡ true → (body : List ℕ) (next : List TransformLine → Outcome) →
-        Leads config.now body result (set_up (S.file shelf.old) config.now next) (λ ls. next ls.items) }
-    ensures named { S.tells ≡ true → IfErr result (λ a. OnCannotRead a (IsReadBy (S.file shelf.old) config.now)) }
-    ensures files { S.tells ≡ true → S.file shelf.new ≡ S.file shelf.old }
-    ensures same { OnOk result ((S.faults shelf.new ≡ S.faults shelf.old) × (S.longs shelf.new ≡ S.longs shelf.old)) }
-    ensures cause { IfErr result (λ a. IsOfReading a (S.faults shelf.old) (S.faults shelf.new) (S.longs shelf.old) (S.longs shelf.new)) }
+        Leads config.now body result (set_up (S.seen shelf.old).file config.now next) (λ ls. next ls.items) }
+    ensures named { S.tells ≡ true → IfErr result (λ a. OnCannotRead a (IsReadBy (S.seen shelf.old) config.now)) }
+    ensures files { S.tells ≡ true → (S.seen shelf.new).file ≡ (S.seen shelf.old).file }
+    ensures same { OnOk result (IsUnfailed (S.seen shelf.old) (S.seen shelf.new)) }
+    ensures cause { IfErr result (λ a. IsOfReading a (S.seen shelf.old) (S.seen shelf.new)) }
 {
     let bytes = match shelf.read(alloc, config, MOST_CONFIG) {
         Ok(bytes) => bytes,

@@ -1,10 +1,10 @@
-// The line on the error sink, which takes no memory of its own.
+//! The line on the error sink that says why a command ended so; telling it takes no memory of its own.
 ghost use Rattle.std.specs.Prelude.{◌≡◌, true, map};
 ghost use Rattle.ts_proxy.specs.Lines.{joined, kind_text, line_of, LineTold};
 ghost use Rattle.ts_proxy.specs.Answers.{name_of};
 
 use crate::answer::{Answer, NamedFile};
-use crate::drive::{Driven, write_all};
+use crate::writing::{Driven, write_all};
 use itoa::Buffer;
 use ts_config::ConfigKind;
 use ts_link::Sink;
@@ -50,8 +50,8 @@ fn text_of(kind: ConfigKind) -> &'static [u8]
 
 // Writes the parts of a line, one behind the other, until one is not taken whole.
 fn tell<E: Sink>(err: &mut E, parts: &[&[u8]])
-    ensures { E.tells ≡ true → LineTold (E.taken err.old) (E.taken err.new) (joined (map (λ p. p.now) parts.now))
-        (E.faults err.old) (E.faults err.new) (E.lacks err.old) (E.lacks err.new) }
+    ensures { E.tells ≡ true →
+        LineTold (E.seen err.old) (E.seen err.new) (joined (map (λ p. p.now) parts.now)) }
 {
     for part in parts {
         match write_all(err, part) {
@@ -74,8 +74,8 @@ fn name<'a>(config: &'a str, body: &'a str, file: &'a NamedFile) -> &'a [u8]
 
 /// Tells the line of an answer.
 pub fn say<E: Sink>(err: &mut E, answer: &Answer, config: &str, body: &str)
-    ensures { E.tells ≡ true → LineTold (E.taken err.old) (E.taken err.new) (line_of config.now body.now answer.now)
-        (E.faults err.old) (E.faults err.new) (E.lacks err.old) (E.lacks err.new) }
+    ensures { E.tells ≡ true →
+        LineTold (E.seen err.old) (E.seen err.new) (line_of config.now body.now answer.now) }
 {
     match answer {
         Answer::Done => {}

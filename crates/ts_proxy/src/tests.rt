@@ -1,4 +1,4 @@
-// Worked rows of `transform` over forms in memory.
+//! Worked rows of `transform` over forms in memory.
 ghost use Rattle.std.specs.Prelude.{◌≤◌};
 
 use crate::run;
@@ -7,7 +7,33 @@ use std::process::Abort;
 use std::test::Fail;
 use ts_link::{MemShelf, MemSink};
 
-fn words(alloc: Global, said: &[&str]) -> Result<Vec<String>, AllocError> {
+const USAGE: &[u8] =
+    b"tsx: usage: transform CONFIG BODY | replay [--threads N] CONFIG RECORDING | serve --listen L --origin A --config F [--threads N] [--connections N] | generate SEED COUNT SIZE\n";
+
+const TRANSFORM: &[&str] = &["transform", "c", "b"];
+
+// A command over these files, and the calls that fail, counted from 1, or 0: a read, a write of out, and one of err. Out
+// takes `take` bytes a call.
+#[derive(Clone, Copy)]
+struct Case<'a> {
+    files: &'a [(&'a str, &'a [u8])],
+    words: &'a [&'a str],
+    unread: u64,
+    failing: u64,
+    untold: u64,
+    take: usize,
+}
+
+// What a command left: its status, what out and err took, and the turns and handled events of each of its journals.
+#[derive(Drop)]
+struct Left {
+    status: u8,
+    out: MemSink,
+    err: MemSink,
+    turns: Vec<(u64, u64)>,
+}
+
+fn strings(alloc: Global, said: &[&str]) -> Result<Vec<String>, AllocError> {
     let mut words = Vec::new(alloc);
     for word in said {
         words.push(String::from_str(alloc, word)?)?;
@@ -15,423 +41,287 @@ fn words(alloc: Global, said: &[&str]) -> Result<Vec<String>, AllocError> {
     Ok(words)
 }
 
-const USAGE: &[u8] =
-    b"tsx: usage: transform CONFIG BODY | replay [--threads N] CONFIG RECORDING | serve --listen L --origin A --config F [--threads N] [--connections N] | generate SEED COUNT SIZE\n";
-
-// A shelf, the words, the number of the read, of the write of out and of the write of err that fails, or 0, and then the
-// status and what out and err took.
-#[derive(Drop)]
-struct Row<'a> {
-    files: &'a [(&'a str, &'a [u8])],
-    words: &'a [&'a str],
-    unread: u64,
-    failing: u64,
-    untold: u64,
-    status: u8,
-    out: &'a [u8],
-    err: &'a [u8],
-}
-
-fn check<R: Abort + AllocGlobal>(rt: &R, row: &Row<'_>, take: usize) -> Result<(), Fail>
-    requires { 1 ≤ take }
-{
-    let alloc = rt.alloc();
+fn left_by(alloc: Global, case: &Case<'_>) -> Result<Left, Fail> {
     let mut shelf = MemShelf::make(alloc);
-    for (name, bytes) in row.files {
+    for (name, bytes) in case.files {
         shelf.add(name, bytes)?;
     }
-    shelf.fail_at(row.unread)?;
-    let mut out = MemSink::make(alloc, take, vec![in alloc; row.failing]?);
-    let mut err = MemSink::make(alloc, 7, vec![in alloc; row.untold]?);
-    let said = words(alloc, row.words)?;
+    shelf.fail_at(case.unread)?;
+    let mut out = MemSink::make(alloc, case.take.max(1), vec![in alloc; case.failing]?);
+    let mut err = MemSink::make(alloc, 7, vec![in alloc; case.untold]?);
+    let said = strings(alloc, case.words)?;
     let ended = run(alloc, said.as_slice(), &mut shelf, &mut out, &mut err);
-    assert_eq!(rt; ended.status, row.status);
-    assert_eq!(rt; out.written(), row.out);
-    assert_eq!(rt; err.written(), row.err);
-    assert_eq!(rt; ended.journals.len(), usize::from(row.status == 0));
+    let mut turns = Vec::new(alloc);
     for journal in ended.journals.as_slice() {
-        assert!(rt; !journal.is_held() && journal.pending().is_empty());
+        if !journal.is_held() && journal.pending().is_empty() {
+            turns.push((journal.turns(), journal.counts().handled))?;
+        }
     }
+    Ok(Left {
+        status: ended.status,
+        out,
+        err,
+        turns,
+    })
+}
+
+// The case ends so, and has one journal at rest with status 0, and else none.
+fn check<R: Abort + AllocGlobal>(
+    rt: &R,
+    case: &Case<'_>,
+    status: u8,
+    out: &[u8],
+    err: &[u8],
+) -> Result<(), Fail> {
+    let left = left_by(rt.alloc(), case)?;
+    assert_eq!(rt; left.status, status);
+    assert_eq!(rt; left.out.written(), out);
+    assert_eq!(rt; left.err.written(), err);
+    assert_eq!(rt; left.turns.len(), usize::from(status == 0));
     Ok(())
+}
+
+// A body through a configuration, beside files that hold their own names.
+fn ends<R: Abort + AllocGlobal>(
+    rt: &R,
+    config: &[u8],
+    body: &[u8],
+    out: &[u8],
+) -> Result<(), Fail> {
+    let case = Case {
+        files: &[
+            ("c", config),
+            ("b", body),
+            ("1", b"1"),
+            ("2", b"2"),
+            (">", b">"),
+        ],
+        words: TRANSFORM,
+        unread: 0,
+        failing: 0,
+        untold: 0,
+        take: 65_536,
+    };
+    check(rt, &case, 0, out, b"")
+}
+
+// A configuration that is refused with this line, before a body is looked for.
+fn refuses<R: Abort + AllocGlobal>(rt: &R, config: &[u8], line: &[u8]) -> Result<(), Fail> {
+    let case = Case {
+        files: &[("c", config)],
+        words: TRANSFORM,
+        unread: 0,
+        failing: 0,
+        untold: 0,
+        take: 1,
+    };
+    check(rt, &case, 3, b"", line)
 }
 
 #[test]
 fn rows(rt: HostRuntime) -> Result<(), Fail> {
-    let append: &[(&str, &[u8])] = &[
-        ("c", b"append_transform.so tail.txt"),
-        ("tail.txt", b"XY"),
-        ("b", b"abc"),
-    ];
-    let table: [(&[(&str, &[u8])], &[&str], u64, u8, &[u8], &[u8]); 20] = [
-        (append, &["transform", "c", "b"], 0, 0, b"abcXY", b""),
-        (
-            &[
-                ("c", b"null_transform.so\nappend_transform.so z"),
-                ("z", b"Z"),
-                ("b", b""),
-            ],
-            &["transform", "c", "b"],
-            0,
-            0,
-            b"Z",
-            b"",
-        ),
-        (
-            &[
-                ("c", b"append_transform.so 1\nappend_transform.so 2\n"),
-                ("1", b"1"),
-                ("2", b"2"),
-                ("b", b"x"),
-            ],
-            &["transform", "c", "b"],
-            0,
-            0,
-            b"x12",
-            b"",
-        ),
-        (
-            append,
-            &["transform", "c", "b"],
-            1,
-            6,
-            b"",
-            b"tsx: cannot write\n",
-        ),
-        (
-            &append[..2],
-            &["transform", "c", "b"],
-            0,
-            5,
-            b"",
-            b"tsx: cannot read b\n",
-        ),
-        (
-            &[("c", b"append_transform.so t"), ("b", b"")],
-            &["transform", "c", "b"],
-            0,
-            5,
-            b"",
-            b"tsx: cannot read t\n",
-        ),
-        (
-            &[("c", b"null_transform.so\nfoo.so\n"), ("b", b"abc")],
-            &["transform", "c", "b"],
-            0,
-            3,
-            b"",
-            b"tsx: configuration line 2: plugin\n",
-        ),
-        (
-            &[("c", b"limit.so 5"), ("b", b"")],
-            &["transform", "c", "b"],
-            0,
-            3,
-            b"",
-            b"tsx: configuration line 1: plugin\n",
-        ),
-        (
-            &[
-                (
-                    "c",
-                    b"prepend.so <\nappend_transform.so g\nbnull_transform.so",
-                ),
-                ("g", b">"),
-                ("b", b"a"),
-            ],
-            &["transform", "c", "b"],
-            0,
-            0,
-            b"<a>",
-            b"",
-        ),
-        (
-            &[
-                (
-                    "c",
-                    b"append_transform.so g\nprepend.so <\nbnull_transform.so",
-                ),
-                ("g", b">"),
-                ("b", b"a"),
-            ],
-            &["transform", "c", "b"],
-            0,
-            0,
-            b"<a>",
-            b"",
-        ),
-        (
-            &[
-                (
-                    "c",
-                    b"map.so > ]\nprepend.so <\nappend_transform.so g\nbnull_transform.so",
-                ),
-                ("g", b">"),
-                ("b", b"a"),
-            ],
-            &["transform", "c", "b"],
-            0,
-            0,
-            b"<a>",
-            b"",
-        ),
-        (
-            &[
-                (
-                    "c",
-                    b"prepend.so <\nappend_transform.so g # >\nbnull_transform.so\nmap.so > ]\r\n",
-                ),
-                ("g", b">"),
-                ("b", b"a"),
-            ],
-            &["transform", "c", "b"],
-            0,
-            0,
-            b"<a]",
-            b"",
-        ),
-        (
-            &[
-                (
-                    "c",
-                    b"\n# none\ndelay.so 60000\nprepend.so \"a b\" # c\ndrop.so q\nmap.so 0x0a 0x20",
-                ),
-                ("b", b"q\nx"),
-            ],
-            &["transform", "c", "b"],
-            0,
-            0,
-            b"a b x",
-            b"",
-        ),
-        (
-            &[("c", b"null_transform.so\nmap.so ab c"), ("b", b"")],
-            &["transform", "c", "b"],
-            0,
-            3,
-            b"",
-            b"tsx: configuration line 2: arguments\n",
-        ),
-        (
-            &[("c", b"prepend.so \"a"), ("b", b"")],
-            &["transform", "c", "b"],
-            0,
-            3,
-            b"",
-            b"tsx: configuration line 1: quote\n",
-        ),
-        (
-            &[("c", b"# \x7f"), ("b", b"")],
-            &["transform", "c", "b"],
-            0,
-            3,
-            b"",
-            b"tsx: configuration line 1: text\n",
-        ),
-        (
-            &[("c", b"null_transform.so\nfoo.so\n")],
-            &["transform", "c", "b"],
-            0,
-            3,
-            b"",
-            b"tsx: configuration line 2: plugin\n",
-        ),
-        (append, &[], 0, 2, b"", USAGE),
-        (append, &["transform", "c", "b", "b"], 0, 2, b"", USAGE),
-        (append, &["replay", "c", "b"], 0, 2, b"", USAGE),
-    ];
-    for (files, words, failing, status, out, err) in table {
-        let row = Row {
-            files,
-            words,
-            unread: 0,
-            failing,
-            untold: 0,
-            status,
-            out,
-            err,
-        };
-        check(&rt, &row, 65_536)?;
-    }
-    let second_write_fails = Row {
-        files: append,
-        words: &["transform", "c", "b"],
-        unread: 0,
-        failing: 2,
-        untold: 0,
-        status: 6,
-        out: b"a",
-        err: b"tsx: cannot write\n",
-    };
-    check(&rt, &second_write_fails, 1)
+    ends(&rt, b"null_transform.so\nappend_transform.so 1", b"", b"1")?;
+    ends(
+        &rt,
+        b"append_transform.so 1\nappend_transform.so 2\n",
+        b"x",
+        b"x12",
+    )?;
+    ends(
+        &rt,
+        b"prepend.so <\nappend_transform.so >\nbnull_transform.so",
+        b"a",
+        b"<a>",
+    )?;
+    ends(
+        &rt,
+        b"append_transform.so >\nprepend.so <\nbnull_transform.so",
+        b"a",
+        b"<a>",
+    )?;
+    ends(
+        &rt,
+        b"map.so > ]\nprepend.so <\nappend_transform.so >",
+        b"a",
+        b"<a>",
+    )?;
+    ends(
+        &rt,
+        b"prepend.so <\nappend_transform.so > # x\nmap.so > ]\r\n",
+        b"a",
+        b"<a]",
+    )?;
+    ends(
+        &rt,
+        b"\n# none\ndelay.so 60000\nprepend.so \"a b\" # c\ndrop.so q",
+        b"qx",
+        b"a bx",
+    )?;
+    ends(&rt, b"map.so 0x0a 0x20", b"q\nx", b"q x")?;
+    refuses(
+        &rt,
+        b"null_transform.so\nfoo.so\n",
+        b"tsx: configuration line 2: plugin\n",
+    )?;
+    refuses(&rt, b"limit.so 5", b"tsx: configuration line 1: plugin\n")?;
+    refuses(
+        &rt,
+        b"null_transform.so\nmap.so ab c",
+        b"tsx: configuration line 2: arguments\n",
+    )?;
+    refuses(
+        &rt,
+        b"prepend.so \"a",
+        b"tsx: configuration line 1: quote\n",
+    )?;
+    refuses(&rt, b"# \x7f", b"tsx: configuration line 1: text\n")
 }
 
-// A configuration of so many lines that pass a body on.
-fn nulls(alloc: Global, count: usize) -> Result<Vec<u8>, AllocError> {
-    let mut config = Vec::new(alloc);
-    for _ in 0..count {
+// An append over a body, with words, calls that fail and files that are not there.
+#[test]
+fn causes(rt: HostRuntime) -> Result<(), Fail> {
+    let case = Case {
+        files: &[
+            ("c", b"append_transform.so tail.txt"),
+            ("tail.txt", b"XY"),
+            ("b", b"abc"),
+        ],
+        words: TRANSFORM,
+        unread: 0,
+        failing: 0,
+        untold: 0,
+        take: 1,
+    };
+    check(&rt, &case, 0, b"abcXY", b"")?;
+    for words in [
+        &[] as &[&str],
+        &["transform", "c", "b", "b"],
+        &["replay", "c", "b"],
+    ] {
+        check(&rt, &Case { words, ..case }, 2, b"", USAGE)?;
+    }
+    let (none, cannot_write): (&[u8], &[u8]) = (b"", b"tsx: cannot write\n");
+    check(&rt, &Case { failing: 1, ..case }, 6, none, cannot_write)?;
+    check(&rt, &Case { failing: 2, ..case }, 6, b"a", cannot_write)?;
+    check(
+        &rt,
+        &Case { unread: 1, ..case },
+        5,
+        none,
+        b"tsx: cannot read c\n",
+    )?;
+    check(
+        &rt,
+        &Case { unread: 2, ..case },
+        5,
+        none,
+        b"tsx: cannot read tail.txt\n",
+    )?;
+    check(
+        &rt,
+        &Case { unread: 3, ..case },
+        5,
+        none,
+        b"tsx: cannot read b\n",
+    )?;
+    check(
+        &rt,
+        &Case {
+            unread: 2,
+            untold: 1,
+            ..case
+        },
+        5,
+        none,
+        none,
+    )?;
+    let files: &[(&str, &[u8])] = &[("c", b"append_transform.so tail.txt"), ("tail.txt", b"XY")];
+    check(
+        &rt,
+        &Case { files, ..case },
+        5,
+        none,
+        b"tsx: cannot read b\n",
+    )
+}
+
+// The text of an append at its limit and above it, and of two files that are not there or too long the first is named.
+#[test]
+fn limits(rt: HostRuntime) -> Result<(), Fail> {
+    let alloc = rt.alloc();
+    let more = vec![in alloc; b't'; 16_385]?;
+    let more = more.as_slice();
+    let one: &[u8] = b"append_transform.so x";
+    let two: &[u8] = b"append_transform.so x\nappend_transform.so y";
+    let table: [(&[u8], &str, &[u8], u8, &[u8], &[u8]); 5] = [
+        (one, "x", &more[1..], 0, &more[1..], b""),
+        (one, "x", more, 9, b"", b"tsx: too long: x\n"),
+        (two, "z", b"", 5, b"", b"tsx: cannot read x\n"),
+        (two, "x", more, 9, b"", b"tsx: too long: x\n"),
+        (two, "y", more, 5, b"", b"tsx: cannot read x\n"),
+    ];
+    for (config, name, text, status, out, err) in table {
+        let case = Case {
+            files: &[("c", config), (name, text), ("b", b"")],
+            words: TRANSFORM,
+            unread: 0,
+            failing: 0,
+            untold: 0,
+            take: 65_536,
+        };
+        check(&rt, &case, status, out, err)?;
+    }
+    Ok(())
+}
+
+// A configuration of so many lines that pass a body on, over a body of so many bytes.
+fn nulls<R: Abort + AllocGlobal>(
+    rt: &R,
+    lines: usize,
+    bytes: usize,
+    take: usize,
+) -> Result<Left, Fail> {
+    let alloc = rt.alloc();
+    let mut config: Vec<u8> = Vec::new(alloc);
+    for _ in 0..lines {
         config.extend_from_slice(b"null_transform.so\n")?;
     }
-    Ok(config)
+    let body = vec![in alloc; b'x'; bytes]?;
+    let case = Case {
+        files: &[("c", config.as_slice()), ("b", body.as_slice())],
+        words: TRANSFORM,
+        unread: 0,
+        failing: 0,
+        untold: 0,
+        take,
+    };
+    let left = left_by(alloc, &case)?;
+    if left.status == 0 {
+        assert_eq!(rt; left.out.written(), body.as_slice());
+    }
+    Ok(left)
 }
 
+// Long bodies and many lines. Of two stages and 40,000 bytes the driver begins, then each stage moves two pieces and
+// ends, and in the last turn the first stage is told too that its output was written.
 #[test]
 fn long_rows(rt: HostRuntime) -> Result<(), Fail> {
     let alloc = rt.alloc();
-    let body = vec![in alloc; b'x'; 65_537]?;
-    let (sixteen, seventeen) = (nulls(alloc, 16)?, nulls(alloc, 17)?);
-    let long = vec![in alloc; b'#'; 1_048_577]?;
-    let mebibyte = vec![in alloc; b'y'; 1_048_576]?;
-    let table: [(&[u8], &[u8], usize, u8, &[u8], &[u8]); 5] = [
-        (
-            b"null_transform.so",
-            body.as_slice(),
-            1,
-            0,
-            body.as_slice(),
-            b"",
-        ),
-        (
-            sixteen.as_slice(),
-            body.as_slice(),
-            65_536,
-            0,
-            body.as_slice(),
-            b"",
-        ),
-        (
-            sixteen.as_slice(),
-            mebibyte.as_slice(),
-            65_536,
-            0,
-            mebibyte.as_slice(),
-            b"",
-        ),
-        (
-            seventeen.as_slice(),
-            body.as_slice(),
-            65_536,
-            3,
-            b"",
-            b"tsx: configuration line 17: too-many\n",
-        ),
-        (
-            long.as_slice(),
-            body.as_slice(),
-            65_536,
-            9,
-            b"",
-            b"tsx: too long: c\n",
-        ),
-    ];
-    for (config, body, take, status, out, err) in table {
-        assert!(rt; take >= 1);
-        let row = Row {
-            files: &[("c", config), ("b", body)],
-            words: &["transform", "c", "b"],
-            unread: 0,
-            failing: 0,
-            untold: 0,
-            status,
-            out,
-            err,
-        };
-        check(&rt, &row, take)?;
-    }
-    Ok(())
-}
-
-// Reads that fail, the text of an append at its limit and above it, files that are not there or too long, of which the
-// first is named, and an error sink that fails: it keeps the status.
-#[test]
-fn failures(rt: HostRuntime) -> Result<(), Fail> {
-    let alloc = rt.alloc();
-    let one: &[u8] = b"append_transform.so tail.txt";
-    let two: &[u8] = b"append_transform.so x\nappend_transform.so y";
-    let (most, more) = (vec![in alloc; b't'; 16_384]?, vec![in alloc; b't'; 16_385]?);
-    let (most, more) = (most.as_slice(), more.as_slice());
-    let table: [(&[u8], &str, &[u8], u64, u64, u8, &[u8], &[u8]); 9] = [
-        (
-            one,
-            "tail.txt",
-            b"XY",
-            1,
-            0,
-            5,
-            b"",
-            b"tsx: cannot read c\n",
-        ),
-        (
-            one,
-            "tail.txt",
-            b"XY",
-            2,
-            0,
-            5,
-            b"",
-            b"tsx: cannot read tail.txt\n",
-        ),
-        (
-            one,
-            "tail.txt",
-            b"XY",
-            3,
-            0,
-            5,
-            b"",
-            b"tsx: cannot read b\n",
-        ),
-        (one, "tail.txt", b"XY", 2, 1, 5, b"", b""),
-        (one, "tail.txt", most, 0, 0, 0, most, b""),
-        (
-            one,
-            "tail.txt",
-            more,
-            0,
-            0,
-            9,
-            b"",
-            b"tsx: too long: tail.txt\n",
-        ),
-        (two, "z", b"", 0, 0, 5, b"", b"tsx: cannot read x\n"),
-        (two, "x", more, 0, 0, 9, b"", b"tsx: too long: x\n"),
-        (two, "y", more, 0, 0, 5, b"", b"tsx: cannot read x\n"),
-    ];
-    for (config, name, text, unread, untold, status, out, err) in table {
-        let row = Row {
-            files: &[("c", config), (name, text), ("b", b"")],
-            words: &["transform", "c", "b"],
-            unread,
-            failing: 0,
-            untold,
-            status,
-            out,
-            err,
-        };
-        check(&rt, &row, 65_536)?;
-    }
-    Ok(())
-}
-
-// The driver's turns for two stages and a body of 40,000 bytes: it begins, then each stage moves two pieces and ends, and
-// in the last turn the first stage is told too that its output was written.
-#[test]
-fn turns_of_two_stages(rt: HostRuntime) -> Result<(), Fail> {
-    let alloc = rt.alloc();
-    let (config, body) = (nulls(alloc, 2)?, vec![in alloc; b'x'; 40_000]?);
-    let mut shelf = MemShelf::make(alloc);
-    shelf.add("c", config.as_slice())?;
-    shelf.add("b", body.as_slice())?;
-    let (mut out, mut err) = (
-        MemSink::make(alloc, 65_536, Vec::new(alloc)),
-        MemSink::make(alloc, 7, Vec::new(alloc)),
+    assert_eq!(rt; nulls(&rt, 1, 65_537, 1)?.status, 0);
+    assert_eq!(rt; nulls(&rt, 16, 1_048_576, 65_536)?.status, 0);
+    assert_eq!(rt; nulls(&rt, 2, 40_000, 65_536)?.turns.first(), Some(&(7, 7)));
+    assert_eq!(rt;
+        nulls(&rt, 17, 1, 1)?.err.written(),
+        b"tsx: configuration line 17: too-many\n".as_slice()
     );
-    let said = words(alloc, &["transform", "c", "b"])?;
-    let ended = run(alloc, said.as_slice(), &mut shelf, &mut out, &mut err);
-    assert_eq!(rt; ended.journals.len(), 1);
-    for journal in ended.journals.as_slice() {
-        let counts = journal.counts();
-        assert_eq!(rt; journal.turns(), 7);
-        assert_eq!(rt; (counts.set, counts.handled, counts.pending), (7, 7, 0));
-    }
-    Ok(())
+    let long = vec![in alloc; b'#'; 1_048_577]?;
+    let case = Case {
+        files: &[("c", long.as_slice()), ("b", b"")],
+        words: TRANSFORM,
+        unread: 0,
+        failing: 0,
+        untold: 0,
+        take: 1,
+    };
+    check(&rt, &case, 9, b"", b"tsx: too long: c\n")
 }

@@ -1,9 +1,10 @@
-ghost use Rattle.std.specs.Prelude.{◌≡◌, ◌∷◌, ◌↔◌, ◌⊎◌, [], map, string_bytes, codes, true, false, MatchOption};
-ghost use Rattle.ts_link.specs.Counts.{Rose};
-ghost use Rattle.ts_proxy.specs.Outcome.{outcome_of, is_transform, word};
-ghost use Rattle.ts_proxy.specs.Ends.{status_of, EndsAt, TakesAt, JournalsAt, IsQuiet, IsStatus};
-ghost use Rattle.ts_proxy.specs.Lines.{SaysLine};
-ghost use Rattle.ts_proxy.specs.Answers.{IsText, ComesAt, OnCannotRead, IsReadBy};
+//! The top call: it runs the command that the program's words name, and answers the status.
+ghost use Rattle.std.specs.Prelude.{◌≡◌, ◌∷◌, [], codes, true, false, MatchOption};
+ghost use Rattle.ts_proxy.specs.Outcome.{bytes_of, is_transform, outcome_of};
+ghost use Rattle.ts_proxy.specs.Ends.{status_of, Completes, EndsAt, HasCause, IsStatusOf, JournalsAt, IsQuiet, TakesAt};
+ghost use Rattle.ts_proxy.specs.Lines.{IsAnswerOf, SaysLine};
+ghost use Rattle.ts_proxy.specs.Answers.{IsText};
+ghost use Rattle.ts_proxy.specs.Took.{TookNothing};
 ghost use Rattle.ts_proxy.specs.declared.answer.Answer.{Answer};
 
 use crate::answer::Answer;
@@ -38,8 +39,8 @@ fn status(answer: &Answer) -> u8
 
 // The names of the configuration and the body, if the words are those of `transform`.
 fn names_of(words: &[String]) -> Option<(&str, &str)>
-    ensures { MatchOption result (is_transform (map string_bytes words.now) ≡ false)
-        (λ p. map string_bytes words.now ≡ codes "transform" ∷ p.0.now ∷ p.1.now ∷ []) }
+    ensures { MatchOption result (is_transform (bytes_of words.now) ≡ false)
+        (λ p. bytes_of words.now ≡ codes "transform" ∷ p.0.now ∷ p.1.now ∷ []) }
 {
     match words {
         [command, config, body] if command.as_str() == "transform" => Some((
@@ -62,28 +63,24 @@ pub fn run<S: Shelf, K: Sink, E: Sink>(
     out: &mut K,
     err: &mut E,
 ) -> Ended
-    // Status 2 comes exactly where the words are not of the table.
-    ensures usage { (result.status ≡ 2) ↔ (is_transform (map string_bytes words.now) ≡ false) }
-    ensures known { IsStatus result.status }
+    // The status of usage comes exactly where the words are of no command.
+    ensures status { IsStatusOf (bytes_of words.now) result.status }
 
-    // Status 0, 3 or 9 comes at its outcome alone, and at each outcome its own status comes, unless a read failed (5),
-    // memory lacked (7) or, where there is a text, a write failed (6).
-    ensures ends { S.tells ≡ true → EndsAt (outcome_of (S.file shelf.old) (map string_bytes words.now)) result.status }
+    // At each outcome its own status comes, and at no other one, unless a read failed, memory lacked or, where there is a
+    // text, a write failed.
+    ensures ends { S.tells ≡ true → EndsAt (outcome_of (S.seen shelf.old) (bytes_of words.now)) result.status }
 
     // A failure is one of the shelf or the sink that was handed in.
-    ensures cannot_read { result.status ≡ 5 → Rose (S.faults shelf.old) (S.faults shelf.new) }
-    ensures too_long { result.status ≡ 9 → Rose (S.longs shelf.old) (S.longs shelf.new) }
-    ensures cannot_write { result.status ≡ 6 → Rose (K.faults out.old) (K.faults out.new) }
+    ensures cause { HasCause result.status (S.seen shelf.old) (S.seen shelf.new) (K.seen out.old) (K.seen out.new) }
 
     // Where there is a text and neither failed, the job is done, unless memory lacked.
-    ensures completes { S.tells ≡ true → IsText (outcome_of (S.file shelf.old) (map string_bytes words.now))
-        → (Rose (S.faults shelf.old) (S.faults shelf.new) → ⊥) → (Rose (K.faults out.old) (K.faults out.new) → ⊥)
-        → (result.status ≡ 0) ⊎ (result.status ≡ 7) }
+    ensures completes { S.tells ≡ true → IsText (outcome_of (S.seen shelf.old) (bytes_of words.now)) →
+        Completes result.status (S.seen shelf.old) (S.seen shelf.new) (K.seen out.old) (K.seen out.new) }
 
     // What out took: with status 0 the whole text, else a front of it, and nothing where there is no such text.
     ensures takes { S.tells ≡ true → K.tells ≡ true →
-        TakesAt (outcome_of (S.file shelf.old) (map string_bytes words.now)) result.status (K.taken out.old) (K.taken out.new) }
-    ensures quiet { K.tells ≡ true → IsQuiet result.status → K.taken out.new ≡ K.taken out.old }
+        TakesAt (outcome_of (S.seen shelf.old) (bytes_of words.now)) result.status (K.seen out.old) (K.seen out.new) }
+    ensures quiet { K.tells ≡ true → IsQuiet result.status → TookNothing (K.seen out.old) (K.seen out.new) }
 
     // With status 0 one journal, of a group that was new: turns of seat 0 whose numbers go on by 1, each of which but the
     // first handles the event that is due first, and then what is set meanwhile, until nothing is pending.
@@ -91,12 +88,8 @@ pub fn run<S: Shelf, K: Sink, E: Sink>(
 
     // What err took: the line of an answer that has this status, and that comes at the outcome. After a failed read it
     // names a file that the work came to.
-    ensures line { (answer : Answer)
-        × SaysLine E.tells result.status (word 1 (map string_bytes words.now)) (word 2 (map string_bytes words.now))
-        (E.taken err.old) (E.taken err.new) (E.faults err.old) (E.faults err.new) (E.lacks err.old) (E.lacks err.new) answer
-        × (S.tells ≡ true → ComesAt (word 1 (map string_bytes words.now)) (word 2 (map string_bytes words.now)) answer
-        (outcome_of (S.file shelf.old) (map string_bytes words.now)))
-        × (S.tells ≡ true → OnCannotRead answer (IsReadBy (S.file shelf.old) (word 1 (map string_bytes words.now)))) }
+    ensures line { (answer : Answer) × IsAnswerOf S.tells (S.seen shelf.old) (bytes_of words.now) answer
+        × SaysLine E.tells (E.seen err.old) (E.seen err.new) (bytes_of words.now) result.status answer }
 {
     let Some((config, body)) = names_of(words) else {
         say(err, &Answer::Usage, "", "");

@@ -1,35 +1,31 @@
-// A body through the lines of a configuration, into a sink.
+//! A text is written into a sink, and how far a text or a chain got.
 ghost use Rattle.std.specs.Prelude.{◌≡◌, true};
-ghost use Rattle.ts_config.specs.Bodies.{compose_lines};
-ghost use Rattle.ts_proxy.specs.Answers.{TookText, IsOfWriting, AnswerAdds};
+ghost use Rattle.ts_link.specs.Counts.{Counted};
+ghost use Rattle.ts_proxy.specs.Driven.{WroteAll, is_failed, is_no_memory};
 
-use crate::answer::Answer;
-use crate::drive::{Driven, drive};
-use crate::world_of::world_of;
-use std::alloc::Global;
-use ts_config::TransformLine;
-use ts_journal::Journal;
-use ts_link::{Octets, Sink};
+use ts_link::{Sink, Wrote};
 
-/// Writes a body through the lines, the first of which acts first. Where all was done, the journal of its events is added
-/// to the journals.
-pub fn send_body<K: Sink>(
-    alloc: Global,
-    lines: &[TransformLine],
-    body: Octets,
-    out: &mut K,
-    journals: &mut Vec<Journal>,
-) -> Answer
-    ensures told { K.tells ≡ true → TookText result (K.taken out.old) (K.taken out.new) (compose_lines lines.now body) }
-    ensures cause { IsOfWriting result (K.faults out.old) (K.faults out.new) }
-    ensures journals { AnswerAdds result journals.old.items journals.new.items }
+/// How far a text or a chain got.
+#[derive(Clone, Copy, Debug, PartialEq, Eq)]
+pub enum Driven {
+    Done,
+    Failed,
+    NoMemory,
+}
+
+/// Writes a text to its end, if nothing fails.
+pub fn write_all<K: Sink>(out: &mut K, text: &[u8]) -> Driven
+    ensures told { K.tells ≡ true → WroteAll result (K.seen out.old) (K.seen out.new) text.now }
+    ensures faults { Counted (is_failed result) (K.seen out.old).faults (K.seen out.new).faults }
+    ensures lacks { Counted (is_no_memory result) (K.seen out.old).lacks (K.seen out.new).lacks }
 {
-    let Ok(world) = world_of(alloc, lines, body) else {
-        return Answer::OutOfMemory;
-    };
-    match drive(alloc, world, out, journals) {
-        Driven::Done => Answer::Done,
-        Driven::Failed => Answer::CannotWrite,
-        Driven::NoMemory => Answer::OutOfMemory,
+    let mut rest = text;
+    while !rest.is_empty() {
+        match out.write(rest) {
+            Wrote::Took(count) => rest = rest.split_at(count).1,
+            Wrote::Failed => return Driven::Failed,
+            Wrote::NoMemory => return Driven::NoMemory,
+        }
     }
+    Driven::Done
 }

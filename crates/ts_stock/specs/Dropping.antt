@@ -3,6 +3,10 @@ use Rattle.std.specs.Prelude.{◌≡◌, ◌≢◌, ◌↔◌, ℕ, ◌<◌, ◌
 use Rattle.std.specs.Int.{bit_at}
 use Rattle.ts_config.specs.Bodies.{without}
 
+-- how many bytes are searched at once
+abbrev pub block_len : ℕ
+block_len = 64
+
 -- bit k is set exactly where the byte stands at place k of the block
 abbrev pub ArePlaces : (byte : ℕ) (block : List ℕ) (places : ℕ) → Type 0
 ArePlaces byte block places = (k : ℕ) → (bit_at places k ≡ 1) ↔ ((k < length block) × (slice_index block k ≡ byte))

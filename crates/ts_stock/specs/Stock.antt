@@ -8,13 +8,12 @@ use Rattle.ts_stock.specs.declared.stock.State.TheVariants as s
 
 -- what a transform still writes, if z is all that it still gets
 abbrev pub still_writes : State → List ℕ → List ℕ
-still_writes s.Passing z = z
-still_writes (s.Delaying ms) z = z
 still_writes (s.Appending text) z = z ++ text
 still_writes (s.Holding held) z = held ++ z
 still_writes (s.Prepending text) z = text ++ z
 still_writes (s.Mapping from to) z = mapped from to z
 still_writes (s.Dropping byte) z = without byte z
+still_writes _ z = z
 
 -- the state of a line's transform that got nothing yet
 abbrev pub start_of : TransformLine → State
@@ -28,40 +27,25 @@ start_of (t.Delay ms) = s.Delaying ms
 
 -- what a transform writes when it is fed c, which is not empty
 abbrev pub written_at_feed : State → List ℕ → List ℕ
-written_at_feed s.Passing c = c
-written_at_feed (s.Delaying ms) c = c
-written_at_feed (s.Appending text) c = c
 written_at_feed (s.Holding held) c = []
 written_at_feed (s.Prepending text) c = text ++ c
 written_at_feed (s.Mapping from to) c = mapped from to c
 written_at_feed (s.Dropping byte) c = without byte c
+written_at_feed _ c = c
 
 -- the state after that
 abbrev pub fed : State → List ℕ → State
-fed s.Passing c = s.Passing
-fed (s.Delaying ms) c = s.Delaying ms
-fed (s.Appending text) c = s.Appending text
 fed (s.Holding held) c = s.Holding (held ++ c)
 fed (s.Prepending text) c = s.Passing
-fed (s.Mapping from to) c = s.Mapping from to
-fed (s.Dropping byte) c = s.Dropping byte
+fed state c = state
 
 -- n bytes of so many are taken at a feed: all, but by a map or a drop, which may take fewer
 abbrev pub CountTaken : State → ℕ → ℕ → Type 0
-CountTaken s.Passing n most = n ≡ most
-CountTaken (s.Delaying ms) n most = n ≡ most
-CountTaken (s.Appending text) n most = n ≡ most
-CountTaken (s.Holding held) n most = n ≡ most
-CountTaken (s.Prepending text) n most = n ≡ most
 CountTaken (s.Mapping from to) n most = n ≤ most
 CountTaken (s.Dropping byte) n most = n ≤ most
+CountTaken _ n most = n ≡ most
 
 -- how long its stage waits between two of its events, in milliseconds
 abbrev pub pause_of : State → ℕ
-pause_of s.Passing = 0
 pause_of (s.Delaying ms) = ms
-pause_of (s.Appending text) = 0
-pause_of (s.Holding held) = 0
-pause_of (s.Prepending text) = 0
-pause_of (s.Mapping from to) = 0
-pause_of (s.Dropping byte) = 0
+pause_of _ = 0

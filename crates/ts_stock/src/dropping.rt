@@ -1,8 +1,8 @@
-// A body less one byte, on its way into the room of a buffer.
+//! A body less one byte goes into the room of a buffer, in blocks of 64 bytes.
 ghost use Rattle.std.specs.Prelude.{◌≡◌, ◌+◌, ◌<◌, ◌≤◌, ◌++◌, length, take, drop, IfOk, OnErr};
 ghost use Rattle.ts_config.specs.Bodies.{without};
 ghost use Rattle.ts_iobuf.specs.Buffer.{Grows};
-ghost use Rattle.ts_stock.specs.Dropping.{ArePlaces, IsUpTo};
+ghost use Rattle.ts_stock.specs.Dropping.{ArePlaces, IsUpTo, block_len};
 
 use crate::places::{BLOCK, first_of, less, places_in};
 use ts_iobuf::IoBuffer;
@@ -81,10 +81,10 @@ fn take_runs(
     places: u64,
     written: Written,
 ) -> Written
-    requires within { (start + 64 ≤ length input.now) × (length input.now ≤ length room.old) }
-    requires places { ArePlaces byte (take 64 (drop start input.now)) places }
+    requires within { (start + block_len ≤ length input.now) × (length input.now ≤ length room.old) }
+    requires places { ArePlaces byte (take block_len (drop start input.now)) places }
     requires up_to { IsUpTo byte input.now room.old written.done written.filled start }
-    ensures { IsUpTo byte input.now room.new result.done result.filled (start + 64) }
+    ensures { IsUpTo byte input.now room.new result.done result.filled (start + block_len) }
 {
     let mut left = places;
     let mut written = written;
@@ -103,9 +103,9 @@ fn take_runs(
 
 // Goes on over the block at `start` byte by byte.
 fn take_pieces(room: &mut [u8], input: &[u8], byte: u8, start: usize, written: Written) -> Written
-    requires within { (start + 64 ≤ length input.now) × (length input.now ≤ length room.old) }
+    requires within { (start + block_len ≤ length input.now) × (length input.now ≤ length room.old) }
     requires up_to { IsUpTo byte input.now room.old written.done written.filled start }
-    ensures { IsUpTo byte input.now room.new result.done result.filled (start + 64) }
+    ensures { IsUpTo byte input.now room.new result.done result.filled (start + block_len) }
 {
     let mut written = written;
     for k in 0..BLOCK / PIECE {
@@ -117,9 +117,9 @@ fn take_pieces(room: &mut [u8], input: &[u8], byte: u8, start: usize, written: W
 
 // Goes on over the block at `start`.
 fn take_block(room: &mut [u8], input: &[u8], byte: u8, start: usize, written: Written) -> Written
-    requires within { (start + 64 ≤ length input.now) × (length input.now ≤ length room.old) }
+    requires within { (start + block_len ≤ length input.now) × (length input.now ≤ length room.old) }
     requires up_to { IsUpTo byte input.now room.old written.done written.filled start }
-    ensures { IsUpTo byte input.now room.new result.done result.filled (start + 64) }
+    ensures { IsUpTo byte input.now room.new result.done result.filled (start + block_len) }
 {
     let end = start + BLOCK;
     let places = places_in(&input[start..end], byte);

@@ -1,3 +1,4 @@
+//! Bytes that a transform holds back until the end of its input.
 ghost use Rattle.std.specs.Prelude.{◌≡◌, ◌++◌, [], List, ℕ, OnOk, OnErr};
 
 use std::alloc::Global;

@@ -1,4 +1,4 @@
-// A body with each byte of one value replaced by another, on its way into the room of a buffer.
+//! A body with each byte of one value replaced by another goes into the room of a buffer.
 ghost use Rattle.std.specs.Prelude.{◌≡◌, ◌<◌, ◌≤◌, length, take, min, IfOk, OnErr};
 ghost use Rattle.ts_config.specs.Bodies.{mapped};
 ghost use Rattle.ts_iobuf.specs.Buffer.{Grows};

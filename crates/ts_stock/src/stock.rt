@@ -1,3 +1,4 @@
+//! The stock transforms: one state for each line of a configuration, fed with a body in pieces.
 ghost use Rattle.std.specs.Prelude.{◌≡◌, ℕ, ◌<◌, ◌≤◌, ◌++◌, List, [], length, take, IfOk, OnOk, OnErr};
 ghost use Rattle.ts_config.specs.Bodies.{whole_of};
 ghost use Rattle.ts_iobuf.specs.Buffer.{Grows};
@@ -92,7 +93,8 @@ impl Transform for Stock {
     fn feed(&mut self, input: &[u8], out: &mut IoBuffer) -> Result<usize, NoMemory>
         requires { 0 < length input.now }
         ensures count { IfOk result (λ n. (1 ≤ n) × (n ≤ length input.now)) }
-        ensures law { IfOk result (λ n. Feeds (still_writes self.old) (still_writes self.new) (take n input.now) out.old out.new) }
+        ensures law { IfOk result (λ n.
+            Feeds (still_writes self.old) (still_writes self.new) (take n input.now) out.old out.new) }
         ensures err { OnErr result ((self.new ≡ self.old) × (out.new ≡ out.old)) }
 
         // What a line other than bnull is fed it writes at once, and bnull writes nothing.

@@ -1,3 +1,4 @@
+//! Rows of lines over short and long bodies, and what each line has written in time.
 use crate::Stock;
 use std::alloc::Global;
 use std::process::Abort;

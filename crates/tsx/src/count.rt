@@ -1,4 +1,4 @@
-// The counts of an adapter.
+//! The counts of an adapter rise by one, and stay at the greatest `u64`.
 ghost use Rattle.ts_link.specs.Counts.{Rose};
 
 /// One more, or the greatest `u64`.

@@ -1,4 +1,4 @@
-// A shelf over the files of the system.
+//! A shelf over the files of the system.
 ghost use Rattle.std.specs.Prelude.{◌≡◌, ◌⊎◌, false, None};
 ghost use Rattle.ts_link.specs.declared.shelf.ShelfFault.TheVariants.{Failed, NoMemory};
 ghost use Rattle.tsx.specs.Whole.{KeepsMost};
@@ -79,11 +79,7 @@ fn read_whole<R: Files>(rt: &R, alloc: Global, name: &str, most: u64) -> Result<
 impl<'a, R: Files> Shelf for FileShelf<'a, R> {
     ghost tells = { false };
 
-    ghost file = { λ s name. None };
-
-    ghost faults = { λ s. s.faults };
-
-    ghost longs = { λ s. s.longs };
+    ghost seen = { λ s. record { file = λ name. None; faults = s.faults; longs = s.longs } };
 
     fn read(&mut self, alloc: Global, name: &str, most: u64) -> Result<Octets, ShelfFault> {
         match read_whole(self.rt, alloc, name, most) {

@@ -1,4 +1,4 @@
-// A sink over a writer, as standard output is.
+//! A sink over a writer, as standard output is.
 ghost use Rattle.std.specs.Prelude.{◌≡◌, ◌<◌, [], length, false};
 ghost use Rattle.ts_link.specs.Sink.{TakesSome};
 
@@ -48,11 +48,7 @@ fn write_some<W: Write>(writer: &mut W, piece: &[u8]) -> Wrote
 impl<W: Write + Drop> Sink for WriterSink<W> {
     ghost tells = { false };
 
-    ghost taken = { λ s. [] };
-
-    ghost faults = { λ s. s.faults };
-
-    ghost lacks = { λ s. s.lacks };
+    ghost seen = { λ s. record { taken = []; faults = s.faults; lacks = s.lacks } };
 
     fn write(&mut self, piece: &[u8]) -> Wrote {
         let wrote = write_some(&mut self.writer, piece);

@@ -1,18 +1,17 @@
-use Rattle.std.proofs.Common.{◌≡◌, ◌+◌, ◌≤◌, [], length, true}
-use Rattle.ts_transform.specs.Flow.{flow, last_wait}
-use Rattle.ts_proxy.specs.Driven.{Passes, StaysSound, left_of}
+use Rattle.std.proofs.Common.{◌≡◌, ◌+◌, ◌≤◌, length, true}
+use Rattle.ts_proxy.specs.Driven.{Passes, StaysSound, for_client, left_of, to_come}
 use Rattle.ts_proxy.proofs.drive.drain.Given as goal
 
 -- what was taken and what still flows is what flowed, nothing failed, and a sound world stays so
 abbrev pub invariant-loop-block : goal.invariant-loop-block
 invariant-loop-block g l = record {
   passes : g.K.Sink.tells ≡ true
-      → Passes (g.K.Sink.taken l.initial.out) (g.K.Sink.taken l.out) (flow g.P.Transform.rest l.initial.world.chain []) (flow g.P.Transform.rest l.world.chain []);
-  faults : g.K.Sink.faults l.out ≡ g.K.Sink.faults l.initial.out;
-  falls : left_of g.P.Transform.rest l.world + length (last_wait l.initial.world.chain.first l.initial.world.chain.stages)
-      ≤ left_of g.P.Transform.rest l.initial.world + length (last_wait l.world.chain.first l.world.chain.stages);
+      → Passes (g.K.Sink.seen l.initial.out) (g.K.Sink.seen l.out) (to_come g.P.Transform.rest l.initial.world) (to_come g.P.Transform.rest l.world);
+  faults : (g.K.Sink.seen l.out).faults ≡ (g.K.Sink.seen l.initial.out).faults;
+  falls : left_of g.P.Transform.rest l.world + length (for_client l.initial.world)
+      ≤ left_of g.P.Transform.rest l.initial.world + length (for_client l.world);
   stays : StaysSound l.initial.world l.world;
 }
 
 abbrev pub decreases-loop-block : goal.decreases-loop-block
-decreases-loop-block g l = length (last_wait l.world.chain.first l.world.chain.stages)
+decreases-loop-block g l = length (for_client l.world)

@@ -1,7 +1,6 @@
-use Rattle.std.proofs.Common.{◌≡◌, ◌+◌, [], length, true, false}
-use Rattle.ts_transform.specs.Flow.{flow, last_wait}
+use Rattle.std.proofs.Common.{◌≡◌, [], true, false}
 use Rattle.ts_transform.specs.Cover.{IsSound}
-use Rattle.ts_proxy.specs.Driven.{Passes, left_of}
+use Rattle.ts_proxy.specs.Driven.{Passes, for_client, left_in, to_come}
 use Rattle.ts_proxy.specs.Journals.{moment_of, GoesOnSerially}
 use Rattle.ts_proxy.proofs.drive.run_events.Given as goal
 
@@ -12,15 +11,15 @@ invariant-driving g l =
     let world = l.group.world in
     record {
       passes : g.K.Sink.tells ≡ true
-          → Passes (g.K.Sink.taken l.initial.out) (g.K.Sink.taken l.out) (flow g.P.Transform.rest l.initial.group.world.chain []) (flow g.P.Transform.rest world.chain []);
-      faults : g.K.Sink.faults l.out ≡ g.K.Sink.faults l.initial.out;
+          → Passes (g.K.Sink.seen l.initial.out) (g.K.Sink.seen l.out) (to_come g.P.Transform.rest l.initial.group.world) (to_come g.P.Transform.rest world);
+      faults : (g.K.Sink.seen l.out).faults ≡ (g.K.Sink.seen l.initial.out).faults;
       idle : l.group.cx.log.state.held ≡ false;
       moment : moment_of l.group.cx.log ≡ l.moment;
       serial : GoesOnSerially l.initial.group.cx.log l.group.cx.log;
       sound : IsSound world l.group.cx.log.state.pending l.group.cx.roles;
-      dry : last_wait world.chain.first world.chain.stages ≡ [];
+      dry : for_client world ≡ [];
     }
 
 -- each event that is handled, and each byte that is taken, leaves less to do
 abbrev pub decreases-driving : goal.decreases-driving
-decreases-driving g l = left_of g.P.Transform.rest l.group.world + length l.group.cx.log.state.pending
+decreases-driving g l = left_in g.P.Transform.rest l.group

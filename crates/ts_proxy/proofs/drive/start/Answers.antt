@@ -1,5 +1,6 @@
 use Rattle.std.proofs.Common.{◌≡◌, ◌+◌, inr, ap, arith, rules, ◌∙◌}
 use Rattle.ts_group.proofs.Grows.{grows_trans}
+use Rattle.ts_proxy.specs.Journals.{first_turn}
 use Rattle.ts_proxy.proofs.Serial.{moment_extends, within_grows, moment_grows, serial_turn}
 use Rattle.ts_proxy.proofs.drive.start.Goals as goal
 
@@ -7,13 +8,12 @@ pub returns-in-Ok-clause-serial : goal.returns-in-Ok-clause-serial
 returns-in-Ok-clause-serial g c =
     let before = c.begin_turn.new.self.cx in
     let after = c.wake-woken.new.group.cx in
-    let next : c.in-Some.turn ≡ c.args.group.now.cx.log.state.turns + 1 = search rules in
-    let given : after.log.state.turns ≡ 1 =
-    c.wake-woken.ensures.turns ∙ c.start.ensures.turns ∙ ap (λ s. s.turns) c.in_ok-begin_turn.ensures.ok.1 ∙ omega (arith, next, c.requires.first) in
-    serial_turn c.args.group.now.cx.log before.log after.log c.give_turn.new.self.cx.log c.in-Some.turn after.log.state.turns next
-    c.in_ok-begin_turn.ensures.ok.0 (within_grows before after (grows_trans c.start.ensures.grows c.wake-woken.ensures.grows)) (inr given) c.give_turn.ensures.given
-
-pub returns-in-Ok-clause-moment : goal.returns-in-Ok-clause-moment
-returns-in-Ok-clause-moment g c =
     let grows = grows_trans c.start.ensures.grows c.wake-woken.ensures.grows in
-    moment_extends c.give_turn.ensures.given ∙ moment_grows c.begin_turn.new.self.cx c.wake-woken.new.group.cx grows ∙ moment_extends c.in_ok-begin_turn.ensures.ok.0
+    let next : c.in-Some.turn ≡ c.args.group.now.cx.log.state.turns + 1 = search rules in
+    let given : after.log.state.turns ≡ first_turn =
+    c.wake-woken.ensures.turns ∙ c.start.ensures.turns ∙ ap (λ s. s.turns) c.in_ok-begin_turn.ensures.ok.1 ∙ omega (arith, next, c.requires.unused.none) in
+    record {
+      on = serial_turn c.args.group.now.cx.log before.log after.log c.give_turn.new.self.cx.log c.in-Some.turn after.log.state.turns next
+          c.in_ok-begin_turn.ensures.ok.0 (within_grows before after grows) (inr given) c.give_turn.ensures.given;
+      now = moment_extends c.give_turn.ensures.given ∙ moment_grows before after grows ∙ moment_extends c.in_ok-begin_turn.ensures.ok.0 ∙ c.requires.unused.fresh;
+    }

@@ -9,18 +9,18 @@ fill_one-requires g c = (all-first HasFileName c.loop-line.lines.items c.pop_fro
 
 pub returns-in-Err-clause-named : goal.returns-in-Err-clause-named
 returns-in-Err-clause-named g c = λ tells.
-    stopped-comes (g.S.Shelf.file c.args.shelf.now) c.args.lines.items c.loop-line.lines.items c.pop_front.new.self.items c.loop-line.found.items
+    stopped-comes (g.S.Shelf.seen c.args.shelf.now).file c.args.lines.items c.loop-line.lines.items c.pop_front.new.self.items c.loop-line.found.items
     c.in-Some.line c.in-Err.answer (c.loop-line.invariant.told tells) c.in-Some.ensures.items c.in-Err.ensures.named
 
 pub loop-line-preserved : goal.loop-line-preserved
 loop-line-preserved g c = record {
   told = λ tells.
-      fills-more (g.S.Shelf.file c.args.shelf.now) c.args.lines.items c.loop-line.lines.items c.pop_front.new.self.items c.loop-line.found.items
+      fills-more (g.S.Shelf.seen c.args.shelf.now).file c.args.lines.items c.loop-line.lines.items c.pop_front.new.self.items c.loop-line.found.items
       c.keep.new.found.items c.in-Some.line c.in-Ok.filled (c.loop-line.invariant.told tells) c.in-Some.ensures.items
       (λ next. ap (λ files. line_filled files c.in-Some.line next) (sym (c.loop-line.invariant.files tells)) ∙ c.in-Ok.ensures.told tells [] [] next)
       c.in-Ok-keep.ensures;
   names = (all-first HasFileName c.loop-line.lines.items c.pop_front.new.self.items c.in-Some.line c.in-Some.ensures.items c.loop-line.invariant.names).1;
   files = λ tells. c.in-Ok.ensures.files tells ∙ c.loop-line.invariant.files tells;
-  faults = c.in-Ok.ensures.same.0 ∙ c.loop-line.invariant.faults;
-  longs = c.in-Ok.ensures.same.1 ∙ c.loop-line.invariant.longs;
+  faults = c.in-Ok.ensures.same.faults ∙ c.loop-line.invariant.faults;
+  longs = c.in-Ok.ensures.same.longs ∙ c.loop-line.invariant.longs;
 }

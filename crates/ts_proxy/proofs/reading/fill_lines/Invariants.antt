@@ -7,11 +7,11 @@ use Rattle.ts_proxy.proofs.reading.fill_lines.Given as goal
 -- all lines but those that are left were filled, and no count rose
 abbrev pub invariant-loop-line : goal.invariant-loop-line
 invariant-loop-line g l = record {
-  told : g.S.Shelf.tells ≡ true → FillsBut (g.S.Shelf.file l.initial.shelf) l.initial.lines.items l.found.items l.lines.items;
+  told : g.S.Shelf.tells ≡ true → FillsBut (g.S.Shelf.seen l.initial.shelf).file l.initial.lines.items l.found.items l.lines.items;
   names : All HasFileName l.lines.items;
-  files : g.S.Shelf.tells ≡ true → g.S.Shelf.file l.shelf ≡ g.S.Shelf.file l.initial.shelf;
-  faults : g.S.Shelf.faults l.shelf ≡ g.S.Shelf.faults l.initial.shelf;
-  longs : g.S.Shelf.longs l.shelf ≡ g.S.Shelf.longs l.initial.shelf;
+  files : g.S.Shelf.tells ≡ true → (g.S.Shelf.seen l.shelf).file ≡ (g.S.Shelf.seen l.initial.shelf).file;
+  faults : (g.S.Shelf.seen l.shelf).faults ≡ (g.S.Shelf.seen l.initial.shelf).faults;
+  longs : (g.S.Shelf.seen l.shelf).longs ≡ (g.S.Shelf.seen l.initial.shelf).longs;
 }
 
 abbrev pub decreases-loop-line : goal.decreases-loop-line

@@ -12,22 +12,19 @@ returns-in-OutOfMemory g c = λ tells. rw c.in-OutOfMemory.is (c.tell-in-OutOfMe
 pub returns-in-CannotRead : goal.returns-in-CannotRead
 returns-in-CannotRead g c = λ tells.
     rw c.in-CannotRead.is
-    (told-same (g.E.Sink.taken c.args.err.now) (g.E.Sink.taken c.tell-in-CannotRead.new.err) _ _
-    (g.E.Sink.faults c.args.err.now) (g.E.Sink.faults c.tell-in-CannotRead.new.err) (g.E.Sink.lacks c.args.err.now) (g.E.Sink.lacks c.tell-in-CannotRead.new.err)
+    (told-same (g.E.Sink.seen c.args.err.now) (g.E.Sink.seen c.tell-in-CannotRead.new.err) _ _
     (ap (λ n. joined (codes "tsx: cannot read " ∷ n ∷ codes "\n" ∷ [])) c.name.ensures) (c.tell-in-CannotRead.ensures tells))
 
 pub returns-in-TooLong : goal.returns-in-TooLong
 returns-in-TooLong g c = λ tells.
     rw c.in-TooLong.is
-    (told-same (g.E.Sink.taken c.args.err.now) (g.E.Sink.taken c.tell-in-TooLong.new.err) _ _
-    (g.E.Sink.faults c.args.err.now) (g.E.Sink.faults c.tell-in-TooLong.new.err) (g.E.Sink.lacks c.args.err.now) (g.E.Sink.lacks c.tell-in-TooLong.new.err)
+    (told-same (g.E.Sink.seen c.args.err.now) (g.E.Sink.seen c.tell-in-TooLong.new.err) _ _
     (ap (λ n. joined (codes "tsx: too long: " ∷ n ∷ codes "\n" ∷ [])) c.name-in-TooLong.ensures) (c.tell-in-TooLong.ensures tells))
 
 pub returns-in-BadLine : goal.returns-in-BadLine
 returns-in-BadLine g c = λ tells.
     rw c.in-BadLine.is
-    (told-same (g.E.Sink.taken c.args.err.now) (g.E.Sink.taken c.tell-in-BadLine.new.err) _ _
-    (g.E.Sink.faults c.args.err.now) (g.E.Sink.faults c.tell-in-BadLine.new.err) (g.E.Sink.lacks c.args.err.now) (g.E.Sink.lacks c.tell-in-BadLine.new.err)
+    (told-same (g.E.Sink.seen c.args.err.now) (g.E.Sink.seen c.tell-in-BadLine.new.err) _ _
     (ap (λ n. joined (codes "tsx: configuration line " ∷ n ∷ codes ": " ∷ c.text_of.result.now ∷ codes "\n" ∷ [])) (c.as_bytes-number.ensures.value ∙ c.format.ensures.text)
     ∙ ap (λ k. joined (codes "tsx: configuration line " ∷ decimal c.in-BadLine.fault.line ∷ codes ": " ∷ k ∷ codes "\n" ∷ [])) c.text_of.ensures)
     (c.tell-in-BadLine.ensures tells))

@@ -6,8 +6,8 @@ use Rattle.ts_proxy.proofs.telling.tell.Given as goal
 -- all but the parts that are left was taken
 abbrev pub invariant-loop-part : goal.invariant-loop-part
 invariant-loop-part g l = record {
-  took : g.E.Sink.tells ≡ true → TookBut (g.E.Sink.taken l.initial.err) (g.E.Sink.taken l.err)
+  took : g.E.Sink.tells ≡ true → TookBut (g.E.Sink.seen l.initial.err) (g.E.Sink.seen l.err)
       (joined (map (λ p. p.now) l.parts)) (joined (map (λ p. p.now) (drop l.part-index l.parts)));
-  faults : g.E.Sink.faults l.err ≡ g.E.Sink.faults l.initial.err;
-  lacks : g.E.Sink.lacks l.err ≡ g.E.Sink.lacks l.initial.err;
+  faults : (g.E.Sink.seen l.err).faults ≡ (g.E.Sink.seen l.initial.err).faults;
+  lacks : (g.E.Sink.seen l.err).lacks ≡ (g.E.Sink.seen l.initial.err).lacks;
 }

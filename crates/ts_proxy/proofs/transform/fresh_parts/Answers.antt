@@ -4,7 +4,7 @@ use Rattle.ts_transform.specs.Flow.{compose}
 use Rattle.ts_config.specs.Bodies.{compose_lines}
 use Rattle.ts_stock.specs.Stock.{still_writes}
 use Rattle.ts_proxy.proofs.Composing.{composing-more}
-use Rattle.ts_proxy.proofs.world_of.fresh_parts.Goals as goal
+use Rattle.ts_proxy.proofs.transform.fresh_parts.Goals as goal
 
 pub loop-line-preserved : goal.loop-line-preserved
 loop-line-preserved c = λ z.

@@ -1,0 +1,50 @@
+-- The bytes that the grammar of a configuration names, and its limits.
+use Rattle.std.specs.Prelude.{ℕ}
+
+abbrev pub tab : ℕ
+tab = 9
+
+abbrev pub line_feed : ℕ
+line_feed = 10
+
+abbrev pub space : ℕ
+space = 32
+
+-- the `"` round a word
+abbrev pub quote_mark : ℕ
+quote_mark = 34
+
+-- the `#` before a comment
+abbrev pub number_sign : ℕ
+number_sign = 35
+
+abbrev pub digit_0 : ℕ
+digit_0 = 48
+
+abbrev pub digit_9 : ℕ
+digit_9 = 57
+
+abbrev pub letter_a : ℕ
+letter_a = 97
+
+abbrev pub letter_f : ℕ
+letter_f = 102
+
+abbrev pub letter_x : ℕ
+letter_x = 120
+
+-- the byte behind the last that a text may have in ASCII
+abbrev pub delete : ℕ
+delete = 127
+
+-- the most transform lines of a configuration
+abbrev pub most_transforms : ℕ
+most_transforms = 16
+
+-- the most bytes of the text of a prepend line
+abbrev pub most_text : ℕ
+most_text = 16384
+
+-- the most milliseconds of a delay line
+abbrev pub most_delay : ℕ
+most_delay = 60000
