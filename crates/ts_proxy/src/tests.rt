@@ -1,30 +1,33 @@
-//! Worked rows of `transform` over forms in memory.
-ghost use Rattle.std.specs.Prelude.{◌≤◌};
+//! Rows of `transform` over forms in memory: what is written, what is said, and the status.
 
 use crate::run;
 use std::alloc::{AllocError, Global};
 use std::process::Abort;
 use std::test::Fail;
-use ts_link::{MemShelf, MemSink};
+use ts_link::{MemShelf, MemSink, NoMemory};
 
 const USAGE: &[u8] =
     b"tsx: usage: transform CONFIG BODY | replay [--threads N] CONFIG RECORDING | serve --listen L --origin A --config F [--threads N] [--connections N] | generate SEED COUNT SIZE\n";
 
+const CANNOT_WRITE: &[u8] = b"tsx: cannot write\n";
+
 const TRANSFORM: &[&str] = &["transform", "c", "b"];
 
-// A command over these files, and the calls that fail, counted from 1, or 0: a read, a write of out, and one of err. Out
-// takes `take` bytes a call.
+// How the sinks behave: out takes so many bytes a call, and the write calls of these numbers fail, counted from 1, or 0.
 #[derive(Clone, Copy)]
-struct Case<'a> {
-    files: &'a [(&'a str, &'a [u8])],
-    words: &'a [&'a str],
-    unread: u64,
+struct Sinks {
+    take: usize,
     failing: u64,
     untold: u64,
-    take: usize,
 }
 
-// What a command left: its status, what out and err took, and the turns and handled events of each of its journals.
+const FINE: Sinks = Sinks {
+    take: 65_536,
+    failing: 0,
+    untold: 0,
+};
+
+// What a command left: its status, what out and err took, and the turns and handled events of each journal at rest.
 #[derive(Drop)]
 struct Left {
     status: u8,
@@ -41,15 +44,15 @@ fn strings(alloc: Global, said: &[&str]) -> Result<Vec<String>, AllocError> {
     Ok(words)
 }
 
-fn left_by(alloc: Global, case: &Case<'_>) -> Result<Left, Fail> {
-    let mut shelf = MemShelf::make(alloc);
-    for (name, bytes) in case.files {
-        shelf.add(name, bytes)?;
-    }
-    shelf.fail_at(case.unread)?;
-    let mut out = MemSink::make(alloc, case.take.max(1), vec![in alloc; case.failing]?);
-    let mut err = MemSink::make(alloc, 7, vec![in alloc; case.untold]?);
-    let said = strings(alloc, case.words)?;
+fn left_by(
+    alloc: Global,
+    mut shelf: MemShelf,
+    words: &[&str],
+    sinks: Sinks,
+) -> Result<Left, AllocError> {
+    let mut out = MemSink::make(alloc, sinks.take.max(1), vec![in alloc; sinks.failing]?);
+    let mut err = MemSink::make(alloc, 7, vec![in alloc; sinks.untold]?);
+    let said = strings(alloc, words)?;
     let ended = run(alloc, said.as_slice(), &mut shelf, &mut out, &mut err);
     let mut turns = Vec::new(alloc);
     for journal in ended.journals.as_slice() {
@@ -65,15 +68,8 @@ fn left_by(alloc: Global, case: &Case<'_>) -> Result<Left, Fail> {
     })
 }
 
-// The case ends so, and has one journal at rest with status 0, and else none.
-fn check<R: Abort + AllocGlobal>(
-    rt: &R,
-    case: &Case<'_>,
-    status: u8,
-    out: &[u8],
-    err: &[u8],
-) -> Result<(), Fail> {
-    let left = left_by(rt.alloc(), case)?;
+// A command ended so, and with one journal at rest where its status is 0, and else none.
+fn check<R: Abort>(rt: &R, left: &Left, status: u8, out: &[u8], err: &[u8]) -> Result<(), Fail> {
     assert_eq!(rt; left.status, status);
     assert_eq!(rt; left.out.written(), out);
     assert_eq!(rt; left.err.written(), err);
@@ -81,41 +77,96 @@ fn check<R: Abort + AllocGlobal>(
     Ok(())
 }
 
-// A body through a configuration, beside files that hold their own names.
+// A shelf with a configuration, a body, and three files that hold their own names.
+fn shelf_of(alloc: Global, config: &[u8], body: &[u8]) -> Result<MemShelf, NoMemory> {
+    let mut shelf = MemShelf::make(alloc);
+    shelf.add("c", config)?;
+    shelf.add("b", body)?;
+    shelf.add("1", b"1")?;
+    shelf.add("2", b"2")?;
+    shelf.add(">", b">")?;
+    Ok(shelf)
+}
+
+// What a body becomes by a configuration.
 fn ends<R: Abort + AllocGlobal>(
     rt: &R,
     config: &[u8],
     body: &[u8],
     out: &[u8],
 ) -> Result<(), Fail> {
-    let case = Case {
-        files: &[
-            ("c", config),
-            ("b", body),
-            ("1", b"1"),
-            ("2", b"2"),
-            (">", b">"),
-        ],
-        words: TRANSFORM,
-        unread: 0,
-        failing: 0,
-        untold: 0,
-        take: 65_536,
-    };
-    check(rt, &case, 0, out, b"")
+    let alloc = rt.alloc();
+    let left = left_by(alloc, shelf_of(alloc, config, body)?, TRANSFORM, FINE)?;
+    check(rt, &left, 0, out, b"")
 }
 
-// A configuration that is refused with this line, before a body is looked for.
+// The line of a configuration that is refused, before a body is looked for.
 fn refuses<R: Abort + AllocGlobal>(rt: &R, config: &[u8], line: &[u8]) -> Result<(), Fail> {
-    let case = Case {
-        files: &[("c", config)],
-        words: TRANSFORM,
-        unread: 0,
-        failing: 0,
-        untold: 0,
-        take: 1,
-    };
-    check(rt, &case, 3, b"", line)
+    let alloc = rt.alloc();
+    let mut shelf = MemShelf::make(alloc);
+    shelf.add("c", config)?;
+    let left = left_by(alloc, shelf, TRANSFORM, FINE)?;
+    check(rt, &left, 3, b"", line)
+}
+
+// How a body of `abc` with an append of `XY` ends, where the read of this number fails, counted from 1, or none.
+fn appends<R: Abort + AllocGlobal>(
+    rt: &R,
+    words: &[&str],
+    unread: u64,
+    sinks: Sinks,
+    status: u8,
+    out: &[u8],
+    err: &[u8],
+) -> Result<(), Fail> {
+    let alloc = rt.alloc();
+    let mut shelf = MemShelf::make(alloc);
+    shelf.add("c", b"append_transform.so tail.txt")?;
+    shelf.add("tail.txt", b"XY")?;
+    shelf.add("b", b"abc")?;
+    shelf.fail_at(unread)?;
+    let left = left_by(alloc, shelf, words, sinks)?;
+    check(rt, &left, status, out, err)
+}
+
+// How the lines of a configuration end over an empty body, where one file beside it has this text.
+fn texts<R: Abort + AllocGlobal>(
+    rt: &R,
+    config: &[u8],
+    name: &str,
+    text: &[u8],
+    status: u8,
+    out: &[u8],
+    err: &[u8],
+) -> Result<(), Fail> {
+    let alloc = rt.alloc();
+    let mut shelf = MemShelf::make(alloc);
+    shelf.add("c", config)?;
+    shelf.add("b", b"")?;
+    shelf.add(name, text)?;
+    let left = left_by(alloc, shelf, TRANSFORM, FINE)?;
+    check(rt, &left, status, out, err)
+}
+
+// What so many lines that pass a body on leave of a body of so many bytes.
+fn nulls<R: Abort + AllocGlobal>(
+    rt: &R,
+    lines: usize,
+    bytes: usize,
+    take: usize,
+) -> Result<Left, Fail> {
+    let alloc = rt.alloc();
+    let mut config: Vec<u8> = Vec::new(alloc);
+    for _ in 0..lines {
+        config.extend_from_slice(b"null_transform.so\n")?;
+    }
+    let body = vec![in alloc; b'x'; bytes]?;
+    let shelf = shelf_of(alloc, config.as_slice(), body.as_slice())?;
+    let left = left_by(alloc, shelf, TRANSFORM, Sinks { take, ..FINE })?;
+    if left.status == 0 {
+        assert_eq!(rt; left.out.written(), body.as_slice());
+    }
+    Ok(left)
 }
 
 #[test]
@@ -177,151 +228,83 @@ fn rows(rt: HostRuntime) -> Result<(), Fail> {
     refuses(&rt, b"# \x7f", b"tsx: configuration line 1: text\n")
 }
 
-// An append over a body, with words, calls that fail and files that are not there.
 #[test]
 fn causes(rt: HostRuntime) -> Result<(), Fail> {
-    let case = Case {
-        files: &[
-            ("c", b"append_transform.so tail.txt"),
-            ("tail.txt", b"XY"),
-            ("b", b"abc"),
-        ],
-        words: TRANSFORM,
-        unread: 0,
-        failing: 0,
-        untold: 0,
-        take: 1,
+    let one_by_one = Sinks { take: 1, ..FINE };
+    let first_write = Sinks { failing: 1, ..FINE };
+    let second_write = Sinks {
+        failing: 2,
+        ..one_by_one
     };
-    check(&rt, &case, 0, b"abcXY", b"")?;
-    for words in [
-        &[] as &[&str],
-        &["transform", "c", "b", "b"],
-        &["replay", "c", "b"],
-    ] {
-        check(&rt, &Case { words, ..case }, 2, b"", USAGE)?;
-    }
-    let (none, cannot_write): (&[u8], &[u8]) = (b"", b"tsx: cannot write\n");
-    check(&rt, &Case { failing: 1, ..case }, 6, none, cannot_write)?;
-    check(&rt, &Case { failing: 2, ..case }, 6, b"a", cannot_write)?;
-    check(
+    let untold = Sinks { untold: 1, ..FINE };
+    appends(&rt, TRANSFORM, 0, one_by_one, 0, b"abcXY", b"")?;
+    appends(&rt, &[], 0, FINE, 2, b"", USAGE)?;
+    appends(&rt, &["transform", "c", "b", "b"], 0, FINE, 2, b"", USAGE)?;
+    appends(&rt, &["replay", "c", "b"], 0, FINE, 2, b"", USAGE)?;
+    appends(&rt, TRANSFORM, 0, first_write, 6, b"", CANNOT_WRITE)?;
+    appends(&rt, TRANSFORM, 0, second_write, 6, b"a", CANNOT_WRITE)?;
+    appends(&rt, TRANSFORM, 1, FINE, 5, b"", b"tsx: cannot read c\n")?;
+    appends(
         &rt,
-        &Case { unread: 1, ..case },
+        TRANSFORM,
+        2,
+        FINE,
         5,
-        none,
-        b"tsx: cannot read c\n",
-    )?;
-    check(
-        &rt,
-        &Case { unread: 2, ..case },
-        5,
-        none,
+        b"",
         b"tsx: cannot read tail.txt\n",
     )?;
-    check(
+    appends(&rt, TRANSFORM, 3, FINE, 5, b"", b"tsx: cannot read b\n")?;
+    appends(&rt, TRANSFORM, 2, untold, 5, b"", b"")?;
+    appends(
         &rt,
-        &Case { unread: 3, ..case },
+        &["transform", "c", "d"],
+        0,
+        FINE,
         5,
-        none,
-        b"tsx: cannot read b\n",
-    )?;
-    check(
-        &rt,
-        &Case {
-            unread: 2,
-            untold: 1,
-            ..case
-        },
-        5,
-        none,
-        none,
-    )?;
-    let files: &[(&str, &[u8])] = &[("c", b"append_transform.so tail.txt"), ("tail.txt", b"XY")];
-    check(
-        &rt,
-        &Case { files, ..case },
-        5,
-        none,
-        b"tsx: cannot read b\n",
+        b"",
+        b"tsx: cannot read d\n",
     )
 }
 
-// The text of an append at its limit and above it, and of two files that are not there or too long the first is named.
+// Of two files that are not there or too long the first is named.
 #[test]
 fn limits(rt: HostRuntime) -> Result<(), Fail> {
     let alloc = rt.alloc();
     let more = vec![in alloc; b't'; 16_385]?;
     let more = more.as_slice();
+    let (_, most) = more.split_at(1);
+    let long = vec![in alloc; b'#'; 1_048_577]?;
     let one: &[u8] = b"append_transform.so x";
     let two: &[u8] = b"append_transform.so x\nappend_transform.so y";
-    let table: [(&[u8], &str, &[u8], u8, &[u8], &[u8]); 5] = [
-        (one, "x", &more[1..], 0, &more[1..], b""),
-        (one, "x", more, 9, b"", b"tsx: too long: x\n"),
-        (two, "z", b"", 5, b"", b"tsx: cannot read x\n"),
-        (two, "x", more, 9, b"", b"tsx: too long: x\n"),
-        (two, "y", more, 5, b"", b"tsx: cannot read x\n"),
-    ];
-    for (config, name, text, status, out, err) in table {
-        let case = Case {
-            files: &[("c", config), (name, text), ("b", b"")],
-            words: TRANSFORM,
-            unread: 0,
-            failing: 0,
-            untold: 0,
-            take: 65_536,
-        };
-        check(&rt, &case, status, out, err)?;
-    }
-    Ok(())
+    texts(&rt, one, "x", most, 0, most, b"")?;
+    texts(&rt, one, "x", more, 9, b"", b"tsx: too long: x\n")?;
+    texts(&rt, two, "z", b"", 5, b"", b"tsx: cannot read x\n")?;
+    texts(&rt, two, "x", more, 9, b"", b"tsx: too long: x\n")?;
+    texts(&rt, two, "y", more, 5, b"", b"tsx: cannot read x\n")?;
+    texts(
+        &rt,
+        long.as_slice(),
+        "x",
+        b"",
+        9,
+        b"",
+        b"tsx: too long: c\n",
+    )
 }
 
-// A configuration of so many lines that pass a body on, over a body of so many bytes.
-fn nulls<R: Abort + AllocGlobal>(
-    rt: &R,
-    lines: usize,
-    bytes: usize,
-    take: usize,
-) -> Result<Left, Fail> {
-    let alloc = rt.alloc();
-    let mut config: Vec<u8> = Vec::new(alloc);
-    for _ in 0..lines {
-        config.extend_from_slice(b"null_transform.so\n")?;
-    }
-    let body = vec![in alloc; b'x'; bytes]?;
-    let case = Case {
-        files: &[("c", config.as_slice()), ("b", body.as_slice())],
-        words: TRANSFORM,
-        unread: 0,
-        failing: 0,
-        untold: 0,
-        take,
-    };
-    let left = left_by(alloc, &case)?;
-    if left.status == 0 {
-        assert_eq!(rt; left.out.written(), body.as_slice());
-    }
-    Ok(left)
-}
-
-// Long bodies and many lines. Of two stages and 40,000 bytes the driver begins, then each stage moves two pieces and
-// ends, and in the last turn the first stage is told too that its output was written.
+// Of two stages and 40,000 bytes the driver begins, then each stage moves two pieces and ends, and in the last turn the
+// first stage is told too that its output was written.
 #[test]
-fn long_rows(rt: HostRuntime) -> Result<(), Fail> {
-    let alloc = rt.alloc();
+fn long_bodies(rt: HostRuntime) -> Result<(), Fail> {
     assert_eq!(rt; nulls(&rt, 1, 65_537, 1)?.status, 0);
     assert_eq!(rt; nulls(&rt, 16, 1_048_576, 65_536)?.status, 0);
     assert_eq!(rt; nulls(&rt, 2, 40_000, 65_536)?.turns.first(), Some(&(7, 7)));
-    assert_eq!(rt;
-        nulls(&rt, 17, 1, 1)?.err.written(),
-        b"tsx: configuration line 17: too-many\n".as_slice()
-    );
-    let long = vec![in alloc; b'#'; 1_048_577]?;
-    let case = Case {
-        files: &[("c", long.as_slice()), ("b", b"")],
-        words: TRANSFORM,
-        unread: 0,
-        failing: 0,
-        untold: 0,
-        take: 1,
-    };
-    check(&rt, &case, 9, b"", b"tsx: too long: c\n")
+    let refused = nulls(&rt, 17, 1, 1)?;
+    check(
+        &rt,
+        &refused,
+        3,
+        b"",
+        b"tsx: configuration line 17: too-many\n",
+    )
 }
