@@ -1,11 +1,10 @@
 -- What holds of calls by their numbers: how many may still wait, and when none goes wrong.
-use Rattle.std.proofs.Common.{◌≡◌, ℕ, ◌+◌, ◌-◌, ◌^◌, ◌<◌, ◌≤◌, min, List, [], ◌∷◌, Bool, true, false, refl, sym, ap, ◌∙◌, cond, arith, ltb-true, leb-false, false-eqb}
+use Rattle.std.proofs.Common.{◌≡◌, ℕ, ◌+◌, ◌<◌, ◌≤◌, List, [], ◌∷◌, Bool, true, false, refl, cond, arith, false-eqb}
 use Rattle.std.specs.List.{list_any}
-use Rattle.std.specs.Prelude.{nat_lt, ◌||◌, ◌==◌}
+use Rattle.std.specs.Prelude.{◌==◌}
 use Rattle.ts_link.specs.Counts.{greatest, one_more}
 use Rattle.ts_link.specs.Numbered.{Numbered, is_listed, mishap_of, mishap_at, after_call, later, waits_left}
-use Rattle.ts_link.specs.declared.numbered.Mishap.{Mishap}
-use Rattle.ts_link.specs.declared.numbered.Mishap.TheVariants.{Nothing, Fails, Waits}
+use Rattle.ts_link.specs.declared.numbered.Mishap.TheVariants.{Nothing, Waits}
 
 -- of the numbers after n there are no more than after m
 pub later_falls : (m n : ℕ) (ns : List ℕ) → m ≤ n → later n ns ≤ later m ns

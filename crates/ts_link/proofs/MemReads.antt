@@ -1,17 +1,16 @@
 -- What a read of a link in memory shows of it as a link.
-use Rattle.std.proofs.Common.{◌≡◌, ℕ, ◌+◌, ◌-◌, ◌<◌, ◌≤◌, ◌++◌, List, [], ◌∷◌, length, take, true, false, Bool, refl, sym, ap, subst, ◌∙◌, cond, append_assoc, arith}
+use Rattle.std.proofs.Common.{◌≡◌, ℕ, ◌+◌, ◌<◌, ◌≤◌, ◌++◌, List, [], ◌∷◌, length, take, true, false, Bool, refl, sym, ap, subst, ◌∙◌, cond, append_assoc, arith}
 use Rattle.std.specs.Prelude.{Some}
 use Rattle.std.proofs.lemmas.List.{append-nil}
-use Rattle.ts_link.specs.Counts.{Counted, greatest, one_more, one_more_if}
+use Rattle.ts_link.specs.Counts.{Counted, greatest, one_more_if}
 use Rattle.ts_link.specs.Inputs.{Input, bytes_of, given_of, stalled_reads, next_answer, next_ahead}
 use Rattle.ts_link.specs.InputView.{IsSoundInput}
 use Rattle.ts_link.specs.Link.{MayReplace, Gives, Calls, IsSure, IsSurePlan, NeverStalls, Reads, ReadsSurely}
 use Rattle.ts_link.specs.Link as W
 use Rattle.ts_link.specs.LinkAnswers.{FillsSome, count_got, got_failed, got_again}
-use Rattle.ts_link.specs.MemLink.{LinkState, look_of, plan_of, read_by, ahead_by, read_answer, after_read}
-use Rattle.ts_link.specs.Numbered.{Numbered, mishap_at, mishap_of, is_listed, after_call, waits_left}
+use Rattle.ts_link.specs.MemLink.{LinkState, look_of, read_by, ahead_by, read_answer, after_read}
+use Rattle.ts_link.specs.Numbered.{mishap_at, is_listed, after_call, waits_left}
 use Rattle.ts_link.specs.declared.link.Got.{Got}
-use Rattle.ts_link.specs.declared.link.Got.TheVariants as G
 use Rattle.ts_link.specs.declared.numbered.Mishap.{Mishap}
 use Rattle.ts_link.specs.declared.numbered.Mishap.TheVariants.{Nothing, Fails, Waits}
 use Rattle.ts_link.specs.declared.piece.Piece.{Piece}
@@ -30,7 +29,7 @@ pub given_on : (i : Input) (ahead : List Piece) (more : List ℕ) → IsSoundInp
 given_on i ahead more sound moved =
     let before : List ℕ = given_of i in
     let e : i.source ≡ (before ++ more) ++ bytes_of ahead =
-        sym sound.whole ∙ ap (λ xs. before ++ xs) moved ∙ sym (append_assoc before more (bytes_of ahead)) in
+    sym sound.whole ∙ ap (λ xs. before ++ xs) moved ∙ sym (append_assoc before more (bytes_of ahead)) in
     whole_by i.source (before ++ more) (bytes_of ahead) e
 
 -- the link after a read at which so much goes wrong
@@ -106,7 +105,7 @@ reads_by s room into Nothing e r some calls faults waits sound bytes =
     let rest : List Piece = next_ahead room ahead in
     let fine : IsSoundInput s.input = sound refl in
     let moved : bytes_of ahead ≡ take (count_got answer) into ++ bytes_of rest =
-        next_moves room ahead ∙ ap (λ xs. xs ++ bytes_of rest) (sym bytes) in
+    next_moves room ahead ∙ ap (λ xs. xs ++ bytes_of rest) (sym bytes) in
     record {
       fills = subst (λ n. FillsSome answer n) r (next_fills room ahead some fine.front);
       once = record { reads = refl; writes = refl };
@@ -138,7 +137,7 @@ pub reads_right : (s t : LinkState) (answer : Got) (into : List ℕ) (room : ℕ
     → Reads true (look_of s) (look_of t) answer into
 reads_right s t answer into room a after r some calls faults waits sound bytes =
     let same : take (count_got (read_answer s room)) into ≡ take (count_got (read_answer s room)) (bytes_of s.input.ahead) =
-        subst (λ (g : Got). take (count_got g) into ≡ take (count_got g) (bytes_of s.input.ahead)) a bytes in
+    subst (λ (g : Got). take (count_got g) into ≡ take (count_got g) (bytes_of s.input.ahead)) a bytes in
     let once = reads_by s room into (mishap_at s.reads) refl r some calls faults waits sound same in
     subst (λ (u : LinkState). Reads true (look_of s) (look_of u) answer into) (sym after)
-        (subst (λ (g : Got). Reads true (look_of s) (look_of (after_read s room g)) g into) (sym a) once)
+    (subst (λ (g : Got). Reads true (look_of s) (look_of (after_read s room g)) g into) (sym a) once)

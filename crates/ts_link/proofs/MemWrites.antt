@@ -1,14 +1,13 @@
 -- What a write of a link in memory shows of it as a link.
-use Rattle.std.proofs.Common.{◌≡◌, ℕ, zero, suc, ◌+◌, ◌-◌, ◌<◌, ◌≤◌, ◌++◌, min, List, [], ◌∷◌, length, take, true, false, Bool, Option, Some, None, refl, sym, ap, subst, ◌∙◌, arith}
+use Rattle.std.proofs.Common.{◌≡◌, ℕ, zero, suc, ◌+◌, ◌<◌, ◌≤◌, ◌++◌, min, List, length, take, true, Option, Some, None, refl, sym, ap, subst, ◌∙◌, arith}
 use Rattle.std.specs.Prelude.{IfSome}
 use Rattle.std.specs.Option.{option_map}
 use Rattle.std.proofs.lemmas.List.{append-nil, length-append, length-take-le}
-use Rattle.ts_link.specs.Counts.{greatest, one_more}
+use Rattle.ts_link.specs.Counts.{greatest}
 use Rattle.ts_link.specs.Inputs.{bytes_of, given_of}
-use Rattle.ts_link.specs.Link.{Takes, IsSure, HasLeft, IsWithinLeave, Writes, WritesSurely}
-use Rattle.ts_link.specs.LinkAnswers.{count_put, put_failed, put_again, PutsSome}
+use Rattle.ts_link.specs.Link.{IsSure, Writes}
 use Rattle.ts_link.specs.MemLink.{LinkState, IsPut, look_of, plan_of, at_most, less, taken_of_piece, write_by, write_answer, after_write}
-use Rattle.ts_link.specs.Numbered.{mishap_at, is_listed, after_call, waits_left}
+use Rattle.ts_link.specs.Numbered.{mishap_at, is_listed}
 use Rattle.ts_link.specs.declared.link.Put.{Put}
 use Rattle.ts_link.specs.declared.link.Put.TheVariants as P
 use Rattle.ts_link.specs.declared.numbered.Mishap.{Mishap}
@@ -124,8 +123,11 @@ writes_right s piece P.Failed most some h calls faults waits = record {
     waits = refl;
     agains = omega (arith, waits_fall s.writes calls);
   };
-  sure = λ sure. (refl, λ e. none_left s.may_take (min s.most (length piece)) (length s.taken) (omega arith)
-      (failed_by (mishap_at s.writes) (taken_of_piece s (length piece)) h (sure_write s sure)));
+  sure = λ sure. (
+    refl,
+    λ e. none_left s.may_take (min s.most (length piece)) (length s.taken) (omega arith)
+        (failed_by (mishap_at s.writes) (taken_of_piece s (length piece)) h (sure_write s sure)),
+  );
   lacks = tt;
   told = λ _. record { taken = sym (append-nil s.taken); within = λ w. w; given = refl; left = same_replaces (given_of s.input) (bytes_of s.input.ahead) };
 }

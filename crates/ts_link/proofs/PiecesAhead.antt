@@ -1,9 +1,9 @@
 -- What holds of the pieces that are ahead of a link in memory: which bytes and stalls they have, and how a read moves on
 -- among them.
-use Rattle.std.proofs.Common.{get_or, leb-false, ◌≡◌, ℕ, zero, suc, ◌+◌, ◌-◌, ◌≤◌, ◌<◌, ◌++◌, min, List, [], ◌∷◌, length, take, drop, refl, sym, ap, subst, ◌∙◌, cond, true, false, append_assoc, arith}
+use Rattle.std.proofs.Common.{get_or, leb-false, ◌≡◌, ℕ, zero, suc, ◌+◌, ◌-◌, ◌≤◌, ◌<◌, ◌++◌, min, List, [], ◌∷◌, length, take, drop, refl, sym, ap, subst, ◌∙◌, cond, false, append_assoc, arith}
 use Rattle.std.proofs.Math.Seq.{take-append_seam, drop-cons, take-nil, drop-nil}
 use Rattle.std.proofs.lemmas.List.{drop_all, drop-take, drop-drop, drop_min, take-take, length-take, take-append-drop, take-append-le, take_min, length-drop, length-append, append-nil}
-use Rattle.ts_link.specs.Inputs.{Input, bytes_of, given_of, stalls_from, stalled_reads, from_next, cut_up, next_answer, next_ahead}
+use Rattle.ts_link.specs.Inputs.{bytes_of, stalls_from, stalled_reads, from_next, cut_up, next_answer, next_ahead}
 use Rattle.ts_link.specs.InputView.{IsFront, IsSoundInput, HasNoStall, begun, front_cut, is_passed, seen_cut, seen_pieces}
 use Rattle.ts_link.specs.LinkAnswers.{count_got, got_again, EndsWell, FillsSome}
 use Rattle.ts_link.specs.declared.piece.Piece.{Piece}
@@ -45,7 +45,7 @@ next_moves room (Bytes bs ∷ ps) =
     let front : take n (bs ++ bytes_of ps) ≡ take room bs = take-append-le n bs (bytes_of ps) within ∙ take_min room bs in
     let rest : bytes_of (from_next (Bytes (drop room bs) ∷ ps)) ≡ drop room bs ++ bytes_of ps = bytes-from_next (Bytes (drop room bs) ∷ ps) in
     let joined : take room bs ++ (drop room bs ++ bytes_of ps) ≡ bs ++ bytes_of ps =
-        sym (append_assoc (take room bs) (drop room bs) (bytes_of ps)) ∙ ap (λ xs. xs ++ bytes_of ps) (take-append-drop room bs) in
+    sym (append_assoc (take room bs) (drop room bs) (bytes_of ps)) ∙ ap (λ xs. xs ++ bytes_of ps) (take-append-drop room bs) in
     rw (front, rest) (sym joined)
 next_moves room (Stall k ∷ ps) = sym (bytes-from_next (Stall (k - 1) ∷ ps))
 
@@ -145,7 +145,7 @@ sound_pieces n next ps =
     let passed : (before : List ℕ) × (bytes_of (drop next ps) ≡ before ++ bytes_of rest) = bytes-begun n (drop next ps) in
     let before : List ℕ = dropped.0 ++ passed.0 in
     let e : bytes_of ps ≡ before ++ bytes_of (from_next rest) =
-        rw (bytes-from_next rest) (dropped.1 ∙ ap (λ xs. dropped.0 ++ xs) passed.1 ∙ sym (append_assoc dropped.0 passed.0 (bytes_of rest))) in
+    rw (bytes-from_next rest) (dropped.1 ∙ ap (λ xs. dropped.0 ++ xs) passed.1 ∙ sym (append_assoc dropped.0 passed.0 (bytes_of rest))) in
     record {
       whole = rw (whole_by (bytes_of ps) before (bytes_of (from_next rest)) e) (sym e);
       front = front-from_next rest;
@@ -213,7 +213,7 @@ cut_moves (suc n) cuts rest room k none h e =
     let within : k ≤ suc n = omega (arith, length-take (suc n) rest) in
     let joined : k + (suc n - k) ≡ suc n = omega arith in
     let piece : take (suc n - k) (drop k rest) ≡ drop room front =
-        sym (drop-take k (suc n - k) rest) ∙ ap (λ i. drop k (take i rest)) joined ∙ ap (λ i. drop i front) e ∙ drop_min room front in
+    sym (drop-take k (suc n - k) rest) ∙ ap (λ i. drop k (take i rest)) joined ∙ ap (λ i. drop i front) e ∙ drop_min room front in
     let behind : drop (suc n - k) (drop k rest) ≡ drop (suc n) rest = drop-drop (suc n - k) k rest ∙ ap (λ i. drop i rest) joined in
     rw (piece, behind, next_first room front (cut_up cuts (drop (suc n) rest)) h) refl
 

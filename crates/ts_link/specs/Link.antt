@@ -26,17 +26,17 @@ pub record IsSurePlan (p : Plan) : Type 0 where
 
 -- What a contract sees of a link. Its bytes are told only by a link that tells.
 pub record Look : Type 0 where
-  pub given : List ℕ           -- what it gave
-  pub left : List ℕ            -- what it may still give
-  pub taken : List ℕ           -- what it took
-  pub source : List ℕ          -- a list that no call changes: all that it gives, where nothing else is said
+  pub given : List ℕ  -- what it gave
+  pub left : List ℕ  -- what it may still give
+  pub taken : List ℕ  -- what it took
+  pub source : List ℕ  -- a list that no call changes: all that it gives, where nothing else is said
   pub name : ℕ
-  pub reads : ℕ                -- how many reads were made
-  pub writes : ℕ               -- how many writes were made, but for those that lacked memory
-  pub faults : ℕ               -- how many answers were Failed
-  pub waits : ℕ                -- how many answers were Again
-  pub agains : Option ℕ        -- how many Again answers it has left, where it tells
-  pub plan : Option Plan       -- where it tells; no call changes it
+  pub reads : ℕ  -- how many reads were made
+  pub writes : ℕ  -- how many writes were made, but for those that lacked memory
+  pub faults : ℕ  -- how many answers were Failed
+  pub waits : ℕ  -- how many answers were Again
+  pub agains : Option ℕ  -- how many Again answers it has left, where it tells
+  pub plan : Option Plan  -- where it tells; no call changes it
 
 -- all that a link gave and may still give
 abbrev pub all_of : Look → List ℕ
@@ -113,7 +113,7 @@ WritesSurely old failed waited = IsSure old → (waited ≡ false) × (failed �
 
 -- what a read gave, of a link that tells
 pub record Gives (old new : Look) (more : List ℕ) : Type 0 where
-  pub before : List ℕ                                  -- what it might give as this call began
+  pub before : List ℕ  -- what it might give as this call began
   pub replaced : MayReplace old.given old.left before
   pub moved : before ≡ more ++ new.left
   pub given : new.given ≡ old.given ++ more

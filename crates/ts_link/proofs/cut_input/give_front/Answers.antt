@@ -1,9 +1,8 @@
 -- A read takes its bytes from the front of the piece that was begun.
-use Rattle.std.proofs.Common.{◌≡◌, ◌≤◌, ◌<◌, ◌-◌, ℕ, List, [], ◌∷◌, drop, take, length, sym, ap, ◌∙◌, arith, true-eqb, false-eqb}
+use Rattle.std.proofs.Common.{◌≡◌, ◌≤◌, ◌<◌, ℕ, List, [], ◌∷◌, drop, take, length, sym, ap, ◌∙◌, arith, true-eqb, false-eqb}
 use Rattle.std.proofs.lemmas.List.{nil_from_length, drop-drop, length-drop}
 use Rattle.ts_link.specs.Inputs.{from_next, cut_up, next_answer, next_ahead}
 use Rattle.ts_link.specs.InputView.{front_cut}
-use Rattle.ts_link.specs.declared.piece.Piece.{Piece}
 use Rattle.ts_link.proofs.PiecesAhead.{cut_end, cut_moves, front_cut-within, take-front_cut}
 use Rattle.ts_link.proofs.cut_input.give_front.Goals as goal
 
@@ -44,7 +43,7 @@ returns-clause-bytes c =
     let same : length (front_cut c.begin_piece.new.piece rest) ≡ length c.front_of-front.result.now = ap length (sym c.front_of-front.ensures) in
     let within : c.copy_front-count.result ≤ length (front_cut c.begin_piece.new.piece rest) = omega (arith, c.copy_front-count.ensures.count) in
     c.copy_front-count.ensures.front ∙ ap (take c.copy_front-count.result) c.front_of-front.ensures
-        ∙ take-front_cut c.copy_front-count.result c.begin_piece.new.piece rest within
+    ∙ take-front_cut c.copy_front-count.result c.begin_piece.new.piece rest within
 
 pub returns-clause-within : goal.returns-clause-within
 returns-clause-within c =
