@@ -1,3 +1,4 @@
+//! Shelves, which give whole files by their names.
 ghost use Rattle.std.specs.Prelude.{◌≡◌, Bool, true};
 ghost use Rattle.ts_link.specs.Counts.{Counted};
 ghost use Rattle.ts_link.specs.Seen.{ShelfSeen};

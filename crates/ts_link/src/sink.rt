@@ -1,3 +1,4 @@
+//! Sinks, which take bytes as a file or a terminal does.
 ghost use Rattle.std.specs.Prelude.{◌≡◌, ◌<◌, ◌++◌, Bool, true, length};
 ghost use Rattle.ts_link.specs.Counts.{Counted};
 ghost use Rattle.ts_link.specs.Seen.{SinkSeen};
