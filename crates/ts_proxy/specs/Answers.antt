@@ -116,7 +116,7 @@ TookText a.CannotWrite old new text = TookFront old new text
 TookText a.OutOfMemory old new text = TookFront old new text
 TookText _ old new text = TookNothing old new
 
--- what it took at an outcome
+-- what a sink took with an answer at an outcome
 abbrev pub TookAt : Answer → SinkSeen → SinkSeen → Outcome → Type 0
 TookAt answer old new (Text t) = TookText answer old new t
 TookAt answer old new _ = TookNothing old new

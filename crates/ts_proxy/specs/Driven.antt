@@ -46,27 +46,32 @@ pub record Passes (old new : SinkSeen) (coming coming' : List ℕ) : Type 0 wher
 abbrev pub to_come : {P : Type 0} → (P → List ℕ → List ℕ) → ChainWorld P → List ℕ
 to_come rest w = flow rest w.chain []
 
--- what waits for its client
+-- what waits for the client of a world of a chain
 abbrev pub for_client : {P : Type 0} → ChainWorld P → List ℕ
 for_client w = last_wait w.chain.first w.chain.stages
 
--- what it has left to do, but for its pending events: each step of a stage counts as a hundred events
-abbrev pub left_of : {P : Type 0} → (P → List ℕ → List ℕ) → ChainWorld P → ℕ
-left_of rest w = 100 * (left_to_do rest w.chain [] + errors_to_pass w.table.items)
+-- a step of a stage counts as so many events, which is more than it sets
+abbrev pub step_weight : ℕ
+step_weight = 100
 
--- what is left to do in its group
+-- what a world of a chain has left to do, but for its pending events
+abbrev pub left_of : {P : Type 0} → (P → List ℕ → List ℕ) → ChainWorld P → ℕ
+left_of rest w = step_weight * (left_to_do rest w.chain [] + errors_to_pass w.table.items)
+
+-- what is left to do in the group of a world of a chain
 abbrev pub left_in : {P Q R T U : Type 0} → (P → List ℕ → List ℕ) → Group (ChainWorld P) Q R T U → ℕ
 left_in rest g = left_of rest g.world + length g.cx.log.state.pending
 
--- less is left to do in its group, where what waits for the client counts as one event
+-- less is left to do in the group of a world of a chain, where what waits for the client counts as one event
 abbrev pub LeavesLess : {P Q R T U : Type 0} → (P → List ℕ → List ℕ) → Group (ChainWorld P) Q R T U → Group (ChainWorld P) Q R T U → Type 0
 LeavesLess rest old new = left_in rest new < left_in rest old + (if nat_lt 0 (length (for_client new.world)) then 1 else 0)
 
--- while it runs, its last stage is roused where it is full, so that it goes on once its client has taken bytes
+-- while a world of a chain runs, its last stage is roused where it is full, so that it goes on once its client has taken
+-- bytes
 abbrev pub IsWoken : {P : Type 0} → ChainWorld P → Type 0
 IsWoken w = w.running ≡ true → IsAwake w.chain w.table.items
 
--- it is sound in any group that has no periodic event, as before it was started
+-- a world of a chain is sound in any group that has no periodic event, as before it was started
 abbrev pub IsSoundAlone : {P : Type 0} → ChainWorld P → Type 0
 IsSoundAlone w = (pending : List Pending) → (roles : List Named) → AllPlain pending → IsSound w pending roles
 

@@ -1,5 +1,5 @@
 -- How a journal goes on under its driver, and how it stands once all of its events are handled.
-use Rattle.std.specs.Prelude.{◌≡◌, ℕ, ◌+◌, ◌≤◌, false, List, [], ◌∷◌, ⊤, max}
+use Rattle.std.specs.Prelude.{◌≡◌, ℕ, ◌+◌, ◌-◌, ◌≤◌, false, List, [], ◌∷◌, ⊤, max}
 use Rattle.ts_journal.specs.declared.entry.Entry.{Entry}
 use Rattle.ts_journal.specs.declared.entry.Entry.TheVariants.{Took, Gave, Handled}
 use Rattle.ts_journal.specs.declared.entry.Pending.{Pending}
@@ -7,6 +7,7 @@ use Rattle.ts_journal.specs.State.{State, fresh_with}
 use Rattle.ts_journal.specs.Log.{Log, Extends}
 use Rattle.ts_journal.specs.Laws.{NoTurns}
 use Rattle.ts_journal.specs.Machine.{IsLawful, after, replay}
+use Rattle.ts_group.specs.declared.group.TheConstants.{MOST_EVENTS}
 use Rattle.ts_group.specs.Context.{own_key}
 use Rattle.ts_group.specs.Due.{IsFirstDue}
 
@@ -18,7 +19,7 @@ only_seat = 0
 abbrev pub first_turn : ℕ
 first_turn = 1
 
--- the moment at which it begins
+-- the moment at which the work begins
 abbrev pub first_moment : ℕ
 first_moment = 0
 
@@ -37,27 +38,28 @@ moment_of j = last_moment first_moment j.entries
 abbrev pub IsNext : ℕ → State → ℕ → ℕ → Type 0
 IsNext m s number moment = (p : Pending) × (p.number ≡ number) × (moment ≡ max m p.due) × IsFirstDue s p
 
--- what is left of a turn handles only events that have this number or a later one, each at this moment
-abbrev pub HandlesFrom : ℕ → ℕ → List Entry → Type 0
-HandlesFrom low now [] = ⊤
-HandlesFrom low now (Took turn seat ∷ es) = ⊤
-HandlesFrom low now (Gave turn ∷ es) = ⊤
-HandlesFrom low now (Handled number moment ∷ es) = (low ≤ number) × (moment ≡ now) × HandlesFrom low now es
-HandlesFrom low now (_ ∷ es) = HandlesFrom low now es
+-- what is left of a turn handles at most so many events, each at this moment, under numbers that rise from this one on
+abbrev pub HandlesFrom : ℕ → ℕ → ℕ → List Entry → Type 0
+HandlesFrom low now most [] = ⊤
+HandlesFrom low now most (Took turn seat ∷ es) = ⊤
+HandlesFrom low now most (Gave turn ∷ es) = ⊤
+HandlesFrom low now most (Handled number moment ∷ es) =
+    (low ≤ number) × (moment ≡ now) × (1 ≤ most) × HandlesFrom (number + 1) now (most - 1) es
+HandlesFrom low now most (_ ∷ es) = HandlesFrom low now most es
 
--- The event that a turn handles first is due first, and each that it handles then was set since. The moment moves on from
--- the one before to that at which the first is due, if that is later, and stays for the turn. Only the first turn, in
--- which the work begins, may handle nothing.
+-- The event that a turn handles first is due first, and those that it handles then, in the order of their numbers, were
+-- set since. The moment moves on from the one before to that at which the first is due, if that is later, and stays for
+-- the turn. Only the first turn, in which the work begins, may handle nothing.
 abbrev pub HandlesFirst : ℕ → State → List Entry → Type 0
 HandlesFirst m s [] = ⊤
 HandlesFirst m s (Took turn seat ∷ es) = ⊤
 HandlesFirst m s (Gave turn ∷ es) = turn ≡ first_turn
-HandlesFirst m s (Handled number moment ∷ es) = IsNext m s number moment × HandlesFrom s.next moment es
+HandlesFirst m s (Handled number moment ∷ es) = IsNext m s number moment × HandlesFrom s.next moment (MOST_EVENTS - 1) es
 HandlesFirst m s (e ∷ es) = HandlesFirst m (after s e) es
 
 -- The turns of one driver that nobody else drives beside, from a moment of it on: each has its seat and the number after
--- the one before. It handles one event, which is due first, and then only what is set while it is handled; the first turn
--- may handle nothing. The driver's moment moves on to what is due, and no further.
+-- the one before. It handles one event, which is due first, and then only what is set while it is handled, at most 64 in
+-- all; the first turn may handle nothing. The driver's moment moves on to what is due, and no further.
 abbrev pub IsSerial : ℕ → State → List Entry → Type 0
 IsSerial m s [] = ⊤
 IsSerial m s (Took turn seat ∷ es) =
@@ -91,7 +93,7 @@ pub record GoesOnSerially (old new : Log) : Type 0 where
   pub by : Extends old new turns
   pub serial : IsSerial (moment_of old) old.state turns
 
--- it does, and its driver is then at this moment
+-- a journal goes on by turns of the serial driver, which is then at this moment
 pub record GoesOnTo (moment : ℕ) (old new : Log) : Type 0 where
   pub on : GoesOnSerially old new
   pub now : moment_of new ≡ moment

@@ -39,7 +39,7 @@ parts_of config body a.CannotWrite = codes "tsx: cannot write\n" ∷ []
 parts_of config body a.OutOfMemory = codes "tsx: out of memory\n" ∷ []
 parts_of config body (a.TooLong f) = codes "tsx: too long: " ∷ name_of config body f ∷ codes "\n" ∷ []
 
--- that line
+-- the line of an answer, as one text
 abbrev pub line_of : List ℕ → List ℕ → Answer → List ℕ
 line_of config body answer = joined (parts_of config body answer)
 

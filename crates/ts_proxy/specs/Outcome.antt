@@ -41,12 +41,12 @@ abbrev pub understood : Reading → (List TransformLine → Outcome) → Outcome
 understood (Good ls) next = next ls
 understood (Bad n k) next = BadLine n k
 
--- goes on with a line, and if it is an append, with the text of its file
+-- goes on with a line, which if it is an append has the text of its file
 abbrev pub line_filled : (List ℕ → Option (List ℕ)) → TransformLine → (TransformLine → Outcome) → Outcome
 line_filled files (t.Append name text) next = opened (files name) most_text name (λ bytes. next (t.Append name bytes))
 line_filled files line next = next line
 
--- the same of all lines, in their order
+-- goes on with lines in their order, each append with the text of its file
 abbrev pub filled : (List ℕ → Option (List ℕ)) → List TransformLine → (List TransformLine → Outcome) → Outcome
 filled files [] next = next []
 filled files (l ∷ ls) next = line_filled files l (λ first. filled files ls (λ rest. next (first ∷ rest)))
@@ -56,7 +56,7 @@ abbrev pub set_up : (List ℕ → Option (List ℕ)) → List ℕ → (List Tran
 set_up files config next =
     opened (files config) most_config config (λ bytes. understood (config_of bytes) (λ ls. filled files ls next))
 
--- then a body is read, and passes through the lines
+-- the outcome of `transform`: the configuration is set up, then a body is read, and passes through its lines
 abbrev pub transformed : (List ℕ → Option (List ℕ)) → List ℕ → List ℕ → Outcome
 transformed files config body =
     set_up files config (λ lines. opened (files body) most_body body (λ x. Text (compose_lines lines x)))
@@ -74,10 +74,11 @@ word k ws = unwrap_or (slice_get ws k) []
 abbrev pub bytes_of : {A : Type 0} → List (String A) → List (List ℕ)
 bytes_of words = map string_bytes words
 
--- the name of the configuration, and of the body, that the words of `transform` give
+-- the name of the configuration in the words of `transform`
 abbrev pub config_name : List (List ℕ) → List ℕ
 config_name ws = word 1 ws
 
+-- the name of the body there
 abbrev pub body_name : List (List ℕ) → List ℕ
 body_name ws = word 2 ws
 

@@ -9,10 +9,10 @@ pub record TookFront (old new : SinkSeen) (text : List ℕ) : Type 0 where
   pub grew : new.taken ≡ old.taken ++ took
   pub front : took ++ left ≡ text
 
--- it grew by all of the text
+-- what a sink took grew by all of the text
 abbrev pub TookAll : SinkSeen → SinkSeen → List ℕ → Type 0
 TookAll old new text = new.taken ≡ old.taken ++ text
 
--- it took nothing
+-- a sink took nothing
 abbrev pub TookNothing : SinkSeen → SinkSeen → Type 0
 TookNothing old new = new.taken ≡ old.taken

@@ -11,9 +11,9 @@ returns-in-Ok-clause-serial g c =
     let grows = grows_trans c.start.ensures.grows c.wake-woken.ensures.grows in
     let next : c.in-Some.turn ≡ c.args.group.now.cx.log.state.turns + 1 = search rules in
     let given : after.log.state.turns ≡ first_turn =
-    c.wake-woken.ensures.turns ∙ c.start.ensures.turns ∙ ap (λ s. s.turns) c.in_ok-begin_turn.ensures.ok.1 ∙ omega (arith, next, c.requires.unused.none) in
+    c.wake-woken.ensures.turns ∙ c.start.ensures.turn.turns ∙ ap (λ s. s.turns) c.in_ok-begin_turn.ensures.begins.state ∙ omega (arith, next, c.requires.unused.none) in
     record {
       on = serial_turn c.args.group.now.cx.log before.log after.log c.give_turn.new.self.cx.log c.in-Some.turn after.log.state.turns next
-          c.in_ok-begin_turn.ensures.ok.0 (within_grows before after grows) (inr given) c.give_turn.ensures.given;
-      now = moment_extends c.give_turn.ensures.given ∙ moment_grows before after grows ∙ moment_extends c.in_ok-begin_turn.ensures.ok.0 ∙ c.requires.unused.fresh;
+          c.in_ok-begin_turn.ensures.begins.by (within_grows before after grows) (inr given) c.give_turn.ensures.gives.by;
+      now = moment_extends c.give_turn.ensures.gives.by ∙ moment_grows before after grows ∙ moment_extends c.in_ok-begin_turn.ensures.begins.by ∙ c.requires.unused.fresh;
     }
