@@ -147,7 +147,7 @@ calls_rise low s moment (n ∷ ns) own (before, behind, key, event, is, rest) la
     let next : n ≡ t.next = there.0.1 in
     let rises : low ≤ t.next = next_rises low s before below in
     let least : low ≤ n = omega (arith, next, rises) in
-    let from : n + 1 ≤ n + 1 = omega arith in
+    let from : n + 1 ≤ (after t set).next = omega (arith, next) in
     let top : n + 1 ≤ (replay (after t set) behind).next = next_rises (n + 1) (after t set) behind from in
     let under : n < (replay (after t set) behind).next = omega (arith, top) in
     subst (λ e. AreRising low e.next (n ∷ ns)) (sym (ap (replay s) is ∙ replay-append s before (set ∷ behind)))
@@ -218,7 +218,7 @@ runs_then : {W : Type 0} (Called : W → W → List ℕ → Type 0) (u v : W) (l
 runs_then Called u v low s moment number queue zero es left h lawful below above = absurd h
 runs_then Called u v low s moment number queue (suc zero) es left (asked, r, called, e) lawful below above =
     let one = run_alone s moment number asked es r in
-    record { rest = one.rest; is = one.is; within = one.quiet.within; from = one.quiet.from low moment zero }
+    record { rest = one.rest; is = one.is; within = one.quiet.within; from = one.quiet.from low moment (suc zero - 1) }
 runs_then Called u v low s moment number queue (suc (suc k)) es left (asked, run, rest, r, e, mid, called, next, behind, n, more) lawful below above =
     let both : IsLawful s (run ++ rest) = subst (IsLawful s) e lawful in
     let t = replay s run in
@@ -229,14 +229,16 @@ runs_then Called u v low s moment number queue (suc (suc k)) es left (asked, run
     let found = next_from low t.next t.pending (queue ++ asked) next behind (rising_append low s.next t.next queue asked above asks below rose) n in
     let after_next : next + 1 ≤ t.next = omega (arith, found.1) in
     let some : 1 ≤ suc k = omega arith in
-    let then : HandlesThen (next + 1) next moment k rest =
+    let then : HandlesThen (next + 1) next moment (suc k - 1) rest =
     runs_then Called mid v (next + 1) t moment next behind (suc k) rest left more (lawful_back s run rest both) after_next found.2 in
-    record {
+    let all : HandlesThen low number moment (suc k) es = record {
       rest = one.rest ++ rest;
       is = e ∙ ap (λ xs. xs ++ rest) one.is;
       within = no_turns_append one.rest rest one.quiet.within (subst NoTurns (sym then.is) then.within);
       from = one.quiet.before low moment (suc k) rest (subst (HandlesFrom low moment (suc k)) (sym then.is) (found.0, refl, some, then.from));
-    }
+    } in
+    let less : suc k ≡ suc (suc k) - 1 = omega arith in
+    subst (λ m. HandlesThen low number moment m es) less all
 
 -- these entries begin with a turn, if there are any
 abbrev IsApart : List Entry → Type 0
