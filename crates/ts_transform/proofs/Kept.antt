@@ -10,7 +10,7 @@ use Rattle.ts_group.specs.declared.action.SetFault.TheVariants as F
 use Rattle.ts_group.specs.Context.{Context, role_at, moment_after}
 use Rattle.ts_group.specs.Entries.{Grows}
 use Rattle.ts_group.proofs.Grows.{grows_refl, grows_trans}
-use Rattle.ts_group.specs.Changes.{Sets}
+use Rattle.ts_group.specs.Acts.{Sets}
 use Rattle.ts_transform.specs.Driving.{works_at, ActsWithin, AddsEvents, HasEvent, HasKind, HasEventIf, IsCause, IsOfStage, IsOfStageIf, AreOfStages, IsRoused, Keeps, KeepsStage, KeepsStages, Lessens, SetsFew, all_unroused, unroused}
 use Rattle.ts_transform.specs.declared.continuation.StageContinuation.{StageContinuation}
 
@@ -29,20 +29,20 @@ pub few_trans : {a b c : Context} (m n : ℕ) → SetsFew m a b → SetsFew n b 
 few_trans m n h k = record { next = omega (arith, h.next, k.next); pending = omega (arith, h.pending, k.pending) }
 
 -- an event was set, or none
-pub set_keeps : (a b : Context) (r : Result Action SetFault) (key : ContKey) (event : Event) (due : ℕ) → Sets a b r key event due 0 → Keeps a b
-set_keeps a b r key event due h = record { pending = h.more.stays; roles = h.kept.0; plain = h.plain refl; turn = h.turn }
+pub set_keeps : (a b : Context) (r : Result Action SetFault) (key : ContKey) (event : Event) (due : ℕ) → Sets a.log b.log r key event due 0 → b.roles ≡ a.roles → Keeps a b
+set_keeps a b r key event due h roles = record { pending = h.more.stays; roles = roles; plain = h.plain refl; turn = h.turn }
 
 -- so the call leaves what one leaves that sets an event
-pub set_cause : (a b : Context) (r : Result Action SetFault) (key : ContKey) (event : Event) (due : ℕ) → Sets a b r key event due 0 → IfErr r (λ fault. IsCause fault b)
+pub set_cause : (a b : Context) (r : Result Action SetFault) (key : ContKey) (event : Event) (due : ℕ) → Sets a.log b.log r key event due 0 → IfErr r (λ fault. IsCause fault b)
 set_cause a b (Ok action) key event due h = tt
 set_cause a b (Err F.NoMemory) key event due h = tt
 set_cause a b (Err F.Dead) key event due h = tt
-set_cause a b (Err F.Spent) key event due h = let same : b.log.state.next ≡ a.log.state.next = ap (λ s. s.next) h.err.log.state in omega (arith, same, h.spent refl)
+set_cause a b (Err F.Spent) key event due h = let same : b.log.state.next ≡ a.log.state.next = ap (λ s. s.next) h.err.state in omega (arith, same, h.spent refl)
 
-pub set_few : (a b : Context) (r : Result Action SetFault) (key : ContKey) (event : Event) (due : ℕ) → Sets a b r key event due 0 → SetsFew 1 a b
+pub set_few : (a b : Context) (r : Result Action SetFault) (key : ContKey) (event : Event) (due : ℕ) → Sets a.log b.log r key event due 0 → SetsFew 1 a b
 set_few a b r key event due h = record { next = h.more.next; pending = h.more.count }
 
-pub set_event : (a b : Context) (r : Result Action SetFault) (key : ContKey) (event : Event) (due : ℕ) → Sets a b r key event due 0 → works_at event ≡ true
+pub set_event : (a b : Context) (r : Result Action SetFault) (key : ContKey) (event : Event) (due : ℕ) → Sets a.log b.log r key event due 0 → works_at event ≡ true
     → OnOk r (HasEvent b.log.state.pending key)
 set_event a b (Ok action) key event due h works = record { event = _; there = h.there; of_key = refl; works = works }
 set_event a b (Err e) key event due h works = tt
@@ -54,9 +54,9 @@ works_soon false = refl
 pub few_refl : (a : Context) (n : ℕ) → SetsFew n a a
 few_refl a n = record { next = omega arith; pending = omega arith }
 
-pub set_adds : (a b : Context) (r : Result Action SetFault) (key : ContKey) (event : Event) (due : ℕ) → Grows a b → Sets a b r key event due 0 → AddsEvents 1 r a b
-set_adds a b r key event due grows h =
-    record { grows = grows; keeps = set_keeps a b r key event due h; few = set_few a b r key event due h; cause = set_cause a b r key event due h }
+pub set_adds : (a b : Context) (r : Result Action SetFault) (key : ContKey) (event : Event) (due : ℕ) → Grows a b → Sets a.log b.log r key event due 0 → b.roles ≡ a.roles → AddsEvents 1 r a b
+set_adds a b r key event due grows h roles =
+    record { grows = grows; keeps = set_keeps a b r key event due h roles; few = set_few a b r key event due h; cause = set_cause a b r key event due h }
 
 -- nothing was set
 pub adds_none : (a : Context) (n : ℕ) → a.log.state.held ≡ true → AddsEvents {T = ⊤} n (Ok tt) a a
@@ -199,6 +199,6 @@ pub soon_later : (moment pause : ℕ) → (moment_after moment pause ≤ moment_
 soon_later moment pause = (omega arith, omega arith)
 
 -- a stage was told of an event
-pub set_kind : (a b : Context) (r : Result Action SetFault) (key : ContKey) (event : Event) (due : ℕ) → Sets a b r key event due 0 → OnOk r (HasKind b.log.state.pending key event)
+pub set_kind : (a b : Context) (r : Result Action SetFault) (key : ContKey) (event : Event) (due : ℕ) → Sets a.log b.log r key event due 0 → OnOk r (HasKind b.log.state.pending key event)
 set_kind a b (Ok action) key event due h = record { event = _; there = h.there; of_key = refl; is = refl }
 set_kind a b (Err e) key event due h = tt

@@ -7,6 +7,7 @@ use Rattle.ts_journal.specs.declared.entry.Event.{Event}
 use Rattle.ts_journal.specs.declared.entry.Event.TheVariants.{Immediate, Timeout, Error, ReadReady, WriteReady, ReadComplete, WriteComplete, Eos, InactivityTimeout, Hook}
 use Rattle.ts_journal.specs.declared.entry.Pending.{Pending}
 use Rattle.ts_journal.specs.State.{pending_at, IsLive}
+use Rattle.ts_journal.specs.declared.entry.TheConstants.{GREATEST}
 use Rattle.ts_group.specs.declared.action.Named.{Named}
 use Rattle.ts_group.specs.Changes.{HasLost}
 use Rattle.ts_group.specs.declared.action.SetFault.{SetFault}
@@ -231,15 +232,11 @@ abbrev pub HasEventIf : List Pending → Option ContKey → Type 0
 HasEventIf pending None = ⊤
 HasEventIf pending (Some key) = HasEvent pending key
 
--- the number that no event may have
-abbrev pub MOST_NUMBER : ℕ
-MOST_NUMBER = 18446744073709551615
-
 -- Why an event was not set, in the context that was left. Want of memory has no cause here.
 abbrev pub IsCause : SetFault → Context → Type 0
 IsCause F.NoMemory now = ⊤
 IsCause F.Dead now = ⊤
-IsCause F.Spent now = MOST_NUMBER ≤ now.log.state.next
+IsCause F.Spent now = GREATEST ≤ now.log.state.next
 
 -- What calls leave that set at most so many events: all else goes on. Where one could not be set, they say why.
 pub record AddsEvents {T : Type 0} (most : ℕ) (result : Result T SetFault) (old new : Context) : Type 0 where

@@ -1,11 +1,11 @@
 -- Why a driven chain is lost.
 use Rattle.std.specs.Prelude.{ℕ, ◌<◌, ◌≤◌, ⊤}
+use Rattle.ts_journal.specs.declared.entry.TheConstants.{GREATEST, MOST_KEYS}
 use Rattle.ts_group.specs.declared.action.SetFault.{SetFault}
 use Rattle.ts_group.specs.declared.action.SetFault.TheVariants as F
 use Rattle.ts_group.specs.declared.action.MakeFault.{MakeFault}
 use Rattle.ts_group.specs.declared.action.MakeFault.TheVariants as M
 use Rattle.ts_group.specs.Context.{Context, CanUse}
-use Rattle.ts_transform.specs.Driving.{MOST_NUMBER}
 use Rattle.ts_transform.specs.declared.loss.Loss.{Loss}
 use Rattle.ts_transform.specs.declared.loss.Loss.TheVariants as L
 
@@ -22,6 +22,6 @@ making_loss M.TableFull = L.TableFull
 -- why it was lost, in the context that was left; want of memory has no cause here
 abbrev pub IsCauseOf : Loss → Context → Type 0
 IsCauseOf L.NoMemory now = ⊤
-IsCauseOf L.TableFull now = (i : ℕ) → i < 1024 → CanUse now.log.state i → ⊥
+IsCauseOf L.TableFull now = (i : ℕ) → i < MOST_KEYS → CanUse now.log.state i → ⊥
 IsCauseOf L.Dead now = ⊤
-IsCauseOf L.Spent now = MOST_NUMBER ≤ now.log.state.next
+IsCauseOf L.Spent now = GREATEST ≤ now.log.state.next

@@ -183,6 +183,10 @@ impl<P: Transform + Drop> World for ChainWorld<P> {
 
     ghost left = { λ w s. Some (100 * (left_to_do P.rest w.driven.chain [] + errors_to_pass w.driven.table.items) + length s.pending) };
 
+    ghost right = { λ w group question reply. ⊤ };
+
+    ghost answers = { λ w question reply. ⊤ };
+
     // The chain is as it was; and where it had not begun, it runs from then on, or tells why it was lost.
     ghost begun = { λ old new. HasBegunFrom old.driven new.driven };
 

@@ -22,8 +22,8 @@ returns-in_default-clause-adds c = adds_none c.args.cx.now 1 c.requires.turn
 pub returns-in_err-call-clause-adds : goal.returns-in_err-call-clause-adds
 returns-in_err-call-clause-adds c =
     adds_err 1 1 c.from_residual.result _ c.from_residual.ensures.1 (omega arith)
-    (set_adds c.args.cx.now c.call.new.self (Err _) c.in-Some-Some.continuation.key c.args.event _ c.call.ensures.grows c.in_err-call.ensures.sets)
+    (set_adds c.args.cx.now c.call.new.self (Err _) c.in-Some-Some.continuation.key c.args.event _ c.call.ensures.grows c.in_err-call.ensures.sets c.call.ensures.roles)
 
 pub returns-clause-adds : goal.returns-clause-adds
 returns-clause-adds c =
-    adds_ok 1 _ tt (set_adds c.args.cx.now c.call.new.self (Ok _) c.in-Some-Some.continuation.key c.args.event _ c.call.ensures.grows c.in_ok-call.ensures.sets)
+    adds_ok 1 _ tt (set_adds c.args.cx.now c.call.new.self (Ok _) c.in-Some-Some.continuation.key c.args.event _ c.call.ensures.grows c.in_ok-call.ensures.sets c.call.ensures.roles)
