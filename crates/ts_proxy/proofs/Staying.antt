@@ -4,7 +4,8 @@ use Rattle.std.proofs.lemmas.List.{take-take}
 use Rattle.ts_journal.specs.declared.entry.Pending.{Pending}
 use Rattle.ts_group.specs.declared.action.Named.{Named}
 use Rattle.ts_transform.specs.declared.world.ChainWorld.{ChainWorld}
-use Rattle.ts_transform.specs.Cover.{IsSound, IsAwake}
+use Rattle.ts_transform.specs.Cover.{IsAwake}
+use Rattle.ts_transform.specs.World.{IsSound}
 use Rattle.ts_link.specs.Seen.{SinkSeen}
 use Rattle.ts_proxy.specs.Driven.{IsWoken, Passes, StaysSound}
 
@@ -14,7 +15,7 @@ stays_refl w = record { sound = λ pending roles awake s. s; awake = λ awake. a
 -- its client takes some more
 pub stays_taken : {P : Type 0} (u v w : ChainWorld P) → StaysSound u v
     → ((pending : List Pending) (roles : List Named) → IsSound v pending roles → IsWoken v → IsSound w pending roles)
-    → (IsAwake v.chain v.table.items → IsAwake w.chain w.table.items) → w.running ≡ v.running → StaysSound u w
+    → (IsAwake v.driven.chain v.driven.table.items → IsAwake w.driven.chain w.driven.table.items) → w.driven.running ≡ v.driven.running → StaysSound u w
 stays_taken u v w h sound awake same = record {
   sound = λ pending roles woken s. sound pending roles (h.sound pending roles woken s) (h.awake woken);
   awake = λ woken runs. awake (h.awake woken (sym same ∙ runs));

@@ -8,9 +8,10 @@ use Rattle.ts_group.specs.Context.{AllPlain}
 use Rattle.ts_group.specs.declared.action.Named.{Named}
 use Rattle.ts_group.specs.declared.group.Group.{Group}
 use Rattle.ts_transform.specs.declared.world.ChainWorld.{ChainWorld}
-use Rattle.ts_transform.specs.Flow.{flow, last_wait, left_to_do}
+use Rattle.ts_transform.specs.Flow.{client_wait, flow, left_to_do}
 use Rattle.ts_transform.specs.Driving.{errors_to_pass}
-use Rattle.ts_transform.specs.Cover.{IsSound, IsSoundGroup, IsAwake}
+use Rattle.ts_transform.specs.Cover.{IsAwake}
+use Rattle.ts_transform.specs.World.{IsSound, IsSoundGroup}
 use Rattle.ts_proxy.specs.declared.writing.Driven.{Driven}
 use Rattle.ts_proxy.specs.declared.writing.Driven.TheVariants.{Done, Failed, NoMemory}
 use Rattle.ts_proxy.specs.Journals.{IsNext, IsOfDriver, moment_of}
@@ -44,11 +45,11 @@ pub record Passes (old new : SinkSeen) (coming coming' : List ℕ) : Type 0 wher
 
 -- what a world of a chain still gives
 abbrev pub to_come : {P : Type 0} → (P → List ℕ → List ℕ) → ChainWorld P → List ℕ
-to_come rest w = flow rest w.chain []
+to_come rest w = flow rest w.driven.chain []
 
 -- what waits for the client of a world of a chain
 abbrev pub for_client : {P : Type 0} → ChainWorld P → List ℕ
-for_client w = last_wait w.chain.first w.chain.stages
+for_client w = client_wait w.driven.chain
 
 -- a step of a stage counts as so many events, which is more than it sets
 abbrev pub step_weight : ℕ
@@ -56,7 +57,7 @@ step_weight = 100
 
 -- what a world of a chain has left to do, but for its pending events
 abbrev pub left_of : {P : Type 0} → (P → List ℕ → List ℕ) → ChainWorld P → ℕ
-left_of rest w = step_weight * (left_to_do rest w.chain [] + errors_to_pass w.table.items)
+left_of rest w = step_weight * (left_to_do rest w.driven.chain [] + errors_to_pass w.driven.table.items)
 
 -- what is left to do in the group of a world of a chain
 abbrev pub left_in : {P Q R T U : Type 0} → (P → List ℕ → List ℕ) → Group (ChainWorld P) Q R T U → ℕ
@@ -69,7 +70,7 @@ LeavesLess rest old new = left_in rest new < left_in rest old + (if nat_lt 0 (le
 -- while a world of a chain runs, its last stage is roused where it is full, so that it goes on once its client has taken
 -- bytes
 abbrev pub IsWoken : {P : Type 0} → ChainWorld P → Type 0
-IsWoken w = w.running ≡ true → IsAwake w.chain w.table.items
+IsWoken w = w.driven.running ≡ true → IsAwake w.driven.chain w.driven.table.items
 
 -- a world of a chain is sound in any group that has no periodic event, as before it was started
 abbrev pub IsSoundAlone : {P : Type 0} → ChainWorld P → Type 0

@@ -2,7 +2,7 @@
 //! is written into a sink between the turns.
 ghost use Rattle.std.specs.Prelude.{◌≡◌, ◌+◌, ◌≤◌, [], length, true, false, OnOk};
 ghost use Rattle.ts_link.specs.Counts.{Counted};
-ghost use Rattle.ts_transform.specs.Cover.{IsSoundGroup};
+ghost use Rattle.ts_transform.specs.World.{IsSoundGroup};
 ghost use Rattle.ts_proxy.specs.Journals.{moment_of, first_moment, HandlesWithin, GoesOnTo, IsUnused, EndsSerially};
 ghost use Rattle.ts_proxy.specs.Driven.{WroteAll, Passes, OnDone, AddsJournal, StaysSound, IsDueNext, is_failed};
 ghost use Rattle.ts_proxy.specs.Driven.{left_of, to_come, for_client, LeavesLess, IsSoundAlone, IsReadyForClient, IsBetweenTurns};

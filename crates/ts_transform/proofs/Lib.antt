@@ -12,3 +12,5 @@ pub mod PassedErrors
 pub mod Called
 pub mod Setting
 pub mod MaySet
+pub mod Acting
+pub mod Driving

@@ -6,7 +6,7 @@ use Rattle.ts_group.specs.Changes.{SameEvents, KeepsKeys}
 use Rattle.ts_transform.specs.declared.continuation.StageContinuation.{StageContinuation}
 use Rattle.ts_transform.specs.declared.pump.Stage.{Stage}
 use Rattle.ts_transform.specs.Stage.{has_ended}
-use Rattle.ts_transform.specs.Flow.{ChainState, HasWork, MustPump, fresh_stage}
+use Rattle.ts_transform.specs.Flow.{ChainState, HasWork, OnlyFirstWorks, MustPump, fresh_stage}
 use Rattle.ts_transform.specs.Driving.{IsOfStageIf, AreOfStages, IsRoused}
 use Rattle.ts_transform.specs.Cover.{IsDriven}
 
@@ -44,9 +44,9 @@ must-work up from (s ∷ ss) zero (work, room) = work
 must-work up from (s ∷ ss) (suc at) must = must-work (has_ended s) s.after ss at must
 
 -- where only the first stage may have work and that is roused if it must work, all are driven
-pub begun : {P : Type 0} (a : Context) (c : ChainState P) (ts : List (Option StageContinuation)) → length ts ≡ length c.stages → AreOfStages a.log.state.pending a.roles 1 ts
-    → (MustPump c.given c.first c.stages 0 → IsRoused ts 0) → ((j : ℕ) → HasWork c.given c.first c.stages (j + 1) → ⊥) → IsDriven c ts a.log.state.pending a.roles
-begun {P} a c ts len of_stages ready fresh = record { len = len; of_stages = of_stages; cover = cover }
+pub begun : {P : Type 0} (first : ℕ) (a : Context) (c : ChainState P) (ts : List (Option StageContinuation)) → length ts ≡ length c.stages → AreOfStages a.log.state.pending a.roles first ts
+    → (MustPump c.given c.first c.stages 0 → IsRoused ts 0) → OnlyFirstWorks c → IsDriven first c ts a.log.state.pending a.roles
+begun {P} first a c ts len of_stages ready fresh = record { len = len; of_stages = of_stages; cover = cover }
   where
     cover : (j : ℕ) → MustPump c.given c.first c.stages j → IsRoused ts j
     cover zero must = ready must

@@ -10,7 +10,8 @@ use Rattle.ts_transform.specs.declared.pump.Stage.{Stage}
 use Rattle.ts_transform.specs.Stage.{has_ended, has_work, passed}
 use Rattle.ts_transform.specs.Flow.{ChainState, HasWork, MustPump, Takes, closed, aborted, ended_at, flow, flow_from, last_wait, last_ended, fresh_stage, IsFinished}
 use Rattle.ts_transform.specs.Driving.{HasEvent, AreOfStages, IsRoused}
-use Rattle.ts_transform.specs.Cover.{IsCovered, IsAwake}
+use Rattle.ts_transform.specs.Cover.{IsAwake}
+use Rattle.ts_transform.specs.World.{IsCovered}
 use Rattle.ts_transform.proofs.Boundaries.{rest_of-ended}
 use Rattle.ts_transform.proofs.Starting.{fresh-first}
 
@@ -65,10 +66,20 @@ takes-must {P} up from s (t ∷ ss) n from' (s' ∷ ss') (before, part, takes) (
     behind (inr (place, goes, full)) = inr (omega (arith, place), goes, full)
 
 -- as many stages are there
-takes-len : {P : Type 0} (from : List ℕ) (ss : List (Stage P)) (n : ℕ) (from' : List ℕ) (ss' : List (Stage P)) → Takes from ss n from' ss' → length ss' ≡ length ss
+pub takes-len : {P : Type 0} (from : List ℕ) (ss : List (Stage P)) (n : ℕ) (from' : List ℕ) (ss' : List (Stage P)) → Takes from ss n from' ss' → length ss' ≡ length ss
 takes-len from [] n from' ss' takes = ap length takes.1
 takes-len from (s ∷ ss) n from' [] takes = absurd takes
 takes-len from (s ∷ ss) n from' (s' ∷ ss') (before, part, takes) = ap suc (takes-len s.after ss n s'.after ss' takes)
+
+-- a stage but the last must work then only where it had to before
+pub takes-others : {P : Type 0} (up : Bool) (from : List ℕ) (ss : List (Stage P)) (n : ℕ) (from' : List ℕ) (ss' : List (Stage P)) → Takes from ss n from' ss'
+    → (j : ℕ) → (j + 1 ≡ length ss → ⊥) → MustPump up from' ss' j → MustPump up from ss j
+takes-others up from [] n from' ss' takes j other must = absurd (subst (λ us. MustPump up from' us j) takes.1 must)
+takes-others {P} up from (s ∷ ss) n from' ss' takes j other must = by_place (takes-must up from s ss n from' ss' takes j must)
+  where
+    by_place : MustPump up from (s ∷ ss) j ⊎ ((j + 1 ≡ length (s ∷ ss)) × (ended_at (s ∷ ss) j ≡ false) × (65536 ≤ length (last_wait from (s ∷ ss)))) → MustPump up from (s ∷ ss) j
+    by_place (inl before) = before
+    by_place (inr (place, goes, full)) = absurd (other place)
 
 -- so each stage that must work is roused, if the last was where it was full
 taken-roused : {P : Type 0} (given : Bool) (from : List ℕ) (ss : List (Stage P)) (n : ℕ) (from' : List ℕ) (ss' : List (Stage P)) (ts : List (Option StageContinuation)) → Takes from ss n from' ss'

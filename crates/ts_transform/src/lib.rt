@@ -3,7 +3,10 @@
 
 mod chain;
 mod continuation;
+mod driven;
+mod ends;
 mod handler;
+mod loss;
 mod pump;
 mod rousing;
 mod stages;
@@ -17,6 +20,8 @@ mod world;
 mod world_tests;
 
 pub use chain::Chain;
+pub use driven::DrivenChain;
+pub use loss::Loss;
 pub use pump::Pumped;
 pub use transform::Transform;
 pub use world::ChainWorld;

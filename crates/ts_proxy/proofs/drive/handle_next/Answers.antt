@@ -4,4 +4,4 @@ use Rattle.ts_proxy.proofs.drive.handle_next.Goals as goal
 pub returns-in-Ok-wake-clause-within : goal.returns-in-Ok-wake-clause-within
 returns-in-Ok-wake-clause-within g c =
     let gives = rw c.in-Ok-Handled.field-0-is at c.in-Ok-Handled.ensures.gives in
-    within_handled _ _ _ _ _ _ _ gives.0 c.requires.next.next c.wake.ensures.grows
+    within_handled _ _ _ _ _ _ _ gives.0 c.requires.next.next c.wake.ensures.keeps.grows

@@ -1,5 +1,5 @@
 use Rattle.std.proofs.Common.{◌≡◌, [], true, false}
-use Rattle.ts_transform.specs.Cover.{IsSound}
+use Rattle.ts_transform.specs.World.{IsSound}
 use Rattle.ts_proxy.specs.Driven.{Passes, for_client, left_in, to_come}
 use Rattle.ts_proxy.specs.Journals.{moment_of, GoesOnSerially}
 use Rattle.ts_proxy.proofs.drive.run_events.Given as goal

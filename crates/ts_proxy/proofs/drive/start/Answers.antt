@@ -8,10 +8,10 @@ pub returns-in-Ok-clause-serial : goal.returns-in-Ok-clause-serial
 returns-in-Ok-clause-serial g c =
     let before = c.begin_turn.new.self.cx in
     let after = c.wake-woken.new.group.cx in
-    let grows = grows_trans c.start.ensures.grows c.wake-woken.ensures.grows in
+    let grows = grows_trans c.start.ensures.grows c.wake-woken.ensures.keeps.grows in
     let next : c.in-Some.turn ≡ c.args.group.now.cx.log.state.turns + 1 = search rules in
     let given : after.log.state.turns ≡ first_turn =
-    c.wake-woken.ensures.turns ∙ c.start.ensures.turn.turns ∙ ap (λ s. s.turns) c.in_ok-begin_turn.ensures.begins.state ∙ omega (arith, next, c.requires.unused.none) in
+    c.wake-woken.ensures.keeps.turns ∙ c.start.ensures.turn.turns ∙ ap (λ s. s.turns) c.in_ok-begin_turn.ensures.begins.state ∙ omega (arith, next, c.requires.unused.none) in
     record {
       on = serial_turn c.args.group.now.cx.log before.log after.log c.give_turn.new.self.cx.log c.in-Some.turn after.log.state.turns next
           c.in_ok-begin_turn.ensures.begins.by (within_grows before after grows) (inr given) c.give_turn.ensures.gives.by;

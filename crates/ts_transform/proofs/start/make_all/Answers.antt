@@ -13,7 +13,7 @@ loop-at-init c =
       turn = c.requires.turn;
       events = record { pending = refl; next = refl };
       len = ap length c.requires.empty;
-      of_stages = subst (AreOfStages now.log.state.pending now.roles 1) (sym c.requires.empty) tt;
+      of_stages = subst (AreOfStages now.log.state.pending now.roles c.args.first) (sym c.requires.empty) tt;
     }
 
 pub loop-at-preserved : goal.loop-at-preserved
@@ -25,7 +25,7 @@ loop-at-preserved c =
       turn = made.turn;
       events = same_events_trans _ _ _ before.events made.events;
       len = ap length c.in_default.ensures.items ∙ length_push c.loop-at.table.items (Some c.in_ok-continuation.continuation) ∙ ap (λ n. n + 1) before.len;
-      of_stages = subst (AreOfStages c.make_one.new.cx.log.state.pending c.make_one.new.cx.roles 1) (sym c.in_default.ensures.items)
-          (made_all c.loop-at.cx c.make_one.new.cx made.events made.keys 1 c.loop-at.table.items c.in_ok-continuation.continuation
+      of_stages = subst (AreOfStages c.make_one.new.cx.log.state.pending c.make_one.new.cx.roles c.args.first) (sym c.in_default.ensures.items)
+          (made_all c.loop-at.cx c.make_one.new.cx made.events made.keys c.args.first c.loop-at.table.items c.in_ok-continuation.continuation
           (made.named.0 ∙ ap Some (omega (arith, before.len))) made.named.1 before.of_stages);
     }

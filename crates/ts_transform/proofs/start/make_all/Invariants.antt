@@ -11,5 +11,5 @@ invariant-loop-at l = record {
   turn : l.cx.log.state.held ≡ true;
   events : SameEvents l.initial.cx.log.state l.cx.log.state;
   len : length l.table.items ≡ l.at;
-  of_stages : AreOfStages l.cx.log.state.pending l.cx.roles 1 l.table.items;
+  of_stages : AreOfStages l.cx.log.state.pending l.cx.roles l.first l.table.items;
 }
