@@ -134,7 +134,13 @@ pub fn compact(store: &mut Vec<u8>, start: &mut usize, filled: &mut usize, room:
 
 /// Begins at the store's front again where it holds nothing and no room is lent. The memory of a large store is given
 /// back then.
-pub fn rewind(store: &mut Vec<u8>, alloc: Global, start: &mut usize, filled: &mut usize, room: usize)
+pub fn rewind(
+    store: &mut Vec<u8>,
+    alloc: Global,
+    start: &mut usize,
+    filled: &mut usize,
+    room: usize,
+)
     requires order { start.old ≤ filled.old }
     requires within { filled.old + room ≤ vec_len store.old }
     ensures bytes { stored start.new filled.new store.new.items ≡ stored start.old filled.old store.old.items }

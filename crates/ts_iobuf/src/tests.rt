@@ -52,7 +52,11 @@ fn two_readers_stand_at_places_of_their_own(rt: HostRuntime) -> Result<(), Fail>
     let rows: [(usize, usize, &[u8]); 3] = [(3, 1, b"def"), (9, 2, b"ef"), (9, 7, b"")];
     for (most, offset, bytes) in rows {
         let (count, added) = copied(&rt, &buffer, r, most, offset)?;
-        assert_eq!(rt; (count, added.as_slice()), (bytes.len(), bytes), "{most} from {offset}");
+        assert_eq!(rt;
+            (count, added.as_slice()),
+            (bytes.len(), bytes),
+            "{most} from {offset}"
+        );
     }
 
     let room = buffer.space();
@@ -79,7 +83,10 @@ fn the_index_of_a_freed_reader_is_used_again(rt: HostRuntime) -> Result<(), Fail
     buffer.free_reader(first);
     assert!(rt; !buffer.is_reader(first) && buffer.is_reader(other));
     let next = buffer.reader()?;
-    assert_eq!(rt; (next.index, next.generation), (first.index, first.generation + 1));
+    assert_eq!(rt;
+        (next.index, next.generation),
+        (first.index, first.generation + 1)
+    );
     assert!(rt; !buffer.is_reader(first) && buffer.is_reader(next));
     assert_eq!(rt; buffer.avail(next), 2);
     Ok(())
