@@ -1,19 +1,25 @@
 mod BodyLemmas
 mod CheckLemmas
+mod CheckedRequest
 mod CutLemmas
 mod ForwardLemmas
-pub mod FrameLemmas
 mod FramingLemmas
 mod HeadLemmas
 mod HexLemmas
 mod LineLemmas
+mod PlainFields
+mod RequestLemmas
+mod ResponseLemmas
+mod SectionLemmas
+mod StepLemmas
+mod TrailerLemmas
+mod TrimTwice
+pub mod FrameLemmas
 pub mod OneBody
 pub mod OneRequest
 pub mod OneResponse
 pub mod PlaceBody
-mod RequestLemmas
-mod ResponseLemmas
-mod SectionLemmas
+pub mod PlainForward
+pub mod SentRequest
+pub mod SentResponse
 pub mod Sizes
-mod StepLemmas
-mod TrailerLemmas
