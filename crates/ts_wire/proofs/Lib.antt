@@ -8,6 +8,7 @@ mod HeadLemmas
 mod HexLemmas
 mod LineLemmas
 mod PlainFields
+pub mod Refusals
 mod RequestLemmas
 mod ResponseLemmas
 mod SectionLemmas

@@ -17,6 +17,7 @@ use Rattle.httparse.specs.Ascii.{crlf_bytes}
 use Rattle.httparse.specs.Grammar as grammar
 use Rattle.httparse.specs.Grammar.{AllPass, is_value_byte, crlf, trim_ows, status_code, ReadsResponse, print_field, print_response}
 use Rattle.httparse.proofs.GrammarLemmas.{print_response-append, response_unique}
+use Rattle.ts_wire.specs.Limits.{body_limit, status_limit}
 use Rattle.ts_wire.specs.declared.fields.Field.{Field}
 use Rattle.ts_wire.specs.declared.framing.ContentLength.TheVariants as L
 use Rattle.ts_wire.specs.declared.framing.Framing.TheVariants as F
@@ -24,7 +25,7 @@ use Rattle.ts_wire.specs.declared.printed.ClientFraming.{ClientFraming}
 use Rattle.ts_wire.specs.declared.printed.ClientFraming.TheVariants.{Nothing, Sized, Chunked, Close}
 use Rattle.ts_wire.specs.Values.{is_comma, members}
 use Rattle.ts_wire.specs.FieldList.{value_in, values_named, members_in, members_named}
-use Rattle.ts_wire.specs.Framing.{body_limit, is_length, content_length, transfer_coding, length_named, coding_named, framing_by, has_no_body}
+use Rattle.ts_wire.specs.Framing.{is_length, content_length, transfer_coding, length_named, coding_named, framing_by, has_no_body}
 use Rattle.ts_wire.specs.Heads.{kept_field}
 use Rattle.ts_wire.specs.Printed.{field_text, fields_text, via_line, status_text, reason_text, framing_line, client_text}
 use Rattle.ts_wire.specs.OneHead.{IsPlainField, HasCrlfLines, IsOne, LeavesFraming, length_said, coding_said, framing_said, EndsAsSaid, IsSendable, SendsResponse, SendsOneResponse}
@@ -116,7 +117,7 @@ digit_is d small = grind (arith, nat_tests)
 digit_passes : (d : ℕ) → d < 10 → is_ascii_digit (48 + d) ≡ true
 digit_passes d small = grind (arith, nat_tests)
 
-status_digits : (status : ℕ) → status ≤ 999 → AllPass is_ascii_digit (status_text status)
+status_digits : (status : ℕ) → status ≤ status_limit → AllPass is_ascii_digit (status_text status)
 status_digits status most =
     let P : ℕ → Type 0 = λ b. IsTrue (is_ascii_digit b) in
     let a = 48 + status / 100 in
@@ -125,7 +126,7 @@ status_digits status most =
     All-cons P a (b ∷ c ∷ []) (digit_passes (status / 100) (omega arith))
     (All-cons P b (c ∷ []) (digit_passes (status / 10 % 10) (omega arith)) (All-cons P c [] (digit_passes (status % 10) (omega arith)) (All-nil P)))
 
-status_value : (status : ℕ) → status ≤ 999 → digits_value 10 (status_text status) ≡ status
+status_value : (status : ℕ) → status ≤ status_limit → digits_value 10 (status_text status) ≡ status
 status_value status most =
     let a = digit_is (status / 100) (omega arith) in
     let b = digit_is (status / 10 % 10) (omega arith) in
@@ -291,7 +292,7 @@ ends_as_said : (status : ℕ) (sent : ClientFraming) (fields : List Field) → l
 ends_as_said status sent fields says codes_ to_head =
     ap (λ f. cond (has_no_body status to_head) F.Nothing f) ((λ i. framing_by 1 (codes_ i) (says i)) ∙ framing_is sent)
 
-sends_response : (status : ℕ) (reason : List ℕ) (fs : List Field) (via : Option ℕ) (sent : ClientFraming) → status ≤ 999 → AllPass is_value_byte reason
+sends_response : (status : ℕ) (reason : List ℕ) (fs : List Field) (via : Option ℕ) (sent : ClientFraming) → status ≤ status_limit → AllPass is_value_byte reason
     → LeavesFraming fs → IsSendable sent → SendsResponse status sent (client_text status reason fs via sent)
 sends_response status reason fs via sent most passes leaves sendable =
     let text = client_text status reason fs via sent in
@@ -322,7 +323,7 @@ sends_response status reason fs via sent most passes leaves sendable =
     }
 
 -- what is printed for a client is one response
-pub sends_one_response : (status : ℕ) (reason : List ℕ) (fields : List Field) (via : Option ℕ) (sent : ClientFraming) → status ≤ 999 → (text : List ℕ)
+pub sends_one_response : (status : ℕ) (reason : List ℕ) (fields : List Field) (via : Option ℕ) (sent : ClientFraming) → status ≤ status_limit → (text : List ℕ)
     → text ≡ client_text status reason fields via sent → SendsOneResponse status reason fields sent text
 sends_one_response status reason fields via sent most text is passes leaves sendable =
     subst (SendsResponse status sent) (sym is) (sends_response status reason fields via sent most passes leaves sendable)

@@ -1,11 +1,13 @@
--- A head that is printed is one head of the grammar (RFC 9112, sections 2 to 5): the text is that head and nothing else, and it can be
--- read in no other way. This is what keeps a request from hiding in another one. The grammar alone speaks here, without this project's
--- limits: a head that is sent on may have a few lines more than the one that was read.
+-- A head that is printed is one head of the grammar (RFC 9112, sections 2 to 5): the text is that head and
+-- nothing else, and it can be read in no other way. This is what keeps a request from hiding in another one. The
+-- grammar alone speaks here, without this project's limits: a head that is sent on may have a few lines more than
+-- the one that was read.
 use Rattle.std.specs.Prelude.{◌≡◌, ℕ, ◌≤◌, ◌⊎◌, Bool, true, List, [], ◌∷◌, map, filter, All, Ok, if◌then◌else◌, codes, ⊤}
 use Rattle.http_header.specs.Token.{lowercase}
 use Rattle.http_header.specs.FieldValue.{IsFieldValue}
 use Rattle.httparse.specs.Grammar as grammar
 use Rattle.httparse.specs.Grammar.{AllPass, IsToken, is_value_byte, LineEnd, crlf, IsRequestHead, ReadsRequest, ReadsResponse, status_code}
+use Rattle.ts_wire.specs.Limits.{body_limit}
 use Rattle.ts_wire.specs.declared.fields.Field.{Field}
 use Rattle.ts_wire.specs.declared.heads.RequestHead.{RequestHead}
 use Rattle.ts_wire.specs.declared.framing.Framing.{Framing}
@@ -15,10 +17,10 @@ use Rattle.ts_wire.specs.declared.framing.ContentLength.TheVariants as L
 use Rattle.ts_wire.specs.declared.framing.TransferCoding.{TransferCoding}
 use Rattle.ts_wire.specs.declared.framing.TransferCoding.TheVariants as C
 use Rattle.ts_wire.specs.declared.printed.ClientFraming.{ClientFraming}
-use Rattle.ts_wire.specs.declared.printed.ClientFraming.TheVariants.{Nothing, Sized, Chunked, Close}
+use Rattle.ts_wire.specs.declared.printed.ClientFraming.TheVariants.{Sized, Chunked}
 use Rattle.ts_wire.specs.FieldList.{is_named, values_named}
 use Rattle.ts_wire.specs.Forward.{forwarded}
-use Rattle.ts_wire.specs.Framing.{body_limit, length_named, coding_named, has_no_body, framing}
+use Rattle.ts_wire.specs.Framing.{length_named, coding_named, has_no_body, framing}
 use Rattle.ts_wire.specs.Heads.{kept_field, KeepsRequest}
 use Rattle.ts_wire.specs.Check.{begins_with_slash, check}
 
@@ -28,7 +30,8 @@ pub record IsOne {H : Type 0} (Reads : List ℕ → H → List ℕ → Type 0) (
   pub only : (other : H) (rest : List ℕ) → Reads text other rest → (other ≡ head) × (rest ≡ [])
 
 -- every line of a head ends in CR LF, which all readers take alike, and none is empty but the last
-pub record HasCrlfLines (blank : List LineEnd) (start : LineEnd) (fields : List grammar.Field) (last : LineEnd) : Type 0 where
+pub record HasCrlfLines (blank : List LineEnd) (start : LineEnd) (fields : List grammar.Field) (last : LineEnd)
+    : Type 0 where
   pub none_before : blank ≡ []
   pub start_line : start ≡ crlf
   pub field_lines : All (λ f. f.end ≡ crlf) fields
@@ -67,7 +70,8 @@ pub record LeavesFraming (fields : List Field) : Type 0 where
   pub lengths : values_named (codes "content-length") fields ≡ []
   pub codings : values_named (codes "transfer-encoding") fields ≡ []
 
--- fields as header rules make them of those that are sent on: any of them may be changed, but for Host and those that the proxy says itself
+-- fields as header rules make them of those that are sent on: any may be changed, but for Host and those that the
+-- proxy says itself
 pub record IsChangeOf (sent fields : List Field) : Type 0 where
   pub leaves : LeavesFraming fields
   pub hosts : filter (is_named (codes "host")) fields ≡ filter (is_named (codes "host")) sent
@@ -78,39 +82,38 @@ pub record IsReadRequest (head : RequestHead) : Type 0 where
   pub good : IsRequestHead parsed
   pub keeps : KeepsRequest parsed head
 
--- a request that was read and passed the check is sent as one request, whatever header rules did to its other fields
+-- a request that was read and passed the check is sent as one request, whatever header rules did to its other
+-- fields
 abbrev pub SendsOneRequest : RequestHead → List ℕ → List ℕ → List Field → List ℕ → Type 0
 SendsOneRequest head target host fields text =
-    IsReadRequest head → check head ≡ Ok (target, host) → IsChangeOf (forwarded head.fields) fields → SendsRequest head.method target host text
+    IsReadRequest head → check head ≡ Ok (target, host) → IsChangeOf (forwarded head.fields) fields
+    → SendsRequest head.method target host text
 
 -- with no header rule at all, the fields that are sent on are such
 abbrev pub ForwardsUnchanged : RequestHead → Type 0
 ForwardsUnchanged head = IsReadRequest head → IsChangeOf (forwarded head.fields) (forwarded head.fields)
 
--- what a head says of the length and the coding, whose body is to end so
+-- what a head says of the length, whose body is to end so
 abbrev pub length_said : ClientFraming → ContentLength
-length_said Nothing = L.Absent
 length_said (Sized n) = L.Valid n
-length_said Chunked = L.Absent
-length_said Close = L.Absent
+length_said _ = L.Absent
 
+-- what it says of the coding
 abbrev pub coding_said : ClientFraming → TransferCoding
-coding_said Nothing = C.Absent
-coding_said (Sized n) = C.Absent
 coding_said Chunked = C.Chunked
-coding_said Close = C.Absent
+coding_said _ = C.Absent
 
 -- where a reader then sees its end, in a response that may have a body
 abbrev pub framing_said : ClientFraming → Framing
-framing_said Nothing = F.UntilClose
 framing_said (Sized n) = F.Sized n
 framing_said Chunked = F.Chunked
-framing_said Close = F.UntilClose
+framing_said _ = F.UntilClose
 
 -- the framing that is read is the one that was printed, in an answer to a HEAD and to another request
 abbrev pub EndsAsSaid : ℕ → ClientFraming → List Field → Type 0
 EndsAsSaid status sent fields =
-    (to_head : Bool) → framing status 1 fields to_head ≡ (if has_no_body status to_head then F.Nothing else framing_said sent)
+    (to_head : Bool) → framing status 1 fields to_head
+    ≡ (if has_no_body status to_head then F.Nothing else framing_said sent)
 
 -- the text is one response with this status, whose body ends as its head was to say
 pub record SendsResponse (status : ℕ) (sent : ClientFraming) (text : List ℕ) : Type 0 where
@@ -126,10 +129,8 @@ pub record SendsResponse (status : ℕ) (sent : ClientFraming) (text : List ℕ)
 
 -- a length that can be read back
 abbrev pub IsSendable : ClientFraming → Type 0
-IsSendable Nothing = ⊤
 IsSendable (Sized n) = n ≤ body_limit
-IsSendable Chunked = ⊤
-IsSendable Close = ⊤
+IsSendable _ = ⊤
 
 -- fields that leave the framing to the proxy are sent to the client as one response
 abbrev pub SendsOneResponse : ℕ → List ℕ → List Field → ClientFraming → List ℕ → Type 0
@@ -138,4 +139,5 @@ SendsOneResponse status reason fields sent text =
 
 -- the fields of a head that was read leave it to the proxy, once those that end at this hop are gone
 abbrev pub ForwardsPlainly : Type 0
-ForwardsPlainly = (fields : List grammar.Field) → All grammar.IsField fields → LeavesFraming (forwarded (map kept_field fields))
+ForwardsPlainly =
+    (fields : List grammar.Field) → All grammar.IsField fields → LeavesFraming (forwarded (map kept_field fields))

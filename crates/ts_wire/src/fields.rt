@@ -1,4 +1,4 @@
-//! The fields of a head.
+//! A head has a list of fields, each with a name in lower case and a value.
 ghost use Rattle.std.specs.Prelude.{◌≡◌, ◌++◌, ◌∷◌, [], not, filter, bytes_eq, IfOk, OnOk, OnErr};
 ghost use Rattle.ts_wire.specs.FieldList.{is_named};
 

@@ -2,6 +2,7 @@
 ghost use Rattle.std.specs.Prelude.{◌≡◌, ◌<◌, ◌≤◌, ◌+◌, ◌*◌, ◌/◌, ◌%◌, ◌++◌, ◌∷◌, [], List, ℕ, nat_lt, decimal, codes, flat_map, IfOk, OnOk, IfSome};
 ghost use Rattle.std.specs.List.{list_all, list_any};
 ghost use Rattle.httparse.specs.Ascii.{crlf_bytes};
+ghost use Rattle.ts_wire.specs.Limits.{status_limit};
 ghost use Rattle.ts_wire.specs.FieldList.{is_named};
 ghost use Rattle.ts_wire.specs.Check.{is_absolute};
 ghost use Rattle.ts_wire.specs.OneHead.{SendsOneRequest, ForwardsUnchanged, SendsOneResponse, ForwardsPlainly};
@@ -61,7 +62,7 @@ fn via_of(via: Option<u8>) -> &'static [u8]
 }
 
 fn status_digits(status: u16) -> [u8; 3]
-    requires { status ≤ 999 }
+    requires { status ≤ status_limit }
     ensures { result ≡ status_text status }
 {
     [
@@ -118,7 +119,7 @@ fn client_text(
     via: Option<u8>,
     framing: ClientFraming,
 ) -> Result<Octets, NoMemory>
-    requires status { status ≤ 999 }
+    requires status { status ≤ status_limit }
     requires via { IfSome via (λ minor. minor ≤ 1) }
     ensures { IfOk result (λ text. text ≡ client_text status reason.now fields.now via framing) }
 {
@@ -136,7 +137,8 @@ fn client_text(
     Ok(Octets::of_vec(out))
 }
 
-/// The head that the client gets. `via` is the minor version of the origin's head, and `None` for an answer of the proxy's own.
+/// The head that the client gets. `via` is the minor version of the origin's head, and `None` for an answer of
+/// the proxy's own.
 pub fn client_head(
     alloc: Global,
     status: u16,
@@ -145,7 +147,7 @@ pub fn client_head(
     via: Option<u8>,
     framing: ClientFraming,
 ) -> Result<Octets, NoMemory>
-    requires status { status ≤ 999 }
+    requires status { status ≤ status_limit }
     requires via { IfSome via (λ minor. minor ≤ 1) }
     ensures text { IfOk result (λ text. text ≡ client_text status reason.now fields.now via framing) }
 
@@ -187,7 +189,8 @@ fn add_request_fields(
     host: &[u8],
     fields: &[Field],
 ) -> Result<(), NoMemory>
-    ensures { OnOk result (out.new.items ≡ out.old.items ++ flat_map (request_field_text absolute host.now) fields.now) }
+    ensures { OnOk result (out.new.items ≡ out.old.items
+        ++ flat_map (request_field_text absolute host.now) fields.now) }
 {
     for field in fields {
         add_request_field(out, absolute, host, field)?;
@@ -234,8 +237,8 @@ fn origin_text(
     Ok(Octets::of_vec(out))
 }
 
-/// The head that the origin gets: the request's method, with this target, host and fields. For an absolute target
-/// the host stands in place of the value of a Host field; where there is none, one is put first.
+/// The head that the origin gets: the request's method, with this target, host and fields. For an absolute
+/// target the host stands in place of the value of a Host field; where there is none, one is put first.
 pub fn origin_head(
     alloc: Global,
     head: &RequestHead,
@@ -246,7 +249,7 @@ pub fn origin_head(
     ensures text { IfOk result (λ text. text ≡ origin_text head.now.method
         (is_absolute head.now.target) head.now.minor target.now host.now fields.now) }
 
-    // A request that was read and passed the check is sent as exactly one request, for the host that it named.
+    // A request that was read and passed the check is sent as exactly one request, for its own host.
     ensures one_head { IfOk result (SendsOneRequest head.now target.now host.now fields.now) }
 
     // The law that this holds of the fields that are sent on with no header rule.

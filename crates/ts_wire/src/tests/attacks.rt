@@ -1,4 +1,5 @@
-//! Messages that are made so that two readers may take them in two ways (request smuggling), and what this reader says of each.
+//! Messages made to be taken in two ways by two readers (request smuggling), and the one way in which they are
+//! taken here.
 
 use crate::Framing;
 use crate::tests::rows::{Asked, check_rows};

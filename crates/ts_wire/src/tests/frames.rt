@@ -2,7 +2,7 @@
 ghost use Rattle.std.specs.Prelude.{◌<◌, ◌≤◌, length};
 
 use crate::tests::rows::filled;
-use crate::{Mode, frame_end, frame_piece};
+use crate::{MAX_PIECE, Mode, frame_end, frame_piece};
 use std::alloc::Global;
 use std::test::Fail;
 use ts_iobuf::IoBuffer;
@@ -11,7 +11,7 @@ use ts_link::NoMemory;
 /// The piece in a chunk, a byte as it is, and both ends.
 fn framed(alloc: Global, piece: &[u8]) -> Result<Vec<u8>, NoMemory>
     requires some { 0 < length piece.now }
-    requires most { length piece.now ≤ 32768 }
+    requires most { length piece.now ≤ MAX_PIECE }
 {
     let mut out = IoBuffer::new(alloc)?;
     let reader = out.reader()?;
@@ -45,7 +45,7 @@ const CHUNK_LINES: [(usize, &[u8]); 9] = [
 fn frames_pieces(rt: HostRuntime) -> Result<(), Fail> {
     for (len, line) in CHUNK_LINES {
         let piece = filled(rt.alloc(), b"", b"", len)?;
-        assert!(rt; !piece.is_empty() && piece.len() <= 32768);
+        assert!(rt; !piece.is_empty() && piece.len() <= MAX_PIECE);
         let mut want = Vec::from_slice(rt.alloc(), line)?;
         want.extend_from_slice(piece.as_slice())?;
         want.extend_from_slice(b"\r\n-0\r\n\r\n")?;
