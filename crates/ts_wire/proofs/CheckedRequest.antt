@@ -80,7 +80,7 @@ begins_after (b ∷ bs) = by_test (ends_authority b) refl (begins_after bs)
 -- the bytes after an ASCII byte's place are text where all are
 text_after : (front after : List ℕ) → IsUtf8 (front ++ after) → BeginsAfter after → IsUtf8 after
 text_after front after text begins = elim begins as (λ _. IsUtf8 after) [
-  inl none ↦ subst IsUtf8 (sym none) IsUtf8-nil
+  | inl none ↦ subst IsUtf8 (sym none) IsUtf8-nil
   | inr some ↦ at_byte some.0 some.1 some.2 some.3
 ]
   where
@@ -114,7 +114,7 @@ sent_good method (b ∷ bs) bytes text begins = by_test (eqb b 63) refl
   where
     ends : ends_authority b ≡ true
     ends = elim begins as (λ _. ends_authority b ≡ true) [
-      inl none ↦ absurd (let e : b ∷ bs ≡ [] = none in cc)
+      | inl none ↦ absurd (let e : b ∷ bs ≡ [] = none in cc)
       | inr some ↦ let e : b ∷ bs ≡ some.0 ∷ some.1 = some.2 in let same : b ≡ some.0 = cc in ap ends_authority same ∙ some.3
     ]
 

@@ -5,6 +5,7 @@ mod CutLemmas
 mod ForwardLemmas
 mod FramingLemmas
 mod HeadLemmas
+pub mod HeaderRules
 mod HexLemmas
 mod LineLemmas
 mod PlainFields

@@ -12,6 +12,7 @@ use Rattle.httparse.proofs.GrammarLemmas.{request_unique, ReadsRequest-append}
 use Rattle.ts_wire.specs.declared.fields.Field.{Field}
 use Rattle.ts_wire.specs.declared.heads.RequestHead as kept
 use Rattle.ts_wire.specs.Heads.{BeginsWithRequest, KeepsRequest, IsRequestOf, IsOneRequest, LacksRequest}
+use Rattle.ts_wire.specs.OneHead.{IsReadRequest}
 
 pub one_request : (bytes : List ℕ) (h k : RequestHead) (r q : List ℕ) → BeginsWithRequest bytes h r → BeginsWithRequest bytes k q → (h ≡ k) × (r ≡ q)
 one_request bytes h k r q a b = request_unique bytes h k r q a.reads b.reads
@@ -34,6 +35,10 @@ pub is_one_request : (bytes : List ℕ) (head : kept.RequestHead) (used : ℕ) �
 is_one_request bytes head used is h rest begins =
     let same = one_request bytes is.parsed h (drop used bytes) rest is.begins begins in
     (subst (λ p. KeepsRequest p head) same.0 is.keeps, sym same.1)
+
+-- every head that is read is kept of a head of the grammar
+pub was_read : (bytes : List ℕ) (head : kept.RequestHead) (used : ℕ) → IsRequestOf bytes head used → IsReadRequest head
+was_read bytes head used is = record { parsed = is.parsed; good = is.begins.reads.0; keeps = is.keeps }
 
 -- the parts of a head, without the fact on its version
 abbrev Parts : Type 0

@@ -2,7 +2,7 @@
 -- nothing else, and it can be read in no other way. This is what keeps a request from hiding in another one. The
 -- grammar alone speaks here, without this project's limits: a head that is sent on may have a few lines more than
 -- the one that was read.
-use Rattle.std.specs.Prelude.{◌≡◌, ℕ, ◌≤◌, ◌⊎◌, Bool, true, List, [], ◌∷◌, map, filter, All, Ok, if◌then◌else◌, codes, ⊤}
+use Rattle.std.specs.Prelude.{◌≡◌, ℕ, ◌≤◌, ◌⊎◌, Bool, true, false, List, [], ◌∷◌, map, filter, All, Ok, if◌then◌else◌, codes, bytes_eq, ⊤}
 use Rattle.http_header.specs.Token.{lowercase}
 use Rattle.http_header.specs.FieldValue.{IsFieldValue}
 use Rattle.httparse.specs.Grammar as grammar
@@ -75,6 +75,22 @@ pub record LeavesFraming (fields : List Field) : Type 0 where
 pub record IsChangeOf (sent fields : List Field) : Type 0 where
   pub leaves : LeavesFraming fields
   pub hosts : filter (is_named (codes "host")) fields ≡ filter (is_named (codes "host")) sent
+
+-- a name that a header rule may set, add or remove: neither Host nor one that the proxy says itself
+pub record IsFree (name : List ℕ) : Type 0 where
+  pub host : bytes_eq name (codes "host") ≡ false
+  pub connection : bytes_eq name (codes "connection") ≡ false
+  pub length : bytes_eq name (codes "content-length") ≡ false
+  pub coding : bytes_eq name (codes "transfer-encoding") ≡ false
+
+-- where fields are a change of those that are sent on, they still are with this field put at the end
+abbrev pub MayAdd : List Field → Field → List Field → Type 0
+MayAdd old field new =
+    (sent : List Field) → IsChangeOf sent old → IsPlainField field → IsFree field.name → IsChangeOf sent new
+
+-- and without the fields of this name
+abbrev pub MayRemove : List Field → List ℕ → List Field → Type 0
+MayRemove old name new = (sent : List Field) → IsChangeOf sent old → IsFree name → IsChangeOf sent new
 
 -- the head is kept of a head of the grammar, as every head is that `read_request` gives
 pub record IsReadRequest (head : RequestHead) : Type 0 where

@@ -160,6 +160,7 @@ pub fn coding_of(fields: &Fields) -> TransferCoding
 
 // The statuses beside 1xx of a response that has no body (RFC 9110, sections 15.3.5 and 15.4.5).
 const NO_CONTENT: u16 = 204;
+
 const NOT_MODIFIED: u16 = 304;
 
 fn has_no_body(status: u16, to_head: bool) -> bool

@@ -50,6 +50,8 @@ GET / HTTP/1.1\r\nHost: a\r\nhOST: a\r\n\r\n => 400
 GET / HTTP/1.0\r\nHost: a\r\nHost: b\r\n\r\n => 400
 GET http://b/ HTTP/1.1\r\nHost: a\r\nHost: b\r\n\r\n => 400
 GET http://b/ HTTP/1.1\r\n\r\n => 400
+# one Host field is one host, whatever stands in it
+GET / HTTP/1.1\r\nHost: a, b\r\n\r\n => / a, b
 # userinfo, and a fragment, in an absolute target (RFC 9110, section 4.2.4; RFC 9112, section 3.2.2)
 GET http://u@b/c HTTP/1.1\r\nHost: a\r\n\r\n => 400
 GET http://u:p@b HTTP/1.1\r\nHost: a\r\n\r\n => 400

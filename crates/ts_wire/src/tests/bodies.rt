@@ -1,7 +1,7 @@
 //! Bodies that are read, each in pieces of 1, of 2 and of all of its bytes.
 
-use crate::tests::rows::{Asked, answer, check_rows, filled, with_lines};
 use crate::Framing;
+use crate::tests::rows::{Asked, answer, check_rows, filled, with_lines};
 use std::test::Fail;
 
 const NOTHING: &str = r"

@@ -44,6 +44,7 @@ const SENT: &str = r"
 GET /index.html HTTP/1.1\r\nHost: www.example.com\r\nUser-Agent: curl/8.5.0\r\nAccept: */*\r\n\r\n => GET /index.html HTTP/1.1\r\nhost: www.example.com\r\nuser-agent: curl/8.5.0\r\naccept: */*\r\nvia: 1.1 tsx\r\nconnection: close\r\n\r\n
 # an absolute target's authority stands in the place of Host, and a Host that lacks is put first
 GET http://b?q HTTP/1.1\r\nA: 1\r\nHost: a\r\n\r\n => GET /?q HTTP/1.1\r\na: 1\r\nhost: b\r\nvia: 1.1 tsx\r\nconnection: close\r\n\r\n
+GET http://h\xc3\xa9?\xc3\xa9 HTTP/1.1\r\nHost: a\r\n\r\n => GET /?\xc3\xa9 HTTP/1.1\r\nhost: h\xc3\xa9\r\nvia: 1.1 tsx\r\nconnection: close\r\n\r\n
 GET / HTTP/1.0\r\nA: 1\r\n\r\n => GET / HTTP/1.1\r\nhost: \r\na: 1\r\nvia: 1.0 tsx\r\nconnection: close\r\n\r\n
 ";
 
@@ -178,7 +179,8 @@ fn prints_an_answer_of_its_own(rt: HostRuntime) -> Result<(), Fail> {
     })?;
     let framing = ClientFraming::Sized(14);
     let own = client_head(rt.alloc(), 403, b"Forbidden", &fields, None, framing)?;
-    let want: &[u8] = b"HTTP/1.1 403 Forbidden\r\ncontent-type: text/plain\r\ncontent-length: 14\r\nconnection: close\r\n\r\n";
+    let want: &[u8] =
+        b"HTTP/1.1 403 Forbidden\r\ncontent-type: text/plain\r\ncontent-length: 14\r\nconnection: close\r\n\r\n";
     assert_eq!(rt; own.bytes(), want);
     fields.remove_all(&HeaderName::from_static("content-type"));
     assert_eq!(rt; fields.items().len(), 0);
