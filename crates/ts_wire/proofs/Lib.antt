@@ -8,7 +8,7 @@ mod HeadLemmas
 pub mod HeaderRules
 mod HexLemmas
 mod LineLemmas
-mod PlainFields
+pub mod PlainFields
 pub mod Refusals
 mod RequestLemmas
 mod ResponseLemmas

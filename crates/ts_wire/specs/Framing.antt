@@ -4,7 +4,7 @@ use Rattle.std.specs.List.{list_all}
 use Rattle.std.specs.Char.{is_ascii_digit}
 use Rattle.std.specs.Str.{str_eq_ignore_ascii_case}
 use Rattle.std.specs.Str.Parse.{digits_value}
-use Rattle.ts_wire.specs.Limits.{no_content, not_modified, body_limit}
+use Rattle.ts_wire.specs.Limits.{no_content, not_modified, body_limit, word_limit}
 use Rattle.ts_wire.specs.declared.fields.Field.{Field}
 use Rattle.ts_wire.specs.declared.framing.ContentLength.{ContentLength}
 use Rattle.ts_wire.specs.declared.framing.ContentLength.TheVariants as L
@@ -71,7 +71,7 @@ framing status minor fields to_head =
 -- the number that the text writes, where it is a number that a u64 holds
 abbrev pub number_in : List ℕ → Option ℕ
 number_in m =
-    if nat_lt 0 (length m) && (list_all is_ascii_digit m && nat_lt (digits_value 10 m) (2 ^ 64))
+    if nat_lt 0 (length m) && (list_all is_ascii_digit m && nat_lt (digits_value 10 m) word_limit)
     then Some (digits_value 10 m) else None
 
 -- what the fields come to with one member more

@@ -1,5 +1,5 @@
 -- The numbers that the definitions of this crate name; each stands in the code as a constant too.
-use Rattle.std.specs.Prelude.{ℕ}
+use Rattle.std.specs.Prelude.{ℕ, ◌^◌}
 
 -- how many bytes a head may have
 abbrev pub head_limit : ℕ
@@ -16,6 +16,10 @@ status_limit = 999
 -- how many bytes the body of a message may have: 2^63 - 1
 abbrev pub body_limit : ℕ
 body_limit = 9223372036854775807
+
+-- the numbers below it are those that a `u64` holds
+abbrev pub word_limit : ℕ
+word_limit = 2 ^ 64
 
 -- how many bytes a chunk line may have
 abbrev pub line_limit : ℕ

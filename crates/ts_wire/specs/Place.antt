@@ -11,7 +11,7 @@ use Rattle.ts_wire.specs.declared.body.BodyState.{BodyState}
 use Rattle.ts_wire.specs.declared.body.BodyState.TheVariants as S
 use Rattle.ts_wire.specs.declared.body.BodyReader.TheInside.{Inside}
 use Rattle.ts_wire.specs.declared.body.Fed.{Fed}
-use Rattle.ts_wire.specs.Limits.{body_limit, line_limit, trailer_limit, trailer_lines}
+use Rattle.ts_wire.specs.Limits.{body_limit, line_limit, trailer_limit, trailer_lines, word_limit}
 use Rattle.ts_wire.specs.Body.{line_feeds, AfterChunks, InChunk, InTrailer, IsEndedChunked, IsBadChunked, BodyOf}
 
 -- how far the body is
@@ -42,7 +42,7 @@ part_number Bad = 8
 
 -- what of a chunk line or a trailer section was kept is not whole, and the body is not too long
 abbrev pub IsSoundPhase : Phase → List ℕ → ℕ → Type 0
-IsSoundPhase (Counted left) held total = (0 < left) × (total + left < 2 ^ 64)
+IsSoundPhase (Counted left) held total = (0 < left) × (total + left < word_limit)
 IsSoundPhase Open held total = total ≤ body_limit
 IsSoundPhase Line held total = (length held < line_limit) × (total ≤ body_limit) × HasNoChunkLine held
 IsSoundPhase (Content left) held total = (held ≡ []) × (0 < left) × (total + left ≤ body_limit)
@@ -92,7 +92,7 @@ pub record StepsOn (old : Phase) (held : List ℕ) (total : ℕ) (bytes : List �
       0 < length bytes → state_of old ≡ S.Unfinished → (0 < step.taken) ⊎ (state_of step.phase ≢ S.Unfinished)
   pub rests : state_of old ≢ S.Unfinished → step.taken ≡ 0
   pub stays : state_of old ≢ S.Unfinished → state_of step.phase ≡ state_of old
-  pub fits : total + (step.to - step.from) < 2 ^ 64
+  pub fits : total + (step.to - step.from) < word_limit
   pub room : room_of step.phase ≤ room_of old
   pub sound : IsSoundPhase step.phase held' (total + (step.to - step.from))
   pub goes :
@@ -110,7 +110,7 @@ place_of r = record { phase = r.phase; held = r.held.items; total = r.total }
 
 abbrev pub IsSound : Inside → Type 0
 IsSound r =
-    (room_of r.phase ≤ vec_capacity r.held) × (r.total < 2 ^ 64) × IsSoundPhase r.phase r.held.items r.total
+    (room_of r.phase ≤ vec_capacity r.held) × (r.total < word_limit) × IsSoundPhase r.phase r.held.items r.total
 
 -- a reader for this framing that was fed these bytes has given this body
 pub record IsFed (framing : Framing) (fed body : List ℕ) (place : Place) : Type 0 where

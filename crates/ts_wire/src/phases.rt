@@ -1,6 +1,6 @@
 //! A reader of bodies stands in one of these phases, and takes a step in each.
 ghost use Rattle.std.specs.Prelude.{◌≡◌, ◌+◌, ◌-◌, ◌^◌, ◌<◌, ◌≤◌, ◌++◌, [], List, ℕ, length, min, vec_len, vec_capacity, if◌then◌else◌};
-ghost use Rattle.ts_wire.specs.Limits.{body_limit, line_limit, trailer_limit};
+ghost use Rattle.ts_wire.specs.Limits.{body_limit, line_limit, trailer_limit, word_limit};
 ghost use Rattle.ts_wire.specs.Body.{line_feeds};
 ghost use Rattle.ts_wire.specs.Judged.{JudgesLine, JudgesTrailer, phase_after, is_line, is_trailer};
 ghost use Rattle.ts_wire.specs.Place.{room_of, IsSoundPhase, StepsOn};
@@ -336,7 +336,7 @@ fn line_step(held: &mut Vec<u8>, total: u64, bytes: &[u8]) -> Step
 
 fn trailer_step(held: &mut Vec<u8>, total: u64, bytes: &[u8]) -> Step
     requires sound { IsSoundPhase Phase.Trailer held.old.items total }
-    requires total { total < 2 ^ 64 }
+    requires total { total < word_limit }
     requires room { trailer_limit ≤ vec_capacity held.old }
     ensures steps { StepsOn Phase.Trailer held.old.items total bytes.now result held.new.items }
     ensures room { vec_capacity held.old ≤ vec_capacity held.new }
@@ -357,7 +357,7 @@ fn trailer_step(held: &mut Vec<u8>, total: u64, bytes: &[u8]) -> Step
 /// The step of a reader in this phase.
 pub(crate) fn next_step(phase: Phase, held: &mut Vec<u8>, total: u64, bytes: &[u8]) -> Step
     requires sound { IsSoundPhase phase held.old.items total }
-    requires total { total < 2 ^ 64 }
+    requires total { total < word_limit }
     requires room { room_of phase ≤ vec_capacity held.old }
     ensures steps { StepsOn phase held.old.items total bytes.now result held.new.items }
     ensures room { vec_capacity held.old ≤ vec_capacity held.new }
