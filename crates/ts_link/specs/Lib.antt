@@ -1,6 +1,12 @@
 pub mod Counts
 pub mod Files
+pub mod InputView
+pub mod Inputs
+pub mod Link
+pub mod LinkAnswers
+pub mod MemLink
 pub mod MemShelf
 pub mod MemSink
+pub mod Numbered
 pub mod Shelf
 pub mod Sink

@@ -1,6 +1,7 @@
-use Rattle.std.specs.Prelude.{◌≡◌, ℕ, ◌==◌, ◌<◌, ◌≤◌, List, length, Bool, false, Some, None, IsSomeAnd, Result, Ok, Err}
-use Rattle.std.specs.List.{list_any}
+-- What contracts see of a shelf in memory, and exactly what its calls do.
+use Rattle.std.specs.Prelude.{◌≡◌, ℕ, ◌<◌, ◌≤◌, List, length, false, Some, None, IsSomeAnd, Result, Ok, Err}
 use Rattle.ts_link.specs.Files.{file_in}
+use Rattle.ts_link.specs.Numbered.{is_listed}
 use Rattle.ts_link.specs.declared.shelf.ShelfFault.{ShelfFault}
 use Rattle.ts_link.specs.declared.shelf.ShelfFault.TheVariants.{Failed, TooLong, NoMemory}
 use Rattle.ts_link.specs.declared.octets.Octets.{Octets}
@@ -13,17 +14,13 @@ pub record ShelfState : Type 0 where
   pub faults : ℕ
   pub longs : ℕ
 
--- whether a call of this number is to fail
-abbrev pub fails_at : ℕ → List ℕ → Bool
-fails_at call failing = list_any (λ y. y == call) failing
-
 -- a shelf in memory fails exactly at the calls of its list and where it has no file of the name; a file that is
 -- too long was seen whole
-abbrev pub ReadsAt : ShelfState → ShelfState → List ℕ → ℕ → Result Octets ShelfFault → Type 0
-ReadsAt old new name most (Ok bytes) =
-    (fails_at new.calls old.failing ≡ false) × (file_in old.files name ≡ Some bytes) × (length bytes ≤ most)
-ReadsAt old new name most (Err Failed) = fails_at new.calls old.failing ≡ false → file_in old.files name ≡ None
-ReadsAt old new name most (Err (TooLong seen)) =
-    (fails_at new.calls old.failing ≡ false) × IsSomeAnd (file_in old.files name) (λ bytes. (seen ≡ length bytes) × (most < length bytes))
-ReadsAt old new name most (Err NoMemory) =
-    (fails_at new.calls old.failing ≡ false) × IsSomeAnd (file_in old.files name) (λ bytes. length bytes ≤ most)
+abbrev pub ReadsAt : ShelfState → List ℕ → ℕ → Result Octets ShelfFault → Type 0
+ReadsAt old name most (Ok bytes) =
+    (is_listed old.calls old.failing ≡ false) × (file_in old.files name ≡ Some bytes) × (length bytes ≤ most)
+ReadsAt old name most (Err Failed) = is_listed old.calls old.failing ≡ false → file_in old.files name ≡ None
+ReadsAt old name most (Err (TooLong seen)) =
+    (is_listed old.calls old.failing ≡ false) × IsSomeAnd (file_in old.files name) (λ bytes. (seen ≡ length bytes) × (most < length bytes))
+ReadsAt old name most (Err NoMemory) =
+    (is_listed old.calls old.failing ≡ false) × IsSomeAnd (file_in old.files name) (λ bytes. length bytes ≤ most)

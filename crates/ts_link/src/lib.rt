@@ -1,17 +1,32 @@
-//! The outside of the program as traits with counts: files that are read and sinks that are written to,
-//! and forms of both in memory.
+//! The outside of the program as traits with counts: links that bytes are read from and written to, files
+//! that are read, sinks that are written to, clocks and gates; and a form of each in memory.
 #![tactic(auto)]
 
+mod clock;
+mod copying;
+mod cut_input;
+mod gate;
+mod input;
+mod link;
+mod mem_link;
 mod mem_shelf;
 mod mem_sink;
+mod numbered;
 mod octets;
+mod piece;
+mod piece_input;
 mod shelf;
 mod sink;
 #[cfg(test)]
 mod tests;
 
+pub use clock::{Clock, StepClock};
+pub use gate::{Gate, MeetGate, OpenGate};
+pub use link::{Got, Link, Put};
+pub use mem_link::MemLink;
 pub use mem_shelf::MemShelf;
 pub use mem_sink::MemSink;
 pub use octets::{NoMemory, Octets};
+pub use piece::Piece;
 pub use shelf::{Shelf, ShelfFault};
 pub use sink::{Sink, Wrote};

@@ -1,15 +1,18 @@
-ghost use Rattle.std.specs.Prelude.{◌≡◌, ℕ, ◌+◌, ◌-◌, ◌^◌, ◌++◌, ◌∷◌, [], List, Option, map, min, true, OnOk, OnErr};
+//! A shelf in memory.
+ghost use Rattle.std.specs.Prelude.{◌≡◌, ◌++◌, ◌∷◌, [], map, true, OnOk, OnErr};
 ghost use Rattle.std.specs.Option.{option_copied};
-ghost use Rattle.ts_link.specs.Counts.{Counted};
+ghost use Rattle.ts_link.specs.Counts.{Counted, one_more};
 ghost use Rattle.ts_link.specs.Files.{file_in};
 ghost use Rattle.ts_link.specs.Shelf.{KeepsLimit, ReadsFile, is_read_fault, is_too_long};
 ghost use Rattle.ts_link.specs.MemShelf.{ShelfState, ReadsAt};
 
+use crate::numbered::is_listed;
 use crate::octets::{NoMemory, Octets};
 use crate::shelf::{Shelf, ShelfFault};
 use std::alloc::Global;
 use std::marker::Model;
 
+// A file, with its name.
 #[derive(Drop)]
 struct StoredFile {
     name: Octets,
@@ -56,7 +59,8 @@ impl MemShelf {
 
     /// Adds a file. Of two of one name the first is read.
     pub fn add(&mut self, name: &str, bytes: &[u8]) -> Result<(), NoMemory>
-        ensures ok { OnOk result (self.new ≡ record self.old { files = self.old.files ++ (name.now, bytes.now) ∷ [] }) }
+        ensures ok { OnOk result (self.new ≡
+            record self.old { files = self.old.files ++ (name.now, bytes.now) ∷ [] }) }
         ensures err { OnErr result (self.new ≡ self.old) }
     {
         let name = Octets::copy_of(self.alloc, name.as_bytes())?;
@@ -65,7 +69,8 @@ impl MemShelf {
         Ok(())
     }
 
-    /// Has the read call of this number, counted from 1, fail.
+    /// Has the read call of this number, counted from 1, fail. A call after as many as the greatest `u64` has
+    /// none.
     pub fn fail_at(&mut self, call: u64) -> Result<(), NoMemory>
         ensures ok { OnOk result (self.new ≡ record self.old { failing = self.old.failing ++ call ∷ [] }) }
         ensures err { OnErr result (self.new ≡ self.old) }
@@ -102,12 +107,13 @@ impl Shelf for MemShelf {
         ensures files { file_in self.new.files ≡ file_in self.old.files }
         ensures faults { Counted (is_read_fault result) self.old.faults self.new.faults }
         ensures longs { Counted (is_too_long result) self.old.longs self.new.longs }
-        ensures call { self.new.calls ≡ min (self.old.calls + 1) (2 ^ 64 - 1) }
-        ensures exact { ReadsAt self.old self.new name.now most result }
+        ensures call { self.new.calls ≡ one_more self.old.calls }
+        ensures exact { ReadsAt self.old name.now most result }
         ensures kept { (self.new.files ≡ self.old.files) × (self.new.failing ≡ self.old.failing) }
     {
+        let fails = is_listed(self.calls, self.failing.as_slice());
         self.calls = self.calls.saturating_add(1);
-        if self.failing.contains(&self.calls) {
+        if fails {
             self.faults = self.faults.saturating_add(1);
             return Err(ShelfFault::Failed);
         }

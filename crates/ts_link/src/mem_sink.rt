@@ -1,8 +1,10 @@
-ghost use Rattle.std.specs.Prelude.{◌≡◌, ℕ, ◌+◌, ◌-◌, ◌^◌, ◌<◌, ◌≤◌, ◌++◌, List, [], length, min, true};
-ghost use Rattle.ts_link.specs.Counts.{Counted};
+//! A sink in memory.
+ghost use Rattle.std.specs.Prelude.{◌≡◌, ◌<◌, ◌≤◌, ◌++◌, [], length, true};
+ghost use Rattle.ts_link.specs.Counts.{Counted, one_more};
 ghost use Rattle.ts_link.specs.Sink.{TakesSome, is_fault, is_lack, taken_of};
-ghost use Rattle.ts_link.specs.MemSink.{SinkState, WritesAt};
+ghost use Rattle.ts_link.specs.MemSink.{SinkState, WritesAt, fresh_sink};
 
+use crate::numbered::is_listed;
 use crate::sink::{Sink, Wrote};
 use std::alloc::Global;
 use std::marker::Model;
@@ -35,10 +37,10 @@ impl Model for MemSink {
 
 impl MemSink {
     /// A sink that takes at most `take` bytes a call, and fails at the write calls of these numbers,
-    /// counted from 1.
+    /// counted from 1; a call after as many as the greatest `u64` has none.
     pub fn make(alloc: Global, take: usize, failing: Vec<u64>) -> MemSink
         requires { 1 ≤ take }
-        ensures { result ≡ record { taken = []; most = take; failing = failing.items; calls = 0; faults = 0; lacks = 0 } }
+        ensures { result ≡ fresh_sink take failing.items }
     {
         MemSink {
             written: Vec::new(alloc),
@@ -73,12 +75,13 @@ impl Sink for MemSink {
         ensures taken { self.new.taken ≡ self.old.taken ++ taken_of result piece.now }
         ensures faults { Counted (is_fault result) self.old.faults self.new.faults }
         ensures lacks { Counted (is_lack result) self.old.lacks self.new.lacks }
-        ensures call { self.new.calls ≡ min (self.old.calls + 1) (2 ^ 64 - 1) }
-        ensures exact { WritesAt self.old self.new piece.now result }
+        ensures call { self.new.calls ≡ one_more self.old.calls }
+        ensures exact { WritesAt self.old piece.now result }
         ensures kept { (self.new.most ≡ self.old.most) × (self.new.failing ≡ self.old.failing) }
     {
+        let fails = is_listed(self.calls, self.failing.as_slice());
         self.calls = self.calls.saturating_add(1);
-        if self.failing.contains(&self.calls) {
+        if fails {
             self.faults = self.faults.saturating_add(1);
             return Wrote::Failed;
         }

@@ -1,3 +1,4 @@
+//! Want of memory, and lists of bytes that are made once.
 ghost use Rattle.std.specs.Prelude.{◌≡◌, List, ℕ, IfOk};
 
 use std::alloc::{AllocError, AllocFailed, Global};

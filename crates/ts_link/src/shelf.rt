@@ -1,3 +1,4 @@
+//! Shelves, which give whole files by their names.
 ghost use Rattle.std.specs.Prelude.{◌≡◌, ℕ, List, Bool, true, Option};
 ghost use Rattle.ts_link.specs.Counts.{Counted};
 ghost use Rattle.ts_link.specs.Shelf.{KeepsLimit, ReadsFile, is_read_fault, is_too_long};

@@ -1,3 +1,4 @@
+//! Sinks, which take bytes as a file or a terminal does.
 ghost use Rattle.std.specs.Prelude.{◌≡◌, ℕ, ◌<◌, ◌++◌, List, Bool, true, length};
 ghost use Rattle.ts_link.specs.Counts.{Counted};
 ghost use Rattle.ts_link.specs.Sink.{TakesSome, is_fault, is_lack, taken_of};

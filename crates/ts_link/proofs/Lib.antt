@@ -1,0 +1,4 @@
+pub mod CallNumbers
+pub mod MemReads
+pub mod MemWrites
+pub mod PiecesAhead
