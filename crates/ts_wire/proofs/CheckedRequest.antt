@@ -4,7 +4,6 @@ use Rattle.std.specs.Prelude.{All, IsTrue, codes, IsUtf8, Result, Ok, Err, unwra
 use Rattle.std.specs.List.{list_any, position_or_len, prefix_len}
 use Rattle.std.proofs.Math.Seq.{get_or-append_seam}
 use Rattle.std.proofs.lemmas.Bool.Decides.{nat_tests}
-use Rattle.std.proofs.lemmas.Bool.{eqb-true}
 use Rattle.std.proofs.lemmas.List.{take-append-drop, drop_at, length-append}
 use Rattle.std.proofs.lemmas.List.Elements.{All-nil, All-cons, All-head, All-tail, All-take, All-drop, All-weaker}
 use Rattle.std.proofs.lemmas.List.Sums.{length-filter}
@@ -17,7 +16,7 @@ use Rattle.ts_wire.specs.declared.fields.Field.{Field}
 use Rattle.ts_wire.specs.declared.heads.RequestHead.{RequestHead}
 use Rattle.ts_wire.specs.FieldList.{is_named, value_of, value_or_empty, count_named, first_value}
 use Rattle.ts_wire.specs.Framing.{length_named, coding_named}
-use Rattle.ts_wire.specs.Check.{has_wrong_hosts, is_absolute, ends_authority, authority, after_authority, sent_after, is_at_sign, absolute_parts, begins_with_slash, target_parts, refusal_by, unless_refused, with_parts, check}
+use Rattle.ts_wire.specs.Check.{has_wrong_hosts, is_absolute, ends_authority, sent_after, is_at_sign, absolute_parts, begins_with_slash, target_parts, refusal_by, unless_refused, with_parts, check}
 use Rattle.ts_wire.specs.OneHead.{IsPlainField, IsSentTarget}
 use Rattle.ts_wire.proofs.TrimTwice.{trim_twice}
 use Rattle.ts_wire.proofs.PlainFields.{is_solid, trim_solid}

@@ -1,15 +1,14 @@
 -- The fields that are sent on leave it to the proxy to say that the connection closes, and where the body ends.
-use Rattle.std.proofs.Common.{◌≡◌, ℕ, Bool, true, false, cond, ◌||◌, List, [], ◌∷◌, map, refl, sym, ap, subst, ◌∙◌}
-use Rattle.std.specs.Prelude.{All, codes, filter, bytes_eq, not}
+use Rattle.std.proofs.Common.{◌≡◌, ℕ, Bool, true, false, ◌||◌, List, [], map, refl, sym, ap, subst, ◌∙◌}
+use Rattle.std.specs.Prelude.{All, codes, not}
 use Rattle.std.proofs.lemmas.Slice.Eq.{bytes_eq-Decides}
 use Rattle.std.proofs.lemmas.List.Elements.{All-filter, All-weaker, filter_passes}
-use Rattle.httparse.specs.Grammar as grammar
 use Rattle.ts_wire.specs.declared.fields.Field.{Field}
 use Rattle.ts_wire.specs.declared.heads.RequestHead.{RequestHead}
 use Rattle.ts_wire.specs.FieldList.{is_named, values_named}
 use Rattle.ts_wire.specs.Forward.{is_hop, is_option, is_forwarded, forwarded}
 use Rattle.ts_wire.specs.Heads.{kept_field}
-use Rattle.ts_wire.specs.OneHead.{IsPlainField, LeavesFraming, IsChangeOf, IsReadRequest, ForwardsUnchanged, ForwardsPlainly}
+use Rattle.ts_wire.specs.OneHead.{IsPlainField, LeavesFraming, ForwardsUnchanged, ForwardsPlainly}
 use Rattle.ts_wire.proofs.PlainFields.{IsOther, values_from_others, all_kept_plain}
 
 -- a field that is sent on does not have the name of one that ends at this hop

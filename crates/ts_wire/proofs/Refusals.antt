@@ -1,5 +1,5 @@
 -- A refusal of the request check has one of two statuses.
-use Rattle.std.proofs.Common.{◌≡◌, ◌⊎◌, ℕ, Bool, true, false, cond, eqb, List, Option, Some, None, sym, inl, inr}
+use Rattle.std.proofs.Common.{◌≡◌, ℕ, Bool, true, false, cond, eqb, List, Option, Some, None, inl, inr}
 use Rattle.std.specs.Prelude.{codes, bytes_eq, Result, Ok, Err}
 use Rattle.ts_wire.specs.declared.fields.Field.{Field}
 use Rattle.ts_wire.specs.declared.framing.ContentLength.{ContentLength}

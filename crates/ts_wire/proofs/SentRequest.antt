@@ -1,11 +1,10 @@
 -- The head that the origin gets is one request of the grammar.
-use Rattle.std.proofs.Common.{◌≡◌, ℕ, ◌<◌, ◌≤◌, Bool, true, false, cond, eqb, ◌&&◌, List, [], ◌∷◌, ◌++◌, map, length, refl, sym, ap, subst, ◌∙◌, arith, append_assoc}
-use Rattle.std.specs.Prelude.{All, IsTrue, codes, flat_map, filter, Ok}
-use Rattle.std.specs.List.{list_any, list_all}
+use Rattle.std.proofs.Common.{◌≡◌, ℕ, Bool, true, false, cond, eqb, ◌&&◌, List, [], ◌∷◌, ◌++◌, map, refl, sym, ap, subst, ◌∙◌, arith, append_assoc}
+use Rattle.std.specs.Prelude.{All, codes, flat_map, filter}
+use Rattle.std.specs.List.{list_any}
 use Rattle.std.proofs.lemmas.Grind.{flat_map-append}
 use Rattle.std.proofs.lemmas.List.{append-nil}
-use Rattle.std.proofs.lemmas.List.Elements.{All-nil, All-cons, All-head, All-tail, All-append, All-map, All-weaker}
-use Rattle.http_header.specs.FieldName.{is_header_name}
+use Rattle.std.proofs.lemmas.List.Elements.{All-nil, All-cons, All-append, All-map, All-weaker}
 use Rattle.http_header.specs.FieldValue.{plain_value, IsFieldValue}
 use Rattle.http_header.proofs.TokenLemmas.{IsHeaderName-from_test, AllPass-from_test}
 use Rattle.httparse.specs.Ascii.{crlf_bytes}
@@ -15,11 +14,10 @@ use Rattle.httparse.proofs.GrammarLemmas.{print_request-append, request_unique}
 use Rattle.ts_wire.specs.declared.fields.Field.{Field}
 use Rattle.ts_wire.specs.declared.heads.RequestHead.{RequestHead}
 use Rattle.ts_wire.specs.FieldList.{is_named, value_of, value_in, values_named, first_value}
-use Rattle.ts_wire.specs.Forward.{is_forwarded, forwarded}
-use Rattle.ts_wire.specs.Heads.{kept_field, KeepsRequest}
-use Rattle.ts_wire.specs.Check.{is_absolute, check}
+use Rattle.ts_wire.specs.Forward.{is_forwarded}
+use Rattle.ts_wire.specs.Check.{is_absolute}
 use Rattle.ts_wire.specs.Printed.{field_text, fields_text, via_text, host_text, request_field_text, missing_host_text, origin_text}
-use Rattle.ts_wire.specs.OneHead.{IsPlainField, HasCrlfLines, IsOne, IsSentTarget, SendsRequest, LeavesFraming, IsChangeOf, IsReadRequest, SendsOneRequest}
+use Rattle.ts_wire.specs.OneHead.{IsPlainField, SendsRequest, LeavesFraming, IsReadRequest, SendsOneRequest}
 use Rattle.ts_wire.proofs.PlainFields.{line_of, lines_text, lines_good, lines_end, plain_from, all_kept_plain, values_kept, IsOther, others_from_values, values_from_others}
 use Rattle.ts_wire.proofs.CheckedRequest.{IsGoodTarget, AreGoodParts, HasOneAtMost, none, one, passed, passed_good, sent_hosts}
 
@@ -82,7 +80,8 @@ via_text_is minor = by_test (eqb minor 0)
 parts_text : (a b c : List Field) → fields_text (a ++ (b ++ c)) ≡ fields_text a ++ (fields_text b ++ fields_text c)
 parts_text a b c = flat_map-append field_text a (b ++ c) ∙ ap (λ l. fields_text a ++ l) (flat_map-append field_text b c)
 
-regroup : (a b c d e : List ℕ) → a ++ (b ++ (c ++ (d ++ e))) ≡ (a ++ (b ++ (c ++ (d ++ [])))) ++ e
+-- four texts, and what follows the last
+pub regroup : (a b c d e : List ℕ) → a ++ (b ++ (c ++ (d ++ e))) ≡ (a ++ (b ++ (c ++ (d ++ [])))) ++ e
 regroup a b c d e = simp (append_assoc, append-nil)
 
 section_text : (absolute : Bool) (minor : ℕ) (host : List ℕ) (fs : List Field)
@@ -109,6 +108,7 @@ sent_request method absolute minor target host fs = record {
   last = crlf;
 }
 
+-- a head as it is appended, and as the grammar prints it
 eight : (a b c d e f g h : List ℕ) → a ++ b ++ c ++ d ++ e ++ f ++ g ++ h ≡ a ++ (b ++ (c ++ (d ++ (e ++ (f ++ (g ++ h))))))
 eight a b c d e f g h = simp append_assoc
 

@@ -1,6 +1,6 @@
 -- The head that the client gets is one response of the grammar, whose body ends as it was to say.
 use Rattle.std.proofs.Common.{◌≡◌, ℕ, ◌+◌, ◌/◌, ◌%◌, ◌<◌, ◌≤◌, Bool, true, false, cond, ◌&&◌, List, [], ◌∷◌, ◌++◌, map, length, Option, Some, None, refl, sym, ap, subst, ◌∙◌, arith, append_assoc}
-use Rattle.std.specs.Prelude.{All, IsTrue, codes, flat_map, decimal, nat_lt, nat_le}
+use Rattle.std.specs.Prelude.{All, IsTrue, codes, flat_map, decimal, nat_lt}
 use Rattle.std.specs.List.{list_all}
 use Rattle.std.specs.Char.{digit_value, is_ascii_digit}
 use Rattle.std.specs.Str.Parse.{AllDigits, digits_value}
@@ -11,7 +11,7 @@ use Rattle.std.proofs.lemmas.Grind.{flat_map-append}
 use Rattle.std.proofs.lemmas.List.{append-nil, map-append}
 use Rattle.std.proofs.lemmas.List.Splits.{slice_split_none}
 use Rattle.std.proofs.lemmas.List.Elements.{All-nil, All-cons, All-append, All-weaker}
-use Rattle.http_header.specs.FieldValue.{plain_value, IsFieldValue}
+use Rattle.http_header.specs.FieldValue.{plain_value}
 use Rattle.http_header.proofs.TokenLemmas.{IsHeaderName-from_test, AllPass-from_test}
 use Rattle.httparse.specs.Ascii.{crlf_bytes}
 use Rattle.httparse.specs.Grammar as grammar
@@ -25,13 +25,13 @@ use Rattle.ts_wire.specs.declared.printed.ClientFraming.{ClientFraming}
 use Rattle.ts_wire.specs.declared.printed.ClientFraming.TheVariants.{Nothing, Sized, Chunked, Close}
 use Rattle.ts_wire.specs.Values.{is_comma, members}
 use Rattle.ts_wire.specs.FieldList.{value_in, values_named, members_in, members_named}
-use Rattle.ts_wire.specs.Framing.{is_length, content_length, transfer_coding, length_named, coding_named, framing_by, has_no_body}
+use Rattle.ts_wire.specs.Framing.{content_length, transfer_coding, length_named, coding_named, framing_by, has_no_body}
 use Rattle.ts_wire.specs.Heads.{kept_field}
 use Rattle.ts_wire.specs.Printed.{field_text, fields_text, via_line, status_text, reason_text, framing_line, client_text}
-use Rattle.ts_wire.specs.OneHead.{IsPlainField, HasCrlfLines, IsOne, LeavesFraming, length_said, coding_said, framing_said, EndsAsSaid, IsSendable, SendsResponse, SendsOneResponse}
+use Rattle.ts_wire.specs.OneHead.{IsPlainField, LeavesFraming, length_said, coding_said, framing_said, EndsAsSaid, IsSendable, SendsResponse, SendsOneResponse}
 use Rattle.ts_wire.proofs.PlainFields.{line_of, lines_text, lines_good, lines_end, plain_from, values_kept, others_from_values, members_from_others, is_solid, trim_solid}
 use Rattle.ts_wire.proofs.TrimTwice.{trim_space}
-use Rattle.ts_wire.proofs.SentRequest.{via_field, via_plain, via_text_is, close_field, close_plain, close_value}
+use Rattle.ts_wire.proofs.SentRequest.{via_field, via_plain, via_text_is, close_field, close_plain, close_value, regroup}
 
 -- ---- the fields that are printed
 
@@ -74,9 +74,6 @@ parts f a b c d =
     flat_map-append f a (b ++ (c ++ d))
     ∙ ap (λ l. flat_map f a ++ l) (flat_map-append f b (c ++ d) ∙ ap (λ l. flat_map f b ++ l) (flat_map-append f c d))
 
-regroup : (a b c d e : List ℕ) → a ++ (b ++ (c ++ (d ++ e))) ≡ (a ++ (b ++ (c ++ (d ++ [])))) ++ e
-regroup a b c d e = simp (append_assoc, append-nil)
-
 section_text : (fs : List Field) (via : Option ℕ) (sent : ClientFraming)
     → fields_text fs ++ (via_line via ++ (framing_line sent ++ codes "connection: close\r\n\r\n"))
     ≡ flat_map print_field (map line_of (client_fields fs via sent)) ++ crlf_bytes
@@ -99,6 +96,7 @@ sent_response status reason fs via sent = record {
   last = crlf;
 }
 
+-- a head as it is appended, and as the grammar prints it
 nine : (a b c d e f g h i : List ℕ) → a ++ b ++ c ++ d ++ e ++ f ++ g ++ h ++ i ≡ a ++ (b ++ (c ++ (d ++ (e ++ (f ++ (g ++ (h ++ i)))))))
 nine a b c d e f g h i = simp append_assoc
 

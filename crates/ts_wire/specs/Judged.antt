@@ -3,7 +3,7 @@
 use Rattle.std.specs.Prelude.{◌≡◌, ℕ, ◌+◌, ◌<◌, ◌≤◌, ◌⊎◌, Bool, true, false, List, ◌++◌, length, drop, if◌then◌else◌, ◌==◌, nat_lt, ◌-◌}
 use Rattle.httparse.specs.Grammar.{ChunkLine, print_chunk_line, chunk_size, HasNoChunkLine, NeverHasChunkLine, MayBecomeChunkLine, Field, LineEnd, print_section, ReadsSection, HasNoSection, NeverHasSection, MayBecomeSection}
 use Rattle.ts_wire.specs.declared.phases.Phase.{Phase}
-use Rattle.ts_wire.specs.declared.phases.Phase.TheVariants.{Counted, Open, Line, Content, Gap, GapEnd, Trailer, Ended, Bad}
+use Rattle.ts_wire.specs.declared.phases.Phase.TheVariants.{Line, Content, Trailer, Ended, Bad}
 use Rattle.ts_wire.specs.Limits.{body_limit, line_limit, trailer_limit, trailer_fields, trailer_lines}
 use Rattle.ts_wire.specs.Body.{line_feeds, IsShortLine, LacksTrailer}
 

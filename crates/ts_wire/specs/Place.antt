@@ -1,5 +1,5 @@
 -- Where a reader of bodies stands, and what that says of the bytes that it was fed and the body that it gave.
-use Rattle.std.specs.Prelude.{◌≡◌, ◌≢◌, ℕ, ◌+◌, ◌-◌, ◌^◌, ◌<◌, ◌≤◌, ◌⊎◌, List, [], ◌∷◌, ◌++◌, length, take, slice_range, vec_capacity, ⊤}
+use Rattle.std.specs.Prelude.{◌≡◌, ◌≢◌, ℕ, ◌+◌, ◌-◌, ◌<◌, ◌≤◌, ◌⊎◌, List, [], ◌∷◌, ◌++◌, length, take, slice_range, vec_capacity, ⊤}
 use Rattle.httparse.specs.Ascii.{carriage_return}
 use Rattle.httparse.specs.Grammar.{HasNoChunkLine, MayBecomeChunkLine, HasNoSection, MayBecomeSection}
 use Rattle.ts_wire.specs.declared.framing.Framing.{Framing}

@@ -101,7 +101,7 @@ const RESPONSES: &str = r"
 # where there are two ways to say where the body ends, Transfer-Encoding decides (RFC 9112, section 6.3)
 HTTP/1.1 200 OK\r\nContent-Length: 3\r\nTransfer-Encoding: chunked\r\n\r\n => chunked
 HTTP/1.1 200 OK\r\nTransfer-Encoding: chunked\r\nContent-Length: x\r\n\r\n => chunked
-# a Transfer-Encoding that is chunked for some readers alone; the RFC reads the last one up to the close
+# a Transfer-Encoding that is chunked for some readers alone; the RFC reads some of them up to the close
 HTTP/1.1 200 OK\r\nTransfer-Encoding: xchunked\r\n\r\n => faulty
 HTTP/1.1 200 OK\r\nTransfer-Encoding: chunked, identity\r\n\r\n => faulty
 HTTP/1.1 200 OK\r\nTransfer-Encoding: identity\r\nContent-Length: 3\r\n\r\n => faulty
