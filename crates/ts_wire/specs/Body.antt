@@ -119,7 +119,8 @@ pub data IsBadChunked (bytes body : List ℕ) : Type 0 where
   -- 65 line feeds or 16,384 bytes are there from the beginning of the trailer section on, and no prefix is
   -- a section within the limits
   long_trailer : (text : List ℕ) → InTrailer bytes body text
-      → (trailer_lines ≤ line_feeds text) ⊎ (trailer_limit ≤ length text) → LacksTrailer text → IsBadChunked bytes body
+      → (trailer_lines ≤ line_feeds text) ⊎ (trailer_limit ≤ length text) → LacksTrailer text
+      → IsBadChunked bytes body
 
 abbrev pub ChunkedBody : List ℕ → List ℕ → BodyState → Type 0
 ChunkedBody bytes body Unfinished = IsUnfinishedChunked bytes body

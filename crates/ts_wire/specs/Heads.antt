@@ -1,4 +1,4 @@
--- The heads of httparse's grammar (RFC 9112, sections 2 to 6), within this project's limits and as it keeps them
+-- The heads of httparse's grammar (RFC 9112, sections 2 to 6), within this project's limits, as it keeps them
 use Rattle.std.specs.Prelude.{◌≡◌, ℕ, ◌<◌, ◌≤◌, ◌⊎◌, List, ◌++◌, map, length, take, drop}
 use Rattle.http_header.specs.Token.{lowercase}
 use Rattle.http_header.specs.FieldName.{IsFieldName}

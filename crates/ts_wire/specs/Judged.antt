@@ -1,5 +1,5 @@
--- What a text is that begins where a chunk line or a trailer section does: which phase follows, and how many of
--- the bytes belong to it.
+-- What a text is that begins where a chunk line or a trailer section does: which phase follows, and how many
+-- of the bytes belong to it.
 use Rattle.std.specs.Prelude.{◌≡◌, ℕ, ◌+◌, ◌<◌, ◌≤◌, ◌⊎◌, Bool, true, false, List, ◌++◌, length, drop, if◌then◌else◌, ◌==◌, nat_lt, ◌-◌}
 use Rattle.httparse.specs.Grammar.{ChunkLine, print_chunk_line, chunk_size, HasNoChunkLine, NeverHasChunkLine, MayBecomeChunkLine, Field, LineEnd, print_section, ReadsSection, HasNoSection, NeverHasSection, MayBecomeSection}
 use Rattle.ts_wire.specs.declared.phases.Phase.{Phase}
@@ -46,7 +46,8 @@ pub record IsTrailerOf (text : List ℕ) (len : ℕ) : Type 0 where
 -- why the body is bad at this trailer section
 pub data IsBadTrailer (text : List ℕ) : Type 0 where
   never : NeverHasSection text → IsBadTrailer text
-  long : (trailer_lines ≤ line_feeds text) ⊎ (trailer_limit ≤ length text) → LacksTrailer text → IsBadTrailer text
+  long : (trailer_lines ≤ line_feeds text) ⊎ (trailer_limit ≤ length text) → LacksTrailer text
+      → IsBadTrailer text
 
 -- which phase follows a text where a trailer section begins
 abbrev pub JudgesTrailer : List ℕ → Phase → ℕ → Type 0

@@ -1,7 +1,7 @@
 -- A head that is printed is one head of the grammar (RFC 9112, sections 2 to 5): the text is that head and
--- nothing else, and it can be read in no other way. This is what keeps a request from hiding in another one. The
--- grammar alone speaks here, without this project's limits: a head that is sent on may have a few lines more than
--- the one that was read.
+-- nothing else, and it can be read in no other way. This is what keeps a request from hiding in another one.
+-- The grammar alone speaks here, without this project's limits: a head that is sent on may have a few lines
+-- more than the one that was read.
 use Rattle.std.specs.Prelude.{◌≡◌, ℕ, ◌≤◌, ◌⊎◌, Bool, true, false, List, [], ◌∷◌, map, filter, All, Ok, if◌then◌else◌, codes, bytes_eq, ⊤}
 use Rattle.http_header.specs.Token.{lowercase}
 use Rattle.http_header.specs.FieldValue.{IsFieldValue}
@@ -30,8 +30,8 @@ pub record IsOne {H : Type 0} (Reads : List ℕ → H → List ℕ → Type 0) (
   pub only : (other : H) (rest : List ℕ) → Reads text other rest → (other ≡ head) × (rest ≡ [])
 
 -- every line of a head ends in CR LF, which all readers take alike, and none is empty but the last
-pub record HasCrlfLines (blank : List LineEnd) (start : LineEnd) (fields : List grammar.Field) (last : LineEnd)
-    : Type 0 where
+pub record HasCrlfLines (blank : List LineEnd) (start : LineEnd) (fields : List grammar.Field)
+    (last : LineEnd) : Type 0 where
   pub none_before : blank ≡ []
   pub start_line : start ≡ crlf
   pub field_lines : All (λ f. f.end ≡ crlf) fields
@@ -70,8 +70,8 @@ pub record LeavesFraming (fields : List Field) : Type 0 where
   pub lengths : values_named (codes "content-length") fields ≡ []
   pub codings : values_named (codes "transfer-encoding") fields ≡ []
 
--- fields as header rules make them of those that are sent on: any may be changed, but for Host and those that the
--- proxy says itself
+-- fields as header rules make them of those that are sent on: any may be changed, but for Host and those that
+-- the proxy says itself
 pub record IsChangeOf (sent fields : List Field) : Type 0 where
   pub leaves : LeavesFraming fields
   pub hosts : filter (is_named (codes "host")) fields ≡ filter (is_named (codes "host")) sent
@@ -156,4 +156,5 @@ SendsOneResponse status reason fields sent text =
 -- the fields of a head that was read leave it to the proxy, once those that end at this hop are gone
 abbrev pub ForwardsPlainly : Type 0
 ForwardsPlainly =
-    (fields : List grammar.Field) → All grammar.IsField fields → LeavesFraming (forwarded (map kept_field fields))
+    (fields : List grammar.Field) → All grammar.IsField fields
+    → LeavesFraming (forwarded (map kept_field fields))

@@ -65,7 +65,8 @@ StandsIn framing fed body held Gap =
 StandsIn framing fed body held GapEnd =
     (framing ≡ F.Chunked) × (part : List ℕ) × InChunk fed body (length part) part (carriage_return ∷ [])
 StandsIn framing fed body held Trailer =
-    (framing ≡ F.Chunked) × InTrailer fed body held × MayBecomeSection held × (line_feeds held < trailer_lines)
+    (framing ≡ F.Chunked) × InTrailer fed body held × MayBecomeSection held
+    × (line_feeds held < trailer_lines)
 StandsIn F.Nothing fed body held Ended = (fed ≡ []) × (body ≡ [])
 StandsIn (F.Sized n) fed body held Ended = (body ≡ fed) × (length fed ≡ n)
 StandsIn F.Chunked fed body held Ended = (e : IsEndedChunked fed body) × (e.rest ≡ [])
@@ -87,7 +88,8 @@ pub record StepsOn (old : Phase) (held : List ℕ) (total : ℕ) (bytes : List �
   pub within : step.to ≤ step.taken
   pub taken : step.taken ≤ length bytes
   pub whole :
-      state_of step.phase ≡ S.Unfinished → part_number old ≡ part_number step.phase → step.taken ≡ length bytes
+      state_of step.phase ≡ S.Unfinished → part_number old ≡ part_number step.phase
+      → step.taken ≡ length bytes
   pub progress :
       0 < length bytes → state_of old ≡ S.Unfinished → (0 < step.taken) ⊎ (state_of step.phase ≢ S.Unfinished)
   pub rests : state_of old ≢ S.Unfinished → step.taken ≡ 0
@@ -98,8 +100,8 @@ pub record StepsOn (old : Phase) (held : List ℕ) (total : ℕ) (bytes : List �
   pub goes :
       GoesTo old held total step.phase held' (take step.taken bytes) (slice_range bytes step.from step.to)
 
--- what a contract sees of a reader: its phase, what it keeps of a chunk line or a trailer section, and how long
--- the body is so far
+-- what a contract sees of a reader: its phase, what it keeps of a chunk line or a trailer section, and how
+-- long the body is so far
 pub record Place : Type 0 where
   pub phase : Phase
   pub held : List ℕ
@@ -110,7 +112,8 @@ place_of r = record { phase = r.phase; held = r.held.items; total = r.total }
 
 abbrev pub IsSound : Inside → Type 0
 IsSound r =
-    (room_of r.phase ≤ vec_capacity r.held) × (r.total < word_limit) × IsSoundPhase r.phase r.held.items r.total
+    (room_of r.phase ≤ vec_capacity r.held) × (r.total < word_limit)
+    × IsSoundPhase r.phase r.held.items r.total
 
 -- a reader for this framing that was fed these bytes has given this body
 pub record IsFed (framing : Framing) (fed body : List ℕ) (place : Place) : Type 0 where
@@ -118,17 +121,19 @@ pub record IsFed (framing : Framing) (fed body : List ℕ) (place : Place) : Typ
   pub counted : place.total ≡ length body
   pub sound : IsSoundPhase place.phase place.held place.total
 
--- which front of the bytes is taken, and which part of it is body. A reader that stays in the same part of the
--- body has taken all the bytes: it passes over a run of them as a whole.
+-- which front of the bytes is taken, and which part of it is body. A reader that stays in the same part of
+-- the body has taken all the bytes: it passes over a run of them as a whole.
 pub record Takes (old new : Place) (bytes : List ℕ) (answer : Fed) : Type 0 where
   pub ordered : answer.from ≤ answer.to
   pub within : answer.to ≤ answer.taken
   pub taken : answer.taken ≤ length bytes
   pub whole :
-      answer.state ≡ S.Unfinished → part_number old.phase ≡ part_number new.phase → answer.taken ≡ length bytes
+      answer.state ≡ S.Unfinished → part_number old.phase ≡ part_number new.phase
+      → answer.taken ≡ length bytes
   pub state : answer.state ≡ state_of new.phase
   pub progress :
-      0 < length bytes → state_of old.phase ≡ S.Unfinished → (0 < answer.taken) ⊎ (answer.state ≢ S.Unfinished)
+      0 < length bytes → state_of old.phase ≡ S.Unfinished
+      → (0 < answer.taken) ⊎ (answer.state ≢ S.Unfinished)
 
 -- whatever was fed before, the piece goes on with it and gives this part of the body
 abbrev pub GoesOn : Place → Place → List ℕ → List ℕ → Type 0

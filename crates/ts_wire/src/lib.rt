@@ -1,5 +1,5 @@
-//! HTTP/1.1 as the proxy hears and says it: heads and the request check, where a body ends and what it is however
-//! its bytes are cut, and the heads and frames that are sent on.
+//! HTTP/1.1 as the proxy hears and says it: heads and the request check, where a body ends and what it is
+//! however its bytes are cut, and the heads and frames that are sent on.
 #![tactic(auto)]
 
 mod body;

@@ -137,8 +137,8 @@ fn client_text(
     Ok(Octets::of_vec(out))
 }
 
-/// The head that the client gets. `via` is the minor version of the origin's head, and `None` for an answer of
-/// the proxy's own.
+/// The head that the client gets. `via` is the minor version of the origin's head, and `None` for an answer
+/// of the proxy's own.
 pub fn client_head(
     alloc: Global,
     status: u16,

@@ -1,5 +1,5 @@
-//! Tests by subject, whose answers come from outside: the RFCs, the tables that the contracts state, and exchanges
-//! that were worked out by hand.
+//! Tests by subject, whose answers come from outside: the RFCs, the tables that the contracts state, and
+//! exchanges that were worked out by hand.
 
 mod attacks;
 mod bodies;

@@ -1,5 +1,5 @@
-//! Messages made to be taken in two ways by two readers (request smuggling), and the one way in which they are
-//! taken here.
+//! Messages made to be taken in two ways by two readers (request smuggling), and the one way in which they
+//! are taken here.
 
 use crate::Framing;
 use crate::tests::rows::{Asked, check_rows};
