@@ -14,8 +14,9 @@ use Rattle.httparse.specs.Grammar.{IsToken, is_value_byte, LineEnd, crlf, lf, pr
 use Rattle.httparse.specs.declared.spans.Span.{Span}
 use Rattle.httparse.specs.Spans.{span_bytes, IsWithin, IsHeaderWithin, header_bytes, name_and_value}
 use Rattle.httparse.proofs.TrimLemmas.{AllPass-trim_ows}
+use Rattle.ts_wire.specs.Limits.{head_limit}
 use Rattle.ts_wire.specs.declared.fields.Field as kept
-use Rattle.ts_wire.specs.Heads.{head_limit, field_of, kept_field, span_field, IsFieldAt}
+use Rattle.ts_wire.specs.Heads.{field_of, kept_field, span_field, IsFieldAt}
 
 -- a front that is at most so long lies in the first n bytes
 pub cut_front : (n : ℕ) (bytes p rest : List ℕ) → bytes ≡ p ++ rest → length p ≤ n → take n bytes ≡ p ++ take (n - length p) rest

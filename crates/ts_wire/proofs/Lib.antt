@@ -1,19 +1,27 @@
 mod BodyLemmas
 mod CheckLemmas
+mod CheckedRequest
 mod CutLemmas
 mod ForwardLemmas
-pub mod FrameLemmas
 mod FramingLemmas
 mod HeadLemmas
+pub mod HeaderRules
 mod HexLemmas
 mod LineLemmas
+pub mod PlainFields
+pub mod Refusals
+mod RequestLemmas
+mod ResponseLemmas
+mod SectionLemmas
+mod StepLemmas
+mod TrailerLemmas
+mod TrimTwice
+pub mod FrameLemmas
 pub mod OneBody
 pub mod OneRequest
 pub mod OneResponse
 pub mod PlaceBody
-mod RequestLemmas
-mod ResponseLemmas
-mod SectionLemmas
+pub mod PlainForward
+pub mod SentRequest
+pub mod SentResponse
 pub mod Sizes
-mod StepLemmas
-mod TrailerLemmas

@@ -8,8 +8,8 @@ use Rattle.ts_wire.specs.declared.body.BodyState.TheVariants as S
 use Rattle.ts_wire.specs.declared.phases.Phase.{Phase}
 use Rattle.ts_wire.specs.declared.phases.Phase.TheVariants.{Counted, Open, Line, Content, Gap, GapEnd, Trailer, Ended, Bad}
 use Rattle.ts_wire.specs.declared.phases.Step.{Step}
-use Rattle.ts_wire.specs.Framing.{body_limit}
-use Rattle.ts_wire.specs.Body.{line_limit, line_feeds, AfterChunks, InTrailer, IsBadChunked, no_line, long_line, long_body}
+use Rattle.ts_wire.specs.Limits.{body_limit, line_limit}
+use Rattle.ts_wire.specs.Body.{line_feeds, AfterChunks, InTrailer, IsBadChunked, no_line, long_line, long_body}
 use Rattle.ts_wire.specs.Judged.{IsLineOf, IsBadLine, never, full, large, JudgesLine, phase_after, is_line}
 use Rattle.ts_wire.specs.Place.{IsSoundPhase, StandsIn, GoesTo, StepsOn}
 use Rattle.ts_wire.proofs.BodyLemmas.{no_section_yet, section_may_begin, grow, was_there, ends_in}

@@ -10,8 +10,8 @@ use Rattle.ts_wire.proofs.HeadLemmas.{cut_front}
 use Rattle.ts_wire.specs.declared.framing.Framing.TheVariants as F
 use Rattle.ts_wire.specs.declared.body.BodyState.{BodyState}
 use Rattle.ts_wire.specs.declared.body.BodyState.TheVariants.{Unfinished, Ended, Bad}
-use Rattle.ts_wire.specs.Framing.{body_limit}
-use Rattle.ts_wire.specs.Body.{line_limit, trailer_limit, trailer_fields, line_feeds, IsShortLine, Chunk, IsChunk, print_chunk, print_chunks, contents, AfterChunks, LacksTrailer, BreaksCrlf, IsUnfinishedChunked, in_line, in_content, in_gap, in_trailer, IsEndedChunked, IsBadChunked, no_line, long_line, long_body, no_crlf, no_trailer, long_trailer, ChunkedBody, HasOneBody}
+use Rattle.ts_wire.specs.Limits.{body_limit, line_limit, trailer_limit, trailer_fields, trailer_lines}
+use Rattle.ts_wire.specs.Body.{line_feeds, IsShortLine, Chunk, IsChunk, print_chunk, print_chunks, contents, AfterChunks, LacksTrailer, BreaksCrlf, IsUnfinishedChunked, in_line, in_content, in_gap, in_trailer, IsEndedChunked, IsBadChunked, no_line, long_line, long_body, no_crlf, no_trailer, long_trailer, ChunkedBody, HasOneBody}
 
 -- ---- what follows the whole chunks, in the order in which it is read
 
@@ -23,12 +23,12 @@ LacksLine text Bad = NeverHasChunkLine text ⊎ ((line_limit ≤ length text) ×
 
 -- the trailer section
 TrailerIs : List ℕ → BodyState → Type 0
-TrailerIs text Unfinished = HasNoSection text × MayBecomeSection text × (line_feeds text < 65) × (length text < trailer_limit)
+TrailerIs text Unfinished = HasNoSection text × MayBecomeSection text × (line_feeds text < trailer_lines) × (length text < trailer_limit)
 TrailerIs text Ended =
     (fields : List Field) × (last : LineEnd) × (rest : List ℕ) × ReadsSection text fields last rest
     × (length fields ≤ trailer_fields) × (length (print_section fields last) ≤ trailer_limit)
 TrailerIs text Bad =
-    NeverHasSection text ⊎ (((65 ≤ line_feeds text) ⊎ (trailer_limit ≤ length text)) × LacksTrailer text)
+    NeverHasSection text ⊎ (((trailer_lines ≤ line_feeds text) ⊎ (trailer_limit ≤ length text)) × LacksTrailer text)
 
 -- a chunk that is not whole: a front of its content, or all of it and then tail
 PartIs : ℕ → List ℕ → List ℕ → BodyState → Type 0
@@ -78,7 +78,7 @@ trailer_open : (text : List ℕ) → TrailerIs text Unfinished → TrailerIs tex
 unfolding TrailerIs
 trailer_open text (none, (more, fields, last, reads), few, short) (inl never) = never more fields last [] reads
 trailer_open text (none, may, few, short) (inr (full, lacking)) =
-    ⊎_elim (λ (lines : 65 ≤ line_feeds text). absurd (omega (arith, lines, few))) (λ (bytes : trailer_limit ≤ length text). absurd (omega (arith, bytes, short))) full
+    ⊎_elim (λ (lines : trailer_lines ≤ line_feeds text). absurd (omega (arith, lines, few))) (λ (bytes : trailer_limit ≤ length text). absurd (omega (arith, bytes, short))) full
 
 trailer_whole : (text : List ℕ) → TrailerIs text Ended → TrailerIs text Bad → ⊥
 unfolding TrailerIs

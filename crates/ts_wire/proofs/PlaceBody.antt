@@ -12,8 +12,8 @@ use Rattle.ts_wire.specs.declared.body.BodyState.TheVariants as S
 use Rattle.ts_wire.specs.declared.phases.Phase.{Phase}
 use Rattle.ts_wire.specs.declared.phases.Phase.TheVariants.{Counted, Open, Line, Content, Gap, GapEnd, Trailer, Ended, Bad}
 use Rattle.ts_wire.specs.declared.phases.Step.{Step}
-use Rattle.ts_wire.specs.Framing.{body_limit}
-use Rattle.ts_wire.specs.Body.{line_limit, trailer_limit, line_feeds, AfterChunks, InChunk, InTrailer, BreaksCrlf, in_line, in_content, in_gap, in_trailer, IsEndedChunked, IsBadChunked, no_line, long_line, long_body, no_crlf, no_trailer, long_trailer, BodyOf}
+use Rattle.ts_wire.specs.Limits.{body_limit, line_limit, trailer_limit, trailer_lines}
+use Rattle.ts_wire.specs.Body.{line_feeds, AfterChunks, InChunk, InTrailer, BreaksCrlf, in_line, in_content, in_gap, in_trailer, IsEndedChunked, IsBadChunked, no_line, long_line, long_body, no_crlf, no_trailer, long_trailer, BodyOf}
 use Rattle.ts_wire.specs.Place.{Place, state_of, IsSoundPhase, StandsIn, StepsOn, IsFed, GoesOn, GivesBody}
 use Rattle.ts_wire.proofs.BodyLemmas.{no_chunks, no_line_yet, line_may_begin, grow, more_tail, more_trailer}
 use Rattle.ts_wire.proofs.TrailerLemmas.{line_feeds-append}
@@ -50,7 +50,7 @@ bad_more fed body rest (no_trailer text trailer refuses) =
     (λ more fields last r reads. refuses (rest ++ more) fields last r (reads.0, sym (append_assoc text rest more) ∙ reads.1))
 bad_more fed body rest (long_trailer text trailer full lacks) =
     long_trailer (text ++ rest) (same_body (λ b. InTrailer (fed ++ rest) b (text ++ rest)) body (more_trailer fed body text rest trailer))
-    (⊎_elim (λ (lines : 65 ≤ line_feeds text). inl (omega (arith, line_feeds-append text rest, lines))) (λ (bytes : trailer_limit ≤ length text). inr (omega (arith, length-append text rest, bytes))) full)
+    (⊎_elim (λ (lines : trailer_lines ≤ line_feeds text). inl (omega (arith, line_feeds-append text rest, lines))) (λ (bytes : trailer_limit ≤ length text). inr (omega (arith, length-append text rest, bytes))) full)
     (lacks_more text rest full lacks)
 
 ended_more : (fed body rest : List ℕ) (e : IsEndedChunked fed body) → e.rest ≡ [] → IsEndedChunked (fed ++ rest) body

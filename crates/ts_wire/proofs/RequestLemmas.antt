@@ -5,8 +5,9 @@ use Rattle.httparse.specs.declared.spans.HeaderSpan.{HeaderSpan}
 use Rattle.httparse.specs.declared.spans.RequestSpans.{RequestSpans}
 use Rattle.httparse.specs.Grammar.{RequestHead, print_request, HasNoRequest, NeverHasRequest, MayBecomeRequest}
 use Rattle.httparse.specs.Spans.{IsRequestWithin, IsRequestAt, RequestOverflows, RequestExceeds}
+use Rattle.ts_wire.specs.Limits.{head_limit, field_limit}
 use Rattle.ts_wire.specs.declared.heads.RequestHead as kept
-use Rattle.ts_wire.specs.Heads.{head_limit, field_limit, KeepsRequest, IsRequestOf, LacksRequest, AwaitsRequest, IsTooLongRequest}
+use Rattle.ts_wire.specs.Heads.{KeepsRequest, IsRequestOf, LacksRequest, AwaitsRequest, IsTooLongRequest}
 use Rattle.ts_wire.proofs.HeadLemmas.{cut_front, in_front, front_and_more, few_fields, ends_some, span_front, headers_front}
 
 -- a head has at least the end of its section

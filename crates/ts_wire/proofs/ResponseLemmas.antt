@@ -5,8 +5,9 @@ use Rattle.httparse.specs.declared.spans.HeaderSpan.{HeaderSpan}
 use Rattle.httparse.specs.declared.spans.ResponseSpans.{ResponseSpans}
 use Rattle.httparse.specs.Grammar.{ResponseHead, print_response, HasNoResponse, NeverHasResponse, MayBecomeResponse}
 use Rattle.httparse.specs.Spans.{IsResponseWithin, IsResponseAt, ResponseOverflows, ResponseExceeds}
+use Rattle.ts_wire.specs.Limits.{head_limit, field_limit}
 use Rattle.ts_wire.specs.declared.heads.ResponseHead as kept
-use Rattle.ts_wire.specs.Heads.{head_limit, field_limit, KeepsResponse, IsResponseOf, LacksResponse, AwaitsResponse, IsTooLongResponse}
+use Rattle.ts_wire.specs.Heads.{KeepsResponse, IsResponseOf, LacksResponse, AwaitsResponse, IsTooLongResponse}
 use Rattle.ts_wire.proofs.HeadLemmas.{cut_front, in_front, front_and_more, few_fields, ends_some, span_front, headers_front}
 
 -- a head has at least the end of its section

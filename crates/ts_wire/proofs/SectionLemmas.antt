@@ -5,7 +5,8 @@ use Rattle.std.proofs.lemmas.List.Elements.{All-head, All-tail}
 use Rattle.std.proofs.lemmas.List.Sums.{sum_by-cons}
 use Rattle.std.proofs.lemmas.Bool.{cases_eq, cases_lt, ne_eqb}
 use Rattle.httparse.specs.Grammar.{is_token_byte, is_value_byte, AllPass, LineEnd, crlf, lf, print_end, Field, IsField, print_field, print_section}
-use Rattle.ts_wire.specs.Body.{trailer_limit, line_feeds, LacksTrailer}
+use Rattle.ts_wire.specs.Limits.{trailer_limit, trailer_lines}
+use Rattle.ts_wire.specs.Body.{line_feeds, LacksTrailer}
 use Rattle.ts_wire.proofs.BodyLemmas.{was_there, ends_in}
 use Rattle.ts_wire.proofs.TrailerLemmas.{line_feeds-append, end_has_one}
 
@@ -46,12 +47,12 @@ section_front fields crlf good =
     (section ++ 13 ∷ [], sym (append_assoc section (13 ∷ []) (10 ∷ [])), line_feeds-append section (13 ∷ []) ∙ omega (arith, fields_line_feeds fields good))
 
 -- a text that is as long as a trailer section may be, and is none, stays so whatever follows
-pub lacks_more : (text rest : List ℕ) → (65 ≤ line_feeds text) ⊎ (trailer_limit ≤ length text) → LacksTrailer text → LacksTrailer (text ++ rest)
+pub lacks_more : (text rest : List ℕ) → (trailer_lines ≤ line_feeds text) ⊎ (trailer_limit ≤ length text) → LacksTrailer text → LacksTrailer (text ++ rest)
 lacks_more text rest full lacks fields last after reads few short =
     let p = print_section fields last in
     ⊎_elim
     (λ (longer : length text < length p). ⊎_elim
-    (λ (lines : 65 ≤ line_feeds text).
+    (λ (lines : trailer_lines ≤ line_feeds text).
     let front = section_front fields last reads.0 in
     let split : front.0 ++ 10 ∷ [] ≡ text ++ take (length p - length text) rest = sym front.1 ∙ ends_in text rest p after reads.1 (omega (arith, longer)) in
     let inside : front.0 ≡ text ++ drop (length text) front.0 = was_there front.0 (10 ∷ []) text _ split (omega (arith, ap length front.1, length-append front.0 (10 ∷ []))) in

@@ -9,7 +9,7 @@ use Rattle.ts_wire.specs.declared.body.BodyState.TheVariants as S
 use Rattle.ts_wire.specs.declared.phases.Phase.{Phase}
 use Rattle.ts_wire.specs.declared.phases.Phase.TheVariants.{Counted, Open, Line, Content, Gap, GapEnd, Ended, Bad}
 use Rattle.ts_wire.specs.declared.phases.Step.{Step}
-use Rattle.ts_wire.specs.Framing.{body_limit}
+use Rattle.ts_wire.specs.Limits.{body_limit}
 use Rattle.ts_wire.specs.Body.{AfterChunks, InChunk, BreaksCrlf, no_crlf}
 use Rattle.ts_wire.specs.Place.{state_of, room_of, part_number, IsSoundPhase, StandsIn, GoesTo, StepsOn}
 use Rattle.ts_wire.proofs.BodyLemmas.{no_line_yet, line_may_begin, more_content, more_tail, close_chunk}

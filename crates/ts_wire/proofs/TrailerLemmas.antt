@@ -6,11 +6,12 @@ use Rattle.std.proofs.lemmas.List.Sums.{sum_by-append}
 use Rattle.std.proofs.lemmas.Bool.{cases_lt}
 use Rattle.httparse.specs.Grammar.{LineEnd, crlf, lf, print_end, Field, print_field, print_section, HasNoSection, MayBecomeSection}
 use Rattle.httparse.specs.Spans.{SectionOverflows, SectionExceeds}
+use Rattle.ts_wire.specs.Limits.{trailer_limit, trailer_fields, trailer_lines}
 use Rattle.ts_wire.specs.declared.body.BodyState.TheVariants as S
 use Rattle.ts_wire.specs.declared.phases.Phase.{Phase}
 use Rattle.ts_wire.specs.declared.phases.Phase.TheVariants.{Counted, Open, Line, Content, Gap, GapEnd, Trailer, Ended, Bad}
 use Rattle.ts_wire.specs.declared.phases.Step.{Step}
-use Rattle.ts_wire.specs.Body.{trailer_limit, trailer_fields, line_feeds, InTrailer, LacksTrailer, IsEndedChunked, IsBadChunked, no_trailer, long_trailer}
+use Rattle.ts_wire.specs.Body.{line_feeds, InTrailer, LacksTrailer, IsEndedChunked, IsBadChunked, no_trailer, long_trailer}
 use Rattle.ts_wire.specs.Judged.{IsTrailerOf, IsBadTrailer, never, long, JudgesTrailer, is_trailer}
 use Rattle.ts_wire.specs.Place.{IsSoundPhase, StandsIn, StepsOn}
 use Rattle.ts_wire.proofs.BodyLemmas.{more_trailer, was_there}
@@ -32,7 +33,7 @@ fields_have_ends (f ∷ fs) =
     omega (arith, fields_have_ends fs, line_feeds-append (print_field f) (flat_map print_field fs), line_feeds-append start (print_end f.end), end_has_one f.end)
 
 -- a section with more fields than there may be has begun: 65 lines are there
-many_lines : (text : List ℕ) → SectionExceeds trailer_fields text → 65 ≤ line_feeds text
+many_lines : (text : List ℕ) → SectionExceeds trailer_fields text → trailer_lines ≤ line_feeds text
 many_lines text (front, rest, is, fields, reads, many) =
     let section = flat_map print_field fields in
     let whole : front ++ 10 ∷ [] ≡ section ++ 10 ∷ [] = reads.1 ∙ append-nil (section ++ 10 ∷ []) in

@@ -1,26 +1,16 @@
 -- The body of a message, on the whole list of its bytes (RFC 9112, sections 6.3 and 7.1).
 use Rattle.std.specs.Prelude.{◌≡◌, ◌≢◌, ℕ, ◌+◌, ◌<◌, ◌≤◌, ◌⊎◌, List, [], ◌∷◌, ◌++◌, length, take, All, flat_map, count_by, ◌==◌, nat_lt, if◌then◌else◌}
-use Rattle.httparse.specs.Ascii.{crlf_bytes}
+use Rattle.httparse.specs.Ascii.{carriage_return, line_feed, crlf_bytes}
 use Rattle.httparse.specs.Grammar.{ChunkLine, IsChunkLine, print_chunk_line, chunk_size, HasNoChunkLine, NeverHasChunkLine, MayBecomeChunkLine, Field, LineEnd, print_section, ReadsSection, HasNoSection, NeverHasSection, MayBecomeSection}
 use Rattle.ts_wire.specs.declared.framing.Framing.{Framing}
 use Rattle.ts_wire.specs.declared.framing.Framing.TheVariants.{Nothing, Sized, Chunked, UntilClose, Faulty}
 use Rattle.ts_wire.specs.declared.body.BodyState.{BodyState}
 use Rattle.ts_wire.specs.declared.body.BodyState.TheVariants.{Unfinished, Ended, Bad}
-use Rattle.ts_wire.specs.Framing.{body_limit}
-
--- how many bytes a chunk line and a trailer section may have, and how many fields and line feeds a trailer section
-abbrev pub line_limit : ℕ
-line_limit = 4096
-
-abbrev pub trailer_limit : ℕ
-trailer_limit = 16384
-
-abbrev pub trailer_fields : ℕ
-trailer_fields = 64
+use Rattle.ts_wire.specs.Limits.{body_limit, trailer_lines, line_limit, trailer_limit, trailer_fields}
 
 -- how many line feeds there are
 abbrev pub line_feeds : List ℕ → ℕ
-line_feeds bytes = count_by (λ b. b == 10) bytes
+line_feeds bytes = count_by (λ b. b == line_feed) bytes
 
 -- a chunk line of httparse's grammar that is not too long
 pub record IsShortLine (l : ChunkLine) : Type 0 where
@@ -81,8 +71,8 @@ LacksTrailer text =
 -- the bytes are no prefix of CR LF, and do not begin with it
 abbrev pub BreaksCrlf : List ℕ → Type 0
 BreaksCrlf [] = ⊥
-BreaksCrlf (a ∷ []) = a ≢ 13
-BreaksCrlf (a ∷ b ∷ rest) = (a ≢ 13) ⊎ (b ≢ 10)
+BreaksCrlf (a ∷ []) = a ≢ carriage_return
+BreaksCrlf (a ∷ b ∷ rest) = (a ≢ carriage_return) ⊎ (b ≢ line_feed)
 
 -- a body in chunks of which more may come, by where the bytes end
 pub data IsUnfinishedChunked (bytes body : List ℕ) : Type 0 where
@@ -90,12 +80,14 @@ pub data IsUnfinishedChunked (bytes body : List ℕ) : Type 0 where
   in_line : (text : List ℕ) → AfterChunks bytes body text [] → HasNoChunkLine text → MayBecomeChunkLine text
       → length text < line_limit → IsUnfinishedChunked bytes body
   -- in the content of a chunk, or before it
-  in_content : (size : ℕ) (part : List ℕ) → InChunk bytes body size part [] → length part < size → IsUnfinishedChunked bytes body
+  in_content : (size : ℕ) (part : List ℕ) → InChunk bytes body size part [] → length part < size
+      → IsUnfinishedChunked bytes body
   -- in the CR LF after it, or before that
-  in_gap : (part tail : List ℕ) → InChunk bytes body (length part) part tail → (tail ≡ []) ⊎ (tail ≡ 13 ∷ []) → IsUnfinishedChunked bytes body
+  in_gap : (part tail : List ℕ) → InChunk bytes body (length part) part tail
+      → (tail ≡ []) ⊎ (tail ≡ carriage_return ∷ []) → IsUnfinishedChunked bytes body
   -- in the trailer section, or before it
   in_trailer : (text : List ℕ) → InTrailer bytes body text → HasNoSection text → MayBecomeSection text
-      → line_feeds text < 65 → length text < trailer_limit → IsUnfinishedChunked bytes body
+      → line_feeds text < trailer_lines → length text < trailer_limit → IsUnfinishedChunked bytes body
 
 -- the trailer section is whole
 pub record IsEndedChunked (bytes body : List ℕ) : Type 0 where
@@ -111,20 +103,24 @@ pub record IsEndedChunked (bytes body : List ℕ) : Type 0 where
 -- a body in chunks is bad in exactly these cases
 pub data IsBadChunked (bytes body : List ℕ) : Type 0 where
   -- no continuation of the chunk line that has begun is one
-  no_line : (text : List ℕ) → AfterChunks bytes body text [] → NeverHasChunkLine text → IsBadChunked bytes body
-  -- 4,096 bytes are there from the beginning of a chunk line on, and no prefix of these is one
-  long_line : (text : List ℕ) → AfterChunks bytes body text [] → line_limit ≤ length text → HasNoChunkLine (take line_limit text)
+  no_line : (text : List ℕ) → AfterChunks bytes body text [] → NeverHasChunkLine text
       → IsBadChunked bytes body
+  -- 4,096 bytes are there from the beginning of a chunk line on, and no prefix of these is one
+  long_line : (text : List ℕ) → AfterChunks bytes body text [] → line_limit ≤ length text
+      → HasNoChunkLine (take line_limit text) → IsBadChunked bytes body
   -- a chunk line is whole, and with its size the body would be too long
-  long_body : (l : ChunkLine) (rest : List ℕ) → AfterChunks bytes body (print_chunk_line l ++ rest) [] → IsShortLine l
-      → body_limit < length body + chunk_size l → IsBadChunked bytes body
+  long_body : (l : ChunkLine) (rest : List ℕ) → AfterChunks bytes body (print_chunk_line l ++ rest) []
+      → IsShortLine l → body_limit < length body + chunk_size l → IsBadChunked bytes body
   -- the content of a chunk is followed by something else than CR LF
-  no_crlf : (part tail : List ℕ) → InChunk bytes body (length part) part tail → BreaksCrlf tail → IsBadChunked bytes body
+  no_crlf : (part tail : List ℕ) → InChunk bytes body (length part) part tail → BreaksCrlf tail
+      → IsBadChunked bytes body
   -- no continuation of the trailer section that has begun is one
   no_trailer : (text : List ℕ) → InTrailer bytes body text → NeverHasSection text → IsBadChunked bytes body
-  -- 65 line feeds or 16,384 bytes are there from the beginning of the trailer section on, and no prefix is one within the limits
-  long_trailer : (text : List ℕ) → InTrailer bytes body text → (65 ≤ line_feeds text) ⊎ (trailer_limit ≤ length text)
-      → LacksTrailer text → IsBadChunked bytes body
+  -- 65 line feeds or 16,384 bytes are there from the beginning of the trailer section on, and no prefix is
+  -- a section within the limits
+  long_trailer : (text : List ℕ) → InTrailer bytes body text
+      → (trailer_lines ≤ line_feeds text) ⊎ (trailer_limit ≤ length text) → LacksTrailer text
+      → IsBadChunked bytes body
 
 abbrev pub ChunkedBody : List ℕ → List ℕ → BodyState → Type 0
 ChunkedBody bytes body Unfinished = IsUnfinishedChunked bytes body
@@ -144,8 +140,8 @@ BodyOf Faulty bytes body state = ⊥
 -- bytes have one body, which is in one state
 abbrev pub HasOneBody : Type 0
 HasOneBody =
-    (framing : Framing) (bytes a b : List ℕ) (s t : BodyState) → BodyOf framing bytes a s → BodyOf framing bytes b t
-    → (a ≡ b) × (s ≡ t)
+    (framing : Framing) (bytes a b : List ℕ) (s t : BodyState)
+    → BodyOf framing bytes a s → BodyOf framing bytes b t → (a ≡ b) × (s ≡ t)
 
 -- the bytes have ended before the body, which does not end with them
 abbrev pub IsCutShort : Framing → List ℕ → List ℕ → Type 0

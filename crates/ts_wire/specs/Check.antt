@@ -1,8 +1,9 @@
 -- Which requests are taken, with which target and host. The first row of the table that applies decides.
-use Rattle.std.specs.Prelude.{◌≡◌, ℕ, Bool, false, not, ◌&&◌, ◌||◌, List, [], ◌∷◌, length, take, drop, Option, Some, None, Result, Ok, Err, if◌then◌else◌, ◌==◌, nat_lt, nat_le, ◌+◌, codes, bytes_eq}
+use Rattle.std.specs.Prelude.{◌≡◌, ◌⊎◌, ℕ, Bool, false, not, ◌&&◌, ◌||◌, List, [], ◌∷◌, length, take, drop, Option, Some, None, Result, Ok, Err, if◌then◌else◌, ◌==◌, nat_lt, nat_le, ◌+◌, codes, bytes_eq}
 use Rattle.std.specs.List.{list_any, before_first, position, position_or_len}
 use Rattle.std.specs.Str.{str_eq_ignore_ascii_case}
 use Rattle.http_header.specs.Token.{lowercase}
+use Rattle.ts_wire.specs.Limits.{bad_request, not_implemented}
 use Rattle.ts_wire.specs.declared.fields.Field.{Field}
 use Rattle.ts_wire.specs.declared.heads.RequestHead.{RequestHead}
 use Rattle.ts_wire.specs.declared.check.Verdict.{Verdict}
@@ -14,13 +15,15 @@ use Rattle.ts_wire.specs.declared.framing.TransferCoding.TheVariants as C
 use Rattle.ts_wire.specs.FieldList.{count_named, first_value}
 use Rattle.ts_wire.specs.Framing.{length_named, coding_named}
 
--- the bytes `:`, `@` and `]`
+-- the byte `:`
 abbrev pub is_colon : ℕ → Bool
 is_colon b = b == 58
 
+-- the byte `@`
 abbrev pub is_at_sign : ℕ → Bool
 is_at_sign b = b == 64
 
+-- the byte `]`
 abbrev pub is_bracket : ℕ → Bool
 is_bracket b = b == 93
 
@@ -49,7 +52,8 @@ abbrev pub sent_after : List ℕ → List ℕ → List ℕ
 sent_after method [] = if bytes_eq method (codes "OPTIONS") then codes "*" else codes "/"
 sent_after method (b ∷ bs) = if b == 63 then 47 ∷ b ∷ bs else b ∷ bs
 
--- the target and the host of an absolute target, from what follows `http://`: an authority that is not empty and has no `@`
+-- the target and the host of an absolute target, from what follows `http://`: an authority that is not empty
+-- and has no `@`
 abbrev pub absolute_parts : List ℕ → List ℕ → Option (List ℕ × List ℕ)
 absolute_parts method rest =
     if (length (authority rest) == 0) || list_any is_at_sign (authority rest) then None
@@ -69,26 +73,39 @@ target_parts method target host =
 
 -- why the body that a request announces refuses it: a transfer coding, a faulty length, or a body at all
 abbrev pub refusal_by : TransferCoding → ContentLength → Option ℕ
-refusal_by C.Chunked l = Some 501
-refusal_by C.Other l = Some 501
+refusal_by C.Chunked l = Some not_implemented
+refusal_by C.Other l = Some not_implemented
 refusal_by C.Absent L.Absent = None
-refusal_by C.Absent L.Faulty = Some 400
-refusal_by C.Absent (L.Valid n) = if n == 0 then None else Some 501
+refusal_by C.Absent L.Faulty = Some bad_request
+refusal_by C.Absent (L.Valid n) = if n == 0 then None else Some not_implemented
 
+-- the parts, unless there is a status
 abbrev pub unless_refused : Option ℕ → List ℕ × List ℕ → Result (List ℕ × List ℕ) ℕ
 unless_refused None parts = Ok parts
 unless_refused (Some status) parts = Err status
 
+-- a target of no form is refused, and then a body
 abbrev pub with_parts : Option (List ℕ × List ℕ) → List Field → Result (List ℕ × List ℕ) ℕ
-with_parts None fields = Err 400
+with_parts None fields = Err bad_request
 with_parts (Some parts) fields = unless_refused (refusal_by (coding_named fields) (length_named fields)) parts
+
+-- the value of the first Host field, or nothing
+abbrev pub host_named : List Field → List ℕ
+host_named fields = first_value (codes "host") fields
 
 -- the target and the host, or the status of the refusal
 abbrev pub check : RequestHead → Result (List ℕ × List ℕ) ℕ
 check head =
-    if bytes_eq head.method (codes "CONNECT") then Err 501
-    else (if has_wrong_hosts head.minor (count_named (codes "host") head.fields) then Err 400
-    else with_parts (target_parts head.method head.target (first_value (codes "host") head.fields)) head.fields)
+    if bytes_eq head.method (codes "CONNECT") then Err not_implemented
+    else (if has_wrong_hosts head.minor (count_named (codes "host") head.fields) then Err bad_request
+    else with_parts (target_parts head.method head.target (host_named head.fields)) head.fields)
+
+-- whatever is refused is so with one of two statuses
+abbrev pub IsRefusal : ℕ → Type 0
+IsRefusal status = (status ≡ bad_request) ⊎ (status ≡ not_implemented)
+
+abbrev pub RefusesSo : Type 0
+RefusesSo = (head : RequestHead) (status : ℕ) → check head ≡ Err status → IsRefusal status
 
 -- the verdict says it
 abbrev pub Says : Verdict → Result (List ℕ × List ℕ) ℕ → Type 0

@@ -13,6 +13,7 @@ is_named name f = bytes_eq f.name name
 abbrev pub value_of : Field → List ℕ
 value_of f = trim_ows f.value.bytes
 
+-- the value of a field of the name
 abbrev pub value_in : List ℕ → Field → List (List ℕ)
 value_in name f = if is_named name f then value_of f ∷ [] else []
 
@@ -20,6 +21,7 @@ value_in name f = if is_named name f then value_of f ∷ [] else []
 abbrev pub values_named : List ℕ → List Field → List (List ℕ)
 values_named name fields = flat_map (value_in name) fields
 
+-- the members of the value of a field of the name
 abbrev pub members_in : List ℕ → Field → List (List ℕ)
 members_in name f = if is_named name f then members f.value.bytes else []
 
@@ -31,6 +33,7 @@ members_named name fields = flat_map (members_in name) fields
 abbrev pub count_named : List ℕ → List Field → ℕ
 count_named name fields = count_by (is_named name) fields
 
+-- the value of a field that may lack
 abbrev pub value_or_empty : Option Field → List ℕ
 value_or_empty None = []
 value_or_empty (Some f) = value_of f

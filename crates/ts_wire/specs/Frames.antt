@@ -1,18 +1,15 @@
 -- A body as it is sent on: as it is, or in chunks (RFC 9112, section 7.1).
-use Rattle.std.specs.Prelude.{ℕ, ◌/◌, ◌%◌, ◌<◌, ◌≤◌, Bool, false, true, List, [], ◌∷◌, ◌++◌, length, take, drop, All, flat_map, codes, if◌then◌else◌, nat_lt}
+use Rattle.std.specs.Prelude.{ℕ, ◌/◌, ◌%◌, ◌≡◌, ◌<◌, ◌≤◌, Bool, false, true, List, [], ◌∷◌, ◌++◌, length, map, take, drop, All, flat_map, codes, if◌then◌else◌, nat_lt}
 use Rattle.std.specs.Fmt.{digits, digit_glyph}
 use Rattle.httparse.specs.Ascii.{crlf_bytes}
 use Rattle.ts_wire.specs.declared.framing.Framing.TheVariants as F
 use Rattle.ts_wire.specs.declared.body.BodyState.TheVariants.{Ended}
 use Rattle.ts_wire.specs.declared.frames.Mode.{Mode}
 use Rattle.ts_wire.specs.declared.frames.Mode.TheVariants.{Plain, Chunked}
-use Rattle.ts_wire.specs.Framing.{body_limit}
+use Rattle.ts_wire.specs.Limits.{body_limit, piece_limit}
 use Rattle.ts_wire.specs.Body.{BodyOf}
 
--- how many bytes a piece of a body may have
-abbrev pub piece_limit : ℕ
-piece_limit = 32768
-
+-- a piece that may be sent
 abbrev pub IsPiece : List ℕ → Type 0
 IsPiece piece = (0 < length piece) × (length piece ≤ piece_limit)
 
@@ -51,6 +48,10 @@ abbrev pub cut : List ℕ → List ℕ → List (List ℕ)
 cut [] body = []
 cut (n ∷ ns) body = take n body ∷ cut ns (drop n body)
 
+-- the lengths of the pieces cut the body again as it was cut
+abbrev pub CutsBack : Type 0
+CutsBack = (pieces : List (List ℕ)) → cut (map length pieces) (joined pieces) ≡ pieces
+
 -- what is sent in chunks is read again as the body, and the body ends with it
 abbrev pub ReadsBack : Type 0
 ReadsBack =
@@ -60,7 +61,8 @@ ReadsBack =
 -- the last four hexadecimal digits of a number, and how many of them are leading zeros
 abbrev pub four_digits : ℕ → List ℕ
 four_digits n =
-    digit_glyph false (n / 4096 % 16) ∷ digit_glyph false (n / 256 % 16) ∷ digit_glyph false (n / 16 % 16) ∷ digit_glyph false (n % 16) ∷ []
+    digit_glyph false (n / 4096 % 16) ∷ digit_glyph false (n / 256 % 16)
+    ∷ digit_glyph false (n / 16 % 16) ∷ digit_glyph false (n % 16) ∷ []
 
 abbrev pub leading_zeros : ℕ → ℕ
 leading_zeros n = if nat_lt n 16 then 3 else (if nat_lt n 256 then 2 else (if nat_lt n 4096 then 1 else 0))

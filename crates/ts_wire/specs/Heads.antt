@@ -1,4 +1,4 @@
--- The heads of httparse's grammar (RFC 9112, sections 2 to 6), within this project's limits and as it keeps them.
+-- The heads of httparse's grammar (RFC 9112, sections 2 to 6), within this project's limits, as it keeps them
 use Rattle.std.specs.Prelude.{◌≡◌, ℕ, ◌<◌, ◌≤◌, ◌⊎◌, List, ◌++◌, map, length, take, drop}
 use Rattle.http_header.specs.Token.{lowercase}
 use Rattle.http_header.specs.FieldName.{IsFieldName}
@@ -9,16 +9,10 @@ use Rattle.httparse.specs.declared.spans.ResponseSpans.{ResponseSpans}
 use Rattle.httparse.specs.Grammar as grammar
 use Rattle.httparse.specs.Grammar.{field_value, print_request, ReadsRequest, HasNoRequest, MayBecomeRequest, print_response, ReadsResponse, HasNoResponse, MayBecomeResponse, status_code, reason_phrase}
 use Rattle.httparse.specs.Spans.{span_bytes, IsHeaderWithin, IsRequestAt, IsResponseAt, RequestExceeds, ResponseExceeds}
+use Rattle.ts_wire.specs.Limits.{head_limit, field_limit}
 use Rattle.ts_wire.specs.declared.fields.Field.{Field}
 use Rattle.ts_wire.specs.declared.heads.RequestHead.{RequestHead}
 use Rattle.ts_wire.specs.declared.heads.ResponseHead.{ResponseHead}
-
--- how many bytes and how many fields a head may have
-abbrev pub head_limit : ℕ
-head_limit = 16384
-
-abbrev pub field_limit : ℕ
-field_limit = 64
 
 -- the field with this name, in lower case, and this value
 abbrev pub field_of : List ℕ → List ℕ → Field
@@ -53,7 +47,8 @@ pub record IsRequestOf (bytes : List ℕ) (head : RequestHead) (used : ℕ) : Ty
 -- a head that the bytes begin with is kept as this one, and the rest follows it
 abbrev pub IsOneRequest : List ℕ → RequestHead → ℕ → Type 0
 IsOneRequest bytes head used =
-    (h : grammar.RequestHead) (rest : List ℕ) → BeginsWithRequest bytes h rest → KeepsRequest h head × (rest ≡ drop used bytes)
+    (h : grammar.RequestHead) (rest : List ℕ) → BeginsWithRequest bytes h rest
+    → KeepsRequest h head × (rest ≡ drop used bytes)
 
 -- no prefix is a head within the limits
 abbrev pub LacksRequest : List ℕ → Type 0
@@ -65,24 +60,26 @@ pub record AwaitsRequest (bytes : List ℕ) : Type 0 where
   pub none : HasNoRequest bytes
   pub may : MayBecomeRequest bytes
 
--- no prefix is a head within the limits, whatever follows: as many bytes as a head may have are there, or a 65th field line is
--- among them
+-- no prefix is a head within the limits, whatever follows: as many bytes as a head may have are there, or one
+-- field line more than a head may have is among them
 pub record IsTooLongRequest (bytes : List ℕ) : Type 0 where
   pub lacks : (more : List ℕ) → LacksRequest (bytes ++ more)
   pub why : (head_limit ≤ length bytes) ⊎ RequestExceeds field_limit (take head_limit bytes)
 
--- the same of a response
+-- the bytes begin with the response head h, which is within the limits, and rest follows
 pub record BeginsWithResponse (bytes : List ℕ) (h : grammar.ResponseHead) (rest : List ℕ) : Type 0 where
   pub reads : ReadsResponse bytes h rest
   pub short : length (print_response h) ≤ head_limit
   pub few : length h.fields ≤ field_limit
 
+-- the head is what is kept of the response head h
 pub record KeepsResponse (h : grammar.ResponseHead) (head : ResponseHead) : Type 0 where
   pub status : head.status ≡ status_code h
   pub reason : head.reason ≡ reason_phrase h.reason
   pub minor : head.minor ≡ h.minor
   pub fields : head.fields ≡ map kept_field h.fields
 
+-- the first bytes, so many, are a response head within the limits, and this is what is kept of it
 pub record IsResponseOf (bytes : List ℕ) (head : ResponseHead) (used : ℕ) : Type 0 where
   pub parsed : grammar.ResponseHead
   pub begins : BeginsWithResponse bytes parsed (drop used bytes)
@@ -91,18 +88,23 @@ pub record IsResponseOf (bytes : List ℕ) (head : ResponseHead) (used : ℕ) : 
   pub some : 0 < used
   pub within : used ≤ length bytes
 
+-- a response head that the bytes begin with is kept as this one, and the rest follows it
 abbrev pub IsOneResponse : List ℕ → ResponseHead → ℕ → Type 0
 IsOneResponse bytes head used =
-    (h : grammar.ResponseHead) (rest : List ℕ) → BeginsWithResponse bytes h rest → KeepsResponse h head × (rest ≡ drop used bytes)
+    (h : grammar.ResponseHead) (rest : List ℕ) → BeginsWithResponse bytes h rest
+    → KeepsResponse h head × (rest ≡ drop used bytes)
 
+-- no prefix is a response head within the limits
 abbrev pub LacksResponse : List ℕ → Type 0
 LacksResponse bytes = (h : grammar.ResponseHead) (rest : List ℕ) → BeginsWithResponse bytes h rest → ⊥
 
+-- no prefix is a response head, and with more bytes one may come to be
 pub record AwaitsResponse (bytes : List ℕ) : Type 0 where
   pub short : length bytes < head_limit
   pub none : HasNoResponse bytes
   pub may : MayBecomeResponse bytes
 
+-- no prefix is a response head within the limits, whatever follows, for one of the two causes
 pub record IsTooLongResponse (bytes : List ℕ) : Type 0 where
   pub lacks : (more : List ℕ) → LacksResponse (bytes ++ more)
   pub why : (head_limit ≤ length bytes) ⊎ ResponseExceeds field_limit (take head_limit bytes)
@@ -117,9 +119,10 @@ pub record IsFieldAt (buf : List ℕ) (h : HeaderSpan) : Type 0 where
   pub name : IsFieldName (span_bytes buf h.name)
   pub value : IsFieldValue (span_bytes buf h.value)
 
--- the spans are those of a head of the grammar
+-- the spans are those of a request head of the grammar
 abbrev pub IsSomeRequestAt : List ℕ → List HeaderSpan → RequestSpans → Type 0
 IsSomeRequestAt buf headers spans = (h : grammar.RequestHead) × IsRequestAt buf headers spans h
 
+-- the spans are those of a response head of the grammar
 abbrev pub IsSomeResponseAt : List ℕ → List HeaderSpan → ResponseSpans → Type 0
 IsSomeResponseAt buf headers spans = (h : grammar.ResponseHead) × IsResponseAt buf headers spans h

@@ -7,6 +7,8 @@ pub mod Frames
 pub mod Framing
 pub mod Heads
 pub mod Judged
+pub mod Limits
+pub mod OneHead
 pub mod Place
 pub mod Printed
 pub mod Values

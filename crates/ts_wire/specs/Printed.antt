@@ -1,16 +1,17 @@
--- The heads that are sent on, as text.
+-- The heads that are sent on, as text (RFC 9112, sections 3 to 5).
 use Rattle.std.specs.Prelude.{ℕ, Bool, ◌+◌, ◌/◌, ◌%◌, List, [], ◌∷◌, ◌++◌, Option, Some, None, if◌then◌else◌, ◌==◌, ◌&&◌, nat_lt, codes, flat_map, decimal}
 use Rattle.std.specs.List.{list_all, list_any}
 use Rattle.httparse.specs.Ascii.{crlf_bytes}
 use Rattle.ts_wire.specs.declared.fields.Field.{Field}
 use Rattle.ts_wire.specs.declared.printed.ClientFraming.{ClientFraming}
-use Rattle.ts_wire.specs.declared.printed.ClientFraming.TheVariants.{Nothing, Sized, Chunked, Close}
+use Rattle.ts_wire.specs.declared.printed.ClientFraming.TheVariants.{Sized, Chunked}
 use Rattle.ts_wire.specs.FieldList.{is_named}
 
 -- name `: ` value CR LF
 abbrev pub field_text : Field → List ℕ
 field_text f = f.name ++ codes ": " ++ f.value.bytes ++ crlf_bytes
 
+-- the fields, line by line
 abbrev pub fields_text : List Field → List ℕ
 fields_text fields = flat_map field_text fields
 
@@ -31,11 +32,11 @@ status_text status = (48 + status / 100) ∷ (48 + status / 10 % 10) ∷ (48 + s
 abbrev pub reason_text : List ℕ → List ℕ
 reason_text reason = if list_all (λ b. nat_lt b 128) reason then reason else []
 
+-- the line that says where the body ends, if one does
 abbrev pub framing_line : ClientFraming → List ℕ
-framing_line Nothing = []
 framing_line (Sized n) = codes "content-length: " ++ decimal n ++ crlf_bytes
 framing_line Chunked = codes "transfer-encoding: chunked\r\n"
-framing_line Close = []
+framing_line _ = []
 
 -- the head that the client gets
 abbrev pub client_text : ℕ → List ℕ → List Field → Option ℕ → ClientFraming → List ℕ
@@ -49,7 +50,8 @@ host_text host = codes "host: " ++ host ++ crlf_bytes
 
 -- a field of a request, where an absolute target's authority stands for the value of Host
 abbrev pub request_field_text : Bool → List ℕ → Field → List ℕ
-request_field_text absolute host f = if absolute && is_named (codes "host") f then host_text host else field_text f
+request_field_text absolute host f =
+    if absolute && is_named (codes "host") f then host_text host else field_text f
 
 -- a Host field, where there is none
 abbrev pub missing_host_text : List ℕ → List Field → List ℕ
@@ -59,4 +61,5 @@ missing_host_text host fields = if list_any (is_named (codes "host")) fields the
 abbrev pub origin_text : List ℕ → Bool → ℕ → List ℕ → List ℕ → List Field → List ℕ
 origin_text method absolute minor target host fields =
     method ++ codes " " ++ target ++ codes " HTTP/1.1\r\n" ++ missing_host_text host fields
-    ++ flat_map (request_field_text absolute host) fields ++ via_text minor ++ codes "connection: close\r\n\r\n"
+    ++ flat_map (request_field_text absolute host) fields ++ via_text minor
+    ++ codes "connection: close\r\n\r\n"

@@ -109,7 +109,8 @@ impl BodyReader {
 
         // A body that has ended or is bad stays so, and takes nothing.
         ensures rests { state_of self.old.phase ≢ BodyState.Unfinished → result.taken ≡ 0 }
-        ensures stays { state_of self.old.phase ≢ BodyState.Unfinished → result.state ≡ state_of self.old.phase }
+        ensures stays { state_of self.old.phase ≢ BodyState.Unfinished
+            → result.state ≡ state_of self.old.phase }
 
         // However the bytes are cut, what was given is the body of what was fed, in its state.
         ensures goes_on { GoesOn self.old self.new (take result.taken bytes.now)

@@ -1,10 +1,10 @@
-//! The request check: which requests are taken, and with which target and host.
+//! The request check says which requests are taken, with which target and which host.
 ghost use Rattle.std.specs.Prelude.{◌≡◌, ◌<◌, ◌≤◌, ◌∷◌, List, ℕ, length, codes, IfOk, IfSome, take, drop, Some, None, if◌then◌else◌};
 ghost use Rattle.std.specs.List.{find, list_any, position, position_or_len};
 ghost use Rattle.std.specs.Option.{option_copied};
 ghost use Rattle.ts_wire.specs.FieldList.{is_named, count_named, first_value};
 ghost use Rattle.ts_wire.specs.Framing.{coding_named, length_named};
-ghost use Rattle.ts_wire.specs.Check.{has_wrong_hosts, is_absolute, ends_authority, sent_after, absolute_parts, begins_with_slash, target_parts, refusal_by, check, Says, is_at_sign, is_colon, is_bracket, without_port, plugin_host};
+ghost use Rattle.ts_wire.specs.Check.{has_wrong_hosts, is_absolute, ends_authority, sent_after, absolute_parts, begins_with_slash, target_parts, refusal_by, check, Says, RefusesSo, is_at_sign, is_colon, is_bracket, without_port, plugin_host};
 
 use crate::fields::Field;
 use crate::framing::{ContentLength, TransferCoding, coding_of, length_of};
@@ -12,6 +12,12 @@ use crate::heads::RequestHead;
 use crate::values::{eq_ignore_case, is_named, value_of};
 use std::alloc::Global;
 use ts_link::{NoMemory, Octets};
+
+/// The status of a request that is not one, or names no host or two (RFC 9110, section 15.5.1).
+pub const BAD_REQUEST: u16 = 400;
+
+/// The status of a request that this proxy does not serve (RFC 9110, section 15.6.2).
+pub const NOT_IMPLEMENTED: u16 = 501;
 
 /// What the check says of a request.
 #[derive(Drop)]
@@ -178,26 +184,29 @@ fn refusal_by(coding: TransferCoding, length: ContentLength) -> Option<u16>
     match (coding, length) {
         (TransferCoding::Absent, ContentLength::Absent) => None,
         (TransferCoding::Absent, ContentLength::Valid(0)) => None,
-        (TransferCoding::Absent, ContentLength::Faulty) => Some(400),
-        _ => Some(501),
+        (TransferCoding::Absent, ContentLength::Faulty) => Some(BAD_REQUEST),
+        _ => Some(NOT_IMPLEMENTED),
     }
 }
 
 /// The table of the request check. The first row that applies decides.
 pub fn check_request(alloc: Global, head: &RequestHead) -> Result<Verdict, NoMemory>
-    ensures { IfOk result (λ verdict. Says verdict (check head.now)) }
+    ensures says { IfOk result (λ verdict. Says verdict (check head.now)) }
+
+    // The law that a refusal has one of two statuses.
+    ensures refusals { RefusesSo }
 {
     let method = head.method.bytes();
     let fields = head.fields.items();
     if method == b"CONNECT".as_slice() {
-        return Ok(Verdict::Refuse(501));
+        return Ok(Verdict::Refuse(NOT_IMPLEMENTED));
     }
     if has_wrong_hosts(head.minor, count_hosts(fields)) {
-        return Ok(Verdict::Refuse(400));
+        return Ok(Verdict::Refuse(BAD_REQUEST));
     }
     let Some((target, host)) = target_parts(alloc, method, head.target.bytes(), host_of(fields))?
     else {
-        return Ok(Verdict::Refuse(400));
+        return Ok(Verdict::Refuse(BAD_REQUEST));
     };
     match refusal_by(coding_of(&head.fields), length_of(&head.fields)) {
         Some(status) => Ok(Verdict::Refuse(status)),

@@ -1,6 +1,7 @@
-//! The fields of a head.
+//! A head has a list of fields, each with a name in lower case and a value.
 ghost use Rattle.std.specs.Prelude.{◌≡◌, ◌++◌, ◌∷◌, [], not, filter, bytes_eq, IfOk, OnOk, OnErr};
 ghost use Rattle.ts_wire.specs.FieldList.{is_named};
+ghost use Rattle.ts_wire.specs.OneHead.{MayAdd, MayRemove};
 
 use http_header::{HeaderName, HeaderValue};
 use std::alloc::Global;
@@ -70,6 +71,9 @@ impl Fields {
     pub fn push(&mut self, field: Field) -> Result<(), NoMemory>
         ensures ok { OnOk result (self.new ≡ self.old ++ field ∷ []) }
         ensures err { OnErr result (self.new ≡ self.old) }
+
+        // A header rule that adds a field of a free name leaves the framing and Host alone.
+        ensures rule { OnOk result (MayAdd self.old field self.new) }
     {
         self.list.push(field)?;
         Ok(())
@@ -77,7 +81,10 @@ impl Fields {
 
     /// Removes every field of the name, and keeps the order of the rest.
     pub fn remove_all(&mut self, name: &HeaderName)
-        ensures { self.new ≡ filter (λ f. not (is_named name.now f)) self.old }
+        ensures removed { self.new ≡ filter (λ f. not (is_named name.now f)) self.old }
+
+        // So does one that removes a free name.
+        ensures rule { MayRemove self.old name.now self.new }
     {
         remove_named(&mut self.list, name);
     }

@@ -1,4 +1,4 @@
-//! Which fields are sent on.
+//! Which fields of a message are sent on, and which end at this hop.
 ghost use Rattle.std.specs.Prelude.{◌≡◌, List, ℕ, IfOk};
 ghost use Rattle.std.specs.List.{list_any};
 ghost use Rattle.std.specs.Str.{str_eq_ignore_ascii_case};
@@ -53,8 +53,8 @@ fn is_forwarded(fields: &[Field], field: &Field) -> bool
     !(is_hop(name) || is_option(fields, name))
 }
 
-/// The fields that are sent on: all but Connection and those that it names, the other fields that end at this hop,
-/// and Content-Length.
+/// The fields that are sent on: all but Connection and those that it names, the other fields that end at this
+/// hop, and Content-Length.
 pub fn forward_fields(alloc: Global, fields: &Fields) -> Result<Fields, NoMemory>
     ensures { IfOk result (λ kept. kept ≡ forwarded fields.now) }
 {

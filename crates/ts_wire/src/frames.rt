@@ -1,11 +1,14 @@
-//! A body as it is sent on, piece by piece.
+//! Writes a body that is sent on, piece by piece, as it is or in chunks.
 ghost use Rattle.std.specs.Prelude.{◌≡◌, ◌+◌, ◌-◌, ◌*◌, ◌/◌, ◌%◌, ◌<◌, ◌≤◌, ◌∷◌, [], length, drop, false, OnOk, OnErr};
 ghost use Rattle.std.specs.Fmt.{digit_glyph};
 ghost use Rattle.ts_iobuf.specs.Buffer.{Grows};
-ghost use Rattle.ts_wire.specs.Frames.{IsPiece, frame_of, end_of, four_digits, leading_zeros, ReadsBack};
+ghost use Rattle.ts_wire.specs.Frames.{IsPiece, frame_of, end_of, four_digits, leading_zeros, ReadsBack, CutsBack};
 
 use ts_iobuf::IoBuffer;
 use ts_link::NoMemory;
+
+/// How many bytes a piece of a body may have.
+pub const MAX_PIECE: usize = 32768;
 
 /// How a body is sent.
 #[derive(Clone, Copy, Debug, PartialEq, Eq)]
@@ -76,8 +79,9 @@ pub fn frame_end(mode: Mode, out: &mut IoBuffer) -> Result<(), NoMemory>
     ensures grows { OnOk result (Grows out.old out.new (end_of mode)) }
     ensures err { OnErr result (out.new ≡ out.old) }
 
-    // The law that what is sent in chunks is read back.
+    // The laws that what is sent in chunks is read back, and that the pieces' lengths cut it as it was cut.
     ensures read_back { ReadsBack }
+    ensures cut_back { CutsBack }
 {
     match mode {
         Mode::Plain => Ok(()),

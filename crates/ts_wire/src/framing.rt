@@ -1,11 +1,11 @@
-//! Where the body of a message ends.
+//! Where the body of a message ends, read off the fields of its head.
 ghost use Rattle.std.specs.Prelude.{◌≡◌, ◌&&◌, ◌^◌, ◌+◌, ◌*◌, Some, None, fold, length, codes, if◌then◌else◌, nat_lt, nat_le};
 ghost use Rattle.std.specs.List.{list_all};
 ghost use Rattle.std.specs.Char.{is_ascii_digit};
 ghost use Rattle.std.specs.Str.Parse.{digits_value};
 ghost use Rattle.ts_wire.specs.Values.{members};
 ghost use Rattle.ts_wire.specs.FieldList.{members_in, value_in};
-ghost use Rattle.ts_wire.specs.Framing.{is_length, is_chunked, add_length, add_coding, length_named, coding_named, has_no_body, framing_by, framing};
+ghost use Rattle.ts_wire.specs.Framing.{is_length, is_chunked, add_length, add_coding, number_in, length_named, coding_named, has_no_body, framing_by, framing};
 
 use crate::fields::{Field, Fields};
 use crate::heads::ResponseHead;
@@ -51,9 +51,9 @@ pub enum TransferCoding {
     Other,
 }
 
+/// The number that the digits write, if they are digits and a `u64` holds it.
 fn number_of(digits: &[u8]) -> Option<u64>
-    ensures { result ≡ (if nat_lt 0 (length digits.now) && (list_all is_ascii_digit digits.now
-        && nat_lt (digits_value 10 digits.now) (2 ^ 64)) then Some (digits_value 10 digits.now) else None) }
+    ensures { result ≡ number_in digits.now }
 {
     if digits.is_empty() {
         return None;
@@ -158,10 +158,15 @@ pub fn coding_of(fields: &Fields) -> TransferCoding
     coding
 }
 
+// The statuses beside 1xx of a response that has no body (RFC 9110, sections 15.3.5 and 15.4.5).
+const NO_CONTENT: u16 = 204;
+
+const NOT_MODIFIED: u16 = 304;
+
 fn has_no_body(status: u16, to_head: bool) -> bool
     ensures { result ≡ has_no_body status to_head }
 {
-    to_head || status / 100 == 1 || status == 204 || status == 304
+    to_head || status / 100 == 1 || status == NO_CONTENT || status == NOT_MODIFIED
 }
 
 fn framing_by(minor: u8, coding: TransferCoding, length: ContentLength) -> Framing

@@ -1,5 +1,6 @@
-//! The heads of requests and responses.
+//! The heads of requests and responses as they are kept, and how long a head may be.
 ghost use Rattle.std.specs.Prelude.{◌≤◌};
+ghost use Rattle.ts_wire.specs.Limits.{status_limit};
 
 use crate::fields::Fields;
 use ts_link::Octets;
@@ -29,6 +30,6 @@ pub struct ResponseHead {
     /// 0 for HTTP/1.0, and 1 for HTTP/1.1.
     pub minor: u8,
     pub fields: Fields,
-    pub ghost digits: { status ≤ 999 },
+    pub ghost digits: { status ≤ status_limit },
     pub ghost version: { minor ≤ 1 },
 }

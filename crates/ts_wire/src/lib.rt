@@ -1,5 +1,5 @@
-//! What the proxy says and hears in HTTP/1.1: the heads of requests and responses and the request check,
-//! where a body ends and what it is however its bytes are cut, and the heads and frames that the proxy prints.
+//! HTTP/1.1 as the proxy hears and says it: heads and the request check, where a body ends and what it is
+//! however its bytes are cut, and the heads and frames that are sent on.
 #![tactic(auto)]
 
 mod body;
@@ -15,10 +15,10 @@ mod reading;
 mod values;
 
 pub use body::{BodyEnd, BodyReader, BodyState, Fed};
-pub use check::{Verdict, check_request, plugin_host};
+pub use check::{BAD_REQUEST, NOT_IMPLEMENTED, Verdict, check_request, plugin_host};
 pub use fields::{Field, Fields};
 pub use forward::forward_fields;
-pub use frames::{Mode, frame_end, frame_piece};
+pub use frames::{MAX_PIECE, Mode, frame_end, frame_piece};
 pub use framing::{
     ContentLength, Framing, MAX_BODY, TransferCoding, coding_of, framing_of, length_of,
 };

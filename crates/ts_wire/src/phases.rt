@@ -1,7 +1,7 @@
-//! The phases of a reader of bodies, and the step that it takes in each.
+//! A reader of bodies stands in one of these phases, and takes a step in each.
 ghost use Rattle.std.specs.Prelude.{◌≡◌, ◌+◌, ◌-◌, ◌^◌, ◌<◌, ◌≤◌, ◌++◌, [], List, ℕ, length, min, vec_len, vec_capacity, if◌then◌else◌};
-ghost use Rattle.ts_wire.specs.Framing.{body_limit};
-ghost use Rattle.ts_wire.specs.Body.{line_limit, trailer_limit, line_feeds};
+ghost use Rattle.ts_wire.specs.Limits.{body_limit, line_limit, trailer_limit, word_limit};
+ghost use Rattle.ts_wire.specs.Body.{line_feeds};
 ghost use Rattle.ts_wire.specs.Judged.{JudgesLine, JudgesTrailer, phase_after, is_line, is_trailer};
 ghost use Rattle.ts_wire.specs.Place.{room_of, IsSoundPhase, StepsOn};
 
@@ -17,7 +17,7 @@ pub const MAX_LINE: usize = 4096;
 /// How many bytes a trailer section may have.
 pub const MAX_TRAILER: usize = 16384;
 
-/// A trailer section that is not whole at this many line feeds has more fields than it may.
+/// How many line feeds a trailer section may have: one for each field, and one for its empty line.
 pub const MAX_TRAILER_LINES: usize = 65;
 
 /// Which part of a body comes next.
@@ -43,8 +43,8 @@ pub enum Phase {
     Bad,
 }
 
-/// What a reader does with a front of some bytes: it takes `taken` of them, those from `from` to `to` are body,
-/// and `phase` is next.
+/// What a reader does with a front of some bytes: it takes `taken` of them, those from `from` to `to` are
+/// body, and `phase` is next.
 #[derive(Clone, Copy)]
 pub struct Step {
     pub phase: Phase,
@@ -250,7 +250,7 @@ fn judge_trailer(text: &[u8]) -> Judged
                 }
             }
         }
-        // It is bad for one of two reasons: it has more fields than there is room for, or a line that is none.
+        // It is bad for one of two causes: more fields than there is room for, or a line that is none.
         Err(error) => match error {
             Error::TooManyHeaders => Judged {
                 phase: Phase::Bad,
@@ -336,7 +336,7 @@ fn line_step(held: &mut Vec<u8>, total: u64, bytes: &[u8]) -> Step
 
 fn trailer_step(held: &mut Vec<u8>, total: u64, bytes: &[u8]) -> Step
     requires sound { IsSoundPhase Phase.Trailer held.old.items total }
-    requires total { total < 2 ^ 64 }
+    requires total { total < word_limit }
     requires room { trailer_limit ≤ vec_capacity held.old }
     ensures steps { StepsOn Phase.Trailer held.old.items total bytes.now result held.new.items }
     ensures room { vec_capacity held.old ≤ vec_capacity held.new }
@@ -357,7 +357,7 @@ fn trailer_step(held: &mut Vec<u8>, total: u64, bytes: &[u8]) -> Step
 /// The step of a reader in this phase.
 pub(crate) fn next_step(phase: Phase, held: &mut Vec<u8>, total: u64, bytes: &[u8]) -> Step
     requires sound { IsSoundPhase phase held.old.items total }
-    requires total { total < 2 ^ 64 }
+    requires total { total < word_limit }
     requires room { room_of phase ≤ vec_capacity held.old }
     ensures steps { StepsOn phase held.old.items total bytes.now result held.new.items }
     ensures room { vec_capacity held.old ≤ vec_capacity held.new }

@@ -1,9 +1,11 @@
-//! The heads that are sent on, as text.
+//! Prints the heads that are sent on: each is one head, and is read back as what it was printed from.
 ghost use Rattle.std.specs.Prelude.{◌≡◌, ◌<◌, ◌≤◌, ◌+◌, ◌*◌, ◌/◌, ◌%◌, ◌++◌, ◌∷◌, [], List, ℕ, nat_lt, decimal, codes, flat_map, IfOk, OnOk, IfSome};
 ghost use Rattle.std.specs.List.{list_all, list_any};
 ghost use Rattle.httparse.specs.Ascii.{crlf_bytes};
+ghost use Rattle.ts_wire.specs.Limits.{status_limit};
 ghost use Rattle.ts_wire.specs.FieldList.{is_named};
 ghost use Rattle.ts_wire.specs.Check.{is_absolute};
+ghost use Rattle.ts_wire.specs.OneHead.{SendsOneRequest, ForwardsUnchanged, SendsOneResponse, ForwardsPlainly};
 ghost use Rattle.ts_wire.specs.Printed.{field_text, fields_text, via_line, status_text, reason_text, framing_line, client_text, host_text, request_field_text, missing_host_text, origin_text};
 
 use crate::check::is_absolute;
@@ -60,7 +62,7 @@ fn via_of(via: Option<u8>) -> &'static [u8]
 }
 
 fn status_digits(status: u16) -> [u8; 3]
-    requires { status ≤ 999 }
+    requires { status ≤ status_limit }
     ensures { result ≡ status_text status }
 {
     [
@@ -109,9 +111,7 @@ fn reason_of(reason: &[u8]) -> &[u8]
     if is_ascii(reason) { reason } else { &[] }
 }
 
-/// The head that the client gets. `via` is the minor version of the origin's head, and `None` for an answer
-/// of the proxy's own.
-pub fn client_head(
+fn client_text(
     alloc: Global,
     status: u16,
     reason: &[u8],
@@ -119,7 +119,7 @@ pub fn client_head(
     via: Option<u8>,
     framing: ClientFraming,
 ) -> Result<Octets, NoMemory>
-    requires status { status ≤ 999 }
+    requires status { status ≤ status_limit }
     requires via { IfSome via (λ minor. minor ≤ 1) }
     ensures { IfOk result (λ text. text ≡ client_text status reason.now fields.now via framing) }
 {
@@ -135,6 +135,29 @@ pub fn client_head(
     add_framing(alloc, &mut out, framing)?;
     add(&mut out, b"connection: close\r\n\r\n")?;
     Ok(Octets::of_vec(out))
+}
+
+/// The head that the client gets. `via` is the minor version of the origin's head, and `None` for an answer
+/// of the proxy's own.
+pub fn client_head(
+    alloc: Global,
+    status: u16,
+    reason: &[u8],
+    fields: &Fields,
+    via: Option<u8>,
+    framing: ClientFraming,
+) -> Result<Octets, NoMemory>
+    requires status { status ≤ status_limit }
+    requires via { IfSome via (λ minor. minor ≤ 1) }
+    ensures text { IfOk result (λ text. text ≡ client_text status reason.now fields.now via framing) }
+
+    // The text is one response head, which says of the body's end what it was to say.
+    ensures one_head { IfOk result (SendsOneResponse status reason.now fields.now framing) }
+
+    // The law that the fields of a head that was read may be sent on so.
+    ensures forwards { ForwardsPlainly }
+{
+    client_text(alloc, status, reason, fields, via, framing)
 }
 
 fn add_host(out: &mut Vec<u8>, host: &[u8]) -> Result<(), NoMemory>
@@ -166,7 +189,8 @@ fn add_request_fields(
     host: &[u8],
     fields: &[Field],
 ) -> Result<(), NoMemory>
-    ensures { OnOk result (out.new.items ≡ out.old.items ++ flat_map (request_field_text absolute host.now) fields.now) }
+    ensures { OnOk result (out.new.items ≡ out.old.items
+        ++ flat_map (request_field_text absolute host.now) fields.now) }
 {
     for field in fields {
         add_request_field(out, absolute, host, field)?;
@@ -190,9 +214,7 @@ fn add_missing_host(out: &mut Vec<u8>, host: &[u8], fields: &[Field]) -> Result<
     }
 }
 
-/// The head that the origin gets: the request's method, with this target, host and fields. For an absolute target
-/// the host stands in place of the value of a Host field; where there is none, one is put first.
-pub fn origin_head(
+fn origin_text(
     alloc: Global,
     head: &RequestHead,
     target: &[u8],
@@ -213,4 +235,25 @@ pub fn origin_head(
     add(&mut out, via_of(Some(head.minor)))?;
     add(&mut out, b"connection: close\r\n\r\n")?;
     Ok(Octets::of_vec(out))
+}
+
+/// The head that the origin gets: the request's method, with this target, host and fields. For an absolute
+/// target the host stands in place of the value of a Host field; where there is none, one is put first.
+pub fn origin_head(
+    alloc: Global,
+    head: &RequestHead,
+    target: &[u8],
+    host: &[u8],
+    fields: &Fields,
+) -> Result<Octets, NoMemory>
+    ensures text { IfOk result (λ text. text ≡ origin_text head.now.method
+        (is_absolute head.now.target) head.now.minor target.now host.now fields.now) }
+
+    // A request that was read and passed the check is sent as exactly one request, for its own host.
+    ensures one_head { IfOk result (SendsOneRequest head.now target.now host.now fields.now) }
+
+    // The law that this holds of the fields that are sent on with no header rule.
+    ensures forwards { ForwardsUnchanged head.now }
+{
+    origin_text(alloc, head, target, host, fields)
 }

@@ -1,8 +1,14 @@
-use Rattle.ts_wire.proofs.FrameLemmas.{reads_back}
+use Rattle.ts_wire.proofs.FrameLemmas.{reads_back, cut-joined}
 use Rattle.ts_wire.proofs.frames.frame_end.Goals as goal
 
 pub returns-in-Plain-clause-read_back : goal.returns-in-Plain-clause-read_back
 returns-in-Plain-clause-read_back c = reads_back
 
+pub returns-in-Plain-clause-cut_back : goal.returns-in-Plain-clause-cut_back
+returns-in-Plain-clause-cut_back c = cut-joined
+
 pub returns-in-Chunked-clause-read_back : goal.returns-in-Chunked-clause-read_back
 returns-in-Chunked-clause-read_back c = reads_back
+
+pub returns-in-Chunked-clause-cut_back : goal.returns-in-Chunked-clause-cut_back
+returns-in-Chunked-clause-cut_back c = cut-joined
