@@ -1,0 +1,50 @@
+-- The grammar of a recording, as the one text of each recording.
+use Rattle.std.specs.Prelude.{◌≡◌, ℕ, ◌≤◌, List, [], ◌∷◌, ◌++◌, length}
+use Rattle.std.specs.List.{AllByRecursion}
+use Rattle.std.specs.Fmt.{decimal}
+use Rattle.ts_record.specs.Keywords.{spelling}
+use Rattle.ts_record.specs.declared.recording.TheConstants.{MOST_PIECE, MOST_TXNS}
+use Rattle.ts_record.specs.declared.keyword.Keyword.{Keyword}
+use Rattle.ts_record.specs.declared.keyword.Keyword.TheVariants as k
+
+-- a transaction: the pieces of the client and those of the origin
+abbrev pub Txn : Type 0
+Txn = List (List ℕ) × List (List ℕ)
+
+-- the length of a piece and its bytes, with a line feed behind each, and what follows
+abbrev pub body_before : List ℕ → List ℕ → List ℕ
+body_before behind piece = decimal (length piece) ++ 10 ∷ (piece ++ 10 ∷ behind)
+
+-- the pieces of one side, each behind its keyword, and what follows
+abbrev pub pieces_before : Keyword → List ℕ → List (List ℕ) → List ℕ
+pieces_before side behind [] = behind
+pieces_before side behind (p ∷ ps) = spelling side ++ body_before (pieces_before side behind ps) p
+
+-- the pieces of a client and those of an origin, the last line of their transaction, and what follows
+abbrev pub inside_before : List ℕ → List (List ℕ) → List (List ℕ) → List ℕ
+inside_before behind client origin = pieces_before k.Client (pieces_before k.Origin (spelling k.Close ++ behind) origin) client
+
+-- transactions, and the last line of all
+abbrev pub txns_text : List Txn → List ℕ
+txns_text [] = spelling k.End
+txns_text (t ∷ ts) = spelling k.Txn ++ inside_before (txns_text ts) t.0 t.1
+
+-- the text of a recording
+abbrev pub text_of : List Txn → List ℕ
+text_of txns = spelling k.Header ++ txns_text txns
+
+abbrev pub IsPiece : List ℕ → Type 0
+IsPiece piece = (1 ≤ length piece) × (length piece ≤ MOST_PIECE)
+
+abbrev pub IsTxn : Txn → Type 0
+IsTxn t = AllByRecursion IsPiece t.0 × AllByRecursion IsPiece t.1
+
+-- the limits of a recording
+pub record KeepsLimits (txns : List Txn) : Type 0 where
+  pub few : length txns ≤ MOST_TXNS
+  pub each : AllByRecursion IsTxn txns
+
+-- the bytes are the text of this recording
+pub record IsRecording (bytes : List ℕ) (txns : List Txn) : Type 0 where
+  pub limits : KeepsLimits txns
+  pub text : bytes ≡ text_of txns
