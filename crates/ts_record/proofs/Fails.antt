@@ -20,6 +20,7 @@ fails_at_token Token Kind bytes left goes opens r =
   where
     begun : (m : List ℕ) → Token (r.front ++ m) → (more : List ℕ) × Kind (r.front ++ more)
     begun m t = let whole = goes (r.front ++ m) t in (m ++ whole.0, subst Kind (append_assoc r.front m whole.0) whole.1)
+
     stuck : (rest : List ℕ) → Stuck (Opens Token) r.front rest → Stuck Kind r.front rest
     stuck [] h = λ k. h (opens r.front k)
     stuck (b ∷ bs) h = λ more k. h more (opens (r.front ++ b ∷ more) k)
@@ -34,7 +35,8 @@ fails_behind Kind Next t bytes left to back f = record {
   bytes_are = ap (λ x. t ++ x) f.bytes_are ∙ sym (append_assoc t f.front f.rest);
   left_is = f.left_is;
   begun = (f.begun.0, subst Kind (sym (append_assoc t f.front f.begun.0)) (to (f.front ++ f.begun.0) f.begun.1));
-  stuck = stuck f.rest f.stuck }
+  stuck = stuck f.rest f.stuck;
+}
   where
     stuck : (rest : List ℕ) → Stuck Next f.front rest → Stuck Kind (t ++ f.front) rest
     stuck [] h = λ k. h (back f.front k)

@@ -8,7 +8,7 @@ use Rattle.std.proofs.lemmas.Str.{digit_value_digit}
 use Rattle.std.proofs.lemmas.Int.Digits.{digits_value_push}
 use Rattle.std.proofs.lemmas.Fmt.{digits_decimal, digits_value-decimal, decimal_injective, first_decimal}
 use Rattle.std.proofs.lemmas.Str.Parse.{IsNumeralModel, numerals_by_value, tells_digits, digit_from_value, digits_value-take-le}
-use Rattle.ts_record.specs.Refusing.{DigitsStop, DigitsEnd}
+use Rattle.ts_record.specs.Refusing.{with_digit, DigitsStop, DigitsEnd}
 use Rattle.ts_record.specs.declared.recording.TheConstants.{MOST_PIECE}
 
 pub own : IsNumeralModel (AllDigits 10) (digits_value 10)
@@ -47,32 +47,39 @@ longer_digits (d ∷ ds) (e ∷ es) x y b are also same =
     again first (inr (more, rest)) = inr (more, cc (first, rest))
 
 -- a byte among digits is one
-pub digit_among : (ds more : List ℕ) (b : ℕ) → AllDigits 10 (ds ++ b ∷ more) → (48 ≤ b) × (b ≤ 57)
-digit_among [] more b are = digit_from_value b are.0
+pub digit_among : (ds more : List ℕ) (b : ℕ) → AllDigits 10 (ds ++ b ∷ more) → digit_value b < 10
+digit_among [] more b are = are.0
 digit_among (d ∷ ds) more b are = digit_among ds more b are.1
 
 -- the digits of a number from 1 to a piece's most bytes go on where the digits so far stop no digit
 pub goes_on : (n value b : ℕ) (ds more bs : List ℕ) → 0 < n → n ≤ MOST_PIECE → digits_value 10 ds ≡ value → (value ≡ 0 → ds ≡ [])
     → decimal n ≡ ds ++ b ∷ more → DigitsStop value (b ∷ bs) → ⊥
 goes_on n value b ds more bs some within worth none is stop =
-    either (stop digit.0 digit.1)
+    either (stop digit)
   where
     small : n < 2 ^ 64
     small = omega arith
-    digit : (48 ≤ b) × (b ≤ 57)
+
+    digit : digit_value b < 10
     digit = digit_among ds more b (subst (AllDigits 10) is (digits_decimal own n small))
+
     split : take (length (ds ++ b ∷ [])) (decimal n) ≡ ds ++ b ∷ []
     split = ap (take (length (ds ++ b ∷ []))) (is ∙ sym (append_assoc ds (b ∷ []) more)) ∙ take-append_seam (ds ++ b ∷ []) more
+
     front : digits_value 10 (ds ++ b ∷ []) ≤ n
     front =
         let less : digits_value 10 (take (length (ds ++ b ∷ [])) (decimal n)) ≤ digits_value 10 (decimal n) =
-            digits_value-take-le 10 (decimal n) (length (ds ++ b ∷ [])) (omega arith) in
+        digits_value-take-le 10 (decimal n) (length (ds ++ b ∷ [])) (omega arith) in
         omega (arith, less, ap (digits_value 10) split, digits_value-decimal own n small)
-    longer : 10 * value + (b - 48) ≤ n
-    longer = omega (arith, front, digits_value_push 10 ds b, worth, digit_value_digit b digit)
-    first : value ≡ 0 → 48 < b
-    first nothing = let lead : get_or (decimal n) 0 0 ≡ b = ap (λ xs. get_or xs 0 0) (is ∙ ap (λ xs. xs ++ b ∷ more) (none nothing)) in omega (arith, lead, first_decimal n some small)
-    either : ((10 * value + (b - 48) ≡ 0) ⊎ (MOST_PIECE < 10 * value + (b - 48))) → ⊥
+
+    longer : with_digit value b ≤ n
+    longer = omega (arith, front, digits_value_push 10 ds b, worth)
+
+    first : value ≡ 0 → 0 < digit_value b
+    first nothing = let lead : get_or (decimal n) 0 0 ≡ b = ap (λ xs. get_or xs 0 0) (is ∙ ap (λ xs. xs ++ b ∷ more) (none nothing)) in
+        omega (arith, lead, first_decimal n some small, digit_value_digit b (digit_from_value b digit))
+
+    either : ((with_digit value b ≡ 0) ⊎ (MOST_PIECE < with_digit value b)) → ⊥
     either (inl all) = let nothing : value ≡ 0 = omega arith in omega (arith, first nothing)
     either (inr above) = omega (arith, longer)
 

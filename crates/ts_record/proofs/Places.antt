@@ -3,12 +3,12 @@ use Rattle.std.proofs.Common.{◌≡◌, ℕ, ◌+◌, ◌<◌, ◌≤◌, suc, 
 use Rattle.std.specs.List.{AllByRecursion}
 use Rattle.std.specs.Fmt.{decimal}
 use Rattle.std.proofs.lemmas.List.{append_cancel_left, append-nil}
-use Rattle.ts_record.specs.Grammar.{Txn, body_before, pieces_before, inside_before, txns_text, text_of, IsPiece, IsTxn, KeepsLimits, IsRecording}
+use Rattle.ts_record.specs.Grammar.{Txn, piece_before, pieces_before, inside_before, txns_text, text_of, IsPiece, IsTxn, KeepsLimits, IsRecording}
 use Rattle.ts_record.specs.Keywords.{spelling}
-use Rattle.ts_record.specs.Refusing.{Opens, OneOf, IsBody}
+use Rattle.ts_record.specs.Refusing.{Opens, OneOf, IsPieceText}
 use Rattle.ts_record.specs.declared.recording.TheConstants.{MOST_TXNS}
 use Rattle.ts_record.specs.declared.keyword.Keyword.TheVariants as k
-use Rattle.ts_record.proofs.Same.{close_not_client, close_not_origin, origin_not_client, end_not_txn, same_body}
+use Rattle.ts_record.proofs.Same.{close_not_client, close_not_origin, origin_not_client, end_not_txn, same_piece}
 
 -- whole recordings
 abbrev pub Recordings : List ℕ → Type 0
@@ -27,8 +27,8 @@ abbrev pub Clients : ℕ → List ℕ → Type 0
 Clients count z = (client : List (List ℕ)) × (y : List ℕ) × AllByRecursion IsPiece client × Origins count y × (z ≡ pieces_before k.Client y client)
 
 -- behind the keyword of a piece, behind which texts of this kind stand
-abbrev pub Bodies : (List ℕ → Type 0) → List ℕ → Type 0
-Bodies Next z = (piece : List ℕ) × (y : List ℕ) × IsPiece piece × Next y × (z ≡ body_before y piece)
+abbrev pub PieceTexts : (List ℕ → Type 0) → List ℕ → Type 0
+PieceTexts Next z = (piece : List ℕ) × (y : List ℕ) × IsPiece piece × Next y × (z ≡ piece_before y piece)
 
 -- behind the last line
 abbrev pub Nothing : List ℕ → Type 0
@@ -43,58 +43,73 @@ from_header z (ts, is) = (ts, omega (arith, is.limits.few), is.limits.each, appe
 
 -- the first line of a transaction
 pub to_txn : (count : ℕ) (z : List ℕ) → Clients count z → Txns count (spelling k.Txn ++ z)
-to_txn count z (client, y, each, (origin, x, also, (ts, few, all, end), inside), is) =
-    ((client, origin) ∷ ts, omega arith, ((each, also), all),
-    ap (λ t. spelling k.Txn ++ t) (is ∙ ap (λ t. pieces_before k.Client t client) (inside ∙ ap (λ t. pieces_before k.Origin (spelling k.Close ++ t) origin) end)))
+to_txn count z (client, y, each, (origin, x, also, (ts, few, all, end), inside), is) = (
+  (client, origin) ∷ ts,
+  omega arith,
+  ((each, also), all),
+  ap (λ t. spelling k.Txn ++ t) (is ∙ ap (λ t. pieces_before k.Client t client) (inside ∙ ap (λ t. pieces_before k.Origin (spelling k.Close ++ t) origin) end)),
+)
 
 pub from_txn : (count : ℕ) (z : List ℕ) → Txns count (spelling k.Txn ++ z) → Clients count z
 from_txn count z ([], few, each, is) = absurd (end_not_txn [] z (sym is))
-from_txn count z (t ∷ ts, few, each, is) =
-    (t.0, pieces_before k.Origin (spelling k.Close ++ txns_text ts) t.1, each.0.0, (t.1, txns_text ts, each.0.1, (ts, omega arith, each.1, refl), refl),
-    append_cancel_left (spelling k.Txn) z (inside_before (txns_text ts) t.0 t.1) is)
+from_txn count z (t ∷ ts, few, each, is) = (
+  t.0,
+  pieces_before k.Origin (spelling k.Close ++ txns_text ts) t.1,
+  each.0.0,
+  (t.1, txns_text ts, each.0.1, (ts, omega arith, each.1, refl), refl),
+  append_cancel_left (spelling k.Txn) z (inside_before (txns_text ts) t.0 t.1) is,
+)
 
 -- the keyword of a client's piece
-pub to_client : (count : ℕ) (z : List ℕ) → Bodies (Clients count) z → Clients count (spelling k.Client ++ z)
+pub to_client : (count : ℕ) (z : List ℕ) → PieceTexts (Clients count) z → Clients count (spelling k.Client ++ z)
 to_client count z (piece, y, is, (client, x, each, rest, more), text) =
-    (piece ∷ client, x, (is, each), rest, ap (λ t. spelling k.Client ++ t) (text ∙ ap (λ t. body_before t piece) more))
+    (piece ∷ client, x, (is, each), rest, ap (λ t. spelling k.Client ++ t) (text ∙ ap (λ t. piece_before t piece) more))
 
-pub from_client : (count : ℕ) (z : List ℕ) → Clients count (spelling k.Client ++ z) → Bodies (Clients count) z
+pub from_client : (count : ℕ) (z : List ℕ) → Clients count (spelling k.Client ++ z) → PieceTexts (Clients count) z
 from_client count z ([], y, each, ([], x, also, rest, more), text) = absurd (close_not_client x z (sym (text ∙ more)))
 from_client count z ([], y, each, (p ∷ ps, x, also, rest, more), text) =
-    absurd (origin_not_client (body_before (pieces_before k.Origin (spelling k.Close ++ x) ps) p) z (sym (text ∙ more)))
-from_client count z (p ∷ ps, y, each, rest, text) =
-    (p, pieces_before k.Client y ps, each.0, (ps, y, each.1, rest, refl),
-    append_cancel_left (spelling k.Client) z (body_before (pieces_before k.Client y ps) p) text)
+    absurd (origin_not_client (piece_before (pieces_before k.Origin (spelling k.Close ++ x) ps) p) z (sym (text ∙ more)))
+from_client count z (p ∷ ps, y, each, rest, text) = (
+  p,
+  pieces_before k.Client y ps,
+  each.0,
+  (ps, y, each.1, rest, refl),
+  append_cancel_left (spelling k.Client) z (piece_before (pieces_before k.Client y ps) p) text,
+)
 
 -- the keyword of an origin's piece, behind another one
-pub to_origin : (count : ℕ) (z : List ℕ) → Bodies (Origins count) z → Origins count (spelling k.Origin ++ z)
+pub to_origin : (count : ℕ) (z : List ℕ) → PieceTexts (Origins count) z → Origins count (spelling k.Origin ++ z)
 to_origin count z (piece, y, is, (origin, x, each, rest, more), text) =
-    (piece ∷ origin, x, (is, each), rest, ap (λ t. spelling k.Origin ++ t) (text ∙ ap (λ t. body_before t piece) more))
+    (piece ∷ origin, x, (is, each), rest, ap (λ t. spelling k.Origin ++ t) (text ∙ ap (λ t. piece_before t piece) more))
 
-pub from_origin : (count : ℕ) (z : List ℕ) → Origins count (spelling k.Origin ++ z) → Bodies (Origins count) z
+pub from_origin : (count : ℕ) (z : List ℕ) → Origins count (spelling k.Origin ++ z) → PieceTexts (Origins count) z
 from_origin count z ([], y, each, rest, text) = absurd (close_not_origin y z (sym text))
-from_origin count z (p ∷ ps, y, each, rest, text) =
-    (p, pieces_before k.Origin (spelling k.Close ++ y) ps, each.0, (ps, y, each.1, rest, refl),
-    append_cancel_left (spelling k.Origin) z (body_before (pieces_before k.Origin (spelling k.Close ++ y) ps) p) text)
+from_origin count z (p ∷ ps, y, each, rest, text) = (
+  p,
+  pieces_before k.Origin (spelling k.Close ++ y) ps,
+  each.0,
+  (ps, y, each.1, rest, refl),
+  append_cancel_left (spelling k.Origin) z (piece_before (pieces_before k.Origin (spelling k.Close ++ y) ps) p) text,
+)
 
 -- the keyword of an origin's first piece
-pub to_first_origin : (count : ℕ) (z : List ℕ) → Bodies (Origins count) z → Clients count (spelling k.Origin ++ z)
+pub to_first_origin : (count : ℕ) (z : List ℕ) → PieceTexts (Origins count) z → Clients count (spelling k.Origin ++ z)
 to_first_origin count z bodies = ([], spelling k.Origin ++ z, tt, to_origin count z bodies, refl)
 
-pub from_first_origin : (count : ℕ) (z : List ℕ) → Clients count (spelling k.Origin ++ z) → Bodies (Origins count) z
+pub from_first_origin : (count : ℕ) (z : List ℕ) → Clients count (spelling k.Origin ++ z) → PieceTexts (Origins count) z
 from_first_origin count z ([], y, each, rest, text) = from_origin count z (subst (Origins count) (sym text) rest)
-from_first_origin count z (p ∷ ps, y, each, rest, text) = absurd (origin_not_client z (body_before (pieces_before k.Client y ps) p) text)
+from_first_origin count z (p ∷ ps, y, each, rest, text) = absurd (origin_not_client z (piece_before (pieces_before k.Client y ps) p) text)
 
 -- a piece behind its keyword
-pub body_behind : (piece behind : List ℕ) → body_before [] piece ++ behind ≡ body_before behind piece
-body_behind piece behind = simp append_assoc
+pub piece_behind : (piece behind : List ℕ) → piece_before [] piece ++ behind ≡ piece_before behind piece
+piece_behind piece behind = simp append_assoc
 
-pub to_body : (Next : List ℕ → Type 0) (piece z : List ℕ) → IsPiece piece → Next z → Bodies Next (body_before [] piece ++ z)
-to_body Next piece z is next = (piece, z, is, next, body_behind piece z)
+pub to_piece : (Next : List ℕ → Type 0) (piece z : List ℕ) → IsPiece piece → Next z → PieceTexts Next (piece_before [] piece ++ z)
+to_piece Next piece z is next = (piece, z, is, next, piece_behind piece z)
 
-pub from_body : (Next : List ℕ → Type 0) (piece z : List ℕ) → IsPiece piece → Bodies Next (body_before [] piece ++ z) → Next z
-from_body Next piece z is (other, y, also, next, text) =
-    subst Next (sym (same_body piece other z y is also (sym (body_behind piece z) ∙ text)).1) next
+pub from_piece : (Next : List ℕ → Type 0) (piece z : List ℕ) → IsPiece piece → PieceTexts Next (piece_before [] piece ++ z) → Next z
+from_piece Next piece z is (other, y, also, next, text) =
+    subst Next (sym (same_piece piece other z y is also (sym (piece_behind piece z) ∙ text)).1) next
 
 -- the last line of a transaction
 pub to_close : (count : ℕ) (z : List ℕ) → Txns (suc count) z → Origins count (spelling k.Close ++ z)
@@ -102,7 +117,7 @@ to_close count z txns = ([], z, tt, txns, refl)
 
 pub from_close : (count : ℕ) (z : List ℕ) → Origins count (spelling k.Close ++ z) → Txns (suc count) z
 from_close count z ([], y, each, rest, text) = subst (Txns (suc count)) (sym (append_cancel_left (spelling k.Close) z y text)) rest
-from_close count z (p ∷ ps, y, each, rest, text) = absurd (close_not_origin z (body_before (pieces_before k.Origin (spelling k.Close ++ y) ps) p) text)
+from_close count z (p ∷ ps, y, each, rest, text) = absurd (close_not_origin z (piece_before (pieces_before k.Origin (spelling k.Close ++ y) ps) p) text)
 
 -- the same, with no piece of an origin before it
 pub to_early_close : (count : ℕ) (z : List ℕ) → Txns (suc count) z → Clients count (spelling k.Close ++ z)
@@ -110,7 +125,7 @@ to_early_close count z txns = ([], spelling k.Close ++ z, tt, to_close count z t
 
 pub from_early_close : (count : ℕ) (z : List ℕ) → Clients count (spelling k.Close ++ z) → Txns (suc count) z
 from_early_close count z ([], y, each, rest, text) = from_close count z (subst (Origins count) (sym text) rest)
-from_early_close count z (p ∷ ps, y, each, rest, text) = absurd (close_not_client z (body_before (pieces_before k.Client y ps) p) text)
+from_early_close count z (p ∷ ps, y, each, rest, text) = absurd (close_not_client z (piece_before (pieces_before k.Client y ps) p) text)
 
 -- the last line
 pub to_end : (count : ℕ) (z : List ℕ) → count ≤ MOST_TXNS → Nothing z → Txns count (spelling k.End ++ z)
@@ -134,5 +149,5 @@ some_clients count within = to_early_close count (spelling k.End) (some_txns (su
 abbrev pub some_piece : List ℕ
 some_piece = 97 ∷ []
 
-pub some_bodies : (Next : List ℕ → Type 0) (z : List ℕ) → Next z → Bodies Next (body_before z some_piece)
-some_bodies Next z next = (some_piece, z, (lit≤ tt, lit≤ tt), next, refl)
+pub some_piece_text : (Next : List ℕ → Type 0) (z : List ℕ) → Next z → PieceTexts Next (piece_before z some_piece)
+some_piece_text Next z next = (some_piece, z, (lit≤ tt, lit≤ tt), next, refl)

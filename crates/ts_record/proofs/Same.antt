@@ -3,7 +3,7 @@ use Rattle.std.proofs.Common.{◌≡◌, ℕ, ◌+◌, ◌^◌, ◌<◌, ◌≤�
 use Rattle.std.specs.List.{AllByRecursion}
 use Rattle.std.specs.Fmt.{decimal}
 use Rattle.std.proofs.lemmas.List.{append_cancel_left}
-use Rattle.ts_record.specs.Grammar.{Txn, body_before, pieces_before, inside_before, txns_text, text_of, IsPiece, IsTxn, KeepsLimits, IsRecording}
+use Rattle.ts_record.specs.Grammar.{Txn, piece_before, pieces_before, inside_before, txns_text, text_of, IsPiece, IsTxn, KeepsLimits, IsRecording}
 use Rattle.ts_record.specs.Keywords.{spelling, Lacks}
 use Rattle.ts_record.specs.declared.keyword.Keyword.{Keyword}
 use Rattle.ts_record.specs.declared.keyword.Keyword.TheVariants as k
@@ -34,8 +34,8 @@ same_front (a ∷ p) (b ∷ q) x y equal same =
     let first : a ≡ b = cc in let others : p ++ x ≡ q ++ y = cc in
     let rest = same_front p q x y (omega arith) others in (cc (first, rest.0), rest.1)
 
-pub same_body : (p q x y : List ℕ) → IsPiece p → IsPiece q → body_before x p ≡ body_before y q → (p ≡ q) × (x ≡ y)
-same_body p q x y is also same =
+pub same_piece : (p q x y : List ℕ) → IsPiece p → IsPiece q → piece_before x p ≡ piece_before y q → (p ≡ q) × (x ≡ y)
+same_piece p q x y is also same =
     let number = same_number (length p) (length q) (p ++ 10 ∷ x) (q ++ 10 ∷ y) (omega arith) (omega arith) same in
     let rest = same_front p q (10 ∷ x) (10 ∷ y) number.0 number.1 in
     let fed : (10 ∷ x) ≡ (10 ∷ y) = rest.1 in (rest.0, cc)
@@ -44,21 +44,21 @@ same_body p q x y is also same =
 pub same_pieces : (side : Keyword) (x y : List ℕ) (ps qs : List (List ℕ)) → AllByRecursion IsPiece ps → AllByRecursion IsPiece qs
     → Lacks x side → Lacks y side → pieces_before side x ps ≡ pieces_before side y qs → (ps ≡ qs) × (x ≡ y)
 same_pieces side x y [] [] each also left right same = (refl, same)
-same_pieces side x y [] (q ∷ qs) each also left right same = absurd (left (body_before (pieces_before side y qs) q) same)
-same_pieces side x y (p ∷ ps) [] each also left right same = absurd (right (body_before (pieces_before side x ps) p) (sym same))
+same_pieces side x y [] (q ∷ qs) each also left right same = absurd (left (piece_before (pieces_before side y qs) q) same)
+same_pieces side x y (p ∷ ps) [] each also left right same = absurd (right (piece_before (pieces_before side x ps) p) (sym same))
 same_pieces side x y (p ∷ ps) (q ∷ qs) each also left right same =
-    let body = same_body p q (pieces_before side x ps) (pieces_before side y qs) each.0 also.0
-        (append_cancel_left (spelling side) (body_before (pieces_before side x ps) p) (body_before (pieces_before side y qs) q) same) in
-    let rest = same_pieces side x y ps qs each.1 also.1 left right body.1 in (cc (body.0, rest.0), rest.1)
+    let piece = same_piece p q (pieces_before side x ps) (pieces_before side y qs) each.0 also.0
+    (append_cancel_left (spelling side) (piece_before (pieces_before side x ps) p) (piece_before (pieces_before side y qs) q) same) in
+    let rest = same_pieces side x y ps qs each.1 also.1 left right piece.1 in (cc (piece.0, rest.0), rest.1)
 
 pub origin_lacks_client : (x : List ℕ) (origin : List (List ℕ)) → Lacks (pieces_before k.Origin (spelling k.Close ++ x) origin) k.Client
 origin_lacks_client x [] = close_not_client x
-origin_lacks_client x (p ∷ ps) = origin_not_client (body_before (pieces_before k.Origin (spelling k.Close ++ x) ps) p)
+origin_lacks_client x (p ∷ ps) = origin_not_client (piece_before (pieces_before k.Origin (spelling k.Close ++ x) ps) p)
 
 pub same_inside : (t u : Txn) (x y : List ℕ) → IsTxn t → IsTxn u → inside_before x t.0 t.1 ≡ inside_before y u.0 u.1 → (t.0 ≡ u.0) × (t.1 ≡ u.1) × (x ≡ y)
 same_inside t u x y is also same =
     let client = same_pieces k.Client (pieces_before k.Origin (spelling k.Close ++ x) t.1) (pieces_before k.Origin (spelling k.Close ++ y) u.1) t.0 u.0
-        is.0 also.0 (origin_lacks_client x t.1) (origin_lacks_client y u.1) same in
+    is.0 also.0 (origin_lacks_client x t.1) (origin_lacks_client y u.1) same in
     let origin = same_pieces k.Origin (spelling k.Close ++ x) (spelling k.Close ++ y) t.1 u.1 is.1 also.1 (close_not_origin x) (close_not_origin y) client.1 in
     (client.0, origin.0, append_cancel_left (spelling k.Close) x y origin.1)
 
@@ -68,7 +68,7 @@ same_txns [] (u ∷ us) each also same = absurd (end_not_txn [] (inside_before (
 same_txns (t ∷ ts) [] each also same = absurd (end_not_txn [] (inside_before (txns_text ts) t.0 t.1) (sym same))
 same_txns (t ∷ ts) (u ∷ us) each also same =
     let inside = same_inside t u (txns_text ts) (txns_text us) each.0 also.0
-        (append_cancel_left (spelling k.Txn) (inside_before (txns_text ts) t.0 t.1) (inside_before (txns_text us) u.0 u.1) same) in
+    (append_cancel_left (spelling k.Txn) (inside_before (txns_text ts) t.0 t.1) (inside_before (txns_text us) u.0 u.1) same) in
     let rest : ts ≡ us = same_txns ts us each.1 also.1 inside.2 in
     let first : t ≡ u = ap (λ (c : List (List ℕ)). (c, t.1)) inside.0 ∙ ap (λ (o : List (List ℕ)). (u.0, o)) inside.1 in
     cc (first, rest)

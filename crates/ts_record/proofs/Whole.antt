@@ -5,62 +5,64 @@ use Rattle.std.specs.List.{AllByRecursion}
 use Rattle.std.proofs.Math.Seq.{take-append_seam, take-append-add}
 use Rattle.std.proofs.lemmas.Bool.Decides.{nat_tests}
 use Rattle.std.proofs.lemmas.List.{append-nil}
-use Rattle.ts_record.specs.Grammar.{Txn, body_before, pieces_before, inside_before, txns_text, text_of, IsPiece, IsTxn, KeepsLimits, IsRecording}
+use Rattle.ts_record.specs.Grammar.{Txn, piece_before, pieces_before, inside_before, txns_text, text_of, IsPiece, IsTxn, KeepsLimits, IsRecording}
 use Rattle.ts_record.specs.Keywords.{spelling, keywords_inside, keywords_behind}
 use Rattle.ts_record.specs.Offsets.{BeginsSome, IsRefusedAt, RefusesRightly}
-use Rattle.ts_record.specs.Refusing.{Opens, Stuck, Refuses, OneOf, IsBody, PiecesRefused, OriginRefused, CloseRefused, InsideRefused, EndRefused, txns_before, TxnsRefused, StopsTxns, refusal_of}
+use Rattle.ts_record.specs.Refusing.{Opens, Stuck, Refuses, OneOf, IsPieceText, PiecesRefused, OriginRefused, CloseRefused, InsideRefused, EndRefused, txns_before, TxnRefused, TxnsRefused, StopsTxns, refusal_of}
 use Rattle.ts_record.specs.declared.recording.TheConstants.{MOST_TXNS}
 use Rattle.ts_record.specs.declared.keyword.Keyword.{Keyword}
 use Rattle.ts_record.specs.declared.keyword.Keyword.TheVariants as k
 use Rattle.ts_record.specs.declared.pieces.PartRefusal.{PartRefusal}
 use Rattle.ts_record.specs.declared.pieces.PartRefusal.TheVariants as p
 use Rattle.ts_record.proofs.Fails.{Fails, fails_at_token, fails_behind}
-use Rattle.ts_record.proofs.Places.{Recordings, Txns, Origins, Clients, Bodies, Nothing, to_header, from_header, to_txn, from_txn, to_client, from_client, to_origin, from_origin, to_first_origin, from_first_origin, body_behind, to_body, from_body, to_close, from_close, to_early_close, from_early_close, to_end, from_end, some_txns, some_origins, some_clients, some_piece, some_bodies}
+use Rattle.ts_record.proofs.Keywords.{is_below, is_not_below}
+use Rattle.ts_record.proofs.Places.{Recordings, Txns, Origins, Clients, PieceTexts, Nothing, to_header, from_header, to_txn, from_txn, to_client, from_client, to_origin, from_origin, to_first_origin, from_first_origin, piece_behind, to_piece, from_piece, to_close, from_close, to_early_close, from_early_close, to_end, from_end, some_txns, some_origins, some_clients, some_piece, some_piece_text}
 
 -- behind a piece
-behind_piece : (Next : List ℕ → Type 0) (piece bytes : List ℕ) (left : ℕ) → IsPiece piece → Fails Next bytes left → Fails (Bodies Next) (body_before bytes piece) left
+behind_piece : (Next : List ℕ → Type 0) (piece bytes : List ℕ) (left : ℕ) → IsPiece piece → Fails Next bytes left → Fails (PieceTexts Next) (piece_before bytes piece) left
 behind_piece Next piece bytes left is f =
-    let P : List ℕ → Type 0 = λ t. Fails (Bodies Next) t left in
-    subst P (body_behind piece bytes)
-    (fails_behind (Bodies Next) Next (body_before [] piece) bytes left (λ z n. to_body Next piece z is n) (λ z b. from_body Next piece z is b) f)
+    let P : List ℕ → Type 0 = λ t. Fails (PieceTexts Next) t left in
+    subst P (piece_behind piece bytes)
+    (fails_behind (PieceTexts Next) Next (piece_before [] piece) bytes left (λ z n. to_piece Next piece z is n) (λ z b. from_piece Next piece z is b) f)
 
 -- at a piece
-at_piece : (Next : List ℕ → Type 0) (bytes y : List ℕ) (left : ℕ) → Next y → Refuses IsBody bytes left → Fails (Bodies Next) bytes left
-at_piece Next bytes y left next r = fails_at_token IsBody (Bodies Next) bytes left goes opens r
+at_piece : (Next : List ℕ → Type 0) (bytes y : List ℕ) (left : ℕ) → Next y → Refuses IsPieceText bytes left → Fails (PieceTexts Next) bytes left
+at_piece Next bytes y left next r = fails_at_token IsPieceText (PieceTexts Next) bytes left goes opens r
   where
-    goes : (t : List ℕ) → IsBody t → (z : List ℕ) × Bodies Next (t ++ z)
-    goes t (piece, is, same) = (y, (piece, y, is, next, ap (λ u. u ++ y) same ∙ body_behind piece y))
-    opens : (z : List ℕ) → Bodies Next z → Opens IsBody z
-    opens z (piece, x, is, also, same) = (body_before [] piece, x, (piece, is, refl), same ∙ sym (body_behind piece x))
+    goes : (t : List ℕ) → IsPieceText t → (z : List ℕ) × PieceTexts Next (t ++ z)
+    goes t (piece, is, same) = (y, (piece, y, is, next, ap (λ u. u ++ y) same ∙ piece_behind piece y))
+
+    opens : (z : List ℕ) → PieceTexts Next z → Opens IsPieceText z
+    opens z (piece, x, is, also, same) = (piece_before [] piece, x, (piece, is, refl), same ∙ sym (piece_behind piece x))
 
 -- behind the keywords of pieces, and behind pieces
-client_keyword : (count left : ℕ) (bytes : List ℕ) → Fails (Bodies (Clients count)) bytes left → Fails (Clients count) (spelling k.Client ++ bytes) left
-client_keyword count left bytes = fails_behind (Clients count) (Bodies (Clients count)) (spelling k.Client) bytes left (to_client count) (from_client count)
+client_keyword : (count left : ℕ) (bytes : List ℕ) → Fails (PieceTexts (Clients count)) bytes left → Fails (Clients count) (spelling k.Client ++ bytes) left
+client_keyword count left bytes = fails_behind (Clients count) (PieceTexts (Clients count)) (spelling k.Client) bytes left (to_client count) (from_client count)
 
-origin_keyword : (count left : ℕ) (bytes : List ℕ) → Fails (Bodies (Origins count)) bytes left → Fails (Origins count) (spelling k.Origin ++ bytes) left
-origin_keyword count left bytes = fails_behind (Origins count) (Bodies (Origins count)) (spelling k.Origin) bytes left (to_origin count) (from_origin count)
+origin_keyword : (count left : ℕ) (bytes : List ℕ) → Fails (PieceTexts (Origins count)) bytes left → Fails (Origins count) (spelling k.Origin ++ bytes) left
+origin_keyword count left bytes = fails_behind (Origins count) (PieceTexts (Origins count)) (spelling k.Origin) bytes left (to_origin count) (from_origin count)
 
-first_origin_keyword : (count left : ℕ) (bytes : List ℕ) → Fails (Bodies (Origins count)) bytes left → Fails (Clients count) (spelling k.Origin ++ bytes) left
-first_origin_keyword count left bytes = fails_behind (Clients count) (Bodies (Origins count)) (spelling k.Origin) bytes left (to_first_origin count) (from_first_origin count)
+first_origin_keyword : (count left : ℕ) (bytes : List ℕ) → Fails (PieceTexts (Origins count)) bytes left → Fails (Clients count) (spelling k.Origin ++ bytes) left
+first_origin_keyword count left bytes = fails_behind (Clients count) (PieceTexts (Origins count)) (spelling k.Origin) bytes left (to_first_origin count) (from_first_origin count)
 
 client_pieces : (count left : ℕ) (bytes : List ℕ) (ps : List (List ℕ)) → AllByRecursion IsPiece ps → Fails (Clients count) bytes left
     → Fails (Clients count) (pieces_before k.Client bytes ps) left
 client_pieces count left bytes [] each f = f
 client_pieces count left bytes (q ∷ ps) each f =
-    client_keyword count left (body_before (pieces_before k.Client bytes ps) q)
+    client_keyword count left (piece_before (pieces_before k.Client bytes ps) q)
     (behind_piece (Clients count) q (pieces_before k.Client bytes ps) left each.0 (client_pieces count left bytes ps each.1 f))
 
 origin_pieces : (count left : ℕ) (bytes : List ℕ) (ps : List (List ℕ)) → AllByRecursion IsPiece ps → Fails (Origins count) bytes left
     → Fails (Origins count) (pieces_before k.Origin bytes ps) left
 origin_pieces count left bytes [] each f = f
 origin_pieces count left bytes (q ∷ ps) each f =
-    origin_keyword count left (body_before (pieces_before k.Origin bytes ps) q)
+    origin_keyword count left (piece_before (pieces_before k.Origin bytes ps) q)
     (behind_piece (Origins count) q (pieces_before k.Origin bytes ps) left each.0 (origin_pieces count left bytes ps each.1 f))
 
 first_origin_pieces : (count left : ℕ) (bytes q : List ℕ) (ps : List (List ℕ)) → IsPiece q → AllByRecursion IsPiece ps → Fails (Origins count) bytes left
     → Fails (Clients count) (pieces_before k.Origin bytes (q ∷ ps)) left
 first_origin_pieces count left bytes q ps is each f =
-    first_origin_keyword count left (body_before (pieces_before k.Origin bytes ps) q)
+    first_origin_keyword count left (piece_before (pieces_before k.Origin bytes ps) q)
     (behind_piece (Origins count) q (pieces_before k.Origin bytes ps) left is (origin_pieces count left bytes ps each f))
 
 -- at the keyword behind the pieces of a transaction
@@ -68,34 +70,44 @@ at_first_keyword : (count left : ℕ) (bytes : List ℕ) → count < MOST_TXNS �
 at_first_keyword count left bytes within r = fails_at_token (OneOf (k.Client ∷ k.Origin ∷ k.Close ∷ [])) (Clients count) bytes left goes opens r
   where
     last : List ℕ
-    last = body_before (spelling k.Close ++ spelling k.End) some_piece
+    last = piece_before (spelling k.Close ++ spelling k.End) some_piece
+
     goes : (t : List ℕ) → OneOf (k.Client ∷ k.Origin ∷ k.Close ∷ []) t → (y : List ℕ) × Clients count (t ++ y)
-    goes t (inl is) =
-        (last, subst (λ u. Clients count (u ++ last)) (sym is)
-        (to_client count last (some_bodies (Clients count) (spelling k.Close ++ spelling k.End) (some_clients count within))))
-    goes t (inr (inl is)) =
-        (last, subst (λ u. Clients count (u ++ last)) (sym is)
-        (to_first_origin count last (some_bodies (Origins count) (spelling k.Close ++ spelling k.End) (some_origins count within))))
+    goes t (inl is) = (
+      last,
+      subst (λ u. Clients count (u ++ last)) (sym is)
+          (to_client count last (some_piece_text (Clients count) (spelling k.Close ++ spelling k.End) (some_clients count within))),
+    )
+    goes t (inr (inl is)) = (
+      last,
+      subst (λ u. Clients count (u ++ last)) (sym is)
+          (to_first_origin count last (some_piece_text (Origins count) (spelling k.Close ++ spelling k.End) (some_origins count within))),
+    )
     goes t (inr (inr (inl is))) = (spelling k.End, subst (λ u. Clients count (u ++ spelling k.End)) (sym is) (some_clients count within))
     goes t (inr (inr (inr none))) = absurd none
+
     opens : (z : List ℕ) → Clients count z → Opens (OneOf (k.Client ∷ k.Origin ∷ k.Close ∷ [])) z
-    opens z (q ∷ ps, y, each, rest, text) = (spelling k.Client, body_before (pieces_before k.Client y ps) q, inl refl, text)
-    opens z ([], y, each, (q ∷ ps, x, also, rest, more), text) = (spelling k.Origin, body_before (pieces_before k.Origin (spelling k.Close ++ x) ps) q, inr (inl refl), text ∙ more)
+    opens z (q ∷ ps, y, each, rest, text) = (spelling k.Client, piece_before (pieces_before k.Client y ps) q, inl refl, text)
+    opens z ([], y, each, (q ∷ ps, x, also, rest, more), text) = (spelling k.Origin, piece_before (pieces_before k.Origin (spelling k.Close ++ x) ps) q, inr (inl refl), text ∙ more)
     opens z ([], y, each, ([], x, also, rest, more), text) = (spelling k.Close, x, inr (inr (inl refl)), text ∙ more)
 
 at_later_keyword : (count left : ℕ) (bytes : List ℕ) → count < MOST_TXNS → Refuses (OneOf (k.Origin ∷ k.Close ∷ [])) bytes left → Fails (Origins count) bytes left
 at_later_keyword count left bytes within r = fails_at_token (OneOf (k.Origin ∷ k.Close ∷ [])) (Origins count) bytes left goes opens r
   where
     last : List ℕ
-    last = body_before (spelling k.Close ++ spelling k.End) some_piece
+    last = piece_before (spelling k.Close ++ spelling k.End) some_piece
+
     goes : (t : List ℕ) → OneOf (k.Origin ∷ k.Close ∷ []) t → (y : List ℕ) × Origins count (t ++ y)
-    goes t (inl is) =
-        (last, subst (λ u. Origins count (u ++ last)) (sym is)
-        (to_origin count last (some_bodies (Origins count) (spelling k.Close ++ spelling k.End) (some_origins count within))))
+    goes t (inl is) = (
+      last,
+      subst (λ u. Origins count (u ++ last)) (sym is)
+          (to_origin count last (some_piece_text (Origins count) (spelling k.Close ++ spelling k.End) (some_origins count within))),
+    )
     goes t (inr (inl is)) = (spelling k.End, subst (λ u. Origins count (u ++ spelling k.End)) (sym is) (some_origins count within))
     goes t (inr (inr none)) = absurd none
+
     opens : (z : List ℕ) → Origins count z → Opens (OneOf (k.Origin ∷ k.Close ∷ [])) z
-    opens z (q ∷ ps, y, each, rest, text) = (spelling k.Origin, body_before (pieces_before k.Origin (spelling k.Close ++ y) ps) q, inl refl, text)
+    opens z (q ∷ ps, y, each, rest, text) = (spelling k.Origin, piece_before (pieces_before k.Origin (spelling k.Close ++ y) ps) q, inl refl, text)
     opens z ([], y, each, rest, text) = (spelling k.Close, y, inr (inl refl), text)
 
 -- within a transaction, behind its first line
@@ -110,8 +122,9 @@ origin_fails : (count left : ℕ) (bytes : List ℕ) → count < MOST_TXNS → P
 origin_fails count left bytes within r =
     let P : List ℕ → Type 0 = λ t. Fails (Clients count) t left in subst P (sym r.bytes_are) (behind r.pieces r.each)
   where
-    at : Fails (Bodies (Origins count)) r.rest left
+    at : Fails (PieceTexts (Origins count)) r.rest left
     at = at_piece (Origins count) r.rest (spelling k.Close ++ spelling k.End) left (some_origins count within) r.refused
+
     behind : (ps : List (List ℕ)) → AllByRecursion IsPiece ps → Fails (Clients count) (pieces_before k.Origin (spelling k.Origin ++ r.rest) ps) left
     behind [] each = first_origin_keyword count left r.rest at
     behind (q ∷ ps) each = first_origin_pieces count left (spelling k.Origin ++ r.rest) q ps each.0 each.1 (origin_keyword count left r.rest at)
@@ -155,21 +168,17 @@ behind_txns count left bytes (t ∷ ts) each f =
     behind_txn count left (txns_before bytes ts) t each.0 (behind_txns (suc count) left bytes ts each.1 (subst P same f))
 
 -- at the keyword behind transactions
-is_below : (m n : ℕ) → nat_lt m n ≡ true → m < n
-is_below m n is = grind (arith, nat_tests)
-
-is_not_below : (m n : ℕ) → nat_lt m n ≡ false → n ≤ m
-is_not_below m n is = grind (arith, nat_tests)
-
 at_txn_keyword : (count left : ℕ) (bytes : List ℕ) → count < MOST_TXNS → Refuses (OneOf (k.Txn ∷ k.End ∷ [])) bytes left → Fails (Txns count) bytes left
 at_txn_keyword count left bytes within r = fails_at_token (OneOf (k.Txn ∷ k.End ∷ [])) (Txns count) bytes left goes opens r
   where
     last : List ℕ
     last = spelling k.Close ++ spelling k.End
+
     goes : (t : List ℕ) → OneOf (k.Txn ∷ k.End ∷ []) t → (y : List ℕ) × Txns count (t ++ y)
     goes t (inl is) = (last, subst (λ u. Txns count (u ++ last)) (sym is) (to_txn count last (some_clients count within)))
     goes t (inr (inl is)) = ([], subst (λ u. Txns count (u ++ [])) (sym is) (some_txns count (omega arith)))
     goes t (inr (inr none)) = absurd none
+
     opens : (z : List ℕ) → Txns count z → Opens (OneOf (k.Txn ∷ k.End ∷ [])) z
     opens z ([], few, each, text) = (spelling k.End, [], inr (inl refl), text)
     opens z (t ∷ ts, few, each, text) = (spelling k.Txn, inside_before (txns_text ts) t.0 t.1, inl refl, text)
@@ -180,6 +189,7 @@ at_last_keyword count left bytes within full r = fails_at_token (OneOf (k.End �
     goes : (t : List ℕ) → OneOf (k.End ∷ []) t → (y : List ℕ) × Txns count (t ++ y)
     goes t (inl is) = ([], subst (λ u. Txns count (u ++ [])) (sym is) (some_txns count within))
     goes t (inr none) = absurd none
+
     opens : (z : List ℕ) → Txns count z → Opens (OneOf (k.End ∷ [])) z
     opens z ([], few, each, text) = (spelling k.End, [], inl refl, text)
     opens z (t ∷ ts, few, each, text) = absurd (omega arith)
@@ -196,6 +206,7 @@ end_fails count left bytes within (inl r) = either (nat_lt count MOST_TXNS) refl
   where
     P : Bool → Type 0
     P = λ b. Refuses (OneOf (cond b (k.Txn ∷ k.End ∷ []) (k.End ∷ []))) bytes left
+
     either : (b : Bool) → nat_lt count MOST_TXNS ≡ b → Fails (Txns count) bytes left
     either true is = at_txn_keyword count left bytes (is_below count MOST_TXNS is) (subst P is r)
     either false is = at_last_keyword count left bytes within (is_not_below count MOST_TXNS is) (subst P is r)
@@ -210,13 +221,14 @@ txns_fail bytes left r =
   where
     N : ℕ → Type 0
     N = λ n. Fails (Txns n) r.rest left
+
     same : length r.done ≡ 0 + length r.done
     same = omega arith
-    at : ((inside : List ℕ) × (length r.done < MOST_TXNS) × (r.rest ≡ spelling k.Txn ++ inside) × InsideRefused inside left) ⊎ EndRefused (length r.done) r.rest left
-        → Fails (Txns (0 + length r.done)) r.rest left
-    at (inl (inside, within, text, refused)) =
-        let Q : List ℕ → Type 0 = λ t. Fails (Txns (length r.done)) t left in
-        subst N same (subst Q (sym text) (txn_keyword (length r.done) left inside (inside_fails (length r.done) left inside within refused)))
+
+    at : TxnRefused (length r.done) r.rest left ⊎ EndRefused (length r.done) r.rest left → Fails (Txns (0 + length r.done)) r.rest left
+    at (inl t) =
+        let Q : List ℕ → Type 0 = λ bs. Fails (Txns (length r.done)) bs left in
+        subst N same (subst Q (sym t.bytes_are) (txn_keyword (length r.done) left t.inside (inside_fails (length r.done) left t.inside t.room t.refused)))
     at (inr refused) = subst N same (end_fails (length r.done) left r.rest r.limits.few refused)
 
 -- the offset of a refusal
@@ -225,21 +237,25 @@ refused_at bytes left f = record {
   within = omega arith;
   begun = (f.begun.1.0, f.begun.0, let P : List ℕ → Type 0 = λ t. IsRecording (t ++ f.begun.0) f.begun.1.0 in subst P (sym front) f.begun.1.1);
   longest = λ n more within some. longest f.rest f.bytes_are f.stuck n (omega (arith, offset)) within some;
-  refused = λ txns is. refused f.rest f.bytes_are f.stuck txns is }
+  refused = λ txns is. refused f.rest f.bytes_are f.stuck txns is;
+}
   where
     offset : length bytes - left ≡ length f.front
     offset = omega (arith, ap length f.bytes_are, length-append f.front f.rest, f.left_is)
+
     front : take (length bytes - left) bytes ≡ f.front
     front = ap (λ n. take n bytes) offset ∙ ap (take (length f.front)) f.bytes_are ∙ take-append_seam f.front f.rest
+
     longest : (rest : List ℕ) → bytes ≡ f.front ++ rest → Stuck Recordings f.front rest → (n : ℕ) → length f.front < n → n ≤ length bytes → BeginsSome (take n bytes) → ⊥
     longest [] are stuck n more within some = omega (arith, ap length are, length-append f.front [])
     longest (b ∷ bs) are stuck n more within (txns, behind, is) =
         let m : ℕ = n - length f.front - 1 in
         let count : n ≡ length f.front + suc m = omega arith in
         let taken : take n bytes ≡ f.front ++ b ∷ take m bs =
-            ap (λ i. take i bytes) count ∙ ap (take (length f.front + suc m)) are ∙ take-append-add f.front (b ∷ bs) (suc m) in
+        ap (λ i. take i bytes) count ∙ ap (take (length f.front + suc m)) are ∙ take-append-add f.front (b ∷ bs) (suc m) in
         let P : List ℕ → Type 0 = λ t. IsRecording t txns in
         stuck (take m bs ++ behind) (txns, subst P (ap (λ t. t ++ behind) taken ∙ append_assoc f.front (b ∷ take m bs) behind) is)
+
     refused : (rest : List ℕ) → bytes ≡ f.front ++ rest → Stuck Recordings f.front rest → (txns : List Txn) → IsRecording bytes txns → ⊥
     refused [] are stuck txns is = let P : List ℕ → Type 0 = λ t. IsRecording t txns in stuck (txns, subst P (are ∙ append-nil f.front) is)
     refused (b ∷ bs) are stuck txns is = let P : List ℕ → Type 0 = λ t. IsRecording t txns in stuck bs (txns, subst P are is)
@@ -251,6 +267,7 @@ no_header bytes left r = refused_at bytes left (fails_at_token (OneOf (k.Header 
     goes : (t : List ℕ) → OneOf (k.Header ∷ []) t → (y : List ℕ) × Recordings (t ++ y)
     goes t (inl is) = (spelling k.End, subst (λ u. Recordings (u ++ spelling k.End)) (sym is) (to_header (spelling k.End) (some_txns 0 (omega arith))))
     goes t (inr none) = absurd none
+
     opens : (z : List ℕ) → Recordings z → Opens (OneOf (k.Header ∷ [])) z
     opens z (txns, is) = (spelling k.Header, txns_text txns, inl refl, is.text)
 

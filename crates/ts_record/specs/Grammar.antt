@@ -7,22 +7,26 @@ use Rattle.ts_record.specs.declared.recording.TheConstants.{MOST_PIECE, MOST_TXN
 use Rattle.ts_record.specs.declared.keyword.Keyword.{Keyword}
 use Rattle.ts_record.specs.declared.keyword.Keyword.TheVariants as k
 
+abbrev pub line_feed : ℕ
+line_feed = 10
+
 -- a transaction: the pieces of the client and those of the origin
 abbrev pub Txn : Type 0
 Txn = List (List ℕ) × List (List ℕ)
 
 -- the length of a piece and its bytes, with a line feed behind each, and what follows
-abbrev pub body_before : List ℕ → List ℕ → List ℕ
-body_before behind piece = decimal (length piece) ++ 10 ∷ (piece ++ 10 ∷ behind)
+abbrev pub piece_before : List ℕ → List ℕ → List ℕ
+piece_before behind piece = decimal (length piece) ++ line_feed ∷ (piece ++ line_feed ∷ behind)
 
 -- the pieces of one side, each behind its keyword, and what follows
 abbrev pub pieces_before : Keyword → List ℕ → List (List ℕ) → List ℕ
 pieces_before side behind [] = behind
-pieces_before side behind (p ∷ ps) = spelling side ++ body_before (pieces_before side behind ps) p
+pieces_before side behind (p ∷ ps) = spelling side ++ piece_before (pieces_before side behind ps) p
 
 -- the pieces of a client and those of an origin, the last line of their transaction, and what follows
 abbrev pub inside_before : List ℕ → List (List ℕ) → List (List ℕ) → List ℕ
-inside_before behind client origin = pieces_before k.Client (pieces_before k.Origin (spelling k.Close ++ behind) origin) client
+inside_before behind client origin =
+    pieces_before k.Client (pieces_before k.Origin (spelling k.Close ++ behind) origin) client
 
 -- transactions, and the last line of all
 abbrev pub txns_text : List Txn → List ℕ

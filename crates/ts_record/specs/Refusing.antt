@@ -1,8 +1,9 @@
--- What the parts of the reader say of bytes that they refuse: what was read before, and what could have followed.
+-- What the parts of the reader say of bytes that they refuse: what was read before, and what can follow that.
 use Rattle.std.specs.Prelude.{◌≡◌, ℕ, ◌+◌, ◌*◌, ◌-◌, ◌<◌, ◌≤◌, ◌⊎◌, List, [], ◌∷◌, ◌++◌, length, ⊤}
 use Rattle.std.specs.List.{AllByRecursion}
+use Rattle.std.specs.Char.{digit_value}
 use Rattle.std.specs.Fmt.{decimal}
-use Rattle.ts_record.specs.Grammar.{Txn, body_before, pieces_before, inside_before, IsPiece, IsTxn, KeepsLimits}
+use Rattle.ts_record.specs.Grammar.{Txn, line_feed, piece_before, pieces_before, inside_before, IsPiece, IsTxn, KeepsLimits}
 use Rattle.ts_record.specs.Keywords.{spelling, keywords_inside, keywords_behind}
 use Rattle.ts_record.specs.declared.recording.TheConstants.{MOST_PIECE, MOST_TXNS}
 use Rattle.ts_record.specs.declared.recording.RecordingRefusal.{RecordingRefusal}
@@ -21,7 +22,8 @@ abbrev pub Stuck : (List ℕ → Type 0) → List ℕ → List ℕ → Type 0
 Stuck Kind front [] = Kind front → ⊥
 Stuck Kind front (b ∷ bs) = (more : List ℕ) → Kind (front ++ b ∷ more) → ⊥
 
--- the bytes do not begin with one of these tokens; so many of them stand behind the longest front that one begins with
+-- the bytes do not begin with one of these tokens; so many of them stand behind the longest front that one begins
+-- with
 pub record Refuses (Token : List ℕ → Type 0) (bytes : List ℕ) (left : ℕ) : Type 0 where
   pub front : List ℕ
   pub rest : List ℕ
@@ -36,16 +38,20 @@ OneOf [] token = ⊥
 OneOf (k ∷ ks) token = (token ≡ spelling k) ⊎ OneOf ks token
 
 -- a piece behind its keyword
-abbrev pub IsBody : List ℕ → Type 0
-IsBody token = (piece : List ℕ) × IsPiece piece × (token ≡ body_before [] piece)
+abbrev pub IsPieceText : List ℕ → Type 0
+IsPieceText token = (piece : List ℕ) × IsPiece piece × (token ≡ piece_before [] piece)
 
 abbrev pub LacksFeed : List ℕ → Type 0
-LacksFeed bytes = (behind : List ℕ) → bytes ≡ 10 ∷ behind → ⊥
+LacksFeed bytes = (behind : List ℕ) → bytes ≡ line_feed ∷ behind → ⊥
+
+-- a number with one more digit
+abbrev pub with_digit : ℕ → ℕ → ℕ
+with_digit value digit = 10 * value + digit_value digit
 
 -- no digit follows that keeps the number above 0 and within the length of a piece
 abbrev pub DigitsStop : ℕ → List ℕ → Type 0
 DigitsStop value [] = ⊤
-DigitsStop value (b ∷ bs) = 48 ≤ b → b ≤ 57 → (10 * value + (b - 48) ≡ 0) ⊎ (MOST_PIECE < 10 * value + (b - 48))
+DigitsStop value (b ∷ bs) = digit_value b < 10 → (with_digit value b ≡ 0) ⊎ (MOST_PIECE < with_digit value b)
 
 -- the digits at the front that the length of a piece can begin with, and the number that they stand for
 pub record DigitsEnd (bytes : List ℕ) (value : ℕ) (rest : List ℕ) : Type 0 where
@@ -56,13 +62,13 @@ pub record DigitsEnd (bytes : List ℕ) (value : ℕ) (rest : List ℕ) : Type 0
   pub most : value ≤ MOST_PIECE
   pub ends : DigitsStop value rest
 
--- behind these pieces and one more keyword no piece's body follows
+-- behind these pieces and one more keyword no piece follows
 pub record PiecesRefused (side : Keyword) (bytes : List ℕ) (left : ℕ) : Type 0 where
   pub pieces : List (List ℕ)
   pub rest : List ℕ
   pub each : AllByRecursion IsPiece pieces
   pub bytes_are : bytes ≡ pieces_before side (spelling side ++ rest) pieces
-  pub refused : Refuses IsBody rest left
+  pub refused : Refuses IsPieceText rest left
 
 abbrev pub StopsPieces : Keyword → List ℕ → PartRefusal → Type 0
 StopsPieces side bytes (p.Left left) = PiecesRefused side bytes left
@@ -87,7 +93,8 @@ pub record CloseRefused (bytes : List ℕ) (left : ℕ) : Type 0 where
 
 -- a transaction is refused behind its first line
 abbrev pub InsideRefused : List ℕ → ℕ → Type 0
-InsideRefused bytes left = PiecesRefused k.Client bytes left ⊎ OriginRefused bytes left ⊎ CloseRefused bytes left
+InsideRefused bytes left =
+    PiecesRefused k.Client bytes left ⊎ OriginRefused bytes left ⊎ CloseRefused bytes left
 
 abbrev pub StopsInside : List ℕ → PartRefusal → Type 0
 StopsInside bytes (p.Left left) = InsideRefused bytes left
@@ -108,15 +115,20 @@ abbrev pub txns_before : List ℕ → List Txn → List ℕ
 txns_before behind [] = behind
 txns_before behind (t ∷ ts) = spelling k.Txn ++ inside_before (txns_before behind ts) t.0 t.1
 
--- behind these transactions one more is refused behind its first line, or the end is
+-- behind so many transactions one more is refused behind its first line
+pub record TxnRefused (count : ℕ) (bytes : List ℕ) (left : ℕ) : Type 0 where
+  pub inside : List ℕ
+  pub room : count < MOST_TXNS
+  pub bytes_are : bytes ≡ spelling k.Txn ++ inside
+  pub refused : InsideRefused inside left
+
+-- behind these transactions one more is refused, or the end is
 pub record TxnsRefused (bytes : List ℕ) (left : ℕ) : Type 0 where
   pub done : List Txn
   pub rest : List ℕ
   pub limits : KeepsLimits done
   pub bytes_are : bytes ≡ txns_before rest done
-  pub refused :
-      ((inside : List ℕ) × (length done < MOST_TXNS) × (rest ≡ spelling k.Txn ++ inside) × InsideRefused inside left)
-      ⊎ EndRefused (length done) rest left
+  pub refused : TxnRefused (length done) rest left ⊎ EndRefused (length done) rest left
 
 abbrev pub StopsTxns : List ℕ → PartRefusal → Type 0
 StopsTxns bytes (p.Left left) = TxnsRefused bytes left

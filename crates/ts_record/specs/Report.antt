@@ -3,6 +3,7 @@ use Rattle.std.specs.Prelude.{ℕ, List, [], ◌∷◌, ◌++◌, codes, length,
 use Rattle.std.specs.Fmt.{decimal}
 use Rattle.ts_hooks.specs.declared.txn_end.TxnEnd.{TxnEnd}
 use Rattle.ts_hooks.specs.declared.txn_end.TxnEnd.TheVariants as e
+use Rattle.ts_record.specs.Grammar.{line_feed}
 use Rattle.ts_record.specs.declared.report.Block.{Block}
 
 -- the word of an end in a report; the other ends have none, since the links of a recording do not fail
@@ -21,7 +22,7 @@ IsReported other = ⊥
 
 -- a line with a name and a length, so many bytes, and a line feed
 abbrev pub sized_text : List ℕ → List ℕ → List ℕ
-sized_text name bytes = name ++ decimal (length bytes) ++ 10 ∷ [] ++ bytes ++ 10 ∷ []
+sized_text name bytes = name ++ decimal (length bytes) ++ line_feed ∷ [] ++ bytes ++ line_feed ∷ []
 
 -- the body of an answer, which only a whole one has
 abbrev pub body_text : TxnEnd → List ℕ → List ℕ
@@ -31,8 +32,8 @@ body_text other content = []
 -- the lines on the transaction of this number
 abbrev pub block_text : ℕ → Block → List ℕ
 block_text number block =
-    codes "txn " ++ decimal number ++ 10 ∷ []
+    codes "txn " ++ decimal number ++ line_feed ∷ []
     ++ sized_text (codes "request ") block.request
-    ++ codes "end " ++ end_word block.end ++ 10 ∷ []
+    ++ codes "end " ++ end_word block.end ++ line_feed ∷ []
     ++ sized_text (codes "head ") block.head
     ++ body_text block.end block.content

@@ -69,9 +69,7 @@ fn most_common(bytes: &[u8], keywords: &[Keyword]) -> usize
 {
     match keywords {
         [] => 0,
-        [first, others @ ..] => {
-            common(bytes, first.spelling()).max(most_common(bytes, others))
-        }
+        [first, others @ ..] => { common(bytes, first.spelling()).max(most_common(bytes, others)) }
     }
 }
 

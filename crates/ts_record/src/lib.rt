@@ -1,9 +1,9 @@
-//! Recordings: the bytes that both sides of each transaction send, as a text that is read and printed; and the text of
-//! the report on them.
+//! Recordings: the bytes that both sides of each transaction send, as a text that is read and printed; and the text
+//! of the report on them.
 #![tactic(auto)]
 
-mod body;
 mod keyword;
+mod piece;
 mod pieces;
 mod print;
 mod read;

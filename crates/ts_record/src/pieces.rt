@@ -6,8 +6,8 @@ ghost use Rattle.ts_record.specs.Keywords.{Lacks};
 ghost use Rattle.ts_record.specs.Refusing.{StopsPieces};
 ghost use Rattle.ts_record.specs.declared.pieces.PartRefusal.TheVariants as p;
 
-use crate::body::read_body;
 use crate::keyword::{Keyword, after};
+use crate::piece::read_piece;
 use std::alloc::{AllocFailed, Global};
 use ts_link::{NoMemory, Octets};
 
@@ -49,7 +49,7 @@ pub fn read_pieces(
     let mut pieces = Vec::new(alloc);
     let mut rest = bytes;
     while let Some(inside) = after(rest, side) {
-        match read_body(inside) {
+        match read_piece(inside) {
             Ok((piece, behind)) => {
                 pieces.push(Octets::copy_of(alloc, piece)?)?;
                 rest = behind;

@@ -1,9 +1,7 @@
 //! Printing a recording: the one text that is read as it.
-ghost use Rattle.std.specs.Prelude.{◌≡◌, ◌++◌, IfOk, OnOk};
-ghost use Rattle.ts_record.specs.Grammar.{KeepsLimits, IsRecording, body_before, pieces_before, inside_before, text_of};
-ghost use Rattle.ts_record.specs.Keywords.{spelling};
-ghost use Rattle.ts_record.specs.Printing.{PrintsBefore};
-ghost use Rattle.ts_record.specs.declared.keyword.Keyword.TheVariants as k;
+ghost use Rattle.std.specs.Prelude.{◌≡◌, IfOk, OnOk};
+ghost use Rattle.ts_record.specs.Grammar.{KeepsLimits, IsRecording, text_of};
+ghost use Rattle.ts_record.specs.Printing.{PrintsPiece, PrintsPieces, PrintsTxn};
 
 use crate::keyword::Keyword;
 use crate::recording::{RecordedTxn, Recording};
@@ -12,7 +10,7 @@ use std::alloc::Global;
 use ts_link::{NoMemory, Octets};
 
 fn print_piece(out: &mut Vec<u8>, side: Keyword, piece: &[u8]) -> Result<(), NoMemory>
-    ensures { OnOk result (PrintsBefore out.old.items out.new.items (λ behind. spelling side ++ body_before behind piece.now)) }
+    ensures { OnOk result (PrintsPiece side piece.now out.old.items out.new.items) }
 {
     let mut number = Buffer::new();
     out.extend_from_slice(side.spelling())?;
@@ -24,7 +22,7 @@ fn print_piece(out: &mut Vec<u8>, side: Keyword, piece: &[u8]) -> Result<(), NoM
 }
 
 fn print_pieces(out: &mut Vec<u8>, side: Keyword, pieces: &[Octets]) -> Result<(), NoMemory>
-    ensures { OnOk result (PrintsBefore out.old.items out.new.items (λ behind. pieces_before side behind pieces.now)) }
+    ensures { OnOk result (PrintsPieces side pieces.now out.old.items out.new.items) }
 {
     for piece in pieces {
         print_piece(out, side, piece.bytes())?;
@@ -33,7 +31,7 @@ fn print_pieces(out: &mut Vec<u8>, side: Keyword, pieces: &[Octets]) -> Result<(
 }
 
 fn print_txn(out: &mut Vec<u8>, txn: &RecordedTxn) -> Result<(), NoMemory>
-    ensures { OnOk result (PrintsBefore out.old.items out.new.items (λ behind. spelling k.Txn ++ inside_before behind txn.now.0 txn.now.1)) }
+    ensures { OnOk result (PrintsTxn txn.now out.old.items out.new.items) }
 {
     out.extend_from_slice(Keyword::Txn.spelling())?;
     print_pieces(out, Keyword::Client, txn.client.as_slice())?;

@@ -43,24 +43,20 @@ fn read_inside(alloc: Global, bytes: &[u8]) -> Result<(RecordedTxn, &[u8]), Part
     let (origin, rest) = read_pieces(alloc, rest, Keyword::Origin)?;
     match after(rest, Keyword::Close) {
         Some(behind) => Ok((RecordedTxn { client, origin }, behind)),
-        None => Err(PartRefusal::Left(left_by(
-            rest,
-            keywords_inside(origin.as_slice()),
-        ))),
+        None => Err(PartRefusal::Left(left_by(rest, keywords_inside(origin.as_slice())))),
     }
 }
 
-// The bytes behind the first line of one more transaction, if it stands at the front and so many before it leave room.
+// The bytes behind the first line of one more transaction, if it stands at the front and so many leave room for it.
 fn after_txn(bytes: &[u8], count: usize) -> Option<&[u8]>
     ensures room { IfSome result (λ behind. count < MOST_TXNS) }
     ensures some { IfSome result (λ behind. bytes.now ≡ spelling k.Txn ++ behind.now) }
     ensures none { IfNone result (count < MOST_TXNS → Lacks bytes.now k.Txn) }
 {
-    if count < MOST_TXNS {
-        after(bytes, Keyword::Txn)
-    } else {
-        None
+    if count >= MOST_TXNS {
+        return None;
     }
+    after(bytes, Keyword::Txn)
 }
 
 // The end of the recording behind so many transactions.

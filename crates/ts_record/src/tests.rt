@@ -1,4 +1,6 @@
 //! Recordings that are read, refused at their offsets and printed, and the lines of a report.
+ghost use Rattle.ts_record.specs.Report.{IsReported};
+
 use crate::{Block, RecordingRefusal, print_recording, read_recording, report_block};
 use std::alloc::Global;
 use std::test::Fail;
@@ -7,7 +9,9 @@ use ts_link::Octets;
 
 /// The recording of one exchange, with what stands before and behind the length of its client's piece.
 const BEFORE: &[u8] = b"tsx-recording 1\ntxn\nclient ";
-const BEHIND: &[u8] = b"\nGET / HTTP/1.1\r\nHost: a\r\n\r\n\norigin 41\nHTTP/1.1 200 OK\r\nContent-Length: 3\r\n\r\nabc\nclose\nend\n";
+
+const BEHIND: &[u8] =
+    b"\nGET / HTTP/1.1\r\nHost: a\r\n\r\n\norigin 41\nHTTP/1.1 200 OK\r\nContent-Length: 3\r\n\r\nabc\nclose\nend\n";
 
 // That recording with this length.
 fn with_length(alloc: Global, length: &[u8]) -> Result<Vec<u8>, Fail> {
@@ -77,8 +81,16 @@ fn other_texts(rt: HostRuntime) -> Result<(), Fail> {
         (b"tsx-recording 1\nend\n", true, 20),
         (b"tsx-recording 1\ntxn\nclosed\n", false, 25),
         (b"tsx-recording 1\ntxn\ncliend 1\n", false, 25),
-        (b"tsx-recording 1\ntxn\norigin 1\na\nclient 1\na\n", false, 33),
-        (b"tsx-recording 1\ntxn\nclient 1\na\nclient 2\nbc\nclose\nend\n", true, 53),
+        (
+            b"tsx-recording 1\ntxn\norigin 1\na\nclient 1\na\n",
+            false,
+            33,
+        ),
+        (
+            b"tsx-recording 1\ntxn\nclient 1\na\nclient 2\nbc\nclose\nend\n",
+            true,
+            53,
+        ),
     ];
     for (bytes, read, number) in rows {
         assert_eq!(rt; outcome(alloc, bytes)?, (read, number), "{bytes:?}");
@@ -99,35 +111,36 @@ fn a_recording_tells_its_pieces(rt: HostRuntime) -> Result<(), Fail> {
     Ok(())
 }
 
-// The block of one exchange, with this end.
-fn block_with(alloc: Global, end: TxnEnd) -> Result<Block, Fail> {
-    Ok(Block {
-        request: Octets::copy_of(
-            alloc,
-            b"GET / HTTP/1.1\r\nhost: a\r\nvia: 1.1 tsx\r\nconnection: close\r\n\r\n",
-        )?,
+// What the report says of one exchange with this end.
+fn report_on(alloc: Global, number: u64, end: TxnEnd) -> Result<Octets, Fail>
+    requires { IsReported end }
+{
+    let request = b"GET / HTTP/1.1\r\nhost: a\r\nvia: 1.1 tsx\r\nconnection: close\r\n\r\n";
+    let head =
+        b"HTTP/1.1 200 OK\r\nvia: 1.1 tsx\r\ntransfer-encoding: chunked\r\nconnection: close\r\n\r\n";
+    let block = Block {
+        request: Octets::copy_of(alloc, request)?,
         end,
-        head: Octets::copy_of(
-            alloc,
-            b"HTTP/1.1 200 OK\r\nvia: 1.1 tsx\r\ntransfer-encoding: chunked\r\nconnection: close\r\n\r\n",
-        )?,
+        head: Octets::copy_of(alloc, head)?,
         content: Octets::copy_of(alloc, b"<abc")?,
-    })
+    };
+    Ok(report_block(alloc, number, &block)?)
 }
 
 #[test]
 fn blocks_of_a_report(rt: HostRuntime) -> Result<(), Fail> {
-    let whole = block_with(rt.alloc(), TxnEnd::Whole)?;
-    let cut = block_with(rt.alloc(), TxnEnd::OriginCut)?;
-    let bad = block_with(rt.alloc(), TxnEnd::OriginBad)?;
-    let whole = report_block(rt.alloc(), 1, &whole)?;
-    let text = b"txn 1\nrequest 60\nGET / HTTP/1.1\r\nhost: a\r\nvia: 1.1 tsx\r\nconnection: close\r\n\r\n\nend whole\nhead 80\nHTTP/1.1 200 OK\r\nvia: 1.1 tsx\r\ntransfer-encoding: chunked\r\nconnection: close\r\n\r\n\nbody 4\n<abc\n";
+    let whole = report_on(rt.alloc(), 1, TxnEnd::Whole)?;
+    let text = b"txn 1\n\
+request 60\nGET / HTTP/1.1\r\nhost: a\r\nvia: 1.1 tsx\r\nconnection: close\r\n\r\n\n\
+end whole\n\
+head 80\nHTTP/1.1 200 OK\r\nvia: 1.1 tsx\r\ntransfer-encoding: chunked\r\nconnection: close\r\n\r\n\n\
+body 4\n<abc\n";
     assert_eq!(rt; whole.bytes(), text.as_slice());
-    // with the report's first and last lines, of 13 and 5 bytes
-    assert_eq!(rt; whole.bytes().len() + 13 + 5, 207);
-    let cut = report_block(rt.alloc(), 1, &cut)?;
-    assert_eq!(rt; cut.bytes().len() + 13 + 5, 193);
-    let bad = report_block(rt.alloc(), 4000, &bad)?;
-    assert_eq!(rt; bad.bytes().len() + 13 + 5, 196);
+    // with the first and the last line of a report, of 13 and 5 bytes
+    assert_eq!(rt; 13 + whole.bytes().len() + 5, 207);
+    let cut = report_on(rt.alloc(), 1, TxnEnd::OriginCut)?;
+    assert_eq!(rt; 13 + cut.bytes().len() + 5, 193);
+    let bad = report_on(rt.alloc(), 4000, TxnEnd::OriginBad)?;
+    assert_eq!(rt; 13 + bad.bytes().len() + 5, 196);
     Ok(())
 }

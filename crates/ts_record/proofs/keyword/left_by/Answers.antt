@@ -1,5 +1,5 @@
 use Rattle.std.proofs.Common.{◌-◌, length, arith}
-use Rattle.ts_record.proofs.Common.{refuses_keywords}
+use Rattle.ts_record.proofs.Keywords.{refuses_keywords}
 use Rattle.ts_record.proofs.keyword.left_by.Goals as goal
 
 pub returns : goal.returns

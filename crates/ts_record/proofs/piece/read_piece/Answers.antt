@@ -1,6 +1,6 @@
 use Rattle.std.proofs.Common.{inl, inr, arith}
-use Rattle.ts_record.proofs.Bodies.{number_refused, numbered, short_refused, feed_refused, halves}
-use Rattle.ts_record.proofs.body.read_body.Goals as goal
+use Rattle.ts_record.proofs.PieceTexts.{number_refused, numbered, short_refused, feed_refused, halves}
+use Rattle.ts_record.proofs.piece.read_piece.Goals as goal
 
 pub returns-then-length-eq0-clause-refused : goal.returns-then-length-eq0-clause-refused
 returns-then-length-eq0-clause-refused c =

@@ -1,7 +1,7 @@
 //! A piece behind its keyword: its length in decimal, its bytes, and a line feed behind each.
 ghost use Rattle.std.specs.Prelude.{◌≡◌, ℕ, ◌≤◌, ◌∷◌, length, drop, IfSome, IfNone, IfOk, IfErr};
-ghost use Rattle.ts_record.specs.Grammar.{IsPiece, body_before};
-ghost use Rattle.ts_record.specs.Refusing.{Refuses, IsBody, LacksFeed, DigitsEnd};
+ghost use Rattle.ts_record.specs.Grammar.{IsPiece, piece_before};
+ghost use Rattle.ts_record.specs.Refusing.{Refuses, IsPieceText, LacksFeed, DigitsEnd};
 
 use crate::recording::MOST_PIECE;
 
@@ -43,12 +43,12 @@ fn after_feed(bytes: &[u8]) -> Option<&[u8]>
     }
 }
 
-/// The piece that stands behind its keyword, and the bytes behind it; or how many bytes are left behind the longest
-/// front that such a text begins with.
-pub fn read_body(bytes: &[u8]) -> Result<(&[u8], &[u8]), usize>
+/// The piece that stands behind its keyword, and the bytes behind it; or how many bytes are left behind the
+/// longest front that such a text begins with.
+pub fn read_piece(bytes: &[u8]) -> Result<(&[u8], &[u8]), usize>
     ensures piece { IfOk result (λ cut. IsPiece cut.0.now) }
-    ensures text { IfOk result (λ cut. bytes.now ≡ body_before cut.1.now cut.0.now) }
-    ensures refused { IfErr result (Refuses IsBody bytes.now) }
+    ensures text { IfOk result (λ cut. bytes.now ≡ piece_before cut.1.now cut.0.now) }
+    ensures refused { IfErr result (Refuses IsPieceText bytes.now) }
 {
     let (length, behind) = read_length(bytes);
     if length == 0 {
