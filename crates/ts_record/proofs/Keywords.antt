@@ -1,10 +1,10 @@
 -- What bytes have in common with keywords at their fronts.
-use Rattle.std.proofs.Common.{◌≡◌, ℕ, ◌+◌, ◌-◌, ◌<◌, ◌≤◌, suc, List, [], ◌∷◌, ◌++◌, length, Bool, true, false, cond, ap, sym, ◌∙◌, subst, refl, inl, inr, ◌⊎◌, max, length-append, append_assoc, arith}
+use Rattle.std.proofs.Common.{◌≡◌, ℕ, ◌+◌, ◌-◌, ◌<◌, ◌≤◌, List, [], ◌∷◌, ◌++◌, length, Bool, true, false, cond, ap, sym, ◌∙◌, subst, refl, inl, inr, length-append, append_assoc, arith}
 use Rattle.std.specs.Prelude.{◌==◌, nat_lt}
 use Rattle.std.proofs.Math.Nat.{le-max_left, le-max_right, max-eq_left, max-eq_right}
 use Rattle.std.proofs.lemmas.Bool.Decides.{Decides-eqb, nat_tests}
 use Rattle.std.proofs.lemmas.List.{append-nil}
-use Rattle.ts_record.specs.Keywords.{spelling, common, most_common, Lacks, LacksAll}
+use Rattle.ts_record.specs.Keywords.{spelling, common, most_common, LacksAll}
 use Rattle.ts_record.specs.Refusing.{Opens, Stuck, Refuses, OneOf}
 use Rattle.ts_record.specs.declared.keyword.Keyword.{Keyword}
 

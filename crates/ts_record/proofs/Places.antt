@@ -1,11 +1,9 @@
 -- The texts that can stand at each place of a recording, and what follows when a keyword or a piece was read there.
-use Rattle.std.proofs.Common.{◌≡◌, ℕ, ◌+◌, ◌<◌, ◌≤◌, suc, List, [], ◌∷◌, ◌++◌, length, ap, sym, ◌∙◌, subst, refl, inl, inr, arith, append_assoc, lit≤}
+use Rattle.std.proofs.Common.{◌≡◌, ℕ, ◌+◌, ◌<◌, ◌≤◌, suc, List, [], ◌∷◌, ◌++◌, length, ap, sym, ◌∙◌, subst, refl, arith, append_assoc, lit≤}
 use Rattle.std.specs.List.{AllByRecursion}
-use Rattle.std.specs.Fmt.{decimal}
-use Rattle.std.proofs.lemmas.List.{append_cancel_left, append-nil}
-use Rattle.ts_record.specs.Grammar.{Txn, piece_before, pieces_before, inside_before, txns_text, text_of, IsPiece, IsTxn, KeepsLimits, IsRecording}
+use Rattle.std.proofs.lemmas.List.{append_cancel_left}
+use Rattle.ts_record.specs.Grammar.{Txn, piece_before, pieces_before, inside_before, txns_text, IsPiece, IsTxn, IsRecording}
 use Rattle.ts_record.specs.Keywords.{spelling}
-use Rattle.ts_record.specs.Refusing.{Opens, OneOf, IsPieceText}
 use Rattle.ts_record.specs.declared.recording.TheConstants.{MOST_TXNS}
 use Rattle.ts_record.specs.declared.keyword.Keyword.TheVariants as k
 use Rattle.ts_record.proofs.Same.{close_not_client, close_not_origin, origin_not_client, end_not_txn, same_piece}

@@ -1,9 +1,8 @@
 -- A text is that of one recording.
-use Rattle.std.proofs.Common.{◌≡◌, ℕ, ◌+◌, ◌^◌, ◌<◌, ◌≤◌, List, [], ◌∷◌, ◌++◌, length, ap, sym, ◌∙◌, subst, refl, arith, get_or}
+use Rattle.std.proofs.Common.{◌≡◌, ℕ, List, [], ◌∷◌, ◌++◌, length, ap, sym, ◌∙◌, refl, arith, get_or}
 use Rattle.std.specs.List.{AllByRecursion}
-use Rattle.std.specs.Fmt.{decimal}
 use Rattle.std.proofs.lemmas.List.{append_cancel_left}
-use Rattle.ts_record.specs.Grammar.{Txn, piece_before, pieces_before, inside_before, txns_text, text_of, IsPiece, IsTxn, KeepsLimits, IsRecording}
+use Rattle.ts_record.specs.Grammar.{Txn, piece_before, pieces_before, inside_before, txns_text, IsPiece, IsTxn, IsRecording}
 use Rattle.ts_record.specs.Keywords.{spelling, Lacks}
 use Rattle.ts_record.specs.declared.keyword.Keyword.{Keyword}
 use Rattle.ts_record.specs.declared.keyword.Keyword.TheVariants as k

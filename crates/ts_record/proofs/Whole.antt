@@ -3,14 +3,12 @@ use Rattle.std.proofs.Common.{◌≡◌, ℕ, ◌+◌, ◌-◌, ◌<◌, ◌≤�
 use Rattle.std.specs.Prelude.{nat_lt}
 use Rattle.std.specs.List.{AllByRecursion}
 use Rattle.std.proofs.Math.Seq.{take-append_seam, take-append-add}
-use Rattle.std.proofs.lemmas.Bool.Decides.{nat_tests}
 use Rattle.std.proofs.lemmas.List.{append-nil}
-use Rattle.ts_record.specs.Grammar.{Txn, piece_before, pieces_before, inside_before, txns_text, text_of, IsPiece, IsTxn, KeepsLimits, IsRecording}
-use Rattle.ts_record.specs.Keywords.{spelling, keywords_inside, keywords_behind}
+use Rattle.ts_record.specs.Grammar.{Txn, piece_before, pieces_before, inside_before, txns_text, IsPiece, IsTxn, IsRecording}
+use Rattle.ts_record.specs.Keywords.{spelling, keywords_inside}
 use Rattle.ts_record.specs.Offsets.{BeginsSome, IsRefusedAt, RefusesRightly}
-use Rattle.ts_record.specs.Refusing.{Opens, Stuck, Refuses, OneOf, IsPieceText, PiecesRefused, OriginRefused, CloseRefused, InsideRefused, EndRefused, txns_before, TxnRefused, TxnsRefused, StopsTxns, refusal_of}
+use Rattle.ts_record.specs.Refusing.{Opens, Stuck, Refuses, OneOf, IsPieceText, PiecesRefused, InsideRefused, EndRefused, txns_before, TxnRefused, TxnsRefused, StopsTxns, refusal_of}
 use Rattle.ts_record.specs.declared.recording.TheConstants.{MOST_TXNS}
-use Rattle.ts_record.specs.declared.keyword.Keyword.{Keyword}
 use Rattle.ts_record.specs.declared.keyword.Keyword.TheVariants as k
 use Rattle.ts_record.specs.declared.pieces.PartRefusal.{PartRefusal}
 use Rattle.ts_record.specs.declared.pieces.PartRefusal.TheVariants as p

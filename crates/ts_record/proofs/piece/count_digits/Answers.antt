@@ -1,4 +1,4 @@
-use Rattle.std.proofs.Common.{sym, ◌∙◌, inl, inr, arith, get_or, refl}
+use Rattle.std.proofs.Common.{sym, ◌∙◌, inl, inr, arith, get_or}
 use Rattle.ts_record.proofs.Growing.{no_digit, no_length, stop_at, counted, all_counted, more_digits}
 use Rattle.ts_record.proofs.piece.count_digits.Goals as goal
 
