@@ -1,5 +1,5 @@
 -- Which plugins a transaction asks at a hook, and in which order (Developer's Guide, "Hooks and Transactions").
-use Rattle.std.specs.Prelude.{◌≡◌, ℕ, ◌==◌, ◌+◌, Bool, List, length, map, ◌++◌, slice_get, Some, Result, Ok, Err}
+use Rattle.std.specs.Prelude.{◌≡◌, ℕ, ◌==◌, ◌+◌, Bool, List, [], ◌∷◌, ◌++◌, length, map, slice_get, Some, Result, Ok, Err}
 use Rattle.std.specs.List.{filter}
 use Rattle.ts_hooks.specs.declared.hook.Hook.{Hook}
 use Rattle.ts_hooks.specs.declared.hook.Hook.TheVariants as h
@@ -8,6 +8,13 @@ use Rattle.ts_hooks.specs.declared.hook.Hook.TheVariants as h
 pub record HookPlugins : Type 0 where
   pub global : List (Hook × ℕ)
   pub txn : List (Hook × ℕ)
+
+-- one plugin more of all transactions, or of one
+abbrev pub with_global : HookPlugins → Hook → ℕ → HookPlugins
+with_global table hook plugin = record table { global = table.global ++ (hook, plugin) ∷ [] }
+
+abbrev pub with_txn : HookPlugins → Hook → ℕ → HookPlugins
+with_txn table hook plugin = record table { txn = table.txn ++ (hook, plugin) ∷ [] }
 
 -- the place of a hook among all hooks, in the order in which a transaction comes to them
 abbrev pub place_of : Hook → ℕ

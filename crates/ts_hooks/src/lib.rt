@@ -1,4 +1,4 @@
-//! The hooks of a transaction, the table of the plugins that are asked at each of them, and how a transaction ends.
+//! The hooks of a transaction, the table of the plugins that it asks at each of them, and how it ends.
 #![tactic(auto)]
 
 mod hook;

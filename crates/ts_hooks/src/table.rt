@@ -1,6 +1,6 @@
 //! The table of the plugins that a transaction asks at its hooks.
-ghost use Rattle.std.specs.Prelude.{◌≡◌, ◌++◌, ◌∷◌, [], IfOk, OnOk, OnErr, slice_get};
-ghost use Rattle.ts_hooks.specs.Hooks.{plugins_at, hook_list, Finds};
+ghost use Rattle.std.specs.Prelude.{◌≡◌, [], IfOk, OnOk, OnErr, slice_get};
+ghost use Rattle.ts_hooks.specs.Hooks.{with_global, with_txn, plugins_at, hook_list, Finds};
 
 use crate::hook::Hook;
 use std::alloc::Global;
@@ -22,7 +22,7 @@ impl Model for HookTable {
     ghost view = { λ t. record { global = t.global.items; txn = t.txn.items } };
 }
 
-// The plugin at this place among those of the hook; or, where they are fewer, by how many the place is past them.
+// The plugin at this place among those of the hook, or by how many the place is past them.
 fn plugin_at(plugins: &[(Hook, u32)], hook: Hook, place: usize) -> Result<u32, usize>
     ensures { Finds (plugins_at hook plugins.now) place result }
 {
@@ -51,7 +51,7 @@ impl HookTable {
 
     /// Adds a plugin of all transactions behind those that were added so.
     pub fn add_global(&mut self, hook: Hook, plugin: u32) -> Result<(), NoMemory>
-        ensures ok { OnOk result (self.new ≡ record self.old { global = self.old.global ++ (hook, plugin) ∷ [] }) }
+        ensures ok { OnOk result (self.new ≡ with_global self.old hook plugin) }
         ensures err { OnErr result (self.new ≡ self.old) }
     {
         self.global.push((hook, plugin))?;
@@ -60,7 +60,7 @@ impl HookTable {
 
     /// Adds a plugin of this transaction behind those that were added so.
     pub fn add_txn(&mut self, hook: Hook, plugin: u32) -> Result<(), NoMemory>
-        ensures ok { OnOk result (self.new ≡ record self.old { txn = self.old.txn ++ (hook, plugin) ∷ [] }) }
+        ensures ok { OnOk result (self.new ≡ with_txn self.old hook plugin) }
         ensures err { OnErr result (self.new ≡ self.old) }
     {
         self.txn.push((hook, plugin))?;

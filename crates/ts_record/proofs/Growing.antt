@@ -12,7 +12,7 @@ use Rattle.std.proofs.lemmas.Fmt.{decimal-digits_value}
 use Rattle.std.proofs.lemmas.Int.Digits.{digits_value_more, digits_more}
 use Rattle.std.proofs.lemmas.Str.{digit_value_digit}
 use Rattle.std.proofs.lemmas.Str.Parse.{digit_from_value}
-use Rattle.ts_record.specs.Grammar.{Txn, piece_before, pieces_before, inside_before, txns_text, IsPiece, IsTxn, KeepsLimits}
+use Rattle.ts_record.specs.Grammar.{TxnPieces, piece_before, pieces_before, inside_before, txns_text, IsPiece, IsTxn, KeepsLimits}
 use Rattle.ts_record.specs.Keywords.{spelling}
 use Rattle.ts_record.specs.Refusing.{txns_before, with_digit, DigitsStop, DigitsEnd}
 use Rattle.ts_record.specs.declared.recording.TheConstants.{MOST_PIECE, MOST_TXNS}
@@ -38,12 +38,12 @@ more_pieces side bytes rest inside behind p ps new each are opens text is push =
   are ∙ ap (λ t. pieces_before side t ps) (opens ∙ ap (λ t. spelling side ++ t) text) ∙ sym (pieces_more side behind p ps) ∙ ap (pieces_before side behind) (sym push),
 )
 
-txns_more : (behind : List ℕ) (t : Txn) (ts : List Txn) → txns_before behind (ts ++ t ∷ []) ≡ txns_before (spelling k.Txn ++ inside_before behind t.0 t.1) ts
+txns_more : (behind : List ℕ) (t : TxnPieces) (ts : List TxnPieces) → txns_before behind (ts ++ t ∷ []) ≡ txns_before (spelling k.Txn ++ inside_before behind t.0 t.1) ts
 txns_more behind t [] = refl
 txns_more behind t (u ∷ us) = ap (λ x. spelling k.Txn ++ inside_before x u.0 u.1) (txns_more behind t us)
 
 -- one more transaction
-pub more_txns : (bytes rest inside behind : List ℕ) (t : Txn) (ts new : List Txn) → KeepsLimits ts → bytes ≡ txns_before rest ts → length ts < MOST_TXNS
+pub more_txns : (bytes rest inside behind : List ℕ) (t : TxnPieces) (ts new : List TxnPieces) → KeepsLimits ts → bytes ≡ txns_before rest ts → length ts < MOST_TXNS
     → rest ≡ spelling k.Txn ++ inside → inside ≡ inside_before behind t.0 t.1 → IsTxn t → new ≡ ts ++ t ∷ []
     → KeepsLimits new × (bytes ≡ txns_before behind new)
 more_txns bytes rest inside behind t ts new limits are few opens text is push = (
@@ -67,7 +67,7 @@ pieces_longer side behind (p ∷ ps) =
     )
 
 -- what stands behind a transaction is shorter than it and that
-pub shorter_behind : (rest inside behind : List ℕ) (t : Txn) → rest ≡ spelling k.Txn ++ inside → inside ≡ inside_before behind t.0 t.1 → length behind < length rest
+pub shorter_behind : (rest inside behind : List ℕ) (t : TxnPieces) → rest ≡ spelling k.Txn ++ inside → inside ≡ inside_before behind t.0 t.1 → length behind < length rest
 shorter_behind rest inside behind t opens text =
     omega (
       arith,
@@ -79,7 +79,7 @@ shorter_behind rest inside behind t opens text =
     )
 
 -- the last line behind transactions
-pub txns_whole : (rest : List ℕ) (ts : List Txn) → rest ≡ spelling k.End → txns_before rest ts ≡ txns_text ts
+pub txns_whole : (rest : List ℕ) (ts : List TxnPieces) → rest ≡ spelling k.End → txns_before rest ts ≡ txns_text ts
 txns_whole rest [] is = is
 txns_whole rest (t ∷ ts) is = ap (λ x. spelling k.Txn ++ inside_before x t.0 t.1) (txns_whole rest ts is)
 

@@ -2,7 +2,7 @@
 use Rattle.std.proofs.Common.{◌≡◌, ℕ, ◌+◌, ◌<◌, ◌≤◌, suc, List, [], ◌∷◌, ◌++◌, length, ap, sym, ◌∙◌, subst, refl, arith, append_assoc, lit≤}
 use Rattle.std.specs.List.{AllByRecursion}
 use Rattle.std.proofs.lemmas.List.{append_cancel_left}
-use Rattle.ts_record.specs.Grammar.{Txn, piece_before, pieces_before, inside_before, txns_text, IsPiece, IsTxn, IsRecording}
+use Rattle.ts_record.specs.Grammar.{TxnPieces, piece_before, pieces_before, inside_before, txns_text, IsPiece, IsTxn, IsRecording}
 use Rattle.ts_record.specs.Keywords.{spelling}
 use Rattle.ts_record.specs.declared.recording.TheConstants.{MOST_TXNS}
 use Rattle.ts_record.specs.declared.keyword.Keyword.TheVariants as k
@@ -10,11 +10,11 @@ use Rattle.ts_record.proofs.Same.{close_not_client, close_not_origin, origin_not
 
 -- whole recordings
 abbrev pub Recordings : List ℕ → Type 0
-Recordings z = (txns : List Txn) × IsRecording z txns
+Recordings z = (txns : List TxnPieces) × IsRecording z txns
 
 -- behind so many transactions
 abbrev pub Txns : ℕ → List ℕ → Type 0
-Txns count z = (ts : List Txn) × (count + length ts ≤ MOST_TXNS) × AllByRecursion IsTxn ts × (z ≡ txns_text ts)
+Txns count z = (ts : List TxnPieces) × (count + length ts ≤ MOST_TXNS) × AllByRecursion IsTxn ts × (z ≡ txns_text ts)
 
 -- behind pieces of an origin, in the transaction behind so many
 abbrev pub Origins : ℕ → List ℕ → Type 0

@@ -2,7 +2,7 @@
 use Rattle.std.proofs.Common.{◌≡◌, ℕ, List, [], ◌∷◌, ◌++◌, length, ap, sym, ◌∙◌, refl, arith, get_or}
 use Rattle.std.specs.List.{AllByRecursion}
 use Rattle.std.proofs.lemmas.List.{append_cancel_left}
-use Rattle.ts_record.specs.Grammar.{Txn, piece_before, pieces_before, inside_before, txns_text, IsPiece, IsTxn, IsRecording}
+use Rattle.ts_record.specs.Grammar.{TxnPieces, piece_before, pieces_before, inside_before, txns_text, IsPiece, IsTxn, IsRecording}
 use Rattle.ts_record.specs.Keywords.{spelling, Lacks}
 use Rattle.ts_record.specs.declared.keyword.Keyword.{Keyword}
 use Rattle.ts_record.specs.declared.keyword.Keyword.TheVariants as k
@@ -54,14 +54,14 @@ pub origin_lacks_client : (x : List ℕ) (origin : List (List ℕ)) → Lacks (p
 origin_lacks_client x [] = close_not_client x
 origin_lacks_client x (p ∷ ps) = origin_not_client (piece_before (pieces_before k.Origin (spelling k.Close ++ x) ps) p)
 
-pub same_inside : (t u : Txn) (x y : List ℕ) → IsTxn t → IsTxn u → inside_before x t.0 t.1 ≡ inside_before y u.0 u.1 → (t.0 ≡ u.0) × (t.1 ≡ u.1) × (x ≡ y)
+pub same_inside : (t u : TxnPieces) (x y : List ℕ) → IsTxn t → IsTxn u → inside_before x t.0 t.1 ≡ inside_before y u.0 u.1 → (t.0 ≡ u.0) × (t.1 ≡ u.1) × (x ≡ y)
 same_inside t u x y is also same =
     let client = same_pieces k.Client (pieces_before k.Origin (spelling k.Close ++ x) t.1) (pieces_before k.Origin (spelling k.Close ++ y) u.1) t.0 u.0
     is.0 also.0 (origin_lacks_client x t.1) (origin_lacks_client y u.1) same in
     let origin = same_pieces k.Origin (spelling k.Close ++ x) (spelling k.Close ++ y) t.1 u.1 is.1 also.1 (close_not_origin x) (close_not_origin y) client.1 in
     (client.0, origin.0, append_cancel_left (spelling k.Close) x y origin.1)
 
-pub same_txns : (ts us : List Txn) → AllByRecursion IsTxn ts → AllByRecursion IsTxn us → txns_text ts ≡ txns_text us → ts ≡ us
+pub same_txns : (ts us : List TxnPieces) → AllByRecursion IsTxn ts → AllByRecursion IsTxn us → txns_text ts ≡ txns_text us → ts ≡ us
 same_txns [] [] each also same = refl
 same_txns [] (u ∷ us) each also same = absurd (end_not_txn [] (inside_before (txns_text us) u.0 u.1) same)
 same_txns (t ∷ ts) [] each also same = absurd (end_not_txn [] (inside_before (txns_text ts) t.0 t.1) (sym same))
@@ -72,7 +72,7 @@ same_txns (t ∷ ts) (u ∷ us) each also same =
     let first : t ≡ u = ap (λ (c : List (List ℕ)). (c, t.1)) inside.0 ∙ ap (λ (o : List (List ℕ)). (u.0, o)) inside.1 in
     cc (first, rest)
 
-pub one_recording : (bytes : List ℕ) (txns others : List Txn) → IsRecording bytes txns → IsRecording bytes others → others ≡ txns
+pub one_recording : (bytes : List ℕ) (txns others : List TxnPieces) → IsRecording bytes txns → IsRecording bytes others → others ≡ txns
 one_recording bytes txns others is also =
     same_txns others txns also.limits.each is.limits.each
     (append_cancel_left (spelling k.Header) (txns_text others) (txns_text txns) (sym also.text ∙ is.text))

@@ -4,7 +4,7 @@ use Rattle.std.specs.Prelude.{nat_lt}
 use Rattle.std.specs.List.{AllByRecursion}
 use Rattle.std.proofs.Math.Seq.{take-append_seam, take-append-add}
 use Rattle.std.proofs.lemmas.List.{append-nil}
-use Rattle.ts_record.specs.Grammar.{Txn, piece_before, pieces_before, inside_before, txns_text, IsPiece, IsTxn, IsRecording}
+use Rattle.ts_record.specs.Grammar.{TxnPieces, piece_before, pieces_before, inside_before, txns_text, IsPiece, IsTxn, IsRecording}
 use Rattle.ts_record.specs.Keywords.{spelling, keywords_inside}
 use Rattle.ts_record.specs.Offsets.{BeginsSome, IsRefusedAt, RefusesRightly}
 use Rattle.ts_record.specs.Refusing.{Opens, Stuck, Refuses, OneOf, IsPieceText, PiecesRefused, InsideRefused, EndRefused, txns_before, TxnRefused, TxnsRefused, StopsTxns, refusal_of}
@@ -146,7 +146,7 @@ inside_fails count left bytes within (inr (inr r)) =
 txn_keyword : (count left : ℕ) (bytes : List ℕ) → Fails (Clients count) bytes left → Fails (Txns count) (spelling k.Txn ++ bytes) left
 txn_keyword count left bytes = fails_behind (Txns count) (Clients count) (spelling k.Txn) bytes left (to_txn count) (from_txn count)
 
-behind_txn : (count left : ℕ) (bytes : List ℕ) (t : Txn) → IsTxn t → Fails (Txns (suc count)) bytes left
+behind_txn : (count left : ℕ) (bytes : List ℕ) (t : TxnPieces) → IsTxn t → Fails (Txns (suc count)) bytes left
     → Fails (Txns count) (spelling k.Txn ++ inside_before bytes t.0 t.1) left
 behind_txn count left bytes t is f =
     txn_keyword count left (inside_before bytes t.0 t.1) (client_pieces count left (pieces_before k.Origin (spelling k.Close ++ bytes) t.1) t.0 is.0 (close t.1 is.1))
@@ -157,7 +157,7 @@ behind_txn count left bytes t is f =
         first_origin_pieces count left (spelling k.Close ++ bytes) q ps each.0 each.1
         (fails_behind (Origins count) (Txns (suc count)) (spelling k.Close) bytes left (to_close count) (from_close count) f)
 
-behind_txns : (count left : ℕ) (bytes : List ℕ) (ts : List Txn) → AllByRecursion IsTxn ts → Fails (Txns (count + length ts)) bytes left
+behind_txns : (count left : ℕ) (bytes : List ℕ) (ts : List TxnPieces) → AllByRecursion IsTxn ts → Fails (Txns (count + length ts)) bytes left
     → Fails (Txns count) (txns_before bytes ts) left
 behind_txns count left bytes [] each f = let P : ℕ → Type 0 = λ n. Fails (Txns n) bytes left in let none : count + 0 ≡ count = omega arith in subst P none f
 behind_txns count left bytes (t ∷ ts) each f =
@@ -254,7 +254,7 @@ refused_at bytes left f = record {
         let P : List ℕ → Type 0 = λ t. IsRecording t txns in
         stuck (take m bs ++ behind) (txns, subst P (ap (λ t. t ++ behind) taken ∙ append_assoc f.front (b ∷ take m bs) behind) is)
 
-    refused : (rest : List ℕ) → bytes ≡ f.front ++ rest → Stuck Recordings f.front rest → (txns : List Txn) → IsRecording bytes txns → ⊥
+    refused : (rest : List ℕ) → bytes ≡ f.front ++ rest → Stuck Recordings f.front rest → (txns : List TxnPieces) → IsRecording bytes txns → ⊥
     refused [] are stuck txns is = let P : List ℕ → Type 0 = λ t. IsRecording t txns in stuck (txns, subst P (are ∙ append-nil f.front) is)
     refused (b ∷ bs) are stuck txns is = let P : List ℕ → Type 0 = λ t. IsRecording t txns in stuck bs (txns, subst P are is)
 

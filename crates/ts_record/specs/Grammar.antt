@@ -11,8 +11,8 @@ abbrev pub line_feed : ℕ
 line_feed = 10
 
 -- a transaction: the pieces of the client and those of the origin
-abbrev pub Txn : Type 0
-Txn = List (List ℕ) × List (List ℕ)
+abbrev pub TxnPieces : Type 0
+TxnPieces = List (List ℕ) × List (List ℕ)
 
 -- the length of a piece and its bytes, with a line feed behind each, and what follows
 abbrev pub piece_before : List ℕ → List ℕ → List ℕ
@@ -29,26 +29,26 @@ inside_before behind client origin =
     pieces_before k.Client (pieces_before k.Origin (spelling k.Close ++ behind) origin) client
 
 -- transactions, and the last line of all
-abbrev pub txns_text : List Txn → List ℕ
+abbrev pub txns_text : List TxnPieces → List ℕ
 txns_text [] = spelling k.End
 txns_text (t ∷ ts) = spelling k.Txn ++ inside_before (txns_text ts) t.0 t.1
 
 -- the text of a recording
-abbrev pub text_of : List Txn → List ℕ
+abbrev pub text_of : List TxnPieces → List ℕ
 text_of txns = spelling k.Header ++ txns_text txns
 
 abbrev pub IsPiece : List ℕ → Type 0
 IsPiece piece = (1 ≤ length piece) × (length piece ≤ MOST_PIECE)
 
-abbrev pub IsTxn : Txn → Type 0
+abbrev pub IsTxn : TxnPieces → Type 0
 IsTxn t = AllByRecursion IsPiece t.0 × AllByRecursion IsPiece t.1
 
 -- the limits of a recording
-pub record KeepsLimits (txns : List Txn) : Type 0 where
+pub record KeepsLimits (txns : List TxnPieces) : Type 0 where
   pub few : length txns ≤ MOST_TXNS
   pub each : AllByRecursion IsTxn txns
 
 -- the bytes are the text of this recording
-pub record IsRecording (bytes : List ℕ) (txns : List Txn) : Type 0 where
+pub record IsRecording (bytes : List ℕ) (txns : List TxnPieces) : Type 0 where
   pub limits : KeepsLimits txns
   pub text : bytes ≡ text_of txns

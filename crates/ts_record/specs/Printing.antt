@@ -1,6 +1,6 @@
 -- How the text of a recording grows while it is printed.
 use Rattle.std.specs.Prelude.{◌≡◌, ℕ, List, ◌++◌}
-use Rattle.ts_record.specs.Grammar.{Txn, piece_before, pieces_before, inside_before}
+use Rattle.ts_record.specs.Grammar.{TxnPieces, piece_before, pieces_before, inside_before}
 use Rattle.ts_record.specs.Keywords.{spelling}
 use Rattle.ts_record.specs.declared.keyword.Keyword.{Keyword}
 use Rattle.ts_record.specs.declared.keyword.Keyword.TheVariants as k
@@ -18,5 +18,5 @@ abbrev pub PrintsPieces : Keyword → List (List ℕ) → List ℕ → List ℕ 
 PrintsPieces side pieces = Prints (λ behind. pieces_before side behind pieces)
 
 -- by a transaction
-abbrev pub PrintsTxn : Txn → List ℕ → List ℕ → Type 0
+abbrev pub PrintsTxn : TxnPieces → List ℕ → List ℕ → Type 0
 PrintsTxn txn = Prints (λ behind. spelling k.Txn ++ inside_before behind txn.0 txn.1)

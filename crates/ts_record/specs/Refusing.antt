@@ -3,7 +3,7 @@ use Rattle.std.specs.Prelude.{◌≡◌, ℕ, ◌+◌, ◌*◌, ◌-◌, ◌<◌
 use Rattle.std.specs.List.{AllByRecursion}
 use Rattle.std.specs.Char.{digit_value}
 use Rattle.std.specs.Fmt.{decimal}
-use Rattle.ts_record.specs.Grammar.{Txn, line_feed, piece_before, pieces_before, inside_before, IsPiece, IsTxn, KeepsLimits}
+use Rattle.ts_record.specs.Grammar.{TxnPieces, line_feed, piece_before, pieces_before, inside_before, IsPiece, IsTxn, KeepsLimits}
 use Rattle.ts_record.specs.Keywords.{spelling, keywords_inside, keywords_behind}
 use Rattle.ts_record.specs.declared.recording.TheConstants.{MOST_PIECE, MOST_TXNS}
 use Rattle.ts_record.specs.declared.recording.RecordingRefusal.{RecordingRefusal}
@@ -111,7 +111,7 @@ StopsEnd count bytes (p.Left left) = EndRefused count bytes left
 StopsEnd count bytes p.NoMemory = ⊤
 
 -- transactions, and what follows
-abbrev pub txns_before : List ℕ → List Txn → List ℕ
+abbrev pub txns_before : List ℕ → List TxnPieces → List ℕ
 txns_before behind [] = behind
 txns_before behind (t ∷ ts) = spelling k.Txn ++ inside_before (txns_before behind ts) t.0 t.1
 
@@ -124,7 +124,7 @@ pub record TxnRefused (count : ℕ) (bytes : List ℕ) (left : ℕ) : Type 0 whe
 
 -- behind these transactions one more is refused, or the end is
 pub record TxnsRefused (bytes : List ℕ) (left : ℕ) : Type 0 where
-  pub done : List Txn
+  pub done : List TxnPieces
   pub rest : List ℕ
   pub limits : KeepsLimits done
   pub bytes_are : bytes ≡ txns_before rest done

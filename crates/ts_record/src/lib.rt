@@ -1,5 +1,5 @@
-//! Recordings: the bytes that both sides of each transaction send, as a text that is read and printed; and the text
-//! of the report on them.
+//! Recordings: the bytes that both sides of each transaction send, as a text that is read and printed; and the
+//! blocks of the report on them.
 #![tactic(auto)]
 
 mod keyword;

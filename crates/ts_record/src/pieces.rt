@@ -35,7 +35,7 @@ impl<T: Drop> From<AllocFailed<T>> for PartRefusal {
     }
 }
 
-/// The pieces of the side with this keyword, and the bytes behind them, at whose front the keyword does not stand.
+/// The pieces of the side with this keyword, and the bytes behind them, which do not begin with the keyword.
 pub fn read_pieces(
     alloc: Global,
     bytes: &[u8],

@@ -1,6 +1,6 @@
 //! Reading a recording: its transactions, or where the bytes stop being the front of one.
 ghost use Rattle.std.specs.Prelude.{◌≡◌, ◌<◌, ◌++◌, List, length, IfSome, IfNone, IfOk, OnOk, IfErr};
-ghost use Rattle.ts_record.specs.Grammar.{Txn, IsTxn, KeepsLimits, IsRecording, inside_before, txns_text};
+ghost use Rattle.ts_record.specs.Grammar.{TxnPieces, IsTxn, KeepsLimits, IsRecording, inside_before, txns_text};
 ghost use Rattle.ts_record.specs.Keywords.{spelling, Lacks, keywords_inside, keywords_behind};
 ghost use Rattle.ts_record.specs.Offsets.{RefusesRightly};
 ghost use Rattle.ts_record.specs.Refusing.{StopsInside, StopsEnd, StopsTxns, refusal_of};
@@ -47,7 +47,7 @@ fn read_inside(alloc: Global, bytes: &[u8]) -> Result<(RecordedTxn, &[u8]), Part
     }
 }
 
-// The bytes behind the first line of one more transaction, if it stands at the front and so many leave room for it.
+// The bytes behind the first line of one more transaction, if it stands there and so many leave room for it.
 fn after_txn(bytes: &[u8], count: usize) -> Option<&[u8]>
     ensures room { IfSome result (λ behind. count < MOST_TXNS) }
     ensures some { IfSome result (λ behind. bytes.now ≡ spelling k.Txn ++ behind.now) }
@@ -104,7 +104,7 @@ fn refusal_of(bytes: &[u8], refusal: PartRefusal) -> RecordingRefusal
 pub fn read_recording(alloc: Global, bytes: &[u8]) -> Result<Recording, RecordingRefusal>
     ensures read { IfOk result (λ r. IsRecording bytes.now r) }
     // The bytes are the text of no other recording.
-    ensures one { IfOk result (λ r. (other : List Txn) → IsRecording bytes.now other → other ≡ r) }
+    ensures one { IfOk result (λ r. (other : List TxnPieces) → IsRecording bytes.now other → other ≡ r) }
     ensures refusal { IfErr result (RefusesRightly bytes.now) }
 {
     let Some(rest) = after(bytes, Keyword::Header) else {

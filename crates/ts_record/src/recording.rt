@@ -17,9 +17,9 @@ pub struct RecordedTxn {
 }
 
 impl Model for RecordedTxn {
-    ghost use Rattle.ts_record.specs.Grammar.{Txn};
+    ghost use Rattle.ts_record.specs.Grammar.{TxnPieces};
 
-    ghost Value = { Txn };
+    ghost Value = { TxnPieces };
 
     ghost view = { λ t. (t.client.items, t.origin.items) };
 }
@@ -32,9 +32,9 @@ pub struct Recording {
 
 impl Model for Recording {
     ghost use Rattle.std.specs.Prelude.{List};
-    ghost use Rattle.ts_record.specs.Grammar.{Txn};
+    ghost use Rattle.ts_record.specs.Grammar.{TxnPieces};
 
-    ghost Value = { List Txn };
+    ghost Value = { List TxnPieces };
 
     ghost view = { λ r. r.txns.items };
 }

@@ -45,7 +45,8 @@ fn print_sized(out: &mut Vec<u8>, name: &[u8], bytes: &[u8]) -> Result<(), NoMem
     Ok(())
 }
 
-/// The lines of a report on the transaction of this number, counted from 1. Only a whole answer has lines for its body.
+/// The lines of a report on the transaction of this number, counted from 1. Only a whole answer has lines for its
+/// body.
 pub fn report_block(alloc: Global, number: u64, block: &Block) -> Result<Octets, NoMemory>
     requires { IsReported block.now.end }
     ensures { IfOk result (λ o. o ≡ block_text number block.now) }
