@@ -1,6 +1,6 @@
 //! A piece behind its keyword: its length in decimal, its bytes, and a line feed behind each.
 ghost use Rattle.std.specs.Prelude.{◌≡◌, ℕ, ◌≤◌, ◌∷◌, length, drop, IfSome, IfNone, IfOk, IfErr};
-ghost use Rattle.ts_record.specs.Grammar.{IsPiece, piece_before};
+ghost use Rattle.ts_record.specs.Grammar.{line_feed, IsPiece, piece_before};
 ghost use Rattle.ts_record.specs.Refusing.{Refuses, IsPieceText, LacksFeed, DigitsEnd};
 
 use crate::recording::MOST_PIECE;
@@ -34,7 +34,7 @@ fn read_length(bytes: &[u8]) -> (usize, &[u8])
 
 // The bytes behind a line feed at the front.
 fn after_feed(bytes: &[u8]) -> Option<&[u8]>
-    ensures some { IfSome result (λ behind. bytes.now ≡ 10 ∷ behind.now) }
+    ensures some { IfSome result (λ behind. bytes.now ≡ line_feed ∷ behind.now) }
     ensures none { IfNone result (LacksFeed bytes.now) }
 {
     match bytes {
