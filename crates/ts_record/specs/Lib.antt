@@ -1,0 +1,6 @@
+pub mod Grammar
+pub mod Keywords
+pub mod Offsets
+pub mod Printing
+pub mod Refusing
+pub mod Report

@@ -1,0 +1,39 @@
+-- The report on a recording, block by block.
+use Rattle.std.specs.Prelude.{ℕ, List, [], ◌∷◌, ◌++◌, codes, length, ⊤}
+use Rattle.std.specs.Fmt.{decimal}
+use Rattle.ts_hooks.specs.declared.txn_end.TxnEnd.{TxnEnd}
+use Rattle.ts_hooks.specs.declared.txn_end.TxnEnd.TheVariants as e
+use Rattle.ts_record.specs.Grammar.{line_feed}
+use Rattle.ts_record.specs.declared.report.Block.{Block}
+
+-- the word of an end in a report; the other ends have none, since the links of a recording do not fail
+abbrev pub end_word : TxnEnd → List ℕ
+end_word e.Whole = codes "whole"
+end_word e.OriginCut = codes "cut"
+end_word e.OriginBad = codes "bad"
+end_word other = []
+
+-- an end that a report names
+abbrev pub IsReported : TxnEnd → Type 0
+IsReported e.Whole = ⊤
+IsReported e.OriginCut = ⊤
+IsReported e.OriginBad = ⊤
+IsReported other = ⊥
+
+-- a line with a name and a length, so many bytes, and a line feed
+abbrev pub sized_text : List ℕ → List ℕ → List ℕ
+sized_text name bytes = name ++ decimal (length bytes) ++ line_feed ∷ [] ++ bytes ++ line_feed ∷ []
+
+-- the body of an answer, which only a whole one has
+abbrev pub body_text : TxnEnd → List ℕ → List ℕ
+body_text e.Whole content = sized_text (codes "body ") content
+body_text other content = []
+
+-- the lines on the transaction of this number
+abbrev pub block_text : ℕ → Block → List ℕ
+block_text number block =
+    codes "txn " ++ decimal number ++ line_feed ∷ []
+    ++ sized_text (codes "request ") block.request
+    ++ codes "end " ++ end_word block.end ++ line_feed ∷ []
+    ++ sized_text (codes "head ") block.head
+    ++ body_text block.end block.content

@@ -1,0 +1,19 @@
+//! Recordings: the bytes that both sides of each transaction send, as a text that is read and printed; and the
+//! blocks of the report on them.
+#![tactic(auto)]
+
+mod keyword;
+mod piece;
+mod pieces;
+mod print;
+mod read;
+mod recording;
+mod report;
+
+pub use print::print_recording;
+pub use read::read_recording;
+pub use recording::{MOST_PIECE, MOST_TXNS, RecordedTxn, Recording, RecordingRefusal};
+pub use report::{Block, report_block};
+
+#[cfg(test)]
+mod tests;

@@ -1,0 +1,67 @@
+//! The report on a recording: the text of what one transaction came to.
+ghost use Rattle.std.specs.Prelude.{◌≡◌, ◌++◌, IfOk, OnOk};
+ghost use Rattle.ts_record.specs.Report.{IsReported, end_word, sized_text, block_text};
+
+use itoa::Buffer;
+use std::alloc::Global;
+use ts_hooks::TxnEnd;
+use ts_link::{NoMemory, Octets};
+
+/// What a transaction came to.
+#[derive(Drop)]
+pub struct Block {
+    /// The head that was sent to the origin, empty where none was.
+    pub request: Octets,
+    /// How it ended.
+    pub end: TxnEnd,
+    /// The head that was sent to the client, empty where nothing was.
+    pub head: Octets,
+    /// The body that was sent to the client, without its framing.
+    pub content: Octets,
+}
+
+fn end_word(end: TxnEnd) -> &'static [u8]
+    requires { IsReported end }
+    ensures { result.now ≡ end_word end }
+{
+    match end {
+        TxnEnd::Whole => b"whole",
+        TxnEnd::OriginCut => b"cut",
+        TxnEnd::OriginBad => b"bad",
+        _ => unreachable!(),
+    }
+}
+
+// Prints a line with a name and a length, and then so many bytes and a line feed.
+fn print_sized(out: &mut Vec<u8>, name: &[u8], bytes: &[u8]) -> Result<(), NoMemory>
+    ensures { OnOk result (out.new.items ≡ out.old.items ++ sized_text name.now bytes.now) }
+{
+    let mut number = Buffer::new();
+    out.extend_from_slice(name)?;
+    out.extend_from_slice(number.format(bytes.len()).as_bytes())?;
+    out.push(b'\n')?;
+    out.extend_from_slice(bytes)?;
+    out.push(b'\n')?;
+    Ok(())
+}
+
+/// The lines of a report on the transaction of this number, counted from 1. Only a whole answer has lines for its
+/// body.
+pub fn report_block(alloc: Global, number: u64, block: &Block) -> Result<Octets, NoMemory>
+    requires { IsReported block.now.end }
+    ensures { IfOk result (λ o. o ≡ block_text number block.now) }
+{
+    let mut digits = Buffer::new();
+    let mut out = Vec::from_slice(alloc, b"txn ")?;
+    out.extend_from_slice(digits.format(number).as_bytes())?;
+    out.push(b'\n')?;
+    print_sized(&mut out, b"request ", block.request.bytes())?;
+    out.extend_from_slice(b"end ")?;
+    out.extend_from_slice(end_word(block.end))?;
+    out.push(b'\n')?;
+    print_sized(&mut out, b"head ", block.head.bytes())?;
+    if block.end == TxnEnd::Whole {
+        print_sized(&mut out, b"body ", block.content.bytes())?;
+    }
+    Ok(Octets::of_vec(out))
+}
