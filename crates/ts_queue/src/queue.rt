@@ -150,7 +150,7 @@ impl EventQueue {
         ensures empties { Counted (is_none result) (empties_of pass.old) (empties_of pass.new) }
         ensures took { IfSome result (λ t. Takes (view pass.old) t (view pass.new)) }
         ensures same { IfNone result (view pass.new ≡ view pass.old) }
-        ensures empty { IfNone result (FindsEmpty (view pass.old)) }
+        ensures empty { IfNone result (FindsEmpty (view pass.new)) }
     {
         let taken = self.line.pop_as::<TakeStep, R>(rt, &mut pass.seat);
         if taken.is_none() {

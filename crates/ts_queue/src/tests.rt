@@ -58,7 +58,7 @@ fn put_all<R: Wait>(rt: &R, queue: &EventQueue, mut pass: QueuePass) -> QueuePas
     requires { IsPassOf queue.now pass × ((view pass).serial ≡ 0) }
     ensures { IsPassOf queue.now result × ((view result).share ≡ (view pass).share) }
 {
-    for number in 0..PUTS {
+    'puts: for number in 0..PUTS {
         let _ = queue.put(rt, &mut pass, token(number + 1));
     }
     pass
@@ -70,7 +70,7 @@ fn take_some<R: Wait>(rt: &R, queue: &EventQueue, mut pass: QueuePass) -> (Queue
     ensures { IsPassOf queue.now result.0 × ((view result.0).share ≡ (view pass).share) }
 {
     let mut sum: u64 = 0;
-    for _ in 0..PUTS {
+    'takes: for _ in 0..PUTS {
         if let Some(taken) = queue.take(rt, &mut pass) {
             sum = sum.wrapping_add(taken.token.number);
         }
@@ -104,7 +104,7 @@ fn exchange<R: Threads + Wait + Sync>(
     );
     queue.join(&mut pass, taker);
     let mut sum = first;
-    for _ in rt.forever() {
+    'rest: for _ in rt.forever() {
         match queue.take(rt, &mut pass) {
             Some(taken) => sum = sum.wrapping_add(taken.token.number),
             None => return (pass, sum),

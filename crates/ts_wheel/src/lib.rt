@@ -1,13 +1,17 @@
-// A library with one function.
+//! Timers. A wheel has tokens with due moments in milliseconds, and gives the first of those that are due. Traffic
+//! Server's Developer's Guide schedules an event for a continuation in so many milliseconds; an event thread keeps such
+//! events in a wheel.
 #![tactic(auto)]
 
-ghost use Rattle.std.specs.Prelude.{◌≡◌};
-ghost use Rattle.ts_wheel.specs.Echo.{echo_of};
+mod lap;
+mod laws;
+mod rows;
+#[cfg(test)]
+mod tests;
+mod wheel;
 
-// The `ensures` clause is the contract: what `echo` returns is `echo_of` of its argument, a definition
-// in `specs/Echo.antt`, which a caller's clause can cite too.
-pub fn echo(x: usize) -> usize
-    ensures { result ≡ echo_of x }
-{
-    x
-}
+pub use laws::{adds_in_order, takes_the_due};
+pub use wheel::Wheel;
+
+/// How many milliseconds a lap has, each with a row of its own.
+pub const ROWS: usize = 512;

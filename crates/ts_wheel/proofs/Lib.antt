@@ -1,0 +1,4 @@
+mod Added
+mod Joined
+mod Orders
+mod Spread
