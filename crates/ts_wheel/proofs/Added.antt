@@ -1,5 +1,5 @@
 -- Lists of tokens in the order in which they come due, made of parts.
-use Rattle.std.proofs.Common.{◌≡◌, ℕ, ◌+◌, ◌<◌, ◌≤◌, Bool, true, false, cond, ltb, leb, List, [], ◌∷◌, ◌++◌, length, map, refl, ap, sym, ◌∙◌, rw, subst, Option, Some, None, All, arith}
+use Rattle.std.proofs.Common.{◌≡◌, ℕ, ◌+◌, ◌<◌, ◌≤◌, Bool, true, false, cond, ltb, leb, List, [], ◌∷◌, ◌++◌, length, map, refl, ap, sym, ◌∙◌, Option, Some, None, All, arith}
 use Rattle.std.proofs.lemmas.Bool.Decides.{nat_tests}
 use Rattle.std.proofs.lemmas.List.Elements.{All-nil, All-cons, All-head, All-tail}
 use Rattle.ts_wheel.specs.Due.{added, first_due, after_due, first_moment}
@@ -29,7 +29,7 @@ module _ {T : Type 0} where
   added-behind due t [] ys all = refl
   added-behind due t (x ∷ xs) ys all =
       added-later due t x (xs ++ ys) (All-head (λ (e : ℕ × T). e.0 ≤ due) x xs all)
-        ∙ ap (λ zs. x ∷ zs) (added-behind due t xs ys (All-tail (λ (e : ℕ × T). e.0 ≤ due) x xs all))
+      ∙ ap (λ zs. x ∷ zs) (added-behind due t xs ys (All-tail (λ (e : ℕ × T). e.0 ≤ due) x xs all))
 
   -- a token goes before all that are due later
   pub added-before : (due : ℕ) (t : T) (xs ys : List (ℕ × T)) → All (λ e. due < e.0) ys → added due t (xs ++ ys) ≡ added due t xs ++ ys
@@ -37,16 +37,16 @@ module _ {T : Type 0} where
   added-before due t [] (y ∷ ys) all = added-front due t y ys (All-head (λ (e : ℕ × T). due < e.0) y ys all)
   added-before due t (x ∷ xs) ys all =
       elim (ltb due x.0) as (λ b. cond b ((due, t) ∷ x ∷ (xs ++ ys)) (x ∷ added due t (xs ++ ys)) ≡ cond b ((due, t) ∷ x ∷ xs) (x ∷ added due t xs) ++ ys) [
-        true ↦ refl
-      | false ↦ ap (λ zs. x ∷ zs) (added-before due t xs ys all)
+        | true ↦ refl
+        | false ↦ ap (λ zs. x ∷ zs) (added-before due t xs ys all)
       ]
 
   pub All-added : (P : ℕ × T → Type 0) (due : ℕ) (t : T) (xs : List (ℕ × T)) → P (due, t) → All P xs → All P (added due t xs)
   All-added P due t [] p all = All-cons P (due, t) [] p all
   All-added P due t (x ∷ xs) p all =
       elim (ltb due x.0) as (λ b. All P (cond b ((due, t) ∷ x ∷ xs) (x ∷ added due t xs))) [
-        true ↦ All-cons P (due, t) (x ∷ xs) p all
-      | false ↦ All-cons P x (added due t xs) (All-head P x xs all) (All-added P due t xs p (All-tail P x xs all))
+        | true ↦ All-cons P (due, t) (x ∷ xs) p all
+        | false ↦ All-cons P x (added due t xs) (All-head P x xs all) (All-added P due t xs p (All-tail P x xs all))
       ]
 
   pub All-after_due : (P : ℕ × T → Type 0) (now : ℕ) (xs : List (ℕ × T)) → All P xs → All P (after_due now xs)

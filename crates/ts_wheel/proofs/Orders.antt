@@ -22,28 +22,28 @@ module _ {T : Type 0} where
   -- the first and the last token of an order of adding may be put into the wheel's order in either order
   led-added : (e : ℕ × T) (due : ℕ) (t : T) (l : List (ℕ × T)) → led e (added due t l) ≡ added due t (led e l)
   led-added e due t [] = ⊎_elim (λ (h : due < e.0). led-skip e (due, t) [] h ∙ sym (added-front due t e [] h))
-    (λ (h : e.0 ≤ due). led-front e (due, t) [] h ∙ sym (added-later due t e [] h))
-    (cases_lt due e.0)
+      (λ (h : e.0 ≤ due). led-front e (due, t) [] h ∙ sym (added-later due t e [] h))
+      (cases_lt due e.0)
   led-added e due t (f ∷ fs) = ⊎_elim
-    (λ (h : due < f.0). ⊎_elim
+      (λ (h : due < f.0). ⊎_elim
       (λ (k : f.0 < e.0). let lt : due < e.0 = omega arith in
-          ap (led e) (added-front due t f fs h) ∙ led-skip e (due, t) (f ∷ fs) lt ∙ ap (λ zs. (due, t) ∷ zs) (led-skip e f fs k)
-            ∙ sym (ap (added due t) (led-skip e f fs k) ∙ added-front due t f (led e fs) h))
+      ap (led e) (added-front due t f fs h) ∙ led-skip e (due, t) (f ∷ fs) lt ∙ ap (λ zs. (due, t) ∷ zs) (led-skip e f fs k)
+      ∙ sym (ap (added due t) (led-skip e f fs k) ∙ added-front due t f (led e fs) h))
       (λ (k : e.0 ≤ f.0). ⊎_elim
-        (λ (m : due < e.0). ap (led e) (added-front due t f fs h) ∙ led-skip e (due, t) (f ∷ fs) m ∙ ap (λ zs. (due, t) ∷ zs) (led-front e f fs k)
-            ∙ sym (ap (added due t) (led-front e f fs k) ∙ added-front due t e (f ∷ fs) m))
-        (λ (m : e.0 ≤ due). ap (led e) (added-front due t f fs h) ∙ led-front e (due, t) (f ∷ fs) m
-            ∙ sym (ap (added due t) (led-front e f fs k) ∙ added-later due t e (f ∷ fs) m ∙ ap (λ zs. e ∷ zs) (added-front due t f fs h)))
-        (cases_lt due e.0))
+      (λ (m : due < e.0). ap (led e) (added-front due t f fs h) ∙ led-skip e (due, t) (f ∷ fs) m ∙ ap (λ zs. (due, t) ∷ zs) (led-front e f fs k)
+      ∙ sym (ap (added due t) (led-front e f fs k) ∙ added-front due t e (f ∷ fs) m))
+      (λ (m : e.0 ≤ due). ap (led e) (added-front due t f fs h) ∙ led-front e (due, t) (f ∷ fs) m
+      ∙ sym (ap (added due t) (led-front e f fs k) ∙ added-later due t e (f ∷ fs) m ∙ ap (λ zs. e ∷ zs) (added-front due t f fs h)))
+      (cases_lt due e.0))
       (cases_lt f.0 e.0))
-    (λ (h : f.0 ≤ due). ⊎_elim
+      (λ (h : f.0 ≤ due). ⊎_elim
       (λ (k : f.0 < e.0). ap (led e) (added-later due t f fs h) ∙ led-skip e f (added due t fs) k ∙ ap (λ zs. f ∷ zs) (led-added e due t fs)
-            ∙ sym (ap (added due t) (led-skip e f fs k) ∙ added-later due t f (led e fs) h))
+      ∙ sym (ap (added due t) (led-skip e f fs k) ∙ added-later due t f (led e fs) h))
       (λ (k : e.0 ≤ f.0). let le : e.0 ≤ due = omega arith in
-          ap (led e) (added-later due t f fs h) ∙ led-front e f (added due t fs) k
-            ∙ sym (ap (added due t) (led-front e f fs k) ∙ added-later due t e (f ∷ fs) le ∙ ap (λ zs. e ∷ zs) (added-later due t f fs h)))
+      ap (led e) (added-later due t f fs h) ∙ led-front e f (added due t fs) k
+      ∙ sym (ap (added due t) (led-front e f fs k) ∙ added-later due t e (f ∷ fs) le ∙ ap (λ zs. e ∷ zs) (added-later due t f fs h)))
       (cases_lt f.0 e.0))
-    (cases_lt due f.0)
+      (cases_lt due f.0)
 
   pub in_order-added : (tokens : List (ℕ × T)) (due : ℕ) (t : T) → in_order (tokens ++ (due, t) ∷ []) ≡ added due t (in_order tokens)
   in_order-added [] due t = refl
@@ -86,17 +86,17 @@ module _ {T : Type 0} where
   due_begins : (now : ℕ) (e : ℕ × T) (es : List (ℕ × T)) (d : Option (ℕ × T)) → e.0 ≤ now → Begins now es d → Begins now (e ∷ es) (Some (earlier e d))
   due_begins now e es None h begins = leads now e es (led-first now e (in_order es) h begins) h
   due_begins now e es (Some x) h begins = ⊎_elim
-    (λ (lt : x.0 < e.0). subst (λ (b : Bool). Begins now (e ∷ es) (Some (cond b x e))) (sym (ltb-yes x.0 e.0 lt)) (skipped now e es x lt begins.0 begins.1))
-    (λ (le : e.0 ≤ x.0). subst (λ (b : Bool). Begins now (e ∷ es) (Some (cond b x e))) (sym (ltb-no x.0 e.0 le))
-        (leads now e es (ap (led e) begins.0 ∙ led-front e x (in_order (without x.0 es)) le ∙ ap (λ zs. e ∷ zs) (sym begins.0)) h))
-    (cases_lt x.0 e.0)
+      (λ (lt : x.0 < e.0). subst (λ (b : Bool). Begins now (e ∷ es) (Some (cond b x e))) (sym (ltb-yes x.0 e.0 lt)) (skipped now e es x lt begins.0 begins.1))
+      (λ (le : e.0 ≤ x.0). subst (λ (b : Bool). Begins now (e ∷ es) (Some (cond b x e))) (sym (ltb-no x.0 e.0 le))
+      (leads now e es (ap (led e) begins.0 ∙ led-front e x (in_order (without x.0 es)) le ∙ ap (λ zs. e ∷ zs) (sym begins.0)) h))
+      (cases_lt x.0 e.0)
 
   begins : (now : ℕ) (es : List (ℕ × T)) → Begins now es (due_of now es)
   begins now [] = tt
   begins now (e ∷ es) = ⊎_elim
-    (λ (h : now < e.0). subst (λ (b : Bool). Begins now (e ∷ es) (cond b (Some (earlier e (due_of now es))) (due_of now es))) (sym (leb-no e.0 now h)) (late_begins now e es (due_of now es) h (begins now es)))
-    (λ (h : e.0 ≤ now). subst (λ (b : Bool). Begins now (e ∷ es) (cond b (Some (earlier e (due_of now es))) (due_of now es))) (sym (leb-yes e.0 now h)) (due_begins now e es (due_of now es) h (begins now es)))
-    (cases_lt now e.0)
+      (λ (h : now < e.0). subst (λ (b : Bool). Begins now (e ∷ es) (cond b (Some (earlier e (due_of now es))) (due_of now es))) (sym (leb-no e.0 now h)) (late_begins now e es (due_of now es) h (begins now es)))
+      (λ (h : e.0 ≤ now). subst (λ (b : Bool). Begins now (e ∷ es) (cond b (Some (earlier e (due_of now es))) (due_of now es))) (sym (leb-yes e.0 now h)) (due_begins now e es (due_of now es) h (begins now es)))
+      (cases_lt now e.0)
 
   late_takes : (now : ℕ) (l : List (ℕ × T)) → IsLate now l → (first_due now l ≡ None) × (after_due now l ≡ l)
   late_takes now [] late = (refl, refl)

@@ -46,7 +46,6 @@ fn add_row<T: Copy>(
     ensures ok { OnOk result (joined rows.new.entries ≡ added due token (joined rows.old.entries)) }
     ensures err { OnErr result (joined rows.new.entries ≡ joined rows.old.entries) }
 {
-    let _count = rows.len();
     match rows.get_mut(&due) {
         Some(row) => {
             row.push_back(token)?;
@@ -63,7 +62,8 @@ fn add_row<T: Copy>(
 // The due moment of the first row.
 fn moment_of<T>(rows: &BTreeMap<u64, VecDeque<T>>) -> Option<u64>
     requires { AllFull rows.now.entries }
-    ensures { result ≡ first_moment (joined rows.now.entries) }
+    ensures first { result ≡ first_moment (joined rows.now.entries) }
+    ensures least { IfSome result (λ due. All (λ e. due ≤ e.0) (joined rows.now.entries)) }
 {
     let (due, _row) = rows.first_key_value()?;
     Some(*due)
@@ -82,6 +82,18 @@ fn pop_token<T: Copy>(rows: &mut BTreeMap<u64, VecDeque<T>>, due: u64) -> T
         let _emptied = rows.remove(&due);
     }
     token
+}
+
+// Takes the first row whole, whose tokens are due at this moment.
+fn pop_row<T>(rows: &mut BTreeMap<u64, VecDeque<T>>, due: u64) -> VecDeque<T>
+    requires full { AllFull rows.old.entries }
+    requires first { first_moment (joined rows.old.entries) ≡ Some due }
+    ensures full { AllFull rows.new.entries × (0 < length result.items) }
+    ensures row { joined rows.old.entries ≡ all_at due result.items ++ joined rows.new.entries }
+    ensures later { All (λ e. due < e.0) (joined rows.new.entries) }
+{
+    let (_due, row) = rows.pop_first().unwrap();
+    row
 }
 
 impl<T: Copy> Rows<T> {
@@ -110,7 +122,8 @@ impl<T: Copy> Rows<T> {
 
     /// The due moment of the first token.
     pub(crate) fn first(&self) -> Option<u64>
-        ensures { result ≡ first_moment self.now }
+        ensures first { result ≡ first_moment self.now }
+        ensures least { IfSome result (λ due. All (λ e. due ≤ e.0) self.now) }
     {
         moment_of(&self.rows)
     }
@@ -139,6 +152,6 @@ impl<T: Copy> Rows<T> {
         if due > last {
             return None;
         }
-        self.rows.pop_first()
+        Some((due, pop_row(&mut self.rows, due)))
     }
 }
