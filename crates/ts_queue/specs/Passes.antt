@@ -21,8 +21,8 @@ view pass = pass.seat.me.view.client
 abbrev pub empties_of : QueuePass → ℕ
 empties_of pass = pass.empties
 
--- A pass took the ticket, which stood at the front of the queue at one moment. It never took it before, and of the
--- tickets of that putter that it took each earlier one has a lesser serial.
+-- A pass took the ticket, which stood at the front of the queue at one moment. It never took it before, and each
+-- ticket of that putter that it took before has a lesser serial.
 pub record Takes (old : View) (t : Ticket) (new : View) : Type 0 where
   pub adds : new ≡ taking t old
   pub rises : All (λ u. IsBefore u t) old.taken

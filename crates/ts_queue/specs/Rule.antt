@@ -1,5 +1,5 @@
--- The rule of the queue: what holds of the tickets in it, front to back, and of what all its passes know, between any
--- two steps.
+-- The rule of the queue: what holds between any two steps of the tickets in it, front to back, and of what all its
+-- passes know.
 use Rattle.std.specs.Prelude.{◌≡◌, ℕ, ◌+◌, ◌==◌, ◌<◌, ◌≤◌, List, All, AllPairs, Contains, sum_by, count_by}
 use Rattle.ts_queue.specs.declared.TheConstants.{WHOLE_SHARE}
 use Rattle.ts_queue.specs.declared.ticket.Ticket.{Ticket}
@@ -7,8 +7,9 @@ use Rattle.ts_queue.specs.declared.view.View.{View}
 use Rattle.ts_queue.specs.Tickets.{is_numbered, IsBefore}
 use Rattle.ts_queue.specs.Views.{spent, owned}
 
--- What holds of one pass: its number is one of its names; each ticket that it put has one of its names and a serial
--- from 1 on; those under its own number have no serial above its last; and without a share nothing is left of it.
+-- What holds of one pass: its number is one of its names; each ticket that it put has one of its names and a
+-- serial from 1 on; those under its own number have no serial above its last; and without a share nothing is left
+-- of it.
 pub record IsLawfulView (v : View) : Type 0 where
   pub own : 0 < v.share → 0 < count_by (λ n. n == v.number) v.names
   pub names : All (λ t. (0 < count_by (λ n. n == t.putter) v.names) × (0 < t.serial)) v.put
@@ -23,7 +24,8 @@ pub record IsLawful (items : List Ticket) (views : List View) : Type 0 where
   -- no serial of a putter was put twice
   pub once : (putter serial : ℕ) → sum_by (λ v. count_by (is_numbered putter serial) v.put) views ≤ 1
   -- what was put was taken or stands in the queue, however tickets are counted
-  pub balance : (f : Ticket → ℕ) → sum_by (λ v. sum_by f v.put) views ≡ sum_by (λ v. sum_by f v.taken) views + sum_by f items
+  pub balance : (f : Ticket → ℕ)
+      → sum_by (λ v. sum_by f v.put) views ≡ sum_by (λ v. sum_by f v.taken) views + sum_by f items
   -- of each putter the serials in the queue rise from front to back
   pub rising : AllPairs IsBefore items
   -- each ticket that was taken comes before those that stand in the queue

@@ -7,11 +7,29 @@ use Rattle.ts_queue.specs.declared.view.View.{View}
 
 -- the first pass of a queue has the whole share, the number 0, and all other numbers free
 abbrev pub first_view : View
-first_view = record { share = WHOLE_SHARE; number = 0; serial = 0; names = 0 ∷ []; free_from = 1; free_to = WHOLE_SHARE; put = []; taken = [] }
+first_view = record {
+  share = WHOLE_SHARE;
+  number = 0;
+  serial = 0;
+  names = 0 ∷ [];
+  free_from = 1;
+  free_to = WHOLE_SHARE;
+  put = [];
+  taken = [];
+}
 
 -- what is left of a pass that was joined to another
 abbrev pub spent : View
-spent = record { share = 0; number = 0; serial = 0; names = []; free_from = 0; free_to = 0; put = []; taken = [] }
+spent = record {
+  share = 0;
+  number = 0;
+  serial = 0;
+  names = [];
+  free_from = 0;
+  free_to = 0;
+  put = [];
+  taken = [];
+}
 
 -- the ticket that a pass puts next, for the token
 abbrev pub next_ticket : View → Token → Ticket
@@ -19,6 +37,10 @@ next_ticket v token = record { putter = v.number; serial = v.serial + 1; token =
 
 abbrev pub putting : Ticket → View → View
 putting t v = record v { serial = t.serial; put = t ∷ v.put }
+
+-- a pass put a token, in its next ticket
+abbrev pub putting_next : Token → View → View
+putting_next token v = putting (next_ticket v token) v
 
 abbrev pub taking : Ticket → View → View
 taking t v = record v { taken = t ∷ v.taken }
@@ -29,12 +51,26 @@ kept_part v = record v { share = v.share - 1; free_from = v.free_from + 1 }
 
 -- the pass that was split off: it has one part of the share, and what was the least free number
 abbrev pub split_part : View → View
-split_part v = record { share = 1; number = v.free_from; serial = 0; names = v.free_from ∷ []; free_from = 0; free_to = 0; put = []; taken = [] }
+split_part v = record {
+  share = 1;
+  number = v.free_from;
+  serial = 0;
+  names = v.free_from ∷ [];
+  free_from = 0;
+  free_to = 0;
+  put = [];
+  taken = [];
+}
 
--- a pass to which another was joined: it has the shares of both, and what either put and took; number, serial and
--- free numbers stay
+-- a pass to which another was joined: it has the shares of both, and what either put and took; its number, its
+-- serial and its free numbers stay
 abbrev pub joined : View → View → View
-joined v w = record v { share = v.share + w.share; names = w.names ++ v.names; put = w.put ++ v.put; taken = w.taken ++ v.taken }
+joined v w = record v {
+  share = v.share + w.share;
+  names = w.names ++ v.names;
+  put = w.put ++ v.put;
+  taken = w.taken ++ v.taken;
+}
 
 -- how often a pass has a number: as its name, as the name of one that was joined to it, or as a free number
 abbrev pub owned : ℕ → View → ℕ

@@ -17,7 +17,7 @@ pub struct EventQueue {
     line: RuledSegQueue<Ticket, View, EachTicketOnce>,
 }
 
-/// What one thread has of a queue. A pass that is dropped takes its share with it; join it to another instead.
+/// What one thread has of a queue. A pass that is dropped takes its share with it: join it to another instead.
 #[derive(Drop)]
 pub struct QueuePass {
     seat: SegPass<Ticket, View>,
@@ -60,7 +60,7 @@ impl QueuePass {
 impl EventQueue {
     ghost use Rattle.std.specs.Prelude.{IfOk, OnOk, OnErr, IfSome, IfNone, is_none};
     ghost use Rattle.ts_link.specs.Counts.{Counted};
-    ghost use Rattle.ts_queue.specs.Views.{first_view, kept_part, split_part, joined, next_ticket, putting};
+    ghost use Rattle.ts_queue.specs.Views.{first_view, kept_part, split_part, joined, putting_next};
     ghost use Rattle.ts_queue.specs.Passes.{view, empties_of, IsPassOf, Takes, FindsEmpty};
 
     /// An empty queue, and its first pass.
@@ -118,13 +118,13 @@ impl EventQueue {
         self.line.absorb::<JoinStep>(&mut into.seat, seat);
     }
 
-    /// Puts a token at the back, in a ticket with this pass's number and its next serial. Want of memory also comes
-    /// after nearly 2^62 puts.
+    /// Puts a token at the back, in a ticket with this pass's number and its next serial. Want of memory comes after
+    /// nearly 2^62 puts too.
     pub fn put<R: Wait>(&self, rt: &R, pass: &mut QueuePass, token: Token) -> Result<(), NoMemory>
         requires pass { IsPassOf self.now pass.old }
         requires serial { (view pass.old).serial < u64.MAX }
         ensures pass { IsPassOf self.now pass.new × (empties_of pass.new ≡ empties_of pass.old) }
-        ensures put { OnOk result (view pass.new ≡ putting (next_ticket (view pass.old) token) (view pass.old)) }
+        ensures put { OnOk result (view pass.new ≡ putting_next token (view pass.old)) }
         ensures err { OnErr result (view pass.new ≡ view pass.old) }
     {
         let ticket = Ticket {
@@ -142,8 +142,8 @@ impl EventQueue {
         }
     }
 
-    /// Takes the ticket at the front. `None` comes only where the queue was empty at one moment of the call. It takes
-    /// no memory.
+    /// Takes the ticket at the front. `None` comes only where the queue was empty at one moment of the call. The call
+    /// takes no memory.
     pub fn take<R: Wait>(&self, rt: &R, pass: &mut QueuePass) -> Option<Ticket>
         requires { IsPassOf self.now pass.old }
         ensures pass { IsPassOf self.now pass.new }

@@ -2,9 +2,10 @@
 use Rattle.std.proofs.Common.{◌≡◌, ℕ, ◌+◌, ◌<◌, ◌≤◌, List, [], ◌∷◌, ◌++◌, length, get_or, refl, ap, sym, ◌∙◌, subst, inl, inr, ⊎_elim, ◌⊎◌, All, Option, Some, None, Result, Ok, Err, OnOk, OnErr, append_assoc, arith}
 use Rattle.std.proofs.lemmas.List.Elements.{All-nil, All-head, All-tail, All-append, All-weaker}
 use Rattle.ts_wheel.specs.declared.TheConstants.{ROWS}
+use Rattle.ts_wheel.specs.declared.lap.TheConstants.{LAST_ROW}
 use Rattle.ts_wheel.specs.Due.{added, first_due, after_due, first_moment}
 use Rattle.ts_wheel.specs.Rows.{Lap, all_at}
-use Rattle.ts_wheel.specs.Parts.{AreWithin, IsParted, whole}
+use Rattle.ts_wheel.specs.Parts.{AreWithin, IsParted, all_of}
 use Rattle.ts_wheel.proofs.Added.{added-behind, added-before, All-added, All-after_due, All-all_at}
 use Rattle.ts_wheel.proofs.Spread.{All-right}
 
@@ -26,20 +27,20 @@ module _ {T : Type 0} where
       way
 
   pub added-past : (due : ℕ) (t : T) (past : List (ℕ × T)) (lap : Lap T) (later : List (ℕ × T)) → IsParted past lap later → due < lap.start
-      → added due t past ++ (lap.tokens ++ later) ≡ added due t (whole past lap later)
+      → added due t past ++ (lap.tokens ++ later) ≡ added due t (all_of past lap later)
   added-past due t past lap later h lt =
       sym (added-before due t past (lap.tokens ++ later) (All-append (λ (e : ℕ × T). due < e.0) lap.tokens later
       (All-weaker (λ (e : ℕ × T). (lap.start ≤ e.0) × (e.0 < lap.start + ROWS)) (λ (e : ℕ × T). due < e.0) (λ e in'. let low = in'.0 in omega arith) lap.tokens h.within)
       (All-weaker (λ (e : ℕ × T). lap.start + ROWS ≤ e.0) (λ (e : ℕ × T). due < e.0) (λ e after. omega arith) later h.after)))
 
   pub added-lap : (due : ℕ) (t : T) (past : List (ℕ × T)) (lap : Lap T) (later : List (ℕ × T)) → IsParted past lap later → lap.start ≤ due → due < lap.start + ROWS
-      → past ++ (added due t lap.tokens ++ later) ≡ added due t (whole past lap later)
+      → past ++ (added due t lap.tokens ++ later) ≡ added due t (all_of past lap later)
   added-lap due t past lap later h low high =
       ap (λ zs. past ++ zs) (sym (added-before due t lap.tokens later (All-weaker (λ (e : ℕ × T). lap.start + ROWS ≤ e.0) (λ (e : ℕ × T). due < e.0) (λ e after. omega arith) later h.after)))
       ∙ sym (added-behind due t past (lap.tokens ++ later) (All-weaker (λ (e : ℕ × T). e.0 < lap.start) (λ (e : ℕ × T). e.0 ≤ due) (λ e before. omega arith) past h.before))
 
   pub added-after : (due : ℕ) (t : T) (past : List (ℕ × T)) (lap : Lap T) (later : List (ℕ × T)) → IsParted past lap later → lap.start + ROWS ≤ due
-      → past ++ (lap.tokens ++ added due t later) ≡ added due t (whole past lap later)
+      → past ++ (lap.tokens ++ added due t later) ≡ added due t (all_of past lap later)
   added-after due t past lap later h high =
       ap (λ zs. past ++ zs) (sym (added-behind due t lap.tokens later (All-weaker (λ (e : ℕ × T). (lap.start ≤ e.0) × (e.0 < lap.start + ROWS)) (λ (e : ℕ × T). e.0 ≤ due) (λ e in'. let up = in'.1 in omega arith) lap.tokens h.within)))
       ∙ sym (added-behind due t past (lap.tokens ++ later) (All-weaker (λ (e : ℕ × T). e.0 < lap.start) (λ (e : ℕ × T). e.0 ≤ due) (λ e before. omega arith) past h.before))
@@ -102,7 +103,7 @@ module _ {T : Type 0} where
     before = subst (λ (l : List (ℕ × T)). All (λ (e : ℕ × T). All (λ (f : ℕ × T). e.0 < f.0) later) l) (sym none) (All-nil (λ (e : ℕ × T). All (λ (f : ℕ × T). e.0 < f.0) later));
   }
 
-  pub row_within : (start due : ℕ) (ts : List T) (lap : Lap T) (later rest all : List (ℕ × T)) → IsMoving start lap later all → later ≡ all_at due ts ++ rest → 0 < length ts → due ≤ start + 511
+  pub row_within : (start due : ℕ) (ts : List T) (lap : Lap T) (later rest all : List (ℕ × T)) → IsMoving start lap later all → later ≡ all_at due ts ++ rest → 0 < length ts → due ≤ start + LAST_ROW
       → (lap.start ≤ due) × (due < lap.start + ROWS)
   row_within start due ts lap later rest all h is full high =
       let low : start ≤ due = of_row (λ m. start ≤ m) due ts rest full (subst (λ (l : List (ℕ × T)). All (λ (e : ℕ × T). start ≤ e.0) l) is h.left) in
@@ -112,7 +113,7 @@ module _ {T : Type 0} where
   row_last start due ts lap later rest all h is full k d lt =
       of_row (λ m. (get_or lap.tokens k d).0 < m) due ts rest full (subst (λ (l : List (ℕ × T)). All (λ (f : ℕ × T). (get_or lap.tokens k d).0 < f.0) l) is (h.before k d lt))
 
-  pub move_goes_on : (start due : ℕ) (ts : List T) (lap new : Lap T) (later rest all : List (ℕ × T)) → IsMoving start lap later all → later ≡ all_at due ts ++ rest → 0 < length ts → due ≤ start + 511
+  pub move_goes_on : (start due : ℕ) (ts : List T) (lap new : Lap T) (later rest all : List (ℕ × T)) → IsMoving start lap later all → later ≡ all_at due ts ++ rest → 0 < length ts → due ≤ start + LAST_ROW
       → All (λ e. due < e.0) rest → new.start ≡ lap.start → new.tokens ≡ lap.tokens ++ all_at due ts → IsMoving start new rest all
   move_goes_on start due ts lap new later rest all h is full high after same put =
       let fits = row_within start due ts lap later rest all h is full high in
@@ -132,9 +133,9 @@ module _ {T : Type 0} where
       }
 
   -- where the lap stayed empty, the first token was not due within it
-  pub none_moved : (start due : ℕ) (lap : Lap T) (later all : List (ℕ × T)) → IsMoving start lap later all → first_moment all ≡ Some due → due ≤ start + 511 → All (λ e. start + 511 < e.0) later
+  pub none_moved : (start due : ℕ) (lap : Lap T) (later all : List (ℕ × T)) → IsMoving start lap later all → first_moment all ≡ Some due → due ≤ start + LAST_ROW → All (λ e. start + LAST_ROW < e.0) later
       → lap.tokens ≡ [] → ⊥
-  none_moved start due lap later all h first high after none = first_above (start + 511) due later (ap first_moment (ap (λ zs. zs ++ later) (sym none) ∙ h.moved) ∙ first) after high
+  none_moved start due lap later all h first high after none = first_above (start + LAST_ROW) due later (ap first_moment (ap (λ zs. zs ++ later) (sym none) ∙ h.moved) ∙ first) after high
     where
       first_above : (m due : ℕ) (l : List (ℕ × T)) → first_moment l ≡ Some due → All (λ e. m < e.0) l → due ≤ m → ⊥
       first_above m due [] first above le = cc

@@ -1,5 +1,5 @@
--- Tokens with their due moments. A wheel is the list of them in the order in which they come due: by due moment, and
--- those of one moment in the order of adding.
+-- Tokens with their due moments. A wheel is the list of them in the order in which they come due: by due moment,
+-- and those of one moment in the order of adding.
 use Rattle.std.specs.Prelude.{ℕ, nat_lt, nat_le, List, [], ◌∷◌, Option, Some, None, if◌then◌else◌}
 
 module _ {T : Type 0} where

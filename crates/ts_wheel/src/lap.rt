@@ -1,9 +1,8 @@
 //! The tokens that are due within a lap, in a row for each of its milliseconds.
 
-ghost use Rattle.std.specs.Prelude.{◌≡◌, ℕ, ◌+◌, ◌^◌, ◌<◌, ◌≤◌, ◌↔◌, [], ◌∷◌, ◌++◌, length, slice_index_or, slice_set, All, IsTrue, IfOk, OnOk, OnErr};
+ghost use Rattle.std.specs.Prelude.{◌≡◌, ◌+◌, ◌<◌, ◌≤◌, ◌↔◌, [], ◌++◌, length, All, IsTrue, IfOk, OnOk, OnErr};
 ghost use Rattle.ts_wheel.specs.Due.{added, first_due, after_due, first_moment};
-ghost use Rattle.ts_wheel.specs.Rows.{all_at, spread, AreEmptyBelow, HasToken};
-ghost use Rattle.ts_wheel.specs.Parts.{AreWithin};
+ghost use Rattle.ts_wheel.specs.Rows.{all_at, AreEmptyBelow, HasToken, KeepsEmpty, SameRows, PushesAt, PopsAt, PutsAt};
 
 use crate::ROWS;
 use std::alloc::Global;
@@ -11,8 +10,11 @@ use std::collections::VecDeque;
 use std::marker::Model;
 use ts_link::NoMemory;
 
+/// The place of the last row of a lap.
+pub(crate) const LAST_ROW: u64 = ROWS as u64 - 1;
+
 /// The last moment at which a lap can start.
-pub(crate) const LAST_START: u64 = u64::MAX - 511;
+pub(crate) const LAST_START: u64 = u64::MAX - LAST_ROW;
 
 /// The rows of a lap. A clause sees the moment of the first row and the list of the tokens.
 #[derive(Drop)]
@@ -24,16 +26,13 @@ pub(crate) struct LapRows<T> {
 }
 
 impl<T> Model for LapRows<T> {
-    ghost use Rattle.std.specs.Prelude.{◌≡◌, ◌≤◌, length};
-    ghost use Rattle.ts_wheel.specs.declared.TheConstants.{ROWS};
-    ghost use Rattle.ts_wheel.specs.declared.lap.TheConstants.{LAST_START};
-    ghost use Rattle.ts_wheel.specs.Rows.{Lap, spread, AreEmptyBelow};
+    ghost use Rattle.ts_wheel.specs.Rows.{Lap, spread, AreOfLap};
 
     ghost Value = { Lap T };
 
     ghost view = { λ l. record { start = l.start; tokens = spread l.start l.rows.items } };
 
-    ghost invariant = { λ l. (length l.rows.items ≡ ROWS) × (l.start ≤ LAST_START) × (l.first ≤ ROWS) × AreEmptyBelow l.first l.rows.items };
+    ghost invariant = { λ l. AreOfLap l.start l.first l.rows.items };
 }
 
 fn empty_rows<T: Copy>(alloc: Global) -> Result<Vec<VecDeque<T>>, NoMemory>
@@ -67,9 +66,9 @@ fn next_row<T>(rows: &Vec<VecDeque<T>>, from: usize) -> usize
 fn push_at<T: Copy>(rows: &mut Vec<VecDeque<T>>, place: usize, token: T) -> Result<(), NoMemory>
     requires { place < length rows.old.items }
     ensures length { length rows.new.items ≡ length rows.old.items }
-    ensures empty { (k : ℕ) → k ≤ place → AreEmptyBelow k rows.old.items → AreEmptyBelow k rows.new.items }
-    ensures ok { OnOk result ((start : ℕ) → spread start rows.new.items ≡ added (start + place) token (spread start rows.old.items)) }
-    ensures err { OnErr result ((start : ℕ) → spread start rows.new.items ≡ spread start rows.old.items) }
+    ensures empty { KeepsEmpty place rows.old.items rows.new.items }
+    ensures ok { OnOk result (PushesAt place token rows.old.items rows.new.items) }
+    ensures err { OnErr result (SameRows rows.old.items rows.new.items) }
 {
     rows[place].push_back(token)?;
     Ok(())
@@ -81,7 +80,7 @@ fn pop_at<T: Copy>(rows: &mut Vec<VecDeque<T>>, place: usize) -> T
     requires full { HasToken rows.old.items place }
     ensures length { length rows.new.items ≡ length rows.old.items }
     ensures empty { AreEmptyBelow place rows.new.items }
-    ensures token { (start : ℕ) → spread start rows.old.items ≡ (start + place, result) ∷ spread start rows.new.items }
+    ensures token { PopsAt place result rows.old.items rows.new.items }
 {
     rows[place].pop_front().unwrap()
 }
@@ -90,8 +89,8 @@ fn pop_at<T: Copy>(rows: &mut Vec<VecDeque<T>>, place: usize) -> T
 fn put_at<T: Copy>(rows: &mut Vec<VecDeque<T>>, place: usize, row: VecDeque<T>)
     requires { place < length rows.old.items }
     ensures length { length rows.new.items ≡ length rows.old.items }
-    ensures empty { (k : ℕ) → k ≤ place → AreEmptyBelow k rows.old.items → AreEmptyBelow k rows.new.items }
-    ensures put { (start : ℕ) → All (λ e. e.0 < start + place) (spread start rows.old.items) → spread start rows.new.items ≡ spread start rows.old.items ++ all_at (start + place) row.items }
+    ensures empty { KeepsEmpty place rows.old.items rows.new.items }
+    ensures put { PutsAt place row.items rows.old.items rows.new.items }
 {
     rows[place] = row;
 }

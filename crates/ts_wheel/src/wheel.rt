@@ -2,17 +2,17 @@
 
 ghost use Rattle.std.specs.Prelude.{◌≡◌, ◌++◌, [], IfOk, OnOk, OnErr, None};
 ghost use Rattle.ts_wheel.specs.Due.{added, first_due, after_due, first_moment};
-ghost use Rattle.ts_wheel.specs.Parts.{IsParted, whole};
+ghost use Rattle.ts_wheel.specs.Parts.{IsParted, all_of};
 
 use crate::ROWS;
-use crate::lap::{LAST_START, LapRows};
+use crate::lap::{LAST_ROW, LAST_START, LapRows};
 use crate::rows::Rows;
 use std::alloc::Global;
 use std::marker::Model;
 use ts_link::NoMemory;
 
-/// Tokens with due moments in milliseconds, of which `take_due` takes the first that is due. A clause sees the list of
-/// its tokens with their due moments, in the order in which they come due.
+/// Tokens with due moments in milliseconds, of which `take_due` takes the first that is due. A clause sees the list
+/// of its tokens with their due moments, in the order in which they come due.
 #[derive(Drop)]
 pub struct Wheel<T> {
     past: Rows<T>,
@@ -22,11 +22,11 @@ pub struct Wheel<T> {
 
 impl<T> Model for Wheel<T> {
     ghost use Rattle.std.specs.Prelude.{ℕ, List};
-    ghost use Rattle.ts_wheel.specs.Parts.{IsParted, whole};
+    ghost use Rattle.ts_wheel.specs.Parts.{IsParted, all_of};
 
     ghost Value = { List (ℕ × T) };
 
-    ghost view = { λ w. whole w.past w.lap w.later };
+    ghost view = { λ w. all_of w.past w.lap w.later };
 
     ghost invariant = { λ w. IsParted w.past w.lap w.later };
 }
@@ -40,8 +40,8 @@ fn add_to<T: Copy>(
 ) -> Result<(), NoMemory>
     requires { IsParted past.old lap.old later.old }
     ensures parted { IsParted past.new lap.new later.new }
-    ensures ok { OnOk result (whole past.new lap.new later.new ≡ added due token (whole past.old lap.old later.old)) }
-    ensures err { OnErr result (whole past.new lap.new later.new ≡ whole past.old lap.old later.old) }
+    ensures ok { OnOk result (all_of past.new lap.new later.new ≡ added due token (all_of past.old lap.old later.old)) }
+    ensures err { OnErr result (all_of past.new lap.new later.new ≡ all_of past.old lap.old later.old) }
 {
     let start = lap.start();
     if due < start {
@@ -53,7 +53,8 @@ fn add_to<T: Copy>(
     }
 }
 
-// Moves a lap without tokens on to the first token after it, if that is due, and the rows of that lap into it.
+// Moves a lap without tokens on to the first token after it, if that is due, and fills it with the rows that are
+// due within it.
 fn turn<T: Copy>(lap: &mut LapRows<T>, later: &mut Rows<T>, now: u64)
     requires parted { IsParted [] lap.old later.old }
     requires empty { lap.old.tokens ≡ [] }
@@ -69,7 +70,7 @@ fn turn<T: Copy>(lap: &mut LapRows<T>, later: &mut Rows<T>, now: u64)
     }
     let start = due.min(LAST_START);
     lap.restart(start);
-    'rows: while let Some((due, row)) = later.take_row(start + 511) {
+    'rows: while let Some((due, row)) = later.take_row(start + LAST_ROW) {
         lap.put_row(due, row);
     }
 }
@@ -95,8 +96,8 @@ fn take_from<T: Copy>(
 ) -> Option<T>
     requires { IsParted past.old lap.old later.old }
     ensures parted { IsParted past.new lap.new later.new }
-    ensures token { result ≡ first_due now (whole past.old lap.old later.old) }
-    ensures rest { whole past.new lap.new later.new ≡ after_due now (whole past.old lap.old later.old) }
+    ensures token { result ≡ first_due now (all_of past.old lap.old later.old) }
+    ensures rest { all_of past.new lap.new later.new ≡ after_due now (all_of past.old lap.old later.old) }
 {
     if past.is_empty() {
         return take_in_lap(lap, later, now);
@@ -105,7 +106,7 @@ fn take_from<T: Copy>(
 }
 
 fn moment_of<T: Copy>(past: &Rows<T>, lap: &LapRows<T>, later: &Rows<T>) -> Option<u64>
-    ensures { result ≡ first_moment (whole past.now lap.now later.now) }
+    ensures { result ≡ first_moment (all_of past.now lap.now later.now) }
 {
     if let Some(due) = past.first() {
         return Some(due);

@@ -1,12 +1,15 @@
 use Rattle.std.proofs.Common.{◌∙◌, arith}
 use Rattle.ts_wheel.proofs.lap.LapRows.put_row.Goals as goal
 
+-- the lap's first place is lowered to that of the row
 pub invariant_of-self : goal.invariant_of-self
 invariant_of-self g c =
     let first = c.min-self-inside.ensures in
-    let up = c.self.invariant.2 in (
-      c.put_at.ensures.length ∙ c.self.invariant.0,
-      c.self.invariant.1,
-      omega arith,
-      c.put_at.ensures.empty c.min-self-inside.result (omega arith) (λ k d lt. c.self.invariant.3 k d (omega arith)),
-    )
+    let lap = c.self.invariant in
+    let up = lap.first_fits in
+    record {
+      len = c.put_at.ensures.length ∙ lap.len;
+      fits = lap.fits;
+      first_fits = omega arith;
+      empty = c.put_at.ensures.empty c.min-self-inside.result (omega arith) (λ k d lt. lap.empty k d (omega arith));
+    }
