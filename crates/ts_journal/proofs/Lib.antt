@@ -1,3 +1,4 @@
+-- The lemmas of a journal, for its own proofs and those of the crates above.
 pub mod Cases
 pub mod Scans
 pub mod Steps

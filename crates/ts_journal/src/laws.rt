@@ -1,4 +1,5 @@
-//! What holds of every lawful journal. Each function is a law: its contract says it, and there is nothing to do.
+//! What holds of every lawful journal: each function is a law, which its contract says, and there is nothing
+//! to do.
 
 ghost use Rattle.ts_journal.specs.Laws.{StepIsAllowed, RunIsLawful, NumbersRise, ClosedOnce, HandledLive, StandInTurns, CountsBalance, NeverAgain};
 
