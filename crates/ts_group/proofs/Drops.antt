@@ -9,7 +9,9 @@ use Rattle.ts_journal.proofs.Events.{length_without}
 use Rattle.ts_journal.proofs.Lookups.{first_of, FirstOf, others_all}
 use Rattle.ts_journal.proofs.Extends.{extends_none, extends_trans}
 use Rattle.ts_group.specs.Entries.{drops}
+use Rattle.ts_group.specs.Acts.{Drops}
 
+-- so far these events of the key were dropped
 pub record Dropping (start now : Log) (key : ContKey) : Type 0 where
   pub dropped : List ℕ
   pub numbers : numbers_of key start.state.pending ≡ dropped ++ numbers_of key now.state.pending
@@ -59,14 +61,15 @@ dropping_more start a b key n ns d e x s room v =
       valid = v;
     }
 
-pub record IsDropped (start now : Log) (key : ContKey) : Type 0 where
-  pub by : Extends start now (drops (numbers_of key start.state.pending))
-  pub others : now.state.pending ≡ others_of key start.state.pending
-
-pub dropping_all : (start now : Log) (key : ContKey) → Dropping start now key → numbers_of key now.state.pending ≡ [] → IsDropped start now key
+-- once no event of the key is left
+pub dropping_all : (start now : Log) (key : ContKey) → Dropping start now key → numbers_of key now.state.pending ≡ [] → Drops start now key
 dropping_all start now key d e =
     let all : d.dropped ≡ numbers_of key start.state.pending = sym (d.numbers ∙ ap (λ ms. d.dropped ++ ms) e ∙ append-nil d.dropped) in
     record {
       by = subst (λ ns. Extends start now (drops ns)) all d.by;
+      none = e;
       others = sym (others_all key now.state.pending e) ∙ d.others;
+      next = d.next;
+      live = d.live;
+      held = d.held;
     }

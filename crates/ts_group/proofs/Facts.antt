@@ -11,8 +11,7 @@ use Rattle.ts_journal.proofs.Cases.{split, by_eq}
 use Rattle.ts_journal.proofs.Events.{length_without, is_known}
 use Rattle.ts_journal.proofs.Lookups.{pending_above, pending_added, pending_more, pending_other, pending_gone, pending_without}
 use Rattle.ts_group.specs.Context.{AllPlain, IsCall, AllCalls}
-use Rattle.ts_group.specs.Own.{CallsStay}
-use Rattle.ts_group.specs.Changes.{IsMore, IsLess, HasSet, HasClosed, HasHandled}
+use Rattle.ts_group.specs.Changes.{CallsStay, IsMore, IsLess, HasSet, HasClosed, HasHandled}
 
 -- Plain events.
 pub plain_push : (ps : List Pending) (p : Pending) → AllPlain ps → p.period ≡ 0 → AllPlain (ps ++ p ∷ [])
@@ -35,17 +34,6 @@ plain_at n (q ∷ ps) p (a, b) e =
     (λ t x. plain_at n ps p b x) e
 
 -- One event more.
-pub has_set : (a b : State) (p : Pending) → IsValid a → p.number ≡ a.next → b.pending ≡ a.pending ++ p ∷ [] → b.next ≡ a.next + 1 → HasSet a b p
-has_set a b p v n e m =
-    let none : pending_at p.number a.pending ≡ None = pending_above p.number 0 a.pending a.next v.rises (omega arith) in
-    record {
-      number = n;
-      there = ap (pending_at p.number) e ∙ pending_added p.number a.pending p refl none;
-      others = λ k ne. ap (pending_at k) e ∙ pending_other k a.pending p ne;
-      next = m;
-      count = ap length e ∙ length_push a.pending p;
-    }
-
 pub more_set : (a b : State) (p : Pending) → b.pending ≡ a.pending ++ p ∷ [] → b.next ≡ a.next + 1 → IsMore a b
 more_set a b p e m = record {
   stays = λ n q h. ap (pending_at n) e ∙ pending_more n a.pending (p ∷ []) q h;
@@ -53,15 +41,26 @@ more_set a b p e m = record {
   count = let l : length b.pending ≡ length (a.pending ++ p ∷ []) = ap length e in let k = length_push a.pending p in omega arith;
 }
 
+pub has_set : (a b : State) (p : Pending) → IsValid a → p.number ≡ a.next → b.pending ≡ a.pending ++ p ∷ [] → b.next ≡ a.next + 1 → b.live ≡ a.live → HasSet a b p
+has_set a b p v n e m l =
+    let none : pending_at p.number a.pending ≡ None = pending_above p.number 0 a.pending a.next v.rises (omega arith) in
+    record {
+      number = n;
+      there = ap (pending_at p.number) e ∙ pending_added p.number a.pending p refl none;
+      others = λ k ne. ap (pending_at k) e ∙ pending_other k a.pending p ne;
+      next = m;
+      count = ap length e ∙ length_push a.pending p;
+      more = more_set a b p e m;
+      plain = λ z h. subst (λ ps. AllPlain ps) (sym e) (plain_push a.pending p h z);
+      live = l;
+    }
+
 pub more_none : (a b : State) → b ≡ a → IsMore a b
 more_none a b e = record {
   stays = λ n q h. ap (λ s. pending_at n s.pending) e ∙ h;
   next = let m : b.next ≡ a.next = ap (λ s. s.next) e in omega arith;
   count = let m : length b.pending ≡ length a.pending = ap (λ s. length s.pending) e in omega arith;
 }
-
-pub plain_set : (a b : State) (p : Pending) → b.pending ≡ a.pending ++ p ∷ [] → p.period ≡ 0 → AllPlain a.pending → AllPlain b.pending
-plain_set a b p e z h = subst (λ ps. AllPlain ps) (sym e) (plain_push a.pending p h z)
 
 -- Direct calls that wait.
 stay_by : (old new : State) → ((moment n : ℕ) → IsCall old moment n → IsCall new moment n) → (moment : ℕ) (ns : List ℕ) → AllCalls old moment ns → AllCalls new moment ns
@@ -171,7 +170,7 @@ handled_again a m b p moment r again v w there n e f =
     let mnext : m.next ≡ a.next = ap (λ s. s.next) e in
     let next : b.next ≡ m.next + 1 = ap (λ s. s.next) f in
     let live : b.live ≡ m.live = ap (λ s. s.live) f in
-    let s = has_set m b r w (n ∙ sym mnext) ps next in
+    let s = has_set m b r w (n ∙ sym mnext) ps next live in
     let closed = length_without p.number a.pending p there in
     let count : length m.pending + 1 ≡ length a.pending = ap (λ t. length t.pending + 1) e ∙ closed in
     let below = (is_known a p.number p v there).below in

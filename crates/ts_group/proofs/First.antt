@@ -3,14 +3,14 @@ use Rattle.std.proofs.Common.{◌≡◌, ℕ, ◌+◌, ◌<◌, ◌≤◌, ◌�
 use Rattle.std.specs.Option.{IfSome}
 use Rattle.std.proofs.lemmas.Bool.{leb-true, leb-false, le-leb, lt-leb, eq-eqb, ne_eqb, cond-true, cond-false, cases_lt}
 use Rattle.std.proofs.lemmas.List.{drop_more}
+use Rattle.ts_journal.specs.declared.entry.TheConstants.{GREATEST}
 use Rattle.ts_journal.specs.declared.entry.Pending.{Pending}
 use Rattle.ts_journal.specs.State.{State, pending_at}
 use Rattle.ts_journal.specs.Machine.{IsValid, Rises}
 use Rattle.ts_journal.proofs.Cases.{split, by_eq}
 use Rattle.ts_journal.proofs.Lookups.{pending_below}
 use Rattle.ts_journal.proofs.Events.{is_known}
-use Rattle.ts_group.specs.Due.{IsBefore, IsFirstDue, NoNews, IsNews}
-use Rattle.ts_group.specs.Sooner.{sooner}
+use Rattle.ts_group.specs.Due.{IsBefore, IsFirstDue, NoNews, IsNews, sooner}
 use Rattle.std.specs.Prelude.{if◌then◌else◌, nat_le}
 
 -- the first of events that stand by rising number after the one that was first so far
@@ -166,7 +166,7 @@ from_is low bound (q ∷ ps) high (a, rest) =
           );
     })
 
-pub news_if : (s : State) (low : ℕ) (o : Option Pending) → IsValid s → o ≡ first_from low s.pending → (o ≡ None → NoNews low s) × IfSome o (λ p. IsNews low s p × (p.number < 18446744073709551615))
+pub news_if : (s : State) (low : ℕ) (o : Option Pending) → IsValid s → o ≡ first_from low s.pending → (o ≡ None → NoNews low s) × IfSome o (λ p. IsNews low s p × (p.number < GREATEST))
 news_if s low o v e =
     let k : IsFrom low s.pending o = subst (λ x. IsFrom low s.pending x) (sym e) (from_is low 0 s.pending s.next v.rises) in (
       k.none,
@@ -177,6 +177,6 @@ news_if s low o v e =
           (f, omega arith)),
     )
   where
-    if_some : (o : Option Pending) → ((r : Pending) → o ≡ Some r → IsNews low s r × (r.number < 18446744073709551615)) → IfSome o (λ p. IsNews low s p × (p.number < 18446744073709551615))
+    if_some : (o : Option Pending) → ((r : Pending) → o ≡ Some r → IsNews low s r × (r.number < GREATEST)) → IfSome o (λ p. IsNews low s p × (p.number < GREATEST))
     if_some None f = tt
     if_some (Some r) f = f r refl

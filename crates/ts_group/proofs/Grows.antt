@@ -10,9 +10,9 @@ use Rattle.ts_journal.proofs.Extends.{extends_none, extends_trans}
 use Rattle.ts_journal.specs.declared.entry.Pending.{Pending}
 use Rattle.ts_journal.specs.State.{State, pending_at}
 use Rattle.ts_group.specs.Context.{Context, IsSame, AllCalls}
-use Rattle.ts_group.specs.Entries.{IsOwn, AllOwn, AreCalls, GoesOn, Grows, drops}
-use Rattle.ts_group.specs.Own.{GrowsLog, CallsStay}
-use Rattle.ts_group.proofs.Facts.{calls_more, is_call}
+use Rattle.ts_group.specs.Entries.{IsOwn, AllOwn, AreCalls, GrowsLog, GrowsCalls, Grows, drops}
+use Rattle.ts_group.specs.Changes.{CallsStay}
+use Rattle.ts_group.proofs.Facts.{calls_more, is_call, more_none, stay_same}
 
 pub own_append : (es fs : List Entry) → AllOwn es → AllOwn fs → AllOwn (es ++ fs)
 own_append [] fs h k = k
@@ -46,30 +46,30 @@ grows_same a b h = record {
   moment = h.moment;
   running = h.running;
   role = h.role;
-  told = h.told;
+  news_from = h.news_from;
 }
 
 pub grows_refl : (a : Context) → Grows a a
-grows_refl a = grows_same a a (record { log = record { base = refl; entries = refl; state = refl }; roles = refl; moment = refl; running = refl; role = refl; told = refl; calls = refl })
+grows_refl a = grows_same a a (record { log = record { base = refl; entries = refl; state = refl }; roles = refl; moment = refl; running = refl; role = refl; news_from = refl; calls = refl })
 
 -- a journal that goes on by own entries, with no direct call
-pub grows_log : (a b : Context) → GrowsLog a.log b.log → b.calls ≡ a.calls → b.moment ≡ a.moment → b.running ≡ a.running → b.role ≡ a.role → b.told ≡ a.told → Grows a b
+pub grows_log : (a b : Context) → GrowsLog a.log b.log → b.calls ≡ a.calls → b.moment ≡ a.moment → b.running ≡ a.running → b.role ≡ a.role → b.news_from ≡ a.news_from → Grows a b
 grows_log a b h c m k r t = record {
   log = record { own = h.own; by = h.by; all_own = h.all_own; asked = []; calls = c ∙ sym (append-nil a.calls); are_calls = tt };
   moment = m;
   running = k;
   role = r;
-  told = t;
+  news_from = t;
 }
 
 -- one direct call
-pub grows_call : (a b : Context) (n : ℕ) (key : ContKey) (event : Event) → Extends a.log b.log (Set n key event a.moment n 0 ∷ []) → b.calls ≡ a.calls ++ n ∷ [] → b.moment ≡ a.moment → b.running ≡ a.running → b.role ≡ a.role → b.told ≡ a.told → Grows a b
+pub grows_call : (a b : Context) (n : ℕ) (key : ContKey) (event : Event) → Extends a.log b.log (Set n key event a.moment n 0 ∷ []) → b.calls ≡ a.calls ++ n ∷ [] → b.moment ≡ a.moment → b.running ≡ a.running → b.role ≡ a.role → b.news_from ≡ a.news_from → Grows a b
 grows_call a b n key event h c m k r t = record {
   log = record { own = Set n key event a.moment n 0 ∷ []; by = h; all_own = (refl, tt); asked = n ∷ []; calls = c; are_calls = ([], [], key, event, refl, tt) };
   moment = m;
   running = k;
   role = r;
-  told = t;
+  news_from = t;
 }
 
 pub grows_trans : {a b c : Context} → Grows a b → Grows b c → Grows a c
@@ -85,7 +85,7 @@ grows_trans {a} {b} {c} p q = record {
   moment = q.moment ∙ p.moment;
   running = q.running ∙ p.running;
   role = q.role ∙ p.role;
-  told = q.told ∙ p.told;
+  news_from = q.news_from ∙ p.news_from;
 }
 
 pub grows_three : {a b c d : Context} → Grows a b → Grows b c → Grows c d → Grows a d
@@ -99,7 +99,7 @@ waits_call s t moment n k ns ms p stay e le there due plain below h =
 pub waits_same : (s t : State) (moment k : ℕ) (ns ms : List ℕ) → CallsStay s t → ms ≡ ns → AllCalls s moment (drop k ns) → AllCalls t moment (drop k ms)
 waits_same s t moment k ns ms stay e h = subst (λ qs. AllCalls t moment (drop k qs)) (sym e) (stay.stay moment (drop k ns) h)
 
-pub goes_call : (a b : Log) (moment n k : ℕ) (ns ms : List ℕ) (key : ContKey) (event : Event) → Extends a b (Set n key event moment n 0 ∷ []) → ms ≡ ns ++ n ∷ [] → k ≤ length ns → GoesOn a b moment (drop k ns) (drop k ms)
+pub goes_call : (a b : Log) (moment n k : ℕ) (ns ms : List ℕ) (key : ContKey) (event : Event) → Extends a b (Set n key event moment n 0 ∷ []) → ms ≡ ns ++ n ∷ [] → k ≤ length ns → GrowsCalls a b moment (drop k ns) (drop k ms)
 goes_call a b moment n k ns ms key event h e le = record {
   own = Set n key event moment n 0 ∷ [];
   by = h;
@@ -109,7 +109,7 @@ goes_call a b moment n k ns ms key event h e le = record {
   are_calls = ([], [], key, event, refl, tt);
 }
 
-pub goes_same : (a b : Log) (moment k : ℕ) (ns ms : List ℕ) → IsSameLog a b → ms ≡ ns → GoesOn a b moment (drop k ns) (drop k ms)
+pub goes_same : (a b : Log) (moment k : ℕ) (ns ms : List ℕ) → IsSameLog a b → ms ≡ ns → GrowsCalls a b moment (drop k ns) (drop k ms)
 goes_same a b moment k ns ms h e = record {
   own = [];
   by = extends_none a b h;
@@ -122,3 +122,8 @@ goes_same a b moment k ns ms h e = record {
 -- For worlds: name this set in the attribute of an `impl World` or of a function that is lent a `Cx`, as
 -- `#[tactic(auto, using(ts_group::proofs::Grows::grows))]`, and the clause `grows` closes in straight-line code.
 pub ruleset grows = (grows_refl, grows_trans, grows_three)
+
+-- setting an event, and asking for a direct call
+pub ruleset set_steps = (log_none, log_one, stay_same)
+
+pub ruleset call_steps = (waits_call, waits_same, goes_call, goes_same, stay_same)

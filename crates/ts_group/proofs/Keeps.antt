@@ -1,7 +1,7 @@
 -- What a world keeps, over one call after the other.
 use Rattle.std.proofs.Common.{ℕ, ◌+◌, ◌≤◌, Option, Some, None, arith}
-use Rattle.ts_journal.specs.State.{State}
-use Rattle.ts_group.specs.Answers.{Falls, KeepsTags, SetsAtMost, SameReplies, SameGroups}
+use Rattle.ts_group.specs.Context.{Context}
+use Rattle.ts_group.specs.Answers.{Falls, KeepsTags, SetsAtMost, SameReplies, SameGroups, KeepsPromises}
 
 pub falls_refl : (o : Option ℕ) → Falls o 0 o
 falls_refl None = tt
@@ -25,5 +25,16 @@ groups_refl A = λ group. (λ h. h, λ h. h)
 pub groups_trans : (A B C : ℕ → Type 0) → SameGroups A B → SameGroups B C → SameGroups A C
 groups_trans A B C p q = λ group. (λ h. (q group).0 ((p group).0 h), λ h. (p group).1 ((q group).1 h))
 
-pub sets_trans : {T W : Type 0} (fits : T → W → Type 0) (v w : W) (m n k : ℕ) (a b c : State) → KeepsTags fits v w → SetsAtMost fits v m a b → SetsAtMost fits w n b c → m + n ≤ k → SetsAtMost fits v k a c
+pub sets_trans : {T W : Type 0} (fits : T → W → Type 0) (v w : W) (m n k : ℕ) (a b c : Context) → KeepsTags fits v w → SetsAtMost fits v m a b → SetsAtMost fits w n b c → m + n ≤ k → SetsAtMost fits v k a c
 sets_trans fits v w m n k a b c tags p q le = λ t h. let x = p t h in let y = q t (tags t h) in omega arith
+
+pub promises_refl : {T W Q R : Type 0} (Fits : T → W → Type 0) (Right : W → ℕ → Q → R → Type 0) (MayAsk : W → ℕ → Type 0) (w : W) → KeepsPromises Fits Right MayAsk w w
+promises_refl Fits Right MayAsk w = record { tags = λ t h. h; replies = replies_refl (Right w); groups = groups_refl (MayAsk w) }
+
+pub promises_trans : {T W Q R : Type 0} (Fits : T → W → Type 0) (Right : W → ℕ → Q → R → Type 0) (MayAsk : W → ℕ → Type 0) (u v w : W)
+    → KeepsPromises Fits Right MayAsk u v → KeepsPromises Fits Right MayAsk v w → KeepsPromises Fits Right MayAsk u w
+promises_trans Fits Right MayAsk u v w p q = record {
+  tags = λ t h. q.tags t (p.tags t h);
+  replies = replies_trans (Right u) (Right v) (Right w) p.replies q.replies;
+  groups = groups_trans (MayAsk u) (MayAsk v) (MayAsk w) p.groups q.groups;
+}

@@ -1,5 +1,7 @@
+-- The lemmas of a group, for its own proofs and those of the crates above.
 pub mod Room
 pub mod Facts
+pub mod Acts
 pub mod Grows
 pub mod Scans
 pub mod Roles

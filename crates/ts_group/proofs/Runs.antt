@@ -1,6 +1,7 @@
 -- Events that are handled one after the other.
 use Rattle.std.proofs.Common.{◌≡◌, ℕ, zero, suc, ◌+◌, ◌<◌, ◌≤◌, ◌⊎◌, inl, inr, true, cond, List, [], ◌∷◌, ◌++◌, Some, None, refl, sym, ap, subst, ◌∙◌, append_assoc, arith}
 use Rattle.std.specs.Prelude.{nat_lt, ◌&&◌}
+use Rattle.ts_journal.specs.declared.entry.TheConstants.{GREATEST}
 use Rattle.ts_journal.specs.declared.entry.Pending.{Pending}
 use Rattle.ts_journal.specs.declared.entry.Event.TheVariants.{Timeout}
 use Rattle.ts_journal.specs.declared.entry.Entry.{Entry}
@@ -11,10 +12,12 @@ use Rattle.ts_journal.specs.Log.{Log, Extends}
 use Rattle.ts_journal.proofs.Cases.{split}
 use Rattle.ts_journal.proofs.Lawful.{replay-append}
 use Rattle.ts_journal.proofs.Extends.{extends_trans, extends_before}
+use Rattle.ts_group.specs.declared.group.TheConstants.{MOST_EVENTS}
+use Rattle.ts_group.specs.declared.group.Group.{Group}
 use Rattle.ts_group.specs.Context.{Context, IsSame, moment_after}
 use Rattle.ts_group.specs.Entries.{IsOwn, AllOwn, Grows, renewal}
-use Rattle.ts_group.specs.Calls.{IsReady, IsRun, RunsFrom, Handles, next_in}
-use Rattle.ts_group.specs.Own.{HasRun}
+use Rattle.ts_group.specs.Changes.{StaysInTurn}
+use Rattle.ts_group.specs.Calls.{IsReady, IsRun, RunsFrom, HasRun, Handles, next_in}
 
 -- what a handler's own entries leave as it was
 record SameTurn (s t : State) : Type 0 where
@@ -39,16 +42,27 @@ own_turn : (s : State) (es : List Entry) → AllOwn es → SameTurn s (replay s 
 own_turn s [] h = record { held = refl; turns = refl; handled = refl }
 own_turn s (e ∷ es) (a, b) = same_turn s (after s e) (replay (after s e) es) (own_step s e a) (own_turn (after s e) es b)
 
+-- a handler's own calls leave the turn held
 pub grows_held : {a b : Context} → Grows a b → a.log.state.held ≡ true → b.log.state.held ≡ true
 grows_held {a} {b} g h = ap (λ (s : State). s.held) g.log.by.state ∙ (own_turn a.log.state g.log.own g.log.all_own).held ∙ h
 
 pub grows_turns : {a b : Context} → Grows a b → b.log.state.turns ≡ a.log.state.turns
 grows_turns {a} {b} g = ap (λ (s : State). s.turns) g.log.by.state ∙ (own_turn a.log.state g.log.own g.log.all_own).turns
 
--- so does the next occurrence of a periodic event
+-- a handler's own calls stay in the turn
+pub grows_stays : {a b : Context} → Grows a b → a.log.state.held ≡ true → StaysInTurn a.log.state b.log.state
+grows_stays g h = record { held = grows_held g h; turns = grows_turns g }
+
+pub stays_trans : {s t u : State} → StaysInTurn s t → StaysInTurn t u → StaysInTurn s u
+stays_trans p q = record { held = q.held; turns = q.turns ∙ p.turns }
+
+pub stays_same : {s t u : State} → u ≡ t → StaysInTurn s t → StaysInTurn s u
+stays_same e p = record { held = ap (λ (x : State). x.held) e ∙ p.held; turns = ap (λ (x : State). x.turns) e ∙ p.turns }
+
+-- the next occurrence of a periodic event leaves the turn as it was
 renewal_turn : (s : State) (p : Pending) (next moment : ℕ) → SameTurn s (replay s (renewal p next moment))
 renewal_turn s p next moment =
-    split (nat_lt 0 p.period && nat_lt next 18446744073709551615) (λ t. SameTurn s (replay s (cond t (Set next p.key Timeout (moment_after moment p.period) p.series p.period ∷ []) [])))
+    split (nat_lt 0 p.period && nat_lt next GREATEST) (λ t. SameTurn s (replay s (cond t (Set next p.key Timeout (moment_after moment p.period) p.series p.period ∷ []) [])))
     (λ e. record { held = refl; turns = refl; handled = refl }) (λ e. record { held = refl; turns = refl; handled = refl })
 
 -- an event that is handled leaves the turn, and raises the count by one
@@ -105,111 +119,143 @@ runs_more Called u v w s moment number queue (suc (suc k)) es left next behind a
     )
 
 -- So many events were handled, the last of which was handled just now.
-pub record HasRunAll {W : Type 0} (Called : W → W → List ℕ → Type 0) (u v : W) (start now : Context) (moment first events : ℕ) : Type 0 where
+pub record HasRunAll {W Q R T U : Type 0} (Called : W → W → List ℕ → Type 0) (start now : Group W Q R T U) (moment first events : ℕ) : Type 0 where
   pub es : List Entry
-  pub by : Extends start.log now.log es
-  pub runs : RunsFrom Called u v start.log.state moment first [] events es now.calls
-  pub at_moment : now.moment ≡ moment
-  pub idle : now.running ≡ None
-  pub told : now.told ≡ start.told
-  pub turn : now.log.state.held ≡ true
-  pub turns : now.log.state.turns ≡ start.log.state.turns
+  pub by : Extends start.cx.log now.cx.log es
+  pub runs : RunsFrom Called start.world now.world start.cx.log.state moment first [] events es now.cx.calls
+  pub turn : StaysInTurn start.cx.log.state now.cx.log.state
+  pub at_moment : now.cx.moment ≡ moment
+  pub idle : now.cx.running ≡ None
+  pub news_from : now.cx.news_from ≡ start.cx.news_from
+
+-- nothing was handled yet, and the first event is the next
+pub record BeginsRun {W Q R T U : Type 0} (start now : Group W Q R T U) (first events number : ℕ) : Type 0 where
+  pub none : events ≡ 0
+  pub log : now.cx.log ≡ start.cx.log
+  pub calls : now.cx.calls ≡ []
+  pub is_first : number ≡ first
+  pub world : now.world ≡ start.world
+
+-- so many events were handled, and a direct call that waits is the next
+pub record GoesOnRun {W Q R T U : Type 0} (Called : W → W → List ℕ → Type 0) (start now : Group W Q R T U) (moment first events number : ℕ) : Type 0 where
+  pub es : List Entry
+  pub left : List ℕ
+  pub by : Extends start.cx.log now.cx.log es
+  pub runs : RunsFrom Called start.world now.world start.cx.log.state moment first [] events es left
+  pub next : next_in now.cx.log.state.pending left ≡ Some (number, now.cx.calls)
 
 -- the event that is handled next, after so many events
-pub record InRun {W : Type 0} (Called : W → W → List ℕ → Type 0) (u v : W) (start now : Context) (moment first events : ℕ) (event : Pending) : Type 0 where
-  pub told : now.told ≡ start.told
-  pub at_moment : now.moment ≡ moment
-  pub turn : now.log.state.held ≡ true
-  pub turns : now.log.state.turns ≡ start.log.state.turns
-  pub ready : IsReady now.log moment event
-  pub so_far : ((events ≡ 0) × (now.log ≡ start.log) × (now.calls ≡ []) × (event.number ≡ first) × (v ≡ u))
-      ⊎ ((es : List Entry) × (left : List ℕ) × Extends start.log now.log es × RunsFrom Called u v start.log.state moment first [] events es left × (next_in now.log.state.pending left ≡ Some (event.number, now.calls)))
+pub record InRun {W Q R T U : Type 0} (Called : W → W → List ℕ → Type 0) (start now : Group W Q R T U) (moment first events : ℕ) (event : Pending) : Type 0 where
+  pub turn : StaysInTurn start.cx.log.state now.cx.log.state
+  pub at_moment : now.cx.moment ≡ moment
+  pub news_from : now.cx.news_from ≡ start.cx.news_from
+  pub ready : IsReady now.cx.log moment event
+  pub so_far : BeginsRun start now first events event.number ⊎ GoesOnRun Called start now moment first events event.number
 
-pub begin_run : {W : Type 0} (Called : W → W → List ℕ → Type 0) (u : W) (start now : Context) (moment : ℕ) (event : Pending) → now ≡ record start { calls = []; moment = moment } → start.log.state.held ≡ true → IsReady start.log moment event → InRun Called u u start now moment event.number 0 event
-begin_run Called u start now moment event e h r =
-    let log : now.log ≡ start.log = ap (λ (c : Context). c.log) e in
+pub begin_run : {W Q R T U : Type 0} (Called : W → W → List ℕ → Type 0) (start now : Group W Q R T U) (moment : ℕ) (event : Pending)
+    → now.cx ≡ record start.cx { calls = []; moment = moment } → now.world ≡ start.world → start.cx.log.state.held ≡ true → IsReady start.cx.log moment event
+    → InRun Called start now moment event.number 0 event
+begin_run Called start now moment event e w h r =
+    let log : now.cx.log ≡ start.cx.log = ap (λ (c : Context). c.log) e in
     record {
-      told = ap (λ (c : Context). c.told) e;
+      turn = record { held = ap (λ (l : Log). l.state.held) log ∙ h; turns = ap (λ (l : Log). l.state.turns) log };
       at_moment = ap (λ (c : Context). c.moment) e;
-      turn = ap (λ (l : Log). l.state.held) log ∙ h;
-      turns = ap (λ (l : Log). l.state.turns) log;
+      news_from = ap (λ (c : Context). c.news_from) e;
       ready = subst (λ l. IsReady l moment event) (sym log) r;
-      so_far = inl (refl, log, ap (λ (c : Context). c.calls) e, refl, refl);
+      so_far = inl (record { none = refl; log = log; calls = ap (λ (c : Context). c.calls) e; is_first = refl; world = w });
     }
 
-pub ran_more : {W : Type 0} (Called : W → W → List ℕ → Type 0) (u v w : W) (start a b : Context) (moment first events : ℕ) (event : Pending) → InRun Called u v start a moment first events event → HasRun Called v w a b moment event.number → HasRunAll Called u w start b moment first (events + 1)
-ran_more Called u v w start a b moment first events event i r = elim i.so_far [
-  | inl z ↦
-      let k : 1 ≡ events + 1 = omega (arith, z.0) in
-      let first_run : IsRun start.log.state moment first r.asked r.run =
-      subst (λ n. IsRun start.log.state moment n r.asked r.run) z.3 (subst (λ (l : Log). IsRun l.state moment event.number r.asked r.run) z.1 r.is_run) in
-      record {
-        es = r.run;
-        by = subst (λ l. Extends l b.log r.run) z.1 r.by;
-        runs = subst (λ n. RunsFrom Called u w start.log.state moment first [] n r.run b.calls) k (r.asked, first_run, subst (λ x. Called x w r.asked) z.4 r.called, r.calls ∙ ap (λ ns. ns ++ r.asked) z.2);
-        at_moment = r.at_moment;
-        idle = r.idle;
-        told = r.told ∙ i.told;
-        turn = r.turn;
-        turns = r.turns ∙ i.turns;
-      }
-  | inr z ↦
-      let k : suc events ≡ events + 1 = omega arith in
-      let state : a.log.state ≡ replay start.log.state z.0 = z.2.state in
-      let next : next_in (replay start.log.state z.0).pending z.1 ≡ Some (event.number, a.calls) = subst (λ (t : State). next_in t.pending z.1 ≡ Some (event.number, a.calls)) state z.4 in
-      let run : IsRun (replay start.log.state z.0) moment event.number r.asked r.run = subst (λ (t : State). IsRun t moment event.number r.asked r.run) state r.is_run in
-      let all = runs_more Called u v w start.log.state moment first [] events z.0 z.1 event.number a.calls r.asked r.run z.3 next run r.called in
-      record {
-        es = z.0 ++ r.run;
-        by = extends_trans z.2 r.by;
-        runs = subst (λ n. RunsFrom Called u w start.log.state moment first [] n (z.0 ++ r.run) b.calls) k (subst (λ q. RunsFrom Called u w start.log.state moment first [] (suc events) (z.0 ++ r.run) q) (sym r.calls) all);
-        at_moment = r.at_moment;
-        idle = r.idle;
-        told = r.told ∙ i.told;
-        turn = r.turn;
-        turns = r.turns ∙ i.turns;
-      }
-]
+pub ran_more : {W Q R T U : Type 0} (Called : W → W → List ℕ → Type 0) (start a b : Group W Q R T U) (moment first events : ℕ) (event : Pending)
+    → InRun Called start a moment first events event → HasRun Called a b event.number → HasRunAll Called start b moment first (events + 1)
+ran_more Called start a b moment first events event i r =
+    let is_run : IsRun a.cx.log.state moment event.number r.asked r.run = subst (λ m. IsRun a.cx.log.state m event.number r.asked r.run) i.at_moment r.is_run in
+    elim i.so_far [
+      | inl z ↦
+          let k : 1 ≡ events + 1 = omega (arith, z.none) in
+          let first_run : IsRun start.cx.log.state moment first r.asked r.run =
+          subst (λ n. IsRun start.cx.log.state moment n r.asked r.run) z.is_first (subst (λ (l : Log). IsRun l.state moment event.number r.asked r.run) z.log is_run) in
+          record {
+            es = r.run;
+            by = subst (λ l. Extends l b.cx.log r.run) z.log r.by;
+            runs = subst (λ n. RunsFrom Called start.world b.world start.cx.log.state moment first [] n r.run b.cx.calls) k
+                (r.asked, first_run, subst (λ x. Called x b.world r.asked) z.world r.called, r.calls ∙ ap (λ ns. ns ++ r.asked) z.calls);
+            turn = stays_trans i.turn r.turn;
+            at_moment = r.moment ∙ i.at_moment;
+            idle = r.idle;
+            news_from = r.news_from ∙ i.news_from;
+          }
+      | inr z ↦
+          let k : suc events ≡ events + 1 = omega arith in
+          let state : a.cx.log.state ≡ replay start.cx.log.state z.es = z.by.state in
+          let next : next_in (replay start.cx.log.state z.es).pending z.left ≡ Some (event.number, a.cx.calls) =
+          subst (λ (t : State). next_in t.pending z.left ≡ Some (event.number, a.cx.calls)) state z.next in
+          let run : IsRun (replay start.cx.log.state z.es) moment event.number r.asked r.run = subst (λ (t : State). IsRun t moment event.number r.asked r.run) state is_run in
+          let all = runs_more Called start.world a.world b.world start.cx.log.state moment first [] events z.es z.left event.number a.cx.calls r.asked r.run z.runs next run r.called in
+          record {
+            es = z.es ++ r.run;
+            by = extends_trans z.by r.by;
+            runs = subst (λ n. RunsFrom Called start.world b.world start.cx.log.state moment first [] n (z.es ++ r.run) b.cx.calls) k
+                (subst (λ q. RunsFrom Called start.world b.world start.cx.log.state moment first [] (suc events) (z.es ++ r.run) q) (sym r.calls) all);
+            turn = stays_trans i.turn r.turn;
+            at_moment = r.moment ∙ i.at_moment;
+            idle = r.idle;
+            news_from = r.news_from ∙ i.news_from;
+          }
+    ]
 
-pub handles : {W : Type 0} (Called : W → W → List ℕ → Type 0) (u v : W) (start now : Context) (moment first events : ℕ) → HasRunAll Called u v start now moment first events → 1 ≤ events → events ≤ 64 → Handles Called u v start now first moment events
-handles Called u v start now moment first events r some most = record {
+pub handles : {W Q R T U : Type 0} (Called : W → W → List ℕ → Type 0) (start now : Group W Q R T U) (moment first events : ℕ)
+    → HasRunAll Called start now moment first events → 1 ≤ events → events ≤ MOST_EVENTS → Handles Called start now first moment events
+handles Called start now moment first events r some most = record {
   some = some;
   most = most;
   es = r.es;
   by = r.by;
   runs = r.runs;
-  rise = ap (λ (t : State). t.handled_count) r.by.state ∙ runs_rise Called u v start.log.state moment first [] events r.es now.calls r.runs;
+  turn = r.turn;
+  rise = ap (λ (t : State). t.handled_count) r.by.state
+      ∙ runs_rise Called start.world now.world start.cx.log.state moment first [] events r.es now.cx.calls r.runs;
   now = r.at_moment;
   idle = r.idle;
-  told = r.told;
+  news_from = r.news_from;
 }
 
--- the next call is handled next
-pub run_next : {W : Type 0} (Called : W → W → List ℕ → Type 0) (u v : W) (start a b : Context) (moment first events : ℕ) (event : Pending) → HasRunAll Called u v start a moment first events → IsSame (record a { calls = b.calls }) b → next_in a.log.state.pending a.calls ≡ Some (event.number, b.calls) → IsReady b.log b.moment event → InRun Called u v start b moment first events event
-run_next Called u v start a b moment first events event r s n ready =
-    let m : b.moment ≡ moment = s.moment ∙ r.at_moment in
+-- a direct call that waits is handled next
+pub run_next : {W Q R T U : Type 0} (Called : W → W → List ℕ → Type 0) (start a b : Group W Q R T U) (moment first events : ℕ) (event : Pending)
+    → HasRunAll Called start a moment first events → b.world ≡ a.world → IsSame (record a.cx { calls = b.cx.calls }) b.cx
+    → next_in a.cx.log.state.pending a.cx.calls ≡ Some (event.number, b.cx.calls) → IsReady b.cx.log b.cx.moment event
+    → InRun Called start b moment first events event
+run_next Called start a b moment first events event r w s n ready =
+    let m : b.cx.moment ≡ moment = s.moment ∙ r.at_moment in
     record {
-      told = s.told ∙ r.told;
+      turn = stays_same s.log.state r.turn;
       at_moment = m;
-      turn = ap (λ (t : State). t.held) s.log.state ∙ r.turn;
-      turns = ap (λ (t : State). t.turns) s.log.state ∙ r.turns;
-      ready = subst (λ x. IsReady b.log x event) m ready;
-      so_far = inr (r.es, a.calls, extends_before r.by s.log, r.runs, ap (λ (t : State). next_in t.pending a.calls) s.log.state ∙ n);
+      news_from = s.news_from ∙ r.news_from;
+      ready = subst (λ x. IsReady b.cx.log x event) m ready;
+      so_far = inr (record {
+        es = r.es;
+        left = a.cx.calls;
+        by = extends_before r.by s.log;
+        runs = subst (λ v. RunsFrom Called start.world v start.cx.log.state moment first [] events r.es a.cx.calls) (sym w) r.runs;
+        next = ap (λ (t : State). next_in t.pending a.cx.calls) s.log.state ∙ n;
+      });
     }
 
 -- none of the calls that wait is pending: the run ends
-pub handles_none : {W : Type 0} (Called : W → W → List ℕ → Type 0) (u v : W) (start a b : Context) (moment first events : ℕ) → HasRunAll Called u v start a moment first events → 1 ≤ events → events ≤ 64 → IsSame (record a { calls = b.calls }) b → b.calls ≡ a.calls → next_in a.log.state.pending a.calls ≡ None
-    → Handles Called u v start b first moment events × (events < 64 → next_in b.log.state.pending b.calls ≡ None)
-handles_none Called u v start a b moment first events r some most s same none =
-    let none_left : next_in b.log.state.pending b.calls ≡ None = ap (λ (t : State). next_in t.pending b.calls) s.log.state ∙ ap (λ q. next_in a.log.state.pending q) same ∙ none in
-    let all : HasRunAll Called u v start b moment first events = record {
+pub handles_none : {W Q R T U : Type 0} (Called : W → W → List ℕ → Type 0) (start a b : Group W Q R T U) (moment first events : ℕ)
+    → HasRunAll Called start a moment first events → 1 ≤ events → events ≤ MOST_EVENTS → b.world ≡ a.world → IsSame (record a.cx { calls = b.cx.calls }) b.cx
+    → b.cx.calls ≡ a.cx.calls → next_in a.cx.log.state.pending a.cx.calls ≡ None
+    → Handles Called start b first moment events × (events < MOST_EVENTS → next_in b.cx.log.state.pending b.cx.calls ≡ None)
+handles_none Called start a b moment first events r some most w s same none =
+    let none_left : next_in b.cx.log.state.pending b.cx.calls ≡ None =
+    ap (λ (t : State). next_in t.pending b.cx.calls) s.log.state ∙ ap (λ q. next_in a.cx.log.state.pending q) same ∙ none in
+    let all : HasRunAll Called start b moment first events = record {
       es = r.es;
       by = extends_before r.by s.log;
-      runs = subst (λ q. RunsFrom Called u v start.log.state moment first [] events r.es q) (sym same) r.runs;
+      runs = subst (λ v. RunsFrom Called start.world v start.cx.log.state moment first [] events r.es b.cx.calls) (sym w)
+          (subst (λ q. RunsFrom Called start.world a.world start.cx.log.state moment first [] events r.es q) (sym same) r.runs);
+      turn = stays_same s.log.state r.turn;
       at_moment = s.moment ∙ r.at_moment;
       idle = s.running ∙ r.idle;
-      told = s.told ∙ r.told;
-      turn = ap (λ (t : State). t.held) s.log.state ∙ r.turn;
-      turns = ap (λ (t : State). t.turns) s.log.state ∙ r.turns;
+      news_from = s.news_from ∙ r.news_from;
     } in
-    (handles Called u v start b moment first events all some most, λ lt. none_left)
+    (handles Called start b moment first events all some most, λ lt. none_left)

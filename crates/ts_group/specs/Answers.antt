@@ -1,23 +1,46 @@
 -- What a world and a group answer, and what then holds of the world.
-use Rattle.std.specs.Prelude.{◌≡◌, ℕ, ◌+◌, ◌<◌, ◌≤◌, List, [], Option, Some, None}
+use Rattle.std.specs.Prelude.{⊤, ◌≡◌, ℕ, ◌+◌, ◌<◌, ◌≤◌, List, [], Option, Some, None}
 use Rattle.ts_journal.specs.declared.entry.Pending.{Pending}
 use Rattle.ts_journal.specs.State.{State, pending_at}
+use Rattle.ts_group.specs.declared.action.Named.{Named}
 use Rattle.ts_group.specs.declared.world.Asked.{Asked}
 use Rattle.ts_group.specs.declared.world.Asked.TheVariants.{Reply, Missed, NoMemory}
 use Rattle.ts_group.specs.declared.world.Handling.{Handling}
-use Rattle.ts_group.specs.declared.world.Handling.TheVariants.{Handled, Asks, NotPending, NotDue}
+use Rattle.ts_group.specs.declared.world.Handling.TheVariants as handling
 use Rattle.ts_group.specs.declared.world.Want.{Want}
 use Rattle.ts_group.specs.declared.world.Want.TheVariants.{Nothing, Ask}
+use Rattle.ts_group.specs.declared.group.TheConstants.{MOST_EVENTS}
+use Rattle.ts_group.specs.declared.group.Group.{Group}
 use Rattle.ts_group.specs.Context.{Context, IsSame}
-use Rattle.ts_group.specs.Calls.{Handles, next_in}
+use Rattle.ts_group.specs.Calls.{Handles, TakesQuestion, next_in}
 
-abbrev pub IfNothing : {Q : Type 0} → Want Q → Type 0 → Type 0
-IfNothing Nothing P = P
-IfNothing (Ask group question) P = Unit {0}
+-- what holds of a group's world, with the state and the roles of its continuations
+abbrev pub Holds : {W Q R T U : Type 0} → (W → State → List Named → Type 0) → Group W Q R T U → Type 0
+Holds Sound g = Sound g.world g.cx.log.state g.cx.roles
 
-abbrev pub IfAsks : {Q : Type 0} → Want Q → (ℕ → Q → Type 0) → Type 0
-IfAsks Nothing P = Unit {0}
-IfAsks (Ask group question) P = P group question
+-- The handler that ran last waits for the reply of a group to a question.
+abbrev pub AwaitsReply : {W Q R T U : Type 0} → (W → State → List Named → ℕ → ℕ → Q → Type 0) → Group W Q R T U → ℕ → Q → Type 0
+AwaitsReply Asking g group question = Asking g.world g.cx.log.state g.cx.roles g.cx.role group question
+
+-- The handler that ran last waits for the reply of a group that the world may ask.
+abbrev pub MayAwait : {W Q R T U : Type 0} → (W → State → List Named → ℕ → ℕ → Q → Type 0) → (W → ℕ → Type 0) → Group W Q R T U → ℕ → Q → Type 0
+MayAwait Asking MayAsk g group question = AwaitsReply Asking g group question × MayAsk g.world group
+
+-- one fact where a handler wants nothing, and one of the group and the question where it asks
+abbrev pub MatchWant : {Q : Type 0} → Want Q → Type 0 → (ℕ → Q → Type 0) → Type 0
+MatchWant Nothing P Asking = P
+MatchWant (Ask group question) P Asking = Asking group question
+
+-- one fact of the group and the question where the last handler asks, and one where none does
+abbrev pub MatchHandling : {Q : Type 0} → Handling Q → Type 0 → (ℕ → Q → Type 0) → Type 0
+MatchHandling (handling.Asks events group question) P Asking = Asking group question
+MatchHandling _ P Asking = P
+
+-- a fact of the number of events that were handled, if any was
+abbrev pub IfEvents : {Q : Type 0} → Handling Q → (ℕ → Type 0) → Type 0
+IfEvents (handling.Handled events) P = P events
+IfEvents (handling.Asks events group question) P = P events
+IfEvents _ P = ⊤
 
 -- what is handed back is right for the question that was asked
 abbrev pub IsAnswer : {Q R : Type 0} → (ℕ → Q → R → Type 0) → ℕ → Q → Asked Q R → Type 0
@@ -26,52 +49,58 @@ IsAnswer Right group question (Missed seen q) = q ≡ question
 IsAnswer Right group question (NoMemory q) = q ≡ question
 
 -- a question was asked, and what is handed back is right for it
-pub record IsTold {Q R : Type 0} (Asking : ℕ → Q → Type 0) (Right : ℕ → Q → R → Type 0) (asked : Asked Q R) : Type 0 where
+pub record IsAnswered {Q R : Type 0} (Asking : ℕ → Q → Type 0) (Right : ℕ → Q → R → Type 0) (asked : Asked Q R) : Type 0 where
   pub group : ℕ
   pub question : Q
   pub asking : Asking group question
   pub answer : IsAnswer Right group question asked
 
--- What a call of `handle` answers and leaves. Below 64 events none of the direct calls that its handlers asked for is
--- pending.
-abbrev pub HandleGives : {Q W : Type 0} → (W → W → List ℕ → Type 0) → W → W → Context → Context → ℕ → ℕ → Handling Q → Type 0
-HandleGives Called old_world new_world old new number moment (Handled events) = Handles Called old_world new_world old new number moment events × (events < 64 → next_in new.log.state.pending new.calls ≡ None)
-HandleGives Called old_world new_world old new number moment (Asks events group question) = Handles Called old_world new_world old new number moment events
-HandleGives Called old_world new_world old new number moment NotPending = (pending_at number old.log.state.pending ≡ None) × IsSame old new
-HandleGives Called old_world new_world old new number moment (NotDue due) = (moment < due) × (p : Pending) × (pending_at number old.log.state.pending ≡ Some p) × (p.due ≡ due) × IsSame old new
+-- the group is the same
+pub record IsSameGroup {W Q R T U : Type 0} (old new : Group W Q R T U) : Type 0 where
+  pub cx : IsSame old.cx new.cx
+  pub world : new.world ≡ old.world
 
--- what then holds of the world
-abbrev pub HandleKeeps : {Q : Type 0} → Type 0 → (ℕ → Q → Type 0) → Handling Q → Type 0
-HandleKeeps Sound Asking (Handled events) = Sound
-HandleKeeps Sound Asking (Asks events group question) = Asking group question
-HandleKeeps Sound Asking NotPending = Sound
-HandleKeeps Sound Asking (NotDue due) = Sound
+-- What a call of `handle` answers and leaves. Where it handled fewer events than a turn handles at most, none of the
+-- direct calls that its handlers asked for is pending.
+abbrev pub HandleGives : {W Q R T U : Type 0} → (W → W → List ℕ → Type 0) → Group W Q R T U → Group W Q R T U → ℕ → ℕ → Handling Q → Type 0
+HandleGives Called old new number moment (handling.Handled events) =
+    Handles Called old new number moment events
+    × (events < MOST_EVENTS → next_in new.cx.log.state.pending new.cx.calls ≡ None)
+HandleGives Called old new number moment (handling.Asks events group question) = Handles Called old new number moment events
+HandleGives Called old new number moment handling.NotPending =
+    (pending_at number old.cx.log.state.pending ≡ None) × IsSameGroup old new
+HandleGives Called old new number moment (handling.NotDue due) =
+    (moment < due) × (p : Pending) × (pending_at number old.cx.log.state.pending ≡ Some p) × (p.due ≡ due)
+    × IsSameGroup old new
 
--- what of a call that handled nothing
-abbrev pub IfOther : {Q : Type 0} → Type 0 → Handling Q → Type 0
-IfOther P (Handled events) = Unit {0}
-IfOther P (Asks events group question) = Unit {0}
-IfOther P NotPending = P
-IfOther P (NotDue due) = P
+-- Memory lacks for the next occurrence of a periodic event, which is due; nothing was entered.
+pub record LacksRenewal {W Q R T U : Type 0} (old new : Group W Q R T U) (number moment : ℕ) : Type 0 where
+  pub event : Pending
+  pub there : pending_at number old.cx.log.state.pending ≡ Some event
+  pub due : event.due ≤ moment
+  pub periodic : 0 < event.period
+  pub same : IsSameGroup old new
 
--- what of the number of events that were handled
-abbrev pub ForEvents : {Q : Type 0} → (ℕ → Type 0) → Handling Q → Type 0
-ForEvents P (Handled events) = P events
-ForEvents P (Asks events group question) = P events
-ForEvents P NotPending = Unit {0}
-ForEvents P (NotDue due) = Unit {0}
+-- the group's own key was asked, and the world gave this reply
+pub record HasReplied {W Q R T U : Type 0} (Answers : W → Q → R → Type 0) (old new : Group W Q R T U) (question : Q) (moment : ℕ) (reply : R) : Type 0 where
+  pub taken : TakesQuestion old.cx new.cx moment
+  pub answers : Answers old.world question reply
 
 -- What is left to do is less by so much. A world that tells no number promises nothing.
 abbrev pub Falls : Option ℕ → ℕ → Option ℕ → Type 0
-Falls None by now = Unit {0}
+Falls None by now = ⊤
 Falls (Some before) by None = ⊥
 Falls (Some before) by (Some now) = now + by ≤ before
 
+-- what is left to a group is less by so much
+abbrev pub LeavesLess : {W Q R T U : Type 0} → (W → State → Option ℕ) → Group W Q R T U → ℕ → Group W Q R T U → Type 0
+LeavesLess Left old by new = Falls (Left old.world old.cx.log.state) by (Left new.world new.cx.log.state)
+
 -- a world that tells a number goes on to tell one
 abbrev pub StillTells : Option ℕ → Option ℕ → Type 0
-StillTells None now = Unit {0}
+StillTells None now = ⊤
 StillTells (Some before) None = ⊥
-StillTells (Some before) (Some now) = Unit {0}
+StillTells (Some before) (Some now) = ⊤
 
 -- a reply and want of memory leave no more to do than before; a miss is free
 abbrev pub TellFalls : {Q R : Type 0} → Asked Q R → Option ℕ → Option ℕ → Type 0
@@ -81,7 +110,8 @@ TellFalls (NoMemory q) before now = Falls before 0 now
 
 -- the same replies are right
 abbrev pub SameReplies : {Q R : Type 0} → (ℕ → Q → R → Type 0) → (ℕ → Q → R → Type 0) → Type 0
-SameReplies {Q} {R} Old New = (group : ℕ) (question : Q) (reply : R) → (Old group question reply → New group question reply) × (New group question reply → Old group question reply)
+SameReplies {Q} {R} Old New = (group : ℕ) (question : Q) (reply : R) →
+    (Old group question reply → New group question reply) × (New group question reply → Old group question reply)
 
 -- the same groups may be asked
 abbrev pub SameGroups : (ℕ → Type 0) → (ℕ → Type 0) → Type 0
@@ -91,10 +121,22 @@ SameGroups Old New = (group : ℕ) → (Old group → New group) × (New group �
 abbrev pub KeepsTags : {T W : Type 0} → (T → W → Type 0) → W → W → Type 0
 KeepsTags {T} {W} Fits old new = (t : T) → Fits t old → Fits t new
 
+-- what a world goes on to promise: the tags that it fits, the replies that are right, and the groups that it may ask
+pub record KeepsPromises {T W Q R : Type 0} (Fits : T → W → Type 0) (Right : W → ℕ → Q → R → Type 0) (MayAsk : W → ℕ → Type 0) (old new : W) : Type 0 where
+  pub tags : KeepsTags Fits old new
+  pub replies : SameReplies (Right old) (Right new)
+  pub groups : SameGroups (MayAsk old) (MayAsk new)
+
 -- a world that fits a tag sets at most so many events
-abbrev pub SetsAtMost : {T W : Type 0} → (T → W → Type 0) → W → ℕ → State → State → Type 0
-SetsAtMost {T} {W} Fits world most old new = (t : T) → Fits t world → new.next ≤ old.next + most
+abbrev pub SetsAtMost : {T W : Type 0} → (T → W → Type 0) → W → ℕ → Context → Context → Type 0
+SetsAtMost {T} {W} Fits world most old new = (t : T) → Fits t world → new.log.state.next ≤ old.log.state.next + most
 
 -- a world that fits a tag sets no event
-abbrev pub SetsNone : {T W : Type 0} → (T → W → Type 0) → W → State → State → Type 0
-SetsNone {T} {W} Fits world old new = (t : T) → Fits t world → (new.next ≡ old.next) × (old.pending ≡ [] → new.pending ≡ [])
+abbrev pub SetsNone : {T W : Type 0} → (T → W → Type 0) → W → Context → Context → Type 0
+SetsNone {T} {W} Fits world old new = (t : T) → Fits t world →
+    (new.log.state.next ≡ old.log.state.next) × (old.log.state.pending ≡ [] → new.log.state.pending ≡ [])
+
+-- where a world that fits a tag is asked, no event is set but that of the question
+abbrev pub SetsQuestion : {T W : Type 0} → (T → W → Type 0) → W → Context → Context → Type 0
+SetsQuestion {T} {W} Fits world old new = (t : T) → Fits t world →
+    (new.log.state.next ≤ old.log.state.next + 1) × (old.log.state.pending ≡ [] → new.log.state.pending ≡ [])

@@ -8,9 +8,11 @@ use Rattle.ts_journal.specs.State.{State, pending_at}
 use Rattle.ts_journal.specs.Machine.{IsKnown, IsValid, replay}
 use Rattle.ts_journal.specs.Log.{Log, Extends}
 use Rattle.ts_group.specs.declared.action.Named.{Named}
+use Rattle.ts_group.specs.declared.group.TheConstants.{MOST_EVENTS}
+use Rattle.ts_group.specs.declared.group.Group.{Group}
 use Rattle.ts_group.specs.Context.{Context, IsOrderly, own_key, role_at}
 use Rattle.ts_group.specs.Entries.{AllOwn, AreCalls, CanRenew, renewal, asking_entries}
-use Rattle.ts_group.specs.Changes.{HasHandled}
+use Rattle.ts_group.specs.Changes.{StaysInTurn, HasHandled}
 
 -- an event that can be handled at a moment
 pub record IsReady (log : Log) (moment : ℕ) (p : Pending) : Type 0 where
@@ -29,7 +31,8 @@ pub record IsCalled (Sound : State → List Named → Type 0) (now : Context) (r
   pub there : pending_at handled.number before.pending ≡ Some handled
   pub known : IsKnown before handled.number handled
   pub due : handled.due ≤ now.moment
-  pub now_is : now.log.state ≡ replay before (Handled handled.number now.moment ∷ renewal handled before.next now.moment)
+  pub now_is : now.log.state
+      ≡ replay before (Handled handled.number now.moment ∷ renewal handled before.next now.moment)
   pub event_is : handled.event ≡ event
   pub role_is : role_at handled.key.index now.roles ≡ Some role
   pub running : now.running ≡ Some handled.key
@@ -50,7 +53,8 @@ pub record IsAsked (Sound : State → List Named → Type 0) (now : Context) : T
   pub next : now.log.state.next ≡ before.next + 1
   pub live : now.log.state.live ≡ before.live
 
--- The entries of the event of a number that is handled, with those of its handler, which asked for these direct calls.
+-- The entries of the event of a number that is handled, with those of its handler, which asked for these direct
+-- calls.
 pub record IsRun (s : State) (moment number : ℕ) (asked : List ℕ) (run : List Entry) : Type 0 where
   pub event : Pending
   pub there : pending_at number s.pending ≡ Some event
@@ -59,6 +63,7 @@ pub record IsRun (s : State) (moment number : ℕ) (asked : List ℕ) (run : Lis
   pub are_calls : AreCalls moment asked own
   pub entries_are : run ≡ (Handled number moment ∷ renewal event s.next moment) ++ own
 
+-- what comes now where an event is there, or what comes later
 abbrev pub if_pending : Option Pending → ℕ × List ℕ → Option (ℕ × List ℕ) → Option (ℕ × List ℕ)
 if_pending (Some p) this later = Some this
 if_pending None this later = later
@@ -69,8 +74,8 @@ next_in ps [] = None
 next_in ps (n ∷ ns) = if_pending (pending_at n ps) (n, ns) (next_in ps ns)
 
 -- So many events are handled: first that of the number, and then the direct calls that these handlers asked for, in
--- the order asked for. `queue` are those that were asked for before, and `left` those that are left. Each handler leads
--- from one world to the next, and its calls are all that it asked for between the two.
+-- the order asked for. `queue` are those that were asked for before, and `left` those that are left. Each handler
+-- leads from one world to the next, and its calls are all that it asked for between the two.
 abbrev pub RunsFrom : {W : Type 0} → (W → W → List ℕ → Type 0) → W → W → State → ℕ → ℕ → List ℕ → ℕ → List Entry → List ℕ → Type 0
 RunsFrom {W} Called old new s moment number queue zero es left = ⊥
 RunsFrom {W} Called old new s moment number queue (suc zero) es left =
@@ -81,15 +86,41 @@ RunsFrom {W} Called old new s moment number queue (suc (suc k)) es left =
     × (next : ℕ) × (behind : List ℕ) × (next_in (replay s run).pending (queue ++ asked) ≡ Some (next, behind))
     × RunsFrom Called mid new (replay s run) moment next behind (suc k) rest left
 
--- From a context to another, so many events are handled, the first under the number. The direct calls that wait are
--- those that these handlers asked for and that were not handled.
-pub record Handles {W : Type 0} (Called : W → W → List ℕ → Type 0) (old_world new_world : W) (old new : Context) (number moment events : ℕ) : Type 0 where
+-- From a group to what it became, so many events were handled at a moment, the first under the number. The direct
+-- calls that wait are those that these handlers asked for and that were not handled.
+pub record Handles {W Q R T U : Type 0} (Called : W → W → List ℕ → Type 0) (old new : Group W Q R T U) (number moment events : ℕ) : Type 0 where
   pub some : 1 ≤ events
-  pub most : events ≤ 64
+  pub most : events ≤ MOST_EVENTS
   pub es : List Entry
-  pub by : Extends old.log new.log es
-  pub runs : RunsFrom Called old_world new_world old.log.state moment number [] events es new.calls
-  pub rise : new.log.state.handled_count ≡ old.log.state.handled_count + events
+  pub by : Extends old.cx.log new.cx.log es
+  pub runs : RunsFrom Called old.world new.world old.cx.log.state moment number [] events es new.cx.calls
+  pub turn : StaysInTurn old.cx.log.state new.cx.log.state
+  pub rise : new.cx.log.state.handled_count ≡ old.cx.log.state.handled_count + events
+  pub now : new.cx.moment ≡ moment
+  pub idle : new.cx.running ≡ None
+  pub news_from : new.cx.news_from ≡ old.cx.news_from
+
+-- One event was handled, under this number, and its handler, which led from one world to the other, has returned.
+pub record HasRun {W Q R T U : Type 0} (Called : W → W → List ℕ → Type 0) (old new : Group W Q R T U) (number : ℕ) : Type 0 where
+  pub asked : List ℕ
+  pub run : List Entry
+  pub is_run : IsRun old.cx.log.state old.cx.moment number asked run
+  pub by : Extends old.cx.log new.cx.log run
+  pub calls : new.cx.calls ≡ old.cx.calls ++ asked
+  pub called : Called old.world new.world asked
+  pub turn : StaysInTurn old.cx.log.state new.cx.log.state
+  pub moment : new.cx.moment ≡ old.cx.moment
+  pub idle : new.cx.running ≡ None
+  pub news_from : new.cx.news_from ≡ old.cx.news_from
+
+-- The group's own key was asked, and its world has answered: these are the entries of the question and those of the
+-- world's own calls.
+pub record TakesQuestion (old new : Context) (moment : ℕ) : Type 0 where
+  pub own : List Entry
+  pub all_own : AllOwn own
+  pub by : Extends old.log new.log (asking_entries old.log.state.next moment ++ own)
+  pub turn : StaysInTurn old.log.state new.log.state
   pub now : new.moment ≡ moment
   pub idle : new.running ≡ None
-  pub told : new.told ≡ old.told
+  pub role : new.role ≡ old.role
+  pub news_from : new.news_from ≡ old.news_from

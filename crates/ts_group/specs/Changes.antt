@@ -1,41 +1,27 @@
--- What the calls of a handler leave of the state, so that nobody above replays entries.
-use Rattle.std.specs.Prelude.{◌≡◌, ◌≢◌, ℕ, ◌+◌, ◌<◌, ◌≤◌, true, false, List, [], ◌∷◌, Some, None, length, Result, Err, IsOk, IfOk, OnErr}
+-- What changes from one state to another, so that nobody above replays entries.
+use Rattle.std.specs.Prelude.{◌≡◌, ◌≢◌, ℕ, ◌+◌, ◌<◌, ◌≤◌, true, false, List, [], Some, None, length}
 use Rattle.ts_journal.specs.declared.entry.ContKey.{ContKey}
 use Rattle.ts_journal.specs.declared.entry.Event.{Event}
 use Rattle.ts_journal.specs.declared.entry.Pending.{Pending}
-use Rattle.ts_journal.specs.declared.entry.Entry.TheVariants.{Set}
 use Rattle.ts_journal.specs.State.{State, pending_at, without, without_index, IsLive, same_key, others_of}
-use Rattle.ts_journal.specs.Log.{Extends}
-use Rattle.ts_group.specs.declared.action.Action.{Action}
 use Rattle.ts_group.specs.declared.action.Named.{Named}
-use Rattle.ts_group.specs.declared.action.SetFault.{SetFault}
-use Rattle.ts_group.specs.declared.action.SetFault.TheVariants.{Dead, Spent}
-use Rattle.ts_group.specs.Context.{Context, IsSame, AllPlain, role_at, without_role}
+use Rattle.ts_group.specs.Context.{AllCalls, AllPlain, role_at, without_role}
+
+-- the turn that is held is the same
+pub record StaysInTurn (old new : State) : Type 0 where
+  pub held : new.held ≡ true
+  pub turns : new.turns ≡ old.turns
+
+-- an event that begins a series, under a number
+abbrev pub first_event : ℕ → ContKey → Event → ℕ → ℕ → Pending
+first_event number key event due period =
+    record { number = number; key = key; event = event; due = due; series = number; period = period }
 
 -- what was pending stays, and at most one event is set
 pub record IsMore (old new : State) : Type 0 where
   pub stays : (n : ℕ) (p : Pending) → pending_at n old.pending ≡ Some p → pending_at n new.pending ≡ Some p
   pub next : new.next ≤ old.next + 1
   pub count : length new.pending ≤ length old.pending + 1
-
--- what a call that sets an event answers and leaves
-pub record Sets (old new : Context) (result : Result Action SetFault) (key : ContKey) (event : Event) (due period : ℕ) : Type 0 where
-  -- one entry, under the next number, which begins the series
-  pub ok : IfOk result (λ a. Extends old.log new.log (Set old.log.state.next key event due old.log.state.next period ∷ []) × (a.series ≡ old.log.state.next))
-  pub live : (result ≢ Err Dead) → IsLive old.log.state.live key
-  pub dead : result ≡ Err Dead → IsLive old.log.state.live key → ⊥
-  pub spent : result ≡ Err Spent → 18446744073709551615 ≤ old.log.state.next
-  pub unspent : IsOk result → old.log.state.next < 18446744073709551615
-  pub err : OnErr result (IsSame old new)
-  pub kept : (new.roles ≡ old.roles) × (new.moment ≡ old.moment) × (new.running ≡ old.running) × (new.role ≡ old.role) × (new.told ≡ old.told)
-  -- what a handler needs to know of the state
-  pub turn : new.log.state.held ≡ true
-  pub keys : new.log.state.live ≡ old.log.state.live
-  pub there : IfOk result (λ a. pending_at a.series new.log.state.pending ≡ Some (record { number = a.series; key = key; event = event; due = due; series = a.series; period = period }))
-  pub others : IfOk result (λ a. (n : ℕ) → n ≢ a.series → pending_at n new.log.state.pending ≡ pending_at n old.log.state.pending)
-  pub count : IfOk result (λ a. (new.log.state.next ≡ old.log.state.next + 1) × (length new.log.state.pending ≡ length old.log.state.pending + 1))
-  pub more : IsMore old.log.state new.log.state
-  pub plain : period ≡ 0 → AllPlain old.log.state.pending → AllPlain new.log.state.pending
 
 -- one event more is pending, under the next number
 pub record HasSet (old new : State) (event : Pending) : Type 0 where
@@ -44,6 +30,9 @@ pub record HasSet (old new : State) (event : Pending) : Type 0 where
   pub others : (n : ℕ) → n ≢ event.number → pending_at n new.pending ≡ pending_at n old.pending
   pub next : new.next ≡ old.next + 1
   pub count : length new.pending ≡ length old.pending + 1
+  pub more : IsMore old new
+  pub plain : event.period ≡ 0 → AllPlain old.pending → AllPlain new.pending
+  pub live : new.live ≡ old.live
 
 -- the same events are pending, and the same number is next
 pub record SameEvents (old new : State) : Type 0 where
@@ -66,8 +55,10 @@ pub record KeepsKeys (old new : State) (old_roles new_roles : List Named) : Type
 pub record HasLost (old new : State) (old_roles new_roles : List Named) (key : ContKey) : Type 0 where
   pub pending : new.pending ≡ others_of key old.pending
   pub next : new.next ≡ old.next
-  pub stays : (n : ℕ) (p : Pending) → pending_at n old.pending ≡ Some p → same_key p.key key ≡ false → pending_at n new.pending ≡ Some p
-  pub from : (n : ℕ) (p : Pending) → pending_at n new.pending ≡ Some p → (pending_at n old.pending ≡ Some p) × (same_key p.key key ≡ false)
+  pub stays : (n : ℕ) (p : Pending) → pending_at n old.pending ≡ Some p → same_key p.key key ≡ false
+      → pending_at n new.pending ≡ Some p
+  pub from : (n : ℕ) (p : Pending) → pending_at n new.pending ≡ Some p
+      → (pending_at n old.pending ≡ Some p) × (same_key p.key key ≡ false)
   pub live : new.live ≡ without_index key.index old.live
   pub roles : new_roles ≡ without_role key.index old_roles
   pub others : (i : ℕ) → i ≢ key.index → role_at i new_roles ≡ role_at i old_roles
@@ -91,17 +82,24 @@ pub record IsLess (old new : State) : Type 0 where
 -- an event was handled, and the next of its series set where it is periodic
 pub record HasHandled (before now : State) (handled : Pending) : Type 0 where
   pub gone : pending_at handled.number now.pending ≡ None
-  pub from : (n : ℕ) (p : Pending) → n < before.next → pending_at n now.pending ≡ Some p → pending_at n before.pending ≡ Some p
-  pub stays : (n : ℕ) (p : Pending) → n ≢ handled.number → pending_at n before.pending ≡ Some p → pending_at n now.pending ≡ Some p
+  pub from : (n : ℕ) (p : Pending) → n < before.next → pending_at n now.pending ≡ Some p
+      → pending_at n before.pending ≡ Some p
+  pub stays : (n : ℕ) (p : Pending) → n ≢ handled.number → pending_at n before.pending ≡ Some p
+      → pending_at n now.pending ≡ Some p
   -- of a plain event
-  pub others : handled.period ≡ 0 → (n : ℕ) → n ≢ handled.number → pending_at n now.pending ≡ pending_at n before.pending
+  pub others : handled.period ≡ 0 →
+      (n : ℕ) → n ≢ handled.number → pending_at n now.pending ≡ pending_at n before.pending
   pub pending : handled.period ≡ 0 → now.pending ≡ without handled.number before.pending
   pub count : handled.period ≡ 0 → length now.pending + 1 ≡ length before.pending
   pub next : handled.period ≡ 0 → now.next ≡ before.next
   -- where every event is plain
   pub plain : AllPlain before.pending → AllPlain now.pending
   pub fewer : AllPlain before.pending → length now.pending + 1 ≡ length before.pending
-  -- of any
+  -- of any event
   pub next_most : now.next ≤ before.next + 1
   pub count_most : length now.pending ≤ length before.pending
   pub live : now.live ≡ before.live
+
+-- each direct call that waits stays one
+pub record CallsStay (old new : State) : Type 0 where
+  pub stay : (moment : ℕ) (ns : List ℕ) → AllCalls old moment ns → AllCalls new moment ns

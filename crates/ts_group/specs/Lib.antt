@@ -1,9 +1,9 @@
+-- The definitions that the contracts of a group cite.
 pub mod Context
-pub mod Changes
-pub mod Calls
-pub mod Own
 pub mod Entries
+pub mod Changes
+pub mod Acts
+pub mod Calls
 pub mod Due
-pub mod Sooner
 pub mod Answers
 pub mod Slot

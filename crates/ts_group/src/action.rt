@@ -1,4 +1,4 @@
-//! What the calls of a handler answer.
+//! What the calls of a handler on continuations answer.
 
 use thiserror::Error;
 use ts_journal::ContKey;

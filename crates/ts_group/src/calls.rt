@@ -1,21 +1,17 @@
 //! The direct calls that handlers ask for.
 
-ghost use Rattle.std.specs.Prelude.{◌≡◌, ◌≢◌, ℕ, ◌+◌, ◌<◌, ◌≤◌, true, [], ◌∷◌, ◌++◌, None, Some, Err, IfSome, IsOk, IfOk, OnErr, drop, length};
-ghost use Rattle.ts_journal.specs.declared.entry.Entry.TheVariants as Entry;
-ghost use Rattle.ts_journal.specs.State.{IsLive, pending_at};
-ghost use Rattle.ts_journal.specs.Log.{Extends, IsSameLog};
-ghost use Rattle.ts_group.specs.declared.action.SetFault.TheVariants as SetFault;
-ghost use Rattle.ts_group.specs.Context.{AllCalls, AllPlain, needed};
+ghost use Rattle.std.specs.Prelude.{◌≡◌, ℕ, ◌+◌, ◌<◌, ◌≤◌, true, None, Some, IfSome, drop, length};
+ghost use Rattle.ts_group.specs.Context.{AllCalls, HasNeeded};
+ghost use Rattle.ts_group.specs.Entries.{GrowsCalls};
+ghost use Rattle.ts_group.specs.Acts.{Sets, Queues};
 ghost use Rattle.ts_group.specs.Calls.{IsReady, next_in};
-ghost use Rattle.ts_group.specs.Entries.{GoesOn};
-ghost use Rattle.ts_group.specs.Changes.{IsMore};
 
 use crate::action::{Action, SetFault};
 use crate::events::set_event;
 use ts_journal::{ContKey, Event, Journal, Pending};
 
 /// Sets a direct call, which waits behind the others.
-#[tactic(auto, using(crate::proofs::Grows::waits_call, crate::proofs::Grows::waits_same, crate::proofs::Grows::goes_call, crate::proofs::Grows::goes_same, crate::proofs::Facts::stay_same, crate::proofs::Facts::more_none))]
+#[tactic(auto, using(crate::proofs::Grows::call_steps))]
 pub fn call_event(
     journal: &mut Journal,
     calls: &mut Vec<u64>,
@@ -24,25 +20,16 @@ pub fn call_event(
     moment: u64,
 ) -> Result<Action, SetFault>
     requires turn { journal.old.state.held ≡ true }
-    requires room { needed journal.old.state ≤ journal.old.room }
-    ensures set { IfOk result (λ a. Extends journal.old journal.new (Entry.Set journal.old.state.next key event moment journal.old.state.next 0 ∷ []) × (a.series ≡ journal.old.state.next)) }
-    ensures calls { IfOk result (λ a. calls.new.items ≡ calls.old.items ++ a.series ∷ []) }
-    ensures room { needed journal.new.state ≤ journal.new.room }
-    ensures keys { journal.new.state.live ≡ journal.old.state.live }
-    ensures turn { journal.new.state.held ≡ true }
-    ensures there { IfOk result (λ a. pending_at a.series journal.new.state.pending ≡ Some (record { number = a.series; key = key; event = event; due = moment; series = a.series; period = 0 })) }
-    ensures others { IfOk result (λ a. (n : ℕ) → n ≢ a.series → pending_at n journal.new.state.pending ≡ pending_at n journal.old.state.pending) }
-    ensures count { IfOk result (λ a. (journal.new.state.next ≡ journal.old.state.next + 1) × (length journal.new.state.pending ≡ length journal.old.state.pending + 1)) }
-    ensures more { IsMore journal.old.state journal.new.state }
-    ensures plain { AllPlain journal.old.state.pending → AllPlain journal.new.state.pending }
-    ensures live { (result ≢ Err SetFault.Dead) → IsLive journal.old.state.live key }
-    ensures dead { result ≡ Err SetFault.Dead → IsLive journal.old.state.live key → ⊥ }
-    ensures spent { result ≡ Err SetFault.Spent → 18446744073709551615 ≤ journal.old.state.next }
-    ensures unspent { IsOk result → journal.old.state.next < 18446744073709551615 }
-    ensures err { OnErr result (IsSameLog journal.old journal.new × (calls.new.items ≡ calls.old.items)) }
-    ensures waits { (k : ℕ) → k ≤ length calls.old.items → AllCalls journal.old.state moment (drop k calls.old.items) → AllCalls journal.new.state moment (drop k calls.new.items) }
+    requires room { HasNeeded journal.old }
+    ensures sets { Sets journal.old journal.new result key event moment 0 }
+    ensures room { HasNeeded journal.new }
+    ensures calls { Queues result calls.old.items calls.new.items }
     ensures longer { length calls.old.items ≤ length calls.new.items }
-    ensures grows { (k : ℕ) → k ≤ length calls.old.items → GoesOn journal.old journal.new moment (drop k calls.old.items) (drop k calls.new.items) }
+    ensures waits { (k : ℕ) → k ≤ length calls.old.items →
+        AllCalls journal.old.state moment (drop k calls.old.items)
+        → AllCalls journal.new.state moment (drop k calls.new.items) }
+    ensures grows { (k : ℕ) → k ≤ length calls.old.items →
+        GrowsCalls journal.old journal.new moment (drop k calls.old.items) (drop k calls.new.items) }
 {
     if !journal.is_live(key) {
         return Err(SetFault::Dead);
@@ -69,7 +56,9 @@ pub fn first_call(
     requires calls { AllCalls journal.now.state moment (drop from calls.now) }
     requires place { from ≤ length calls.now }
     ensures place { IfSome result (λ r. r.0 < length calls.now) }
-    ensures found { IfSome result (λ r. next_in journal.now.state.pending (drop from calls.now) ≡ Some (r.1.number, drop (r.0 + 1) calls.now)) }
+    ensures found { IfSome result (λ r.
+        next_in journal.now.state.pending (drop from calls.now)
+        ≡ Some (r.1.number, drop (r.0 + 1) calls.now)) }
     ensures ready { IfSome result (λ r. IsReady journal.now moment r.1) }
     ensures rest { IfSome result (λ r. AllCalls journal.now.state moment (drop (r.0 + 1) calls.now)) }
     ensures none { result ≡ None → next_in journal.now.state.pending (drop from calls.now) ≡ None }

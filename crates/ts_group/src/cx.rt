@@ -1,28 +1,22 @@
-//! The continuations of a group, and the calls that a handler makes of them.
+//! The continuations of a group, and the calls that a handler makes on them.
 
-ghost use Rattle.std.specs.Prelude.{◌≡◌, ◌≢◌, ◌↔◌, ℕ, ◌+◌, ◌<◌, ◌≤◌, ◌==◌, true, false, List, [], ◌∷◌, ◌++◌, Some, None, IfSome, Err, IsTrue, IfOk, OnOk, OnErr, length, if◌then◌else◌};
+ghost use Rattle.std.specs.Prelude.{◌≡◌, ◌≢◌, ◌↔◌, ◌+◌, ◌<◌, ◌==◌, true, false, [], Some, None, IfSome, IsTrue, IfOk, OnOk, OnErr, if◌then◌else◌};
 ghost use Rattle.ts_journal.specs.declared.entry.Event.TheVariants as Event;
-ghost use Rattle.ts_journal.specs.declared.entry.Entry.TheVariants as Entry;
-ghost use Rattle.ts_journal.specs.State.{IsLive, fresh_with, pending_at, numbers_of, number_in};
-ghost use Rattle.ts_journal.specs.Machine.{IsKnown, after};
-ghost use Rattle.ts_journal.specs.Log.{Extends};
-ghost use Rattle.ts_group.specs.declared.action.MakeFault.TheVariants as MakeFault;
-ghost use Rattle.ts_group.specs.declared.action.Destroy.TheVariants as Destroy;
-ghost use Rattle.ts_group.specs.declared.action.Cancel.TheVariants as Cancel;
-ghost use Rattle.ts_group.specs.Context.{Context, IsOrderly, IsSame, CanUse, needed, role_at, without_role, own_key, moment_after};
-ghost use Rattle.ts_group.specs.Entries.{Grows, renewal, drops, asking_entries};
-ghost use Rattle.ts_group.specs.Changes.{Sets, HasClosed, HasLost, HasMade, KeepsKeys, SameEvents, IsLess, HasHandled};
+ghost use Rattle.ts_journal.specs.State.{pending_at, number_in};
+ghost use Rattle.ts_journal.specs.Machine.{IsKnown};
+ghost use Rattle.ts_group.specs.Context.{IsFresh, IsOrderly, IsSame, HasSpare, own_key, role_at, moment_after};
+ghost use Rattle.ts_group.specs.Entries.{Grows, CanBeAsked};
+ghost use Rattle.ts_group.specs.Acts.{Sets, Queues, Cancels, Makes, Destroys, BeginsTurn, GivesTurn, KeepsRoles, RunsNow, AsksOwn, EntersEvent, EntersQuestion};
 ghost use Rattle.ts_group.specs.Calls.{IsReady, next_in};
 ghost use Rattle.ts_group.specs.Due.{IsFirstDue, IsNews, NoNews};
 
 use crate::action::{Action, Cancel, Destroy, MakeFault, Named, SetFault};
 use crate::calls::{call_event, first_call};
 use crate::due::{first_due, first_news};
-use crate::events::{
-    OWN_KEY, ask_own, cancel_series, handle_event, is_series_done, set_event, spare,
-};
-use crate::keys::{destroy_key, make_key, role_of};
-use crate::turns::{end_turn, take_turn};
+use crate::events::{cancel_series, enter_event, enter_question, is_series_done, set_event};
+use crate::keys::{OWN_KEY, destroy_key, make_key, role_of};
+use crate::reserve::spare;
+use crate::turns::{begin_turn, give_turn};
 use std::alloc::Global;
 use std::marker::Model;
 use ts_journal::{ContKey, Event, Journal, Pending};
@@ -36,7 +30,7 @@ pub struct Cx {
     moment: u64,
     running: Option<ContKey>,
     role: u32,
-    told: u64,
+    news_from: u64,
     calls: Vec<u64>,
     first_call: usize,
 }
@@ -49,9 +43,19 @@ impl Model for Cx {
 
     ghost use Rattle.ts_group.specs.Context.{IsKept, AllCalls};
 
-    ghost view = { λ c. record { log = c.journal; roles = c.roles.items; moment = c.moment; running = c.running; role = c.role; told = c.told; calls = drop c.first_call c.calls.items } };
+    ghost view = { λ c. record {
+      log = c.journal;
+      roles = c.roles.items;
+      moment = c.moment;
+      running = c.running;
+      role = c.role;
+      news_from = c.news_from;
+      calls = drop c.first_call c.calls.items;
+    } };
 
-    ghost invariant = { λ c. IsKept c.journal c.roles.items × AllCalls c.journal.state c.moment (drop c.first_call c.calls.items) × (c.first_call ≤ length c.calls.items) };
+    ghost invariant = { λ c. IsKept c.journal c.roles.items
+        × AllCalls c.journal.state c.moment (drop c.first_call c.calls.items)
+        × (c.first_call ≤ length c.calls.items) };
 }
 
 impl Cx {
@@ -76,16 +80,8 @@ impl Cx {
     /// Makes a continuation of a role, under the least index that is neither live nor used up.
     pub fn make(&mut self, role: u32) -> Result<ContKey, MakeFault>
         requires turn { self.old.log.state.held ≡ true }
-        ensures made { IfOk result (λ key. Extends self.old.log self.new.log (Entry.Made key ∷ []) × (self.new.roles ≡ self.old.roles ++ record { key = key; role = role } ∷ [])) }
-        ensures kept { (self.new.moment ≡ self.old.moment) × (self.new.running ≡ self.old.running) × (self.new.calls ≡ self.old.calls) × (self.new.role ≡ self.old.role) × (self.new.told ≡ self.old.told) }
-        ensures turn { self.new.log.state.held ≡ true }
-        ensures live { IfOk result (IsLive self.new.log.state.live) }
-        ensures least { IfOk result (λ key. (i : ℕ) → i < key.index → CanUse self.old.log.state i → ⊥) }
-        ensures full { result ≡ Err MakeFault.TableFull → (i : ℕ) → i < 1024 → CanUse self.old.log.state i → ⊥ }
-        ensures err { OnErr result (IsSame self.old self.new) }
-        ensures key { IfOk result (λ key. HasMade self.old.log.state self.new.log.state self.old.roles self.new.roles key role) }
-        ensures keys { KeepsKeys self.old.log.state self.new.log.state self.old.roles self.new.roles }
-        ensures events { SameEvents self.old.log.state self.new.log.state }
+        ensures makes { Makes self.old.log self.new.log self.old.roles self.new.roles result role }
+        ensures calls { self.new.calls ≡ self.old.calls }
         ensures grows { Grows self.old self.new }
     {
         make_key(&mut self.journal, &mut self.roles, role)
@@ -95,13 +91,8 @@ impl Cx {
     /// own continuation. It takes no memory.
     pub fn destroy(&mut self, key: ContKey) -> Destroy
         requires turn { self.old.log.state.held ≡ true }
-        ensures gone { result ≡ Destroy.Gone → Extends self.old.log self.new.log (drops (numbers_of key self.old.log.state.pending) ++ Entry.Destroyed key ∷ []) × (self.new.roles ≡ without_role key.index self.old.roles) }
-        ensures turn { self.new.log.state.held ≡ true }
-        ensures live { result ≡ Destroy.Gone → IsLive self.old.log.state.live key }
-        ensures dead { result ≡ Destroy.Dead → (IsLive self.old.log.state.live key → ⊥) × IsSame self.old self.new }
-        ensures lost { result ≡ Destroy.Gone → HasLost self.old.log.state self.new.log.state self.old.roles self.new.roles key }
-        ensures less { IsLess self.old.log.state self.new.log.state }
-        ensures kept { (self.new.moment ≡ self.old.moment) × (self.new.running ≡ self.old.running) × (self.new.calls ≡ self.old.calls) × (self.new.role ≡ self.old.role) × (self.new.told ≡ self.old.told) }
+        ensures destroys { Destroys self.old.log self.new.log self.old.roles self.new.roles result key }
+        ensures calls { self.new.calls ≡ self.old.calls }
         ensures grows { Grows self.old self.new }
     {
         destroy_key(&mut self.journal, &mut self.roles, key)
@@ -110,7 +101,9 @@ impl Cx {
     /// Sets an event that is due so many milliseconds later: `Immediate` if that is none, else `Timeout`.
     pub fn schedule(&mut self, key: ContKey, after: u64) -> Result<Action, SetFault>
         requires turn { self.old.log.state.held ≡ true }
-        ensures sets { Sets self.old self.new result key (if after == 0 then Event.Immediate else Event.Timeout) (moment_after self.old.moment after) 0 }
+        ensures sets { Sets self.old.log self.new.log result key
+            (if after == 0 then Event.Immediate else Event.Timeout) (moment_after self.old.moment after) 0 }
+        ensures roles { self.new.roles ≡ self.old.roles }
         ensures calls { self.new.calls ≡ self.old.calls }
         ensures grows { Grows self.old self.new }
     {
@@ -128,7 +121,9 @@ impl Cx {
     pub fn every(&mut self, key: ContKey, period: u64) -> Result<Action, SetFault>
         requires turn { self.old.log.state.held ≡ true }
         requires period { 0 < period }
-        ensures sets { Sets self.old self.new result key Event.Timeout (moment_after self.old.moment period) period }
+        ensures sets { Sets self.old.log self.new.log result key
+            Event.Timeout (moment_after self.old.moment period) period }
+        ensures roles { self.new.roles ≡ self.old.roles }
         ensures calls { self.new.calls ≡ self.old.calls }
         ensures grows { Grows self.old self.new }
     {
@@ -140,9 +135,9 @@ impl Cx {
     /// it before it returns, after the handler and in the order asked for, unless 64 events were handled then.
     pub fn call(&mut self, key: ContKey, event: Event) -> Result<Action, SetFault>
         requires turn { self.old.log.state.held ≡ true }
-        ensures sets { Sets self.old self.new result key event self.old.moment 0 }
-        ensures calls { IfOk result (λ a. self.new.calls ≡ self.old.calls ++ a.series ∷ []) }
-        ensures err_calls { OnErr result (self.new.calls ≡ self.old.calls) }
+        ensures sets { Sets self.old.log self.new.log result key event self.old.moment 0 }
+        ensures roles { self.new.roles ≡ self.old.roles }
+        ensures calls { Queues result self.old.calls self.new.calls }
         ensures grows { Grows self.old self.new }
     {
         call_event(&mut self.journal, &mut self.calls, key, event, self.moment)
@@ -151,11 +146,9 @@ impl Cx {
     /// Cancels the pending event of an action's series. It takes no memory.
     pub fn cancel(&mut self, action: Action) -> Cancel
         requires turn { self.old.log.state.held ≡ true }
-        ensures cancelled { result ≡ Cancel.Cancelled → (n : ℕ) × (number_in action.series self.old.log.state.pending ≡ Some n) × Extends self.old.log self.new.log (Entry.Cancelled n ∷ []) × HasClosed self.old.log.state self.new.log.state n }
-        ensures less { IsLess self.old.log.state self.new.log.state }
-        ensures turn { self.new.log.state.held ≡ true }
-        ensures done { result ≡ Cancel.Done → (number_in action.series self.old.log.state.pending ≡ None) × IsSame self.old self.new }
-        ensures kept { (self.new.roles ≡ self.old.roles) × (self.new.moment ≡ self.old.moment) × (self.new.running ≡ self.old.running) × (self.new.calls ≡ self.old.calls) × (self.new.role ≡ self.old.role) × (self.new.told ≡ self.old.told) }
+        ensures cancels { Cancels self.old.log self.new.log result action.series }
+        ensures roles { self.new.roles ≡ self.old.roles }
+        ensures calls { self.new.calls ≡ self.old.calls }
         ensures grows { Grows self.old self.new }
     {
         cancel_series(&mut self.journal, action.series)
@@ -179,7 +172,8 @@ impl Cx {
     // Sets an event.
     fn set(&mut self, key: ContKey, event: Event, due: u64, period: u64) -> Result<Action, SetFault>
         requires turn { self.old.log.state.held ≡ true }
-        ensures sets { Sets self.old self.new result key event due period }
+        ensures sets { Sets self.old.log self.new.log result key event due period }
+        ensures roles { self.new.roles ≡ self.old.roles }
         ensures calls { self.new.calls ≡ self.old.calls }
         ensures grows { Grows self.old self.new }
     {
@@ -187,12 +181,11 @@ impl Cx {
     }
 }
 
-// What the group makes of them.
+// What a group does with its continuations.
 impl Cx {
-    // Those of a group that is made, with its own key alone.
+    // The continuations of a group that is made: its own alone.
     pub(crate) fn make_new(alloc: Global, turns: u64) -> Result<Cx, NoMemory>
-        ensures log { IfOk result (λ c. (c.log.base ≡ fresh_with turns own_key) × (c.log.entries ≡ []) × (c.log.state ≡ fresh_with turns own_key)) }
-        ensures roles { IfOk result (λ c. (c.roles ≡ record { key = own_key; role = 0 } ∷ []) × (c.running ≡ None) × (c.told ≡ 0) × (c.calls ≡ [])) }
+        ensures { IfOk result (IsFresh turns) }
     {
         let Ok(mut journal) = Journal::with_key(alloc, turns, OWN_KEY) else {
             return Err(NoMemory);
@@ -213,7 +206,7 @@ impl Cx {
             moment: 0,
             running: None,
             role: 0,
-            told: 0,
+            news_from: 0,
             calls: Vec::new(alloc),
             first_call: 0,
         })
@@ -234,7 +227,7 @@ impl Cx {
             moment: _,
             running: _,
             role: _,
-            told: _,
+            news_from: _,
             calls: _,
             first_call: _,
         } = self;
@@ -245,11 +238,11 @@ impl Cx {
     pub(crate) fn begin_turn(&mut self, turn: u64, seat: u64, moment: u64) -> Result<(), NoMemory>
         requires idle { self.old.log.state.held ≡ false }
         requires later { self.old.log.state.turns < turn }
-        ensures ok { OnOk result (Extends self.old.log self.new.log (Entry.Took turn seat ∷ []) × (self.new.log.state ≡ after self.old.log.state (Entry.Took turn seat)) × (self.new.moment ≡ moment) × (self.new.calls ≡ [])) }
-        ensures kept { (self.new.roles ≡ self.old.roles) × (self.new.running ≡ self.old.running) × (self.new.role ≡ self.old.role) × (self.new.told ≡ self.old.told) }
+        ensures begins { OnOk result (BeginsTurn self.old self.new turn seat moment) }
+        ensures kept { KeepsRoles self.old self.new }
         ensures err { OnErr result (IsSame self.old self.new) }
     {
-        if let Err(_) = take_turn(&mut self.journal, turn, seat) {
+        if let Err(_) = begin_turn(&mut self.journal, turn, seat) {
             return Err(NoMemory);
         }
         self.calls.clear();
@@ -261,17 +254,16 @@ impl Cx {
     // Gives the turn back.
     pub(crate) fn give_turn(&mut self)
         requires turn { self.old.log.state.held ≡ true }
-        ensures given { Extends self.old.log self.new.log (Entry.Gave self.old.log.state.turns ∷ []) }
-        ensures state { self.new.log.state ≡ after self.old.log.state (Entry.Gave self.old.log.state.turns) }
-        ensures kept { (self.new.roles ≡ self.old.roles) × (self.new.moment ≡ self.old.moment) × (self.new.running ≡ self.old.running) × (self.new.calls ≡ self.old.calls) × (self.new.role ≡ self.old.role) × (self.new.told ≡ self.old.told) }
+        ensures gives { GivesTurn self.old self.new }
+        ensures kept { KeepsRoles self.old self.new }
     {
-        end_turn(&mut self.journal);
+        give_turn(&mut self.journal);
     }
 
     // Makes room for the next event of a series.
     pub(crate) fn spare_renewal(&mut self) -> Result<(), NoMemory>
         ensures same { IsSame self.old self.new }
-        ensures ok { OnOk result ((needed self.new.log.state + 2 ≤ self.new.log.room) × (1 ≤ self.new.log.set_room)) }
+        ensures ok { OnOk result (HasSpare self.new.log 2) }
     {
         spare(&mut self.journal, 2)
     }
@@ -292,46 +284,40 @@ impl Cx {
         first_due(&self.journal)
     }
 
-    // The first pending event that was not told yet.
+    // The first pending event that is news. It is no news from then on.
     pub(crate) fn next_news(&mut self) -> Option<Pending>
-        ensures news { IfSome result (λ p. IsNews self.old.told self.old.log.state p × (self.new.told ≡ p.number + 1)) }
-        ensures none { result ≡ None → NoNews self.old.told self.old.log.state × (self.new.told ≡ self.old.told) }
-        ensures same { IsSame (record self.old { told = self.new.told }) self.new }
+        ensures news { IfSome result (IsNews self.old.news_from self.old.log.state) }
+        ensures told { IfSome result (λ p. self.new.news_from ≡ p.number + 1) }
+        ensures none { result ≡ None → NoNews self.old.news_from self.old.log.state }
+        ensures still { result ≡ None → self.new.news_from ≡ self.old.news_from }
+        ensures same { IsSame (record self.old { news_from = self.new.news_from }) self.new }
     {
-        let news = first_news(&self.journal, self.told);
+        let news = first_news(&self.journal, self.news_from);
         if let Some(event) = news {
-            self.told = event.number + 1;
+            self.news_from = event.number + 1;
         }
         news
     }
 
     // Enters that an event is handled, and answers the role of its handler, which runs from then on.
     #[tactic(auto, using(crate::proofs::Roles::has_role))]
-    pub(crate) fn enter(&mut self, event: Pending, moment: u64) -> u32
+    pub(crate) fn enter_event(&mut self, event: Pending) -> u32
         requires turn { self.old.log.state.held ≡ true }
-        requires now { moment ≡ self.old.moment }
-        requires ready { IsReady self.old.log moment event }
-        ensures log { Extends self.old.log self.new.log (Entry.Handled event.number moment ∷ renewal event self.old.log.state.next moment) }
-        ensures held { self.new.log.state.held ≡ true }
-        ensures turns { self.new.log.state.turns ≡ self.old.log.state.turns }
-        ensures kept { (self.new.roles ≡ self.old.roles) × (self.new.calls ≡ self.old.calls) × (self.new.told ≡ self.old.told) }
-        ensures moment { self.new.moment ≡ moment }
-        ensures running { self.new.running ≡ Some event.key }
-        ensures asker { self.new.role ≡ result }
+        requires ready { IsReady self.old.log self.old.moment event }
+        ensures enters { EntersEvent self.old.log self.new.log event self.old.moment }
         ensures role { role_at event.key.index self.old.roles ≡ Some result }
-        ensures has { HasHandled self.old.log.state self.new.log.state event }
-        ensures rose { self.old.log.state.next ≤ self.new.log.state.next }
+        ensures runs { RunsNow self.old self.new event.key result }
     {
         let Some(role) = role_of(&self.roles, event.key.index) else {
             unreachable!()
         };
-        handle_event(&mut self.journal, event, moment);
+        enter_event(&mut self.journal, event, self.moment);
         self.running = Some(event.key);
         self.role = role;
         role
     }
 
-    // The handler has returned.
+    // No handler runs any more.
     pub(crate) fn leave(&mut self)
         ensures { self.new ≡ record self.old { running = None } }
     {
@@ -346,19 +332,13 @@ impl Cx {
     }
 
     // Enters that the group's own key is asked, whose handler runs from then on.
-    pub(crate) fn enter_ask(&mut self, moment: u64) -> Result<(), NoMemory>
-        requires turn { self.old.log.state.held ≡ true }
-        requires live { IsLive self.old.log.state.live own_key }
-        requires unspent { self.old.log.state.next < 18446744073709551615 }
-        ensures ok { OnOk result (Extends self.old.log self.new.log (asking_entries self.old.log.state.next moment) × (self.new.moment ≡ moment) × (self.new.running ≡ Some own_key) × (self.new.calls ≡ [])) }
-        ensures pending { self.new.log.state.pending ≡ self.old.log.state.pending }
-        ensures turns { (self.new.log.state.turns ≡ self.old.log.state.turns) × (self.new.log.state.held ≡ true) }
-        ensures next { OnOk result (self.new.log.state.next ≡ self.old.log.state.next + 1) }
-        ensures live { self.new.log.state.live ≡ self.old.log.state.live }
-        ensures kept { (self.new.roles ≡ self.old.roles) × (self.new.told ≡ self.old.told) × (self.new.role ≡ self.old.role) }
+    pub(crate) fn enter_question(&mut self, moment: u64) -> Result<(), NoMemory>
+        requires can { CanBeAsked self.old.log.state }
+        ensures ok { OnOk result (EntersQuestion self.old.log self.new.log moment) }
+        ensures runs { OnOk result (AsksOwn self.old self.new moment) }
         ensures err { OnErr result (IsSame self.old self.new) }
     {
-        if let Err(_) = ask_own(&mut self.journal, moment) {
+        if let Err(_) = enter_question(&mut self.journal, moment) {
             return Err(NoMemory);
         }
         self.calls.clear();
@@ -370,8 +350,11 @@ impl Cx {
 
     // The first direct call that waits and is pending, which is handled next. It and those before it wait no more.
     pub(crate) fn next_call(&mut self) -> Option<Pending>
-        ensures found { IfSome result (λ p. (next_in self.old.log.state.pending self.old.calls ≡ Some (p.number, self.new.calls)) × IsReady self.new.log self.new.moment p) }
-        ensures none { result ≡ None → (next_in self.old.log.state.pending self.old.calls ≡ None) × (self.new.calls ≡ self.old.calls) }
+        ensures found { IfSome result (λ p.
+            next_in self.old.log.state.pending self.old.calls ≡ Some (p.number, self.new.calls)) }
+        ensures ready { IfSome result (IsReady self.new.log self.new.moment) }
+        ensures none { result ≡ None → next_in self.old.log.state.pending self.old.calls ≡ None }
+        ensures still { result ≡ None → self.new.calls ≡ self.old.calls }
         ensures same { IsSame (record self.old { calls = self.new.calls }) self.new }
     {
         let Some((place, event)) = first_call(

@@ -1,10 +1,9 @@
-//! Which pending event comes first, and which is news.
+//! Which pending event of a journal comes first, and which is news.
 
 ghost use Rattle.std.specs.Prelude.{◌≡◌, ◌<◌, ◌≤◌, [], None, Some, IfSome};
-ghost use Rattle.ts_group.specs.Due.{IsFirstDue, IsNews, NoNews};
-ghost use Rattle.ts_group.specs.Sooner.{sooner};
+ghost use Rattle.ts_group.specs.Due.{IsFirstDue, IsNews, NoNews, sooner};
 
-use ts_journal::{Journal, Pending};
+use ts_journal::{GREATEST, Journal, Pending};
 
 /// The event that is due first, with the least number of those that are due then.
 #[tactic(auto, using(crate::proofs::First::soonest_more))]
@@ -30,15 +29,16 @@ fn sooner(first: Option<Pending>, event: Pending) -> Pending
     }
 }
 
-/// The event with the least number that is not below the bound.
+/// The pending event with the least number that is not below the bound.
 #[tactic(auto, using(crate::proofs::First::from_past, crate::proofs::First::from_here))]
-pub fn first_news(journal: &Journal, told: u64) -> Option<Pending>
-    ensures none { result ≡ None → NoNews told journal.now.state }
-    ensures news { IfSome result (λ p. IsNews told journal.now.state p × (p.number < 18446744073709551615)) }
+pub fn first_news(journal: &Journal, from: u64) -> Option<Pending>
+    ensures none { result ≡ None → NoNews from journal.now.state }
+    ensures news { IfSome result (λ p. IsNews from journal.now.state p) }
+    ensures below { IfSome result (λ p. p.number < GREATEST) }
 {
     journal.known();
     for event in journal.pending() {
-        if event.number >= told {
+        if event.number >= from {
             return Some(*event);
         }
     }

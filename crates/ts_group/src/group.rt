@@ -1,27 +1,22 @@
-//! A world with its continuations: turns, and the calls of handlers.
+//! A group, that is a world with its continuations: its turns, and the calls of its handlers.
 
-ghost use Rattle.std.specs.Prelude.{◌≡◌, ◌≢◌, ℕ, ◌+◌, ◌<◌, ◌≤◌, true, false, List, [], ◌∷◌, ◌++◌, Some, None, IfSome, IfOk, OnOk, OnErr, IfErr};
-ghost use Rattle.ts_journal.specs.declared.entry.Pending.{Pending as Event};
-ghost use Rattle.ts_journal.specs.declared.entry.Entry.TheVariants as Entry;
-ghost use Rattle.ts_journal.specs.declared.entry.Entry.{Entry as Entries};
-ghost use Rattle.ts_journal.specs.State.{IsLive, fresh_with, pending_at};
-ghost use Rattle.ts_journal.specs.Machine.{after};
-ghost use Rattle.ts_journal.specs.Log.{Extends};
-ghost use Rattle.ts_group.specs.Context.{IsSame, own_key};
-ghost use Rattle.ts_group.specs.Entries.{Grows, AllOwn, asking_entries};
-ghost use Rattle.ts_group.specs.Calls.{IsReady, Handles, next_in};
-ghost use Rattle.ts_group.specs.Due.{IsFirstDue, IsNews, NoNews};
-ghost use Rattle.ts_group.specs.Own.{HasRun};
-ghost use Rattle.ts_group.specs.Answers.{IfNothing, IfAsks, IsTold, HandleGives, HandleKeeps, IfOther, ForEvents, Falls, TellFalls, SameReplies, SameGroups, KeepsTags, SetsAtMost};
+ghost use Rattle.std.specs.Prelude.{◌≡◌, ◌*◌, ◌+◌, ◌<◌, true, false, [], None, IfSome, IfOk, OnOk, OnErr, IfErr};
+ghost use Rattle.ts_group.specs.Context.{IsFresh, IsSame};
+ghost use Rattle.ts_group.specs.Entries.{Grows, CanBeAsked};
+ghost use Rattle.ts_group.specs.Changes.{StaysInTurn};
+ghost use Rattle.ts_group.specs.Acts.{BeginsTurn, GivesTurn, KeepsRoles};
+ghost use Rattle.ts_group.specs.Calls.{IsReady, HasRun};
+ghost use Rattle.ts_group.specs.Due.{IsDueFirst, IsFirstNews, NoNews};
+ghost use Rattle.ts_group.specs.Answers.{Holds, AwaitsReply, MayAwait, MatchWant, MatchHandling, IfEvents, IsAnswered, IsSameGroup, HandleGives, LacksRenewal, HasReplied, LeavesLess, TellFalls, KeepsPromises, SetsAtMost, SetsQuestion};
 
 use crate::cx::Cx;
-use crate::world::{Asked, Handling, Want, World};
+use crate::world::{Asked, Handling, MOST_SET, Want, World};
 use std::alloc::Global;
 use ts_journal::{Journal, Pending};
 use ts_link::NoMemory;
 
 /// How many events one turn handles at most.
-const MOST_EVENTS: u32 = 64;
+pub const MOST_EVENTS: u32 = 64;
 
 /// The continuations of one mutex with their data.
 #[derive(Drop)]
@@ -34,8 +29,7 @@ impl<W: World + Drop> Group<W> {
     /// A group of a world that has its own continuation alone, with the role 0. It has made so many turns elsewhere.
     pub fn make(alloc: Global, world: W, turns: u64) -> Result<Group<W>, NoMemory>
         ensures world { IfOk result (λ g. g.world ≡ world) }
-        ensures log { IfOk result (λ g. (g.cx.log.base ≡ fresh_with turns own_key) × (g.cx.log.entries ≡ []) × (g.cx.log.state ≡ fresh_with turns own_key)) }
-        ensures roles { IfOk result (λ g. (g.cx.roles ≡ record { key = own_key; role = 0 } ∷ []) × (g.cx.running ≡ None) × (g.cx.told ≡ 0) × (g.cx.calls ≡ [])) }
+        ensures fresh { IfOk result (λ g. IsFresh turns g.cx) }
     {
         match Cx::make_new(alloc, turns) {
             Ok(cx) => Ok(Group { world, cx }),
@@ -47,9 +41,10 @@ impl<W: World + Drop> Group<W> {
     pub fn begin_turn(&mut self, turn: u64, seat: u64, moment: u64) -> Result<(), NoMemory>
         requires idle { self.old.cx.log.state.held ≡ false }
         requires later { self.old.cx.log.state.turns < turn }
-        ensures ok { OnOk result (Extends self.old.cx.log self.new.cx.log (Entry.Took turn seat ∷ []) × (self.new.cx.log.state ≡ after self.old.cx.log.state (Entry.Took turn seat)) × (self.new.cx.moment ≡ moment) × (self.new.cx.calls ≡ [])) }
-        ensures kept { (self.new.cx.roles ≡ self.old.cx.roles) × (self.new.cx.running ≡ self.old.cx.running) × (self.new.cx.role ≡ self.old.cx.role) × (self.new.cx.told ≡ self.old.cx.told) × (self.new.world ≡ self.old.world) }
-        ensures sound { W.sound self.old.world self.old.cx.log.state self.old.cx.roles → W.sound self.new.world self.new.cx.log.state self.new.cx.roles }
+        ensures begins { OnOk result (BeginsTurn self.old.cx self.new.cx turn seat moment) }
+        ensures kept { KeepsRoles self.old.cx self.new.cx }
+        ensures world { self.new.world ≡ self.old.world }
+        ensures sound { Holds W.sound self.old → Holds W.sound self.new }
         ensures left { W.left self.new.world self.new.cx.log.state ≡ W.left self.old.world self.old.cx.log.state }
         ensures err { OnErr result (IsSame self.old.cx self.new.cx) }
     {
@@ -59,10 +54,10 @@ impl<W: World + Drop> Group<W> {
     /// Gives the turn back. It takes no memory.
     pub fn give_turn(&mut self)
         requires turn { self.old.cx.log.state.held ≡ true }
-        ensures given { Extends self.old.cx.log self.new.cx.log (Entry.Gave self.old.cx.log.state.turns ∷ []) }
-        ensures state { self.new.cx.log.state ≡ after self.old.cx.log.state (Entry.Gave self.old.cx.log.state.turns) }
-        ensures kept { (self.new.cx.roles ≡ self.old.cx.roles) × (self.new.cx.moment ≡ self.old.cx.moment) × (self.new.cx.running ≡ self.old.cx.running) × (self.new.cx.calls ≡ self.old.cx.calls) × (self.new.cx.role ≡ self.old.cx.role) × (self.new.cx.told ≡ self.old.cx.told) × (self.new.world ≡ self.old.world) }
-        ensures sound { W.sound self.old.world self.old.cx.log.state self.old.cx.roles → W.sound self.new.world self.new.cx.log.state self.new.cx.roles }
+        ensures gives { GivesTurn self.old.cx self.new.cx }
+        ensures kept { KeepsRoles self.old.cx self.new.cx }
+        ensures world { self.new.world ≡ self.old.world }
+        ensures sound { Holds W.sound self.old → Holds W.sound self.new }
         ensures left { W.left self.new.world self.new.cx.log.state ≡ W.left self.old.world self.old.cx.log.state }
     {
         self.cx.give_turn();
@@ -93,7 +88,7 @@ impl<W: World + Drop> Group<W> {
     /// The due moment and the number of the pending event with the least such pair.
     pub fn next_due(&self) -> Option<(u64, u64)>
         ensures none { result ≡ None → self.now.cx.log.state.pending ≡ [] }
-        ensures first { IfSome result (λ r. (p : Event) × IsFirstDue self.now.cx.log.state p × (p.due ≡ r.0) × (p.number ≡ r.1)) }
+        ensures first { IfSome result (λ r. IsDueFirst self.now.cx.log.state r.0 r.1) }
     {
         match self.cx.first_event() {
             Some(event) => Some((event.due, event.number)),
@@ -101,11 +96,14 @@ impl<W: World + Drop> Group<W> {
         }
     }
 
-    /// The least pending number that was not told yet, with its due moment. It is told by this.
+    /// The least pending number that is news, with its due moment. It is no news from then on.
     pub fn next_news(&mut self) -> Option<(u64, u64)>
-        ensures news { IfSome result (λ r. (p : Event) × IsNews self.old.cx.told self.old.cx.log.state p × (p.number ≡ r.0) × (p.due ≡ r.1) × (self.new.cx.told ≡ r.0 + 1)) }
-        ensures none { result ≡ None → NoNews self.old.cx.told self.old.cx.log.state × (self.new.cx.told ≡ self.old.cx.told) }
-        ensures same { IsSame (record self.old.cx { told = self.new.cx.told }) self.new.cx × (self.new.world ≡ self.old.world) }
+        ensures news { IfSome result (λ r. IsFirstNews self.old.cx r.0 r.1) }
+        ensures told { IfSome result (λ r. self.new.cx.news_from ≡ r.0 + 1) }
+        ensures none { result ≡ None → NoNews self.old.cx.news_from self.old.cx.log.state }
+        ensures still { result ≡ None → self.new.cx.news_from ≡ self.old.cx.news_from }
+        ensures same { IsSame (record self.old.cx { news_from = self.new.cx.news_from }) self.new.cx }
+        ensures world { self.new.world ≡ self.old.world }
     {
         match self.cx.next_news() {
             Some(event) => Some((event.number, event.due)),
@@ -116,16 +114,13 @@ impl<W: World + Drop> Group<W> {
     /// Runs the world's `start`.
     pub fn start(&mut self)
         requires turn { self.old.cx.log.state.held ≡ true }
-        requires sound { W.sound self.old.world self.old.cx.log.state self.old.cx.roles }
+        requires sound { Holds W.sound self.old }
         ensures grows { Grows self.old.cx self.new.cx }
-        ensures turn { self.new.cx.log.state.held ≡ true }
-        ensures turns { self.new.cx.log.state.turns ≡ self.old.cx.log.state.turns }
-        ensures sound { W.sound self.new.world self.new.cx.log.state self.new.cx.roles }
+        ensures turn { StaysInTurn self.old.cx.log.state self.new.cx.log.state }
+        ensures sound { Holds W.sound self.new }
         ensures begun { W.begun self.old.world self.new.world }
-        ensures tags { KeepsTags W.fits self.old.world self.new.world }
-        ensures few { SetsAtMost W.fits self.old.world 100 self.old.cx.log.state self.new.cx.log.state }
-        ensures replies { SameReplies (W.right self.old.world) (W.right self.new.world) }
-        ensures groups { SameGroups (W.may_ask self.old.world) (W.may_ask self.new.world) }
+        ensures promises { KeepsPromises W.fits W.right W.may_ask self.old.world self.new.world }
+        ensures few { SetsAtMost W.fits self.old.world MOST_SET self.old.cx self.new.cx }
     {
         self.cx.known();
         self.world.start(&mut self.cx);
@@ -137,19 +132,16 @@ impl<W: World + Drop> Group<W> {
     /// due one period after the moment; it alone can want memory, and then nothing was entered.
     pub fn handle(&mut self, number: u64, moment: u64) -> Result<Handling<W::Question>, NoMemory>
         requires turn { self.old.cx.log.state.held ≡ true }
-        requires sound { W.sound self.old.world self.old.cx.log.state self.old.cx.roles }
-        ensures gives { IfOk result (HandleGives W.called self.old.world self.new.world self.old.cx self.new.cx number moment) }
-        ensures keeps { IfOk result (HandleKeeps (W.sound self.new.world self.new.cx.log.state self.new.cx.roles) (λ group question. W.asking self.new.world self.new.cx.log.state self.new.cx.roles self.new.cx.role group question × W.may_ask self.new.world group)) }
-        ensures turn { self.new.cx.log.state.held ≡ true }
-        ensures turns { self.new.cx.log.state.turns ≡ self.old.cx.log.state.turns }
-        ensures falls { IfOk result (ForEvents (λ events. Falls (W.left self.old.world self.old.cx.log.state) events (W.left self.new.world self.new.cx.log.state))) }
-        ensures tags { KeepsTags W.fits self.old.world self.new.world }
-        ensures few { SetsAtMost W.fits self.old.world 6464 self.old.cx.log.state self.new.cx.log.state }
-        ensures replies { SameReplies (W.right self.old.world) (W.right self.new.world) }
-        ensures groups { SameGroups (W.may_ask self.old.world) (W.may_ask self.new.world) }
-        ensures other { IfOk result (IfOther (self.new.world ≡ self.old.world)) }
-        ensures err { OnErr result (IsSame self.old.cx self.new.cx × (self.new.world ≡ self.old.world)) }
-        ensures periodic { OnErr result ((p : Event) × (pending_at number self.old.cx.log.state.pending ≡ Some p) × (p.due ≤ moment) × (0 < p.period)) }
+        requires sound { Holds W.sound self.old }
+        ensures gives { IfOk result (HandleGives W.called self.old self.new number moment) }
+        ensures keeps { IfOk result (λ handling.
+            MatchHandling handling (Holds W.sound self.new) (MayAwait W.asking W.may_ask self.new)) }
+        ensures falls { IfOk result (λ handling.
+            IfEvents handling (λ events. LeavesLess W.left self.old events self.new)) }
+        ensures promises { KeepsPromises W.fits W.right W.may_ask self.old.world self.new.world }
+        ensures few {
+            SetsAtMost W.fits self.old.world (MOST_EVENTS * (MOST_SET + 1)) self.old.cx self.new.cx }
+        ensures err { OnErr result (LacksRenewal self.old self.new number moment) }
     {
         let Some(event) = self.cx.event(number) else {
             return Ok(Handling::NotPending);
@@ -168,24 +160,21 @@ impl<W: World + Drop> Group<W> {
     // Handles an event, and the direct calls that its handler and theirs ask for.
     fn run_all(&mut self, first: Pending, moment: u64) -> Handling<W::Question>
         requires turn { self.old.cx.log.state.held ≡ true }
-        requires sound { W.sound self.old.world self.old.cx.log.state self.old.cx.roles }
+        requires sound { Holds W.sound self.old }
         requires ready { IsReady self.old.cx.log moment first }
-        ensures gives { HandleGives W.called self.old.world self.new.world self.old.cx self.new.cx first.number moment result }
-        ensures keeps { HandleKeeps (W.sound self.new.world self.new.cx.log.state self.new.cx.roles) (λ group question. W.asking self.new.world self.new.cx.log.state self.new.cx.roles self.new.cx.role group question × W.may_ask self.new.world group) result }
-        ensures turn { self.new.cx.log.state.held ≡ true }
-        ensures turns { self.new.cx.log.state.turns ≡ self.old.cx.log.state.turns }
-        ensures falls { ForEvents (λ events. Falls (W.left self.old.world self.old.cx.log.state) events (W.left self.new.world self.new.cx.log.state)) result }
-        ensures tags { KeepsTags W.fits self.old.world self.new.world }
-        ensures few { SetsAtMost W.fits self.old.world 6464 self.old.cx.log.state self.new.cx.log.state }
-        ensures replies { SameReplies (W.right self.old.world) (W.right self.new.world) }
-        ensures groups { SameGroups (W.may_ask self.old.world) (W.may_ask self.new.world) }
-        ensures other { IfOther (self.new.world ≡ self.old.world) result }
+        ensures gives { HandleGives W.called self.old self.new first.number moment result }
+        ensures keeps {
+            MatchHandling result (Holds W.sound self.new) (MayAwait W.asking W.may_ask self.new) }
+        ensures falls { IfEvents result (λ events. LeavesLess W.left self.old events self.new) }
+        ensures promises { KeepsPromises W.fits W.right W.may_ask self.old.world self.new.world }
+        ensures few {
+            SetsAtMost W.fits self.old.world (MOST_EVENTS * (MOST_SET + 1)) self.old.cx self.new.cx }
     {
         self.cx.begin_calls(moment);
         let mut event = first;
         let mut events = 0;
         'runs: loop {
-            let want = self.run_one(event, moment);
+            let want = self.run_one(event);
             events += 1;
             if let Want::Ask { group, question } = want {
                 return Handling::Asks {
@@ -204,23 +193,19 @@ impl<W: World + Drop> Group<W> {
         }
     }
 
-    // Handles one event.
-    fn run_one(&mut self, event: Pending, moment: u64) -> Want<W::Question>
+    // Handles one event at the moment that the continuations have.
+    fn run_one(&mut self, event: Pending) -> Want<W::Question>
         requires turn { self.old.cx.log.state.held ≡ true }
-        requires sound { W.sound self.old.world self.old.cx.log.state self.old.cx.roles }
-        requires now { moment ≡ self.old.cx.moment }
-        requires ready { IsReady self.old.cx.log moment event }
-        ensures run { HasRun W.called self.old.world self.new.world self.old.cx self.new.cx moment event.number }
-        ensures nothing { IfNothing result (W.sound self.new.world self.new.cx.log.state self.new.cx.roles) }
-        ensures asks { IfAsks result (λ group question. W.asking self.new.world self.new.cx.log.state self.new.cx.roles self.new.cx.role group question × W.may_ask self.new.world group) }
-        ensures falls { Falls (W.left self.old.world self.old.cx.log.state) 1 (W.left self.new.world self.new.cx.log.state) }
-        ensures tags { KeepsTags W.fits self.old.world self.new.world }
-        ensures few { SetsAtMost W.fits self.old.world 101 self.old.cx.log.state self.new.cx.log.state }
-        ensures replies { SameReplies (W.right self.old.world) (W.right self.new.world) }
-        ensures groups { SameGroups (W.may_ask self.old.world) (W.may_ask self.new.world) }
+        requires sound { Holds W.sound self.old }
+        requires ready { IsReady self.old.cx.log self.old.cx.moment event }
+        ensures run { HasRun W.called self.old self.new event.number }
+        ensures keeps { MatchWant result (Holds W.sound self.new) (MayAwait W.asking W.may_ask self.new) }
+        ensures falls { LeavesLess W.left self.old 1 self.new }
+        ensures promises { KeepsPromises W.fits W.right W.may_ask self.old.world self.new.world }
+        ensures few { SetsAtMost W.fits self.old.world (MOST_SET + 1) self.old.cx self.new.cx }
     {
         self.cx.known();
-        let role = self.cx.enter(event, moment);
+        let role = self.cx.enter_event(event);
         self.cx.known();
         let want = self.world.handle(role, event.event, &mut self.cx);
         self.cx.leave();
@@ -230,16 +215,14 @@ impl<W: World + Drop> Group<W> {
     /// Tells the handler that asked last what came of its question. Nothing was handled since.
     pub fn answered(&mut self, asked: Asked<W::Question, W::Reply>)
         requires turn { self.old.cx.log.state.held ≡ true }
-        requires asking { IsTold (W.asking self.old.world self.old.cx.log.state self.old.cx.roles self.old.cx.role) (W.right self.old.world) asked }
+        requires asking { IsAnswered (AwaitsReply W.asking self.old) (W.right self.old.world) asked }
         ensures grows { Grows self.old.cx self.new.cx }
-        ensures turn { self.new.cx.log.state.held ≡ true }
-        ensures turns { self.new.cx.log.state.turns ≡ self.old.cx.log.state.turns }
-        ensures sound { W.sound self.new.world self.new.cx.log.state self.new.cx.roles }
-        ensures falls { TellFalls asked (W.left self.old.world self.old.cx.log.state) (W.left self.new.world self.new.cx.log.state) }
-        ensures tags { KeepsTags W.fits self.old.world self.new.world }
-        ensures few { SetsAtMost W.fits self.old.world 100 self.old.cx.log.state self.new.cx.log.state }
-        ensures replies { SameReplies (W.right self.old.world) (W.right self.new.world) }
-        ensures groups { SameGroups (W.may_ask self.old.world) (W.may_ask self.new.world) }
+        ensures turn { StaysInTurn self.old.cx.log.state self.new.cx.log.state }
+        ensures sound { Holds W.sound self.new }
+        ensures falls { TellFalls asked
+            (W.left self.old.world self.old.cx.log.state) (W.left self.new.world self.new.cx.log.state) }
+        ensures promises { KeepsPromises W.fits W.right W.may_ask self.old.world self.new.world }
+        ensures few { SetsAtMost W.fits self.old.world MOST_SET self.old.cx self.new.cx }
     {
         let role = self.cx.role();
         self.cx.known();
@@ -253,26 +236,16 @@ impl<W: World + Drop> Group<W> {
         question: W::Question,
         moment: u64,
     ) -> Result<W::Reply, (NoMemory, W::Question)>
-        requires turn { self.old.cx.log.state.held ≡ true }
-        requires live { IsLive self.old.cx.log.state.live own_key }
-        requires unspent { self.old.cx.log.state.next < 18446744073709551615 }
-        requires sound { W.sound self.old.world self.old.cx.log.state self.old.cx.roles }
-        ensures asked { OnOk result ((own : List Entries) × AllOwn own × Extends self.old.cx.log self.new.cx.log (asking_entries self.old.cx.log.state.next moment ++ own)) }
-        ensures now { OnOk result ((self.new.cx.moment ≡ moment) × (self.new.cx.running ≡ None)) }
-        ensures told { (self.new.cx.told ≡ self.old.cx.told) × (self.new.cx.role ≡ self.old.cx.role) }
-        ensures turn { self.new.cx.log.state.held ≡ true }
-        ensures turns { self.new.cx.log.state.turns ≡ self.old.cx.log.state.turns }
-        ensures sound { W.sound self.new.world self.new.cx.log.state self.new.cx.roles }
-        ensures answers { IfOk result (λ r. W.answers self.old.world question r) }
-        ensures falls { OnOk result (Falls (W.left self.old.world self.old.cx.log.state) 0 (W.left self.new.world self.new.cx.log.state)) }
-        ensures tags { KeepsTags W.fits self.old.world self.new.world }
-        ensures few { SetsAtMost W.fits self.old.world 1 self.old.cx.log.state self.new.cx.log.state }
-        ensures none { (t : W.Tag) → W.fits t self.old.world → self.old.cx.log.state.pending ≡ [] → self.new.cx.log.state.pending ≡ [] }
-        ensures replies { SameReplies (W.right self.old.world) (W.right self.new.world) }
-        ensures groups { SameGroups (W.may_ask self.old.world) (W.may_ask self.new.world) }
-        ensures err { IfErr result (λ e. (e.1 ≡ question) × IsSame self.old.cx self.new.cx × (self.new.world ≡ self.old.world)) }
+        requires can { CanBeAsked self.old.cx.log.state }
+        requires sound { Holds W.sound self.old }
+        ensures replied { IfOk result (HasReplied W.answers self.old self.new question moment) }
+        ensures falls { OnOk result (LeavesLess W.left self.old 0 self.new) }
+        ensures sound { Holds W.sound self.new }
+        ensures promises { KeepsPromises W.fits W.right W.may_ask self.old.world self.new.world }
+        ensures few { SetsQuestion W.fits self.old.world self.old.cx self.new.cx }
+        ensures err { IfErr result (λ e. (e.1 ≡ question) × IsSameGroup self.old self.new) }
     {
-        if let Err(_) = self.cx.enter_ask(moment) {
+        if let Err(_) = self.cx.enter_question(moment) {
             return Err((NoMemory, question));
         }
         self.cx.known();

@@ -2,19 +2,22 @@
 //! Developer's Guide of Traffic Server describes the parts in its chapters on continuations, mutexes and actions.
 #![tactic(auto)]
 
-pub mod action;
+mod action;
 mod calls;
-pub mod cx;
+mod cx;
 mod due;
 mod events;
-pub mod group;
+mod group;
 mod keys;
 mod lend;
+mod reserve;
 mod slot;
 mod turns;
-pub mod world;
+mod world;
 
 pub use action::{Action, Cancel, Destroy, MakeFault, Named, SetFault};
 pub use cx::Cx;
-pub use group::Group;
-pub use world::{Asked, Handling, Want, World};
+pub use group::{Group, MOST_EVENTS};
+pub use keys::OWN_KEY;
+pub use slot::MOST_IN_TURN;
+pub use world::{Asked, Handling, MOST_SET, Want, World};

@@ -1,25 +1,25 @@
-//! Turns in a journal: how one begins and how it ends.
+//! Turns in a journal: how one begins and how it is given back.
 
 ghost use Rattle.std.specs.Prelude.{◌≡◌, ◌<◌, ◌≤◌, true, false, [], ◌∷◌, OnOk, OnErr};
 ghost use Rattle.ts_journal.specs.declared.entry.Entry.TheVariants as Entry;
 ghost use Rattle.ts_journal.specs.Machine.{after};
 ghost use Rattle.ts_journal.specs.Log.{Extends, IsSameLog};
-ghost use Rattle.ts_group.specs.Context.{needed};
-ghost use Rattle.ts_group.specs.Own.{CallsStay};
+ghost use Rattle.ts_group.specs.Context.{HasNeeded};
+ghost use Rattle.ts_group.specs.Changes.{CallsStay};
 
-use crate::events::spare;
+use crate::reserve::spare;
 use ts_journal::{Entry, Journal};
 use ts_link::NoMemory;
 
 /// Enters that a seat took the mutex.
 #[tactic(auto, using(crate::proofs::Room::needed_took, crate::proofs::Facts::stay_same))]
-pub fn take_turn(journal: &mut Journal, turn: u64, seat: u64) -> Result<(), NoMemory>
+pub fn begin_turn(journal: &mut Journal, turn: u64, seat: u64) -> Result<(), NoMemory>
     requires idle { journal.old.state.held ≡ false }
     requires later { journal.old.state.turns < turn }
-    requires room { needed journal.old.state ≤ journal.old.room }
+    requires room { HasNeeded journal.old }
     ensures ok { OnOk result (Extends journal.old journal.new (Entry.Took turn seat ∷ [])) }
     ensures state { OnOk result (journal.new.state ≡ after journal.old.state (Entry.Took turn seat)) }
-    ensures room { needed journal.new.state ≤ journal.new.room }
+    ensures room { HasNeeded journal.new }
     ensures live { journal.new.state.live ≡ journal.old.state.live }
     ensures err { OnErr result (IsSameLog journal.old journal.new) }
 {
@@ -32,12 +32,12 @@ pub fn take_turn(journal: &mut Journal, turn: u64, seat: u64) -> Result<(), NoMe
 
 /// Enters that the mutex was given back.
 #[tactic(auto, using(crate::proofs::Room::needed_gave, crate::proofs::Facts::stay_same))]
-pub fn end_turn(journal: &mut Journal)
+pub fn give_turn(journal: &mut Journal)
     requires turn { journal.old.state.held ≡ true }
-    requires room { needed journal.old.state ≤ journal.old.room }
+    requires room { HasNeeded journal.old }
     ensures given { Extends journal.old journal.new (Entry.Gave journal.old.state.turns ∷ []) }
     ensures state { journal.new.state ≡ after journal.old.state (Entry.Gave journal.old.state.turns) }
-    ensures room { needed journal.new.state ≤ journal.new.room }
+    ensures room { HasNeeded journal.new }
     ensures live { journal.new.state.live ≡ journal.old.state.live }
     ensures stay { CallsStay journal.old.state journal.new.state }
 {

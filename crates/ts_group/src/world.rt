@@ -1,6 +1,6 @@
-//! The trait of the data and handlers of continuations.
+//! The trait of a group's data and of the handlers of its continuations.
 
-ghost use Rattle.std.specs.Prelude.{◌≡◌, ◌++◌, ℕ, Option, None, List, true, false, Bool};
+ghost use Rattle.std.specs.Prelude.{⊤, ◌≡◌, ◌++◌, ℕ, Option, None, List, true, false, Bool};
 ghost use Rattle.std.specs.Bool.{OnTrue};
 ghost use Rattle.ts_journal.specs.declared.entry.Entry.TheVariants.{Took, Gave};
 ghost use Rattle.ts_journal.specs.State.{State, IsLive};
@@ -9,10 +9,13 @@ ghost use Rattle.ts_group.specs.declared.action.Named.{Named};
 ghost use Rattle.ts_group.specs.Context.{IsOrderly, own_key};
 ghost use Rattle.ts_group.specs.Entries.{Grows};
 ghost use Rattle.ts_group.specs.Calls.{IsCalled, IsAsked};
-ghost use Rattle.ts_group.specs.Answers.{IfNothing, IfAsks, IsTold, Falls, TellFalls, SameReplies, SameGroups, KeepsTags, SetsAtMost, SetsNone};
+ghost use Rattle.ts_group.specs.Answers.{MatchWant, IsAnswered, Falls, TellFalls, KeepsPromises, SetsAtMost, SetsNone};
 
 use crate::cx::Cx;
 use ts_journal::{Event, Slotted};
+
+/// How many events one call of a world's handler sets at most, where the world fits a tag.
+pub const MOST_SET: u32 = 100;
 
 /// What a handler wants when it returns.
 #[derive(Drop)]
@@ -57,23 +60,23 @@ pub trait World: Slotted {
     /// What a handler asks another group.
     type Question;
 
-    /// What comes back.
+    /// What comes back for a question.
     type Reply;
 
     /// What holds of the world, the group's state and the roles of its keys between calls.
     ghost sound: { Self → State → List Named → Type 0 };
 
-    /// What holds in its place while the handler of a role waits for the reply of a group to a question.
+    /// What holds in place of `sound` while the handler of a role waits for the reply of a group to a question.
     ghost asking: { Self → State → List Named → ℕ → ℕ → Self.Question → Type 0 };
 
     /// A reply of a group to a question is right, for this world that asks.
-    ghost right: { Self → ℕ → Self.Question → Self.Reply → Type 0 } = { λ w group question reply. Unit {0} };
+    ghost right: { Self → ℕ → Self.Question → Self.Reply → Type 0 };
 
     /// The groups that the world may ask.
     ghost may_ask: { Self → ℕ → Type 0 } = { λ w group. ⊥ };
 
     /// The replies that the world gives to a question.
-    ghost answers: { Self → Self.Question → Self.Reply → Type 0 } = { λ w question reply. Unit {0} };
+    ghost answers: { Self → Self.Question → Self.Reply → Type 0 };
 
     /// What the world still has to do, where it tells it. Each event that is handled makes it less.
     ghost left: { Self → State → Option ℕ } = { λ w s. None };
@@ -82,10 +85,10 @@ pub trait World: Slotted {
     ghost only_asked: { Self.Tag → Bool } = { λ t. false };
 
     /// What `start` made of the world.
-    ghost begun: { Self → Self → Type 0 } = { λ old new. Unit {0} };
+    ghost begun: { Self → Self → Type 0 };
 
     /// The numbers of the direct calls, in order, that a handler asked for which led from one world to the other.
-    ghost called: { Self → Self → List ℕ → Type 0 } = { λ old new asked. Unit {0} };
+    ghost called: { Self → Self → List ℕ → Type 0 } = { λ old new asked. ⊤ };
 
     /// Sets the first events.
     fn start(&mut self, cx: &mut Cx)
@@ -95,37 +98,36 @@ pub trait World: Slotted {
         ensures grows { Grows cx.old cx.new }
         ensures sound { sound self.new cx.new.log.state cx.new.roles }
         ensures begun { begun self.old self.new }
-        ensures tags { KeepsTags Self.fits self.old self.new }
-        ensures few { SetsAtMost Self.fits self.old 100 cx.old.log.state cx.new.log.state }
-        ensures replies { SameReplies (right self.old) (right self.new) }
-        ensures groups { SameGroups (may_ask self.old) (may_ask self.new) };
+        ensures promises { KeepsPromises Self.fits right may_ask self.old self.new }
+        ensures few { SetsAtMost Self.fits self.old MOST_SET cx.old cx.new };
 
     /// The handler of a role is called with an event.
     fn handle(&mut self, role: u32, event: Event, cx: &mut Cx) -> Want<Self::Question>
         requires turn { cx.old.log.state.held ≡ true }
         requires called { IsCalled (sound self.old) cx.old role event }
         ensures grows { Grows cx.old cx.new }
-        ensures nothing { IfNothing result (sound self.new cx.new.log.state cx.new.roles) }
-        ensures asks { IfAsks result (λ group question. asking self.new cx.new.log.state cx.new.roles role group question × may_ask self.new group) }
-        ensures falls { (c : IsCalled (sound self.old) cx.old role event) → Falls (left self.old c.before) 1 (left self.new cx.new.log.state) }
-        ensures called { (asked : List ℕ) → cx.new.calls ≡ cx.old.calls ++ asked → called self.old self.new asked }
-        ensures tags { KeepsTags Self.fits self.old self.new }
-        ensures few { SetsAtMost Self.fits self.old 100 cx.old.log.state cx.new.log.state }
-        ensures replies { SameReplies (right self.old) (right self.new) }
-        ensures groups { SameGroups (may_ask self.old) (may_ask self.new) };
+        ensures keeps { MatchWant result
+            (sound self.new cx.new.log.state cx.new.roles)
+            (λ group question.
+                asking self.new cx.new.log.state cx.new.roles role group question × may_ask self.new group) }
+        ensures falls { (c : IsCalled (sound self.old) cx.old role event) →
+            Falls (left self.old c.before) 1 (left self.new cx.new.log.state) }
+        ensures called { (asked : List ℕ) →
+            cx.new.calls ≡ cx.old.calls ++ asked → called self.old self.new asked }
+        ensures promises { KeepsPromises Self.fits right may_ask self.old self.new }
+        ensures few { SetsAtMost Self.fits self.old MOST_SET cx.old cx.new };
 
     /// The handler of a role, which asked, is told what came of it.
     fn told(&mut self, role: u32, asked: Asked<Self::Question, Self::Reply>, cx: &mut Cx)
         requires turn { cx.old.log.state.held ≡ true }
         requires orderly { IsOrderly cx.old }
-        requires asking { IsTold (asking self.old cx.old.log.state cx.old.roles role) (right self.old) asked }
+        requires asking { IsAnswered
+            (asking self.old cx.old.log.state cx.old.roles role) (right self.old) asked }
         ensures grows { Grows cx.old cx.new }
         ensures sound { sound self.new cx.new.log.state cx.new.roles }
         ensures falls { TellFalls asked (left self.old cx.old.log.state) (left self.new cx.new.log.state) }
-        ensures tags { KeepsTags Self.fits self.old self.new }
-        ensures few { SetsAtMost Self.fits self.old 100 cx.old.log.state cx.new.log.state }
-        ensures replies { SameReplies (right self.old) (right self.new) }
-        ensures groups { SameGroups (may_ask self.old) (may_ask self.new) };
+        ensures promises { KeepsPromises Self.fits right may_ask self.old self.new }
+        ensures few { SetsAtMost Self.fits self.old MOST_SET cx.old cx.new };
 
     /// The group's own continuation is asked.
     fn asked(&mut self, question: Self::Question, cx: &mut Cx) -> Self::Reply
@@ -134,22 +136,26 @@ pub trait World: Slotted {
         ensures grows { Grows cx.old cx.new }
         ensures sound { sound self.new cx.new.log.state cx.new.roles }
         ensures answers { answers self.old question result }
-        ensures falls { (c : IsAsked (sound self.old) cx.old) → Falls (left self.old c.before) 0 (left self.new cx.new.log.state) }
-        ensures tags { KeepsTags Self.fits self.old self.new }
-        ensures none { SetsNone Self.fits self.old cx.old.log.state cx.new.log.state }
-        ensures replies { SameReplies (right self.old) (right self.new) }
-        ensures groups { SameGroups (may_ask self.old) (may_ask self.new) };
+        ensures falls { (c : IsAsked (sound self.old) cx.old) →
+            Falls (left self.old c.before) 0 (left self.new cx.new.log.state) }
+        ensures promises { KeepsPromises Self.fits right may_ask self.old self.new }
+        ensures none { SetsNone Self.fits self.old cx.old cx.new };
 
-    /// What holds of the world stays when a turn is taken or given back.
-    ghost sound_taken: { (w : Self) (s : State) (turn seat : ℕ) (roles : List Named) → sound w s roles → sound w (after s (Took turn seat)) roles };
+    /// What holds of the world stays when a turn is taken.
+    ghost sound_taken: { (w : Self) (s : State) (turn seat : ℕ) (roles : List Named) →
+        sound w s roles → sound w (after s (Took turn seat)) roles };
 
-    ghost sound_given: { (w : Self) (s : State) (turn : ℕ) (roles : List Named) → sound w s roles → sound w (after s (Gave turn)) roles };
+    /// What holds of the world stays when a turn is given back.
+    ghost sound_given: { (w : Self) (s : State) (turn : ℕ) (roles : List Named) →
+        sound w s roles → sound w (after s (Gave turn)) roles };
 
-    /// So does what is left to do.
+    /// What is left to do stays when a turn is taken.
     ghost left_taken: { (w : Self) (s : State) (turn seat : ℕ) → left w (after s (Took turn seat)) ≡ left w s };
 
+    /// What is left to do stays when a turn is given back.
     ghost left_given: { (w : Self) (s : State) (turn : ℕ) → left w (after s (Gave turn)) ≡ left w s };
 
     /// The group's own key is live where its world is only asked.
-    ghost rests: { (t : Self.Tag) (w : Self) (s : State) (roles : List Named) → Self.fits t w → sound w s roles → OnTrue (only_asked t) (IsLive s.live own_key) };
+    ghost rests: { (t : Self.Tag) (w : Self) (s : State) (roles : List Named) →
+        Self.fits t w → sound w s roles → OnTrue (only_asked t) (IsLive s.live own_key) };
 }

@@ -1,1 +1,2 @@
+-- The definitions that the contracts of the driver cite.
 pub mod Driven

@@ -1,6 +1,6 @@
 //! A world that asks for more direct calls than one turn handles.
 
-ghost use Rattle.std.specs.Prelude.{◌≡◌, ◌+◌, ◌≤◌, true, refl};
+ghost use Rattle.std.specs.Prelude.{⊤, ◌≡◌, ◌+◌, ◌≤◌, true, refl};
 ghost use Rattle.ts_group.specs.Entries.{Grows};
 
 use ts_group::{Asked, Cx, Want, World};
@@ -25,11 +25,11 @@ impl Slotted for Burst {
 
     type Trace = ();
 
-    ghost fits = { λ t w. Unit {0} };
+    ghost fits = { λ t w. ⊤ };
 
     ghost trace = { λ w. tt };
 
-    ghost follows = { λ t u. Unit {0} };
+    ghost follows = { λ t u. ⊤ };
 
     ghost follows_itself = { λ t. tt };
 
@@ -54,9 +54,15 @@ impl World for Burst {
 
     type Reply = ();
 
-    ghost sound = { λ w s roles. Unit {0} };
+    ghost sound = { λ w s roles. ⊤ };
 
-    ghost asking = { λ w s roles role group question. Unit {0} };
+    ghost asking = { λ w s roles role group question. ⊤ };
+
+    ghost right = { λ w group question reply. ⊤ };
+
+    ghost answers = { λ w question reply. ⊤ };
+
+    ghost begun = { λ old new. ⊤ };
 
     fn start(&mut self, _cx: &mut Cx) {}
 

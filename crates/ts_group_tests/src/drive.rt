@@ -1,13 +1,10 @@
-//! What drives groups.
+//! A driver that handles all that is pending in a group, and one that asks a group for another.
 
-ghost use Rattle.std.specs.Prelude.{◌≡◌, ◌+◌, ◌<◌, true, false, List, ◌++◌, IsSome, IfOk, OnOk, OnErr};
-ghost use Rattle.ts_journal.specs.declared.entry.Entry.{Entry as Entries};
-ghost use Rattle.ts_journal.specs.State.{IsLive};
-ghost use Rattle.ts_journal.specs.Log.{Extends};
-ghost use Rattle.ts_group.specs.Context.{IsSame, own_key};
-ghost use Rattle.ts_group.specs.Entries.{AllOwn, Grows, asking_entries};
-ghost use Rattle.ts_group.specs.Answers.{Falls, KeepsTags};
-ghost use Rattle.ts_group_tests.specs.Driven.{IsDone, SoundIfDone, StandsIfAsks};
+ghost use Rattle.std.specs.Prelude.{◌≡◌, true, false, IsSome, IfOk, OnOk, OnErr};
+ghost use Rattle.ts_group.specs.Entries.{CanBeAsked};
+ghost use Rattle.ts_group.specs.Calls.{TakesQuestion};
+ghost use Rattle.ts_group.specs.Answers.{Holds, IsSameGroup, KeepsTags};
+ghost use Rattle.ts_group_tests.specs.Driven.{IsDone, MatchDriven, AwaitsInTurn, LeftAsking, GoesOnTold};
 
 use ts_group::{Asked, Group, Handling, World};
 use ts_link::NoMemory;
@@ -30,12 +27,12 @@ pub fn drive<W: World + Drop>(group: &mut Group<W>) -> Result<Driven, NoMemory>
 where
     W::Question: Drop,
     requires idle { group.old.cx.log.state.held ≡ false }
-    requires sound { W.sound group.old.world group.old.cx.log.state group.old.cx.roles }
+    requires sound { Holds W.sound group.old }
     requires tells { IsSome (W.left group.old.world group.old.cx.log.state) }
     ensures done { IfOk result (λ d. IsDone d group.old.cx.log.state group.new.cx.log.state) }
-    ensures sound { IfOk result (λ d. SoundIfDone d (W.sound group.new.world group.new.cx.log.state group.new.cx.roles)) }
-    ensures asks { IfOk result (StandsIfAsks (λ s to question. W.asking group.new.world s group.new.cx.roles group.new.cx.role to question) (W.may_ask group.new.world) group.new.cx.log.state) }
-    ensures err { OnErr result ((group.new.cx.log.state.held ≡ false) × W.sound group.new.world group.new.cx.log.state group.new.cx.roles) }
+    ensures keeps { IfOk result (λ d.
+        MatchDriven d (Holds W.sound group.new) (LeftAsking W.asking W.may_ask group.new)) }
+    ensures err { OnErr result ((group.new.cx.log.state.held ≡ false) × Holds W.sound group.new) }
     ensures tags { KeepsTags W.fits group.old.world group.new.world }
     ensures tells { IsSome (W.left group.new.world group.new.cx.log.state) }
 {
@@ -74,22 +71,15 @@ where
     V: World<Question = W::Question, Reply = W::Reply> + Drop,
     W::Question: Drop,
     W::Reply: Drop,
-    requires turn { asker.old.cx.log.state.held ≡ true }
-    requires other_turn { other.old.cx.log.state.held ≡ true }
-    requires asking { W.asking asker.old.world asker.old.cx.log.state asker.old.cx.roles asker.old.cx.role group question }
-    requires other_sound { V.sound other.old.world other.old.cx.log.state other.old.cx.roles }
-    requires live { IsLive other.old.cx.log.state.live own_key }
-    requires unspent { other.old.cx.log.state.next < 18446744073709551615 }
-    requires right { (q : W.Question) (r : W.Reply) → V.answers other.old.world q r → W.right asker.old.world group q r }
-    ensures asked { OnOk result ((own : List Entries) × AllOwn own × Extends other.old.cx.log other.new.cx.log (asking_entries other.old.cx.log.state.next moment ++ own)) }
-    ensures err { OnErr result (IsSame other.old.cx other.new.cx × (other.new.world ≡ other.old.world)) }
-    ensures turn { asker.new.cx.log.state.held ≡ true }
-    ensures other_turn { other.new.cx.log.state.held ≡ true }
-    ensures grows { Grows asker.old.cx asker.new.cx }
-    ensures sound { W.sound asker.new.world asker.new.cx.log.state asker.new.cx.roles }
-    ensures other_sound { V.sound other.new.world other.new.cx.log.state other.new.cx.roles }
-    ensures tags { KeepsTags W.fits asker.old.world asker.new.world }
-    ensures falls { Falls (W.left asker.old.world asker.old.cx.log.state) 0 (W.left asker.new.world asker.new.cx.log.state) }
+    requires asking { AwaitsInTurn W.asking asker.old group question }
+    requires can { CanBeAsked other.old.cx.log.state }
+    requires other_sound { Holds V.sound other.old }
+    requires right { (q : W.Question) (r : W.Reply) →
+        V.answers other.old.world q r → W.right asker.old.world group q r }
+    ensures told { GoesOnTold W.fits W.sound W.left asker.old asker.new }
+    ensures other_sound { Holds V.sound other.new }
+    ensures asked { OnOk result (TakesQuestion other.old.cx other.new.cx moment) }
+    ensures err { OnErr result (IsSameGroup other.old other.new) }
 {
     match other.ask(question, moment) {
         Ok(reply) => {

@@ -1,6 +1,6 @@
 //! A world whose continuation gives its place to another.
 
-ghost use Rattle.std.specs.Prelude.{◌≡◌, ℕ, true, refl, IfSome};
+ghost use Rattle.std.specs.Prelude.{⊤, ◌≡◌, ℕ, true, refl, IfSome};
 ghost use Rattle.ts_journal.specs.State.{IsLive};
 ghost use Rattle.ts_group.specs.Entries.{Grows};
 
@@ -19,11 +19,11 @@ impl Slotted for Heir {
 
     type Trace = ();
 
-    ghost fits = { λ t w. Unit {0} };
+    ghost fits = { λ t w. ⊤ };
 
     ghost trace = { λ w. tt };
 
-    ghost follows = { λ t u. Unit {0} };
+    ghost follows = { λ t u. ⊤ };
 
     ghost follows_itself = { λ t. tt };
 
@@ -39,6 +39,12 @@ impl World for Heir {
     ghost sound = { λ w s roles. IfSome w.key (λ key. IsLive s.live key) };
 
     ghost asking = { λ w s roles role group question. IfSome w.key (λ key. IsLive s.live key) };
+
+    ghost right = { λ w group question reply. ⊤ };
+
+    ghost answers = { λ w question reply. ⊤ };
+
+    ghost begun = { λ old new. ⊤ };
 
     fn start(&mut self, _cx: &mut Cx) {}
 

@@ -1,10 +1,10 @@
 //! A world that asks, and one that is only asked.
 
-ghost use Rattle.std.specs.Prelude.{◌≡◌, ℕ, ◌+◌, ◌*◌, ◌<◌, ◌≤◌, true, refl, Some, length};
+ghost use Rattle.std.specs.Prelude.{⊤, ◌≡◌, ℕ, ◌+◌, ◌*◌, ◌<◌, ◌≤◌, true, refl, Some, length};
 ghost use Rattle.ts_journal.specs.State.{IsLive};
 ghost use Rattle.ts_group.specs.Context.{AllPlain, own_key};
 ghost use Rattle.ts_group.specs.Entries.{Grows};
-ghost use Rattle.ts_group.specs.Answers.{IsTold, TellFalls};
+ghost use Rattle.ts_group.specs.Answers.{IsAnswered, TellFalls};
 
 use ts_group::{Asked, Cx, Want, World};
 use ts_journal::{ContKey, Event, Slotted};
@@ -21,11 +21,11 @@ impl Slotted for Adder {
 
     type Trace = ();
 
-    ghost fits = { λ t w. Unit {0} };
+    ghost fits = { λ t w. ⊤ };
 
     ghost trace = { λ w. tt };
 
-    ghost follows = { λ t u. Unit {0} };
+    ghost follows = { λ t u. ⊤ };
 
     ghost follows_itself = { λ t. tt };
 
@@ -42,6 +42,10 @@ impl World for Adder {
 
     ghost asking = { λ w s roles role group question. AllPlain s.pending × IsLive s.live own_key };
 
+    ghost right = { λ w group question reply. ⊤ };
+
+    ghost begun = { λ old new. ⊤ };
+
     ghost answers = { λ w question reply. reply ≡ question + 1 };
 
     ghost left = { λ w s. Some (length s.pending) };
@@ -55,10 +59,13 @@ impl World for Adder {
     }
 
     fn told(&mut self, _role: u32, asked: Asked<u32, u64>, _cx: &mut Cx)
-        requires { IsTold (λ group question. AllPlain _cx.old.log.state.pending × IsLive _cx.old.log.state.live own_key) (λ group question reply. Unit {0}) asked }
+        requires { IsAnswered
+            (λ group question. AllPlain _cx.old.log.state.pending × IsLive _cx.old.log.state.live own_key)
+            (λ group question reply. ⊤) asked }
         ensures grows { Grows _cx.old _cx.new }
         ensures sound { AllPlain _cx.new.log.state.pending × IsLive _cx.new.log.state.live own_key }
-        ensures falls { TellFalls asked (Some (length _cx.old.log.state.pending)) (Some (length _cx.new.log.state.pending)) }
+        ensures falls { TellFalls asked
+            (Some (length _cx.old.log.state.pending)) (Some (length _cx.new.log.state.pending)) }
         ensures same { _cx.new.log.state ≡ _cx.old.log.state }
     {}
 
@@ -92,11 +99,11 @@ impl Slotted for Asker {
 
     type Trace = ();
 
-    ghost fits = { λ t w. Unit {0} };
+    ghost fits = { λ t w. ⊤ };
 
     ghost trace = { λ w. tt };
 
-    ghost follows = { λ t u. Unit {0} };
+    ghost follows = { λ t u. ⊤ };
 
     ghost follows_itself = { λ t. tt };
 
@@ -112,6 +119,8 @@ impl World for Asker {
     ghost sound = { λ w s roles. AllPlain s.pending };
 
     ghost asking = { λ w s roles role group question. AllPlain s.pending × (0 < w.todo) };
+
+    ghost answers = { λ w question reply. ⊤ };
 
     ghost right = { λ w group question reply. reply ≡ question + 1 };
 
@@ -140,11 +149,15 @@ impl World for Asker {
 
     fn told(&mut self, _role: u32, asked: Asked<u32, u64>, cx: &mut Cx)
         requires turn { cx.old.log.state.held ≡ true }
-        requires asking { IsTold (λ group question. AllPlain cx.old.log.state.pending × (0 < self.old.todo)) (λ group question reply. reply ≡ question + 1) asked }
+        requires asking { IsAnswered
+            (λ group question. AllPlain cx.old.log.state.pending × (0 < self.old.todo))
+            (λ group question reply. reply ≡ question + 1) asked }
         ensures grows { Grows cx.old cx.new }
         ensures sound { AllPlain cx.new.log.state.pending }
         ensures few { cx.new.log.state.next ≤ cx.old.log.state.next + 1 }
-        ensures falls { TellFalls asked (Some (100 * self.old.todo + length cx.old.log.state.pending)) (Some (100 * self.new.todo + length cx.new.log.state.pending)) }
+        ensures falls { TellFalls asked
+            (Some (100 * self.old.todo + length cx.old.log.state.pending))
+            (Some (100 * self.new.todo + length cx.new.log.state.pending)) }
     {
         match asked {
             Asked::Reply(reply) => {

@@ -1,6 +1,6 @@
 //! A world that is generic over its part, and tells how much is left to do.
 
-ghost use Rattle.std.specs.Prelude.{◌≡◌, ℕ, ◌+◌, ◌*◌, true, refl, Some, length, MatchBool};
+ghost use Rattle.std.specs.Prelude.{⊤, ◌≡◌, ℕ, ◌+◌, ◌*◌, true, refl, Some, length, MatchBool};
 ghost use Rattle.ts_group.specs.Context.{AllPlain};
 ghost use Rattle.ts_group.specs.Entries.{Grows};
 
@@ -46,11 +46,11 @@ impl<P: Part> Slotted for Steps<P> {
 
     type Trace = ();
 
-    ghost fits = { λ t w. Unit {0} };
+    ghost fits = { λ t w. ⊤ };
 
     ghost trace = { λ w. tt };
 
-    ghost follows = { λ t u. Unit {0} };
+    ghost follows = { λ t u. ⊤ };
 
     ghost follows_itself = { λ t. tt };
 
@@ -66,6 +66,12 @@ impl<P: Part> World for Steps<P> {
     ghost sound = { λ w s roles. AllPlain s.pending };
 
     ghost asking = { λ w s roles role group question. AllPlain s.pending };
+
+    ghost right = { λ w group question reply. ⊤ };
+
+    ghost answers = { λ w question reply. ⊤ };
+
+    ghost begun = { λ old new. ⊤ };
 
     ghost left = { λ w s. Some (2 * P.steps w.part + length s.pending) };
 

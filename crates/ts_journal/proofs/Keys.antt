@@ -1,6 +1,7 @@
 -- Keys in lists: what a key that is added, put or removed leaves at each index.
 use Rattle.std.proofs.Common.{◌≡◌, ℕ, ◌+◌, ◌<◌, cond, eqb, List, [], ◌∷◌, ◌++◌, Some, None, length, refl, sym, ap, ◌∙◌, arith}
 use Rattle.std.proofs.lemmas.Bool.{eq-eqb, ne_eqb, cond-true, cond-false}
+use Rattle.ts_journal.specs.declared.entry.TheConstants.{MOST_KEYS}
 use Rattle.ts_journal.specs.declared.entry.ContKey.{ContKey}
 use Rattle.ts_journal.specs.State.{generation_at, without_index, with_key}
 use Rattle.ts_journal.specs.Machine.{AreNewest}
@@ -82,7 +83,7 @@ newest_of_live newest (k ∷ ks) i g (a, b, c, d) l =
     (λ e q. ap (λ j. generation_at j newest) (sym e) ∙ a ∙ q)
     (λ f q. newest_of_live newest ks i g d q) l
 
-pub newest_more : (newest live : List ContKey) (k : ContKey) → k.index < 1024 → generation_at k.index live ≡ None → AreNewest newest live → AreNewest (with_key k newest) (live ++ k ∷ [])
+pub newest_more : (newest live : List ContKey) (k : ContKey) → k.index < MOST_KEYS → generation_at k.index live ≡ None → AreNewest newest live → AreNewest (with_key k newest) (live ++ k ∷ [])
 newest_more newest [] k low h a = (generation_with k.index k newest ∙ cond-true (eqb k.index k.index) (Some k.generation) (generation_at k.index newest) (eq-eqb k.index k.index refl), refl, low, tt)
 newest_more newest (j ∷ live) k low h (a, b, c, d) =
     by_eq j.index k.index (λ t. cond t (Some j.generation) (generation_at k.index live) ≡ None → AreNewest (with_key k newest) (j ∷ (live ++ k ∷ [])))

@@ -1,3 +1,4 @@
+-- The lemmas of a journal, for its own proofs and those of the crates above.
 pub mod Cases
 pub mod Scans
 pub mod Steps
@@ -7,4 +8,5 @@ pub mod Lookups
 pub mod Lawful
 pub mod Validity
 pub mod Facts
+pub mod Later
 pub mod Extends

@@ -75,3 +75,12 @@ put_here key ks i d h e =
     let here : with_key key (drop i ks) ≡ key ∷ drop (i + 1) ks = ap (with_key key) (drop_more ks i d h) ∙ cond-true (eqb k.index key.index) (key ∷ drop (i + 1) ks) (k ∷ with_key key (drop (i + 1) ks)) (eq-eqb _ _ e) in
     let j : suc i ≡ i + 1 = omega arith in
     set_split ks i key h ∙ ap (λ m. take i ks ++ (key ∷ drop m ks)) j ∙ sym (ap (λ zs. take i ks ++ zs) here)
+
+-- the loop that looks for the event of a number, and the one that looks for the key of an index
+pub ruleset find_pending_steps = (pending_past, item_here, without_past, without_here)
+
+pub ruleset find_index_steps = (index_past, index_here, put_past, put_here)
+
+pub ruleset event_at_steps = (pending_past, pending_here)
+
+pub ruleset generation_of_steps = (generation_past, generation_here)

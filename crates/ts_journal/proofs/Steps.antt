@@ -1,8 +1,9 @@
 -- The machine's tests mean what its words say.
-use Rattle.std.proofs.Common.{◌≡◌, ℕ, ◌+◌, ◌≤◌, ◌⊎◌, inl, inr, ◌&&◌, ◌||◌, true, not, cond, eqb, ltb, List, [], ◌∷◌, Option, Some, None, refl, sym, ap, subst, ◌∙◌}
+use Rattle.std.proofs.Common.{◌≡◌, ℕ, ◌+◌, ◌≤◌, ◌⊎◌, inl, inr, ◌&&◌, ◌||◌, true, not, cond, eqb, ltb, leb, List, [], ◌∷◌, Option, Some, None, refl, sym, ap, subst, ◌∙◌}
 use Rattle.std.specs.Prelude.{is_some, unwrap_or}
 use Rattle.std.specs.Option.{MatchOption}
 use Rattle.std.proofs.lemmas.Bool.{false≢true, ltb-true, leb-true, eqb-true, lt-ltb, le-leb, eq-eqb, and_parts, and_from, or_cases, or_left, or_right, not-true, not_from_false}
+use Rattle.ts_journal.specs.declared.entry.TheConstants.{MOST_KEYS, GREATEST}
 use Rattle.ts_journal.specs.declared.entry.Pending.{Pending}
 use Rattle.ts_journal.specs.declared.entry.Latest.{Latest}
 use Rattle.ts_journal.specs.declared.entry.Entry.{Entry}
@@ -95,17 +96,17 @@ allowed_from s (Gave turn) h = let x = and_parts s.held (eqb turn s.turns) h in 
 allowed_from s (Made key) h =
     let next = eqb key.generation (unwrap_or (generation_at key.index s.newest) 0 + 1) in
     let free = not (is_some (generation_at key.index s.live)) in
-    let a = and_parts (s.held && ltb key.index 1024 && free && next) (ltb key.generation 18446744073709551616) h in
-    let b = and_parts (s.held && ltb key.index 1024 && free) next a.0 in
-    let c = and_parts (s.held && ltb key.index 1024) free b.0 in
-    let d = and_parts s.held (ltb key.index 1024) c.0 in
-    (d.0, ltb-true key.index 1024 d.1, none_from (generation_at key.index s.live) c.1, eqb-true key.generation _ b.1, ltb-true key.generation 18446744073709551616 a.1)
+    let a = and_parts (s.held && ltb key.index MOST_KEYS && free && next) (leb key.generation GREATEST) h in
+    let b = and_parts (s.held && ltb key.index MOST_KEYS && free) next a.0 in
+    let c = and_parts (s.held && ltb key.index MOST_KEYS) free b.0 in
+    let d = and_parts s.held (ltb key.index MOST_KEYS) c.0 in
+    (d.0, ltb-true key.index MOST_KEYS d.1, none_from (generation_at key.index s.live) c.1, eqb-true key.generation _ b.1, leb-true key.generation GREATEST a.1)
 allowed_from s (Set number key event due series period) h =
-    let a = and_parts (s.held && eqb number s.next && ltb number 18446744073709551615 && is_live s.live key) (may_belong s (record { key = key; series = series; period = period }) number) h in
-    let b = and_parts (s.held && eqb number s.next && ltb number 18446744073709551615) (is_live s.live key) a.0 in
-    let c = and_parts (s.held && eqb number s.next) (ltb number 18446744073709551615) b.0 in
+    let a = and_parts (s.held && eqb number s.next && ltb number GREATEST && is_live s.live key) (may_belong s (record { key = key; series = series; period = period }) number) h in
+    let b = and_parts (s.held && eqb number s.next && ltb number GREATEST) (is_live s.live key) a.0 in
+    let c = and_parts (s.held && eqb number s.next) (ltb number GREATEST) b.0 in
     let d = and_parts s.held (eqb number s.next) c.0 in
-    (d.0, eqb-true number s.next d.1, ltb-true number 18446744073709551615 c.1, generation_from _ _ b.1, belongs_from s (record { key = key; series = series; period = period }) number a.1)
+    (d.0, eqb-true number s.next d.1, ltb-true number GREATEST c.1, generation_from _ _ b.1, belongs_from s (record { key = key; series = series; period = period }) number a.1)
 allowed_from s (Handled number moment) h = let x = and_parts s.held (is_due (pending_at number s.pending) moment) h in let p = due_from _ _ x.1 in (x.0, p.0, p.1, p.2)
 allowed_from s (Cancelled number) h = let x = and_parts s.held (is_some (pending_at number s.pending)) h in let p = some_from _ x.1 in (x.0, p.0, p.1)
 allowed_from s (Dropped number) h = let x = and_parts s.held (is_some (pending_at number s.pending)) h in let p = some_from _ x.1 in (x.0, p.0, p.1)
@@ -121,15 +122,15 @@ allowed_to s (Made key) (held, low, empty, is_next, fits) =
     let next = eqb key.generation (unwrap_or (generation_at key.index s.newest) 0 + 1) in
     let free = not (is_some (generation_at key.index s.live)) in
     let f : free ≡ true = subst (λ v. not (is_some v) ≡ true) (sym empty) refl in
-    and_from (s.held && ltb key.index 1024 && free && next) (ltb key.generation 18446744073709551616)
-    (and_from (s.held && ltb key.index 1024 && free) next
-    (and_from (s.held && ltb key.index 1024) free (and_from s.held (ltb key.index 1024) held (lt-ltb _ _ low)) f)
+    and_from (s.held && ltb key.index MOST_KEYS && free && next) (leb key.generation GREATEST)
+    (and_from (s.held && ltb key.index MOST_KEYS && free) next
+    (and_from (s.held && ltb key.index MOST_KEYS) free (and_from s.held (ltb key.index MOST_KEYS) held (lt-ltb _ _ low)) f)
     (eq-eqb _ _ is_next))
-    (lt-ltb _ _ fits)
+    (le-leb _ _ fits)
 allowed_to s (Set number key event due series period) (held, is_next, fits, live, belongs) =
-    and_from (s.held && eqb number s.next && ltb number 18446744073709551615 && is_live s.live key) (may_belong s (record { key = key; series = series; period = period }) number)
-    (and_from (s.held && eqb number s.next && ltb number 18446744073709551615) (is_live s.live key)
-    (and_from (s.held && eqb number s.next) (ltb number 18446744073709551615) (and_from s.held (eqb number s.next) held (eq-eqb _ _ is_next)) (lt-ltb _ _ fits))
+    and_from (s.held && eqb number s.next && ltb number GREATEST && is_live s.live key) (may_belong s (record { key = key; series = series; period = period }) number)
+    (and_from (s.held && eqb number s.next && ltb number GREATEST) (is_live s.live key)
+    (and_from (s.held && eqb number s.next) (ltb number GREATEST) (and_from s.held (eqb number s.next) held (eq-eqb _ _ is_next)) (lt-ltb _ _ fits))
     (generation_to _ _ live))
     (belongs_to s (record { key = key; series = series; period = period }) number belongs)
 allowed_to s (Handled number moment) (held, p, there, due) =

@@ -1,6 +1,7 @@
 -- A lawful journal keeps what holds of a state.
 use Rattle.std.proofs.Common.{◌≡◌, ℕ, ◌+◌, ◌<◌, ◌≤◌, inl, inr, List, [], ◌∷◌, ◌++◌, Some, length, refl, sym, ap, subst, ◌∙◌, arith}
 use Rattle.std.proofs.lemmas.List.{length_push}
+use Rattle.ts_journal.specs.declared.entry.TheConstants.{MOST_KEYS}
 use Rattle.ts_journal.specs.declared.entry.ContKey.{ContKey}
 use Rattle.ts_journal.specs.declared.entry.Pending.{Pending}
 use Rattle.ts_journal.specs.declared.entry.Entry.{Entry}
@@ -97,7 +98,7 @@ valid_replay s (e ∷ es) v (a, b) = valid_replay (after s e) es (valid_after s 
 pub valid_fresh : (turns : ℕ) → IsValid (fresh turns)
 valid_fresh turns = record { rises = omega arith; alive = tt; newest = tt; begun = tt; counts = refl; few = omega arith; fits = omega arith }
 
-pub valid_fresh_with : (turns : ℕ) (key : ContKey) → key.index < 1024 → IsValid (fresh_with turns key)
+pub valid_fresh_with : (turns : ℕ) (key : ContKey) → key.index < MOST_KEYS → IsValid (fresh_with turns key)
 valid_fresh_with turns key low = record { rises = omega arith; alive = tt; newest = grind (arith); begun = tt; counts = refl; few = omega arith; fits = omega arith }
 
 pub reached_fresh : (base s : State) (turns : ℕ) → base ≡ fresh turns → s ≡ fresh turns → IsReached base [] s
@@ -105,7 +106,7 @@ reached_fresh base s turns b e =
     let v = valid_fresh turns in
     record { lawful = tt; state = e ∙ sym b; valid_base = subst (λ x. IsValid x) (sym b) v; valid = subst (λ x. IsValid x) (sym e) v }
 
-pub reached_fresh_with : (base s : State) (turns : ℕ) (key : ContKey) → key.index < 1024 → base ≡ fresh_with turns key → s ≡ fresh_with turns key → IsReached base [] s
+pub reached_fresh_with : (base s : State) (turns : ℕ) (key : ContKey) → key.index < MOST_KEYS → base ≡ fresh_with turns key → s ≡ fresh_with turns key → IsReached base [] s
 reached_fresh_with base s turns key low b e =
     let v = valid_fresh_with turns key low in
     record { lawful = tt; state = e ∙ sym b; valid_base = subst (λ x. IsValid x) (sym b) v; valid = subst (λ x. IsValid x) (sym e) v }

@@ -1,5 +1,6 @@
 -- The event machine: which entries a state allows, what each of them changes, and which journals are lawful.
-use Rattle.std.specs.Prelude.{◌≡◌, ℕ, ◌+◌, ◌<◌, ◌≤◌, ◌==◌, ◌&&◌, ◌||◌, ◌⊎◌, Bool, true, false, not, nat_lt, nat_le, List, [], ◌∷◌, ◌++◌, Option, Some, None, length, if◌then◌else◌, unwrap_or, is_some}
+use Rattle.std.specs.Prelude.{⊤, ◌≡◌, ℕ, ◌+◌, ◌<◌, ◌≤◌, ◌==◌, ◌&&◌, ◌||◌, ◌⊎◌, Bool, true, false, not, nat_lt, nat_le, List, [], ◌∷◌, ◌++◌, Option, Some, None, length, if◌then◌else◌, unwrap_or, is_some}
+use Rattle.ts_journal.specs.declared.entry.TheConstants.{MOST_KEYS, GREATEST}
 use Rattle.ts_journal.specs.declared.entry.ContKey.{ContKey}
 use Rattle.ts_journal.specs.declared.entry.Pending.{Pending}
 use Rattle.ts_journal.specs.declared.entry.Latest.{Latest}
@@ -12,22 +13,25 @@ abbrev pub HasSeries : Latest → List Pending → Type 0
 HasSeries l [] = ⊥
 HasSeries l (p ∷ ps) = (latest_of p ≡ l) ⊎ HasSeries l ps
 
--- A first or only event begins its series. A later one comes at a period, while an event of the series is pending or
--- was the last one handled.
+-- A first or only event begins its series. A later one comes at a period, while an event of the series is
+-- pending or was the last one handled.
 abbrev pub MayBelong : State → Latest → ℕ → Type 0
-MayBelong s l number = (l.series ≡ number) ⊎ ((l.series < number) × (0 < l.period) × ((s.latest ≡ Some l) ⊎ HasSeries l s.pending))
+MayBelong s l number =
+    (l.series ≡ number)
+    ⊎ ((l.series < number) × (0 < l.period) × ((s.latest ≡ Some l) ⊎ HasSeries l s.pending))
 
 -- where an entry is allowed
 abbrev pub Allowed : State → Entry → Type 0
 Allowed s (Took turn seat) = (s.held ≡ false) × (s.turns < turn)
 Allowed s (Gave turn) = (s.held ≡ true) × (turn ≡ s.turns)
 Allowed s (Made key) =
-    (s.held ≡ true) × (key.index < 1024) × (generation_at key.index s.live ≡ None)
-    × (key.generation ≡ unwrap_or (generation_at key.index s.newest) 0 + 1) × (key.generation < 18446744073709551616)
+    (s.held ≡ true) × (key.index < MOST_KEYS) × (generation_at key.index s.live ≡ None)
+    × (key.generation ≡ unwrap_or (generation_at key.index s.newest) 0 + 1) × (key.generation ≤ GREATEST)
 Allowed s (Set number key event due series period) =
-    (s.held ≡ true) × (number ≡ s.next) × (number < 18446744073709551615) × IsLive s.live key
+    (s.held ≡ true) × (number ≡ s.next) × (number < GREATEST) × IsLive s.live key
     × MayBelong s (record { key = key; series = series; period = period }) number
-Allowed s (Handled number moment) = (s.held ≡ true) × (p : Pending) × (pending_at number s.pending ≡ Some p) × (p.due ≤ moment)
+Allowed s (Handled number moment) =
+    (s.held ≡ true) × (p : Pending) × (pending_at number s.pending ≡ Some p) × (p.due ≤ moment)
 Allowed s (Cancelled number) = (s.held ≡ true) × (p : Pending) × (pending_at number s.pending ≡ Some p)
 Allowed s (Dropped number) = (s.held ≡ true) × (p : Pending) × (pending_at number s.pending ≡ Some p)
 Allowed s (Destroyed key) = (s.held ≡ true) × IsLive s.live key × (numbers_of key s.pending ≡ [])
@@ -39,7 +43,14 @@ after s (Gave turn) = record s { held = false }
 after s (Made key) = record s { live = s.live ++ key ∷ []; newest = with_key key s.newest }
 after s (Set number key event due series period) = record s {
   next = s.next + 1;
-  pending = s.pending ++ record { number = number; key = key; event = event; due = due; series = series; period = period } ∷ [];
+  pending = s.pending ++ record {
+    number = number;
+    key = key;
+    event = event;
+    due = due;
+    series = series;
+    period = period;
+  } ∷ [];
   set_count = s.set_count + 1;
 }
 after s (Handled number moment) = record s {
@@ -47,11 +58,17 @@ after s (Handled number moment) = record s {
   latest = latest_at number s.pending;
   handled_count = s.handled_count + 1;
 }
-after s (Cancelled number) = record s { pending = without number s.pending; cancelled_count = s.cancelled_count + 1 }
-after s (Dropped number) = record s { pending = without number s.pending; dropped_count = s.dropped_count + 1 }
+after s (Cancelled number) = record s {
+  pending = without number s.pending;
+  cancelled_count = s.cancelled_count + 1;
+}
+after s (Dropped number) = record s {
+  pending = without number s.pending;
+  dropped_count = s.dropped_count + 1;
+}
 after s (Destroyed key) = record s { live = without_index key.index s.live }
 
--- The tests of the machine, which compute.
+-- The tests of the machine, which compute; the first asks whether there is a generation, and it is this.
 abbrev pub has_generation : Option ℕ → ℕ → Bool
 has_generation None g = false
 has_generation (Some h) g = h == g
@@ -60,7 +77,9 @@ abbrev pub is_live : List ContKey → ContKey → Bool
 is_live live key = has_generation (generation_at key.index live) key.generation
 
 abbrev pub same_series : Latest → Latest → Bool
-same_series a b = (a.key.index == b.key.index) && (a.key.generation == b.key.generation) && (a.series == b.series) && (a.period == b.period)
+same_series a b =
+    (a.key.index == b.key.index) && (a.key.generation == b.key.generation)
+    && (a.series == b.series) && (a.period == b.period)
 
 abbrev pub is_latest : Option Latest → Latest → Bool
 is_latest None l = false
@@ -71,7 +90,9 @@ has_series l [] = false
 has_series l (p ∷ ps) = same_series (latest_of p) l || has_series l ps
 
 abbrev pub may_belong : State → Latest → ℕ → Bool
-may_belong s l number = (l.series == number) || (nat_lt l.series number && nat_lt 0 l.period && (is_latest s.latest l || has_series l s.pending))
+may_belong s l number =
+    (l.series == number)
+    || (nat_lt l.series number && nat_lt 0 l.period && (is_latest s.latest l || has_series l s.pending))
 
 abbrev pub is_due : Option Pending → ℕ → Bool
 is_due None moment = false
@@ -85,10 +106,11 @@ abbrev pub is_allowed : State → Entry → Bool
 is_allowed s (Took turn seat) = not s.held && nat_lt s.turns turn
 is_allowed s (Gave turn) = s.held && (turn == s.turns)
 is_allowed s (Made key) =
-    s.held && nat_lt key.index 1024 && not (is_some (generation_at key.index s.live))
-    && (key.generation == unwrap_or (generation_at key.index s.newest) 0 + 1) && nat_lt key.generation 18446744073709551616
+    s.held && nat_lt key.index MOST_KEYS && not (is_some (generation_at key.index s.live))
+    && (key.generation == unwrap_or (generation_at key.index s.newest) 0 + 1)
+    && nat_le key.generation GREATEST
 is_allowed s (Set number key event due series period) =
-    s.held && (number == s.next) && nat_lt number 18446744073709551615 && is_live s.live key
+    s.held && (number == s.next) && nat_lt number GREATEST && is_live s.live key
     && may_belong s (record { key = key; series = series; period = period }) number
 is_allowed s (Handled number moment) = s.held && is_due (pending_at number s.pending) moment
 is_allowed s (Cancelled number) = s.held && is_some (pending_at number s.pending)
@@ -107,7 +129,7 @@ run (Some s) (e ∷ es) = run (step s e) es
 
 -- each entry is allowed where it stands
 abbrev pub IsLawful : State → List Entry → Type 0
-IsLawful s [] = Unit {0}
+IsLawful s [] = ⊤
 IsLawful s (e ∷ es) = Allowed s e × IsLawful (after s e) es
 
 -- the state that entries lead to where they are lawful
@@ -122,18 +144,20 @@ Rises low (p ∷ ps) high = (low ≤ p.number) × Rises (p.number + 1) ps high
 
 -- each pending event is of a live key
 abbrev pub AllLive : List ContKey → List Pending → Type 0
-AllLive live [] = Unit {0}
+AllLive live [] = ⊤
 AllLive live (p ∷ ps) = IsLive live p.key × AllLive live ps
 
 -- each pending event is in a series that began with it or before it
 abbrev pub AllBegun : List Pending → Type 0
-AllBegun [] = Unit {0}
+AllBegun [] = ⊤
 AllBegun (p ∷ ps) = (p.series ≤ p.number) × AllBegun ps
 
--- each place is named once, below 1,024, under the newest generation that it was given
+-- each index is live once, below the most keys, under the newest generation that it was given
 abbrev pub AreNewest : List ContKey → List ContKey → Type 0
-AreNewest newest [] = Unit {0}
-AreNewest newest (k ∷ ks) = (generation_at k.index newest ≡ Some k.generation) × (generation_at k.index ks ≡ None) × (k.index < 1024) × AreNewest newest ks
+AreNewest newest [] = ⊤
+AreNewest newest (k ∷ ks) =
+    (generation_at k.index newest ≡ Some k.generation) × (generation_at k.index ks ≡ None)
+    × (k.index < MOST_KEYS) × AreNewest newest ks
 
 -- the counts add up: each event that was set is handled, cancelled, dropped or pending
 abbrev pub Balances : State → Type 0
@@ -147,7 +171,7 @@ pub record IsValid (s : State) : Type 0 where
   pub begun : AllBegun s.pending
   pub counts : Balances s
   pub few : s.set_count < s.next
-  pub fits : s.next ≤ 18446744073709551615
+  pub fits : s.next ≤ GREATEST
 
 -- what is known of the pending event of a number
 pub record IsKnown (s : State) (n : ℕ) (p : Pending) : Type 0 where

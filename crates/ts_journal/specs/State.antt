@@ -1,14 +1,15 @@
--- The state of a mutex group: what its continuations and their events are at one moment. The Developer's Guide
--- speaks of continuations, their mutex, and the actions that schedule events for them.
+-- The state of a mutex group: what its continuations and their events are at one moment. The Developer's
+-- Guide of Traffic Server speaks of continuations, their mutex, and the actions that schedule events for
+-- them.
 use Rattle.std.specs.Prelude.{◌≡◌, ℕ, ◌==◌, ◌&&◌, Bool, false, List, [], ◌∷◌, Option, Some, None, if◌then◌else◌}
 use Rattle.std.specs.Option.{option_map}
 use Rattle.ts_journal.specs.declared.entry.ContKey.{ContKey}
 use Rattle.ts_journal.specs.declared.entry.Pending.{Pending}
 use Rattle.ts_journal.specs.declared.entry.Latest.{Latest}
 
--- The turn that was recorded last and whether it is still held; the number of the next event; the events that are
--- pending, by rising number; the series of the event handled last; the keys that are live, and the newest key of
--- each place, in the order in which they were made; and four counts.
+-- The turn that was recorded last and whether it is still held; the number of the next event; the events that
+-- are pending, by rising number; the series of the event handled last; the keys that are live, and the newest
+-- key of each index, in the order in which they were made; and four counts.
 pub record State : Type 0 where
   pub turns : ℕ
   pub held : Bool
@@ -38,7 +39,7 @@ fresh turns = record {
   dropped_count = 0;
 }
 
--- the same with one key, which is live
+-- where such a group begins that has one key, which is live
 abbrev pub fresh_with : ℕ → ContKey → State
 fresh_with turns key = record (fresh turns) { live = key ∷ []; newest = key ∷ [] }
 
@@ -52,17 +53,17 @@ abbrev pub without : ℕ → List Pending → List Pending
 without n [] = []
 without n (p ∷ ps) = if p.number == n then ps else p ∷ without n ps
 
--- the generation of a list of keys at a place
+-- the generation of the key of an index in a list of keys
 abbrev pub generation_at : ℕ → List ContKey → Option ℕ
 generation_at i [] = None
 generation_at i (k ∷ ks) = if k.index == i then Some k.generation else generation_at i ks
 
--- the keys but that at the place
+-- the keys but that of the index
 abbrev pub without_index : ℕ → List ContKey → List ContKey
 without_index i [] = []
 without_index i (k ∷ ks) = if k.index == i then ks else k ∷ without_index i ks
 
--- the keys with this one at its place
+-- the keys with this one at its index
 abbrev pub with_key : ContKey → List ContKey → List ContKey
 with_key key [] = key ∷ []
 with_key key (k ∷ ks) = if k.index == key.index then key ∷ ks else k ∷ with_key key ks

@@ -1,11 +1,15 @@
--- The state that tables hold, and what can be added to them without memory.
-use Rattle.std.specs.Prelude.{ℕ, ◌-◌, length, min}
+-- The state that tables keep, what can be added to them without memory, and where an event or a key stands.
+use Rattle.std.specs.Prelude.{◌≡◌, ℕ, ◌-◌, ◌<◌, List, length, min, remove, slice_get, slice_set}
 use Rattle.std.specs.Vec.{vec_capacity}
 use Rattle.ts_journal.specs.declared.tables.Tables.{Tables}
-use Rattle.ts_journal.specs.State.{State}
+use Rattle.ts_journal.specs.declared.entry.ContKey.{ContKey}
+use Rattle.ts_journal.specs.declared.entry.Pending.{Pending}
+use Rattle.ts_journal.specs.declared.entry.Entry.{Entry}
+use Rattle.ts_journal.specs.declared.entry.Entry.TheVariants.{Set}
+use Rattle.ts_journal.specs.State.{State, pending_at, without, without_index, with_key}
 
-abbrev pub state_of : Tables → State
-state_of t = record {
+abbrev pub state_in : Tables → State
+state_in t = record {
   turns = t.turns;
   held = t.held;
   next = t.next;
@@ -19,10 +23,27 @@ state_of t = record {
   dropped_count = t.dropped_count;
 }
 
--- so many pending events
+-- so many pending events can be added
 abbrev pub set_room_of : Tables → ℕ
 set_room_of t = vec_capacity t.pending - length t.pending.items
 
--- so many keys
+-- so many keys can be added
 abbrev pub key_room_of : Tables → ℕ
-key_room_of t = min (vec_capacity t.live - length t.live.items) (vec_capacity t.newest - length t.newest.items)
+key_room_of t =
+    min (vec_capacity t.live - length t.live.items) (vec_capacity t.newest - length t.newest.items)
+
+-- the pending event of a number stands at this place
+pub record IsPlaceOf (number : ℕ) (ps : List Pending) (i : ℕ) : Type 0 where
+  pub below : i < length ps
+  pub there : slice_get ps i ≡ pending_at number ps
+  pub removed : remove ps i ≡ without number ps
+
+-- the key of an index stands at this place
+pub record IsPlaceAt (index : ℕ) (ks : List ContKey) (i : ℕ) : Type 0 where
+  pub below : i < length ks
+  pub removed : remove ks i ≡ without_index index ks
+  pub put : (key : ContKey) → key.index ≡ index → slice_set ks i key ≡ with_key key ks
+
+-- the entry with which an event was set
+abbrev pub entry_of : Pending → Entry
+entry_of p = Set p.number p.key p.event p.due p.series p.period

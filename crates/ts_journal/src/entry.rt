@@ -1,6 +1,13 @@
-//! Events, keys and the entries of a journal.
+//! The keys of continuations, their events, and the entries of a journal.
 
 use std::alloc::{AllocError, AllocFailed};
+
+/// How many continuations a group can have: the index of each key is below it.
+pub const MOST_KEYS: u32 = 1024;
+
+/// The greatest `u64`: the numbers of events and turns and the generations of keys end there, and moments
+/// stay there.
+pub const GREATEST: u64 = u64::MAX;
 
 /// Want of memory.
 #[derive(Clone, Copy, Debug, PartialEq, Eq)]
@@ -18,8 +25,9 @@ impl<T: Drop> From<AllocFailed<T>> for NoMemory {
     }
 }
 
-/// The name of a continuation: a place in its group's table, below 1,024, and how often that place was given away,
-/// counted from 1. A name is never given twice, so one that was destroyed reaches no later continuation.
+/// The name of a continuation: an index in its group's table, below 1,024, and how often that index was given
+/// away, counted from 1. A name is never given twice, so one that was destroyed reaches no later
+/// continuation.
 #[derive(Clone, Copy, Debug, PartialEq, Eq)]
 pub struct ContKey {
     pub index: u32,
@@ -49,7 +57,7 @@ pub enum Entry {
         turn: u64,
         seat: u64,
     },
-    /// It was given back.
+    /// The mutex was given back.
     Gave {
         turn: u64,
     },
@@ -57,8 +65,8 @@ pub enum Entry {
     Made {
         key: ContKey,
     },
-    /// An event was set for a continuation. The series is the number of the first event that its action names, and
-    /// the period is 0 where that is the only one.
+    /// An event was set for a continuation. The series is the number of the first event that its action
+    /// names, and the period is 0 where that is the only one.
     Set {
         number: u64,
         key: ContKey,

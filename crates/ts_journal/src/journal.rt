@@ -1,17 +1,18 @@
-//! The journal of a mutex group.
+//! The journal of a mutex group: its entries, and the state that they lead to.
 
-ghost use Rattle.std.specs.Prelude.{◌≡◌, ℕ, ◌+◌, ◌<◌, ◌≤◌, [], ◌∷◌, IfSome, IfOk, OnOk, IsTrue, ◌↔◌, length};
+ghost use Rattle.std.specs.Prelude.{◌≡◌, ◌+◌, ◌<◌, ◌≤◌, [], ◌∷◌, IfSome, IfOk, OnOk, IsTrue, ◌↔◌};
 ghost use Rattle.ts_journal.specs.State.{fresh, fresh_with, pending_at, generation_at, IsLive};
-ghost use Rattle.ts_journal.specs.Machine.{Allowed, after, IsLawful, IsValid, IsKnown, Balances, replay};
-ghost use Rattle.ts_journal.specs.Log.{Log, Extends, IsSameLog, sets_of, keys_of};
+ghost use Rattle.ts_journal.specs.Machine.{Allowed, after, IsLawful, IsValid, IsKnown, replay};
+ghost use Rattle.ts_journal.specs.Log.{Extends, IsSameLog, HasRoom, HasRoomFor, KeepsRoom, set_places, key_places};
+ghost use Rattle.ts_journal.specs.Tally.{counts_of};
 
-use crate::entry::{ContKey, Counts, Entry, NoMemory, Pending};
+use crate::entry::{ContKey, Counts, Entry, MOST_KEYS, NoMemory, Pending};
 use crate::tables::{Tables, event_at, generation_of};
 use std::alloc::Global;
 use std::marker::Model;
 
-/// The journal of a mutex group: where it began, what happened since, and where that leads. It takes memory only in
-/// `make`, `with_key` and `reserve`.
+/// The journal of a mutex group: where it began, what happened since, and where that leads. It takes memory
+/// only in `make`, `with_key` and `reserve`.
 #[derive(Drop)]
 pub struct Journal {
     base: Tables,
@@ -27,18 +28,18 @@ impl Model for Journal {
     ghost Value = { Log };
 
     ghost use Rattle.ts_journal.specs.Machine.{IsReached};
-    ghost use Rattle.ts_journal.specs.Tables.{state_of, set_room_of, key_room_of};
+    ghost use Rattle.ts_journal.specs.Tables.{state_in, set_room_of, key_room_of};
 
     ghost view = { λ j. record {
-      base = state_of j.base;
+      base = state_in j.base;
       entries = j.entries.items;
-      state = state_of j.tables;
+      state = state_in j.tables;
       room = vec_capacity j.entries - length j.entries.items;
       set_room = set_room_of j.tables;
       key_room = key_room_of j.tables;
     } };
 
-    ghost invariant = { λ j. IsReached (state_of j.base) j.entries.items (state_of j.tables) };
+    ghost invariant = { λ j. IsReached (state_in j.base) j.entries.items (state_in j.tables) };
 }
 
 impl Journal {
@@ -55,10 +56,10 @@ impl Journal {
         })
     }
 
-    /// The same with one key, which is live. The index is below 1,024.
+    /// The journal of such a group that has one key, which is live.
     #[tactic(auto, using(crate::proofs::Validity::reached_fresh_with))]
     pub fn with_key(alloc: Global, turns: u64, key: ContKey) -> Result<Journal, NoMemory>
-        requires { key.index < 1024 }
+        requires { key.index < MOST_KEYS }
         ensures base { IfOk result (λ j. (j.base ≡ fresh_with turns key) × (j.state ≡ fresh_with turns key)) }
         ensures entries { IfOk result (λ j. j.entries ≡ []) }
     {
@@ -69,12 +70,12 @@ impl Journal {
         })
     }
 
-    /// Makes room for so many entries, whatever they are. At want of memory the room may have grown, and nothing else
-    /// changed.
+    /// Makes room for so many entries, whatever they are. At want of memory the room may have grown, and
+    /// nothing else changed.
     pub fn reserve(&mut self, entries: usize) -> Result<(), NoMemory>
         ensures same { IsSameLog self.old self.new }
-        ensures ok { OnOk result ((entries ≤ self.new.room) × (entries ≤ self.new.set_room) × (entries ≤ self.new.key_room)) }
-        ensures kept { (self.old.room ≤ self.new.room) × (self.old.set_room ≤ self.new.set_room) × (self.old.key_room ≤ self.new.key_room) }
+        ensures ok { OnOk result (HasRoomFor self.new entries) }
+        ensures kept { KeepsRoom self.old self.new }
     {
         self.entries.reserve(entries)?;
         self.tables.reserve(entries)
@@ -83,14 +84,12 @@ impl Journal {
     /// Adds an entry that the state allows, in room that was reserved.
     pub fn push(&mut self, entry: Entry)
         requires allowed { Allowed self.old.state entry }
-        requires room { 0 < self.old.room }
-        requires sets { sets_of entry ≤ self.old.set_room }
-        requires keys { keys_of entry ≤ self.old.key_room }
+        requires room { HasRoom self.old entry }
         ensures log { Extends self.old self.new (entry ∷ []) }
         ensures state { self.new.state ≡ after self.old.state entry }
         ensures room { self.old.room ≤ self.new.room + 1 }
-        ensures set_room { self.old.set_room ≤ self.new.set_room + sets_of entry }
-        ensures key_room { self.old.key_room ≤ self.new.key_room + keys_of entry }
+        ensures set_room { self.old.set_room ≤ self.new.set_room + set_places entry }
+        ensures key_room { self.old.key_room ≤ self.new.key_room + key_places entry }
     {
         self.entries.push_reserved(entry);
         self.tables.apply(entry);
@@ -105,9 +104,9 @@ impl Journal {
         &self.entries
     }
 
-    /// How many events were set since the base, and before it, and what became of them.
+    /// How many events were set in all, before the base too, and what became of them.
     pub fn counts(&self) -> Counts
-        ensures counts { let s = self.now.state in result ≡ record { set = s.set_count; handled = s.handled_count; cancelled = s.cancelled_count; dropped = s.dropped_count; pending = length s.pending } }
+        ensures counts { result ≡ counts_of self.now.state }
         ensures balance { result.set ≡ result.handled + result.cancelled + result.dropped + result.pending }
     {
         Counts {
@@ -173,7 +172,7 @@ impl Journal {
         self.tables.turns
     }
 
-    /// Whether that turn is still held.
+    /// Whether the turn that was recorded last is still held.
     pub fn is_held(&self) -> bool
         ensures { result ≡ self.now.state.held }
     {

@@ -1,15 +1,14 @@
-//! What is kept of a state, and what each entry changes of it.
+//! What is kept in memory of a journal's state, and what each entry changes of it.
 
-ghost use Rattle.std.specs.Prelude.{◌≡◌, ℕ, ◌+◌, ◌-◌, ◌<◌, ◌≤◌, List, [], ◌∷◌, ◌++◌, None, IfSome, IfOk, OnOk, length, slice_get, slice_set, remove, Option};
-ghost use Rattle.std.specs.Option.{option_map};
+ghost use Rattle.std.specs.Prelude.{◌≡◌, ℕ, ◌+◌, ◌<◌, ◌≤◌, List, ◌∷◌, [], ◌++◌, None, IfSome, IfOk, OnOk, length, slice_get, slice_set, remove};
 ghost use Rattle.ts_journal.specs.State.{State, fresh, fresh_with, pending_at, without, generation_at, without_index, with_key, latest_of};
 ghost use Rattle.ts_journal.specs.Machine.{Allowed, after, IsValid};
-ghost use Rattle.ts_journal.specs.Log.{sets_of, keys_of};
-ghost use Rattle.ts_journal.specs.Tables.{state_of, set_room_of, key_room_of};
+ghost use Rattle.ts_journal.specs.Log.{set_places, key_places};
+ghost use Rattle.ts_journal.specs.Tables.{state_in, set_room_of, key_room_of, IsPlaceOf, IsPlaceAt, entry_of};
 ghost use Rattle.ts_journal.specs.declared.entry.ContKey.{ContKey as Key};
 ghost use Rattle.ts_journal.specs.declared.entry.Entry.TheVariants as Entry;
 
-use crate::entry::{ContKey, Entry, Latest, NoMemory, Pending};
+use crate::entry::{ContKey, Entry, GREATEST, Latest, NoMemory, Pending};
 use std::alloc::Global;
 
 /// The parts of a state.
@@ -29,9 +28,9 @@ pub struct Tables {
 }
 
 // Where the event of a number stands.
-#[tactic(auto, using(crate::proofs::Scans::pending_past, crate::proofs::Scans::item_here, crate::proofs::Scans::without_past, crate::proofs::Scans::without_here))]
+#[tactic(auto, using(crate::proofs::Scans::find_pending_steps))]
 fn find_pending(pending: &[Pending], number: u64) -> Option<usize>
-    ensures found { IfSome result (λ i. (i < length pending.now) × (slice_get pending.now i ≡ pending_at number pending.now) × (remove pending.now i ≡ without number pending.now)) }
+    ensures found { IfSome result (IsPlaceOf number pending.now) }
     ensures none { result ≡ None → pending_at number pending.now ≡ None }
     ensures same { result ≡ None → without number pending.now ≡ pending.now }
 {
@@ -44,12 +43,12 @@ fn find_pending(pending: &[Pending], number: u64) -> Option<usize>
 }
 
 // Where the key of an index stands.
-#[tactic(auto, using(crate::proofs::Scans::index_past, crate::proofs::Scans::index_here, crate::proofs::Scans::put_past, crate::proofs::Scans::put_here))]
+#[tactic(auto, using(crate::proofs::Scans::find_index_steps))]
 fn find_index(keys: &[ContKey], index: u32) -> Option<usize>
-    ensures found { IfSome result (λ i. (i < length keys.now) × (remove keys.now i ≡ without_index index keys.now)) }
-    ensures put { IfSome result (λ i. (key : Key) → key.index ≡ index → slice_set keys.now i key ≡ with_key key keys.now) }
+    ensures found { IfSome result (IsPlaceAt index keys.now) }
     ensures same { result ≡ None → without_index index keys.now ≡ keys.now }
-    ensures new { result ≡ None → (key : Key) → key.index ≡ index → with_key key keys.now ≡ keys.now ++ key ∷ [] }
+    ensures new { result ≡ None →
+        (key : Key) → key.index ≡ index → with_key key keys.now ≡ keys.now ++ key ∷ [] }
 {
     for (i, key) in keys.iter().enumerate() {
         if key.index == index {
@@ -60,7 +59,7 @@ fn find_index(keys: &[ContKey], index: u32) -> Option<usize>
 }
 
 /// The event of a number.
-#[tactic(auto, using(crate::proofs::Scans::pending_past, crate::proofs::Scans::pending_here))]
+#[tactic(auto, using(crate::proofs::Scans::event_at_steps))]
 pub fn event_at(pending: &[Pending], number: u64) -> Option<Pending>
     ensures { result ≡ pending_at number pending.now }
 {
@@ -73,7 +72,7 @@ pub fn event_at(pending: &[Pending], number: u64) -> Option<Pending>
 }
 
 /// The generation of the key of an index.
-#[tactic(auto, using(crate::proofs::Scans::generation_past, crate::proofs::Scans::generation_here))]
+#[tactic(auto, using(crate::proofs::Scans::generation_of_steps))]
 pub fn generation_of(keys: &[ContKey], index: u32) -> Option<u64>
     ensures { result ≡ generation_at index keys.now }
 {
@@ -85,7 +84,7 @@ pub fn generation_of(keys: &[ContKey], index: u32) -> Option<u64>
     None
 }
 
-// The series of an event.
+// The series of an event, as it is kept once that event was handled.
 fn latest_of(event: Pending) -> Latest
     ensures { result ≡ latest_of event }
 {
@@ -97,9 +96,9 @@ fn latest_of(event: Pending) -> Latest
 }
 
 impl Tables {
-    /// Those of a group that has made so many turns elsewhere, and nothing else.
+    /// The tables of a group that has made so many turns elsewhere, and nothing else.
     pub fn make(alloc: Global, turns: u64) -> Tables
-        ensures { state_of result ≡ fresh turns }
+        ensures { state_in result ≡ fresh turns }
     {
         Tables {
             turns,
@@ -116,9 +115,9 @@ impl Tables {
         }
     }
 
-    /// The same with one key, which is live.
+    /// The tables of such a group that has one key, which is live.
     pub fn with_key(alloc: Global, turns: u64, key: ContKey) -> Result<Tables, NoMemory>
-        ensures { IfOk result (λ t. state_of t ≡ fresh_with turns key) }
+        ensures { IfOk result (λ t. state_in t ≡ fresh_with turns key) }
     {
         let mut live = Vec::new(alloc);
         let mut newest = Vec::new(alloc);
@@ -141,9 +140,10 @@ impl Tables {
 
     /// Makes room for so many events and keys.
     pub fn reserve(&mut self, places: usize) -> Result<(), NoMemory>
-        ensures same { state_of self.new ≡ state_of self.old }
+        ensures same { state_in self.new ≡ state_in self.old }
         ensures ok { OnOk result ((places ≤ set_room_of self.new) × (places ≤ key_room_of self.new)) }
-        ensures kept { (set_room_of self.old ≤ set_room_of self.new) × (key_room_of self.old ≤ key_room_of self.new) }
+        ensures set_room { set_room_of self.old ≤ set_room_of self.new }
+        ensures key_room { key_room_of self.old ≤ key_room_of self.new }
     {
         self.pending.reserve(places)?;
         self.live.reserve(places)?;
@@ -153,13 +153,13 @@ impl Tables {
 
     /// Does what an entry says.
     pub fn apply(&mut self, entry: Entry)
-        requires valid { IsValid (state_of self.old) }
-        requires allowed { Allowed (state_of self.old) entry }
-        requires sets { sets_of entry ≤ set_room_of self.old }
-        requires keys { keys_of entry ≤ key_room_of self.old }
-        ensures state { state_of self.new ≡ after (state_of self.old) entry }
-        ensures set_room { set_room_of self.old ≤ set_room_of self.new + sets_of entry }
-        ensures key_room { key_room_of self.old ≤ key_room_of self.new + keys_of entry }
+        requires valid { IsValid (state_in self.old) }
+        requires allowed { Allowed (state_in self.old) entry }
+        requires sets { set_places entry ≤ set_room_of self.old }
+        requires keys { key_places entry ≤ key_room_of self.old }
+        ensures state { state_in self.new ≡ after (state_in self.old) entry }
+        ensures set_room { set_room_of self.old ≤ set_room_of self.new + set_places entry }
+        ensures key_room { key_room_of self.old ≤ key_room_of self.new + key_places entry }
     {
         match entry {
             Entry::Took { turn, .. } => {
@@ -180,7 +180,7 @@ impl Tables {
                 series,
                 period,
             } => {
-                self.set(Pending {
+                self.add_event(Pending {
                     number,
                     key,
                     event,
@@ -190,7 +190,7 @@ impl Tables {
                 });
             }
             Entry::Handled { number, .. } => {
-                self.handle(number);
+                self.close_handled(number);
             }
             Entry::Cancelled { number } => {
                 let _event = self.close(number);
@@ -201,15 +201,16 @@ impl Tables {
                 self.dropped_count += 1;
             }
             Entry::Destroyed { key } => {
-                self.destroy(key);
+                self.remove_key(key);
             }
         }
     }
 
     // Removes the event of a number.
     fn close(&mut self, number: u64) -> Option<Pending>
-        ensures state { state_of self.new ≡ record (state_of self.old) { pending = without number (state_of self.old).pending } }
-        ensures closed { result ≡ pending_at number (state_of self.old).pending }
+        ensures state { state_in self.new ≡
+            record (state_in self.old) { pending = without number (state_in self.old).pending } }
+        ensures closed { result ≡ pending_at number (state_in self.old).pending }
         ensures set_room { set_room_of self.old ≤ set_room_of self.new }
         ensures key_room { key_room_of self.old ≡ key_room_of self.new }
     {
@@ -220,9 +221,9 @@ impl Tables {
     }
 
     // Removes the event of a number, which is handled.
-    fn handle(&mut self, number: u64)
-        requires { self.old.handled_count < 18446744073709551615 }
-        ensures state { state_of self.new ≡ after (state_of self.old) (Entry.Handled number 0) }
+    fn close_handled(&mut self, number: u64)
+        requires { self.old.handled_count < GREATEST }
+        ensures state { state_in self.new ≡ after (state_in self.old) (Entry.Handled number 0) }
         ensures set_room { set_room_of self.old ≤ set_room_of self.new }
         ensures key_room { key_room_of self.old ≡ key_room_of self.new }
     {
@@ -236,7 +237,7 @@ impl Tables {
     // Adds a key, which is the newest of its index.
     fn add_key(&mut self, key: ContKey)
         requires { 0 < key_room_of self.old }
-        ensures state { state_of self.new ≡ after (state_of self.old) (Entry.Made key) }
+        ensures state { state_in self.new ≡ after (state_in self.old) (Entry.Made key) }
         ensures set_room { set_room_of self.old ≡ set_room_of self.new }
         ensures key_room { key_room_of self.old ≤ key_room_of self.new + 1 }
     {
@@ -248,11 +249,11 @@ impl Tables {
     }
 
     // Adds an event under the next number.
-    fn set(&mut self, event: Pending)
+    fn add_event(&mut self, event: Pending)
         requires room { 0 < set_room_of self.old }
-        requires next { self.old.next < 18446744073709551615 }
-        requires count { self.old.set_count < 18446744073709551615 }
-        ensures state { state_of self.new ≡ after (state_of self.old) (Entry.Set event.number event.key event.event event.due event.series event.period) }
+        requires next { self.old.next < GREATEST }
+        requires count { self.old.set_count < GREATEST }
+        ensures state { state_in self.new ≡ after (state_in self.old) (entry_of event) }
         ensures set_room { set_room_of self.old ≤ set_room_of self.new + 1 }
         ensures key_room { key_room_of self.old ≡ key_room_of self.new }
     {
@@ -262,8 +263,8 @@ impl Tables {
     }
 
     // Removes a key.
-    fn destroy(&mut self, key: ContKey)
-        ensures state { state_of self.new ≡ after (state_of self.old) (Entry.Destroyed key) }
+    fn remove_key(&mut self, key: ContKey)
+        ensures state { state_in self.new ≡ after (state_in self.old) (Entry.Destroyed key) }
         ensures set_room { set_room_of self.old ≡ set_room_of self.new }
         ensures key_room { key_room_of self.old ≤ key_room_of self.new }
     {

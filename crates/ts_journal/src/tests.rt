@@ -1,3 +1,5 @@
+//! What a journal records, run on small examples.
+
 use crate::{ContKey, Counts, Entry, Event, Journal};
 use std::test::Fail;
 

@@ -6,7 +6,7 @@ use Rattle.ts_journal.specs.declared.entry.Event.TheVariants.{Immediate, Timeout
 use Rattle.ts_group.specs.declared.action.Action.{Action}
 use Rattle.ts_group.specs.declared.action.SetFault.{SetFault}
 use Rattle.ts_group.specs.Context.{Context, role_at, moment_after}
-use Rattle.ts_group.specs.Changes.{Sets}
+use Rattle.ts_group.specs.Acts.{Sets}
 use Rattle.ts_transform.specs.Driving.{works_at, HasEvent, HasKind, HasEventIf, IsOfStage, IsOfStageIf, AreOfStages, Keeps, SetsFew}
 use Rattle.ts_transform.specs.declared.continuation.StageContinuation.{StageContinuation}
 
@@ -25,13 +25,13 @@ pub few_trans : {a b c : Context} (m n : ℕ) → SetsFew m a b → SetsFew n b 
 few_trans m n h k = record { next = omega (arith, h.next, k.next); pending = omega (arith, h.pending, k.pending) }
 
 -- an event was set, or none
-pub set_keeps : (a b : Context) (r : Result Action SetFault) (key : ContKey) (event : Event) (due : ℕ) → Sets a b r key event due 0 → Keeps a b
-set_keeps a b r key event due h = record { pending = h.more.stays; roles = h.kept.0; plain = h.plain refl; turn = h.turn }
+pub set_keeps : (a b : Context) (r : Result Action SetFault) (key : ContKey) (event : Event) (due : ℕ) → Sets a.log b.log r key event due 0 → b.roles ≡ a.roles → Keeps a b
+set_keeps a b r key event due h roles = record { pending = h.more.stays; roles = roles; plain = h.plain refl; turn = h.turn }
 
-pub set_few : (a b : Context) (r : Result Action SetFault) (key : ContKey) (event : Event) (due : ℕ) → Sets a b r key event due 0 → SetsFew 1 a b
+pub set_few : (a b : Context) (r : Result Action SetFault) (key : ContKey) (event : Event) (due : ℕ) → Sets a.log b.log r key event due 0 → SetsFew 1 a b
 set_few a b r key event due h = record { next = h.more.next; pending = h.more.count }
 
-pub set_event : (a b : Context) (r : Result Action SetFault) (key : ContKey) (event : Event) (due : ℕ) → Sets a b r key event due 0 → works_at event ≡ true
+pub set_event : (a b : Context) (r : Result Action SetFault) (key : ContKey) (event : Event) (due : ℕ) → Sets a.log b.log r key event due 0 → works_at event ≡ true
     → OnOk r (HasEvent b.log.state.pending key)
 set_event a b (Ok action) key event due h works = record { event = _; there = h.there; of_key = refl; works = works }
 set_event a b (Err e) key event due h works = tt
@@ -90,6 +90,6 @@ pub soon_later : (moment pause : ℕ) → (moment_after moment pause ≤ moment_
 soon_later moment pause = (omega arith, omega arith)
 
 -- a stage was told of an event
-pub set_kind : (a b : Context) (r : Result Action SetFault) (key : ContKey) (event : Event) (due : ℕ) → Sets a b r key event due 0 → OnOk r (HasKind b.log.state.pending key event)
+pub set_kind : (a b : Context) (r : Result Action SetFault) (key : ContKey) (event : Event) (due : ℕ) → Sets a.log b.log r key event due 0 → OnOk r (HasKind b.log.state.pending key event)
 set_kind a b (Ok action) key event due h = record { event = _; there = h.there; of_key = refl; is = refl }
 set_kind a b (Err e) key event due h = tt

@@ -9,7 +9,8 @@ use Rattle.ts_group.specs.declared.action.Action.{Action}
 use Rattle.ts_group.specs.declared.action.Named.{Named}
 use Rattle.ts_group.specs.declared.action.SetFault.{SetFault}
 use Rattle.ts_group.specs.Context.{Context, role_at}
-use Rattle.ts_group.specs.Changes.{Sets, HasLost}
+use Rattle.ts_group.specs.Acts.{Sets}
+use Rattle.ts_group.specs.Changes.{HasLost}
 use Rattle.ts_transform.specs.declared.continuation.StageContinuation.{StageContinuation}
 use Rattle.ts_transform.specs.Driving.{AreOfStages, IsNamedIf, AreNamed, Keeps, SetsOnly, IsWorkOf, IsRousingOf, all_unroused, unroused, error_passed, changed}
 
@@ -32,9 +33,9 @@ pub only_weaker : (Such Other : Pending → Type 0) (a b : Context) → ((p : Pe
 only_weaker Such Other a b weaker only n p none some = weaker p (only n p none some)
 
 -- one event was set, or none
-pub set_only : (a b : Context) (r : Result Action SetFault) (key : ContKey) (event : Event) (due : ℕ) (Such : Pending → Type 0) → Sets a b r key event due 0
+pub set_only : (a b : Context) (r : Result Action SetFault) (key : ContKey) (event : Event) (due : ℕ) (Such : Pending → Type 0) → Sets a.log b.log r key event due 0
     → ((p : Pending) → p.key ≡ key → p.event ≡ event → p.due ≡ due → Such p) → SetsOnly Such a b
-set_only a b (Err e) key event due Such h such n p none some = only_same Such a b (ap (λ s. s.pending) h.err.log.state) n p none some
+set_only a b (Err e) key event due Such h such n p none some = only_same Such a b (ap (λ s. s.pending) h.err.state) n p none some
 set_only a b (Ok x) key event due Such h such n p none some = by_number (eqb_tells n x.series)
   where
     by_number : ((eqb n x.series ≡ true) × (n ≡ x.series)) ⊎ ((eqb n x.series ≡ false) × (n ≢ x.series)) → Such p

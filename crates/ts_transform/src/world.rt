@@ -182,6 +182,10 @@ impl<P: Transform + Drop> World for ChainWorld<P> {
 
     ghost left = { λ w s. Some (100 * (left_to_do P.rest w.chain [] + errors_to_pass w.table.items) + length s.pending) };
 
+    ghost right = { λ w group question reply. Unit {0} };
+
+    ghost answers = { λ w question reply. Unit {0} };
+
     ghost begun = { λ old new. new.chain ≡ old.chain };
 
     // A handler lets at most one stage work, by one pump.

@@ -3,7 +3,8 @@ use Rattle.std.proofs.Common.{◌≡◌, ◌+◌, refl, ap, Some, sym, ◌∙◌
 use Rattle.ts_journal.specs.State.{State, number_in}
 use Rattle.ts_journal.proofs.Lookups.{number_there}
 use Rattle.ts_group.specs.Context.{needed}
-use Rattle.ts_group.proofs.Facts.{has_closed, less_closed, stay_less}
+use Rattle.ts_group.proofs.Facts.{has_closed, stay_less}
+use Rattle.ts_group.proofs.Acts.{cancels_one}
 use Rattle.ts_group.proofs.Room.{needed_closed}
 use Rattle.ts_group.proofs.events.cancel_series.Goals as goal
 
@@ -14,22 +15,18 @@ push-requires-clause-allowed c =
     let there = number_there c.args.series s.pending 0 s.next c.in-Some.number c.known.ensures.valid.rises found in
     (c.requires.turn, there.0, there.1)
 
-pub returns-in-Some-clause-cancelled : goal.returns-in-Some-clause-cancelled
-returns-in-Some-clause-cancelled c = λ q.
+pub returns-in-Some-clause-cancels : goal.returns-in-Some-clause-cancels
+returns-in-Some-clause-cancels c =
     let s : State = c.args.journal.now.state in
     let t : State = c.push.new.self.state in
     let e = c.push.ensures.state in
     let found : number_in c.args.series s.pending ≡ Some c.in-Some.number = ap (number_in c.args.series) (sym c.pending.ensures) ∙ sym c.in-Some.ensures in
     let there = number_there c.args.series s.pending 0 s.next c.in-Some.number c.known.ensures.valid.rises found in
-    (c.in-Some.number, found, c.push.ensures.log, has_closed s t c.in-Some.number there.0 c.known.ensures.valid there.1 (ap (λ (x : State). x.pending) e) (ap (λ (x : State). x.next) e) (ap (λ (x : State). x.live) e))
-
-pub returns-in-Some-clause-less : goal.returns-in-Some-clause-less
-returns-in-Some-clause-less c =
-    let r = returns-in-Some-clause-cancelled c refl in
-    less_closed c.args.journal.now.state c.push.new.self.state r.0 r.3
+    let closed = has_closed s t c.in-Some.number there.0 c.known.ensures.valid there.1 (ap (λ (x : State). x.pending) e) (ap (λ (x : State). x.next) e) (ap (λ (x : State). x.live) e) in
+    cancels_one c.args.journal.now c.push.new.self c.args.series c.in-Some.number found c.push.ensures.log closed (ap (λ (x : State). x.held) e ∙ c.requires.turn)
 
 pub returns-in-Some-clause-stay : goal.returns-in-Some-clause-stay
-returns-in-Some-clause-stay c = stay_less c.args.journal.now.state c.push.new.self.state (returns-in-Some-clause-less c)
+returns-in-Some-clause-stay c = stay_less c.args.journal.now.state c.push.new.self.state (returns-in-Some-clause-cancels c).less
 
 pub returns-in-Some-clause-room : goal.returns-in-Some-clause-room
 returns-in-Some-clause-room c =

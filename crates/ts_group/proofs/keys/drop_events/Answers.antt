@@ -19,7 +19,7 @@ loop-number-preserved c =
     let first : numbers_of c.args.key s.pending ≡ c.in-Some.number ∷ found.0 = ap (numbers_of c.args.key) (sym c.pending.ensures) ∙ found.1 in
     dropping_more c.args.journal.now c.loop-number.journal c.push.new.self c.args.key c.in-Some.number found.0 c.loop-number.invariant first c.push.ensures.log c.push.ensures.state c.push.ensures.room c.known-in-Some.ensures.valid
 
-pub returns-clause-others : goal.returns-clause-others
-returns-clause-others c =
+pub returns-clause-drops : goal.returns-clause-drops
+returns-clause-drops c =
     let none = ap (numbers_of c.args.key) (sym c.pending.ensures) ∙ c.in_default.ensures.none refl in
-    (dropping_all c.args.journal.now c.loop-number.journal c.args.key c.loop-number.invariant none).others
+    dropping_all c.args.journal.now c.loop-number.journal c.args.key c.loop-number.invariant none

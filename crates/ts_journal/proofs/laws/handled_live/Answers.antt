@@ -1,3 +1,4 @@
+-- An event is handled only while its key is live.
 use Rattle.ts_journal.proofs.Facts.{handled_live_lem}
 use Rattle.ts_journal.proofs.laws.handled_live.Goals as goal
 

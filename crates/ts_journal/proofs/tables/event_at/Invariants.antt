@@ -1,3 +1,4 @@
+-- So far no event has the number.
 use Rattle.std.proofs.Common.{◌≡◌, drop}
 use Rattle.ts_journal.specs.State.{pending_at}
 use Rattle.ts_journal.proofs.tables.event_at.Given as goal

@@ -1,3 +1,4 @@
+-- So far no key has the index.
 use Rattle.std.proofs.Common.{◌≡◌, ◌++◌, take, drop}
 use Rattle.ts_journal.specs.declared.entry.ContKey.{ContKey}
 use Rattle.ts_journal.specs.State.{without_index, with_key}

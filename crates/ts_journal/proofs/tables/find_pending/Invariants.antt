@@ -1,3 +1,4 @@
+-- So far no event that was passed has the number.
 use Rattle.std.proofs.Common.{◌≡◌, ◌++◌, take, drop}
 use Rattle.ts_journal.specs.State.{pending_at, without}
 use Rattle.ts_journal.proofs.tables.find_pending.Given as goal

@@ -1,3 +1,4 @@
+-- So far no key that was passed has the index.
 use Rattle.std.proofs.Common.{◌≡◌, drop}
 use Rattle.ts_journal.specs.State.{generation_at}
 use Rattle.ts_journal.proofs.tables.generation_of.Given as goal

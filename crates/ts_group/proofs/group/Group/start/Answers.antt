@@ -1,9 +1,6 @@
--- The world's own entries leave the turn held.
-use Rattle.ts_group.proofs.Runs.{grows_held, grows_turns}
+-- The world's own entries stay in the turn.
+use Rattle.ts_group.proofs.Runs.{grows_stays}
 use Rattle.ts_group.proofs.group.Group.start.Goals as goal
 
 pub returns-clause-turn : goal.returns-clause-turn
-returns-clause-turn g c = grows_held c.start.ensures.grows c.requires.turn
-
-pub returns-clause-turns : goal.returns-clause-turns
-returns-clause-turns g c = grows_turns c.start.ensures.grows
+returns-clause-turn g c = grows_stays c.start.ensures.grows c.requires.turn

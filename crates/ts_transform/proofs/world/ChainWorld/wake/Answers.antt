@@ -23,7 +23,7 @@ returns-clause-sound g c =
     let world = c.world_mut.result.now in
     let marked = c.mark.new.self in
     marked_sound cx now world.chain marked.chain world.table.items marked.table.items world.running marked.running c.in_ok-key.field-0
-    c.in_ok-key.ensures.driven c.mark.ensures.chain c.in_ok-key.ensures.running (same_length world.table.items marked.table.items c.mark.ensures.same) (set_keeps cx now _ _ _ _ c.schedule.ensures.sets)
+    c.in_ok-key.ensures.driven c.mark.ensures.chain c.in_ok-key.ensures.running (same_length world.table.items marked.table.items c.mark.ensures.same) (set_keeps cx now _ _ _ _ c.schedule.ensures.sets c.schedule.ensures.roles)
     (subst (HasEventIf now.log.state.pending) (sym c.in-Some.is) (set_event cx now (Ok c.in_default-schedule.field-0) c.in-Some.key _ _ c.in_default-schedule.ensures.sets (works_soon _)))
     (subst (λ x. IsSound world x.log.state.pending x.roles) (sym c.cx.ensures.value)
     (subst (λ w. IsSound w c.args.group.now.cx.log.state.pending c.args.group.now.cx.roles) (sym c.world_mut.ensures.value) c.requires.sound))
