@@ -135,7 +135,7 @@ closed_once_lem base es v h n = record {
 }
 
 -- A key that is live was live at the base or was made, and was not destroyed since.
-made_before : (live : List ContKey) (k key : ContKey) → generation_at k.index live ≡ None → IsLive (live ++ k ∷ []) key → IsLive live key ⊎ (k ≡ key)
+pub made_before : (live : List ContKey) (k key : ContKey) → generation_at k.index live ≡ None → IsLive (live ++ k ∷ []) key → IsLive live key ⊎ (k ≡ key)
 made_before live k key free l =
     by_eq k.index key.index (λ t. IsLive live key ⊎ (k ≡ key))
     (λ e.
@@ -145,7 +145,7 @@ made_before live k key free l =
     (λ f. inl (sym (generation_other key.index live k f) ∙ l))
 
 -- a key that is live after another went was live before
-live_before : (newest live : List ContKey) (k key : ContKey) → AreNewest newest live → IsLive (without_index k.index live) key → IsLive live key × (k ≡ key → ⊥)
+pub live_before : (newest live : List ContKey) (k key : ContKey) → AreNewest newest live → IsLive (without_index k.index live) key → IsLive live key × (k ≡ key → ⊥)
 live_before newest live k key v l =
     let other : k.index ≡ key.index → ⊥ =
     λ e. let gone : generation_at key.index (without_index k.index live) ≡ None = ap (λ i. generation_at i (without_index k.index live)) (sym e) ∙ generation_gone newest k.index live v in cc in

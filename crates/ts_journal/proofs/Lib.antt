@@ -8,4 +8,5 @@ pub mod Lookups
 pub mod Lawful
 pub mod Validity
 pub mod Facts
+pub mod Later
 pub mod Extends

@@ -5,3 +5,4 @@ pub mod Log
 pub mod Tally
 pub mod Tables
 pub mod Laws
+pub mod Later

@@ -2,6 +2,7 @@
 //! to do.
 
 ghost use Rattle.ts_journal.specs.Laws.{StepIsAllowed, RunIsLawful, NumbersRise, ClosedOnce, HandledLive, StandInTurns, CountsBalance, NeverAgain};
+ghost use Rattle.ts_journal.specs.Later.{NeverBack, IsOrder};
 
 /// The machine's function gives the new state exactly where the entry is allowed, and nothing elsewhere.
 pub fn step_is_allowed()
@@ -41,4 +42,16 @@ pub fn counts_balance()
 /// A key that was destroyed is never live again.
 pub fn never_again()
     ensures { NeverAgain }
+{}
+
+/// A journal never goes back: a number that was closed stays so, a key that was given away and is not live stays so, and
+/// no count falls.
+pub fn never_back()
+    ensures { NeverBack }
+{}
+
+/// That a state does not go back behind another is an order: each follows itself, and what follows one that follows a
+/// third follows that.
+pub fn later_is_order()
+    ensures { IsOrder }
 {}

@@ -21,7 +21,7 @@ pub trait Slotted {
 
     ghost trace: { Self → Self.Trace };
 
-    /// The second trace was left after the first, or is the same.
+    /// The first trace was left after the second, or is the same.
     ghost follows: { Self.Trace → Self.Trace → Type 0 };
 
     ghost follows_itself: { (t : Self.Trace) → follows t t };

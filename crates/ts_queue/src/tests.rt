@@ -1,0 +1,124 @@
+//! Rows of the queue, and two threads that put and take.
+
+ghost use Rattle.std.specs.Prelude.{◌≡◌, ◌+◌, ◌<◌, ◌≤◌, OnOk};
+ghost use Rattle.ts_queue.specs.Tickets.{Exactly};
+ghost use Rattle.ts_queue.specs.Passes.{view, IsPassOf};
+
+use crate::{EventQueue, QueuePass, Ticket, Token, WHOLE_SHARE};
+use std::sync::Wait;
+use std::test::Fail;
+use std::thread;
+use std::thread::Threads;
+
+const PUTS: u64 = 100;
+
+fn token(number: u64) -> Token {
+    Token { group: 0, number }
+}
+
+fn ticket(putter: u64, serial: u64, number: u64) -> Option<Ticket> {
+    Some(Ticket {
+        putter,
+        serial,
+        token: token(number),
+    })
+}
+
+#[test]
+fn tickets_come_in_the_order_of_puts(rt: HostRuntime) -> Result<(), Fail> {
+    let (queue, mut pass) = EventQueue::make(rt.alloc())?;
+    queue.put(&rt, &mut pass, token(1))?;
+    queue.put(&rt, &mut pass, token(2))?;
+    assert_eq!(rt; pass.serial(), 2);
+    assert_eq!(rt; queue.take(&rt, &mut pass), ticket(0, 1, 1));
+    assert_eq!(rt; queue.take(&rt, &mut pass), ticket(0, 2, 2));
+    assert_eq!(rt; pass.empties(), 0);
+    assert_eq!(rt; queue.take(&rt, &mut pass), None);
+    assert_eq!(rt; pass.empties(), 1);
+    Ok(())
+}
+
+#[test]
+fn passes_are_split_and_joined(rt: HostRuntime) -> Result<(), Fail> {
+    let (queue, mut first) = EventQueue::make(rt.alloc())?;
+    queue.put(&rt, &mut first, token(7))?;
+    let mut second = queue.split(&mut first)?;
+    assert_eq!(rt; second.serial(), 0);
+    queue.put(&rt, &mut second, token(8))?;
+    assert_eq!(rt; queue.take(&rt, &mut second), ticket(0, 1, 7));
+    queue.join(&mut first, second);
+    assert_eq!(rt; first.serial(), 1);
+    assert_eq!(rt; queue.take(&rt, &mut first), ticket(1, 1, 8));
+    assert_eq!(rt; queue.take(&rt, &mut first), None);
+    Ok(())
+}
+
+// Puts tokens with the numbers from 1 on.
+fn put_all<R: Wait>(rt: &R, queue: &EventQueue, mut pass: QueuePass) -> QueuePass
+    requires { IsPassOf queue.now pass × ((view pass).serial ≡ 0) }
+    ensures { IsPassOf queue.now result × ((view result).share ≡ (view pass).share) }
+{
+    'puts: for number in 0..PUTS {
+        let _ = queue.put(rt, &mut pass, token(number + 1));
+    }
+    pass
+}
+
+// Takes so many times as tokens were put, and adds up the numbers of the tokens that it got.
+fn take_some<R: Wait>(rt: &R, queue: &EventQueue, mut pass: QueuePass) -> (QueuePass, u64)
+    requires { IsPassOf queue.now pass }
+    ensures { IsPassOf queue.now result.0 × ((view result.0).share ≡ (view pass).share) }
+{
+    let mut sum: u64 = 0;
+    'takes: for _ in 0..PUTS {
+        if let Some(taken) = queue.take(rt, &mut pass) {
+            sum = sum.wrapping_add(taken.token.number);
+        }
+    }
+    (pass, sum)
+}
+
+// One thread puts while another takes, and then all that is left is taken.
+fn exchange<R: Threads + Wait + Sync>(
+    rt: &R,
+    queue: &EventQueue,
+    putter: QueuePass,
+    taker: QueuePass,
+) -> (QueuePass, u64)
+    requires passes { IsPassOf queue.now putter × IsPassOf queue.now taker }
+    requires serial { (view putter).serial ≡ 0 }
+    requires shares { (view putter).share + (view taker).share ≡ WHOLE_SHARE }
+    ensures pass { IsPassOf queue.now result.0 }
+    ensures all { Exactly (view result.0).put (view result.0).taken }
+{
+    let (mut pass, (taker, first)) = thread::join(
+        rt,
+        move || -> QueuePass
+            requires { IsPassOf queue.now putter × ((view putter).serial ≡ 0) }
+            ensures { IsPassOf queue.entry.now result × ((view result).share ≡ (view putter).share) }
+        { put_all(rt, queue, putter) },
+        move || -> (QueuePass, u64)
+            requires { IsPassOf queue.now taker }
+            ensures { IsPassOf queue.entry.now result.0 × ((view result.0).share ≡ (view taker).share) }
+        { take_some(rt, queue, taker) },
+    );
+    queue.join(&mut pass, taker);
+    let mut sum = first;
+    'rest: for _ in rt.forever() {
+        match queue.take(rt, &mut pass) {
+            Some(taken) => sum = sum.wrapping_add(taken.token.number),
+            None => return (pass, sum),
+        }
+    }
+    unreachable!()
+}
+
+#[test]
+fn what_one_thread_puts_another_takes(rt: HostRuntime) -> Result<(), Fail> {
+    let (queue, mut putter) = EventQueue::make(rt.alloc())?;
+    let taker = queue.split(&mut putter)?;
+    let (pass, sum) = exchange(&rt, &queue, putter, taker);
+    assert_eq!(rt; pass.serial(), 100);
+    assert_eq!(rt; sum, 5050);
+    Ok(())
+}

@@ -1,0 +1,9 @@
+pub mod Lists
+pub mod Kept
+pub mod Steps
+pub mod Bring
+pub mod Seats
+pub mod Ends
+pub mod Turns
+pub mod Latest
+pub mod Leaves

@@ -1,0 +1,33 @@
+-- The seat has the whole share, so every value is at home.
+use Rattle.std.proofs.Common.{◌≡◌, ◌<◌, ℕ, length, sym, refl, ap, ◌∙◌, subst, arith}
+use Rattle.std.specs.Prelude.{Some}
+use Rattle.std.specs.Mem.Slots.{slots_items, slots_len, slots_counts}
+use Rattle.ts_slot.proofs.slots.Slots.close.Goals as goal
+use Rattle.ts_slot.proofs.Ends.{ends, value_at, one_value}
+use Rattle.ts_slot.proofs.Leaves.{at_low}
+use Rattle.ts_slot.specs.Words.{IsLast}
+
+pub unload-requires-clause-each : goal.unload-requires-clause-each
+unload-requires-clause-each g c k low =
+    let w = c.args.self.sized.1 in
+    let n = c.args.self.named in
+    let l = c.close_with-closed.ensures.counts.1 in
+    let e = ends g.V.Slotted.fits g.V.Slotted.stamp g.V.Slotted.trace g.V.Slotted.follows g.V.Slotted.follows_on c.args.self.table.shared.key.0.value.items
+        c.args.seat.place.id c.args.seat.place.me.0 (slots_items c.close_with-closed.result.words) (slots_items c.close_with-closed.result.slots) c.requires.share c.requires.idle
+        c.close_with-closed.ensures.values.2 k (omega arith) in
+    (e.value, e.there)
+
+pub returns-clause-values : goal.returns-clause-values
+returns-clause-values g c k x there =
+    let slots = slots_items c.close_with-closed.result.slots in
+    let stood = value_at c.unload.result.items slots k x c.unload.ensures there in
+    let low = at_low slots k (Some x) stood in
+    let w = c.args.self.sized.1 in
+    let n = c.args.self.named in
+    let l = c.close_with-closed.ensures.counts.1 in
+    let count = (slots_counts c.close_with-closed.result.slots).0 in
+    let e = ends g.V.Slotted.fits g.V.Slotted.stamp g.V.Slotted.trace g.V.Slotted.follows g.V.Slotted.follows_on c.args.self.table.shared.key.0.value.items
+        c.args.seat.place.id c.args.seat.place.me.0 (slots_items c.close_with-closed.result.words) slots c.requires.share c.requires.idle
+        c.close_with-closed.ensures.values.2 k (omega arith) in
+    let is : e.value ≡ x = one_value slots k e.value x e.there stood in
+    subst (IsLast {d = g.V.Slotted} c.args.self c.args.seat k) is (record { fit = e.fit; stamped = e.stamped; later = e.later })

@@ -1,0 +1,5 @@
+mod Added
+mod Joined
+mod Orders
+mod Parted
+mod Spread
