@@ -10,7 +10,7 @@ use Rattle.ts_transform.specs.declared.pump.Stage.{Stage}
 use Rattle.ts_transform.specs.Stage.{has_ended, has_work, passed}
 use Rattle.ts_transform.specs.Flow.{ChainState, HasWork, MustPump, Takes, closed, aborted, ended_at, flow, flow_from, last_wait, last_ended, fresh_stage, IsFinished}
 use Rattle.ts_transform.specs.Driving.{HasEvent, AreOfStages, IsRoused}
-use Rattle.ts_transform.specs.Cover.{IsAwake}
+use Rattle.ts_transform.specs.Cover.{IsAwake, IsDriven}
 use Rattle.ts_transform.specs.World.{IsCovered}
 use Rattle.ts_transform.proofs.Boundaries.{rest_of-ended}
 use Rattle.ts_transform.proofs.Starting.{fresh-first}
@@ -143,14 +143,19 @@ length-closed : {P : Type 0} (ss : List (Stage P)) → length (map closed ss) �
 length-closed [] = refl
 length-closed (s ∷ ss) = ap suc (length-closed ss)
 
+-- a driven chain is driven when it was aborted
+pub aborted_driven : {P : Type 0} (first : ℕ) (c d : ChainState P) (ts : List (Option StageContinuation)) (pending : List Pending) (roles : List Named) → d ≡ aborted c
+    → IsDriven first c ts pending roles → IsDriven first d ts pending roles
+aborted_driven first c d ts pending roles is h = subst (λ x. IsDriven first x ts pending roles) (sym is)
+    (record { len = h.len ∙ sym (length-closed c.stages); of_stages = h.of_stages; cover = λ j must. absurd (closed-idle true [] c.stages j must) })
+
 -- a sound world is sound when it was aborted
 pub aborted_sound : {P : Type 0} (c d : ChainState P) (ts : List (Option StageContinuation)) (running : Bool) (pending : List Pending) (roles : List Named)
     → d ≡ aborted c → IsCovered c ts running pending roles → IsCovered d ts running pending roles
 aborted_sound c d ts running pending roles is s = subst (λ x. IsCovered x ts running pending roles) (sym is) (record {
   given = refl;
   plain = s.plain;
-  driven = λ runs. let h = s.driven runs in
-      record { len = h.len ∙ sym (length-closed c.stages); of_stages = h.of_stages; cover = λ j must. absurd (closed-idle true [] c.stages j must) };
+  driven = λ runs. aborted_driven 1 c (aborted c) ts pending roles refl (s.driven runs);
   fresh = λ none j work. closed-rests true [] c.stages (j + 1) work;
 })
 
