@@ -1,5 +1,5 @@
 -- What a call on a journal leaves, put together from what it leaves of the state.
-use Rattle.std.proofs.Common.{◌≡◌, ℕ, ◌+◌, ◌<◌, true, List, [], ◌∷◌, ◌++◌, Some, None, Ok}
+use Rattle.std.proofs.Common.{◌≡◌, ℕ, ◌<◌, true, List, [], ◌∷◌, ◌++◌, Some, None, Ok}
 use Rattle.ts_journal.specs.declared.entry.ContKey.{ContKey}
 use Rattle.ts_journal.specs.declared.entry.Entry.TheVariants.{Made, Cancelled, Destroyed}
 use Rattle.ts_journal.specs.State.{IsLive, generation_at, without_index, number_in, numbers_of, others_of}

@@ -120,7 +120,8 @@ goes_same a b moment k ns ms h e = record {
 }
 
 -- For worlds: name this set in the attribute of an `impl World` or of a function that is lent a `Cx`, as
--- `#[tactic(auto, using(ts_group::proofs::Grows::grows))]`, and the clause `grows` closes in straight-line code.
+-- `#[tactic(auto, using(ts_group::proofs::Grows::grows))]`, and the clause `grows` closes in straight-line
+-- code.
 pub ruleset grows = (grows_refl, grows_trans, grows_three)
 
 -- setting an event, and asking for a direct call

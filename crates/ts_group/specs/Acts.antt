@@ -23,7 +23,8 @@ use Rattle.ts_group.specs.Entries.{drops, renewal, asking_entries}
 use Rattle.ts_group.specs.Changes.{StaysInTurn, IsMore, SameEvents, HasMade, KeepsKeys, HasLost, HasClosed, IsLess, HasHandled, first_event}
 
 -- an event is set
-pub record Sets (old new : Log) (result : Result Action SetFault) (key : ContKey) (event : Event) (due period : ℕ) : Type 0 where
+pub record Sets (old new : Log) (result : Result Action SetFault)
+    (key : ContKey) (event : Event) (due period : ℕ) : Type 0 where
   -- one entry, under the next number, which begins the series
   pub ok : IfOk result (λ a. (a.series ≡ old.state.next)
       × Extends old new (Set old.state.next key event due old.state.next period ∷ []))
@@ -66,7 +67,8 @@ pub record IsFreeKey (s : State) (key : ContKey) : Type 0 where
   pub fits : key.generation ≤ GREATEST
 
 -- a key is made, under the least index that can be used
-pub record Makes (old new : Log) (old_roles new_roles : List Named) (result : Result ContKey MakeFault) (role : ℕ) : Type 0 where
+pub record Makes (old new : Log) (old_roles new_roles : List Named)
+    (result : Result ContKey MakeFault) (role : ℕ) : Type 0 where
   pub made : IfOk result (λ key. Extends old new (Made key ∷ [])
       × (new_roles ≡ old_roles ++ record { key = key; role = role } ∷ []))
   pub least : IfOk result (λ key. (i : ℕ) → i < key.index → CanUse old.state i → ⊥)
@@ -80,7 +82,8 @@ pub record Makes (old new : Log) (old_roles new_roles : List Named) (result : Re
   pub events : SameEvents old.state new.state
 
 -- a key is destroyed, with its pending events, in the order of their numbers, and its role
-pub record Destroys (old new : Log) (old_roles new_roles : List Named) (result : Destroy) (key : ContKey) : Type 0 where
+pub record Destroys (old new : Log) (old_roles new_roles : List Named)
+    (result : Destroy) (key : ContKey) : Type 0 where
   pub gone : result ≡ destroy.Gone → (new_roles ≡ without_role key.index old_roles)
       × Extends old new (drops (numbers_of key old.state.pending) ++ Destroyed key ∷ [])
   pub live : result ≡ destroy.Gone → IsLive old.state.live key

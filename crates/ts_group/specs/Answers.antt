@@ -19,11 +19,13 @@ abbrev pub Holds : {W Q R T U : Type 0} → (W → State → List Named → Type
 Holds Sound g = Sound g.world g.cx.log.state g.cx.roles
 
 -- The handler that ran last waits for the reply of a group to a question.
-abbrev pub AwaitsReply : {W Q R T U : Type 0} → (W → State → List Named → ℕ → ℕ → Q → Type 0) → Group W Q R T U → ℕ → Q → Type 0
+abbrev pub AwaitsReply : {W Q R T U : Type 0} → (W → State → List Named → ℕ → ℕ → Q → Type 0)
+    → Group W Q R T U → ℕ → Q → Type 0
 AwaitsReply Asking g group question = Asking g.world g.cx.log.state g.cx.roles g.cx.role group question
 
 -- The handler that ran last waits for the reply of a group that the world may ask.
-abbrev pub MayAwait : {W Q R T U : Type 0} → (W → State → List Named → ℕ → ℕ → Q → Type 0) → (W → ℕ → Type 0) → Group W Q R T U → ℕ → Q → Type 0
+abbrev pub MayAwait : {W Q R T U : Type 0} → (W → State → List Named → ℕ → ℕ → Q → Type 0) → (W → ℕ → Type 0)
+    → Group W Q R T U → ℕ → Q → Type 0
 MayAwait Asking MayAsk g group question = AwaitsReply Asking g group question × MayAsk g.world group
 
 -- one fact where a handler wants nothing, and one of the group and the question where it asks
@@ -49,7 +51,8 @@ IsAnswer Right group question (Missed seen q) = q ≡ question
 IsAnswer Right group question (NoMemory q) = q ≡ question
 
 -- a question was asked, and what is handed back is right for it
-pub record IsAnswered {Q R : Type 0} (Asking : ℕ → Q → Type 0) (Right : ℕ → Q → R → Type 0) (asked : Asked Q R) : Type 0 where
+pub record IsAnswered {Q R : Type 0} (Asking : ℕ → Q → Type 0) (Right : ℕ → Q → R → Type 0)
+    (asked : Asked Q R) : Type 0 where
   pub group : ℕ
   pub question : Q
   pub asking : Asking group question
@@ -60,13 +63,15 @@ pub record IsSameGroup {W Q R T U : Type 0} (old new : Group W Q R T U) : Type 0
   pub cx : IsSame old.cx new.cx
   pub world : new.world ≡ old.world
 
--- What a call of `handle` answers and leaves. Where it handled fewer events than a turn handles at most, none of the
--- direct calls that its handlers asked for is pending.
-abbrev pub HandleGives : {W Q R T U : Type 0} → (W → W → List ℕ → Type 0) → Group W Q R T U → Group W Q R T U → ℕ → ℕ → Handling Q → Type 0
+-- What a call of `handle` answers and leaves. Where it handled fewer events than a turn handles at most, none
+-- of the direct calls that its handlers asked for is pending.
+abbrev pub HandleGives : {W Q R T U : Type 0} → (W → W → List ℕ → Type 0)
+    → Group W Q R T U → Group W Q R T U → ℕ → ℕ → Handling Q → Type 0
 HandleGives Called old new number moment (handling.Handled events) =
     Handles Called old new number moment events
     × (events < MOST_EVENTS → next_in new.cx.log.state.pending new.cx.calls ≡ None)
-HandleGives Called old new number moment (handling.Asks events group question) = Handles Called old new number moment events
+HandleGives Called old new number moment (handling.Asks events group question) =
+    Handles Called old new number moment events
 HandleGives Called old new number moment handling.NotPending =
     (pending_at number old.cx.log.state.pending ≡ None) × IsSameGroup old new
 HandleGives Called old new number moment (handling.NotDue due) =
@@ -82,7 +87,8 @@ pub record LacksRenewal {W Q R T U : Type 0} (old new : Group W Q R T U) (number
   pub same : IsSameGroup old new
 
 -- the group's own key was asked, and the world gave this reply
-pub record HasReplied {W Q R T U : Type 0} (Answers : W → Q → R → Type 0) (old new : Group W Q R T U) (question : Q) (moment : ℕ) (reply : R) : Type 0 where
+pub record HasReplied {W Q R T U : Type 0} (Answers : W → Q → R → Type 0) (old new : Group W Q R T U)
+    (question : Q) (moment : ℕ) (reply : R) : Type 0 where
   pub taken : TakesQuestion old.cx new.cx moment
   pub answers : Answers old.world question reply
 
@@ -93,7 +99,8 @@ Falls (Some before) by None = ⊥
 Falls (Some before) by (Some now) = now + by ≤ before
 
 -- what is left to a group is less by so much
-abbrev pub LeavesLess : {W Q R T U : Type 0} → (W → State → Option ℕ) → Group W Q R T U → ℕ → Group W Q R T U → Type 0
+abbrev pub LeavesLess : {W Q R T U : Type 0} → (W → State → Option ℕ)
+    → Group W Q R T U → ℕ → Group W Q R T U → Type 0
 LeavesLess Left old by new = Falls (Left old.world old.cx.log.state) by (Left new.world new.cx.log.state)
 
 -- a world that tells a number goes on to tell one
@@ -111,7 +118,8 @@ TellFalls (NoMemory q) before now = Falls before 0 now
 -- the same replies are right
 abbrev pub SameReplies : {Q R : Type 0} → (ℕ → Q → R → Type 0) → (ℕ → Q → R → Type 0) → Type 0
 SameReplies {Q} {R} Old New = (group : ℕ) (question : Q) (reply : R) →
-    (Old group question reply → New group question reply) × (New group question reply → Old group question reply)
+    (Old group question reply → New group question reply)
+    × (New group question reply → Old group question reply)
 
 -- the same groups may be asked
 abbrev pub SameGroups : (ℕ → Type 0) → (ℕ → Type 0) → Type 0
@@ -121,15 +129,18 @@ SameGroups Old New = (group : ℕ) → (Old group → New group) × (New group �
 abbrev pub KeepsTags : {T W : Type 0} → (T → W → Type 0) → W → W → Type 0
 KeepsTags {T} {W} Fits old new = (t : T) → Fits t old → Fits t new
 
--- what a world goes on to promise: the tags that it fits, the replies that are right, and the groups that it may ask
-pub record KeepsPromises {T W Q R : Type 0} (Fits : T → W → Type 0) (Right : W → ℕ → Q → R → Type 0) (MayAsk : W → ℕ → Type 0) (old new : W) : Type 0 where
+-- what a world goes on to promise: the tags that it fits, the replies that are right, and the groups that it
+-- may ask
+pub record KeepsPromises {T W Q R : Type 0} (Fits : T → W → Type 0) (Right : W → ℕ → Q → R → Type 0)
+    (MayAsk : W → ℕ → Type 0) (old new : W) : Type 0 where
   pub tags : KeepsTags Fits old new
   pub replies : SameReplies (Right old) (Right new)
   pub groups : SameGroups (MayAsk old) (MayAsk new)
 
 -- a world that fits a tag sets at most so many events
 abbrev pub SetsAtMost : {T W : Type 0} → (T → W → Type 0) → W → ℕ → Context → Context → Type 0
-SetsAtMost {T} {W} Fits world most old new = (t : T) → Fits t world → new.log.state.next ≤ old.log.state.next + most
+SetsAtMost {T} {W} Fits world most old new =
+    (t : T) → Fits t world → new.log.state.next ≤ old.log.state.next + most
 
 -- a world that fits a tag sets no event
 abbrev pub SetsNone : {T W : Type 0} → (T → W → Type 0) → W → Context → Context → Type 0

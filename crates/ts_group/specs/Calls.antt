@@ -21,9 +21,10 @@ pub record IsReady (log : Log) (moment : ℕ) (p : Pending) : Type 0 where
   pub due : p.due ≤ moment
   pub renew : CanRenew log p
 
--- A handler of this role is called for this event: the event was handled in a state before, and the entries of that
--- and of the next of its series led to the state now. Sound is what holds of the state before.
-pub record IsCalled (Sound : State → List Named → Type 0) (now : Context) (role : ℕ) (event : Event) : Type 0 where
+-- A handler of this role is called for this event: the event was handled in a state before, and the entries
+-- of that and of the next of its series led to the state now. Sound is what holds of the state before.
+pub record IsCalled (Sound : State → List Named → Type 0) (now : Context)
+    (role : ℕ) (event : Event) : Type 0 where
   pub before : State
   pub handled : Pending
   pub sound : Sound before now.roles
@@ -39,8 +40,8 @@ pub record IsCalled (Sound : State → List Named → Type 0) (now : Context) (r
   pub orderly : IsOrderly now
   pub has : HasHandled before now.log.state handled
 
--- A question is asked: an event of the group's own key was set and handled in the state before. These are the last
--- entries, and their moment is the moment now.
+-- A question is asked: an event of the group's own key was set and handled in the state before. These are the
+-- last entries, and their moment is the moment now.
 pub record IsAsked (Sound : State → List Named → Type 0) (now : Context) : Type 0 where
   pub before : State
   pub sound : Sound before now.roles
@@ -53,8 +54,8 @@ pub record IsAsked (Sound : State → List Named → Type 0) (now : Context) : T
   pub next : now.log.state.next ≡ before.next + 1
   pub live : now.log.state.live ≡ before.live
 
--- The entries of the event of a number that is handled, with those of its handler, which asked for these direct
--- calls.
+-- The entries of the event of a number that is handled, with those of its handler, which asked for these
+-- direct calls.
 pub record IsRun (s : State) (moment number : ℕ) (asked : List ℕ) (run : List Entry) : Type 0 where
   pub event : Pending
   pub there : pending_at number s.pending ≡ Some event
@@ -73,22 +74,25 @@ abbrev pub next_in : List Pending → List ℕ → Option (ℕ × List ℕ)
 next_in ps [] = None
 next_in ps (n ∷ ns) = if_pending (pending_at n ps) (n, ns) (next_in ps ns)
 
--- So many events are handled: first that of the number, and then the direct calls that these handlers asked for, in
--- the order asked for. `queue` are those that were asked for before, and `left` those that are left. Each handler
--- leads from one world to the next, and its calls are all that it asked for between the two.
-abbrev pub RunsFrom : {W : Type 0} → (W → W → List ℕ → Type 0) → W → W → State → ℕ → ℕ → List ℕ → ℕ → List Entry → List ℕ → Type 0
+-- So many events are handled: first that of the number, and then the direct calls that these handlers asked
+-- for, in the order asked for. `queue` are those that were asked for before, and `left` those that are left.
+-- Each handler leads from one world to the next, and its calls are all that it asked for between the two.
+abbrev pub RunsFrom : {W : Type 0} → (W → W → List ℕ → Type 0) → W → W
+    → State → ℕ → ℕ → List ℕ → ℕ → List Entry → List ℕ → Type 0
 RunsFrom {W} Called old new s moment number queue zero es left = ⊥
 RunsFrom {W} Called old new s moment number queue (suc zero) es left =
     (asked : List ℕ) × IsRun s moment number asked es × Called old new asked × (left ≡ queue ++ asked)
 RunsFrom {W} Called old new s moment number queue (suc (suc k)) es left =
-    (asked : List ℕ) × (run : List Entry) × (rest : List Entry) × IsRun s moment number asked run × (es ≡ run ++ rest)
+    (asked : List ℕ) × (run : List Entry) × (rest : List Entry)
+    × IsRun s moment number asked run × (es ≡ run ++ rest)
     × (mid : W) × Called old mid asked
     × (next : ℕ) × (behind : List ℕ) × (next_in (replay s run).pending (queue ++ asked) ≡ Some (next, behind))
     × RunsFrom Called mid new (replay s run) moment next behind (suc k) rest left
 
--- From a group to what it became, so many events were handled at a moment, the first under the number. The direct
--- calls that wait are those that these handlers asked for and that were not handled.
-pub record Handles {W Q R T U : Type 0} (Called : W → W → List ℕ → Type 0) (old new : Group W Q R T U) (number moment events : ℕ) : Type 0 where
+-- From a group to what it became, so many events were handled at a moment, the first under the number. The
+-- direct calls that wait are those that these handlers asked for and that were not handled.
+pub record Handles {W Q R T U : Type 0} (Called : W → W → List ℕ → Type 0) (old new : Group W Q R T U)
+    (number moment events : ℕ) : Type 0 where
   pub some : 1 ≤ events
   pub most : events ≤ MOST_EVENTS
   pub es : List Entry
@@ -100,8 +104,10 @@ pub record Handles {W Q R T U : Type 0} (Called : W → W → List ℕ → Type 
   pub idle : new.cx.running ≡ None
   pub news_from : new.cx.news_from ≡ old.cx.news_from
 
--- One event was handled, under this number, and its handler, which led from one world to the other, has returned.
-pub record HasRun {W Q R T U : Type 0} (Called : W → W → List ℕ → Type 0) (old new : Group W Q R T U) (number : ℕ) : Type 0 where
+-- One event was handled, under this number, and its handler, which led from one world to the other, has
+-- returned.
+pub record HasRun {W Q R T U : Type 0} (Called : W → W → List ℕ → Type 0) (old new : Group W Q R T U)
+    (number : ℕ) : Type 0 where
   pub asked : List ℕ
   pub run : List Entry
   pub is_run : IsRun old.cx.log.state old.cx.moment number asked run
@@ -113,8 +119,8 @@ pub record HasRun {W Q R T U : Type 0} (Called : W → W → List ℕ → Type 0
   pub idle : new.cx.running ≡ None
   pub news_from : new.cx.news_from ≡ old.cx.news_from
 
--- The group's own key was asked, and its world has answered: these are the entries of the question and those of the
--- world's own calls.
+-- The group's own key was asked, and its world has answered: these are the entries of the question and those
+-- of the world's own calls.
 pub record TakesQuestion (old new : Context) (moment : ℕ) : Type 0 where
   pub own : List Entry
   pub all_own : AllOwn own

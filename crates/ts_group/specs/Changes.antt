@@ -1,5 +1,5 @@
 -- What changes from one state to another, so that nobody above replays entries.
-use Rattle.std.specs.Prelude.{◌≡◌, ◌≢◌, ℕ, ◌+◌, ◌<◌, ◌≤◌, true, false, List, [], Some, None, length}
+use Rattle.std.specs.Prelude.{◌≡◌, ◌≢◌, ℕ, ◌+◌, ◌<◌, ◌≤◌, true, false, List, Some, None, length}
 use Rattle.ts_journal.specs.declared.entry.ContKey.{ContKey}
 use Rattle.ts_journal.specs.declared.entry.Event.{Event}
 use Rattle.ts_journal.specs.declared.entry.Pending.{Pending}
@@ -40,7 +40,8 @@ pub record SameEvents (old new : State) : Type 0 where
   pub next : new.next ≡ old.next
 
 -- one key more is live, under a role
-pub record HasMade (old new : State) (old_roles new_roles : List Named) (key : ContKey) (role : ℕ) : Type 0 where
+pub record HasMade (old new : State) (old_roles new_roles : List Named)
+    (key : ContKey) (role : ℕ) : Type 0 where
   pub live : IsLive new.live key
   pub named : role_at key.index new_roles ≡ Some role
   pub others : (i : ℕ) → i ≢ key.index → role_at i new_roles ≡ role_at i old_roles

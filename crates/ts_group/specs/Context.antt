@@ -8,8 +8,9 @@ use Rattle.ts_journal.specs.Machine.{IsValid}
 use Rattle.ts_journal.specs.Log.{Log, IsSameLog}
 use Rattle.ts_group.specs.declared.action.Named.{Named}
 
--- The journal; the role of each key that is live; the moment; the key of the handler that runs, and the role of the
--- one that runs or ran last; the number from which on pending events are news; and the direct calls that wait.
+-- The journal; the role of each key that is live; the moment; the key of the handler that runs, and the role
+-- of the one that runs or ran last; the number from which on pending events are news; and the direct calls
+-- that wait.
 pub record Context : Type 0 where
   pub log : Log
   pub roles : List Named
@@ -81,7 +82,8 @@ AllCalls s moment (n ∷ ns) = IsCall s moment n × AllCalls s moment ns
 pub record IsOrderly (now : Context) : Type 0 where
   pub valid : IsValid now.log.state
   pub keys : keys_of now.roles ≡ now.log.state.live
-  pub named : (key : ContKey) → IsLive now.log.state.live key → (role : ℕ) × (role_at key.index now.roles ≡ Some role)
+  pub named : (key : ContKey) → IsLive now.log.state.live key
+      → (role : ℕ) × (role_at key.index now.roles ≡ Some role)
 
 -- nothing changed, but that the journal may have got more room
 pub record IsSame (old new : Context) : Type 0 where

@@ -16,8 +16,8 @@ abbrev pub drops : List ℕ → List Entry
 drops [] = []
 drops (n ∷ ns) = Dropped n ∷ drops ns
 
--- The next occurrence of a periodic event that is handled at a moment: one period later, under the next number. There
--- is none where the numbers are used up.
+-- The next occurrence of a periodic event that is handled at a moment: one period later, under the next
+-- number. There is none where the numbers are used up.
 abbrev pub renewal : Pending → ℕ → ℕ → List Entry
 renewal p next moment =
     if nat_lt 0 p.period && nat_lt next GREATEST
@@ -75,7 +75,8 @@ pub record Grows (old new : Context) : Type 0 where
 abbrev pub CanRenew : Log → Pending → Type 0
 CanRenew log p = (p.period ≡ 0) ⊎ ((needed log.state + 2 ≤ log.room) × (1 ≤ log.set_room))
 
--- the event can be set: it begins a series under the next number, for a key that is live, and there is room for it
+-- the event can be set: it begins a series under the next number, for a key that is live, and there is room
+-- for it
 pub record CanSet (log : Log) (event : Pending) : Type 0 where
   pub turn : log.state.held ≡ true
   pub live : IsLive log.state.live event.key
@@ -85,7 +86,8 @@ pub record CanSet (log : Log) (event : Pending) : Type 0 where
   pub room : needed log.state + 2 ≤ log.room
   pub set_room : 0 < log.set_room
 
--- A question can be entered: a turn is held, the group's own key is live, and there is a number left for its event.
+-- A question can be entered: a turn is held, the group's own key is live, and there is a number left for its
+-- event.
 pub record CanBeAsked (s : State) : Type 0 where
   pub turn : s.held ≡ true
   pub live : IsLive s.live own_key

@@ -12,8 +12,8 @@ marks_of [] = []
 marks_of (Took turn seat ∷ es) = (turn, seat) ∷ marks_of es
 marks_of (_ ∷ es) = marks_of es
 
--- No turn is held, and few events were set for each turn: one where the world is only asked, which has nothing
--- pending then, and elsewhere as many as a turn sets at most.
+-- No turn is held, and few events were set for each turn: one where the world is only asked, which has
+-- nothing pending then, and elsewhere as many as a turn sets at most.
 abbrev pub IsAtRest : Bool → State → Type 0
 IsAtRest only_asked s =
     (s.held ≡ false)

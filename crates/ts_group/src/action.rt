@@ -3,15 +3,16 @@
 use thiserror::Error;
 use ts_journal::ContKey;
 
-/// A key that is live, with the role with which its continuation was made. A role says which handler is meant.
+/// A key that is live, with the role with which its continuation was made. A role says which handler is
+/// meant.
 #[derive(Clone, Copy, Debug, PartialEq, Eq)]
 pub struct Named {
     pub key: ContKey,
     pub role: u32,
 }
 
-/// What scheduling an event gives back: the name of a series of events. A plain event is a series of one, and all
-/// occurrences of a periodic event are one series.
+/// What scheduling an event gives back: the name of a series of events. A plain event is a series of one, and
+/// all occurrences of a periodic event are one series.
 #[derive(Clone, Copy, Debug, PartialEq, Eq)]
 pub struct Action {
     pub series: u64,

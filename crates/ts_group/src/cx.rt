@@ -22,7 +22,8 @@ use std::marker::Model;
 use ts_journal::{ContKey, Event, Journal, Pending};
 use ts_link::NoMemory;
 
-/// The continuations of a group, as a handler sees them. All calls but `key`, `now` and `is_done` are made in a turn.
+/// The continuations of a group, as a handler sees them. All calls but `key`, `now` and `is_done` are made in
+/// a turn.
 #[derive(Drop)]
 pub struct Cx {
     journal: Journal,
@@ -70,7 +71,8 @@ impl Cx {
         }
     }
 
-    /// The moment, in milliseconds: that of the last `begin_turn`, `handle` or `ask` of the group that made an entry.
+    /// The moment, in milliseconds: that of the last `begin_turn`, `handle` or `ask` of the group that made
+    /// an entry.
     pub fn now(&self) -> u64
         ensures { result ≡ self.now.moment }
     {
@@ -87,8 +89,8 @@ impl Cx {
         make_key(&mut self.journal, &mut self.roles, role)
     }
 
-    /// Destroys a continuation and drops its pending events, in the order of their numbers. A handler may destroy its
-    /// own continuation. It takes no memory.
+    /// Destroys a continuation and drops its pending events, in the order of their numbers. A handler may
+    /// destroy its own continuation. It takes no memory.
     pub fn destroy(&mut self, key: ContKey) -> Destroy
         requires turn { self.old.log.state.held ≡ true }
         ensures destroys { Destroys self.old.log self.new.log self.old.roles self.new.roles result key }
@@ -116,8 +118,8 @@ impl Cx {
         self.set(key, event, due, 0)
     }
 
-    /// Sets a `Timeout` that is due one period later, and again one period after each time that it is handled. The
-    /// period is at least one millisecond.
+    /// Sets a `Timeout` that is due one period later, and again one period after each time that it is
+    /// handled. The period is at least one millisecond.
     pub fn every(&mut self, key: ContKey, period: u64) -> Result<Action, SetFault>
         requires turn { self.old.log.state.held ≡ true }
         requires period { 0 < period }
@@ -131,8 +133,9 @@ impl Cx {
         self.set(key, Event::Timeout, due, period)
     }
 
-    /// Sets a direct call: an event that is due at once. The call of `Group::handle` that runs this handler handles
-    /// it before it returns, after the handler and in the order asked for, unless 64 events were handled then.
+    /// Sets a direct call: an event that is due at once. The call of `Group::handle` that runs this handler
+    /// handles it before it returns, after the handler and in the order asked for, unless 64 events were
+    /// handled then.
     pub fn call(&mut self, key: ContKey, event: Event) -> Result<Action, SetFault>
         requires turn { self.old.log.state.held ≡ true }
         ensures sets { Sets self.old.log self.new.log result key event self.old.moment 0 }
@@ -348,7 +351,8 @@ impl Cx {
         Ok(())
     }
 
-    // The first direct call that waits and is pending, which is handled next. It and those before it wait no more.
+    // The first direct call that waits and is pending, which is handled next. It and those before it wait no
+    // more.
     pub(crate) fn next_call(&mut self) -> Option<Pending>
         ensures found { IfSome result (λ p.
             next_in self.old.log.state.pending self.old.calls ≡ Some (p.number, self.new.calls)) }

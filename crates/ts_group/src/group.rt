@@ -26,7 +26,8 @@ pub struct Group<W: World> {
 }
 
 impl<W: World + Drop> Group<W> {
-    /// A group of a world that has its own continuation alone, with the role 0. It has made so many turns elsewhere.
+    /// A group of a world that has its own continuation alone, with the role 0. It has made so many turns
+    /// elsewhere.
     pub fn make(alloc: Global, world: W, turns: u64) -> Result<Group<W>, NoMemory>
         ensures world { IfOk result (λ g. g.world ≡ world) }
         ensures fresh { IfOk result (λ g. IsFresh turns g.cx) }
@@ -37,7 +38,8 @@ impl<W: World + Drop> Group<W> {
         }
     }
 
-    /// Begins a turn at a moment. It takes the memory of all that has to be closed, destroyed and given back then.
+    /// Begins a turn at a moment. It takes the memory of all that has to be closed, destroyed and given back
+    /// then.
     pub fn begin_turn(&mut self, turn: u64, seat: u64, moment: u64) -> Result<(), NoMemory>
         requires idle { self.old.cx.log.state.held ≡ false }
         requires later { self.old.cx.log.state.turns < turn }
@@ -45,7 +47,8 @@ impl<W: World + Drop> Group<W> {
         ensures kept { KeepsRoles self.old.cx self.new.cx }
         ensures world { self.new.world ≡ self.old.world }
         ensures sound { Holds W.sound self.old → Holds W.sound self.new }
-        ensures left { W.left self.new.world self.new.cx.log.state ≡ W.left self.old.world self.old.cx.log.state }
+        ensures left { W.left self.new.world self.new.cx.log.state
+            ≡ W.left self.old.world self.old.cx.log.state }
         ensures err { OnErr result (IsSame self.old.cx self.new.cx) }
     {
         self.cx.begin_turn(turn, seat, moment)
@@ -58,7 +61,8 @@ impl<W: World + Drop> Group<W> {
         ensures kept { KeepsRoles self.old.cx self.new.cx }
         ensures world { self.new.world ≡ self.old.world }
         ensures sound { Holds W.sound self.old → Holds W.sound self.new }
-        ensures left { W.left self.new.world self.new.cx.log.state ≡ W.left self.old.world self.old.cx.log.state }
+        ensures left { W.left self.new.world self.new.cx.log.state
+            ≡ W.left self.old.world self.old.cx.log.state }
     {
         self.cx.give_turn();
     }
@@ -126,10 +130,11 @@ impl<W: World + Drop> Group<W> {
         self.world.start(&mut self.cx);
     }
 
-    /// Handles the pending event of a number, if it is due at the moment, and then the direct calls that its handler
-    /// and theirs ask for, in the order asked for, until none of them is pending or 64 events were handled. It stops
-    /// at a handler that wants to ask. A periodic event is set again before its handler runs, under the next number,
-    /// due one period after the moment; it alone can want memory, and then nothing was entered.
+    /// Handles the pending event of a number, if it is due at the moment, and then the direct calls that its
+    /// handler and theirs ask for, in the order asked for, until none of them is pending or 64 events were
+    /// handled. It stops at a handler that wants to ask. A periodic event is set again before its handler
+    /// runs, under the next number, due one period after the moment; it alone can want memory, and then
+    /// nothing was entered.
     pub fn handle(&mut self, number: u64, moment: u64) -> Result<Handling<W::Question>, NoMemory>
         requires turn { self.old.cx.log.state.held ≡ true }
         requires sound { Holds W.sound self.old }
@@ -139,8 +144,8 @@ impl<W: World + Drop> Group<W> {
         ensures falls { IfOk result (λ handling.
             IfEvents handling (λ events. LeavesLess W.left self.old events self.new)) }
         ensures promises { KeepsPromises W.fits W.right W.may_ask self.old.world self.new.world }
-        ensures few {
-            SetsAtMost W.fits self.old.world (MOST_EVENTS * (MOST_SET + 1)) self.old.cx self.new.cx }
+        ensures few { SetsAtMost W.fits self.old.world
+            (MOST_EVENTS * (MOST_SET + 1)) self.old.cx self.new.cx }
         ensures err { OnErr result (LacksRenewal self.old self.new number moment) }
     {
         let Some(event) = self.cx.event(number) else {
@@ -163,12 +168,11 @@ impl<W: World + Drop> Group<W> {
         requires sound { Holds W.sound self.old }
         requires ready { IsReady self.old.cx.log moment first }
         ensures gives { HandleGives W.called self.old self.new first.number moment result }
-        ensures keeps {
-            MatchHandling result (Holds W.sound self.new) (MayAwait W.asking W.may_ask self.new) }
+        ensures keeps { MatchHandling result (Holds W.sound self.new) (MayAwait W.asking W.may_ask self.new) }
         ensures falls { IfEvents result (λ events. LeavesLess W.left self.old events self.new) }
         ensures promises { KeepsPromises W.fits W.right W.may_ask self.old.world self.new.world }
-        ensures few {
-            SetsAtMost W.fits self.old.world (MOST_EVENTS * (MOST_SET + 1)) self.old.cx self.new.cx }
+        ensures few { SetsAtMost W.fits self.old.world
+            (MOST_EVENTS * (MOST_SET + 1)) self.old.cx self.new.cx }
     {
         self.cx.begin_calls(moment);
         let mut event = first;
@@ -229,8 +233,8 @@ impl<W: World + Drop> Group<W> {
         self.world.told(role, asked, &mut self.cx);
     }
 
-    /// Asks the group's own continuation: an event `Hook` of it is set and handled. At want of memory the question
-    /// comes back, and nothing was entered.
+    /// Asks the group's own continuation: an event `Hook` of it is set and handled. At want of memory the
+    /// question comes back, and nothing was entered.
     pub fn ask(
         &mut self,
         question: W::Question,

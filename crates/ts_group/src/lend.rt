@@ -12,7 +12,9 @@ use crate::world::World;
 impl<W: World + Drop> Group<W> {
     /// Lends the world for writing. The journal stays as it is.
     pub fn world_mut(&mut self) -> &mut W
-        ensures* writes_back { sem 𝓛 (Lends (the_row W.row W.Question.row W.Reply.row W.Tag.row W.Trace.row) W.row self.entry result (λ w. record self.old { world = w })) }
+        ensures* writes_back { sem 𝓛 (Lends
+            (the_row W.row W.Question.row W.Reply.row W.Tag.row W.Trace.row) W.row
+            self.entry result (λ w. record self.old { world = w })) }
         ensures value { result.now ≡ self.old.world }
     {
         &mut self.world
@@ -20,7 +22,9 @@ impl<W: World + Drop> Group<W> {
 
     /// Lends the continuations. The world stays as it is.
     pub fn cx(&mut self) -> &mut Cx
-        ensures* writes_back { sem 𝓛 (Lends (the_row W.row W.Question.row W.Reply.row W.Tag.row W.Trace.row) cx_row self.entry result (λ w. record self.old { cx = w })) }
+        ensures* writes_back { sem 𝓛 (Lends
+            (the_row W.row W.Question.row W.Reply.row W.Tag.row W.Trace.row) cx_row
+            self.entry result (λ c. record self.old { cx = c })) }
         ensures value { result.now ≡ self.old.cx }
     {
         &mut self.cx

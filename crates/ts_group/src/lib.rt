@@ -1,5 +1,6 @@
-//! The continuations of one mutex: their journal, the calls of a handler, and the group that calls the handlers. The
-//! Developer's Guide of Traffic Server describes the parts in its chapters on continuations, mutexes and actions.
+//! The continuations of one mutex: their journal, the calls of a handler, and the group that calls the
+//! handlers. The Developer's Guide of Traffic Server describes the parts in its chapters on continuations,
+//! mutexes and actions.
 #![tactic(auto)]
 
 mod action;

@@ -66,7 +66,8 @@ pub trait World: Slotted {
     /// What holds of the world, the group's state and the roles of its keys between calls.
     ghost sound: { Self → State → List Named → Type 0 };
 
-    /// What holds in place of `sound` while the handler of a role waits for the reply of a group to a question.
+    /// What holds in place of `sound` while the handler of a role waits for the reply of a group to a
+    /// question.
     ghost asking: { Self → State → List Named → ℕ → ℕ → Self.Question → Type 0 };
 
     /// A reply of a group to a question is right, for this world that asks.
@@ -87,7 +88,8 @@ pub trait World: Slotted {
     /// What `start` made of the world.
     ghost begun: { Self → Self → Type 0 };
 
-    /// The numbers of the direct calls, in order, that a handler asked for which led from one world to the other.
+    /// The numbers of the direct calls, in order, that a handler asked for which led from one world to the
+    /// other.
     ghost called: { Self → Self → List ℕ → Type 0 } = { λ old new asked. ⊤ };
 
     /// Sets the first events.
@@ -109,7 +111,7 @@ pub trait World: Slotted {
         ensures keeps { MatchWant result
             (sound self.new cx.new.log.state cx.new.roles)
             (λ group question.
-                asking self.new cx.new.log.state cx.new.roles role group question × may_ask self.new group) }
+            asking self.new cx.new.log.state cx.new.roles role group question × may_ask self.new group) }
         ensures falls { (c : IsCalled (sound self.old) cx.old role event) →
             Falls (left self.old c.before) 1 (left self.new cx.new.log.state) }
         ensures called { (asked : List ℕ) →
@@ -150,7 +152,8 @@ pub trait World: Slotted {
         sound w s roles → sound w (after s (Gave turn)) roles };
 
     /// What is left to do stays when a turn is taken.
-    ghost left_taken: { (w : Self) (s : State) (turn seat : ℕ) → left w (after s (Took turn seat)) ≡ left w s };
+    ghost left_taken: { (w : Self) (s : State) (turn seat : ℕ) →
+        left w (after s (Took turn seat)) ≡ left w s };
 
     /// What is left to do stays when a turn is given back.
     ghost left_given: { (w : Self) (s : State) (turn : ℕ) → left w (after s (Gave turn)) ≡ left w s };

@@ -11,8 +11,8 @@ use Rattle.ts_group.specs.Answers.{Holds, AwaitsReply, LeavesLess, KeepsTags}
 use Rattle.ts_group_tests.specs.declared.drive.Driven.{Driven}
 use Rattle.ts_group_tests.specs.declared.drive.Driven.TheVariants.{Done, Asks, Worn}
 
--- No turn is held. Where all is done nothing is pending; where a handler asks an event was handled; and where the
--- turns are used up the last one has the greatest number, and something is still pending.
+-- No turn is held. Where all is done nothing is pending; where a handler asks an event was handled; and where
+-- the turns are used up the last one has the greatest number, and something is still pending.
 abbrev pub IsDone : Driven → State → State → Type 0
 IsDone Done old new = (new.held ≡ false) × (new.pending ≡ [])
 IsDone Asks old new = (new.held ≡ false) × (old.handled_count < new.handled_count)
@@ -24,12 +24,14 @@ MatchDriven Asks P Asking = Asking
 MatchDriven _ P Asking = P
 
 -- The handler that ran last waits for the reply of a group to a question, and the turn is still held.
-abbrev pub AwaitsInTurn : {W Q R T U : Type 0} → (W → State → List Named → ℕ → ℕ → Q → Type 0) → Group W Q R T U → ℕ → Q → Type 0
+abbrev pub AwaitsInTurn : {W Q R T U : Type 0} → (W → State → List Named → ℕ → ℕ → Q → Type 0)
+    → Group W Q R T U → ℕ → Q → Type 0
 AwaitsInTurn Asking g group question = (g.cx.log.state.held ≡ true) × AwaitsReply Asking g group question
 
--- The question of the handler that ran last stands: it was asked in a state from which nothing but the turn was given
--- back.
-pub record LeftAsking {W Q R T U : Type 0} (Asking : W → State → List Named → ℕ → ℕ → Q → Type 0) (MayAsk : W → ℕ → Type 0) (g : Group W Q R T U) : Type 0 where
+-- The question of the handler that ran last stands: it was asked in a state from which nothing but the turn
+-- was given back.
+pub record LeftAsking {W Q R T U : Type 0} (Asking : W → State → List Named → ℕ → ℕ → Q → Type 0)
+    (MayAsk : W → ℕ → Type 0) (g : Group W Q R T U) : Type 0 where
   pub before : State
   pub turn : before.held ≡ true
   pub group : ℕ
@@ -39,7 +41,8 @@ pub record LeftAsking {W Q R T U : Type 0} (Asking : W → State → List Named 
   pub given : g.cx.log.state ≡ after before (Gave before.turns)
 
 -- what a group becomes whose handler is told what came of its question, a miss aside
-pub record GoesOnTold {W Q R T U : Type 0} (Fits : T → W → Type 0) (Sound : W → State → List Named → Type 0) (Left : W → State → Option ℕ) (old new : Group W Q R T U) : Type 0 where
+pub record GoesOnTold {W Q R T U : Type 0} (Fits : T → W → Type 0) (Sound : W → State → List Named → Type 0)
+    (Left : W → State → Option ℕ) (old new : Group W Q R T U) : Type 0 where
   pub grows : Grows old.cx new.cx
   pub turn : new.cx.log.state.held ≡ true
   pub sound : Holds Sound new

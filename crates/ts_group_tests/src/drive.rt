@@ -20,9 +20,9 @@ pub enum Driven {
     Worn,
 }
 
-/// Handles pending events, each in a turn of its own and the one that is due first before the others, until nothing is
-/// pending, a handler asks or the turns are used up. It ends, since the world tells how much is left and each event
-/// lowers it. It holds no turn when it returns, at want of memory either.
+/// Handles pending events, each in a turn of its own and the one that is due first before the others, until
+/// nothing is pending, a handler asks or the turns are used up. It ends, since the world tells how much is
+/// left and each event lowers it. It holds no turn when it returns, at want of memory either.
 pub fn drive<W: World + Drop>(group: &mut Group<W>) -> Result<Driven, NoMemory>
 where
     W::Question: Drop,
@@ -57,8 +57,9 @@ where
     Ok(Driven::Done)
 }
 
-/// Asks one group the question of a handler of another, and tells the handler the reply. The asker knows the other group
-/// by the number `group`. At want of memory the other group stays as it was, and the handler is told so.
+/// Asks one group the question of a handler of another, and tells the handler the reply. The asker knows the
+/// other group by the number `group`. At want of memory the other group stays as it was, and the handler is
+/// told so.
 pub fn ask_for<W, V>(
     asker: &mut Group<W>,
     other: &mut Group<V>,

@@ -14,7 +14,9 @@ pub trait Part {
 
     /// Does one step, and answers whether there was one to do.
     fn step(&mut self) -> bool
-        ensures { MatchBool result (steps self.new + 1 ≡ steps self.old) ((steps self.old ≡ 0) × (steps self.new ≡ steps self.old)) };
+        ensures { MatchBool result
+            (steps self.new + 1 ≡ steps self.old)
+            ((steps self.old ≡ 0) × (steps self.new ≡ steps self.old)) };
 }
 
 /// A part that counts down to zero.

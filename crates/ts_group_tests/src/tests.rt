@@ -1,3 +1,5 @@
+//! Small worlds that are run: what their groups record, and how they end.
+
 use crate::burst::{Burst, CALLER};
 use crate::drive::{Driven, ask_for, drive};
 use crate::heir::Heir;

@@ -4,30 +4,30 @@ use Rattle.std.proofs.lemmas.List.{take-take, take_all, drop-append-le, length-t
 use Rattle.std.proofs.Math.Seq.{take-add}
 use Rattle.ts_iobuf.specs.declared.readers.Slot.{Slot}
 use Rattle.ts_iobuf.specs.Buffer.{Buffer, Grows}
-use Rattle.ts_iobuf.specs.Held.{held}
+use Rattle.ts_iobuf.specs.Stored.{stored}
 use Rattle.ts_iobuf.specs.View.{shown}
 use Rattle.ts_iobuf.specs.Places.{place_in, bytes_from, StandsWithin}
 use Rattle.ts_iobuf.proofs.Places.{all_by_recursion, place_at-all}
 
-pub length-held : (start filled : ℕ) (store : List ℕ) → filled ≤ length store → length (held start filled store) ≡ filled - start
-length-held start filled store within = omega (arith, length-drop start (take filled store), length-take filled store)
+pub length-stored : (start filled : ℕ) (store : List ℕ) → filled ≤ length store → length (stored start filled store) ≡ filled - start
+length-stored start filled store within = omega (arith, length-drop start (take filled store), length-take filled store)
 
 -- bytes that were put behind the first `filled`
-pub held-put : (start filled : ℕ) (store bytes store' : List ℕ) → start ≤ filled → filled ≤ length store → store' ≡ take filled store ++ bytes
-    → held start (length store') store' ≡ held start filled store ++ bytes
-held-put start filled store bytes store' order within is =
+pub stored-put : (start filled : ℕ) (store bytes store' : List ℕ) → start ≤ filled → filled ≤ length store → store' ≡ take filled store ++ bytes
+    → stored start (length store') store' ≡ stored start filled store ++ bytes
+stored-put start filled store bytes store' order within is =
     ap (drop start) (take_all (length store') store' (omega arith))
     ∙ ap (drop start) is
     ∙ drop-append-le start (take filled store) bytes (omega (arith, length-take-le filled store within))
 
 -- the first n bytes of the room
-pub held-more : (start filled n room : ℕ) (store : List ℕ) → start ≤ filled → n ≤ room → filled + room ≤ length store
-    → held start (filled + n) store ≡ held start filled store ++ take n (take room (drop filled store))
-held-more start filled n room store order few within =
+pub stored-more : (start filled n room : ℕ) (store : List ℕ) → start ≤ filled → n ≤ room → filled + room ≤ length store
+    → stored start (filled + n) store ≡ stored start filled store ++ take n (take room (drop filled store))
+stored-more start filled n room store order few within =
     let below : filled ≤ length store = omega arith in
     ap (drop start) (take-add filled n store)
     ∙ drop-append-le start (take filled store) (take n (drop filled store)) (omega (arith, length-take-le filled store below))
-    ∙ ap (λ l. held start filled store ++ l) (sym (take-take n room (drop filled store) few))
+    ∙ ap (λ l. stored start filled store ++ l) (sym (take-take n room (drop filled store) few))
 
 bytes_from-append : (o : Option ℕ) (a b : List ℕ) → IfSome o (λ p. p ≤ length a) → IsTrue (is_some o) → bytes_from o (a ++ b) ≡ bytes_from o a ++ b
 bytes_from-append None a b h there = cc
@@ -49,10 +49,10 @@ grows old new more bytes readers mark within = record {
 }
 
 -- places within the bytes that a store holds
-pub within_held : (start filled : ℕ) (store : List ℕ) (ss : List Slot) → filled ≤ length store → StandsWithin (filled - start) ss
-    → StandsWithin (length (held start filled store)) ss
-within_held start filled store ss within places =
-    subst (λ n. StandsWithin n ss) (sym (length-held start filled store within)) places
+pub within_stored : (start filled : ℕ) (store : List ℕ) (ss : List Slot) → filled ≤ length store → StandsWithin (filled - start) ss
+    → StandsWithin (length (stored start filled store)) ss
+within_stored start filled store ss within places =
+    subst (λ n. StandsWithin n ss) (sym (length-stored start filled store within)) places
 
 -- a buffer into whose store more bytes were put right behind its own
 pub grows-put : (start filled room : ℕ) (readers : List Slot) (mark : ℕ) (store : List ℕ) (n : ℕ) (more store' : List ℕ)
@@ -61,5 +61,5 @@ pub grows-put : (start filled room : ℕ) (readers : List Slot) (mark : ℕ) (st
 grows-put start filled room readers mark store n more store' order within places count is =
     let below : filled ≤ length store = omega arith in
     grows (shown start filled room readers mark store) (shown start n 0 readers mark store') more
-    (ap (λ k. held start k store') count ∙ held-put start filled store more store' order below is) refl refl
-    (within_held start filled store readers below places)
+    (ap (λ k. stored start k store') count ∙ stored-put start filled store more store' order below is) refl refl
+    (within_stored start filled store readers below places)

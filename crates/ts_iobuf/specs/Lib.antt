@@ -1,5 +1,6 @@
 pub mod Buffer
-pub mod Held
 pub mod Lending
 pub mod Places
+pub mod Readers
+pub mod Stored
 pub mod View

@@ -3,16 +3,16 @@ use Rattle.std.specs.Prelude.{ℕ, ◌+◌, ◌-◌, ◌≤◌, List, take, drop
 use Rattle.ts_iobuf.specs.declared.readers.Slot.{Slot}
 use Rattle.ts_iobuf.specs.declared.buffer.IoBuffer.TheInside.{Inside}
 use Rattle.ts_iobuf.specs.Buffer.{Buffer, one_block}
-use Rattle.ts_iobuf.specs.Held.{held}
+use Rattle.ts_iobuf.specs.Stored.{lent, stored}
 use Rattle.ts_iobuf.specs.Places.{StandsWithin}
 
 -- the buffer whose bytes stand in the store from start to filled, with `room` bytes lent behind them
 abbrev pub shown : ℕ → ℕ → ℕ → List Slot → ℕ → List ℕ → Buffer
 shown start filled room readers mark store = record {
-  bytes = held start filled store;
+  bytes = stored start filled store;
   readers = readers;
-  room = take room (drop filled store);
-  blocks = one_block (held start filled store);
+  room = lent room filled store;
+  blocks = one_block (stored start filled store);
   mark = mark;
 }
 

@@ -1,11 +1,11 @@
-// The buffer and its calls, but `space`.
+//! The buffer and its calls, but `space`.
 ghost use Rattle.std.specs.Prelude.{◌≡◌, ◌≢◌, ℕ, ◌+◌, ◌-◌, ◌^◌, ◌<◌, ◌≤◌, ◌++◌, ◌∷◌, [], List, length, take, drop, map, flat_map, slice_get, IsTrue, All, IfOk, OnOk, OnErr, MatchOption, Some, false, ◌↔◌};
 ghost use Rattle.std.specs.Option.{option_copied};
 
 mod space;
 
-use crate::readers::{ReaderId, Slot, move_on, place_of};
-use crate::store::{block_at, bytes_between, compact, put, put_parts, rewind};
+use crate::readers::{ReaderId, Slot, close, move_on, open, place_of};
+use crate::store::{block_at, bytes_between, compact, front_from, put, put_parts, rewind};
 use std::alloc::Global;
 use std::marker::Model;
 use ts_link::{NoMemory, Octets};
@@ -21,6 +21,7 @@ pub struct IoBuffer {
     room: usize,
     slots: Vec<Slot>,
     mark: usize,
+    alloc: Global,
 }
 
 impl Model for IoBuffer {
@@ -36,12 +37,13 @@ impl Model for IoBuffer {
 }
 
 impl IoBuffer {
-    ghost use Rattle.ts_iobuf.specs.Buffer.{Grows, one_block, is_reader, readable, blocks_of};
-    ghost use Rattle.ts_iobuf.specs.Places.{place_in, moved, least_place, lowered};
+    ghost use Rattle.ts_iobuf.specs.Buffer.{Consumes, Grows, IsReady, blocks_of, is_reader, part_of, readable, unread};
+    ghost use Rattle.ts_iobuf.specs.Places.{place_in};
+    ghost use Rattle.ts_iobuf.specs.Readers.{ClosesReader, OpensReader};
 
     /// An empty buffer with no readers and the water mark 0.
     pub fn new(alloc: Global) -> Result<IoBuffer, NoMemory>
-        ensures { IfOk result (λ b. b ≡ record { bytes = []; readers = []; room = []; blocks = []; mark = 0 }) }
+        ensures { IfOk result (λ b. b ≡ unread []) }
     {
         Ok(IoBuffer {
             store: Vec::new(alloc),
@@ -50,12 +52,13 @@ impl IoBuffer {
             room: 0,
             slots: Vec::new(alloc),
             mark: 0,
+            alloc,
         })
     }
 
     /// A buffer of these bytes, which are taken over without a copy, with no readers and the water mark 0.
     pub fn of_octets(alloc: Global, bytes: Octets) -> Result<IoBuffer, NoMemory>
-        ensures { IfOk result (λ b. b ≡ record { bytes = bytes; readers = []; room = []; blocks = one_block bytes; mark = 0 }) }
+        ensures { IfOk result (λ b. b ≡ unread bytes) }
     {
         let store = bytes.into_vec();
         let filled = store.len();
@@ -66,24 +69,41 @@ impl IoBuffer {
             room: 0,
             slots: Vec::new(alloc),
             mark: 0,
+            alloc,
         })
     }
 
-    /// A new reader at the front of the bytes.
+    /// A new reader at the front of the bytes. (The Developer's Guide: `TSIOBufferReaderAlloc`.)
     pub fn reader(&mut self) -> Result<ReaderId, NoMemory>
-        ensures fresh { IfOk result (λ r. is_reader self.old r ≡ false) }
-        ensures front { IfOk result (λ r. place_in self.new.readers r ≡ Some 0) }
-        ensures others { IfOk result (λ r. (q : _) → q ≢ r → place_in self.new.readers q ≡ place_in self.old.readers q) }
+        ensures place { IfOk result (λ r. place_in self.new.readers r ≡ Some 0) }
+        ensures opens { IfOk result (OpensReader self.old.readers self.new.readers) }
         ensures rest { OnOk result (self.new ≡ record self.old { readers = self.new.readers }) }
         ensures err { OnErr result (self.new ≡ self.old) }
     {
-        let Ok(index) = u32::try_from(self.slots.len()) else {
-            return Err(NoMemory);
+        open(&mut self.slots, 0)
+    }
+
+    /// A new reader at the place of another. (The Developer's Guide: `TSIOBufferReaderClone`.)
+    pub fn clone_reader(&mut self, reader: ReaderId) -> Result<ReaderId, NoMemory>
+        requires { IsTrue (is_reader self.old reader) }
+        ensures place { IfOk result (λ r. place_in self.new.readers r ≡ place_in self.old.readers reader) }
+        ensures opens { IfOk result (OpensReader self.old.readers self.new.readers) }
+        ensures rest { OnOk result (self.new ≡ record self.old { readers = self.new.readers }) }
+        ensures err { OnErr result (self.new ≡ self.old) }
+    {
+        let Some(place) = place_of(self.slots.as_slice(), reader) else {
+            unreachable!()
         };
-        let generation = 1;
-        let place = Some(0);
-        self.slots.push(Slot { generation, place })?;
-        Ok(ReaderId { index, generation })
+        open(&mut self.slots, place)
+    }
+
+    /// Takes a reader away. It drops no bytes, and takes no memory. (The Developer's Guide: `TSIOBufferReaderFree`.)
+    pub fn free_reader(&mut self, reader: ReaderId)
+        requires { IsTrue (is_reader self.old reader) }
+        ensures closes { ClosesReader self.old.readers self.new.readers reader }
+        ensures rest { self.new ≡ record self.old { readers = self.new.readers } }
+    {
+        close(&mut self.slots, reader);
     }
 
     /// Whether the buffer has this reader.
@@ -188,39 +208,68 @@ impl IoBuffer {
         self.room = 0;
     }
 
-    /// Copies what the reader can read, or its first `most` bytes where there are more, behind the bytes of `out`.
-    pub fn copy_out(&self, reader: ReaderId, most: usize, out: &mut Vec<u8>) -> Result<(), NoMemory>
+    // What the reader can read from `offset` on, or the first `most` bytes of that where there are more.
+    fn part(&self, reader: ReaderId, offset: usize, most: usize) -> &[u8]
         requires { IsTrue (is_reader self.now reader) }
-        ensures ok { OnOk result (out.new.items ≡ out.old.items ++ take most (readable self.now reader)) }
-        ensures err { OnErr result (out.new.items ≡ out.old.items) }
+        ensures { result.now ≡ part_of self.now reader offset most }
     {
         let bytes = bytes_between(self.store.as_slice(), self.start, self.filled);
         let Some(place) = place_of(self.slots.as_slice(), reader) else {
             unreachable!()
         };
         let (_, readable) = bytes.split_at(place);
-        let (front, _) = readable.split_at(most.min(readable.len()));
-        out.extend_from_slice(front)?;
+        front_from(readable, offset, most)
+    }
+
+    /// Copies what the reader can read, or its first `most` bytes where there are more, behind the bytes of `out`.
+    pub fn copy_out(&self, reader: ReaderId, most: usize, out: &mut Vec<u8>) -> Result<(), NoMemory>
+        requires { IsTrue (is_reader self.now reader) }
+        ensures ok { OnOk result (out.new.items ≡ out.old.items ++ take most (readable self.now reader)) }
+        ensures err { OnErr result (out.new.items ≡ out.old.items) }
+    {
+        out.extend_from_slice(self.part(reader, 0, most))?;
         Ok(())
     }
 
-    /// Moves the reader over the next `n` bytes, and then drops the bytes that no reader stands before.
+    /// Adds what the reader of another buffer can read from `offset` on, or the first `most` bytes of that where there
+    /// are more. Answers how many bytes these are. (The Developer's Guide: `TSIOBufferCopy`.)
+    pub fn copy_from(
+        &mut self,
+        from: &IoBuffer,
+        reader: ReaderId,
+        most: usize,
+        offset: usize,
+    ) -> Result<usize, NoMemory>
+        requires { IsTrue (is_reader from.now reader) }
+        ensures count { IfOk result (λ n. n ≡ length (part_of from.now reader offset most)) }
+        ensures grows { OnOk result (Grows self.old self.new (part_of from.now reader offset most)) }
+        ensures room { OnOk result (self.new.room ≡ []) }
+        ensures err { OnErr result (self.new ≡ self.old) }
+    {
+        let part = from.part(reader, offset, most);
+        self.write(part)?;
+        Ok(part.len())
+    }
+
+    /// Moves the reader over the next `n` bytes, and then drops the bytes that no reader stands before. The memory of a
+    /// large buffer is given back once all of it was dropped. (The Developer's Guide: `TSIOBufferReaderConsume`.)
     pub fn consume(&mut self, reader: ReaderId, n: usize)
         requires live { IsTrue (is_reader self.old reader) }
         requires within { n ≤ length (readable self.old reader) }
-        ensures readers { let slots = moved self.old.readers reader n in
-            self.new.readers ≡ map (lowered (least_place slots (length self.old.bytes))) slots }
-        ensures bytes { self.new.bytes
-            ≡ drop (least_place (moved self.old.readers reader n) (length self.old.bytes)) self.old.bytes }
-        ensures room { self.new.room ≡ self.old.room }
-        ensures mark { self.new.mark ≡ self.old.mark }
+        ensures consumes { Consumes self.old self.new reader n }
         ensures live { (q : _) → is_reader self.new q ≡ is_reader self.old q }
         ensures moved { readable self.new reader ≡ drop n (readable self.old reader) }
         ensures others { (q : _) → q ≢ reader → readable self.new q ≡ readable self.old q }
     {
         let passed = move_on(&mut self.slots, reader, n, self.filled - self.start);
         self.start += passed;
-        rewind(&mut self.start, &mut self.filled, self.room);
+        rewind(
+            &mut self.store,
+            self.alloc,
+            &mut self.start,
+            &mut self.filled,
+            self.room,
+        );
     }
 
     /// How many bytes a reader is to have before it is `ready`.
@@ -240,7 +289,7 @@ impl IoBuffer {
     /// Whether the reader can read at least one byte, and at least as many as the water mark says.
     pub fn ready(&self, reader: ReaderId) -> bool
         requires { IsTrue (is_reader self.now reader) }
-        ensures { IsTrue result ↔ ((1 ≤ length (readable self.now reader)) × (self.now.mark ≤ length (readable self.now reader))) }
+        ensures { IsTrue result ↔ IsReady self.now reader }
     {
         let avail = self.avail(reader);
         avail >= 1 && avail >= self.mark

@@ -1,6 +1,12 @@
-// The places of a buffer's readers.
-ghost use Rattle.std.specs.Prelude.{◌≡◌, ◌≢◌, ℕ, ◌+◌, ◌-◌, ◌^◌, ◌<◌, ◌≤◌, List, drop, map, IsSomeAnd, is_some};
+//! The places of a buffer's readers.
+ghost use Rattle.std.specs.Prelude.{◌≡◌, ◌≢◌, ℕ, ◌+◌, ◌-◌, ◌^◌, ◌<◌, ◌≤◌, ◌++◌, ◌∷◌, [], List, drop, map, slice_get, IsSome, IsSomeAnd, IfSome, IfOk, OnErr, IsTrue, ◌↔◌, Some, is_some};
+ghost use Rattle.ts_iobuf.specs.Readers.{OpensReader, ClosesReader, IsFree};
 ghost use Rattle.ts_iobuf.specs.Places.{place_in, moved, least_place, lowered, bytes_from, StandsWithin};
+
+use ts_link::NoMemory;
+
+// The last generation in which an index is used.
+const LAST_GENERATION: u32 = u32::MAX;
 
 /// The name of a reader of one buffer: an index that was used in this generation.
 #[derive(Clone, Copy, Debug, PartialEq, Eq)]
@@ -9,7 +15,8 @@ pub struct ReaderId {
     pub generation: u32,
 }
 
-/// Where the reader of an index stands, counted from the first byte that was not dropped, if it is live.
+/// Where the reader of an index stands, counted from the first byte that was not dropped, if it is live. The generation
+/// is that of the index's last reader.
 #[derive(Clone, Copy, Debug, PartialEq, Eq)]
 pub struct Slot {
     pub generation: u32,
@@ -79,8 +86,7 @@ pub fn move_on(slots: &mut [Slot], reader: ReaderId, n: usize, most: usize) -> u
     requires within { StandsWithin most slots.old }
     ensures least { result ≡ least_place (moved slots.old reader n) most }
     ensures slots { slots.new ≡ map (lowered result) (moved slots.old reader n) }
-    ensures bound { result ≤ most }
-    ensures within { StandsWithin (most - result) slots.new }
+    ensures within { (result ≤ most) × StandsWithin (most - result) slots.new }
     ensures live { (q : _) → is_some (place_in slots.new q) ≡ is_some (place_in slots.old q) }
     ensures moved { (bytes : List ℕ) → bytes_from (place_in slots.new reader) (drop result bytes)
         ≡ drop n (bytes_from (place_in slots.old reader) bytes) }
@@ -91,4 +97,66 @@ pub fn move_on(slots: &mut [Slot], reader: ReaderId, n: usize, most: usize) -> u
     let passed = least(slots, most);
     lower(slots, passed);
     passed
+}
+
+fn is_free(slot: Slot) -> bool
+    ensures { IsTrue result ↔ IsFree slot }
+{
+    slot.place.is_none() && slot.generation < LAST_GENERATION
+}
+
+// The first index that no reader uses, and that has a generation left.
+fn free_index(slots: &[Slot]) -> Option<u32>
+    ensures { IfSome result (λ i. IsSomeAnd (slice_get slots.now i) IsFree) }
+{
+    for (index, slot) in slots.iter().enumerate() {
+        if is_free(*slot) {
+            return u32::try_from(index).ok();
+        }
+    }
+    None
+}
+
+// Opens a reader at a free index.
+fn reopen(slots: &mut [Slot], index: u32, place: usize) -> ReaderId
+    requires { IsSomeAnd (slice_get slots.old index) IsFree }
+    ensures place { place_in slots.new result ≡ Some place }
+    ensures opens { OpensReader slots.old slots.new result }
+    ensures within { (most : ℕ) → place ≤ most → StandsWithin most slots.old → StandsWithin most slots.new }
+{
+    let generation = slots[index as usize].generation + 1;
+    let place = Some(place);
+    slots[index as usize] = Slot { generation, place };
+    ReaderId { index, generation }
+}
+
+/// Opens a reader at this place, under a name that was not used.
+pub fn open(slots: &mut Vec<Slot>, place: usize) -> Result<ReaderId, NoMemory>
+    ensures place { IfOk result (λ r. place_in slots.new.items r ≡ Some place) }
+    ensures opens { IfOk result (OpensReader slots.old.items slots.new.items) }
+    ensures within { (most : ℕ) → place ≤ most → StandsWithin most slots.old.items → StandsWithin most slots.new.items }
+    ensures err { OnErr result (slots.new.items ≡ slots.old.items) }
+{
+    if let Some(index) = free_index(slots.as_slice()) {
+        return Ok(reopen(slots, index, place));
+    }
+    let Ok(index) = u32::try_from(slots.len()) else {
+        return Err(NoMemory);
+    };
+    let generation = 1;
+    let place = Some(place);
+    slots.push(Slot { generation, place })?;
+    Ok(ReaderId { index, generation })
+}
+
+/// Closes a reader.
+pub fn close(slots: &mut [Slot], reader: ReaderId)
+    requires { IsSome (place_in slots.old reader) }
+    ensures closes { ClosesReader slots.old slots.new reader }
+    ensures within { (most : ℕ) → StandsWithin most slots.old → StandsWithin most slots.new }
+{
+    slots[reader.index as usize] = Slot {
+        generation: reader.generation,
+        place: None,
+    };
 }

@@ -1,24 +1,37 @@
-// One vector as the store of a buffer's bytes.
+//! One vector as the store of a buffer's bytes.
 ghost use Rattle.std.specs.Prelude.{◌≡◌, List, ℕ, ◌+◌, ◌-◌, ◌≤◌, ◌++◌, length, take, drop, flat_map, slice_get, OnOk, OnErr, IfSome};
 ghost use Rattle.std.specs.Vec.{vec_len, vec_capacity};
 ghost use Rattle.std.specs.Option.{option_copied};
 ghost use Rattle.ts_iobuf.specs.Buffer.{one_block};
-ghost use Rattle.ts_iobuf.specs.Held.{held};
+ghost use Rattle.ts_iobuf.specs.Stored.{lent, stored};
 
+use std::alloc::Global;
 use ts_link::NoMemory;
 
 // How many bytes of room are lent at once.
 const ROOM: usize = 32_768;
 
+// How many bytes of memory a store keeps that holds none: as many as a boundary of a chain and its room ever need.
+const MOST_KEPT: usize = 131_072;
+
 /// The bytes from `start` to `filled`.
 pub fn bytes_between(store: &[u8], start: usize, filled: usize) -> &[u8]
     requires order { start ≤ filled }
     requires within { filled ≤ length store.now }
-    ensures { result.now ≡ held start filled store.now }
+    ensures { result.now ≡ stored start filled store.now }
 {
     let (front, _) = store.split_at(filled);
     let (_, bytes) = front.split_at(start);
     bytes
+}
+
+/// The bytes from `offset` on, or the first `most` of them where there are more.
+pub fn front_from(bytes: &[u8], offset: usize, most: usize) -> &[u8]
+    ensures { result.now ≡ take most (drop offset bytes.now) }
+{
+    let (_, rest) = bytes.split_at(offset.min(bytes.len()));
+    let (front, _) = rest.split_at(most.min(rest.len()));
+    front
 }
 
 // Sees to it that `count` bytes fit behind the first `filled`.
@@ -75,7 +88,8 @@ fn append_parts(store: &mut Vec<u8>, parts: &[&[u8]])
 /// Puts these parts, joined, in the place of all that comes after the first `filled`.
 pub fn put_parts(store: &mut Vec<u8>, filled: usize, parts: &[&[u8]]) -> Result<(), NoMemory>
     requires { filled ≤ vec_len store.old }
-    ensures ok { OnOk result (store.new.items ≡ take filled store.old.items ++ flat_map (λ p. p.now) parts.now) }
+    ensures ok { OnOk result (store.new.items ≡
+        take filled store.old.items ++ flat_map (λ p. p.now) parts.now) }
     ensures err { OnErr result (store.new.items ≡ store.old.items) }
 {
     let Some(count) = joined_len(parts) else {
@@ -102,8 +116,8 @@ fn move_to_front(store: &mut Vec<u8>, start: usize, end: usize)
 pub fn compact(store: &mut Vec<u8>, start: &mut usize, filled: &mut usize, room: usize)
     requires order { start.old ≤ filled.old }
     requires within { filled.old + room ≤ vec_len store.old }
-    ensures bytes { held start.new filled.new store.new.items ≡ held start.old filled.old store.old.items }
-    ensures room { take room (drop filled.new store.new.items) ≡ take room (drop filled.old store.old.items) }
+    ensures bytes { stored start.new filled.new store.new.items ≡ stored start.old filled.old store.old.items }
+    ensures room { lent room filled.new store.new.items ≡ lent room filled.old store.old.items }
     ensures order { start.new ≤ filled.new }
     ensures within { filled.new + room ≤ vec_len store.new }
     ensures count { filled.new - start.new ≡ filled.old - start.old }
@@ -118,19 +132,30 @@ pub fn compact(store: &mut Vec<u8>, start: &mut usize, filled: &mut usize, room:
     *filled -= dropped;
 }
 
-/// Begins at the store's front again where nothing is held and no room is lent.
-pub fn rewind(start: &mut usize, filled: &mut usize, room: usize)
-    requires { start.old ≤ filled.old }
-    ensures bytes { (store : List ℕ) → held start.new filled.new store ≡ held start.old filled.old store }
-    ensures room { (store : List ℕ) → take room (drop filled.new store) ≡ take room (drop filled.old store) }
+/// Begins at the store's front again where it holds nothing and no room is lent. The memory of a large store is given
+/// back then.
+pub fn rewind(
+    store: &mut Vec<u8>,
+    alloc: Global,
+    start: &mut usize,
+    filled: &mut usize,
+    room: usize,
+)
+    requires order { start.old ≤ filled.old }
+    requires within { filled.old + room ≤ vec_len store.old }
+    ensures bytes { stored start.new filled.new store.new.items ≡ stored start.old filled.old store.old.items }
+    ensures room { lent room filled.new store.new.items ≡ lent room filled.old store.old.items }
     ensures order { start.new ≤ filled.new }
-    ensures less { filled.new ≤ filled.old }
+    ensures within { filled.new + room ≤ vec_len store.new }
     ensures count { filled.new - start.new ≡ filled.old - start.old }
-    ensures front { start.old ≡ filled.old → room ≡ 0 → filled.new ≡ 0 }
 {
-    if room == 0 && *start == *filled {
-        *start = 0;
-        *filled = 0;
+    if room > 0 || *start < *filled {
+        return;
+    }
+    *start = 0;
+    *filled = 0;
+    if store.capacity() > MOST_KEPT {
+        *store = Vec::new(alloc);
     }
 }
 

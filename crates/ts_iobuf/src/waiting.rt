@@ -1,4 +1,4 @@
-// Bytes that wait for one reader.
+//! Bytes that wait for one reader.
 ghost use Rattle.std.specs.Prelude.{◌≡◌, ◌<◌, ◌≤◌, ◌++◌, List, ℕ, [], length, take, drop, IsTrue, IfOk, OnOk, OnErr, MatchOption, ◌↔◌};
 
 use crate::buffer::IoBuffer;

@@ -9,9 +9,13 @@ abbrev pub front_cut : ℕ → List ℕ → List ℕ
 front_cut zero bytes = bytes
 front_cut (suc n) bytes = take (suc n) bytes
 
+-- the pieces of which the next n bytes are in the first one, and the next ones in pieces of these lengths
+abbrev pub cut_ahead : ℕ → List ℕ → List ℕ → List Piece
+cut_ahead n cuts rest = from_next (cut_up (n ∷ cuts) rest)
+
 -- a list of bytes of which the next n are in the piece that was begun, and the next ones in pieces of these lengths
 abbrev pub seen_cut : ℕ → List ℕ → List ℕ → List ℕ → Input
-seen_cut n cuts rest bytes = record { source = bytes; stalls = []; ahead = from_next (cut_up (n ∷ cuts) rest) }
+seen_cut n cuts rest bytes = record { source = bytes; stalls = []; ahead = cut_ahead n cuts rest }
 
 -- pieces without the first n bytes, or reads that wait, of the first one
 abbrev pub begun : ℕ → List Piece → List Piece
@@ -19,12 +23,16 @@ begun n [] = []
 begun n (Bytes bs ∷ ps) = Bytes (drop n bs) ∷ ps
 begun n (Stall k ∷ ps) = Stall (k - n) ∷ ps
 
+-- the pieces from an index on, without n bytes or reads of the first one
+abbrev pub pieces_ahead : ℕ → ℕ → List Piece → List Piece
+pieces_ahead n next pieces = from_next (begun n (drop next pieces))
+
 -- pieces of which those from an index on are ahead, without n bytes or reads of the first one
 abbrev pub seen_pieces : ℕ → ℕ → List Piece → Input
 seen_pieces n next pieces = record {
   source = bytes_of pieces;
   stalls = stalls_from 0 pieces;
-  ahead = from_next (begun n (drop next pieces));
+  ahead = pieces_ahead n next pieces;
 }
 
 -- there is no piece, or the first one is not empty

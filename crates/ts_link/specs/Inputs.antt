@@ -58,3 +58,7 @@ abbrev pub next_ahead : ℕ → List Piece → List Piece
 next_ahead room [] = []
 next_ahead room (Bytes bs ∷ ps) = from_next (Bytes (drop room bs) ∷ ps)
 next_ahead room (Stall k ∷ ps) = from_next (Stall (k - 1) ∷ ps)
+
+-- what there is to give after it
+abbrev pub after_next : Input → ℕ → Input
+after_next i room = record i { ahead = next_ahead room i.ahead }

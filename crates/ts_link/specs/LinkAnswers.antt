@@ -1,5 +1,5 @@
 -- What the answers of a link say.
-use Rattle.std.specs.Prelude.{◌≡◌, ℕ, ◌≤◌, List, [], Bool, true, false, ⊤}
+use Rattle.std.specs.Prelude.{◌≡◌, ℕ, ◌≤◌, List, [], take, Bool, true, false, ⊤}
 use Rattle.ts_link.specs.Counts.{one_more}
 use Rattle.ts_link.specs.declared.link.Got.{Got}
 use Rattle.ts_link.specs.declared.link.Got.TheVariants as G
@@ -18,6 +18,10 @@ got_again _ = false
 abbrev pub count_got : Got → ℕ
 count_got (G.Bytes n) = n
 count_got _ = 0
+
+-- so many bytes of the front of a list
+abbrev pub got_bytes : Got → List ℕ → List ℕ
+got_bytes answer bytes = take (count_got answer) bytes
 
 -- the room is filled from 1 byte on
 abbrev pub FillsSome : Got → ℕ → Type 0

@@ -89,10 +89,13 @@ ahead_by Nothing room ahead = next_ahead room ahead
 ahead_by Fails room ahead = ahead
 ahead_by Waits room ahead = ahead
 
+abbrev pub after_by : Mishap → ℕ → Input → Input
+after_by m room i = record i { ahead = ahead_by m room i.ahead }
+
 -- the link after a read into so much room that was answered so
 abbrev pub after_read : LinkState → ℕ → Got → LinkState
 after_read s room answer = record s {
-  input = record s.input { ahead = ahead_by (mishap_at s.reads) room s.input.ahead };
+  input = after_by (mishap_at s.reads) room s.input;
   reads = after_call s.reads;
   faults = one_more_if (got_failed answer) s.faults;
   waits = one_more_if (got_again answer) s.waits;

@@ -1,5 +1,5 @@
 -- What contracts see of a sink in memory, and exactly what its calls do.
-use Rattle.std.specs.Prelude.{◌≡◌, ℕ, List, length, min, true, false}
+use Rattle.std.specs.Prelude.{◌≡◌, ℕ, List, [], length, min, true, false}
 use Rattle.ts_link.specs.Numbered.{is_listed}
 use Rattle.ts_link.specs.declared.sink.Wrote.{Wrote}
 use Rattle.ts_link.specs.declared.sink.Wrote.TheVariants.{Took, Failed, NoMemory}
@@ -13,6 +13,10 @@ pub record SinkState : Type 0 where
   pub calls : ℕ
   pub faults : ℕ
   pub lacks : ℕ
+
+-- a sink to which nothing was written
+abbrev pub fresh_sink : ℕ → List ℕ → SinkState
+fresh_sink most failing = record { taken = []; most = most; failing = failing; calls = 0; faults = 0; lacks = 0 }
 
 -- a sink in memory fails exactly at the calls of its list, and takes what it can of a piece
 abbrev pub WritesAt : SinkState → List ℕ → Wrote → Type 0

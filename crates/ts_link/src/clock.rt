@@ -10,8 +10,8 @@ pub trait Clock {
     fn pause(&self, ms: u64);
 }
 
-/// A clock for tests, of which nobody has to wait: its moment rises by 1 after each `now`, and by `ms` at each
-/// `pause`, modulo 2^64.
+/// A clock for tests, of which nobody has to wait: its moment rises by 1 after each `now`, and by `ms` at
+/// each `pause`, modulo 2^64.
 #[derive(Drop)]
 pub struct StepClock {
     moment: AtomicU64,

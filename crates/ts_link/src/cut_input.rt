@@ -1,16 +1,16 @@
 //! One list of bytes that a link in memory gives in pieces of stated lengths.
 ghost use Rattle.std.specs.Prelude.{◌≡◌, ℕ, List, ◌+◌, ◌∷◌, [], ◌<◌, ◌≤◌, length, take, drop, map};
-ghost use Rattle.ts_link.specs.Inputs.{bytes_of, from_next, cut_up, next_answer, next_ahead};
-ghost use Rattle.ts_link.specs.InputView.{IsSoundInput, front_cut, seen_cut};
-ghost use Rattle.ts_link.specs.LinkAnswers.{count_got};
+ghost use Rattle.ts_link.specs.Inputs.{after_next, bytes_of, next_answer, next_ahead};
+ghost use Rattle.ts_link.specs.InputView.{IsSoundInput, cut_ahead, front_cut, seen_cut};
+ghost use Rattle.ts_link.specs.LinkAnswers.{got_bytes};
 
 use crate::copying::copy_front;
 use crate::link::Got;
 use crate::octets::Octets;
 use std::marker::Model;
 
-/// Bytes of which those from `at` on are ahead: the next `piece` of them in the piece that was begun, and then in
-/// pieces of the lengths from `next` on; the rest is one last piece.
+/// Bytes of which those from `at` on are ahead: the next `piece` of them in the piece that was begun, and
+/// then in pieces of the lengths from `next` on; the rest is one last piece.
 #[derive(Drop)]
 pub struct CutInput {
     bytes: Octets,
@@ -35,8 +35,8 @@ impl Model for CutInput {
 
 // Goes on to the next piece that is not empty, where one more is cut.
 fn begin_piece(cuts: &[u32], next: &mut usize, piece: &mut usize)
-    ensures same { (rest : List ℕ) → from_next (cut_up (piece.new ∷ drop next.new cuts.now) rest)
-        ≡ from_next (cut_up (piece.old ∷ drop next.old cuts.now) rest) }
+    ensures same { (rest : List ℕ) → cut_ahead piece.new (drop next.new cuts.now) rest
+        ≡ cut_ahead piece.old (drop next.old cuts.now) rest }
     ensures begun { piece.new ≡ 0 → drop next.new cuts.now ≡ [] }
 {
     while *piece == 0 && *next < cuts.len() {
@@ -68,10 +68,12 @@ fn give_front(
 ) -> Got
     requires within { at.old ≤ length bytes.now }
     requires room { 0 < length into.old }
-    ensures answer { result ≡ next_answer (length into.old) (from_next (cut_up (piece.old ∷ drop next.old cuts.now) (drop at.old bytes.now))) }
-    ensures ahead { from_next (cut_up (piece.new ∷ drop next.new cuts.now) (drop at.new bytes.now))
-        ≡ next_ahead (length into.old) (from_next (cut_up (piece.old ∷ drop next.old cuts.now) (drop at.old bytes.now))) }
-    ensures bytes { take (count_got result) into.new ≡ take (count_got result) (drop at.old bytes.now) }
+    ensures answer { result ≡ next_answer (length into.old)
+        (cut_ahead piece.old (drop next.old cuts.now) (drop at.old bytes.now)) }
+    ensures ahead { cut_ahead piece.new (drop next.new cuts.now) (drop at.new bytes.now)
+        ≡ next_ahead (length into.old)
+            (cut_ahead piece.old (drop next.old cuts.now) (drop at.old bytes.now)) }
+    ensures bytes { got_bytes result into.new ≡ got_bytes result (drop at.old bytes.now) }
     ensures within { at.new ≤ length bytes.now }
 {
     begin_piece(cuts, next, piece);
@@ -86,8 +88,8 @@ fn give_front(
 }
 
 impl CutInput {
-    /// These bytes in pieces of these lengths, and the rest as one last piece. Where a length is 0, or no byte is left,
-    /// there is no piece.
+    /// These bytes in pieces of these lengths, and the rest as one last piece. Where a length is 0, or no
+    /// byte is left, there is no piece.
     pub fn make(bytes: Octets, cuts: Vec<u32>) -> CutInput
         ensures { result ≡ seen_cut 0 cuts.items bytes bytes }
     {
@@ -104,8 +106,8 @@ impl CutInput {
     pub fn give(&mut self, into: &mut [u8]) -> Got
         requires { 0 < length into.old }
         ensures answer { result ≡ next_answer (length into.old) self.old.ahead }
-        ensures ahead { self.new ≡ record self.old { ahead = next_ahead (length into.old) self.old.ahead } }
-        ensures bytes { take (count_got result) into.new ≡ take (count_got result) (bytes_of self.old.ahead) }
+        ensures ahead { self.new ≡ after_next self.old (length into.old) }
+        ensures bytes { got_bytes result into.new ≡ got_bytes result (bytes_of self.old.ahead) }
         ensures sound { IsSoundInput self.old }
     {
         give_front(

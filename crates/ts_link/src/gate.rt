@@ -59,8 +59,8 @@ impl Side {
     }
 }
 
-/// A gate at which the first calls for the groups 0 and 1 wait for each other, so that a test sees that two handlers
-/// run beside each other.
+/// A gate at which the first calls for the groups 0 and 1 wait for each other, so that a test sees that two
+/// handlers run beside each other.
 #[derive(Drop)]
 pub struct MeetGate {
     limit: u64,

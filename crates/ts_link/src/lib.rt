@@ -1,5 +1,5 @@
-//! The outside of the program as traits with counts: links that bytes are read from and written to, files that are
-//! read, sinks that are written to, clocks and gates; and a form of each in memory.
+//! The outside of the program as traits with counts: links that bytes are read from and written to, files
+//! that are read, sinks that are written to, clocks and gates; and a form of each in memory.
 #![tactic(auto)]
 
 mod clock;

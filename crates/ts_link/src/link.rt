@@ -39,8 +39,8 @@ pub enum Put {
     NoMemory,
 }
 
-/// One end of a connection: it gives bytes and takes bytes, and it may make its caller wait (`Again`), fail or end at
-/// any call.
+/// One end of a connection: it gives bytes and takes bytes, and it may make its caller wait (`Again`), fail
+/// or end at any call.
 pub trait Link {
     // Whether contracts see its bytes.
     ghost tells: { Bool };

@@ -1,11 +1,11 @@
 //! A link in memory.
 ghost use Rattle.std.specs.Prelude.{◌≡◌, ◌<◌, ◌≤◌, ◌++◌, [], length, take, true, ⊤};
 ghost use Rattle.ts_link.specs.Counts.{greatest, one_more_if};
-ghost use Rattle.ts_link.specs.Inputs.{bytes_of, next_answer, next_ahead};
+ghost use Rattle.ts_link.specs.Inputs.{after_next, bytes_of, next_answer};
 ghost use Rattle.ts_link.specs.InputView.{IsSoundInput, seen_cut, seen_pieces};
 ghost use Rattle.ts_link.specs.Link.{Reads, Writes};
-ghost use Rattle.ts_link.specs.LinkAnswers.{count_got, count_put};
-ghost use Rattle.ts_link.specs.MemLink.{IsPut, ahead_by, after_read, after_write, at_most, fresh_link, input_of, less, look_of, plan_of, read_answer, read_by, write_answer, write_by};
+ghost use Rattle.ts_link.specs.LinkAnswers.{count_put, got_bytes};
+ghost use Rattle.ts_link.specs.MemLink.{IsPut, after_by, after_read, after_write, at_most, fresh_link, input_of, less, look_of, plan_of, read_answer, read_by, write_answer, write_by};
 ghost use Rattle.ts_link.specs.Numbered.{mishap_at, no_calls};
 
 use crate::cut_input::CutInput;
@@ -18,7 +18,8 @@ use crate::piece_input::PieceInput;
 use std::alloc::Global;
 use std::marker::Model;
 
-/// A link in memory: it gives its input in pieces, keeps what it takes, and fails or waits exactly where it was told to.
+/// A link in memory: it gives its input in pieces, keeps what it takes, and fails or waits exactly where it
+/// was told to.
 #[derive(Drop)]
 pub struct MemLink {
     input: MemInput,
@@ -57,9 +58,10 @@ impl Model for MemLink {
 }
 
 impl MemLink {
-    /// A link that gives its input in pieces of the lengths `cuts` and the rest as one last piece, and takes at most
-    /// `take` bytes a write. The read and write calls of the numbers in the first two lists fail, and of the others those
-    /// in the last two lists wait; reads and writes are numbered apart, from 1. Its name is 0.
+    /// A link that gives its input in pieces of the lengths `cuts` and the rest as one last piece, and takes
+    /// at most `take` bytes a write. The read and write calls of the numbers in the first two lists fail, and
+    /// of the others those in the last two lists wait; reads and writes are numbered apart, from 1. Its name
+    /// is 0.
     pub fn make(
         alloc: Global,
         input: Octets,
@@ -88,11 +90,12 @@ impl MemLink {
         }
     }
 
-    /// A link that gives these pieces one after the other, with their stalls, and takes each piece whole. Where it leaves
-    /// it takes at most `leave` bytes in all, and each write after that fails. No other call fails, and none but the reads
-    /// of a stall waits. Its name is 0.
+    /// A link that gives these pieces one after the other, with their stalls, and takes each piece whole.
+    /// Where it leaves it takes at most `leave` bytes in all, and each write after that fails. No other call
+    /// fails, and none but the reads of a stall waits. Its name is 0.
     pub fn of_pieces(alloc: Global, pieces: Vec<Piece>, leave: Option<u64>) -> MemLink
-        ensures made { result ≡ fresh_link (seen_pieces 0 0 pieces.items) usize.MAX leave (no_calls [] []) (no_calls [] []) }
+        ensures made { result ≡ fresh_link (seen_pieces 0 0 pieces.items) usize.MAX leave
+            (no_calls [] []) (no_calls [] []) }
         ensures left { bytes_of result.input.ahead ≡ bytes_of pieces.items }
         ensures plan { (plan_of result).leave ≡ leave }
     {
@@ -135,8 +138,8 @@ impl MemLink {
 fn give(input: &mut MemInput, into: &mut [u8]) -> Got
     requires { 0 < length into.old }
     ensures answer { result ≡ next_answer (length into.old) (input_of input.old).ahead }
-    ensures ahead { input_of input.new ≡ record (input_of input.old) { ahead = next_ahead (length into.old) (input_of input.old).ahead } }
-    ensures bytes { take (count_got result) into.new ≡ take (count_got result) (bytes_of (input_of input.old).ahead) }
+    ensures ahead { input_of input.new ≡ after_next (input_of input.old) (length into.old) }
+    ensures bytes { got_bytes result into.new ≡ got_bytes result (bytes_of (input_of input.old).ahead) }
     ensures sound { IsSoundInput (input_of input.old) }
 {
     match input {
@@ -149,8 +152,8 @@ fn give(input: &mut MemInput, into: &mut [u8]) -> Got
 fn read_by(mishap: Mishap, input: &mut MemInput, into: &mut [u8]) -> Got
     requires { 0 < length into.old }
     ensures answer { result ≡ read_by mishap (length into.old) (input_of input.old).ahead }
-    ensures ahead { input_of input.new ≡ record (input_of input.old) { ahead = ahead_by mishap (length into.old) (input_of input.old).ahead } }
-    ensures bytes { take (count_got result) into.new ≡ take (count_got result) (bytes_of (input_of input.old).ahead) }
+    ensures ahead { input_of input.new ≡ after_by mishap (length into.old) (input_of input.old) }
+    ensures bytes { got_bytes result into.new ≡ got_bytes result (bytes_of (input_of input.old).ahead) }
     ensures sound { mishap ≡ Mishap.Nothing → IsSoundInput (input_of input.old) }
 {
     match mishap {
@@ -223,7 +226,7 @@ fn read_once(link: &mut MemLink, into: &mut [u8]) -> Got
     requires { 0 < length into.old }
     ensures answer { result ≡ read_answer link.old (length into.old) }
     ensures after { link.new ≡ after_read link.old (length into.old) result }
-    ensures bytes { take (count_got result) into.new ≡ take (count_got result) (bytes_of link.old.input.ahead) }
+    ensures bytes { got_bytes result into.new ≡ got_bytes result (bytes_of link.old.input.ahead) }
     ensures sound { mishap_at link.old.reads ≡ Mishap.Nothing → IsSoundInput link.old.input }
     ensures calls { link.old.reads.made ≤ greatest }
     ensures faults { link.old.faults ≤ greatest }

@@ -59,7 +59,8 @@ impl MemShelf {
 
     /// Adds a file. Of two of one name the first is read.
     pub fn add(&mut self, name: &str, bytes: &[u8]) -> Result<(), NoMemory>
-        ensures ok { OnOk result (self.new ≡ record self.old { files = self.old.files ++ (name.now, bytes.now) ∷ [] }) }
+        ensures ok { OnOk result (self.new ≡
+            record self.old { files = self.old.files ++ (name.now, bytes.now) ∷ [] }) }
         ensures err { OnErr result (self.new ≡ self.old) }
     {
         let name = Octets::copy_of(self.alloc, name.as_bytes())?;
@@ -68,7 +69,8 @@ impl MemShelf {
         Ok(())
     }
 
-    /// Has the read call of this number, counted from 1, fail. A call after as many as the greatest `u64` has none.
+    /// Has the read call of this number, counted from 1, fail. A call after as many as the greatest `u64` has
+    /// none.
     pub fn fail_at(&mut self, call: u64) -> Result<(), NoMemory>
         ensures ok { OnOk result (self.new ≡ record self.old { failing = self.old.failing ++ call ∷ [] }) }
         ensures err { OnErr result (self.new ≡ self.old) }

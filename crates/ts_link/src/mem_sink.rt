@@ -2,7 +2,7 @@
 ghost use Rattle.std.specs.Prelude.{◌≡◌, ◌<◌, ◌≤◌, ◌++◌, [], length, true};
 ghost use Rattle.ts_link.specs.Counts.{Counted, one_more};
 ghost use Rattle.ts_link.specs.Sink.{TakesSome, is_fault, is_lack, taken_of};
-ghost use Rattle.ts_link.specs.MemSink.{SinkState, WritesAt};
+ghost use Rattle.ts_link.specs.MemSink.{SinkState, WritesAt, fresh_sink};
 
 use crate::numbered::is_listed;
 use crate::sink::{Sink, Wrote};
@@ -40,7 +40,7 @@ impl MemSink {
     /// counted from 1; a call after as many as the greatest `u64` has none.
     pub fn make(alloc: Global, take: usize, failing: Vec<u64>) -> MemSink
         requires { 1 ≤ take }
-        ensures { result ≡ record { taken = []; most = take; failing = failing.items; calls = 0; faults = 0; lacks = 0 } }
+        ensures { result ≡ fresh_sink take failing.items }
     {
         MemSink {
             written: Vec::new(alloc),

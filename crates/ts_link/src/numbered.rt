@@ -13,8 +13,8 @@ pub enum Mishap {
     Waits,
 }
 
-/// Whether the call after so many has a number of the list. Calls are numbered from 1, and a call after as many as the
-/// greatest `u64` has no number.
+/// Whether the call after so many has a number of the list. Calls are numbered from 1, and a call after as
+/// many as the greatest `u64` has no number.
 pub fn is_listed(made: u64, numbers: &[u64]) -> bool
     ensures { result ≡ is_listed made numbers.now }
 {

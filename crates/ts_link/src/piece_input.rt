@@ -1,8 +1,8 @@
 //! Pieces and stalls that a link in memory gives one after the other.
 ghost use Rattle.std.specs.Prelude.{◌≡◌, ℕ, ◌+◌, ◌<◌, length, take, drop};
-ghost use Rattle.ts_link.specs.Inputs.{bytes_of, from_next, next_answer, next_ahead};
-ghost use Rattle.ts_link.specs.InputView.{IsFront, IsSoundInput, begun, is_passed, seen_pieces};
-ghost use Rattle.ts_link.specs.LinkAnswers.{count_got};
+ghost use Rattle.ts_link.specs.Inputs.{after_next, bytes_of, next_answer, next_ahead};
+ghost use Rattle.ts_link.specs.InputView.{IsFront, IsSoundInput, begun, is_passed, pieces_ahead, seen_pieces};
+ghost use Rattle.ts_link.specs.LinkAnswers.{got_bytes};
 
 use crate::copying::copy_front;
 use crate::link::Got;
@@ -40,8 +40,7 @@ fn is_passed(piece: &Piece, passed: usize) -> bool
 
 // Goes on to the next piece that is not empty.
 fn begin_piece(pieces: &[Piece], next: &mut usize, passed: &mut usize)
-    ensures same { from_next (begun passed.new (drop next.new pieces.now))
-        ≡ from_next (begun passed.old (drop next.old pieces.now)) }
+    ensures same { pieces_ahead passed.new next.new pieces.now ≡ pieces_ahead passed.old next.old pieces.now }
     ensures front { IsFront (begun passed.new (drop next.new pieces.now)) }
 {
     while *next < pieces.len() && is_passed(&pieces[*next], *passed) {
@@ -53,11 +52,11 @@ fn begin_piece(pieces: &[Piece], next: &mut usize, passed: &mut usize)
 // Gives the front of the next piece.
 fn give_front(pieces: &[Piece], next: &mut usize, passed: &mut usize, into: &mut [u8]) -> Got
     requires { 0 < length into.old }
-    ensures answer { result ≡ next_answer (length into.old) (from_next (begun passed.old (drop next.old pieces.now))) }
-    ensures ahead { from_next (begun passed.new (drop next.new pieces.now))
-        ≡ next_ahead (length into.old) (from_next (begun passed.old (drop next.old pieces.now))) }
-    ensures bytes { take (count_got result) into.new
-        ≡ take (count_got result) (bytes_of (from_next (begun passed.old (drop next.old pieces.now)))) }
+    ensures answer { result ≡ next_answer (length into.old) (pieces_ahead passed.old next.old pieces.now) }
+    ensures ahead { pieces_ahead passed.new next.new pieces.now
+        ≡ next_ahead (length into.old) (pieces_ahead passed.old next.old pieces.now) }
+    ensures bytes { got_bytes result into.new
+        ≡ got_bytes result (bytes_of (pieces_ahead passed.old next.old pieces.now)) }
 {
     begin_piece(pieces, next, passed);
     if *next >= pieces.len() {
@@ -94,8 +93,8 @@ impl PieceInput {
     pub fn give(&mut self, into: &mut [u8]) -> Got
         requires { 0 < length into.old }
         ensures answer { result ≡ next_answer (length into.old) self.old.ahead }
-        ensures ahead { self.new ≡ record self.old { ahead = next_ahead (length into.old) self.old.ahead } }
-        ensures bytes { take (count_got result) into.new ≡ take (count_got result) (bytes_of self.old.ahead) }
+        ensures ahead { self.new ≡ after_next self.old (length into.old) }
+        ensures bytes { got_bytes result into.new ≡ got_bytes result (bytes_of self.old.ahead) }
         ensures sound { IsSoundInput self.old }
     {
         give_front(

@@ -12,6 +12,7 @@ use Rattle.ts_journal.specs.Laws.{NoTurns}
 use Rattle.ts_journal.proofs.Cases.{split}
 use Rattle.ts_journal.proofs.Lawful.{lawful_front, lawful_back}
 use Rattle.ts_journal.proofs.Extends.{extends_trans}
+use Rattle.ts_group.specs.declared.group.Group.{Group}
 use Rattle.ts_group.specs.Context.{Context, moment_after}
 use Rattle.ts_group.specs.Entries.{AllOwn, AreCalls, Grows, renewal}
 use Rattle.ts_group.specs.Calls.{Handles, IsRun, RunsFrom, if_pending, next_in}
@@ -228,35 +229,35 @@ pub moment_grows : (a b : Context) → Grows a b → moment_of b.log ≡ moment_
 moment_grows a b g = moment_extends g.log.by ∙ (own_quiet g.log.own g.log.all_own).still (moment_of a.log)
 
 -- the events that are handled with that of a number, and the calls after them
-then_grows : {W : Type 0} (Called : W → W → List ℕ → Type 0) (u v : W) (a b c : Context) (number moment events : ℕ) (h : Handles Called u v a b number moment events)
-    → (g : Grows b c) → HandlesThen a.log.state.next number moment (h.es ++ g.log.own)
-then_grows Called u v a b c number moment events h g =
-    let low = a.log.state.next in
+then_grows : {W Q R T U : Type 0} (Called : W → W → List ℕ → Type 0) (a b : Group W Q R T U) (c : Context) (number moment events : ℕ) (h : Handles Called a b number moment events)
+    → (g : Grows b.cx c) → HandlesThen a.cx.log.state.next number moment (h.es ++ g.log.own)
+then_grows Called a b c number moment events h g =
+    let low = a.cx.log.state.next in
     let q = own_quiet g.log.own g.log.all_own in
-    let runs = runs_then Called u v low a.log.state moment number [] events h.es b.calls h.runs h.by.lawful (omega arith) tt in
+    let runs = runs_then Called a.world b.world low a.cx.log.state moment number [] events h.es b.cx.calls h.runs h.by.lawful (omega arith) tt in
     then_append low number moment h.es g.log.own runs q.within (q.from low moment)
 
 -- they go on within a turn if the number is next
-pub within_handled : {W : Type 0} (Called : W → W → List ℕ → Type 0) (u v : W) (a b c : Context) (number moment events : ℕ) → Handles Called u v a b number moment events
-    → IsNext (moment_of a.log) a.log.state number moment → Grows b c → HandlesWithin a.log c.log
-within_handled Called u v a b c number moment events h next g =
-    let all = then_grows Called u v a b c number moment events h g in
+pub within_handled : {W Q R T U : Type 0} (Called : W → W → List ℕ → Type 0) (a b : Group W Q R T U) (c : Context) (number moment events : ℕ) → Handles Called a b number moment events
+    → IsNext (moment_of a.cx.log) a.cx.log.state number moment → Grows b.cx c → HandlesWithin a.cx.log c.log
+within_handled Called a b c number moment events h next g =
+    let all = then_grows Called a b c number moment events h g in
     record {
       on = record {
         added = h.es ++ g.log.own;
         by = extends_trans h.by g.log.by;
         within = subst NoTurns (sym all.is) all.within;
-        first = subst (HandlesFirst (moment_of a.log) a.log.state) (sym all.is) (next, all.from);
+        first = subst (HandlesFirst (moment_of a.cx.log) a.cx.log.state) (sym all.is) (next, all.from);
       };
       some = subst HandlesSome (sym all.is) tt;
     }
 
 -- and the moment moves on to theirs
-pub moment_handled : {W : Type 0} (Called : W → W → List ℕ → Type 0) (u v : W) (a b c : Context) (number moment events : ℕ) → Handles Called u v a b number moment events
-    → Grows b c → moment_of c.log ≡ moment
-moment_handled Called u v a b c number moment events h g =
-    let all = then_grows Called u v a b c number moment events h g in
-    moment_extends (extends_trans h.by g.log.by) ∙ ap (last_moment (moment_of a.log)) all.is ∙ last_from a.log.state.next moment all.rest all.within all.from
+pub moment_handled : {W Q R T U : Type 0} (Called : W → W → List ℕ → Type 0) (a b : Group W Q R T U) (c : Context) (number moment events : ℕ) → Handles Called a b number moment events
+    → Grows b.cx c → moment_of c.log ≡ moment
+moment_handled Called a b c number moment events h g =
+    let all = then_grows Called a b c number moment events h g in
+    moment_extends (extends_trans h.by g.log.by) ∙ ap (last_moment (moment_of a.cx.log)) all.is ∙ last_from a.cx.log.state.next moment all.rest all.within all.from
 
 -- turns after turns
 pub serial_trans : (a b c : Log) → GoesOnSerially a b → b.state.held ≡ false → GoesOnSerially b c → GoesOnSerially a c

@@ -1,22 +1,24 @@
 -- What a step of a chain between two links moves.
-use Rattle.std.proofs.Common.{◌≡◌, ◌≢◌, ◌≤◌, ◌<◌, ◌+◌, ◌++◌, ◌⊎◌, inl, inr, ℕ, zero, suc, List, [], ◌∷◌, Bool, true, false, is_none, length, take, drop, map, arith, refl, sym, ap, subst, ◌∙◌, append_assoc, append-nil, length-append, length-drop}
+use Rattle.std.proofs.Common.{◌≡◌, ◌≢◌, ◌≤◌, ◌<◌, ◌+◌, ◌++◌, ◌⊎◌, inl, inr, ℕ, zero, suc, List, [], ◌∷◌, Bool, true, false, is_none, Option, length, take, drop, map, arith, refl, sym, ap, subst, ◌∙◌, append_assoc, append-nil, length-append, length-drop}
 use Rattle.std.specs.Bool.{OnTrue}
 use Rattle.std.proofs.lemmas.List.{take-take}
 use Rattle.ts_link.specs.Counts.{Rose}
 use Rattle.ts_link.specs.Link.{Look}
 use Rattle.ts_group.specs.Context.{Context}
-use Rattle.ts_transform.specs.declared.chain.TheConstants.{MOST_READ}
+use Rattle.ts_vconn.specs.declared.moves.TheConstants.{MOST_PULLED}
 use Rattle.ts_transform.specs.declared.continuation.StageContinuation.{StageContinuation}
-use Rattle.ts_transform.specs.declared.moves.Pulled.{Pulled}
-use Rattle.ts_transform.specs.declared.moves.Pulled.TheVariants as U
+use Rattle.ts_vconn.specs.declared.moves.Pulled.{Pulled}
+use Rattle.ts_vconn.specs.declared.moves.Pulled.TheVariants as U
 use Rattle.ts_transform.specs.declared.pump.Pumped.{Pumped}
 use Rattle.ts_transform.specs.declared.pump.Pumped.TheVariants.{Moved, Ended, Blocked, Idle}
 use Rattle.ts_transform.specs.declared.pump.Stage.{Stage}
 use Rattle.ts_transform.specs.Stage.{AnswersIf, AnswersWork, Steps, has_ended, has_work}
-use Rattle.ts_transform.specs.Flow.{AnswersAt, ChainState, EndsInOrder, MOST_WAITING, PumpsAt, PumpsOnce, StepsAt, Takes, TakesAway, aborted, client_wait, closed, flow, flow_from, last_ended}
+use Rattle.ts_transform.specs.Flow.{AnswersAt, ChainState, EndsInOrder, MOST_WAITING, OnlyFirstWorks, PumpsAt, PumpsOnce, StepsAt, Takes, TakesAway, aborted, client_wait, closed, flow, fresh_stage, flow_from, last_ended}
 use Rattle.ts_transform.specs.Acting.{StillGives}
-use Rattle.ts_transform.specs.Moves.{Came, PullsOn}
+use Rattle.ts_vconn.specs.MoveAnswers.{Came}
+use Rattle.ts_vconn.specs.Moves.{PullsOn}
 use Rattle.ts_transform.specs.Carrying.{Carries, MovesOn}
+use Rattle.ts_transform.proofs.Starting.{fresh-first}
 
 -- nothing is carried
 carries_none : {P : Type 0} (rest : P → List ℕ → List ℕ) (it ot : Bool) (i o p : Look) (c : ChainState P) → (ot ≡ true → p.taken ≡ o.taken ++ []) → Carries rest it ot i i o p c c
@@ -29,13 +31,23 @@ carries_none rest it ot i o p c waits = record {
   closed = λ given. (refl, given);
 }
 
+-- a chain that is made is in order, and only its first stage may have work
+order_fresh : {P : Type 0} (up : Bool) (ps : List P) → EndsInOrder up (map fresh_stage ps)
+order_fresh up [] = tt
+order_fresh up (p ∷ ps) = (λ ended. absurd (let wrong : false ≡ true = ended in cc), order_fresh false ps)
+
+pub made_fresh : {P : Type 0} (ps : List P) (c : ChainState P) → c ≡ record { first = []; stages = map fresh_stage ps; given = false }
+    → OnlyFirstWorks c × (length c.first < MOST_WAITING + MOST_PULLED) × EndsInOrder c.given c.stages
+made_fresh {P} ps c is = subst (λ x. OnlyFirstWorks {P = P} x × (length x.first < MOST_WAITING + MOST_PULLED) × EndsInOrder x.given x.stages) (sym is)
+    (λ j work. fresh-first false [] ps j work, omega arith, order_fresh false ps)
+
 -- nothing is moved, though the output may have made its caller wait
 pub moves_wait : {P : Type 0} (rest : P → List ℕ → List ℕ) (it ot : Bool) (i o p : Look) (c : ChainState P) (was : Bool) (lacks : Type 0) → (ot ≡ true → p.taken ≡ o.taken ++ []) → MovesOn rest it ot i i o p c c was was lacks
 moves_wait rest it ot i o p c was lacks waits = record {
   carries = λ goes. carries_none rest it ot i o p c waits;
   aborts = λ goes stops. absurd (let wrong : false ≡ true = sym goes ∙ stops in cc);
   stays = λ stopped. stopped;
-  ends = λ goes open given. absurd (let wrong : false ≡ true = sym open ∙ given in cc);
+  ends = λ goes opened given. absurd (let wrong : false ≡ true = sym opened ∙ given in cc);
   bounded = λ few. few;
   ordered = λ ordered. ordered;
 }
@@ -56,22 +68,22 @@ order_any b [] h = tt
 order_any b (s ∷ ss) (here, others) = (λ ended. absurd (let wrong : false ≡ true = here ended in cc), others)
 
 -- one read brought some bytes, or the end
-pub moves_pull : {P : Type 0} (rest : P → List ℕ → List ℕ) (it ot : Bool) (i j o : Look) (c d : ChainState P) (answer : Pulled) (was : Bool) → PullsOn it i j c.first d.first answer MOST_READ → d.stages ≡ c.stages
+pub moves_pull : {P : Type 0} (rest : P → List ℕ → List ℕ) (it ot : Bool) (i j o : Look) (c d : ChainState P) (answer : Pulled) (was : Bool) → PullsOn it i j c.first d.first answer MOST_PULLED → d.stages ≡ c.stages
     → c.given ≡ false → length c.first < MOST_WAITING → (d.given ≡ true → it ≡ true → j.left ≡ []) → MovesOn rest it ot i j o o c d was was ⊥
-moves_pull {P} rest it ot i j o c d answer was h stages open room ends = record {
+moves_pull {P} rest it ot i j o c d answer was h stages opened room ends = record {
   carries = λ goes. record {
     gave = h.more;
     took = [];
     given = λ tells. (h.pulls.told tells).given;
     taken = λ tells. sym (append-nil o.taken);
     flow = λ z none. flows z;
-    closed = λ given. absurd (let wrong : false ≡ true = sym open ∙ given in cc);
+    closed = λ given. absurd (let wrong : false ≡ true = sym opened ∙ given in cc);
   };
   aborts = λ goes stops. absurd (let wrong : false ≡ true = sym goes ∙ stops in cc);
   stays = λ stopped. stopped;
   ends = λ goes was_open given. ends given;
-  bounded = λ few. let l : length d.first ≡ length c.first + length h.more = ap length h.grows ∙ length-append c.first h.more in omega (arith, l, room, came_few answer MOST_READ h.more h.pulls.came);
-  ordered = λ ordered. subst (EndsInOrder d.given) (sym stages) (order_any d.given c.stages (subst (λ b. EndsInOrder b c.stages) open ordered));
+  bounded = λ few. let l : length d.first ≡ length c.first + length h.more = ap length h.grows ∙ length-append c.first h.more in omega (arith, l, room, came_few answer MOST_PULLED h.more h.pulls.came);
+  ordered = λ ordered. subst (EndsInOrder d.given) (sym stages) (order_any d.given c.stages (subst (λ b. EndsInOrder b c.stages) opened ordered));
 }
   where
     flows : (z : List ℕ) → flow rest c (h.more ++ z) ≡ flow rest d z
@@ -83,6 +95,13 @@ moves_pull {P} rest it ot i j o c d answer was h stages open room ends = record 
 order_closed : {P : Type 0} (ss : List (Stage P)) → EndsInOrder true (map closed ss)
 order_closed [] = tt
 order_closed (s ∷ ss) = (λ ended. refl, order_closed ss)
+
+-- what is the same moves the same
+pub moves_as : {P : Type 0} (rest : P → List ℕ → List ℕ) (it ot : Bool) (i j k o p q : Look) (c d e : ChainState P) (was now then : Bool) (lacks : Type 0) → k ≡ j → q ≡ p → e ≡ d → then ≡ now
+    → MovesOn rest it ot i j o p c d was now lacks → MovesOn rest it ot i k o q c e was then lacks
+moves_as rest it ot i j k o p q c d e was now then lacks input output chain stopped h =
+    subst (λ x. MovesOn rest it ot i x o q c e was then lacks) (sym input) (subst (λ x. MovesOn rest it ot i j o x c e was then lacks) (sym output)
+    (subst (λ x. MovesOn rest it ot i j o p c x was then lacks) (sym chain) (subst (λ x. MovesOn rest it ot i j o p c d was x lacks) (sym stopped) h)))
 
 -- a link failed, or memory lacked, and the chain was aborted
 pub moves_aborted : {P : Type 0} (rest : P → List ℕ → List ℕ) (it ot : Bool) (i j o p : Look) (c d e : ChainState P) (was : Bool) (lacks : Type 0) → lacks ⊎ Rose i.faults j.faults ⊎ Rose o.faults p.faults → e ≡ aborted d
@@ -123,7 +142,7 @@ moves_taken rest it ot i o p c d piece n was takes within front taken = record {
   };
   aborts = λ goes stops. absurd (let wrong : false ≡ true = sym goes ∙ stops in cc);
   stays = λ stopped. stopped;
-  ends = λ goes open given. absurd (let wrong : false ≡ true = sym open ∙ sym takes.given ∙ given in cc);
+  ends = λ goes opened given. absurd (let wrong : false ≡ true = sym opened ∙ sym takes.given ∙ given in cc);
   bounded = λ few. omega (arith, few, takes_first c.first c.stages n d.first d.stages takes.takes);
   ordered = λ ordered. subst (λ b. EndsInOrder b d.stages) (sym takes.given) (takes_order c.given c.first c.stages n d.first d.stages takes.takes ordered);
 }
@@ -209,7 +228,7 @@ moves_stage rest it ot i o c d ts us a b was h = record {
   };
   aborts = λ goes stops. absurd (let wrong : false ≡ true = sym goes ∙ stops in cc);
   stays = λ stopped. stopped;
-  ends = λ goes open given. absurd (let wrong : false ≡ true = sym open ∙ sym h.given ∙ given in cc);
+  ends = λ goes opened given. absurd (let wrong : false ≡ true = sym opened ∙ sym h.given ∙ given in cc);
   bounded = λ few. omega (arith, few, pumped_first rest c d h.once);
   ordered = pumped_order rest c d h.once;
 }
@@ -227,7 +246,7 @@ moves_lacks rest it ot i j o p c d was now lacks h = record {
 }
   where
     by_cause : ⊥ ⊎ Rose i.faults j.faults ⊎ Rose o.faults p.faults → lacks ⊎ Rose i.faults j.faults ⊎ Rose o.faults p.faults
-    by_cause (inl no) = absurd no
+    by_cause (inl never) = absurd never
     by_cause (inr rose) = inr rose
 
 -- one step carries on from where the one before stopped

@@ -169,7 +169,7 @@ pub aborted_awake : {P : Type 0} (c d : ChainState P) (ts : List (Option StageCo
 aborted_awake c d ts is = subst (λ x. IsAwake x ts) (sym is) (λ j last goes full. absurd (let wrong : true ≡ false = sym (ended-closed c.stages j) ∙ goes in cc))
 
 -- no stage is roused where nothing is pending
-none-roused : (roles : List Named) (role : ℕ) (ts : List (Option StageContinuation)) (j : ℕ) → AreOfStages [] roles role ts → IsRoused ts j → ⊥
+pub none-roused : (roles : List Named) (role : ℕ) (ts : List (Option StageContinuation)) (j : ℕ) → AreOfStages [] roles role ts → IsRoused ts j → ⊥
 none-roused roles role [] j s roused = roused
 none-roused roles role (None ∷ ts) zero s roused = roused
 none-roused roles role (Some t ∷ ts) zero (here, others) roused =
@@ -185,14 +185,14 @@ gets-work false false [] goes (inr some) = absurd (some refl)
 gets-work false false (b ∷ bs) goes (inr some) = refl
 
 -- so if it need not work, it is full
-full-else : (n : ℕ) → (n < 65536 → ⊥) → 65536 ≤ n
+pub full-else : (n : ℕ) → (n < 65536 → ⊥) → 65536 ≤ n
 full-else n not_short = by_room (leb_tells 65536 n)
   where
     by_room : ((nat_le 65536 n ≡ true) × (65536 ≤ n)) ⊎ ((nat_le 65536 n ≡ false) × (n < 65536)) → 65536 ≤ n
     by_room (inl (t, long)) = long
     by_room (inr (t, short)) = absurd (not_short short)
 
-some-long : (l : List ℕ) → 65536 ≤ length l → l ≢ []
+pub some-long : (l : List ℕ) → 65536 ≤ length l → l ≢ []
 some-long l long is = let none : length l ≡ 0 = ap length is in omega (arith, long, none)
 
 either : {X : Type 0} (b : Bool) → (b ≡ true → X) → (b ≡ false → X) → X
@@ -213,7 +213,7 @@ flow_from-rests rest up from (s ∷ ss) v input rests none same =
     (λ j must. rests (suc j) must) none (λ ended. absurd (let wrong : false ≡ true = sym goes ∙ ended in cc)))
 
 -- and the last of them has ended
-ended-rests : {P : Type 0} (up : Bool) (from : List ℕ) (ss : List (Stage P))
+pub ended-rests : {P : Type 0} (up : Bool) (from : List ℕ) (ss : List (Stage P))
     → (up ≡ true) ⊎ (from ≢ []) → ((j : ℕ) → MustPump up from ss j → ⊥) → last_wait from ss ≡ [] → last_ended up ss ≡ true
 ended-rests up from [] (inl ended) rests none = ended
 ended-rests up from [] (inr some) rests none = absurd (some none)

@@ -13,7 +13,7 @@ use Rattle.ts_transform.specs.Cover.{IsDriven}
 use Rattle.ts_transform.specs.Driven.{MayLose}
 use Rattle.ts_transform.specs.declared.continuation.StageContinuation.{StageContinuation}
 use Rattle.ts_transform.specs.declared.link_world.LinkWorld.{LinkWorld}
-use Rattle.ts_transform.specs.declared.chain.TheConstants.{MOST_READ}
+use Rattle.ts_vconn.specs.declared.moves.TheConstants.{MOST_PULLED}
 use Rattle.ts_transform.specs.declared.link_world.TheConstants.{RETRY}
 use Rattle.ts_transform.specs.declared.loss.Loss.{Loss}
 use Rattle.ts_transform.specs.declared.loss.Loss.TheVariants.{NoMemory}
@@ -36,7 +36,7 @@ pub record MovesOn {P : Type 0} (rest : P → List ℕ → List ℕ) (in_tells o
   pub aborts : was ≡ false → now ≡ true → lacks ⊎ Rose i.faults j.faults ⊎ Rose o.faults p.faults
   pub stays : was ≡ true → now ≡ true
   pub ends : now ≡ false → c.given ≡ false → d.given ≡ true → in_tells ≡ true → j.left ≡ []
-  pub bounded : length c.first < MOST_WAITING + MOST_READ → length d.first < MOST_WAITING + MOST_READ
+  pub bounded : length c.first < MOST_WAITING + MOST_PULLED → length d.first < MOST_WAITING + MOST_PULLED
   pub ordered : EndsInOrder c.given c.stages → EndsInOrder d.given d.stages
 
 -- the same of one end of a world between two links, or of a stage: it is aborted for a fault of a link alone
@@ -83,7 +83,7 @@ pub record IsCarried {I K P : Type 0} (w : LinkWorld I K P) (pending : List Pend
   pub ends : w.driven.running ≡ true → AreEndsRoused w.driven.chain w.writer w.reader
   pub fresh : w.writer ≡ None → (w.driven.running ≡ false) × (w.driven.table.items ≡ []) × OnlyFirstWorks w.driven.chain
   pub ordered : EndsInOrder w.driven.chain.given w.driven.chain.stages
-  pub bounded : length w.driven.chain.first < MOST_WAITING + MOST_READ
+  pub bounded : length w.driven.chain.first < MOST_WAITING + MOST_PULLED
 
 -- whether it runs may only fall, for a cause; and whoever was made stays
 pub record KeepsCourse {I K P : Type 0} (v w : LinkWorld I K P) (now : Context) : Type 0 where

@@ -6,6 +6,5 @@ pub mod Driving
 pub mod Flow
 pub mod Law
 pub mod Loss
-pub mod Moves
 pub mod Stage
 pub mod World

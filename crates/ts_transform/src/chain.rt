@@ -3,9 +3,8 @@ ghost use Rattle.std.specs.Prelude.{◌≡◌, ◌+◌, ◌<◌, ◌≤◌, ◌+
 ghost use Rattle.std.specs.Bool.{OnTrue};
 ghost use Rattle.ts_transform.specs.Stage.{IfRests, done_by};
 ghost use Rattle.ts_transform.specs.Flow.{AnswersAt, IsFinished, IsGiven, MOST_WAITING, MustRead, MustWork, MustWrite, StepsAt, TakesAway, aborted, client_wait, compose, ended_at, flow, fresh_stage, last_ended, left_to_do, pause_at, wait_at};
-ghost use Rattle.ts_transform.specs.Moves.{PullsOn};
+ghost use Rattle.ts_vconn.specs.Moves.{PullsOn};
 
-use crate::moves::{Pulled, pull_waiting};
 use crate::pump::{MOST_WAITING, Pumped, Stage, pump_at};
 use crate::stages::{
     close_all, ended_at, fresh_stages, has_ended, last_block, last_waiting, must_pump, pause_at,
@@ -16,9 +15,7 @@ use std::alloc::Global;
 use std::marker::Model;
 use ts_iobuf::Waiting;
 use ts_link::{Link, NoMemory, Octets};
-
-/// The most bytes that one read brings.
-pub const MOST_READ: usize = 32_768;
+use ts_vconn::{MOST_PULLED, Pulled, pull_waiting};
 
 /// A chain of transforms, with the bytes that wait before, between and after them. Boundary 0 lies before the first
 /// stage, and boundary `stages()` at the client.
@@ -176,12 +173,12 @@ impl<P: Transform + Drop> Chain<P> {
     pub fn pull<L: Link>(&mut self, link: &mut L) -> Result<Pulled, NoMemory>
         requires { self.old.given ≡ false }
         ensures pulled { IfOk result (λ p. PullsOn L.tells (L.look link.old) (L.look link.new)
-            self.old.first self.new.first p MOST_READ) }
+            self.old.first self.new.first p MOST_PULLED) }
         ensures kept { (self.new.stages ≡ self.old.stages) × (self.new.given ≡ self.old.given) }
         ensures goes { L.goes link.old link.new }
         ensures err { OnErr result ((self.new ≡ self.old) × (link.new ≡ link.old)) }
     {
-        pull_waiting(link, &mut self.first, MOST_READ)
+        pull_waiting(link, &mut self.first, MOST_PULLED)
     }
 
     /// Whether a stage has work, and room after it.

@@ -9,7 +9,6 @@ mod ends;
 mod handler;
 mod link_world;
 mod loss;
-mod moves;
 mod pump;
 mod rousing;
 mod stages;

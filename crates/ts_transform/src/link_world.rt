@@ -17,12 +17,12 @@ use crate::chain::Chain;
 use crate::continuation::{StageContinuation, works};
 use crate::driven::DrivenChain;
 use crate::loss::Loss;
-use crate::moves::Pulled;
 use crate::transform::Transform;
 use std::alloc::Global;
 use ts_group::{Asked, Cx, Want, World};
 use ts_journal::{Event, Slotted};
 use ts_link::{Link, NoMemory, Put};
+use ts_vconn::Pulled;
 
 /// How long a step waits that found a link not ready, in milliseconds.
 pub const RETRY: u64 = 10;
@@ -289,11 +289,13 @@ impl<I: Link + Drop, K: Link + Drop, P: Transform + Drop> LinkWorld<I, K, P> {
         if !self.driven.running {
             return;
         }
-        self.rouse_writer(self.driven.chain.has_output(), 0, cx);
+        let writes = self.driven.chain.has_output();
+        self.rouse_writer(writes, 0, cx);
         if !self.driven.running {
             return;
         }
-        self.rouse_reader(self.driven.chain.must_read(), 0, cx);
+        let reads = self.driven.chain.must_read();
+        self.rouse_reader(reads, 0, cx);
     }
 
     // Whether memory lacked when an event was lost the last time.

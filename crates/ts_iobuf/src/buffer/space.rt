@@ -1,4 +1,4 @@
-// The room behind a buffer's bytes, lent to be filled in place.
+//! The room behind a buffer's bytes, lent to be filled in place.
 ghost use Rattle.std.specs.Prelude.{◌≡◌, ◌≤◌, [], length, OnOk, OnErr};
 ghost use Rattle.std.specs.Borrow.{sem};
 ghost use Rattle.ts_iobuf.specs.Lending.{LendsRoom, LendsSpace};

@@ -1,3 +1,4 @@
+-- So far no direct call that was passed is pending.
 use Rattle.std.proofs.Common.{◌≡◌, drop}
 use Rattle.ts_group.specs.Context.{AllCalls}
 use Rattle.ts_group.specs.Calls.{next_in}

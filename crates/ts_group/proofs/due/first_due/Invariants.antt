@@ -1,3 +1,4 @@
+-- So far this event is due first.
 use Rattle.std.proofs.Common.{◌≡◌, None, drop}
 use Rattle.ts_group.proofs.First.{soonest}
 use Rattle.ts_group.proofs.due.first_due.Given as goal

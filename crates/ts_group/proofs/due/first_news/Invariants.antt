@@ -1,3 +1,4 @@
+-- So far no event is news.
 use Rattle.std.proofs.Common.{◌≡◌, drop}
 use Rattle.ts_group.proofs.First.{first_from}
 use Rattle.ts_group.proofs.due.first_news.Given as goal

@@ -1,5 +1,5 @@
 -- The first event of a series is pending, and what its end leaves.
-use Rattle.std.proofs.Common.{◌≡◌, ◌+◌, refl, ap, Some, sym, ◌∙◌, arith}
+use Rattle.std.proofs.Common.{◌≡◌, ◌+◌, ap, Some, sym, ◌∙◌, arith}
 use Rattle.ts_journal.specs.State.{State, number_in}
 use Rattle.ts_journal.proofs.Lookups.{number_there}
 use Rattle.ts_group.specs.Context.{needed}

@@ -1,3 +1,4 @@
+-- So far no event is of the series.
 use Rattle.std.proofs.Common.{◌≡◌, drop}
 use Rattle.ts_journal.specs.State.{number_in}
 use Rattle.ts_group.proofs.events.number_of.Given as goal

@@ -1,3 +1,4 @@
+-- So far the first events of the key were dropped.
 use Rattle.std.proofs.Common.{length}
 use Rattle.ts_group.proofs.Drops.{Dropping}
 use Rattle.ts_group.proofs.keys.drop_events.Given as goal

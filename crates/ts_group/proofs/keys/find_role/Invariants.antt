@@ -1,3 +1,4 @@
+-- So far no role is of the index.
 use Rattle.std.proofs.Common.{◌≡◌, ◌++◌, take, drop}
 use Rattle.ts_group.specs.Context.{without_role}
 use Rattle.ts_group.proofs.keys.find_role.Given as goal

@@ -1,3 +1,4 @@
+-- So far no event is of the key.
 use Rattle.std.proofs.Common.{◌≡◌, drop}
 use Rattle.ts_journal.specs.State.{numbers_of}
 use Rattle.ts_group.proofs.keys.first_number.Given as goal

@@ -1,3 +1,4 @@
+-- So far no index can be used.
 use Rattle.std.proofs.Common.{ℕ, ◌<◌}
 use Rattle.ts_group.specs.Context.{CanUse}
 use Rattle.ts_group.proofs.keys.free_key.Given as goal

@@ -1,3 +1,4 @@
+-- So far no role that was passed is of the index.
 use Rattle.std.proofs.Common.{◌≡◌, drop}
 use Rattle.ts_group.specs.Context.{role_at}
 use Rattle.ts_group.proofs.keys.role_of.Given as goal

@@ -1,3 +1,4 @@
+-- So far at most one event was set for each call.
 use Rattle.std.proofs.Common.{◌≡◌, ◌+◌, ◌≤◌, true}
 use Rattle.ts_group.specs.Entries.{Grows}
 use Rattle.ts_group_tests.proofs.burst.call_target.Given as goal

@@ -1,4 +1,5 @@
--- What is left to do, as the world tells it, falls with each event, and the count of those that were handled does not fall.
+-- What is left to do, as the world tells it, falls with each event, and the count of those that were handled
+-- does not fall.
 use Rattle.std.proofs.Common.{◌≡◌, ◌≤◌, false}
 use Rattle.std.specs.Prelude.{IsSome, unwrap_or}
 use Rattle.ts_group.specs.Answers.{KeepsTags}

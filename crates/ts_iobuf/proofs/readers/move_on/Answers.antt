@@ -12,8 +12,10 @@ returns c =
     record {
       least = steps.1;
       slots = c.lower.ensures ∙ ap (λ m. map (lowered c.least-passed.result) m) c.advance.ensures;
-      bound = omega (arith, least_place-le c.advance.new.slots c.args.most, c.least-passed.ensures);
-      within = rw (steps.0, steps.1) (settled-within ss c.args.reader c.args.n c.args.most _ stands.0 stands.1 c.requires.within);
+      within = (
+        omega (arith, least_place-le c.advance.new.slots c.args.most, c.least-passed.ensures),
+        rw (steps.0, steps.1) (settled-within ss c.args.reader c.args.n c.args.most _ stands.0 stands.1 c.requires.within),
+      );
       live = λ q. rw (steps.0) (settled-live ss c.args.reader q c.args.n c.args.most _ stands.0);
       moved = λ bytes. rw (steps.0, steps.1) (settled-moved ss c.args.reader c.args.n c.args.most _ bytes stands.0);
       others = λ bytes q other. rw (steps.0, steps.1) (settled-others ss c.args.reader q c.args.n c.args.most _ bytes stands.0 other);

@@ -1,4 +1,5 @@
--- So far the first event and direct calls that its handlers asked for were handled, and this event is the next.
+-- So far the first event and direct calls that its handlers asked for were handled, and this event is the
+-- next.
 use Rattle.std.proofs.Common.{◌*◌, ◌+◌, ◌-◌, ◌<◌}
 use Rattle.ts_group.specs.declared.group.TheConstants.{MOST_EVENTS}
 use Rattle.ts_group.specs.declared.world.TheConstants.{MOST_SET}

@@ -1,7 +1,7 @@
 use Rattle.std.proofs.Common.{◌≤◌, ◌+◌, length, take, drop, refl, sym, subst, arith, length-take}
 use Rattle.ts_iobuf.specs.Buffer.{Buffer}
 use Rattle.ts_iobuf.specs.View.{seen, shown}
-use Rattle.ts_iobuf.proofs.Growing.{grows, held-more, within_held}
+use Rattle.ts_iobuf.proofs.Growing.{grows, stored-more, within_stored}
 use Rattle.ts_iobuf.proofs.buffer.IoBuffer.produce.Goals as goal
 
 -- The part of the room that is added stands right behind the bytes.
@@ -13,5 +13,5 @@ returns-clause-grows c =
     let few : c.args.n ≤ s.room = omega (arith, asked, length-take s.room (drop s.filled s.store.items)) in
     rw (← c.self.view_is)
     (grows (seen s) (shown s.start (s.filled + c.args.n) 0 s.slots.items s.mark s.store.items) (take c.args.n (seen s).room)
-    (held-more s.start s.filled c.args.n s.room s.store.items c.self.invariant.start few c.self.invariant.room) refl refl
-    (within_held s.start s.filled s.store.items s.slots.items filled c.self.invariant.places))
+    (stored-more s.start s.filled c.args.n s.room s.store.items c.self.invariant.start few c.self.invariant.room) refl refl
+    (within_stored s.start s.filled s.store.items s.slots.items filled c.self.invariant.places))

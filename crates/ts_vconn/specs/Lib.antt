@@ -1,0 +1,3 @@
+pub mod MoveAnswers
+pub mod Moves
+pub mod Vios
