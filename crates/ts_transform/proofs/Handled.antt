@@ -56,7 +56,7 @@ quiet before now roles role other event t h rests s = record {
     not_both : (e : HasEvent before t.key) → e.event ≡ h.handled → ⊥
     not_both e same = let wrong : true ≡ false = sym e.works ∙ ap (λ p. works_at p.event) same ∙ ap works_at h.event_is ∙ rests in cc
 
-stays_if : (before now : List Pending) (roles : List Named) (role other : ℕ) (event : Event) (t : Option StageContinuation)
+pub stays_if : (before now : List Pending) (roles : List Named) (role other : ℕ) (event : Event) (t : Option StageContinuation)
     → IsHandled before now roles other event → role ≢ other → IsOfStageIf before roles role t → IsOfStageIf now roles role t
 stays_if before now roles role other event None h differ s = tt
 stays_if before now roles role other event (Some t) h differ s = stays before now roles role other event t h differ s
@@ -75,7 +75,7 @@ stay_before before now roles role other event [] h above s = tt
 stay_before before now roles role other event (t ∷ ts) h above (here, others) =
     (stays_if before now roles role other event t h (λ e. omega (arith, e, above)) here, stay_before before now roles (role + 1) other event ts h (omega (arith, above)) others)
 
-unroused_if : (before now : List Pending) (roles : List Named) (role : ℕ) (t : Option StageContinuation) → IsOfStageIf before roles role t → IsOfStageIf now roles role (unroused t)
+pub unroused_if : (before now : List Pending) (roles : List Named) (role : ℕ) (t : Option StageContinuation) → IsOfStageIf before roles role t → IsOfStageIf now roles role (unroused t)
 unroused_if before now roles role None s = tt
 unroused_if before now roles role (Some t) s = record { named = s.named; event = λ roused. absurd (let wrong : false ≡ true = roused in cc) }
 
@@ -88,7 +88,7 @@ unrouse_at before now roles role zero other event (t ∷ ts) h is (here, others)
 unrouse_at before now roles role (suc at) other event (t ∷ ts) h is (here, others) =
     (stays_if before now roles role other event t h (λ e. omega (arith, e, is)) here, unrouse_at before now roles (role + 1) at other event ts h (omega (arith, is)) others)
 
-quiet_if : (before now : List Pending) (roles : List Named) (role other : ℕ) (event : Event) (t : Option StageContinuation)
+pub quiet_if : (before now : List Pending) (roles : List Named) (role other : ℕ) (event : Event) (t : Option StageContinuation)
     → IsHandled before now roles other event → works_at event ≡ false → IsOfStageIf before roles role t → IsOfStageIf now roles role t
 quiet_if before now roles role other event None h rests s = tt
 quiet_if before now roles role other event (Some t) h rests s = quiet before now roles role other event t h rests s
@@ -121,7 +121,7 @@ begun_works first c ts before now roles at role event h is s = record {
   cover = λ j differ must. roused-changed unroused ts at j differ (s.cover j must);
 }
 
-begun_quiet : {P : Type 0} (first : ℕ) (c : ChainState P) (ts : List (Option StageContinuation)) (before now : List Pending) (roles : List Named) (role : ℕ) (event : Event)
+pub begun_quiet : {P : Type 0} (first : ℕ) (c : ChainState P) (ts : List (Option StageContinuation)) (before now : List Pending) (roles : List Named) (role : ℕ) (event : Event)
     → IsHandled before now roles role event → works_at event ≡ false → IsDriven first c ts before roles → IsDriven first c ts now roles
 begun_quiet first c ts before now roles role event h rests s = record { len = s.len; of_stages = quiet_all before now roles first role event ts h rests s.of_stages; cover = s.cover }
 

@@ -102,6 +102,9 @@ acts_none n a turn = record { grows = grows_refl a; turn = turn; plain = λ plai
 pub acts_adds : {T : Type 0} (m n : ℕ) (r : Result T SetFault) (a b : Context) → m ≤ n → AddsEvents m r a b → ActsWithin n a b
 acts_adds m n r a b more h = record { grows = h.grows; turn = h.keeps.turn; plain = h.keeps.plain; few = few_more m n more h.few }
 
+pub acts_then : {a b c : Context} (m n k : ℕ) → m + n ≤ k → ActsWithin m a b → ActsWithin n b c → ActsWithin k a c
+acts_then m n k most h l = record { grows = grows_trans h.grows l.grows; turn = l.turn; plain = λ plain. l.plain (h.plain plain); few = few_more (m + n) k most (few_trans m n h.few l.few) }
+
 pub acts_lessens : (n : ℕ) (a b : Context) → Lessens a b → ActsWithin n a b
 acts_lessens n a b h = record { grows = h.grows; turn = h.turn; plain = h.plain; few = few_more 0 n (omega arith) h.few }
 

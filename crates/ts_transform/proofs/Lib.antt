@@ -14,3 +14,5 @@ pub mod Setting
 pub mod MaySet
 pub mod Acting
 pub mod Driving
+pub mod Carrying
+pub mod Joined

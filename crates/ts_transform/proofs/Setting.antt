@@ -127,7 +127,7 @@ pub named_kept : (first : ℕ) (a b : Context) (ts us : List (Option StageContin
 named_kept first a b ts us keeps same named = subst (λ roles. AreNamed roles first us) (sym keeps.roles) (named_same a.roles first ts us same named)
 
 -- continuations of stages have their roles
-of_stages_named : (pending : List Pending) (roles : List Named) (role : ℕ) (ts : List (Option StageContinuation)) → AreOfStages pending roles role ts → AreNamed roles role ts
+pub of_stages_named : (pending : List Pending) (roles : List Named) (role : ℕ) (ts : List (Option StageContinuation)) → AreOfStages pending roles role ts → AreNamed roles role ts
 of_stages_named pending roles role [] s = tt
 of_stages_named pending roles role (None ∷ ts) (here, others) = (tt, of_stages_named pending roles (role + 1) ts others)
 of_stages_named pending roles role (Some t ∷ ts) (here, others) = (here.named, of_stages_named pending roles (role + 1) ts others)

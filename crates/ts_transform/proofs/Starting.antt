@@ -14,7 +14,7 @@ pub same_events_trans : (a b c : State) → SameEvents a b → SameEvents b c �
 same_events_trans a b c h k = record { pending = k.pending ∙ h.pending; next = k.next ∙ h.next }
 
 -- a continuation was made, and those that were there keep their roles and their events
-made_if : (a b : Context) → SameEvents a.log.state b.log.state → KeepsKeys a.log.state b.log.state a.roles b.roles → (role : ℕ) (t : Option StageContinuation)
+pub made_if : (a b : Context) → SameEvents a.log.state b.log.state → KeepsKeys a.log.state b.log.state a.roles b.roles → (role : ℕ) (t : Option StageContinuation)
     → IsOfStageIf a.log.state.pending a.roles role t → IsOfStageIf b.log.state.pending b.roles role t
 made_if a b events keys role None h = tt
 made_if a b events keys role (Some t) h = record {

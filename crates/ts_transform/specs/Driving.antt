@@ -275,3 +275,7 @@ IsMarked key t u = (a b : Context) → Keeps a b → HasEventIf b.log.state.pend
 abbrev pub IsLastMarked : Option ContKey → List (Option StageContinuation) → List (Option StageContinuation) → Type 0
 IsLastMarked key ts us = (a b : Context) → Keeps a b → HasEventIf b.log.state.pending key → (first : ℕ)
     → AreOfStages a.log.state.pending a.roles first ts → AreOfStages b.log.state.pending b.roles first us
+
+-- Each continuation that was made before keeps its role and its event.
+abbrev pub KeepsMade : Context → Context → Type 0
+KeepsMade a b = (role : ℕ) (t : Option StageContinuation) → IsOfStageIf a.log.state.pending a.roles role t → IsOfStageIf b.log.state.pending b.roles role t

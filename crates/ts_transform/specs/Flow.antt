@@ -1,5 +1,5 @@
 -- A chain, and the flow through it: one expression for all that it still gives, whatever stands where on the way.
-use Rattle.std.specs.Prelude.{◌≡◌, ℕ, zero, suc, ◌+◌, ◌++◌, List, [], ◌∷◌, Bool, true, length, drop, take, map, Option, Some, None, ◌<◌, ◌⊎◌}
+use Rattle.std.specs.Prelude.{◌≡◌, ◌≢◌, ℕ, zero, suc, ◌+◌, ◌++◌, List, [], ◌∷◌, Bool, true, false, ⊤, length, drop, take, map, Option, Some, None, ◌<◌, ◌⊎◌}
 use Rattle.ts_transform.specs.declared.pump.Stage.{Stage}
 use Rattle.ts_transform.specs.declared.pump.Pumped.{Pumped}
 use Rattle.ts_transform.specs.Stage.{passed, has_ended, has_work, Answers, Steps, to_end}
@@ -110,6 +110,19 @@ MustPump up from (s ∷ ss) (suc at) = MustPump (has_ended s) s.after ss at
 -- the stage of a chain at a place must work
 abbrev pub MustWork : {P : Type 0} → ChainState P → ℕ → Type 0
 MustWork c at = MustPump c.given c.first c.stages at
+
+-- more may be given to a chain, and there is room before its first stage
+abbrev pub MustRead : {P : Type 0} → ChainState P → Type 0
+MustRead c = (c.given ≡ false) × (length c.first < MOST_WAITING)
+
+-- bytes wait for its client
+abbrev pub MustWrite : {P : Type 0} → ChainState P → Type 0
+MustWrite c = client_wait c ≢ []
+
+-- a stage has ended only where nothing more comes to it
+abbrev pub EndsInOrder : {P : Type 0} → Bool → List (Stage P) → Type 0
+EndsInOrder up [] = ⊤
+EndsInOrder up (s ∷ ss) = (has_ended s ≡ true → up ≡ true) × EndsInOrder (has_ended s) ss
 
 -- no stage of a chain has work but the first
 abbrev pub OnlyFirstWorks : {P : Type 0} → ChainState P → Type 0

@@ -1,4 +1,5 @@
 pub mod Acting
+pub mod Carrying
 pub mod Cover
 pub mod Driven
 pub mod Driving

@@ -2,7 +2,8 @@
 ghost use Rattle.std.specs.Prelude.{◌≡◌, ◌+◌, ◌<◌, ◌≤◌, ◌++◌, ◌↔◌, List, ℕ, [], length, take, drop, map, true, false, IsTrue, IfOk, OnOk, OnErr, MatchOption};
 ghost use Rattle.std.specs.Bool.{OnTrue};
 ghost use Rattle.ts_transform.specs.Stage.{IfRests, done_by};
-ghost use Rattle.ts_transform.specs.Flow.{AnswersAt, IsFinished, IsGiven, MOST_WAITING, MustWork, StepsAt, TakesAway, aborted, client_wait, compose, ended_at, flow, fresh_stage, last_ended, left_to_do, pause_at, wait_at};
+ghost use Rattle.ts_transform.specs.Flow.{AnswersAt, IsFinished, IsGiven, MOST_WAITING, MustRead, MustWork, MustWrite, StepsAt, TakesAway, aborted, client_wait, compose, ended_at, flow, fresh_stage, last_ended, left_to_do, pause_at, wait_at};
+ghost use Rattle.ts_vconn.specs.Moves.{PullsOn};
 
 use crate::pump::{MOST_WAITING, Pumped, Stage, pump_at};
 use crate::stages::{
@@ -13,7 +14,8 @@ use crate::transform::Transform;
 use std::alloc::Global;
 use std::marker::Model;
 use ts_iobuf::Waiting;
-use ts_link::{NoMemory, Octets};
+use ts_link::{Link, NoMemory, Octets};
+use ts_vconn::{MOST_PULLED, Pulled, pull_waiting};
 
 /// A chain of transforms, with the bytes that wait before, between and after them. Boundary 0 lies before the first
 /// stage, and boundary `stages()` at the client.
@@ -151,6 +153,32 @@ impl<P: Transform + Drop> Chain<P> {
         self.first.take(self.first.len());
         close_all(&mut self.stages);
         self.given = true;
+    }
+
+    /// Whether more may be given to it, and there is room before its first stage.
+    pub fn must_read(&self) -> bool
+        ensures { IsTrue result ↔ MustRead self.now }
+    {
+        !self.given && self.first.len() < MOST_WAITING
+    }
+
+    /// Whether bytes wait for the client.
+    pub fn has_output(&self) -> bool
+        ensures { IsTrue result ↔ MustWrite self.now }
+    {
+        last_waiting(&self.first, self.stages.as_slice()) > 0
+    }
+
+    /// Reads once from a link, behind the bytes that wait before the first stage.
+    pub fn pull<L: Link>(&mut self, link: &mut L) -> Result<Pulled, NoMemory>
+        requires { self.old.given ≡ false }
+        ensures pulled { IfOk result (λ p. PullsOn L.tells (L.look link.old) (L.look link.new)
+            self.old.first self.new.first p MOST_PULLED) }
+        ensures kept { (self.new.stages ≡ self.old.stages) × (self.new.given ≡ self.old.given) }
+        ensures goes { L.goes link.old link.new }
+        ensures err { OnErr result ((self.new ≡ self.old) × (link.new ≡ link.old)) }
+    {
+        pull_waiting(link, &mut self.first, MOST_PULLED)
     }
 
     /// Whether a stage has work, and room after it.

@@ -1,11 +1,13 @@
 //! Transforms of a body, and chains of them (the Developer's Guide, "HTTP Transformation Plugin").
 #![tactic(auto)]
 
+mod link_ends;
 mod chain;
 mod continuation;
 mod driven;
 mod ends;
 mod handler;
+mod link_world;
 mod loss;
 mod pump;
 mod rousing;
@@ -21,6 +23,7 @@ mod world_tests;
 
 pub use chain::Chain;
 pub use driven::DrivenChain;
+pub use link_world::LinkWorld;
 pub use loss::Loss;
 pub use pump::Pumped;
 pub use transform::Transform;

@@ -4,10 +4,11 @@ ghost use Rattle.ts_group.specs.Context.{role_at};
 ghost use Rattle.ts_group.specs.Entries.{Grows};
 ghost use Rattle.ts_group.specs.Changes.{SameEvents, KeepsKeys};
 ghost use Rattle.ts_transform.specs.Flow.{OnlyFirstWorks};
-ghost use Rattle.ts_transform.specs.Driving.{ActsWithin, AreOfStages, SetsOnly};
+ghost use Rattle.ts_transform.specs.Driving.{ActsWithin, AreOfStages, KeepsMade, SetsOnly};
 ghost use Rattle.ts_transform.specs.Cover.{IsDriven, IsRousing};
 ghost use Rattle.ts_transform.specs.Loss.{IsCauseOf, making_loss};
 
+use crate::link_ends::make_end;
 use crate::chain::Chain;
 use crate::continuation::{Rouser, StageContinuation};
 use crate::handler::rouse_if_ready;
@@ -38,12 +39,7 @@ fn make_one(first: u32, at: usize, cx: &mut Cx) -> Result<StageContinuation, Mak
     let Some(role) = role_of(first, at) else {
         return Err(MakeFault::NoMemory);
     };
-    let key = cx.make(role)?;
-    Ok(StageContinuation {
-        key,
-        roused: false,
-        passed_error: false,
-    })
+    make_end(role, cx)
 }
 
 // Makes a continuation for each of so many stages, without an event.
@@ -62,6 +58,7 @@ fn make_all(
     ensures len { OnOk result (length table.new.items ≡ stages) }
     ensures of_stages { OnOk result (AreOfStages cx.new.log.state.pending cx.new.roles first table.new.items) }
     ensures cause { IfErr result (λ fault. IsCauseOf (making_loss fault) cx.new) }
+    ensures made { KeepsMade cx.old cx.new }
 {
     for at in 0..stages {
         let continuation = make_one(first, at, cx)?;
@@ -88,6 +85,7 @@ pub fn begin<P: Transform + Drop>(
     ensures driven { OnOk result (OnlyFirstWorks chain.now
         → IsDriven first chain.now table.new.items cx.new.log.state.pending cx.new.roles) }
     ensures cause { IfErr result (λ loss. IsCauseOf loss cx.new) }
+    ensures made { KeepsMade cx.old cx.new }
 {
     if let Err(fault) = make_all(first, table, chain.stages(), cx) {
         return Err(Loss::of_make(&fault));
