@@ -81,7 +81,8 @@ impl Setup {
         // But for the texts of the files the lines are the same.
         ensures lines { map untexted self.new.transforms.items ≡ map untexted self.old.transforms.items }
         ensures printable { ComeFromText self.old.transforms.items → ComeFromText self.new.transforms.items }
-        ensures names { All HasFileName self.old.transforms.items → All HasFileName self.new.transforms.items }
+        ensures names { All HasFileName self.old.transforms.items
+            → All HasFileName self.new.transforms.items }
         ensures plugins { self.new.plugins ≡ self.old.plugins }
     {
         match &mut self.transforms[line] {

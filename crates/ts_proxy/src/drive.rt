@@ -116,7 +116,8 @@ fn run_events<P: Transform + Drop, K: Sink>(group: &mut Group<ChainWorld<P>>, ou
     requires between { IsBetweenTurns group.old }
     requires fresh { moment_of group.old.cx.log ≡ first_moment }
     ensures told { K.tells ≡ true →
-        Passes (K.seen out.old) (K.seen out.new) (to_come P.rest group.old.world) (to_come P.rest group.new.world) }
+        Passes (K.seen out.old) (K.seen out.new)
+        (to_come P.rest group.old.world) (to_come P.rest group.new.world) }
     ensures faults { Counted (is_failed result) (K.seen out.old).faults (K.seen out.new).faults }
     ensures done { OnDone result (to_come P.rest group.new.world ≡ []) }
     ensures ends { OnDone result (EndsSerially group.old.cx.log group.new.cx.log) }

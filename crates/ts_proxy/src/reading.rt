@@ -75,7 +75,8 @@ fn fill_lines<S: Shelf>(
     requires { All HasFileName lines.items }
     ensures told { S.tells ≡ true → (config body : List ℕ) (next : List TransformLine → Outcome) →
         Leads config body result (filled (S.seen shelf.old).file lines.items next) (λ ls. next ls.items) }
-    ensures named { S.tells ≡ true → IfErr result (λ a. OnCannotRead a (ComesTo (S.seen shelf.old).file lines.items)) }
+    ensures named { S.tells ≡ true →
+        IfErr result (λ a. OnCannotRead a (ComesTo (S.seen shelf.old).file lines.items)) }
     ensures files { S.tells ≡ true → (S.seen shelf.new).file ≡ (S.seen shelf.old).file }
     ensures same { OnOk result (IsUnfailed (S.seen shelf.old) (S.seen shelf.new)) }
     ensures cause { IfErr result (λ a. IsOfReading a (S.seen shelf.old) (S.seen shelf.new)) }
@@ -101,7 +102,8 @@ pub fn read_setup<S: Shelf>(
 ) -> Result<Vec<TransformLine>, Answer>
     ensures told { S.tells ≡ true → (body : List ℕ) (next : List TransformLine → Outcome) →
         Leads config.now body result (set_up (S.seen shelf.old).file config.now next) (λ ls. next ls.items) }
-    ensures named { S.tells ≡ true → IfErr result (λ a. OnCannotRead a (IsReadBy (S.seen shelf.old) config.now)) }
+    ensures named { S.tells ≡ true →
+        IfErr result (λ a. OnCannotRead a (IsReadBy (S.seen shelf.old) config.now)) }
     ensures files { S.tells ≡ true → (S.seen shelf.new).file ≡ (S.seen shelf.old).file }
     ensures same { OnOk result (IsUnfailed (S.seen shelf.old) (S.seen shelf.new)) }
     ensures cause { IfErr result (λ a. IsOfReading a (S.seen shelf.old) (S.seen shelf.new)) }

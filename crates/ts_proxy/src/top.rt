@@ -66,9 +66,10 @@ pub fn run<S: Shelf, K: Sink, E: Sink>(
     // The status of usage comes exactly where the words are of no command.
     ensures status { IsStatusOf (bytes_of words.now) result.status }
 
-    // At each outcome its own status comes, and at no other one, unless a read failed, memory lacked or, where there is a
-    // text, a write failed.
-    ensures ends { S.tells ≡ true → EndsAt (outcome_of (S.seen shelf.old) (bytes_of words.now)) result.status }
+    // Each outcome has its own status, which comes there alone and always, unless a read failed, memory lacked or, where
+    // there is a text, a write failed.
+    ensures ends { S.tells ≡ true →
+        EndsAt (outcome_of (S.seen shelf.old) (bytes_of words.now)) result.status }
 
     // A failure is one of the shelf or the sink that was handed in.
     ensures cause { HasCause result.status (S.seen shelf.old) (S.seen shelf.new) (K.seen out.old) (K.seen out.new) }
@@ -79,7 +80,8 @@ pub fn run<S: Shelf, K: Sink, E: Sink>(
 
     // What out took: with status 0 the whole text, else a front of it, and nothing where there is no such text.
     ensures takes { S.tells ≡ true → K.tells ≡ true →
-        TakesAt (outcome_of (S.seen shelf.old) (bytes_of words.now)) result.status (K.seen out.old) (K.seen out.new) }
+        TakesAt (outcome_of (S.seen shelf.old) (bytes_of words.now)) result.status
+        (K.seen out.old) (K.seen out.new) }
     ensures quiet { K.tells ≡ true → IsQuiet result.status → TookNothing (K.seen out.old) (K.seen out.new) }
 
     // With status 0 one journal, of a group that was new: turns of seat 0 whose numbers go on by 1, each of which but the

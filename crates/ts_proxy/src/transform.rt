@@ -23,7 +23,8 @@ const MOST_BODY: u64 = 67_108_864;
 
 // The transforms of these lines, none of which was fed yet.
 fn fresh_parts(alloc: Global, lines: &[TransformLine]) -> Result<Vec<Stock>, NoMemory>
-    ensures { IfOk result (λ parts. (z : List ℕ) → compose still_writes parts.items z ≡ compose_lines lines.now z) }
+    ensures { IfOk result (λ parts.
+        (z : List ℕ) → compose still_writes parts.items z ≡ compose_lines lines.now z) }
 {
     let mut parts = Vec::new(alloc);
     for line in lines {
@@ -82,7 +83,8 @@ pub fn transform<S: Shelf, K: Sink>(
         ComesAt config.now body.now result (transformed (S.seen shelf.old).file config.now body.now) }
     ensures named { S.tells ≡ true → OnCannotRead result (IsReadBy (S.seen shelf.old) config.now) }
     ensures took { S.tells ≡ true → K.tells ≡ true →
-        TookAt result (K.seen out.old) (K.seen out.new) (transformed (S.seen shelf.old).file config.now body.now) }
+        TookAt result (K.seen out.old) (K.seen out.new)
+        (transformed (S.seen shelf.old).file config.now body.now) }
     ensures quiet { K.tells ≡ true → OnQuiet result (TookNothing (K.seen out.old) (K.seen out.new)) }
     ensures journals { AnswerAdds result journals.old.items journals.new.items }
     ensures cause { IsCausedBy result (S.seen shelf.old) (S.seen shelf.new) (K.seen out.old) (K.seen out.new) }

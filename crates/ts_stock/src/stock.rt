@@ -98,7 +98,8 @@ impl Transform for Stock {
         ensures err { OnErr result ((self.new ≡ self.old) × (out.new ≡ out.old)) }
 
         // What a line other than bnull is fed it writes at once, and bnull writes nothing.
-        ensures writes { IfOk result (λ n. Grows out.old out.new (written_at_feed self.old (take n input.now))) }
+        ensures writes { IfOk result (λ n.
+            Grows out.old out.new (written_at_feed self.old (take n input.now))) }
         ensures state { IfOk result (λ n. self.new ≡ fed self.old (take n input.now)) }
         ensures taken { IfOk result (λ n. CountTaken self.old n (length input.now)) }
     {
