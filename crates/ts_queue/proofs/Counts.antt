@@ -1,9 +1,9 @@
 -- Counts of tickets and numbers, and what the rule of the queue says of a pass's next ticket.
-use Rattle.std.proofs.Common.{◌≡◌, ℕ, suc, ◌+◌, ◌<◌, ◌≤◌, Bool, cond, List, [], ◌∷◌, length, get_or, set, refl, ap, All, AllPairs, arith, subst, inl, inr, ⊎_elim, ◌==◌, ◌⊎◌}
+use Rattle.std.proofs.Common.{◌≡◌, ℕ, suc, ◌+◌, ◌<◌, ◌≤◌, Bool, cond, List, [], ◌∷◌, length, get_or, set, refl, All, AllPairs, arith, subst, inl, inr, ⊎_elim, ◌==◌, ◌⊎◌}
 use Rattle.std.specs.List.{sum_by, count_by}
 use Rattle.std.proofs.lemmas.Bool.{cases_lt, cases_eq}
 use Rattle.std.proofs.lemmas.List.Sums.{sum_by-cons, get_or-le-sum_by}
-use Rattle.std.proofs.lemmas.List.Elements.{All-nil, All-head, All-tail, All-set, All-contains}
+use Rattle.std.proofs.lemmas.List.Elements.{All-head, All-tail, All-set, All-contains}
 use Rattle.std.proofs.lemmas.Bool.Decides.{nat_tests}
 use mathlib.Core.Option.{some}
 use lib.ListN.{get_elem?}

@@ -1,8 +1,8 @@
 -- Each step on the queue keeps its rule.
-use Rattle.std.proofs.Common.{◌≡◌, ℕ, ◌+◌, ◌<◌, ◌≤◌, List, [], ◌∷◌, ◌++◌, length, get_or, set, refl, ap, sym, ◌∙◌, subst, ⊎_elim, All, AllPairs, arith, ◌==◌}
+use Rattle.std.proofs.Common.{◌≡◌, ℕ, ◌+◌, ◌<◌, ◌≤◌, List, [], ◌∷◌, ◌++◌, get_or, set, refl, ap, sym, ◌∙◌, subst, ⊎_elim, All, arith, ◌==◌}
 use Rattle.std.specs.List.{sum_by, count_by}
 use Rattle.std.proofs.lemmas.List.Sums.{sum_by-cons, sum_by-append, sum_by_push, get_or-le-sum_by}
-use Rattle.std.proofs.lemmas.List.Elements.{All-nil, All-cons, All-head, All-tail, All-set, All-push, All-append, All-contains, All-weaker}
+use Rattle.std.proofs.lemmas.List.Elements.{All-cons, All-head, All-tail, All-set, All-push, All-append, All-contains, All-weaker}
 use Rattle.std.proofs.lemmas.List.Quantifiers.{all_pairs_push}
 use mathlib.Core.Option.{some}
 use lib.ListN.{get_elem?}
@@ -13,8 +13,8 @@ use Rattle.ts_queue.specs.declared.ticket.Ticket.{Ticket}
 use Rattle.ts_queue.specs.declared.view.View.{View}
 use Rattle.ts_queue.specs.Tickets.{is_numbered, is_same, IsBefore, Exactly}
 use Rattle.ts_queue.specs.Views.{spent, owned, putting, taking, kept_part, split_part, joined}
-use Rattle.ts_queue.specs.Rule.{IsLawfulView, IsLawful, Moment}
-use Rattle.ts_queue.specs.Passes.{Takes, FindsEmpty, Looks}
+use Rattle.ts_queue.specs.Rule.{IsLawfulView, IsLawful}
+use Rattle.ts_queue.specs.Passes.{Takes, Looks}
 use Rattle.ts_queue.proofs.Sums.{sum_by-set_at, le-sum_by_at, two_le-sum_by, sum_by-zero_by, sum_by-le_by, contains_at}
 use Rattle.ts_queue.proofs.Counts.{one_if, numbered_cases, same-le-numbered, all_low, all_pairs_tail, all_pairs_head, owned-spent, owned-split, named-itself, spent_lawful, none_later}
 

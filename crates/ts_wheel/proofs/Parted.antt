@@ -1,9 +1,9 @@
 -- A wheel in three parts: what adding and taking make of them.
-use Rattle.std.proofs.Common.{◌≡◌, ℕ, ◌+◌, ◌<◌, ◌≤◌, List, [], ◌∷◌, ◌++◌, length, get_or, refl, ap, sym, ◌∙◌, subst, inl, inr, ⊎_elim, ◌⊎◌, All, Option, Some, None, Result, Ok, Err, OnOk, OnErr, append_assoc, arith}
-use Rattle.std.proofs.lemmas.List.Elements.{All-nil, All-head, All-tail, All-append, All-weaker}
+use Rattle.std.proofs.Common.{◌≡◌, ℕ, ◌+◌, ◌<◌, ◌≤◌, List, [], ◌∷◌, ◌++◌, length, get_or, ap, sym, ◌∙◌, subst, inl, inr, ⊎_elim, ◌⊎◌, All, Some, Result, Ok, Err, OnOk, OnErr, append_assoc, arith}
+use Rattle.std.proofs.lemmas.List.Elements.{All-nil, All-head, All-append, All-weaker}
 use Rattle.ts_wheel.specs.declared.TheConstants.{ROWS}
 use Rattle.ts_wheel.specs.declared.lap.TheConstants.{LAST_ROW}
-use Rattle.ts_wheel.specs.Due.{added, first_due, after_due, first_moment}
+use Rattle.ts_wheel.specs.Due.{added, after_due, first_moment}
 use Rattle.ts_wheel.specs.Rows.{Lap, all_at}
 use Rattle.ts_wheel.specs.Parts.{AreWithin, IsParted, all_of}
 use Rattle.ts_wheel.proofs.Added.{added-behind, added-before, All-added, All-after_due, All-all_at}

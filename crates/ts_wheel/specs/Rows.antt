@@ -1,5 +1,5 @@
 -- Tokens in rows, one row for each due moment.
-use Rattle.std.specs.Prelude.{◌≡◌, ℕ, ◌+◌, ◌<◌, ◌≤◌, List, [], ◌∷◌, ◌++◌, length, map, All, slice_index_or, Option, Some, None}
+use Rattle.std.specs.Prelude.{◌≡◌, ℕ, ◌+◌, ◌<◌, ◌≤◌, List, [], ◌∷◌, ◌++◌, length, map, All, slice_index_or}
 use Rattle.ts_wheel.specs.declared.TheConstants.{ROWS}
 use Rattle.ts_wheel.specs.declared.lap.TheConstants.{LAST_START}
 use Rattle.ts_wheel.specs.Due.{added}

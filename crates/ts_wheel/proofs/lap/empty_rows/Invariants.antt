@@ -1,4 +1,4 @@
-use Rattle.std.proofs.Common.{◌≡◌, ℕ, length}
+use Rattle.std.proofs.Common.{◌≡◌, length}
 use Rattle.ts_wheel.specs.Rows.{AreEmptyBelow}
 use Rattle.ts_wheel.proofs.lap.empty_rows.Given as goal
 

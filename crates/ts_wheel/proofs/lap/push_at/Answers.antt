@@ -1,5 +1,3 @@
-use Rattle.std.proofs.Common.{◌≡◌, ℕ, rules}
-use Rattle.ts_wheel.specs.Rows.{spread}
 use Rattle.ts_wheel.proofs.Spread.{spread-set_push, spread-set_same, on_err}
 use Rattle.ts_wheel.proofs.lap.push_at.Goals as goal
 

@@ -1,4 +1,4 @@
-use Rattle.std.proofs.Common.{◌≡◌, ℕ, ◌<◌, ◌∷◌, ◌++◌, ap, ◌∙◌, subst, All}
+use Rattle.std.proofs.Common.{ℕ, ◌<◌, ◌++◌, ap, ◌∙◌, subst, All}
 use Rattle.ts_wheel.specs.Rows.{all_at, joined}
 use Rattle.ts_wheel.proofs.Joined.{joined-rest, joined-later, some_row}
 use Rattle.ts_wheel.proofs.rows.pop_row.Goals as goal

@@ -1,4 +1,4 @@
-use Rattle.std.proofs.Common.{◌≡◌, ◌∷◌, ◌++◌, length, sym, ap, ◌∙◌, Some, arith, rules}
+use Rattle.std.proofs.Common.{◌∷◌, ◌++◌, sym, ap, ◌∙◌, arith}
 use Rattle.std.specs.Option.{option_copied_mut, option_to_list}
 use Rattle.ts_wheel.proofs.Joined.{joined-pop, joined-remove, AllFull-set_value, AllFull-removed, lookup-first, lookup-full, some_found, some_left, none_left}
 use Rattle.ts_wheel.proofs.rows.pop_token.Goals as goal

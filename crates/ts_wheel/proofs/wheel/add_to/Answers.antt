@@ -1,5 +1,4 @@
-use Rattle.std.proofs.Common.{◌≡◌, ◌+◌, ◌++◌, ap, ◌∙◌, arith}
-use Rattle.ts_wheel.specs.declared.TheConstants.{ROWS}
+use Rattle.std.proofs.Common.{◌++◌, ap, ◌∙◌, arith}
 use Rattle.ts_wheel.proofs.Parted.{either_way, on_ok, added-past, added-lap, added-after, parted_past, parted_lap, parted_after}
 use Rattle.ts_wheel.proofs.wheel.add_to.Goals as goal
 

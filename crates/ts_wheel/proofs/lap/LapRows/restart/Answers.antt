@@ -1,5 +1,4 @@
 use Rattle.std.proofs.Common.{ap, ◌∙◌}
-use Rattle.ts_wheel.specs.Rows.{Lap}
 use Rattle.ts_wheel.proofs.Spread.{spread-moved}
 use Rattle.ts_wheel.proofs.lap.LapRows.restart.Goals as goal
 
