@@ -72,7 +72,7 @@ fn give_front(
         (cut_ahead piece.old (drop next.old cuts.now) (drop at.old bytes.now)) }
     ensures ahead { cut_ahead piece.new (drop next.new cuts.now) (drop at.new bytes.now)
         ≡ next_ahead (length into.old)
-            (cut_ahead piece.old (drop next.old cuts.now) (drop at.old bytes.now)) }
+        (cut_ahead piece.old (drop next.old cuts.now) (drop at.old bytes.now)) }
     ensures bytes { got_bytes result into.new ≡ got_bytes result (drop at.old bytes.now) }
     ensures within { at.new ≤ length bytes.now }
 {

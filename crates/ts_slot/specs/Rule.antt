@@ -50,7 +50,7 @@ module _ {X G T : Type 0} (fits : G → X → Type 0) (stamp : X → ℕ) (trace
     pub deep : length s.homes ≡ length tags
     pub each_group : (k : ℕ) → k < length tags
         → GroupOk k (slice_index s.words k) (total (λ v. traced k v.held) s.views) (total (λ v. entries k v.turns) s.views)
-            (get_elem? s.homes k) (history k)
+        (get_elem? s.homes k) (history k)
     pub each_view : (id : ℕ) (v : View G T) → get_elem? s.views id ≡ some v → ViewOk tags s.words history v
     pub each_turn : (k n m : ℕ) → n ≤ m → 2 * m ≤ slice_index s.words k → follows (history k m) (history k n)
     pub shares : total (λ v. v.share) s.views ≡ whole_share

@@ -1,12 +1,12 @@
 //! Transforms of a body, and chains of them (the Developer's Guide, "HTTP Transformation Plugin").
 #![tactic(auto)]
 
-mod link_ends;
 mod chain;
 mod continuation;
 mod driven;
 mod ends;
 mod handler;
+mod link_ends;
 mod link_world;
 mod loss;
 mod pump;

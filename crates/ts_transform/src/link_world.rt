@@ -12,10 +12,10 @@ ghost use Rattle.ts_transform.specs.Driving.{ActsWithin, IsHandled, IsNamedIf, I
 ghost use Rattle.ts_transform.specs.Driven.{MayLose, SameCourse};
 ghost use Rattle.ts_transform.specs.Carrying.{AreEndsRoused, HandlesJoined, HasLinkBegun, IsCarried, IsSameBut, KeepsCourse, KeepsReader, KeepsWriter, Moves, Retries, StaysJoined, Steps};
 
-use crate::link_ends::{make_end, rouse_end, unrouse};
 use crate::chain::Chain;
 use crate::continuation::{StageContinuation, works};
 use crate::driven::DrivenChain;
+use crate::link_ends::{make_end, rouse_end, unrouse};
 use crate::loss::Loss;
 use crate::transform::Transform;
 use std::alloc::Global;
@@ -29,7 +29,9 @@ pub const RETRY: u64 = 10;
 
 // The roles of the writer, of the reader, and of the first stage.
 const WRITER: u32 = 1;
+
 const READER: u32 = 2;
+
 const FIRST: u32 = 3;
 
 /// A chain that reads its body from one link and writes to another. The writer is the continuation of role 1, the reader
