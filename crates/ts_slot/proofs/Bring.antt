@@ -65,12 +65,12 @@ module _ {X : Type 0} where
       let alone : traced h.0 hs ≡ 0 = let o = once h.0 in let s = same_one h.0 h.0 refl in omega arith in
       let b : Brings k (λ j. traced j (h ∷ hs)) (homes_after homes' (emptied hs) (bring k hs)) (carried_after (emptied hs) (bring k hs)) (back h.0 k) ((h.0, None) ∷ emptied (without k hs)) =
       goes_back (homes_after homes' (emptied hs) (bring k hs)) (carried_after (emptied hs) (bring k hs)) (emptied (without k hs)) h.0 k (λ j. traced j (h ∷ hs)) r.carried ne
-          (r.others h.0 alone ∙ set_here homes h.0 (some None) low.0)
-          (let l = r.long in let u : k < length homes = each_in (λ (e : ℕ × ℕ × T). e.0 < length homes) hs (k, t, c) there low.1 in omega arith)
-          (λ j away. (
-            (λ e. let s = same_one h.0 j (sym e) in absurd (omega arith)),
-            (λ e. let g = in_traced k t c hs there in let a : traced k hs ≡ 0 = subst (λ n. traced n hs ≡ 0) e (omega arith) in absurd (omega arith)),
-          )) in
+      (r.others h.0 alone ∙ set_here homes h.0 (some None) low.0)
+      (let l = r.long in let u : k < length homes = each_in (λ (e : ℕ × ℕ × T). e.0 < length homes) hs (k, t, c) there low.1 in omega arith)
+      (λ j away. (
+        (λ e. let s = same_one h.0 j (sym e) in absurd (omega arith)),
+        (λ e. let g = in_traced k t c hs there in let a : traced k hs ≡ 0 = subst (λ n. traced n hs ≡ 0) e (omega arith) in absurd (omega arith)),
+      )) in
       record {
         valid = (tt, (r.valid, b.valid));
         carried = b.carried;
@@ -114,6 +114,7 @@ module _ {X G T : Type 0} (fits : G → X → Type 0) (stamp : X → ℕ) (trace
     where
       all : traced j v.held ≤ total (λ u. traced j u.held) s.views
       all = total_at (λ (u : View G T). traced j u.held) s.views id v at
+
       go : Rattle.ts_slot.proofs.Kept.Group fits stamp trace follows tags j (slice_index s.words j) (total (λ u. traced j u.held) s.views) (total (λ u. entries j u.turns) s.views) (get_elem? s.homes j) (K.history j) → traced j v.held ≤ 1
       go (free n, (even, idle, turns, x, home, is)) = let a = all in omega arith
       go (taken n, (odd, one, turns)) = let a = all in omega arith
@@ -141,23 +142,22 @@ module _ {X G T : Type 0} (fits : G → X → Type 0) (stamp : X → ℕ) (trace
         blank = λ z. absurd (omega arith);
       } in
       let held : (j : ℕ) → traced j w.held ≡ traced j v.held = λ j. dite (ℕ_discrete k j)
-          (λ is. subst (λ i. same k i + traced i (without k v.held) ≡ traced i v.held) is (let g = in_traced k t c v.held there in let l = traced_without k v.held g in let o = same_one k k refl in omega arith))
-          (λ ne. let o = traced_others k j v.held (λ e. ne (sym e)) in let z = same_none k j ne in omega arith) in
+      (λ is. subst (λ i. same k i + traced i (without k v.held) ≡ traced i v.held) is (let g = in_traced k t c v.held there in let l = traced_without k v.held g in let o = same_one k k refl in omega arith))
+      (λ ne. let o = traced_others k j v.held (λ e. ne (sym e)) in let z = same_none k j ne in omega arith) in
       let homes = homes_after s.homes (emptied v.held) (bring k v.held) in
       let kept : R (record { words = s.words; homes = homes; views = set s.views id w }) =
       kept_views fits stamp trace follows tags s K homes (set s.views id w) b.long
-          (λ j idle. b.others j (let a = total_at (λ (u : View G T). traced j u.held) s.views id v at in omega arith))
-          (λ j. let a = total_set (λ (u : View G T). traced j u.held) s.views id v w at in let h = held j in omega arith)
-          (λ j. let a = total_set (λ (u : View G T). entries j u.turns) s.views id v w at in omega arith)
-          (let a = total_set (λ (u : View G T). u.share) s.views id v w at in omega arith)
-          (λ x. let a = total_set (owns x) s.views id v w at in let c' = K.apart x in omega arith)
-          (λ j u e. ⊎_elim
-            (λ (y : (j ≡ id) × (w ≡ u)). subst (ViewOk tags s.words K.history) y.1 w_ok)
-            (λ (y : (j ≢ id) × (get_elem? s.views j ≡ some u)). K.each_view j u y.1)
-            (at_set s.views id j w u e)) in
+      (λ j idle. b.others j (let a = total_at (λ (u : View G T). traced j u.held) s.views id v at in omega arith))
+      (λ j. let a = total_set (λ (u : View G T). traced j u.held) s.views id v w at in let h = held j in omega arith)
+      (λ j. let a = total_set (λ (u : View G T). entries j u.turns) s.views id v w at in omega arith)
+      (let a = total_set (λ (u : View G T). u.share) s.views id v w at in omega arith)
+      (λ x. let a = total_set (owns x) s.views id v w at in let c' = K.apart x in omega arith)
+      (λ j u e. ⊎_elim
+      (λ (y : (j ≡ id) × (w ≡ u)). subst (ViewOk tags s.words K.history) y.1 w_ok)
+      (λ (y : (j ≢ id) × (get_elem? s.views j ≡ some u)). K.each_view j u y.1)
+      (at_set s.views id j w u e)) in
       let kept' : R (record { words = set s.words k (slice_index s.words k); homes = homes; views = set s.views id w }) =
-      subst (λ ws. R (record { words = ws; homes = homes; views = set s.views id w })) words kept in
-      (
+      subst (λ ws. R (record { words = ws; homes = homes; views = set s.views id w })) words kept in (
         w,
         bring k v.held,
         subst (λ cs. Valid s.homes cs (bring k v.held)) (sym carried) b.valid,

@@ -77,8 +77,7 @@ module _ {X G T : Type 0} (fits : G → X → Type 0) (stamp : X → ℕ) (trace
         deep = length-map (map Some values) some ∙ length-map values Some ∙ long;
         each_group = λ k low.
             let z = at_zip fits tags values x k zip low in
-            let home : get_elem? (map some (map Some values)) k ≡ some (some (Some (get_or values k x))) = at_map some (map Some values) k (Some (get_or values k x)) (at_map Some values k (get_or values k x) z.2) in
-            (
+            let home : get_elem? (map some (map Some values)) k ≡ some (some (Some (get_or values k x))) = at_map some (map Some values) k (Some (get_or values k x)) (at_map Some values k (get_or values k x) z.2) in (
               free 0,
               (
                 word_zero n k,
@@ -104,6 +103,7 @@ module _ {X G T : Type 0} (fits : G → X → Type 0) (stamp : X → ℕ) (trace
             (λ d j low. ap trace (get_or-default (x ∷ xs) j d x low) ∙ ap (λ i. trace (get_or (x ∷ xs) i x)) (let e : j ≡ 0 + j = omega arith in e));
         blank = λ z. absurd (omega arith);
       }
+
       one : (id : ℕ) (v : View G T) → get_elem? (opener tags (firsts trace 0 (x ∷ xs)) ∷ []) id ≡ some v → ViewOk tags (replicate n 0) (λ k _. trace (get_or (x ∷ xs) k x)) v
       one zero v e = subst (ViewOk tags (replicate n 0) (λ k _. trace (get_or (x ∷ xs) k x))) (some-injective _ _ e) ok
       one (suc id) v e = absurd (some-ne-none v (sym e))
@@ -114,10 +114,10 @@ module _ {X G T : Type 0} (fits : G → X → Type 0) (stamp : X → ℕ) (trace
       → Rule fits stamp trace follows tags' (opening words places (opener tags' (firsts trace 0 values')))
   opens_with tags tags' values values' words places n tags_are values_are words_are places_are count some_value zip young itself =
       subst (λ ts. Rule fits stamp trace follows ts (opening words places (opener ts (firsts trace 0 values')))) (sym tags_are)
-          (subst (λ xs. Rule fits stamp trace follows tags (opening words places (opener tags (firsts trace 0 xs)))) (sym values_are)
-          (subst (λ ws. Rule fits stamp trace follows tags (opening ws places (opener tags (firsts trace 0 values)))) (sym words_are)
-          (subst (λ ps. Rule fits stamp trace follows tags (opening (replicate n 0) ps (opener tags (firsts trace 0 values)))) (sym places_are)
-          (opens tags values n count some_value zip young itself))))
+      (subst (λ xs. Rule fits stamp trace follows tags (opening words places (opener tags (firsts trace 0 xs)))) (sym values_are)
+      (subst (λ ws. Rule fits stamp trace follows tags (opening ws places (opener tags (firsts trace 0 values)))) (sym words_are)
+      (subst (λ ps. Rule fits stamp trace follows tags (opening (replicate n 0) ps (opener tags (firsts trace 0 values)))) (sym places_are)
+      (opens tags values n count some_value zip young itself))))
 
   -- A seat with the whole share knows how each group ended.
   pub record Ended (tags : List G) (v : View G T) (k : ℕ) (slots : List (Option X)) : Type 0 where
@@ -133,12 +133,16 @@ module _ {X G T : Type 0} (fits : G → X → Type 0) (stamp : X → ℕ) (trace
     where
       nobody_else : (j : ℕ) (u : View G T) → j ≢ id → get_elem? s.views j ≡ some u → u ≡ nobody
       nobody_else j u ne there = (K.each_view j u there).blank (let two = total_two (λ (y : View G T). y.share) s.views id j v u (λ e. ne (sym e)) at there in let all = K.shares in omega arith)
+
       held : total (λ u. traced k u.held) s.views ≡ 0
       held = total_only (λ (u : View G T). traced k u.held) s.views id v at (λ j u ne there. ap (λ (y : View G T). traced k y.held) (nobody_else j u ne there)) ∙ ap (λ (l : List (ℕ × ℕ × T)). traced k l) idle
+
       counted : total (λ u. entries k u.turns) s.views ≡ entries k v.turns
       counted = total_only (λ (u : View G T). entries k u.turns) s.views id v at (λ j u ne there. ap (λ (y : View G T). entries k y.turns) (nobody_else j u ne there))
+
       ok : ViewOk tags s.words K.history v
       ok = K.each_view id v at
+
       go : Group fits stamp trace follows tags k (slice_index s.words k) (total (λ u. traced k u.held) s.views) (total (λ u. entries k u.turns) s.views) (get_elem? s.homes k) (K.history k) → Ended tags v k slots
       go (free n, (even, none_holds, turns, x, home, is)) = record {
         value = x;

@@ -24,13 +24,13 @@ module _ {T : Type 0} where
   newer_assoc (Some a) (Some b) (Some c) =
       split (leb b.0 a.0) (λ t. newer (cond t (Some a) (Some b)) (Some c) ≡ newer (Some a) (cond (leb c.0 b.0) (Some b) (Some c)))
       (λ ba. split (leb c.0 b.0) (λ t. newer (Some a) (Some c) ≡ newer (Some a) (cond t (Some b) (Some c)))
-        (λ cb.
-          let p = leb-true b.0 a.0 ba in let q = leb-true c.0 b.0 cb in
-          at_most c.0 a.0 (Some a) (Some c) (omega arith) ∙ sym (at_most b.0 a.0 (Some a) (Some b) p))
-        (λ _. refl))
+      (λ cb.
+      let p = leb-true b.0 a.0 ba in let q = leb-true c.0 b.0 cb in
+      at_most c.0 a.0 (Some a) (Some c) (omega arith) ∙ sym (at_most b.0 a.0 (Some a) (Some b) p))
+      (λ _. refl))
       (λ ba. split (leb c.0 b.0) (λ t. cond t (Some b) (Some c) ≡ newer (Some a) (cond t (Some b) (Some c)))
-        (λ cb. let p = leb-false b.0 a.0 ba in sym (above b.0 a.0 (Some a) (Some b) p))
-        (λ cb. let p = leb-false b.0 a.0 ba in let q = leb-false c.0 b.0 cb in sym (above c.0 a.0 (Some a) (Some c) (omega arith))))
+      (λ cb. let p = leb-false b.0 a.0 ba in sym (above b.0 a.0 (Some a) (Some b) p))
+      (λ cb. let p = leb-false b.0 a.0 ba in let q = leb-false c.0 b.0 cb in sym (above c.0 a.0 (Some a) (Some c) (omega arith))))
 
   pub latest_append : (k : ℕ) (xs ys : List (ℕ × ℕ × T)) → latest k (xs ++ ys) ≡ newer (latest k xs) (latest k ys)
   latest_append k [] ys = refl
@@ -44,9 +44,9 @@ module _ {T : Type 0} where
   latest_below k t c (e ∷ es) below =
       by_eq e.0 k (λ b. newer (Some (t, c)) (newer (cond b (Some (e.1, e.2)) None) (latest k es)) ≡ Some (t, c))
       (λ is.
-        let less = below.0 is in
-        sym (newer_assoc (Some (t, c)) (Some (e.1, e.2)) (latest k es))
-        ∙ ap (λ r. newer r (latest k es)) (at_most e.1 t (Some (t, c)) (Some (e.1, e.2)) (omega arith)) ∙ latest_below k t c es below.1)
+      let less = below.0 is in
+      sym (newer_assoc (Some (t, c)) (Some (e.1, e.2)) (latest k es))
+      ∙ ap (λ r. newer r (latest k es)) (at_most e.1 t (Some (t, c)) (Some (e.1, e.2)) (omega arith)) ∙ latest_below k t c es below.1)
       (λ _. latest_below k t c es below.1)
 
   pub latest_here : (k t : ℕ) (c : T) (es : List (ℕ × ℕ × T)) → Each (λ e. e.0 ≡ k → e.1 < t) es → latest k ((k, t, c) ∷ es) ≡ Some (t, c)

@@ -32,19 +32,19 @@ module _ {X G T : Type 0} (fits : G → X → Type 0) (stamp : X → ℕ) (trace
       let left_ok : ViewOk tags s.words K.history (left_half v) = record { about = λ _. ok.about (omega arith); held = ok.held; missed = ok.missed; known = ok.known; blank = λ z. absurd (omega arith) } in
       let right_ok : ViewOk tags s.words K.history (right_half v) = record { about = λ _. ok.about (omega arith); held = tt; missed = tt; known = ok.known; blank = λ z. absurd (omega arith) } in
       kept_views fits stamp trace follows tags s K s.homes (views ++ right_half v ∷ []) refl (λ j _. refl)
-          (λ j. let a = total_set (λ (u : View G T). traced j u.held) s.views id v (left_half v) at in let b = total_append (λ (u : View G T). traced j u.held) views (right_half v ∷ []) in omega arith)
-          (λ j. let a = total_set (λ (u : View G T). entries j u.turns) s.views id v (left_half v) at in let b = total_append (λ (u : View G T). entries j u.turns) views (right_half v ∷ []) in omega arith)
-          (let a = total_set (λ (u : View G T). u.share) s.views id v (left_half v) at in let b = total_append (λ (u : View G T). u.share) views (right_half v ∷ []) in omega arith)
-          (λ x.
-          let a = total_set (owns x) s.views id v (left_half v) at in let b = total_append (owns x) views (right_half v ∷ []) in let c = K.apart x in
-          let d = within_split v.free_from v.free_to x less in let e = within_empty x in omega arith)
-          (λ j u e. ⊎_elim
-            (λ (old : get_elem? views j ≡ some u). ⊎_elim
-              (λ (y : (j ≡ id) × (left_half v ≡ u)). subst (ViewOk tags s.words K.history) y.1 left_ok)
-              (λ (y : (j ≢ id) × (get_elem? s.views j ≡ some u)). K.each_view j u y.1)
-              (at_set s.views id j (left_half v) u old))
-            (λ (new : right_half v ≡ u). subst (ViewOk tags s.words K.history) new right_ok)
-            (at_snoc views (right_half v) u j e))
+      (λ j. let a = total_set (λ (u : View G T). traced j u.held) s.views id v (left_half v) at in let b = total_append (λ (u : View G T). traced j u.held) views (right_half v ∷ []) in omega arith)
+      (λ j. let a = total_set (λ (u : View G T). entries j u.turns) s.views id v (left_half v) at in let b = total_append (λ (u : View G T). entries j u.turns) views (right_half v ∷ []) in omega arith)
+      (let a = total_set (λ (u : View G T). u.share) s.views id v (left_half v) at in let b = total_append (λ (u : View G T). u.share) views (right_half v ∷ []) in omega arith)
+      (λ x.
+      let a = total_set (owns x) s.views id v (left_half v) at in let b = total_append (owns x) views (right_half v ∷ []) in let c = K.apart x in
+      let d = within_split v.free_from v.free_to x less in let e = within_empty x in omega arith)
+      (λ j u e. ⊎_elim
+      (λ (old : get_elem? views j ≡ some u). ⊎_elim
+      (λ (y : (j ≡ id) × (left_half v ≡ u)). subst (ViewOk tags s.words K.history) y.1 left_ok)
+      (λ (y : (j ≢ id) × (get_elem? s.views j ≡ some u)). K.each_view j u y.1)
+      (at_set s.views id j (left_half v) u old))
+      (λ (new : right_half v ≡ u). subst (ViewOk tags s.words K.history) new right_ok)
+      (at_snoc views (right_half v) u j e))
 
   pub joins : (id : ℕ) (v : View G T) (other : ℕ) (w : View G T) → 0 < v.share → w.held ≡ [] → Joins R id v other w (joined v w) nobody
   joins id v other w alive idle s K at apart there =
@@ -56,19 +56,19 @@ module _ {X G T : Type 0} (fits : G → X → Type 0) (stamp : X → ℕ) (trace
       let both_ok : ViewOk tags s.words K.history both = record { about = λ _. ok.about alive; held = ok.held; missed = ok.missed; known = each_append _ w.known v.known ok'.known ok.known; blank = λ z. absurd (omega arith) } in
       let spent_ok : ViewOk tags s.words K.history nobody = record { about = λ z. absurd (omega arith); held = tt; missed = tt; known = tt; blank = λ _. refl } in
       kept_views fits stamp trace follows tags s K s.homes (set views other nobody) refl (λ j _. refl)
-          (λ j.
-          let a = total_set (λ (u : View G T). traced j u.held) s.views id v both at in let b = total_set (λ (u : View G T). traced j u.held) views other w nobody there in
-          let c : traced j w.held ≡ 0 = ap (λ (l : List (ℕ × ℕ × T)). traced j l) idle in omega arith)
-          (λ j.
-          let a = total_set (λ (u : View G T). entries j u.turns) s.views id v both at in let b = total_set (λ (u : View G T). entries j u.turns) views other w nobody there in
-          let c = total_append (λ (e : ℕ × ℕ). same e.0 j) w.turns v.turns in omega arith)
-          (let a = total_set (λ (u : View G T). u.share) s.views id v both at in let b = total_set (λ (u : View G T). u.share) views other w nobody there in omega arith)
-          (λ x.
-          let a = total_set (owns x) s.views id v both at in let b = total_set (owns x) views other w nobody there in let c = K.apart x in let e = within_empty x in omega arith)
-          (λ j u e. ⊎_elim
-            (λ (y : (j ≡ other) × (nobody ≡ u)). subst (ViewOk tags s.words K.history) y.1 spent_ok)
-            (λ (z : (j ≢ other) × (get_elem? views j ≡ some u)). ⊎_elim
-              (λ (y : (j ≡ id) × (both ≡ u)). subst (ViewOk tags s.words K.history) y.1 both_ok)
-              (λ (y : (j ≢ id) × (get_elem? s.views j ≡ some u)). K.each_view j u y.1)
-              (at_set s.views id j both u z.1))
-            (at_set views other j nobody u e))
+      (λ j.
+      let a = total_set (λ (u : View G T). traced j u.held) s.views id v both at in let b = total_set (λ (u : View G T). traced j u.held) views other w nobody there in
+      let c : traced j w.held ≡ 0 = ap (λ (l : List (ℕ × ℕ × T)). traced j l) idle in omega arith)
+      (λ j.
+      let a = total_set (λ (u : View G T). entries j u.turns) s.views id v both at in let b = total_set (λ (u : View G T). entries j u.turns) views other w nobody there in
+      let c = total_append (λ (e : ℕ × ℕ). same e.0 j) w.turns v.turns in omega arith)
+      (let a = total_set (λ (u : View G T). u.share) s.views id v both at in let b = total_set (λ (u : View G T). u.share) views other w nobody there in omega arith)
+      (λ x.
+      let a = total_set (owns x) s.views id v both at in let b = total_set (owns x) views other w nobody there in let c = K.apart x in let e = within_empty x in omega arith)
+      (λ j u e. ⊎_elim
+      (λ (y : (j ≡ other) × (nobody ≡ u)). subst (ViewOk tags s.words K.history) y.1 spent_ok)
+      (λ (z : (j ≢ other) × (get_elem? views j ≡ some u)). ⊎_elim
+      (λ (y : (j ≡ id) × (both ≡ u)). subst (ViewOk tags s.words K.history) y.1 both_ok)
+      (λ (y : (j ≢ id) × (get_elem? s.views j ≡ some u)). K.each_view j u y.1)
+      (at_set s.views id j both u z.1))
+      (at_set views other j nobody u e))

@@ -100,8 +100,7 @@ module _ {X G T : Type 0} (fits : G → X → Type 0) (stamp : X → ℕ) (trace
       } in
       let h = total_set (λ (u : View G T). traced k u.held) s.views id me.0 w at in
       let t = total_set (λ (u : View G T). entries k u.turns) s.views id me.0 w at in
-      let one = same_one k k refl in
-      (
+      let one = same_one k k refl in (
         kept_word fits stamp trace follows tags s K (set s.homes k none) K.history k (bit_or (slice_index s.words k) 1) id me.0 w low (omega arith) at
             (length-set s.homes k none) (λ j ne. set_else s.homes k j none ne) (λ j m _. refl) (λ j m _. refl)
             (λ j ne. let z : same k j ≡ 0 = cond-false (eqb k j) 1 0 (ne_eqb k j (λ e. ne (sym e))) in (omega arith, omega arith))
@@ -110,21 +109,24 @@ module _ {X G T : Type 0} (fits : G → X → Type 0) (stamp : X → ℕ) (trace
             (taken n, (omega arith, omega arith, omega arith))
             won_ok
             (λ l m up reached. K.each_turn k l m up (omega arith)),
-        ((λ _. (
-          x,
-          home.tag,
-          ap (λ gs. get_elem? gs k) (ok.about alive) ∙ home.tag_is,
-          home.fit,
-          (let o = home.old in omega arith),
-          refl,
-          after_known fits stamp trace follows tags s.words K.history me.0 k (slice_index s.words k / 2 + 1) (trace x)
-              (λ m reached. (
-                omega arith,
-                subst (λ y. follows y (K.history k m)) (sym is) (K.each_turn k m n (omega arith) (omega arith)),
-                λ next. is ∙ ap (K.history k) (let e : n ≡ m = omega arith in e),
-              )) ok,
-        )),
-        (λ odd. absurd (omega arith))),
+        (
+          (λ _. (
+            x,
+            home.tag,
+            ap (λ gs. get_elem? gs k) (ok.about alive) ∙ home.tag_is,
+            home.fit,
+            (let o = home.old in omega arith),
+            mine,
+            refl,
+            after_known fits stamp trace follows tags s.words K.history me.0 k (slice_index s.words k / 2 + 1) (trace x)
+                (λ m reached. (
+                  omega arith,
+                  subst (λ y. follows y (K.history k m)) (sym is) (K.each_turn k m n (omega arith) (omega arith)),
+                  λ next. is ∙ ap (K.history k) (let e : n ≡ m = omega arith in e),
+                )) ok,
+          )),
+          (λ odd. absurd (omega arith)),
+        ),
       )
 
   -- the step that finds the word odd
@@ -140,18 +142,19 @@ module _ {X G T : Type 0} (fits : G → X → Type 0) (stamp : X → ℕ) (trace
       sym (ap (set s.words k) (or_odd (slice_index s.words k) n odd) ∙ set-get_or s.words k 0) in
       let kept : R (record { words = s.words; homes = s.homes; views = set s.views id w }) =
       kept_views fits stamp trace follows tags s K s.homes (set s.views id w) refl (λ j _. refl)
-          (λ j. let a = total_set (λ (u : View G T). traced j u.held) s.views id me.0 w at in omega arith)
-          (λ j. let a = total_set (λ (u : View G T). entries j u.turns) s.views id me.0 w at in omega arith)
-          (let a = total_set (λ (u : View G T). u.share) s.views id me.0 w at in omega arith)
-          (λ x. let a = total_set (owns x) s.views id me.0 w at in let b = K.apart x in omega arith)
-          (λ j u e. ⊎_elim
-            (λ (y : (j ≡ id) × (w ≡ u)). subst (ViewOk tags s.words K.history) y.1 miss_ok)
-            (λ (y : (j ≢ id) × (get_elem? s.views j ≡ some u)). K.each_view j u y.1)
-            (at_set s.views id j w u e)) in
-      (
+      (λ j. let a = total_set (λ (u : View G T). traced j u.held) s.views id me.0 w at in omega arith)
+      (λ j. let a = total_set (λ (u : View G T). entries j u.turns) s.views id me.0 w at in omega arith)
+      (let a = total_set (λ (u : View G T). u.share) s.views id me.0 w at in omega arith)
+      (λ x. let a = total_set (owns x) s.views id me.0 w at in let b = K.apart x in omega arith)
+      (λ j u e. ⊎_elim
+      (λ (y : (j ≡ id) × (w ≡ u)). subst (ViewOk tags s.words K.history) y.1 miss_ok)
+      (λ (y : (j ≢ id) × (get_elem? s.views j ≡ some u)). K.each_view j u y.1)
+      (at_set s.views id j w u e)) in (
         subst (λ ws. R (record { words = ws; homes = s.homes; views = set s.views id w })) words kept,
-        ((λ even. absurd (omega arith)),
-        (λ _. (refl, each_map _ _ me.0.known (λ e h is. subst (λ j. 2 * e.1 ≤ slice_index s.words j) is h.0) ok.known))),
+        (
+          (λ even. absurd (omega arith)),
+          (λ _. (refl, each_map _ _ me.0.known (λ e h is. subst (λ j. 2 * e.1 ≤ slice_index s.words j) is h.0) ok.known)),
+        ),
       )
 
   pub enters : (slots id k : ℕ) (me : Mine X G T) → k < length tags → 0 < me.0.share
@@ -185,10 +188,13 @@ module _ {X G T : Type 0} (fits : G → X → Type 0) (stamp : X → ℕ) (trace
     where
       mine : 1 ≤ traced k v.held
       mine = let e = ap (λ (l : List (ℕ × ℕ × T)). traced k l) top in let o = same_one k k refl in omega arith
+
       all : traced k v.held ≤ total (λ u. traced k u.held) s.views
       all = total_at (λ (u : View G T). traced k u.held) s.views id v at
+
       first : (slice_index s.words k + 1 ≡ 2 * t) × (c ≡ K.history k (t - 1))
       first = (subst (λ l. Each (λ (e : ℕ × ℕ × T). (slice_index s.words e.0 + 1 ≡ 2 * e.1) × (e.2 ≡ K.history e.0 (e.1 - 1))) l) top (K.each_view id v at).held).0
+
       go : Grp k (slice_index s.words k) (total (λ u. traced k u.held) s.views) (total (λ u. entries k u.turns) s.views) (get_elem? s.homes k) (K.history k) → Turning s K.history k t c v
       go (free n, (even, idle, turns, x, home, is)) = absurd (let a = all in let b = mine in omega arith)
       go (taken n, (odd, one, turns)) = let a = all in let b = mine in let f = first.0 in record { word = f; held = one; turns = omega arith; mine = omega arith; found = first.1 }
@@ -213,13 +219,13 @@ module _ {X G T : Type 0} (fits : G → X → Type 0) (stamp : X → ℕ) (trace
       let one = now.mine in let all = now.held in let counted = now.turns in
       let less = traced_without k v.held (omega arith) in
       kept_word fits stamp trace follows tags s K (set s.homes k (some (Some x))) history k n id v w low le at
-          (length-set s.homes k (some (Some x))) (λ j ne. set_else s.homes k j (some (Some x)) ne) past apart_past
-          (λ j ne. (ap (λ (l : List (ℕ × ℕ × T)). traced j l) part.0 ∙ traced_others k j v.held ne, ap (λ l. entries j l) part.1))
-          (part.2, part.3)
-          (λ j u ne there. let two = total_two (λ (y : View G T). traced k y.held) s.views id j v u (λ is. ne (sym is)) at there in omega arith)
-          (group_same fits stamp trace follows tags k n n 0 _ t _ (some (some (Some x))) (get_elem? (set s.homes k (some (Some x))) k) (history k) (history k) refl (omega arith) (omega arith)
-            (λ _. set_here s.homes k (some (Some x)) (let d = K.deep in omega arith)) (λ m. refl) group)
-          ok turns
+      (length-set s.homes k (some (Some x))) (λ j ne. set_else s.homes k j (some (Some x)) ne) past apart_past
+      (λ j ne. (ap (λ (l : List (ℕ × ℕ × T)). traced j l) part.0 ∙ traced_others k j v.held ne, ap (λ l. entries j l) part.1))
+      (part.2, part.3)
+      (λ j u ne there. let two = total_two (λ (y : View G T). traced k y.held) s.views id j v u (λ is. ne (sym is)) at there in omega arith)
+      (group_same fits stamp trace follows tags k n n 0 _ t _ (some (some (Some x))) (get_elem? (set s.homes k (some (Some x))) k) (history k) (history k) refl (omega arith) (omega arith)
+      (λ _. set_here s.homes k (some (Some x)) (let d = K.deep in omega arith)) (λ m. refl) group)
+      ok turns
 
   -- what the seat knows still, without the group
   lets_go : (words : List ℕ) (k n : ℕ) (history history' : ℕ → ℕ → T) (v : View G T) → k < length words → slice_index words k ≤ n
@@ -227,7 +233,7 @@ module _ {X G T : Type 0} (fits : G → X → Type 0) (stamp : X → ℕ) (trace
       → ViewOk tags words history v → ViewOk tags (set words k n) history' (worn_out k v)
   lets_go words k n history history' v low le past one alive ok =
       view_stays fits stamp trace follows tags words k n history history' (worn_out k v) low le past (let l = traced_without k v.held (omega arith) in omega arith)
-          (record { about = ok.about; held = each_without _ k v.held ok.held; missed = ok.missed; known = ok.known; blank = λ z. absurd (omega arith) })
+      (record { about = ok.about; held = each_without _ k v.held ok.held; missed = ok.missed; known = ok.known; blank = λ z. absurd (omega arith) })
 
   module _ (itself : (a : T) → follows a a) (on : (a b c : T) → follows a b → follows b c → follows a c) where
     frees_at : (slots id k t : ℕ) (c : T) (x : X) (v : View G T) (cs : List (ℕ × Option X)) → k < length tags → 0 < v.share
@@ -242,12 +248,11 @@ module _ {X G T : Type 0} (fits : G → X → Type 0) (stamp : X → ℕ) (trace
         let ok : ViewOk tags s.words K.history v = K.each_view id v at in
         let wide : k < length s.words = let e = K.wide in omega arith in
         let past : (j m : ℕ) → 2 * m ≤ slice_index s.words j → history j m ≡ K.history j m =
-            λ j m reached. told_turn k t (trace x) K.history j m (λ is here. let r : 2 * m ≤ slice_index s.words k = subst (λ i. 2 * m ≤ slice_index s.words i) is reached in absurd (omega arith)) in
+        λ j m reached. told_turn k t (trace x) K.history j m (λ is here. let r : 2 * m ≤ slice_index s.words k = subst (λ i. 2 * m ≤ slice_index s.words i) is reached in absurd (omega arith)) in
         let gone = lets_go s.words k n K.history history v wide (omega arith) past now.mine alive ok in
         let here = told_here k t (trace x) K.history in
         let reached : slice_index (set s.words k n) k ≡ n = get_or-set_same s.words k n 0 wide in
-        let before : (m : ℕ) → m < t → history k m ≡ K.history k m = λ m less. past k m (omega arith) in
-        (
+        let before : (m : ℕ) → m < t → history k m ≡ K.history k m = λ m less. past k m (omega arith) in (
           freed k t (trace x) v,
           gives,
           tt,
@@ -256,21 +261,22 @@ module _ {X G T : Type 0} (fits : G → X → Type 0) (stamp : X → ℕ) (trace
               (free t, (even, refl, refl, x, record { tag = fit.0; tag_is = fit.1; home_is = refl; fit = fit.2; old = old }, sym here))
               (record { about = gone.about; held = gone.held; missed = gone.missed; known = ((omega arith, sym here), gone.known); blank = λ z. absurd (omega arith) })
               (λ l m up high. ⊎_elim
-                (λ (last : m ≡ t). ⊎_elim
-                  (λ (both : l ≡ t). subst (λ i. follows (history k i) (history k l)) (sym last) (subst (λ i. follows (history k t) (history k i)) (sym both) (itself (history k t))))
-                  (λ (less : l < t).
-                    let f : follows c (K.history k l) = subst (λ y. follows y (K.history k l)) (sym now.found) (K.each_turn k l (t - 1) (omega arith) (omega arith)) in
-                    let g : follows (trace x) (K.history k l) = on (trace x) c (K.history k l) later f in
-                    subst (λ i. follows (history k i) (history k l)) (sym last) (subst (λ y. follows y (history k l)) (sym here) (subst (λ y. follows (trace x) y) (sym (before l less)) g)))
-                  (is_or_less l t (omega arith)))
-                (λ (less : m < t).
-                  subst (λ y. follows y (history k l)) (sym (before m less)) (subst (λ y. follows (K.history k m) y) (sym (before l (omega arith))) (K.each_turn k l m up (omega arith))))
-                (is_or_less m t (omega arith))),
+              (λ (last : m ≡ t). ⊎_elim
+              (λ (both : l ≡ t). subst (λ i. follows (history k i) (history k l)) (sym last) (subst (λ i. follows (history k t) (history k i)) (sym both) (itself (history k t))))
+              (λ (less : l < t).
+              let f : follows c (K.history k l) = subst (λ y. follows y (K.history k l)) (sym now.found) (K.each_turn k l (t - 1) (omega arith) (omega arith)) in
+              let g : follows (trace x) (K.history k l) = on (trace x) c (K.history k l) later f in
+              subst (λ i. follows (history k i) (history k l)) (sym last) (subst (λ y. follows y (history k l)) (sym here) (subst (λ y. follows (trace x) y) (sym (before l less)) g)))
+              (is_or_less l t (omega arith)))
+              (λ (less : m < t).
+              subst (λ y. follows y (history k l)) (sym (before m less)) (subst (λ y. follows (K.history k m) y) (sym (before l (omega arith))) (K.each_turn k l m up (omega arith))))
+              (is_or_less m t (omega arith))),
           (λ t' c' x' top' carried.
-            let t_is : t ≡ t' = turn_is k t t' c c' (rest v.held) (rest v.held) (sym top ∙ top') in
-            let x_is : x ≡ x' = value_is k x x' cs cs carried in
-            ((λ i. (freed k (t_is i) (trace (x_is i)) v, cs)),
-            each_map _ _ v.known (λ f h is. let r : 2 * f.1 ≤ slice_index s.words k = subst (λ j. 2 * f.1 ≤ slice_index s.words j) is h.0 in omega arith) ok.known)),
+              let t_is : t ≡ t' = turn_is k t t' c c' (rest v.held) (rest v.held) (sym top ∙ top') in
+              let x_is : x ≡ x' = value_is k x x' cs cs carried in (
+                (λ i. (freed k (t_is i) (trace (x_is i)) v, cs)),
+                each_map _ _ v.known (λ f h is. let r : 2 * f.1 ≤ slice_index s.words k = subst (λ j. 2 * f.1 ≤ slice_index s.words j) is h.0 in omega arith) ok.known,
+              )),
         )
 
     pub frees : (slots id k t : ℕ) (c : T) (x : X) (v : View G T) (cs : List (ℕ × Option X)) (me : Mine X G T) → me ≡ (v, (k, Some x) ∷ cs) → k < length tags → 0 < v.share
@@ -278,7 +284,7 @@ module _ {X G T : Type 0} (fits : G → X → Type 0) (stamp : X → ℕ) (trace
         → Allows R slots id me k (λ n. (n + 1) % 18446744073709551616) (Returned trace (step slots k 1 0 none) me)
     frees slots id k t c x v cs me is low alive top fit old later young =
         subst (λ (m : Mine X G T). Allows R slots id m k (λ n. (n + 1) % 18446744073709551616) (Returned trace (step slots k 1 0 none) m)) (sym is)
-            (frees_at slots id k t c x v cs low alive top fit old later young)
+        (frees_at slots id k t c x v cs low alive top fit old later young)
 
   wears_at : (slots id k t : ℕ) (c : T) (x : X) (v : View G T) (cs : List (ℕ × Option X)) → k < length tags → 0 < v.share
       → v.held ≡ (k, t, c) ∷ rest v.held → FitsTag fits tags k x → stamp x ≤ t → follows (trace x) c → t ≡ last_turn
@@ -291,8 +297,7 @@ module _ {X G T : Type 0} (fits : G → X → Type 0) (stamp : X → ℕ) (trace
       let wide : k < length s.words = let e = K.wide in omega arith in
       let reached : slice_index (set s.words k n) k ≡ n = get_or-set_same s.words k n 0 wide in
       let gone = lets_go s.words k n K.history K.history v wide (omega arith) (λ j m _. refl) now.mine alive ok in
-      let found : c ≡ K.history k (last_turn - 1) = now.found ∙ ap (λ i. K.history k (i - 1)) last in
-      (
+      let found : c ≡ K.history k (last_turn - 1) = now.found ∙ ap (λ i. K.history k (i - 1)) last in (
         worn_out k v,
         gives,
         tt,
@@ -308,7 +313,7 @@ module _ {X G T : Type 0} (fits : G → X → Type 0) (stamp : X → ℕ) (trace
       → Allows R slots id me k (λ n. (n + 0) % 18446744073709551616) (WornOut (step slots k 0 0 none) me)
   wears slots id k t c x v cs me is low alive top fit old later last =
       subst (λ (m : Mine X G T). Allows R slots id m k (λ n. (n + 0) % 18446744073709551616) (WornOut (step slots k 0 0 none) m)) (sym is)
-          (wears_at slots id k t c x v cs low alive top fit old later last)
+      (wears_at slots id k t c x v cs low alive top fit old later last)
 
   -- what a seat knows is coherent
   is_coherent : (words : List ℕ) (history : ℕ → ℕ → T) (es : List (ℕ × ℕ × T))
@@ -317,15 +322,14 @@ module _ {X G T : Type 0} (fits : G → X → Type 0) (stamp : X → ℕ) (trace
   is_coherent words history es turns known =
       each_map _ _ es (λ a ka. each_map _ _ es (λ b kb is up. (
         (let a_is : a.2 ≡ history b.0 a.1 = ka.1 ∙ ap (λ j. history j a.1) is in
-        subst (λ y. follows y a.2) (sym kb.1) (subst (follows (history b.0 b.1)) (sym a_is) (turns b.0 a.1 b.1 up kb.0))),
+            subst (λ y. follows y a.2) (sym kb.1) (subst (follows (history b.0 b.1)) (sym a_is) (turns b.0 a.1 b.1 up kb.0))),
         λ one. ka.1 ∙ ap (λ j. history j a.1) is ∙ ap (history b.0) one ∙ sym kb.1,
       )) known) known
 
   pub looks : (slots id k : ℕ) (me : Mine X G T) → Allows R slots id me k (λ n. n) (Looked follows (step slots k 0 0 none) me)
   looks slots id k me s K deep at small =
       let words : s.words ≡ set s.words k (slice_index s.words k) = sym (set-get_or s.words k 0) in
-      let views : s.views ≡ set s.views id me.0 = sym (set_again s.views id me.0 at) in
-      (
+      let views : s.views ≡ set s.views id me.0 = sym (set_again s.views id me.0 at) in (
         me.0,
         keeps,
         tt,

@@ -15,7 +15,7 @@ pub unreachable-requires : goal.unreachable-requires
 unreachable-requires g c =
     let each = c.requires.each c.loop-k.k (omega arith) in
     not_empty (slots_items c.args.closed.slots) c.loop-k.k each.0 c.take.result each.1
-        (ap (λ l. get_elem? l c.loop-k.k) (sym c.loop-k.invariant.items) ∙ c.take.ensures.value) c.in_default.is
+    (ap (λ l. get_elem? l c.loop-k.k) (sym c.loop-k.invariant.items) ∙ c.take.ensures.value) c.in_default.is
 
 pub loop-k-preserved : goal.loop-k-preserved
 loop-k-preserved g c =

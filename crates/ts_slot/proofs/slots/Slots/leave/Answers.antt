@@ -21,8 +21,7 @@ load-requires g c = (
 
 pub exchange-gone-requires : goal.exchange-gone-requires
 exchange-gone-requires g c =
-    let first = c.load.ensures.2 c.args.turn.number (g.V.Slotted.trace c.args.turn.found.value) c.requires.held in
-    (
+    let first = c.load.ensures.2 c.args.turn.number (g.V.Slotted.trace c.args.turn.found.value) c.requires.held in (
       c.load.ensures.0 ∙ c.requires.seat.0,
       (None, below_is c.load.new.seat.me.1 _ (c.args.turn.group, None) (ap (λ m. m.1) first)),
     )
@@ -42,8 +41,7 @@ fetch_add-requires g c =
     let t = c.args.turn.number in
     let trace = g.V.Slotted.trace c.args.turn.found.value in
     let v = c.args.seat.now.place.me.0 in
-    let first = c.load.ensures.2 t trace c.requires.held in
-    (
+    let first = c.load.ensures.2 t trace c.requires.held in (
       c.exchange-gone.ensures.0 ∙ c.load.ensures.0 ∙ c.requires.seat.0,
       (let l = fits_low g.V.Slotted.fits c.args.self.now.table.shared.key.0.value.items k c.args.turn.value c.requires.value.fit in let n = c.args.self.now.named in let w = c.args.self.now.sized.0 in omega arith),
       wears g.V.Slotted.fits g.V.Slotted.stamp g.V.Slotted.trace g.V.Slotted.follows c.args.self.now.table.shared.key.0.value.items
@@ -61,8 +59,7 @@ fetch_add-requires-2 g c =
     let v = c.args.seat.now.place.me.0 in
     let first = c.load.ensures.2 t trace c.requires.held in
     let most = c.args.turn.bounded in
-    let not_last = c.if-number.false in
-    (
+    let not_last = c.if-number.false in (
       c.exchange-gone.ensures.0 ∙ c.load.ensures.0 ∙ c.requires.seat.0,
       (let l = fits_low g.V.Slotted.fits c.args.self.now.table.shared.key.0.value.items k c.args.turn.value c.requires.value.fit in let n = c.args.self.now.named in let w = c.args.self.now.sized.0 in omega arith),
       frees g.V.Slotted.fits g.V.Slotted.stamp g.V.Slotted.trace g.V.Slotted.follows c.args.self.now.table.shared.key.0.value.items
@@ -80,7 +77,7 @@ invariant_of-seat g c =
     let trace = g.V.Slotted.trace c.args.turn.found.value in
     let v = c.args.seat.now.place.me.0 in
     let end = worn_end k t trace v c.args.turn.value c.args.self.now.table.shared.table_id.slots c.load.new.seat.me c.exchange-gone.new.seat.me c.fetch_add.new.seat.me c.fetch_add.result
-        (c.load.ensures.2 t trace c.requires.held) c.exchange-gone.ensures.3 c.fetch_add.ensures.2 in
+    (c.load.ensures.2 t trace c.requires.held) c.exchange-gone.ensures.3 c.fetch_add.ensures.2 in
     record {
       named = (names_are c.fetch_add.new.seat.me (worn_out k v) (others k t trace v) end ∙ c.args.seat.now.named.0, free_from_is c.fetch_add.new.seat.me (worn_out k v) (others k t trace v) end ∙ c.args.seat.now.named.1);
       alive = let s = share_is c.fetch_add.new.seat.me (worn_out k v) (others k t trace v) end in let a = c.args.seat.now.alive in omega arith;
@@ -95,7 +92,7 @@ returns-then-number-clause-seat g c =
     let trace = g.V.Slotted.trace c.args.turn.found.value in
     let v = c.args.seat.now.place.me.0 in
     let end = worn_end k t trace v c.args.turn.value c.args.self.now.table.shared.table_id.slots c.load.new.seat.me c.exchange-gone.new.seat.me c.fetch_add.new.seat.me c.fetch_add.result
-        (c.load.ensures.2 t trace c.requires.held) c.exchange-gone.ensures.3 c.fetch_add.ensures.2 in
+    (c.load.ensures.2 t trace c.requires.held) c.exchange-gone.ensures.3 c.fetch_add.ensures.2 in
     (c.fetch_add.ensures.0 ∙ c.exchange-gone.ensures.0 ∙ c.load.ensures.0 ∙ c.requires.seat.0, tags_are c.fetch_add.new.seat.me (worn_out k v) (others k t trace v) end ∙ c.requires.seat.1)
 
 pub returns-then-number-clause-worn : goal.returns-then-number-clause-worn
@@ -105,7 +102,7 @@ returns-then-number-clause-worn g c _ =
     let trace = g.V.Slotted.trace c.args.turn.found.value in
     let v = c.args.seat.now.place.me.0 in
     let end = worn_end k t trace v c.args.turn.value c.args.self.now.table.shared.table_id.slots c.load.new.seat.me c.exchange-gone.new.seat.me c.fetch_add.new.seat.me c.fetch_add.result
-        (c.load.ensures.2 t trace c.requires.held) c.exchange-gone.ensures.3 c.fetch_add.ensures.2 in
+    (c.load.ensures.2 t trace c.requires.held) c.exchange-gone.ensures.3 c.fetch_add.ensures.2 in
     record { number = c.if-number.true; is = view_is c.fetch_add.new.seat.me (worn_out k v) (others k t trace v) end }
 
 pub returns-then-number-clause-others : goal.returns-then-number-clause-others
@@ -115,7 +112,7 @@ returns-then-number-clause-others g c =
     let trace = g.V.Slotted.trace c.args.turn.found.value in
     let v = c.args.seat.now.place.me.0 in
     let end = worn_end k t trace v c.args.turn.value c.args.self.now.table.shared.table_id.slots c.load.new.seat.me c.exchange-gone.new.seat.me c.fetch_add.new.seat.me c.fetch_add.result
-        (c.load.ensures.2 t trace c.requires.held) c.exchange-gone.ensures.3 c.fetch_add.ensures.2 in
+    (c.load.ensures.2 t trace c.requires.held) c.exchange-gone.ensures.3 c.fetch_add.ensures.2 in
     subst (GivesUp k v.held) (sym (held_is c.fetch_add.new.seat.me (worn_out k v) (others k t trace v) end)) (gives_up k t trace v.held c.requires.held)
 
 pub invariant_of-seat-2 : goal.invariant_of-seat-2
@@ -125,7 +122,7 @@ invariant_of-seat-2 g c =
     let trace = g.V.Slotted.trace c.args.turn.found.value in
     let v = c.args.seat.now.place.me.0 in
     let end = freed_end k t trace v g.V.Slotted.trace c.args.turn.value c.args.self.now.table.shared.table_id.slots c.load.new.seat.me c.exchange-gone.new.seat.me c.fetch_add-2.new.seat.me c.fetch_add-2.result
-        (c.load.ensures.2 t trace c.requires.held) c.exchange-gone.ensures.3 c.fetch_add-2.ensures.2 in
+    (c.load.ensures.2 t trace c.requires.held) c.exchange-gone.ensures.3 c.fetch_add-2.ensures.2 in
     record {
       named = (names_are c.fetch_add-2.new.seat.me (freed k t (g.V.Slotted.trace c.args.turn.value) v) (others k t trace v) end.0 ∙ c.args.seat.now.named.0, free_from_is c.fetch_add-2.new.seat.me (freed k t (g.V.Slotted.trace c.args.turn.value) v) (others k t trace v) end.0 ∙ c.args.seat.now.named.1);
       alive = let s = share_is c.fetch_add-2.new.seat.me (freed k t (g.V.Slotted.trace c.args.turn.value) v) (others k t trace v) end.0 in let a = c.args.seat.now.alive in omega arith;
@@ -140,7 +137,7 @@ returns-clause-seat g c =
     let trace = g.V.Slotted.trace c.args.turn.found.value in
     let v = c.args.seat.now.place.me.0 in
     let end = freed_end k t trace v g.V.Slotted.trace c.args.turn.value c.args.self.now.table.shared.table_id.slots c.load.new.seat.me c.exchange-gone.new.seat.me c.fetch_add-2.new.seat.me c.fetch_add-2.result
-        (c.load.ensures.2 t trace c.requires.held) c.exchange-gone.ensures.3 c.fetch_add-2.ensures.2 in
+    (c.load.ensures.2 t trace c.requires.held) c.exchange-gone.ensures.3 c.fetch_add-2.ensures.2 in
     (c.fetch_add-2.ensures.0 ∙ c.exchange-gone.ensures.0 ∙ c.load.ensures.0 ∙ c.requires.seat.0, tags_are c.fetch_add-2.new.seat.me (freed k t (g.V.Slotted.trace c.args.turn.value) v) (others k t trace v) end.0 ∙ c.requires.seat.1)
 
 pub returns-clause-freed : goal.returns-clause-freed
@@ -150,7 +147,7 @@ returns-clause-freed g c _ =
     let trace = g.V.Slotted.trace c.args.turn.found.value in
     let v = c.args.seat.now.place.me.0 in
     let end = freed_end k t trace v g.V.Slotted.trace c.args.turn.value c.args.self.now.table.shared.table_id.slots c.load.new.seat.me c.exchange-gone.new.seat.me c.fetch_add-2.new.seat.me c.fetch_add-2.result
-        (c.load.ensures.2 t trace c.requires.held) c.exchange-gone.ensures.3 c.fetch_add-2.ensures.2 in
+    (c.load.ensures.2 t trace c.requires.held) c.exchange-gone.ensures.3 c.fetch_add-2.ensures.2 in
     let most = c.args.turn.bounded in
     let not_last = c.if-number.false in
     record { number = omega arith; is = view_is c.fetch_add-2.new.seat.me (freed k t (g.V.Slotted.trace c.args.turn.value) v) (others k t trace v) end.0; knows = end.1 }
@@ -162,5 +159,5 @@ returns-clause-others g c =
     let trace = g.V.Slotted.trace c.args.turn.found.value in
     let v = c.args.seat.now.place.me.0 in
     let end = freed_end k t trace v g.V.Slotted.trace c.args.turn.value c.args.self.now.table.shared.table_id.slots c.load.new.seat.me c.exchange-gone.new.seat.me c.fetch_add-2.new.seat.me c.fetch_add-2.result
-        (c.load.ensures.2 t trace c.requires.held) c.exchange-gone.ensures.3 c.fetch_add-2.ensures.2 in
+    (c.load.ensures.2 t trace c.requires.held) c.exchange-gone.ensures.3 c.fetch_add-2.ensures.2 in
     subst (GivesUp k v.held) (sym (held_is c.fetch_add-2.new.seat.me (freed k t (g.V.Slotted.trace c.args.turn.value) v) (others k t trace v) end.0)) (gives_up k t trace v.held c.requires.held)

@@ -9,10 +9,10 @@ use Rattle.ts_slot.proofs.Ends.{opens_with}
 pub new-requires : goal.new-requires
 new-requires g c =
     opens_with g.V.Slotted.fits g.V.Slotted.stamp g.V.Slotted.trace g.V.Slotted.follows c.args.tags.items c.of.result.value.items c.args.values.items c.of-2.result.value.items
-        c.as_slice.result.now c.in_ok-places.places.items c.len-groups.result
-        (ap (λ v. v.items) c.of.ensures) (ap (λ v. v.items) c.of-2.ensures)
-        (c.as_slice.ensures.value ∙ c.in_ok-words.ensures.items_if_clones_equal (λ y e. e)) c.in_ok-places.ensures
-        (search rules) c.requires.count.0 c.requires.fits c.requires.stamps g.V.Slotted.follows_itself
+    c.as_slice.result.now c.in_ok-places.places.items c.len-groups.result
+    (ap (λ v. v.items) c.of.ensures) (ap (λ v. v.items) c.of-2.ensures)
+    (c.as_slice.ensures.value ∙ c.in_ok-words.ensures.items_if_clones_equal (λ y e. e)) c.in_ok-places.ensures
+    (search rules) c.requires.count.0 c.requires.fits c.requires.stamps g.V.Slotted.follows_itself
 
 pub invariant_of-slots : goal.invariant_of-slots
 invariant_of-slots g c =
