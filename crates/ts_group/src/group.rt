@@ -139,8 +139,7 @@ impl<W: World + Drop> Group<W> {
         ensures falls { IfOk result (λ handling.
             IfEvents handling (λ events. LeavesLess W.left self.old events self.new)) }
         ensures promises { KeepsPromises W.fits W.right W.may_ask self.old.world self.new.world }
-        ensures few {
-            SetsAtMost W.fits self.old.world (MOST_EVENTS * (MOST_SET + 1)) self.old.cx self.new.cx }
+        ensures few { SetsAtMost W.fits self.old.world (MOST_EVENTS * (MOST_SET + 1)) self.old.cx self.new.cx }
         ensures err { OnErr result (LacksRenewal self.old self.new number moment) }
     {
         let Some(event) = self.cx.event(number) else {
@@ -163,12 +162,10 @@ impl<W: World + Drop> Group<W> {
         requires sound { Holds W.sound self.old }
         requires ready { IsReady self.old.cx.log moment first }
         ensures gives { HandleGives W.called self.old self.new first.number moment result }
-        ensures keeps {
-            MatchHandling result (Holds W.sound self.new) (MayAwait W.asking W.may_ask self.new) }
+        ensures keeps { MatchHandling result (Holds W.sound self.new) (MayAwait W.asking W.may_ask self.new) }
         ensures falls { IfEvents result (λ events. LeavesLess W.left self.old events self.new) }
         ensures promises { KeepsPromises W.fits W.right W.may_ask self.old.world self.new.world }
-        ensures few {
-            SetsAtMost W.fits self.old.world (MOST_EVENTS * (MOST_SET + 1)) self.old.cx self.new.cx }
+        ensures few { SetsAtMost W.fits self.old.world (MOST_EVENTS * (MOST_SET + 1)) self.old.cx self.new.cx }
     {
         self.cx.begin_calls(moment);
         let mut event = first;

@@ -91,8 +91,7 @@ fn drop_events(journal: &mut Journal, key: ContKey)
     requires turn { journal.old.state.held ≡ true }
     requires room { length journal.old.state.pending ≤ journal.old.room }
     ensures drops { Drops journal.old journal.new key }
-    ensures room {
-        journal.old.room + length journal.new.state.pending
+    ensures room { journal.old.room + length journal.new.state.pending
         ≤ journal.new.room + length journal.old.state.pending }
 {
     journal.known();

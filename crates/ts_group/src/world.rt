@@ -109,7 +109,7 @@ pub trait World: Slotted {
         ensures keeps { MatchWant result
             (sound self.new cx.new.log.state cx.new.roles)
             (λ group question.
-                asking self.new cx.new.log.state cx.new.roles role group question × may_ask self.new group) }
+            asking self.new cx.new.log.state cx.new.roles role group question × may_ask self.new group) }
         ensures falls { (c : IsCalled (sound self.old) cx.old role event) →
             Falls (left self.old c.before) 1 (left self.new cx.new.log.state) }
         ensures called { (asked : List ℕ) →

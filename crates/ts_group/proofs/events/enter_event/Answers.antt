@@ -24,7 +24,7 @@ returns-then-renewed-lt-GREATEST-clause-enters c =
     let r : Pending = record { number = c.next-renewed.result; key = c.args.event.key; event = Timeout; due = c.saturating_add.result; series = c.args.event.series; period = c.args.event.period } in
     let again : 0 < c.args.event.period = c.if-event-gt0.true in
     let w : IsValid m = subst (λ (x : State). IsValid x) (sym e)
-        (valid_after s (Handled c.args.event.number c.args.moment) c.known.ensures.valid (c.requires.turn, c.args.event, c.requires.ready.there, c.requires.ready.due)) in
+    (valid_after s (Handled c.args.event.number c.args.moment) c.known.ensures.valid (c.requires.turn, c.args.event, c.requires.ready.there, c.requires.ready.due)) in
     let has : HasHandled s t c.args.event = handled_again s m t c.args.event c.args.moment r again c.known.ensures.valid w c.requires.ready.there next e f in
     record {
       by = grind (arith, common_steps);

@@ -23,7 +23,7 @@ returns-clause-makes c =
     let g = c.spare.ensures.same.state in
     let none : generation_at r.key.index s.live ≡ None = ap (λ (x : State). generation_at r.key.index x.live) g ∙ free.free in
     let live = ap (λ (x : State). generation_at r.key.index x.live) e ∙ generation_push r.key.index s.live r.key none
-        ∙ cond-true (eqb r.key.index r.key.index) (Some r.key.generation) None (eq-eqb r.key.index r.key.index refl) in
+    ∙ cond-true (eqb r.key.index r.key.index) (Some r.key.generation) None (eq-eqb r.key.index r.key.index refl) in
     makes_one c.args.journal.now c.push.new.self c.args.roles.now.items c.push_reserved.new.self.items r live free.free c.requires.kept.keys
     (extends_after c.spare.ensures.same c.push.ensures.log)
     (ap (λ (x : State). x.live) e ∙ ap (λ (x : State). x.live ++ r.key ∷ []) g)

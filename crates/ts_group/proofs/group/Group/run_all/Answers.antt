@@ -48,7 +48,7 @@ runs-preserved g c =
       promises = promises_trans g.W.Slotted.fits g.W.World.right g.W.World.may_ask start.world c.runs.self.world w c.runs.invariant.promises c.run_one-want.ensures.promises;
       sets = λ t h.
           let x = sets_trans g.W.Slotted.fits start.world c.runs.self.world (c.runs.events * (MOST_SET + 1)) (MOST_SET + 1) ((c.runs.events + 1) * (MOST_SET + 1)) start.cx c.runs.self.cx a.cx
-              c.runs.invariant.promises.tags c.runs.invariant.sets c.run_one-want.ensures.few (omega arith) t h in
+          c.runs.invariant.promises.tags c.runs.invariant.sets c.run_one-want.ensures.few (omega arith) t h in
           let e = ap (λ (s : State). s.next) state in
           omega arith;
     }
