@@ -10,3 +10,4 @@ pub mod First
 pub mod Runs
 pub mod Results
 pub mod Keeps
+pub mod Slots

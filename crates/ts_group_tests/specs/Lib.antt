@@ -1,2 +1,3 @@
 -- The definitions that the contracts of the driver cite.
 pub mod Driven
+pub mod Recorded

@@ -5,6 +5,7 @@ pub mod burst;
 pub mod drive;
 pub mod heir;
 pub mod pair;
+pub mod recorded;
 pub mod steps;
 #[cfg(test)]
 mod tests;

@@ -44,14 +44,14 @@ pub fn never_again()
     ensures { NeverAgain }
 {}
 
-/// A journal never goes back: a number that was closed stays so, a key that was given away and is not live stays so, and
-/// no count falls.
+/// A journal never goes back: a number that was closed stays so, a key that was given away and is not live
+/// stays so, and no count falls.
 pub fn never_back()
     ensures { NeverBack }
 {}
 
-/// That a state does not go back behind another is an order: each follows itself, and what follows one that follows a
-/// third follows that.
+/// That a state does not go back behind another is an order: each follows itself, and what follows one that
+/// follows a third follows that.
 pub fn later_is_order()
     ensures { IsOrder }
 {}

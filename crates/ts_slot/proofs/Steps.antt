@@ -116,6 +116,7 @@ module _ {X G T : Type 0} (fits : G → X → Type 0) (stamp : X → ℕ) (trace
             ap (λ gs. get_elem? gs k) (ok.about alive) ∙ home.tag_is,
             home.fit,
             (let o = home.old in omega arith),
+            mine,
             refl,
             after_known fits stamp trace follows tags s.words K.history me.0 k (slice_index s.words k / 2 + 1) (trace x)
                 (λ m reached. (

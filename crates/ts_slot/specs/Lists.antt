@@ -1,4 +1,5 @@
--- Sums over a list, facts on each of its entries, and lists of entries that each begin with the number of a group.
+-- Sums over a list, facts on each of its entries, and lists of entries that each begin with the number of a
+-- group.
 use Rattle.std.specs.Prelude.{◌≡◌, ℕ, ◌+◌, ◌⊎◌, ⊤, cond, eqb, List, [], ◌∷◌, Option, Some}
 use mathlib.Core.Option.{some}
 use lib.ListN.{get_elem?}

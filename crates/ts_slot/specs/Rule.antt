@@ -15,16 +15,19 @@ pub data Phase : Type 0 where
   taken : ℕ → Phase
   worn : Phase
 
--- What a seat knows is so. The word of a group that it holds is odd, and says the turn; what it missed was odd and is no
--- more than the word; a turn that it saw finished is, and its trace is that of the history. One that is spent has nothing.
-pub record ViewOk {G T : Type 0} (tags : List G) (words : List ℕ) (history : ℕ → ℕ → T) (v : View G T) : Type 0 where
+-- What a seat knows is so. The word of a group that it holds is odd, and says the turn; what it missed was
+-- odd and is no more than the word; a turn that it saw finished is, and its trace is that of the history. One
+-- that is spent has nothing.
+pub record ViewOk {G T : Type 0}
+    (tags : List G) (words : List ℕ) (history : ℕ → ℕ → T) (v : View G T) : Type 0 where
   pub about : 0 < v.share → v.tags ≡ tags
   pub held : Each (λ e. (slice_index words e.0 + 1 ≡ 2 * e.1) × (e.2 ≡ history e.0 (e.1 - 1))) v.held
   pub missed : Each (λ e. (e.1 % 2 ≡ 1) × (e.1 ≤ slice_index words e.0)) v.misses
   pub known : Each (λ e. (2 * e.1 ≤ slice_index words e.0) × (e.2 ≡ history e.0 e.1)) v.known
   pub blank : v.share ≡ 0 → v ≡ nobody
 
-module _ {X G T : Type 0} (fits : G → X → Type 0) (stamp : X → ℕ) (trace : X → T) (follows : T → T → Type 0) (tags : List G) where
+module _ {X G T : Type 0}
+    (fits : G → X → Type 0) (stamp : X → ℕ) (trace : X → T) (follows : T → T → Type 0) (tags : List G) where
   -- a value stands in the slot of the group k, it fits the group's tag, and its stamp is at most n
   pub record AtHome (k n : ℕ) (home : maybe.Option (maybe.Option (Option X))) (x : X) : Type 0 where
     pub tag : G
@@ -33,13 +36,16 @@ module _ {X G T : Type 0} (fits : G → X → Type 0) (stamp : X → ℕ) (trace
     pub fit : fits tag x
     pub old : stamp x ≤ n
 
-  -- A group, by its word, by how many views hold it and how many turns of it they count, by its slot, and by the trace
-  -- that stood after each of its turns
+  -- A group, by its word, by how many views hold it and how many turns of it they count, by its slot, and by
+  -- the trace that stood after each of its turns
   module _ (k word held turns : ℕ) (home : maybe.Option (maybe.Option (Option X))) (history : ℕ → T) where
     abbrev pub InPhase : Phase → Type 0
-    InPhase (free n) = (word ≡ 2 * n) × (held ≡ 0) × (turns ≡ n) × (x : X) × AtHome k n home x × (trace x ≡ history n)
+    InPhase (free n) =
+        (word ≡ 2 * n) × (held ≡ 0) × (turns ≡ n) × (x : X) × AtHome k n home x × (trace x ≡ history n)
     InPhase (taken n) = (word ≡ 2 * n + 1) × (held ≡ 1) × (turns ≡ n + 1)
-    InPhase worn = (word ≡ worn_word) × (held ≡ 0) × (turns ≡ last_turn) × (x : X) × AtHome k last_turn home x × follows (trace x) (history (last_turn - 1))
+    InPhase worn =
+        (word ≡ worn_word) × (held ≡ 0) × (turns ≡ last_turn) × (x : X) × AtHome k last_turn home x
+        × follows (trace x) (history (last_turn - 1))
 
     abbrev pub GroupOk : Type 0
     GroupOk = (p : Phase) × InPhase p
@@ -49,8 +55,8 @@ module _ {X G T : Type 0} (fits : G → X → Type 0) (stamp : X → ℕ) (trace
     pub wide : length s.words ≡ length tags
     pub deep : length s.homes ≡ length tags
     pub each_group : (k : ℕ) → k < length tags
-        → GroupOk k (slice_index s.words k) (total (λ v. traced k v.held) s.views) (total (λ v. entries k v.turns) s.views)
-        (get_elem? s.homes k) (history k)
+        → GroupOk k (slice_index s.words k) (total (λ v. traced k v.held) s.views)
+        (total (λ v. entries k v.turns) s.views) (get_elem? s.homes k) (history k)
     pub each_view : (id : ℕ) (v : View G T) → get_elem? s.views id ≡ some v → ViewOk tags s.words history v
     pub each_turn : (k n m : ℕ) → n ≤ m → 2 * m ≤ slice_index s.words k → follows (history k m) (history k n)
     pub shares : total (λ v. v.share) s.views ≡ whole_share

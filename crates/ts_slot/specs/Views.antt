@@ -30,7 +30,17 @@ module _ {G T : Type 0} where
 
   -- a seat that was joined to another is spent
   abbrev pub nobody : View G T
-  nobody = record { tags = []; share = 0; names = []; free_from = 0; free_to = 0; held = []; turns = []; misses = []; known = [] }
+  nobody = record {
+    tags = [];
+    share = 0;
+    names = [];
+    free_from = 0;
+    free_to = 0;
+    held = [];
+    turns = [];
+    misses = [];
+    known = [];
+  }
 
   -- how often the seat has the number x, as its own or free
   abbrev pub owns : ℕ → View G T → ℕ
@@ -38,7 +48,11 @@ module _ {G T : Type 0} where
 
   -- the group k was won for its turn t, where the trace c was found
   abbrev pub won : ℕ → ℕ → T → View G T → View G T
-  won k t c v = record v { held = (k, t, c) ∷ v.held; turns = (k, t) ∷ v.turns; known = (k, t - 1, c) ∷ v.known }
+  won k t c v = record v {
+    held = (k, t, c) ∷ v.held;
+    turns = (k, t) ∷ v.turns;
+    known = (k, t - 1, c) ∷ v.known;
+  }
 
   -- the group k was held by another: its word was n
   abbrev pub missed : ℕ → ℕ → View G T → View G T
@@ -73,9 +87,11 @@ module _ {G T : Type 0} where
   abbrev pub joined : View G T → View G T → View G T
   joined v w = record v { share = v.share + w.share; turns = w.turns ++ v.turns; known = w.known ++ v.known }
 
--- of the traces that are known of one group, that after the later turn follows the other, and one turn has one trace
+-- of the traces that are known of one group, that after the later turn follows the other, and one turn has
+-- one trace
 abbrev pub Coherent : {T : Type 0} → (T → T → Type 0) → List (ℕ × ℕ × T) → Type 0
-Coherent follows es = Each (λ a. Each (λ b. a.0 ≡ b.0 → a.1 ≤ b.1 → follows b.2 a.2 × (a.1 ≡ b.1 → a.2 ≡ b.2)) es) es
+Coherent follows es =
+    Each (λ a. Each (λ b. a.0 ≡ b.0 → a.1 ≤ b.1 → follows b.2 a.2 × (a.1 ≡ b.1 → a.2 ≡ b.2)) es) es
 
 -- the later of two, if there is one
 abbrev pub newer : {T : Type 0} → Option (ℕ × T) → Option (ℕ × T) → Option (ℕ × T)
@@ -88,10 +104,11 @@ abbrev pub latest : {T : Type 0} → ℕ → List (ℕ × ℕ × T) → Option (
 latest k [] = None
 latest k (e ∷ es) = newer (cond (eqb e.0 k) (Some (e.1, e.2)) None) (latest k es)
 
--- A turn of this number found the trace c: all that is known of the group was finished before, c follows each trace, and
--- after the turn next to it c was kept.
+-- A turn of this number found the trace c: all that is known of the group was finished before, c follows each
+-- trace, and after the turn next to it c was kept.
 abbrev pub IsAfter : {T : Type 0} → (T → T → Type 0) → ℕ → ℕ → T → List (ℕ × ℕ × T) → Type 0
-IsAfter follows k number c known = Each (λ e. e.0 ≡ k → (e.1 < number) × follows c e.2 × (e.1 + 1 ≡ number → c ≡ e.2)) known
+IsAfter follows k number c known =
+    Each (λ e. e.0 ≡ k → (e.1 < number) × follows c e.2 × (e.1 + 1 ≡ number → c ≡ e.2)) known
 
 -- of each group the last finished turn that is known is the later of what two knew
 abbrev pub KnowsLater : {T : Type 0} → List (ℕ × ℕ × T) → List (ℕ × ℕ × T) → List (ℕ × ℕ × T) → Type 0

@@ -8,7 +8,7 @@ use Rattle.ts_slot.specs.declared.view.View.{View}
 use Rattle.ts_slot.specs.declared.seat.Seat.{Seat}
 use Rattle.ts_slot.specs.declared.seat.Turn.{Turn}
 use Rattle.ts_slot.specs.declared.slots.Slots.{Slots}
-use Rattle.ts_slot.specs.Lists.{Each, IsIn, rest, entries}
+use Rattle.ts_slot.specs.Lists.{Each, IsIn, rest, traced, entries}
 use Rattle.ts_slot.specs.Limits.{last_turn}
 use Rattle.ts_slot.specs.Views.{missed, freed, worn_out, latest, IsAfter}
 
@@ -27,11 +27,16 @@ pub record GivesUp {T : Type 0} (k : ℕ) (old new : List (ℕ × ℕ × T)) : T
   pub count : length new + 1 ≡ length old
 
 module _ {G T : Type 0} where
+  -- the seat does not hold the group k
+  abbrev pub HoldsNot : View G T → ℕ → Type 0
+  HoldsNot v k = traced k v.held ≡ 0
+
   -- the group k was won last, for this turn, and this trace was found
   abbrev pub IsTop : View G T → ℕ → ℕ → T → Type 0
   IsTop v k turn c = v.held ≡ (k, turn, c) ∷ rest v.held
 
-  -- the seat was told that the group's word is odd, which counts as a miss; it is no less than what the seat knows
+  -- the seat was told that the group's word is odd, which counts as a miss; it is no less than what the seat
+  -- knows
   pub record Misses (k seen : ℕ) (old new : View G T) : Type 0 where
     pub odd : seen % 2 ≡ 1
     pub is : new ≡ missed k seen old
@@ -42,13 +47,15 @@ module _ {X G T : Type 0} {d : Ghosts X G T} where
   view seat = seat.place.me.0
 
   abbrev pub IsSeatOf : Slots X G T → Seat X G T d → Type 0
-  IsSeatOf slots seat = (seat.place.table_id ≡ slots.table.shared.table_id) × ((view seat).tags ≡ tags_of slots)
+  IsSeatOf slots seat =
+      (seat.place.table_id ≡ slots.table.shared.table_id) × ((view seat).tags ≡ tags_of slots)
 
   -- the seat got this turn, and has not left it
   abbrev pub IsHeld : View G T → Turn X G T d → Type 0
   IsHeld v turn = IsIn (turn.group, turn.number, d.trace turn.found.value) v.held
 
-  -- a turn may leave its value: it fits the tag, its stamp is as found or this turn's number, and its trace follows that found
+  -- a turn may leave its value: it fits the tag, its stamp is as found or this turn's number, and its trace
+  -- follows that found
   pub record MayLeave (tags : List G) (turn : Turn X G T d) : Type 0 where
     pub fit : FitsTag d.fits tags turn.group turn.value
     pub stamped : (d.stamp turn.value ≡ d.stamp turn.found.value) ⊎ (d.stamp turn.value ≡ turn.number)
@@ -56,7 +63,8 @@ module _ {X G T : Type 0} {d : Ghosts X G T} where
 
   -- a turn that the value records and did not record when it was found is this turn, of this seat
   abbrev pub MarksOwn : Turn X G T d → ℕ → Type 0
-  MarksOwn turn seat = (mark : ℕ × ℕ) → Contains (d.marks turn.value) mark → Contains (d.marks turn.found.value) mark ⊎ (mark ≡ (turn.number, seat))
+  MarksOwn turn seat = (mark : ℕ × ℕ) → Contains (d.marks turn.value) mark
+      → Contains (d.marks turn.found.value) mark ⊎ (mark ≡ (turn.number, seat))
 
   -- the group is free after this turn, and the seat knows it so
   pub record LeavesFree (turn : Turn X G T d) (old new : View G T) : Type 0 where
@@ -69,8 +77,8 @@ module _ {X G T : Type 0} {d : Ghosts X G T} where
     pub number : turn.number ≡ last_turn
     pub is : new ≡ worn_out turn.group old
 
-  -- The value x of the group k at the end: it fits the tag, its stamp is at most the group's number of turns, which the seat
-  -- counts, and its trace comes after all that the seat knows.
+  -- The value x of the group k at the end: it fits the tag, its stamp is at most the group's number of turns,
+  -- which the seat counts, and its trace comes after all that the seat knows.
   pub record IsLast (slots : Slots X G T) (seat : Seat X G T d) (k : ℕ) (x : X) : Type 0 where
     pub fit : FitsTag d.fits (tags_of slots) k x
     pub stamped : d.stamp x ≤ entries k (view seat).turns

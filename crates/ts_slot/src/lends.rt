@@ -11,7 +11,8 @@ use ts_journal::Slotted;
 impl<V: Slotted> Turn<V> {
     /// The value, to read and to change.
     pub fn value(&mut self) -> &mut V
-        ensures* writes_back { sem 𝓛 (Lends (the_row V.row V.Tag.row V.Trace.row V.Slotted) V.row self.entry result (with_value self.old)) }
+        ensures* writes_back { sem 𝓛 (Lends
+            (the_row V.row V.Tag.row V.Trace.row V.Slotted) V.row self.entry result (with_value self.old)) }
         ensures value { result.now ≡ self.old.value }
     {
         &mut self.value

@@ -1,5 +1,6 @@
-//! Mutex slots: a table with a place for the value of each mutex group. A seat enters a group by one atomic step or is
-//! told that it missed, as TSMutexLockTry of Traffic Server's Developer's Guide, and nobody ever waits.
+//! Mutex slots: a table with a place for the value of each mutex group. A seat enters a group by one atomic
+//! step or is told that it missed, as TSMutexLockTry of Traffic Server's Developer's Guide, and nobody ever
+//! waits.
 #![tactic(auto)]
 
 mod lends;

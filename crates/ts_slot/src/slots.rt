@@ -16,8 +16,8 @@ use ts_journal::{NoMemory, Slotted};
 // The last turn of a group, after which its word stays odd.
 const LAST_TURN: u64 = 1 << 63;
 
-/// A word and a place for each group. The word is twice the number of the group's finished turns, and 1 more while it is
-/// held.
+/// A word and a place for each group. The word is twice the number of the group's finished turns, and 1 more
+/// while it is held.
 #[derive(Drop)]
 pub struct Slots<V: Slotted> {
     table: Table<Option<V>, View<V::Tag, V::Trace>, Key<V>, Law<V>, Global>,
@@ -121,7 +121,7 @@ impl<V: Slotted> Slots<V> {
     ghost use Rattle.std.specs.Prelude.{IfErr};
     ghost use Rattle.ts_slot.specs.declared.seat.Left.TheVariants.{Freed, Worn};
     ghost use Rattle.ts_slot.specs.Views.{won, left_half, right_half, joined, Coherent, KnowsLater, IsAfter};
-    ghost use Rattle.ts_slot.specs.Words.{tags_of, view, IsSeatOf, FitsTag, Misses, IsHeld, MayLeave, MarksOwn, LeavesFree, LeavesWorn, GivesUp};
+    ghost use Rattle.ts_slot.specs.Words.{tags_of, view, IsSeatOf, FitsTag, HoldsNot, Misses, IsHeld, MayLeave, MarksOwn, LeavesFree, LeavesWorn, GivesUp};
 
     /// The number of groups.
     pub fn groups(&self) -> u32
@@ -130,15 +130,19 @@ impl<V: Slotted> Slots<V> {
         self.groups
     }
 
-    /// Tries to enter the group `k`. One atomic step on its word decides: the group is held where that word is odd.
+    /// Tries to enter the group `k`. One atomic step on its word decides: the group is held where that word
+    /// is odd, by this seat or another.
     pub fn try_enter(&self, seat: &mut Seat<V>, k: u32) -> Result<Turn<V>, Missed>
         requires seat { IsSeatOf self.now seat.old }
         requires group { k < length (tags_of self.now) }
         ensures seat { IsSeatOf self.now seat.new }
-        ensures turn { IfOk result (λ t. (t.group ≡ k) × (t.found.value ≡ t.value)) }
+        ensures turn { IfOk result (λ t.
+            (t.group ≡ k) × (t.found.value ≡ t.value) × HoldsNot (view seat.old) k) }
         ensures won { IfOk result (λ t. view seat.new ≡ won k t.number (V.trace t.value) (view seat.old)) }
-        ensures value { IfOk result (λ t. FitsTag V.fits (tags_of self.now) k t.value × (V.stamp t.value < t.number)) }
-        ensures later { IfOk result (λ t. IsAfter V.follows k t.number (V.trace t.value) (view seat.old).known) }
+        ensures value { IfOk result (λ t.
+            FitsTag V.fits (tags_of self.now) k t.value × (V.stamp t.value < t.number)) }
+        ensures later { IfOk result (λ t.
+            IsAfter V.follows k t.number (V.trace t.value) (view seat.old).known) }
         ensures missed { IfErr result (λ m. Misses k m.seen (view seat.old) (view seat.new)) }
     {
         let group = k as usize;
@@ -187,7 +191,8 @@ impl<V: Slotted> Slots<V> {
         Left::Freed
     }
 
-    /// Splits a seat off, which gets one part of the share and the least free number, and knows what this seat knows.
+    /// Splits a seat off, which gets one part of the share and the least free number, and knows what this
+    /// seat knows.
     pub fn split(&self, seat: &mut Seat<V>) -> Seat<V>
         requires seat { IsSeatOf self.now seat.old }
         requires share { 2 ≤ (view seat.old).share }

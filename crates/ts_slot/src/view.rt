@@ -2,8 +2,8 @@
 
 use std::collections::LinkedList;
 
-/// What a seat knows. No value of it is made. Contracts see the arrays as lists of any length; a list of a type parameter
-/// is a `LinkedList`, since such an array has no known size.
+/// What a seat knows. No value of it is made. Contracts see the arrays as lists of any length; a list of a
+/// type parameter is a `LinkedList`, since such an array has no known size.
 pub struct View<G, T> {
     /// The tags of all groups.
     pub tags: LinkedList<G>,

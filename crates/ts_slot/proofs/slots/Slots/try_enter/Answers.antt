@@ -18,4 +18,4 @@ exchange-taken-requires g c =
     let odd = c.if-seen-eq1.false in
     let even : c.fetch_or-seen.result % 2 ≡ 0 = omega arith in
     let won = e.2.0 even in
-    (e.0 ∙ c.requires.seat.0, (Some won.0, below_is c.fetch_or-seen.new.seat.me.1 c.args.seat.now.place.me.1 (c.args.k, Some won.0) (ap (λ m. m.1) won.5)))
+    (e.0 ∙ c.requires.seat.0, (Some won.0, below_is c.fetch_or-seen.new.seat.me.1 c.args.seat.now.place.me.1 (c.args.k, Some won.0) (ap (λ m. m.1) won.6)))
