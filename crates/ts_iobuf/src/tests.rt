@@ -83,10 +83,8 @@ fn the_index_of_a_freed_reader_is_used_again(rt: HostRuntime) -> Result<(), Fail
     buffer.free_reader(first);
     assert!(rt; !buffer.is_reader(first) && buffer.is_reader(other));
     let next = buffer.reader()?;
-    assert_eq!(rt;
-        (next.index, next.generation),
-        (first.index, first.generation + 1)
-    );
+    assert_eq!(rt; next.index, first.index);
+    assert!(rt; next.generation > first.generation);
     assert!(rt; !buffer.is_reader(first) && buffer.is_reader(next));
     assert_eq!(rt; buffer.avail(next), 2);
     Ok(())

@@ -1,0 +1,8 @@
+//! The link to an origin, which moves the body that follows a client's request head by itself.
+#![tactic(auto)]
+
+#[cfg(test)]
+mod tests;
+mod upstream;
+
+pub use upstream::{Uploaded, Upstream};
