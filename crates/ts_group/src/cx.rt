@@ -290,7 +290,7 @@ impl Cx {
     // The first pending event that is news. It is no news from then on.
     pub(crate) fn next_news(&mut self) -> Option<Pending>
         ensures news { IfSome result (IsNews self.old.news_from self.old.log.state) }
-        ensures told { IfSome result (λ p. self.new.news_from ≡ p.number + 1) }
+        ensures once { IfSome result (λ p. self.new.news_from ≡ p.number + 1) }
         ensures none { result ≡ None → NoNews self.old.news_from self.old.log.state }
         ensures still { result ≡ None → self.new.news_from ≡ self.old.news_from }
         ensures same { IsSame (record self.old { news_from = self.new.news_from }) self.new }

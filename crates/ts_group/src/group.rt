@@ -103,7 +103,7 @@ impl<W: World + Drop> Group<W> {
     /// The least pending number that is news, with its due moment. It is no news from then on.
     pub fn next_news(&mut self) -> Option<(u64, u64)>
         ensures news { IfSome result (λ r. IsFirstNews self.old.cx r.0 r.1) }
-        ensures told { IfSome result (λ r. self.new.cx.news_from ≡ r.0 + 1) }
+        ensures once { IfSome result (λ r. self.new.cx.news_from ≡ r.0 + 1) }
         ensures none { result ≡ None → NoNews self.old.cx.news_from self.old.cx.log.state }
         ensures still { result ≡ None → self.new.cx.news_from ≡ self.old.cx.news_from }
         ensures same { IsSame (record self.old.cx { news_from = self.new.cx.news_from }) self.new.cx }
