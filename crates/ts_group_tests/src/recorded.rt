@@ -38,6 +38,7 @@ pub fn visit<W: World + Drop>(
     requires seat { IsSeatOf slots.now seat.old × (k < length (tags_of slots.now)) }
     requires idle { (view seat.old).held ≡ [] }
     ensures seat { IsSeatOf slots.now seat.new × ((view seat.new).held ≡ []) }
+    ensures share { (view seat.new).share ≡ (view seat.old).share }
 {
     let mut turn = slots.try_enter(seat, k)?;
     let number = turn.number();

@@ -4,10 +4,12 @@ use crate::burst::{Burst, CALLER};
 use crate::drive::{Driven, ask_for, drive};
 use crate::heir::Heir;
 use crate::pair::{Adder, Asker};
+use crate::recorded::visit;
 use crate::steps::{Countdown, Steps};
 use std::test::Fail;
 use ts_group::{Action, Cancel, Destroy, Group, Handling};
 use ts_journal::{ContKey, Counts, Entry, Event};
+use ts_slot::{Left, Slots};
 
 const FIRST: ContKey = ContKey {
     index: 0,
@@ -189,5 +191,42 @@ fn a_group_asks_another(rt: HostRuntime) -> Result<(), Fail> {
     assert_eq!(rt; asker.world().todo, 6);
     assert_eq!(rt; adder.world().count, 1);
     assert_eq!(rt; adder.journal().entries().len(), 3);
+    Ok(())
+}
+
+// The turns of a group that stands in a slot are recorded under the numbers that the slot gives, each with its seat.
+#[test]
+fn turns_at_a_slot_are_recorded(rt: HostRuntime) -> Result<(), Fail> {
+    let world = Steps {
+        part: Countdown { left: 3 },
+    };
+    let mut groups = Vec::new(rt.alloc());
+    groups.push(Group::make(rt.alloc(), world, 0)?)?;
+    let mut tags = Vec::new(rt.alloc());
+    tags.push(())?;
+    let Ok((slots, mut seat)) = Slots::make(rt.alloc(), groups, tags) else {
+        panic!(rt; "no memory")
+    };
+    let mut other = slots.split(&mut seat);
+    assert_eq!(rt; visit(&slots, &mut other, 0, 5), Ok(Left::Freed));
+    assert_eq!(rt; visit(&slots, &mut seat, 0, 6), Ok(Left::Freed));
+    slots.join(&mut seat, other);
+    let Ok(groups) = slots.close(rt.alloc(), seat) else {
+        panic!(rt; "no memory")
+    };
+    let mut entries = Vec::new(rt.alloc());
+    for group in groups.iter() {
+        entries.extend_from_slice(group.journal().entries())?;
+    }
+    assert_eq!(rt;
+        entries.as_slice(),
+        [
+            Entry::Took { turn: 1, seat: 1 },
+            Entry::Gave { turn: 1 },
+            Entry::Took { turn: 2, seat: 0 },
+            Entry::Gave { turn: 2 },
+        ]
+        .as_slice()
+    );
     Ok(())
 }

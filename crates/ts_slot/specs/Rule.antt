@@ -50,6 +50,9 @@ module _ {X G T : Type 0}
     abbrev pub GroupOk : Type 0
     GroupOk = (p : Phase) × InPhase p
 
+  -- The rule. There is a history: the trace that stood after each turn of each group. Each group is free,
+  -- held or worn; what each seat knows is so; the trace after a later turn follows that after an earlier
+  -- one; the shares add up; and no number is a seat's own or free twice.
   pub record Kept (s : State (Option X) (View G T)) : Type 0 where
     pub history : ℕ → ℕ → T
     pub wide : length s.words ≡ length tags

@@ -220,9 +220,8 @@ impl<V: Slotted> Slots<V> {
         ensures later { Coherent V.follows (view into.new).known }
         ensures latest { KnowsLater (view into.old).known (view from).known (view into.new).known }
     {
-        self.table
-            .shared
-            .join_seat::<Glue>(&mut into.place, from.place);
-        self.table.shared.load::<Look<V>>(&mut into.place, 0);
+        let shared = &self.table.shared;
+        shared.join_seat::<Glue>(&mut into.place, from.place);
+        shared.load::<Look<V>>(&mut into.place, 0);
     }
 }
