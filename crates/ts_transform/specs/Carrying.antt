@@ -103,9 +103,14 @@ pub record KeepsCourse {I K P : Type 0} (v w : LinkWorld I K P) (now : Context) 
   pub loses : MayLose v.driven w.driven now
   pub started : w.writer ≡ None → v.writer ≡ None
 
--- where the link made its caller wait, its continuation is roused after 10 milliseconds, and nothing else is set
-abbrev pub Retries : Look → Look → ℕ → Context → Context → Type 0
-Retries old new role a b = (new.waits ≡ old.waits → ⊥) → SetsOnly (IsRousingOf role RETRY a.moment a.roles) a b
+-- Where a link made its caller wait, the continuation of this role, which has to do with that link, is roused after 10
+-- milliseconds, unless that was lost, and nothing else is set.
+pub record IsRetried (slot : Option StageContinuation) (runs : Bool) (role : ℕ) (a b : Context) : Type 0 where
+  pub roused : runs ≡ true → IsRousedIf slot
+  pub only : SetsOnly (IsRousingOf role RETRY a.moment a.roles) a b
+
+abbrev pub Retries : Look → Look → Option StageContinuation → Bool → ℕ → Context → Context → Type 0
+Retries old new slot runs role a b = (new.waits ≡ old.waits → ⊥) → IsRetried slot runs role a b
 
 -- The chain and the links are as they were; and where it had not begun, it runs from then on, or tells why it was lost.
 pub record HasLinkBegun {I K P : Type 0} (v w : LinkWorld I K P) : Type 0 where

@@ -1,13 +1,13 @@
 //! Chains between two links, driven to their ends.
-ghost use Rattle.std.specs.Prelude.{◌≡◌, ◌≤◌, false, IfOk, OnOk};
+ghost use Rattle.std.specs.Prelude.{◌≡◌, false, IfOk};
 ghost use Rattle.ts_transform.specs.Carrying.{IsCarriedGroup};
 
 use crate::tests::Tail;
-use crate::{Chain, LinkWorld};
+use crate::{Chain, LinkWorld, drive_links};
 use std::alloc::Global;
 use std::test::Fail;
-use ts_group::{Group, Handling};
-use ts_link::{Link, MemLink, NoMemory, Octets};
+use ts_group::Group;
+use ts_link::{MemLink, NoMemory, Octets};
 
 // More turns than any of the runs takes.
 const TURNS: u32 = 10_000;
@@ -115,29 +115,6 @@ fn begin(alloc: Global, plan: &Plan) -> Result<Group<Links>, Fail>
     Ok(group)
 }
 
-// Makes one turn, which handles what is due first, at its moment or later. It answers the turn's moment; `None` where
-// nothing is pending.
-fn step(group: &mut Group<Links>, moment: u64) -> Result<Option<u64>, Fail>
-    requires idle { group.old.cx.log.state.held ≡ false }
-    requires carried { IsCarriedGroup group.old }
-    ensures idle { OnOk result (group.new.cx.log.state.held ≡ false) }
-    ensures carried { OnOk result (IsCarriedGroup group.new) }
-{
-    let Some((due, number)) = group.next_due() else {
-        return Ok(None);
-    };
-    let moment = due.max(moment);
-    let Some(turn) = group.journal().turns().checked_add(1) else {
-        return Err("a turn is left")?;
-    };
-    group.begin_turn(turn, 0, moment)?;
-    let Handling::Handled { events: _ } = group.handle(number, moment)? else {
-        return Err("it is handled")?;
-    };
-    group.give_turn();
-    Ok(Some(moment))
-}
-
 // The most bytes that wait at one boundary of a chain.
 fn widest(chain: &Chain<Tail>) -> usize {
     let mut most = chain.waiting(chain.stages());
@@ -152,12 +129,10 @@ fn run(group: &mut Group<Links>) -> Result<usize, Fail>
     requires idle { group.old.cx.log.state.held ≡ false }
     requires carried { IsCarriedGroup group.old }
 {
-    let mut moment = 0;
     let mut most = 0;
     'turns: for _ in 0..TURNS {
-        match step(group, moment)? {
-            Some(next) => moment = next,
-            None => return Ok(most),
+        if drive_links(group, 1)? {
+            return Ok(most);
         }
         most = most.max(widest(group.world().chain()));
     }
