@@ -13,11 +13,13 @@ use Rattle.ts_transform.specs.declared.pump.Pumped.{Pumped}
 use Rattle.ts_transform.specs.declared.pump.Pumped.TheVariants.{Moved, Ended, Blocked, Idle}
 use Rattle.ts_transform.specs.declared.pump.Stage.{Stage}
 use Rattle.ts_transform.specs.Stage.{AnswersIf, AnswersWork, Steps, has_ended, has_work}
-use Rattle.ts_transform.specs.Flow.{AnswersAt, ChainState, EndsInOrder, MOST_WAITING, OnlyFirstWorks, PumpsAt, PumpsOnce, StepsAt, Takes, TakesAway, aborted, client_wait, closed, flow, fresh_stage, flow_from, last_ended}
+use Rattle.ts_transform.specs.Flow.{AnswersAt, ChainState, EndsInOrder, IsFinished, MOST_WAITING, OnlyFirstWorks, PumpsAt, PumpsOnce, StepsAt, Takes, TakesAway, aborted, client_wait, closed, flow, fresh_stage, flow_from, last_ended}
 use Rattle.ts_transform.specs.Acting.{StillGives}
 use Rattle.ts_vconn.specs.MoveAnswers.{Came}
 use Rattle.ts_vconn.specs.Moves.{PullsOn}
-use Rattle.ts_transform.specs.Carrying.{Carries, MovesOn}
+use Rattle.ts_transform.specs.Carrying.{Carries, CarriesOn, HasWritten, MovesOn}
+use Rattle.ts_transform.proofs.Acting.{nothing_more}
+use Rattle.ts_transform.proofs.Flowing.{flow-finished}
 use Rattle.ts_transform.proofs.Starting.{fresh-first}
 
 -- nothing is carried
@@ -48,6 +50,7 @@ moves_wait rest it ot i o p c was lacks waits = record {
   aborts = λ goes stops. absurd (let wrong : false ≡ true = sym goes ∙ stops in cc);
   stays = λ stopped. stopped;
   ends = λ goes opened given. absurd (let wrong : false ≡ true = sym opened ∙ given in cc);
+  still = λ goes given. refl;
   bounded = λ few. few;
   ordered = λ ordered. ordered;
 }
@@ -82,6 +85,7 @@ moves_pull {P} rest it ot i j o c d answer was h stages opened room ends = recor
   aborts = λ goes stops. absurd (let wrong : false ≡ true = sym goes ∙ stops in cc);
   stays = λ stopped. stopped;
   ends = λ goes was_open given. ends given;
+  still = λ goes given. absurd (let wrong : false ≡ true = sym opened ∙ given in cc);
   bounded = λ few. let l : length d.first ≡ length c.first + length h.more = ap length h.grows ∙ length-append c.first h.more in omega (arith, l, room, came_few answer MOST_PULLED h.more h.pulls.came);
   ordered = λ ordered. subst (EndsInOrder d.given) (sym stages) (order_any d.given c.stages (subst (λ b. EndsInOrder b c.stages) opened ordered));
 }
@@ -111,6 +115,7 @@ moves_aborted rest it ot i j o p c d e was lacks why is = record {
   aborts = λ goes stops. why;
   stays = λ stopped. refl;
   ends = λ goes. absurd (let wrong : true ≡ false = goes in cc);
+  still = λ goes. absurd (let wrong : true ≡ false = goes in cc);
   bounded = λ few. let l : length e.first ≡ 0 = ap (λ x. length x.first) is in omega (arith, l);
   ordered = λ ordered. subst (λ x. EndsInOrder x.given x.stages) (sym is) (order_closed d.stages);
 }
@@ -144,6 +149,7 @@ moves_taken rest it ot i o p c d piece n was takes within front taken = record {
   aborts = λ goes stops. absurd (let wrong : false ≡ true = sym goes ∙ stops in cc);
   stays = λ stopped. stopped;
   ends = λ goes opened given. absurd (let wrong : false ≡ true = sym opened ∙ sym takes.given ∙ given in cc);
+  still = λ goes given. refl;
   bounded = λ few. omega (arith, few, takes_first c.first c.stages n d.first d.stages takes.takes);
   ordered = λ ordered. subst (λ b. EndsInOrder b d.stages) (sym takes.given) (takes_order c.given c.first c.stages n d.first d.stages takes.takes ordered);
 }
@@ -232,6 +238,7 @@ moves_stage rest it ot i o c d ts us a b was h = record {
   aborts = λ goes stops. absurd (let wrong : false ≡ true = sym goes ∙ stops in cc);
   stays = λ stopped. stopped;
   ends = λ goes opened given. absurd (let wrong : false ≡ true = sym opened ∙ sym h.given ∙ given in cc);
+  still = λ goes given. refl;
   bounded = λ few. omega (arith, few, pumped_first rest c d h.once);
   ordered = pumped_order rest c d h.once;
 }
@@ -244,6 +251,7 @@ moves_lacks rest it ot i j o p c d was now lacks h = record {
   aborts = λ goes stops. by_cause (h.aborts goes stops);
   stays = h.stays;
   ends = h.ends;
+  still = h.still;
   bounded = h.bounded;
   ordered = h.ordered;
 }
@@ -253,19 +261,59 @@ moves_lacks rest it ot i j o p c d was now lacks h = record {
     by_cause (inr rose) = inr rose
 
 -- one step carries on from where the one before stopped
-pub carries_then : {P : Type 0} (rest : P → List ℕ → List ℕ) (it ot : Bool) (i j k o p q : Look) (c d e : ChainState P) → Carries rest it ot i j o p c d → Carries rest it ot j k p q d e → Carries rest it ot i k o q c e
+carries_then : {P : Type 0} (rest : P → List ℕ → List ℕ) (it ot : Bool) (i j k o p q : Look) (c d e : ChainState P) → Carries rest it ot i j o p c d → Carries rest it ot j k p q d e → Carries rest it ot i k o q c e
 carries_then {P} rest it ot i j k o p q c d e h l = record {
   gave = h.gave ++ l.gave;
   took = h.took ++ l.took;
   given = λ tells. l.given tells ∙ ap (λ x. x ++ l.gave) (h.given tells) ∙ append_assoc i.given h.gave l.gave;
   taken = λ tells. l.taken tells ∙ ap (λ x. x ++ l.took) (h.taken tells) ∙ append_assoc o.taken h.took l.took;
-  flow = λ z none. ap (flow rest c) (append_assoc h.gave l.gave z) ∙ h.flow (l.gave ++ z) (nothing_more d.given z none refl) ∙ ap (λ x. h.took ++ x) (l.flow z none)
+  flow = λ z none. ap (flow rest c) (append_assoc h.gave l.gave z) ∙ h.flow (l.gave ++ z) (none_left d.given z none refl) ∙ ap (λ x. h.took ++ x) (l.flow z none)
       ∙ sym (append_assoc h.took l.took (flow rest e z));
   closed = λ given.
       let first = h.closed given in
       let second = l.closed first.1 in (ap (λ x. x ++ l.gave) first.0 ∙ second.0, second.1);
 }
   where
-    nothing_more : (b : Bool) (z : List ℕ) → OnTrue e.given (z ≡ []) → d.given ≡ b → OnTrue b (l.gave ++ z ≡ [])
-    nothing_more true z none given = let second = l.closed given in ap (λ x. x ++ z) second.0 ∙ subst (λ b. OnTrue b (z ≡ [])) second.1 none
-    nothing_more false z none given = tt
+    none_left : (b : Bool) (z : List ℕ) → OnTrue e.given (z ≡ []) → d.given ≡ b → OnTrue b (l.gave ++ z ≡ [])
+    none_left true z none given = let second = l.closed given in ap (λ x. x ++ z) second.0 ∙ subst (λ b. OnTrue b (z ≡ [])) second.1 none
+    none_left false z none given = tt
+
+-- the same of several steps
+pub carries_one : {P : Type 0} (rest : P → List ℕ → List ℕ) (it ot : Bool) (i j o p : Look) (c d : ChainState P) (was now : Bool) (lacks : Type 0) → MovesOn rest it ot i j o p c d was now lacks
+    → CarriesOn rest it ot i j o p c d was now
+carries_one rest it ot i j o p c d was now lacks h = record { carries = h.carries; stays = h.stays; ends = h.ends; still = h.still }
+
+pub carries_refl : {P : Type 0} (rest : P → List ℕ → List ℕ) (it ot : Bool) (i o : Look) (c : ChainState P) (was : Bool) → CarriesOn rest it ot i i o o c c was was
+carries_refl rest it ot i o c was = carries_one rest it ot i i o o c c was was ⊥ (moves_none rest it ot i o c was ⊥)
+
+pub carries_trans : {P : Type 0} (rest : P → List ℕ → List ℕ) (it ot : Bool) (i j k o p q : Look) (c d e : ChainState P) (was mid now : Bool) → CarriesOn rest it ot i j o p c d was mid → CarriesOn rest it ot j k p q d e mid now
+    → CarriesOn rest it ot i k o q c e was now
+carries_trans {P} rest it ot i j k o p q c d e was mid now h l = record {
+  carries = λ goes. carries_then rest it ot i j k o p q c d e (h.carries (before mid refl goes)) (l.carries goes);
+  stays = λ stopped. l.stays (h.stays stopped);
+  ends = λ goes opened given tells. by_end d.given refl goes opened given tells;
+  still = λ goes given. l.still goes ((h.carries (before mid refl goes)).closed given).1 ∙ h.still (before mid refl goes) given;
+}
+  where
+    before : (b : Bool) → mid ≡ b → now ≡ false → mid ≡ false
+    before false is goes = is
+    before true is goes = absurd (let wrong : true ≡ false = sym (l.stays is) ∙ goes in cc)
+
+    by_end : (b : Bool) → d.given ≡ b → now ≡ false → c.given ≡ false → e.given ≡ true → it ≡ true → k.left ≡ []
+    by_end false is goes opened given tells = l.ends goes is given tells
+    by_end true is goes opened given tells = ap (λ x. x.left) (l.still goes is) ∙ h.ends (before mid refl goes) opened is tells
+
+-- all that the input gave was written, once nothing is left to do
+pub has_written : {P : Type 0} (rest : P → List ℕ → List ℕ) (it ot : Bool) (i j o p : Look) (c d : ChainState P) (was now : Bool) → CarriesOn rest it ot i j o p c d was now → IsFinished d → d.given ≡ true
+    → now ≡ false → c.given ≡ false → it ≡ true → ot ≡ true → HasWritten rest i j o p c
+has_written rest it ot i j o p c d was now h finished given goes opened in_tells out_tells =
+    let moved = h.carries goes in
+    let nothing : flow rest d [] ≡ [] = flow-finished rest d finished.0 finished.1 in
+    let took : flow rest c moved.gave ≡ moved.took =
+    ap (flow rest c) (sym (append-nil moved.gave)) ∙ moved.flow [] (nothing_more d.given) ∙ ap (λ l. moved.took ++ l) nothing ∙ append-nil moved.took in
+    record {
+      gave = moved.gave;
+      given = moved.given in_tells;
+      left = h.ends goes opened given in_tells;
+      taken = moved.taken out_tells ∙ ap (λ l. o.taken ++ l) (sym took);
+    }

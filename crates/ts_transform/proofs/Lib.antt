@@ -16,3 +16,4 @@ pub mod Acting
 pub mod Driving
 pub mod Carrying
 pub mod Joined
+pub mod Runs

@@ -4,6 +4,7 @@ use Rattle.std.specs.Bool.{OnTrue}
 use Rattle.ts_journal.specs.declared.entry.Event.{Event}
 use Rattle.ts_journal.specs.declared.entry.Pending.{Pending}
 use Rattle.ts_group.specs.declared.action.Named.{Named}
+use Rattle.ts_group.specs.declared.group.Group.{Group}
 use Rattle.ts_group.specs.Context.{Context}
 use Rattle.ts_link.specs.Counts.{Rose}
 use Rattle.ts_link.specs.Link.{Look}
@@ -30,14 +31,22 @@ pub record Carries {P : Type 0} (rest : P → List ℕ → List ℕ) (in_tells o
   pub closed : c.given ≡ true → (gave ≡ []) × (d.given ≡ true)
 
 -- What a step moves, unless the chain was aborted: that is only for a fault of a link or for want of memory. Its end is
--- given only where the input has ended. No more bytes than two reads bring wait before the first stage.
+-- given only where the input has ended, which is read no more then. No more bytes than two reads bring wait before the first stage.
 pub record MovesOn {P : Type 0} (rest : P → List ℕ → List ℕ) (in_tells out_tells : Bool) (i j o p : Look) (c d : ChainState P) (was now : Bool) (lacks : Type 0) : Type 0 where
   pub carries : now ≡ false → Carries rest in_tells out_tells i j o p c d
   pub aborts : was ≡ false → now ≡ true → lacks ⊎ Rose i.faults j.faults ⊎ Rose o.faults p.faults
   pub stays : was ≡ true → now ≡ true
   pub ends : now ≡ false → c.given ≡ false → d.given ≡ true → in_tells ≡ true → j.left ≡ []
+  pub still : now ≡ false → c.given ≡ true → j ≡ i
   pub bounded : length c.first < MOST_WAITING + MOST_PULLED → length d.first < MOST_WAITING + MOST_PULLED
   pub ordered : EndsInOrder c.given c.stages → EndsInOrder d.given d.stages
+
+-- What several steps move, unless the chain was aborted.
+pub record CarriesOn {P : Type 0} (rest : P → List ℕ → List ℕ) (in_tells out_tells : Bool) (i j o p : Look) (c d : ChainState P) (was now : Bool) : Type 0 where
+  pub carries : now ≡ false → Carries rest in_tells out_tells i j o p c d
+  pub stays : was ≡ true → now ≡ true
+  pub ends : now ≡ false → c.given ≡ false → d.given ≡ true → in_tells ≡ true → j.left ≡ []
+  pub still : now ≡ false → c.given ≡ true → j ≡ i
 
 -- the same of one end of a world between two links, or of a stage: it is aborted for a fault of a link alone
 abbrev pub Moves : {I K P : Type 0} → (P → List ℕ → List ℕ) → Bool → Bool → (I → Look) → (K → Look) → LinkWorld I K P → LinkWorld I K P → Type 0
@@ -85,14 +94,23 @@ pub record IsCarried {I K P : Type 0} (w : LinkWorld I K P) (pending : List Pend
   pub ordered : EndsInOrder w.driven.chain.given w.driven.chain.stages
   pub bounded : length w.driven.chain.first < MOST_WAITING + MOST_PULLED
 
+-- what holds of its group
+abbrev pub IsCarriedGroup : {I K P Q R T U : Type 0} → Group (LinkWorld I K P) Q R T U → Type 0
+IsCarriedGroup g = IsCarried g.world g.cx.log.state.pending g.cx.roles
+
 -- whether it runs may only fall, for a cause; and whoever was made stays
 pub record KeepsCourse {I K P : Type 0} (v w : LinkWorld I K P) (now : Context) : Type 0 where
   pub loses : MayLose v.driven w.driven now
   pub started : w.writer ≡ None → v.writer ≡ None
 
--- where the link made its caller wait, its continuation is roused after 10 milliseconds, and nothing else is set
-abbrev pub Retries : Look → Look → ℕ → Context → Context → Type 0
-Retries old new role a b = (new.waits ≡ old.waits → ⊥) → SetsOnly (IsRousingOf role RETRY a.moment a.roles) a b
+-- Where a link made its caller wait, the continuation of this role, which has to do with that link, is roused after 10
+-- milliseconds, unless that was lost, and nothing else is set.
+pub record IsRetried (slot : Option StageContinuation) (runs : Bool) (role : ℕ) (a b : Context) : Type 0 where
+  pub roused : runs ≡ true → IsRousedIf slot
+  pub only : SetsOnly (IsRousingOf role RETRY a.moment a.roles) a b
+
+abbrev pub Retries : Look → Look → Option StageContinuation → Bool → ℕ → Context → Context → Type 0
+Retries old new slot runs role a b = (new.waits ≡ old.waits → ⊥) → IsRetried slot runs role a b
 
 -- The chain and the links are as they were; and where it had not begun, it runs from then on, or tells why it was lost.
 pub record HasLinkBegun {I K P : Type 0} (v w : LinkWorld I K P) : Type 0 where
@@ -116,3 +134,22 @@ KeepsReader v w = w.reader ≡ v.reader
 
 abbrev pub KeepsWriter : {I K P : Type 0} → LinkWorld I K P → LinkWorld I K P → Type 0
 KeepsWriter v w = w.writer ≡ v.writer
+
+-- what several steps of a world between two links move
+abbrev pub CarriesTo : {I K P : Type 0} → (P → List ℕ → List ℕ) → Bool → Bool → (I → Look) → (K → Look) → LinkWorld I K P → LinkWorld I K P → Type 0
+CarriesTo rest in_tells out_tells input output v w =
+    CarriesOn rest in_tells out_tells (input v.input) (input w.input) (output v.output) (output w.output)
+    v.driven.chain w.driven.chain v.aborted w.aborted
+
+-- All that the input gave, which has nothing left, was written through the chain to the output.
+pub record HasWritten {P : Type 0} (rest : P → List ℕ → List ℕ) (i j o p : Look) (c : ChainState P) : Type 0 where
+  pub gave : List ℕ
+  pub given : j.given ≡ i.given ++ gave
+  pub left : j.left ≡ []
+  pub taken : p.taken ≡ o.taken ++ flow rest c gave
+
+-- So it was where nothing was lost and the chain was not aborted, for links that tell.
+abbrev pub WritesWhole : {I K P : Type 0} → (P → List ℕ → List ℕ) → Bool → Bool → (I → Look) → (K → Look) → LinkWorld I K P → LinkWorld I K P → Type 0
+WritesWhole rest in_tells out_tells input output v w =
+    w.driven.running ≡ true → w.aborted ≡ false → v.driven.chain.given ≡ false → in_tells ≡ true → out_tells ≡ true
+    → HasWritten rest (input v.input) (input w.input) (output v.output) (output w.output) v.driven.chain

@@ -155,6 +155,20 @@ impl<P: Transform + Drop> Chain<P> {
         self.given = true;
     }
 
+    /// Whether its end was given.
+    pub fn is_given(&self) -> bool
+        ensures { result ≡ self.now.given }
+    {
+        self.given
+    }
+
+    /// Whether fewer than 65,536 bytes wait before its first stage.
+    pub fn has_room(&self) -> bool
+        ensures { IsTrue result ↔ (length self.now.first < MOST_WAITING) }
+    {
+        self.first.len() < MOST_WAITING
+    }
+
     /// Whether more may be given to it, and there is room before its first stage.
     pub fn must_read(&self) -> bool
         ensures { IsTrue result ↔ MustRead self.now }

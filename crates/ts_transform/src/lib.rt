@@ -1,6 +1,10 @@
 //! Transforms of a body, and chains of them (the Developer's Guide, "HTTP Transformation Plugin").
 #![tactic(auto)]
 
+mod link_drive;
+mod link_ends;
+#[cfg(test)]
+mod link_tests;
 mod chain;
 mod continuation;
 mod driven;
@@ -23,6 +27,7 @@ mod world_tests;
 
 pub use chain::Chain;
 pub use driven::DrivenChain;
+pub use link_drive::drive_links;
 pub use link_world::LinkWorld;
 pub use loss::Loss;
 pub use pump::Pumped;

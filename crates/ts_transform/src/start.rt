@@ -55,8 +55,8 @@ fn make_all(
     ensures grows { Grows cx.old cx.new }
     ensures turn { cx.new.log.state.held ≡ true }
     ensures events { SameEvents cx.old.log.state cx.new.log.state }
-    ensures len { OnOk result (length table.new.items ≡ stages) }
-    ensures of_stages { OnOk result (AreOfStages cx.new.log.state.pending cx.new.roles first table.new.items) }
+    ensures ok { OnOk result ((length table.new.items ≡ stages)
+        × AreOfStages cx.new.log.state.pending cx.new.roles first table.new.items) }
     ensures cause { IfErr result (λ fault. IsCauseOf (making_loss fault) cx.new) }
     ensures made { KeepsMade cx.old cx.new }
 {

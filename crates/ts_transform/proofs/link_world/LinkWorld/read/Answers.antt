@@ -1,27 +1,37 @@
 use Rattle.std.proofs.Common.{◌≡◌, ◌<◌, true, false, length, refl, sym, ap, subst, inl, inr, rules, ◌∙◌}
 use Rattle.ts_link.specs.Counts.{Counted}
 use Rattle.ts_vconn.specs.MoveAnswers.{EndsPull, pull_failed}
-use Rattle.ts_transform.specs.Flow.{MustRead}
+use Rattle.ts_transform.specs.Flow.{MOST_WAITING, MustRead}
 use Rattle.ts_transform.specs.Carrying.{MovesOn}
 use Rattle.ts_transform.proofs.Carrying.{moves_aborted, moves_as, moves_none, moves_pull}
 use Rattle.ts_transform.proofs.Joined.{aborted_same, joined_aborted, joined_as, joined_driven, runs_before}
 use Rattle.ts_transform.proofs.Kept.{acts_none}
 use Rattle.ts_transform.proofs.link_world.LinkWorld.read.Goals as goal
 
--- There is no room, or nothing more comes.
-pub returns-then-not-must_read-clause-moves : goal.returns-then-not-must_read-clause-moves
-returns-then-not-must_read-clause-moves g c =
+-- The end was given.
+pub returns-then-is_given-clause-moves : goal.returns-then-is_given-clause-moves
+returns-then-is_given-clause-moves g c =
     let self = c.args.self.now in
     moves_none g.P.Transform.rest g.I.Link.tells g.K.Link.tells (g.I.Link.look self.input) (g.K.Link.look self.output) self.driven.chain self.aborted ⊥
 
-pub returns-then-not-must_read-clause-within : goal.returns-then-not-must_read-clause-within
-returns-then-not-must_read-clause-within g c = acts_none 1 c.args.cx.now c.requires.turn
+pub returns-then-is_given-clause-within : goal.returns-then-is_given-clause-within
+returns-then-is_given-clause-within g c = acts_none 1 c.args.cx.now c.requires.turn
+
+-- There is no room.
+pub returns-then-not-has_room-clause-moves : goal.returns-then-not-has_room-clause-moves
+returns-then-not-has_room-clause-moves g c =
+    let self = c.args.self.now in
+    moves_none g.P.Transform.rest g.I.Link.tells g.K.Link.tells (g.I.Link.look self.input) (g.K.Link.look self.output) self.driven.chain self.aborted ⊥
+
+pub returns-then-not-has_room-clause-within : goal.returns-then-not-has_room-clause-within
+returns-then-not-has_room-clause-within g c = acts_none 1 c.args.cx.now c.requires.turn
 
 -- Bytes came.
 pub returns-in-Ok-Some-clause-moves : goal.returns-in-Ok-Some-clause-moves
 returns-in-Ok-Some-clause-moves g c =
     let self = c.args.self.now in
-    let must : MustRead self.driven.chain = search rules in
+    let room : length self.driven.chain.first < MOST_WAITING = search rules in
+    let must : MustRead self.driven.chain = (sym c.is_given.ensures ∙ c.if-is_given.false, room) in
     let pulled = c.pull.new.self in
     let kept = c.in-Ok-Some.ensures.kept in
     subst (λ x. MovesOn g.P.Transform.rest g.I.Link.tells g.K.Link.tells (g.I.Link.look self.input) (g.I.Link.look c.pull.new.link) (g.K.Link.look self.output) (g.K.Link.look self.output) self.driven.chain x
@@ -41,7 +51,8 @@ returns-in-Ok-Some-clause-joined g c = λ was runs.
 pub returns-in-Ok-End-clause-moves : goal.returns-in-Ok-End-clause-moves
 returns-in-Ok-End-clause-moves g c =
     let self = c.args.self.now in
-    let must : MustRead self.driven.chain = search rules in
+    let room : length self.driven.chain.first < MOST_WAITING = search rules in
+    let must : MustRead self.driven.chain = (sym c.is_given.ensures ∙ c.if-is_given.false, room) in
     let pulled = c.pull.new.self in
     subst (λ x. MovesOn g.P.Transform.rest g.I.Link.tells g.K.Link.tells (g.I.Link.look self.input) (g.I.Link.look c.pull.new.link) (g.K.Link.look self.output) (g.K.Link.look self.output) self.driven.chain x
     self.aborted self.aborted ⊥) (sym c.give_end-told.ensures.chain)
@@ -53,7 +64,8 @@ returns-in-Ok-End-clause-moves g c =
 pub returns-in-Ok-Again-clause-moves : goal.returns-in-Ok-Again-clause-moves
 returns-in-Ok-Again-clause-moves g c =
     let self = c.args.self.now in
-    let must : MustRead self.driven.chain = search rules in
+    let room : length self.driven.chain.first < MOST_WAITING = search rules in
+    let must : MustRead self.driven.chain = (sym c.is_given.ensures ∙ c.if-is_given.false, room) in
     let same = c.rouse_reader.ensures.same in
     let now = c.rouse_reader.new.self in
     let kept = c.in-Ok-Again.ensures.kept in
@@ -63,7 +75,7 @@ returns-in-Ok-Again-clause-moves g c =
     c.in-Ok-Again.ensures.pulled kept.0 must.0 must.1 (λ given. absurd (let wrong : false ≡ true = sym must.0 ∙ sym kept.1 ∙ given in cc)))
 
 pub returns-in-Ok-Again-clause-retries : goal.returns-in-Ok-Again-clause-retries
-returns-in-Ok-Again-clause-retries g c = λ named waited. c.rouse_reader.ensures.only named
+returns-in-Ok-Again-clause-retries g c = λ named waited. record { roused = λ runs. c.rouse_reader.ensures.roused runs refl; only = c.rouse_reader.ensures.only named }
 
 -- It failed.
 pub returns-in-Ok-Failed-clause-moves : goal.returns-in-Ok-Failed-clause-moves

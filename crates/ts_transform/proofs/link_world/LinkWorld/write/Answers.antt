@@ -33,7 +33,7 @@ returns-in-Again-clause-moves g c =
     (λ tells. (c.in-Again.ensures.writes.told tells).taken))
 
 pub returns-in-Again-clause-retries : goal.returns-in-Again-clause-retries
-returns-in-Again-clause-retries g c = λ named waited. c.rouse_writer.ensures.only named
+returns-in-Again-clause-retries g c = λ named waited. record { roused = λ runs. c.rouse_writer.ensures.roused runs refl; only = c.rouse_writer.ensures.only named }
 
 -- It failed.
 pub returns-in-Failed-clause-moves : goal.returns-in-Failed-clause-moves
