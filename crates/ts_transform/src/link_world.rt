@@ -186,7 +186,7 @@ impl<I: Link + Drop, K: Link + Drop, P: Transform + Drop> LinkWorld<I, K, P> {
         ensures within { ActsWithin 1 cx.old cx.new }
         ensures retries { IsNamedIf cx.old.roles 2 self.old.reader
             → Retries (I.look self.old.input) (I.look self.new.input)
-                self.new.reader self.new.driven.running 2 cx.old cx.new }
+            self.new.reader self.new.driven.running 2 cx.old cx.new }
     {
         if self.driven.chain.is_given() {
             return;
@@ -219,7 +219,7 @@ impl<I: Link + Drop, K: Link + Drop, P: Transform + Drop> LinkWorld<I, K, P> {
         ensures within { ActsWithin 1 cx.old cx.new }
         ensures retries { IsNamedIf cx.old.roles 1 self.old.writer
             → Retries (K.look self.old.output) (K.look self.new.output)
-                self.new.writer self.new.driven.running 1 cx.old cx.new }
+            self.new.writer self.new.driven.running 1 cx.old cx.new }
     {
         let Some(block) = self.driven.chain.out_block() else {
             return;
