@@ -4,7 +4,8 @@ use Rattle.std.proofs.lemmas.List.{take-take}
 use Rattle.ts_journal.specs.declared.entry.Pending.{Pending}
 use Rattle.ts_group.specs.declared.action.Named.{Named}
 use Rattle.ts_transform.specs.declared.world.ChainWorld.{ChainWorld}
-use Rattle.ts_transform.specs.Cover.{IsSound, IsAwake}
+use Rattle.ts_transform.specs.Cover.{IsAwake}
+use Rattle.ts_transform.specs.World.{IsSound}
 use Rattle.ts_proxy.specs.Driven.{Passes, StaysSound}
 
 pub stays_refl : {P : Type 0} (w : ChainWorld P) → StaysSound w w
@@ -12,8 +13,8 @@ stays_refl w = record { sound = λ pending roles awake s. s; awake = λ awake. a
 
 -- its client takes some more
 pub stays_taken : {P : Type 0} (u v w : ChainWorld P) → StaysSound u v
-    → ((pending : List Pending) (roles : List Named) → IsSound v pending roles → (v.running ≡ true → IsAwake v.chain v.table.items) → IsSound w pending roles)
-    → (IsAwake v.chain v.table.items → IsAwake w.chain w.table.items) → w.running ≡ v.running → StaysSound u w
+    → ((pending : List Pending) (roles : List Named) → IsSound v pending roles → (v.driven.running ≡ true → IsAwake v.driven.chain v.driven.table.items) → IsSound w pending roles)
+    → (IsAwake v.driven.chain v.driven.table.items → IsAwake w.driven.chain w.driven.table.items) → w.driven.running ≡ v.driven.running → StaysSound u w
 stays_taken u v w h sound awake same = record {
   sound = λ pending roles woken s. sound pending roles (h.sound pending roles woken s) (h.awake woken);
   awake = λ woken runs. awake (h.awake woken (sym same ∙ runs));
@@ -22,11 +23,11 @@ stays_taken u v w h sound awake same = record {
 -- a world that was woken is sound after its client has taken bytes
 pub drained : {P : Type 0} (was before now : ChainWorld P) (pending : List Pending) (roles : List Named) → before ≡ was
     → StaysSound before now
-    → (was.running ≡ true → IsAwake was.chain was.table.items) → IsSound was pending roles
+    → (was.driven.running ≡ true → IsAwake was.driven.chain was.driven.table.items) → IsSound was pending roles
     → IsSound now pending roles
 drained was before now pending roles same h awake s =
     h.sound pending roles
-    (subst (λ w. w.running ≡ true → IsAwake w.chain w.table.items) (sym same) awake)
+    (subst (λ w. w.driven.running ≡ true → IsAwake w.driven.chain w.driven.table.items) (sym same) awake)
     (subst (λ w. IsSound w pending roles) (sym same) s)
 
 -- more was taken

@@ -9,7 +9,8 @@ use Rattle.ts_group.specs.declared.action.Named.{Named}
 use Rattle.ts_transform.specs.declared.world.ChainWorld.{ChainWorld}
 use Rattle.ts_transform.specs.Flow.{left_to_do}
 use Rattle.ts_transform.specs.Driving.{errors_to_pass}
-use Rattle.ts_transform.specs.Cover.{IsSound, IsAwake}
+use Rattle.ts_transform.specs.Cover.{IsAwake}
+use Rattle.ts_transform.specs.World.{IsSound}
 use Rattle.ts_proxy.specs.Journals.{IsOfDriver}
 use Rattle.ts_proxy.specs.Took.{TookFront}
 
@@ -43,12 +44,12 @@ pub record Passes (old new flow flow' : List ℕ) : Type 0 where
 
 -- a world of a chain that is sound stays so, if its last stage was woken where that was needed, and needs no waking then
 pub record StaysSound {P : Type 0} (v w : ChainWorld P) : Type 0 where
-  pub sound : (pending : List Pending) (roles : List Named) → (v.running ≡ true → IsAwake v.chain v.table.items) → IsSound v pending roles → IsSound w pending roles
-  pub awake : (v.running ≡ true → IsAwake v.chain v.table.items) → w.running ≡ true → IsAwake w.chain w.table.items
+  pub sound : (pending : List Pending) (roles : List Named) → (v.driven.running ≡ true → IsAwake v.driven.chain v.driven.table.items) → IsSound v pending roles → IsSound w pending roles
+  pub awake : (v.driven.running ≡ true → IsAwake v.driven.chain v.driven.table.items) → w.driven.running ≡ true → IsAwake w.driven.chain w.driven.table.items
 
 -- what a world of a chain has left to do, but for its pending events
 abbrev pub left_of : {P : Type 0} → (P → List ℕ → List ℕ) → ChainWorld P → ℕ
-left_of rest w = 100 * (left_to_do rest w.chain [] + errors_to_pass w.table.items)
+left_of rest w = 100 * (left_to_do rest w.driven.chain [] + errors_to_pass w.driven.table.items)
 
 -- the event of a number is pending, and due at a moment
 pub record IsDue (s : State) (number moment : ℕ) : Type 0 where

@@ -5,7 +5,8 @@ ghost use Rattle.ts_journal.specs.declared.entry.Pending.{Pending};
 ghost use Rattle.ts_group.specs.declared.action.Named.{Named};
 ghost use Rattle.ts_group.specs.Context.{AllPlain};
 ghost use Rattle.ts_transform.specs.Flow.{flow, last_wait};
-ghost use Rattle.ts_transform.specs.Cover.{IsSound, IsSoundGroup, IsAwake};
+ghost use Rattle.ts_transform.specs.Cover.{IsAwake};
+ghost use Rattle.ts_transform.specs.World.{IsSound, IsSoundGroup};
 ghost use Rattle.ts_proxy.specs.Journals.{moment_of, IsNext, HandlesWithin, GoesOnSerially};
 ghost use Rattle.ts_proxy.specs.Driven.{WroteAll, Passes, OnDone, AddsJournal, StaysSound, IsDue, is_failed, is_no_memory, left_of};
 
@@ -45,11 +46,11 @@ pub fn write_all<K: Sink>(out: &mut K, text: &[u8]) -> Driven
 
 // Writes what waits for the client.
 fn drain<P: Transform + Drop, K: Sink>(world: &mut ChainWorld<P>, out: &mut K) -> Driven
-    ensures told { K.tells ≡ true → Passes (K.taken out.old) (K.taken out.new) (flow P.rest world.old.chain []) (flow P.rest world.new.chain []) }
+    ensures told { K.tells ≡ true → Passes (K.taken out.old) (K.taken out.new) (flow P.rest world.old.driven.chain []) (flow P.rest world.new.driven.chain []) }
     ensures faults { Counted (is_failed result) (K.faults out.old) (K.faults out.new) }
-    ensures dry { OnDone result (last_wait world.new.chain.first world.new.chain.stages ≡ []) }
-    ensures falls { left_of P.rest world.new + length (last_wait world.old.chain.first world.old.chain.stages)
-        ≤ left_of P.rest world.old + length (last_wait world.new.chain.first world.new.chain.stages) }
+    ensures dry { OnDone result (last_wait world.new.driven.chain.first world.new.driven.chain.stages ≡ []) }
+    ensures falls { left_of P.rest world.new + length (last_wait world.old.driven.chain.first world.old.driven.chain.stages)
+        ≤ left_of P.rest world.old + length (last_wait world.new.driven.chain.first world.new.driven.chain.stages) }
     ensures stays { StaysSound world.old world.new }
 {
     while let Some(block) = world.chain().out_block() {
@@ -76,12 +77,12 @@ fn handle<P: Transform + Drop>(
     ensures turns { group.new.cx.log.state.turns ≡ group.old.cx.log.state.turns }
     ensures within { OnOk result (HandlesWithin group.old.cx.log group.new.cx.log) }
     ensures moment { OnOk result (moment_of group.new.cx.log ≡ moment) }
-    ensures flow { flow P.rest group.new.world.chain [] ≡ flow P.rest group.old.world.chain [] }
+    ensures flow { flow P.rest group.new.world.driven.chain [] ≡ flow P.rest group.old.world.driven.chain [] }
     ensures sound { OnOk result (IsSoundGroup group.new) }
-    ensures awake { OnOk result (group.new.world.running ≡ true → IsAwake group.new.world.chain group.new.world.table.items) }
+    ensures awake { OnOk result (group.new.world.driven.running ≡ true → IsAwake group.new.world.driven.chain group.new.world.driven.table.items) }
     ensures falls { OnOk result (left_of P.rest group.new.world + length group.new.cx.log.state.pending
         < left_of P.rest group.old.world + length group.old.cx.log.state.pending
-        + (if nat_lt 0 (length (last_wait group.new.world.chain.first group.new.world.chain.stages)) then 1 else 0)) }
+        + (if nat_lt 0 (length (last_wait group.new.world.driven.chain.first group.new.world.driven.chain.stages)) then 1 else 0)) }
 {
     match group.handle(number, moment) {
         Ok(Handling::Handled { events: _ }) => match ChainWorld::wake(group) {
@@ -106,12 +107,12 @@ fn take_turn<P: Transform + Drop>(
     ensures idle { group.new.cx.log.state.held ≡ false }
     ensures serial { OnOk result (GoesOnSerially group.old.cx.log group.new.cx.log) }
     ensures moment { OnOk result (moment_of group.new.cx.log ≡ moment) }
-    ensures flow { flow P.rest group.new.world.chain [] ≡ flow P.rest group.old.world.chain [] }
+    ensures flow { flow P.rest group.new.world.driven.chain [] ≡ flow P.rest group.old.world.driven.chain [] }
     ensures sound { OnOk result (IsSoundGroup group.new) }
-    ensures awake { OnOk result (group.new.world.running ≡ true → IsAwake group.new.world.chain group.new.world.table.items) }
+    ensures awake { OnOk result (group.new.world.driven.running ≡ true → IsAwake group.new.world.driven.chain group.new.world.driven.table.items) }
     ensures falls { OnOk result (left_of P.rest group.new.world + length group.new.cx.log.state.pending
         < left_of P.rest group.old.world + length group.old.cx.log.state.pending
-        + (if nat_lt 0 (length (last_wait group.new.world.chain.first group.new.world.chain.stages)) then 1 else 0)) }
+        + (if nat_lt 0 (length (last_wait group.new.world.driven.chain.first group.new.world.driven.chain.stages)) then 1 else 0)) }
 {
     let Some(turn) = group.journal().turns().checked_add(1) else {
         return Err(NoMemory);
@@ -131,9 +132,9 @@ fn start<P: Transform + Drop>(group: &mut Group<ChainWorld<P>>) -> Result<(), No
     ensures serial { OnOk result (GoesOnSerially group.old.cx.log group.new.cx.log) }
     ensures moment { OnOk result (moment_of group.new.cx.log ≡ moment_of group.old.cx.log) }
     ensures begins { OnOk result (group.new.cx.moment ≡ 0) }
-    ensures flow { flow P.rest group.new.world.chain [] ≡ flow P.rest group.old.world.chain [] }
+    ensures flow { flow P.rest group.new.world.driven.chain [] ≡ flow P.rest group.old.world.driven.chain [] }
     ensures sound { OnOk result (IsSoundGroup group.new) }
-    ensures awake { OnOk result (group.new.world.running ≡ true → IsAwake group.new.world.chain group.new.world.table.items) }
+    ensures awake { OnOk result (group.new.world.driven.running ≡ true → IsAwake group.new.world.driven.chain group.new.world.driven.table.items) }
 {
     let Some(turn) = group.journal().turns().checked_add(1) else {
         return Err(NoMemory);
@@ -155,10 +156,10 @@ fn run_events<P: Transform + Drop, K: Sink>(group: &mut Group<ChainWorld<P>>, ou
     requires idle { group.old.cx.log.state.held ≡ false }
     requires fresh { moment_of group.old.cx.log ≡ 0 }
     requires sound { IsSoundGroup group.old }
-    requires dry { last_wait group.old.world.chain.first group.old.world.chain.stages ≡ [] }
-    ensures told { K.tells ≡ true → Passes (K.taken out.old) (K.taken out.new) (flow P.rest group.old.world.chain []) (flow P.rest group.new.world.chain []) }
+    requires dry { last_wait group.old.world.driven.chain.first group.old.world.driven.chain.stages ≡ [] }
+    ensures told { K.tells ≡ true → Passes (K.taken out.old) (K.taken out.new) (flow P.rest group.old.world.driven.chain []) (flow P.rest group.new.world.driven.chain []) }
     ensures faults { Counted (is_failed result) (K.faults out.old) (K.faults out.new) }
-    ensures done { OnDone result (flow P.rest group.new.world.chain [] ≡ []) }
+    ensures done { OnDone result (flow P.rest group.new.world.driven.chain [] ≡ []) }
     ensures idle { group.new.cx.log.state.held ≡ false }
     ensures serial { OnDone result (GoesOnSerially group.old.cx.log group.new.cx.log) }
     ensures none { OnDone result (group.new.cx.log.state.pending ≡ []) }
@@ -192,7 +193,7 @@ fn drive_group<P: Transform + Drop, K: Sink>(
     requires first { group.old.cx.log.state.turns ≡ 0 }
     requires fresh { moment_of group.old.cx.log ≡ 0 }
     requires sound { IsSoundGroup group.old }
-    ensures told { K.tells ≡ true → WroteAll result (K.taken out.old) (K.taken out.new) (flow P.rest group.old.world.chain []) }
+    ensures told { K.tells ≡ true → WroteAll result (K.taken out.old) (K.taken out.new) (flow P.rest group.old.world.driven.chain []) }
     ensures faults { Counted (is_failed result) (K.faults out.old) (K.faults out.new) }
     ensures idle { group.new.cx.log.state.held ≡ false }
     ensures serial { OnDone result (GoesOnSerially group.old.cx.log group.new.cx.log) }
@@ -217,7 +218,7 @@ pub fn drive<P: Transform + Drop, K: Sink>(
     journals: &mut Vec<Journal>,
 ) -> Driven
     requires sound { (pending : List Pending) → (roles : List Named) → AllPlain pending → IsSound world pending roles }
-    ensures told { K.tells ≡ true → WroteAll result (K.taken out.old) (K.taken out.new) (flow P.rest world.chain []) }
+    ensures told { K.tells ≡ true → WroteAll result (K.taken out.old) (K.taken out.new) (flow P.rest world.driven.chain []) }
     ensures faults { Counted (is_failed result) (K.faults out.old) (K.faults out.new) }
     ensures journals { AddsJournal result journals.old.items journals.new.items }
 {

@@ -4,7 +4,7 @@ ghost use Rattle.ts_transform.specs.Flow.{flow, compose};
 ghost use Rattle.ts_journal.specs.declared.entry.Pending.{Pending};
 ghost use Rattle.ts_group.specs.declared.action.Named.{Named};
 ghost use Rattle.ts_group.specs.Context.{AllPlain};
-ghost use Rattle.ts_transform.specs.Cover.{IsSound};
+ghost use Rattle.ts_transform.specs.World.{IsSound};
 ghost use Rattle.ts_config.specs.Bodies.{compose_lines};
 ghost use Rattle.ts_stock.specs.Stock.{still_writes};
 
@@ -30,7 +30,7 @@ pub fn world_of(
     lines: &[TransformLine],
     body: Octets,
 ) -> Result<ChainWorld<Stock>, NoMemory>
-    ensures flow { IfOk result (λ w. flow still_writes w.chain [] ≡ compose_lines lines.now body) }
+    ensures flow { IfOk result (λ w. flow still_writes w.driven.chain [] ≡ compose_lines lines.now body) }
     ensures sound { IfOk result (λ w. (pending : List Pending) → (roles : List Named) → AllPlain pending → IsSound w pending roles) }
 {
     let parts = fresh_parts(alloc, lines)?;

@@ -62,7 +62,7 @@ impl Transform for Stock {
 
     ghost whole = { whole_of };
 
-    ghost wait = { pause_of };
+    ghost pause = { pause_of };
 
     fn fresh(alloc: Global, line: &TransformLine) -> Result<Stock, NoMemory>
         ensures rest { IfOk result (λ s. (z : List ℕ) → still_writes s z ≡ whole_of line.now z) }

@@ -1,5 +1,5 @@
 -- A stage that has ended loses its continuation, and no other stage does.
-use Rattle.std.proofs.Common.{◌≡◌, ◌≢◌, ℕ, zero, suc, ◌+◌, ◌<◌, ◌&&◌, ◌==◌, ◌⊎◌, inl, inr, List, [], ◌∷◌, Bool, true, false, Option, Some, None, eqb, slice_get, length, arith, refl, sym, ap, subst, ◌∙◌}
+use Rattle.std.proofs.Common.{◌≡◌, ◌≢◌, ℕ, zero, suc, ◌+◌, ◌<◌, ◌≤◌, ◌&&◌, ◌==◌, ◌⊎◌, inl, inr, List, [], ◌∷◌, Bool, true, false, Option, Some, None, eqb, slice_get, length, arith, refl, sym, ap, subst, ◌∙◌}
 use Rattle.std.proofs.lemmas.Bool.{ne_eqb}
 use Rattle.std.proofs.lemmas.Bool.Decides.{eqb_tells}
 use Rattle.ts_journal.specs.declared.entry.ContKey.{ContKey}
@@ -12,9 +12,10 @@ use Rattle.ts_transform.specs.declared.continuation.StageContinuation.{StageCont
 use Rattle.ts_transform.specs.declared.pump.Stage.{Stage}
 use Rattle.ts_transform.specs.Stage.{has_ended, has_work}
 use Rattle.ts_transform.specs.Flow.{ChainState, MustPump, ended_at}
-use Rattle.ts_transform.specs.Driving.{HasEvent, IsOfStage, IsOfStageIf, AreOfStages, IsRoused, gone, changed}
+use Rattle.ts_transform.specs.Driving.{HasEvent, IsNamedIf, AreNamed, IsOfStage, IsOfStageIf, AreOfStages, IsRoused, Keeps, KeepsOthers, gone, changed}
 use Rattle.ts_transform.specs.Cover.{IsDriven, IsDrivenBut}
 use Rattle.ts_transform.proofs.Handled.{length-changed, roused-changed}
+use Rattle.ts_transform.proofs.Kept.{kept_if}
 
 -- keys of two indexes differ
 other_key : (a b : ContKey) → a.index ≢ b.index → same_key a b ≡ false
@@ -86,6 +87,35 @@ closed_dead a b role at ts same s =
     subst (λ rs. AreOfStages b.log.state.pending rs role (changed gone ts at)) (sym same.roles)
     (subst (λ st. AreOfStages st.pending a.roles role (changed gone ts at)) (sym same.log.state) (gone_at a.log.state.pending a.roles role at ts s))
 
+-- a continuation of a role outside those of the stages keeps its role and its event
+named_place : (roles : List Named) (role at : ℕ) (ts : List (Option StageContinuation)) (t : StageContinuation) → slice_get ts at ≡ Some (Some t) → AreNamed roles role ts
+    → (role_at t.key.index roles ≡ Some (role + at)) × (at < length ts)
+named_place roles role at [] t is named = absurd (let wrong : ◌≡◌ {A = Option (Option StageContinuation)} None (Some (Some t)) = is in cc)
+named_place roles role zero (u ∷ ts) t is (here, others) = (by_head u (let same : u ≡ Some t = cc in same) here, omega arith)
+  where
+    by_head : (u : Option StageContinuation) → u ≡ Some t → IsNamedIf roles role u → role_at t.key.index roles ≡ Some (role + zero)
+    by_head u e h = let s : role_at t.key.index roles ≡ Some role = subst (IsNamedIf roles role) e h in s ∙ ap Some (omega arith)
+named_place roles role (suc at) (u ∷ ts) t is (here, others) =
+    let behind = named_place roles (role + 1) at ts t is others in
+    (behind.0 ∙ ap Some (omega arith), omega (arith, behind.1))
+
+pub others_lost : (first at : ℕ) (ts : List (Option StageContinuation)) (t : StageContinuation) (a b : Context) → slice_get ts at ≡ Some (Some t) → HasLost a.log.state b.log.state a.roles b.roles t.key
+    → KeepsOthers first ts a b
+others_lost first at ts t a b is lost role u named outside s =
+    let place = named_place a.roles first at ts t is named in
+    lost_if a b t.key (first + at) role u lost place.0 (λ e. not_within outside e place.1) s
+  where
+    not_within : (role < first) ⊎ (first + length ts ≤ role) → role ≡ first + at → at < length ts → ⊥
+    not_within (inl below) e within = omega (arith, below, e)
+    not_within (inr above) e within = omega (arith, above, e, within)
+
+pub others_same : (first : ℕ) (ts : List (Option StageContinuation)) (a b : Context) → IsSame a b → KeepsOthers first ts a b
+others_same first ts a b same role u named outside s =
+    subst (λ rs. IsOfStageIf b.log.state.pending rs role u) (sym same.roles) (subst (λ st. IsOfStageIf st.pending a.roles role u) (sym same.log.state) s)
+
+pub others_kept : (first : ℕ) (ts : List (Option StageContinuation)) (a b : Context) → Keeps a b → KeepsOthers first ts a b
+others_kept first ts a b keeps role u named outside s = kept_if a b keeps role u s
+
 -- a stage that has ended need not work
 ended-rests : {P : Type 0} (up : Bool) (from : List ℕ) (ss : List (Stage P)) (at : ℕ) → ended_at ss at ≡ true → MustPump up from ss at → ⊥
 ended-rests up from [] at ended must = must
@@ -93,10 +123,10 @@ ended-rests up from (s ∷ ss) zero ended (work, room) = let wrong : has_work tr
 ended-rests up from (s ∷ ss) (suc at) ended must = ended-rests (has_ended s) s.after ss at ended must
 
 -- so the others are driven without its continuation
-pub closed_driven : {P : Type 0} (a b : Context) (c : ChainState P) (ts us : List (Option StageContinuation)) (at : ℕ) → ended_at c.stages at ≡ true → us ≡ changed gone ts at
-    → (AreOfStages a.log.state.pending a.roles 1 ts → AreOfStages b.log.state.pending b.roles 1 us)
-    → IsDrivenBut at c ts a.log.state.pending a.roles → IsDriven c us b.log.state.pending b.roles
-closed_driven {P} a b c ts us at ended is of_stages s = record { len = ap length is ∙ length-changed gone ts at ∙ s.len; of_stages = of_stages s.of_stages; cover = cover }
+pub closed_driven : {P : Type 0} (first : ℕ) (a b : Context) (c : ChainState P) (ts us : List (Option StageContinuation)) (at : ℕ) → ended_at c.stages at ≡ true → us ≡ changed gone ts at
+    → (AreOfStages a.log.state.pending a.roles first ts → AreOfStages b.log.state.pending b.roles first us)
+    → IsDrivenBut first at c ts a.log.state.pending a.roles → IsDriven first c us b.log.state.pending b.roles
+closed_driven {P} first a b c ts us at ended is of_stages s = record { len = ap length is ∙ length-changed gone ts at ∙ s.len; of_stages = of_stages s.of_stages; cover = cover }
   where
     cover : (j : ℕ) → MustPump c.given c.first c.stages j → IsRoused us j
     cover j must = by_place (eqb_tells j at)

@@ -12,7 +12,8 @@ use Rattle.ts_transform.specs.declared.pump.Pumped.TheVariants.{Moved, Ended, Bl
 use Rattle.ts_transform.specs.Stage.{has_ended, has_work, AnswersIf, AnswersWork}
 use Rattle.ts_transform.specs.Flow.{ChainState, HasWork, MustPump, AnswersAt, StepsAt, ended_at, last_ended, last_wait}
 use Rattle.ts_transform.specs.Driving.{AreOfStages, IsRoused, HasEventIf, Keeps}
-use Rattle.ts_transform.specs.Cover.{Cover, CoverBut, IsRoundRoused, IsDriven, IsDrivenBut, IsDrivenFor, IsCovered, IsAwake}
+use Rattle.ts_transform.specs.Cover.{Cover, CoverBut, IsRoundRoused, IsDriven, IsDrivenBut, IsDrivenFor, IsAwake}
+use Rattle.ts_transform.specs.World.{IsCovered}
 use Rattle.ts_transform.proofs.Kept.{kept_all}
 
 -- a stage moves one byte at least
@@ -117,21 +118,21 @@ covered rest c d ts us at r steps given cover still round j must = by_self (eqb_
     by_self (inr (t, not_self)) = by_after (eqb_tells j (at + 1)) not_self
 
 -- the same of all that holds of driven stages
-pub worked : {P : Type 0} (rest : P → List ℕ → List ℕ) (a b : Context) (c d : ChainState P) (ts us : List (Option StageContinuation)) (at : ℕ) (r : Pumped)
+pub worked : {P : Type 0} (rest : P → List ℕ → List ℕ) (first : ℕ) (a b : Context) (c d : ChainState P) (ts us : List (Option StageContinuation)) (at : ℕ) (r : Pumped)
     → StepsAt rest c.first c.stages at r d.first d.stages → d.given ≡ c.given → length d.stages ≡ length c.stages → length us ≡ length ts
-    → (AreOfStages a.log.state.pending a.roles 1 ts → AreOfStages b.log.state.pending b.roles 1 us)
+    → (AreOfStages a.log.state.pending a.roles first ts → AreOfStages b.log.state.pending b.roles first us)
     → ((j : ℕ) → IsRoused ts j → IsRoused us j) → IsRoundRoused d us at
-    → IsDrivenBut at c ts a.log.state.pending a.roles → IsDriven d us b.log.state.pending b.roles
-worked rest a b c d ts us at r steps given stages len of_stages still round h = record {
+    → IsDrivenBut first at c ts a.log.state.pending a.roles → IsDriven first d us b.log.state.pending b.roles
+worked rest first a b c d ts us at r steps given stages len of_stages still round h = record {
   len = len ∙ h.len ∙ sym stages;
   of_stages = of_stages h.of_stages;
   cover = covered rest c d ts us at r steps given h.cover still round;
 }
 
 -- a stage that rests need not work, so all are roused that must work
-pub rested : {P : Type 0} (c d : ChainState P) (ts : List (Option StageContinuation)) (at : ℕ) (r : Pumped) (pending : List Pending) (roles : List Named)
-    → IsResting r → AnswersAt c.given c.first c.stages at r → d ≡ c → IsDrivenBut at c ts pending roles → IsDriven d ts pending roles
-rested c d ts at r pending roles rests answers same h = subst (λ x. IsDriven x ts pending roles) (sym same) (record { len = h.len; of_stages = h.of_stages; cover = all })
+pub rested : {P : Type 0} (first : ℕ) (c d : ChainState P) (ts : List (Option StageContinuation)) (at : ℕ) (r : Pumped) (pending : List Pending) (roles : List Named)
+    → IsResting r → AnswersAt c.given c.first c.stages at r → d ≡ c → IsDrivenBut first at c ts pending roles → IsDriven first d ts pending roles
+rested first c d ts at r pending roles rests answers same h = subst (λ x. IsDriven first x ts pending roles) (sym same) (record { len = h.len; of_stages = h.of_stages; cover = all })
   where
     all : (j : ℕ) → MustPump c.given c.first c.stages j → IsRoused ts j
     all j must = by_place (eqb_tells j at)
@@ -141,8 +142,9 @@ rested c d ts at r pending roles rests answers same h = subst (λ x. IsDriven x 
         by_place (inr (t, other)) = h.cover j other must
 
 -- more events leave driven stages driven
-pub driven_kept : {P : Type 0} (a b : Context) (c : ChainState P) (ts : List (Option StageContinuation)) → Keeps a b → IsDriven c ts a.log.state.pending a.roles → IsDriven c ts b.log.state.pending b.roles
-driven_kept a b c ts keeps h = record { len = h.len; of_stages = kept_all a b keeps 1 ts h.of_stages; cover = h.cover }
+pub driven_kept : {P : Type 0} (first : ℕ) (a b : Context) (c : ChainState P) (ts : List (Option StageContinuation)) → Keeps a b
+    → IsDriven first c ts a.log.state.pending a.roles → IsDriven first c ts b.log.state.pending b.roles
+driven_kept first a b c ts keeps h = record { len = h.len; of_stages = kept_all a b keeps first ts h.of_stages; cover = h.cover }
 
 -- what follows from what stands where a call answered Ok
 pub on_ok : {T E A B : Type 0} (r : Result T E) → OnOk r A → (A → B) → OnOk r B
@@ -154,15 +156,15 @@ any_ok (Ok x) b = b
 any_ok (Err e) b = tt
 
 -- what holds before the handler of a stage works, holds but for that stage
-pub driven_but : {P : Type 0} (b : Bool) (at : ℕ) (c : ChainState P) (ts : List (Option StageContinuation)) (pending : List Pending) (roles : List Named)
-    → IsDrivenFor b at c ts pending roles → IsDrivenBut at c ts pending roles
-driven_but true at c ts pending roles h = h
-driven_but false at c ts pending roles h = record { len = h.len; of_stages = h.of_stages; cover = λ j differ must. h.cover j must }
+pub driven_but : {P : Type 0} (b : Bool) (first at : ℕ) (c : ChainState P) (ts : List (Option StageContinuation)) (pending : List Pending) (roles : List Named)
+    → IsDrivenFor b first at c ts pending roles → IsDrivenBut first at c ts pending roles
+driven_but true first at c ts pending roles h = h
+driven_but false first at c ts pending roles h = record { len = h.len; of_stages = h.of_stages; cover = λ j differ must. h.cover j must }
 
-pub driven_quiet : {P : Type 0} (b : Bool) (at : ℕ) (c : ChainState P) (ts : List (Option StageContinuation)) (pending : List Pending) (roles : List Named)
-    → b ≡ false → IsDrivenFor b at c ts pending roles → IsDriven c ts pending roles
-driven_quiet true at c ts pending roles rests h = absurd (let wrong : true ≡ false = rests in cc)
-driven_quiet false at c ts pending roles rests h = h
+pub driven_quiet : {P : Type 0} (b : Bool) (first at : ℕ) (c : ChainState P) (ts : List (Option StageContinuation)) (pending : List Pending) (roles : List Named)
+    → b ≡ false → IsDrivenFor b first at c ts pending roles → IsDriven first c ts pending roles
+driven_quiet true first at c ts pending roles rests h = absurd (let wrong : true ≡ false = rests in cc)
+driven_quiet false first at c ts pending roles rests h = h
 
 -- the last stage is the one before the end
 last-place : {P : Type 0} (given : Bool) (s : Stage P) (ss : List (Stage P)) (j : ℕ) → j + 1 ≡ length (s ∷ ss) → ended_at (s ∷ ss) j ≡ last_ended given (s ∷ ss)
@@ -182,7 +184,7 @@ awake_unless_full c ts not_full j is goes full = absurd (not_full (last-goes c.s
 
 -- a sound world whose last stage was marked is sound once that has its event
 pub marked_sound : {P : Type 0} (a b : Context) (c d : ChainState P) (ts us : List (Option StageContinuation)) (was running : Bool) (key : Option ContKey)
-    → ((a b : Context) → Keeps a b → HasEventIf b.log.state.pending key → IsDriven c ts a.log.state.pending a.roles → IsDriven d us b.log.state.pending b.roles)
+    → ((a b : Context) → Keeps a b → HasEventIf b.log.state.pending key → IsDriven 1 c ts a.log.state.pending a.roles → IsDriven 1 d us b.log.state.pending b.roles)
     → d ≡ c → running ≡ was → length us ≡ length ts → Keeps a b → HasEventIf b.log.state.pending key
     → IsCovered c ts was a.log.state.pending a.roles → IsCovered d us running b.log.state.pending b.roles
 marked_sound a b c d ts us was running key marked same runs len keeps has s = record {
@@ -206,4 +208,4 @@ lost_sound a b c d ts us was running same len lost keeps s = record {
 pub sound_kept : {P : Type 0} (a b : Context) (c : ChainState P) (ts : List (Option StageContinuation)) (running : Bool) → Keeps a b
     → IsCovered c ts running a.log.state.pending a.roles → IsCovered c ts running b.log.state.pending b.roles
 sound_kept a b c ts running keeps s =
-    record { given = s.given; plain = keeps.plain s.plain; driven = λ runs. driven_kept a b c ts keeps (s.driven runs); fresh = s.fresh }
+    record { given = s.given; plain = keeps.plain s.plain; driven = λ runs. driven_kept 1 a b c ts keeps (s.driven runs); fresh = s.fresh }

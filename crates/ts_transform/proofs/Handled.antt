@@ -1,5 +1,6 @@
 -- What is left of the events of stages when one of them was handled.
-use Rattle.std.proofs.Common.{◌≡◌, ◌≢◌, ℕ, zero, suc, ◌+◌, ◌<◌, ◌≤◌, ◌⊎◌, inl, inr, List, [], ◌∷◌, Bool, true, false, Option, Some, None, length, arith, refl, sym, ap, ◌∙◌}
+use Rattle.std.proofs.Common.{◌≡◌, ◌≢◌, ℕ, zero, suc, ◌+◌, ◌-◌, ◌<◌, ◌≤◌, ◌⊎◌, nat_le, inl, inr, List, [], ◌∷◌, Bool, true, false, Option, Some, None, length, arith, refl, sym, ap, ◌∙◌}
+use Rattle.std.proofs.lemmas.Bool.Decides.{leb_tells}
 use Rattle.ts_journal.specs.declared.entry.Event.{Event}
 use Rattle.ts_journal.specs.declared.entry.Pending.{Pending}
 use Rattle.ts_journal.specs.State.{State, pending_at}
@@ -10,6 +11,7 @@ use Rattle.ts_transform.specs.declared.continuation.StageContinuation.{StageCont
 use Rattle.ts_transform.specs.Flow.{ChainState}
 use Rattle.ts_transform.specs.Driving.{works_at, HasEvent, IsOfStage, IsOfStageIf, AreOfStages, IsRoused, IsHandled, unroused, unroused_for, changed}
 use Rattle.ts_transform.specs.Cover.{IsDriven, IsDrivenBut, IsDrivenFor}
+use Rattle.ts_transform.specs.Acting.{IsStage}
 
 -- what a handler is called with
 pub handled_by : (Sound : State → List Named → Type 0) (now : Context) (role : ℕ) (event : Event) (c : IsCalled Sound now role event)
@@ -54,7 +56,7 @@ quiet before now roles role other event t h rests s = record {
     not_both : (e : HasEvent before t.key) → e.event ≡ h.handled → ⊥
     not_both e same = let wrong : true ≡ false = sym e.works ∙ ap (λ p. works_at p.event) same ∙ ap works_at h.event_is ∙ rests in cc
 
-stays_if : (before now : List Pending) (roles : List Named) (role other : ℕ) (event : Event) (t : Option StageContinuation)
+pub stays_if : (before now : List Pending) (roles : List Named) (role other : ℕ) (event : Event) (t : Option StageContinuation)
     → IsHandled before now roles other event → role ≢ other → IsOfStageIf before roles role t → IsOfStageIf now roles role t
 stays_if before now roles role other event None h differ s = tt
 stays_if before now roles role other event (Some t) h differ s = stays before now roles role other event t h differ s
@@ -73,7 +75,7 @@ stay_before before now roles role other event [] h above s = tt
 stay_before before now roles role other event (t ∷ ts) h above (here, others) =
     (stays_if before now roles role other event t h (λ e. omega (arith, e, above)) here, stay_before before now roles (role + 1) other event ts h (omega (arith, above)) others)
 
-unroused_if : (before now : List Pending) (roles : List Named) (role : ℕ) (t : Option StageContinuation) → IsOfStageIf before roles role t → IsOfStageIf now roles role (unroused t)
+pub unroused_if : (before now : List Pending) (roles : List Named) (role : ℕ) (t : Option StageContinuation) → IsOfStageIf before roles role t → IsOfStageIf now roles role (unroused t)
 unroused_if before now roles role None s = tt
 unroused_if before now roles role (Some t) s = record { named = s.named; event = λ roused. absurd (let wrong : false ≡ true = roused in cc) }
 
@@ -86,7 +88,7 @@ unrouse_at before now roles role zero other event (t ∷ ts) h is (here, others)
 unrouse_at before now roles role (suc at) other event (t ∷ ts) h is (here, others) =
     (stays_if before now roles role other event t h (λ e. omega (arith, e, is)) here, unrouse_at before now roles (role + 1) at other event ts h (omega (arith, is)) others)
 
-quiet_if : (before now : List Pending) (roles : List Named) (role other : ℕ) (event : Event) (t : Option StageContinuation)
+pub quiet_if : (before now : List Pending) (roles : List Named) (role other : ℕ) (event : Event) (t : Option StageContinuation)
     → IsHandled before now roles other event → works_at event ≡ false → IsOfStageIf before roles role t → IsOfStageIf now roles role t
 quiet_if before now roles role other event None h rests s = tt
 quiet_if before now roles role other event (Some t) h rests s = quiet before now roles role other event t h rests s
@@ -111,25 +113,35 @@ roused-changed f (t ∷ ts) (suc at) zero differ h = h
 roused-changed f (t ∷ ts) (suc at) (suc j) differ h = roused-changed f ts at j (λ e. differ (ap suc e)) h
 
 -- What holds when the handler of a stage begins, once its flag was cleared if it works at the event.
-begun_works : {P : Type 0} (c : ChainState P) (ts : List (Option StageContinuation)) (before now : List Pending) (roles : List Named) (at role : ℕ) (event : Event)
-    → IsHandled before now roles role event → role ≡ at + 1 → IsDriven c ts before roles → IsDrivenBut at c (changed unroused ts at) now roles
-begun_works c ts before now roles at role event h is s = record {
+begun_works : {P : Type 0} (first : ℕ) (c : ChainState P) (ts : List (Option StageContinuation)) (before now : List Pending) (roles : List Named) (at role : ℕ) (event : Event)
+    → IsHandled before now roles role event → role ≡ first + at → IsDriven first c ts before roles → IsDrivenBut first at c (changed unroused ts at) now roles
+begun_works first c ts before now roles at role event h is s = record {
   len = length-changed unroused ts at ∙ s.len;
-  of_stages = unrouse_at before now roles 1 at role event ts h (omega (arith, is)) s.of_stages;
+  of_stages = unrouse_at before now roles first at role event ts h is s.of_stages;
   cover = λ j differ must. roused-changed unroused ts at j differ (s.cover j must);
 }
 
-begun_quiet : {P : Type 0} (c : ChainState P) (ts : List (Option StageContinuation)) (before now : List Pending) (roles : List Named) (role : ℕ) (event : Event)
-    → IsHandled before now roles role event → works_at event ≡ false → IsDriven c ts before roles → IsDriven c ts now roles
-begun_quiet c ts before now roles role event h rests s = record { len = s.len; of_stages = quiet_all before now roles 1 role event ts h rests s.of_stages; cover = s.cover }
+pub begun_quiet : {P : Type 0} (first : ℕ) (c : ChainState P) (ts : List (Option StageContinuation)) (before now : List Pending) (roles : List Named) (role : ℕ) (event : Event)
+    → IsHandled before now roles role event → works_at event ≡ false → IsDriven first c ts before roles → IsDriven first c ts now roles
+begun_quiet first c ts before now roles role event h rests s = record { len = s.len; of_stages = quiet_all before now roles first role event ts h rests s.of_stages; cover = s.cover }
 
-pub begun_for : {P : Type 0} (c : ChainState P) (ts : List (Option StageContinuation)) (before now : List Pending) (roles : List Named) (at role : ℕ) (event : Event) (b : Bool)
-    → IsHandled before now roles role event → role ≡ at + 1 → works_at event ≡ b → IsDriven c ts before roles → IsDrivenFor b at c (unroused_for b ts at) now roles
-begun_for c ts before now roles at role event true h is works s = begun_works c ts before now roles at role event h is s
-begun_for c ts before now roles at role event false h is rests s = begun_quiet c ts before now roles role event h rests s
+pub begun_for : {P : Type 0} (first : ℕ) (c : ChainState P) (ts : List (Option StageContinuation)) (before now : List Pending) (roles : List Named) (at role : ℕ) (event : Event) (b : Bool)
+    → IsHandled before now roles role event → role ≡ first + at → works_at event ≡ b → IsDriven first c ts before roles → IsDrivenFor b first at c (unroused_for b ts at) now roles
+begun_for first c ts before now roles at role event true h is works s = begun_works first c ts before now roles at role event h is s
+begun_for first c ts before now roles at role event false h is rests s = begun_quiet first c ts before now roles role event h rests s
 
--- an event of no stage
-pub begun_other : {P : Type 0} (c : ChainState P) (ts : List (Option StageContinuation)) (before now : List Pending) (roles : List Named) (role : ℕ) (event : Event)
-    → IsHandled before now roles role event → (role ≡ 0) ⊎ (1 + length ts ≤ role) → IsDriven c ts before roles → IsDriven c ts now roles
-begun_other c ts before now roles role event h (inl none) s = record { len = s.len; of_stages = stay_behind before now roles 1 role event ts h (omega (arith, none)) s.of_stages; cover = s.cover }
-begun_other c ts before now roles role event h (inr above) s = record { len = s.len; of_stages = stay_before before now roles 1 role event ts h above s.of_stages; cover = s.cover }
+-- an event of a role that no stage has
+pub begun_other : {P : Type 0} (first : ℕ) (c : ChainState P) (ts : List (Option StageContinuation)) (before now : List Pending) (roles : List Named) (role : ℕ) (event : Event)
+    → IsHandled before now roles role event → ((at : ℕ) → role ≡ first + at → IsStage c ts at → ⊥) → IsDriven first c ts before roles → IsDriven first c ts now roles
+begun_other first c ts before now roles role event h none s = record { len = s.len; of_stages = of_stages (leb_tells first role); cover = s.cover }
+  where
+    above : first ≤ role → first + length ts ≤ role
+    above within = by_length (leb_tells (first + length ts) role)
+      where
+        by_length : ((nat_le (first + length ts) role ≡ true) × (first + length ts ≤ role)) ⊎ ((nat_le (first + length ts) role ≡ false) × (role < first + length ts)) → first + length ts ≤ role
+        by_length (inl (t, long)) = long
+        by_length (inr (t, short)) = absurd (none (role - first) (omega (arith, within)) (record { within = omega (arith, within, short); len = s.len }))
+
+    of_stages : ((nat_le first role ≡ true) × (first ≤ role)) ⊎ ((nat_le first role ≡ false) × (role < first)) → AreOfStages now roles first ts
+    of_stages (inl (t, within)) = stay_before before now roles first role event ts h (above within) s.of_stages
+    of_stages (inr (t, below)) = stay_behind before now roles first role event ts h below s.of_stages

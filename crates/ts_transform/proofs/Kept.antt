@@ -1,13 +1,17 @@
 -- What the calls of a handler leave of the events and the roles of stages.
-use Rattle.std.proofs.Common.{◌≡◌, ℕ, ◌+◌, ◌≤◌, List, [], ◌∷◌, Bool, true, false, Option, Some, None, Result, Ok, Err, OnOk, IfOk, arith, refl, ap, subst, ◌∙◌, if◌then◌else◌}
+use Rattle.std.proofs.Common.{◌≡◌, ℕ, zero, suc, ◌+◌, ◌≤◌, List, [], ◌∷◌, Bool, true, false, Option, Some, None, Result, Ok, Err, OnOk, IfOk, IfErr, arith, refl, sym, ap, subst, ◌∙◌, if◌then◌else◌, length, IsErrAnd}
+use Rattle.std.specs.Prelude.{⊤}
 use Rattle.ts_journal.specs.declared.entry.ContKey.{ContKey}
 use Rattle.ts_journal.specs.declared.entry.Event.{Event}
 use Rattle.ts_journal.specs.declared.entry.Event.TheVariants.{Immediate, Timeout}
 use Rattle.ts_group.specs.declared.action.Action.{Action}
 use Rattle.ts_group.specs.declared.action.SetFault.{SetFault}
+use Rattle.ts_group.specs.declared.action.SetFault.TheVariants as F
 use Rattle.ts_group.specs.Context.{Context, role_at, moment_after}
+use Rattle.ts_group.specs.Entries.{Grows}
+use Rattle.ts_group.proofs.Grows.{grows_refl, grows_trans}
 use Rattle.ts_group.specs.Acts.{Sets}
-use Rattle.ts_transform.specs.Driving.{works_at, HasEvent, HasKind, HasEventIf, IsOfStage, IsOfStageIf, AreOfStages, Keeps, SetsFew}
+use Rattle.ts_transform.specs.Driving.{works_at, ActsWithin, AddsEvents, HasEvent, HasKind, HasEventIf, IsCause, IsOfStage, IsOfStageIf, AreOfStages, IsRoused, Keeps, KeepsStage, KeepsStages, Lessens, SetsFew, all_unroused, unroused}
 use Rattle.ts_transform.specs.declared.continuation.StageContinuation.{StageContinuation}
 
 pub keeps_refl : (a : Context) → a.log.state.held ≡ true → Keeps a a
@@ -28,6 +32,13 @@ few_trans m n h k = record { next = omega (arith, h.next, k.next); pending = ome
 pub set_keeps : (a b : Context) (r : Result Action SetFault) (key : ContKey) (event : Event) (due : ℕ) → Sets a.log b.log r key event due 0 → b.roles ≡ a.roles → Keeps a b
 set_keeps a b r key event due h roles = record { pending = h.more.stays; roles = roles; plain = h.plain refl; turn = h.turn }
 
+-- so the call leaves what one leaves that sets an event
+pub set_cause : (a b : Context) (r : Result Action SetFault) (key : ContKey) (event : Event) (due : ℕ) → Sets a.log b.log r key event due 0 → IfErr r (λ fault. IsCause fault b)
+set_cause a b (Ok action) key event due h = tt
+set_cause a b (Err F.NoMemory) key event due h = tt
+set_cause a b (Err F.Dead) key event due h = tt
+set_cause a b (Err F.Spent) key event due h = let same : b.log.state.next ≡ a.log.state.next = ap (λ s. s.next) h.err.state in omega (arith, same, h.spent refl)
+
 pub set_few : (a b : Context) (r : Result Action SetFault) (key : ContKey) (event : Event) (due : ℕ) → Sets a.log b.log r key event due 0 → SetsFew 1 a b
 set_few a b r key event due h = record { next = h.more.next; pending = h.more.count }
 
@@ -42,6 +53,60 @@ works_soon false = refl
 
 pub few_refl : (a : Context) (n : ℕ) → SetsFew n a a
 few_refl a n = record { next = omega arith; pending = omega arith }
+
+pub set_adds : (a b : Context) (r : Result Action SetFault) (key : ContKey) (event : Event) (due : ℕ) → Grows a b → Sets a.log b.log r key event due 0 → b.roles ≡ a.roles → AddsEvents 1 r a b
+set_adds a b r key event due grows h roles =
+    record { grows = grows; keeps = set_keeps a b r key event due h roles; few = set_few a b r key event due h; cause = set_cause a b r key event due h }
+
+-- nothing was set
+pub adds_none : (a : Context) (n : ℕ) → a.log.state.held ≡ true → AddsEvents {T = ⊤} n (Ok tt) a a
+adds_none a n turn = record { grows = grows_refl a; keeps = keeps_refl a turn; few = few_refl a n; cause = tt }
+
+-- or nothing could be
+pub adds_dead : (a : Context) (n : ℕ) → a.log.state.held ≡ true → AddsEvents {T = ⊤} n (Err F.Dead) a a
+adds_dead a n turn = record { grows = grows_refl a; keeps = keeps_refl a turn; few = few_refl a n; cause = tt }
+
+pub adds_lacks : (a : Context) (n : ℕ) → a.log.state.held ≡ true → AddsEvents {T = ⊤} n (Err F.NoMemory) a a
+adds_lacks a n turn = record { grows = grows_refl a; keeps = keeps_refl a turn; few = few_refl a n; cause = tt }
+
+-- at most so many events were set, so at most more
+few_more : {a b : Context} (m n : ℕ) → m ≤ n → SetsFew m a b → SetsFew n a b
+few_more m n more h = record { next = omega (arith, more, h.next); pending = omega (arith, more, h.pending) }
+
+pub adds_more : {T : Type 0} {a b : Context} (m n : ℕ) (r : Result T SetFault) → m ≤ n → AddsEvents m r a b → AddsEvents n r a b
+adds_more m n r more h = record { grows = h.grows; keeps = h.keeps; few = few_more m n more h.few; cause = h.cause }
+
+-- the value of a call that set its event counts for nothing
+pub adds_ok : {T U : Type 0} {a b : Context} (m : ℕ) (x : T) (y : U) → AddsEvents {T = T} m (Ok x) a b → AddsEvents {T = U} m (Ok y) a b
+adds_ok m x y h = record { grows = h.grows; keeps = h.keeps; few = h.few; cause = tt }
+
+-- a call that could not set its event ends those after it
+pub adds_err : {T U : Type 0} {a b : Context} (m n : ℕ) (r : Result U SetFault) (fault : SetFault) → IsErrAnd r (λ e. e ≡ fault) → m ≤ n → AddsEvents {T = T} m (Err fault) a b → AddsEvents {T = U} n r a b
+adds_err m n (Ok x) fault is more h = absurd is
+adds_err {U = U} {a = a} {b = b} m n (Err e) fault is more h =
+    subst (λ f. AddsEvents {T = U} n (Err f) a b) (sym is) (record { grows = h.grows; keeps = h.keeps; few = few_more m n more h.few; cause = h.cause })
+
+-- one call after another
+pub adds_then : {T U : Type 0} {a b c : Context} (m n k : ℕ) (q : Result T SetFault) (r : Result U SetFault) → m + n ≤ k → AddsEvents m q a b → AddsEvents n r b c → AddsEvents k r a c
+adds_then m n k q r most h l = record {
+  grows = grows_trans h.grows l.grows;
+  keeps = keeps_trans h.keeps l.keeps;
+  few = few_more (m + n) k most (few_trans m n h.few l.few);
+  cause = l.cause;
+}
+
+-- what a handler leaves that sets nothing, that sets events, or that destroys a continuation
+pub acts_none : (n : ℕ) (a : Context) → a.log.state.held ≡ true → ActsWithin n a a
+acts_none n a turn = record { grows = grows_refl a; turn = turn; plain = λ plain. plain; few = few_refl a n }
+
+pub acts_adds : {T : Type 0} (m n : ℕ) (r : Result T SetFault) (a b : Context) → m ≤ n → AddsEvents m r a b → ActsWithin n a b
+acts_adds m n r a b more h = record { grows = h.grows; turn = h.keeps.turn; plain = h.keeps.plain; few = few_more m n more h.few }
+
+pub acts_then : {a b c : Context} (m n k : ℕ) → m + n ≤ k → ActsWithin m a b → ActsWithin n b c → ActsWithin k a c
+acts_then m n k most h l = record { grows = grows_trans h.grows l.grows; turn = l.turn; plain = λ plain. l.plain (h.plain plain); few = few_more (m + n) k most (few_trans m n h.few l.few) }
+
+pub acts_lessens : (n : ℕ) (a b : Context) → Lessens a b → ActsWithin n a b
+acts_lessens n a b h = record { grows = h.grows; turn = h.turn; plain = h.plain; few = few_more 0 n (omega arith) h.few }
 
 -- an event that is pending stays so
 pub has_event_kept : (a b : Context) (key : ContKey) → Keeps a b → HasEvent a.log.state.pending key → HasEvent b.log.state.pending key
@@ -61,6 +126,21 @@ pub kept_all : (a b : Context) → Keeps a b → (role : ℕ) (ts : List (Option
 kept_all a b keeps role [] h = tt
 kept_all a b keeps role (t ∷ ts) (here, others) = (kept_if a b keeps role t here, kept_all a b keeps (role + 1) ts others)
 
+-- all stages keep their continuations where none is roused
+pub stages_same : (a : Context) (ts : List (Option StageContinuation)) → KeepsStages a a ts ts
+stages_same a ts = record { of_stages = λ first h. h; still = λ j roused. roused; same = refl; len = refl }
+
+pub stages_kept : (a b : Context) → Keeps a b → (ts : List (Option StageContinuation)) → KeepsStages a b ts ts
+stages_kept a b keeps ts = record { of_stages = λ first h. kept_all a b keeps first ts h; still = λ j roused. roused; same = refl; len = refl }
+
+pub stages_trans : {a b c : Context} {ts us vs : List (Option StageContinuation)} → KeepsStages a b ts us → KeepsStages b c us vs → KeepsStages a c ts vs
+stages_trans h k = record {
+  of_stages = λ first s. k.of_stages first (h.of_stages first s);
+  still = λ j roused. k.still j (h.still j roused);
+  same = k.same ∙ h.same;
+  len = k.len ∙ h.len;
+}
+
 -- a continuation was roused: its event is pending
 pub roused_if : (a b : Context) → Keeps a b → (role : ℕ) (t : StageContinuation) → HasEvent b.log.state.pending t.key → IsOfStage a.log.state.pending a.roles role t
     → IsOfStage b.log.state.pending b.roles role (record t { roused = true })
@@ -73,6 +153,38 @@ pub roused_front : (a b : Context) → Keeps a b → (role : ℕ) (t t' : Option
 roused_front a b keeps role t t' ts all is here h =
     let both : AreOfStages a.log.state.pending a.roles role (t ∷ ts) = subst (AreOfStages a.log.state.pending a.roles role) is h in
     (here both.0, kept_all a b keeps (role + 1) ts both.1)
+
+-- so the stages are kept where the first was roused
+stages_front_same : (a b : Context) → Keeps a b → (t t' : Option StageContinuation) (ts : List (Option StageContinuation)) → KeepsStage a b t t' → KeepsStages a b (t ∷ ts) (t' ∷ ts)
+stages_front_same a b keeps t t' ts h = record {
+  of_stages = λ first s. (h.of_stage first s.0, kept_all a b keeps (first + 1) ts s.1);
+  still = still;
+  same = ap (λ u. u ∷ all_unroused ts) h.same;
+  len = refl;
+}
+  where
+    still : (j : ℕ) → IsRoused (t ∷ ts) j → IsRoused (t' ∷ ts) j
+    still zero roused = h.still roused
+    still (suc j) roused = roused
+
+pub stages_front : (a b : Context) → Keeps a b → (t t' : Option StageContinuation) (ts all : List (Option StageContinuation)) → all ≡ t ∷ ts → KeepsStage a b t t' → KeepsStages a b all (t' ∷ ts)
+stages_front a b keeps t t' ts all is h = subst (λ us. KeepsStages a b us (t' ∷ ts)) (sym is) (stages_front_same a b keeps t t' ts h)
+
+-- or another
+stages_rest_same : (a b : Context) → Keeps a b → (t : Option StageContinuation) (ts us : List (Option StageContinuation)) → KeepsStages a b ts us → KeepsStages a b (t ∷ ts) (t ∷ us)
+stages_rest_same a b keeps t ts us h = record {
+  of_stages = λ first s. (kept_if a b keeps first t s.0, h.of_stages (first + 1) s.1);
+  still = still;
+  same = ap (λ vs. unroused t ∷ vs) h.same;
+  len = ap suc h.len;
+}
+  where
+    still : (j : ℕ) → IsRoused (t ∷ ts) j → IsRoused (t ∷ us) j
+    still zero roused = roused
+    still (suc j) roused = h.still j roused
+
+pub stages_rest : (a b : Context) → Keeps a b → (t : Option StageContinuation) (ts us all : List (Option StageContinuation)) → all ≡ t ∷ ts → KeepsStages a b ts us → KeepsStages a b all (t ∷ us)
+stages_rest a b keeps t ts us all is h = subst (λ vs. KeepsStages a b vs (t ∷ us)) (sym is) (stages_rest_same a b keeps t ts us h)
 
 -- the first continuation of a table was marked
 pub marked_front : (r : Result (Option ContKey) SetFault) (t t' : Option StageContinuation) (ts all : List (Option StageContinuation)) → all ≡ t ∷ ts

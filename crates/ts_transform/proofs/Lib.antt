@@ -12,3 +12,8 @@ pub mod PassedErrors
 pub mod Called
 pub mod Setting
 pub mod MaySet
+pub mod Acting
+pub mod Driving
+pub mod Carrying
+pub mod Joined
+pub mod Runs

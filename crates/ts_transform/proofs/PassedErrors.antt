@@ -1,11 +1,13 @@
 -- Which continuations have passed an error on.
-use Rattle.std.proofs.Common.{◌≡◌, ◌≤◌, ◌+◌, ℕ, zero, suc, List, [], ◌∷◌, true, false, Option, Some, None, if◌then◌else◌, arith, refl, sym, ap, ◌∙◌}
+use Rattle.std.proofs.Common.{◌≡◌, ◌≤◌, ◌+◌, ◌*◌, length, ℕ, zero, suc, List, [], ◌∷◌, true, false, Option, Some, None, if◌then◌else◌, arith, refl, sym, ap, ◌∙◌}
 use Rattle.ts_journal.specs.declared.entry.Pending.{Pending}
 use Rattle.ts_group.specs.declared.action.Named.{Named}
+use Rattle.ts_group.specs.Context.{Context}
 use Rattle.ts_transform.specs.declared.continuation.StageContinuation.{StageContinuation}
 use Rattle.ts_transform.specs.Flow.{ChainState}
 use Rattle.ts_transform.specs.Driving.{IsOfStageIf, AreOfStages, IsRousedIf, IsRoused, unroused, all_unroused, error_passed, gone, changed, may_pass_error, may_pass_error_at, errors_to_pass}
 use Rattle.ts_transform.specs.Cover.{IsDriven}
+use Rattle.ts_transform.specs.Acting.{PaysErrors}
 use Rattle.ts_transform.proofs.Handled.{length-changed}
 
 unroused_may_pass : (t : Option StageContinuation) → may_pass_error (unroused t) ≡ may_pass_error t
@@ -58,6 +60,9 @@ gone_at (t ∷ ts) (suc at) = omega (arith, gone_at ts at)
 pub gone_fewer : (ts us : List (Option StageContinuation)) (at : ℕ) → us ≡ changed gone ts at → errors_to_pass us ≤ errors_to_pass ts
 gone_fewer ts us at is = omega (arith, ap errors_to_pass is, gone_at ts at)
 
+pub gone_pays : (ts us : List (Option StageContinuation)) (at : ℕ) (a b : Context) → us ≡ changed gone ts at → length b.log.state.pending ≤ length a.log.state.pending → PaysErrors ts us a b
+gone_pays ts us at a b is count = omega (arith, gone_fewer ts us at is, count)
+
 passed_if : (pending : List Pending) (roles : List Named) (role : ℕ) (t : Option StageContinuation) → IsOfStageIf pending roles role t → IsOfStageIf pending roles role (error_passed t)
 passed_if pending roles role None s = tt
 passed_if pending roles role (Some t) s = record { named = s.named; event = s.event }
@@ -80,10 +85,10 @@ passed_roused (t ∷ ts) (suc at) zero roused = roused
 passed_roused (t ∷ ts) (suc at) (suc j) roused = passed_roused ts at j roused
 
 -- the stages are driven as before
-pub passed_driven : {P : Type 0} (c : ChainState P) (ts us : List (Option StageContinuation)) (at : ℕ) (pending : List Pending) (roles : List Named) → us ≡ changed error_passed ts at
-    → IsDriven c ts pending roles → IsDriven c us pending roles
-passed_driven c ts us at pending roles is s = rw is (record {
+pub passed_driven : {P : Type 0} (first : ℕ) (c : ChainState P) (ts us : List (Option StageContinuation)) (at : ℕ) (pending : List Pending) (roles : List Named) → us ≡ changed error_passed ts at
+    → IsDriven first c ts pending roles → IsDriven first c us pending roles
+passed_driven first c ts us at pending roles is s = rw is (record {
   len = length-changed error_passed ts at ∙ s.len;
-  of_stages = passed_of_stages pending roles 1 at ts s.of_stages;
+  of_stages = passed_of_stages pending roles first at ts s.of_stages;
   cover = λ j must. passed_roused ts at j (s.cover j must);
 })

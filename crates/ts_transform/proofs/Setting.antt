@@ -10,9 +10,12 @@ use Rattle.ts_group.specs.declared.action.Named.{Named}
 use Rattle.ts_group.specs.declared.action.SetFault.{SetFault}
 use Rattle.ts_group.specs.Context.{Context, role_at}
 use Rattle.ts_group.specs.Acts.{Sets}
-use Rattle.ts_group.specs.Changes.{HasLost}
+use Rattle.ts_group.specs.Changes.{IsLess}
+use Rattle.ts_group.specs.Entries.{Grows}
+use Rattle.ts_group.proofs.Grows.{grows_refl}
+use Rattle.ts_transform.proofs.Kept.{few_refl}
 use Rattle.ts_transform.specs.declared.continuation.StageContinuation.{StageContinuation}
-use Rattle.ts_transform.specs.Driving.{AreOfStages, IsNamedIf, AreNamed, Keeps, SetsOnly, IsWorkOf, IsRousingOf, all_unroused, unroused, error_passed, changed}
+use Rattle.ts_transform.specs.Driving.{AreOfStages, IsNamedIf, AreNamed, IsRousedIf, Keeps, Lessens, RousesAt, SetsOnly, IsWorkOf, IsRousingOf, all_unroused, unroused, error_passed, changed}
 
 -- nothing was set
 pub only_same : (Such : Pending → Type 0) (a b : Context) → b.log.state.pending ≡ a.log.state.pending → SetsOnly Such a b
@@ -46,8 +49,17 @@ set_only a b (Ok x) key event due Such h such n p none some = by_number (eqb_tel
     by_number (inr (t, other)) = absurd (let wrong : None ≡ Some p = sym none ∙ sym (h.others n other) ∙ some in cc)
 
 -- nothing is set where a continuation is destroyed
-pub lost_only : (Such : Pending → Type 0) (a b : Context) (key : ContKey) → HasLost a.log.state b.log.state a.roles b.roles key → SetsOnly Such a b
-lost_only Such a b key lost n p none some = absurd (let wrong : None ≡ Some p = sym none ∙ (lost.from n p some).0 in cc)
+pub lessens_less : (a b : Context) → Grows a b → b.log.state.held ≡ true → IsLess a.log.state b.log.state → Lessens a b
+lessens_less a b grows turn less = record {
+  grows = grows;
+  turn = turn;
+  plain = less.plain;
+  few = record { next = omega (arith, less.next); pending = omega (arith, less.count) };
+  none = λ n p none some. let wrong : None ≡ Some p = sym none ∙ less.from n p some in cc;
+}
+
+pub lessens_none : (a : Context) → a.log.state.held ≡ true → Lessens a a
+lessens_none a turn = record { grows = grows_refl a; turn = turn; plain = λ plain. plain; few = few_refl a 0; none = only_none (λ p. ⊥) a }
 
 -- an event of a continuation is one of its role
 pub rousing_of : (roles : List Named) (role pause moment : ℕ) (t : StageContinuation) (p : Pending) → IsNamedIf roles role (Some t) → IsWorkOf t.key pause moment p → IsRousingOf role pause moment roles p
@@ -58,18 +70,18 @@ pub slot_rousing : (roles : List Named) (role pause moment : ℕ) (slot : Option
 slot_rousing roles role pause moment slot t a b is only named =
     only_weaker (IsWorkOf t.key pause moment) (IsRousingOf role pause moment roles) a b (λ p work. rousing_of roles role pause moment t p (subst (IsNamedIf roles role) is named) work) only
 
--- of the first of a table, and of another
-pub front_rousing : (roles : List Named) (role pause moment at : ℕ) (t : Option StageContinuation) (ts all : List (Option StageContinuation)) (a b : Context) → all ≡ t ∷ ts → at ≡ 0
-    → ((r : ℕ) → IsNamedIf roles r t → SetsOnly (IsRousingOf r pause moment roles) a b) → AreNamed roles role all → SetsOnly (IsRousingOf (role + at) pause moment roles) a b
-front_rousing roles role pause moment at t ts all a b is front only named =
-    let both : AreNamed roles role (t ∷ ts) = subst (AreNamed roles role) is named in
-    subst (λ r. SetsOnly (IsRousingOf r pause moment roles) a b) (omega (arith, front)) (only role both.0)
+-- the first of a table was roused, or another
+pub front_rouses : (pause at : ℕ) (t : Option StageContinuation) (ts all : List (Option StageContinuation)) (a b : Context) → all ≡ t ∷ ts → at ≡ 0 → (IsRousedIf t → SetsOnly (λ p. ⊥) a b)
+    → ((role : ℕ) → IsNamedIf a.roles role t → SetsOnly (IsRousingOf role pause a.moment a.roles) a b) → RousesAt at pause all a b
+front_rouses pause at t ts all a b is front rests only =
+    subst (λ us. RousesAt at pause us a b) (sym is) (subst (λ n. RousesAt n pause (t ∷ ts) a b) (sym front)
+    (rests, λ first named. subst (λ role. SetsOnly (IsRousingOf role pause a.moment a.roles) a b) (omega arith) (only first named.0)))
 
-pub rest_rousing : (roles : List Named) (role pause moment at : ℕ) (t : Option StageContinuation) (ts all : List (Option StageContinuation)) (a b : Context) → all ≡ t ∷ ts → (at ≡ 0 → ⊥)
-    → ((r : ℕ) → AreNamed roles r ts → SetsOnly (IsRousingOf (r + (at - 1)) pause moment roles) a b) → AreNamed roles role all → SetsOnly (IsRousingOf (role + at) pause moment roles) a b
-rest_rousing roles role pause moment at t ts all a b is behind only named =
-    let both : AreNamed roles role (t ∷ ts) = subst (AreNamed roles role) is named in
-    subst (λ r. SetsOnly (IsRousingOf r pause moment roles) a b) (omega (arith, behind)) (only (role + 1) both.1)
+pub rest_rouses : (pause at : ℕ) (t : Option StageContinuation) (ts all : List (Option StageContinuation)) (a b : Context) → all ≡ t ∷ ts → (at ≡ 0 → ⊥) → RousesAt (at - 1) pause ts a b → RousesAt at pause all a b
+rest_rouses pause at t ts all a b is behind (rests, only) =
+    let next : suc (at - 1) ≡ at = omega (arith, behind) in
+    subst (λ us. RousesAt at pause us a b) (sym is) (subst (λ n. RousesAt n pause (t ∷ ts) a b) next
+    (rests, λ first named. subst (λ role. SetsOnly (IsRousingOf role pause a.moment a.roles) a b) (omega arith) (only (first + 1) named.1)))
 
 -- the role of the continuation at a place
 pub named_slot : (roles : List Named) (role at : ℕ) (ts : List (Option StageContinuation)) (o : Option StageContinuation) (t : StageContinuation) → at < length ts → get_or ts at o ≡ Some t → AreNamed roles role ts
@@ -111,14 +123,14 @@ named_passed roles role (suc at) (t ∷ ts) (here, others) = (here, named_passed
 pub named_marked : (roles : List Named) (role at : ℕ) (ts us : List (Option StageContinuation)) → us ≡ changed error_passed ts at → AreNamed roles role ts → AreNamed roles role us
 named_marked roles role at ts us is named = subst (AreNamed roles role) (sym is) (named_passed roles role at ts named)
 
-pub named_kept : (a b : Context) (ts us : List (Option StageContinuation)) → Keeps a b → all_unroused us ≡ all_unroused ts → AreNamed a.roles 1 ts → AreNamed b.roles 1 us
-named_kept a b ts us keeps same named = subst (λ roles. AreNamed roles 1 us) (sym keeps.roles) (named_same a.roles 1 ts us same named)
+pub named_kept : (first : ℕ) (a b : Context) (ts us : List (Option StageContinuation)) → Keeps a b → all_unroused us ≡ all_unroused ts → AreNamed a.roles first ts → AreNamed b.roles first us
+named_kept first a b ts us keeps same named = subst (λ roles. AreNamed roles first us) (sym keeps.roles) (named_same a.roles first ts us same named)
 
 -- continuations of stages have their roles
-of_stages_named : (pending : List Pending) (roles : List Named) (role : ℕ) (ts : List (Option StageContinuation)) → AreOfStages pending roles role ts → AreNamed roles role ts
+pub of_stages_named : (pending : List Pending) (roles : List Named) (role : ℕ) (ts : List (Option StageContinuation)) → AreOfStages pending roles role ts → AreNamed roles role ts
 of_stages_named pending roles role [] s = tt
 of_stages_named pending roles role (None ∷ ts) (here, others) = (tt, of_stages_named pending roles (role + 1) ts others)
 of_stages_named pending roles role (Some t ∷ ts) (here, others) = (here.named, of_stages_named pending roles (role + 1) ts others)
 
-pub stages_named : (a : Context) (ts : List (Option StageContinuation)) → AreOfStages a.log.state.pending a.roles 1 ts → AreNamed a.roles 1 ts
-stages_named a ts s = of_stages_named a.log.state.pending a.roles 1 ts s
+pub stages_named : (first : ℕ) (a : Context) (ts : List (Option StageContinuation)) → AreOfStages a.log.state.pending a.roles first ts → AreNamed a.roles first ts
+stages_named first a ts s = of_stages_named a.log.state.pending a.roles first ts s

@@ -6,7 +6,7 @@ use Rattle.ts_group.specs.Changes.{SameEvents, KeepsKeys}
 use Rattle.ts_transform.specs.declared.continuation.StageContinuation.{StageContinuation}
 use Rattle.ts_transform.specs.declared.pump.Stage.{Stage}
 use Rattle.ts_transform.specs.Stage.{has_ended}
-use Rattle.ts_transform.specs.Flow.{ChainState, HasWork, MustPump, fresh_stage}
+use Rattle.ts_transform.specs.Flow.{ChainState, HasWork, OnlyFirstWorks, MustPump, fresh_stage}
 use Rattle.ts_transform.specs.Driving.{IsOfStageIf, AreOfStages, IsRoused}
 use Rattle.ts_transform.specs.Cover.{IsDriven}
 
@@ -14,7 +14,7 @@ pub same_events_trans : (a b c : State) → SameEvents a b → SameEvents b c �
 same_events_trans a b c h k = record { pending = k.pending ∙ h.pending; next = k.next ∙ h.next }
 
 -- a continuation was made, and those that were there keep their roles and their events
-made_if : (a b : Context) → SameEvents a.log.state b.log.state → KeepsKeys a.log.state b.log.state a.roles b.roles → (role : ℕ) (t : Option StageContinuation)
+pub made_if : (a b : Context) → SameEvents a.log.state b.log.state → KeepsKeys a.log.state b.log.state a.roles b.roles → (role : ℕ) (t : Option StageContinuation)
     → IsOfStageIf a.log.state.pending a.roles role t → IsOfStageIf b.log.state.pending b.roles role t
 made_if a b events keys role None h = tt
 made_if a b events keys role (Some t) h = record {
@@ -44,9 +44,9 @@ must-work up from (s ∷ ss) zero (work, room) = work
 must-work up from (s ∷ ss) (suc at) must = must-work (has_ended s) s.after ss at must
 
 -- where only the first stage may have work and that is roused if it must work, all are driven
-pub begun : {P : Type 0} (a : Context) (c : ChainState P) (ts : List (Option StageContinuation)) → length ts ≡ length c.stages → AreOfStages a.log.state.pending a.roles 1 ts
-    → (MustPump c.given c.first c.stages 0 → IsRoused ts 0) → ((j : ℕ) → HasWork c.given c.first c.stages (j + 1) → ⊥) → IsDriven c ts a.log.state.pending a.roles
-begun {P} a c ts len of_stages ready fresh = record { len = len; of_stages = of_stages; cover = cover }
+pub begun : {P : Type 0} (first : ℕ) (a : Context) (c : ChainState P) (ts : List (Option StageContinuation)) → length ts ≡ length c.stages → AreOfStages a.log.state.pending a.roles first ts
+    → (MustPump c.given c.first c.stages 0 → IsRoused ts 0) → OnlyFirstWorks c → IsDriven first c ts a.log.state.pending a.roles
+begun {P} first a c ts len of_stages ready fresh = record { len = len; of_stages = of_stages; cover = cover }
   where
     cover : (j : ℕ) → MustPump c.given c.first c.stages j → IsRoused ts j
     cover zero must = ready must

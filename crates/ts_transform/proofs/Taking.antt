@@ -10,7 +10,8 @@ use Rattle.ts_transform.specs.declared.pump.Stage.{Stage}
 use Rattle.ts_transform.specs.Stage.{has_ended, has_work, passed}
 use Rattle.ts_transform.specs.Flow.{ChainState, HasWork, MustPump, Takes, closed, aborted, ended_at, flow, flow_from, last_wait, last_ended, fresh_stage, IsFinished}
 use Rattle.ts_transform.specs.Driving.{HasEvent, AreOfStages, IsRoused}
-use Rattle.ts_transform.specs.Cover.{IsCovered, IsAwake}
+use Rattle.ts_transform.specs.Cover.{IsAwake, IsDriven}
+use Rattle.ts_transform.specs.World.{IsCovered}
 use Rattle.ts_transform.proofs.Boundaries.{rest_of-ended}
 use Rattle.ts_transform.proofs.Starting.{fresh-first}
 
@@ -65,10 +66,20 @@ takes-must {P} up from s (t ∷ ss) n from' (s' ∷ ss') (before, part, takes) (
     behind (inr (place, goes, full)) = inr (omega (arith, place), goes, full)
 
 -- as many stages are there
-takes-len : {P : Type 0} (from : List ℕ) (ss : List (Stage P)) (n : ℕ) (from' : List ℕ) (ss' : List (Stage P)) → Takes from ss n from' ss' → length ss' ≡ length ss
+pub takes-len : {P : Type 0} (from : List ℕ) (ss : List (Stage P)) (n : ℕ) (from' : List ℕ) (ss' : List (Stage P)) → Takes from ss n from' ss' → length ss' ≡ length ss
 takes-len from [] n from' ss' takes = ap length takes.1
 takes-len from (s ∷ ss) n from' [] takes = absurd takes
 takes-len from (s ∷ ss) n from' (s' ∷ ss') (before, part, takes) = ap suc (takes-len s.after ss n s'.after ss' takes)
+
+-- a stage but the last must work then only where it had to before
+pub takes-others : {P : Type 0} (up : Bool) (from : List ℕ) (ss : List (Stage P)) (n : ℕ) (from' : List ℕ) (ss' : List (Stage P)) → Takes from ss n from' ss'
+    → (j : ℕ) → (j + 1 ≡ length ss → ⊥) → MustPump up from' ss' j → MustPump up from ss j
+takes-others up from [] n from' ss' takes j other must = absurd (subst (λ us. MustPump up from' us j) takes.1 must)
+takes-others {P} up from (s ∷ ss) n from' ss' takes j other must = by_place (takes-must up from s ss n from' ss' takes j must)
+  where
+    by_place : MustPump up from (s ∷ ss) j ⊎ ((j + 1 ≡ length (s ∷ ss)) × (ended_at (s ∷ ss) j ≡ false) × (65536 ≤ length (last_wait from (s ∷ ss)))) → MustPump up from (s ∷ ss) j
+    by_place (inl before) = before
+    by_place (inr (place, goes, full)) = absurd (other place)
 
 -- so each stage that must work is roused, if the last was where it was full
 taken-roused : {P : Type 0} (given : Bool) (from : List ℕ) (ss : List (Stage P)) (n : ℕ) (from' : List ℕ) (ss' : List (Stage P)) (ts : List (Option StageContinuation)) → Takes from ss n from' ss'
@@ -132,14 +143,19 @@ length-closed : {P : Type 0} (ss : List (Stage P)) → length (map closed ss) �
 length-closed [] = refl
 length-closed (s ∷ ss) = ap suc (length-closed ss)
 
+-- a driven chain is driven when it was aborted
+pub aborted_driven : {P : Type 0} (first : ℕ) (c d : ChainState P) (ts : List (Option StageContinuation)) (pending : List Pending) (roles : List Named) → d ≡ aborted c
+    → IsDriven first c ts pending roles → IsDriven first d ts pending roles
+aborted_driven first c d ts pending roles is h = subst (λ x. IsDriven first x ts pending roles) (sym is)
+    (record { len = h.len ∙ sym (length-closed c.stages); of_stages = h.of_stages; cover = λ j must. absurd (closed-idle true [] c.stages j must) })
+
 -- a sound world is sound when it was aborted
 pub aborted_sound : {P : Type 0} (c d : ChainState P) (ts : List (Option StageContinuation)) (running : Bool) (pending : List Pending) (roles : List Named)
     → d ≡ aborted c → IsCovered c ts running pending roles → IsCovered d ts running pending roles
 aborted_sound c d ts running pending roles is s = subst (λ x. IsCovered x ts running pending roles) (sym is) (record {
   given = refl;
   plain = s.plain;
-  driven = λ runs. let h = s.driven runs in
-      record { len = h.len ∙ sym (length-closed c.stages); of_stages = h.of_stages; cover = λ j must. absurd (closed-idle true [] c.stages j must) };
+  driven = λ runs. aborted_driven 1 c (aborted c) ts pending roles refl (s.driven runs);
   fresh = λ none j work. closed-rests true [] c.stages (j + 1) work;
 })
 
@@ -153,7 +169,7 @@ pub aborted_awake : {P : Type 0} (c d : ChainState P) (ts : List (Option StageCo
 aborted_awake c d ts is = subst (λ x. IsAwake x ts) (sym is) (λ j last goes full. absurd (let wrong : true ≡ false = sym (ended-closed c.stages j) ∙ goes in cc))
 
 -- no stage is roused where nothing is pending
-none-roused : (roles : List Named) (role : ℕ) (ts : List (Option StageContinuation)) (j : ℕ) → AreOfStages [] roles role ts → IsRoused ts j → ⊥
+pub none-roused : (roles : List Named) (role : ℕ) (ts : List (Option StageContinuation)) (j : ℕ) → AreOfStages [] roles role ts → IsRoused ts j → ⊥
 none-roused roles role [] j s roused = roused
 none-roused roles role (None ∷ ts) zero s roused = roused
 none-roused roles role (Some t ∷ ts) zero (here, others) roused =
@@ -169,14 +185,14 @@ gets-work false false [] goes (inr some) = absurd (some refl)
 gets-work false false (b ∷ bs) goes (inr some) = refl
 
 -- so if it need not work, it is full
-full-else : (n : ℕ) → (n < 65536 → ⊥) → 65536 ≤ n
+pub full-else : (n : ℕ) → (n < 65536 → ⊥) → 65536 ≤ n
 full-else n not_short = by_room (leb_tells 65536 n)
   where
     by_room : ((nat_le 65536 n ≡ true) × (65536 ≤ n)) ⊎ ((nat_le 65536 n ≡ false) × (n < 65536)) → 65536 ≤ n
     by_room (inl (t, long)) = long
     by_room (inr (t, short)) = absurd (not_short short)
 
-some-long : (l : List ℕ) → 65536 ≤ length l → l ≢ []
+pub some-long : (l : List ℕ) → 65536 ≤ length l → l ≢ []
 some-long l long is = let none : length l ≡ 0 = ap length is in omega (arith, long, none)
 
 either : {X : Type 0} (b : Bool) → (b ≡ true → X) → (b ≡ false → X) → X
@@ -197,7 +213,7 @@ flow_from-rests rest up from (s ∷ ss) v input rests none same =
     (λ j must. rests (suc j) must) none (λ ended. absurd (let wrong : false ≡ true = sym goes ∙ ended in cc)))
 
 -- and the last of them has ended
-ended-rests : {P : Type 0} (up : Bool) (from : List ℕ) (ss : List (Stage P))
+pub ended-rests : {P : Type 0} (up : Bool) (from : List ℕ) (ss : List (Stage P))
     → (up ≡ true) ⊎ (from ≢ []) → ((j : ℕ) → MustPump up from ss j → ⊥) → last_wait from ss ≡ [] → last_ended up ss ≡ true
 ended-rests up from [] (inl ended) rests none = ended
 ended-rests up from [] (inr some) rests none = absurd (some none)

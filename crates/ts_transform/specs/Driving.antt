@@ -1,15 +1,19 @@
 -- Which continuation drives which stage, and that one that is roused has a pending event at which its stage works. (The
 -- Developer's Guide, "Writing a Transformation Plugin": a transformation's handler works at the events of its
 -- VConnection, and passes errors on.)
-use Rattle.std.specs.Prelude.{◌≡◌, ◌≢◌, ℕ, zero, suc, ◌+◌, ◌≤◌, List, [], ◌∷◌, length, Bool, true, false, Option, Some, None, map, slice_get, not, if◌then◌else◌, ◌⊎◌}
+use Rattle.std.specs.Prelude.{◌≡◌, ◌≢◌, ℕ, zero, suc, ◌+◌, ◌≤◌, ◌<◌, List, [], ◌∷◌, length, Bool, true, false, Option, Some, None, Result, IfErr, map, slice_get, not, if◌then◌else◌, ◌⊎◌, ⊤}
 use Rattle.ts_journal.specs.declared.entry.ContKey.{ContKey}
 use Rattle.ts_journal.specs.declared.entry.Event.{Event}
 use Rattle.ts_journal.specs.declared.entry.Event.TheVariants.{Immediate, Timeout, Error, ReadReady, WriteReady, ReadComplete, WriteComplete, Eos, InactivityTimeout, Hook}
 use Rattle.ts_journal.specs.declared.entry.Pending.{Pending}
 use Rattle.ts_journal.specs.State.{pending_at, IsLive}
+use Rattle.ts_journal.specs.declared.entry.TheConstants.{GREATEST}
 use Rattle.ts_group.specs.declared.action.Named.{Named}
 use Rattle.ts_group.specs.Changes.{HasLost}
+use Rattle.ts_group.specs.declared.action.SetFault.{SetFault}
+use Rattle.ts_group.specs.declared.action.SetFault.TheVariants as F
 use Rattle.ts_group.specs.Context.{Context, role_at, moment_after, AllPlain}
+use Rattle.ts_group.specs.Entries.{Grows}
 use Rattle.ts_transform.specs.declared.continuation.StageContinuation.{StageContinuation}
 
 -- a stage works at each event, but for an error, which it passes on, and for the end of its output
@@ -46,21 +50,21 @@ pub record IsOfStage (pending : List Pending) (roles : List Named) (role : ℕ) 
 
 -- a continuation has its role, if there is one
 abbrev pub IsNamedIf : List Named → ℕ → Option StageContinuation → Type 0
-IsNamedIf roles role None = Unit {0}
+IsNamedIf roles role None = ⊤
 IsNamedIf roles role (Some t) = role_at t.key.index roles ≡ Some role
 
 -- continuations have the roles from this one on
 abbrev pub AreNamed : List Named → ℕ → List (Option StageContinuation) → Type 0
-AreNamed roles role [] = Unit {0}
+AreNamed roles role [] = ⊤
 AreNamed roles role (t ∷ ts) = IsNamedIf roles role t × AreNamed roles (role + 1) ts
 
 abbrev pub IsOfStageIf : List Pending → List Named → ℕ → Option StageContinuation → Type 0
-IsOfStageIf pending roles role None = Unit {0}
+IsOfStageIf pending roles role None = ⊤
 IsOfStageIf pending roles role (Some t) = IsOfStage pending roles role t
 
 -- the continuations of stages have the roles from this one on; a stage may have none
 abbrev pub AreOfStages : List Pending → List Named → ℕ → List (Option StageContinuation) → Type 0
-AreOfStages pending roles role [] = Unit {0}
+AreOfStages pending roles role [] = ⊤
 AreOfStages pending roles role (t ∷ ts) = IsOfStageIf pending roles role t × AreOfStages pending roles (role + 1) ts
 
 -- the stage has a continuation that is roused
@@ -74,9 +78,17 @@ IsRoused [] at = ⊥
 IsRoused (t ∷ ts) zero = IsRousedIf t
 IsRoused (t ∷ ts) (suc at) = IsRoused ts at
 
+-- a continuation is told of an event, if there is one
+abbrev pub IsToldIf : List Pending → Event → Option StageContinuation → Type 0
+IsToldIf pending event slot = (t : StageContinuation) → slot ≡ Some t → HasKind pending t.key event
+
 -- the stage at a place is told of an event, if it has a continuation
 abbrev pub IsTold : List Pending → Event → List (Option StageContinuation) → ℕ → Type 0
 IsTold pending event ts at = (t : StageContinuation) → slice_get ts at ≡ Some (Some t) → HasKind pending t.key event
+
+-- so is the stage before a place, if there is one
+abbrev pub IsToldBefore : List Pending → Event → List (Option StageContinuation) → ℕ → Type 0
+IsToldBefore pending event ts at = (j : ℕ) → j + 1 ≡ at → IsTold pending event ts j
 
 -- the stage at a place was roused before, or is called with WriteReady
 abbrev pub IsCalledUnless : List (Option StageContinuation) → List Pending → List (Option StageContinuation) → ℕ → Type 0
@@ -138,12 +150,28 @@ abbrev pub unroused_for : Bool → List (Option StageContinuation) → ℕ → L
 unroused_for true ts at = changed unroused ts at
 unroused_for false ts at = ts
 
+abbrev pub unroused_at : Event → List (Option StageContinuation) → ℕ → List (Option StageContinuation)
+unroused_at event ts at = unroused_for (works_at event) ts at
+
 -- what was pending is so, under the same roles, and no event that was added is periodic
 pub record Keeps (old new : Context) : Type 0 where
   pub pending : (n : ℕ) (p : Pending) → pending_at n old.log.state.pending ≡ Some p → pending_at n new.log.state.pending ≡ Some p
   pub roles : new.roles ≡ old.roles
   pub plain : AllPlain old.log.state.pending → AllPlain new.log.state.pending
   pub turn : new.log.state.held ≡ true
+
+-- The stage of a continuation keeps it, with its event, and is roused if it was.
+pub record KeepsStage (a b : Context) (t u : Option StageContinuation) : Type 0 where
+  pub of_stage : (role : ℕ) → IsOfStageIf a.log.state.pending a.roles role t → IsOfStageIf b.log.state.pending b.roles role u
+  pub still : IsRousedIf t → IsRousedIf u
+  pub same : unroused u ≡ unroused t
+
+-- So does each stage.
+pub record KeepsStages (a b : Context) (ts us : List (Option StageContinuation)) : Type 0 where
+  pub of_stages : (first : ℕ) → AreOfStages a.log.state.pending a.roles first ts → AreOfStages b.log.state.pending b.roles first us
+  pub still : (j : ℕ) → IsRoused ts j → IsRoused us j
+  pub same : all_unroused us ≡ all_unroused ts
+  pub len : length us ≡ length ts
 
 -- only such events were set
 abbrev pub SetsOnly : (Pending → Type 0) → Context → Context → Type 0
@@ -165,10 +193,26 @@ pub record IsRousingOf (role pause moment : ℕ) (roles : List Named) (p : Pendi
   pub works : works_at p.event ≡ true
   pub due : IsDueAfter pause moment p
 
+-- only the stage at a place is roused, after the pause, and not where it was
+abbrev pub RousesAt : ℕ → ℕ → List (Option StageContinuation) → Context → Context → Type 0
+RousesAt at pause ts a b =
+    (IsRoused ts at → SetsOnly (λ p. ⊥) a b)
+    × ((first : ℕ) → AreNamed a.roles first ts → SetsOnly (IsRousingOf (first + at) pause a.moment a.roles) a b)
+
 -- the continuation of a role is told of an event
 pub record IsTelling (event : Event) (role : ℕ) (roles : List Named) (p : Pending) : Type 0 where
   pub event_is : p.event ≡ event
   pub role_is : role_at p.key.index roles ≡ Some role
+
+-- the continuation of the stage before a place is told of an event, where the stages have the roles from the first on
+pub record IsTellingBefore (event : Event) (first at : ℕ) (roles : List Named) (p : Pending) : Type 0 where
+  pub place : ℕ
+  pub before : place + 1 ≡ at
+  pub telling : IsTelling event (first + place) roles p
+
+-- only such events were set, whatever role is the first
+abbrev pub OnlyTellsBefore : Event → ℕ → List (Option StageContinuation) → Context → Context → Type 0
+OnlyTellsBefore event at ts a b = (first : ℕ) → AreNamed a.roles first ts → SetsOnly (IsTellingBefore event first at a.roles) a b
 
 -- at most so many events were set
 pub record SetsFew (most : ℕ) (old new : Context) : Type 0 where
@@ -185,5 +229,53 @@ pub record IsHandled (before now : List Pending) (roles : List Named) (role : �
 
 -- an event of the key is pending at which its stage works, if there is a key
 abbrev pub HasEventIf : List Pending → Option ContKey → Type 0
-HasEventIf pending None = Unit {0}
+HasEventIf pending None = ⊤
 HasEventIf pending (Some key) = HasEvent pending key
+
+-- Why an event was not set, in the context that was left. Want of memory has no cause here.
+abbrev pub IsCause : SetFault → Context → Type 0
+IsCause F.NoMemory now = ⊤
+IsCause F.Dead now = ⊤
+IsCause F.Spent now = GREATEST ≤ now.log.state.next
+
+-- What calls leave that set at most so many events: all else goes on. Where one could not be set, they say why.
+pub record AddsEvents {T : Type 0} (most : ℕ) (result : Result T SetFault) (old new : Context) : Type 0 where
+  pub grows : Grows old new
+  pub keeps : Keeps old new
+  pub few : SetsFew most old new
+  pub cause : IfErr result (λ fault. IsCause fault new)
+
+-- What a handler leaves that sets at most so many events, and may make or destroy continuations.
+pub record ActsWithin (most : ℕ) (old new : Context) : Type 0 where
+  pub grows : Grows old new
+  pub turn : new.log.state.held ≡ true
+  pub plain : AllPlain old.log.state.pending → AllPlain new.log.state.pending
+  pub few : SetsFew most old new
+
+-- What is left where a continuation was destroyed, or was not live: nothing was set.
+pub record Lessens (old new : Context) : Type 0 where
+  pub grows : Grows old new
+  pub turn : new.log.state.held ≡ true
+  pub plain : AllPlain old.log.state.pending → AllPlain new.log.state.pending
+  pub few : SetsFew 0 old new
+  pub none : SetsOnly (λ p. ⊥) old new
+
+-- A continuation of a role outside the roles of stages keeps its role and its event.
+abbrev pub KeepsOthers : ℕ → List (Option StageContinuation) → Context → Context → Type 0
+KeepsOthers first ts a b = (role : ℕ) (t : Option StageContinuation) → AreNamed a.roles first ts
+    → (role < first) ⊎ (first + length ts ≤ role)
+    → IsOfStageIf a.log.state.pending a.roles role t → IsOfStageIf b.log.state.pending b.roles role t
+
+-- A continuation was marked as roused, for which an event of this key has then to be set; none where it was roused before.
+abbrev pub IsMarked : Option ContKey → Option StageContinuation → Option StageContinuation → Type 0
+IsMarked key t u = (a b : Context) → Keeps a b → HasEventIf b.log.state.pending key → (role : ℕ)
+    → IsOfStageIf a.log.state.pending a.roles role t → IsOfStageIf b.log.state.pending b.roles role u
+
+-- So was the last of these.
+abbrev pub IsLastMarked : Option ContKey → List (Option StageContinuation) → List (Option StageContinuation) → Type 0
+IsLastMarked key ts us = (a b : Context) → Keeps a b → HasEventIf b.log.state.pending key → (first : ℕ)
+    → AreOfStages a.log.state.pending a.roles first ts → AreOfStages b.log.state.pending b.roles first us
+
+-- Each continuation that was made before keeps its role and its event.
+abbrev pub KeepsMade : Context → Context → Type 0
+KeepsMade a b = (role : ℕ) (t : Option StageContinuation) → IsOfStageIf a.log.state.pending a.roles role t → IsOfStageIf b.log.state.pending b.roles role t

@@ -1,5 +1,5 @@
 -- A chain, and the flow through it: one expression for all that it still gives, whatever stands where on the way.
-use Rattle.std.specs.Prelude.{◌≡◌, ℕ, zero, suc, ◌+◌, ◌++◌, List, [], ◌∷◌, Bool, true, length, drop, map, Option, Some, None, ◌<◌, ◌⊎◌}
+use Rattle.std.specs.Prelude.{◌≡◌, ◌≢◌, ℕ, zero, suc, ◌+◌, ◌++◌, List, [], ◌∷◌, Bool, true, false, ⊤, length, drop, take, map, Option, Some, None, ◌<◌, ◌⊎◌}
 use Rattle.ts_transform.specs.declared.pump.Stage.{Stage}
 use Rattle.ts_transform.specs.declared.pump.Pumped.{Pumped}
 use Rattle.ts_transform.specs.Stage.{passed, has_ended, has_work, Answers, Steps, to_end}
@@ -63,6 +63,10 @@ StepsAt rest from (s ∷ ss) zero r from' (s' ∷ ss') = Steps rest from s r fro
 StepsAt rest from (s ∷ ss) (suc at) r from' (s' ∷ ss') =
     (from' ≡ from) × (s'.part ≡ s.part) × StepsAt rest s.after ss at r s'.after ss'
 
+-- the bytes of a chain that wait for its client
+abbrev pub client_wait : {P : Type 0} → ChainState P → List ℕ
+client_wait c = last_wait c.first c.stages
+
 -- n bytes were taken from the last boundary, and all else stays as it is
 abbrev pub Takes : {P : Type 0} → List ℕ → List (Stage P) → ℕ → List ℕ → List (Stage P) → Type 0
 Takes from [] n from' ss' = (from' ≡ drop n from) × (ss' ≡ [])
@@ -93,21 +97,46 @@ HasWork up from [] at = ⊥
 HasWork up from (s ∷ ss) zero = has_work (has_ended s) up from ≡ true
 HasWork up from (s ∷ ss) (suc at) = HasWork (has_ended s) s.after ss at
 
+-- a stage takes no input where as many bytes wait after it
+abbrev pub MOST_WAITING : ℕ
+MOST_WAITING = 65536
+
 -- the stage at a place must work: it has work, and there is room after it
 abbrev pub MustPump : {P : Type 0} → Bool → List ℕ → List (Stage P) → ℕ → Type 0
 MustPump up from [] at = ⊥
-MustPump up from (s ∷ ss) zero = (has_work (has_ended s) up from ≡ true) × (length s.after < 65536)
+MustPump up from (s ∷ ss) zero = (has_work (has_ended s) up from ≡ true) × (length s.after < MOST_WAITING)
 MustPump up from (s ∷ ss) (suc at) = MustPump (has_ended s) s.after ss at
 
--- the milliseconds that the stage at a place waits between two of its events
+-- the stage of a chain at a place must work
+abbrev pub MustWork : {P : Type 0} → ChainState P → ℕ → Type 0
+MustWork c at = MustPump c.given c.first c.stages at
+
+-- more may be given to a chain, and there is room before its first stage
+abbrev pub MustRead : {P : Type 0} → ChainState P → Type 0
+MustRead c = (c.given ≡ false) × (length c.first < MOST_WAITING)
+
+-- bytes wait for its client
+abbrev pub MustWrite : {P : Type 0} → ChainState P → Type 0
+MustWrite c = client_wait c ≢ []
+
+-- a stage has ended only where nothing more comes to it
+abbrev pub EndsInOrder : {P : Type 0} → Bool → List (Stage P) → Type 0
+EndsInOrder up [] = ⊤
+EndsInOrder up (s ∷ ss) = (has_ended s ≡ true → up ≡ true) × EndsInOrder (has_ended s) ss
+
+-- no stage of a chain has work but the first
+abbrev pub OnlyFirstWorks : {P : Type 0} → ChainState P → Type 0
+OnlyFirstWorks c = (j : ℕ) → HasWork c.given c.first c.stages (j + 1) → ⊥
+
+-- the milliseconds between two events of the stage at a place
 abbrev pub pause_at : {P : Type 0} → (P → ℕ) → List (Stage P) → ℕ → ℕ
-pause_at wait [] at = 0
-pause_at wait (s ∷ ss) zero = pause_of wait s.part
+pause_at pause [] at = 0
+pause_at pause (s ∷ ss) zero = pause_of pause s.part
   where
     pause_of : {P : Type 0} → (P → ℕ) → Option P → ℕ
-    pause_of wait None = 0
-    pause_of wait (Some part) = wait part
-pause_at wait (s ∷ ss) (suc at) = pause_at wait ss at
+    pause_of pause None = 0
+    pause_of pause (Some part) = pause part
+pause_at pause (s ∷ ss) (suc at) = pause_at pause ss at
 
 -- whether the stage at a place has ended
 abbrev pub ended_at : {P : Type 0} → List (Stage P) → ℕ → Bool
@@ -122,6 +151,25 @@ pub record PumpsAt {P : Type 0} (rest : P → List ℕ → List ℕ) (at : ℕ) 
   pub steps : StepsAt rest c.first c.stages at pumped d.first d.stages
   pub given : d.given ≡ c.given
 
+-- the stage at a place was let work by one pump, or nothing changed
+abbrev pub MayPump : {P : Type 0} → (P → List ℕ → List ℕ) → ℕ → ChainState P → ChainState P → Type 0
+MayPump rest at c d = (d ≡ c) ⊎ PumpsAt rest at c d
+
 -- at most one stage was let work, by one pump
 abbrev pub PumpsOnce : {P : Type 0} → (P → List ℕ → List ℕ) → ChainState P → ChainState P → Type 0
 PumpsOnce rest c d = (d ≡ c) ⊎ ((at : ℕ) × PumpsAt rest at c d)
+
+-- n bytes were taken from those that wait for the client, and all else stays as it is
+pub record TakesAway {P : Type 0} (rest : P → List ℕ → List ℕ) (n : ℕ) (c d : ChainState P) : Type 0 where
+  pub takes : Takes c.first c.stages n d.first d.stages
+  pub flow : (z : List ℕ) → flow rest c z ≡ take n (client_wait c) ++ flow rest d z
+  pub falls : (z : List ℕ) → left_to_do rest d z + n ≡ left_to_do rest c z
+  pub wait : client_wait d ≡ drop n (client_wait c)
+  pub ended : last_ended d.given d.stages ≡ last_ended c.given c.stages
+  pub given : d.given ≡ c.given
+  pub len : length d.stages ≡ length c.stages
+
+-- the bytes came to the chain, in front of what is still to come
+pub record IsGiven {P : Type 0} (rest : P → List ℕ → List ℕ) (bytes : List ℕ) (c d : ChainState P) : Type 0 where
+  pub chain : d ≡ record c { first = c.first ++ bytes }
+  pub flow : (z : List ℕ) → flow rest d z ≡ flow rest c (bytes ++ z)

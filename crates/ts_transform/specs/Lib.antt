@@ -1,5 +1,10 @@
+pub mod Acting
+pub mod Carrying
 pub mod Cover
+pub mod Driven
 pub mod Driving
 pub mod Flow
 pub mod Law
+pub mod Loss
 pub mod Stage
+pub mod World

@@ -1,5 +1,5 @@
 -- One stage of a chain: a transform, until it has ended, and the bytes that wait after it.
-use Rattle.std.specs.Prelude.{◌≡◌, ℕ, ◌≤◌, ◌++◌, List, [], ◌∷◌, Bool, true, false, nat_le, length, drop, take, Option, Some, None, is_none}
+use Rattle.std.specs.Prelude.{◌≡◌, ℕ, ◌≤◌, ◌++◌, List, [], ◌∷◌, Bool, true, false, nat_le, length, drop, take, Option, Some, None, is_none, ⊤}
 use Rattle.ts_transform.specs.Law.{Adds}
 use Rattle.ts_transform.specs.declared.pump.Stage.{Stage}
 use Rattle.ts_transform.specs.declared.pump.Pumped.{Pumped}
@@ -66,8 +66,8 @@ to_end false = 1
 
 -- what holds where a pump did nothing
 abbrev pub IfRests : Pumped → Type 0 → Type 0
-IfRests (Moved n) P = Unit {0}
-IfRests Ended P = Unit {0}
+IfRests (Moved n) P = ⊤
+IfRests Ended P = ⊤
 IfRests (Blocked w) P = P
 IfRests Idle P = P
 

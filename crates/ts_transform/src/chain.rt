@@ -1,7 +1,9 @@
+//! A chain of transforms, with the bytes that wait before, between and after them.
 ghost use Rattle.std.specs.Prelude.{◌≡◌, ◌+◌, ◌<◌, ◌≤◌, ◌++◌, ◌↔◌, List, ℕ, [], length, take, drop, map, true, false, IsTrue, IfOk, OnOk, OnErr, MatchOption};
 ghost use Rattle.std.specs.Bool.{OnTrue};
 ghost use Rattle.ts_transform.specs.Stage.{IfRests, done_by};
-ghost use Rattle.ts_transform.specs.Flow.{flow, compose, left_to_do, wait_at, last_wait, last_ended, fresh_stage, aborted, ended_at, pause_at, IsFinished, MustPump, AnswersAt, StepsAt, Takes};
+ghost use Rattle.ts_transform.specs.Flow.{AnswersAt, IsFinished, IsGiven, MOST_WAITING, MustRead, MustWork, MustWrite, StepsAt, TakesAway, aborted, client_wait, compose, ended_at, flow, fresh_stage, last_ended, left_to_do, pause_at, wait_at};
+ghost use Rattle.ts_vconn.specs.Moves.{PullsOn};
 
 use crate::pump::{MOST_WAITING, Pumped, Stage, pump_at};
 use crate::stages::{
@@ -12,7 +14,8 @@ use crate::transform::Transform;
 use std::alloc::Global;
 use std::marker::Model;
 use ts_iobuf::Waiting;
-use ts_link::{NoMemory, Octets};
+use ts_link::{Link, NoMemory, Octets};
+use ts_vconn::{MOST_PULLED, Pulled, pull_waiting};
 
 /// A chain of transforms, with the bytes that wait before, between and after them. Boundary 0 lies before the first
 /// stage, and boundary `stages()` at the client.
@@ -34,7 +37,8 @@ impl<P> Model for Chain<P> {
 impl<P: Transform + Drop> Chain<P> {
     /// A chain of these parts, the first of which acts first. What it gives is their composition over what it gets.
     pub fn make(alloc: Global, parts: Vec<P>) -> Result<Chain<P>, NoMemory>
-        ensures made { IfOk result (λ c. c ≡ record { first = []; stages = map fresh_stage parts.items; given = false }) }
+        ensures made { IfOk result
+            (λ c. c ≡ record { first = []; stages = map fresh_stage parts.items; given = false }) }
         ensures flow { IfOk result (λ c. (z : List ℕ) → flow P.rest c z ≡ compose P.rest parts.items z) }
     {
         let first = Waiting::new(alloc)?;
@@ -48,7 +52,8 @@ impl<P: Transform + Drop> Chain<P> {
 
     /// A chain of these parts over a whole body, which is taken over without a copy; no more bytes come.
     pub fn over(alloc: Global, parts: Vec<P>, body: Octets) -> Result<Chain<P>, NoMemory>
-        ensures made { IfOk result (λ c. c ≡ record { first = body; stages = map fresh_stage parts.items; given = true }) }
+        ensures made { IfOk result
+            (λ c. c ≡ record { first = body; stages = map fresh_stage parts.items; given = true }) }
         ensures flow { IfOk result (λ c. flow P.rest c [] ≡ compose P.rest parts.items body) }
     {
         let first = Waiting::of_octets(alloc, body)?;
@@ -70,8 +75,7 @@ impl<P: Transform + Drop> Chain<P> {
     /// Gives it more bytes, in front of what is still to come.
     pub fn give(&mut self, bytes: &[u8]) -> Result<(), NoMemory>
         requires { self.old.given ≡ false }
-        ensures ok { OnOk result (self.new ≡ record self.old { first = self.old.first ++ bytes.now }) }
-        ensures flow { OnOk result ((z : List ℕ) → flow P.rest self.new z ≡ flow P.rest self.old (bytes.now ++ z)) }
+        ensures ok { OnOk result (IsGiven P.rest bytes.now self.old self.new) }
         ensures err { OnErr result (self.new ≡ self.old) }
     {
         self.first.write(bytes)
@@ -96,21 +100,19 @@ impl<P: Transform + Drop> Chain<P> {
 
     /// Lets a stage work. It is `Idle` where it has ended, or where nothing waits before it and more may come; else
     /// `Blocked` where 65,536 bytes or more wait after it; else it ends where nothing waits before it; else it takes
-    /// at most 32,768 bytes.
+    /// at most 32,768 bytes. Only its own stage and the boundaries beside it change, and the flow stays: for whatever
+    /// still comes before the end was given, and for nothing afterwards.
     pub fn pump(&mut self, stage: usize) -> Result<Pumped, NoMemory>
         requires { stage < length self.old.stages }
         ensures answer { IfOk result (AnswersAt self.old.given self.old.first self.old.stages stage) }
-
-        // Only its own stage and the boundaries beside it change, and the flow stays: for whatever still comes before
-        // the end was given, and for nothing afterwards.
-        ensures steps { IfOk result (λ r. StepsAt P.rest self.old.first self.old.stages stage r self.new.first self.new.stages) }
-        ensures flow { OnOk result ((z : List ℕ) → OnTrue self.old.given (z ≡ []) →
-            flow P.rest self.new z ≡ flow P.rest self.old z) }
+        ensures steps { IfOk result
+            (λ r. StepsAt P.rest self.old.first self.old.stages stage r self.new.first self.new.stages) }
+        ensures flow { OnOk result ((z : List ℕ) → OnTrue self.old.given (z ≡ [])
+            → flow P.rest self.new z ≡ flow P.rest self.old z) }
         ensures rests { IfOk result (λ r. IfRests r (self.new ≡ self.old)) }
-        ensures falls { IfOk result (λ r. (z : List ℕ) → OnTrue self.old.given (z ≡ []) →
-            left_to_do P.rest self.new z + done_by r ≡ left_to_do P.rest self.old z) }
-        ensures given { self.new.given ≡ self.old.given }
-        ensures len { length self.new.stages ≡ length self.old.stages }
+        ensures falls { IfOk result (λ r. (z : List ℕ) → OnTrue self.old.given (z ≡ [])
+            → left_to_do P.rest self.new z + done_by r ≡ left_to_do P.rest self.old z) }
+        ensures kept { (self.new.given ≡ self.old.given) × (length self.new.stages ≡ length self.old.stages) }
         ensures err { OnErr result (self.new ≡ self.old) }
     {
         pump_at(self.given, &mut self.first, &mut self.stages, stage)
@@ -118,24 +120,17 @@ impl<P: Transform + Drop> Chain<P> {
 
     /// Lends the first of the bytes that wait for the client, without a copy; `None` where none waits.
     pub fn out_block(&self) -> Option<&[u8]>
-        ensures { let out = last_wait self.now.first self.now.stages in
-            MatchOption result (out ≡ []) (λ b. (0 < length b.now) × (length b.now ≤ length out)
-            × (b.now ≡ take (length b.now) out)) }
+        ensures { MatchOption result (client_wait self.now ≡ []) (λ b. (0 < length b.now)
+            × (length b.now ≤ length (client_wait self.now))
+            × (b.now ≡ take (length b.now) (client_wait self.now))) }
     {
         last_block(&self.first, self.stages.as_slice())
     }
 
     /// Takes away the first `n` bytes that wait for the client.
     pub fn take(&mut self, n: usize)
-        requires { n ≤ length (last_wait self.old.first self.old.stages) }
-        ensures flow { (z : List ℕ) → flow P.rest self.old z
-            ≡ take n (last_wait self.old.first self.old.stages) ++ flow P.rest self.new z }
-        ensures takes { Takes self.old.first self.old.stages n self.new.first self.new.stages }
-        ensures falls { (z : List ℕ) → left_to_do P.rest self.new z + n ≡ left_to_do P.rest self.old z }
-        ensures wait { last_wait self.new.first self.new.stages ≡ drop n (last_wait self.old.first self.old.stages) }
-        ensures ended { last_ended self.new.given self.new.stages ≡ last_ended self.old.given self.old.stages }
-        ensures given { self.new.given ≡ self.old.given }
-        ensures len { length self.new.stages ≡ length self.old.stages }
+        requires { n ≤ length (client_wait self.old) }
+        ensures { TakesAway P.rest n self.old self.new }
     {
         take_last(&mut self.first, &mut self.stages, n);
     }
@@ -160,16 +155,57 @@ impl<P: Transform + Drop> Chain<P> {
         self.given = true;
     }
 
+    /// Whether its end was given.
+    pub fn is_given(&self) -> bool
+        ensures { result ≡ self.now.given }
+    {
+        self.given
+    }
+
+    /// Whether fewer than 65,536 bytes wait before its first stage.
+    pub fn has_room(&self) -> bool
+        ensures { IsTrue result ↔ (length self.now.first < MOST_WAITING) }
+    {
+        self.first.len() < MOST_WAITING
+    }
+
+    /// Whether more may be given to it, and there is room before its first stage.
+    pub fn must_read(&self) -> bool
+        ensures { IsTrue result ↔ MustRead self.now }
+    {
+        !self.given && self.first.len() < MOST_WAITING
+    }
+
+    /// Whether bytes wait for the client.
+    pub fn has_output(&self) -> bool
+        ensures { IsTrue result ↔ MustWrite self.now }
+    {
+        last_waiting(&self.first, self.stages.as_slice()) > 0
+    }
+
+    /// Reads once from a link, behind the bytes that wait before the first stage.
+    pub fn pull<L: Link>(&mut self, link: &mut L) -> Result<Pulled, NoMemory>
+        requires { self.old.given ≡ false }
+        ensures pulled { IfOk result (λ p. PullsOn L.tells (L.look link.old) (L.look link.new)
+            self.old.first self.new.first p MOST_PULLED) }
+        ensures kept { (self.new.stages ≡ self.old.stages) × (self.new.given ≡ self.old.given) }
+        ensures goes { L.goes link.old link.new }
+        ensures err { OnErr result ((self.new ≡ self.old) × (link.new ≡ link.old)) }
+    {
+        pull_waiting(link, &mut self.first, MOST_PULLED)
+    }
+
     /// Whether a stage has work, and room after it.
     pub fn must_pump(&self, stage: usize) -> bool
-        ensures { IsTrue result ↔ MustPump self.now.given self.now.first self.now.stages stage }
+        ensures { IsTrue result ↔ MustWork self.now stage }
     {
         must_pump(self.given, &self.first, self.stages.as_slice(), stage)
     }
 
     /// Whether the last stage has not ended, and 65,536 bytes or more wait after it; it takes no input then.
     pub fn is_last_full(&self) -> bool
-        ensures { IsTrue result ↔ ((last_ended true self.now.stages ≡ false) × (65536 ≤ length (last_wait self.now.first self.now.stages))) }
+        ensures { IsTrue result ↔ ((last_ended true self.now.stages ≡ false)
+            × (MOST_WAITING ≤ length (client_wait self.now))) }
     {
         let stages = self.stages.as_slice();
         !has_ended(true, stages) && last_waiting(&self.first, stages) >= MOST_WAITING
@@ -184,7 +220,7 @@ impl<P: Transform + Drop> Chain<P> {
 
     /// The milliseconds that a stage waits between two of its events.
     pub fn pause(&self, stage: usize) -> u64
-        ensures { result ≡ pause_at P.wait self.now.stages stage }
+        ensures { result ≡ pause_at P.pause self.now.stages stage }
     {
         pause_at(self.stages.as_slice(), stage)
     }

@@ -1,9 +1,8 @@
-// The continuations of stages, and how they are roused.
+//! The continuations of stages, and how one is roused.
 ghost use Rattle.std.specs.Prelude.{◌≡◌, ℕ, ◌<◌, ◌⊎◌, true, Some, OnOk};
-ghost use Rattle.ts_group.specs.Entries.{Grows};
 ghost use Rattle.ts_journal.specs.declared.entry.Event.TheVariants.{WriteReady};
 ghost use Rattle.ts_transform.specs.declared.continuation.Rouser.TheVariants as Rouser;
-ghost use Rattle.ts_transform.specs.Driving.{works_at, HasEvent, HasKind, IsOfStageIf, IsRousedIf, Keeps, SetsOnly, SetsFew, IsWorkOf, IsRousingOf, IsNamedIf, unroused};
+ghost use Rattle.ts_transform.specs.Driving.{works_at, AddsEvents, HasEvent, HasKind, IsRousedIf, IsRousingOf, IsNamedIf, IsToldIf, IsWorkOf, KeepsStage, SetsOnly};
 
 use ts_group::{Action, Cx, SetFault};
 use ts_journal::{ContKey, Event};
@@ -36,15 +35,14 @@ pub fn works(event: Event) -> bool
 }
 
 // Sets an event at which the stage works: after its pause, and if it has none, at once.
-#[tactic(auto, using(crate::proofs::Kept::set_keeps, crate::proofs::Kept::set_event, crate::proofs::Kept::works_soon, crate::proofs::Kept::set_kind, crate::proofs::Kept::soon_now, crate::proofs::Kept::soon_later))]
+#[tactic(auto, using(crate::proofs::Kept::set_adds, crate::proofs::Kept::set_event, crate::proofs::Kept::works_soon, crate::proofs::Kept::set_kind, crate::proofs::Kept::soon_now, crate::proofs::Kept::soon_later))]
 fn set_event(key: ContKey, rouser: Rouser, pause: u64, cx: &mut Cx) -> Result<Action, SetFault>
     requires turn { cx.old.log.state.held ≡ true }
-    ensures grows { Grows cx.old cx.new }
-    ensures keeps { Keeps cx.old cx.new }
-    ensures few { SetsFew 1 cx.old cx.new }
+    ensures adds { AddsEvents 1 result cx.old cx.new }
     ensures only { SetsOnly (IsWorkOf key pause cx.old.moment) cx.old cx.new }
     ensures event { OnOk result (HasEvent cx.new.log.state.pending key) }
-    ensures called { rouser ≡ Rouser.Downstream → pause ≡ 0 → OnOk result (HasKind cx.new.log.state.pending key WriteReady) }
+    ensures called { rouser ≡ Rouser.Downstream → pause ≡ 0
+        → OnOk result (HasKind cx.new.log.state.pending key WriteReady) }
 {
     if pause > 0 {
         return cx.schedule(key, pause);
@@ -56,7 +54,7 @@ fn set_event(key: ContKey, rouser: Rouser, pause: u64, cx: &mut Cx) -> Result<Ac
 }
 
 /// Sees that an event of the continuation is pending at which its stage works.
-#[tactic(auto, using(ts_group::proofs::Grows::grows_refl, crate::proofs::Kept::keeps_refl, crate::proofs::Kept::few_refl, crate::proofs::Kept::kept_if, crate::proofs::Kept::roused_if, crate::proofs::Setting::only_none))]
+#[tactic(auto, using(crate::proofs::Kept::kept_if, crate::proofs::Kept::roused_if, crate::proofs::Setting::only_none))]
 pub fn rouse(
     slot: &mut Option<StageContinuation>,
     rouser: Rouser,
@@ -64,17 +62,14 @@ pub fn rouse(
     cx: &mut Cx,
 ) -> Result<(), SetFault>
     requires turn { cx.old.log.state.held ≡ true }
-    ensures grows { Grows cx.old cx.new }
-    ensures keeps { Keeps cx.old cx.new }
-    ensures few { SetsFew 1 cx.old cx.new }
+    ensures adds { AddsEvents 1 result cx.old cx.new }
+    ensures stage { KeepsStage cx.old cx.new slot.old slot.new }
     ensures rests { IsRousedIf slot.old → SetsOnly (λ p. ⊥) cx.old cx.new }
-    ensures only { (role : ℕ) → IsNamedIf cx.old.roles role slot.old → SetsOnly (IsRousingOf role pause cx.old.moment cx.old.roles) cx.old cx.new }
-    ensures of_stage { (role : ℕ) → IsOfStageIf cx.old.log.state.pending cx.old.roles role slot.old
-        → IsOfStageIf cx.new.log.state.pending cx.new.roles role slot.new }
+    ensures only { (role : ℕ) → IsNamedIf cx.old.roles role slot.old
+        → SetsOnly (IsRousingOf role pause cx.old.moment cx.old.roles) cx.old cx.new }
     ensures roused { OnOk result (IsRousedIf slot.new) }
-    ensures called { rouser ≡ Rouser.Downstream → pause ≡ 0 → OnOk result (IsRousedIf slot.old ⊎ ((t : StageContinuation) → slot.new ≡ Some t → HasKind cx.new.log.state.pending t.key WriteReady)) }
-    ensures still { IsRousedIf slot.old → IsRousedIf slot.new }
-    ensures same { unroused slot.new ≡ unroused slot.old }
+    ensures called { rouser ≡ Rouser.Downstream → pause ≡ 0
+        → OnOk result (IsRousedIf slot.old ⊎ IsToldIf cx.new.log.state.pending WriteReady slot.new) }
 {
     let Some(continuation) = slot else {
         return Err(SetFault::Dead);

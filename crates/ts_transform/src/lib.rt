@@ -1,9 +1,17 @@
 //! Transforms of a body, and chains of them (the Developer's Guide, "HTTP Transformation Plugin").
 #![tactic(auto)]
 
+mod link_drive;
+mod link_ends;
+#[cfg(test)]
+mod link_tests;
 mod chain;
 mod continuation;
+mod driven;
+mod ends;
 mod handler;
+mod link_world;
+mod loss;
 mod pump;
 mod rousing;
 mod stages;
@@ -17,6 +25,10 @@ mod world;
 mod world_tests;
 
 pub use chain::Chain;
+pub use driven::DrivenChain;
+pub use link_drive::drive_links;
+pub use link_world::LinkWorld;
+pub use loss::Loss;
 pub use pump::Pumped;
 pub use transform::Transform;
 pub use world::ChainWorld;

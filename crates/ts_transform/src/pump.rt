@@ -1,4 +1,4 @@
-// The work of one stage, and of the stage at a place of several.
+//! The work of one stage, and of the stage at a place of several.
 ghost use Rattle.std.specs.Prelude.{◌≡◌, ℕ, ◌+◌, ◌<◌, ◌≤◌, ◌++◌, List, [], length, take, false, IfOk, OnOk, OnErr};
 ghost use Rattle.std.specs.Bool.{OnTrue};
 ghost use Rattle.ts_transform.specs.Law.{Adds};

@@ -1,10 +1,9 @@
-// The continuations of a chain's stages, in the order of the stages.
+//! The continuations of a chain's stages, in the order of the stages, and how those at a place are roused and told.
 ghost use Rattle.std.specs.Prelude.{◌≡◌, ◌≢◌, ℕ, ◌+◌, ◌<◌, length, slice_get, Some, None, true, OnOk, IfOk, IfErr, IfSome};
 ghost use Rattle.ts_group.specs.declared.action.SetFault.TheVariants.{Dead};
-ghost use Rattle.ts_group.specs.Context.{Context};
+ghost use Rattle.ts_journal.specs.declared.entry.Event.TheVariants.{WriteReady};
 ghost use Rattle.ts_transform.specs.declared.continuation.Rouser.TheVariants as Rouser;
-ghost use Rattle.ts_group.specs.Entries.{Grows};
-ghost use Rattle.ts_transform.specs.Driving.{IsOfStageIf, IsRousedIf, HasEventIf, AreOfStages, AreNamed, IsRoused, Keeps, SetsOnly, SetsFew, IsRousingOf, IsTelling, IsTold, IsCalledUnless, works_at, unroused, unroused_for, error_passed, gone, changed, all_unroused, may_pass_error_at, last_of};
+ghost use Rattle.ts_transform.specs.Driving.{AddsEvents, AreNamed, IsCalledUnless, IsLastMarked, IsMarked, IsRoused, IsRousedIf, IsTelling, IsTold, KeepsStages, RousesAt, SetsOnly, all_unroused, changed, error_passed, gone, last_of, may_pass_error_at, unroused, unroused_at};
 
 use crate::continuation::{Rouser, StageContinuation, rouse, works};
 use ts_group::{Cx, SetFault};
@@ -21,18 +20,13 @@ pub fn rouse_at(
 ) -> Result<(), SetFault>
     requires turn { cx.old.log.state.held ≡ true }
     requires at { at < length table.old }
-    ensures grows { Grows cx.old cx.new }
-    ensures keeps { Keeps cx.old cx.new }
-    ensures few { SetsFew 1 cx.old cx.new }
-    ensures rests { IsRoused table.old at → SetsOnly (λ p. ⊥) cx.old cx.new }
-    ensures only { (role : ℕ) → AreNamed cx.old.roles role table.old → SetsOnly (IsRousingOf (role + at) pause cx.old.moment cx.old.roles) cx.old cx.new }
-    ensures of_stages { (role : ℕ) → AreOfStages cx.old.log.state.pending cx.old.roles role table.old
-        → AreOfStages cx.new.log.state.pending cx.new.roles role table.new }
+    ensures adds { AddsEvents 1 result cx.old cx.new }
+    ensures stages { KeepsStages cx.old cx.new table.old table.new }
+    ensures rouses { RousesAt at pause table.old cx.old cx.new }
     ensures roused { OnOk result (IsRoused table.new at) }
-    ensures called { rouser ≡ Rouser.Downstream → pause ≡ 0 → OnOk result (IsCalledUnless table.old cx.new.log.state.pending table.new at) }
+    ensures called { rouser ≡ Rouser.Downstream → pause ≡ 0
+        → OnOk result (IsCalledUnless table.old cx.new.log.state.pending table.new at) }
     ensures others { (j : ℕ) → j ≢ at → slice_get table.new j ≡ slice_get table.old j }
-    ensures still { (j : ℕ) → IsRoused table.old j → IsRoused table.new j }
-    ensures same { all_unroused table.new ≡ all_unroused table.old }
 {
     let Some((first, others)) = table.split_first_mut() else {
         unreachable!()
@@ -59,11 +53,11 @@ fn unrouse_at(table: &mut [Option<StageContinuation>], at: usize)
     }
 }
 
-/// Says so if the stage works at the event.
+/// Says that an event of the stage at a place is handled: it is roused no more, if it works at that event.
 #[tactic(auto, using(crate::proofs::Told::same_unroused))]
 pub fn unrouse_for(table: &mut [Option<StageContinuation>], at: usize, event: Event)
     requires { at < length table.old }
-    ensures table { table.new ≡ unroused_for (works_at event) table.old at }
+    ensures table { table.new ≡ unroused_at event table.old at }
     ensures same { all_unroused table.new ≡ all_unroused table.old }
 {
     if works(event) {
@@ -108,7 +102,7 @@ pub fn take_at(table: &mut [Option<StageContinuation>], at: usize) -> Option<Sta
 }
 
 /// Calls the stage at a place with an event at which it does not work, if it has a continuation.
-#[tactic(auto, using(ts_group::proofs::Grows::grows_refl, crate::proofs::Kept::keeps_refl, crate::proofs::Kept::few_refl, crate::proofs::Kept::set_keeps, crate::proofs::Kept::set_few, crate::proofs::Kept::set_kind))]
+#[tactic(auto, using(crate::proofs::Setting::only_none, crate::proofs::Kept::set_kind))]
 pub fn tell(
     table: &[Option<StageContinuation>],
     at: usize,
@@ -117,11 +111,10 @@ pub fn tell(
 ) -> Result<(), SetFault>
     requires turn { cx.old.log.state.held ≡ true }
     requires at { at < length table.now }
-    ensures grows { Grows cx.old cx.new }
-    ensures keeps { Keeps cx.old cx.new }
-    ensures few { SetsFew 1 cx.old cx.new }
+    ensures adds { AddsEvents 1 result cx.old cx.new }
     ensures told { OnOk result (IsTold cx.new.log.state.pending event table.now at) }
-    ensures only { (role : ℕ) → AreNamed cx.old.roles role table.now → SetsOnly (IsTelling event (role + at) cx.old.roles) cx.old cx.new }
+    ensures only { (first : ℕ) → AreNamed cx.old.roles first table.now
+        → SetsOnly (IsTelling event (first + at) cx.old.roles) cx.old cx.new }
 {
     let Some(Some(continuation)) = table.get(at) else {
         return Ok(());
@@ -134,8 +127,7 @@ pub fn tell(
 // before.
 #[tactic(auto, using(crate::proofs::Kept::kept_if, crate::proofs::Kept::roused_if))]
 fn mark(slot: &mut Option<StageContinuation>) -> Result<Option<ContKey>, SetFault>
-    ensures marked { IfOk result (λ key. (a b : Context) → Keeps a b → HasEventIf b.log.state.pending key → (role : ℕ)
-        → IsOfStageIf a.log.state.pending a.roles role slot.old → IsOfStageIf b.log.state.pending b.roles role slot.new) }
+    ensures marked { IfOk result (λ key. IsMarked key slot.old slot.new) }
     ensures roused { OnOk result (IsRousedIf slot.new) }
     ensures still { IsRousedIf slot.old → IsRousedIf slot.new }
     ensures same { unroused slot.new ≡ unroused slot.old }
@@ -156,13 +148,14 @@ fn mark(slot: &mut Option<StageContinuation>) -> Result<Option<ContKey>, SetFaul
 /// Marks the last stage as roused, and answers the key for which an event has then to be set; `None` where it was
 /// roused before. It refuses where there is none, or it has no continuation.
 pub fn mark_last(table: &mut [Option<StageContinuation>]) -> Result<Option<ContKey>, SetFault>
-    ensures marked { IfOk result (λ key. (a b : Context) → Keeps a b → HasEventIf b.log.state.pending key → (role : ℕ)
-        → AreOfStages a.log.state.pending a.roles role table.old → AreOfStages b.log.state.pending b.roles role table.new) }
+    ensures marked { IfOk result (λ key. IsLastMarked key table.old table.new) }
     ensures last { OnOk result ((j : ℕ) → j + 1 ≡ length table.old → IsRoused table.new j) }
     ensures still { (j : ℕ) → IsRoused table.old j → IsRoused table.new j }
     ensures same { all_unroused table.new ≡ all_unroused table.old }
-    ensures key { IfOk result (λ key. IfSome key (λ k. (t : StageContinuation) → last_of table.old ≡ Some t → k ≡ t.key)) }
-    ensures rests { IfOk result (λ key. IfSome key (λ k. (j : ℕ) → j + 1 ≡ length table.old → IsRoused table.old j → ⊥)) }
+    ensures key { IfOk result (λ key. IfSome key
+        (λ k. (t : StageContinuation) → last_of table.old ≡ Some t → k ≡ t.key)) }
+    ensures rests { IfOk result (λ key. IfSome key
+        (λ k. (j : ℕ) → j + 1 ≡ length table.old → IsRoused table.old j → ⊥)) }
     ensures dead { IfErr result (λ fault. (fault ≡ Dead) × (last_of table.old ≡ None)) }
 {
     let Some((first, others)) = table.split_first_mut() else {

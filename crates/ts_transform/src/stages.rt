@@ -1,4 +1,4 @@
-// The stages of a chain, and what waits at the boundaries between them.
+//! The stages of a chain, and what waits at the boundaries between them.
 ghost use Rattle.std.specs.Prelude.{◌≡◌, ℕ, ◌+◌, ◌<◌, ◌≤◌, ◌++◌, List, [], length, take, drop, map, IfOk, IsTrue, MatchOption, ◌↔◌};
 ghost use Rattle.ts_transform.specs.Flow.{flow_from, wait_at, last_wait, last_ended, fresh_stage, closed, ended_at, pause_at, MustPump, Takes, passing};
 
@@ -125,7 +125,7 @@ pub fn ended_at<P>(stages: &[Stage<P>], at: usize) -> bool
 
 /// The milliseconds that the stage at a place waits between two of its events.
 pub fn pause_at<P: Transform>(stages: &[Stage<P>], at: usize) -> u64
-    ensures { result ≡ pause_at P.wait stages.now at }
+    ensures { result ≡ pause_at P.pause stages.now at }
 {
     let Some((first, others)) = stages.split_first() else {
         return 0;

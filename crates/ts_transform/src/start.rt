@@ -1,49 +1,51 @@
-// How a chain's world begins: a continuation for each stage, and an event for the first.
-ghost use Rattle.std.specs.Prelude.{◌≡◌, ℕ, ◌+◌, [], length, true, false, Some, OnOk, IfOk, IfSome};
-ghost use Rattle.ts_group.specs.Context.{AllPlain, role_at};
+//! How the stages of a chain begin: a continuation for each, and an event for the first.
+ghost use Rattle.std.specs.Prelude.{◌≡◌, ℕ, ◌+◌, ◌<◌, [], length, true, false, Some, OnOk, IfOk, IfErr, IfSome};
+ghost use Rattle.ts_group.specs.Context.{role_at};
 ghost use Rattle.ts_group.specs.Entries.{Grows};
 ghost use Rattle.ts_group.specs.Changes.{SameEvents, KeepsKeys};
-ghost use Rattle.ts_transform.specs.Flow.{HasWork};
-ghost use Rattle.ts_transform.specs.Driving.{AreOfStages, AreNamed, Keeps, SetsOnly, SetsFew};
+ghost use Rattle.ts_transform.specs.Flow.{OnlyFirstWorks};
+ghost use Rattle.ts_transform.specs.Driving.{ActsWithin, AreOfStages, KeepsMade, SetsOnly};
 ghost use Rattle.ts_transform.specs.Cover.{IsDriven, IsRousing};
+ghost use Rattle.ts_transform.specs.Loss.{IsCauseOf, making_loss};
 
+use crate::link_ends::make_end;
 use crate::chain::Chain;
 use crate::continuation::{Rouser, StageContinuation};
 use crate::handler::rouse_if_ready;
+use crate::loss::Loss;
 use crate::transform::Transform;
-use ts_group::{Cx, MakeFault, SetFault};
+use ts_group::{Cx, MakeFault};
 
-// The role of the stage at a place.
-fn role_of(at: usize) -> Option<u32>
-    ensures { IfSome result (λ role. role ≡ at + 1) }
+// The role of the stage at a place, where the stages have the roles from the first on.
+fn role_of(first: u32, at: usize) -> Option<u32>
+    ensures { IfSome result (λ role. role ≡ first + at) }
 {
-    u32::try_from(at.checked_add(1)?).ok()
+    first.checked_add(u32::try_from(at).ok()?)
 }
 
-// Makes a continuation for the stage at a place, without an event.
+// Makes a continuation for the stage at a place, without an event. For want of a role memory lacks: there are not so
+// many places in it.
 #[tactic(auto, using(ts_group::proofs::Grows::grows_refl))]
-fn make_one(at: usize, cx: &mut Cx) -> Result<StageContinuation, MakeFault>
+fn make_one(first: u32, at: usize, cx: &mut Cx) -> Result<StageContinuation, MakeFault>
     requires turn { cx.old.log.state.held ≡ true }
     ensures grows { Grows cx.old cx.new }
     ensures turn { cx.new.log.state.held ≡ true }
     ensures events { SameEvents cx.old.log.state cx.new.log.state }
     ensures keys { KeepsKeys cx.old.log.state cx.new.log.state cx.old.roles cx.new.roles }
-    ensures named { IfOk result (λ t. (role_at t.key.index cx.new.roles ≡ Some (at + 1)) × (t.roused ≡ false)) }
+    ensures named { IfOk result
+        (λ t. (role_at t.key.index cx.new.roles ≡ Some (first + at)) × (t.roused ≡ false)) }
+    ensures cause { IfErr result (λ fault. IsCauseOf (making_loss fault) cx.new) }
 {
-    let Some(role) = role_of(at) else {
-        return Err(MakeFault::TableFull);
+    let Some(role) = role_of(first, at) else {
+        return Err(MakeFault::NoMemory);
     };
-    let key = cx.make(role)?;
-    Ok(StageContinuation {
-        key,
-        roused: false,
-        passed_error: false,
-    })
+    make_end(role, cx)
 }
 
 // Makes a continuation for each of so many stages, without an event.
 #[tactic(auto, using(ts_group::proofs::Grows::grows_trans))]
 fn make_all(
+    first: u32,
     table: &mut Vec<Option<StageContinuation>>,
     stages: usize,
     cx: &mut Cx,
@@ -53,11 +55,13 @@ fn make_all(
     ensures grows { Grows cx.old cx.new }
     ensures turn { cx.new.log.state.held ≡ true }
     ensures events { SameEvents cx.old.log.state cx.new.log.state }
-    ensures len { OnOk result (length table.new.items ≡ stages) }
-    ensures of_stages { OnOk result (AreOfStages cx.new.log.state.pending cx.new.roles 1 table.new.items) }
+    ensures ok { OnOk result ((length table.new.items ≡ stages)
+        × AreOfStages cx.new.log.state.pending cx.new.roles first table.new.items) }
+    ensures cause { IfErr result (λ fault. IsCauseOf (making_loss fault) cx.new) }
+    ensures made { KeepsMade cx.old cx.new }
 {
     for at in 0..stages {
-        let continuation = make_one(at, cx)?;
+        let continuation = make_one(first, at, cx)?;
         if let Err(_) = table.push(Some(continuation)) {
             return Err(MakeFault::NoMemory);
         }
@@ -65,47 +69,29 @@ fn make_all(
     Ok(())
 }
 
-// Rouses the first stage of a chain of which only that may have work.
-fn rouse_first<P: Transform + Drop>(
-    chain: &Chain<P>,
-    table: &mut [Option<StageContinuation>],
-    cx: &mut Cx,
-) -> Result<(), SetFault>
-    requires turn { cx.old.log.state.held ≡ true }
-    ensures grows { Grows cx.old cx.new }
-    ensures plain { AllPlain cx.old.log.state.pending → AllPlain cx.new.log.state.pending }
-    ensures few { SetsFew 1 cx.old cx.new }
-    ensures keeps { Keeps cx.old cx.new }
-    ensures only { AreNamed cx.old.roles 1 table.old → SetsOnly (IsRousing P.wait chain.now table.old cx.old.moment cx.old.roles) cx.old cx.new }
-    ensures driven { OnOk result (length table.old ≡ length chain.now.stages → AreOfStages cx.old.log.state.pending cx.old.roles 1 table.old
-        → ((j : ℕ) → HasWork chain.now.given chain.now.first chain.now.stages (j + 1) → ⊥)
-        → IsDriven chain.now table.new cx.new.log.state.pending cx.new.roles) }
-{
-    rouse_if_ready(chain, table, 0, Rouser::Upstream, cx)
-}
-
-/// Makes a continuation for each stage of a chain of which only the first may have work, and rouses that. It answers
-/// whether all could be done.
+/// Makes a continuation for each stage of a chain, with the roles from the first on, and rouses the first stage if it
+/// must work.
 #[tactic(auto, using(ts_group::proofs::Grows::grows_trans))]
 pub fn begin<P: Transform + Drop>(
+    first: u32,
     chain: &Chain<P>,
     table: &mut Vec<Option<StageContinuation>>,
     cx: &mut Cx,
-) -> bool
+) -> Result<(), Loss>
     requires turn { cx.old.log.state.held ≡ true }
     requires empty { table.old.items ≡ [] }
-    ensures grows { Grows cx.old cx.new }
-    ensures plain { AllPlain cx.old.log.state.pending → AllPlain cx.new.log.state.pending }
-    ensures few { SetsFew 1 cx.old cx.new }
-    ensures only { SetsOnly (IsRousing P.wait chain.now [] cx.old.moment cx.new.roles) cx.old cx.new }
-    ensures driven { result ≡ true → ((j : ℕ) → HasWork chain.now.given chain.now.first chain.now.stages (j + 1) → ⊥)
-        → IsDriven chain.now table.new.items cx.new.log.state.pending cx.new.roles }
+    ensures within { ActsWithin 1 cx.old cx.new }
+    ensures only { SetsOnly (IsRousing P.pause first chain.now [] cx.old.moment cx.new.roles) cx.old cx.new }
+    ensures driven { OnOk result (OnlyFirstWorks chain.now
+        → IsDriven first chain.now table.new.items cx.new.log.state.pending cx.new.roles) }
+    ensures cause { IfErr result (λ loss. IsCauseOf loss cx.new) }
+    ensures made { KeepsMade cx.old cx.new }
 {
-    if let Err(_) = make_all(table, chain.stages(), cx) {
-        return false;
+    if let Err(fault) = make_all(first, table, chain.stages(), cx) {
+        return Err(Loss::of_make(&fault));
     }
-    match rouse_first(chain, table, cx) {
-        Ok(()) => true,
-        Err(_) => false,
+    match rouse_if_ready(chain, table, 0, Rouser::Upstream, cx) {
+        Ok(()) => Ok(()),
+        Err(fault) => Err(Loss::of_set(&fault)),
     }
 }

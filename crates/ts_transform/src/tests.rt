@@ -21,7 +21,7 @@ impl Transform for Tail {
 
     ghost whole = { λ line z. z ++ line };
 
-    ghost wait = { λ s. s.pause };
+    ghost pause = { λ s. s.pause };
 
     fn fresh(alloc: Global, line: &Octets) -> Result<Tail, NoMemory> {
         let text = Octets::copy_of(alloc, line.bytes())?;

@@ -1,3 +1,4 @@
+//! A transform of a body: what it is given in pieces, and what it writes.
 ghost use Rattle.std.specs.Prelude.{◌≡◌, ℕ, ◌<◌, ◌≤◌, List, [], length, take, IfOk, OnOk, OnErr};
 ghost use Rattle.ts_iobuf.specs.Buffer.{Grows};
 ghost use Rattle.ts_transform.specs.Law.{Feeds};
@@ -18,8 +19,8 @@ pub trait Transform: Sized {
     // What a line makes of a whole body.
     ghost whole: { Self.Line → List ℕ → List ℕ };
 
-    // The milliseconds that a stage waits between two of its events.
-    ghost wait: { Self → ℕ };
+    // The milliseconds between two events of a stage.
+    ghost pause: { Self → ℕ };
 
     /// A transform that got nothing yet.
     fn fresh(alloc: Global, line: &Self::Line) -> Result<Self, NoMemory>
@@ -37,7 +38,7 @@ pub trait Transform: Sized {
         ensures law { OnOk result (Grows out.old out.new (rest self.old [])) }
         ensures err { OnErr result ((self.new ≡ self.old) × (out.new ≡ out.old)) };
 
-    /// The milliseconds that a stage waits between two of its events.
+    /// The milliseconds between two events of a stage.
     fn pause(&self) -> u64
-        ensures { result ≡ wait self.now };
+        ensures { result ≡ pause self.now };
 }

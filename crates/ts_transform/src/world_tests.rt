@@ -1,6 +1,7 @@
-// Chains as worlds of groups, driven to their ends; and chains and worlds that are aborted.
+//! Chains as worlds of groups, driven to their ends; and chains and worlds that are aborted.
 ghost use Rattle.std.specs.Prelude.{◌≡◌, true, false, IfOk, OnOk};
-ghost use Rattle.ts_transform.specs.Cover.{IsSoundGroup, IsAwake};
+ghost use Rattle.ts_transform.specs.Cover.{IsAwake};
+ghost use Rattle.ts_transform.specs.World.{IsSoundGroup};
 
 use crate::tests::Tail;
 use crate::{Chain, ChainWorld, Pumped};
@@ -71,7 +72,8 @@ fn begin(alloc: Global, parts: Vec<Tail>, body: &[u8]) -> Result<Group<ChainWorl
 fn take_some(group: &mut Group<ChainWorld<Tail>>, client: &mut Client) -> Result<(), Fail>
     requires idle { group.old.cx.log.state.held ≡ false }
     requires sound { IsSoundGroup group.old }
-    requires awake { group.old.world.running ≡ true → IsAwake group.old.world.chain group.old.world.table.items }
+    requires awake { group.old.world.driven.running ≡ true
+        → IsAwake group.old.world.driven.chain group.old.world.driven.table.items }
     ensures idle { OnOk result (group.new.cx.log.state.held ≡ false) }
     ensures sound { OnOk result (IsSoundGroup group.new) }
 {

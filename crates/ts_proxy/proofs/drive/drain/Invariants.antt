@@ -7,12 +7,12 @@ use Rattle.ts_proxy.proofs.drive.drain.Given as goal
 abbrev pub invariant-loop-block : goal.invariant-loop-block
 invariant-loop-block g l = record {
   passes : g.K.Sink.tells ≡ true
-      → Passes (g.K.Sink.taken l.initial.out) (g.K.Sink.taken l.out) (flow g.P.Transform.rest l.initial.world.chain []) (flow g.P.Transform.rest l.world.chain []);
+      → Passes (g.K.Sink.taken l.initial.out) (g.K.Sink.taken l.out) (flow g.P.Transform.rest l.initial.world.driven.chain []) (flow g.P.Transform.rest l.world.driven.chain []);
   faults : g.K.Sink.faults l.out ≡ g.K.Sink.faults l.initial.out;
-  falls : left_of g.P.Transform.rest l.world + length (last_wait l.initial.world.chain.first l.initial.world.chain.stages)
-      ≤ left_of g.P.Transform.rest l.initial.world + length (last_wait l.world.chain.first l.world.chain.stages);
+  falls : left_of g.P.Transform.rest l.world + length (last_wait l.initial.world.driven.chain.first l.initial.world.driven.chain.stages)
+      ≤ left_of g.P.Transform.rest l.initial.world + length (last_wait l.world.driven.chain.first l.world.driven.chain.stages);
   stays : StaysSound l.initial.world l.world;
 }
 
 abbrev pub decreases-loop-block : goal.decreases-loop-block
-decreases-loop-block g l = length (last_wait l.world.chain.first l.world.chain.stages)
+decreases-loop-block g l = length (last_wait l.world.driven.chain.first l.world.driven.chain.stages)

@@ -1,6 +1,6 @@
 use Rattle.std.proofs.Common.{sym, subst}
 use Rattle.ts_group.specs.Context.{AllPlain}
-use Rattle.ts_transform.specs.Cover.{IsSound}
+use Rattle.ts_transform.specs.World.{IsSound}
 use Rattle.ts_proxy.proofs.drive.drive.Goals as goal
 
 pub drive_group-driven-requires-clause-sound : goal.drive_group-driven-requires-clause-sound

@@ -9,7 +9,7 @@ driving-preserved g c =
     let handled = c.take_turn.new.group in
     record {
       passes = λ tells. passes_then _ _ _ _ _ _ _ (c.driving.invariant.passes tells)
-          (ap (λ w. flow g.P.Transform.rest w.chain []) c.world_mut.ensures.value ∙ c.in-Ok.ensures.flow) (c.drain.ensures.told tells);
+          (ap (λ w. flow g.P.Transform.rest w.driven.chain []) c.world_mut.ensures.value ∙ c.in-Ok.ensures.flow) (c.drain.ensures.told tells);
       faults = search rules;
       idle = search rules;
       moment = search rules;

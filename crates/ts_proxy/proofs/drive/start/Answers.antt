@@ -9,11 +9,11 @@ returns-in-Ok-clause-serial g c =
     let after = c.wake-woken.new.group.cx in
     let next : c.in-Some.turn ≡ c.args.group.now.cx.log.state.turns + 1 = search rules in
     let given : after.log.state.turns ≡ 1 =
-    c.wake-woken.ensures.turns ∙ c.start.ensures.turn.turns ∙ ap (λ s. s.turns) c.in_ok-begin_turn.ensures.begins.state ∙ omega (arith, next, c.requires.first) in
+    c.wake-woken.ensures.keeps.turns ∙ c.start.ensures.turn.turns ∙ ap (λ s. s.turns) c.in_ok-begin_turn.ensures.begins.state ∙ omega (arith, next, c.requires.first) in
     serial_turn c.args.group.now.cx.log before.log after.log c.give_turn.new.self.cx.log c.in-Some.turn after.log.state.turns next
-    c.in_ok-begin_turn.ensures.begins.by (within_grows before after (grows_trans c.start.ensures.grows c.wake-woken.ensures.grows)) (inr given) c.give_turn.ensures.gives.by
+    c.in_ok-begin_turn.ensures.begins.by (within_grows before after (grows_trans c.start.ensures.grows c.wake-woken.ensures.keeps.grows)) (inr given) c.give_turn.ensures.gives.by
 
 pub returns-in-Ok-clause-moment : goal.returns-in-Ok-clause-moment
 returns-in-Ok-clause-moment g c =
-    let grows = grows_trans c.start.ensures.grows c.wake-woken.ensures.grows in
+    let grows = grows_trans c.start.ensures.grows c.wake-woken.ensures.keeps.grows in
     moment_extends c.give_turn.ensures.gives.by ∙ moment_grows c.begin_turn.new.self.cx c.wake-woken.new.group.cx grows ∙ moment_extends c.in_ok-begin_turn.ensures.begins.by

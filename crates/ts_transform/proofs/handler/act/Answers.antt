@@ -1,32 +1,89 @@
-use Rattle.std.proofs.Common.{◌≡◌, ℕ, List, [], sym, ap, subst, refl, arith, ◌∙◌}
-use Rattle.std.specs.Bool.{OnTrue}
-use Rattle.ts_transform.specs.Flow.{left_to_do}
+use Rattle.std.proofs.Common.{◌≡◌, true, false, arith, sym, ap, subst, ◌∙◌}
+use Rattle.ts_transform.specs.Acting.{Covers}
 use Rattle.ts_transform.specs.Driving.{works_at}
-use Rattle.ts_transform.proofs.Closing.{closed_driven}
-use Rattle.ts_transform.proofs.Covering.{driven_but, driven_quiet, driven_kept, any_ok}
+use Rattle.ts_transform.proofs.Acting.{acts_gone, acts_passes, acts_rests, acts_works, pays_errors, pays_none, pays_pumps}
+use Rattle.ts_transform.proofs.Closing.{closed_driven, others_kept, others_same}
+use Rattle.ts_transform.proofs.Covering.{driven_but, driven_quiet, driven_kept, any_ok, on_ok}
+use Rattle.ts_transform.proofs.Kept.{acts_adds, acts_lessens, acts_none}
 use Rattle.ts_transform.proofs.PassedErrors.{passed_driven}
 use Rattle.ts_transform.proofs.handler.act.Goals as goal
 
+-- A stage had ended: its continuation is destroyed.
+pub returns-then-has_ended-clause-within : goal.returns-then-has_ended-clause-within
+returns-then-has_ended-clause-within g c = acts_lessens 4 c.args.cx.now c.destroy_at.new.cx c.destroy_at.ensures.lessens
+
+pub returns-then-has_ended-clause-acts : goal.returns-then-has_ended-clause-acts
+returns-then-has_ended-clause-acts g c =
+    acts_gone g.P.Transform.rest g.P.Transform.pause c.args.at c.args.event c.args.chain.now c.args.table.now c.destroy_at.new.table c.args.cx.now c.destroy_at.new.cx
+    (sym c.has_ended.ensures ∙ c.if-has_ended.true) c.destroy_at.ensures.closed c.destroy_at.ensures.table c.destroy_at.ensures.lessens
+
+pub returns-then-has_ended-clause-pays : goal.returns-then-has_ended-clause-pays
+returns-then-has_ended-clause-pays g c =
+    pays_errors g.P.Transform.rest c.args.chain.now c.args.table.now c.destroy_at.new.table c.args.cx.now c.destroy_at.new.cx c.destroy_at.ensures.pays
+
 pub returns-then-has_ended-clause-driven : goal.returns-then-has_ended-clause-driven
-returns-then-has_ended-clause-driven g c = λ driven.
-    closed_driven c.args.cx.now c.destroy_at.new.cx c.args.chain.now c.args.table.now c.destroy_at.new.table c.args.at (sym c.has_ended.ensures ∙ c.if-has_ended.true)
-    c.destroy_at.ensures.table (c.destroy_at.ensures.of_stages 1)
-    (driven_but (works_at c.args.event) c.args.at c.args.chain.now c.args.table.now c.args.cx.now.log.state.pending c.args.cx.now.roles driven)
+returns-then-has_ended-clause-driven g c = λ first driven.
+    closed_driven first c.args.cx.now c.destroy_at.new.cx c.args.chain.now c.args.table.now c.destroy_at.new.table c.args.at (sym c.has_ended.ensures ∙ c.if-has_ended.true)
+    c.destroy_at.ensures.table (c.destroy_at.ensures.of_stages first)
+    (driven_but (works_at c.args.event) first c.args.at c.args.chain.now c.args.table.now c.args.cx.now.log.state.pending c.args.cx.now.roles driven)
+
+-- A stage works.
+pub returns-then-works-clause-within : goal.returns-then-works-clause-within
+returns-then-works-clause-within g c = acts_adds 4 4 c.work.result c.args.cx.now c.work.new.cx (omega arith) c.work.ensures.adds
+
+pub returns-then-works-clause-acts : goal.returns-then-works-clause-acts
+returns-then-works-clause-acts g c =
+    acts_works g.P.Transform.rest g.P.Transform.pause c.args.at c.args.event c.args.chain.now c.work.new.chain c.args.table.now c.work.new.table c.work.result c.args.cx.now c.work.new.cx
+    (sym c.works.ensures ∙ c.if-works.true) (sym c.has_ended.ensures ∙ c.if-has_ended.false) c.work.ensures.pumps (c.work.ensures.only c.args.event) c.work.ensures.tells c.work.ensures.stages
+
+pub returns-then-works-clause-pays : goal.returns-then-works-clause-pays
+returns-then-works-clause-pays g c =
+    pays_pumps g.P.Transform.rest c.args.at c.args.chain.now c.work.new.chain c.args.table.now c.work.new.table c.args.cx.now c.work.new.cx c.work.ensures.pumps c.work.ensures.stages
+
+pub returns-then-works-clause-driven : goal.returns-then-works-clause-driven
+returns-then-works-clause-driven g c =
+    on_ok c.work.result c.work.ensures.driven
+    (λ driven. subst (λ b. Covers b c.args.at c.args.chain.now c.work.new.chain c.args.table.now c.work.new.table c.args.cx.now c.work.new.cx) (sym c.if-works.true ∙ c.works.ensures) driven)
+
+pub returns-then-works-clause-others : goal.returns-then-works-clause-others
+returns-then-works-clause-others g c = λ first. others_kept first c.args.table.now c.args.cx.now c.work.new.cx c.work.ensures.adds.keeps
+
+-- A stage gets an error.
+pub returns-in-Error-clause-within : goal.returns-in-Error-clause-within
+returns-in-Error-clause-within g c = acts_adds 1 4 c.pass_error.result c.args.cx.now c.pass_error.new.cx (omega arith) c.pass_error.ensures.adds
+
+pub returns-in-Error-clause-acts : goal.returns-in-Error-clause-acts
+returns-in-Error-clause-acts g c =
+    acts_passes g.P.Transform.rest g.P.Transform.pause c.args.at c.args.event c.args.chain.now c.args.table.now c.pass_error.new.table c.pass_error.result c.args.cx.now c.pass_error.new.cx
+    c.in-Error.is (sym c.has_ended.ensures ∙ c.if-has_ended.false) c.pass_error.ensures.table c.pass_error.ensures.told c.pass_error.ensures.only c.pass_error.ensures.quiet
+
+pub returns-in-Error-clause-pays : goal.returns-in-Error-clause-pays
+returns-in-Error-clause-pays g c =
+    pays_errors g.P.Transform.rest c.args.chain.now c.args.table.now c.pass_error.new.table c.args.cx.now c.pass_error.new.cx c.pass_error.ensures.pays
 
 pub returns-in-Error-clause-driven : goal.returns-in-Error-clause-driven
 returns-in-Error-clause-driven g c =
     let old = c.args.cx.now in
     let new = c.pass_error.new.cx in
     any_ok c.pass_error.result
-    (λ driven. passed_driven c.args.chain.now c.args.table.now c.pass_error.new.table c.args.at new.log.state.pending new.roles c.pass_error.ensures.table
-    (driven_kept old new c.args.chain.now c.args.table.now c.pass_error.ensures.keeps
-    (driven_quiet (works_at c.args.event) c.args.at c.args.chain.now c.args.table.now old.log.state.pending old.roles (ap works_at c.in-Error.is) driven)))
+    (λ first driven. passed_driven first c.args.chain.now c.args.table.now c.pass_error.new.table c.args.at new.log.state.pending new.roles c.pass_error.ensures.table
+    (driven_kept first old new c.args.chain.now c.args.table.now c.pass_error.ensures.adds.keeps
+    (driven_quiet (works_at c.args.event) first c.args.at c.args.chain.now c.args.table.now old.log.state.pending old.roles (ap works_at c.in-Error.is) driven)))
 
--- Where a stage rested, it was paid for no event.
-pub returns-then-works-clause-rests : goal.returns-then-works-clause-rests
-returns-then-works-clause-rests g c = λ given other same.
-    let left : left_to_do g.P.Transform.rest c.work.new.chain [] ≡ left_to_do g.P.Transform.rest c.args.chain.now [] = ap (λ x. left_to_do g.P.Transform.rest x []) same in
-    omega (arith, left, c.work.ensures.pays [] (subst (λ b. OnTrue b (◌≡◌ {A = List ℕ} [] [])) (sym given) refl))
+pub returns-in-Error-clause-others : goal.returns-in-Error-clause-others
+returns-in-Error-clause-others g c = λ first. others_kept first c.args.table.now c.args.cx.now c.pass_error.new.cx c.pass_error.ensures.adds.keeps
 
-pub returns-then-works-clause-only : goal.returns-then-works-clause-only
-returns-then-works-clause-only g c = c.work.ensures.only c.args.event
+-- A stage has nothing to do.
+pub returns-in_default-clause-within : goal.returns-in_default-clause-within
+returns-in_default-clause-within g c = acts_none 4 c.args.cx.now c.requires.turn
+
+pub returns-in_default-clause-acts : goal.returns-in_default-clause-acts
+returns-in_default-clause-acts g c =
+    acts_rests g.P.Transform.rest g.P.Transform.pause c.args.at c.args.event c.args.chain.now c.args.table.now c.args.cx.now c.in_default.not-Error (sym c.has_ended.ensures ∙ c.if-has_ended.false)
+
+pub returns-in_default-clause-pays : goal.returns-in_default-clause-pays
+returns-in_default-clause-pays g c = pays_none g.P.Transform.rest c.args.chain.now c.args.table.now c.args.cx.now
+
+pub returns-in_default-clause-driven : goal.returns-in_default-clause-driven
+returns-in_default-clause-driven g c = λ first driven.
+    driven_quiet (works_at c.args.event) first c.args.at c.args.chain.now c.args.table.now c.args.cx.now.log.state.pending c.args.cx.now.roles (sym c.works.ensures ∙ c.if-works.false) driven

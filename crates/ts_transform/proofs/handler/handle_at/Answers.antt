@@ -1,38 +1,37 @@
-use Rattle.std.proofs.Common.{refl, ap, subst, slice_get, ◌∙◌}
-use Rattle.ts_transform.specs.Driving.{works_at, IsDestroyed, SetsOnly}
-use Rattle.ts_transform.specs.Cover.{MaySet}
-use Rattle.ts_transform.proofs.Handled.{begun_for}
+use Rattle.std.proofs.Common.{◌≡◌, ◌+◌, ◌<◌, refl, subst, sym, ◌∙◌}
+use Rattle.std.specs.Prelude.{is_ok}
+use Rattle.ts_transform.specs.Driving.{works_at}
+use Rattle.ts_transform.proofs.Acting.{acts_handled, others_handled, pays_handled}
 use Rattle.ts_transform.proofs.Covering.{on_ok}
-use Rattle.ts_transform.proofs.Called.{called_unroused}
-use Rattle.ts_transform.proofs.Setting.{named_same}
-use Rattle.ts_transform.proofs.Told.{unroused_key, gone_unroused}
+use Rattle.ts_transform.proofs.Handled.{begun_for}
+use Rattle.ts_transform.proofs.Told.{same_length}
 use Rattle.ts_transform.proofs.handler.handle_at.Goals as goal
+
+pub act-requires : goal.act-requires
+act-requires g c = record {
+  turn = c.requires.turn;
+  stage = record {
+      within = subst (λ n. c.args.at < n) (sym (same_length c.args.table.now c.unrouse_for.new.table c.unrouse_for.ensures.same)) c.requires.stage.within;
+      len = same_length c.args.table.now c.unrouse_for.new.table c.unrouse_for.ensures.same ∙ c.requires.stage.len;
+  };
+}
+
+pub returns-clause-acts : goal.returns-clause-acts
+returns-clause-acts g c =
+    acts_handled g.P.Transform.rest g.P.Transform.pause c.args.at c.args.event c.args.chain.now c.act.new.chain c.args.table.now c.unrouse_for.new.table c.act.new.table _ (is_ok c.act.result)
+    c.args.cx.now c.act.new.cx c.unrouse_for.ensures.table c.unrouse_for.ensures.same c.act.ensures.acts
+
+pub returns-clause-pays : goal.returns-clause-pays
+returns-clause-pays g c =
+    pays_handled g.P.Transform.rest c.args.chain.now c.act.new.chain c.args.table.now c.unrouse_for.new.table c.act.new.table c.args.cx.now c.act.new.cx c.unrouse_for.ensures.same c.act.ensures.pays
 
 pub returns-clause-driven : goal.returns-clause-driven
 returns-clause-driven g c =
     let now = c.args.cx.now in
     on_ok c.act.result c.act.ensures.driven
-    (λ driven before handled was. driven (rw c.unrouse_for.ensures.table (begun_for c.args.chain.now c.args.table.now before now.log.state.pending now.roles c.args.at _ c.args.event
+    (λ driven first before handled was. driven first (rw c.unrouse_for.ensures.table (begun_for first c.args.chain.now c.args.table.now before now.log.state.pending now.roles c.args.at _ c.args.event
     (works_at c.args.event) handled refl refl was)))
 
-pub returns-clause-closed : goal.returns-clause-closed
-returns-clause-closed g c = λ ended t is.
-    let k = unroused_key (works_at c.args.event) c.args.table.now c.args.at t is in
-    subst (IsDestroyed c.args.cx.now c.act.new.cx) k.2 (c.act.ensures.closed ended k.0 (ap (λ us. slice_get us c.args.at) c.unrouse_for.ensures.table ∙ k.1))
-
-pub returns-clause-called : goal.returns-clause-called
-returns-clause-called g c =
-    on_ok c.act.result c.act.ensures.called
-    (λ called did j above pause must.
-    called_unroused (works_at c.args.event) c.args.table.now c.unrouse_for.new.table c.args.at c.act.new.cx.log.state.pending c.act.new.table j c.unrouse_for.ensures.table above
-    (called did j above pause must))
-
-pub returns-clause-only : goal.returns-clause-only
-returns-clause-only g c = λ named.
-    let old = c.args.cx.now in
-    subst (λ ts. SetsOnly (MaySet g.P.Transform.wait c.args.chain.now c.act.new.chain ts c.args.at c.args.event old.moment old.roles) old c.act.new.cx) c.unrouse_for.ensures.table
-    (c.act.ensures.only (named_same old.roles 1 c.args.table.now c.unrouse_for.new.table c.unrouse_for.ensures.same named))
-
-pub returns-clause-gone : goal.returns-clause-gone
-returns-clause-gone g c = λ ended.
-    c.act.ensures.gone ended ∙ gone_unroused (works_at c.args.event) c.args.table.now c.unrouse_for.new.table c.args.at c.unrouse_for.ensures.table
+pub returns-clause-others : goal.returns-clause-others
+returns-clause-others g c = λ first.
+    others_handled first c.args.table.now c.unrouse_for.new.table c.args.cx.now c.act.new.cx c.unrouse_for.ensures.same (c.act.ensures.others first)

@@ -1,16 +1,29 @@
-use Rattle.std.proofs.Common.{◌+◌, sym, ap, ◌∙◌}
+use Rattle.std.proofs.Common.{◌+◌, Ok, Err, arith, sym, ap, ◌∙◌}
 use Rattle.std.proofs.lemmas.Bool.{ltb-true}
 use Rattle.ts_group.specs.Context.{role_at}
 use Rattle.ts_transform.specs.Driving.{IsTelling}
+use Rattle.ts_transform.proofs.Kept.{adds_err, adds_none, adds_ok, set_adds}
 use Rattle.ts_transform.proofs.Setting.{named_slot, set_only}
 use Rattle.ts_transform.proofs.rousing.tell.Goals as goal
 
 pub returns-clause-only : goal.returns-clause-only
-returns-clause-only c = λ role named.
+returns-clause-only c = λ first named.
     let roles = c.args.cx.now.roles in
     let table = c.args.table.now in
     let slot = c.in-Some-Some.field-0.now in
     let lookup = c.in-Some-Some.ensures.lookup in
-    let named_one = named_slot roles role c.args.at table slot c.in-Some-Some.continuation (ltb-true c.args.at _ (sym lookup.0)) (sym lookup.1 ∙ c.in-Some-Some.field-0-is) named in
-    set_only c.args.cx.now c.call.new.self c.call.result c.in-Some-Some.continuation.key c.args.event _ (IsTelling c.args.event (role + c.args.at) roles) c.call.ensures.sets
+    let named_one = named_slot roles first c.args.at table slot c.in-Some-Some.continuation (ltb-true c.args.at _ (sym lookup.0)) (sym lookup.1 ∙ c.in-Some-Some.field-0-is) named in
+    set_only c.args.cx.now c.call.new.self c.call.result c.in-Some-Some.continuation.key c.args.event _ (IsTelling c.args.event (first + c.args.at) roles) c.call.ensures.sets
     (λ p key event due. record { event_is = event; role_is = ap (λ k. role_at k.index roles) key ∙ named_one })
+
+pub returns-in_default-clause-adds : goal.returns-in_default-clause-adds
+returns-in_default-clause-adds c = adds_none c.args.cx.now 1 c.requires.turn
+
+pub returns-in_err-call-clause-adds : goal.returns-in_err-call-clause-adds
+returns-in_err-call-clause-adds c =
+    adds_err 1 1 c.from_residual.result _ c.from_residual.ensures.1 (omega arith)
+    (set_adds c.args.cx.now c.call.new.self (Err _) c.in-Some-Some.continuation.key c.args.event _ c.call.ensures.grows c.in_err-call.ensures.sets c.call.ensures.roles)
+
+pub returns-clause-adds : goal.returns-clause-adds
+returns-clause-adds c =
+    adds_ok 1 _ tt (set_adds c.args.cx.now c.call.new.self (Ok _) c.in-Some-Some.continuation.key c.args.event _ c.call.ensures.grows c.in_ok-call.ensures.sets c.call.ensures.roles)

@@ -1,6 +1,6 @@
 -- The world stays sound when it is aborted.
 use Rattle.std.proofs.Common.{subst, sym}
-use Rattle.ts_transform.specs.Cover.{IsSound}
+use Rattle.ts_transform.specs.World.{IsSound}
 use Rattle.ts_transform.proofs.world_tests.abort.Goals as goal
 
 pub returns-clause-sound : goal.returns-clause-sound

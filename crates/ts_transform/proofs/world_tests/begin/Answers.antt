@@ -1,7 +1,7 @@
 -- A world that was made is sound whatever its group, since nothing is pending.
 use Rattle.std.proofs.Common.{◌≡◌, [], ap, subst, sym}
 use Rattle.ts_group.specs.Context.{AllPlain}
-use Rattle.ts_transform.specs.Cover.{IsSound}
+use Rattle.ts_transform.specs.World.{IsSound}
 use Rattle.ts_transform.proofs.world_tests.begin.Goals as goal
 
 pub start-requires-clause-sound : goal.start-requires-clause-sound

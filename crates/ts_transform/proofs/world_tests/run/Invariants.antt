@@ -1,6 +1,6 @@
 -- Between two turns the world is sound.
 use Rattle.std.specs.Prelude.{◌≡◌, false}
-use Rattle.ts_transform.specs.Cover.{IsSoundGroup}
+use Rattle.ts_transform.specs.World.{IsSoundGroup}
 use Rattle.ts_transform.proofs.world_tests.run.Given as goal
 
 abbrev pub invariant-turns : goal.invariant-turns

@@ -1,6 +1,6 @@
 -- The world stays sound where an event is set.
 use Rattle.std.proofs.Common.{subst, sym}
-use Rattle.ts_transform.specs.Cover.{IsSound}
+use Rattle.ts_transform.specs.World.{IsSound}
 use Rattle.ts_transform.proofs.Kept.{set_keeps}
 use Rattle.ts_transform.proofs.Covering.{sound_kept}
 use Rattle.ts_transform.proofs.world_tests.tell_error.Goals as goal
@@ -11,5 +11,5 @@ returns-clause-sound c =
     let cx = c.cx.result.now in
     let now = c.call.new.self in
     c.give_turn.ensures.sound
-    (sound_kept cx now world.chain world.table.items world.running (set_keeps cx now _ _ _ _ c.call.ensures.sets c.call.ensures.roles)
+    (sound_kept cx now world.driven.chain world.driven.table.items world.driven.running (set_keeps cx now _ _ _ _ c.call.ensures.sets c.call.ensures.roles)
     (subst (λ x. IsSound world x.log.state.pending x.roles) (sym c.cx.ensures.value) c.in_ok-begin_turn.ensures.sound))

@@ -1,0 +1,172 @@
+-- Each duty of a chain between two links has its event.
+use Rattle.std.proofs.Common.{◌≡◌, ◌≢◌, ◌≤◌, ◌<◌, ◌+◌, ◌⊎◌, inl, inr, ℕ, List, [], ◌∷◌, map, Bool, true, false, length, Option, Some, None, Result, Ok, Err, arith, refl, sym, ap, subst, ◌∙◌}
+use Rattle.ts_journal.specs.declared.entry.Event.{Event}
+use Rattle.ts_journal.specs.declared.entry.Pending.{Pending}
+use Rattle.ts_group.specs.declared.action.Named.{Named}
+use Rattle.ts_group.specs.declared.action.SetFault.{SetFault}
+use Rattle.ts_group.specs.Context.{AllPlain, Context, role_at}
+use Rattle.ts_group.specs.Entries.{Grows}
+use Rattle.ts_group.specs.Changes.{SameEvents}
+use Rattle.ts_transform.specs.declared.continuation.StageContinuation.{StageContinuation}
+use Rattle.ts_transform.specs.declared.driven.DrivenChain.{DrivenChain}
+use Rattle.ts_transform.specs.declared.loss.Loss.{Loss}
+use Rattle.ts_transform.specs.declared.pump.Stage.{Stage}
+use Rattle.ts_transform.specs.Stage.{has_ended}
+use Rattle.ts_transform.specs.Flow.{ChainState, EndsInOrder, IsFinished, MustPump, aborted, client_wait, closed, last_ended, last_wait}
+use Rattle.ts_transform.specs.Driving.{ActsWithin, HasEvent, IsHandled, IsOfStageIf, IsRousedIf, Keeps, KeepsOthers, KeepsStage, unroused, works_at}
+use Rattle.ts_transform.specs.Cover.{IsDriven}
+use Rattle.ts_transform.specs.Driven.{Loses, MayLose}
+use Rattle.ts_transform.specs.Loss.{IsCauseOf}
+use Rattle.ts_transform.specs.Carrying.{AreEndsRoused, IsJoined}
+use Rattle.ts_transform.proofs.Handled.{begun_other, begun_quiet, quiet_if, stays_if, unroused_if}
+use Rattle.ts_transform.proofs.Kept.{kept_if}
+use Rattle.ts_transform.proofs.Setting.{of_stages_named}
+use Rattle.ts_transform.proofs.Taking.{aborted_driven, ended-rests, full-else, none-roused, some-long}
+
+-- the stages went on, and the ends stayed as they were
+pub joined_driven : {P : Type 0} (c d : ChainState P) (ts us : List (Option StageContinuation)) (w r : Option StageContinuation) (a b : Context) → Keeps a b
+    → (IsDriven 3 c ts a.log.state.pending a.roles → IsDriven 3 d us b.log.state.pending b.roles) → IsJoined c ts w r a.log.state.pending a.roles → IsJoined d us w r b.log.state.pending b.roles
+joined_driven c d ts us w r a b keeps goes h = record { stages = goes h.stages; of_writer = kept_if a b keeps 1 w h.of_writer; of_reader = kept_if a b keeps 2 r h.of_reader }
+
+-- more events leave them joined, whoever of the ends is roused
+pub joined_ends : {P : Type 0} (c : ChainState P) (ts : List (Option StageContinuation)) (w x r s : Option StageContinuation) (a b : Context) → Keeps a b
+    → (IsOfStageIf a.log.state.pending a.roles 1 w → IsOfStageIf b.log.state.pending b.roles 1 x) → (IsOfStageIf a.log.state.pending a.roles 2 r → IsOfStageIf b.log.state.pending b.roles 2 s)
+    → (IsDriven 3 c ts a.log.state.pending a.roles → IsDriven 3 c ts b.log.state.pending b.roles) → IsJoined c ts w r a.log.state.pending a.roles → IsJoined c ts x s b.log.state.pending b.roles
+joined_ends c ts w x r s a b keeps writer reader stages h = record { stages = stages h.stages; of_writer = writer h.of_writer; of_reader = reader h.of_reader }
+
+-- the chain was aborted
+pub joined_aborted : {P : Type 0} (c d : ChainState P) (ts : List (Option StageContinuation)) (w r : Option StageContinuation) (pending : List Pending) (roles : List Named) → d ≡ aborted c
+    → IsJoined c ts w r pending roles → IsJoined d ts w r pending roles
+joined_aborted c d ts w r pending roles is h = record { stages = aborted_driven 3 c d ts pending roles is h.stages; of_writer = h.of_writer; of_reader = h.of_reader }
+
+-- of a chain that is aborted only the stages count
+pub aborted_same : {P : Type 0} (c d : ChainState P) → d.stages ≡ c.stages → aborted d ≡ aborted c
+aborted_same {P} c d same = ap (λ ss. aborted {P = P} (record { first = []; stages = ss; given = true })) same
+
+-- an event of the writer was handled, or of the reader
+
+
+
+pub joined_writer : {P : Type 0} (c : ChainState P) (ts : List (Option StageContinuation)) (w r : Option StageContinuation) (before now : List Pending) (roles : List Named) (event : Event)
+    → IsHandled before now roles 1 event → IsJoined c ts w r before roles → IsJoined c ts (unroused w) r now roles
+joined_writer c ts w r before now roles event handled h = record {
+  stages = begun_other 3 c ts before now roles 1 event handled (λ at is stage. omega (arith, is)) h.stages;
+  of_writer = unroused_if before now roles 1 w h.of_writer;
+  of_reader = stays_if before now roles 2 1 event r handled (λ is. omega (arith, is)) h.of_reader;
+}
+
+pub joined_reader : {P : Type 0} (c : ChainState P) (ts : List (Option StageContinuation)) (w r : Option StageContinuation) (before now : List Pending) (roles : List Named) (event : Event)
+    → IsHandled before now roles 2 event → IsJoined c ts w r before roles → IsJoined c ts w (unroused r) now roles
+joined_reader c ts w r before now roles event handled h = record {
+  stages = begun_other 3 c ts before now roles 2 event handled (λ at is stage. omega (arith, is)) h.stages;
+  of_writer = stays_if before now roles 1 2 event w handled (λ is. omega (arith, is)) h.of_writer;
+  of_reader = unroused_if before now roles 2 r h.of_reader;
+}
+
+-- an event at which nobody works
+pub joined_quiet : {P : Type 0} (c : ChainState P) (ts : List (Option StageContinuation)) (w r : Option StageContinuation) (before now : List Pending) (roles : List Named) (role : ℕ) (event : Event)
+    → IsHandled before now roles role event → works_at event ≡ false → IsJoined c ts w r before roles → IsJoined c ts w r now roles
+joined_quiet c ts w r before now roles role event handled rests h = record {
+  stages = begun_quiet 3 c ts before now roles role event handled rests h.stages;
+  of_writer = quiet_if before now roles 1 role event w handled rests h.of_writer;
+  of_reader = quiet_if before now roles 2 role event r handled rests h.of_reader;
+}
+
+-- an event of a stage, or of nobody
+pub joined_stage : {P : Type 0} (c d : ChainState P) (ts us : List (Option StageContinuation)) (w r : Option StageContinuation) (before : List Pending) (a b : Context) (role : ℕ) (event : Event)
+    → IsHandled before a.log.state.pending a.roles role event → role ≢ 1 → role ≢ 2 → KeepsOthers 3 ts a b → (IsDriven 3 c ts before a.roles → IsDriven 3 d us b.log.state.pending b.roles)
+    → IsJoined c ts w r before a.roles → IsJoined d us w r b.log.state.pending b.roles
+joined_stage c d ts us w r before a b role event handled not_writer not_reader others goes h =
+    let named = of_stages_named before a.roles 3 ts h.stages.of_stages in
+    record {
+      stages = goes h.stages;
+      of_writer = others 1 w named (inl (omega arith)) (stays_if before a.log.state.pending a.roles 1 role event w handled (λ is. not_writer (sym is)) h.of_writer);
+      of_reader = others 2 r named (inl (omega arith)) (stays_if before a.log.state.pending a.roles 2 role event r handled (λ is. not_reader (sym is)) h.of_reader);
+    }
+
+-- what is the same is joined
+pub joined_as : {P : Type 0} (c d : ChainState P) (ts us : List (Option StageContinuation)) (w x r s : Option StageContinuation) (pending : List Pending) (roles : List Named) → d ≡ c → us ≡ ts → x ≡ w → s ≡ r
+    → IsJoined c ts w r pending roles → IsJoined d us x s pending roles
+joined_as c d ts us w x r s pending roles chain table writer reader h =
+    subst (λ y. IsJoined y us x s pending roles) (sym chain) (subst (λ y. IsJoined c y x s pending roles) (sym table)
+    (subst (λ y. IsJoined c ts y s pending roles) (sym writer) (subst (λ y. IsJoined c ts w y pending roles) (sym reader) h)))
+
+-- whether it runs falls only
+pub loses_runs : {P : Type 0} (d e : DrivenChain P) (now : Context) → MayLose d e now → e.running ≡ true → d.running ≡ true
+loses_runs d e now (inl (same, lost)) runs = sym same ∙ runs
+loses_runs d e now (inr (loss, stopped, lost, why)) runs = absurd (let wrong : false ≡ true = sym stopped ∙ runs in cc)
+
+pub runs_before : {P T : Type 0} (result : Result T SetFault) (d e : DrivenChain P) (now : Context) → Loses result d e now → e.running ≡ true → d.running ≡ true
+runs_before (Ok x) d e now loses runs = sym loses.0 ∙ runs
+runs_before (Err fault) d e now loses runs = absurd (let wrong : false ≡ true = sym loses.0 ∙ runs in cc)
+
+-- what is lost after something else was lost: nothing
+pub may_lose_then : {P : Type 0} (d e f : DrivenChain P) (m now : Context) → MayLose d e m → (e.running ≡ false → (f ≡ e) × (now ≡ m)) → MayLose e f now → MayLose d f now
+may_lose_then d e f m now (inl (runs, lost)) idle (inl (goes, kept)) = inl (goes ∙ runs, kept ∙ lost)
+may_lose_then d e f m now (inl (runs, lost)) idle (inr stops) = inr stops
+may_lose_then d e f m now (inr stops) idle then =
+    let same = idle stops.1 in
+    inr (subst (λ x. (loss : Loss) × (x.running ≡ false) × (x.lost ≡ Some loss) × IsCauseOf loss now) (sym same.0)
+    (subst (λ x. (loss : Loss) × (e.running ≡ false) × (e.lost ≡ Some loss) × IsCauseOf loss x) (sym same.1) stops))
+
+-- nobody is roused where nothing is pending
+none_of : (roles : List Named) (role : ℕ) (t : Option StageContinuation) → IsOfStageIf [] roles role t → IsRousedIf t → ⊥
+none_of roles role None h roused = roused
+none_of roles role (Some t) h roused = let e : HasEvent [] t.key = h.event roused in let wrong : None ≡ Some e.event = e.there in cc
+
+no_bytes : (l : List ℕ) → (l ≢ [] → ⊥) → l ≡ []
+no_bytes [] some = refl
+no_bytes (b ∷ bs) some = absurd (some (λ is. let wrong : ◌≡◌ {A = List ℕ} (b ∷ bs) [] = is in cc))
+
+-- where more may come the last stage has not ended
+goes_on : {P : Type 0} (up : Bool) (ss : List (Stage P)) → up ≡ false → EndsInOrder up ss → last_ended up ss ≡ false
+goes_on up [] goes h = goes
+goes_on up (s ∷ ss) goes (here, others) = goes_on (has_ended s) ss (not_yet (has_ended s) refl) others
+  where
+    not_yet : (b : Bool) → has_ended s ≡ b → b ≡ false
+    not_yet false is = refl
+    not_yet true is = absurd (let wrong : false ≡ true = sym goes ∙ here is in cc)
+
+-- So a chain between two links that runs has read and written all once nothing is pending.
+pub all_carried : {P : Type 0} (c : ChainState P) (ts : List (Option StageContinuation)) (w r : Option StageContinuation) (roles : List Named) → IsJoined c ts w r [] roles → AreEndsRoused c w r
+    → EndsInOrder c.given c.stages → IsFinished c × (c.given ≡ true)
+all_carried {P} c ts w r roles h ends ordered = ((ended-rests c.given c.first c.stages (inl given) rests wait, wait), given)
+  where
+    wait : client_wait c ≡ []
+    wait = no_bytes (client_wait c) (λ some. none_of roles 1 w h.of_writer (ends.writes some))
+
+    rests : (j : ℕ) → MustPump c.given c.first c.stages j → ⊥
+    rests j must = none-roused roles 3 ts j h.stages.of_stages (h.stages.cover j must)
+
+    by_end : (b : Bool) → c.given ≡ b → c.given ≡ true
+    by_end true is = is
+    by_end false is =
+        let long : 65536 ≤ length c.first = full-else (length c.first) (λ short. none_of roles 2 r h.of_reader (ends.reads (is, short))) in
+        absurd (let wrong : false ≡ true = sym (goes_on c.given c.stages is ordered) ∙ ended-rests c.given c.first c.stages (inr (some-long c.first long)) rests wait in cc)
+
+    given : c.given ≡ true
+    given = by_end c.given refl
+
+-- nothing is left to do where the chain was aborted
+closed_wait : {P : Type 0} (ss : List (Stage P)) → last_wait [] (map closed ss) ≡ []
+closed_wait [] = refl
+closed_wait (s ∷ ss) = closed_wait ss
+
+pub aborted_quiet : {P : Type 0} (c d : ChainState P) (w r : Option StageContinuation) → d ≡ aborted c → AreEndsRoused d w r
+aborted_quiet c d w r is = record {
+  writes = λ some. absurd (some (ap (λ x. client_wait x) is ∙ closed_wait c.stages));
+  reads = λ must. absurd (let wrong : true ≡ false = sym (ap (λ x. x.given) is) ∙ must.0 in cc);
+}
+
+-- a continuation that was made has its role
+pub made_of : (pending : List Pending) (roles : List Named) (role : ℕ) (t : StageContinuation) → role_at t.key.index roles ≡ Some role → t.roused ≡ false → IsOfStageIf pending roles role (Some t)
+made_of pending roles role t named rests = record { named = named; event = λ roused. absurd (let wrong : false ≡ true = sym rests ∙ roused in cc) }
+
+-- and a context in which only continuations were made
+pub acts_made : (n : ℕ) (a b : Context) → Grows a b → b.log.state.held ≡ true → SameEvents a.log.state b.log.state → ActsWithin n a b
+acts_made n a b grows turn events = record {
+  grows = grows;
+  turn = turn;
+  plain = subst AllPlain (sym events.pending);
+  few = let l : length b.log.state.pending ≡ length a.log.state.pending = ap length events.pending in record { next = omega (arith, events.next); pending = omega (arith, l) };
+}

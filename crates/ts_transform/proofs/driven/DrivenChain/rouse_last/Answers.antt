@@ -1,0 +1,28 @@
+use Rattle.std.proofs.Common.{◌≡◌, ◌+◌, ap, sym, subst, length, arith, ◌∙◌}
+use Rattle.ts_transform.specs.Cover.{IsDriven}
+use Rattle.ts_transform.specs.Driving.{IsRoused, KeepsStages}
+use Rattle.ts_transform.specs.Flow.{MustWork}
+use Rattle.ts_transform.proofs.Driving.{drained, in_table}
+use Rattle.ts_transform.proofs.Kept.{adds_none, stages_same}
+use Rattle.ts_transform.proofs.driven.DrivenChain.rouse_last.Goals as goal
+
+pub returns-in_default-clause-driven : goal.returns-in_default-clause-driven
+returns-in_default-clause-driven g c = λ first n chain takes given was runs.
+    let self = c.args.self.now in
+    let none : length self.chain.stages ≡ 0 = omega (arith, c.stages.ensures, c.in_default.ensures) in
+    drained first n chain self.chain self.table.items self.table.items c.args.cx.now c.args.cx.now takes given (stages_same c.args.cx.now self.table.items)
+    (λ j last. absurd (omega (arith, last, none))) (was runs)
+
+pub returns-in_default-clause-adds : goal.returns-in_default-clause-adds
+returns-in_default-clause-adds g c = adds_none c.args.cx.now 1 c.requires.turn
+
+pub returns-in-Ok-clause-driven : goal.returns-in-Ok-clause-driven
+returns-in-Ok-clause-driven g c = λ first n chain takes given was runs.
+    let self = c.args.self.now in
+    let now = c.rouse_if_ready.new.cx in
+    in_table (λ us. IsDriven first self.chain us now.log.state.pending now.roles) self.table.len c.rouse_if_ready.new.table self.table.items
+    (c.rouse_if_ready.ensures.stages.len ∙ ap length c.deref_mut.ensures.value ∙ sym self.table.ok.0)
+    (drained first n chain self.chain self.table.items c.rouse_if_ready.new.table c.args.cx.now now takes given
+    (subst (λ ts. KeepsStages c.args.cx.now now ts c.rouse_if_ready.new.table) c.deref_mut.ensures.value c.rouse_if_ready.ensures.stages)
+    (λ j last must. let same : c.in-Some.last ≡ j = omega (arith, last, c.stages.ensures, c.in-Some.ensures) in
+    subst (IsRoused c.rouse_if_ready.new.table) same (c.in-Ok.ensures.ready (subst (MustWork self.chain) (sym same) must))) (was runs))

@@ -1,0 +1,117 @@
+use Rattle.std.proofs.Common.{◌≡◌, ◌<◌, true, false, length, refl, sym, ap, subst, inl, inr, rules, ◌∙◌}
+use Rattle.ts_link.specs.Counts.{Counted}
+use Rattle.ts_vconn.specs.MoveAnswers.{EndsPull, pull_failed}
+use Rattle.ts_transform.specs.Flow.{MOST_WAITING, MustRead}
+use Rattle.ts_transform.specs.Carrying.{MovesOn}
+use Rattle.ts_transform.proofs.Carrying.{moves_aborted, moves_as, moves_none, moves_pull}
+use Rattle.ts_transform.proofs.Joined.{aborted_same, joined_aborted, joined_as, joined_driven, runs_before}
+use Rattle.ts_transform.proofs.Kept.{acts_none}
+use Rattle.ts_transform.proofs.link_world.LinkWorld.read.Goals as goal
+
+-- The end was given.
+pub returns-then-is_given-clause-moves : goal.returns-then-is_given-clause-moves
+returns-then-is_given-clause-moves g c =
+    let self = c.args.self.now in
+    moves_none g.P.Transform.rest g.I.Link.tells g.K.Link.tells (g.I.Link.look self.input) (g.K.Link.look self.output) self.driven.chain self.aborted ⊥
+
+pub returns-then-is_given-clause-within : goal.returns-then-is_given-clause-within
+returns-then-is_given-clause-within g c = acts_none 1 c.args.cx.now c.requires.turn
+
+-- There is no room.
+pub returns-then-not-has_room-clause-moves : goal.returns-then-not-has_room-clause-moves
+returns-then-not-has_room-clause-moves g c =
+    let self = c.args.self.now in
+    moves_none g.P.Transform.rest g.I.Link.tells g.K.Link.tells (g.I.Link.look self.input) (g.K.Link.look self.output) self.driven.chain self.aborted ⊥
+
+pub returns-then-not-has_room-clause-within : goal.returns-then-not-has_room-clause-within
+returns-then-not-has_room-clause-within g c = acts_none 1 c.args.cx.now c.requires.turn
+
+-- Bytes came.
+pub returns-in-Ok-Some-clause-moves : goal.returns-in-Ok-Some-clause-moves
+returns-in-Ok-Some-clause-moves g c =
+    let self = c.args.self.now in
+    let room : length self.driven.chain.first < MOST_WAITING = search rules in
+    let must : MustRead self.driven.chain = (sym c.is_given.ensures ∙ c.if-is_given.false, room) in
+    let pulled = c.pull.new.self in
+    let kept = c.in-Ok-Some.ensures.kept in
+    subst (λ x. MovesOn g.P.Transform.rest g.I.Link.tells g.K.Link.tells (g.I.Link.look self.input) (g.I.Link.look c.pull.new.link) (g.K.Link.look self.output) (g.K.Link.look self.output) self.driven.chain x
+    self.aborted self.aborted ⊥) (sym c.rouse_first-told.ensures.chain)
+    (moves_pull g.P.Transform.rest g.I.Link.tells g.K.Link.tells (g.I.Link.look self.input) (g.I.Link.look c.pull.new.link) (g.K.Link.look self.output) self.driven.chain pulled c.in-Ok-Some.field-0 self.aborted
+    c.in-Ok-Some.ensures.pulled kept.0 must.0 must.1 (λ given. absurd (let wrong : false ≡ true = sym must.0 ∙ sym kept.1 ∙ given in cc)))
+
+pub returns-in-Ok-Some-clause-joined : goal.returns-in-Ok-Some-clause-joined
+returns-in-Ok-Some-clause-joined g c = λ was runs.
+    let self = c.args.self.now in
+    let rouse = c.rouse_first-told in
+    joined_driven self.driven.chain rouse.new.self.chain self.driven.table.items rouse.new.self.table.items self.writer self.reader c.args.cx.now rouse.new.cx rouse.ensures.adds.keeps
+    (λ h. rouse.ensures.driven 3 self.driven.chain (sym c.in-Ok-Some.ensures.kept.0) (λ r. h) runs)
+    (was (runs_before rouse.result (record self.driven { chain = c.pull.new.self }) rouse.new.self rouse.new.cx rouse.ensures.loses runs))
+
+-- The end came.
+pub returns-in-Ok-End-clause-moves : goal.returns-in-Ok-End-clause-moves
+returns-in-Ok-End-clause-moves g c =
+    let self = c.args.self.now in
+    let room : length self.driven.chain.first < MOST_WAITING = search rules in
+    let must : MustRead self.driven.chain = (sym c.is_given.ensures ∙ c.if-is_given.false, room) in
+    let pulled = c.pull.new.self in
+    subst (λ x. MovesOn g.P.Transform.rest g.I.Link.tells g.K.Link.tells (g.I.Link.look self.input) (g.I.Link.look c.pull.new.link) (g.K.Link.look self.output) (g.K.Link.look self.output) self.driven.chain x
+    self.aborted self.aborted ⊥) (sym c.give_end-told.ensures.chain)
+    (moves_pull g.P.Transform.rest g.I.Link.tells g.K.Link.tells (g.I.Link.look self.input) (g.I.Link.look c.pull.new.link) (g.K.Link.look self.output) self.driven.chain (record pulled { given = true }) c.in-Ok-End.field-0
+    self.aborted c.in-Ok-End.ensures.pulled c.in-Ok-End.ensures.kept.0 must.0 must.1
+    (λ given tells. subst (λ a. EndsPull a (g.I.Link.look c.pull.new.link).left) c.in-Ok-End.field-0-is (c.in-Ok-End.ensures.pulled.pulls.ends tells)))
+
+-- The input made its caller wait.
+pub returns-in-Ok-Again-clause-moves : goal.returns-in-Ok-Again-clause-moves
+returns-in-Ok-Again-clause-moves g c =
+    let self = c.args.self.now in
+    let room : length self.driven.chain.first < MOST_WAITING = search rules in
+    let must : MustRead self.driven.chain = (sym c.is_given.ensures ∙ c.if-is_given.false, room) in
+    let same = c.rouse_reader.ensures.same in
+    let now = c.rouse_reader.new.self in
+    let kept = c.in-Ok-Again.ensures.kept in
+    moves_as g.P.Transform.rest g.I.Link.tells g.K.Link.tells (g.I.Link.look self.input) (g.I.Link.look c.pull.new.link) (g.I.Link.look now.input) (g.K.Link.look self.output) (g.K.Link.look self.output)
+    (g.K.Link.look now.output) self.driven.chain c.pull.new.self now.driven.chain self.aborted self.aborted now.aborted ⊥ (ap g.I.Link.look same.input) (ap g.K.Link.look same.output) same.chain same.aborted
+    (moves_pull g.P.Transform.rest g.I.Link.tells g.K.Link.tells (g.I.Link.look self.input) (g.I.Link.look c.pull.new.link) (g.K.Link.look self.output) self.driven.chain c.pull.new.self c.in-Ok-Again.field-0 self.aborted
+    c.in-Ok-Again.ensures.pulled kept.0 must.0 must.1 (λ given. absurd (let wrong : false ≡ true = sym must.0 ∙ sym kept.1 ∙ given in cc)))
+
+pub returns-in-Ok-Again-clause-retries : goal.returns-in-Ok-Again-clause-retries
+returns-in-Ok-Again-clause-retries g c = λ named waited. record { roused = λ runs. c.rouse_reader.ensures.roused runs refl; only = c.rouse_reader.ensures.only named }
+
+-- It failed.
+pub returns-in-Ok-Failed-clause-moves : goal.returns-in-Ok-Failed-clause-moves
+returns-in-Ok-Failed-clause-moves g c =
+    let self = c.args.self.now in
+    let now = c.abort.new.self in
+    let old = g.I.Link.look self.input in
+    let pulled = g.I.Link.look c.pull.new.link in
+    moves_as g.P.Transform.rest g.I.Link.tells g.K.Link.tells old pulled (g.I.Link.look now.input) (g.K.Link.look self.output) (g.K.Link.look self.output)
+    (g.K.Link.look now.output) self.driven.chain now.driven.chain now.driven.chain self.aborted true now.aborted ⊥ (ap g.I.Link.look c.abort.ensures.links.0) (ap g.K.Link.look c.abort.ensures.links.1) refl
+    c.abort.ensures.aborted
+    (moves_aborted g.P.Transform.rest g.I.Link.tells g.K.Link.tells old pulled (g.K.Link.look self.output) (g.K.Link.look self.output) self.driven.chain c.pull.new.self
+    now.driven.chain self.aborted ⊥ (inr (inl (subst (λ a. Counted (pull_failed a) old.faults pulled.faults) c.in-Ok-Failed.field-0-is c.in-Ok-Failed.ensures.pulled.pulls.calls.faults))) c.abort.ensures.chain)
+
+pub returns-in-Ok-Failed-clause-joined : goal.returns-in-Ok-Failed-clause-joined
+returns-in-Ok-Failed-clause-joined g c = λ was runs.
+    let self = c.args.self.now in
+    let now = c.abort.new.self in
+    let cx = c.args.cx.now in
+    joined_as now.driven.chain now.driven.chain self.driven.table.items now.driven.table.items self.writer now.writer self.reader now.reader cx.log.state.pending cx.roles refl c.abort.ensures.course.table
+    c.abort.ensures.ends.0 c.abort.ensures.ends.1
+    (joined_aborted self.driven.chain now.driven.chain self.driven.table.items self.writer self.reader cx.log.state.pending cx.roles
+    (c.abort.ensures.chain ∙ aborted_same self.driven.chain c.pull.new.self c.in-Ok-Failed.ensures.kept.0) (was (sym c.abort.ensures.course.running ∙ runs)))
+
+pub returns-in-Ok-Failed-clause-within : goal.returns-in-Ok-Failed-clause-within
+returns-in-Ok-Failed-clause-within g c = acts_none 1 c.args.cx.now c.requires.turn
+
+-- Memory lacked.
+pub returns-in-Err-clause-moves : goal.returns-in-Err-clause-moves
+returns-in-Err-clause-moves g c =
+    let self = c.args.self.now in
+    let out = g.K.Link.look self.output in
+    let input = g.I.Link.look self.input in
+    moves_as g.P.Transform.rest g.I.Link.tells g.K.Link.tells input input (g.I.Link.look c.pull.new.link) out out out self.driven.chain self.driven.chain c.pull.new.self self.aborted self.aborted self.aborted ⊥
+    (ap g.I.Link.look c.in-Err.ensures.err.1) refl c.in-Err.ensures.err.0 refl
+    (moves_none g.P.Transform.rest g.I.Link.tells g.K.Link.tells input out self.driven.chain self.aborted ⊥)
+
+pub returns-in-Err-clause-within : goal.returns-in-Err-clause-within
+returns-in-Err-clause-within g c = acts_none 1 c.args.cx.now c.requires.turn

@@ -1,0 +1,28 @@
+use Rattle.std.proofs.Common.{◌≡◌, false, sym, subst, ◌∙◌}
+use Rattle.ts_transform.specs.Carrying.{IsJoined}
+use Rattle.ts_transform.proofs.Carrying.{moves_none}
+use Rattle.ts_transform.proofs.Joined.{joined_quiet, joined_reader}
+use Rattle.ts_transform.proofs.Kept.{acts_none}
+use Rattle.ts_transform.proofs.link_world.LinkWorld.read_at.Goals as goal
+
+pub returns-then-works-clause-joined : goal.returns-then-works-clause-joined
+returns-then-works-clause-joined g c = λ before handled was.
+    let self = c.args.self.now in
+    let cx = c.args.cx.now in
+    c.read.ensures.joined
+    (λ runs. subst (λ x. IsJoined self.driven.chain self.driven.table.items self.writer x cx.log.state.pending cx.roles) (sym c.unrouse.ensures)
+    (joined_reader self.driven.chain self.driven.table.items self.writer self.reader before cx.log.state.pending cx.roles c.args.event handled (was runs)))
+
+pub returns-else-works-clause-moves : goal.returns-else-works-clause-moves
+returns-else-works-clause-moves g c =
+    let self = c.args.self.now in
+    moves_none g.P.Transform.rest g.I.Link.tells g.K.Link.tells (g.I.Link.look self.input) (g.K.Link.look self.output) self.driven.chain self.aborted ⊥
+
+pub returns-else-works-clause-joined : goal.returns-else-works-clause-joined
+returns-else-works-clause-joined g c = λ before handled was runs.
+    let self = c.args.self.now in
+    let cx = c.args.cx.now in
+    joined_quiet self.driven.chain self.driven.table.items self.writer self.reader before cx.log.state.pending cx.roles 2 c.args.event handled (sym c.works.ensures ∙ c.if-works.false) (was runs)
+
+pub returns-else-works-clause-within : goal.returns-else-works-clause-within
+returns-else-works-clause-within g c = acts_none 1 c.args.cx.now c.requires.turn

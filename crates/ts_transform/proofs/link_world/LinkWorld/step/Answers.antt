@@ -1,0 +1,80 @@
+use Rattle.std.proofs.Common.{◌≡◌, Some, true, false, arith, refl, sym, ap, inl, ◌∙◌}
+use Rattle.ts_transform.specs.declared.loss.Loss.TheVariants.{NoMemory}
+use Rattle.ts_transform.specs.Carrying.{IsJoinedWhile, Steps}
+use Rattle.ts_transform.proofs.Carrying.{moves_aborted, moves_as, moves_lacks, moves_none}
+use Rattle.ts_transform.proofs.Joined.{aborted_quiet, joined_aborted, joined_as}
+use Rattle.ts_transform.proofs.Kept.{acts_none, acts_then}
+use Rattle.ts_transform.proofs.link_world.LinkWorld.step.Goals as goal
+
+-- Something was lost before.
+pub returns-then-not-self-clause-steps : goal.returns-then-not-self-clause-steps
+returns-then-not-self-clause-steps g c =
+    let self = c.args.self.now in
+    moves_none g.P.Transform.rest g.I.Link.tells g.K.Link.tells (g.I.Link.look self.input) (g.K.Link.look self.output) self.driven.chain self.aborted (self.driven.lost ≡ Some NoMemory)
+
+pub returns-then-not-self-clause-within : goal.returns-then-not-self-clause-within
+returns-then-not-self-clause-within g c = acts_none 6 c.args.cx.now c.requires.turn
+
+-- Memory lacked.
+pub returns-then-lacks_memory-clause-steps : goal.returns-then-lacks_memory-clause-steps
+returns-then-lacks_memory-clause-steps g c =
+    let self = c.args.self.now in
+    let now = c.abort.new.self in
+    let lacks = now.driven.lost ≡ Some NoMemory in
+    let input = g.I.Link.look now.input in
+    let output = g.K.Link.look now.output in
+    moves_as g.P.Transform.rest g.I.Link.tells g.K.Link.tells (g.I.Link.look self.input) input input (g.K.Link.look self.output) output output self.driven.chain now.driven.chain now.driven.chain self.aborted true
+    now.aborted lacks refl refl refl c.abort.ensures.aborted
+    (moves_aborted g.P.Transform.rest g.I.Link.tells g.K.Link.tells (g.I.Link.look self.input) input (g.K.Link.look self.output) output self.driven.chain c.rouse_ends.new.self.driven.chain now.driven.chain self.aborted
+    lacks (inl (c.abort.ensures.course.lost ∙ c.lacks_memory.ensures c.if-lacks_memory.true)) c.abort.ensures.chain)
+
+pub returns-then-lacks_memory-clause-carried : goal.returns-then-lacks_memory-clause-carried
+returns-then-lacks_memory-clause-carried g c = λ before handled was.
+    let self = c.args.self.now in
+    let mid = c.rouse_ends.new.self in
+    let now = c.abort.new.self in
+    let cx = c.rouse_ends.new.cx in
+    let joined : IsJoinedWhile mid cx.log.state.pending cx.roles = c.rouse_ends.ensures.joined (c.work.ensures.joined before handled was.joined) in
+    let steps : Steps g.P.Transform.rest g.I.Link.tells g.K.Link.tells g.I.Link.look g.K.Link.look self now = returns-then-lacks_memory-clause-steps g c in
+    record {
+      joined = λ runs.
+          joined_as now.driven.chain now.driven.chain mid.driven.table.items now.driven.table.items mid.writer now.writer mid.reader now.reader cx.log.state.pending cx.roles refl c.abort.ensures.course.table
+          c.abort.ensures.ends.0 c.abort.ensures.ends.1
+          (joined_aborted mid.driven.chain now.driven.chain mid.driven.table.items mid.writer mid.reader cx.log.state.pending cx.roles c.abort.ensures.chain (joined (sym c.abort.ensures.course.running ∙ runs)));
+      ends = λ runs. aborted_quiet mid.driven.chain now.driven.chain now.writer now.reader c.abort.ensures.chain;
+      fresh = λ none. absurd (let wrong : false ≡ true = sym (was.fresh (c.work.ensures.course.started (c.rouse_ends.ensures.course.started (sym c.abort.ensures.ends.0 ∙ none)))).0 ∙ c.if-not-self.false in cc);
+      ordered = steps.ordered was.ordered;
+      bounded = steps.bounded was.bounded;
+    }
+
+pub returns-then-lacks_memory-clause-within : goal.returns-then-lacks_memory-clause-within
+returns-then-lacks_memory-clause-within g c = acts_then 4 2 6 (omega arith) c.work.ensures.within c.rouse_ends.ensures.within
+
+-- It did not.
+pub returns-else-lacks_memory-clause-steps : goal.returns-else-lacks_memory-clause-steps
+returns-else-lacks_memory-clause-steps g c =
+    let self = c.args.self.now in
+    let mid = c.work.new.self in
+    let now = c.rouse_ends.new.self in
+    let same = c.rouse_ends.ensures.same in
+    let rest = g.P.Transform.rest in
+    moves_lacks rest g.I.Link.tells g.K.Link.tells (g.I.Link.look self.input) (g.I.Link.look now.input) (g.K.Link.look self.output) (g.K.Link.look now.output) self.driven.chain now.driven.chain self.aborted now.aborted
+    (now.driven.lost ≡ Some NoMemory)
+    (moves_as rest g.I.Link.tells g.K.Link.tells (g.I.Link.look self.input) (g.I.Link.look mid.input) (g.I.Link.look now.input) (g.K.Link.look self.output) (g.K.Link.look mid.output) (g.K.Link.look now.output)
+    self.driven.chain mid.driven.chain now.driven.chain self.aborted mid.aborted now.aborted ⊥ (ap g.I.Link.look same.input) (ap g.K.Link.look same.output) same.chain same.aborted c.work.ensures.moves)
+
+pub returns-else-lacks_memory-clause-carried : goal.returns-else-lacks_memory-clause-carried
+returns-else-lacks_memory-clause-carried g c = λ before handled was.
+    let self = c.args.self.now in
+    let now = c.rouse_ends.new.self in
+    let steps : Steps g.P.Transform.rest g.I.Link.tells g.K.Link.tells g.I.Link.look g.K.Link.look self now = returns-else-lacks_memory-clause-steps g c in
+    record {
+      joined = c.rouse_ends.ensures.joined (c.work.ensures.joined before handled was.joined);
+      ends = c.rouse_ends.ensures.ends;
+      fresh = λ none. absurd (let wrong : false ≡ true = sym (was.fresh (c.work.ensures.course.started (c.rouse_ends.ensures.course.started none))).0 ∙ c.if-not-self.false in cc);
+      ordered = steps.ordered was.ordered;
+      bounded = steps.bounded was.bounded;
+    }
+
+pub returns-else-lacks_memory-clause-within : goal.returns-else-lacks_memory-clause-within
+returns-else-lacks_memory-clause-within g c = acts_then 4 2 6 (omega arith) c.work.ensures.within c.rouse_ends.ensures.within

@@ -1,0 +1,19 @@
+use Rattle.std.proofs.Common.{◌≡◌, sym}
+use Rattle.ts_transform.proofs.Carrying.{moves_stage}
+use Rattle.ts_transform.proofs.Joined.{joined_stage, runs_before}
+use Rattle.ts_transform.proofs.link_world.LinkWorld.work.Goals as goal
+
+pub returns-else-role-eq-READER-clause-moves : goal.returns-else-role-eq-READER-clause-moves
+returns-else-role-eq-READER-clause-moves g c =
+    let self = c.args.self.now in
+    let acted = c.handle-told in
+    moves_stage g.P.Transform.rest g.I.Link.tells g.K.Link.tells (g.I.Link.look self.input) (g.K.Link.look self.output) self.driven.chain acted.new.self.chain self.driven.table.items acted.new.self.table.items
+    c.args.cx.now acted.new.cx self.aborted acted.ensures.gives
+
+pub returns-else-role-eq-READER-clause-joined : goal.returns-else-role-eq-READER-clause-joined
+returns-else-role-eq-READER-clause-joined g c = λ before handled was runs.
+    let self = c.args.self.now in
+    let acted = c.handle-told in
+    joined_stage self.driven.chain acted.new.self.chain self.driven.table.items acted.new.self.table.items self.writer self.reader before c.args.cx.now acted.new.cx c.args.role c.args.event handled
+    c.if-role-eq-WRITER.false c.if-role-eq-READER.false acted.ensures.others (λ h. acted.ensures.driven before handled (λ r. h) runs)
+    (was (runs_before acted.result self.driven acted.new.self acted.new.cx acted.ensures.loses runs))

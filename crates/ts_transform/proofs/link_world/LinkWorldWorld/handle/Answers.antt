@@ -1,0 +1,8 @@
+use Rattle.std.proofs.Common.{refl}
+use Rattle.ts_transform.proofs.Handled.{handled_by}
+use Rattle.ts_transform.proofs.link_world.LinkWorldWorld.handle.Goals as goal
+
+pub returns-clause-sound : goal.returns-clause-sound
+returns-clause-sound g c =
+    let called = c.requires.called in
+    (refl, c.step.ensures.carried called.before.pending (handled_by _ c.args.cx.now c.args.role c.args.event called) called.sound)

@@ -1,0 +1,59 @@
+//! The two ends of a chain between links: the continuations that read and write.
+ghost use Rattle.std.specs.Prelude.{◌≡◌, ℕ, ◌⊎◌, Some, true, false, IfOk, IfErr, OnOk};
+ghost use Rattle.ts_group.specs.Context.{role_at};
+ghost use Rattle.ts_group.specs.Entries.{Grows};
+ghost use Rattle.ts_group.specs.Changes.{SameEvents, KeepsKeys};
+ghost use Rattle.ts_transform.specs.Driving.{AddsEvents, IsNamedIf, IsRousedIf, IsRousingOf, KeepsStage, SetsOnly, unroused};
+ghost use Rattle.ts_transform.specs.Loss.{IsCauseOf, making_loss};
+
+use crate::continuation::{Rouser, StageContinuation, rouse};
+use ts_group::{Cx, MakeFault, SetFault};
+
+/// Makes the continuation of a role, without an event.
+#[tactic(auto, using(ts_group::proofs::Grows::grows_refl))]
+pub fn make_end(role: u32, cx: &mut Cx) -> Result<StageContinuation, MakeFault>
+    requires turn { cx.old.log.state.held ≡ true }
+    ensures grows { Grows cx.old cx.new }
+    ensures turn { cx.new.log.state.held ≡ true }
+    ensures events { SameEvents cx.old.log.state cx.new.log.state }
+    ensures keys { KeepsKeys cx.old.log.state cx.new.log.state cx.old.roles cx.new.roles }
+    ensures named { IfOk result (λ t. (role_at t.key.index cx.new.roles ≡ Some role) × (t.roused ≡ false)) }
+    ensures cause { IfErr result (λ fault. IsCauseOf (making_loss fault) cx.new) }
+{
+    let key = cx.make(role)?;
+    Ok(StageContinuation {
+        key,
+        roused: false,
+        passed_error: false,
+    })
+}
+
+/// Says that an event of it was handled.
+pub fn unrouse(slot: &mut Option<StageContinuation>)
+    ensures { slot.new ≡ unroused slot.old }
+{
+    if let Some(continuation) = slot {
+        continuation.roused = false;
+    }
+}
+
+/// Sees that an event of it is pending, if it must work: after so many milliseconds, where it has none yet.
+pub fn rouse_end(
+    slot: &mut Option<StageContinuation>,
+    must: bool,
+    after: u64,
+    cx: &mut Cx,
+) -> Result<(), SetFault>
+    requires turn { cx.old.log.state.held ≡ true }
+    ensures adds { AddsEvents 1 result cx.old cx.new }
+    ensures stage { KeepsStage cx.old cx.new slot.old slot.new }
+    ensures only { (role : ℕ) → IsNamedIf cx.old.roles role slot.old
+        → SetsOnly (IsRousingOf role after cx.old.moment cx.old.roles) cx.old cx.new }
+    ensures rests { (must ≡ false) ⊎ IsRousedIf slot.old → SetsOnly (λ p. ⊥) cx.old cx.new }
+    ensures roused { must ≡ true → OnOk result (IsRousedIf slot.new) }
+{
+    if !must {
+        return Ok(());
+    }
+    rouse(slot, Rouser::Upstream, after, cx)
+}
