@@ -72,7 +72,7 @@ fn give_front(
         (cut_ahead piece.old (drop next.old cuts.now) (drop at.old bytes.now)) }
     ensures ahead { cut_ahead piece.new (drop next.new cuts.now) (drop at.new bytes.now)
         ≡ next_ahead (length into.old)
-            (cut_ahead piece.old (drop next.old cuts.now) (drop at.old bytes.now)) }
+        (cut_ahead piece.old (drop next.old cuts.now) (drop at.old bytes.now)) }
     ensures bytes { got_bytes result into.new ≡ got_bytes result (drop at.old bytes.now) }
     ensures within { at.new ≤ length bytes.now }
 {
@@ -100,6 +100,13 @@ impl CutInput {
             cuts,
             next: 0,
         }
+    }
+
+    /// What holds of every one: what was given and what is ahead are all of its bytes.
+    pub fn known(&self)
+        ensures { IsSoundInput self.now }
+    {
+        let _ = &self.bytes;
     }
 
     /// Gives as much of the next piece as there is room for.
