@@ -14,7 +14,8 @@ use ts_link::{NoMemory, Octets};
 /// reader stands before is dropped. (The Developer's Guide, "IO Buffers".)
 #[derive(Drop)]
 pub struct IoBuffer {
-    // The bytes are those from `start` to `filled`, and the `room` bytes behind them are those that were lent last.
+    // The bytes are those from `start` to `filled`, and the `room` bytes behind them are those that were lent
+    // last.
     store: Vec<u8>,
     start: usize,
     filled: usize,
@@ -97,7 +98,8 @@ impl IoBuffer {
         open(&mut self.slots, place)
     }
 
-    /// Takes a reader away. It drops no bytes, and takes no memory. (The Developer's Guide: `TSIOBufferReaderFree`.)
+    /// Takes a reader away. It drops no bytes, and takes no memory. (The Developer's Guide:
+    /// `TSIOBufferReaderFree`.)
     pub fn free_reader(&mut self, reader: ReaderId)
         requires { IsTrue (is_reader self.old reader) }
         ensures closes { ClosesReader self.old.readers self.new.readers reader }
@@ -124,8 +126,8 @@ impl IoBuffer {
         }
     }
 
-    /// Lends the k-th block, counted from 0, of what the reader can read; the blocks joined are all of that, and
-    /// none is empty. `None` where there are no more than `k`.
+    /// Lends the k-th block, counted from 0, of what the reader can read; the blocks joined are all of that,
+    /// and none is empty. `None` where there are no more than `k`.
     pub fn block(&self, reader: ReaderId, k: usize) -> Option<&[u8]>
         requires { IsTrue (is_reader self.now reader) }
         ensures block { option_copied result ≡ slice_get (blocks_of self.now reader) k }
@@ -221,7 +223,8 @@ impl IoBuffer {
         front_from(readable, offset, most)
     }
 
-    /// Copies what the reader can read, or its first `most` bytes where there are more, behind the bytes of `out`.
+    /// Copies what the reader can read, or its first `most` bytes where there are more, behind the bytes of
+    /// `out`.
     pub fn copy_out(&self, reader: ReaderId, most: usize, out: &mut Vec<u8>) -> Result<(), NoMemory>
         requires { IsTrue (is_reader self.now reader) }
         ensures ok { OnOk result (out.new.items ≡ out.old.items ++ take most (readable self.now reader)) }
@@ -231,8 +234,8 @@ impl IoBuffer {
         Ok(())
     }
 
-    /// Adds what the reader of another buffer can read from `offset` on, or the first `most` bytes of that where there
-    /// are more. Answers how many bytes these are. (The Developer's Guide: `TSIOBufferCopy`.)
+    /// Adds what the reader of another buffer can read from `offset` on, or the first `most` bytes of that
+    /// where there are more. Answers how many bytes these are. (The Developer's Guide: `TSIOBufferCopy`.)
     pub fn copy_from(
         &mut self,
         from: &IoBuffer,
@@ -251,8 +254,9 @@ impl IoBuffer {
         Ok(part.len())
     }
 
-    /// Moves the reader over the next `n` bytes, and then drops the bytes that no reader stands before. The memory of a
-    /// large buffer is given back once all of it was dropped. (The Developer's Guide: `TSIOBufferReaderConsume`.)
+    /// Moves the reader over the next `n` bytes, and then drops the bytes that no reader stands before. The
+    /// memory of a large buffer is given back once all of it was dropped. (The Developer's Guide:
+    /// `TSIOBufferReaderConsume`.)
     pub fn consume(&mut self, reader: ReaderId, n: usize)
         requires live { IsTrue (is_reader self.old reader) }
         requires within { n ≤ length (readable self.old reader) }

@@ -15,8 +15,8 @@ pub struct ReaderId {
     pub generation: u32,
 }
 
-/// Where the reader of an index stands, counted from the first byte that was not dropped, if it is live. The generation
-/// is that of the index's last reader.
+/// Where the reader of an index stands, counted from the first byte that was not dropped, if it is live. The
+/// generation is that of the index's last reader.
 #[derive(Clone, Copy, Debug, PartialEq, Eq)]
 pub struct Slot {
     pub generation: u32,
@@ -80,7 +80,8 @@ fn lower(slots: &mut [Slot], by: usize)
     }
 }
 
-/// Moves a reader by `n` bytes, and counts every place from the least one. Answers how many bytes lie before that.
+/// Moves a reader by `n` bytes, and counts every place from the least one. Answers how many bytes lie before
+/// that.
 pub fn move_on(slots: &mut [Slot], reader: ReaderId, n: usize, most: usize) -> usize
     requires reader { IsSomeAnd (place_in slots.old reader) (λ p. p + n ≤ most) }
     requires within { StandsWithin most slots.old }
@@ -134,7 +135,8 @@ fn reopen(slots: &mut [Slot], index: u32, place: usize) -> ReaderId
 pub fn open(slots: &mut Vec<Slot>, place: usize) -> Result<ReaderId, NoMemory>
     ensures place { IfOk result (λ r. place_in slots.new.items r ≡ Some place) }
     ensures opens { IfOk result (OpensReader slots.old.items slots.new.items) }
-    ensures within { (most : ℕ) → place ≤ most → StandsWithin most slots.old.items → StandsWithin most slots.new.items }
+    ensures within { (most : ℕ) → place ≤ most →
+        StandsWithin most slots.old.items → StandsWithin most slots.new.items }
     ensures err { OnErr result (slots.new.items ≡ slots.old.items) }
 {
     if let Some(index) = free_index(slots.as_slice()) {
@@ -155,8 +157,9 @@ pub fn close(slots: &mut [Slot], reader: ReaderId)
     ensures closes { ClosesReader slots.old slots.new reader }
     ensures within { (most : ℕ) → StandsWithin most slots.old → StandsWithin most slots.new }
 {
-    slots[reader.index as usize] = Slot {
+    let closed = Slot {
         generation: reader.generation,
         place: None,
     };
+    slots[reader.index as usize] = closed;
 }

@@ -11,7 +11,8 @@ use ts_link::NoMemory;
 // How many bytes of room are lent at once.
 const ROOM: usize = 32_768;
 
-// How many bytes of memory a store keeps that holds none: as many as a boundary of a chain and its room ever need.
+// How many bytes of memory a store keeps that holds none: as many as a boundary of a chain and its room ever
+// need.
 const MOST_KEPT: usize = 131_072;
 
 /// The bytes from `start` to `filled`.
@@ -111,12 +112,14 @@ fn move_to_front(store: &mut Vec<u8>, start: usize, end: usize)
     store.copy_within(start..end, 0);
 }
 
-/// Moves the bytes to the store's front where no room is lent and at least as many as are moved were dropped before them,
-/// so that the moves cost a constant for each byte that is dropped. What stands behind them stays initialized.
+/// Moves the bytes to the store's front where no room is lent and at least as many as are moved were dropped
+/// before them, so that the moves cost a constant for each byte that is dropped. What stands behind them
+/// stays initialized.
 pub fn compact(store: &mut Vec<u8>, start: &mut usize, filled: &mut usize, room: usize)
     requires order { start.old ≤ filled.old }
     requires within { filled.old + room ≤ vec_len store.old }
-    ensures bytes { stored start.new filled.new store.new.items ≡ stored start.old filled.old store.old.items }
+    ensures bytes { stored start.new filled.new store.new.items
+        ≡ stored start.old filled.old store.old.items }
     ensures room { lent room filled.new store.new.items ≡ lent room filled.old store.old.items }
     ensures order { start.new ≤ filled.new }
     ensures within { filled.new + room ≤ vec_len store.new }
@@ -132,8 +135,8 @@ pub fn compact(store: &mut Vec<u8>, start: &mut usize, filled: &mut usize, room:
     *filled -= dropped;
 }
 
-/// Begins at the store's front again where it holds nothing and no room is lent. The memory of a large store is given
-/// back then.
+/// Begins at the store's front again where it holds nothing and no room is lent. The memory of a large store
+/// is given back then.
 pub fn rewind(
     store: &mut Vec<u8>,
     alloc: Global,
@@ -143,7 +146,8 @@ pub fn rewind(
 )
     requires order { start.old ≤ filled.old }
     requires within { filled.old + room ≤ vec_len store.old }
-    ensures bytes { stored start.new filled.new store.new.items ≡ stored start.old filled.old store.old.items }
+    ensures bytes { stored start.new filled.new store.new.items
+        ≡ stored start.old filled.old store.old.items }
     ensures room { lent room filled.new store.new.items ≡ lent room filled.old store.old.items }
     ensures order { start.new ≤ filled.new }
     ensures within { filled.new + room ≤ vec_len store.new }

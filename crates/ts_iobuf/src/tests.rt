@@ -1,4 +1,5 @@
-//! Two readers of one buffer, its blocks and its room; readers that come and go; and bytes that wait for one reader.
+//! Two readers of one buffer, its blocks and its room; readers that come and go; and bytes that wait for one
+//! reader.
 ghost use Rattle.std.specs.Prelude.{IsTrue};
 ghost use Rattle.ts_iobuf.specs.Buffer.{is_reader};
 

@@ -7,9 +7,9 @@ use std::alloc::Global;
 use std::marker::Model;
 use ts_link::{NoMemory, Octets};
 
-/// Bytes that wait for one reader, in the order in which they came. Contracts see the list of them. Whoever fills
-/// the buffer in place, as a transform does, borrows it; that the reader is the buffer's stays true whatever is
-/// written there.
+/// Bytes that wait for one reader, in the order in which they came. Contracts see the list of them. Whoever
+/// fills the buffer in place, as a transform does, borrows it; that the reader is the buffer's stays true
+/// whatever is written there.
 #[derive(Drop)]
 pub struct Waiting {
     /// What the bytes stand in.
@@ -73,13 +73,15 @@ impl Waiting {
 
     /// Lends the first block of the bytes, without a copy; `None` where none waits.
     pub fn block(&self) -> Option<&[u8]>
-        ensures { MatchOption result (self.now ≡ []) (λ b. (0 < length b.now) × (length b.now ≤ length self.now)
+        ensures { MatchOption result (self.now ≡ [])
+            (λ b. (0 < length b.now) × (length b.now ≤ length self.now)
             × (b.now ≡ take (length b.now) self.now)) }
     {
         self.buffer.block(self.reader, 0)
     }
 
-    /// Copies the bytes, or the first `most` of them where there are more, in one piece behind those of `out`.
+    /// Copies the bytes, or the first `most` of them where there are more, in one piece behind those of
+    /// `out`.
     pub fn gather(&self, most: usize, out: &mut Vec<u8>) -> Result<(), NoMemory>
         ensures ok { OnOk result (out.new.items ≡ out.old.items ++ take most self.now) }
         ensures err { OnErr result (out.new.items ≡ out.old.items) }

@@ -5,8 +5,7 @@ use Rattle.std.proofs.lemmas.List.{append-nil}
 use Rattle.ts_link.specs.Counts.{Counted, greatest, one_more_if}
 use Rattle.ts_link.specs.Inputs.{Input, bytes_of, given_of, stalled_reads, next_answer, next_ahead}
 use Rattle.ts_link.specs.InputView.{IsSoundInput}
-use Rattle.ts_link.specs.Link.{MayReplace, Gives, Calls, IsSure, IsSurePlan, NeverStalls, Reads, ReadsSurely}
-use Rattle.ts_link.specs.Link as W
+use Rattle.ts_link.specs.Link.{AgainsFall, MayReplace, Gives, Calls, IsSure, IsSurePlan, NeverStalls, Reads, ReadsSurely}
 use Rattle.ts_link.specs.LinkAnswers.{FillsSome, count_got, got_failed, got_again}
 use Rattle.ts_link.specs.MemLink.{LinkState, look_of, read_by, ahead_by, read_answer, after_read}
 use Rattle.ts_link.specs.Numbered.{mishap_at, is_listed, after_call, waits_left}
@@ -50,7 +49,7 @@ pub counted_if : (b : Bool) (n : ℕ) → n ≤ greatest → Counted b n (one_mo
 counted_if true n h = omega arith
 counted_if false n h = refl
 
-pub waits_if : (b : Bool) (m n : ℕ) → n + cond b 1 0 ≤ m → W.Waits b (Some m) (Some n)
+pub waits_if : (b : Bool) (m n : ℕ) → n + cond b 1 0 ≤ m → AgainsFall b (Some m) (Some n)
 waits_if true m n h = omega arith
 waits_if false m n h = omega arith
 

@@ -79,10 +79,10 @@ Fewer None new = ⊤
 Fewer (Some n) None = ⊥
 Fewer (Some n) (Some m) = m < n
 
--- an Again lowers the number of those that are left, and no other answer raises it
-abbrev pub Waits : Bool → Option ℕ → Option ℕ → Type 0
-Waits true old new = Fewer old new
-Waits false old new = NoMore old new
+-- of the Again answers that are left: an Again lowers their number, and no other answer raises it
+abbrev pub AgainsFall : Bool → Option ℕ → Option ℕ → Type 0
+AgainsFall true old new = Fewer old new
+AgainsFall false old new = NoMore old new
 
 -- what a call leaves as it is, and which answers it counts
 pub record Calls (old new : Look) (failed waited : Bool) : Type 0 where
@@ -91,7 +91,7 @@ pub record Calls (old new : Look) (failed waited : Bool) : Type 0 where
   pub plan : new.plan ≡ old.plan
   pub faults : Counted failed old.faults new.faults
   pub waits : Counted waited old.waits new.waits
-  pub agains : Waits waited old.agains new.agains
+  pub agains : AgainsFall waited old.agains new.agains
 
 -- it was one read
 pub record IsOneRead (old new : Look) : Type 0 where

@@ -102,6 +102,13 @@ impl CutInput {
         }
     }
 
+    /// What holds of every one: what was given and what is ahead are all of its bytes.
+    pub fn known(&self)
+        ensures { IsSoundInput self.now }
+    {
+        let _ = &self.bytes;
+    }
+
     /// Gives as much of the next piece as there is room for.
     pub fn give(&mut self, into: &mut [u8]) -> Got
         requires { 0 < length into.old }

@@ -3,7 +3,7 @@ ghost use Rattle.std.specs.Prelude.{◌≡◌, ◌<◌, ◌≤◌, ◌++◌, [],
 ghost use Rattle.ts_link.specs.Counts.{greatest, one_more_if};
 ghost use Rattle.ts_link.specs.Inputs.{after_next, bytes_of, next_answer};
 ghost use Rattle.ts_link.specs.InputView.{IsSoundInput, seen_cut, seen_pieces};
-ghost use Rattle.ts_link.specs.Link.{Reads, Writes};
+ghost use Rattle.ts_link.specs.Link.{Reads, Writes, all_of};
 ghost use Rattle.ts_link.specs.LinkAnswers.{count_put, got_bytes};
 ghost use Rattle.ts_link.specs.MemLink.{IsPut, after_by, after_read, after_write, at_most, fresh_link, input_of, less, look_of, plan_of, read_answer, read_by, write_answer, write_by};
 ghost use Rattle.ts_link.specs.Numbered.{mishap_at, no_calls};
@@ -124,6 +124,16 @@ impl MemLink {
         ensures { result ≡ self.now.waits }
     {
         self.waits
+    }
+
+    /// What holds of every link in memory: what it gave and what it may still give are all that it was made with.
+    pub fn known(&self)
+        ensures { all_of (look_of self.now) ≡ (look_of self.now).source }
+    {
+        match &self.input {
+            MemInput::Cut(cut) => cut.known(),
+            MemInput::Pieces(pieces) => pieces.known(),
+        }
     }
 
     /// Gives it another name.

@@ -1,10 +1,10 @@
 //! A shelf in memory.
 ghost use Rattle.std.specs.Prelude.{◌≡◌, ◌++◌, ◌∷◌, [], map, true, OnOk, OnErr};
 ghost use Rattle.std.specs.Option.{option_copied};
-ghost use Rattle.ts_link.specs.Counts.{Counted, one_more};
+ghost use Rattle.ts_link.specs.Counts.{Counted};
 ghost use Rattle.ts_link.specs.Files.{file_in};
 ghost use Rattle.ts_link.specs.Shelf.{KeepsLimit, ReadsFile, is_read_fault, is_too_long};
-ghost use Rattle.ts_link.specs.MemShelf.{ShelfState, ReadsAt};
+ghost use Rattle.ts_link.specs.MemShelf.{ShelfState, ReadsAt, after_shelf_read};
 
 use crate::numbered::is_listed;
 use crate::octets::{NoMemory, Octets};
@@ -103,9 +103,8 @@ impl Shelf for MemShelf {
         ensures files { file_in self.new.files ≡ file_in self.old.files }
         ensures faults { Counted (is_read_fault result) self.old.faults self.new.faults }
         ensures longs { Counted (is_too_long result) self.old.longs self.new.longs }
-        ensures call { self.new.calls ≡ one_more self.old.calls }
         ensures exact { ReadsAt self.old name.now most result }
-        ensures kept { (self.new.files ≡ self.old.files) × (self.new.failing ≡ self.old.failing) }
+        ensures after { self.new ≡ after_shelf_read self.old result }
     {
         let fails = is_listed(self.calls, self.failing.as_slice());
         self.calls = self.calls.saturating_add(1);

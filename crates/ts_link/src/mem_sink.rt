@@ -1,8 +1,8 @@
 //! A sink in memory.
 ghost use Rattle.std.specs.Prelude.{◌≡◌, ◌<◌, ◌≤◌, ◌++◌, [], length, true};
-ghost use Rattle.ts_link.specs.Counts.{Counted, one_more};
+ghost use Rattle.ts_link.specs.Counts.{Counted};
 ghost use Rattle.ts_link.specs.Sink.{TakesSome, is_fault, is_lack, taken_of};
-ghost use Rattle.ts_link.specs.MemSink.{SinkState, WritesAt, fresh_sink};
+ghost use Rattle.ts_link.specs.MemSink.{SinkState, WritesAt, after_sink_write, fresh_sink};
 
 use crate::numbered::is_listed;
 use crate::sink::{Sink, Wrote};
@@ -71,9 +71,8 @@ impl Sink for MemSink {
         ensures taken { self.new.taken ≡ self.old.taken ++ taken_of result piece.now }
         ensures faults { Counted (is_fault result) self.old.faults self.new.faults }
         ensures lacks { Counted (is_lack result) self.old.lacks self.new.lacks }
-        ensures call { self.new.calls ≡ one_more self.old.calls }
         ensures exact { WritesAt self.old piece.now result }
-        ensures kept { (self.new.most ≡ self.old.most) × (self.new.failing ≡ self.old.failing) }
+        ensures after { self.new ≡ after_sink_write self.old piece.now result }
     {
         let fails = is_listed(self.calls, self.failing.as_slice());
         self.calls = self.calls.saturating_add(1);

@@ -89,6 +89,13 @@ impl PieceInput {
         }
     }
 
+    /// What holds of every one: what was given and what is ahead are all of its bytes.
+    pub fn known(&self)
+        ensures { IsSoundInput self.now }
+    {
+        let _ = &self.pieces;
+    }
+
     /// Gives as much of the next piece as there is room for, or one read of a stall.
     pub fn give(&mut self, into: &mut [u8]) -> Got
         requires { 0 < length into.old }

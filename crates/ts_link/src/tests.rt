@@ -97,6 +97,7 @@ fn a_link_gives_pieces_and_goes_wrong_at_its_calls(rt: HostRuntime) -> Result<()
         Vec::from_slice(rt.alloc(), &calls)?,
     );
     link.set_name(7);
+    link.known();
     let tried = read_on(&rt, &mut link, 7)?;
     assert_eq!(rt;
         tried.answers.as_slice(),

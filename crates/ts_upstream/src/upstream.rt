@@ -6,8 +6,8 @@ ghost use Rattle.ts_upstream.specs.Uploads.{Rose8, SameRefusal, UploadCauses, Up
 
 use ts_link::{Link, MemLink};
 
-/// What came of moving some of an upload. `More` where more of it is left, `Refused` where the client's bytes make no
-/// upload.
+/// What came of moving some of an upload. `More` where more of it is left, `Refused` where the client's bytes
+/// make no upload.
 #[derive(Clone, Copy, Debug, PartialEq, Eq)]
 pub enum Uploaded {
     Done,
@@ -38,12 +38,14 @@ pub trait Upstream<C: Link>: Link {
             (C.look client.old) (C.look client.new) (Self.look self.old) (Self.look self.new) }
         ensures bytes { C.tells ≡ true → Self.tells ≡ true →
             Uploads (C.look client.old) (C.look client.new) (Self.look self.old) (Self.look self.new) }
-        ensures keeps { UploadKeeps (C.look client.old) (C.look client.new) (Self.look self.old) (Self.look self.new) }
+        ensures keeps { UploadKeeps
+            (C.look client.old) (C.look client.new) (Self.look self.old) (Self.look self.new) }
         ensures falls { UploadFalls result (upload_left client.old self.old) (upload_left client.new self.new)
             (both (C.look client.old).agains (Self.look self.old).agains)
             (both (C.look client.new).agains (Self.look self.new).agains) }
         ensures sure { IsSure (C.look client.old) → IsSure (Self.look self.old) →
-            UploadsSurely result (C.look client.old) (C.look client.new) (Self.look self.old) (Self.look self.new) }
+            UploadsSurely result
+            (C.look client.old) (C.look client.new) (Self.look self.old) (Self.look self.new) }
         ensures refuses { SameRefusal (refuses self.old) (refuses self.new) };
 
     // Calls of `Link` on either keep the pair and the refusal.
@@ -51,7 +53,8 @@ pub trait Upstream<C: Link>: Link {
 
     ghost refusal_stays: { (o p : Self) → Self.goes o p → SameRefusal (refuses o) (refuses p) };
 
-    // Of them only writes to the origin raise what the upload has left, by at most 8 for each byte that was taken.
+    // Of them only writes to the origin raise what the upload has left, by at most 8 for each byte that was
+    // taken.
     ghost left_rises: { (c d : C) (o p : Self) → C.goes c d → Self.goes o p →
         Rose8 (upload_left c o) (upload_left d p) (taken_since (Self.look o) (Self.look p)) };
 }

@@ -3,7 +3,8 @@ use Rattle.std.specs.Prelude.{◌≡◌, ℕ, ◌≤◌, ◌++◌, List, length,
 use Rattle.ts_link.specs.Link.{Look, Calls, Gives, Takes, IsOneRead, ReadsSurely, WritesSurely}
 use Rattle.ts_link.specs.LinkAnswers.{FillsSome, EndsWell, count_got, got_again, got_bytes, got_failed}
 use Rattle.ts_link.specs.declared.link.Got.{Got}
-use Rattle.ts_iobuf.specs.Buffer.{Buffer, Grows}
+use Rattle.ts_iobuf.specs.Buffer.{Buffer, Consumes, Grows}
+use Rattle.ts_iobuf.specs.declared.readers.ReaderId.{ReaderId}
 use Rattle.ts_vconn.specs.MoveAnswers.{Came, EndsPull, Went, count_pushed, pull_again, pull_failed, push_again, push_failed, writes_after_push}
 use Rattle.ts_vconn.specs.declared.moves.Pulled.{Pulled}
 use Rattle.ts_vconn.specs.declared.moves.Pushed.{Pushed}
@@ -44,6 +45,11 @@ pub record PullsOn (tells : Bool) (old new : Look) (before after : List ℕ) (an
 pub record IsOnePush (answer : Pushed) (old new : Look) : Type 0 where
   pub reads : new.reads ≡ old.reads
   pub writes : new.writes ≡ writes_after_push answer old.writes
+
+-- the reader passes over what went, and where nothing went the buffer stands as it was
+abbrev pub Spends : Pushed → Buffer → Buffer → ReaderId → Type 0
+Spends (V.Some n) before after reader = Consumes before after reader n
+Spends _ before after reader = after ≡ before
 
 -- want of memory leaves all that is seen of the link, and so does a push that has nothing to do
 abbrev pub Stands : Pushed → Look → Look → Type 0

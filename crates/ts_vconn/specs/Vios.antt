@@ -1,13 +1,8 @@
 -- What a contract sees of a VConnection.
-use Rattle.std.specs.Prelude.{◌≡◌, Bool}
+use Rattle.std.specs.Prelude.{Bool}
 use Rattle.ts_vconn.specs.declared.vio.Vio.{Vio}
 
 -- its VIO, and whether it is closed
 pub record Connection : Type 0 where
   pub vio : Vio
   pub closed : Bool
-
--- a VIO for the same continuation and the same reader
-pub record IsSameVio (old new : Vio) : Type 0 where
-  pub cont : new.cont ≡ old.cont
-  pub reader : new.reader ≡ old.reader

@@ -1,5 +1,5 @@
-//! VConnections: what is to be moved through one end of a connection, and the moves themselves, between a link and a
-//! buffer. (The Developer's Guide: the chapters "VConnections" and "IO Buffers".)
+//! VConnections: what is to be moved through one end of a connection, and the moves themselves, between a
+//! link and a buffer. (The Developer's Guide: the chapters "VConnections" and "IO Buffers".)
 #![tactic(auto)]
 
 mod moves;

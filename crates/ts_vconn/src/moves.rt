@@ -1,7 +1,7 @@
 //! One read of a link into a buffer, and one write of a buffer's bytes to a link.
 ghost use Rattle.std.specs.Prelude.{◌≡◌, ◌≢◌, ◌<◌, ◌≤◌, [], length, IsTrue, IfOk, OnOk, OnErr};
 ghost use Rattle.ts_iobuf.specs.Buffer.{is_reader, readable};
-ghost use Rattle.ts_vconn.specs.Moves.{PullsInto, PullsOn, Pushes, ReadsFront};
+ghost use Rattle.ts_vconn.specs.Moves.{PullsInto, PullsOn, Pushes, ReadsFront, Spends};
 
 use ts_iobuf::{IoBuffer, ReaderId, Waiting};
 use ts_link::{Got, Link, NoMemory, Put};
@@ -18,8 +18,8 @@ pub enum Pulled {
     Failed,
 }
 
-/// What came of a write: the number of bytes that were taken, at least 1; `Nothing` where there was none to write, and
-/// so no write was made; or the link's own answer.
+/// What came of a write: the number of bytes that were taken, at least 1; `Nothing` where there was none to
+/// write, and so no write was made; or the link's own answer.
 #[derive(Clone, Copy, Debug, PartialEq, Eq)]
 pub enum Pushed {
     Some(usize),
@@ -40,8 +40,8 @@ fn read_front<L: Link>(link: &mut L, room: &mut [u8], most: usize) -> Got
     link.read(&mut room[..count])
 }
 
-/// Makes one read of the link, of at most `most` bytes, into the buffer's own room. Want of memory comes before the
-/// read.
+/// Makes one read of the link, of at most `most` bytes, into the buffer's own room. Want of memory comes
+/// before the read.
 pub fn pull<L: Link>(link: &mut L, into: &mut IoBuffer, most: usize) -> Result<Pulled, NoMemory>
     requires { (1 ≤ most) × (most ≤ MOST_PULLED) }
     ensures moved { IfOk result (λ p.
@@ -81,7 +81,7 @@ pub fn push<L: Link>(from: &mut IoBuffer, reader: ReaderId, link: &mut L) -> Pus
         (readable from.old reader) (readable from.new reader) }
     ensures live { (q : _) → is_reader from.new q ≡ is_reader from.old q }
     ensures others { (q : _) → q ≢ reader → readable from.new q ≡ readable from.old q }
-    ensures kept { (from.new.room ≡ from.old.room) × (from.new.mark ≡ from.old.mark) }
+    ensures spends { Spends result from.old from.new reader }
     ensures nothing { result ≡ Pushed.Nothing → link.new ≡ link.old }
     ensures goes { L.goes link.old link.new }
 {

@@ -1,4 +1,5 @@
-//! Each call with ample memory: what is pulled, pushed and counted, and one link copied to another of another type.
+//! Each call with ample memory: what is pulled, pushed and counted, and one link copied to another of another
+//! type.
 ghost use Rattle.std.specs.Prelude.{◌≡◌, [], IfOk};
 ghost use Rattle.ts_link.specs.MemLink.{look_of};
 
@@ -16,8 +17,8 @@ use ts_iobuf::{IoBuffer, ReaderId, Waiting};
 use ts_journal::ContKey;
 use ts_link::{Link, MemLink, Octets};
 
-// A link that gives these bytes, one at first and then the rest, of which the second read waits and the fourth fails;
-// and takes two bytes a write, of which the first waits and the third fails.
+// A link that gives these bytes, one at first and then the rest, of which the second read waits and the
+// fourth fails; and takes two bytes a write, of which the first waits and the third fails.
 fn link(rt: &impl AllocGlobal, bytes: &[u8]) -> Result<MemLink, Fail> {
     let alloc = rt.alloc();
     let input = Octets::copy_of(alloc, bytes)?;

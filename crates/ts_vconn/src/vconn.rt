@@ -43,8 +43,10 @@ impl VConn {
 
     /// Ends the write side: what was moved is all that is to be moved. (`TSVConnShutdown`.)
     pub fn shutdown(&mut self)
-        ensures counts { (self.new.vio.nbytes ≡ self.old.vio.ndone) × (self.new.vio.ndone ≡ self.old.vio.ndone) }
-        ensures whose { (self.new.vio.cont ≡ self.old.vio.cont) × (self.new.vio.reader ≡ self.old.vio.reader) }
+        ensures all { self.new.vio.nbytes ≡ self.old.vio.ndone }
+        ensures done { self.new.vio.ndone ≡ self.old.vio.ndone }
+        ensures cont { self.new.vio.cont ≡ self.old.vio.cont }
+        ensures reader { self.new.vio.reader ≡ self.old.vio.reader }
         ensures closed { self.new.closed ≡ self.old.closed }
     {
         self.vio.nbytes = self.vio.ndone;

@@ -9,8 +9,8 @@ use ts_group::{Action, Cx, SetFault};
 use ts_iobuf::ReaderId;
 use ts_journal::ContKey;
 
-/// How many bytes are to be moved, how many were, whose continuation hears of it, and which reader they are read by.
-/// (The Developer's Guide: `TSVIONBytesGet`, `TSVIONDoneGet`, `TSVIOContGet`, `TSVIOReaderGet`.)
+/// How many bytes are to be moved, how many were, whose continuation hears of it, and which reader they are
+/// read by. (The Developer's Guide: `TSVIONBytesGet`, `TSVIONDoneGet`, `TSVIOContGet`, `TSVIOReaderGet`.)
 #[derive(Clone, Copy, Debug, PartialEq, Eq)]
 pub struct Vio {
     pub nbytes: u64,
@@ -38,7 +38,8 @@ impl Vio {
         self.ndone += n;
     }
 
-    /// Has the continuation hear, by an event that is due now, that there is something to do. (`TSVIOReenable`.)
+    /// Has the continuation hear, by an event that is due now, that there is something to do.
+    /// (`TSVIOReenable`.)
     pub fn reenable(&self, cx: &mut Cx) -> Result<Action, SetFault>
         requires turn { cx.old.log.state.held ≡ true }
         ensures sets { Sets cx.old.log cx.new.log result self.now.cont

@@ -38,8 +38,8 @@ impl IoBuffer {
         self.store.slice_mut(from..from + self.room)
     }
 
-    /// The room behind the bytes, at least one byte, to be filled in place and then added by `produce`; or none
-    /// for want of memory.
+    /// The room behind the bytes, at least one byte, to be filled in place and then added by `produce`; or
+    /// none for want of memory.
     pub fn space(&mut self) -> &mut [u8]
         ensures* writes_back { sem 𝓛 (LendsSpace self.entry result) }
         ensures none { result.now ≡ [] → self.old.room ≡ [] }

@@ -62,7 +62,8 @@ pub fn copy<I: Link + Drop, K: Link + Drop>(
     output: K,
     turns: u64,
 ) -> Result<Copied<I, K>, NoMemory>
-    requires fresh { (I.tells ≡ true → (I.look input).given ≡ []) × (K.tells ≡ true → (K.look output).taken ≡ []) }
+    requires input { I.tells ≡ true → (I.look input).given ≡ [] }
+    requires output { K.tells ≡ true → (K.look output).taken ≡ [] }
     ensures whole { IfOk result (λ c. c.end ≡ End.Whole → I.tells ≡ true → K.tells ≡ true →
         ((K.look c.output).taken ≡ (I.look c.input).given) × ((I.look c.input).left ≡ [])) }
 {

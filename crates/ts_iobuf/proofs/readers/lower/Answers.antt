@@ -1,3 +1,4 @@
+-- One slot more is lowered.
 use Rattle.ts_iobuf.proofs.Places.{lowered_more}
 use Rattle.ts_iobuf.proofs.readers.lower.Goals as goal
 

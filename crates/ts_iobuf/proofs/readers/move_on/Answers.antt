@@ -1,3 +1,4 @@
+-- Moving one reader, finding the least place and counting every place from it is one settled list of slots.
 use Rattle.std.proofs.Common.{◌≤◌, ◌+◌, map, arith, ◌∙◌, ap}
 use Rattle.ts_iobuf.specs.Places.{place_in, lowered}
 use Rattle.ts_iobuf.proofs.Places.{settled-steps, the_some, least_place-le, settled-within, settled-live, settled-moved, settled-others}

@@ -1,8 +1,8 @@
+-- There is room for the parts that are left, and with them the bytes are what was to come.
 use Rattle.std.proofs.Common.{◌≡◌, ◌+◌, ◌≤◌, ◌++◌, length, drop, vec_len, vec_capacity}
 use Rattle.std.specs.List.{flat_map}
 use Rattle.ts_iobuf.proofs.store.append_parts.Given as goal
 
--- there is room for the parts that are left, and with them the bytes are what was to come
 abbrev pub invariant-loop-part : goal.invariant-loop-part
 invariant-loop-part l =
     (vec_len l.store + length (flat_map (λ p. p.now) (drop l.part-index l.parts)) ≤ vec_capacity l.store)

@@ -1,8 +1,8 @@
+-- What was put stands right behind the bytes that were there.
 use Rattle.std.proofs.Common.{◌∙◌}
 use Rattle.ts_iobuf.proofs.Growing.{grows-put}
 use Rattle.ts_iobuf.proofs.buffer.IoBuffer.add.Goals as goal
 
--- What was put stands right behind the bytes that were there.
 pub returns-clause-grows : goal.returns-clause-grows
 returns-clause-grows c =
     let s = c.self.inside in

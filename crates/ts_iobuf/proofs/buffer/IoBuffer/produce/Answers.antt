@@ -1,10 +1,10 @@
+-- The part of the room that is added stands right behind the bytes.
 use Rattle.std.proofs.Common.{◌≤◌, ◌+◌, length, take, drop, refl, sym, subst, arith, length-take}
 use Rattle.ts_iobuf.specs.Buffer.{Buffer}
 use Rattle.ts_iobuf.specs.View.{seen, shown}
 use Rattle.ts_iobuf.proofs.Growing.{grows, stored-more, within_stored}
 use Rattle.ts_iobuf.proofs.buffer.IoBuffer.produce.Goals as goal
 
--- The part of the room that is added stands right behind the bytes.
 pub returns-clause-grows : goal.returns-clause-grows
 returns-clause-grows c =
     let s = c.self.inside in

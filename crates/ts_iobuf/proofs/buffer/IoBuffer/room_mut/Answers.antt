@@ -1,9 +1,9 @@
+-- Whatever is written to the room, the bytes stay.
 use Rattle.std.proofs.Common.{◌≡◌, ◌+◌, ◌-◌, ◌++◌, length, take, drop, refl, ap, ◌∙◌, arith}
 use Rattle.ts_iobuf.specs.View.{shown}
 use Rattle.ts_iobuf.proofs.Lent.{shown-over}
 use Rattle.ts_iobuf.proofs.buffer.IoBuffer.room_mut.Goals as goal
 
--- Whatever is written to the room, the bytes stay.
 pub returns : goal.returns
 returns c =
     let s = c.self.inside in
