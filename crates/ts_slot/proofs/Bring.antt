@@ -1,6 +1,6 @@
 -- The slot of one group comes before the others that a seat holds.
-use Rattle.std.proofs.Common.{◌≡◌, ◌≢◌, ◌⊎◌, ℕ, zero, suc, ◌+◌, ◌-◌, ◌*◌, ◌<◌, ◌≤◌, cond, eqb, List, [], ◌∷◌, length, set, get_or, refl, sym, ap, ◌∙◌, subst, inl, inr, ⊎_elim, arith}
-use Rattle.std.specs.Prelude.{slice_index, Option, Some, None}
+use Rattle.std.proofs.Common.{◌≡◌, ◌≢◌, ℕ, ◌+◌, ◌*◌, ◌<◌, ◌≤◌, cond, List, [], ◌∷◌, length, set, refl, sym, ap, ◌∙◌, subst, inl, inr, ⊎_elim, arith}
+use Rattle.std.specs.Prelude.{slice_index, Option, None}
 use Rattle.std.proofs.Math.ListN.{length-set}
 use Rattle.std.proofs.lemmas.List.{set-get_or, get_or_past}
 use Rattle.std.proofs.lemmas.Bool.{cases_lt}
@@ -14,7 +14,7 @@ use Rattle.atomic_table.proofs.Lists.{at_set, set_here, set_else}
 use Rattle.ts_slot.specs.declared.view.View.{View}
 use Rattle.ts_slot.specs.Lists.{total, Each, IsIn, same, traced, entries, without}
 use Rattle.ts_slot.specs.Views.{owns}
-use Rattle.ts_slot.specs.Rule.{free, taken, worn, ViewOk, Kept}
+use Rattle.ts_slot.specs.Rule.{free, taken, worn, ViewOk}
 use Rattle.ts_slot.specs.Steps.{Mine, emptied, bring, Fetched}
 use Rattle.ts_slot.proofs.Lists.{by_eq, same_one, same_none, total_set, total_at, each_map, each_in, each_without, in_traced, traced_without, traced_others}
 use Rattle.ts_slot.proofs.Kept.{Rule, kept_views}

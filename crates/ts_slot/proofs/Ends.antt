@@ -1,24 +1,21 @@
 -- The rule holds at the start, and what it says at the end.
-use Rattle.std.proofs.Common.{◌≡◌, ◌≢◌, ◌⊎◌, ℕ, zero, suc, ◌+◌, ◌-◌, ◌*◌, ◌<◌, ◌≤◌, cond, eqb, ltb, leb, List, [], ◌∷◌, ◌++◌, map, take, length, set, get_or, refl, sym, ap, ◌∙◌, subst, inl, inr, ⊎_elim, arith, replicate}
+use Rattle.std.proofs.Common.{◌≡◌, ◌≢◌, ℕ, zero, suc, ◌+◌, ◌-◌, ◌*◌, ◌<◌, ◌≤◌, List, [], ◌∷◌, ◌++◌, map, take, length, get_or, refl, sym, ap, ◌∙◌, subst, arith, replicate}
 use Rattle.std.proofs.lemmas.List.{length-map, length-replicate, map-append}
 use Rattle.std.proofs.lemmas.Slice.Zip.{AllZip-long}
 use Rattle.std.specs.Prelude.{slice_index, Option, Some, None}
 use Rattle.std.specs.List.{AllZip}
 use Rattle.std.proofs.lemmas.Bool.Decides.{nat_tests}
-use mathlib.Core.Option.{some, none, some-injective, some-ne-none}
-use mathlib.Core.Option as maybe
-use mathlib.Core.Logic.{dite}
-use native.Mathlib.Decide.{ℕ_discrete}
+use mathlib.Core.Option.{some, some-injective, some-ne-none}
 use lib.ListN.{get_elem?}
-use Rattle.atomic_table.specs.Table.{State, opening, Final, Seen}
+use Rattle.atomic_table.specs.Table.{opening, Final, Seen}
 use Rattle.atomic_table.proofs.Lists.{at_map}
 use Rattle.ts_slot.specs.declared.view.View.{View}
-use Rattle.ts_slot.specs.Lists.{total, Each, IsIn, same, traced, entries}
+use Rattle.ts_slot.specs.Lists.{total, Each, same, traced, entries}
 use Rattle.ts_slot.specs.Limits.{whole_share, last_turn}
-use Rattle.ts_slot.specs.Views.{firsts, opener, nobody, owns, within, IsAfter}
-use Rattle.ts_slot.specs.Rule.{free, taken, worn, AtHome, ViewOk, Kept}
+use Rattle.ts_slot.specs.Views.{firsts, opener, nobody, within, IsAfter}
+use Rattle.ts_slot.specs.Rule.{free, taken, worn, ViewOk}
 use Rattle.ts_slot.specs.Words.{FitsTag}
-use Rattle.ts_slot.proofs.Lists.{total_at, total_two}
+use Rattle.ts_slot.proofs.Lists.{total_two}
 use Rattle.ts_slot.proofs.Kept.{Rule, Group, after_known}
 
 word_zero : (n k : ℕ) → slice_index (replicate n 0) k ≡ 0

@@ -1,7 +1,7 @@
 -- The last finished turn that is known.
-use Rattle.std.proofs.Common.{◌≡◌, ◌≢◌, ◌⊎◌, ℕ, ◌+◌, ◌<◌, ◌≤◌, Bool, true, false, cond, eqb, leb, List, [], ◌∷◌, ◌++◌, refl, sym, ap, ◌∙◌, subst, inl, inr, arith}
+use Rattle.std.proofs.Common.{◌≡◌, ℕ, ◌<◌, ◌≤◌, cond, eqb, leb, List, [], ◌∷◌, ◌++◌, refl, sym, ap, ◌∙◌, arith}
 use Rattle.std.specs.Prelude.{Option, Some, None}
-use Rattle.std.proofs.lemmas.Bool.{leb-true, leb-false, eq-eqb, cond-true, cond-false}
+use Rattle.std.proofs.lemmas.Bool.{leb-true, leb-false, eq-eqb, cond-true}
 use Rattle.ts_slot.specs.Lists.{Each}
 use Rattle.ts_slot.specs.Views.{newer, latest}
 use Rattle.ts_slot.proofs.Lists.{split, by_eq}

@@ -1,11 +1,11 @@
 -- What a seat has at each step of leaving a group.
-use Rattle.std.proofs.Common.{◌≡◌, ◌≢◌, ◌⊎◌, ℕ, zero, suc, ◌+◌, ◌<◌, ◌≤◌, List, [], ◌∷◌, length, refl, sym, ap, ◌∙◌, subst, inl, inr, ⊎_elim, arith}
+use Rattle.std.proofs.Common.{◌≡◌, ℕ, zero, suc, ◌<◌, List, [], ◌∷◌, length, refl, sym, ap, ◌∙◌, subst, arith}
 use Rattle.std.specs.Prelude.{Option, Some, None}
 use mathlib.Core.Option.{some, none, some-ne-none}
 use lib.ListN.{get_elem?}
 use Rattle.atomic_table.specs.Table.{step, rest as below}
 use Rattle.ts_slot.specs.declared.view.View.{View}
-use Rattle.ts_slot.specs.Lists.{Each, IsIn, rest, without}
+use Rattle.ts_slot.specs.Lists.{IsIn, rest, without}
 use Rattle.ts_slot.specs.Views.{freed, worn_out, latest}
 use Rattle.ts_slot.specs.Steps.{Mine, emptied, Returned, WornOut}
 use Rattle.ts_slot.specs.Words.{GivesUp, FitsTag}

@@ -1,16 +1,15 @@
 -- Seats are split and joined, and the rule holds again.
-use Rattle.std.proofs.Common.{◌≡◌, ◌≢◌, ◌⊎◌, ℕ, zero, suc, ◌+◌, ◌-◌, ◌*◌, ◌<◌, ◌≤◌, cond, eqb, ltb, leb, List, [], ◌∷◌, ◌++◌, length, set, refl, sym, ap, ◌∙◌, subst, inl, inr, ⊎_elim, arith}
-use Rattle.std.specs.Prelude.{slice_index, Option, Some, None}
+use Rattle.std.proofs.Common.{◌≡◌, ◌≢◌, ℕ, ◌+◌, ◌<◌, ◌≤◌, List, [], ◌∷◌, ◌++◌, set, refl, sym, ap, ◌∙◌, subst, ⊎_elim, arith}
+use Rattle.std.specs.Prelude.{Option}
 use Rattle.std.proofs.lemmas.Bool.Decides.{nat_tests}
-use Rattle.std.proofs.lemmas.Grind.{common_steps}
-use mathlib.Core.Option.{some, none}
+use mathlib.Core.Option.{some}
 use lib.ListN.{get_elem?}
 use Rattle.atomic_table.specs.Table.{State, Splits, Joins}
 use Rattle.atomic_table.proofs.Lists.{at_set, at_snoc, set_else}
 use Rattle.ts_slot.specs.declared.view.View.{View}
-use Rattle.ts_slot.specs.Lists.{total, Each, same, traced, entries}
+use Rattle.ts_slot.specs.Lists.{same, traced, entries}
 use Rattle.ts_slot.specs.Views.{within, owns, nobody, left_half, right_half, joined}
-use Rattle.ts_slot.specs.Rule.{ViewOk, Kept}
+use Rattle.ts_slot.specs.Rule.{ViewOk}
 use Rattle.ts_slot.proofs.Lists.{total_set, total_append, each_append}
 use Rattle.ts_slot.proofs.Kept.{Rule, kept_views}
 

@@ -1,6 +1,6 @@
 -- Each kind of step on a word keeps the rule.
-use Rattle.std.proofs.Common.{◌≡◌, ◌≢◌, ◌⊎◌, ℕ, zero, suc, ◌+◌, ◌-◌, ◌*◌, ◌/◌, ◌%◌, ◌^◌, ◌<◌, ◌≤◌, ◌&&◌, Bool, true, false, cond, eqb, List, [], ◌∷◌, ◌++◌, length, set, get_or, refl, sym, ap, ◌∙◌, subst, inl, inr, ⊎_elim, arith}
-use Rattle.std.specs.Prelude.{slice_index, Option, Some, None}
+use Rattle.std.proofs.Common.{◌≡◌, ◌≢◌, ◌⊎◌, ℕ, ◌+◌, ◌-◌, ◌*◌, ◌/◌, ◌%◌, ◌<◌, ◌≤◌, cond, eqb, List, [], ◌∷◌, length, set, refl, sym, ap, ◌∙◌, subst, inl, inr, ⊎_elim, arith}
+use Rattle.std.specs.Prelude.{slice_index, Option, Some}
 use Rattle.std.specs.Int.Bits.{bit_or, bit_and, or_add_and}
 use Rattle.std.proofs.Math.ListN.{length-set}
 use Rattle.std.proofs.lemmas.Nat.{and_mask}
@@ -11,16 +11,16 @@ use mathlib.Core.Option as maybe
 use mathlib.Core.Logic.{dite}
 use native.Mathlib.Decide.{ℕ_discrete}
 use lib.ListN.{get_elem?}
-use Rattle.atomic_table.specs.Table.{State, Me, Act, Valid, step, keeps, takes, gives, stepped, carried_after, Allows, rest as below}
+use Rattle.atomic_table.specs.Table.{State, Act, Valid, step, keeps, takes, gives, stepped, carried_after, Allows, rest as below}
 use Rattle.atomic_table.proofs.Lists.{at_set, set_here, set_else, set_again}
 use Rattle.ts_slot.specs.declared.view.View.{View}
-use Rattle.ts_slot.specs.Lists.{total, Each, IsIn, rest, same, traced, entries, without}
-use Rattle.ts_slot.specs.Limits.{last_turn, worn_word}
+use Rattle.ts_slot.specs.Lists.{total, Each, rest, same, traced, entries, without}
+use Rattle.ts_slot.specs.Limits.{last_turn}
 use Rattle.ts_slot.specs.Views.{owns, won, missed, freed, worn_out, Coherent}
-use Rattle.ts_slot.specs.Rule.{free, taken, worn, AtHome, GroupOk, ViewOk, Kept}
+use Rattle.ts_slot.specs.Rule.{free, taken, worn, AtHome, ViewOk}
 use Rattle.ts_slot.specs.Steps.{Mine, Entered, Returned, WornOut, Looked}
 use Rattle.ts_slot.specs.Words.{FitsTag}
-use Rattle.ts_slot.proofs.Lists.{split, by_eq, same_one, same_none, total_set, total_at, total_two, each_map, each_apart, each_without, traced_without, traced_others}
+use Rattle.ts_slot.proofs.Lists.{by_eq, same_one, total_set, total_at, total_two, each_map, each_without, traced_without, traced_others}
 use Rattle.ts_slot.proofs.Kept.{Rule, Group, group_same, view_stays, after_known, kept_views, kept_word}
 
 pub or_even : (n m : ℕ) → n ≡ 2 * m → bit_or n 1 ≡ n + 1

@@ -1,9 +1,8 @@
 -- Each slot has a value, which is taken out once.
-use Rattle.std.proofs.Common.{◌≡◌, ◌+◌, ◌∷◌, ◌++◌, [], ℕ, map, take, set, length, length-append, sym, refl, ap, ◌∙◌, subst, arith}
-use Rattle.std.specs.Prelude.{slice_index_or, false, true}
-use Rattle.std.specs.Mem.Slots.{slots_items, slots_filled, slots_len, slots_counts}
+use Rattle.std.proofs.Common.{◌+◌, ◌∷◌, [], map, take, set, length, length-append, sym, ap, ◌∙◌, arith}
+use Rattle.std.specs.Prelude.{slice_index_or, false}
+use Rattle.std.specs.Mem.Slots.{slots_items, slots_filled, slots_counts}
 use Rattle.std.proofs.lemmas.List.{get_or-set_same, get_or-set_other}
-use mathlib.Core.Option.{some}
 use mathlib.Core.Logic.{dite}
 use native.Mathlib.Decide.{ℕ_discrete}
 use lib.ListN.{get_elem?}

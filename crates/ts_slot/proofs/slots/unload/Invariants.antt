@@ -1,5 +1,5 @@
 -- The values of the first k slots were taken out.
-use Rattle.std.proofs.Common.{◌≡◌, ◌≤◌, ◌<◌, ◌+◌, ◌-◌, ℕ, map, take, length}
+use Rattle.std.proofs.Common.{◌≡◌, ◌≤◌, ◌<◌, ◌-◌, ℕ, map, take, length}
 use Rattle.std.specs.Prelude.{Some, slice_index_or, true, false, vec_capacity}
 use Rattle.std.specs.Mem.Slots.{slots_items, slots_filled, slots_len}
 use Rattle.ts_slot.proofs.slots.unload.Given as goal

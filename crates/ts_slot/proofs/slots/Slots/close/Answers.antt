@@ -1,7 +1,7 @@
 -- The seat has the whole share, so every value is at home.
-use Rattle.std.proofs.Common.{◌≡◌, ◌<◌, ℕ, length, sym, refl, ap, ◌∙◌, subst, arith}
+use Rattle.std.proofs.Common.{◌≡◌, subst, arith}
 use Rattle.std.specs.Prelude.{Some}
-use Rattle.std.specs.Mem.Slots.{slots_items, slots_len, slots_counts}
+use Rattle.std.specs.Mem.Slots.{slots_items, slots_counts}
 use Rattle.ts_slot.proofs.slots.Slots.close.Goals as goal
 use Rattle.ts_slot.proofs.Ends.{ends, value_at, one_value}
 use Rattle.ts_slot.proofs.Leaves.{at_low}

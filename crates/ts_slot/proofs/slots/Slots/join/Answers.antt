@@ -1,5 +1,5 @@
 -- A seat is joined by a load of the first word, and a look at it shows that what it knows is coherent.
-use Rattle.std.proofs.Common.{◌≡◌, sym, refl, ap, ◌∙◌, arith}
+use Rattle.std.proofs.Common.{ap, ◌∙◌, arith}
 use Rattle.ts_slot.specs.Steps.{emptied}
 use Rattle.ts_slot.specs.Views.{latest}
 use Rattle.ts_slot.proofs.slots.Slots.join.Goals as goal

@@ -1,8 +1,6 @@
 -- The group's slot comes first, the value is put into it, and a step on its word frees it.
-use Rattle.std.proofs.Common.{◌≡◌, ◌+◌, ◌<◌, ◌≤◌, ◌⊎◌, ℕ, ◌∷◌, sym, refl, ap, ◌∙◌, subst, arith, ⊎_elim}
-use Rattle.std.specs.Prelude.{Some, None}
-use Rattle.ts_slot.specs.Limits.{whole_share}
-use Rattle.ts_slot.specs.Steps.{Mine, emptied}
+use Rattle.std.proofs.Common.{◌≡◌, ◌<◌, ◌≤◌, ◌⊎◌, ℕ, sym, refl, ap, ◌∙◌, subst, arith, ⊎_elim}
+use Rattle.std.specs.Prelude.{None}
 use Rattle.ts_slot.specs.Views.{freed, worn_out}
 use Rattle.ts_slot.specs.Words.{GivesUp}
 use Rattle.ts_slot.proofs.slots.Slots.leave.Goals as goal

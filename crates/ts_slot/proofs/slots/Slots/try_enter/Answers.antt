@@ -1,5 +1,5 @@
 -- One step on the word of the group, and then the value is taken out.
-use Rattle.std.proofs.Common.{◌≡◌, ◌%◌, ◌∷◌, sym, refl, ap, ◌∙◌, arith}
+use Rattle.std.proofs.Common.{◌≡◌, ◌%◌, ap, ◌∙◌, arith}
 use Rattle.std.specs.Prelude.{Some}
 use Rattle.ts_slot.proofs.slots.Slots.try_enter.Goals as goal
 use Rattle.ts_slot.proofs.Steps.{enters, below_is}
