@@ -129,9 +129,10 @@ takes_first from (s ∷ ss) n from' (s' ∷ ss') (same, part, takes) = let l : l
 takes_order : {P : Type 0} (up : Bool) (from : List ℕ) (ss : List (Stage P)) (n : ℕ) (from' : List ℕ) (ss' : List (Stage P)) → Takes from ss n from' ss' → EndsInOrder up ss → EndsInOrder up ss'
 takes_order up from [] n from' ss' takes h = subst (EndsInOrder up) (sym takes.1) tt
 takes_order up from (s ∷ ss) n from' [] takes h = absurd takes
-takes_order up from (s ∷ ss) n from' (s' ∷ ss') (same, part, takes) (here, others) =
-    (λ ended. here (ap (λ p. is_none p) (sym part) ∙ ended),
-    subst (λ b. EndsInOrder b ss') (ap (λ p. is_none p) (sym part)) (takes_order (has_ended s) s.after ss n s'.after ss' takes others))
+takes_order up from (s ∷ ss) n from' (s' ∷ ss') (same, part, takes) (here, others) = (
+  λ ended. here (ap (λ p. is_none p) (sym part) ∙ ended),
+  subst (λ b. EndsInOrder b ss') (ap (λ p. is_none p) (sym part)) (takes_order (has_ended s) s.after ss n s'.after ss' takes others),
+)
 
 -- the output took some bytes
 pub moves_taken : {P : Type 0} (rest : P → List ℕ → List ℕ) (it ot : Bool) (i o p : Look) (c d : ChainState P) (piece : List ℕ) (n : ℕ) (was : Bool) → TakesAway rest n c d → n ≤ length piece
@@ -203,14 +204,16 @@ steps_order {P} rest up from (s ∷ ss) zero r from' (s' ∷ ss') answers (step,
 
     by_answer : (r : Pumped) → AnswersAt up from (s ∷ ss) zero r → Steps rest from s r from' s' → EndsInOrder up (s' ∷ ss')
     by_answer (Moved n) answers step = kept step.1
-    by_answer Ended answers step =
-        (λ ended. ended_last true up (has_ended s) from s.after answers,
-        subst (EndsInOrder (has_ended s')) (sym same) (behind (has_ended s') others (λ ended. ap (λ p. is_none p) step.1)))
+    by_answer Ended answers step = (
+      λ ended. ended_last true up (has_ended s) from s.after answers,
+      subst (EndsInOrder (has_ended s')) (sym same) (behind (has_ended s') others (λ ended. ap (λ p. is_none p) step.1)),
+    )
     by_answer (Blocked w) answers step = kept (ap (λ x. has_ended x) step.1)
     by_answer Idle answers step = kept (ap (λ x. has_ended x) step.1)
-steps_order rest up from (s ∷ ss) (suc at) r from' (s' ∷ ss') answers (before, part, steps) (here, others) =
-    (λ ended. here (ap (λ p. is_none p) (sym part) ∙ ended),
-    subst (λ b. EndsInOrder b ss') (ap (λ p. is_none p) (sym part)) (steps_order rest (has_ended s) s.after ss at r s'.after ss' answers steps others))
+steps_order rest up from (s ∷ ss) (suc at) r from' (s' ∷ ss') answers (before, part, steps) (here, others) = (
+  λ ended. here (ap (λ p. is_none p) (sym part) ∙ ended),
+  subst (λ b. EndsInOrder b ss') (ap (λ p. is_none p) (sym part)) (steps_order rest (has_ended s) s.after ss at r s'.after ss' answers steps others),
+)
 
 pumped_first : {P : Type 0} (rest : P → List ℕ → List ℕ) (c d : ChainState P) → PumpsOnce rest c d → length d.first ≤ length c.first
 pumped_first rest c d (inl same) = let l : length d.first ≡ length c.first = ap (λ x. length x.first) same in omega (arith, l)

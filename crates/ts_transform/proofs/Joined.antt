@@ -45,8 +45,6 @@ aborted_same {P} c d same = ap (λ ss. aborted {P = P} (record { first = []; sta
 
 -- an event of the writer was handled, or of the reader
 
-
-
 pub joined_writer : {P : Type 0} (c : ChainState P) (ts : List (Option StageContinuation)) (w r : Option StageContinuation) (before now : List Pending) (roles : List Named) (event : Event)
     → IsHandled before now roles 1 event → IsJoined c ts w r before roles → IsJoined c ts (unroused w) r now roles
 joined_writer c ts w r before now roles event handled h = record {

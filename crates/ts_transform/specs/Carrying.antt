@@ -94,6 +94,11 @@ pub record IsCarried {I K P : Type 0} (w : LinkWorld I K P) (pending : List Pend
   pub ordered : EndsInOrder w.driven.chain.given w.driven.chain.stages
   pub bounded : length w.driven.chain.first < MOST_WAITING + MOST_PULLED
 
+-- it holds again where an event of a role is handled
+abbrev pub HandlesCarried : {I K P : Type 0} → ℕ → Event → LinkWorld I K P → LinkWorld I K P → Context → Context → Type 0
+HandlesCarried role event v w a b = (before : List Pending) → IsHandled before a.log.state.pending a.roles role event
+    → IsCarried v before a.roles → IsCarried w b.log.state.pending b.roles
+
 -- what holds of its group
 abbrev pub IsCarriedGroup : {I K P Q R T U : Type 0} → Group (LinkWorld I K P) Q R T U → Type 0
 IsCarriedGroup g = IsCarried g.world g.cx.log.state.pending g.cx.roles

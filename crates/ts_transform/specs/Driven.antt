@@ -32,6 +32,10 @@ HandlesDriven first role event d e a b = (before : List Pending) → IsHandled b
 abbrev pub Acts : {P : Type 0} → (P → List ℕ → List ℕ) → (P → ℕ) → ℕ → Event → DrivenChain P → DrivenChain P → Context → Context → Type 0
 Acts rest pause at event d e a b = ActsAt rest pause at event d.chain e.chain d.table.items (unroused_at event d.table.items at) e.table.items d.running e.running a b
 
+-- the role is that of none of its stages
+abbrev pub IsOfNoStage : {P : Type 0} → ℕ → ℕ → DrivenChain P → Type 0
+IsOfNoStage first role d = (at : ℕ) → role ≡ first + at → IsStage d.chain d.table.items at → ⊥
+
 -- it is lost exactly where an event could not be set, and tells why
 abbrev pub Loses : {P T : Type 0} → Result T SetFault → DrivenChain P → DrivenChain P → Context → Type 0
 Loses (Ok x) d e now = (e.running ≡ d.running) × (e.lost ≡ d.lost)

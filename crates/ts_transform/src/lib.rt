@@ -1,15 +1,15 @@
 //! Transforms of a body, and chains of them (the Developer's Guide, "HTTP Transformation Plugin").
 #![tactic(auto)]
 
-mod link_drive;
-mod link_ends;
-#[cfg(test)]
-mod link_tests;
 mod chain;
 mod continuation;
 mod driven;
 mod ends;
 mod handler;
+mod link_drive;
+mod link_ends;
+#[cfg(test)]
+mod link_tests;
 mod link_world;
 mod loss;
 mod pump;

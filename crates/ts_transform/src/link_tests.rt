@@ -58,7 +58,11 @@ fn cuts(alloc: Global, cut: u32, count: usize) -> Result<Vec<u32>, NoMemory> {
 // The input of a plan.
 fn input_of(alloc: Global, plan: &Plan) -> Result<MemLink, NoMemory> {
     let body = Octets::copy_of(alloc, plan.body)?;
-    let cuts = cuts(alloc, plan.cut, if plan.cut == 0 { 0 } else { plan.body.len() })?;
+    let cuts = cuts(
+        alloc,
+        plan.cut,
+        if plan.cut == 0 { 0 } else { plan.body.len() },
+    )?;
     let fail = numbers(alloc, plan.fail_reads)?;
     let again = numbers(alloc, plan.again_reads)?;
     Ok(MemLink::make(
@@ -185,8 +189,22 @@ fn sure_plan<'a>(tails: &'a [&'a [u8]], body: &'a [u8], cut: u32, take: usize) -
 fn a_body_comes_whole_through_a_chain_to_another_link(rt: HostRuntime) -> Result<(), Fail> {
     let null: &[&[u8]] = &[b""];
     let cases: [(Plan, &[u8], (u64, u64)); 6] = [
-        (Plan { again_writes: &[1], ..sure_plan(null, b"abc", 1, 1) }, b"abc", (0, 1)),
-        (Plan { again_reads: &[1, 3], ..sure_plan(null, b"abc", 1, 9) }, b"abc", (2, 0)),
+        (
+            Plan {
+                again_writes: &[1],
+                ..sure_plan(null, b"abc", 1, 1)
+            },
+            b"abc",
+            (0, 1),
+        ),
+        (
+            Plan {
+                again_reads: &[1, 3],
+                ..sure_plan(null, b"abc", 1, 9)
+            },
+            b"abc",
+            (2, 0),
+        ),
         (sure_plan(&[b"1", b"22"], b"ab", 0, 9), b"ab122", (0, 0)),
         (sure_plan(&[], b"ab", 0, 1), b"ab", (0, 0)),
         (sure_plan(&[b"1"], b"", 0, 9), b"1", (0, 0)),
@@ -215,9 +233,27 @@ fn no_boundary_holds_as_much_as_two_reads_and_a_full_one(rt: HostRuntime) -> Res
 fn a_fault_of_a_link_aborts_the_chain(rt: HostRuntime) -> Result<(), Fail> {
     let null: &[&[u8]] = &[b""];
     let cases: [(Plan, usize); 3] = [
-        (Plan { fail_reads: &[2], ..sure_plan(null, b"abc", 1, 9) }, 1),
-        (Plan { fail_writes: &[1], ..sure_plan(null, b"abc", 1, 1) }, 0),
-        (Plan { fail_writes: &[2], ..sure_plan(null, b"abc", 1, 1) }, 1),
+        (
+            Plan {
+                fail_reads: &[2],
+                ..sure_plan(null, b"abc", 1, 9)
+            },
+            1,
+        ),
+        (
+            Plan {
+                fail_writes: &[1],
+                ..sure_plan(null, b"abc", 1, 1)
+            },
+            0,
+        ),
+        (
+            Plan {
+                fail_writes: &[2],
+                ..sure_plan(null, b"abc", 1, 1)
+            },
+            1,
+        ),
     ];
     for (plan, most) in &cases {
         let carried = carry(rt.alloc(), plan)?;

@@ -8,14 +8,14 @@ ghost use Rattle.ts_group.specs.Context.{IsSame};
 ghost use Rattle.ts_group.specs.Entries.{Grows};
 ghost use Rattle.ts_transform.specs.declared.loss.Loss.TheVariants as Loss;
 ghost use Rattle.ts_transform.specs.Flow.{IsFinished, aborted, compose, flow, fresh_stage};
-ghost use Rattle.ts_transform.specs.Driving.{ActsWithin, IsHandled, IsNamedIf, IsRousedIf, IsRousingOf, SetsOnly};
+ghost use Rattle.ts_transform.specs.Driving.{ActsWithin, IsNamedIf, IsRousedIf, IsRousingOf, SetsOnly};
 ghost use Rattle.ts_transform.specs.Driven.{MayLose, SameCourse};
-ghost use Rattle.ts_transform.specs.Carrying.{AreEndsRoused, HandlesJoined, HasLinkBegun, IsCarried, IsSameBut, KeepsCourse, KeepsReader, KeepsWriter, Moves, Retries, StaysJoined, Steps};
+ghost use Rattle.ts_transform.specs.Carrying.{AreEndsRoused, HandlesCarried, HandlesJoined, HasLinkBegun, IsCarried, IsSameBut, KeepsCourse, KeepsReader, KeepsWriter, Moves, Retries, StaysJoined, Steps};
 
-use crate::link_ends::{make_end, rouse_end, unrouse};
 use crate::chain::Chain;
 use crate::continuation::{StageContinuation, works};
 use crate::driven::DrivenChain;
+use crate::link_ends::{make_end, rouse_end, unrouse};
 use crate::loss::Loss;
 use crate::transform::Transform;
 use std::alloc::Global;
@@ -29,7 +29,9 @@ pub const RETRY: u64 = 10;
 
 // The roles of the writer, of the reader, and of the first stage.
 const WRITER: u32 = 1;
+
 const READER: u32 = 2;
+
 const FIRST: u32 = 3;
 
 /// A chain that reads its body from one link and writes to another. The writer is the continuation of role 1, the reader
@@ -55,11 +57,13 @@ impl<I: Link + Drop, K: Link + Drop, P: Transform + Drop> LinkWorld<I, K, P> {
     ) -> Result<LinkWorld<I, K, P>, NoMemory>
         ensures made { IfOk result (λ w. w.driven.chain
             ≡ record { first = []; stages = map fresh_stage parts.items; given = false }) }
-        ensures flow { IfOk result (λ w. (z : List ℕ) → flow P.rest w.driven.chain z ≡ compose P.rest parts.items z) }
+        ensures flow { IfOk result
+            (λ w. (z : List ℕ) → flow P.rest w.driven.chain z ≡ compose P.rest parts.items z) }
         ensures links { IfOk result (λ w. (w.input ≡ input) × (w.output ≡ output)) }
         ensures fresh { IfOk result (λ w. (w.driven.table.items ≡ []) × (w.driven.running ≡ false)
             × (w.driven.lost ≡ None) × (w.aborted ≡ false)) }
-        ensures carried { IfOk result (λ w. (pending : List Pending) (roles : List Named) → IsCarried w pending roles) }
+        ensures carried { IfOk result
+            (λ w. (pending : List Pending) (roles : List Named) → IsCarried w pending roles) }
     {
         let chain = Chain::make(alloc, parts)?;
         Ok(LinkWorld {
@@ -184,7 +188,7 @@ impl<I: Link + Drop, K: Link + Drop, P: Transform + Drop> LinkWorld<I, K, P> {
         ensures within { ActsWithin 1 cx.old cx.new }
         ensures retries { IsNamedIf cx.old.roles 2 self.old.reader
             → Retries (I.look self.old.input) (I.look self.new.input)
-                self.new.reader self.new.driven.running 2 cx.old cx.new }
+            self.new.reader self.new.driven.running 2 cx.old cx.new }
     {
         if self.driven.chain.is_given() {
             return;
@@ -217,7 +221,7 @@ impl<I: Link + Drop, K: Link + Drop, P: Transform + Drop> LinkWorld<I, K, P> {
         ensures within { ActsWithin 1 cx.old cx.new }
         ensures retries { IsNamedIf cx.old.roles 1 self.old.writer
             → Retries (K.look self.old.output) (K.look self.new.output)
-                self.new.writer self.new.driven.running 1 cx.old cx.new }
+            self.new.writer self.new.driven.running 1 cx.old cx.new }
     {
         let Some(block) = self.driven.chain.out_block() else {
             return;
@@ -315,8 +319,7 @@ impl<I: Link + Drop, K: Link + Drop, P: Transform + Drop> LinkWorld<I, K, P> {
     fn step(&mut self, role: u32, event: Event, cx: &mut Cx)
         requires turn { cx.old.log.state.held ≡ true }
         ensures steps { Steps P.rest I.tells K.tells I.look K.look self.old self.new }
-        ensures carried { (before : List Pending) → IsHandled before cx.old.log.state.pending cx.old.roles role event
-            → IsCarried self.old before cx.old.roles → IsCarried self.new cx.new.log.state.pending cx.new.roles }
+        ensures carried { HandlesCarried role event self.old self.new cx.old cx.new }
         ensures loses { MayLose self.old.driven self.new.driven cx.new }
         ensures within { ActsWithin 6 cx.old cx.new }
         ensures lost { self.old.driven.running ≡ false → (self.new ≡ self.old) × IsSame cx.old cx.new }
@@ -426,7 +429,8 @@ impl<I: Link + Drop, K: Link + Drop, P: Transform + Drop> World for LinkWorld<I,
         requires turn { _cx.old.log.state.held ≡ true }
         requires sound { IsCarried self.old _cx.old.log.state.pending _cx.old.roles }
         ensures grows { Grows _cx.old _cx.new }
-        ensures same { (_cx.new.log.state ≡ _cx.old.log.state) × (_cx.new.roles ≡ _cx.old.roles) × (self.new ≡ self.old) }
+        ensures same { (_cx.new.log.state ≡ _cx.old.log.state) × (_cx.new.roles ≡ _cx.old.roles)
+            × (self.new ≡ self.old) }
     {}
 
     fn asked(&mut self, _question: (), _cx: &mut Cx) {}

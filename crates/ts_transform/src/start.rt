@@ -8,10 +8,10 @@ ghost use Rattle.ts_transform.specs.Driving.{ActsWithin, AreOfStages, KeepsMade,
 ghost use Rattle.ts_transform.specs.Cover.{IsDriven, IsRousing};
 ghost use Rattle.ts_transform.specs.Loss.{IsCauseOf, making_loss};
 
-use crate::link_ends::make_end;
 use crate::chain::Chain;
 use crate::continuation::{Rouser, StageContinuation};
 use crate::handler::rouse_if_ready;
+use crate::link_ends::make_end;
 use crate::loss::Loss;
 use crate::transform::Transform;
 use ts_group::{Cx, MakeFault};

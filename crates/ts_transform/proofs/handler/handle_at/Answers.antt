@@ -11,8 +11,8 @@ pub act-requires : goal.act-requires
 act-requires g c = record {
   turn = c.requires.turn;
   stage = record {
-      within = subst (λ n. c.args.at < n) (sym (same_length c.args.table.now c.unrouse_for.new.table c.unrouse_for.ensures.same)) c.requires.stage.within;
-      len = same_length c.args.table.now c.unrouse_for.new.table c.unrouse_for.ensures.same ∙ c.requires.stage.len;
+    within = subst (λ n. c.args.at < n) (sym (same_length c.args.table.now c.unrouse_for.new.table c.unrouse_for.ensures.same)) c.requires.stage.within;
+    len = same_length c.args.table.now c.unrouse_for.new.table c.unrouse_for.ensures.same ∙ c.requires.stage.len;
   };
 }
 

@@ -41,9 +41,9 @@ returns-in-Moved-clause-tells g c =
     let new = c.pump.new.self in
     on_ok c.rouse_round.result c.rouse_round.ensures.called
     (λ called. record {
-    ended = λ goes ended. absurd (let wrong : false ≡ true = sym goes ∙ sym (moved_goes g.P.Transform.rest old.first old.stages c.args.at c.in-Moved.field-0 new.first new.stages
-    (subst (λ r. StepsAt g.P.Transform.rest old.first old.stages c.args.at r new.first new.stages) c.in-Moved.is c.in-Ok.ensures.steps)) ∙ ended in cc);
-    ready = λ did. called;
+      ended = λ goes ended. absurd (let wrong : false ≡ true = sym goes ∙ sym (moved_goes g.P.Transform.rest old.first old.stages c.args.at c.in-Moved.field-0 new.first new.stages
+          (subst (λ r. StepsAt g.P.Transform.rest old.first old.stages c.args.at r new.first new.stages) c.in-Moved.is c.in-Ok.ensures.steps)) ∙ ended in cc);
+      ready = λ did. called;
     })
 
 -- A stage ended, and those round it could not all be roused.
@@ -111,9 +111,9 @@ returns-in_ok-rouse_round-in-Ended-clause-tells g c =
     let table = c.rouse_round-in-Ended.new.table in
     on_ok c.tell_before.result c.tell_before.ensures.told
     (λ told. record {
-    ended = λ goes ended. told;
-    ready = λ did j above pauses must. called_kept before c.tell_before.new.cx c.args.table.now c.args.table.now table table j refl refl c.tell_before.ensures.adds.keeps
-    (c.in_ok-rouse_round-in-Ended.ensures.called j above pauses must);
+      ended = λ goes ended. told;
+      ready = λ did j above pauses must. called_kept before c.tell_before.new.cx c.args.table.now c.args.table.now table table j refl refl c.tell_before.ensures.adds.keeps
+          (c.in_ok-rouse_round-in-Ended.ensures.called j above pauses must);
     })
 
 -- Memory lacked.

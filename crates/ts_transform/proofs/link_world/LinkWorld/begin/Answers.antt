@@ -27,10 +27,10 @@ returns-clause-carried g c = λ was.
     let chain : c.rouse_ends.new.self.driven.chain ≡ self.driven.chain = c.rouse_ends.ensures.same.chain ∙ c.start.ensures.chain in
     record {
       joined = c.rouse_ends.ensures.joined (λ runs. record {
-          stages = c.start.ensures.driven fresh.2 runs;
-          of_writer = c.start.ensures.made 1 (Some c.in-Ok.writer) (made_if made both c.make_end-2.ensures.events c.make_end-2.ensures.keys 1 (Some c.in-Ok.writer)
-              (made_of made.log.state.pending made.roles 1 c.in-Ok.writer c.in-Ok.ensures.named.0 c.in-Ok.ensures.named.1));
-          of_reader = c.start.ensures.made 2 (Some c.in-Ok-make_end.reader) (made_of both.log.state.pending both.roles 2 c.in-Ok-make_end.reader c.in-Ok-make_end.ensures.named.0 c.in-Ok-make_end.ensures.named.1);
+        stages = c.start.ensures.driven fresh.2 runs;
+        of_writer = c.start.ensures.made 1 (Some c.in-Ok.writer) (made_if made both c.make_end-2.ensures.events c.make_end-2.ensures.keys 1 (Some c.in-Ok.writer)
+            (made_of made.log.state.pending made.roles 1 c.in-Ok.writer c.in-Ok.ensures.named.0 c.in-Ok.ensures.named.1));
+        of_reader = c.start.ensures.made 2 (Some c.in-Ok-make_end.reader) (made_of both.log.state.pending both.roles 2 c.in-Ok-make_end.reader c.in-Ok-make_end.ensures.named.0 c.in-Ok-make_end.ensures.named.1);
       });
       ends = c.rouse_ends.ensures.ends;
       fresh = λ none. absurd (let wrong : Some c.in-Ok.writer ≡ None = c.rouse_ends.ensures.course.started none in cc);
