@@ -9,7 +9,7 @@ use Rattle.ts_group.specs.Context.{Context}
 use Rattle.ts_link.specs.Counts.{Rose}
 use Rattle.ts_link.specs.Link.{Look}
 use Rattle.ts_transform.specs.Flow.{ChainState, EndsInOrder, MOST_WAITING, MustRead, MustWrite, OnlyFirstWorks, flow}
-use Rattle.ts_transform.specs.Driving.{IsHandled, IsOfStageIf, IsRousedIf, IsRousingOf, SetsOnly}
+use Rattle.ts_transform.specs.Driving.{IsHandled, IsNamedIf, IsOfStageIf, IsRousedIf, IsRousingOf, SetsOnly}
 use Rattle.ts_transform.specs.Cover.{IsDriven}
 use Rattle.ts_transform.specs.Driven.{MayLose}
 use Rattle.ts_transform.specs.declared.continuation.StageContinuation.{StageContinuation}
@@ -108,14 +108,31 @@ pub record KeepsCourse {I K P : Type 0} (v w : LinkWorld I K P) (now : Context) 
   pub loses : MayLose v.driven w.driven now
   pub started : w.writer ≡ None → v.writer ≡ None
 
--- Where a link made its caller wait, the continuation of this role, which has to do with that link, is roused after 10
--- milliseconds, unless that was lost, and nothing else is set.
-pub record IsRetried (slot : Option StageContinuation) (runs : Bool) (role : ℕ) (a b : Context) : Type 0 where
-  pub roused : runs ≡ true → IsRousedIf slot
-  pub only : SetsOnly (IsRousingOf role RETRY a.moment a.roles) a b
+-- An end is roused after so many milliseconds, if it must work and was not roused before, and else nothing is done.
+pub record RousesEnd {I K P : Type 0} (slot : Option StageContinuation) (must : Bool) (role after : ℕ) (v w : LinkWorld I K P) (a b : Context) : Type 0 where
+  pub only : IsNamedIf a.roles role slot → SetsOnly (IsRousingOf role after a.moment a.roles) a b
+  pub rests : (must ≡ false) ⊎ IsRousedIf slot → (w ≡ v) × (b ≡ a)
 
-abbrev pub Retries : Look → Look → Option StageContinuation → Bool → ℕ → Context → Context → Type 0
-Retries old new slot runs role a b = (new.waits ≡ old.waits → ⊥) → IsRetried slot runs role a b
+-- The input made its caller wait, or the output did.
+abbrev pub InputWaits : {I K P : Type 0} → (I → Look) → LinkWorld I K P → LinkWorld I K P → Type 0
+InputWaits input v w = (input w.input).waits ≢ (input v.input).waits
+
+abbrev pub OutputWaits : {I K P : Type 0} → (K → Look) → LinkWorld I K P → LinkWorld I K P → Type 0
+OutputWaits output v w = (output w.output).waits ≢ (output v.output).waits
+
+-- So the chain is as it was; of its ends only the one that found its link not ready changed; that is roused after 10
+-- milliseconds, unless this was lost, and nothing else is set.
+pub record RetriesRead {I K P : Type 0} (v w : LinkWorld I K P) (a b : Context) : Type 0 where
+  pub chain : MustWrite w.driven.chain → MustWrite v.driven.chain
+  pub writer : w.writer ≡ v.writer
+  pub roused : w.driven.running ≡ true → IsRousedIf w.reader
+  pub only : SetsOnly (IsRousingOf 2 RETRY a.moment a.roles) a b
+
+pub record RetriesWrite {I K P : Type 0} (v w : LinkWorld I K P) (a b : Context) : Type 0 where
+  pub chain : MustRead w.driven.chain → MustRead v.driven.chain
+  pub reader : w.reader ≡ v.reader
+  pub roused : w.driven.running ≡ true → IsRousedIf w.writer
+  pub only : SetsOnly (IsRousingOf 1 RETRY a.moment a.roles) a b
 
 -- The chain and the links are as they were; and where it had not begun, it runs from then on, or tells why it was lost.
 pub record HasLinkBegun {I K P : Type 0} (v w : LinkWorld I K P) : Type 0 where
@@ -158,3 +175,13 @@ abbrev pub WritesWhole : {I K P : Type 0} → (P → List ℕ → List ℕ) → 
 WritesWhole rest in_tells out_tells input output v w =
     w.driven.running ≡ true → w.aborted ≡ false → v.driven.chain.given ≡ false → in_tells ≡ true → out_tells ≡ true
     → HasWritten rest (input v.input) (input w.input) (output v.output) (output w.output) v.driven.chain
+
+-- After a step that found a link not ready its end tries again 10 milliseconds later, and by that alone.
+pub record TriesAgain {I K P : Type 0} (input : I → Look) (output : K → Look) (v w : LinkWorld I K P) (a b : Context) : Type 0 where
+  pub reads : InputWaits input v w → w.driven.running ≡ true → IsRousedIf w.reader × SetsOnly (IsRousingOf 2 RETRY a.moment a.roles) a b
+  pub writes : OutputWaits output v w → w.driven.running ≡ true → IsRousedIf w.writer × SetsOnly (IsRousingOf 1 RETRY a.moment a.roles) a b
+
+-- It does so where an event of a role is handled.
+abbrev pub HandlesWaits : {I K P : Type 0} → ℕ → Event → (I → Look) → (K → Look) → LinkWorld I K P → LinkWorld I K P → Context → Context → Type 0
+HandlesWaits role event input output v w a b = (before : List Pending) → IsHandled before a.log.state.pending a.roles role event
+    → IsCarried v before a.roles → TriesAgain input output v w a b
