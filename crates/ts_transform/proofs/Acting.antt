@@ -250,6 +250,3 @@ still_gives rest at c d ts us a b stage own len pays = record {
   len = len;
   fresh = λ none. absurd (omega (arith, none, stage.within));
 }
-
-pub gives_none : {P : Type 0} (rest : P → List ℕ → List ℕ) (c : ChainState P) (ts : List (Option StageContinuation)) (a : Context) → StillGives rest c c ts ts a a
-gives_none rest c ts a = record { once = inl refl; flow = λ z none. refl; pays = pays_none rest c ts a; given = refl; len = refl; fresh = λ none. refl }

@@ -65,6 +65,12 @@ came_few U.End most more none = let l : length more ≡ 0 = ap length none in om
 came_few U.Again most more none = let l : length more ≡ 0 = ap length none in omega (arith, l)
 came_few U.Failed most more none = let l : length more ≡ 0 = ap length none in omega (arith, l)
 
+-- no byte came
+pub pulled_none : (it : Bool) (i j : Look) (before after : List ℕ) (answer : Pulled) (most : ℕ) → answer ≡ U.Again → PullsOn it i j before after answer most → after ≡ before
+pulled_none it i j before after answer most is h =
+    let none : h.more ≡ [] = subst (λ a. Came a most h.more) is h.pulls.came in
+    h.grows ∙ ap (λ l. before ++ l) none ∙ append-nil before
+
 -- where more may come no stage has ended
 order_any : {P : Type 0} (b : Bool) (ss : List (Stage P)) → EndsInOrder false ss → EndsInOrder b ss
 order_any b [] h = tt

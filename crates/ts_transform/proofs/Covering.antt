@@ -194,16 +194,6 @@ marked_sound a b c d ts us was running key marked same runs len keeps has s = re
   fresh = λ none j work. s.fresh (sym len ∙ none) j (subst (λ x. HasWork x.given x.first x.stages (j + 1)) same work);
 }
 
--- so is one that says that an event was lost
-pub lost_sound : {P : Type 0} (a b : Context) (c d : ChainState P) (ts us : List (Option StageContinuation)) (was running : Bool)
-    → d ≡ c → length us ≡ length ts → running ≡ false → Keeps a b → IsCovered c ts was a.log.state.pending a.roles → IsCovered d us running b.log.state.pending b.roles
-lost_sound a b c d ts us was running same len lost keeps s = record {
-  given = ap (λ x. x.given) same ∙ s.given;
-  plain = keeps.plain s.plain;
-  driven = λ now. absurd (let wrong : false ≡ true = sym lost ∙ now in cc);
-  fresh = λ none j work. s.fresh (sym len ∙ none) j (subst (λ x. HasWork x.given x.first x.stages (j + 1)) same work);
-}
-
 -- more events leave a sound world sound
 pub sound_kept : {P : Type 0} (a b : Context) (c : ChainState P) (ts : List (Option StageContinuation)) (running : Bool) → Keeps a b
     → IsCovered c ts running a.log.state.pending a.roles → IsCovered c ts running b.log.state.pending b.roles

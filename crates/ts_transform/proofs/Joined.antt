@@ -1,5 +1,5 @@
 -- Each duty of a chain between two links has its event.
-use Rattle.std.proofs.Common.{◌≡◌, ◌≢◌, ◌≤◌, ◌<◌, ◌+◌, ◌⊎◌, inl, inr, ℕ, List, [], ◌∷◌, map, Bool, true, false, length, Option, Some, None, Result, Ok, Err, arith, refl, sym, ap, subst, ◌∙◌}
+use Rattle.std.proofs.Common.{◌≡◌, ◌≢◌, ◌≤◌, ◌<◌, ◌+◌, ◌⊎◌, inl, inr, ℕ, List, [], ◌∷◌, map, Bool, true, false, length, Option, Some, None, Result, Ok, Err, IsTrue, arith, refl, sym, ap, subst, ◌∙◌}
 use Rattle.ts_journal.specs.declared.entry.Event.{Event}
 use Rattle.ts_journal.specs.declared.entry.Pending.{Pending}
 use Rattle.ts_group.specs.declared.action.Named.{Named}
@@ -13,11 +13,13 @@ use Rattle.ts_transform.specs.declared.loss.Loss.{Loss}
 use Rattle.ts_transform.specs.declared.pump.Stage.{Stage}
 use Rattle.ts_transform.specs.Stage.{has_ended}
 use Rattle.ts_transform.specs.Flow.{ChainState, EndsInOrder, IsFinished, MustPump, aborted, client_wait, closed, last_ended, last_wait}
-use Rattle.ts_transform.specs.Driving.{ActsWithin, HasEvent, IsHandled, IsOfStageIf, IsRousedIf, Keeps, KeepsOthers, KeepsStage, unroused, works_at}
+use Rattle.ts_transform.specs.Driving.{ActsWithin, HasEvent, IsHandled, IsNamedIf, IsOfStageIf, IsRousedIf, IsRousingOf, SetsOnly, Keeps, KeepsOthers, KeepsStage, unroused, works_at}
 use Rattle.ts_transform.specs.Cover.{IsDriven}
 use Rattle.ts_transform.specs.Driven.{Loses, MayLose}
 use Rattle.ts_transform.specs.Loss.{IsCauseOf}
-use Rattle.ts_transform.specs.Carrying.{AreEndsRoused, IsJoined}
+use Rattle.ts_transform.specs.Carrying.{AreEndsRoused, IsJoined, RetriesRead, RetriesWrite}
+use Rattle.ts_transform.specs.declared.link_world.LinkWorld.{LinkWorld}
+use Rattle.ts_transform.specs.declared.link_world.TheConstants.{RETRY}
 use Rattle.ts_transform.proofs.Handled.{begun_other, begun_quiet, quiet_if, stays_if, unroused_if}
 use Rattle.ts_transform.proofs.Kept.{kept_if}
 use Rattle.ts_transform.proofs.Setting.{of_stages_named}
@@ -168,3 +170,40 @@ acts_made n a b grows turn events = record {
   plain = subst AllPlain (sym events.pending);
   few = let l : length b.log.state.pending ≡ length a.log.state.pending = ap length events.pending in record { next = omega (arith, events.next); pending = omega (arith, l) };
 }
+
+-- whose event was handled keeps its role
+pub named_unroused : (roles : List Named) (role : ℕ) (t : Option StageContinuation) → IsNamedIf roles role t → IsNamedIf roles role (unroused t)
+named_unroused roles role None named = tt
+named_unroused roles role (Some t) named = named
+
+pub named_of : (pending : List Pending) (roles : List Named) (role : ℕ) (t : Option StageContinuation) → IsOfStageIf pending roles role t → IsNamedIf roles role t
+named_of pending roles role None h = tt
+named_of pending roles role (Some t) h = h.named
+
+-- an end need not be roused that has no duty or was roused
+pub end_rests : (must : Bool) (slot : Option StageContinuation) (Duty : Type 0) → (IsTrue must → Duty) → (Duty → IsRousedIf slot) → (must ≡ false) ⊎ IsRousedIf slot
+end_rests false slot Duty has rouses = inl refl
+end_rests true slot Duty has rouses = inr (rouses (has refl))
+
+-- A step found the input not ready: its reader tries again later, and nobody else is roused.
+pub again_reads : {I K P : Type 0} (v m n : LinkWorld I K P) (a b c : Context) → AreEndsRoused v.driven.chain v.writer v.reader → RetriesRead v m a b
+    → ((m.driven.running ≡ false) ⊎ AreEndsRoused m.driven.chain m.writer m.reader → (n ≡ m) × (c ≡ b)) → m.driven.running ≡ true → IsRousedIf n.reader × SetsOnly (IsRousingOf 2 RETRY a.moment a.roles) a c
+again_reads v m n a b c ends h idle runs =
+    let roused : IsRousedIf m.reader = h.roused runs in
+    let both : AreEndsRoused m.driven.chain m.writer m.reader = record { writes = λ must. subst IsRousedIf (sym h.writer) (ends.writes (h.chain must)); reads = λ must. roused } in
+    let same = idle (inr both) in
+    (subst (λ x. IsRousedIf x.reader) (sym same.0) roused, subst (λ x. SetsOnly (IsRousingOf 2 RETRY a.moment a.roles) a x) (sym same.1) h.only)
+
+-- So does the writer, where the output was not ready.
+pub again_writes : {I K P : Type 0} (v m n : LinkWorld I K P) (a b c : Context) → AreEndsRoused v.driven.chain v.writer v.reader → RetriesWrite v m a b
+    → ((m.driven.running ≡ false) ⊎ AreEndsRoused m.driven.chain m.writer m.reader → (n ≡ m) × (c ≡ b)) → m.driven.running ≡ true → IsRousedIf n.writer × SetsOnly (IsRousingOf 1 RETRY a.moment a.roles) a c
+again_writes v m n a b c ends h idle runs =
+    let roused : IsRousedIf m.writer = h.roused runs in
+    let both : AreEndsRoused m.driven.chain m.writer m.reader = record { writes = λ must. roused; reads = λ must. subst IsRousedIf (sym h.reader) (ends.reads (h.chain must)) } in
+    let same = idle (inr both) in
+    (subst (λ x. IsRousedIf x.writer) (sym same.0) roused, subst (λ x. SetsOnly (IsRousingOf 1 RETRY a.moment a.roles) a x) (sym same.1) h.only)
+
+-- what follows while it runs
+pub while_runs : {A E : Type 0} (b : Bool) → b ≡ true → (E → A) → (b ≡ false) ⊎ E → A
+while_runs b runs then (inl stopped) = absurd (let wrong : true ≡ false = sym runs ∙ stopped in cc)
+while_runs b runs then (inr e) = then e

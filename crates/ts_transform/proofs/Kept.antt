@@ -170,22 +170,6 @@ stages_front_same a b keeps t t' ts h = record {
 pub stages_front : (a b : Context) → Keeps a b → (t t' : Option StageContinuation) (ts all : List (Option StageContinuation)) → all ≡ t ∷ ts → KeepsStage a b t t' → KeepsStages a b all (t' ∷ ts)
 stages_front a b keeps t t' ts all is h = subst (λ us. KeepsStages a b us (t' ∷ ts)) (sym is) (stages_front_same a b keeps t t' ts h)
 
--- or another
-stages_rest_same : (a b : Context) → Keeps a b → (t : Option StageContinuation) (ts us : List (Option StageContinuation)) → KeepsStages a b ts us → KeepsStages a b (t ∷ ts) (t ∷ us)
-stages_rest_same a b keeps t ts us h = record {
-  of_stages = λ first s. (kept_if a b keeps first t s.0, h.of_stages (first + 1) s.1);
-  still = still;
-  same = ap (λ vs. unroused t ∷ vs) h.same;
-  len = ap suc h.len;
-}
-  where
-    still : (j : ℕ) → IsRoused (t ∷ ts) j → IsRoused (t ∷ us) j
-    still zero roused = roused
-    still (suc j) roused = h.still j roused
-
-pub stages_rest : (a b : Context) → Keeps a b → (t : Option StageContinuation) (ts us all : List (Option StageContinuation)) → all ≡ t ∷ ts → KeepsStages a b ts us → KeepsStages a b all (t ∷ us)
-stages_rest a b keeps t ts us all is h = subst (λ vs. KeepsStages a b vs (t ∷ us)) (sym is) (stages_rest_same a b keeps t ts us h)
-
 -- the first continuation of a table was marked
 pub marked_front : (r : Result (Option ContKey) SetFault) (t t' : Option StageContinuation) (ts all : List (Option StageContinuation)) → all ≡ t ∷ ts
     → IfOk r (λ key. (a b : Context) → Keeps a b → HasEventIf b.log.state.pending key → (role : ℕ) → IsOfStageIf a.log.state.pending a.roles role t → IsOfStageIf b.log.state.pending b.roles role t')

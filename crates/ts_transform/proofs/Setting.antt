@@ -71,11 +71,13 @@ slot_rousing roles role pause moment slot t a b is only named =
     only_weaker (IsWorkOf t.key pause moment) (IsRousingOf role pause moment roles) a b (λ p work. rousing_of roles role pause moment t p (subst (IsNamedIf roles role) is named) work) only
 
 -- the first of a table was roused, or another
-pub front_rouses : (pause at : ℕ) (t : Option StageContinuation) (ts all : List (Option StageContinuation)) (a b : Context) → all ≡ t ∷ ts → at ≡ 0 → (IsRousedIf t → SetsOnly (λ p. ⊥) a b)
+pub front_rouses : (pause at : ℕ) (t : Option StageContinuation) (ts all : List (Option StageContinuation)) (a b : Context) → all ≡ t ∷ ts → at ≡ 0 → (IsRousedIf t → b ≡ a)
     → ((role : ℕ) → IsNamedIf a.roles role t → SetsOnly (IsRousingOf role pause a.moment a.roles) a b) → RousesAt at pause all a b
 front_rouses pause at t ts all a b is front rests only =
-    subst (λ us. RousesAt at pause us a b) (sym is) (subst (λ n. RousesAt n pause (t ∷ ts) a b) (sym front)
-    (rests, λ first named. subst (λ role. SetsOnly (IsRousingOf role pause a.moment a.roles) a b) (omega arith) (only first named.0)))
+    subst (λ us. RousesAt at pause us a b) (sym is) (subst (λ n. RousesAt n pause (t ∷ ts) a b) (sym front) (
+      λ roused. subst (λ x. SetsOnly (λ p. ⊥) a x) (sym (rests roused)) (only_none (λ p. ⊥) a),
+      λ first named. subst (λ role. SetsOnly (IsRousingOf role pause a.moment a.roles) a b) (omega arith) (only first named.0),
+    ))
 
 pub rest_rouses : (pause at : ℕ) (t : Option StageContinuation) (ts all : List (Option StageContinuation)) (a b : Context) → all ≡ t ∷ ts → (at ≡ 0 → ⊥) → RousesAt (at - 1) pause ts a b → RousesAt at pause all a b
 rest_rouses pause at t ts all a b is behind (rests, only) =

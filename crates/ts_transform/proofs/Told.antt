@@ -25,16 +25,9 @@ unroused_key true (x ∷ ts) zero t is =
     subst (λ y. (u : StageContinuation) × (◌≡◌ {A = Option (Option StageContinuation)} (Some (unroused y)) (Some (Some u))) × (u.key ≡ t.key)) (sym same) (record t { roused = false }, refl, refl)
 unroused_key true (x ∷ ts) (suc at) t is = unroused_key true ts at t is
 
-pub pumped_at : {P : Type 0} (rest : P → List ℕ → List ℕ) (c d : ChainState P) (at : ℕ) (r : Pumped) → AnswersAt c.given c.first c.stages at r → StepsAt rest c.first c.stages at r d.first d.stages
-    → d.given ≡ c.given → (d ≡ c) ⊎ PumpsAt rest at c d
-pumped_at rest c d at r answers steps given = inr (record { pumped = r; answers = answers; steps = steps; given = given })
-
 pub pumped_once : {P : Type 0} (rest : P → List ℕ → List ℕ) (c d : ChainState P) (at : ℕ) → (d ≡ c) ⊎ PumpsAt rest at c d → PumpsOnce rest c d
 pumped_once rest c d at (inl same) = inl same
 pumped_once rest c d at (inr pumps) = inr (at, pumps)
-
-pub pumped_none : {P : Type 0} (rest : P → List ℕ → List ℕ) (c : ChainState P) → PumpsOnce rest c c
-pumped_none rest c = inl refl
 
 unroused_twice : (t : Option StageContinuation) → unroused (unroused t) ≡ unroused t
 unroused_twice None = refl

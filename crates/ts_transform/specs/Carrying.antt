@@ -9,7 +9,7 @@ use Rattle.ts_group.specs.Context.{Context}
 use Rattle.ts_link.specs.Counts.{Rose}
 use Rattle.ts_link.specs.Link.{Look}
 use Rattle.ts_transform.specs.Flow.{ChainState, EndsInOrder, MOST_WAITING, MustRead, MustWrite, OnlyFirstWorks, flow}
-use Rattle.ts_transform.specs.Driving.{IsHandled, IsOfStageIf, IsRousedIf, IsRousingOf, SetsOnly}
+use Rattle.ts_transform.specs.Driving.{IsHandled, IsNamedIf, IsOfStageIf, IsRousedIf, IsRousingOf, SetsOnly}
 use Rattle.ts_transform.specs.Cover.{IsDriven}
 use Rattle.ts_transform.specs.Driven.{MayLose}
 use Rattle.ts_transform.specs.declared.continuation.StageContinuation.{StageContinuation}
@@ -21,7 +21,8 @@ use Rattle.ts_transform.specs.declared.loss.Loss.TheVariants.{NoMemory}
 
 -- The input gave some bytes and the output took some, and what the chain still gives is that much further on: for
 -- whatever still comes before its end was given, and for nothing from then on.
-pub record Carries {P : Type 0} (rest : P → List ℕ → List ℕ) (in_tells out_tells : Bool) (i j o p : Look) (c d : ChainState P) : Type 0 where
+pub record Carries {P : Type 0} (rest : P → List ℕ → List ℕ) (in_tells out_tells : Bool) (i j o p : Look)
+    (c d : ChainState P) : Type 0 where
   pub gave : List ℕ
   pub took : List ℕ
   pub given : in_tells ≡ true → j.given ≡ i.given ++ gave
@@ -32,7 +33,8 @@ pub record Carries {P : Type 0} (rest : P → List ℕ → List ℕ) (in_tells o
 
 -- What a step moves, unless the chain was aborted: that is only for a fault of a link or for want of memory. Its end is
 -- given only where the input has ended, which is read no more then. No more bytes than two reads bring wait before the first stage.
-pub record MovesOn {P : Type 0} (rest : P → List ℕ → List ℕ) (in_tells out_tells : Bool) (i j o p : Look) (c d : ChainState P) (was now : Bool) (lacks : Type 0) : Type 0 where
+pub record MovesOn {P : Type 0} (rest : P → List ℕ → List ℕ) (in_tells out_tells : Bool) (i j o p : Look)
+    (c d : ChainState P) (was now : Bool) (lacks : Type 0) : Type 0 where
   pub carries : now ≡ false → Carries rest in_tells out_tells i j o p c d
   pub aborts : was ≡ false → now ≡ true → lacks ⊎ Rose i.faults j.faults ⊎ Rose o.faults p.faults
   pub stays : was ≡ true → now ≡ true
@@ -42,57 +44,75 @@ pub record MovesOn {P : Type 0} (rest : P → List ℕ → List ℕ) (in_tells o
   pub ordered : EndsInOrder c.given c.stages → EndsInOrder d.given d.stages
 
 -- What several steps move, unless the chain was aborted.
-pub record CarriesOn {P : Type 0} (rest : P → List ℕ → List ℕ) (in_tells out_tells : Bool) (i j o p : Look) (c d : ChainState P) (was now : Bool) : Type 0 where
+pub record CarriesOn {P : Type 0} (rest : P → List ℕ → List ℕ) (in_tells out_tells : Bool) (i j o p : Look)
+    (c d : ChainState P) (was now : Bool) : Type 0 where
   pub carries : now ≡ false → Carries rest in_tells out_tells i j o p c d
   pub stays : was ≡ true → now ≡ true
   pub ends : now ≡ false → c.given ≡ false → d.given ≡ true → in_tells ≡ true → j.left ≡ []
   pub still : now ≡ false → c.given ≡ true → j ≡ i
 
 -- the same of one end of a world between two links, or of a stage: it is aborted for a fault of a link alone
-abbrev pub Moves : {I K P : Type 0} → (P → List ℕ → List ℕ) → Bool → Bool → (I → Look) → (K → Look) → LinkWorld I K P → LinkWorld I K P → Type 0
+abbrev pub Moves : {I K P : Type 0} → (P → List ℕ → List ℕ) → Bool → Bool → (I → Look) → (K → Look)
+    → LinkWorld I K P → LinkWorld I K P → Type 0
 Moves rest in_tells out_tells input output v w =
     MovesOn rest in_tells out_tells (input v.input) (input w.input) (output v.output) (output w.output)
     v.driven.chain w.driven.chain v.aborted w.aborted ⊥
 
 -- and of a step of the world: it is aborted for want of memory too
-abbrev pub Steps : {I K P : Type 0} → (P → List ℕ → List ℕ) → Bool → Bool → (I → Look) → (K → Look) → LinkWorld I K P → LinkWorld I K P → Type 0
+abbrev pub Steps : {I K P : Type 0} → (P → List ℕ → List ℕ) → Bool → Bool → (I → Look) → (K → Look)
+    → LinkWorld I K P → LinkWorld I K P → Type 0
 Steps rest in_tells out_tells input output v w =
     MovesOn rest in_tells out_tells (input v.input) (input w.input) (output v.output) (output w.output)
     v.driven.chain w.driven.chain v.aborted w.aborted (w.driven.lost ≡ Some NoMemory)
 
 -- The stages have the roles from 3 on, the writer has 1 and the reader 2: each that is roused has an event, and so has
 -- each stage that must work.
-pub record IsJoined {P : Type 0} (c : ChainState P) (ts : List (Option StageContinuation)) (writer reader : Option StageContinuation) (pending : List Pending) (roles : List Named) : Type 0 where
+pub record IsJoined {P : Type 0} (c : ChainState P) (ts : List (Option StageContinuation))
+    (writer reader : Option StageContinuation) (pending : List Pending) (roles : List Named) : Type 0 where
   pub stages : IsDriven 3 c ts pending roles
   pub of_writer : IsOfStageIf pending roles 1 writer
   pub of_reader : IsOfStageIf pending roles 2 reader
 
 -- the same of a world, while no event was lost
 abbrev pub IsJoinedWhile : {I K P : Type 0} → LinkWorld I K P → List Pending → List Named → Type 0
-IsJoinedWhile w pending roles = w.driven.running ≡ true → IsJoined w.driven.chain w.driven.table.items w.writer w.reader pending roles
+IsJoinedWhile w pending roles = w.driven.running ≡ true
+    → IsJoined w.driven.chain w.driven.table.items w.writer w.reader pending roles
 
 -- it stays so
 abbrev pub StaysJoined : {I K P : Type 0} → LinkWorld I K P → LinkWorld I K P → Context → Context → Type 0
-StaysJoined v w a b = IsJoinedWhile v a.log.state.pending a.roles → IsJoinedWhile w b.log.state.pending b.roles
+StaysJoined v w a b = IsJoinedWhile v a.log.state.pending a.roles
+    → IsJoinedWhile w b.log.state.pending b.roles
 
 -- it stays so where an event of a role is handled
-abbrev pub HandlesJoined : {I K P : Type 0} → ℕ → Event → LinkWorld I K P → LinkWorld I K P → Context → Context → Type 0
-HandlesJoined role event v w a b = (before : List Pending) → IsHandled before a.log.state.pending a.roles role event
+abbrev pub HandlesJoined : {I K P : Type 0} → ℕ → Event → LinkWorld I K P → LinkWorld I K P → Context
+    → Context → Type 0
+HandlesJoined role event v w a b = (before : List Pending)
+    → IsHandled before a.log.state.pending a.roles role event
     → IsJoinedWhile v before a.roles → IsJoinedWhile w b.log.state.pending b.roles
 
 -- the reader and the writer are roused, where they must work
-pub record AreEndsRoused {P : Type 0} (c : ChainState P) (writer reader : Option StageContinuation) : Type 0 where
+pub record AreEndsRoused {P : Type 0} (c : ChainState P)
+    (writer reader : Option StageContinuation) : Type 0 where
   pub writes : MustWrite c → IsRousedIf writer
   pub reads : MustRead c → IsRousedIf reader
 
 -- What holds of a chain between two links: once it was started, while no event was lost, each duty has an event of a
 -- continuation that does it. No more bytes wait before the first stage than two reads bring.
-pub record IsCarried {I K P : Type 0} (w : LinkWorld I K P) (pending : List Pending) (roles : List Named) : Type 0 where
+pub record IsCarried {I K P : Type 0} (w : LinkWorld I K P) (pending : List Pending)
+    (roles : List Named) : Type 0 where
   pub joined : IsJoinedWhile w pending roles
   pub ends : w.driven.running ≡ true → AreEndsRoused w.driven.chain w.writer w.reader
-  pub fresh : w.writer ≡ None → (w.driven.running ≡ false) × (w.driven.table.items ≡ []) × OnlyFirstWorks w.driven.chain
+  pub fresh : w.writer ≡ None → (w.driven.running ≡ false) × (w.driven.table.items ≡ [])
+      × OnlyFirstWorks w.driven.chain
   pub ordered : EndsInOrder w.driven.chain.given w.driven.chain.stages
   pub bounded : length w.driven.chain.first < MOST_WAITING + MOST_PULLED
+
+-- it holds again where an event of a role is handled
+abbrev pub HandlesCarried : {I K P : Type 0} → ℕ → Event → LinkWorld I K P → LinkWorld I K P → Context
+    → Context → Type 0
+HandlesCarried role event v w a b = (before : List Pending)
+    → IsHandled before a.log.state.pending a.roles role event
+    → IsCarried v before a.roles → IsCarried w b.log.state.pending b.roles
 
 -- what holds of its group
 abbrev pub IsCarriedGroup : {I K P Q R T U : Type 0} → Group (LinkWorld I K P) Q R T U → Type 0
@@ -103,14 +123,32 @@ pub record KeepsCourse {I K P : Type 0} (v w : LinkWorld I K P) (now : Context) 
   pub loses : MayLose v.driven w.driven now
   pub started : w.writer ≡ None → v.writer ≡ None
 
--- Where a link made its caller wait, the continuation of this role, which has to do with that link, is roused after 10
--- milliseconds, unless that was lost, and nothing else is set.
-pub record IsRetried (slot : Option StageContinuation) (runs : Bool) (role : ℕ) (a b : Context) : Type 0 where
-  pub roused : runs ≡ true → IsRousedIf slot
-  pub only : SetsOnly (IsRousingOf role RETRY a.moment a.roles) a b
+-- An end is roused after so many milliseconds, if it must work and was not roused before, and else nothing is done.
+pub record RousesEnd {I K P : Type 0} (slot : Option StageContinuation) (must : Bool) (role after : ℕ)
+    (v w : LinkWorld I K P) (a b : Context) : Type 0 where
+  pub only : IsNamedIf a.roles role slot → SetsOnly (IsRousingOf role after a.moment a.roles) a b
+  pub rests : (must ≡ false) ⊎ IsRousedIf slot → (w ≡ v) × (b ≡ a)
 
-abbrev pub Retries : Look → Look → Option StageContinuation → Bool → ℕ → Context → Context → Type 0
-Retries old new slot runs role a b = (new.waits ≡ old.waits → ⊥) → IsRetried slot runs role a b
+-- The input made its caller wait, or the output did.
+abbrev pub InputWaits : {I K P : Type 0} → (I → Look) → LinkWorld I K P → LinkWorld I K P → Type 0
+InputWaits input v w = (input w.input).waits ≢ (input v.input).waits
+
+abbrev pub OutputWaits : {I K P : Type 0} → (K → Look) → LinkWorld I K P → LinkWorld I K P → Type 0
+OutputWaits output v w = (output w.output).waits ≢ (output v.output).waits
+
+-- So the chain is as it was; of its ends only the one that found its link not ready changed; that is roused after 10
+-- milliseconds, unless this was lost, and nothing else is set.
+pub record RetriesRead {I K P : Type 0} (v w : LinkWorld I K P) (a b : Context) : Type 0 where
+  pub chain : MustWrite w.driven.chain → MustWrite v.driven.chain
+  pub writer : w.writer ≡ v.writer
+  pub roused : w.driven.running ≡ true → IsRousedIf w.reader
+  pub only : SetsOnly (IsRousingOf 2 RETRY a.moment a.roles) a b
+
+pub record RetriesWrite {I K P : Type 0} (v w : LinkWorld I K P) (a b : Context) : Type 0 where
+  pub chain : MustRead w.driven.chain → MustRead v.driven.chain
+  pub reader : w.reader ≡ v.reader
+  pub roused : w.driven.running ≡ true → IsRousedIf w.writer
+  pub only : SetsOnly (IsRousingOf 1 RETRY a.moment a.roles) a b
 
 -- The chain and the links are as they were; and where it had not begun, it runs from then on, or tells why it was lost.
 pub record HasLinkBegun {I K P : Type 0} (v w : LinkWorld I K P) : Type 0 where
@@ -136,20 +174,39 @@ abbrev pub KeepsWriter : {I K P : Type 0} → LinkWorld I K P → LinkWorld I K 
 KeepsWriter v w = w.writer ≡ v.writer
 
 -- what several steps of a world between two links move
-abbrev pub CarriesTo : {I K P : Type 0} → (P → List ℕ → List ℕ) → Bool → Bool → (I → Look) → (K → Look) → LinkWorld I K P → LinkWorld I K P → Type 0
+abbrev pub CarriesTo : {I K P : Type 0} → (P → List ℕ → List ℕ) → Bool → Bool → (I → Look) → (K → Look)
+    → LinkWorld I K P → LinkWorld I K P → Type 0
 CarriesTo rest in_tells out_tells input output v w =
     CarriesOn rest in_tells out_tells (input v.input) (input w.input) (output v.output) (output w.output)
     v.driven.chain w.driven.chain v.aborted w.aborted
 
 -- All that the input gave, which has nothing left, was written through the chain to the output.
-pub record HasWritten {P : Type 0} (rest : P → List ℕ → List ℕ) (i j o p : Look) (c : ChainState P) : Type 0 where
+pub record HasWritten {P : Type 0} (rest : P → List ℕ → List ℕ) (i j o p : Look)
+    (c : ChainState P) : Type 0 where
   pub gave : List ℕ
   pub given : j.given ≡ i.given ++ gave
   pub left : j.left ≡ []
   pub taken : p.taken ≡ o.taken ++ flow rest c gave
 
 -- So it was where nothing was lost and the chain was not aborted, for links that tell.
-abbrev pub WritesWhole : {I K P : Type 0} → (P → List ℕ → List ℕ) → Bool → Bool → (I → Look) → (K → Look) → LinkWorld I K P → LinkWorld I K P → Type 0
+abbrev pub WritesWhole : {I K P : Type 0} → (P → List ℕ → List ℕ) → Bool → Bool → (I → Look) → (K → Look)
+    → LinkWorld I K P → LinkWorld I K P → Type 0
 WritesWhole rest in_tells out_tells input output v w =
-    w.driven.running ≡ true → w.aborted ≡ false → v.driven.chain.given ≡ false → in_tells ≡ true → out_tells ≡ true
+    w.driven.running ≡ true → w.aborted ≡ false → v.driven.chain.given ≡ false → in_tells ≡ true
+    → out_tells ≡ true
     → HasWritten rest (input v.input) (input w.input) (output v.output) (output w.output) v.driven.chain
+
+-- After a step that found a link not ready its end tries again 10 milliseconds later, and by that alone.
+pub record TriesAgain {I K P : Type 0} (input : I → Look) (output : K → Look) (v w : LinkWorld I K P)
+    (a b : Context) : Type 0 where
+  pub reads : InputWaits input v w → w.driven.running ≡ true → IsRousedIf w.reader
+      × SetsOnly (IsRousingOf 2 RETRY a.moment a.roles) a b
+  pub writes : OutputWaits output v w → w.driven.running ≡ true → IsRousedIf w.writer
+      × SetsOnly (IsRousingOf 1 RETRY a.moment a.roles) a b
+
+-- It does so where an event of a role is handled.
+abbrev pub HandlesWaits : {I K P : Type 0} → ℕ → Event → (I → Look) → (K → Look) → LinkWorld I K P
+    → LinkWorld I K P → Context → Context → Type 0
+HandlesWaits role event input output v w a b = (before : List Pending)
+    → IsHandled before a.log.state.pending a.roles role event
+    → IsCarried v before a.roles → TriesAgain input output v w a b

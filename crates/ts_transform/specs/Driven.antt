@@ -21,16 +21,25 @@ IsDrivenWhile first d pending roles = d.running ≡ true → IsDriven first d.ch
 
 -- it stays so, whatever role is the first
 abbrev pub StaysDriven : {P : Type 0} → DrivenChain P → DrivenChain P → Context → Context → Type 0
-StaysDriven d e a b = (first : ℕ) → IsDrivenWhile first d a.log.state.pending a.roles → IsDrivenWhile first e b.log.state.pending b.roles
+StaysDriven d e a b = (first : ℕ) → IsDrivenWhile first d a.log.state.pending a.roles
+    → IsDrivenWhile first e b.log.state.pending b.roles
 
 -- it stays so where an event of a role is handled
-abbrev pub HandlesDriven : {P : Type 0} → ℕ → ℕ → Event → DrivenChain P → DrivenChain P → Context → Context → Type 0
-HandlesDriven first role event d e a b = (before : List Pending) → IsHandled before a.log.state.pending a.roles role event
+abbrev pub HandlesDriven : {P : Type 0} → ℕ → ℕ → Event → DrivenChain P → DrivenChain P → Context → Context
+    → Type 0
+HandlesDriven first role event d e a b = (before : List Pending)
+    → IsHandled before a.log.state.pending a.roles role event
     → IsDrivenWhile first d before a.roles → IsDrivenWhile first e b.log.state.pending b.roles
 
 -- what the handler of one of its stages does
-abbrev pub Acts : {P : Type 0} → (P → List ℕ → List ℕ) → (P → ℕ) → ℕ → Event → DrivenChain P → DrivenChain P → Context → Context → Type 0
-Acts rest pause at event d e a b = ActsAt rest pause at event d.chain e.chain d.table.items (unroused_at event d.table.items at) e.table.items d.running e.running a b
+abbrev pub Acts : {P : Type 0} → (P → List ℕ → List ℕ) → (P → ℕ) → ℕ → Event → DrivenChain P → DrivenChain P
+    → Context → Context → Type 0
+Acts rest pause at event d e a b = ActsAt rest pause at event d.chain e.chain d.table.items
+    (unroused_at event d.table.items at) e.table.items d.running e.running a b
+
+-- the role is that of none of its stages
+abbrev pub IsOfNoStage : {P : Type 0} → ℕ → ℕ → DrivenChain P → Type 0
+IsOfNoStage first role d = (at : ℕ) → role ≡ first + at → IsStage d.chain d.table.items at → ⊥
 
 -- it is lost exactly where an event could not be set, and tells why
 abbrev pub Loses : {P T : Type 0} → Result T SetFault → DrivenChain P → DrivenChain P → Context → Type 0
@@ -50,12 +59,14 @@ HasBegun d now =
     ⊎ ((loss : Loss) × (d.running ≡ false) × (d.lost ≡ Some loss) × IsCauseOf loss now)
 
 -- it is driven, where another chain was in its place before
-abbrev pub DrivenAgain : {P : Type 0} → ℕ → ChainState P → DrivenChain P → DrivenChain P → Context → Context → Type 0
+abbrev pub DrivenAgain : {P : Type 0} → ℕ → ChainState P → DrivenChain P → DrivenChain P → Context → Context
+    → Type 0
 DrivenAgain first c d e a b = (d.running ≡ true → IsDriven first c d.table.items a.log.state.pending a.roles)
     → IsDrivenWhile first e b.log.state.pending b.roles
 
 -- bytes came to the chain, or memory lacked for them
-abbrev pub Gives : {P T : Type 0} → Result T SetFault → (P → List ℕ → List ℕ) → List ℕ → ChainState P → ChainState P → Type 0
+abbrev pub Gives : {P T : Type 0} → Result T SetFault → (P → List ℕ → List ℕ) → List ℕ → ChainState P
+    → ChainState P → Type 0
 Gives (Ok x) rest bytes c d = IsGiven rest bytes c d
 Gives (Err fault) rest bytes c d = IsGiven rest bytes c d ⊎ ((fault ≡ F.NoMemory) × (d ≡ c))
 
@@ -79,7 +90,8 @@ pub record MayWake {P : Type 0} (d : DrivenChain P) : Type 0 where
 -- its last stage was marked as roused, for which an event of this key has then to be set, if there is a key
 abbrev pub IsMarkedFor : {P : Type 0} → Option ContKey → DrivenChain P → DrivenChain P → Type 0
 IsMarkedFor key d e = (a b : Context) → Keeps a b → HasEventIf b.log.state.pending key
-    → IsDriven 1 d.chain d.table.items a.log.state.pending a.roles → IsDriven 1 e.chain e.table.items b.log.state.pending b.roles
+    → IsDriven 1 d.chain d.table.items a.log.state.pending a.roles
+    → IsDriven 1 e.chain e.table.items b.log.state.pending b.roles
 
 -- it goes on as it did where a stage was marked, and else it is lost
 abbrev pub MarkLoses : {P T : Type 0} → Result T SetFault → DrivenChain P → DrivenChain P → Type 0

@@ -44,7 +44,8 @@ pub record HasKind (pending : List Pending) (key : ContKey) (kind : Event) : Typ
   pub is : event.event ≡ kind
 
 -- a continuation has the role of its stage, and an event where it is roused
-pub record IsOfStage (pending : List Pending) (roles : List Named) (role : ℕ) (t : StageContinuation) : Type 0 where
+pub record IsOfStage (pending : List Pending) (roles : List Named) (role : ℕ)
+    (t : StageContinuation) : Type 0 where
   pub named : role_at t.key.index roles ≡ Some role
   pub event : t.roused ≡ true → HasEvent pending t.key
 
@@ -65,7 +66,8 @@ IsOfStageIf pending roles role (Some t) = IsOfStage pending roles role t
 -- the continuations of stages have the roles from this one on; a stage may have none
 abbrev pub AreOfStages : List Pending → List Named → ℕ → List (Option StageContinuation) → Type 0
 AreOfStages pending roles role [] = ⊤
-AreOfStages pending roles role (t ∷ ts) = IsOfStageIf pending roles role t × AreOfStages pending roles (role + 1) ts
+AreOfStages pending roles role (t ∷ ts) = IsOfStageIf pending roles role t × AreOfStages pending roles
+    (role + 1) ts
 
 -- the stage has a continuation that is roused
 abbrev pub IsRousedIf : Option StageContinuation → Type 0
@@ -84,19 +86,22 @@ IsToldIf pending event slot = (t : StageContinuation) → slot ≡ Some t → Ha
 
 -- the stage at a place is told of an event, if it has a continuation
 abbrev pub IsTold : List Pending → Event → List (Option StageContinuation) → ℕ → Type 0
-IsTold pending event ts at = (t : StageContinuation) → slice_get ts at ≡ Some (Some t) → HasKind pending t.key event
+IsTold pending event ts at = (t : StageContinuation) → slice_get ts at ≡ Some (Some t)
+    → HasKind pending t.key event
 
 -- so is the stage before a place, if there is one
 abbrev pub IsToldBefore : List Pending → Event → List (Option StageContinuation) → ℕ → Type 0
 IsToldBefore pending event ts at = (j : ℕ) → j + 1 ≡ at → IsTold pending event ts j
 
 -- the stage at a place was roused before, or is called with WriteReady
-abbrev pub IsCalledUnless : List (Option StageContinuation) → List Pending → List (Option StageContinuation) → ℕ → Type 0
+abbrev pub IsCalledUnless : List (Option StageContinuation) → List Pending → List (Option StageContinuation)
+    → ℕ → Type 0
 IsCalledUnless before pending ts at = IsRoused before at ⊎ IsTold pending WriteReady ts at
 
 -- a continuation was destroyed, if it was live
 abbrev pub IsDestroyed : Context → Context → ContKey → Type 0
-IsDestroyed old new key = HasLost old.log.state new.log.state old.roles new.roles key ⊎ (IsLive old.log.state.live key → ⊥)
+IsDestroyed old new key = HasLost old.log.state new.log.state old.roles new.roles key
+    ⊎ (IsLive old.log.state.live key → ⊥)
 
 -- so was that of the stage at a place
 abbrev pub IsClosed : Context → Context → List (Option StageContinuation) → ℕ → Type 0
@@ -115,7 +120,8 @@ abbrev pub gone : Option StageContinuation → Option StageContinuation
 gone t = None
 
 -- the continuations with another at one place
-abbrev pub changed : (Option StageContinuation → Option StageContinuation) → List (Option StageContinuation) → ℕ → List (Option StageContinuation)
+abbrev pub changed : (Option StageContinuation → Option StageContinuation) → List (Option StageContinuation)
+    → ℕ → List (Option StageContinuation)
 changed f [] at = []
 changed f (t ∷ ts) zero = f t ∷ ts
 changed f (t ∷ ts) (suc at) = t ∷ changed f ts at
@@ -155,27 +161,31 @@ unroused_at event ts at = unroused_for (works_at event) ts at
 
 -- what was pending is so, under the same roles, and no event that was added is periodic
 pub record Keeps (old new : Context) : Type 0 where
-  pub pending : (n : ℕ) (p : Pending) → pending_at n old.log.state.pending ≡ Some p → pending_at n new.log.state.pending ≡ Some p
+  pub pending : (n : ℕ) (p : Pending) → pending_at n old.log.state.pending ≡ Some p
+      → pending_at n new.log.state.pending ≡ Some p
   pub roles : new.roles ≡ old.roles
   pub plain : AllPlain old.log.state.pending → AllPlain new.log.state.pending
   pub turn : new.log.state.held ≡ true
 
 -- The stage of a continuation keeps it, with its event, and is roused if it was.
 pub record KeepsStage (a b : Context) (t u : Option StageContinuation) : Type 0 where
-  pub of_stage : (role : ℕ) → IsOfStageIf a.log.state.pending a.roles role t → IsOfStageIf b.log.state.pending b.roles role u
+  pub of_stage : (role : ℕ) → IsOfStageIf a.log.state.pending a.roles role t
+      → IsOfStageIf b.log.state.pending b.roles role u
   pub still : IsRousedIf t → IsRousedIf u
   pub same : unroused u ≡ unroused t
 
 -- So does each stage.
 pub record KeepsStages (a b : Context) (ts us : List (Option StageContinuation)) : Type 0 where
-  pub of_stages : (first : ℕ) → AreOfStages a.log.state.pending a.roles first ts → AreOfStages b.log.state.pending b.roles first us
+  pub of_stages : (first : ℕ) → AreOfStages a.log.state.pending a.roles first ts
+      → AreOfStages b.log.state.pending b.roles first us
   pub still : (j : ℕ) → IsRoused ts j → IsRoused us j
   pub same : all_unroused us ≡ all_unroused ts
   pub len : length us ≡ length ts
 
 -- only such events were set
 abbrev pub SetsOnly : (Pending → Type 0) → Context → Context → Type 0
-SetsOnly Such old new = (n : ℕ) (p : Pending) → pending_at n old.log.state.pending ≡ None → pending_at n new.log.state.pending ≡ Some p → Such p
+SetsOnly Such old new = (n : ℕ) (p : Pending) → pending_at n old.log.state.pending ≡ None
+    → pending_at n new.log.state.pending ≡ Some p → Such p
 
 -- the event is due after the pause, and no later
 abbrev pub IsDueAfter : ℕ → ℕ → Pending → Type 0
@@ -197,7 +207,8 @@ pub record IsRousingOf (role pause moment : ℕ) (roles : List Named) (p : Pendi
 abbrev pub RousesAt : ℕ → ℕ → List (Option StageContinuation) → Context → Context → Type 0
 RousesAt at pause ts a b =
     (IsRoused ts at → SetsOnly (λ p. ⊥) a b)
-    × ((first : ℕ) → AreNamed a.roles first ts → SetsOnly (IsRousingOf (first + at) pause a.moment a.roles) a b)
+    × ((first : ℕ) → AreNamed a.roles first ts → SetsOnly (IsRousingOf
+    (first + at) pause a.moment a.roles) a b)
 
 -- the continuation of a role is told of an event
 pub record IsTelling (event : Event) (role : ℕ) (roles : List Named) (p : Pending) : Type 0 where
@@ -212,7 +223,8 @@ pub record IsTellingBefore (event : Event) (first at : ℕ) (roles : List Named)
 
 -- only such events were set, whatever role is the first
 abbrev pub OnlyTellsBefore : Event → ℕ → List (Option StageContinuation) → Context → Context → Type 0
-OnlyTellsBefore event at ts a b = (first : ℕ) → AreNamed a.roles first ts → SetsOnly (IsTellingBefore event first at a.roles) a b
+OnlyTellsBefore event at ts a b = (first : ℕ) → AreNamed a.roles first ts
+    → SetsOnly (IsTellingBefore event first at a.roles) a b
 
 -- at most so many events were set
 pub record SetsFew (most : ℕ) (old new : Context) : Type 0 where
@@ -220,12 +232,14 @@ pub record SetsFew (most : ℕ) (old new : Context) : Type 0 where
   pub pending : length new.log.state.pending ≤ length old.log.state.pending + most
 
 -- an event of the role was handled, and each other event stays as it was
-pub record IsHandled (before now : List Pending) (roles : List Named) (role : ℕ) (event : Event) : Type 0 where
+pub record IsHandled (before now : List Pending) (roles : List Named) (role : ℕ)
+    (event : Event) : Type 0 where
   pub handled : Pending
   pub event_is : handled.event ≡ event
   pub there : pending_at handled.number before ≡ Some handled
   pub role_is : role_at handled.key.index roles ≡ Some role
-  pub others : (n : ℕ) (p : Pending) → n ≢ handled.number → pending_at n before ≡ Some p → pending_at n now ≡ Some p
+  pub others : (n : ℕ) (p : Pending) → n ≢ handled.number → pending_at n before ≡ Some p
+      → pending_at n now ≡ Some p
 
 -- an event of the key is pending at which its stage works, if there is a key
 abbrev pub HasEventIf : List Pending → Option ContKey → Type 0
@@ -272,10 +286,12 @@ IsMarked key t u = (a b : Context) → Keeps a b → HasEventIf b.log.state.pend
     → IsOfStageIf a.log.state.pending a.roles role t → IsOfStageIf b.log.state.pending b.roles role u
 
 -- So was the last of these.
-abbrev pub IsLastMarked : Option ContKey → List (Option StageContinuation) → List (Option StageContinuation) → Type 0
+abbrev pub IsLastMarked : Option ContKey → List (Option StageContinuation) → List (Option StageContinuation)
+    → Type 0
 IsLastMarked key ts us = (a b : Context) → Keeps a b → HasEventIf b.log.state.pending key → (first : ℕ)
     → AreOfStages a.log.state.pending a.roles first ts → AreOfStages b.log.state.pending b.roles first us
 
 -- Each continuation that was made before keeps its role and its event.
 abbrev pub KeepsMade : Context → Context → Type 0
-KeepsMade a b = (role : ℕ) (t : Option StageContinuation) → IsOfStageIf a.log.state.pending a.roles role t → IsOfStageIf b.log.state.pending b.roles role t
+KeepsMade a b = (role : ℕ) (t : Option StageContinuation) → IsOfStageIf a.log.state.pending a.roles role t
+    → IsOfStageIf b.log.state.pending b.roles role t

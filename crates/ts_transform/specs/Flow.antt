@@ -56,7 +56,8 @@ AnswersAt up from (s ∷ ss) zero r = Answers up from s r
 AnswersAt up from (s ∷ ss) (suc at) r = AnswersAt (has_ended s) s.after ss at r
 
 -- what a pump of the stage at a place leaves: all else stays as it is
-abbrev pub StepsAt : {P : Type 0} → (P → List ℕ → List ℕ) → List ℕ → List (Stage P) → ℕ → Pumped → List ℕ → List (Stage P) → Type 0
+abbrev pub StepsAt : {P : Type 0} → (P → List ℕ → List ℕ) → List ℕ → List (Stage P) → ℕ → Pumped → List ℕ
+    → List (Stage P) → Type 0
 StepsAt rest from [] at r from' ss' = ⊥
 StepsAt rest from (s ∷ ss) at r from' [] = ⊥
 StepsAt rest from (s ∷ ss) zero r from' (s' ∷ ss') = Steps rest from s r from' s' × (ss' ≡ ss)
@@ -170,6 +171,7 @@ pub record TakesAway {P : Type 0} (rest : P → List ℕ → List ℕ) (n : ℕ)
   pub len : length d.stages ≡ length c.stages
 
 -- the bytes came to the chain, in front of what is still to come
-pub record IsGiven {P : Type 0} (rest : P → List ℕ → List ℕ) (bytes : List ℕ) (c d : ChainState P) : Type 0 where
+pub record IsGiven {P : Type 0} (rest : P → List ℕ → List ℕ) (bytes : List ℕ)
+    (c d : ChainState P) : Type 0 where
   pub chain : d ≡ record c { first = c.first ++ bytes }
   pub flow : (z : List ℕ) → flow rest d z ≡ flow rest c (bytes ++ z)

@@ -46,9 +46,12 @@ abbrev pub Answers : {P : Type 0} → Bool → List ℕ → Stage P → Pumped �
 Answers up from s r = AnswersIf (has_work (has_ended s) up from) from s.after r
 
 -- what a pump leaves before and after its stage, with what it wrote
-abbrev pub Steps : {P : Type 0} → (P → List ℕ → List ℕ) → List ℕ → Stage P → Pumped → List ℕ → Stage P → Type 0
-Steps rest from s (Moved n) from' s' = (from' ≡ drop n from) × (has_ended s' ≡ has_ended s) × Adds (rest_of rest s.part) (rest_of rest s'.part) (take n from) s.after s'.after
-Steps rest from s Ended from' s' = (from' ≡ from) × (s'.part ≡ None) × (s'.after ≡ s.after ++ rest_of rest s.part [])
+abbrev pub Steps : {P : Type 0} → (P → List ℕ → List ℕ) → List ℕ → Stage P → Pumped → List ℕ → Stage P
+    → Type 0
+Steps rest from s (Moved n) from' s' = (from' ≡ drop n from) × (has_ended s' ≡ has_ended s) × Adds
+    (rest_of rest s.part) (rest_of rest s'.part) (take n from) s.after s'.after
+Steps rest from s Ended from' s' = (from' ≡ from) × (s'.part ≡ None)
+    × (s'.after ≡ s.after ++ rest_of rest s.part [])
 Steps rest from s (Blocked w) from' s' = (from' ≡ from) × (s' ≡ s)
 Steps rest from s Idle from' s' = (from' ≡ from) × (s' ≡ s)
 
@@ -72,8 +75,10 @@ IfRests (Blocked w) P = P
 IfRests Idle P = P
 
 -- the same of a transform alone, on what waits before it and after it
-abbrev pub Runs : {P : Type 0} → (P → List ℕ → List ℕ) → List ℕ → P → List ℕ → Pumped → List ℕ → P → List ℕ → Type 0
-Runs rest from part after (Moved n) from' part' after' = (from' ≡ drop n from) × Adds (rest part) (rest part') (take n from) after after'
+abbrev pub Runs : {P : Type 0} → (P → List ℕ → List ℕ) → List ℕ → P → List ℕ → Pumped → List ℕ → P → List ℕ
+    → Type 0
+Runs rest from part after (Moved n) from' part' after' = (from' ≡ drop n from) × Adds (rest part) (rest part')
+    (take n from) after after'
 Runs rest from part after Ended from' part' after' = (from' ≡ from) × (after' ≡ after ++ rest part [])
 Runs rest from part after (Blocked w) from' part' after' = (from' ≡ from) × (part' ≡ part) × (after' ≡ after)
 Runs rest from part after Idle from' part' after' = (from' ≡ from) × (part' ≡ part) × (after' ≡ after)

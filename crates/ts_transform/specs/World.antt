@@ -16,7 +16,8 @@ use Rattle.ts_transform.specs.declared.world.ChainWorld.{ChainWorld}
 
 -- What holds of a world of one chain: its body was given whole, no event is periodic, and once it runs, while nothing
 -- was lost, each stage that must work has an event. Before it was started only the first stage has work.
-pub record IsCovered {P : Type 0} (c : ChainState P) (ts : List (Option StageContinuation)) (running : Bool) (pending : List Pending) (roles : List Named) : Type 0 where
+pub record IsCovered {P : Type 0} (c : ChainState P) (ts : List (Option StageContinuation)) (running : Bool)
+    (pending : List Pending) (roles : List Named) : Type 0 where
   pub given : c.given ≡ true
   pub plain : AllPlain pending
   pub driven : running ≡ true → IsDriven 1 c ts pending roles
@@ -32,7 +33,8 @@ IsSoundGroup g = IsSound g.world g.cx.log.state.pending g.cx.roles
 
 -- The body goes on through the chain: at most one stage worked, what still comes out stays, and what is left to do pays for
 -- each event that is set.
-pub record GoesOnWith {P : Type 0} (rest : P → List ℕ → List ℕ) (v w : ChainWorld P) (a b : Context) : Type 0 where
+pub record GoesOnWith {P : Type 0} (rest : P → List ℕ → List ℕ) (v w : ChainWorld P)
+    (a b : Context) : Type 0 where
   pub once : PumpsOnce rest v.driven.chain w.driven.chain
   pub flow : flow rest w.driven.chain [] ≡ flow rest v.driven.chain []
   pub pays : 100 * (left_to_do rest w.driven.chain [] + errors_to_pass w.driven.table.items) + length b.log.state.pending
@@ -49,7 +51,8 @@ pub record WakeKeeps {P : Type 0} (v w : ChainWorld P) (a b : Context) : Type 0 
 
 -- At most one event is set: one of the last stage, at which that works, due after its pause; and none where fewer than
 -- so many bytes wait for the client, or the last stage has ended or was roused.
-pub record Wakes {P : Type 0} (pause : P → ℕ) (c : ChainState P) (ts : List (Option StageContinuation)) (a b : Context) : Type 0 where
+pub record Wakes {P : Type 0} (pause : P → ℕ) (c : ChainState P) (ts : List (Option StageContinuation))
+    (a b : Context) : Type 0 where
   pub few : length b.log.state.pending ≤ length a.log.state.pending + 1
   pub full : length b.log.state.pending ≤ length a.log.state.pending + length (client_wait c)
   pub idle : length (client_wait c) < MOST_WAITING → IsSame a b

@@ -1,5 +1,5 @@
 //! The continuations of stages, and how one is roused.
-ghost use Rattle.std.specs.Prelude.{◌≡◌, ℕ, ◌<◌, ◌⊎◌, true, Some, OnOk};
+ghost use Rattle.std.specs.Prelude.{◌≡◌, ℕ, ◌<◌, ◌⊎◌, true, is_ok, Some, OnOk};
 ghost use Rattle.ts_journal.specs.declared.entry.Event.TheVariants.{WriteReady};
 ghost use Rattle.ts_transform.specs.declared.continuation.Rouser.TheVariants as Rouser;
 ghost use Rattle.ts_transform.specs.Driving.{works_at, AddsEvents, HasEvent, HasKind, IsRousedIf, IsRousingOf, IsNamedIf, IsToldIf, IsWorkOf, KeepsStage, SetsOnly};
@@ -64,7 +64,7 @@ pub fn rouse(
     requires turn { cx.old.log.state.held ≡ true }
     ensures adds { AddsEvents 1 result cx.old cx.new }
     ensures stage { KeepsStage cx.old cx.new slot.old slot.new }
-    ensures rests { IsRousedIf slot.old → SetsOnly (λ p. ⊥) cx.old cx.new }
+    ensures rests { IsRousedIf slot.old → (slot.new ≡ slot.old) × (cx.new ≡ cx.old) × (is_ok result ≡ true) }
     ensures only { (role : ℕ) → IsNamedIf cx.old.roles role slot.old
         → SetsOnly (IsRousingOf role pause cx.old.moment cx.old.roles) cx.old cx.new }
     ensures roused { OnOk result (IsRousedIf slot.new) }

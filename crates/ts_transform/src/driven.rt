@@ -5,7 +5,7 @@ ghost use Rattle.ts_transform.specs.Flow.{OnlyFirstWorks};
 ghost use Rattle.ts_transform.specs.Driving.{ActsWithin, KeepsMade, KeepsOthers, SetsOnly};
 ghost use Rattle.ts_transform.specs.Cover.{IsRousing};
 ghost use Rattle.ts_transform.specs.Acting.{IsStage, StillGives};
-ghost use Rattle.ts_transform.specs.Driven.{Acts, HandlesDriven, HasBegun, IsDrivenWhile, Loses};
+ghost use Rattle.ts_transform.specs.Driven.{Acts, HandlesDriven, HasBegun, IsDrivenWhile, IsOfNoStage, Loses};
 
 use crate::chain::Chain;
 use crate::continuation::StageContinuation;
@@ -86,7 +86,8 @@ impl<P: Transform + Drop> DrivenChain<P> {
         requires turn { cx.old.log.state.held ≡ true }
         requires fresh { self.old.table.items ≡ [] }
         ensures within { ActsWithin 1 cx.old cx.new }
-        ensures only { SetsOnly (IsRousing P.pause first self.old.chain [] cx.old.moment cx.new.roles) cx.old cx.new }
+        ensures only { SetsOnly (IsRousing P.pause first self.old.chain [] cx.old.moment cx.new.roles)
+            cx.old cx.new }
         ensures chain { self.new.chain ≡ self.old.chain }
         ensures driven { OnlyFirstWorks self.old.chain
             → IsDrivenWhile first self.new cx.new.log.state.pending cx.new.roles }
@@ -128,10 +129,9 @@ impl<P: Transform + Drop> DrivenChain<P> {
         requires turn { cx.old.log.state.held ≡ true }
         ensures acts { (at : ℕ) → role ≡ first + at → IsStage self.old.chain self.old.table.items at
             → Acts P.rest P.pause at event self.old self.new cx.old cx.new }
-        ensures other { ((at : ℕ) → role ≡ first + at → IsStage self.old.chain self.old.table.items at → ⊥)
-            → (self.new ≡ self.old) × IsSame cx.old cx.new }
-        ensures gives { StillGives P.rest self.old.chain self.new.chain self.old.table.items self.new.table.items
-            cx.old cx.new }
+        ensures other { IsOfNoStage first role self.old → (self.new ≡ self.old) × IsSame cx.old cx.new }
+        ensures gives { StillGives P.rest self.old.chain self.new.chain
+            self.old.table.items self.new.table.items cx.old cx.new }
         ensures driven { HandlesDriven first role event self.old self.new cx.old cx.new }
         ensures others { KeepsOthers first self.old.table.items cx.old cx.new }
         ensures within { ActsWithin 4 cx.old cx.new }

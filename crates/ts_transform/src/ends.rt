@@ -87,7 +87,8 @@ impl<P: Transform + Drop> DrivenChain<P> {
         requires turn { cx.old.log.state.held ≡ true }
         ensures chain { self.new.chain ≡ self.old.chain }
         ensures driven { (first n : ℕ) (c : ChainState P)
-            → Takes c.first c.stages n self.old.chain.first self.old.chain.stages → self.old.chain.given ≡ c.given
+            → Takes c.first c.stages n self.old.chain.first self.old.chain.stages
+            → self.old.chain.given ≡ c.given
             → DrivenAgain first c self.old self.new cx.old cx.new }
         ensures only { OnlyRouses P.pause self.old.chain self.old.table.items cx.old cx.new }
         ensures adds { AddsEvents 1 result cx.old cx.new }

@@ -34,7 +34,8 @@ pub fn rouse_if_ready<P: Transform + Drop>(
     ensures only { OnlyRouses P.pause chain.now table.old cx.old cx.new }
     ensures ready { OnOk result (MustWork chain.now at → IsRoused table.new at) }
     ensures called { rouser ≡ Rouser.Downstream → pause_at P.pause chain.now.stages at ≡ 0
-        → OnOk result (MustWork chain.now at → IsCalledUnless table.old cx.new.log.state.pending table.new at) }
+        → OnOk result (MustWork chain.now at
+        → IsCalledUnless table.old cx.new.log.state.pending table.new at) }
     ensures others { (j : ℕ) → j ≢ at → slice_get table.new j ≡ slice_get table.old j }
 {
     if !chain.must_pump(at) {
@@ -59,7 +60,8 @@ fn rouse_before<P: Transform + Drop>(
     ensures stages { KeepsStages cx.old cx.new table.old table.new }
     ensures only { OnlyRouses P.pause chain.now table.old cx.old cx.new }
     ensures ready { OnOk result ((j : ℕ) → j + 1 ≡ at → MustWork chain.now j → IsRoused table.new j) }
-    ensures called { OnOk result (CallsBefore P.pause chain.now table.old table.new cx.new.log.state.pending at) }
+    ensures called { OnOk result
+        (CallsBefore P.pause chain.now table.old table.new cx.new.log.state.pending at) }
 {
     if at == 0 {
         return Ok(());
@@ -82,7 +84,8 @@ fn rouse_round<P: Transform + Drop>(
     ensures stages { KeepsStages cx.old cx.new table.old table.new }
     ensures only { OnlyRouses P.pause chain.now table.old cx.old cx.new }
     ensures round { OnOk result (IsRoundRoused chain.now table.new at) }
-    ensures called { OnOk result (CallsBefore P.pause chain.now table.old table.new cx.new.log.state.pending at) }
+    ensures called { OnOk result
+        (CallsBefore P.pause chain.now table.old table.new cx.new.log.state.pending at) }
 {
     rouse_if_ready(chain, table, at + 1, Rouser::Upstream, cx)?;
     rouse_before(chain, table, at, cx)?;
@@ -105,7 +108,8 @@ fn work<P: Transform + Drop>(
     ensures pumps { Pumps P.rest at chain.old chain.new cx.old cx.new }
     ensures only { (event : Event) → OnlySets P.pause chain.old chain.new table.old at event cx.old cx.new }
     ensures driven { OnOk result (Covers true at chain.old chain.new table.old table.new cx.old cx.new) }
-    ensures tells { OnOk result (TellsBefore P.pause at chain.old chain.new table.old table.new cx.new.log.state.pending) }
+    ensures tells { OnOk result
+        (TellsBefore P.pause at chain.old chain.new table.old table.new cx.new.log.state.pending) }
 {
     let Ok(pumped) = chain.pump(at) else {
         return Err(SetFault::NoMemory);
@@ -197,7 +201,8 @@ fn act<P: Transform + Drop>(
     ensures acts { ActsAt P.rest P.pause at event chain.old chain.new table.old table.old table.new
         true (is_ok result) cx.old cx.new }
     ensures pays { Pays P.rest chain.old chain.new table.old table.new cx.old cx.new }
-    ensures driven { OnOk result (Covers (works_at event) at chain.old chain.new table.old table.new cx.old cx.new) }
+    ensures driven { OnOk result
+        (Covers (works_at event) at chain.old chain.new table.old table.new cx.old cx.new) }
     ensures others { (first : ℕ) → KeepsOthers first table.old cx.old cx.new }
     ensures cause { IfErr result (λ fault. IsCause fault cx.new) }
 {
@@ -228,7 +233,8 @@ pub fn handle_at<P: Transform + Drop>(
     ensures acts { ActsAt P.rest P.pause at event chain.old chain.new table.old
         (unroused_at event table.old at) table.new true (is_ok result) cx.old cx.new }
     ensures pays { Pays P.rest chain.old chain.new table.old table.new cx.old cx.new }
-    ensures driven { OnOk result (CoversHandled at event chain.old chain.new table.old table.new cx.old cx.new) }
+    ensures driven { OnOk result
+        (CoversHandled at event chain.old chain.new table.old table.new cx.old cx.new) }
     ensures others { (first : ℕ) → KeepsOthers first table.old cx.old cx.new }
     ensures cause { IfErr result (λ fault. IsCause fault cx.new) }
 {

@@ -1,5 +1,5 @@
 //! The two ends of a chain between links: the continuations that read and write.
-ghost use Rattle.std.specs.Prelude.{◌≡◌, ℕ, ◌⊎◌, Some, true, false, IfOk, IfErr, OnOk};
+ghost use Rattle.std.specs.Prelude.{◌≡◌, ℕ, ◌⊎◌, Some, true, false, is_ok, IfOk, IfErr, OnOk};
 ghost use Rattle.ts_group.specs.Context.{role_at};
 ghost use Rattle.ts_group.specs.Entries.{Grows};
 ghost use Rattle.ts_group.specs.Changes.{SameEvents, KeepsKeys};
@@ -49,7 +49,8 @@ pub fn rouse_end(
     ensures stage { KeepsStage cx.old cx.new slot.old slot.new }
     ensures only { (role : ℕ) → IsNamedIf cx.old.roles role slot.old
         → SetsOnly (IsRousingOf role after cx.old.moment cx.old.roles) cx.old cx.new }
-    ensures rests { (must ≡ false) ⊎ IsRousedIf slot.old → SetsOnly (λ p. ⊥) cx.old cx.new }
+    ensures rests { (must ≡ false) ⊎ IsRousedIf slot.old
+        → (slot.new ≡ slot.old) × (cx.new ≡ cx.old) × (is_ok result ≡ true) }
     ensures roused { must ≡ true → OnOk result (IsRousedIf slot.new) }
 {
     if !must {

@@ -1,5 +1,5 @@
 //! A chain between two links, as a world of a mutex group: it reads its body from one and writes to the other.
-ghost use Rattle.std.specs.Prelude.{◌≡◌, ℕ, List, [], map, true, false, refl, ⊤, Some, None, IfOk};
+ghost use Rattle.std.specs.Prelude.{◌≡◌, ◌⊎◌, ℕ, List, [], map, true, false, refl, ⊤, Some, None, IfOk};
 ghost use Rattle.ts_journal.specs.declared.entry.Pending.{Pending};
 ghost use Rattle.ts_group.specs.declared.action.Named.{Named};
 ghost use Rattle.ts_group.specs.declared.world.Want.TheVariants as Want;
@@ -8,9 +8,9 @@ ghost use Rattle.ts_group.specs.Context.{IsSame};
 ghost use Rattle.ts_group.specs.Entries.{Grows};
 ghost use Rattle.ts_transform.specs.declared.loss.Loss.TheVariants as Loss;
 ghost use Rattle.ts_transform.specs.Flow.{IsFinished, aborted, compose, flow, fresh_stage};
-ghost use Rattle.ts_transform.specs.Driving.{ActsWithin, IsHandled, IsNamedIf, IsRousedIf, IsRousingOf, SetsOnly};
+ghost use Rattle.ts_transform.specs.Driving.{ActsWithin, IsNamedIf, IsRousedIf};
 ghost use Rattle.ts_transform.specs.Driven.{MayLose, SameCourse};
-ghost use Rattle.ts_transform.specs.Carrying.{AreEndsRoused, HandlesJoined, HasLinkBegun, IsCarried, IsSameBut, KeepsCourse, KeepsReader, KeepsWriter, Moves, Retries, StaysJoined, Steps};
+ghost use Rattle.ts_transform.specs.Carrying.{AreEndsRoused, HandlesCarried, HandlesJoined, HandlesWaits, HasLinkBegun, InputWaits, IsCarried, IsSameBut, KeepsCourse, KeepsReader, KeepsWriter, Moves, OutputWaits, RetriesRead, RetriesWrite, RousesEnd, StaysJoined, Steps, TriesAgain};
 
 use crate::chain::Chain;
 use crate::continuation::{StageContinuation, works};
@@ -57,11 +57,13 @@ impl<I: Link + Drop, K: Link + Drop, P: Transform + Drop> LinkWorld<I, K, P> {
     ) -> Result<LinkWorld<I, K, P>, NoMemory>
         ensures made { IfOk result (λ w. w.driven.chain
             ≡ record { first = []; stages = map fresh_stage parts.items; given = false }) }
-        ensures flow { IfOk result (λ w. (z : List ℕ) → flow P.rest w.driven.chain z ≡ compose P.rest parts.items z) }
+        ensures flow { IfOk result
+            (λ w. (z : List ℕ) → flow P.rest w.driven.chain z ≡ compose P.rest parts.items z) }
         ensures links { IfOk result (λ w. (w.input ≡ input) × (w.output ≡ output)) }
         ensures fresh { IfOk result (λ w. (w.driven.table.items ≡ []) × (w.driven.running ≡ false)
             × (w.driven.lost ≡ None) × (w.aborted ≡ false)) }
-        ensures carried { IfOk result (λ w. (pending : List Pending) (roles : List Named) → IsCarried w pending roles) }
+        ensures carried { IfOk result
+            (λ w. (pending : List Pending) (roles : List Named) → IsCarried w pending roles) }
     {
         let chain = Chain::make(alloc, parts)?;
         Ok(LinkWorld {
@@ -142,8 +144,7 @@ impl<I: Link + Drop, K: Link + Drop, P: Transform + Drop> LinkWorld<I, K, P> {
         ensures joined { StaysJoined self.old self.new cx.old cx.new }
         ensures course { KeepsCourse self.old self.new cx.new }
         ensures within { ActsWithin 1 cx.old cx.new }
-        ensures only { IsNamedIf cx.old.roles 1 self.old.writer
-            → SetsOnly (IsRousingOf 1 after cx.old.moment cx.old.roles) cx.old cx.new }
+        ensures rouses { RousesEnd self.old.writer must 1 after self.old self.new cx.old cx.new }
         ensures roused { self.new.driven.running ≡ true → must ≡ true → IsRousedIf self.new.writer }
         ensures kept { KeepsReader self.old self.new }
     {
@@ -163,8 +164,7 @@ impl<I: Link + Drop, K: Link + Drop, P: Transform + Drop> LinkWorld<I, K, P> {
         ensures joined { StaysJoined self.old self.new cx.old cx.new }
         ensures course { KeepsCourse self.old self.new cx.new }
         ensures within { ActsWithin 1 cx.old cx.new }
-        ensures only { IsNamedIf cx.old.roles 2 self.old.reader
-            → SetsOnly (IsRousingOf 2 after cx.old.moment cx.old.roles) cx.old cx.new }
+        ensures rouses { RousesEnd self.old.reader must 2 after self.old self.new cx.old cx.new }
         ensures roused { self.new.driven.running ≡ true → must ≡ true → IsRousedIf self.new.reader }
         ensures kept { KeepsWriter self.old self.new }
     {
@@ -184,9 +184,9 @@ impl<I: Link + Drop, K: Link + Drop, P: Transform + Drop> LinkWorld<I, K, P> {
         ensures joined { StaysJoined self.old self.new cx.old cx.new }
         ensures course { KeepsCourse self.old self.new cx.new }
         ensures within { ActsWithin 1 cx.old cx.new }
-        ensures retries { IsNamedIf cx.old.roles 2 self.old.reader
-            → Retries (I.look self.old.input) (I.look self.new.input)
-            self.new.reader self.new.driven.running 2 cx.old cx.new }
+        ensures retries { IsNamedIf cx.old.roles 2 self.old.reader → InputWaits I.look self.old self.new
+            → RetriesRead self.old self.new cx.old cx.new }
+        ensures output { self.new.output ≡ self.old.output }
     {
         if self.driven.chain.is_given() {
             return;
@@ -217,9 +217,9 @@ impl<I: Link + Drop, K: Link + Drop, P: Transform + Drop> LinkWorld<I, K, P> {
         ensures joined { StaysJoined self.old self.new cx.old cx.new }
         ensures course { KeepsCourse self.old self.new cx.new }
         ensures within { ActsWithin 1 cx.old cx.new }
-        ensures retries { IsNamedIf cx.old.roles 1 self.old.writer
-            → Retries (K.look self.old.output) (K.look self.new.output)
-            self.new.writer self.new.driven.running 1 cx.old cx.new }
+        ensures retries { IsNamedIf cx.old.roles 1 self.old.writer → OutputWaits K.look self.old self.new
+            → RetriesWrite self.old self.new cx.old cx.new }
+        ensures input { self.new.input ≡ self.old.input }
     {
         let Some(block) = self.driven.chain.out_block() else {
             return;
@@ -244,6 +244,9 @@ impl<I: Link + Drop, K: Link + Drop, P: Transform + Drop> LinkWorld<I, K, P> {
         ensures joined { HandlesJoined 1 event self.old self.new cx.old cx.new }
         ensures course { KeepsCourse self.old self.new cx.new }
         ensures within { ActsWithin 1 cx.old cx.new }
+        ensures retries { IsNamedIf cx.old.roles 1 self.old.writer → OutputWaits K.look self.old self.new
+            → RetriesWrite self.old self.new cx.old cx.new }
+        ensures input { self.new.input ≡ self.old.input }
     {
         if works(event) {
             unrouse(&mut self.writer);
@@ -258,6 +261,9 @@ impl<I: Link + Drop, K: Link + Drop, P: Transform + Drop> LinkWorld<I, K, P> {
         ensures joined { HandlesJoined 2 event self.old self.new cx.old cx.new }
         ensures course { KeepsCourse self.old self.new cx.new }
         ensures within { ActsWithin 1 cx.old cx.new }
+        ensures retries { IsNamedIf cx.old.roles 2 self.old.reader → InputWaits I.look self.old self.new
+            → RetriesRead self.old self.new cx.old cx.new }
+        ensures output { self.new.output ≡ self.old.output }
     {
         if works(event) {
             unrouse(&mut self.reader);
@@ -272,6 +278,10 @@ impl<I: Link + Drop, K: Link + Drop, P: Transform + Drop> LinkWorld<I, K, P> {
         ensures joined { HandlesJoined role event self.old self.new cx.old cx.new }
         ensures course { KeepsCourse self.old self.new cx.new }
         ensures within { ActsWithin 4 cx.old cx.new }
+        ensures reads { IsNamedIf cx.old.roles 2 self.old.reader → InputWaits I.look self.old self.new
+            → RetriesRead self.old self.new cx.old cx.new }
+        ensures writes { IsNamedIf cx.old.roles 1 self.old.writer → OutputWaits K.look self.old self.new
+            → RetriesWrite self.old self.new cx.old cx.new }
     {
         if role == WRITER {
             self.write_at(event, cx);
@@ -291,7 +301,9 @@ impl<I: Link + Drop, K: Link + Drop, P: Transform + Drop> LinkWorld<I, K, P> {
             → AreEndsRoused self.new.driven.chain self.new.writer self.new.reader }
         ensures course { KeepsCourse self.old self.new cx.new }
         ensures within { ActsWithin 2 cx.old cx.new }
-        ensures idle { self.old.driven.running ≡ false → (self.new ≡ self.old) × (cx.new ≡ cx.old) }
+        ensures idle { (self.old.driven.running ≡ false)
+            ⊎ AreEndsRoused self.old.driven.chain self.old.writer self.old.reader
+            → (self.new ≡ self.old) × (cx.new ≡ cx.old) }
     {
         if !self.driven.running {
             return;
@@ -317,8 +329,8 @@ impl<I: Link + Drop, K: Link + Drop, P: Transform + Drop> LinkWorld<I, K, P> {
     fn step(&mut self, role: u32, event: Event, cx: &mut Cx)
         requires turn { cx.old.log.state.held ≡ true }
         ensures steps { Steps P.rest I.tells K.tells I.look K.look self.old self.new }
-        ensures carried { (before : List Pending) → IsHandled before cx.old.log.state.pending cx.old.roles role event
-            → IsCarried self.old before cx.old.roles → IsCarried self.new cx.new.log.state.pending cx.new.roles }
+        ensures carried { HandlesCarried role event self.old self.new cx.old cx.new }
+        ensures again { HandlesWaits role event I.look K.look self.old self.new cx.old cx.new }
         ensures loses { MayLose self.old.driven self.new.driven cx.new }
         ensures within { ActsWithin 6 cx.old cx.new }
         ensures lost { self.old.driven.running ≡ false → (self.new ≡ self.old) × IsSame cx.old cx.new }
@@ -416,6 +428,7 @@ impl<I: Link + Drop, K: Link + Drop, P: Transform + Drop> World for LinkWorld<I,
         requires called { IsCalled (λ s roles. IsCarried self.old s.pending roles) cx.old role event }
         ensures sound { (result ≡ Want.Nothing) × IsCarried self.new cx.new.log.state.pending cx.new.roles }
         ensures steps { Steps P.rest I.tells K.tells I.look K.look self.old self.new }
+        ensures again { TriesAgain I.look K.look self.old self.new cx.old cx.new }
         ensures loses { MayLose self.old.driven self.new.driven cx.new }
         ensures within { ActsWithin 6 cx.old cx.new }
         ensures lost { self.old.driven.running ≡ false → (self.new ≡ self.old) × IsSame cx.old cx.new }
@@ -428,7 +441,8 @@ impl<I: Link + Drop, K: Link + Drop, P: Transform + Drop> World for LinkWorld<I,
         requires turn { _cx.old.log.state.held ≡ true }
         requires sound { IsCarried self.old _cx.old.log.state.pending _cx.old.roles }
         ensures grows { Grows _cx.old _cx.new }
-        ensures same { (_cx.new.log.state ≡ _cx.old.log.state) × (_cx.new.roles ≡ _cx.old.roles) × (self.new ≡ self.old) }
+        ensures same { (_cx.new.log.state ≡ _cx.old.log.state) × (_cx.new.roles ≡ _cx.old.roles)
+            × (self.new ≡ self.old) }
     {}
 
     fn asked(&mut self, _question: (), _cx: &mut Cx) {}

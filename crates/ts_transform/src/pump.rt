@@ -49,7 +49,8 @@ fn feed_into<P: Transform>(
 ) -> Result<usize, NoMemory>
     requires { 0 < length input.now }
     ensures count { IfOk result (λ n. (1 ≤ n) × (n ≤ length input.now)) }
-    ensures adds { IfOk result (λ n. Adds (P.rest part.old) (P.rest part.new) (take n input.now) after.old after.new) }
+    ensures adds { IfOk result
+        (λ n. Adds (P.rest part.old) (P.rest part.new) (take n input.now) after.old after.new) }
     ensures err { OnErr result ((part.new ≡ part.old) × (after.new ≡ after.old)) }
 {
     part.feed(input, &mut after.buffer)

@@ -131,7 +131,8 @@ fn mark(slot: &mut Option<StageContinuation>) -> Result<Option<ContKey>, SetFaul
     ensures roused { OnOk result (IsRousedIf slot.new) }
     ensures still { IsRousedIf slot.old → IsRousedIf slot.new }
     ensures same { unroused slot.new ≡ unroused slot.old }
-    ensures key { IfOk result (λ key. IfSome key (λ k. (t : StageContinuation) → slot.old ≡ Some t → k ≡ t.key)) }
+    ensures key { IfOk result (λ key. IfSome key
+        (λ k. (t : StageContinuation) → slot.old ≡ Some t → k ≡ t.key)) }
     ensures rests { IfOk result (λ key. IfSome key (λ k. IsRousedIf slot.old → ⊥)) }
     ensures dead { IfErr result (λ fault. (fault ≡ Dead) × (slot.old ≡ None)) }
 {

@@ -73,7 +73,8 @@ pub fn take_last<P: Transform>(first: &mut Waiting, stages: &mut [Stage<P>], n: 
     ensures flow { (x : List ℕ) → flow_from P.rest stages.old (first.old ++ x)
         ≡ take n (last_wait first.old stages.old) ++ flow_from P.rest stages.new (first.new ++ x) }
     ensures takes { Takes first.old stages.old n first.new stages.new }
-    ensures falls { (x : List ℕ) → passing P.rest stages.new (first.new ++ x) + n ≡ passing P.rest stages.old (first.old ++ x) }
+    ensures falls { (x : List ℕ) → passing P.rest stages.new (first.new ++ x) + n
+        ≡ passing P.rest stages.old (first.old ++ x) }
     ensures wait { last_wait first.new stages.new ≡ drop n (last_wait first.old stages.old) }
     ensures ended { (given : _) → last_ended given stages.new ≡ last_ended given stages.old }
     ensures len { length stages.new ≡ length stages.old }

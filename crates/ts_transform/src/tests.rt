@@ -1,4 +1,4 @@
-// A chain of two transforms, worked stage by stage.
+//! A chain of two transforms, worked stage by stage.
 ghost use Rattle.std.specs.Prelude.{◌++◌};
 
 use crate::{Chain, Pumped, Transform};

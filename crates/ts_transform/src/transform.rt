@@ -30,7 +30,8 @@ pub trait Transform: Sized {
     fn feed(&mut self, input: &[u8], out: &mut IoBuffer) -> Result<usize, NoMemory>
         requires { 0 < length input.now }
         ensures count { IfOk result (λ n. (1 ≤ n) × (n ≤ length input.now)) }
-        ensures law { IfOk result (λ n. Feeds (rest self.old) (rest self.new) (take n input.now) out.old out.new) }
+        ensures law { IfOk result
+            (λ n. Feeds (rest self.old) (rest self.new) (take n input.now) out.old out.new) }
         ensures err { OnErr result ((self.new ≡ self.old) × (out.new ≡ out.old)) };
 
     /// Writes what is left to write, once no more bytes come.

@@ -12,7 +12,7 @@ ghost use Rattle.ts_transform.specs.declared.continuation.StageContinuation.{Sta
 ghost use Rattle.ts_transform.specs.Driving.{ActsWithin, IsRoused, SetsFew, SetsOnly, all_unroused, errors_to_pass, last_of};
 ghost use Rattle.ts_transform.specs.Cover.{IsAwake, IsRousing};
 ghost use Rattle.ts_transform.specs.Acting.{IsStage};
-ghost use Rattle.ts_transform.specs.Driven.{Acts, HasBegun, HasBegunFrom, IsMarkedFor, MarkLoses, MayLose, MayWake, SameCourse};
+ghost use Rattle.ts_transform.specs.Driven.{Acts, HasBegun, HasBegunFrom, IsMarkedFor, IsOfNoStage, MarkLoses, MayLose, MayWake, SameCourse};
 ghost use Rattle.ts_transform.specs.World.{GoesOnWith, IsSound};
 
 use crate::chain::Chain;
@@ -40,7 +40,8 @@ impl<P: Transform + Drop> ChainWorld<P> {
         ensures flow { IfOk result (λ w. flow P.rest w.driven.chain [] ≡ compose P.rest parts.items body) }
         ensures made { IfOk result (λ w. w.driven.chain
             ≡ record { first = body; stages = map fresh_stage parts.items; given = true }) }
-        ensures fresh { IfOk result (λ w. (w.driven.table.items ≡ []) × (w.driven.running ≡ false) × (w.driven.lost ≡ None)) }
+        ensures fresh { IfOk result
+            (λ w. (w.driven.table.items ≡ []) × (w.driven.running ≡ false) × (w.driven.lost ≡ None)) }
         ensures sound { IfOk result (λ w. (pending : List Pending) → (roles : List Named)
             → AllPlain pending → IsSound w pending roles) }
     {
@@ -181,7 +182,8 @@ impl<P: Transform + Drop> World for ChainWorld<P> {
 
     ghost asking = { λ w s roles role group question. IsSound w s.pending roles };
 
-    ghost left = { λ w s. Some (100 * (left_to_do P.rest w.driven.chain [] + errors_to_pass w.driven.table.items) + length s.pending) };
+    ghost left = { λ w s. Some (100 * (left_to_do P.rest w.driven.chain []
+        + errors_to_pass w.driven.table.items) + length s.pending) };
 
     ghost right = { λ w group question reply. ⊤ };
 
@@ -223,8 +225,7 @@ impl<P: Transform + Drop> World for ChainWorld<P> {
         // The stage of the role handles the event; of another role all is left as it was.
         ensures acts { (at : ℕ) → role ≡ 1 + at → IsStage self.old.driven.chain self.old.driven.table.items at
             → Acts P.rest P.pause at event self.old.driven self.new.driven cx.old cx.new }
-        ensures other { ((at : ℕ) → role ≡ 1 + at → IsStage self.old.driven.chain self.old.driven.table.items at → ⊥)
-            → (self.new ≡ self.old) × IsSame cx.old cx.new }
+        ensures other { IsOfNoStage 1 role self.old.driven → (self.new ≡ self.old) × IsSame cx.old cx.new }
     {
         let _told = self.driven.handle(FIRST, role, event, cx);
         Want::Nothing
@@ -234,7 +235,8 @@ impl<P: Transform + Drop> World for ChainWorld<P> {
         requires turn { _cx.old.log.state.held ≡ true }
         requires sound { IsSound self.old _cx.old.log.state.pending _cx.old.roles }
         ensures grows { Grows _cx.old _cx.new }
-        ensures same { (_cx.new.log.state ≡ _cx.old.log.state) × (_cx.new.roles ≡ _cx.old.roles) × (self.new ≡ self.old) }
+        ensures same { (_cx.new.log.state ≡ _cx.old.log.state) × (_cx.new.roles ≡ _cx.old.roles)
+            × (self.new ≡ self.old) }
     {}
 
     fn asked(&mut self, _question: (), _cx: &mut Cx) {}

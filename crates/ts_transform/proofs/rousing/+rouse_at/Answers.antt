@@ -8,7 +8,7 @@ returns-then-at-eq0-clause-stages t c =
 
 pub returns-then-at-eq0-clause-rouses : goal.returns-then-at-eq0-clause-rouses
 returns-then-at-eq0-clause-rouses t c =
-    front_rouses c.args.pause c.args.at c.in-Some.first.now c.in-Some.others.now c.args.table.now c.args.cx.now c.rouse.new.cx c.in-Some.ensures.cases.0 c.if-at-eq0.true c.rouse.ensures.rests
+    front_rouses c.args.pause c.args.at c.in-Some.first.now c.in-Some.others.now c.args.table.now c.args.cx.now c.rouse.new.cx c.in-Some.ensures.cases.0 c.if-at-eq0.true (λ roused. (c.rouse.ensures.rests roused).1)
     c.rouse.ensures.only
 
 pub returns-else-at-eq0-clause-rouses : goal.returns-else-at-eq0-clause-rouses

@@ -1,9 +1,10 @@
 use Rattle.std.proofs.Common.{◌≡◌, ◌<◌, true, false, length, refl, sym, ap, subst, inl, inr, rules, ◌∙◌}
 use Rattle.ts_link.specs.Counts.{Counted}
 use Rattle.ts_vconn.specs.MoveAnswers.{EndsPull, pull_failed}
-use Rattle.ts_transform.specs.Flow.{MOST_WAITING, MustRead}
+use Rattle.ts_vconn.specs.declared.moves.TheConstants.{MOST_PULLED}
+use Rattle.ts_transform.specs.Flow.{MOST_WAITING, MustRead, client_wait, last_wait}
 use Rattle.ts_transform.specs.Carrying.{MovesOn}
-use Rattle.ts_transform.proofs.Carrying.{moves_aborted, moves_as, moves_none, moves_pull}
+use Rattle.ts_transform.proofs.Carrying.{moves_aborted, moves_as, moves_none, moves_pull, pulled_none}
 use Rattle.ts_transform.proofs.Joined.{aborted_same, joined_aborted, joined_as, joined_driven, runs_before}
 use Rattle.ts_transform.proofs.Kept.{acts_none}
 use Rattle.ts_transform.proofs.link_world.LinkWorld.read.Goals as goal
@@ -75,7 +76,20 @@ returns-in-Ok-Again-clause-moves g c =
     c.in-Ok-Again.ensures.pulled kept.0 must.0 must.1 (λ given. absurd (let wrong : false ≡ true = sym must.0 ∙ sym kept.1 ∙ given in cc)))
 
 pub returns-in-Ok-Again-clause-retries : goal.returns-in-Ok-Again-clause-retries
-returns-in-Ok-Again-clause-retries g c = λ named waited. record { roused = λ runs. c.rouse_reader.ensures.roused runs refl; only = c.rouse_reader.ensures.only named }
+returns-in-Ok-Again-clause-retries g c = λ named waited.
+    let self = c.args.self.now in
+    let same = c.rouse_reader.ensures.same in
+    let kept = c.in-Ok-Again.ensures.kept in
+    let first : c.pull.new.self.first ≡ self.driven.chain.first =
+    pulled_none g.I.Link.tells (g.I.Link.look self.input) (g.I.Link.look c.pull.new.link) self.driven.chain.first c.pull.new.self.first c.in-Ok-Again.field-0 MOST_PULLED c.in-Ok-Again.field-0-is c.in-Ok-Again.ensures.pulled in
+    let wait : client_wait c.rouse_reader.new.self.driven.chain ≡ client_wait self.driven.chain =
+    ap (λ x. client_wait x) same.chain ∙ ap (λ l. last_wait l c.pull.new.self.stages) first ∙ ap (λ ss. last_wait self.driven.chain.first ss) kept.0 in
+    record {
+      chain = λ some none. some (wait ∙ none);
+      writer = c.rouse_reader.ensures.kept;
+      roused = λ runs. c.rouse_reader.ensures.roused runs refl;
+      only = c.rouse_reader.ensures.rouses.only named;
+    }
 
 -- It failed.
 pub returns-in-Ok-Failed-clause-moves : goal.returns-in-Ok-Failed-clause-moves

@@ -1,7 +1,8 @@
 use Rattle.std.proofs.Common.{◌≡◌, false, sym, subst, ◌∙◌}
 use Rattle.ts_transform.specs.Carrying.{IsJoined}
+use Rattle.ts_transform.specs.Driving.{IsNamedIf}
 use Rattle.ts_transform.proofs.Carrying.{moves_none}
-use Rattle.ts_transform.proofs.Joined.{joined_quiet, joined_reader}
+use Rattle.ts_transform.proofs.Joined.{joined_quiet, joined_reader, named_unroused}
 use Rattle.ts_transform.proofs.Kept.{acts_none}
 use Rattle.ts_transform.proofs.link_world.LinkWorld.read_at.Goals as goal
 
@@ -26,3 +27,10 @@ returns-else-works-clause-joined g c = λ before handled was runs.
 
 pub returns-else-works-clause-within : goal.returns-else-works-clause-within
 returns-else-works-clause-within g c = acts_none 1 c.args.cx.now c.requires.turn
+
+pub returns-then-works-clause-retries : goal.returns-then-works-clause-retries
+returns-then-works-clause-retries g c = λ named waited.
+    let self = c.args.self.now in
+    let roles = c.args.cx.now.roles in
+    let h = c.read.ensures.retries (subst (IsNamedIf roles 2) (sym c.unrouse.ensures) (named_unroused roles 2 self.reader named)) waited in
+    record { chain = h.chain; writer = h.writer; roused = h.roused; only = h.only }

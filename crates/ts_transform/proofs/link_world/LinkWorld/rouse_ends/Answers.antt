@@ -1,4 +1,7 @@
-use Rattle.std.proofs.Common.{arith}
+use Rattle.std.proofs.Common.{◌≡◌, true, false, arith, sym, subst, ◌∙◌}
+use Rattle.ts_transform.specs.Flow.{MustRead, MustWrite}
+use Rattle.ts_transform.specs.Carrying.{AreEndsRoused}
+use Rattle.ts_transform.proofs.Joined.{end_rests, may_lose_then, while_runs}
 use Rattle.ts_transform.proofs.Kept.{acts_none, acts_then}
 use Rattle.ts_transform.proofs.link_world.LinkWorld.rouse_ends.Goals as goal
 
@@ -7,3 +10,31 @@ returns-then-not-self-clause-within g c = acts_none 2 c.args.cx.now c.requires.t
 
 pub returns-clause-within : goal.returns-clause-within
 returns-clause-within g c = acts_then 1 1 2 (omega arith) c.rouse_writer.ensures.within c.rouse_reader.ensures.within
+
+-- Where nobody must be roused, nothing is done.
+pub returns-then-not-self-2-clause-idle : goal.returns-then-not-self-2-clause-idle
+returns-then-not-self-2-clause-idle g c =
+    let self = c.args.self.now in
+    while_runs self.driven.running c.if-not-self.false
+    (λ ends. c.rouse_writer.ensures.rouses.rests (end_rests c.has_output-writes.result self.writer (MustWrite self.driven.chain) c.has_output-writes.ensures.0 ends.writes))
+
+pub returns-clause-idle : goal.returns-clause-idle
+returns-clause-idle g c =
+    let self = c.args.self.now in
+    let mid = c.rouse_writer.new.self in
+    while_runs self.driven.running c.if-not-self.false
+    (λ ends.
+    let first = c.rouse_writer.ensures.rouses.rests (end_rests c.has_output-writes.result self.writer (MustWrite self.driven.chain) c.has_output-writes.ensures.0 ends.writes) in
+    let ends_then : AreEndsRoused mid.driven.chain mid.writer mid.reader = subst (λ x. AreEndsRoused x.driven.chain x.writer x.reader) (sym first.0) ends in
+    let second = c.rouse_reader.ensures.rouses.rests (end_rests c.must_read-reads.result mid.reader (MustRead mid.driven.chain) c.must_read-reads.ensures.0 ends_then.reads) in
+    (second.0 ∙ first.0, second.1 ∙ first.1))
+
+pub returns-clause-course : goal.returns-clause-course
+returns-clause-course g c =
+    let one = c.rouse_writer in
+    let two = c.rouse_reader in
+    record {
+      loses = may_lose_then c.args.self.now.driven one.new.self.driven two.new.self.driven one.new.cx two.new.cx one.ensures.course.loses
+          (λ stopped. absurd (let wrong : true ≡ false = sym c.if-not-self-2.false ∙ stopped in cc)) two.ensures.course.loses;
+      started = λ none. one.ensures.course.started (two.ensures.course.started none);
+    }

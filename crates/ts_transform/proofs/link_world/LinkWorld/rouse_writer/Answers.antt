@@ -1,3 +1,5 @@
+use Rattle.std.proofs.Common.{◌≡◌, true, false, sym, ap, ◌∙◌}
+use Rattle.std.specs.Prelude.{is_ok}
 use Rattle.ts_transform.proofs.Covering.{driven_kept}
 use Rattle.ts_transform.proofs.Joined.{joined_ends}
 use Rattle.ts_transform.proofs.Kept.{kept_if}
@@ -12,8 +14,14 @@ returns-in-Ok-clause-joined g c = λ was runs.
     joined_ends self.driven.chain self.driven.table.items self.writer c.rouse_end.new.slot self.reader self.reader c.args.cx.now now keeps
     (stage.of_stage 1) (kept_if c.args.cx.now now keeps 2 self.reader) (driven_kept 3 c.args.cx.now now self.driven.chain self.driven.table.items keeps) (was runs)
 
-pub returns-in-Ok-clause-only : goal.returns-in-Ok-clause-only
-returns-in-Ok-clause-only g c = c.rouse_end.ensures.only 1
+pub returns-in-Ok-clause-rouses : goal.returns-in-Ok-clause-rouses
+returns-in-Ok-clause-rouses g c = record {
+  only = c.rouse_end.ensures.only 1;
+  rests = λ quiet. let h = c.rouse_end.ensures.rests quiet in (ap (λ x. record c.args.self.now { writer = x }) h.0, h.1);
+}
 
-pub returns-in-Err-clause-only : goal.returns-in-Err-clause-only
-returns-in-Err-clause-only g c = c.rouse_end.ensures.only 1
+pub returns-in-Err-clause-rouses : goal.returns-in-Err-clause-rouses
+returns-in-Err-clause-rouses g c = record {
+  only = c.rouse_end.ensures.only 1;
+  rests = λ quiet. absurd (let wrong : false ≡ true = ap is_ok (sym c.in-Err.is) ∙ (c.rouse_end.ensures.rests quiet).2 in cc);
+}

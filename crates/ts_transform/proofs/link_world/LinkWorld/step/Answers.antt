@@ -1,8 +1,9 @@
-use Rattle.std.proofs.Common.{◌≡◌, Some, true, false, arith, refl, sym, ap, inl, ◌∙◌}
+use Rattle.std.proofs.Common.{◌≡◌, Some, true, false, arith, refl, sym, ap, subst, inl, ◌∙◌}
 use Rattle.ts_transform.specs.declared.loss.Loss.TheVariants.{NoMemory}
+use Rattle.ts_transform.specs.Driving.{IsRousedIf}
 use Rattle.ts_transform.specs.Carrying.{IsJoinedWhile, Steps}
 use Rattle.ts_transform.proofs.Carrying.{moves_aborted, moves_as, moves_lacks, moves_none}
-use Rattle.ts_transform.proofs.Joined.{aborted_quiet, joined_aborted, joined_as}
+use Rattle.ts_transform.proofs.Joined.{again_reads, again_writes, aborted_quiet, joined_aborted, joined_as, loses_runs, named_of}
 use Rattle.ts_transform.proofs.Kept.{acts_none, acts_then}
 use Rattle.ts_transform.proofs.link_world.LinkWorld.step.Goals as goal
 
@@ -78,3 +79,45 @@ returns-else-lacks_memory-clause-carried g c = λ before handled was.
 
 pub returns-else-lacks_memory-clause-within : goal.returns-else-lacks_memory-clause-within
 returns-else-lacks_memory-clause-within g c = acts_then 4 2 6 (omega arith) c.work.ensures.within c.rouse_ends.ensures.within
+
+pub returns-then-lacks_memory-clause-again : goal.returns-then-lacks_memory-clause-again
+returns-then-lacks_memory-clause-again g c = λ before handled was.
+    let self = c.args.self.now in
+    let mid = c.work.new.self in
+    let now = c.rouse_ends.new.self in
+    let cx = c.args.cx.now in
+    let joined = was.joined c.if-not-self.false in
+    let ends = was.ends c.if-not-self.false in
+    let same = c.rouse_ends.ensures.same in
+    let links = c.abort.ensures.links in
+    let before_end : c.abort.new.self.driven.running ≡ true → mid.driven.running ≡ true =
+    λ runs. loses_runs mid.driven now.driven c.rouse_ends.new.cx c.rouse_ends.ensures.course.loses (sym c.abort.ensures.course.running ∙ runs) in
+    record {
+      reads = λ waited runs.
+          let h = c.work.ensures.reads (named_of before cx.roles 2 self.reader joined.of_reader) (λ none. waited (ap (λ x. (g.I.Link.look x).waits) (links.0 ∙ same.input) ∙ none)) in
+          let again = again_reads self mid now cx c.work.new.cx c.rouse_ends.new.cx ends h c.rouse_ends.ensures.idle (before_end runs) in
+          (subst IsRousedIf (sym c.abort.ensures.ends.1) again.0, again.1);
+      writes = λ waited runs.
+          let h = c.work.ensures.writes (named_of before cx.roles 1 self.writer joined.of_writer) (λ none. waited (ap (λ x. (g.K.Link.look x).waits) (links.1 ∙ same.output) ∙ none)) in
+          let again = again_writes self mid now cx c.work.new.cx c.rouse_ends.new.cx ends h c.rouse_ends.ensures.idle (before_end runs) in
+          (subst IsRousedIf (sym c.abort.ensures.ends.0) again.0, again.1);
+    }
+
+pub returns-else-lacks_memory-clause-again : goal.returns-else-lacks_memory-clause-again
+returns-else-lacks_memory-clause-again g c = λ before handled was.
+    let self = c.args.self.now in
+    let mid = c.work.new.self in
+    let now = c.rouse_ends.new.self in
+    let cx = c.args.cx.now in
+    let joined = was.joined c.if-not-self.false in
+    let ends = was.ends c.if-not-self.false in
+    let same = c.rouse_ends.ensures.same in
+    let before_end : now.driven.running ≡ true → mid.driven.running ≡ true = λ runs. loses_runs mid.driven now.driven c.rouse_ends.new.cx c.rouse_ends.ensures.course.loses runs in
+    record {
+      reads = λ waited runs.
+          let h = c.work.ensures.reads (named_of before cx.roles 2 self.reader joined.of_reader) (λ none. waited (ap (λ x. (g.I.Link.look x).waits) same.input ∙ none)) in
+          again_reads self mid now cx c.work.new.cx c.rouse_ends.new.cx ends h c.rouse_ends.ensures.idle (before_end runs);
+      writes = λ waited runs.
+          let h = c.work.ensures.writes (named_of before cx.roles 1 self.writer joined.of_writer) (λ none. waited (ap (λ x. (g.K.Link.look x).waits) same.output ∙ none)) in
+          again_writes self mid now cx c.work.new.cx c.rouse_ends.new.cx ends h c.rouse_ends.ensures.idle (before_end runs);
+    }

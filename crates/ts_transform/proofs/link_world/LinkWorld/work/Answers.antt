@@ -1,4 +1,4 @@
-use Rattle.std.proofs.Common.{◌≡◌, sym}
+use Rattle.std.proofs.Common.{◌≡◌, refl, sym, ap}
 use Rattle.ts_transform.proofs.Carrying.{moves_stage}
 use Rattle.ts_transform.proofs.Joined.{joined_stage, runs_before}
 use Rattle.ts_transform.proofs.link_world.LinkWorld.work.Goals as goal
@@ -17,3 +17,10 @@ returns-else-role-eq-READER-clause-joined g c = λ before handled was runs.
     joined_stage self.driven.chain acted.new.self.chain self.driven.table.items acted.new.self.table.items self.writer self.reader before c.args.cx.now acted.new.cx c.args.role c.args.event handled
     c.if-role-eq-WRITER.false c.if-role-eq-READER.false acted.ensures.others (λ h. acted.ensures.driven before handled (λ r. h) runs)
     (was (runs_before acted.result self.driven acted.new.self acted.new.cx acted.ensures.loses runs))
+
+-- An event of one end leaves the other's link alone.
+pub returns-then-role-eq-WRITER-clause-reads : goal.returns-then-role-eq-WRITER-clause-reads
+returns-then-role-eq-WRITER-clause-reads g c = λ named waited. absurd (waited (ap (λ x. (g.I.Link.look x).waits) c.write_at.ensures.input))
+
+pub returns-then-role-eq-READER-clause-writes : goal.returns-then-role-eq-READER-clause-writes
+returns-then-role-eq-READER-clause-writes g c = λ named waited. absurd (waited (ap (λ x. (g.K.Link.look x).waits) c.read_at.ensures.output))

@@ -1,4 +1,5 @@
 use Rattle.std.proofs.Common.{◌≡◌, true, refl, sym, ap, subst, inl, inr, ◌∙◌}
+use Rattle.ts_transform.specs.Flow.{MustRead}
 use Rattle.ts_transform.specs.Carrying.{MovesOn}
 use Rattle.ts_transform.proofs.Carrying.{moves_aborted, moves_as, moves_none, moves_taken, moves_wait}
 use Rattle.ts_transform.proofs.Joined.{joined_aborted, joined_as}
@@ -33,7 +34,14 @@ returns-in-Again-clause-moves g c =
     (λ tells. (c.in-Again.ensures.writes.told tells).taken))
 
 pub returns-in-Again-clause-retries : goal.returns-in-Again-clause-retries
-returns-in-Again-clause-retries g c = λ named waited. record { roused = λ runs. c.rouse_writer.ensures.roused runs refl; only = c.rouse_writer.ensures.only named }
+returns-in-Again-clause-retries g c = λ named waited.
+    let same = c.rouse_writer.ensures.same in
+    record {
+      chain = λ must. subst MustRead same.chain must;
+      reader = c.rouse_writer.ensures.kept;
+      roused = λ runs. c.rouse_writer.ensures.roused runs refl;
+      only = c.rouse_writer.ensures.rouses.only named;
+    }
 
 -- It failed.
 pub returns-in-Failed-clause-moves : goal.returns-in-Failed-clause-moves

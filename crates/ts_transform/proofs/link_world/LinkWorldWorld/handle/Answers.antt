@@ -6,3 +6,8 @@ pub returns-clause-sound : goal.returns-clause-sound
 returns-clause-sound g c =
     let called = c.requires.called in
     (refl, c.step.ensures.carried called.before.pending (handled_by _ c.args.cx.now c.args.role c.args.event called) called.sound)
+
+pub returns-clause-again : goal.returns-clause-again
+returns-clause-again g c =
+    let called = c.requires.called in
+    c.step.ensures.again called.before.pending (handled_by _ c.args.cx.now c.args.role c.args.event called) called.sound
