@@ -427,7 +427,11 @@ fn an_error_is_passed_on_and_the_body_still_comes(rt: HostRuntime) -> Result<(),
         for (key, times) in ended.keys.iter().zip(told) {
             let events = handled(rt.alloc(), ended.group.journal(), *key)?;
             let errors = errors_of(rt.alloc(), &events)?;
-            assert_eq!(rt; errors.len(), times, "{turns}, {event:?}, {places:?}, {key:?}");
+            assert_eq!(rt;
+                errors.len(),
+                times,
+                "{turns}, {event:?}, {places:?}, {key:?}"
+            );
         }
     }
     Ok(())
@@ -453,38 +457,46 @@ fn a_world_that_is_aborted_gives_nothing_more(rt: HostRuntime) -> Result<(), Fai
     Ok(())
 }
 
+// How many bytes wait at each boundary of a chain.
+fn widths(alloc: Global, chain: &Chain<Tail>) -> Result<Vec<usize>, NoMemory> {
+    let mut widths = Vec::new(alloc);
+    for boundary in 0..chain.stages() {
+        widths.push(chain.waiting(boundary))?;
+    }
+    widths.push(chain.waiting(chain.stages()))?;
+    Ok(widths)
+}
+
+// What the stages at these places answer to a pump, one after the other, and whether each must be pumped before it.
+fn pump_stages(
+    alloc: Global,
+    chain: &mut Chain<Tail>,
+    stages: &[usize],
+) -> Result<Vec<(bool, Pumped)>, NoMemory> {
+    let mut pumped = Vec::new(alloc);
+    for stage in stages {
+        if *stage < chain.stages() {
+            let must = chain.must_pump(*stage);
+            pumped.push((must, chain.pump(*stage)?))?;
+        }
+    }
+    Ok(pumped)
+}
+
 #[test]
 fn a_chain_that_is_aborted_gives_nothing_more(rt: HostRuntime) -> Result<(), Fail> {
     let parts = tails(rt.alloc(), &[(b"1", 0), (b"2", 20)])?;
     let body = Octets::of_vec(counting(rt.alloc(), 200_000)?);
     let mut chain = Chain::over(rt.alloc(), parts, body)?;
-    for stage in [0, 0, 1] {
-        assert!(rt; stage < chain.stages());
-        assert!(rt; chain.must_pump(stage));
-        assert_eq!(rt; chain.pump(stage)?, Pumped::Moved(32_768));
-    }
-    assert_eq!(rt; chain.stages(), 2);
-    for (boundary, bytes) in [(0, 134_464), (1, 32_768), (2, 32_768)] {
-        assert!(rt; boundary <= chain.stages());
-        assert_eq!(rt; chain.waiting(boundary), bytes);
-    }
-    assert!(rt; !chain.has_ended(1));
-    assert!(rt; !chain.is_last_full());
-    assert_eq!(rt; chain.pause(1), 20);
+    let moved = pump_stages(rt.alloc(), &mut chain, &[0, 0, 1])?;
+    assert!(rt; moved.as_slice() == [(true, Pumped::Moved(32_768)); 3].as_slice());
+    assert!(rt; widths(rt.alloc(), &chain)?.as_slice() == [134_464, 32_768, 32_768].as_slice());
+    assert!(rt; !chain.has_ended(1) && !chain.is_last_full() && chain.pause(1) == 20);
     chain.abort();
-    assert_eq!(rt; chain.stages(), 2);
-    for boundary in [0, 1, 2] {
-        assert!(rt; boundary <= chain.stages());
-        assert_eq!(rt; chain.waiting(boundary), 0);
-    }
-    for stage in [0, 1] {
-        assert!(rt; stage < chain.stages());
-        assert!(rt; chain.has_ended(stage));
-        assert!(rt; !chain.must_pump(stage));
-        assert_eq!(rt; chain.pause(stage), 0);
-        assert_eq!(rt; chain.pump(stage)?, Pumped::Idle);
-    }
-    assert!(rt; chain.is_finished());
-    assert_eq!(rt; chain.out_block(), None);
+    assert!(rt; widths(rt.alloc(), &chain)?.as_slice() == [0, 0, 0].as_slice());
+    let idle = pump_stages(rt.alloc(), &mut chain, &[0, 1])?;
+    assert!(rt; idle.as_slice() == [(false, Pumped::Idle); 2].as_slice());
+    assert!(rt; chain.has_ended(0) && chain.has_ended(1) && chain.pause(1) == 0);
+    assert!(rt; chain.is_finished() && chain.out_block().is_none());
     Ok(())
 }
