@@ -3,10 +3,11 @@ ghost use Rattle.std.specs.Prelude.{◌≡◌, false, IfOk};
 ghost use Rattle.ts_transform.specs.Carrying.{IsCarriedGroup};
 
 use crate::tests::Tail;
-use crate::{Chain, LinkWorld, drive_links};
+use crate::{Chain, DrivenChain, LinkWorld, Loss, drive_links};
 use std::alloc::Global;
 use std::test::Fail;
 use ts_group::Group;
+use ts_journal::Event;
 use ts_link::{MemLink, NoMemory, Octets};
 
 // More turns than any of the runs takes.
@@ -37,6 +38,7 @@ struct Carried {
     most: usize,
     runs: bool,
     aborted: bool,
+    lost: Option<Loss>,
 }
 
 // A list of these numbers.
@@ -150,6 +152,7 @@ fn carry(alloc: Global, plan: &Plan) -> Result<Carried, Fail> {
     let (world, _) = group.into_parts();
     let runs = world.is_running();
     let aborted = world.is_aborted();
+    let lost = world.lost();
     let (input, output) = world.into_links();
     let mut written = Vec::new(alloc);
     written.extend_from_slice(output.written())?;
@@ -159,6 +162,7 @@ fn carry(alloc: Global, plan: &Plan) -> Result<Carried, Fail> {
         most,
         runs,
         aborted,
+        lost,
     })
 }
 
@@ -258,7 +262,28 @@ fn a_fault_of_a_link_aborts_the_chain(rt: HostRuntime) -> Result<(), Fail> {
     for (plan, most) in &cases {
         let carried = carry(rt.alloc(), plan)?;
         assert!(rt; carried.written.len() <= *most);
-        assert!(rt; carried.runs && carried.aborted);
+        assert!(rt; carried.runs && carried.aborted && carried.lost.is_none());
     }
+    Ok(())
+}
+
+#[test]
+fn a_driven_chain_is_fed_and_drained_by_hand(rt: HostRuntime) -> Result<(), Fail> {
+    let plan = sure_plan(&[b"1"], b"", 0, 1);
+    let chain = Chain::make(rt.alloc(), tails_of(rt.alloc(), &plan)?)?;
+    let mut driven = DrivenChain::make(rt.alloc(), chain);
+    let mut group = begin(rt.alloc(), &plan)?;
+    group.begin_turn(2, 0, 5)?;
+    assert!(rt; driven.is_fresh() && !driven.is_running());
+    driven.start(10, group.cx());
+    assert!(rt; driven.is_running() && driven.lost().is_none());
+    assert!(rt; !driven.chain().is_given());
+    driven.give(b"abc", group.cx())?;
+    driven.handle(10, 10, Event::Immediate, group.cx())?;
+    assert_eq!(rt; driven.chain().out_block(), Some(b"abc".as_slice()));
+    driven.take(3, group.cx())?;
+    driven.give_end(group.cx())?;
+    driven.handle(10, 10, Event::WriteReady, group.cx())?;
+    assert_eq!(rt; driven.chain().out_block(), Some(b"1".as_slice()));
     Ok(())
 }

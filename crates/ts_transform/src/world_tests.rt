@@ -174,15 +174,20 @@ fn abort(group: &mut Group<ChainWorld<Tail>>)
     group.world_mut().abort();
 }
 
-// Makes a turn in which the stage of a key is called with an error.
-fn tell_error(group: &mut Group<ChainWorld<Tail>>, key: ContKey, moment: u64) -> Result<(), Fail>
+// Makes a turn in which the stage of a key is called with an event.
+fn tell(
+    group: &mut Group<ChainWorld<Tail>>,
+    key: ContKey,
+    event: Event,
+    moment: u64,
+) -> Result<(), Fail>
     requires idle { group.old.cx.log.state.held ≡ false }
     requires sound { IsSoundGroup group.old }
     ensures idle { OnOk result (group.new.cx.log.state.held ≡ false) }
     ensures sound { OnOk result (IsSoundGroup group.new) }
 {
     begin_turn(group, moment)?;
-    group.cx().call(key, Event::Error)?;
+    group.cx().call(key, event)?;
     group.give_turn();
     Ok(())
 }
@@ -301,12 +306,13 @@ fn run_whole(alloc: Global, parts: Vec<Tail>, body: &[u8], most: usize) -> Resul
     })
 }
 
-// The same, but after so many turns the stages at these places are called with an error, one after the other.
-fn run_with_errors(
+// The same, but after so many turns the stages at these places are called with an event, one after the other.
+fn run_with_events(
     alloc: Global,
     parts: Vec<Tail>,
     body: &[u8],
     turns: u32,
+    event: Event,
     places: &[usize],
 ) -> Result<Ended, Fail> {
     let mut group = begin(alloc, parts, body)?;
@@ -320,7 +326,7 @@ fn run_with_errors(
         let Some(key) = keys.get(*place) else {
             return Err("there is such a stage")?;
         };
-        tell_error(&mut group, *key, client.moment)?;
+        tell(&mut group, *key, event, client.moment)?;
     }
     if !run(&mut group, &mut client, TURNS)? {
         return Err("it ends")?;
@@ -400,24 +406,32 @@ fn a_world_gives_its_body_with_the_tails(rt: HostRuntime) -> Result<(), Fail> {
 fn an_error_is_passed_on_and_the_body_still_comes(rt: HostRuntime) -> Result<(), Fail> {
     let body = counting(rt.alloc(), 100_000)?;
     let parts: [(&[u8], u64); 3] = [(b"1", 0), (b"2", 0), (b"3", 0)];
-    let cases: [(u32, &[usize], [usize; 3]); 6] = [
-        (0, &[1], [1, 1, 0]),
-        (1, &[1], [1, 1, 0]),
-        (3, &[1], [1, 1, 0]),
-        (1, &[1, 2], [1, 2, 1]),
-        (1, &[2, 2], [1, 1, 2]),
-        (3, &[0, 1, 2], [2, 2, 1]),
+    let cases: [(u32, Event, &[usize], [usize; 3]); 10] = [
+        (0, Event::Error, &[1], [1, 1, 0]),
+        (1, Event::Error, &[1], [1, 1, 0]),
+        (3, Event::Error, &[1], [1, 1, 0]),
+        (1, Event::Error, &[1, 2], [1, 2, 1]),
+        (1, Event::Error, &[2, 2], [1, 1, 2]),
+        (3, Event::Error, &[0, 1, 2], [2, 2, 1]),
+        (1, Event::ReadReady, &[0, 2, 1], [0, 0, 0]),
+        (1, Event::Hook, &[0, 2, 1], [0, 0, 0]),
+        (1, Event::WriteComplete, &[0, 2, 1], [0, 0, 0]),
+        (1, Event::Eos, &[2, 0], [0, 0, 0]),
     ];
-    for (turns, places, told) in cases {
-        let ended = run_with_errors(rt.alloc(), tails(rt.alloc(), &parts)?, &body, turns, places)?;
-        assert!(rt;
-            ended.got == with_tails(rt.alloc(), &body, &parts)?,
-            "{turns}, {places:?}"
-        );
+    for (turns, event, places, told) in cases {
+        let tails = tails(rt.alloc(), &parts)?;
+        let ended = run_with_events(rt.alloc(), tails, &body, turns, event, places)?;
+        assert!(rt; ended.got == with_tails(rt.alloc(), &body, &parts)?);
+        assert!(rt; ended.group.world().is_running());
+        assert_eq!(rt; ended.group.world().lost(), None);
         for (key, times) in ended.keys.iter().zip(told) {
             let events = handled(rt.alloc(), ended.group.journal(), *key)?;
             let errors = errors_of(rt.alloc(), &events)?;
-            assert_eq!(rt; errors.len(), times, "{turns}, {places:?}, {key:?}");
+            assert_eq!(rt;
+                errors.len(),
+                times,
+                "{turns}, {event:?}, {places:?}, {key:?}"
+            );
         }
     }
     Ok(())
@@ -443,38 +457,46 @@ fn a_world_that_is_aborted_gives_nothing_more(rt: HostRuntime) -> Result<(), Fai
     Ok(())
 }
 
+// How many bytes wait at each boundary of a chain.
+fn widths(alloc: Global, chain: &Chain<Tail>) -> Result<Vec<usize>, NoMemory> {
+    let mut widths = Vec::new(alloc);
+    for boundary in 0..chain.stages() {
+        widths.push(chain.waiting(boundary))?;
+    }
+    widths.push(chain.waiting(chain.stages()))?;
+    Ok(widths)
+}
+
+// What the stages at these places answer to a pump, one after the other, and whether each must be pumped before it.
+fn pump_stages(
+    alloc: Global,
+    chain: &mut Chain<Tail>,
+    stages: &[usize],
+) -> Result<Vec<(bool, Pumped)>, NoMemory> {
+    let mut pumped = Vec::new(alloc);
+    for stage in stages {
+        if *stage < chain.stages() {
+            let must = chain.must_pump(*stage);
+            pumped.push((must, chain.pump(*stage)?))?;
+        }
+    }
+    Ok(pumped)
+}
+
 #[test]
 fn a_chain_that_is_aborted_gives_nothing_more(rt: HostRuntime) -> Result<(), Fail> {
     let parts = tails(rt.alloc(), &[(b"1", 0), (b"2", 20)])?;
     let body = Octets::of_vec(counting(rt.alloc(), 200_000)?);
     let mut chain = Chain::over(rt.alloc(), parts, body)?;
-    for stage in [0, 0, 1] {
-        assert!(rt; stage < chain.stages());
-        assert!(rt; chain.must_pump(stage));
-        assert_eq!(rt; chain.pump(stage)?, Pumped::Moved(32_768));
-    }
-    assert_eq!(rt; chain.stages(), 2);
-    for (boundary, bytes) in [(0, 134_464), (1, 32_768), (2, 32_768)] {
-        assert!(rt; boundary <= chain.stages());
-        assert_eq!(rt; chain.waiting(boundary), bytes);
-    }
-    assert!(rt; !chain.has_ended(1));
-    assert!(rt; !chain.is_last_full());
-    assert_eq!(rt; chain.pause(1), 20);
+    let moved = pump_stages(rt.alloc(), &mut chain, &[0, 0, 1])?;
+    assert!(rt; moved.as_slice() == [(true, Pumped::Moved(32_768)); 3].as_slice());
+    assert!(rt; widths(rt.alloc(), &chain)?.as_slice() == [134_464, 32_768, 32_768].as_slice());
+    assert!(rt; !chain.has_ended(1) && !chain.is_last_full() && chain.pause(1) == 20);
     chain.abort();
-    assert_eq!(rt; chain.stages(), 2);
-    for boundary in [0, 1, 2] {
-        assert!(rt; boundary <= chain.stages());
-        assert_eq!(rt; chain.waiting(boundary), 0);
-    }
-    for stage in [0, 1] {
-        assert!(rt; stage < chain.stages());
-        assert!(rt; chain.has_ended(stage));
-        assert!(rt; !chain.must_pump(stage));
-        assert_eq!(rt; chain.pause(stage), 0);
-        assert_eq!(rt; chain.pump(stage)?, Pumped::Idle);
-    }
-    assert!(rt; chain.is_finished());
-    assert_eq!(rt; chain.out_block(), None);
+    assert!(rt; widths(rt.alloc(), &chain)?.as_slice() == [0, 0, 0].as_slice());
+    let idle = pump_stages(rt.alloc(), &mut chain, &[0, 1])?;
+    assert!(rt; idle.as_slice() == [(false, Pumped::Idle); 2].as_slice());
+    assert!(rt; chain.has_ended(0) && chain.has_ended(1) && chain.pause(1) == 0);
+    assert!(rt; chain.is_finished() && chain.out_block().is_none());
     Ok(())
 }

@@ -1,7 +1,7 @@
 -- Between two turns the world is sound.
 use Rattle.std.specs.Prelude.{◌≡◌, false}
 use Rattle.ts_transform.specs.World.{IsSoundGroup}
-use Rattle.ts_transform.proofs.world_tests.run_with_errors.Given as goal
+use Rattle.ts_transform.proofs.world_tests.run_with_events.Given as goal
 
 abbrev pub invariant-places : goal.invariant-places
 invariant-places l = record {

@@ -3,7 +3,7 @@ use Rattle.std.proofs.Common.{subst, sym}
 use Rattle.ts_transform.specs.World.{IsSound}
 use Rattle.ts_transform.proofs.Kept.{set_keeps}
 use Rattle.ts_transform.proofs.Covering.{sound_kept}
-use Rattle.ts_transform.proofs.world_tests.tell_error.Goals as goal
+use Rattle.ts_transform.proofs.world_tests.tell.Goals as goal
 
 pub returns-clause-sound : goal.returns-clause-sound
 returns-clause-sound c =
