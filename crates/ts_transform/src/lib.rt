@@ -8,8 +8,6 @@ mod ends;
 mod handler;
 mod link_drive;
 mod link_ends;
-#[cfg(test)]
-mod link_tests;
 mod link_world;
 mod loss;
 mod pump;
@@ -21,8 +19,6 @@ mod tests;
 mod transform;
 mod wake;
 mod world;
-#[cfg(test)]
-mod world_tests;
 
 pub use chain::Chain;
 pub use driven::DrivenChain;
