@@ -10,7 +10,7 @@ use Rattle.ts_config.specs.Value.{Reading, Good, Bad, config_of}
 use Rattle.ts_config.specs.Bodies.{compose_lines}
 use Rattle.ts_link.specs.Seen.{ShelfSeen, SinkSeen}
 use Rattle.ts_proxy.specs.Took.{TookAll, TookFront, TookNothing}
-use Rattle.ts_proxy.specs.Outcome.{Outcome, Usage, BadLine, Missing, Long, Text, most_config, most_text, most_body, opened, understood, line_filled, filled, transformed}
+use Rattle.ts_proxy.specs.Outcome.{Outcome, Usage, BadLine, Missing, Long, Text, most_config, most_append, most_body, opened, understood, line_filled, filled, transformed}
 use Rattle.ts_link.specs.Counts.{Rose}
 use Rattle.ts_link.specs.declared.shelf.ShelfFault.{ShelfFault}
 use Rattle.ts_link.specs.declared.shelf.ShelfFault.TheVariants as fault
@@ -38,7 +38,7 @@ understood-command (Bad n k) next h = tt
 line_filled-command : (files : List ℕ → Option (List ℕ)) (l : TransformLine) (next : TransformLine → Outcome) → ((x : TransformLine) → IsCommand (next x))
     → IsCommand (line_filled files l next)
 line_filled-command files t.Null next h = h t.Null
-line_filled-command files (t.Append name text) next h = opened-command (files name) most_text name (λ bytes. next (t.Append name bytes)) (λ bytes. h (t.Append name bytes))
+line_filled-command files (t.Append name text) next h = opened-command (files name) most_append name (λ bytes. next (t.Append name bytes)) (λ bytes. h (t.Append name bytes))
 line_filled-command files t.Bnull next h = h t.Bnull
 line_filled-command files (t.Prepend text) next h = h (t.Prepend text)
 line_filled-command files (t.Map from to) next h = h (t.Map from to)

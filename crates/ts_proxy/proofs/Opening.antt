@@ -8,7 +8,7 @@ use Rattle.ts_link.specs.declared.shelf.ShelfFault.TheVariants as fault
 use Rattle.ts_proxy.specs.declared.answer.NamedFile.{NamedFile}
 use Rattle.ts_proxy.specs.declared.answer.Answer.{Answer}
 use Rattle.ts_proxy.specs.declared.answer.Answer.TheVariants as a
-use Rattle.ts_proxy.specs.Answers.{name_of, answer_of, ComesAt, IsOfWriting, OnCannotRead, IsReadBy, IsText}
+use Rattle.ts_proxy.specs.Answers.{file_name, answer_of, ComesAt, IsOfWriting, OnCannotRead, IsReadBy, IsText}
 use Rattle.ts_link.specs.Seen.{ShelfSeen, SinkSeen}
 use Rattle.ts_proxy.specs.Outcome.{Outcome, most_body, opened, set_up, transformed, Long, Text}
 use Rattle.ts_proxy.specs.declared.answer.NamedFile.TheVariants as file
@@ -29,7 +29,7 @@ opened-long (Some bytes) most seen name next over has = ap (λ b. if b then next
 
 -- a read that was refused
 pub refused-comes : (config body name : List ℕ) (most : ℕ) (o : Option (List ℕ)) (f : ShelfFault) (named : NamedFile) (next : List ℕ → Outcome)
-    → name_of config body named ≡ name → KeepsLimit most (Err f) → ReadsFile o most (Err f) → ComesAt config body (answer_of f named) (opened o most name next)
+    → file_name config body named ≡ name → KeepsLimit most (Err f) → ReadsFile o most (Err f) → ComesAt config body (answer_of f named) (opened o most name next)
 refused-comes config body name most o fault.Failed named next is limit told = tt
 refused-comes config body name most o (fault.TooLong seen) named next is limit told = opened-long o most seen name next limit told ∙ ap Long (sym is)
 refused-comes config body name most o fault.NoMemory named next is limit told = tt

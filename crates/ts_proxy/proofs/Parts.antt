@@ -4,7 +4,8 @@ use Rattle.std.proofs.lemmas.List.{drop_more}
 use Rattle.ts_link.specs.Counts.{Rose}
 use Rattle.ts_link.specs.Seen.{SinkSeen}
 use Rattle.ts_proxy.specs.Took.{TookFront}
-use Rattle.ts_proxy.specs.Lines.{joined, LineTold}
+use Rattle.std.specs.List.{concat}
+use Rattle.ts_proxy.specs.Lines.{LineTold}
 
 -- what was taken grew by all of the text but what is left
 pub record TookBut (old new : SinkSeen) (text left : List ℕ) : Type 0 where
@@ -14,8 +15,8 @@ pub record TookBut (old new : SinkSeen) (text left : List ℕ) : Type 0 where
 
 -- the part at place i stands in front of those behind it
 joined-drop : (parts : List (Bor (List ℕ))) (i : ℕ) (d : Bor (List ℕ)) → i < length parts
-    → joined (map (λ p. p.now) (drop i parts)) ≡ (get_or parts i d).now ++ joined (map (λ p. p.now) (drop (i + 1) parts))
-joined-drop parts i d below = ap (λ ps. joined (map (λ p. p.now) ps)) (drop_more parts i d below)
+    → concat (map (λ p. p.now) (drop i parts)) ≡ (get_or parts i d).now ++ concat (map (λ p. p.now) (drop (i + 1) parts))
+joined-drop parts i d below = ap (λ ps. concat (map (λ p. p.now) ps)) (drop_more parts i d below)
 
 -- a text was taken but for a part and what is behind it, and then a front of that part
 took-broken : (old mid new : SinkSeen) (text left part rest : List ℕ) → TookBut old mid text left → left ≡ part ++ rest → TookFront mid new part → TookFront old new text
@@ -31,12 +32,12 @@ took-broken old mid new text left part rest before is broken = record {
 
 -- a part was not taken whole, since a count rose
 pub told-broken : (parts : List (Bor (List ℕ))) (i : ℕ) (d : Bor (List ℕ)) (old mid new : SinkSeen)
-    → TookBut old mid (joined (map (λ p. p.now) parts)) (joined (map (λ p. p.now) (drop i parts))) → i < length parts
+    → TookBut old mid (concat (map (λ p. p.now) parts)) (concat (map (λ p. p.now) (drop i parts))) → i < length parts
     → TookFront mid new (get_or parts i d).now → (Rose old.faults new.faults ⊎ Rose old.lacks new.lacks)
-    → LineTold old new (joined (map (λ p. p.now) parts))
+    → LineTold old new (concat (map (λ p. p.now) parts))
 told-broken parts i d old mid new before below broken rose = record {
-  front = took-broken old mid new (joined (map (λ p. p.now) parts)) (joined (map (λ p. p.now) (drop i parts))) (get_or parts i d).now
-      (joined (map (λ p. p.now) (drop (i + 1) parts))) before (joined-drop parts i d below) broken;
+  front = took-broken old mid new (concat (map (λ p. p.now) parts)) (concat (map (λ p. p.now) (drop i parts))) (get_or parts i d).now
+      (concat (map (λ p. p.now) (drop (i + 1) parts))) before (joined-drop parts i d below) broken;
   whole = inr rose;
 }
 

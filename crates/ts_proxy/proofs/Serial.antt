@@ -18,7 +18,7 @@ use Rattle.ts_group.specs.declared.group.Group.{Group}
 use Rattle.ts_group.specs.Context.{Context, moment_after}
 use Rattle.ts_group.specs.Entries.{AllOwn, AreCalls, Grows, renewal}
 use Rattle.ts_group.specs.Calls.{Handles, IsRun, RunsFrom, if_pending, next_in}
-use Rattle.ts_proxy.specs.Journals.{first_moment, first_turn, only_seat, IsNext, last_moment, moment_of, HandlesFrom, HandlesFirst, IsSerial, GoesOnWithin, HandlesSome, HandlesWithin, GoesOnSerially, GoesOnTo}
+use Rattle.ts_proxy.specs.Journals.{first_moment, first_turn, only_seat, IsNextDue, last_moment, moment_of, HandlesFrom, HandlesFirst, IsSerial, GoesOnWithin, HandlesSome, HandlesWithin, GoesOnSerially, GoesOnTo}
 
 no_turns_append : (es fs : List Entry) → NoTurns es → NoTurns fs → NoTurns (es ++ fs)
 no_turns_append [] fs h k = k
@@ -67,9 +67,9 @@ pub moment_extends : {a b : Log} {es : List Entry} → Extends a b es → moment
 moment_extends {a} {b} {es} by = ap (last_moment first_moment) by.entries ∙ last_append first_moment a.entries es
 
 -- what is next stays so while a turn begins
-pub next_took : (a b : Log) (turn seat number moment : ℕ) → Extends a b (Took turn seat ∷ []) → IsNext (moment_of a) a.state number moment → IsNext (moment_of b) b.state number moment
+pub next_took : (a b : Log) (turn seat number moment : ℕ) → Extends a b (Took turn seat ∷ []) → IsNextDue (moment_of a) a.state number moment → IsNextDue (moment_of b) b.state number moment
 next_took a b turn seat number moment took next =
-    subst (λ s. IsNext (moment_of b) s number moment) (sym took.state) (subst (λ m. IsNext m a.state number moment) (sym (moment_extends took)) next)
+    subst (λ s. IsNextDue (moment_of b) s number moment) (sym took.state) (subst (λ m. IsNextDue m a.state number moment) (sym (moment_extends took)) next)
 
 -- Entries that neither begin nor end a turn, and handle nothing.
 record IsQuiet (es : List Entry) : Type 0 where
@@ -319,7 +319,7 @@ then_grows Called a b c number moment events h g =
 
 -- they go on within a turn if the number is next, and the moment moves on to theirs
 pub within_handled : {W Q R T U : Type 0} (Called : W → W → List ℕ → Type 0) (a b : Group W Q R T U) (c : Context) (number moment events : ℕ)
-    → Handles Called a b number moment events → IsNext (moment_of a.cx.log) a.cx.log.state number moment → Grows b.cx c → HandlesWithin moment a.cx.log c.log
+    → Handles Called a b number moment events → IsNextDue (moment_of a.cx.log) a.cx.log.state number moment → Grows b.cx c → HandlesWithin moment a.cx.log c.log
 within_handled Called a b c number moment events h next g =
     let m = moment_of a.cx.log in
     let all = then_grows Called a b c number moment events h g in

@@ -17,10 +17,10 @@ use Rattle.ts_proxy.specs.Outcome.{Outcome, Usage, BadLine, Long, Text, most_con
 use Rattle.ts_proxy.specs.Took.{TookAll, TookFront, TookNothing}
 
 -- the name of a file of a command with these names of its configuration and its body
-abbrev pub name_of : List ℕ → List ℕ → NamedFile → List ℕ
-name_of config body file.Config = config
-name_of config body file.Body = body
-name_of config body (file.Appended name) = name
+abbrev pub file_name : List ℕ → List ℕ → NamedFile → List ℕ
+file_name config body file.Config = config
+file_name config body file.Body = body
+file_name config body (file.Appended name) = name
 
 -- the answer of a read that was refused
 abbrev pub answer_of : ShelfFault → NamedFile → Answer
@@ -39,7 +39,7 @@ ComesAt config body a.Done o = IsText o
 ComesAt config body a.Usage o = o ≡ Usage
 ComesAt config body (a.BadLine f) o = o ≡ BadLine f.line f.kind
 ComesAt config body a.CannotWrite o = IsText o
-ComesAt config body (a.TooLong f) o = o ≡ Long (name_of config body f)
+ComesAt config body (a.TooLong f) o = o ≡ Long (file_name config body f)
 ComesAt config body _ o = ⊤
 
 -- a part of the work went on as the outcome does, or its answer comes at the outcome

@@ -14,7 +14,7 @@ use Rattle.ts_transform.specs.Cover.{IsAwake}
 use Rattle.ts_transform.specs.World.{IsSound, IsSoundGroup}
 use Rattle.ts_proxy.specs.declared.writing.Driven.{Driven}
 use Rattle.ts_proxy.specs.declared.writing.Driven.TheVariants.{Done, Failed, NoMemory}
-use Rattle.ts_proxy.specs.Journals.{IsNext, IsOfDriver, moment_of}
+use Rattle.ts_proxy.specs.Journals.{IsNextDue, IsOfDriver, moment_of}
 use Rattle.ts_proxy.specs.Took.{TookAll, TookFront}
 
 -- the sink failed
@@ -64,8 +64,8 @@ abbrev pub left_in : {P Q R T U : Type 0} → (P → List ℕ → List ℕ) → 
 left_in rest g = left_of rest g.world + length g.cx.log.state.pending
 
 -- less is left to do in the group of a world of a chain, where what waits for the client counts as one event
-abbrev pub LeavesLess : {P Q R T U : Type 0} → (P → List ℕ → List ℕ) → Group (ChainWorld P) Q R T U → Group (ChainWorld P) Q R T U → Type 0
-LeavesLess rest old new = left_in rest new < left_in rest old + (if nat_lt 0 (length (for_client new.world)) then 1 else 0)
+abbrev pub HasLessLeft : {P Q R T U : Type 0} → (P → List ℕ → List ℕ) → Group (ChainWorld P) Q R T U → Group (ChainWorld P) Q R T U → Type 0
+HasLessLeft rest old new = left_in rest new < left_in rest old + (if nat_lt 0 (length (for_client new.world)) then 1 else 0)
 
 -- while a world of a chain runs, its last stage is roused where it is full, so that it goes on once its client has taken
 -- bytes
@@ -101,7 +101,7 @@ pub record IsDue (s : State) (number moment : ℕ) : Type 0 where
 -- the event of a number is what the driver of a journal handles next, and this is the moment for it
 pub record IsDueNext (log : Log) (number moment : ℕ) : Type 0 where
   pub due : IsDue log.state number moment
-  pub next : IsNext (moment_of log) log.state number moment
+  pub next : IsNextDue (moment_of log) log.state number moment
 
 -- where all was done the journal of its driver was added, and else none
 abbrev pub AddsJournal : Driven → List Log → List Log → Type 0

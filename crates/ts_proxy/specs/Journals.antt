@@ -35,8 +35,8 @@ moment_of j = last_moment first_moment j.entries
 
 -- The event of this number is pending, and no pending event is due before it. The moment is the later one of the moment
 -- before and that at which the event is due.
-abbrev pub IsNext : ℕ → State → ℕ → ℕ → Type 0
-IsNext m s number moment = (p : Pending) × (p.number ≡ number) × (moment ≡ max m p.due) × IsFirstDue s p
+abbrev pub IsNextDue : ℕ → State → ℕ → ℕ → Type 0
+IsNextDue m s number moment = (p : Pending) × (p.number ≡ number) × (moment ≡ max m p.due) × IsFirstDue s p
 
 -- what is left of a turn handles at most so many events, each at this moment, under numbers that rise from this one on
 abbrev pub HandlesFrom : ℕ → ℕ → ℕ → List Entry → Type 0
@@ -54,7 +54,7 @@ abbrev pub HandlesFirst : ℕ → State → List Entry → Type 0
 HandlesFirst m s [] = ⊤
 HandlesFirst m s (Took turn seat ∷ es) = ⊤
 HandlesFirst m s (Gave turn ∷ es) = turn ≡ first_turn
-HandlesFirst m s (Handled number moment ∷ es) = IsNext m s number moment × HandlesFrom s.next moment (MOST_EVENTS - 1) es
+HandlesFirst m s (Handled number moment ∷ es) = IsNextDue m s number moment × HandlesFrom s.next moment (MOST_EVENTS - 1) es
 HandlesFirst m s (e ∷ es) = HandlesFirst m (after s e) es
 
 -- The turns of one driver that nobody else drives beside, from a moment of it on: each has its seat and the number after

@@ -1,20 +1,16 @@
 -- The line on the error sink for each answer.
 use Rattle.std.specs.Prelude.{◌≡◌, ℕ, ◌++◌, List, [], ◌∷◌, ◌⊎◌, Bool, true, codes, decimal}
+use Rattle.std.specs.List.{concat}
 use Rattle.ts_link.specs.Counts.{Rose}
 use Rattle.ts_link.specs.Seen.{ShelfSeen, SinkSeen}
 use Rattle.ts_proxy.specs.declared.answer.Answer.{Answer}
 use Rattle.ts_proxy.specs.declared.answer.Answer.TheVariants as a
 use Rattle.ts_config.specs.declared.setup.ConfigKind.{ConfigKind}
 use Rattle.ts_config.specs.declared.setup.ConfigKind.TheVariants as k
-use Rattle.ts_proxy.specs.Answers.{name_of, ComesAt, IsReadBy, OnCannotRead}
+use Rattle.ts_proxy.specs.Answers.{file_name, ComesAt, IsReadBy, OnCannotRead}
 use Rattle.ts_proxy.specs.Ends.{status_of}
 use Rattle.ts_proxy.specs.Outcome.{body_name, config_name, outcome_of}
 use Rattle.ts_proxy.specs.Took.{TookAll, TookFront}
-
--- these texts, one behind the other
-abbrev pub joined : List (List ℕ) → List ℕ
-joined [] = []
-joined (x ∷ xs) = x ++ joined xs
 
 -- the word for the rule that a line breaks
 abbrev pub kind_text : ConfigKind → List ℕ
@@ -34,14 +30,14 @@ parts_of config body a.Done = []
 parts_of config body a.Usage = usage_line ∷ []
 parts_of config body (a.BadLine f) =
     codes "tsx: configuration line " ∷ decimal f.line ∷ codes ": " ∷ kind_text f.kind ∷ codes "\n" ∷ []
-parts_of config body (a.CannotRead f) = codes "tsx: cannot read " ∷ name_of config body f ∷ codes "\n" ∷ []
+parts_of config body (a.CannotRead f) = codes "tsx: cannot read " ∷ file_name config body f ∷ codes "\n" ∷ []
 parts_of config body a.CannotWrite = codes "tsx: cannot write\n" ∷ []
 parts_of config body a.OutOfMemory = codes "tsx: out of memory\n" ∷ []
-parts_of config body (a.TooLong f) = codes "tsx: too long: " ∷ name_of config body f ∷ codes "\n" ∷ []
+parts_of config body (a.TooLong f) = codes "tsx: too long: " ∷ file_name config body f ∷ codes "\n" ∷ []
 
 -- the line of an answer, as one text
 abbrev pub line_of : List ℕ → List ℕ → Answer → List ℕ
-line_of config body answer = joined (parts_of config body answer)
+line_of config body answer = concat (parts_of config body answer)
 
 -- a line was told to a sink: it took a front of it, and all of it unless one of its counts rose
 pub record LineTold (old new : SinkSeen) (line : List ℕ) : Type 0 where

@@ -15,8 +15,8 @@ abbrev pub most_config : ℕ
 most_config = 1048576
 
 -- the most bytes of the file of an append line, 16 KiB
-abbrev pub most_text : ℕ
-most_text = 16384
+abbrev pub most_append : ℕ
+most_append = 16384
 
 -- the most bytes of a body, 64 MiB
 abbrev pub most_body : ℕ
@@ -43,7 +43,7 @@ understood (Bad n k) next = BadLine n k
 
 -- goes on with a line, which if it is an append has the text of its file
 abbrev pub line_filled : (List ℕ → Option (List ℕ)) → TransformLine → (TransformLine → Outcome) → Outcome
-line_filled files (t.Append name text) next = opened (files name) most_text name (λ bytes. next (t.Append name bytes))
+line_filled files (t.Append name text) next = opened (files name) most_append name (λ bytes. next (t.Append name bytes))
 line_filled files line next = next line
 
 -- goes on with lines in their order, each append with the text of its file
@@ -71,8 +71,8 @@ abbrev pub word : ℕ → List (List ℕ) → List ℕ
 word k ws = unwrap_or (slice_get ws k) []
 
 -- the bytes of the words after the program's name
-abbrev pub bytes_of : {A : Type 0} → List (String A) → List (List ℕ)
-bytes_of words = map string_bytes words
+abbrev pub word_bytes : {A : Type 0} → List (String A) → List (List ℕ)
+word_bytes words = map string_bytes words
 
 -- the name of the configuration in the words of `transform`
 abbrev pub config_name : List (List ℕ) → List ℕ

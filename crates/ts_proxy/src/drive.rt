@@ -5,7 +5,7 @@ ghost use Rattle.ts_link.specs.Counts.{Counted};
 ghost use Rattle.ts_transform.specs.World.{IsSoundGroup};
 ghost use Rattle.ts_proxy.specs.Journals.{moment_of, first_moment, HandlesWithin, GoesOnTo, IsUnused, EndsSerially};
 ghost use Rattle.ts_proxy.specs.Driven.{WroteAll, Passes, OnDone, AddsJournal, StaysSound, IsDueNext, is_failed};
-ghost use Rattle.ts_proxy.specs.Driven.{left_of, to_come, for_client, LeavesLess, IsSoundAlone, IsReadyForClient, IsBetweenTurns};
+ghost use Rattle.ts_proxy.specs.Driven.{left_of, to_come, for_client, HasLessLeft, IsSoundAlone, IsReadyForClient, IsBetweenTurns};
 
 use crate::writing::Driven;
 use std::alloc::Global;
@@ -50,7 +50,7 @@ fn handle_next<P: Transform + Drop>(
     ensures within { OnOk result (HandlesWithin moment group.old.cx.log group.new.cx.log) }
     ensures flow { to_come P.rest group.new.world ≡ to_come P.rest group.old.world }
     ensures ready { OnOk result (IsReadyForClient group.new) }
-    ensures falls { OnOk result (LeavesLess P.rest group.old group.new) }
+    ensures falls { OnOk result (HasLessLeft P.rest group.old group.new) }
 {
     match group.handle(number, moment) {
         Ok(Handling::Handled { events: _ }) => match ChainWorld::wake(group) {
@@ -75,7 +75,7 @@ fn drive_turn<P: Transform + Drop>(
     ensures serial { OnOk result (GoesOnTo moment group.old.cx.log group.new.cx.log) }
     ensures flow { to_come P.rest group.new.world ≡ to_come P.rest group.old.world }
     ensures ready { OnOk result (IsReadyForClient group.new) }
-    ensures falls { OnOk result (LeavesLess P.rest group.old group.new) }
+    ensures falls { OnOk result (HasLessLeft P.rest group.old group.new) }
 {
     let Some(turn) = group.journal().turns().checked_add(1) else {
         return Err(NoMemory);

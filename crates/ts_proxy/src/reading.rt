@@ -5,7 +5,7 @@ ghost use Rattle.ts_config.specs.Setup.{HasFileName};
 ghost use Rattle.ts_config.specs.declared.setup.TransformLine.{TransformLine};
 ghost use Rattle.ts_config.specs.declared.setup.TransformLine.TheVariants as t;
 ghost use Rattle.ts_proxy.specs.declared.answer.NamedFile.TheVariants as named;
-ghost use Rattle.ts_proxy.specs.Outcome.{Outcome, most_text, opened, line_filled, filled, set_up};
+ghost use Rattle.ts_proxy.specs.Outcome.{Outcome, most_append, opened, line_filled, filled, set_up};
 ghost use Rattle.ts_proxy.specs.Answers.{Leads, IsOfReading, IsUnfailed, OnCannotRead, IsNamedBy, ComesTo, IsReadBy};
 
 use crate::answer::{Answer, NamedFile, refused};
@@ -24,7 +24,7 @@ fn read_text<S: Shelf>(alloc: Global, shelf: &mut S, file: Octets) -> Result<Tra
     requires { IsUtf8 file }
     ensures told { S.tells ≡ true → (config body : List ℕ) (next : TransformLine → Outcome) →
         Leads config body result
-        (opened ((S.seen shelf.old).file file) most_text file (λ bytes. next (t.Append file bytes))) next }
+        (opened ((S.seen shelf.old).file file) most_append file (λ bytes. next (t.Append file bytes))) next }
     ensures named { IfErr result (λ a. OnCannotRead a (λ f. f ≡ named.Appended file)) }
     ensures files { S.tells ≡ true → (S.seen shelf.new).file ≡ (S.seen shelf.old).file }
     ensures same { OnOk result (IsUnfailed (S.seen shelf.old) (S.seen shelf.new)) }

@@ -1,7 +1,8 @@
 //! The line on the error sink that says why a command ended so; telling it takes no memory of its own.
 ghost use Rattle.std.specs.Prelude.{◌≡◌, true, map};
-ghost use Rattle.ts_proxy.specs.Lines.{joined, kind_text, line_of, LineTold};
-ghost use Rattle.ts_proxy.specs.Answers.{name_of};
+ghost use Rattle.std.specs.List.{concat};
+ghost use Rattle.ts_proxy.specs.Lines.{kind_text, line_of, LineTold};
+ghost use Rattle.ts_proxy.specs.Answers.{file_name};
 
 use crate::answer::{Answer, NamedFile};
 use crate::writing::{Driven, write_all};
@@ -51,7 +52,7 @@ fn text_of(kind: ConfigKind) -> &'static [u8]
 // Writes the parts of a line, one behind the other, until one is not taken whole.
 fn tell<E: Sink>(err: &mut E, parts: &[&[u8]])
     ensures { E.tells ≡ true →
-        LineTold (E.seen err.old) (E.seen err.new) (joined (map (λ p. p.now) parts.now)) }
+        LineTold (E.seen err.old) (E.seen err.new) (concat (map (λ p. p.now) parts.now)) }
 {
     for part in parts {
         match write_all(err, part) {
@@ -63,7 +64,7 @@ fn tell<E: Sink>(err: &mut E, parts: &[&[u8]])
 }
 
 fn name<'a>(config: &'a str, body: &'a str, file: &'a NamedFile) -> &'a [u8]
-    ensures { result.now ≡ name_of config.now body.now file.now }
+    ensures { result.now ≡ file_name config.now body.now file.now }
 {
     match file {
         NamedFile::Config => config.as_bytes(),

@@ -1,6 +1,6 @@
 //! The top call: it runs the command that the program's words name, and answers the status.
 ghost use Rattle.std.specs.Prelude.{◌≡◌, ◌∷◌, [], codes, true, false, MatchOption};
-ghost use Rattle.ts_proxy.specs.Outcome.{bytes_of, is_transform, outcome_of};
+ghost use Rattle.ts_proxy.specs.Outcome.{word_bytes, is_transform, outcome_of};
 ghost use Rattle.ts_proxy.specs.Ends.{status_of, Completes, EndsAt, HasCause, IsStatusOf, JournalsAt, IsQuiet, TakesAt};
 ghost use Rattle.ts_proxy.specs.Lines.{IsAnswerOf, SaysLine};
 ghost use Rattle.ts_proxy.specs.Answers.{IsText};
@@ -39,8 +39,8 @@ fn status(answer: &Answer) -> u8
 
 // The names of the configuration and the body, if the words are those of `transform`.
 fn names_of(words: &[String]) -> Option<(&str, &str)>
-    ensures { MatchOption result (is_transform (bytes_of words.now) ≡ false)
-        (λ p. bytes_of words.now ≡ codes "transform" ∷ p.0.now ∷ p.1.now ∷ []) }
+    ensures { MatchOption result (is_transform (word_bytes words.now) ≡ false)
+        (λ p. word_bytes words.now ≡ codes "transform" ∷ p.0.now ∷ p.1.now ∷ []) }
 {
     match words {
         [command, config, body] if command.as_str() == "transform" => Some((
@@ -64,23 +64,24 @@ pub fn run<S: Shelf, K: Sink, E: Sink>(
     err: &mut E,
 ) -> Ended
     // The status of usage comes exactly where the words are of no command.
-    ensures status { IsStatusOf (bytes_of words.now) result.status }
+    ensures status { IsStatusOf (word_bytes words.now) result.status }
 
     // Each outcome has its own status, which comes there alone and always, unless a read failed, memory lacked or, where
     // there is a text, a write failed.
     ensures ends { S.tells ≡ true →
-        EndsAt (outcome_of (S.seen shelf.old) (bytes_of words.now)) result.status }
+        EndsAt (outcome_of (S.seen shelf.old) (word_bytes words.now)) result.status }
 
     // A failure is one of the shelf or the sink that was handed in.
-    ensures cause { HasCause result.status (S.seen shelf.old) (S.seen shelf.new) (K.seen out.old) (K.seen out.new) }
+    ensures cause { HasCause result.status
+        (S.seen shelf.old) (S.seen shelf.new) (K.seen out.old) (K.seen out.new) }
 
     // Where there is a text and neither failed, the job is done, unless memory lacked.
-    ensures completes { S.tells ≡ true → IsText (outcome_of (S.seen shelf.old) (bytes_of words.now)) →
+    ensures completes { S.tells ≡ true → IsText (outcome_of (S.seen shelf.old) (word_bytes words.now)) →
         Completes result.status (S.seen shelf.old) (S.seen shelf.new) (K.seen out.old) (K.seen out.new) }
 
     // What out took: with status 0 the whole text, else a front of it, and nothing where there is no such text.
     ensures takes { S.tells ≡ true → K.tells ≡ true →
-        TakesAt (outcome_of (S.seen shelf.old) (bytes_of words.now)) result.status
+        TakesAt (outcome_of (S.seen shelf.old) (word_bytes words.now)) result.status
         (K.seen out.old) (K.seen out.new) }
     ensures quiet { K.tells ≡ true → IsQuiet result.status → TookNothing (K.seen out.old) (K.seen out.new) }
 
@@ -90,8 +91,8 @@ pub fn run<S: Shelf, K: Sink, E: Sink>(
 
     // What err took: the line of an answer that has this status, and that comes at the outcome. After a failed read it
     // names a file that the work came to.
-    ensures line { (answer : Answer) × IsAnswerOf S.tells (S.seen shelf.old) (bytes_of words.now) answer
-        × SaysLine E.tells (E.seen err.old) (E.seen err.new) (bytes_of words.now) result.status answer }
+    ensures line { (answer : Answer) × IsAnswerOf S.tells (S.seen shelf.old) (word_bytes words.now) answer
+        × SaysLine E.tells (E.seen err.old) (E.seen err.new) (word_bytes words.now) result.status answer }
 {
     let Some((config, body)) = names_of(words) else {
         say(err, &Answer::Usage, "", "");

@@ -87,7 +87,8 @@ pub fn transform<S: Shelf, K: Sink>(
         (transformed (S.seen shelf.old).file config.now body.now) }
     ensures quiet { K.tells ≡ true → OnQuiet result (TookNothing (K.seen out.old) (K.seen out.new)) }
     ensures journals { AnswerAdds result journals.old.items journals.new.items }
-    ensures cause { IsCausedBy result (S.seen shelf.old) (S.seen shelf.new) (K.seen out.old) (K.seen out.new) }
+    ensures cause { IsCausedBy result
+        (S.seen shelf.old) (S.seen shelf.new) (K.seen out.old) (K.seen out.new) }
 {
     let lines = match read_setup(alloc, shelf, config) {
         Ok(lines) => lines,

@@ -1,5 +1,5 @@
 use Rattle.std.proofs.Common.{[], ◌∷◌, ap, codes, decimal, ◌∙◌}
-use Rattle.ts_proxy.specs.Lines.{joined}
+use Rattle.std.specs.List.{concat}
 use Rattle.ts_proxy.proofs.Parts.{told-same}
 use Rattle.ts_proxy.proofs.telling.say.Goals as goal
 
@@ -13,18 +13,18 @@ pub returns-in-CannotRead : goal.returns-in-CannotRead
 returns-in-CannotRead g c = λ tells.
     rw c.in-CannotRead.is
     (told-same (g.E.Sink.seen c.args.err.now) (g.E.Sink.seen c.tell-in-CannotRead.new.err) _ _
-    (ap (λ n. joined (codes "tsx: cannot read " ∷ n ∷ codes "\n" ∷ [])) c.name.ensures) (c.tell-in-CannotRead.ensures tells))
+    (ap (λ n. concat (codes "tsx: cannot read " ∷ n ∷ codes "\n" ∷ [])) c.name.ensures) (c.tell-in-CannotRead.ensures tells))
 
 pub returns-in-TooLong : goal.returns-in-TooLong
 returns-in-TooLong g c = λ tells.
     rw c.in-TooLong.is
     (told-same (g.E.Sink.seen c.args.err.now) (g.E.Sink.seen c.tell-in-TooLong.new.err) _ _
-    (ap (λ n. joined (codes "tsx: too long: " ∷ n ∷ codes "\n" ∷ [])) c.name-in-TooLong.ensures) (c.tell-in-TooLong.ensures tells))
+    (ap (λ n. concat (codes "tsx: too long: " ∷ n ∷ codes "\n" ∷ [])) c.name-in-TooLong.ensures) (c.tell-in-TooLong.ensures tells))
 
 pub returns-in-BadLine : goal.returns-in-BadLine
 returns-in-BadLine g c = λ tells.
     rw c.in-BadLine.is
     (told-same (g.E.Sink.seen c.args.err.now) (g.E.Sink.seen c.tell-in-BadLine.new.err) _ _
-    (ap (λ n. joined (codes "tsx: configuration line " ∷ n ∷ codes ": " ∷ c.text_of.result.now ∷ codes "\n" ∷ [])) (c.as_bytes-number.ensures.value ∙ c.format.ensures.text)
-    ∙ ap (λ k. joined (codes "tsx: configuration line " ∷ decimal c.in-BadLine.fault.line ∷ codes ": " ∷ k ∷ codes "\n" ∷ [])) c.text_of.ensures)
+    (ap (λ n. concat (codes "tsx: configuration line " ∷ n ∷ codes ": " ∷ c.text_of.result.now ∷ codes "\n" ∷ [])) (c.as_bytes-number.ensures.value ∙ c.format.ensures.text)
+    ∙ ap (λ k. concat (codes "tsx: configuration line " ∷ decimal c.in-BadLine.fault.line ∷ codes ": " ∷ k ∷ codes "\n" ∷ [])) c.text_of.ensures)
     (c.tell-in-BadLine.ensures tells))

@@ -1,5 +1,5 @@
 use Rattle.std.proofs.Common.{◌≡◌, true, map, drop}
-use Rattle.ts_proxy.specs.Lines.{joined}
+use Rattle.std.specs.List.{concat}
 use Rattle.ts_proxy.proofs.Parts.{TookBut}
 use Rattle.ts_proxy.proofs.telling.tell.Given as goal
 
@@ -7,7 +7,7 @@ use Rattle.ts_proxy.proofs.telling.tell.Given as goal
 abbrev pub invariant-loop-part : goal.invariant-loop-part
 invariant-loop-part g l = record {
   took : g.E.Sink.tells ≡ true → TookBut (g.E.Sink.seen l.initial.err) (g.E.Sink.seen l.err)
-      (joined (map (λ p. p.now) l.parts)) (joined (map (λ p. p.now) (drop l.part-index l.parts)));
+      (concat (map (λ p. p.now) l.parts)) (concat (map (λ p. p.now) (drop l.part-index l.parts)));
   faults : (g.E.Sink.seen l.err).faults ≡ (g.E.Sink.seen l.initial.err).faults;
   lacks : (g.E.Sink.seen l.err).lacks ≡ (g.E.Sink.seen l.initial.err).lacks;
 }

@@ -1,13 +1,13 @@
 use Rattle.std.proofs.Common.{refl, ap, subst, if◌then◌else◌}
 use Rattle.ts_proxy.specs.declared.answer.Answer.TheVariants as answer
 use Rattle.ts_proxy.specs.Answers.{IsText}
-use Rattle.ts_proxy.specs.Outcome.{Usage, bytes_of, transformed, config_name, body_name}
+use Rattle.ts_proxy.specs.Outcome.{Usage, word_bytes, transformed, config_name, body_name}
 use Rattle.ts_proxy.proofs.Ending.{ends-transformed, takes-took, completes-comes}
 use Rattle.ts_proxy.proofs.top.run.Goals as goal
 
 pub returns-in_default-clause-line : goal.returns-in_default-clause-line
 returns-in_default-clause-line g c =
-    let words = bytes_of c.args.words.now in
+    let words = word_bytes c.args.words.now in
     let files = (g.S.Shelf.seen c.args.shelf.now).file in (
       answer.Usage,
       record {
@@ -38,7 +38,7 @@ returns-clause-line g c =
 
 pub returns-in_default-clause-completes : goal.returns-in_default-clause-completes
 returns-in_default-clause-completes g c = λ tells text read wrote.
-    let words = bytes_of c.args.words.now in
+    let words = word_bytes c.args.words.now in
     let files = (g.S.Shelf.seen c.args.shelf.now).file in
     absurd (subst IsText (ap (λ b. if b then transformed files (config_name words) (body_name words) else Usage) c.in_default.ensures) text)
 
