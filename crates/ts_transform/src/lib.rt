@@ -8,6 +8,8 @@ mod ends;
 mod handler;
 mod link_drive;
 mod link_ends;
+#[cfg(test)]
+mod link_tests;
 mod link_world;
 mod loss;
 mod pump;
@@ -19,6 +21,8 @@ mod tests;
 mod transform;
 mod wake;
 mod world;
+#[cfg(test)]
+mod world_tests;
 
 pub use chain::Chain;
 pub use driven::DrivenChain;
