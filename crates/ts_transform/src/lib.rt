@@ -26,7 +26,7 @@ mod world_tests;
 
 pub use chain::Chain;
 pub use driven::DrivenChain;
-pub use link_drive::drive_links;
+pub use link_drive::{DriveFault, drive_links};
 pub use link_world::LinkWorld;
 pub use loss::Loss;
 pub use pump::Pumped;
