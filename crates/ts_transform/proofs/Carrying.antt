@@ -2,7 +2,7 @@
 use Rattle.std.proofs.Common.{◌≡◌, ◌≢◌, ◌≤◌, ◌<◌, ◌+◌, ◌++◌, ◌⊎◌, inl, inr, ℕ, zero, suc, List, [], ◌∷◌, Bool, true, false, is_none, Option, length, take, drop, map, arith, refl, sym, ap, subst, ◌∙◌, append_assoc, append-nil, length-append, length-drop}
 use Rattle.std.specs.Bool.{OnTrue}
 use Rattle.std.proofs.lemmas.List.{take-take}
-use Rattle.ts_link.specs.Counts.{Rose}
+use Rattle.ts_link.specs.Counts.{Counted, Rose}
 use Rattle.ts_link.specs.Link.{Look}
 use Rattle.ts_group.specs.Context.{Context}
 use Rattle.ts_vconn.specs.declared.moves.TheConstants.{MOST_PULLED}
@@ -12,8 +12,8 @@ use Rattle.ts_vconn.specs.declared.moves.Pulled.TheVariants as U
 use Rattle.ts_transform.specs.declared.pump.Pumped.{Pumped}
 use Rattle.ts_transform.specs.declared.pump.Pumped.TheVariants.{Moved, Ended, Blocked, Idle}
 use Rattle.ts_transform.specs.declared.pump.Stage.{Stage}
-use Rattle.ts_transform.specs.Stage.{AnswersIf, AnswersWork, Steps, has_ended, has_work}
-use Rattle.ts_transform.specs.Flow.{AnswersAt, ChainState, EndsInOrder, IsFinished, MOST_WAITING, OnlyFirstWorks, PumpsAt, PumpsOnce, StepsAt, Takes, TakesAway, aborted, client_wait, closed, flow, fresh_stage, flow_from, last_ended}
+use Rattle.ts_transform.specs.Stage.{MOST_WAITING, AnswersIf, AnswersWork, Steps, has_ended, has_work}
+use Rattle.ts_transform.specs.Flow.{AnswersAt, ChainState, EndsInOrder, IsFinished, OnlyFirstWorks, PumpsAt, PumpsOnce, StepsAt, Takes, TakesAway, aborted, client_wait, closed, flow, fresh_stage, flow_from, last_ended}
 use Rattle.ts_transform.specs.Acting.{StillGives}
 use Rattle.ts_vconn.specs.MoveAnswers.{Came}
 use Rattle.ts_vconn.specs.Moves.{PullsOn}
@@ -44,8 +44,9 @@ made_fresh {P} ps c is = subst (λ x. OnlyFirstWorks {P = P} x × (length x.firs
     (λ j work. fresh-first false [] ps j work, omega arith, order_fresh false ps)
 
 -- nothing is moved, though the output may have made its caller wait
-pub moves_wait : {P : Type 0} (rest : P → List ℕ → List ℕ) (it ot : Bool) (i o p : Look) (c : ChainState P) (was : Bool) (lacks : Type 0) → (ot ≡ true → p.taken ≡ o.taken ++ []) → MovesOn rest it ot i i o p c c was was lacks
-moves_wait rest it ot i o p c was lacks waits = record {
+pub moves_wait : {P : Type 0} (rest : P → List ℕ → List ℕ) (it ot : Bool) (i o p : Look) (c : ChainState P) (was : Bool) (lacks : Type 0) → (ot ≡ true → p.taken ≡ o.taken ++ []) → o.faults ≤ p.faults → MovesOn rest it ot i i o p c c was was lacks
+moves_wait rest it ot i o p c was lacks waits count = record {
+  counts = (omega arith, count);
   carries = λ goes. carries_none rest it ot i o p c waits;
   aborts = λ goes stops. absurd (let wrong : false ≡ true = sym goes ∙ stops in cc);
   stays = λ stopped. stopped;
@@ -56,7 +57,7 @@ moves_wait rest it ot i o p c was lacks waits = record {
 }
 
 pub moves_none : {P : Type 0} (rest : P → List ℕ → List ℕ) (it ot : Bool) (i o : Look) (c : ChainState P) (was : Bool) (lacks : Type 0) → MovesOn rest it ot i i o o c c was was lacks
-moves_none rest it ot i o c was lacks = moves_wait rest it ot i o o c was lacks (λ tells. sym (append-nil o.taken))
+moves_none rest it ot i o c was lacks = moves_wait rest it ot i o o c was lacks (λ tells. sym (append-nil o.taken)) (omega arith)
 
 -- a read brings no more than was asked for
 came_few : (answer : Pulled) (most : ℕ) (more : List ℕ) → Came answer most more → length more ≤ most
@@ -76,10 +77,16 @@ order_any : {P : Type 0} (b : Bool) (ss : List (Stage P)) → EndsInOrder false 
 order_any b [] h = tt
 order_any b (s ∷ ss) (here, others) = (λ ended. absurd (let wrong : false ≡ true = here ended in cc), others)
 
+-- a count of faults never falls
+pub counted_grows : (b : Bool) (m n : ℕ) → Counted b m n → m ≤ n
+counted_grows true m n h = omega (arith, h)
+counted_grows false m n h = omega (arith, h)
+
 -- one read brought some bytes, or the end
 pub moves_pull : {P : Type 0} (rest : P → List ℕ → List ℕ) (it ot : Bool) (i j o : Look) (c d : ChainState P) (answer : Pulled) (was : Bool) → PullsOn it i j c.first d.first answer MOST_PULLED → d.stages ≡ c.stages
     → c.given ≡ false → length c.first < MOST_WAITING → (d.given ≡ true → it ≡ true → j.left ≡ []) → MovesOn rest it ot i j o o c d was was ⊥
 moves_pull {P} rest it ot i j o c d answer was h stages opened room ends = record {
+  counts = (counted_grows _ i.faults j.faults h.pulls.calls.faults, omega arith);
   carries = λ goes. record {
     gave = h.more;
     took = [];
@@ -115,8 +122,9 @@ moves_as rest it ot i j k o p q c d e was now then lacks input output chain stop
 
 -- a link failed, or memory lacked, and the chain was aborted
 pub moves_aborted : {P : Type 0} (rest : P → List ℕ → List ℕ) (it ot : Bool) (i j o p : Look) (c d e : ChainState P) (was : Bool) (lacks : Type 0) → lacks ⊎ Rose i.faults j.faults ⊎ Rose o.faults p.faults → e ≡ aborted d
-    → MovesOn rest it ot i j o p c e was true lacks
-moves_aborted rest it ot i j o p c d e was lacks why is = record {
+    → (i.faults ≤ j.faults) × (o.faults ≤ p.faults) → MovesOn rest it ot i j o p c e was true lacks
+moves_aborted rest it ot i j o p c d e was lacks why is counts = record {
+  counts = counts;
   carries = λ goes. absurd (let wrong : true ≡ false = goes in cc);
   aborts = λ goes stops. why;
   stays = λ stopped. refl;
@@ -142,8 +150,9 @@ takes_order up from (s ∷ ss) n from' (s' ∷ ss') (same, part, takes) (here, o
 
 -- the output took some bytes
 pub moves_taken : {P : Type 0} (rest : P → List ℕ → List ℕ) (it ot : Bool) (i o p : Look) (c d : ChainState P) (piece : List ℕ) (n : ℕ) (was : Bool) → TakesAway rest n c d → n ≤ length piece
-    → piece ≡ take (length piece) (client_wait c) → (ot ≡ true → p.taken ≡ o.taken ++ take n piece) → MovesOn rest it ot i i o p c d was was ⊥
-moves_taken rest it ot i o p c d piece n was takes within front taken = record {
+    → piece ≡ take (length piece) (client_wait c) → (ot ≡ true → p.taken ≡ o.taken ++ take n piece) → o.faults ≤ p.faults → MovesOn rest it ot i i o p c d was was ⊥
+moves_taken rest it ot i o p c d piece n was takes within front taken count = record {
+  counts = (omega arith, count);
   carries = λ goes. record {
     gave = [];
     took = take n (client_wait c);
@@ -233,6 +242,7 @@ pumped_order rest c d (inr (at, h)) ordered = subst (λ b. EndsInOrder b d.stage
 pub moves_stage : {P : Type 0} (rest : P → List ℕ → List ℕ) (it ot : Bool) (i o : Look) (c d : ChainState P) (ts us : List (Option StageContinuation)) (a b : Context) (was : Bool) → StillGives rest c d ts us a b
     → MovesOn rest it ot i i o o c d was was ⊥
 moves_stage rest it ot i o c d ts us a b was h = record {
+  counts = (omega arith, omega arith);
   carries = λ goes. record {
     gave = [];
     took = [];
@@ -258,6 +268,7 @@ moves_lacks rest it ot i j o p c d was now lacks h = record {
   stays = h.stays;
   ends = h.ends;
   still = h.still;
+  counts = h.counts;
   bounded = h.bounded;
   ordered = h.ordered;
 }
@@ -287,7 +298,7 @@ carries_then {P} rest it ot i j k o p q c d e h l = record {
 -- the same of several steps
 pub carries_one : {P : Type 0} (rest : P → List ℕ → List ℕ) (it ot : Bool) (i j o p : Look) (c d : ChainState P) (was now : Bool) (lacks : Type 0) → MovesOn rest it ot i j o p c d was now lacks
     → CarriesOn rest it ot i j o p c d was now
-carries_one rest it ot i j o p c d was now lacks h = record { carries = h.carries; stays = h.stays; ends = h.ends; still = h.still }
+carries_one rest it ot i j o p c d was now lacks h = record { carries = h.carries; stays = h.stays; ends = h.ends; still = h.still; counts = h.counts }
 
 pub carries_refl : {P : Type 0} (rest : P → List ℕ → List ℕ) (it ot : Bool) (i o : Look) (c : ChainState P) (was : Bool) → CarriesOn rest it ot i i o o c c was was
 carries_refl rest it ot i o c was = carries_one rest it ot i i o o c c was was ⊥ (moves_none rest it ot i o c was ⊥)
@@ -298,6 +309,7 @@ carries_trans {P} rest it ot i j k o p q c d e was mid now h l = record {
   carries = λ goes. carries_then rest it ot i j k o p q c d e (h.carries (before mid refl goes)) (l.carries goes);
   stays = λ stopped. l.stays (h.stays stopped);
   ends = λ goes opened given tells. by_end d.given refl goes opened given tells;
+  counts = (omega (arith, h.counts.0, l.counts.0), omega (arith, h.counts.1, l.counts.1));
   still = λ goes given. l.still goes ((h.carries (before mid refl goes)).closed given).1 ∙ h.still (before mid refl goes) given;
 }
   where

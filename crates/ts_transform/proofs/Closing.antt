@@ -117,7 +117,7 @@ pub others_kept : (first : ℕ) (ts : List (Option StageContinuation)) (a b : Co
 others_kept first ts a b keeps role u named outside s = kept_if a b keeps role u s
 
 -- a stage that has ended need not work
-ended-rests : {P : Type 0} (up : Bool) (from : List ℕ) (ss : List (Stage P)) (at : ℕ) → ended_at ss at ≡ true → MustPump up from ss at → ⊥
+pub ended-rests : {P : Type 0} (up : Bool) (from : List ℕ) (ss : List (Stage P)) (at : ℕ) → ended_at ss at ≡ true → MustPump up from ss at → ⊥
 ended-rests up from [] at ended must = must
 ended-rests up from (s ∷ ss) zero ended (work, room) = let wrong : has_work true up from ≡ true = ap (λ e. has_work e up from) (sym ended) ∙ work in let no : false ≡ true = wrong in cc
 ended-rests up from (s ∷ ss) (suc at) ended must = ended-rests (has_ended s) s.after ss at ended must

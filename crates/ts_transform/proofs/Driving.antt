@@ -15,7 +15,7 @@ use Rattle.ts_transform.specs.Driving.{IsCause, IsRoused, KeepsStages, unroused_
 use Rattle.ts_transform.specs.Cover.{IsDriven}
 use Rattle.ts_transform.specs.Acting.{ActsAt, StillGives}
 use Rattle.ts_transform.specs.Loss.{IsCauseOf, loss_of}
-use Rattle.ts_transform.specs.Driven.{Loses, MayLose}
+use Rattle.ts_transform.specs.Driven.{HasAllLive, Loses, MayLose}
 use Rattle.ts_transform.specs.World.{GoesOnWith}
 use Rattle.ts_transform.specs.declared.world.ChainWorld.{ChainWorld}
 use Rattle.ts_transform.proofs.Acting.{acts_run, nothing_more}
@@ -40,14 +40,14 @@ pub goes_on_with : {P : Type 0} (rest : P → List ℕ → List ℕ) (v w : Chai
 goes_on_with rest v w a b h = record { once = h.once; flow = h.flow [] (nothing_more v.driven.chain.given); pays = h.pays [] (nothing_more v.driven.chain.given) }
 
 -- the cause of a fault is that of the loss
-loss_cause : (fault : SetFault) (now : Context) → IsCause fault now → IsCauseOf (loss_of fault) now
-loss_cause F.NoMemory now cause = tt
-loss_cause F.Dead now cause = tt
-loss_cause F.Spent now cause = cause
+pub loss_cause : (Live : Type 0) (fault : SetFault) (now : Context) → IsCause Live fault now → IsCauseOf Live (loss_of fault) now
+loss_cause Live F.NoMemory now cause = tt
+loss_cause Live F.Dead now cause = cause
+loss_cause Live F.Spent now cause = cause
 
-pub may_lose : {P T : Type 0} (r : Result T SetFault) (d e : DrivenChain P) (now : Context) → Loses r d e now → MayLose d e now
+pub may_lose : {P T : Type 0} (r : Result T SetFault) (d e : DrivenChain P) (now : Context) → Loses r d e now → MayLose (HasAllLive e now) d e now
 may_lose (Ok x) d e now loses = inl loses
-may_lose (Err fault) d e now (lost, why, cause) = inr (loss_of fault, lost, why, loss_cause fault now cause)
+may_lose (Err fault) d e now (lost, why, cause) = inr (loss_of fault, lost, why, loss_cause (HasAllLive e now) fault now cause)
 
 -- whether a stage behind the first must work does not depend on what comes to the first
 must-behind : {P : Type 0} (up up' : Bool) (from from' : List ℕ) (ss : List (Stage P)) (j : ℕ) → MustPump up from ss (suc j) → MustPump up' from' ss (suc j)

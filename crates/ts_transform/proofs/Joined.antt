@@ -3,7 +3,9 @@ use Rattle.std.proofs.Common.{◌≡◌, ◌≢◌, ◌≤◌, ◌<◌, ◌+◌,
 use Rattle.ts_journal.specs.declared.entry.Event.{Event}
 use Rattle.ts_journal.specs.declared.entry.Pending.{Pending}
 use Rattle.ts_group.specs.declared.action.Named.{Named}
+use Rattle.std.specs.Prelude.{⊤}
 use Rattle.ts_group.specs.declared.action.SetFault.{SetFault}
+use Rattle.ts_group.specs.declared.action.MakeFault.{MakeFault}
 use Rattle.ts_group.specs.Context.{AllPlain, Context, role_at}
 use Rattle.ts_group.specs.Entries.{Grows}
 use Rattle.ts_group.specs.Changes.{SameEvents}
@@ -13,14 +15,17 @@ use Rattle.ts_transform.specs.declared.loss.Loss.{Loss}
 use Rattle.ts_transform.specs.declared.pump.Stage.{Stage}
 use Rattle.ts_transform.specs.Stage.{has_ended}
 use Rattle.ts_transform.specs.Flow.{ChainState, EndsInOrder, IsFinished, MustPump, aborted, client_wait, closed, last_ended, last_wait}
-use Rattle.ts_transform.specs.Driving.{ActsWithin, HasEvent, IsHandled, IsNamedIf, IsOfStageIf, IsRousedIf, IsRousingOf, SetsOnly, Keeps, KeepsOthers, KeepsStage, unroused, works_at}
+use Rattle.ts_transform.specs.Driving.{ActsWithin, HasEvent, IsCause, IsHandled, IsNamedIf, IsOfStageIf, IsRousedIf, IsRousingOf, SetsOnly, Keeps, KeepsOthers, KeepsStage, unroused, works_at}
 use Rattle.ts_transform.specs.Cover.{IsDriven}
-use Rattle.ts_transform.specs.Driven.{Loses, MayLose}
-use Rattle.ts_transform.specs.Loss.{IsCauseOf}
-use Rattle.ts_transform.specs.Carrying.{AreEndsRoused, IsJoined, RetriesRead, RetriesWrite}
+use Rattle.ts_transform.specs.declared.loss.Loss.TheVariants.{NoMemory, TableFull, Dead, Spent}
+use Rattle.ts_transform.specs.Driven.{HasBegun, Loses, MayLose}
+use Rattle.ts_transform.specs.Loss.{IsCauseOf, loss_of, making_loss}
+use Rattle.ts_transform.specs.Carrying.{AreEndsRoused, AreLinked, IsJoined, MayBreak, RetriesRead, RetriesWrite}
 use Rattle.ts_transform.specs.declared.link_world.LinkWorld.{LinkWorld}
 use Rattle.ts_transform.specs.declared.link_world.TheConstants.{RETRY}
 use Rattle.ts_transform.proofs.Handled.{begun_other, begun_quiet, quiet_if, stays_if, unroused_if}
+use Rattle.ts_transform.proofs.Driving.{loss_cause}
+use Rattle.ts_transform.proofs.Living.{making_cause}
 use Rattle.ts_transform.proofs.Kept.{kept_if}
 use Rattle.ts_transform.proofs.Setting.{of_stages_named}
 use Rattle.ts_transform.proofs.Taking.{aborted_driven, ended-rests, full-else, none-roused, some-long}
@@ -92,7 +97,7 @@ joined_as c d ts us w x r s pending roles chain table writer reader h =
     (subst (λ y. IsJoined c ts y s pending roles) (sym writer) (subst (λ y. IsJoined c ts w y pending roles) (sym reader) h)))
 
 -- whether it runs falls only
-pub loses_runs : {P : Type 0} (d e : DrivenChain P) (now : Context) → MayLose d e now → e.running ≡ true → d.running ≡ true
+pub loses_runs : {P Live : Type 0} (d e : DrivenChain P) (now : Context) → MayLose Live d e now → e.running ≡ true → d.running ≡ true
 loses_runs d e now (inl (same, lost)) runs = sym same ∙ runs
 loses_runs d e now (inr (loss, stopped, lost, why)) runs = absurd (let wrong : false ≡ true = sym stopped ∙ runs in cc)
 
@@ -100,14 +105,48 @@ pub runs_before : {P T : Type 0} (result : Result T SetFault) (d e : DrivenChain
 runs_before (Ok x) d e now loses runs = sym loses.0 ∙ runs
 runs_before (Err fault) d e now loses runs = absurd (let wrong : false ≡ true = sym loses.0 ∙ runs in cc)
 
--- what is lost after something else was lost: nothing
-pub may_lose_then : {P : Type 0} (d e f : DrivenChain P) (m now : Context) → MayLose d e m → (e.running ≡ false → (f ≡ e) × (now ≡ m)) → MayLose e f now → MayLose d f now
-may_lose_then d e f m now (inl (runs, lost)) idle (inl (goes, kept)) = inl (goes ∙ runs, kept ∙ lost)
-may_lose_then d e f m now (inl (runs, lost)) idle (inr stops) = inr stops
-may_lose_then d e f m now (inr stops) idle then =
+-- what began runs on after its ends were roused, or is lost for a cause
+pub begun_then : {I K P : Type 0} (v w : LinkWorld I K P) (m now : Context) → HasBegun (AreLinked v m) v.driven m → (v.driven.running ≡ false → (w ≡ v) × (now ≡ m)) → MayBreak v w now
+    → HasBegun (AreLinked w now) w.driven now
+begun_then v w m now (inl (runs, none)) idle (inl (goes, kept)) = inl (goes ∙ runs, kept ∙ none)
+begun_then v w m now (inl begun) idle (inr lost) = inr lost
+begun_then {I} {K} {P} v w m now (inr stops) idle then =
     let same = idle stops.1 in
-    inr (subst (λ x. (loss : Loss) × (x.running ≡ false) × (x.lost ≡ Some loss) × IsCauseOf loss now) (sym same.0)
-    (subst (λ x. (loss : Loss) × (e.running ≡ false) × (e.lost ≡ Some loss) × IsCauseOf loss x) (sym same.1) stops))
+    let begun : HasBegun (AreLinked v m) v.driven m = inr stops in
+    subst (λ x. HasBegun (AreLinked x now) x.driven now) (sym same.0) (subst (λ x. HasBegun (AreLinked v x) v.driven x) (sym same.1) begun)
+
+-- what is lost after something else was lost: nothing
+pub may_break_then : {I K P : Type 0} (u v w : LinkWorld I K P) (m now : Context) → MayBreak u v m → (v.driven.running ≡ false → (w ≡ v) × (now ≡ m)) → MayBreak v w now → MayBreak u w now
+may_break_then u v w m now (inl (runs, lost)) idle (inl (goes, kept)) = inl (goes ∙ runs, kept ∙ lost)
+may_break_then u v w m now (inl (runs, lost)) idle (inr stops) = inr stops
+may_break_then u v w m now (inr stops) idle then =
+    let same = idle stops.1 in
+    let broke : MayBreak u v m = inr stops in
+    subst (λ x. MayBreak u x now) (sym same.0) (subst (λ x. MayBreak u v x) (sym same.1) broke)
+
+-- the cause is one of the stages, or of an end, or it is want of memory
+cause_linked : {Live Other : Type 0} (loss : Loss) (now : Context) → (Other → Live) → IsCauseOf Live loss now → IsCauseOf Other loss now
+cause_linked NoMemory now has cause = tt
+cause_linked TableFull now has cause = cause
+cause_linked Dead now has cause = λ other. cause (has other)
+cause_linked Spent now has cause = cause
+
+pub lose_weaker : {P Live Other : Type 0} (d e : DrivenChain P) (now : Context) → (Other → Live) → MayLose Live d e now → MayLose Other d e now
+lose_weaker d e now has (inl same) = inl same
+lose_weaker d e now has (inr (loss, stopped, lost, cause)) = inr (loss, stopped, lost, cause_linked loss now has cause)
+
+pub begun_weaker : {P Live Other : Type 0} (d : DrivenChain P) (now : Context) → (Other → Live) → HasBegun Live d now → HasBegun Other d now
+begun_weaker d now has (inl same) = inl same
+begun_weaker d now has (inr (loss, stopped, lost, cause)) = inr (loss, stopped, lost, cause_linked loss now has cause)
+
+-- where memory lacked, that is the cause
+pub lose_lacks : {P Live Other : Type 0} (d e f : DrivenChain P) (now : Context) → e.lost ≡ Some NoMemory → f.running ≡ e.running → f.lost ≡ e.lost → MayLose Live d e now → MayLose Other d f now
+lose_lacks d e f now lacks runs lost (inl (same, kept)) = inl (runs ∙ same, lost ∙ kept)
+lose_lacks d e f now lacks runs lost (inr (loss, stopped, why, cause)) = inr (NoMemory, runs ∙ stopped, lost ∙ lacks, tt)
+
+-- a fault of an end is its cause
+pub end_loses : {P Live : Type 0} (d e : DrivenChain P) (fault : SetFault) (now : Context) → e.running ≡ false → e.lost ≡ Some (loss_of fault) → IsCause Live fault now → MayLose Live d e now
+end_loses {Live = Live} d e fault now stopped lost cause = inr (loss_of fault, stopped, lost, loss_cause Live fault now cause)
 
 -- nobody is roused where nothing is pending
 none_of : (roles : List Named) (role : ℕ) (t : Option StageContinuation) → IsOfStageIf [] roles role t → IsRousedIf t → ⊥
@@ -207,3 +246,13 @@ again_writes v m n a b c ends h idle runs =
 pub while_runs : {A E : Type 0} (b : Bool) → b ≡ true → (E → A) → (b ≡ false) ⊎ E → A
 while_runs b runs then (inl stopped) = absurd (let wrong : true ≡ false = sym runs ∙ stopped in cc)
 while_runs b runs then (inr e) = then e
+
+-- a continuation is there where it was before, whether it is roused or not
+pub none_same : (t u : Option StageContinuation) → unroused u ≡ unroused t → u ≡ None → t ≡ None
+none_same None u same is = refl
+none_same (Some t) None same is = absurd (let wrong : None ≡ Some (record t { roused = false }) = same in cc)
+none_same (Some t) (Some u) same is = absurd (let wrong : Some u ≡ None = is in cc)
+
+-- it is lost where a continuation could not be made
+pub begun_made : {P Live : Type 0} (d : DrivenChain P) (fault : MakeFault) (loss : Loss) (now : Context) → d.running ≡ false → d.lost ≡ Some loss → loss ≡ making_loss fault → IsCauseOf ⊤ (making_loss fault) now → HasBegun Live d now
+begun_made {Live = Live} d fault loss now stopped lost is cause = inr (loss, stopped, lost, subst (λ l. IsCauseOf Live l now) (sym is) (making_cause Live fault now cause))

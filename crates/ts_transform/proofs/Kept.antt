@@ -4,6 +4,7 @@ use Rattle.std.specs.Prelude.{⊤}
 use Rattle.ts_journal.specs.declared.entry.ContKey.{ContKey}
 use Rattle.ts_journal.specs.declared.entry.Event.{Event}
 use Rattle.ts_journal.specs.declared.entry.Event.TheVariants.{Immediate, Timeout}
+use Rattle.ts_journal.specs.State.{IsLive}
 use Rattle.ts_group.specs.declared.action.Action.{Action}
 use Rattle.ts_group.specs.declared.action.SetFault.{SetFault}
 use Rattle.ts_group.specs.declared.action.SetFault.TheVariants as F
@@ -33,10 +34,11 @@ pub set_keeps : (a b : Context) (r : Result Action SetFault) (key : ContKey) (ev
 set_keeps a b r key event due h roles = record { pending = h.more.stays; roles = roles; plain = h.plain refl; turn = h.turn }
 
 -- so the call leaves what one leaves that sets an event
-pub set_cause : (a b : Context) (r : Result Action SetFault) (key : ContKey) (event : Event) (due : ℕ) → Sets a.log b.log r key event due 0 → IfErr r (λ fault. IsCause fault b)
+pub set_cause : (a b : Context) (r : Result Action SetFault) (key : ContKey) (event : Event) (due : ℕ) → Sets a.log b.log r key event due 0
+    → IfErr r (λ fault. IsCause (IsLive b.log.state.live key) fault b)
 set_cause a b (Ok action) key event due h = tt
 set_cause a b (Err F.NoMemory) key event due h = tt
-set_cause a b (Err F.Dead) key event due h = tt
+set_cause a b (Err F.Dead) key event due h = λ live. h.dead refl (subst (λ l. IsLive l key) h.keys live)
 set_cause a b (Err F.Spent) key event due h = let same : b.log.state.next ≡ a.log.state.next = ap (λ s. s.next) h.err.state in omega (arith, same, h.spent refl)
 
 pub set_few : (a b : Context) (r : Result Action SetFault) (key : ContKey) (event : Event) (due : ℕ) → Sets a.log b.log r key event due 0 → SetsFew 1 a b
@@ -54,40 +56,53 @@ works_soon false = refl
 pub few_refl : (a : Context) (n : ℕ) → SetsFew n a a
 few_refl a n = record { next = omega arith; pending = omega arith }
 
-pub set_adds : (a b : Context) (r : Result Action SetFault) (key : ContKey) (event : Event) (due : ℕ) → Grows a b → Sets a.log b.log r key event due 0 → b.roles ≡ a.roles → AddsEvents 1 r a b
+pub set_adds : (a b : Context) (r : Result Action SetFault) (key : ContKey) (event : Event) (due : ℕ) → Grows a b → Sets a.log b.log r key event due 0 → b.roles ≡ a.roles → AddsEvents 1 (IsLive b.log.state.live key) r a b
 set_adds a b r key event due grows h roles =
     record { grows = grows; keeps = set_keeps a b r key event due h roles; few = set_few a b r key event due h; cause = set_cause a b r key event due h }
 
 -- nothing was set
-pub adds_none : (a : Context) (n : ℕ) → a.log.state.held ≡ true → AddsEvents {T = ⊤} n (Ok tt) a a
+pub adds_none : {Live : Type 0} (a : Context) (n : ℕ) → a.log.state.held ≡ true → AddsEvents {T = ⊤} n Live (Ok tt) a a
 adds_none a n turn = record { grows = grows_refl a; keeps = keeps_refl a turn; few = few_refl a n; cause = tt }
 
 -- or nothing could be
-pub adds_dead : (a : Context) (n : ℕ) → a.log.state.held ≡ true → AddsEvents {T = ⊤} n (Err F.Dead) a a
-adds_dead a n turn = record { grows = grows_refl a; keeps = keeps_refl a turn; few = few_refl a n; cause = tt }
+pub adds_dead : {Live : Type 0} (a : Context) (n : ℕ) → a.log.state.held ≡ true → (Live → ⊥) → AddsEvents {T = ⊤} n Live (Err F.Dead) a a
+adds_dead a n turn dead = record { grows = grows_refl a; keeps = keeps_refl a turn; few = few_refl a n; cause = dead }
 
-pub adds_lacks : (a : Context) (n : ℕ) → a.log.state.held ≡ true → AddsEvents {T = ⊤} n (Err F.NoMemory) a a
+pub adds_lacks : {Live : Type 0} (a : Context) (n : ℕ) → a.log.state.held ≡ true → AddsEvents {T = ⊤} n Live (Err F.NoMemory) a a
 adds_lacks a n turn = record { grows = grows_refl a; keeps = keeps_refl a turn; few = few_refl a n; cause = tt }
 
 -- at most so many events were set, so at most more
 few_more : {a b : Context} (m n : ℕ) → m ≤ n → SetsFew m a b → SetsFew n a b
 few_more m n more h = record { next = omega (arith, more, h.next); pending = omega (arith, more, h.pending) }
 
-pub adds_more : {T : Type 0} {a b : Context} (m n : ℕ) (r : Result T SetFault) → m ≤ n → AddsEvents m r a b → AddsEvents n r a b
+pub adds_more : {T Live : Type 0} {a b : Context} (m n : ℕ) (r : Result T SetFault) → m ≤ n → AddsEvents m Live r a b → AddsEvents n Live r a b
 adds_more m n r more h = record { grows = h.grows; keeps = h.keeps; few = few_more m n more h.few; cause = h.cause }
 
+-- where more continuations ought to be live, those ought to be
+pub cause_weaker : {Live Other : Type 0} (fault : SetFault) (now : Context) → (Other → Live) → IsCause Live fault now → IsCause Other fault now
+cause_weaker F.NoMemory now has cause = tt
+cause_weaker F.Dead now has cause = λ other. cause (has other)
+cause_weaker F.Spent now has cause = cause
+
+pub err_weaker : {T Live Other : Type 0} (r : Result T SetFault) (now : Context) → (Other → Live) → IfErr r (λ fault. IsCause Live fault now) → IfErr r (λ fault. IsCause Other fault now)
+err_weaker (Ok x) now has cause = tt
+err_weaker (Err fault) now has cause = cause_weaker fault now has cause
+
+pub adds_weaker : {T Live Other : Type 0} {a b : Context} (m : ℕ) (r : Result T SetFault) → (Other → Live) → AddsEvents m Live r a b → AddsEvents m Other r a b
+adds_weaker {b = b} m r has h = record { grows = h.grows; keeps = h.keeps; few = h.few; cause = err_weaker r b has h.cause }
+
 -- the value of a call that set its event counts for nothing
-pub adds_ok : {T U : Type 0} {a b : Context} (m : ℕ) (x : T) (y : U) → AddsEvents {T = T} m (Ok x) a b → AddsEvents {T = U} m (Ok y) a b
+pub adds_ok : {T U Live Other : Type 0} {a b : Context} (m : ℕ) (x : T) (y : U) → AddsEvents {T = T} m Live (Ok x) a b → AddsEvents {T = U} m Other (Ok y) a b
 adds_ok m x y h = record { grows = h.grows; keeps = h.keeps; few = h.few; cause = tt }
 
 -- a call that could not set its event ends those after it
-pub adds_err : {T U : Type 0} {a b : Context} (m n : ℕ) (r : Result U SetFault) (fault : SetFault) → IsErrAnd r (λ e. e ≡ fault) → m ≤ n → AddsEvents {T = T} m (Err fault) a b → AddsEvents {T = U} n r a b
+pub adds_err : {T U Live : Type 0} {a b : Context} (m n : ℕ) (r : Result U SetFault) (fault : SetFault) → IsErrAnd r (λ e. e ≡ fault) → m ≤ n → AddsEvents {T = T} m Live (Err fault) a b → AddsEvents {T = U} n Live r a b
 adds_err m n (Ok x) fault is more h = absurd is
-adds_err {U = U} {a = a} {b = b} m n (Err e) fault is more h =
-    subst (λ f. AddsEvents {T = U} n (Err f) a b) (sym is) (record { grows = h.grows; keeps = h.keeps; few = few_more m n more h.few; cause = h.cause })
+adds_err {U = U} {Live = Live} {a = a} {b = b} m n (Err e) fault is more h =
+    subst (λ f. AddsEvents {T = U} n Live (Err f) a b) (sym is) (record { grows = h.grows; keeps = h.keeps; few = few_more m n more h.few; cause = h.cause })
 
 -- one call after another
-pub adds_then : {T U : Type 0} {a b c : Context} (m n k : ℕ) (q : Result T SetFault) (r : Result U SetFault) → m + n ≤ k → AddsEvents m q a b → AddsEvents n r b c → AddsEvents k r a c
+pub adds_then : {T U Live Other : Type 0} {a b c : Context} (m n k : ℕ) (q : Result T SetFault) (r : Result U SetFault) → m + n ≤ k → AddsEvents m Live q a b → AddsEvents n Other r b c → AddsEvents k Other r a c
 adds_then m n k q r most h l = record {
   grows = grows_trans h.grows l.grows;
   keeps = keeps_trans h.keeps l.keeps;
@@ -99,7 +114,7 @@ adds_then m n k q r most h l = record {
 pub acts_none : (n : ℕ) (a : Context) → a.log.state.held ≡ true → ActsWithin n a a
 acts_none n a turn = record { grows = grows_refl a; turn = turn; plain = λ plain. plain; few = few_refl a n }
 
-pub acts_adds : {T : Type 0} (m n : ℕ) (r : Result T SetFault) (a b : Context) → m ≤ n → AddsEvents m r a b → ActsWithin n a b
+pub acts_adds : {T Live : Type 0} (m n : ℕ) (r : Result T SetFault) (a b : Context) → m ≤ n → AddsEvents m Live r a b → ActsWithin n a b
 acts_adds m n r a b more h = record { grows = h.grows; turn = h.keeps.turn; plain = h.keeps.plain; few = few_more m n more h.few }
 
 pub acts_then : {a b c : Context} (m n k : ℕ) → m + n ≤ k → ActsWithin m a b → ActsWithin n b c → ActsWithin k a c

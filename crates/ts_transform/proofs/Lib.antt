@@ -4,6 +4,7 @@ pub mod Covering
 pub mod Flowing
 pub mod Handled
 pub mod Kept
+pub mod Living
 pub mod Moving
 pub mod Starting
 pub mod Taking

@@ -8,10 +8,11 @@ use Rattle.ts_group.specs.declared.group.Group.{Group}
 use Rattle.ts_group.specs.Context.{Context}
 use Rattle.ts_link.specs.Counts.{Rose}
 use Rattle.ts_link.specs.Link.{Look}
-use Rattle.ts_transform.specs.Flow.{ChainState, EndsInOrder, MOST_WAITING, MustRead, MustWrite, OnlyFirstWorks, flow}
-use Rattle.ts_transform.specs.Driving.{IsHandled, IsNamedIf, IsOfStageIf, IsRousedIf, IsRousingOf, SetsOnly}
+use Rattle.ts_transform.specs.Stage.{MOST_WAITING}
+use Rattle.ts_transform.specs.Flow.{ChainState, EndsInOrder, MustRead, MustWrite, OnlyFirstWorks, flow}
+use Rattle.ts_transform.specs.Driving.{HasLiveIf, IsHandled, IsNamedIf, IsOfStageIf, IsRousedIf, IsRousingOf, SetsOnly}
 use Rattle.ts_transform.specs.Cover.{IsDriven}
-use Rattle.ts_transform.specs.Driven.{MayLose}
+use Rattle.ts_transform.specs.Driven.{HasAllLive, MayLose}
 use Rattle.ts_transform.specs.declared.continuation.StageContinuation.{StageContinuation}
 use Rattle.ts_transform.specs.declared.link_world.LinkWorld.{LinkWorld}
 use Rattle.ts_vconn.specs.declared.moves.TheConstants.{MOST_PULLED}
@@ -32,7 +33,8 @@ pub record Carries {P : Type 0} (rest : P → List ℕ → List ℕ) (in_tells o
   pub closed : c.given ≡ true → (gave ≡ []) × (d.given ≡ true)
 
 -- What a step moves, unless the chain was aborted: that is only for a fault of a link or for want of memory. Its end is
--- given only where the input has ended, which is read no more then. No more bytes than two reads bring wait before the first stage.
+-- given only where the input has ended, which is read no more then. Before the first stage fewer bytes wait than fill it
+-- up and one read more brings.
 pub record MovesOn {P : Type 0} (rest : P → List ℕ → List ℕ) (in_tells out_tells : Bool) (i j o p : Look)
     (c d : ChainState P) (was now : Bool) (lacks : Type 0) : Type 0 where
   pub carries : now ≡ false → Carries rest in_tells out_tells i j o p c d
@@ -40,6 +42,7 @@ pub record MovesOn {P : Type 0} (rest : P → List ℕ → List ℕ) (in_tells o
   pub stays : was ≡ true → now ≡ true
   pub ends : now ≡ false → c.given ≡ false → d.given ≡ true → in_tells ≡ true → j.left ≡ []
   pub still : now ≡ false → c.given ≡ true → j ≡ i
+  pub counts : (i.faults ≤ j.faults) × (o.faults ≤ p.faults)
   pub bounded : length c.first < MOST_WAITING + MOST_PULLED → length d.first < MOST_WAITING + MOST_PULLED
   pub ordered : EndsInOrder c.given c.stages → EndsInOrder d.given d.stages
 
@@ -50,6 +53,11 @@ pub record CarriesOn {P : Type 0} (rest : P → List ℕ → List ℕ) (in_tells
   pub stays : was ≡ true → now ≡ true
   pub ends : now ≡ false → c.given ≡ false → d.given ≡ true → in_tells ≡ true → j.left ≡ []
   pub still : now ≡ false → c.given ≡ true → j ≡ i
+  pub counts : (i.faults ≤ j.faults) × (o.faults ≤ p.faults)
+
+-- memory lacked, and nothing is done from then on
+abbrev pub LacksMemory : {I K P : Type 0} → LinkWorld I K P → Type 0
+LacksMemory w = (w.driven.running ≡ false) × (w.driven.lost ≡ Some NoMemory)
 
 -- the same of one end of a world between two links, or of a stage: it is aborted for a fault of a link alone
 abbrev pub Moves : {I K P : Type 0} → (P → List ℕ → List ℕ) → Bool → Bool → (I → Look) → (K → Look)
@@ -63,7 +71,14 @@ abbrev pub Steps : {I K P : Type 0} → (P → List ℕ → List ℕ) → Bool �
     → LinkWorld I K P → LinkWorld I K P → Type 0
 Steps rest in_tells out_tells input output v w =
     MovesOn rest in_tells out_tells (input v.input) (input w.input) (output v.output) (output w.output)
-    v.driven.chain w.driven.chain v.aborted w.aborted (w.driven.lost ≡ Some NoMemory)
+    v.driven.chain w.driven.chain v.aborted w.aborted (LacksMemory w)
+
+-- So does a handler; where something was lost before, nothing is done, and where memory lacks the chain is aborted.
+pub record HasStepped {I K P : Type 0} (rest : P → List ℕ → List ℕ) (in_tells out_tells : Bool)
+    (input : I → Look) (output : K → Look) (v w : LinkWorld I K P) : Type 0 where
+  pub steps : Steps rest in_tells out_tells input output v w
+  pub rests : v.driven.running ≡ false → w ≡ v
+  pub stops : v.driven.running ≡ true → LacksMemory w → w.aborted ≡ true
 
 -- The stages have the roles from 3 on, the writer has 1 and the reader 2: each that is roused has an event, and so has
 -- each stage that must work.
@@ -97,7 +112,7 @@ pub record AreEndsRoused {P : Type 0} (c : ChainState P)
   pub reads : MustRead c → IsRousedIf reader
 
 -- What holds of a chain between two links: once it was started, while no event was lost, each duty has an event of a
--- continuation that does it. No more bytes wait before the first stage than two reads bring.
+-- continuation that does it. Before the first stage fewer bytes wait than fill it up and one read more brings.
 pub record IsCarried {I K P : Type 0} (w : LinkWorld I K P) (pending : List Pending)
     (roles : List Named) : Type 0 where
   pub joined : IsJoinedWhile w pending roles
@@ -118,9 +133,19 @@ HandlesCarried role event v w a b = (before : List Pending)
 abbrev pub IsCarriedGroup : {I K P Q R T U : Type 0} → Group (LinkWorld I K P) Q R T U → Type 0
 IsCarriedGroup g = IsCarried g.world g.cx.log.state.pending g.cx.roles
 
+-- the continuations of a world are live
+pub record AreLinked {I K P : Type 0} (w : LinkWorld I K P) (now : Context) : Type 0 where
+  pub stages : HasAllLive w.driven now
+  pub writer : HasLiveIf now.log.state.live w.writer
+  pub reader : HasLiveIf now.log.state.live w.reader
+
+-- it goes on as it did, or is lost for a cause
+abbrev pub MayBreak : {I K P : Type 0} → LinkWorld I K P → LinkWorld I K P → Context → Type 0
+MayBreak v w now = MayLose (AreLinked w now) v.driven w.driven now
+
 -- whether it runs may only fall, for a cause; and whoever was made stays
 pub record KeepsCourse {I K P : Type 0} (v w : LinkWorld I K P) (now : Context) : Type 0 where
-  pub loses : MayLose v.driven w.driven now
+  pub loses : MayBreak v w now
   pub started : w.writer ≡ None → v.writer ≡ None
 
 -- An end is roused after so many milliseconds, if it must work and was not roused before, and else nothing is done.
@@ -173,12 +198,15 @@ KeepsReader v w = w.reader ≡ v.reader
 abbrev pub KeepsWriter : {I K P : Type 0} → LinkWorld I K P → LinkWorld I K P → Type 0
 KeepsWriter v w = w.writer ≡ v.writer
 
--- what several steps of a world between two links move
-abbrev pub CarriesTo : {I K P : Type 0} → (P → List ℕ → List ℕ) → Bool → Bool → (I → Look) → (K → Look)
-    → LinkWorld I K P → LinkWorld I K P → Type 0
-CarriesTo rest in_tells out_tells input output v w =
-    CarriesOn rest in_tells out_tells (input v.input) (input w.input) (output v.output) (output w.output)
-    v.driven.chain w.driven.chain v.aborted w.aborted
+-- What several steps of a world between two links move: the chain is aborted only where memory lacked or a link failed,
+-- and nothing is done once something was lost.
+pub record CarriesTo {I K P : Type 0} (rest : P → List ℕ → List ℕ) (in_tells out_tells : Bool)
+    (input : I → Look) (output : K → Look) (v w : LinkWorld I K P) : Type 0 where
+  pub on : CarriesOn rest in_tells out_tells (input v.input) (input w.input) (output v.output) (output w.output)
+      v.driven.chain w.driven.chain v.aborted w.aborted
+  pub aborts : v.aborted ≡ false → w.aborted ≡ true → LacksMemory w
+      ⊎ Rose (input v.input).faults (input w.input).faults ⊎ Rose (output v.output).faults (output w.output).faults
+  pub rests : v.driven.running ≡ false → w ≡ v
 
 -- All that the input gave, which has nothing left, was written through the chain to the output.
 pub record HasWritten {P : Type 0} (rest : P → List ℕ → List ℕ) (i j o p : Look)
@@ -188,13 +216,21 @@ pub record HasWritten {P : Type 0} (rest : P → List ℕ → List ℕ) (i j o p
   pub left : j.left ≡ []
   pub taken : p.taken ≡ o.taken ++ flow rest c gave
 
--- So it was where nothing was lost and the chain was not aborted, for links that tell.
+-- So it was where nothing was lost and no link failed, for links that tell.
 abbrev pub WritesWhole : {I K P : Type 0} → (P → List ℕ → List ℕ) → Bool → Bool → (I → Look) → (K → Look)
     → LinkWorld I K P → LinkWorld I K P → Type 0
 WritesWhole rest in_tells out_tells input output v w =
-    w.driven.running ≡ true → w.aborted ≡ false → v.driven.chain.given ≡ false → in_tells ≡ true
-    → out_tells ≡ true
+    w.driven.running ≡ true → v.aborted ≡ false → v.driven.chain.given ≡ false
+    → (Rose (input v.input).faults (input w.input).faults → ⊥)
+    → (Rose (output v.output).faults (output w.output).faults → ⊥)
+    → in_tells ≡ true → out_tells ≡ true
     → HasWritten rest (input v.input) (input w.input) (output v.output) (output w.output) v.driven.chain
+
+-- So many turns were made, in each of which an event was handled, and something is pending.
+pub record MakesTurns (turns : ℕ) (old new : Context) : Type 0 where
+  pub made : new.log.state.turns ≡ old.log.state.turns + turns
+  pub handled : old.log.state.handled_count + turns ≤ new.log.state.handled_count
+  pub left : new.log.state.pending ≢ []
 
 -- After a step that found a link not ready its end tries again 10 milliseconds later, and by that alone.
 pub record TriesAgain {I K P : Type 0} (input : I → Look) (output : K → Look) (v w : LinkWorld I K P)

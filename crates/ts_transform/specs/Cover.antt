@@ -5,8 +5,9 @@ use Rattle.ts_journal.specs.declared.entry.Event.TheVariants.{Error, WriteComple
 use Rattle.ts_journal.specs.declared.entry.Pending.{Pending}
 use Rattle.ts_group.specs.declared.action.Named.{Named}
 use Rattle.ts_group.specs.Context.{Context}
-use Rattle.ts_transform.specs.Flow.{ChainState, MOST_WAITING, MustWork, client_wait, ended_at, pause_at}
-use Rattle.ts_transform.specs.Driving.{AreNamed, AreOfStages, IsCalledUnless, IsRoused, IsRousingOf, IsTellingBefore, SetsOnly}
+use Rattle.ts_transform.specs.Stage.{MOST_WAITING}
+use Rattle.ts_transform.specs.Flow.{ChainState, MustWork, client_wait, ended_at, pause_at}
+use Rattle.ts_transform.specs.Driving.{AreLive, AreNamed, AreOfStages, HasLive, IsCalledUnless, IsRoused, IsRousingOf, IsTellingBefore, SetsOnly}
 use Rattle.ts_transform.specs.declared.continuation.Rouser.{Rouser}
 use Rattle.ts_transform.specs.declared.continuation.Rouser.TheVariants.{Downstream}
 use Rattle.ts_transform.specs.declared.continuation.StageContinuation.{StageContinuation}
@@ -69,6 +70,12 @@ pub record IsDriven {P : Type 0} (first : ℕ) (c : ChainState P) (ts : List (Op
   pub len : length ts ≡ length c.stages
   pub of_stages : AreOfStages pending roles first ts
   pub cover : Cover c ts
+
+-- Each continuation of a chain's stages is live, and each stage that has not ended has one.
+pub record AreAllLive {P : Type 0} (c : ChainState P) (ts : List (Option StageContinuation))
+    (now : Context) : Type 0 where
+  pub live : AreLive now.log.state.live ts
+  pub there : (j : ℕ) → ended_at c.stages j ≡ false → HasLive now.log.state.live ts j
 
 -- the same but for one stage, whose event was handled
 pub record IsDrivenBut {P : Type 0} (first at : ℕ) (c : ChainState P) (ts : List (Option StageContinuation))

@@ -7,9 +7,10 @@ use Rattle.ts_group.specs.declared.action.Named.{Named}
 use Rattle.ts_group.specs.declared.action.SetFault.{SetFault}
 use Rattle.ts_group.specs.declared.action.SetFault.TheVariants as F
 use Rattle.ts_group.specs.Context.{Context}
-use Rattle.ts_transform.specs.Flow.{ChainState, IsGiven, MOST_WAITING, client_wait, last_ended}
+use Rattle.ts_transform.specs.Stage.{MOST_WAITING}
+use Rattle.ts_transform.specs.Flow.{ChainState, IsGiven, client_wait, last_ended}
 use Rattle.ts_transform.specs.Driving.{HasEventIf, IsCause, IsHandled, IsRoused, Keeps, unroused_at}
-use Rattle.ts_transform.specs.Cover.{IsDriven}
+use Rattle.ts_transform.specs.Cover.{AreAllLive, IsDriven}
 use Rattle.ts_transform.specs.Acting.{ActsAt, IsStage}
 use Rattle.ts_transform.specs.declared.driven.DrivenChain.{DrivenChain}
 use Rattle.ts_transform.specs.declared.loss.Loss.{Loss}
@@ -41,22 +42,26 @@ Acts rest pause at event d e a b = ActsAt rest pause at event d.chain e.chain d.
 abbrev pub IsOfNoStage : {P : Type 0} → ℕ → ℕ → DrivenChain P → Type 0
 IsOfNoStage first role d = (at : ℕ) → role ≡ first + at → IsStage d.chain d.table.items at → ⊥
 
+-- the continuations of its stages are live
+abbrev pub HasAllLive : {P : Type 0} → DrivenChain P → Context → Type 0
+HasAllLive d now = AreAllLive d.chain d.table.items now
+
 -- it is lost exactly where an event could not be set, and tells why
 abbrev pub Loses : {P T : Type 0} → Result T SetFault → DrivenChain P → DrivenChain P → Context → Type 0
 Loses (Ok x) d e now = (e.running ≡ d.running) × (e.lost ≡ d.lost)
-Loses (Err fault) d e now = (e.running ≡ false) × (e.lost ≡ Some (loss_of fault)) × IsCause fault now
+Loses (Err fault) d e now = (e.running ≡ false) × (e.lost ≡ Some (loss_of fault)) × IsCause (HasAllLive e now) fault now
 
--- it goes on as it did, or is lost for a cause
-abbrev pub MayLose : {P : Type 0} → DrivenChain P → DrivenChain P → Context → Type 0
-MayLose d e now =
+-- it goes on as it did, or is lost for a cause, where continuations ought to be live
+abbrev pub MayLose : {P : Type 0} → Type 0 → DrivenChain P → DrivenChain P → Context → Type 0
+MayLose Live d e now =
     ((e.running ≡ d.running) × (e.lost ≡ d.lost))
-    ⊎ ((loss : Loss) × (e.running ≡ false) × (e.lost ≡ Some loss) × IsCauseOf loss now)
+    ⊎ ((loss : Loss) × (e.running ≡ false) × (e.lost ≡ Some loss) × IsCauseOf Live loss now)
 
 -- it runs from now on, or is lost for a cause
-abbrev pub HasBegun : {P : Type 0} → DrivenChain P → Context → Type 0
-HasBegun d now =
+abbrev pub HasBegun : {P : Type 0} → Type 0 → DrivenChain P → Context → Type 0
+HasBegun Live d now =
     ((d.running ≡ true) × (d.lost ≡ None))
-    ⊎ ((loss : Loss) × (d.running ≡ false) × (d.lost ≡ Some loss) × IsCauseOf loss now)
+    ⊎ ((loss : Loss) × (d.running ≡ false) × (d.lost ≡ Some loss) × IsCauseOf Live loss now)
 
 -- it is driven, where another chain was in its place before
 abbrev pub DrivenAgain : {P : Type 0} → ℕ → ChainState P → DrivenChain P → DrivenChain P → Context → Context

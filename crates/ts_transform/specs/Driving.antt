@@ -98,6 +98,21 @@ abbrev pub IsCalledUnless : List (Option StageContinuation) → List Pending →
     → ℕ → Type 0
 IsCalledUnless before pending ts at = IsRoused before at ⊎ IsTold pending WriteReady ts at
 
+-- a continuation is there, and is live
+abbrev pub HasLiveIf : List ContKey → Option StageContinuation → Type 0
+HasLiveIf live None = ⊥
+HasLiveIf live (Some t) = IsLive live t.key
+
+-- so is that of the stage at a place
+abbrev pub HasLive : List ContKey → List (Option StageContinuation) → ℕ → Type 0
+HasLive live [] at = ⊥
+HasLive live (t ∷ ts) zero = HasLiveIf live t
+HasLive live (t ∷ ts) (suc at) = HasLive live ts at
+
+-- each continuation that is there is live
+abbrev pub AreLive : List ContKey → List (Option StageContinuation) → Type 0
+AreLive live ts = (j : ℕ) (t : StageContinuation) → slice_get ts j ≡ Some (Some t) → IsLive live t.key
+
 -- a continuation was destroyed, if it was live
 abbrev pub IsDestroyed : Context → Context → ContKey → Type 0
 IsDestroyed old new key = HasLost old.log.state new.log.state old.roles new.roles key
@@ -246,18 +261,21 @@ abbrev pub HasEventIf : List Pending → Option ContKey → Type 0
 HasEventIf pending None = ⊤
 HasEventIf pending (Some key) = HasEvent pending key
 
--- Why an event was not set, in the context that was left. Want of memory has no cause here.
-abbrev pub IsCause : SetFault → Context → Type 0
-IsCause F.NoMemory now = ⊤
-IsCause F.Dead now = ⊤
-IsCause F.Spent now = GREATEST ≤ now.log.state.next
+-- Why an event was not set, in the context that was left: the continuations are not live that ought to be, or the event
+-- numbers are used up. Want of memory has no cause here.
+abbrev pub IsCause : Type 0 → SetFault → Context → Type 0
+IsCause Live F.NoMemory now = ⊤
+IsCause Live F.Dead now = Live → ⊥
+IsCause Live F.Spent now = GREATEST ≤ now.log.state.next
 
--- What calls leave that set at most so many events: all else goes on. Where one could not be set, they say why.
-pub record AddsEvents {T : Type 0} (most : ℕ) (result : Result T SetFault) (old new : Context) : Type 0 where
+-- What calls leave that set at most so many events, for continuations that ought to be live: all else goes on. Where one
+-- could not be set, they say why.
+pub record AddsEvents {T : Type 0} (most : ℕ) (Live : Type 0) (result : Result T SetFault)
+    (old new : Context) : Type 0 where
   pub grows : Grows old new
   pub keeps : Keeps old new
   pub few : SetsFew most old new
-  pub cause : IfErr result (λ fault. IsCause fault new)
+  pub cause : IfErr result (λ fault. IsCause Live fault new)
 
 -- What a handler leaves that sets at most so many events, and may make or destroy continuations.
 pub record ActsWithin (most : ℕ) (old new : Context) : Type 0 where

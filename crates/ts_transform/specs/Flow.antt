@@ -2,7 +2,7 @@
 use Rattle.std.specs.Prelude.{◌≡◌, ◌≢◌, ℕ, zero, suc, ◌+◌, ◌++◌, List, [], ◌∷◌, Bool, true, false, ⊤, length, drop, take, map, Option, Some, None, ◌<◌, ◌⊎◌}
 use Rattle.ts_transform.specs.declared.pump.Stage.{Stage}
 use Rattle.ts_transform.specs.declared.pump.Pumped.{Pumped}
-use Rattle.ts_transform.specs.Stage.{passed, has_ended, has_work, Answers, Steps, to_end}
+use Rattle.ts_transform.specs.Stage.{MOST_WAITING, passed, has_ended, has_work, Answers, Steps, to_end}
 
 -- what still comes after the stages, if v is what still comes before them
 abbrev pub flow_from : {P : Type 0} → (P → List ℕ → List ℕ) → List (Stage P) → List ℕ → List ℕ
@@ -97,10 +97,6 @@ abbrev pub HasWork : {P : Type 0} → Bool → List ℕ → List (Stage P) → �
 HasWork up from [] at = ⊥
 HasWork up from (s ∷ ss) zero = has_work (has_ended s) up from ≡ true
 HasWork up from (s ∷ ss) (suc at) = HasWork (has_ended s) s.after ss at
-
--- a stage takes no input where as many bytes wait after it
-abbrev pub MOST_WAITING : ℕ
-MOST_WAITING = 65536
 
 -- the stage at a place must work: it has work, and there is room after it
 abbrev pub MustPump : {P : Type 0} → Bool → List ℕ → List (Stage P) → ℕ → Type 0

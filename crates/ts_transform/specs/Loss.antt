@@ -19,9 +19,10 @@ abbrev pub making_loss : MakeFault → Loss
 making_loss M.NoMemory = L.NoMemory
 making_loss M.TableFull = L.TableFull
 
--- why it was lost, in the context that was left; want of memory has no cause here
-abbrev pub IsCauseOf : Loss → Context → Type 0
-IsCauseOf L.NoMemory now = ⊤
-IsCauseOf L.TableFull now = (i : ℕ) → i < MOST_KEYS → CanUse now.log.state i → ⊥
-IsCauseOf L.Dead now = ⊤
-IsCauseOf L.Spent now = GREATEST ≤ now.log.state.next
+-- Why it was lost, in the context that was left: no index can be used, the continuations are not live that ought to be, or
+-- the event numbers are used up. Want of memory has no cause here.
+abbrev pub IsCauseOf : Type 0 → Loss → Context → Type 0
+IsCauseOf Live L.NoMemory now = ⊤
+IsCauseOf Live L.TableFull now = (i : ℕ) → i < MOST_KEYS → CanUse now.log.state i → ⊥
+IsCauseOf Live L.Dead now = Live → ⊥
+IsCauseOf Live L.Spent now = GREATEST ≤ now.log.state.next

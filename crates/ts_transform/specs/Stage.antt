@@ -25,20 +25,28 @@ has_work false true from = true
 has_work false false [] = false
 has_work false false (b ∷ bs) = true
 
--- a stage that has work is blocked, ends, or moves at most 32,768 bytes, in this order
+-- a stage takes no input where as many bytes wait after it
+abbrev pub MOST_WAITING : ℕ
+MOST_WAITING = 65536
+
+-- a stage takes at most so many bytes at once
+abbrev pub MOST_FED : ℕ
+MOST_FED = 32768
+
+-- a stage that has work is blocked, ends, or moves some bytes, in this order
 abbrev pub AnswersWork : Bool → List ℕ → List ℕ → Pumped → Type 0
 AnswersWork true from after r = r ≡ Blocked (length after)
 AnswersWork false [] after r = r ≡ Ended
 AnswersWork false (b ∷ bs) after r = IsMoved (b ∷ bs) r
   where
     IsMoved : List ℕ → Pumped → Type 0
-    IsMoved from (Moved n) = (1 ≤ n) × (n ≤ 32768) × (n ≤ length from)
+    IsMoved from (Moved n) = (1 ≤ n) × (n ≤ MOST_FED) × (n ≤ length from)
     IsMoved from Ended = ⊥
     IsMoved from (Blocked w) = ⊥
     IsMoved from Idle = ⊥
 
 abbrev pub AnswersIf : Bool → List ℕ → List ℕ → Pumped → Type 0
-AnswersIf true from after r = AnswersWork (nat_le 65536 (length after)) from after r
+AnswersIf true from after r = AnswersWork (nat_le MOST_WAITING (length after)) from after r
 AnswersIf false from after r = r ≡ Idle
 
 -- what a pump of a stage answers: idle exactly where it has no work

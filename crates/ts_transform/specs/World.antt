@@ -1,15 +1,14 @@
 -- What holds of a chain with its body, as a world of a group.
 use Rattle.std.specs.Prelude.{◌≡◌, ℕ, ◌+◌, ◌*◌, ◌<◌, ◌≤◌, List, [], length, Bool, true, false, Option, Some, Result, IfErr, OnErr}
-use Rattle.ts_journal.specs.State.{IsLive}
 use Rattle.ts_journal.specs.declared.entry.Pending.{Pending}
 use Rattle.ts_group.specs.declared.action.Named.{Named}
 use Rattle.ts_group.specs.declared.action.SetFault.{SetFault}
-use Rattle.ts_group.specs.declared.action.SetFault.TheVariants.{Dead}
 use Rattle.ts_group.specs.declared.group.Group.{Group}
 use Rattle.ts_group.specs.Context.{AllPlain, Context, IsSame}
 use Rattle.ts_group.specs.Entries.{Grows}
-use Rattle.ts_transform.specs.Flow.{ChainState, MOST_WAITING, OnlyFirstWorks, PumpsOnce, client_wait, flow, last_ended, left_to_do, pause_at}
-use Rattle.ts_transform.specs.Driving.{IsCause, IsRoused, IsWorkOf, SetsOnly, all_unroused, errors_to_pass, last_of}
+use Rattle.ts_transform.specs.Stage.{MOST_WAITING}
+use Rattle.ts_transform.specs.Flow.{ChainState, OnlyFirstWorks, PumpsOnce, client_wait, flow, last_ended, left_to_do, pause_at}
+use Rattle.ts_transform.specs.Driving.{HasLiveIf, IsCause, IsRoused, IsWorkOf, SetsOnly, all_unroused, errors_to_pass, last_of}
 use Rattle.ts_transform.specs.Cover.{IsDriven}
 use Rattle.ts_transform.specs.declared.continuation.StageContinuation.{StageContinuation}
 use Rattle.ts_transform.specs.declared.world.ChainWorld.{ChainWorld}
@@ -61,8 +60,6 @@ pub record Wakes {P : Type 0} (pause : P → ℕ) (c : ChainState P) (ts : List 
   pub only : (at : ℕ) → at + 1 ≡ length c.stages → (t : StageContinuation) → last_of ts ≡ Some t
       → SetsOnly (IsWorkOf t.key (pause_at pause c.stages at) a.moment) a b
 
--- Where it refuses no event was set: the last stage's continuation is not live, or there is another cause.
+-- Where it refuses no event was set: the last stage has no live continuation, or there is another cause.
 abbrev pub IsWakeCause : SetFault → List (Option StageContinuation) → Context → Context → Type 0
-IsWakeCause fault ts a b =
-    IsSame a b × IsCause fault b
-    × (fault ≡ Dead → (t : StageContinuation) → last_of ts ≡ Some t → IsLive a.log.state.live t.key → ⊥)
+IsWakeCause fault ts a b = IsSame a b × IsCause (HasLiveIf a.log.state.live (last_of ts)) fault b

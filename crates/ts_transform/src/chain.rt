@@ -2,7 +2,8 @@
 ghost use Rattle.std.specs.Prelude.{◌≡◌, ◌+◌, ◌<◌, ◌≤◌, ◌++◌, ◌↔◌, List, ℕ, [], length, take, drop, map, true, false, IsTrue, IfOk, OnOk, OnErr, MatchOption};
 ghost use Rattle.std.specs.Bool.{OnTrue};
 ghost use Rattle.ts_transform.specs.Stage.{IfRests, done_by};
-ghost use Rattle.ts_transform.specs.Flow.{AnswersAt, IsFinished, IsGiven, MOST_WAITING, MustRead, MustWork, MustWrite, StepsAt, TakesAway, aborted, client_wait, compose, ended_at, flow, fresh_stage, last_ended, left_to_do, pause_at, wait_at};
+ghost use Rattle.ts_transform.specs.Stage.{MOST_WAITING};
+ghost use Rattle.ts_transform.specs.Flow.{AnswersAt, IsFinished, IsGiven, MustRead, MustWork, MustWrite, StepsAt, TakesAway, aborted, client_wait, compose, ended_at, flow, fresh_stage, last_ended, left_to_do, pause_at, wait_at};
 ghost use Rattle.ts_vconn.specs.Moves.{PullsOn};
 
 use crate::pump::{MOST_WAITING, Pumped, Stage, pump_at};

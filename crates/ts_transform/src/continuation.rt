@@ -1,8 +1,9 @@
 //! The continuations of stages, and how one is roused.
 ghost use Rattle.std.specs.Prelude.{◌≡◌, ℕ, ◌<◌, ◌⊎◌, true, is_ok, Some, OnOk};
 ghost use Rattle.ts_journal.specs.declared.entry.Event.TheVariants.{WriteReady};
+ghost use Rattle.ts_journal.specs.State.{IsLive};
 ghost use Rattle.ts_transform.specs.declared.continuation.Rouser.TheVariants as Rouser;
-ghost use Rattle.ts_transform.specs.Driving.{works_at, AddsEvents, HasEvent, HasKind, IsRousedIf, IsRousingOf, IsNamedIf, IsToldIf, IsWorkOf, KeepsStage, SetsOnly};
+ghost use Rattle.ts_transform.specs.Driving.{works_at, AddsEvents, HasEvent, HasKind, HasLiveIf, IsRousedIf, IsRousingOf, IsNamedIf, IsToldIf, IsWorkOf, KeepsStage, SetsOnly};
 
 use ts_group::{Action, Cx, SetFault};
 use ts_journal::{ContKey, Event};
@@ -38,7 +39,7 @@ pub fn works(event: Event) -> bool
 #[tactic(auto, using(crate::proofs::Kept::set_adds, crate::proofs::Kept::set_event, crate::proofs::Kept::works_soon, crate::proofs::Kept::set_kind, crate::proofs::Kept::soon_now, crate::proofs::Kept::soon_later))]
 fn set_event(key: ContKey, rouser: Rouser, pause: u64, cx: &mut Cx) -> Result<Action, SetFault>
     requires turn { cx.old.log.state.held ≡ true }
-    ensures adds { AddsEvents 1 result cx.old cx.new }
+    ensures adds { AddsEvents 1 (IsLive cx.new.log.state.live key) result cx.old cx.new }
     ensures only { SetsOnly (IsWorkOf key pause cx.old.moment) cx.old cx.new }
     ensures event { OnOk result (HasEvent cx.new.log.state.pending key) }
     ensures called { rouser ≡ Rouser.Downstream → pause ≡ 0
@@ -62,7 +63,7 @@ pub fn rouse(
     cx: &mut Cx,
 ) -> Result<(), SetFault>
     requires turn { cx.old.log.state.held ≡ true }
-    ensures adds { AddsEvents 1 result cx.old cx.new }
+    ensures adds { AddsEvents 1 (HasLiveIf cx.new.log.state.live slot.new) result cx.old cx.new }
     ensures stage { KeepsStage cx.old cx.new slot.old slot.new }
     ensures rests { IsRousedIf slot.old → (slot.new ≡ slot.old) × (cx.new ≡ cx.old) × (is_ok result ≡ true) }
     ensures only { (role : ℕ) → IsNamedIf cx.old.roles role slot.old

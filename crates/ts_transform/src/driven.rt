@@ -5,7 +5,7 @@ ghost use Rattle.ts_transform.specs.Flow.{OnlyFirstWorks};
 ghost use Rattle.ts_transform.specs.Driving.{ActsWithin, KeepsMade, KeepsOthers, SetsOnly};
 ghost use Rattle.ts_transform.specs.Cover.{IsRousing};
 ghost use Rattle.ts_transform.specs.Acting.{IsStage, StillGives};
-ghost use Rattle.ts_transform.specs.Driven.{Acts, HandlesDriven, HasBegun, IsDrivenWhile, IsOfNoStage, Loses};
+ghost use Rattle.ts_transform.specs.Driven.{Acts, HandlesDriven, HasAllLive, HasBegun, IsDrivenWhile, IsOfNoStage, Loses};
 
 use crate::chain::Chain;
 use crate::continuation::StageContinuation;
@@ -91,7 +91,7 @@ impl<P: Transform + Drop> DrivenChain<P> {
         ensures chain { self.new.chain ≡ self.old.chain }
         ensures driven { OnlyFirstWorks self.old.chain
             → IsDrivenWhile first self.new cx.new.log.state.pending cx.new.roles }
-        ensures begun { HasBegun self.new cx.new }
+        ensures begun { HasBegun (HasAllLive self.new cx.new) self.new cx.new }
         ensures made { KeepsMade cx.old cx.new }
     {
         match begin(first, &self.chain, &mut self.table, cx) {

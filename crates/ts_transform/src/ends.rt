@@ -3,7 +3,7 @@ ghost use Rattle.std.specs.Prelude.{◌≡◌, ℕ, ◌≤◌, ◌++◌, List, l
 ghost use Rattle.ts_transform.specs.Flow.{ChainState, Takes, TakesAway, client_wait};
 ghost use Rattle.ts_transform.specs.Driving.{AddsEvents, all_unroused};
 ghost use Rattle.ts_transform.specs.Cover.{IsDriven, OnlyRouses};
-ghost use Rattle.ts_transform.specs.Driven.{DrivenAgain, Gives, IsDrivenWhile, Loses, StaysDriven};
+ghost use Rattle.ts_transform.specs.Driven.{DrivenAgain, Gives, HasAllLive, IsDrivenWhile, Loses, StaysDriven};
 
 use crate::continuation::Rouser;
 use crate::driven::DrivenChain;
@@ -21,7 +21,7 @@ impl<P: Transform + Drop> DrivenChain<P> {
         ensures gives { Gives result P.rest bytes.now self.old.chain self.new.chain }
         ensures driven { StaysDriven self.old self.new cx.old cx.new }
         ensures only { OnlyRouses P.pause self.new.chain self.old.table.items cx.old cx.new }
-        ensures adds { AddsEvents 1 result cx.old cx.new }
+        ensures adds { AddsEvents 1 (HasAllLive self.new cx.new) result cx.old cx.new }
         ensures same { all_unroused self.new.table.items ≡ all_unroused self.old.table.items }
         ensures loses { Loses result self.old self.new cx.new }
     {
@@ -39,7 +39,7 @@ impl<P: Transform + Drop> DrivenChain<P> {
         ensures chain { self.new.chain ≡ record self.old.chain { given = true } }
         ensures driven { StaysDriven self.old self.new cx.old cx.new }
         ensures only { OnlyRouses P.pause self.new.chain self.old.table.items cx.old cx.new }
-        ensures adds { AddsEvents 1 result cx.old cx.new }
+        ensures adds { AddsEvents 1 (HasAllLive self.new cx.new) result cx.old cx.new }
         ensures same { all_unroused self.new.table.items ≡ all_unroused self.old.table.items }
         ensures loses { Loses result self.old self.new cx.new }
     {
@@ -54,7 +54,7 @@ impl<P: Transform + Drop> DrivenChain<P> {
         ensures takes { TakesAway P.rest n self.old.chain self.new.chain }
         ensures driven { StaysDriven self.old self.new cx.old cx.new }
         ensures only { OnlyRouses P.pause self.new.chain self.old.table.items cx.old cx.new }
-        ensures adds { AddsEvents 1 result cx.old cx.new }
+        ensures adds { AddsEvents 1 (HasAllLive self.new cx.new) result cx.old cx.new }
         ensures same { all_unroused self.new.table.items ≡ all_unroused self.old.table.items }
         ensures loses { Loses result self.old self.new cx.new }
     {
@@ -69,7 +69,7 @@ impl<P: Transform + Drop> DrivenChain<P> {
         ensures driven { (first : ℕ) (c : ChainState P) → c.stages ≡ self.old.chain.stages
             → DrivenAgain first c self.old self.new cx.old cx.new }
         ensures only { OnlyRouses P.pause self.old.chain self.old.table.items cx.old cx.new }
-        ensures adds { AddsEvents 1 result cx.old cx.new }
+        ensures adds { AddsEvents 1 (HasAllLive self.new cx.new) result cx.old cx.new }
         ensures same { all_unroused self.new.table.items ≡ all_unroused self.old.table.items }
         ensures loses { Loses result self.old self.new cx.new }
     {
@@ -91,7 +91,7 @@ impl<P: Transform + Drop> DrivenChain<P> {
             → self.old.chain.given ≡ c.given
             → DrivenAgain first c self.old self.new cx.old cx.new }
         ensures only { OnlyRouses P.pause self.old.chain self.old.table.items cx.old cx.new }
-        ensures adds { AddsEvents 1 result cx.old cx.new }
+        ensures adds { AddsEvents 1 (HasAllLive self.new cx.new) result cx.old cx.new }
         ensures same { all_unroused self.new.table.items ≡ all_unroused self.old.table.items }
         ensures loses { Loses result self.old self.new cx.new }
     {

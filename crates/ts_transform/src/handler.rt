@@ -7,8 +7,8 @@ ghost use Rattle.ts_journal.specs.declared.entry.Event.TheVariants.{Error, Write
 ghost use Rattle.ts_journal.specs.declared.entry.Pending.{Pending};
 ghost use Rattle.ts_transform.specs.declared.continuation.Rouser.TheVariants as Rouser;
 ghost use Rattle.ts_transform.specs.Flow.{MustWork, ended_at, pause_at};
-ghost use Rattle.ts_transform.specs.Driving.{ActsWithin, AddsEvents, AreOfStages, IsCalledUnless, IsCause, IsClosed, IsHandled, IsRoused, IsTellingBefore, IsToldBefore, KeepsOthers, KeepsStages, Lessens, SetsFew, SetsOnly, OnlyTellsBefore, changed, error_passed, errors_to_pass, gone, may_pass_error_at, unroused_at, works_at};
-ghost use Rattle.ts_transform.specs.Cover.{CallsBefore, IsDriven, IsDrivenBut, IsDrivenFor, IsRoundRoused, OnlyRouses, OnlySets};
+ghost use Rattle.ts_transform.specs.Driving.{ActsWithin, AddsEvents, AreLive, AreOfStages, IsCalledUnless, IsCause, IsClosed, IsHandled, IsRoused, IsTellingBefore, IsToldBefore, KeepsOthers, KeepsStages, Lessens, SetsFew, SetsOnly, OnlyTellsBefore, changed, error_passed, errors_to_pass, gone, may_pass_error_at, unroused_at, works_at};
+ghost use Rattle.ts_transform.specs.Cover.{AreAllLive, CallsBefore, IsDriven, IsDrivenBut, IsDrivenFor, IsRoundRoused, OnlyRouses, OnlySets};
 ghost use Rattle.ts_transform.specs.Acting.{ActsAt, Covers, CoversHandled, IsStage, Pays, PaysErrors, Pumps, TellsBefore};
 
 use crate::chain::Chain;
@@ -29,7 +29,7 @@ pub fn rouse_if_ready<P: Transform + Drop>(
     cx: &mut Cx,
 ) -> Result<(), SetFault>
     requires turn { cx.old.log.state.held ≡ true }
-    ensures adds { AddsEvents 1 result cx.old cx.new }
+    ensures adds { AddsEvents 1 (AreAllLive chain.now table.new cx.new) result cx.old cx.new }
     ensures stages { KeepsStages cx.old cx.new table.old table.new }
     ensures only { OnlyRouses P.pause chain.now table.old cx.old cx.new }
     ensures ready { OnOk result (MustWork chain.now at → IsRoused table.new at) }
@@ -56,7 +56,7 @@ fn rouse_before<P: Transform + Drop>(
     cx: &mut Cx,
 ) -> Result<(), SetFault>
     requires turn { cx.old.log.state.held ≡ true }
-    ensures adds { AddsEvents 1 result cx.old cx.new }
+    ensures adds { AddsEvents 1 (AreAllLive chain.now table.new cx.new) result cx.old cx.new }
     ensures stages { KeepsStages cx.old cx.new table.old table.new }
     ensures only { OnlyRouses P.pause chain.now table.old cx.old cx.new }
     ensures ready { OnOk result ((j : ℕ) → j + 1 ≡ at → MustWork chain.now j → IsRoused table.new j) }
@@ -80,7 +80,7 @@ fn rouse_round<P: Transform + Drop>(
 ) -> Result<(), SetFault>
     requires turn { cx.old.log.state.held ≡ true }
     requires at { at < length table.old }
-    ensures adds { AddsEvents 3 result cx.old cx.new }
+    ensures adds { AddsEvents 3 (AreAllLive chain.now table.new cx.new) result cx.old cx.new }
     ensures stages { KeepsStages cx.old cx.new table.old table.new }
     ensures only { OnlyRouses P.pause chain.now table.old cx.old cx.new }
     ensures round { OnOk result (IsRoundRoused chain.now table.new at) }
@@ -103,7 +103,7 @@ fn work<P: Transform + Drop>(
 ) -> Result<(), SetFault>
     requires turn { cx.old.log.state.held ≡ true }
     requires stage { IsStage chain.old table.old at }
-    ensures adds { AddsEvents 4 result cx.old cx.new }
+    ensures adds { AddsEvents 4 (AreAllLive chain.new table.new cx.new) result cx.old cx.new }
     ensures stages { KeepsStages cx.old cx.new table.old table.new }
     ensures pumps { Pumps P.rest at chain.old chain.new cx.old cx.new }
     ensures only { (event : Event) → OnlySets P.pause chain.old chain.new table.old at event cx.old cx.new }
@@ -135,7 +135,7 @@ fn tell_before(
 ) -> Result<(), SetFault>
     requires turn { cx.old.log.state.held ≡ true }
     requires at { at < length table.now }
-    ensures adds { AddsEvents 1 result cx.old cx.new }
+    ensures adds { AddsEvents 1 (AreLive cx.new.log.state.live table.now) result cx.old cx.new }
     ensures told { OnOk result (IsToldBefore cx.new.log.state.pending event table.now at) }
     ensures only { OnlyTellsBefore event at table.now cx.old cx.new }
 {
@@ -154,7 +154,7 @@ fn pass_error(
 ) -> Result<(), SetFault>
     requires turn { cx.old.log.state.held ≡ true }
     requires at { at < length table.old }
-    ensures adds { AddsEvents 1 result cx.old cx.new }
+    ensures adds { AddsEvents 1 (AreLive cx.new.log.state.live table.new) result cx.old cx.new }
     ensures table { table.new ≡ changed error_passed table.old at }
     ensures told { OnOk result (may_pass_error_at table.old at ≡ true
         → IsToldBefore cx.new.log.state.pending Error table.new at) }
@@ -204,7 +204,7 @@ fn act<P: Transform + Drop>(
     ensures driven { OnOk result
         (Covers (works_at event) at chain.old chain.new table.old table.new cx.old cx.new) }
     ensures others { (first : ℕ) → KeepsOthers first table.old cx.old cx.new }
-    ensures cause { IfErr result (λ fault. IsCause fault cx.new) }
+    ensures cause { IfErr result (λ fault. IsCause (AreAllLive chain.new table.new cx.new) fault cx.new) }
 {
     if chain.has_ended(at) {
         destroy_at(table, at, cx);
@@ -236,7 +236,7 @@ pub fn handle_at<P: Transform + Drop>(
     ensures driven { OnOk result
         (CoversHandled at event chain.old chain.new table.old table.new cx.old cx.new) }
     ensures others { (first : ℕ) → KeepsOthers first table.old cx.old cx.new }
-    ensures cause { IfErr result (λ fault. IsCause fault cx.new) }
+    ensures cause { IfErr result (λ fault. IsCause (AreAllLive chain.new table.new cx.new) fault cx.new) }
 {
     unrouse_for(table, at, event);
     act(chain, table, at, event, cx)

@@ -8,6 +8,8 @@ mod ends;
 mod handler;
 mod link_drive;
 mod link_ends;
+#[cfg(test)]
+mod link_tests;
 mod link_world;
 mod loss;
 mod pump;
@@ -19,10 +21,12 @@ mod tests;
 mod transform;
 mod wake;
 mod world;
+#[cfg(test)]
+mod world_tests;
 
 pub use chain::Chain;
 pub use driven::DrivenChain;
-pub use link_drive::drive_links;
+pub use link_drive::{DriveFault, drive_links};
 pub use link_world::LinkWorld;
 pub use loss::Loss;
 pub use pump::Pumped;

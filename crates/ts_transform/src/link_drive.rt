@@ -1,38 +1,58 @@
 //! A chain between two links, driven to its end by one who owns its group.
-ghost use Rattle.std.specs.Prelude.{◌≡◌, true, false, IfOk, OnOk};
-ghost use Rattle.ts_transform.specs.Carrying.{CarriesTo, IsCarriedGroup, WritesWhole};
+ghost use Rattle.std.specs.Prelude.{◌≡◌, ◌≤◌, ◌<◌, ◌+◌, [], true, false, Ok, Err, OnOk};
+ghost use Rattle.ts_journal.specs.declared.entry.TheConstants.{GREATEST};
+ghost use Rattle.ts_group.specs.Due.{IsDueFirst};
+ghost use Rattle.ts_transform.specs.declared.link_drive.DriveFault.TheVariants.{Spent};
+ghost use Rattle.ts_transform.specs.Carrying.{CarriesTo, IsCarriedGroup, MakesTurns, WritesWhole};
 
 use crate::link_world::LinkWorld;
 use crate::transform::Transform;
 use ts_group::{Group, Handling};
-use ts_link::{Link, NoMemory};
+use ts_link::Link;
 
 // The seat of whoever drives a group that nobody else owns.
 const SEAT: u64 = 0;
 
-// Handles the event of a number in a turn of its own.
+/// Why a chain is driven no further.
+#[derive(Clone, Copy, Debug, PartialEq, Eq)]
+pub enum DriveFault {
+    /// Memory lacked for a turn, or for the next event of a series.
+    NoMemory,
+    /// The numbers of turns are used up.
+    Spent,
+}
+
+// Handles the event that is due first, in a turn of its own.
 fn take_turn<I: Link + Drop, K: Link + Drop, P: Transform + Drop>(
     group: &mut Group<LinkWorld<I, K, P>>,
+    due: u64,
     number: u64,
     moment: u64,
-) -> Result<(), NoMemory>
+) -> Result<(), DriveFault>
     requires idle { group.old.cx.log.state.held ≡ false }
     requires carried { IsCarriedGroup group.old }
+    requires due { IsDueFirst group.old.cx.log.state due number × (due ≤ moment) }
     ensures idle { group.new.cx.log.state.held ≡ false }
-    ensures carried { OnOk result (IsCarriedGroup group.new) }
-    ensures carries { OnOk result
-        (CarriesTo P.rest I.tells K.tells I.look K.look group.old.world group.new.world) }
+    ensures carried { IsCarriedGroup group.new }
+    ensures carries { CarriesTo P.rest I.tells K.tells I.look K.look group.old.world group.new.world }
+    ensures turn { OnOk result ((group.new.cx.log.state.turns ≡ group.old.cx.log.state.turns + 1)
+        × (group.old.cx.log.state.handled_count < group.new.cx.log.state.handled_count)) }
+    ensures spent { result ≡ Err Spent → GREATEST ≤ group.new.cx.log.state.turns }
 {
     let Some(turn) = group.journal().turns().checked_add(1) else {
-        return Err(NoMemory);
+        return Err(DriveFault::Spent);
     };
-    group.begin_turn(turn, SEAT, moment)?;
+    if let Err(_) = group.begin_turn(turn, SEAT, moment) {
+        return Err(DriveFault::NoMemory);
+    }
     let handled = group.handle(number, moment);
     group.give_turn();
     match handled {
+        Ok(Handling::Handled { events: _ }) => Ok(()),
         Ok(Handling::Asks { .. }) => unreachable!(),
-        Ok(_) => Ok(()),
-        Err(_) => Err(NoMemory),
+        Ok(Handling::NotPending) => unreachable!(),
+        Ok(Handling::NotDue { due: _ }) => unreachable!(),
+        Err(_) => Err(DriveFault::NoMemory),
     }
 }
 
@@ -42,23 +62,27 @@ fn take_turn<I: Link + Drop, K: Link + Drop, P: Transform + Drop>(
 pub fn drive_links<I: Link + Drop, K: Link + Drop, P: Transform + Drop>(
     group: &mut Group<LinkWorld<I, K, P>>,
     turns: u32,
-) -> Result<bool, NoMemory>
+) -> Result<bool, DriveFault>
     requires idle { group.old.cx.log.state.held ≡ false }
     requires carried { IsCarriedGroup group.old }
-    ensures idle { OnOk result (group.new.cx.log.state.held ≡ false) }
-    ensures carried { OnOk result (IsCarriedGroup group.new) }
-    ensures carries { OnOk result
-        (CarriesTo P.rest I.tells K.tells I.look K.look group.old.world group.new.world) }
-    ensures whole { IfOk result (λ done. done ≡ true
-        → WritesWhole P.rest I.tells K.tells I.look K.look group.old.world group.new.world) }
+    ensures idle { group.new.cx.log.state.held ≡ false }
+    ensures carried { IsCarriedGroup group.new }
+    ensures carries { CarriesTo P.rest I.tells K.tells I.look K.look group.old.world group.new.world }
+    ensures done { result ≡ Ok true → (group.new.cx.log.state.pending ≡ [])
+        × WritesWhole P.rest I.tells K.tells I.look K.look group.old.world group.new.world }
+    ensures goes_on { result ≡ Ok false → MakesTurns turns group.old.cx group.new.cx }
+    ensures spent { result ≡ Err Spent → GREATEST ≤ group.new.cx.log.state.turns }
 {
     let mut moment = 0;
-    'turns: for _ in 0..turns {
+    'turns: for made in 0..turns {
         let Some((due, number)) = group.next_due() else {
             return Ok(true);
         };
         moment = due.max(moment);
-        take_turn(group, number, moment)?;
+        take_turn(group, due, number, moment)?;
     }
-    Ok(group.next_due().is_none())
+    match group.next_due() {
+        None => Ok(true),
+        Some(_) => Ok(false),
+    }
 }

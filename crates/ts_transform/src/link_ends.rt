@@ -1,9 +1,9 @@
 //! The two ends of a chain between links: the continuations that read and write.
-ghost use Rattle.std.specs.Prelude.{◌≡◌, ℕ, ◌⊎◌, Some, true, false, is_ok, IfOk, IfErr, OnOk};
+ghost use Rattle.std.specs.Prelude.{◌≡◌, ℕ, ◌⊎◌, Some, true, false, is_ok, IfOk, IfErr, OnOk, ⊤};
 ghost use Rattle.ts_group.specs.Context.{role_at};
 ghost use Rattle.ts_group.specs.Entries.{Grows};
 ghost use Rattle.ts_group.specs.Changes.{SameEvents, KeepsKeys};
-ghost use Rattle.ts_transform.specs.Driving.{AddsEvents, IsNamedIf, IsRousedIf, IsRousingOf, KeepsStage, SetsOnly, unroused};
+ghost use Rattle.ts_transform.specs.Driving.{AddsEvents, HasLiveIf, IsNamedIf, IsRousedIf, IsRousingOf, KeepsStage, SetsOnly, unroused};
 ghost use Rattle.ts_transform.specs.Loss.{IsCauseOf, making_loss};
 
 use crate::continuation::{Rouser, StageContinuation, rouse};
@@ -18,7 +18,7 @@ pub fn make_end(role: u32, cx: &mut Cx) -> Result<StageContinuation, MakeFault>
     ensures events { SameEvents cx.old.log.state cx.new.log.state }
     ensures keys { KeepsKeys cx.old.log.state cx.new.log.state cx.old.roles cx.new.roles }
     ensures named { IfOk result (λ t. (role_at t.key.index cx.new.roles ≡ Some role) × (t.roused ≡ false)) }
-    ensures cause { IfErr result (λ fault. IsCauseOf (making_loss fault) cx.new) }
+    ensures cause { IfErr result (λ fault. IsCauseOf ⊤ (making_loss fault) cx.new) }
 {
     let key = cx.make(role)?;
     Ok(StageContinuation {
@@ -45,7 +45,7 @@ pub fn rouse_end(
     cx: &mut Cx,
 ) -> Result<(), SetFault>
     requires turn { cx.old.log.state.held ≡ true }
-    ensures adds { AddsEvents 1 result cx.old cx.new }
+    ensures adds { AddsEvents 1 (HasLiveIf cx.new.log.state.live slot.new) result cx.old cx.new }
     ensures stage { KeepsStage cx.old cx.new slot.old slot.new }
     ensures only { (role : ℕ) → IsNamedIf cx.old.roles role slot.old
         → SetsOnly (IsRousingOf role after cx.old.moment cx.old.roles) cx.old cx.new }

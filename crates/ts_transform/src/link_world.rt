@@ -6,11 +6,10 @@ ghost use Rattle.ts_group.specs.declared.world.Want.TheVariants as Want;
 ghost use Rattle.ts_group.specs.Calls.{IsCalled};
 ghost use Rattle.ts_group.specs.Context.{IsSame};
 ghost use Rattle.ts_group.specs.Entries.{Grows};
-ghost use Rattle.ts_transform.specs.declared.loss.Loss.TheVariants as Loss;
 ghost use Rattle.ts_transform.specs.Flow.{IsFinished, aborted, compose, flow, fresh_stage};
 ghost use Rattle.ts_transform.specs.Driving.{ActsWithin, IsNamedIf, IsRousedIf};
-ghost use Rattle.ts_transform.specs.Driven.{MayLose, SameCourse};
-ghost use Rattle.ts_transform.specs.Carrying.{AreEndsRoused, HandlesCarried, HandlesJoined, HandlesWaits, HasLinkBegun, InputWaits, IsCarried, IsSameBut, KeepsCourse, KeepsReader, KeepsWriter, Moves, OutputWaits, RetriesRead, RetriesWrite, RousesEnd, StaysJoined, Steps, TriesAgain};
+ghost use Rattle.ts_transform.specs.Driven.{HasBegun, SameCourse};
+ghost use Rattle.ts_transform.specs.Carrying.{AreEndsRoused, AreLinked, HandlesCarried, HandlesJoined, HandlesWaits, HasLinkBegun, HasStepped, InputWaits, IsCarried, IsSameBut, KeepsCourse, KeepsReader, KeepsWriter, LacksMemory, MayBreak, Moves, OutputWaits, RetriesRead, RetriesWrite, RousesEnd, StaysJoined, Steps, TriesAgain};
 
 use crate::chain::Chain;
 use crate::continuation::{StageContinuation, works};
@@ -317,10 +316,14 @@ impl<I: Link + Drop, K: Link + Drop, P: Transform + Drop> LinkWorld<I, K, P> {
         self.rouse_reader(reads, 0, cx);
     }
 
-    // Whether memory lacked when an event was lost the last time.
+    // Whether an event was lost for want of memory.
     fn lacks_memory(&self) -> bool
-        ensures { result ≡ true → self.now.driven.lost ≡ Some Loss.NoMemory }
+        ensures lacks { result ≡ true → LacksMemory self.now }
+        ensures has { result ≡ false → LacksMemory self.now → ⊥ }
     {
+        if self.driven.running {
+            return false;
+        }
         matches!(self.driven.lost, Some(Loss::NoMemory))
     }
 
@@ -331,9 +334,10 @@ impl<I: Link + Drop, K: Link + Drop, P: Transform + Drop> LinkWorld<I, K, P> {
         ensures steps { Steps P.rest I.tells K.tells I.look K.look self.old self.new }
         ensures carried { HandlesCarried role event self.old self.new cx.old cx.new }
         ensures again { HandlesWaits role event I.look K.look self.old self.new cx.old cx.new }
-        ensures loses { MayLose self.old.driven self.new.driven cx.new }
+        ensures loses { MayBreak self.old self.new cx.new }
         ensures within { ActsWithin 6 cx.old cx.new }
         ensures lost { self.old.driven.running ≡ false → (self.new ≡ self.old) × IsSame cx.old cx.new }
+        ensures stops { self.old.driven.running ≡ true → LacksMemory self.new → self.new.aborted ≡ true }
     {
         if !self.driven.running {
             return;
@@ -353,6 +357,7 @@ impl<I: Link + Drop, K: Link + Drop, P: Transform + Drop> LinkWorld<I, K, P> {
         ensures carried { IsCarried self.old cx.old.log.state.pending cx.old.roles
             → IsCarried self.new cx.new.log.state.pending cx.new.roles }
         ensures within { ActsWithin 3 cx.old cx.new }
+        ensures cause { HasBegun (AreLinked self.new cx.new) self.new.driven cx.new }
     {
         match make_end(WRITER, cx) {
             Ok(writer) => self.writer = Some(writer),
@@ -423,7 +428,7 @@ impl<I: Link + Drop, K: Link + Drop, P: Transform + Drop> World for LinkWorld<I,
     ghost heard = { λ old new asked. new ≡ old };
 
     // What a handler leads to: a step.
-    ghost called = { λ old new asked. Steps P.rest I.tells K.tells I.look K.look old new };
+    ghost called = { λ old new asked. HasStepped P.rest I.tells K.tells I.look K.look old new };
 
     fn start(&mut self, cx: &mut Cx)
         requires turn { cx.old.log.state.held ≡ true }
@@ -431,6 +436,8 @@ impl<I: Link + Drop, K: Link + Drop, P: Transform + Drop> World for LinkWorld<I,
         ensures sound { IsCarried self.new cx.new.log.state.pending cx.new.roles }
         ensures within { ActsWithin 3 cx.old cx.new }
         ensures begun { HasLinkBegun self.old self.new }
+        ensures cause { self.old.writer ≡ None
+            → HasBegun (AreLinked self.new cx.new) self.new.driven cx.new }
     {
         if self.writer.is_none() {
             self.begin(cx);
@@ -441,9 +448,9 @@ impl<I: Link + Drop, K: Link + Drop, P: Transform + Drop> World for LinkWorld<I,
         requires turn { cx.old.log.state.held ≡ true }
         requires called { IsCalled (λ s roles. IsCarried self.old s.pending roles) cx.old role event }
         ensures sound { (result ≡ Want.Nothing) × IsCarried self.new cx.new.log.state.pending cx.new.roles }
-        ensures steps { Steps P.rest I.tells K.tells I.look K.look self.old self.new }
+        ensures steps { HasStepped P.rest I.tells K.tells I.look K.look self.old self.new }
         ensures again { TriesAgain I.look K.look self.old self.new cx.old cx.new }
-        ensures loses { MayLose self.old.driven self.new.driven cx.new }
+        ensures loses { MayBreak self.old self.new cx.new }
         ensures within { ActsWithin 6 cx.old cx.new }
         ensures lost { self.old.driven.running ≡ false → (self.new ≡ self.old) × IsSame cx.old cx.new }
     {

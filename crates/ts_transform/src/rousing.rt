@@ -3,7 +3,7 @@ ghost use Rattle.std.specs.Prelude.{◌≡◌, ◌≢◌, ℕ, ◌+◌, ◌<◌,
 ghost use Rattle.ts_group.specs.declared.action.SetFault.TheVariants.{Dead};
 ghost use Rattle.ts_journal.specs.declared.entry.Event.TheVariants.{WriteReady};
 ghost use Rattle.ts_transform.specs.declared.continuation.Rouser.TheVariants as Rouser;
-ghost use Rattle.ts_transform.specs.Driving.{AddsEvents, AreNamed, IsCalledUnless, IsLastMarked, IsMarked, IsRoused, IsRousedIf, IsTelling, IsTold, KeepsStages, RousesAt, SetsOnly, all_unroused, changed, error_passed, gone, last_of, may_pass_error_at, unroused, unroused_at};
+ghost use Rattle.ts_transform.specs.Driving.{AddsEvents, AreLive, AreNamed, HasLive, IsCalledUnless, IsLastMarked, IsMarked, IsRoused, IsRousedIf, IsTelling, IsTold, KeepsStages, RousesAt, SetsOnly, all_unroused, changed, error_passed, gone, last_of, may_pass_error_at, unroused, unroused_at};
 
 use crate::continuation::{Rouser, StageContinuation, rouse, works};
 use ts_group::{Cx, SetFault};
@@ -20,7 +20,7 @@ pub fn rouse_at(
 ) -> Result<(), SetFault>
     requires turn { cx.old.log.state.held ≡ true }
     requires at { at < length table.old }
-    ensures adds { AddsEvents 1 result cx.old cx.new }
+    ensures adds { AddsEvents 1 (HasLive cx.new.log.state.live table.new at) result cx.old cx.new }
     ensures stages { KeepsStages cx.old cx.new table.old table.new }
     ensures rouses { RousesAt at pause table.old cx.old cx.new }
     ensures roused { OnOk result (IsRoused table.new at) }
@@ -111,7 +111,7 @@ pub fn tell(
 ) -> Result<(), SetFault>
     requires turn { cx.old.log.state.held ≡ true }
     requires at { at < length table.now }
-    ensures adds { AddsEvents 1 result cx.old cx.new }
+    ensures adds { AddsEvents 1 (AreLive cx.new.log.state.live table.now) result cx.old cx.new }
     ensures told { OnOk result (IsTold cx.new.log.state.pending event table.now at) }
     ensures only { (first : ℕ) → AreNamed cx.old.roles first table.now
         → SetsOnly (IsTelling event (first + at) cx.old.roles) cx.old cx.new }

@@ -1,11 +1,11 @@
 //! How the stages of a chain begin: a continuation for each, and an event for the first.
-ghost use Rattle.std.specs.Prelude.{◌≡◌, ℕ, ◌+◌, ◌<◌, [], length, true, false, Some, OnOk, IfOk, IfErr, IfSome};
+ghost use Rattle.std.specs.Prelude.{◌≡◌, ℕ, ◌+◌, ◌<◌, [], length, true, false, Some, OnOk, IfOk, IfErr, IfSome, ⊤};
 ghost use Rattle.ts_group.specs.Context.{role_at};
 ghost use Rattle.ts_group.specs.Entries.{Grows};
 ghost use Rattle.ts_group.specs.Changes.{SameEvents, KeepsKeys};
 ghost use Rattle.ts_transform.specs.Flow.{OnlyFirstWorks};
 ghost use Rattle.ts_transform.specs.Driving.{ActsWithin, AreOfStages, KeepsMade, SetsOnly};
-ghost use Rattle.ts_transform.specs.Cover.{IsDriven, IsRousing};
+ghost use Rattle.ts_transform.specs.Cover.{AreAllLive, IsDriven, IsRousing};
 ghost use Rattle.ts_transform.specs.Loss.{IsCauseOf, making_loss};
 
 use crate::chain::Chain;
@@ -34,7 +34,7 @@ fn make_one(first: u32, at: usize, cx: &mut Cx) -> Result<StageContinuation, Mak
     ensures keys { KeepsKeys cx.old.log.state cx.new.log.state cx.old.roles cx.new.roles }
     ensures named { IfOk result
         (λ t. (role_at t.key.index cx.new.roles ≡ Some (first + at)) × (t.roused ≡ false)) }
-    ensures cause { IfErr result (λ fault. IsCauseOf (making_loss fault) cx.new) }
+    ensures cause { IfErr result (λ fault. IsCauseOf ⊤ (making_loss fault) cx.new) }
 {
     let Some(role) = role_of(first, at) else {
         return Err(MakeFault::NoMemory);
@@ -57,7 +57,7 @@ fn make_all(
     ensures events { SameEvents cx.old.log.state cx.new.log.state }
     ensures ok { OnOk result ((length table.new.items ≡ stages)
         × AreOfStages cx.new.log.state.pending cx.new.roles first table.new.items) }
-    ensures cause { IfErr result (λ fault. IsCauseOf (making_loss fault) cx.new) }
+    ensures cause { IfErr result (λ fault. IsCauseOf ⊤ (making_loss fault) cx.new) }
     ensures made { KeepsMade cx.old cx.new }
 {
     for at in 0..stages {
@@ -84,7 +84,8 @@ pub fn begin<P: Transform + Drop>(
     ensures only { SetsOnly (IsRousing P.pause first chain.now [] cx.old.moment cx.new.roles) cx.old cx.new }
     ensures driven { OnOk result (OnlyFirstWorks chain.now
         → IsDriven first chain.now table.new.items cx.new.log.state.pending cx.new.roles) }
-    ensures cause { IfErr result (λ loss. IsCauseOf loss cx.new) }
+    ensures cause { IfErr result
+        (λ loss. IsCauseOf (AreAllLive chain.now table.new.items cx.new) loss cx.new) }
     ensures made { KeepsMade cx.old cx.new }
 {
     if let Err(fault) = make_all(first, table, chain.stages(), cx) {

@@ -42,6 +42,25 @@ impl Transform for Tail {
     }
 }
 
+/// So many tails of one text.
+pub fn tails(alloc: Global, count: usize, text: &[u8]) -> Result<Vec<Tail>, NoMemory> {
+    let mut tails = Vec::new(alloc);
+    for _ in 0..count {
+        let text = Octets::copy_of(alloc, text)?;
+        tails.push(Tail { text, pause: 0 })?;
+    }
+    Ok(tails)
+}
+
+/// A body of so many letters, in their order again and again.
+pub fn counting(alloc: Global, len: u32) -> Result<Vec<u8>, NoMemory> {
+    let mut body = Vec::new(alloc);
+    for place in 0..len {
+        body.push(b'a' + (place % 26) as u8)?;
+    }
+    Ok(body)
+}
+
 #[test]
 fn two_tails_are_written_in_the_order_of_the_chain(rt: HostRuntime) -> Result<(), Fail> {
     let mut parts = Vec::new(rt.alloc());

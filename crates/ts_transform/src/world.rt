@@ -12,7 +12,7 @@ ghost use Rattle.ts_transform.specs.declared.continuation.StageContinuation.{Sta
 ghost use Rattle.ts_transform.specs.Driving.{ActsWithin, IsRoused, SetsFew, SetsOnly, all_unroused, errors_to_pass, last_of};
 ghost use Rattle.ts_transform.specs.Cover.{IsAwake, IsRousing};
 ghost use Rattle.ts_transform.specs.Acting.{IsStage};
-ghost use Rattle.ts_transform.specs.Driven.{Acts, HasBegun, HasBegunFrom, IsMarkedFor, IsOfNoStage, MarkLoses, MayLose, MayWake, SameCourse};
+ghost use Rattle.ts_transform.specs.Driven.{Acts, HasAllLive, HasBegun, HasBegunFrom, IsMarkedFor, IsOfNoStage, MarkLoses, MayLose, MayWake, SameCourse};
 ghost use Rattle.ts_transform.specs.World.{GoesOnWith, IsSound};
 
 use crate::chain::Chain;
@@ -216,7 +216,8 @@ impl<P: Transform + Drop> World for ChainWorld<P> {
         ensures few { SetsFew 1 cx.old cx.new }
         ensures only { SetsOnly (IsRousing P.pause 1 self.old.driven.chain self.old.driven.table.items
             cx.old.moment cx.new.roles) cx.old cx.new }
-        ensures begun { (length self.old.driven.table.items ≡ 0 → HasBegun self.new.driven cx.new)
+        ensures begun { (length self.old.driven.table.items ≡ 0
+            → HasBegun (HasAllLive self.new.driven cx.new) self.new.driven cx.new)
             × (self.new.driven.chain ≡ self.old.driven.chain) }
         ensures again { (length self.old.driven.table.items ≡ 0 → ⊥)
             → (self.new ≡ self.old) × IsSame cx.old cx.new }
@@ -232,7 +233,8 @@ impl<P: Transform + Drop> World for ChainWorld<P> {
         ensures sound { (result ≡ Want.Nothing) × IsSound self.new cx.new.log.state.pending cx.new.roles }
         ensures within { ActsWithin 4 cx.old cx.new }
         ensures goes_on { GoesOnWith P.rest self.old self.new cx.old cx.new }
-        ensures loses { MayLose self.old.driven self.new.driven cx.new }
+        ensures loses { MayLose (HasAllLive self.new.driven cx.new)
+            self.old.driven self.new.driven cx.new }
 
         // The stage of the role handles the event; of another role all is left as it was.
         ensures acts { (at : ℕ) → role ≡ 1 + at → IsStage self.old.driven.chain self.old.driven.table.items at

@@ -1,4 +1,6 @@
-use Rattle.ts_transform.proofs.Kept.{adds_dead, adds_none}
+use Rattle.std.proofs.Common.{arith, subst}
+use Rattle.ts_transform.specs.Driving.{HasLiveIf}
+use Rattle.ts_transform.proofs.Kept.{adds_dead, adds_err, adds_none}
 use Rattle.ts_transform.proofs.Setting.{slot_rousing}
 use Rattle.ts_transform.proofs.continuation.rouse.Goals as goal
 
@@ -11,7 +13,10 @@ returns-clause-only c = λ role.
     slot_rousing c.args.cx.now.roles role c.args.pause c.args.cx.now.moment c.args.slot.now c.in-Some.continuation c.args.cx.now c.set_event.new.cx c.in-Some.is c.set_event.ensures.only
 
 pub returns-in_default-clause-adds : goal.returns-in_default-clause-adds
-returns-in_default-clause-adds c = adds_dead c.args.cx.now 1 c.requires.turn
+returns-in_default-clause-adds c = adds_dead c.args.cx.now 1 c.requires.turn (λ live. subst (HasLiveIf c.args.cx.now.log.state.live) c.in_default.is live)
 
 pub returns-then-continuation-clause-adds : goal.returns-then-continuation-clause-adds
 returns-then-continuation-clause-adds c = adds_none c.args.cx.now 1 c.requires.turn
+
+pub returns-in_err-set_event-clause-adds : goal.returns-in_err-set_event-clause-adds
+returns-in_err-set_event-clause-adds c = adds_err 1 1 c.from_residual.result _ c.from_residual.ensures.1 (omega arith) c.in_err-set_event.ensures.adds

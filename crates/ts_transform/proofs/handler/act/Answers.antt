@@ -4,7 +4,7 @@ use Rattle.ts_transform.specs.Driving.{works_at}
 use Rattle.ts_transform.proofs.Acting.{acts_gone, acts_passes, acts_rests, acts_works, pays_errors, pays_none, pays_pumps}
 use Rattle.ts_transform.proofs.Closing.{closed_driven, others_kept, others_same}
 use Rattle.ts_transform.proofs.Covering.{driven_but, driven_quiet, driven_kept, any_ok, on_ok}
-use Rattle.ts_transform.proofs.Kept.{acts_adds, acts_lessens, acts_none}
+use Rattle.ts_transform.proofs.Kept.{acts_adds, acts_lessens, acts_none, err_weaker}
 use Rattle.ts_transform.proofs.PassedErrors.{passed_driven}
 use Rattle.ts_transform.proofs.handler.act.Goals as goal
 
@@ -87,3 +87,6 @@ returns-in_default-clause-pays g c = pays_none g.P.Transform.rest c.args.chain.n
 pub returns-in_default-clause-driven : goal.returns-in_default-clause-driven
 returns-in_default-clause-driven g c = λ first driven.
     driven_quiet (works_at c.args.event) first c.args.at c.args.chain.now c.args.table.now c.args.cx.now.log.state.pending c.args.cx.now.roles (sym c.works.ensures ∙ c.if-works.false) driven
+
+pub returns-in-Error-clause-cause : goal.returns-in-Error-clause-cause
+returns-in-Error-clause-cause g c = err_weaker c.pass_error.result c.pass_error.new.cx (λ all. all.live) c.pass_error.ensures.adds.cause

@@ -1,6 +1,7 @@
-use Rattle.std.proofs.Common.{rules}
+use Rattle.std.proofs.Common.{arith, rules}
 use Rattle.ts_transform.specs.Flow.{MustWork}
-use Rattle.ts_transform.proofs.Kept.{adds_dead, adds_none}
+use Rattle.ts_transform.proofs.Kept.{adds_dead, adds_none, adds_weaker}
+use Rattle.ts_transform.proofs.Living.{live_within, must_live}
 use Rattle.ts_transform.proofs.MaySet.{rousing_ready}
 use Rattle.ts_transform.proofs.handler.rouse_if_ready.Goals as goal
 
@@ -14,4 +15,14 @@ pub returns-then-not-must_pump-clause-adds : goal.returns-then-not-must_pump-cla
 returns-then-not-must_pump-clause-adds g c = adds_none c.args.cx.now 1 c.requires.turn
 
 pub returns-then-at-table-clause-adds : goal.returns-then-at-table-clause-adds
-returns-then-at-table-clause-adds g c = adds_dead c.args.cx.now 1 c.requires.turn
+returns-then-at-table-clause-adds g c =
+    let chain = c.args.chain.now in
+    let must : MustWork chain c.args.at = search rules in
+    adds_dead c.args.cx.now 1 c.requires.turn
+    (λ live. omega (arith, live_within c.args.cx.now.log.state.live c.args.table.now c.args.at (must_live chain c.args.table.now c.args.cx.now c.args.at must live), c.if-at-table.true))
+
+pub returns-clause-adds : goal.returns-clause-adds
+returns-clause-adds g c =
+    let chain = c.args.chain.now in
+    let must : MustWork chain c.args.at = search rules in
+    adds_weaker 1 c.rouse_at.result (must_live chain c.rouse_at.new.table c.rouse_at.new.cx c.args.at must) c.rouse_at.ensures.adds

@@ -1,5 +1,6 @@
 use Rattle.std.proofs.Common.{◌∙◌, arith}
 use Rattle.ts_transform.specs.Driving.{AddsEvents}
+use Rattle.ts_transform.specs.Cover.{AreAllLive}
 use Rattle.ts_transform.proofs.Covering.{any_ok}
 use Rattle.ts_transform.proofs.Called.{called_kept}
 use Rattle.ts_transform.proofs.Kept.{adds_err, adds_then, keeps_trans, stages_trans}
@@ -32,7 +33,7 @@ returns-clause-called g c = any_ok c.rouse_if_ready-2.result (λ j before pause 
 
 pub returns-in_err-rouse_before-clause-adds : goal.returns-in_err-rouse_before-clause-adds
 returns-in_err-rouse_before-clause-adds g c =
-    let failed : AddsEvents 1 c.from_residual-in_err-rouse_before.result c.rouse_if_ready.new.cx c.rouse_before.new.cx =
+    let failed : AddsEvents 1 (AreAllLive c.args.chain.now c.rouse_before.new.table c.rouse_before.new.cx) c.from_residual-in_err-rouse_before.result c.rouse_if_ready.new.cx c.rouse_before.new.cx =
     adds_err 1 1 c.from_residual-in_err-rouse_before.result _ c.from_residual-in_err-rouse_before.ensures.1 (omega arith) c.in_err-rouse_before.ensures.adds in
     adds_then 1 1 3 c.rouse_if_ready.result c.from_residual-in_err-rouse_before.result (omega arith) c.rouse_if_ready.ensures.adds failed
 

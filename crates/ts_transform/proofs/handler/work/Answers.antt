@@ -5,7 +5,7 @@ use Rattle.ts_transform.specs.Driving.{AddsEvents}
 use Rattle.ts_transform.proofs.Acting.{pumps, pumps_none, tells_rest}
 use Rattle.ts_transform.proofs.Called.{called_kept}
 use Rattle.ts_transform.proofs.Covering.{moved-some, worked, rested, driven_kept, on_ok, any_ok, IsResting}
-use Rattle.ts_transform.proofs.Kept.{adds_err, adds_lacks, adds_more, adds_none, adds_then, stages_kept, stages_trans}
+use Rattle.ts_transform.proofs.Kept.{adds_err, adds_lacks, adds_more, adds_none, adds_then, adds_weaker, stages_kept, stages_trans}
 use Rattle.ts_transform.proofs.MaySet.{may_rouse, may_set_none, may_tell}
 use Rattle.ts_transform.proofs.Told.{moved_goes}
 use Rattle.ts_transform.proofs.handler.work.Goals as goal
@@ -70,7 +70,7 @@ returns-in_err-rouse_round-in-Ended-clause-only g c = λ event.
 pub returns-in_ok-rouse_round-in-Ended-clause-adds :
     goal.returns-in_ok-rouse_round-in-Ended-clause-adds
 returns-in_ok-rouse_round-in-Ended-clause-adds g c =
-    adds_then 3 1 4 c.rouse_round-in-Ended.result c.tell_before.result (omega arith) c.rouse_round-in-Ended.ensures.adds c.tell_before.ensures.adds
+    adds_then 3 1 4 c.rouse_round-in-Ended.result c.tell_before.result (omega arith) c.rouse_round-in-Ended.ensures.adds (adds_weaker 1 c.tell_before.result (λ all. all.live) c.tell_before.ensures.adds)
 
 pub returns-in_ok-rouse_round-in-Ended-clause-stages :
     goal.returns-in_ok-rouse_round-in-Ended-clause-stages

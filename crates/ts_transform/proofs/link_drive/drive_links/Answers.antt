@@ -1,8 +1,8 @@
-use Rattle.std.proofs.Common.{◌≡◌, [], true, refl, rules, subst}
+use Rattle.std.proofs.Common.{◌≡◌, ◌+◌, [], true, refl, rules, arith, subst, ◌∙◌}
 use Rattle.ts_transform.specs.Carrying.{IsCarried}
 use Rattle.ts_transform.proofs.Carrying.{has_written}
 use Rattle.ts_transform.proofs.Joined.{all_carried}
-use Rattle.ts_transform.proofs.Runs.{to_refl, to_trans}
+use Rattle.ts_transform.proofs.Runs.{not_aborted, to_refl, to_trans}
 use Rattle.ts_transform.proofs.link_drive.drive_links.Goals as goal
 
 pub turns-init : goal.turns-init
@@ -12,33 +12,51 @@ turns-init g c =
       idle = c.requires.idle;
       carried = c.requires.carried;
       carries = to_refl g.P.Transform.rest g.I.Link.tells g.K.Link.tells g.I.Link.look g.K.Link.look world world refl;
+      made = omega arith;
+      handled = omega arith;
     }
 
 pub turns-preserved : goal.turns-preserved
 turns-preserved g c = record {
-  idle = c.in_ok-take_turn.ensures.idle;
-  carried = c.in_ok-take_turn.ensures.carried;
+  idle = c.take_turn.ensures.idle;
+  carried = c.take_turn.ensures.carried;
   carries = to_trans g.P.Transform.rest g.I.Link.tells g.K.Link.tells g.I.Link.look g.K.Link.look c.args.group.now.world c.turns.group.world c.take_turn.new.group.world c.turns.invariant.carries
-      c.in_ok-take_turn.ensures.carries;
+      c.take_turn.ensures.carries;
+  made = omega (arith, c.turns.invariant.made, c.in_ok-take_turn.ensures.turn.0);
+  handled = omega (arith, c.turns.invariant.handled, c.in_ok-take_turn.ensures.turn.1);
 }
 
--- Nothing is pending, so all was written.
-pub returns-in_default-clause-whole : goal.returns-in_default-clause-whole
-returns-in_default-clause-whole g c = λ done runs goes opened in_tells out_tells.
-    let was = c.args.group.now.world in
-    let now = c.turns.group in
-    let none : now.cx.log.state.pending ≡ [] = search rules in
-    let carried : IsCarried now.world [] now.cx.roles = subst (λ ps. IsCarried now.world ps now.cx.roles) none c.turns.invariant.carried in
-    let all = all_carried now.world.driven.chain now.world.driven.table.items now.world.writer now.world.reader now.cx.roles (carried.joined runs) (carried.ends runs) carried.ordered in
-    has_written g.P.Transform.rest g.I.Link.tells g.K.Link.tells (g.I.Link.look was.input) (g.I.Link.look now.world.input) (g.K.Link.look was.output) (g.K.Link.look now.world.output) was.driven.chain now.world.driven.chain
-    was.aborted now.world.aborted c.turns.invariant.carries all.0 all.1 goes opened in_tells out_tells
+-- A turn could not be made.
+pub returns-in_err-take_turn-clause-carries : goal.returns-in_err-take_turn-clause-carries
+returns-in_err-take_turn-clause-carries g c =
+    to_trans g.P.Transform.rest g.I.Link.tells g.K.Link.tells g.I.Link.look g.K.Link.look c.args.group.now.world c.turns.group.world c.take_turn.new.group.world c.turns.invariant.carries
+    c.take_turn.ensures.carries
 
-pub returns-clause-whole : goal.returns-clause-whole
-returns-clause-whole g c = λ done runs goes opened in_tells out_tells.
+-- Nothing is pending, so all was written.
+pub returns-in_default-clause-done : goal.returns-in_default-clause-done
+returns-in_default-clause-done g c = λ done.
     let was = c.args.group.now.world in
     let now = c.turns.group in
     let none : now.cx.log.state.pending ≡ [] = search rules in
-    let carried : IsCarried now.world [] now.cx.roles = subst (λ ps. IsCarried now.world ps now.cx.roles) none c.turns.invariant.carried in
-    let all = all_carried now.world.driven.chain now.world.driven.table.items now.world.writer now.world.reader now.cx.roles (carried.joined runs) (carried.ends runs) carried.ordered in
-    has_written g.P.Transform.rest g.I.Link.tells g.K.Link.tells (g.I.Link.look was.input) (g.I.Link.look now.world.input) (g.K.Link.look was.output) (g.K.Link.look now.world.output) was.driven.chain now.world.driven.chain
-    was.aborted now.world.aborted c.turns.invariant.carries all.0 all.1 goes opened in_tells out_tells
+    let carries = c.turns.invariant.carries in
+    let carried : IsCarried now.world [] now.cx.roles = subst (λ ps. IsCarried now.world ps now.cx.roles) none c.turns.invariant.carried in (
+      none,
+      λ runs goes opened reads writes in_tells out_tells.
+          let all = all_carried now.world.driven.chain now.world.driven.table.items now.world.writer now.world.reader now.cx.roles (carried.joined runs) (carried.ends runs) carried.ordered in
+          has_written g.P.Transform.rest g.I.Link.tells g.K.Link.tells (g.I.Link.look was.input) (g.I.Link.look now.world.input) (g.K.Link.look was.output) (g.K.Link.look now.world.output) was.driven.chain now.world.driven.chain
+          was.aborted now.world.aborted carries.on all.0 all.1 (not_aborted g.P.Transform.rest g.I.Link.tells g.K.Link.tells g.I.Link.look g.K.Link.look was now.world carries runs goes reads writes) opened in_tells out_tells,
+    )
+
+pub returns-in-None-clause-done : goal.returns-in-None-clause-done
+returns-in-None-clause-done g c = λ done.
+    let was = c.args.group.now.world in
+    let now = c.turns.group in
+    let none : now.cx.log.state.pending ≡ [] = search rules in
+    let carries = c.turns.invariant.carries in
+    let carried : IsCarried now.world [] now.cx.roles = subst (λ ps. IsCarried now.world ps now.cx.roles) none c.turns.invariant.carried in (
+      none,
+      λ runs goes opened reads writes in_tells out_tells.
+          let all = all_carried now.world.driven.chain now.world.driven.table.items now.world.writer now.world.reader now.cx.roles (carried.joined runs) (carried.ends runs) carried.ordered in
+          has_written g.P.Transform.rest g.I.Link.tells g.K.Link.tells (g.I.Link.look was.input) (g.I.Link.look now.world.input) (g.K.Link.look was.output) (g.K.Link.look now.world.output) was.driven.chain now.world.driven.chain
+          was.aborted now.world.aborted carries.on all.0 all.1 (not_aborted g.P.Transform.rest g.I.Link.tells g.K.Link.tells g.I.Link.look g.K.Link.look was now.world carries runs goes reads writes) opened in_tells out_tells,
+    )

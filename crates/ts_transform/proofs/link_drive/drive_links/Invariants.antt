@@ -1,4 +1,4 @@
-use Rattle.std.specs.Prelude.{◌≡◌, false}
+use Rattle.std.specs.Prelude.{◌≡◌, ◌≤◌, ◌+◌, false}
 use Rattle.ts_transform.specs.Carrying.{CarriesTo, IsCarriedGroup}
 use Rattle.ts_transform.proofs.link_drive.drive_links.Given as goal
 
@@ -8,4 +8,6 @@ invariant-turns g l = record {
   idle : l.group.cx.log.state.held ≡ false;
   carried : IsCarriedGroup l.group;
   carries : CarriesTo g.P.Transform.rest g.I.Link.tells g.K.Link.tells g.I.Link.look g.K.Link.look l.initial.group.world l.group.world;
+  made : l.group.cx.log.state.turns ≡ l.initial.group.cx.log.state.turns + l.made;
+  handled : l.initial.group.cx.log.state.handled_count + l.made ≤ l.group.cx.log.state.handled_count;
 }

@@ -1,17 +1,29 @@
-use Rattle.std.proofs.Common.{◌≡◌, false, sym, ap, subst, ◌∙◌}
+use Rattle.std.proofs.Common.{◌≡◌, refl, sym, subst, ◌∙◌}
 use Rattle.ts_transform.specs.Carrying.{CarriesTo}
-use Rattle.ts_transform.proofs.Runs.{handle_carries, sound_then}
+use Rattle.ts_transform.proofs.Runs.{handle_carries, to_refl}
 use Rattle.ts_transform.proofs.link_drive.take_turn.Goals as goal
 
-pub returns-in-Ok : goal.returns-in-Ok
-returns-in-Ok g c =
+-- No turn was made.
+pub returns-in_default-clause-carries : goal.returns-in_default-clause-carries
+returns-in_default-clause-carries g c =
+    let was = c.args.group.now.world in to_refl g.P.Transform.rest g.I.Link.tells g.K.Link.tells g.I.Link.look g.K.Link.look was was refl
+
+pub returns-in-Err-clause-carries : goal.returns-in-Err-clause-carries
+returns-in-Err-clause-carries g c =
+    to_refl g.P.Transform.rest g.I.Link.tells g.K.Link.tells g.I.Link.look g.K.Link.look c.args.group.now.world c.begin_turn.new.self.world c.begin_turn.ensures.world
+
+-- The event was handled.
+pub returns-in-Ok-Handled-clause-carries : goal.returns-in-Ok-Handled-clause-carries
+returns-in-Ok-Handled-clause-carries g c =
     let rest = g.P.Transform.rest in
     let was = c.args.group.now.world in
     let handled = c.handle-handled.new.self in
-    record {
-      idle = ap (λ s. s.held) c.give_turn.ensures.gives.state;
-      carried = c.give_turn.ensures.sound (sound_then c.in-Ok.field-0 _ (λ group question h. h.1) c.in-Ok.ensures.keeps);
-      carries = subst (λ w. CarriesTo rest g.I.Link.tells g.K.Link.tells g.I.Link.look g.K.Link.look was w) (sym c.give_turn.ensures.world)
-          (subst (λ w. CarriesTo rest g.I.Link.tells g.K.Link.tells g.I.Link.look g.K.Link.look w handled.world) c.begin_turn.ensures.world
-          (handle_carries rest g.I.Link.tells g.K.Link.tells g.I.Link.look g.K.Link.look c.begin_turn.new.self handled c.args.number c.args.moment c.in-Ok.field-0 c.in-Ok.ensures.gives));
-    }
+    subst (λ w. CarriesTo rest g.I.Link.tells g.K.Link.tells g.I.Link.look g.K.Link.look was w) (sym c.give_turn.ensures.world)
+    (subst (λ w. CarriesTo rest g.I.Link.tells g.K.Link.tells g.I.Link.look g.K.Link.look w handled.world) c.begin_turn.ensures.world
+    (handle_carries rest g.I.Link.tells g.K.Link.tells g.I.Link.look g.K.Link.look c.begin_turn.new.self handled c.args.number c.args.moment c.in-Ok-Handled.field-0 c.in-Ok-Handled.ensures-1.gives))
+
+-- Memory lacked for the next event of its series.
+pub returns-in-Err-handled-clause-carries : goal.returns-in-Err-handled-clause-carries
+returns-in-Err-handled-clause-carries g c =
+    to_refl g.P.Transform.rest g.I.Link.tells g.K.Link.tells g.I.Link.look g.K.Link.look c.args.group.now.world c.give_turn.new.self.world
+    (c.give_turn.ensures.world ∙ c.in-Err-handled.ensures.err.same.world ∙ c.begin_turn.ensures.world)

@@ -2,7 +2,8 @@ use Rattle.std.proofs.Common.{◌+◌, Ok, Err, arith, sym, ap, ◌∙◌}
 use Rattle.std.proofs.lemmas.Bool.{ltb-true}
 use Rattle.ts_group.specs.Context.{role_at}
 use Rattle.ts_transform.specs.Driving.{IsTelling}
-use Rattle.ts_transform.proofs.Kept.{adds_err, adds_none, adds_ok, set_adds}
+use Rattle.ts_transform.proofs.Kept.{adds_err, adds_none, adds_ok, adds_weaker, set_adds}
+use Rattle.ts_transform.proofs.Living.{slot_there}
 use Rattle.ts_transform.proofs.Setting.{named_slot, set_only}
 use Rattle.ts_transform.proofs.rousing.tell.Goals as goal
 
@@ -21,8 +22,12 @@ returns-in_default-clause-adds c = adds_none c.args.cx.now 1 c.requires.turn
 
 pub returns-in_err-call-clause-adds : goal.returns-in_err-call-clause-adds
 returns-in_err-call-clause-adds c =
-    adds_err 1 1 c.from_residual.result _ c.from_residual.ensures.1 (omega arith)
-    (set_adds c.args.cx.now c.call.new.self (Err _) c.in-Some-Some.continuation.key c.args.event _ c.call.ensures.grows c.in_err-call.ensures.sets c.call.ensures.roles)
+    let table = c.args.table.now in
+    let lookup = c.in-Some-Some.ensures.lookup in
+    let there = slot_there table c.args.at c.in-Some-Some.field-0.now c.in-Some-Some.continuation (ltb-true c.args.at _ (sym lookup.0)) (sym lookup.1 ∙ c.in-Some-Some.field-0-is) in
+    adds_weaker 1 c.from_residual.result (λ live. live c.args.at c.in-Some-Some.continuation there)
+    (adds_err 1 1 c.from_residual.result _ c.from_residual.ensures.1 (omega arith)
+    (set_adds c.args.cx.now c.call.new.self (Err _) c.in-Some-Some.continuation.key c.args.event _ c.call.ensures.grows c.in_err-call.ensures.sets c.call.ensures.roles))
 
 pub returns-clause-adds : goal.returns-clause-adds
 returns-clause-adds c =

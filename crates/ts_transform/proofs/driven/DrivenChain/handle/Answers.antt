@@ -1,5 +1,7 @@
-use Rattle.std.proofs.Common.{◌≡◌, ◌+◌, true, false, refl, ap, arith, sym, subst, length, ◌∙◌}
+use Rattle.std.proofs.Common.{Some, ◌≡◌, ◌+◌, true, false, refl, ap, arith, sym, subst, length, ◌∙◌}
 use Rattle.ts_transform.specs.Acting.{Pays, StillGives}
+use Rattle.ts_transform.specs.Driving.{IsCause}
+use Rattle.ts_transform.specs.Cover.{AreAllLive}
 use Rattle.ts_transform.proofs.Acting.{still_gives}
 use Rattle.ts_transform.proofs.Driving.{acts_in, in_table}
 use Rattle.ts_transform.proofs.Handled.{begun_other}
@@ -57,3 +59,13 @@ returns-in-Err-clause-gives g c =
     (still_gives g.P.Transform.rest c.in-Some.at self.chain acted.new.chain self.table.items acted.new.table c.args.cx.now acted.new.cx c.in-Some.ensures.1 acted.ensures.acts.own
     (acted.ensures.acts.len ∙ ap length c.deref_mut.ensures.value)
     (subst (λ ts. Pays g.P.Transform.rest self.chain acted.new.chain ts acted.new.table c.args.cx.now acted.new.cx) c.deref_mut.ensures.value acted.ensures.pays))
+
+pub returns-in-Err-clause-loses : goal.returns-in-Err-clause-loses
+returns-in-Err-clause-loses g c =
+    let self = c.args.self.now in
+    let acted = c.handle_at in (
+      refl,
+      ap Some c.of_set.ensures,
+      in_table (λ us. IsCause (AreAllLive acted.new.chain us acted.new.cx) c.in-Err.fault acted.new.cx) self.table.len acted.new.table self.table.items
+          (acted.ensures.acts.len ∙ ap length c.deref_mut.ensures.value ∙ sym self.table.ok.0) c.in-Err.ensures.cause,
+    )

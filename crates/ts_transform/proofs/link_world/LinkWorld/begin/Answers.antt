@@ -1,7 +1,8 @@
-use Rattle.std.proofs.Common.{◌≡◌, ◌+◌, ◌<◌, Some, None, length, arith, sym, ap, subst, ◌∙◌}
+use Rattle.std.proofs.Common.{false, inl, refl, ◌≡◌, ◌+◌, ◌<◌, Some, None, length, arith, sym, ap, subst, ◌∙◌}
 use Rattle.ts_vconn.specs.declared.moves.TheConstants.{MOST_PULLED}
-use Rattle.ts_transform.specs.Flow.{EndsInOrder, MOST_WAITING}
-use Rattle.ts_transform.proofs.Joined.{acts_made, made_of}
+use Rattle.ts_transform.specs.Stage.{MOST_WAITING}
+use Rattle.ts_transform.specs.Flow.{EndsInOrder}
+use Rattle.ts_transform.proofs.Joined.{acts_made, begun_made, begun_then, begun_weaker, made_of}
 use Rattle.ts_transform.proofs.Kept.{acts_then}
 use Rattle.ts_transform.proofs.Starting.{made_if}
 use Rattle.ts_transform.proofs.link_world.LinkWorld.begin.Goals as goal
@@ -37,3 +38,17 @@ returns-clause-carried g c = λ was.
       ordered = subst (λ x. EndsInOrder x.given x.stages) (sym chain) was.ordered;
       bounded = subst (λ x. length x.first < MOST_WAITING + MOST_PULLED) (sym chain) was.bounded;
     }
+
+-- It runs from now on, or is lost for a cause.
+pub returns-in-Err-clause-cause : goal.returns-in-Err-clause-cause
+returns-in-Err-clause-cause g c =
+    begun_made (record c.args.self.now.driven { running = false; lost = Some c.of_make.result }) c.in-Err.fault c.of_make.result c.make_end.new.cx refl refl c.of_make.ensures c.in-Err.ensures.cause
+
+pub returns-in-Err-make_end-clause-cause : goal.returns-in-Err-make_end-clause-cause
+returns-in-Err-make_end-clause-cause g c =
+    begun_made (record c.args.self.now.driven { running = false; lost = Some c.of_make-in-Err-make_end.result }) c.in-Err-make_end.fault c.of_make-in-Err-make_end.result c.make_end-2.new.cx refl refl c.of_make-in-Err-make_end.ensures c.in-Err-make_end.ensures.cause
+
+pub returns-clause-cause : goal.returns-clause-cause
+returns-clause-cause g c =
+    begun_then _ c.rouse_ends.new.self c.start.new.cx c.rouse_ends.new.cx (begun_weaker c.start.new.self c.start.new.cx (λ all. all.stages) c.start.ensures.begun)
+    (λ stopped. c.rouse_ends.ensures.idle (inl stopped)) c.rouse_ends.ensures.course.loses

@@ -1,11 +1,13 @@
-use Rattle.std.proofs.Common.{◌≡◌, ◌<◌, true, false, length, refl, sym, ap, subst, inl, inr, rules, ◌∙◌}
+use Rattle.std.proofs.Common.{arith, ◌≡◌, ◌<◌, true, false, length, refl, sym, ap, subst, inl, inr, rules, ◌∙◌}
 use Rattle.ts_link.specs.Counts.{Counted}
 use Rattle.ts_vconn.specs.MoveAnswers.{EndsPull, pull_failed}
 use Rattle.ts_vconn.specs.declared.moves.TheConstants.{MOST_PULLED}
-use Rattle.ts_transform.specs.Flow.{MOST_WAITING, MustRead, client_wait, last_wait}
+use Rattle.ts_transform.specs.Stage.{MOST_WAITING}
+use Rattle.ts_transform.specs.Flow.{MustRead, client_wait, last_wait}
 use Rattle.ts_transform.specs.Carrying.{MovesOn}
-use Rattle.ts_transform.proofs.Carrying.{moves_aborted, moves_as, moves_none, moves_pull, pulled_none}
-use Rattle.ts_transform.proofs.Joined.{aborted_same, joined_aborted, joined_as, joined_driven, runs_before}
+use Rattle.ts_transform.proofs.Carrying.{counted_grows, moves_aborted, moves_as, moves_none, moves_pull, pulled_none}
+use Rattle.ts_transform.proofs.Joined.{aborted_same, joined_aborted, joined_as, joined_driven, lose_weaker, runs_before}
+use Rattle.ts_transform.proofs.Driving.{may_lose}
 use Rattle.ts_transform.proofs.Kept.{acts_none}
 use Rattle.ts_transform.proofs.link_world.LinkWorld.read.Goals as goal
 
@@ -102,7 +104,8 @@ returns-in-Ok-Failed-clause-moves g c =
     (g.K.Link.look now.output) self.driven.chain now.driven.chain now.driven.chain self.aborted true now.aborted ⊥ (ap g.I.Link.look c.abort.ensures.links.0) (ap g.K.Link.look c.abort.ensures.links.1) refl
     c.abort.ensures.aborted
     (moves_aborted g.P.Transform.rest g.I.Link.tells g.K.Link.tells old pulled (g.K.Link.look self.output) (g.K.Link.look self.output) self.driven.chain c.pull.new.self
-    now.driven.chain self.aborted ⊥ (inr (inl (subst (λ a. Counted (pull_failed a) old.faults pulled.faults) c.in-Ok-Failed.field-0-is c.in-Ok-Failed.ensures.pulled.pulls.calls.faults))) c.abort.ensures.chain)
+    now.driven.chain self.aborted ⊥ (inr (inl (subst (λ a. Counted (pull_failed a) old.faults pulled.faults) c.in-Ok-Failed.field-0-is c.in-Ok-Failed.ensures.pulled.pulls.calls.faults))) c.abort.ensures.chain
+    (counted_grows _ old.faults pulled.faults c.in-Ok-Failed.ensures.pulled.pulls.calls.faults, omega arith))
 
 pub returns-in-Ok-Failed-clause-joined : goal.returns-in-Ok-Failed-clause-joined
 returns-in-Ok-Failed-clause-joined g c = λ was runs.
@@ -129,3 +132,15 @@ returns-in-Err-clause-moves g c =
 
 pub returns-in-Err-clause-within : goal.returns-in-Err-clause-within
 returns-in-Err-clause-within g c = acts_none 1 c.args.cx.now c.requires.turn
+
+pub returns-in-Ok-Some-clause-course : goal.returns-in-Ok-Some-clause-course
+returns-in-Ok-Some-clause-course g c =
+    let rouse = c.rouse_first-told in
+    let was = record c.args.self.now.driven { chain = c.pull.new.self } in
+    record { loses = lose_weaker was rouse.new.self rouse.new.cx (λ all. all.stages) (may_lose rouse.result was rouse.new.self rouse.new.cx rouse.ensures.loses); started = λ none. none }
+
+pub returns-in-Ok-End-clause-course : goal.returns-in-Ok-End-clause-course
+returns-in-Ok-End-clause-course g c =
+    let end = c.give_end-told in
+    let was = record c.args.self.now.driven { chain = c.pull.new.self } in
+    record { loses = lose_weaker was end.new.self end.new.cx (λ all. all.stages) (may_lose end.result was end.new.self end.new.cx end.ensures.loses); started = λ none. none }

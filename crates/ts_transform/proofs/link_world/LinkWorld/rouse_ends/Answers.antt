@@ -1,7 +1,7 @@
 use Rattle.std.proofs.Common.{◌≡◌, true, false, arith, sym, subst, ◌∙◌}
 use Rattle.ts_transform.specs.Flow.{MustRead, MustWrite}
 use Rattle.ts_transform.specs.Carrying.{AreEndsRoused}
-use Rattle.ts_transform.proofs.Joined.{end_rests, may_lose_then, while_runs}
+use Rattle.ts_transform.proofs.Joined.{end_rests, may_break_then, while_runs}
 use Rattle.ts_transform.proofs.Kept.{acts_none, acts_then}
 use Rattle.ts_transform.proofs.link_world.LinkWorld.rouse_ends.Goals as goal
 
@@ -34,7 +34,7 @@ returns-clause-course g c =
     let one = c.rouse_writer in
     let two = c.rouse_reader in
     record {
-      loses = may_lose_then c.args.self.now.driven one.new.self.driven two.new.self.driven one.new.cx two.new.cx one.ensures.course.loses
+      loses = may_break_then c.args.self.now one.new.self two.new.self one.new.cx two.new.cx one.ensures.course.loses
           (λ stopped. absurd (let wrong : true ≡ false = sym c.if-not-self-2.false ∙ stopped in cc)) two.ensures.course.loses;
       started = λ none. one.ensures.course.started (two.ensures.course.started none);
     }

@@ -1,8 +1,8 @@
-use Rattle.std.proofs.Common.{◌≡◌, true, false, sym, ap, ◌∙◌}
+use Rattle.std.proofs.Common.{Some, refl, ◌≡◌, true, false, sym, ap, ◌∙◌}
 use Rattle.std.specs.Prelude.{is_ok}
 use Rattle.ts_transform.proofs.Covering.{driven_kept}
-use Rattle.ts_transform.proofs.Joined.{joined_ends}
-use Rattle.ts_transform.proofs.Kept.{kept_if}
+use Rattle.ts_transform.proofs.Joined.{end_loses, joined_ends}
+use Rattle.ts_transform.proofs.Kept.{cause_weaker, kept_if}
 use Rattle.ts_transform.proofs.link_world.LinkWorld.rouse_reader.Goals as goal
 
 pub returns-in-Ok-clause-joined : goal.returns-in-Ok-clause-joined
@@ -24,4 +24,11 @@ pub returns-in-Err-clause-rouses : goal.returns-in-Err-clause-rouses
 returns-in-Err-clause-rouses g c = record {
   only = c.rouse_end.ensures.only 2;
   rests = λ quiet. absurd (let wrong : false ≡ true = ap is_ok (sym c.in-Err.is) ∙ (c.rouse_end.ensures.rests quiet).2 in cc);
+}
+
+pub returns-in-Err-clause-course : goal.returns-in-Err-clause-course
+returns-in-Err-clause-course g c = record {
+  loses = end_loses c.args.self.now.driven (record c.args.self.now.driven { running = false; lost = Some c.of_set.result }) c.in-Err.fault c.rouse_end.new.cx refl (ap Some c.of_set.ensures)
+      (cause_weaker c.in-Err.fault c.rouse_end.new.cx (λ all. all.reader) c.in-Err.ensures.adds.cause);
+  started = λ none. none;
 }

@@ -1,9 +1,8 @@
-use Rattle.std.proofs.Common.{◌≡◌, Some, true, false, arith, refl, sym, ap, subst, inl, ◌∙◌}
-use Rattle.ts_transform.specs.declared.loss.Loss.TheVariants.{NoMemory}
+use Rattle.std.proofs.Common.{◌≡◌, true, false, arith, refl, sym, ap, subst, inl, ◌∙◌}
 use Rattle.ts_transform.specs.Driving.{IsRousedIf}
-use Rattle.ts_transform.specs.Carrying.{IsJoinedWhile, Steps}
+use Rattle.ts_transform.specs.Carrying.{IsJoinedWhile, LacksMemory, MayBreak, Steps}
 use Rattle.ts_transform.proofs.Carrying.{moves_aborted, moves_as, moves_lacks, moves_none}
-use Rattle.ts_transform.proofs.Joined.{again_reads, again_writes, aborted_quiet, joined_aborted, joined_as, loses_runs, named_of}
+use Rattle.ts_transform.proofs.Joined.{again_reads, again_writes, aborted_quiet, joined_aborted, joined_as, lose_lacks, loses_runs, may_break_then, named_of}
 use Rattle.ts_transform.proofs.Kept.{acts_none, acts_then}
 use Rattle.ts_transform.proofs.link_world.LinkWorld.step.Goals as goal
 
@@ -11,7 +10,7 @@ use Rattle.ts_transform.proofs.link_world.LinkWorld.step.Goals as goal
 pub returns-then-not-self-clause-steps : goal.returns-then-not-self-clause-steps
 returns-then-not-self-clause-steps g c =
     let self = c.args.self.now in
-    moves_none g.P.Transform.rest g.I.Link.tells g.K.Link.tells (g.I.Link.look self.input) (g.K.Link.look self.output) self.driven.chain self.aborted (self.driven.lost ≡ Some NoMemory)
+    moves_none g.P.Transform.rest g.I.Link.tells g.K.Link.tells (g.I.Link.look self.input) (g.K.Link.look self.output) self.driven.chain self.aborted (LacksMemory self)
 
 pub returns-then-not-self-clause-within : goal.returns-then-not-self-clause-within
 returns-then-not-self-clause-within g c = acts_none 6 c.args.cx.now c.requires.turn
@@ -21,13 +20,20 @@ pub returns-then-lacks_memory-clause-steps : goal.returns-then-lacks_memory-clau
 returns-then-lacks_memory-clause-steps g c =
     let self = c.args.self.now in
     let now = c.abort.new.self in
-    let lacks = now.driven.lost ≡ Some NoMemory in
+    let lacks = LacksMemory now in
+    let lacked = c.lacks_memory.ensures.lacks c.if-lacks_memory.true in
+    let mid = c.work.new.self in
+    let same = c.rouse_ends.ensures.same in
+    let counts = c.work.ensures.moves.counts in
+    let reads : (g.I.Link.look now.input).faults ≡ (g.I.Link.look mid.input).faults = ap (λ x. (g.I.Link.look x).faults) (c.abort.ensures.links.0 ∙ same.input) in
+    let writes : (g.K.Link.look now.output).faults ≡ (g.K.Link.look mid.output).faults = ap (λ x. (g.K.Link.look x).faults) (c.abort.ensures.links.1 ∙ same.output) in
     let input = g.I.Link.look now.input in
     let output = g.K.Link.look now.output in
     moves_as g.P.Transform.rest g.I.Link.tells g.K.Link.tells (g.I.Link.look self.input) input input (g.K.Link.look self.output) output output self.driven.chain now.driven.chain now.driven.chain self.aborted true
     now.aborted lacks refl refl refl c.abort.ensures.aborted
     (moves_aborted g.P.Transform.rest g.I.Link.tells g.K.Link.tells (g.I.Link.look self.input) input (g.K.Link.look self.output) output self.driven.chain c.rouse_ends.new.self.driven.chain now.driven.chain self.aborted
-    lacks (inl (c.abort.ensures.course.lost ∙ c.lacks_memory.ensures c.if-lacks_memory.true)) c.abort.ensures.chain)
+    lacks (inl (c.abort.ensures.course.running ∙ lacked.0, c.abort.ensures.course.lost ∙ lacked.1)) c.abort.ensures.chain
+    (omega (arith, counts.0, reads), omega (arith, counts.1, writes)))
 
 pub returns-then-lacks_memory-clause-carried : goal.returns-then-lacks_memory-clause-carried
 returns-then-lacks_memory-clause-carried g c = λ before handled was.
@@ -60,7 +66,7 @@ returns-else-lacks_memory-clause-steps g c =
     let same = c.rouse_ends.ensures.same in
     let rest = g.P.Transform.rest in
     moves_lacks rest g.I.Link.tells g.K.Link.tells (g.I.Link.look self.input) (g.I.Link.look now.input) (g.K.Link.look self.output) (g.K.Link.look now.output) self.driven.chain now.driven.chain self.aborted now.aborted
-    (now.driven.lost ≡ Some NoMemory)
+    (LacksMemory now)
     (moves_as rest g.I.Link.tells g.K.Link.tells (g.I.Link.look self.input) (g.I.Link.look mid.input) (g.I.Link.look now.input) (g.K.Link.look self.output) (g.K.Link.look mid.output) (g.K.Link.look now.output)
     self.driven.chain mid.driven.chain now.driven.chain self.aborted mid.aborted now.aborted ⊥ (ap g.I.Link.look same.input) (ap g.K.Link.look same.output) same.chain same.aborted c.work.ensures.moves)
 
@@ -121,3 +127,22 @@ returns-else-lacks_memory-clause-again g c = λ before handled was.
           let h = c.work.ensures.writes (named_of before cx.roles 1 self.writer joined.of_writer) (λ none. waited (ap (λ x. (g.K.Link.look x).waits) same.output ∙ none)) in
           again_writes self mid now cx c.work.new.cx c.rouse_ends.new.cx ends h c.rouse_ends.ensures.idle (before_end runs);
     }
+
+-- It goes on as it did, or is lost for a cause.
+pub returns-else-lacks_memory-clause-loses : goal.returns-else-lacks_memory-clause-loses
+returns-else-lacks_memory-clause-loses g c =
+    may_break_then c.args.self.now c.work.new.self c.rouse_ends.new.self c.work.new.cx c.rouse_ends.new.cx c.work.ensures.course.loses (λ stopped. c.rouse_ends.ensures.idle (inl stopped))
+    c.rouse_ends.ensures.course.loses
+
+pub returns-then-lacks_memory-clause-loses : goal.returns-then-lacks_memory-clause-loses
+returns-then-lacks_memory-clause-loses g c =
+    let self = c.args.self.now in
+    let mid = c.rouse_ends.new.self in
+    let now = c.abort.new.self in
+    let cx = c.rouse_ends.new.cx in
+    let broke : MayBreak self mid cx =
+    may_break_then self c.work.new.self mid c.work.new.cx cx c.work.ensures.course.loses (λ stopped. c.rouse_ends.ensures.idle (inl stopped)) c.rouse_ends.ensures.course.loses in
+    lose_lacks self.driven mid.driven now.driven cx (c.lacks_memory.ensures.lacks c.if-lacks_memory.true).1 c.abort.ensures.course.running c.abort.ensures.course.lost broke
+
+pub returns-else-lacks_memory-clause-stops : goal.returns-else-lacks_memory-clause-stops
+returns-else-lacks_memory-clause-stops g c = λ runs lacks. absurd (c.lacks_memory.ensures.has c.if-lacks_memory.false lacks)

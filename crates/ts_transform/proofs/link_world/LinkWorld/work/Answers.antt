@@ -1,6 +1,7 @@
 use Rattle.std.proofs.Common.{◌≡◌, refl, sym, ap}
 use Rattle.ts_transform.proofs.Carrying.{moves_stage}
-use Rattle.ts_transform.proofs.Joined.{joined_stage, runs_before}
+use Rattle.ts_transform.proofs.Joined.{joined_stage, lose_weaker, runs_before}
+use Rattle.ts_transform.proofs.Driving.{may_lose}
 use Rattle.ts_transform.proofs.link_world.LinkWorld.work.Goals as goal
 
 pub returns-else-role-eq-READER-clause-moves : goal.returns-else-role-eq-READER-clause-moves
@@ -24,3 +25,9 @@ returns-then-role-eq-WRITER-clause-reads g c = λ named waited. absurd (waited (
 
 pub returns-then-role-eq-READER-clause-writes : goal.returns-then-role-eq-READER-clause-writes
 returns-then-role-eq-READER-clause-writes g c = λ named waited. absurd (waited (ap (λ x. (g.K.Link.look x).waits) c.read_at.ensures.output))
+
+pub returns-else-role-eq-READER-clause-course : goal.returns-else-role-eq-READER-clause-course
+returns-else-role-eq-READER-clause-course g c =
+    let acted = c.handle-told in
+    let was = c.args.self.now.driven in
+    record { loses = lose_weaker was acted.new.self acted.new.cx (λ all. all.stages) (may_lose acted.result was acted.new.self acted.new.cx acted.ensures.loses); started = λ none. none }

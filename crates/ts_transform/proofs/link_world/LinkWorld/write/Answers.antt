@@ -1,8 +1,9 @@
-use Rattle.std.proofs.Common.{◌≡◌, true, refl, sym, ap, subst, inl, inr, ◌∙◌}
+use Rattle.std.proofs.Common.{arith, ◌≡◌, true, refl, sym, ap, subst, inl, inr, ◌∙◌}
 use Rattle.ts_transform.specs.Flow.{MustRead}
 use Rattle.ts_transform.specs.Carrying.{MovesOn}
 use Rattle.ts_transform.proofs.Carrying.{moves_aborted, moves_as, moves_none, moves_taken, moves_wait}
-use Rattle.ts_transform.proofs.Joined.{joined_aborted, joined_as}
+use Rattle.ts_transform.proofs.Joined.{joined_aborted, joined_as, lose_weaker}
+use Rattle.ts_transform.proofs.Driving.{may_lose}
 use Rattle.ts_transform.proofs.Kept.{acts_none}
 use Rattle.ts_transform.proofs.link_world.LinkWorld.write.Goals as goal
 
@@ -20,7 +21,7 @@ pub returns-in-Took-clause-moves : goal.returns-in-Took-clause-moves
 returns-in-Took-clause-moves g c =
     let self = c.args.self.now in
     moves_taken g.P.Transform.rest g.I.Link.tells g.K.Link.tells (g.I.Link.look self.input) (g.K.Link.look self.output) (g.K.Link.look c.write.new.self) self.driven.chain c.take-told.new.self.chain c.in-Some.block.now
-    c.in-Took.count self.aborted c.take-told.ensures.takes c.in-Took.ensures.writes.takes.1 c.in-Some.ensures.2 (λ tells. (c.in-Took.ensures.writes.told tells).taken)
+    c.in-Took.count self.aborted c.take-told.ensures.takes c.in-Took.ensures.writes.takes.1 c.in-Some.ensures.2 (λ tells. (c.in-Took.ensures.writes.told tells).taken) (omega (arith, c.in-Took.ensures.writes.calls.faults))
 
 -- It made its caller wait.
 pub returns-in-Again-clause-moves : goal.returns-in-Again-clause-moves
@@ -31,7 +32,7 @@ returns-in-Again-clause-moves g c =
     moves_as g.P.Transform.rest g.I.Link.tells g.K.Link.tells (g.I.Link.look self.input) (g.I.Link.look self.input) (g.I.Link.look now.input) (g.K.Link.look self.output) (g.K.Link.look c.write.new.self)
     (g.K.Link.look now.output) self.driven.chain self.driven.chain now.driven.chain self.aborted self.aborted now.aborted ⊥ (ap g.I.Link.look same.input) (ap g.K.Link.look same.output) same.chain same.aborted
     (moves_wait g.P.Transform.rest g.I.Link.tells g.K.Link.tells (g.I.Link.look self.input) (g.K.Link.look self.output) (g.K.Link.look c.write.new.self) self.driven.chain self.aborted ⊥
-    (λ tells. (c.in-Again.ensures.writes.told tells).taken))
+    (λ tells. (c.in-Again.ensures.writes.told tells).taken) (omega (arith, c.in-Again.ensures.writes.calls.faults)))
 
 pub returns-in-Again-clause-retries : goal.returns-in-Again-clause-retries
 returns-in-Again-clause-retries g c = λ named waited.
@@ -52,7 +53,8 @@ returns-in-Failed-clause-moves g c =
     (g.K.Link.look now.output) self.driven.chain now.driven.chain now.driven.chain self.aborted true now.aborted ⊥ (ap g.I.Link.look c.abort.ensures.links.0) (ap g.K.Link.look c.abort.ensures.links.1) refl
     c.abort.ensures.aborted
     (moves_aborted g.P.Transform.rest g.I.Link.tells g.K.Link.tells (g.I.Link.look self.input) (g.I.Link.look self.input) (g.K.Link.look self.output) (g.K.Link.look c.write.new.self) self.driven.chain self.driven.chain
-    now.driven.chain self.aborted ⊥ (inr (inr c.in-Failed.ensures.writes.calls.faults)) c.abort.ensures.chain)
+    now.driven.chain self.aborted ⊥ (inr (inr c.in-Failed.ensures.writes.calls.faults)) c.abort.ensures.chain
+    (omega arith, omega (arith, c.in-Failed.ensures.writes.calls.faults)))
 
 pub returns-in-Failed-clause-joined : goal.returns-in-Failed-clause-joined
 returns-in-Failed-clause-joined g c = λ was runs.
@@ -76,3 +78,9 @@ returns-in-NoMemory-clause-moves g c =
 
 pub returns-in-NoMemory-clause-within : goal.returns-in-NoMemory-clause-within
 returns-in-NoMemory-clause-within g c = acts_none 1 c.args.cx.now c.requires.turn
+
+pub returns-in-Took-clause-course : goal.returns-in-Took-clause-course
+returns-in-Took-clause-course g c =
+    let take = c.take-told in
+    let was = c.args.self.now.driven in
+    record { loses = lose_weaker was take.new.self take.new.cx (λ all. all.stages) (may_lose take.result was take.new.self take.new.cx take.ensures.loses); started = λ none. none }

@@ -11,3 +11,6 @@ pub returns-clause-again : goal.returns-clause-again
 returns-clause-again g c =
     let called = c.requires.called in
     c.step.ensures.again called.before.pending (handled_by _ c.args.cx.now c.args.role c.args.event called) called.sound
+
+pub returns-clause-steps : goal.returns-clause-steps
+returns-clause-steps g c = record { steps = c.step.ensures.steps; rests = λ stopped. (c.step.ensures.lost stopped).0; stops = c.step.ensures.stops }

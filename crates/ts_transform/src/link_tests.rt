@@ -1,0 +1,245 @@
+//! Chains between two links, driven to their ends.
+ghost use Rattle.std.specs.Prelude.{◌≡◌, false, IfOk};
+ghost use Rattle.ts_transform.specs.Carrying.{IsCarriedGroup};
+
+use crate::tests::{Tail, counting, tails};
+use crate::{Chain, LinkWorld, Loss, drive_links};
+use std::alloc::Global;
+use std::test::Fail;
+use ts_group::Group;
+use ts_link::{MemLink, Octets};
+
+// More turns than any of the runs takes.
+const TURNS: u32 = 10_000;
+
+type Links = LinkWorld<MemLink, MemLink, Tail>;
+
+// What a run is made of: its null stages; how many bytes its body has, and how many reads bring one byte each; the read
+// that waits and the one that fails; how many bytes a write takes at most, the write that waits and the one that fails.
+// No call has the number 0.
+#[derive(Clone, Copy)]
+struct Plan {
+    stages: usize,
+    body: u32,
+    cuts: usize,
+    again_read: u64,
+    fail_read: u64,
+    take: usize,
+    again_write: u64,
+    fail_write: u64,
+}
+
+// Three bytes that come and go one by one.
+const SINGLE: Plan = Plan {
+    stages: 1,
+    body: 3,
+    cuts: 3,
+    again_read: 0,
+    fail_read: 0,
+    take: 1,
+    again_write: 0,
+    fail_write: 0,
+};
+
+// What came of a run: whether the whole body was written, and how many bytes of it; how often either link made its
+// caller wait; the most bytes that waited at one boundary; and whether it was aborted or lost.
+#[derive(Clone, Copy, Debug, PartialEq, Eq)]
+struct Carried {
+    is_whole: bool,
+    written: usize,
+    waits: (u64, u64),
+    most: usize,
+    is_aborted: bool,
+    runs: bool,
+    lost: Option<Loss>,
+}
+
+// The input of a plan.
+fn input_of(alloc: Global, plan: &Plan) -> Result<MemLink, Fail> {
+    let body = Octets::of_vec(counting(alloc, plan.body)?);
+    Ok(MemLink::make(
+        alloc,
+        body,
+        vec![in alloc; 1; plan.cuts]?,
+        1,
+        vec![in alloc; plan.fail_read; 1]?,
+        Vec::new(alloc),
+        vec![in alloc; plan.again_read; 1]?,
+        Vec::new(alloc),
+    ))
+}
+
+// The output of a plan.
+fn output_of(alloc: Global, plan: &Plan) -> Result<MemLink, Fail> {
+    Ok(MemLink::make(
+        alloc,
+        Octets::of_vec(Vec::new(alloc)),
+        Vec::new(alloc),
+        plan.take.max(1),
+        Vec::new(alloc),
+        vec![in alloc; plan.fail_write; 1]?,
+        Vec::new(alloc),
+        vec![in alloc; plan.again_write; 1]?,
+    ))
+}
+
+// The chain of a plan between its links, started in the first turn.
+fn begin(alloc: Global, plan: &Plan) -> Result<Group<Links>, Fail>
+    ensures idle { IfOk result (λ g. g.cx.log.state.held ≡ false) }
+    ensures carried { IfOk result (λ g. IsCarriedGroup g) }
+{
+    let parts = tails(alloc, plan.stages, b"")?;
+    let world = LinkWorld::make(
+        alloc,
+        parts,
+        input_of(alloc, plan)?,
+        output_of(alloc, plan)?,
+    )?;
+    let mut group = Group::make(alloc, world, 0)?;
+    group.begin_turn(1, 0, 0)?;
+    group.start();
+    group.give_turn();
+    Ok(group)
+}
+
+// The most bytes that wait at one boundary of a chain.
+fn widest(chain: &Chain<Tail>) -> usize {
+    let mut most = chain.waiting(chain.stages());
+    for boundary in 0..chain.stages() {
+        most = most.max(chain.waiting(boundary));
+    }
+    most
+}
+
+// Makes turns until nothing is pending, and answers the most bytes that waited at one boundary after one.
+fn run(group: &mut Group<Links>) -> Result<usize, Fail>
+    requires idle { group.old.cx.log.state.held ≡ false }
+    requires carried { IsCarriedGroup group.old }
+{
+    let mut most = 0;
+    'turns: for _ in 0..TURNS {
+        if drive_links(group, 1)? {
+            return Ok(most);
+        }
+        most = most.max(widest(group.world().chain()));
+    }
+    Err("it ends")?
+}
+
+// What came of a run that has ended.
+fn outcome(world: Links, most: usize, body: &[u8]) -> Carried {
+    let is_aborted = world.is_aborted();
+    let runs = world.is_running();
+    let lost = world.lost();
+    let (input, output) = world.into_links();
+    let written = output.written();
+    Carried {
+        is_whole: written == body,
+        written: written.len(),
+        waits: (input.waits(), output.waits()),
+        most,
+        is_aborted,
+        runs,
+        lost,
+    }
+}
+
+// Carries a body from one link through a chain to the other.
+fn carry(alloc: Global, plan: &Plan) -> Result<Carried, Fail> {
+    let mut group = begin(alloc, plan)?;
+    let most = run(&mut group)?;
+    let (world, _) = group.into_parts();
+    let body = counting(alloc, plan.body)?;
+    Ok(outcome(world, most, body.as_slice()))
+}
+
+// Whether a run wrote its whole body, with so many waits.
+fn is_carried(alloc: Global, plan: Plan, waits: (u64, u64)) -> Result<bool, Fail> {
+    let came = carry(alloc, &plan)?;
+    Ok(came.is_whole && came.waits == waits && came.runs && !came.is_aborted && came.lost == None)
+}
+
+// Whether a run was aborted that had written at most so many bytes.
+fn is_cut_off(alloc: Global, plan: Plan, most: usize) -> Result<bool, Fail> {
+    let came = carry(alloc, &plan)?;
+    Ok(came.is_aborted && came.written <= most && came.runs && came.lost == None)
+}
+
+#[test]
+fn a_body_comes_whole_through_a_chain_to_another_link(rt: HostRuntime) -> Result<(), Fail> {
+    let cases = [
+        (SINGLE, (0, 0)),
+        (
+            Plan {
+                again_write: 1,
+                ..SINGLE
+            },
+            (0, 1),
+        ),
+        (
+            Plan {
+                again_read: 2,
+                ..SINGLE
+            },
+            (1, 0),
+        ),
+        (
+            Plan {
+                stages: 0,
+                body: 0,
+                ..SINGLE
+            },
+            (0, 0),
+        ),
+    ];
+    for (plan, waits) in cases {
+        assert!(rt; is_carried(rt.alloc(), plan, waits)?);
+    }
+    Ok(())
+}
+
+#[test]
+fn a_fault_of_a_link_aborts_the_chain(rt: HostRuntime) -> Result<(), Fail> {
+    let cases = [
+        (
+            Plan {
+                fail_read: 2,
+                ..SINGLE
+            },
+            1,
+        ),
+        (
+            Plan {
+                fail_write: 1,
+                ..SINGLE
+            },
+            0,
+        ),
+        (
+            Plan {
+                fail_write: 2,
+                ..SINGLE
+            },
+            1,
+        ),
+    ];
+    for (plan, most) in cases {
+        assert!(rt; is_cut_off(rt.alloc(), plan, most)?);
+    }
+    Ok(())
+}
+
+#[test]
+fn no_boundary_holds_as_much_as_a_full_one_and_a_read(rt: HostRuntime) -> Result<(), Fail> {
+    let plan = Plan {
+        stages: 3,
+        body: 200_000,
+        cuts: 0,
+        take: 1_000,
+        ..SINGLE
+    };
+    let came = carry(rt.alloc(), &plan)?;
+    assert!(rt; came.is_whole && came.runs && !came.is_aborted);
+    assert!(rt; came.most < 98_304);
+    Ok(())
+}
