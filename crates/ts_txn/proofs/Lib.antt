@@ -1,0 +1,5 @@
+pub mod OneBlock
+mod OneHead
+mod Saying
+mod Searching
+mod Sites

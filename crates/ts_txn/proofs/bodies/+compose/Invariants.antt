@@ -1,0 +1,5 @@
+use Rattle.std.proofs.Common.{length}
+use Rattle.ts_txn.proofs.bodies.+compose.Given as goal
+
+abbrev pub decreases-compose : goal.decreases-compose
+decreases-compose l = length l.lines.now

@@ -1,0 +1,6 @@
+use Rattle.std.proofs.Common.{◌≡◌, take}
+use Rattle.ts_config.specs.Bodies.{mapped}
+use Rattle.ts_txn.proofs.bodies.mapped.Given as goal
+
+abbrev pub invariant-loop-b : goal.invariant-loop-b
+invariant-loop-b l = l.made.items ≡ mapped l.from l.to (take l.b-index l.body)
