@@ -1,6 +1,6 @@
 //! What the lines of a configuration make of a whole body. The stages of a chain do the same piece by piece.
 ghost use Rattle.std.specs.Prelude.{◌≡◌, ◌++◌, IfOk};
-ghost use Rattle.ts_config.specs.Bodies.{mapped, without, whole_of, compose_lines};
+ghost use Rattle.ts_config.specs.Bodies.{mapped, without_byte, whole_of, compose_lines};
 ghost use Rattle.ts_txn.specs.Acting.{acting};
 
 use crate::acting::acts_on;
@@ -27,8 +27,8 @@ fn mapped(alloc: Global, from: u8, to: u8, body: &[u8]) -> Result<Vec<u8>, NoMem
     Ok(made)
 }
 
-fn without(alloc: Global, byte: u8, body: &[u8]) -> Result<Vec<u8>, NoMemory>
-    ensures { IfOk result (λ made. made.items ≡ without byte body.now) }
+fn without_byte(alloc: Global, byte: u8, body: &[u8]) -> Result<Vec<u8>, NoMemory>
+    ensures { IfOk result (λ made. made.items ≡ without_byte byte body.now) }
 {
     let mut made = Vec::new(alloc);
     for b in body {
@@ -46,7 +46,7 @@ fn whole_of(alloc: Global, line: &TransformLine, body: Vec<u8>) -> Result<Vec<u8
         TransformLine::Append { text, .. } => joined(alloc, &body, text.bytes()),
         TransformLine::Prepend { text } => joined(alloc, text.bytes(), &body),
         TransformLine::Map { from, to } => mapped(alloc, *from, *to, &body),
-        TransformLine::Drop { byte } => without(alloc, *byte, &body),
+        TransformLine::Drop { byte } => without_byte(alloc, *byte, &body),
         TransformLine::Null => Ok(body),
         TransformLine::Bnull => Ok(body),
         TransformLine::Delay { .. } => Ok(body),
