@@ -14,8 +14,8 @@ abbrev pub IsPassOf : EventQueue → QueuePass → Type 0
 IsPassOf queue pass = IsSegPassOf queue.line pass.seat
 
 -- what the pass knows
-abbrev pub view : QueuePass → View
-view pass = pass.seat.me.view.client
+abbrev pub pass_view : QueuePass → View
+pass_view pass = pass.seat.me.view.client
 
 -- how many takes of the pass found the queue empty
 abbrev pub empties_of : QueuePass → ℕ

@@ -40,7 +40,7 @@ impl Drop for EventQueue {
 }
 
 impl QueuePass {
-    ghost use Rattle.ts_queue.specs.Passes.{view, empties_of};
+    ghost use Rattle.ts_queue.specs.Passes.{pass_view, empties_of};
 
     /// How many takes of this pass were answered with `None`. The count stays at the greatest `u64`.
     pub fn empties(&self) -> u64
@@ -51,7 +51,7 @@ impl QueuePass {
 
     /// The serial of this pass's last put that was answered with `Ok`, 0 at first.
     pub fn serial(&self) -> u64
-        ensures { result ≡ (view self.now).serial }
+        ensures { result ≡ (pass_view self.now).serial }
     {
         self.serial
     }
@@ -61,11 +61,11 @@ impl EventQueue {
     ghost use Rattle.std.specs.Prelude.{IfOk, OnOk, OnErr, IfSome, IfNone, is_none};
     ghost use Rattle.ts_link.specs.Counts.{Counted};
     ghost use Rattle.ts_queue.specs.Views.{first_view, kept_part, split_part, with_joined, putting_next};
-    ghost use Rattle.ts_queue.specs.Passes.{view, empties_of, IsPassOf, TakesTicket, FindsEmpty};
+    ghost use Rattle.ts_queue.specs.Passes.{pass_view, empties_of, IsPassOf, TakesTicket, FindsEmpty};
 
     /// An empty queue, and its first pass.
     pub fn make(alloc: Global) -> Result<(EventQueue, QueuePass), NoMemory>
-        ensures pass { IfOk result (λ made. IsPassOf made.0 made.1 × (view made.1 ≡ first_view)) }
+        ensures pass { IfOk result (λ made. IsPassOf made.0 made.1 × (pass_view made.1 ≡ first_view)) }
         ensures empties { IfOk result (λ made. empties_of made.1 ≡ 0) }
     {
         let (line, seat) = RuledSegQueue::with_rule(alloc)?;
@@ -82,13 +82,13 @@ impl EventQueue {
     /// A new pass, with one part of this pass's share and its least free number.
     pub fn split(&self, pass: &mut QueuePass) -> Result<QueuePass, NoMemory>
         requires pass { IsPassOf self.now pass.old }
-        requires share { 2 ≤ (view pass.old).share }
-        requires free { (view pass.old).free_from < (view pass.old).free_to }
+        requires share { 2 ≤ (pass_view pass.old).share }
+        requires free { (pass_view pass.old).free_from < (pass_view pass.old).free_to }
         ensures pass { IsPassOf self.now pass.new × (empties_of pass.new ≡ empties_of pass.old) }
-        ensures kept { OnOk result (view pass.new ≡ kept_part (view pass.old)) }
-        ensures split { IfOk result (λ new. IsPassOf self.now new × (view new ≡ split_part (view pass.old))) }
+        ensures kept { OnOk result (pass_view pass.new ≡ kept_part (pass_view pass.old)) }
+        ensures split { IfOk result (λ new. IsPassOf self.now new × (pass_view new ≡ split_part (pass_view pass.old))) }
         ensures empties { IfOk result (λ new. empties_of new ≡ 0) }
-        ensures err { OnErr result (view pass.new ≡ view pass.old) }
+        ensures err { OnErr result (pass_view pass.new ≡ pass_view pass.old) }
     {
         let number = pass.free_from;
         let seat = self.line.another::<SplitStep>(&mut pass.seat);
@@ -106,7 +106,7 @@ impl EventQueue {
     pub fn join(&self, into: &mut QueuePass, from: QueuePass)
         requires passes { IsPassOf self.now into.old × IsPassOf self.now from }
         ensures pass { IsPassOf self.now into.new × (empties_of into.new ≡ empties_of into.old) }
-        ensures both { view into.new ≡ with_joined (view into.old) (view from) }
+        ensures both { pass_view into.new ≡ with_joined (pass_view into.old) (pass_view from) }
     {
         let QueuePass {
             seat,
@@ -122,10 +122,10 @@ impl EventQueue {
     /// nearly 2^62 puts too.
     pub fn put<R: Wait>(&self, rt: &R, pass: &mut QueuePass, token: Token) -> Result<(), NoMemory>
         requires pass { IsPassOf self.now pass.old }
-        requires serial { (view pass.old).serial < u64.MAX }
+        requires serial { (pass_view pass.old).serial < u64.MAX }
         ensures pass { IsPassOf self.now pass.new × (empties_of pass.new ≡ empties_of pass.old) }
-        ensures put { OnOk result (view pass.new ≡ putting_next token (view pass.old)) }
-        ensures err { OnErr result (view pass.new ≡ view pass.old) }
+        ensures put { OnOk result (pass_view pass.new ≡ putting_next token (pass_view pass.old)) }
+        ensures err { OnErr result (pass_view pass.new ≡ pass_view pass.old) }
     {
         let ticket = Ticket {
             putter: pass.number,
@@ -148,9 +148,9 @@ impl EventQueue {
         requires { IsPassOf self.now pass.old }
         ensures pass { IsPassOf self.now pass.new }
         ensures empties { Counted (is_none result) (empties_of pass.old) (empties_of pass.new) }
-        ensures took { IfSome result (λ t. TakesTicket (view pass.old) t (view pass.new)) }
-        ensures same { IfNone result (view pass.new ≡ view pass.old) }
-        ensures empty { IfNone result (FindsEmpty (view pass.new)) }
+        ensures took { IfSome result (λ t. TakesTicket (pass_view pass.old) t (pass_view pass.new)) }
+        ensures same { IfNone result (pass_view pass.new ≡ pass_view pass.old) }
+        ensures empty { IfNone result (FindsEmpty (pass_view pass.new)) }
     {
         let taken = self.line.pop_as::<TakeStep, R>(rt, &mut pass.seat);
         if taken.is_none() {

@@ -2,7 +2,7 @@
 
 ghost use Rattle.std.specs.Prelude.{◌≡◌, ◌+◌, ◌<◌, ◌≤◌, OnOk};
 ghost use Rattle.ts_queue.specs.Tickets.{Exactly};
-ghost use Rattle.ts_queue.specs.Passes.{view, IsPassOf};
+ghost use Rattle.ts_queue.specs.Passes.{pass_view, IsPassOf};
 
 use crate::{EventQueue, QueuePass, Ticket, Token, WHOLE_SHARE};
 use std::sync::Wait;
@@ -55,8 +55,8 @@ fn passes_are_split_and_joined(rt: HostRuntime) -> Result<(), Fail> {
 
 // Puts tokens with the numbers from 1 on.
 fn put_all<R: Wait>(rt: &R, queue: &EventQueue, mut pass: QueuePass) -> QueuePass
-    requires { IsPassOf queue.now pass × ((view pass).serial ≡ 0) }
-    ensures { IsPassOf queue.now result × ((view result).share ≡ (view pass).share) }
+    requires { IsPassOf queue.now pass × ((pass_view pass).serial ≡ 0) }
+    ensures { IsPassOf queue.now result × ((pass_view result).share ≡ (pass_view pass).share) }
 {
     'puts: for number in 0..PUTS {
         let _ = queue.put(rt, &mut pass, token(number + 1));
@@ -67,7 +67,7 @@ fn put_all<R: Wait>(rt: &R, queue: &EventQueue, mut pass: QueuePass) -> QueuePas
 // Takes so many times as tokens were put, and adds up the numbers of the tokens that it got.
 fn take_some<R: Wait>(rt: &R, queue: &EventQueue, mut pass: QueuePass) -> (QueuePass, u64)
     requires { IsPassOf queue.now pass }
-    ensures { IsPassOf queue.now result.0 × ((view result.0).share ≡ (view pass).share) }
+    ensures { IsPassOf queue.now result.0 × ((pass_view result.0).share ≡ (pass_view pass).share) }
 {
     let mut sum: u64 = 0;
     'takes: for _ in 0..PUTS {
@@ -86,20 +86,20 @@ fn exchange<R: Threads + Wait + Sync>(
     taker: QueuePass,
 ) -> (QueuePass, u64)
     requires passes { IsPassOf queue.now putter × IsPassOf queue.now taker }
-    requires serial { (view putter).serial ≡ 0 }
-    requires shares { (view putter).share + (view taker).share ≡ WHOLE_SHARE }
+    requires serial { (pass_view putter).serial ≡ 0 }
+    requires shares { (pass_view putter).share + (pass_view taker).share ≡ WHOLE_SHARE }
     ensures pass { IsPassOf queue.now result.0 }
-    ensures all { Exactly (view result.0).put (view result.0).taken }
+    ensures all { Exactly (pass_view result.0).put (pass_view result.0).taken }
 {
     let (mut pass, (taker, first)) = thread::join(
         rt,
         move || -> QueuePass
-            requires { IsPassOf queue.now putter × ((view putter).serial ≡ 0) }
-            ensures { IsPassOf queue.entry.now result × ((view result).share ≡ (view putter).share) }
+            requires { IsPassOf queue.now putter × ((pass_view putter).serial ≡ 0) }
+            ensures { IsPassOf queue.entry.now result × ((pass_view result).share ≡ (pass_view putter).share) }
         { put_all(rt, queue, putter) },
         move || -> (QueuePass, u64)
             requires { IsPassOf queue.now taker }
-            ensures { IsPassOf queue.entry.now result.0 × ((view result.0).share ≡ (view taker).share) }
+            ensures { IsPassOf queue.entry.now result.0 × ((pass_view result.0).share ≡ (pass_view taker).share) }
         { take_some(rt, queue, taker) },
     );
     queue.join(&mut pass, taker);

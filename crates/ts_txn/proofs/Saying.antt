@@ -12,7 +12,7 @@ use Rattle.ts_wire.specs.declared.body.BodyState.TheVariants as B
 use Rattle.ts_wire.specs.Body.{BodyOf}
 use Rattle.ts_wire.specs.Check.{check, plugin_host}
 use Rattle.ts_txn.specs.Rules.{is_denied}
-use Rattle.ts_txn.specs.Own.{refusal_of}
+use Rattle.ts_txn.specs.Own.{own_refusal}
 use Rattle.ts_txn.specs.Relayed.{asks_head, framing_of}
 use Rattle.ts_txn.specs.Heads.{is_refused_status}
 use Rattle.ts_txn.specs.Finding.{FindsRequest, FindsFinal, IsOver, IsCut}
@@ -108,7 +108,7 @@ pub says_no_head : (setup : Setup) (dialed : Bool) (refuses : Type 0) (o c : Lis
 says_no_head setup dialed refuses o c b some found text = no_head some found text
 
 pub says_refused : (setup : Setup) (dialed : Bool) (refuses : Type 0) (o c : List ℕ) (q : RequestHead) (status : ℕ) (own : OwnStatus) (b : Block) → c ≢ [] → FindsRequest c (Some q)
-    → check q ≡ Err status → own ≡ refusal_of status → b ≡ own_block setup [] own (asks_head q) → IsBlock setup dialed refuses o c b
+    → check q ≡ Err status → own ≡ own_refusal status → b ≡ own_block setup [] own (asks_head q) → IsBlock setup dialed refuses o c b
 says_refused setup dialed refuses o c q status own b some (rest, has) verdict is text =
     asked some q rest has (subst (λ (r : Result (List ℕ × List ℕ) ℕ). VerdictSays setup dialed refuses o r q b) (sym verdict)
     (text ∙ ap (λ s. own_block setup [] s (asks_head q)) is))

@@ -8,7 +8,7 @@ use Rattle.ts_wire.specs.declared.body.BodyState.TheVariants as B
 use Rattle.ts_wire.specs.Body.{BodyOf}
 use Rattle.std.specs.Prelude.{slice_range}
 use Rattle.ts_wire.specs.declared.body.Fed.{Fed}
-use Rattle.ts_wire.specs.Place.{Place, IsFed, Takes, GoesOn, GivesBody, state_of}
+use Rattle.ts_wire.specs.Place.{Place, IsFed, TakesBytes, GoesOn, GivesBody, state_of}
 use Rattle.ts_txn.specs.Heads.{HasResponse, PassesInterims, LacksFinal, is_interim}
 use Rattle.ts_txn.specs.Finding.{FindsResponse, FindsFinal}
 use Rattle.ts_txn.specs.Reading.{HasFed}
@@ -93,7 +93,7 @@ is_unfinished B.Ended = inr (λ e. absurd (cc))
 is_unfinished B.Bad = inr (λ e. absurd (cc))
 
 -- a reader that stays unfinished before the end of the bytes has taken some
-pub reads_some : (rest left : List ℕ) (old new : Place) (fed : Fed) → Takes old new rest fed → (state_of old.phase ≢ B.Unfinished → fed.state ≡ state_of old.phase)
+pub reads_some : (rest left : List ℕ) (old new : Place) (fed : Fed) → TakesBytes old new rest fed → (state_of old.phase ≢ B.Unfinished → fed.state ≡ state_of old.phase)
     → fed.state ≡ B.Unfinished → fed.taken < length rest → left ≡ drop fed.taken rest → length left < length rest
 reads_some rest left old new fed takes stays so small behind =
     let len = ap length behind ∙ length-drop fed.taken rest in

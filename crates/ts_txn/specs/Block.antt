@@ -22,7 +22,7 @@ use Rattle.ts_wire.specs.Body.{BodyOf, IsCutShort}
 use Rattle.ts_txn.specs.Rules.{ruled, is_denied}
 use Rattle.std.specs.List.{list_any}
 use Rattle.ts_txn.specs.Acting.{acting, acts_on}
-use Rattle.ts_txn.specs.Own.{refusal_of, own_head, own_field, own_sent}
+use Rattle.ts_txn.specs.Own.{own_refusal, own_head, own_field, own_sent}
 use Rattle.ts_txn.specs.Relayed.{asks_head, reads_chunks, framing_of, length_told, client_framing, mode_of, if_body}
 use Rattle.ts_txn.specs.Heads.{HasRequest, FinalHead, LacksFinal, is_refused_status}
 use Rattle.ts_txn.specs.declared.own.OwnStatus.{OwnStatus}
@@ -137,7 +137,7 @@ module _ (setup : Setup) where
 
     -- By the request's check: it is refused, or it passes with a target and a host.
     abbrev pub VerdictSays : Result (List ℕ × List ℕ) ℕ → RequestHead → Block → Type 0
-    VerdictSays (Err status) q b = b ≡ own_block [] (refusal_of status) (asks_head q)
+    VerdictSays (Err status) q b = b ≡ own_block [] (own_refusal status) (asks_head q)
     VerdictSays (Ok (target, host)) q b =
         DenySays (is_denied setup.plugins.items (plugin_host host)) (request_text q target host) q b
 

@@ -15,8 +15,8 @@ code_of O.NotImplemented = 501
 code_of O.BadGateway = 502
 
 -- the request check refuses with 400 or 501
-abbrev pub refusal_of : ℕ → OwnStatus
-refusal_of status = if status == not_implemented then O.NotImplemented else O.BadRequest
+abbrev pub own_refusal : ℕ → OwnStatus
+own_refusal status = if status == not_implemented then O.NotImplemented else O.BadRequest
 
 abbrev pub own_reason : OwnStatus → List ℕ
 own_reason O.BadRequest = codes "Bad Request"

@@ -1,7 +1,7 @@
 //! The answers that the proxy makes itself.
 ghost use Rattle.std.specs.Prelude.{◌≡◌, ◌≤◌, [], ◌∷◌, IfOk};
 ghost use Rattle.ts_wire.specs.Limits.{status_limit};
-ghost use Rattle.ts_txn.specs.Own.{code_of, refusal_of, own_reason, own_body, own_sent, own_field, own_head};
+ghost use Rattle.ts_txn.specs.Own.{code_of, own_refusal, own_reason, own_body, own_sent, own_field, own_head};
 
 use http_header::{HeaderName, HeaderValue};
 use std::alloc::Global;
@@ -24,7 +24,7 @@ pub enum OwnStatus {
 impl OwnStatus {
     /// The status of a refusal by the request check.
     pub fn of_refusal(status: u16) -> OwnStatus
-        ensures { result ≡ refusal_of status }
+        ensures { result ≡ own_refusal status }
     {
         if status == NOT_IMPLEMENTED {
             OwnStatus::NotImplemented

@@ -2,7 +2,7 @@
 use Rattle.std.proofs.Common.{◌≡◌, ℕ, ◌<◌, ◌≤◌, Bool, true, false, cond, ltb, leb, List, [], ◌∷◌, ◌++◌, length, refl, ap, ◌∙◌, Some, None, All, arith}
 use Rattle.std.proofs.lemmas.Bool.Decides.{nat_tests}
 use Rattle.std.proofs.lemmas.List.Elements.{All-nil, All-cons, All-head, All-tail}
-use Rattle.ts_wheel.specs.Due.{added, first_due, after_due, first_moment}
+use Rattle.ts_wheel.specs.Due.{added, first_due, after_due, next_moment}
 use Rattle.ts_wheel.specs.Rows.{all_at}
 
 pub ltb-yes : (a b : ℕ) → a < b → ltb a b ≡ true
@@ -64,7 +64,7 @@ module _ {T : Type 0} where
   after_due-append now (x ∷ xs) ys h =
       elim (leb x.0 now) as (λ b. cond b (xs ++ ys) (x ∷ (xs ++ ys)) ≡ cond b xs (x ∷ xs) ++ ys) [ true ↦ refl | false ↦ refl ]
 
-  pub first_moment-append : (xs ys : List (ℕ × T)) → 0 < length xs → first_moment (xs ++ ys) ≡ first_moment xs
+  pub first_moment-append : (xs ys : List (ℕ × T)) → 0 < length xs → next_moment (xs ++ ys) ≡ next_moment xs
   first_moment-append [] ys h = absurd (omega arith)
   first_moment-append (x ∷ xs) ys h = refl
 

@@ -3,7 +3,7 @@ use Rattle.std.proofs.Common.{◌≡◌, ℕ, ◌<◌, ◌≤◌, Bool, true, fa
 use Rattle.std.proofs.lemmas.Bool.{cases_lt}
 use Rattle.std.proofs.lemmas.Bool.Decides.{nat_tests}
 use Rattle.ts_wheel.specs.Due.{added, first_due, after_due}
-use Rattle.ts_wheel.specs.Order.{earlier, due_of, without, led, in_order, Takes}
+use Rattle.ts_wheel.specs.Order.{earlier, due_of, without_first, led, in_order, GivesDue}
 use Rattle.ts_wheel.proofs.Added.{ltb-yes, ltb-no, leb-yes, leb-no, added-front, added-later, first_due-late, first_due-now, after_due-late, after_due-now}
 
 eqb-itself : (a : ℕ) → eqb a a ≡ true
@@ -62,19 +62,19 @@ module _ {T : Type 0} where
   led-first now e [] h late = refl
   led-first now e (f ∷ fs) h late = led-front e f fs (omega arith)
 
-  without-other : (e : ℕ × T) (due : ℕ) (es : List (ℕ × T)) → due < e.0 → without due (e ∷ es) ≡ e ∷ without due es
-  without-other e due es h = ap (λ (b : Bool). cond b es (e ∷ without due es)) (eqb-other e.0 due h)
+  without-other : (e : ℕ × T) (due : ℕ) (es : List (ℕ × T)) → due < e.0 → without_first due (e ∷ es) ≡ e ∷ without_first due es
+  without-other e due es h = ap (λ (b : Bool). cond b es (e ∷ without_first due es)) (eqb-other e.0 due h)
 
-  without-first : (e : ℕ × T) (es : List (ℕ × T)) → without e.0 (e ∷ es) ≡ es
-  without-first e es = ap (λ (b : Bool). cond b es (e ∷ without e.0 es)) (eqb-itself e.0)
+  without-first : (e : ℕ × T) (es : List (ℕ × T)) → without_first e.0 (e ∷ es) ≡ es
+  without-first e es = ap (λ (b : Bool). cond b es (e ∷ without_first e.0 es)) (eqb-itself e.0)
 
   -- the wheel's order begins with what `due_of` gives, or with a token that is not due
   abbrev Begins : ℕ → List (ℕ × T) → Option (ℕ × T) → Type 0
   Begins now es None = IsLate now (in_order es)
-  Begins now es (Some x) = (in_order es ≡ x ∷ in_order (without x.0 es)) × (x.0 ≤ now)
+  Begins now es (Some x) = (in_order es ≡ x ∷ in_order (without_first x.0 es)) × (x.0 ≤ now)
 
-  skipped : (now : ℕ) (e : ℕ × T) (es : List (ℕ × T)) (x : ℕ × T) → x.0 < e.0 → in_order es ≡ x ∷ in_order (without x.0 es) → x.0 ≤ now → Begins now (e ∷ es) (Some x)
-  skipped now e es x lt is le = (ap (led e) is ∙ led-skip e x (in_order (without x.0 es)) lt ∙ ap (λ ws. x ∷ in_order ws) (sym (without-other e x.0 es lt)), le)
+  skipped : (now : ℕ) (e : ℕ × T) (es : List (ℕ × T)) (x : ℕ × T) → x.0 < e.0 → in_order es ≡ x ∷ in_order (without_first x.0 es) → x.0 ≤ now → Begins now (e ∷ es) (Some x)
+  skipped now e es x lt is le = (ap (led e) is ∙ led-skip e x (in_order (without_first x.0 es)) lt ∙ ap (λ ws. x ∷ in_order ws) (sym (without-other e x.0 es lt)), le)
 
   leads : (now : ℕ) (e : ℕ × T) (es : List (ℕ × T)) → led e (in_order es) ≡ e ∷ in_order es → e.0 ≤ now → Begins now (e ∷ es) (Some e)
   leads now e es is le = (is ∙ ap (λ ws. e ∷ in_order ws) (sym (without-first e es)), le)
@@ -88,7 +88,7 @@ module _ {T : Type 0} where
   due_begins now e es (Some x) h begins = ⊎_elim
       (λ (lt : x.0 < e.0). subst (λ (b : Bool). Begins now (e ∷ es) (Some (cond b x e))) (sym (ltb-yes x.0 e.0 lt)) (skipped now e es x lt begins.0 begins.1))
       (λ (le : e.0 ≤ x.0). subst (λ (b : Bool). Begins now (e ∷ es) (Some (cond b x e))) (sym (ltb-no x.0 e.0 le))
-      (leads now e es (ap (led e) begins.0 ∙ led-front e x (in_order (without x.0 es)) le ∙ ap (λ zs. e ∷ zs) (sym begins.0)) h))
+      (leads now e es (ap (led e) begins.0 ∙ led-front e x (in_order (without_first x.0 es)) le ∙ ap (λ zs. e ∷ zs) (sym begins.0)) h))
       (cases_lt x.0 e.0)
 
   begins : (now : ℕ) (es : List (ℕ × T)) → Begins now es (due_of now es)
@@ -102,12 +102,12 @@ module _ {T : Type 0} where
   late_takes now [] late = (refl, refl)
   late_takes now (e ∷ es) late = (first_due-late now e es late, after_due-late now e es late)
 
-  takes_of : (now : ℕ) (es : List (ℕ × T)) (d : Option (ℕ × T)) → Begins now es d → Takes now es d
+  takes_of : (now : ℕ) (es : List (ℕ × T)) (d : Option (ℕ × T)) → Begins now es d → GivesDue now es d
   takes_of now es None late = late_takes now (in_order es) late
   takes_of now es (Some x) begin = (
-    ap (first_due now) begin.0 ∙ first_due-now now x (in_order (without x.0 es)) begin.1,
-    ap (after_due now) begin.0 ∙ after_due-now now x (in_order (without x.0 es)) begin.1,
+    ap (first_due now) begin.0 ∙ first_due-now now x (in_order (without_first x.0 es)) begin.1,
+    ap (after_due now) begin.0 ∙ after_due-now now x (in_order (without_first x.0 es)) begin.1,
   )
 
-  pub due_takes : (tokens : List (ℕ × T)) (now : ℕ) → Takes now tokens (due_of now tokens)
+  pub due_takes : (tokens : List (ℕ × T)) (now : ℕ) → GivesDue now tokens (due_of now tokens)
   due_takes tokens now = takes_of now tokens (due_of now tokens) (begins now tokens)

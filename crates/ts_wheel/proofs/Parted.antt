@@ -3,9 +3,9 @@ use Rattle.std.proofs.Common.{◌≡◌, ℕ, ◌+◌, ◌<◌, ◌≤◌, List,
 use Rattle.std.proofs.lemmas.List.Elements.{All-nil, All-head, All-append, All-weaker}
 use Rattle.ts_wheel.specs.declared.TheConstants.{ROWS}
 use Rattle.ts_wheel.specs.declared.lap.TheConstants.{LAST_ROW}
-use Rattle.ts_wheel.specs.Due.{added, after_due, first_moment}
+use Rattle.ts_wheel.specs.Due.{added, after_due, next_moment}
 use Rattle.ts_wheel.specs.Rows.{Lap, all_at}
-use Rattle.ts_wheel.specs.Parts.{AreWithin, IsParted, all_of}
+use Rattle.ts_wheel.specs.Parts.{AreWithin, IsParted, all_tokens}
 use Rattle.ts_wheel.proofs.Added.{added-behind, added-before, All-added, All-after_due, All-all_at}
 use Rattle.ts_wheel.proofs.Spread.{All-right}
 
@@ -27,20 +27,20 @@ module _ {T : Type 0} where
       way
 
   pub added-past : (due : ℕ) (t : T) (past : List (ℕ × T)) (lap : Lap T) (later : List (ℕ × T)) → IsParted past lap later → due < lap.start
-      → added due t past ++ (lap.tokens ++ later) ≡ added due t (all_of past lap later)
+      → added due t past ++ (lap.tokens ++ later) ≡ added due t (all_tokens past lap later)
   added-past due t past lap later h lt =
       sym (added-before due t past (lap.tokens ++ later) (All-append (λ (e : ℕ × T). due < e.0) lap.tokens later
       (All-weaker (λ (e : ℕ × T). (lap.start ≤ e.0) × (e.0 < lap.start + ROWS)) (λ (e : ℕ × T). due < e.0) (λ e in'. let low = in'.0 in omega arith) lap.tokens h.within)
       (All-weaker (λ (e : ℕ × T). lap.start + ROWS ≤ e.0) (λ (e : ℕ × T). due < e.0) (λ e after. omega arith) later h.after)))
 
   pub added-lap : (due : ℕ) (t : T) (past : List (ℕ × T)) (lap : Lap T) (later : List (ℕ × T)) → IsParted past lap later → lap.start ≤ due → due < lap.start + ROWS
-      → past ++ (added due t lap.tokens ++ later) ≡ added due t (all_of past lap later)
+      → past ++ (added due t lap.tokens ++ later) ≡ added due t (all_tokens past lap later)
   added-lap due t past lap later h low high =
       ap (λ zs. past ++ zs) (sym (added-before due t lap.tokens later (All-weaker (λ (e : ℕ × T). lap.start + ROWS ≤ e.0) (λ (e : ℕ × T). due < e.0) (λ e after. omega arith) later h.after)))
       ∙ sym (added-behind due t past (lap.tokens ++ later) (All-weaker (λ (e : ℕ × T). e.0 < lap.start) (λ (e : ℕ × T). e.0 ≤ due) (λ e before. omega arith) past h.before))
 
   pub added-after : (due : ℕ) (t : T) (past : List (ℕ × T)) (lap : Lap T) (later : List (ℕ × T)) → IsParted past lap later → lap.start + ROWS ≤ due
-      → past ++ (lap.tokens ++ added due t later) ≡ added due t (all_of past lap later)
+      → past ++ (lap.tokens ++ added due t later) ≡ added due t (all_tokens past lap later)
   added-after due t past lap later h high =
       ap (λ zs. past ++ zs) (sym (added-behind due t lap.tokens later (All-weaker (λ (e : ℕ × T). (lap.start ≤ e.0) × (e.0 < lap.start + ROWS)) (λ (e : ℕ × T). e.0 ≤ due) (λ e in'. let up = in'.1 in omega arith) lap.tokens h.within)))
       ∙ sym (added-behind due t past (lap.tokens ++ later) (All-weaker (λ (e : ℕ × T). e.0 < lap.start) (λ (e : ℕ × T). e.0 ≤ due) (λ e before. omega arith) past h.before))
@@ -133,10 +133,10 @@ module _ {T : Type 0} where
       }
 
   -- where the lap stayed empty, the first token was not due within it
-  pub none_moved : (start due : ℕ) (lap : Lap T) (later all : List (ℕ × T)) → IsMoving start lap later all → first_moment all ≡ Some due → due ≤ start + LAST_ROW → All (λ e. start + LAST_ROW < e.0) later
+  pub none_moved : (start due : ℕ) (lap : Lap T) (later all : List (ℕ × T)) → IsMoving start lap later all → next_moment all ≡ Some due → due ≤ start + LAST_ROW → All (λ e. start + LAST_ROW < e.0) later
       → lap.tokens ≡ [] → ⊥
-  none_moved start due lap later all h first high after none = first_above (start + LAST_ROW) due later (ap first_moment (ap (λ zs. zs ++ later) (sym none) ∙ h.moved) ∙ first) after high
+  none_moved start due lap later all h first high after none = first_above (start + LAST_ROW) due later (ap next_moment (ap (λ zs. zs ++ later) (sym none) ∙ h.moved) ∙ first) after high
     where
-      first_above : (m due : ℕ) (l : List (ℕ × T)) → first_moment l ≡ Some due → All (λ e. m < e.0) l → due ≤ m → ⊥
+      first_above : (m due : ℕ) (l : List (ℕ × T)) → next_moment l ≡ Some due → All (λ e. m < e.0) l → due ≤ m → ⊥
       first_above m due [] first above le = cc
       first_above m due (e ∷ es) first above le = let is : e.0 ≡ due = cc in let lt : m < e.0 = All-head (λ (f : ℕ × T). m < f.0) e es above in omega arith

@@ -5,7 +5,7 @@ use Rattle.std.proofs.lemmas.Bool.Decides.{nat_tests}
 use Rattle.std.proofs.lemmas.List.{append-nil, get_or_append_left}
 use Rattle.std.proofs.lemmas.List.Elements.{All-nil, All-append, All-head, All-tail, All-weaker}
 use Rattle.std.specs.declared.collections.VecDeque.{VecDeque}
-use Rattle.ts_wheel.specs.Due.{added, first_due, after_due, first_moment}
+use Rattle.ts_wheel.specs.Due.{added, first_due, after_due, next_moment}
 use Rattle.ts_wheel.specs.Rows.{Lap, all_at, spread, AreEmptyBelow, HasToken}
 use Rattle.ts_wheel.proofs.Added.{added-behind, added-before, added-all_at, All-all_at, first_due-late, none_due}
 
@@ -110,18 +110,18 @@ module _ {T : Type 0} where
       ap (λ zs. all_at from x.items ++ zs) (spread-put (from + 1) xs k r (omega arith) low ∙ ap (λ (n : ℕ). spread (from + 1) xs ++ all_at n r.items) here)
       ∙ sym (append_assoc (all_at from x.items) (spread (from + 1) xs) (all_at (from + suc k) r.items))
 
-  first_moment-row : (due : ℕ) (ts : List T) (rest : List (ℕ × T)) → 0 < length ts → first_moment (all_at due ts ++ rest) ≡ Some due
+  first_moment-row : (due : ℕ) (ts : List T) (rest : List (ℕ × T)) → 0 < length ts → next_moment (all_at due ts ++ rest) ≡ Some due
   first_moment-row due [] rest full = absurd (omega arith)
   first_moment-row due (t ∷ ts) rest full = refl
 
   -- the due moment of the first token is that of the first row that has one
-  pub first_moment-spread : (from : ℕ) (rows : List (Row T)) (k : ℕ) → k < length rows → AreEmptyBelow k rows → HasToken rows k → first_moment (spread from rows) ≡ Some (from + k)
+  pub first_moment-spread : (from : ℕ) (rows : List (Row T)) (k : ℕ) → k < length rows → AreEmptyBelow k rows → HasToken rows k → next_moment (spread from rows) ≡ Some (from + k)
   first_moment-spread from [] k h empty full = absurd (omega arith)
   first_moment-spread from (x ∷ xs) zero h empty full = first_moment-row from x.items (spread (from + 1) xs) (full x) ∙ ap (λ (n : ℕ). Some n) (let here : from ≡ from + 0 = omega arith in here)
   first_moment-spread from (x ∷ xs) (suc k) h empty full =
       let none : x.items ≡ [] = head_empty k x xs empty in
       let here : from + 1 + k ≡ from + suc k = omega arith in
-      ap (λ (ts : List T). first_moment (all_at from ts ++ spread (from + 1) xs)) none
+      ap (λ (ts : List T). next_moment (all_at from ts ++ spread (from + 1) xs)) none
       ∙ first_moment-spread (from + 1) xs k (omega arith) (tail_empty k x xs empty) (λ d. full d)
       ∙ ap (λ (n : ℕ). Some n) here
 
@@ -179,19 +179,19 @@ module _ {T : Type 0} where
   none_next from rows n place h = (
     (λ t. let at : place ≡ n = grind (arith, nat_tests) in spread-none from rows n h.len (λ k d lt. h.empty k d (omega arith))),
     λ e. ⊎_elim
-        (λ (lt : place < n). let first = sym (first_moment-spread from rows place (let len = h.len in omega arith) h.empty (h.full lt)) ∙ ap first_moment e in absurd (cc))
+        (λ (lt : place < n). let first = sym (first_moment-spread from rows place (let len = h.len in omega arith) h.empty (h.full lt)) ∙ ap next_moment e in absurd (cc))
         (λ (ge : n ≤ place). let range = h.range in eq-eqb place n (omega arith))
         (cases_lt place n),
   )
 
-  pub first_next : (from : ℕ) (rows : List (Row T)) (n place : ℕ) → IsNext rows n place → place ≢ n → first_moment (spread from rows) ≡ Some (from + place)
+  pub first_next : (from : ℕ) (rows : List (Row T)) (n place : ℕ) → IsNext rows n place → place ≢ n → next_moment (spread from rows) ≡ Some (from + place)
   first_next from rows n place h other =
       let range = h.range in
       let len = h.len in
       let lt : place < n = omega arith in
       first_moment-spread from rows place (omega arith) h.empty (h.full lt)
 
-  late_first : (now m : ℕ) (l : List (ℕ × T)) → first_moment l ≡ Some m → now < m → first_due now l ≡ None
+  late_first : (now m : ℕ) (l : List (ℕ × T)) → next_moment l ≡ Some m → now < m → first_due now l ≡ None
   late_first now m [] first late = refl
   late_first now m (e ∷ es) first late = let is : e.0 ≡ m = cc in first_due-late now e es (omega arith)
 

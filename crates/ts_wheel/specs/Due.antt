@@ -19,6 +19,6 @@ module _ {T : Type 0} where
   after_due now (e ∷ es) = if nat_le e.0 now then es else e ∷ es
 
   -- the due moment of the first token
-  abbrev pub first_moment : List (ℕ × T) → Option ℕ
-  first_moment [] = None
-  first_moment (e ∷ es) = Some e.0
+  abbrev pub next_moment : List (ℕ × T) → Option ℕ
+  next_moment [] = None
+  next_moment (e ∷ es) = Some e.0

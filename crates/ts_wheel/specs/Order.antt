@@ -14,9 +14,9 @@ module _ {T : Type 0} where
   due_of now (e ∷ es) = if nat_le e.0 now then Some (earlier e (due_of now es)) else due_of now es
 
   -- the list without the first token of that due moment
-  abbrev pub without : ℕ → List (ℕ × T) → List (ℕ × T)
-  without due [] = []
-  without due (e ∷ es) = if e.0 == due then es else e ∷ without due es
+  abbrev pub without_first : ℕ → List (ℕ × T) → List (ℕ × T)
+  without_first due [] = []
+  without_first due (e ∷ es) = if e.0 == due then es else e ∷ without_first due es
 
   -- a token that was added before the others goes before those that are due no sooner
   abbrev pub led : ℕ × T → List (ℕ × T) → List (ℕ × T)
@@ -29,10 +29,10 @@ module _ {T : Type 0} where
   in_order (e ∷ es) = led e (in_order es)
 
   -- a wheel of these tokens gives what `due_of` gives, and keeps all the rest
-  abbrev pub Takes : ℕ → List (ℕ × T) → Option (ℕ × T) → Type 0
-  Takes now es None = (first_due now (in_order es) ≡ None) × (after_due now (in_order es) ≡ in_order es)
-  Takes now es (Some e) =
-      (first_due now (in_order es) ≡ Some e.1) × (after_due now (in_order es) ≡ in_order (without e.0 es))
+  abbrev pub GivesDue : ℕ → List (ℕ × T) → Option (ℕ × T) → Type 0
+  GivesDue now es None = (first_due now (in_order es) ≡ None) × (after_due now (in_order es) ≡ in_order es)
+  GivesDue now es (Some e) =
+      (first_due now (in_order es) ≡ Some e.1) × (after_due now (in_order es) ≡ in_order (without_first e.0 es))
 
 -- whatever was added in whatever order: one token more, added last, stands where a wheel puts it
 abbrev pub AddsInOrder : Type 0 → Type 0
@@ -43,4 +43,4 @@ AddsInOrder T =
 -- whatever was added in whatever order: a wheel gives the due token with the least pair of due moment and order of
 -- adding, and keeps all the rest in order
 abbrev pub TakesTheDue : Type 0 → Type 0
-TakesTheDue T = (tokens : List (ℕ × T)) (now : ℕ) → Takes now tokens (due_of now tokens)
+TakesTheDue T = (tokens : List (ℕ × T)) (now : ℕ) → GivesDue now tokens (due_of now tokens)

@@ -14,5 +14,5 @@ module _ {T : Type 0} where
     pub after : All (λ e. lap.start + ROWS ≤ e.0) later
 
   -- all tokens, in the order in which they come due
-  abbrev pub all_of : List (ℕ × T) → Lap T → List (ℕ × T) → List (ℕ × T)
-  all_of past lap later = past ++ (lap.tokens ++ later)
+  abbrev pub all_tokens : List (ℕ × T) → Lap T → List (ℕ × T) → List (ℕ × T)
+  all_tokens past lap later = past ++ (lap.tokens ++ later)

@@ -12,9 +12,9 @@ all_at due tokens = map (λ t. (due, t)) tokens
 
 module _ {T : Type 0} where
   -- the tokens of rows, each at its moment, one row after the other
-  abbrev pub joined : List (ℕ × VecDeque T Global) → List (ℕ × T)
-  joined [] = []
-  joined (r ∷ rs) = all_at r.0 r.1.items ++ joined rs
+  abbrev pub row_tokens : List (ℕ × VecDeque T Global) → List (ℕ × T)
+  row_tokens [] = []
+  row_tokens (r ∷ rs) = all_at r.0 r.1.items ++ row_tokens rs
 
   -- each row has a token
   abbrev pub AllFull : List (ℕ × VecDeque T Global) → Type 0

@@ -1,7 +1,7 @@
 //! The tokens that are due within a lap, in a row for each of its milliseconds.
 
 ghost use Rattle.std.specs.Prelude.{◌≡◌, ◌+◌, ◌<◌, ◌≤◌, ◌↔◌, [], ◌++◌, length, All, IsTrue, IfOk, OnOk, OnErr};
-ghost use Rattle.ts_wheel.specs.Due.{added, first_due, after_due, first_moment};
+ghost use Rattle.ts_wheel.specs.Due.{added, first_due, after_due, next_moment};
 ghost use Rattle.ts_wheel.specs.Rows.{all_at, AreEmptyBelow, HasToken, KeepsEmpty, SameRows, PushesAt, PopsAt, PutsAt};
 
 use crate::ROWS;
@@ -139,7 +139,7 @@ impl<T: Copy> LapRows<T> {
 
     /// The due moment of the first token.
     pub(crate) fn first(&self) -> Option<u64>
-        ensures { result ≡ first_moment self.now.tokens }
+        ensures { result ≡ next_moment self.now.tokens }
     {
         let place = next_row(&self.rows, self.first);
         if place == ROWS {

@@ -1,8 +1,8 @@
 //! Rows of tokens in an ordered map, one row for each due moment that has tokens.
 
 ghost use Rattle.std.specs.Prelude.{◌≡◌, ℕ, ◌<◌, ◌≤◌, [], ◌∷◌, ◌++◌, length, All, ◌↔◌, IsTrue, IfOk, OnOk, OnErr, IfSome, IfNone, Some};
-ghost use Rattle.ts_wheel.specs.Due.{added, first_due, after_due, first_moment};
-ghost use Rattle.ts_wheel.specs.Rows.{all_at, joined, AllFull};
+ghost use Rattle.ts_wheel.specs.Due.{added, first_due, after_due, next_moment};
+ghost use Rattle.ts_wheel.specs.Rows.{all_at, row_tokens, AllFull};
 
 use std::alloc::Global;
 use std::collections::{BTreeMap, VecDeque};
@@ -18,11 +18,11 @@ pub(crate) struct Rows<T> {
 
 impl<T> Model for Rows<T> {
     ghost use Rattle.std.specs.Prelude.{ℕ, List};
-    ghost use Rattle.ts_wheel.specs.Rows.{joined, AllFull};
+    ghost use Rattle.ts_wheel.specs.Rows.{row_tokens, AllFull};
 
     ghost Value = { List (ℕ × T) };
 
-    ghost view = { λ r. joined r.rows.entries };
+    ghost view = { λ r. row_tokens r.rows.entries };
 
     ghost invariant = { λ r. AllFull r.rows.entries };
 }
@@ -43,8 +43,8 @@ fn add_row<T: Copy>(
 ) -> Result<(), NoMemory>
     requires { AllFull rows.old.entries }
     ensures full { AllFull rows.new.entries }
-    ensures ok { OnOk result (joined rows.new.entries ≡ added due token (joined rows.old.entries)) }
-    ensures err { OnErr result (joined rows.new.entries ≡ joined rows.old.entries) }
+    ensures ok { OnOk result (row_tokens rows.new.entries ≡ added due token (row_tokens rows.old.entries)) }
+    ensures err { OnErr result (row_tokens rows.new.entries ≡ row_tokens rows.old.entries) }
 {
     match rows.get_mut(&due) {
         Some(row) => {
@@ -62,8 +62,8 @@ fn add_row<T: Copy>(
 // The due moment of the first row.
 fn moment_of<T>(rows: &BTreeMap<u64, VecDeque<T>>) -> Option<u64>
     requires { AllFull rows.now.entries }
-    ensures first { result ≡ first_moment (joined rows.now.entries) }
-    ensures least { IfSome result (λ due. All (λ e. due ≤ e.0) (joined rows.now.entries)) }
+    ensures first { result ≡ next_moment (row_tokens rows.now.entries) }
+    ensures least { IfSome result (λ due. All (λ e. due ≤ e.0) (row_tokens rows.now.entries)) }
 {
     let (due, _row) = rows.first_key_value()?;
     Some(*due)
@@ -72,9 +72,9 @@ fn moment_of<T>(rows: &BTreeMap<u64, VecDeque<T>>) -> Option<u64>
 // Takes the first token, which is due at this moment.
 fn pop_token<T: Copy>(rows: &mut BTreeMap<u64, VecDeque<T>>, due: u64) -> T
     requires full { AllFull rows.old.entries }
-    requires first { first_moment (joined rows.old.entries) ≡ Some due }
+    requires first { next_moment (row_tokens rows.old.entries) ≡ Some due }
     ensures full { AllFull rows.new.entries }
-    ensures token { joined rows.old.entries ≡ (due, result) ∷ joined rows.new.entries }
+    ensures token { row_tokens rows.old.entries ≡ (due, result) ∷ row_tokens rows.new.entries }
 {
     let row = rows.get_mut(&due).unwrap();
     let token = row.pop_front().unwrap();
@@ -87,10 +87,10 @@ fn pop_token<T: Copy>(rows: &mut BTreeMap<u64, VecDeque<T>>, due: u64) -> T
 // Takes the first row whole, whose tokens are due at this moment.
 fn pop_row<T>(rows: &mut BTreeMap<u64, VecDeque<T>>, due: u64) -> VecDeque<T>
     requires full { AllFull rows.old.entries }
-    requires first { first_moment (joined rows.old.entries) ≡ Some due }
+    requires first { next_moment (row_tokens rows.old.entries) ≡ Some due }
     ensures full { AllFull rows.new.entries × (0 < length result.items) }
-    ensures row { joined rows.old.entries ≡ all_at due result.items ++ joined rows.new.entries }
-    ensures later { All (λ e. due < e.0) (joined rows.new.entries) }
+    ensures row { row_tokens rows.old.entries ≡ all_at due result.items ++ row_tokens rows.new.entries }
+    ensures later { All (λ e. due < e.0) (row_tokens rows.new.entries) }
 {
     let (_due, row) = rows.pop_first().unwrap();
     row
@@ -122,7 +122,7 @@ impl<T: Copy> Rows<T> {
 
     /// The due moment of the first token.
     pub(crate) fn first(&self) -> Option<u64>
-        ensures first { result ≡ first_moment self.now }
+        ensures first { result ≡ next_moment self.now }
         ensures least { IfSome result (λ due. All (λ e. due ≤ e.0) self.now) }
     {
         moment_of(&self.rows)

@@ -1,8 +1,8 @@
 //! The wheel: the tokens of a lap in its rows, and those that are due before or after it in ordered maps.
 
 ghost use Rattle.std.specs.Prelude.{◌≡◌, ◌++◌, [], IfOk, OnOk, OnErr, None};
-ghost use Rattle.ts_wheel.specs.Due.{added, first_due, after_due, first_moment};
-ghost use Rattle.ts_wheel.specs.Parts.{IsParted, all_of};
+ghost use Rattle.ts_wheel.specs.Due.{added, first_due, after_due, next_moment};
+ghost use Rattle.ts_wheel.specs.Parts.{IsParted, all_tokens};
 
 use crate::ROWS;
 use crate::lap::{LAST_ROW, LAST_START, LapRows};
@@ -22,11 +22,11 @@ pub struct Wheel<T> {
 
 impl<T> Model for Wheel<T> {
     ghost use Rattle.std.specs.Prelude.{ℕ, List};
-    ghost use Rattle.ts_wheel.specs.Parts.{IsParted, all_of};
+    ghost use Rattle.ts_wheel.specs.Parts.{IsParted, all_tokens};
 
     ghost Value = { List (ℕ × T) };
 
-    ghost view = { λ w. all_of w.past w.lap w.later };
+    ghost view = { λ w. all_tokens w.past w.lap w.later };
 
     ghost invariant = { λ w. IsParted w.past w.lap w.later };
 }
@@ -41,8 +41,8 @@ fn add_to<T: Copy>(
     requires { IsParted past.old lap.old later.old }
     ensures parted { IsParted past.new lap.new later.new }
     ensures ok { OnOk result
-        (all_of past.new lap.new later.new ≡ added due token (all_of past.old lap.old later.old)) }
-    ensures err { OnErr result (all_of past.new lap.new later.new ≡ all_of past.old lap.old later.old) }
+        (all_tokens past.new lap.new later.new ≡ added due token (all_tokens past.old lap.old later.old)) }
+    ensures err { OnErr result (all_tokens past.new lap.new later.new ≡ all_tokens past.old lap.old later.old) }
 {
     let start = lap.start();
     if due < start {
@@ -97,8 +97,8 @@ fn take_from<T: Copy>(
 ) -> Option<T>
     requires { IsParted past.old lap.old later.old }
     ensures parted { IsParted past.new lap.new later.new }
-    ensures token { result ≡ first_due now (all_of past.old lap.old later.old) }
-    ensures rest { all_of past.new lap.new later.new ≡ after_due now (all_of past.old lap.old later.old) }
+    ensures token { result ≡ first_due now (all_tokens past.old lap.old later.old) }
+    ensures rest { all_tokens past.new lap.new later.new ≡ after_due now (all_tokens past.old lap.old later.old) }
 {
     if past.is_empty() {
         return take_in_lap(lap, later, now);
@@ -107,7 +107,7 @@ fn take_from<T: Copy>(
 }
 
 fn moment_of<T: Copy>(past: &Rows<T>, lap: &LapRows<T>, later: &Rows<T>) -> Option<u64>
-    ensures { result ≡ first_moment (all_of past.now lap.now later.now) }
+    ensures { result ≡ next_moment (all_tokens past.now lap.now later.now) }
 {
     if let Some(due) = past.first() {
         return Some(due);
@@ -148,7 +148,7 @@ impl<T: Copy> Wheel<T> {
 
     /// The least due moment, `None` exactly where there is no token.
     pub fn next_due(&self) -> Option<u64>
-        ensures { result ≡ first_moment self.now }
+        ensures { result ≡ next_moment self.now }
     {
         moment_of(&self.past, &self.lap, &self.later)
     }

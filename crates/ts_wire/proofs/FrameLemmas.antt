@@ -8,7 +8,7 @@ use Rattle.httparse.specs.Grammar.{ChunkLine, IsChunkLine, print_chunk_line, chu
 use Rattle.ts_wire.specs.declared.frames.Mode.{Mode}
 use Rattle.ts_wire.specs.declared.frames.Mode.TheVariants.{Plain, Chunked}
 use Rattle.ts_wire.specs.Body.{IsShortLine, Chunk, IsChunk, print_chunk, print_chunks, contents, InTrailer}
-use Rattle.ts_wire.specs.Frames.{IsPiece, hex, chunk_text, frame_of, frames, joined, cut, ReadsBack}
+use Rattle.ts_wire.specs.Frames.{IsPiece, hex, chunk_text, frame_of, frames, cut_body, cut, ReadsBack}
 use Rattle.ts_wire.proofs.HexLemmas.{hex_pass, length-hex, hex_value, hex_zero}
 
 -- the line of a chunk of so many bytes
@@ -46,7 +46,7 @@ chunks_text : (pieces : List (List ℕ)) → flat_map (frame_of Chunked) pieces 
 chunks_text [] = refl
 chunks_text (p ∷ ps) = λ i. chunk_of_text p i ++ chunks_text ps i
 
-chunks_content : (pieces : List (List ℕ)) → joined pieces ≡ contents (map chunk_of pieces)
+chunks_content : (pieces : List (List ℕ)) → cut_body pieces ≡ contents (map chunk_of pieces)
 unfolding chunk_of
 chunks_content [] = refl
 chunks_content (p ∷ ps) = ap (λ l. p ++ l) (chunks_content ps)
@@ -60,7 +60,7 @@ pub reads_back : ReadsBack
 reads_back pieces all fits =
     let last = line_of 0 in
     let end : codes "0\r\n\r\n" ≡ print_chunk_line last ++ crlf_bytes = sym (ap (λ l. l ++ crlf_bytes) (line_text 0) ∙ ap (λ d. d ++ crlf_bytes ++ crlf_bytes) hex_zero) in
-    let trailer : InTrailer (frames Chunked pieces true) (joined pieces) crlf_bytes = record {
+    let trailer : InTrailer (frames Chunked pieces true) (cut_body pieces) crlf_bytes = record {
       line = last;
       good = line_good 0 (omega arith);
       after = record {
@@ -75,10 +75,10 @@ reads_back pieces all fits =
     record { text = crlf_bytes; trailer = trailer; fields = []; last = crlf; rest = []; reads = (All-nil IsField, refl); few = omega arith; short = omega arith }
 
 -- the lengths of the pieces and the body that they join to give the pieces again
-pub cut-joined : (pieces : List (List ℕ)) → cut (map length pieces) (joined pieces) ≡ pieces
+pub cut-joined : (pieces : List (List ℕ)) → cut (map length pieces) (cut_body pieces) ≡ pieces
 cut-joined [] = refl
 cut-joined (p ∷ ps) =
-    λ i. take_at p (joined ps) (length p) refl i ∷ (ap (cut (map length ps)) (drop_at p (joined ps) (length p) refl) ∙ cut-joined ps) i
+    λ i. take_at p (cut_body ps) (length p) refl i ∷ (ap (cut (map length ps)) (drop_at p (cut_body ps) (length p) refl) ∙ cut-joined ps) i
 
 -- a piece that is sent in a frame is at most nine times as long
 pub length-frame_of : (mode : Mode) (piece : List ℕ) → IsPiece piece → length (frame_of mode piece) ≤ 9 * length piece

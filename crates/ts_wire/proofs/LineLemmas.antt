@@ -177,8 +177,8 @@ in_place held bytes text most n none is size =
     record { piece = text; piece_is = is ∙ ap (λ k. take k bytes) size; text_is = ap (λ l. l ++ text) (sym none) }
 
 -- a text that was kept in part
-pub joined : (held bytes piece whole text : List ℕ) (most n : ℕ) → piece ≡ take n bytes → n ≡ most → whole ≡ held ++ piece → text ≡ whole → IsText held bytes text most
-joined held bytes piece whole text most n is size kept same =
+pub cut_body : (held bytes piece whole text : List ℕ) (most n : ℕ) → piece ≡ take n bytes → n ≡ most → whole ≡ held ++ piece → text ≡ whole → IsText held bytes text most
+cut_body held bytes piece whole text most n is size kept same =
     record { piece = piece; piece_is = is ∙ ap (λ k. take k bytes) size; text_is = same ∙ kept }
 
 pub nothing : (held : List ℕ) → length held ≡ 0 → held ≡ []

@@ -40,8 +40,8 @@ abbrev pub frames : Mode → List (List ℕ) → Bool → List ℕ
 frames mode pieces fin = flat_map (frame_of mode) pieces ++ (if fin then end_of mode else [])
 
 -- the body that is cut into the pieces
-abbrev pub joined : List (List ℕ) → List ℕ
-joined pieces = flat_map (λ p. p) pieces
+abbrev pub cut_body : List (List ℕ) → List ℕ
+cut_body pieces = flat_map (λ p. p) pieces
 
 -- a body cut into pieces of these lengths
 abbrev pub cut : List ℕ → List ℕ → List (List ℕ)
@@ -50,13 +50,13 @@ cut (n ∷ ns) body = take n body ∷ cut ns (drop n body)
 
 -- the lengths of the pieces cut the body again as it was cut
 abbrev pub CutsBack : Type 0
-CutsBack = (pieces : List (List ℕ)) → cut (map length pieces) (joined pieces) ≡ pieces
+CutsBack = (pieces : List (List ℕ)) → cut (map length pieces) (cut_body pieces) ≡ pieces
 
 -- what is sent in chunks is read again as the body, and the body ends with it
 abbrev pub ReadsBack : Type 0
 ReadsBack =
-    (pieces : List (List ℕ)) → All IsPiece pieces → length (joined pieces) ≤ body_limit
-    → BodyOf F.Chunked (frames Chunked pieces true) (joined pieces) Ended
+    (pieces : List (List ℕ)) → All IsPiece pieces → length (cut_body pieces) ≤ body_limit
+    → BodyOf F.Chunked (frames Chunked pieces true) (cut_body pieces) Ended
 
 -- the last four hexadecimal digits of a number, and how many of them are leading zeros
 abbrev pub four_digits : ℕ → List ℕ

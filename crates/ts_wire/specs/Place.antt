@@ -110,8 +110,8 @@ pub record Place : Type 0 where
 abbrev pub place_of : Inside → Place
 place_of r = record { phase = r.phase; held = r.held.items; total = r.total }
 
-abbrev pub IsSound : Inside → Type 0
-IsSound r =
+abbrev pub IsSoundInside : Inside → Type 0
+IsSoundInside r =
     (room_of r.phase ≤ vec_capacity r.held) × (r.total < word_limit)
     × IsSoundPhase r.phase r.held.items r.total
 
@@ -123,7 +123,7 @@ pub record IsFed (framing : Framing) (fed body : List ℕ) (place : Place) : Typ
 
 -- which front of the bytes is taken, and which part of it is body. A reader that stays in the same part of
 -- the body has taken all the bytes: it passes over a run of them as a whole.
-pub record Takes (old new : Place) (bytes : List ℕ) (answer : Fed) : Type 0 where
+pub record TakesBytes (old new : Place) (bytes : List ℕ) (answer : Fed) : Type 0 where
   pub ordered : answer.from ≤ answer.to
   pub within : answer.to ≤ answer.taken
   pub taken : answer.taken ≤ length bytes

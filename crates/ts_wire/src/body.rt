@@ -2,7 +2,7 @@
 ghost use Rattle.std.specs.Prelude.{◌≡◌, ◌≢◌, ◌≤◌, ◌↔◌, ℕ, List, [], take, slice_range, IfOk};
 ghost use Rattle.ts_wire.specs.declared.body.BodyState.{BodyState};
 ghost use Rattle.ts_wire.specs.Body.{IsCutShort, HasOneBody};
-ghost use Rattle.ts_wire.specs.Place.{room_of, state_of, IsSoundPhase, IsFed, Takes, GoesOn, GivesBody};
+ghost use Rattle.ts_wire.specs.Place.{room_of, state_of, IsSoundPhase, IsFed, TakesBytes, GoesOn, GivesBody};
 
 use crate::framing::Framing;
 use crate::phases::{MAX_TRAILER, Phase, next_step};
@@ -48,13 +48,13 @@ pub struct BodyReader {
 }
 
 impl Model for BodyReader {
-    ghost use Rattle.ts_wire.specs.Place.{Place, place_of, IsSound};
+    ghost use Rattle.ts_wire.specs.Place.{Place, place_of, IsSoundInside};
 
     ghost Value = { Place };
 
     ghost view = { place_of };
 
-    ghost invariant = { IsSound };
+    ghost invariant = { IsSoundInside };
 }
 
 fn state_of(phase: Phase) -> BodyState
@@ -105,7 +105,7 @@ impl BodyReader {
 
     /// Takes a front of the bytes, and says which part of it is body.
     pub fn feed(&mut self, bytes: &[u8]) -> Fed
-        ensures takes { Takes self.old self.new bytes.now result }
+        ensures takes { TakesBytes self.old self.new bytes.now result }
 
         // A body that has ended or is bad stays so, and takes nothing.
         ensures rests { state_of self.old.phase ≢ BodyState.Unfinished → result.taken ≡ 0 }

@@ -1,5 +1,5 @@
 use Rattle.std.proofs.Common.{◌≡◌, length, sym, ap, ◌∙◌, arith, rules, length-append}
-use Rattle.ts_wheel.specs.Rows.{joined}
+use Rattle.ts_wheel.specs.Rows.{row_tokens}
 use Rattle.ts_wheel.proofs.Joined.{joined-insert, joined-push, joined-same, AllFull-insert, AllFull-set_value, lookup-full}
 use Rattle.ts_wheel.proofs.rows.add_row.Goals as goal
 
@@ -15,8 +15,8 @@ pub returns-in_err-push_back-in-Some-clause-err : goal.returns-in_err-push_back-
 returns-in_err-push_back-in-Some-clause-err g c =
     let rows = c.args.rows.now.entries in
     let row = c.push_back.new.self in
-    let same : joined (c.get_mut.follows.lender row).entries ≡ joined rows =
-    ap joined (c.get_mut.follows.holds row).0 ∙ joined-same rows c.args.due c.in-Some.row.now row (sym c.in-Some.ensures.value) c.in_err-push_back-in-Some.ensures.items in
+    let same : row_tokens (c.get_mut.follows.lender row).entries ≡ row_tokens rows =
+    ap row_tokens (c.get_mut.follows.holds row).0 ∙ joined-same rows c.args.due c.in-Some.row.now row (sym c.in-Some.ensures.value) c.in_err-push_back-in-Some.ensures.items in
     search rules
 
 pub returns-in_ok-push_back-in-Some-clause-full : goal.returns-in_ok-push_back-in-Some-clause-full

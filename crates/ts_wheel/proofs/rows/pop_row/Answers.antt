@@ -1,5 +1,5 @@
 use Rattle.std.proofs.Common.{ℕ, ◌<◌, ◌++◌, ap, ◌∙◌, subst, All}
-use Rattle.ts_wheel.specs.Rows.{all_at, joined}
+use Rattle.ts_wheel.specs.Rows.{all_at, row_tokens}
 use Rattle.ts_wheel.proofs.Joined.{joined-rest, joined-later, some_row}
 use Rattle.ts_wheel.proofs.rows.pop_row.Goals as goal
 
@@ -15,6 +15,6 @@ returns g c =
     let rest = joined-rest c.args.rows.now.entries left first c.args.due c.requires.full c.requires.first removal in
     record {
       full = (rest.1, rest.2);
-      row = ap joined removal ∙ ap (λ (m : ℕ). all_at m first.1.items ++ joined left) rest.0;
-      later = subst (λ (m : ℕ). All (λ e. m < e.0) (joined left)) rest.0 (joined-later first.0 left above);
+      row = ap row_tokens removal ∙ ap (λ (m : ℕ). all_at m first.1.items ++ row_tokens left) rest.0;
+      later = subst (λ (m : ℕ). All (λ e. m < e.0) (row_tokens left)) rest.0 (joined-later first.0 left above);
     }
