@@ -45,7 +45,7 @@ impl Slotted for Burst {
 fn call_target(target: ContKey, cx: &mut Cx)
     requires turn { cx.old.log.state.held ≡ true }
     ensures grows { Grows cx.old cx.new }
-    ensures few { cx.new.log.state.next ≤ cx.old.log.state.next + 65 }
+    ensures few { cx.new.log.state.next ≤ cx.old.log.state.next + CALLS }
 {
     for call in 0..CALLS {
         let _action = cx.call(target, Event::Immediate);
