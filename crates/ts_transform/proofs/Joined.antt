@@ -6,7 +6,7 @@ use Rattle.ts_group.specs.declared.action.Named.{Named}
 use Rattle.std.specs.Prelude.{⊤}
 use Rattle.ts_group.specs.declared.action.SetFault.{SetFault}
 use Rattle.ts_group.specs.declared.action.MakeFault.{MakeFault}
-use Rattle.ts_group.specs.Context.{AllPlain, Context, role_at}
+use Rattle.ts_group.specs.Context.{AllPlain, Context, IsSame, role_at}
 use Rattle.ts_group.specs.Entries.{Grows}
 use Rattle.ts_group.specs.Changes.{SameEvents}
 use Rattle.ts_transform.specs.declared.continuation.StageContinuation.{StageContinuation}
@@ -20,7 +20,7 @@ use Rattle.ts_transform.specs.Cover.{IsDriven}
 use Rattle.ts_transform.specs.declared.loss.Loss.TheVariants.{NoMemory, TableFull, Dead, Spent}
 use Rattle.ts_transform.specs.Driven.{HasBegun, Loses, MayLose}
 use Rattle.ts_transform.specs.Loss.{IsCauseOf, loss_of, making_loss}
-use Rattle.ts_transform.specs.Carrying.{AreEndsRoused, AreLinked, IsJoined, MayBreak, RetriesRead, RetriesWrite}
+use Rattle.ts_transform.specs.Carrying.{AreEndsRoused, AreLinked, HasNoDuty, IsJoined, IsOfNobody, MayBreak, RetriesRead, RetriesWrite}
 use Rattle.ts_transform.specs.declared.link_world.LinkWorld.{LinkWorld}
 use Rattle.ts_transform.specs.declared.link_world.TheConstants.{RETRY}
 use Rattle.ts_transform.proofs.Handled.{begun_other, begun_quiet, quiet_if, stays_if, unroused_if}
@@ -256,3 +256,21 @@ none_same (Some t) (Some u) same is = absurd (let wrong : Some u ≡ None = is i
 -- it is lost where a continuation could not be made
 pub begun_made : {P Live : Type 0} (d : DrivenChain P) (fault : MakeFault) (loss : Loss) (now : Context) → d.running ≡ false → d.lost ≡ Some loss → loss ≡ making_loss fault → IsCauseOf ⊤ (making_loss fault) now → HasBegun Live d now
 begun_made {Live = Live} d fault loss now stopped lost is cause = inr (loss, stopped, lost, subst (λ l. IsCauseOf Live l now) (sym is) (making_cause Live fault now cause))
+
+-- Where nobody has a duty, and those who stand at the ends were roused, nothing is done.
+pub rests_then : {I K P : Type 0} (role : ℕ) (u v w : LinkWorld I K P) (a b c : Context) → u.driven.running ≡ true → (IsOfNobody role u → (v ≡ u) × IsSame a b)
+    → ((v.driven.running ≡ false) ⊎ AreEndsRoused v.driven.chain v.writer v.reader → (w ≡ v) × (c ≡ b)) → HasNoDuty role u → (w ≡ u) × IsSame a c
+rests_then role u v w a b c runs work ends (inl stopped) = absurd (let wrong : true ≡ false = sym runs ∙ stopped in cc)
+rests_then role u v w a b c runs work ends (inr (nobody, roused)) =
+    let first = work nobody in
+    let second = ends (inr (subst (λ x. AreEndsRoused x.driven.chain x.writer x.reader) (sym first.0) roused)) in
+    (second.0 ∙ first.0, subst (IsSame a) (sym second.1) first.1)
+
+-- A world that is sound and runs has roused its ends.
+pub no_duty : {I K P : Type 0} (role : ℕ) (w : LinkWorld I K P) → (w.driven.running ≡ true → AreEndsRoused w.driven.chain w.writer w.reader) → (w.driven.running ≡ false) ⊎ IsOfNobody role w → HasNoDuty role w
+no_duty role w ends (inl stopped) = inl stopped
+no_duty role w ends (inr nobody) = by_run w.driven.running refl
+  where
+    by_run : (b : Bool) → w.driven.running ≡ b → HasNoDuty role w
+    by_run false is = inl is
+    by_run true is = inr (nobody, ends is)

@@ -12,7 +12,7 @@ use Rattle.ts_transform.specs.Stage.{MOST_WAITING}
 use Rattle.ts_transform.specs.Flow.{ChainState, EndsInOrder, MustRead, MustWrite, OnlyFirstWorks, flow}
 use Rattle.ts_transform.specs.Driving.{HasLiveIf, IsHandled, IsNamedIf, IsOfStageIf, IsRousedIf, IsRousingOf, SetsOnly}
 use Rattle.ts_transform.specs.Cover.{IsDriven}
-use Rattle.ts_transform.specs.Driven.{HasAllLive, MayLose}
+use Rattle.ts_transform.specs.Driven.{HasAllLive, IsOfNoStage, MayLose}
 use Rattle.ts_transform.specs.declared.continuation.StageContinuation.{StageContinuation}
 use Rattle.ts_transform.specs.declared.link_world.LinkWorld.{LinkWorld}
 use Rattle.ts_vconn.specs.declared.moves.TheConstants.{MOST_PULLED}
@@ -132,6 +132,16 @@ HandlesCarried role event v w a b = (before : List Pending)
 -- what holds of its group
 abbrev pub IsCarriedGroup : {I K P Q R T U : Type 0} → Group (LinkWorld I K P) Q R T U → Type 0
 IsCarriedGroup g = IsCarried g.world g.cx.log.state.pending g.cx.roles
+
+-- The role is that of no continuation of a world: of neither end, and of no stage.
+pub record IsOfNobody {I K P : Type 0} (role : ℕ) (w : LinkWorld I K P) : Type 0 where
+  pub no_writer : role ≢ 1
+  pub no_reader : role ≢ 2
+  pub no_stage : IsOfNoStage 3 role w.driven
+
+-- an event of a role is that of nobody, where both ends are roused that must work; or something was lost before
+abbrev pub HasNoDuty : {I K P : Type 0} → ℕ → LinkWorld I K P → Type 0
+HasNoDuty role w = (w.driven.running ≡ false) ⊎ (IsOfNobody role w × AreEndsRoused w.driven.chain w.writer w.reader)
 
 -- the continuations of a world are live
 pub record AreLinked {I K P : Type 0} (w : LinkWorld I K P) (now : Context) : Type 0 where

@@ -9,7 +9,7 @@ ghost use Rattle.ts_group.specs.Entries.{Grows};
 ghost use Rattle.ts_transform.specs.Flow.{IsFinished, aborted, compose, flow, fresh_stage};
 ghost use Rattle.ts_transform.specs.Driving.{ActsWithin, IsNamedIf, IsRousedIf};
 ghost use Rattle.ts_transform.specs.Driven.{HasBegun, SameCourse};
-ghost use Rattle.ts_transform.specs.Carrying.{AreEndsRoused, AreLinked, HandlesCarried, HandlesJoined, HandlesWaits, HasLinkBegun, HasStepped, InputWaits, IsCarried, IsSameBut, KeepsCourse, KeepsReader, KeepsWriter, LacksMemory, MayBreak, Moves, OutputWaits, RetriesRead, RetriesWrite, RousesEnd, StaysJoined, Steps, TriesAgain};
+ghost use Rattle.ts_transform.specs.Carrying.{AreEndsRoused, AreLinked, HandlesCarried, HandlesJoined, HandlesWaits, HasLinkBegun, HasNoDuty, HasStepped, InputWaits, IsCarried, IsOfNobody, IsSameBut, KeepsCourse, KeepsReader, KeepsWriter, LacksMemory, MayBreak, Moves, OutputWaits, RetriesRead, RetriesWrite, RousesEnd, StaysJoined, Steps, TriesAgain};
 
 use crate::chain::Chain;
 use crate::continuation::{StageContinuation, works};
@@ -281,6 +281,7 @@ impl<I: Link + Drop, K: Link + Drop, P: Transform + Drop> LinkWorld<I, K, P> {
             → RetriesRead self.old self.new cx.old cx.new }
         ensures writes { IsNamedIf cx.old.roles 1 self.old.writer → OutputWaits K.look self.old self.new
             → RetriesWrite self.old self.new cx.old cx.new }
+        ensures other { IsOfNobody role self.old → (self.new ≡ self.old) × IsSame cx.old cx.new }
     {
         if role == WRITER {
             self.write_at(event, cx);
@@ -336,7 +337,7 @@ impl<I: Link + Drop, K: Link + Drop, P: Transform + Drop> LinkWorld<I, K, P> {
         ensures again { HandlesWaits role event I.look K.look self.old self.new cx.old cx.new }
         ensures loses { MayBreak self.old self.new cx.new }
         ensures within { ActsWithin 6 cx.old cx.new }
-        ensures lost { self.old.driven.running ≡ false → (self.new ≡ self.old) × IsSame cx.old cx.new }
+        ensures rests { HasNoDuty role self.old → (self.new ≡ self.old) × IsSame cx.old cx.new }
         ensures stops { self.old.driven.running ≡ true → LacksMemory self.new → self.new.aborted ≡ true }
     {
         if !self.driven.running {
@@ -452,7 +453,8 @@ impl<I: Link + Drop, K: Link + Drop, P: Transform + Drop> World for LinkWorld<I,
         ensures again { TriesAgain I.look K.look self.old self.new cx.old cx.new }
         ensures loses { MayBreak self.old self.new cx.new }
         ensures within { ActsWithin 6 cx.old cx.new }
-        ensures lost { self.old.driven.running ≡ false → (self.new ≡ self.old) × IsSame cx.old cx.new }
+        ensures rests { (self.old.driven.running ≡ false) ⊎ IsOfNobody role self.old
+            → (self.new ≡ self.old) × IsSame cx.old cx.new }
     {
         self.step(role, event, cx);
         Want::Nothing

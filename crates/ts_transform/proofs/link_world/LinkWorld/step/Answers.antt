@@ -2,7 +2,7 @@ use Rattle.std.proofs.Common.{◌≡◌, true, false, arith, refl, sym, ap, subs
 use Rattle.ts_transform.specs.Driving.{IsRousedIf}
 use Rattle.ts_transform.specs.Carrying.{IsJoinedWhile, LacksMemory, MayBreak, Steps}
 use Rattle.ts_transform.proofs.Carrying.{moves_aborted, moves_as, moves_lacks, moves_none}
-use Rattle.ts_transform.proofs.Joined.{again_reads, again_writes, aborted_quiet, joined_aborted, joined_as, lose_lacks, loses_runs, may_break_then, named_of}
+use Rattle.ts_transform.proofs.Joined.{again_reads, again_writes, aborted_quiet, joined_aborted, joined_as, lose_lacks, loses_runs, may_break_then, named_of, rests_then}
 use Rattle.ts_transform.proofs.Kept.{acts_none, acts_then}
 use Rattle.ts_transform.proofs.link_world.LinkWorld.step.Goals as goal
 
@@ -146,3 +146,13 @@ returns-then-lacks_memory-clause-loses g c =
 
 pub returns-else-lacks_memory-clause-stops : goal.returns-else-lacks_memory-clause-stops
 returns-else-lacks_memory-clause-stops g c = λ runs lacks. absurd (c.lacks_memory.ensures.has c.if-lacks_memory.false lacks)
+
+-- It is that of nobody.
+pub returns-else-lacks_memory-clause-rests : goal.returns-else-lacks_memory-clause-rests
+returns-else-lacks_memory-clause-rests g c =
+    rests_then c.args.role c.args.self.now c.work.new.self c.rouse_ends.new.self c.args.cx.now c.work.new.cx c.rouse_ends.new.cx c.if-not-self.false c.work.ensures.other c.rouse_ends.ensures.idle
+
+pub returns-then-lacks_memory-clause-rests : goal.returns-then-lacks_memory-clause-rests
+returns-then-lacks_memory-clause-rests g c = λ idle.
+    let same = rests_then c.args.role c.args.self.now c.work.new.self c.rouse_ends.new.self c.args.cx.now c.work.new.cx c.rouse_ends.new.cx c.if-not-self.false c.work.ensures.other c.rouse_ends.ensures.idle idle in
+    absurd (let wrong : false ≡ true = sym (c.lacks_memory.ensures.lacks c.if-lacks_memory.true).0 ∙ ap (λ x. x.driven.running) same.0 ∙ c.if-not-self.false in cc)

@@ -31,3 +31,14 @@ returns-else-role-eq-READER-clause-course g c =
     let acted = c.handle-told in
     let was = c.args.self.now.driven in
     record { loses = lose_weaker was acted.new.self acted.new.cx (λ all. all.stages) (may_lose acted.result was acted.new.self acted.new.cx acted.ensures.loses); started = λ none. none }
+
+-- It is that of nobody.
+pub returns-then-role-eq-WRITER-clause-other : goal.returns-then-role-eq-WRITER-clause-other
+returns-then-role-eq-WRITER-clause-other g c = λ nobody. absurd (nobody.no_writer c.if-role-eq-WRITER.true)
+
+pub returns-then-role-eq-READER-clause-other : goal.returns-then-role-eq-READER-clause-other
+returns-then-role-eq-READER-clause-other g c = λ nobody. absurd (nobody.no_reader c.if-role-eq-READER.true)
+
+pub returns-else-role-eq-READER-clause-other : goal.returns-else-role-eq-READER-clause-other
+returns-else-role-eq-READER-clause-other g c = λ nobody.
+    let other = c.handle-told.ensures.other nobody.no_stage in (ap (λ d. record c.args.self.now { driven = d }) other.0, other.1)
