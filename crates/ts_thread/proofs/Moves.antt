@@ -24,7 +24,7 @@ use Rattle.ts_group.specs.Acts.{BeginsTurn, GivesTurn}
 use Rattle.ts_group.specs.Slot.{IsAtRest}
 use Rattle.ts_group.specs.Answers.{Holds, Falls, LeavesLess, KeepsTags, SetsAtMost, SetsQuestion, IsSameGroup}
 use Rattle.ts_group.proofs.Keeps.{falls_refl, falls_trans}
-use Rattle.ts_thread.specs.Tags.{FitsTag}
+use Rattle.ts_thread.specs.Tags.{GroupFits}
 use Rattle.ts_thread.specs.Alone.{HandlesQuestion}
 use Rattle.ts_thread.proofs.Alone.{takes_none, takes_on, one_turn, first_after, asks_after, runs_begin}
 use Rattle.ts_thread.specs.Goings.{IsLaterGroup, GoesOn, WorksOn, HasTurns, IsDue}
@@ -91,8 +91,8 @@ over_turn g0 g1 g2 g3 turn moment more begins base on gives = record {
       (later_trans g1.cx.log.state g2.cx.log.state g3.cx.log.state on (gave_later g2.cx.log.state g3.cx.log.state g2.cx.log.state.turns gives.state));
 }
 
-module _ {W Q R T U : Type 0} (Fits : T → W → Type 0) (Sound : W → State → List Named → Type 0) (oa : T → Bool) (Left : W → State → Option ℕ) where
-  pub goes_refl : (g : Group W Q R T U) (n : ℕ) → GoesOn Fits Sound oa Left g g n
+module _ {W Q R T U : Type 0} (Fits : T → W → Type 0) (Sound : W → State → List Named → Type 0) (oa isf : T → Bool) (Left : W → State → Option ℕ) where
+  pub goes_refl : (g : Group W Q R T U) (n : ℕ) → GoesOn Fits Sound oa isf Left g g n
   goes_refl g n = record {
     fits = λ t f. f;
     tags = λ t f. f;
@@ -103,7 +103,7 @@ module _ {W Q R T U : Type 0} (Fits : T → W → Type 0) (Sound : W → State �
     later = record { base = refl; later = later_refl g.cx.log.state };
   }
 
-  pub goes_trans : (g h k : Group W Q R T U) (m n : ℕ) → GoesOn Fits Sound oa Left g h m → GoesOn Fits Sound oa Left h k n → GoesOn Fits Sound oa Left g k (m + n)
+  pub goes_trans : (g h k : Group W Q R T U) (m n : ℕ) → GoesOn Fits Sound oa isf Left g h m → GoesOn Fits Sound oa isf Left h k n → GoesOn Fits Sound oa isf Left g k (m + n)
   goes_trans g h k m n a b = record {
     fits = λ t f. b.fits t (a.fits t f);
     tags = λ t f. b.tags t (a.tags t f);
@@ -119,7 +119,7 @@ module _ {W Q R T U : Type 0} (Fits : T → W → Type 0) (Sound : W → State �
       → BeginsTurn g0.cx g1.cx turn 0 moment → g1.world ≡ g0.world → Left g1.world g1.cx.log.state ≡ Left g0.world g0.cx.log.state
       → WorksOn Fits Sound Left g1 g2
       → GivesTurn g2.cx g3.cx → g3.world ≡ g2.world → Left g3.world g3.cx.log.state ≡ Left g2.world g2.cx.log.state → Holds Sound g3
-      → GoesOn Fits Sound oa Left g0 g3 1
+      → GoesOn Fits Sound oa isf Left g0 g3 1
   stepped g0 g1 g2 g3 turn moment number due is begins same left works gives still left_too sound =
       let there : pending_at number g0.cx.log.state.pending ≡ Some due.0 = subst (λ (n : ℕ). pending_at n g0.cx.log.state.pending ≡ Some due.0) due.3 due.1.0 in
       let next1 : g1.cx.log.state.next ≡ g0.cx.log.state.next = ap (λ (s : State). s.next) begins.state in
@@ -142,6 +142,7 @@ module _ {W Q R T U : Type 0} (Fits : T → W → Type 0) (Sound : W → State �
                 subst (λ (b : Bool). g3.cx.log.state.next ≤ cond b (g3.cx.log.state.turns + 1) (MOST_IN_TURN * g3.cx.log.state.turns + 1)) (sym other) now,
                 subst (λ (b : Bool). OnTrue b (g3.cx.log.state.pending ≡ [])) (sym other) tt,
               ),
+              subst (λ (s : State). OnTrue (isf t) (s.turns ≡ 0)) (sym (gives.by.base ∙ works.by.base ∙ begins.by.base)) f.3,
             );
         tags = tags;
         took = omega arith;
@@ -152,14 +153,14 @@ module _ {W Q R T U : Type 0} (Fits : T → W → Type 0) (Sound : W → State �
       }
 
   -- a group that is the same but for its room
-  pub same_goes : (g h : Group W Q R T U) (n : ℕ) → IsSame g.cx h.cx → h.world ≡ g.world → GoesOn Fits Sound oa Left g h n
+  pub same_goes : (g h : Group W Q R T U) (n : ℕ) → IsSame g.cx h.cx → h.world ≡ g.world → GoesOn Fits Sound oa isf Left g h n
   same_goes g h n cx world =
       let state : h.cx.log.state ≡ g.cx.log.state = cx.log.state in
       record {
         fits = λ t f.
             let fit : Fits t h.world = subst (λ (w : W). Fits t w) (sym world) f.0 in
             let sound : Sound h.world h.cx.log.state h.cx.roles = subst (λ (x : W × State × List Named). Sound x.0 x.1 x.2) (λ i. (sym world i, sym state i, sym cx.roles i)) f.1 in
-            let rest : IsAtRest (oa t) h.cx.log.state = subst (λ (s : State). IsAtRest (oa t) s) (sym state) f.2 in (fit, sound, rest);
+            let rest : IsAtRest (oa t) h.cx.log.state = subst (λ (s : State). IsAtRest (oa t) s) (sym state) f.2 in (fit, sound, rest, subst (λ (s : State). OnTrue (isf t) (s.turns ≡ 0)) (sym cx.log.base) f.3);
         tags = λ t f. subst (λ (w : W). Fits t w) (sym world) f;
         took = let e = ap (λ (s : State). s.turns) state in omega arith;
         falls = subst (λ (x : W × State). Falls (Left g.world g.cx.log.state) 0 (Left x.0 x.1)) (λ i. (sym world i, sym state i)) (falls_refl (Left g.world g.cx.log.state));
@@ -222,11 +223,11 @@ module _ {W Q R T U : Type 0} (Fits : T → W → Type 0) (Sound : W → State �
       )
 
   -- a turn in which a group was asked
-  pub asked_goes : (g0 g1 g2 g3 : Group W Q R T U) (turn moment : ℕ) (tag : T) → FitsTag Fits Sound oa tag g0 → turn ≡ g0.cx.log.state.turns + 1
+  pub asked_goes : (g0 g1 g2 g3 : Group W Q R T U) (turn moment : ℕ) (tag : T) → GroupFits Fits Sound oa isf tag g0 → turn ≡ g0.cx.log.state.turns + 1
       → BeginsTurn g0.cx g1.cx turn 0 moment → g1.world ≡ g0.world → Left g1.world g1.cx.log.state ≡ Left g0.world g0.cx.log.state
       → SetsQuestion Fits g1.world g1.cx g2.cx → KeepsTags Fits g1.world g2.world → (did : List Entry) → Extends g1.cx.log g2.cx.log did → ((did ≡ []) ⊎ HandlesQuestion g1.cx.log.state did) → IsLater g1.cx.log.state g2.cx.log.state → g2.cx.log.state.turns ≡ g1.cx.log.state.turns → LeavesLess Left g1 0 g2
       → GivesTurn g2.cx g3.cx → g3.world ≡ g2.world → Left g3.world g3.cx.log.state ≡ Left g2.world g2.cx.log.state → Holds Sound g3
-      → GoesOn Fits Sound oa Left g0 g3 1
+      → GoesOn Fits Sound oa isf Left g0 g3 1
   asked_goes g0 g1 g2 g3 turn moment tag fit is begins same left sets keeps did by asks later turns2 less gives still left_too sound =
       let next1 : g1.cx.log.state.next ≡ g0.cx.log.state.next = ap (λ (s : State). s.next) begins.state in
       let turns1 : g1.cx.log.state.turns ≡ turn = ap (λ (s : State). s.turns) begins.state in
@@ -245,6 +246,7 @@ module _ {W Q R T U : Type 0} (Fits : T → W → Type 0) (Sound : W → State �
             rest_on (oa t) g0.cx.log.state.next g0.cx.log.state.turns g3.cx.log.state.next g3.cx.log.state.turns f.2.1 (omega arith) (omega arith),
             none_on (oa t) g0.cx.log.state g3.cx.log.state f.2.2 nothing,
           ),
+          subst (λ (s : State). OnTrue (isf t) (s.turns ≡ 0)) (sym (gives.by.base ∙ by.base ∙ begins.by.base)) f.3,
         );
         tags = tags;
         took = omega arith;
@@ -262,7 +264,7 @@ module _ {W Q R T U : Type 0} (Fits : T → W → Type 0) (Sound : W → State �
   )
 
   -- a group that is only asked can be asked once its turn has begun
-  pub can_ask : (g0 g1 : Group W Q R T U) (turn moment : ℕ) (tag : T) → FitsTag Fits Sound oa tag g0 → oa tag ≡ true → HasTurns 0 g0
+  pub can_ask : (g0 g1 : Group W Q R T U) (turn moment : ℕ) (tag : T) → GroupFits Fits Sound oa isf tag g0 → oa tag ≡ true → HasTurns 0 g0
       → OnTrue (oa tag) (IsLive g0.cx.log.state.live own_key) → BeginsTurn g0.cx g1.cx turn 0 moment → CanBeAsked g1.cx.log.state
   can_ask g0 g1 turn moment tag fit asked young rests begins =
       let next1 : g1.cx.log.state.next ≡ g0.cx.log.state.next = ap (λ (s : State). s.next) begins.state in

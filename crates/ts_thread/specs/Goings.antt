@@ -16,7 +16,7 @@ use Rattle.ts_group.specs.Changes.{StaysInTurn}
 use Rattle.ts_group.specs.Due.{IsDueFirst}
 use Rattle.ts_thread.specs.declared.TheConstants.{MOST_TURNS}
 use Rattle.ts_thread.specs.Alone.{HandlesDue, TakesTurns}
-use Rattle.ts_thread.specs.Tags.{FitsTag}
+use Rattle.ts_thread.specs.Tags.{GroupFits}
 
 -- the same group, whose state does not go back
 pub record IsLaterGroup {W Q R T U : Type 0} (old new : Group W Q R T U) : Type 0 where
@@ -25,9 +25,11 @@ pub record IsLaterGroup {W Q R T U : Type 0} (old new : Group W Q R T U) : Type 
 
 -- What at most so many turns, of which none is held any more, leave of a group.
 pub record GoesOn {W Q R T U : Type 0} (Fits : T → W → Type 0) (Sound : W → State → List Named → Type 0)
-    (only_asked : T → Bool) (Left : W → State → Option ℕ) (old new : Group W Q R T U) (turns : ℕ) : Type 0 where
+    (only_asked is_first : T → Bool) (Left : W → State → Option ℕ)
+    (old new : Group W Q R T U) (turns : ℕ) : Type 0 where
   -- it fits each tag that it fitted
-  pub fits : (t : T) → FitsTag Fits Sound only_asked t old → FitsTag Fits Sound only_asked t new
+  pub fits : (t : T) → GroupFits Fits Sound only_asked is_first t old
+      → GroupFits Fits Sound only_asked is_first t new
   pub tags : KeepsTags Fits old.world new.world
   pub takes : TakesTurns old.cx.log new.cx.log turns
   pub took : new.cx.log.state.turns ≤ old.cx.log.state.turns + turns
@@ -69,9 +71,9 @@ IsNoMiss _ = ⊤
 
 -- what at most so many turns of each leave of groups
 abbrev pub AllGoOn : {W Q R T U : Type 0} → (T → W → Type 0) → (W → State → List Named → Type 0) → (T → Bool)
-    → (W → State → Option ℕ) → List (Group W Q R T U) → List (Group W Q R T U) → ℕ → Type 0
-AllGoOn Fits Sound only_asked Left old new turns =
-    AllZip (λ g h. GoesOn Fits Sound only_asked Left g h turns) old new
+    → (T → Bool) → (W → State → Option ℕ) → List (Group W Q R T U) → List (Group W Q R T U) → ℕ → Type 0
+AllGoOn Fits Sound only_asked is_first Left old new turns =
+    AllZip (λ g h. GoesOn Fits Sound only_asked is_first Left g h turns) old new
 
 -- the group can have so many turns more
 abbrev pub HasTurns : {W Q R T U : Type 0} → ℕ → Group W Q R T U → Type 0
@@ -88,19 +90,19 @@ row before x after = before ++ x ∷ after
 -- What a drive of one group leaves of it and of those before and after it: so many turns at most were taken of each,
 -- and where it came to its end, the group has that much less to do.
 pub record Drives {W Q R T U : Type 0} (Fits : T → W → Type 0) (Sound : W → State → List Named → Type 0)
-    (only_asked : T → Bool) (Left : W → State → Option ℕ)
-    (before before' : List (Group W Q R T U)) (old new : Group W Q R T U) (after after' : List (Group W Q R T U))
-    (result : Result (Unit {0}) NoMemory) : Type 0 where
+    (only_asked is_first : T → Bool) (Left : W → State → Option ℕ)
+    (before before' : List (Group W Q R T U)) (old new : Group W Q R T U)
+    (after after' : List (Group W Q R T U)) (result : Result (Unit {0}) NoMemory) : Type 0 where
   pub turns : ℕ
-  pub first : AllGoOn Fits Sound only_asked Left before before' turns
-  pub own : GoesOn Fits Sound only_asked Left old new turns
-  pub last : AllGoOn Fits Sound only_asked Left after after' turns
+  pub first : AllGoOn Fits Sound only_asked is_first Left before before' turns
+  pub own : GoesOn Fits Sound only_asked is_first Left old new turns
+  pub last : AllGoOn Fits Sound only_asked is_first Left after after' turns
   pub less : OnOk result (left_of Left new + turns ≤ left_of Left old)
   pub idle : OnOk result (IsIdle new)
 
 -- A drive of the group at a place of a row, as it leaves the row.
 pub record DrivesAt {W Q R T U : Type 0} (Fits : T → W → Type 0) (Sound : W → State → List Named → Type 0)
-    (only_asked : T → Bool) (Left : W → State → Option ℕ)
+    (only_asked is_first : T → Bool) (Left : W → State → Option ℕ)
     (place : ℕ) (old new : List (Group W Q R T U)) (result : Result (Unit {0}) NoMemory) : Type 0 where
   pub before : List (Group W Q R T U)
   pub before' : List (Group W Q R T U)
@@ -111,14 +113,14 @@ pub record DrivesAt {W Q R T U : Type 0} (Fits : T → W → Type 0) (Sound : W 
   pub at_place : length before ≡ place
   pub old_is : old ≡ row before group after
   pub new_is : new ≡ row before' group' after'
-  pub drives : Drives Fits Sound only_asked Left before before' group group' after after' result
+  pub drives : Drives Fits Sound only_asked is_first Left before before' group group' after after' result
 
 -- What a drive of all groups leaves of them: so many turns at most were taken of each, and where it came to its end,
 -- that much less is left to do in all, and no event is pending.
 pub record Finishes {W Q R T U : Type 0} (Fits : T → W → Type 0) (Sound : W → State → List Named → Type 0)
-    (only_asked : T → Bool) (Left : W → State → Option ℕ)
+    (only_asked is_first : T → Bool) (Left : W → State → Option ℕ)
     (old new : List (Group W Q R T U)) (result : Result (Unit {0}) NoMemory) : Type 0 where
   pub turns : ℕ
-  pub goes : AllGoOn Fits Sound only_asked Left old new turns
+  pub goes : AllGoOn Fits Sound only_asked is_first Left old new turns
   pub less : OnOk result (sum_by (left_of Left) new + turns ≤ sum_by (left_of Left) old)
   pub idle : OnOk result (All IsIdle new)

@@ -4,7 +4,7 @@ ghost use Rattle.std.specs.Prelude.{◌≡◌, ℕ, ◌+◌, ◌<◌, ◌≤◌,
 ghost use Rattle.std.specs.List.{slice_get};
 ghost use Rattle.ts_group.specs.declared.group.Group.{Group as GroupOf};
 ghost use Rattle.ts_group.specs.Answers.{Holds, IsAnswer, LeavesLess};
-ghost use Rattle.ts_thread.specs.Tags.{FitsTag, FitTags, FitAround, CanAsk};
+ghost use Rattle.ts_thread.specs.Tags.{GroupFits, GroupsFit, FitAround, CanAsk};
 ghost use Rattle.ts_thread.specs.Goings.{GoesOn, WorksOn, AllGoOn, HasTurns, IsDue, IsNoMiss, Tells, left_of, row, Drives, DrivesAt, Finishes};
 
 use ts_group::{Asked, Group, Handling, World};
@@ -19,9 +19,10 @@ fn ask_one<W: World + Drop>(
     question: W::Question,
     moment: u64,
 ) -> Asked<W::Question, W::Reply>
-    requires fits { (t : W.Tag) × FitsTag W.fits W.sound W.only_asked t group.old × (W.only_asked t ≡ true) }
+    requires fits { (t : W.Tag) × GroupFits W.fits W.sound W.only_asked W.is_first t group.old
+        × (W.only_asked t ≡ true) }
     requires turns { HasTurns 0 group.old }
-    ensures goes { GoesOn W.fits W.sound W.only_asked W.left group.old group.new 1 }
+    ensures goes { GoesOn W.fits W.sound W.only_asked W.is_first W.left group.old group.new 1 }
     ensures answer { IsAnswer (λ _ q r. W.answers group.old.world q r) 0 question result }
     ensures came { IsNoMiss result }
 {
@@ -49,9 +50,10 @@ fn ask_first<W: World + Drop>(
     moment: u64,
 ) -> Asked<W::Question, W::Reply>
     requires there { (t : W.Tag) × (g : GroupOf W W.Question W.Reply W.Tag W.Trace)
-        × (slice_get groups.old 0 ≡ Some g) × FitsTag W.fits W.sound W.only_asked t g × (W.only_asked t ≡ true) }
+        × (slice_get groups.old 0 ≡ Some g)
+        × GroupFits W.fits W.sound W.only_asked W.is_first t g × (W.only_asked t ≡ true) }
     requires turns { All (HasTurns 0) groups.old }
-    ensures goes { AllGoOn W.fits W.sound W.only_asked W.left groups.old groups.new 1 }
+    ensures goes { AllGoOn W.fits W.sound W.only_asked W.is_first W.left groups.old groups.new 1 }
     ensures answer { (g : GroupOf W W.Question W.Reply W.Tag W.Trace) → slice_get groups.old 0 ≡ Some g →
         IsAnswer (λ _ q r. W.answers g.world q r) 0 question result }
     ensures came { IsNoMiss result }
@@ -70,9 +72,10 @@ fn ask_at<W: World + Drop>(
     moment: u64,
 ) -> Asked<W::Question, W::Reply>
     requires there { (t : W.Tag) × (g : GroupOf W W.Question W.Reply W.Tag W.Trace)
-        × (slice_get groups.old place ≡ Some g) × FitsTag W.fits W.sound W.only_asked t g × (W.only_asked t ≡ true) }
+        × (slice_get groups.old place ≡ Some g)
+        × GroupFits W.fits W.sound W.only_asked W.is_first t g × (W.only_asked t ≡ true) }
     requires turns { All (HasTurns 0) groups.old }
-    ensures goes { AllGoOn W.fits W.sound W.only_asked W.left groups.old groups.new 1 }
+    ensures goes { AllGoOn W.fits W.sound W.only_asked W.is_first W.left groups.old groups.new 1 }
     ensures answer { (g : GroupOf W W.Question W.Reply W.Tag W.Trace) → slice_get groups.old place ≡ Some g →
         IsAnswer (λ _ q r. W.answers g.world q r) 0 question result }
     ensures came { IsNoMiss result }
@@ -89,14 +92,17 @@ fn ask_among<W: World + Drop>(
     question: W::Question,
     moment: u64,
 ) -> Asked<W::Question, W::Reply>
-    requires there { (t : W.Tag) × (g : GroupOf W W.Question W.Reply W.Tag W.Trace) × (here : GroupOf W W.Question W.Reply W.Tag W.Trace)
+    requires there { (t : W.Tag) × (g : GroupOf W W.Question W.Reply W.Tag W.Trace)
+        × (here : GroupOf W W.Question W.Reply W.Tag W.Trace)
         × (number ≡ length before.old → ⊥) × (slice_get (row before.old here after.old) number ≡ Some g)
-        × FitsTag W.fits W.sound W.only_asked t g × (W.only_asked t ≡ true) }
+        × GroupFits W.fits W.sound W.only_asked W.is_first t g × (W.only_asked t ≡ true) }
     requires turns { All (HasTurns 0) before.old × All (HasTurns 0) after.old }
-    ensures before { AllGoOn W.fits W.sound W.only_asked W.left before.old before.new 1 }
-    ensures after { AllGoOn W.fits W.sound W.only_asked W.left after.old after.new 1 }
-    ensures answer { (g : GroupOf W W.Question W.Reply W.Tag W.Trace) → (here : GroupOf W W.Question W.Reply W.Tag W.Trace)
-        → slice_get (row before.old here after.old) number ≡ Some g → IsAnswer (λ _ q r. W.answers g.world q r) 0 question result }
+    ensures before { AllGoOn W.fits W.sound W.only_asked W.is_first W.left before.old before.new 1 }
+    ensures after { AllGoOn W.fits W.sound W.only_asked W.is_first W.left after.old after.new 1 }
+    ensures answer { (g : GroupOf W W.Question W.Reply W.Tag W.Trace)
+        → (here : GroupOf W W.Question W.Reply W.Tag W.Trace)
+        → slice_get (row before.old here after.old) number ≡ Some g
+        → IsAnswer (λ _ q r. W.answers g.world q r) 0 question result }
     ensures came { IsNoMiss result }
 {
     let place = number as usize;
@@ -123,13 +129,14 @@ fn serve<W: World + Drop>(
     number: u64,
     moment: u64,
 ) -> Result<(), NoMemory>
-    requires turn { (group.old.cx.log.state.held ≡ true) × Holds W.sound group.old × IsDue group.old number moment }
+    requires turn { (group.old.cx.log.state.held ≡ true) × Holds W.sound group.old }
+    requires due { IsDue group.old number moment }
     requires fits { (tags : List W.Tag) × CanAsk W.fits W.only_asked W.may_ask W.right W.answers tags
-        × FitAround W.fits W.sound W.only_asked tags before.old group.old.world after.old }
+        × FitAround W.fits W.sound W.only_asked W.is_first tags before.old group.old.world after.old }
     requires turns { All (HasTurns 0) before.old × All (HasTurns 0) after.old }
     ensures works { WorksOn W.fits W.sound W.left group.old group.new }
-    ensures before { AllGoOn W.fits W.sound W.only_asked W.left before.old before.new 1 }
-    ensures after { AllGoOn W.fits W.sound W.only_asked W.left after.old after.new 1 }
+    ensures before { AllGoOn W.fits W.sound W.only_asked W.is_first W.left before.old before.new 1 }
+    ensures after { AllGoOn W.fits W.sound W.only_asked W.is_first W.left after.old after.new 1 }
     ensures falls { OnOk result (LeavesLess W.left group.old 1 group.new) }
 {
     group.known();
@@ -163,12 +170,12 @@ fn step<W: World + Drop>(
     moment: u64,
 ) -> Result<(), NoMemory>
     requires fits { (tags : List W.Tag) × CanAsk W.fits W.only_asked W.may_ask W.right W.answers tags
-        × FitTags W.fits W.sound W.only_asked tags (row before.old group.old after.old) }
+        × GroupsFit W.fits W.sound W.only_asked W.is_first tags (row before.old group.old after.old) }
     requires turns { All (HasTurns 0) (row before.old group.old after.old) }
     requires due { IsDue group.old number moment }
-    ensures own { GoesOn W.fits W.sound W.only_asked W.left group.old group.new 1 }
-    ensures before { AllGoOn W.fits W.sound W.only_asked W.left before.old before.new 1 }
-    ensures after { AllGoOn W.fits W.sound W.only_asked W.left after.old after.new 1 }
+    ensures own { GoesOn W.fits W.sound W.only_asked W.is_first W.left group.old group.new 1 }
+    ensures before { AllGoOn W.fits W.sound W.only_asked W.is_first W.left before.old before.new 1 }
+    ensures after { AllGoOn W.fits W.sound W.only_asked W.is_first W.left after.old after.new 1 }
     ensures falls { OnOk result (LeavesLess W.left group.old 1 group.new) }
 {
     let turn = group.journal().turns() + 1;
@@ -185,10 +192,10 @@ fn drive<W: World + Drop>(
     after: &mut [Group<W>],
 ) -> Result<(), NoMemory>
     requires fits { (tags : List W.Tag) × CanAsk W.fits W.only_asked W.may_ask W.right W.answers tags
-        × FitTags W.fits W.sound W.only_asked tags (row before.old group.old after.old) }
+        × GroupsFit W.fits W.sound W.only_asked W.is_first tags (row before.old group.old after.old) }
     requires tells { Tells W.left group.old }
     requires turns { All (HasTurns (left_of W.left group.old)) (row before.old group.old after.old) }
-    ensures { Drives W.fits W.sound W.only_asked W.left
+    ensures { Drives W.fits W.sound W.only_asked W.is_first W.left
         before.old before.new group.old group.new after.old after.new result }
 {
     'events: while let Some((due, number)) = group.next_due() {
@@ -204,10 +211,11 @@ fn drive_first<W: World + Drop>(
 ) -> Result<(), NoMemory>
     requires rest { 0 < length rest.old }
     requires fits { (tags : List W.Tag) × CanAsk W.fits W.only_asked W.may_ask W.right W.answers tags
-        × FitTags W.fits W.sound W.only_asked tags (before.old ++ rest.old) }
+        × GroupsFit W.fits W.sound W.only_asked W.is_first tags (before.old ++ rest.old) }
     requires tells { All (Tells W.left) (before.old ++ rest.old) }
-    requires turns { All (HasTurns (sum_by (left_of W.left) (before.old ++ rest.old))) (before.old ++ rest.old) }
-    ensures { DrivesAt W.fits W.sound W.only_asked W.left
+    requires turns { All (HasTurns (sum_by (left_of W.left) (before.old ++ rest.old)))
+        (before.old ++ rest.old) }
+    ensures { DrivesAt W.fits W.sound W.only_asked W.is_first W.left
         (length before.old) (before.old ++ rest.old) (before.new ++ rest.new) result }
 {
     let Some((group, after)) = rest.split_first_mut() else {
@@ -220,10 +228,10 @@ fn drive_first<W: World + Drop>(
 fn drive_at<W: World + Drop>(groups: &mut [Group<W>], place: usize) -> Result<(), NoMemory>
     requires place { place < length groups.old }
     requires fits { (tags : List W.Tag) × CanAsk W.fits W.only_asked W.may_ask W.right W.answers tags
-        × FitTags W.fits W.sound W.only_asked tags groups.old }
+        × GroupsFit W.fits W.sound W.only_asked W.is_first tags groups.old }
     requires tells { All (Tells W.left) groups.old }
     requires turns { All (HasTurns (sum_by (left_of W.left) groups.old)) groups.old }
-    ensures { DrivesAt W.fits W.sound W.only_asked W.left place groups.old groups.new result }
+    ensures { DrivesAt W.fits W.sound W.only_asked W.is_first W.left place groups.old groups.new result }
 {
     let (before, rest) = groups.split_at_mut(place);
     drive_first(before, rest)
@@ -232,10 +240,10 @@ fn drive_at<W: World + Drop>(groups: &mut [Group<W>], place: usize) -> Result<()
 // Drives each of these groups, one after the other.
 fn finish_all<W: World + Drop>(groups: &mut [Group<W>]) -> Result<(), NoMemory>
     requires fits { (tags : List W.Tag) × CanAsk W.fits W.only_asked W.may_ask W.right W.answers tags
-        × FitTags W.fits W.sound W.only_asked tags groups.old }
+        × GroupsFit W.fits W.sound W.only_asked W.is_first tags groups.old }
     requires tells { All (Tells W.left) groups.old }
     requires turns { All (HasTurns (sum_by (left_of W.left) groups.old)) groups.old }
-    ensures { Finishes W.fits W.sound W.only_asked W.left groups.old groups.new result }
+    ensures { Finishes W.fits W.sound W.only_asked W.is_first W.left groups.old groups.new result }
 {
     'groups: for place in 0..groups.len() {
         drive_at(groups, place)?;
@@ -248,10 +256,11 @@ fn finish_all<W: World + Drop>(groups: &mut [Group<W>]) -> Result<(), NoMemory>
 /// returns, at want of memory either.
 pub fn finish<W: World + Drop>(groups: &mut Vec<Group<W>>) -> Result<(), NoMemory>
     requires fits { (tags : List W.Tag) × CanAsk W.fits W.only_asked W.may_ask W.right W.answers tags
-        × FitTags W.fits W.sound W.only_asked tags groups.old.items }
+        × GroupsFit W.fits W.sound W.only_asked W.is_first tags groups.old.items }
     requires tells { All (Tells W.left) groups.old.items }
     requires turns { All (HasTurns (sum_by (left_of W.left) groups.old.items)) groups.old.items }
-    ensures { Finishes W.fits W.sound W.only_asked W.left groups.old.items groups.new.items result }
+    ensures { Finishes W.fits W.sound W.only_asked W.is_first W.left
+        groups.old.items groups.new.items result }
 {
     finish_all(groups.as_mut_slice())
 }

@@ -14,7 +14,7 @@ drive-requires-clause-turns g c =
     let group = c.in-Some.group.now in
     let after = c.in-Some.after.now in
     let whole = row before group after in
-    fewer_turns g.W.Slotted.fits g.W.World.sound g.W.World.only_asked g.W.World.left whole (sum_by (left_of g.W.World.left) whole) (left_of g.W.World.left group) (left-le-sum g.W.Slotted.fits g.W.World.sound g.W.World.only_asked g.W.World.left before group after)
+    fewer_turns g.W.Slotted.fits g.W.World.sound g.W.World.only_asked g.W.World.is_first g.W.World.left whole (sum_by (left_of g.W.World.left) whole) (left_of g.W.World.left group) (left-le-sum g.W.Slotted.fits g.W.World.sound g.W.World.only_asked g.W.World.is_first g.W.World.left before group after)
     (subst (λ gs. All (HasTurns (sum_by (left_of g.W.World.left) (before ++ gs))) (before ++ gs)) c.in-Some.ensures.cases.0 c.requires.turns)
 
 pub returns : goal.returns
