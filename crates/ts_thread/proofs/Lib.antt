@@ -1,3 +1,4 @@
 mod Alone
 mod Moves
 mod Rows
+mod Whole

@@ -5,5 +5,5 @@ mod ending;
 
 pub use ending::{ONLY_SEAT, finish};
 
-/// How many turns a group can have.
-pub const MOST_TURNS: u64 = 1 << 63;
+/// How much is left to do to a group at most, where many groups are run and then driven to their end.
+pub const MOST_LEFT: u64 = 1 << 50;
