@@ -1,4 +1,4 @@
 mod Alone
 mod Moves
 mod Rows
-mod Whole
+pub mod Ended

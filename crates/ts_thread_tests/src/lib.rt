@@ -1,4 +1,7 @@
-//! Groups that threads run, and that are then driven to their end.
+//! Groups of one type of world that ask each other: driven to their end, on one thread and after many.
 #![tactic(auto)]
 
-mod peer;
+pub mod peer;
+pub mod row;
+#[cfg(test)]
+mod tests;

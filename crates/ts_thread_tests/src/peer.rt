@@ -15,6 +15,9 @@ use ts_journal::{ContKey, Event, Slotted};
 /// The place of the peer that is only asked.
 pub const ASKED: u32 = 8;
 
+/// How many steps a peer has to do at most.
+pub const MOST_TODO: u32 = 1000;
+
 /// A world that has so many steps to do, each at an event of its own. For a step it asks another peer, where it is one
 /// that asks. A peer that is only asked adds one to a number.
 #[derive(Drop)]
@@ -136,9 +139,9 @@ impl World for Peer {
         u64::from(question) + 1
     }
 
-    ghost sound_taken = { λ w s turn seat roles h. record { plain = h.plain; one = h.one; none = h.none; own = h.own } };
+    ghost sound_taken = { λ w s turn seat roles h. record { plain = h.plain; one = h.one; none = h.none; own = h.own; few = h.few } };
 
-    ghost sound_given = { λ w s turn roles h. record { plain = h.plain; one = h.one; none = h.none; own = h.own } };
+    ghost sound_given = { λ w s turn roles h. record { plain = h.plain; one = h.one; none = h.none; own = h.own; few = h.few } };
 
     ghost left_taken = { λ w s turn seat. refl };
 
