@@ -1,0 +1,5 @@
+mod Tokens
+mod Telling
+mod Seats
+mod Groups
+mod Entries

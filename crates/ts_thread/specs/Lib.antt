@@ -1,0 +1,10 @@
+-- The definitions that the contracts of threads cite.
+pub mod Asks
+pub mod Desks
+pub mod Held
+pub mod News
+pub mod Seats
+pub mod Shown
+pub mod Tags
+pub mod Tokens
+pub mod Turning
