@@ -1,8 +1,9 @@
 -- What a call on a journal leaves, put together from what it leaves of the state.
-use Rattle.std.proofs.Common.{◌≡◌, ℕ, ◌<◌, true, List, [], ◌∷◌, ◌++◌, Some, None, Ok}
+use Rattle.std.proofs.Common.{◌≡◌, ℕ, ◌<◌, true, List, [], ◌∷◌, ◌++◌, Some, None, Ok, arith}
 use Rattle.ts_journal.specs.declared.entry.ContKey.{ContKey}
 use Rattle.ts_journal.specs.declared.entry.Entry.TheVariants.{Made, Cancelled, Destroyed}
-use Rattle.ts_journal.specs.State.{IsLive, generation_at, without_index, number_in, numbers_of, others_of}
+use Rattle.ts_journal.specs.declared.entry.TheConstants.{MOST_KEYS}
+use Rattle.ts_journal.specs.State.{State, IsLive, generation_at, without_index, first_in_series, numbers_of, others_of}
 use Rattle.ts_journal.specs.Machine.{IsValid}
 use Rattle.ts_journal.specs.Log.{Log, Extends}
 use Rattle.ts_group.specs.declared.action.Named.{Named}
@@ -11,12 +12,12 @@ use Rattle.ts_group.specs.declared.action.Destroy.TheVariants as destroy
 use Rattle.ts_group.specs.Context.{CanUse, keys_of, without_role}
 use Rattle.ts_group.specs.Entries.{drops}
 use Rattle.ts_group.specs.Changes.{HasClosed, SameEvents}
-use Rattle.ts_group.specs.Acts.{Cancels, Makes, Destroys}
+use Rattle.ts_group.specs.Acts.{Cancels, Makes, Destroys, IsFreeKey}
 use Rattle.ts_group.proofs.Facts.{less_closed}
 use Rattle.ts_group.proofs.Roles.{has_made, keeps_made, has_lost, less_lost}
 
 -- one event is cancelled
-pub cancels_one : (a b : Log) (series n : ℕ) → number_in series a.state.pending ≡ Some n → Extends a b (Cancelled n ∷ []) → HasClosed a.state b.state n → b.state.held ≡ true → Cancels a b cancel.Cancelled series
+pub cancels_one : (a b : Log) (series n : ℕ) → first_in_series series a.state.pending ≡ Some n → Extends a b (Cancelled n ∷ []) → HasClosed a.state b.state n → b.state.held ≡ true → Cancels a b cancel.Cancelled series
 cancels_one a b series n found by closed held = record {
   cancelled = λ e. (n, found, by, closed);
   done = λ e. absurd (cc);
@@ -33,6 +34,7 @@ makes_one a b rs qs r live free keys by more roles events held least = record {
   made = (by, roles);
   least = least;
   full = λ e. absurd (cc);
+  room = λ e. absurd (cc);
   err = tt;
   turn = held;
   live = live;
@@ -40,6 +42,10 @@ makes_one a b rs qs r live free keys by more roles events held least = record {
   keys = keeps_made a.state b.state rs qs r more roles;
   events = events;
 }
+
+-- an index can be used where a key can be made
+pub can_use : (s : State) (key : ContKey) → IsFreeKey s key → (i : ℕ) × (i < MOST_KEYS) × CanUse s i
+can_use s key is = let next = is.next in let fits = is.fits in (key.index, is.index, (is.free, omega arith))
 
 -- one key is destroyed
 pub destroys_one : (a b : Log) (rs qs : List Named) (key : ContKey) → IsValid a.state → IsLive a.state.live key

@@ -5,17 +5,17 @@ use Rattle.std.proofs.lemmas.List.{drop_more, take_more}
 use Rattle.std.proofs.lemmas.Bool.{cond-true, cond-false, eq-eqb, ne_eqb}
 use Rattle.ts_journal.specs.declared.entry.Pending.{Pending}
 use Rattle.ts_journal.specs.declared.entry.ContKey.{ContKey}
-use Rattle.ts_journal.specs.State.{number_in, numbers_of, same_key}
+use Rattle.ts_journal.specs.State.{first_in_series, numbers_of, same_key}
 use Rattle.ts_group.specs.declared.action.Named.{Named}
 use Rattle.ts_group.specs.Context.{role_at, without_role}
 
-pub series_past : (s : ℕ) (ps : List Pending) (i : ℕ) (d : Pending) → i < length ps → ((get_or ps i d).series ≡ s → ⊥) → number_in s (drop (i + 1) ps) ≡ number_in s (drop i ps)
+pub series_past : (s : ℕ) (ps : List Pending) (i : ℕ) (d : Pending) → i < length ps → ((get_or ps i d).series ≡ s → ⊥) → first_in_series s (drop (i + 1) ps) ≡ first_in_series s (drop i ps)
 series_past s ps i d h ne =
-    sym (ap (number_in s) (drop_more ps i d h) ∙ cond-false (eqb (get_or ps i d).series s) (Some (get_or ps i d).number) (number_in s (drop (i + 1) ps)) (ne_eqb _ _ ne))
+    sym (ap (first_in_series s) (drop_more ps i d h) ∙ cond-false (eqb (get_or ps i d).series s) (Some (get_or ps i d).number) (first_in_series s (drop (i + 1) ps)) (ne_eqb _ _ ne))
 
-pub series_here : (s : ℕ) (ps : List Pending) (i : ℕ) (d : Pending) → i < length ps → (get_or ps i d).series ≡ s → number_in s (drop i ps) ≡ Some (get_or ps i d).number
+pub series_here : (s : ℕ) (ps : List Pending) (i : ℕ) (d : Pending) → i < length ps → (get_or ps i d).series ≡ s → first_in_series s (drop i ps) ≡ Some (get_or ps i d).number
 series_here s ps i d h e =
-    ap (number_in s) (drop_more ps i d h) ∙ cond-true (eqb (get_or ps i d).series s) (Some (get_or ps i d).number) (number_in s (drop (i + 1) ps)) (eq-eqb _ _ e)
+    ap (first_in_series s) (drop_more ps i d h) ∙ cond-true (eqb (get_or ps i d).series s) (Some (get_or ps i d).number) (first_in_series s (drop (i + 1) ps)) (eq-eqb _ _ e)
 
 pub role_past : (n : ℕ) (rs : List Named) (i : ℕ) (d : Named) → i < length rs → ((get_or rs i d).key.index ≡ n → ⊥) → role_at n (drop (i + 1) rs) ≡ role_at n (drop i rs)
 role_past n rs i d h ne =

@@ -5,13 +5,14 @@ use Rattle.ts_journal.specs.declared.entry.ContKey.{ContKey}
 use Rattle.ts_journal.specs.declared.entry.Event.{Event}
 use Rattle.ts_journal.specs.declared.entry.Pending.{Pending}
 use Rattle.ts_journal.specs.declared.entry.Entry.TheVariants.{Took, Gave, Made, Set, Handled, Cancelled, Destroyed}
-use Rattle.ts_journal.specs.State.{State, IsLive, generation_at, pending_at, numbers_of, number_in, others_of}
+use Rattle.ts_journal.specs.State.{State, IsLive, generation_at, pending_at, numbers_of, first_in_series, others_of}
 use Rattle.ts_journal.specs.Machine.{after}
 use Rattle.ts_journal.specs.Log.{Log, Extends, IsSameLog}
 use Rattle.ts_group.specs.declared.action.Action.{Action}
 use Rattle.ts_group.specs.declared.action.Named.{Named}
 use Rattle.ts_group.specs.declared.action.MakeFault.{MakeFault}
 use Rattle.ts_group.specs.declared.action.MakeFault.TheVariants.{TableFull}
+use Rattle.ts_group.specs.declared.action.MakeFault.TheVariants as make_fault
 use Rattle.ts_group.specs.declared.action.SetFault.{SetFault}
 use Rattle.ts_group.specs.declared.action.SetFault.TheVariants.{Dead, Spent}
 use Rattle.ts_group.specs.declared.action.Destroy.{Destroy}
@@ -31,7 +32,7 @@ pub record Sets (old new : Log) (result : Result Action SetFault)
   pub live : (result ≢ Err Dead) → IsLive old.state.live key
   pub dead : result ≡ Err Dead → IsLive old.state.live key → ⊥
   pub spent : result ≡ Err Spent → GREATEST ≤ old.state.next
-  pub unspent : IsOk result → old.state.next < GREATEST
+  pub unspent : (result ≢ Err Dead) → (result ≢ Err Spent) → old.state.next < GREATEST
   pub err : OnErr result (IsSameLog old new)
   -- what a handler needs to know of the state
   pub turn : new.state.held ≡ true
@@ -52,9 +53,9 @@ Queues (Err e) old_calls new_calls = new_calls ≡ old_calls
 
 -- the pending event of a series is cancelled
 pub record Cancels (old new : Log) (result : Cancel) (series : ℕ) : Type 0 where
-  pub cancelled : result ≡ cancel.Cancelled → (n : ℕ) × (number_in series old.state.pending ≡ Some n)
+  pub cancelled : result ≡ cancel.Cancelled → (n : ℕ) × (first_in_series series old.state.pending ≡ Some n)
       × Extends old new (Cancelled n ∷ []) × HasClosed old.state new.state n
-  pub done : result ≡ cancel.Done → (number_in series old.state.pending ≡ None) × IsSameLog old new
+  pub done : result ≡ cancel.Done → (first_in_series series old.state.pending ≡ None) × IsSameLog old new
   pub turn : new.state.held ≡ true
   pub keys : new.state.live ≡ old.state.live
   pub less : IsLess old.state new.state
@@ -73,6 +74,7 @@ pub record Makes (old new : Log) (old_roles new_roles : List Named)
       × (new_roles ≡ old_roles ++ record { key = key; role = role } ∷ []))
   pub least : IfOk result (λ key. (i : ℕ) → i < key.index → CanUse old.state i → ⊥)
   pub full : result ≡ Err TableFull → (i : ℕ) → i < MOST_KEYS → CanUse old.state i → ⊥
+  pub room : result ≡ Err make_fault.NoMemory → (i : ℕ) × (i < MOST_KEYS) × CanUse old.state i
   pub err : OnErr result (IsSameLog old new × (new_roles ≡ old_roles))
   -- what a handler needs to know of the state
   pub turn : new.state.held ≡ true

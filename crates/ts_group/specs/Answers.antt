@@ -115,6 +115,12 @@ TellFalls (Reply r) before now = Falls before 0 now
 TellFalls (Missed seen q) before now = StillTells before now
 TellFalls (NoMemory q) before now = Falls before 0 now
 
+-- A handler was told what came of its question: this, and nothing else, led from one world to the other.
+pub record Hears {W Q R : Type 0} (Heard : W → W → Asked Q R → Type 0) (Left : W → State → Option ℕ)
+    (old new : W) (before now : State) (asked : Asked Q R) : Type 0 where
+  pub heard : Heard old new asked
+  pub falls : TellFalls asked (Left old before) (Left new now)
+
 -- the same replies are right
 abbrev pub SameReplies : {Q R : Type 0} → (ℕ → Q → R → Type 0) → (ℕ → Q → R → Type 0) → Type 0
 SameReplies {Q} {R} Old New = (group : ℕ) (question : Q) (reply : R) →

@@ -8,7 +8,7 @@ ghost use Rattle.ts_group.specs.Calls.{IsReady, next_in};
 
 use crate::action::{Action, SetFault};
 use crate::events::set_event;
-use ts_journal::{ContKey, Event, Journal, Pending};
+use ts_journal::{ContKey, Event, GREATEST, Journal, Pending};
 
 /// Sets a direct call, which waits behind the others.
 #[tactic(auto, using(crate::proofs::Grows::call_steps))]
@@ -33,6 +33,9 @@ pub fn call_event(
 {
     if !journal.is_live(key) {
         return Err(SetFault::Dead);
+    }
+    if journal.next() == GREATEST {
+        return Err(SetFault::Spent);
     }
     if let Err(_) = calls.reserve(1) {
         return Err(SetFault::NoMemory);

@@ -2,7 +2,7 @@
 
 ghost use Rattle.std.specs.Prelude.{◌≡◌, ◌≢◌, ◌↔◌, ◌+◌, ◌<◌, ◌==◌, true, false, [], Some, None, IfSome, IsTrue, IfOk, OnOk, OnErr, if◌then◌else◌};
 ghost use Rattle.ts_journal.specs.declared.entry.Event.TheVariants as Event;
-ghost use Rattle.ts_journal.specs.State.{pending_at, number_in};
+ghost use Rattle.ts_journal.specs.State.{pending_at, first_in_series};
 ghost use Rattle.ts_journal.specs.Machine.{IsKnown};
 ghost use Rattle.ts_group.specs.Context.{IsFresh, IsOrderly, IsSame, HasSpare, own_key, role_at, moment_after};
 ghost use Rattle.ts_group.specs.Entries.{Grows, CanBeAsked};
@@ -159,7 +159,7 @@ impl Cx {
 
     /// Whether an action's series has no pending event.
     pub fn is_done(&self, action: Action) -> bool
-        ensures { IsTrue result ↔ (number_in action.series self.now.log.state.pending ≡ None) }
+        ensures { IsTrue result ↔ (first_in_series action.series self.now.log.state.pending ≡ None) }
     {
         is_series_done(&self.journal, action.series)
     }

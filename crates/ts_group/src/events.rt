@@ -1,7 +1,7 @@
 //! Events in a journal: how one is set, cancelled and handled.
 
 ghost use Rattle.std.specs.Prelude.{◌≡◌, ◌↔◌, true, [], ◌∷◌, None, IsTrue, OnOk, OnErr};
-ghost use Rattle.ts_journal.specs.State.{number_in};
+ghost use Rattle.ts_journal.specs.State.{first_in_series};
 ghost use Rattle.ts_journal.specs.Log.{Extends, IsSameLog};
 ghost use Rattle.ts_journal.specs.Tables.{entry_of};
 ghost use Rattle.ts_group.specs.Context.{HasNeeded};
@@ -80,7 +80,7 @@ pub fn set_event(
 // The number of the first event of a series.
 #[tactic(auto, using(crate::proofs::Scans::series_past, crate::proofs::Scans::series_here))]
 fn number_of(pending: &[Pending], series: u64) -> Option<u64>
-    ensures { result ≡ number_in series pending.now }
+    ensures { result ≡ first_in_series series pending.now }
 {
     for event in pending {
         if event.series == series {
@@ -92,7 +92,7 @@ fn number_of(pending: &[Pending], series: u64) -> Option<u64>
 
 /// Whether a series has no pending event.
 pub fn is_series_done(journal: &Journal, series: u64) -> bool
-    ensures { IsTrue result ↔ (number_in series journal.now.state.pending ≡ None) }
+    ensures { IsTrue result ↔ (first_in_series series journal.now.state.pending ≡ None) }
 {
     number_of(journal.pending(), series).is_none()
 }

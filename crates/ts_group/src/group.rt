@@ -7,7 +7,7 @@ ghost use Rattle.ts_group.specs.Changes.{StaysInTurn};
 ghost use Rattle.ts_group.specs.Acts.{BeginsTurn, GivesTurn, KeepsRoles};
 ghost use Rattle.ts_group.specs.Calls.{IsReady, HasRun};
 ghost use Rattle.ts_group.specs.Due.{IsDueFirst, IsFirstNews, NoNews};
-ghost use Rattle.ts_group.specs.Answers.{Holds, AwaitsReply, MayAwait, MatchWant, MatchHandling, IfEvents, IsAnswered, IsSameGroup, HandleGives, LacksRenewal, HasReplied, LeavesLess, TellFalls, KeepsPromises, SetsAtMost, SetsQuestion};
+ghost use Rattle.ts_group.specs.Answers.{Holds, AwaitsReply, MayAwait, MatchWant, MatchHandling, IfEvents, IsAnswered, IsSameGroup, HandleGives, LacksRenewal, HasReplied, LeavesLess, Hears, KeepsPromises, SetsAtMost, SetsQuestion};
 
 use crate::cx::Cx;
 use crate::world::{Asked, Handling, MOST_SET, Want, World};
@@ -223,8 +223,8 @@ impl<W: World + Drop> Group<W> {
         ensures grows { Grows self.old.cx self.new.cx }
         ensures turn { StaysInTurn self.old.cx.log.state self.new.cx.log.state }
         ensures sound { Holds W.sound self.new }
-        ensures falls { TellFalls asked
-            (W.left self.old.world self.old.cx.log.state) (W.left self.new.world self.new.cx.log.state) }
+        ensures hears { Hears W.heard W.left self.old.world self.new.world
+            self.old.cx.log.state self.new.cx.log.state asked }
         ensures promises { KeepsPromises W.fits W.right W.may_ask self.old.world self.new.world }
         ensures few { SetsAtMost W.fits self.old.world MOST_SET self.old.cx self.new.cx }
     {

@@ -39,6 +39,7 @@ fn free_key(journal: &Journal) -> Option<ContKey>
 }
 
 /// Makes a key and keeps its role.
+#[tactic(auto, using(crate::proofs::Acts::can_use))]
 pub fn make_key(
     journal: &mut Journal,
     roles: &mut Vec<Named>,

@@ -1,6 +1,7 @@
 //! What a mutex slot promises of a group, and what a seat keeps of it.
 
-ghost use Rattle.std.specs.Prelude.{⊤, ℕ};
+ghost use Rattle.std.specs.Prelude.{⊤, ◌≡◌, ℕ};
+ghost use Rattle.std.specs.Bool.{OnTrue};
 ghost use Rattle.ts_journal.specs.Later.{Follows};
 ghost use Rattle.ts_journal.proofs.Later.{follows_refl, follows_trans};
 ghost use Rattle.ts_group.specs.Slot.{IsAtRest, marks_of, trace_of};
@@ -38,7 +39,8 @@ impl<W: World> Slotted for Group<W> {
 
     ghost fits = { λ tag g.
         W.fits tag g.world × W.sound g.world g.cx.log.state g.cx.roles
-        × IsAtRest (W.only_asked tag) g.cx.log.state };
+        × IsAtRest (W.only_asked tag) g.cx.log.state
+        × OnTrue (W.is_first tag) (g.cx.log.base.turns ≡ 0) };
 
     ghost stamp = { λ g. g.cx.log.state.turns };
 

@@ -1,15 +1,16 @@
 //! The trait of a group's data and of the handlers of its continuations.
 
-ghost use Rattle.std.specs.Prelude.{⊤, ◌≡◌, ◌++◌, ℕ, Option, None, List, true, false, Bool};
+ghost use Rattle.std.specs.Prelude.{◌≡◌, ◌++◌, ℕ, Option, List, true, Bool};
 ghost use Rattle.std.specs.Bool.{OnTrue};
 ghost use Rattle.ts_journal.specs.declared.entry.Entry.TheVariants.{Took, Gave};
 ghost use Rattle.ts_journal.specs.State.{State, IsLive};
 ghost use Rattle.ts_journal.specs.Machine.{after};
 ghost use Rattle.ts_group.specs.declared.action.Named.{Named};
+ghost use Rattle.ts_group.specs.declared.world.Asked.{Asked};
 ghost use Rattle.ts_group.specs.Context.{IsOrderly, own_key};
 ghost use Rattle.ts_group.specs.Entries.{Grows};
 ghost use Rattle.ts_group.specs.Calls.{IsCalled, IsAsked};
-ghost use Rattle.ts_group.specs.Answers.{MatchWant, IsAnswered, Falls, TellFalls, KeepsPromises, SetsAtMost, SetsNone};
+ghost use Rattle.ts_group.specs.Answers.{MatchWant, IsAnswered, Falls, Hears, KeepsPromises, SetsAtMost, SetsNone};
 
 use crate::cx::Cx;
 use ts_journal::{Event, Slotted};
@@ -74,23 +75,29 @@ pub trait World: Slotted {
     ghost right: { Self → ℕ → Self.Question → Self.Reply → Type 0 };
 
     /// The groups that the world may ask.
-    ghost may_ask: { Self → ℕ → Type 0 } = { λ w group. ⊥ };
+    ghost may_ask: { Self → ℕ → Type 0 };
 
     /// The replies that the world gives to a question.
     ghost answers: { Self → Self.Question → Self.Reply → Type 0 };
 
     /// What the world still has to do, where it tells it. Each event that is handled makes it less.
-    ghost left: { Self → State → Option ℕ } = { λ w s. None };
+    ghost left: { Self → State → Option ℕ };
 
     /// A world that fits the tag is only asked, and never called with an event of its own.
-    ghost only_asked: { Self.Tag → Bool } = { λ t. false };
+    ghost only_asked: { Self.Tag → Bool };
+
+    /// The slot of a world that fits the tag has no other tenant before it: its group was made with no turns.
+    ghost is_first: { Self.Tag → Bool };
 
     /// What `start` made of the world.
     ghost begun: { Self → Self → Type 0 };
 
     /// The numbers of the direct calls, in order, that a handler asked for which led from one world to the
     /// other.
-    ghost called: { Self → Self → List ℕ → Type 0 } = { λ old new asked. ⊤ };
+    ghost called: { Self → Self → List ℕ → Type 0 };
+
+    /// What a handler, which asked, was told that came of it and which led from one world to the other.
+    ghost heard: { Self → Self → Asked Self.Question Self.Reply → Type 0 };
 
     /// Sets the first events.
     fn start(&mut self, cx: &mut Cx)
@@ -127,7 +134,7 @@ pub trait World: Slotted {
             (asking self.old cx.old.log.state cx.old.roles role) (right self.old) asked }
         ensures grows { Grows cx.old cx.new }
         ensures sound { sound self.new cx.new.log.state cx.new.roles }
-        ensures falls { TellFalls asked (left self.old cx.old.log.state) (left self.new cx.new.log.state) }
+        ensures hears { Hears heard left self.old self.new cx.old.log.state cx.new.log.state asked }
         ensures promises { KeepsPromises Self.fits right may_ask self.old self.new }
         ensures few { SetsAtMost Self.fits self.old MOST_SET cx.old cx.new };
 

@@ -6,6 +6,8 @@ use Rattle.ts_journal.specs.State.{State}
 use Rattle.ts_journal.specs.Machine.{after}
 use Rattle.ts_group.specs.declared.action.Named.{Named}
 use Rattle.ts_group.specs.declared.group.Group.{Group}
+use Rattle.ts_group.specs.declared.world.Asked.{Asked}
+use Rattle.ts_group.specs.declared.world.Asked.TheVariants.{Reply, NoMemory}
 use Rattle.ts_group.specs.Entries.{Grows}
 use Rattle.ts_group.specs.Answers.{Holds, AwaitsReply, LeavesLess, KeepsTags}
 use Rattle.ts_group_tests.specs.declared.drive.Driven.{Driven}
@@ -48,3 +50,16 @@ pub record GoesOnTold {W Q R T U : Type 0} (Fits : T → W → Type 0) (Sound : 
   pub sound : Holds Sound new
   pub tags : KeepsTags Fits old.world new.world
   pub falls : LeavesLess Left old 0 new
+
+-- what the asker was told is a reply of the other group's world to its question
+pub record HearsReply {W V Q R : Type 0} (Heard : W → W → Asked Q R → Type 0) (Answers : V → Q → R → Type 0)
+    (old new : W) (other : V) : Type 0 where
+  pub question : Q
+  pub reply : R
+  pub answers : Answers other question reply
+  pub heard : Heard old new (Reply reply)
+
+-- what the asker was told is that memory lacked
+pub record HearsNone {W Q R : Type 0} (Heard : W → W → Asked Q R → Type 0) (old new : W) : Type 0 where
+  pub question : Q
+  pub heard : Heard old new (NoMemory question)

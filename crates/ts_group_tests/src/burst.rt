@@ -1,6 +1,6 @@
 //! A world that asks for more direct calls than one turn handles.
 
-ghost use Rattle.std.specs.Prelude.{⊤, ◌≡◌, ◌+◌, ◌≤◌, true, refl};
+ghost use Rattle.std.specs.Prelude.{⊤, ◌≡◌, ◌+◌, ◌≤◌, None, [], true, false, refl};
 ghost use Rattle.ts_group.specs.Entries.{Grows};
 
 use ts_group::{Asked, Cx, Want, World};
@@ -26,6 +26,10 @@ impl Slotted for Burst {
     type Trace = ();
 
     ghost fits = { λ t w. ⊤ };
+
+    ghost stamp = { λ w. 0 };
+
+    ghost marks = { λ w. [] };
 
     ghost trace = { λ w. tt };
 
@@ -62,7 +66,19 @@ impl World for Burst {
 
     ghost answers = { λ w question reply. ⊤ };
 
+    ghost may_ask = { λ w group. ⊥ };
+
+    ghost left = { λ w s. None };
+
+    ghost only_asked = { λ t. false };
+
+    ghost is_first = { λ t. false };
+
     ghost begun = { λ old new. ⊤ };
+
+    ghost called = { λ old new asked. ⊤ };
+
+    ghost heard = { λ old new asked. new ≡ old };
 
     fn start(&mut self, _cx: &mut Cx) {}
 
@@ -80,7 +96,7 @@ impl World for Burst {
     fn told(&mut self, _role: u32, _asked: Asked<(), ()>, _cx: &mut Cx)
         requires turn { _cx.old.log.state.held ≡ true }
         ensures grows { Grows _cx.old _cx.new }
-        ensures same { _cx.new.log.state ≡ _cx.old.log.state }
+        ensures same { (_cx.new.log.state ≡ _cx.old.log.state) × (self.new ≡ self.old) }
     {}
 
     fn asked(&mut self, _question: (), _cx: &mut Cx) {}

@@ -4,7 +4,7 @@ ghost use Rattle.std.specs.Prelude.{◌≡◌, true, false, IsSome, IfOk, OnOk, 
 ghost use Rattle.ts_group.specs.Entries.{CanBeAsked};
 ghost use Rattle.ts_group.specs.Calls.{TakesQuestion};
 ghost use Rattle.ts_group.specs.Answers.{Holds, IsSameGroup, KeepsTags};
-ghost use Rattle.ts_group_tests.specs.Driven.{IsDone, MatchDriven, AwaitsInTurn, LeftAsking, GoesOnTold};
+ghost use Rattle.ts_group_tests.specs.Driven.{IsDone, MatchDriven, AwaitsInTurn, LeftAsking, GoesOnTold, HearsReply, HearsNone};
 
 use ts_group::{Asked, Group, Handling, World};
 use ts_link::NoMemory;
@@ -79,8 +79,10 @@ where
         V.answers other.old.world q r → W.right asker.old.world group q r }
     ensures told { GoesOnTold W.fits W.sound W.left asker.old asker.new }
     ensures other_sound { Holds V.sound other.new }
-    ensures asked { OnOk result (TakesQuestion other.old.cx other.new.cx moment) }
-    ensures err { OnErr result (IsSameGroup other.old other.new) }
+    ensures asked { OnOk result (TakesQuestion other.old.cx other.new.cx moment
+        × HearsReply W.heard V.answers asker.old.world asker.new.world other.old.world) }
+    ensures err { OnErr result (IsSameGroup other.old other.new
+        × HearsNone W.heard asker.old.world asker.new.world) }
 {
     match other.ask(question, moment) {
         Ok(reply) => {

@@ -1,6 +1,6 @@
 //! A world whose continuation gives its place to another.
 
-ghost use Rattle.std.specs.Prelude.{⊤, ◌≡◌, ℕ, true, refl, IfSome};
+ghost use Rattle.std.specs.Prelude.{⊤, ◌≡◌, ℕ, None, [], true, false, refl, IfSome};
 ghost use Rattle.ts_journal.specs.State.{IsLive};
 ghost use Rattle.ts_group.specs.Entries.{Grows};
 
@@ -20,6 +20,10 @@ impl Slotted for Heir {
     type Trace = ();
 
     ghost fits = { λ t w. ⊤ };
+
+    ghost stamp = { λ w. 0 };
+
+    ghost marks = { λ w. [] };
 
     ghost trace = { λ w. tt };
 
@@ -44,7 +48,19 @@ impl World for Heir {
 
     ghost answers = { λ w question reply. ⊤ };
 
+    ghost may_ask = { λ w group. ⊥ };
+
+    ghost left = { λ w s. None };
+
+    ghost only_asked = { λ t. false };
+
+    ghost is_first = { λ t. false };
+
     ghost begun = { λ old new. ⊤ };
+
+    ghost called = { λ old new asked. ⊤ };
+
+    ghost heard = { λ old new asked. new ≡ old };
 
     fn start(&mut self, _cx: &mut Cx) {}
 
@@ -62,7 +78,7 @@ impl World for Heir {
         requires turn { _cx.old.log.state.held ≡ true }
         requires sound { IfSome self.old.key (λ key. IsLive _cx.old.log.state.live key) }
         ensures grows { Grows _cx.old _cx.new }
-        ensures same { (_cx.new.log.state ≡ _cx.old.log.state) × (self.new.key ≡ self.old.key) }
+        ensures same { (_cx.new.log.state ≡ _cx.old.log.state) × (self.new ≡ self.old) }
     {}
 
     fn asked(&mut self, _question: (), _cx: &mut Cx) {}

@@ -1,10 +1,11 @@
 //! A world that asks, and one that is only asked.
 
-ghost use Rattle.std.specs.Prelude.{⊤, ◌≡◌, ℕ, ◌+◌, ◌*◌, ◌<◌, ◌≤◌, true, refl, Some, length};
+ghost use Rattle.std.specs.Prelude.{⊤, ◌≡◌, ℕ, ◌+◌, ◌*◌, ◌<◌, ◌≤◌, true, false, refl, Some, [], length};
 ghost use Rattle.ts_journal.specs.State.{IsLive};
 ghost use Rattle.ts_group.specs.Context.{AllPlain, own_key};
 ghost use Rattle.ts_group.specs.Entries.{Grows};
-ghost use Rattle.ts_group.specs.Answers.{IsAnswered, TellFalls};
+ghost use Rattle.ts_group.specs.Answers.{IsAnswered, Hears};
+ghost use Rattle.ts_group_tests.specs.Learning.{HasLearnt};
 
 use ts_group::{Asked, Cx, Want, World};
 use ts_journal::{ContKey, Event, Slotted};
@@ -22,6 +23,10 @@ impl Slotted for Adder {
     type Trace = ();
 
     ghost fits = { λ t w. ⊤ };
+
+    ghost stamp = { λ w. 0 };
+
+    ghost marks = { λ w. [] };
 
     ghost trace = { λ w. tt };
 
@@ -44,13 +49,21 @@ impl World for Adder {
 
     ghost right = { λ w group question reply. ⊤ };
 
+    ghost may_ask = { λ w group. ⊥ };
+
     ghost begun = { λ old new. ⊤ };
+
+    ghost called = { λ old new asked. ⊤ };
+
+    ghost heard = { λ old new asked. new ≡ old };
 
     ghost answers = { λ w question reply. reply ≡ question + 1 };
 
     ghost left = { λ w s. Some (length s.pending) };
 
     ghost only_asked = { λ t. true };
+
+    ghost is_first = { λ t. false };
 
     fn start(&mut self, _cx: &mut Cx) {}
 
@@ -64,9 +77,9 @@ impl World for Adder {
             (λ group question reply. ⊤) asked }
         ensures grows { Grows _cx.old _cx.new }
         ensures sound { AllPlain _cx.new.log.state.pending × IsLive _cx.new.log.state.live own_key }
-        ensures falls { TellFalls asked
-            (Some (length _cx.old.log.state.pending)) (Some (length _cx.new.log.state.pending)) }
-        ensures same { _cx.new.log.state ≡ _cx.old.log.state }
+        ensures hears { Hears (λ old new asked. new ≡ old) (λ w s. Some (length s.pending))
+            self.old self.new _cx.old.log.state _cx.new.log.state asked }
+        ensures same { (_cx.new.log.state ≡ _cx.old.log.state) × (self.new ≡ self.old) }
     {}
 
     fn asked(&mut self, question: u32, _cx: &mut Cx) -> u64 {
@@ -101,6 +114,10 @@ impl Slotted for Asker {
 
     ghost fits = { λ t w. ⊤ };
 
+    ghost stamp = { λ w. 0 };
+
+    ghost marks = { λ w. [] };
+
     ghost trace = { λ w. tt };
 
     ghost follows = { λ t u. ⊤ };
@@ -128,7 +145,15 @@ impl World for Asker {
 
     ghost left = { λ w s. Some (100 * w.todo + length s.pending) };
 
+    ghost only_asked = { λ t. false };
+
+    ghost is_first = { λ t. false };
+
     ghost begun = { λ old new. new.todo ≡ old.todo };
+
+    ghost called = { λ old new asked. ⊤ };
+
+    ghost heard = { HasLearnt };
 
     fn start(&mut self, cx: &mut Cx) {
         if let Ok(key) = cx.make(1) {
@@ -155,9 +180,8 @@ impl World for Asker {
         ensures grows { Grows cx.old cx.new }
         ensures sound { AllPlain cx.new.log.state.pending }
         ensures few { cx.new.log.state.next ≤ cx.old.log.state.next + 1 }
-        ensures falls { TellFalls asked
-            (Some (100 * self.old.todo + length cx.old.log.state.pending))
-            (Some (100 * self.new.todo + length cx.new.log.state.pending)) }
+        ensures hears { Hears HasLearnt (λ w s. Some (100 * w.todo + length s.pending))
+            self.old self.new cx.old.log.state cx.new.log.state asked }
     {
         match asked {
             Asked::Reply(reply) => {

@@ -1,6 +1,6 @@
 //! A world that is generic over its part, and tells how much is left to do.
 
-ghost use Rattle.std.specs.Prelude.{⊤, ◌≡◌, ℕ, ◌+◌, ◌*◌, true, refl, Some, length, MatchBool};
+ghost use Rattle.std.specs.Prelude.{⊤, ◌≡◌, ℕ, ◌+◌, ◌*◌, true, false, refl, Some, [], length, MatchBool};
 ghost use Rattle.ts_group.specs.Context.{AllPlain};
 ghost use Rattle.ts_group.specs.Entries.{Grows};
 
@@ -50,6 +50,10 @@ impl<P: Part> Slotted for Steps<P> {
 
     ghost fits = { λ t w. ⊤ };
 
+    ghost stamp = { λ w. 0 };
+
+    ghost marks = { λ w. [] };
+
     ghost trace = { λ w. tt };
 
     ghost follows = { λ t u. ⊤ };
@@ -73,7 +77,17 @@ impl<P: Part> World for Steps<P> {
 
     ghost answers = { λ w question reply. ⊤ };
 
+    ghost may_ask = { λ w group. ⊥ };
+
+    ghost only_asked = { λ t. false };
+
+    ghost is_first = { λ t. false };
+
     ghost begun = { λ old new. ⊤ };
+
+    ghost called = { λ old new asked. ⊤ };
+
+    ghost heard = { λ old new asked. new ≡ old };
 
     ghost left = { λ w s. Some (2 * P.steps w.part + length s.pending) };
 

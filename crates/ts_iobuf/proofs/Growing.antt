@@ -3,7 +3,7 @@ use Rattle.std.proofs.Common.{◌≡◌, ℕ, ◌+◌, ◌-◌, ◌≤◌, List,
 use Rattle.std.proofs.lemmas.List.{take-take, take_all, drop-append-le, length-take-le}
 use Rattle.std.proofs.Math.Seq.{take-add}
 use Rattle.ts_iobuf.specs.declared.readers.Slot.{Slot}
-use Rattle.ts_iobuf.specs.Buffer.{Buffer, Grows}
+use Rattle.ts_iobuf.specs.Buffer.{Buffer, GrowsBy}
 use Rattle.ts_iobuf.specs.Stored.{stored}
 use Rattle.ts_iobuf.specs.View.{shown}
 use Rattle.ts_iobuf.specs.Places.{place_in, bytes_from, StandsWithin}
@@ -35,7 +35,7 @@ bytes_from-append (Some p) a b h there = drop-append-le p a b h
 
 -- a buffer that has more bytes, and the same readers, each within the old bytes
 pub grows : (old new : Buffer) (more : List ℕ) → new.bytes ≡ old.bytes ++ more → new.readers ≡ old.readers → new.mark ≡ old.mark
-    → StandsWithin (length old.bytes) old.readers → Grows old new more
+    → StandsWithin (length old.bytes) old.readers → GrowsBy old new more
 grows old new more bytes readers mark within = record {
   bytes = bytes;
   readers = readers;
@@ -57,7 +57,7 @@ within_stored start filled store ss within places =
 -- a buffer into whose store more bytes were put right behind its own
 pub grows-put : (start filled room : ℕ) (readers : List Slot) (mark : ℕ) (store : List ℕ) (n : ℕ) (more store' : List ℕ)
     → start ≤ filled → filled + room ≤ length store → StandsWithin (filled - start) readers → n ≡ length store' → store' ≡ take filled store ++ more
-    → Grows (shown start filled room readers mark store) (shown start n 0 readers mark store') more
+    → GrowsBy (shown start filled room readers mark store) (shown start n 0 readers mark store') more
 grows-put start filled room readers mark store n more store' order within places count is =
     let below : filled ≤ length store = omega arith in
     grows (shown start filled room readers mark store) (shown start n 0 readers mark store') more

@@ -40,7 +40,7 @@ one_block [] = []
 one_block (b ∷ bs) = (b ∷ bs) ∷ []
 
 -- the new buffer has more bytes behind those of the old one, for each reader, and all else but the room is as it was
-pub record Grows (old new : Buffer) (more : List ℕ) : Type 0 where
+pub record GrowsBy (old new : Buffer) (more : List ℕ) : Type 0 where
   pub bytes : new.bytes ≡ old.bytes ++ more
   pub readers : new.readers ≡ old.readers
   pub mark : new.mark ≡ old.mark
@@ -62,7 +62,7 @@ abbrev pub part_of : Buffer → ReaderId → ℕ → ℕ → List ℕ
 part_of b r offset most = take most (drop offset (readable b r))
 
 -- enough can be read for the water mark, and at least a byte
-pub record IsReady (b : Buffer) (r : ReaderId) : Type 0 where
+pub record ReachesMark (b : Buffer) (r : ReaderId) : Type 0 where
   pub some : 1 ≤ length (readable b r)
   pub marked : b.mark ≤ length (readable b r)
 

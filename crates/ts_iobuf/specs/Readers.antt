@@ -28,6 +28,6 @@ pub record ClosesReader (old new : List Slot) (r : ReaderId) : Type 0 where
   pub used : (i : ℕ) → last_used new i ≡ last_used old i
 
 -- no reader uses the slot, and it has a generation left
-pub record IsFree (s : Slot) : Type 0 where
+pub record IsFreeSlot (s : Slot) : Type 0 where
   pub place : s.place ≡ None
   pub generation : s.generation < LAST_GENERATION

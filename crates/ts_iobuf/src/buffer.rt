@@ -38,7 +38,7 @@ impl Model for IoBuffer {
 }
 
 impl IoBuffer {
-    ghost use Rattle.ts_iobuf.specs.Buffer.{Consumes, Grows, IsReady, blocks_of, is_reader, part_of, readable, unread};
+    ghost use Rattle.ts_iobuf.specs.Buffer.{Consumes, GrowsBy, ReachesMark, blocks_of, is_reader, part_of, readable, unread};
     ghost use Rattle.ts_iobuf.specs.Places.{place_in};
     ghost use Rattle.ts_iobuf.specs.Readers.{ClosesReader, OpensReader};
 
@@ -159,7 +159,7 @@ impl IoBuffer {
     }
 
     fn add(&mut self, bytes: &[u8]) -> Result<(), NoMemory>
-        ensures grows { OnOk result (Grows self.old self.new bytes.now) }
+        ensures grows { OnOk result (GrowsBy self.old self.new bytes.now) }
         ensures room { OnOk result (self.new.room ≡ []) }
         ensures err { OnErr result (self.new ≡ self.old) }
     {
@@ -170,7 +170,7 @@ impl IoBuffer {
     }
 
     fn add_parts(&mut self, parts: &[&[u8]]) -> Result<(), NoMemory>
-        ensures grows { OnOk result (Grows self.old self.new (flat_map (λ p. p.now) parts.now)) }
+        ensures grows { OnOk result (GrowsBy self.old self.new (flat_map (λ p. p.now) parts.now)) }
         ensures room { OnOk result (self.new.room ≡ []) }
         ensures err { OnErr result (self.new ≡ self.old) }
     {
@@ -182,7 +182,7 @@ impl IoBuffer {
 
     /// Adds these bytes behind the others.
     pub fn write(&mut self, bytes: &[u8]) -> Result<(), NoMemory>
-        ensures grows { OnOk result (Grows self.old self.new bytes.now) }
+        ensures grows { OnOk result (GrowsBy self.old self.new bytes.now) }
         ensures room { OnOk result (self.new.room ≡ []) }
         ensures err { OnErr result (self.new ≡ self.old) }
     {
@@ -192,7 +192,7 @@ impl IoBuffer {
 
     /// Adds these parts, one behind the other, behind the bytes: all of them, or none for want of memory.
     pub fn write_parts(&mut self, parts: &[&[u8]]) -> Result<(), NoMemory>
-        ensures grows { OnOk result (Grows self.old self.new (flat_map (λ p. p.now) parts.now)) }
+        ensures grows { OnOk result (GrowsBy self.old self.new (flat_map (λ p. p.now) parts.now)) }
         ensures room { OnOk result (self.new.room ≡ []) }
         ensures err { OnErr result (self.new ≡ self.old) }
     {
@@ -203,7 +203,7 @@ impl IoBuffer {
     /// Adds the first `n` bytes of the room that was lent last, as they were left there.
     pub fn produce(&mut self, n: usize)
         requires { n ≤ length self.old.room }
-        ensures grows { Grows self.old self.new (take n self.old.room) }
+        ensures grows { GrowsBy self.old self.new (take n self.old.room) }
         ensures room { self.new.room ≡ [] }
     {
         self.filled += n;
@@ -245,7 +245,7 @@ impl IoBuffer {
     ) -> Result<usize, NoMemory>
         requires { IsTrue (is_reader from.now reader) }
         ensures count { IfOk result (λ n. n ≡ length (part_of from.now reader offset most)) }
-        ensures grows { OnOk result (Grows self.old self.new (part_of from.now reader offset most)) }
+        ensures grows { OnOk result (GrowsBy self.old self.new (part_of from.now reader offset most)) }
         ensures room { OnOk result (self.new.room ≡ []) }
         ensures err { OnErr result (self.new ≡ self.old) }
     {
@@ -293,7 +293,7 @@ impl IoBuffer {
     /// Whether the reader can read at least one byte, and at least as many as the water mark says.
     pub fn ready(&self, reader: ReaderId) -> bool
         requires { IsTrue (is_reader self.now reader) }
-        ensures { IsTrue result ↔ IsReady self.now reader }
+        ensures { IsTrue result ↔ ReachesMark self.now reader }
     {
         let avail = self.avail(reader);
         avail >= 1 && avail >= self.mark

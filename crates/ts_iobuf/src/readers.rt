@@ -1,6 +1,6 @@
 //! The places of a buffer's readers.
 ghost use Rattle.std.specs.Prelude.{◌≡◌, ◌≢◌, ℕ, ◌+◌, ◌-◌, ◌^◌, ◌<◌, ◌≤◌, ◌++◌, ◌∷◌, [], List, drop, map, slice_get, IsSome, IsSomeAnd, IfSome, IfOk, OnErr, IsTrue, ◌↔◌, Some, is_some};
-ghost use Rattle.ts_iobuf.specs.Readers.{OpensReader, ClosesReader, IsFree};
+ghost use Rattle.ts_iobuf.specs.Readers.{OpensReader, ClosesReader, IsFreeSlot};
 ghost use Rattle.ts_iobuf.specs.Places.{place_in, moved, least_place, lowered, bytes_from, StandsWithin};
 
 use ts_link::NoMemory;
@@ -101,14 +101,14 @@ pub fn move_on(slots: &mut [Slot], reader: ReaderId, n: usize, most: usize) -> u
 }
 
 fn is_free(slot: Slot) -> bool
-    ensures { IsTrue result ↔ IsFree slot }
+    ensures { IsTrue result ↔ IsFreeSlot slot }
 {
     slot.place.is_none() && slot.generation < LAST_GENERATION
 }
 
 // The first index that no reader uses, and that has a generation left.
 fn free_index(slots: &[Slot]) -> Option<u32>
-    ensures { IfSome result (λ i. IsSomeAnd (slice_get slots.now i) IsFree) }
+    ensures { IfSome result (λ i. IsSomeAnd (slice_get slots.now i) IsFreeSlot) }
 {
     for (index, slot) in slots.iter().enumerate() {
         if is_free(*slot) {
@@ -120,7 +120,7 @@ fn free_index(slots: &[Slot]) -> Option<u32>
 
 // Opens a reader at a free index.
 fn reopen(slots: &mut [Slot], index: u32, place: usize) -> ReaderId
-    requires { IsSomeAnd (slice_get slots.old index) IsFree }
+    requires { IsSomeAnd (slice_get slots.old index) IsFreeSlot }
     ensures place { place_in slots.new result ≡ Some place }
     ensures opens { OpensReader slots.old slots.new result }
     ensures within { (most : ℕ) → place ≤ most → StandsWithin most slots.old → StandsWithin most slots.new }

@@ -3,7 +3,7 @@ use Rattle.std.proofs.Common.{◌≡◌, ℕ, ◌+◌, ◌<◌, ◌≤◌, true,
 use Rattle.std.proofs.lemmas.Bool.{eqb-true, eq-eqb, ne_eqb, cond-true, cond-false, and_from, and_parts}
 use Rattle.ts_journal.specs.declared.entry.ContKey.{ContKey}
 use Rattle.ts_journal.specs.declared.entry.Pending.{Pending}
-use Rattle.ts_journal.specs.State.{pending_at, without, same_key, numbers_of, others_of, number_in}
+use Rattle.ts_journal.specs.State.{pending_at, without, same_key, numbers_of, others_of, first_in_series}
 use Rattle.ts_journal.specs.Machine.{Rises}
 use Rattle.ts_journal.proofs.Cases.{split, by_eq}
 use Rattle.ts_journal.proofs.Keys.{key_by}
@@ -154,10 +154,10 @@ first_of key low (p ∷ ps) high n ns (a, b) h =
     }) refl h
 
 -- the first event of a series is pending
-pub number_there : (s : ℕ) (ps : List Pending) (low high n : ℕ) → Rises low ps high → number_in s ps ≡ Some n → (p : Pending) × (pending_at n ps ≡ Some p) × (p.series ≡ s)
+pub number_there : (s : ℕ) (ps : List Pending) (low high n : ℕ) → Rises low ps high → first_in_series s ps ≡ Some n → (p : Pending) × (pending_at n ps ≡ Some p) × (p.series ≡ s)
 number_there s [] low high n r h = absurd (cc)
 number_there s (q ∷ ps) low high n (a, b) h =
-    by_eq q.series s (λ t. cond t (Some q.number) (number_in s ps) ≡ Some n → (p : Pending) × (cond (eqb q.number n) (Some q) (pending_at n ps) ≡ Some p) × (p.series ≡ s))
+    by_eq q.series s (λ t. cond t (Some q.number) (first_in_series s ps) ≡ Some n → (p : Pending) × (cond (eqb q.number n) (Some q) (pending_at n ps) ≡ Some p) × (p.series ≡ s))
     (λ e x. let same : q.number ≡ n = cc in (q, cond-true (eqb q.number n) (Some q) (pending_at n ps) (eq-eqb q.number n same), e))
     (λ f x.
     let r = number_there s ps (q.number + 1) high n b x in

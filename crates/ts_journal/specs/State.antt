@@ -87,9 +87,9 @@ others_of key [] = []
 others_of key (p ∷ ps) = if same_key p.key key then others_of key ps else p ∷ others_of key ps
 
 -- the number of the first pending event of a series
-abbrev pub number_in : ℕ → List Pending → Option ℕ
-number_in s [] = None
-number_in s (p ∷ ps) = if p.series == s then Some p.number else number_in s ps
+abbrev pub first_in_series : ℕ → List Pending → Option ℕ
+first_in_series s [] = None
+first_in_series s (p ∷ ps) = if p.series == s then Some p.number else first_in_series s ps
 
 -- the series of an event
 abbrev pub latest_of : Pending → Latest

@@ -1,6 +1,6 @@
 //! What can stand in a mutex slot.
 
-ghost use Rattle.std.specs.Prelude.{ℕ, List, []};
+ghost use Rattle.std.specs.Prelude.{ℕ, List};
 
 /// What can stand in a mutex slot. The members are for contracts alone.
 pub trait Slotted {
@@ -14,10 +14,10 @@ pub trait Slotted {
     ghost fits: { Self.Tag → Self → Type 0 };
 
     /// The number of the last turn that the value has recorded.
-    ghost stamp: { Self → ℕ } = { λ v. 0 };
+    ghost stamp: { Self → ℕ };
 
     /// The turns that the value has recorded, each with the number of the seat that took it.
-    ghost marks: { Self → List (ℕ × ℕ) } = { λ v. [] };
+    ghost marks: { Self → List (ℕ × ℕ) };
 
     ghost trace: { Self → Self.Trace };
 

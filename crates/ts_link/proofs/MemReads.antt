@@ -5,7 +5,7 @@ use Rattle.std.proofs.lemmas.List.{append-nil}
 use Rattle.ts_link.specs.Counts.{Counted, greatest, one_more_if}
 use Rattle.ts_link.specs.Inputs.{Input, bytes_of, given_of, stalled_reads, next_answer, next_ahead}
 use Rattle.ts_link.specs.InputView.{IsSoundInput}
-use Rattle.ts_link.specs.Link.{AgainsFall, MayReplace, Gives, Calls, IsSure, IsSurePlan, NeverStalls, Reads, ReadsSurely}
+use Rattle.ts_link.specs.Link.{AgainsFall, MayReplace, GivesMore, Calls, IsSure, IsSurePlan, NeverStalls, Reads, ReadsSurely}
 use Rattle.ts_link.specs.LinkAnswers.{FillsSome, count_got, got_failed, got_again}
 use Rattle.ts_link.specs.MemLink.{LinkState, look_of, read_by, ahead_by, read_answer, after_read}
 use Rattle.ts_link.specs.Numbered.{mishap_at, is_listed, after_call, waits_left}

@@ -11,3 +11,4 @@ pub mod Numbered
 pub mod Seen
 pub mod Shelf
 pub mod Sink
+pub mod Texts

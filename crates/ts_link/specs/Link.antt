@@ -112,7 +112,7 @@ abbrev pub WritesSurely : Look → Bool → Bool → Type 0
 WritesSurely old failed waited = IsSure old → (waited ≡ false) × (failed ≡ true → HasLeft old)
 
 -- what a read gave, of a link that tells
-pub record Gives (old new : Look) (more : List ℕ) : Type 0 where
+pub record GivesMore (old new : Look) (more : List ℕ) : Type 0 where
   pub before : List ℕ  -- what it might give as this call began
   pub replaced : MayReplace old.given old.left before
   pub moved : before ≡ more ++ new.left
@@ -120,7 +120,7 @@ pub record Gives (old new : Look) (more : List ℕ) : Type 0 where
   pub taken : new.taken ≡ old.taken
 
 -- what a write took, of a link that tells
-pub record Takes (old new : Look) (more : List ℕ) : Type 0 where
+pub record TakesMore (old new : Look) (more : List ℕ) : Type 0 where
   pub taken : new.taken ≡ old.taken ++ more
   pub within : IsWithinLeave old → IsWithinLeave new
   pub given : new.given ≡ old.given
@@ -137,7 +137,7 @@ pub record Reads (tells : Bool) (old new : Look) (answer : Got) (into : List ℕ
   pub once : IsOneRead old new
   pub calls : Calls old new (got_failed answer) (got_again answer)
   pub sure : ReadsSurely old (got_failed answer) (got_again answer)
-  pub told : tells ≡ true → Gives old new (take (count_got answer) into)
+  pub told : tells ≡ true → GivesMore old new (take (count_got answer) into)
   pub ends : tells ≡ true → EndsWell answer new.left
 
 -- one write to a link
@@ -147,4 +147,4 @@ pub record Writes (tells : Bool) (old new : Look) (answer : Put) (piece : List �
   pub calls : Calls old new (put_failed answer) (put_again answer)
   pub sure : WritesSurely old (put_failed answer) (put_again answer)
   pub lacks : Lacks answer old new
-  pub told : tells ≡ true → Takes old new (take (count_put answer) piece)
+  pub told : tells ≡ true → TakesMore old new (take (count_put answer) piece)

@@ -25,7 +25,8 @@ pub trait Sink {
     fn write(&mut self, piece: &[u8]) -> Wrote
         requires { 0 < length piece.now }
         ensures count { TakesSome result piece.now }
-        ensures taken { tells ≡ true → (seen self.new).taken ≡ (seen self.old).taken ++ taken_of result piece.now }
+        ensures taken { tells ≡ true →
+            (seen self.new).taken ≡ (seen self.old).taken ++ taken_of result piece.now }
         ensures faults { Counted (is_fault result) (seen self.old).faults (seen self.new).faults }
         ensures lacks { Counted (is_lack result) (seen self.old).lacks (seen self.new).lacks };
 }

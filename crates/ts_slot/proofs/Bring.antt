@@ -12,7 +12,7 @@ use lib.ListN.{get_elem?}
 use Rattle.atomic_table.specs.Table.{State, Act, Valid, step, keeps, takes, gives, chain, carried_after, homes_after, Allows}
 use Rattle.atomic_table.proofs.Lists.{at_set, set_here, set_else}
 use Rattle.ts_slot.specs.declared.view.View.{View}
-use Rattle.ts_slot.specs.Lists.{total, Each, IsIn, same, traced, entries, without}
+use Rattle.ts_slot.specs.Lists.{total, Each, IsIn, same, traced, entries, without_group}
 use Rattle.ts_slot.specs.Views.{owns}
 use Rattle.ts_slot.specs.Rule.{free, taken, worn, ViewOk}
 use Rattle.ts_slot.specs.Steps.{Mine, emptied, bring, Fetched}
@@ -50,21 +50,21 @@ module _ {X : Type 0} where
       })
 
   brings : {T : Type 0} (k t : ℕ) (c : T) (homes : Homes X) (hs : List (ℕ × ℕ × T)) → IsIn (k, t, c) hs → ((j : ℕ) → traced j hs ≤ 1) → Each (λ e. e.0 < length homes) hs
-      → Brings k (λ j. traced j hs) homes (emptied hs) (bring k hs) (emptied (without k hs))
+      → Brings k (λ j. traced j hs) homes (emptied hs) (bring k hs) (emptied (without_group k hs))
   brings k t c homes [] i once low = absurd i
   brings {T} k t c homes (h ∷ hs) i once low =
       by_eq h.0 k
-      (λ b. Brings k (λ j. traced j (h ∷ hs)) homes ((h.0, None) ∷ emptied hs) (cond b keeps (chain gives (chain (bring k hs) (back h.0 k)))) (emptied (cond b hs (h ∷ without k hs))))
+      (λ b. Brings k (λ j. traced j (h ∷ hs)) homes ((h.0, None) ∷ emptied hs) (cond b keeps (chain gives (chain (bring k hs) (back h.0 k)))) (emptied (cond b hs (h ∷ without_group k hs))))
       (λ is. record { valid = tt; carried = ap (λ j. (j, None) ∷ emptied hs) is; others = λ j _. refl; long = refl })
       (λ ne.
       let there : IsIn (k, t, c) hs = elim i [ inl e ↦ absurd (ne (ap (λ (y : ℕ × ℕ × T). y.0) e)) | inr more ↦ more ] in
       let homes' : Homes X = set homes h.0 (some None) in
       let same_long = length-set homes h.0 (some None) in
-      let r : Brings k (λ j. traced j hs) homes' (emptied hs) (bring k hs) (emptied (without k hs)) =
+      let r : Brings k (λ j. traced j hs) homes' (emptied hs) (bring k hs) (emptied (without_group k hs)) =
       brings k t c homes' hs there (λ j. let o = once j in omega arith) (subst (λ n. Each (λ (e : ℕ × ℕ × T). e.0 < n) hs) (sym same_long) low.1) in
       let alone : traced h.0 hs ≡ 0 = let o = once h.0 in let s = same_one h.0 h.0 refl in omega arith in
-      let b : Brings k (λ j. traced j (h ∷ hs)) (homes_after homes' (emptied hs) (bring k hs)) (carried_after (emptied hs) (bring k hs)) (back h.0 k) ((h.0, None) ∷ emptied (without k hs)) =
-      goes_back (homes_after homes' (emptied hs) (bring k hs)) (carried_after (emptied hs) (bring k hs)) (emptied (without k hs)) h.0 k (λ j. traced j (h ∷ hs)) r.carried ne
+      let b : Brings k (λ j. traced j (h ∷ hs)) (homes_after homes' (emptied hs) (bring k hs)) (carried_after (emptied hs) (bring k hs)) (back h.0 k) ((h.0, None) ∷ emptied (without_group k hs)) =
+      goes_back (homes_after homes' (emptied hs) (bring k hs)) (carried_after (emptied hs) (bring k hs)) (emptied (without_group k hs)) h.0 k (λ j. traced j (h ∷ hs)) r.carried ne
       (r.others h.0 alone ∙ set_here homes h.0 (some None) low.0)
       (let l = r.long in let u : k < length homes = each_in (λ (e : ℕ × ℕ × T). e.0 < length homes) hs (k, t, c) there low.1 in omega arith)
       (λ j away. (
@@ -124,7 +124,7 @@ module _ {X G T : Type 0} (fits : G → X → Type 0) (stamp : X → ℕ) (trace
       → Allows R slots id me k (λ n. n) (Fetched (step slots k 0 0 none) me)
   fetches slots id k me alive carried t c there s K deep at small =
       let v : View G T = me.0 in
-      let w : View G T = record v { held = (k, t, c) ∷ without k v.held } in
+      let w : View G T = record v { held = (k, t, c) ∷ without_group k v.held } in
       let ok : ViewOk tags s.words K.history v = K.each_view id v at in
       let low : Each (λ e. e.0 < length tags) v.held = each_map _ _ v.held (λ e h. let a = h.0 in let b = K.wide in in_range s.words e.0 e.1 (length tags) (omega arith) a) ok.held in
       let low' : Each (λ e. e.0 < length s.homes) v.held = subst (λ n. Each (λ (e : ℕ × ℕ × T). e.0 < n) v.held) (sym K.deep) low in
@@ -142,7 +142,7 @@ module _ {X G T : Type 0} (fits : G → X → Type 0) (stamp : X → ℕ) (trace
         blank = λ z. absurd (omega arith);
       } in
       let held : (j : ℕ) → traced j w.held ≡ traced j v.held = λ j. dite (ℕ_discrete k j)
-      (λ is. subst (λ i. same k i + traced i (without k v.held) ≡ traced i v.held) is (let g = in_traced k t c v.held there in let l = traced_without k v.held g in let o = same_one k k refl in omega arith))
+      (λ is. subst (λ i. same k i + traced i (without_group k v.held) ≡ traced i v.held) is (let g = in_traced k t c v.held there in let l = traced_without k v.held g in let o = same_one k k refl in omega arith))
       (λ ne. let o = traced_others k j v.held (λ e. ne (sym e)) in let z = same_none k j ne in omega arith) in
       let homes = homes_after s.homes (emptied v.held) (bring k v.held) in
       let kept : R (record { words = s.words; homes = homes; views = set s.views id w }) =
@@ -164,6 +164,6 @@ module _ {X G T : Type 0} (fits : G → X → Type 0) (stamp : X → ℕ) (trace
         subst (λ cs. R (record { words = set s.words k (slice_index s.words k); homes = homes_after s.homes cs (bring k v.held); views = set s.views id w })) (sym carried) kept',
         λ t' c' there'.
             let e : ◌≡◌ {A = ℕ × ℕ × T} (k, t, c) (k, t', c') = in_one k t t' c c' v.held there there' (once k) in
-            let d : carried_after me.1 (bring k v.held) ≡ (k, None) ∷ emptied (without k v.held) = ap (λ cs. carried_after cs (bring k v.held)) carried ∙ b.carried in
-            λ i. (record v { held = e i ∷ without k v.held }, d i),
+            let d : carried_after me.1 (bring k v.held) ≡ (k, None) ∷ emptied (without_group k v.held) = ap (λ cs. carried_after cs (bring k v.held)) carried ∙ b.carried in
+            λ i. (record v { held = e i ∷ without_group k v.held }, d i),
       )

@@ -5,7 +5,7 @@ use mathlib.Core.Option.{some, none, some-ne-none}
 use lib.ListN.{get_elem?}
 use Rattle.atomic_table.specs.Table.{step, rest as below}
 use Rattle.ts_slot.specs.declared.view.View.{View}
-use Rattle.ts_slot.specs.Lists.{IsIn, rest, without}
+use Rattle.ts_slot.specs.Lists.{IsIn, rest, without_group}
 use Rattle.ts_slot.specs.Views.{freed, worn_out, latest}
 use Rattle.ts_slot.specs.Steps.{Mine, emptied, Returned, WornOut}
 use Rattle.ts_slot.specs.Words.{GivesUp, FitsTag}
@@ -13,9 +13,9 @@ use Rattle.ts_slot.proofs.Lists.{in_without, without_top, length_without}
 use Rattle.ts_slot.proofs.Steps.{first_is}
 use Rattle.ts_slot.proofs.Latest.{latest_here}
 
-pub gives_up : {T : Type 0} (k t : ℕ) (c : T) (es : List (ℕ × ℕ × T)) → IsIn (k, t, c) es → GivesUp k es (without k es)
+pub gives_up : {T : Type 0} (k t : ℕ) (c : T) (es : List (ℕ × ℕ × T)) → IsIn (k, t, c) es → GivesUp k es (without_group k es)
 gives_up k t c es there = record {
-  top = λ t' c' top. ap (λ l. without k l) top ∙ without_top k t' c' (rest es);
+  top = λ t' c' top. ap (λ l. without_group k l) top ∙ without_top k t' c' (rest es);
   others = λ e ne in_it. in_without k e es ne in_it;
   count = length_without k t c es there;
 }
@@ -35,15 +35,15 @@ fits_low fits tags k x fit = at_low tags k fit.0 fit.1
 module _ {G T : Type 0} (k t : ℕ) (c : T) (v : View G T) where
   -- the seat after its slot of the group k came first
   abbrev pub fetched : View G T
-  fetched = record v { held = (k, t, c) ∷ without k v.held }
+  fetched = record v { held = (k, t, c) ∷ without_group k v.held }
 
-  without_fetched : without k fetched.held ≡ without k v.held
-  without_fetched = without_top k t c (without k v.held)
+  without_fetched : without_group k fetched.held ≡ without_group k v.held
+  without_fetched = without_top k t c (without_group k v.held)
 
 module _ {X G T : Type 0} (k t : ℕ) (c : T) (v : View G T) where
   -- the slots of its other groups
   abbrev pub others : List (ℕ × Option X)
-  others = emptied (without k v.held)
+  others = emptied (without_group k v.held)
 
   -- the value was put into the slot
   pub puts : (x : X) (m n : Mine X G T) → m ≡ (fetched k t c v, (k, None) ∷ others) → n ≡ (m.0, (k, Some x) ∷ below m.1) → n ≡ (fetched k t c v, (k, Some x) ∷ others)

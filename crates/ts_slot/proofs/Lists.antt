@@ -3,7 +3,7 @@ use Rattle.std.proofs.Common.{◌≡◌, ◌≢◌, ℕ, zero, suc, ◌+◌, ◌
 use Rattle.std.proofs.lemmas.Bool.{eqb-true, eqb-false, eq-eqb, ne_eqb, cond-true, cond-false}
 use mathlib.Core.Option.{some, some-ne-none, some-injective}
 use lib.ListN.{get_elem?}
-use Rattle.ts_slot.specs.Lists.{total, Each, IsIn, same, traced, without}
+use Rattle.ts_slot.specs.Lists.{total, Each, IsIn, same, traced, without_group}
 
 -- cases on a test, and on whether two numbers are equal
 pub split : (t : Bool) (P : Bool → Type 0) → (t ≡ true → P true) → (t ≡ false → P false) → P t
@@ -66,9 +66,9 @@ module _ {T : Type 0} where
     each_apart P Q k es (omega arith) f h.1,
   )
 
-  pub each_without : (P : ℕ × ℕ × T → Type 0) (k : ℕ) (es : List (ℕ × ℕ × T)) → Each P es → Each P (without k es)
+  pub each_without : (P : ℕ × ℕ × T → Type 0) (k : ℕ) (es : List (ℕ × ℕ × T)) → Each P es → Each P (without_group k es)
   each_without P k [] h = tt
-  each_without P k (e ∷ es) h = split (eqb e.0 k) (λ t. Each P (cond t es (e ∷ without k es))) (λ _. h.1) (λ _. (h.0, each_without P k es h.1))
+  each_without P k (e ∷ es) h = split (eqb e.0 k) (λ t. Each P (cond t es (e ∷ without_group k es))) (λ _. h.1) (λ _. (h.0, each_without P k es h.1))
 
   pub in_traced : (k t : ℕ) (c : T) (es : List (ℕ × ℕ × T)) → IsIn (k, t, c) es → 1 ≤ traced k es
   in_traced k t c [] i = absurd i
@@ -77,34 +77,34 @@ module _ {T : Type 0} where
     | inr more ↦ let r = in_traced k t c es more in omega arith
   ]
 
-  pub traced_without : (k : ℕ) (es : List (ℕ × ℕ × T)) → 1 ≤ traced k es → traced k (without k es) + 1 ≡ traced k es
+  pub traced_without : (k : ℕ) (es : List (ℕ × ℕ × T)) → 1 ≤ traced k es → traced k (without_group k es) + 1 ≡ traced k es
   traced_without k [] one = absurd (omega arith)
   traced_without k (e ∷ es) one =
-      by_eq e.0 k (λ t. 1 ≤ cond t 1 0 + traced k es → traced k (cond t es (e ∷ without k es)) + 1 ≡ cond t 1 0 + traced k es)
+      by_eq e.0 k (λ t. 1 ≤ cond t 1 0 + traced k es → traced k (cond t es (e ∷ without_group k es)) + 1 ≡ cond t 1 0 + traced k es)
       (λ is s. omega arith)
       (λ ne s. let r = traced_without k es (omega arith) in let z = same_none e.0 k ne in omega arith) one
 
-  pub traced_others : (k j : ℕ) (es : List (ℕ × ℕ × T)) → j ≢ k → traced j (without k es) ≡ traced j es
+  pub traced_others : (k j : ℕ) (es : List (ℕ × ℕ × T)) → j ≢ k → traced j (without_group k es) ≡ traced j es
   traced_others k j [] ne = refl
   traced_others k j (e ∷ es) ne =
-      by_eq e.0 k (λ t. traced j (cond t es (e ∷ without k es)) ≡ same e.0 j + traced j es)
+      by_eq e.0 k (λ t. traced j (cond t es (e ∷ without_group k es)) ≡ same e.0 j + traced j es)
       (λ is. let z = same_none e.0 j (λ h. ne (sym h ∙ is)) in omega arith)
       (λ _. let r = traced_others k j es ne in omega arith)
 
-  pub in_without : (k : ℕ) (e : ℕ × ℕ × T) (es : List (ℕ × ℕ × T)) → e.0 ≢ k → IsIn e es → IsIn e (without k es)
+  pub in_without : (k : ℕ) (e : ℕ × ℕ × T) (es : List (ℕ × ℕ × T)) → e.0 ≢ k → IsIn e es → IsIn e (without_group k es)
   in_without k e [] ne i = absurd i
   in_without k e (x ∷ es) ne i =
-      by_eq x.0 k (λ t. IsIn e (cond t es (x ∷ without k es)))
+      by_eq x.0 k (λ t. IsIn e (cond t es (x ∷ without_group k es)))
       (λ is. elim i [ inl here ↦ absurd (ne (ap (λ (y : ℕ × ℕ × T). y.0) (sym here) ∙ is)) | inr more ↦ more ])
       (λ _. elim i [ inl here ↦ inl here | inr more ↦ inr (in_without k e es ne more) ])
 
-  pub without_top : (k t : ℕ) (c : T) (es : List (ℕ × ℕ × T)) → without k ((k, t, c) ∷ es) ≡ es
-  without_top k t c es = cond-true (eqb k k) es ((k, t, c) ∷ without k es) (eq-eqb k k refl)
+  pub without_top : (k t : ℕ) (c : T) (es : List (ℕ × ℕ × T)) → without_group k ((k, t, c) ∷ es) ≡ es
+  without_top k t c es = cond-true (eqb k k) es ((k, t, c) ∷ without_group k es) (eq-eqb k k refl)
 
-  pub length_without : (k t : ℕ) (c : T) (es : List (ℕ × ℕ × T)) → IsIn (k, t, c) es → length (without k es) + 1 ≡ length es
+  pub length_without : (k t : ℕ) (c : T) (es : List (ℕ × ℕ × T)) → IsIn (k, t, c) es → length (without_group k es) + 1 ≡ length es
   length_without k t c [] i = absurd i
   length_without k t c (e ∷ es) i =
-      by_eq e.0 k (λ b. length (cond b es (e ∷ without k es)) + 1 ≡ suc (length es))
+      by_eq e.0 k (λ b. length (cond b es (e ∷ without_group k es)) + 1 ≡ suc (length es))
       (λ _. omega arith)
       (λ ne. elim i [
         | inl is ↦ absurd (ne (ap (λ (x : ℕ × ℕ × T). x.0) is))

@@ -14,7 +14,7 @@ use lib.ListN.{get_elem?}
 use Rattle.atomic_table.specs.Table.{State, Act, Valid, step, keeps, takes, gives, stepped, carried_after, Allows, rest as below}
 use Rattle.atomic_table.proofs.Lists.{at_set, set_here, set_else, set_again}
 use Rattle.ts_slot.specs.declared.view.View.{View}
-use Rattle.ts_slot.specs.Lists.{total, Each, rest, same, traced, entries, without}
+use Rattle.ts_slot.specs.Lists.{total, Each, rest, same, traced, entries, without_group}
 use Rattle.ts_slot.specs.Limits.{last_turn}
 use Rattle.ts_slot.specs.Views.{owns, won, missed, freed, worn_out, Coherent}
 use Rattle.ts_slot.specs.Rule.{free, taken, worn, AtHome, ViewOk}
@@ -203,7 +203,7 @@ module _ {X G T : Type 0} (fits : G → X → Type 0) (stamp : X → ℕ) (trace
   -- A value goes home: the group whose turn t this seat holds is free or worn.
   goes_home : (s : State (Option X) (View G T)) (K : R s) (id k t n : ℕ) (c : T) (v w : View G T) (x : X) (history : ℕ → ℕ → T)
       → k < length tags → get_elem? s.views id ≡ some v → Turning s K.history k t c v
-      → (w.held ≡ without k v.held) × (w.turns ≡ v.turns) × (w.share ≡ v.share) × ((y : ℕ) → owns y w ≡ owns y v)
+      → (w.held ≡ without_group k v.held) × (w.turns ≡ v.turns) × (w.share ≡ v.share) × ((y : ℕ) → owns y w ≡ owns y v)
       → slice_index s.words k ≤ n
       → ((j m : ℕ) → 2 * m ≤ slice_index s.words j → history j m ≡ K.history j m)
       → ((j m : ℕ) → j ≢ k → history j m ≡ K.history j m)
@@ -214,7 +214,7 @@ module _ {X G T : Type 0} (fits : G → X → Type 0) (stamp : X → ℕ) (trace
   goes_home s K id k t n c v w x history low at now part le past apart_past group ok turns =
       let h = total_set (λ (u : View G T). traced k u.held) s.views id v w at in
       let e = total_set (λ (u : View G T). entries k u.turns) s.views id v w at in
-      let w_held : traced k w.held ≡ traced k (without k v.held) = ap (λ (l : List (ℕ × ℕ × T)). traced k l) part.0 in
+      let w_held : traced k w.held ≡ traced k (without_group k v.held) = ap (λ (l : List (ℕ × ℕ × T)). traced k l) part.0 in
       let w_turns : entries k w.turns ≡ entries k v.turns = ap (λ l. entries k l) part.1 in
       let one = now.mine in let all = now.held in let counted = now.turns in
       let less = traced_without k v.held (omega arith) in

@@ -34,9 +34,9 @@ abbrev pub traced : {T : Type 0} → ℕ → List (ℕ × ℕ × T) → ℕ
 traced k es = total (λ e. same e.0 k) es
 
 -- the list but for the first entry of the group
-abbrev pub without : {T : Type 0} → ℕ → List (ℕ × ℕ × T) → List (ℕ × ℕ × T)
-without k [] = []
-without k (e ∷ es) = cond (eqb e.0 k) es (e ∷ without k es)
+abbrev pub without_group : {T : Type 0} → ℕ → List (ℕ × ℕ × T) → List (ℕ × ℕ × T)
+without_group k [] = []
+without_group k (e ∷ es) = cond (eqb e.0 k) es (e ∷ without_group k es)
 
 -- a value stands at the place k
 abbrev pub HasValue : {X : Type 0} → List (Option X) → ℕ → Type 0

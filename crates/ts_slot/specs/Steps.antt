@@ -4,7 +4,7 @@ use mathlib.Core.Option.{some}
 use lib.ListN.{get_elem?}
 use Rattle.atomic_table.specs.Table.{Me, Step, Act, keeps, takes, gives, chain, rest as below}
 use Rattle.ts_slot.specs.declared.view.View.{View}
-use Rattle.ts_slot.specs.Lists.{Each, IsIn, rest, traced, without}
+use Rattle.ts_slot.specs.Lists.{Each, IsIn, rest, traced, without_group}
 use Rattle.ts_slot.specs.Views.{won, missed, freed, worn_out, Coherent, IsAfter}
 
 -- the slots of the groups that are held, without their values
@@ -53,6 +53,6 @@ module _ {X G T : Type 0} where
   abbrev pub Fetched : Step (Option X) → Mine X G T → ℕ → Mine X G T → Type 0
   Fetched st m n m' = (t : ℕ) (c : T) → IsIn (st.word, t, c) m.0.held
       → m' ≡ (
-        record m.0 { held = (st.word, t, c) ∷ without st.word m.0.held },
-        (st.word, None) ∷ emptied (without st.word m.0.held),
+        record m.0 { held = (st.word, t, c) ∷ without_group st.word m.0.held },
+        (st.word, None) ∷ emptied (without_group st.word m.0.held),
       )

@@ -1,7 +1,7 @@
 -- What a seat knows of the slots, and how each step changes it.
 use Rattle.std.specs.Prelude.{◌≡◌, ℕ, ◌+◌, ◌-◌, ◌≤◌, ◌<◌, cond, eqb, ltb, leb, List, [], ◌∷◌, ◌++◌, Option, Some, None}
 use Rattle.ts_slot.specs.declared.view.View.{View}
-use Rattle.ts_slot.specs.Lists.{total, Each, same, without}
+use Rattle.ts_slot.specs.Lists.{total, Each, same, without_group}
 use Rattle.ts_slot.specs.Limits.{whole_share}
 
 -- 1 where x is from a up to b, and else 0
@@ -60,11 +60,11 @@ module _ {G T : Type 0} where
 
   -- the group k was left after its turn t, with the trace c
   abbrev pub freed : ℕ → ℕ → T → View G T → View G T
-  freed k t c v = record v { held = without k v.held; known = (k, t, c) ∷ v.known }
+  freed k t c v = record v { held = without_group k v.held; known = (k, t, c) ∷ v.known }
 
   -- the group k was left after its last turn
   abbrev pub worn_out : ℕ → View G T → View G T
-  worn_out k v = record v { held = without k v.held }
+  worn_out k v = record v { held = without_group k v.held }
 
   -- a seat that was split: what stays, and what the new one has
   abbrev pub left_half : View G T → View G T

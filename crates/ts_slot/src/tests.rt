@@ -22,6 +22,10 @@ impl Slotted for Rising {
 
     ghost fits = { λ tag x. ⊤ };
 
+    ghost stamp = { λ x. 0 };
+
+    ghost marks = { λ x. [] };
+
     ghost trace = { λ x. x.0 };
 
     ghost follows = { λ t u. u ≤ t };

@@ -1,5 +1,5 @@
 -- Which entries a handler's turn adds: none records a turn, and the first says what was handled.
-use Rattle.std.proofs.Common.{◌≡◌, ℕ, zero, suc, ◌+◌, ◌<◌, ◌≤◌, true, cond, List, [], ◌∷◌, ◌++◌, Some, None, refl, sym, ap, subst, ◌∙◌, append_assoc, arith}
+use Rattle.std.proofs.Common.{◌≡◌, ℕ, zero, suc, ◌≤◌, cond, List, [], ◌∷◌, ◌++◌, Some, None, refl, sym, ap, subst, ◌∙◌, arith}
 use Rattle.std.specs.Prelude.{nat_lt, ◌&&◌}
 use Rattle.ts_journal.specs.declared.entry.TheConstants.{GREATEST}
 use Rattle.ts_journal.specs.declared.entry.Pending.{Pending}
@@ -15,7 +15,7 @@ use Rattle.ts_journal.proofs.Later.{never_back_lem}
 use Rattle.ts_journal.proofs.Lookups.{pending_gone}
 use Rattle.ts_journal.proofs.Validity.{valid_after}
 use Rattle.ts_group.specs.Context.{moment_after}
-use Rattle.ts_group.specs.Entries.{IsOwn, AllOwn, renewal}
+use Rattle.ts_group.specs.Entries.{AllOwn, renewal}
 use Rattle.ts_group.specs.Calls.{IsRun, RunsFrom}
 use Rattle.ts_group.specs.Slot.{marks_of}
 use Rattle.ts_group.proofs.Slots.{marks_append}

@@ -1,27 +1,20 @@
 -- What a turn makes of a group.
-use Rattle.std.proofs.Common.{◌≡◌, ℕ, ◌+◌, ◌*◌, ◌<◌, ◌≤◌, ◌⊎◌, inl, inr, Bool, true, false, cond, List, [], ◌∷◌, ◌++◌, refl, sym, ap, ◌∙◌, subst, ⊎_elim, arith}
+use Rattle.std.proofs.Common.{◌≡◌, ℕ, inl, inr, false, [], ◌∷◌, ◌++◌, refl, sym, ap, ◌∙◌, subst, ⊎_elim}
 use Rattle.std.specs.Prelude.{Result, Ok, Err, OnOk, OnErr}
-use Rattle.std.specs.Bool.{OnTrue}
 use Rattle.std.specs.List.{Contains}
-use Rattle.ts_journal.specs.declared.entry.Entry.{Entry}
 use Rattle.ts_journal.specs.declared.entry.Entry.TheVariants.{Took, Gave}
-use Rattle.ts_journal.specs.State.{State, pending_at}
+use Rattle.ts_journal.specs.State.{State}
 use Rattle.ts_journal.specs.Machine.{IsValid}
 use Rattle.ts_journal.specs.Later.{IsLater}
 use Rattle.ts_journal.proofs.Later.{later_refl, later_trans, extends_later}
-use Rattle.ts_group.specs.declared.action.Named.{Named}
 use Rattle.ts_group.specs.declared.group.Group.{Group}
-use Rattle.ts_group.specs.declared.slot.TheConstants.{MOST_IN_TURN}
-use Rattle.ts_group.specs.Context.{Context, IsSame}
+use Rattle.ts_group.specs.Context.{IsSame}
 use Rattle.ts_group.specs.Acts.{BeginsTurn, GivesTurn, KeepsRoles}
-use Rattle.ts_group.specs.Answers.{Holds, KeepsTags}
-use Rattle.ts_group.specs.Changes.{SameEvents}
-use Rattle.ts_group.specs.Slot.{marks_of, IsAtRest}
+use Rattle.ts_group.specs.Slot.{marks_of}
 use Rattle.ts_group.proofs.Slots.{marks_append, either_way}
 use Rattle.std.proofs.lemmas.List.Elements.{Contains-append_cases}
 use Rattle.ts_group.proofs.Slots.{one_mark}
-use Rattle.ts_thread.specs.Tags.{GroupFits}
-use Rattle.ts_thread.specs.Held.{HasTurn, IsGiven, GoesInTurn, BeginsSame, GivesBack, SetsFew, HasFew, IsWorked}
+use Rattle.ts_thread.specs.Held.{HasTurn, IsGiven, GoesInTurn, BeginsSame, GivesBack}
 use Rattle.ts_thread.proofs.Entries.{no_marks}
 
 pub ok_to : {A E P Q : Type 0} (r : Result A E) → (P → Q) → OnOk r P → OnOk r Q
@@ -51,18 +44,18 @@ module _ {W Q R T U : Type 0} where
   begins_same r old new turn seat moment ok err kept world =
       ⊎_elim
       (λ (b : BeginsTurn old.cx new.cx turn seat moment). record {
-          world = world;
-          pending = ap (λ (s : State). s.pending) b.state;
-          next = ap (λ (s : State). s.next) b.state;
-          handled = ap (λ (s : State). s.handled_count) b.state;
-          roles = kept.roles;
+        world = world;
+        pending = ap (λ (s : State). s.pending) b.state;
+        next = ap (λ (s : State). s.next) b.state;
+        handled = ap (λ (s : State). s.handled_count) b.state;
+        roles = kept.roles;
       })
       (λ (e : IsSame old.cx new.cx). record {
-          world = world;
-          pending = ap (λ (s : State). s.pending) e.log.state;
-          next = ap (λ (s : State). s.next) e.log.state;
-          handled = ap (λ (s : State). s.handled_count) e.log.state;
-          roles = kept.roles;
+        world = world;
+        pending = ap (λ (s : State). s.pending) e.log.state;
+        next = ap (λ (s : State). s.next) e.log.state;
+        handled = ap (λ (s : State). s.handled_count) e.log.state;
+        roles = kept.roles;
       })
       (either_way r (BeginsTurn old.cx new.cx turn seat moment) (IsSame old.cx new.cx) ok err)
 

@@ -1,5 +1,11 @@
-mod Tokens
-mod Telling
-mod Seats
-mod Groups
+mod Alone
 mod Entries
+mod Groups
+mod Moves
+mod Rows
+mod Seats
+mod Telling
+mod Tokens
+mod Ends
+mod Uses
+mod Worked

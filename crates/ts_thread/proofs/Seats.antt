@@ -1,15 +1,14 @@
 -- What calls leave of what a seat knows.
-use Rattle.std.proofs.Common.{◌≡◌, ℕ, ◌+◌, ◌-◌, ◌<◌, ◌≤◌, ◌⊎◌, inl, inr, List, [], ◌∷◌, length, refl, sym, ap, ◌∙◌, subst, arith}
+use Rattle.std.proofs.Common.{◌≡◌, ℕ, ◌+◌, ◌-◌, ◌≤◌, inl, inr, List, [], ◌∷◌, length, refl, sym, ap, ◌∙◌, subst, arith}
 use Rattle.ts_journal.specs.declared.slotted.Slotted.{Ghosts}
 use Rattle.ts_slot.specs.declared.seat.Left.{Left}
 use Rattle.ts_slot.specs.declared.seat.Left.TheVariants.{Freed, Worn}
 use Rattle.ts_slot.specs.declared.seat.Seat.{Seat}
 use Rattle.ts_slot.specs.declared.seat.Turn.{Turn}
 use Rattle.ts_slot.specs.declared.view.View.{View}
-use Rattle.ts_slot.specs.Limits.{last_turn}
 use Rattle.ts_slot.specs.Lists.{IsIn, rest}
 use Rattle.ts_slot.specs.Views.{won, missed}
-use Rattle.ts_slot.specs.Words.{view, IsTop, GivesUp, LeavesFree, LeavesWorn, Misses}
+use Rattle.ts_slot.specs.Words.{view, IsTop, GivesUp, LeavesFree, LeavesWorn}
 use Rattle.ts_thread.specs.Seats.{More, Keeps, Closes, Leaves, KnowsTurn}
 
 module _ {A : Type 0} where

@@ -1,5 +1,5 @@
 -- News that is told piece by piece.
-use Rattle.std.proofs.Common.{◌≡◌, ℕ, ◌+◌, ◌<◌, ◌≤◌, ◌⊎◌, inl, inr, Bool, true, false, cond, List, [], ◌∷◌, Option, Some, None, refl, sym, ap, ◌∙◌, subst, ⊎_elim, arith}
+use Rattle.std.proofs.Common.{◌≡◌, ℕ, ◌+◌, ◌<◌, ◌≤◌, ◌⊎◌, inl, inr, Bool, true, false, List, ◌∷◌, Option, Some, None, refl, sym, ap, ◌∙◌, subst, ⊎_elim, arith}
 use Rattle.std.specs.Prelude.{◌==◌, ◌&&◌, nat_le, nat_lt, is_some, length}
 use Rattle.std.proofs.lemmas.Bool.{cases_lt, cases_eq}
 use Rattle.std.proofs.lemmas.Bool.Decides.{nat_tests}
@@ -20,12 +20,12 @@ use Rattle.ts_queue.specs.Views.{next_ticket}
 use Rattle.ts_queue.specs.Passes.{IsPassOf, view as known_of}
 use Rattle.ts_slot.specs.declared.slots.Slots.{Slots}
 use Rattle.ts_slot.specs.Lists.{IsIn}
-use Rattle.ts_slot.specs.Words.{tags_of, view, IsSeatOf}
+use Rattle.ts_slot.specs.Words.{tags_of, IsSeatOf}
 use Rattle.ts_wheel.specs.Due.{added}
 use Rattle.ts_thread.specs.declared.desk.Desk.{Desk}
 use Rattle.ts_thread.specs.Desks.{IsDeskOf, SharesSame}
 use Rattle.ts_thread.specs.News.{in_wheel, in_tickets, HasTicket, is_between, places_of, HasPlace, KeepsPlaces, HasTold}
-use Rattle.ts_thread.specs.Tokens.{AllName, Puts, Adds, Places, SamePlaces}
+use Rattle.ts_thread.specs.Tokens.{AllName, Places, SamePlaces}
 use Rattle.ts_thread.proofs.Tokens.{one_if, same_some, All-added, in_added, is_added, wheel-added, tickets-cons}
 
 some_is : {X : Type 0} (o : Option X) (x : X) → o ≡ Some x → is_some o ≡ true
@@ -180,7 +180,7 @@ module _ {X G T : Type 0} {d : Ghosts X G T} where
     telling_goes_on first a b old desk next number due was (p, news, number_is, due_is) from same world seat places =
         let state : b.cx.log.state ≡ a.cx.log.state = same.log.state in
         let places' : Places (record { group = k; number = p.number }) p.due moment desk next =
-            subst (λ (x : ℕ × ℕ). Places (record { group = k; number = x.0 }) x.1 moment desk next) (λ i. (sym number_is i, sym due_is i)) places in
+        subst (λ (x : ℕ × ℕ). Places (record { group = k; number = x.0 }) x.1 moment desk next) (λ i. (sym number_is i, sym due_is i)) places in
         let keeps = keeps_place desk next (record { group = k; number = p.number }) p.due moment places' in
         let up = was.from in
         let high = news.1 in

@@ -1,7 +1,6 @@
 -- Tokens in a wheel and among tickets.
-use Rattle.std.proofs.Common.{◌≡◌, ℕ, ◌+◌, ◌<◌, ◌≤◌, ◌⊎◌, inl, inr, Bool, true, false, cond, ltb, leb, List, [], ◌∷◌, ◌++◌, append_assoc, Some, None, refl, sym, ap, ◌∙◌, subst, All, arith}
-use Rattle.std.specs.Prelude.{count_by}
-use Rattle.std.proofs.lemmas.List.Elements.{All-nil, All-cons, All-head, All-tail, All-append}
+use Rattle.std.proofs.Common.{◌≡◌, ℕ, ◌+◌, ◌<◌, ◌≤◌, inl, inr, Bool, true, false, cond, ltb, leb, List, [], ◌∷◌, Some, None, refl, ap, ◌∙◌, subst, All, arith}
+use Rattle.std.proofs.lemmas.List.Elements.{All-nil, All-cons, All-head, All-tail}
 use Rattle.std.proofs.lemmas.List.Sums.{sum_by-cons}
 use Rattle.ts_queue.specs.declared.ticket.Token.{Token}
 use Rattle.ts_queue.specs.declared.ticket.Ticket.{Ticket}
@@ -11,7 +10,7 @@ use Rattle.ts_queue.specs.Passes.{Takes}
 use Rattle.ts_slot.specs.Lists.{IsIn}
 use Rattle.ts_wheel.specs.Due.{added, first_due, after_due}
 use Rattle.ts_thread.specs.News.{in_wheel, in_tickets}
-use Rattle.ts_thread.specs.Tokens.{AllName, LetsGo, TakesNext}
+use Rattle.ts_thread.specs.Tokens.{AllName, LetsGo}
 
 pub same_some : {X : Type 0} (x y : X) → Some x ≡ Some y → x ≡ y
 same_some x y e = cc

@@ -36,10 +36,13 @@ AnswersAsked events k (asked.Missed seen q) result = result ≡ Ok (did.AskMisse
 AnswersAsked events k (asked.NoMemory q) result = IsErr result
 
 -- the group fits a tag whose worlds are only asked
-abbrev pub TakesQuestions : {W Q R T U : Type 0} → (T → W → Type 0) → (W → State → List Named → Type 0) → (T → Bool) → Group W Q R T U → Type 0
-TakesQuestions {T = T} Fits Sound only_asked g = (t : T) × GroupFits Fits Sound only_asked t g × (only_asked t ≡ true)
+abbrev pub TakesQuestions : {W Q R T U : Type 0} → (T → W → Type 0) → (W → State → List Named → Type 0)
+    → (T → Bool) → (T → Bool) → Group W Q R T U → Type 0
+TakesQuestions {T = T} Fits Sound only_asked is_first g =
+    (t : T) × GroupFits Fits Sound only_asked is_first t g × (only_asked t ≡ true)
 
 -- the group fits the tag of the group k, whose worlds are only asked
-abbrev pub IsAskedAt : {W Q R T U : Type 0} → (T → W → Type 0) → (W → State → List Named → Type 0) → (T → Bool) → List T → ℕ → Group W Q R T U → Type 0
-IsAskedAt {T = T} Fits Sound only_asked tags k g =
-    (t : T) × (get_elem? tags k ≡ some t) × GroupFits Fits Sound only_asked t g × (only_asked t ≡ true)
+abbrev pub IsAskedAt : {W Q R T U : Type 0} → (T → W → Type 0) → (W → State → List Named → Type 0)
+    → (T → Bool) → (T → Bool) → List T → ℕ → Group W Q R T U → Type 0
+IsAskedAt {T = T} Fits Sound only_asked is_first tags k g =
+    (t : T) × (get_elem? tags k ≡ some t) × GroupFits Fits Sound only_asked is_first t g × (only_asked t ≡ true)

@@ -83,10 +83,14 @@ module _ {W Q R T U : Type 0} where
       (g.cx.log.state.held ≡ true) × Holds Sound g × (t : T) × (get_elem? tags k ≡ some t) × Fits t g.world
 
   -- the group fits the tag of the group k
-  abbrev pub FitsHere : (T → W → Type 0) → (W → State → List Named → Type 0) → (T → Bool) → List T → ℕ → Group W Q R T U → Type 0
-  FitsHere Fits Sound only_asked tags k g = (t : T) × (get_elem? tags k ≡ some t) × GroupFits Fits Sound only_asked t g
+  abbrev pub FitsHere : (T → W → Type 0) → (W → State → List Named → Type 0) → (T → Bool) → (T → Bool)
+      → List T → ℕ → Group W Q R T U → Type 0
+  FitsHere Fits Sound only_asked is_first tags k g =
+      (t : T) × (get_elem? tags k ≡ some t) × GroupFits Fits Sound only_asked is_first t g
 
   -- the group fits the tag of the group k once its turn is given back
-  abbrev pub WillFit : (T → W → Type 0) → (W → State → List Named → Type 0) → (T → Bool) → List T → ℕ → Group W Q R T U → Type 0
-  WillFit Fits Sound only_asked tags k g =
+  abbrev pub WillFit : (T → W → Type 0) → (W → State → List Named → Type 0) → (T → Bool) → (T → Bool)
+      → List T → ℕ → Group W Q R T U → Type 0
+  WillFit Fits Sound only_asked is_first tags k g =
       (t : T) × (get_elem? tags k ≡ some t) × Fits t g.world × Holds Sound g × HasFew (only_asked t) g.cx.log.state
+      × OnTrue (is_first t) (g.cx.log.base.turns ≡ 0)

@@ -1,5 +1,5 @@
 -- Where tokens come from and where they go: a thread's wheel and its pass of the queue.
-use Rattle.std.specs.Prelude.{◌≡◌, ℕ, ◌+◌, ◌<◌, ◌≤◌, ◌⊎◌, ◌++◌, List, Some, None, All, count_by}
+use Rattle.std.specs.Prelude.{◌≡◌, ℕ, ◌<◌, ◌≤◌, ◌⊎◌, ◌++◌, List, Some, None, All}
 use Rattle.ts_journal.specs.declared.slotted.Slotted.{Ghosts}
 use Rattle.ts_journal.specs.declared.entry.TheConstants.{GREATEST}
 use Rattle.ts_link.specs.Counts.{Rose}
@@ -7,7 +7,6 @@ use Rattle.ts_queue.specs.declared.queue.QueuePass.{QueuePass}
 use Rattle.ts_queue.specs.declared.ticket.Token.{Token}
 use Rattle.ts_queue.specs.declared.ticket.Ticket.{Ticket}
 use Rattle.ts_queue.specs.declared.view.View.{View}
-use Rattle.ts_queue.specs.Tickets.{is_same_token}
 use Rattle.ts_queue.specs.Views.{putting_next}
 use Rattle.ts_queue.specs.Passes.{view as known_of, empties_of, Takes, FindsEmpty}
 use Rattle.ts_wheel.specs.Due.{added, first_due, after_due}

@@ -24,11 +24,11 @@ fn ask_turn<W: World + Drop>(
     question: W::Question,
     moment: u64,
 ) -> Result<W::Reply, (NoMemory, W::Question)>
-    requires fits { TakesQuestions W.fits W.sound W.only_asked group.old }
+    requires fits { TakesQuestions W.fits W.sound W.only_asked W.is_first group.old }
     requires turn { (group.old.cx.log.state.turns < turn) × (turn ≤ last_turn) }
     ensures given { IsGiven group.old group.new turn seat }
-    ensures fits { (t : W.Tag) → GroupFits W.fits W.sound W.only_asked t group.old
-        → GroupFits W.fits W.sound W.only_asked t group.new }
+    ensures fits { (t : W.Tag) → GroupFits W.fits W.sound W.only_asked W.is_first t group.old
+        → GroupFits W.fits W.sound W.only_asked W.is_first t group.new }
     ensures reply { IfOk result (λ reply. W.answers group.old.world question reply) }
     ensures question { IfErr result (λ e. e.1 ≡ question) }
 {
@@ -52,7 +52,7 @@ fn ask_won<W: World + Drop>(
     requires seat { IsSeatOf slots.now seat.old }
     requires top { IsTop (view seat.old) turn.group turn.number (trace_of turn.found.value.cx) }
     requires found { (turn.found.value ≡ turn.value) × (turn.value.cx.log.state.turns < turn.number) }
-    requires asked { IsAskedAt W.fits W.sound W.only_asked (tags_of slots.now) turn.group turn.value }
+    requires asked { IsAskedAt W.fits W.sound W.only_asked W.is_first (tags_of slots.now) turn.group turn.value }
     ensures seat { IsSeatOf slots.now seat.new }
     ensures leaves { Leaves (view seat.old) (view seat.new) }
     ensures reply { IfOk result (Gives W.fits W.answers (tags_of slots.now) turn.group question) }

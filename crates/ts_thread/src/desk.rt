@@ -20,7 +20,12 @@ pub struct Desk<V: Slotted> {
 }
 
 // Takes the next token of the queue that names one of so many groups.
-fn next_ticket<R: Wait>(rt: &R, queue: &EventQueue, pass: &mut QueuePass, groups: u32) -> Option<Token>
+fn next_ticket<R: Wait>(
+    rt: &R,
+    queue: &EventQueue,
+    pass: &mut QueuePass,
+    groups: u32,
+) -> Option<Token>
     requires pass { IsPassOf queue.now pass.old }
     ensures pass { IsPassOf queue.now pass.new }
     ensures token { IfSome result (TakesNext groups (known_of pass.old) (known_of pass.new)) }

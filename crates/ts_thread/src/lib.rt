@@ -4,14 +4,20 @@
 mod asking;
 mod desk;
 mod did;
+mod ending;
 mod held;
 mod leaving;
 mod news;
+mod taking;
 mod thread;
 mod turning;
 
 pub use did::{Did, RunEnd};
+pub use ending::{ONLY_SEAT, finish};
 pub use thread::EventThread;
+
+/// How many turns a group can have.
+pub const MOST_TURNS: u64 = 1 << 63;
 
 /// How many milliseconds after a miss a token is due again.
 pub const PUT_BACK: u64 = 10;

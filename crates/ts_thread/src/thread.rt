@@ -5,9 +5,9 @@ ghost use Rattle.std.specs.Prelude.{◌≡◌, []};
 ghost use Rattle.ts_slot.specs.Words.{view};
 ghost use Rattle.ts_thread.specs.Desks.{IsDeskOf};
 
-use crate::desk::{Desk, next_token};
+use crate::desk::Desk;
 use crate::did::{Did, RunEnd};
-use crate::turning::enter;
+use crate::taking::{run_desk, turn_desk};
 use std::alloc::Global;
 use std::sync::Wait;
 use ts_group::{Group, World};
@@ -36,6 +36,7 @@ impl<'a, W: World + Drop, G: Gate> EventThread<'a, W, G> {
     ghost use Rattle.ts_queue.specs.Passes.{IsPassOf};
     ghost use Rattle.ts_slot.specs.Words.{tags_of, IsSeatOf};
     ghost use Rattle.ts_thread.specs.Desks.{KeepsDesk};
+    ghost use Rattle.ts_thread.specs.Runs.{HasRunTo};
     ghost use Rattle.ts_thread.specs.Tags.{CanAsk};
     ghost use Rattle.ts_thread.specs.Turning.{IsDid};
 
@@ -76,19 +77,35 @@ impl<'a, W: World + Drop, G: Gate> EventThread<'a, W, G> {
         ensures did { IfOk result
             (IsDid (length (tags_of self.old.slots.now)) moment self.old.desk self.new.desk) }
     {
-        let groups = self.slots.groups();
-        let Some(token) = next_token(rt, self.queue, &mut self.desk, groups, moment) else {
-            return Ok(Did::Idle);
-        };
-        enter(
+        turn_desk(
             rt,
             self.slots,
             self.queue,
             self.gate,
             self.number,
             &mut self.desk,
-            token,
             moment,
+        )
+    }
+
+    /// Takes at most so many turns, the first at the moment 0. After an idle turn it goes on at the moment at which the
+    /// first token of the wheel is due, and ends where there is none. No group is held when it returns, at want of
+    /// memory either.
+    pub fn run<R: Wait>(&mut self, rt: &R, budget: u64) -> Result<RunEnd, NoMemory>
+        requires asks { CanAsk W.fits W.only_asked W.may_ask W.right W.answers (tags_of self.old.slots.now) }
+        ensures tables { (self.new.slots ≡ self.old.slots) × (self.new.queue ≡ self.old.queue) }
+        ensures keeps { KeepsDesk self.old.desk self.new.desk (2 * budget) }
+        ensures ran { IfOk result
+            (HasRunTo (length (tags_of self.old.slots.now)) budget self.old.desk self.new.desk) }
+    {
+        run_desk(
+            rt,
+            self.slots,
+            self.queue,
+            self.gate,
+            self.number,
+            &mut self.desk,
+            budget,
         )
     }
 

@@ -91,7 +91,7 @@ fn end_turn<W: World + Drop, R: Wait>(
     requires desk { IsDeskOf slots.now queue.now desk.old }
     requires top { IsTop (view desk.old.seat) turn.group turn.number (trace_of turn.found.value.cx) }
     requires has { HasTurn turn.found.value turn.value turn.number desk.old.seat.number }
-    requires fits { WillFit W.fits W.sound W.only_asked (tags_of slots.now) turn.group turn.value }
+    requires fits { WillFit W.fits W.sound W.only_asked W.is_first (tags_of slots.now) turn.group turn.value }
     ensures desk { IsDeskOf slots.now queue.now desk.new }
     ensures leaves { LeavesDesk desk.old desk.new }
     ensures ends { OnOk result
@@ -119,7 +119,7 @@ fn serve<W: World + Drop, G: Gate, R: Wait>(
     requires desk { IsDeskOf slots.now queue.now desk.old }
     requires top { IsTop (view desk.old.seat) turn.group turn.number (trace_of turn.found.value.cx) }
     requires found { IsOfToken token turn.group turn.number turn.found.value turn.value }
-    requires fits { FitsHere W.fits W.sound W.only_asked (tags_of slots.now) turn.group turn.value }
+    requires fits { FitsHere W.fits W.sound W.only_asked W.is_first (tags_of slots.now) turn.group turn.value }
     requires asks { CanAsk W.fits W.only_asked W.may_ask W.right W.answers (tags_of slots.now) }
     ensures desk { IsDeskOf slots.now queue.now desk.new }
     ensures closes { ClosesDesk desk.old desk.new 1 }

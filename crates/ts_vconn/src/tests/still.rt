@@ -1,5 +1,5 @@
 //! A world in which nothing happens.
-ghost use Rattle.std.specs.Prelude.{⊤, ◌≡◌, refl, true};
+ghost use Rattle.std.specs.Prelude.{⊤, ◌≡◌, None, [], refl, false, true};
 ghost use Rattle.ts_group.specs.Entries.{Grows};
 
 use ts_group::{Asked, Cx, Want, World};
@@ -15,6 +15,10 @@ impl Slotted for StillWorld {
     type Trace = ();
 
     ghost fits = { λ t w. ⊤ };
+
+    ghost stamp = { λ w. 0 };
+
+    ghost marks = { λ w. [] };
 
     ghost trace = { λ w. tt };
 
@@ -39,7 +43,19 @@ impl World for StillWorld {
 
     ghost answers = { λ w question reply. ⊤ };
 
+    ghost may_ask = { λ w group. ⊥ };
+
+    ghost left = { λ w s. None };
+
+    ghost only_asked = { λ t. false };
+
+    ghost is_first = { λ t. false };
+
     ghost begun = { λ old new. ⊤ };
+
+    ghost called = { λ old new asked. ⊤ };
+
+    ghost heard = { λ old new asked. new ≡ old };
 
     fn start(&mut self, _cx: &mut Cx) {}
 

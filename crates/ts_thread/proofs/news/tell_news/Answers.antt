@@ -1,4 +1,4 @@
-use Rattle.std.proofs.Common.{◌+◌, ap, arith}
+use Rattle.std.proofs.Common.{ap, arith}
 use Rattle.ts_journal.specs.State.{State}
 use Rattle.ts_thread.proofs.Telling.{desk_place, telling_goes_on, telling_less}
 use Rattle.ts_thread.proofs.news.tell_news.Goals as goal
