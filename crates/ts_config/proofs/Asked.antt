@@ -9,7 +9,7 @@ use Rattle.ts_config.specs.declared.table.PluginName.{PluginName}
 use Rattle.ts_config.specs.declared.table.PluginName.TheVariants as n
 use Rattle.ts_config.specs.Numerals.{byte_of, number_of}
 use Rattle.ts_config.specs.Setup.{untexted}
-use Rattle.ts_config.specs.Table.{name_of, transform_of, fitting, named_entry, entry_of}
+use Rattle.ts_config.specs.Table.{name_of, transform_of, fitting, named_entry, line_entry}
 use Rattle.std.proofs.lemmas.Bool.Decides.{nat_tests}
 
 -- what the words behind the name are
@@ -58,7 +58,7 @@ asked n.Delay (ms ∷ []) line is =
 asked name words line is = absurd (let wrong : None ≡ Some line = is in cc)
 
 -- a line that means a transform has a name, and the words that ask for it
-pub entry_asked : (words : List (List ℕ)) (line : TransformLine) → Ok (Transform line) ≡ entry_of words
+pub entry_asked : (words : List (List ℕ)) (line : TransformLine) → Ok (Transform line) ≡ line_entry words
     → (name : PluginName) × (first : List ℕ) × (others : List (List ℕ)) × (words ≡ first ∷ others) × (name_of first ≡ Some name) × (transform_of name others ≡ Some line)
 entry_asked [] line is = absurd (let wrong : Ok (Transform line) ≡ Ok Empty = is in let inner : Transform line ≡ Empty = cc in cc)
 entry_asked (word ∷ others) line is = by_name (name_of word) refl is

@@ -7,7 +7,7 @@ use Rattle.std.proofs.lemmas.Bool.Decides.{nat_tests}
 use Rattle.ts_config.specs.declared.words.Next.{Next}
 use Rattle.ts_config.specs.declared.words.Next.TheVariants.{Nothing, Word, Unclosed}
 use Rattle.ts_config.specs.Words.{is_blank, is_end, EndsWord, EndsLine, IsQuotable, IsPlain, Spells, HasNoWord, BeginsWith, IsWords}
-use Rattle.ts_config.specs.Scanning.{IsQuoted, IsNext}
+use Rattle.ts_config.specs.Scanning.{IsQuoted, IsNextWord}
 use Rattle.ts_config.specs.Value.{is_plain_byte, is_quotable_byte}
 use Rattle.ts_config.proofs.Cuts.{Stops, Passes, cut_rest, front_passes, rest_stops, take_yes}
 use Rattle.ts_config.proofs.Scan.{each, quotable_passes, behind_quote, behind_blanks, behind_blanks-word, EndsLine-stops}
@@ -117,7 +117,7 @@ module _ (line text : List ℕ) (is_text : text ≡ drop (prefix_len is_blank li
           let inner : behind ≡ w ++ 34 ∷ rest = cc in
           unfit w rest quoted.0 begins.4 inner
 
-  pub quoted-found : (behind : List ℕ) (next : Next) → text ≡ 34 ∷ behind → IsQuoted behind next → IsNext line next
+  pub quoted-found : (behind : List ℕ) (next : Next) → text ≡ 34 ∷ behind → IsQuoted behind next → IsNextWord line next
   quoted-found behind Nothing cut is = absurd is
   quoted-found behind (Word w rest) cut is =
       spelled-found (34 ∷ w.now ++ 34 ∷ []) w.now rest.now (inr (is.0, refl)) is.1 (cut ∙ ap (λ xs. 34 ∷ xs) is.2 ∙ sym (behind_quote w.now rest.now))

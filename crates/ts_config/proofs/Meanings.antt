@@ -10,20 +10,20 @@ use Rattle.ts_config.specs.declared.setup.Entry.TheVariants.{Empty, Transform}
 use Rattle.ts_config.specs.Lines.{config_lines}
 use Rattle.ts_config.specs.Setup.{untexted}
 use Rattle.ts_config.specs.Words.{IsWords}
-use Rattle.ts_config.specs.Table.{entry_of}
+use Rattle.ts_config.specs.Table.{line_entry}
 use Rattle.ts_config.specs.Reading.{is_text, Means, MeansByWords, transform_in, transforms_in, IsConfiguration, ComeFromText}
 use Rattle.ts_config.proofs.Asked.{asked, entry_asked, untexted-asked}
 
 -- a line in the grammar is text, and its words mean what it means
-pub in_words : (line : List ℕ) (e : Entry) → Means line (Ok e) → (is_text line ≡ true) × ((words : List (List ℕ)) × IsWords line words × (Ok e ≡ entry_of words))
+pub in_words : (line : List ℕ) (e : Entry) → Means line (Ok e) → (is_text line ≡ true) × ((words : List (List ℕ)) × IsWords line words × (Ok e ≡ line_entry words))
 in_words line e means = by_text (is_text line) refl means
   where
-    by_words : MeansByWords line (Ok e) → (words : List (List ℕ)) × IsWords line words × (Ok e ≡ entry_of words)
+    by_words : MeansByWords line (Ok e) → (words : List (List ℕ)) × IsWords line words × (Ok e ≡ line_entry words)
     by_words (inl found) = found
     by_words (inr quote) = absurd (let wrong : Ok e ≡ Err k.Quote = quote.1 in cc)
 
     by_text : (b : Bool) → is_text line ≡ b → MatchBool b (MeansByWords line (Ok e)) (Ok e ≡ Err k.Text)
-        → (is_text line ≡ true) × ((words : List (List ℕ)) × IsWords line words × (Ok e ≡ entry_of words))
+        → (is_text line ≡ true) × ((words : List (List ℕ)) × IsWords line words × (Ok e ≡ line_entry words))
     by_text true text means = (text, by_words means)
     by_text false text wrong = absurd (let e' : Ok e ≡ Err k.Text = wrong in cc)
 

@@ -7,13 +7,13 @@ use Rattle.ts_config.specs.declared.setup.ConfigKind.{ConfigKind}
 use Rattle.ts_config.specs.declared.setup.ConfigKind.TheVariants as k
 use Rattle.ts_config.specs.declared.setup.Entry.{Entry}
 use Rattle.ts_config.specs.Lines.{config_lines}
-use Rattle.ts_config.specs.Table.{entry_of}
+use Rattle.ts_config.specs.Table.{line_entry}
 use Rattle.ts_config.specs.Reading.{is_text, Means, MeansByWords, transform_in, transforms_in, AreRead, Breaks, IsFault, IsConfiguration}
 use Rattle.ts_config.proofs.Scan.{one_words}
 use Rattle.ts_config.proofs.LinesSoFar.{transforms_in-append}
 
 by_words_once : (line : List ℕ) (a b : Result Entry ConfigKind) → MeansByWords line a → MeansByWords line b → a ≡ b
-by_words_once line a b (inl (vs, are, is)) (inl (ws, too, also)) = is ∙ ap entry_of (one_words vs ws line are too) ∙ sym also
+by_words_once line a b (inl (vs, are, is)) (inl (ws, too, also)) = is ∙ ap line_entry (one_words vs ws line are too) ∙ sym also
 by_words_once line a b (inl (vs, are, is)) (inr (none, quote)) = absurd (none vs are)
 by_words_once line a b (inr (none, quote)) (inl (ws, are, is)) = absurd (none ws are)
 by_words_once line a b (inr (none, quote)) (inr (too, also)) = quote ∙ sym also

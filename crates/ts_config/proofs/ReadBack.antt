@@ -21,7 +21,7 @@ use Rattle.ts_config.specs.Numerals.{byte_of, byte_word, hex_digit}
 use Rattle.ts_config.specs.Printing.{spelled_words, line_name, line_arguments, printed}
 use Rattle.ts_config.specs.Reading.{is_text_byte, Means, MeansByWords, transforms_in, AreRead, IsConfiguration, ComeFromText}
 use Rattle.ts_config.specs.Setup.{untexted}
-use Rattle.ts_config.specs.Table.{spelling, name_of, transform_of, fitting, named_entry, entry_of}
+use Rattle.ts_config.specs.Table.{spelling, name_of, transform_of, fitting, named_entry, line_entry}
 use Rattle.ts_config.specs.Words.{is_end, IsPlain, IsWords}
 use Rattle.ts_config.proofs.Again.{byte_again, number_again}
 use Rattle.ts_config.proofs.FineWords.{IsFine}
@@ -147,7 +147,7 @@ line_means : (l : TransformLine) → IsPrintable l → Means (line_text l) (Ok (
 line_means l is =
     let words : List (List ℕ) = spelling (line_name l) ∷ line_arguments l in
     let are : IsWords (line_text l) words = line_words_again (spelling (line_name l)) (line_arguments l) (name_plain (line_name l)) (arguments_fine l is) in
-    let entry : entry_of words ≡ Ok (meaning l) =
+    let entry : line_entry words ≡ Ok (meaning l) =
     ap (λ o. named_entry o (line_arguments l)) (name_again (line_name l)) ∙ ap fitting (transform_again l is) in
     subst (λ b. MatchBool b (MeansByWords (line_text l) (Ok (meaning l))) (Ok (meaning l) ≡ Err k.Text)) (sym (text-is (line_text l) (line_is_text l is)))
     (inl (words, are, sym entry))

@@ -3,7 +3,7 @@ use Rattle.std.proofs.Common.{◌≡◌, ℕ, List, [], ◌∷◌, ◌++◌, tak
 use Rattle.std.specs.Prelude.{◌==◌}
 use Rattle.std.specs.List.{prefix_len, AllByRecursion}
 use Rattle.ts_config.specs.Words.{is_blank, is_end, EndsWord, EndsLine, IsQuotable, IsPlain, Spells, IsBlanks, HasNoWord, BeginsWith, IsWords}
-use Rattle.ts_config.specs.Value.{Front, nothing, word, unclosed, is_plain_byte, is_quotable_byte, closed, quoted, front_of_text, front_of}
+use Rattle.ts_config.specs.Value.{Front, nothing, word, unclosed, is_plain_byte, is_quotable_byte, quote_closed, quoted, front_of_text, front_of}
 use Rattle.ts_config.proofs.Cuts.{Stops, Passes, cut_front, cut_rest}
 
 -- tests
@@ -72,7 +72,7 @@ front-plain (b ∷ bs) rest is ends =
     ∙ ap (λ x. word x (drop n ((b ∷ bs) ++ rest))) front
     ∙ ap (word (b ∷ bs)) back
 
-front-closed : (w rest : List ℕ) → EndsWord rest → closed w rest ≡ word w rest
+front-closed : (w rest : List ℕ) → EndsWord rest → quote_closed w rest ≡ word w rest
 front-closed w [] ends = refl
 front-closed w (b ∷ bs) ends = ap (λ t. cond t (word w (b ∷ bs)) unclosed) ends
 

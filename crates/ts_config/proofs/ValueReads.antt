@@ -14,7 +14,7 @@ use Rattle.ts_config.specs.Lines.{config_lines}
 use Rattle.ts_config.specs.Words.{is_blank, is_end, EndsWord, HasNoWord, BeginsWith, IsWords}
 use Rattle.ts_config.specs.Reading.{is_text, Means, MeansByWords, transform_in, transforms_in, AreRead, Breaks, IsFault, IsConfiguration, RefusesRightly}
 use Rattle.ts_config.specs.Scanning.{AreWords}
-use Rattle.ts_config.specs.Value.{Front, nothing, word, unclosed, is_plain_byte, is_quotable_byte, quoted, front_of_text, front_of, words_behind, words_below, words_in, meaning_of_words, meaning_of, Reading, Good, Bad, next_lines, read_lines, config_of, IsReading, IsRefusal}
+use Rattle.ts_config.specs.Value.{Front, nothing, word, unclosed, is_plain_byte, is_quotable_byte, quoted, front_of_text, front_of, words_behind, words_below, words_in, meaning_of_words, meaning_of, Reading, Good, Bad, next_lines, read_lines, config_of, IsReading, IsConfigRefusal}
 use Rattle.ts_config.proofs.Fronts.{never_closed, closed_within, closed_word, end-found, spelled-found, plain-found, no_words}
 use Rattle.ts_config.proofs.LinesSoFar.{each_more, transforms_in-append}
 use Rattle.ts_config.proofs.OneReading.{one_reading, read_or_fault, one_fault}
@@ -161,6 +161,6 @@ reading_is bytes reading = ((λ is. same_reading bytes (config_of bytes) reading
 pub read_value : (bytes : List ℕ) (transforms : List TransformLine) → IsConfiguration bytes transforms → config_of bytes ≡ Good transforms
 read_value bytes transforms read = same_reading bytes (config_of bytes) (Good transforms) (config_right bytes) read
 
-pub refusal_value : (bytes : List ℕ) (refusal : ConfigRefusal) → RefusesRightly (config_lines bytes) refusal → IsRefusal (config_of bytes) refusal
+pub refusal_value : (bytes : List ℕ) (refusal : ConfigRefusal) → RefusesRightly (config_lines bytes) refusal → IsConfigRefusal (config_of bytes) refusal
 refusal_value bytes (c.Fault f) rightly = same_reading bytes (config_of bytes) (Bad f.line f.kind) (config_right bytes) rightly
 refusal_value bytes c.NoMemory rightly = tt

@@ -9,15 +9,15 @@ abbrev pub mapped : ℕ → ℕ → List ℕ → List ℕ
 mapped from to x = map (λ b. if b == from then to else b) x
 
 -- the body without a byte
-abbrev pub without : ℕ → List ℕ → List ℕ
-without byte x = filter (λ b. not (b == byte)) x
+abbrev pub without_byte : ℕ → List ℕ → List ℕ
+without_byte byte x = filter (λ b. not (b == byte)) x
 
 -- what a line makes of a whole body
 abbrev pub whole_of : TransformLine → List ℕ → List ℕ
 whole_of (t.Append file text) x = x ++ text
 whole_of (t.Prepend text) x = text ++ x
 whole_of (t.Map from to) x = mapped from to x
-whole_of (t.Drop byte) x = without byte x
+whole_of (t.Drop byte) x = without_byte byte x
 whole_of _ x = x
 
 -- what the lines make of a whole body, the first line acting first

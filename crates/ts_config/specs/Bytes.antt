@@ -4,9 +4,6 @@ use Rattle.std.specs.Prelude.{ℕ}
 abbrev pub tab : ℕ
 tab = 9
 
-abbrev pub line_feed : ℕ
-line_feed = 10
-
 abbrev pub space : ℕ
 space = 32
 

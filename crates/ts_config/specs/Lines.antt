@@ -3,7 +3,7 @@
 use Rattle.std.specs.Prelude.{ℕ, ◌==◌, List, [], ◌∷◌, map}
 use Rattle.std.specs.List.{slice_split}
 use Rattle.std.specs.Str.Lines.{strip_carriage_return}
-use Rattle.ts_config.specs.Bytes.{line_feed}
+use Rattle.ts_link.specs.Texts.{line_feed}
 
 -- these parts, but for an empty one at the end
 abbrev pub less_empty_last : List (List ℕ) → List (List ℕ)

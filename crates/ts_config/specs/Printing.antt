@@ -6,7 +6,8 @@ use Rattle.ts_config.specs.declared.setup.TransformLine.{TransformLine}
 use Rattle.ts_config.specs.declared.setup.TransformLine.TheVariants as t
 use Rattle.ts_config.specs.declared.table.PluginName.{PluginName}
 use Rattle.ts_config.specs.declared.table.PluginName.TheVariants as n
-use Rattle.ts_config.specs.Bytes.{line_feed, quote_mark, space}
+use Rattle.ts_link.specs.Texts.{line_feed}
+use Rattle.ts_config.specs.Bytes.{quote_mark, space}
 use Rattle.ts_config.specs.Words.{is_end}
 use Rattle.ts_config.specs.Numerals.{byte_word}
 use Rattle.ts_config.specs.Table.{spelling}

@@ -14,7 +14,7 @@ use Rattle.ts_config.specs.Bytes.{delete, most_transforms, space, tab}
 use Rattle.ts_config.specs.Lines.{config_lines}
 use Rattle.ts_config.specs.Setup.{untexted}
 use Rattle.ts_config.specs.Words.{IsWords}
-use Rattle.ts_config.specs.Table.{entry_of}
+use Rattle.ts_config.specs.Table.{line_entry}
 
 -- a tab, or neither below a space nor the byte 127
 abbrev pub is_text_byte : ℕ → Bool
@@ -27,7 +27,7 @@ is_text line = is_utf8 line && list_all is_text_byte line
 -- what a line of text means by its words; where it has none because a quote does not fit, it breaks that rule
 abbrev pub MeansByWords : List ℕ → Result Entry ConfigKind → Type 0
 MeansByWords line meaning =
-    ((words : List (List ℕ)) × IsWords line words × (meaning ≡ entry_of words))
+    ((words : List (List ℕ)) × IsWords line words × (meaning ≡ line_entry words))
     ⊎ (((words : List (List ℕ)) → ¬ IsWords line words) × (meaning ≡ Err k.Quote))
 
 -- what a line means by itself, or the first rule that it breaks

@@ -20,10 +20,10 @@ IsQuoted text (Word word rest) = IsQuotable word.now × EndsWord rest.now × (te
 IsQuoted text Unclosed = (w rest : List ℕ) → IsQuotable w → EndsWord rest → text ≡ w ++ quote_mark ∷ rest → ⊥
 
 -- what a line begins with: no word, this word and the rest, or a quote that fits no word
-abbrev pub IsNext : List ℕ → Next → Type 0
-IsNext line Nothing = HasNoWord line
-IsNext line (Word word rest) = BeginsWith line word.now rest.now
-IsNext line Unclosed = (words : List (List ℕ)) → ¬ IsWords line words
+abbrev pub IsNextWord : List ℕ → Next → Type 0
+IsNextWord line Nothing = HasNoWord line
+IsNextWord line (Word word rest) = BeginsWith line word.now rest.now
+IsNextWord line Unclosed = (words : List (List ℕ)) → ¬ IsWords line words
 
 -- the words of a line, or none where a quote does not fit
 abbrev pub AreWords : List ℕ → Option (List (List ℕ)) → Type 0
@@ -36,9 +36,9 @@ Refuses r.NoMemory read = ⊤
 Refuses (r.Kind kind) read = read ≡ Err kind
 
 -- an answer is what reading gives, unless memory lacked
-abbrev pub Gives : {Y : Type 0} → Result Y LineRefusal → Result Y ConfigKind → Type 0
-Gives (Ok x) read = read ≡ Ok x
-Gives (Err e) read = Refuses e read
+abbrev pub AnswersAsRead : {Y : Type 0} → Result Y LineRefusal → Result Y ConfigKind → Type 0
+AnswersAsRead (Ok x) read = read ≡ Ok x
+AnswersAsRead (Err e) read = Refuses e read
 
 -- the line means what was answered, unless memory lacked
 abbrev pub MeansUnlessMemory : List ℕ → Result Entry LineRefusal → Type 0

@@ -53,6 +53,6 @@ named_entry (Some name) words = fitting (transform_of name words)
 named_entry None words = Err k.Plugin
 
 -- what the words of a line mean, or the first rule that they break; a line without a word means nothing
-abbrev pub entry_of : List (List ℕ) → Result Entry ConfigKind
-entry_of [] = Ok Empty
-entry_of (word ∷ words) = named_entry (name_of word) words
+abbrev pub line_entry : List (List ℕ) → Result Entry ConfigKind
+line_entry [] = Ok Empty
+line_entry (word ∷ words) = named_entry (name_of word) words

@@ -12,7 +12,7 @@ use Rattle.ts_config.specs.declared.setup.ConfigRefusal.TheVariants as c
 use Rattle.ts_config.specs.Bytes.{most_transforms, number_sign, quote_mark}
 use Rattle.ts_config.specs.Lines.{config_lines}
 use Rattle.ts_config.specs.Words.{is_blank, is_end}
-use Rattle.ts_config.specs.Table.{entry_of}
+use Rattle.ts_config.specs.Table.{line_entry}
 use Rattle.ts_config.specs.Reading.{is_text, transform_in, IsConfiguration, IsFault}
 
 -- what a line begins with: no word, a word and the rest, or a quote that fits no word
@@ -30,14 +30,14 @@ abbrev pub is_quotable_byte : ℕ → Bool
 is_quotable_byte b = not (b == quote_mark)
 
 -- a word between quotes, with what stands behind the second quote
-abbrev pub closed : List ℕ → List ℕ → Front
-closed w [] = word w []
-closed w (b ∷ bs) = if is_end b then word w (b ∷ bs) else unclosed
+abbrev pub quote_closed : List ℕ → List ℕ → Front
+quote_closed w [] = word w []
+quote_closed w (b ∷ bs) = if is_end b then word w (b ∷ bs) else unclosed
 
 -- a word between quotes, with the second quote, if it is there, and what stands behind it
 abbrev pub quoted : List ℕ → List ℕ → Front
 quoted w [] = unclosed
-quoted w (mark ∷ rest) = closed w rest
+quoted w (mark ∷ rest) = quote_closed w rest
 
 -- the front of a text that does not begin with a blank
 abbrev pub front_of_text : List ℕ → Front
@@ -68,7 +68,7 @@ words_in line = words_below (suc (length line)) line
 
 -- what these words mean, or that a quote does not fit
 abbrev pub meaning_of_words : Option (List (List ℕ)) → Result Entry ConfigKind
-meaning_of_words (Some words) = entry_of words
+meaning_of_words (Some words) = line_entry words
 meaning_of_words None = Err k.Quote
 
 -- what a line means by itself, or the first rule that it breaks
@@ -102,6 +102,6 @@ IsReading bytes (Good transforms) = IsConfiguration bytes transforms
 IsReading bytes (Bad n kind) = IsFault (config_lines bytes) n kind
 
 -- a refusal is what was read, and want of memory says nothing
-abbrev pub IsRefusal : Reading → ConfigRefusal → Type 0
-IsRefusal reading (c.Fault f) = reading ≡ Bad f.line f.kind
-IsRefusal reading c.NoMemory = ⊤
+abbrev pub IsConfigRefusal : Reading → ConfigRefusal → Type 0
+IsConfigRefusal reading (c.Fault f) = reading ≡ Bad f.line f.kind
+IsConfigRefusal reading c.NoMemory = ⊤

@@ -1,7 +1,7 @@
 //! The bytes of a configuration are cut into lines, without their ends.
 ghost use Rattle.std.specs.Prelude.{◌≡◌, ◌==◌, ◌<◌, ◌∷◌, length, position, IfSome};
 ghost use Rattle.std.specs.Str.Lines.{strip_carriage_return};
-ghost use Rattle.ts_config.specs.Bytes.{line_feed};
+ghost use Rattle.ts_link.specs.Texts.{line_feed};
 ghost use Rattle.ts_config.specs.Lines.{config_lines};
 
 // The line without the carriage return that it may end with.

@@ -7,7 +7,7 @@ ghost use Rattle.ts_config.specs.Bytes.{most_transforms};
 ghost use Rattle.ts_config.specs.Lines.{config_lines};
 ghost use Rattle.ts_config.specs.Reading.{is_text_byte, is_text, Means, transform_in, Breaks, RefusesRightly, IsConfiguration, ComeFromText};
 ghost use Rattle.ts_config.specs.Setup.{HasFileName};
-ghost use Rattle.ts_config.specs.Value.{Good, IsRefusal, config_of};
+ghost use Rattle.ts_config.specs.Value.{Good, IsConfigRefusal, config_of};
 ghost use Rattle.ts_config.specs.Scanning.{MeansUnlessMemory, BreaksUnlessMemory, refusal_at};
 ghost use Rattle.ts_config.specs.declared.read.LineRefusal.TheVariants as r;
 
@@ -130,7 +130,7 @@ pub fn read_config(alloc: Global, bytes: &[u8]) -> Result<Setup, ConfigRefusal>
     // So it can be printed.
     ensures printable { IfOk result (λ s. ComeFromText s.transforms.items) }
     ensures fault { IfErr result (RefusesRightly (config_lines bytes.now)) }
-    ensures refusal { IfErr result (IsRefusal (config_of bytes.now)) }
+    ensures refusal { IfErr result (IsConfigRefusal (config_of bytes.now)) }
 {
     let mut transforms = Vec::new(alloc);
     let mut rest = bytes;

@@ -1,8 +1,8 @@
 //! The table of plugins: the first word of a line, and what the words behind it mean.
 ghost use Rattle.std.specs.Prelude.{◌≡◌, ◌==◌, ℕ, List, length, map, find, Option, IfOk, if◌then◌else◌};
 ghost use Rattle.std.specs.Str.{bytes_eq};
-ghost use Rattle.ts_config.specs.Scanning.{Gives};
-ghost use Rattle.ts_config.specs.Table.{spelling, name_of, transform_of, entry_of};
+ghost use Rattle.ts_config.specs.Scanning.{AnswersAsRead};
+ghost use Rattle.ts_config.specs.Table.{spelling, name_of, transform_of, line_entry};
 ghost use Rattle.ts_config.specs.declared.table.PluginName.TheVariants as n;
 
 use crate::numerals::{byte_of, number_of};
@@ -170,7 +170,7 @@ fn transform_of(
 
 /// What the words of a line mean, or the first rule that they break.
 pub fn entry_of(alloc: Global, words: &[&[u8]]) -> Result<Entry, LineRefusal>
-    ensures { Gives result (entry_of (map (λ w. w.now) words.now)) }
+    ensures { AnswersAsRead result (line_entry (map (λ w. w.now) words.now)) }
 {
     let [first, others @ ..] = words else {
         return Ok(Entry::Empty);

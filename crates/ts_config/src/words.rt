@@ -4,7 +4,7 @@ ghost use Rattle.std.specs.List.{position_or_len, prefix_len};
 ghost use Rattle.std.specs.Option.{option_map};
 ghost use Rattle.ts_config.specs.Bytes.{quote_mark};
 ghost use Rattle.ts_config.specs.Words.{is_blank, is_end, EndsWord};
-ghost use Rattle.ts_config.specs.Scanning.{IsQuoted, IsNext, AreWords};
+ghost use Rattle.ts_config.specs.Scanning.{IsQuoted, IsNextWord, AreWords};
 
 use std::alloc::Global;
 use ts_link::NoMemory;
@@ -96,7 +96,7 @@ fn quoted_word(text: &[u8]) -> Next
 }
 
 fn next_word(line: &[u8]) -> Next
-    ensures { IsNext line.now result }
+    ensures { IsNextWord line.now result }
 {
     let (_, text) = line.split_at(count_blanks(line));
     let Some((first, behind)) = text.split_first() else {

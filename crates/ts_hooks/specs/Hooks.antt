@@ -17,18 +17,18 @@ abbrev pub with_txn : HookPlugins → Hook → ℕ → HookPlugins
 with_txn table hook plugin = record table { txn = table.txn ++ (hook, plugin) ∷ [] }
 
 -- the place of a hook among all hooks, in the order in which a transaction comes to them
-abbrev pub place_of : Hook → ℕ
-place_of h.TxnStart = 0
-place_of h.ReadRequestHdr = 1
-place_of h.OsDns = 2
-place_of h.SendRequestHdr = 3
-place_of h.ReadResponseHdr = 4
-place_of h.ResponseTransform = 5
-place_of h.SendResponseHdr = 6
-place_of h.TxnClose = 7
+abbrev pub order_of : Hook → ℕ
+order_of h.TxnStart = 0
+order_of h.ReadRequestHdr = 1
+order_of h.OsDns = 2
+order_of h.SendRequestHdr = 3
+order_of h.ReadResponseHdr = 4
+order_of h.ResponseTransform = 5
+order_of h.SendResponseHdr = 6
+order_of h.TxnClose = 7
 
 abbrev pub is_same : Hook → Hook → Bool
-is_same a b = place_of a == place_of b
+is_same a b = order_of a == order_of b
 
 -- of these plugins those of one hook, in their order
 abbrev pub plugins_at : Hook → List (Hook × ℕ) → List ℕ

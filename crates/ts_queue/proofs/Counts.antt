@@ -9,9 +9,9 @@ use mathlib.Core.Option.{some}
 use lib.ListN.{get_elem?}
 use Rattle.ts_queue.specs.declared.ticket.Ticket.{Ticket}
 use Rattle.ts_queue.specs.declared.view.View.{View}
-use Rattle.ts_queue.specs.Tickets.{is_numbered, is_same}
+use Rattle.ts_queue.specs.Tickets.{is_numbered, is_same_ticket}
 use Rattle.ts_queue.specs.Views.{spent, owned, kept_part, split_part}
-use Rattle.ts_queue.specs.Rule.{IsLawfulView, IsLawful}
+use Rattle.ts_queue.specs.Rule.{IsLawfulView, IsLawfulQueue}
 use Rattle.ts_queue.proofs.Sums.{sum_by-set_at, sum_by-zero_by, contains_at}
 
 -- 1 where the test holds, and else 0
@@ -31,7 +31,7 @@ numbered_cases p s t =
     (λ (n : t.putter ≡ p → ⊥). inr (numbered_none p s t (λ e _. n e)))
     (cases_eq t.putter p)
 
-pub same-le-numbered : (t u : Ticket) → one_if (is_same t u) ≤ one_if (is_numbered t.putter t.serial u)
+pub same-le-numbered : (t u : Ticket) → one_if (is_same_ticket t u) ≤ one_if (is_numbered t.putter t.serial u)
 same-le-numbered t u = grind (arith, nat_tests)
 
 -- where a list has no ticket of that putter and serial, none stands at any place
@@ -92,7 +92,7 @@ count-unnamed p s v ok none = count_none p s v.put (λ k d in' e _.
     omega arith)
 
 -- no pass put a ticket under this pass's number with a serial above its last
-pub none_later : (items : List Ticket) (views : List View) (id : ℕ) (v : View) → IsLawful items views → get_elem? views id ≡ some v → 0 < v.share → (s : ℕ) → v.serial < s
+pub none_later : (items : List Ticket) (views : List View) (id : ℕ) (v : View) → IsLawfulQueue items views → get_elem? views id ≡ some v → 0 < v.share → (s : ℕ) → v.serial < s
     → sum_by (λ u. count_by (is_numbered v.number s) u.put) views ≡ 0
 none_later items views id v h at alive s later =
     let F : View → ℕ = λ u. count_by (is_numbered v.number s) u.put in

@@ -11,23 +11,23 @@ use Rattle.crossbeam_queue.proofs.Lists.{set_else}
 use Rattle.ts_queue.specs.declared.TheConstants.{WHOLE_SHARE}
 use Rattle.ts_queue.specs.declared.ticket.Ticket.{Ticket}
 use Rattle.ts_queue.specs.declared.view.View.{View}
-use Rattle.ts_queue.specs.Tickets.{is_numbered, is_same, IsBefore, Exactly}
-use Rattle.ts_queue.specs.Views.{spent, owned, putting, taking, kept_part, split_part, joined}
-use Rattle.ts_queue.specs.Rule.{IsLawfulView, IsLawful}
-use Rattle.ts_queue.specs.Passes.{Takes, Looks}
+use Rattle.ts_queue.specs.Tickets.{is_numbered, is_same_ticket, IsInOrder, Exactly}
+use Rattle.ts_queue.specs.Views.{spent, owned, putting, taking, kept_part, split_part, with_joined}
+use Rattle.ts_queue.specs.Rule.{IsLawfulView, IsLawfulQueue}
+use Rattle.ts_queue.specs.Passes.{TakesTicket, Looks}
 use Rattle.ts_queue.proofs.Sums.{sum_by-set_at, le-sum_by_at, two_le-sum_by, sum_by-zero_by, sum_by-le_by, contains_at}
 use Rattle.ts_queue.proofs.Counts.{one_if, numbered_cases, same-le-numbered, all_low, all_pairs_tail, all_pairs_head, owned-spent, owned-split, named-itself, spent_lawful, none_later}
 
 -- the view that a lawful list has at a place is lawful
-view_at : (items : List Ticket) (views : List View) (id : ℕ) (v : View) → IsLawful items views → get_elem? views id ≡ some v → IsLawfulView v
+view_at : (items : List Ticket) (views : List View) (id : ℕ) (v : View) → IsLawfulQueue items views → get_elem? views id ≡ some v → IsLawfulView v
 view_at items views id v h at = All-contains IsLawfulView views v h.each_view (contains_at views id v at)
 
 -- each ticket that a pass took comes before those of a list
 abbrev IsAhead : List Ticket → View → Type 0
-IsAhead items v = All (λ t. All (IsBefore t) items) v.taken
+IsAhead items v = All (λ t. All (IsInOrder t) items) v.taken
 
 -- no ticket in the queue, and none that was taken, is under this pass's number and above its last serial
-none_left : (items : List Ticket) (views : List View) (id : ℕ) (v : View) → IsLawful items views → get_elem? views id ≡ some v → 0 < v.share → (s : ℕ) → v.serial < s
+none_left : (items : List Ticket) (views : List View) (id : ℕ) (v : View) → IsLawfulQueue items views → get_elem? views id ≡ some v → 0 < v.share → (s : ℕ) → v.serial < s
     → sum_by (λ u. count_by (is_numbered v.number s) u.taken) views + count_by (is_numbered v.number s) items ≡ 0
 none_left items views id v h at alive s later =
     sym (h.balance (λ t. one_if (is_numbered v.number s t))) ∙ none_later items views id v h at alive s later
@@ -49,7 +49,7 @@ put_view v t ok alive mine later = record {
 }
 
 -- no serial is put twice when a pass puts its next ticket
-put_once : (items : List Ticket) (views : List View) (id : ℕ) (v : View) (t : Ticket) → IsLawful items views → get_elem? views id ≡ some v → 0 < v.share → t.putter ≡ v.number → v.serial < t.serial
+put_once : (items : List Ticket) (views : List View) (id : ℕ) (v : View) (t : Ticket) → IsLawfulQueue items views → get_elem? views id ≡ some v → 0 < v.share → t.putter ≡ v.number → v.serial < t.serial
     → (p s : ℕ) → sum_by (λ u. count_by (is_numbered p s) u.put) (set views id (putting t v)) ≤ 1
 put_once items views id v t h at alive mine later p s =
     let F : View → ℕ = λ u. count_by (is_numbered p s) u.put in
@@ -66,8 +66,8 @@ put_once items views id v t h at alive mine later p s =
     (λ (no : one_if (is_numbered p s t) ≡ 0). omega arith)
     (numbered_cases p s t)
 
-put_kept : (items : List Ticket) (views : List View) (id : ℕ) (v : View) (t : Ticket) → IsLawful items views → get_elem? views id ≡ some v → 0 < v.share → t.putter ≡ v.number → v.serial < t.serial
-    → IsLawful (items ++ t ∷ []) (set views id (putting t v))
+put_kept : (items : List Ticket) (views : List View) (id : ℕ) (v : View) (t : Ticket) → IsLawfulQueue items views → get_elem? views id ≡ some v → 0 < v.share → t.putter ≡ v.number → v.serial < t.serial
+    → IsLawfulQueue (items ++ t ∷ []) (set views id (putting t v))
 put_kept items views id v t h at alive mine later =
     let w : View = putting t v in
     let low_items : All (λ u. u.putter ≡ v.number → u.serial ≤ v.serial) items = all_low v.number v.serial items (λ s lt. let none = none_left items views id v h at alive s lt in omega arith) in
@@ -77,7 +77,7 @@ put_kept items views id v t h at alive mine later =
     let le = get_or-le-sum_by (λ (u : View). count_by (is_numbered v.number s) u.taken) views k d in' in
     omega arith) in
     let x : Ticket = get_or (get_or views k d).taken j e in
-    All-push (IsBefore x) items t (h.before k d in' j e in'') (λ same. let le : x.serial ≤ v.serial = low j e in'' (sym same ∙ mine) in omega arith) in
+    All-push (IsInOrder x) items t (h.before k d in' j e in'') (λ same. let le : x.serial ≤ v.serial = low j e in'' (sym same ∙ mine) in omega arith) in
     record {
       shares = let one = sum_by-set_at (λ (u : View). u.share) views id v w at in let all = h.shares in omega arith;
       apart = λ x. let one = sum_by-set_at (owned x) views id v w at in let all = h.apart x in omega arith;
@@ -87,20 +87,20 @@ put_kept items views id v t h at alive mine later =
           let takes = sum_by-set_at (λ (u : View). sum_by f u.taken) views id v w at in
           let all = h.balance f in
           omega (arith, sum_by-cons f t v.put, sum_by_push f items t);
-      rising = all_pairs_push IsBefore items t h.rising (λ k d in' same. let le : (get_or items k d).serial ≤ v.serial = low_items k d in' (sym same ∙ mine) in omega arith);
+      rising = all_pairs_push IsInOrder items t h.rising (λ k d in' same. let le : (get_or items k d).serial ≤ v.serial = low_items k d in' (sym same ∙ mine) in omega arith);
       before = All-set (IsAhead (items ++ t ∷ [])) views id w (All-contains (IsAhead (items ++ t ∷ [])) views v ahead (contains_at views id v at)) ahead;
       each_view = All-set IsLawfulView views id w (put_view v t (view_at items views id v h at) alive mine later) h.each_view;
     }
 
-pub put_step : (n id : ℕ) (v : View) (t : Ticket) → 0 < v.share → t.putter ≡ v.number → v.serial < t.serial → Pushes IsLawful n id v t (λ w. w ≡ putting t v)
+pub put_step : (n id : ℕ) (v : View) (t : Ticket) → 0 < v.share → t.putter ≡ v.number → v.serial < t.serial → Pushes IsLawfulQueue n id v t (λ w. w ≡ putting t v)
 put_step n id v t alive mine later items views room h at = (putting t v, put_kept items views id v t h at alive mine later, refl)
 
-take_kept : (items : List Ticket) (views : List View) (id : ℕ) (v : View) (t : Ticket) → IsLawful (t ∷ items) views → get_elem? views id ≡ some v → 0 < v.share
-    → IsLawful items (set views id (taking t v))
+take_kept : (items : List Ticket) (views : List View) (id : ℕ) (v : View) (t : Ticket) → IsLawfulQueue (t ∷ items) views → get_elem? views id ≡ some v → 0 < v.share
+    → IsLawfulQueue items (set views id (taking t v))
 take_kept items views id v t h at alive =
     let w : View = taking t v in
     let ok : IsLawfulView v = view_at (t ∷ items) views id v h at in
-    let ahead : All (IsAhead items) views = λ k d in' j e in''. All-tail (IsBefore (get_or (get_or views k d).taken j e)) t items (h.before k d in' j e in'') in
+    let ahead : All (IsAhead items) views = λ k d in' j e in''. All-tail (IsInOrder (get_or (get_or views k d).taken j e)) t items (h.before k d in' j e in'') in
     record {
       shares = let one = sum_by-set_at (λ (u : View). u.share) views id v w at in let all = h.shares in omega arith;
       apart = λ x. let one = sum_by-set_at (owned x) views id v w at in let all = h.apart x in omega arith;
@@ -110,14 +110,14 @@ take_kept items views id v t h at alive =
           let takes = sum_by-set_at (λ (u : View). sum_by f u.taken) views id v w at in
           let all = h.balance f in
           omega (arith, sum_by-cons f t v.taken, sum_by-cons f t items);
-      rising = all_pairs_tail IsBefore t items h.rising;
+      rising = all_pairs_tail IsInOrder t items h.rising;
       before =
           let mine : IsAhead items v = All-contains (IsAhead items) views v ahead (contains_at views id v at) in
-          All-set (IsAhead items) views id w (All-cons (λ (x : Ticket). All (IsBefore x) items) t v.taken (all_pairs_head IsBefore t items h.rising) mine) ahead;
+          All-set (IsAhead items) views id w (All-cons (λ (x : Ticket). All (IsInOrder x) items) t v.taken (all_pairs_head IsInOrder t items h.rising) mine) ahead;
       each_view = All-set IsLawfulView views id w (record { own = ok.own; names = ok.names; last = ok.last; blank = λ none. absurd (omega arith) }) h.each_view;
     }
 
-pub take_step : (id : ℕ) (v : View) → 0 < v.share → Pops IsLawful id v (Takes v)
+pub take_step : (id : ℕ) (v : View) → 0 < v.share → Pops IsLawfulQueue id v (TakesTicket v)
 take_step id v alive t items views h at = (
   taking t v,
   take_kept items views id v t h at alive,
@@ -125,7 +125,7 @@ take_step id v alive t items views h at = (
     adds = refl;
     rises =
         let mine : IsAhead (t ∷ items) v = All-contains (IsAhead (t ∷ items)) views v h.before (contains_at views id v at) in
-        λ j e in'. All-head (IsBefore (get_or v.taken j e)) t items (mine j e in');
+        λ j e in'. All-head (IsInOrder (get_or v.taken j e)) t items (mine j e in');
     once = λ p s.
         let f : Ticket → ℕ = λ u. one_if (is_numbered p s u) in
         let all : sum_by (λ u. sum_by f u.put) views ≤ 1 = h.once p s in
@@ -141,9 +141,9 @@ nothing_left : (G : View → ℕ) (views : List View) → G spent ≡ 0 → All 
 nothing_left G views none ok shares = sum_by-zero_by IsLawfulView (λ (u : View). u.share) G (λ u fine zero_share. ap G (fine.blank zero_share) ∙ none) views ok shares
 
 -- where the queue is empty, a pass with the whole share took exactly what was put
-whole_taken : (views : List View) (id : ℕ) (v : View) → IsLawful [] views → get_elem? views id ≡ some v → v.share ≡ WHOLE_SHARE → Exactly v.put v.taken
+whole_taken : (views : List View) (id : ℕ) (v : View) → IsLawfulQueue [] views → get_elem? views id ≡ some v → v.share ≡ WHOLE_SHARE → Exactly v.put v.taken
 whole_taken views id v h at whole t =
-    let f : Ticket → ℕ = λ u. one_if (is_same t u) in
+    let f : Ticket → ℕ = λ u. one_if (is_same_ticket t u) in
     let g : Ticket → ℕ = λ u. one_if (is_numbered t.putter t.serial u) in
     let others : List View = set views id spent in
     let fine : All IsLawfulView others = All-set IsLawfulView views id spent spent_lawful h.each_view in
@@ -158,12 +158,12 @@ whole_taken views id v h at whole t =
     let less : sum_by f v.put ≤ sum_by g v.put = sum_by-le_by f g (same-le-numbered t) v.put in
     (omega arith, omega arith)
 
-pub look : (id : ℕ) (v : View) → Learns IsLawful id v (Looks v)
+pub look : (id : ℕ) (v : View) → Learns IsLawfulQueue id v (Looks v)
 look id v items views h at none =
-    let empty : IsLawful [] views = subst (λ (ts : List Ticket). IsLawful ts views) none h in
+    let empty : IsLawfulQueue [] views = subst (λ (ts : List Ticket). IsLawfulQueue ts views) none h in
     record { empty = record { views = views; there = contains_at views id v at; lawful = empty }; whole = whole_taken views id v empty at }
 
-pub split_step : (id : ℕ) (v : View) → 2 ≤ v.share → v.free_from < v.free_to → Forks IsLawful id v (kept_part v) (split_part v)
+pub split_step : (id : ℕ) (v : View) → 2 ≤ v.share → v.free_from < v.free_to → Forks IsLawfulQueue id v (kept_part v) (split_part v)
 split_step id v two free items views h at =
     let l : View = kept_part v in
     let r : View = split_part v in
@@ -192,8 +192,8 @@ split_step id v two free items views h at =
     }
 
 -- a pass to which another was joined is lawful
-joined_view : (items : List Ticket) (views : List View) (id : ℕ) (v : View) (other : ℕ) (w : View) → IsLawful items views → get_elem? views id ≡ some v → get_elem? views other ≡ some w
-    → (id ≡ other → ⊥) → 0 < v.share → IsLawfulView (joined v w)
+joined_view : (items : List Ticket) (views : List View) (id : ℕ) (v : View) (other : ℕ) (w : View) → IsLawfulQueue items views → get_elem? views id ≡ some v → get_elem? views other ≡ some w
+    → (id ≡ other → ⊥) → 0 < v.share → IsLawfulView (with_joined v w)
 joined_view items views id v other w h at was apart alive =
     let ok : IsLawfulView v = view_at items views id v h at in
     let fine : IsLawfulView w = view_at items views other w h was in
@@ -217,9 +217,9 @@ joined_view items views id v other w h at was apart alive =
       blank = λ none. absurd (omega arith);
     }
 
-pub join_step : (id : ℕ) (v : View) (other : ℕ) (w : View) → 0 < v.share → Merges IsLawful id v other w (joined v w) spent
+pub join_step : (id : ℕ) (v : View) (other : ℕ) (w : View) → 0 < v.share → Merges IsLawfulQueue id v other w (with_joined v w) spent
 join_step id v other w alive items views h at apart there =
-    let b : View = joined v w in
+    let b : View = with_joined v w in
     let vs : List View = set views id b in
     let was : get_elem? views other ≡ some w = sym (set_else views id other b apart) ∙ there in
     let sums : (G : View → ℕ) → (sum_by G vs + G v ≡ sum_by G views + G b) × (sum_by G (set vs other spent) + G w ≡ sum_by G vs + G spent) = λ G. (sum_by-set_at G views id v b at, sum_by-set_at G vs other w spent there) in
@@ -243,7 +243,7 @@ join_step id v other w alive items views h at apart there =
           let mine : IsAhead items v = All-contains (IsAhead items) views v h.before (contains_at views id v at) in
           let theirs : IsAhead items w = All-contains (IsAhead items) views w h.before (contains_at views other w was) in
           All-set (IsAhead items) vs other spent (λ k d h. absurd (omega arith))
-          (All-set (IsAhead items) views id b (All-append (λ (t : Ticket). All (IsBefore t) items) w.taken v.taken theirs mine) h.before);
+          (All-set (IsAhead items) views id b (All-append (λ (t : Ticket). All (IsInOrder t) items) w.taken v.taken theirs mine) h.before);
       each_view =
           All-set IsLawfulView vs other spent spent_lawful (All-set IsLawfulView views id b (joined_view items views id v other w h at was (λ e. apart (sym e)) alive) h.each_view);
     }

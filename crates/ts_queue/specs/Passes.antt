@@ -6,7 +6,7 @@ use Rattle.ts_queue.specs.declared.queue.EventQueue.{EventQueue}
 use Rattle.ts_queue.specs.declared.queue.QueuePass.{QueuePass}
 use Rattle.ts_queue.specs.declared.ticket.Ticket.{Ticket}
 use Rattle.ts_queue.specs.declared.view.View.{View}
-use Rattle.ts_queue.specs.Tickets.{IsBefore, IsOnce, Exactly}
+use Rattle.ts_queue.specs.Tickets.{IsInOrder, IsOnce, Exactly}
 use Rattle.ts_queue.specs.Views.{taking}
 use Rattle.ts_queue.specs.Rule.{Moment}
 
@@ -23,9 +23,9 @@ empties_of pass = pass.empties
 
 -- A pass took the ticket, which stood at the front of the queue at one moment. It never took it before, and each
 -- ticket of that putter that it took before has a lesser serial.
-pub record Takes (old : View) (t : Ticket) (new : View) : Type 0 where
+pub record TakesTicket (old : View) (t : Ticket) (new : View) : Type 0 where
   pub adds : new ≡ taking t old
-  pub rises : All (λ u. IsBefore u t) old.taken
+  pub rises : All (λ u. IsInOrder u t) old.taken
   pub once : IsOnce new.taken
   pub front : (rest : List Ticket) × Moment old (t ∷ rest)
 

@@ -4,7 +4,7 @@ use Rattle.std.specs.Prelude.{◌≡◌, ℕ, ◌+◌, ◌==◌, ◌<◌, ◌≤
 use Rattle.ts_queue.specs.declared.TheConstants.{WHOLE_SHARE}
 use Rattle.ts_queue.specs.declared.ticket.Ticket.{Ticket}
 use Rattle.ts_queue.specs.declared.view.View.{View}
-use Rattle.ts_queue.specs.Tickets.{is_numbered, IsBefore}
+use Rattle.ts_queue.specs.Tickets.{is_numbered, IsInOrder}
 use Rattle.ts_queue.specs.Views.{spent, owned}
 
 -- What holds of one pass: its number is one of its names; each ticket that it put has one of its names and a
@@ -16,7 +16,7 @@ pub record IsLawfulView (v : View) : Type 0 where
   pub last : All (λ t. t.putter ≡ v.number → t.serial ≤ v.serial) v.put
   pub blank : v.share ≡ 0 → v ≡ spent
 
-pub record IsLawful (items : List Ticket) (views : List View) : Type 0 where
+pub record IsLawfulQueue (items : List Ticket) (views : List View) : Type 0 where
   -- the shares of all passes make up the whole
   pub shares : sum_by (λ v. v.share) views ≡ WHOLE_SHARE
   -- no number is had twice
@@ -27,13 +27,13 @@ pub record IsLawful (items : List Ticket) (views : List View) : Type 0 where
   pub balance : (f : Ticket → ℕ)
       → sum_by (λ v. sum_by f v.put) views ≡ sum_by (λ v. sum_by f v.taken) views + sum_by f items
   -- of each putter the serials in the queue rise from front to back
-  pub rising : AllPairs IsBefore items
+  pub rising : AllPairs IsInOrder items
   -- each ticket that was taken comes before those that stand in the queue
-  pub before : All (λ v. All (λ t. All (IsBefore t) items) v.taken) views
+  pub before : All (λ v. All (λ t. All (IsInOrder t) items) v.taken) views
   pub each_view : All IsLawfulView views
 
 -- At one moment the queue held these tickets, and one of its passes knew this.
 pub record Moment (known : View) (items : List Ticket) : Type 0 where
   pub views : List View
   pub there : Contains views known
-  pub lawful : IsLawful items views
+  pub lawful : IsLawfulQueue items views

@@ -11,12 +11,12 @@ abbrev pub is_same_token : Token → Token → Bool
 is_same_token t u = (u.group == t.group) && (u.number == t.number)
 
 -- the two are one ticket
-abbrev pub is_same : Ticket → Ticket → Bool
-is_same t u = is_numbered t.putter t.serial u && is_same_token t.token u.token
+abbrev pub is_same_ticket : Ticket → Ticket → Bool
+is_same_ticket t u = is_numbered t.putter t.serial u && is_same_token t.token u.token
 
 -- if one pass put both tickets, the second has the greater serial
-abbrev pub IsBefore : Ticket → Ticket → Type 0
-IsBefore t u = u.putter ≡ t.putter → t.serial < u.serial
+abbrev pub IsInOrder : Ticket → Ticket → Type 0
+IsInOrder t u = u.putter ≡ t.putter → t.serial < u.serial
 
 -- no serial of a putter stands twice in the list
 abbrev pub IsOnce : List Ticket → Type 0
@@ -25,4 +25,4 @@ IsOnce tickets = (putter serial : ℕ) → count_by (is_numbered putter serial) 
 -- each ticket was taken as often as it was put, which is once or never
 abbrev pub Exactly : List Ticket → List Ticket → Type 0
 Exactly put taken =
-    (t : Ticket) → (count_by (is_same t) taken ≡ count_by (is_same t) put) × (count_by (is_same t) put ≤ 1)
+    (t : Ticket) → (count_by (is_same_ticket t) taken ≡ count_by (is_same_ticket t) put) × (count_by (is_same_ticket t) put ≤ 1)

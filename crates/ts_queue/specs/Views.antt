@@ -64,8 +64,8 @@ split_part v = record {
 
 -- a pass to which another was joined: it has the shares of both, and what either put and took; its number, its
 -- serial and its free numbers stay
-abbrev pub joined : View → View → View
-joined v w = record v {
+abbrev pub with_joined : View → View → View
+with_joined v w = record v {
   share = v.share + w.share;
   names = w.names ++ v.names;
   put = w.put ++ v.put;

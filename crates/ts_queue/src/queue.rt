@@ -60,8 +60,8 @@ impl QueuePass {
 impl EventQueue {
     ghost use Rattle.std.specs.Prelude.{IfOk, OnOk, OnErr, IfSome, IfNone, is_none};
     ghost use Rattle.ts_link.specs.Counts.{Counted};
-    ghost use Rattle.ts_queue.specs.Views.{first_view, kept_part, split_part, joined, putting_next};
-    ghost use Rattle.ts_queue.specs.Passes.{view, empties_of, IsPassOf, Takes, FindsEmpty};
+    ghost use Rattle.ts_queue.specs.Views.{first_view, kept_part, split_part, with_joined, putting_next};
+    ghost use Rattle.ts_queue.specs.Passes.{view, empties_of, IsPassOf, TakesTicket, FindsEmpty};
 
     /// An empty queue, and its first pass.
     pub fn make(alloc: Global) -> Result<(EventQueue, QueuePass), NoMemory>
@@ -106,7 +106,7 @@ impl EventQueue {
     pub fn join(&self, into: &mut QueuePass, from: QueuePass)
         requires passes { IsPassOf self.now into.old × IsPassOf self.now from }
         ensures pass { IsPassOf self.now into.new × (empties_of into.new ≡ empties_of into.old) }
-        ensures both { view into.new ≡ joined (view into.old) (view from) }
+        ensures both { view into.new ≡ with_joined (view into.old) (view from) }
     {
         let QueuePass {
             seat,
@@ -148,7 +148,7 @@ impl EventQueue {
         requires { IsPassOf self.now pass.old }
         ensures pass { IsPassOf self.now pass.new }
         ensures empties { Counted (is_none result) (empties_of pass.old) (empties_of pass.new) }
-        ensures took { IfSome result (λ t. Takes (view pass.old) t (view pass.new)) }
+        ensures took { IfSome result (λ t. TakesTicket (view pass.old) t (view pass.new)) }
         ensures same { IfNone result (view pass.new ≡ view pass.old) }
         ensures empty { IfNone result (FindsEmpty (view pass.new)) }
     {

@@ -9,9 +9,9 @@ pub struct EachTicketOnce;
 
 impl Protocol<Ticket, View> for EachTicketOnce {
     ghost use Rattle.ts_queue.specs.Views.{first_view};
-    ghost use Rattle.ts_queue.specs.Rule.{IsLawful};
+    ghost use Rattle.ts_queue.specs.Rule.{IsLawfulQueue};
 
-    ghost holds = { IsLawful };
+    ghost holds = { IsLawfulQueue };
 
     ghost first = { first_view };
 }
@@ -30,9 +30,9 @@ impl Outcome<Ticket, View> for PutStep {
 pub struct TakeStep;
 
 impl Outcome<Ticket, View> for TakeStep {
-    ghost use Rattle.ts_queue.specs.Passes.{Takes};
+    ghost use Rattle.ts_queue.specs.Passes.{TakesTicket};
 
-    ghost then = { Takes };
+    ghost then = { TakesTicket };
 }
 
 impl Lesson<Ticket, View> for TakeStep {
@@ -56,9 +56,9 @@ impl Split<View> for SplitStep {
 pub struct JoinStep;
 
 impl Join<View> for JoinStep {
-    ghost use Rattle.ts_queue.specs.Views.{joined, spent};
+    ghost use Rattle.ts_queue.specs.Views.{with_joined, spent};
 
-    ghost both = { joined };
+    ghost both = { with_joined };
 
     ghost spent = { spent };
 }

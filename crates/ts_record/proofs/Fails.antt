@@ -1,6 +1,6 @@
 -- Refusals of texts of some kind, and how one behind a front is one of the whole.
 use Rattle.std.proofs.Common.{◌≡◌, ℕ, List, [], ◌∷◌, ◌++◌, length, append_assoc, ap, sym, ◌∙◌, subst}
-use Rattle.ts_record.specs.Refusing.{Opens, Stuck, Refuses}
+use Rattle.ts_record.specs.Refusing.{Opens, Stuck, BreaksOff}
 
 -- the bytes are no text of this kind; so many of them stand behind the longest front that one begins with
 pub record Fails (Kind : List ℕ → Type 0) (bytes : List ℕ) (left : ℕ) : Type 0 where
@@ -14,7 +14,7 @@ pub record Fails (Kind : List ℕ → Type 0) (bytes : List ℕ) (left : ℕ) : 
 -- so it is where no token follows, if each text of the kind begins with a token, and each token begins one
 pub fails_at_token : (Token Kind : List ℕ → Type 0) (bytes : List ℕ) (left : ℕ)
     → ((t : List ℕ) → Token t → (y : List ℕ) × Kind (t ++ y)) → ((z : List ℕ) → Kind z → Opens Token z)
-    → Refuses Token bytes left → Fails Kind bytes left
+    → BreaksOff Token bytes left → Fails Kind bytes left
 fails_at_token Token Kind bytes left goes opens r =
     record { front = r.front; rest = r.rest; bytes_are = r.bytes_are; left_is = r.left_is; begun = begun r.begun.0 r.begun.1; stuck = stuck r.rest r.stuck }
   where

@@ -12,8 +12,8 @@ use Rattle.std.proofs.lemmas.Fmt.{decimal-digits_value}
 use Rattle.std.proofs.lemmas.Int.Digits.{digits_value_more, digits_more}
 use Rattle.std.proofs.lemmas.Str.{digit_value_digit}
 use Rattle.std.proofs.lemmas.Str.Parse.{digit_from_value}
-use Rattle.ts_record.specs.Grammar.{TxnPieces, piece_before, pieces_before, inside_before, txns_text, IsPiece, IsTxn, KeepsLimits}
-use Rattle.ts_record.specs.Keywords.{spelling}
+use Rattle.ts_record.specs.Grammar.{TxnPieces, piece_before, pieces_before, inside_before, txns_text, IsRecordedPiece, IsTxn, KeepsLimits}
+use Rattle.ts_record.specs.Keywords.{keyword_text}
 use Rattle.ts_record.specs.Refusing.{txns_before, with_digit, DigitsStop, DigitsEnd}
 use Rattle.ts_record.specs.declared.recording.TheConstants.{MOST_PIECE, MOST_TXNS}
 use Rattle.ts_record.specs.declared.keyword.Keyword.{Keyword}
@@ -25,33 +25,33 @@ each_more P [] x each is = (is, tt)
 each_more P (y ∷ ys) x each is = (each.0, each_more P ys x each.1 is)
 
 pieces_more : (side : Keyword) (behind p : List ℕ) (ps : List (List ℕ))
-    → pieces_before side behind (ps ++ p ∷ []) ≡ pieces_before side (spelling side ++ piece_before behind p) ps
+    → pieces_before side behind (ps ++ p ∷ []) ≡ pieces_before side (keyword_text side ++ piece_before behind p) ps
 pieces_more side behind p [] = refl
-pieces_more side behind p (q ∷ qs) = ap (λ t. spelling side ++ piece_before t q) (pieces_more side behind p qs)
+pieces_more side behind p (q ∷ qs) = ap (λ t. keyword_text side ++ piece_before t q) (pieces_more side behind p qs)
 
 -- one more piece of a side
-pub more_pieces : (side : Keyword) (bytes rest inside behind p : List ℕ) (ps new : List (List ℕ)) → AllByRecursion IsPiece ps → bytes ≡ pieces_before side rest ps
-    → rest ≡ spelling side ++ inside → inside ≡ piece_before behind p → IsPiece p → new ≡ ps ++ p ∷ []
-    → AllByRecursion IsPiece new × (bytes ≡ pieces_before side behind new)
+pub more_pieces : (side : Keyword) (bytes rest inside behind p : List ℕ) (ps new : List (List ℕ)) → AllByRecursion IsRecordedPiece ps → bytes ≡ pieces_before side rest ps
+    → rest ≡ keyword_text side ++ inside → inside ≡ piece_before behind p → IsRecordedPiece p → new ≡ ps ++ p ∷ []
+    → AllByRecursion IsRecordedPiece new × (bytes ≡ pieces_before side behind new)
 more_pieces side bytes rest inside behind p ps new each are opens text is push = (
-  subst (AllByRecursion IsPiece) (sym push) (each_more IsPiece ps p each is),
-  are ∙ ap (λ t. pieces_before side t ps) (opens ∙ ap (λ t. spelling side ++ t) text) ∙ sym (pieces_more side behind p ps) ∙ ap (pieces_before side behind) (sym push),
+  subst (AllByRecursion IsRecordedPiece) (sym push) (each_more IsRecordedPiece ps p each is),
+  are ∙ ap (λ t. pieces_before side t ps) (opens ∙ ap (λ t. keyword_text side ++ t) text) ∙ sym (pieces_more side behind p ps) ∙ ap (pieces_before side behind) (sym push),
 )
 
-txns_more : (behind : List ℕ) (t : TxnPieces) (ts : List TxnPieces) → txns_before behind (ts ++ t ∷ []) ≡ txns_before (spelling k.Txn ++ inside_before behind t.0 t.1) ts
+txns_more : (behind : List ℕ) (t : TxnPieces) (ts : List TxnPieces) → txns_before behind (ts ++ t ∷ []) ≡ txns_before (keyword_text k.Txn ++ inside_before behind t.0 t.1) ts
 txns_more behind t [] = refl
-txns_more behind t (u ∷ us) = ap (λ x. spelling k.Txn ++ inside_before x u.0 u.1) (txns_more behind t us)
+txns_more behind t (u ∷ us) = ap (λ x. keyword_text k.Txn ++ inside_before x u.0 u.1) (txns_more behind t us)
 
 -- one more transaction
 pub more_txns : (bytes rest inside behind : List ℕ) (t : TxnPieces) (ts new : List TxnPieces) → KeepsLimits ts → bytes ≡ txns_before rest ts → length ts < MOST_TXNS
-    → rest ≡ spelling k.Txn ++ inside → inside ≡ inside_before behind t.0 t.1 → IsTxn t → new ≡ ts ++ t ∷ []
+    → rest ≡ keyword_text k.Txn ++ inside → inside ≡ inside_before behind t.0 t.1 → IsTxn t → new ≡ ts ++ t ∷ []
     → KeepsLimits new × (bytes ≡ txns_before behind new)
 more_txns bytes rest inside behind t ts new limits are few opens text is push = (
   record {
     few = omega (arith, ap length push, length-append ts (t ∷ []));
     each = subst (AllByRecursion IsTxn) (sym push) (each_more IsTxn ts t limits.each is);
   },
-  are ∙ ap (λ x. txns_before x ts) (opens ∙ ap (λ x. spelling k.Txn ++ x) text) ∙ sym (txns_more behind t ts) ∙ ap (txns_before behind) (sym push),
+  are ∙ ap (λ x. txns_before x ts) (opens ∙ ap (λ x. keyword_text k.Txn ++ x) text) ∙ sym (txns_more behind t ts) ∙ ap (txns_before behind) (sym push),
 )
 
 -- what stands behind pieces is no longer than they and it
@@ -61,27 +61,27 @@ pieces_longer side behind (p ∷ ps) =
     omega (
       arith,
       pieces_longer side behind ps,
-      length-append (spelling side) (piece_before (pieces_before side behind ps) p),
+      length-append (keyword_text side) (piece_before (pieces_before side behind ps) p),
       length-append (decimal (length p)) (10 ∷ (p ++ 10 ∷ pieces_before side behind ps)),
       length-append p (10 ∷ pieces_before side behind ps),
     )
 
 -- what stands behind a transaction is shorter than it and that
-pub shorter_behind : (rest inside behind : List ℕ) (t : TxnPieces) → rest ≡ spelling k.Txn ++ inside → inside ≡ inside_before behind t.0 t.1 → length behind < length rest
+pub shorter_behind : (rest inside behind : List ℕ) (t : TxnPieces) → rest ≡ keyword_text k.Txn ++ inside → inside ≡ inside_before behind t.0 t.1 → length behind < length rest
 shorter_behind rest inside behind t opens text =
     omega (
       arith,
       ap length opens,
       ap length text,
-      length-append (spelling k.Close) behind,
-      pieces_longer k.Client (pieces_before k.Origin (spelling k.Close ++ behind) t.1) t.0,
-      pieces_longer k.Origin (spelling k.Close ++ behind) t.1,
+      length-append (keyword_text k.Close) behind,
+      pieces_longer k.Client (pieces_before k.Origin (keyword_text k.Close ++ behind) t.1) t.0,
+      pieces_longer k.Origin (keyword_text k.Close ++ behind) t.1,
     )
 
 -- the last line behind transactions
-pub txns_whole : (rest : List ℕ) (ts : List TxnPieces) → rest ≡ spelling k.End → txns_before rest ts ≡ txns_text ts
+pub txns_whole : (rest : List ℕ) (ts : List TxnPieces) → rest ≡ keyword_text k.End → txns_before rest ts ≡ txns_text ts
 txns_whole rest [] is = is
-txns_whole rest (t ∷ ts) is = ap (λ x. spelling k.Txn ++ inside_before x t.0 t.1) (txns_whole rest ts is)
+txns_whole rest (t ∷ ts) is = ap (λ x. keyword_text k.Txn ++ inside_before x t.0 t.1) (txns_whole rest ts is)
 
 -- no digit of a length follows where the next byte is no digit, or makes the number too small or too large
 pub stop_at : (bytes : List ℕ) (value count : ℕ) → count < length bytes

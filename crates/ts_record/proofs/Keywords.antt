@@ -4,8 +4,8 @@ use Rattle.std.specs.Prelude.{◌==◌, nat_lt}
 use Rattle.std.proofs.Math.Nat.{le-max_left, le-max_right, max-eq_left, max-eq_right}
 use Rattle.std.proofs.lemmas.Bool.Decides.{Decides-eqb, nat_tests}
 use Rattle.std.proofs.lemmas.List.{append-nil}
-use Rattle.ts_record.specs.Keywords.{spelling, common, most_common, LacksAll}
-use Rattle.ts_record.specs.Refusing.{Opens, Stuck, Refuses, OneOf}
+use Rattle.ts_record.specs.Keywords.{keyword_text, common, most_common, LacksAll}
+use Rattle.ts_record.specs.Refusing.{Opens, Stuck, BreaksOff, OneOf}
 use Rattle.ts_record.specs.declared.keyword.Keyword.{Keyword}
 
 -- the common front of two texts, and what stands behind it in each
@@ -57,22 +57,22 @@ is_not_below m n is = grind (arith, nat_tests)
 pub most_of : (x token : List ℕ) (ks : List Keyword) → OneOf ks token → common x token ≤ most_common x ks
 most_of x token [] is = absurd is
 most_of x token (k ∷ ks) (inl is) =
-    let same : common x token ≡ common x (spelling k) = ap (common x) is in
-    omega (arith, same, le-max_left (common x (spelling k)) (most_common x ks))
-most_of x token (k ∷ ks) (inr is) = omega (arith, most_of x token ks is, le-max_right (common x (spelling k)) (most_common x ks))
+    let same : common x token ≡ common x (keyword_text k) = ap (common x) is in
+    omega (arith, same, le-max_left (common x (keyword_text k)) (most_common x ks))
+most_of x token (k ∷ ks) (inr is) = omega (arith, most_of x token ks is, le-max_right (common x (keyword_text k)) (most_common x ks))
 
 pub best : (x : List ℕ) (ks : List Keyword) → 0 < length ks → (token : List ℕ) × OneOf ks token × (common x token ≡ most_common x ks)
 best x [] some = absurd (omega arith)
-best x (k ∷ []) some = (spelling k, inl refl, sym (max-eq_left (omega arith)))
-best x (k ∷ l ∷ ks) some = either (best x (l ∷ ks) (omega arith)) (nat_lt (common x (spelling k)) (most_common x (l ∷ ks))) refl
+best x (k ∷ []) some = (keyword_text k, inl refl, sym (max-eq_left (omega arith)))
+best x (k ∷ l ∷ ks) some = either (best x (l ∷ ks) (omega arith)) (nat_lt (common x (keyword_text k)) (most_common x (l ∷ ks))) refl
   where
     either : ((token : List ℕ) × OneOf (l ∷ ks) token × (common x token ≡ most_common x (l ∷ ks))) → (b : Bool)
-        → nat_lt (common x (spelling k)) (most_common x (l ∷ ks)) ≡ b
+        → nat_lt (common x (keyword_text k)) (most_common x (l ∷ ks)) ≡ b
         → (token : List ℕ) × OneOf (k ∷ l ∷ ks) token × (common x token ≡ most_common x (k ∷ l ∷ ks))
     either (token, is, count) true worse =
-        let below : common x (spelling k) ≤ most_common x (l ∷ ks) = omega (arith, is_below (common x (spelling k)) (most_common x (l ∷ ks)) worse) in (token, inr is, count ∙ sym (max-eq_right below))
+        let below : common x (keyword_text k) ≤ most_common x (l ∷ ks) = omega (arith, is_below (common x (keyword_text k)) (most_common x (l ∷ ks)) worse) in (token, inr is, count ∙ sym (max-eq_right below))
     either (token, is, count) false better =
-        let below : most_common x (l ∷ ks) ≤ common x (spelling k) = is_not_below (common x (spelling k)) (most_common x (l ∷ ks)) better in (spelling k, inl refl, sym (max-eq_left below))
+        let below : most_common x (l ∷ ks) ≤ common x (keyword_text k) = is_not_below (common x (keyword_text k)) (most_common x (l ∷ ks)) better in (keyword_text k, inl refl, sym (max-eq_left below))
 
 pub lacks_token : (x token z : List ℕ) (ks : List Keyword) → LacksAll x ks → OneOf ks token → x ≡ token ++ z → ⊥
 lacks_token x token z [] lacks is same = is
@@ -80,7 +80,7 @@ lacks_token x token z (k ∷ ks) lacks (inl is) same = lacks.0 z (same ∙ ap (�
 lacks_token x token z (k ∷ ks) lacks (inr is) same = lacks_token x token z ks lacks.1 is same
 
 -- where none of some keywords stands at the front, the bytes are refused behind the best of them
-pub refuses_keywords : (x : List ℕ) (ks : List Keyword) (left : ℕ) → 0 < length ks → LacksAll x ks → left + most_common x ks ≡ length x → Refuses (OneOf ks) x left
+pub refuses_keywords : (x : List ℕ) (ks : List Keyword) (left : ℕ) → 0 < length ks → LacksAll x ks → left + most_common x ks ≡ length x → BreaksOff (OneOf ks) x left
 refuses_keywords x ks left some lacks is =
     let b = best x ks some in let p = parts x b.0 in record {
       front = p.front;

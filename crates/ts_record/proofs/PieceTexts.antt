@@ -5,8 +5,8 @@ use Rattle.std.specs.Str.Parse.{AllDigits}
 use Rattle.std.proofs.Math.ListN.{replicate}
 use Rattle.std.proofs.lemmas.List.{length-replicate, append-nil, take-append-drop}
 use Rattle.std.proofs.lemmas.Fmt.{digits_decimal, decimal_nonempty}
-use Rattle.ts_record.specs.Grammar.{piece_before, IsPiece}
-use Rattle.ts_record.specs.Refusing.{Opens, Stuck, Refuses, IsPieceText, LacksFeed, DigitsStop, DigitsEnd}
+use Rattle.ts_record.specs.Grammar.{piece_before, IsRecordedPiece}
+use Rattle.ts_record.specs.Refusing.{Opens, Stuck, BreaksOff, IsPieceText, LacksFeed, DigitsStop, DigitsEnd}
 use Rattle.ts_record.specs.declared.recording.TheConstants.{MOST_PIECE}
 use Rattle.ts_record.proofs.Numbers.{own, same_number, longer_digits, digit_among, goes_on, are_digits}
 use Rattle.ts_record.proofs.Places.{piece_behind, some_piece}
@@ -16,7 +16,7 @@ use Rattle.ts_record.proofs.Same.{same_front}
 record Begins (bytes : List ℕ) : Type 0 where
   piece : List ℕ
   behind : List ℕ
-  is : IsPiece piece
+  is : IsRecordedPiece piece
   small : length piece < 2 ^ 64
   text : bytes ≡ decimal (length piece) ++ 10 ∷ (piece ++ 10 ∷ behind)
 
@@ -34,7 +34,7 @@ abbrev filled : ℕ → List ℕ
 filled n = replicate n 97
 
 -- no number, or no line feed behind it
-pub number_refused : (bytes rest : List ℕ) (value : ℕ) → DigitsEnd bytes value rest → (value ≡ 0) ⊎ LacksFeed rest → Refuses IsPieceText bytes (length rest)
+pub number_refused : (bytes rest : List ℕ) (value : ℕ) → DigitsEnd bytes value rest → (value ≡ 0) ⊎ LacksFeed rest → BreaksOff IsPieceText bytes (length rest)
 number_refused bytes rest value d none = record {
   front = d.digits;
   rest = rest;
@@ -96,7 +96,7 @@ pub halves : (xs front back : List ℕ) (n : ℕ) → front ≡ take n xs → ba
 halves xs front back n first second = sym (take-append-drop n xs) ∙ ap (λ t. t ++ drop n xs) (sym first) ∙ ap (λ t. front ++ t) (sym second)
 
 -- the bytes end within the piece
-pub short_refused : (bytes inside : List ℕ) (value : ℕ) → Numbered bytes value inside → length inside < value → Refuses IsPieceText bytes 0
+pub short_refused : (bytes inside : List ℕ) (value : ℕ) → Numbered bytes value inside → length inside < value → BreaksOff IsPieceText bytes 0
 short_refused bytes inside value n short = record {
   front = bytes;
   rest = [];
@@ -122,7 +122,7 @@ short_refused bytes inside value n short = record {
 
 -- no line feed stands behind the piece
 pub feed_refused : (bytes inside piece rest : List ℕ) (value : ℕ) → Numbered bytes value inside → inside ≡ piece ++ rest → length piece ≡ value → LacksFeed rest
-    → Refuses IsPieceText bytes (length rest)
+    → BreaksOff IsPieceText bytes (length rest)
 feed_refused bytes inside piece rest value n split long lacks = record {
   front = front;
   rest = rest;

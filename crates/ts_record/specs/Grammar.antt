@@ -2,13 +2,11 @@
 use Rattle.std.specs.Prelude.{◌≡◌, ℕ, ◌≤◌, List, [], ◌∷◌, ◌++◌, length}
 use Rattle.std.specs.List.{AllByRecursion}
 use Rattle.std.specs.Fmt.{decimal}
-use Rattle.ts_record.specs.Keywords.{spelling}
+use Rattle.ts_link.specs.Texts.{line_feed}
+use Rattle.ts_record.specs.Keywords.{keyword_text}
 use Rattle.ts_record.specs.declared.recording.TheConstants.{MOST_PIECE, MOST_TXNS}
 use Rattle.ts_record.specs.declared.keyword.Keyword.{Keyword}
 use Rattle.ts_record.specs.declared.keyword.Keyword.TheVariants as k
-
-abbrev pub line_feed : ℕ
-line_feed = 10
 
 -- a transaction: the pieces of the client and those of the origin
 abbrev pub TxnPieces : Type 0
@@ -21,27 +19,27 @@ piece_before behind piece = decimal (length piece) ++ line_feed ∷ (piece ++ li
 -- the pieces of one side, each behind its keyword, and what follows
 abbrev pub pieces_before : Keyword → List ℕ → List (List ℕ) → List ℕ
 pieces_before side behind [] = behind
-pieces_before side behind (p ∷ ps) = spelling side ++ piece_before (pieces_before side behind ps) p
+pieces_before side behind (p ∷ ps) = keyword_text side ++ piece_before (pieces_before side behind ps) p
 
 -- the pieces of a client and those of an origin, the last line of their transaction, and what follows
 abbrev pub inside_before : List ℕ → List (List ℕ) → List (List ℕ) → List ℕ
 inside_before behind client origin =
-    pieces_before k.Client (pieces_before k.Origin (spelling k.Close ++ behind) origin) client
+    pieces_before k.Client (pieces_before k.Origin (keyword_text k.Close ++ behind) origin) client
 
 -- transactions, and the last line of all
 abbrev pub txns_text : List TxnPieces → List ℕ
-txns_text [] = spelling k.End
-txns_text (t ∷ ts) = spelling k.Txn ++ inside_before (txns_text ts) t.0 t.1
+txns_text [] = keyword_text k.End
+txns_text (t ∷ ts) = keyword_text k.Txn ++ inside_before (txns_text ts) t.0 t.1
 
 -- the text of a recording
 abbrev pub text_of : List TxnPieces → List ℕ
-text_of txns = spelling k.Header ++ txns_text txns
+text_of txns = keyword_text k.Header ++ txns_text txns
 
-abbrev pub IsPiece : List ℕ → Type 0
-IsPiece piece = (1 ≤ length piece) × (length piece ≤ MOST_PIECE)
+abbrev pub IsRecordedPiece : List ℕ → Type 0
+IsRecordedPiece piece = (1 ≤ length piece) × (length piece ≤ MOST_PIECE)
 
 abbrev pub IsTxn : TxnPieces → Type 0
-IsTxn t = AllByRecursion IsPiece t.0 × AllByRecursion IsPiece t.1
+IsTxn t = AllByRecursion IsRecordedPiece t.0 × AllByRecursion IsRecordedPiece t.1
 
 -- the limits of a recording
 pub record KeepsLimits (txns : List TxnPieces) : Type 0 where

@@ -5,13 +5,13 @@ use Rattle.ts_record.specs.declared.keyword.Keyword.{Keyword}
 use Rattle.ts_record.specs.declared.keyword.Keyword.TheVariants as k
 
 -- as bytes, with the space or the line feed behind them
-abbrev pub spelling : Keyword → List ℕ
-spelling k.Header = codes "tsx-recording 1\n"
-spelling k.Txn = codes "txn\n"
-spelling k.Client = codes "client "
-spelling k.Origin = codes "origin "
-spelling k.Close = codes "close\n"
-spelling k.End = codes "end\n"
+abbrev pub keyword_text : Keyword → List ℕ
+keyword_text k.Header = codes "tsx-recording 1\n"
+keyword_text k.Txn = codes "txn\n"
+keyword_text k.Client = codes "client "
+keyword_text k.Origin = codes "origin "
+keyword_text k.Close = codes "close\n"
+keyword_text k.End = codes "end\n"
 
 -- how many bytes two texts have in common at their fronts
 abbrev pub common : List ℕ → List ℕ → ℕ
@@ -22,16 +22,16 @@ common (x ∷ xs) (y ∷ ys) = if x == y then 1 + common xs ys else 0
 -- the most bytes that the front has in common with one of these keywords
 abbrev pub most_common : List ℕ → List Keyword → ℕ
 most_common bytes [] = 0
-most_common bytes (k ∷ ks) = max (common bytes (spelling k)) (most_common bytes ks)
+most_common bytes (k ∷ ks) = max (common bytes (keyword_text k)) (most_common bytes ks)
 
 -- the keyword does not stand at the front
-abbrev pub Lacks : List ℕ → Keyword → Type 0
-Lacks bytes keyword = (behind : List ℕ) → bytes ≡ spelling keyword ++ behind → ⊥
+abbrev pub LacksKeyword : List ℕ → Keyword → Type 0
+LacksKeyword bytes keyword = (behind : List ℕ) → bytes ≡ keyword_text keyword ++ behind → ⊥
 
 -- none of them does
 abbrev pub LacksAll : List ℕ → List Keyword → Type 0
 LacksAll bytes [] = ⊤
-LacksAll bytes (k ∷ ks) = Lacks bytes k × LacksAll bytes ks
+LacksAll bytes (k ∷ ks) = LacksKeyword bytes k × LacksAll bytes ks
 
 -- the keywords that can come behind the pieces of a client and these of an origin
 abbrev pub keywords_inside : List (List ℕ) → List Keyword

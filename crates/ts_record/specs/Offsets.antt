@@ -16,6 +16,6 @@ pub record IsRefusedAt (bytes : List ℕ) (offset : ℕ) : Type 0 where
   pub refused : (txns : List TxnPieces) → IsRecording bytes txns → ⊥
 
 -- want of memory says nothing of the bytes
-abbrev pub RefusesRightly : List ℕ → RecordingRefusal → Type 0
-RefusesRightly bytes (r.Fault offset) = IsRefusedAt bytes offset
-RefusesRightly bytes r.NoMemory = ⊤
+abbrev pub RefusesAt : List ℕ → RecordingRefusal → Type 0
+RefusesAt bytes (r.Fault offset) = IsRefusedAt bytes offset
+RefusesAt bytes r.NoMemory = ⊤

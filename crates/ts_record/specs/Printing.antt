@@ -1,7 +1,7 @@
 -- How the text of a recording grows while it is printed.
 use Rattle.std.specs.Prelude.{◌≡◌, ℕ, List, ◌++◌}
 use Rattle.ts_record.specs.Grammar.{TxnPieces, piece_before, pieces_before, inside_before}
-use Rattle.ts_record.specs.Keywords.{spelling}
+use Rattle.ts_record.specs.Keywords.{keyword_text}
 use Rattle.ts_record.specs.declared.keyword.Keyword.{Keyword}
 use Rattle.ts_record.specs.declared.keyword.Keyword.TheVariants as k
 
@@ -11,7 +11,7 @@ Prints text_before old new = (behind : List ℕ) → new ++ behind ≡ old ++ te
 
 -- by a piece of a side
 abbrev pub PrintsPiece : Keyword → List ℕ → List ℕ → List ℕ → Type 0
-PrintsPiece side piece = Prints (λ behind. spelling side ++ piece_before behind piece)
+PrintsPiece side piece = Prints (λ behind. keyword_text side ++ piece_before behind piece)
 
 -- by the pieces of a side
 abbrev pub PrintsPieces : Keyword → List (List ℕ) → List ℕ → List ℕ → Type 0
@@ -19,4 +19,4 @@ PrintsPieces side pieces = Prints (λ behind. pieces_before side behind pieces)
 
 -- by a transaction
 abbrev pub PrintsTxn : TxnPieces → List ℕ → List ℕ → Type 0
-PrintsTxn txn = Prints (λ behind. spelling k.Txn ++ inside_before behind txn.0 txn.1)
+PrintsTxn txn = Prints (λ behind. keyword_text k.Txn ++ inside_before behind txn.0 txn.1)

@@ -3,9 +3,10 @@ use Rattle.std.specs.Prelude.{◌≡◌, ℕ, ◌+◌, ◌*◌, ◌-◌, ◌<◌
 use Rattle.std.specs.List.{AllByRecursion}
 use Rattle.std.specs.Char.{digit_value}
 use Rattle.std.specs.Fmt.{decimal}
-use Rattle.ts_record.specs.Grammar.{TxnPieces, line_feed, piece_before, pieces_before, inside_before, IsPiece, IsTxn, KeepsLimits}
-use Rattle.ts_record.specs.Keywords.{spelling, keywords_inside, keywords_behind}
-use Rattle.ts_record.specs.declared.recording.TheConstants.{MOST_PIECE, MOST_TXNS}
+use Rattle.ts_link.specs.Texts.{line_feed}
+use Rattle.ts_record.specs.Grammar.{TxnPieces, piece_before, pieces_before, inside_before, IsRecordedPiece, IsTxn, KeepsLimits}
+use Rattle.ts_record.specs.Keywords.{keyword_text, keywords_inside, keywords_behind}
+use Rattle.ts_record.specs.declared.recording.TheConstants.{BASE, MOST_PIECE, MOST_TXNS}
 use Rattle.ts_record.specs.declared.recording.RecordingRefusal.{RecordingRefusal}
 use Rattle.ts_record.specs.declared.recording.RecordingRefusal.TheVariants as r
 use Rattle.ts_record.specs.declared.keyword.Keyword.{Keyword}
@@ -24,7 +25,7 @@ Stuck Kind front (b ∷ bs) = (more : List ℕ) → Kind (front ++ b ∷ more) �
 
 -- the bytes do not begin with one of these tokens; so many of them stand behind the longest front that one begins
 -- with
-pub record Refuses (Token : List ℕ → Type 0) (bytes : List ℕ) (left : ℕ) : Type 0 where
+pub record BreaksOff (Token : List ℕ → Type 0) (bytes : List ℕ) (left : ℕ) : Type 0 where
   pub front : List ℕ
   pub rest : List ℕ
   pub bytes_are : bytes ≡ front ++ rest
@@ -35,23 +36,23 @@ pub record Refuses (Token : List ℕ → Type 0) (bytes : List ℕ) (left : ℕ)
 -- one of these keywords
 abbrev pub OneOf : List Keyword → List ℕ → Type 0
 OneOf [] token = ⊥
-OneOf (k ∷ ks) token = (token ≡ spelling k) ⊎ OneOf ks token
+OneOf (k ∷ ks) token = (token ≡ keyword_text k) ⊎ OneOf ks token
 
 -- a piece behind its keyword
 abbrev pub IsPieceText : List ℕ → Type 0
-IsPieceText token = (piece : List ℕ) × IsPiece piece × (token ≡ piece_before [] piece)
+IsPieceText token = (piece : List ℕ) × IsRecordedPiece piece × (token ≡ piece_before [] piece)
 
 abbrev pub LacksFeed : List ℕ → Type 0
 LacksFeed bytes = (behind : List ℕ) → bytes ≡ line_feed ∷ behind → ⊥
 
 -- a number with one more digit
 abbrev pub with_digit : ℕ → ℕ → ℕ
-with_digit value digit = 10 * value + digit_value digit
+with_digit value digit = BASE * value + digit_value digit
 
 -- no digit follows that keeps the number above 0 and within the length of a piece
 abbrev pub DigitsStop : ℕ → List ℕ → Type 0
 DigitsStop value [] = ⊤
-DigitsStop value (b ∷ bs) = digit_value b < 10 → (with_digit value b ≡ 0) ⊎ (MOST_PIECE < with_digit value b)
+DigitsStop value (b ∷ bs) = digit_value b < BASE → (with_digit value b ≡ 0) ⊎ (MOST_PIECE < with_digit value b)
 
 -- the digits at the front that the length of a piece can begin with, and the number that they stand for
 pub record DigitsEnd (bytes : List ℕ) (value : ℕ) (rest : List ℕ) : Type 0 where
@@ -66,9 +67,9 @@ pub record DigitsEnd (bytes : List ℕ) (value : ℕ) (rest : List ℕ) : Type 0
 pub record PiecesRefused (side : Keyword) (bytes : List ℕ) (left : ℕ) : Type 0 where
   pub pieces : List (List ℕ)
   pub rest : List ℕ
-  pub each : AllByRecursion IsPiece pieces
-  pub bytes_are : bytes ≡ pieces_before side (spelling side ++ rest) pieces
-  pub refused : Refuses IsPieceText rest left
+  pub each : AllByRecursion IsRecordedPiece pieces
+  pub bytes_are : bytes ≡ pieces_before side (keyword_text side ++ rest) pieces
+  pub refused : BreaksOff IsPieceText rest left
 
 abbrev pub StopsPieces : Keyword → List ℕ → PartRefusal → Type 0
 StopsPieces side bytes (p.Left left) = PiecesRefused side bytes left
@@ -78,7 +79,7 @@ StopsPieces side bytes p.NoMemory = ⊤
 pub record OriginRefused (bytes : List ℕ) (left : ℕ) : Type 0 where
   pub client : List (List ℕ)
   pub rest : List ℕ
-  pub each : AllByRecursion IsPiece client
+  pub each : AllByRecursion IsRecordedPiece client
   pub bytes_are : bytes ≡ pieces_before k.Client rest client
   pub refused : PiecesRefused k.Origin rest left
 
@@ -89,7 +90,7 @@ pub record CloseRefused (bytes : List ℕ) (left : ℕ) : Type 0 where
   pub rest : List ℕ
   pub each : IsTxn (client, origin)
   pub bytes_are : bytes ≡ pieces_before k.Client (pieces_before k.Origin rest origin) client
-  pub refused : Refuses (OneOf (keywords_inside origin)) rest left
+  pub refused : BreaksOff (OneOf (keywords_inside origin)) rest left
 
 -- a transaction is refused behind its first line
 abbrev pub InsideRefused : List ℕ → ℕ → Type 0
@@ -103,8 +104,8 @@ StopsInside bytes p.NoMemory = ⊤
 -- behind so many transactions no keyword follows, or bytes stand behind the last line
 abbrev pub EndRefused : ℕ → List ℕ → ℕ → Type 0
 EndRefused count bytes left =
-    Refuses (OneOf (keywords_behind count)) bytes left
-    ⊎ ((behind : List ℕ) × (bytes ≡ spelling k.End ++ behind) × (0 < length behind) × (left ≡ length behind))
+    BreaksOff (OneOf (keywords_behind count)) bytes left
+    ⊎ ((behind : List ℕ) × (bytes ≡ keyword_text k.End ++ behind) × (0 < length behind) × (left ≡ length behind))
 
 abbrev pub StopsEnd : ℕ → List ℕ → PartRefusal → Type 0
 StopsEnd count bytes (p.Left left) = EndRefused count bytes left
@@ -113,13 +114,13 @@ StopsEnd count bytes p.NoMemory = ⊤
 -- transactions, and what follows
 abbrev pub txns_before : List ℕ → List TxnPieces → List ℕ
 txns_before behind [] = behind
-txns_before behind (t ∷ ts) = spelling k.Txn ++ inside_before (txns_before behind ts) t.0 t.1
+txns_before behind (t ∷ ts) = keyword_text k.Txn ++ inside_before (txns_before behind ts) t.0 t.1
 
 -- behind so many transactions one more is refused behind its first line
 pub record TxnRefused (count : ℕ) (bytes : List ℕ) (left : ℕ) : Type 0 where
   pub inside : List ℕ
   pub room : count < MOST_TXNS
-  pub bytes_are : bytes ≡ spelling k.Txn ++ inside
+  pub bytes_are : bytes ≡ keyword_text k.Txn ++ inside
   pub refused : InsideRefused inside left
 
 -- behind these transactions one more is refused, or the end is

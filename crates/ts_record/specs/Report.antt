@@ -3,7 +3,7 @@ use Rattle.std.specs.Prelude.{ℕ, List, [], ◌∷◌, ◌++◌, codes, length,
 use Rattle.std.specs.Fmt.{decimal}
 use Rattle.ts_hooks.specs.declared.txn_end.TxnEnd.{TxnEnd}
 use Rattle.ts_hooks.specs.declared.txn_end.TxnEnd.TheVariants as e
-use Rattle.ts_record.specs.Grammar.{line_feed}
+use Rattle.ts_link.specs.Texts.{line_feed}
 use Rattle.ts_record.specs.declared.report.Block.{Block}
 
 -- the word of an end in a report; the other ends have none, since the links of a recording do not fail

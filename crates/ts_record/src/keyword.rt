@@ -1,7 +1,7 @@
 //! The words that the lines of a recording begin with: which stands at the front of bytes, and how much of one.
 ghost use Rattle.std.specs.Prelude.{◌≡◌, ℕ, ◌<◌, ◌≤◌, ◌++◌, length, IfSome, IfNone};
-ghost use Rattle.ts_record.specs.Keywords.{spelling, common, most_common, Lacks, LacksAll};
-ghost use Rattle.ts_record.specs.Refusing.{Refuses, OneOf};
+ghost use Rattle.ts_record.specs.Keywords.{keyword_text, common, most_common, LacksKeyword, LacksAll};
+ghost use Rattle.ts_record.specs.Refusing.{BreaksOff, OneOf};
 
 /// A word that a line begins with, together with the space or the line feed behind it.
 #[derive(Clone, Copy, Debug, PartialEq, Eq)]
@@ -23,7 +23,7 @@ pub enum Keyword {
 impl Keyword {
     /// Its bytes.
     pub fn spelling(self) -> &'static [u8]
-        ensures { result.now ≡ spelling self }
+        ensures { result.now ≡ keyword_text self }
     {
         match self {
             Keyword::Header => b"tsx-recording 1\n",
@@ -38,8 +38,8 @@ impl Keyword {
 
 /// The bytes behind the keyword, if it stands at the front.
 pub fn after(bytes: &[u8], keyword: Keyword) -> Option<&[u8]>
-    ensures some { IfSome result (λ behind. bytes.now ≡ spelling keyword ++ behind.now) }
-    ensures none { IfNone result (Lacks bytes.now keyword) }
+    ensures some { IfSome result (λ behind. bytes.now ≡ keyword_text keyword ++ behind.now) }
+    ensures none { IfNone result (LacksKeyword bytes.now keyword) }
 {
     bytes.strip_prefix(keyword.spelling())
 }
@@ -78,7 +78,7 @@ fn most_common(bytes: &[u8], keywords: &[Keyword]) -> usize
 pub fn left_by(bytes: &[u8], keywords: &[Keyword]) -> usize
     requires some { 0 < length keywords.now }
     requires lacks { LacksAll bytes.now keywords.now }
-    ensures { Refuses (OneOf keywords.now) bytes.now result }
+    ensures { BreaksOff (OneOf keywords.now) bytes.now result }
 {
     bytes.len() - most_common(bytes, keywords)
 }

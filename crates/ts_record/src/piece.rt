@@ -1,9 +1,10 @@
 //! A piece behind its keyword: its length in decimal, its bytes, and a line feed behind each.
 ghost use Rattle.std.specs.Prelude.{◌≡◌, ℕ, ◌≤◌, ◌∷◌, length, drop, IfSome, IfNone, IfOk, IfErr};
-ghost use Rattle.ts_record.specs.Grammar.{line_feed, IsPiece, piece_before};
-ghost use Rattle.ts_record.specs.Refusing.{Refuses, IsPieceText, LacksFeed, DigitsEnd};
+ghost use Rattle.ts_link.specs.Texts.{line_feed};
+ghost use Rattle.ts_record.specs.Grammar.{IsRecordedPiece, piece_before};
+ghost use Rattle.ts_record.specs.Refusing.{BreaksOff, IsPieceText, LacksFeed, DigitsEnd};
 
-use crate::recording::MOST_PIECE;
+use crate::recording::{BASE, MOST_PIECE};
 
 // How many digits at the front the length of a piece can begin with, and the number that they stand for.
 fn count_digits(bytes: &[u8]) -> (usize, usize)
@@ -15,7 +16,7 @@ fn count_digits(bytes: &[u8]) -> (usize, usize)
         if !byte.is_ascii_digit() {
             return (count, value);
         }
-        let longer = 10 * value + usize::from(*byte - b'0');
+        let longer = BASE * value + usize::from(*byte - b'0');
         if longer == 0 || longer > MOST_PIECE {
             return (count, value);
         }
@@ -46,9 +47,9 @@ fn after_feed(bytes: &[u8]) -> Option<&[u8]>
 /// The piece that stands behind its keyword, and the bytes behind it; or how many bytes are left behind the
 /// longest front that such a text begins with.
 pub fn read_piece(bytes: &[u8]) -> Result<(&[u8], &[u8]), usize>
-    ensures piece { IfOk result (λ cut. IsPiece cut.0.now) }
+    ensures piece { IfOk result (λ cut. IsRecordedPiece cut.0.now) }
     ensures text { IfOk result (λ cut. bytes.now ≡ piece_before cut.1.now cut.0.now) }
-    ensures refused { IfErr result (Refuses IsPieceText bytes.now) }
+    ensures refused { IfErr result (BreaksOff IsPieceText bytes.now) }
 {
     let (length, behind) = read_length(bytes);
     if length == 0 {

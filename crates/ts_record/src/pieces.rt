@@ -1,8 +1,8 @@
 //! The pieces of one side of a transaction.
 ghost use Rattle.std.specs.Prelude.{◌≡◌, IfOk, IfErr};
 ghost use Rattle.std.specs.List.{AllByRecursion};
-ghost use Rattle.ts_record.specs.Grammar.{IsPiece, pieces_before};
-ghost use Rattle.ts_record.specs.Keywords.{Lacks};
+ghost use Rattle.ts_record.specs.Grammar.{IsRecordedPiece, pieces_before};
+ghost use Rattle.ts_record.specs.Keywords.{LacksKeyword};
 ghost use Rattle.ts_record.specs.Refusing.{StopsPieces};
 ghost use Rattle.ts_record.specs.declared.pieces.PartRefusal.TheVariants as p;
 
@@ -41,9 +41,9 @@ pub fn read_pieces(
     bytes: &[u8],
     side: Keyword,
 ) -> Result<(Vec<Octets>, &[u8]), PartRefusal>
-    ensures each { IfOk result (λ cut. AllByRecursion IsPiece cut.0.items) }
+    ensures each { IfOk result (λ cut. AllByRecursion IsRecordedPiece cut.0.items) }
     ensures text { IfOk result (λ cut. bytes.now ≡ pieces_before side cut.1.now cut.0.items) }
-    ensures lacks { IfOk result (λ cut. Lacks cut.1.now side) }
+    ensures lacks { IfOk result (λ cut. LacksKeyword cut.1.now side) }
     ensures refused { IfErr result (StopsPieces side bytes.now) }
 {
     let mut pieces = Vec::new(alloc);

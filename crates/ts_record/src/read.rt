@@ -1,8 +1,8 @@
 //! Reading a recording: its transactions, or where the bytes stop being the front of one.
 ghost use Rattle.std.specs.Prelude.{◌≡◌, ◌<◌, ◌++◌, List, length, IfSome, IfNone, IfOk, OnOk, IfErr};
 ghost use Rattle.ts_record.specs.Grammar.{TxnPieces, IsTxn, KeepsLimits, IsRecording, inside_before, txns_text};
-ghost use Rattle.ts_record.specs.Keywords.{spelling, Lacks, keywords_inside, keywords_behind};
-ghost use Rattle.ts_record.specs.Offsets.{RefusesRightly};
+ghost use Rattle.ts_record.specs.Keywords.{keyword_text, LacksKeyword, keywords_inside, keywords_behind};
+ghost use Rattle.ts_record.specs.Offsets.{RefusesAt};
 ghost use Rattle.ts_record.specs.Refusing.{StopsInside, StopsEnd, StopsTxns, refusal_of};
 ghost use Rattle.ts_record.specs.declared.keyword.Keyword.TheVariants as k;
 
@@ -50,8 +50,8 @@ fn read_inside(alloc: Global, bytes: &[u8]) -> Result<(RecordedTxn, &[u8]), Part
 // The bytes behind the first line of one more transaction, if it stands there and so many leave room for it.
 fn after_txn(bytes: &[u8], count: usize) -> Option<&[u8]>
     ensures room { IfSome result (λ behind. count < MOST_TXNS) }
-    ensures some { IfSome result (λ behind. bytes.now ≡ spelling k.Txn ++ behind.now) }
-    ensures none { IfNone result (count < MOST_TXNS → Lacks bytes.now k.Txn) }
+    ensures some { IfSome result (λ behind. bytes.now ≡ keyword_text k.Txn ++ behind.now) }
+    ensures none { IfNone result (count < MOST_TXNS → LacksKeyword bytes.now k.Txn) }
 {
     if count >= MOST_TXNS {
         return None;
@@ -61,8 +61,8 @@ fn after_txn(bytes: &[u8], count: usize) -> Option<&[u8]>
 
 // The end of the recording behind so many transactions.
 fn read_end(bytes: &[u8], count: usize) -> Result<(), PartRefusal>
-    requires { count < MOST_TXNS → Lacks bytes.now k.Txn }
-    ensures text { OnOk result (bytes.now ≡ spelling k.End) }
+    requires { count < MOST_TXNS → LacksKeyword bytes.now k.Txn }
+    ensures text { OnOk result (bytes.now ≡ keyword_text k.End) }
     ensures refused { IfErr result (StopsEnd count bytes.now) }
 {
     match after(bytes, Keyword::End) {
@@ -105,7 +105,7 @@ pub fn read_recording(alloc: Global, bytes: &[u8]) -> Result<Recording, Recordin
     ensures read { IfOk result (λ r. IsRecording bytes.now r) }
     // The bytes are the text of no other recording.
     ensures one { IfOk result (λ r. (other : List TxnPieces) → IsRecording bytes.now other → other ≡ r) }
-    ensures refusal { IfErr result (RefusesRightly bytes.now) }
+    ensures refusal { IfErr result (RefusesAt bytes.now) }
 {
     let Some(rest) = after(bytes, Keyword::Header) else {
         let left = left_by(bytes, &[Keyword::Header]);

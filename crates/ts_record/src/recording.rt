@@ -3,6 +3,9 @@ use std::marker::Model;
 use thiserror::Error;
 use ts_link::Octets;
 
+/// The base of the numbers of a recording.
+pub const BASE: usize = 10;
+
 /// The most bytes of a piece.
 pub const MOST_PIECE: usize = 32_768;
 

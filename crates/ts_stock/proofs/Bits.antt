@@ -7,7 +7,7 @@ use Rattle.std.proofs.lemmas.Bool.{false≢true, eqb-true, eq-eqb, cases_lt}
 use Rattle.std.proofs.lemmas.List.{get_or-take, get_or-drop, length-take-le, length-drop}
 use Rattle.std.proofs.lemmas.Nat.Bits.{bit_at_clear_other, bit_at_clear_same, bit_at_and, bit_at-lt, bit_at_above, and_pow}
 use Rattle.std.proofs.lemmas.Nat.{and-not, and_comm}
-use Rattle.ts_stock.specs.Dropping.{ArePlaces, IsFree}
+use Rattle.ts_stock.specs.Dropping.{ArePlaces, IsFreeOf}
 use Rattle.std.proofs.Common.{pow_pos, pow_mono}
 use Rattle.std.proofs.Math.Nat.{two-pow-succ}
 
@@ -71,7 +71,7 @@ place_holds byte start places input k within are set = sym (in_block start input
 pub free_to : (byte start done upto places left : ℕ) (input : List ℕ) → start + 64 ≤ length input → upto ≤ 64
     → ArePlaces byte (take 64 (drop start input)) places
     → ((k : ℕ) → (bit_at left k ≡ 1) ↔ ((bit_at places k ≡ 1) × (done ≤ start + k)))
-    → IsFree byte input done start → ((k : ℕ) → k < upto → bit_at left k ≢ 1) → IsFree byte input done (start + upto)
+    → IsFreeOf byte input done start → ((k : ℕ) → k < upto → bit_at left k ≢ 1) → IsFreeOf byte input done (start + upto)
 free_to byte start done upto places left input fits most are lefts free none place from until same =
     elim (cases_lt place start) [
       | inl before ↦ free place from before same

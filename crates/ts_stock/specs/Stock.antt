@@ -1,6 +1,6 @@
 -- The states of the stock transforms. There are no others, so no line but bnull holds bytes back.
 use Rattle.std.specs.Prelude.{◌≡◌, ◌≤◌, ℕ, ◌++◌, List, []}
-use Rattle.ts_config.specs.Bodies.{mapped, without}
+use Rattle.ts_config.specs.Bodies.{mapped, without_byte}
 use Rattle.ts_config.specs.declared.setup.TransformLine.{TransformLine}
 use Rattle.ts_config.specs.declared.setup.TransformLine.TheVariants as t
 use Rattle.ts_stock.specs.declared.stock.State.{State}
@@ -12,7 +12,7 @@ still_writes (s.Appending text) z = z ++ text
 still_writes (s.Holding held) z = held ++ z
 still_writes (s.Prepending text) z = text ++ z
 still_writes (s.Mapping from to) z = mapped from to z
-still_writes (s.Dropping byte) z = without byte z
+still_writes (s.Dropping byte) z = without_byte byte z
 still_writes _ z = z
 
 -- the state of a line's transform that got nothing yet
@@ -30,7 +30,7 @@ abbrev pub written_at_feed : State → List ℕ → List ℕ
 written_at_feed (s.Holding held) c = []
 written_at_feed (s.Prepending text) c = text ++ c
 written_at_feed (s.Mapping from to) c = mapped from to c
-written_at_feed (s.Dropping byte) c = without byte c
+written_at_feed (s.Dropping byte) c = without_byte byte c
 written_at_feed _ c = c
 
 -- the state after that

@@ -1,7 +1,7 @@
 //! A body less one byte goes into the room of a buffer, in blocks of 64 bytes.
 ghost use Rattle.std.specs.Prelude.{◌≡◌, ◌+◌, ◌<◌, ◌≤◌, ◌++◌, length, take, drop, IfOk, OnErr};
-ghost use Rattle.ts_config.specs.Bodies.{without};
-ghost use Rattle.ts_iobuf.specs.Buffer.{Grows};
+ghost use Rattle.ts_config.specs.Bodies.{without_byte};
+ghost use Rattle.ts_iobuf.specs.Buffer.{GrowsBy};
 ghost use Rattle.ts_stock.specs.Dropping.{ArePlaces, IsUpTo, block_len};
 
 use crate::places::{BLOCK, first_of, less, places_in};
@@ -38,7 +38,7 @@ fn write_run(room: &mut [u8], filled: usize, run: &[u8]) -> usize
 fn drop_bytes(room: &mut [u8], input: &[u8], byte: u8) -> usize
     requires { length input.now ≤ length room.old }
     ensures within { result ≤ length input.now }
-    ensures bytes { take result room.new ≡ without byte input.now }
+    ensures bytes { take result room.new ≡ without_byte byte input.now }
 {
     let mut filled = 0;
     for i in 0..input.len() {
@@ -134,7 +134,7 @@ fn take_block(room: &mut [u8], input: &[u8], byte: u8, start: usize, written: Wr
 fn drop_all(room: &mut [u8], input: &[u8], byte: u8) -> usize
     requires { length input.now ≤ length room.old }
     ensures within { result ≤ length input.now }
-    ensures bytes { take result room.new ≡ without byte input.now }
+    ensures bytes { take result room.new ≡ without_byte byte input.now }
 {
     let mut start = 0;
     let mut written = Written { done: 0, filled: 0 };
@@ -149,7 +149,7 @@ fn drop_all(room: &mut [u8], input: &[u8], byte: u8) -> usize
 pub fn write_without(byte: u8, input: &[u8], out: &mut IoBuffer) -> Result<usize, NoMemory>
     requires { 0 < length input.now }
     ensures count { IfOk result (λ n. (1 ≤ n) × (n ≤ length input.now)) }
-    ensures grows { IfOk result (λ n. Grows out.old out.new (without byte (take n input.now))) }
+    ensures grows { IfOk result (λ n. GrowsBy out.old out.new (without_byte byte (take n input.now))) }
     ensures err { OnErr result (out.new ≡ out.old) }
 {
     let room = out.space();

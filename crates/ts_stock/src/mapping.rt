@@ -1,7 +1,7 @@
 //! A body with each byte of one value replaced by another goes into the room of a buffer.
 ghost use Rattle.std.specs.Prelude.{◌≡◌, ◌<◌, ◌≤◌, length, take, min, IfOk, OnErr};
 ghost use Rattle.ts_config.specs.Bodies.{mapped};
-ghost use Rattle.ts_iobuf.specs.Buffer.{Grows};
+ghost use Rattle.ts_iobuf.specs.Buffer.{GrowsBy};
 
 use ts_iobuf::IoBuffer;
 use ts_link::NoMemory;
@@ -24,7 +24,7 @@ fn map_into(room: &mut [u8], input: &[u8], from: u8, to: u8) -> usize
 pub fn write_mapped(from: u8, to: u8, input: &[u8], out: &mut IoBuffer) -> Result<usize, NoMemory>
     requires { 0 < length input.now }
     ensures count { IfOk result (λ n. (1 ≤ n) × (n ≤ length input.now)) }
-    ensures grows { IfOk result (λ n. Grows out.old out.new (mapped from to (take n input.now))) }
+    ensures grows { IfOk result (λ n. GrowsBy out.old out.new (mapped from to (take n input.now))) }
     ensures err { OnErr result (out.new ≡ out.old) }
 {
     let room = out.space();

@@ -1,7 +1,7 @@
 //! The stock transforms: one state for each line of a configuration, fed with a body in pieces.
 ghost use Rattle.std.specs.Prelude.{◌≡◌, ℕ, ◌<◌, ◌≤◌, ◌++◌, List, [], length, take, IfOk, OnOk, OnErr};
 ghost use Rattle.ts_config.specs.Bodies.{whole_of};
-ghost use Rattle.ts_iobuf.specs.Buffer.{Grows};
+ghost use Rattle.ts_iobuf.specs.Buffer.{GrowsBy};
 ghost use Rattle.ts_transform.specs.Law.{Feeds};
 ghost use Rattle.ts_stock.specs.Stock.{still_writes, start_of, fed, written_at_feed, pause_of, CountTaken};
 
@@ -42,7 +42,7 @@ pub struct Stock {
 
 // Writes the text, and the input behind it, or neither.
 fn write_behind(text: &Octets, input: &[u8], out: &mut IoBuffer) -> Result<(), NoMemory>
-    ensures grows { OnOk result (Grows out.old out.new (text.now ++ input.now)) }
+    ensures grows { OnOk result (GrowsBy out.old out.new (text.now ++ input.now)) }
     ensures err { OnErr result (out.new ≡ out.old) }
 {
     out.write_parts(&[text.bytes(), input])
@@ -99,7 +99,7 @@ impl Transform for Stock {
 
         // What a line other than bnull is fed it writes at once, and bnull writes nothing.
         ensures writes { IfOk result (λ n.
-            Grows out.old out.new (written_at_feed self.old (take n input.now))) }
+            GrowsBy out.old out.new (written_at_feed self.old (take n input.now))) }
         ensures state { IfOk result (λ n. self.new ≡ fed self.old (take n input.now)) }
         ensures taken { IfOk result (λ n. CountTaken self.old n (length input.now)) }
     {
@@ -131,7 +131,7 @@ impl Transform for Stock {
     }
 
     fn end(&mut self, out: &mut IoBuffer) -> Result<(), NoMemory>
-        ensures law { OnOk result (Grows out.old out.new (still_writes self.old [])) }
+        ensures law { OnOk result (GrowsBy out.old out.new (still_writes self.old [])) }
         ensures err { OnErr result ((self.new ≡ self.old) × (out.new ≡ out.old)) }
 
         // The state stays, with either answer.

@@ -383,6 +383,10 @@ impl<I: Link + Drop, K: Link + Drop, P: Transform + Drop> Slotted for LinkWorld<
     // It stands in no slot.
     ghost fits = { λ t w. ⊥ };
 
+    ghost stamp = { λ w. 0 };
+
+    ghost marks = { λ w. [] };
+
     ghost trace = { λ w. tt };
 
     ghost follows = { λ t u. ⊤ };
@@ -406,7 +410,17 @@ impl<I: Link + Drop, K: Link + Drop, P: Transform + Drop> World for LinkWorld<I,
 
     ghost answers = { λ w question reply. ⊤ };
 
+    ghost may_ask = { λ w group. ⊥ };
+
+    ghost left = { λ w s. None };
+
+    ghost only_asked = { λ t. false };
+
+    ghost is_first = { λ t. false };
+
     ghost begun = { λ old new. HasLinkBegun old new };
+
+    ghost heard = { λ old new asked. new ≡ old };
 
     // What a handler leads to: a step.
     ghost called = { λ old new asked. Steps P.rest I.tells K.tells I.look K.look old new };

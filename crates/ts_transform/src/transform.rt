@@ -1,6 +1,6 @@
 //! A transform of a body: what it is given in pieces, and what it writes.
 ghost use Rattle.std.specs.Prelude.{◌≡◌, ℕ, ◌<◌, ◌≤◌, List, [], length, take, IfOk, OnOk, OnErr};
-ghost use Rattle.ts_iobuf.specs.Buffer.{Grows};
+ghost use Rattle.ts_iobuf.specs.Buffer.{GrowsBy};
 ghost use Rattle.ts_transform.specs.Law.{Feeds};
 
 use std::alloc::Global;
@@ -36,7 +36,7 @@ pub trait Transform: Sized {
 
     /// Writes what is left to write, once no more bytes come.
     fn end(&mut self, out: &mut IoBuffer) -> Result<(), NoMemory>
-        ensures law { OnOk result (Grows out.old out.new (rest self.old [])) }
+        ensures law { OnOk result (GrowsBy out.old out.new (rest self.old [])) }
         ensures err { OnErr result ((self.new ≡ self.old) × (out.new ≡ out.old)) };
 
     /// The milliseconds between two events of a stage.

@@ -163,6 +163,10 @@ impl<P: Transform + Drop> Slotted for ChainWorld<P> {
     // What the chain still gives.
     ghost fits = { λ t w. flow P.rest w.driven.chain [] ≡ t };
 
+    ghost stamp = { λ w. 0 };
+
+    ghost marks = { λ w. [] };
+
     ghost trace = { λ w. tt };
 
     ghost follows = { λ t u. ⊤ };
@@ -189,8 +193,16 @@ impl<P: Transform + Drop> World for ChainWorld<P> {
 
     ghost answers = { λ w question reply. ⊤ };
 
+    ghost may_ask = { λ w group. ⊥ };
+
+    ghost only_asked = { λ t. false };
+
+    ghost is_first = { λ t. false };
+
     // The chain is as it was; and where it had not begun, it runs from then on, or tells why it was lost.
     ghost begun = { λ old new. HasBegunFrom old.driven new.driven };
+
+    ghost heard = { λ old new asked. new ≡ old };
 
     // A handler lets at most one stage work, by one pump.
     ghost called = { λ old new asked. PumpsOnce P.rest old.driven.chain new.driven.chain };

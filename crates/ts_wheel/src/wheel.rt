@@ -40,7 +40,8 @@ fn add_to<T: Copy>(
 ) -> Result<(), NoMemory>
     requires { IsParted past.old lap.old later.old }
     ensures parted { IsParted past.new lap.new later.new }
-    ensures ok { OnOk result (all_of past.new lap.new later.new ≡ added due token (all_of past.old lap.old later.old)) }
+    ensures ok { OnOk result
+        (all_of past.new lap.new later.new ≡ added due token (all_of past.old lap.old later.old)) }
     ensures err { OnErr result (all_of past.new lap.new later.new ≡ all_of past.old lap.old later.old) }
 {
     let start = lap.start();

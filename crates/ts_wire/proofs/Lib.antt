@@ -1,5 +1,5 @@
 mod BodyLemmas
-mod CheckLemmas
+pub mod CheckLemmas
 mod CheckedRequest
 mod CutLemmas
 mod ForwardLemmas

@@ -1,5 +1,5 @@
 -- The bytes begin with at most one head, and what follows does not change it: responses.
-use Rattle.std.proofs.Common.{◌≡◌, ℕ, ◌<◌, ◌≤◌, List, [], ◌∷◌, ◌++◌, length, None, drop, refl, sym, subst, ◌∙◌, arith, length-append}
+use Rattle.std.proofs.Common.{◌≡◌, ℕ, ◌<◌, ◌≤◌, List, [], ◌∷◌, ◌++◌, length, None, drop, refl, sym, ap, subst, ◌∙◌, arith, length-append}
 use Rattle.std.proofs.Math.Bridge.{le_prop}
 use Rattle.std.specs.Prelude.{codes, IsTrue}
 use Rattle.std.specs.Char.{is_ascii_digit}
@@ -12,6 +12,8 @@ use Rattle.ts_wire.specs.declared.fields.Field.{Field}
 use Rattle.ts_wire.specs.declared.heads.ResponseHead as kept
 use Rattle.ts_wire.specs.Limits.{status_limit}
 use Rattle.ts_wire.specs.Heads.{BeginsWithResponse, KeepsResponse, IsResponseOf, IsOneResponse, LacksResponse}
+use Rattle.ts_wire.specs.OneHead.{IsReadResponse}
+use Rattle.ts_wire.proofs.ResponseLemmas.{response_some}
 
 pub one_response : (bytes : List ℕ) (h k : ResponseHead) (r q : List ℕ) → BeginsWithResponse bytes h r → BeginsWithResponse bytes k q → (h ≡ k) × (r ≡ q)
 one_response bytes h k r q a b = response_unique bytes h k r q a.reads b.reads
@@ -34,6 +36,10 @@ pub is_one_response : (bytes : List ℕ) (head : kept.ResponseHead) (used : ℕ)
 is_one_response bytes head used is h rest begins =
     let same = one_response bytes is.parsed h (drop used bytes) rest is.begins begins in
     (subst (λ p. KeepsResponse p head) same.0 is.keeps, sym same.1)
+
+-- every head that is read is kept of a head of the grammar
+pub was_read : (bytes : List ℕ) (head : kept.ResponseHead) (used : ℕ) → IsResponseOf bytes head used → IsReadResponse head
+was_read bytes head used is = record { parsed = is.parsed; good = is.begins.reads.0; keeps = is.keeps }
 
 -- the parts of a head, without the facts on its status and its version
 abbrev Parts : Type 0
@@ -84,6 +90,11 @@ short_begins = record {
   short = omega arith;
   few = omega arith;
 }
+
+-- no bytes begin with no head
+pub lacks_nil : LacksResponse []
+lacks_nil h rest begins =
+    omega (arith, ap length begins.reads.1, length-append (print_response h) rest, response_some h)
 
 -- so where no head can come, there are bytes
 pub some_bytes : (bytes : List ℕ) → ((more : List ℕ) → LacksResponse (bytes ++ more)) → 0 < length bytes

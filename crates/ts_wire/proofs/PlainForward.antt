@@ -1,13 +1,13 @@
 -- The fields that are sent on leave it to the proxy to say that the connection closes, and where the body ends.
-use Rattle.std.proofs.Common.{◌≡◌, ℕ, Bool, true, false, ◌||◌, List, [], map, refl, sym, ap, subst, ◌∙◌}
+use Rattle.std.proofs.Common.{◌≡◌, ℕ, Bool, true, false, ◌||◌, List, [], refl, sym, ap, subst, ◌∙◌}
 use Rattle.std.specs.Prelude.{All, codes, not}
 use Rattle.std.proofs.lemmas.Slice.Eq.{bytes_eq-Decides}
 use Rattle.std.proofs.lemmas.List.Elements.{All-filter, All-weaker, filter_passes}
+use Rattle.httparse.specs.Grammar.{AllPass, is_value_byte}
 use Rattle.ts_wire.specs.declared.fields.Field.{Field}
 use Rattle.ts_wire.specs.declared.heads.RequestHead.{RequestHead}
 use Rattle.ts_wire.specs.FieldList.{is_named, values_named}
 use Rattle.ts_wire.specs.Forward.{is_hop, is_option, is_forwarded, forwarded}
-use Rattle.ts_wire.specs.Heads.{kept_field}
 use Rattle.ts_wire.specs.OneHead.{IsPlainField, LeavesFraming, ForwardsUnchanged, ForwardsPlainly}
 use Rattle.ts_wire.proofs.PlainFields.{IsOther, values_from_others, all_kept_plain}
 
@@ -36,7 +36,9 @@ leaves_framing fs plain = record {
 }
 
 pub forwards_plainly : ForwardsPlainly
-forwards_plainly fields good = leaves_framing (map kept_field fields) (all_kept_plain fields good)
+forwards_plainly head read =
+    let plain = subst (All IsPlainField) (sym read.keeps.fields) (all_kept_plain read.parsed.fields read.good.fields) in
+    (subst (AllPass is_value_byte) (sym read.keeps.reason) read.good.reason, leaves_framing head.fields plain)
 
 pub forwards_unchanged : (head : RequestHead) → ForwardsUnchanged head
 forwards_unchanged head read =

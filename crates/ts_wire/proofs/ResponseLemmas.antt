@@ -11,7 +11,7 @@ use Rattle.ts_wire.specs.Heads.{KeepsResponse, IsResponseOf, LacksResponse, Awai
 use Rattle.ts_wire.proofs.HeadLemmas.{cut_front, in_front, front_and_more, few_fields, ends_some, span_front, headers_front}
 
 -- a head has at least the end of its section
-response_some : (h : ResponseHead) → 0 < length (print_response h)
+pub response_some : (h : ResponseHead) → 0 < length (print_response h)
 unfolding print_response
 response_some h = ends_some _ h.fields h.last
 

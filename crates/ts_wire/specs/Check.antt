@@ -3,7 +3,7 @@ use Rattle.std.specs.Prelude.{◌≡◌, ◌⊎◌, ℕ, Bool, false, not, ◌&&
 use Rattle.std.specs.List.{list_any, before_first, position, position_or_len}
 use Rattle.std.specs.Str.{str_eq_ignore_ascii_case}
 use Rattle.http_header.specs.Token.{lowercase}
-use Rattle.ts_wire.specs.Limits.{bad_request, not_implemented}
+use Rattle.ts_wire.specs.Limits.{scheme_len, bad_request, not_implemented}
 use Rattle.ts_wire.specs.declared.fields.Field.{Field}
 use Rattle.ts_wire.specs.declared.heads.RequestHead.{RequestHead}
 use Rattle.ts_wire.specs.declared.check.Verdict.{Verdict}
@@ -15,17 +15,30 @@ use Rattle.ts_wire.specs.declared.framing.TransferCoding.TheVariants as C
 use Rattle.ts_wire.specs.FieldList.{count_named, first_value}
 use Rattle.ts_wire.specs.Framing.{length_named, coding_named}
 
--- the byte `:`
+-- the bytes that part a target, as they stand in it
+abbrev pub slash : ℕ
+slash = 47
+
+abbrev pub colon : ℕ
+colon = 58
+
+abbrev pub question_mark : ℕ
+question_mark = 63
+
+abbrev pub at_sign : ℕ
+at_sign = 64
+
+abbrev pub bracket : ℕ
+bracket = 93
+
 abbrev pub is_colon : ℕ → Bool
-is_colon b = b == 58
+is_colon b = b == colon
 
--- the byte `@`
 abbrev pub is_at_sign : ℕ → Bool
-is_at_sign b = b == 64
+is_at_sign b = b == at_sign
 
--- the byte `]`
 abbrev pub is_bracket : ℕ → Bool
-is_bracket b = b == 93
+is_bracket b = b == bracket
 
 -- HTTP/1.1 wants one Host field, and HTTP/1.0 at most one (RFC 9112, section 3.2)
 abbrev pub has_wrong_hosts : ℕ → ℕ → Bool
@@ -33,11 +46,12 @@ has_wrong_hosts minor hosts = if minor == 0 then nat_lt 1 hosts else not (hosts 
 
 -- the target begins with `http://`, in any letter case
 abbrev pub is_absolute : List ℕ → Bool
-is_absolute target = nat_le 7 (length target) && str_eq_ignore_ascii_case (take 7 target) (codes "http://")
+is_absolute target =
+    nat_le scheme_len (length target) && str_eq_ignore_ascii_case (take scheme_len target) (codes "http://")
 
 -- a byte that ends an authority: `/` or `?`
 abbrev pub ends_authority : ℕ → Bool
-ends_authority b = (b == 47) || (b == 63)
+ends_authority b = (b == slash) || (b == question_mark)
 
 -- the authority, from what follows `http://`
 abbrev pub authority : List ℕ → List ℕ
@@ -50,7 +64,7 @@ after_authority rest = drop (position_or_len ends_authority rest) rest
 -- what is sent of an absolute target, from what follows its authority (RFC 9112, sections 3.2.1 and 3.2.4)
 abbrev pub sent_after : List ℕ → List ℕ → List ℕ
 sent_after method [] = if bytes_eq method (codes "OPTIONS") then codes "*" else codes "/"
-sent_after method (b ∷ bs) = if b == 63 then 47 ∷ b ∷ bs else b ∷ bs
+sent_after method (b ∷ bs) = if b == question_mark then slash ∷ b ∷ bs else b ∷ bs
 
 -- the target and the host of an absolute target, from what follows `http://`: an authority that is not empty
 -- and has no `@`
@@ -61,14 +75,14 @@ absolute_parts method rest =
 
 abbrev pub begins_with_slash : List ℕ → Bool
 begins_with_slash [] = false
-begins_with_slash (b ∷ bs) = b == 47
+begins_with_slash (b ∷ bs) = b == slash
 
 -- the target that the origin gets, and the host: a path, `*` of an OPTIONS request, or an absolute target
 abbrev pub target_parts : List ℕ → List ℕ → List ℕ → Option (List ℕ × List ℕ)
 target_parts method target host =
     if begins_with_slash target then Some (target, host)
     else (if bytes_eq target (codes "*") && bytes_eq method (codes "OPTIONS") then Some (codes "*", host)
-    else (if is_absolute target then absolute_parts method (drop 7 target)
+    else (if is_absolute target then absolute_parts method (drop scheme_len target)
     else None))
 
 -- why the body that a request announces refuses it: a transfer coding, a faulty length, or a body at all

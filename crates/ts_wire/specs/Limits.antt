@@ -1,6 +1,14 @@
 -- The numbers that the definitions of this crate name; each stands in the code as a constant too.
 use Rattle.std.specs.Prelude.{ℕ, ◌^◌}
 
+-- how many bytes `http://` has
+abbrev pub scheme_len : ℕ
+scheme_len = 7
+
+-- the bytes below it are ASCII
+abbrev pub ascii_end : ℕ
+ascii_end = 128
+
 -- how many bytes a head may have
 abbrev pub head_limit : ℕ
 head_limit = 16384

@@ -6,10 +6,11 @@ use Rattle.std.specs.Prelude.{◌≡◌, ℕ, ◌≤◌, ◌⊎◌, Bool, true, 
 use Rattle.http_header.specs.Token.{lowercase}
 use Rattle.http_header.specs.FieldValue.{IsFieldValue}
 use Rattle.httparse.specs.Grammar as grammar
-use Rattle.httparse.specs.Grammar.{AllPass, IsToken, is_value_byte, LineEnd, crlf, IsRequestHead, ReadsRequest, ReadsResponse, status_code}
+use Rattle.httparse.specs.Grammar.{AllPass, IsToken, is_value_byte, LineEnd, crlf, IsRequestHead, IsResponseHead, ReadsRequest, ReadsResponse, status_code}
 use Rattle.ts_wire.specs.Limits.{body_limit}
 use Rattle.ts_wire.specs.declared.fields.Field.{Field}
 use Rattle.ts_wire.specs.declared.heads.RequestHead.{RequestHead}
+use Rattle.ts_wire.specs.declared.heads.ResponseHead.{ResponseHead}
 use Rattle.ts_wire.specs.declared.framing.Framing.{Framing}
 use Rattle.ts_wire.specs.declared.framing.Framing.TheVariants as F
 use Rattle.ts_wire.specs.declared.framing.ContentLength.{ContentLength}
@@ -21,7 +22,7 @@ use Rattle.ts_wire.specs.declared.printed.ClientFraming.TheVariants.{Sized, Chun
 use Rattle.ts_wire.specs.FieldList.{is_named, values_named}
 use Rattle.ts_wire.specs.Forward.{forwarded}
 use Rattle.ts_wire.specs.Framing.{length_named, coding_named, has_no_body, framing}
-use Rattle.ts_wire.specs.Heads.{kept_field, KeepsRequest}
+use Rattle.ts_wire.specs.Heads.{kept_field, KeepsRequest, KeepsResponse}
 use Rattle.ts_wire.specs.Check.{begins_with_slash, check}
 
 -- the text is this head and nothing else, and no other head stands at its front
@@ -153,8 +154,15 @@ abbrev pub SendsOneResponse : ℕ → List ℕ → List Field → ClientFraming 
 SendsOneResponse status reason fields sent text =
     AllPass is_value_byte reason → LeavesFraming fields → IsSendable sent → SendsResponse status sent text
 
--- the fields of a head that was read leave it to the proxy, once those that end at this hop are gone
+-- the head is kept of a head of the grammar, as every head is that `read_response` gives
+pub record IsReadResponse (head : ResponseHead) : Type 0 where
+  pub parsed : grammar.ResponseHead
+  pub good : IsResponseHead parsed
+  pub keeps : KeepsResponse parsed head
+
+-- a head that was read has a reason that can stand in a status line, and its fields leave it to the proxy,
+-- once those that end at this hop are gone
 abbrev pub ForwardsPlainly : Type 0
 ForwardsPlainly =
-    (fields : List grammar.Field) → All grammar.IsField fields
-    → LeavesFraming (forwarded (map kept_field fields))
+    (head : ResponseHead) → IsReadResponse head
+    → AllPass is_value_byte head.reason × LeavesFraming (forwarded head.fields)

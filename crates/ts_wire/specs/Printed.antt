@@ -2,6 +2,7 @@
 use Rattle.std.specs.Prelude.{ℕ, Bool, ◌+◌, ◌/◌, ◌%◌, List, [], ◌∷◌, ◌++◌, Option, Some, None, if◌then◌else◌, ◌==◌, ◌&&◌, nat_lt, codes, flat_map, decimal}
 use Rattle.std.specs.List.{list_all, list_any}
 use Rattle.httparse.specs.Ascii.{crlf_bytes}
+use Rattle.ts_wire.specs.Limits.{ascii_end}
 use Rattle.ts_wire.specs.declared.fields.Field.{Field}
 use Rattle.ts_wire.specs.declared.printed.ClientFraming.{ClientFraming}
 use Rattle.ts_wire.specs.declared.printed.ClientFraming.TheVariants.{Sized, Chunked}
@@ -24,13 +25,20 @@ abbrev pub via_line : Option ℕ → List ℕ
 via_line None = []
 via_line (Some minor) = via_text minor
 
+-- the digit of a number below ten
+abbrev pub digit_of : ℕ → ℕ
+digit_of n = 48 + n
+
 -- a status in three digits
 abbrev pub status_text : ℕ → List ℕ
-status_text status = (48 + status / 100) ∷ (48 + status / 10 % 10) ∷ (48 + status % 10) ∷ []
+status_text status = digit_of (status / 100) ∷ digit_of (status / 10 % 10) ∷ digit_of (status % 10) ∷ []
+
+abbrev pub is_ascii_byte : ℕ → Bool
+is_ascii_byte b = nat_lt b ascii_end
 
 -- a reason with a byte that is not ASCII is left out
 abbrev pub reason_text : List ℕ → List ℕ
-reason_text reason = if list_all (λ b. nat_lt b 128) reason then reason else []
+reason_text reason = if list_all is_ascii_byte reason then reason else []
 
 -- the line that says where the body ends, if one does
 abbrev pub framing_line : ClientFraming → List ℕ

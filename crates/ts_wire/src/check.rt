@@ -2,9 +2,10 @@
 ghost use Rattle.std.specs.Prelude.{◌≡◌, ◌<◌, ◌≤◌, ◌∷◌, List, ℕ, length, codes, IfOk, IfSome, take, drop, Some, None, if◌then◌else◌};
 ghost use Rattle.std.specs.List.{find, list_any, position, position_or_len};
 ghost use Rattle.std.specs.Option.{option_copied};
+ghost use Rattle.ts_wire.specs.Limits.{scheme_len};
 ghost use Rattle.ts_wire.specs.FieldList.{is_named, count_named, first_value};
 ghost use Rattle.ts_wire.specs.Framing.{coding_named, length_named};
-ghost use Rattle.ts_wire.specs.Check.{has_wrong_hosts, is_absolute, ends_authority, sent_after, absolute_parts, begins_with_slash, target_parts, refusal_by, check, Says, RefusesSo, is_at_sign, is_colon, is_bracket, without_port, plugin_host};
+ghost use Rattle.ts_wire.specs.Check.{slash, has_wrong_hosts, is_absolute, ends_authority, sent_after, absolute_parts, begins_with_slash, target_parts, refusal_by, check, Says, RefusesSo, is_at_sign, is_colon, is_bracket, without_port, plugin_host};
 
 use crate::fields::Field;
 use crate::framing::{ContentLength, TransferCoding, coding_of, length_of};
@@ -18,6 +19,9 @@ pub const BAD_REQUEST: u16 = 400;
 
 /// The status of a request that this proxy does not serve (RFC 9110, section 15.6.2).
 pub const NOT_IMPLEMENTED: u16 = 501;
+
+// How many bytes `http://` has.
+const SCHEME_LEN: usize = 7;
 
 /// What the check says of a request.
 #[derive(Drop)]
@@ -64,12 +68,13 @@ fn has_wrong_hosts(minor: u8, hosts: usize) -> bool
 
 /// What follows `http://`, if the target begins with that.
 fn after_scheme(target: &[u8]) -> Option<&[u8]>
-    ensures { option_copied result ≡ (if is_absolute target.now then Some (drop 7 target.now) else None) }
+    ensures { option_copied result
+        ≡ (if is_absolute target.now then Some (drop scheme_len target.now) else None) }
 {
-    if target.len() < 7 {
+    if target.len() < SCHEME_LEN {
         return None;
     }
-    let (scheme, rest) = target.split_at(7);
+    let (scheme, rest) = target.split_at(SCHEME_LEN);
     if eq_ignore_case(scheme, b"http://") {
         Some(rest)
     } else {
@@ -124,7 +129,7 @@ fn sent_after(alloc: Global, method: &[u8], after: &[u8]) -> Result<Octets, NoMe
 
 /// `/` and then the bytes.
 fn with_slash(alloc: Global, bytes: &[u8]) -> Result<Octets, NoMemory>
-    ensures { IfOk result (λ o. o ≡ 47 ∷ bytes.now) }
+    ensures { IfOk result (λ o. o ≡ slash ∷ bytes.now) }
 {
     let mut text = Vec::from_slice(alloc, b"/")?;
     text.extend_from_slice(bytes)?;

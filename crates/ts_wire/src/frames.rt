@@ -1,7 +1,7 @@
 //! Writes a body that is sent on, piece by piece, as it is or in chunks.
 ghost use Rattle.std.specs.Prelude.{◌≡◌, ◌+◌, ◌-◌, ◌*◌, ◌/◌, ◌%◌, ◌<◌, ◌≤◌, ◌∷◌, [], length, drop, false, OnOk, OnErr};
 ghost use Rattle.std.specs.Fmt.{digit_glyph};
-ghost use Rattle.ts_iobuf.specs.Buffer.{Grows};
+ghost use Rattle.ts_iobuf.specs.Buffer.{GrowsBy};
 ghost use Rattle.ts_wire.specs.Frames.{IsPiece, frame_of, end_of, four_digits, leading_zeros, ReadsBack, CutsBack};
 
 use ts_iobuf::IoBuffer;
@@ -55,7 +55,7 @@ fn leading_zeros(n: usize) -> usize
 /// Writes a piece of 1 to 32,768 bytes of a body: all of it with its frame, or nothing for want of memory.
 pub fn frame_piece(mode: Mode, piece: &[u8], out: &mut IoBuffer) -> Result<(), NoMemory>
     requires { IsPiece piece.now }
-    ensures grows { OnOk result (Grows out.old out.new (frame_of mode piece.now)) }
+    ensures grows { OnOk result (GrowsBy out.old out.new (frame_of mode piece.now)) }
     ensures err { OnErr result (out.new ≡ out.old) }
 {
     match mode {
@@ -66,7 +66,7 @@ pub fn frame_piece(mode: Mode, piece: &[u8], out: &mut IoBuffer) -> Result<(), N
 
 fn write_chunk(piece: &[u8], out: &mut IoBuffer) -> Result<(), NoMemory>
     requires { IsPiece piece.now }
-    ensures grows { OnOk result (Grows out.old out.new (frame_of Mode.Chunked piece.now)) }
+    ensures grows { OnOk result (GrowsBy out.old out.new (frame_of Mode.Chunked piece.now)) }
     ensures err { OnErr result (out.new ≡ out.old) }
 {
     let digits = four_digits(piece.len());
@@ -76,7 +76,7 @@ fn write_chunk(piece: &[u8], out: &mut IoBuffer) -> Result<(), NoMemory>
 
 /// Writes the end of a body: all of it, or nothing for want of memory.
 pub fn frame_end(mode: Mode, out: &mut IoBuffer) -> Result<(), NoMemory>
-    ensures grows { OnOk result (Grows out.old out.new (end_of mode)) }
+    ensures grows { OnOk result (GrowsBy out.old out.new (end_of mode)) }
     ensures err { OnErr result (out.new ≡ out.old) }
 
     // The laws that what is sent in chunks is read back, and that the pieces' lengths cut it as it was cut.

@@ -6,7 +6,7 @@ ghost use Rattle.ts_wire.specs.Limits.{status_limit};
 ghost use Rattle.ts_wire.specs.FieldList.{is_named};
 ghost use Rattle.ts_wire.specs.Check.{is_absolute};
 ghost use Rattle.ts_wire.specs.OneHead.{SendsOneRequest, ForwardsUnchanged, SendsOneResponse, ForwardsPlainly};
-ghost use Rattle.ts_wire.specs.Printed.{field_text, fields_text, via_line, status_text, reason_text, framing_line, client_text, host_text, request_field_text, missing_host_text, origin_text};
+ghost use Rattle.ts_wire.specs.Printed.{field_text, fields_text, via_line, status_text, is_ascii_byte, reason_text, framing_line, client_text, host_text, request_field_text, missing_host_text, origin_text};
 
 use crate::check::is_absolute;
 use crate::fields::{Field, Fields};
@@ -14,6 +14,9 @@ use crate::heads::RequestHead;
 use crate::values::is_named;
 use std::alloc::Global;
 use ts_link::{NoMemory, Octets};
+
+// The bytes below it are ASCII.
+const ASCII_END: u8 = 128;
 
 // The room that a head is given first, in bytes; most heads fit.
 const HEAD_ROOM: usize = 512;
@@ -100,9 +103,9 @@ fn add(out: &mut Vec<u8>, text: &[u8]) -> Result<(), NoMemory>
 }
 
 fn is_ascii(bytes: &[u8]) -> bool
-    ensures { result ≡ list_all (λ b. nat_lt b 128) bytes.now }
+    ensures { result ≡ list_all is_ascii_byte bytes.now }
 {
-    bytes.iter().all(|b| *b < 128)
+    bytes.iter().all(|b| *b < ASCII_END)
 }
 
 fn reason_of(reason: &[u8]) -> &[u8]
@@ -154,7 +157,7 @@ pub fn client_head(
     // The text is one response head, which says of the body's end what it was to say.
     ensures one_head { IfOk result (SendsOneResponse status reason.now fields.now framing) }
 
-    // The law that the fields of a head that was read may be sent on so.
+    // The law that the reason and the fields of a head that was read may be sent on so.
     ensures forwards { ForwardsPlainly }
 {
     client_text(alloc, status, reason, fields, via, framing)

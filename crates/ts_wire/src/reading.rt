@@ -8,6 +8,7 @@ ghost use Rattle.httparse.specs.Grammar.{NeverHasRequest, NeverHasResponse};
 ghost use Rattle.httparse.specs.Spans.{span_bytes, IsWithin, IsRequestWithin, IsRequestAt, IsResponseWithin, IsResponseAt};
 ghost use Rattle.ts_wire.specs.Answers.{IfHead, IsHeadUnlessMemory, OnMore, OnBad, OnTooLong};
 ghost use Rattle.ts_wire.specs.Heads.{span_field, IsFieldAt, IsSomeRequestAt, IsSomeResponseAt, KeepsRequest, KeepsResponse, BeginsWithRequest, BeginsWithResponse, IsRequestOf, IsResponseOf, IsOneRequest, IsOneResponse, AwaitsRequest, AwaitsResponse, IsTooLongRequest, IsTooLongResponse};
+ghost use Rattle.ts_wire.specs.OneHead.{IsReadRequest, IsReadResponse};
 
 use crate::fields::{Field, Fields};
 use crate::heads::{MAX_FIELDS, MAX_HEAD, RequestHead, ResponseHead};
@@ -113,6 +114,7 @@ fn request_of(
 pub fn read_request(alloc: Global, bytes: &[u8]) -> Result<Read<RequestHead>, NoMemory>
     ensures head { IfHead result (IsRequestOf bytes.now) }
     ensures one { IfHead result (IsOneRequest bytes.now) }
+    ensures read { IfHead result (λ head used. IsReadRequest head) }
     ensures found { (h : grammar.RequestHead) (rest : List ℕ) → BeginsWithRequest bytes.now h rest
         → IsHeadUnlessMemory result }
     ensures more { OnMore result (AwaitsRequest bytes.now) }
@@ -171,6 +173,7 @@ fn response_of(
 pub fn read_response(alloc: Global, bytes: &[u8]) -> Result<Read<ResponseHead>, NoMemory>
     ensures head { IfHead result (IsResponseOf bytes.now) }
     ensures one { IfHead result (IsOneResponse bytes.now) }
+    ensures read { IfHead result (λ head used. IsReadResponse head) }
     ensures found { (h : grammar.ResponseHead) (rest : List ℕ) → BeginsWithResponse bytes.now h rest
         → IsHeadUnlessMemory result }
     ensures more { OnMore result (AwaitsResponse bytes.now) }

@@ -31,7 +31,7 @@ fn trim_end(mut s: &[u8]) -> &[u8]
 }
 
 /// The bytes without the spaces and tabs at both ends.
-pub(crate) fn trim(s: &[u8]) -> &[u8]
+pub fn trim(s: &[u8]) -> &[u8]
     ensures { result.now ≡ trim_ows s.now }
 {
     trim_end(trim_start(s))
@@ -52,14 +52,14 @@ pub(crate) fn eq_ignore_case(a: &[u8], b: &[u8]) -> bool
 }
 
 /// Whether the field has this name, which is in lower case.
-pub(crate) fn is_named(field: &Field, name: &[u8]) -> bool
+pub fn is_named(field: &Field, name: &[u8]) -> bool
     ensures { result ≡ is_named name.now field.now }
 {
     field.name.as_bytes() == name
 }
 
 /// The field's value without the spaces and tabs around it.
-pub(crate) fn value_of(field: &Field) -> &[u8]
+pub fn value_of(field: &Field) -> &[u8]
     ensures { result.now ≡ value_of field.now }
 {
     trim(field.value.as_bytes())

@@ -111,34 +111,40 @@ fn reads_and_relays_responses(rt: HostRuntime) -> Result<(), Fail> {
     check_rows(&rt, alloc, close, RELAYED_UNTIL_CLOSE)
 }
 
-/// A start of a head, how many field lines follow, what ends it, and what is answered.
-type Lines = (usize, &'static [u8], &'static [u8]);
+/// What is asked of a head with so many field lines or bytes and this end, and what is answered.
+type Lines = (Asked, usize, &'static [u8], &'static [u8]);
 
-const LINES: [Lines; 4] = [
-    (64, b"\r\n", b"/ "),
-    (64, b"", b"more"),
-    (65, b"\r\n", b"too long"),
-    (65, b"", b"too long"),
+// What is sent has a Host, a Via and a Connection field more than this request.
+const LINES: [Lines; 6] = [
+    (Asked::Check, 64, b"\r\n", b"/ "),
+    (Asked::Check, 64, b"", b"more"),
+    (Asked::Check, 65, b"\r\n", b"too long"),
+    (Asked::Check, 65, b"", b"too long"),
+    (Asked::SentAgain, 61, b"\r\n", b"/ "),
+    (Asked::SentAgain, 62, b"\r\n", b"too long"),
 ];
 
-const LENGTHS: [Lines; 4] = [
-    (16384, b"\r\n\r\n", b"/ "),
-    (16385, b"\r\n\r\n", b"too long"),
-    (16383, b"", b"more"),
-    (16384, b"", b"too long"),
+// And 42 bytes more, a blank behind the name with them.
+const LENGTHS: [Lines; 6] = [
+    (Asked::Check, 16384, b"\r\n\r\n", b"/ "),
+    (Asked::Check, 16385, b"\r\n\r\n", b"too long"),
+    (Asked::Check, 16383, b"", b"more"),
+    (Asked::Check, 16384, b"", b"too long"),
+    (Asked::SentAgain, 16342, b"\r\n\r\n", b"/ "),
+    (Asked::SentAgain, 16343, b"\r\n\r\n", b"too long"),
 ];
 
 #[test]
 fn keeps_limits_of_heads(rt: HostRuntime) -> Result<(), Fail> {
     let alloc = rt.alloc();
-    for (count, end, want) in LINES {
+    for (asked, count, end, want) in LINES {
         let text = with_lines(alloc, b"GET / HTTP/1.0\r\n", count, end)?;
-        let got = answer(alloc, Asked::Check, text.as_slice())?;
+        let got = answer(alloc, asked, text.as_slice())?;
         assert_eq!(rt; got.as_slice(), want);
     }
-    for (len, end, want) in LENGTHS {
+    for (asked, len, end, want) in LENGTHS {
         let text = filled(alloc, b"GET / HTTP/1.0\r\na:", end, len)?;
-        let got = answer(alloc, Asked::Check, text.as_slice())?;
+        let got = answer(alloc, asked, text.as_slice())?;
         assert_eq!(rt; got.as_slice(), want);
     }
     Ok(())

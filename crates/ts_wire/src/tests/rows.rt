@@ -18,6 +18,8 @@ pub(crate) enum Asked {
     Check,
     /// The head that the origin gets of the request, or nothing.
     Sent,
+    /// How the check takes the head that the origin gets of the request, as `Check` tells it.
+    SentAgain,
     /// Where the body of the response ends, or why there is no head. `true`: it answers a HEAD.
     Ends(bool),
     /// The head that the client gets of the response, where it says this of the body, or nothing.
@@ -100,6 +102,7 @@ pub(crate) fn answer(alloc: Global, asked: Asked, input: &[u8]) -> Result<Vec<u8
     match asked {
         Asked::Check => checked(alloc, input),
         Asked::Sent => sent(alloc, input),
+        Asked::SentAgain => checked(alloc, sent(alloc, input)?.as_slice()),
         Asked::Ends(to_head) => ends(alloc, input, to_head),
         Asked::Relayed(framing) => relayed(alloc, input, framing),
         Asked::Body(framing) => body(alloc, input, framing),

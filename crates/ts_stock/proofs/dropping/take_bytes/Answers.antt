@@ -1,5 +1,5 @@
 use Rattle.std.proofs.Common.{◌≡◌, ◌≤◌, ◌+◌, ◌-◌, ◌++◌, length, take, drop, length-take-le, length-drop, sym, ap, ◌∙◌, arith}
-use Rattle.ts_config.specs.Bodies.{without}
+use Rattle.ts_config.specs.Bodies.{without_byte}
 use Rattle.ts_stock.proofs.Runs.{run_stays, front_grows, filled_grows}
 use Rattle.ts_stock.proofs.dropping.take_bytes.Goals as goal
 
@@ -27,6 +27,6 @@ returns-clause-up_to c =
       bytes = filled_grows filled kept (length room - filled) room c.drop_bytes-kept.new.room fits stays
           ∙ ap (λ t. t ++ take kept c.drop_bytes-kept.new.room) (c.write_run-filled.ensures.bytes ∙ ap (λ t. t ++ take (start - done) (drop done input)) before.bytes
           ∙ sym (run_stays byte done start input before.order (omega (arith, bounds.0, bounds.1)) before.free))
-          ∙ ap (λ t. without byte (take start input) ++ t) c.drop_bytes-kept.ensures.bytes
+          ∙ ap (λ t. without_byte byte (take start input) ++ t) c.drop_bytes-kept.ensures.bytes
           ∙ sym (front_grows byte start end input bounds.0);
     }

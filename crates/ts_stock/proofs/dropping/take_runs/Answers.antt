@@ -1,7 +1,7 @@
 use Rattle.std.proofs.Common.{◌≡◌, ◌<◌, ◌+◌, ◌-◌, ◌++◌, inl, inr, length, take, drop, length-take-le, length-drop, sym, ap, ◌∙◌, arith}
 use Rattle.std.proofs.lemmas.Bool.{cases_order}
 use Rattle.std.proofs.lemmas.Nat.Bits.{bit_at-zero}
-use Rattle.ts_stock.specs.Dropping.{IsFree}
+use Rattle.ts_stock.specs.Dropping.{IsFreeOf}
 use Rattle.ts_stock.proofs.Runs.{run_stays, place_left_out}
 use Rattle.ts_stock.proofs.Bits.{place_holds, free_to}
 use Rattle.ts_stock.proofs.dropping.take_runs.Goals as goal
@@ -22,7 +22,7 @@ loop-left-preserved c =
     let there = (inv.left first).0 c.first_of-first.ensures.there in
     let below : place < length input = omega (arith, within, c.requires.within.0) in
     let run : length (take (place - done) (drop done input)) ≡ place - done = length-take-le (place - done) (drop done input) (omega (arith, there.1, below, length-drop done input)) in
-    let free : IsFree byte input done place = free_to byte start done first c.args.places c.loop-left.left input c.requires.within.0 (omega (arith, within)) c.requires.places inv.left inv.free c.first_of-first.ensures.first in
+    let free : IsFreeOf byte input done place = free_to byte start done first c.args.places c.loop-left.left input c.requires.within.0 (omega (arith, within)) c.requires.places inv.left inv.free c.first_of-first.ensures.first in
     record {
       order = omega (arith, within);
       within = omega (arith, c.write_run-filled.ensures.count, run, inv.within, there.1);

@@ -1,5 +1,5 @@
 use Rattle.std.proofs.Common.{ap, arith, Err}
-use Rattle.ts_wire.proofs.OneResponse.{is_one_response}
+use Rattle.ts_wire.proofs.OneResponse.{is_one_response, was_read}
 use Rattle.ts_wire.proofs.ResponseLemmas.{response_found, response_at_own, response_within_own, lacks_response, full_of_none, too_many, lacks_now, never_response, never_lacks, awaits_response}
 use Rattle.ts_wire.proofs.reading.read_response.Goals as goal
 
@@ -29,6 +29,9 @@ returns-in_ok-head-in-Ok-Complete-clause-head c =
 
 pub returns-in_ok-head-in-Ok-Complete-clause-one : goal.returns-in_ok-head-in-Ok-Complete-clause-one
 returns-in_ok-head-in-Ok-Complete-clause-one c = is_one_response c.args.bytes.now _ _ (returns-in_ok-head-in-Ok-Complete-clause-head c)
+
+pub returns-in_ok-head-in-Ok-Complete-clause-read : goal.returns-in_ok-head-in-Ok-Complete-clause-read
+returns-in_ok-head-in-Ok-Complete-clause-read c = was_read c.args.bytes.now _ _ (returns-in_ok-head-in-Ok-Complete-clause-head c)
 
 pub returns-then-bytes-lt-MAX_HEAD-clause-found : goal.returns-then-bytes-lt-MAX_HEAD-clause-found
 returns-then-bytes-lt-MAX_HEAD-clause-found c =
