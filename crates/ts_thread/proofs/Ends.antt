@@ -85,6 +85,8 @@ module _ {W Q R T U : Type 0} where
           left = c;
           pending = pending ∙ ap (λ (s : State). s.pending) state;
           handled = gives.same.handled ∙ ap (λ (s : State). s.handled_count) state;
+          later = subst (λ (s : State). IsLater s c.cx.log.state) state gives.later;
+          base = gives.base ∙ same.log.base ∙ ap (λ (x : Group W Q R T U). x.cx.log.base) e;
           told = record {
             none = λ n p there. let low = told'.none n p (sym (ap (pending_at n) pending) ∙ there) in omega arith;
             each = λ n p there low. placed p (told'.each n p (sym (ap (pending_at n) pending) ∙ there) low);

@@ -1,9 +1,11 @@
 mod Alone
 mod Entries
 mod Groups
+mod Joins
 mod Moves
 mod Rows
 mod Seats
+mod Starts
 mod Telling
 mod Tokens
 mod Ends

@@ -6,7 +6,7 @@ use Rattle.ts_queue.specs.declared.ticket.Token.{Token}
 use Rattle.ts_queue.specs.declared.ticket.Ticket.{Ticket}
 use Rattle.ts_queue.specs.declared.view.View.{View}
 use Rattle.ts_queue.specs.Tickets.{is_same_token}
-use Rattle.ts_queue.specs.Passes.{Takes}
+use Rattle.ts_queue.specs.Passes.{TakesTicket}
 use Rattle.ts_slot.specs.Lists.{IsIn}
 use Rattle.ts_wheel.specs.Due.{added, first_due, after_due}
 use Rattle.ts_thread.specs.News.{in_wheel, in_tickets}
@@ -27,7 +27,7 @@ first_named groups now (e ∷ es) t all h = by_test (leb e.0 now) h
 pub lets_go_none : (groups : ℕ) (v : View) → LetsGo groups v v
 lets_go_none groups v = record { gone = []; foreign = All-nil (λ (t : Ticket). groups ≤ t.token.group); is = refl }
 
-pub lets_go_one : (groups : ℕ) (u v w : View) (t : Ticket) → LetsGo groups u v → Takes v t w → groups ≤ t.token.group → LetsGo groups u w
+pub lets_go_one : (groups : ℕ) (u v w : View) (t : Ticket) → LetsGo groups u v → TakesTicket v t w → groups ≤ t.token.group → LetsGo groups u w
 lets_go_one groups u v w t was takes foreign = record {
   gone = t ∷ was.gone;
   foreign = All-cons (λ (x : Ticket). groups ≤ x.token.group) t was.gone foreign was.foreign;

@@ -9,6 +9,7 @@ use Rattle.ts_journal.specs.Later.{IsLater}
 use Rattle.ts_group.specs.declared.action.Named.{Named}
 use Rattle.ts_group.specs.declared.group.Group.{Group}
 use Rattle.ts_group.specs.declared.slot.TheConstants.{MOST_IN_TURN}
+use Rattle.ts_group.specs.declared.world.TheConstants.{MOST_SET}
 use Rattle.ts_group.specs.Answers.{Holds, KeepsTags, SetsAtMost}
 use Rattle.ts_group.specs.Changes.{StaysInTurn, SameEvents}
 use Rattle.ts_group.specs.Slot.{marks_of}
@@ -70,6 +71,14 @@ module _ {W Q R T U : Type 0} where
     pub base : new.cx.log.base ≡ old.cx.log.base
     pub news_from : new.cx.news_from ≡ old.cx.news_from
     pub same : BeginsSame old new
+
+  -- The world set its first events in the turn, which are few where it fits a tag.
+  pub record StartsInTurn (Fits : T → W → Type 0) (Sound : W → State → List Named → Type 0) (Begun : W → W → Type 0)
+      (old new : Group W Q R T U) : Type 0 where
+    pub goes : GoesInTurn Fits old new
+    pub sound : Holds Sound new
+    pub begun : Begun old.world new.world
+    pub few : SetsAtMost Fits old.world MOST_SET old.cx new.cx
 
   -- what a handler's work leaves of its group
   pub record IsWorked (Fits : T → W → Type 0) (Sound : W → State → List Named → Type 0) (old new : Group W Q R T U) : Type 0 where

@@ -8,7 +8,7 @@ use Rattle.ts_queue.specs.declared.ticket.Token.{Token}
 use Rattle.ts_queue.specs.declared.ticket.Ticket.{Ticket}
 use Rattle.ts_queue.specs.declared.view.View.{View}
 use Rattle.ts_queue.specs.Views.{putting_next}
-use Rattle.ts_queue.specs.Passes.{view as known_of, empties_of, Takes, FindsEmpty}
+use Rattle.ts_queue.specs.Passes.{view as known_of, empties_of, TakesTicket, FindsEmpty}
 use Rattle.ts_wheel.specs.Due.{added, first_due, after_due}
 use Rattle.ts_thread.specs.declared.desk.Desk.{Desk}
 
@@ -29,7 +29,7 @@ pub record TakesNext (groups : ℕ) (old new : View) (token : Token) : Type 0 wh
   pub lets_go : LetsGo groups old before
   pub ticket : Ticket
   pub is : ticket.token ≡ token
-  pub takes : Takes before ticket new
+  pub takes : TakesTicket before ticket new
 
 -- a take of the pass found the queue empty at one moment, after it had let go what names none of so many groups
 pub record FindsNone (groups : ℕ) (old new : QueuePass) : Type 0 where

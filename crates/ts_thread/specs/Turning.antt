@@ -2,7 +2,7 @@
 use Rattle.std.specs.Prelude.{◌≡◌, ℕ, ◌<◌}
 use Rattle.ts_journal.specs.declared.slotted.Slotted.{Ghosts}
 use Rattle.ts_journal.specs.State.{State}
-use Rattle.ts_journal.specs.Later.{Follows}
+use Rattle.ts_journal.specs.Later.{IsLater, Follows}
 use Rattle.ts_group.specs.Context.{moment_after}
 use Rattle.ts_group.specs.declared.group.Group.{Group}
 use Rattle.ts_group.specs.Slot.{trace_of}
@@ -53,6 +53,8 @@ module _ {W Q R T U : Type 0} {d : Ghosts (Group W Q R T U) T (ℕ × State)} wh
     pub left : Group W Q R T U
     pub pending : left.cx.log.state.pending ≡ now.cx.log.state.pending
     pub handled : left.cx.log.state.handled_count ≡ now.cx.log.state.handled_count
+    pub later : IsLater now.cx.log.state left.cx.log.state
+    pub base : left.cx.log.base ≡ now.cx.log.base
     pub told : HasTold k moment now left old new
     pub knows : KnowsTurn k turn (trace_of left.cx) (view new.seat).known
 

@@ -2,7 +2,7 @@
 
 ghost use Rattle.std.specs.Prelude.{◌≡◌, ◌<◌, true, false, OnOk, OnErr};
 ghost use Rattle.ts_group.specs.Answers.{Holds};
-ghost use Rattle.ts_thread.specs.Held.{HasTurn, IsGiven, BeginsSame, GivesBack};
+ghost use Rattle.ts_thread.specs.Held.{HasTurn, IsGiven, BeginsSame, GivesBack, StartsInTurn};
 
 use ts_group::{Group, World};
 use ts_link::NoMemory;
@@ -26,6 +26,16 @@ pub fn begin<W: World + Drop>(
 {
     group.known();
     group.begin_turn(turn, seat, moment)
+}
+
+/// Lets the world of a group set its first events.
+pub fn start<W: World + Drop>(group: &mut Group<W>)
+    requires turn { group.old.cx.log.state.held ≡ true }
+    requires sound { Holds W.sound group.old }
+    ensures starts { StartsInTurn W.fits W.sound W.begun group.old group.new }
+{
+    group.known();
+    group.start();
 }
 
 /// Gives the turn of a group back.

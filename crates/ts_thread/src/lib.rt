@@ -8,16 +8,23 @@ mod ending;
 mod held;
 mod leaving;
 mod news;
+mod running;
+mod starting;
 mod taking;
 mod thread;
+mod threads;
 mod turning;
 
 pub use did::{Did, RunEnd};
 pub use ending::{ONLY_SEAT, finish};
+pub use running::run_groups;
 pub use thread::EventThread;
 
 /// How many turns a group can have.
 pub const MOST_TURNS: u64 = 1 << 63;
+
+/// How many threads run groups at most.
+pub const MOST_THREADS: u32 = 64;
 
 /// How many milliseconds after a miss a token is due again.
 pub const PUT_BACK: u64 = 10;

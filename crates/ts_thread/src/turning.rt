@@ -79,8 +79,8 @@ fn work<W: World + Drop>(
     }
 }
 
-// Tells the news of the group that the seat won last, gives its turn back and leaves it, at want of memory too.
-fn end_turn<W: World + Drop, R: Wait>(
+/// Tells the news of the group that the seat won last, gives its turn back and leaves it, at want of memory too.
+pub fn end_turn<W: World + Drop, R: Wait>(
     rt: &R,
     slots: &Slots<Group<W>>,
     queue: &EventQueue,
