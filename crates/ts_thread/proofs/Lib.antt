@@ -1,4 +1,14 @@
 mod Alone
+pub mod Ended
+mod Ends
+mod Entries
+mod Groups
+mod Joins
 mod Moves
 mod Rows
-pub mod Ended
+mod Seats
+mod Starts
+mod Telling
+mod Tokens
+mod Uses
+mod Worked

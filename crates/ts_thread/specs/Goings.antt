@@ -15,7 +15,6 @@ use Rattle.ts_group.specs.Answers.{Holds, LeavesLess, KeepsTags, SetsAtMost}
 use Rattle.ts_group.specs.Changes.{StaysInTurn}
 use Rattle.ts_group.specs.Due.{IsDueFirst}
 use Rattle.ts_slot.specs.Limits.{last_turn}
-use Rattle.ts_thread.specs.declared.TheConstants.{MOST_LEFT}
 use Rattle.ts_thread.specs.Alone.{HandlesDue, TakesTurns}
 use Rattle.ts_thread.specs.Tags.{GroupFits}
 
@@ -83,13 +82,6 @@ HasTurns more g = g.cx.log.state.turns + more ≤ last_turn
 -- the event of this number is due first of all that is pending, at this moment
 abbrev pub IsDue : {W Q R T U : Type 0} → Group W Q R T U → ℕ → ℕ → Type 0
 IsDue g number moment = IsDueFirst g.cx.log.state moment number
-
--- Each group that fits a tag, after so many turns at most, tells what is left to do, and it is not too much.
-abbrev pub EndSoon : {W T : Type 0} → (Q R U : Type 0) → (T → W → Type 0) → (W → State → List Named → Type 0)
-    → (T → Bool) → (T → Bool) → (W → State → Option ℕ) → ℕ → Type 0
-EndSoon {W} {T} Q R U Fits Sound only_asked is_first Left turns =
-    (t : T) (g : Group W Q R T U) → GroupFits Fits Sound only_asked is_first t g → g.cx.log.state.turns ≤ turns
-    → Tells Left g × (left_of Left g ≤ MOST_LEFT)
 
 -- one group of a row, with those before and after it
 abbrev pub row : {X : Type 0} → List X → X → List X → List X

@@ -1,10 +1,14 @@
 -- Rows of peers: that they can ask, and that they end.
-use Rattle.std.proofs.Common.{◌≡◌, ℕ, zero, suc, ◌+◌, ◌≤◌, List, [], ◌∷◌, ◌++◌, length, length-append, Bool, true, false, Some, refl, sym, ap, ◌∙◌, subst, All, arith}
+use Rattle.std.proofs.Common.{◌≡◌, ℕ, zero, suc, ◌+◌, ◌<◌, ◌≤◌, List, [], ◌∷◌, ◌++◌, length, length-append, Bool, true, false, Some, refl, sym, ap, ◌∙◌, subst, All, arith}
+use mathlib.Core.Option.{some}
+use lib.ListN.{get_elem?}
 use Rattle.std.specs.List.{slice_get}
 use Rattle.std.proofs.lemmas.List.Elements.{All-nil, All-cons, All-append, All-head, All-tail}
 use Rattle.ts_group.specs.declared.group.Group.{Group}
+use Rattle.ts_thread.specs.declared.TheConstants.{MOST_LEFT}
 use Rattle.ts_thread.specs.Tags.{CanAsk, GroupsFit}
-use Rattle.ts_thread.specs.Goings.{EndSoon}
+use Rattle.ts_thread.specs.Started.{CanStart}
+use Rattle.ts_thread.specs.Whole.{EndSoon}
 use Rattle.ts_thread_tests.specs.declared.peer.Peer.{Peer}
 use Rattle.ts_thread_tests.specs.declared.peer.TheConstants.{ASKED}
 use Rattle.ts_thread_tests.specs.Peers.{PeerFits, PeerSound, PeerMayAsk, PeerRight, PeerAnswers, peer_left, IsPeer, AreRow, row_tags}
@@ -25,8 +29,8 @@ peers_can_ask = record {
   replies = λ j k t u w v q r at fit there fits answers. answers;
 }
 
-pub peers_end : (turns : ℕ) → EndSoon ℕ ℕ (Unit {0}) PeerFits PeerSound (λ b. b) (λ b. true) peer_left turns
-peers_end turns = λ t g fit few. let sound = fit.1 in let todo = sound.few in let one = sound.one in (refl, omega arith)
+pub peers_end : (turns : ℕ) → turns ≤ MOST_LEFT → EndSoon ℕ ℕ (Unit {0}) PeerFits PeerSound (λ b. b) (λ b. true) peer_left turns
+peers_end turns low = record { few = low; each = λ t g fit few. let sound = fit.1 in let todo = sound.few in let one = sound.one in (refl, omega arith) }
 
 pub row_of : (n : ℕ) (xs : List (Group Peer ℕ ℕ Bool (Unit {0}))) (x : Group Peer ℕ ℕ Bool (Unit {0})) → length xs ≡ n → All (λ g. IsPeer false g) xs → IsPeer true x
     → GroupsFit PeerFits PeerSound (λ b. b) (λ b. true) (row_tags n) (xs ++ x ∷ [])
@@ -70,3 +74,31 @@ row_done started gs hs g was is fits new =
       record { fits = row; few = subst (λ ks. All (λ h. h.cx.log.state.turns ≤ 1) ks) (sym is) (all_more (λ h. h.cx.log.state.turns ≤ 1) gs g was.few (omega arith)); count = len },
       λ e. record { fits = row; few = subst (λ ks. All (λ h. h.cx.log.state.turns ≤ 0) ks) (sym is) (all_more (λ h. h.cx.log.state.turns ≤ 0) gs g (was.new e) new); count = len },
     )
+
+-- the tags of so many peers that are not only asked
+abbrev pub workers_tags : ℕ → List Bool
+workers_tags zero = []
+workers_tags (suc n) = false ∷ workers_tags n
+
+tags_snoc : (n : ℕ) → workers_tags n ++ false ∷ [] ≡ workers_tags (suc n)
+tags_snoc zero = refl
+tags_snoc (suc n) = ap (λ ts. false ∷ ts) (tags_snoc n)
+
+pub tags_next : (n : ℕ) (old new : List Bool) → old ≡ workers_tags n → new ≡ old ++ false ∷ [] → new ≡ workers_tags (n + 1)
+tags_next n old new was is = let e : suc n ≡ n + 1 = omega arith in is ∙ ap (λ ts. ts ++ false ∷ []) was ∙ tags_snoc n ∙ ap workers_tags e
+
+tags_last : (n : ℕ) → workers_tags n ++ true ∷ [] ≡ row_tags n
+tags_last zero = refl
+tags_last (suc n) = ap (λ ts. false ∷ ts) (tags_last n)
+
+pub tags_done : (n m : ℕ) (old new : List Bool) → n ≡ m → old ≡ workers_tags n → new ≡ old ++ true ∷ [] → new ≡ row_tags m
+tags_done n m old new e was is = is ∙ ap (λ ts. ts ++ true ∷ []) was ∙ tags_last n ∙ ap row_tags e
+
+-- a worker's tag
+tag_at : (n k : ℕ) → k < n → get_elem? (row_tags n) k ≡ some false
+tag_at zero k low = absurd (omega arith)
+tag_at (suc n) zero low = refl
+tag_at (suc n) (suc k) low = tag_at n k (omega arith)
+
+pub row_starts : CanStart (λ b. b) (row_tags ASKED) ASKED
+row_starts k low = (false, tag_at ASKED k low, refl)

@@ -1,15 +1,21 @@
 //! A row of peers, of which the last is only asked.
 
-ghost use Rattle.std.specs.Prelude.{◌≡◌, ◌≤◌, true, false, All, IfOk, OnOk};
+ghost use Rattle.std.specs.Prelude.{◌≡◌, ◌<◌, ◌≤◌, true, false, All, IfOk, OnOk};
+ghost use Rattle.ts_thread.specs.declared.TheConstants.{MOST_THREADS};
 ghost use Rattle.ts_thread.specs.Goings.{IsIdle};
-ghost use Rattle.ts_thread_tests.specs.Peers.{IsPeer, AreRow};
+ghost use Rattle.ts_thread_tests.specs.Peers.{IsPeer, AreRow, row_tags};
 
 use crate::peer::{ASKED, MOST_TODO, Peer};
 use std::alloc::Global;
+use std::sync::Wait;
+use std::thread::Threads;
 use ts_group::Group;
 use ts_journal::Entry;
-use ts_link::NoMemory;
-use ts_thread::{ONLY_SEAT, finish};
+use ts_link::{Gate, NoMemory};
+use ts_thread::{ONLY_SEAT, finish, run_whole};
+
+/// How many turns each thread takes at most.
+const BUDGET: u64 = 1_000_000;
 
 /// What stands at the end.
 #[derive(Clone, Copy, Debug, PartialEq, Eq)]
@@ -92,6 +98,35 @@ pub fn drive_row(groups: &mut Vec<Group<Peer>>) -> Result<(), NoMemory>
     ensures { OnOk result (All IsIdle groups.new.items) }
 {
     finish(groups)
+}
+
+/// Runs a row that was not started by so many threads, and drives it to its end.
+pub fn run_row<G: Gate + Sync, R: Threads + Wait + Sync>(
+    rt: &R,
+    alloc: Global,
+    todo: u32,
+    threads: u32,
+    gate: &G,
+) -> Result<Vec<Group<Peer>>, NoMemory>
+    requires todo { todo ≤ MOST_TODO }
+    requires threads { (0 < threads) × (threads ≤ MOST_THREADS) }
+    ensures { IfOk result (λ gs. All IsIdle gs.items) }
+{
+    let groups = make_row(alloc, todo, false)?;
+    let tags = make_tags(alloc)?;
+    run_whole(rt, alloc, groups, tags, ASKED, threads, BUDGET, gate)
+}
+
+// The tags of a row.
+fn make_tags(alloc: Global) -> Result<Vec<bool>, NoMemory>
+    ensures { IfOk result (λ tags. tags.items ≡ row_tags ASKED) }
+{
+    let mut tags = Vec::new(alloc);
+    'workers: for _place in 0..ASKED {
+        tags.push(false)?;
+    }
+    tags.push(true)?;
+    Ok(tags)
 }
 
 /// What stands in a row at the end.

@@ -10,8 +10,8 @@ finish-requires-clause-fits c = (row_tags ASKED, peers_can_ask, c.requires.fits)
 
 pub finish-requires-clause-tells : goal.finish-requires-clause-tells
 finish-requires-clause-tells c =
-    (can_finish PeerFits PeerSound (λ b. b) (λ b. true) peer_left 1 (row_tags ASKED) c.args.groups.now.items (omega arith) (let n = c.requires.count in omega arith) (peers_end 1) c.requires.fits c.requires.few).0
+    (can_finish PeerFits PeerSound (λ b. b) (λ b. true) peer_left 1 (row_tags ASKED) c.args.groups.now.items (let n = c.requires.count in omega arith) (peers_end 1 (omega arith)) c.requires.fits c.requires.few).0
 
 pub finish-requires-clause-turns : goal.finish-requires-clause-turns
 finish-requires-clause-turns c =
-    (can_finish PeerFits PeerSound (λ b. b) (λ b. true) peer_left 1 (row_tags ASKED) c.args.groups.now.items (omega arith) (let n = c.requires.count in omega arith) (peers_end 1) c.requires.fits c.requires.few).1
+    (can_finish PeerFits PeerSound (λ b. b) (λ b. true) peer_left 1 (row_tags ASKED) c.args.groups.now.items (let n = c.requires.count in omega arith) (peers_end 1 (omega arith)) c.requires.fits c.requires.few).1
