@@ -5,6 +5,7 @@ mod Entries
 mod Groups
 mod Joins
 mod Moves
+mod Pair
 mod Rows
 mod Seats
 mod Starts

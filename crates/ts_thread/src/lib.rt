@@ -11,6 +11,8 @@ mod news;
 mod running;
 mod starting;
 mod taking;
+#[cfg(test)]
+mod tests;
 mod thread;
 mod threads;
 mod turning;
