@@ -1,0 +1,107 @@
+-- What a turn leaves of a desk.
+use Rattle.std.proofs.Common.{◌≡◌, ℕ, ◌+◌, ◌<◌, inl, inr, Bool, true, [], ◌∷◌, ◌++◌, length, sym, ap, ◌∙◌, subst, ⊎_elim, arith}
+use Rattle.std.specs.List.{Contains}
+use Rattle.std.proofs.lemmas.List.Elements.{Contains-append_cases}
+use Rattle.ts_journal.specs.declared.slotted.Slotted.{Ghosts}
+use Rattle.ts_journal.specs.declared.entry.Pending.{Pending}
+use Rattle.ts_journal.specs.State.{State, pending_at}
+use Rattle.ts_journal.specs.Later.{IsLater}
+use Rattle.ts_journal.proofs.Later.{later_trans}
+use Rattle.ts_group.specs.declared.group.Group.{Group}
+use Rattle.ts_group.specs.Context.{IsSame}
+use Rattle.ts_group.specs.Slot.{trace_of, marks_of}
+use Rattle.ts_group.proofs.Slots.{one_mark}
+use Rattle.ts_queue.specs.declared.queue.EventQueue.{EventQueue}
+use Rattle.ts_queue.specs.declared.ticket.Token.{Token}
+use Rattle.ts_queue.specs.declared.queue.QueuePass.{QueuePass}
+use Rattle.ts_queue.specs.Passes.{IsPassOf, view as known_of}
+use Rattle.ts_slot.specs.declared.slots.Slots.{Slots}
+use Rattle.ts_slot.specs.Lists.{IsIn}
+use Rattle.ts_slot.specs.Words.{tags_of, view, IsSeatOf}
+use Rattle.ts_wheel.specs.Due.{added}
+use Rattle.ts_thread.specs.declared.desk.Desk.{Desk}
+use Rattle.ts_thread.specs.Desks.{IsDeskOf}
+use Rattle.ts_thread.specs.Held.{HasTurn, IsGiven, GivesBack}
+use Rattle.ts_thread.specs.News.{HasTold, HasPlace, HasTicket, is_between, is_news, in_wheel, in_tickets, places_of}
+use Rattle.ts_thread.specs.Seats.{KnowsTurn}
+use Rattle.ts_thread.specs.Tokens.{AllName}
+use Rattle.ts_thread.specs.Turning.{EndsTurn}
+use Rattle.ts_thread.proofs.Tokens.{one_if, All-added}
+
+-- a desk stays one of its tables when a token of one of the groups is added to its wheel
+pub desk_added : {X G T : Type 0} {d : Ghosts X G T} (slots : Slots X G T) (queue : EventQueue) (a b : Desk X G T d) (token : Token) (due : ℕ) → token.group < length (tags_of slots)
+    → IsSeatOf slots b.seat → b.pass ≡ a.pass → b.wheel ≡ added due token a.wheel → IsDeskOf slots queue a → IsDeskOf slots queue b
+desk_added slots queue a b token due names seat pass wheel was = record {
+  seat = seat;
+  pass = subst (λ p. IsPassOf queue p) (sym pass) was.pass;
+  wheel = subst (AllName (length (tags_of slots))) (sym wheel) (All-added (λ (e : ℕ × Token). e.1.group < length (tags_of slots)) due token a.wheel names was.wheel);
+}
+
+-- what a group has to have when its turn is given back
+pub record IsGivable {W Q R T U : Type 0} (found now : Group W Q R T U) (turn seat : ℕ) : Type 0 where
+  pub held : now.cx.log.state.held ≡ true
+  pub number : now.cx.log.state.turns ≡ turn
+  pub marks : marks_of now.cx.log.entries ≡ marks_of found.cx.log.entries ++ (turn, seat) ∷ []
+  pub later : IsLater found.cx.log.state now.cx.log.state
+  pub base : now.cx.log.base ≡ found.cx.log.base
+
+module _ {W Q R T U : Type 0} where
+  given_held : (found a b : Group W Q R T U) (turn seat : ℕ) → IsGivable found a turn seat → GivesBack a b → IsGiven found b turn seat
+  given_held found a b turn seat has gives = record {
+    free = gives.free;
+    stamp = inr (gives.number ∙ has.number);
+    marks = λ mark there.
+        let was : Contains (marks_of found.cx.log.entries ++ (turn, seat) ∷ []) mark = subst (λ ms. Contains ms mark) (gives.marks ∙ has.marks) there in
+        ⊎_elim (λ (old : Contains (marks_of found.cx.log.entries) mark). inl old) (λ (one : Contains ((turn, seat) ∷ []) mark). inr (one_mark (turn, seat) mark one))
+        (Contains-append_cases (marks_of found.cx.log.entries) ((turn, seat) ∷ []) mark was);
+    later = later_trans found.cx.log.state a.cx.log.state b.cx.log.state has.later gives.later;
+    base = gives.base ∙ has.base;
+  }
+
+  -- a turn stays one where nothing changes but the news
+  pub told_has : (found a b : Group W Q R T U) (turn seat : ℕ) → HasTurn found a turn seat → IsSame (record a.cx { news_from = b.cx.news_from }) b.cx → IsGivable found b turn seat
+  told_has found a b turn seat has same = record {
+    held = ap (λ (s : State). s.held) same.log.state ∙ has.held;
+    number = ap (λ (s : State). s.turns) same.log.state ∙ has.number;
+    marks = ap marks_of same.log.entries ∙ has.marks;
+    later = subst (λ (s : State). IsLater found.cx.log.state s) (sym same.log.state) has.later;
+    base = same.log.base ∙ has.base;
+  }
+
+  -- the news was told, and the turn given back
+  pub told_given : (found a a' b b' c : Group W Q R T U) (turn seat : ℕ) → HasTurn found a turn seat → a' ≡ a → IsSame (record a'.cx { news_from = b.cx.news_from }) b.cx → b' ≡ b → GivesBack b' c → IsGiven found c turn seat
+  told_given found a a' b b' c turn seat has e same f gives = given_held found b c turn seat (told_has found a' b turn seat (subst (λ x. HasTurn found x turn seat) (sym e) has) same) (subst (λ x. GivesBack x c) f gives)
+
+  module _ {d : Ghosts (Group W Q R T U) T (ℕ × State)} where
+    pub ends_turn : (k k' turn moment : ℕ) (a a' b b' c : Group W Q R T U) (old mid new : Desk (Group W Q R T U) T (ℕ × State) d) → k' ≡ k → a' ≡ a → IsSame (record a'.cx { news_from = b.cx.news_from }) b.cx → b' ≡ b → GivesBack b' c
+        → new.wheel ≡ mid.wheel → new.pass ≡ mid.pass → KnowsTurn k turn (trace_of c.cx) (view new.seat).known → HasTold k' moment a' b old mid → EndsTurn k turn moment a old new
+    ends_turn k k' turn moment a a' b b' c old mid new ke e same f gives' wheel pass knows told =
+        let gives : GivesBack b c = subst (λ x. GivesBack x c) f gives' in
+        let pending : c.cx.log.state.pending ≡ b.cx.log.state.pending = gives.same.pending in
+        let from = gives.news_from in
+        let state : b.cx.log.state ≡ a.cx.log.state = same.log.state ∙ ap (λ (x : Group W Q R T U). x.cx.log.state) e in
+        let told' : HasTold k moment a b old mid = subst (λ (x : ℕ × Group W Q R T U). HasTold x.0 moment x.1 b old mid) (λ i. (ke i, e i)) told in
+        record {
+          left = c;
+          pending = pending ∙ ap (λ (s : State). s.pending) state;
+          handled = gives.same.handled ∙ ap (λ (s : State). s.handled_count) state;
+          later = subst (λ (s : State). IsLater s c.cx.log.state) state gives.later;
+          base = gives.base ∙ same.log.base ∙ ap (λ (x : Group W Q R T U). x.cx.log.base) e;
+          told = record {
+            none = λ n p there. let low = told'.none n p (sym (ap (pending_at n) pending) ∙ there) in omega arith;
+            each = λ n p there low. placed p (told'.each n p (sym (ap (pending_at n) pending) ∙ there) low);
+            once = λ t.
+                let news : is_news k a c t ≡ is_news k a b t = (λ i. is_between k a.cx.news_from (from i) (pending i) t) in
+                let places : places_of t new ≡ places_of t mid = (λ i. in_wheel t (wheel i) + in_tickets t (known_of (pass i)).put) in
+                places ∙ told'.once t ∙ ap (λ (b : Bool). places_of t old + one_if b) (sym news);
+            keeps = record {
+              wheel = λ x there. subst (IsIn x) (sym wheel) (told'.keeps.wheel x there);
+              put = λ t there. subst (λ (p : QueuePass). HasTicket t (known_of p).put) (sym pass) (told'.keeps.put t there);
+            };
+          };
+          knows = knows;
+        }
+      where
+        placed : (p : Pending) → HasPlace moment k p mid → HasPlace moment k p new
+        placed p (inl there) = inl (subst (IsIn (p.due, record { group = k; number = p.number })) (sym wheel) there)
+        placed p (inr put) = inr (put.0, subst (λ (q : QueuePass). HasTicket (record { group = k; number = p.number }) (known_of q).put) (sym pass) put.1)

@@ -1,0 +1,114 @@
+-- What a turn makes of a group.
+use Rattle.std.proofs.Common.{◌≡◌, ℕ, inl, inr, false, [], ◌∷◌, ◌++◌, refl, sym, ap, ◌∙◌, subst, ⊎_elim}
+use Rattle.std.specs.Prelude.{Result, Ok, Err, OnOk, OnErr}
+use Rattle.std.specs.List.{Contains}
+use Rattle.ts_journal.specs.declared.entry.Entry.TheVariants.{Took, Gave}
+use Rattle.ts_journal.specs.State.{State}
+use Rattle.ts_journal.specs.Machine.{IsValid}
+use Rattle.ts_journal.specs.Later.{IsLater}
+use Rattle.ts_journal.proofs.Later.{later_refl, later_trans, extends_later}
+use Rattle.ts_group.specs.declared.group.Group.{Group}
+use Rattle.ts_group.specs.Context.{IsSame}
+use Rattle.ts_group.specs.Acts.{BeginsTurn, GivesTurn, KeepsRoles}
+use Rattle.ts_group.specs.Slot.{marks_of}
+use Rattle.ts_group.proofs.Slots.{marks_append, either_way}
+use Rattle.std.proofs.lemmas.List.Elements.{Contains-append_cases}
+use Rattle.ts_group.proofs.Slots.{one_mark}
+use Rattle.ts_thread.specs.Held.{HasTurn, IsGiven, GoesInTurn, BeginsSame, GivesBack}
+use Rattle.ts_thread.proofs.Entries.{no_marks}
+
+pub ok_to : {A E P Q : Type 0} (r : Result A E) → (P → Q) → OnOk r P → OnOk r Q
+ok_to (Ok a) f h = f h
+ok_to (Err e) f h = tt
+
+pub err_to : {A E P Q : Type 0} (r : Result A E) → (P → Q) → OnErr r P → OnErr r Q
+err_to (Ok a) f h = tt
+err_to (Err e) f h = f h
+
+later_same : (s t : State) → t ≡ s → IsLater s t
+later_same s t e = subst (IsLater s) (sym e) (later_refl s)
+
+module _ {W Q R T U : Type 0} where
+  pub has_begun : (old new : Group W Q R T U) (turn seat moment : ℕ) → IsValid old.cx.log.state → BeginsTurn old.cx new.cx turn seat moment → KeepsRoles old.cx new.cx → HasTurn old new turn seat
+  has_begun old new turn seat moment valid begins kept = record {
+    held = ap (λ (s : State). s.held) begins.state;
+    number = ap (λ (s : State). s.turns) begins.state;
+    marks = ap marks_of begins.by.entries ∙ marks_append old.cx.log.entries (Took turn seat ∷ []);
+    later = extends_later old.cx.log new.cx.log (Took turn seat ∷ []) valid begins.by;
+    base = begins.by.base;
+    news_from = kept.news_from;
+  }
+
+  pub begins_same : {A E : Type 0} (r : Result A E) (old new : Group W Q R T U) (turn seat moment : ℕ) → OnOk r (BeginsTurn old.cx new.cx turn seat moment) → OnErr r (IsSame old.cx new.cx)
+      → KeepsRoles old.cx new.cx → new.world ≡ old.world → BeginsSame old new
+  begins_same r old new turn seat moment ok err kept world =
+      ⊎_elim
+      (λ (b : BeginsTurn old.cx new.cx turn seat moment). record {
+        world = world;
+        pending = ap (λ (s : State). s.pending) b.state;
+        next = ap (λ (s : State). s.next) b.state;
+        handled = ap (λ (s : State). s.handled_count) b.state;
+        roles = kept.roles;
+      })
+      (λ (e : IsSame old.cx new.cx). record {
+        world = world;
+        pending = ap (λ (s : State). s.pending) e.log.state;
+        next = ap (λ (s : State). s.next) e.log.state;
+        handled = ap (λ (s : State). s.handled_count) e.log.state;
+        roles = kept.roles;
+      })
+      (either_way r (BeginsTurn old.cx new.cx turn seat moment) (IsSame old.cx new.cx) ok err)
+
+  -- a group in which no turn was begun
+  pub given_same : (old new : Group W Q R T U) (turn seat : ℕ) → old.cx.log.state.held ≡ false → IsSame old.cx new.cx → IsGiven old new turn seat × (new.cx.log.state ≡ old.cx.log.state)
+  given_same old new turn seat free same = (
+    record {
+      free = ap (λ (s : State). s.held) same.log.state ∙ free;
+      stamp = inl (ap (λ (s : State). s.turns) same.log.state);
+      marks = λ mark there. inl (subst (λ ms. Contains ms mark) (ap marks_of same.log.entries) there);
+      later = later_same old.cx.log.state new.cx.log.state same.log.state;
+      base = same.log.base;
+    },
+    same.log.state,
+  )
+
+  pub gives_back : (old new : Group W Q R T U) → IsValid old.cx.log.state → GivesTurn old.cx new.cx → KeepsRoles old.cx new.cx → new.world ≡ old.world → GivesBack old new
+  gives_back old new valid gives kept world = record {
+    free = ap (λ (s : State). s.held) gives.state;
+    number = ap (λ (s : State). s.turns) gives.state;
+    marks = ap marks_of gives.by.entries ∙ no_marks old.cx.log.entries (Gave old.cx.log.state.turns ∷ []) refl;
+    later = extends_later old.cx.log new.cx.log (Gave old.cx.log.state.turns ∷ []) valid gives.by;
+    base = gives.by.base;
+    news_from = kept.news_from;
+    same = record {
+      world = world;
+      pending = ap (λ (s : State). s.pending) gives.state;
+      next = ap (λ (s : State). s.next) gives.state;
+      handled = ap (λ (s : State). s.handled_count) gives.state;
+      roles = kept.roles;
+    };
+  }
+
+  -- a turn that goes on
+  pub has_gone : (Fits : T → W → Type 0) (found a b : Group W Q R T U) (turn seat : ℕ) → HasTurn found a turn seat → GoesInTurn Fits a b → HasTurn found b turn seat
+  has_gone Fits found a b turn seat has goes = record {
+    held = goes.turn.held;
+    number = goes.turn.turns ∙ has.number;
+    marks = goes.marks ∙ has.marks;
+    later = later_trans found.cx.log.state a.cx.log.state b.cx.log.state has.later goes.later;
+    base = goes.base ∙ has.base;
+    news_from = goes.news_from ∙ has.news_from;
+  }
+
+  -- a turn that is given back
+  pub given_back : (found a b : Group W Q R T U) (turn seat : ℕ) → HasTurn found a turn seat → GivesBack a b → IsGiven found b turn seat
+  given_back found a b turn seat has gives = record {
+    free = gives.free;
+    stamp = inr (gives.number ∙ has.number);
+    marks = λ mark there.
+        let was : Contains (marks_of found.cx.log.entries ++ (turn, seat) ∷ []) mark = subst (λ ms. Contains ms mark) (gives.marks ∙ has.marks) there in
+        ⊎_elim (λ (old : Contains (marks_of found.cx.log.entries) mark). inl old) (λ (one : Contains ((turn, seat) ∷ []) mark). inr (one_mark (turn, seat) mark one))
+        (Contains-append_cases (marks_of found.cx.log.entries) ((turn, seat) ∷ []) mark was);
+    later = later_trans found.cx.log.state a.cx.log.state b.cx.log.state has.later gives.later;
+    base = gives.base ∙ has.base;
+  }

@@ -1,0 +1,49 @@
+-- Seats and passes that are split among threads and joined again.
+use Rattle.std.proofs.Common.{◌≡◌, ℕ, zero, suc, ◌+◌, ◌-◌, ◌*◌, ◌≤◌, inl, inr, List, [], ◌∷◌, ◌++◌, length, length-append, sym, ap, ◌∙◌, subst, arith}
+use Rattle.ts_queue.specs.declared.view.View.{View as Known}
+use Rattle.ts_queue.specs.Views.{kept_part, split_part, with_joined}
+use Rattle.ts_slot.specs.declared.view.View.{View}
+use Rattle.ts_slot.specs.Lists.{IsIn}
+use Rattle.ts_slot.specs.Views.{left_half, right_half, joined}
+use Rattle.ts_thread.specs.Seats.{More, Keeps}
+
+-- one and all but one
+pub one_and_rest : (n m : ℕ) → 1 ≤ n → m + (n - 1) * m ≡ n * m
+one_and_rest zero m h = absurd (omega arith)
+one_and_rest (suc n) m h = let e : suc n - 1 ≡ n = omega arith in ap (λ k. m + k * m) e ∙ sym (mul-step n m)
+  where
+    mul-step : (a b : ℕ) → suc a * b ≡ b + a * b
+    mul-step a b = grind arith
+
+in_append : {A : Type 0} (e : A) (xs ys : List A) → IsIn e ys → IsIn e (xs ++ ys)
+in_append e [] ys h = h
+in_append e (x ∷ xs) ys h = inr (in_append e xs ys h)
+
+module _ {G T : Type 0} where
+  -- a seat was split, each half kept what it had, and they were joined
+  pub joined_keeps : (v w u x : View G T) (l m n : ℕ) → 1 ≤ v.share → m + l ≤ n → Keeps (right_half v) w m → Keeps (left_half v) u l → x ≡ joined u w → Keeps v x n
+  joined_keeps v w u x l m n some le right left is = record {
+    share = let a = right.share in let b = left.share in let c : x.share ≡ u.share + w.share = ap (λ (y : View G T). y.share) is in omega arith;
+    names = ap (λ (y : View G T). y.names) is ∙ left.names;
+    held = ap (λ (y : View G T). y.held) is ∙ left.held;
+    turns = let a = right.turns in let b = left.turns in
+        let c : length x.turns ≡ length w.turns + length u.turns = ap (λ (y : View G T). length y.turns) is ∙ length-append w.turns u.turns in omega arith;
+    misses = let a = left.misses in let c : length x.misses ≡ length u.misses = ap (λ (y : View G T). length y.misses) is in omega arith;
+    known = record { stays = λ e h. subst (IsIn e) (sym (ap (λ (y : View G T). y.known) is)) (in_append e w.known u.known (left.known.stays e h)) };
+  }
+
+  -- what the seat that was split off knows, the two know together
+  pub joined_more : (u w x : View G T) → x ≡ joined u w → More w.known x.known
+  joined_more u w x is = record { stays = λ e h. subst (IsIn e) (sym (ap (λ (y : View G T). y.known) is)) (in_front e w.known u.known h) }
+    where
+      in_front : {A : Type 0} (e : A) (xs ys : List A) → IsIn e xs → IsIn e (xs ++ ys)
+      in_front e [] ys h = absurd h
+      in_front e (y ∷ xs) ys (inl here) = inl here
+      in_front e (y ∷ xs) ys (inr more) = inr (in_front e xs ys more)
+
+-- the same for the shares of a pass
+pub joined_share : (v w u x : Known) → 1 ≤ v.share → w.share ≡ (split_part v).share → u.share ≡ (kept_part v).share → x ≡ with_joined u w → x.share ≡ v.share
+joined_share v w u x some right left is = let c : x.share ≡ u.share + w.share = ap (λ (y : Known). y.share) is in omega arith
+
+pub le_of : (a b : ℕ) → a ≡ b → a ≤ b
+le_of a b e = omega arith

@@ -1,0 +1,15 @@
+mod Alone
+pub mod Ended
+mod Ends
+mod Entries
+mod Groups
+mod Joins
+mod Moves
+mod Pair
+mod Rows
+mod Seats
+mod Starts
+mod Telling
+mod Tokens
+mod Uses
+mod Worked

@@ -1,0 +1,163 @@
+-- Groups that are started, from their first turns to the end.
+use Rattle.std.proofs.Common.{◌≡◌, ℕ, suc, ◌+◌, ◌-◌, ◌*◌, ◌<◌, ◌≤◌, inl, inr, Bool, true, false, cond, eqb, List, [], ◌∷◌, length, All, refl, sym, ap, ◌∙◌, subst, ⊎_elim, arith}
+use Rattle.std.specs.Bool.{OnTrue}
+use Rattle.std.specs.List.{AllZip}
+use Rattle.std.proofs.lemmas.Bool.{cases_lt}
+use Rattle.std.proofs.lemmas.List.Elements.{All-nil, All-cons, All-head, All-tail}
+use mathlib.Core.Option.{some}
+use lib.ListN.{get_elem?}
+use Rattle.ts_journal.specs.declared.slotted.Slotted.{Ghosts}
+use Rattle.ts_journal.specs.State.{State}
+use Rattle.ts_journal.specs.Later.{IsLater, Follows}
+use Rattle.ts_journal.proofs.Later.{follows_trans}
+use Rattle.ts_group.specs.declared.action.Named.{Named}
+use Rattle.ts_group.specs.declared.group.Group.{Group}
+use Rattle.ts_group.specs.declared.slot.TheConstants.{MOST_IN_TURN}
+use Rattle.ts_group.specs.Slot.{trace_of}
+use Rattle.ts_slot.specs.declared.seat.Turn.{Turn}
+use Rattle.ts_slot.specs.declared.view.View.{View}
+use Rattle.ts_slot.specs.Limits.{last_turn}
+use Rattle.ts_slot.specs.Lists.{Each, IsIn, same, entries}
+use Rattle.ts_slot.specs.Views.{won, IsAfter}
+use Rattle.ts_thread.specs.Entering.{IsEntered}
+use Rattle.ts_thread.specs.Held.{HasTurn, BeginsSame, StartsInTurn, FitsHere, WillFit}
+use Rattle.ts_thread.specs.Seats.{More, Keeps, Leaves, KnowsTurn}
+use Rattle.ts_thread.specs.Started.{IsFirst, Starts, WasStarted, Started, AllStarted}
+use Rattle.ts_thread.proofs.Seats.{keeps_trans, won_left}
+
+-- one element stands at a place
+pub same_at : {A : Type 0} (xs : List A) (k : ℕ) (x y : A) → get_elem? xs k ≡ some x → get_elem? xs k ≡ some y → x ≡ y
+same_at xs k x y e f = let h : some x ≡ some y = sym e ∙ f in cc
+
+-- a group was entered, and left
+pub entered_left : {X G T : Type 0} {d : Ghosts X G T} (tags : List G) (k : ℕ) (old new u : View G T) (turn : Turn X G T d) → IsEntered tags k old new turn → Leaves new u → Keeps old u 1
+entered_left {d = d} tags k old new u turn entered leaves =
+    keeps_trans old entered.before u 0 1 1 (omega arith) entered.misses (won_left entered.before new u k turn.number (d.trace turn.value) entered.wins leaves)
+
+module _ {W Q R T U : Type 0} (Fits : T → W → Type 0) (Sound : W → State → List Named → Type 0) (only_asked is_first : T → Bool) (Begun : W → W → Type 0) (tags : List T) where
+  -- a group that was started fits its tag once its turn is given back
+  pub start_fits : (k k' turn seat : ℕ) (v g0 g1 g1' g2 : Group W Q R T U) (t : T) → FitsHere Fits Sound only_asked is_first tags k v → get_elem? tags k ≡ some t → only_asked t ≡ false → k' ≡ k → g0 ≡ v
+      → HasTurn g0 g1 turn seat → BeginsSame g0 g1 → g1' ≡ g1 → StartsInTurn Fits Sound Begun g1' g2 → v.cx.log.state.turns < turn → WillFit Fits Sound only_asked is_first tags k' g2
+  start_fits k k' turn seat v g0 g1 g1' g2 t fit at not group is has same is1 starts later =
+      let own = fit.0 in
+      let tag : own ≡ t = same_at tags k own t fit.1 at in
+      let free : only_asked own ≡ false = ap only_asked tag ∙ not in
+      let world : g1'.world ≡ v.world = ap (λ (x : Group W Q R T U). x.world) is1 ∙ same.world ∙ ap (λ (x : Group W Q R T U). x.world) is in
+      let fits1 : Fits own g1'.world = subst (λ w. Fits own w) (sym world) fit.2.0 in
+      let rest = fit.2.2 in
+      let was : v.cx.log.state.next ≤ MOST_IN_TURN * v.cx.log.state.turns + 1 = subst (λ (b : Bool). v.cx.log.state.next ≤ cond b (v.cx.log.state.turns + 1) (MOST_IN_TURN * v.cx.log.state.turns + 1)) free rest.1 in
+      let next : g1'.cx.log.state.next ≡ v.cx.log.state.next = ap (λ (x : Group W Q R T U). x.cx.log.state.next) is1 ∙ same.next ∙ ap (λ (x : Group W Q R T U). x.cx.log.state.next) is in
+      let more : g2.cx.log.state.next ≤ g1'.cx.log.state.next + 100 = starts.few own fits1 in
+      let number : g2.cx.log.state.turns ≡ turn = starts.goes.turn.turns ∙ ap (λ (x : Group W Q R T U). x.cx.log.state.turns) is1 ∙ has.number in
+      let few : g2.cx.log.state.next ≤ MOST_IN_TURN * g2.cx.log.state.turns + 1 = omega arith in
+      let base : g2.cx.log.base ≡ v.cx.log.base = starts.goes.base ∙ ap (λ (x : Group W Q R T U). x.cx.log.base) is1 ∙ has.base ∙ ap (λ (x : Group W Q R T U). x.cx.log.base) is in (
+        own,
+        ap (get_elem? tags) group ∙ fit.1,
+        starts.goes.tags own fits1,
+        starts.sound,
+        (
+          subst (λ (b : Bool). g2.cx.log.state.next ≤ cond b (g2.cx.log.state.turns + 1) (MOST_IN_TURN * g2.cx.log.state.turns + 1)) (sym free) few,
+          subst (λ (b : Bool). OnTrue b (g2.cx.log.state.pending ≡ [])) (sym free) tt,
+        ),
+        subst (λ (s : State). OnTrue (is_first own) (s.turns ≡ 0)) (sym base) fit.2.3,
+      )
+
+  -- a group was entered, started and left
+  pub starts_one : (k turn seat : ℕ) (found v g0 g1 g1' g2 left : Group W Q R T U) (old before entered new : View T (ℕ × State)) → FitsHere Fits Sound only_asked is_first tags k v → found ≡ v → g0 ≡ v
+      → HasTurn g0 g1 turn seat → BeginsSame g0 g1 → g1' ≡ g1 → StartsInTurn Fits Sound Begun g1' g2 → entered ≡ won k turn (trace_of v.cx) before → Leaves entered new
+      → left.cx.log.base ≡ g2.cx.log.base → IsLater g2.cx.log.state left.cx.log.state → KnowsTurn k turn (trace_of left.cx) new.known
+      → Starts (IsFirst is_first tags) Begun Sound k turn found g2 left new.known
+  starts_one k turn seat found v g0 g1 g1' g2 left old before entered new fit is_found is has same is1 starts wins leaves base later knows =
+      let world : g1'.world ≡ found.world = ap (λ (x : Group W Q R T U). x.world) is1 ∙ same.world ∙ ap (λ (x : Group W Q R T U). x.world) is ∙ ap (λ (x : Group W Q R T U). x.world) (sym is_found) in
+      let base0 : g2.cx.log.base ≡ v.cx.log.base = starts.goes.base ∙ ap (λ (x : Group W Q R T U). x.cx.log.base) is1 ∙ has.base ∙ ap (λ (x : Group W Q R T U). x.cx.log.base) is in
+      let there : IsIn (k, turn - 1, trace_of v.cx) entered.known = subst (IsIn (k, turn - 1, trace_of v.cx)) (sym (ap (λ (x : View T (ℕ × State)). x.known) wins)) (inl refl) in
+      record {
+        first = (fit.0, fit.1, subst (λ (s : State). OnTrue (is_first fit.0) (s.turns ≡ 0)) (sym base0) fit.2.3);
+        stood = subst (λ (x : Group W Q R T U). IsIn (k, turn - 1, trace_of x.cx) new.known) (sym is_found) (leaves.known.stays (k, turn - 1, trace_of v.cx) there);
+        begun = subst (λ w. Begun w g2.world) world starts.begun;
+        sound = starts.sound;
+        base = base;
+        later = later;
+        knows = knows;
+      }
+
+module _ {W : Type 0} (Q R T U : Type 0) (First : ℕ → ℕ → Type 0) (Begun : W → W → Type 0) (Sound : W → State → List Named → Type 0) where
+  pub started_more : (xs ys : List (ℕ × ℕ × (ℕ × State))) (k : ℕ) → More xs ys → Started Q R T U First Begun Sound xs k → Started Q R T U First Begun Sound ys k
+  started_more xs ys k more s = record {
+    turn = s.turn;
+    found = s.found;
+    started = s.started;
+    left = s.left;
+    starts = record {
+      first = s.starts.first;
+      stood = more.stays (k, s.turn - 1, trace_of s.found.cx) s.starts.stood;
+      begun = s.starts.begun;
+      sound = s.starts.sound;
+      base = s.starts.base;
+      later = s.starts.later;
+      knows = λ low. more.stays (k, s.turn, trace_of s.left.cx) (s.starts.knows low);
+    };
+  }
+
+  pub all_more : (xs ys : List (ℕ × ℕ × (ℕ × State))) (n : ℕ) → More xs ys → AllStarted Q R T U First Begun Sound xs n → AllStarted Q R T U First Begun Sound ys n
+  all_more xs ys n more all k low = started_more xs ys k more (all k low)
+
+  pub one_more : (xs ys : List (ℕ × ℕ × (ℕ × State))) (n : ℕ) → More xs ys → AllStarted Q R T U First Begun Sound xs n → Started Q R T U First Begun Sound ys n → AllStarted Q R T U First Begun Sound ys (n + 1)
+  one_more xs ys n more all one k low =
+      ⊎_elim (λ (less : k < n). started_more xs ys k more (all k less)) (λ (past : n ≤ k). let e : k ≡ n = omega arith in subst (Started Q R T U First Begun Sound ys) (sym e) one) (cases_lt k n)
+
+-- what holds of each entry of a list holds of one that stands in it
+each_in : {A : Type 0} (P : A → Type 0) (xs : List A) (x : A) → Each P xs → IsIn x xs → P x
+each_in P [] x all there = absurd there
+each_in P (y ∷ ys) x all there = elim there [ inl here ↦ subst P here all.0 | inr more ↦ each_in P ys x all.1 more ]
+
+pub few_entries : (k : ℕ) (es : List (ℕ × ℕ)) → entries k es ≤ length es
+few_entries k [] = omega arith
+few_entries k (e ∷ es) = let h = few_entries k es in let one = most_one e.0 k in omega arith
+  where
+    most_one : (a b : ℕ) → same a b ≤ 1
+    most_one a b = elim (eqb a b) as (λ t. cond t 1 0 ≤ 1) [ true ↦ omega arith | false ↦ omega arith ]
+
+-- At the end, a group that was started follows what stood then.
+pub was_started : {W Q R T U : Type 0} (First : ℕ → ℕ → Type 0) (Begun : W → W → Type 0) (Sound : W → State → List Named → Type 0) (known : List (ℕ × ℕ × (ℕ × State))) (turns : List (ℕ × ℕ)) (k : ℕ) (now : Group W Q R T U)
+    → entries k turns + 1 < last_turn → Started Q R T U First Begun Sound known k → IsAfter Follows k (entries k turns + 1) (trace_of now.cx) known → WasStarted First Begun Sound k now
+was_started First Begun Sound known turns k now low s after =
+    let found = each_in (λ e. e.0 ≡ k → (e.1 < entries k turns + 1) × Follows (trace_of now.cx) e.2 × (e.1 + 1 ≡ entries k turns + 1 → trace_of now.cx ≡ e.2)) known (k, s.turn - 1, trace_of s.found.cx) after s.starts.stood refl in
+    let below = found.0 in
+    let young : s.turn < last_turn = omega arith in
+    let left = each_in (λ e. e.0 ≡ k → (e.1 < entries k turns + 1) × Follows (trace_of now.cx) e.2 × (e.1 + 1 ≡ entries k turns + 1 → trace_of now.cx ≡ e.2)) known (k, s.turn, trace_of s.left.cx) after (s.starts.knows young) refl in
+    record {
+      found = s.found;
+      started = s.started;
+      first = s.starts.first;
+      begun = s.starts.begun;
+      sound = s.starts.sound;
+      follows = follows_trans (trace_of now.cx) (trace_of s.left.cx) (trace_of s.started.cx) left.1 (inr (ap (λ (x : State). x.turns) s.starts.base, s.starts.later));
+    }
+
+-- lists, element by element
+pub zip_from : {A B : Type 0} (P : A → B → Type 0) (ts : List A) (xs : List B) → length xs ≡ length ts → ((k : ℕ) (x : B) → get_elem? xs k ≡ some x → (t : A) × (get_elem? ts k ≡ some t) × P t x) → AllZip P ts xs
+zip_from P [] [] e f = tt
+zip_from P [] (x ∷ xs) e f = absurd (omega arith)
+zip_from P (t ∷ ts) [] e f = absurd (omega arith)
+zip_from P (t ∷ ts) (x ∷ xs) e f =
+    let here = f 0 x refl in
+    let same : here.0 ≡ t = same_at (t ∷ ts) 0 here.0 t here.1 refl in (
+      subst (λ u. P u x) same here.2,
+      zip_from P ts xs (omega arith) (λ k y at. f (suc k) y at),
+    )
+
+pub all_from : {B : Type 0} (P : B → Type 0) (xs : List B) → ((k : ℕ) (x : B) → get_elem? xs k ≡ some x → P x) → All P xs
+all_from P [] f = All-nil P
+all_from P (x ∷ xs) f = All-cons P x xs (f 0 x refl) (all_from P xs (λ k y at. f (suc k) y at))
+
+pub each_of : {B : Type 0} (P Q : B → Type 0) (xs : List B) → All P xs → ((x : B) → P x → Q x) → Each Q xs
+each_of P Q [] all f = tt
+each_of P Q (x ∷ xs) all f = (f x (All-head P x xs all), each_of P Q xs (All-tail P x xs all) f)
+
+-- few turns in all
+pub few_all : (stamp counted length old starts more : ℕ) → stamp ≤ counted → counted ≤ length → length ≤ old + more → old ≤ starts → stamp ≤ starts + more
+few_all stamp counted length old starts more a b c d = omega arith
+
+pub still_young : (counted all : ℕ) → counted ≤ all → all + 1 < last_turn → counted + 1 < last_turn
+still_young counted all a b = omega arith

@@ -1,0 +1,164 @@
+-- What was done with a token, and what a run of turns comes to.
+use Rattle.std.proofs.Common.{◌≡◌, ℕ, suc, ◌+◌, ◌<◌, ◌≤◌, inl, inr, Bool, true, false, cond, leb, List, [], ◌∷◌, Some, None, length, refl, sym, ap, ◌∙◌, subst, arith}
+use Rattle.std.specs.Prelude.{Result, Ok, Err, IfOk}
+use Rattle.ts_journal.specs.declared.slotted.Slotted.{Ghosts}
+use Rattle.ts_journal.specs.State.{State, pending_at}
+use Rattle.ts_journal.specs.Later.{Follows}
+use Rattle.ts_group.specs.declared.group.Group.{Group}
+use Rattle.ts_group.specs.Slot.{trace_of}
+use Rattle.ts_queue.specs.declared.queue.EventQueue.{EventQueue}
+use Rattle.ts_queue.specs.declared.ticket.Token.{Token}
+use Rattle.ts_queue.specs.declared.view.View.{View as Known}
+use Rattle.ts_queue.specs.Passes.{IsPassOf, view as known_of}
+use Rattle.ts_slot.specs.declared.slots.Slots.{Slots}
+use Rattle.ts_slot.specs.Views.{won, IsAfter}
+use Rattle.ts_slot.specs.Words.{tags_of, view, IsSeatOf}
+use Rattle.ts_wheel.specs.Due.{first_due, after_due, first_moment}
+use Rattle.ts_thread.specs.declared.desk.Desk.{Desk}
+use Rattle.ts_thread.specs.declared.did.Did.{Did}
+use Rattle.ts_thread.specs.declared.did.Did.TheVariants as did
+use Rattle.ts_thread.specs.Desks.{IsDeskOf, KeepsDesk, ClosesDesk, LeavesDesk}
+use Rattle.ts_thread.specs.Held.{BeginsSame}
+use Rattle.ts_thread.specs.News.{HasTold, is_between, places_of}
+use Rattle.ts_thread.specs.Runs.{IsNextMoment, Turns}
+use Rattle.ts_thread.specs.Seats.{KnowsTurn}
+use Rattle.ts_thread.specs.Shown.{IsShown}
+use Rattle.ts_thread.specs.Tokens.{AllName, Gets, FindsNothing}
+use Rattle.ts_thread.specs.Turning.{Works, EndsTurn, Serves, Enters, Uses, IsDid}
+use Rattle.ts_thread.proofs.Seats.{closes, keeps_trans, keeps_refl}
+use Rattle.ts_thread.proofs.Tokens.{one_if, All-after}
+
+pub ok_all : {A E : Type 0} (r : Result A E) (P Q : A → Type 0) → ((a : A) → P a → Q a) → IfOk r P → IfOk r Q
+ok_all (Ok a) P Q f h = f a h
+ok_all (Err e) P Q f h = tt
+
+-- what is shown of two states is shown of others with the same events
+pub shown_over : (a a' b b' : State) (number moment : ℕ) (answer : Did) → a'.pending ≡ a.pending → a'.handled_count ≡ a.handled_count → b'.pending ≡ b.pending → b'.handled_count ≡ b.handled_count
+    → IsShown a b number moment answer → IsShown a' b' number moment answer
+shown_over a a' b b' number moment (did.Ran events) p h q k s =
+    let rise = s.rise in
+    record {
+      was_due = record { event = s.was_due.event; there = ap (pending_at number) p ∙ s.was_due.there; due = s.was_due.due; gone = ap (pending_at number) q ∙ s.was_due.gone };
+      some = s.some;
+      most = s.most;
+      rise = omega arith;
+    }
+shown_over a a' b b' number moment (did.PutBack group seen) p h q k s = absurd s
+shown_over a a' b b' number moment (did.AskMissed group seen) p h q k s =
+    record { event = s.event; there = ap (pending_at number) p ∙ s.there; due = s.due; gone = ap (pending_at number) q ∙ s.gone }
+shown_over a a' b b' number moment did.Stale p h q k s = record { was_gone = ap (pending_at number) p ∙ s.was_gone; gone = ap (pending_at number) q ∙ s.gone }
+shown_over a a' b b' number moment (did.NotDue due) p h q k s =
+    record { event = s.event; there = ap (pending_at number) p ∙ s.there; stays = ap (pending_at number) q ∙ s.stays; is_due = s.is_due; late = s.late }
+shown_over a a' b b' number moment did.Idle p h q k s = absurd s
+
+-- a wheel of which no token is due stays as it is
+pub none_due : {T : Type 0} (now : ℕ) (xs : List (ℕ × T)) → first_due now xs ≡ None → after_due now xs ≡ xs
+none_due now [] e = refl
+none_due {T} now (x ∷ xs) e = by_test (leb x.0 now) e
+  where
+    by_test : (b : Bool) → cond b (Some x.1) None ≡ None → cond b xs (x ∷ xs) ≡ x ∷ xs
+    by_test true f = absurd (cc)
+    by_test false f = refl
+
+-- a wheel without a first token is empty
+pub first_none : {T : Type 0} (xs : List (ℕ × T)) → first_moment xs ≡ None → xs ≡ []
+first_none [] e = refl
+first_none (x ∷ xs) e = absurd (cc)
+
+pub not_idle : (answer : Did) (wheel : List (ℕ × Token)) (now next : ℕ) → (answer ≡ did.Idle → ⊥) → next ≡ now → IsNextMoment answer wheel now next
+not_idle (did.Ran events) wheel now next other e = e
+not_idle (did.PutBack group seen) wheel now next other e = e
+not_idle (did.AskMissed group seen) wheel now next other e = e
+not_idle did.Stale wheel now next other e = e
+not_idle (did.NotDue due) wheel now next other e = e
+not_idle did.Idle wheel now next other e = absurd (other refl)
+
+module _ {X G T : Type 0} {d : Ghosts X G T} where
+  pub closes_desk : (a b c : Desk X G T d) → KeepsDesk a b 1 → LeavesDesk b c → ClosesDesk a c 1
+  closes_desk a b c keeps leaves = record { seat = closes (view a.seat) (view b.seat) (view c.seat) 1 keeps.seat leaves.seat; share = leaves.share ∙ keeps.share }
+
+  pub keeps_desk : (a b c : Desk X G T d) (m n k : ℕ) → m + n ≤ k → KeepsDesk a b m → KeepsDesk b c n → KeepsDesk a c k
+  keeps_desk a b c m n k le p q = record { seat = keeps_trans (view a.seat) (view b.seat) (view c.seat) m n k le p.seat q.seat; share = q.share ∙ p.share }
+
+  pub same_desk : (a b : Desk X G T d) (m : ℕ) → b.seat ≡ a.seat → (known_of b.pass).share ≡ (known_of a.pass).share → KeepsDesk a b m
+  same_desk a b m seat share = record { seat = keeps_refl (view a.seat) (view b.seat) m (ap (λ s. view s) seat); share = share }
+
+  -- a desk from whose wheel a token was taken, or from whose queue
+  pub desk_taken : (slots : Slots X G T) (queue : EventQueue) (a b : Desk X G T d) (moment : ℕ) → IsDeskOf slots queue a → IsPassOf queue b.pass → b.seat ≡ a.seat → b.wheel ≡ after_due moment a.wheel → IsDeskOf slots queue b
+  desk_taken slots queue a b moment was pass seat wheel = record {
+    seat = subst (IsSeatOf slots) (sym seat) was.seat;
+    pass = pass;
+    wheel = subst (AllName (length (tags_of slots))) (sym wheel) (All-after (λ (e : ℕ × Token). e.1.group < length (tags_of slots)) moment a.wheel was.wheel);
+  }
+
+  pub gets_share : (groups moment : ℕ) (a b : Desk X G T d) (token : Token) → Gets groups moment a b token → (known_of b.pass).share ≡ (known_of a.pass).share
+  gets_share groups moment a b token gets = elim gets.first [
+    | inl wheel ↦ ap (λ (x : Known). x.share) wheel.1
+    | inr queue ↦ let next = queue.1 in ap (λ (x : Known). x.share) next.takes.adds ∙ ap (λ (x : Known). x.share) next.lets_go.is
+  ]
+
+  pub finds_share : (groups moment : ℕ) (a b : Desk X G T d) → FindsNothing groups moment a b → (known_of b.pass).share ≡ (known_of a.pass).share
+  finds_share groups moment a b finds = ap (λ (x : Known). x.share) finds.none.lets_go.is
+
+module _ {W Q R T U : Type 0} {d : Ghosts (Group W Q R T U) T (ℕ × State)} where
+  pub serve_ends : (token : Token) (k turn moment : ℕ) (found v1 begun v2 now : Group W Q R T U) (old worked new : Desk (Group W Q R T U) T (ℕ × State) d) (answer : Did) → k ≡ token.group → v1 ≡ found → BeginsSame v1 begun
+      → begun.cx.news_from ≡ v1.cx.news_from → v2 ≡ begun → now.cx.news_from ≡ v2.cx.news_from → Works token old worked answer → IsShown v2.cx.log.state now.cx.log.state token.number moment answer
+      → LeavesDesk worked new → EndsTurn k turn moment now worked new → Serves token moment turn found old new answer
+  serve_ends token k turn moment found v1 begun v2 now old worked new answer group is same begun_from is2 now_from works shown leaves ends =
+      let s1 : found.cx.log.state ≡ v1.cx.log.state = ap (λ (x : Group W Q R T U). x.cx.log.state) (sym is) in
+      let s2 : begun.cx.log.state ≡ v2.cx.log.state = ap (λ (x : Group W Q R T U). x.cx.log.state) (sym is2) in
+      let pending : found.cx.log.state.pending ≡ v2.cx.log.state.pending = ap (λ (s : State). s.pending) s1 ∙ sym same.pending ∙ ap (λ (s : State). s.pending) s2 in
+      let handled : found.cx.log.state.handled_count ≡ v2.cx.log.state.handled_count = ap (λ (s : State). s.handled_count) s1 ∙ sym same.handled ∙ ap (λ (s : State). s.handled_count) s2 in
+      let from : now.cx.news_from ≡ found.cx.news_from = now_from ∙ ap (λ (x : Group W Q R T U). x.cx.news_from) is2 ∙ begun_from ∙ ap (λ (x : Group W Q R T U). x.cx.news_from) is in
+      let told = ends.told in
+      let told' : HasTold k moment found ends.left worked new = record {
+        none = told.none;
+        each = λ n p there low. told.each n p there (omega arith);
+        once = λ t. told.once t ∙ ap (λ f. places_of t worked + one_if (is_between k f ends.left.cx.news_from ends.left.cx.log.state.pending t)) from;
+        keeps = told.keeps;
+      } in
+      record {
+        worked = worked;
+        works = works;
+        left = ends.left;
+        shows = shown_over v2.cx.log.state found.cx.log.state now.cx.log.state ends.left.cx.log.state token.number moment answer pending handled ends.pending ends.handled shown;
+        told = subst (λ x. HasTold x moment found ends.left worked new) group told';
+        knows = subst (λ x. KnowsTurn x turn (trace_of ends.left.cx) (view new.seat).known) group ends.knows;
+        leaves = leaves.seat;
+      }
+
+  pub uses_of : (token : Token) (moment turn : ℕ) (found value : Group W Q R T U) (old entered new : Desk (Group W Q R T U) T (ℕ × State) d) → found ≡ value
+      → IsAfter Follows token.group turn (trace_of value.cx) (view old.seat).known → view entered.seat ≡ won token.group turn (trace_of value.cx) (view old.seat) → entered.wheel ≡ old.wheel → entered.pass ≡ old.pass
+      → (answer : Did) → Serves token moment turn found entered new answer → Uses token moment old new answer
+  uses_of token moment turn found value old entered new is after wins wheel pass answer serves = by_answer answer (record {
+    turn = turn;
+    found = found;
+    after = subst (λ (x : Group W Q R T U). IsAfter Follows token.group turn (trace_of x.cx) (view old.seat).known) (sym is) after;
+    entered = entered;
+    wins = subst (λ (x : Group W Q R T U). view entered.seat ≡ won token.group turn (trace_of x.cx) (view old.seat)) (sym is) wins;
+    wheel = wheel;
+    pass = pass;
+    serves = serves;
+  })
+    where
+      by_answer : (a : Did) → Enters token moment old new a → Uses token moment old new a
+      by_answer (did.Ran events) h = h
+      by_answer (did.PutBack group seen) h = absurd h.serves.shows
+      by_answer (did.AskMissed group seen) h = h
+      by_answer did.Stale h = h
+      by_answer (did.NotDue due) h = h
+      by_answer did.Idle h = absurd h.serves.shows
+
+  pub takes_one : (groups moment : ℕ) (token : Token) (old taken new : Desk (Group W Q R T U) T (ℕ × State) d) → Gets groups moment old taken token → (answer : Did) → Uses token moment taken new answer → IsDid groups moment old new answer
+  takes_one groups moment token old taken new gets (did.Ran events) uses = record { token = token; taken = taken; gets = gets; uses = uses }
+  takes_one groups moment token old taken new gets (did.PutBack group seen) uses = record { token = token; taken = taken; gets = gets; uses = uses }
+  takes_one groups moment token old taken new gets (did.AskMissed group seen) uses = record { token = token; taken = taken; gets = gets; uses = uses }
+  takes_one groups moment token old taken new gets did.Stale uses = record { token = token; taken = taken; gets = gets; uses = uses }
+  takes_one groups moment token old taken new gets (did.NotDue due) uses = record { token = token; taken = taken; gets = gets; uses = uses }
+  takes_one groups moment token old taken new gets did.Idle uses = absurd uses
+
+  -- one turn more
+  pub turns_more : (groups made : ℕ) (old mid new : Desk (Group W Q R T U) T (ℕ × State) d) (at moment : ℕ) (answer : Did) → Turns groups made old mid at → IsDid groups at mid new answer → IsNextMoment answer new.wheel at moment
+      → Turns groups (made + 1) old new moment
+  turns_more groups made old mid new at moment answer turns is next =
+      let e : suc made ≡ made + 1 = omega arith in subst (λ n. Turns groups n old new moment) e (mid, at, turns, answer, is, next)

@@ -1,0 +1,41 @@
+use Rattle.std.proofs.Common.{sym, ◌∙◌}
+use Rattle.ts_thread.proofs.Uses.{closes_desk, serve_ends}
+use Rattle.ts_thread.proofs.Worked.{given_marks}
+use Rattle.ts_thread.proofs.turning.serve.Goals as goal
+
+pub leave-requires-clause-marks : goal.leave-requires-clause-marks
+leave-requires-clause-marks g c mark there =
+    given_marks c.value.result.now c.begin.new.group c.args.turn.found.value c.number-number.result c.args.turn.number c.number-owner.result c.args.desk.now.seat.number c.in-Err.ensures.err.0
+    (c.value.ensures.value ∙ sym c.requires.found.same)
+    c.number-number.ensures
+    c.number-owner.ensures
+    mark
+    there
+
+pub end_turn-told-requires-clause-desk : goal.end_turn-told-requires-clause-desk
+end_turn-told-requires-clause-desk g c = c.work-did.ensures.desk c.args.queue.now c.requires.desk
+
+pub returns-in_err-did-clause-closes : goal.returns-in_err-did-clause-closes
+returns-in_err-did-clause-closes g c = closes_desk c.args.desk.now c.work-did.new.desk c.end_turn-told.new.desk c.work-did.ensures.keeps c.end_turn-told.ensures.leaves
+
+pub returns-in_err-told-clause-closes : goal.returns-in_err-told-clause-closes
+returns-in_err-told-clause-closes g c = closes_desk c.args.desk.now c.work-did.new.desk c.end_turn-told.new.desk c.work-did.ensures.keeps c.end_turn-told.ensures.leaves
+
+pub returns-clause-closes : goal.returns-clause-closes
+returns-clause-closes g c = closes_desk c.args.desk.now c.work-did.new.desk c.end_turn-told.new.desk c.work-did.ensures.keeps c.end_turn-told.ensures.leaves
+
+pub returns-clause-serves : goal.returns-clause-serves
+returns-clause-serves g c =
+    let worked = c.in_ok-did.ensures in
+    let begun = c.in_default.ensures in
+    serve_ends c.args.token c.args.turn.group c.args.turn.number c.args.moment c.args.turn.found.value c.value.result.now c.begin.new.group c.value-2.result.now c.work-did.new.group c.args.desk.now c.work-did.new.desk c.end_turn-told.new.desk c.in_ok-did.did
+    c.requires.found.group
+    (c.value.ensures.value ∙ sym c.requires.found.same)
+    begun.same
+    begun.begun.news_from
+    c.value-2.ensures.value
+    worked.worked.goes.news_from
+    worked.works
+    worked.shown
+    c.end_turn-told.ensures.leaves
+    c.in_ok-told.ensures.ends

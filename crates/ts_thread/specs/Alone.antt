@@ -1,0 +1,45 @@
+-- The turns of groups that nobody else has: one thread takes them, one after the other.
+use Rattle.std.specs.Prelude.{◌≡◌, ◌⊎◌, ℕ, zero, suc, ◌+◌, ◌≤◌, List, [], ◌∷◌, ◌++◌}
+use Rattle.ts_journal.specs.declared.entry.Entry.{Entry}
+use Rattle.ts_journal.specs.declared.entry.Entry.TheVariants.{Took, Gave, Handled}
+use Rattle.ts_journal.specs.State.{State}
+use Rattle.ts_journal.specs.Machine.{replay}
+use Rattle.ts_journal.specs.Log.{Log, Extends}
+use Rattle.ts_group.specs.Due.{IsDueFirst}
+use Rattle.ts_group.specs.Entries.{asking_entries}
+use Rattle.ts_thread.specs.declared.ending.TheConstants.{ONLY_SEAT}
+
+-- these entries begin with the event that is due first, which is handled at the moment at which it is due
+pub record HandlesDue (s : State) (es : List Entry) : Type 0 where
+  pub number : ℕ
+  pub due : ℕ
+  pub first : IsDueFirst s due number
+  pub others : List Entry
+  pub are : es ≡ Handled number due ∷ others
+
+-- these entries begin with a question, which is set and handled
+pub record HandlesQuestion (s : State) (es : List Entry) : Type 0 where
+  pub moment : ℕ
+  pub others : List Entry
+  pub are : es ≡ asking_entries s.next moment ++ others
+
+-- A whole turn, under the next number: it handles the event that is due first, or a question. At want of memory it may
+-- handle nothing.
+pub record IsOwnTurn (s : State) (es : List Entry) : Type 0 where
+  pub did : List Entry
+  pub are : es ≡ Took (s.turns + 1) ONLY_SEAT ∷ (did ++ Gave (s.turns + 1) ∷ [])
+  pub first : (did ≡ []) ⊎ HandlesDue s did ⊎ HandlesQuestion s did
+
+-- these entries are so many turns
+abbrev pub AreOwnTurns : ℕ → State → List Entry → Type 0
+AreOwnTurns zero s es = es ≡ []
+AreOwnTurns (suc n) s es = (turn : List Entry) × (others : List Entry)
+    × IsOwnTurn s turn × (es ≡ turn ++ others) × AreOwnTurns n (replay s turn) others
+
+-- a journal goes on by at most so many turns
+pub record TakesTurns (old new : Log) (most : ℕ) : Type 0 where
+  pub turns : ℕ
+  pub few : turns ≤ most
+  pub added : List Entry
+  pub by : Extends old new added
+  pub are : AreOwnTurns turns old.state added

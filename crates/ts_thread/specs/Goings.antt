@@ -1,0 +1,126 @@
+-- What the turns of one thread leave of groups.
+use Rattle.std.specs.Prelude.{⊤, ◌≡◌, ◌⊎◌, ℕ, ◌+◌, ◌≤◌, List, [], ◌∷◌, ◌++◌, Bool, Option, Result, length, unwrap_or, IsSome, OnOk, All, sum_by}
+use Rattle.std.specs.List.{AllZip}
+use Rattle.ts_link.specs.declared.octets.NoMemory.{NoMemory}
+use Rattle.ts_journal.specs.declared.entry.Entry.{Entry}
+use Rattle.ts_journal.specs.State.{State}
+use Rattle.ts_journal.specs.Log.{Extends}
+use Rattle.ts_journal.specs.Later.{IsLater}
+use Rattle.ts_group.specs.declared.action.Named.{Named}
+use Rattle.ts_group.specs.declared.group.Group.{Group}
+use Rattle.ts_group.specs.declared.world.Asked.{Asked}
+use Rattle.ts_group.specs.declared.world.Asked.TheVariants as asked
+use Rattle.ts_group.specs.declared.slot.TheConstants.{MOST_IN_TURN}
+use Rattle.ts_group.specs.Answers.{Holds, LeavesLess, KeepsTags, SetsAtMost}
+use Rattle.ts_group.specs.Changes.{StaysInTurn}
+use Rattle.ts_group.specs.Due.{IsDueFirst}
+use Rattle.ts_slot.specs.Limits.{last_turn}
+use Rattle.ts_thread.specs.Alone.{HandlesDue, TakesTurns}
+use Rattle.ts_thread.specs.Tags.{GroupFits}
+
+-- the same group, whose state does not go back
+pub record IsLaterGroup {W Q R T U : Type 0} (old new : Group W Q R T U) : Type 0 where
+  pub base : new.cx.log.base ≡ old.cx.log.base
+  pub later : IsLater old.cx.log.state new.cx.log.state
+
+-- What at most so many turns, of which none is held any more, leave of a group.
+pub record GoesOn {W Q R T U : Type 0} (Fits : T → W → Type 0) (Sound : W → State → List Named → Type 0)
+    (only_asked is_first : T → Bool) (Left : W → State → Option ℕ)
+    (old new : Group W Q R T U) (turns : ℕ) : Type 0 where
+  -- it fits each tag that it fitted
+  pub fits : (t : T) → GroupFits Fits Sound only_asked is_first t old
+      → GroupFits Fits Sound only_asked is_first t new
+  pub tags : KeepsTags Fits old.world new.world
+  pub takes : TakesTurns old.cx.log new.cx.log turns
+  pub took : new.cx.log.state.turns ≤ old.cx.log.state.turns + turns
+  -- no more is left to do
+  pub falls : LeavesLess Left old 0 new
+  pub nothing : old.cx.log.state.pending ≡ [] → new.cx.log.state.pending ≡ []
+  pub later : IsLaterGroup old new
+
+-- What a group becomes in a turn that it has, in which the event that is due first is handled, or nothing at want of
+-- memory: the turn is still held.
+pub record WorksOn {W Q R T U : Type 0} (Fits : T → W → Type 0) (Sound : W → State → List Named → Type 0)
+    (Left : W → State → Option ℕ) (old new : Group W Q R T U) : Type 0 where
+  pub did : List Entry
+  pub by : Extends old.cx.log new.cx.log did
+  pub first : (did ≡ []) ⊎ HandlesDue old.cx.log.state did
+  pub turn : StaysInTurn old.cx.log.state new.cx.log.state
+  pub later : IsLater old.cx.log.state new.cx.log.state
+  pub tags : KeepsTags Fits old.world new.world
+  pub sound : Holds Sound new
+  pub few : SetsAtMost Fits old.world MOST_IN_TURN old.cx new.cx
+  pub falls : LeavesLess Left old 0 new
+
+-- what is left to do to a group, 0 where its world does not tell it
+abbrev pub left_of : {W Q R T U : Type 0} → (W → State → Option ℕ) → Group W Q R T U → ℕ
+left_of Left g = unwrap_or (Left g.world g.cx.log.state) 0
+
+-- the group's world tells what is left to do
+abbrev pub Tells : {W Q R T U : Type 0} → (W → State → Option ℕ) → Group W Q R T U → Type 0
+Tells Left g = IsSome (Left g.world g.cx.log.state)
+
+-- no event of the group is pending
+abbrev pub IsIdle : {W Q R T U : Type 0} → Group W Q R T U → Type 0
+IsIdle g = g.cx.log.state.pending ≡ []
+
+-- the question was not missed
+abbrev pub IsNoMiss : {Q R : Type 0} → Asked Q R → Type 0
+IsNoMiss (asked.Missed seen q) = ⊥
+IsNoMiss _ = ⊤
+
+-- what at most so many turns of each leave of groups
+abbrev pub AllGoOn : {W Q R T U : Type 0} → (T → W → Type 0) → (W → State → List Named → Type 0) → (T → Bool)
+    → (T → Bool) → (W → State → Option ℕ) → List (Group W Q R T U) → List (Group W Q R T U) → ℕ → Type 0
+AllGoOn Fits Sound only_asked is_first Left old new turns =
+    AllZip (λ g h. GoesOn Fits Sound only_asked is_first Left g h turns) old new
+
+-- the group can have so many turns more
+abbrev pub HasTurns : {W Q R T U : Type 0} → ℕ → Group W Q R T U → Type 0
+HasTurns more g = g.cx.log.state.turns + more ≤ last_turn
+
+-- the event of this number is due first of all that is pending, at this moment
+abbrev pub IsDue : {W Q R T U : Type 0} → Group W Q R T U → ℕ → ℕ → Type 0
+IsDue g number moment = IsDueFirst g.cx.log.state moment number
+
+-- one group of a row, with those before and after it
+abbrev pub row : {X : Type 0} → List X → X → List X → List X
+row before x after = before ++ x ∷ after
+
+-- What a drive of one group leaves of it and of those before and after it: so many turns at most were taken of each,
+-- and where it came to its end, the group has that much less to do.
+pub record Drives {W Q R T U : Type 0} (Fits : T → W → Type 0) (Sound : W → State → List Named → Type 0)
+    (only_asked is_first : T → Bool) (Left : W → State → Option ℕ)
+    (before before' : List (Group W Q R T U)) (old new : Group W Q R T U)
+    (after after' : List (Group W Q R T U)) (result : Result (Unit {0}) NoMemory) : Type 0 where
+  pub turns : ℕ
+  pub first : AllGoOn Fits Sound only_asked is_first Left before before' turns
+  pub own : GoesOn Fits Sound only_asked is_first Left old new turns
+  pub last : AllGoOn Fits Sound only_asked is_first Left after after' turns
+  pub less : OnOk result (left_of Left new + turns ≤ left_of Left old)
+  pub idle : OnOk result (IsIdle new)
+
+-- A drive of the group at a place of a row, as it leaves the row.
+pub record DrivesAt {W Q R T U : Type 0} (Fits : T → W → Type 0) (Sound : W → State → List Named → Type 0)
+    (only_asked is_first : T → Bool) (Left : W → State → Option ℕ)
+    (place : ℕ) (old new : List (Group W Q R T U)) (result : Result (Unit {0}) NoMemory) : Type 0 where
+  pub before : List (Group W Q R T U)
+  pub before' : List (Group W Q R T U)
+  pub group : Group W Q R T U
+  pub group' : Group W Q R T U
+  pub after : List (Group W Q R T U)
+  pub after' : List (Group W Q R T U)
+  pub at_place : length before ≡ place
+  pub old_is : old ≡ row before group after
+  pub new_is : new ≡ row before' group' after'
+  pub drives : Drives Fits Sound only_asked is_first Left before before' group group' after after' result
+
+-- What a drive of all groups leaves of them: so many turns at most were taken of each, and where it came to its end,
+-- that much less is left to do in all, and no event is pending.
+pub record Finishes {W Q R T U : Type 0} (Fits : T → W → Type 0) (Sound : W → State → List Named → Type 0)
+    (only_asked is_first : T → Bool) (Left : W → State → Option ℕ)
+    (old new : List (Group W Q R T U)) (result : Result (Unit {0}) NoMemory) : Type 0 where
+  pub turns : ℕ
+  pub goes : AllGoOn Fits Sound only_asked is_first Left old new turns
+  pub less : OnOk result (sum_by (left_of Left) new + turns ≤ sum_by (left_of Left) old)
+  pub idle : OnOk result (All IsIdle new)

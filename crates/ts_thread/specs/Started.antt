@@ -1,0 +1,65 @@
+-- What is known of the groups that were started, from their first turns to the end.
+use Rattle.std.specs.Prelude.{◌≡◌, ℕ, ◌-◌, ◌<◌, List, Bool, false}
+use Rattle.std.specs.Bool.{OnTrue}
+use mathlib.Core.Option.{some}
+use lib.ListN.{get_elem?}
+use Rattle.ts_journal.specs.State.{State}
+use Rattle.ts_journal.specs.Later.{IsLater, Follows}
+use Rattle.ts_group.specs.declared.action.Named.{Named}
+use Rattle.ts_group.specs.declared.group.Group.{Group}
+use Rattle.ts_group.specs.Answers.{Holds}
+use Rattle.ts_group.specs.Slot.{trace_of}
+use Rattle.ts_slot.specs.Lists.{IsIn}
+use Rattle.ts_thread.specs.Seats.{KnowsTurn}
+
+-- each of the first so many groups has a tag whose worlds are not only asked
+abbrev pub CanStart : {T : Type 0} → (T → Bool) → List T → ℕ → Type 0
+CanStart {T} only_asked tags starts =
+    (k : ℕ) → k < starts → (t : T) × (get_elem? tags k ≡ some t) × (only_asked t ≡ false)
+
+-- the group k was made with so many turns, which its tag allows
+abbrev pub IsFirst : {T : Type 0} → (T → Bool) → List T → ℕ → ℕ → Type 0
+IsFirst {T} is_first tags k turns = (t : T) × (get_elem? tags k ≡ some t) × OnTrue (is_first t) (turns ≡ 0)
+
+module _ {W Q R T U : Type 0} where
+  -- A seat started the group k in a turn, and knows what stood after it.
+  pub record Starts (First : ℕ → ℕ → Type 0) (Begun : W → W → Type 0) (Sound : W → State → List Named → Type 0)
+      (k turn : ℕ) (found started left : Group W Q R T U) (known : List (ℕ × ℕ × (ℕ × State))) : Type 0 where
+    pub first : First k started.cx.log.base.turns
+    pub stood : IsIn (k, turn - 1, trace_of found.cx) known
+    pub begun : Begun found.world started.world
+    pub sound : Holds Sound started
+    pub base : left.cx.log.base ≡ started.cx.log.base
+    pub later : IsLater started.cx.log.state left.cx.log.state
+    pub knows : KnowsTurn k turn (trace_of left.cx) known
+
+  -- The group k follows one that was started.
+  pub record WasStarted (First : ℕ → ℕ → Type 0) (Begun : W → W → Type 0) (Sound : W → State → List Named → Type 0)
+      (k : ℕ) (now : Group W Q R T U) : Type 0 where
+    pub found : Group W Q R T U
+    pub started : Group W Q R T U
+    pub first : First k started.cx.log.base.turns
+    pub begun : Begun found.world started.world
+    pub sound : Holds Sound started
+    pub follows : Follows (trace_of now.cx) (trace_of started.cx)
+
+  -- each of the first so many groups follows one that was started
+  abbrev pub WereStarted : (ℕ → ℕ → Type 0) → (W → W → Type 0) → (W → State → List Named → Type 0) → ℕ
+      → List (Group W Q R T U) → Type 0
+  WereStarted First Begun Sound starts groups =
+      (k : ℕ) (g : Group W Q R T U) → k < starts → get_elem? groups k ≡ some g → WasStarted First Begun Sound k g
+
+-- A seat started the group k in a turn that it had.
+pub record Started {W : Type 0} (Q R T U : Type 0) (First : ℕ → ℕ → Type 0) (Begun : W → W → Type 0)
+    (Sound : W → State → List Named → Type 0) (known : List (ℕ × ℕ × (ℕ × State))) (k : ℕ) : Type 0 where
+  pub turn : ℕ
+  pub found : Group W Q R T U
+  pub started : Group W Q R T U
+  pub left : Group W Q R T U
+  pub starts : Starts First Begun Sound k turn found started left known
+
+-- a seat started each of the first so many groups
+abbrev pub AllStarted : {W : Type 0} (Q R T U : Type 0) → (ℕ → ℕ → Type 0) → (W → W → Type 0)
+    → (W → State → List Named → Type 0) → List (ℕ × ℕ × (ℕ × State)) → ℕ → Type 0
+AllStarted Q R T U First Begun Sound known starts =
+    (k : ℕ) → k < starts → Started Q R T U First Begun Sound known k

@@ -1,0 +1,62 @@
+-- A seat and a pass of a thread, and how they are split among threads.
+use Rattle.std.specs.Prelude.{◌≡◌, ℕ, ◌+◌, ◌*◌, ◌<◌, ◌≤◌, List, [], Bool, length}
+use Rattle.ts_journal.specs.declared.slotted.Slotted.{Ghosts}
+use Rattle.ts_queue.specs.declared.queue.EventQueue.{EventQueue}
+use Rattle.ts_queue.specs.declared.queue.QueuePass.{QueuePass}
+use Rattle.ts_group.specs.declared.group.Group.{Group}
+use Rattle.ts_queue.specs.Passes.{IsPassOf, view as known_of}
+use Rattle.ts_queue.specs.Views.{first_view}
+use Rattle.ts_slot.specs.declared.seat.Seat.{Seat}
+use Rattle.ts_slot.specs.declared.slots.Slots.{Slots}
+use Rattle.ts_slot.specs.Limits.{whole_share, last_turn}
+use Rattle.ts_slot.specs.Words.{view, IsSeatOf}
+use Rattle.ts_thread.specs.declared.TheConstants.{MOST_THREADS}
+use Rattle.ts_thread.specs.Started.{CanStart}
+
+-- how many turns are taken at most where so many groups are started and so many threads run with a budget each
+abbrev pub turns_of : ℕ → ℕ → ℕ → ℕ
+turns_of starts threads budget = starts + threads * (2 * budget)
+
+-- the group has had at most so many turns
+abbrev pub HasMade : {W Q R T U : Type 0} → ℕ → Group W Q R T U → Type 0
+HasMade most g = g.cx.log.state.turns ≤ most
+
+-- So many groups can be started, and so many threads run, with a budget that leaves each group turns enough.
+pub record IsPlan {T : Type 0} (only_asked : T → Bool) (tags : List T) (starts threads budget : ℕ) : Type 0 where
+  pub tagged : CanStart only_asked tags starts
+  pub some : 0 < threads
+  pub most : threads ≤ MOST_THREADS
+  pub turns : turns_of starts threads budget + 1 < last_turn
+
+-- the pass has the share that the other had
+abbrev pub KeepsShare : QueuePass → QueuePass → Type 0
+KeepsShare old new = (known_of new).share ≡ (known_of old).share
+
+module _ {X G T : Type 0} {d : Ghosts X G T} where
+  -- a seat of these slots, and a pass of this queue
+  pub record IsPair (slots : Slots X G T) (queue : EventQueue) (seat : Seat X G T d) (pass : QueuePass) : Type 0 where
+    pub of_slots : IsSeatOf slots seat
+    pub of_queue : IsPassOf queue pass
+
+  -- The seat and the pass can be split among so many threads: there are shares and free numbers enough.
+  pub record CanSplit (threads : ℕ) (seat : Seat X G T d) (pass : QueuePass) : Type 0 where
+    pub seat_share : threads ≤ (view seat).share
+    pub seat_free : (view seat).free_from + threads ≤ (view seat).free_to + 1
+    pub pass_share : threads ≤ (known_of pass).share
+    pub pass_free : (known_of pass).free_from + threads ≤ (known_of pass).free_to + 1
+
+  -- the first seat and the first pass, before anything was done
+  pub record IsOpening (seat : Seat X G T d) (pass : QueuePass) : Type 0 where
+    pub seat_share : (view seat).share ≡ whole_share
+    pub seat_from : (view seat).free_from ≡ 1
+    pub seat_to : (view seat).free_to ≡ whole_share
+    pub held : (view seat).held ≡ []
+    pub turns : (view seat).turns ≡ []
+    pub knows : known_of pass ≡ first_view
+
+  -- The seat has the whole share again and holds no group, counts few turns, and can be split with the pass.
+  pub record HasOpened (turns : ℕ) (seat : Seat X G T d) (pass : QueuePass) : Type 0 where
+    pub share : (view seat).share ≡ whole_share
+    pub held : (view seat).held ≡ []
+    pub few : length (view seat).turns ≤ turns
+    pub splits : CanSplit MOST_THREADS seat pass

@@ -1,0 +1,73 @@
+-- Where tokens come from and where they go: a thread's wheel and its pass of the queue.
+use Rattle.std.specs.Prelude.{◌≡◌, ℕ, ◌<◌, ◌≤◌, ◌⊎◌, ◌++◌, List, Some, None, All}
+use Rattle.ts_journal.specs.declared.slotted.Slotted.{Ghosts}
+use Rattle.ts_journal.specs.declared.entry.TheConstants.{GREATEST}
+use Rattle.ts_link.specs.Counts.{Rose}
+use Rattle.ts_queue.specs.declared.queue.QueuePass.{QueuePass}
+use Rattle.ts_queue.specs.declared.ticket.Token.{Token}
+use Rattle.ts_queue.specs.declared.ticket.Ticket.{Ticket}
+use Rattle.ts_queue.specs.declared.view.View.{View}
+use Rattle.ts_queue.specs.Views.{putting_next}
+use Rattle.ts_queue.specs.Passes.{view as known_of, empties_of, TakesTicket, FindsEmpty}
+use Rattle.ts_wheel.specs.Due.{added, first_due, after_due}
+use Rattle.ts_thread.specs.declared.desk.Desk.{Desk}
+
+-- each token names one of so many groups
+abbrev pub AllName : ℕ → List (ℕ × Token) → Type 0
+AllName groups wheel = All (λ e. e.1.group < groups) wheel
+
+-- a pass took tickets whose tokens name none of so many groups, and let them go
+pub record LetsGo (groups : ℕ) (old new : View) : Type 0 where
+  pub gone : List Ticket
+  pub foreign : All (λ t. groups ≤ t.token.group) gone
+  pub is : new ≡ record old { taken = gone ++ old.taken }
+
+-- a pass took the next ticket whose token names one of so many groups, which is this token
+pub record TakesNext (groups : ℕ) (old new : View) (token : Token) : Type 0 where
+  pub names : token.group < groups
+  pub before : View
+  pub lets_go : LetsGo groups old before
+  pub ticket : Ticket
+  pub is : ticket.token ≡ token
+  pub takes : TakesTicket before ticket new
+
+-- a take of the pass found the queue empty at one moment, after it had let go what names none of so many groups
+pub record FindsNone (groups : ℕ) (old new : QueuePass) : Type 0 where
+  pub lets_go : LetsGo groups (known_of old) (known_of new)
+  pub empty : FindsEmpty (known_of new)
+  pub rose : Rose (empties_of old) (empties_of new)
+
+module _ {X G T : Type 0} {d : Ghosts X G T} where
+  -- A token of one of so many groups was taken: the first of the wheel, where it was due, and else the next of the queue.
+  pub record Gets (groups moment : ℕ) (old new : Desk X G T d) (token : Token) : Type 0 where
+    pub names : token.group < groups
+    pub wheel : new.wheel ≡ after_due moment old.wheel
+    pub seat : new.seat ≡ old.seat
+    pub first :
+        ((first_due moment old.wheel ≡ Some token) × (known_of new.pass ≡ known_of old.pass))
+        ⊎ ((first_due moment old.wheel ≡ None) × TakesNext groups (known_of old.pass) (known_of new.pass) token)
+
+  -- Nothing in the wheel was due, and nothing was in the queue.
+  pub record FindsNothing (groups moment : ℕ) (old new : Desk X G T d) : Type 0 where
+    pub late : first_due moment old.wheel ≡ None
+    pub none : FindsNone groups old.pass new.pass
+
+  -- the wheel and the pass are as they were
+  pub record SamePlaces (old new : Desk X G T d) : Type 0 where
+    pub wheel : new.wheel ≡ old.wheel
+    pub pass : known_of new.pass ≡ known_of old.pass
+
+  -- a token that is due was put
+  pub record Puts (token : Token) (due moment : ℕ) (old new : Desk X G T d) : Type 0 where
+    pub is_due : due ≤ moment
+    pub wheel : new.wheel ≡ old.wheel
+    pub pass : known_of new.pass ≡ putting_next token (known_of old.pass)
+
+  -- a token that is due later, or for which the pass has no serial left, was added to the wheel
+  pub record Adds (token : Token) (due moment : ℕ) (old new : Desk X G T d) : Type 0 where
+    pub late : (moment < due) ⊎ ((known_of old.pass).serial ≡ GREATEST)
+    pub wheel : new.wheel ≡ added due token old.wheel
+    pub pass : known_of new.pass ≡ known_of old.pass
+
+  abbrev pub Places : Token → ℕ → ℕ → Desk X G T d → Desk X G T d → Type 0
+  Places token due moment old new = Puts token due moment old new ⊎ Adds token due moment old new

@@ -1,0 +1,107 @@
+-- What a turn does with a thread's desk, answer by answer.
+use Rattle.std.specs.Prelude.{◌≡◌, ℕ, ◌<◌}
+use Rattle.ts_journal.specs.declared.slotted.Slotted.{Ghosts}
+use Rattle.ts_journal.specs.State.{State}
+use Rattle.ts_journal.specs.Later.{IsLater, Follows}
+use Rattle.ts_group.specs.Context.{moment_after}
+use Rattle.ts_group.specs.declared.group.Group.{Group}
+use Rattle.ts_group.specs.Slot.{trace_of}
+use Rattle.ts_queue.specs.declared.ticket.Token.{Token}
+use Rattle.ts_slot.specs.Views.{won, IsAfter}
+use Rattle.ts_slot.specs.Words.{view, Misses}
+use Rattle.ts_wheel.specs.Due.{added}
+use Rattle.ts_thread.specs.declared.TheConstants.{PUT_BACK}
+use Rattle.ts_thread.specs.declared.desk.Desk.{Desk}
+use Rattle.ts_thread.specs.declared.did.Did.{Did}
+use Rattle.ts_thread.specs.declared.did.Did.TheVariants as did
+use Rattle.ts_thread.specs.News.{HasTold}
+use Rattle.ts_thread.specs.Seats.{KnowsTurn, Leaves}
+use Rattle.ts_thread.specs.Shown.{IsShown, IsCounted, waiting}
+use Rattle.ts_thread.specs.Tokens.{Gets, FindsNothing}
+
+-- the turn is of the token's group, and a later one than the group has recorded
+pub record IsOfToken {W Q R T U : Type 0} (token : Token) (k turn : ℕ) (found now : Group W Q R T U) : Type 0 where
+  pub group : k ≡ token.group
+  pub same : found ≡ now
+  pub later : now.cx.log.state.turns < turn
+
+module _ {X G T : Type 0} {d : Ghosts X G T} where
+  -- What a handler's work leaves of the desk: its seat counts what the answer says, and a token whose event is due later
+  -- waits in the wheel.
+  pub record Works (token : Token) (old new : Desk X G T d) (answer : Did) : Type 0 where
+    pub counted : IsCounted token.group (view old.seat) (view new.seat) answer
+    pub wheel : new.wheel ≡ waiting answer token old.wheel
+    pub pass : new.pass ≡ old.pass
+
+  -- The token's group was held by another seat, and the token waits in the wheel.
+  pub record PutsBack (token : Token) (moment group seen : ℕ) (old new : Desk X G T d) : Type 0 where
+    pub group_is : token.group ≡ group
+    pub misses : Misses group seen (view old.seat) (view new.seat)
+    pub wheel : new.wheel ≡ added (moment_after moment PUT_BACK) token old.wheel
+    pub pass : new.pass ≡ old.pass
+
+  -- Nothing was taken.
+  pub record StaysIdle (groups moment : ℕ) (old new : Desk X G T d) : Type 0 where
+    pub finds : FindsNothing groups moment old new
+    pub wheel : new.wheel ≡ old.wheel
+    pub seat : new.seat ≡ old.seat
+
+module _ {W Q R T U : Type 0} {d : Ghosts (Group W Q R T U) T (ℕ × State)} where
+  -- The news of a group was told, its turn was given back, and it was left as this.
+  pub record EndsTurn (k turn moment : ℕ) (now : Group W Q R T U)
+      (old new : Desk (Group W Q R T U) T (ℕ × State) d) : Type 0 where
+    pub left : Group W Q R T U
+    pub pending : left.cx.log.state.pending ≡ now.cx.log.state.pending
+    pub handled : left.cx.log.state.handled_count ≡ now.cx.log.state.handled_count
+    pub later : IsLater now.cx.log.state left.cx.log.state
+    pub base : left.cx.log.base ≡ now.cx.log.base
+    pub told : HasTold k moment now left old new
+    pub knows : KnowsTurn k turn (trace_of left.cx) (view new.seat).known
+
+  -- A turn of the token's group, from when its seat had won it: the work, then the news, which is told as the group is left.
+  pub record Serves (token : Token) (moment turn : ℕ) (found : Group W Q R T U)
+      (old new : Desk (Group W Q R T U) T (ℕ × State) d) (answer : Did) : Type 0 where
+    pub worked : Desk (Group W Q R T U) T (ℕ × State) d
+    pub works : Works token old worked answer
+    pub left : Group W Q R T U
+    pub shows : IsShown found.cx.log.state left.cx.log.state token.number moment answer
+    pub told : HasTold token.group moment found left worked new
+    pub knows : KnowsTurn token.group turn (trace_of left.cx) (view new.seat).known
+    pub leaves : Leaves (view worked.seat) (view new.seat)
+
+  -- The token's group was entered, served and left.
+  pub record Enters (token : Token) (moment : ℕ) (old new : Desk (Group W Q R T U) T (ℕ × State) d)
+      (answer : Did) : Type 0 where
+    pub turn : ℕ
+    pub found : Group W Q R T U
+    pub after : IsAfter Follows token.group turn (trace_of found.cx) (view old.seat).known
+    pub entered : Desk (Group W Q R T U) T (ℕ × State) d
+    pub wins : view entered.seat ≡ won token.group turn (trace_of found.cx) (view old.seat)
+    pub wheel : entered.wheel ≡ old.wheel
+    pub pass : entered.pass ≡ old.pass
+    pub serves : Serves token moment turn found entered new answer
+
+  -- what was done with a token that was taken
+  abbrev pub Uses : Token → ℕ → Desk (Group W Q R T U) T (ℕ × State) d → Desk (Group W Q R T U) T (ℕ × State) d → Did → Type 0
+  Uses token moment old new (did.Ran events) = Enters token moment old new (did.Ran events)
+  Uses token moment old new (did.PutBack group seen) = PutsBack token moment group seen old new
+  Uses token moment old new (did.AskMissed group seen) = Enters token moment old new (did.AskMissed group seen)
+  Uses token moment old new did.Stale = Enters token moment old new did.Stale
+  Uses token moment old new (did.NotDue due) = Enters token moment old new (did.NotDue due)
+  Uses token moment old new did.Idle = ⊥
+
+  -- A token of one of so many groups was taken and used.
+  pub record TakesOne (groups moment : ℕ) (old new : Desk (Group W Q R T U) T (ℕ × State) d) (answer : Did) : Type 0 where
+    pub token : Token
+    pub taken : Desk (Group W Q R T U) T (ℕ × State) d
+    pub gets : Gets groups moment old taken token
+    pub uses : Uses token moment taken new answer
+
+  -- what a turn of a thread did, by its answer
+  abbrev pub IsDid : ℕ → ℕ → Desk (Group W Q R T U) T (ℕ × State) d → Desk (Group W Q R T U) T (ℕ × State) d → Did → Type 0
+  IsDid groups moment old new did.Idle = StaysIdle groups moment old new
+  IsDid groups moment old new (did.Ran events) = TakesOne groups moment old new (did.Ran events)
+  IsDid groups moment old new (did.PutBack group seen) = TakesOne groups moment old new (did.PutBack group seen)
+  IsDid groups moment old new (did.AskMissed group seen) = TakesOne groups moment old new (did.AskMissed group seen)
+  IsDid groups moment old new did.Stale = TakesOne groups moment old new did.Stale
+  IsDid groups moment old new (did.NotDue due) = TakesOne groups moment old new (did.NotDue due)

@@ -1,0 +1,86 @@
+//! What a thread has of its own: its seat at the slots, its pass of the queue, and its wheel.
+
+ghost use Rattle.std.specs.Prelude.{◌≡◌, length, IfSome, IfNone, OnOk, OnErr};
+ghost use Rattle.ts_queue.specs.Passes.{IsPassOf, view as known_of};
+ghost use Rattle.ts_wheel.specs.Due.{after_due};
+ghost use Rattle.ts_thread.specs.Tokens.{AllName, TakesNext, FindsNone, Gets, FindsNothing, Places, SamePlaces};
+
+use std::sync::Wait;
+use ts_link::NoMemory;
+use ts_queue::{EventQueue, QueuePass, Token};
+use ts_slot::{Seat, Slotted};
+use ts_wheel::Wheel;
+
+/// What a thread has of its own: its seat at the slots, its pass of the queue, and its wheel.
+#[derive(Drop)]
+pub struct Desk<V: Slotted> {
+    pub(crate) seat: Seat<V>,
+    pub(crate) pass: QueuePass,
+    pub(crate) wheel: Wheel<Token>,
+}
+
+// Takes the next token of the queue that names one of so many groups.
+fn next_ticket<R: Wait>(
+    rt: &R,
+    queue: &EventQueue,
+    pass: &mut QueuePass,
+    groups: u32,
+) -> Option<Token>
+    requires pass { IsPassOf queue.now pass.old }
+    ensures pass { IsPassOf queue.now pass.new }
+    ensures token { IfSome result (TakesNext groups (known_of pass.old) (known_of pass.new)) }
+    ensures none { IfNone result (FindsNone groups pass.old pass.new) }
+{
+    'looks: for _ in rt.forever() {
+        let ticket = queue.take(rt, pass)?;
+        if ticket.token.group < groups {
+            return Some(ticket.token);
+        }
+    }
+    unreachable!()
+}
+
+/// Takes a token of one of so many groups: the first of the wheel, if it is due, and else the next of the queue. One
+/// that names none of them is let go.
+pub fn next_token<V: Slotted, R: Wait>(
+    rt: &R,
+    queue: &EventQueue,
+    desk: &mut Desk<V>,
+    groups: u32,
+    moment: u64,
+) -> Option<Token>
+    requires pass { IsPassOf queue.now desk.old.pass }
+    requires wheel { AllName groups desk.old.wheel }
+    ensures pass { IsPassOf queue.now desk.new.pass }
+    ensures seat { desk.new.seat ≡ desk.old.seat }
+    ensures wheel { desk.new.wheel ≡ after_due moment desk.old.wheel }
+    ensures token { IfSome result (Gets groups moment desk.old desk.new) }
+    ensures none { IfNone result (FindsNothing groups moment desk.old desk.new) }
+{
+    if let Some(token) = desk.wheel.take_due(moment) {
+        return Some(token);
+    }
+    next_ticket(rt, queue, &mut desk.pass, groups)
+}
+
+/// Puts a token into the queue where it is due, and else adds it to the wheel; there too where the pass has no serial left.
+pub fn place<V: Slotted, R: Wait>(
+    rt: &R,
+    queue: &EventQueue,
+    desk: &mut Desk<V>,
+    token: Token,
+    due: u64,
+    moment: u64,
+) -> Result<(), NoMemory>
+    requires pass { IsPassOf queue.now desk.old.pass }
+    ensures pass { IsPassOf queue.now desk.new.pass }
+    ensures seat { desk.new.seat ≡ desk.old.seat }
+    ensures ok { OnOk result (Places token due moment desk.old desk.new) }
+    ensures err { OnErr result (SamePlaces desk.old desk.new) }
+{
+    if due <= moment && desk.pass.serial() < u64::MAX {
+        queue.put(rt, &mut desk.pass, token)
+    } else {
+        desk.wheel.add(due, token)
+    }
+}

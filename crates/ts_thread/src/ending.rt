@@ -1,0 +1,266 @@
+//! Groups that are driven to their end on one thread.
+
+ghost use Rattle.std.specs.Prelude.{◌≡◌, ℕ, ◌+◌, ◌<◌, ◌≤◌, List, ◌++◌, ◌∷◌, All, sum_by, true, Some, OnOk, length};
+ghost use Rattle.std.specs.List.{slice_get};
+ghost use Rattle.ts_group.specs.declared.group.Group.{Group as GroupOf};
+ghost use Rattle.ts_group.specs.Answers.{Holds, IsAnswer, LeavesLess};
+ghost use Rattle.ts_thread.specs.Tags.{GroupFits, GroupsFit, FitAround, CanAsk};
+ghost use Rattle.ts_thread.specs.Goings.{GoesOn, WorksOn, AllGoOn, HasTurns, IsDue, IsNoMiss, Tells, left_of, row, Drives, DrivesAt, Finishes};
+
+use ts_group::{Asked, Group, Handling, World};
+use ts_link::NoMemory;
+
+/// The seat under which turns of groups are taken that nobody else has.
+pub const ONLY_SEAT: u64 = 0;
+
+// Asks a group in a turn of its own.
+fn ask_one<W: World + Drop>(
+    group: &mut Group<W>,
+    question: W::Question,
+    moment: u64,
+) -> Asked<W::Question, W::Reply>
+    requires fits { (t : W.Tag) × GroupFits W.fits W.sound W.only_asked W.is_first t group.old
+        × (W.only_asked t ≡ true) }
+    requires turns { HasTurns 0 group.old }
+    ensures goes { GoesOn W.fits W.sound W.only_asked W.is_first W.left group.old group.new 1 }
+    ensures answer { IsAnswer (λ _ q r. W.answers group.old.world q r) 0 question result }
+    ensures came { IsNoMiss result }
+{
+    let turn = group.journal().turns() + 1;
+    let Ok(()) = group.begin_turn(turn, ONLY_SEAT, moment) else {
+        return Asked::NoMemory(question);
+    };
+    group.known();
+    match group.ask(question, moment) {
+        Ok(reply) => {
+            group.give_turn();
+            Asked::Reply(reply)
+        }
+        Err((NoMemory, question)) => {
+            group.give_turn();
+            Asked::NoMemory(question)
+        }
+    }
+}
+
+// Asks the first of these groups.
+fn ask_first<W: World + Drop>(
+    groups: &mut [Group<W>],
+    question: W::Question,
+    moment: u64,
+) -> Asked<W::Question, W::Reply>
+    requires there { (t : W.Tag) × (g : GroupOf W W.Question W.Reply W.Tag W.Trace)
+        × (slice_get groups.old 0 ≡ Some g)
+        × GroupFits W.fits W.sound W.only_asked W.is_first t g × (W.only_asked t ≡ true) }
+    requires turns { All (HasTurns 0) groups.old }
+    ensures goes { AllGoOn W.fits W.sound W.only_asked W.is_first W.left groups.old groups.new 1 }
+    ensures answer { (g : GroupOf W W.Question W.Reply W.Tag W.Trace) → slice_get groups.old 0 ≡ Some g →
+        IsAnswer (λ _ q r. W.answers g.world q r) 0 question result }
+    ensures came { IsNoMiss result }
+{
+    let Some((first, _others)) = groups.split_first_mut() else {
+        unreachable!()
+    };
+    ask_one(first, question, moment)
+}
+
+// Asks one of these groups.
+fn ask_at<W: World + Drop>(
+    groups: &mut [Group<W>],
+    place: usize,
+    question: W::Question,
+    moment: u64,
+) -> Asked<W::Question, W::Reply>
+    requires there { (t : W.Tag) × (g : GroupOf W W.Question W.Reply W.Tag W.Trace)
+        × (slice_get groups.old place ≡ Some g)
+        × GroupFits W.fits W.sound W.only_asked W.is_first t g × (W.only_asked t ≡ true) }
+    requires turns { All (HasTurns 0) groups.old }
+    ensures goes { AllGoOn W.fits W.sound W.only_asked W.is_first W.left groups.old groups.new 1 }
+    ensures answer { (g : GroupOf W W.Question W.Reply W.Tag W.Trace) → slice_get groups.old place ≡ Some g →
+        IsAnswer (λ _ q r. W.answers g.world q r) 0 question result }
+    ensures came { IsNoMiss result }
+{
+    let (_, rest) = groups.split_at_mut(place);
+    ask_first(rest, question, moment)
+}
+
+// Asks a group that stands before another one, or after it. The groups have the numbers of their places.
+fn ask_among<W: World + Drop>(
+    before: &mut [Group<W>],
+    after: &mut [Group<W>],
+    number: u32,
+    question: W::Question,
+    moment: u64,
+) -> Asked<W::Question, W::Reply>
+    requires there { (t : W.Tag) × (g : GroupOf W W.Question W.Reply W.Tag W.Trace)
+        × (here : GroupOf W W.Question W.Reply W.Tag W.Trace)
+        × (number ≡ length before.old → ⊥) × (slice_get (row before.old here after.old) number ≡ Some g)
+        × GroupFits W.fits W.sound W.only_asked W.is_first t g × (W.only_asked t ≡ true) }
+    requires turns { All (HasTurns 0) before.old × All (HasTurns 0) after.old }
+    ensures before { AllGoOn W.fits W.sound W.only_asked W.is_first W.left before.old before.new 1 }
+    ensures after { AllGoOn W.fits W.sound W.only_asked W.is_first W.left after.old after.new 1 }
+    ensures answer { (g : GroupOf W W.Question W.Reply W.Tag W.Trace)
+        → (here : GroupOf W W.Question W.Reply W.Tag W.Trace)
+        → slice_get (row before.old here after.old) number ≡ Some g
+        → IsAnswer (λ _ q r. W.answers g.world q r) 0 question result }
+    ensures came { IsNoMiss result }
+{
+    let place = number as usize;
+    if place < before.len() {
+        ask_at(before, place, question, moment)
+    } else {
+        ask_at(after, place - before.len() - 1, question, moment)
+    }
+}
+
+// Whether memory lacked for the question.
+fn lack_of<Q, R>(asked: &Asked<Q, R>) -> Result<(), NoMemory> {
+    match asked {
+        Asked::NoMemory(_) => Err(NoMemory),
+        _ => Ok(()),
+    }
+}
+
+// Handles an event of a group in the turn that it has, and asks the group that its handler wants to ask.
+fn serve<W: World + Drop>(
+    before: &mut [Group<W>],
+    group: &mut Group<W>,
+    after: &mut [Group<W>],
+    number: u64,
+    moment: u64,
+) -> Result<(), NoMemory>
+    requires turn { (group.old.cx.log.state.held ≡ true) × Holds W.sound group.old }
+    requires due { IsDue group.old number moment }
+    requires fits { (tags : List W.Tag) × CanAsk W.fits W.only_asked W.may_ask W.right W.answers tags
+        × FitAround W.fits W.sound W.only_asked W.is_first tags before.old group.old.world after.old }
+    requires turns { All (HasTurns 0) before.old × All (HasTurns 0) after.old }
+    ensures works { WorksOn W.fits W.sound W.left group.old group.new }
+    ensures before { AllGoOn W.fits W.sound W.only_asked W.is_first W.left before.old before.new 1 }
+    ensures after { AllGoOn W.fits W.sound W.only_asked W.is_first W.left after.old after.new 1 }
+    ensures falls { OnOk result (LeavesLess W.left group.old 1 group.new) }
+{
+    group.known();
+    match group.handle(number, moment) {
+        Ok(Handling::Handled { events: _ }) => Ok(()),
+        Ok(
+            Handling::Asks {
+                events: _,
+                group: other,
+                question,
+            },
+        ) => {
+            let asked = ask_among(before, after, other, question, moment);
+            let answer = lack_of(&asked);
+            group.known();
+            group.answered(asked);
+            answer
+        }
+        Ok(Handling::NotPending) => unreachable!(),
+        Ok(Handling::NotDue { due: _ }) => unreachable!(),
+        Err(_) => Err(NoMemory),
+    }
+}
+
+// Handles an event of a group in a turn of its own.
+fn step<W: World + Drop>(
+    before: &mut [Group<W>],
+    group: &mut Group<W>,
+    after: &mut [Group<W>],
+    number: u64,
+    moment: u64,
+) -> Result<(), NoMemory>
+    requires fits { (tags : List W.Tag) × CanAsk W.fits W.only_asked W.may_ask W.right W.answers tags
+        × GroupsFit W.fits W.sound W.only_asked W.is_first tags (row before.old group.old after.old) }
+    requires turns { All (HasTurns 0) (row before.old group.old after.old) }
+    requires due { IsDue group.old number moment }
+    ensures own { GoesOn W.fits W.sound W.only_asked W.is_first W.left group.old group.new 1 }
+    ensures before { AllGoOn W.fits W.sound W.only_asked W.is_first W.left before.old before.new 1 }
+    ensures after { AllGoOn W.fits W.sound W.only_asked W.is_first W.left after.old after.new 1 }
+    ensures falls { OnOk result (LeavesLess W.left group.old 1 group.new) }
+{
+    let turn = group.journal().turns() + 1;
+    group.begin_turn(turn, ONLY_SEAT, moment)?;
+    let answer = serve(before, group, after, number, moment);
+    group.give_turn();
+    answer
+}
+
+// Handles the events of a group, the one that is due first before the others, until none is pending.
+fn drive<W: World + Drop>(
+    before: &mut [Group<W>],
+    group: &mut Group<W>,
+    after: &mut [Group<W>],
+) -> Result<(), NoMemory>
+    requires fits { (tags : List W.Tag) × CanAsk W.fits W.only_asked W.may_ask W.right W.answers tags
+        × GroupsFit W.fits W.sound W.only_asked W.is_first tags (row before.old group.old after.old) }
+    requires tells { Tells W.left group.old }
+    requires turns { All (HasTurns (left_of W.left group.old)) (row before.old group.old after.old) }
+    ensures { Drives W.fits W.sound W.only_asked W.is_first W.left
+        before.old before.new group.old group.new after.old after.new result }
+{
+    'events: while let Some((due, number)) = group.next_due() {
+        step(before, group, after, number, due)?;
+    }
+    Ok(())
+}
+
+// Drives the first of the groups that come after others.
+fn drive_first<W: World + Drop>(
+    before: &mut [Group<W>],
+    rest: &mut [Group<W>],
+) -> Result<(), NoMemory>
+    requires rest { 0 < length rest.old }
+    requires fits { (tags : List W.Tag) × CanAsk W.fits W.only_asked W.may_ask W.right W.answers tags
+        × GroupsFit W.fits W.sound W.only_asked W.is_first tags (before.old ++ rest.old) }
+    requires tells { All (Tells W.left) (before.old ++ rest.old) }
+    requires turns { All (HasTurns (sum_by (left_of W.left) (before.old ++ rest.old)))
+        (before.old ++ rest.old) }
+    ensures { DrivesAt W.fits W.sound W.only_asked W.is_first W.left
+        (length before.old) (before.old ++ rest.old) (before.new ++ rest.new) result }
+{
+    let Some((group, after)) = rest.split_first_mut() else {
+        unreachable!()
+    };
+    drive(before, group, after)
+}
+
+// Drives one of these groups.
+fn drive_at<W: World + Drop>(groups: &mut [Group<W>], place: usize) -> Result<(), NoMemory>
+    requires place { place < length groups.old }
+    requires fits { (tags : List W.Tag) × CanAsk W.fits W.only_asked W.may_ask W.right W.answers tags
+        × GroupsFit W.fits W.sound W.only_asked W.is_first tags groups.old }
+    requires tells { All (Tells W.left) groups.old }
+    requires turns { All (HasTurns (sum_by (left_of W.left) groups.old)) groups.old }
+    ensures { DrivesAt W.fits W.sound W.only_asked W.is_first W.left place groups.old groups.new result }
+{
+    let (before, rest) = groups.split_at_mut(place);
+    drive_first(before, rest)
+}
+
+// Drives each of these groups, one after the other.
+fn finish_all<W: World + Drop>(groups: &mut [Group<W>]) -> Result<(), NoMemory>
+    requires fits { (tags : List W.Tag) × CanAsk W.fits W.only_asked W.may_ask W.right W.answers tags
+        × GroupsFit W.fits W.sound W.only_asked W.is_first tags groups.old }
+    requires tells { All (Tells W.left) groups.old }
+    requires turns { All (HasTurns (sum_by (left_of W.left) groups.old)) groups.old }
+    ensures { Finishes W.fits W.sound W.only_asked W.is_first W.left groups.old groups.new result }
+{
+    'groups: for place in 0..groups.len() {
+        drive_at(groups, place)?;
+    }
+    Ok(())
+}
+
+/// Handles the events of groups until none is pending, each in a turn of its own, and of each group the one that is due
+/// first before the others. A group that a handler wants to ask is asked in a turn of its own. No turn is held when it
+/// returns, at want of memory either.
+pub fn finish<W: World + Drop>(groups: &mut Vec<Group<W>>) -> Result<(), NoMemory>
+    requires fits { (tags : List W.Tag) × CanAsk W.fits W.only_asked W.may_ask W.right W.answers tags
+        × GroupsFit W.fits W.sound W.only_asked W.is_first tags groups.old.items }
+    requires tells { All (Tells W.left) groups.old.items }
+    requires turns { All (HasTurns (sum_by (left_of W.left) groups.old.items)) groups.old.items }
+    ensures { Finishes W.fits W.sound W.only_asked W.is_first W.left
+        groups.old.items groups.new.items result }
+{
+    finish_all(groups.as_mut_slice())
+}

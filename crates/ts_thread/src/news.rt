@@ -1,0 +1,39 @@
+//! How the news of a group is told: each new event that is pending gets a token.
+
+ghost use Rattle.std.specs.Prelude.{◌≡◌, ◌<◌, length, OnOk};
+ghost use Rattle.ts_group.specs.Context.{IsSame};
+ghost use Rattle.ts_slot.specs.Words.{tags_of};
+ghost use Rattle.ts_thread.specs.Desks.{IsDeskOf, SharesSame};
+ghost use Rattle.ts_thread.specs.News.{HasTold};
+
+use crate::desk::{Desk, place};
+use std::sync::Wait;
+use ts_group::{Group, World};
+use ts_link::NoMemory;
+use ts_queue::{EventQueue, Token};
+use ts_slot::Slots;
+
+/// Makes a token of each piece of news of the group k.
+pub fn tell_news<W: World + Drop, R: Wait>(
+    rt: &R,
+    slots: &Slots<Group<W>>,
+    queue: &EventQueue,
+    desk: &mut Desk<Group<W>>,
+    k: u32,
+    group: &mut Group<W>,
+    moment: u64,
+) -> Result<(), NoMemory>
+    requires desk { IsDeskOf slots.now queue.now desk.old }
+    requires group { k < length (tags_of slots.now) }
+    ensures desk { IsDeskOf slots.now queue.now desk.new }
+    ensures seat { (desk.new.seat ≡ desk.old.seat) × SharesSame desk.old desk.new }
+    ensures same { IsSame (record group.old.cx { news_from = group.new.cx.news_from }) group.new.cx }
+    ensures world { group.new.world ≡ group.old.world }
+    ensures told { OnOk result (HasTold k moment group.old group.new desk.old desk.new) }
+{
+    group.known();
+    'news: while let Some((number, due)) = group.next_news() {
+        place(rt, queue, desk, Token { group: k, number }, due, moment)?;
+    }
+    Ok(())
+}

@@ -1,0 +1,79 @@
+//! The first turn of each group, in which its world sets its first events.
+
+ghost use Rattle.std.specs.Prelude.{◌<◌, ◌+◌, length, OnOk};
+ghost use Rattle.ts_slot.specs.Words.{tags_of, view, IsSeatOf};
+ghost use Rattle.ts_thread.specs.Desks.{IsDeskOf, KeepsDesk};
+ghost use Rattle.ts_thread.specs.Entering.{IsEntered};
+ghost use Rattle.ts_thread.specs.Started.{CanStart, IsFirst, Started, AllStarted};
+
+use crate::desk::Desk;
+use crate::held::{begin, start};
+use crate::leaving::leave;
+use crate::turning::end_turn;
+use std::sync::Wait;
+use ts_group::{Group, World};
+use ts_link::NoMemory;
+use ts_queue::EventQueue;
+use ts_slot::{Seat, Slots, Slotted, Turn};
+
+// Enters the group k, however often it is missed.
+fn enter_at<V: Slotted, R: Wait>(rt: &R, slots: &Slots<V>, seat: &mut Seat<V>, k: u32) -> Turn<V>
+    requires seat { IsSeatOf slots.now seat.old }
+    requires group { k < length (tags_of slots.now) }
+    ensures seat { IsSeatOf slots.now seat.new }
+    ensures entered { IsEntered (tags_of slots.now) k (view seat.old) (view seat.new) result }
+{
+    'tries: for _ in rt.forever() {
+        if let Ok(turn) = slots.try_enter(seat, k) {
+            return turn;
+        }
+    }
+    unreachable!()
+}
+
+// Starts the group k in a turn of its own. All of its first events get their tokens in the queue.
+fn start_one<W: World + Drop, R: Wait>(
+    rt: &R,
+    slots: &Slots<Group<W>>,
+    queue: &EventQueue,
+    desk: &mut Desk<Group<W>>,
+    k: u32,
+) -> Result<(), NoMemory>
+    requires desk { IsDeskOf slots.now queue.now desk.old }
+    requires tags { CanStart W.only_asked (tags_of slots.now) (k + 1) }
+    ensures desk { IsDeskOf slots.now queue.now desk.new }
+    ensures keeps { KeepsDesk desk.old desk.new 1 }
+    ensures started { OnOk result (Started W.Question W.Reply W.Tag W.Trace
+        (IsFirst W.is_first (tags_of slots.now)) W.begun W.sound (view desk.new.seat).known k) }
+{
+    let mut turn = enter_at(rt, slots, &mut desk.seat, k);
+    let owner = desk.seat.number();
+    let number = turn.number();
+    if let Err(_) = begin(turn.value(), number, owner, 0) {
+        leave(slots, &mut desk.seat, turn);
+        return Err(NoMemory);
+    }
+    start(turn.value());
+    end_turn(rt, slots, queue, desk, turn, u64::MAX)
+}
+
+/// Starts the first so many groups, each in a turn of its own.
+pub fn start_all<W: World + Drop, R: Wait>(
+    rt: &R,
+    slots: &Slots<Group<W>>,
+    queue: &EventQueue,
+    desk: &mut Desk<Group<W>>,
+    starts: u32,
+) -> Result<(), NoMemory>
+    requires desk { IsDeskOf slots.now queue.now desk.old }
+    requires tags { CanStart W.only_asked (tags_of slots.now) starts }
+    ensures desk { IsDeskOf slots.now queue.now desk.new }
+    ensures keeps { KeepsDesk desk.old desk.new starts }
+    ensures started { OnOk result (AllStarted W.Question W.Reply W.Tag W.Trace
+        (IsFirst W.is_first (tags_of slots.now)) W.begun W.sound (view desk.new.seat).known starts) }
+{
+    'starts: for k in 0..starts {
+        start_one(rt, slots, queue, desk, k)?;
+    }
+    Ok(())
+}

@@ -1,0 +1,71 @@
+//! The turns that a thread takes at its desk, one token each.
+
+ghost use Rattle.std.specs.Prelude.{◌≡◌, ◌*◌, [], length, IfOk};
+ghost use Rattle.ts_slot.specs.Words.{tags_of, view};
+ghost use Rattle.ts_thread.specs.Desks.{IsDeskOf, KeepsDesk};
+ghost use Rattle.ts_thread.specs.Runs.{HasRunTo};
+ghost use Rattle.ts_thread.specs.Tags.{CanAsk};
+ghost use Rattle.ts_thread.specs.Turning.{IsDid};
+
+use crate::desk::{Desk, next_token};
+use crate::did::{Did, RunEnd};
+use crate::turning::enter;
+use std::sync::Wait;
+use ts_group::{Group, World};
+use ts_link::{Gate, NoMemory};
+use ts_queue::EventQueue;
+use ts_slot::Slots;
+
+/// Takes a token and handles its event in a turn of its group.
+pub fn turn_desk<W: World + Drop, G: Gate, R: Wait>(
+    rt: &R,
+    slots: &Slots<Group<W>>,
+    queue: &EventQueue,
+    gate: &G,
+    thread: u32,
+    desk: &mut Desk<Group<W>>,
+    moment: u64,
+) -> Result<Did, NoMemory>
+    requires desk { IsDeskOf slots.now queue.now desk.old }
+    requires asks { CanAsk W.fits W.only_asked W.may_ask W.right W.answers (tags_of slots.now) }
+    ensures desk { IsDeskOf slots.now queue.now desk.new }
+    ensures keeps { KeepsDesk desk.old desk.new 2 }
+    ensures did { IfOk result (IsDid (length (tags_of slots.now)) moment desk.old desk.new) }
+{
+    let groups = slots.groups();
+    let Some(token) = next_token(rt, queue, desk, groups, moment) else {
+        return Ok(Did::Idle);
+    };
+    enter(rt, slots, queue, gate, thread, desk, token, moment)
+}
+
+/// Takes at most so many turns, the first at the moment 0.
+pub fn run_desk<W: World + Drop, G: Gate, R: Wait>(
+    rt: &R,
+    slots: &Slots<Group<W>>,
+    queue: &EventQueue,
+    gate: &G,
+    thread: u32,
+    desk: &mut Desk<Group<W>>,
+    budget: u64,
+) -> Result<RunEnd, NoMemory>
+    requires desk { IsDeskOf slots.now queue.now desk.old }
+    requires asks { CanAsk W.fits W.only_asked W.may_ask W.right W.answers (tags_of slots.now) }
+    ensures desk { IsDeskOf slots.now queue.now desk.new }
+    ensures keeps { KeepsDesk desk.old desk.new (2 * budget) }
+    ensures ran { IfOk result (HasRunTo (length (tags_of slots.now)) budget desk.old desk.new) }
+{
+    let mut moment = 0;
+    let mut made = 0;
+    'turns: while made < budget {
+        let did = turn_desk(rt, slots, queue, gate, thread, desk, moment)?;
+        if let Did::Idle = did {
+            let Some(due) = desk.wheel.next_due() else {
+                return Ok(RunEnd::Idle);
+            };
+            moment = due;
+        }
+        made += 1;
+    }
+    Ok(RunEnd::Budget)
+}

@@ -1,0 +1,118 @@
+//! Many threads over the same slots and the same queue.
+
+ghost use Rattle.std.specs.Prelude.{◌≡◌, ◌*◌, ◌-◌, ◌+◌, ◌<◌, ◌≤◌, []};
+ghost use Rattle.ts_thread.specs.declared.TheConstants.{MOST_THREADS};
+ghost use Rattle.std.specs.Thread.{IsSync};
+ghost use Rattle.ts_slot.specs.Words.{tags_of, view};
+ghost use Rattle.ts_thread.specs.Seats.{Keeps};
+ghost use Rattle.ts_thread.specs.Tags.{CanAsk};
+ghost use Rattle.ts_thread.specs.Threads.{IsPair, CanSplit, KeepsShare};
+
+use crate::MOST_THREADS;
+use crate::thread::EventThread;
+use std::alloc::Global;
+use std::sync::Wait;
+use std::thread::{Threads, join};
+use ts_group::{Group, World};
+use ts_link::Gate;
+use ts_queue::{EventQueue, QueuePass};
+use ts_slot::{Seat, Slots};
+
+// The run of one thread. The last part of the answer is false after want of memory.
+fn run_one<W: World + Drop, G: Gate, R: Wait>(
+    rt: &R,
+    alloc: Global,
+    number: u32,
+    slots: &Slots<Group<W>>,
+    queue: &EventQueue,
+    gate: &G,
+    budget: u64,
+    seat: Seat<Group<W>>,
+    pass: QueuePass,
+) -> (Seat<Group<W>>, QueuePass, bool)
+    requires pair { IsPair slots.now queue.now seat pass × ((view seat).held ≡ []) }
+    requires asks { CanAsk W.fits W.only_asked W.may_ask W.right W.answers (tags_of slots.now) }
+    ensures pair { IsPair slots.now queue.now result.0 result.1 }
+    ensures keeps { Keeps (view seat) (view result.0) (2 * budget) }
+    ensures share { KeepsShare pass result.1 }
+{
+    let mut thread = match EventThread::make(alloc, number, slots, seat, queue, pass, gate) {
+        Ok(thread) => thread,
+        Err((_, seat, pass)) => return (seat, pass, false),
+    };
+    let ended = thread.run(rt, budget);
+    let (seat, pass) = thread.into_parts();
+    (seat, pass, ended.is_ok())
+}
+
+/// Runs so many threads, from this number on, and joins their seats and passes into one. The last part of the answer
+/// is false where memory lacked in one of them.
+pub fn run_all<W: World + Drop + Send, G: Gate + Sync, R: Threads + Wait + Sync>(
+    rt: &R,
+    alloc: Global,
+    number: u32,
+    threads: u32,
+    slots: &Slots<Group<W>>,
+    queue: &EventQueue,
+    gate: &G,
+    budget: u64,
+    mut seat: Seat<Group<W>>,
+    mut pass: QueuePass,
+) -> (Seat<Group<W>>, QueuePass, bool)
+    requires pair { IsPair slots.now queue.now seat pass × ((view seat).held ≡ []) }
+    requires splits { CanSplit threads seat pass }
+    requires threads { (0 < threads) × (number + threads ≤ MOST_THREADS) }
+    requires asks { CanAsk W.fits W.only_asked W.may_ask W.right W.answers (tags_of slots.now) }
+    ensures pair { IsPair slots.now queue.now result.0 result.1 }
+    ensures keeps { Keeps (view seat) (view result.0) (threads * (2 * budget)) }
+    ensures share { KeepsShare pass result.1 }
+{
+    if threads == 1 {
+        return run_one(rt, alloc, number, slots, queue, gate, budget, seat, pass);
+    }
+    let Ok(other_pass) = queue.split(&mut pass) else {
+        return (seat, pass, false);
+    };
+    let other_seat = slots.split(&mut seat);
+    let (one, rest) = join(
+        rt,
+        move || -> (Seat<Group<W>>, QueuePass, bool)
+            requires pair { IsPair slots.now queue.now other_seat other_pass × ((view other_seat).held ≡ []) }
+            requires asks { CanAsk W.fits W.only_asked W.may_ask W.right W.answers (tags_of slots.now) }
+            ensures pair { IsPair slots.entry.now queue.entry.now result.0 result.1 }
+            ensures keeps { Keeps (view other_seat) (view result.0) (2 * budget) }
+            ensures share { KeepsShare other_pass result.1 }
+        {
+            run_one(
+                rt, alloc, number, slots, queue, gate, budget, other_seat, other_pass,
+            )
+        },
+        move || -> (Seat<Group<W>>, QueuePass, bool)
+            requires pair { IsPair slots.now queue.now seat pass × ((view seat).held ≡ []) }
+            requires splits { CanSplit (threads - 1) seat pass }
+            requires threads { (1 < threads) × (number + threads ≤ MOST_THREADS) }
+            requires asks { CanAsk W.fits W.only_asked W.may_ask W.right W.answers (tags_of slots.now) }
+            requires sync { IsSync R.row × IsSync G.row }
+            ensures pair { IsPair slots.entry.now queue.entry.now result.0 result.1 }
+            ensures keeps { Keeps (view seat) (view result.0) ((threads - 1) * (2 * budget)) }
+            ensures share { KeepsShare pass result.1 }
+        {
+            run_all(
+                rt,
+                alloc,
+                number + 1,
+                threads - 1,
+                slots,
+                queue,
+                gate,
+                budget,
+                seat,
+                pass,
+            )
+        },
+    );
+    let (mut seat, mut pass, ended) = rest;
+    slots.join(&mut seat, one.0);
+    queue.join(&mut pass, one.1);
+    (seat, pass, ended && one.2)
+}

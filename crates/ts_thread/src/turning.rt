@@ -1,0 +1,170 @@
+//! A turn of a token's group, from when it is entered until it is left.
+
+ghost use Rattle.std.specs.Prelude.{◌≡◌, ◌<◌, false, length, IfOk, OnOk, OnErr};
+ghost use Rattle.ts_group.specs.Answers.{Holds};
+ghost use Rattle.ts_group.specs.Slot.{trace_of};
+ghost use Rattle.ts_slot.specs.Words.{tags_of, view, IsSeatOf, IsTop};
+ghost use Rattle.ts_thread.specs.Asks.{AnswersAsked};
+ghost use Rattle.ts_thread.specs.Desks.{IsDeskOf, StaysDeskOf, LeavesDesk, KeepsDesk, ClosesDesk};
+ghost use Rattle.ts_thread.specs.Held.{HasTurn, IsGiven, BeginsSame, IsWorked, CanWork, FitsHere, WillFit};
+ghost use Rattle.ts_thread.specs.Shown.{IsShown};
+ghost use Rattle.ts_thread.specs.Tags.{CanAsk};
+ghost use Rattle.ts_thread.specs.Turning.{Works, EndsTurn, Serves, Uses, IsOfToken};
+
+use crate::PUT_BACK;
+use crate::asking::ask_other;
+use crate::desk::Desk;
+use crate::did::Did;
+use crate::held::{begin, give};
+use crate::leaving::leave;
+use crate::news::tell_news;
+use std::sync::Wait;
+use ts_group::{Asked, Group, Handling, World};
+use ts_link::{Gate, NoMemory};
+use ts_queue::{EventQueue, Token};
+use ts_slot::{Slots, Turn};
+
+// What a turn answers in which so many events were handled and the group k was asked.
+fn did_of<Q, R>(events: u32, k: u32, asked: &Asked<Q, R>) -> Result<Did, NoMemory>
+    ensures { AnswersAsked events k asked.now result }
+{
+    match asked {
+        Asked::Reply(_) => Ok(Did::Ran { events }),
+        Asked::Missed { seen, .. } => Ok(Did::AskMissed {
+            group: k,
+            seen: *seen,
+        }),
+        Asked::NoMemory(_) => Err(NoMemory),
+    }
+}
+
+// Handles a token's event in a group of which a turn was taken, asks the group that the last handler wants to ask, and
+// tells the handler what came of it.
+fn work<W: World + Drop>(
+    slots: &Slots<Group<W>>,
+    desk: &mut Desk<Group<W>>,
+    group: &mut Group<W>,
+    token: Token,
+    moment: u64,
+) -> Result<Did, NoMemory>
+    requires seat { IsSeatOf slots.now desk.old.seat }
+    requires group { CanWork W.fits W.sound (tags_of slots.now) token.group group.old }
+    requires asks { CanAsk W.fits W.only_asked W.may_ask W.right W.answers (tags_of slots.now) }
+    ensures desk { StaysDeskOf slots.now desk.old desk.new }
+    ensures keeps { KeepsDesk desk.old desk.new 1 }
+    ensures worked { IsWorked W.fits W.sound group.old group.new }
+    ensures works { IfOk result (Works token desk.old desk.new) }
+    ensures shown { IfOk result
+        (IsShown group.old.cx.log.state group.new.cx.log.state token.number moment) }
+{
+    group.known();
+    match group.handle(token.number, moment)? {
+        Handling::Handled { events } => Ok(Did::Ran { events }),
+        Handling::Asks {
+            events,
+            group: other,
+            question,
+        } => {
+            group.known();
+            let asked = ask_other(slots, &mut desk.seat, other, question, moment);
+            let did = did_of(events, other, &asked);
+            group.answered(asked);
+            did
+        }
+        Handling::NotPending => Ok(Did::Stale),
+        Handling::NotDue { due } => {
+            desk.wheel.add(due, token)?;
+            Ok(Did::NotDue { due })
+        }
+    }
+}
+
+/// Tells the news of the group that the seat won last, gives its turn back and leaves it, at want of memory too.
+pub fn end_turn<W: World + Drop, R: Wait>(
+    rt: &R,
+    slots: &Slots<Group<W>>,
+    queue: &EventQueue,
+    desk: &mut Desk<Group<W>>,
+    mut turn: Turn<Group<W>>,
+    moment: u64,
+) -> Result<(), NoMemory>
+    requires desk { IsDeskOf slots.now queue.now desk.old }
+    requires top { IsTop (view desk.old.seat) turn.group turn.number (trace_of turn.found.value.cx) }
+    requires has { HasTurn turn.found.value turn.value turn.number desk.old.seat.number }
+    requires fits { WillFit W.fits W.sound W.only_asked W.is_first (tags_of slots.now) turn.group turn.value }
+    ensures desk { IsDeskOf slots.now queue.now desk.new }
+    ensures leaves { LeavesDesk desk.old desk.new }
+    ensures ends { OnOk result
+        (EndsTurn turn.group turn.number moment turn.value desk.old desk.new) }
+{
+    let k = turn.group();
+    let told = tell_news(rt, slots, queue, desk, k, turn.value(), moment);
+    give(turn.value());
+    leave(slots, &mut desk.seat, turn);
+    told
+}
+
+// The turn of a token's group that the seat won last, until it is left, at want of memory too.
+fn serve<W: World + Drop, G: Gate, R: Wait>(
+    rt: &R,
+    slots: &Slots<Group<W>>,
+    queue: &EventQueue,
+    gate: &G,
+    thread: u32,
+    desk: &mut Desk<Group<W>>,
+    token: Token,
+    mut turn: Turn<Group<W>>,
+    moment: u64,
+) -> Result<Did, NoMemory>
+    requires desk { IsDeskOf slots.now queue.now desk.old }
+    requires top { IsTop (view desk.old.seat) turn.group turn.number (trace_of turn.found.value.cx) }
+    requires found { IsOfToken token turn.group turn.number turn.found.value turn.value }
+    requires fits { FitsHere W.fits W.sound W.only_asked W.is_first (tags_of slots.now) turn.group turn.value }
+    requires asks { CanAsk W.fits W.only_asked W.may_ask W.right W.answers (tags_of slots.now) }
+    ensures desk { IsDeskOf slots.now queue.now desk.new }
+    ensures closes { ClosesDesk desk.old desk.new 1 }
+    ensures serves { IfOk result (Serves token moment turn.number turn.found.value desk.old desk.new) }
+{
+    let owner = desk.seat.number();
+    let number = turn.number();
+    if let Err(_) = begin(turn.value(), number, owner, moment) {
+        leave(slots, &mut desk.seat, turn);
+        return Err(NoMemory);
+    }
+    gate.enter(thread, token.group, token.number);
+    let did = work(slots, desk, turn.value(), token, moment);
+    let told = end_turn(rt, slots, queue, desk, turn, moment);
+    let did = did?;
+    told?;
+    Ok(did)
+}
+
+/// Enters the group of a token, if no other seat holds it, handles the token's event in a turn of it, and leaves it.
+pub fn enter<W: World + Drop, G: Gate, R: Wait>(
+    rt: &R,
+    slots: &Slots<Group<W>>,
+    queue: &EventQueue,
+    gate: &G,
+    thread: u32,
+    desk: &mut Desk<Group<W>>,
+    token: Token,
+    moment: u64,
+) -> Result<Did, NoMemory>
+    requires desk { IsDeskOf slots.now queue.now desk.old }
+    requires group { token.group < length (tags_of slots.now) }
+    requires asks { CanAsk W.fits W.only_asked W.may_ask W.right W.answers (tags_of slots.now) }
+    ensures desk { IsDeskOf slots.now queue.now desk.new }
+    ensures keeps { KeepsDesk desk.old desk.new 2 }
+    ensures uses { IfOk result (Uses token moment desk.old desk.new) }
+{
+    match slots.try_enter(&mut desk.seat, token.group) {
+        Err(missed) => {
+            desk.wheel.add(moment.saturating_add(PUT_BACK), token)?;
+            Ok(Did::PutBack {
+                group: token.group,
+                seen: missed.seen,
+            })
+        }
+        Ok(turn) => serve(rt, slots, queue, gate, thread, desk, token, turn, moment),
+    }
+}
