@@ -45,4 +45,5 @@ TakesQuestions {T = T} Fits Sound only_asked is_first g =
 abbrev pub IsAskedAt : {W Q R T U : Type 0} → (T → W → Type 0) → (W → State → List Named → Type 0)
     → (T → Bool) → (T → Bool) → List T → ℕ → Group W Q R T U → Type 0
 IsAskedAt {T = T} Fits Sound only_asked is_first tags k g =
-    (t : T) × (get_elem? tags k ≡ some t) × GroupFits Fits Sound only_asked is_first t g × (only_asked t ≡ true)
+    (t : T) × (get_elem? tags k ≡ some t) × GroupFits Fits Sound only_asked is_first t g
+    × (only_asked t ≡ true)

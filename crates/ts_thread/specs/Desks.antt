@@ -10,7 +10,8 @@ use Rattle.ts_thread.specs.Seats.{Keeps, Closes, Leaves}
 use Rattle.ts_thread.specs.Tokens.{AllName}
 
 module _ {X G T : Type 0} {d : Ghosts X G T} where
-  -- The desk has a seat of these slots and a pass of this queue, and each token in its wheel names a group of the slots.
+  -- The desk has a seat of these slots and a pass of this queue, and each token in its wheel names a group of
+  -- the slots.
   pub record IsDeskOf (slots : Slots X G T) (queue : EventQueue) (desk : Desk X G T d) : Type 0 where
     pub seat : IsSeatOf slots desk.seat
     pub pass : IsPassOf queue desk.pass

@@ -7,7 +7,8 @@ use Rattle.ts_slot.specs.Views.{won}
 use Rattle.ts_slot.specs.Words.{FitsTag}
 use Rattle.ts_thread.specs.Seats.{Keeps}
 
--- The group k was won, maybe after it was missed, and its value was found as the tag wants it, with an earlier stamp.
+-- The group k was won, maybe after it was missed, and its value was found as the tag wants it, with an
+-- earlier stamp.
 pub record IsEntered {X G T : Type 0} {d : Ghosts X G T} (tags : List G) (k : ℕ) (old new : View G T)
     (turn : Turn X G T d) : Type 0 where
   pub group : turn.group ≡ k

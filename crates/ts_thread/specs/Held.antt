@@ -18,7 +18,8 @@ use Rattle.ts_thread.specs.Tags.{GroupFits}
 -- few events were set for the turns, as it must be where a group stands free
 abbrev pub HasFew : Bool → State → Type 0
 HasFew only_asked s =
-    (s.next ≤ (if only_asked then s.turns + 1 else MOST_IN_TURN * s.turns + 1)) × OnTrue only_asked (s.pending ≡ [])
+    (s.next ≤ (if only_asked then s.turns + 1 else MOST_IN_TURN * s.turns + 1))
+    × OnTrue only_asked (s.pending ≡ [])
 
 module _ {W Q R T U : Type 0} where
   -- A seat has a turn of a group, which it found as the one and which is the other now.
@@ -30,8 +31,8 @@ module _ {W Q R T U : Type 0} where
     pub base : now.cx.log.base ≡ found.cx.log.base
     pub news_from : now.cx.news_from ≡ found.cx.news_from
 
-  -- A group that a seat found and leaves: it holds no turn, and records none but this one of the seat beside those
-  -- that it recorded.
+  -- A group that a seat found and leaves: it holds no turn, and records none but this one of the seat beside
+  -- those that it recorded.
   pub record IsGiven (found left : Group W Q R T U) (turn seat : ℕ) : Type 0 where
     pub free : left.cx.log.state.held ≡ false
     pub stamp : (left.cx.log.state.turns ≡ found.cx.log.state.turns) ⊎ (left.cx.log.state.turns ≡ turn)
@@ -73,7 +74,8 @@ module _ {W Q R T U : Type 0} where
     pub same : BeginsSame old new
 
   -- The world set its first events in the turn, which are few where it fits a tag.
-  pub record StartsInTurn (Fits : T → W → Type 0) (Sound : W → State → List Named → Type 0) (Begun : W → W → Type 0)
+  pub record StartsInTurn (Fits : T → W → Type 0) (Sound : W → State → List Named → Type 0)
+      (Begun : W → W → Type 0)
       (old new : Group W Q R T U) : Type 0 where
     pub goes : GoesInTurn Fits old new
     pub sound : Holds Sound new
@@ -81,13 +83,15 @@ module _ {W Q R T U : Type 0} where
     pub few : SetsAtMost Fits old.world MOST_SET old.cx new.cx
 
   -- what a handler's work leaves of its group
-  pub record IsWorked (Fits : T → W → Type 0) (Sound : W → State → List Named → Type 0) (old new : Group W Q R T U) : Type 0 where
+  pub record IsWorked (Fits : T → W → Type 0) (Sound : W → State → List Named → Type 0)
+      (old new : Group W Q R T U) : Type 0 where
     pub goes : GoesInTurn Fits old new
     pub sound : Holds Sound new
     pub few : SetsFew Fits old new
 
   -- the group has a turn, its world is sound, and fits the tag of the group k
-  abbrev pub CanWork : (T → W → Type 0) → (W → State → List Named → Type 0) → List T → ℕ → Group W Q R T U → Type 0
+  abbrev pub CanWork : (T → W → Type 0) → (W → State → List Named → Type 0) → List T → ℕ → Group W Q R T U
+      → Type 0
   CanWork Fits Sound tags k g =
       (g.cx.log.state.held ≡ true) × Holds Sound g × (t : T) × (get_elem? tags k ≡ some t) × Fits t g.world
 
@@ -101,5 +105,6 @@ module _ {W Q R T U : Type 0} where
   abbrev pub WillFit : (T → W → Type 0) → (W → State → List Named → Type 0) → (T → Bool) → (T → Bool)
       → List T → ℕ → Group W Q R T U → Type 0
   WillFit Fits Sound only_asked is_first tags k g =
-      (t : T) × (get_elem? tags k ≡ some t) × Fits t g.world × Holds Sound g × HasFew (only_asked t) g.cx.log.state
+      (t : T) × (get_elem? tags k ≡ some t) × Fits t g.world × Holds Sound g
+      × HasFew (only_asked t) g.cx.log.state
       × OnTrue (is_first t) (g.cx.log.base.turns ≡ 0)

@@ -50,11 +50,13 @@ module _ {X G T : Type 0} {d : Ghosts X G T} where
     pub wheel : (e : ℕ × Token) → IsIn e old.wheel → IsIn e new.wheel
     pub put : (t : Token) → HasTicket t (known_of old.pass).put → HasTicket t (known_of new.pass).put
 
-  -- The news of the group k was told: each piece of it has a token, one and no more, and no other token was made; and
-  -- there is no news any more.
-  pub record HasTold {W Q R T' U : Type 0} (k moment : ℕ) (group told : Group W Q R T' U) (old new : Desk X G T d) : Type 0 where
+  -- The news of the group k was told: each piece of it has a token, one and no more, and no other token was
+  -- made; and there is no news any more.
+  pub record HasTold {W Q R T' U : Type 0} (k moment : ℕ) (group told : Group W Q R T' U)
+      (old new : Desk X G T d) : Type 0 where
     pub none : NoNews told.cx.news_from told.cx.log.state
-    pub each : (n : ℕ) (p : Pending) → pending_at n told.cx.log.state.pending ≡ Some p → group.cx.news_from ≤ n
+    pub each : (n : ℕ) (p : Pending) → pending_at n told.cx.log.state.pending ≡ Some p
+        → group.cx.news_from ≤ n
         → HasPlace moment k p new
     pub once : (t : Token) → places_of t new ≡ places_of t old + (if is_news k group told t then 1 else 0)
     pub keeps : KeepsPlaces old new

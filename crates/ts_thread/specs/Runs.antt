@@ -14,7 +14,8 @@ use Rattle.ts_thread.specs.declared.did.RunEnd.{RunEnd}
 use Rattle.ts_thread.specs.declared.did.RunEnd.TheVariants as end
 use Rattle.ts_thread.specs.Turning.{IsDid, StaysIdle}
 
--- After a turn that was idle the next moment is that at which the wheel's first token is due; else it is the same.
+-- After a turn that was idle the next moment is that at which the wheel's first token is due; else it is the
+-- same.
 abbrev pub IsNextMoment : Did → List (ℕ × Token) → ℕ → ℕ → Type 0
 IsNextMoment did.Idle wheel now next = first_moment wheel ≡ Some next
 IsNextMoment (did.Ran events) wheel now next = next ≡ now
@@ -24,17 +25,19 @@ IsNextMoment did.Stale wheel now next = next ≡ now
 IsNextMoment (did.NotDue due) wheel now next = next ≡ now
 
 module _ {W Q R T U : Type 0} {d : Ghosts (Group W Q R T U) T (ℕ × State)} where
-  -- So many turns were made, the first at the moment 0, and this is the moment of the next one. None of them was idle and
-  -- left the wheel empty.
-  abbrev pub Turns : ℕ → ℕ → Desk (Group W Q R T U) T (ℕ × State) d → Desk (Group W Q R T U) T (ℕ × State) d → ℕ → Type 0
+  -- So many turns were made, the first at the moment 0, and this is the moment of the next one. None of them
+  -- was idle and left the wheel empty.
+  abbrev pub Turns : ℕ → ℕ → Desk (Group W Q R T U) T (ℕ × State) d
+      → Desk (Group W Q R T U) T (ℕ × State) d → ℕ → Type 0
   Turns groups zero old new moment = (new ≡ old) × (moment ≡ 0)
   Turns groups (suc made) old new moment =
       (mid : Desk (Group W Q R T U) T (ℕ × State) d) × (at : ℕ) × Turns groups made old mid at
       × (answer : Did) × IsDid groups at mid new answer × IsNextMoment answer new.wheel at moment
 
-  -- Where the budget was used up, so many turns were made, none of them idle over an empty wheel; else the last turn of
-  -- fewer or as many was.
-  abbrev pub HasRunTo : ℕ → ℕ → Desk (Group W Q R T U) T (ℕ × State) d → Desk (Group W Q R T U) T (ℕ × State) d → RunEnd → Type 0
+  -- Where the budget was used up, so many turns were made, none of them idle over an empty wheel; else the
+  -- last turn of fewer or as many was.
+  abbrev pub HasRunTo : ℕ → ℕ → Desk (Group W Q R T U) T (ℕ × State) d
+      → Desk (Group W Q R T U) T (ℕ × State) d → RunEnd → Type 0
   HasRunTo groups budget old new end.Budget = (moment : ℕ) × Turns groups budget old new moment
   HasRunTo groups budget old new end.Idle =
       (made : ℕ) × (made < budget) × (mid : Desk (Group W Q R T U) T (ℕ × State) d) × (moment : ℕ)

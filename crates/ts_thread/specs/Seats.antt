@@ -13,7 +13,8 @@ abbrev pub KnowsTurn : {T : Type 0} → ℕ → ℕ → T → List (ℕ × ℕ �
 KnowsTurn k turn trace known = turn < last_turn → IsIn (k, turn, trace) known
 
 module _ {G T : Type 0} where
-  -- A seat has its share, its names and the groups that it held, got at most so many turns more, and forgot nothing.
+  -- A seat has its share, its names and the groups that it held, got at most so many turns more, and forgot
+  -- nothing.
   pub record Keeps (old new : View G T) (most : ℕ) : Type 0 where
     pub share : new.share ≡ old.share
     pub names : new.names ≡ old.names

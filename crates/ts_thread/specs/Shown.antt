@@ -46,7 +46,8 @@ IsShown found left number moment did.Stale = WasStale found left number
 IsShown found left number moment (did.NotDue due) = WasLate found left number moment due
 IsShown found left number moment did.Idle = ⊥
 
--- What the seat counts beside the turn of the group k: a turn of another group that was asked, a miss of it, or nothing.
+-- What the seat counts beside the turn of the group k: a turn of another group that was asked, a miss of it,
+-- or nothing.
 abbrev pub IsCounted : {G T : Type 0} → ℕ → View G T → View G T → Did → Type 0
 IsCounted k old new (did.Ran events) = CountsSame old new ⊎ ((to : ℕ) × (to ≢ k) × CountsTurn to old new)
 IsCounted k old new (did.PutBack group seen) = ⊥

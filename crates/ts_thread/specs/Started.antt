@@ -23,7 +23,8 @@ IsFirst {T} is_first tags k turns = (t : T) × (get_elem? tags k ≡ some t) × 
 
 module _ {W Q R T U : Type 0} where
   -- A seat started the group k in a turn, and knows what stood after it.
-  pub record Starts (First : ℕ → ℕ → Type 0) (Begun : W → W → Type 0) (Sound : W → State → List Named → Type 0)
+  pub record Starts (First : ℕ → ℕ → Type 0) (Begun : W → W → Type 0)
+      (Sound : W → State → List Named → Type 0)
       (k turn : ℕ) (found started left : Group W Q R T U) (known : List (ℕ × ℕ × (ℕ × State))) : Type 0 where
     pub first : First k started.cx.log.base.turns
     pub stood : IsIn (k, turn - 1, trace_of found.cx) known
@@ -34,7 +35,8 @@ module _ {W Q R T U : Type 0} where
     pub knows : KnowsTurn k turn (trace_of left.cx) known
 
   -- The group k follows one that was started.
-  pub record WasStarted (First : ℕ → ℕ → Type 0) (Begun : W → W → Type 0) (Sound : W → State → List Named → Type 0)
+  pub record WasStarted (First : ℕ → ℕ → Type 0) (Begun : W → W → Type 0)
+      (Sound : W → State → List Named → Type 0)
       (k : ℕ) (now : Group W Q R T U) : Type 0 where
     pub found : Group W Q R T U
     pub started : Group W Q R T U
@@ -47,7 +49,8 @@ module _ {W Q R T U : Type 0} where
   abbrev pub WereStarted : (ℕ → ℕ → Type 0) → (W → W → Type 0) → (W → State → List Named → Type 0) → ℕ
       → List (Group W Q R T U) → Type 0
   WereStarted First Begun Sound starts groups =
-      (k : ℕ) (g : Group W Q R T U) → k < starts → get_elem? groups k ≡ some g → WasStarted First Begun Sound k g
+      (k : ℕ) (g : Group W Q R T U) → k < starts → get_elem? groups k ≡ some g
+      → WasStarted First Begun Sound k g
 
 -- A seat started the group k in a turn that it had.
 pub record Started {W : Type 0} (Q R T U : Type 0) (First : ℕ → ℕ → Type 0) (Begun : W → W → Type 0)

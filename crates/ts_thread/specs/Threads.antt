@@ -11,9 +11,11 @@ use Rattle.ts_slot.specs.declared.slots.Slots.{Slots}
 use Rattle.ts_slot.specs.Limits.{whole_share, last_turn}
 use Rattle.ts_slot.specs.Words.{view, IsSeatOf}
 use Rattle.ts_thread.specs.declared.TheConstants.{MOST_THREADS}
+use Rattle.ts_thread.specs.Seats.{Keeps}
 use Rattle.ts_thread.specs.Started.{CanStart}
 
--- how many turns are taken at most where so many groups are started and so many threads run with a budget each
+-- how many turns are taken at most where so many groups are started and so many threads run with a budget
+-- each
 abbrev pub turns_of : ℕ → ℕ → ℕ → ℕ
 turns_of starts threads budget = starts + threads * (2 * budget)
 
@@ -22,7 +24,8 @@ abbrev pub HasMade : {W Q R T U : Type 0} → ℕ → Group W Q R T U → Type 0
 HasMade most g = g.cx.log.state.turns ≤ most
 
 -- So many groups can be started, and so many threads run, with a budget that leaves each group turns enough.
-pub record IsPlan {T : Type 0} (only_asked : T → Bool) (tags : List T) (starts threads budget : ℕ) : Type 0 where
+pub record IsPlan {T : Type 0} (only_asked : T → Bool) (tags : List T)
+    (starts threads budget : ℕ) : Type 0 where
   pub tagged : CanStart only_asked tags starts
   pub some : 0 < threads
   pub most : threads ≤ MOST_THREADS
@@ -34,7 +37,8 @@ KeepsShare old new = (known_of new).share ≡ (known_of old).share
 
 module _ {X G T : Type 0} {d : Ghosts X G T} where
   -- a seat of these slots, and a pass of this queue
-  pub record IsPair (slots : Slots X G T) (queue : EventQueue) (seat : Seat X G T d) (pass : QueuePass) : Type 0 where
+  pub record IsPair (slots : Slots X G T) (queue : EventQueue) (seat : Seat X G T d)
+      (pass : QueuePass) : Type 0 where
     pub of_slots : IsSeatOf slots seat
     pub of_queue : IsPassOf queue pass
 
@@ -60,3 +64,18 @@ module _ {X G T : Type 0} {d : Ghosts X G T} where
     pub held : (view seat).held ≡ []
     pub few : length (view seat).turns ≤ turns
     pub splits : CanSplit MOST_THREADS seat pass
+
+  -- a seat and a pass that hold nothing, for so many threads
+  pub record CanRun (slots : Slots X G T) (queue : EventQueue) (threads : ℕ) (seat : Seat X G T d)
+      (pass : QueuePass) : Type 0 where
+    pub pair : IsPair slots queue seat pass
+    pub idle : (view seat).held ≡ []
+    pub splits : CanSplit threads seat pass
+
+  -- What comes back of a seat and a pass after at most so many turns: the seat holds what it held, and the
+  -- shares are as they were.
+  pub record ComesBack (slots : Slots X G T) (queue : EventQueue) (seat : Seat X G T d) (pass : QueuePass)
+      (turns : ℕ) (back : Seat X G T d × QueuePass × Bool) : Type 0 where
+    pub pair : IsPair slots queue back.0 back.1
+    pub keeps : Keeps (view seat) (view back.0) turns
+    pub share : KeepsShare pass back.1

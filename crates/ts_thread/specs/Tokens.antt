@@ -31,14 +31,16 @@ pub record TakesNext (groups : ℕ) (old new : View) (token : Token) : Type 0 wh
   pub is : ticket.token ≡ token
   pub takes : TakesTicket before ticket new
 
--- a take of the pass found the queue empty at one moment, after it had let go what names none of so many groups
+-- a take of the pass found the queue empty at one moment, after it had let go what names none of so many
+-- groups
 pub record FindsNone (groups : ℕ) (old new : QueuePass) : Type 0 where
   pub lets_go : LetsGo groups (known_of old) (known_of new)
   pub empty : FindsEmpty (known_of new)
   pub rose : Rose (empties_of old) (empties_of new)
 
 module _ {X G T : Type 0} {d : Ghosts X G T} where
-  -- A token of one of so many groups was taken: the first of the wheel, where it was due, and else the next of the queue.
+  -- A token of one of so many groups was taken: the first of the wheel, where it was due, and else the next
+  -- of the queue.
   pub record Gets (groups moment : ℕ) (old new : Desk X G T d) (token : Token) : Type 0 where
     pub names : token.group < groups
     pub wheel : new.wheel ≡ after_due moment old.wheel

@@ -20,14 +20,15 @@ use Rattle.ts_thread.specs.Shown.{IsShown, IsCounted, waiting}
 use Rattle.ts_thread.specs.Tokens.{Gets, FindsNothing}
 
 -- the turn is of the token's group, and a later one than the group has recorded
-pub record IsOfToken {W Q R T U : Type 0} (token : Token) (k turn : ℕ) (found now : Group W Q R T U) : Type 0 where
+pub record IsOfToken {W Q R T U : Type 0} (token : Token) (k turn : ℕ)
+    (found now : Group W Q R T U) : Type 0 where
   pub group : k ≡ token.group
   pub same : found ≡ now
   pub later : now.cx.log.state.turns < turn
 
 module _ {X G T : Type 0} {d : Ghosts X G T} where
-  -- What a handler's work leaves of the desk: its seat counts what the answer says, and a token whose event is due later
-  -- waits in the wheel.
+  -- What a handler's work leaves of the desk: its seat counts what the answer says, and a token whose event
+  -- is due later waits in the wheel.
   pub record Works (token : Token) (old new : Desk X G T d) (answer : Did) : Type 0 where
     pub counted : IsCounted token.group (view old.seat) (view new.seat) answer
     pub wheel : new.wheel ≡ waiting answer token old.wheel
@@ -58,7 +59,8 @@ module _ {W Q R T U : Type 0} {d : Ghosts (Group W Q R T U) T (ℕ × State)} wh
     pub told : HasTold k moment now left old new
     pub knows : KnowsTurn k turn (trace_of left.cx) (view new.seat).known
 
-  -- A turn of the token's group, from when its seat had won it: the work, then the news, which is told as the group is left.
+  -- A turn of the token's group, from when its seat had won it: the work, then the news, which is told as the
+  -- group is left.
   pub record Serves (token : Token) (moment turn : ℕ) (found : Group W Q R T U)
       (old new : Desk (Group W Q R T U) T (ℕ × State) d) (answer : Did) : Type 0 where
     pub worked : Desk (Group W Q R T U) T (ℕ × State) d
@@ -82,26 +84,32 @@ module _ {W Q R T U : Type 0} {d : Ghosts (Group W Q R T U) T (ℕ × State)} wh
     pub serves : Serves token moment turn found entered new answer
 
   -- what was done with a token that was taken
-  abbrev pub Uses : Token → ℕ → Desk (Group W Q R T U) T (ℕ × State) d → Desk (Group W Q R T U) T (ℕ × State) d → Did → Type 0
+  abbrev pub Uses : Token → ℕ → Desk (Group W Q R T U) T (ℕ × State) d
+      → Desk (Group W Q R T U) T (ℕ × State) d → Did → Type 0
   Uses token moment old new (did.Ran events) = Enters token moment old new (did.Ran events)
   Uses token moment old new (did.PutBack group seen) = PutsBack token moment group seen old new
-  Uses token moment old new (did.AskMissed group seen) = Enters token moment old new (did.AskMissed group seen)
+  Uses token moment old new (did.AskMissed group seen) =
+      Enters token moment old new (did.AskMissed group seen)
   Uses token moment old new did.Stale = Enters token moment old new did.Stale
   Uses token moment old new (did.NotDue due) = Enters token moment old new (did.NotDue due)
   Uses token moment old new did.Idle = ⊥
 
   -- A token of one of so many groups was taken and used.
-  pub record TakesOne (groups moment : ℕ) (old new : Desk (Group W Q R T U) T (ℕ × State) d) (answer : Did) : Type 0 where
+  pub record TakesOne (groups moment : ℕ) (old new : Desk (Group W Q R T U) T (ℕ × State) d)
+      (answer : Did) : Type 0 where
     pub token : Token
     pub taken : Desk (Group W Q R T U) T (ℕ × State) d
     pub gets : Gets groups moment old taken token
     pub uses : Uses token moment taken new answer
 
   -- what a turn of a thread did, by its answer
-  abbrev pub IsDid : ℕ → ℕ → Desk (Group W Q R T U) T (ℕ × State) d → Desk (Group W Q R T U) T (ℕ × State) d → Did → Type 0
+  abbrev pub IsDid : ℕ → ℕ → Desk (Group W Q R T U) T (ℕ × State) d
+      → Desk (Group W Q R T U) T (ℕ × State) d → Did → Type 0
   IsDid groups moment old new did.Idle = StaysIdle groups moment old new
   IsDid groups moment old new (did.Ran events) = TakesOne groups moment old new (did.Ran events)
-  IsDid groups moment old new (did.PutBack group seen) = TakesOne groups moment old new (did.PutBack group seen)
-  IsDid groups moment old new (did.AskMissed group seen) = TakesOne groups moment old new (did.AskMissed group seen)
+  IsDid groups moment old new (did.PutBack group seen) =
+      TakesOne groups moment old new (did.PutBack group seen)
+  IsDid groups moment old new (did.AskMissed group seen) =
+      TakesOne groups moment old new (did.AskMissed group seen)
   IsDid groups moment old new did.Stale = TakesOne groups moment old new did.Stale
   IsDid groups moment old new (did.NotDue due) = TakesOne groups moment old new (did.NotDue due)

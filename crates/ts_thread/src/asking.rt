@@ -52,7 +52,8 @@ fn ask_won<W: World + Drop>(
     requires seat { IsSeatOf slots.now seat.old }
     requires top { IsTop (view seat.old) turn.group turn.number (trace_of turn.found.value.cx) }
     requires found { (turn.found.value ≡ turn.value) × (turn.value.cx.log.state.turns < turn.number) }
-    requires asked { IsAskedAt W.fits W.sound W.only_asked W.is_first (tags_of slots.now) turn.group turn.value }
+    requires asked { IsAskedAt W.fits W.sound W.only_asked W.is_first
+        (tags_of slots.now) turn.group turn.value }
     ensures seat { IsSeatOf slots.now seat.new }
     ensures leaves { Leaves (view seat.old) (view seat.new) }
     ensures reply { IfOk result (Gives W.fits W.answers (tags_of slots.now) turn.group question) }

@@ -40,8 +40,8 @@ fn next_ticket<R: Wait>(
     unreachable!()
 }
 
-/// Takes a token of one of so many groups: the first of the wheel, if it is due, and else the next of the queue. One
-/// that names none of them is let go.
+/// Takes a token of one of so many groups: the first of the wheel, if it is due, and else the next of the
+/// queue. One that names none of them is let go.
 pub fn next_token<V: Slotted, R: Wait>(
     rt: &R,
     queue: &EventQueue,
@@ -63,7 +63,8 @@ pub fn next_token<V: Slotted, R: Wait>(
     next_ticket(rt, queue, &mut desk.pass, groups)
 }
 
-/// Puts a token into the queue where it is due, and else adds it to the wheel; there too where the pass has no serial left.
+/// Puts a token into the queue where it is due, and else adds it to the wheel; there too where the pass has
+/// no serial left.
 pub fn place<V: Slotted, R: Wait>(
     rt: &R,
     queue: &EventQueue,

@@ -1,4 +1,5 @@
-//! What makes handlers run: turns of groups, by event threads or, for groups that nobody else has, on one thread.
+//! What makes handlers run: turns of groups, by event threads or, for groups that nobody else has, on one
+//! thread.
 #![tactic(auto)]
 
 mod asking;

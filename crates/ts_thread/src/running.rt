@@ -56,8 +56,9 @@ fn start_apart<W: World + Drop, R: Wait>(
     started
 }
 
-/// Puts each group into a slot, starts the first so many in a turn of their own each, runs so many threads with a
-/// budget of turns each, and takes the groups out again. Want of memory in one of the threads is that of the whole.
+/// Puts each group into a slot, starts the first so many in a turn of their own each, runs so many threads
+/// with a budget of turns each, and takes the groups out again. Want of memory in one of the threads is that
+/// of the whole.
 pub fn run_groups<W: World + Drop + Send, G: Gate + Sync, R: Threads + Wait + Sync>(
     rt: &R,
     alloc: Global,

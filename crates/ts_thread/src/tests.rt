@@ -1,4 +1,5 @@
-//! Turns of an event thread: a token whose event is gone, and a group that is asked while another seat holds it.
+//! Turns of an event thread: a token whose event is gone, and a group that is asked while another seat holds
+//! it.
 
 ghost use Rattle.std.specs.Prelude.{⊤, ◌≡◌, ℕ, ◌+◌, ◌≤◌, List, [], ◌∷◌, None, true, false, refl, length, IfOk};
 ghost use Rattle.std.proofs.Common.{sym, subst};
@@ -25,7 +26,8 @@ use ts_queue::{EventQueue, Token};
 use ts_slot::{Seat, Slots};
 use ts_wheel::Wheel;
 
-// A world that asks group 1 at each event, and again 10 ms later where that was missed; or one that is only asked.
+// A world that asks group 1 at each event, and again 10 ms later where that was missed; or one that is only
+// asked.
 #[derive(Drop)]
 struct Peer {
     only_asked: bool,

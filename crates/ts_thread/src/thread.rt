@@ -1,5 +1,5 @@
-//! An event thread, which takes tokens and handles their events in turns of their groups. Traffic Server's Developer's
-//! Guide calls what runs the continuations its event system.
+//! An event thread, which takes tokens and handles their events in turns of their groups. Traffic Server's
+//! Developer's Guide calls what runs the continuations its event system.
 
 ghost use Rattle.std.specs.Prelude.{◌≡◌, []};
 ghost use Rattle.ts_slot.specs.Words.{view};
@@ -68,8 +68,8 @@ impl<'a, W: World + Drop, G: Gate> EventThread<'a, W, G> {
         }
     }
 
-    /// Takes a token, the first of the wheel where it is due and else the next of the queue, and handles its event in a
-    /// turn of its group. No group is held when it returns, at want of memory either.
+    /// Takes a token, the first of the wheel where it is due and else the next of the queue, and handles its
+    /// event in a turn of its group. No group is held when it returns, at want of memory either.
     pub fn turn<R: Wait>(&mut self, rt: &R, moment: u64) -> Result<Did, NoMemory>
         requires asks { CanAsk W.fits W.only_asked W.may_ask W.right W.answers (tags_of self.old.slots.now) }
         ensures tables { (self.new.slots ≡ self.old.slots) × (self.new.queue ≡ self.old.queue) }
@@ -88,9 +88,9 @@ impl<'a, W: World + Drop, G: Gate> EventThread<'a, W, G> {
         )
     }
 
-    /// Takes at most so many turns, the first at the moment 0. After an idle turn it goes on at the moment at which the
-    /// first token of the wheel is due, and ends where there is none. No group is held when it returns, at want of
-    /// memory either.
+    /// Takes at most so many turns, the first at the moment 0. After an idle turn it goes on at the moment at
+    /// which the first token of the wheel is due, and ends where there is none. No group is held when it
+    /// returns, at want of memory either.
     pub fn run<R: Wait>(&mut self, rt: &R, budget: u64) -> Result<RunEnd, NoMemory>
         requires asks { CanAsk W.fits W.only_asked W.may_ask W.right W.answers (tags_of self.old.slots.now) }
         ensures tables { (self.new.slots ≡ self.old.slots) × (self.new.queue ≡ self.old.queue) }

@@ -1,12 +1,11 @@
 //! Many threads over the same slots and the same queue.
 
-ghost use Rattle.std.specs.Prelude.{◌≡◌, ◌*◌, ◌-◌, ◌+◌, ◌<◌, ◌≤◌, []};
+ghost use Rattle.std.specs.Prelude.{◌*◌, ◌-◌, ◌+◌, ◌<◌, ◌≤◌};
 ghost use Rattle.ts_thread.specs.declared.TheConstants.{MOST_THREADS};
 ghost use Rattle.std.specs.Thread.{IsSync};
-ghost use Rattle.ts_slot.specs.Words.{tags_of, view};
-ghost use Rattle.ts_thread.specs.Seats.{Keeps};
+ghost use Rattle.ts_slot.specs.Words.{tags_of};
 ghost use Rattle.ts_thread.specs.Tags.{CanAsk};
-ghost use Rattle.ts_thread.specs.Threads.{IsPair, CanSplit, KeepsShare};
+ghost use Rattle.ts_thread.specs.Threads.{CanRun, ComesBack};
 
 use crate::MOST_THREADS;
 use crate::thread::EventThread;
@@ -30,11 +29,9 @@ fn run_one<W: World + Drop, G: Gate, R: Wait>(
     seat: Seat<Group<W>>,
     pass: QueuePass,
 ) -> (Seat<Group<W>>, QueuePass, bool)
-    requires pair { IsPair slots.now queue.now seat pass × ((view seat).held ≡ []) }
+    requires ready { CanRun slots.now queue.now 1 seat pass }
     requires asks { CanAsk W.fits W.only_asked W.may_ask W.right W.answers (tags_of slots.now) }
-    ensures pair { IsPair slots.now queue.now result.0 result.1 }
-    ensures keeps { Keeps (view seat) (view result.0) (2 * budget) }
-    ensures share { KeepsShare pass result.1 }
+    ensures back { ComesBack slots.now queue.now seat pass (2 * budget) result }
 {
     let mut thread = match EventThread::make(alloc, number, slots, seat, queue, pass, gate) {
         Ok(thread) => thread,
@@ -45,8 +42,8 @@ fn run_one<W: World + Drop, G: Gate, R: Wait>(
     (seat, pass, ended.is_ok())
 }
 
-/// Runs so many threads, from this number on, and joins their seats and passes into one. The last part of the answer
-/// is false where memory lacked in one of them.
+/// Runs so many threads, from this number on, and joins their seats and passes into one. The last part of the
+/// answer is false where memory lacked in one of them.
 pub fn run_all<W: World + Drop + Send, G: Gate + Sync, R: Threads + Wait + Sync>(
     rt: &R,
     alloc: Global,
@@ -59,13 +56,10 @@ pub fn run_all<W: World + Drop + Send, G: Gate + Sync, R: Threads + Wait + Sync>
     mut seat: Seat<Group<W>>,
     mut pass: QueuePass,
 ) -> (Seat<Group<W>>, QueuePass, bool)
-    requires pair { IsPair slots.now queue.now seat pass × ((view seat).held ≡ []) }
-    requires splits { CanSplit threads seat pass }
+    requires ready { CanRun slots.now queue.now threads seat pass }
     requires threads { (0 < threads) × (number + threads ≤ MOST_THREADS) }
     requires asks { CanAsk W.fits W.only_asked W.may_ask W.right W.answers (tags_of slots.now) }
-    ensures pair { IsPair slots.now queue.now result.0 result.1 }
-    ensures keeps { Keeps (view seat) (view result.0) (threads * (2 * budget)) }
-    ensures share { KeepsShare pass result.1 }
+    ensures back { ComesBack slots.now queue.now seat pass (threads * (2 * budget)) result }
 {
     if threads == 1 {
         return run_one(rt, alloc, number, slots, queue, gate, budget, seat, pass);
@@ -77,25 +71,21 @@ pub fn run_all<W: World + Drop + Send, G: Gate + Sync, R: Threads + Wait + Sync>
     let (one, rest) = join(
         rt,
         move || -> (Seat<Group<W>>, QueuePass, bool)
-            requires pair { IsPair slots.now queue.now other_seat other_pass × ((view other_seat).held ≡ []) }
-            requires asks { CanAsk W.fits W.only_asked W.may_ask W.right W.answers (tags_of slots.now) }
-            ensures pair { IsPair slots.entry.now queue.entry.now result.0 result.1 }
-            ensures keeps { Keeps (view other_seat) (view result.0) (2 * budget) }
-            ensures share { KeepsShare other_pass result.1 }
+            requires { CanRun slots.now queue.now 1 other_seat other_pass
+                × CanAsk W.fits W.only_asked W.may_ask W.right W.answers (tags_of slots.now) }
+            ensures { ComesBack slots.entry.now queue.entry.now other_seat other_pass (2 * budget) result }
         {
             run_one(
                 rt, alloc, number, slots, queue, gate, budget, other_seat, other_pass,
             )
         },
         move || -> (Seat<Group<W>>, QueuePass, bool)
-            requires pair { IsPair slots.now queue.now seat pass × ((view seat).held ≡ []) }
-            requires splits { CanSplit (threads - 1) seat pass }
-            requires threads { (1 < threads) × (number + threads ≤ MOST_THREADS) }
-            requires asks { CanAsk W.fits W.only_asked W.may_ask W.right W.answers (tags_of slots.now) }
-            requires sync { IsSync R.row × IsSync G.row }
-            ensures pair { IsPair slots.entry.now queue.entry.now result.0 result.1 }
-            ensures keeps { Keeps (view seat) (view result.0) ((threads - 1) * (2 * budget)) }
-            ensures share { KeepsShare pass result.1 }
+            requires { CanRun slots.now queue.now (threads - 1) seat pass
+                × (1 < threads) × (number + threads ≤ MOST_THREADS)
+                × CanAsk W.fits W.only_asked W.may_ask W.right W.answers (tags_of slots.now)
+                × IsSync R.row × IsSync G.row }
+            ensures { ComesBack slots.entry.now queue.entry.now seat pass
+                ((threads - 1) * (2 * budget)) result }
         {
             run_all(
                 rt,

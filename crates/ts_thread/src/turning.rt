@@ -38,8 +38,8 @@ fn did_of<Q, R>(events: u32, k: u32, asked: &Asked<Q, R>) -> Result<Did, NoMemor
     }
 }
 
-// Handles a token's event in a group of which a turn was taken, asks the group that the last handler wants to ask, and
-// tells the handler what came of it.
+// Handles a token's event in a group of which a turn was taken, asks the group that the last handler wants to
+// ask, and tells the handler what came of it.
 fn work<W: World + Drop>(
     slots: &Slots<Group<W>>,
     desk: &mut Desk<Group<W>>,
@@ -79,7 +79,8 @@ fn work<W: World + Drop>(
     }
 }
 
-/// Tells the news of the group that the seat won last, gives its turn back and leaves it, at want of memory too.
+/// Tells the news of the group that the seat won last, gives its turn back and leaves it, at want of memory
+/// too.
 pub fn end_turn<W: World + Drop, R: Wait>(
     rt: &R,
     slots: &Slots<Group<W>>,
@@ -119,7 +120,8 @@ fn serve<W: World + Drop, G: Gate, R: Wait>(
     requires desk { IsDeskOf slots.now queue.now desk.old }
     requires top { IsTop (view desk.old.seat) turn.group turn.number (trace_of turn.found.value.cx) }
     requires found { IsOfToken token turn.group turn.number turn.found.value turn.value }
-    requires fits { FitsHere W.fits W.sound W.only_asked W.is_first (tags_of slots.now) turn.group turn.value }
+    requires fits { FitsHere W.fits W.sound W.only_asked W.is_first
+        (tags_of slots.now) turn.group turn.value }
     requires asks { CanAsk W.fits W.only_asked W.may_ask W.right W.answers (tags_of slots.now) }
     ensures desk { IsDeskOf slots.now queue.now desk.new }
     ensures closes { ClosesDesk desk.old desk.new 1 }
@@ -139,7 +141,8 @@ fn serve<W: World + Drop, G: Gate, R: Wait>(
     Ok(did)
 }
 
-/// Enters the group of a token, if no other seat holds it, handles the token's event in a turn of it, and leaves it.
+/// Enters the group of a token, if no other seat holds it, handles the token's event in a turn of it, and
+/// leaves it.
 pub fn enter<W: World + Drop, G: Gate, R: Wait>(
     rt: &R,
     slots: &Slots<Group<W>>,

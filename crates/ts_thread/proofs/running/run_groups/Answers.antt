@@ -26,7 +26,7 @@ returns-clause-turns g c =
     all_from (HasMade (turns_of c.args.starts c.args.threads c.args.budget)) c.in-Ok-close.groups.items (λ k x at.
     let last = c.in-Ok-close.ensures.values k x at in
     let seat = view c.run_all-seat.result.0 in
-    few_all x.cx.log.state.turns (entries k seat.turns) (length seat.turns) (length (view c.start_apart.new.seat).turns) c.args.starts (c.args.threads * (2 * c.args.budget)) last.stamped (few_entries k seat.turns) c.run_all-seat.ensures.keeps.turns c.in_ok-start_apart.ensures.opened.few)
+    few_all x.cx.log.state.turns (entries k seat.turns) (length seat.turns) (length (view c.start_apart.new.seat).turns) c.args.starts (c.args.threads * (2 * c.args.budget)) last.stamped (few_entries k seat.turns) c.run_all-seat.ensures.back.keeps.turns c.in_ok-start_apart.ensures.opened.few)
 
 pub returns-clause-started : goal.returns-clause-started
 returns-clause-started g c k x low at =
@@ -35,6 +35,6 @@ returns-clause-started g c k x low at =
     let known = (view c.start_apart.new.seat).known in
     let first = IsFirst g.W.World.is_first c.args.tags.items in
     let started = subst (λ ts. AllStarted g.row.W-Question.Denot g.row.W-Reply.Denot g.row.W-Tag.Denot g.row.W-Trace.Denot (IsFirst g.W.World.is_first ts) g.W.World.begun g.W.World.sound known c.args.starts) c.in-Ok.ensures.tags c.in_ok-start_apart.ensures.started in
-    let more = all_more g.row.W-Question.Denot g.row.W-Reply.Denot g.row.W-Tag.Denot g.row.W-Trace.Denot first g.W.World.begun g.W.World.sound known seat.known c.args.starts c.run_all-seat.ensures.keeps.known started in
-    let few = few_all (entries k seat.turns) (entries k seat.turns) (length seat.turns) (length (view c.start_apart.new.seat).turns) c.args.starts (c.args.threads * (2 * c.args.budget)) (le_refl (entries k seat.turns)) (few_entries k seat.turns) c.run_all-seat.ensures.keeps.turns c.in_ok-start_apart.ensures.opened.few in
+    let more = all_more g.row.W-Question.Denot g.row.W-Reply.Denot g.row.W-Tag.Denot g.row.W-Trace.Denot first g.W.World.begun g.W.World.sound known seat.known c.args.starts c.run_all-seat.ensures.back.keeps.known started in
+    let few = few_all (entries k seat.turns) (entries k seat.turns) (length seat.turns) (length (view c.start_apart.new.seat).turns) c.args.starts (c.args.threads * (2 * c.args.budget)) (le_refl (entries k seat.turns)) (few_entries k seat.turns) c.run_all-seat.ensures.back.keeps.turns c.in_ok-start_apart.ensures.opened.few in
     was_started first g.W.World.begun g.W.World.sound seat.known seat.turns k x (still_young (entries k seat.turns) (turns_of c.args.starts c.args.threads c.args.budget) few c.requires.plan.turns) (more k low) last.later
