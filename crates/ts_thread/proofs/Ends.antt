@@ -14,7 +14,7 @@ use Rattle.ts_group.proofs.Slots.{one_mark}
 use Rattle.ts_queue.specs.declared.queue.EventQueue.{EventQueue}
 use Rattle.ts_queue.specs.declared.ticket.Token.{Token}
 use Rattle.ts_queue.specs.declared.queue.QueuePass.{QueuePass}
-use Rattle.ts_queue.specs.Passes.{IsPassOf, view as known_of}
+use Rattle.ts_queue.specs.Passes.{IsPassOf, pass_view}
 use Rattle.ts_slot.specs.declared.slots.Slots.{Slots}
 use Rattle.ts_slot.specs.Lists.{IsIn}
 use Rattle.ts_slot.specs.Words.{tags_of, view, IsSeatOf}
@@ -92,11 +92,11 @@ module _ {W Q R T U : Type 0} where
             each = λ n p there low. placed p (told'.each n p (sym (ap (pending_at n) pending) ∙ there) low);
             once = λ t.
                 let news : is_news k a c t ≡ is_news k a b t = (λ i. is_between k a.cx.news_from (from i) (pending i) t) in
-                let places : places_of t new ≡ places_of t mid = (λ i. in_wheel t (wheel i) + in_tickets t (known_of (pass i)).put) in
+                let places : places_of t new ≡ places_of t mid = (λ i. in_wheel t (wheel i) + in_tickets t (pass_view (pass i)).put) in
                 places ∙ told'.once t ∙ ap (λ (b : Bool). places_of t old + one_if b) (sym news);
             keeps = record {
               wheel = λ x there. subst (IsIn x) (sym wheel) (told'.keeps.wheel x there);
-              put = λ t there. subst (λ (p : QueuePass). HasTicket t (known_of p).put) (sym pass) (told'.keeps.put t there);
+              put = λ t there. subst (λ (p : QueuePass). HasTicket t (pass_view p).put) (sym pass) (told'.keeps.put t there);
             };
           };
           knows = knows;
@@ -104,4 +104,4 @@ module _ {W Q R T U : Type 0} where
       where
         placed : (p : Pending) → HasPlace moment k p mid → HasPlace moment k p new
         placed p (inl there) = inl (subst (IsIn (p.due, record { group = k; number = p.number })) (sym wheel) there)
-        placed p (inr put) = inr (put.0, subst (λ (q : QueuePass). HasTicket (record { group = k; number = p.number }) (known_of q).put) (sym pass) put.1)
+        placed p (inr put) = inr (put.0, subst (λ (q : QueuePass). HasTicket (record { group = k; number = p.number }) (pass_view q).put) (sym pass) put.1)

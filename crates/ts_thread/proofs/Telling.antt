@@ -17,7 +17,7 @@ use Rattle.ts_queue.specs.declared.ticket.Ticket.{Ticket}
 use Rattle.ts_queue.specs.declared.view.View.{View}
 use Rattle.ts_queue.specs.Tickets.{is_same_token}
 use Rattle.ts_queue.specs.Views.{next_ticket}
-use Rattle.ts_queue.specs.Passes.{IsPassOf, view as known_of}
+use Rattle.ts_queue.specs.Passes.{IsPassOf, pass_view}
 use Rattle.ts_slot.specs.declared.slots.Slots.{Slots}
 use Rattle.ts_slot.specs.Lists.{IsIn}
 use Rattle.ts_slot.specs.Words.{tags_of, IsSeatOf}
@@ -89,7 +89,7 @@ module _ {X G T : Type 0} {d : Ghosts X G T} where
   keeps_place : (a b : Desk X G T d) (token : Token) (due moment : ℕ) → Places token due moment a b → KeepsPlaces a b
   keeps_place a b token due moment (inl puts) = record {
     wheel = λ e h. subst (IsIn e) (sym puts.wheel) h;
-    put = λ t h. subst (λ (v : View). HasTicket t v.put) (sym puts.pass) (ticket_stays t (next_ticket (known_of a.pass) token) (known_of a.pass).put h);
+    put = λ t h. subst (λ (v : View). HasTicket t v.put) (sym puts.pass) (ticket_stays t (next_ticket (pass_view a.pass) token) (pass_view a.pass).put h);
   }
   keeps_place a b token due moment (inr adds) = record {
     wheel = λ e h. subst (IsIn e) (sym adds.wheel) (in_added due token a.wheel e h);
@@ -101,7 +101,7 @@ module _ {X G T : Type 0} {d : Ghosts X G T} where
 
   has_place : (a b : Desk X G T d) (moment k : ℕ) (p : Pending) → Places (record { group = k; number = p.number }) p.due moment a b → HasPlace moment k p b
   has_place a b moment k p (inl puts) =
-      inr (puts.is_due, subst (λ (v : View). HasTicket (record { group = k; number = p.number }) v.put) (sym puts.pass) (next_ticket (known_of a.pass) (record { group = k; number = p.number }), inl refl, refl))
+      inr (puts.is_due, subst (λ (v : View). HasTicket (record { group = k; number = p.number }) v.put) (sym puts.pass) (next_ticket (pass_view a.pass) (record { group = k; number = p.number }), inl refl, refl))
   has_place a b moment k p (inr adds) = inl (subst (IsIn (p.due, record { group = k; number = p.number })) (sym adds.wheel) (is_added p.due (record { group = k; number = p.number }) a.wheel))
 
   place_stays : (a b : Desk X G T d) (moment k : ℕ) (p : Pending) → KeepsPlaces a b → HasPlace moment k p a → HasPlace moment k p b
@@ -111,11 +111,11 @@ module _ {X G T : Type 0} {d : Ghosts X G T} where
   count_place : (a b : Desk X G T d) (token : Token) (due moment : ℕ) (t : Token) → Places token due moment a b → places_of t b ≡ places_of t a + one_if (is_same_token t token)
   count_place a b token due moment t (inl puts) =
       let w : in_wheel t b.wheel ≡ in_wheel t a.wheel = ap (in_wheel t) puts.wheel in
-      let p : in_tickets t (known_of b.pass).put ≡ in_tickets t (next_ticket (known_of a.pass) token ∷ (known_of a.pass).put) = ap (λ (v : View). in_tickets t v.put) puts.pass in
-      let c = tickets-cons t (next_ticket (known_of a.pass) token) (known_of a.pass).put in omega arith
+      let p : in_tickets t (pass_view b.pass).put ≡ in_tickets t (next_ticket (pass_view a.pass) token ∷ (pass_view a.pass).put) = ap (λ (v : View). in_tickets t v.put) puts.pass in
+      let c = tickets-cons t (next_ticket (pass_view a.pass) token) (pass_view a.pass).put in omega arith
   count_place a b token due moment t (inr adds) =
       let w : in_wheel t b.wheel ≡ in_wheel t (added due token a.wheel) = ap (in_wheel t) adds.wheel in
-      let p : in_tickets t (known_of b.pass).put ≡ in_tickets t (known_of a.pass).put = ap (λ (v : View). in_tickets t v.put) adds.pass in
+      let p : in_tickets t (pass_view b.pass).put ≡ in_tickets t (pass_view a.pass).put = ap (λ (v : View). in_tickets t v.put) adds.pass in
       let c = wheel-added t due token a.wheel in omega arith
 
   share_place : (a b : Desk X G T d) (token : Token) (due moment : ℕ) → Places token due moment a b → SharesSame a b

@@ -9,11 +9,11 @@ use Rattle.ts_group.specs.Slot.{trace_of}
 use Rattle.ts_queue.specs.declared.queue.EventQueue.{EventQueue}
 use Rattle.ts_queue.specs.declared.ticket.Token.{Token}
 use Rattle.ts_queue.specs.declared.view.View.{View as Known}
-use Rattle.ts_queue.specs.Passes.{IsPassOf, view as known_of}
+use Rattle.ts_queue.specs.Passes.{IsPassOf, pass_view}
 use Rattle.ts_slot.specs.declared.slots.Slots.{Slots}
 use Rattle.ts_slot.specs.Views.{won, IsAfter}
 use Rattle.ts_slot.specs.Words.{tags_of, view, IsSeatOf}
-use Rattle.ts_wheel.specs.Due.{first_due, after_due, first_moment}
+use Rattle.ts_wheel.specs.Due.{first_due, after_due, next_moment}
 use Rattle.ts_thread.specs.declared.desk.Desk.{Desk}
 use Rattle.ts_thread.specs.declared.did.Did.{Did}
 use Rattle.ts_thread.specs.declared.did.Did.TheVariants as did
@@ -61,7 +61,7 @@ none_due {T} now (x ∷ xs) e = by_test (leb x.0 now) e
     by_test false f = refl
 
 -- a wheel without a first token is empty
-pub first_none : {T : Type 0} (xs : List (ℕ × T)) → first_moment xs ≡ None → xs ≡ []
+pub first_none : {T : Type 0} (xs : List (ℕ × T)) → next_moment xs ≡ None → xs ≡ []
 first_none [] e = refl
 first_none (x ∷ xs) e = absurd (cc)
 
@@ -80,7 +80,7 @@ module _ {X G T : Type 0} {d : Ghosts X G T} where
   pub keeps_desk : (a b c : Desk X G T d) (m n k : ℕ) → m + n ≤ k → KeepsDesk a b m → KeepsDesk b c n → KeepsDesk a c k
   keeps_desk a b c m n k le p q = record { seat = keeps_trans (view a.seat) (view b.seat) (view c.seat) m n k le p.seat q.seat; share = q.share ∙ p.share }
 
-  pub same_desk : (a b : Desk X G T d) (m : ℕ) → b.seat ≡ a.seat → (known_of b.pass).share ≡ (known_of a.pass).share → KeepsDesk a b m
+  pub same_desk : (a b : Desk X G T d) (m : ℕ) → b.seat ≡ a.seat → (pass_view b.pass).share ≡ (pass_view a.pass).share → KeepsDesk a b m
   same_desk a b m seat share = record { seat = keeps_refl (view a.seat) (view b.seat) m (ap (λ s. view s) seat); share = share }
 
   -- a desk from whose wheel a token was taken, or from whose queue
@@ -91,13 +91,13 @@ module _ {X G T : Type 0} {d : Ghosts X G T} where
     wheel = subst (AllName (length (tags_of slots))) (sym wheel) (All-after (λ (e : ℕ × Token). e.1.group < length (tags_of slots)) moment a.wheel was.wheel);
   }
 
-  pub gets_share : (groups moment : ℕ) (a b : Desk X G T d) (token : Token) → Gets groups moment a b token → (known_of b.pass).share ≡ (known_of a.pass).share
+  pub gets_share : (groups moment : ℕ) (a b : Desk X G T d) (token : Token) → Gets groups moment a b token → (pass_view b.pass).share ≡ (pass_view a.pass).share
   gets_share groups moment a b token gets = elim gets.first [
     | inl wheel ↦ ap (λ (x : Known). x.share) wheel.1
     | inr queue ↦ let next = queue.1 in ap (λ (x : Known). x.share) next.takes.adds ∙ ap (λ (x : Known). x.share) next.lets_go.is
   ]
 
-  pub finds_share : (groups moment : ℕ) (a b : Desk X G T d) → FindsNothing groups moment a b → (known_of b.pass).share ≡ (known_of a.pass).share
+  pub finds_share : (groups moment : ℕ) (a b : Desk X G T d) → FindsNothing groups moment a b → (pass_view b.pass).share ≡ (pass_view a.pass).share
   finds_share groups moment a b finds = ap (λ (x : Known). x.share) finds.none.lets_go.is
 
 module _ {W Q R T U : Type 0} {d : Ghosts (Group W Q R T U) T (ℕ × State)} where

@@ -2,7 +2,7 @@
 use Rattle.std.specs.Prelude.{◌≡◌, ℕ, length}
 use Rattle.ts_journal.specs.declared.slotted.Slotted.{Ghosts}
 use Rattle.ts_queue.specs.declared.queue.EventQueue.{EventQueue}
-use Rattle.ts_queue.specs.Passes.{IsPassOf, view as known_of}
+use Rattle.ts_queue.specs.Passes.{IsPassOf, pass_view}
 use Rattle.ts_slot.specs.declared.slots.Slots.{Slots}
 use Rattle.ts_slot.specs.Words.{tags_of, view, IsSeatOf}
 use Rattle.ts_thread.specs.declared.desk.Desk.{Desk}
@@ -20,21 +20,21 @@ module _ {X G T : Type 0} {d : Ghosts X G T} where
   -- a desk whose seat got at most so many turns more and holds what it held
   pub record KeepsDesk (old new : Desk X G T d) (most : ℕ) : Type 0 where
     pub seat : Keeps (view old.seat) (view new.seat) most
-    pub share : (known_of new.pass).share ≡ (known_of old.pass).share
+    pub share : (pass_view new.pass).share ≡ (pass_view old.pass).share
 
   -- the same, but for the group that the seat won last, which it left
   pub record ClosesDesk (old new : Desk X G T d) (most : ℕ) : Type 0 where
     pub seat : Closes (view old.seat) (view new.seat) most
-    pub share : (known_of new.pass).share ≡ (known_of old.pass).share
+    pub share : (pass_view new.pass).share ≡ (pass_view old.pass).share
 
   -- a desk whose seat left the group that it won last
   pub record LeavesDesk (old new : Desk X G T d) : Type 0 where
     pub seat : Leaves (view old.seat) (view new.seat)
-    pub share : (known_of new.pass).share ≡ (known_of old.pass).share
+    pub share : (pass_view new.pass).share ≡ (pass_view old.pass).share
 
   -- the pass has the share that it had
   abbrev pub SharesSame : Desk X G T d → Desk X G T d → Type 0
-  SharesSame old new = (known_of new.pass).share ≡ (known_of old.pass).share
+  SharesSame old new = (pass_view new.pass).share ≡ (pass_view old.pass).share
 
   -- whatever queue the desk is of, it stays a desk of it and of these slots
   abbrev pub StaysDeskOf : Slots X G T → Desk X G T d → Desk X G T d → Type 0

@@ -8,7 +8,7 @@ use Rattle.ts_group.specs.Due.{NoNews}
 use Rattle.ts_queue.specs.declared.ticket.Token.{Token}
 use Rattle.ts_queue.specs.declared.ticket.Ticket.{Ticket}
 use Rattle.ts_queue.specs.Tickets.{is_same_token}
-use Rattle.ts_queue.specs.Passes.{view as known_of}
+use Rattle.ts_queue.specs.Passes.{pass_view}
 use Rattle.ts_slot.specs.Lists.{IsIn}
 use Rattle.ts_thread.specs.declared.desk.Desk.{Desk}
 
@@ -37,18 +37,18 @@ module _ {W Q R T U : Type 0} where
 module _ {X G T : Type 0} {d : Ghosts X G T} where
   -- how often the token stands in the wheel or was put
   abbrev pub places_of : Token → Desk X G T d → ℕ
-  places_of t desk = in_wheel t desk.wheel + in_tickets t (known_of desk.pass).put
+  places_of t desk = in_wheel t desk.wheel + in_tickets t (pass_view desk.pass).put
 
   -- an event has a token in the wheel, under its due moment, or it is due and has one that was put
   abbrev pub HasPlace : ℕ → ℕ → Pending → Desk X G T d → Type 0
   HasPlace moment k p desk =
       IsIn (p.due, record { group = k; number = p.number }) desk.wheel
-      ⊎ ((p.due ≤ moment) × HasTicket (record { group = k; number = p.number }) (known_of desk.pass).put)
+      ⊎ ((p.due ≤ moment) × HasTicket (record { group = k; number = p.number }) (pass_view desk.pass).put)
 
   -- What stood in the wheel stands there, and what was put was put.
   pub record KeepsPlaces (old new : Desk X G T d) : Type 0 where
     pub wheel : (e : ℕ × Token) → IsIn e old.wheel → IsIn e new.wheel
-    pub put : (t : Token) → HasTicket t (known_of old.pass).put → HasTicket t (known_of new.pass).put
+    pub put : (t : Token) → HasTicket t (pass_view old.pass).put → HasTicket t (pass_view new.pass).put
 
   -- The news of the group k was told: each piece of it has a token, one and no more, and no other token was
   -- made; and there is no news any more.

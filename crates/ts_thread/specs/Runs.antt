@@ -6,7 +6,7 @@ use Rattle.ts_group.specs.declared.group.Group.{Group}
 use Rattle.ts_queue.specs.declared.ticket.Token.{Token}
 use Rattle.ts_queue.specs.Passes.{empties_of}
 use Rattle.ts_slot.specs.Words.{view}
-use Rattle.ts_wheel.specs.Due.{first_moment}
+use Rattle.ts_wheel.specs.Due.{next_moment}
 use Rattle.ts_thread.specs.declared.desk.Desk.{Desk}
 use Rattle.ts_thread.specs.declared.did.Did.{Did}
 use Rattle.ts_thread.specs.declared.did.Did.TheVariants as did
@@ -17,7 +17,7 @@ use Rattle.ts_thread.specs.Turning.{IsDid, StaysIdle}
 -- After a turn that was idle the next moment is that at which the wheel's first token is due; else it is the
 -- same.
 abbrev pub IsNextMoment : Did → List (ℕ × Token) → ℕ → ℕ → Type 0
-IsNextMoment did.Idle wheel now next = first_moment wheel ≡ Some next
+IsNextMoment did.Idle wheel now next = next_moment wheel ≡ Some next
 IsNextMoment (did.Ran events) wheel now next = next ≡ now
 IsNextMoment (did.PutBack group seen) wheel now next = next ≡ now
 IsNextMoment (did.AskMissed group seen) wheel now next = next ≡ now

@@ -4,7 +4,7 @@ use Rattle.ts_journal.specs.declared.slotted.Slotted.{Ghosts}
 use Rattle.ts_queue.specs.declared.queue.EventQueue.{EventQueue}
 use Rattle.ts_queue.specs.declared.queue.QueuePass.{QueuePass}
 use Rattle.ts_group.specs.declared.group.Group.{Group}
-use Rattle.ts_queue.specs.Passes.{IsPassOf, view as known_of}
+use Rattle.ts_queue.specs.Passes.{IsPassOf, pass_view}
 use Rattle.ts_queue.specs.Views.{first_view}
 use Rattle.ts_slot.specs.declared.seat.Seat.{Seat}
 use Rattle.ts_slot.specs.declared.slots.Slots.{Slots}
@@ -33,7 +33,7 @@ pub record IsPlan {T : Type 0} (only_asked : T → Bool) (tags : List T)
 
 -- the pass has the share that the other had
 abbrev pub KeepsShare : QueuePass → QueuePass → Type 0
-KeepsShare old new = (known_of new).share ≡ (known_of old).share
+KeepsShare old new = (pass_view new).share ≡ (pass_view old).share
 
 module _ {X G T : Type 0} {d : Ghosts X G T} where
   -- a seat of these slots, and a pass of this queue
@@ -46,8 +46,8 @@ module _ {X G T : Type 0} {d : Ghosts X G T} where
   pub record CanSplit (threads : ℕ) (seat : Seat X G T d) (pass : QueuePass) : Type 0 where
     pub seat_share : threads ≤ (view seat).share
     pub seat_free : (view seat).free_from + threads ≤ (view seat).free_to + 1
-    pub pass_share : threads ≤ (known_of pass).share
-    pub pass_free : (known_of pass).free_from + threads ≤ (known_of pass).free_to + 1
+    pub pass_share : threads ≤ (pass_view pass).share
+    pub pass_free : (pass_view pass).free_from + threads ≤ (pass_view pass).free_to + 1
 
   -- the first seat and the first pass, before anything was done
   pub record IsOpening (seat : Seat X G T d) (pass : QueuePass) : Type 0 where
@@ -56,7 +56,7 @@ module _ {X G T : Type 0} {d : Ghosts X G T} where
     pub seat_to : (view seat).free_to ≡ whole_share
     pub held : (view seat).held ≡ []
     pub turns : (view seat).turns ≡ []
-    pub knows : known_of pass ≡ first_view
+    pub knows : pass_view pass ≡ first_view
 
   -- The seat has the whole share again and holds no group, counts few turns, and can be split with the pass.
   pub record HasOpened (turns : ℕ) (seat : Seat X G T d) (pass : QueuePass) : Type 0 where

@@ -8,7 +8,7 @@ use Rattle.ts_queue.specs.declared.ticket.Token.{Token}
 use Rattle.ts_queue.specs.declared.ticket.Ticket.{Ticket}
 use Rattle.ts_queue.specs.declared.view.View.{View}
 use Rattle.ts_queue.specs.Views.{putting_next}
-use Rattle.ts_queue.specs.Passes.{view as known_of, empties_of, TakesTicket, FindsEmpty}
+use Rattle.ts_queue.specs.Passes.{pass_view, empties_of, TakesTicket, FindsEmpty}
 use Rattle.ts_wheel.specs.Due.{added, first_due, after_due}
 use Rattle.ts_thread.specs.declared.desk.Desk.{Desk}
 
@@ -34,8 +34,8 @@ pub record TakesNext (groups : ℕ) (old new : View) (token : Token) : Type 0 wh
 -- a take of the pass found the queue empty at one moment, after it had let go what names none of so many
 -- groups
 pub record FindsNone (groups : ℕ) (old new : QueuePass) : Type 0 where
-  pub lets_go : LetsGo groups (known_of old) (known_of new)
-  pub empty : FindsEmpty (known_of new)
+  pub lets_go : LetsGo groups (pass_view old) (pass_view new)
+  pub empty : FindsEmpty (pass_view new)
   pub rose : Rose (empties_of old) (empties_of new)
 
 module _ {X G T : Type 0} {d : Ghosts X G T} where
@@ -46,8 +46,8 @@ module _ {X G T : Type 0} {d : Ghosts X G T} where
     pub wheel : new.wheel ≡ after_due moment old.wheel
     pub seat : new.seat ≡ old.seat
     pub first :
-        ((first_due moment old.wheel ≡ Some token) × (known_of new.pass ≡ known_of old.pass))
-        ⊎ ((first_due moment old.wheel ≡ None) × TakesNext groups (known_of old.pass) (known_of new.pass) token)
+        ((first_due moment old.wheel ≡ Some token) × (pass_view new.pass ≡ pass_view old.pass))
+        ⊎ ((first_due moment old.wheel ≡ None) × TakesNext groups (pass_view old.pass) (pass_view new.pass) token)
 
   -- Nothing in the wheel was due, and nothing was in the queue.
   pub record FindsNothing (groups moment : ℕ) (old new : Desk X G T d) : Type 0 where
@@ -57,19 +57,19 @@ module _ {X G T : Type 0} {d : Ghosts X G T} where
   -- the wheel and the pass are as they were
   pub record SamePlaces (old new : Desk X G T d) : Type 0 where
     pub wheel : new.wheel ≡ old.wheel
-    pub pass : known_of new.pass ≡ known_of old.pass
+    pub pass : pass_view new.pass ≡ pass_view old.pass
 
   -- a token that is due was put
   pub record Puts (token : Token) (due moment : ℕ) (old new : Desk X G T d) : Type 0 where
     pub is_due : due ≤ moment
     pub wheel : new.wheel ≡ old.wheel
-    pub pass : known_of new.pass ≡ putting_next token (known_of old.pass)
+    pub pass : pass_view new.pass ≡ putting_next token (pass_view old.pass)
 
   -- a token that is due later, or for which the pass has no serial left, was added to the wheel
   pub record Adds (token : Token) (due moment : ℕ) (old new : Desk X G T d) : Type 0 where
-    pub late : (moment < due) ⊎ ((known_of old.pass).serial ≡ GREATEST)
+    pub late : (moment < due) ⊎ ((pass_view old.pass).serial ≡ GREATEST)
     pub wheel : new.wheel ≡ added due token old.wheel
-    pub pass : known_of new.pass ≡ known_of old.pass
+    pub pass : pass_view new.pass ≡ pass_view old.pass
 
   abbrev pub Places : Token → ℕ → ℕ → Desk X G T d → Desk X G T d → Type 0
   Places token due moment old new = Puts token due moment old new ⊎ Adds token due moment old new

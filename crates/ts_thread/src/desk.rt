@@ -1,7 +1,7 @@
 //! What a thread has of its own: its seat at the slots, its pass of the queue, and its wheel.
 
 ghost use Rattle.std.specs.Prelude.{◌≡◌, length, IfSome, IfNone, OnOk, OnErr};
-ghost use Rattle.ts_queue.specs.Passes.{IsPassOf, view as known_of};
+ghost use Rattle.ts_queue.specs.Passes.{IsPassOf, pass_view};
 ghost use Rattle.ts_wheel.specs.Due.{after_due};
 ghost use Rattle.ts_thread.specs.Tokens.{AllName, TakesNext, FindsNone, Gets, FindsNothing, Places, SamePlaces};
 
@@ -28,7 +28,7 @@ fn next_ticket<R: Wait>(
 ) -> Option<Token>
     requires pass { IsPassOf queue.now pass.old }
     ensures pass { IsPassOf queue.now pass.new }
-    ensures token { IfSome result (TakesNext groups (known_of pass.old) (known_of pass.new)) }
+    ensures token { IfSome result (TakesNext groups (pass_view pass.old) (pass_view pass.new)) }
     ensures none { IfNone result (FindsNone groups pass.old pass.new) }
 {
     'looks: for _ in rt.forever() {

@@ -1,6 +1,6 @@
 use Rattle.std.proofs.Common.{subst, ap, ◌∙◌, ◌+◌, ◌*◌, ◌-◌, arith}
 use Rattle.ts_queue.specs.declared.view.View.{View as Known}
-use Rattle.ts_queue.specs.Passes.{view as known_of}
+use Rattle.ts_queue.specs.Passes.{pass_view}
 use Rattle.ts_slot.specs.Words.{view}
 use Rattle.ts_thread.specs.Seats.{Keeps}
 use Rattle.ts_thread.proofs.Joins.{joined_keeps, joined_share, one_and_rest, le_of}
@@ -23,7 +23,7 @@ returns g t c =
             (subst (λ v. Keeps v one (2 * c.args.budget)) c.split-other_seat.ensures.right first.keeps)
             (subst (λ v. Keeps v rest ((c.args.threads - 1) * (2 * c.args.budget))) c.split-other_seat.ensures.left second.keeps)
             c.join.ensures.both;
-        share = joined_share (known_of c.args.pass) (known_of c.join-one.result.0.1) (known_of c.join-one.result.1.1) (known_of c.join-2.new.into) (omega arith)
+        share = joined_share (pass_view c.args.pass) (pass_view c.join-one.result.0.1) (pass_view c.join-one.result.1.1) (pass_view c.join-2.new.into) (omega arith)
             (first.share ∙ ap (λ (v : Known). v.share) c.in-Ok.ensures.split.1)
             (second.share ∙ ap (λ (v : Known). v.share) c.in-Ok.ensures.kept)
             c.join-2.ensures.both;
