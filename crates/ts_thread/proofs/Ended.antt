@@ -13,9 +13,9 @@ use Rattle.ts_group.specs.Slot.{trace_of}
 use Rattle.ts_slot.specs.Limits.{most_groups}
 use Rattle.ts_thread.specs.declared.TheConstants.{MOST_LEFT}
 use Rattle.ts_thread.specs.Tags.{GroupsFit}
-use Rattle.ts_thread.specs.Goings.{IsLaterGroup, AllGoOn, IsIdle, HasTurns, Tells, left_of}
+use Rattle.ts_thread.specs.Goings.{IsLaterGroup, AllGoOn, IsIdle, HasTurns, Tells, work_left}
 use Rattle.ts_thread.specs.Started.{WereStarted, WasStarted}
-use Rattle.ts_thread.specs.Threads.{HasMade}
+use Rattle.ts_thread.specs.Threads.{HasHadTurns}
 use Rattle.ts_thread.specs.Whole.{EndSoon, HaveEnded}
 use Rattle.ts_thread.proofs.Rows.{fits_on}
 
@@ -27,28 +27,28 @@ fit_count P (t ∷ ts) (g ∷ gs) fit = let e = fit_count P ts gs fit.1 in omega
 
 module _ {W Q R T U : Type 0} (Fits : T → W → Type 0) (Sound : W → State → List Named → Type 0) (oa isf : T → Bool) where
   module _ (Left : W → State → Option ℕ) where
-    all_tell : (turns : ℕ) (ts : List T) (gs : List (Group W Q R T U)) → EndSoon Q R U Fits Sound oa isf Left turns → GroupsFit Fits Sound oa isf ts gs → All (HasMade turns) gs → All (Tells Left) gs
+    all_tell : (turns : ℕ) (ts : List T) (gs : List (Group W Q R T U)) → EndSoon Q R U Fits Sound oa isf Left turns → GroupsFit Fits Sound oa isf ts gs → All (HasHadTurns turns) gs → All (Tells Left) gs
     all_tell turns [] [] ends fit few = All-nil (Tells Left)
     all_tell turns [] (g ∷ gs) ends fit few = absurd fit
     all_tell turns (t ∷ ts) [] ends fit few = absurd fit
     all_tell turns (t ∷ ts) (g ∷ gs) ends fit few =
-        All-cons (Tells Left) g gs (ends.each t g fit.0 (All-head (HasMade turns) g gs few)).0 (all_tell turns ts gs ends fit.1 (All-tail (HasMade turns) g gs few))
+        All-cons (Tells Left) g gs (ends.each t g fit.0 (All-head (HasHadTurns turns) g gs few)).0 (all_tell turns ts gs ends fit.1 (All-tail (HasHadTurns turns) g gs few))
 
-    all_little : (turns : ℕ) (ts : List T) (gs : List (Group W Q R T U)) → EndSoon Q R U Fits Sound oa isf Left turns → GroupsFit Fits Sound oa isf ts gs → All (HasMade turns) gs → All (λ g. left_of Left g ≤ MOST_LEFT) gs
-    all_little turns [] [] ends fit few = All-nil (λ g. left_of Left g ≤ MOST_LEFT)
+    all_little : (turns : ℕ) (ts : List T) (gs : List (Group W Q R T U)) → EndSoon Q R U Fits Sound oa isf Left turns → GroupsFit Fits Sound oa isf ts gs → All (HasHadTurns turns) gs → All (λ g. work_left Left g ≤ MOST_LEFT) gs
+    all_little turns [] [] ends fit few = All-nil (λ g. work_left Left g ≤ MOST_LEFT)
     all_little turns [] (g ∷ gs) ends fit few = absurd fit
     all_little turns (t ∷ ts) [] ends fit few = absurd fit
     all_little turns (t ∷ ts) (g ∷ gs) ends fit few =
-        All-cons (λ h. left_of Left h ≤ MOST_LEFT) g gs (ends.each t g fit.0 (All-head (HasMade turns) g gs few)).1 (all_little turns ts gs ends fit.1 (All-tail (HasMade turns) g gs few))
+        All-cons (λ h. work_left Left h ≤ MOST_LEFT) g gs (ends.each t g fit.0 (All-head (HasHadTurns turns) g gs few)).1 (all_little turns ts gs ends fit.1 (All-tail (HasHadTurns turns) g gs few))
 
     -- so many groups at most tell what is left to do, and have turns enough for it
-    pub can_finish : (turns : ℕ) (ts : List T) (gs : List (Group W Q R T U)) → length gs ≤ most_groups → EndSoon Q R U Fits Sound oa isf Left turns → GroupsFit Fits Sound oa isf ts gs → All (HasMade turns) gs
-        → All (Tells Left) gs × All (HasTurns (sum_by (left_of Left) gs)) gs
+    pub can_finish : (turns : ℕ) (ts : List T) (gs : List (Group W Q R T U)) → length gs ≤ most_groups → EndSoon Q R U Fits Sound oa isf Left turns → GroupsFit Fits Sound oa isf ts gs → All (HasHadTurns turns) gs
+        → All (Tells Left) gs × All (HasTurns (sum_by (work_left Left) gs)) gs
     can_finish turns ts gs count ends fit few =
         let low = ends.few in
-        let sum : sum_by (left_of Left) gs ≤ length gs * MOST_LEFT = sum_by-le (left_of Left) MOST_LEFT gs (all_little turns ts gs ends fit few) in (
+        let sum : sum_by (work_left Left) gs ≤ length gs * MOST_LEFT = sum_by-le (work_left Left) MOST_LEFT gs (all_little turns ts gs ends fit few) in (
           all_tell turns ts gs ends fit few,
-          All-weaker (HasMade turns) (HasTurns (sum_by (left_of Left) gs)) (λ g h. omega arith) gs few,
+          All-weaker (HasHadTurns turns) (HasTurns (sum_by (work_left Left) gs)) (λ g h. omega arith) gs few,
         )
 
   -- a group that follows one that was started, follows it still when it went on

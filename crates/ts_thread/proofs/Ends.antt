@@ -21,7 +21,7 @@ use Rattle.ts_slot.specs.Words.{tags_of, view, IsSeatOf}
 use Rattle.ts_wheel.specs.Due.{added}
 use Rattle.ts_thread.specs.declared.desk.Desk.{Desk}
 use Rattle.ts_thread.specs.Desks.{IsDeskOf}
-use Rattle.ts_thread.specs.Held.{HasTurn, IsGiven, GivesBack}
+use Rattle.ts_thread.specs.Held.{HasTurn, IsGivenBack, GivesBack}
 use Rattle.ts_thread.specs.News.{HasTold, HasPlace, HasTicket, is_between, is_news, in_wheel, in_tickets, places_of}
 use Rattle.ts_thread.specs.Seats.{KnowsTurn}
 use Rattle.ts_thread.specs.Tokens.{AllName}
@@ -46,7 +46,7 @@ pub record IsGivable {W Q R T U : Type 0} (found now : Group W Q R T U) (turn se
   pub base : now.cx.log.base ≡ found.cx.log.base
 
 module _ {W Q R T U : Type 0} where
-  given_held : (found a b : Group W Q R T U) (turn seat : ℕ) → IsGivable found a turn seat → GivesBack a b → IsGiven found b turn seat
+  given_held : (found a b : Group W Q R T U) (turn seat : ℕ) → IsGivable found a turn seat → GivesBack a b → IsGivenBack found b turn seat
   given_held found a b turn seat has gives = record {
     free = gives.free;
     stamp = inr (gives.number ∙ has.number);
@@ -69,7 +69,7 @@ module _ {W Q R T U : Type 0} where
   }
 
   -- the news was told, and the turn given back
-  pub told_given : (found a a' b b' c : Group W Q R T U) (turn seat : ℕ) → HasTurn found a turn seat → a' ≡ a → IsSame (record a'.cx { news_from = b.cx.news_from }) b.cx → b' ≡ b → GivesBack b' c → IsGiven found c turn seat
+  pub told_given : (found a a' b b' c : Group W Q R T U) (turn seat : ℕ) → HasTurn found a turn seat → a' ≡ a → IsSame (record a'.cx { news_from = b.cx.news_from }) b.cx → b' ≡ b → GivesBack b' c → IsGivenBack found c turn seat
   told_given found a a' b b' c turn seat has e same f gives = given_held found b c turn seat (told_has found a' b turn seat (subst (λ x. HasTurn found x turn seat) (sym e) has) same) (subst (λ x. GivesBack x c) f gives)
 
   module _ {d : Ghosts (Group W Q R T U) T (ℕ × State)} where

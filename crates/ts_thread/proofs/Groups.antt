@@ -14,7 +14,7 @@ use Rattle.ts_group.specs.Slot.{marks_of}
 use Rattle.ts_group.proofs.Slots.{marks_append, either_way}
 use Rattle.std.proofs.lemmas.List.Elements.{Contains-append_cases}
 use Rattle.ts_group.proofs.Slots.{one_mark}
-use Rattle.ts_thread.specs.Held.{HasTurn, IsGiven, GoesInTurn, BeginsSame, GivesBack}
+use Rattle.ts_thread.specs.Held.{HasTurn, IsGivenBack, GoesInTurn, BeginsSame, GivesBack}
 use Rattle.ts_thread.proofs.Entries.{no_marks}
 
 pub ok_to : {A E P Q : Type 0} (r : Result A E) → (P → Q) → OnOk r P → OnOk r Q
@@ -60,7 +60,7 @@ module _ {W Q R T U : Type 0} where
       (either_way r (BeginsTurn old.cx new.cx turn seat moment) (IsSame old.cx new.cx) ok err)
 
   -- a group in which no turn was begun
-  pub given_same : (old new : Group W Q R T U) (turn seat : ℕ) → old.cx.log.state.held ≡ false → IsSame old.cx new.cx → IsGiven old new turn seat × (new.cx.log.state ≡ old.cx.log.state)
+  pub given_same : (old new : Group W Q R T U) (turn seat : ℕ) → old.cx.log.state.held ≡ false → IsSame old.cx new.cx → IsGivenBack old new turn seat × (new.cx.log.state ≡ old.cx.log.state)
   given_same old new turn seat free same = (
     record {
       free = ap (λ (s : State). s.held) same.log.state ∙ free;
@@ -101,7 +101,7 @@ module _ {W Q R T U : Type 0} where
   }
 
   -- a turn that is given back
-  pub given_back : (found a b : Group W Q R T U) (turn seat : ℕ) → HasTurn found a turn seat → GivesBack a b → IsGiven found b turn seat
+  pub given_back : (found a b : Group W Q R T U) (turn seat : ℕ) → HasTurn found a turn seat → GivesBack a b → IsGivenBack found b turn seat
   given_back found a b turn seat has gives = record {
     free = gives.free;
     stamp = inr (gives.number ∙ has.number);

@@ -5,7 +5,7 @@ use Rattle.ts_queue.specs.Views.{kept_part, split_part, with_joined}
 use Rattle.ts_slot.specs.declared.view.View.{View}
 use Rattle.ts_slot.specs.Lists.{IsIn}
 use Rattle.ts_slot.specs.Views.{left_half, right_half, joined}
-use Rattle.ts_thread.specs.Seats.{More, Keeps}
+use Rattle.ts_thread.specs.Seats.{More, KeepsSeat}
 
 -- one and all but one
 pub one_and_rest : (n m : ℕ) → 1 ≤ n → m + (n - 1) * m ≡ n * m
@@ -21,7 +21,7 @@ in_append e (x ∷ xs) ys h = inr (in_append e xs ys h)
 
 module _ {G T : Type 0} where
   -- a seat was split, each half kept what it had, and they were joined
-  pub joined_keeps : (v w u x : View G T) (l m n : ℕ) → 1 ≤ v.share → m + l ≤ n → Keeps (right_half v) w m → Keeps (left_half v) u l → x ≡ joined u w → Keeps v x n
+  pub joined_keeps : (v w u x : View G T) (l m n : ℕ) → 1 ≤ v.share → m + l ≤ n → KeepsSeat (right_half v) w m → KeepsSeat (left_half v) u l → x ≡ joined u w → KeepsSeat v x n
   joined_keeps v w u x l m n some le right left is = record {
     share = let a = right.share in let b = left.share in let c : x.share ≡ u.share + w.share = ap (λ (y : View G T). y.share) is in omega arith;
     names = ap (λ (y : View G T). y.names) is ∙ left.names;

@@ -27,7 +27,7 @@ use Rattle.ts_group.proofs.Keeps.{falls_refl, falls_trans}
 use Rattle.ts_thread.specs.Tags.{GroupFits}
 use Rattle.ts_thread.specs.Alone.{HandlesQuestion}
 use Rattle.ts_thread.proofs.Alone.{takes_none, takes_on, one_turn, first_after, asks_after, runs_begin}
-use Rattle.ts_thread.specs.Goings.{IsLaterGroup, GoesOn, WorksOn, HasTurns, IsDue}
+use Rattle.ts_thread.specs.Goings.{IsLaterGroup, HasTakenTurns, WorksOn, HasTurns, ComesNext}
 
 -- what falls by so much falls by less
 pub falls_less : (a b : Option ℕ) (m n : ℕ) → n ≤ m → Falls a m b → Falls a n b
@@ -92,7 +92,7 @@ over_turn g0 g1 g2 g3 turn moment more begins base on gives = record {
 }
 
 module _ {W Q R T U : Type 0} (Fits : T → W → Type 0) (Sound : W → State → List Named → Type 0) (oa isf : T → Bool) (Left : W → State → Option ℕ) where
-  pub goes_refl : (g : Group W Q R T U) (n : ℕ) → GoesOn Fits Sound oa isf Left g g n
+  pub goes_refl : (g : Group W Q R T U) (n : ℕ) → HasTakenTurns Fits Sound oa isf Left g g n
   goes_refl g n = record {
     fits = λ t f. f;
     tags = λ t f. f;
@@ -103,7 +103,7 @@ module _ {W Q R T U : Type 0} (Fits : T → W → Type 0) (Sound : W → State �
     later = record { base = refl; later = later_refl g.cx.log.state };
   }
 
-  pub goes_trans : (g h k : Group W Q R T U) (m n : ℕ) → GoesOn Fits Sound oa isf Left g h m → GoesOn Fits Sound oa isf Left h k n → GoesOn Fits Sound oa isf Left g k (m + n)
+  pub goes_trans : (g h k : Group W Q R T U) (m n : ℕ) → HasTakenTurns Fits Sound oa isf Left g h m → HasTakenTurns Fits Sound oa isf Left h k n → HasTakenTurns Fits Sound oa isf Left g k (m + n)
   goes_trans g h k m n a b = record {
     fits = λ t f. b.fits t (a.fits t f);
     tags = λ t f. b.tags t (a.tags t f);
@@ -115,11 +115,11 @@ module _ {W Q R T U : Type 0} (Fits : T → W → Type 0) (Sound : W → State �
   }
 
   -- a turn in which an event was handled that was due
-  pub stepped : (g0 g1 g2 g3 : Group W Q R T U) (turn moment number : ℕ) → IsDue g0 number moment → turn ≡ g0.cx.log.state.turns + 1
+  pub stepped : (g0 g1 g2 g3 : Group W Q R T U) (turn moment number : ℕ) → ComesNext g0 number moment → turn ≡ g0.cx.log.state.turns + 1
       → BeginsTurn g0.cx g1.cx turn 0 moment → g1.world ≡ g0.world → Left g1.world g1.cx.log.state ≡ Left g0.world g0.cx.log.state
       → WorksOn Fits Sound Left g1 g2
       → GivesTurn g2.cx g3.cx → g3.world ≡ g2.world → Left g3.world g3.cx.log.state ≡ Left g2.world g2.cx.log.state → Holds Sound g3
-      → GoesOn Fits Sound oa isf Left g0 g3 1
+      → HasTakenTurns Fits Sound oa isf Left g0 g3 1
   stepped g0 g1 g2 g3 turn moment number due is begins same left works gives still left_too sound =
       let there : pending_at number g0.cx.log.state.pending ≡ Some due.0 = subst (λ (n : ℕ). pending_at n g0.cx.log.state.pending ≡ Some due.0) due.3 due.1.0 in
       let next1 : g1.cx.log.state.next ≡ g0.cx.log.state.next = ap (λ (s : State). s.next) begins.state in
@@ -153,7 +153,7 @@ module _ {W Q R T U : Type 0} (Fits : T → W → Type 0) (Sound : W → State �
       }
 
   -- a group that is the same but for its room
-  pub same_goes : (g h : Group W Q R T U) (n : ℕ) → IsSame g.cx h.cx → h.world ≡ g.world → GoesOn Fits Sound oa isf Left g h n
+  pub same_goes : (g h : Group W Q R T U) (n : ℕ) → IsSame g.cx h.cx → h.world ≡ g.world → HasTakenTurns Fits Sound oa isf Left g h n
   same_goes g h n cx world =
       let state : h.cx.log.state ≡ g.cx.log.state = cx.log.state in
       record {
@@ -185,7 +185,7 @@ module _ {W Q R T U : Type 0} (Fits : T → W → Type 0) (Sound : W → State �
       }
 
   -- an event was handled in a turn
-  pub handled_works : (Called : W → W → List ℕ → Type 0) (g h : Group W Q R T U) (number moment events : ℕ) → IsDue g number moment → IsValid g.cx.log.state → Handles Called g h number moment events
+  pub handled_works : (Called : W → W → List ℕ → Type 0) (g h : Group W Q R T U) (number moment events : ℕ) → ComesNext g number moment → IsValid g.cx.log.state → Handles Called g h number moment events
       → KeepsTags Fits g.world h.world → Holds Sound h → SetsAtMost Fits g.world (MOST_EVENTS * (MOST_SET + 1)) g.cx h.cx → LeavesLess Left g events h → WorksOn Fits Sound Left g h
   handled_works Called g h number moment events due valid handles tags sound few falls = record {
     did = handles.es;
@@ -200,7 +200,7 @@ module _ {W Q R T U : Type 0} (Fits : T → W → Type 0) (Sound : W → State �
   }
 
   -- and the handler was told what came of its question
-  pub told_works : (Called : W → W → List ℕ → Type 0) (g h k : Group W Q R T U) (number moment events : ℕ) → IsDue g number moment → IsValid g.cx.log.state → IsValid h.cx.log.state → Handles Called g h number moment events
+  pub told_works : (Called : W → W → List ℕ → Type 0) (g h k : Group W Q R T U) (number moment events : ℕ) → ComesNext g number moment → IsValid g.cx.log.state → IsValid h.cx.log.state → Handles Called g h number moment events
       → KeepsTags Fits g.world h.world → SetsAtMost Fits g.world (MOST_EVENTS * (MOST_SET + 1)) g.cx h.cx → LeavesLess Left g events h
       → Grows h.cx k.cx → StaysInTurn h.cx.log.state k.cx.log.state → Holds Sound k → KeepsTags Fits h.world k.world → SetsAtMost Fits h.world MOST_SET h.cx k.cx → LeavesLess Left h 0 k
       → WorksOn Fits Sound Left g k × LeavesLess Left g 1 k
@@ -227,7 +227,7 @@ module _ {W Q R T U : Type 0} (Fits : T → W → Type 0) (Sound : W → State �
       → BeginsTurn g0.cx g1.cx turn 0 moment → g1.world ≡ g0.world → Left g1.world g1.cx.log.state ≡ Left g0.world g0.cx.log.state
       → SetsQuestion Fits g1.world g1.cx g2.cx → KeepsTags Fits g1.world g2.world → (did : List Entry) → Extends g1.cx.log g2.cx.log did → ((did ≡ []) ⊎ HandlesQuestion g1.cx.log.state did) → IsLater g1.cx.log.state g2.cx.log.state → g2.cx.log.state.turns ≡ g1.cx.log.state.turns → LeavesLess Left g1 0 g2
       → GivesTurn g2.cx g3.cx → g3.world ≡ g2.world → Left g3.world g3.cx.log.state ≡ Left g2.world g2.cx.log.state → Holds Sound g3
-      → GoesOn Fits Sound oa isf Left g0 g3 1
+      → HasTakenTurns Fits Sound oa isf Left g0 g3 1
   asked_goes g0 g1 g2 g3 turn moment tag fit is begins same left sets keeps did by asks later turns2 less gives still left_too sound =
       let next1 : g1.cx.log.state.next ≡ g0.cx.log.state.next = ap (λ (s : State). s.next) begins.state in
       let turns1 : g1.cx.log.state.turns ≡ turn = ap (λ (s : State). s.turns) begins.state in

@@ -12,7 +12,7 @@ use Rattle.ts_group.specs.declared.world.Asked.TheVariants as asked
 use Rattle.ts_group.specs.Answers.{Falls, LeavesLess, TellFalls, IsAnswer, KeepsTags}
 use Rattle.ts_slot.specs.Limits.{last_turn}
 use Rattle.ts_thread.specs.Tags.{GroupFits, GroupsFit, FitAround, CanAsk}
-use Rattle.ts_thread.specs.Goings.{GoesOn, AllGoOn, HasTurns, IsIdle, IsNoMiss, Tells, left_of, Drives, DrivesAt, Finishes}
+use Rattle.ts_thread.specs.Goings.{HasTakenTurns, AllGoOn, HasTurns, IsIdle, IsNoMiss, Tells, work_left, Drives, DrivesAt, Finishes}
 use Rattle.ts_thread.proofs.Moves.{goes_refl, goes_trans}
 
 pub get_front : {X : Type 0} (xs ys : List X) (k : ℕ) → k < length xs → slice_get (xs ++ ys) k ≡ slice_get xs k
@@ -90,7 +90,7 @@ module _ {W Q R T U : Type 0} (Fits : T → W → Type 0) (Sound : W → State �
   all_both (x ∷ xs) (y ∷ zs) ys ys' n a b = (a.0, all_both xs zs ys ys' n a.1 b)
 
   -- one of a row goes on, between those before and after it
-  pub all_row : (before before' after after' : List (Group W Q R T U)) (g h : Group W Q R T U) (n : ℕ) → AllGoOn Fits Sound oa isf Left before before' n → GoesOn Fits Sound oa isf Left g h n
+  pub all_row : (before before' after after' : List (Group W Q R T U)) (g h : Group W Q R T U) (n : ℕ) → AllGoOn Fits Sound oa isf Left before before' n → HasTakenTurns Fits Sound oa isf Left g h n
       → AllGoOn Fits Sound oa isf Left after after' n → AllGoOn Fits Sound oa isf Left (before ++ g ∷ after) (before' ++ h ∷ after') n
   all_row [] [] after after' g h n a b c = (b, c)
   all_row [] (x ∷ xs) after after' g h n a b c = absurd a
@@ -241,9 +241,9 @@ module _ {W Q R T U : Type 0} (Fits : T → W → Type 0) (Sound : W → State �
   pub record IsDriving (before before' : List (Group W Q R T U)) (old new : Group W Q R T U) (after after' : List (Group W Q R T U)) : Type 0 where
     pub turns : ℕ
     pub first : AllGoOn Fits Sound oa isf Left before before' turns
-    pub own : GoesOn Fits Sound oa isf Left old new turns
+    pub own : HasTakenTurns Fits Sound oa isf Left old new turns
     pub last : AllGoOn Fits Sound oa isf Left after after' turns
-    pub less : left_of Left new + turns ≤ left_of Left old
+    pub less : work_left Left new + turns ≤ work_left Left old
     pub tells : Tells Left new
 
   pub driving_begins : (before : List (Group W Q R T U)) (g : Group W Q R T U) (after : List (Group W Q R T U)) → Tells Left g → IsDriving before before g g after after
@@ -261,11 +261,11 @@ module _ {W Q R T U : Type 0} (Fits : T → W → Type 0) (Sound : W → State �
   driving_row before before' old new after after' h = all_row Fits Sound oa isf Left before before' after after' old new h.turns h.first h.own h.last
 
   pub driving_goes_on : (b0 b1 b2 : List (Group W Q R T U)) (g0 g1 g2 : Group W Q R T U) (a0 a1 a2 : List (Group W Q R T U)) → IsDriving b0 b1 g0 g1 a0 a1
-      → AllGoOn Fits Sound oa isf Left b1 b2 1 → GoesOn Fits Sound oa isf Left g1 g2 1 → AllGoOn Fits Sound oa isf Left a1 a2 1 → LeavesLess Left g1 1 g2
-      → IsDriving b0 b2 g0 g2 a0 a2 × (left_of Left g2 < left_of Left g1)
+      → AllGoOn Fits Sound oa isf Left b1 b2 1 → HasTakenTurns Fits Sound oa isf Left g1 g2 1 → AllGoOn Fits Sound oa isf Left a1 a2 1 → LeavesLess Left g1 1 g2
+      → IsDriving b0 b2 g0 g2 a0 a2 × (work_left Left g2 < work_left Left g1)
   driving_goes_on b0 b1 b2 g0 g1 g2 a0 a1 a2 h b g a falls =
       let left = left_falls (Left g1.world g1.cx.log.state) (Left g2.world g2.cx.log.state) 1 h.tells falls in
-      let less : left_of Left g2 + 1 ≤ left_of Left g1 = left.1 in
+      let less : work_left Left g2 + 1 ≤ work_left Left g1 = left.1 in
       let was = h.less in (
         record {
           turns = h.turns + 1;
@@ -279,7 +279,7 @@ module _ {W Q R T U : Type 0} (Fits : T → W → Type 0) (Sound : W → State �
       )
 
   pub driving_stops : (b0 b1 b2 : List (Group W Q R T U)) (g0 g1 g2 : Group W Q R T U) (a0 a1 a2 : List (Group W Q R T U)) (result : Result (Unit {0}) NoMemory) → IsErr result → IsDriving b0 b1 g0 g1 a0 a1
-      → AllGoOn Fits Sound oa isf Left b1 b2 1 → GoesOn Fits Sound oa isf Left g1 g2 1 → AllGoOn Fits Sound oa isf Left a1 a2 1 → Drives Fits Sound oa isf Left b0 b2 g0 g2 a0 a2 result
+      → AllGoOn Fits Sound oa isf Left b1 b2 1 → HasTakenTurns Fits Sound oa isf Left g1 g2 1 → AllGoOn Fits Sound oa isf Left a1 a2 1 → Drives Fits Sound oa isf Left b0 b2 g0 g2 a0 a2 result
   driving_stops b0 b1 b2 g0 g1 g2 a0 a1 a2 (Ok u) is h b g a = absurd (cc)
   driving_stops b0 b1 b2 g0 g1 g2 a0 a1 a2 (Err e) is h b g a = record {
     turns = h.turns + 1;
@@ -298,16 +298,16 @@ module _ {W Q R T U : Type 0} (Fits : T → W → Type 0) (Sound : W → State �
   length_on (g ∷ gs) (h ∷ hs) n a = let e = length_on gs hs n a.1 in omega arith
 
   -- no more is left to do, and worlds go on to tell it
-  left_on : (gs hs : List (Group W Q R T U)) (n : ℕ) → AllGoOn Fits Sound oa isf Left gs hs n → All (Tells Left) gs → (sum_by (left_of Left) hs ≤ sum_by (left_of Left) gs) × All (Tells Left) hs
+  left_on : (gs hs : List (Group W Q R T U)) (n : ℕ) → AllGoOn Fits Sound oa isf Left gs hs n → All (Tells Left) gs → (sum_by (work_left Left) hs ≤ sum_by (work_left Left) gs) × All (Tells Left) hs
   left_on [] [] n a tells = (omega arith, All-nil (Tells Left))
   left_on [] (h ∷ hs) n a tells = absurd a
   left_on (g ∷ gs) [] n a tells = absurd a
   left_on (g ∷ gs) (h ∷ hs) n a tells =
       let one = left_falls (Left g.world g.cx.log.state) (Left h.world h.cx.log.state) 0 (All-head (Tells Left) g gs tells) a.0.falls in
-      let less : left_of Left h + 0 ≤ left_of Left g = one.1 in
+      let less : work_left Left h + 0 ≤ work_left Left g = one.1 in
       let rest = left_on gs hs n a.1 (All-tail (Tells Left) g gs tells) in
-      let rest_less : sum_by (left_of Left) hs ≤ sum_by (left_of Left) gs = rest.0 in (
-        omega (arith, sum_by-cons (left_of Left) g gs, sum_by-cons (left_of Left) h hs),
+      let rest_less : sum_by (work_left Left) hs ≤ sum_by (work_left Left) gs = rest.0 in (
+        omega (arith, sum_by-cons (work_left Left) g gs, sum_by-cons (work_left Left) h hs),
         All-cons (Tells Left) h hs one.0 rest.1,
       )
 
@@ -322,7 +322,7 @@ module _ {W Q R T U : Type 0} (Fits : T → W → Type 0) (Sound : W → State �
   pub record IsFinishing (old new : List (Group W Q R T U)) (place : ℕ) : Type 0 where
     pub turns : ℕ
     pub goes : AllGoOn Fits Sound oa isf Left old new turns
-    pub less : sum_by (left_of Left) new + turns ≤ sum_by (left_of Left) old
+    pub less : sum_by (work_left Left) new + turns ≤ sum_by (work_left Left) old
     pub tells : All (Tells Left) new
     pub idle : All IsIdle (take place new)
 
@@ -344,9 +344,9 @@ module _ {W Q R T U : Type 0} (Fits : T → W → Type 0) (Sound : W → State �
       let first = left_on front front' drives.turns drives.first tells_front in
       let last = left_on rest rest' drives.turns drives.last tells_rest in
       let own = left_falls (Left g.world g.cx.log.state) (Left h.world h.cx.log.state) 0 tells_g drives.own.falls in
-      let first_less : sum_by (left_of Left) front' ≤ sum_by (left_of Left) front = first.0 in
-      let last_less : sum_by (left_of Left) rest' ≤ sum_by (left_of Left) rest = last.0 in
-      let own_less : left_of Left h + drives.turns ≤ left_of Left g = drives.less in
+      let first_less : sum_by (work_left Left) front' ≤ sum_by (work_left Left) front = first.0 in
+      let last_less : sum_by (work_left Left) rest' ≤ sum_by (work_left Left) rest = last.0 in
+      let own_less : work_left Left h + drives.turns ≤ work_left Left g = drives.less in
       let before = was.less in
       let idle_front : All IsIdle front = subst (λ (gs : List (Group W Q R T U)). All IsIdle gs) (take_front front (g ∷ rest) place len) was.idle in
       let len' : length front' ≡ place = length_on front front' drives.turns drives.first ∙ len in
@@ -354,14 +354,14 @@ module _ {W Q R T U : Type 0} (Fits : T → W → Type 0) (Sound : W → State �
         turns = was.turns + drives.turns;
         goes = all_trans Fits Sound oa isf Left old (front ++ g ∷ rest) (front' ++ h ∷ rest') was.turns drives.turns was.goes
             (all_row Fits Sound oa isf Left front front' rest rest' g h drives.turns drives.first drives.own drives.last);
-        less = omega (arith, sum_by-append (left_of Left) front (g ∷ rest), sum_by-append (left_of Left) front' (h ∷ rest'), sum_by-cons (left_of Left) g rest, sum_by-cons (left_of Left) h rest');
+        less = omega (arith, sum_by-append (work_left Left) front (g ∷ rest), sum_by-append (work_left Left) front' (h ∷ rest'), sum_by-cons (work_left Left) g rest, sum_by-cons (work_left Left) h rest');
         tells = All-append (Tells Left) front' (h ∷ rest') first.1 (All-cons (Tells Left) h rest' own.0 last.1);
         idle = subst (λ (gs : List (Group W Q R T U)). All IsIdle gs) (sym (take_more front' h rest' place len'))
             (All-append IsIdle front' (h ∷ []) (idle_on front front' drives.turns drives.first idle_front) (All-cons IsIdle h [] drives.idle (All-nil IsIdle)));
       }
 
-  pub left-le-sum : (front : List (Group W Q R T U)) (g : Group W Q R T U) (rest : List (Group W Q R T U)) → left_of Left g ≤ sum_by (left_of Left) (front ++ g ∷ rest)
-  left-le-sum front g rest = omega (arith, sum_by-append (left_of Left) front (g ∷ rest), sum_by-cons (left_of Left) g rest)
+  pub left-le-sum : (front : List (Group W Q R T U)) (g : Group W Q R T U) (rest : List (Group W Q R T U)) → work_left Left g ≤ sum_by (work_left Left) (front ++ g ∷ rest)
+  left-le-sum front g rest = omega (arith, sum_by-append (work_left Left) front (g ∷ rest), sum_by-cons (work_left Left) g rest)
 
   pub fewer_turns : (gs : List (Group W Q R T U)) (m k : ℕ) → k ≤ m → All (HasTurns m) gs → All (HasTurns k) gs
   fewer_turns gs m k le all = All-weaker (HasTurns m) (HasTurns k) (λ g h. omega arith) gs all
@@ -393,5 +393,5 @@ module _ {W Q R T U : Type 0} (Fits : T → W → Type 0) (Sound : W → State �
   pub finishing_fits : (tags : List T) (old new : List (Group W Q R T U)) (place : ℕ) → GroupsFit Fits Sound oa isf tags old → IsFinishing old new place → GroupsFit Fits Sound oa isf tags new
   finishing_fits tags old new place fits was = fits_on Fits Sound oa isf Left tags old new was.turns fits was.goes
 
-  pub finishing_turns : (old new : List (Group W Q R T U)) (place : ℕ) → All (HasTurns (sum_by (left_of Left) old)) old → IsFinishing old new place → All (HasTurns (sum_by (left_of Left) new)) new
-  finishing_turns old new place young was = spare_on old new was.turns (sum_by (left_of Left) old) (sum_by (left_of Left) new) was.goes was.less young
+  pub finishing_turns : (old new : List (Group W Q R T U)) (place : ℕ) → All (HasTurns (sum_by (work_left Left) old)) old → IsFinishing old new place → All (HasTurns (sum_by (work_left Left) new)) new
+  finishing_turns old new place young was = spare_on old new was.turns (sum_by (work_left Left) old) (sum_by (work_left Left) new) was.goes was.less young

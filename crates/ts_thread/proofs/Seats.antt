@@ -9,7 +9,7 @@ use Rattle.ts_slot.specs.declared.view.View.{View}
 use Rattle.ts_slot.specs.Lists.{IsIn, rest}
 use Rattle.ts_slot.specs.Views.{won, missed}
 use Rattle.ts_slot.specs.Words.{view, IsTop, GivesUp, LeavesFree, LeavesWorn}
-use Rattle.ts_thread.specs.Seats.{More, Keeps, Closes, Leaves, KnowsTurn}
+use Rattle.ts_thread.specs.Seats.{More, KeepsSeat, LeavesWon, Leaves, KnowsTurn}
 
 module _ {A : Type 0} where
   pub more_refl : (xs ys : List A) → ys ≡ xs → More xs ys
@@ -22,7 +22,7 @@ module _ {A : Type 0} where
   more_trans a b = record { stays = λ x h. b.stays x (a.stays x h) }
 
 module _ {G T : Type 0} where
-  pub keeps_refl : (v w : View G T) (m : ℕ) → w ≡ v → Keeps v w m
+  pub keeps_refl : (v w : View G T) (m : ℕ) → w ≡ v → KeepsSeat v w m
   keeps_refl v w m e = record {
     share = ap (λ (u : View G T). u.share) e;
     names = ap (λ (u : View G T). u.names) e;
@@ -32,7 +32,7 @@ module _ {G T : Type 0} where
     known = more_refl v.known w.known (ap (λ (u : View G T). u.known) e);
   }
 
-  pub keeps_trans : (v w u : View G T) (m n k : ℕ) → m + n ≤ k → Keeps v w m → Keeps w u n → Keeps v u k
+  pub keeps_trans : (v w u : View G T) (m n k : ℕ) → m + n ≤ k → KeepsSeat v w m → KeepsSeat w u n → KeepsSeat v u k
   keeps_trans v w u m n k le a b = record {
     share = b.share ∙ a.share;
     names = b.names ∙ a.names;
@@ -43,7 +43,7 @@ module _ {G T : Type 0} where
   }
 
   -- a group was won and left
-  pub won_left : (v w u : View G T) (k t : ℕ) (c : T) → w ≡ won k t c v → Leaves w u → Keeps v u 1
+  pub won_left : (v w u : View G T) (k t : ℕ) (c : T) → w ≡ won k t c v → Leaves w u → KeepsSeat v u 1
   won_left v w u k t c is leaves = record {
     share = leaves.share ∙ ap (λ (x : View G T). x.share) is;
     names = leaves.names ∙ ap (λ (x : View G T). x.names) is;
@@ -53,7 +53,7 @@ module _ {G T : Type 0} where
     known = more_trans (more_one (k, t - 1, c) v.known w.known (ap (λ (x : View G T). x.known) is)) leaves.known;
   }
 
-  pub missed_keeps : (v w : View G T) (k n m : ℕ) → w ≡ missed k n v → Keeps v w m
+  pub missed_keeps : (v w : View G T) (k n m : ℕ) → w ≡ missed k n v → KeepsSeat v w m
   missed_keeps v w k n m is = record {
     share = ap (λ (x : View G T). x.share) is;
     names = ap (λ (x : View G T). x.names) is;
@@ -63,7 +63,7 @@ module _ {G T : Type 0} where
     known = more_refl v.known w.known (ap (λ (x : View G T). x.known) is);
   }
 
-  pub closes : (v w u : View G T) (m : ℕ) → Keeps v w m → Leaves w u → Closes v u m
+  pub closes : (v w u : View G T) (m : ℕ) → KeepsSeat v w m → Leaves w u → LeavesWon v u m
   closes v w u m a b = record {
     share = b.share ∙ a.share;
     names = b.names ∙ a.names;
@@ -74,7 +74,7 @@ module _ {G T : Type 0} where
   }
 
   -- a group was won, and left after some turns more
-  pub won_closed : (v w u : View G T) (k t m n : ℕ) (c : T) → m + 1 ≤ n → w ≡ won k t c v → Closes w u m → Keeps v u n
+  pub won_closed : (v w u : View G T) (k t m n : ℕ) (c : T) → m + 1 ≤ n → w ≡ won k t c v → LeavesWon w u m → KeepsSeat v u n
   won_closed v w u k t m n c le is closes = record {
     share = closes.share ∙ ap (λ (x : View G T). x.share) is;
     names = closes.names ∙ ap (λ (x : View G T). x.names) is;

@@ -21,7 +21,7 @@ use Rattle.ts_slot.specs.Lists.{Each, IsIn, same, entries}
 use Rattle.ts_slot.specs.Views.{won, IsAfter}
 use Rattle.ts_thread.specs.Entering.{IsEntered}
 use Rattle.ts_thread.specs.Held.{HasTurn, BeginsSame, StartsInTurn, FitsHere, WillFit}
-use Rattle.ts_thread.specs.Seats.{More, Keeps, Leaves, KnowsTurn}
+use Rattle.ts_thread.specs.Seats.{More, KeepsSeat, Leaves, KnowsTurn}
 use Rattle.ts_thread.specs.Started.{IsFirst, Starts, WasStarted, Started, AllStarted}
 use Rattle.ts_thread.proofs.Seats.{keeps_trans, won_left}
 
@@ -30,7 +30,7 @@ pub same_at : {A : Type 0} (xs : List A) (k : ℕ) (x y : A) → get_elem? xs k 
 same_at xs k x y e f = let h : some x ≡ some y = sym e ∙ f in cc
 
 -- a group was entered, and left
-pub entered_left : {X G T : Type 0} {d : Ghosts X G T} (tags : List G) (k : ℕ) (old new u : View G T) (turn : Turn X G T d) → IsEntered tags k old new turn → Leaves new u → Keeps old u 1
+pub entered_left : {X G T : Type 0} {d : Ghosts X G T} (tags : List G) (k : ℕ) (old new u : View G T) (turn : Turn X G T d) → IsEntered tags k old new turn → Leaves new u → KeepsSeat old u 1
 entered_left {d = d} tags k old new u turn entered leaves =
     keeps_trans old entered.before u 0 1 1 (omega arith) entered.misses (won_left entered.before new u k turn.number (d.trace turn.value) entered.wins leaves)
 

@@ -32,8 +32,8 @@ use Rattle.ts_slot.specs.Words.{view}
 use Rattle.ts_thread.specs.declared.desk.Desk.{Desk}
 use Rattle.ts_thread.specs.declared.did.Did.{Did}
 use Rattle.ts_thread.specs.declared.did.Did.TheVariants as did
-use Rattle.ts_thread.specs.Asks.{AnswersAsked, CameBy, Gives}
-use Rattle.ts_thread.specs.Held.{HasTurn, IsGiven, GoesInTurn, BeginsSame, SetsFew, IsWorked}
+use Rattle.ts_thread.specs.Asks.{AnswersAsked, CameBy, GivesReply}
+use Rattle.ts_thread.specs.Held.{HasTurn, IsGivenBack, GoesInTurn, BeginsSame, SetsFewInTurn, IsWorked}
 use Rattle.ts_thread.specs.Shown.{IsShown, HandledDue, WasDue}
 use Rattle.ts_thread.specs.Tags.{GroupFits, CanAsk}
 use Rattle.ts_thread.specs.Turning.{Works}
@@ -96,7 +96,7 @@ module _ {W Q R T U : Type 0} where
         let rise = h.rise in
         record { was_due = record { event = x.event; there = x.there; due = x.due; gone = x.gone }; some = h.some; most = h.most; rise = omega arith }
 
-    pub handles_few : SetsAtMost Fits old.world (MOST_EVENTS * (MOST_SET + 1)) old.cx new.cx → SetsFew Fits old new
+    pub handles_few : SetsAtMost Fits old.world (MOST_EVENTS * (MOST_SET + 1)) old.cx new.cx → SetsFewInTurn Fits old new
     handles_few few =
         let due = handles_due in
         record {
@@ -144,7 +144,7 @@ module _ {W Q R T U : Type 0} where
     tags = λ t f. q.tags t (p.tags t f);
   }
 
-  pub same_few : (Fits : T → W → Type 0) (old new : Group W Q R T U) → IsSameGroup old new → SetsFew Fits old new
+  pub same_few : (Fits : T → W → Type 0) (old new : Group W Q R T U) → IsSameGroup old new → SetsFewInTurn Fits old new
   same_few Fits old new same =
       let next : new.cx.log.state.next ≡ old.cx.log.state.next = ap (λ (s : State). s.next) same.cx.log.state in
       record {
@@ -206,7 +206,7 @@ pub record MayBeAsked {W Q R T : Type 0} (Fits : T → W → Type 0) (only_asked
   pub tag : T
   pub there : get_elem? tags to ≡ some tag
   pub asked : only_asked tag ≡ true
-  pub right : (q : Q) (r : R) → Gives Fits Answers tags to q r → Right world to q r
+  pub right : (q : Q) (r : R) → GivesReply Fits Answers tags to q r → Right world to q r
 
 pub may_be_asked : {W Q R T : Type 0} (Fits : T → W → Type 0) (only_asked : T → Bool) (MayAsk : W → ℕ → Type 0) (Right : W → ℕ → Q → R → Type 0) (Answers : W → Q → R → Type 0) (tags : List T) (own to : ℕ) (t : T) (world : W)
     → CanAsk Fits only_asked MayAsk Right Answers tags → get_elem? tags own ≡ some t → Fits t world → MayAsk world to → MayBeAsked Fits only_asked Right Answers tags own to world
@@ -245,7 +245,7 @@ module _ {W Q R T U : Type 0} (Fits : T → W → Type 0) (Sound : W → State �
   asked_goes Answers (Err e) old new question moment valid held ok err tags = same_goes Fits old new held err.1
 
 -- which turns are recorded in a group that is given back, by what is known of the one that was found
-pub given_marks : {W Q R T U : Type 0} (found new old : Group W Q R T U) (turn turn' seat seat' : ℕ) → IsGiven found new turn seat → found ≡ old → turn ≡ turn' → seat ≡ seat'
+pub given_marks : {W Q R T U : Type 0} (found new old : Group W Q R T U) (turn turn' seat seat' : ℕ) → IsGivenBack found new turn seat → found ≡ old → turn ≡ turn' → seat ≡ seat'
     → (mark : ℕ × ℕ) → Contains (marks_of new.cx.log.entries) mark → Contains (marks_of old.cx.log.entries) mark ⊎ (mark ≡ (turn', seat'))
 given_marks {W} {Q} {R} {T} {U} found new old turn turn' seat seat' given e f h mark there =
     subst (λ (x : Group W Q R T U × ℕ × ℕ). Contains (marks_of x.0.cx.log.entries) mark ⊎ (mark ≡ (x.1, x.2))) (λ i. (e i, f i, h i)) (given.marks mark there)

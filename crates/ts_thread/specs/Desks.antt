@@ -6,7 +6,7 @@ use Rattle.ts_queue.specs.Passes.{IsPassOf, pass_view}
 use Rattle.ts_slot.specs.declared.slots.Slots.{Slots}
 use Rattle.ts_slot.specs.Words.{tags_of, view, IsSeatOf}
 use Rattle.ts_thread.specs.declared.desk.Desk.{Desk}
-use Rattle.ts_thread.specs.Seats.{Keeps, Closes, Leaves}
+use Rattle.ts_thread.specs.Seats.{KeepsSeat, LeavesWon, Leaves}
 use Rattle.ts_thread.specs.Tokens.{AllName}
 
 module _ {X G T : Type 0} {d : Ghosts X G T} where
@@ -19,12 +19,12 @@ module _ {X G T : Type 0} {d : Ghosts X G T} where
 
   -- a desk whose seat got at most so many turns more and holds what it held
   pub record KeepsDesk (old new : Desk X G T d) (most : ℕ) : Type 0 where
-    pub seat : Keeps (view old.seat) (view new.seat) most
+    pub seat : KeepsSeat (view old.seat) (view new.seat) most
     pub share : (pass_view new.pass).share ≡ (pass_view old.pass).share
 
   -- the same, but for the group that the seat won last, which it left
   pub record ClosesDesk (old new : Desk X G T d) (most : ℕ) : Type 0 where
-    pub seat : Closes (view old.seat) (view new.seat) most
+    pub seat : LeavesWon (view old.seat) (view new.seat) most
     pub share : (pass_view new.pass).share ≡ (pass_view old.pass).share
 
   -- a desk whose seat left the group that it won last

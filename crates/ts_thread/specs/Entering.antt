@@ -5,7 +5,7 @@ use Rattle.ts_slot.specs.declared.seat.Turn.{Turn}
 use Rattle.ts_slot.specs.declared.view.View.{View}
 use Rattle.ts_slot.specs.Views.{won}
 use Rattle.ts_slot.specs.Words.{FitsTag}
-use Rattle.ts_thread.specs.Seats.{Keeps}
+use Rattle.ts_thread.specs.Seats.{KeepsSeat}
 
 -- The group k was won, maybe after it was missed, and its value was found as the tag wants it, with an
 -- earlier stamp.
@@ -14,7 +14,7 @@ pub record IsEntered {X G T : Type 0} {d : Ghosts X G T} (tags : List G) (k : �
   pub group : turn.group ≡ k
   pub found : turn.found.value ≡ turn.value
   pub before : View G T
-  pub misses : Keeps old before 0
+  pub misses : KeepsSeat old before 0
   pub wins : new ≡ won k turn.number (d.trace turn.value) before
   pub fits : FitsTag d.fits tags k turn.value
   pub later : d.stamp turn.value < turn.number

@@ -24,7 +24,7 @@ pub record IsLaterGroup {W Q R T U : Type 0} (old new : Group W Q R T U) : Type 
   pub later : IsLater old.cx.log.state new.cx.log.state
 
 -- What at most so many turns, of which none is held any more, leave of a group.
-pub record GoesOn {W Q R T U : Type 0} (Fits : T → W → Type 0) (Sound : W → State → List Named → Type 0)
+pub record HasTakenTurns {W Q R T U : Type 0} (Fits : T → W → Type 0) (Sound : W → State → List Named → Type 0)
     (only_asked is_first : T → Bool) (Left : W → State → Option ℕ)
     (old new : Group W Q R T U) (turns : ℕ) : Type 0 where
   -- it fits each tag that it fitted
@@ -53,8 +53,8 @@ pub record WorksOn {W Q R T U : Type 0} (Fits : T → W → Type 0) (Sound : W �
   pub falls : LeavesLess Left old 0 new
 
 -- what is left to do to a group, 0 where its world does not tell it
-abbrev pub left_of : {W Q R T U : Type 0} → (W → State → Option ℕ) → Group W Q R T U → ℕ
-left_of Left g = unwrap_or (Left g.world g.cx.log.state) 0
+abbrev pub work_left : {W Q R T U : Type 0} → (W → State → Option ℕ) → Group W Q R T U → ℕ
+work_left Left g = unwrap_or (Left g.world g.cx.log.state) 0
 
 -- the group's world tells what is left to do
 abbrev pub Tells : {W Q R T U : Type 0} → (W → State → Option ℕ) → Group W Q R T U → Type 0
@@ -73,15 +73,15 @@ IsNoMiss _ = ⊤
 abbrev pub AllGoOn : {W Q R T U : Type 0} → (T → W → Type 0) → (W → State → List Named → Type 0) → (T → Bool)
     → (T → Bool) → (W → State → Option ℕ) → List (Group W Q R T U) → List (Group W Q R T U) → ℕ → Type 0
 AllGoOn Fits Sound only_asked is_first Left old new turns =
-    AllZip (λ g h. GoesOn Fits Sound only_asked is_first Left g h turns) old new
+    AllZip (λ g h. HasTakenTurns Fits Sound only_asked is_first Left g h turns) old new
 
 -- the group can have so many turns more
 abbrev pub HasTurns : {W Q R T U : Type 0} → ℕ → Group W Q R T U → Type 0
 HasTurns more g = g.cx.log.state.turns + more ≤ last_turn
 
 -- the event of this number is due first of all that is pending, at this moment
-abbrev pub IsDue : {W Q R T U : Type 0} → Group W Q R T U → ℕ → ℕ → Type 0
-IsDue g number moment = IsDueFirst g.cx.log.state moment number
+abbrev pub ComesNext : {W Q R T U : Type 0} → Group W Q R T U → ℕ → ℕ → Type 0
+ComesNext g number moment = IsDueFirst g.cx.log.state moment number
 
 -- one group of a row, with those before and after it
 abbrev pub row : {X : Type 0} → List X → X → List X → List X
@@ -95,9 +95,9 @@ pub record Drives {W Q R T U : Type 0} (Fits : T → W → Type 0) (Sound : W �
     (after after' : List (Group W Q R T U)) (result : Result (Unit {0}) NoMemory) : Type 0 where
   pub turns : ℕ
   pub first : AllGoOn Fits Sound only_asked is_first Left before before' turns
-  pub own : GoesOn Fits Sound only_asked is_first Left old new turns
+  pub own : HasTakenTurns Fits Sound only_asked is_first Left old new turns
   pub last : AllGoOn Fits Sound only_asked is_first Left after after' turns
-  pub less : OnOk result (left_of Left new + turns ≤ left_of Left old)
+  pub less : OnOk result (work_left Left new + turns ≤ work_left Left old)
   pub idle : OnOk result (IsIdle new)
 
 -- A drive of the group at a place of a row, as it leaves the row.
@@ -122,5 +122,5 @@ pub record Finishes {W Q R T U : Type 0} (Fits : T → W → Type 0) (Sound : W 
     (old new : List (Group W Q R T U)) (result : Result (Unit {0}) NoMemory) : Type 0 where
   pub turns : ℕ
   pub goes : AllGoOn Fits Sound only_asked is_first Left old new turns
-  pub less : OnOk result (sum_by (left_of Left) new + turns ≤ sum_by (left_of Left) old)
+  pub less : OnOk result (sum_by (work_left Left) new + turns ≤ sum_by (work_left Left) old)
   pub idle : OnOk result (All IsIdle new)

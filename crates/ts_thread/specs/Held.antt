@@ -33,7 +33,7 @@ module _ {W Q R T U : Type 0} where
 
   -- A group that a seat found and leaves: it holds no turn, and records none but this one of the seat beside
   -- those that it recorded.
-  pub record IsGiven (found left : Group W Q R T U) (turn seat : ℕ) : Type 0 where
+  pub record IsGivenBack (found left : Group W Q R T U) (turn seat : ℕ) : Type 0 where
     pub free : left.cx.log.state.held ≡ false
     pub stamp : (left.cx.log.state.turns ≡ found.cx.log.state.turns) ⊎ (left.cx.log.state.turns ≡ turn)
     pub marks : (mark : ℕ × ℕ) → Contains (marks_of left.cx.log.entries) mark
@@ -51,7 +51,7 @@ module _ {W Q R T U : Type 0} where
     pub tags : KeepsTags Fits old.world new.world
 
   -- few events are set where the world fits a tag, and none where none was pending
-  pub record SetsFew (Fits : T → W → Type 0) (old new : Group W Q R T U) : Type 0 where
+  pub record SetsFewInTurn (Fits : T → W → Type 0) (old new : Group W Q R T U) : Type 0 where
     pub few : SetsAtMost Fits old.world MOST_IN_TURN old.cx new.cx
     pub nothing : old.cx.log.state.pending ≡ [] → SameEvents old.cx.log.state new.cx.log.state
 
@@ -87,7 +87,7 @@ module _ {W Q R T U : Type 0} where
       (old new : Group W Q R T U) : Type 0 where
     pub goes : GoesInTurn Fits old new
     pub sound : Holds Sound new
-    pub few : SetsFew Fits old new
+    pub few : SetsFewInTurn Fits old new
 
   -- the group has a turn, its world is sound, and fits the tag of the group k
   abbrev pub CanWork : (T → W → Type 0) → (W → State → List Named → Type 0) → List T → ℕ → Group W Q R T U

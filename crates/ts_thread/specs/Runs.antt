@@ -45,5 +45,5 @@ module _ {W Q R T U : Type 0} {d : Ghosts (Group W Q R T U) T (ℕ × State)} wh
 
 module _ {X G T : Type 0} {d : Ghosts X G T} where
   -- what the desk counts: turns, misses, and how often the queue was found empty
-  abbrev pub counts_of : Desk X G T d → ℕ
-  counts_of desk = length (view desk.seat).turns + length (view desk.seat).misses + empties_of desk.pass
+  abbrev pub desk_counts : Desk X G T d → ℕ
+  desk_counts desk = length (view desk.seat).turns + length (view desk.seat).misses + empties_of desk.pass

@@ -15,7 +15,7 @@ KnowsTurn k turn trace known = turn < last_turn → IsIn (k, turn, trace) known
 module _ {G T : Type 0} where
   -- A seat has its share, its names and the groups that it held, got at most so many turns more, and forgot
   -- nothing.
-  pub record Keeps (old new : View G T) (most : ℕ) : Type 0 where
+  pub record KeepsSeat (old new : View G T) (most : ℕ) : Type 0 where
     pub share : new.share ≡ old.share
     pub names : new.names ≡ old.names
     pub held : new.held ≡ old.held
@@ -24,7 +24,7 @@ module _ {G T : Type 0} where
     pub known : More old.known new.known
 
   -- the same, but for the group that the seat won last, which it left
-  pub record Closes (old new : View G T) (most : ℕ) : Type 0 where
+  pub record LeavesWon (old new : View G T) (most : ℕ) : Type 0 where
     pub share : new.share ≡ old.share
     pub names : new.names ≡ old.names
     pub held : new.held ≡ rest old.held

@@ -11,7 +11,7 @@ use Rattle.ts_slot.specs.declared.slots.Slots.{Slots}
 use Rattle.ts_slot.specs.Limits.{whole_share, last_turn}
 use Rattle.ts_slot.specs.Words.{view, IsSeatOf}
 use Rattle.ts_thread.specs.declared.TheConstants.{MOST_THREADS}
-use Rattle.ts_thread.specs.Seats.{Keeps}
+use Rattle.ts_thread.specs.Seats.{KeepsSeat}
 use Rattle.ts_thread.specs.Started.{CanStart}
 
 -- how many turns are taken at most where so many groups are started and so many threads run with a budget
@@ -20,8 +20,8 @@ abbrev pub turns_of : ℕ → ℕ → ℕ → ℕ
 turns_of starts threads budget = starts + threads * (2 * budget)
 
 -- the group has had at most so many turns
-abbrev pub HasMade : {W Q R T U : Type 0} → ℕ → Group W Q R T U → Type 0
-HasMade most g = g.cx.log.state.turns ≤ most
+abbrev pub HasHadTurns : {W Q R T U : Type 0} → ℕ → Group W Q R T U → Type 0
+HasHadTurns most g = g.cx.log.state.turns ≤ most
 
 -- So many groups can be started, and so many threads run, with a budget that leaves each group turns enough.
 pub record IsPlan {T : Type 0} (only_asked : T → Bool) (tags : List T)
@@ -77,5 +77,5 @@ module _ {X G T : Type 0} {d : Ghosts X G T} where
   pub record ComesBack (slots : Slots X G T) (queue : EventQueue) (seat : Seat X G T d) (pass : QueuePass)
       (turns : ℕ) (back : Seat X G T d × QueuePass × Bool) : Type 0 where
     pub pair : IsPair slots queue back.0 back.1
-    pub keeps : Keeps (view seat) (view back.0) turns
+    pub keeps : KeepsSeat (view seat) (view back.0) turns
     pub share : KeepsShare pass back.1

@@ -66,10 +66,10 @@ module _ {X G T : Type 0} {d : Ghosts X G T} where
     pub pass : pass_view new.pass ≡ putting_next token (pass_view old.pass)
 
   -- a token that is due later, or for which the pass has no serial left, was added to the wheel
-  pub record Adds (token : Token) (due moment : ℕ) (old new : Desk X G T d) : Type 0 where
+  pub record AddsToWheel (token : Token) (due moment : ℕ) (old new : Desk X G T d) : Type 0 where
     pub late : (moment < due) ⊎ ((pass_view old.pass).serial ≡ GREATEST)
     pub wheel : new.wheel ≡ added due token old.wheel
     pub pass : pass_view new.pass ≡ pass_view old.pass
 
   abbrev pub Places : Token → ℕ → ℕ → Desk X G T d → Desk X G T d → Type 0
-  Places token due moment old new = Puts token due moment old new ⊎ Adds token due moment old new
+  Places token due moment old new = Puts token due moment old new ⊎ AddsToWheel token due moment old new

@@ -4,17 +4,17 @@ use Rattle.ts_journal.specs.State.{State}
 use Rattle.ts_group.specs.declared.action.Named.{Named}
 use Rattle.ts_group.specs.declared.group.Group.{Group}
 use Rattle.ts_thread.specs.declared.TheConstants.{MOST_LEFT}
-use Rattle.ts_thread.specs.Goings.{IsIdle, Tells, left_of}
+use Rattle.ts_thread.specs.Goings.{IsIdle, Tells, work_left}
 use Rattle.ts_thread.specs.Started.{WereStarted}
 use Rattle.ts_thread.specs.Tags.{GroupFits, GroupsFit}
-use Rattle.ts_thread.specs.Threads.{HasMade}
+use Rattle.ts_thread.specs.Threads.{HasHadTurns}
 
 -- So many turns are few, and each group that fits a tag and has had no more tells what is left to do, which is not much.
 pub record EndSoon {W T : Type 0} (Q R U : Type 0) (Fits : T → W → Type 0) (Sound : W → State → List Named → Type 0)
     (only_asked is_first : T → Bool) (Left : W → State → Option ℕ) (turns : ℕ) : Type 0 where
   pub few : turns ≤ MOST_LEFT
-  pub each : (t : T) (g : Group W Q R T U) → GroupFits Fits Sound only_asked is_first t g → HasMade turns g
-      → Tells Left g × (left_of Left g ≤ MOST_LEFT)
+  pub each : (t : T) (g : Group W Q R T U) → GroupFits Fits Sound only_asked is_first t g → HasHadTurns turns g
+      → Tells Left g × (work_left Left g ≤ MOST_LEFT)
 
 -- Groups that have ended: each fits its tag, no event is pending, and the first so many follow ones that were started.
 pub record HaveEnded {W Q R T U : Type 0} (Fits : T → W → Type 0) (Sound : W → State → List Named → Type 0)

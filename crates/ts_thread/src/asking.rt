@@ -5,9 +5,9 @@ ghost use Rattle.ts_group.specs.Answers.{IsAnswer};
 ghost use Rattle.ts_group.specs.Slot.{trace_of};
 ghost use Rattle.ts_slot.specs.Limits.{last_turn};
 ghost use Rattle.ts_slot.specs.Words.{tags_of, view, IsSeatOf, IsTop};
-ghost use Rattle.ts_thread.specs.Asks.{IsOnlyAsked, IsAskedAt, TakesQuestions, Gives, CameBy};
-ghost use Rattle.ts_thread.specs.Held.{IsGiven};
-ghost use Rattle.ts_thread.specs.Seats.{Keeps, Leaves};
+ghost use Rattle.ts_thread.specs.Asks.{IsOnlyAsked, IsAskedAt, TakesQuestions, GivesReply, CameBy};
+ghost use Rattle.ts_thread.specs.Held.{IsGivenBack};
+ghost use Rattle.ts_thread.specs.Seats.{KeepsSeat, Leaves};
 ghost use Rattle.ts_thread.specs.Tags.{GroupFits};
 
 use crate::held::{begin, give};
@@ -26,7 +26,7 @@ fn ask_turn<W: World + Drop>(
 ) -> Result<W::Reply, (NoMemory, W::Question)>
     requires fits { TakesQuestions W.fits W.sound W.only_asked W.is_first group.old }
     requires turn { (group.old.cx.log.state.turns < turn) × (turn ≤ last_turn) }
-    ensures given { IsGiven group.old group.new turn seat }
+    ensures given { IsGivenBack group.old group.new turn seat }
     ensures fits { (t : W.Tag) → GroupFits W.fits W.sound W.only_asked W.is_first t group.old
         → GroupFits W.fits W.sound W.only_asked W.is_first t group.new }
     ensures reply { IfOk result (λ reply. W.answers group.old.world question reply) }
@@ -56,7 +56,7 @@ fn ask_won<W: World + Drop>(
         (tags_of slots.now) turn.group turn.value }
     ensures seat { IsSeatOf slots.now seat.new }
     ensures leaves { Leaves (view seat.old) (view seat.new) }
-    ensures reply { IfOk result (Gives W.fits W.answers (tags_of slots.now) turn.group question) }
+    ensures reply { IfOk result (GivesReply W.fits W.answers (tags_of slots.now) turn.group question) }
     ensures question { IfErr result (λ e. e.1 ≡ question) }
 {
     let number = turn.number();
@@ -77,9 +77,9 @@ pub fn ask_other<W: World + Drop>(
     requires seat { IsSeatOf slots.now seat.old }
     requires asked { IsOnlyAsked W.only_asked (tags_of slots.now) k }
     ensures seat { IsSeatOf slots.now seat.new }
-    ensures keeps { Keeps (view seat.old) (view seat.new) 1 }
+    ensures keeps { KeepsSeat (view seat.old) (view seat.new) 1 }
     ensures came { CameBy k (view seat.old) (view seat.new) result }
-    ensures answer { IsAnswer (Gives W.fits W.answers (tags_of slots.now)) k question result }
+    ensures answer { IsAnswer (GivesReply W.fits W.answers (tags_of slots.now)) k question result }
 {
     match slots.try_enter(seat, k) {
         Err(missed) => Asked::Missed {

@@ -5,7 +5,7 @@ ghost use Rattle.std.specs.List.{slice_get};
 ghost use Rattle.ts_group.specs.declared.group.Group.{Group as GroupOf};
 ghost use Rattle.ts_group.specs.Answers.{Holds, IsAnswer, LeavesLess};
 ghost use Rattle.ts_thread.specs.Tags.{GroupFits, GroupsFit, FitAround, CanAsk};
-ghost use Rattle.ts_thread.specs.Goings.{GoesOn, WorksOn, AllGoOn, HasTurns, IsDue, IsNoMiss, Tells, left_of, row, Drives, DrivesAt, Finishes};
+ghost use Rattle.ts_thread.specs.Goings.{HasTakenTurns, WorksOn, AllGoOn, HasTurns, ComesNext, IsNoMiss, Tells, work_left, row, Drives, DrivesAt, Finishes};
 
 use ts_group::{Asked, Group, Handling, World};
 use ts_link::NoMemory;
@@ -22,7 +22,7 @@ fn ask_one<W: World + Drop>(
     requires fits { (t : W.Tag) × GroupFits W.fits W.sound W.only_asked W.is_first t group.old
         × (W.only_asked t ≡ true) }
     requires turns { HasTurns 0 group.old }
-    ensures goes { GoesOn W.fits W.sound W.only_asked W.is_first W.left group.old group.new 1 }
+    ensures goes { HasTakenTurns W.fits W.sound W.only_asked W.is_first W.left group.old group.new 1 }
     ensures answer { IsAnswer (λ _ q r. W.answers group.old.world q r) 0 question result }
     ensures came { IsNoMiss result }
 {
@@ -130,7 +130,7 @@ fn serve<W: World + Drop>(
     moment: u64,
 ) -> Result<(), NoMemory>
     requires turn { (group.old.cx.log.state.held ≡ true) × Holds W.sound group.old }
-    requires due { IsDue group.old number moment }
+    requires due { ComesNext group.old number moment }
     requires fits { (tags : List W.Tag) × CanAsk W.fits W.only_asked W.may_ask W.right W.answers tags
         × FitAround W.fits W.sound W.only_asked W.is_first tags before.old group.old.world after.old }
     requires turns { All (HasTurns 0) before.old × All (HasTurns 0) after.old }
@@ -172,8 +172,8 @@ fn step<W: World + Drop>(
     requires fits { (tags : List W.Tag) × CanAsk W.fits W.only_asked W.may_ask W.right W.answers tags
         × GroupsFit W.fits W.sound W.only_asked W.is_first tags (row before.old group.old after.old) }
     requires turns { All (HasTurns 0) (row before.old group.old after.old) }
-    requires due { IsDue group.old number moment }
-    ensures own { GoesOn W.fits W.sound W.only_asked W.is_first W.left group.old group.new 1 }
+    requires due { ComesNext group.old number moment }
+    ensures own { HasTakenTurns W.fits W.sound W.only_asked W.is_first W.left group.old group.new 1 }
     ensures before { AllGoOn W.fits W.sound W.only_asked W.is_first W.left before.old before.new 1 }
     ensures after { AllGoOn W.fits W.sound W.only_asked W.is_first W.left after.old after.new 1 }
     ensures falls { OnOk result (LeavesLess W.left group.old 1 group.new) }
@@ -194,7 +194,7 @@ fn drive<W: World + Drop>(
     requires fits { (tags : List W.Tag) × CanAsk W.fits W.only_asked W.may_ask W.right W.answers tags
         × GroupsFit W.fits W.sound W.only_asked W.is_first tags (row before.old group.old after.old) }
     requires tells { Tells W.left group.old }
-    requires turns { All (HasTurns (left_of W.left group.old)) (row before.old group.old after.old) }
+    requires turns { All (HasTurns (work_left W.left group.old)) (row before.old group.old after.old) }
     ensures { Drives W.fits W.sound W.only_asked W.is_first W.left
         before.old before.new group.old group.new after.old after.new result }
 {
@@ -213,7 +213,7 @@ fn drive_first<W: World + Drop>(
     requires fits { (tags : List W.Tag) × CanAsk W.fits W.only_asked W.may_ask W.right W.answers tags
         × GroupsFit W.fits W.sound W.only_asked W.is_first tags (before.old ++ rest.old) }
     requires tells { All (Tells W.left) (before.old ++ rest.old) }
-    requires turns { All (HasTurns (sum_by (left_of W.left) (before.old ++ rest.old)))
+    requires turns { All (HasTurns (sum_by (work_left W.left) (before.old ++ rest.old)))
         (before.old ++ rest.old) }
     ensures { DrivesAt W.fits W.sound W.only_asked W.is_first W.left
         (length before.old) (before.old ++ rest.old) (before.new ++ rest.new) result }
@@ -230,7 +230,7 @@ fn drive_at<W: World + Drop>(groups: &mut [Group<W>], place: usize) -> Result<()
     requires fits { (tags : List W.Tag) × CanAsk W.fits W.only_asked W.may_ask W.right W.answers tags
         × GroupsFit W.fits W.sound W.only_asked W.is_first tags groups.old }
     requires tells { All (Tells W.left) groups.old }
-    requires turns { All (HasTurns (sum_by (left_of W.left) groups.old)) groups.old }
+    requires turns { All (HasTurns (sum_by (work_left W.left) groups.old)) groups.old }
     ensures { DrivesAt W.fits W.sound W.only_asked W.is_first W.left place groups.old groups.new result }
 {
     let (before, rest) = groups.split_at_mut(place);
@@ -242,7 +242,7 @@ fn finish_all<W: World + Drop>(groups: &mut [Group<W>]) -> Result<(), NoMemory>
     requires fits { (tags : List W.Tag) × CanAsk W.fits W.only_asked W.may_ask W.right W.answers tags
         × GroupsFit W.fits W.sound W.only_asked W.is_first tags groups.old }
     requires tells { All (Tells W.left) groups.old }
-    requires turns { All (HasTurns (sum_by (left_of W.left) groups.old)) groups.old }
+    requires turns { All (HasTurns (sum_by (work_left W.left) groups.old)) groups.old }
     ensures { Finishes W.fits W.sound W.only_asked W.is_first W.left groups.old groups.new result }
 {
     'groups: for place in 0..groups.len() {
@@ -258,7 +258,7 @@ pub fn finish<W: World + Drop>(groups: &mut Vec<Group<W>>) -> Result<(), NoMemor
     requires fits { (tags : List W.Tag) × CanAsk W.fits W.only_asked W.may_ask W.right W.answers tags
         × GroupsFit W.fits W.sound W.only_asked W.is_first tags groups.old.items }
     requires tells { All (Tells W.left) groups.old.items }
-    requires turns { All (HasTurns (sum_by (left_of W.left) groups.old.items)) groups.old.items }
+    requires turns { All (HasTurns (sum_by (work_left W.left) groups.old.items)) groups.old.items }
     ensures { Finishes W.fits W.sound W.only_asked W.is_first W.left
         groups.old.items groups.new.items result }
 {

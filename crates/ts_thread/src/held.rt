@@ -2,7 +2,7 @@
 
 ghost use Rattle.std.specs.Prelude.{◌≡◌, ◌<◌, true, false, OnOk, OnErr};
 ghost use Rattle.ts_group.specs.Answers.{Holds};
-ghost use Rattle.ts_thread.specs.Held.{HasTurn, IsGiven, BeginsSame, GivesBack, StartsInTurn};
+ghost use Rattle.ts_thread.specs.Held.{HasTurn, IsGivenBack, BeginsSame, GivesBack, StartsInTurn};
 
 use ts_group::{Group, World};
 use ts_link::NoMemory;
@@ -21,7 +21,7 @@ pub fn begin<W: World + Drop>(
     ensures begun { OnOk result (HasTurn group.old group.new turn seat) }
     ensures same { BeginsSame group.old group.new }
     ensures sound { Holds W.sound group.new }
-    ensures err { OnErr result (IsGiven group.old group.new turn seat
+    ensures err { OnErr result (IsGivenBack group.old group.new turn seat
         × (group.new.cx.log.state ≡ group.old.cx.log.state)) }
 {
     group.known();

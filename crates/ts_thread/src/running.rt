@@ -5,7 +5,7 @@ ghost use Rattle.ts_slot.specs.Limits.{most_groups};
 ghost use Rattle.ts_slot.specs.Words.{tags_of, view};
 ghost use Rattle.ts_thread.specs.Started.{CanStart, IsFirst, AllStarted, WereStarted};
 ghost use Rattle.ts_thread.specs.Tags.{CanAsk, GroupsFit};
-ghost use Rattle.ts_thread.specs.Threads.{IsPair, IsOpening, HasOpened, IsPlan, HasMade, turns_of};
+ghost use Rattle.ts_thread.specs.Threads.{IsPair, IsOpening, HasOpened, IsPlan, HasHadTurns, turns_of};
 
 use crate::desk::Desk;
 use crate::starting::start_all;
@@ -74,11 +74,11 @@ where
     requires count { (0 < length groups.items) × (length groups.items ≤ most_groups) }
     requires fits { GroupsFit W.fits W.sound W.only_asked W.is_first tags.items groups.items }
     requires plan { IsPlan W.only_asked tags.items starts threads budget }
-    requires new { All (HasMade 0) groups.items }
+    requires new { All (HasHadTurns 0) groups.items }
     requires asks { CanAsk W.fits W.only_asked W.may_ask W.right W.answers tags.items }
     ensures fits { IfOk result (λ gs.
         GroupsFit W.fits W.sound W.only_asked W.is_first tags.items gs.items) }
-    ensures turns { IfOk result (λ gs. All (HasMade (turns_of starts threads budget)) gs.items) }
+    ensures turns { IfOk result (λ gs. All (HasHadTurns (turns_of starts threads budget)) gs.items) }
     ensures started { IfOk result (λ gs.
         WereStarted (IsFirst W.is_first tags.items) W.begun W.sound starts gs.items) }
 {

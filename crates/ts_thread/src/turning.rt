@@ -6,7 +6,7 @@ ghost use Rattle.ts_group.specs.Slot.{trace_of};
 ghost use Rattle.ts_slot.specs.Words.{tags_of, view, IsSeatOf, IsTop};
 ghost use Rattle.ts_thread.specs.Asks.{AnswersAsked};
 ghost use Rattle.ts_thread.specs.Desks.{IsDeskOf, StaysDeskOf, LeavesDesk, KeepsDesk, ClosesDesk};
-ghost use Rattle.ts_thread.specs.Held.{HasTurn, IsGiven, BeginsSame, IsWorked, CanWork, FitsHere, WillFit};
+ghost use Rattle.ts_thread.specs.Held.{HasTurn, IsGivenBack, BeginsSame, IsWorked, CanWork, FitsHere, WillFit};
 ghost use Rattle.ts_thread.specs.Shown.{IsShown};
 ghost use Rattle.ts_thread.specs.Tags.{CanAsk};
 ghost use Rattle.ts_thread.specs.Turning.{Works, EndsTurn, Serves, Uses, IsOfToken};

@@ -4,7 +4,7 @@ ghost use Rattle.std.specs.Prelude.{◌<◌, ◌≤◌, length, All, IfOk};
 ghost use Rattle.ts_slot.specs.Limits.{most_groups};
 ghost use Rattle.ts_thread.specs.Started.{IsFirst};
 ghost use Rattle.ts_thread.specs.Tags.{CanAsk, GroupsFit};
-ghost use Rattle.ts_thread.specs.Threads.{IsPlan, HasMade, turns_of};
+ghost use Rattle.ts_thread.specs.Threads.{IsPlan, HasHadTurns, turns_of};
 ghost use Rattle.ts_thread.specs.Whole.{EndSoon, HaveEnded};
 
 use crate::ending::finish;
@@ -32,7 +32,7 @@ where
     requires count { (0 < length groups.items) × (length groups.items ≤ most_groups) }
     requires fits { GroupsFit W.fits W.sound W.only_asked W.is_first tags.items groups.items }
     requires plan { IsPlan W.only_asked tags.items starts threads budget }
-    requires new { All (HasMade 0) groups.items }
+    requires new { All (HasHadTurns 0) groups.items }
     requires asks { CanAsk W.fits W.only_asked W.may_ask W.right W.answers tags.items }
     requires ends { EndSoon W.Question W.Reply W.Trace W.fits W.sound W.only_asked W.is_first W.left
         (turns_of starts threads budget) }

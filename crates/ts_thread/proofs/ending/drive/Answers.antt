@@ -1,5 +1,5 @@
 use Rattle.std.proofs.Common.{arith}
-use Rattle.ts_thread.specs.Goings.{left_of, row}
+use Rattle.ts_thread.specs.Goings.{work_left, row}
 use Rattle.ts_thread.proofs.Rows.{driving_begins, driving_row, driving_goes_on, driving_stops, fits_on, turns_on}
 use Rattle.ts_thread.proofs.ending.drive.Goals as goal
 
@@ -19,7 +19,7 @@ step-requires-clause-turns g c =
     let less = was.less in
     let goes = driving_row g.W.Slotted.fits g.W.World.sound g.W.World.only_asked g.W.World.is_first g.W.World.left c.args.before.now c.events.before c.args.group.now c.events.group c.args.after.now c.events.after was in
     turns_on g.W.Slotted.fits g.W.World.sound g.W.World.only_asked g.W.World.is_first g.W.World.left (row c.args.before.now c.args.group.now c.args.after.now) (row c.events.before c.events.group c.events.after) was.turns
-    (left_of g.W.World.left c.args.group.now)
+    (work_left g.W.World.left c.args.group.now)
     goes
     (omega arith)
     c.requires.turns

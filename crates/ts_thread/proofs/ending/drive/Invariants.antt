@@ -1,4 +1,4 @@
-use Rattle.ts_thread.specs.Goings.{left_of}
+use Rattle.ts_thread.specs.Goings.{work_left}
 use Rattle.ts_thread.proofs.Rows.{IsDriving}
 use Rattle.ts_thread.proofs.ending.drive.Given as goal
 
@@ -6,4 +6,4 @@ abbrev pub invariant-events : goal.invariant-events
 invariant-events g l = IsDriving g.W.Slotted.fits g.W.World.sound g.W.World.only_asked g.W.World.is_first g.W.World.left l.initial.before l.before l.initial.group l.group l.initial.after l.after
 
 abbrev pub decreases-events : goal.decreases-events
-decreases-events g l = left_of g.W.World.left l.group
+decreases-events g l = work_left g.W.World.left l.group

@@ -1,5 +1,5 @@
 use Rattle.std.proofs.Common.{◌++◌, All, sum_by, refl, ap, subst}
-use Rattle.ts_thread.specs.Goings.{Tells, HasTurns, left_of, row}
+use Rattle.ts_thread.specs.Goings.{Tells, HasTurns, work_left, row}
 use Rattle.ts_thread.proofs.Rows.{all_middle, fewer_turns, left-le-sum}
 use Rattle.ts_thread.proofs.ending.drive_first.Goals as goal
 
@@ -14,8 +14,8 @@ drive-requires-clause-turns g c =
     let group = c.in-Some.group.now in
     let after = c.in-Some.after.now in
     let whole = row before group after in
-    fewer_turns g.W.Slotted.fits g.W.World.sound g.W.World.only_asked g.W.World.is_first g.W.World.left whole (sum_by (left_of g.W.World.left) whole) (left_of g.W.World.left group) (left-le-sum g.W.Slotted.fits g.W.World.sound g.W.World.only_asked g.W.World.is_first g.W.World.left before group after)
-    (subst (λ gs. All (HasTurns (sum_by (left_of g.W.World.left) (before ++ gs))) (before ++ gs)) c.in-Some.ensures.cases.0 c.requires.turns)
+    fewer_turns g.W.Slotted.fits g.W.World.sound g.W.World.only_asked g.W.World.is_first g.W.World.left whole (sum_by (work_left g.W.World.left) whole) (work_left g.W.World.left group) (left-le-sum g.W.Slotted.fits g.W.World.sound g.W.World.only_asked g.W.World.is_first g.W.World.left before group after)
+    (subst (λ gs. All (HasTurns (sum_by (work_left g.W.World.left) (before ++ gs))) (before ++ gs)) c.in-Some.ensures.cases.0 c.requires.turns)
 
 pub returns : goal.returns
 returns g c = record {

@@ -6,7 +6,7 @@ use Rattle.ts_slot.specs.Lists.{entries}
 use Rattle.ts_slot.specs.Words.{view}
 use Rattle.ts_thread.specs.Started.{CanStart, IsFirst, AllStarted}
 use Rattle.ts_thread.specs.Tags.{GroupFits}
-use Rattle.ts_thread.specs.Threads.{HasMade, turns_of}
+use Rattle.ts_thread.specs.Threads.{HasHadTurns, turns_of}
 use Rattle.ts_thread.proofs.Starts.{zip_from, all_from, few_entries, few_all, still_young, all_more, was_started}
 use Rattle.ts_thread.proofs.running.run_groups.Goals as goal
 
@@ -23,7 +23,7 @@ returns-clause-fits g c =
 
 pub returns-clause-turns : goal.returns-clause-turns
 returns-clause-turns g c =
-    all_from (HasMade (turns_of c.args.starts c.args.threads c.args.budget)) c.in-Ok-close.groups.items (λ k x at.
+    all_from (HasHadTurns (turns_of c.args.starts c.args.threads c.args.budget)) c.in-Ok-close.groups.items (λ k x at.
     let last = c.in-Ok-close.ensures.values k x at in
     let seat = view c.run_all-seat.result.0 in
     few_all x.cx.log.state.turns (entries k seat.turns) (length seat.turns) (length (view c.start_apart.new.seat).turns) c.args.starts (c.args.threads * (2 * c.args.budget)) last.stamped (few_entries k seat.turns) c.run_all-seat.ensures.back.keeps.turns c.in_ok-start_apart.ensures.opened.few)

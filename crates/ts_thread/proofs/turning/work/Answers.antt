@@ -1,6 +1,6 @@
 use Rattle.std.proofs.Common.{refl}
 use Rattle.ts_slot.specs.Words.{tags_of}
-use Rattle.ts_thread.specs.Asks.{Gives}
+use Rattle.ts_thread.specs.Asks.{GivesReply}
 use Rattle.ts_thread.proofs.Ends.{desk_added}
 use Rattle.ts_thread.proofs.Worked.{at_below, may_be_asked, answer_over, handles_goes, handles_due, handles_few, told_worked, told_due, asked_works, asked_shown}
 use Rattle.ts_thread.proofs.turning.work.Goals as goal
@@ -23,7 +23,7 @@ answered-requires-clause-asking g c =
       group = c.in-Asks.other;
       question = c.in-Asks.question;
       asking = keeps.0;
-      answer = answer_over (Gives g.W.Slotted.fits g.W.World.answers (tags_of c.args.slots.now)) (g.W.World.right c.handle.new.self.world) c.in-Asks.other c.in-Asks.question c.ask_other-asked.result c.ask_other-asked.ensures.answer (λ r. may.right c.in-Asks.question r);
+      answer = answer_over (GivesReply g.W.Slotted.fits g.W.World.answers (tags_of c.args.slots.now)) (g.W.World.right c.handle.new.self.world) c.in-Asks.other c.in-Asks.question c.ask_other-asked.result c.ask_other-asked.ensures.answer (λ r. may.right c.in-Asks.question r);
     }
 
 pub returns-in-Handled-clause-worked : goal.returns-in-Handled-clause-worked
