@@ -1,4 +1,6 @@
 mod Alone
+pub mod Ended
+mod Ends
 mod Entries
 mod Groups
 mod Joins
@@ -9,6 +11,5 @@ mod Seats
 mod Starts
 mod Telling
 mod Tokens
-mod Ends
 mod Uses
 mod Worked

@@ -10,7 +10,7 @@ use Rattle.ts_group.specs.declared.group.Group.{Group}
 use Rattle.ts_group.specs.declared.world.Asked.{Asked}
 use Rattle.ts_group.specs.declared.world.Asked.TheVariants as asked
 use Rattle.ts_group.specs.Answers.{Falls, LeavesLess, TellFalls, IsAnswer, KeepsTags}
-use Rattle.ts_thread.specs.declared.TheConstants.{MOST_TURNS}
+use Rattle.ts_slot.specs.Limits.{last_turn}
 use Rattle.ts_thread.specs.Tags.{GroupFits, GroupsFit, FitAround, CanAsk}
 use Rattle.ts_thread.specs.Goings.{GoesOn, AllGoOn, HasTurns, IsIdle, IsNoMiss, Tells, left_of, Drives, DrivesAt, Finishes}
 use Rattle.ts_thread.proofs.Moves.{goes_refl, goes_trans}
@@ -223,7 +223,7 @@ module _ {W Q R T U : Type 0} (Fits : T → W → Type 0) (Sound : W → State �
   turns_on [] (h ∷ hs) n m a le all = absurd a
   turns_on (g ∷ gs) [] n m a le all = absurd a
   turns_on (g ∷ gs) (h ∷ hs) n m a le all =
-      let young : g.cx.log.state.turns + m ≤ MOST_TURNS = All-head (HasTurns m) g gs all in
+      let young : g.cx.log.state.turns + m ≤ last_turn = All-head (HasTurns m) g gs all in
       let took : h.cx.log.state.turns ≤ g.cx.log.state.turns + n = a.0.took in
       All-cons (HasTurns 0) h hs (omega arith) (turns_on gs hs n m a.1 le (All-tail (HasTurns m) g gs all))
 
@@ -233,7 +233,7 @@ module _ {W Q R T U : Type 0} (Fits : T → W → Type 0) (Sound : W → State �
   spare_on [] (h ∷ hs) n m k a le all = absurd a
   spare_on (g ∷ gs) [] n m k a le all = absurd a
   spare_on (g ∷ gs) (h ∷ hs) n m k a le all =
-      let young : g.cx.log.state.turns + m ≤ MOST_TURNS = All-head (HasTurns m) g gs all in
+      let young : g.cx.log.state.turns + m ≤ last_turn = All-head (HasTurns m) g gs all in
       let took : h.cx.log.state.turns ≤ g.cx.log.state.turns + n = a.0.took in
       All-cons (HasTurns k) h hs (omega arith) (spare_on gs hs n m k a.1 le (All-tail (HasTurns m) g gs all))
 

@@ -14,7 +14,7 @@ use Rattle.ts_group.specs.declared.slot.TheConstants.{MOST_IN_TURN}
 use Rattle.ts_group.specs.Answers.{Holds, LeavesLess, KeepsTags, SetsAtMost}
 use Rattle.ts_group.specs.Changes.{StaysInTurn}
 use Rattle.ts_group.specs.Due.{IsDueFirst}
-use Rattle.ts_thread.specs.declared.TheConstants.{MOST_TURNS}
+use Rattle.ts_slot.specs.Limits.{last_turn}
 use Rattle.ts_thread.specs.Alone.{HandlesDue, TakesTurns}
 use Rattle.ts_thread.specs.Tags.{GroupFits}
 
@@ -77,7 +77,7 @@ AllGoOn Fits Sound only_asked is_first Left old new turns =
 
 -- the group can have so many turns more
 abbrev pub HasTurns : {W Q R T U : Type 0} → ℕ → Group W Q R T U → Type 0
-HasTurns more g = g.cx.log.state.turns + more ≤ MOST_TURNS
+HasTurns more g = g.cx.log.state.turns + more ≤ last_turn
 
 -- the event of this number is due first of all that is pending, at this moment
 abbrev pub IsDue : {W Q R T U : Type 0} → Group W Q R T U → ℕ → ℕ → Type 0

@@ -14,3 +14,4 @@ pub mod Tags
 pub mod Threads
 pub mod Tokens
 pub mod Turning
+pub mod Whole

@@ -8,9 +8,9 @@ use Rattle.ts_queue.specs.Passes.{IsPassOf, view as known_of}
 use Rattle.ts_queue.specs.Views.{first_view}
 use Rattle.ts_slot.specs.declared.seat.Seat.{Seat}
 use Rattle.ts_slot.specs.declared.slots.Slots.{Slots}
-use Rattle.ts_slot.specs.Limits.{whole_share}
+use Rattle.ts_slot.specs.Limits.{whole_share, last_turn}
 use Rattle.ts_slot.specs.Words.{view, IsSeatOf}
-use Rattle.ts_thread.specs.declared.TheConstants.{MOST_THREADS, MOST_TURNS}
+use Rattle.ts_thread.specs.declared.TheConstants.{MOST_THREADS}
 use Rattle.ts_thread.specs.Seats.{Keeps}
 use Rattle.ts_thread.specs.Started.{CanStart}
 
@@ -29,7 +29,7 @@ pub record IsPlan {T : Type 0} (only_asked : T → Bool) (tags : List T)
   pub tagged : CanStart only_asked tags starts
   pub some : 0 < threads
   pub most : threads ≤ MOST_THREADS
-  pub turns : turns_of starts threads budget + 1 < MOST_TURNS
+  pub turns : turns_of starts threads budget + 1 < last_turn
 
 -- the pass has the share that the other had
 abbrev pub KeepsShare : QueuePass → QueuePass → Type 0

@@ -17,17 +17,19 @@ mod tests;
 mod thread;
 mod threads;
 mod turning;
+mod whole;
 
 pub use did::{Did, RunEnd};
 pub use ending::{ONLY_SEAT, finish};
 pub use running::run_groups;
 pub use thread::EventThread;
-
-/// How many turns a group can have.
-pub const MOST_TURNS: u64 = 1 << 63;
+pub use whole::run_whole;
 
 /// How many threads run groups at most.
 pub const MOST_THREADS: u32 = 64;
 
 /// How many milliseconds after a miss a token is due again.
 pub const PUT_BACK: u64 = 10;
+
+/// How much is left to do to a group at most, where many groups are run and then driven to their end.
+pub const MOST_LEFT: u64 = 1 << 50;

@@ -1,0 +1,81 @@
+-- Groups that can be driven to their end, and that were.
+use Rattle.std.proofs.Common.{◌≡◌, ℕ, zero, suc, ◌*◌, ◌≤◌, inr, List, [], ◌∷◌, length, Bool, Option, All, refl, ap, subst, arith}
+use mathlib.Core.Option.{some}
+use lib.ListN.{get_elem?}
+use Rattle.std.specs.List.{AllZip, sum_by}
+use Rattle.std.proofs.lemmas.List.Sums.{sum_by-le}
+use Rattle.std.proofs.lemmas.List.Elements.{All-nil, All-cons, All-head, All-tail, All-weaker}
+use Rattle.ts_journal.specs.State.{State}
+use Rattle.ts_journal.proofs.Later.{follows_trans}
+use Rattle.ts_group.specs.declared.action.Named.{Named}
+use Rattle.ts_group.specs.declared.group.Group.{Group}
+use Rattle.ts_group.specs.Slot.{trace_of}
+use Rattle.ts_slot.specs.Limits.{most_groups}
+use Rattle.ts_thread.specs.declared.TheConstants.{MOST_LEFT}
+use Rattle.ts_thread.specs.Tags.{GroupsFit}
+use Rattle.ts_thread.specs.Goings.{IsLaterGroup, AllGoOn, IsIdle, HasTurns, Tells, left_of}
+use Rattle.ts_thread.specs.Started.{WereStarted, WasStarted}
+use Rattle.ts_thread.specs.Threads.{HasMade}
+use Rattle.ts_thread.specs.Whole.{EndSoon, HaveEnded}
+use Rattle.ts_thread.proofs.Rows.{fits_on}
+
+pub fit_count : {A B : Type 0} (P : A → B → Type 0) (ts : List A) (gs : List B) → AllZip P ts gs → length gs ≡ length ts
+fit_count P [] [] fit = refl
+fit_count P [] (g ∷ gs) fit = absurd fit
+fit_count P (t ∷ ts) [] fit = absurd fit
+fit_count P (t ∷ ts) (g ∷ gs) fit = let e = fit_count P ts gs fit.1 in omega arith
+
+module _ {W Q R T U : Type 0} (Fits : T → W → Type 0) (Sound : W → State → List Named → Type 0) (oa isf : T → Bool) where
+  module _ (Left : W → State → Option ℕ) where
+    all_tell : (turns : ℕ) (ts : List T) (gs : List (Group W Q R T U)) → EndSoon Q R U Fits Sound oa isf Left turns → GroupsFit Fits Sound oa isf ts gs → All (HasMade turns) gs → All (Tells Left) gs
+    all_tell turns [] [] ends fit few = All-nil (Tells Left)
+    all_tell turns [] (g ∷ gs) ends fit few = absurd fit
+    all_tell turns (t ∷ ts) [] ends fit few = absurd fit
+    all_tell turns (t ∷ ts) (g ∷ gs) ends fit few =
+        All-cons (Tells Left) g gs (ends.each t g fit.0 (All-head (HasMade turns) g gs few)).0 (all_tell turns ts gs ends fit.1 (All-tail (HasMade turns) g gs few))
+
+    all_little : (turns : ℕ) (ts : List T) (gs : List (Group W Q R T U)) → EndSoon Q R U Fits Sound oa isf Left turns → GroupsFit Fits Sound oa isf ts gs → All (HasMade turns) gs → All (λ g. left_of Left g ≤ MOST_LEFT) gs
+    all_little turns [] [] ends fit few = All-nil (λ g. left_of Left g ≤ MOST_LEFT)
+    all_little turns [] (g ∷ gs) ends fit few = absurd fit
+    all_little turns (t ∷ ts) [] ends fit few = absurd fit
+    all_little turns (t ∷ ts) (g ∷ gs) ends fit few =
+        All-cons (λ h. left_of Left h ≤ MOST_LEFT) g gs (ends.each t g fit.0 (All-head (HasMade turns) g gs few)).1 (all_little turns ts gs ends fit.1 (All-tail (HasMade turns) g gs few))
+
+    -- so many groups at most tell what is left to do, and have turns enough for it
+    pub can_finish : (turns : ℕ) (ts : List T) (gs : List (Group W Q R T U)) → length gs ≤ most_groups → EndSoon Q R U Fits Sound oa isf Left turns → GroupsFit Fits Sound oa isf ts gs → All (HasMade turns) gs
+        → All (Tells Left) gs × All (HasTurns (sum_by (left_of Left) gs)) gs
+    can_finish turns ts gs count ends fit few =
+        let low = ends.few in
+        let sum : sum_by (left_of Left) gs ≤ length gs * MOST_LEFT = sum_by-le (left_of Left) MOST_LEFT gs (all_little turns ts gs ends fit few) in (
+          all_tell turns ts gs ends fit few,
+          All-weaker (HasMade turns) (HasTurns (sum_by (left_of Left) gs)) (λ g h. omega arith) gs few,
+        )
+
+  -- a group that follows one that was started, follows it still when it went on
+  later_started : (First : ℕ → ℕ → Type 0) (Begun : W → W → Type 0) (k : ℕ) (g h : Group W Q R T U) → IsLaterGroup g h → WasStarted First Begun Sound k g → WasStarted First Begun Sound k h
+  later_started First Begun k g h later was = record {
+    found = was.found;
+    started = was.started;
+    first = was.first;
+    begun = was.begun;
+    sound = was.sound;
+    follows = follows_trans (trace_of h.cx) (trace_of g.cx) (trace_of was.started.cx) (inr (ap (λ (s : State). s.turns) later.base, later.later)) was.follows;
+  }
+
+  -- the group from which one went on
+  back_at : (Left : W → State → Option ℕ) (turns : ℕ) (gs hs : List (Group W Q R T U)) (k : ℕ) (h : Group W Q R T U) → AllGoOn Fits Sound oa isf Left gs hs turns → get_elem? hs k ≡ some h
+      → (g : Group W Q R T U) × (get_elem? gs k ≡ some g) × IsLaterGroup g h
+  back_at Left turns [] [] k h a e = absurd (cc)
+  back_at Left turns [] (y ∷ ys) k h a e = absurd a
+  back_at Left turns (x ∷ xs) [] k h a e = absurd a
+  back_at Left turns (x ∷ xs) (y ∷ ys) zero h a e = let is : y ≡ h = cc in (x, refl, subst (λ (z : Group W Q R T U). IsLaterGroup x z) is a.0.later)
+  back_at Left turns (x ∷ xs) (y ∷ ys) (suc k) h a e = back_at Left turns xs ys k h a.1 e
+
+  -- groups that threads ran and that went on to their end
+  pub have_ended : (Left : W → State → Option ℕ) (First : ℕ → ℕ → Type 0) (Begun : W → W → Type 0) (tags : List T) (starts turns : ℕ) (old new : List (Group W Q R T U)) → GroupsFit Fits Sound oa isf tags old
+      → WereStarted First Begun Sound starts old → AllGoOn Fits Sound oa isf Left old new turns → All IsIdle new → HaveEnded Fits Sound oa isf First Begun tags starts new
+  have_ended Left First Begun tags starts turns old new fits started goes idle = record {
+    fits = fits_on Fits Sound oa isf Left tags old new turns fits goes;
+    idle = idle;
+    started = λ k h low there. let was = back_at Left turns old new k h goes there in later_started First Begun k was.0 h was.2 (started k was.0 low was.1);
+  }

@@ -1,0 +1,162 @@
+//! A row of peers, of which the last is only asked.
+
+ghost use Rattle.std.specs.Prelude.{◌≡◌, ◌<◌, ◌≤◌, true, false, All, IfOk, OnOk};
+ghost use Rattle.ts_thread.specs.declared.TheConstants.{MOST_THREADS};
+ghost use Rattle.ts_thread.specs.Goings.{IsIdle};
+ghost use Rattle.ts_thread_tests.specs.Peers.{IsPeer, AreRow, row_tags};
+
+use crate::peer::{ASKED, MOST_TODO, Peer};
+use std::alloc::Global;
+use std::sync::Wait;
+use std::thread::Threads;
+use ts_group::Group;
+use ts_journal::Entry;
+use ts_link::{Gate, NoMemory};
+use ts_thread::{ONLY_SEAT, finish, run_whole};
+
+/// How many turns each thread takes at most.
+const BUDGET: u64 = 1_000_000;
+
+/// What stands at the end.
+#[derive(Clone, Copy, Debug, PartialEq, Eq)]
+pub struct Tally {
+    pub groups: usize,
+    pub pending: u64,
+    /// How many steps are left.
+    pub todo: u64,
+    /// How many questions the last group was asked.
+    pub questions: u64,
+}
+
+// Starts a peer in its first turn.
+fn start_worker(mut group: Group<Peer>) -> Result<Group<Peer>, NoMemory>
+    requires fits { IsPeer false group }
+    requires new { group.cx.log.state.turns ≡ 0 }
+    ensures fits { IfOk result (λ g. IsPeer false g) }
+    ensures few { IfOk result (λ g. g.cx.log.state.turns ≤ 1) }
+{
+    group.begin_turn(1, ONLY_SEAT, 0)?;
+    group.start();
+    group.give_turn();
+    Ok(group)
+}
+
+// A peer that works by itself or asks, and was started or not.
+fn make_worker(alloc: Global, asks: bool, todo: u32, started: bool) -> Result<Group<Peer>, NoMemory>
+    requires { todo ≤ MOST_TODO }
+    ensures fits { IfOk result (λ g. IsPeer false g) }
+    ensures few { IfOk result (λ g. g.cx.log.state.turns ≤ 1) }
+    ensures new { started ≡ false → IfOk result (λ g. g.cx.log.state.turns ≤ 0) }
+{
+    let peer = Peer {
+        only_asked: false,
+        asks,
+        todo,
+        last: 0,
+        main: None,
+    };
+    let group = Group::make(alloc, peer, 0)?;
+    if started {
+        return start_worker(group);
+    }
+    Ok(group)
+}
+
+// A peer that is only asked.
+fn make_asked(alloc: Global) -> Result<Group<Peer>, NoMemory>
+    ensures fits { IfOk result (λ g. IsPeer true g) }
+    ensures new { IfOk result (λ g. g.cx.log.state.turns ≤ 0) }
+{
+    let peer = Peer {
+        only_asked: true,
+        asks: false,
+        todo: 0,
+        last: 0,
+        main: None,
+    };
+    Group::make(alloc, peer, 0)
+}
+
+/// A row of peers with so many steps each, of which every other one asks. They were started or not.
+pub fn make_row(alloc: Global, todo: u32, started: bool) -> Result<Vec<Group<Peer>>, NoMemory>
+    requires { todo ≤ MOST_TODO }
+    ensures row { IfOk result (λ gs. AreRow 1 gs.items) }
+    ensures new { started ≡ false → IfOk result (λ gs. AreRow 0 gs.items) }
+{
+    let mut groups = Vec::new(alloc);
+    'workers: for place in 0..ASKED {
+        let group = make_worker(alloc, place % 2 == 0, todo, started)?;
+        groups.push(group)?;
+    }
+    groups.push(make_asked(alloc)?)?;
+    Ok(groups)
+}
+
+/// Drives a row to its end on this thread.
+pub fn drive_row(groups: &mut Vec<Group<Peer>>) -> Result<(), NoMemory>
+    requires { AreRow 1 groups.old.items }
+    ensures { OnOk result (All IsIdle groups.new.items) }
+{
+    finish(groups)
+}
+
+/// Runs a row that was not started by so many threads, and drives it to its end.
+pub fn run_row<G: Gate + Sync, R: Threads + Wait + Sync>(
+    rt: &R,
+    alloc: Global,
+    todo: u32,
+    threads: u32,
+    gate: &G,
+) -> Result<Vec<Group<Peer>>, NoMemory>
+    requires todo { todo ≤ MOST_TODO }
+    requires threads { (0 < threads) × (threads ≤ MOST_THREADS) }
+    ensures { IfOk result (λ gs. All IsIdle gs.items) }
+{
+    let groups = make_row(alloc, todo, false)?;
+    let tags = make_tags(alloc)?;
+    run_whole(rt, alloc, groups, tags, ASKED, threads, BUDGET, gate)
+}
+
+// The tags of a row.
+fn make_tags(alloc: Global) -> Result<Vec<bool>, NoMemory>
+    ensures { IfOk result (λ tags. tags.items ≡ row_tags ASKED) }
+{
+    let mut tags = Vec::new(alloc);
+    'workers: for _place in 0..ASKED {
+        tags.push(false)?;
+    }
+    tags.push(true)?;
+    Ok(tags)
+}
+
+/// What stands in a row at the end.
+pub fn tally_of(groups: &[Group<Peer>]) -> Tally {
+    let mut tally = Tally {
+        groups: groups.len(),
+        pending: 0,
+        todo: 0,
+        questions: 0,
+    };
+    for group in groups {
+        let counts = group.journal().counts();
+        tally.pending = tally.pending.wrapping_add(counts.pending);
+        tally.todo = tally.todo.wrapping_add(u64::from(group.world().todo));
+        if group.world().only_asked {
+            tally.questions = tally.questions.wrapping_add(counts.handled);
+        }
+    }
+    tally
+}
+
+/// The seat of the turn in which a journal's first event was handled.
+pub fn first_seat(entries: &[Entry]) -> Option<u64> {
+    let mut owner = None;
+    for entry in entries {
+        match entry {
+            Entry::Took { seat, .. } => owner = Some(*seat),
+            Entry::Handled { .. } => return owner,
+            _ => {}
+        }
+    }
+    None
+}
