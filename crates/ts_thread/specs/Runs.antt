@@ -1,11 +1,9 @@
 -- Turns of a thread, one after the other, and why a run of them ended.
-use Rattle.std.specs.Prelude.{◌≡◌, ℕ, zero, suc, ◌+◌, ◌<◌, List, [], Some, length}
+use Rattle.std.specs.Prelude.{◌≡◌, ℕ, zero, suc, ◌<◌, List, [], Some}
 use Rattle.ts_journal.specs.declared.slotted.Slotted.{Ghosts}
 use Rattle.ts_journal.specs.State.{State}
 use Rattle.ts_group.specs.declared.group.Group.{Group}
 use Rattle.ts_queue.specs.declared.ticket.Token.{Token}
-use Rattle.ts_queue.specs.Passes.{empties_of}
-use Rattle.ts_slot.specs.Words.{view}
 use Rattle.ts_wheel.specs.Due.{next_moment}
 use Rattle.ts_thread.specs.declared.desk.Desk.{Desk}
 use Rattle.ts_thread.specs.declared.did.Did.{Did}
@@ -42,8 +40,3 @@ module _ {W Q R T U : Type 0} {d : Ghosts (Group W Q R T U) T (ℕ × State)} wh
   HasRunTo groups budget old new end.Idle =
       (made : ℕ) × (made < budget) × (mid : Desk (Group W Q R T U) T (ℕ × State) d) × (moment : ℕ)
       × Turns groups made old mid moment × StaysIdle groups moment mid new × (new.wheel ≡ [])
-
-module _ {X G T : Type 0} {d : Ghosts X G T} where
-  -- what the desk counts: turns, misses, and how often the queue was found empty
-  abbrev pub desk_counts : Desk X G T d → ℕ
-  desk_counts desk = length (view desk.seat).turns + length (view desk.seat).misses + empties_of desk.pass
