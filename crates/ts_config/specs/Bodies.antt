@@ -14,11 +14,13 @@ without_byte byte x = filter (λ b. not (b == byte)) x
 
 -- what a line makes of a whole body
 abbrev pub whole_of : TransformLine → List ℕ → List ℕ
+whole_of t.Null x = x
 whole_of (t.Append file text) x = x ++ text
+whole_of t.Bnull x = x
 whole_of (t.Prepend text) x = text ++ x
 whole_of (t.Map from to) x = mapped from to x
 whole_of (t.Drop byte) x = without_byte byte x
-whole_of _ x = x
+whole_of (t.Delay ms) x = x
 
 -- what the lines make of a whole body, the first line acting first
 abbrev pub compose_lines : List TransformLine → List ℕ → List ℕ
