@@ -9,7 +9,6 @@ use Rattle.ts_journal.specs.State.{State}
 use Rattle.ts_journal.proofs.Later.{follows_trans}
 use Rattle.ts_group.specs.declared.action.Named.{Named}
 use Rattle.ts_group.specs.declared.group.Group.{Group}
-use Rattle.ts_group.specs.Slot.{trace_of}
 use Rattle.ts_slot.specs.Limits.{most_groups}
 use Rattle.ts_thread.specs.declared.TheConstants.{MOST_LEFT}
 use Rattle.ts_thread.specs.Tags.{GroupsFit}
@@ -59,7 +58,7 @@ module _ {W Q R T U : Type 0} (Fits : T → W → Type 0) (Sound : W → State �
     first = was.first;
     begun = was.begun;
     sound = was.sound;
-    follows = follows_trans (trace_of h.cx) (trace_of g.cx) (trace_of was.started.cx) (inr (ap (λ (s : State). s.turns) later.base, later.later)) was.follows;
+    follows = follows_trans (h.cx.log.base.turns, h.cx.log.state) (g.cx.log.base.turns, g.cx.log.state) (was.started.cx.log.base.turns, was.started.cx.log.state) (inr (ap (λ (s : State). s.turns) later.base, later.later)) was.follows;
   }
 
   -- the group from which one went on

@@ -3,9 +3,8 @@ use Rattle.std.proofs.Common.{◌≡◌, ℕ, suc, ◌+◌, ◌<◌, ◌≤◌, 
 use Rattle.std.specs.Prelude.{Result, Ok, Err, IfOk}
 use Rattle.ts_journal.specs.declared.slotted.Slotted.{Ghosts}
 use Rattle.ts_journal.specs.State.{State, pending_at}
-use Rattle.ts_journal.specs.Later.{Follows}
 use Rattle.ts_group.specs.declared.group.Group.{Group}
-use Rattle.ts_group.specs.Slot.{trace_of}
+use Rattle.ts_group.specs.Standing.{StandsAfter}
 use Rattle.ts_queue.specs.declared.queue.EventQueue.{EventQueue}
 use Rattle.ts_queue.specs.declared.ticket.Token.{Token}
 use Rattle.ts_queue.specs.declared.view.View.{View as Known}
@@ -100,8 +99,8 @@ module _ {X G T : Type 0} {d : Ghosts X G T} where
   pub finds_share : (groups moment : ℕ) (a b : Desk X G T d) → FindsNothing groups moment a b → (pass_view b.pass).share ≡ (pass_view a.pass).share
   finds_share groups moment a b finds = ap (λ (x : Known). x.share) finds.none.lets_go.is
 
-module _ {W Q R T U : Type 0} {d : Ghosts (Group W Q R T U) T (ℕ × State)} where
-  pub serve_ends : (token : Token) (k turn moment : ℕ) (found v1 begun v2 now : Group W Q R T U) (old worked new : Desk (Group W Q R T U) T (ℕ × State) d) (answer : Did) → k ≡ token.group → v1 ≡ found → BeginsSame v1 begun
+module _ {W Q R T U : Type 0} {d : Ghosts (Group W Q R T U) T (Group W Q R T U)} where
+  pub serve_ends : (token : Token) (k turn moment : ℕ) (found v1 begun v2 now : Group W Q R T U) (old worked new : Desk (Group W Q R T U) T (Group W Q R T U) d) (answer : Did) → k ≡ token.group → v1 ≡ found → BeginsSame v1 begun
       → begun.cx.news_from ≡ v1.cx.news_from → v2 ≡ begun → now.cx.news_from ≡ v2.cx.news_from → Works token old worked answer → IsShown v2.cx.log.state now.cx.log.state token.number moment answer
       → LeavesDesk worked new → EndsTurn k turn moment now worked new → Serves token moment turn found old new answer
   serve_ends token k turn moment found v1 begun v2 now old worked new answer group is same begun_from is2 now_from works shown leaves ends =
@@ -123,19 +122,19 @@ module _ {W Q R T U : Type 0} {d : Ghosts (Group W Q R T U) T (ℕ × State)} wh
         left = ends.left;
         shows = shown_over v2.cx.log.state found.cx.log.state now.cx.log.state ends.left.cx.log.state token.number moment answer pending handled ends.pending ends.handled shown;
         told = subst (λ x. HasTold x moment found ends.left worked new) group told';
-        knows = subst (λ x. KnowsTurn x turn (trace_of ends.left.cx) (view new.seat).known) group ends.knows;
+        knows = subst (λ x. KnowsTurn x turn ends.left (view new.seat).known) group ends.knows;
         leaves = leaves.seat;
       }
 
-  pub uses_of : (token : Token) (moment turn : ℕ) (found value : Group W Q R T U) (old entered new : Desk (Group W Q R T U) T (ℕ × State) d) → found ≡ value
-      → IsAfter Follows token.group turn (trace_of value.cx) (view old.seat).known → view entered.seat ≡ won token.group turn (trace_of value.cx) (view old.seat) → entered.wheel ≡ old.wheel → entered.pass ≡ old.pass
+  pub uses_of : (token : Token) (moment turn : ℕ) (found value : Group W Q R T U) (old entered new : Desk (Group W Q R T U) T (Group W Q R T U) d) → found ≡ value
+      → IsAfter StandsAfter token.group turn value (view old.seat).known → view entered.seat ≡ won token.group turn value (view old.seat) → entered.wheel ≡ old.wheel → entered.pass ≡ old.pass
       → (answer : Did) → Serves token moment turn found entered new answer → Uses token moment old new answer
   uses_of token moment turn found value old entered new is after wins wheel pass answer serves = by_answer answer (record {
     turn = turn;
     found = found;
-    after = subst (λ (x : Group W Q R T U). IsAfter Follows token.group turn (trace_of x.cx) (view old.seat).known) (sym is) after;
+    after = subst (λ (x : Group W Q R T U). IsAfter StandsAfter token.group turn x (view old.seat).known) (sym is) after;
     entered = entered;
-    wins = subst (λ (x : Group W Q R T U). view entered.seat ≡ won token.group turn (trace_of x.cx) (view old.seat)) (sym is) wins;
+    wins = subst (λ (x : Group W Q R T U). view entered.seat ≡ won token.group turn x (view old.seat)) (sym is) wins;
     wheel = wheel;
     pass = pass;
     serves = serves;
@@ -149,7 +148,7 @@ module _ {W Q R T U : Type 0} {d : Ghosts (Group W Q R T U) T (ℕ × State)} wh
       by_answer (did.NotDue due) h = h
       by_answer did.Idle h = absurd h.serves.shows
 
-  pub takes_one : (groups moment : ℕ) (token : Token) (old taken new : Desk (Group W Q R T U) T (ℕ × State) d) → Gets groups moment old taken token → (answer : Did) → Uses token moment taken new answer → IsDid groups moment old new answer
+  pub takes_one : (groups moment : ℕ) (token : Token) (old taken new : Desk (Group W Q R T U) T (Group W Q R T U) d) → Gets groups moment old taken token → (answer : Did) → Uses token moment taken new answer → IsDid groups moment old new answer
   takes_one groups moment token old taken new gets (did.Ran events) uses = record { token = token; taken = taken; gets = gets; uses = uses }
   takes_one groups moment token old taken new gets (did.PutBack group seen) uses = record { token = token; taken = taken; gets = gets; uses = uses }
   takes_one groups moment token old taken new gets (did.AskMissed group seen) uses = record { token = token; taken = taken; gets = gets; uses = uses }
@@ -158,7 +157,7 @@ module _ {W Q R T U : Type 0} {d : Ghosts (Group W Q R T U) T (ℕ × State)} wh
   takes_one groups moment token old taken new gets did.Idle uses = absurd uses
 
   -- one turn more
-  pub turns_more : (groups made : ℕ) (old mid new : Desk (Group W Q R T U) T (ℕ × State) d) (at moment : ℕ) (answer : Did) → Turns groups made old mid at → IsDid groups at mid new answer → IsNextMoment answer new.wheel at moment
+  pub turns_more : (groups made : ℕ) (old mid new : Desk (Group W Q R T U) T (Group W Q R T U) d) (at moment : ℕ) (answer : Did) → Turns groups made old mid at → IsDid groups at mid new answer → IsNextMoment answer new.wheel at moment
       → Turns groups (made + 1) old new moment
   turns_more groups made old mid new at moment answer turns is next =
       let e : suc made ≡ made + 1 = omega arith in subst (λ n. Turns groups n old new moment) e (mid, at, turns, answer, is, next)

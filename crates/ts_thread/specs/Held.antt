@@ -40,6 +40,7 @@ module _ {W Q R T U : Type 0} where
         → Contains (marks_of found.cx.log.entries) mark ⊎ (mark ≡ (turn, seat))
     pub later : IsLater found.cx.log.state left.cx.log.state
     pub base : left.cx.log.base ≡ found.cx.log.base
+    pub rose : found.cx.news_from ≤ left.cx.news_from
 
   -- a group goes on in the turn that it has
   pub record GoesInTurn (Fits : T → W → Type 0) (old new : Group W Q R T U) : Type 0 where

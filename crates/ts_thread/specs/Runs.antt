@@ -1,7 +1,6 @@
 -- Turns of a thread, one after the other, and why a run of them ended.
 use Rattle.std.specs.Prelude.{◌≡◌, ℕ, zero, suc, ◌<◌, List, [], Some}
 use Rattle.ts_journal.specs.declared.slotted.Slotted.{Ghosts}
-use Rattle.ts_journal.specs.State.{State}
 use Rattle.ts_group.specs.declared.group.Group.{Group}
 use Rattle.ts_queue.specs.declared.ticket.Token.{Token}
 use Rattle.ts_wheel.specs.Due.{next_moment}
@@ -22,21 +21,21 @@ IsNextMoment (did.AskMissed group seen) wheel now next = next ≡ now
 IsNextMoment did.Stale wheel now next = next ≡ now
 IsNextMoment (did.NotDue due) wheel now next = next ≡ now
 
-module _ {W Q R T U : Type 0} {d : Ghosts (Group W Q R T U) T (ℕ × State)} where
+module _ {W Q R T U : Type 0} {d : Ghosts (Group W Q R T U) T (Group W Q R T U)} where
   -- So many turns were made, the first at the moment 0, and this is the moment of the next one. None of them
   -- was idle and left the wheel empty.
-  abbrev pub Turns : ℕ → ℕ → Desk (Group W Q R T U) T (ℕ × State) d
-      → Desk (Group W Q R T U) T (ℕ × State) d → ℕ → Type 0
+  abbrev pub Turns : ℕ → ℕ → Desk (Group W Q R T U) T (Group W Q R T U) d
+      → Desk (Group W Q R T U) T (Group W Q R T U) d → ℕ → Type 0
   Turns groups zero old new moment = (new ≡ old) × (moment ≡ 0)
   Turns groups (suc made) old new moment =
-      (mid : Desk (Group W Q R T U) T (ℕ × State) d) × (at : ℕ) × Turns groups made old mid at
+      (mid : Desk (Group W Q R T U) T (Group W Q R T U) d) × (at : ℕ) × Turns groups made old mid at
       × (answer : Did) × IsDid groups at mid new answer × IsNextMoment answer new.wheel at moment
 
   -- Where the budget was used up, so many turns were made, none of them idle over an empty wheel; else the
   -- last turn of fewer or as many was.
-  abbrev pub HasRunTo : ℕ → ℕ → Desk (Group W Q R T U) T (ℕ × State) d
-      → Desk (Group W Q R T U) T (ℕ × State) d → RunEnd → Type 0
+  abbrev pub HasRunTo : ℕ → ℕ → Desk (Group W Q R T U) T (Group W Q R T U) d
+      → Desk (Group W Q R T U) T (Group W Q R T U) d → RunEnd → Type 0
   HasRunTo groups budget old new end.Budget = (moment : ℕ) × Turns groups budget old new moment
   HasRunTo groups budget old new end.Idle =
-      (made : ℕ) × (made < budget) × (mid : Desk (Group W Q R T U) T (ℕ × State) d) × (moment : ℕ)
+      (made : ℕ) × (made < budget) × (mid : Desk (Group W Q R T U) T (Group W Q R T U) d) × (moment : ℕ)
       × Turns groups made old mid moment × StaysIdle groups moment mid new × (new.wheel ≡ [])

@@ -4,11 +4,11 @@ use Rattle.std.specs.Bool.{OnTrue}
 use mathlib.Core.Option.{some}
 use lib.ListN.{get_elem?}
 use Rattle.ts_journal.specs.State.{State}
-use Rattle.ts_journal.specs.Later.{IsLater, Follows}
+use Rattle.ts_journal.specs.Later.{IsLater}
 use Rattle.ts_group.specs.declared.action.Named.{Named}
 use Rattle.ts_group.specs.declared.group.Group.{Group}
 use Rattle.ts_group.specs.Answers.{Holds}
-use Rattle.ts_group.specs.Slot.{trace_of}
+use Rattle.ts_group.specs.Standing.{FollowsGroup}
 use Rattle.ts_slot.specs.Lists.{IsIn}
 use Rattle.ts_thread.specs.Seats.{KnowsTurn}
 
@@ -25,14 +25,14 @@ module _ {W Q R T U : Type 0} where
   -- A seat started the group k in a turn, and knows what stood after it.
   pub record Starts (First : ℕ → ℕ → Type 0) (Begun : W → W → Type 0)
       (Sound : W → State → List Named → Type 0)
-      (k turn : ℕ) (found started left : Group W Q R T U) (known : List (ℕ × ℕ × (ℕ × State))) : Type 0 where
+      (k turn : ℕ) (found started left : Group W Q R T U) (known : List (ℕ × ℕ × Group W Q R T U)) : Type 0 where
     pub first : First k started.cx.log.base.turns
-    pub stood : IsIn (k, turn - 1, trace_of found.cx) known
+    pub stood : IsIn (k, turn - 1, found) known
     pub begun : Begun found.world started.world
     pub sound : Holds Sound started
     pub base : left.cx.log.base ≡ started.cx.log.base
     pub later : IsLater started.cx.log.state left.cx.log.state
-    pub knows : KnowsTurn k turn (trace_of left.cx) known
+    pub knows : KnowsTurn k turn left known
 
   -- The group k follows one that was started.
   pub record WasStarted (First : ℕ → ℕ → Type 0) (Begun : W → W → Type 0)
@@ -43,7 +43,7 @@ module _ {W Q R T U : Type 0} where
     pub first : First k started.cx.log.base.turns
     pub begun : Begun found.world started.world
     pub sound : Holds Sound started
-    pub follows : Follows (trace_of now.cx) (trace_of started.cx)
+    pub follows : FollowsGroup now started
 
   -- each of the first so many groups follows one that was started
   abbrev pub WereStarted : (ℕ → ℕ → Type 0) → (W → W → Type 0) → (W → State → List Named → Type 0) → ℕ
@@ -54,7 +54,7 @@ module _ {W Q R T U : Type 0} where
 
 -- A seat started the group k in a turn that it had.
 pub record Started {W : Type 0} (Q R T U : Type 0) (First : ℕ → ℕ → Type 0) (Begun : W → W → Type 0)
-    (Sound : W → State → List Named → Type 0) (known : List (ℕ × ℕ × (ℕ × State))) (k : ℕ) : Type 0 where
+    (Sound : W → State → List Named → Type 0) (known : List (ℕ × ℕ × Group W Q R T U)) (k : ℕ) : Type 0 where
   pub turn : ℕ
   pub found : Group W Q R T U
   pub started : Group W Q R T U
@@ -63,6 +63,6 @@ pub record Started {W : Type 0} (Q R T U : Type 0) (First : ℕ → ℕ → Type
 
 -- a seat started each of the first so many groups
 abbrev pub AllStarted : {W : Type 0} (Q R T U : Type 0) → (ℕ → ℕ → Type 0) → (W → W → Type 0)
-    → (W → State → List Named → Type 0) → List (ℕ × ℕ × (ℕ × State)) → ℕ → Type 0
+    → (W → State → List Named → Type 0) → List (ℕ × ℕ × Group W Q R T U) → ℕ → Type 0
 AllStarted Q R T U First Begun Sound known starts =
     (k : ℕ) → k < starts → Started Q R T U First Begun Sound known k

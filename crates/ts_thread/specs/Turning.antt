@@ -1,11 +1,10 @@
 -- What a turn does with a thread's desk, answer by answer.
 use Rattle.std.specs.Prelude.{◌≡◌, ℕ, ◌<◌}
 use Rattle.ts_journal.specs.declared.slotted.Slotted.{Ghosts}
-use Rattle.ts_journal.specs.State.{State}
-use Rattle.ts_journal.specs.Later.{IsLater, Follows}
+use Rattle.ts_journal.specs.Later.{IsLater}
 use Rattle.ts_group.specs.Context.{moment_after}
+use Rattle.ts_group.specs.Standing.{StandsAfter}
 use Rattle.ts_group.specs.declared.group.Group.{Group}
-use Rattle.ts_group.specs.Slot.{trace_of}
 use Rattle.ts_queue.specs.declared.ticket.Token.{Token}
 use Rattle.ts_slot.specs.Views.{won, IsAfter}
 use Rattle.ts_slot.specs.Words.{view, Misses}
@@ -47,45 +46,45 @@ module _ {X G T : Type 0} {d : Ghosts X G T} where
     pub wheel : new.wheel ≡ old.wheel
     pub seat : new.seat ≡ old.seat
 
-module _ {W Q R T U : Type 0} {d : Ghosts (Group W Q R T U) T (ℕ × State)} where
+module _ {W Q R T U : Type 0} {d : Ghosts (Group W Q R T U) T (Group W Q R T U)} where
   -- The news of a group was told, its turn was given back, and it was left as this.
   pub record EndsTurn (k turn moment : ℕ) (now : Group W Q R T U)
-      (old new : Desk (Group W Q R T U) T (ℕ × State) d) : Type 0 where
+      (old new : Desk (Group W Q R T U) T (Group W Q R T U) d) : Type 0 where
     pub left : Group W Q R T U
     pub pending : left.cx.log.state.pending ≡ now.cx.log.state.pending
     pub handled : left.cx.log.state.handled_count ≡ now.cx.log.state.handled_count
     pub later : IsLater now.cx.log.state left.cx.log.state
     pub base : left.cx.log.base ≡ now.cx.log.base
     pub told : HasTold k moment now left old new
-    pub knows : KnowsTurn k turn (trace_of left.cx) (view new.seat).known
+    pub knows : KnowsTurn k turn left (view new.seat).known
 
   -- A turn of the token's group, from when its seat had won it: the work, then the news, which is told as the
   -- group is left.
   pub record Serves (token : Token) (moment turn : ℕ) (found : Group W Q R T U)
-      (old new : Desk (Group W Q R T U) T (ℕ × State) d) (answer : Did) : Type 0 where
-    pub worked : Desk (Group W Q R T U) T (ℕ × State) d
+      (old new : Desk (Group W Q R T U) T (Group W Q R T U) d) (answer : Did) : Type 0 where
+    pub worked : Desk (Group W Q R T U) T (Group W Q R T U) d
     pub works : Works token old worked answer
     pub left : Group W Q R T U
     pub shows : IsShown found.cx.log.state left.cx.log.state token.number moment answer
     pub told : HasTold token.group moment found left worked new
-    pub knows : KnowsTurn token.group turn (trace_of left.cx) (view new.seat).known
+    pub knows : KnowsTurn token.group turn left (view new.seat).known
     pub leaves : Leaves (view worked.seat) (view new.seat)
 
   -- The token's group was entered, served and left.
-  pub record Enters (token : Token) (moment : ℕ) (old new : Desk (Group W Q R T U) T (ℕ × State) d)
+  pub record Enters (token : Token) (moment : ℕ) (old new : Desk (Group W Q R T U) T (Group W Q R T U) d)
       (answer : Did) : Type 0 where
     pub turn : ℕ
     pub found : Group W Q R T U
-    pub after : IsAfter Follows token.group turn (trace_of found.cx) (view old.seat).known
-    pub entered : Desk (Group W Q R T U) T (ℕ × State) d
-    pub wins : view entered.seat ≡ won token.group turn (trace_of found.cx) (view old.seat)
+    pub after : IsAfter StandsAfter token.group turn found (view old.seat).known
+    pub entered : Desk (Group W Q R T U) T (Group W Q R T U) d
+    pub wins : view entered.seat ≡ won token.group turn found (view old.seat)
     pub wheel : entered.wheel ≡ old.wheel
     pub pass : entered.pass ≡ old.pass
     pub serves : Serves token moment turn found entered new answer
 
   -- what was done with a token that was taken
-  abbrev pub Uses : Token → ℕ → Desk (Group W Q R T U) T (ℕ × State) d
-      → Desk (Group W Q R T U) T (ℕ × State) d → Did → Type 0
+  abbrev pub Uses : Token → ℕ → Desk (Group W Q R T U) T (Group W Q R T U) d
+      → Desk (Group W Q R T U) T (Group W Q R T U) d → Did → Type 0
   Uses token moment old new (did.Ran events) = Enters token moment old new (did.Ran events)
   Uses token moment old new (did.PutBack group seen) = PutsBack token moment group seen old new
   Uses token moment old new (did.AskMissed group seen) =
@@ -95,16 +94,16 @@ module _ {W Q R T U : Type 0} {d : Ghosts (Group W Q R T U) T (ℕ × State)} wh
   Uses token moment old new did.Idle = ⊥
 
   -- A token of one of so many groups was taken and used.
-  pub record TakesOne (groups moment : ℕ) (old new : Desk (Group W Q R T U) T (ℕ × State) d)
+  pub record TakesOne (groups moment : ℕ) (old new : Desk (Group W Q R T U) T (Group W Q R T U) d)
       (answer : Did) : Type 0 where
     pub token : Token
-    pub taken : Desk (Group W Q R T U) T (ℕ × State) d
+    pub taken : Desk (Group W Q R T U) T (Group W Q R T U) d
     pub gets : Gets groups moment old taken token
     pub uses : Uses token moment taken new answer
 
   -- what a turn of a thread did, by its answer
-  abbrev pub IsDid : ℕ → ℕ → Desk (Group W Q R T U) T (ℕ × State) d
-      → Desk (Group W Q R T U) T (ℕ × State) d → Did → Type 0
+  abbrev pub IsDid : ℕ → ℕ → Desk (Group W Q R T U) T (Group W Q R T U) d
+      → Desk (Group W Q R T U) T (Group W Q R T U) d → Did → Type 0
   IsDid groups moment old new did.Idle = StaysIdle groups moment old new
   IsDid groups moment old new (did.Ran events) = TakesOne groups moment old new (did.Ran events)
   IsDid groups moment old new (did.PutBack group seen) =

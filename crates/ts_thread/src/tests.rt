@@ -4,7 +4,7 @@
 ghost use Rattle.std.specs.Prelude.{⊤, ◌≡◌, ℕ, ◌+◌, ◌≤◌, List, [], ◌∷◌, None, true, false, refl, length, IfOk};
 ghost use Rattle.std.proofs.Common.{sym, subst};
 ghost use Rattle.std.specs.Bool.{OnTrue};
-ghost use Rattle.ts_journal.specs.State.{State, IsLive};
+ghost use Rattle.ts_journal.specs.State.{IsLive};
 ghost use Rattle.ts_group.specs.Context.{own_key};
 ghost use Rattle.ts_group.specs.Slot.{IsAtRest};
 ghost use Rattle.ts_group.specs.Entries.{Grows};
@@ -154,7 +154,7 @@ fn new_peer(alloc: Global, only_asked: bool) -> Result<Group<Peer>, NoMemory>
 fn two_peers(alloc: Global) -> Result<(Slots<Group<Peer>>, Seat<Group<Peer>>), NoMemory>
     ensures seat { IfOk result (λ r. IsSeatOf r.0 r.1) }
     ensures view { IfOk result (λ r.
-        (ks : List (ℕ × ℕ × (ℕ × State))) × (view r.1 ≡ opener (tags_of r.0) ks)) }
+        (ks : List _) × (view r.1 ≡ opener (tags_of r.0) ks)) }
     ensures tags { IfOk result (λ r. tags_of r.0 ≡ false ∷ true ∷ []) }
 {
     let mut groups = Vec::new(alloc);
@@ -201,7 +201,7 @@ fn takes_a_token_twice<R: Wait>(rt: &R, alloc: Global) -> Result<(Did, Did, Did)
 }
 
 // Another seat holds the asked group during the first turn, and has left it before the second.
-#[tactic(auto, using(crate::proofs::Pair::can_ask, ts_journal::proofs::Later::follows_refl))]
+#[tactic(auto, using(crate::proofs::Pair::can_ask, ts_group::specs::Standing::stands_itself))]
 fn asks_a_held_group<R: Wait>(rt: &R, alloc: Global) -> Result<(Did, Did), NoMemory> {
     let (slots, mut seat) = two_peers(alloc)?;
     let mut other = slots.split(&mut seat);

@@ -2,7 +2,6 @@
 
 ghost use Rattle.std.specs.Prelude.{◌≡◌, ◌<◌, false, length, IfOk, OnOk, OnErr};
 ghost use Rattle.ts_group.specs.Answers.{Holds};
-ghost use Rattle.ts_group.specs.Slot.{trace_of};
 ghost use Rattle.ts_slot.specs.Words.{tags_of, view, IsSeatOf, IsTop};
 ghost use Rattle.ts_thread.specs.Asks.{AnswersAsked};
 ghost use Rattle.ts_thread.specs.Desks.{IsDeskOf, StaysDeskOf, LeavesDesk, KeepsDesk, ClosesDesk};
@@ -90,7 +89,7 @@ pub fn end_turn<W: World + Drop, R: Wait>(
     moment: u64,
 ) -> Result<(), NoMemory>
     requires desk { IsDeskOf slots.now queue.now desk.old }
-    requires top { IsTop (view desk.old.seat) turn.group turn.number (trace_of turn.found.value.cx) }
+    requires top { IsTop (view desk.old.seat) turn.group turn.number turn.found.value }
     requires has { HasTurn turn.found.value turn.value turn.number desk.old.seat.number }
     requires fits { WillFit W.fits W.sound W.only_asked W.is_first (tags_of slots.now) turn.group turn.value }
     ensures desk { IsDeskOf slots.now queue.now desk.new }
@@ -118,7 +117,7 @@ fn serve<W: World + Drop, G: Gate, R: Wait>(
     moment: u64,
 ) -> Result<Did, NoMemory>
     requires desk { IsDeskOf slots.now queue.now desk.old }
-    requires top { IsTop (view desk.old.seat) turn.group turn.number (trace_of turn.found.value.cx) }
+    requires top { IsTop (view desk.old.seat) turn.group turn.number turn.found.value }
     requires found { IsOfToken token turn.group turn.number turn.found.value turn.value }
     requires fits { FitsHere W.fits W.sound W.only_asked W.is_first
         (tags_of slots.now) turn.group turn.value }
