@@ -76,9 +76,9 @@ module _ {W Q R T U : Type 0} where
   told_given found a a' b b' c turn seat has e same rose f gives = given_held found b c turn seat (told_has found a' b turn seat (subst (λ x. HasTurn found x turn seat) (sym e) has) same rose) (subst (λ x. GivesBack x c) f gives)
 
   module _ {d : Ghosts (Group W Q R T U) T (Group W Q R T U)} where
-    pub ends_turn : (k k' turn moment : ℕ) (a a' b b' c : Group W Q R T U) (old mid new : Desk (Group W Q R T U) T (Group W Q R T U) d) → k' ≡ k → a' ≡ a → IsSame (record a'.cx { news_from = b.cx.news_from }) b.cx → b' ≡ b → GivesBack b' c
+    pub ends_turn : (k k' turn moment : ℕ) (a a' b b' c : Group W Q R T U) (old mid new : Desk (Group W Q R T U) T (Group W Q R T U) d) → k' ≡ k → a' ≡ a → IsSame (record a'.cx { news_from = b.cx.news_from }) b.cx → b.world ≡ a'.world → b' ≡ b → GivesBack b' c
         → new.wheel ≡ mid.wheel → new.pass ≡ mid.pass → KnowsTurn k turn c (view new.seat).known → HasTold k' moment a' b old mid → EndsTurn k turn moment a old new
-    ends_turn k k' turn moment a a' b b' c old mid new ke e same f gives' wheel pass knows told =
+    ends_turn k k' turn moment a a' b b' c old mid new ke e same world f gives' wheel pass knows told =
         let gives : GivesBack b c = subst (λ x. GivesBack x c) f gives' in
         let pending : c.cx.log.state.pending ≡ b.cx.log.state.pending = gives.same.pending in
         let from = gives.news_from in
@@ -86,6 +86,7 @@ module _ {W Q R T U : Type 0} where
         let told' : HasTold k moment a b old mid = subst (λ (x : ℕ × Group W Q R T U). HasTold x.0 moment x.1 b old mid) (λ i. (ke i, e i)) told in
         record {
           left = c;
+          world = gives.same.world ∙ world ∙ ap (λ (x : Group W Q R T U). x.world) e;
           pending = pending ∙ ap (λ (s : State). s.pending) state;
           handled = gives.same.handled ∙ ap (λ (s : State). s.handled_count) state;
           later = subst (λ (s : State). IsLater s c.cx.log.state) state gives.later;

@@ -1,9 +1,11 @@
 -- What was done with a token, and what a run of turns comes to.
-use Rattle.std.proofs.Common.{◌≡◌, ℕ, suc, ◌+◌, ◌<◌, ◌≤◌, inl, inr, Bool, true, false, cond, leb, List, [], ◌∷◌, Some, None, length, refl, sym, ap, ◌∙◌, subst, arith}
+use Rattle.std.proofs.Common.{◌≡◌, ℕ, suc, ◌+◌, ◌<◌, ◌≤◌, inl, inr, Bool, true, false, cond, leb, List, [], ◌∷◌, Option, Some, None, length, refl, sym, ap, ◌∙◌, subst, arith}
 use Rattle.std.specs.Prelude.{Result, Ok, Err, IfOk}
 use Rattle.ts_journal.specs.declared.slotted.Slotted.{Ghosts}
 use Rattle.ts_journal.specs.State.{State, pending_at}
 use Rattle.ts_group.specs.declared.group.Group.{Group}
+use Rattle.ts_group.specs.declared.action.Named.{Named}
+use Rattle.ts_group.specs.declared.world.Asked.{Asked}
 use Rattle.ts_group.specs.Standing.{StandsAfter}
 use Rattle.ts_queue.specs.declared.queue.EventQueue.{EventQueue}
 use Rattle.ts_queue.specs.declared.ticket.Token.{Token}
@@ -17,6 +19,7 @@ use Rattle.ts_thread.specs.declared.desk.Desk.{Desk}
 use Rattle.ts_thread.specs.declared.did.Did.{Did}
 use Rattle.ts_thread.specs.declared.did.Did.TheVariants as did
 use Rattle.ts_thread.specs.Desks.{IsDeskOf, KeepsDesk, ClosesDesk, LeavesDesk}
+use Rattle.ts_thread.specs.Heard.{RunsHandlers}
 use Rattle.ts_thread.specs.Held.{BeginsSame}
 use Rattle.ts_thread.specs.News.{HasTold, is_between, places_of}
 use Rattle.ts_thread.specs.Runs.{IsNextMoment, Turns}
@@ -35,12 +38,11 @@ ok_all (Err e) P Q f h = tt
 pub shown_over : (a a' b b' : State) (number moment : ℕ) (answer : Did) → a'.pending ≡ a.pending → a'.handled_count ≡ a.handled_count → b'.pending ≡ b.pending → b'.handled_count ≡ b.handled_count
     → IsShown a b number moment answer → IsShown a' b' number moment answer
 shown_over a a' b b' number moment (did.Ran events) p h q k s =
-    let rise = s.rise in
     record {
       was_due = record { event = s.was_due.event; there = ap (pending_at number) p ∙ s.was_due.there; due = s.was_due.due; gone = ap (pending_at number) q ∙ s.was_due.gone };
       some = s.some;
       most = s.most;
-      rise = omega arith;
+      rise = k ∙ s.rise ∙ ap (λ n. n + events) (sym h);
     }
 shown_over a a' b b' number moment (did.PutBack group seen) p h q k s = absurd s
 shown_over a a' b b' number moment (did.AskMissed group seen) p h q k s =
@@ -99,11 +101,12 @@ module _ {X G T : Type 0} {d : Ghosts X G T} where
   pub finds_share : (groups moment : ℕ) (a b : Desk X G T d) → FindsNothing groups moment a b → (pass_view b.pass).share ≡ (pass_view a.pass).share
   finds_share groups moment a b finds = ap (λ (x : Known). x.share) finds.none.lets_go.is
 
-module _ {W Q R T U : Type 0} {d : Ghosts (Group W Q R T U) T (Group W Q R T U)} where
+module _ {W Q R T U : Type 0} {d : Ghosts (Group W Q R T U) T (Group W Q R T U)} (Fits : T → W → Type 0) (Asking : W → State → List Named → ℕ → ℕ → Q → Type 0) (Answers : W → Q → R → Type 0) (Called : W → W → List ℕ → Type 0) (Heard : W → W → Asked Q R → Type 0) (Left : W → State → Option ℕ) (tags : List T) where
   pub serve_ends : (token : Token) (k turn moment : ℕ) (found v1 begun v2 now : Group W Q R T U) (old worked new : Desk (Group W Q R T U) T (Group W Q R T U) d) (answer : Did) → k ≡ token.group → v1 ≡ found → BeginsSame v1 begun
-      → begun.cx.news_from ≡ v1.cx.news_from → v2 ≡ begun → now.cx.news_from ≡ v2.cx.news_from → Works token old worked answer → IsShown v2.cx.log.state now.cx.log.state token.number moment answer
-      → LeavesDesk worked new → EndsTurn k turn moment now worked new → Serves token moment turn found old new answer
-  serve_ends token k turn moment found v1 begun v2 now old worked new answer group is same begun_from is2 now_from works shown leaves ends =
+      → begun.cx.news_from ≡ v1.cx.news_from → v2 ≡ begun → now.cx.news_from ≡ v2.cx.news_from → Works token old worked answer
+      → RunsHandlers Fits Asking Answers Called Heard Left tags token.number moment v2 now (view old.seat) (view worked.seat) (Ok answer) → IsShown v2.cx.log.state now.cx.log.state token.number moment answer
+      → LeavesDesk worked new → EndsTurn k turn moment now worked new → Serves Fits Asking Answers Called Heard Left tags token moment turn found old new answer
+  serve_ends token k turn moment found v1 begun v2 now old worked new answer group is same begun_from is2 now_from works ran shown leaves ends =
       let s1 : found.cx.log.state ≡ v1.cx.log.state = ap (λ (x : Group W Q R T U). x.cx.log.state) (sym is) in
       let s2 : begun.cx.log.state ≡ v2.cx.log.state = ap (λ (x : Group W Q R T U). x.cx.log.state) (sym is2) in
       let pending : found.cx.log.state.pending ≡ v2.cx.log.state.pending = ap (λ (s : State). s.pending) s1 ∙ sym same.pending ∙ ap (λ (s : State). s.pending) s2 in
@@ -117,9 +120,14 @@ module _ {W Q R T U : Type 0} {d : Ghosts (Group W Q R T U) T (Group W Q R T U)}
         keeps = told.keeps;
       } in
       record {
+        begun = v2;
+        begins = subst (λ (x : Group W Q R T U). BeginsSame x v2) is (subst (BeginsSame v1) (sym is2) same);
+        now = now;
         worked = worked;
         works = works;
+        ran = ran;
         left = ends.left;
+        world = ends.world;
         shows = shown_over v2.cx.log.state found.cx.log.state now.cx.log.state ends.left.cx.log.state token.number moment answer pending handled ends.pending ends.handled shown;
         told = subst (λ x. HasTold x moment found ends.left worked new) group told';
         knows = subst (λ x. KnowsTurn x turn ends.left (view new.seat).known) group ends.knows;
@@ -128,7 +136,7 @@ module _ {W Q R T U : Type 0} {d : Ghosts (Group W Q R T U) T (Group W Q R T U)}
 
   pub uses_of : (token : Token) (moment turn : ℕ) (found value : Group W Q R T U) (old entered new : Desk (Group W Q R T U) T (Group W Q R T U) d) → found ≡ value
       → IsAfter StandsAfter token.group turn value (view old.seat).known → view entered.seat ≡ won token.group turn value (view old.seat) → entered.wheel ≡ old.wheel → entered.pass ≡ old.pass
-      → (answer : Did) → Serves token moment turn found entered new answer → Uses token moment old new answer
+      → (answer : Did) → Serves Fits Asking Answers Called Heard Left tags token moment turn found entered new answer → Uses Fits Asking Answers Called Heard Left tags token moment old new answer
   uses_of token moment turn found value old entered new is after wins wheel pass answer serves = by_answer answer (record {
     turn = turn;
     found = found;
@@ -140,7 +148,7 @@ module _ {W Q R T U : Type 0} {d : Ghosts (Group W Q R T U) T (Group W Q R T U)}
     serves = serves;
   })
     where
-      by_answer : (a : Did) → Enters token moment old new a → Uses token moment old new a
+      by_answer : (a : Did) → Enters Fits Asking Answers Called Heard Left tags token moment old new a → Uses Fits Asking Answers Called Heard Left tags token moment old new a
       by_answer (did.Ran events) h = h
       by_answer (did.PutBack group seen) h = absurd h.serves.shows
       by_answer (did.AskMissed group seen) h = h
@@ -148,16 +156,16 @@ module _ {W Q R T U : Type 0} {d : Ghosts (Group W Q R T U) T (Group W Q R T U)}
       by_answer (did.NotDue due) h = h
       by_answer did.Idle h = absurd h.serves.shows
 
-  pub takes_one : (groups moment : ℕ) (token : Token) (old taken new : Desk (Group W Q R T U) T (Group W Q R T U) d) → Gets groups moment old taken token → (answer : Did) → Uses token moment taken new answer → IsDid groups moment old new answer
-  takes_one groups moment token old taken new gets (did.Ran events) uses = record { token = token; taken = taken; gets = gets; uses = uses }
-  takes_one groups moment token old taken new gets (did.PutBack group seen) uses = record { token = token; taken = taken; gets = gets; uses = uses }
-  takes_one groups moment token old taken new gets (did.AskMissed group seen) uses = record { token = token; taken = taken; gets = gets; uses = uses }
-  takes_one groups moment token old taken new gets did.Stale uses = record { token = token; taken = taken; gets = gets; uses = uses }
-  takes_one groups moment token old taken new gets (did.NotDue due) uses = record { token = token; taken = taken; gets = gets; uses = uses }
-  takes_one groups moment token old taken new gets did.Idle uses = absurd uses
+  pub takes_one : (moment : ℕ) (token : Token) (old taken new : Desk (Group W Q R T U) T (Group W Q R T U) d) → Gets (length tags) moment old taken token → (answer : Did) → Uses Fits Asking Answers Called Heard Left tags token moment taken new answer → IsDid Fits Asking Answers Called Heard Left tags moment old new answer
+  takes_one moment token old taken new gets (did.Ran events) uses = record { token = token; taken = taken; gets = gets; uses = uses }
+  takes_one moment token old taken new gets (did.PutBack group seen) uses = record { token = token; taken = taken; gets = gets; uses = uses }
+  takes_one moment token old taken new gets (did.AskMissed group seen) uses = record { token = token; taken = taken; gets = gets; uses = uses }
+  takes_one moment token old taken new gets did.Stale uses = record { token = token; taken = taken; gets = gets; uses = uses }
+  takes_one moment token old taken new gets (did.NotDue due) uses = record { token = token; taken = taken; gets = gets; uses = uses }
+  takes_one moment token old taken new gets did.Idle uses = absurd uses
 
   -- one turn more
-  pub turns_more : (groups made : ℕ) (old mid new : Desk (Group W Q R T U) T (Group W Q R T U) d) (at moment : ℕ) (answer : Did) → Turns groups made old mid at → IsDid groups at mid new answer → IsNextMoment answer new.wheel at moment
-      → Turns groups (made + 1) old new moment
-  turns_more groups made old mid new at moment answer turns is next =
-      let e : suc made ≡ made + 1 = omega arith in subst (λ n. Turns groups n old new moment) e (mid, at, turns, answer, is, next)
+  pub turns_more : (made : ℕ) (old mid new : Desk (Group W Q R T U) T (Group W Q R T U) d) (at moment : ℕ) (answer : Did) → Turns Fits Asking Answers Called Heard Left tags made old mid at → IsDid Fits Asking Answers Called Heard Left tags at mid new answer → IsNextMoment answer new.wheel at moment
+      → Turns Fits Asking Answers Called Heard Left tags (made + 1) old new moment
+  turns_more made old mid new at moment answer turns is next =
+      let e : suc made ≡ made + 1 = omega arith in subst (λ n. Turns Fits Asking Answers Called Heard Left tags n old new moment) e (mid, at, turns, answer, is, next)

@@ -1,6 +1,6 @@
 //! The turns that a thread takes at its desk, one token each.
 
-ghost use Rattle.std.specs.Prelude.{◌≡◌, ◌*◌, [], length, IfOk};
+ghost use Rattle.std.specs.Prelude.{◌≡◌, ◌*◌, [], IfOk};
 ghost use Rattle.ts_slot.specs.Words.{tags_of, view};
 ghost use Rattle.ts_thread.specs.Desks.{IsDeskOf, KeepsDesk};
 ghost use Rattle.ts_thread.specs.Runs.{HasRunTo};
@@ -30,7 +30,8 @@ pub fn turn_desk<W: World + Drop, G: Gate, R: Wait>(
     requires asks { CanAsk W.fits W.only_asked W.may_ask W.right W.answers (tags_of slots.now) }
     ensures desk { IsDeskOf slots.now queue.now desk.new }
     ensures keeps { KeepsDesk desk.old desk.new 2 }
-    ensures did { IfOk result (IsDid (length (tags_of slots.now)) moment desk.old desk.new) }
+    ensures did { IfOk result (IsDid W.fits W.asking W.answers W.called W.heard W.left
+        (tags_of slots.now) moment desk.old desk.new) }
 {
     let groups = slots.groups();
     let Some(token) = next_token(rt, queue, desk, groups, moment) else {
@@ -53,7 +54,8 @@ pub fn run_desk<W: World + Drop, G: Gate, R: Wait>(
     requires asks { CanAsk W.fits W.only_asked W.may_ask W.right W.answers (tags_of slots.now) }
     ensures desk { IsDeskOf slots.now queue.now desk.new }
     ensures keeps { KeepsDesk desk.old desk.new (2 * budget) }
-    ensures ran { IfOk result (HasRunTo (length (tags_of slots.now)) budget desk.old desk.new) }
+    ensures ran { IfOk result (HasRunTo W.fits W.asking W.answers W.called W.heard W.left
+        (tags_of slots.now) budget desk.old desk.new) }
 {
     let mut moment = 0;
     let mut made = 0;

@@ -32,7 +32,7 @@ where
 }
 
 impl<'a, W: World + Drop, G: Gate> EventThread<'a, W, G> {
-    ghost use Rattle.std.specs.Prelude.{◌*◌, length, IfOk, IfErr};
+    ghost use Rattle.std.specs.Prelude.{◌*◌, IfOk, IfErr};
     ghost use Rattle.ts_queue.specs.Passes.{IsPassOf};
     ghost use Rattle.ts_slot.specs.Words.{tags_of, IsSeatOf};
     ghost use Rattle.ts_thread.specs.Desks.{KeepsDesk};
@@ -74,8 +74,8 @@ impl<'a, W: World + Drop, G: Gate> EventThread<'a, W, G> {
         requires asks { CanAsk W.fits W.only_asked W.may_ask W.right W.answers (tags_of self.old.slots.now) }
         ensures tables { (self.new.slots ≡ self.old.slots) × (self.new.queue ≡ self.old.queue) }
         ensures keeps { KeepsDesk self.old.desk self.new.desk 2 }
-        ensures did { IfOk result
-            (IsDid (length (tags_of self.old.slots.now)) moment self.old.desk self.new.desk) }
+        ensures did { IfOk result (IsDid W.fits W.asking W.answers W.called W.heard W.left
+            (tags_of self.old.slots.now) moment self.old.desk self.new.desk) }
     {
         turn_desk(
             rt,
@@ -95,8 +95,8 @@ impl<'a, W: World + Drop, G: Gate> EventThread<'a, W, G> {
         requires asks { CanAsk W.fits W.only_asked W.may_ask W.right W.answers (tags_of self.old.slots.now) }
         ensures tables { (self.new.slots ≡ self.old.slots) × (self.new.queue ≡ self.old.queue) }
         ensures keeps { KeepsDesk self.old.desk self.new.desk (2 * budget) }
-        ensures ran { IfOk result
-            (HasRunTo (length (tags_of self.old.slots.now)) budget self.old.desk self.new.desk) }
+        ensures ran { IfOk result (HasRunTo W.fits W.asking W.answers W.called W.heard W.left
+            (tags_of self.old.slots.now) budget self.old.desk self.new.desk) }
     {
         run_desk(
             rt,

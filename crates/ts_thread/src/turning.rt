@@ -51,7 +51,8 @@ fn work<W: World + Drop>(
     requires asks { CanAsk W.fits W.only_asked W.may_ask W.right W.answers (tags_of slots.now) }
     ensures desk { StaysDeskOf slots.now desk.old desk.new }
     ensures keeps { KeepsDesk desk.old desk.new 1 }
-    ensures worked { IsWorked W.fits W.sound group.old group.new }
+    ensures worked { IsWorked W.sound W.fits W.asking W.answers W.called W.heard W.left
+        (tags_of slots.now) token.number moment group.old group.new (view desk.old.seat) (view desk.new.seat) result }
     ensures works { IfOk result (Works token desk.old desk.new) }
     ensures shown { IfOk result
         (IsShown group.old.cx.log.state group.new.cx.log.state token.number moment) }
@@ -124,7 +125,8 @@ fn serve<W: World + Drop, G: Gate, R: Wait>(
     requires asks { CanAsk W.fits W.only_asked W.may_ask W.right W.answers (tags_of slots.now) }
     ensures desk { IsDeskOf slots.now queue.now desk.new }
     ensures closes { ClosesDesk desk.old desk.new 1 }
-    ensures serves { IfOk result (Serves token moment turn.number turn.found.value desk.old desk.new) }
+    ensures serves { IfOk result (Serves W.fits W.asking W.answers W.called W.heard W.left
+        (tags_of slots.now) token moment turn.number turn.found.value desk.old desk.new) }
 {
     let owner = desk.seat.number();
     let number = turn.number();
@@ -157,7 +159,8 @@ pub fn enter<W: World + Drop, G: Gate, R: Wait>(
     requires asks { CanAsk W.fits W.only_asked W.may_ask W.right W.answers (tags_of slots.now) }
     ensures desk { IsDeskOf slots.now queue.now desk.new }
     ensures keeps { KeepsDesk desk.old desk.new 2 }
-    ensures uses { IfOk result (Uses token moment desk.old desk.new) }
+    ensures uses { IfOk result (Uses W.fits W.asking W.answers W.called W.heard W.left
+        (tags_of slots.now) token moment desk.old desk.new) }
 {
     match slots.try_enter(&mut desk.seat, token.group) {
         Err(missed) => {

@@ -1,4 +1,4 @@
-use Rattle.std.proofs.Common.{Some, length, sym, ap, ◌∙◌, ◌*◌, ◌+◌, arith}
+use Rattle.std.proofs.Common.{Some, sym, ap, ◌∙◌, ◌*◌, ◌+◌, arith}
 use Rattle.ts_slot.specs.Words.{tags_of}
 use Rattle.ts_thread.specs.declared.did.Did.TheVariants as did
 use Rattle.ts_thread.proofs.Uses.{keeps_desk, first_none, not_idle, turns_more}
@@ -33,10 +33,10 @@ turns-preserved g c =
       elim c.match-did.branch [
         | in-Idle+in-Some w ↦
             let idle = rw w.in-Idle.is at c.in_ok-did.ensures.did in
-            turns_more (length (tags_of c.args.slots.now)) c.turns.made c.args.desk.now c.turns.desk c.turn_desk.new.desk c.turns.moment c.match-did.moment did.Idle c.turns.invariant.3 idle
+            turns_more g.W.Slotted.fits g.W.World.asking g.W.World.answers g.W.World.called g.W.World.heard g.W.World.left (tags_of c.args.slots.now) c.turns.made c.args.desk.now c.turns.desk c.turn_desk.new.desk c.turns.moment c.match-did.moment did.Idle c.turns.invariant.3 idle
             (sym w.next_due.ensures ∙ w.in-Some.is ∙ ap Some (sym w.moment-is))
         | in_default w ↦
-            turns_more (length (tags_of c.args.slots.now)) c.turns.made c.args.desk.now c.turns.desk c.turn_desk.new.desk c.turns.moment c.match-did.moment c.in_ok-did.did c.turns.invariant.3 c.in_ok-did.ensures.did
+            turns_more g.W.Slotted.fits g.W.World.asking g.W.World.answers g.W.World.called g.W.World.heard g.W.World.left (tags_of c.args.slots.now) c.turns.made c.args.desk.now c.turns.desk c.turn_desk.new.desk c.turns.moment c.match-did.moment c.in_ok-did.did c.turns.invariant.3 c.in_ok-did.ensures.did
             (not_idle c.in_ok-did.did c.turn_desk.new.desk.wheel c.turns.moment c.match-did.moment w.in_default.not-Idle w.moment-is)
       ],
     )

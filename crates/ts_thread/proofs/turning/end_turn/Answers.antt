@@ -27,6 +27,7 @@ returns-clause-ends g c =
     c.group-k.ensures
     c.value.ensures.value
     told.same
+    told.world
     c.value-2.ensures.value
     c.give.ensures.gives
     refl

@@ -2,7 +2,7 @@ use Rattle.std.proofs.Common.{ℕ, refl, arith}
 use Rattle.ts_journal.specs.State.{State}
 use Rattle.ts_group.specs.declared.group.Group.{Group}
 use Rattle.ts_thread.specs.declared.desk.Desk.{Desk}
-use Rattle.ts_slot.specs.Words.{view}
+use Rattle.ts_slot.specs.Words.{tags_of, view}
 use Rattle.ts_thread.specs.Turning.{Serves, Uses}
 use Rattle.ts_thread.proofs.Ends.{desk_added}
 use Rattle.ts_thread.proofs.Seats.{won_closed}
@@ -22,6 +22,6 @@ returns-in-Ok-clause-keeps g c = record {
 pub returns-in-Ok-clause-uses : goal.returns-in-Ok-clause-uses
 returns-in-Ok-clause-uses g c =
     let entered : Desk (Group g.row.W.Denot g.row.W-Question.Denot g.row.W-Reply.Denot g.row.W-Tag.Denot g.row.W-Trace.Denot) g.row.W-Tag.Denot (Group g.row.W.Denot g.row.W-Question.Denot g.row.W-Reply.Denot g.row.W-Tag.Denot g.row.W-Trace.Denot) _ = record { seat = c.try_enter.new.seat; pass = c.args.desk.now.pass; wheel = c.args.desk.now.wheel } in
-    ok_all c.serve.result (Serves c.args.token c.args.moment c.in-Ok.turn.number c.in-Ok.turn.found.value entered c.serve.new.desk) (Uses c.args.token c.args.moment c.args.desk.now c.serve.new.desk)
-    (uses_of c.args.token c.args.moment c.in-Ok.turn.number c.in-Ok.turn.found.value c.in-Ok.turn.value c.args.desk.now entered c.serve.new.desk c.in-Ok.ensures.turn.1 c.in-Ok.ensures.later c.in-Ok.ensures.won refl refl)
+    ok_all c.serve.result (Serves g.W.Slotted.fits g.W.World.asking g.W.World.answers g.W.World.called g.W.World.heard g.W.World.left (tags_of c.args.slots.now) c.args.token c.args.moment c.in-Ok.turn.number c.in-Ok.turn.found.value entered c.serve.new.desk) (Uses g.W.Slotted.fits g.W.World.asking g.W.World.answers g.W.World.called g.W.World.heard g.W.World.left (tags_of c.args.slots.now) c.args.token c.args.moment c.args.desk.now c.serve.new.desk)
+    (uses_of g.W.Slotted.fits g.W.World.asking g.W.World.answers g.W.World.called g.W.World.heard g.W.World.left (tags_of c.args.slots.now) c.args.token c.args.moment c.in-Ok.turn.number c.in-Ok.turn.found.value c.in-Ok.turn.value c.args.desk.now entered c.serve.new.desk c.in-Ok.ensures.turn.1 c.in-Ok.ensures.later c.in-Ok.ensures.won refl refl)
     c.serve.ensures.serves
