@@ -1,5 +1,5 @@
 -- Groups that are started, from their first turns to the end.
-use Rattle.std.proofs.Common.{◌≡◌, ℕ, suc, ◌+◌, ◌-◌, ◌*◌, ◌<◌, ◌≤◌, inl, inr, Bool, true, false, cond, eqb, List, [], ◌∷◌, length, All, refl, sym, ap, ◌∙◌, subst, ⊎_elim, arith}
+use Rattle.std.proofs.Common.{◌≡◌, ℕ, zero, suc, ◌+◌, ◌-◌, ◌*◌, ◌<◌, ◌≤◌, inl, inr, Bool, true, false, cond, eqb, List, [], ◌∷◌, length, All, refl, sym, ap, ◌∙◌, subst, ⊎_elim, arith}
 use Rattle.std.specs.Bool.{OnTrue}
 use Rattle.std.specs.List.{AllZip}
 use Rattle.std.proofs.lemmas.Bool.{cases_lt}
@@ -18,7 +18,7 @@ use Rattle.ts_slot.specs.declared.seat.Turn.{Turn}
 use Rattle.ts_slot.specs.declared.view.View.{View}
 use Rattle.ts_slot.specs.Limits.{last_turn}
 use Rattle.ts_slot.specs.Lists.{Each, IsIn, same, entries}
-use Rattle.ts_slot.specs.Views.{won, IsAfter}
+use Rattle.ts_slot.specs.Views.{Coherent, firsts, won, IsAfter}
 use Rattle.ts_thread.specs.Entering.{IsEntered}
 use Rattle.ts_thread.specs.Held.{HasTurn, BeginsSame, StartsInTurn, FitsHere, WillFit}
 use Rattle.ts_thread.specs.Seats.{More, KeepsSeat, Leaves, KnowsTurn}
@@ -118,23 +118,48 @@ few_entries k (e ∷ es) = let h = few_entries k es in let one = most_one e.0 k 
     most_one : (a b : ℕ) → same a b ≤ 1
     most_one a b = elim (eqb a b) as (λ t. cond t 1 0 ≤ 1) [ true ↦ omega arith | false ↦ omega arith ]
 
--- At the end, a group that was started follows what stood then.
-pub was_started : {W Q R T U : Type 0} (First : ℕ → ℕ → Type 0) (Begun : W → W → Type 0) (Sound : W → State → List Named → Type 0) (known : List (ℕ × ℕ × Group W Q R T U)) (turns : List (ℕ × ℕ)) (k : ℕ) (now : Group W Q R T U)
-    → entries k turns + 1 < last_turn → Started Q R T U First Begun Sound known k → IsAfter StandsAfter k (entries k turns + 1) now known → WasStarted First Begun Sound k now
-was_started First Begun Sound known turns k now low s after =
-    let found = each_in (λ e. e.0 ≡ k → (e.1 < entries k turns + 1) × StandsAfter now e.2 × (e.1 + 1 ≡ entries k turns + 1 → now ≡ e.2)) known (k, s.turn - 1, s.found) after s.starts.stood refl in
+-- what a later turn found stands after what is known
+pub after_known : {T : Type 0} (follows : T → T → Type 0) (known : List (ℕ × ℕ × T)) (k n b : ℕ) (x now : T) → IsAfter follows k n now known → IsIn (k, b, x) known → follows now x
+after_known {T} follows known k n b x now after there =
+    (each_in (λ (e : ℕ × ℕ × T). e.0 ≡ k → (e.1 < n) × follows now e.2 × (e.1 + 1 ≡ n → now ≡ e.2)) known (k, b, x) after there refl).1
+
+-- of what is known of one group, that after the later turn follows the other
+coherent_after : {T : Type 0} (follows : T → T → Type 0) (es : List (ℕ × ℕ × T)) (k a b : ℕ) (x y : T) → Coherent follows es → IsIn (k, a, x) es → IsIn (k, b, y) es → a ≤ b → follows y x
+coherent_after {T} follows es k a b x y all one other le =
+    let row = each_in (λ (d : ℕ × ℕ × T). Each (λ (e : ℕ × ℕ × T). d.0 ≡ e.0 → d.1 ≤ e.1 → follows e.2 d.2 × (d.1 ≡ e.1 → d.2 ≡ e.2)) es) es (k, a, x) all one in
+    (each_in (λ (e : ℕ × ℕ × T). k ≡ e.0 → a ≤ e.1 → follows e.2 x × (a ≡ e.1 → x ≡ e.2)) es (k, b, y) row other refl le).0
+
+-- before any turn each group is known as it was given
+pub given_known : {X : Type 0} (xs : List X) (i k j : ℕ) (x : X) → j ≡ i + k → get_elem? xs k ≡ some x → IsIn (j, 0, x) (firsts (λ y. y) i xs)
+given_known [] i k j x e at = absurd (cc)
+given_known (y ∷ ys) i zero j x e at = let same : y ≡ x = cc in let place : i ≡ j = omega arith in inl (λ t. (place t, 0, same t))
+given_known (y ∷ ys) i (suc k) j x e at = inr (given_known ys (i + 1) k j x (omega arith) at)
+
+-- At the end, a group that was started follows what stood then, as far as it was known before.
+pub was_started : {W Q R T U : Type 0} (First : ℕ → ℕ → Type 0) (Begun : W → W → Type 0) (Sound : W → State → List Named → Type 0) (old known : List (ℕ × ℕ × Group W Q R T U)) (turns : List (ℕ × ℕ)) (k : ℕ) (given now : Group W Q R T U)
+    → entries k turns + 1 < last_turn → Started Q R T U First Begun Sound old k → Coherent StandsAfter old → IsIn (k, 0, given) old → More old known → IsAfter StandsAfter k (entries k turns + 1) now known → WasStarted First Begun Sound k given now
+was_started {W} {Q} {R} {T} {U} First Begun Sound old known turns k given now low s coherent first more after =
+    let found = each_in (λ (e : ℕ × ℕ × Group W Q R T U). e.0 ≡ k → (e.1 < entries k turns + 1) × StandsAfter now e.2 × (e.1 + 1 ≡ entries k turns + 1 → now ≡ e.2)) known (k, s.turn - 1, s.found) after (more.stays (k, s.turn - 1, s.found) s.starts.stood) refl in
     let below = found.0 in
     let young : s.turn < last_turn = omega arith in
-    let left = each_in (λ e. e.0 ≡ k → (e.1 < entries k turns + 1) × StandsAfter now e.2 × (e.1 + 1 ≡ entries k turns + 1 → now ≡ e.2)) known (k, s.turn, s.left) after (s.starts.knows young) refl in
+    let left = after_known StandsAfter known k (entries k turns + 1) s.turn s.left now after (more.stays (k, s.turn, s.left) (s.starts.knows young)) in
     record {
       found = s.found;
+      stood = coherent_after StandsAfter old k 0 (s.turn - 1) given s.found coherent first s.starts.stood (omega arith);
       started = s.started;
       first = s.starts.first;
       begun = s.starts.begun;
       sound = s.starts.sound;
-      follows = follows_trans (now.cx.log.base.turns, now.cx.log.state) (s.left.cx.log.base.turns, s.left.cx.log.state) (s.started.cx.log.base.turns, s.started.cx.log.state) left.1.follows
+      follows = follows_trans (now.cx.log.base.turns, now.cx.log.state) (s.left.cx.log.base.turns, s.left.cx.log.state) (s.started.cx.log.base.turns, s.started.cx.log.state) left.follows
           (inr (ap (λ (x : State). x.turns) s.starts.base, s.starts.later));
     }
+
+-- elements of two lists at the same places
+pub zip_pairs : {A B : Type 0} (P : A → B → Type 0) (xs : List A) (ys : List B) → length ys ≡ length xs → ((k : ℕ) (x : A) (y : B) → get_elem? xs k ≡ some x → get_elem? ys k ≡ some y → P x y) → AllZip P xs ys
+zip_pairs P [] [] e f = tt
+zip_pairs P [] (y ∷ ys) e f = absurd (omega arith)
+zip_pairs P (x ∷ xs) [] e f = absurd (omega arith)
+zip_pairs P (x ∷ xs) (y ∷ ys) e f = (f 0 x y refl refl, zip_pairs P xs ys (omega arith) (λ k a b at at'. f (suc k) a b at at'))
 
 -- lists, element by element
 pub zip_from : {A B : Type 0} (P : A → B → Type 0) (ts : List A) (xs : List B) → length xs ≡ length ts → ((k : ℕ) (x : B) → get_elem? xs k ≡ some x → (t : A) × (get_elem? ts k ≡ some t) × P t x) → AllZip P ts xs

@@ -143,28 +143,6 @@ module _ {W Q R T U : Type 0} where
     tags = λ t f. q.tags t (p.tags t f);
   }
 
-  pub same_few : (Fits : T → W → Type 0) (old new : Group W Q R T U) → IsSameGroup old new → SetsFewInTurn Fits old new
-  same_few Fits old new same =
-      let next : new.cx.log.state.next ≡ old.cx.log.state.next = ap (λ (s : State). s.next) same.cx.log.state in
-      record {
-        few = λ t fit. omega arith;
-        nothing = λ none. record { pending = ap (λ (s : State). s.pending) same.cx.log.state; next = next };
-      }
-
-  pub same_sound : (Sound : W → State → List Named → Type 0) (old new : Group W Q R T U) → IsSameGroup old new → Holds Sound old → Holds Sound new
-  same_sound Sound old new same h =
-      subst (λ (x : W × State × List Named). Sound x.0 x.1 x.2) (λ i. (sym same.world i, sym same.cx.log.state i, sym same.cx.roles i)) h
-
-  -- a group in which nothing was done
-  pub same_worked : {G S : Type 0} (Sound : W → State → List Named → Type 0) (Fits : T → W → Type 0) (Asking : W → State → List Named → ℕ → ℕ → Q → Type 0) (Answers : W → Q → R → Type 0) (Called : W → W → List ℕ → Type 0) (Heard : W → W → Asked Q R → Type 0) (Left : W → State → Option ℕ) (tags : List T) (number moment : ℕ) (old new : Group W Q R T U) (v u : View G S) (r : Result Did NoMemory)
-      → old.cx.log.state.held ≡ true → Holds Sound old → IsSameGroup old new → u ≡ v → IsWorked Sound Fits Asking Answers Called Heard Left tags number moment old new v u r
-  same_worked {G = G} {S = S} Sound Fits Asking Answers Called Heard Left tags number moment old new v u r held sound same is = record {
-    goes = same_goes Fits old new held same;
-    sound = same_sound Sound old new same sound;
-    few = same_few Fits old new same;
-    ran = inl (record { same = same; counts = record { turns = ap (λ (x : View G S). x.turns) is; misses = ap (λ (x : View G S). x.misses) is } });
-  }
-
   -- events were handled, and then the handler was told what came of its question
   pub told_worked : {G S : Type 0} (Sound : W → State → List Named → Type 0) (Fits : T → W → Type 0) (Asking : W → State → List Named → ℕ → ℕ → Q → Type 0) (Answers : W → Q → R → Type 0) (Called : W → W → List ℕ → Type 0) (Heard : W → W → Asked Q R → Type 0) (Left : W → State → Option ℕ) (tags : List T) (a b c : Group W Q R T U) (number moment events : ℕ) (v u : View G S) (r : Result Did NoMemory) → IsValid a.cx.log.state → IsValid b.cx.log.state
       → Handles Called a b number moment events → KeepsTags Fits a.world b.world → SetsAtMost Fits a.world (MOST_EVENTS * (MOST_SET + 1)) a.cx b.cx

@@ -8,7 +8,7 @@ use Rattle.ts_journal.specs.Later.{IsLater}
 use Rattle.ts_group.specs.declared.action.Named.{Named}
 use Rattle.ts_group.specs.declared.group.Group.{Group}
 use Rattle.ts_group.specs.Answers.{Holds}
-use Rattle.ts_group.specs.Standing.{FollowsGroup}
+use Rattle.ts_group.specs.Standing.{FollowsGroup, StandsAfter}
 use Rattle.ts_slot.specs.Lists.{IsIn}
 use Rattle.ts_thread.specs.Seats.{KnowsTurn}
 
@@ -34,23 +34,24 @@ module _ {W Q R T U : Type 0} where
     pub later : IsLater started.cx.log.state left.cx.log.state
     pub knows : KnowsTurn k turn left known
 
-  -- The group k follows one that was started.
+  -- The group k follows one that was started, which the slot had after the group that was given.
   pub record WasStarted (First : ℕ → ℕ → Type 0) (Begun : W → W → Type 0)
       (Sound : W → State → List Named → Type 0)
-      (k : ℕ) (now : Group W Q R T U) : Type 0 where
+      (k : ℕ) (given now : Group W Q R T U) : Type 0 where
     pub found : Group W Q R T U
+    pub stood : StandsAfter found given
     pub started : Group W Q R T U
     pub first : First k started.cx.log.base.turns
     pub begun : Begun found.world started.world
     pub sound : Holds Sound started
     pub follows : FollowsGroup now started
 
-  -- each of the first so many groups follows one that was started
+  -- each of the first so many groups follows one that was started, which was given at its place
   abbrev pub WereStarted : (ℕ → ℕ → Type 0) → (W → W → Type 0) → (W → State → List Named → Type 0) → ℕ
-      → List (Group W Q R T U) → Type 0
-  WereStarted First Begun Sound starts groups =
-      (k : ℕ) (g : Group W Q R T U) → k < starts → get_elem? groups k ≡ some g
-      → WasStarted First Begun Sound k g
+      → List (Group W Q R T U) → List (Group W Q R T U) → Type 0
+  WereStarted First Begun Sound starts given groups =
+      (k : ℕ) (h g : Group W Q R T U) → k < starts → get_elem? given k ≡ some h → get_elem? groups k ≡ some g
+      → WasStarted First Begun Sound k h g
 
 -- A seat started the group k in a turn that it had.
 pub record Started {W : Type 0} (Q R T U : Type 0) (First : ℕ → ℕ → Type 0) (Begun : W → W → Type 0)
