@@ -9,9 +9,10 @@ use Rattle.ts_thread.specs.declared.TheConstants.{MOST_LEFT}
 use Rattle.ts_thread.specs.Tags.{CanAsk, GroupsFit}
 use Rattle.ts_thread.specs.Started.{CanStart}
 use Rattle.ts_thread.specs.Whole.{EndSoon}
-use Rattle.ts_thread_tests.specs.declared.peer.Peer.{Peer}
-use Rattle.ts_thread_tests.specs.declared.peer.TheConstants.{ASKED}
-use Rattle.ts_thread_tests.specs.Peers.{PeerFits, PeerSound, PeerMayAsk, PeerRight, PeerAnswers, peer_left, IsPeer, AreRow, row_tags}
+use Rattle.ts_group_tests.specs.declared.peer.Peer.{Peer}
+use Rattle.ts_group_tests.specs.declared.peer.TheConstants.{ASKED}
+use Rattle.ts_group_tests.specs.Peers.{PeerFits, PeerSound, PeerMayAsk, PeerRight, PeerAnswers, peer_left}
+use Rattle.ts_thread_tests.specs.Peers.{IsPeer, AreRow, row_tags}
 
 last_asked : (n : ℕ) → slice_get (row_tags n) n ≡ Some true
 last_asked zero = refl
