@@ -12,6 +12,7 @@ use Rattle.ts_group.specs.declared.group.Group.{Group}
 use Rattle.ts_group.specs.Context.{Context, IsSame}
 use Rattle.ts_group.specs.Due.{NoNews, IsNews, IsFirstNews}
 use Rattle.ts_queue.specs.declared.queue.EventQueue.{EventQueue}
+use Rattle.ts_queue.specs.declared.queue.QueuePass.{QueuePass}
 use Rattle.ts_queue.specs.declared.ticket.Token.{Token}
 use Rattle.ts_queue.specs.declared.ticket.Ticket.{Ticket}
 use Rattle.ts_queue.specs.declared.view.View.{View}
@@ -96,8 +97,22 @@ module _ {X G T : Type 0} {d : Ghosts X G T} where
     put = λ t h. subst (λ (v : View). HasTicket t v.put) (sym adds.pass) h;
   }
 
-  keeps_trans : (a b c : Desk X G T d) → KeepsPlaces a b → KeepsPlaces b c → KeepsPlaces a c
+  pub keeps_trans : (a b c : Desk X G T d) → KeepsPlaces a b → KeepsPlaces b c → KeepsPlaces a c
   keeps_trans a b c h k = record { wheel = λ e x. k.wheel e (h.wheel e x); put = λ t x. k.put t (h.put t x) }
+
+  -- a token was added to the wheel
+  pub keeps_added : (a b : Desk X G T d) (token : Token) (due : ℕ) → b.wheel ≡ added due token a.wheel → b.pass ≡ a.pass → KeepsPlaces a b
+  keeps_added a b token due wheel pass = record {
+    wheel = λ e h. subst (IsIn e) (sym wheel) (in_added due token a.wheel e h);
+    put = λ t h. subst (λ (p : QueuePass). HasTicket t (pass_view p).put) (sym pass) h;
+  }
+
+  -- nothing got a place, and none was lost
+  pub keeps_same : (a b c : Desk X G T d) → KeepsPlaces a b → SamePlaces b c → KeepsPlaces a c
+  keeps_same a b c keeps same = record {
+    wheel = λ e h. subst (IsIn e) (sym same.wheel) (keeps.wheel e h);
+    put = λ t h. subst (λ (v : View). HasTicket t v.put) (sym same.pass) (keeps.put t h);
+  }
 
   has_place : (a b : Desk X G T d) (moment k : ℕ) (p : Pending) → Places (record { group = k; number = p.number }) p.due moment a b → HasPlace moment k p b
   has_place a b moment k p (inl puts) =

@@ -1,6 +1,6 @@
 -- What was done with a token, and what a run of turns comes to.
 use Rattle.std.proofs.Common.{◌≡◌, ℕ, suc, ◌+◌, ◌<◌, ◌≤◌, inl, inr, Bool, true, false, cond, leb, List, [], ◌∷◌, Option, Some, None, length, refl, sym, ap, ◌∙◌, subst, arith}
-use Rattle.std.specs.Prelude.{Result, Ok, Err, IfOk}
+use Rattle.std.specs.Prelude.{Result, Ok, Err, IfOk, OnErr}
 use Rattle.ts_journal.specs.declared.slotted.Slotted.{Ghosts}
 use Rattle.ts_journal.specs.State.{State, pending_at}
 use Rattle.ts_group.specs.declared.group.Group.{Group}
@@ -18,7 +18,7 @@ use Rattle.ts_wheel.specs.Due.{first_due, after_due, next_moment}
 use Rattle.ts_thread.specs.declared.desk.Desk.{Desk}
 use Rattle.ts_thread.specs.declared.did.Did.{Did}
 use Rattle.ts_thread.specs.declared.did.Did.TheVariants as did
-use Rattle.ts_thread.specs.Desks.{IsDeskOf, KeepsDesk, ClosesDesk, LeavesDesk}
+use Rattle.ts_thread.specs.Desks.{IsDeskOf, KeepsDesk, KeepsTokens, ClosesDesk, LeavesDesk}
 use Rattle.ts_thread.specs.Heard.{RunsHandlers}
 use Rattle.ts_thread.specs.Held.{BeginsSame}
 use Rattle.ts_thread.specs.News.{HasTold, is_between, places_of}
@@ -28,11 +28,16 @@ use Rattle.ts_thread.specs.Shown.{IsShown}
 use Rattle.ts_thread.specs.Tokens.{AllName, Gets, FindsNothing}
 use Rattle.ts_thread.specs.Turning.{Works, EndsTurn, Serves, Enters, Uses, IsDid}
 use Rattle.ts_thread.proofs.Seats.{closes, keeps_trans, keeps_refl}
+use Rattle.ts_thread.proofs.Telling.{keeps_trans as places_trans}
 use Rattle.ts_thread.proofs.Tokens.{one_if, All-after}
 
 pub ok_all : {A E : Type 0} (r : Result A E) (P Q : A → Type 0) → ((a : A) → P a → Q a) → IfOk r P → IfOk r Q
 ok_all (Ok a) P Q f h = f a h
 ok_all (Err e) P Q f h = tt
+
+pub on_err : {A E P : Type 0} (r : Result A E) → P → OnErr r P
+on_err (Ok a) p = tt
+on_err (Err e) p = p
 
 -- what is shown of two states is shown of others with the same events
 pub shown_over : (a a' b b' : State) (number moment : ℕ) (answer : Did) → a'.pending ≡ a.pending → a'.handled_count ≡ a.handled_count → b'.pending ≡ b.pending → b'.handled_count ≡ b.handled_count
@@ -75,8 +80,12 @@ not_idle (did.NotDue due) wheel now next other e = e
 not_idle did.Idle wheel now next other e = absurd (other refl)
 
 module _ {X G T : Type 0} {d : Ghosts X G T} where
-  pub closes_desk : (a b c : Desk X G T d) → KeepsDesk a b 1 → LeavesDesk b c → ClosesDesk a c 1
-  closes_desk a b c keeps leaves = record { seat = closes (view a.seat) (view b.seat) (view c.seat) 1 keeps.seat leaves.seat; share = leaves.share ∙ keeps.share }
+  pub closes_desk : (a b c : Desk X G T d) → KeepsTokens a b 1 → LeavesDesk b c → ClosesDesk a c 1
+  closes_desk a b c keeps leaves = record {
+    seat = closes (view a.seat) (view b.seat) (view c.seat) 1 keeps.desk.seat leaves.seat;
+    share = leaves.share ∙ keeps.desk.share;
+    places = places_trans a b c keeps.places leaves.places;
+  }
 
   pub keeps_desk : (a b c : Desk X G T d) (m n k : ℕ) → m + n ≤ k → KeepsDesk a b m → KeepsDesk b c n → KeepsDesk a c k
   keeps_desk a b c m n k le p q = record { seat = keeps_trans (view a.seat) (view b.seat) (view c.seat) m n k le p.seat q.seat; share = q.share ∙ p.share }

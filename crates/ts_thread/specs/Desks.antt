@@ -6,6 +6,7 @@ use Rattle.ts_queue.specs.Passes.{IsPassOf, pass_view}
 use Rattle.ts_slot.specs.declared.slots.Slots.{Slots}
 use Rattle.ts_slot.specs.Words.{tags_of, view, IsSeatOf}
 use Rattle.ts_thread.specs.declared.desk.Desk.{Desk}
+use Rattle.ts_thread.specs.News.{KeepsPlaces}
 use Rattle.ts_thread.specs.Seats.{KeepsSeat, LeavesWon, Leaves}
 use Rattle.ts_thread.specs.Tokens.{AllName}
 
@@ -22,15 +23,22 @@ module _ {X G T : Type 0} {d : Ghosts X G T} where
     pub seat : KeepsSeat (view old.seat) (view new.seat) most
     pub share : (pass_view new.pass).share ≡ (pass_view old.pass).share
 
+  -- the same, and no token lost its place
+  pub record KeepsTokens (old new : Desk X G T d) (most : ℕ) : Type 0 where
+    pub desk : KeepsDesk old new most
+    pub places : KeepsPlaces old new
+
   -- the same, but for the group that the seat won last, which it left
   pub record ClosesDesk (old new : Desk X G T d) (most : ℕ) : Type 0 where
     pub seat : LeavesWon (view old.seat) (view new.seat) most
     pub share : (pass_view new.pass).share ≡ (pass_view old.pass).share
+    pub places : KeepsPlaces old new
 
   -- a desk whose seat left the group that it won last
   pub record LeavesDesk (old new : Desk X G T d) : Type 0 where
     pub seat : Leaves (view old.seat) (view new.seat)
     pub share : (pass_view new.pass).share ≡ (pass_view old.pass).share
+    pub places : KeepsPlaces old new
 
   -- the pass has the share that it had
   abbrev pub SharesSame : Desk X G T d → Desk X G T d → Type 0

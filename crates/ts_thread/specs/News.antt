@@ -4,6 +4,7 @@ use Rattle.ts_journal.specs.declared.slotted.Slotted.{Ghosts}
 use Rattle.ts_journal.specs.declared.entry.Pending.{Pending}
 use Rattle.ts_journal.specs.State.{pending_at}
 use Rattle.ts_group.specs.declared.group.Group.{Group}
+use Rattle.ts_group.specs.Context.{IsSame}
 use Rattle.ts_group.specs.Due.{NoNews}
 use Rattle.ts_queue.specs.declared.ticket.Token.{Token}
 use Rattle.ts_queue.specs.declared.ticket.Ticket.{Ticket}
@@ -30,6 +31,12 @@ is_between k from to ps t =
     (t.group == k) && (nat_le from t.number && (nat_lt t.number to && is_some (pending_at t.number ps)))
 
 module _ {W Q R T U : Type 0} where
+  -- the group is as it was, but for the number from which on pending events are news, which did not fall
+  pub record OnlyNews (old new : Group W Q R T U) : Type 0 where
+    pub cx : IsSame (record old.cx { news_from = new.cx.news_from }) new.cx
+    pub world : new.world ≡ old.world
+    pub rose : old.cx.news_from ≤ new.cx.news_from
+
   -- the token is of a piece of news of the one group that the other has told, which is the group k
   abbrev pub is_news : ℕ → Group W Q R T U → Group W Q R T U → Token → Bool
   is_news k old new t = is_between k old.cx.news_from new.cx.news_from new.cx.log.state.pending t

@@ -12,7 +12,7 @@ use Rattle.ts_thread.specs.declared.did.Did.{Did}
 use Rattle.ts_thread.specs.declared.did.Did.TheVariants as did
 use Rattle.ts_thread.specs.declared.did.RunEnd.{RunEnd}
 use Rattle.ts_thread.specs.declared.did.RunEnd.TheVariants as end
-use Rattle.ts_thread.specs.Turning.{IsDid, StaysIdle}
+use Rattle.ts_thread.specs.Turning.{IsDid, LosesOne, StaysIdle}
 
 -- After a turn that was idle the next moment is that at which the wheel's first token is due; else it is the
 -- same.
@@ -45,3 +45,10 @@ module _ {W Q R T U : Type 0} {d : Ghosts (Group W Q R T U) T (Group W Q R T U)}
   HasRunTo budget old new end.Idle =
       (made : ℕ) × (made < budget) × (mid : Desk (Group W Q R T U) T (Group W Q R T U) d) × (moment : ℕ)
       × Turns made old mid moment × StaysIdle (length tags) moment mid new × (new.wheel ≡ [])
+
+  -- After fewer turns than the budget memory lacked in one.
+  abbrev pub HasFailed : ℕ → Desk (Group W Q R T U) T (Group W Q R T U) d
+      → Desk (Group W Q R T U) T (Group W Q R T U) d → Type 0
+  HasFailed budget old new =
+      (made : ℕ) × (made < budget) × (mid : Desk (Group W Q R T U) T (Group W Q R T U) d) × (moment : ℕ)
+      × Turns made old mid moment × LosesOne (length tags) moment mid new

@@ -18,7 +18,7 @@ use Rattle.ts_thread.specs.declared.did.Did.{Did}
 use Rattle.ts_thread.specs.declared.did.Did.TheVariants as did
 use Rattle.ts_thread.specs.Heard.{RunsHandlers}
 use Rattle.ts_thread.specs.Held.{BeginsSame}
-use Rattle.ts_thread.specs.News.{HasTold}
+use Rattle.ts_thread.specs.News.{HasTold, KeepsPlaces}
 use Rattle.ts_thread.specs.Seats.{KnowsTurn, Leaves}
 use Rattle.ts_thread.specs.Shown.{IsShown, IsCounted, waiting}
 use Rattle.ts_thread.specs.Tokens.{Gets, FindsNothing}
@@ -44,6 +44,13 @@ module _ {X G T : Type 0} {d : Ghosts X G T} where
     pub misses : Misses group seen (view old.seat) (view new.seat)
     pub wheel : new.wheel ≡ added (moment_after moment PUT_BACK) token old.wheel
     pub pass : new.pass ≡ old.pass
+
+  -- A token was taken, and memory lacked then: each other token has the place that it had.
+  pub record LosesOne (groups moment : ℕ) (old new : Desk X G T d) : Type 0 where
+    pub token : Token
+    pub taken : Desk X G T d
+    pub gets : Gets groups moment old taken token
+    pub keeps : KeepsPlaces taken new
 
   -- Nothing was taken.
   pub record StaysIdle (groups moment : ℕ) (old new : Desk X G T d) : Type 0 where

@@ -28,6 +28,9 @@ pub use whole::run_whole;
 /// How many threads run groups at most.
 pub const MOST_THREADS: u32 = 64;
 
+/// How many groups one turn of a thread enters at most: that of its token, and one that is asked.
+pub const MOST_ENTERED: u64 = 2;
+
 /// How many milliseconds after a miss a token is due again.
 pub const PUT_BACK: u64 = 10;
 

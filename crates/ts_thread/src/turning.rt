@@ -3,8 +3,9 @@
 ghost use Rattle.std.specs.Prelude.{◌≡◌, ◌<◌, false, length, IfOk, OnOk, OnErr};
 ghost use Rattle.ts_group.specs.Answers.{Holds};
 ghost use Rattle.ts_slot.specs.Words.{tags_of, view, IsSeatOf, IsTop};
+ghost use Rattle.ts_thread.specs.declared.TheConstants.{MOST_ENTERED};
 ghost use Rattle.ts_thread.specs.Asks.{AnswersAsked};
-ghost use Rattle.ts_thread.specs.Desks.{IsDeskOf, StaysDeskOf, LeavesDesk, KeepsDesk, ClosesDesk};
+ghost use Rattle.ts_thread.specs.Desks.{IsDeskOf, StaysDeskOf, LeavesDesk, KeepsTokens, ClosesDesk};
 ghost use Rattle.ts_thread.specs.Held.{HasTurn, IsGivenBack, BeginsSame, IsWorked, CanWork, FitsHere, WillFit};
 ghost use Rattle.ts_thread.specs.Shown.{IsShown};
 ghost use Rattle.ts_thread.specs.Tags.{CanAsk};
@@ -50,7 +51,7 @@ fn work<W: World + Drop>(
     requires group { CanWork W.fits W.sound (tags_of slots.now) token.group group.old }
     requires asks { CanAsk W.fits W.only_asked W.may_ask W.right W.answers (tags_of slots.now) }
     ensures desk { StaysDeskOf slots.now desk.old desk.new }
-    ensures keeps { KeepsDesk desk.old desk.new 1 }
+    ensures keeps { KeepsTokens desk.old desk.new 1 }
     ensures worked { IsWorked W.sound W.fits W.asking W.answers W.called W.heard W.left
         (tags_of slots.now) token.number moment group.old group.new (view desk.old.seat) (view desk.new.seat) result }
     ensures works { IfOk result (Works token desk.old desk.new) }
@@ -158,7 +159,7 @@ pub fn enter<W: World + Drop, G: Gate, R: Wait>(
     requires group { token.group < length (tags_of slots.now) }
     requires asks { CanAsk W.fits W.only_asked W.may_ask W.right W.answers (tags_of slots.now) }
     ensures desk { IsDeskOf slots.now queue.now desk.new }
-    ensures keeps { KeepsDesk desk.old desk.new 2 }
+    ensures keeps { KeepsTokens desk.old desk.new MOST_ENTERED }
     ensures uses { IfOk result (Uses W.fits W.asking W.answers W.called W.heard W.left
         (tags_of slots.now) token moment desk.old desk.new) }
 {

@@ -1,6 +1,6 @@
 use Rattle.std.proofs.Common.{ap, arith}
 use Rattle.ts_journal.specs.State.{State}
-use Rattle.ts_thread.proofs.Telling.{desk_place, telling_goes_on, telling_less}
+use Rattle.ts_thread.proofs.Telling.{desk_place, keeps_same, telling_goes_on, telling_less}
 use Rattle.ts_thread.proofs.news.tell_news.Goals as goal
 
 pub news-smaller : goal.news-smaller
@@ -10,6 +10,9 @@ news-smaller g c =
     let next = ap (λ (s : State). s.next) c.in-Some.ensures.same.log.state in
     let low = less.0 in
     let below = less.1 in omega arith
+
+pub returns-in_err-place-clause-places : goal.returns-in_err-place-clause-places
+returns-in_err-place-clause-places g c = keeps_same c.args.desk.now c.news.desk c.place.new.desk c.news.invariant.1.keeps c.in_err-place.ensures.err
 
 pub news-preserved : goal.news-preserved
 news-preserved g c =

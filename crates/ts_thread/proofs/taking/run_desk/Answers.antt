@@ -1,7 +1,7 @@
 use Rattle.std.proofs.Common.{Some, sym, ap, ◌∙◌, ◌*◌, ◌+◌, arith}
 use Rattle.ts_slot.specs.Words.{tags_of}
 use Rattle.ts_thread.specs.declared.did.Did.TheVariants as did
-use Rattle.ts_thread.proofs.Uses.{keeps_desk, first_none, not_idle, turns_more}
+use Rattle.ts_thread.proofs.Uses.{keeps_desk, on_err, first_none, not_idle, turns_more}
 use Rattle.ts_thread.proofs.taking.run_desk.Goals as goal
 use Rattle.ts_thread.proofs.taking.run_desk.Goals.{in-Idle+in-Some, in_default}
 
@@ -9,6 +9,11 @@ pub returns-in_err-did-clause-keeps : goal.returns-in_err-did-clause-keeps
 returns-in_err-did-clause-keeps g c =
     let low = c.turns-test.true in
     keeps_desk c.args.desk.now c.turns.desk c.turn_desk.new.desk (2 * c.turns.made) 2 (2 * c.args.budget) (omega arith) c.turns.invariant.1 c.turn_desk.ensures.keeps
+
+pub returns-in_err-did-clause-err : goal.returns-in_err-did-clause-err
+returns-in_err-did-clause-err g c =
+    let low = c.turns-test.true in
+    on_err c.from_residual.result (c.turns.made, omega arith, c.turns.desk, c.turns.moment, c.turns.invariant.3, c.in_err-did.ensures.err)
 
 pub returns-in_default-next_due-clause-ran : goal.returns-in_default-next_due-clause-ran
 returns-in_default-next_due-clause-ran g c =

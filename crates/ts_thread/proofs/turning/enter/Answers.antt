@@ -3,9 +3,11 @@ use Rattle.ts_journal.specs.State.{State}
 use Rattle.ts_group.specs.declared.group.Group.{Group}
 use Rattle.ts_thread.specs.declared.desk.Desk.{Desk}
 use Rattle.ts_slot.specs.Words.{tags_of, view}
+use Rattle.ts_thread.specs.declared.TheConstants.{MOST_ENTERED}
 use Rattle.ts_thread.specs.Turning.{Serves, Uses}
 use Rattle.ts_thread.proofs.Ends.{desk_added}
-use Rattle.ts_thread.proofs.Seats.{won_closed}
+use Rattle.ts_thread.proofs.Seats.{missed_keeps, won_closed}
+use Rattle.ts_thread.proofs.Telling.{keeps_added}
 use Rattle.ts_thread.proofs.Uses.{ok_all, uses_of}
 use Rattle.ts_thread.proofs.turning.enter.Goals as goal
 
@@ -13,10 +15,23 @@ pub returns-in_ok-add-in-Err-clause-desk : goal.returns-in_ok-add-in-Err-clause-
 returns-in_ok-add-in-Err-clause-desk g c =
     desk_added c.args.slots.now c.args.queue.now c.args.desk.now (record { seat = c.try_enter.new.seat; pass = c.args.desk.now.pass; wheel = c.add.new.self }) c.args.token c.saturating_add.result c.requires.group c.in-Err.ensures.seat refl c.in_ok-add-in-Err.ensures.ok c.requires.desk
 
+pub returns-in_ok-add-in-Err-clause-keeps : goal.returns-in_ok-add-in-Err-clause-keeps
+returns-in_ok-add-in-Err-clause-keeps g c =
+    record {
+      desk = record {
+        seat = missed_keeps (view c.args.desk.now.seat) (view c.try_enter.new.seat) c.args.token.group c.in-Err.missed.seen MOST_ENTERED c.in-Err.ensures.missed.is;
+        share = refl;
+      };
+      places = keeps_added c.args.desk.now (record { seat = c.try_enter.new.seat; pass = c.args.desk.now.pass; wheel = c.add.new.self }) c.args.token c.saturating_add.result c.in_ok-add-in-Err.ensures.ok refl;
+    }
+
 pub returns-in-Ok-clause-keeps : goal.returns-in-Ok-clause-keeps
 returns-in-Ok-clause-keeps g c = record {
-  seat = won_closed (view c.args.desk.now.seat) (view c.try_enter.new.seat) (view c.serve.new.desk.seat) c.args.token.group c.in-Ok.turn.number 1 2 c.in-Ok.turn.value (omega arith) c.in-Ok.ensures.won c.serve.ensures.closes.seat;
-  share = c.serve.ensures.closes.share;
+  desk = record {
+    seat = won_closed (view c.args.desk.now.seat) (view c.try_enter.new.seat) (view c.serve.new.desk.seat) c.args.token.group c.in-Ok.turn.number 1 2 c.in-Ok.turn.value (omega arith) c.in-Ok.ensures.won c.serve.ensures.closes.seat;
+    share = c.serve.ensures.closes.share;
+  };
+  places = record { wheel = c.serve.ensures.closes.places.wheel; put = c.serve.ensures.closes.places.put };
 }
 
 pub returns-in-Ok-clause-uses : goal.returns-in-Ok-clause-uses

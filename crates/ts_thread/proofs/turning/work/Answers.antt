@@ -2,6 +2,8 @@ use Rattle.std.proofs.Common.{refl, inl, inr}
 use Rattle.ts_slot.specs.Words.{tags_of, view}
 use Rattle.ts_thread.specs.Asks.{GivesReply}
 use Rattle.ts_thread.proofs.Ends.{desk_added}
+use Rattle.ts_thread.proofs.Telling.{keeps_added}
+use Rattle.ts_thread.proofs.Uses.{same_desk}
 use Rattle.ts_thread.proofs.Worked.{at_below, may_be_asked, answer_over, handles_goes, handles_due, handles_few, told_worked, told_due, asked_works, asked_shown}
 use Rattle.ts_thread.proofs.turning.work.Goals as goal
 
@@ -79,6 +81,13 @@ returns-in-Asks-clause-shown g c =
     let gives = rw c.in-Asks.is at done.gives in
     asked_shown c.args.group.now.cx.log.state c.answered.new.self.cx.log.state c.args.token.number c.args.moment c.in-Asks.events c.in-Asks.other c.ask_other-asked.result c.did_of-did.result c.did_of-did.ensures
     (told_due g.W.World.called g.W.Slotted.fits c.args.group.now c.handle.new.self c.answered.new.self c.args.token.number c.args.moment c.in-Asks.events c.known.ensures.valid c.known-in-Asks.ensures.valid gives c.answered.ensures.grows)
+
+pub returns-in_ok-add-in-NotDue-clause-keeps : goal.returns-in_ok-add-in-NotDue-clause-keeps
+returns-in_ok-add-in-NotDue-clause-keeps g c =
+    record {
+      desk = same_desk c.args.desk.now (record { seat = c.args.desk.now.seat; pass = c.args.desk.now.pass; wheel = c.add.new.self }) 1 refl refl;
+      places = keeps_added c.args.desk.now (record { seat = c.args.desk.now.seat; pass = c.args.desk.now.pass; wheel = c.add.new.self }) c.args.token c.in-NotDue.due c.in_ok-add-in-NotDue.ensures.ok refl;
+    }
 
 pub returns-in_ok-add-in-NotDue-clause-desk : goal.returns-in_ok-add-in-NotDue-clause-desk
 returns-in_ok-add-in-NotDue-clause-desk g c queue was =
