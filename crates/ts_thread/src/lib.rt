@@ -12,8 +12,6 @@ mod news;
 mod running;
 mod starting;
 mod taking;
-#[cfg(test)]
-mod tests;
 mod thread;
 mod threads;
 mod turning;
@@ -21,7 +19,7 @@ mod whole;
 
 pub use did::{Did, RunEnd};
 pub use ending::{ONLY_SEAT, finish};
-pub use running::run_groups;
+pub use running::{run_groups, start_groups};
 pub use thread::EventThread;
 pub use whole::run_whole;
 

@@ -21,8 +21,9 @@ use ts_queue::{EventQueue, QueuePass};
 use ts_slot::{Seat, Slots};
 use ts_wheel::Wheel;
 
-// Starts the first so many groups by a seat and a pass of their own, which are joined to these then.
-fn start_apart<W: World + Drop, R: Wait>(
+/// Starts the first so many groups, each in a turn of its own, by a seat and a pass of their own, which are joined to these
+/// then. The tokens of their first events are in the queue.
+pub fn start_groups<W: World + Drop, R: Wait>(
     rt: &R,
     alloc: Global,
     slots: &Slots<Group<W>>,
@@ -84,7 +85,7 @@ where
         return Err(NoMemory);
     };
     let (queue, mut pass) = EventQueue::make(alloc)?;
-    start_apart(rt, alloc, &slots, &queue, &mut seat, &mut pass, starts)?;
+    start_groups(rt, alloc, &slots, &queue, &mut seat, &mut pass, starts)?;
     let (seat, _, ended) = run_all(
         rt, alloc, 0, threads, &slots, &queue, gate, budget, seat, pass,
     );

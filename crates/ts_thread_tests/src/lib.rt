@@ -4,3 +4,4 @@
 pub mod row;
 #[cfg(test)]
 mod tests;
+pub mod turns;

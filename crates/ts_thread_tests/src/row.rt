@@ -103,8 +103,8 @@ pub fn run_row<G: Gate + Sync, R: Threads + Wait + Sync>(
     run_whole(rt, alloc, groups, tags, ASKED, threads, BUDGET, gate)
 }
 
-// The tags of a row.
-fn make_tags(alloc: Global) -> Result<Vec<bool>, NoMemory>
+/// The tags of a row.
+pub fn make_tags(alloc: Global) -> Result<Vec<bool>, NoMemory>
     ensures { IfOk result (λ tags. tags.items ≡ row_tags ASKED) }
 {
     let mut tags = Vec::new(alloc);

@@ -19,7 +19,7 @@ run_whole-requires-clause-run g c κs within =
       few = omega arith;
       fits = row.fits;
       new = row.few;
-      plan = record { tagged = row_starts; some = c.requires.threads.0; most = c.requires.threads.1; turns = omega arith };
+      plan = record { tagged = row_starts ASKED (omega arith); some = c.requires.threads.0; most = c.requires.threads.1; turns = omega arith };
       asks = peers_can_ask;
     })
 

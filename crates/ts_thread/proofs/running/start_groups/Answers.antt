@@ -3,7 +3,7 @@ use Rattle.ts_thread.specs.Started.{IsFirst}
 use Rattle.ts_thread.proofs.Groups.{ok_to}
 use Rattle.ts_thread.proofs.Joins.{joined_more, joined_front}
 use Rattle.ts_thread.proofs.Starts.{all_more}
-use Rattle.ts_thread.proofs.running.start_apart.Goals as goal
+use Rattle.ts_thread.proofs.running.start_groups.Goals as goal
 
 pub returns-clause-knows : goal.returns-clause-knows
 returns-clause-knows g c =
