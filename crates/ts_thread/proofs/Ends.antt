@@ -14,7 +14,7 @@ use Rattle.ts_group.proofs.Slots.{one_mark}
 use Rattle.ts_queue.specs.declared.queue.EventQueue.{EventQueue}
 use Rattle.ts_queue.specs.declared.ticket.Token.{Token}
 use Rattle.ts_queue.specs.declared.queue.QueuePass.{QueuePass}
-use Rattle.ts_queue.specs.Passes.{IsPassOf, pass_view}
+use Rattle.ts_queue.specs.Passes.{IsPassOf, pass_view, empties_of}
 use Rattle.ts_slot.specs.declared.slots.Slots.{Slots}
 use Rattle.ts_slot.specs.Lists.{IsIn}
 use Rattle.ts_slot.specs.Words.{tags_of, view, IsSeatOf}
@@ -102,6 +102,7 @@ module _ {W Q R T U : Type 0} where
               wheel = λ x there. subst (IsIn x) (sym wheel) (told'.keeps.wheel x there);
               put = λ t there. subst (λ (p : QueuePass). HasTicket t (pass_view p).put) (sym pass) (told'.keeps.put t there);
             };
+            empties = ap (λ p. empties_of p) pass ∙ told'.empties;
           };
           knows = knows;
         }

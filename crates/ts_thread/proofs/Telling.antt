@@ -18,7 +18,7 @@ use Rattle.ts_queue.specs.declared.ticket.Ticket.{Ticket}
 use Rattle.ts_queue.specs.declared.view.View.{View}
 use Rattle.ts_queue.specs.Tickets.{is_same_token}
 use Rattle.ts_queue.specs.Views.{next_ticket}
-use Rattle.ts_queue.specs.Passes.{IsPassOf, pass_view}
+use Rattle.ts_queue.specs.Passes.{IsPassOf, pass_view, empties_of}
 use Rattle.ts_slot.specs.declared.slots.Slots.{Slots}
 use Rattle.ts_slot.specs.Lists.{IsIn}
 use Rattle.ts_slot.specs.Words.{tags_of, IsSeatOf}
@@ -169,6 +169,7 @@ module _ {X G T : Type 0} {d : Ghosts X G T} where
     pub keeps : KeepsPlaces old new
     pub seat : new.seat ≡ old.seat
     pub share : SharesSame old new
+    pub empties : empties_of new.pass ≡ empties_of old.pass
 
   module _ {W Q R T' U : Type 0} (k moment : ℕ) where
     pub telling_begins : (g : Group W Q R T' U) (desk : Desk X G T d) → IsValid g.cx.log.state → IsTelling k moment g g desk desk
@@ -182,6 +183,7 @@ module _ {X G T : Type 0} {d : Ghosts X G T} where
       keeps = keeps_refl desk;
       seat = refl;
       share = refl;
+      empties = refl;
     }
 
     -- the group is the same but for its news, after one piece of it was asked for
@@ -190,9 +192,9 @@ module _ {X G T : Type 0} {d : Ghosts X G T} where
     telling_same first a b old desk was same world = (same_next first.cx a.cx b.cx was.same same, world ∙ was.world)
 
     pub telling_goes_on : (first a b : Group W Q R T' U) (old desk next : Desk X G T d) (number due : ℕ) → IsTelling k moment first a old desk → IsFirstNews a.cx number due
-        → b.cx.news_from ≡ number + 1 → IsSame (record a.cx { news_from = b.cx.news_from }) b.cx → b.world ≡ a.world → next.seat ≡ desk.seat
+        → b.cx.news_from ≡ number + 1 → IsSame (record a.cx { news_from = b.cx.news_from }) b.cx → b.world ≡ a.world → next.seat ≡ desk.seat → empties_of next.pass ≡ empties_of desk.pass
         → Places (record { group = k; number = number }) due moment desk next → IsTelling k moment first b old next
-    telling_goes_on first a b old desk next number due was (p, news, number_is, due_is) from same world seat places =
+    telling_goes_on first a b old desk next number due was (p, news, number_is, due_is) from same world seat empties places =
         let state : b.cx.log.state ≡ a.cx.log.state = same.log.state in
         let places' : Places (record { group = k; number = p.number }) p.due moment desk next =
         subst (λ (x : ℕ × ℕ). Places (record { group = k; number = x.0 }) x.1 moment desk next) (λ i. (sym number_is i, sym due_is i)) places in
@@ -223,6 +225,7 @@ module _ {X G T : Type 0} {d : Ghosts X G T} where
               (λ i. one_if (is_between k first.cx.news_from (from' i) (state i).pending t)) in omega arith;
           keeps = keeps_trans old desk next was.keeps keeps;
           seat = seat ∙ was.seat;
+          empties = empties ∙ was.empties;
           share = share_place desk next (record { group = k; number = p.number }) p.due moment places' ∙ was.share;
         }
 
@@ -235,6 +238,7 @@ module _ {X G T : Type 0} {d : Ghosts X G T} where
           each = λ n p there low. let there' : pending_at n a.cx.log.state.pending ≡ Some p = ap (λ (s : State). pending_at n s.pending) (sym state) ∙ there in was.each n p there' low (none n p there');
           once = λ t. was.once t ∙ ap (λ (x : ℕ × State). places_of t old + one_if (is_between k first.cx.news_from x.0 x.1.pending t)) (λ i. (sym still i, sym state i));
           keeps = was.keeps;
+          empties = was.empties;
         }
 
     -- there is less to tell after each piece

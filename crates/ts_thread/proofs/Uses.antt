@@ -1,6 +1,9 @@
 -- What was done with a token, and what a run of turns comes to.
-use Rattle.std.proofs.Common.{◌≡◌, ℕ, suc, ◌+◌, ◌<◌, ◌≤◌, inl, inr, Bool, true, false, cond, leb, List, [], ◌∷◌, Option, Some, None, length, refl, sym, ap, ◌∙◌, subst, arith}
+use Rattle.std.proofs.Common.{◌≡◌, ℕ, suc, ◌+◌, ◌<◌, ◌≤◌, ◌⊎◌, inl, inr, ⊎_elim, Bool, true, false, cond, leb, List, [], ◌∷◌, Option, Some, None, length, refl, sym, ap, ◌∙◌, subst, arith}
 use Rattle.std.specs.Prelude.{Result, Ok, Err, IfOk, OnErr}
+use Rattle.std.proofs.lemmas.Bool.{cases_lt}
+use Rattle.ts_link.specs.Counts.{Rose}
+use Rattle.ts_journal.specs.declared.entry.TheConstants.{GREATEST}
 use Rattle.ts_journal.specs.declared.slotted.Slotted.{Ghosts}
 use Rattle.ts_journal.specs.State.{State, pending_at}
 use Rattle.ts_group.specs.declared.group.Group.{Group}
@@ -10,15 +13,17 @@ use Rattle.ts_group.specs.Standing.{StandsAfter}
 use Rattle.ts_queue.specs.declared.queue.EventQueue.{EventQueue}
 use Rattle.ts_queue.specs.declared.ticket.Token.{Token}
 use Rattle.ts_queue.specs.declared.view.View.{View as Known}
-use Rattle.ts_queue.specs.Passes.{IsPassOf, pass_view}
+use Rattle.ts_queue.specs.Passes.{IsPassOf, pass_view, empties_of}
 use Rattle.ts_slot.specs.declared.slots.Slots.{Slots}
-use Rattle.ts_slot.specs.Views.{won, IsAfter}
+use Rattle.ts_slot.specs.declared.seat.Seat.{Seat}
+use Rattle.ts_slot.specs.declared.view.View.{View}
+use Rattle.ts_slot.specs.Views.{won, missed, IsAfter}
 use Rattle.ts_slot.specs.Words.{tags_of, view, IsSeatOf}
 use Rattle.ts_wheel.specs.Due.{first_due, after_due, next_moment}
 use Rattle.ts_thread.specs.declared.desk.Desk.{Desk}
 use Rattle.ts_thread.specs.declared.did.Did.{Did}
 use Rattle.ts_thread.specs.declared.did.Did.TheVariants as did
-use Rattle.ts_thread.specs.Desks.{IsDeskOf, KeepsDesk, KeepsTokens, ClosesDesk, LeavesDesk}
+use Rattle.ts_thread.specs.Desks.{IsDeskOf, CountsMore, KeepsDesk, KeepsTokens, ClosesDesk, LeavesDesk}
 use Rattle.ts_thread.specs.Heard.{RunsHandlers}
 use Rattle.ts_thread.specs.Held.{BeginsSame}
 use Rattle.ts_thread.specs.News.{HasTold, is_between, places_of}
@@ -56,6 +61,10 @@ shown_over a a' b b' number moment did.Stale p h q k s = record { was_gone = ap 
 shown_over a a' b b' number moment (did.NotDue due) p h q k s =
     record { event = s.event; there = ap (pending_at number) p ∙ s.there; stays = ap (pending_at number) q ∙ s.stays; is_due = s.is_due; late = s.late }
 shown_over a a' b b' number moment did.Idle p h q k s = absurd s
+
+-- an empty answer of the queue is counted, or the count is at its end
+idle_counts : (a b x y : ℕ) → b ≡ a → Rose x y → (x ≤ y) × ((a + x + 1 ≤ b + y) ⊎ (GREATEST ≤ y))
+idle_counts a b x y same rose = ⊎_elim (λ (low : x < GREATEST). (omega arith, inl (omega arith))) (λ (high : GREATEST ≤ x). (omega arith, inr (omega arith))) (cases_lt x GREATEST)
 
 -- a wheel of which no token is due stays as it is
 pub none_due : {T : Type 0} (now : ℕ) (xs : List (ℕ × T)) → first_due now xs ≡ None → after_due now xs ≡ xs
@@ -127,6 +136,7 @@ module _ {W Q R T U : Type 0} {d : Ghosts (Group W Q R T U) T (Group W Q R T U)}
         each = λ n p there low. told.each n p there (omega arith);
         once = λ t. told.once t ∙ ap (λ f. places_of t worked + one_if (is_between k f ends.left.cx.news_from ends.left.cx.log.state.pending t)) from;
         keeps = told.keeps;
+        empties = told.empties;
       } in
       record {
         begun = v2;
@@ -172,6 +182,59 @@ module _ {W Q R T U : Type 0} {d : Ghosts (Group W Q R T U) T (Group W Q R T U)}
   takes_one moment token old taken new gets did.Stale uses = record { token = token; taken = taken; gets = gets; uses = uses }
   takes_one moment token old taken new gets (did.NotDue due) uses = record { token = token; taken = taken; gets = gets; uses = uses }
   takes_one moment token old taken new gets did.Idle uses = absurd uses
+
+  -- what a seat counts beside the turn of a group
+  works_counts : (token : Token) (old new : Desk (Group W Q R T U) T (Group W Q R T U) d) (answer : Did) → Works token old new answer
+      → length (view old.seat).turns + length (view old.seat).misses ≤ length (view new.seat).turns + length (view new.seat).misses
+  works_counts token old new (did.Ran events) w = elim w.counted [
+    | inl same ↦ let t = ap (λ es. length es) same.turns in let m = ap (λ es. length es) same.misses in omega arith
+    | inr asked ↦ let t = ap (λ es. length es) asked.2.turns in let m = ap (λ es. length es) asked.2.misses in omega arith
+  ]
+  works_counts token old new (did.PutBack group seen) w = absurd w.counted
+  works_counts token old new (did.AskMissed group seen) w = let t = ap (λ es. length es) w.counted.1.turns in let m = ap (λ es. length es) w.counted.1.misses in omega arith
+  works_counts token old new did.Stale w = let t = ap (λ es. length es) w.counted.turns in let m = ap (λ es. length es) w.counted.misses in omega arith
+  works_counts token old new (did.NotDue due) w = let t = ap (λ es. length es) w.counted.turns in let m = ap (λ es. length es) w.counted.misses in omega arith
+  works_counts token old new did.Idle w = absurd w.counted
+
+  -- a turn of a group is counted
+  one_counts : (moment : ℕ) (old new taken : Desk (Group W Q R T U) T (Group W Q R T U) d) (token : Token) (answer : Did) → Gets (length tags) moment old taken token → Enters Fits Asking Answers Called Heard Left tags token moment taken new answer
+      → (empties_of old.pass ≤ empties_of new.pass) × CountsMore 1 old new
+  one_counts moment old new taken token answer gets enters =
+      let serves = enters.serves in
+      let seat : view taken.seat ≡ view old.seat = ap (λ (s : Seat (Group W Q R T U) T (Group W Q R T U) d). view s) gets.seat in
+      let entered : view enters.entered.seat ≡ won token.group enters.turn enters.found (view old.seat) = enters.wins ∙ ap (won token.group enters.turn enters.found) seat in
+      let turns : length (view enters.entered.seat).turns ≡ suc (length (view old.seat).turns) = ap (λ (v : View T (Group W Q R T U)). length v.turns) entered in
+      let misses : length (view enters.entered.seat).misses ≡ length (view old.seat).misses = ap (λ (v : View T (Group W Q R T U)). length v.misses) entered in
+      let works = works_counts token enters.entered serves.worked answer serves.works in
+      let turns' : length (view new.seat).turns ≡ length (view serves.worked.seat).turns = ap (λ es. length es) serves.leaves.turns in
+      let misses' : length (view new.seat).misses ≡ length (view serves.worked.seat).misses = ap (λ es. length es) serves.leaves.misses in
+      let same : empties_of new.pass ≡ empties_of old.pass = serves.told.empties ∙ ap (λ p. empties_of p) serves.works.pass ∙ ap (λ p. empties_of p) enters.pass ∙ gets.empties in
+      (omega arith, inl (omega arith))
+
+  -- a turn is counted
+  pub did_counts : (moment : ℕ) (old new : Desk (Group W Q R T U) T (Group W Q R T U) d) (answer : Did) → IsDid Fits Asking Answers Called Heard Left tags moment old new answer
+      → (empties_of old.pass ≤ empties_of new.pass) × CountsMore 1 old new
+  did_counts moment old new did.Idle h =
+      let rose = h.finds.none.rose in
+      let seat : length (view new.seat).turns + length (view new.seat).misses ≡ length (view old.seat).turns + length (view old.seat).misses = ap (λ (s : Seat (Group W Q R T U) T (Group W Q R T U) d). length (view s).turns + length (view s).misses) h.seat in
+      idle_counts (length (view old.seat).turns + length (view old.seat).misses) (length (view new.seat).turns + length (view new.seat).misses) (empties_of old.pass) (empties_of new.pass) seat rose
+  did_counts moment old new (did.Ran events) h = one_counts moment old new h.taken h.token (did.Ran events) h.gets h.uses
+  did_counts moment old new (did.PutBack group seen) h =
+      let put = h.uses in
+      let seat : view h.taken.seat ≡ view old.seat = ap (λ (s : Seat (Group W Q R T U) T (Group W Q R T U) d). view s) h.gets.seat in
+      let same : empties_of new.pass ≡ empties_of old.pass = ap (λ p. empties_of p) put.pass ∙ h.gets.empties in
+      let turns : length (view new.seat).turns ≡ length (view old.seat).turns = ap (λ (v : View T (Group W Q R T U)). length v.turns) (put.misses.is ∙ ap (missed group seen) seat) in
+      let misses : length (view new.seat).misses ≡ suc (length (view old.seat).misses) = ap (λ (v : View T (Group W Q R T U)). length v.misses) (put.misses.is ∙ ap (missed group seen) seat) in
+      (omega arith, inl (omega arith))
+  did_counts moment old new (did.AskMissed group seen) h = one_counts moment old new h.taken h.token (did.AskMissed group seen) h.gets h.uses
+  did_counts moment old new did.Stale h = one_counts moment old new h.taken h.token did.Stale h.gets h.uses
+  did_counts moment old new (did.NotDue due) h = one_counts moment old new h.taken h.token (did.NotDue due) h.gets h.uses
+
+  -- turns are counted
+  pub counts_on : (m : ℕ) (a b c : Desk (Group W Q R T U) T (Group W Q R T U) d) → CountsMore m a b → (empties_of b.pass ≤ empties_of c.pass) × CountsMore 1 b c → CountsMore (m + 1) a c
+  counts_on m a b c (inl x) (up, inl y) = inl (omega arith)
+  counts_on m a b c (inl x) (up, inr y) = inr y
+  counts_on m a b c (inr x) (up, y) = inr (omega arith)
 
   -- one turn more
   pub turns_more : (made : ℕ) (old mid new : Desk (Group W Q R T U) T (Group W Q R T U) d) (at moment : ℕ) (answer : Did) → Turns Fits Asking Answers Called Heard Left tags made old mid at → IsDid Fits Asking Answers Called Heard Left tags at mid new answer → IsNextMoment answer new.wheel at moment

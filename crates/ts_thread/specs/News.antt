@@ -9,7 +9,7 @@ use Rattle.ts_group.specs.Due.{NoNews}
 use Rattle.ts_queue.specs.declared.ticket.Token.{Token}
 use Rattle.ts_queue.specs.declared.ticket.Ticket.{Ticket}
 use Rattle.ts_queue.specs.Tickets.{is_same_token}
-use Rattle.ts_queue.specs.Passes.{pass_view}
+use Rattle.ts_queue.specs.Passes.{pass_view, empties_of}
 use Rattle.ts_slot.specs.Lists.{IsIn}
 use Rattle.ts_thread.specs.declared.desk.Desk.{Desk}
 
@@ -67,3 +67,4 @@ module _ {X G T : Type 0} {d : Ghosts X G T} where
         → HasPlace moment k p new
     pub once : (t : Token) → places_of t new ≡ places_of t old + (if is_news k group told t then 1 else 0)
     pub keeps : KeepsPlaces old new
+    pub empties : empties_of new.pass ≡ empties_of old.pass

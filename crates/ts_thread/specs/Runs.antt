@@ -12,6 +12,7 @@ use Rattle.ts_thread.specs.declared.did.Did.{Did}
 use Rattle.ts_thread.specs.declared.did.Did.TheVariants as did
 use Rattle.ts_thread.specs.declared.did.RunEnd.{RunEnd}
 use Rattle.ts_thread.specs.declared.did.RunEnd.TheVariants as end
+use Rattle.ts_thread.specs.Desks.{CountsMore}
 use Rattle.ts_thread.specs.Turning.{IsDid, LosesOne, StaysIdle}
 
 -- After a turn that was idle the next moment is that at which the wheel's first token is due; else it is the
@@ -37,11 +38,11 @@ module _ {W Q R T U : Type 0} {d : Ghosts (Group W Q R T U) T (Group W Q R T U)}
       (mid : Desk (Group W Q R T U) T (Group W Q R T U) d) × (at : ℕ) × Turns made old mid at
       × (answer : Did) × IsDid Fits Asking Answers Called Heard Left tags at mid new answer × IsNextMoment answer new.wheel at moment
 
-  -- Where the budget was used up, so many turns were made, none of them idle over an empty wheel; else the
-  -- last turn of fewer or as many was.
+  -- Where the budget was used up, so many turns were made, none of them idle over an empty wheel, and the desk
+  -- counts as many more; else the last turn of fewer or as many was idle over one.
   abbrev pub HasRunTo : ℕ → Desk (Group W Q R T U) T (Group W Q R T U) d
       → Desk (Group W Q R T U) T (Group W Q R T U) d → RunEnd → Type 0
-  HasRunTo budget old new end.Budget = (moment : ℕ) × Turns budget old new moment
+  HasRunTo budget old new end.Budget = ((moment : ℕ) × Turns budget old new moment) × CountsMore budget old new
   HasRunTo budget old new end.Idle =
       (made : ℕ) × (made < budget) × (mid : Desk (Group W Q R T U) T (Group W Q R T U) d) × (moment : ℕ)
       × Turns made old mid moment × StaysIdle (length tags) moment mid new × (new.wheel ≡ [])

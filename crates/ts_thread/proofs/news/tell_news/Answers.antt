@@ -19,5 +19,5 @@ news-preserved g c =
     let put = c.in_ok-place.ensures in
     let news = c.in-Some.ensures in (
       desk_place c.args.slots.now c.args.queue.now c.news.desk c.place.new.desk (record { group = c.args.k; number = c.in-Some.number }) c.in-Some.due c.args.moment c.news.invariant.0 c.requires.group put.pass put.seat put.ok,
-      telling_goes_on c.args.k c.args.moment c.args.group.now c.news.group c.next_news.new.self c.args.desk.now c.news.desk c.place.new.desk c.in-Some.number c.in-Some.due c.news.invariant.1 news.news news.once news.same news.world put.seat put.ok,
+      telling_goes_on c.args.k c.args.moment c.args.group.now c.news.group c.next_news.new.self c.args.desk.now c.news.desk c.place.new.desk c.in-Some.number c.in-Some.due c.news.invariant.1 news.news news.once news.same news.world put.seat put.empties put.ok,
     )

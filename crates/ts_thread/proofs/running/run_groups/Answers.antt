@@ -1,4 +1,4 @@
-use Rattle.std.proofs.Common.{◌≡◌, ℕ, ◌+◌, ◌*◌, ◌∙◌, refl, ap, length, sym, subst, arith}
+use Rattle.std.proofs.Common.{◌≡◌, ℕ, ◌+◌, ◌*◌, ◌∙◌, ap, length, sym, subst, arith}
 use mathlib.Core.Option.{some}
 use lib.ListN.{get_elem?}
 use Rattle.std.proofs.Math.Nat.{le_refl}
@@ -10,7 +10,7 @@ use Rattle.ts_thread.specs.Started.{CanStart, IsFirst, AllStarted}
 use Rattle.ts_thread.specs.Tags.{GroupFits}
 use Rattle.ts_thread.specs.Threads.{HasHadTurns, turns_of}
 use Rattle.ts_thread.proofs.Ended.{fit_count}
-use Rattle.ts_thread.proofs.Starts.{zip_from, zip_pairs, all_from, few_entries, few_all, still_young, all_more, was_started, after_known, given_known}
+use Rattle.ts_thread.proofs.Starts.{zip_from, zip_pairs, all_from, few_entries, few_all, still_young, was_started, after_known, given_known}
 use Rattle.ts_thread.proofs.running.run_groups.Goals as goal
 
 pub start_groups-requires-clause-tags : goal.start_groups-requires-clause-tags

@@ -1,7 +1,7 @@
 use Rattle.std.proofs.Common.{Some, sym, ap, ◌∙◌, ◌*◌, ◌+◌, arith}
 use Rattle.ts_slot.specs.Words.{tags_of}
 use Rattle.ts_thread.specs.declared.did.Did.TheVariants as did
-use Rattle.ts_thread.proofs.Uses.{keeps_desk, on_err, first_none, not_idle, turns_more}
+use Rattle.ts_thread.proofs.Uses.{keeps_desk, on_err, first_none, not_idle, turns_more, counts_on, did_counts}
 use Rattle.ts_thread.proofs.taking.run_desk.Goals as goal
 use Rattle.ts_thread.proofs.taking.run_desk.Goals.{in-Idle+in-Some, in_default}
 
@@ -44,4 +44,6 @@ turns-preserved g c =
             turns_more g.W.Slotted.fits g.W.World.asking g.W.World.answers g.W.World.called g.W.World.heard g.W.World.left (tags_of c.args.slots.now) c.turns.made c.args.desk.now c.turns.desk c.turn_desk.new.desk c.turns.moment c.match-did.moment c.in_ok-did.did c.turns.invariant.3 c.in_ok-did.ensures.did
             (not_idle c.in_ok-did.did c.turn_desk.new.desk.wheel c.turns.moment c.match-did.moment w.in_default.not-Idle w.moment-is)
       ],
+      counts_on g.W.Slotted.fits g.W.World.asking g.W.World.answers g.W.World.called g.W.World.heard g.W.World.left (tags_of c.args.slots.now) c.turns.made c.args.desk.now c.turns.desk c.turn_desk.new.desk c.turns.invariant.4
+          (did_counts g.W.Slotted.fits g.W.World.asking g.W.World.answers g.W.World.called g.W.World.heard g.W.World.left (tags_of c.args.slots.now) c.turns.moment c.turns.desk c.turn_desk.new.desk c.in_ok-did.did c.in_ok-did.ensures.did),
     )

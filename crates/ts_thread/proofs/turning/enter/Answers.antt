@@ -1,5 +1,4 @@
-use Rattle.std.proofs.Common.{ℕ, refl, arith}
-use Rattle.ts_journal.specs.State.{State}
+use Rattle.std.proofs.Common.{refl, arith}
 use Rattle.ts_group.specs.declared.group.Group.{Group}
 use Rattle.ts_thread.specs.declared.desk.Desk.{Desk}
 use Rattle.ts_slot.specs.Words.{tags_of, view}
