@@ -68,29 +68,29 @@ module _ {W Q R T U : Type 0} (Fits : T → W → Type 0) (Sound : W → State �
   }
 
   -- groups that follow those that were given, follow them still when they went on
-  all_follow : (Left : W → State → Option ℕ) (turns : ℕ) (given gs hs : List (Group W Q R T U)) → AllZip FollowsGroup gs given → AllGoOn Fits Sound oa isf Left gs hs turns → AllZip FollowsGroup hs given
-  all_follow Left turns [] [] [] all goes = tt
-  all_follow Left turns [] [] (h ∷ hs) all goes = absurd goes
-  all_follow Left turns [] (g ∷ gs) hs all goes = absurd all
-  all_follow Left turns (x ∷ xs) [] hs all goes = absurd all
-  all_follow Left turns (x ∷ xs) (g ∷ gs) [] all goes = absurd goes
-  all_follow Left turns (x ∷ xs) (g ∷ gs) (h ∷ hs) all goes = (later_follows x g h goes.0.later all.0, all_follow Left turns xs gs hs all.1 goes.1)
+  all_follow : (L : Type 0) (Left : W → State → Option ℕ) (turns : ℕ) (given gs hs : List (Group W Q R T U)) → AllZip FollowsGroup gs given → AllGoOn Fits Sound oa isf Left L gs hs turns → AllZip FollowsGroup hs given
+  all_follow L Left turns [] [] [] all goes = tt
+  all_follow L Left turns [] [] (h ∷ hs) all goes = absurd goes
+  all_follow L Left turns [] (g ∷ gs) hs all goes = absurd all
+  all_follow L Left turns (x ∷ xs) [] hs all goes = absurd all
+  all_follow L Left turns (x ∷ xs) (g ∷ gs) [] all goes = absurd goes
+  all_follow L Left turns (x ∷ xs) (g ∷ gs) (h ∷ hs) all goes = (later_follows x g h goes.0.later all.0, all_follow L Left turns xs gs hs all.1 goes.1)
 
   -- the group from which one went on
-  back_at : (Left : W → State → Option ℕ) (turns : ℕ) (gs hs : List (Group W Q R T U)) (k : ℕ) (h : Group W Q R T U) → AllGoOn Fits Sound oa isf Left gs hs turns → get_elem? hs k ≡ some h
+  back_at : (L : Type 0) (Left : W → State → Option ℕ) (turns : ℕ) (gs hs : List (Group W Q R T U)) (k : ℕ) (h : Group W Q R T U) → AllGoOn Fits Sound oa isf Left L gs hs turns → get_elem? hs k ≡ some h
       → (g : Group W Q R T U) × (get_elem? gs k ≡ some g) × IsLaterGroup g h
-  back_at Left turns [] [] k h a e = absurd (cc)
-  back_at Left turns [] (y ∷ ys) k h a e = absurd a
-  back_at Left turns (x ∷ xs) [] k h a e = absurd a
-  back_at Left turns (x ∷ xs) (y ∷ ys) zero h a e = let is : y ≡ h = cc in (x, refl, subst (λ (z : Group W Q R T U). IsLaterGroup x z) is a.0.later)
-  back_at Left turns (x ∷ xs) (y ∷ ys) (suc k) h a e = back_at Left turns xs ys k h a.1 e
+  back_at L Left turns [] [] k h a e = absurd (cc)
+  back_at L Left turns [] (y ∷ ys) k h a e = absurd a
+  back_at L Left turns (x ∷ xs) [] k h a e = absurd a
+  back_at L Left turns (x ∷ xs) (y ∷ ys) zero h a e = let is : y ≡ h = cc in (x, refl, subst (λ (z : Group W Q R T U). IsLaterGroup x z) is a.0.later)
+  back_at L Left turns (x ∷ xs) (y ∷ ys) (suc k) h a e = back_at L Left turns xs ys k h a.1 e
 
   -- groups that threads ran and that went on to their end
-  pub have_ended : (Left : W → State → Option ℕ) (Begun : W → W → Type 0) (tags : List T) (starts threads budget turns : ℕ) (given old new : List (Group W Q R T U)) → HaveRun Fits Sound oa isf Begun tags given starts threads budget old
-      → AllGoOn Fits Sound oa isf Left old new turns → All IsIdle new → HaveEnded Fits Sound oa isf Begun tags starts given new
-  have_ended Left Begun tags starts threads budget turns given old new run goes idle = record {
-    follow = all_follow Left turns given old new run.follow goes;
-    fits = fits_on Fits Sound oa isf Left tags old new turns run.fits goes;
+  pub have_ended : (L : Type 0) (Left : W → State → Option ℕ) (Begun : W → W → Type 0) (tags : List T) (starts threads budget turns : ℕ) (given old new : List (Group W Q R T U)) → HaveRun Fits Sound oa isf Begun tags given starts threads budget old
+      → AllGoOn Fits Sound oa isf Left L old new turns → All IsIdle new → HaveEnded Fits Sound oa isf Begun tags starts given new
+  have_ended L Left Begun tags starts threads budget turns given old new run goes idle = record {
+    follow = all_follow L Left turns given old new run.follow goes;
+    fits = fits_on Fits Sound oa isf Left _ tags old new turns run.fits goes;
     idle = idle;
-    started = λ k x h low at there. let was = back_at Left turns old new k h goes there in later_started (IsFirst isf tags) Begun k x was.0 h was.2 (run.started k x was.0 low at was.1);
+    started = λ k x h low at there. let was = back_at L Left turns old new k h goes there in later_started (IsFirst isf tags) Begun k x was.0 h was.2 (run.started k x was.0 low at was.1);
   }

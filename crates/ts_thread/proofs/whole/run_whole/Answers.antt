@@ -29,4 +29,4 @@ pub returns : goal.returns
 returns g c =
     let run = c.in_ok-groups.ensures in
     let ends = c.in_ok-finish.ensures in
-    have_ended g.W.Slotted.fits g.W.World.sound g.W.World.only_asked g.W.World.is_first g.W.World.left g.W.World.begun c.args.tags.items c.args.starts c.args.threads c.args.budget ends.turns c.args.groups.items c.in_ok-groups.groups.items c.finish.new.groups.items run ends.goes ends.idle
+    have_ended g.W.Slotted.fits g.W.World.sound g.W.World.only_asked g.W.World.is_first _ g.W.World.left g.W.World.begun c.args.tags.items c.args.starts c.args.threads c.args.budget ends.turns c.args.groups.items c.in_ok-groups.groups.items c.finish.new.groups.items run ends.goes ends.idle
