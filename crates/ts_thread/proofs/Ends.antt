@@ -101,6 +101,7 @@ module _ {W Q R T U : Type 0} where
             keeps = record {
               wheel = λ x there. subst (IsIn x) (sym wheel) (told'.keeps.wheel x there);
               put = λ t there. subst (λ (p : QueuePass). HasTicket t (pass_view p).put) (sym pass) (told'.keeps.put t there);
+              taken = ap (λ (p : QueuePass). (pass_view p).taken) pass ∙ told'.keeps.taken;
             };
             empties = ap (λ p. empties_of p) pass ∙ told'.empties;
           };

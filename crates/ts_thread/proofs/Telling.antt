@@ -85,26 +85,29 @@ same_next a b c p q = record {
 
 module _ {X G T : Type 0} {d : Ghosts X G T} where
   keeps_refl : (desk : Desk X G T d) → KeepsPlaces desk desk
-  keeps_refl desk = record { wheel = λ e h. h; put = λ t h. h }
+  keeps_refl desk = record { wheel = λ e h. h; put = λ t h. h; taken = refl }
 
   keeps_place : (a b : Desk X G T d) (token : Token) (due moment : ℕ) → Places token due moment a b → KeepsPlaces a b
   keeps_place a b token due moment (inl puts) = record {
     wheel = λ e h. subst (IsIn e) (sym puts.wheel) h;
     put = λ t h. subst (λ (v : View). HasTicket t v.put) (sym puts.pass) (ticket_stays t (next_ticket (pass_view a.pass) token) (pass_view a.pass).put h);
+    taken = ap (λ (v : View). v.taken) puts.pass;
   }
   keeps_place a b token due moment (inr adds) = record {
     wheel = λ e h. subst (IsIn e) (sym adds.wheel) (in_added due token a.wheel e h);
     put = λ t h. subst (λ (v : View). HasTicket t v.put) (sym adds.pass) h;
+    taken = ap (λ (v : View). v.taken) adds.pass;
   }
 
   pub keeps_trans : (a b c : Desk X G T d) → KeepsPlaces a b → KeepsPlaces b c → KeepsPlaces a c
-  keeps_trans a b c h k = record { wheel = λ e x. k.wheel e (h.wheel e x); put = λ t x. k.put t (h.put t x) }
+  keeps_trans a b c h k = record { wheel = λ e x. k.wheel e (h.wheel e x); put = λ t x. k.put t (h.put t x); taken = k.taken ∙ h.taken }
 
   -- a token was added to the wheel
   pub keeps_added : (a b : Desk X G T d) (token : Token) (due : ℕ) → b.wheel ≡ added due token a.wheel → b.pass ≡ a.pass → KeepsPlaces a b
   keeps_added a b token due wheel pass = record {
     wheel = λ e h. subst (IsIn e) (sym wheel) (in_added due token a.wheel e h);
     put = λ t h. subst (λ (p : QueuePass). HasTicket t (pass_view p).put) (sym pass) h;
+    taken = ap (λ (p : QueuePass). (pass_view p).taken) pass;
   }
 
   -- nothing got a place, and none was lost
@@ -112,6 +115,7 @@ module _ {X G T : Type 0} {d : Ghosts X G T} where
   keeps_same a b c keeps same = record {
     wheel = λ e h. subst (IsIn e) (sym same.wheel) (keeps.wheel e h);
     put = λ t h. subst (λ (v : View). HasTicket t v.put) (sym same.pass) (keeps.put t h);
+    taken = ap (λ (v : View). v.taken) same.pass ∙ keeps.taken;
   }
 
   has_place : (a b : Desk X G T d) (moment k : ℕ) (p : Pending) → Places (record { group = k; number = p.number }) p.due moment a b → HasPlace moment k p b

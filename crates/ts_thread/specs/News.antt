@@ -52,10 +52,11 @@ module _ {X G T : Type 0} {d : Ghosts X G T} where
       IsIn (p.due, record { group = k; number = p.number }) desk.wheel
       ⊎ ((p.due ≤ moment) × HasTicket (record { group = k; number = p.number }) (pass_view desk.pass).put)
 
-  -- What stood in the wheel stands there, and what was put was put.
+  -- What stood in the wheel stands there, what was put was put, and nothing was taken from the queue.
   pub record KeepsPlaces (old new : Desk X G T d) : Type 0 where
     pub wheel : (e : ℕ × Token) → IsIn e old.wheel → IsIn e new.wheel
     pub put : (t : Token) → HasTicket t (pass_view old.pass).put → HasTicket t (pass_view new.pass).put
+    pub taken : (pass_view new.pass).taken ≡ (pass_view old.pass).taken
 
   -- The news of the group k was told: each piece of it has a token, one and no more, and no other token was
   -- made; and there is no news any more.

@@ -30,7 +30,7 @@ returns-in-Ok-clause-keeps g c = record {
     seat = won_closed (view c.args.desk.now.seat) (view c.try_enter.new.seat) (view c.serve.new.desk.seat) c.args.token.group c.in-Ok.turn.number 1 2 c.in-Ok.turn.value (omega arith) c.in-Ok.ensures.won c.serve.ensures.closes.seat;
     share = c.serve.ensures.closes.share;
   };
-  places = record { wheel = c.serve.ensures.closes.places.wheel; put = c.serve.ensures.closes.places.put };
+  places = record { wheel = c.serve.ensures.closes.places.wheel; put = c.serve.ensures.closes.places.put; taken = c.serve.ensures.closes.places.taken };
 }
 
 pub returns-in-Ok-clause-uses : goal.returns-in-Ok-clause-uses
