@@ -86,11 +86,13 @@ module _ {W Q R T U : Type 0} where
         let told' : HasTold k moment a b old mid = subst (λ (x : ℕ × Group W Q R T U). HasTold x.0 moment x.1 b old mid) (λ i. (ke i, e i)) told in
         record {
           left = c;
-          world = gives.same.world ∙ world ∙ ap (λ (x : Group W Q R T U). x.world) e;
-          pending = pending ∙ ap (λ (s : State). s.pending) state;
-          handled = gives.same.handled ∙ ap (λ (s : State). s.handled_count) state;
-          later = subst (λ (s : State). IsLater s c.cx.log.state) state gives.later;
-          base = gives.base ∙ same.log.base ∙ ap (λ (x : Group W Q R T U). x.cx.log.base) e;
+          as_now = record {
+            world = gives.same.world ∙ world ∙ ap (λ (x : Group W Q R T U). x.world) e;
+            pending = pending ∙ ap (λ (s : State). s.pending) state;
+            handled = gives.same.handled ∙ ap (λ (s : State). s.handled_count) state;
+            later = subst (λ (s : State). IsLater s c.cx.log.state) state gives.later;
+            base = gives.base ∙ same.log.base ∙ ap (λ (x : Group W Q R T U). x.cx.log.base) e;
+          };
           told = record {
             none = λ n p there. let low = told'.none n p (sym (ap (pending_at n) pending) ∙ there) in omega arith;
             each = λ n p there low. placed p (told'.each n p (sym (ap (pending_at n) pending) ∙ there) low);

@@ -146,8 +146,8 @@ module _ {W Q R T U : Type 0} {d : Ghosts (Group W Q R T U) T (Group W Q R T U)}
         works = works;
         ran = ran;
         left = ends.left;
-        world = ends.world;
-        shows = shown_over v2.cx.log.state found.cx.log.state now.cx.log.state ends.left.cx.log.state token.number moment answer pending handled ends.pending ends.handled shown;
+        as_now = ends.as_now;
+        shows = shown_over v2.cx.log.state found.cx.log.state now.cx.log.state ends.left.cx.log.state token.number moment answer pending handled ends.as_now.pending ends.as_now.handled shown;
         told = subst (λ x. HasTold x moment found ends.left worked new) group told';
         knows = subst (λ x. KnowsTurn x turn ends.left (view new.seat).known) group ends.knows;
         leaves = leaves.seat;

@@ -79,6 +79,14 @@ module _ {W Q R T U : Type 0} where
     pub news_from : new.cx.news_from ≡ old.cx.news_from
     pub same : BeginsSame old new
 
+  -- The group was left as it was, but for its news and for its turn, which was given back.
+  pub record LeftAs (now left : Group W Q R T U) : Type 0 where
+    pub world : left.world ≡ now.world
+    pub pending : left.cx.log.state.pending ≡ now.cx.log.state.pending
+    pub handled : left.cx.log.state.handled_count ≡ now.cx.log.state.handled_count
+    pub later : IsLater now.cx.log.state left.cx.log.state
+    pub base : left.cx.log.base ≡ now.cx.log.base
+
   -- The world set its first events in the turn, which are few where it fits a tag.
   pub record StartsInTurn (Fits : T → W → Type 0) (Sound : W → State → List Named → Type 0)
       (Begun : W → W → Type 0)

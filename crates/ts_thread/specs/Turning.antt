@@ -3,7 +3,6 @@ use Rattle.std.specs.Prelude.{◌≡◌, ℕ, ◌<◌, List, Option, Ok, length}
 use Rattle.ts_journal.specs.declared.slotted.Slotted.{Ghosts}
 use Rattle.ts_journal.specs.State.{State}
 use Rattle.ts_group.specs.declared.action.Named.{Named}
-use Rattle.ts_journal.specs.Later.{IsLater}
 use Rattle.ts_group.specs.Context.{moment_after}
 use Rattle.ts_group.specs.Standing.{StandsAfter}
 use Rattle.ts_group.specs.declared.group.Group.{Group}
@@ -17,7 +16,7 @@ use Rattle.ts_thread.specs.declared.desk.Desk.{Desk}
 use Rattle.ts_thread.specs.declared.did.Did.{Did}
 use Rattle.ts_thread.specs.declared.did.Did.TheVariants as did
 use Rattle.ts_thread.specs.Heard.{RunsHandlers}
-use Rattle.ts_thread.specs.Held.{BeginsSame}
+use Rattle.ts_thread.specs.Held.{BeginsSame, LeftAs}
 use Rattle.ts_thread.specs.News.{HasTold, KeepsPlaces}
 use Rattle.ts_thread.specs.Seats.{KnowsTurn, Leaves}
 use Rattle.ts_thread.specs.Shown.{IsShown, IsCounted, waiting}
@@ -63,11 +62,7 @@ module _ {W Q R T U : Type 0} {d : Ghosts (Group W Q R T U) T (Group W Q R T U)}
   pub record EndsTurn (k turn moment : ℕ) (now : Group W Q R T U)
       (old new : Desk (Group W Q R T U) T (Group W Q R T U) d) : Type 0 where
     pub left : Group W Q R T U
-    pub world : left.world ≡ now.world
-    pub pending : left.cx.log.state.pending ≡ now.cx.log.state.pending
-    pub handled : left.cx.log.state.handled_count ≡ now.cx.log.state.handled_count
-    pub later : IsLater now.cx.log.state left.cx.log.state
-    pub base : left.cx.log.base ≡ now.cx.log.base
+    pub as_now : LeftAs now left
     pub told : HasTold k moment now left old new
     pub knows : KnowsTurn k turn left (view new.seat).known
 
@@ -86,7 +81,7 @@ module _ {W Q R T U : Type 0} {d : Ghosts (Group W Q R T U) T (Group W Q R T U)}
     pub works : Works token old worked answer
     pub ran : RunsHandlers Fits Asking Answers Called Heard Left tags token.number moment begun now (view old.seat) (view worked.seat) (Ok answer)
     pub left : Group W Q R T U
-    pub world : left.world ≡ now.world
+    pub as_now : LeftAs now left
     pub shows : IsShown found.cx.log.state left.cx.log.state token.number moment answer
     pub told : HasTold token.group moment found left worked new
     pub knows : KnowsTurn token.group turn left (view new.seat).known

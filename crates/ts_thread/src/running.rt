@@ -22,7 +22,7 @@ use ts_slot::{Seat, Slots};
 use ts_wheel::Wheel;
 
 /// Starts the first so many groups, each in a turn of its own, by a seat and a pass of their own, which are joined to these
-/// then. The tokens of their first events are in the queue.
+/// then.
 pub fn start_groups<W: World + Drop, R: Wait>(
     rt: &R,
     alloc: Global,

@@ -87,8 +87,8 @@ returns-clause-started g c =
           c.start.ensures.starts
           entered.wins
           c.end_turn.ensures.leaves.seat
-          ends.base
-          ends.later
+          ends.as_now.base
+          ends.as_now.later
           (subst (λ k. KnowsTurn k c.enter_at-turn.result.number ends.left (view c.end_turn.new.desk.seat).known) entered.group ends.knows);
     })
     c.end_turn.ensures.ends
