@@ -23,8 +23,8 @@ pub record HandlesQuestion (s : State) (es : List Entry) : Type 0 where
   pub others : List Entry
   pub are : es ≡ asking_entries s.next moment ++ others
 
--- A whole turn, under the next number: it handles the event that is due first, or a question. It handles nothing only
--- where something lacks.
+-- A whole turn, under the next number: it handles the event that is due first, or a question. It handles
+-- nothing only where something lacks.
 pub record IsOwnTurn (Lack : Type 0) (s : State) (es : List Entry) : Type 0 where
   pub did : List Entry
   pub are : es ≡ Took (s.turns + 1) ONLY_SEAT ∷ (did ++ Gave (s.turns + 1) ∷ [])

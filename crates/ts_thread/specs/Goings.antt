@@ -23,8 +23,8 @@ pub record IsLaterGroup {W Q R T U : Type 0} (old new : Group W Q R T U) : Type 
   pub base : new.cx.log.base ≡ old.cx.log.base
   pub later : IsLater old.cx.log.state new.cx.log.state
 
--- What at most so many turns, of which none is held any more, leave of a group. One handles nothing only where
--- something lacks.
+-- What at most so many turns, of which none is held any more, leave of a group. One handles nothing only
+-- where something lacks.
 pub record HasTakenTurns {W Q R T U : Type 0} (Fits : T → W → Type 0) (Sound : W → State → List Named → Type 0)
     (only_asked is_first : T → Bool) (Left : W → State → Option ℕ) (Lack : Type 0)
     (old new : Group W Q R T U) (turns : ℕ) : Type 0 where
@@ -77,7 +77,8 @@ Lacked _ = ⊥
 
 -- what at most so many turns of each leave of groups
 abbrev pub AllGoOn : {W Q R T U : Type 0} → (T → W → Type 0) → (W → State → List Named → Type 0) → (T → Bool)
-    → (T → Bool) → (W → State → Option ℕ) → Type 0 → List (Group W Q R T U) → List (Group W Q R T U) → ℕ → Type 0
+    → (T → Bool) → (W → State → Option ℕ) → Type 0
+    → List (Group W Q R T U) → List (Group W Q R T U) → ℕ → Type 0
 AllGoOn Fits Sound only_asked is_first Left Lack old new turns =
     AllZip (λ g h. HasTakenTurns Fits Sound only_asked is_first Left Lack g h turns) old new
 

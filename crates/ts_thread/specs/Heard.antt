@@ -1,4 +1,4 @@
--- What the handlers of a turn did, and what the last of them was told.
+-- Which handlers ran in a turn, and what the last of them was told.
 use Rattle.std.specs.Prelude.{◌≡◌, ℕ, ◌⊎◌, List, Option, Result, Ok}
 use Rattle.ts_link.specs.declared.octets.NoMemory.{NoMemory}
 use Rattle.ts_journal.specs.State.{State}
@@ -32,7 +32,8 @@ module _ {W Q R T U G S : Type 0} where
   pub record WasTold (Fits : T → W → Type 0) (Asking : W → State → List Named → ℕ → ℕ → Q → Type 0)
       (Answers : W → Q → R → Type 0) (Called : W → W → List ℕ → Type 0) (Heard : W → W → Asked Q R → Type 0)
       (Left : W → State → Option ℕ) (tags : List T)
-      (number moment : ℕ) (old new : Group W Q R T U) (before after : View G S) (result : Result Did NoMemory) : Type 0 where
+      (number moment : ℕ) (old new : Group W Q R T U) (before after : View G S)
+      (result : Result Did NoMemory) : Type 0 where
     pub events : ℕ
     pub asking : Group W Q R T U
     pub handles : Handles Called old asking number moment events
@@ -46,8 +47,9 @@ module _ {W Q R T U G S : Type 0} where
     pub says : AnswersAsked events group came result
 
   abbrev pub RunsHandlers : (T → W → Type 0) → (W → State → List Named → ℕ → ℕ → Q → Type 0)
-      → (W → Q → R → Type 0) → (W → W → List ℕ → Type 0) → (W → W → Asked Q R → Type 0) → (W → State → Option ℕ)
-      → List T → ℕ → ℕ → Group W Q R T U → Group W Q R T U → View G S → View G S → Result Did NoMemory → Type 0
+      → (W → Q → R → Type 0) → (W → W → List ℕ → Type 0) → (W → W → Asked Q R → Type 0)
+      → (W → State → Option ℕ) → List T → ℕ → ℕ → Group W Q R T U → Group W Q R T U
+      → View G S → View G S → Result Did NoMemory → Type 0
   RunsHandlers Fits Asking Answers Called Heard Left tags number moment old new before after result =
       NoneRan old new before after
       ⊎ AllRan Called number moment old new before after result

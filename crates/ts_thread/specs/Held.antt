@@ -106,7 +106,8 @@ module _ {W Q R T U : Type 0} where
     pub goes : GoesInTurn Fits old new
     pub sound : Holds Sound new
     pub few : SetsFewInTurn Fits old new
-    pub ran : RunsHandlers Fits Asking Answers Called Heard Left tags number moment old new before after result
+    pub ran : RunsHandlers Fits Asking Answers Called Heard Left tags number moment
+        old new before after result
 
   -- the group has a turn, its world is sound, and fits the tag of the group k
   abbrev pub CanWork : (T → W → Type 0) → (W → State → List Named → Type 0) → List T → ℕ → Group W Q R T U

@@ -36,13 +36,15 @@ module _ {W Q R T U : Type 0} {d : Ghosts (Group W Q R T U) T (Group W Q R T U)}
   Turns zero old new moment = (new ≡ old) × (moment ≡ 0)
   Turns (suc made) old new moment =
       (mid : Desk (Group W Q R T U) T (Group W Q R T U) d) × (at : ℕ) × Turns made old mid at
-      × (answer : Did) × IsDid Fits Asking Answers Called Heard Left tags at mid new answer × IsNextMoment answer new.wheel at moment
+      × (answer : Did) × IsDid Fits Asking Answers Called Heard Left tags at mid new answer
+      × IsNextMoment answer new.wheel at moment
 
   -- Where the budget was used up, so many turns were made, none of them idle over an empty wheel, and the desk
   -- counts as many more; else the last turn of fewer or as many was idle over one.
   abbrev pub HasRunTo : ℕ → Desk (Group W Q R T U) T (Group W Q R T U) d
       → Desk (Group W Q R T U) T (Group W Q R T U) d → RunEnd → Type 0
-  HasRunTo budget old new end.Budget = ((moment : ℕ) × Turns budget old new moment) × CountsMore budget old new
+  HasRunTo budget old new end.Budget =
+      ((moment : ℕ) × Turns budget old new moment) × CountsMore budget old new
   HasRunTo budget old new end.Idle =
       (made : ℕ) × (made < budget) × (mid : Desk (Group W Q R T U) T (Group W Q R T U) d) × (moment : ℕ)
       × Turns made old mid moment × StaysIdle (length tags) moment mid new × (new.wheel ≡ [])

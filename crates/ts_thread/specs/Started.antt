@@ -25,7 +25,8 @@ module _ {W Q R T U : Type 0} where
   -- A seat started the group k in a turn, and knows what stood after it.
   pub record Starts (First : ℕ → ℕ → Type 0) (Begun : W → W → Type 0)
       (Sound : W → State → List Named → Type 0)
-      (k turn : ℕ) (found started left : Group W Q R T U) (known : List (ℕ × ℕ × Group W Q R T U)) : Type 0 where
+      (k turn : ℕ) (found started left : Group W Q R T U)
+      (known : List (ℕ × ℕ × Group W Q R T U)) : Type 0 where
     pub first : First k started.cx.log.base.turns
     pub stood : IsIn (k, turn - 1, found) known
     pub begun : Begun found.world started.world

@@ -70,8 +70,8 @@ module _ {W Q R T U : Type 0} {d : Ghosts (Group W Q R T U) T (Group W Q R T U)}
     (Fits : T → W → Type 0) (Asking : W → State → List Named → ℕ → ℕ → Q → Type 0)
     (Answers : W → Q → R → Type 0) (Called : W → W → List ℕ → Type 0) (Heard : W → W → Asked Q R → Type 0)
     (Left : W → State → Option ℕ) (tags : List T) where
-  -- A turn of the token's group, from when its seat had won it: the turn begins, the handlers run, and then the
-  -- news is told, as the group is left.
+  -- A turn of the token's group, from when its seat had won it: the turn begins, the handlers run, and then
+  -- the news is told, as the group is left.
   pub record Serves (token : Token) (moment turn : ℕ) (found : Group W Q R T U)
       (old new : Desk (Group W Q R T U) T (Group W Q R T U) d) (answer : Did) : Type 0 where
     pub begun : Group W Q R T U
@@ -79,7 +79,8 @@ module _ {W Q R T U : Type 0} {d : Ghosts (Group W Q R T U) T (Group W Q R T U)}
     pub now : Group W Q R T U
     pub worked : Desk (Group W Q R T U) T (Group W Q R T U) d
     pub works : Works token old worked answer
-    pub ran : RunsHandlers Fits Asking Answers Called Heard Left tags token.number moment begun now (view old.seat) (view worked.seat) (Ok answer)
+    pub ran : RunsHandlers Fits Asking Answers Called Heard Left tags token.number moment
+        begun now (view old.seat) (view worked.seat) (Ok answer)
     pub left : Group W Q R T U
     pub as_now : LeftAs now left
     pub shows : IsShown found.cx.log.state left.cx.log.state token.number moment answer

@@ -12,8 +12,8 @@ use Rattle.ts_thread.specs.Started.{IsFirst, WereStarted}
 use Rattle.ts_thread.specs.Tags.{GroupFits, GroupsFit, CanAsk}
 use Rattle.ts_thread.specs.Threads.{IsPlan, HasHadTurns, turns_of}
 
--- These groups can be run by threads: there is one at least, and no more than slots hold; each fits its tag and
--- has had no turn; the plan can be carried out; and they may ask each other.
+-- These groups can be run by threads: there is one at least, and no more than slots hold; each fits its tag
+-- and has had no turn; the plan can be carried out; and those that worlds ask are there and only asked.
 pub record CanBeRun {W Q R T U : Type 0} (Fits : T → W → Type 0) (Sound : W → State → List Named → Type 0)
     (only_asked is_first : T → Bool) (MayAsk : W → ℕ → Type 0) (Right : W → ℕ → Q → R → Type 0)
     (Answers : W → Q → R → Type 0) (tags : List T) (groups : List (Group W Q R T U))
@@ -25,8 +25,8 @@ pub record CanBeRun {W Q R T U : Type 0} (Fits : T → W → Type 0) (Sound : W 
   pub plan : IsPlan only_asked tags starts threads budget
   pub asks : CanAsk Fits only_asked MayAsk Right Answers tags
 
--- Groups that threads ran: each follows the group that was given at its place and fits its tag, has had no more
--- turns than the plan gives, and the first so many were started.
+-- Groups that threads ran: each follows the group that was given at its place and fits its tag, has had no
+-- more turns than the plan gives, and the first so many were started.
 pub record HaveRun {W Q R T U : Type 0} (Fits : T → W → Type 0) (Sound : W → State → List Named → Type 0)
     (only_asked is_first : T → Bool) (Begun : W → W → Type 0) (tags : List T) (given : List (Group W Q R T U))
     (starts threads budget : ℕ) (groups : List (Group W Q R T U)) : Type 0 where
@@ -35,15 +35,16 @@ pub record HaveRun {W Q R T U : Type 0} (Fits : T → W → Type 0) (Sound : W �
   pub turns : All (HasHadTurns (turns_of starts threads budget)) groups
   pub started : WereStarted (IsFirst is_first tags) Begun Sound starts given groups
 
--- So many turns are few, and each group that fits a tag and has had no more tells what is left to do, which is not much.
-pub record EndSoon {W T : Type 0} (Q R U : Type 0) (Fits : T → W → Type 0) (Sound : W → State → List Named → Type 0)
-    (only_asked is_first : T → Bool) (Left : W → State → Option ℕ) (turns : ℕ) : Type 0 where
+-- So many turns are few, and each group that fits a tag and has had no more tells what is left to do, which
+-- is not much.
+pub record EndSoon {W T : Type 0} (Q R U : Type 0) (Fits : T → W → Type 0)
+    (Sound : W → State → List Named → Type 0) (only_asked is_first : T → Bool) (Left : W → State → Option ℕ) (turns : ℕ) : Type 0 where
   pub few : turns ≤ MOST_LEFT
-  pub each : (t : T) (g : Group W Q R T U) → GroupFits Fits Sound only_asked is_first t g → HasHadTurns turns g
-      → Tells Left g × (work_left Left g ≤ MOST_LEFT)
+  pub each : (t : T) (g : Group W Q R T U) → GroupFits Fits Sound only_asked is_first t g
+      → HasHadTurns turns g → Tells Left g × (work_left Left g ≤ MOST_LEFT)
 
--- Groups that have ended: each follows the group that was given at its place and fits its tag, no event is pending,
--- and the first so many were started.
+-- Groups that have ended: each follows the group that was given at its place and fits its tag, no event is
+-- pending, and the first so many were started.
 pub record HaveEnded {W Q R T U : Type 0} (Fits : T → W → Type 0) (Sound : W → State → List Named → Type 0)
     (only_asked is_first : T → Bool) (Begun : W → W → Type 0) (tags : List T) (starts : ℕ)
     (given groups : List (Group W Q R T U)) : Type 0 where

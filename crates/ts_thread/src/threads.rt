@@ -73,7 +73,8 @@ pub fn run_all<W: World + Drop + Send, G: Gate + Sync, R: Threads + Wait + Sync>
         move || -> (Seat<Group<W>>, QueuePass, bool)
             requires { CanRun slots.now queue.now 1 other_seat other_pass
                 × CanAsk W.fits W.only_asked W.may_ask W.right W.answers (tags_of slots.now) }
-            ensures { ComesBack slots.entry.now queue.entry.now other_seat other_pass (MOST_ENTERED * budget) result }
+            ensures { ComesBack slots.entry.now queue.entry.now other_seat other_pass
+                (MOST_ENTERED * budget) result }
         {
             run_one(
                 rt, alloc, number, slots, queue, gate, budget, other_seat, other_pass,

@@ -53,7 +53,8 @@ fn work<W: World + Drop>(
     ensures desk { StaysDeskOf slots.now desk.old desk.new }
     ensures keeps { KeepsTokens desk.old desk.new 1 }
     ensures worked { IsWorked W.sound W.fits W.asking W.answers W.called W.heard W.left
-        (tags_of slots.now) token.number moment group.old group.new (view desk.old.seat) (view desk.new.seat) result }
+        (tags_of slots.now) token.number moment group.old group.new
+        (view desk.old.seat) (view desk.new.seat) result }
     ensures works { IfOk result (Works token desk.old desk.new) }
     ensures shown { IfOk result
         (IsShown group.old.cx.log.state group.new.cx.log.state token.number moment) }
