@@ -25,7 +25,7 @@ use Rattle.ts_thread.specs.declared.did.Did.{Did}
 use Rattle.ts_thread.specs.declared.did.Did.TheVariants as did
 use Rattle.ts_thread.specs.Desks.{IsDeskOf, CountsMore, KeepsDesk, KeepsTokens, ClosesDesk, LeavesDesk}
 use Rattle.ts_thread.specs.Heard.{RunsHandlers}
-use Rattle.ts_thread.specs.Held.{BeginsSame}
+use Rattle.ts_thread.specs.Held.{HasTurn, BeginsSame}
 use Rattle.ts_thread.specs.News.{HasTold, is_between, places_of}
 use Rattle.ts_thread.specs.Runs.{IsNextMoment, Turns}
 use Rattle.ts_thread.specs.Seats.{KnowsTurn}
@@ -121,15 +121,15 @@ module _ {X G T : Type 0} {d : Ghosts X G T} where
 
 module _ {W Q R T U : Type 0} {d : Ghosts (Group W Q R T U) T (Group W Q R T U)} (Fits : T → W → Type 0) (Asking : W → State → List Named → ℕ → ℕ → Q → Type 0) (Answers : W → Q → R → Type 0) (Called : W → W → List ℕ → Type 0) (Heard : W → W → Asked Q R → Type 0) (Left : W → State → Option ℕ) (tags : List T) where
   pub serve_ends : (token : Token) (k turn moment : ℕ) (found v1 begun v2 now : Group W Q R T U) (old worked new : Desk (Group W Q R T U) T (Group W Q R T U) d) (answer : Did) → k ≡ token.group → v1 ≡ found → BeginsSame v1 begun
-      → begun.cx.news_from ≡ v1.cx.news_from → v2 ≡ begun → now.cx.news_from ≡ v2.cx.news_from → Works token old worked answer
+      → HasTurn v1 begun turn old.seat.number → v2 ≡ begun → now.cx.news_from ≡ v2.cx.news_from → Works token old worked answer
       → RunsHandlers Fits Asking Answers Called Heard Left tags token.number moment v2 now (view old.seat) (view worked.seat) (Ok answer) → IsShown v2.cx.log.state now.cx.log.state token.number moment answer
       → LeavesDesk worked new → EndsTurn k turn moment now worked new → Serves Fits Asking Answers Called Heard Left tags token moment turn found old new answer
-  serve_ends token k turn moment found v1 begun v2 now old worked new answer group is same begun_from is2 now_from works ran shown leaves ends =
+  serve_ends token k turn moment found v1 begun v2 now old worked new answer group is same has is2 now_from works ran shown leaves ends =
       let s1 : found.cx.log.state ≡ v1.cx.log.state = ap (λ (x : Group W Q R T U). x.cx.log.state) (sym is) in
       let s2 : begun.cx.log.state ≡ v2.cx.log.state = ap (λ (x : Group W Q R T U). x.cx.log.state) (sym is2) in
       let pending : found.cx.log.state.pending ≡ v2.cx.log.state.pending = ap (λ (s : State). s.pending) s1 ∙ sym same.pending ∙ ap (λ (s : State). s.pending) s2 in
       let handled : found.cx.log.state.handled_count ≡ v2.cx.log.state.handled_count = ap (λ (s : State). s.handled_count) s1 ∙ sym same.handled ∙ ap (λ (s : State). s.handled_count) s2 in
-      let from : now.cx.news_from ≡ found.cx.news_from = now_from ∙ ap (λ (x : Group W Q R T U). x.cx.news_from) is2 ∙ begun_from ∙ ap (λ (x : Group W Q R T U). x.cx.news_from) is in
+      let from : now.cx.news_from ≡ found.cx.news_from = now_from ∙ ap (λ (x : Group W Q R T U). x.cx.news_from) is2 ∙ has.news_from ∙ ap (λ (x : Group W Q R T U). x.cx.news_from) is in
       let told = ends.told in
       let told' : HasTold k moment found ends.left worked new = record {
         none = told.none;
@@ -140,6 +140,7 @@ module _ {W Q R T U : Type 0} {d : Ghosts (Group W Q R T U) T (Group W Q R T U)}
       } in
       record {
         begun = v2;
+        has = subst (λ (x : Group W Q R T U). HasTurn x v2 turn old.seat.number) is (subst (λ (x : Group W Q R T U). HasTurn v1 x turn old.seat.number) (sym is2) has);
         begins = subst (λ (x : Group W Q R T U). BeginsSame x v2) is (subst (BeginsSame v1) (sym is2) same);
         now = now;
         worked = worked;

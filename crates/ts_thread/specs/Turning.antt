@@ -16,7 +16,7 @@ use Rattle.ts_thread.specs.declared.desk.Desk.{Desk}
 use Rattle.ts_thread.specs.declared.did.Did.{Did}
 use Rattle.ts_thread.specs.declared.did.Did.TheVariants as did
 use Rattle.ts_thread.specs.Heard.{RunsHandlers}
-use Rattle.ts_thread.specs.Held.{BeginsSame, LeftAs}
+use Rattle.ts_thread.specs.Held.{HasTurn, BeginsSame, LeftAs}
 use Rattle.ts_thread.specs.News.{HasTold, KeepsPlaces}
 use Rattle.ts_thread.specs.Seats.{KnowsTurn, Leaves}
 use Rattle.ts_thread.specs.Shown.{IsShown, IsCounted, waiting}
@@ -75,6 +75,7 @@ module _ {W Q R T U : Type 0} {d : Ghosts (Group W Q R T U) T (Group W Q R T U)}
   pub record Serves (token : Token) (moment turn : ℕ) (found : Group W Q R T U)
       (old new : Desk (Group W Q R T U) T (Group W Q R T U) d) (answer : Did) : Type 0 where
     pub begun : Group W Q R T U
+    pub has : HasTurn found begun turn old.seat.number
     pub begins : BeginsSame found begun
     pub now : Group W Q R T U
     pub worked : Desk (Group W Q R T U) T (Group W Q R T U) d

@@ -1,5 +1,6 @@
-use Rattle.std.proofs.Common.{sym, ◌∙◌}
+use Rattle.std.proofs.Common.{ℕ, sym, subst, ◌∙◌}
 use Rattle.ts_slot.specs.Words.{tags_of}
+use Rattle.ts_thread.specs.Held.{HasTurn}
 use Rattle.ts_thread.proofs.Uses.{closes_desk, serve_ends}
 use Rattle.ts_thread.proofs.Worked.{given_marks}
 use Rattle.ts_thread.proofs.turning.serve.Goals as goal
@@ -33,7 +34,7 @@ returns-clause-serves g c =
     c.requires.found.group
     (c.value.ensures.value ∙ sym c.requires.found.same)
     begun.same
-    begun.begun.news_from
+    (subst (λ (x : ℕ × ℕ). HasTurn c.value.result.now c.begin.new.group x.0 x.1) (λ i. (c.number-number.ensures i, c.number-owner.ensures i)) begun.begun)
     c.value-2.ensures.value
     worked.worked.goes.news_from
     worked.works
