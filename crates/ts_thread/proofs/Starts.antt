@@ -13,6 +13,7 @@ use Rattle.ts_journal.proofs.Later.{follows_trans}
 use Rattle.ts_group.specs.declared.action.Named.{Named}
 use Rattle.ts_group.specs.declared.group.Group.{Group}
 use Rattle.ts_group.specs.declared.slot.TheConstants.{MOST_IN_TURN}
+use Rattle.ts_group.specs.Due.{NoNews}
 use Rattle.ts_group.specs.Standing.{StandsAfter}
 use Rattle.ts_slot.specs.declared.seat.Turn.{Turn}
 use Rattle.ts_slot.specs.declared.view.View.{View}
@@ -65,9 +66,9 @@ module _ {W Q R T U : Type 0} (Fits : T → W → Type 0) (Sound : W → State �
   -- a group was entered, started and left
   pub starts_one : (k turn seat : ℕ) (found v g0 g1 g1' g2 left : Group W Q R T U) (old before entered new : View T (Group W Q R T U)) → FitsHere Fits Sound only_asked is_first tags k v → found ≡ v → g0 ≡ v
       → HasTurn g0 g1 turn seat → BeginsSame g0 g1 → g1' ≡ g1 → StartsInTurn Fits Sound Begun g1' g2 → entered ≡ won k turn v before → Leaves entered new
-      → left.cx.log.base ≡ g2.cx.log.base → IsLater g2.cx.log.state left.cx.log.state → KnowsTurn k turn left new.known
+      → left.cx.log.base ≡ g2.cx.log.base → IsLater g2.cx.log.state left.cx.log.state → NoNews left.cx.news_from left.cx.log.state → KnowsTurn k turn left new.known
       → Starts (IsFirst is_first tags) Begun Sound k turn found g2 left new.known
-  starts_one k turn seat found v g0 g1 g1' g2 left old before entered new fit is_found is has same is1 starts wins leaves base later knows =
+  starts_one k turn seat found v g0 g1 g1' g2 left old before entered new fit is_found is has same is1 starts wins leaves base later told knows =
       let world : g1'.world ≡ found.world = ap (λ (x : Group W Q R T U). x.world) is1 ∙ same.world ∙ ap (λ (x : Group W Q R T U). x.world) is ∙ ap (λ (x : Group W Q R T U). x.world) (sym is_found) in
       let base0 : g2.cx.log.base ≡ v.cx.log.base = starts.goes.base ∙ ap (λ (x : Group W Q R T U). x.cx.log.base) is1 ∙ has.base ∙ ap (λ (x : Group W Q R T U). x.cx.log.base) is in
       let there : IsIn (k, turn - 1, v) entered.known = subst (IsIn (k, turn - 1, v)) (sym (ap (λ (x : View T (Group W Q R T U)). x.known) wins)) (inl refl) in
@@ -78,6 +79,7 @@ module _ {W Q R T U : Type 0} (Fits : T → W → Type 0) (Sound : W → State �
         sound = starts.sound;
         base = base;
         later = later;
+        told = told;
         knows = knows;
       }
 
@@ -95,6 +97,7 @@ module _ {W : Type 0} (Q R T U : Type 0) (First : ℕ → ℕ → Type 0) (Begun
       sound = s.starts.sound;
       base = s.starts.base;
       later = s.starts.later;
+      told = s.starts.told;
       knows = λ low. more.stays (k, s.turn, s.left) (s.starts.knows low);
     };
   }

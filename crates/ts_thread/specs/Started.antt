@@ -8,6 +8,7 @@ use Rattle.ts_journal.specs.Later.{IsLater}
 use Rattle.ts_group.specs.declared.action.Named.{Named}
 use Rattle.ts_group.specs.declared.group.Group.{Group}
 use Rattle.ts_group.specs.Answers.{Holds}
+use Rattle.ts_group.specs.Due.{NoNews}
 use Rattle.ts_group.specs.Standing.{FollowsGroup, StandsAfter}
 use Rattle.ts_slot.specs.Lists.{IsIn}
 use Rattle.ts_thread.specs.Seats.{KnowsTurn}
@@ -22,7 +23,7 @@ abbrev pub IsFirst : {T : Type 0} → (T → Bool) → List T → ℕ → ℕ �
 IsFirst {T} is_first tags k turns = (t : T) × (get_elem? tags k ≡ some t) × OnTrue (is_first t) (turns ≡ 0)
 
 module _ {W Q R T U : Type 0} where
-  -- A seat started the group k in a turn, and knows what stood after it.
+  -- A seat started the group k in a turn, of whose news all was told, and knows what stood after it.
   pub record Starts (First : ℕ → ℕ → Type 0) (Begun : W → W → Type 0)
       (Sound : W → State → List Named → Type 0)
       (k turn : ℕ) (found started left : Group W Q R T U)
@@ -33,6 +34,7 @@ module _ {W Q R T U : Type 0} where
     pub sound : Holds Sound started
     pub base : left.cx.log.base ≡ started.cx.log.base
     pub later : IsLater started.cx.log.state left.cx.log.state
+    pub told : NoNews left.cx.news_from left.cx.log.state
     pub knows : KnowsTurn k turn left known
 
   -- The group k follows one that was started, which the slot had after the group that was given.

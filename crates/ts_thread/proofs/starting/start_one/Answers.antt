@@ -89,6 +89,7 @@ returns-clause-started g c =
           c.end_turn.ensures.leaves.seat
           ends.as_now.base
           ends.as_now.later
+          ends.told.none
           (subst (λ k. KnowsTurn k c.enter_at-turn.result.number ends.left (view c.end_turn.new.desk.seat).known) entered.group ends.knows);
     })
     c.end_turn.ensures.ends
