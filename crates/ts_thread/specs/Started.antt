@@ -23,7 +23,7 @@ abbrev pub IsFirst : {T : Type 0} → (T → Bool) → List T → ℕ → ℕ �
 IsFirst {T} is_first tags k turns = (t : T) × (get_elem? tags k ≡ some t) × OnTrue (is_first t) (turns ≡ 0)
 
 module _ {W Q R T U : Type 0} where
-  -- A seat started the group k in a turn, of whose news all was told, and knows what stood after it.
+  -- A seat started the group k in a turn, after which nothing is news in it, and knows what stood then.
   pub record Starts (First : ℕ → ℕ → Type 0) (Begun : W → W → Type 0)
       (Sound : W → State → List Named → Type 0)
       (k turn : ℕ) (found started left : Group W Q R T U)
