@@ -1,5 +1,5 @@
 -- What each call on a journal answers and leaves, said once for the journal, a handler's calls and the group.
-use Rattle.std.specs.Prelude.{◌≡◌, ◌≢◌, ℕ, ◌+◌, ◌<◌, ◌≤◌, true, List, [], ◌∷◌, ◌++◌, Some, None, length, unwrap_or, Result, Ok, Err, IsOk, IfOk, OnErr}
+use Rattle.std.specs.Prelude.{◌≡◌, ◌≢◌, ℕ, ◌+◌, ◌<◌, ◌≤◌, true, List, [], ◌∷◌, ◌++◌, Some, None, length, unwrap_or, Result, Ok, Err, IfOk, OnErr}
 use Rattle.ts_journal.specs.declared.entry.TheConstants.{MOST_KEYS, GREATEST}
 use Rattle.ts_journal.specs.declared.entry.ContKey.{ContKey}
 use Rattle.ts_journal.specs.declared.entry.Event.{Event}

@@ -6,4 +6,5 @@ pub mod Acts
 pub mod Calls
 pub mod Due
 pub mod Answers
+pub mod Standing
 pub mod Slot

@@ -5,7 +5,6 @@ use Rattle.ts_journal.specs.declared.entry.Entry.{Entry}
 use Rattle.ts_journal.specs.declared.entry.Entry.TheVariants.{Took}
 use Rattle.ts_journal.specs.State.{State}
 use Rattle.ts_group.specs.declared.slot.TheConstants.{MOST_IN_TURN}
-use Rattle.ts_group.specs.Context.{Context}
 
 -- the turns that the entries record, each with its seat
 abbrev pub marks_of : List Entry → List (ℕ × ℕ)
@@ -20,7 +19,3 @@ IsAtRest only_asked s =
     (s.held ≡ false)
     × (s.next ≤ (if only_asked then s.turns + 1 else MOST_IN_TURN * s.turns + 1))
     × OnTrue only_asked (s.pending ≡ [])
-
--- The number of turns with which a group was made, which its journal's base has, and its journal's state.
-abbrev pub trace_of : Context → ℕ × State
-trace_of cx = (cx.log.base.turns, cx.log.state)

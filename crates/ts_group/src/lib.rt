@@ -20,5 +20,5 @@ pub use action::{Action, Cancel, Destroy, MakeFault, Named, SetFault};
 pub use cx::Cx;
 pub use group::{Group, MOST_EVENTS};
 pub use keys::OWN_KEY;
-pub use slot::{GroupTrace, MOST_IN_TURN};
+pub use slot::MOST_IN_TURN;
 pub use world::{Asked, Handling, MOST_SET, Want, World};

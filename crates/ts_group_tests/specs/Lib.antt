@@ -1,4 +1,4 @@
 -- The definitions that the contracts of the driver cite.
 pub mod Driven
-pub mod Learning
+pub mod Peers
 pub mod Recorded

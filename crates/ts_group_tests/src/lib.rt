@@ -4,7 +4,7 @@
 pub mod burst;
 pub mod drive;
 pub mod heir;
-pub mod pair;
+pub mod peer;
 pub mod recorded;
 pub mod steps;
 #[cfg(test)]

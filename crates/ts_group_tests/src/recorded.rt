@@ -3,6 +3,7 @@
 ghost use Rattle.std.specs.Prelude.{◌≡◌, ◌<◌, false, [], length, OnOk, OnErr};
 ghost use Rattle.ts_group.specs.Context.{IsSame};
 ghost use Rattle.ts_group.specs.Answers.{Holds};
+ghost use Rattle.ts_group.specs.Standing.{StandsAfter};
 ghost use Rattle.ts_group_tests.specs.Recorded.{Records};
 ghost use Rattle.ts_slot.specs.Words.{tags_of, view, IsSeatOf};
 
@@ -21,9 +22,12 @@ fn record<W: World + Drop>(
     requires later { group.old.cx.log.state.turns < turn }
     ensures ok { OnOk result (Records group.old group.new turn seat) }
     ensures sound { Holds W.sound group.old → Holds W.sound group.new }
+    ensures stands { StandsAfter group.new group.old }
     ensures err { OnErr result (IsSame group.old.cx group.new.cx × (group.new.world ≡ group.old.world)) }
 {
+    group.known();
     group.begin_turn(turn, seat, moment)?;
+    group.known();
     group.give_turn();
     Ok(())
 }

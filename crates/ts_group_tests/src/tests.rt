@@ -3,7 +3,7 @@
 use crate::burst::{Burst, CALLER};
 use crate::drive::{Driven, ask_for, drive};
 use crate::heir::Heir;
-use crate::pair::{Adder, Asker};
+use crate::peer::{ASKED, new_peer};
 use crate::recorded::visit;
 use crate::steps::{Countdown, Steps};
 use std::test::Fail;
@@ -167,13 +167,8 @@ fn a_world_is_driven_to_its_end(rt: HostRuntime) -> Result<(), Fail> {
 // A handler asks another group, and is told the reply.
 #[test]
 fn a_group_asks_another(rt: HostRuntime) -> Result<(), Fail> {
-    let world = Asker {
-        todo: 7,
-        last: 0,
-        main: None,
-    };
-    let mut asker = Group::make(rt.alloc(), world, 0)?;
-    let mut adder = Group::make(rt.alloc(), Adder { count: 0 }, 0)?;
+    let mut asker = new_peer(rt.alloc(), false, true, 7)?;
+    let mut adder = new_peer(rt.alloc(), true, false, 0)?;
     asker.begin_turn(1, 0, 0)?;
     adder.begin_turn(1, 0, 0)?;
     asker.start();
@@ -185,11 +180,11 @@ fn a_group_asks_another(rt: HostRuntime) -> Result<(), Fail> {
     else {
         return Err("it asks")?;
     };
-    assert_eq!(rt; (group, question), (1, 7));
+    assert_eq!(rt; (group, question), (ASKED, 7));
     ask_for(&mut asker, &mut adder, group, question, 0)?;
     assert_eq!(rt; asker.world().last, 8);
     assert_eq!(rt; asker.world().todo, 6);
-    assert_eq!(rt; adder.world().count, 1);
+    assert_eq!(rt; adder.journal().counts().handled, 1);
     assert_eq!(rt; adder.journal().entries().len(), 3);
     Ok(())
 }

@@ -1,5 +1,5 @@
 -- What a turn leaves of a desk.
-use Rattle.std.proofs.Common.{◌≡◌, ℕ, ◌+◌, ◌<◌, inl, inr, Bool, true, [], ◌∷◌, ◌++◌, length, sym, ap, ◌∙◌, subst, ⊎_elim, arith}
+use Rattle.std.proofs.Common.{◌≡◌, ℕ, ◌+◌, ◌<◌, ◌≤◌, inl, inr, Bool, true, [], ◌∷◌, ◌++◌, length, sym, ap, ◌∙◌, subst, ⊎_elim, arith}
 use Rattle.std.specs.List.{Contains}
 use Rattle.std.proofs.lemmas.List.Elements.{Contains-append_cases}
 use Rattle.ts_journal.specs.declared.slotted.Slotted.{Ghosts}
@@ -9,12 +9,12 @@ use Rattle.ts_journal.specs.Later.{IsLater}
 use Rattle.ts_journal.proofs.Later.{later_trans}
 use Rattle.ts_group.specs.declared.group.Group.{Group}
 use Rattle.ts_group.specs.Context.{IsSame}
-use Rattle.ts_group.specs.Slot.{trace_of, marks_of}
+use Rattle.ts_group.specs.Slot.{marks_of}
 use Rattle.ts_group.proofs.Slots.{one_mark}
 use Rattle.ts_queue.specs.declared.queue.EventQueue.{EventQueue}
 use Rattle.ts_queue.specs.declared.ticket.Token.{Token}
 use Rattle.ts_queue.specs.declared.queue.QueuePass.{QueuePass}
-use Rattle.ts_queue.specs.Passes.{IsPassOf, pass_view}
+use Rattle.ts_queue.specs.Passes.{IsPassOf, pass_view, empties_of}
 use Rattle.ts_slot.specs.declared.slots.Slots.{Slots}
 use Rattle.ts_slot.specs.Lists.{IsIn}
 use Rattle.ts_slot.specs.Words.{tags_of, view, IsSeatOf}
@@ -44,6 +44,7 @@ pub record IsGivable {W Q R T U : Type 0} (found now : Group W Q R T U) (turn se
   pub marks : marks_of now.cx.log.entries ≡ marks_of found.cx.log.entries ++ (turn, seat) ∷ []
   pub later : IsLater found.cx.log.state now.cx.log.state
   pub base : now.cx.log.base ≡ found.cx.log.base
+  pub rose : found.cx.news_from ≤ now.cx.news_from
 
 module _ {W Q R T U : Type 0} where
   given_held : (found a b : Group W Q R T U) (turn seat : ℕ) → IsGivable found a turn seat → GivesBack a b → IsGivenBack found b turn seat
@@ -56,26 +57,28 @@ module _ {W Q R T U : Type 0} where
         (Contains-append_cases (marks_of found.cx.log.entries) ((turn, seat) ∷ []) mark was);
     later = later_trans found.cx.log.state a.cx.log.state b.cx.log.state has.later gives.later;
     base = gives.base ∙ has.base;
+    rose = let a = has.rose in let b = gives.news_from in omega arith;
   }
 
   -- a turn stays one where nothing changes but the news
-  pub told_has : (found a b : Group W Q R T U) (turn seat : ℕ) → HasTurn found a turn seat → IsSame (record a.cx { news_from = b.cx.news_from }) b.cx → IsGivable found b turn seat
-  told_has found a b turn seat has same = record {
+  pub told_has : (found a b : Group W Q R T U) (turn seat : ℕ) → HasTurn found a turn seat → IsSame (record a.cx { news_from = b.cx.news_from }) b.cx → a.cx.news_from ≤ b.cx.news_from → IsGivable found b turn seat
+  told_has found a b turn seat has same rose = record {
     held = ap (λ (s : State). s.held) same.log.state ∙ has.held;
     number = ap (λ (s : State). s.turns) same.log.state ∙ has.number;
     marks = ap marks_of same.log.entries ∙ has.marks;
     later = subst (λ (s : State). IsLater found.cx.log.state s) (sym same.log.state) has.later;
     base = same.log.base ∙ has.base;
+    rose = let e = has.news_from in omega arith;
   }
 
   -- the news was told, and the turn given back
-  pub told_given : (found a a' b b' c : Group W Q R T U) (turn seat : ℕ) → HasTurn found a turn seat → a' ≡ a → IsSame (record a'.cx { news_from = b.cx.news_from }) b.cx → b' ≡ b → GivesBack b' c → IsGivenBack found c turn seat
-  told_given found a a' b b' c turn seat has e same f gives = given_held found b c turn seat (told_has found a' b turn seat (subst (λ x. HasTurn found x turn seat) (sym e) has) same) (subst (λ x. GivesBack x c) f gives)
+  pub told_given : (found a a' b b' c : Group W Q R T U) (turn seat : ℕ) → HasTurn found a turn seat → a' ≡ a → IsSame (record a'.cx { news_from = b.cx.news_from }) b.cx → a'.cx.news_from ≤ b.cx.news_from → b' ≡ b → GivesBack b' c → IsGivenBack found c turn seat
+  told_given found a a' b b' c turn seat has e same rose f gives = given_held found b c turn seat (told_has found a' b turn seat (subst (λ x. HasTurn found x turn seat) (sym e) has) same rose) (subst (λ x. GivesBack x c) f gives)
 
-  module _ {d : Ghosts (Group W Q R T U) T (ℕ × State)} where
-    pub ends_turn : (k k' turn moment : ℕ) (a a' b b' c : Group W Q R T U) (old mid new : Desk (Group W Q R T U) T (ℕ × State) d) → k' ≡ k → a' ≡ a → IsSame (record a'.cx { news_from = b.cx.news_from }) b.cx → b' ≡ b → GivesBack b' c
-        → new.wheel ≡ mid.wheel → new.pass ≡ mid.pass → KnowsTurn k turn (trace_of c.cx) (view new.seat).known → HasTold k' moment a' b old mid → EndsTurn k turn moment a old new
-    ends_turn k k' turn moment a a' b b' c old mid new ke e same f gives' wheel pass knows told =
+  module _ {d : Ghosts (Group W Q R T U) T (Group W Q R T U)} where
+    pub ends_turn : (k k' turn moment : ℕ) (a a' b b' c : Group W Q R T U) (old mid new : Desk (Group W Q R T U) T (Group W Q R T U) d) → k' ≡ k → a' ≡ a → IsSame (record a'.cx { news_from = b.cx.news_from }) b.cx → b.world ≡ a'.world → b' ≡ b → GivesBack b' c
+        → new.wheel ≡ mid.wheel → new.pass ≡ mid.pass → KnowsTurn k turn c (view new.seat).known → HasTold k' moment a' b old mid → EndsTurn k turn moment a old new
+    ends_turn k k' turn moment a a' b b' c old mid new ke e same world f gives' wheel pass knows told =
         let gives : GivesBack b c = subst (λ x. GivesBack x c) f gives' in
         let pending : c.cx.log.state.pending ≡ b.cx.log.state.pending = gives.same.pending in
         let from = gives.news_from in
@@ -83,10 +86,13 @@ module _ {W Q R T U : Type 0} where
         let told' : HasTold k moment a b old mid = subst (λ (x : ℕ × Group W Q R T U). HasTold x.0 moment x.1 b old mid) (λ i. (ke i, e i)) told in
         record {
           left = c;
-          pending = pending ∙ ap (λ (s : State). s.pending) state;
-          handled = gives.same.handled ∙ ap (λ (s : State). s.handled_count) state;
-          later = subst (λ (s : State). IsLater s c.cx.log.state) state gives.later;
-          base = gives.base ∙ same.log.base ∙ ap (λ (x : Group W Q R T U). x.cx.log.base) e;
+          as_now = record {
+            world = gives.same.world ∙ world ∙ ap (λ (x : Group W Q R T U). x.world) e;
+            pending = pending ∙ ap (λ (s : State). s.pending) state;
+            handled = gives.same.handled ∙ ap (λ (s : State). s.handled_count) state;
+            later = subst (λ (s : State). IsLater s c.cx.log.state) state gives.later;
+            base = gives.base ∙ same.log.base ∙ ap (λ (x : Group W Q R T U). x.cx.log.base) e;
+          };
           told = record {
             none = λ n p there. let low = told'.none n p (sym (ap (pending_at n) pending) ∙ there) in omega arith;
             each = λ n p there low. placed p (told'.each n p (sym (ap (pending_at n) pending) ∙ there) low);
@@ -97,7 +103,9 @@ module _ {W Q R T U : Type 0} where
             keeps = record {
               wheel = λ x there. subst (IsIn x) (sym wheel) (told'.keeps.wheel x there);
               put = λ t there. subst (λ (p : QueuePass). HasTicket t (pass_view p).put) (sym pass) (told'.keeps.put t there);
+              taken = ap (λ (p : QueuePass). (pass_view p).taken) pass ∙ told'.keeps.taken;
             };
+            empties = ap (λ p. empties_of p) pass ∙ told'.empties;
           };
           knows = knows;
         }

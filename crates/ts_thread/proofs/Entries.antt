@@ -31,6 +31,18 @@ own_marks (Cancelled number ∷ es) own = own_marks es own.1
 own_marks (Dropped number ∷ es) own = own_marks es own.1
 own_marks (Destroyed key ∷ es) own = own_marks es own.1
 
+-- a handler's own calls handle nothing
+pub own_handles : (s : State) (es : List Entry) → AllOwn es → (replay s es).handled_count ≡ s.handled_count
+own_handles s [] own = refl
+own_handles s (Took turn seat ∷ es) own = absurd own.0
+own_handles s (Gave turn ∷ es) own = absurd own.0
+own_handles s (Handled number moment ∷ es) own = absurd own.0
+own_handles s (Made key ∷ es) own = own_handles (after s (Made key)) es own.1
+own_handles s (Set number key event due series period ∷ es) own = own_handles (after s (Set number key event due series period)) es own.1
+own_handles s (Cancelled number ∷ es) own = own_handles (after s (Cancelled number)) es own.1
+own_handles s (Dropped number ∷ es) own = own_handles (after s (Dropped number)) es own.1
+own_handles s (Destroyed key ∷ es) own = own_handles (after s (Destroyed key)) es own.1
+
 renewal_marks : (p : Pending) (next moment : ℕ) → marks_of (renewal p next moment) ≡ []
 renewal_marks p next moment =
     split (nat_lt 0 p.period && nat_lt next GREATEST) (λ t. marks_of (cond t (Set next p.key Timeout (moment_after moment p.period) p.series p.period ∷ []) []) ≡ [])

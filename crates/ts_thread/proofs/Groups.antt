@@ -1,5 +1,5 @@
 -- What a turn makes of a group.
-use Rattle.std.proofs.Common.{◌≡◌, ℕ, inl, inr, false, [], ◌∷◌, ◌++◌, refl, sym, ap, ◌∙◌, subst, ⊎_elim}
+use Rattle.std.proofs.Common.{◌≡◌, ℕ, inl, inr, false, [], ◌∷◌, ◌++◌, refl, sym, ap, ◌∙◌, subst, ⊎_elim, arith}
 use Rattle.std.specs.Prelude.{Result, Ok, Err, OnOk, OnErr}
 use Rattle.std.specs.List.{Contains}
 use Rattle.ts_journal.specs.declared.entry.Entry.TheVariants.{Took, Gave}
@@ -68,6 +68,7 @@ module _ {W Q R T U : Type 0} where
       marks = λ mark there. inl (subst (λ ms. Contains ms mark) (ap marks_of same.log.entries) there);
       later = later_same old.cx.log.state new.cx.log.state same.log.state;
       base = same.log.base;
+      rose = let e = same.news_from in omega arith;
     },
     same.log.state,
   )
@@ -111,4 +112,5 @@ module _ {W Q R T U : Type 0} where
         (Contains-append_cases (marks_of found.cx.log.entries) ((turn, seat) ∷ []) mark was);
     later = later_trans found.cx.log.state a.cx.log.state b.cx.log.state has.later gives.later;
     base = gives.base ∙ has.base;
+    rose = let a = has.news_from in let b = gives.news_from in omega arith;
   }

@@ -32,6 +32,12 @@ module _ {G T : Type 0} where
     known = record { stays = λ e h. subst (IsIn e) (sym (ap (λ (y : View G T). y.known) is)) (in_append e w.known u.known (left.known.stays e h)) };
   }
 
+  -- what the seat knew of which another was split off, the two know together
+  pub joined_front : (v u w x : View G T) → u ≡ left_half v → x ≡ joined u w → More v.known x.known
+  joined_front v u w x part is = record {
+    stays = λ e h. subst (IsIn e) (sym (ap (λ (y : View G T). y.known) is)) (in_append e w.known u.known (subst (IsIn e) (sym (ap (λ (y : View G T). y.known) part)) h));
+  }
+
   -- what the seat that was split off knows, the two know together
   pub joined_more : (u w x : View G T) → x ≡ joined u w → More w.known x.known
   joined_more u w x is = record { stays = λ e h. subst (IsIn e) (sym (ap (λ (y : View G T). y.known) is)) (in_front e w.known u.known h) }

@@ -5,7 +5,6 @@ mod Entries
 mod Groups
 mod Joins
 mod Moves
-mod Pair
 mod Rows
 mod Seats
 mod Starts

@@ -26,7 +26,7 @@ use Rattle.ts_group.specs.Answers.{Holds, Falls, LeavesLess, KeepsTags, SetsAtMo
 use Rattle.ts_group.proofs.Keeps.{falls_refl, falls_trans}
 use Rattle.ts_thread.specs.Tags.{GroupFits}
 use Rattle.ts_thread.specs.Alone.{HandlesQuestion}
-use Rattle.ts_thread.proofs.Alone.{takes_none, takes_on, one_turn, first_after, asks_after, runs_begin}
+use Rattle.ts_thread.proofs.Alone.{takes_none, takes_on, takes_over, one_turn, first_after, asks_after, runs_begin}
 use Rattle.ts_thread.specs.Goings.{IsLaterGroup, HasTakenTurns, WorksOn, HasTurns, ComesNext}
 
 -- what falls by so much falls by less
@@ -92,35 +92,35 @@ over_turn g0 g1 g2 g3 turn moment more begins base on gives = record {
 }
 
 module _ {W Q R T U : Type 0} (Fits : T → W → Type 0) (Sound : W → State → List Named → Type 0) (oa isf : T → Bool) (Left : W → State → Option ℕ) where
-  pub goes_refl : (g : Group W Q R T U) (n : ℕ) → HasTakenTurns Fits Sound oa isf Left g g n
-  goes_refl g n = record {
+  pub goes_refl : {L : Type 0} (g : Group W Q R T U) (n : ℕ) → HasTakenTurns Fits Sound oa isf Left L g g n
+  goes_refl {L = L} g n = record {
     fits = λ t f. f;
     tags = λ t f. f;
     took = omega arith;
     falls = falls_refl (Left g.world g.cx.log.state);
     nothing = λ e. e;
-    takes = takes_none g.cx.log g.cx.log n (same_refl g.cx.log);
+    takes = takes_none L g.cx.log g.cx.log n (same_refl g.cx.log);
     later = record { base = refl; later = later_refl g.cx.log.state };
   }
 
-  pub goes_trans : (g h k : Group W Q R T U) (m n : ℕ) → HasTakenTurns Fits Sound oa isf Left g h m → HasTakenTurns Fits Sound oa isf Left h k n → HasTakenTurns Fits Sound oa isf Left g k (m + n)
-  goes_trans g h k m n a b = record {
+  pub goes_trans : {L : Type 0} (g h k : Group W Q R T U) (m n : ℕ) → HasTakenTurns Fits Sound oa isf Left L g h m → HasTakenTurns Fits Sound oa isf Left L h k n → HasTakenTurns Fits Sound oa isf Left L g k (m + n)
+  goes_trans {L = L} g h k m n a b = record {
     fits = λ t f. b.fits t (a.fits t f);
     tags = λ t f. b.tags t (a.tags t f);
     took = let x = a.took in let y = b.took in omega arith;
     falls = falls_trans (Left g.world g.cx.log.state) (Left h.world h.cx.log.state) (Left k.world k.cx.log.state) 0 0 a.falls b.falls;
     nothing = λ e. b.nothing (a.nothing e);
-    takes = takes_on g.cx.log h.cx.log k.cx.log m n a.takes b.takes;
+    takes = takes_on L g.cx.log h.cx.log k.cx.log m n a.takes b.takes;
     later = later_on g h k a.later b.later;
   }
 
   -- a turn in which an event was handled that was due
-  pub stepped : (g0 g1 g2 g3 : Group W Q R T U) (turn moment number : ℕ) → ComesNext g0 number moment → turn ≡ g0.cx.log.state.turns + 1
+  pub stepped : {L : Type 0} (g0 g1 g2 g3 : Group W Q R T U) (turn moment number : ℕ) → ComesNext g0 number moment → turn ≡ g0.cx.log.state.turns + 1
       → BeginsTurn g0.cx g1.cx turn 0 moment → g1.world ≡ g0.world → Left g1.world g1.cx.log.state ≡ Left g0.world g0.cx.log.state
-      → WorksOn Fits Sound Left g1 g2
+      → WorksOn Fits Sound Left L g1 g2
       → GivesTurn g2.cx g3.cx → g3.world ≡ g2.world → Left g3.world g3.cx.log.state ≡ Left g2.world g2.cx.log.state → Holds Sound g3
-      → HasTakenTurns Fits Sound oa isf Left g0 g3 1
-  stepped g0 g1 g2 g3 turn moment number due is begins same left works gives still left_too sound =
+      → HasTakenTurns Fits Sound oa isf Left L g0 g3 1
+  stepped {L = L} g0 g1 g2 g3 turn moment number due is begins same left works gives still left_too sound =
       let there : pending_at number g0.cx.log.state.pending ≡ Some due.0 = subst (λ (n : ℕ). pending_at n g0.cx.log.state.pending ≡ Some due.0) due.3 due.1.0 in
       let next1 : g1.cx.log.state.next ≡ g0.cx.log.state.next = ap (λ (s : State). s.next) begins.state in
       let turns1 : g1.cx.log.state.turns ≡ turn = ap (λ (s : State). s.turns) begins.state in
@@ -148,13 +148,13 @@ module _ {W Q R T U : Type 0} (Fits : T → W → Type 0) (Sound : W → State �
         took = omega arith;
         falls = subst (λ (x : Option ℕ). Falls x 0 (Left g3.world g3.cx.log.state)) left (subst (λ (x : Option ℕ). Falls (Left g1.world g1.cx.log.state) 0 x) (sym left_too) works.falls);
         nothing = λ none. let h : pending_at number [] ≡ Some due.0 = sym (ap (pending_at number) none) ∙ there in absurd (cc);
-        takes = one_turn g0.cx g1.cx g2.cx g3.cx turn moment works.did is begins works.by (works.turn.turns) (first_after g0.cx g1.cx turn moment works.did begins works.first) gives;
+        takes = one_turn L g0.cx g1.cx g2.cx g3.cx turn moment works.did is begins works.by (works.turn.turns) (first_after L g0.cx g1.cx turn moment works.did begins works.first) gives;
         later = over_turn g0 g1 g2 g3 turn moment (omega arith) begins works.by.base works.later gives;
       }
 
   -- a group that is the same but for its room
-  pub same_goes : (g h : Group W Q R T U) (n : ℕ) → IsSame g.cx h.cx → h.world ≡ g.world → HasTakenTurns Fits Sound oa isf Left g h n
-  same_goes g h n cx world =
+  pub same_goes : {L : Type 0} (g h : Group W Q R T U) (n : ℕ) → IsSame g.cx h.cx → h.world ≡ g.world → HasTakenTurns Fits Sound oa isf Left L g h n
+  same_goes {L = L} g h n cx world =
       let state : h.cx.log.state ≡ g.cx.log.state = cx.log.state in
       record {
         fits = λ t f.
@@ -165,18 +165,18 @@ module _ {W Q R T U : Type 0} (Fits : T → W → Type 0) (Sound : W → State �
         took = let e = ap (λ (s : State). s.turns) state in omega arith;
         falls = subst (λ (x : W × State). Falls (Left g.world g.cx.log.state) 0 (Left x.0 x.1)) (λ i. (sym world i, sym state i)) (falls_refl (Left g.world g.cx.log.state));
         nothing = λ e. ap (λ (s : State). s.pending) state ∙ e;
-        takes = takes_none g.cx.log h.cx.log n cx.log;
+        takes = takes_none L g.cx.log h.cx.log n cx.log;
         later = later_same g h cx;
       }
 
-  pub same_works : (g h : Group W Q R T U) → g.cx.log.state.held ≡ true → Holds Sound g → IsSameGroup g h → WorksOn Fits Sound Left g h
-  same_works g h held sound same =
+  pub same_works : {L : Type 0} (g h : Group W Q R T U) → g.cx.log.state.held ≡ true → Holds Sound g → IsSameGroup g h → L → WorksOn Fits Sound Left L g h
+  same_works g h held sound same lack =
       let state : h.cx.log.state ≡ g.cx.log.state = same.cx.log.state in
       record {
         turn = record { held = ap (λ (s : State). s.held) state ∙ held; turns = ap (λ (s : State). s.turns) state };
         did = [];
         by = extends_none g.cx.log h.cx.log same.cx.log;
-        first = inl refl;
+        first = inl (lack, refl);
         later = (later_same g h same.cx).later;
         tags = λ t f. subst (λ (w : W). Fits t w) (sym same.world) f;
         sound = subst (λ (x : W × State × List Named). Sound x.0 x.1 x.2) (λ i. (sym same.world i, sym state i, sym same.cx.roles i)) sound;
@@ -185,8 +185,8 @@ module _ {W Q R T U : Type 0} (Fits : T → W → Type 0) (Sound : W → State �
       }
 
   -- an event was handled in a turn
-  pub handled_works : (Called : W → W → List ℕ → Type 0) (g h : Group W Q R T U) (number moment events : ℕ) → ComesNext g number moment → IsValid g.cx.log.state → Handles Called g h number moment events
-      → KeepsTags Fits g.world h.world → Holds Sound h → SetsAtMost Fits g.world (MOST_EVENTS * (MOST_SET + 1)) g.cx h.cx → LeavesLess Left g events h → WorksOn Fits Sound Left g h
+  pub handled_works : {L : Type 0} (Called : W → W → List ℕ → Type 0) (g h : Group W Q R T U) (number moment events : ℕ) → ComesNext g number moment → IsValid g.cx.log.state → Handles Called g h number moment events
+      → KeepsTags Fits g.world h.world → Holds Sound h → SetsAtMost Fits g.world (MOST_EVENTS * (MOST_SET + 1)) g.cx h.cx → LeavesLess Left g events h → WorksOn Fits Sound Left L g h
   handled_works Called g h number moment events due valid handles tags sound few falls = record {
     did = handles.es;
     by = handles.by;
@@ -200,10 +200,10 @@ module _ {W Q R T U : Type 0} (Fits : T → W → Type 0) (Sound : W → State �
   }
 
   -- and the handler was told what came of its question
-  pub told_works : (Called : W → W → List ℕ → Type 0) (g h k : Group W Q R T U) (number moment events : ℕ) → ComesNext g number moment → IsValid g.cx.log.state → IsValid h.cx.log.state → Handles Called g h number moment events
+  pub told_works : {L : Type 0} (Called : W → W → List ℕ → Type 0) (g h k : Group W Q R T U) (number moment events : ℕ) → ComesNext g number moment → IsValid g.cx.log.state → IsValid h.cx.log.state → Handles Called g h number moment events
       → KeepsTags Fits g.world h.world → SetsAtMost Fits g.world (MOST_EVENTS * (MOST_SET + 1)) g.cx h.cx → LeavesLess Left g events h
       → Grows h.cx k.cx → StaysInTurn h.cx.log.state k.cx.log.state → Holds Sound k → KeepsTags Fits h.world k.world → SetsAtMost Fits h.world MOST_SET h.cx k.cx → LeavesLess Left h 0 k
-      → WorksOn Fits Sound Left g k × LeavesLess Left g 1 k
+      → WorksOn Fits Sound Left L g k × LeavesLess Left g 1 k
   told_works Called g h k number moment events due valid valid' handles tags few falls grows turn sound tags' few' falls' =
       let some : 1 ≤ events = handles.some in
       let begin = runs_begin Called g.world h.world g.cx.log.state moment number [] events handles.es h.cx.calls handles.runs in
@@ -223,12 +223,12 @@ module _ {W Q R T U : Type 0} (Fits : T → W → Type 0) (Sound : W → State �
       )
 
   -- a turn in which a group was asked
-  pub asked_goes : (g0 g1 g2 g3 : Group W Q R T U) (turn moment : ℕ) (tag : T) → GroupFits Fits Sound oa isf tag g0 → turn ≡ g0.cx.log.state.turns + 1
+  pub asked_goes : {L : Type 0} (g0 g1 g2 g3 : Group W Q R T U) (turn moment : ℕ) (tag : T) → GroupFits Fits Sound oa isf tag g0 → turn ≡ g0.cx.log.state.turns + 1
       → BeginsTurn g0.cx g1.cx turn 0 moment → g1.world ≡ g0.world → Left g1.world g1.cx.log.state ≡ Left g0.world g0.cx.log.state
-      → SetsQuestion Fits g1.world g1.cx g2.cx → KeepsTags Fits g1.world g2.world → (did : List Entry) → Extends g1.cx.log g2.cx.log did → ((did ≡ []) ⊎ HandlesQuestion g1.cx.log.state did) → IsLater g1.cx.log.state g2.cx.log.state → g2.cx.log.state.turns ≡ g1.cx.log.state.turns → LeavesLess Left g1 0 g2
+      → SetsQuestion Fits g1.world g1.cx g2.cx → KeepsTags Fits g1.world g2.world → (did : List Entry) → Extends g1.cx.log g2.cx.log did → ((L × (did ≡ [])) ⊎ HandlesQuestion g1.cx.log.state did) → IsLater g1.cx.log.state g2.cx.log.state → g2.cx.log.state.turns ≡ g1.cx.log.state.turns → LeavesLess Left g1 0 g2
       → GivesTurn g2.cx g3.cx → g3.world ≡ g2.world → Left g3.world g3.cx.log.state ≡ Left g2.world g2.cx.log.state → Holds Sound g3
-      → HasTakenTurns Fits Sound oa isf Left g0 g3 1
-  asked_goes g0 g1 g2 g3 turn moment tag fit is begins same left sets keeps did by asks later turns2 less gives still left_too sound =
+      → HasTakenTurns Fits Sound oa isf Left L g0 g3 1
+  asked_goes {L = L} g0 g1 g2 g3 turn moment tag fit is begins same left sets keeps did by asks later turns2 less gives still left_too sound =
       let next1 : g1.cx.log.state.next ≡ g0.cx.log.state.next = ap (λ (s : State). s.next) begins.state in
       let turns1 : g1.cx.log.state.turns ≡ turn = ap (λ (s : State). s.turns) begins.state in
       let next3 : g3.cx.log.state.next ≡ g2.cx.log.state.next = ap (λ (s : State). s.next) gives.state in
@@ -252,7 +252,7 @@ module _ {W Q R T U : Type 0} (Fits : T → W → Type 0) (Sound : W → State �
         took = omega arith;
         falls = subst (λ (x : Option ℕ). Falls x 0 (Left g3.world g3.cx.log.state)) left (subst (λ (x : Option ℕ). Falls (Left g1.world g1.cx.log.state) 0 x) (sym left_too) less);
         nothing = nothing;
-        takes = one_turn g0.cx g1.cx g2.cx g3.cx turn moment did is begins by turns2 (asks_after g0.cx g1.cx turn moment did begins asks) gives;
+        takes = one_turn L g0.cx g1.cx g2.cx g3.cx turn moment did is begins by turns2 (asks_after L g0.cx g1.cx turn moment did begins asks) gives;
         later = over_turn g0 g1 g2 g3 turn moment (omega arith) begins by.base later gives;
       }
 
@@ -275,3 +275,15 @@ module _ {W Q R T U : Type 0} (Fits : T → W → Type 0) (Sound : W → State �
         live = subst (λ (keys : List ContKey). IsLive keys own_key) (sym (ap (λ (s : State). s.live) begins.state)) live;
         unspent = omega arith;
       }
+
+  -- a group whose turns handle nothing only where one thing lacks, where another does
+  pub goes_over : {L M : Type 0} → (L → M) → (g h : Group W Q R T U) (n : ℕ) → HasTakenTurns Fits Sound oa isf Left L g h n → HasTakenTurns Fits Sound oa isf Left M g h n
+  goes_over f g h n t = record {
+    fits = t.fits;
+    tags = t.tags;
+    takes = takes_over f g.cx.log h.cx.log n t.takes;
+    took = t.took;
+    falls = t.falls;
+    nothing = t.nothing;
+    later = t.later;
+  }

@@ -1,5 +1,5 @@
 -- Groups that are started, from their first turns to the end.
-use Rattle.std.proofs.Common.{◌≡◌, ℕ, suc, ◌+◌, ◌-◌, ◌*◌, ◌<◌, ◌≤◌, inl, inr, Bool, true, false, cond, eqb, List, [], ◌∷◌, length, All, refl, sym, ap, ◌∙◌, subst, ⊎_elim, arith}
+use Rattle.std.proofs.Common.{◌≡◌, ℕ, zero, suc, ◌+◌, ◌-◌, ◌*◌, ◌<◌, ◌≤◌, inl, inr, Bool, true, false, cond, eqb, List, [], ◌∷◌, length, All, refl, sym, ap, ◌∙◌, subst, ⊎_elim, arith}
 use Rattle.std.specs.Bool.{OnTrue}
 use Rattle.std.specs.List.{AllZip}
 use Rattle.std.proofs.lemmas.Bool.{cases_lt}
@@ -8,17 +8,18 @@ use mathlib.Core.Option.{some}
 use lib.ListN.{get_elem?}
 use Rattle.ts_journal.specs.declared.slotted.Slotted.{Ghosts}
 use Rattle.ts_journal.specs.State.{State}
-use Rattle.ts_journal.specs.Later.{IsLater, Follows}
+use Rattle.ts_journal.specs.Later.{IsLater}
 use Rattle.ts_journal.proofs.Later.{follows_trans}
 use Rattle.ts_group.specs.declared.action.Named.{Named}
 use Rattle.ts_group.specs.declared.group.Group.{Group}
 use Rattle.ts_group.specs.declared.slot.TheConstants.{MOST_IN_TURN}
-use Rattle.ts_group.specs.Slot.{trace_of}
+use Rattle.ts_group.specs.Due.{NoNews}
+use Rattle.ts_group.specs.Standing.{StandsAfter}
 use Rattle.ts_slot.specs.declared.seat.Turn.{Turn}
 use Rattle.ts_slot.specs.declared.view.View.{View}
 use Rattle.ts_slot.specs.Limits.{last_turn}
 use Rattle.ts_slot.specs.Lists.{Each, IsIn, same, entries}
-use Rattle.ts_slot.specs.Views.{won, IsAfter}
+use Rattle.ts_slot.specs.Views.{Coherent, firsts, won, IsAfter}
 use Rattle.ts_thread.specs.Entering.{IsEntered}
 use Rattle.ts_thread.specs.Held.{HasTurn, BeginsSame, StartsInTurn, FitsHere, WillFit}
 use Rattle.ts_thread.specs.Seats.{More, KeepsSeat, Leaves, KnowsTurn}
@@ -63,26 +64,27 @@ module _ {W Q R T U : Type 0} (Fits : T → W → Type 0) (Sound : W → State �
       )
 
   -- a group was entered, started and left
-  pub starts_one : (k turn seat : ℕ) (found v g0 g1 g1' g2 left : Group W Q R T U) (old before entered new : View T (ℕ × State)) → FitsHere Fits Sound only_asked is_first tags k v → found ≡ v → g0 ≡ v
-      → HasTurn g0 g1 turn seat → BeginsSame g0 g1 → g1' ≡ g1 → StartsInTurn Fits Sound Begun g1' g2 → entered ≡ won k turn (trace_of v.cx) before → Leaves entered new
-      → left.cx.log.base ≡ g2.cx.log.base → IsLater g2.cx.log.state left.cx.log.state → KnowsTurn k turn (trace_of left.cx) new.known
+  pub starts_one : (k turn seat : ℕ) (found v g0 g1 g1' g2 left : Group W Q R T U) (old before entered new : View T (Group W Q R T U)) → FitsHere Fits Sound only_asked is_first tags k v → found ≡ v → g0 ≡ v
+      → HasTurn g0 g1 turn seat → BeginsSame g0 g1 → g1' ≡ g1 → StartsInTurn Fits Sound Begun g1' g2 → entered ≡ won k turn v before → Leaves entered new
+      → left.cx.log.base ≡ g2.cx.log.base → IsLater g2.cx.log.state left.cx.log.state → NoNews left.cx.news_from left.cx.log.state → KnowsTurn k turn left new.known
       → Starts (IsFirst is_first tags) Begun Sound k turn found g2 left new.known
-  starts_one k turn seat found v g0 g1 g1' g2 left old before entered new fit is_found is has same is1 starts wins leaves base later knows =
+  starts_one k turn seat found v g0 g1 g1' g2 left old before entered new fit is_found is has same is1 starts wins leaves base later told knows =
       let world : g1'.world ≡ found.world = ap (λ (x : Group W Q R T U). x.world) is1 ∙ same.world ∙ ap (λ (x : Group W Q R T U). x.world) is ∙ ap (λ (x : Group W Q R T U). x.world) (sym is_found) in
       let base0 : g2.cx.log.base ≡ v.cx.log.base = starts.goes.base ∙ ap (λ (x : Group W Q R T U). x.cx.log.base) is1 ∙ has.base ∙ ap (λ (x : Group W Q R T U). x.cx.log.base) is in
-      let there : IsIn (k, turn - 1, trace_of v.cx) entered.known = subst (IsIn (k, turn - 1, trace_of v.cx)) (sym (ap (λ (x : View T (ℕ × State)). x.known) wins)) (inl refl) in
+      let there : IsIn (k, turn - 1, v) entered.known = subst (IsIn (k, turn - 1, v)) (sym (ap (λ (x : View T (Group W Q R T U)). x.known) wins)) (inl refl) in
       record {
         first = (fit.0, fit.1, subst (λ (s : State). OnTrue (is_first fit.0) (s.turns ≡ 0)) (sym base0) fit.2.3);
-        stood = subst (λ (x : Group W Q R T U). IsIn (k, turn - 1, trace_of x.cx) new.known) (sym is_found) (leaves.known.stays (k, turn - 1, trace_of v.cx) there);
+        stood = subst (λ (x : Group W Q R T U). IsIn (k, turn - 1, x) new.known) (sym is_found) (leaves.known.stays (k, turn - 1, v) there);
         begun = subst (λ w. Begun w g2.world) world starts.begun;
         sound = starts.sound;
         base = base;
         later = later;
+        told = told;
         knows = knows;
       }
 
 module _ {W : Type 0} (Q R T U : Type 0) (First : ℕ → ℕ → Type 0) (Begun : W → W → Type 0) (Sound : W → State → List Named → Type 0) where
-  pub started_more : (xs ys : List (ℕ × ℕ × (ℕ × State))) (k : ℕ) → More xs ys → Started Q R T U First Begun Sound xs k → Started Q R T U First Begun Sound ys k
+  pub started_more : (xs ys : List (ℕ × ℕ × Group W Q R T U)) (k : ℕ) → More xs ys → Started Q R T U First Begun Sound xs k → Started Q R T U First Begun Sound ys k
   started_more xs ys k more s = record {
     turn = s.turn;
     found = s.found;
@@ -90,19 +92,20 @@ module _ {W : Type 0} (Q R T U : Type 0) (First : ℕ → ℕ → Type 0) (Begun
     left = s.left;
     starts = record {
       first = s.starts.first;
-      stood = more.stays (k, s.turn - 1, trace_of s.found.cx) s.starts.stood;
+      stood = more.stays (k, s.turn - 1, s.found) s.starts.stood;
       begun = s.starts.begun;
       sound = s.starts.sound;
       base = s.starts.base;
       later = s.starts.later;
-      knows = λ low. more.stays (k, s.turn, trace_of s.left.cx) (s.starts.knows low);
+      told = s.starts.told;
+      knows = λ low. more.stays (k, s.turn, s.left) (s.starts.knows low);
     };
   }
 
-  pub all_more : (xs ys : List (ℕ × ℕ × (ℕ × State))) (n : ℕ) → More xs ys → AllStarted Q R T U First Begun Sound xs n → AllStarted Q R T U First Begun Sound ys n
+  pub all_more : (xs ys : List (ℕ × ℕ × Group W Q R T U)) (n : ℕ) → More xs ys → AllStarted Q R T U First Begun Sound xs n → AllStarted Q R T U First Begun Sound ys n
   all_more xs ys n more all k low = started_more xs ys k more (all k low)
 
-  pub one_more : (xs ys : List (ℕ × ℕ × (ℕ × State))) (n : ℕ) → More xs ys → AllStarted Q R T U First Begun Sound xs n → Started Q R T U First Begun Sound ys n → AllStarted Q R T U First Begun Sound ys (n + 1)
+  pub one_more : (xs ys : List (ℕ × ℕ × Group W Q R T U)) (n : ℕ) → More xs ys → AllStarted Q R T U First Begun Sound xs n → Started Q R T U First Begun Sound ys n → AllStarted Q R T U First Begun Sound ys (n + 1)
   one_more xs ys n more all one k low =
       ⊎_elim (λ (less : k < n). started_more xs ys k more (all k less)) (λ (past : n ≤ k). let e : k ≡ n = omega arith in subst (Started Q R T U First Begun Sound ys) (sym e) one) (cases_lt k n)
 
@@ -118,22 +121,48 @@ few_entries k (e ∷ es) = let h = few_entries k es in let one = most_one e.0 k 
     most_one : (a b : ℕ) → same a b ≤ 1
     most_one a b = elim (eqb a b) as (λ t. cond t 1 0 ≤ 1) [ true ↦ omega arith | false ↦ omega arith ]
 
--- At the end, a group that was started follows what stood then.
-pub was_started : {W Q R T U : Type 0} (First : ℕ → ℕ → Type 0) (Begun : W → W → Type 0) (Sound : W → State → List Named → Type 0) (known : List (ℕ × ℕ × (ℕ × State))) (turns : List (ℕ × ℕ)) (k : ℕ) (now : Group W Q R T U)
-    → entries k turns + 1 < last_turn → Started Q R T U First Begun Sound known k → IsAfter Follows k (entries k turns + 1) (trace_of now.cx) known → WasStarted First Begun Sound k now
-was_started First Begun Sound known turns k now low s after =
-    let found = each_in (λ e. e.0 ≡ k → (e.1 < entries k turns + 1) × Follows (trace_of now.cx) e.2 × (e.1 + 1 ≡ entries k turns + 1 → trace_of now.cx ≡ e.2)) known (k, s.turn - 1, trace_of s.found.cx) after s.starts.stood refl in
+-- what a later turn found stands after what is known
+pub after_known : {T : Type 0} (follows : T → T → Type 0) (known : List (ℕ × ℕ × T)) (k n b : ℕ) (x now : T) → IsAfter follows k n now known → IsIn (k, b, x) known → follows now x
+after_known {T} follows known k n b x now after there =
+    (each_in (λ (e : ℕ × ℕ × T). e.0 ≡ k → (e.1 < n) × follows now e.2 × (e.1 + 1 ≡ n → now ≡ e.2)) known (k, b, x) after there refl).1
+
+-- of what is known of one group, that after the later turn follows the other
+coherent_after : {T : Type 0} (follows : T → T → Type 0) (es : List (ℕ × ℕ × T)) (k a b : ℕ) (x y : T) → Coherent follows es → IsIn (k, a, x) es → IsIn (k, b, y) es → a ≤ b → follows y x
+coherent_after {T} follows es k a b x y all one other le =
+    let row = each_in (λ (d : ℕ × ℕ × T). Each (λ (e : ℕ × ℕ × T). d.0 ≡ e.0 → d.1 ≤ e.1 → follows e.2 d.2 × (d.1 ≡ e.1 → d.2 ≡ e.2)) es) es (k, a, x) all one in
+    (each_in (λ (e : ℕ × ℕ × T). k ≡ e.0 → a ≤ e.1 → follows e.2 x × (a ≡ e.1 → x ≡ e.2)) es (k, b, y) row other refl le).0
+
+-- before any turn each group is known as it was given
+pub given_known : {X : Type 0} (xs : List X) (i k j : ℕ) (x : X) → j ≡ i + k → get_elem? xs k ≡ some x → IsIn (j, 0, x) (firsts (λ y. y) i xs)
+given_known [] i k j x e at = absurd (cc)
+given_known (y ∷ ys) i zero j x e at = let same : y ≡ x = cc in let place : i ≡ j = omega arith in inl (λ t. (place t, 0, same t))
+given_known (y ∷ ys) i (suc k) j x e at = inr (given_known ys (i + 1) k j x (omega arith) at)
+
+-- At the end, a group that was started follows what stood then, as far as it was known before.
+pub was_started : {W Q R T U : Type 0} (First : ℕ → ℕ → Type 0) (Begun : W → W → Type 0) (Sound : W → State → List Named → Type 0) (old known : List (ℕ × ℕ × Group W Q R T U)) (turns : List (ℕ × ℕ)) (k : ℕ) (given now : Group W Q R T U)
+    → entries k turns + 1 < last_turn → Started Q R T U First Begun Sound old k → Coherent StandsAfter old → IsIn (k, 0, given) old → More old known → IsAfter StandsAfter k (entries k turns + 1) now known → WasStarted First Begun Sound k given now
+was_started {W} {Q} {R} {T} {U} First Begun Sound old known turns k given now low s coherent first more after =
+    let found = each_in (λ (e : ℕ × ℕ × Group W Q R T U). e.0 ≡ k → (e.1 < entries k turns + 1) × StandsAfter now e.2 × (e.1 + 1 ≡ entries k turns + 1 → now ≡ e.2)) known (k, s.turn - 1, s.found) after (more.stays (k, s.turn - 1, s.found) s.starts.stood) refl in
     let below = found.0 in
     let young : s.turn < last_turn = omega arith in
-    let left = each_in (λ e. e.0 ≡ k → (e.1 < entries k turns + 1) × Follows (trace_of now.cx) e.2 × (e.1 + 1 ≡ entries k turns + 1 → trace_of now.cx ≡ e.2)) known (k, s.turn, trace_of s.left.cx) after (s.starts.knows young) refl in
+    let left = after_known StandsAfter known k (entries k turns + 1) s.turn s.left now after (more.stays (k, s.turn, s.left) (s.starts.knows young)) in
     record {
       found = s.found;
+      stood = coherent_after StandsAfter old k 0 (s.turn - 1) given s.found coherent first s.starts.stood (omega arith);
       started = s.started;
       first = s.starts.first;
       begun = s.starts.begun;
       sound = s.starts.sound;
-      follows = follows_trans (trace_of now.cx) (trace_of s.left.cx) (trace_of s.started.cx) left.1 (inr (ap (λ (x : State). x.turns) s.starts.base, s.starts.later));
+      follows = follows_trans (now.cx.log.base.turns, now.cx.log.state) (s.left.cx.log.base.turns, s.left.cx.log.state) (s.started.cx.log.base.turns, s.started.cx.log.state) left.follows
+          (inr (ap (λ (x : State). x.turns) s.starts.base, s.starts.later));
     }
+
+-- elements of two lists at the same places
+pub zip_pairs : {A B : Type 0} (P : A → B → Type 0) (xs : List A) (ys : List B) → length ys ≡ length xs → ((k : ℕ) (x : A) (y : B) → get_elem? xs k ≡ some x → get_elem? ys k ≡ some y → P x y) → AllZip P xs ys
+zip_pairs P [] [] e f = tt
+zip_pairs P [] (y ∷ ys) e f = absurd (omega arith)
+zip_pairs P (x ∷ xs) [] e f = absurd (omega arith)
+zip_pairs P (x ∷ xs) (y ∷ ys) e f = (f 0 x y refl refl, zip_pairs P xs ys (omega arith) (λ k a b at at'. f (suc k) a b at at'))
 
 -- lists, element by element
 pub zip_from : {A B : Type 0} (P : A → B → Type 0) (ts : List A) (xs : List B) → length xs ≡ length ts → ((k : ℕ) (x : B) → get_elem? xs k ≡ some x → (t : A) × (get_elem? ts k ≡ some t) × P t x) → AllZip P ts xs

@@ -12,12 +12,13 @@ use Rattle.ts_group.specs.declared.group.Group.{Group}
 use Rattle.ts_group.specs.Context.{Context, IsSame}
 use Rattle.ts_group.specs.Due.{NoNews, IsNews, IsFirstNews}
 use Rattle.ts_queue.specs.declared.queue.EventQueue.{EventQueue}
+use Rattle.ts_queue.specs.declared.queue.QueuePass.{QueuePass}
 use Rattle.ts_queue.specs.declared.ticket.Token.{Token}
 use Rattle.ts_queue.specs.declared.ticket.Ticket.{Ticket}
 use Rattle.ts_queue.specs.declared.view.View.{View}
 use Rattle.ts_queue.specs.Tickets.{is_same_token}
 use Rattle.ts_queue.specs.Views.{next_ticket}
-use Rattle.ts_queue.specs.Passes.{IsPassOf, pass_view}
+use Rattle.ts_queue.specs.Passes.{IsPassOf, pass_view, empties_of}
 use Rattle.ts_slot.specs.declared.slots.Slots.{Slots}
 use Rattle.ts_slot.specs.Lists.{IsIn}
 use Rattle.ts_slot.specs.Words.{tags_of, IsSeatOf}
@@ -84,20 +85,38 @@ same_next a b c p q = record {
 
 module _ {X G T : Type 0} {d : Ghosts X G T} where
   keeps_refl : (desk : Desk X G T d) → KeepsPlaces desk desk
-  keeps_refl desk = record { wheel = λ e h. h; put = λ t h. h }
+  keeps_refl desk = record { wheel = λ e h. h; put = λ t h. h; taken = refl }
 
   keeps_place : (a b : Desk X G T d) (token : Token) (due moment : ℕ) → Places token due moment a b → KeepsPlaces a b
   keeps_place a b token due moment (inl puts) = record {
     wheel = λ e h. subst (IsIn e) (sym puts.wheel) h;
     put = λ t h. subst (λ (v : View). HasTicket t v.put) (sym puts.pass) (ticket_stays t (next_ticket (pass_view a.pass) token) (pass_view a.pass).put h);
+    taken = ap (λ (v : View). v.taken) puts.pass;
   }
   keeps_place a b token due moment (inr adds) = record {
     wheel = λ e h. subst (IsIn e) (sym adds.wheel) (in_added due token a.wheel e h);
     put = λ t h. subst (λ (v : View). HasTicket t v.put) (sym adds.pass) h;
+    taken = ap (λ (v : View). v.taken) adds.pass;
   }
 
-  keeps_trans : (a b c : Desk X G T d) → KeepsPlaces a b → KeepsPlaces b c → KeepsPlaces a c
-  keeps_trans a b c h k = record { wheel = λ e x. k.wheel e (h.wheel e x); put = λ t x. k.put t (h.put t x) }
+  pub keeps_trans : (a b c : Desk X G T d) → KeepsPlaces a b → KeepsPlaces b c → KeepsPlaces a c
+  keeps_trans a b c h k = record { wheel = λ e x. k.wheel e (h.wheel e x); put = λ t x. k.put t (h.put t x); taken = k.taken ∙ h.taken }
+
+  -- a token was added to the wheel
+  pub keeps_added : (a b : Desk X G T d) (token : Token) (due : ℕ) → b.wheel ≡ added due token a.wheel → b.pass ≡ a.pass → KeepsPlaces a b
+  keeps_added a b token due wheel pass = record {
+    wheel = λ e h. subst (IsIn e) (sym wheel) (in_added due token a.wheel e h);
+    put = λ t h. subst (λ (p : QueuePass). HasTicket t (pass_view p).put) (sym pass) h;
+    taken = ap (λ (p : QueuePass). (pass_view p).taken) pass;
+  }
+
+  -- nothing got a place, and none was lost
+  pub keeps_same : (a b c : Desk X G T d) → KeepsPlaces a b → SamePlaces b c → KeepsPlaces a c
+  keeps_same a b c keeps same = record {
+    wheel = λ e h. subst (IsIn e) (sym same.wheel) (keeps.wheel e h);
+    put = λ t h. subst (λ (v : View). HasTicket t v.put) (sym same.pass) (keeps.put t h);
+    taken = ap (λ (v : View). v.taken) same.pass ∙ keeps.taken;
+  }
 
   has_place : (a b : Desk X G T d) (moment k : ℕ) (p : Pending) → Places (record { group = k; number = p.number }) p.due moment a b → HasPlace moment k p b
   has_place a b moment k p (inl puts) =
@@ -154,6 +173,7 @@ module _ {X G T : Type 0} {d : Ghosts X G T} where
     pub keeps : KeepsPlaces old new
     pub seat : new.seat ≡ old.seat
     pub share : SharesSame old new
+    pub empties : empties_of new.pass ≡ empties_of old.pass
 
   module _ {W Q R T' U : Type 0} (k moment : ℕ) where
     pub telling_begins : (g : Group W Q R T' U) (desk : Desk X G T d) → IsValid g.cx.log.state → IsTelling k moment g g desk desk
@@ -167,6 +187,7 @@ module _ {X G T : Type 0} {d : Ghosts X G T} where
       keeps = keeps_refl desk;
       seat = refl;
       share = refl;
+      empties = refl;
     }
 
     -- the group is the same but for its news, after one piece of it was asked for
@@ -175,9 +196,9 @@ module _ {X G T : Type 0} {d : Ghosts X G T} where
     telling_same first a b old desk was same world = (same_next first.cx a.cx b.cx was.same same, world ∙ was.world)
 
     pub telling_goes_on : (first a b : Group W Q R T' U) (old desk next : Desk X G T d) (number due : ℕ) → IsTelling k moment first a old desk → IsFirstNews a.cx number due
-        → b.cx.news_from ≡ number + 1 → IsSame (record a.cx { news_from = b.cx.news_from }) b.cx → b.world ≡ a.world → next.seat ≡ desk.seat
+        → b.cx.news_from ≡ number + 1 → IsSame (record a.cx { news_from = b.cx.news_from }) b.cx → b.world ≡ a.world → next.seat ≡ desk.seat → empties_of next.pass ≡ empties_of desk.pass
         → Places (record { group = k; number = number }) due moment desk next → IsTelling k moment first b old next
-    telling_goes_on first a b old desk next number due was (p, news, number_is, due_is) from same world seat places =
+    telling_goes_on first a b old desk next number due was (p, news, number_is, due_is) from same world seat empties places =
         let state : b.cx.log.state ≡ a.cx.log.state = same.log.state in
         let places' : Places (record { group = k; number = p.number }) p.due moment desk next =
         subst (λ (x : ℕ × ℕ). Places (record { group = k; number = x.0 }) x.1 moment desk next) (λ i. (sym number_is i, sym due_is i)) places in
@@ -208,6 +229,7 @@ module _ {X G T : Type 0} {d : Ghosts X G T} where
               (λ i. one_if (is_between k first.cx.news_from (from' i) (state i).pending t)) in omega arith;
           keeps = keeps_trans old desk next was.keeps keeps;
           seat = seat ∙ was.seat;
+          empties = empties ∙ was.empties;
           share = share_place desk next (record { group = k; number = p.number }) p.due moment places' ∙ was.share;
         }
 
@@ -220,6 +242,7 @@ module _ {X G T : Type 0} {d : Ghosts X G T} where
           each = λ n p there low. let there' : pending_at n a.cx.log.state.pending ≡ Some p = ap (λ (s : State). pending_at n s.pending) (sym state) ∙ there in was.each n p there' low (none n p there');
           once = λ t. was.once t ∙ ap (λ (x : ℕ × State). places_of t old + one_if (is_between k first.cx.news_from x.0 x.1.pending t)) (λ i. (sym still i, sym state i));
           keeps = was.keeps;
+          empties = was.empties;
         }
 
     -- there is less to tell after each piece

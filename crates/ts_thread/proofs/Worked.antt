@@ -1,5 +1,5 @@
 -- What a handler's work makes of its group, and what comes of it.
-use Rattle.std.proofs.Common.{◌≡◌, ℕ, zero, suc, ◌+◌, ◌*◌, ◌<◌, ◌≤◌, ◌⊎◌, inr, Bool, true, cond, List, [], ◌∷◌, Some, length, sym, ap, ◌∙◌, subst, arith}
+use Rattle.std.proofs.Common.{◌≡◌, ℕ, zero, suc, ◌+◌, ◌*◌, ◌<◌, ◌≤◌, ◌⊎◌, inr, Bool, true, cond, List, [], ◌∷◌, Option, Some, length, sym, ap, ◌∙◌, subst, arith}
 use Rattle.std.specs.Prelude.{Result, Ok, Err, IfOk, IfErr, IsErr, slice_get}
 use Rattle.std.specs.List.{Contains}
 use Rattle.std.specs.Bool.{OnTrue}
@@ -28,16 +28,18 @@ use Rattle.ts_group.specs.Answers.{Holds, KeepsTags, SetsAtMost, IsAnswer, IsSam
 use Rattle.ts_group.specs.Slot.{marks_of}
 use Rattle.ts_queue.specs.declared.ticket.Token.{Token}
 use Rattle.ts_slot.specs.Limits.{last_turn}
+use Rattle.ts_slot.specs.declared.view.View.{View}
 use Rattle.ts_slot.specs.Words.{view}
 use Rattle.ts_thread.specs.declared.desk.Desk.{Desk}
 use Rattle.ts_thread.specs.declared.did.Did.{Did}
 use Rattle.ts_thread.specs.declared.did.Did.TheVariants as did
 use Rattle.ts_thread.specs.Asks.{AnswersAsked, CameBy, GivesReply}
+use Rattle.ts_thread.specs.Heard.{RunsHandlers}
 use Rattle.ts_thread.specs.Held.{HasTurn, IsGivenBack, GoesInTurn, BeginsSame, SetsFewInTurn, IsWorked}
 use Rattle.ts_thread.specs.Shown.{IsShown, HandledDue, WasDue}
 use Rattle.ts_thread.specs.Tags.{GroupFits, CanAsk}
 use Rattle.ts_thread.specs.Turning.{Works}
-use Rattle.ts_thread.proofs.Entries.{own_marks, runs_marks, runs_first, is_handled, no_marks}
+use Rattle.ts_thread.proofs.Entries.{own_marks, own_handles, runs_marks, runs_first, is_handled, no_marks}
 
 -- the same element at the same place, as the slots say it and as std does
 pub to_slice : {A : Type 0} (xs : List A) (k : ℕ) (x : A) → get_elem? xs k ≡ some x → slice_get xs k ≡ Some x
@@ -68,11 +70,9 @@ due_later a b c number moment valid ab bc w =
     let up = ab.next in
     record { event = w.event; there = w.there; due = w.due; gone = bc.closed number (omega arith) w.gone }
 
-pub handled_later : (a b c : State) (number moment events : ℕ) → IsValid a → IsLater a b → IsLater b c → HandledDue a b number moment events → HandledDue a c number moment events
-handled_later a b c number moment events valid ab bc h =
-    let up = bc.handled in
-    let rise = h.rise in
-    record { was_due = due_later a b c number moment valid ab bc h.was_due; some = h.some; most = h.most; rise = omega arith }
+pub handled_later : (a b c : State) (number moment events : ℕ) → IsValid a → IsLater a b → IsLater b c → c.handled_count ≡ b.handled_count → HandledDue a b number moment events → HandledDue a c number moment events
+handled_later a b c number moment events valid ab bc same h =
+    record { was_due = due_later a b c number moment valid ab bc h.was_due; some = h.some; most = h.most; rise = same ∙ h.rise }
 
 -- something is pending
 not_none : (ps : List Pending) (number : ℕ) (p : Pending) → pending_at number ps ≡ Some p → ps ≡ [] → ⊥
@@ -93,8 +93,7 @@ module _ {W Q R T U : Type 0} where
     pub handles_due : HandledDue old.cx.log.state new.cx.log.state number moment events
     handles_due =
         let x = is_handled old.cx.log.state new.cx.log.state moment number h.es valid h.by.lawful h.by.state (runs_first Called old.world new.world old.cx.log.state moment number [] events h.es new.cx.calls h.runs) in
-        let rise = h.rise in
-        record { was_due = record { event = x.event; there = x.there; due = x.due; gone = x.gone }; some = h.some; most = h.most; rise = omega arith }
+        record { was_due = record { event = x.event; there = x.there; due = x.due; gone = x.gone }; some = h.some; most = h.most; rise = h.rise }
 
     pub handles_few : SetsAtMost Fits old.world (MOST_EVENTS * (MOST_SET + 1)) old.cx new.cx → SetsFewInTurn Fits old new
     handles_few few =
@@ -144,37 +143,23 @@ module _ {W Q R T U : Type 0} where
     tags = λ t f. q.tags t (p.tags t f);
   }
 
-  pub same_few : (Fits : T → W → Type 0) (old new : Group W Q R T U) → IsSameGroup old new → SetsFewInTurn Fits old new
-  same_few Fits old new same =
-      let next : new.cx.log.state.next ≡ old.cx.log.state.next = ap (λ (s : State). s.next) same.cx.log.state in
-      record {
-        few = λ t fit. omega arith;
-        nothing = λ none. record { pending = ap (λ (s : State). s.pending) same.cx.log.state; next = next };
-      }
-
-  pub same_sound : (Sound : W → State → List Named → Type 0) (old new : Group W Q R T U) → IsSameGroup old new → Holds Sound old → Holds Sound new
-  same_sound Sound old new same h =
-      subst (λ (x : W × State × List Named). Sound x.0 x.1 x.2) (λ i. (sym same.world i, sym same.cx.log.state i, sym same.cx.roles i)) h
-
-  -- a group in which nothing was done
-  pub same_worked : (Fits : T → W → Type 0) (Sound : W → State → List Named → Type 0) (old new : Group W Q R T U) → old.cx.log.state.held ≡ true → Holds Sound old → IsSameGroup old new → IsWorked Fits Sound old new
-  same_worked Fits Sound old new held sound same = record { goes = same_goes Fits old new held same; sound = same_sound Sound old new same sound; few = same_few Fits old new same }
-
   -- events were handled, and then the handler was told what came of its question
-  pub told_worked : (Called : W → W → List ℕ → Type 0) (Fits : T → W → Type 0) (Sound : W → State → List Named → Type 0) (a b c : Group W Q R T U) (number moment events : ℕ) → IsValid a.cx.log.state → IsValid b.cx.log.state
+  pub told_worked : {G S : Type 0} (Sound : W → State → List Named → Type 0) (Fits : T → W → Type 0) (Asking : W → State → List Named → ℕ → ℕ → Q → Type 0) (Answers : W → Q → R → Type 0) (Called : W → W → List ℕ → Type 0) (Heard : W → W → Asked Q R → Type 0) (Left : W → State → Option ℕ) (tags : List T) (a b c : Group W Q R T U) (number moment events : ℕ) (v u : View G S) (r : Result Did NoMemory) → IsValid a.cx.log.state → IsValid b.cx.log.state
       → Handles Called a b number moment events → KeepsTags Fits a.world b.world → SetsAtMost Fits a.world (MOST_EVENTS * (MOST_SET + 1)) a.cx b.cx
-      → Grows b.cx c.cx → StaysInTurn b.cx.log.state c.cx.log.state → Holds Sound c → KeepsTags Fits b.world c.world → SetsAtMost Fits b.world MOST_SET b.cx c.cx → IsWorked Fits Sound a c
-  told_worked Called Fits Sound a b c number moment events va vb h tags few grows turn sound tags2 few2 =
+      → Grows b.cx c.cx → StaysInTurn b.cx.log.state c.cx.log.state → Holds Sound c → KeepsTags Fits b.world c.world → SetsAtMost Fits b.world MOST_SET b.cx c.cx
+      → RunsHandlers Fits Asking Answers Called Heard Left tags number moment a c v u r → IsWorked Sound Fits Asking Answers Called Heard Left tags number moment a c v u r
+  told_worked Sound Fits Asking Answers Called Heard Left tags a b c number moment events v u r va vb h keeps few grows turn sound tags2 few2 ran =
       let due = handles_due Called Fits a b number moment events va h in
       record {
-        goes = goes_trans Fits a b c (handles_goes Called Fits a b number moment events va h tags) (grows_goes Fits b c vb grows turn tags2);
+        goes = goes_trans Fits a b c (handles_goes Called Fits a b number moment events va h keeps) (grows_goes Fits b c vb grows turn tags2);
         sound = sound;
         few = record {
           few = λ t fit.
               let f : b.cx.log.state.next ≤ a.cx.log.state.next + 6464 = few t fit in
-              let g : c.cx.log.state.next ≤ b.cx.log.state.next + 100 = few2 t (tags t fit) in omega arith;
+              let g : c.cx.log.state.next ≤ b.cx.log.state.next + 100 = few2 t (keeps t fit) in omega arith;
           nothing = λ none. absurd (not_none a.cx.log.state.pending number due.was_due.event due.was_due.there none);
         };
+        ran = ran;
       }
 
   -- what was handled, after the handler was told
@@ -182,6 +167,7 @@ module _ {W Q R T U : Type 0} where
       → Handles Called a b number moment events → Grows b.cx c.cx → HandledDue a.cx.log.state c.cx.log.state number moment events
   told_due Called Fits a b c number moment events va vb h grows =
       handled_later a.cx.log.state b.cx.log.state c.cx.log.state number moment events va (extends_later a.cx.log b.cx.log h.es va h.by) (extends_later b.cx.log c.cx.log grows.log.own vb grows.log.by)
+      (ap (λ (s : State). s.handled_count) grows.log.by.state ∙ own_handles b.cx.log.state grows.log.own grows.log.all_own)
       (handles_due Called Fits a b number moment events va h)
 
 pub asked_shown : {Q R : Type 0} (a c : State) (number moment events to : ℕ) (answer : Asked Q R) (r : Result Did NoMemory) → AnswersAsked events to answer r → HandledDue a c number moment events → IfOk r (IsShown a c number moment)

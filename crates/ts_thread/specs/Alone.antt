@@ -23,23 +23,23 @@ pub record HandlesQuestion (s : State) (es : List Entry) : Type 0 where
   pub others : List Entry
   pub are : es ≡ asking_entries s.next moment ++ others
 
--- A whole turn, under the next number: it handles the event that is due first, or a question. At want of memory it may
--- handle nothing.
-pub record IsOwnTurn (s : State) (es : List Entry) : Type 0 where
+-- A whole turn, under the next number: it handles the event that is due first, or a question. It handles
+-- nothing only where something lacks.
+pub record IsOwnTurn (Lack : Type 0) (s : State) (es : List Entry) : Type 0 where
   pub did : List Entry
   pub are : es ≡ Took (s.turns + 1) ONLY_SEAT ∷ (did ++ Gave (s.turns + 1) ∷ [])
-  pub first : (did ≡ []) ⊎ HandlesDue s did ⊎ HandlesQuestion s did
+  pub first : (Lack × (did ≡ [])) ⊎ HandlesDue s did ⊎ HandlesQuestion s did
 
 -- these entries are so many turns
-abbrev pub AreOwnTurns : ℕ → State → List Entry → Type 0
-AreOwnTurns zero s es = es ≡ []
-AreOwnTurns (suc n) s es = (turn : List Entry) × (others : List Entry)
-    × IsOwnTurn s turn × (es ≡ turn ++ others) × AreOwnTurns n (replay s turn) others
+abbrev pub AreOwnTurns : Type 0 → ℕ → State → List Entry → Type 0
+AreOwnTurns Lack zero s es = es ≡ []
+AreOwnTurns Lack (suc n) s es = (turn : List Entry) × (others : List Entry)
+    × IsOwnTurn Lack s turn × (es ≡ turn ++ others) × AreOwnTurns Lack n (replay s turn) others
 
 -- a journal goes on by at most so many turns
-pub record TakesTurns (old new : Log) (most : ℕ) : Type 0 where
+pub record TakesTurns (Lack : Type 0) (old new : Log) (most : ℕ) : Type 0 where
   pub turns : ℕ
   pub few : turns ≤ most
   pub added : List Entry
   pub by : Extends old new added
-  pub are : AreOwnTurns turns old.state added
+  pub are : AreOwnTurns Lack turns old.state added

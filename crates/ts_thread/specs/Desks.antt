@@ -1,11 +1,13 @@
 -- A thread's desk, and what calls leave of it.
-use Rattle.std.specs.Prelude.{◌≡◌, ℕ, length}
+use Rattle.std.specs.Prelude.{◌≡◌, ℕ, ◌+◌, ◌≤◌, ◌⊎◌, length}
 use Rattle.ts_journal.specs.declared.slotted.Slotted.{Ghosts}
 use Rattle.ts_queue.specs.declared.queue.EventQueue.{EventQueue}
-use Rattle.ts_queue.specs.Passes.{IsPassOf, pass_view}
+use Rattle.ts_journal.specs.declared.entry.TheConstants.{GREATEST}
+use Rattle.ts_queue.specs.Passes.{IsPassOf, pass_view, empties_of}
 use Rattle.ts_slot.specs.declared.slots.Slots.{Slots}
 use Rattle.ts_slot.specs.Words.{tags_of, view, IsSeatOf}
 use Rattle.ts_thread.specs.declared.desk.Desk.{Desk}
+use Rattle.ts_thread.specs.News.{KeepsPlaces}
 use Rattle.ts_thread.specs.Seats.{KeepsSeat, LeavesWon, Leaves}
 use Rattle.ts_thread.specs.Tokens.{AllName}
 
@@ -22,19 +24,34 @@ module _ {X G T : Type 0} {d : Ghosts X G T} where
     pub seat : KeepsSeat (view old.seat) (view new.seat) most
     pub share : (pass_view new.pass).share ≡ (pass_view old.pass).share
 
+  -- the same, and no token lost its place
+  pub record KeepsTokens (old new : Desk X G T d) (most : ℕ) : Type 0 where
+    pub desk : KeepsDesk old new most
+    pub places : KeepsPlaces old new
+
   -- the same, but for the group that the seat won last, which it left
   pub record ClosesDesk (old new : Desk X G T d) (most : ℕ) : Type 0 where
     pub seat : LeavesWon (view old.seat) (view new.seat) most
     pub share : (pass_view new.pass).share ≡ (pass_view old.pass).share
+    pub places : KeepsPlaces old new
 
   -- a desk whose seat left the group that it won last
   pub record LeavesDesk (old new : Desk X G T d) : Type 0 where
     pub seat : Leaves (view old.seat) (view new.seat)
     pub share : (pass_view new.pass).share ≡ (pass_view old.pass).share
+    pub places : KeepsPlaces old new
 
   -- the pass has the share that it had
   abbrev pub SharesSame : Desk X G T d → Desk X G T d → Type 0
   SharesSame old new = (pass_view new.pass).share ≡ (pass_view old.pass).share
+
+  -- how many turns and misses the seat counts, and how often its pass found the queue empty
+  abbrev pub counted : Desk X G T d → ℕ
+  counted desk = length (view desk.seat).turns + length (view desk.seat).misses + empties_of desk.pass
+
+  -- The desk counts so many more; or the last of these counts is at its end.
+  abbrev pub CountsMore : ℕ → Desk X G T d → Desk X G T d → Type 0
+  CountsMore more old new = (counted old + more ≤ counted new) ⊎ (GREATEST ≤ empties_of new.pass)
 
   -- whatever queue the desk is of, it stays a desk of it and of these slots
   abbrev pub StaysDeskOf : Slots X G T → Desk X G T d → Desk X G T d → Type 0

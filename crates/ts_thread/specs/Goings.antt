@@ -1,5 +1,5 @@
 -- What the turns of one thread leave of groups.
-use Rattle.std.specs.Prelude.{⊤, ◌≡◌, ◌⊎◌, ℕ, ◌+◌, ◌≤◌, List, [], ◌∷◌, ◌++◌, Bool, Option, Result, length, unwrap_or, IsSome, OnOk, All, sum_by}
+use Rattle.std.specs.Prelude.{⊤, ◌≡◌, ◌⊎◌, ℕ, ◌+◌, ◌≤◌, List, [], ◌∷◌, ◌++◌, Bool, Option, Result, length, unwrap_or, IsSome, IsErr, OnOk, All, sum_by}
 use Rattle.std.specs.List.{AllZip}
 use Rattle.ts_link.specs.declared.octets.NoMemory.{NoMemory}
 use Rattle.ts_journal.specs.declared.entry.Entry.{Entry}
@@ -23,15 +23,16 @@ pub record IsLaterGroup {W Q R T U : Type 0} (old new : Group W Q R T U) : Type 
   pub base : new.cx.log.base ≡ old.cx.log.base
   pub later : IsLater old.cx.log.state new.cx.log.state
 
--- What at most so many turns, of which none is held any more, leave of a group.
+-- What at most so many turns, of which none is held any more, leave of a group. One handles nothing only
+-- where something lacks.
 pub record HasTakenTurns {W Q R T U : Type 0} (Fits : T → W → Type 0) (Sound : W → State → List Named → Type 0)
-    (only_asked is_first : T → Bool) (Left : W → State → Option ℕ)
+    (only_asked is_first : T → Bool) (Left : W → State → Option ℕ) (Lack : Type 0)
     (old new : Group W Q R T U) (turns : ℕ) : Type 0 where
   -- it fits each tag that it fitted
   pub fits : (t : T) → GroupFits Fits Sound only_asked is_first t old
       → GroupFits Fits Sound only_asked is_first t new
   pub tags : KeepsTags Fits old.world new.world
-  pub takes : TakesTurns old.cx.log new.cx.log turns
+  pub takes : TakesTurns Lack old.cx.log new.cx.log turns
   pub took : new.cx.log.state.turns ≤ old.cx.log.state.turns + turns
   -- no more is left to do
   pub falls : LeavesLess Left old 0 new
@@ -41,10 +42,10 @@ pub record HasTakenTurns {W Q R T U : Type 0} (Fits : T → W → Type 0) (Sound
 -- What a group becomes in a turn that it has, in which the event that is due first is handled, or nothing at want of
 -- memory: the turn is still held.
 pub record WorksOn {W Q R T U : Type 0} (Fits : T → W → Type 0) (Sound : W → State → List Named → Type 0)
-    (Left : W → State → Option ℕ) (old new : Group W Q R T U) : Type 0 where
+    (Left : W → State → Option ℕ) (Lack : Type 0) (old new : Group W Q R T U) : Type 0 where
   pub did : List Entry
   pub by : Extends old.cx.log new.cx.log did
-  pub first : (did ≡ []) ⊎ HandlesDue old.cx.log.state did
+  pub first : (Lack × (did ≡ [])) ⊎ HandlesDue old.cx.log.state did
   pub turn : StaysInTurn old.cx.log.state new.cx.log.state
   pub later : IsLater old.cx.log.state new.cx.log.state
   pub tags : KeepsTags Fits old.world new.world
@@ -69,11 +70,17 @@ abbrev pub IsNoMiss : {Q R : Type 0} → Asked Q R → Type 0
 IsNoMiss (asked.Missed seen q) = ⊥
 IsNoMiss _ = ⊤
 
+-- memory lacked for the question
+abbrev pub Lacked : {Q R : Type 0} → Asked Q R → Type 0
+Lacked (asked.NoMemory q) = ⊤
+Lacked _ = ⊥
+
 -- what at most so many turns of each leave of groups
 abbrev pub AllGoOn : {W Q R T U : Type 0} → (T → W → Type 0) → (W → State → List Named → Type 0) → (T → Bool)
-    → (T → Bool) → (W → State → Option ℕ) → List (Group W Q R T U) → List (Group W Q R T U) → ℕ → Type 0
-AllGoOn Fits Sound only_asked is_first Left old new turns =
-    AllZip (λ g h. HasTakenTurns Fits Sound only_asked is_first Left g h turns) old new
+    → (T → Bool) → (W → State → Option ℕ) → Type 0
+    → List (Group W Q R T U) → List (Group W Q R T U) → ℕ → Type 0
+AllGoOn Fits Sound only_asked is_first Left Lack old new turns =
+    AllZip (λ g h. HasTakenTurns Fits Sound only_asked is_first Left Lack g h turns) old new
 
 -- the group can have so many turns more
 abbrev pub HasTurns : {W Q R T U : Type 0} → ℕ → Group W Q R T U → Type 0
@@ -94,9 +101,9 @@ pub record Drives {W Q R T U : Type 0} (Fits : T → W → Type 0) (Sound : W �
     (before before' : List (Group W Q R T U)) (old new : Group W Q R T U)
     (after after' : List (Group W Q R T U)) (result : Result (Unit {0}) NoMemory) : Type 0 where
   pub turns : ℕ
-  pub first : AllGoOn Fits Sound only_asked is_first Left before before' turns
-  pub own : HasTakenTurns Fits Sound only_asked is_first Left old new turns
-  pub last : AllGoOn Fits Sound only_asked is_first Left after after' turns
+  pub first : AllGoOn Fits Sound only_asked is_first Left (IsErr result) before before' turns
+  pub own : HasTakenTurns Fits Sound only_asked is_first Left (IsErr result) old new turns
+  pub last : AllGoOn Fits Sound only_asked is_first Left (IsErr result) after after' turns
   pub less : OnOk result (work_left Left new + turns ≤ work_left Left old)
   pub idle : OnOk result (IsIdle new)
 
@@ -121,6 +128,6 @@ pub record Finishes {W Q R T U : Type 0} (Fits : T → W → Type 0) (Sound : W 
     (only_asked is_first : T → Bool) (Left : W → State → Option ℕ)
     (old new : List (Group W Q R T U)) (result : Result (Unit {0}) NoMemory) : Type 0 where
   pub turns : ℕ
-  pub goes : AllGoOn Fits Sound only_asked is_first Left old new turns
+  pub goes : AllGoOn Fits Sound only_asked is_first Left (IsErr result) old new turns
   pub less : OnOk result (sum_by (work_left Left) new + turns ≤ sum_by (work_left Left) old)
   pub idle : OnOk result (All IsIdle new)

@@ -1,18 +1,23 @@
 -- What a turn makes of a group, from when a seat found it until it leaves it.
-use Rattle.std.specs.Prelude.{◌≡◌, ℕ, ◌+◌, ◌*◌, ◌≤◌, ◌⊎◌, List, [], ◌∷◌, ◌++◌, Bool, true, false, if◌then◌else◌}
+use Rattle.std.specs.Prelude.{◌≡◌, ℕ, ◌+◌, ◌*◌, ◌≤◌, ◌⊎◌, List, [], ◌∷◌, ◌++◌, Bool, true, false, if◌then◌else◌, Option, Result}
 use Rattle.std.specs.Bool.{OnTrue}
 use mathlib.Core.Option.{some}
 use lib.ListN.{get_elem?}
 use Rattle.std.specs.List.{Contains}
+use Rattle.ts_link.specs.declared.octets.NoMemory.{NoMemory}
 use Rattle.ts_journal.specs.State.{State}
 use Rattle.ts_journal.specs.Later.{IsLater}
 use Rattle.ts_group.specs.declared.action.Named.{Named}
 use Rattle.ts_group.specs.declared.group.Group.{Group}
 use Rattle.ts_group.specs.declared.slot.TheConstants.{MOST_IN_TURN}
 use Rattle.ts_group.specs.declared.world.TheConstants.{MOST_SET}
+use Rattle.ts_group.specs.declared.world.Asked.{Asked}
 use Rattle.ts_group.specs.Answers.{Holds, KeepsTags, SetsAtMost}
 use Rattle.ts_group.specs.Changes.{StaysInTurn, SameEvents}
 use Rattle.ts_group.specs.Slot.{marks_of}
+use Rattle.ts_slot.specs.declared.view.View.{View}
+use Rattle.ts_thread.specs.declared.did.Did.{Did}
+use Rattle.ts_thread.specs.Heard.{RunsHandlers}
 use Rattle.ts_thread.specs.Tags.{GroupFits}
 
 -- few events were set for the turns, as it must be where a group stands free
@@ -40,6 +45,7 @@ module _ {W Q R T U : Type 0} where
         → Contains (marks_of found.cx.log.entries) mark ⊎ (mark ≡ (turn, seat))
     pub later : IsLater found.cx.log.state left.cx.log.state
     pub base : left.cx.log.base ≡ found.cx.log.base
+    pub rose : found.cx.news_from ≤ left.cx.news_from
 
   -- a group goes on in the turn that it has
   pub record GoesInTurn (Fits : T → W → Type 0) (old new : Group W Q R T U) : Type 0 where
@@ -73,6 +79,14 @@ module _ {W Q R T U : Type 0} where
     pub news_from : new.cx.news_from ≡ old.cx.news_from
     pub same : BeginsSame old new
 
+  -- The group was left as it was, but for its news and for its turn, which was given back.
+  pub record LeftAs (now left : Group W Q R T U) : Type 0 where
+    pub world : left.world ≡ now.world
+    pub pending : left.cx.log.state.pending ≡ now.cx.log.state.pending
+    pub handled : left.cx.log.state.handled_count ≡ now.cx.log.state.handled_count
+    pub later : IsLater now.cx.log.state left.cx.log.state
+    pub base : left.cx.log.base ≡ now.cx.log.base
+
   -- The world set its first events in the turn, which are few where it fits a tag.
   pub record StartsInTurn (Fits : T → W → Type 0) (Sound : W → State → List Named → Type 0)
       (Begun : W → W → Type 0)
@@ -82,12 +96,18 @@ module _ {W Q R T U : Type 0} where
     pub begun : Begun old.world new.world
     pub few : SetsAtMost Fits old.world MOST_SET old.cx new.cx
 
-  -- what a handler's work leaves of its group
-  pub record IsWorked (Fits : T → W → Type 0) (Sound : W → State → List Named → Type 0)
-      (old new : Group W Q R T U) : Type 0 where
+  -- what a handler's work leaves of its group, and which handlers that were
+  pub record IsWorked {G S : Type 0} (Sound : W → State → List Named → Type 0)
+      (Fits : T → W → Type 0) (Asking : W → State → List Named → ℕ → ℕ → Q → Type 0)
+      (Answers : W → Q → R → Type 0) (Called : W → W → List ℕ → Type 0) (Heard : W → W → Asked Q R → Type 0)
+      (Left : W → State → Option ℕ) (tags : List T)
+      (number moment : ℕ) (old new : Group W Q R T U) (before after : View G S)
+      (result : Result Did NoMemory) : Type 0 where
     pub goes : GoesInTurn Fits old new
     pub sound : Holds Sound new
     pub few : SetsFewInTurn Fits old new
+    pub ran : RunsHandlers Fits Asking Answers Called Heard Left tags number moment
+        old new before after result
 
   -- the group has a turn, its world is sound, and fits the tag of the group k
   abbrev pub CanWork : (T → W → Type 0) → (W → State → List Named → Type 0) → List T → ℕ → Group W Q R T U

@@ -4,6 +4,7 @@ pub mod Asks
 pub mod Desks
 pub mod Entering
 pub mod Goings
+pub mod Heard
 pub mod Held
 pub mod News
 pub mod Runs

@@ -4,11 +4,12 @@ use Rattle.ts_journal.specs.declared.slotted.Slotted.{Ghosts}
 use Rattle.ts_journal.specs.declared.entry.Pending.{Pending}
 use Rattle.ts_journal.specs.State.{pending_at}
 use Rattle.ts_group.specs.declared.group.Group.{Group}
+use Rattle.ts_group.specs.Context.{IsSame}
 use Rattle.ts_group.specs.Due.{NoNews}
 use Rattle.ts_queue.specs.declared.ticket.Token.{Token}
 use Rattle.ts_queue.specs.declared.ticket.Ticket.{Ticket}
 use Rattle.ts_queue.specs.Tickets.{is_same_token}
-use Rattle.ts_queue.specs.Passes.{pass_view}
+use Rattle.ts_queue.specs.Passes.{pass_view, empties_of}
 use Rattle.ts_slot.specs.Lists.{IsIn}
 use Rattle.ts_thread.specs.declared.desk.Desk.{Desk}
 
@@ -30,6 +31,12 @@ is_between k from to ps t =
     (t.group == k) && (nat_le from t.number && (nat_lt t.number to && is_some (pending_at t.number ps)))
 
 module _ {W Q R T U : Type 0} where
+  -- the group is as it was, but for the number from which on pending events are news, which did not fall
+  pub record OnlyNews (old new : Group W Q R T U) : Type 0 where
+    pub cx : IsSame (record old.cx { news_from = new.cx.news_from }) new.cx
+    pub world : new.world ≡ old.world
+    pub rose : old.cx.news_from ≤ new.cx.news_from
+
   -- the token is of a piece of news of the one group that the other has told, which is the group k
   abbrev pub is_news : ℕ → Group W Q R T U → Group W Q R T U → Token → Bool
   is_news k old new t = is_between k old.cx.news_from new.cx.news_from new.cx.log.state.pending t
@@ -45,10 +52,11 @@ module _ {X G T : Type 0} {d : Ghosts X G T} where
       IsIn (p.due, record { group = k; number = p.number }) desk.wheel
       ⊎ ((p.due ≤ moment) × HasTicket (record { group = k; number = p.number }) (pass_view desk.pass).put)
 
-  -- What stood in the wheel stands there, and what was put was put.
+  -- What stood in the wheel stands there, what was put was put, and nothing was taken from the queue.
   pub record KeepsPlaces (old new : Desk X G T d) : Type 0 where
     pub wheel : (e : ℕ × Token) → IsIn e old.wheel → IsIn e new.wheel
     pub put : (t : Token) → HasTicket t (pass_view old.pass).put → HasTicket t (pass_view new.pass).put
+    pub taken : (pass_view new.pass).taken ≡ (pass_view old.pass).taken
 
   -- The news of the group k was told: each piece of it has a token, one and no more, and no other token was
   -- made; and there is no news any more.
@@ -60,3 +68,4 @@ module _ {X G T : Type 0} {d : Ghosts X G T} where
         → HasPlace moment k p new
     pub once : (t : Token) → places_of t new ≡ places_of t old + (if is_news k group told t then 1 else 0)
     pub keeps : KeepsPlaces old new
+    pub empties : empties_of new.pass ≡ empties_of old.pass

@@ -22,7 +22,7 @@ pub record HandledDue (found left : State) (number moment events : ℕ) : Type 0
   pub was_due : WasDue found left number moment
   pub some : 1 ≤ events
   pub most : events ≤ MOST_EVENTS
-  pub rise : found.handled_count + events ≤ left.handled_count
+  pub rise : left.handled_count ≡ found.handled_count + events
 
 -- The event of a number was pending, was due later, and is pending.
 pub record WasLate (found left : State) (number moment due : ℕ) : Type 0 where

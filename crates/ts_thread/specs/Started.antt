@@ -4,11 +4,12 @@ use Rattle.std.specs.Bool.{OnTrue}
 use mathlib.Core.Option.{some}
 use lib.ListN.{get_elem?}
 use Rattle.ts_journal.specs.State.{State}
-use Rattle.ts_journal.specs.Later.{IsLater, Follows}
+use Rattle.ts_journal.specs.Later.{IsLater}
 use Rattle.ts_group.specs.declared.action.Named.{Named}
 use Rattle.ts_group.specs.declared.group.Group.{Group}
 use Rattle.ts_group.specs.Answers.{Holds}
-use Rattle.ts_group.specs.Slot.{trace_of}
+use Rattle.ts_group.specs.Due.{NoNews}
+use Rattle.ts_group.specs.Standing.{FollowsGroup, StandsAfter}
 use Rattle.ts_slot.specs.Lists.{IsIn}
 use Rattle.ts_thread.specs.Seats.{KnowsTurn}
 
@@ -22,39 +23,42 @@ abbrev pub IsFirst : {T : Type 0} → (T → Bool) → List T → ℕ → ℕ �
 IsFirst {T} is_first tags k turns = (t : T) × (get_elem? tags k ≡ some t) × OnTrue (is_first t) (turns ≡ 0)
 
 module _ {W Q R T U : Type 0} where
-  -- A seat started the group k in a turn, and knows what stood after it.
+  -- A seat started the group k in a turn, after which nothing is news in it, and knows what stood then.
   pub record Starts (First : ℕ → ℕ → Type 0) (Begun : W → W → Type 0)
       (Sound : W → State → List Named → Type 0)
-      (k turn : ℕ) (found started left : Group W Q R T U) (known : List (ℕ × ℕ × (ℕ × State))) : Type 0 where
+      (k turn : ℕ) (found started left : Group W Q R T U)
+      (known : List (ℕ × ℕ × Group W Q R T U)) : Type 0 where
     pub first : First k started.cx.log.base.turns
-    pub stood : IsIn (k, turn - 1, trace_of found.cx) known
+    pub stood : IsIn (k, turn - 1, found) known
     pub begun : Begun found.world started.world
     pub sound : Holds Sound started
     pub base : left.cx.log.base ≡ started.cx.log.base
     pub later : IsLater started.cx.log.state left.cx.log.state
-    pub knows : KnowsTurn k turn (trace_of left.cx) known
+    pub told : NoNews left.cx.news_from left.cx.log.state
+    pub knows : KnowsTurn k turn left known
 
-  -- The group k follows one that was started.
+  -- The group k follows one that was started, which the slot had after the group that was given.
   pub record WasStarted (First : ℕ → ℕ → Type 0) (Begun : W → W → Type 0)
       (Sound : W → State → List Named → Type 0)
-      (k : ℕ) (now : Group W Q R T U) : Type 0 where
+      (k : ℕ) (given now : Group W Q R T U) : Type 0 where
     pub found : Group W Q R T U
+    pub stood : StandsAfter found given
     pub started : Group W Q R T U
     pub first : First k started.cx.log.base.turns
     pub begun : Begun found.world started.world
     pub sound : Holds Sound started
-    pub follows : Follows (trace_of now.cx) (trace_of started.cx)
+    pub follows : FollowsGroup now started
 
-  -- each of the first so many groups follows one that was started
+  -- each of the first so many groups follows one that was started, which was given at its place
   abbrev pub WereStarted : (ℕ → ℕ → Type 0) → (W → W → Type 0) → (W → State → List Named → Type 0) → ℕ
-      → List (Group W Q R T U) → Type 0
-  WereStarted First Begun Sound starts groups =
-      (k : ℕ) (g : Group W Q R T U) → k < starts → get_elem? groups k ≡ some g
-      → WasStarted First Begun Sound k g
+      → List (Group W Q R T U) → List (Group W Q R T U) → Type 0
+  WereStarted First Begun Sound starts given groups =
+      (k : ℕ) (h g : Group W Q R T U) → k < starts → get_elem? given k ≡ some h → get_elem? groups k ≡ some g
+      → WasStarted First Begun Sound k h g
 
 -- A seat started the group k in a turn that it had.
 pub record Started {W : Type 0} (Q R T U : Type 0) (First : ℕ → ℕ → Type 0) (Begun : W → W → Type 0)
-    (Sound : W → State → List Named → Type 0) (known : List (ℕ × ℕ × (ℕ × State))) (k : ℕ) : Type 0 where
+    (Sound : W → State → List Named → Type 0) (known : List (ℕ × ℕ × Group W Q R T U)) (k : ℕ) : Type 0 where
   pub turn : ℕ
   pub found : Group W Q R T U
   pub started : Group W Q R T U
@@ -63,6 +67,6 @@ pub record Started {W : Type 0} (Q R T U : Type 0) (First : ℕ → ℕ → Type
 
 -- a seat started each of the first so many groups
 abbrev pub AllStarted : {W : Type 0} (Q R T U : Type 0) → (ℕ → ℕ → Type 0) → (W → W → Type 0)
-    → (W → State → List Named → Type 0) → List (ℕ × ℕ × (ℕ × State)) → ℕ → Type 0
+    → (W → State → List Named → Type 0) → List (ℕ × ℕ × Group W Q R T U) → ℕ → Type 0
 AllStarted Q R T U First Begun Sound known starts =
     (k : ℕ) → k < starts → Started Q R T U First Begun Sound known k

@@ -10,14 +10,14 @@ use Rattle.ts_slot.specs.declared.seat.Seat.{Seat}
 use Rattle.ts_slot.specs.declared.slots.Slots.{Slots}
 use Rattle.ts_slot.specs.Limits.{whole_share, last_turn}
 use Rattle.ts_slot.specs.Words.{view, IsSeatOf}
-use Rattle.ts_thread.specs.declared.TheConstants.{MOST_THREADS}
+use Rattle.ts_thread.specs.declared.TheConstants.{MOST_ENTERED, MOST_THREADS}
 use Rattle.ts_thread.specs.Seats.{KeepsSeat}
 use Rattle.ts_thread.specs.Started.{CanStart}
 
 -- how many turns are taken at most where so many groups are started and so many threads run with a budget
 -- each
 abbrev pub turns_of : ℕ → ℕ → ℕ → ℕ
-turns_of starts threads budget = starts + threads * (2 * budget)
+turns_of starts threads budget = starts + threads * (MOST_ENTERED * budget)
 
 -- the group has had at most so many turns
 abbrev pub HasHadTurns : {W Q R T U : Type 0} → ℕ → Group W Q R T U → Type 0

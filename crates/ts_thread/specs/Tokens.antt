@@ -45,6 +45,7 @@ module _ {X G T : Type 0} {d : Ghosts X G T} where
     pub names : token.group < groups
     pub wheel : new.wheel ≡ after_due moment old.wheel
     pub seat : new.seat ≡ old.seat
+    pub empties : empties_of new.pass ≡ empties_of old.pass
     pub first :
         ((first_due moment old.wheel ≡ Some token) × (pass_view new.pass ≡ pass_view old.pass))
         ⊎ ((first_due moment old.wheel ≡ None) × TakesNext groups (pass_view old.pass) (pass_view new.pass) token)

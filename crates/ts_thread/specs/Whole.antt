@@ -1,25 +1,54 @@
 -- Groups that are run by threads and then driven to their end.
-use Rattle.std.specs.Prelude.{ℕ, ◌≤◌, List, Bool, Option, All}
+use Rattle.std.specs.Prelude.{ℕ, ◌<◌, ◌≤◌, List, Bool, Option, length, All}
+use Rattle.std.specs.List.{AllZip}
 use Rattle.ts_journal.specs.State.{State}
 use Rattle.ts_group.specs.declared.action.Named.{Named}
 use Rattle.ts_group.specs.declared.group.Group.{Group}
+use Rattle.ts_group.specs.Standing.{FollowsGroup}
+use Rattle.ts_slot.specs.Limits.{most_groups}
 use Rattle.ts_thread.specs.declared.TheConstants.{MOST_LEFT}
 use Rattle.ts_thread.specs.Goings.{IsIdle, Tells, work_left}
-use Rattle.ts_thread.specs.Started.{WereStarted}
-use Rattle.ts_thread.specs.Tags.{GroupFits, GroupsFit}
-use Rattle.ts_thread.specs.Threads.{HasHadTurns}
+use Rattle.ts_thread.specs.Started.{IsFirst, WereStarted}
+use Rattle.ts_thread.specs.Tags.{GroupFits, GroupsFit, CanAsk}
+use Rattle.ts_thread.specs.Threads.{IsPlan, HasHadTurns, turns_of}
 
--- So many turns are few, and each group that fits a tag and has had no more tells what is left to do, which is not much.
-pub record EndSoon {W T : Type 0} (Q R U : Type 0) (Fits : T → W → Type 0) (Sound : W → State → List Named → Type 0)
-    (only_asked is_first : T → Bool) (Left : W → State → Option ℕ) (turns : ℕ) : Type 0 where
+-- These groups can be run by threads: there is one at least, and no more than slots hold; each fits its tag
+-- and has had no turn; the plan can be carried out; and those that worlds ask are there and only asked.
+pub record CanBeRun {W Q R T U : Type 0} (Fits : T → W → Type 0) (Sound : W → State → List Named → Type 0)
+    (only_asked is_first : T → Bool) (MayAsk : W → ℕ → Type 0) (Right : W → ℕ → Q → R → Type 0)
+    (Answers : W → Q → R → Type 0) (tags : List T) (groups : List (Group W Q R T U))
+    (starts threads budget : ℕ) : Type 0 where
+  pub some : 0 < length groups
+  pub few : length groups ≤ most_groups
+  pub fits : GroupsFit Fits Sound only_asked is_first tags groups
+  pub new : All (HasHadTurns 0) groups
+  pub plan : IsPlan only_asked tags starts threads budget
+  pub asks : CanAsk Fits only_asked MayAsk Right Answers tags
+
+-- Groups that threads ran: each follows the group that was given at its place and fits its tag, has had no
+-- more turns than the plan gives, and the first so many were started.
+pub record HaveRun {W Q R T U : Type 0} (Fits : T → W → Type 0) (Sound : W → State → List Named → Type 0)
+    (only_asked is_first : T → Bool) (Begun : W → W → Type 0) (tags : List T) (given : List (Group W Q R T U))
+    (starts threads budget : ℕ) (groups : List (Group W Q R T U)) : Type 0 where
+  pub follow : AllZip FollowsGroup groups given
+  pub fits : GroupsFit Fits Sound only_asked is_first tags groups
+  pub turns : All (HasHadTurns (turns_of starts threads budget)) groups
+  pub started : WereStarted (IsFirst is_first tags) Begun Sound starts given groups
+
+-- So many turns are few, and each group that fits a tag and has had no more tells what is left to do, which
+-- is not much.
+pub record EndSoon {W T : Type 0} (Q R U : Type 0) (Fits : T → W → Type 0)
+    (Sound : W → State → List Named → Type 0) (only_asked is_first : T → Bool) (Left : W → State → Option ℕ) (turns : ℕ) : Type 0 where
   pub few : turns ≤ MOST_LEFT
-  pub each : (t : T) (g : Group W Q R T U) → GroupFits Fits Sound only_asked is_first t g → HasHadTurns turns g
-      → Tells Left g × (work_left Left g ≤ MOST_LEFT)
+  pub each : (t : T) (g : Group W Q R T U) → GroupFits Fits Sound only_asked is_first t g
+      → HasHadTurns turns g → Tells Left g × (work_left Left g ≤ MOST_LEFT)
 
--- Groups that have ended: each fits its tag, no event is pending, and the first so many follow ones that were started.
+-- Groups that have ended: each follows the group that was given at its place and fits its tag, no event is
+-- pending, and the first so many were started.
 pub record HaveEnded {W Q R T U : Type 0} (Fits : T → W → Type 0) (Sound : W → State → List Named → Type 0)
-    (only_asked is_first : T → Bool) (First : ℕ → ℕ → Type 0) (Begun : W → W → Type 0)
-    (tags : List T) (starts : ℕ) (groups : List (Group W Q R T U)) : Type 0 where
+    (only_asked is_first : T → Bool) (Begun : W → W → Type 0) (tags : List T) (starts : ℕ)
+    (given groups : List (Group W Q R T U)) : Type 0 where
+  pub follow : AllZip FollowsGroup groups given
   pub fits : GroupsFit Fits Sound only_asked is_first tags groups
   pub idle : All IsIdle groups
-  pub started : WereStarted First Begun Sound starts groups
+  pub started : WereStarted (IsFirst is_first tags) Begun Sound starts given groups

@@ -2,7 +2,6 @@
 
 ghost use Rattle.std.specs.Prelude.{◌≡◌, ◌<◌, ◌≤◌, IfOk, IfErr};
 ghost use Rattle.ts_group.specs.Answers.{IsAnswer};
-ghost use Rattle.ts_group.specs.Slot.{trace_of};
 ghost use Rattle.ts_slot.specs.Limits.{last_turn};
 ghost use Rattle.ts_slot.specs.Words.{tags_of, view, IsSeatOf, IsTop};
 ghost use Rattle.ts_thread.specs.Asks.{IsOnlyAsked, IsAskedAt, TakesQuestions, GivesReply, CameBy};
@@ -50,7 +49,7 @@ fn ask_won<W: World + Drop>(
     moment: u64,
 ) -> Result<W::Reply, (NoMemory, W::Question)>
     requires seat { IsSeatOf slots.now seat.old }
-    requires top { IsTop (view seat.old) turn.group turn.number (trace_of turn.found.value.cx) }
+    requires top { IsTop (view seat.old) turn.group turn.number turn.found.value }
     requires found { (turn.found.value ≡ turn.value) × (turn.value.cx.log.state.turns < turn.number) }
     requires asked { IsAskedAt W.fits W.sound W.only_asked W.is_first
         (tags_of slots.now) turn.group turn.value }

@@ -1,7 +1,7 @@
 //! What a thread has of its own: its seat at the slots, its pass of the queue, and its wheel.
 
 ghost use Rattle.std.specs.Prelude.{◌≡◌, length, IfSome, IfNone, OnOk, OnErr};
-ghost use Rattle.ts_queue.specs.Passes.{IsPassOf, pass_view};
+ghost use Rattle.ts_queue.specs.Passes.{IsPassOf, pass_view, empties_of};
 ghost use Rattle.ts_wheel.specs.Due.{after_due};
 ghost use Rattle.ts_thread.specs.Tokens.{AllName, TakesNext, FindsNone, Gets, FindsNothing, Places, SamePlaces};
 
@@ -29,6 +29,7 @@ fn next_ticket<R: Wait>(
     requires pass { IsPassOf queue.now pass.old }
     ensures pass { IsPassOf queue.now pass.new }
     ensures token { IfSome result (TakesNext groups (pass_view pass.old) (pass_view pass.new)) }
+    ensures empties { IfSome result (λ token. empties_of pass.new ≡ empties_of pass.old) }
     ensures none { IfNone result (FindsNone groups pass.old pass.new) }
 {
     'looks: for _ in rt.forever() {
@@ -75,6 +76,7 @@ pub fn place<V: Slotted, R: Wait>(
 ) -> Result<(), NoMemory>
     requires pass { IsPassOf queue.now desk.old.pass }
     ensures pass { IsPassOf queue.now desk.new.pass }
+    ensures empties { empties_of desk.new.pass ≡ empties_of desk.old.pass }
     ensures seat { desk.new.seat ≡ desk.old.seat }
     ensures ok { OnOk result (Places token due moment desk.old desk.new) }
     ensures err { OnErr result (SamePlaces desk.old desk.new) }

@@ -1,11 +1,11 @@
 //! Groups that are driven to their end on one thread.
 
-ghost use Rattle.std.specs.Prelude.{◌≡◌, ℕ, ◌+◌, ◌<◌, ◌≤◌, List, ◌++◌, ◌∷◌, All, sum_by, true, Some, OnOk, length};
+ghost use Rattle.std.specs.Prelude.{◌≡◌, ℕ, ◌+◌, ◌<◌, ◌≤◌, List, ◌++◌, ◌∷◌, All, sum_by, true, Some, IsErr, OnOk, length};
 ghost use Rattle.std.specs.List.{slice_get};
 ghost use Rattle.ts_group.specs.declared.group.Group.{Group as GroupOf};
 ghost use Rattle.ts_group.specs.Answers.{Holds, IsAnswer, LeavesLess};
 ghost use Rattle.ts_thread.specs.Tags.{GroupFits, GroupsFit, FitAround, CanAsk};
-ghost use Rattle.ts_thread.specs.Goings.{HasTakenTurns, WorksOn, AllGoOn, HasTurns, ComesNext, IsNoMiss, Tells, work_left, row, Drives, DrivesAt, Finishes};
+ghost use Rattle.ts_thread.specs.Goings.{HasTakenTurns, WorksOn, AllGoOn, HasTurns, ComesNext, IsNoMiss, Lacked, Tells, work_left, row, Drives, DrivesAt, Finishes};
 
 use ts_group::{Asked, Group, Handling, World};
 use ts_link::NoMemory;
@@ -22,7 +22,8 @@ fn ask_one<W: World + Drop>(
     requires fits { (t : W.Tag) × GroupFits W.fits W.sound W.only_asked W.is_first t group.old
         × (W.only_asked t ≡ true) }
     requires turns { HasTurns 0 group.old }
-    ensures goes { HasTakenTurns W.fits W.sound W.only_asked W.is_first W.left group.old group.new 1 }
+    ensures goes { HasTakenTurns W.fits W.sound W.only_asked W.is_first W.left (Lacked result)
+        group.old group.new 1 }
     ensures answer { IsAnswer (λ _ q r. W.answers group.old.world q r) 0 question result }
     ensures came { IsNoMiss result }
 {
@@ -53,7 +54,8 @@ fn ask_first<W: World + Drop>(
         × (slice_get groups.old 0 ≡ Some g)
         × GroupFits W.fits W.sound W.only_asked W.is_first t g × (W.only_asked t ≡ true) }
     requires turns { All (HasTurns 0) groups.old }
-    ensures goes { AllGoOn W.fits W.sound W.only_asked W.is_first W.left groups.old groups.new 1 }
+    ensures goes { AllGoOn W.fits W.sound W.only_asked W.is_first W.left (Lacked result)
+        groups.old groups.new 1 }
     ensures answer { (g : GroupOf W W.Question W.Reply W.Tag W.Trace) → slice_get groups.old 0 ≡ Some g →
         IsAnswer (λ _ q r. W.answers g.world q r) 0 question result }
     ensures came { IsNoMiss result }
@@ -75,7 +77,8 @@ fn ask_at<W: World + Drop>(
         × (slice_get groups.old place ≡ Some g)
         × GroupFits W.fits W.sound W.only_asked W.is_first t g × (W.only_asked t ≡ true) }
     requires turns { All (HasTurns 0) groups.old }
-    ensures goes { AllGoOn W.fits W.sound W.only_asked W.is_first W.left groups.old groups.new 1 }
+    ensures goes { AllGoOn W.fits W.sound W.only_asked W.is_first W.left (Lacked result)
+        groups.old groups.new 1 }
     ensures answer { (g : GroupOf W W.Question W.Reply W.Tag W.Trace) → slice_get groups.old place ≡ Some g →
         IsAnswer (λ _ q r. W.answers g.world q r) 0 question result }
     ensures came { IsNoMiss result }
@@ -97,8 +100,10 @@ fn ask_among<W: World + Drop>(
         × (number ≡ length before.old → ⊥) × (slice_get (row before.old here after.old) number ≡ Some g)
         × GroupFits W.fits W.sound W.only_asked W.is_first t g × (W.only_asked t ≡ true) }
     requires turns { All (HasTurns 0) before.old × All (HasTurns 0) after.old }
-    ensures before { AllGoOn W.fits W.sound W.only_asked W.is_first W.left before.old before.new 1 }
-    ensures after { AllGoOn W.fits W.sound W.only_asked W.is_first W.left after.old after.new 1 }
+    ensures before { AllGoOn W.fits W.sound W.only_asked W.is_first W.left (Lacked result)
+        before.old before.new 1 }
+    ensures after { AllGoOn W.fits W.sound W.only_asked W.is_first W.left (Lacked result)
+        after.old after.new 1 }
     ensures answer { (g : GroupOf W W.Question W.Reply W.Tag W.Trace)
         → (here : GroupOf W W.Question W.Reply W.Tag W.Trace)
         → slice_get (row before.old here after.old) number ≡ Some g
@@ -114,7 +119,9 @@ fn ask_among<W: World + Drop>(
 }
 
 // Whether memory lacked for the question.
-fn lack_of<Q, R>(asked: &Asked<Q, R>) -> Result<(), NoMemory> {
+fn lack_of<Q, R>(asked: &Asked<Q, R>) -> Result<(), NoMemory>
+    ensures { Lacked asked.now → IsErr result }
+{
     match asked {
         Asked::NoMemory(_) => Err(NoMemory),
         _ => Ok(()),
@@ -134,9 +141,11 @@ fn serve<W: World + Drop>(
     requires fits { (tags : List W.Tag) × CanAsk W.fits W.only_asked W.may_ask W.right W.answers tags
         × FitAround W.fits W.sound W.only_asked W.is_first tags before.old group.old.world after.old }
     requires turns { All (HasTurns 0) before.old × All (HasTurns 0) after.old }
-    ensures works { WorksOn W.fits W.sound W.left group.old group.new }
-    ensures before { AllGoOn W.fits W.sound W.only_asked W.is_first W.left before.old before.new 1 }
-    ensures after { AllGoOn W.fits W.sound W.only_asked W.is_first W.left after.old after.new 1 }
+    ensures works { WorksOn W.fits W.sound W.left (IsErr result) group.old group.new }
+    ensures before { AllGoOn W.fits W.sound W.only_asked W.is_first W.left (IsErr result)
+        before.old before.new 1 }
+    ensures after { AllGoOn W.fits W.sound W.only_asked W.is_first W.left (IsErr result)
+        after.old after.new 1 }
     ensures falls { OnOk result (LeavesLess W.left group.old 1 group.new) }
 {
     group.known();
@@ -173,9 +182,12 @@ fn step<W: World + Drop>(
         × GroupsFit W.fits W.sound W.only_asked W.is_first tags (row before.old group.old after.old) }
     requires turns { All (HasTurns 0) (row before.old group.old after.old) }
     requires due { ComesNext group.old number moment }
-    ensures own { HasTakenTurns W.fits W.sound W.only_asked W.is_first W.left group.old group.new 1 }
-    ensures before { AllGoOn W.fits W.sound W.only_asked W.is_first W.left before.old before.new 1 }
-    ensures after { AllGoOn W.fits W.sound W.only_asked W.is_first W.left after.old after.new 1 }
+    ensures own { HasTakenTurns W.fits W.sound W.only_asked W.is_first W.left (IsErr result)
+        group.old group.new 1 }
+    ensures before { AllGoOn W.fits W.sound W.only_asked W.is_first W.left (IsErr result)
+        before.old before.new 1 }
+    ensures after { AllGoOn W.fits W.sound W.only_asked W.is_first W.left (IsErr result)
+        after.old after.new 1 }
     ensures falls { OnOk result (LeavesLess W.left group.old 1 group.new) }
 {
     let turn = group.journal().turns() + 1;

@@ -12,8 +12,6 @@ mod news;
 mod running;
 mod starting;
 mod taking;
-#[cfg(test)]
-mod tests;
 mod thread;
 mod threads;
 mod turning;
@@ -21,12 +19,15 @@ mod whole;
 
 pub use did::{Did, RunEnd};
 pub use ending::{ONLY_SEAT, finish};
-pub use running::run_groups;
+pub use running::{run_groups, start_groups};
 pub use thread::EventThread;
 pub use whole::run_whole;
 
 /// How many threads run groups at most.
 pub const MOST_THREADS: u32 = 64;
+
+/// How many groups one turn of a thread enters at most: that of its token, and one that is asked.
+pub const MOST_ENTERED: u64 = 2;
 
 /// How many milliseconds after a miss a token is due again.
 pub const PUT_BACK: u64 = 10;

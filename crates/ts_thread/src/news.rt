@@ -1,10 +1,9 @@
 //! How the news of a group is told: each new event that is pending gets a token.
 
 ghost use Rattle.std.specs.Prelude.{◌≡◌, ◌<◌, length, OnOk};
-ghost use Rattle.ts_group.specs.Context.{IsSame};
 ghost use Rattle.ts_slot.specs.Words.{tags_of};
 ghost use Rattle.ts_thread.specs.Desks.{IsDeskOf, SharesSame};
-ghost use Rattle.ts_thread.specs.News.{HasTold};
+ghost use Rattle.ts_thread.specs.News.{HasTold, KeepsPlaces, OnlyNews};
 
 use crate::desk::{Desk, place};
 use std::sync::Wait;
@@ -27,8 +26,8 @@ pub fn tell_news<W: World + Drop, R: Wait>(
     requires group { k < length (tags_of slots.now) }
     ensures desk { IsDeskOf slots.now queue.now desk.new }
     ensures seat { (desk.new.seat ≡ desk.old.seat) × SharesSame desk.old desk.new }
-    ensures same { IsSame (record group.old.cx { news_from = group.new.cx.news_from }) group.new.cx }
-    ensures world { group.new.world ≡ group.old.world }
+    ensures same { OnlyNews group.old group.new }
+    ensures places { KeepsPlaces desk.old desk.new }
     ensures told { OnOk result (HasTold k moment group.old group.new desk.old desk.new) }
 {
     group.known();

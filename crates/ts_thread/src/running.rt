@@ -1,11 +1,13 @@
 //! Groups that are put into slots, started, run by many threads and taken out again.
 
-ghost use Rattle.std.specs.Prelude.{◌<◌, ◌≤◌, length, All, IfOk, OnOk};
-ghost use Rattle.ts_slot.specs.Limits.{most_groups};
+ghost use Rattle.std.specs.Prelude.{IfOk, OnOk};
+ghost use Rattle.ts_group.specs.Standing.{StandsAfter};
+ghost use Rattle.ts_slot.specs.Views.{Coherent};
 ghost use Rattle.ts_slot.specs.Words.{tags_of, view};
-ghost use Rattle.ts_thread.specs.Started.{CanStart, IsFirst, AllStarted, WereStarted};
-ghost use Rattle.ts_thread.specs.Tags.{CanAsk, GroupsFit};
-ghost use Rattle.ts_thread.specs.Threads.{IsPair, IsOpening, HasOpened, IsPlan, HasHadTurns, turns_of};
+ghost use Rattle.ts_thread.specs.Seats.{More};
+ghost use Rattle.ts_thread.specs.Started.{CanStart, IsFirst, AllStarted};
+ghost use Rattle.ts_thread.specs.Threads.{IsPair, IsOpening, HasOpened};
+ghost use Rattle.ts_thread.specs.Whole.{CanBeRun, HaveRun};
 
 use crate::desk::Desk;
 use crate::starting::start_all;
@@ -19,8 +21,9 @@ use ts_queue::{EventQueue, QueuePass};
 use ts_slot::{Seat, Slots};
 use ts_wheel::Wheel;
 
-// Starts the first so many groups by a seat and a pass of their own, which are joined to these then.
-fn start_apart<W: World + Drop, R: Wait>(
+/// Starts the first so many groups, each in a turn of its own, by a seat and a pass of their own, which are joined to these
+/// then.
+pub fn start_groups<W: World + Drop, R: Wait>(
     rt: &R,
     alloc: Global,
     slots: &Slots<Group<W>>,
@@ -34,6 +37,8 @@ fn start_apart<W: World + Drop, R: Wait>(
     requires tags { CanStart W.only_asked (tags_of slots.now) starts }
     ensures pair { OnOk result (IsPair slots.now queue.now seat.new pass.new) }
     ensures opened { OnOk result (HasOpened starts seat.new pass.new) }
+    ensures knows { OnOk result (More (view seat.old).known (view seat.new).known) }
+    ensures later { OnOk result (Coherent StandsAfter (view seat.new).known) }
     ensures started { OnOk result (AllStarted W.Question W.Reply W.Tag W.Trace
         (IsFirst W.is_first (tags_of slots.now)) W.begun W.sound (view seat.new).known starts) }
 {
@@ -71,22 +76,16 @@ pub fn run_groups<W: World + Drop + Send, G: Gate + Sync, R: Threads + Wait + Sy
 ) -> Result<Vec<Group<W>>, NoMemory>
 where
     W::Tag: Drop,
-    requires count { (0 < length groups.items) × (length groups.items ≤ most_groups) }
-    requires fits { GroupsFit W.fits W.sound W.only_asked W.is_first tags.items groups.items }
-    requires plan { IsPlan W.only_asked tags.items starts threads budget }
-    requires new { All (HasHadTurns 0) groups.items }
-    requires asks { CanAsk W.fits W.only_asked W.may_ask W.right W.answers tags.items }
-    ensures fits { IfOk result (λ gs.
-        GroupsFit W.fits W.sound W.only_asked W.is_first tags.items gs.items) }
-    ensures turns { IfOk result (λ gs. All (HasHadTurns (turns_of starts threads budget)) gs.items) }
-    ensures started { IfOk result (λ gs.
-        WereStarted (IsFirst W.is_first tags.items) W.begun W.sound starts gs.items) }
+    requires { CanBeRun W.fits W.sound W.only_asked W.is_first W.may_ask W.right W.answers
+        tags.items groups.items starts threads budget }
+    ensures { IfOk result (λ gs. HaveRun W.fits W.sound W.only_asked W.is_first W.begun
+        tags.items groups.items starts threads budget gs.items) }
 {
     let Ok((slots, mut seat)) = Slots::make(alloc, groups, tags) else {
         return Err(NoMemory);
     };
     let (queue, mut pass) = EventQueue::make(alloc)?;
-    start_apart(rt, alloc, &slots, &queue, &mut seat, &mut pass, starts)?;
+    start_groups(rt, alloc, &slots, &queue, &mut seat, &mut pass, starts)?;
     let (seat, _, ended) = run_all(
         rt, alloc, 0, threads, &slots, &queue, gate, budget, seat, pass,
     );

@@ -1,11 +1,12 @@
 //! The turns that a thread takes at its desk, one token each.
 
-ghost use Rattle.std.specs.Prelude.{◌≡◌, ◌*◌, [], length, IfOk};
+ghost use Rattle.std.specs.Prelude.{◌≡◌, ◌*◌, [], length, IfOk, OnErr};
 ghost use Rattle.ts_slot.specs.Words.{tags_of, view};
+ghost use Rattle.ts_thread.specs.declared.TheConstants.{MOST_ENTERED};
 ghost use Rattle.ts_thread.specs.Desks.{IsDeskOf, KeepsDesk};
-ghost use Rattle.ts_thread.specs.Runs.{HasRunTo};
+ghost use Rattle.ts_thread.specs.Runs.{HasRunTo, HasFailed};
 ghost use Rattle.ts_thread.specs.Tags.{CanAsk};
-ghost use Rattle.ts_thread.specs.Turning.{IsDid};
+ghost use Rattle.ts_thread.specs.Turning.{IsDid, LosesOne};
 
 use crate::desk::{Desk, next_token};
 use crate::did::{Did, RunEnd};
@@ -29,8 +30,10 @@ pub fn turn_desk<W: World + Drop, G: Gate, R: Wait>(
     requires desk { IsDeskOf slots.now queue.now desk.old }
     requires asks { CanAsk W.fits W.only_asked W.may_ask W.right W.answers (tags_of slots.now) }
     ensures desk { IsDeskOf slots.now queue.now desk.new }
-    ensures keeps { KeepsDesk desk.old desk.new 2 }
-    ensures did { IfOk result (IsDid (length (tags_of slots.now)) moment desk.old desk.new) }
+    ensures keeps { KeepsDesk desk.old desk.new MOST_ENTERED }
+    ensures did { IfOk result (IsDid W.fits W.asking W.answers W.called W.heard W.left
+        (tags_of slots.now) moment desk.old desk.new) }
+    ensures err { OnErr result (LosesOne (length (tags_of slots.now)) moment desk.old desk.new) }
 {
     let groups = slots.groups();
     let Some(token) = next_token(rt, queue, desk, groups, moment) else {
@@ -52,8 +55,11 @@ pub fn run_desk<W: World + Drop, G: Gate, R: Wait>(
     requires desk { IsDeskOf slots.now queue.now desk.old }
     requires asks { CanAsk W.fits W.only_asked W.may_ask W.right W.answers (tags_of slots.now) }
     ensures desk { IsDeskOf slots.now queue.now desk.new }
-    ensures keeps { KeepsDesk desk.old desk.new (2 * budget) }
-    ensures ran { IfOk result (HasRunTo (length (tags_of slots.now)) budget desk.old desk.new) }
+    ensures keeps { KeepsDesk desk.old desk.new (MOST_ENTERED * budget) }
+    ensures ran { IfOk result (HasRunTo W.fits W.asking W.answers W.called W.heard W.left
+        (tags_of slots.now) budget desk.old desk.new) }
+    ensures err { OnErr result (HasFailed W.fits W.asking W.answers W.called W.heard W.left
+        (tags_of slots.now) budget desk.old desk.new) }
 {
     let mut moment = 0;
     let mut made = 0;

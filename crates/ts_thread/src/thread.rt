@@ -32,13 +32,14 @@ where
 }
 
 impl<'a, W: World + Drop, G: Gate> EventThread<'a, W, G> {
-    ghost use Rattle.std.specs.Prelude.{◌*◌, length, IfOk, IfErr};
+    ghost use Rattle.std.specs.Prelude.{◌*◌, length, IfOk, IfErr, OnErr};
     ghost use Rattle.ts_queue.specs.Passes.{IsPassOf};
     ghost use Rattle.ts_slot.specs.Words.{tags_of, IsSeatOf};
+    ghost use Rattle.ts_thread.specs.declared.TheConstants.{MOST_ENTERED};
     ghost use Rattle.ts_thread.specs.Desks.{KeepsDesk};
-    ghost use Rattle.ts_thread.specs.Runs.{HasRunTo};
+    ghost use Rattle.ts_thread.specs.Runs.{HasRunTo, HasFailed};
     ghost use Rattle.ts_thread.specs.Tags.{CanAsk};
-    ghost use Rattle.ts_thread.specs.Turning.{IsDid};
+    ghost use Rattle.ts_thread.specs.Turning.{IsDid, LosesOne};
 
     /// A thread with an empty wheel. At want of memory the seat and the pass come back.
     pub fn make(
@@ -73,9 +74,11 @@ impl<'a, W: World + Drop, G: Gate> EventThread<'a, W, G> {
     pub fn turn<R: Wait>(&mut self, rt: &R, moment: u64) -> Result<Did, NoMemory>
         requires asks { CanAsk W.fits W.only_asked W.may_ask W.right W.answers (tags_of self.old.slots.now) }
         ensures tables { (self.new.slots ≡ self.old.slots) × (self.new.queue ≡ self.old.queue) }
-        ensures keeps { KeepsDesk self.old.desk self.new.desk 2 }
-        ensures did { IfOk result
-            (IsDid (length (tags_of self.old.slots.now)) moment self.old.desk self.new.desk) }
+        ensures keeps { KeepsDesk self.old.desk self.new.desk MOST_ENTERED }
+        ensures did { IfOk result (IsDid W.fits W.asking W.answers W.called W.heard W.left
+            (tags_of self.old.slots.now) moment self.old.desk self.new.desk) }
+        ensures err { OnErr result (LosesOne (length (tags_of self.old.slots.now)) moment
+            self.old.desk self.new.desk) }
     {
         turn_desk(
             rt,
@@ -94,9 +97,11 @@ impl<'a, W: World + Drop, G: Gate> EventThread<'a, W, G> {
     pub fn run<R: Wait>(&mut self, rt: &R, budget: u64) -> Result<RunEnd, NoMemory>
         requires asks { CanAsk W.fits W.only_asked W.may_ask W.right W.answers (tags_of self.old.slots.now) }
         ensures tables { (self.new.slots ≡ self.old.slots) × (self.new.queue ≡ self.old.queue) }
-        ensures keeps { KeepsDesk self.old.desk self.new.desk (2 * budget) }
-        ensures ran { IfOk result
-            (HasRunTo (length (tags_of self.old.slots.now)) budget self.old.desk self.new.desk) }
+        ensures keeps { KeepsDesk self.old.desk self.new.desk (MOST_ENTERED * budget) }
+        ensures ran { IfOk result (HasRunTo W.fits W.asking W.answers W.called W.heard W.left
+            (tags_of self.old.slots.now) budget self.old.desk self.new.desk) }
+        ensures err { OnErr result (HasFailed W.fits W.asking W.answers W.called W.heard W.left
+            (tags_of self.old.slots.now) budget self.old.desk self.new.desk) }
     {
         run_desk(
             rt,

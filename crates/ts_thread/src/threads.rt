@@ -1,7 +1,7 @@
 //! Many threads over the same slots and the same queue.
 
 ghost use Rattle.std.specs.Prelude.{◌*◌, ◌-◌, ◌+◌, ◌<◌, ◌≤◌};
-ghost use Rattle.ts_thread.specs.declared.TheConstants.{MOST_THREADS};
+ghost use Rattle.ts_thread.specs.declared.TheConstants.{MOST_ENTERED, MOST_THREADS};
 ghost use Rattle.std.specs.Thread.{IsSync};
 ghost use Rattle.ts_slot.specs.Words.{tags_of};
 ghost use Rattle.ts_thread.specs.Tags.{CanAsk};
@@ -31,7 +31,7 @@ fn run_one<W: World + Drop, G: Gate, R: Wait>(
 ) -> (Seat<Group<W>>, QueuePass, bool)
     requires ready { CanRun slots.now queue.now 1 seat pass }
     requires asks { CanAsk W.fits W.only_asked W.may_ask W.right W.answers (tags_of slots.now) }
-    ensures back { ComesBack slots.now queue.now seat pass (2 * budget) result }
+    ensures back { ComesBack slots.now queue.now seat pass (MOST_ENTERED * budget) result }
 {
     let mut thread = match EventThread::make(alloc, number, slots, seat, queue, pass, gate) {
         Ok(thread) => thread,
@@ -59,7 +59,7 @@ pub fn run_all<W: World + Drop + Send, G: Gate + Sync, R: Threads + Wait + Sync>
     requires ready { CanRun slots.now queue.now threads seat pass }
     requires threads { (0 < threads) × (number + threads ≤ MOST_THREADS) }
     requires asks { CanAsk W.fits W.only_asked W.may_ask W.right W.answers (tags_of slots.now) }
-    ensures back { ComesBack slots.now queue.now seat pass (threads * (2 * budget)) result }
+    ensures back { ComesBack slots.now queue.now seat pass (threads * (MOST_ENTERED * budget)) result }
 {
     if threads == 1 {
         return run_one(rt, alloc, number, slots, queue, gate, budget, seat, pass);
@@ -73,7 +73,8 @@ pub fn run_all<W: World + Drop + Send, G: Gate + Sync, R: Threads + Wait + Sync>
         move || -> (Seat<Group<W>>, QueuePass, bool)
             requires { CanRun slots.now queue.now 1 other_seat other_pass
                 × CanAsk W.fits W.only_asked W.may_ask W.right W.answers (tags_of slots.now) }
-            ensures { ComesBack slots.entry.now queue.entry.now other_seat other_pass (2 * budget) result }
+            ensures { ComesBack slots.entry.now queue.entry.now other_seat other_pass
+                (MOST_ENTERED * budget) result }
         {
             run_one(
                 rt, alloc, number, slots, queue, gate, budget, other_seat, other_pass,
@@ -85,7 +86,7 @@ pub fn run_all<W: World + Drop + Send, G: Gate + Sync, R: Threads + Wait + Sync>
                 × CanAsk W.fits W.only_asked W.may_ask W.right W.answers (tags_of slots.now)
                 × IsSync R.row × IsSync G.row }
             ensures { ComesBack slots.entry.now queue.entry.now seat pass
-                ((threads - 1) * (2 * budget)) result }
+                ((threads - 1) * (MOST_ENTERED * budget)) result }
         {
             run_all(
                 rt,

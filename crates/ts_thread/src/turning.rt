@@ -2,10 +2,10 @@
 
 ghost use Rattle.std.specs.Prelude.{◌≡◌, ◌<◌, false, length, IfOk, OnOk, OnErr};
 ghost use Rattle.ts_group.specs.Answers.{Holds};
-ghost use Rattle.ts_group.specs.Slot.{trace_of};
 ghost use Rattle.ts_slot.specs.Words.{tags_of, view, IsSeatOf, IsTop};
+ghost use Rattle.ts_thread.specs.declared.TheConstants.{MOST_ENTERED};
 ghost use Rattle.ts_thread.specs.Asks.{AnswersAsked};
-ghost use Rattle.ts_thread.specs.Desks.{IsDeskOf, StaysDeskOf, LeavesDesk, KeepsDesk, ClosesDesk};
+ghost use Rattle.ts_thread.specs.Desks.{IsDeskOf, StaysDeskOf, LeavesDesk, KeepsTokens, ClosesDesk};
 ghost use Rattle.ts_thread.specs.Held.{HasTurn, IsGivenBack, BeginsSame, IsWorked, CanWork, FitsHere, WillFit};
 ghost use Rattle.ts_thread.specs.Shown.{IsShown};
 ghost use Rattle.ts_thread.specs.Tags.{CanAsk};
@@ -51,8 +51,10 @@ fn work<W: World + Drop>(
     requires group { CanWork W.fits W.sound (tags_of slots.now) token.group group.old }
     requires asks { CanAsk W.fits W.only_asked W.may_ask W.right W.answers (tags_of slots.now) }
     ensures desk { StaysDeskOf slots.now desk.old desk.new }
-    ensures keeps { KeepsDesk desk.old desk.new 1 }
-    ensures worked { IsWorked W.fits W.sound group.old group.new }
+    ensures keeps { KeepsTokens desk.old desk.new 1 }
+    ensures worked { IsWorked W.sound W.fits W.asking W.answers W.called W.heard W.left
+        (tags_of slots.now) token.number moment group.old group.new
+        (view desk.old.seat) (view desk.new.seat) result }
     ensures works { IfOk result (Works token desk.old desk.new) }
     ensures shown { IfOk result
         (IsShown group.old.cx.log.state group.new.cx.log.state token.number moment) }
@@ -90,7 +92,7 @@ pub fn end_turn<W: World + Drop, R: Wait>(
     moment: u64,
 ) -> Result<(), NoMemory>
     requires desk { IsDeskOf slots.now queue.now desk.old }
-    requires top { IsTop (view desk.old.seat) turn.group turn.number (trace_of turn.found.value.cx) }
+    requires top { IsTop (view desk.old.seat) turn.group turn.number turn.found.value }
     requires has { HasTurn turn.found.value turn.value turn.number desk.old.seat.number }
     requires fits { WillFit W.fits W.sound W.only_asked W.is_first (tags_of slots.now) turn.group turn.value }
     ensures desk { IsDeskOf slots.now queue.now desk.new }
@@ -118,14 +120,15 @@ fn serve<W: World + Drop, G: Gate, R: Wait>(
     moment: u64,
 ) -> Result<Did, NoMemory>
     requires desk { IsDeskOf slots.now queue.now desk.old }
-    requires top { IsTop (view desk.old.seat) turn.group turn.number (trace_of turn.found.value.cx) }
+    requires top { IsTop (view desk.old.seat) turn.group turn.number turn.found.value }
     requires found { IsOfToken token turn.group turn.number turn.found.value turn.value }
     requires fits { FitsHere W.fits W.sound W.only_asked W.is_first
         (tags_of slots.now) turn.group turn.value }
     requires asks { CanAsk W.fits W.only_asked W.may_ask W.right W.answers (tags_of slots.now) }
     ensures desk { IsDeskOf slots.now queue.now desk.new }
     ensures closes { ClosesDesk desk.old desk.new 1 }
-    ensures serves { IfOk result (Serves token moment turn.number turn.found.value desk.old desk.new) }
+    ensures serves { IfOk result (Serves W.fits W.asking W.answers W.called W.heard W.left
+        (tags_of slots.now) token moment turn.number turn.found.value desk.old desk.new) }
 {
     let owner = desk.seat.number();
     let number = turn.number();
@@ -157,8 +160,9 @@ pub fn enter<W: World + Drop, G: Gate, R: Wait>(
     requires group { token.group < length (tags_of slots.now) }
     requires asks { CanAsk W.fits W.only_asked W.may_ask W.right W.answers (tags_of slots.now) }
     ensures desk { IsDeskOf slots.now queue.now desk.new }
-    ensures keeps { KeepsDesk desk.old desk.new 2 }
-    ensures uses { IfOk result (Uses token moment desk.old desk.new) }
+    ensures keeps { KeepsTokens desk.old desk.new MOST_ENTERED }
+    ensures uses { IfOk result (Uses W.fits W.asking W.answers W.called W.heard W.left
+        (tags_of slots.now) token moment desk.old desk.new) }
 {
     match slots.try_enter(&mut desk.seat, token.group) {
         Err(missed) => {

@@ -1,11 +1,8 @@
 //! Groups that are run by threads and then driven to their end.
 
-ghost use Rattle.std.specs.Prelude.{◌<◌, ◌≤◌, length, All, IfOk};
-ghost use Rattle.ts_slot.specs.Limits.{most_groups};
-ghost use Rattle.ts_thread.specs.Started.{IsFirst};
-ghost use Rattle.ts_thread.specs.Tags.{CanAsk, GroupsFit};
-ghost use Rattle.ts_thread.specs.Threads.{IsPlan, HasHadTurns, turns_of};
-ghost use Rattle.ts_thread.specs.Whole.{EndSoon, HaveEnded};
+ghost use Rattle.std.specs.Prelude.{IfOk};
+ghost use Rattle.ts_thread.specs.Threads.{turns_of};
+ghost use Rattle.ts_thread.specs.Whole.{CanBeRun, EndSoon, HaveEnded};
 
 use crate::ending::finish;
 use crate::running::run_groups;
@@ -29,15 +26,12 @@ pub fn run_whole<W: World + Drop + Send, G: Gate + Sync, R: Threads + Wait + Syn
 ) -> Result<Vec<Group<W>>, NoMemory>
 where
     W::Tag: Drop,
-    requires count { (0 < length groups.items) × (length groups.items ≤ most_groups) }
-    requires fits { GroupsFit W.fits W.sound W.only_asked W.is_first tags.items groups.items }
-    requires plan { IsPlan W.only_asked tags.items starts threads budget }
-    requires new { All (HasHadTurns 0) groups.items }
-    requires asks { CanAsk W.fits W.only_asked W.may_ask W.right W.answers tags.items }
+    requires run { CanBeRun W.fits W.sound W.only_asked W.is_first W.may_ask W.right W.answers
+        tags.items groups.items starts threads budget }
     requires ends { EndSoon W.Question W.Reply W.Trace W.fits W.sound W.only_asked W.is_first W.left
         (turns_of starts threads budget) }
-    ensures { IfOk result (λ gs. HaveEnded W.fits W.sound W.only_asked W.is_first
-        (IsFirst W.is_first tags.items) W.begun tags.items starts gs.items) }
+    ensures { IfOk result (λ gs. HaveEnded W.fits W.sound W.only_asked W.is_first W.begun
+        tags.items starts groups.items gs.items) }
 {
     let mut groups = run_groups(rt, alloc, groups, tags, starts, threads, budget, gate)?;
     finish(&mut groups)?;

@@ -9,9 +9,10 @@ use Rattle.ts_thread.specs.declared.TheConstants.{MOST_LEFT}
 use Rattle.ts_thread.specs.Tags.{CanAsk, GroupsFit}
 use Rattle.ts_thread.specs.Started.{CanStart}
 use Rattle.ts_thread.specs.Whole.{EndSoon}
-use Rattle.ts_thread_tests.specs.declared.peer.Peer.{Peer}
-use Rattle.ts_thread_tests.specs.declared.peer.TheConstants.{ASKED}
-use Rattle.ts_thread_tests.specs.Peers.{PeerFits, PeerSound, PeerMayAsk, PeerRight, PeerAnswers, peer_left, IsPeer, AreRow, row_tags}
+use Rattle.ts_group_tests.specs.declared.peer.Peer.{Peer}
+use Rattle.ts_group_tests.specs.declared.peer.TheConstants.{ASKED}
+use Rattle.ts_group_tests.specs.Peers.{PeerFits, PeerSound, PeerMayAsk, PeerRight, PeerAnswers, peer_left}
+use Rattle.ts_thread_tests.specs.Peers.{IsPeer, AreRow, row_tags}
 
 last_asked : (n : ℕ) → slice_get (row_tags n) n ≡ Some true
 last_asked zero = refl
@@ -28,6 +29,10 @@ peers_can_ask = record {
       );
   replies = λ j k t u w v q r at fit there fits answers. answers;
 }
+
+-- the same for groups whose tags are those of a row
+pub row_can_ask : (tags : List Bool) → tags ≡ row_tags ASKED → CanAsk PeerFits (λ b. b) PeerMayAsk PeerRight PeerAnswers tags
+row_can_ask tags e = subst (CanAsk PeerFits (λ b. b) PeerMayAsk PeerRight PeerAnswers) (sym e) peers_can_ask
 
 pub peers_end : (turns : ℕ) → turns ≤ MOST_LEFT → EndSoon ℕ ℕ (Unit {0}) PeerFits PeerSound (λ b. b) (λ b. true) peer_left turns
 peers_end turns low = record { few = low; each = λ t g fit few. let sound = fit.1 in let todo = sound.few in let one = sound.one in (refl, omega arith) }
@@ -100,5 +105,5 @@ tag_at zero k low = absurd (omega arith)
 tag_at (suc n) zero low = refl
 tag_at (suc n) (suc k) low = tag_at n k (omega arith)
 
-pub row_starts : CanStart (λ b. b) (row_tags ASKED) ASKED
-row_starts k low = (false, tag_at ASKED k low, refl)
+pub row_starts : (starts : ℕ) → starts ≤ ASKED → CanStart (λ b. b) (row_tags ASKED) starts
+row_starts starts few k low = (false, tag_at ASKED k (omega arith), refl)

@@ -1,7 +1,7 @@
 //! Groups of one type of world that ask each other: driven to their end, on one thread and after many.
 #![tactic(auto)]
 
-pub mod peer;
 pub mod row;
 #[cfg(test)]
 mod tests;
+pub mod turns;

@@ -5,11 +5,11 @@ ghost use Rattle.ts_thread.specs.declared.TheConstants.{MOST_THREADS};
 ghost use Rattle.ts_thread.specs.Goings.{IsIdle};
 ghost use Rattle.ts_thread_tests.specs.Peers.{IsPeer, AreRow, row_tags};
 
-use crate::peer::{ASKED, MOST_TODO, Peer};
 use std::alloc::Global;
 use std::sync::Wait;
 use std::thread::Threads;
 use ts_group::Group;
+use ts_group_tests::peer::{ASKED, MOST_TODO, Peer, new_peer};
 use ts_journal::Entry;
 use ts_link::{Gate, NoMemory};
 use ts_thread::{ONLY_SEAT, finish, run_whole};
@@ -48,14 +48,7 @@ fn make_worker(alloc: Global, asks: bool, todo: u32, started: bool) -> Result<Gr
     ensures few { IfOk result (λ g. g.cx.log.state.turns ≤ 1) }
     ensures new { started ≡ false → IfOk result (λ g. g.cx.log.state.turns ≤ 0) }
 {
-    let peer = Peer {
-        only_asked: false,
-        asks,
-        todo,
-        last: 0,
-        main: None,
-    };
-    let group = Group::make(alloc, peer, 0)?;
+    let group = new_peer(alloc, false, asks, todo)?;
     if started {
         return start_worker(group);
     }
@@ -67,14 +60,7 @@ fn make_asked(alloc: Global) -> Result<Group<Peer>, NoMemory>
     ensures fits { IfOk result (λ g. IsPeer true g) }
     ensures new { IfOk result (λ g. g.cx.log.state.turns ≤ 0) }
 {
-    let peer = Peer {
-        only_asked: true,
-        asks: false,
-        todo: 0,
-        last: 0,
-        main: None,
-    };
-    Group::make(alloc, peer, 0)
+    new_peer(alloc, true, false, 0)
 }
 
 /// A row of peers with so many steps each, of which every other one asks. They were started or not.
@@ -117,8 +103,8 @@ pub fn run_row<G: Gate + Sync, R: Threads + Wait + Sync>(
     run_whole(rt, alloc, groups, tags, ASKED, threads, BUDGET, gate)
 }
 
-// The tags of a row.
-fn make_tags(alloc: Global) -> Result<Vec<bool>, NoMemory>
+/// The tags of a row.
+pub fn make_tags(alloc: Global) -> Result<Vec<bool>, NoMemory>
     ensures { IfOk result (λ tags. tags.items ≡ row_tags ASKED) }
 {
     let mut tags = Vec::new(alloc);

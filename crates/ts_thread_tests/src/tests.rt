@@ -1,8 +1,11 @@
-//! Rows of peers that are run and driven to their end.
+//! Rows of peers that are run and driven to their end, and single turns of a thread.
 
 use crate::row::{Tally, drive_row, first_seat, make_row, run_row, tally_of};
+use crate::turns::{play, play_held, play_runs};
 use std::test::Fail;
 use ts_link::{MeetGate, OpenGate};
+use ts_queue::Token;
+use ts_thread::{Did, RunEnd};
 
 // What stands of a row whose peers had three steps each: nothing pending, nothing to do, and the last of them was asked
 // for each step of the four that ask.
@@ -48,5 +51,88 @@ fn two_handlers_run_beside_each_other(rt: HostRuntime) -> Result<(), Fail> {
     let second = first_seat(other.journal().entries());
     assert!(rt; first.is_some() && second.is_some());
     assert!(rt; first != second);
+    Ok(())
+}
+
+fn token(group: u32, number: u64) -> Token {
+    Token { group, number }
+}
+
+const RAN: Did = Did::Ran { events: 1 };
+
+// A token of an event that was handled is stale, and one of no group is let go. Peers 0 and 1 have nothing to do.
+#[test]
+fn a_token_is_used_once(rt: HostRuntime) -> Result<(), Fail> {
+    let twice = play(
+        &rt,
+        rt.alloc(),
+        0,
+        1,
+        [token(0, 1)].as_slice(),
+        [0, 0, 0].as_slice(),
+    )?;
+    assert_eq!(rt; twice.as_slice(), [RAN, Did::Stale, Did::Idle].as_slice());
+    let none = play(
+        &rt,
+        rt.alloc(),
+        0,
+        0,
+        [token(9, 1)].as_slice(),
+        [0].as_slice(),
+    )?;
+    assert_eq!(rt; none.as_slice(), [Did::Idle].as_slice());
+    Ok(())
+}
+
+// Peer 1 does a step and sets its second event, which is due a millisecond later. Of its two tokens one is taken too
+// early.
+#[test]
+fn an_event_waits_until_it_is_due(rt: HostRuntime) -> Result<(), Fail> {
+    let tokens = [token(0, 2), token(0, 1), token(1, 2)];
+    let moments = [0, 0, 0, 0, 0, 0, 1, 1, 1];
+    let answers = play(&rt, rt.alloc(), 1, 2, tokens.as_slice(), moments.as_slice())?;
+    assert_eq!(rt;
+        answers.as_slice(),
+        [
+            RAN,
+            RAN,
+            RAN,
+            Did::Stale,
+            Did::NotDue { due: 1 },
+            Did::Stale,
+            RAN,
+            Did::Stale,
+            Did::Idle,
+        ]
+        .as_slice()
+    );
+    Ok(())
+}
+
+// Another seat has the second turn of the token's group, and has left it before the thread's next turn; the token is due
+// again 10 milliseconds after the miss.
+#[test]
+fn a_token_is_put_back(rt: HostRuntime) -> Result<(), Fail> {
+    let answers = play_held(&rt, rt.alloc(), 0, 0, [9, 10].as_slice())?;
+    assert_eq!(rt; answers.0, Did::PutBack { group: 0, seen: 3 });
+    assert_eq!(rt; answers.1.as_slice(), [Did::Idle, RAN].as_slice());
+    Ok(())
+}
+
+// Another seat holds the group that is asked, and has left it before the next turn; the peer asks again 10 milliseconds
+// later.
+#[test]
+fn a_held_group_is_not_asked(rt: HostRuntime) -> Result<(), Fail> {
+    let answers = play_held(&rt, rt.alloc(), 1, 8, [9, 10].as_slice())?;
+    assert_eq!(rt; answers.0, Did::AskMissed { group: 8, seen: 1 });
+    assert_eq!(rt; answers.1.as_slice(), [Did::Idle, RAN].as_slice());
+    Ok(())
+}
+
+// One turn is all that there is to do, and then the thread is idle.
+#[test]
+fn a_run_ends_at_its_budget_or_idle(rt: HostRuntime) -> Result<(), Fail> {
+    let ends = play_runs(&rt, rt.alloc(), 0, 1, 1)?;
+    assert_eq!(rt; ends, (RunEnd::Budget, RunEnd::Idle));
     Ok(())
 }

@@ -9,5 +9,6 @@ returns-in-Some-clause-token g c =
       names = first_named c.args.groups c.args.moment c.args.desk.now.wheel c.in-Some.token c.requires.wheel is;
       wheel = c.take_due.ensures.rest;
       seat = refl;
+      empties = refl;
       first = inl (is, refl);
     }

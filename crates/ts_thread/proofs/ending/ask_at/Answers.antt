@@ -1,6 +1,6 @@
 use Rattle.std.proofs.Common.{◌++◌, All, ap, sym, ◌∙◌, subst}
 use Rattle.std.specs.List.{slice_get}
-use Rattle.ts_thread.specs.Goings.{AllGoOn, HasTurns}
+use Rattle.ts_thread.specs.Goings.{AllGoOn, HasTurns, Lacked}
 use Rattle.ts_thread.proofs.Rows.{get_rest, all_back, all_both, all_refl}
 use Rattle.ts_thread.proofs.ending.ask_at.Goals as goal
 
@@ -25,8 +25,8 @@ pub returns-clause-goes : goal.returns-clause-goes
 returns-clause-goes g c =
     let before = c.split_at_mut-rest.result.0.now in
     let rest = c.split_at_mut-rest.result.1.now in
-    subst (λ gs. AllGoOn g.W.Slotted.fits g.W.World.sound g.W.World.only_asked g.W.World.is_first g.W.World.left gs (before ++ c.ask_first.new.groups) 1) (sym c.split_at_mut-rest.ensures.value)
-    (all_both g.W.Slotted.fits g.W.World.sound g.W.World.only_asked g.W.World.is_first g.W.World.left before before rest c.ask_first.new.groups 1 (all_refl g.W.Slotted.fits g.W.World.sound g.W.World.only_asked g.W.World.is_first g.W.World.left before 1) c.ask_first.ensures.goes)
+    subst (λ gs. AllGoOn g.W.Slotted.fits g.W.World.sound g.W.World.only_asked g.W.World.is_first g.W.World.left (Lacked c.ask_first.result) gs (before ++ c.ask_first.new.groups) 1) (sym c.split_at_mut-rest.ensures.value)
+    (all_both g.W.Slotted.fits g.W.World.sound g.W.World.only_asked g.W.World.is_first g.W.World.left _ before before rest c.ask_first.new.groups 1 (all_refl g.W.Slotted.fits g.W.World.sound g.W.World.only_asked g.W.World.is_first g.W.World.left _ before 1) c.ask_first.ensures.goes)
 
 pub returns-clause-answer : goal.returns-clause-answer
 returns-clause-answer g c = λ other there.

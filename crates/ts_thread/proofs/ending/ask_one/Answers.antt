@@ -1,4 +1,5 @@
 use Rattle.std.proofs.Common.{◌+◌, [], ◌++◌, inl, inr, refl, ap, ◌∙◌}
+use Rattle.std.specs.Prelude.{⊤}
 use Rattle.ts_group.specs.Entries.{asking_entries}
 use Rattle.ts_journal.proofs.Extends.{extends_none}
 use Rattle.ts_journal.proofs.Later.{extends_later}
@@ -35,9 +36,10 @@ returns-in-Err-clause-goes g c =
     let ask = c.in-Err.ensures in
     let given = c.give_turn-in-Err.ensures in
     let same = ask.err.1 in
-    let works = same_works g.W.Slotted.fits g.W.World.sound g.W.World.only_asked g.W.World.is_first g.W.World.left begun asked (ap (λ s. s.held) c.in-Ok.ensures.begins.state) (c.in-Ok.ensures.sound c.requires.fits.1.1) same in
+    let lacking : ⊤ = tt in
+    let works = same_works g.W.Slotted.fits g.W.World.sound g.W.World.only_asked g.W.World.is_first g.W.World.left begun asked (ap (λ s. s.held) c.in-Ok.ensures.begins.state) (c.in-Ok.ensures.sound c.requires.fits.1.1) same lacking in
     asked_goes g.W.Slotted.fits g.W.World.sound g.W.World.only_asked g.W.World.is_first g.W.World.left c.args.group.now begun asked c.give_turn-in-Err.new.self (c.turns-turn.result + 1) c.args.moment c.requires.fits.0 c.requires.fits.1
     (ap (λ n. n + 1) (c.turns-turn.ensures ∙ ap (λ j. j.state.turns) c.journal.ensures)) c.in-Ok.ensures.begins c.in-Ok.ensures.world c.in-Ok.ensures.left (same_asked g.W.Slotted.fits g.W.World.sound g.W.World.only_asked g.W.World.is_first g.W.World.left begun asked same) works.tags [] (extends_none begun.cx.log asked.cx.log same.cx.log)
-    (inl refl)
+    (inl (tt, refl))
     works.later works.turn.turns works.falls given.gives given.world given.left
     (given.sound ask.sound)

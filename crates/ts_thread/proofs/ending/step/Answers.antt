@@ -18,10 +18,10 @@ begin_turn-requires-clause-idle g c =
     let fits = c.requires.fits in (fit_middle g.W.Slotted.fits g.W.World.sound g.W.World.only_asked g.W.World.is_first g.W.World.left fits.0 c.args.before.now c.args.group.now c.args.after.now fits.2).1.2.0
 
 pub returns-in_err-begin_turn-clause-before : goal.returns-in_err-begin_turn-clause-before
-returns-in_err-begin_turn-clause-before g c = all_refl g.W.Slotted.fits g.W.World.sound g.W.World.only_asked g.W.World.is_first g.W.World.left c.args.before.now 1
+returns-in_err-begin_turn-clause-before g c = all_refl g.W.Slotted.fits g.W.World.sound g.W.World.only_asked g.W.World.is_first g.W.World.left _ c.args.before.now 1
 
 pub returns-in_err-begin_turn-clause-after : goal.returns-in_err-begin_turn-clause-after
-returns-in_err-begin_turn-clause-after g c = all_refl g.W.Slotted.fits g.W.World.sound g.W.World.only_asked g.W.World.is_first g.W.World.left c.args.after.now 1
+returns-in_err-begin_turn-clause-after g c = all_refl g.W.Slotted.fits g.W.World.sound g.W.World.only_asked g.W.World.is_first g.W.World.left _ c.args.after.now 1
 
 pub serve-answer-requires-clause-turn : goal.serve-answer-requires-clause-turn
 serve-answer-requires-clause-turn g c =

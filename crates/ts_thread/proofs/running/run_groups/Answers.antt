@@ -1,40 +1,46 @@
-use Rattle.std.proofs.Common.{◌≡◌, ◌*◌, ◌∙◌, ap, length, sym, subst}
+use Rattle.std.proofs.Common.{◌≡◌, ℕ, ◌+◌, ◌*◌, ◌∙◌, ap, length, sym, subst, arith}
 use mathlib.Core.Option.{some}
 use lib.ListN.{get_elem?}
 use Rattle.std.proofs.Math.Nat.{le_refl}
-use Rattle.ts_slot.specs.Lists.{entries}
+use Rattle.ts_group.specs.declared.group.Group.{Group}
+use Rattle.ts_group.specs.Standing.{FollowsGroup, StandsAfter}
+use Rattle.ts_slot.specs.Lists.{IsIn, entries}
 use Rattle.ts_slot.specs.Words.{view}
 use Rattle.ts_thread.specs.Started.{CanStart, IsFirst, AllStarted}
 use Rattle.ts_thread.specs.Tags.{GroupFits}
 use Rattle.ts_thread.specs.Threads.{HasHadTurns, turns_of}
-use Rattle.ts_thread.proofs.Starts.{zip_from, all_from, few_entries, few_all, still_young, all_more, was_started}
+use Rattle.ts_thread.proofs.Ended.{fit_count}
+use Rattle.ts_thread.proofs.Starts.{zip_from, zip_pairs, all_from, few_entries, few_all, still_young, was_started, after_known, given_known}
 use Rattle.ts_thread.proofs.running.run_groups.Goals as goal
 
-pub start_apart-requires-clause-tags : goal.start_apart-requires-clause-tags
-start_apart-requires-clause-tags g c = subst (λ ts. CanStart g.W.World.only_asked ts c.args.starts) (sym c.in-Ok.ensures.tags) c.requires.plan.tagged
+pub start_groups-requires-clause-tags : goal.start_groups-requires-clause-tags
+start_groups-requires-clause-tags g c = subst (λ ts. CanStart g.W.World.only_asked ts c.args.starts) (sym c.in-Ok.ensures.tags) c.requires.plan.tagged
 
-pub returns-clause-fits : goal.returns-clause-fits
-returns-clause-fits g c =
-    zip_from (λ t x. GroupFits g.W.Slotted.fits g.W.World.sound g.W.World.only_asked g.W.World.is_first t x) c.args.tags.items c.in-Ok-close.groups.items
-    (c.in-Ok-close.ensures.count ∙ ap length c.in-Ok.ensures.tags)
-    (λ k x at.
-    let last = c.in-Ok-close.ensures.values k x at in
-    subst (λ ts. (t : g.row.W-Tag.Denot) × (get_elem? ts k ≡ some t) × GroupFits g.W.Slotted.fits g.W.World.sound g.W.World.only_asked g.W.World.is_first t x) c.in-Ok.ensures.tags last.fit)
-
-pub returns-clause-turns : goal.returns-clause-turns
-returns-clause-turns g c =
-    all_from (HasHadTurns (turns_of c.args.starts c.args.threads c.args.budget)) c.in-Ok-close.groups.items (λ k x at.
-    let last = c.in-Ok-close.ensures.values k x at in
+pub returns : goal.returns
+returns g c =
+    let G = Group g.row.W.Denot g.row.W-Question.Denot g.row.W-Reply.Denot g.row.W-Tag.Denot g.row.W-Trace.Denot in
     let seat = view c.run_all-seat.result.0 in
-    few_all x.cx.log.state.turns (entries k seat.turns) (length seat.turns) (length (view c.start_apart.new.seat).turns) c.args.starts (c.args.threads * (2 * c.args.budget)) last.stamped (few_entries k seat.turns) c.run_all-seat.ensures.back.keeps.turns c.in_ok-start_apart.ensures.opened.few)
-
-pub returns-clause-started : goal.returns-clause-started
-returns-clause-started g c k x low at =
-    let last = c.in-Ok-close.ensures.values k x at in
-    let seat = view c.run_all-seat.result.0 in
-    let known = (view c.start_apart.new.seat).known in
     let first = IsFirst g.W.World.is_first c.args.tags.items in
-    let started = subst (λ ts. AllStarted g.row.W-Question.Denot g.row.W-Reply.Denot g.row.W-Tag.Denot g.row.W-Trace.Denot (IsFirst g.W.World.is_first ts) g.W.World.begun g.W.World.sound known c.args.starts) c.in-Ok.ensures.tags c.in_ok-start_apart.ensures.started in
-    let more = all_more g.row.W-Question.Denot g.row.W-Reply.Denot g.row.W-Tag.Denot g.row.W-Trace.Denot first g.W.World.begun g.W.World.sound known seat.known c.args.starts c.run_all-seat.ensures.back.keeps.known started in
-    let few = few_all (entries k seat.turns) (entries k seat.turns) (length seat.turns) (length (view c.start_apart.new.seat).turns) c.args.starts (c.args.threads * (2 * c.args.budget)) (le_refl (entries k seat.turns)) (few_entries k seat.turns) c.run_all-seat.ensures.back.keeps.turns c.in_ok-start_apart.ensures.opened.few in
-    was_started first g.W.World.begun g.W.World.sound seat.known seat.turns k x (still_young (entries k seat.turns) (turns_of c.args.starts c.args.threads c.args.budget) few c.requires.plan.turns) (more k low) last.later
+    let fit = λ (t : g.row.W-Tag.Denot) (x : G). GroupFits g.W.Slotted.fits g.W.World.sound g.W.World.only_asked g.W.World.is_first t x in
+    let count = c.in-Ok-close.ensures.count ∙ ap length c.in-Ok.ensures.tags in
+    -- each group that was given is still known
+    let known : (k : ℕ) (h : G) → get_elem? c.args.groups.items k ≡ some h → IsIn (k, 0, h) seat.known = λ k h at.
+    let was : IsIn (k, 0, h) (view c.in-Ok.seat).known = subst (λ v. IsIn (k, 0, h) v.known) (sym c.in-Ok.ensures.view) (given_known c.args.groups.items 0 k k h (omega arith) at) in
+    c.run_all-seat.ensures.back.keeps.known.stays (k, 0, h) (c.in_ok-start_groups.ensures.knows.stays (k, 0, h) was) in
+    record {
+      follow = zip_pairs FollowsGroup c.in-Ok-close.groups.items c.args.groups.items (fit_count fit c.args.tags.items c.args.groups.items c.requires.fits ∙ sym count)
+          (λ k x h at at'. (after_known StandsAfter seat.known k (entries k seat.turns + 1) 0 h x (c.in-Ok-close.ensures.values k x at).later (known k h at')).follows);
+      fits = zip_from fit c.args.tags.items c.in-Ok-close.groups.items count (λ k x at.
+          let last = c.in-Ok-close.ensures.values k x at in
+          subst (λ ts. (t : g.row.W-Tag.Denot) × (get_elem? ts k ≡ some t) × fit t x) c.in-Ok.ensures.tags last.fit);
+      turns = all_from (HasHadTurns (turns_of c.args.starts c.args.threads c.args.budget)) c.in-Ok-close.groups.items (λ k x at.
+          let last = c.in-Ok-close.ensures.values k x at in
+          few_all x.cx.log.state.turns (entries k seat.turns) (length seat.turns) (length (view c.start_groups.new.seat).turns) c.args.starts (c.args.threads * (2 * c.args.budget)) last.stamped (few_entries k seat.turns) c.run_all-seat.ensures.back.keeps.turns c.in_ok-start_groups.ensures.opened.few);
+      started = λ k h x low given at.
+          let last = c.in-Ok-close.ensures.values k x at in
+          let old = (view c.start_groups.new.seat).known in
+          let started = subst (λ ts. AllStarted g.row.W-Question.Denot g.row.W-Reply.Denot g.row.W-Tag.Denot g.row.W-Trace.Denot (IsFirst g.W.World.is_first ts) g.W.World.begun g.W.World.sound old c.args.starts) c.in-Ok.ensures.tags c.in_ok-start_groups.ensures.started in
+          let few = few_all (entries k seat.turns) (entries k seat.turns) (length seat.turns) (length (view c.start_groups.new.seat).turns) c.args.starts (c.args.threads * (2 * c.args.budget)) (le_refl (entries k seat.turns)) (few_entries k seat.turns) c.run_all-seat.ensures.back.keeps.turns c.in_ok-start_groups.ensures.opened.few in
+          let stood = c.in_ok-start_groups.ensures.knows.stays (k, 0, h) (subst (λ v. IsIn (k, 0, h) v.known) (sym c.in-Ok.ensures.view) (given_known c.args.groups.items 0 k k h (omega arith) given)) in
+          was_started first g.W.World.begun g.W.World.sound old seat.known seat.turns k h x (still_young (entries k seat.turns) (turns_of c.args.starts c.args.threads c.args.budget) few c.requires.plan.turns) (started k low) c.in_ok-start_groups.ensures.later stood c.run_all-seat.ensures.back.keeps.known last.later;
+    }

@@ -1,5 +1,4 @@
 use Rattle.std.proofs.Common.{refl, sym, ◌∙◌, ◌<◌, subst, arith}
-use Rattle.ts_group.specs.Slot.{trace_of}
 use Rattle.ts_slot.specs.Words.{tags_of, view}
 use Rattle.ts_thread.specs.Held.{HasTurn}
 use Rattle.ts_thread.specs.Seats.{KnowsTurn}
@@ -88,8 +87,9 @@ returns-clause-started g c =
           c.start.ensures.starts
           entered.wins
           c.end_turn.ensures.leaves.seat
-          ends.base
-          ends.later
-          (subst (λ k. KnowsTurn k c.enter_at-turn.result.number (trace_of ends.left.cx) (view c.end_turn.new.desk.seat).known) entered.group ends.knows);
+          ends.as_now.base
+          ends.as_now.later
+          ends.told.none
+          (subst (λ k. KnowsTurn k c.enter_at-turn.result.number ends.left (view c.end_turn.new.desk.seat).known) entered.group ends.knows);
     })
     c.end_turn.ensures.ends

@@ -1,4 +1,6 @@
-use Rattle.std.proofs.Common.{sym, ◌∙◌}
+use Rattle.std.proofs.Common.{ℕ, sym, subst, ◌∙◌}
+use Rattle.ts_slot.specs.Words.{tags_of}
+use Rattle.ts_thread.specs.Held.{HasTurn}
 use Rattle.ts_thread.proofs.Uses.{closes_desk, serve_ends}
 use Rattle.ts_thread.proofs.Worked.{given_marks}
 use Rattle.ts_thread.proofs.turning.serve.Goals as goal
@@ -28,14 +30,15 @@ pub returns-clause-serves : goal.returns-clause-serves
 returns-clause-serves g c =
     let worked = c.in_ok-did.ensures in
     let begun = c.in_default.ensures in
-    serve_ends c.args.token c.args.turn.group c.args.turn.number c.args.moment c.args.turn.found.value c.value.result.now c.begin.new.group c.value-2.result.now c.work-did.new.group c.args.desk.now c.work-did.new.desk c.end_turn-told.new.desk c.in_ok-did.did
+    serve_ends g.W.Slotted.fits g.W.World.asking g.W.World.answers g.W.World.called g.W.World.heard g.W.World.left (tags_of c.args.slots.now) c.args.token c.args.turn.group c.args.turn.number c.args.moment c.args.turn.found.value c.value.result.now c.begin.new.group c.value-2.result.now c.work-did.new.group c.args.desk.now c.work-did.new.desk c.end_turn-told.new.desk c.in_ok-did.did
     c.requires.found.group
     (c.value.ensures.value ∙ sym c.requires.found.same)
     begun.same
-    begun.begun.news_from
+    (subst (λ (x : ℕ × ℕ). HasTurn c.value.result.now c.begin.new.group x.0 x.1) (λ i. (c.number-number.ensures i, c.number-owner.ensures i)) begun.begun)
     c.value-2.ensures.value
     worked.worked.goes.news_from
     worked.works
+    worked.worked.ran
     worked.shown
     c.end_turn-told.ensures.leaves
     c.in_ok-told.ensures.ends

@@ -1,7 +1,9 @@
-use Rattle.std.proofs.Common.{refl}
-use Rattle.ts_slot.specs.Words.{tags_of}
+use Rattle.std.proofs.Common.{refl, inl, inr}
+use Rattle.ts_slot.specs.Words.{tags_of, view}
 use Rattle.ts_thread.specs.Asks.{GivesReply}
 use Rattle.ts_thread.proofs.Ends.{desk_added}
+use Rattle.ts_thread.proofs.Telling.{keeps_added}
+use Rattle.ts_thread.proofs.Uses.{same_desk}
 use Rattle.ts_thread.proofs.Worked.{at_below, may_be_asked, answer_over, handles_goes, handles_due, handles_few, told_worked, told_due, asked_works, asked_shown}
 use Rattle.ts_thread.proofs.turning.work.Goals as goal
 
@@ -35,6 +37,7 @@ returns-in-Handled-clause-worked g c =
       goes = handles_goes g.W.World.called g.W.Slotted.fits c.args.group.now c.handle.new.self c.args.token.number c.args.moment c.in-Handled.events c.known.ensures.valid gives.0 done.promises.tags;
       sound = keeps;
       few = handles_few g.W.World.called g.W.Slotted.fits c.args.group.now c.handle.new.self c.args.token.number c.args.moment c.in-Handled.events c.known.ensures.valid gives.0 done.few;
+      ran = inr (inl (record { events = c.in-Handled.events; handles = gives.0; counts = record { turns = refl; misses = refl }; is = refl }));
     }
 
 pub returns-in-Handled-clause-shown : goal.returns-in-Handled-clause-shown
@@ -47,8 +50,22 @@ pub returns-in-Asks-clause-worked : goal.returns-in-Asks-clause-worked
 returns-in-Asks-clause-worked g c =
     let done = c.in_ok-events.ensures in
     let gives = rw c.in-Asks.is at done.gives in
+    let keeps = rw c.in-Asks.is at done.keeps in
     let told = c.answered.ensures in
-    told_worked g.W.World.called g.W.Slotted.fits g.W.World.sound c.args.group.now c.handle.new.self c.answered.new.self c.args.token.number c.args.moment c.in-Asks.events c.known.ensures.valid c.known-in-Asks.ensures.valid gives done.promises.tags done.few told.grows told.turn told.sound told.promises.tags told.few
+    told_worked g.W.World.sound g.W.Slotted.fits g.W.World.asking g.W.World.answers g.W.World.called g.W.World.heard g.W.World.left (tags_of c.args.slots.now) c.args.group.now c.handle.new.self c.answered.new.self c.args.token.number c.args.moment c.in-Asks.events (view c.args.desk.now.seat) (view c.ask_other-asked.new.seat) c.did_of-did.result c.known.ensures.valid c.known-in-Asks.ensures.valid gives done.promises.tags done.few told.grows told.turn told.sound told.promises.tags told.few
+    (inr (inr (record {
+      events = c.in-Asks.events;
+      asking = c.handle.new.self;
+      handles = gives;
+      group = c.in-Asks.other;
+      question = c.in-Asks.question;
+      waits = keeps.0;
+      came = c.ask_other-asked.result;
+      by = c.ask_other-asked.ensures.came;
+      answer = c.ask_other-asked.ensures.answer;
+      hears = told.hears;
+      says = c.did_of-did.ensures;
+    })))
 
 pub returns-in-Asks-clause-works : goal.returns-in-Asks-clause-works
 returns-in-Asks-clause-works g c =
@@ -64,6 +81,13 @@ returns-in-Asks-clause-shown g c =
     let gives = rw c.in-Asks.is at done.gives in
     asked_shown c.args.group.now.cx.log.state c.answered.new.self.cx.log.state c.args.token.number c.args.moment c.in-Asks.events c.in-Asks.other c.ask_other-asked.result c.did_of-did.result c.did_of-did.ensures
     (told_due g.W.World.called g.W.Slotted.fits c.args.group.now c.handle.new.self c.answered.new.self c.args.token.number c.args.moment c.in-Asks.events c.known.ensures.valid c.known-in-Asks.ensures.valid gives c.answered.ensures.grows)
+
+pub returns-in_ok-add-in-NotDue-clause-keeps : goal.returns-in_ok-add-in-NotDue-clause-keeps
+returns-in_ok-add-in-NotDue-clause-keeps g c =
+    record {
+      desk = same_desk c.args.desk.now (record { seat = c.args.desk.now.seat; pass = c.args.desk.now.pass; wheel = c.add.new.self }) 1 refl refl;
+      places = keeps_added c.args.desk.now (record { seat = c.args.desk.now.seat; pass = c.args.desk.now.pass; wheel = c.add.new.self }) c.args.token c.in-NotDue.due c.in_ok-add-in-NotDue.ensures.ok refl;
+    }
 
 pub returns-in_ok-add-in-NotDue-clause-desk : goal.returns-in_ok-add-in-NotDue-clause-desk
 returns-in_ok-add-in-NotDue-clause-desk g c queue was =

@@ -1,9 +1,18 @@
 use Rattle.ts_slot.specs.Words.{tags_of, view}
 use Rattle.ts_thread.specs.Started.{IsFirst}
 use Rattle.ts_thread.proofs.Groups.{ok_to}
-use Rattle.ts_thread.proofs.Joins.{joined_more}
+use Rattle.ts_thread.proofs.Joins.{joined_more, joined_front}
 use Rattle.ts_thread.proofs.Starts.{all_more}
-use Rattle.ts_thread.proofs.running.start_apart.Goals as goal
+use Rattle.ts_thread.proofs.running.start_groups.Goals as goal
+
+pub returns-clause-knows : goal.returns-clause-knows
+returns-clause-knows g c =
+    ok_to c.start_all-started.result
+    (λ started. joined_front (view c.args.seat.now) (view c.split-own_seat.new.seat) (view c.start_all-started.new.desk.seat) (view c.join.new.into) c.split-own_seat.ensures.left c.join.ensures.both)
+    c.start_all-started.ensures.started
+
+pub returns-clause-later : goal.returns-clause-later
+returns-clause-later g c = ok_to c.start_all-started.result (λ started. c.join.ensures.later) c.start_all-started.ensures.started
 
 pub returns-clause-started : goal.returns-clause-started
 returns-clause-started g c =

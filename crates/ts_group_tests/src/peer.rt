@@ -1,16 +1,18 @@
 //! A world that works by itself, asks another one of its own type, or is only asked.
 
-ghost use Rattle.std.specs.Prelude.{⊤, ◌≡◌, ◌+◌, ◌≤◌, true, refl, []};
+ghost use Rattle.std.specs.Prelude.{⊤, ◌≡◌, ◌+◌, ◌≤◌, true, refl, [], IfOk};
 ghost use Rattle.std.proofs.Common.{sym, subst};
 ghost use Rattle.std.specs.Bool.{OnTrue};
 ghost use Rattle.ts_journal.specs.State.{IsLive};
-ghost use Rattle.ts_group.specs.Context.{own_key};
+ghost use Rattle.ts_group.specs.Context.{IsFresh, own_key};
 ghost use Rattle.ts_group.specs.Entries.{Grows};
 ghost use Rattle.ts_group.specs.Answers.{IsAnswered, Hears};
-ghost use Rattle.ts_thread_tests.specs.Peers.{PeerFits, PeerSound, PeerAsking, PeerMayAsk, PeerAnswers, PeerRight, PeerHeard, peer_left};
+ghost use Rattle.ts_group_tests.specs.Peers.{PeerFits, PeerSound, PeerAsking, PeerMayAsk, PeerAnswers, PeerRight, PeerHeard, peer_left};
 
-use ts_group::{Asked, Cx, Want, World};
+use std::alloc::Global;
+use ts_group::{Asked, Cx, Group, Want, World};
 use ts_journal::{ContKey, Event, Slotted};
+use ts_link::NoMemory;
 
 /// The place of the peer that is only asked.
 pub const ASKED: u32 = 8;
@@ -28,6 +30,31 @@ pub struct Peer {
     /// The reply that came last.
     pub last: u64,
     pub main: Option<ContKey>,
+}
+
+/// A group of a peer that has had no turn.
+pub fn new_peer(
+    alloc: Global,
+    only_asked: bool,
+    asks: bool,
+    todo: u32,
+) -> Result<Group<Peer>, NoMemory>
+    requires { todo ≤ MOST_TODO }
+    ensures world { IfOk result (λ g. g.world.only_asked ≡ only_asked) }
+    ensures sound { IfOk result (λ g. PeerSound g.world g.cx.log.state g.cx.roles) }
+    ensures fresh { IfOk result (λ g. IsFresh 0 g.cx) }
+{
+    Group::make(
+        alloc,
+        Peer {
+            only_asked,
+            asks,
+            todo,
+            last: 0,
+            main: None,
+        },
+        0,
+    )
 }
 
 impl Slotted for Peer {

@@ -1,0 +1,27 @@
+-- A group stands after itself when a turn was recorded, or none was.
+use Rattle.std.proofs.Common.{[], ◌∷◌, inr, ap, sym, subst, arith}
+use Rattle.ts_journal.specs.declared.entry.Entry.TheVariants.{Took, Gave}
+use Rattle.ts_journal.specs.Later.{IsLater}
+use Rattle.ts_journal.proofs.Later.{later_refl, follows_trans, extends_follows}
+use Rattle.ts_group_tests.proofs.recorded.record.Goals as goal
+
+pub returns-in_err-begin_turn-clause-stands : goal.returns-in_err-begin_turn-clause-stands
+returns-in_err-begin_turn-clause-stands g c =
+    let old = c.args.group.now in
+    let same = c.in_err-begin_turn.ensures.err in
+    record {
+      follows = inr (ap (λ s. s.turns) same.log.base, subst (IsLater old.cx.log.state) (sym same.log.state) (later_refl old.cx.log.state));
+      news = λ made. let from = same.news_from in omega arith;
+    }
+
+pub returns-clause-stands : goal.returns-clause-stands
+returns-clause-stands g c =
+    let old = c.args.group.now in
+    let mid = c.begin_turn.new.self in
+    let new = c.give_turn.new.self in
+    record {
+      follows = follows_trans (new.cx.log.base.turns, new.cx.log.state) (mid.cx.log.base.turns, mid.cx.log.state) (old.cx.log.base.turns, old.cx.log.state)
+          (extends_follows mid.cx.log new.cx.log (Gave mid.cx.log.state.turns ∷ []) c.known-2.ensures.valid c.give_turn.ensures.gives.by)
+          (extends_follows old.cx.log mid.cx.log (Took c.args.turn c.args.seat ∷ []) c.known.ensures.valid c.in_ok-begin_turn.ensures.begins.by);
+      news = λ made. let a = c.begin_turn.ensures.kept.news_from in let b = c.give_turn.ensures.kept.news_from in omega arith;
+    }

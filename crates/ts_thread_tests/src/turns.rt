@@ -1,0 +1,183 @@
+//! Turns of one thread over a row of peers, one after the other.
+
+ghost use Rattle.std.specs.Prelude.{◌≡◌, ◌≤◌, IfOk};
+ghost use Rattle.ts_group_tests.specs.declared.peer.TheConstants.{ASKED, MOST_TODO};
+ghost use Rattle.ts_queue.specs.Passes.{IsPassOf};
+ghost use Rattle.ts_slot.specs.Words.{tags_of, view};
+ghost use Rattle.ts_thread.specs.declared.TheConstants.{MOST_THREADS};
+ghost use Rattle.ts_thread.specs.Threads.{IsPair, HasOpened};
+ghost use Rattle.ts_thread_tests.specs.Peers.{row_tags};
+
+use crate::row::{make_row, make_tags};
+use std::alloc::Global;
+use std::sync::Wait;
+use ts_group::Group;
+use ts_group_tests::peer::Peer;
+use ts_link::{NoMemory, OpenGate};
+use ts_queue::{EventQueue, QueuePass, Token};
+use ts_slot::{Seat, Slots};
+use ts_thread::{Did, EventThread, RunEnd, start_groups};
+
+// What a row of peers in slots is run with.
+struct Opened {
+    slots: Slots<Group<Peer>>,
+    seat: Seat<Group<Peer>>,
+    queue: EventQueue,
+    pass: QueuePass,
+}
+
+// Puts these tokens, one after the other.
+fn put_all<R: Wait>(
+    rt: &R,
+    queue: &EventQueue,
+    pass: &mut QueuePass,
+    tokens: &[Token],
+) -> Result<(), NoMemory>
+    requires { IsPassOf queue.now pass.old }
+    ensures { IsPassOf queue.now pass.new }
+{
+    'tokens: for token in tokens {
+        if pass.serial() == u64::MAX {
+            return Err(NoMemory);
+        }
+        queue.put(rt, pass, *token)?;
+    }
+    Ok(())
+}
+
+// A row of peers with so many steps each, of which the first so many are started.
+fn open_row<R: Wait>(rt: &R, alloc: Global, todo: u32, starts: u32) -> Result<Opened, NoMemory>
+    requires { (todo ≤ MOST_TODO) × (starts ≤ ASKED) }
+    ensures pair { IfOk result (λ o. IsPair o.slots o.queue o.seat o.pass) }
+    ensures opened { IfOk result (λ o. HasOpened starts o.seat o.pass) }
+    ensures tags { IfOk result (λ o. tags_of o.slots ≡ row_tags ASKED) }
+{
+    let groups = make_row(alloc, todo, false)?;
+    let tags = make_tags(alloc)?;
+    let Ok((slots, mut seat)) = Slots::make(alloc, groups, tags) else {
+        return Err(NoMemory);
+    };
+    let (queue, mut pass) = EventQueue::make(alloc)?;
+    start_groups(rt, alloc, &slots, &queue, &mut seat, &mut pass, starts)?;
+    Ok(Opened {
+        slots,
+        seat,
+        queue,
+        pass,
+    })
+}
+
+// Takes one turn.
+#[tactic(auto, using(crate::proofs::Ends::row_can_ask))]
+fn take_turn<R: Wait>(
+    rt: &R,
+    thread: &mut EventThread<Peer, OpenGate>,
+    moment: u64,
+) -> Result<Did, NoMemory>
+    requires { tags_of thread.old.slots.now ≡ row_tags ASKED }
+    ensures { tags_of thread.new.slots.now ≡ row_tags ASKED }
+{
+    thread.turn(rt, moment)
+}
+
+// Takes a turn at each of these moments.
+fn take_turns<R: Wait>(
+    rt: &R,
+    alloc: Global,
+    thread: &mut EventThread<Peer, OpenGate>,
+    moments: &[u64],
+) -> Result<Vec<Did>, NoMemory>
+    requires { tags_of thread.old.slots.now ≡ row_tags ASKED }
+    ensures { tags_of thread.new.slots.now ≡ row_tags ASKED }
+{
+    let mut answers = Vec::new(alloc);
+    'moments: for moment in moments {
+        let did = take_turn(rt, thread, *moment)?;
+        answers.push(did)?;
+    }
+    Ok(answers)
+}
+
+/// What a thread answers in turns at these moments. The queue has these tokens behind those of the groups that were
+/// started.
+pub fn play<R: Wait>(
+    rt: &R,
+    alloc: Global,
+    todo: u32,
+    starts: u32,
+    tokens: &[Token],
+    moments: &[u64],
+) -> Result<Vec<Did>, NoMemory>
+    requires { (todo ≤ MOST_TODO) × (starts ≤ ASKED) }
+{
+    let Opened {
+        slots,
+        seat,
+        queue,
+        mut pass,
+    } = open_row(rt, alloc, todo, starts)?;
+    put_all(rt, &queue, &mut pass, tokens)?;
+    let gate = OpenGate::make();
+    let Ok(mut thread) = EventThread::make(alloc, 0, &slots, seat, &queue, pass, &gate) else {
+        return Err(NoMemory);
+    };
+    take_turns(rt, alloc, &mut thread, moments)
+}
+
+/// What a thread answers in a turn at the moment 0, while another seat holds the group k, and then in turns at these
+/// moments. The first group is started.
+#[tactic(auto, using(ts_group::specs::Standing::stands_itself))]
+pub fn play_held<R: Wait>(
+    rt: &R,
+    alloc: Global,
+    todo: u32,
+    k: u32,
+    moments: &[u64],
+) -> Result<(Did, Vec<Did>), NoMemory>
+    requires { (todo ≤ MOST_TODO) × (k ≤ ASKED) }
+{
+    let Opened {
+        slots,
+        mut seat,
+        queue,
+        pass,
+    } = open_row(rt, alloc, todo, 1)?;
+    let mut other = slots.split(&mut seat);
+    let gate = OpenGate::make();
+    let Ok(mut thread) = EventThread::make(alloc, 0, &slots, seat, &queue, pass, &gate) else {
+        return Err(NoMemory);
+    };
+    let Ok(held) = slots.try_enter(&mut other, k) else {
+        return Err(NoMemory);
+    };
+    let first = take_turn(rt, &mut thread, 0);
+    slots.leave(&mut other, held);
+    let later = take_turns(rt, alloc, &mut thread, moments)?;
+    Ok((first?, later))
+}
+
+/// Why the runs of a thread with these budgets end. The first group is started.
+#[tactic(auto, using(crate::proofs::Ends::row_can_ask))]
+pub fn play_runs<R: Wait>(
+    rt: &R,
+    alloc: Global,
+    todo: u32,
+    first: u64,
+    second: u64,
+) -> Result<(RunEnd, RunEnd), NoMemory>
+    requires { todo ≤ MOST_TODO }
+{
+    let Opened {
+        slots,
+        seat,
+        queue,
+        pass,
+    } = open_row(rt, alloc, todo, 1)?;
+    let gate = OpenGate::make();
+    let Ok(mut thread) = EventThread::make(alloc, 0, &slots, seat, &queue, pass, &gate) else {
+        return Err(NoMemory);
+    };
+    let one = thread.run(rt, first)?;
+    let other = thread.run(rt, second)?;
+    Ok((one, other))
+}
