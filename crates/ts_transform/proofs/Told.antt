@@ -29,7 +29,7 @@ pub pumped_once : {P : Type 0} (rest : P → List ℕ → List ℕ) (c d : Chain
 pumped_once rest c d at (inl same) = inl same
 pumped_once rest c d at (inr pumps) = inr (at, pumps)
 
-unroused_twice : (t : Option StageContinuation) → unroused (unroused t) ≡ unroused t
+pub unroused_twice : (t : Option StageContinuation) → unroused (unroused t) ≡ unroused t
 unroused_twice None = refl
 unroused_twice (Some t) = refl
 

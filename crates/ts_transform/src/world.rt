@@ -217,7 +217,7 @@ impl<P: Transform + Drop> World for ChainWorld<P> {
         ensures only { SetsOnly (IsRousing P.pause 1 self.old.driven.chain self.old.driven.table.items
             cx.old.moment cx.new.roles) cx.old cx.new }
         ensures begun { (length self.old.driven.table.items ≡ 0
-            → HasBegun (HasAllLive self.new.driven cx.new) self.new.driven cx.new)
+            → HasBegun self.new.driven cx.new)
             × (self.new.driven.chain ≡ self.old.driven.chain) }
         ensures again { (length self.old.driven.table.items ≡ 0 → ⊥)
             → (self.new ≡ self.old) × IsSame cx.old cx.new }
@@ -233,7 +233,7 @@ impl<P: Transform + Drop> World for ChainWorld<P> {
         ensures sound { (result ≡ Want.Nothing) × IsSound self.new cx.new.log.state.pending cx.new.roles }
         ensures within { ActsWithin 4 cx.old cx.new }
         ensures goes_on { GoesOnWith P.rest self.old self.new cx.old cx.new }
-        ensures loses { MayLose (HasAllLive self.new.driven cx.new)
+        ensures loses { MayLose (HasAllLive self.old.driven cx.old)
             self.old.driven self.new.driven cx.new }
 
         // The stage of the role handles the event; of another role all is left as it was.

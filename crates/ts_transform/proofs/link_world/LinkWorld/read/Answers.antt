@@ -1,13 +1,15 @@
-use Rattle.std.proofs.Common.{arith, ◌≡◌, ◌<◌, true, false, length, refl, sym, ap, subst, inl, inr, rules, ◌∙◌}
+use Rattle.std.proofs.Common.{Some, arith, ◌≡◌, ◌<◌, true, false, length, refl, sym, ap, subst, inl, inr, rules, ◌∙◌}
 use Rattle.ts_link.specs.Counts.{Counted}
 use Rattle.ts_vconn.specs.MoveAnswers.{EndsPull, pull_failed}
 use Rattle.ts_vconn.specs.declared.moves.TheConstants.{MOST_PULLED}
 use Rattle.ts_transform.specs.Stage.{MOST_WAITING}
 use Rattle.ts_transform.specs.Flow.{MustRead, client_wait, last_wait}
-use Rattle.ts_transform.specs.Carrying.{MovesOn}
+use Rattle.ts_transform.specs.Carrying.{AreLinked, MovesOn}
+use Rattle.ts_transform.specs.declared.loss.Loss.TheVariants as L
+use Rattle.ts_group.specs.declared.action.SetFault.TheVariants as F
 use Rattle.ts_transform.proofs.Carrying.{counted_grows, moves_aborted, moves_as, moves_none, moves_pull, pulled_none}
-use Rattle.ts_transform.proofs.Joined.{aborted_same, joined_aborted, joined_as, joined_driven, lose_weaker, runs_before}
-use Rattle.ts_transform.proofs.Driving.{may_lose}
+use Rattle.ts_transform.proofs.Joined.{aborted_same, course_aborted, course_driven, course_same, joined_aborted, joined_as, joined_driven, linked_kept, lose_weaker, runs_before}
+use Rattle.ts_transform.proofs.Living.{live_stages}
 use Rattle.ts_transform.proofs.Kept.{acts_none}
 use Rattle.ts_transform.proofs.link_world.LinkWorld.read.Goals as goal
 
@@ -48,7 +50,7 @@ returns-in-Ok-Some-clause-joined g c = λ was runs.
     let rouse = c.rouse_first-told in
     joined_driven self.driven.chain rouse.new.self.chain self.driven.table.items rouse.new.self.table.items self.writer self.reader c.args.cx.now rouse.new.cx rouse.ensures.adds.keeps
     (λ h. rouse.ensures.driven 3 self.driven.chain (sym c.in-Ok-Some.ensures.kept.0) (λ r. h) runs)
-    (was (runs_before rouse.result (record self.driven { chain = c.pull.new.self }) rouse.new.self rouse.new.cx rouse.ensures.loses runs))
+    (was (runs_before rouse.result (record self.driven { chain = c.pull.new.self }) rouse.new.self c.args.cx.now rouse.new.cx rouse.ensures.loses runs))
 
 -- The end came.
 pub returns-in-Ok-End-clause-moves : goal.returns-in-Ok-End-clause-moves
@@ -133,14 +135,59 @@ returns-in-Err-clause-moves g c =
 pub returns-in-Err-clause-within : goal.returns-in-Err-clause-within
 returns-in-Err-clause-within g c = acts_none 1 c.args.cx.now c.requires.turn
 
+-- The chain goes on, or is lost for a cause.
+pub returns-then-is_given-clause-course : goal.returns-then-is_given-clause-course
+returns-then-is_given-clause-course g c = course_same c.args.self.now c.args.cx.now
+
+pub returns-then-not-has_room-clause-course : goal.returns-then-not-has_room-clause-course
+returns-then-not-has_room-clause-course g c = course_same c.args.self.now c.args.cx.now
+
 pub returns-in-Ok-Some-clause-course : goal.returns-in-Ok-Some-clause-course
 returns-in-Ok-Some-clause-course g c =
+    let self = c.args.self.now in
     let rouse = c.rouse_first-told in
-    let was = record c.args.self.now.driven { chain = c.pull.new.self } in
-    record { loses = lose_weaker was rouse.new.self rouse.new.cx (λ all. all.stages) (may_lose rouse.result was rouse.new.self rouse.new.cx rouse.ensures.loses); started = λ none. none }
+    let pulled = c.pull.new.self in
+    let cx = c.args.cx.now in
+    course_driven self (record self { input = c.pull.new.link; driven = rouse.new.self }) pulled cx rouse.new.cx rouse.result refl refl c.in-Ok-Some.ensures.kept.0
+    (ap (λ x. x.stages) rouse.ensures.chain) rouse.ensures.adds.keeps.live rouse.ensures.same rouse.ensures.loses
 
 pub returns-in-Ok-End-clause-course : goal.returns-in-Ok-End-clause-course
 returns-in-Ok-End-clause-course g c =
+    let self = c.args.self.now in
     let end = c.give_end-told in
-    let was = record c.args.self.now.driven { chain = c.pull.new.self } in
-    record { loses = lose_weaker was end.new.self end.new.cx (λ all. all.stages) (may_lose end.result was end.new.self end.new.cx end.ensures.loses); started = λ none. none }
+    let pulled = c.pull.new.self in
+    let cx = c.args.cx.now in
+    course_driven self (record self { input = c.pull.new.link; driven = end.new.self }) pulled cx end.new.cx end.result refl refl c.in-Ok-End.ensures.kept.0
+    (ap (λ x. x.stages) end.ensures.chain) end.ensures.adds.keeps.live end.ensures.same end.ensures.loses
+
+pub returns-in-Ok-Again-clause-course : goal.returns-in-Ok-Again-clause-course
+returns-in-Ok-Again-clause-course g c =
+    let self = c.args.self.now in
+    let pulled = c.pull.new.self in
+    let cx = c.args.cx.now in
+    let after = record self { input = c.pull.new.link; driven = record self.driven { chain = pulled } } in
+    let course = c.rouse_reader.ensures.course in
+    let found : AreLinked self cx → AreLinked after cx =
+    linked_kept self.driven after.driven self.writer self.writer self.reader self.reader cx cx refl (live_stages self.driven.chain pulled self.driven.table.items cx c.in-Ok-Again.ensures.kept.0) refl refl in
+    record {
+      loses = lose_weaker self.driven c.rouse_reader.new.self.driven c.rouse_reader.new.cx found course.loses;
+      live = λ all. course.live (found all);
+      started = course.started;
+    }
+
+pub returns-in-Ok-Failed-clause-course : goal.returns-in-Ok-Failed-clause-course
+returns-in-Ok-Failed-clause-course g c =
+    course_aborted c.args.self.now c.abort.new.self c.pull.new.self c.args.cx.now c.abort.ensures.chain c.abort.ensures.course.table c.abort.ensures.course.running c.abort.ensures.course.lost
+    c.abort.ensures.ends.0 c.abort.ensures.ends.1
+
+pub returns-in-Err-clause-course : goal.returns-in-Err-clause-course
+returns-in-Err-clause-course g c =
+    let self = c.args.self.now in
+    let cx = c.args.cx.now in
+    let stopped = record self.driven { chain = c.pull.new.self; running = false; lost = Some L.NoMemory } in
+    record {
+      loses = inr (F.NoMemory, refl, refl, tt);
+      live = linked_kept self.driven stopped self.writer self.writer self.reader self.reader cx cx refl
+          (live_stages self.driven.chain c.pull.new.self self.driven.table.items cx (ap (λ x. x.stages) c.in-Err.ensures.err.0)) refl refl;
+      started = λ none. none;
+    }

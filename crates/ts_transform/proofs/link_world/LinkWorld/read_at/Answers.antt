@@ -1,9 +1,10 @@
-use Rattle.std.proofs.Common.{◌≡◌, false, sym, subst, ◌∙◌}
-use Rattle.ts_transform.specs.Carrying.{IsJoined}
-use Rattle.ts_transform.specs.Driving.{IsNamedIf}
+use Rattle.std.proofs.Common.{◌≡◌, false, refl, ap, sym, subst, ◌∙◌}
+use Rattle.ts_transform.specs.Carrying.{AreLinked, IsJoined}
+use Rattle.ts_transform.specs.Driving.{IsNamedIf, unroused}
 use Rattle.ts_transform.proofs.Carrying.{moves_none}
-use Rattle.ts_transform.proofs.Joined.{joined_quiet, joined_reader, named_unroused}
+use Rattle.ts_transform.proofs.Joined.{course_same, joined_quiet, linked_kept, lose_weaker, joined_reader, named_unroused}
 use Rattle.ts_transform.proofs.Kept.{acts_none}
+use Rattle.ts_transform.proofs.Told.{unroused_twice}
 use Rattle.ts_transform.proofs.link_world.LinkWorld.read_at.Goals as goal
 
 pub returns-then-works-clause-joined : goal.returns-then-works-clause-joined
@@ -34,3 +35,19 @@ returns-then-works-clause-retries g c = λ named waited.
     let roles = c.args.cx.now.roles in
     let h = c.read.ensures.retries (subst (IsNamedIf roles 2) (sym c.unrouse.ensures) (named_unroused roles 2 self.reader named)) waited in
     record { chain = h.chain; writer = h.writer; roused = h.roused; only = h.only }
+
+pub returns-then-works-clause-course : goal.returns-then-works-clause-course
+returns-then-works-clause-course g c =
+    let self = c.args.self.now in
+    let cx = c.args.cx.now in
+    let course = c.read.ensures.course in
+    let found : AreLinked self cx → AreLinked (record self { reader = c.unrouse.new.slot }) cx =
+    linked_kept self.driven self.driven self.writer self.writer self.reader c.unrouse.new.slot cx cx refl (λ all. all) refl (ap unroused c.unrouse.ensures ∙ unroused_twice self.reader) in
+    record {
+      loses = lose_weaker self.driven c.read.new.self.driven c.read.new.cx found course.loses;
+      live = λ all. course.live (found all);
+      started = course.started;
+    }
+
+pub returns-else-works-clause-course : goal.returns-else-works-clause-course
+returns-else-works-clause-course g c = course_same c.args.self.now c.args.cx.now

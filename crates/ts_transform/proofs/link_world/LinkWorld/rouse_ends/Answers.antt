@@ -1,7 +1,7 @@
 use Rattle.std.proofs.Common.{◌≡◌, true, false, arith, sym, subst, ◌∙◌}
 use Rattle.ts_transform.specs.Flow.{MustRead, MustWrite}
 use Rattle.ts_transform.specs.Carrying.{AreEndsRoused}
-use Rattle.ts_transform.proofs.Joined.{end_rests, may_break_then, while_runs}
+use Rattle.ts_transform.proofs.Joined.{course_same, end_rests, may_break_then, while_runs}
 use Rattle.ts_transform.proofs.Kept.{acts_none, acts_then}
 use Rattle.ts_transform.proofs.link_world.LinkWorld.rouse_ends.Goals as goal
 
@@ -34,7 +34,11 @@ returns-clause-course g c =
     let one = c.rouse_writer in
     let two = c.rouse_reader in
     record {
-      loses = may_break_then c.args.self.now one.new.self two.new.self one.new.cx two.new.cx one.ensures.course.loses
+      loses = may_break_then c.args.self.now one.new.self two.new.self c.args.cx.now one.new.cx two.new.cx one.ensures.course.loses one.ensures.course.live
           (λ stopped. absurd (let wrong : true ≡ false = sym c.if-not-self-2.false ∙ stopped in cc)) two.ensures.course.loses;
+      live = λ all. two.ensures.course.live (one.ensures.course.live all);
       started = λ none. one.ensures.course.started (two.ensures.course.started none);
     }
+
+pub returns-then-not-self-clause-course : goal.returns-then-not-self-clause-course
+returns-then-not-self-clause-course g c = course_same c.args.self.now c.args.cx.now

@@ -1,8 +1,8 @@
 use Rattle.std.proofs.Common.{◌≡◌, true, false, arith, refl, sym, ap, subst, inl, ◌∙◌}
 use Rattle.ts_transform.specs.Driving.{IsRousedIf}
-use Rattle.ts_transform.specs.Carrying.{IsJoinedWhile, LacksMemory, MayBreak, Steps}
+use Rattle.ts_transform.specs.Carrying.{IsJoinedWhile, LacksMemory, MayBreak, StepsAlong}
 use Rattle.ts_transform.proofs.Carrying.{moves_aborted, moves_as, moves_lacks, moves_none}
-use Rattle.ts_transform.proofs.Joined.{again_reads, again_writes, aborted_quiet, joined_aborted, joined_as, lose_lacks, loses_runs, may_break_then, named_of, rests_then}
+use Rattle.ts_transform.proofs.Joined.{again_reads, again_writes, aborted_quiet, joined_aborted, joined_as, break_after, lose_lacks, loses_runs, named_of, rests_then}
 use Rattle.ts_transform.proofs.Kept.{acts_none, acts_then}
 use Rattle.ts_transform.proofs.link_world.LinkWorld.step.Goals as goal
 
@@ -42,7 +42,7 @@ returns-then-lacks_memory-clause-carried g c = λ before handled was.
     let now = c.abort.new.self in
     let cx = c.rouse_ends.new.cx in
     let joined : IsJoinedWhile mid cx.log.state.pending cx.roles = c.rouse_ends.ensures.joined (c.work.ensures.joined before handled was.joined) in
-    let steps : Steps g.P.Transform.rest g.I.Link.tells g.K.Link.tells g.I.Link.look g.K.Link.look self now = returns-then-lacks_memory-clause-steps g c in
+    let steps : StepsAlong g.P.Transform.rest g.I.Link.tells g.K.Link.tells g.I.Link.look g.K.Link.look self now = returns-then-lacks_memory-clause-steps g c in
     record {
       joined = λ runs.
           joined_as now.driven.chain now.driven.chain mid.driven.table.items now.driven.table.items mid.writer now.writer mid.reader now.reader cx.log.state.pending cx.roles refl c.abort.ensures.course.table
@@ -74,7 +74,7 @@ pub returns-else-lacks_memory-clause-carried : goal.returns-else-lacks_memory-cl
 returns-else-lacks_memory-clause-carried g c = λ before handled was.
     let self = c.args.self.now in
     let now = c.rouse_ends.new.self in
-    let steps : Steps g.P.Transform.rest g.I.Link.tells g.K.Link.tells g.I.Link.look g.K.Link.look self now = returns-else-lacks_memory-clause-steps g c in
+    let steps : StepsAlong g.P.Transform.rest g.I.Link.tells g.K.Link.tells g.I.Link.look g.K.Link.look self now = returns-else-lacks_memory-clause-steps g c in
     record {
       joined = c.rouse_ends.ensures.joined (c.work.ensures.joined before handled was.joined);
       ends = c.rouse_ends.ensures.ends;
@@ -129,19 +129,22 @@ returns-else-lacks_memory-clause-again g c = λ before handled was.
     }
 
 -- It goes on as it did, or is lost for a cause.
+pub returns-then-not-self-clause-loses : goal.returns-then-not-self-clause-loses
+returns-then-not-self-clause-loses g c = λ before handled was. inl (refl, refl)
+
 pub returns-else-lacks_memory-clause-loses : goal.returns-else-lacks_memory-clause-loses
-returns-else-lacks_memory-clause-loses g c =
-    may_break_then c.args.self.now c.work.new.self c.rouse_ends.new.self c.work.new.cx c.rouse_ends.new.cx c.work.ensures.course.loses (λ stopped. c.rouse_ends.ensures.idle (inl stopped))
-    c.rouse_ends.ensures.course.loses
+returns-else-lacks_memory-clause-loses g c = λ before handled was.
+    break_after c.args.self.now c.work.new.self c.rouse_ends.new.self c.args.cx.now c.work.new.cx c.rouse_ends.new.cx (was.ends c.if-not-self.false) c.work.ensures.course.loses c.work.ensures.course.live
+    c.rouse_ends.ensures.idle c.rouse_ends.ensures.course.loses
 
 pub returns-then-lacks_memory-clause-loses : goal.returns-then-lacks_memory-clause-loses
-returns-then-lacks_memory-clause-loses g c =
+returns-then-lacks_memory-clause-loses g c = λ before handled was.
     let self = c.args.self.now in
     let mid = c.rouse_ends.new.self in
     let now = c.abort.new.self in
     let cx = c.rouse_ends.new.cx in
-    let broke : MayBreak self mid cx =
-    may_break_then self c.work.new.self mid c.work.new.cx cx c.work.ensures.course.loses (λ stopped. c.rouse_ends.ensures.idle (inl stopped)) c.rouse_ends.ensures.course.loses in
+    let broke : MayBreak self mid c.args.cx.now cx =
+    break_after self c.work.new.self mid c.args.cx.now c.work.new.cx cx (was.ends c.if-not-self.false) c.work.ensures.course.loses c.work.ensures.course.live c.rouse_ends.ensures.idle c.rouse_ends.ensures.course.loses in
     lose_lacks self.driven mid.driven now.driven cx (c.lacks_memory.ensures.lacks c.if-lacks_memory.true).1 c.abort.ensures.course.running c.abort.ensures.course.lost broke
 
 pub returns-else-lacks_memory-clause-stops : goal.returns-else-lacks_memory-clause-stops

@@ -1,6 +1,6 @@
-use Rattle.std.proofs.Common.{◌≡◌, refl, sym, ap}
+use Rattle.std.proofs.Common.{◌≡◌, inr, refl, sym, ap}
 use Rattle.ts_transform.proofs.Carrying.{moves_stage}
-use Rattle.ts_transform.proofs.Joined.{joined_stage, lose_weaker, runs_before}
+use Rattle.ts_transform.proofs.Joined.{joined_stage, linked_stage, lose_weaker, runs_before}
 use Rattle.ts_transform.proofs.Driving.{may_lose}
 use Rattle.ts_transform.proofs.link_world.LinkWorld.work.Goals as goal
 
@@ -16,8 +16,8 @@ returns-else-role-eq-READER-clause-joined g c = λ before handled was runs.
     let self = c.args.self.now in
     let acted = c.handle-told in
     joined_stage self.driven.chain acted.new.self.chain self.driven.table.items acted.new.self.table.items self.writer self.reader before c.args.cx.now acted.new.cx c.args.role c.args.event handled
-    c.if-role-eq-WRITER.false c.if-role-eq-READER.false acted.ensures.others (λ h. acted.ensures.driven before handled (λ r. h) runs)
-    (was (runs_before acted.result self.driven acted.new.self acted.new.cx acted.ensures.loses runs))
+    c.if-role-eq-WRITER.false c.if-role-eq-READER.false acted.ensures.rest.others (λ h. acted.ensures.driven before handled (λ r. h) runs)
+    (was (runs_before acted.result self.driven acted.new.self c.args.cx.now acted.new.cx acted.ensures.loses runs))
 
 -- An event of one end leaves the other's link alone.
 pub returns-then-role-eq-WRITER-clause-reads : goal.returns-then-role-eq-WRITER-clause-reads
@@ -28,9 +28,20 @@ returns-then-role-eq-READER-clause-writes g c = λ named waited. absurd (waited 
 
 pub returns-else-role-eq-READER-clause-course : goal.returns-else-role-eq-READER-clause-course
 returns-else-role-eq-READER-clause-course g c =
+    let self = c.args.self.now in
     let acted = c.handle-told in
-    let was = c.args.self.now.driven in
-    record { loses = lose_weaker was acted.new.self acted.new.cx (λ all. all.stages) (may_lose acted.result was acted.new.self acted.new.cx acted.ensures.loses); started = λ none. none }
+    let cx = c.args.cx.now in
+    record {
+      loses = lose_weaker self.driven acted.new.self acted.new.cx (λ all. all.stages) (may_lose acted.result self.driven acted.new.self cx acted.new.cx acted.ensures.loses);
+      live = linked_stage self (record self { driven = acted.new.self }) cx acted.new.cx refl refl acted.ensures.rest.live;
+      started = λ none. none;
+    }
+
+pub returns-then-role-eq-WRITER-clause-course : goal.returns-then-role-eq-WRITER-clause-course
+returns-then-role-eq-WRITER-clause-course g c = let course = c.write_at.ensures.course in record { loses = course.loses; live = inr course.live; started = course.started }
+
+pub returns-then-role-eq-READER-clause-course : goal.returns-then-role-eq-READER-clause-course
+returns-then-role-eq-READER-clause-course g c = let course = c.read_at.ensures.course in record { loses = course.loses; live = inr course.live; started = course.started }
 
 -- It is that of nobody.
 pub returns-then-role-eq-WRITER-clause-other : goal.returns-then-role-eq-WRITER-clause-other

@@ -1,8 +1,11 @@
-use Rattle.std.proofs.Common.{arith, ◌≡◌, true, refl, sym, ap, subst, inl, inr, ◌∙◌}
+use Rattle.std.proofs.Common.{Some, false, arith, ◌≡◌, true, refl, sym, ap, subst, inl, inr, ◌∙◌}
 use Rattle.ts_transform.specs.Flow.{MustRead}
 use Rattle.ts_transform.specs.Carrying.{MovesOn}
 use Rattle.ts_transform.proofs.Carrying.{moves_aborted, moves_as, moves_none, moves_taken, moves_wait}
-use Rattle.ts_transform.proofs.Joined.{joined_aborted, joined_as, lose_weaker}
+use Rattle.ts_transform.proofs.Joined.{course_aborted, course_same, joined_aborted, joined_as, linked_kept, lose_weaker}
+use Rattle.ts_transform.proofs.Living.{all_live, live_taken}
+use Rattle.ts_transform.specs.declared.loss.Loss.TheVariants as L
+use Rattle.ts_group.specs.declared.action.SetFault.TheVariants as F
 use Rattle.ts_transform.proofs.Driving.{may_lose}
 use Rattle.ts_transform.proofs.Kept.{acts_none}
 use Rattle.ts_transform.proofs.link_world.LinkWorld.write.Goals as goal
@@ -79,8 +82,39 @@ returns-in-NoMemory-clause-moves g c =
 pub returns-in-NoMemory-clause-within : goal.returns-in-NoMemory-clause-within
 returns-in-NoMemory-clause-within g c = acts_none 1 c.args.cx.now c.requires.turn
 
+-- The chain goes on, or is lost for a cause.
+pub returns-in_default-clause-course : goal.returns-in_default-clause-course
+returns-in_default-clause-course g c = course_same c.args.self.now c.args.cx.now
+
 pub returns-in-Took-clause-course : goal.returns-in-Took-clause-course
 returns-in-Took-clause-course g c =
+    let self = c.args.self.now in
     let take = c.take-told in
-    let was = c.args.self.now.driven in
-    record { loses = lose_weaker was take.new.self take.new.cx (λ all. all.stages) (may_lose take.result was take.new.self take.new.cx take.ensures.loses); started = λ none. none }
+    let cx = c.args.cx.now in
+    let keys = take.ensures.adds.keeps.live in
+    record {
+      loses = lose_weaker self.driven take.new.self take.new.cx (λ all. all.stages) (may_lose take.result self.driven take.new.self cx take.new.cx take.ensures.loses);
+      live = linked_kept self.driven take.new.self self.writer self.writer self.reader self.reader cx take.new.cx keys
+          (λ all. all_live take.new.self.chain take.new.self.chain self.driven.table.items take.new.self.table.items cx take.new.cx keys take.ensures.same (λ j going. going)
+          (live_taken c.in-Took.count self.driven.chain take.new.self.chain self.driven.table.items cx take.ensures.takes.takes all)) refl refl;
+      started = λ none. none;
+    }
+
+pub returns-in-Again-clause-course : goal.returns-in-Again-clause-course
+returns-in-Again-clause-course g c = let course = c.rouse_writer.ensures.course in record { loses = course.loses; live = course.live; started = course.started }
+
+pub returns-in-Failed-clause-course : goal.returns-in-Failed-clause-course
+returns-in-Failed-clause-course g c =
+    course_aborted c.args.self.now c.abort.new.self c.args.self.now.driven.chain c.args.cx.now c.abort.ensures.chain c.abort.ensures.course.table c.abort.ensures.course.running c.abort.ensures.course.lost
+    c.abort.ensures.ends.0 c.abort.ensures.ends.1
+
+pub returns-in-NoMemory-clause-course : goal.returns-in-NoMemory-clause-course
+returns-in-NoMemory-clause-course g c =
+    let self = c.args.self.now in
+    let cx = c.args.cx.now in
+    let stopped = record self.driven { running = false; lost = Some L.NoMemory } in
+    record {
+      loses = inr (F.NoMemory, refl, refl, tt);
+      live = linked_kept self.driven stopped self.writer self.writer self.reader self.reader cx cx refl (λ all. all) refl refl;
+      started = λ none. none;
+    }
