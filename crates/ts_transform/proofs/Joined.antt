@@ -9,27 +9,29 @@ use Rattle.ts_group.specs.declared.action.SetFault.TheVariants as F
 use Rattle.ts_group.specs.declared.action.MakeFault.{MakeFault}
 use Rattle.ts_group.specs.Context.{AllPlain, Context, IsSame, role_at}
 use Rattle.ts_group.specs.Entries.{Grows}
-use Rattle.ts_group.specs.Changes.{SameEvents}
+use Rattle.ts_group.specs.Changes.{KeepsKeys, SameEvents}
 use Rattle.ts_transform.specs.declared.continuation.StageContinuation.{StageContinuation}
 use Rattle.ts_transform.specs.declared.driven.DrivenChain.{DrivenChain}
 use Rattle.ts_transform.specs.declared.loss.Loss.{Loss}
 use Rattle.ts_transform.specs.declared.pump.Stage.{Stage}
 use Rattle.ts_transform.specs.Stage.{has_ended}
 use Rattle.ts_transform.specs.Flow.{ChainState, EndsInOrder, IsFinished, MustPump, aborted, client_wait, closed, last_ended, last_wait, ended_at}
-use Rattle.ts_transform.specs.Driving.{ActsWithin, HasEvent, IsCause, IsHandled, IsNamedIf, IsOfStageIf, IsRousedIf, IsRousingOf, SetsOnly, Keeps, KeepsOthers, KeepsStage, unroused, works_at, all_unroused}
+use Rattle.ts_transform.specs.Driving.{ActsWithin, HasEvent, IsCause, AreOfStages, IsHandled, IsNamedIf, IsOfStageIf, IsRousedIf, IsRousingOf, SetsOnly, Keeps, KeepsOthers, KeepsStage, unroused, works_at, all_unroused}
 use Rattle.ts_transform.specs.Cover.{IsDriven}
 use Rattle.ts_transform.specs.declared.loss.Loss.TheVariants.{NoMemory}
 use Rattle.ts_transform.specs.Driven.{HasBegun, Loses, MayLose, HasAllLive}
 use Rattle.ts_transform.specs.Loss.{IsCauseOf, loss_of, making_loss}
-use Rattle.ts_transform.specs.Carrying.{AreEndsRoused, FallsTold, AreLinked, HasNoDuty, IsJoined, IsOfNobody, MayBreak, RetriesRead, RetriesWrite, AreLiveAlong, KeepsCourse, StaysLinked}
+use Rattle.ts_transform.specs.Carrying.{AreEndsRoused, FallsTold, AreLinked, HasNoDuty, IsCarried, IsJoined, IsOfNobody, MayBreak, RetriesRead, RetriesWrite, AreLiveAlong, KeepsCourse, StaysLinked}
 use Rattle.ts_transform.specs.declared.link_world.LinkWorld.{LinkWorld}
 use Rattle.ts_transform.specs.declared.link_world.TheConstants.{RETRY}
 use Rattle.ts_transform.specs.Acting.{KeepsLive}
 use Rattle.ts_transform.proofs.Handled.{begun_other, begun_quiet, quiet_if, stays_if, unroused_if}
 use Rattle.ts_transform.proofs.Driving.{may_lose}
 use Rattle.ts_transform.proofs.Living.{cause_alive, all_live, end_live, live_aborted, live_stages}
-use Rattle.ts_transform.proofs.Kept.{cause_weaker, kept_if}
+use Rattle.ts_transform.proofs.Kept.{cause_weaker, keeps_refl, kept_if}
 use Rattle.ts_transform.proofs.Setting.{of_stages_named}
+use Rattle.ts_transform.proofs.Covering.{driven_kept}
+use Rattle.ts_transform.proofs.Starting.{made_if}
 use Rattle.ts_transform.proofs.Taking.{aborted_driven, ended-rests, full-else, none-roused, some-long}
 
 -- the stages went on, and the ends stayed as they were
@@ -136,8 +138,8 @@ may_break_then u v w a m now (inl (runs, lost)) linked idle (inr (fault, stopped
 may_break_then u v w a m now (inr stops) linked idle then = broke_still u v w a m now (idle stops.1) (inr stops)
 
 -- nothing was done
-pub course_same : {I K P : Type 0} (w : LinkWorld I K P) (a : Context) → KeepsCourse w w a a
-course_same w a = record { loses = inl (refl, refl); live = λ all. all; started = λ none. none }
+pub course_same : {I K P : Type 0} (w : LinkWorld I K P) (a : Context) → a.log.state.held ≡ true → KeepsCourse w w a a
+course_same w a turn = record { loses = inl (refl, refl); keeps = keeps_refl a turn; live = λ all. all; started = λ none. none }
 
 -- continuations stay live where those of the stages and of both ends do
 pub linked_kept : {P : Type 0} (d e : DrivenChain P) (w x r s : Option StageContinuation) (a b : Context) → b.log.state.live ≡ a.log.state.live → (HasAllLive d a → HasAllLive e b) → unroused x ≡ unroused w
@@ -151,36 +153,40 @@ linked_kept d e w x r s a b keys stages writer reader h = record {
 -- a stage acted
 pub linked_stage : {I K P : Type 0} (v w : LinkWorld I K P) (a b : Context) → w.writer ≡ v.writer → w.reader ≡ v.reader → KeepsLive v.driven.chain w.driven.chain v.driven.table.items w.driven.table.items a b → StaysLinked v w a b
 linked_stage v w a b writer reader (inl same) = inl (same, writer, reader)
-linked_stage v w a b writer reader (inr (keys, live)) = inr (linked_kept v.driven w.driven v.writer w.writer v.reader w.reader a b keys live (ap unroused writer) (ap unroused reader))
+linked_stage v w a b writer reader (inr (keeps, live)) = inr (keeps, linked_kept v.driven w.driven v.writer w.writer v.reader w.reader a b keeps.live live (ap unroused writer) (ap unroused reader))
 
 -- bytes or their end came to the chain, and a stage may have been roused
 pub course_driven : {I K P T : Type 0} (v w : LinkWorld I K P) (c : ChainState P) (a b : Context) (r : Result T SetFault) → w.writer ≡ v.writer → w.reader ≡ v.reader → c.stages ≡ v.driven.chain.stages
-    → w.driven.chain.stages ≡ c.stages → b.log.state.live ≡ a.log.state.live → all_unroused w.driven.table.items ≡ all_unroused v.driven.table.items
+    → w.driven.chain.stages ≡ c.stages → Keeps a b → all_unroused w.driven.table.items ≡ all_unroused v.driven.table.items
     → Loses r (record v.driven { chain = c }) w.driven a b → KeepsCourse v w a b
-course_driven v w c a b r writer reader stages kept keys same loses = record {
+course_driven v w c a b r writer reader stages kept keeps same loses = record {
+  keeps = keeps;
   loses = lose_weaker v.driven w.driven b (λ all. live_stages v.driven.chain c v.driven.table.items a stages all.stages) (may_lose r (record v.driven { chain = c }) w.driven a b loses);
-  live = linked_kept v.driven w.driven v.writer w.writer v.reader w.reader a b keys
-      (all_live v.driven.chain w.driven.chain v.driven.table.items w.driven.table.items a b keys same (λ j going. ap (λ ss. ended_at ss j) (sym (kept ∙ stages)) ∙ going)) (ap unroused writer) (ap unroused reader);
+  live = linked_kept v.driven w.driven v.writer w.writer v.reader w.reader a b keeps.live
+      (all_live v.driven.chain w.driven.chain v.driven.table.items w.driven.table.items a b keeps.live same (λ j going. ap (λ ss. ended_at ss j) (sym (kept ∙ stages)) ∙ going)) (ap unroused writer) (ap unroused reader);
   started = λ none. sym writer ∙ none;
 }
 
 -- a link failed, and the chain was aborted
-pub course_aborted : {I K P : Type 0} (v w : LinkWorld I K P) (c : ChainState P) (a : Context) → w.driven.chain ≡ aborted c → w.driven.table.items ≡ v.driven.table.items → w.driven.running ≡ v.driven.running
+pub course_aborted : {I K P : Type 0} (v w : LinkWorld I K P) (c : ChainState P) (a : Context) → a.log.state.held ≡ true → w.driven.chain ≡ aborted c → w.driven.table.items ≡ v.driven.table.items → w.driven.running ≡ v.driven.running
     → w.driven.lost ≡ v.driven.lost → w.writer ≡ v.writer → w.reader ≡ v.reader → KeepsCourse v w a a
-course_aborted v w c a chain table runs lost writer reader = record {
+course_aborted v w c a turn chain table runs lost writer reader = record {
+  keeps = keeps_refl a turn;
   loses = inl (runs, lost);
   live = linked_kept v.driven w.driven v.writer w.writer v.reader w.reader a a refl (live_aborted v.driven.chain c w.driven.chain v.driven.table.items w.driven.table.items a chain table) (ap unroused writer) (ap unroused reader);
   started = λ none. sym writer ∙ none;
 }
 
+-- the ends are roused that must work, since nothing of them changed
+pub ends_moved : {I K P : Type 0} (u v : LinkWorld I K P) → v.driven.chain ≡ u.driven.chain → v.writer ≡ u.writer → v.reader ≡ u.reader → AreEndsRoused u.driven.chain u.writer u.reader → AreEndsRoused v.driven.chain v.writer v.reader
+ends_moved u v chain writer reader ends =
+    subst (λ c. AreEndsRoused c v.writer v.reader) (sym chain) (subst (λ t. AreEndsRoused u.driven.chain t v.reader) (sym writer) (subst (λ t. AreEndsRoused u.driven.chain u.writer t) (sym reader) ends))
+
 -- so it is after a stage acted, which may have closed it where nobody must be roused
 pub break_after : {I K P : Type 0} (u v w : LinkWorld I K P) (a m now : Context) → AreEndsRoused u.driven.chain u.writer u.reader → MayBreak u v a m → StaysLinked u v a m
     → ((v.driven.running ≡ false) ⊎ AreEndsRoused v.driven.chain v.writer v.reader → (w ≡ v) × (now ≡ m)) → MayBreak v w m now → MayBreak u w a now
-break_after u v w a m now ends broke (inl (chain, writer, reader)) idle then =
-    let roused : AreEndsRoused v.driven.chain v.writer v.reader =
-    subst (λ c. AreEndsRoused c v.writer v.reader) (sym chain) (subst (λ t. AreEndsRoused u.driven.chain t v.reader) (sym writer) (subst (λ t. AreEndsRoused u.driven.chain u.writer t) (sym reader) ends)) in
-    broke_still u v w a m now (idle (inr roused)) broke
-break_after u v w a m now ends broke (inr linked) idle then = may_break_then u v w a m now broke linked (λ stopped. idle (inl stopped)) then
+break_after u v w a m now ends broke (inl (chain, writer, reader)) idle then = broke_still u v w a m now (idle (inr (ends_moved u v chain writer reader ends))) broke
+break_after u v w a m now ends broke (inr (keeps, linked)) idle then = may_break_then u v w a m now broke linked (λ stopped. idle (inl stopped)) then
 
 -- where memory lacked, that is the cause
 pub lose_lacks : {P Live Other : Type 0} (d e f : DrivenChain P) (now : Context) → e.lost ≡ Some NoMemory → f.running ≡ e.running → f.lost ≡ e.lost → MayLose Live d e now → MayLose Other d f now
@@ -322,3 +328,37 @@ no_duty role w ends (inr nobody) = by_run w.driven.running refl
 pub falls_told : {I K P : Type 0} (v w : LinkWorld I K P) (a b : Context) → MayBreak v w a b → FallsTold v w
 falls_told v w a b (inl (same, kept)) runs stopped = absurd (let wrong : true ≡ false = sym runs ∙ sym same ∙ stopped in cc)
 falls_told v w a b (inr (fault, down, lost, cause)) runs stopped = (fault, lost)
+
+-- each duty keeps its event where others are set
+pub carried_kept : {I K P : Type 0} (a b : Context) (w : LinkWorld I K P) → Keeps a b → IsCarried w a.log.state.pending a.roles → IsCarried w b.log.state.pending b.roles
+carried_kept a b w keeps h = record {
+  joined = λ runs. let j = h.joined runs in record {
+    stages = driven_kept 3 a b w.driven.chain w.driven.table.items keeps j.stages;
+    of_writer = kept_if a b keeps 1 w.writer j.of_writer;
+    of_reader = kept_if a b keeps 2 w.reader j.of_reader;
+  };
+  ends = h.ends;
+  fresh = h.fresh;
+  ordered = h.ordered;
+  bounded = h.bounded;
+}
+
+-- and where a continuation is made
+made_each : (a b : Context) → SameEvents a.log.state b.log.state → KeepsKeys a.log.state b.log.state a.roles b.roles → (role : ℕ) (ts : List (Option StageContinuation)) → AreOfStages a.log.state.pending a.roles role ts
+    → AreOfStages b.log.state.pending b.roles role ts
+made_each a b events keys role [] h = tt
+made_each a b events keys role (t ∷ ts) (here, others) = (made_if a b events keys role t here, made_each a b events keys (role + 1) ts others)
+
+pub carried_made : {I K P : Type 0} (a b : Context) (w : LinkWorld I K P) → SameEvents a.log.state b.log.state → KeepsKeys a.log.state b.log.state a.roles b.roles → IsCarried w a.log.state.pending a.roles
+    → IsCarried w b.log.state.pending b.roles
+carried_made a b w events keys h = record {
+  joined = λ runs. let j = h.joined runs in record {
+    stages = record { len = j.stages.len; of_stages = made_each a b events keys 3 w.driven.table.items j.stages.of_stages; cover = j.stages.cover };
+    of_writer = made_if a b events keys 1 w.writer j.of_writer;
+    of_reader = made_if a b events keys 2 w.reader j.of_reader;
+  };
+  ends = h.ends;
+  fresh = h.fresh;
+  ordered = h.ordered;
+  bounded = h.bounded;
+}

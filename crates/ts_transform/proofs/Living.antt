@@ -12,7 +12,7 @@ use Rattle.ts_transform.specs.declared.pump.Pumped.TheVariants.{Moved, Ended, Bl
 use Rattle.ts_transform.specs.declared.pump.Stage.{Stage}
 use Rattle.ts_transform.specs.Stage.{Steps, has_ended}
 use Rattle.ts_transform.specs.Flow.{ChainState, MayPump, MustPump, MustWork, StepsAt, Takes, aborted, closed, ended_at}
-use Rattle.ts_transform.specs.Driving.{AreLive, EachIsLive, HasLive, HasLiveIf, IsCause, all_unroused, changed, error_passed, unroused}
+use Rattle.ts_transform.specs.Driving.{AreLive, EachIsLive, HasLive, HasLiveIf, IsCause, Keeps, all_unroused, changed, error_passed, unroused}
 use Rattle.ts_transform.specs.Cover.{AreAllLive}
 use Rattle.ts_transform.specs.Acting.{KeepsLive}
 use Rattle.ts_transform.specs.Loss.{IsCauseOf, loss_of}
@@ -139,9 +139,9 @@ live_aborted c d e ts us a is same h =
     all_live c e ts us a a refl (ap all_unroused same) (λ j going. absurd (aborted_goes d.stages j (ap (λ x. ended_at x.stages j) (sym is) ∙ going))) h
 
 -- a stage worked
-pub live_worked : {P : Type 0} (rest : P → List ℕ → List ℕ) (at : ℕ) (c d : ChainState P) (ts us : List (Option StageContinuation)) (a b : Context) → MayPump rest at c d → b.log.state.live ≡ a.log.state.live
+pub live_worked : {P : Type 0} (rest : P → List ℕ → List ℕ) (at : ℕ) (c d : ChainState P) (ts us : List (Option StageContinuation)) (a b : Context) → MayPump rest at c d → Keeps a b
     → all_unroused us ≡ all_unroused ts → KeepsLive c d ts us a b
-live_worked rest at c d ts us a b pumps keys same = inr (keys, all_live c d ts us a b keys same (may_pump_goes rest at c d pumps))
+live_worked rest at c d ts us a b pumps keeps same = inr (keeps, all_live c d ts us a b keeps.live same (may_pump_goes rest at c d pumps))
 
 -- what was found live before its event was handled
 pub live_found : {P : Type 0} (c d : ChainState P) (ts vs us : List (Option StageContinuation)) (a b : Context) → (AreAllLive c ts a → AreAllLive c vs a) → KeepsLive c d vs us a b → KeepsLive c d ts us a b

@@ -7,7 +7,7 @@ use Rattle.ts_journal.specs.declared.entry.Pending.{Pending}
 use Rattle.ts_group.specs.declared.action.SetFault.{SetFault}
 use Rattle.ts_group.specs.Context.{Context}
 use Rattle.ts_transform.specs.Flow.{ChainState, MayPump, PumpsOnce, ended_at, flow, left_to_do}
-use Rattle.ts_transform.specs.Driving.{IsCause, IsClosed, IsHandled, IsToldBefore, SetsFew, all_unroused, changed, error_passed, errors_to_pass, gone, may_pass_error_at, unroused_for, works_at}
+use Rattle.ts_transform.specs.Driving.{IsCause, IsClosed, IsHandled, IsToldBefore, Keeps, SetsFew, all_unroused, changed, error_passed, errors_to_pass, gone, may_pass_error_at, unroused_for, works_at}
 use Rattle.ts_transform.specs.Cover.{AreAllLive, CallsBefore, IsDriven, IsDrivenFor, OnlySets}
 use Rattle.ts_transform.specs.declared.continuation.StageContinuation.{StageContinuation}
 
@@ -31,8 +31,8 @@ pub record ActsAt {P : Type 0} (rest : P → List ℕ → List ℕ) (pause : P �
   pub own : MayPump rest at c d
   pub idle : works_at event ≡ false → d ≡ c
   pub only : OnlySets pause c d vs at event a b
-  -- where it had ended, its continuation is destroyed
-  pub closed : ended_at c.stages at ≡ true → IsClosed a b ts at × (us ≡ changed gone ts at)
+  -- where it had ended, its continuation is destroyed, and nothing else is done
+  pub closed : ended_at c.stages at ≡ true → IsClosed a b ts at × (us ≡ changed gone ts at) × (d ≡ c)
   -- While nothing was lost: where it ends, the stage before it is told so; where it did something, that stage is called
   -- if it must work, was not roused, and makes no pause; and the first time that it gets an error, it passes that on.
   pub ended : now ≡ true → ended_at c.stages at ≡ false → ended_at d.stages at ≡ true
@@ -92,11 +92,11 @@ Pays rest c d ts us a b = (z : List ℕ) → OnTrue c.given (z ≡ []) →
     100 * (left_to_do rest d z + errors_to_pass us) + length b.log.state.pending
     ≤ 100 * (left_to_do rest c z + errors_to_pass ts) + length a.log.state.pending
 
--- The chain is as it was, or the same continuations are live, and with them those of its stages.
+-- The chain is as it was; or no continuation was made or destroyed, and those of its stages stay live.
 abbrev pub KeepsLive : {P : Type 0} → ChainState P → ChainState P → List (Option StageContinuation)
     → List (Option StageContinuation) → Context → Context → Type 0
 KeepsLive c d ts us a b = (d ≡ c)
-    ⊎ ((b.log.state.live ≡ a.log.state.live) × (AreAllLive c ts a → AreAllLive d us b))
+    ⊎ (Keeps a b × (AreAllLive c ts a → AreAllLive d us b))
 
 -- The continuations stay live while the chain goes on; and where an event could not be set, it says why: a continuation
 -- was found dead, or there is another cause.

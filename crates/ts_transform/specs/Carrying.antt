@@ -12,7 +12,7 @@ use Rattle.ts_link.specs.Counts.{Rose}
 use Rattle.ts_link.specs.Link.{Look}
 use Rattle.ts_transform.specs.Stage.{MOST_WAITING}
 use Rattle.ts_transform.specs.Flow.{ChainState, EndsInOrder, MustRead, MustWrite, OnlyFirstWorks, flow}
-use Rattle.ts_transform.specs.Driving.{HasLiveIf, IsHandled, IsNamedIf, IsOfStageIf, IsRousedIf, IsRousingOf, SetsOnly}
+use Rattle.ts_transform.specs.Driving.{HasLiveIf, IsHandled, IsNamedIf, IsOfStageIf, IsRousedIf, IsRousingOf, Keeps, SetsOnly}
 use Rattle.ts_transform.specs.Cover.{IsDriven}
 use Rattle.ts_transform.specs.Driven.{HasAllLive, IsOfNoStage, MayLose}
 use Rattle.ts_transform.specs.declared.continuation.StageContinuation.{StageContinuation}
@@ -92,8 +92,8 @@ pub record HasStepped {I K P : Type 0} (rest : P → List ℕ → List ℕ) (in_
   pub falls : FallsTold v w
   pub stops : v.driven.running ≡ true → LacksMemory w → w.aborted ≡ true
 
--- The stages have the roles from the first on, and the writer and the reader have theirs: each that is roused has an event, and so has
--- each stage that must work.
+-- The stages have the roles from the first on, and the writer and the reader have theirs: each that is roused has an
+-- event, and so has each stage that must work.
 pub record IsJoined {P : Type 0} (c : ChainState P) (ts : List (Option StageContinuation))
     (writer reader : Option StageContinuation) (pending : List Pending) (roles : List Named) : Type 0 where
   pub stages : IsDriven FIRST c ts pending roles
@@ -166,33 +166,21 @@ pub record AreLiveAlong {P : Type 0} (d : DrivenChain P) (t u : Option StageCont
 abbrev pub AreLinked : {I K P : Type 0} → LinkWorld I K P → Context → Type 0
 AreLinked w now = AreLiveAlong w.driven w.writer w.reader now
 
--- they stay live, or the chain and its ends are as they were
+-- the chain and its ends are as they were; or no continuation was made or destroyed, and all stay live
 abbrev pub StaysLinked : {I K P : Type 0} → LinkWorld I K P → LinkWorld I K P → Context → Context → Type 0
 StaysLinked v w a b =
     ((w.driven.chain ≡ v.driven.chain) × (w.writer ≡ v.writer) × (w.reader ≡ v.reader))
-    ⊎ (AreLinked v a → AreLinked w b)
+    ⊎ (Keeps a b × (AreLinked v a → AreLinked w b))
 
 -- it goes on as it did, or is lost for a cause: for a dead continuation only where one was found dead
 abbrev pub MayBreak : {I K P : Type 0} → LinkWorld I K P → LinkWorld I K P → Context → Context → Type 0
 MayBreak v w a b = MayLose (AreLinked v a) v.driven w.driven b
 
--- it does so where an event of a role is handled
-abbrev pub HandlesBreak : {I K P : Type 0} → ℕ → Event → LinkWorld I K P → LinkWorld I K P → Context
-    → Context → Type 0
-HandlesBreak role event v w a b = (before : List Pending)
-    → IsHandled before a.log.state.pending a.roles role event
-    → IsCarried v before a.roles → MayBreak v w a b
-
 -- whether it runs may only fall, for a cause; and whoever was made stays, and is live if all were
 pub record KeepsCourse {I K P : Type 0} (v w : LinkWorld I K P) (a b : Context) : Type 0 where
   pub loses : MayBreak v w a b
+  pub keeps : Keeps a b
   pub live : AreLinked v a → AreLinked w b
-  pub started : w.writer ≡ None → v.writer ≡ None
-
--- the same where a stage may have been closed
-pub record KeepsCourseOn {I K P : Type 0} (v w : LinkWorld I K P) (a b : Context) : Type 0 where
-  pub loses : MayBreak v w a b
-  pub live : StaysLinked v w a b
   pub started : w.writer ≡ None → v.writer ≡ None
 
 -- An end is roused after so many milliseconds, if it must work and was not roused before, and else nothing is done.

@@ -8,9 +8,10 @@ ghost use Rattle.ts_group.specs.Context.{IsSame};
 ghost use Rattle.ts_group.specs.Entries.{Grows};
 ghost use Rattle.ts_transform.specs.declared.link_world.TheConstants.{READER, WRITER};
 ghost use Rattle.ts_transform.specs.Flow.{IsFinished, aborted, compose, flow, fresh_stage};
-ghost use Rattle.ts_transform.specs.Driving.{ActsWithin, IsNamedIf, IsRousedIf};
+ghost use Rattle.ts_transform.specs.Driving.{ActsWithin, IsNamedIf, IsRousedIf, SetsOnly, works_at};
 ghost use Rattle.ts_transform.specs.Driven.{HasBegun, SameCourse};
-ghost use Rattle.ts_transform.specs.Carrying.{AreEndsRoused, HandlesBreak, HandlesCarried, HandlesJoined, HandlesWaits, HasLinkBegun, HasNoDuty, HasStepped, InputWaits, IsCarried, IsOfNobody, IsSameBut, KeepsCourse, KeepsCourseOn, KeepsReader, KeepsWriter, LacksMemory, MayBreak, Moves, OutputWaits, RetriesRead, RetriesWrite, RousesEnd, StaysJoined, StepsAlong, TriesAgain};
+ghost use Rattle.ts_transform.specs.Along.{ActsAlong, HandlesAlong, RousesAnEnd, SetsForDuty, WorksAlong};
+ghost use Rattle.ts_transform.specs.Carrying.{AreEndsRoused, HandlesCarried, HandlesJoined, HandlesWaits, HasLinkBegun, HasNoDuty, HasStepped, InputWaits, IsCarried, IsOfNobody, IsSameBut, KeepsCourse, KeepsReader, KeepsWriter, LacksMemory, Moves, OutputWaits, RetriesRead, RetriesWrite, RousesEnd, StaysJoined, StepsAlong, TriesAgain};
 
 use crate::chain::Chain;
 use crate::continuation::{StageContinuation, works};
@@ -185,7 +186,7 @@ impl<I: Link + Drop, K: Link + Drop, P: Transform + Drop> LinkWorld<I, K, P> {
         ensures moves { Moves P.rest I.tells K.tells I.look K.look self.old self.new }
         ensures joined { StaysJoined self.old self.new cx.old cx.new }
         ensures course { KeepsCourse self.old self.new cx.old cx.new }
-        ensures within { ActsWithin 1 cx.old cx.new }
+        ensures duty { SetsForDuty P.pause self.old self.new cx.old cx.new }
         ensures retries { IsNamedIf cx.old.roles READER self.old.reader → InputWaits I.look self.old self.new
             → RetriesRead self.old self.new cx.old cx.new }
         ensures output { self.new.output ≡ self.old.output }
@@ -218,7 +219,7 @@ impl<I: Link + Drop, K: Link + Drop, P: Transform + Drop> LinkWorld<I, K, P> {
         ensures moves { Moves P.rest I.tells K.tells I.look K.look self.old self.new }
         ensures joined { StaysJoined self.old self.new cx.old cx.new }
         ensures course { KeepsCourse self.old self.new cx.old cx.new }
-        ensures within { ActsWithin 1 cx.old cx.new }
+        ensures duty { SetsForDuty P.pause self.old self.new cx.old cx.new }
         ensures retries { IsNamedIf cx.old.roles WRITER self.old.writer → OutputWaits K.look self.old self.new
             → RetriesWrite self.old self.new cx.old cx.new }
         ensures input { self.new.input ≡ self.old.input }
@@ -245,10 +246,11 @@ impl<I: Link + Drop, K: Link + Drop, P: Transform + Drop> LinkWorld<I, K, P> {
         ensures moves { Moves P.rest I.tells K.tells I.look K.look self.old self.new }
         ensures joined { HandlesJoined WRITER event self.old self.new cx.old cx.new }
         ensures course { KeepsCourse self.old self.new cx.old cx.new }
-        ensures within { ActsWithin 1 cx.old cx.new }
+        ensures duty { SetsForDuty P.pause self.old self.new cx.old cx.new }
         ensures retries { IsNamedIf cx.old.roles WRITER self.old.writer → OutputWaits K.look self.old self.new
             → RetriesWrite self.old self.new cx.old cx.new }
         ensures input { self.new.input ≡ self.old.input }
+        ensures sure { works_at event ≡ false → (self.new ≡ self.old) × (cx.new ≡ cx.old) }
     {
         if works(event) {
             unrouse(&mut self.writer);
@@ -262,10 +264,11 @@ impl<I: Link + Drop, K: Link + Drop, P: Transform + Drop> LinkWorld<I, K, P> {
         ensures moves { Moves P.rest I.tells K.tells I.look K.look self.old self.new }
         ensures joined { HandlesJoined READER event self.old self.new cx.old cx.new }
         ensures course { KeepsCourse self.old self.new cx.old cx.new }
-        ensures within { ActsWithin 1 cx.old cx.new }
+        ensures duty { SetsForDuty P.pause self.old self.new cx.old cx.new }
         ensures retries { IsNamedIf cx.old.roles READER self.old.reader → InputWaits I.look self.old self.new
             → RetriesRead self.old self.new cx.old cx.new }
         ensures output { self.new.output ≡ self.old.output }
+        ensures sure { works_at event ≡ false → (self.new ≡ self.old) × (cx.new ≡ cx.old) }
     {
         if works(event) {
             unrouse(&mut self.reader);
@@ -278,7 +281,7 @@ impl<I: Link + Drop, K: Link + Drop, P: Transform + Drop> LinkWorld<I, K, P> {
         requires turn { cx.old.log.state.held ≡ true }
         ensures moves { Moves P.rest I.tells K.tells I.look K.look self.old self.new }
         ensures joined { HandlesJoined role event self.old self.new cx.old cx.new }
-        ensures course { KeepsCourseOn self.old self.new cx.old cx.new }
+        ensures course { WorksAlong P.pause role event self.old self.new cx.old cx.new }
         ensures within { ActsWithin 4 cx.old cx.new }
         ensures reads { IsNamedIf cx.old.roles READER self.old.reader → InputWaits I.look self.old self.new
             → RetriesRead self.old self.new cx.old cx.new }
@@ -304,6 +307,8 @@ impl<I: Link + Drop, K: Link + Drop, P: Transform + Drop> LinkWorld<I, K, P> {
             → AreEndsRoused self.new.driven.chain self.new.writer self.new.reader }
         ensures course { KeepsCourse self.old self.new cx.old cx.new }
         ensures within { ActsWithin 2 cx.old cx.new }
+        ensures only { IsNamedIf cx.old.roles WRITER self.old.writer → IsNamedIf cx.old.roles READER self.old.reader
+            → SetsOnly (RousesAnEnd cx.old.moment cx.old.roles) cx.old cx.new }
         ensures idle { (self.old.driven.running ≡ false)
             ⊎ AreEndsRoused self.old.driven.chain self.old.writer self.old.reader
             → (self.new ≡ self.old) × (cx.new ≡ cx.old) }
@@ -338,7 +343,7 @@ impl<I: Link + Drop, K: Link + Drop, P: Transform + Drop> LinkWorld<I, K, P> {
         ensures steps { StepsAlong P.rest I.tells K.tells I.look K.look self.old self.new }
         ensures carried { HandlesCarried role event self.old self.new cx.old cx.new }
         ensures again { HandlesWaits role event I.look K.look self.old self.new cx.old cx.new }
-        ensures loses { HandlesBreak role event self.old self.new cx.old cx.new }
+        ensures acts { HandlesAlong P.pause role event self.old self.new cx.old cx.new }
         ensures within { ActsWithin 6 cx.old cx.new }
         ensures rests { HasNoDuty role self.old → (self.new ≡ self.old) × IsSame cx.old cx.new }
         ensures stops { self.old.driven.running ≡ true → LacksMemory self.new → self.new.aborted ≡ true }
@@ -455,7 +460,7 @@ impl<I: Link + Drop, K: Link + Drop, P: Transform + Drop> World for LinkWorld<I,
         ensures sound { (result ≡ Want.Nothing) × IsCarried self.new cx.new.log.state.pending cx.new.roles }
         ensures steps { HasStepped P.rest I.tells K.tells I.look K.look self.old self.new }
         ensures again { TriesAgain I.look K.look self.old self.new cx.old cx.new }
-        ensures loses { MayBreak self.old self.new cx.old cx.new }
+        ensures acts { ActsAlong P.pause role event self.old self.new cx.old cx.new }
         ensures within { ActsWithin 6 cx.old cx.new }
         ensures rests { (self.old.driven.running ≡ false) ⊎ IsOfNobody role self.old
             → (self.new ≡ self.old) × IsSame cx.old cx.new }

@@ -99,7 +99,7 @@ returns-then-works-clause-live g c =
     let keys = worked.ensures.adds.keeps.live in
     let same = worked.ensures.stages.same in
     record {
-      live = live_worked g.P.Transform.rest c.args.at c.args.chain.now worked.new.chain c.args.table.now worked.new.table c.args.cx.now worked.new.cx worked.ensures.pumps.own keys same;
+      live = live_worked g.P.Transform.rest c.args.at c.args.chain.now worked.new.chain c.args.table.now worked.new.table c.args.cx.now worked.new.cx worked.ensures.pumps.own worked.ensures.adds.keeps same;
       cause = err_weaker worked.result worked.new.cx
           (all_live c.args.chain.now worked.new.chain c.args.table.now worked.new.table c.args.cx.now worked.new.cx keys same (may_pump_goes g.P.Transform.rest c.args.at c.args.chain.now worked.new.chain worked.ensures.pumps.own))
           worked.ensures.adds.cause;

@@ -1,9 +1,9 @@
-use Rattle.std.proofs.Common.{◌≡◌, false, refl, ap, sym, subst, ◌∙◌}
+use Rattle.std.proofs.Common.{◌≡◌, true, false, refl, ap, sym, subst, ◌∙◌}
 use Rattle.ts_transform.specs.Carrying.{AreLinked, IsJoined}
 use Rattle.ts_transform.specs.Driving.{IsNamedIf, unroused}
 use Rattle.ts_transform.proofs.Carrying.{moves_none}
 use Rattle.ts_transform.proofs.Joined.{course_same, joined_quiet, linked_kept, lose_weaker, joined_reader, named_unroused}
-use Rattle.ts_transform.proofs.Kept.{acts_none}
+use Rattle.ts_transform.proofs.Along.{duty_none}
 use Rattle.ts_transform.proofs.Told.{unroused_twice}
 use Rattle.ts_transform.proofs.link_world.LinkWorld.read_at.Goals as goal
 
@@ -26,9 +26,6 @@ returns-else-works-clause-joined g c = λ before handled was runs.
     let cx = c.args.cx.now in
     joined_quiet self.driven.chain self.driven.table.items self.writer self.reader before cx.log.state.pending cx.roles 2 c.args.event handled (sym c.works.ensures ∙ c.if-works.false) (was runs)
 
-pub returns-else-works-clause-within : goal.returns-else-works-clause-within
-returns-else-works-clause-within g c = acts_none 1 c.args.cx.now c.requires.turn
-
 pub returns-then-works-clause-retries : goal.returns-then-works-clause-retries
 returns-then-works-clause-retries g c = λ named waited.
     let self = c.args.self.now in
@@ -45,9 +42,25 @@ returns-then-works-clause-course g c =
     linked_kept self.driven self.driven self.writer self.writer self.reader c.unrouse.new.slot cx cx refl (λ all. all) refl (ap unroused c.unrouse.ensures ∙ unroused_twice self.reader) in
     record {
       loses = lose_weaker self.driven c.read.new.self.driven c.read.new.cx found course.loses;
+      keeps = course.keeps;
       live = λ all. course.live (found all);
       started = course.started;
     }
 
 pub returns-else-works-clause-course : goal.returns-else-works-clause-course
-returns-else-works-clause-course g c = course_same c.args.self.now c.args.cx.now
+returns-else-works-clause-course g c = course_same c.args.self.now c.args.cx.now c.requires.turn
+
+pub returns-then-works-clause-duty : goal.returns-then-works-clause-duty
+returns-then-works-clause-duty g c =
+    let duty = c.read.ensures.duty in
+    record {
+      within = duty.within;
+      only = λ named. duty.only
+          (record { stages = named.stages; writer = named.writer; reader = subst (IsNamedIf c.args.cx.now.roles 2) (sym c.unrouse.ensures) (named_unroused c.args.cx.now.roles 2 c.args.self.now.reader named.reader) });
+    }
+
+pub returns-else-works-clause-duty : goal.returns-else-works-clause-duty
+returns-else-works-clause-duty g c = duty_none g.P.Transform.pause c.args.self.now c.args.self.now c.args.cx.now c.requires.turn
+
+pub returns-then-works-clause-sure : goal.returns-then-works-clause-sure
+returns-then-works-clause-sure g c = λ quiet. absurd (let wrong : true ≡ false = sym c.if-works.true ∙ c.works.ensures ∙ quiet in cc)

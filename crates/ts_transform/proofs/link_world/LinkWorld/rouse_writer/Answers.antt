@@ -33,6 +33,7 @@ returns-in-Ok-clause-course g c =
     let keys = c.rouse_end.ensures.adds.keeps.live in
     record {
       loses = inl (refl, refl);
+      keeps = c.rouse_end.ensures.adds.keeps;
       live = linked_kept self.driven self.driven self.writer c.rouse_end.new.slot self.reader self.reader c.args.cx.now c.rouse_end.new.cx keys
           (all_live self.driven.chain self.driven.chain self.driven.table.items self.driven.table.items c.args.cx.now c.rouse_end.new.cx keys refl (λ j going. going)) c.rouse_end.ensures.stage.same refl;
       started = λ none. none_same c.args.self.now.writer c.rouse_end.new.slot c.rouse_end.ensures.stage.same none;
@@ -44,6 +45,7 @@ returns-in-Err-clause-course g c =
     let keys = c.rouse_end.ensures.adds.keeps.live in
     let lost = record self.driven { running = false; lost = Some c.of_set.result } in
     record {
+      keeps = c.rouse_end.ensures.adds.keeps;
       loses = end_loses self.driven lost c.in-Err.fault c.rouse_end.new.cx refl (ap Some c.of_set.ensures)
           (cause_weaker c.in-Err.fault c.rouse_end.new.cx (λ all. end_live self.writer c.rouse_end.new.slot c.args.cx.now c.rouse_end.new.cx keys c.rouse_end.ensures.stage.same all.writer) c.in-Err.ensures.adds.cause);
       live = linked_kept self.driven lost self.writer c.rouse_end.new.slot self.reader self.reader c.args.cx.now c.rouse_end.new.cx keys

@@ -4,6 +4,9 @@ use Rattle.ts_transform.specs.Carrying.{IsJoinedWhile, LacksMemory, MayBreak, St
 use Rattle.ts_transform.proofs.Carrying.{moves_aborted, moves_as, moves_lacks, moves_none}
 use Rattle.ts_transform.proofs.Joined.{again_reads, again_writes, aborted_quiet, joined_aborted, joined_as, break_after, lose_lacks, loses_runs, named_of, rests_then}
 use Rattle.ts_transform.proofs.Kept.{acts_none, acts_then}
+use Rattle.ts_transform.proofs.Along.{step_only, step_sure}
+use Rattle.ts_transform.proofs.Setting.{of_stages_named, only_none}
+use Rattle.ts_transform.specs.declared.link_world.TheConstants.{FIRST, READER, WRITER}
 use Rattle.ts_transform.proofs.link_world.LinkWorld.step.Goals as goal
 
 -- Something was lost before.
@@ -129,23 +132,54 @@ returns-else-lacks_memory-clause-again g c = λ before handled was.
     }
 
 -- It goes on as it did, or is lost for a cause.
-pub returns-then-not-self-clause-loses : goal.returns-then-not-self-clause-loses
-returns-then-not-self-clause-loses g c = λ before handled was. inl (refl, refl)
+pub returns-then-not-self-clause-acts : goal.returns-then-not-self-clause-acts
+returns-then-not-self-clause-acts g c = λ before handled was. record {
+  loses = inl (refl, refl);
+  only = λ runs. only_none _ c.args.cx.now;
+  sure = λ nothing. refl;
+}
 
-pub returns-else-lacks_memory-clause-loses : goal.returns-else-lacks_memory-clause-loses
-returns-else-lacks_memory-clause-loses g c = λ before handled was.
-    break_after c.args.self.now c.work.new.self c.rouse_ends.new.self c.args.cx.now c.work.new.cx c.rouse_ends.new.cx (was.ends c.if-not-self.false) c.work.ensures.course.loses c.work.ensures.course.live
-    c.rouse_ends.ensures.idle c.rouse_ends.ensures.course.loses
+pub returns-else-lacks_memory-clause-acts : goal.returns-else-lacks_memory-clause-acts
+returns-else-lacks_memory-clause-acts g c = λ before handled was.
+    let self = c.args.self.now in
+    let mid = c.work.new.self in
+    let now = c.rouse_ends.new.self in
+    let cx = c.args.cx.now in
+    let then = c.work.new.cx in
+    let last = c.rouse_ends.new.cx in
+    let ends = was.ends c.if-not-self.false in
+    let joined = was.joined c.if-not-self.false in
+    let idle = c.rouse_ends.ensures.idle in
+    record {
+      loses = break_after self mid now cx then last ends c.work.ensures.course.loses c.work.ensures.course.live idle c.rouse_ends.ensures.course.loses;
+      only = λ runs.
+          let joined_then = c.work.ensures.joined before handled was.joined (loses_runs mid.driven now.driven last c.rouse_ends.ensures.course.loses runs) in
+          step_only g.P.Transform.pause c.args.role c.args.event self mid now cx then last ends
+          (record {
+            stages = of_stages_named before cx.roles FIRST self.driven.table.items joined.stages.of_stages;
+            writer = named_of before cx.roles WRITER self.writer joined.of_writer;
+            reader = named_of before cx.roles READER self.reader joined.of_reader;
+          })
+          (named_of then.log.state.pending then.roles WRITER mid.writer joined_then.of_writer) (named_of then.log.state.pending then.roles READER mid.reader joined_then.of_reader)
+          c.work.ensures.course idle c.work.ensures.within.grows.moment c.rouse_ends.ensures.course.keeps c.rouse_ends.ensures.only c.rouse_ends.ensures.same.chain;
+      sure = λ nothing. step_sure self mid now then last ends idle (c.work.ensures.course.sure nothing);
+    }
 
-pub returns-then-lacks_memory-clause-loses : goal.returns-then-lacks_memory-clause-loses
-returns-then-lacks_memory-clause-loses g c = λ before handled was.
+pub returns-then-lacks_memory-clause-acts : goal.returns-then-lacks_memory-clause-acts
+returns-then-lacks_memory-clause-acts g c = λ before handled was.
     let self = c.args.self.now in
     let mid = c.rouse_ends.new.self in
     let now = c.abort.new.self in
     let cx = c.rouse_ends.new.cx in
+    let ends = was.ends c.if-not-self.false in
+    let stopped = (c.lacks_memory.ensures.lacks c.if-lacks_memory.true).0 in
     let broke : MayBreak self mid c.args.cx.now cx =
-    break_after self c.work.new.self mid c.args.cx.now c.work.new.cx cx (was.ends c.if-not-self.false) c.work.ensures.course.loses c.work.ensures.course.live c.rouse_ends.ensures.idle c.rouse_ends.ensures.course.loses in
-    lose_lacks self.driven mid.driven now.driven cx (c.lacks_memory.ensures.lacks c.if-lacks_memory.true).1 c.abort.ensures.course.running c.abort.ensures.course.lost broke
+    break_after self c.work.new.self mid c.args.cx.now c.work.new.cx cx ends c.work.ensures.course.loses c.work.ensures.course.live c.rouse_ends.ensures.idle c.rouse_ends.ensures.course.loses in
+    record {
+      loses = lose_lacks self.driven mid.driven now.driven cx (c.lacks_memory.ensures.lacks c.if-lacks_memory.true).1 c.abort.ensures.course.running c.abort.ensures.course.lost broke;
+      only = λ runs. absurd (let wrong : true ≡ false = sym runs ∙ c.abort.ensures.course.running ∙ stopped in cc);
+      sure = λ nothing. c.abort.ensures.course.running ∙ step_sure self c.work.new.self mid c.work.new.cx cx ends c.rouse_ends.ensures.idle (c.work.ensures.course.sure nothing);
+    }
 
 pub returns-else-lacks_memory-clause-stops : goal.returns-else-lacks_memory-clause-stops
 returns-else-lacks_memory-clause-stops g c = λ runs lacks. absurd (c.lacks_memory.ensures.has c.if-lacks_memory.false lacks)

@@ -1,7 +1,9 @@
-use Rattle.std.proofs.Common.{◌≡◌, inr, refl, sym, ap}
+use Rattle.std.proofs.Common.{◌≡◌, ◌+◌, arith, inr, refl, sym, ap}
 use Rattle.ts_transform.proofs.Carrying.{moves_stage}
 use Rattle.ts_transform.proofs.Joined.{joined_stage, linked_stage, lose_weaker, runs_before}
 use Rattle.ts_transform.proofs.Driving.{may_lose}
+use Rattle.ts_transform.proofs.Kept.{acts_none, acts_then}
+use Rattle.ts_transform.proofs.Along.{along_duty, along_stage, sure_end, sure_stage}
 use Rattle.ts_transform.proofs.link_world.LinkWorld.work.Goals as goal
 
 pub returns-else-role-eq-READER-clause-moves : goal.returns-else-role-eq-READER-clause-moves
@@ -35,13 +37,46 @@ returns-else-role-eq-READER-clause-course g c =
       loses = lose_weaker self.driven acted.new.self acted.new.cx (λ all. all.stages) (may_lose acted.result self.driven acted.new.self cx acted.new.cx acted.ensures.loses);
       live = linked_stage self (record self { driven = acted.new.self }) cx acted.new.cx refl refl acted.ensures.rest.live;
       started = λ none. none;
+      only = along_stage g.P.Transform.rest g.P.Transform.pause c.args.role c.args.event self (record self { driven = acted.new.self }) cx acted.new.cx acted.ensures.acts (λ none. (acted.ensures.other none).1);
+      sure = sure_stage g.P.Transform.rest g.P.Transform.pause c.args.role c.args.event self (record self { driven = acted.new.self }) cx acted.new.cx c.if-role-eq-WRITER.false c.if-role-eq-READER.false acted.ensures.acts
+          refl refl;
     }
 
 pub returns-then-role-eq-WRITER-clause-course : goal.returns-then-role-eq-WRITER-clause-course
-returns-then-role-eq-WRITER-clause-course g c = let course = c.write_at.ensures.course in record { loses = course.loses; live = inr course.live; started = course.started }
+returns-then-role-eq-WRITER-clause-course g c =
+    let self = c.args.self.now in
+    let acted = c.write_at in
+    let course = acted.ensures.course in
+    let is : c.args.role ≡ 1 = c.if-role-eq-WRITER.true in
+    record {
+      loses = course.loses;
+      live = inr (course.keeps, course.live);
+      started = course.started;
+      only = λ named. along_duty g.P.Transform.pause c.args.role c.args.event self.driven.chain acted.new.self.driven.chain self.driven.table.items c.args.cx.now acted.new.cx (acted.ensures.duty.only named);
+      sure = sure_end c.args.role c.args.event self acted.new.self (omega (arith, is)) (λ quiet. (acted.ensures.sure quiet).0);
+    }
+
+pub returns-then-role-eq-WRITER-clause-within : goal.returns-then-role-eq-WRITER-clause-within
+returns-then-role-eq-WRITER-clause-within g c =
+    let within = c.write_at.ensures.duty.within in acts_then 1 0 4 (omega arith) within (acts_none 0 c.write_at.new.cx within.turn)
 
 pub returns-then-role-eq-READER-clause-course : goal.returns-then-role-eq-READER-clause-course
-returns-then-role-eq-READER-clause-course g c = let course = c.read_at.ensures.course in record { loses = course.loses; live = inr course.live; started = course.started }
+returns-then-role-eq-READER-clause-course g c =
+    let self = c.args.self.now in
+    let acted = c.read_at in
+    let course = acted.ensures.course in
+    let is : c.args.role ≡ 2 = c.if-role-eq-READER.true in
+    record {
+      loses = course.loses;
+      live = inr (course.keeps, course.live);
+      started = course.started;
+      only = λ named. along_duty g.P.Transform.pause c.args.role c.args.event self.driven.chain acted.new.self.driven.chain self.driven.table.items c.args.cx.now acted.new.cx (acted.ensures.duty.only named);
+      sure = sure_end c.args.role c.args.event self acted.new.self (omega (arith, is)) (λ quiet. (acted.ensures.sure quiet).0);
+    }
+
+pub returns-then-role-eq-READER-clause-within : goal.returns-then-role-eq-READER-clause-within
+returns-then-role-eq-READER-clause-within g c =
+    let within = c.read_at.ensures.duty.within in acts_then 1 0 4 (omega arith) within (acts_none 0 c.read_at.new.cx within.turn)
 
 -- It is that of nobody.
 pub returns-then-role-eq-WRITER-clause-other : goal.returns-then-role-eq-WRITER-clause-other

@@ -19,14 +19,14 @@ returns-clause-steps g c =
     record {
       steps = c.step.ensures.steps;
       rests = λ stopped. (c.step.ensures.rests (inl stopped)).0;
-      falls = falls_told c.args.self.now c.step.new.self c.args.cx.now c.step.new.cx (c.step.ensures.loses called.before.pending (handled_by _ c.args.cx.now c.args.role c.args.event called) called.sound);
+      falls = falls_told c.args.self.now c.step.new.self c.args.cx.now c.step.new.cx (c.step.ensures.acts called.before.pending (handled_by _ c.args.cx.now c.args.role c.args.event called) called.sound).loses;
       stops = c.step.ensures.stops;
     }
 
 pub returns-clause-rests : goal.returns-clause-rests
 returns-clause-rests g c = λ idle. c.step.ensures.rests (no_duty c.args.role c.args.self.now c.requires.called.sound.ends idle)
 
-pub returns-clause-loses : goal.returns-clause-loses
-returns-clause-loses g c =
+pub returns-clause-acts : goal.returns-clause-acts
+returns-clause-acts g c =
     let called = c.requires.called in
-    c.step.ensures.loses called.before.pending (handled_by _ c.args.cx.now c.args.role c.args.event called) called.sound
+    c.step.ensures.acts called.before.pending (handled_by _ c.args.cx.now c.args.role c.args.event called) called.sound

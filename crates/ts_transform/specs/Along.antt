@@ -1,0 +1,81 @@
+-- What a handler of a chain between two links may set, and when it loses nothing.
+use Rattle.std.specs.Prelude.{◌≡◌, ℕ, ◌+◌, ◌⊎◌, List, true, false, Option, None}
+use Rattle.ts_journal.specs.declared.entry.Event.{Event}
+use Rattle.ts_journal.specs.declared.entry.Pending.{Pending}
+use Rattle.ts_group.specs.declared.action.Named.{Named}
+use Rattle.ts_group.specs.Context.{Context}
+use Rattle.ts_transform.specs.Flow.{ChainState}
+use Rattle.ts_transform.specs.Driving.{ActsWithin, AreNamed, IsHandled, IsNamedIf, IsRousingOf, SetsOnly, unroused_at, works_at}
+use Rattle.ts_transform.specs.Cover.{IsRousing, MaySet}
+use Rattle.ts_transform.specs.Acting.{HasNothingToDo, IsStage}
+use Rattle.ts_transform.specs.Carrying.{IsCarried, MayBreak, StaysLinked}
+use Rattle.ts_transform.specs.declared.continuation.StageContinuation.{StageContinuation}
+use Rattle.ts_transform.specs.declared.link_world.LinkWorld.{LinkWorld}
+use Rattle.ts_transform.specs.declared.link_world.TheConstants.{FIRST, READER, RETRY, WRITER}
+
+-- An event that rouses one of the two ends: at once, or after the pause of one that found its link not ready.
+pub record RousesAnEnd (moment : ℕ) (roles : List Named) (p : Pending) : Type 0 where
+  pub after : ℕ
+  pub soon : (after ≡ 0) ⊎ (after ≡ RETRY)
+  pub of_end : IsRousingOf WRITER after moment roles p ⊎ IsRousingOf READER after moment roles p
+
+-- An event for a duty: it rouses a stage that must work, or one of the ends.
+abbrev pub IsForDuty : {P : Type 0} → (P → ℕ) → ChainState P → List (Option StageContinuation) → ℕ → List Named
+    → Pending → Type 0
+IsForDuty pause c ts moment roles p = IsRousing pause FIRST c ts moment roles p ⊎ RousesAnEnd moment roles p
+
+-- An event that may be set where one of a role is handled: for a duty, or as the handler of the stage of that role may
+-- set it.
+abbrev pub MaySetAlong : {P : Type 0} → (P → ℕ) → ℕ → Event → ChainState P → ChainState P
+    → List (Option StageContinuation) → ℕ → List Named → Pending → Type 0
+MaySetAlong pause role event c d ts moment roles p =
+    IsForDuty pause d ts moment roles p
+    ⊎ ((at : ℕ) × (role ≡ FIRST + at) × MaySet pause FIRST c d (unroused_at event ts at) at event moment roles p)
+
+-- the continuations of a world have their roles
+pub record AreNamedAlong {I K P : Type 0} (w : LinkWorld I K P) (roles : List Named) : Type 0 where
+  pub stages : AreNamed roles FIRST w.driven.table.items
+  pub writer : IsNamedIf roles WRITER w.writer
+  pub reader : IsNamedIf roles READER w.reader
+
+-- only events for a duty are set by an end, and at most one
+pub record SetsForDuty {I K P : Type 0} (pause : P → ℕ) (v w : LinkWorld I K P) (a b : Context) : Type 0 where
+  pub within : ActsWithin 1 a b
+  pub only : AreNamedAlong v a.roles
+      → SetsOnly (IsForDuty pause w.driven.chain v.driven.table.items a.moment a.roles) a b
+
+-- An event of a role is one at which there is nothing to do: an end does not work at it, or the stage of that role has
+-- nothing to do.
+abbrev pub HasNothingAlong : {I K P : Type 0} → ℕ → Event → LinkWorld I K P → Type 0
+HasNothingAlong role event w =
+    (((role ≡ WRITER) ⊎ (role ≡ READER)) × (works_at event ≡ false))
+    ⊎ ((at : ℕ) × (role ≡ FIRST + at) × IsStage w.driven.chain w.driven.table.items at
+    × HasNothingToDo event w.driven.chain w.driven.table.items at)
+
+-- Where an event of a role is handled, before the ends are roused that must work: whether it runs may only fall, for a
+-- cause, and not where there was nothing to do; and only such events are set.
+pub record WorksAlong {I K P : Type 0} (pause : P → ℕ) (role : ℕ) (event : Event) (v w : LinkWorld I K P)
+    (a b : Context) : Type 0 where
+  pub loses : MayBreak v w a b
+  pub live : StaysLinked v w a b
+  pub started : w.writer ≡ None → v.writer ≡ None
+  pub only : AreNamedAlong v a.roles → SetsOnly
+      (MaySetAlong pause role event v.driven.chain w.driven.chain v.driven.table.items a.moment a.roles) a b
+  pub sure : HasNothingAlong role event v → (w.driven.running ≡ v.driven.running)
+      × (w.driven.chain ≡ v.driven.chain) × (w.writer ≡ v.writer) × (w.reader ≡ v.reader)
+
+-- A handler loses something for a cause alone, and nothing where there was nothing to do; while nothing is lost, only such
+-- events are set.
+pub record ActsAlong {I K P : Type 0} (pause : P → ℕ) (role : ℕ) (event : Event) (v w : LinkWorld I K P)
+    (a b : Context) : Type 0 where
+  pub loses : MayBreak v w a b
+  pub only : w.driven.running ≡ true → SetsOnly
+      (MaySetAlong pause role event v.driven.chain w.driven.chain v.driven.table.items a.moment a.roles) a b
+  pub sure : HasNothingAlong role event v → w.driven.running ≡ v.driven.running
+
+-- So it does where an event of a role is handled.
+abbrev pub HandlesAlong : {I K P : Type 0} → (P → ℕ) → ℕ → Event → LinkWorld I K P → LinkWorld I K P → Context
+    → Context → Type 0
+HandlesAlong pause role event v w a b = (before : List Pending)
+    → IsHandled before a.log.state.pending a.roles role event
+    → IsCarried v before a.roles → ActsAlong pause role event v w a b
