@@ -3,7 +3,7 @@ ghost use Rattle.std.specs.Prelude.{◌≡◌, true, false, IfOk, OnOk};
 ghost use Rattle.ts_transform.specs.Carrying.{IsCarriedGroup};
 
 use crate::tests::{Tail, counting, tails};
-use crate::{Chain, LinkWorld, Loss, drive_links};
+use crate::{Chain, LinkWorld, drive_links};
 use std::alloc::Global;
 use std::test::Fail;
 use ts_group::Group;
@@ -44,7 +44,7 @@ const SINGLE: Plan = Plan {
 
 // What came of a run: whether the whole body was written, and how many bytes of it; how often either link made its
 // caller wait; the most bytes that waited at one boundary; and whether it was aborted or lost.
-#[derive(Clone, Copy, Debug, PartialEq, Eq)]
+#[derive(Drop)]
 struct Carried {
     is_whole: bool,
     written: usize,
@@ -52,7 +52,7 @@ struct Carried {
     most: usize,
     is_aborted: bool,
     runs: bool,
-    lost: Option<Loss>,
+    is_lost: bool,
 }
 
 // The input of a plan.
@@ -157,7 +157,7 @@ fn runs_through(alloc: Global, place: usize, event: Event) -> Result<bool, Fail>
     run(&mut group)?;
     let (world, _) = group.into_parts();
     let came = outcome(world, 0, b"abc");
-    Ok(came.is_whole && came.runs && !came.is_aborted && came.lost == None)
+    Ok(came.is_whole && came.runs && !came.is_aborted && !came.is_lost)
 }
 
 // The most bytes that wait at one boundary of a chain.
@@ -188,7 +188,7 @@ fn run(group: &mut Group<Links>) -> Result<usize, Fail>
 fn outcome(world: Links, most: usize, body: &[u8]) -> Carried {
     let is_aborted = world.is_aborted();
     let runs = world.is_running();
-    let lost = world.lost();
+    let is_lost = world.lost().is_some();
     let (input, output) = world.into_links();
     let written = output.written();
     Carried {
@@ -198,7 +198,7 @@ fn outcome(world: Links, most: usize, body: &[u8]) -> Carried {
         most,
         is_aborted,
         runs,
-        lost,
+        is_lost,
     }
 }
 
@@ -214,13 +214,13 @@ fn carry(alloc: Global, plan: &Plan) -> Result<Carried, Fail> {
 // Whether a run wrote its whole body, with so many waits.
 fn is_carried(alloc: Global, plan: Plan, waits: (u64, u64)) -> Result<bool, Fail> {
     let came = carry(alloc, &plan)?;
-    Ok(came.is_whole && came.waits == waits && came.runs && !came.is_aborted && came.lost == None)
+    Ok(came.is_whole && came.waits == waits && came.runs && !came.is_aborted && !came.is_lost)
 }
 
 // Whether a run was aborted that had written at most so many bytes.
 fn is_cut_off(alloc: Global, plan: Plan, most: usize) -> Result<bool, Fail> {
     let came = carry(alloc, &plan)?;
-    Ok(came.is_aborted && came.written <= most && came.runs && came.lost == None)
+    Ok(came.is_aborted && came.written <= most && came.runs && !came.is_lost)
 }
 
 #[test]
