@@ -9,9 +9,9 @@ use Rattle.ts_group.specs.Context.{Context}
 use Rattle.ts_transform.specs.declared.continuation.StageContinuation.{StageContinuation}
 use Rattle.ts_transform.specs.declared.pump.Pumped.{Pumped}
 use Rattle.ts_transform.specs.Stage.{done_by}
-use Rattle.ts_transform.specs.Flow.{ChainState, AnswersAt, StepsAt, MayPump, PumpsAt, PumpsOnce, ended_at, flow, left_to_do}
-use Rattle.ts_transform.specs.Driving.{IsClosed, IsDestroyed, IsToldBefore, KeepsOthers, KeepsStages, Lessens, OnlyTellsBefore, SetsFew, all_unroused, changed, error_passed, errors_to_pass, gone, may_pass_error_at, unroused_at, unroused_for, works_at}
-use Rattle.ts_transform.specs.Cover.{CallsBefore, OnlySets}
+use Rattle.ts_transform.specs.Flow.{ChainState, AnswersAt, StepsAt, MayPump, ended_at, flow, left_to_do}
+use Rattle.ts_transform.specs.Driving.{IsClosed, IsDestroyed, IsToldBefore, KeepsOthers, KeepsStages, Lessens, OnlyTellsBefore, SetsFew, all_unroused, changed, error_passed, gone, may_pass_error_at, unroused_at, works_at}
+use Rattle.ts_transform.specs.Cover.{OnlySets}
 use Rattle.ts_transform.specs.Acting.{ActsAt, HasNothingToDo, IsStage, Pays, PaysErrors, Pumps, StillGives, TellsBefore}
 use Rattle.ts_transform.proofs.Called.{called_unroused}
 use Rattle.ts_transform.proofs.Handled.{length-changed}

@@ -1,13 +1,12 @@
 -- What a handler of a chain between two links sets.
-use Rattle.std.proofs.Common.{◌≡◌, ◌+◌, ◌-◌, ◌<◌, ◌≤◌, ◌⊎◌, inl, inr, ℕ, List, Bool, true, false, Option, None, eqb, leb, length, arith, refl, sym, ap, subst, ◌∙◌}
+use Rattle.std.proofs.Common.{◌≡◌, ◌+◌, ◌-◌, ◌<◌, ◌≤◌, ◌⊎◌, inl, inr, ℕ, List, Bool, true, false, Option, eqb, leb, length, arith, refl, sym, ap, subst, ◌∙◌}
 use Rattle.std.proofs.lemmas.Bool.Decides.{eqb_tells, leb_tells}
 use Rattle.ts_journal.specs.declared.entry.Event.{Event}
-use Rattle.ts_journal.specs.declared.entry.Event.TheVariants.{Error, WriteComplete}
 use Rattle.ts_journal.specs.declared.entry.Pending.{Pending}
 use Rattle.ts_group.specs.declared.action.Named.{Named}
 use Rattle.ts_group.specs.Context.{Context, IsSame}
 use Rattle.ts_transform.specs.Flow.{ChainState}
-use Rattle.ts_transform.specs.Driving.{ActsWithin, AreNamed, IsNamedIf, IsRousingOf, Keeps, SetsOnly, changed, unroused, unroused_at, unroused_for, works_at}
+use Rattle.ts_transform.specs.Driving.{AreNamed, IsNamedIf, IsRousingOf, Keeps, SetsOnly, changed, unroused, unroused_at, unroused_for, works_at}
 use Rattle.ts_transform.specs.Cover.{IsRousing, MaySet}
 use Rattle.ts_transform.specs.Acting.{HasNothingToDo, IsStage}
 use Rattle.ts_transform.specs.Driven.{Acts, IsOfNoStage}

@@ -1,8 +1,7 @@
 -- What is left of a driven chain when one of its stages acted, when bytes came to it, and when bytes were taken from it.
-use Rattle.std.proofs.Common.{◌≡◌, ◌≢◌, ◌≤◌, ◌<◌, ◌+◌, ◌*◌, ◌++◌, ◌⊎◌, inl, inr, ℕ, zero, suc, List, [], ◌∷◌, Bool, true, false, length, take, drop, eqb, Option, Some, Result, Ok, Err, arith, refl, sym, ap, subst, ◌∙◌}
+use Rattle.std.proofs.Common.{◌≡◌, ◌≢◌, ◌+◌, ◌++◌, ◌⊎◌, inl, inr, ℕ, zero, suc, List, [], ◌∷◌, Bool, true, false, length, take, drop, eqb, Option, Result, Ok, Err, sym, ap, subst, ◌∙◌}
 use Rattle.std.proofs.Math.Seq.{take-append_seam}
 use Rattle.std.proofs.lemmas.Bool.Decides.{eqb_tells}
-use Rattle.std.specs.Bool.{OnTrue}
 use Rattle.ts_journal.specs.declared.entry.Event.{Event}
 use Rattle.ts_group.specs.declared.action.SetFault.{SetFault}
 use Rattle.ts_group.specs.declared.action.SetFault.TheVariants as F
@@ -10,7 +9,7 @@ use Rattle.ts_group.specs.Context.{Context}
 use Rattle.ts_transform.specs.declared.continuation.StageContinuation.{StageContinuation}
 use Rattle.ts_transform.specs.declared.driven.DrivenChain.{DrivenChain}
 use Rattle.ts_transform.specs.declared.pump.Stage.{Stage}
-use Rattle.ts_transform.specs.Flow.{ChainState, MustPump, MustWork, Takes, flow}
+use Rattle.ts_transform.specs.Flow.{ChainState, MustPump, MustWork, Takes}
 use Rattle.ts_transform.specs.Driving.{IsCause, IsRoused, KeepsStages, unroused_at}
 use Rattle.ts_transform.specs.Cover.{AreAllLive, IsDriven}
 use Rattle.ts_transform.specs.Acting.{ActsAt, StillGives}

@@ -1,5 +1,5 @@
 -- What the calls of a handler leave of the events and the roles of stages.
-use Rattle.std.proofs.Common.{◌≡◌, ℕ, zero, suc, ◌+◌, ◌≤◌, List, [], ◌∷◌, Bool, true, false, Option, Some, None, Result, Ok, Err, OnOk, IfOk, IfErr, arith, refl, sym, ap, subst, ◌∙◌, if◌then◌else◌, length, IsErrAnd}
+use Rattle.std.proofs.Common.{◌≡◌, ℕ, zero, suc, ◌+◌, ◌≤◌, List, [], ◌∷◌, Bool, true, false, Option, Some, None, Result, Ok, Err, OnOk, IfOk, IfErr, arith, refl, sym, ap, subst, ◌∙◌, if◌then◌else◌, IsErrAnd}
 use Rattle.std.specs.Prelude.{⊤}
 use Rattle.ts_journal.specs.declared.entry.ContKey.{ContKey}
 use Rattle.ts_journal.specs.declared.entry.Event.{Event}
@@ -12,7 +12,7 @@ use Rattle.ts_group.specs.Context.{Context, role_at, moment_after}
 use Rattle.ts_group.specs.Entries.{Grows}
 use Rattle.ts_group.proofs.Grows.{grows_refl, grows_trans}
 use Rattle.ts_group.specs.Acts.{Sets}
-use Rattle.ts_transform.specs.Driving.{works_at, ActsWithin, AddsEvents, HasEvent, HasKind, HasEventIf, IsCause, IsOfStage, IsOfStageIf, AreOfStages, IsRoused, Keeps, KeepsStage, KeepsStages, Lessens, SetsFew, all_unroused, unroused}
+use Rattle.ts_transform.specs.Driving.{works_at, ActsWithin, AddsEvents, HasEvent, HasKind, HasEventIf, IsCause, IsOfStage, IsOfStageIf, AreOfStages, IsRoused, Keeps, KeepsStage, KeepsStages, Lessens, SetsFew, all_unroused}
 use Rattle.ts_transform.specs.declared.continuation.StageContinuation.{StageContinuation}
 
 pub keeps_refl : (a : Context) → a.log.state.held ≡ true → Keeps a a

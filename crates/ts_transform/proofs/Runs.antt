@@ -1,5 +1,5 @@
 -- What the handlers of one turn carry between two links.
-use Rattle.std.proofs.Common.{Result, Ok, Err, IfErr, IsErrAnd, ◌≡◌, ◌≤◌, ◌<◌, ◌⊎◌, Option, Some, None, inl, inr, ℕ, zero, suc, List, [], Bool, true, false, arith, refl, sym, ap, subst, ◌∙◌}
+use Rattle.std.proofs.Common.{Result, Ok, Err, IfErr, IsErrAnd, ◌≡◌, ◌≤◌, ◌<◌, ◌⊎◌, Some, None, inl, inr, ℕ, zero, suc, List, [], Bool, true, false, arith, refl, sym, ap, subst, ◌∙◌}
 use Rattle.ts_link.specs.Counts.{Rose}
 use Rattle.ts_journal.specs.declared.entry.Entry.{Entry}
 use Rattle.ts_journal.specs.declared.entry.Pending.{Pending}
@@ -8,7 +8,6 @@ use Rattle.ts_group.specs.Due.{IsDueFirst}
 use Rattle.ts_group.specs.declared.group.Group.{Group}
 use Rattle.ts_group.specs.declared.action.SetFault.{SetFault}
 use Rattle.ts_group.specs.Context.{Context}
-use Rattle.ts_journal.specs.declared.entry.TheConstants.{GREATEST}
 use Rattle.ts_group.specs.declared.world.Handling.{Handling}
 use Rattle.ts_group.specs.declared.world.Handling.TheVariants as H
 use Rattle.ts_group.specs.Answers.{HandleGives, MatchHandling}

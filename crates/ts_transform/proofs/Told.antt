@@ -4,9 +4,8 @@ use Rattle.std.proofs.lemmas.List.{length-map}
 use Rattle.ts_transform.specs.declared.continuation.StageContinuation.{StageContinuation}
 use Rattle.ts_transform.specs.Driving.{unroused, unroused_for, gone, changed, all_unroused}
 use Rattle.ts_transform.specs.declared.pump.Stage.{Stage}
-use Rattle.ts_transform.specs.declared.pump.Pumped.{Pumped}
 use Rattle.ts_transform.specs.declared.pump.Pumped.TheVariants.{Moved}
-use Rattle.ts_transform.specs.Flow.{ChainState, AnswersAt, StepsAt, PumpsAt, PumpsOnce, ended_at}
+use Rattle.ts_transform.specs.Flow.{ChainState, StepsAt, PumpsAt, PumpsOnce, ended_at}
 
 pub moved_goes : {P : Type 0} (rest : P → List ℕ → List ℕ) (from : List ℕ) (ss : List (Stage P)) (at n : ℕ) (from' : List ℕ) (ss' : List (Stage P))
     → StepsAt rest from ss at (Moved n) from' ss' → ended_at ss' at ≡ ended_at ss at

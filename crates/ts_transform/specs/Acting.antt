@@ -7,7 +7,7 @@ use Rattle.ts_journal.specs.declared.entry.Pending.{Pending}
 use Rattle.ts_group.specs.declared.action.SetFault.{SetFault}
 use Rattle.ts_group.specs.Context.{Context}
 use Rattle.ts_transform.specs.Flow.{ChainState, MayPump, PumpsOnce, ended_at, flow, left_to_do}
-use Rattle.ts_transform.specs.Driving.{IsCause, IsClosed, IsHandled, IsToldBefore, Keeps, SetsFew, all_unroused, changed, error_passed, errors_to_pass, gone, may_pass_error_at, unroused_for, works_at}
+use Rattle.ts_transform.specs.Driving.{IsCause, IsClosed, IsHandled, IsToldBefore, Keeps, SetsFew, all_unroused, changed, error_passed, errors_to_pass, gone, may_pass_error_at, works_at}
 use Rattle.ts_transform.specs.Cover.{AreAllLive, CallsBefore, IsDriven, IsDrivenFor, OnlySets}
 use Rattle.ts_transform.specs.declared.continuation.StageContinuation.{StageContinuation}
 

@@ -1,8 +1,8 @@
-use Rattle.std.proofs.Common.{◌≡◌, true, false, inl, refl, arith, sym, ap, subst, ◌∙◌}
+use Rattle.std.proofs.Common.{inl, refl, arith, sym, ap, subst, ◌∙◌}
 use Rattle.ts_transform.specs.Acting.{Covers}
 use Rattle.ts_transform.specs.Driving.{AreLive, works_at}
 use Rattle.ts_transform.proofs.Acting.{acts_gone, acts_passes, acts_rests, acts_works, pays_errors, pays_none, pays_pumps}
-use Rattle.ts_transform.proofs.Closing.{closed_driven, others_kept, others_same}
+use Rattle.ts_transform.proofs.Closing.{closed_driven, others_kept}
 use Rattle.ts_transform.proofs.Covering.{driven_but, driven_quiet, driven_kept, any_ok, on_ok}
 use Rattle.ts_transform.proofs.Living.{all_live, live_passed, live_worked, may_pump_goes}
 use Rattle.ts_transform.proofs.Kept.{acts_adds, acts_lessens, acts_none, err_weaker}

@@ -1,4 +1,4 @@
-use Rattle.std.proofs.Common.{◌≡◌, ◌+◌, ◌<◌, refl, subst, sym, ◌∙◌}
+use Rattle.std.proofs.Common.{◌<◌, refl, subst, sym, ◌∙◌}
 use Rattle.std.specs.Prelude.{is_ok}
 use Rattle.ts_transform.specs.Driving.{works_at}
 use Rattle.ts_transform.proofs.Acting.{acts_handled, others_handled, pays_handled}

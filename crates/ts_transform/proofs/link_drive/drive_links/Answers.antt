@@ -1,4 +1,4 @@
-use Rattle.std.proofs.Common.{◌≡◌, ◌+◌, [], true, refl, rules, arith, subst, ◌∙◌}
+use Rattle.std.proofs.Common.{◌≡◌, [], refl, rules, arith, subst}
 use Rattle.ts_transform.specs.Carrying.{IsCarried}
 use Rattle.ts_transform.proofs.Carrying.{has_written}
 use Rattle.ts_transform.proofs.Joined.{all_carried}

@@ -1,4 +1,4 @@
-use Rattle.std.proofs.Common.{Some, inl, ◌≡◌, ◌+◌, true, false, refl, ap, arith, sym, subst, length, ◌∙◌}
+use Rattle.std.proofs.Common.{Some, inl, ◌≡◌, true, false, refl, ap, arith, sym, subst, length, ◌∙◌}
 use Rattle.ts_transform.specs.Acting.{KeepsLive, Pays, StillGives}
 use Rattle.ts_transform.specs.Driving.{IsCause, KeepsOthers}
 use Rattle.ts_transform.specs.Cover.{AreAllLive}

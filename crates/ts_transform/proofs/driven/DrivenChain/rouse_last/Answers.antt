@@ -1,4 +1,4 @@
-use Rattle.std.proofs.Common.{Err, Some, ◌≡◌, ◌+◌, ap, sym, subst, length, arith, ◌∙◌}
+use Rattle.std.proofs.Common.{Err, Some, ◌≡◌, ap, sym, subst, length, arith, ◌∙◌}
 use Rattle.ts_transform.specs.Cover.{IsDriven}
 use Rattle.ts_transform.specs.Driving.{IsRoused, KeepsStages, all_unroused}
 use Rattle.ts_transform.specs.Flow.{MustWork}

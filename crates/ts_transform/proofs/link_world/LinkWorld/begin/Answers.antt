@@ -1,4 +1,4 @@
-use Rattle.std.proofs.Common.{false, inl, refl, ◌≡◌, ◌+◌, ◌<◌, Some, None, length, arith, sym, ap, subst, ◌∙◌}
+use Rattle.std.proofs.Common.{false, inl, refl, ◌≡◌, ◌+◌, ◌<◌, Some, None, length, arith, sym, subst, ◌∙◌}
 use Rattle.ts_vconn.specs.declared.moves.TheConstants.{MOST_PULLED}
 use Rattle.ts_transform.specs.Stage.{MOST_WAITING}
 use Rattle.ts_transform.specs.Flow.{EndsInOrder}

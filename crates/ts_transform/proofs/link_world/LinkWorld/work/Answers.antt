@@ -1,4 +1,4 @@
-use Rattle.std.proofs.Common.{◌≡◌, ◌+◌, arith, inr, refl, sym, ap}
+use Rattle.std.proofs.Common.{◌≡◌, arith, inr, refl, ap}
 use Rattle.ts_transform.proofs.Carrying.{moves_stage}
 use Rattle.ts_transform.proofs.Joined.{joined_stage, linked_stage, lose_weaker, runs_before}
 use Rattle.ts_transform.proofs.Driving.{may_lose}
