@@ -5,7 +5,7 @@ use Rattle.ts_journal.specs.declared.entry.Event.{Event}
 use Rattle.ts_journal.specs.declared.entry.Pending.{Pending}
 use Rattle.ts_group.specs.declared.action.Named.{Named}
 use Rattle.ts_group.specs.Context.{Context, IsSame}
-use Rattle.ts_transform.specs.Flow.{ChainState}
+use Rattle.ts_transform.specs.Flow.{ChainState, MustRead, MustWrite}
 use Rattle.ts_transform.specs.Driving.{AreNamed, IsNamedIf, IsRousingOf, Keeps, SetsOnly, changed, unroused, unroused_at, unroused_for, works_at}
 use Rattle.ts_transform.specs.Cover.{IsRousing, MaySet}
 use Rattle.ts_transform.specs.Acting.{HasNothingToDo, IsStage}
@@ -21,18 +21,31 @@ use Rattle.ts_transform.proofs.Setting.{named_same, only_none, only_same, only_t
 use Rattle.ts_transform.proofs.Told.{same_unroused}
 
 -- an end was roused
-pub rouses_writer : (after : ℕ) (a b : Context) → (after ≡ 0) ⊎ (after ≡ RETRY) → SetsOnly (IsRousingOf WRITER after a.moment a.roles) a b → SetsOnly (RousesAnEnd a.moment a.roles) a b
-rouses_writer after a b soon only = only_weaker (IsRousingOf WRITER after a.moment a.roles) (RousesAnEnd a.moment a.roles) a b (λ p h. record { after = after; soon = soon; of_end = inl h }) only
+pub rouses_writer : {P : Type 0} (c : ChainState P) (after : ℕ) (a b : Context) → (after ≡ 0) ⊎ (after ≡ RETRY) → MustWrite c ⊎ (b ≡ a) → SetsOnly (IsRousingOf WRITER after a.moment a.roles) a b
+    → SetsOnly (RousesAnEnd c a.moment a.roles) a b
+rouses_writer c after a b soon (inl must) only = only_weaker (IsRousingOf WRITER after a.moment a.roles) (RousesAnEnd c a.moment a.roles) a b (λ p h. record { after = after; soon = soon; of_end = inl (must, h) }) only
+rouses_writer c after a b soon (inr same) only = subst (SetsOnly (RousesAnEnd c a.moment a.roles) a) (sym same) (only_none (RousesAnEnd c a.moment a.roles) a)
 
-pub rouses_reader : (after : ℕ) (a b : Context) → (after ≡ 0) ⊎ (after ≡ RETRY) → SetsOnly (IsRousingOf READER after a.moment a.roles) a b → SetsOnly (RousesAnEnd a.moment a.roles) a b
-rouses_reader after a b soon only = only_weaker (IsRousingOf READER after a.moment a.roles) (RousesAnEnd a.moment a.roles) a b (λ p h. record { after = after; soon = soon; of_end = inr h }) only
+pub rouses_reader : {P : Type 0} (c : ChainState P) (after : ℕ) (a b : Context) → (after ≡ 0) ⊎ (after ≡ RETRY) → MustRead c ⊎ (b ≡ a) → SetsOnly (IsRousingOf READER after a.moment a.roles) a b
+    → SetsOnly (RousesAnEnd c a.moment a.roles) a b
+rouses_reader c after a b soon (inl must) only = only_weaker (IsRousingOf READER after a.moment a.roles) (RousesAnEnd c a.moment a.roles) a b (λ p h. record { after = after; soon = soon; of_end = inr (must, h) }) only
+rouses_reader c after a b soon (inr same) only = subst (SetsOnly (RousesAnEnd c a.moment a.roles) a) (sym same) (only_none (RousesAnEnd c a.moment a.roles) a)
+
+-- an end that is roused if it must work: it must, or nothing was done
+pub must_or : {X Y : Type 0} (must : Bool) → (must ≡ true → X) → (must ≡ false → Y) → X ⊎ Y
+must_or {X} {Y} must this other = by_must must refl
+  where
+    by_must : (b : Bool) → must ≡ b → X ⊎ Y
+    by_must true is = inl (this is)
+    by_must false is = inr (other is)
 
 -- ends that are roused later are so in the moment and under the roles of before
-ends_as : (a m b : Context) → m.moment ≡ a.moment → Keeps a m → SetsOnly (RousesAnEnd m.moment m.roles) m b → SetsOnly (RousesAnEnd a.moment a.roles) m b
-ends_as a m b moment keeps only = subst (λ t. SetsOnly (RousesAnEnd t a.roles) m b) moment (subst (λ rs. SetsOnly (RousesAnEnd m.moment rs) m b) keeps.roles only)
+ends_as : {P : Type 0} (c : ChainState P) (a m b : Context) → m.moment ≡ a.moment → Keeps a m → SetsOnly (RousesAnEnd c m.moment m.roles) m b → SetsOnly (RousesAnEnd c a.moment a.roles) m b
+ends_as c a m b moment keeps only = subst (λ t. SetsOnly (RousesAnEnd c t a.roles) m b) moment (subst (λ rs. SetsOnly (RousesAnEnd c m.moment rs) m b) keeps.roles only)
 
-pub ends_then : (a m b : Context) → Keeps a m → m.moment ≡ a.moment → Keeps m b → SetsOnly (RousesAnEnd a.moment a.roles) a m → SetsOnly (RousesAnEnd m.moment m.roles) m b → SetsOnly (RousesAnEnd a.moment a.roles) a b
-ends_then a m b keeps moment later first second = only_trans (RousesAnEnd a.moment a.roles) a m b first later (ends_as a m b moment keeps second)
+pub ends_then : {P : Type 0} (c : ChainState P) (a m b : Context) → Keeps a m → m.moment ≡ a.moment → Keeps m b → SetsOnly (RousesAnEnd c a.moment a.roles) a m → SetsOnly (RousesAnEnd c m.moment m.roles) m b
+    → SetsOnly (RousesAnEnd c a.moment a.roles) a b
+ends_then c a m b keeps moment later first second = only_trans (RousesAnEnd c a.moment a.roles) a m b first later (ends_as c a m b moment keeps second)
 
 -- nothing was set
 pub duty_none : {I K P : Type 0} (pause : P → ℕ) (v w : LinkWorld I K P) (a : Context) → a.log.state.held ≡ true → SetsForDuty pause v w a a
@@ -43,8 +56,8 @@ pub duty_stage : {P : Type 0} (pause : P → ℕ) (c : ChainState P) (ts : List 
     → SetsOnly (IsForDuty pause c ts a.moment a.roles) a b
 duty_stage pause c ts a b only = only_weaker (IsRousing pause FIRST c ts a.moment a.roles) (IsForDuty pause c ts a.moment a.roles) a b (λ p h. inl h) only
 
-pub duty_end : {P : Type 0} (pause : P → ℕ) (c : ChainState P) (ts : List (Option StageContinuation)) (a b : Context) → SetsOnly (RousesAnEnd a.moment a.roles) a b → SetsOnly (IsForDuty pause c ts a.moment a.roles) a b
-duty_end pause c ts a b only = only_weaker (RousesAnEnd a.moment a.roles) (IsForDuty pause c ts a.moment a.roles) a b (λ p h. inr h) only
+pub duty_end : {P : Type 0} (pause : P → ℕ) (c : ChainState P) (ts : List (Option StageContinuation)) (a b : Context) → SetsOnly (RousesAnEnd c a.moment a.roles) a b → SetsOnly (IsForDuty pause c ts a.moment a.roles) a b
+duty_end pause c ts a b only = only_weaker (RousesAnEnd c a.moment a.roles) (IsForDuty pause c ts a.moment a.roles) a b (λ p h. inr h) only
 
 pub along_duty : {P : Type 0} (pause : P → ℕ) (role : ℕ) (event : Event) (c d : ChainState P) (ts : List (Option StageContinuation)) (a b : Context) → SetsOnly (IsForDuty pause d ts a.moment a.roles) a b
     → SetsOnly (MaySetAlong pause role event c d ts a.moment a.roles) a b
@@ -117,7 +130,7 @@ step_sure u v w m b ends idle (running, chain, writer, reader) = ap (λ x. x.dri
 pub step_only : {I K P : Type 0} (pause : P → ℕ) (role : ℕ) (event : Event) (u v w : LinkWorld I K P) (a m b : Context) → AreEndsRoused u.driven.chain u.writer u.reader → AreNamedAlong u a.roles
     → IsNamedIf m.roles WRITER v.writer → IsNamedIf m.roles READER v.reader → WorksAlong pause role event u v a m
     → ((v.driven.running ≡ false) ⊎ AreEndsRoused v.driven.chain v.writer v.reader → (w ≡ v) × (b ≡ m)) → m.moment ≡ a.moment → Keeps m b
-    → (IsNamedIf m.roles WRITER v.writer → IsNamedIf m.roles READER v.reader → SetsOnly (RousesAnEnd m.moment m.roles) m b) → w.driven.chain ≡ v.driven.chain
+    → (IsNamedIf m.roles WRITER v.writer → IsNamedIf m.roles READER v.reader → SetsOnly (RousesAnEnd v.driven.chain m.moment m.roles) m b) → w.driven.chain ≡ v.driven.chain
     → SetsOnly (MaySetAlong pause role event u.driven.chain w.driven.chain u.driven.table.items a.moment a.roles) a b
 step_only {I} {K} {P} pause role event u v w a m b ends named writer reader h idle moment later only same = by_live h.live
   where
@@ -131,4 +144,5 @@ step_only {I} {K} {P} pause role event u v w a m b ends named writer reader h id
     by_live (inl (chain, w_same, r_same)) = subst Such (sym (idle (inr (ends_moved u v chain w_same r_same ends))).1) first
     by_live (inr (keeps, linked)) =
         only_trans (MaySetAlong pause role event u.driven.chain w.driven.chain u.driven.table.items a.moment a.roles) a m b first later
-        (only_weaker (RousesAnEnd a.moment a.roles) (MaySetAlong pause role event u.driven.chain w.driven.chain u.driven.table.items a.moment a.roles) m b (λ p e. inl (inr e)) (ends_as a m b moment keeps (only writer reader)))
+        (only_weaker (RousesAnEnd w.driven.chain a.moment a.roles) (MaySetAlong pause role event u.driven.chain w.driven.chain u.driven.table.items a.moment a.roles) m b (λ p e. inl (inr e))
+        (subst (λ d. SetsOnly (RousesAnEnd d a.moment a.roles) m b) (sym same) (ends_as v.driven.chain a m b moment keeps (only writer reader))))

@@ -21,7 +21,7 @@ use Rattle.ts_transform.specs.Cover.{IsDriven}
 use Rattle.ts_transform.specs.declared.loss.Loss.TheVariants.{NoMemory}
 use Rattle.ts_transform.specs.Driven.{HasBegun, Loses, MayLose, HasAllLive}
 use Rattle.ts_transform.specs.Loss.{IsCauseOf, loss_of, making_loss}
-use Rattle.ts_transform.specs.Carrying.{AreEndsRoused, FallsTold, AreLinked, HasNoDuty, IsCarried, IsJoined, IsOfNobody, MayBreak, RetriesRead, RetriesWrite, AreLiveAlong, KeepsCourse, StaysLinked}
+use Rattle.ts_transform.specs.Carrying.{HasBegunAlong, AreEndsRoused, FallsTold, AreLinked, HasNoDuty, IsCarried, IsJoined, IsOfNobody, MayBreak, RetriesRead, RetriesWrite, AreLiveAlong, KeepsCourse, StaysLinked}
 use Rattle.ts_transform.specs.declared.link_world.LinkWorld.{LinkWorld}
 use Rattle.ts_transform.specs.declared.link_world.TheConstants.{RETRY}
 use Rattle.ts_transform.specs.Acting.{KeepsLive}
@@ -116,15 +116,15 @@ lose_weaker d e now has (inr (fault, stopped, lost, cause)) = inr (fault, stoppe
 
 -- what began runs on after its ends were roused, or is lost for a cause
 pub begun_then : {I K P : Type 0} (v w : LinkWorld I K P) (m now : Context) → HasBegun v.driven m → (HasAllLive v.driven m → AreLinked v m) → (v.driven.running ≡ false → (w ≡ v) × (now ≡ m))
-    → KeepsCourse v w m now → HasBegun w.driven now
+    → KeepsCourse v w m now → HasBegunAlong w now
 begun_then {I} {K} {P} v w m now (inr stops) alive idle course =
     let same = idle stops.1 in
-    let begun : HasBegun v.driven m = inr stops in
-    subst (λ x. HasBegun x.driven now) (sym same.0) (subst (λ x. HasBegun v.driven x) (sym same.1) begun)
+    let begun : HasBegunAlong v m = inr stops in
+    subst (λ x. HasBegunAlong x now) (sym same.0) (subst (λ x. HasBegunAlong v x) (sym same.1) begun)
 begun_then v w m now (inl (runs, none, live)) alive idle course = by_course course.loses
   where
-    by_course : MayBreak v w m now → HasBegun w.driven now
-    by_course (inl (goes, kept)) = inl (goes ∙ runs, kept ∙ none, (course.live (alive live)).stages)
+    by_course : MayBreak v w m now → HasBegunAlong w now
+    by_course (inl (goes, kept)) = inl (goes ∙ runs, kept ∙ none, course.live (alive live))
     by_course (inr (fault, stopped, lost, cause)) = inr (loss_of fault, stopped, lost, cause_alive (AreLinked v m) fault now (alive live) cause)
 
 broke_still : {I K P : Type 0} (u v w : LinkWorld I K P) (a m now : Context) → (w ≡ v) × (now ≡ m) → MayBreak u v a m → MayBreak u w a now
@@ -303,8 +303,9 @@ none_same (Some t) None same is = absurd (let wrong : None ≡ Some (record t { 
 none_same (Some t) (Some u) same is = absurd (let wrong : Some u ≡ None = is in cc)
 
 -- it is lost where a continuation could not be made
-pub begun_made : {P : Type 0} (d : DrivenChain P) (fault : MakeFault) (loss : Loss) (now : Context) → d.running ≡ false → d.lost ≡ Some loss → loss ≡ making_loss fault → IsCauseOf ⊤ (making_loss fault) now → HasBegun d now
-begun_made d fault loss now stopped lost is cause = inr (loss, stopped, lost, subst (λ l. IsCauseOf ⊤ l now) (sym is) cause)
+pub begun_made : {I K P : Type 0} (w : LinkWorld I K P) (fault : MakeFault) (loss : Loss) (now : Context) → w.driven.running ≡ false → w.driven.lost ≡ Some loss → loss ≡ making_loss fault
+    → IsCauseOf ⊤ (making_loss fault) now → HasBegunAlong w now
+begun_made w fault loss now stopped lost is cause = inr (loss, stopped, lost, subst (λ l. IsCauseOf ⊤ l now) (sym is) cause)
 
 -- Where nobody has a duty, and those who stand at the ends were roused, nothing is done.
 pub rests_then : {I K P : Type 0} (role : ℕ) (u v w : LinkWorld I K P) (a b c : Context) → u.driven.running ≡ true → (IsOfNobody role u → (v ≡ u) × IsSame a b)

@@ -4,7 +4,7 @@ use Rattle.ts_journal.specs.declared.entry.Event.{Event}
 use Rattle.ts_journal.specs.declared.entry.Pending.{Pending}
 use Rattle.ts_group.specs.declared.action.Named.{Named}
 use Rattle.ts_group.specs.Context.{Context}
-use Rattle.ts_transform.specs.Flow.{ChainState}
+use Rattle.ts_transform.specs.Flow.{ChainState, MustRead, MustWrite}
 use Rattle.ts_transform.specs.Driving.{ActsWithin, AreNamed, IsHandled, IsNamedIf, IsRousingOf, SetsOnly, unroused_at, works_at}
 use Rattle.ts_transform.specs.Cover.{IsRousing, MaySet}
 use Rattle.ts_transform.specs.Acting.{HasNothingToDo, IsStage}
@@ -13,16 +13,18 @@ use Rattle.ts_transform.specs.declared.continuation.StageContinuation.{StageCont
 use Rattle.ts_transform.specs.declared.link_world.LinkWorld.{LinkWorld}
 use Rattle.ts_transform.specs.declared.link_world.TheConstants.{FIRST, READER, RETRY, WRITER}
 
--- An event that rouses one of the two ends: at once, or after the pause of one that found its link not ready.
-pub record RousesAnEnd (moment : ℕ) (roles : List Named) (p : Pending) : Type 0 where
+-- An event that rouses one of the two ends, which must work: at once, or after the pause of one that found its link not
+-- ready.
+pub record RousesAnEnd {P : Type 0} (c : ChainState P) (moment : ℕ) (roles : List Named) (p : Pending) : Type 0 where
   pub after : ℕ
   pub soon : (after ≡ 0) ⊎ (after ≡ RETRY)
-  pub of_end : IsRousingOf WRITER after moment roles p ⊎ IsRousingOf READER after moment roles p
+  pub of_end : (MustWrite c × IsRousingOf WRITER after moment roles p)
+      ⊎ (MustRead c × IsRousingOf READER after moment roles p)
 
--- An event for a duty: it rouses a stage that must work, or one of the ends.
+-- An event for a duty: it rouses a stage that must work, or an end that must.
 abbrev pub IsForDuty : {P : Type 0} → (P → ℕ) → ChainState P → List (Option StageContinuation) → ℕ → List Named
     → Pending → Type 0
-IsForDuty pause c ts moment roles p = IsRousing pause FIRST c ts moment roles p ⊎ RousesAnEnd moment roles p
+IsForDuty pause c ts moment roles p = IsRousing pause FIRST c ts moment roles p ⊎ RousesAnEnd c moment roles p
 
 -- An event that may be set where one of a role is handled: for a duty, or as the handler of the stage of that role may
 -- set it.

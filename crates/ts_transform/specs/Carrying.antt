@@ -1,5 +1,5 @@
 -- A chain between two links: what a step of it moves, and who must work.
-use Rattle.std.specs.Prelude.{◌≡◌, ◌≢◌, ℕ, ◌+◌, ◌<◌, ◌≤◌, ◌⊎◌, ◌++◌, List, [], length, Bool, true, false, Option, Some, None}
+use Rattle.std.specs.Prelude.{◌≡◌, ◌≢◌, ℕ, ◌+◌, ◌<◌, ◌≤◌, ◌⊎◌, ◌++◌, List, [], length, Bool, true, false, Option, Some, None, ⊤}
 use Rattle.std.specs.Bool.{OnTrue}
 use Rattle.ts_journal.specs.declared.entry.TheConstants.{GREATEST}
 use Rattle.ts_journal.specs.declared.entry.Event.{Event}
@@ -24,7 +24,7 @@ use Rattle.ts_transform.specs.declared.link_drive.DriveFault.{DriveFault}
 use Rattle.ts_transform.specs.declared.link_drive.DriveFault.TheVariants as D
 use Rattle.ts_transform.specs.declared.loss.Loss.{Loss}
 use Rattle.ts_transform.specs.declared.loss.Loss.TheVariants.{NoMemory}
-use Rattle.ts_transform.specs.Loss.{loss_of}
+use Rattle.ts_transform.specs.Loss.{IsCauseOf, loss_of}
 
 -- The input gave some bytes and the output took some, and what the chain still gives is that much further on: for
 -- whatever still comes before its end was given, and for nothing from then on.
@@ -165,6 +165,13 @@ pub record AreLiveAlong {P : Type 0} (d : DrivenChain P) (t u : Option StageCont
 -- those of a world
 abbrev pub AreLinked : {I K P : Type 0} → LinkWorld I K P → Context → Type 0
 AreLinked w now = AreLiveAlong w.driven w.writer w.reader now
+
+-- it runs from now on, and the continuations of its stages and of both ends are live; or it is lost for a cause, but for
+-- no dead continuation, since each was just made
+abbrev pub HasBegunAlong : {I K P : Type 0} → LinkWorld I K P → Context → Type 0
+HasBegunAlong w now =
+    ((w.driven.running ≡ true) × (w.driven.lost ≡ None) × AreLinked w now)
+    ⊎ ((loss : Loss) × (w.driven.running ≡ false) × (w.driven.lost ≡ Some loss) × IsCauseOf ⊤ loss now)
 
 -- the chain and its ends are as they were; or no continuation was made or destroyed, and all stay live
 abbrev pub StaysLinked : {I K P : Type 0} → LinkWorld I K P → LinkWorld I K P → Context → Context → Type 0

@@ -9,9 +9,9 @@ ghost use Rattle.ts_group.specs.Entries.{Grows};
 ghost use Rattle.ts_transform.specs.declared.link_world.TheConstants.{READER, WRITER};
 ghost use Rattle.ts_transform.specs.Flow.{IsFinished, aborted, compose, flow, fresh_stage};
 ghost use Rattle.ts_transform.specs.Driving.{ActsWithin, IsNamedIf, IsRousedIf, SetsOnly, works_at};
-ghost use Rattle.ts_transform.specs.Driven.{HasBegun, SameCourse};
+ghost use Rattle.ts_transform.specs.Driven.{SameCourse};
 ghost use Rattle.ts_transform.specs.Along.{ActsAlong, HandlesAlong, RousesAnEnd, SetsForDuty, WorksAlong};
-ghost use Rattle.ts_transform.specs.Carrying.{AreEndsRoused, HandlesCarried, HandlesJoined, HandlesWaits, HasLinkBegun, HasNoDuty, HasStepped, InputWaits, IsCarried, IsOfNobody, IsSameBut, KeepsCourse, KeepsReader, KeepsWriter, LacksMemory, Moves, OutputWaits, RetriesRead, RetriesWrite, RousesEnd, StaysJoined, StepsAlong, TriesAgain};
+ghost use Rattle.ts_transform.specs.Carrying.{AreEndsRoused, HandlesCarried, HandlesJoined, HandlesWaits, HasBegunAlong, HasLinkBegun, HasNoDuty, HasStepped, InputWaits, IsCarried, IsOfNobody, IsSameBut, KeepsCourse, KeepsReader, KeepsWriter, LacksMemory, Moves, OutputWaits, RetriesRead, RetriesWrite, RousesEnd, StaysJoined, StepsAlong, TriesAgain};
 
 use crate::chain::Chain;
 use crate::continuation::{StageContinuation, works};
@@ -308,7 +308,7 @@ impl<I: Link + Drop, K: Link + Drop, P: Transform + Drop> LinkWorld<I, K, P> {
         ensures course { KeepsCourse self.old self.new cx.old cx.new }
         ensures within { ActsWithin 2 cx.old cx.new }
         ensures only { IsNamedIf cx.old.roles WRITER self.old.writer → IsNamedIf cx.old.roles READER self.old.reader
-            → SetsOnly (RousesAnEnd cx.old.moment cx.old.roles) cx.old cx.new }
+            → SetsOnly (RousesAnEnd self.old.driven.chain cx.old.moment cx.old.roles) cx.old cx.new }
         ensures idle { (self.old.driven.running ≡ false)
             ⊎ AreEndsRoused self.old.driven.chain self.old.writer self.old.reader
             → (self.new ≡ self.old) × (cx.new ≡ cx.old) }
@@ -366,7 +366,7 @@ impl<I: Link + Drop, K: Link + Drop, P: Transform + Drop> LinkWorld<I, K, P> {
         ensures carried { IsCarried self.old cx.old.log.state.pending cx.old.roles
             → IsCarried self.new cx.new.log.state.pending cx.new.roles }
         ensures within { ActsWithin 3 cx.old cx.new }
-        ensures cause { HasBegun self.new.driven cx.new }
+        ensures cause { HasBegunAlong self.new cx.new }
     {
         match make_end(WRITER, cx) {
             Ok(writer) => self.writer = Some(writer),
@@ -445,7 +445,7 @@ impl<I: Link + Drop, K: Link + Drop, P: Transform + Drop> World for LinkWorld<I,
         ensures sound { IsCarried self.new cx.new.log.state.pending cx.new.roles }
         ensures within { ActsWithin 3 cx.old cx.new }
         ensures begun { HasLinkBegun self.old self.new }
-        ensures cause { self.old.writer ≡ None → HasBegun self.new.driven cx.new }
+        ensures cause { self.old.writer ≡ None → HasBegunAlong self.new cx.new }
         ensures again { (self.old.writer ≡ None → ⊥)
             → (self.new ≡ self.old) × IsSame cx.old cx.new }
     {

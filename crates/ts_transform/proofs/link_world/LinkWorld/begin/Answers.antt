@@ -42,11 +42,11 @@ returns-clause-carried g c = λ was.
 -- It runs from now on, or is lost for a cause.
 pub returns-in-Err-clause-cause : goal.returns-in-Err-clause-cause
 returns-in-Err-clause-cause g c =
-    begun_made (record c.args.self.now.driven { running = false; lost = Some c.of_make.result }) c.in-Err.fault c.of_make.result c.make_end.new.cx refl refl c.of_make.ensures c.in-Err.ensures.cause
+    begun_made (record c.args.self.now { driven = record c.args.self.now.driven { running = false; lost = Some c.of_make.result } }) c.in-Err.fault c.of_make.result c.make_end.new.cx refl refl c.of_make.ensures c.in-Err.ensures.cause
 
 pub returns-in-Err-make_end-clause-cause : goal.returns-in-Err-make_end-clause-cause
 returns-in-Err-make_end-clause-cause g c =
-    begun_made (record c.args.self.now.driven { running = false; lost = Some c.of_make-in-Err-make_end.result }) c.in-Err-make_end.fault c.of_make-in-Err-make_end.result c.make_end-2.new.cx refl refl c.of_make-in-Err-make_end.ensures c.in-Err-make_end.ensures.cause
+    begun_made (record c.args.self.now { writer = Some c.in-Ok.writer; driven = record c.args.self.now.driven { running = false; lost = Some c.of_make-in-Err-make_end.result } }) c.in-Err-make_end.fault c.of_make-in-Err-make_end.result c.make_end-2.new.cx refl refl c.of_make-in-Err-make_end.ensures c.in-Err-make_end.ensures.cause
 
 pub returns-clause-cause : goal.returns-clause-cause
 returns-clause-cause g c =

@@ -218,10 +218,17 @@ pub returns-in-Ok-Again-clause-duty : goal.returns-in-Ok-Again-clause-duty
 returns-in-Ok-Again-clause-duty g c =
     let rouse = c.rouse_reader in
     let cx = c.args.cx.now in
+    let self = c.args.self.now in
+    let room : length self.driven.chain.first < MOST_WAITING = search rules in
+    let goes : self.driven.chain.given ≡ false = sym c.is_given.ensures ∙ c.if-is_given.false in
+    let kept = c.in-Ok-Again.ensures.kept in
+    let first : c.pull.new.self.first ≡ self.driven.chain.first =
+    pulled_none g.I.Link.tells (g.I.Link.look self.input) (g.I.Link.look c.pull.new.link) self.driven.chain.first c.pull.new.self.first c.in-Ok-Again.field-0 MOST_PULLED c.in-Ok-Again.field-0-is c.in-Ok-Again.ensures.pulled in
+    let must : MustRead c.pull.new.self = (kept.1 ∙ goes, subst (λ l. length l < MOST_WAITING) (sym first) room) in
     record {
       within = rouse.ensures.within;
       only = λ named. duty_end g.P.Transform.pause rouse.new.self.driven.chain c.args.self.now.driven.table.items cx rouse.new.cx
-          (rouses_reader RETRY cx rouse.new.cx (inr refl) (rouse.ensures.rouses.only named.reader));
+          (rouses_reader rouse.new.self.driven.chain RETRY cx rouse.new.cx (inr refl) (inl (subst MustRead (sym rouse.ensures.same.chain) must)) (rouse.ensures.rouses.only named.reader));
     }
 
 pub returns-in-Ok-Failed-clause-duty : goal.returns-in-Ok-Failed-clause-duty

@@ -4,7 +4,7 @@ use Rattle.ts_transform.specs.Carrying.{AreEndsRoused}
 use Rattle.ts_transform.specs.Driving.{IsNamedIf}
 use Rattle.ts_transform.specs.Along.{RousesAnEnd}
 use Rattle.ts_transform.specs.declared.link_world.TheConstants.{READER}
-use Rattle.ts_transform.proofs.Along.{ends_then, rouses_reader, rouses_writer}
+use Rattle.ts_transform.proofs.Along.{ends_then, must_or, rouses_reader, rouses_writer}
 use Rattle.ts_transform.proofs.Setting.{only_none}
 use Rattle.ts_transform.proofs.Joined.{course_same, end_rests, may_break_then, while_runs}
 use Rattle.ts_transform.proofs.Kept.{acts_none, acts_then, keeps_trans}
@@ -51,10 +51,12 @@ returns-then-not-self-clause-course g c = course_same c.args.self.now c.args.cx.
 
 -- Only the ends are roused, at once.
 pub returns-then-not-self-clause-only : goal.returns-then-not-self-clause-only
-returns-then-not-self-clause-only g c = λ writer reader. only_none (RousesAnEnd c.args.cx.now.moment c.args.cx.now.roles) c.args.cx.now
+returns-then-not-self-clause-only g c = λ writer reader. only_none (RousesAnEnd c.args.self.now.driven.chain c.args.cx.now.moment c.args.cx.now.roles) c.args.cx.now
 
 pub returns-then-not-self-2-clause-only : goal.returns-then-not-self-2-clause-only
-returns-then-not-self-2-clause-only g c = λ writer reader. rouses_writer 0 c.args.cx.now c.rouse_writer.new.cx (inl refl) (c.rouse_writer.ensures.rouses.only writer)
+returns-then-not-self-2-clause-only g c = λ writer reader.
+    rouses_writer c.args.self.now.driven.chain 0 c.args.cx.now c.rouse_writer.new.cx (inl refl) (must_or c.has_output-writes.result c.has_output-writes.ensures.0 (λ not. (c.rouse_writer.ensures.rouses.rests (inl not)).1))
+    (c.rouse_writer.ensures.rouses.only writer)
 
 pub returns-clause-only : goal.returns-clause-only
 returns-clause-only g c = λ writer reader.
@@ -63,5 +65,8 @@ returns-clause-only g c = λ writer reader.
     let cx = c.args.cx.now in
     let keeps = one.ensures.course.keeps in
     let reader_then = subst (λ t. IsNamedIf one.new.cx.roles READER t) (sym one.ensures.kept) (subst (λ rs. IsNamedIf rs READER c.args.self.now.reader) (sym keeps.roles) reader) in
-    ends_then cx one.new.cx two.new.cx keeps one.ensures.within.grows.moment two.ensures.course.keeps (rouses_writer 0 cx one.new.cx (inl refl) (one.ensures.rouses.only writer))
-    (rouses_reader 0 one.new.cx two.new.cx (inl refl) (two.ensures.rouses.only reader_then))
+    let chain = c.args.self.now.driven.chain in
+    ends_then chain cx one.new.cx two.new.cx keeps one.ensures.within.grows.moment two.ensures.course.keeps
+    (rouses_writer chain 0 cx one.new.cx (inl refl) (must_or c.has_output-writes.result c.has_output-writes.ensures.0 (λ not. (one.ensures.rouses.rests (inl not)).1)) (one.ensures.rouses.only writer))
+    (rouses_reader chain 0 one.new.cx two.new.cx (inl refl)
+    (must_or c.must_read-reads.result (λ is. subst MustRead one.ensures.same.chain (c.must_read-reads.ensures.0 is)) (λ not. (two.ensures.rouses.rests (inl not)).1)) (two.ensures.rouses.only reader_then))

@@ -1,5 +1,5 @@
-use Rattle.std.proofs.Common.{Some, false, arith, true, refl, sym, ap, subst, inr, ◌∙◌}
-use Rattle.ts_transform.specs.Flow.{MustRead}
+use Rattle.std.proofs.Common.{Some, false, length, arith, ◌≡◌, true, refl, sym, ap, subst, inl, inr, ◌∙◌}
+use Rattle.ts_transform.specs.Flow.{MustRead, MustWrite}
 use Rattle.ts_transform.specs.Carrying.{MovesOn}
 use Rattle.ts_transform.proofs.Carrying.{moves_aborted, moves_as, moves_none, moves_taken, moves_wait}
 use Rattle.ts_transform.proofs.Joined.{course_aborted, course_same, joined_aborted, joined_as, linked_kept, lose_weaker}
@@ -132,10 +132,11 @@ pub returns-in-Again-clause-duty : goal.returns-in-Again-clause-duty
 returns-in-Again-clause-duty g c =
     let rouse = c.rouse_writer in
     let cx = c.args.cx.now in
+    let must : MustWrite c.args.self.now.driven.chain = λ none. let low = c.in-Some.ensures.0 in let high = c.in-Some.ensures.1 in let empty = ap length none in omega (arith, low, high, empty) in
     record {
       within = rouse.ensures.within;
       only = λ named. duty_end g.P.Transform.pause rouse.new.self.driven.chain c.args.self.now.driven.table.items cx rouse.new.cx
-          (rouses_writer RETRY cx rouse.new.cx (inr refl) (rouse.ensures.rouses.only named.writer));
+          (rouses_writer rouse.new.self.driven.chain RETRY cx rouse.new.cx (inr refl) (inl (subst MustWrite (sym rouse.ensures.same.chain) must)) (rouse.ensures.rouses.only named.writer));
     }
 
 pub returns-in-Failed-clause-duty : goal.returns-in-Failed-clause-duty
