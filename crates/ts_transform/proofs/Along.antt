@@ -10,8 +10,9 @@ use Rattle.ts_transform.specs.Driving.{AreNamed, IsNamedIf, IsRousingOf, Keeps, 
 use Rattle.ts_transform.specs.Cover.{IsRousing, MaySet}
 use Rattle.ts_transform.specs.Acting.{HasNothingToDo, IsStage}
 use Rattle.ts_transform.specs.Driven.{Acts, IsOfNoStage}
-use Rattle.ts_transform.specs.Carrying.{AreEndsRoused, StaysLinked}
-use Rattle.ts_transform.specs.Along.{AreNamedAlong, HasNothingAlong, IsForDuty, MaySetAlong, RousesAnEnd, SetsForDuty, WorksAlong}
+use Rattle.ts_transform.specs.Carrying.{AreEndsRoused, LacksMemory, StaysLinked}
+use Rattle.ts_transform.specs.Along.{AreNamedAlong, DoesDuty, HasNothingAlong, IsForDuty, MaySetAlong, ReadsOnce, RousesAnEnd, SetsForDuty, WorksAlong, WritesOnce}
+use Rattle.ts_link.specs.Link.{Look}
 use Rattle.ts_transform.specs.declared.continuation.StageContinuation.{StageContinuation}
 use Rattle.ts_transform.specs.declared.link_world.LinkWorld.{LinkWorld}
 use Rattle.ts_transform.specs.declared.link_world.TheConstants.{FIRST, READER, RETRY, WRITER}
@@ -127,12 +128,12 @@ pub step_sure : {I K P : Type 0} (u v w : LinkWorld I K P) (m b : Context) → A
 step_sure u v w m b ends idle (running, chain, writer, reader) = ap (λ x. x.driven.running) (idle (inr (ends_moved u v chain writer reader ends))).0 ∙ running
 
 -- And what both set is what may be set.
-pub step_only : {I K P : Type 0} (pause : P → ℕ) (role : ℕ) (event : Event) (u v w : LinkWorld I K P) (a m b : Context) → AreEndsRoused u.driven.chain u.writer u.reader → AreNamedAlong u a.roles
-    → IsNamedIf m.roles WRITER v.writer → IsNamedIf m.roles READER v.reader → WorksAlong pause role event u v a m
+pub step_only : {I K P : Type 0} (pause : P → ℕ) (input : I → Look) (output : K → Look) (role : ℕ) (event : Event) (u v w : LinkWorld I K P) (a m b : Context) → AreEndsRoused u.driven.chain u.writer u.reader → AreNamedAlong u a.roles
+    → IsNamedIf m.roles WRITER v.writer → IsNamedIf m.roles READER v.reader → WorksAlong pause input output role event u v a m
     → ((v.driven.running ≡ false) ⊎ AreEndsRoused v.driven.chain v.writer v.reader → (w ≡ v) × (b ≡ m)) → m.moment ≡ a.moment → Keeps m b
     → (IsNamedIf m.roles WRITER v.writer → IsNamedIf m.roles READER v.reader → SetsOnly (RousesAnEnd v.driven.chain m.moment m.roles) m b) → w.driven.chain ≡ v.driven.chain
     → SetsOnly (MaySetAlong pause role event u.driven.chain w.driven.chain u.driven.table.items a.moment a.roles) a b
-step_only {I} {K} {P} pause role event u v w a m b ends named writer reader h idle moment later only same = by_live h.live
+step_only {I} {K} {P} pause input output role event u v w a m b ends named writer reader h idle moment later only same = by_live h.live
   where
     Such : Context → Type 0
     Such x = SetsOnly (MaySetAlong pause role event u.driven.chain w.driven.chain u.driven.table.items a.moment a.roles) a x
@@ -146,3 +147,16 @@ step_only {I} {K} {P} pause role event u v w a m b ends named writer reader h id
         only_trans (MaySetAlong pause role event u.driven.chain w.driven.chain u.driven.table.items a.moment a.roles) a m b first later
         (only_weaker (RousesAnEnd w.driven.chain a.moment a.roles) (MaySetAlong pause role event u.driven.chain w.driven.chain u.driven.table.items a.moment a.roles) m b (λ p e. inl (inr e))
         (subst (λ d. SetsOnly (RousesAnEnd d a.moment a.roles) m b) (sym same) (ends_as v.driven.chain a m b moment keeps (only writer reader))))
+
+-- The duty is done where the links stay as they were left, and want of memory is told.
+pub does_then : {I K P : Type 0} (input : I → Look) (output : K → Look) (role : ℕ) (event : Event) (u v w : LinkWorld I K P) → w.input ≡ v.input → w.output ≡ v.output → (LacksMemory v → LacksMemory w)
+    → DoesDuty input output role event u v → DoesDuty input output role event u w
+does_then {I} {K} {P} input output role event u v w same_input same_output keeps does works = (λ is must. written ((does works).0 is must), λ is must. was_read ((does works).1 is must))
+  where
+    written : WritesOnce output u v → WritesOnce output u w
+    written (inl once) = inl (ap (λ x. (output x).writes) same_output ∙ once)
+    written (inr lacks) = inr (keeps lacks)
+
+    was_read : ReadsOnce input u v → ReadsOnce input u w
+    was_read (inl once) = inl (ap (λ x. (input x).reads) same_input ∙ once)
+    was_read (inr lacks) = inr (keeps lacks)

@@ -8,7 +8,9 @@ use Rattle.ts_transform.specs.Flow.{ChainState, MustRead, MustWrite}
 use Rattle.ts_transform.specs.Driving.{ActsWithin, AreNamed, IsHandled, IsNamedIf, IsRousingOf, SetsOnly, unroused_at, works_at}
 use Rattle.ts_transform.specs.Cover.{IsRousing, MaySet}
 use Rattle.ts_transform.specs.Acting.{HasNothingToDo, IsStage}
-use Rattle.ts_transform.specs.Carrying.{IsCarried, MayBreak, StaysLinked}
+use Rattle.ts_link.specs.Counts.{one_more}
+use Rattle.ts_link.specs.Link.{Look}
+use Rattle.ts_transform.specs.Carrying.{IsCarried, LacksMemory, MayBreak, StaysLinked}
 use Rattle.ts_transform.specs.declared.continuation.StageContinuation.{StageContinuation}
 use Rattle.ts_transform.specs.declared.link_world.LinkWorld.{LinkWorld}
 use Rattle.ts_transform.specs.declared.link_world.TheConstants.{FIRST, READER, RETRY, WRITER}
@@ -46,6 +48,27 @@ pub record SetsForDuty {I K P : Type 0} (pause : P → ℕ) (v w : LinkWorld I K
   pub only : AreNamedAlong v a.roles
       → SetsOnly (IsForDuty pause w.driven.chain v.driven.table.items a.moment a.roles) a b
 
+-- the output was written to once, or memory lacked
+abbrev pub WritesOnce : {I K P : Type 0} → (K → Look) → LinkWorld I K P → LinkWorld I K P → Type 0
+WritesOnce output v w = ((output w.output).writes ≡ one_more (output v.output).writes) ⊎ LacksMemory w
+
+-- the input was read once, or memory lacked
+abbrev pub ReadsOnce : {I K P : Type 0} → (I → Look) → LinkWorld I K P → LinkWorld I K P → Type 0
+ReadsOnce input v w = ((input w.input).reads ≡ one_more (input v.input).reads) ⊎ LacksMemory w
+
+-- An end that must work does so at an event of its role at which it works.
+abbrev pub DoesDuty : {I K P : Type 0} → (I → Look) → (K → Look) → ℕ → Event → LinkWorld I K P → LinkWorld I K P
+    → Type 0
+DoesDuty input output role event v w = works_at event ≡ true
+    → (role ≡ WRITER → MustWrite v.driven.chain → WritesOnce output v w)
+    × (role ≡ READER → MustRead v.driven.chain → ReadsOnce input v w)
+
+-- An end handles an event: it does its duty where it works at it, and else nothing.
+pub record HandlesEnd {I K P : Type 0} (event : Event) (Duty : Type 0) (v w : LinkWorld I K P)
+    (a b : Context) : Type 0 where
+  pub does : works_at event ≡ true → Duty
+  pub sure : works_at event ≡ false → (w ≡ v) × (b ≡ a)
+
 -- An event of a role is one at which there is nothing to do: an end does not work at it, or the stage of that role has
 -- nothing to do.
 abbrev pub HasNothingAlong : {I K P : Type 0} → ℕ → Event → LinkWorld I K P → Type 0
@@ -55,9 +78,10 @@ HasNothingAlong role event w =
     × HasNothingToDo event w.driven.chain w.driven.table.items at)
 
 -- Where an event of a role is handled, before the ends are roused that must work: whether it runs may only fall, for a
--- cause, and not where there was nothing to do; and only such events are set.
-pub record WorksAlong {I K P : Type 0} (pause : P → ℕ) (role : ℕ) (event : Event) (v w : LinkWorld I K P)
-    (a b : Context) : Type 0 where
+-- cause, and not where there was nothing to do; an end does its duty; and only such events are set.
+pub record WorksAlong {I K P : Type 0} (pause : P → ℕ) (input : I → Look) (output : K → Look) (role : ℕ)
+    (event : Event) (v w : LinkWorld I K P) (a b : Context) : Type 0 where
+  pub does : DoesDuty input output role event v w
   pub loses : MayBreak v w a b
   pub live : StaysLinked v w a b
   pub started : w.writer ≡ None → v.writer ≡ None
@@ -66,18 +90,19 @@ pub record WorksAlong {I K P : Type 0} (pause : P → ℕ) (role : ℕ) (event :
   pub sure : HasNothingAlong role event v → (w.driven.running ≡ v.driven.running)
       × (w.driven.chain ≡ v.driven.chain) × (w.writer ≡ v.writer) × (w.reader ≡ v.reader)
 
--- A handler loses something for a cause alone, and nothing where there was nothing to do; while nothing is lost, only such
+-- A handler does the duty of its end, loses something for a cause alone, and nothing where there was nothing to do; while nothing is lost, only such
 -- events are set.
-pub record ActsAlong {I K P : Type 0} (pause : P → ℕ) (role : ℕ) (event : Event) (v w : LinkWorld I K P)
-    (a b : Context) : Type 0 where
+pub record ActsAlong {I K P : Type 0} (pause : P → ℕ) (input : I → Look) (output : K → Look) (role : ℕ)
+    (event : Event) (v w : LinkWorld I K P) (a b : Context) : Type 0 where
+  pub does : v.driven.running ≡ true → DoesDuty input output role event v w
   pub loses : MayBreak v w a b
   pub only : w.driven.running ≡ true → SetsOnly
       (MaySetAlong pause role event v.driven.chain w.driven.chain v.driven.table.items a.moment a.roles) a b
   pub sure : HasNothingAlong role event v → w.driven.running ≡ v.driven.running
 
 -- So it does where an event of a role is handled.
-abbrev pub HandlesAlong : {I K P : Type 0} → (P → ℕ) → ℕ → Event → LinkWorld I K P → LinkWorld I K P → Context
-    → Context → Type 0
-HandlesAlong pause role event v w a b = (before : List Pending)
+abbrev pub HandlesAlong : {I K P : Type 0} → (P → ℕ) → (I → Look) → (K → Look) → ℕ → Event → LinkWorld I K P
+    → LinkWorld I K P → Context → Context → Type 0
+HandlesAlong pause input output role event v w a b = (before : List Pending)
     → IsHandled before a.log.state.pending a.roles role event
-    → IsCarried v before a.roles → ActsAlong pause role event v w a b
+    → IsCarried v before a.roles → ActsAlong pause input output role event v w a b

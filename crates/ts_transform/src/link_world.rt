@@ -7,10 +7,10 @@ ghost use Rattle.ts_group.specs.Calls.{IsCalled};
 ghost use Rattle.ts_group.specs.Context.{IsSame};
 ghost use Rattle.ts_group.specs.Entries.{Grows};
 ghost use Rattle.ts_transform.specs.declared.link_world.TheConstants.{READER, WRITER};
-ghost use Rattle.ts_transform.specs.Flow.{IsFinished, aborted, compose, flow, fresh_stage};
-ghost use Rattle.ts_transform.specs.Driving.{ActsWithin, IsNamedIf, IsRousedIf, SetsOnly, works_at};
+ghost use Rattle.ts_transform.specs.Flow.{IsFinished, MustRead, MustWrite, aborted, compose, flow, fresh_stage};
+ghost use Rattle.ts_transform.specs.Driving.{ActsWithin, IsNamedIf, IsRousedIf, SetsOnly};
 ghost use Rattle.ts_transform.specs.Driven.{SameCourse};
-ghost use Rattle.ts_transform.specs.Along.{ActsAlong, HandlesAlong, RousesAnEnd, SetsForDuty, WorksAlong};
+ghost use Rattle.ts_transform.specs.Along.{ActsAlong, HandlesAlong, HandlesEnd, ReadsOnce, RousesAnEnd, SetsForDuty, WorksAlong, WritesOnce};
 ghost use Rattle.ts_transform.specs.Carrying.{AreEndsRoused, HandlesCarried, HandlesJoined, HandlesWaits, HasBegunAlong, HasLinkBegun, HasNoDuty, HasStepped, InputWaits, IsCarried, IsOfNobody, IsSameBut, KeepsCourse, KeepsReader, KeepsWriter, LacksMemory, Moves, OutputWaits, RetriesRead, RetriesWrite, RousesEnd, StaysJoined, StepsAlong, TriesAgain};
 
 use crate::chain::Chain;
@@ -190,6 +190,7 @@ impl<I: Link + Drop, K: Link + Drop, P: Transform + Drop> LinkWorld<I, K, P> {
         ensures retries { IsNamedIf cx.old.roles READER self.old.reader → InputWaits I.look self.old self.new
             → RetriesRead self.old self.new cx.old cx.new }
         ensures output { self.new.output ≡ self.old.output }
+        ensures does { MustRead self.old.driven.chain → ReadsOnce I.look self.old self.new }
     {
         if self.driven.chain.is_given() {
             return;
@@ -223,6 +224,7 @@ impl<I: Link + Drop, K: Link + Drop, P: Transform + Drop> LinkWorld<I, K, P> {
         ensures retries { IsNamedIf cx.old.roles WRITER self.old.writer → OutputWaits K.look self.old self.new
             → RetriesWrite self.old self.new cx.old cx.new }
         ensures input { self.new.input ≡ self.old.input }
+        ensures does { MustWrite self.old.driven.chain → WritesOnce K.look self.old self.new }
     {
         let Some(block) = self.driven.chain.out_block() else {
             return;
@@ -250,7 +252,8 @@ impl<I: Link + Drop, K: Link + Drop, P: Transform + Drop> LinkWorld<I, K, P> {
         ensures retries { IsNamedIf cx.old.roles WRITER self.old.writer → OutputWaits K.look self.old self.new
             → RetriesWrite self.old self.new cx.old cx.new }
         ensures input { self.new.input ≡ self.old.input }
-        ensures sure { works_at event ≡ false → (self.new ≡ self.old) × (cx.new ≡ cx.old) }
+        ensures duties { HandlesEnd event (MustWrite self.old.driven.chain → WritesOnce K.look self.old self.new)
+            self.old self.new cx.old cx.new }
     {
         if works(event) {
             unrouse(&mut self.writer);
@@ -268,7 +271,8 @@ impl<I: Link + Drop, K: Link + Drop, P: Transform + Drop> LinkWorld<I, K, P> {
         ensures retries { IsNamedIf cx.old.roles READER self.old.reader → InputWaits I.look self.old self.new
             → RetriesRead self.old self.new cx.old cx.new }
         ensures output { self.new.output ≡ self.old.output }
-        ensures sure { works_at event ≡ false → (self.new ≡ self.old) × (cx.new ≡ cx.old) }
+        ensures duties { HandlesEnd event (MustRead self.old.driven.chain → ReadsOnce I.look self.old self.new)
+            self.old self.new cx.old cx.new }
     {
         if works(event) {
             unrouse(&mut self.reader);
@@ -281,7 +285,7 @@ impl<I: Link + Drop, K: Link + Drop, P: Transform + Drop> LinkWorld<I, K, P> {
         requires turn { cx.old.log.state.held ≡ true }
         ensures moves { Moves P.rest I.tells K.tells I.look K.look self.old self.new }
         ensures joined { HandlesJoined role event self.old self.new cx.old cx.new }
-        ensures course { WorksAlong P.pause role event self.old self.new cx.old cx.new }
+        ensures course { WorksAlong P.pause I.look K.look role event self.old self.new cx.old cx.new }
         ensures within { ActsWithin 4 cx.old cx.new }
         ensures reads { IsNamedIf cx.old.roles READER self.old.reader → InputWaits I.look self.old self.new
             → RetriesRead self.old self.new cx.old cx.new }
@@ -343,7 +347,7 @@ impl<I: Link + Drop, K: Link + Drop, P: Transform + Drop> LinkWorld<I, K, P> {
         ensures steps { StepsAlong P.rest I.tells K.tells I.look K.look self.old self.new }
         ensures carried { HandlesCarried role event self.old self.new cx.old cx.new }
         ensures again { HandlesWaits role event I.look K.look self.old self.new cx.old cx.new }
-        ensures acts { HandlesAlong P.pause role event self.old self.new cx.old cx.new }
+        ensures acts { HandlesAlong P.pause I.look K.look role event self.old self.new cx.old cx.new }
         ensures within { ActsWithin 6 cx.old cx.new }
         ensures rests { HasNoDuty role self.old → (self.new ≡ self.old) × IsSame cx.old cx.new }
         ensures stops { self.old.driven.running ≡ true → LacksMemory self.new → self.new.aborted ≡ true }
@@ -460,7 +464,7 @@ impl<I: Link + Drop, K: Link + Drop, P: Transform + Drop> World for LinkWorld<I,
         ensures sound { (result ≡ Want.Nothing) × IsCarried self.new cx.new.log.state.pending cx.new.roles }
         ensures steps { HasStepped P.rest I.tells K.tells I.look K.look self.old self.new }
         ensures again { TriesAgain I.look K.look self.old self.new cx.old cx.new }
-        ensures acts { ActsAlong P.pause role event self.old self.new cx.old cx.new }
+        ensures acts { ActsAlong P.pause I.look K.look role event self.old self.new cx.old cx.new }
         ensures within { ActsWithin 6 cx.old cx.new }
         ensures rests { (self.old.driven.running ≡ false) ⊎ IsOfNobody role self.old
             → (self.new ≡ self.old) × IsSame cx.old cx.new }

@@ -238,3 +238,25 @@ pub returns-in-Err-clause-duty : goal.returns-in-Err-clause-duty
 returns-in-Err-clause-duty g c =
     let self = c.args.self.now in
     duty_none g.P.Transform.pause self (record self { input = c.pull.new.link; driven = record self.driven { chain = c.pull.new.self; running = false; lost = Some L.NoMemory } }) c.args.cx.now c.requires.turn
+
+-- It reads once where it must.
+pub returns-then-is_given-clause-does : goal.returns-then-is_given-clause-does
+returns-then-is_given-clause-does g c = λ must. absurd (let wrong : false ≡ true = sym must.0 ∙ sym c.is_given.ensures ∙ c.if-is_given.true in cc)
+
+pub returns-then-not-has_room-clause-does : goal.returns-then-not-has_room-clause-does
+returns-then-not-has_room-clause-does g c = λ must. absurd (let wrong : false ≡ true = sym c.if-not-has_room.true ∙ c.has_room.ensures.1 must.1 in cc)
+
+pub returns-in-Ok-Some-clause-does : goal.returns-in-Ok-Some-clause-does
+returns-in-Ok-Some-clause-does g c = λ must. inl c.in-Ok-Some.ensures.pulled.pulls.once.reads
+
+pub returns-in-Ok-End-clause-does : goal.returns-in-Ok-End-clause-does
+returns-in-Ok-End-clause-does g c = λ must. inl c.in-Ok-End.ensures.pulled.pulls.once.reads
+
+pub returns-in-Ok-Again-clause-does : goal.returns-in-Ok-Again-clause-does
+returns-in-Ok-Again-clause-does g c = λ must. inl (ap (λ x. (g.I.Link.look x).reads) c.rouse_reader.ensures.same.input ∙ c.in-Ok-Again.ensures.pulled.pulls.once.reads)
+
+pub returns-in-Ok-Failed-clause-does : goal.returns-in-Ok-Failed-clause-does
+returns-in-Ok-Failed-clause-does g c = λ must. inl (ap (λ x. (g.I.Link.look x).reads) c.abort.ensures.links.0 ∙ c.in-Ok-Failed.ensures.pulled.pulls.once.reads)
+
+pub returns-in-Err-clause-does : goal.returns-in-Err-clause-does
+returns-in-Err-clause-does g c = λ must. inr (refl, refl)

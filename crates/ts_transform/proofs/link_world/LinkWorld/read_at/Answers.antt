@@ -62,5 +62,15 @@ returns-then-works-clause-duty g c =
 pub returns-else-works-clause-duty : goal.returns-else-works-clause-duty
 returns-else-works-clause-duty g c = duty_none g.P.Transform.pause c.args.self.now c.args.self.now c.args.cx.now c.requires.turn
 
-pub returns-then-works-clause-sure : goal.returns-then-works-clause-sure
-returns-then-works-clause-sure g c = λ quiet. absurd (let wrong : true ≡ false = sym c.if-works.true ∙ c.works.ensures ∙ quiet in cc)
+-- It does its duty where it works, and else nothing.
+pub returns-then-works-clause-duties : goal.returns-then-works-clause-duties
+returns-then-works-clause-duties g c = record {
+  does = λ works. c.read.ensures.does;
+  sure = λ quiet. absurd (let wrong : true ≡ false = sym c.if-works.true ∙ c.works.ensures ∙ quiet in cc);
+}
+
+pub returns-else-works-clause-duties : goal.returns-else-works-clause-duties
+returns-else-works-clause-duties g c = record {
+  does = λ works. absurd (let wrong : false ≡ true = sym c.if-works.false ∙ c.works.ensures ∙ works in cc);
+  sure = λ quiet. (refl, refl);
+}

@@ -4,7 +4,7 @@ use Rattle.ts_transform.specs.Carrying.{IsJoinedWhile, LacksMemory, MayBreak, St
 use Rattle.ts_transform.proofs.Carrying.{moves_aborted, moves_as, moves_lacks, moves_none}
 use Rattle.ts_transform.proofs.Joined.{again_reads, again_writes, aborted_quiet, joined_aborted, joined_as, break_after, lose_lacks, loses_runs, named_of, rests_then}
 use Rattle.ts_transform.proofs.Kept.{acts_none, acts_then}
-use Rattle.ts_transform.proofs.Along.{step_only, step_sure}
+use Rattle.ts_transform.proofs.Along.{does_then, step_only, step_sure}
 use Rattle.ts_transform.proofs.Setting.{of_stages_named, only_none}
 use Rattle.ts_transform.specs.declared.link_world.TheConstants.{FIRST, READER, WRITER}
 use Rattle.ts_transform.proofs.link_world.LinkWorld.step.Goals as goal
@@ -134,6 +134,7 @@ returns-else-lacks_memory-clause-again g c = λ before handled was.
 -- It goes on as it did, or is lost for a cause.
 pub returns-then-not-self-clause-acts : goal.returns-then-not-self-clause-acts
 returns-then-not-self-clause-acts g c = λ before handled was. record {
+  does = λ runs. absurd (let wrong : false ≡ true = sym c.if-not-self.true ∙ runs in cc);
   loses = inl (refl, refl);
   only = λ runs. only_none _ c.args.cx.now;
   sure = λ nothing. refl;
@@ -151,10 +152,12 @@ returns-else-lacks_memory-clause-acts g c = λ before handled was.
     let joined = was.joined c.if-not-self.false in
     let idle = c.rouse_ends.ensures.idle in
     record {
+      does = λ runs. does_then g.I.Link.look g.K.Link.look c.args.role c.args.event self mid now c.rouse_ends.ensures.same.input c.rouse_ends.ensures.same.output
+          (λ lacks. subst LacksMemory (sym (idle (inl lacks.0)).0) lacks) c.work.ensures.course.does;
       loses = break_after self mid now cx then last ends c.work.ensures.course.loses c.work.ensures.course.live idle c.rouse_ends.ensures.course.loses;
       only = λ runs.
           let joined_then = c.work.ensures.joined before handled was.joined (loses_runs mid.driven now.driven last c.rouse_ends.ensures.course.loses runs) in
-          step_only g.P.Transform.pause c.args.role c.args.event self mid now cx then last ends
+          step_only g.P.Transform.pause g.I.Link.look g.K.Link.look c.args.role c.args.event self mid now cx then last ends
           (record {
             stages = of_stages_named before cx.roles FIRST self.driven.table.items joined.stages.of_stages;
             writer = named_of before cx.roles WRITER self.writer joined.of_writer;
@@ -176,6 +179,9 @@ returns-then-lacks_memory-clause-acts g c = λ before handled was.
     let broke : MayBreak self mid c.args.cx.now cx =
     break_after self c.work.new.self mid c.args.cx.now c.work.new.cx cx ends c.work.ensures.course.loses c.work.ensures.course.live c.rouse_ends.ensures.idle c.rouse_ends.ensures.course.loses in
     record {
+      does = λ runs. does_then g.I.Link.look g.K.Link.look c.args.role c.args.event self c.work.new.self now (c.abort.ensures.links.0 ∙ c.rouse_ends.ensures.same.input)
+          (c.abort.ensures.links.1 ∙ c.rouse_ends.ensures.same.output)
+          (λ lacks. let kept = c.lacks_memory.ensures.lacks c.if-lacks_memory.true in (c.abort.ensures.course.running ∙ kept.0, c.abort.ensures.course.lost ∙ kept.1)) c.work.ensures.course.does;
       loses = lose_lacks self.driven mid.driven now.driven cx (c.lacks_memory.ensures.lacks c.if-lacks_memory.true).1 c.abort.ensures.course.running c.abort.ensures.course.lost broke;
       only = λ runs. absurd (let wrong : true ≡ false = sym runs ∙ c.abort.ensures.course.running ∙ stopped in cc);
       sure = λ nothing. c.abort.ensures.course.running ∙ step_sure self c.work.new.self mid c.work.new.cx cx ends c.rouse_ends.ensures.idle (c.work.ensures.course.sure nothing);

@@ -34,6 +34,7 @@ returns-else-role-eq-READER-clause-course g c =
     let acted = c.handle-told in
     let cx = c.args.cx.now in
     record {
+      does = λ works. (λ is. absurd (c.if-role-eq-WRITER.false is), λ is. absurd (c.if-role-eq-READER.false is));
       loses = lose_weaker self.driven acted.new.self acted.new.cx (λ all. all.stages) (may_lose acted.result self.driven acted.new.self cx acted.new.cx acted.ensures.loses);
       live = linked_stage self (record self { driven = acted.new.self }) cx acted.new.cx refl refl acted.ensures.rest.live;
       started = λ none. none;
@@ -49,11 +50,12 @@ returns-then-role-eq-WRITER-clause-course g c =
     let course = acted.ensures.course in
     let is : c.args.role ≡ 1 = c.if-role-eq-WRITER.true in
     record {
+      does = λ works. (λ w must. acted.ensures.duties.does works must, λ r. let other : c.args.role ≡ 2 = r in absurd (omega (arith, is, other)));
       loses = course.loses;
       live = inr (course.keeps, course.live);
       started = course.started;
       only = λ named. along_duty g.P.Transform.pause c.args.role c.args.event self.driven.chain acted.new.self.driven.chain self.driven.table.items c.args.cx.now acted.new.cx (acted.ensures.duty.only named);
-      sure = sure_end c.args.role c.args.event self acted.new.self (omega (arith, is)) (λ quiet. (acted.ensures.sure quiet).0);
+      sure = sure_end c.args.role c.args.event self acted.new.self (omega (arith, is)) (λ quiet. (acted.ensures.duties.sure quiet).0);
     }
 
 pub returns-then-role-eq-WRITER-clause-within : goal.returns-then-role-eq-WRITER-clause-within
@@ -67,11 +69,12 @@ returns-then-role-eq-READER-clause-course g c =
     let course = acted.ensures.course in
     let is : c.args.role ≡ 2 = c.if-role-eq-READER.true in
     record {
+      does = λ works. (λ w. let other : c.args.role ≡ 1 = w in absurd (omega (arith, is, other)), λ r must. acted.ensures.duties.does works must);
       loses = course.loses;
       live = inr (course.keeps, course.live);
       started = course.started;
       only = λ named. along_duty g.P.Transform.pause c.args.role c.args.event self.driven.chain acted.new.self.driven.chain self.driven.table.items c.args.cx.now acted.new.cx (acted.ensures.duty.only named);
-      sure = sure_end c.args.role c.args.event self acted.new.self (omega (arith, is)) (λ quiet. (acted.ensures.sure quiet).0);
+      sure = sure_end c.args.role c.args.event self acted.new.self (omega (arith, is)) (λ quiet. (acted.ensures.duties.sure quiet).0);
     }
 
 pub returns-then-role-eq-READER-clause-within : goal.returns-then-role-eq-READER-clause-within

@@ -146,3 +146,19 @@ pub returns-in-NoMemory-clause-duty : goal.returns-in-NoMemory-clause-duty
 returns-in-NoMemory-clause-duty g c =
     let self = c.args.self.now in
     duty_none g.P.Transform.pause self (record self { output = c.write.new.self; driven = record self.driven { running = false; lost = Some L.NoMemory } }) c.args.cx.now c.requires.turn
+
+-- It writes once where it must.
+pub returns-in_default-clause-does : goal.returns-in_default-clause-does
+returns-in_default-clause-does g c = λ must. absurd (must c.in_default.ensures)
+
+pub returns-in-Took-clause-does : goal.returns-in-Took-clause-does
+returns-in-Took-clause-does g c = λ must. inl c.in-Took.ensures.writes.once.writes
+
+pub returns-in-Again-clause-does : goal.returns-in-Again-clause-does
+returns-in-Again-clause-does g c = λ must. inl (ap (λ x. (g.K.Link.look x).writes) c.rouse_writer.ensures.same.output ∙ c.in-Again.ensures.writes.once.writes)
+
+pub returns-in-Failed-clause-does : goal.returns-in-Failed-clause-does
+returns-in-Failed-clause-does g c = λ must. inl (ap (λ x. (g.K.Link.look x).writes) c.abort.ensures.links.1 ∙ c.in-Failed.ensures.writes.once.writes)
+
+pub returns-in-NoMemory-clause-does : goal.returns-in-NoMemory-clause-does
+returns-in-NoMemory-clause-does g c = λ must. inr (refl, refl)
