@@ -21,9 +21,9 @@ use Rattle.ts_transform.specs.Cover.{IsDriven}
 use Rattle.ts_transform.specs.declared.loss.Loss.TheVariants.{NoMemory}
 use Rattle.ts_transform.specs.Driven.{HasBegun, Loses, MayLose, HasAllLive}
 use Rattle.ts_transform.specs.Loss.{IsCauseOf, loss_of, making_loss}
-use Rattle.ts_transform.specs.Carrying.{HasBegunAlong, AreEndsRoused, FallsTold, AreLinked, HasNoDuty, IsCarried, IsJoined, IsOfNobody, MayBreak, RetriesRead, RetriesWrite, AreLiveAlong, KeepsCourse, StaysLinked}
+use Rattle.ts_transform.specs.Carrying.{HasBegunAlong, AreEndsRoused, FallsTold, AreLinked, HasNoDuty, IsCarried, IsJoined, IsOfNobody, MayBreak, RetriesOnce, RetriesRead, RetriesWrite, AreLiveAlong, KeepsCourse, StaysLinked}
 use Rattle.ts_transform.specs.declared.link_world.LinkWorld.{LinkWorld}
-use Rattle.ts_transform.specs.declared.link_world.TheConstants.{RETRY}
+use Rattle.ts_transform.specs.declared.link_world.TheConstants.{READER, RETRY, WRITER}
 use Rattle.ts_transform.specs.Acting.{KeepsLive}
 use Rattle.ts_transform.proofs.Handled.{begun_other, begun_quiet, quiet_if, stays_if, unroused_if}
 use Rattle.ts_transform.proofs.Driving.{may_lose}
@@ -275,21 +275,21 @@ end_rests true slot Duty has rouses = inr (rouses (has refl))
 
 -- A step found the input not ready: its reader tries again later, and nobody else is roused.
 pub again_reads : {I K P : Type 0} (v m n : LinkWorld I K P) (a b c : Context) → AreEndsRoused v.driven.chain v.writer v.reader → RetriesRead v m a b
-    → ((m.driven.running ≡ false) ⊎ AreEndsRoused m.driven.chain m.writer m.reader → (n ≡ m) × (c ≡ b)) → m.driven.running ≡ true → IsRousedIf n.reader × SetsOnly (IsRousingOf 2 RETRY a.moment a.roles) a c
+    → ((m.driven.running ≡ false) ⊎ AreEndsRoused m.driven.chain m.writer m.reader → (n ≡ m) × (c ≡ b)) → m.driven.running ≡ true → IsRousedIf n.reader × RetriesOnce READER a c
 again_reads v m n a b c ends h idle runs =
     let roused : IsRousedIf m.reader = h.roused runs in
     let both : AreEndsRoused m.driven.chain m.writer m.reader = record { writes = λ must. subst IsRousedIf (sym h.writer) (ends.writes (h.chain must)); reads = λ must. roused } in
     let same = idle (inr both) in
-    (subst (λ x. IsRousedIf x.reader) (sym same.0) roused, subst (λ x. SetsOnly (IsRousingOf 2 RETRY a.moment a.roles) a x) (sym same.1) h.only)
+    (subst (λ x. IsRousedIf x.reader) (sym same.0) roused, subst (λ x. RetriesOnce READER a x) (sym same.1) h.only)
 
 -- So does the writer, where the output was not ready.
 pub again_writes : {I K P : Type 0} (v m n : LinkWorld I K P) (a b c : Context) → AreEndsRoused v.driven.chain v.writer v.reader → RetriesWrite v m a b
-    → ((m.driven.running ≡ false) ⊎ AreEndsRoused m.driven.chain m.writer m.reader → (n ≡ m) × (c ≡ b)) → m.driven.running ≡ true → IsRousedIf n.writer × SetsOnly (IsRousingOf 1 RETRY a.moment a.roles) a c
+    → ((m.driven.running ≡ false) ⊎ AreEndsRoused m.driven.chain m.writer m.reader → (n ≡ m) × (c ≡ b)) → m.driven.running ≡ true → IsRousedIf n.writer × RetriesOnce WRITER a c
 again_writes v m n a b c ends h idle runs =
     let roused : IsRousedIf m.writer = h.roused runs in
     let both : AreEndsRoused m.driven.chain m.writer m.reader = record { writes = λ must. roused; reads = λ must. subst IsRousedIf (sym h.reader) (ends.reads (h.chain must)) } in
     let same = idle (inr both) in
-    (subst (λ x. IsRousedIf x.writer) (sym same.0) roused, subst (λ x. SetsOnly (IsRousingOf 1 RETRY a.moment a.roles) a x) (sym same.1) h.only)
+    (subst (λ x. IsRousedIf x.writer) (sym same.0) roused, subst (λ x. RetriesOnce WRITER a x) (sym same.1) h.only)
 
 -- what follows while it runs
 pub while_runs : {A E : Type 0} (b : Bool) → b ≡ true → (E → A) → (b ≡ false) ⊎ E → A

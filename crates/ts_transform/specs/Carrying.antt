@@ -12,7 +12,7 @@ use Rattle.ts_link.specs.Counts.{Rose}
 use Rattle.ts_link.specs.Link.{Look}
 use Rattle.ts_transform.specs.Stage.{MOST_WAITING}
 use Rattle.ts_transform.specs.Flow.{ChainState, EndsInOrder, MustRead, MustWrite, OnlyFirstWorks, flow}
-use Rattle.ts_transform.specs.Driving.{HasLiveIf, IsHandled, IsNamedIf, IsOfStageIf, IsRousedIf, IsRousingOf, Keeps, SetsOnly}
+use Rattle.ts_transform.specs.Driving.{HasLiveIf, IsHandled, IsNamedIf, IsOfStageIf, IsRousedIf, IsRousingOf, Keeps, SetsFew, SetsOnly}
 use Rattle.ts_transform.specs.Cover.{IsDriven}
 use Rattle.ts_transform.specs.Driven.{HasAllLive, IsOfNoStage, MayLose}
 use Rattle.ts_transform.specs.declared.continuation.StageContinuation.{StageContinuation}
@@ -203,19 +203,23 @@ InputWaits input v w = (input w.input).waits ≢ (input v.input).waits
 abbrev pub OutputWaits : {I K P : Type 0} → (K → Look) → LinkWorld I K P → LinkWorld I K P → Type 0
 OutputWaits output v w = (output w.output).waits ≢ (output v.output).waits
 
+-- at most one event is set, which rouses the continuation of a role after 10 milliseconds
+abbrev pub RetriesOnce : ℕ → Context → Context → Type 0
+RetriesOnce role a b = SetsOnly (IsRousingOf role RETRY a.moment a.roles) a b × SetsFew 1 a b
+
 -- So the chain is as it was; of its ends only the one that found its link not ready changed; that is roused after 10
 -- milliseconds, unless this was lost, and nothing else is set.
 pub record RetriesRead {I K P : Type 0} (v w : LinkWorld I K P) (a b : Context) : Type 0 where
   pub chain : MustWrite w.driven.chain → MustWrite v.driven.chain
   pub writer : w.writer ≡ v.writer
   pub roused : w.driven.running ≡ true → IsRousedIf w.reader
-  pub only : SetsOnly (IsRousingOf READER RETRY a.moment a.roles) a b
+  pub only : RetriesOnce READER a b
 
 pub record RetriesWrite {I K P : Type 0} (v w : LinkWorld I K P) (a b : Context) : Type 0 where
   pub chain : MustRead w.driven.chain → MustRead v.driven.chain
   pub reader : w.reader ≡ v.reader
   pub roused : w.driven.running ≡ true → IsRousedIf w.writer
-  pub only : SetsOnly (IsRousingOf WRITER RETRY a.moment a.roles) a b
+  pub only : RetriesOnce WRITER a b
 
 -- The chain and the links are as they were; and where it had not begun, it runs from then on, or tells why it was lost.
 pub record HasLinkBegun {I K P : Type 0} (v w : LinkWorld I K P) : Type 0 where
@@ -285,9 +289,9 @@ pub record MakesTurns (turns : ℕ) (old new : Context) : Type 0 where
 pub record TriesAgain {I K P : Type 0} (input : I → Look) (output : K → Look) (v w : LinkWorld I K P)
     (a b : Context) : Type 0 where
   pub reads : InputWaits input v w → w.driven.running ≡ true → IsRousedIf w.reader
-      × SetsOnly (IsRousingOf READER RETRY a.moment a.roles) a b
+      × RetriesOnce READER a b
   pub writes : OutputWaits output v w → w.driven.running ≡ true → IsRousedIf w.writer
-      × SetsOnly (IsRousingOf WRITER RETRY a.moment a.roles) a b
+      × RetriesOnce WRITER a b
 
 -- It does so where an event of a role is handled.
 abbrev pub HandlesWaits : {I K P : Type 0} → ℕ → Event → (I → Look) → (K → Look) → LinkWorld I K P

@@ -90,7 +90,7 @@ returns-in-Ok-Again-clause-retries g c = λ named waited.
       chain = λ some none. some (wait ∙ none);
       writer = c.rouse_reader.ensures.kept;
       roused = λ runs. c.rouse_reader.ensures.roused runs refl;
-      only = c.rouse_reader.ensures.rouses.only named;
+      only = (c.rouse_reader.ensures.rouses.only named, c.rouse_reader.ensures.within.few);
     }
 
 -- It failed.

@@ -43,7 +43,7 @@ returns-in-Again-clause-retries g c = λ named waited.
       chain = λ must. subst MustRead same.chain must;
       reader = c.rouse_writer.ensures.kept;
       roused = λ runs. c.rouse_writer.ensures.roused runs refl;
-      only = c.rouse_writer.ensures.rouses.only named;
+      only = (c.rouse_writer.ensures.rouses.only named, c.rouse_writer.ensures.within.few);
     }
 
 -- It failed.
