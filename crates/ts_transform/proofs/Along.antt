@@ -128,12 +128,12 @@ pub step_sure : {I K P : Type 0} (u v w : LinkWorld I K P) (m b : Context) → A
 step_sure u v w m b ends idle (running, chain, writer, reader) = ap (λ x. x.driven.running) (idle (inr (ends_moved u v chain writer reader ends))).0 ∙ running
 
 -- And what both set is what may be set.
-pub step_only : {I K P : Type 0} (pause : P → ℕ) (input : I → Look) (output : K → Look) (role : ℕ) (event : Event) (u v w : LinkWorld I K P) (a m b : Context) → AreEndsRoused u.driven.chain u.writer u.reader → AreNamedAlong u a.roles
-    → IsNamedIf m.roles WRITER v.writer → IsNamedIf m.roles READER v.reader → WorksAlong pause input output role event u v a m
+pub step_only : {I K P : Type 0} (rest : P → List ℕ → List ℕ) (pause : P → ℕ) (input : I → Look) (output : K → Look) (role : ℕ) (event : Event) (u v w : LinkWorld I K P) (a m b : Context) → AreEndsRoused u.driven.chain u.writer u.reader → AreNamedAlong u a.roles
+    → IsNamedIf m.roles WRITER v.writer → IsNamedIf m.roles READER v.reader → WorksAlong rest pause input output role event u v a m
     → ((v.driven.running ≡ false) ⊎ AreEndsRoused v.driven.chain v.writer v.reader → (w ≡ v) × (b ≡ m)) → m.moment ≡ a.moment → Keeps m b
     → (IsNamedIf m.roles WRITER v.writer → IsNamedIf m.roles READER v.reader → SetsOnly (RousesAnEnd v.driven.chain m.moment m.roles) m b) → w.driven.chain ≡ v.driven.chain
     → SetsOnly (MaySetAlong pause role event u.driven.chain w.driven.chain u.driven.table.items a.moment a.roles) a b
-step_only {I} {K} {P} pause input output role event u v w a m b ends named writer reader h idle moment later only same = by_live h.live
+step_only {I} {K} {P} rest pause input output role event u v w a m b ends named writer reader h idle moment later only same = by_live h.live
   where
     Such : Context → Type 0
     Such x = SetsOnly (MaySetAlong pause role event u.driven.chain w.driven.chain u.driven.table.items a.moment a.roles) a x

@@ -5,9 +5,11 @@ use Rattle.ts_journal.specs.declared.entry.Pending.{Pending}
 use Rattle.ts_group.specs.declared.action.Named.{Named}
 use Rattle.ts_group.specs.Context.{Context}
 use Rattle.ts_transform.specs.Flow.{ChainState, MustRead, MustWrite}
-use Rattle.ts_transform.specs.Driving.{ActsWithin, AreNamed, IsHandled, IsNamedIf, IsRousingOf, SetsOnly, unroused_at, works_at}
+use Rattle.ts_transform.specs.Driving.{ActsWithin, AreNamed, IsHandled, IsNamedIf, IsRousingOf, Keeps, SetsOnly, unroused_at, works_at}
 use Rattle.ts_transform.specs.Cover.{IsRousing, MaySet}
 use Rattle.ts_transform.specs.Acting.{HasNothingToDo, IsStage}
+use Rattle.ts_transform.specs.Driven.{Acts}
+use Rattle.ts_transform.specs.declared.driven.DrivenChain.{DrivenChain}
 use Rattle.ts_link.specs.Counts.{one_more}
 use Rattle.ts_link.specs.Link.{Look}
 use Rattle.ts_transform.specs.Carrying.{IsCarried, LacksMemory, MayBreak, StaysLinked}
@@ -79,9 +81,11 @@ HasNothingAlong role event w =
 
 -- Where an event of a role is handled, before the ends are roused that must work: whether it runs may only fall, for a
 -- cause, and not where there was nothing to do; an end does its duty; and only such events are set.
-pub record WorksAlong {I K P : Type 0} (pause : P → ℕ) (input : I → Look) (output : K → Look) (role : ℕ)
-    (event : Event) (v w : LinkWorld I K P) (a b : Context) : Type 0 where
+pub record WorksAlong {I K P : Type 0} (rest : P → List ℕ → List ℕ) (pause : P → ℕ) (input : I → Look)
+    (output : K → Look) (role : ℕ) (event : Event) (v w : LinkWorld I K P) (a b : Context) : Type 0 where
   pub does : DoesDuty input output role event v w
+  pub stage : (at : ℕ) → role ≡ FIRST + at → IsStage v.driven.chain v.driven.table.items at
+      → Acts rest pause at event v.driven w.driven a b
   pub loses : MayBreak v w a b
   pub live : StaysLinked v w a b
   pub started : w.writer ≡ None → v.writer ≡ None
@@ -90,19 +94,32 @@ pub record WorksAlong {I K P : Type 0} (pause : P → ℕ) (input : I → Look) 
   pub sure : HasNothingAlong role event v → (w.driven.running ≡ v.driven.running)
       × (w.driven.chain ≡ v.driven.chain) × (w.writer ≡ v.writer) × (w.reader ≡ v.reader)
 
--- A handler does the duty of its end, loses something for a cause alone, and nothing where there was nothing to do; while nothing is lost, only such
--- events are set.
-pub record ActsAlong {I K P : Type 0} (pause : P → ℕ) (input : I → Look) (output : K → Look) (role : ℕ)
-    (event : Event) (v w : LinkWorld I K P) (a b : Context) : Type 0 where
+-- The stage at a place acted, and then the ends were roused: what it did stays so, but that its chain is aborted where
+-- memory lacked.
+pub record HasActed {I K P : Type 0} (rest : P → List ℕ → List ℕ) (pause : P → ℕ) (at : ℕ) (event : Event)
+    (v w : LinkWorld I K P) (a b : Context) : Type 0 where
+  pub acted : DrivenChain P
+  pub between : Context
+  pub acts : Acts rest pause at event v.driven acted a between
+  pub keeps : Keeps between b
+  pub table : w.driven.table.items ≡ acted.table.items
+  pub chain : LacksMemory w ⊎ (w.driven.chain ≡ acted.chain)
+
+-- A handler does the duty of its end, and its stage acts as any driven stage does; it loses something for a cause alone,
+-- and nothing where there was nothing to do; while nothing is lost, only such events are set.
+pub record ActsAlong {I K P : Type 0} (rest : P → List ℕ → List ℕ) (pause : P → ℕ) (input : I → Look)
+    (output : K → Look) (role : ℕ) (event : Event) (v w : LinkWorld I K P) (a b : Context) : Type 0 where
   pub does : v.driven.running ≡ true → DoesDuty input output role event v w
+  pub stage : v.driven.running ≡ true → (at : ℕ) → role ≡ FIRST + at
+      → IsStage v.driven.chain v.driven.table.items at → HasActed rest pause at event v w a b
   pub loses : MayBreak v w a b
   pub only : w.driven.running ≡ true → SetsOnly
       (MaySetAlong pause role event v.driven.chain w.driven.chain v.driven.table.items a.moment a.roles) a b
   pub sure : HasNothingAlong role event v → w.driven.running ≡ v.driven.running
 
 -- So it does where an event of a role is handled.
-abbrev pub HandlesAlong : {I K P : Type 0} → (P → ℕ) → (I → Look) → (K → Look) → ℕ → Event → LinkWorld I K P
+abbrev pub HandlesAlong : {I K P : Type 0} → (P → List ℕ → List ℕ) → (P → ℕ) → (I → Look) → (K → Look) → ℕ → Event → LinkWorld I K P
     → LinkWorld I K P → Context → Context → Type 0
-HandlesAlong pause input output role event v w a b = (before : List Pending)
+HandlesAlong rest pause input output role event v w a b = (before : List Pending)
     → IsHandled before a.log.state.pending a.roles role event
-    → IsCarried v before a.roles → ActsAlong pause input output role event v w a b
+    → IsCarried v before a.roles → ActsAlong rest pause input output role event v w a b

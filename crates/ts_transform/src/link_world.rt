@@ -285,7 +285,7 @@ impl<I: Link + Drop, K: Link + Drop, P: Transform + Drop> LinkWorld<I, K, P> {
         requires turn { cx.old.log.state.held ≡ true }
         ensures moves { Moves P.rest I.tells K.tells I.look K.look self.old self.new }
         ensures joined { HandlesJoined role event self.old self.new cx.old cx.new }
-        ensures course { WorksAlong P.pause I.look K.look role event self.old self.new cx.old cx.new }
+        ensures course { WorksAlong P.rest P.pause I.look K.look role event self.old self.new cx.old cx.new }
         ensures within { ActsWithin 4 cx.old cx.new }
         ensures reads { IsNamedIf cx.old.roles READER self.old.reader → InputWaits I.look self.old self.new
             → RetriesRead self.old self.new cx.old cx.new }
@@ -347,7 +347,7 @@ impl<I: Link + Drop, K: Link + Drop, P: Transform + Drop> LinkWorld<I, K, P> {
         ensures steps { StepsAlong P.rest I.tells K.tells I.look K.look self.old self.new }
         ensures carried { HandlesCarried role event self.old self.new cx.old cx.new }
         ensures again { HandlesWaits role event I.look K.look self.old self.new cx.old cx.new }
-        ensures acts { HandlesAlong P.pause I.look K.look role event self.old self.new cx.old cx.new }
+        ensures acts { HandlesAlong P.rest P.pause I.look K.look role event self.old self.new cx.old cx.new }
         ensures within { ActsWithin 6 cx.old cx.new }
         ensures rests { HasNoDuty role self.old → (self.new ≡ self.old) × IsSame cx.old cx.new }
         ensures stops { self.old.driven.running ≡ true → LacksMemory self.new → self.new.aborted ≡ true }
@@ -464,7 +464,7 @@ impl<I: Link + Drop, K: Link + Drop, P: Transform + Drop> World for LinkWorld<I,
         ensures sound { (result ≡ Want.Nothing) × IsCarried self.new cx.new.log.state.pending cx.new.roles }
         ensures steps { HasStepped P.rest I.tells K.tells I.look K.look self.old self.new }
         ensures again { TriesAgain I.look K.look self.old self.new cx.old cx.new }
-        ensures acts { ActsAlong P.pause I.look K.look role event self.old self.new cx.old cx.new }
+        ensures acts { ActsAlong P.rest P.pause I.look K.look role event self.old self.new cx.old cx.new }
         ensures within { ActsWithin 6 cx.old cx.new }
         ensures rests { (self.old.driven.running ≡ false) ⊎ IsOfNobody role self.old
             → (self.new ≡ self.old) × IsSame cx.old cx.new }

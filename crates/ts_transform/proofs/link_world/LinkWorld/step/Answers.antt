@@ -1,4 +1,4 @@
-use Rattle.std.proofs.Common.{◌≡◌, true, false, arith, refl, sym, ap, subst, inl, ◌∙◌}
+use Rattle.std.proofs.Common.{◌≡◌, true, false, arith, refl, sym, ap, subst, inl, inr, ◌∙◌}
 use Rattle.ts_transform.specs.Driving.{IsRousedIf}
 use Rattle.ts_transform.specs.Carrying.{IsJoinedWhile, LacksMemory, MayBreak, StepsAlong}
 use Rattle.ts_transform.proofs.Carrying.{moves_aborted, moves_as, moves_lacks, moves_none}
@@ -134,6 +134,7 @@ returns-else-lacks_memory-clause-again g c = λ before handled was.
 -- It goes on as it did, or is lost for a cause.
 pub returns-then-not-self-clause-acts : goal.returns-then-not-self-clause-acts
 returns-then-not-self-clause-acts g c = λ before handled was. record {
+  stage = λ runs. absurd (let wrong : false ≡ true = sym c.if-not-self.true ∙ runs in cc);
   does = λ runs. absurd (let wrong : false ≡ true = sym c.if-not-self.true ∙ runs in cc);
   loses = inl (refl, refl);
   only = λ runs. only_none _ c.args.cx.now;
@@ -152,12 +153,20 @@ returns-else-lacks_memory-clause-acts g c = λ before handled was.
     let joined = was.joined c.if-not-self.false in
     let idle = c.rouse_ends.ensures.idle in
     record {
+      stage = λ runs at is stage. record {
+        acted = mid.driven;
+        between = then;
+        acts = c.work.ensures.course.stage at is stage;
+        keeps = c.rouse_ends.ensures.course.keeps;
+        table = c.rouse_ends.ensures.same.table;
+        chain = inr c.rouse_ends.ensures.same.chain;
+      };
       does = λ runs. does_then g.I.Link.look g.K.Link.look c.args.role c.args.event self mid now c.rouse_ends.ensures.same.input c.rouse_ends.ensures.same.output
           (λ lacks. subst LacksMemory (sym (idle (inl lacks.0)).0) lacks) c.work.ensures.course.does;
       loses = break_after self mid now cx then last ends c.work.ensures.course.loses c.work.ensures.course.live idle c.rouse_ends.ensures.course.loses;
       only = λ runs.
           let joined_then = c.work.ensures.joined before handled was.joined (loses_runs mid.driven now.driven last c.rouse_ends.ensures.course.loses runs) in
-          step_only g.P.Transform.pause g.I.Link.look g.K.Link.look c.args.role c.args.event self mid now cx then last ends
+          step_only g.P.Transform.rest g.P.Transform.pause g.I.Link.look g.K.Link.look c.args.role c.args.event self mid now cx then last ends
           (record {
             stages = of_stages_named before cx.roles FIRST self.driven.table.items joined.stages.of_stages;
             writer = named_of before cx.roles WRITER self.writer joined.of_writer;
@@ -179,6 +188,14 @@ returns-then-lacks_memory-clause-acts g c = λ before handled was.
     let broke : MayBreak self mid c.args.cx.now cx =
     break_after self c.work.new.self mid c.args.cx.now c.work.new.cx cx ends c.work.ensures.course.loses c.work.ensures.course.live c.rouse_ends.ensures.idle c.rouse_ends.ensures.course.loses in
     record {
+      stage = λ runs at is stage. record {
+        acted = c.work.new.self.driven;
+        between = c.work.new.cx;
+        acts = c.work.ensures.course.stage at is stage;
+        keeps = c.rouse_ends.ensures.course.keeps;
+        table = c.abort.ensures.course.table ∙ c.rouse_ends.ensures.same.table;
+        chain = inl (let kept = c.lacks_memory.ensures.lacks c.if-lacks_memory.true in (c.abort.ensures.course.running ∙ kept.0, c.abort.ensures.course.lost ∙ kept.1));
+      };
       does = λ runs. does_then g.I.Link.look g.K.Link.look c.args.role c.args.event self c.work.new.self now (c.abort.ensures.links.0 ∙ c.rouse_ends.ensures.same.input)
           (c.abort.ensures.links.1 ∙ c.rouse_ends.ensures.same.output)
           (λ lacks. let kept = c.lacks_memory.ensures.lacks c.if-lacks_memory.true in (c.abort.ensures.course.running ∙ kept.0, c.abort.ensures.course.lost ∙ kept.1)) c.work.ensures.course.does;

@@ -1,4 +1,4 @@
-use Rattle.std.proofs.Common.{◌≡◌, arith, inr, refl, ap}
+use Rattle.std.proofs.Common.{◌≡◌, ◌+◌, arith, inr, refl, ap}
 use Rattle.ts_transform.proofs.Carrying.{moves_stage}
 use Rattle.ts_transform.proofs.Joined.{joined_stage, linked_stage, lose_weaker, runs_before}
 use Rattle.ts_transform.proofs.Driving.{may_lose}
@@ -34,6 +34,7 @@ returns-else-role-eq-READER-clause-course g c =
     let acted = c.handle-told in
     let cx = c.args.cx.now in
     record {
+      stage = acted.ensures.acts;
       does = λ works. (λ is. absurd (c.if-role-eq-WRITER.false is), λ is. absurd (c.if-role-eq-READER.false is));
       loses = lose_weaker self.driven acted.new.self acted.new.cx (λ all. all.stages) (may_lose acted.result self.driven acted.new.self cx acted.new.cx acted.ensures.loses);
       live = linked_stage self (record self { driven = acted.new.self }) cx acted.new.cx refl refl acted.ensures.rest.live;
@@ -50,6 +51,7 @@ returns-then-role-eq-WRITER-clause-course g c =
     let course = acted.ensures.course in
     let is : c.args.role ≡ 1 = c.if-role-eq-WRITER.true in
     record {
+      stage = λ at of_stage. let place : c.args.role ≡ 3 + at = of_stage in absurd (omega (arith, is, place));
       does = λ works. (λ w must. acted.ensures.duties.does works must, λ r. let other : c.args.role ≡ 2 = r in absurd (omega (arith, is, other)));
       loses = course.loses;
       live = inr (course.keeps, course.live);
@@ -69,6 +71,7 @@ returns-then-role-eq-READER-clause-course g c =
     let course = acted.ensures.course in
     let is : c.args.role ≡ 2 = c.if-role-eq-READER.true in
     record {
+      stage = λ at of_stage. let place : c.args.role ≡ 3 + at = of_stage in absurd (omega (arith, is, place));
       does = λ works. (λ w. let other : c.args.role ≡ 1 = w in absurd (omega (arith, is, other)), λ r must. acted.ensures.duties.does works must);
       loses = course.loses;
       live = inr (course.keeps, course.live);
