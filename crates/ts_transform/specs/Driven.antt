@@ -14,6 +14,7 @@ use Rattle.ts_transform.specs.Cover.{AreAllLive, IsDriven}
 use Rattle.ts_transform.specs.Acting.{ActsAt, IsStage, KeepsLive}
 use Rattle.ts_transform.specs.declared.driven.DrivenChain.{DrivenChain}
 use Rattle.ts_transform.specs.declared.loss.Loss.{Loss}
+use Rattle.ts_transform.specs.declared.world.TheConstants.{FIRST}
 use Rattle.ts_transform.specs.Loss.{IsCauseOf, loss_of}
 
 -- while no event of it was lost, it is driven
@@ -103,8 +104,8 @@ pub record MayWake {P : Type 0} (d : DrivenChain P) : Type 0 where
 -- its last stage was marked as roused, for which an event of this key has then to be set, if there is a key
 abbrev pub IsMarkedFor : {P : Type 0} → Option ContKey → DrivenChain P → DrivenChain P → Type 0
 IsMarkedFor key d e = (a b : Context) → Keeps a b → HasEventIf b.log.state.pending key
-    → IsDriven 1 d.chain d.table.items a.log.state.pending a.roles
-    → IsDriven 1 e.chain e.table.items b.log.state.pending b.roles
+    → IsDriven FIRST d.chain d.table.items a.log.state.pending a.roles
+    → IsDriven FIRST e.chain e.table.items b.log.state.pending b.roles
 
 -- it goes on as it did where a stage was marked, and else it is lost
 abbrev pub MarkLoses : {P T : Type 0} → Result T SetFault → DrivenChain P → DrivenChain P → Type 0
