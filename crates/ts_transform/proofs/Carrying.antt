@@ -1,5 +1,5 @@
 -- What a step of a chain between two links moves.
-use Rattle.std.proofs.Common.{◌≡◌, ◌≢◌, ◌≤◌, ◌<◌, ◌+◌, ◌++◌, ◌⊎◌, inl, inr, ℕ, zero, suc, List, [], ◌∷◌, Bool, true, false, is_none, Option, length, take, drop, map, arith, refl, sym, ap, subst, ◌∙◌, append_assoc, append-nil, length-append, length-drop}
+use Rattle.std.proofs.Common.{◌≡◌, ◌≤◌, ◌<◌, ◌+◌, ◌++◌, ◌⊎◌, inl, inr, ℕ, zero, suc, List, [], ◌∷◌, Bool, true, false, is_none, Option, length, take, drop, map, arith, refl, sym, ap, subst, ◌∙◌, append_assoc, append-nil, length-append, length-drop}
 use Rattle.std.specs.Bool.{OnTrue}
 use Rattle.std.proofs.lemmas.List.{take-take}
 use Rattle.ts_link.specs.Counts.{Counted, Rose}
@@ -13,7 +13,7 @@ use Rattle.ts_transform.specs.declared.pump.Pumped.{Pumped}
 use Rattle.ts_transform.specs.declared.pump.Pumped.TheVariants.{Moved, Ended, Blocked, Idle}
 use Rattle.ts_transform.specs.declared.pump.Stage.{Stage}
 use Rattle.ts_transform.specs.Stage.{MOST_WAITING, AnswersIf, AnswersWork, Steps, has_ended, has_work}
-use Rattle.ts_transform.specs.Flow.{AnswersAt, ChainState, EndsInOrder, IsFinished, OnlyFirstWorks, PumpsAt, PumpsOnce, StepsAt, Takes, TakesAway, aborted, client_wait, closed, flow, fresh_stage, flow_from, last_ended}
+use Rattle.ts_transform.specs.Flow.{AnswersAt, ChainState, EndsInOrder, IsFinished, OnlyFirstWorks, PumpsOnce, StepsAt, Takes, TakesAway, aborted, client_wait, closed, flow, fresh_stage, flow_from}
 use Rattle.ts_transform.specs.Acting.{StillGives}
 use Rattle.ts_vconn.specs.MoveAnswers.{Came}
 use Rattle.ts_vconn.specs.Moves.{PullsOn}

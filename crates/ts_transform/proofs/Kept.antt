@@ -1,5 +1,5 @@
 -- What the calls of a handler leave of the events and the roles of stages.
-use Rattle.std.proofs.Common.{◌≡◌, ℕ, zero, suc, ◌+◌, ◌≤◌, List, [], ◌∷◌, Bool, true, false, Option, Some, None, Result, Ok, Err, OnOk, IfOk, IfErr, arith, refl, sym, ap, subst, ◌∙◌, if◌then◌else◌, length, IsErrAnd}
+use Rattle.std.proofs.Common.{◌≡◌, ℕ, zero, suc, ◌+◌, ◌≤◌, List, [], ◌∷◌, Bool, true, false, Option, Some, None, Result, Ok, Err, OnOk, IfOk, IfErr, arith, refl, sym, ap, subst, ◌∙◌, if◌then◌else◌, IsErrAnd}
 use Rattle.std.specs.Prelude.{⊤}
 use Rattle.ts_journal.specs.declared.entry.ContKey.{ContKey}
 use Rattle.ts_journal.specs.declared.entry.Event.{Event}
@@ -12,11 +12,11 @@ use Rattle.ts_group.specs.Context.{Context, role_at, moment_after}
 use Rattle.ts_group.specs.Entries.{Grows}
 use Rattle.ts_group.proofs.Grows.{grows_refl, grows_trans}
 use Rattle.ts_group.specs.Acts.{Sets}
-use Rattle.ts_transform.specs.Driving.{works_at, ActsWithin, AddsEvents, HasEvent, HasKind, HasEventIf, IsCause, IsOfStage, IsOfStageIf, AreOfStages, IsRoused, Keeps, KeepsStage, KeepsStages, Lessens, SetsFew, all_unroused, unroused}
+use Rattle.ts_transform.specs.Driving.{works_at, ActsWithin, AddsEvents, HasEvent, HasKind, HasEventIf, IsCause, IsOfStage, IsOfStageIf, AreOfStages, IsRoused, Keeps, KeepsStage, KeepsStages, Lessens, SetsFew, all_unroused}
 use Rattle.ts_transform.specs.declared.continuation.StageContinuation.{StageContinuation}
 
 pub keeps_refl : (a : Context) → a.log.state.held ≡ true → Keeps a a
-keeps_refl a turn = record { pending = λ n p h. h; roles = refl; plain = λ h. h; turn = turn }
+keeps_refl a turn = record { pending = λ n p h. h; roles = refl; plain = λ h. h; turn = turn; live = refl }
 
 pub keeps_trans : {a b c : Context} → Keeps a b → Keeps b c → Keeps a c
 keeps_trans h k = record {
@@ -24,6 +24,7 @@ keeps_trans h k = record {
   roles = k.roles ∙ h.roles;
   plain = λ plain. k.plain (h.plain plain);
   turn = k.turn;
+  live = k.live ∙ h.live;
 }
 
 pub few_trans : {a b c : Context} (m n : ℕ) → SetsFew m a b → SetsFew n b c → SetsFew (m + n) a c
@@ -31,7 +32,7 @@ few_trans m n h k = record { next = omega (arith, h.next, k.next); pending = ome
 
 -- an event was set, or none
 pub set_keeps : (a b : Context) (r : Result Action SetFault) (key : ContKey) (event : Event) (due : ℕ) → Sets a.log b.log r key event due 0 → b.roles ≡ a.roles → Keeps a b
-set_keeps a b r key event due h roles = record { pending = h.more.stays; roles = roles; plain = h.plain refl; turn = h.turn }
+set_keeps a b r key event due h roles = record { pending = h.more.stays; roles = roles; plain = h.plain refl; turn = h.turn; live = h.keys }
 
 -- so the call leaves what one leaves that sets an event
 pub set_cause : (a b : Context) (r : Result Action SetFault) (key : ContKey) (event : Event) (due : ℕ) → Sets a.log b.log r key event due 0

@@ -14,6 +14,7 @@ pub mod Called
 pub mod Setting
 pub mod MaySet
 pub mod Acting
+pub mod Along
 pub mod Driving
 pub mod Carrying
 pub mod Joined

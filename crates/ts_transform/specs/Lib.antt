@@ -1,4 +1,5 @@
 pub mod Acting
+pub mod Along
 pub mod Carrying
 pub mod Cover
 pub mod Driven

@@ -9,7 +9,7 @@ ghost use Rattle.ts_transform.specs.declared.continuation.Rouser.TheVariants as 
 ghost use Rattle.ts_transform.specs.Flow.{MustWork, ended_at, pause_at};
 ghost use Rattle.ts_transform.specs.Driving.{ActsWithin, AddsEvents, AreLive, AreOfStages, IsCalledUnless, IsCause, IsClosed, IsHandled, IsRoused, IsTellingBefore, IsToldBefore, KeepsOthers, KeepsStages, Lessens, SetsFew, SetsOnly, OnlyTellsBefore, changed, error_passed, errors_to_pass, gone, may_pass_error_at, unroused_at, works_at};
 ghost use Rattle.ts_transform.specs.Cover.{AreAllLive, CallsBefore, IsDriven, IsDrivenBut, IsDrivenFor, IsRoundRoused, OnlyRouses, OnlySets};
-ghost use Rattle.ts_transform.specs.Acting.{ActsAt, Covers, CoversHandled, IsStage, Pays, PaysErrors, Pumps, TellsBefore};
+ghost use Rattle.ts_transform.specs.Acting.{ActsAt, Covers, CoversHandled, IsStage, LivesOn, Pays, PaysErrors, Pumps, TellsBefore};
 
 use crate::chain::Chain;
 use crate::continuation::{Rouser, StageContinuation, works};
@@ -204,7 +204,7 @@ fn act<P: Transform + Drop>(
     ensures driven { OnOk result
         (Covers (works_at event) at chain.old chain.new table.old table.new cx.old cx.new) }
     ensures others { (first : ℕ) → KeepsOthers first table.old cx.old cx.new }
-    ensures cause { IfErr result (λ fault. IsCause (AreAllLive chain.new table.new cx.new) fault cx.new) }
+    ensures live { LivesOn result chain.old chain.new table.old table.new cx.old cx.new }
 {
     if chain.has_ended(at) {
         destroy_at(table, at, cx);
@@ -236,7 +236,7 @@ pub fn handle_at<P: Transform + Drop>(
     ensures driven { OnOk result
         (CoversHandled at event chain.old chain.new table.old table.new cx.old cx.new) }
     ensures others { (first : ℕ) → KeepsOthers first table.old cx.old cx.new }
-    ensures cause { IfErr result (λ fault. IsCause (AreAllLive chain.new table.new cx.new) fault cx.new) }
+    ensures live { LivesOn result chain.old chain.new table.old table.new cx.old cx.new }
 {
     unrouse_for(table, at, event);
     act(chain, table, at, event, cx)

@@ -1,5 +1,6 @@
 //! The two ends of a chain between links: the continuations that read and write.
 ghost use Rattle.std.specs.Prelude.{◌≡◌, ℕ, ◌⊎◌, Some, true, false, is_ok, IfOk, IfErr, OnOk, ⊤};
+ghost use Rattle.ts_journal.specs.State.{IsLive};
 ghost use Rattle.ts_group.specs.Context.{role_at};
 ghost use Rattle.ts_group.specs.Entries.{Grows};
 ghost use Rattle.ts_group.specs.Changes.{SameEvents, KeepsKeys};
@@ -18,6 +19,7 @@ pub fn make_end(role: u32, cx: &mut Cx) -> Result<StageContinuation, MakeFault>
     ensures events { SameEvents cx.old.log.state cx.new.log.state }
     ensures keys { KeepsKeys cx.old.log.state cx.new.log.state cx.old.roles cx.new.roles }
     ensures named { IfOk result (λ t. (role_at t.key.index cx.new.roles ≡ Some role) × (t.roused ≡ false)) }
+    ensures live { IfOk result (λ t. IsLive cx.new.log.state.live t.key) }
     ensures cause { IfErr result (λ fault. IsCauseOf ⊤ (making_loss fault) cx.new) }
 {
     let key = cx.make(role)?;

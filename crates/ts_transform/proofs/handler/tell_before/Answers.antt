@@ -1,4 +1,4 @@
-use Rattle.std.proofs.Common.{◌≡◌, ◌+◌, ◌-◌, arith}
+use Rattle.std.proofs.Common.{◌+◌, ◌-◌, arith}
 use Rattle.ts_transform.proofs.Kept.{adds_none}
 use Rattle.ts_transform.proofs.Setting.{only_weaker}
 use Rattle.ts_transform.specs.Driving.{IsTelling, IsTellingBefore}

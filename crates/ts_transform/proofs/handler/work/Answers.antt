@@ -1,7 +1,6 @@
 use Rattle.std.proofs.Common.{◌≡◌, ◌≤◌, ◌+◌, ◌*◌, length, refl, ap, subst, sym, arith, true, false, ◌∙◌}
 use Rattle.ts_transform.specs.Stage.{done_by, IfRests}
 use Rattle.ts_transform.specs.Flow.{AnswersAt, StepsAt}
-use Rattle.ts_transform.specs.Driving.{AddsEvents}
 use Rattle.ts_transform.proofs.Acting.{pumps, pumps_none, tells_rest}
 use Rattle.ts_transform.proofs.Called.{called_kept}
 use Rattle.ts_transform.proofs.Covering.{moved-some, worked, rested, driven_kept, on_ok, any_ok, IsResting}
