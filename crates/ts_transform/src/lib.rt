@@ -25,8 +25,10 @@ mod world;
 mod world_tests;
 
 pub use chain::Chain;
+pub use continuation::{Rouser, StageContinuation, works};
 pub use driven::DrivenChain;
 pub use link_drive::{DriveFault, drive_links};
+pub use link_ends::{make_end, rouse_end, unrouse};
 pub use link_world::LinkWorld;
 pub use loss::Loss;
 pub use pump::Pumped;

@@ -3,12 +3,25 @@
 #![tactic(auto)]
 
 mod acting;
+mod answering;
+mod asking;
+mod awaiting;
 mod block;
 mod bodies;
+mod driver;
 mod finding;
+mod making;
+mod origins;
 mod own;
+mod parts;
+mod peers;
+mod phase;
+mod reading;
 mod relayed;
 mod rules;
+mod sides;
+mod stepping;
+mod txn;
 
 pub use acting::acts_on;
 pub use block::{Block, block_of, one_block};

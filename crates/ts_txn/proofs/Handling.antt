@@ -1,0 +1,96 @@
+-- A transaction is sound again when it was started, and when an event was handled.
+use Rattle.std.proofs.Common.{◌≡◌, ◌⊎◌, inl, inr, ℕ, List, Bool, true, false, Option, None, refl, sym, ap, subst, ◌∙◌}
+use Rattle.std.specs.Arc.{arc_value}
+use Rattle.ts_hooks.specs.declared.txn_end.TxnEnd.TheVariants as E
+use Rattle.ts_journal.specs.declared.entry.Event.{Event}
+use Rattle.ts_group.specs.Calls.{IsCalled}
+use Rattle.ts_group.specs.Context.{Context}
+use Rattle.ts_link.specs.Link.{Look}
+use Rattle.ts_transform.specs.Driving.{unroused, works_at}
+use Rattle.ts_txn.specs.Cover.{Idles, IsCoveredOr, Seated, is_fresh}
+use Rattle.ts_txn.specs.Driven.{BeginsOrLacks, SeatedAfter}
+use Rattle.ts_txn.specs.Ends.{EndFact}
+use Rattle.ts_txn.specs.Facts.{Asking}
+use Rattle.ts_txn.specs.Holding.{Holds, Keeps, PhaseFact}
+use Rattle.ts_txn.specs.View.{IsPaired, Refuses, view}
+use Rattle.ts_txn.specs.World.{IsSound}
+use Rattle.ts_txn.specs.declared.phase.Phase.{Phase}
+use Rattle.ts_txn.specs.declared.phase.Phase.TheVariants as P
+use Rattle.ts_txn.specs.declared.txn.Txn.{Txn}
+use Rattle.ts_txn.proofs.Asks.{asking_any, lacks_memory}
+use Rattle.ts_txn.proofs.Seating.{called_main, called_other, called_quiet, same_next}
+
+fresh_is : (p : Phase) → is_fresh p ≡ true → p ≡ P.Fresh
+fresh_is P.Fresh is = refl
+fresh_is P.TxnStart is = absurd (cc)
+fresh_is P.ReadRequest is = absurd (cc)
+fresh_is (P.ReadRequestHdr q) is = absurd (cc)
+fresh_is (P.OsDns q) is = absurd (cc)
+fresh_is (P.SendRequestHdr q) is = absurd (cc)
+fresh_is (P.SendRequest q) is = absurd (cc)
+fresh_is (P.Upload q) is = absurd (cc)
+fresh_is (P.ReadResponse q) is = absurd (cc)
+fresh_is (P.ReadResponseHdr q r) is = absurd (cc)
+fresh_is (P.ResponseTransform q r) is = absurd (cc)
+fresh_is (P.SendResponseHdr a) is = absurd (cc)
+fresh_is (P.Sending a) is = absurd (cc)
+fresh_is (P.TxnClose end) is = absurd (cc)
+fresh_is (P.Ended end) is = absurd (cc)
+
+module _ {C O : Type 0} (ct ot : Bool) (client : C → Look) (origin : O → Look) (paired : C → O → Type 0) (refuses : O → List ℕ → Type 0) where
+
+  -- it was started
+  pub sound_begun : (t u : Txn C O) (a b : Context)
+      → IsSound ct ot client origin paired refuses t a.log.state.pending a.log.state.next a.roles → u.core ≡ t.core → is_fresh t.phase ≡ true → BeginsOrLacks u.phase
+      → SeatedAfter t.main u.main a b → Idles u.phase u.main → IsCoveredOr u.phase u.main b.log.state.next
+      → IsSound ct ot client origin paired refuses u b.log.state.pending b.log.state.next b.roles
+  sound_begun t u a b h same fresh begins seated idles covered = record {
+    holds = subst (λ k. Holds ct ot client origin refuses k u.phase) (sym same) (λ told also. by_phase (subst (PhaseFact _ _ (view client origin t.core)) (fresh_is t.phase fresh) (h.holds told also)) begins);
+    pair = subst (λ k. IsPaired paired k) (sym same) h.pair;
+    seated = seated h.seated;
+    idles = idles;
+    covered = covered;
+  }
+    where
+      by_phase : Asking (view client origin t.core) → BeginsOrLacks u.phase → PhaseFact (arc_value t.core.setup) (Refuses client refuses t.core) (view client origin t.core) u.phase
+      by_phase asks (inl is) = subst (PhaseFact (arc_value t.core.setup) (Refuses client refuses t.core) (view client origin t.core)) (sym is) asks
+      by_phase asks (inr is) = subst (PhaseFact (arc_value t.core.setup) (Refuses client refuses t.core) (view client origin t.core)) (sym is)
+          (lacks_memory (arc_value t.core.setup) (Refuses client refuses t.core) (view client origin t.core) (asking_any (arc_value t.core.setup) (Refuses client refuses t.core) (view client origin t.core) asks))
+
+  module _ (t : Txn C O) (now : Context) (role : ℕ) (event : Event)
+      (c : IsCalled (λ s roles. IsSound ct ot client origin paired refuses t s.pending s.next roles) now role event) where
+
+    next_covered : IsCoveredOr t.phase t.main now.log.state.next
+    next_covered = subst (IsCoveredOr t.phase t.main) (sym (same_next _ now role event c t.main c.sound.seated)) c.sound.covered
+
+    -- an event of another continuation
+    pub sound_other : (role ≡ 1 → ⊥) → IsSound ct ot client origin paired refuses t now.log.state.pending now.log.state.next now.roles
+    sound_other other = record {
+      holds = c.sound.holds;
+      pair = c.sound.pair;
+      seated = called_other _ now role event c t.main c.sound.seated other;
+      idles = c.sound.idles;
+      covered = next_covered;
+    }
+
+    -- one at which it does not work
+    pub sound_quiet : works_at event ≡ false → IsSound ct ot client origin paired refuses t now.log.state.pending now.log.state.next now.roles
+    sound_quiet rests = record {
+      holds = c.sound.holds;
+      pair = c.sound.pair;
+      seated = called_quiet _ now role event c t.main c.sound.seated rests;
+      idles = c.sound.idles;
+      covered = next_covered;
+    }
+
+    -- one at which it made a step
+    pub sound_stepped : (u : Txn C O) (after : Context) → Holds ct ot client origin refuses u.core u.phase → Keeps client origin paired refuses t.core u.core
+        → SeatedAfter (unroused t.main) u.main now after → Idles u.phase u.main → IsCoveredOr u.phase u.main after.log.state.next
+        → IsSound ct ot client origin paired refuses u after.log.state.pending after.log.state.next after.roles
+    sound_stepped u after holds keeps seated idles covered = record {
+      holds = holds;
+      pair = keeps.pair c.sound.pair;
+      seated = seated (called_main _ now role event c t.main c.sound.seated);
+      idles = idles;
+      covered = covered;
+    }

@@ -1,0 +1,47 @@
+//! The phases in which an answer of the proxy's own is queued and written to the client.
+ghost use Rattle.std.specs.Prelude.{◌≡◌, IfOk};
+ghost use Rattle.ts_txn.specs.Block.{own_text};
+ghost use Rattle.ts_txn.specs.Cover.{Leads};
+ghost use Rattle.ts_txn.specs.Holding.{Holds, HoldsAfter, Keeps};
+
+use crate::block::own_text;
+use crate::parts::Core;
+use crate::phase::{Next, OwnAnswer, Phase, Step};
+use ts_hooks::TxnEnd;
+use ts_link::Link;
+use ts_upstream::Upstream;
+use ts_vconn::Pushed;
+
+impl<C: Link, O: Upstream<C>> Core<C, O> {
+    /// Queues an answer of the proxy's own.
+    pub fn send_response_hdr(&mut self, answer: OwnAnswer) -> Step
+        requires fact { Holds C.tells O.tells C.look O.look O.refuses self.old (Phase.SendResponseHdr answer) }
+        ensures leads { Leads result }
+        ensures fact { HoldsAfter C.tells O.tells C.look O.look O.refuses self.old self.new result }
+        ensures keeps { Keeps C.look O.look O.paired O.refuses self.old self.new }
+    {
+        let Ok(head) = own_text(self.alloc, &self.setup, answer.status) else {
+            return Step { phase: Phase::Ended { end: TxnEnd::NoMemory }, next: Next::Done };
+        };
+        match self.queue_own(head.bytes(), answer.status.sent(answer.to_head)) {
+            Ok(()) => Step { phase: Phase::Sending { answer }, next: Next::Go },
+            Err(_) => Step { phase: Phase::Ended { end: TxnEnd::NoMemory }, next: Next::Done },
+        }
+    }
+
+    /// Writes once of what was queued.
+    pub fn send(&mut self, answer: OwnAnswer) -> Step
+        requires fact { Holds C.tells O.tells C.look O.look O.refuses self.old (Phase.Sending answer) }
+        ensures leads { Leads result }
+        ensures fact { HoldsAfter C.tells O.tells C.look O.look O.refuses self.old self.new result }
+        ensures keeps { Keeps C.look O.look O.paired O.refuses self.old self.new }
+    {
+        match self.write_client() {
+            Pushed::Some(_) => Step { phase: Phase::Sending { answer }, next: Next::Go },
+            Pushed::Nothing => Step { phase: Phase::TxnClose { end: answer.end }, next: Next::Go },
+            Pushed::Again => Step { phase: Phase::Sending { answer }, next: Next::Wait },
+            Pushed::Failed => Step { phase: Phase::TxnClose { end: TxnEnd::ClientFault }, next: Next::Go },
+            Pushed::NoMemory => Step { phase: Phase::Ended { end: TxnEnd::NoMemory }, next: Next::Done },
+        }
+    }
+}

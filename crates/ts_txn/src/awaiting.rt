@@ -1,0 +1,53 @@
+//! The phase in which the origin's response head is read.
+ghost use Rattle.ts_txn.specs.Cover.{Leads};
+ghost use Rattle.ts_txn.specs.Holding.{Holds, HoldsAfter, Keeps};
+
+use crate::block::is_good;
+use crate::finding::is_interim;
+use crate::origins::answer_to;
+use crate::own::OwnStatus;
+use crate::parts::Core;
+use crate::phase::{Next, Phase, Request, Step};
+use crate::reading::Found;
+use ts_hooks::TxnEnd;
+use ts_link::Link;
+use ts_upstream::Upstream;
+use ts_vconn::Pulled;
+
+impl<C: Link, O: Upstream<C>> Core<C, O> {
+    /// Looks for the head of the final response in what the origin gave, or reads on. Interim heads are dropped.
+    pub fn read_response(&mut self, request: Request) -> Step
+        requires fact { Holds C.tells O.tells C.look O.look O.refuses self.old (Phase.ReadResponse request) }
+        ensures leads { Leads result }
+        ensures fact { HoldsAfter C.tells O.tells C.look O.look O.refuses self.old self.new result }
+        ensures keeps { Keeps C.look O.look O.paired O.refuses self.old self.new }
+    {
+        match self.hear_response() {
+            Found::Head(head) => {
+                if is_interim(head.status) {
+                    return Step { phase: Phase::ReadResponse { request }, next: Next::Go };
+                }
+                if is_good(&request.head, &head) {
+                    return Step { phase: Phase::ReadResponseHdr { request, head }, next: Next::Go };
+                }
+                let answer = answer_to(&request, OwnStatus::BadGateway, TxnEnd::Whole);
+                Step { phase: Phase::SendResponseHdr { answer }, next: Next::Go }
+            }
+            Found::Never => {
+                let answer = answer_to(&request, OwnStatus::BadGateway, TxnEnd::Whole);
+                Step { phase: Phase::SendResponseHdr { answer }, next: Next::Go }
+            }
+            Found::Read(Pulled::Some(_)) => Step { phase: Phase::ReadResponse { request }, next: Next::Go },
+            Found::Read(Pulled::End) => {
+                let answer = answer_to(&request, OwnStatus::BadGateway, TxnEnd::Whole);
+                Step { phase: Phase::SendResponseHdr { answer }, next: Next::Go }
+            }
+            Found::Read(Pulled::Again) => Step { phase: Phase::ReadResponse { request }, next: Next::Wait },
+            Found::Read(Pulled::Failed) => {
+                let answer = answer_to(&request, OwnStatus::BadGateway, TxnEnd::OriginFault);
+                Step { phase: Phase::SendResponseHdr { answer }, next: Next::Go }
+            }
+            Found::NoMemory => Step { phase: Phase::Ended { end: TxnEnd::NoMemory }, next: Next::Done },
+        }
+    }
+}
