@@ -22,7 +22,7 @@ use Rattle.ts_txn.specs.Block.{IsBlock, VerdictSays, asked, no_head, own_block, 
 use Rattle.ts_txn.specs.View.{HasFailed, Side, View}
 use Rattle.ts_txn.specs.Moving.{FindsRequest, HearsRequest, SideReads}
 use Rattle.ts_txn.specs.Checking.{IsCheckedAs}
-use Rattle.ts_txn.specs.Facts.{Asking, Checked, ClientWaits, Heard, OwnReady, OwnCause, OriginTook, TookAll, Untouched, decided}
+use Rattle.ts_txn.specs.Facts.{Asking, Checked, ClientWaits, Heard, OwnReady, OwnCause, OriginTook, TookExactly, Untouched, decided}
 use Rattle.ts_txn.specs.Facts as facts
 use Rattle.ts_txn.specs.Ends.{AnyEnd, EndFact, HasText}
 use Rattle.ts_txn.specs.Ends as ends
@@ -102,7 +102,7 @@ passed t v w head q a hears (is, passes) =
     }
 
 -- what an untouched origin took
-took_none : (o : Side) → Untouched o → TookAll [] o
+took_none : (o : Side) → Untouched o → TookExactly [] o
 took_none o u = record { upload = []; text = u.no_taken; nothing = λ is. refl; no_waits = u.no_waits }
 
 -- an answer whose block has no request

@@ -21,7 +21,7 @@ use Rattle.ts_txn.specs.Relayed.{asks_head}
 use Rattle.ts_txn.specs.Block.{DenySays, DialSays, IsBlock, VerdictSays, asked, own_block, request_text}
 use Rattle.ts_txn.specs.View.{HasCount, HasFailed, Side, View}
 use Rattle.ts_txn.specs.Moving.{MovesBoth, MovesUpload, QueuesRequest, SideWrites, WritesOrigin}
-use Rattle.ts_txn.specs.Facts.{Allowed, Awaits, Carries, Checked, ClientWaits, Goes, Knows, OriginTook, OwnReady, SendsRequest, Served, TookAll, Uploading, decided, fault}
+use Rattle.ts_txn.specs.Facts.{IsAllowed, Awaits, CarriesRequest, Checked, ClientWaits, Goes, Knows, OriginTook, OwnReady, SendingRequest, Served, TookExactly, Uploading, decided, fault}
 use Rattle.ts_txn.specs.Facts as facts
 use Rattle.ts_txn.specs.Ends.{AnyEnd, EndFact}
 use Rattle.ts_txn.specs.Ends as ends
@@ -82,7 +82,7 @@ not_dialed setup refuses v q a is h says allowed none same =
       (no_origin_block setup v.dialed refuses (all_of v.origin.look) (all_of v.client.look) q (own_block setup [] O.BadGateway (asks_head q.head)) h.knows (sym says ∙ allowed) none refl))
 
 pub allowed : (setup : Setup) (v : View) (q : Request) (is : Bool) → Checked v q → is ≡ is_denied setup.plugins.items (plugin_host q.host) → is ≡ false
-    → v.dialed ≡ true → Allowed setup v q
+    → v.dialed ≡ true → IsAllowed setup v q
 allowed setup v q is h says free dialed =
     record { waits = h.waits; untouched = h.untouched; goes = record { knows = h.knows; allowed = sym says ∙ free; has_origin = dialed } }
 
@@ -91,11 +91,11 @@ checked_any setup refuses v q h = record { took = facts.nothing h.untouched.no_t
 
 -- ---- the head is queued
 
-pub allowed_any : (setup : Setup) (refuses : Type 0) (v : View) (q : Request) → Allowed setup v q → AnyEnd setup refuses v
+pub allowed_any : (setup : Setup) (refuses : Type 0) (v : View) (q : Request) → IsAllowed setup v q → AnyEnd setup refuses v
 allowed_any setup refuses v q h = record { took = facts.nothing h.untouched.no_taken h.untouched.no_waits; text = ends.quiet h.waits.quiet }
 
-queued_at : (setup : Setup) (v : View) (q : Request) → Allowed setup v q
-    → SendsRequest setup (record v { origin = record v.origin { outbox = v.origin.outbox ++ request_text setup q.head q.target q.host } }) q
+queued_at : (setup : Setup) (v : View) (q : Request) → IsAllowed setup v q
+    → SendingRequest setup (record v { origin = record v.origin { outbox = v.origin.outbox ++ request_text setup q.head q.target q.host } }) q
 queued_at setup v q h =
     let text = request_text setup q.head q.target q.host in
     record {
@@ -110,15 +110,15 @@ queued_at setup v q h =
       };
     }
 
-pub queued : (setup : Setup) (v w : View) (q : Request) (text : List ℕ) → Allowed setup v q → text ≡ request_text setup q.head q.target q.host → QueuesRequest text v w
-    → SendsRequest setup w q
+pub queued : (setup : Setup) (v w : View) (q : Request) (text : List ℕ) → IsAllowed setup v q → text ≡ request_text setup q.head q.target q.host → QueuesRequest text v w
+    → SendingRequest setup w q
 queued setup v w q text h is queues =
-    subst (λ (x : View). SendsRequest setup x q) (sym (queues ∙ ap (λ (t : List ℕ). record v { origin = record v.origin { outbox = v.origin.outbox ++ t } }) is)) (queued_at setup v q h)
+    subst (λ (x : View). SendingRequest setup x q) (sym (queues ∙ ap (λ (t : List ℕ). record v { origin = record v.origin { outbox = v.origin.outbox ++ t } }) is)) (queued_at setup v q h)
 
 -- ---- the head is written
 
-writes_at : (setup : Setup) (t : Bool) (v : View) (s : Side) (p : Pushed) (q : Request) → t ≡ true → SendsRequest setup v q → SideWrites t v.origin s p
-    → SendsRequest setup (record v { origin = s }) q
+writes_at : (setup : Setup) (t : Bool) (v : View) (s : Side) (p : Pushed) (q : Request) → t ≡ true → SendingRequest setup v q → SideWrites t v.origin s p
+    → SendingRequest setup (record v { origin = s }) q
 writes_at setup t v s p q told h writes =
     let takes = writes.pushes.told told in
     record {
@@ -130,22 +130,22 @@ writes_at setup t v s p q told h writes =
       carries = record { upload = h.carries.upload; text = writes.pushes.text told ∙ h.carries.text };
     }
 
-pub writes_on : (setup : Setup) (t : Bool) (v w : View) (p : Pushed) (q : Request) → t ≡ true → SendsRequest setup v q → WritesOrigin t v w p → SendsRequest setup w q
-writes_on setup t v w p q told h writes = subst (λ (x : View). SendsRequest setup x q) (sym writes.others) (writes_at setup t v w.origin p q told h writes.origin)
+pub writes_on : (setup : Setup) (t : Bool) (v w : View) (p : Pushed) (q : Request) → t ≡ true → SendingRequest setup v q → WritesOrigin t v w p → SendingRequest setup w q
+writes_on setup t v w p q told h writes = subst (λ (x : View). SendingRequest setup x q) (sym writes.others) (writes_at setup t v w.origin p q told h writes.origin)
 
 -- all of it was
-pub written : (setup : Setup) (t : Bool) (v w : View) (q : Request) → t ≡ true → SendsRequest setup v q → WritesOrigin t v w V.Nothing → Uploading setup w q
+pub written : (setup : Setup) (t : Bool) (v w : View) (q : Request) → t ≡ true → SendingRequest setup v q → WritesOrigin t v w V.Nothing → Uploading setup w q
 written setup t v w q told h writes =
     record { sends = writes_on setup t v w V.Nothing q told h writes; no_waits = writes.origin.pushes.went.1 ∙ writes.origin.pushes.went.0 }
 
-pub sends_any : (setup : Setup) (refuses : Type 0) (v : View) (q : Request) → SendsRequest setup v q → AnyEnd setup refuses v
+pub sends_any : (setup : Setup) (refuses : Type 0) (v : View) (q : Request) → SendingRequest setup v q → AnyEnd setup refuses v
 sends_any setup refuses v q h = record { took = facts.request q h.goes h.carries; text = ends.quiet h.waits.quiet }
 
 no_final : (given : List ℕ) → given ≡ [] → LacksFinal given
 no_final given is = subst LacksFinal (sym is) (lacks_final [] [] (record { interims = []; after = refl }) lacks_nil)
 
 -- the origin's link failed
-pub faulty : (setup : Setup) (refuses : Type 0) (v : View) (q : Request) (a : OwnAnswer) → SendsRequest setup v q → HasFailed v.origin
+pub faulty : (setup : Setup) (refuses : Type 0) (v : View) (q : Request) (a : OwnAnswer) → SendingRequest setup v q → HasFailed v.origin
     → a ≡ record { status = O.BadGateway; to_head = asks_head q.head; end = E.OriginFault } → OwnReady setup refuses v a
 faulty setup refuses v q a h failed same =
     subst (λ (x : OwnAnswer). OwnReady setup refuses v x) (sym same)
@@ -155,7 +155,7 @@ faulty setup refuses v q a h failed same =
       took = facts.request q h.goes h.carries;
     })
 
-pub write_fault : (setup : Setup) (refuses : Type 0) (t : Bool) (v w : View) (q : Request) (a : OwnAnswer) → t ≡ true → SendsRequest setup v q → WritesOrigin t v w V.Failed
+pub write_fault : (setup : Setup) (refuses : Type 0) (t : Bool) (v w : View) (q : Request) (a : OwnAnswer) → t ≡ true → SendingRequest setup v q → WritesOrigin t v w V.Failed
     → a ≡ record { status = O.BadGateway; to_head = asks_head q.head; end = E.OriginFault } → OwnReady setup refuses w a
 write_fault setup refuses t v w q a told h writes same =
     faulty setup refuses w q a (writes_on setup t v w V.Failed q told h writes) (write_failed t v.origin w.origin V.Failed refl writes.origin h.count) same

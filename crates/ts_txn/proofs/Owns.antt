@@ -6,17 +6,17 @@ use Rattle.std.proofs.lemmas.List.Elements.{All-nil, All-cons}
 use Rattle.ts_config.specs.declared.setup.Setup.{Setup}
 use Rattle.ts_hooks.specs.declared.txn_end.TxnEnd.{TxnEnd}
 use Rattle.ts_hooks.specs.declared.txn_end.TxnEnd.TheVariants as E
-use Rattle.ts_link.specs.Link.{Look, Takes, all_of}
+use Rattle.ts_link.specs.Link.{Look, TakesMore, all_of}
 use Rattle.ts_vconn.specs.declared.moves.Pushed.{Pushed}
 use Rattle.ts_vconn.specs.declared.moves.Pushed.TheVariants as V
 use Rattle.ts_wire.specs.declared.frames.Mode.{Mode}
 use Rattle.ts_wire.specs.declared.frames.Mode.TheVariants as M
-use Rattle.ts_wire.specs.Frames.{frames, joined, IsPiece}
+use Rattle.ts_wire.specs.Frames.{cut_body, frames, IsPiece}
 use Rattle.ts_txn.specs.Own.{own_body, own_sent}
 use Rattle.ts_txn.specs.Block.{own_block, own_text}
 use Rattle.ts_txn.specs.View.{HasFailed, Side, View}
 use Rattle.ts_txn.specs.Moving.{cuts_of, QueuesOwn, SideWrites, WritesClient}
-use Rattle.ts_txn.specs.Facts.{HasCause, HasOwnText, OwnCause, OwnReady, OwnSends, OriginTook, decided, fault}
+use Rattle.ts_txn.specs.Facts.{HasOwnCause, HasOwnText, OwnCause, OwnReady, OwnSends, OriginTook, decided, fault}
 use Rattle.ts_txn.specs.Ends.{AnyEnd, EndFact, EndsBy, HasText}
 use Rattle.ts_txn.specs.Ends as ends
 use Rattle.ts_txn.specs.declared.own.OwnStatus.{OwnStatus}
@@ -44,7 +44,7 @@ pieces_text : (to_head : Bool) (status : OwnStatus) → own_sent to_head status 
 pieces_text true status = refl
 pieces_text false status = sym (append-nil (own_body status ++ []) ∙ append-nil (own_body status))
 
-pieces_joined : (to_head : Bool) (status : OwnStatus) → joined (pieces_of to_head status) ≡ own_sent to_head status
+pieces_joined : (to_head : Bool) (status : OwnStatus) → cut_body (pieces_of to_head status) ≡ own_sent to_head status
 pieces_joined true status = refl
 pieces_joined false status = append-nil (own_body status)
 
@@ -69,7 +69,7 @@ own_has_text setup v a own = record {
   body_is = pieces_joined a.to_head a.status;
 }
 
-all_took : (old new : Look) (more : List ℕ) → old.given ≢ [] → Takes old new more → all_of new ≡ all_of old
+all_took : (old new : Look) (more : List ℕ) → old.given ≢ [] → TakesMore old new more → all_of new ≡ all_of old
 all_took old new more some t = λ i. t.given i ++ stays old.given old.left new.left some t.left i
 
 module _ (setup : Setup) (refuses : Type 0) where
@@ -140,7 +140,7 @@ module _ (setup : Setup) (refuses : Type 0) where
   ends_by : (v : View) (a : OwnAnswer) → OwnSends setup refuses v a → v.client.outbox ≡ [] → EndsBy setup refuses v a.end
   ends_by v a h none = by_cause h.cause
     where
-      by_cause : HasCause setup refuses v a → EndsBy setup refuses v a.end
+      by_cause : HasOwnCause setup refuses v a → EndsBy setup refuses v a.end
       by_cause (decided request is whole took) = subst (λ (e : TxnEnd). EndsBy setup refuses v e) (sym whole) (record {
         block = own_block setup request a.status a.to_head;
         has = record { is_block = is; ends = refl; took = took; no_waits = none; mode = h.text.plain };

@@ -12,7 +12,7 @@ use Rattle.ts_txn.specs.Relayed.{asks_head}
 use Rattle.ts_txn.specs.Block.{own_block, request_text}
 use Rattle.ts_txn.specs.View.{HasFailed, Side, View}
 use Rattle.ts_txn.specs.Moving.{MovesUpload}
-use Rattle.ts_txn.specs.Facts.{Awaits, Carries, Goes, OwnReady, TookAll, Uploading, decided}
+use Rattle.ts_txn.specs.Facts.{Awaits, CarriesRequest, Goes, OwnReady, TookExactly, Uploading, decided}
 use Rattle.ts_txn.specs.Facts as facts
 use Rattle.ts_txn.specs.Ends.{AnyEnd, EndFact}
 use Rattle.ts_txn.specs.declared.own.OwnStatus.TheVariants as O
@@ -27,10 +27,10 @@ within : (a b c : ℕ) → a ≤ b → b ≤ c → a ≤ c
 within a b c h k = omega (arith, h, k)
 
 -- what the origin took is the request and the upload, where nothing waits for it
-pub took_is : (setup : Setup) (q : Request) (o : Side) (h : Carries setup q o) → o.outbox ≡ [] → o.look.taken ≡ request_text setup q.head q.target q.host ++ h.upload
+pub took_is : (setup : Setup) (q : Request) (o : Side) (h : CarriesRequest setup q o) → o.outbox ≡ [] → o.look.taken ≡ request_text setup q.head q.target q.host ++ h.upload
 took_is setup q o h none = sym (append-nil o.look.taken) ∙ ap (λ (x : List ℕ). o.look.taken ++ x) (sym none) ∙ h.text
 
-pub took_request : (setup : Setup) (q : Request) (o : Side) → Carries setup q o → o.outbox ≡ [] → TookAll (request_text setup q.head q.target q.host) o
+pub took_request : (setup : Setup) (q : Request) (o : Side) → CarriesRequest setup q o → o.outbox ≡ [] → TookExactly (request_text setup q.head q.target q.host) o
 took_request setup q o h none = record { upload = h.upload; text = took_is setup q o h none; nothing = λ is. absurd (filled setup q is); no_waits = none }
 
 uploads_at : (setup : Setup) (v : View) (c l : Look) (q : Request) → Uploading setup v q → Uploads v.client.look c v.origin.look l → UploadKeeps v.client.look c v.origin.look l

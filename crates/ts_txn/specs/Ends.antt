@@ -11,13 +11,13 @@ use Rattle.ts_wire.specs.declared.framing.Framing.{Framing}
 use Rattle.ts_wire.specs.declared.framing.Framing.TheVariants as F
 use Rattle.ts_wire.specs.declared.heads.ResponseHead.{ResponseHead}
 use Rattle.ts_wire.specs.declared.body.BodyState.TheVariants as B
-use Rattle.ts_wire.specs.Frames.{IsPiece, frames, joined}
+use Rattle.ts_wire.specs.Frames.{IsPiece, cut_body, frames}
 use Rattle.ts_wire.specs.Place.{Place, IsFed, state_of}
 use Rattle.ts_txn.specs.Relayed.{framing_of, mode_of}
 use Rattle.ts_txn.specs.Heads.{FinalHead}
 use Rattle.ts_txn.specs.Block.{IsBlock, IsGood, body_lines, framing_for, relayed_head}
 use Rattle.ts_txn.specs.View.{HasFailed, Side, View}
-use Rattle.ts_txn.specs.Facts.{HasCause, HasOwnText, HasTook, OwnReady, Quiet, Served, TookAll}
+use Rattle.ts_txn.specs.Facts.{HasOwnCause, HasOwnText, HasTook, OwnReady, Quiet, Served, TookExactly}
 use Rattle.ts_txn.specs.declared.block.Block.{Block}
 use Rattle.ts_txn.specs.declared.parts.Sent.{Sent}
 use Rattle.ts_txn.specs.declared.phase.OwnAnswer.{OwnAnswer}
@@ -30,7 +30,7 @@ pub record HasText (client : Side) (s : Sent) (head body : List ℕ) (fin : Bool
   pub text : client.look.taken ++ client.outbox ≡ head ++ frames s.mode pieces fin
   pub head_is : s.head ≡ length head
   pub cuts : s.cuts.items ≡ map length pieces
-  pub body_is : joined pieces ≡ body
+  pub body_is : cut_body pieces ≡ body
 
 -- The body has ended: its reader says so, or it goes up to the close, and the origin gives no more.
 pub data IsBodyOver (framing : Framing) (origin : Side) (place : Place) : Type 0 where
@@ -71,12 +71,12 @@ module _ (setup : Setup) (refuses : Type 0) where
   -- What holds of the client's text at every moment: it is nothing, or an own answer for its cause, or the origin's.
   pub data SomeText (v : View) : Type 0 where
     quiet : Quiet v.client v.sent → SomeText v
-    own : (a : OwnAnswer) → HasCause setup refuses v a → HasOwnText setup v.client v.sent a → SomeText v
+    own : (a : OwnAnswer) → HasOwnCause setup refuses v a → HasOwnText setup v.client v.sent a → SomeText v
     relayed : (done fin : Bool) (sent : List ℕ) → Relayed v done fin sent → SomeText v
 
   -- After a fault of the origin: the 502 answer, if no final head had come, and else what was framed of the body.
   pub data FaultText (v : View) : Type 0 where
-    own : (a : OwnAnswer) → a.end ≡ E.OriginFault → HasCause setup refuses v a → HasOwnText setup v.client v.sent a
+    own : (a : OwnAnswer) → a.end ≡ E.OriginFault → HasOwnCause setup refuses v a → HasOwnText setup v.client v.sent a
         → FaultText v
     cut_off : (done : Bool) (sent : List ℕ) → Relayed v done false sent → FaultText v
 
@@ -89,7 +89,7 @@ module _ (setup : Setup) (refuses : Type 0) where
   pub record HasBlock (v : View) (end : TxnEnd) (block : Block) : Type 0 where
     pub is_block : IsBlock setup v.dialed refuses (all_of v.origin.look) (all_of v.client.look) block
     pub ends : block.end ≡ end
-    pub took : TookAll block.request v.origin
+    pub took : TookExactly block.request v.origin
     pub no_waits : v.client.outbox ≡ []
     pub mode : v.sent.mode ≡ block.mode
 

@@ -75,7 +75,7 @@ pub record Checked (v : View) (q : Request) : Type 0 where
   pub knows : Knows (all_of v.client.look) q
 
 -- the origin took exactly this request and what an upload wrote behind it
-pub record TookAll (request : List ℕ) (origin : Side) : Type 0 where
+pub record TookExactly (request : List ℕ) (origin : Side) : Type 0 where
   pub upload : List ℕ
   pub text : origin.look.taken ≡ request ++ upload
   pub nothing : request ≡ [] → upload ≡ []
@@ -89,7 +89,7 @@ module _ (setup : Setup) where
     pub allowed : is_denied setup.plugins.items (plugin_host q.host) ≡ false
     pub has_origin : dialed ≡ true
 
-  pub record Allowed (v : View) (q : Request) : Type 0 where
+  pub record IsAllowed (v : View) (q : Request) : Type 0 where
     pub waits : ClientWaits v.client v.sent
     pub untouched : Untouched v.origin
     pub goes : Goes (all_of v.client.look) q v.dialed
@@ -97,26 +97,26 @@ module _ (setup : Setup) where
   -- THE REQUEST IS SENT
 
   -- what the origin took, with what waits for it, is the request and what an upload wrote
-  pub record Carries (q : Request) (origin : Side) : Type 0 where
+  pub record CarriesRequest (q : Request) (origin : Side) : Type 0 where
     pub upload : List ℕ
     pub text : origin.look.taken ++ origin.outbox ≡ request_text setup q.head q.target q.host ++ upload
 
-  pub record SendsRequest (v : View) (q : Request) : Type 0 where
+  pub record SendingRequest (v : View) (q : Request) : Type 0 where
     pub waits : ClientWaits v.client v.sent
     pub goes : Goes (all_of v.client.look) q v.dialed
     pub count : HasCount v.origin
     pub no_given : v.origin.look.given ≡ []
     pub no_held : v.origin.inbox ≡ []
-    pub carries : Carries q v.origin
+    pub carries : CarriesRequest q v.origin
 
   pub record Uploading (v : View) (q : Request) : Type 0 where
-    pub sends : SendsRequest v q
+    pub sends : SendingRequest v q
     pub no_waits : v.origin.outbox ≡ []
 
   -- what the origin took, with what waits for it, is nothing, or that of a request that goes to it
   pub data OriginTook (c : List ℕ) (dialed : Bool) (origin : Side) : Type 0 where
     nothing : origin.look.taken ≡ [] → origin.outbox ≡ [] → OriginTook c dialed origin
-    request : (q : Request) → Goes c q dialed → Carries q origin → OriginTook c dialed origin
+    request : (q : Request) → Goes c q dialed → CarriesRequest q origin → OriginTook c dialed origin
 
   abbrev pub HasTook : View → Type 0
   HasTook v = OriginTook (all_of v.client.look) v.dialed v.origin
@@ -137,7 +137,7 @@ module _ (setup : Setup) where
       pub goes : Goes c q dialed
       pub accepts : refuses → ⊥
       pub count : HasCount origin
-      pub carries : Carries q origin
+      pub carries : CarriesRequest q origin
       pub no_waits : origin.outbox ≡ []
 
     -- no final head was found behind some interim ones
@@ -167,22 +167,22 @@ module _ (setup : Setup) where
     pub data OwnCause (c : List ℕ) (dialed : Bool) (origin : Side) (a : OwnAnswer) : Type 0 where
       decided : (request : List ℕ)
           → IsBlock setup dialed refuses (all_of origin.look) c (own_block setup request a.status a.to_head)
-          → a.end ≡ E.Whole → TookAll request origin → OwnCause c dialed origin a
+          → a.end ≡ E.Whole → TookExactly request origin → OwnCause c dialed origin a
       fault : (q : Request) → Goes c q dialed → a.status ≡ O.BadGateway → a.to_head ≡ asks_head q.head
           → a.end ≡ E.OriginFault → HasFailed origin → LacksFinal origin.look.given → OwnCause c dialed origin a
 
-    abbrev pub HasCause : View → OwnAnswer → Type 0
-    HasCause v a = OwnCause (all_of v.client.look) v.dialed v.origin a
+    abbrev pub HasOwnCause : View → OwnAnswer → Type 0
+    HasOwnCause v a = OwnCause (all_of v.client.look) v.dialed v.origin a
 
     pub record OwnReady (v : View) (a : OwnAnswer) : Type 0 where
       pub waits : ClientWaits v.client v.sent
-      pub cause : HasCause v a
+      pub cause : HasOwnCause v a
       pub took : HasTook v
 
     -- the answer was queued whole
     pub record OwnSends (v : View) (a : OwnAnswer) : Type 0 where
       pub count : HasCount v.client
       pub some : v.client.look.given ≢ []
-      pub cause : HasCause v a
+      pub cause : HasOwnCause v a
       pub took : HasTook v
       pub text : HasOwnText v.client v.sent a

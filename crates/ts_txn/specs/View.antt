@@ -71,8 +71,8 @@ module _ {L : Type 0} where
 
 module _ {C O : Type 0} where
 
-  abbrev pub view : (C → Look) → (O → Look) → Core C O → View
-  view client origin t = record {
+  abbrev pub view_of : (C → Look) → (O → Look) → Core C O → View
+  view_of client origin t = record {
     client = side client t.client;
     dialed = is_dialed t.origin;
     origin = side_if origin t.origin;
@@ -80,8 +80,8 @@ module _ {C O : Type 0} where
   }
 
   -- the origin's link refuses the upload of this client
-  abbrev pub Refuses : (C → Look) → (O → List ℕ → Type 0) → Core C O → Type 0
-  Refuses client refuses t = refuses_if refuses t.origin (client t.client.link).source
+  abbrev pub OriginRefuses : (C → Look) → (O → List ℕ → Type 0) → Core C O → Type 0
+  OriginRefuses client refuses t = refuses_if refuses t.origin (client t.client.link).source
 
   -- the two links belong together
   abbrev pub IsPaired : (C → O → Type 0) → Core C O → Type 0

@@ -1,8 +1,8 @@
 //! The phases in which an answer of the proxy's own is queued and written to the client.
 ghost use Rattle.std.specs.Prelude.{◌≡◌, IfOk};
 ghost use Rattle.ts_txn.specs.Block.{own_text};
-ghost use Rattle.ts_txn.specs.Cover.{Leads};
-ghost use Rattle.ts_txn.specs.Holding.{Holds, HoldsAfter, Keeps};
+ghost use Rattle.ts_txn.specs.Cover.{StepLeads};
+ghost use Rattle.ts_txn.specs.Holding.{PhaseHolds, HoldsAfter, StepKeeps};
 
 use crate::block::own_text;
 use crate::parts::Core;
@@ -15,10 +15,10 @@ use ts_vconn::Pushed;
 impl<C: Link, O: Upstream<C>> Core<C, O> {
     /// Queues an answer of the proxy's own.
     pub fn send_response_hdr(&mut self, answer: OwnAnswer) -> Step
-        requires fact { Holds C.tells O.tells C.look O.look O.refuses self.old (Phase.SendResponseHdr answer) }
-        ensures leads { Leads result }
+        requires fact { PhaseHolds C.tells O.tells C.look O.look O.refuses self.old (Phase.SendResponseHdr answer) }
+        ensures leads { StepLeads result }
         ensures fact { HoldsAfter C.tells O.tells C.look O.look O.refuses self.old self.new result }
-        ensures keeps { Keeps C.look O.look O.paired O.refuses self.old self.new }
+        ensures keeps { StepKeeps C.look O.look O.paired O.refuses self.old self.new }
     {
         let Ok(head) = own_text(self.alloc, &self.setup, answer.status) else {
             return Step { phase: Phase::Ended { end: TxnEnd::NoMemory }, next: Next::Done };
@@ -31,10 +31,10 @@ impl<C: Link, O: Upstream<C>> Core<C, O> {
 
     /// Writes once of what was queued.
     pub fn send(&mut self, answer: OwnAnswer) -> Step
-        requires fact { Holds C.tells O.tells C.look O.look O.refuses self.old (Phase.Sending answer) }
-        ensures leads { Leads result }
+        requires fact { PhaseHolds C.tells O.tells C.look O.look O.refuses self.old (Phase.Sending answer) }
+        ensures leads { StepLeads result }
         ensures fact { HoldsAfter C.tells O.tells C.look O.look O.refuses self.old self.new result }
-        ensures keeps { Keeps C.look O.look O.paired O.refuses self.old self.new }
+        ensures keeps { StepKeeps C.look O.look O.paired O.refuses self.old self.new }
     {
         match self.write_client() {
             Pushed::Some(_) => Step { phase: Phase::Sending { answer }, next: Next::Go },

@@ -1,7 +1,7 @@
 //! The phase in which the client's request head is read and checked.
 ghost use Rattle.std.specs.Prelude.{◌≡◌, IfOk};
-ghost use Rattle.ts_txn.specs.Cover.{Leads};
-ghost use Rattle.ts_txn.specs.Holding.{Holds, HoldsAfter, Keeps};
+ghost use Rattle.ts_txn.specs.Cover.{StepLeads};
+ghost use Rattle.ts_txn.specs.Holding.{PhaseHolds, HoldsAfter, StepKeeps};
 ghost use Rattle.ts_txn.specs.Checking.{IsCheckedAs};
 
 use crate::own::OwnStatus;
@@ -49,10 +49,10 @@ fn check(alloc: Global, head: RequestHead) -> Result<Checked, NoMemory>
 impl<C: Link, O: Upstream<C>> Core<C, O> {
     /// Looks for the request's head in what the client gave, and checks it, or reads on.
     pub fn read_request(&mut self) -> Step
-        requires fact { Holds C.tells O.tells C.look O.look O.refuses self.old Phase.ReadRequest }
-        ensures leads { Leads result }
+        requires fact { PhaseHolds C.tells O.tells C.look O.look O.refuses self.old Phase.ReadRequest }
+        ensures leads { StepLeads result }
         ensures fact { HoldsAfter C.tells O.tells C.look O.look O.refuses self.old self.new result }
-        ensures keeps { Keeps C.look O.look O.paired O.refuses self.old self.new }
+        ensures keeps { StepKeeps C.look O.look O.paired O.refuses self.old self.new }
     {
         match self.hear_request() {
             Found::Head(head) => match check(self.alloc, head) {

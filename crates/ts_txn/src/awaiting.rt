@@ -1,6 +1,6 @@
 //! The phase in which the origin's response head is read.
-ghost use Rattle.ts_txn.specs.Cover.{Leads};
-ghost use Rattle.ts_txn.specs.Holding.{Holds, HoldsAfter, Keeps};
+ghost use Rattle.ts_txn.specs.Cover.{StepLeads};
+ghost use Rattle.ts_txn.specs.Holding.{PhaseHolds, HoldsAfter, StepKeeps};
 
 use crate::block::is_good;
 use crate::finding::is_interim;
@@ -17,10 +17,10 @@ use ts_vconn::Pulled;
 impl<C: Link, O: Upstream<C>> Core<C, O> {
     /// Looks for the head of the final response in what the origin gave, or reads on. Interim heads are dropped.
     pub fn read_response(&mut self, request: Request) -> Step
-        requires fact { Holds C.tells O.tells C.look O.look O.refuses self.old (Phase.ReadResponse request) }
-        ensures leads { Leads result }
+        requires fact { PhaseHolds C.tells O.tells C.look O.look O.refuses self.old (Phase.ReadResponse request) }
+        ensures leads { StepLeads result }
         ensures fact { HoldsAfter C.tells O.tells C.look O.look O.refuses self.old self.new result }
-        ensures keeps { Keeps C.look O.look O.paired O.refuses self.old self.new }
+        ensures keeps { StepKeeps C.look O.look O.paired O.refuses self.old self.new }
     {
         match self.hear_response() {
             Found::Head(head) => {

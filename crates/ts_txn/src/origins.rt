@@ -6,8 +6,8 @@ ghost use Rattle.ts_txn.specs.Rules.{is_denied};
 ghost use Rattle.ts_txn.specs.Relayed.{asks_head};
 ghost use Rattle.ts_txn.specs.Block.{request_text};
 ghost use Rattle.ts_txn.specs.View.{IsPaired};
-ghost use Rattle.ts_txn.specs.Cover.{Leads};
-ghost use Rattle.ts_txn.specs.Holding.{Holds, HoldsAfter, Keeps};
+ghost use Rattle.ts_txn.specs.Cover.{StepLeads};
+ghost use Rattle.ts_txn.specs.Holding.{PhaseHolds, HoldsAfter, StepKeeps};
 
 use crate::block::request_text;
 use crate::own::OwnStatus;
@@ -55,8 +55,8 @@ impl<C: Link, O: Upstream<C>> Core<C, O> {
     /// Denies the request, or finds that it has no origin.
     #[tactic(auto, using(crate::proofs::Going::denied, crate::proofs::Going::not_dialed, crate::proofs::Going::allowed, crate::proofs::Going::checked_any, crate::proofs::Asks::lacks_memory))]
     pub fn os_dns(&self, request: Request) -> Step
-        requires fact { Holds C.tells O.tells C.look O.look O.refuses self.now (Phase.OsDns request) }
-        ensures leads { Leads result }
+        requires fact { PhaseHolds C.tells O.tells C.look O.look O.refuses self.now (Phase.OsDns request) }
+        ensures leads { StepLeads result }
         ensures fact { HoldsAfter C.tells O.tells C.look O.look O.refuses self.now self.now result }
     {
         let Ok(denied) = is_host_denied(self.alloc, &self.setup, &request) else {
@@ -76,10 +76,10 @@ impl<C: Link, O: Upstream<C>> Core<C, O> {
     /// Queues the request's head for the origin.
     #[tactic(auto, using(crate::proofs::Going::queued, crate::proofs::Going::allowed_any, crate::proofs::Asks::lacks_memory))]
     pub fn send_request_hdr(&mut self, request: Request) -> Step
-        requires fact { Holds C.tells O.tells C.look O.look O.refuses self.old (Phase.SendRequestHdr request) }
-        ensures leads { Leads result }
+        requires fact { PhaseHolds C.tells O.tells C.look O.look O.refuses self.old (Phase.SendRequestHdr request) }
+        ensures leads { StepLeads result }
         ensures fact { HoldsAfter C.tells O.tells C.look O.look O.refuses self.old self.new result }
-        ensures keeps { Keeps C.look O.look O.paired O.refuses self.old self.new }
+        ensures keeps { StepKeeps C.look O.look O.paired O.refuses self.old self.new }
     {
         let Ok(text) = head_for_origin(self.alloc, &self.setup, &request) else {
             return Step { phase: Phase::Ended { end: TxnEnd::NoMemory }, next: Next::Done };
@@ -93,10 +93,10 @@ impl<C: Link, O: Upstream<C>> Core<C, O> {
     /// Writes once of the request's head.
     #[tactic(auto, using(crate::proofs::Going::writes_on, crate::proofs::Going::written, crate::proofs::Going::write_fault, crate::proofs::Going::sends_any, crate::proofs::Asks::lacks_memory))]
     pub fn send_request(&mut self, request: Request) -> Step
-        requires fact { Holds C.tells O.tells C.look O.look O.refuses self.old (Phase.SendRequest request) }
-        ensures leads { Leads result }
+        requires fact { PhaseHolds C.tells O.tells C.look O.look O.refuses self.old (Phase.SendRequest request) }
+        ensures leads { StepLeads result }
         ensures fact { HoldsAfter C.tells O.tells C.look O.look O.refuses self.old self.new result }
-        ensures keeps { Keeps C.look O.look O.paired O.refuses self.old self.new }
+        ensures keeps { StepKeeps C.look O.look O.paired O.refuses self.old self.new }
     {
         match self.write_origin() {
             Pushed::Some(_) => Step { phase: Phase::SendRequest { request }, next: Next::Go },
@@ -112,11 +112,11 @@ impl<C: Link, O: Upstream<C>> Core<C, O> {
 
     /// Moves some of the upload that follows the request's head.
     pub fn upload_some(&mut self, request: Request) -> Step
-        requires fact { Holds C.tells O.tells C.look O.look O.refuses self.old (Phase.Upload request) }
+        requires fact { PhaseHolds C.tells O.tells C.look O.look O.refuses self.old (Phase.Upload request) }
         requires pair { IsPaired O.paired self.old }
-        ensures leads { Leads result }
+        ensures leads { StepLeads result }
         ensures fact { HoldsAfter C.tells O.tells C.look O.look O.refuses self.old self.new result }
-        ensures keeps { Keeps C.look O.look O.paired O.refuses self.old self.new }
+        ensures keeps { StepKeeps C.look O.look O.paired O.refuses self.old self.new }
     {
         match self.upload() {
             Uploaded::Done => Step { phase: Phase::ReadResponse { request }, next: Next::Go },

@@ -1,7 +1,7 @@
 //! One step of a transaction, by its phase.
 ghost use Rattle.ts_txn.specs.View.{IsPaired};
-ghost use Rattle.ts_txn.specs.Cover.{Leads};
-ghost use Rattle.ts_txn.specs.Holding.{Holds, HoldsAfter, Keeps};
+ghost use Rattle.ts_txn.specs.Cover.{StepLeads};
+ghost use Rattle.ts_txn.specs.Holding.{PhaseHolds, HoldsAfter, StepKeeps};
 
 use crate::parts::Core;
 use crate::phase::{Next, Phase, Step};
@@ -13,11 +13,11 @@ impl<C: Link, O: Upstream<C>> Core<C, O> {
     /// The next step of a phase. A response that can be passed on ends the transaction for want of memory, until bodies
     /// are relayed.
     pub fn step(&mut self, phase: Phase) -> Step
-        requires fact { Holds C.tells O.tells C.look O.look O.refuses self.old phase }
+        requires fact { PhaseHolds C.tells O.tells C.look O.look O.refuses self.old phase }
         requires pair { IsPaired O.paired self.old }
-        ensures leads { Leads result }
+        ensures leads { StepLeads result }
         ensures fact { HoldsAfter C.tells O.tells C.look O.look O.refuses self.old self.new result }
-        ensures keeps { Keeps C.look O.look O.paired O.refuses self.old self.new }
+        ensures keeps { StepKeeps C.look O.look O.paired O.refuses self.old self.new }
     {
         match phase {
             Phase::Fresh => Step { phase: Phase::TxnStart, next: Next::Go },
