@@ -1,5 +1,5 @@
 -- The next step of a transaction has an event, or there is none.
-use Rattle.std.proofs.Common.{◌≡◌, ℕ, ◌≤◌, ◌⊎◌, inl, inr, Bool, true, false, Option, Some, None, refl, sym, ap, subst, ◌∙◌}
+use Rattle.std.proofs.Common.{◌≡◌, ℕ, ◌≤◌, ◌⊎◌, inl, inr, Bool, true, false, Option, Some, None, arith, refl, sym, ap, subst, ◌∙◌}
 use Rattle.std.specs.Prelude.{⊤}
 use Rattle.ts_journal.specs.declared.entry.TheConstants.{GREATEST}
 use Rattle.ts_transform.specs.Driving.{IsRousedIf}
@@ -32,6 +32,11 @@ covered_roused p main next goes roused = inl (by_phase p goes)
 -- or the numbers are used up
 pub covered_spent : (p : Phase) (main : Option StageContinuation) (next : ℕ) → GREATEST ≤ next → HasNextEventOr p main next
 covered_spent p main next spent = inr spent
+
+-- so they stay
+pub covered_later : (p : Phase) (main : Option StageContinuation) (m n : ℕ) → m ≤ n → HasNextEventOr p main m → HasNextEventOr p main n
+covered_later p main m n later (inl has) = inl has
+covered_later p main m n later (inr spent) = inr (omega (arith, spent, later))
 
 -- a phase that goes on asks nothing where it has a continuation
 pub idle_goes : (p : Phase) (main : Option StageContinuation) → Proceeds p → Idles p main

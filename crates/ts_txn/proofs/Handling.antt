@@ -1,9 +1,9 @@
 -- A transaction is sound again when it was started, and when an event was handled.
-use Rattle.std.proofs.Common.{◌≡◌, ◌⊎◌, inl, inr, ℕ, List, Bool, true, false, Option, None, refl, sym, ap, subst, ◌∙◌}
+use Rattle.std.proofs.Common.{◌≡◌, ◌⊎◌, inl, inr, ℕ, List, Bool, true, false, Option, None, arith, refl, sym, ap, subst, ◌∙◌}
 use Rattle.std.specs.Arc.{arc_value}
 use Rattle.ts_hooks.specs.declared.txn_end.TxnEnd.TheVariants as E
 use Rattle.ts_journal.specs.declared.entry.Event.{Event}
-use Rattle.ts_group.specs.Calls.{IsCalled}
+use Rattle.ts_group.specs.Calls.{IsAsked, IsCalled}
 use Rattle.ts_group.specs.Context.{Context}
 use Rattle.ts_link.specs.Link.{Look}
 use Rattle.ts_transform.specs.Driving.{unroused, works_at}
@@ -18,6 +18,7 @@ use Rattle.ts_txn.specs.declared.phase.Phase.{Phase}
 use Rattle.ts_txn.specs.declared.phase.Phase.TheVariants as P
 use Rattle.ts_txn.specs.declared.txn.Txn.{Txn}
 use Rattle.ts_txn.proofs.Asks.{asking_any, lacks_memory}
+use Rattle.ts_txn.proofs.Coverage.{covered_later}
 use Rattle.ts_txn.proofs.Seating.{called_main, called_other, called_quiet, same_next}
 
 fresh_is : (p : Phase) → is_fresh p ≡ true → p ≡ P.Fresh
@@ -56,6 +57,17 @@ module _ {C O : Type 0} (ct ot : Bool) (client : C → Look) (origin : O → Loo
       by_phase asks (inl is) = subst (PhaseFact (arc_value t.core.setup) (OriginRefuses client refuses t.core) (view_of client origin t.core)) (sym is) asks
       by_phase asks (inr is) = subst (PhaseFact (arc_value t.core.setup) (OriginRefuses client refuses t.core) (view_of client origin t.core)) (sym is)
           (lacks_memory (arc_value t.core.setup) (OriginRefuses client refuses t.core) (view_of client origin t.core) (asking_any (arc_value t.core.setup) (OriginRefuses client refuses t.core) (view_of client origin t.core) asks))
+
+  -- its group was asked, of which it knows nothing
+  pub sound_asked : (t : Txn C O) (now : Context) → IsAsked (λ s roles. IsSoundTxn ct ot client origin paired refuses t s.pending s.next roles) now
+      → IsSoundTxn ct ot client origin paired refuses t now.log.state.pending now.log.state.next now.roles
+  sound_asked t now asked = record {
+    holds = asked.sound.holds;
+    pair = asked.sound.pair;
+    seated = subst (λ ps. Seated ps now.roles t.main) (sym asked.pending) asked.sound.seated;
+    idles = asked.sound.idles;
+    covered = covered_later t.phase t.main asked.before.next now.log.state.next (omega (arith, asked.next)) asked.sound.covered;
+  }
 
   module _ (t : Txn C O) (now : Context) (role : ℕ) (event : Event)
       (c : IsCalled (λ s roles. IsSoundTxn ct ot client origin paired refuses t s.pending s.next roles) now role event) where

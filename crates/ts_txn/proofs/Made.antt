@@ -1,7 +1,11 @@
 -- A transaction that was just made is sound: nothing was given, taken or queued.
 use Rattle.std.proofs.Common.{◌≡◌, ℕ, ◌≤◌, List, [], Bool, true, false, Option, Some, None, inl, arith, refl, sym, ap, subst, ◌∙◌}
+use Rattle.std.specs.Prelude.{⊤}
 use Rattle.ts_group.specs.declared.action.Named.{Named}
+use Rattle.ts_group.specs.declared.group.Group.{Group}
+use Rattle.ts_group.specs.Context.{IsFresh}
 use Rattle.ts_journal.specs.declared.entry.Pending.{Pending}
+use Rattle.ts_journal.specs.State.{State}
 use Rattle.ts_link.specs.Link.{Look}
 use Rattle.ts_wire.specs.declared.frames.Mode.TheVariants as M
 use Rattle.ts_txn.specs.Cover.{Idles, HasNextEventOr, Seated}
@@ -9,7 +13,7 @@ use Rattle.ts_txn.specs.Holding.{PhaseFact}
 use Rattle.ts_txn.specs.Facts.{Asking, Untouched}
 use Rattle.ts_txn.specs.Making.{ArePaired, IsMadeOf, IsMadeOfIf, IsNewLink, IsNewLinkIf}
 use Rattle.ts_txn.specs.View.{IsPaired, PairIf, Side, View, no_side, side, side_if, view_of}
-use Rattle.ts_txn.specs.World.{IsSoundTxn}
+use Rattle.ts_txn.specs.World.{IsSoundTxn, IsSoundTxnGroup}
 use Rattle.ts_txn.specs.declared.parts.Core.{Core}
 use Rattle.ts_txn.specs.declared.parts.Peer.{Peer}
 use Rattle.ts_txn.specs.declared.phase.Phase.TheVariants as P
@@ -69,3 +73,16 @@ module _ {C O : Type 0} (client : C → Look) (origin : O → Look) (c : C) (o :
     idles = subst (λ p. Idles p t.main) (sym fresh) none;
     covered = subst (λ p. HasNextEventOr p t.main next) (sym fresh) (inl tt);
   }
+
+-- links of which any two belong together do
+pub any_paired : {C O : Type 0} (c : C) (o : Option O) → ArePaired (λ x y. ⊤) c o
+any_paired c None = tt
+any_paired c (Some l) = tt
+
+-- so is a group that was made of it
+pub sound_in_group : {C O Q R T U : Type 0} (ctells otells : Bool) (client : C → Look) (origin : O → Look) (paired : C → O → Type 0) (refuses : O → List ℕ → Type 0)
+    (t : Txn C O) (g : Group (Txn C O) Q R T U) (turns : ℕ) → ((next : ℕ) (roles : List Named) → IsSoundTxn ctells otells client origin paired refuses t [] next roles)
+    → g.world ≡ t → IsFresh turns g.cx → IsSoundTxnGroup ctells otells client origin paired refuses g
+sound_in_group ctells otells client origin paired refuses t g turns sound world fresh =
+    subst (λ w. IsSoundTxn ctells otells client origin paired refuses w g.cx.log.state.pending g.cx.log.state.next g.cx.roles) (sym world)
+    (subst (λ (s : State). IsSoundTxn ctells otells client origin paired refuses t s.pending s.next g.cx.roles) (sym fresh.state) (sound _ g.cx.roles))

@@ -68,7 +68,7 @@ impl<C: Link + Drop, O: Upstream<C> + Drop> Slotted for Txn<C, O> {
     ghost follows_on = { λ t u v a b. tt };
 }
 
-#[tactic(auto, using(ts_group::proofs::Grows::grows, ts_group::proofs::Grows::grows_refl, ts_transform::proofs::Kept::acts_none, crate::proofs::Handling::sound_begun, crate::proofs::Handling::sound_other, crate::proofs::Handling::sound_quiet, crate::proofs::Handling::sound_stepped, crate::proofs::Coverage::fresh_none, crate::proofs::Fitting::same_core, crate::proofs::Fitting::fits_on))]
+#[tactic(auto, using(ts_group::proofs::Grows::grows, ts_group::proofs::Grows::grows_refl, ts_transform::proofs::Kept::acts_none, crate::proofs::Handling::sound_begun, crate::proofs::Handling::sound_asked, crate::proofs::Handling::sound_other, crate::proofs::Handling::sound_quiet, crate::proofs::Handling::sound_stepped, crate::proofs::Coverage::fresh_none, crate::proofs::Fitting::same_core, crate::proofs::Fitting::fits_on))]
 impl<C: Link + Drop, O: Upstream<C> + Drop> World for Txn<C, O> {
     type Question = ();
 

@@ -60,7 +60,7 @@ pub const SILENT: Plan<'static> = Plan {
 };
 
 /// A link that gives these bytes at once.
-pub fn giving(gives: &[u8]) -> Plan {
+pub fn giving(gives: &[u8]) -> Plan<'_> {
     Plan {
         gives,
         singles: 0,
@@ -71,7 +71,7 @@ pub fn giving(gives: &[u8]) -> Plan {
 }
 
 /// A link that gives these bytes one by one.
-pub fn dripping(gives: &[u8]) -> Plan {
+pub fn dripping(gives: &[u8]) -> Plan<'_> {
     Plan {
         gives,
         singles: gives.len(),
@@ -82,7 +82,7 @@ pub fn dripping(gives: &[u8]) -> Plan {
 }
 
 // The link of a plan.
-fn link_of(alloc: Global, plan: &Plan) -> Result<MemLink, Fail>
+fn link_of(alloc: Global, plan: &Plan<'_>) -> Result<MemLink, Fail>
     ensures { IfOk result (λ l. IsNewLink (look_of l)) }
 {
     let input = Octets::copy_of(alloc, plan.gives)?;
@@ -99,7 +99,7 @@ fn link_of(alloc: Global, plan: &Plan) -> Result<MemLink, Fail>
 }
 
 // The origin of a plan, if there is one.
-fn origin_of(alloc: Global, plan: Option<Plan>) -> Result<Option<MemLink>, Fail>
+fn origin_of(alloc: Global, plan: Option<Plan<'_>>) -> Result<Option<MemLink>, Fail>
     ensures { IfOk result (IsNewLinkIf look_of) }
 {
     match plan {
@@ -125,7 +125,7 @@ fn begin<C: Link + Drop, O: Upstream<C> + Drop>(
     ensures idle { IfOk result (λ g. g.cx.log.state.held ≡ false) }
     ensures sound { IfOk result (IsSoundTxnGroup C.tells O.tells C.look O.look O.paired O.refuses) }
 {
-    let setup = Arc::new(setup, alloc)?;
+    let setup = Arc::new(alloc, setup)?;
     let txn = Txn::make(alloc, 1, setup, 0, client, origin)?;
     let mut group = Group::make(alloc, txn, 0)?;
     group.begin_turn(1, 0, 0)?;
@@ -182,6 +182,7 @@ fn leaving(alloc: Global, gives: &[u8], at: usize) -> Result<MemLink, Fail>
 }
 
 // What is left of a transaction that was driven to its end.
+#[tactic(auto, using(crate::proofs::Made::any_paired))]
 fn exchange(
     alloc: Global,
     setup: Setup,
@@ -225,8 +226,8 @@ fn has_ended(
 /// Whether a client gets this text, and an origin, if there is one, this request, where nothing is configured.
 pub fn is_answered(
     alloc: Global,
-    client: Plan,
-    origin: Option<Plan>,
+    client: Plan<'_>,
+    origin: Option<Plan<'_>>,
     end: TxnEnd,
     text: &[u8],
     request: &[u8],
@@ -262,7 +263,7 @@ pub fn is_denied_for(alloc: Global, site: &[u8], text: &[u8]) -> Result<bool, Fa
 }
 
 /// How often a client made its caller wait that gets this answer of the proxy's own, without an origin.
-pub fn waits_of(alloc: Global, client: Plan, text: &[u8]) -> Result<Option<u64>, Fail> {
+pub fn waits_of(alloc: Global, client: Plan<'_>, text: &[u8]) -> Result<Option<u64>, Fail> {
     let parts = exchange(alloc, no_lines(alloc), link_of(alloc, &client)?, None)?;
     if has_ended(&parts, TxnEnd::Whole, text, b"") {
         return Ok(Some(parts.client.waits()));
