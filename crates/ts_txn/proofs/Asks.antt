@@ -20,7 +20,7 @@ use Rattle.ts_txn.specs.Own.{own_refusal}
 use Rattle.ts_txn.specs.Relayed.{asks_head}
 use Rattle.ts_txn.specs.Block.{IsBlock, VerdictSays, asked, no_head, own_block, silent, silent_block}
 use Rattle.ts_txn.specs.View.{HasFailed, Side, View}
-use Rattle.ts_txn.specs.Moving.{FindsRequest, HearsRequest, SideReads}
+use Rattle.ts_txn.specs.Moving.{HearsRequest, SideReads}
 use Rattle.ts_txn.specs.Checking.{IsCheckedAs}
 use Rattle.ts_txn.specs.Facts.{Asking, Checked, ClientWaits, Heard, OwnReady, OwnCause, OriginTook, TookExactly, Untouched, decided}
 use Rattle.ts_txn.specs.Facts as facts

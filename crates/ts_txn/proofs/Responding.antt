@@ -64,9 +64,16 @@ module _ (setup : Setup) (refuses : Type 0) where
     carries = record {
       upload = h.carries.upload;
       text = ap (λ (x : List ℕ). x ++ s.outbox) taken ∙ ap (λ (x : List ℕ). o.look.taken ++ x) waits ∙ h.carries.text;
+      behind = λ some. h.carries.behind (λ none. some (waits ∙ none));
     };
     no_waits = waits ∙ h.no_waits;
   }
+
+  pub awaits_any : (v : View) (q : Request) → Awaits setup refuses v q → AnyEnd setup refuses v
+  awaits_any v q h = record { took = facts.request q h.served.goes h.served.carries; text = ends.quiet h.waits.quiet }
+
+  pub relays_any : (v : View) (q : Request) (head : ResponseHead) → Relays setup refuses v q head → AnyEnd setup refuses v
+  relays_any v q head h = record { took = facts.request q h.served.goes h.served.carries; text = ends.quiet h.waits.quiet }
 
   module _ (t : Bool) (v w : View) (q : Request) (told : t ≡ true) (h : Awaits setup refuses v q) where
 
@@ -84,9 +91,6 @@ module _ (setup : Setup) (refuses : Type 0) where
     -- the origin's head is read on
     pub awaits_on : (p : Pulled) → HearsResponse t v w (F.Read p) → Awaits setup refuses w q
     awaits_on p hears = subst (λ (x : View). Awaits setup refuses x q) (sym hears.others) (awaits_at w.origin p hears.finds.1)
-
-    pub awaits_any : Awaits setup refuses w q → AnyEnd setup refuses w
-    awaits_any now = record { took = facts.request q now.served.goes now.served.carries; text = ends.quiet now.waits.quiet }
 
     -- memory lacked
     pub awaits_still : HearsResponse t v w F.NoMemory → Awaits setup refuses w q
