@@ -1,18 +1,18 @@
 -- The next step of a transaction has an event, or there is none.
-use Rattle.std.proofs.Common.{◌≡◌, ℕ, ◌≤◌, ◌⊎◌, inl, inr, Bool, true, false, Option, Some, None, refl, sym, ap, subst, ◌∙◌}
+use Rattle.std.proofs.Common.{◌≡◌, ℕ, ◌≤◌, ◌⊎◌, inl, inr, Bool, true, false, Option, Some, None, arith, refl, sym, ap, subst, ◌∙◌}
 use Rattle.std.specs.Prelude.{⊤}
 use Rattle.ts_journal.specs.declared.entry.TheConstants.{GREATEST}
 use Rattle.ts_transform.specs.Driving.{IsRousedIf}
 use Rattle.ts_transform.specs.declared.continuation.StageContinuation.{StageContinuation}
-use Rattle.ts_txn.specs.Cover.{GoesOn, Idles, IsCovered, IsCoveredOr, is_ended, is_fresh}
+use Rattle.ts_txn.specs.Cover.{Proceeds, Idles, HasNextEvent, HasNextEventOr, is_ended, is_fresh}
 use Rattle.ts_txn.specs.declared.phase.Phase.{Phase}
 use Rattle.ts_txn.specs.declared.phase.Phase.TheVariants as P
 
 -- its continuation was roused
-pub covered_roused : (p : Phase) (main : Option StageContinuation) (next : ℕ) → GoesOn p → IsRousedIf main → IsCoveredOr p main next
+pub covered_roused : (p : Phase) (main : Option StageContinuation) (next : ℕ) → Proceeds p → IsRousedIf main → HasNextEventOr p main next
 covered_roused p main next goes roused = inl (by_phase p goes)
   where
-    by_phase : (p : Phase) → GoesOn p → IsCovered p main
+    by_phase : (p : Phase) → Proceeds p → HasNextEvent p main
     by_phase P.Fresh goes = tt
     by_phase P.TxnStart goes = roused
     by_phase P.ReadRequest goes = roused
@@ -30,11 +30,16 @@ covered_roused p main next goes roused = inl (by_phase p goes)
     by_phase (P.Ended end) goes = tt
 
 -- or the numbers are used up
-pub covered_spent : (p : Phase) (main : Option StageContinuation) (next : ℕ) → GREATEST ≤ next → IsCoveredOr p main next
+pub covered_spent : (p : Phase) (main : Option StageContinuation) (next : ℕ) → GREATEST ≤ next → HasNextEventOr p main next
 covered_spent p main next spent = inr spent
 
+-- so they stay
+pub covered_later : (p : Phase) (main : Option StageContinuation) (m n : ℕ) → m ≤ n → HasNextEventOr p main m → HasNextEventOr p main n
+covered_later p main m n later (inl has) = inl has
+covered_later p main m n later (inr spent) = inr (omega (arith, spent, later))
+
 -- a phase that goes on asks nothing where it has a continuation
-pub idle_goes : (p : Phase) (main : Option StageContinuation) → GoesOn p → Idles p main
+pub idle_goes : (p : Phase) (main : Option StageContinuation) → Proceeds p → Idles p main
 idle_goes P.Fresh main goes = absurd goes
 idle_goes P.TxnStart main goes = tt
 idle_goes P.ReadRequest main goes = tt
@@ -72,8 +77,8 @@ ended_has (P.TxnClose end) is T h = absurd (cc)
 pub ended_idle : (p : Phase) (main : Option StageContinuation) → is_ended p ≡ true → main ≡ None → Idles p main
 ended_idle p main is none = ended_has p is (λ x. Idles x main) (λ end. none)
 
-pub ended_covered : (p : Phase) (main : Option StageContinuation) (next : ℕ) → is_ended p ≡ true → IsCoveredOr p main next
-ended_covered p main next is = ended_has p is (λ x. IsCoveredOr x main next) (λ end. inl tt)
+pub ended_covered : (p : Phase) (main : Option StageContinuation) (next : ℕ) → is_ended p ≡ true → HasNextEventOr p main next
+ended_covered p main next is = ended_has p is (λ x. HasNextEventOr x main next) (λ end. inl tt)
 
 -- one that was not started has none
 pub fresh_none : (p : Phase) (main : Option StageContinuation) → is_fresh p ≡ true → Idles p main → main ≡ None

@@ -4,9 +4,9 @@ use Rattle.std.specs.Arc.{arc_value}
 use Rattle.std.specs.Prelude.{IsSomeAnd}
 use Rattle.ts_link.specs.Link.{IsSure, IsSurePlan, Look}
 use Rattle.ts_upstream.specs.Uploads.{SameRefusal}
-use Rattle.ts_txn.specs.Holding.{IsSameLink, Keeps}
+use Rattle.ts_txn.specs.Holding.{IsSameLink, StepKeeps}
 use Rattle.ts_txn.specs.View.{is_dialed, side_if}
-use Rattle.ts_txn.specs.World.{Fits}
+use Rattle.ts_txn.specs.World.{IsTxnOf}
 use Rattle.ts_txn.specs.declared.parts.Core.{Core}
 use Rattle.ts_txn.specs.declared.txn.Txn.{Txn}
 use Rattle.ts_txn.specs.declared.txn.TxnTag.{TxnTag}
@@ -16,7 +16,7 @@ still_sure l m same sure = subst (λ p. IsSomeAnd p IsSurePlan) (sym same.plan) 
 
 module _ {C O : Type 0} (client : C → Look) (origin : O → Look) (paired : C → O → Type 0) (refuses : O → List ℕ → Type 0) where
 
-  pub same_core : (t : Core C O) → Keeps client origin paired refuses t t
+  pub same_core : (t : Core C O) → StepKeeps client origin paired refuses t t
   same_core t = record {
     number = refl;
     setup = refl;
@@ -28,7 +28,7 @@ module _ {C O : Type 0} (client : C → Look) (origin : O → Look) (paired : C 
     refusal = record { still = λ c h. h; before = λ c h. h };
   }
 
-  pub fits_on : (tag : TxnTag) (t u : Txn C O) → Keeps client origin paired refuses t.core u.core → Fits client origin tag t → Fits client origin tag u
+  pub fits_on : (tag : TxnTag) (t u : Txn C O) → StepKeeps client origin paired refuses t.core u.core → IsTxnOf client origin tag t → IsTxnOf client origin tag u
   fits_on tag t u keeps h = record {
     number = keeps.number ∙ h.number;
     setup = ap (λ s. arc_value s) keeps.setup ∙ h.setup;

@@ -1,23 +1,24 @@
 -- A transaction is sound again when it was started, and when an event was handled.
-use Rattle.std.proofs.Common.{◌≡◌, ◌⊎◌, inl, inr, ℕ, List, Bool, true, false, Option, None, refl, sym, ap, subst, ◌∙◌}
+use Rattle.std.proofs.Common.{◌≡◌, ◌⊎◌, inl, inr, ℕ, List, Bool, true, false, Option, None, arith, refl, sym, ap, subst, ◌∙◌}
 use Rattle.std.specs.Arc.{arc_value}
 use Rattle.ts_hooks.specs.declared.txn_end.TxnEnd.TheVariants as E
 use Rattle.ts_journal.specs.declared.entry.Event.{Event}
-use Rattle.ts_group.specs.Calls.{IsCalled}
+use Rattle.ts_group.specs.Calls.{IsAsked, IsCalled}
 use Rattle.ts_group.specs.Context.{Context}
 use Rattle.ts_link.specs.Link.{Look}
 use Rattle.ts_transform.specs.Driving.{unroused, works_at}
-use Rattle.ts_txn.specs.Cover.{Idles, IsCoveredOr, Seated, is_fresh}
+use Rattle.ts_txn.specs.Cover.{Idles, HasNextEventOr, Seated, is_fresh}
 use Rattle.ts_txn.specs.Driven.{BeginsOrLacks, SeatedAfter}
 use Rattle.ts_txn.specs.Ends.{EndFact}
 use Rattle.ts_txn.specs.Facts.{Asking}
-use Rattle.ts_txn.specs.Holding.{Holds, Keeps, PhaseFact}
-use Rattle.ts_txn.specs.View.{IsPaired, Refuses, view}
-use Rattle.ts_txn.specs.World.{IsSound}
+use Rattle.ts_txn.specs.Holding.{PhaseHolds, StepKeeps, PhaseFact}
+use Rattle.ts_txn.specs.View.{IsPaired, OriginRefuses, view_of}
+use Rattle.ts_txn.specs.World.{IsSoundTxn}
 use Rattle.ts_txn.specs.declared.phase.Phase.{Phase}
 use Rattle.ts_txn.specs.declared.phase.Phase.TheVariants as P
 use Rattle.ts_txn.specs.declared.txn.Txn.{Txn}
 use Rattle.ts_txn.proofs.Asks.{asking_any, lacks_memory}
+use Rattle.ts_txn.proofs.Coverage.{covered_later}
 use Rattle.ts_txn.proofs.Seating.{called_main, called_other, called_quiet, same_next}
 
 fresh_is : (p : Phase) → is_fresh p ≡ true → p ≡ P.Fresh
@@ -41,30 +42,41 @@ module _ {C O : Type 0} (ct ot : Bool) (client : C → Look) (origin : O → Loo
 
   -- it was started
   pub sound_begun : (t u : Txn C O) (a b : Context)
-      → IsSound ct ot client origin paired refuses t a.log.state.pending a.log.state.next a.roles → u.core ≡ t.core → is_fresh t.phase ≡ true → BeginsOrLacks u.phase
-      → SeatedAfter t.main u.main a b → Idles u.phase u.main → IsCoveredOr u.phase u.main b.log.state.next
-      → IsSound ct ot client origin paired refuses u b.log.state.pending b.log.state.next b.roles
+      → IsSoundTxn ct ot client origin paired refuses t a.log.state.pending a.log.state.next a.roles → u.core ≡ t.core → is_fresh t.phase ≡ true → BeginsOrLacks u.phase
+      → SeatedAfter t.main u.main a b → Idles u.phase u.main → HasNextEventOr u.phase u.main b.log.state.next
+      → IsSoundTxn ct ot client origin paired refuses u b.log.state.pending b.log.state.next b.roles
   sound_begun t u a b h same fresh begins seated idles covered = record {
-    holds = subst (λ k. Holds ct ot client origin refuses k u.phase) (sym same) (λ told also. by_phase (subst (PhaseFact _ _ (view client origin t.core)) (fresh_is t.phase fresh) (h.holds told also)) begins);
+    holds = subst (λ k. PhaseHolds ct ot client origin refuses k u.phase) (sym same) (λ told also. by_phase (subst (PhaseFact _ _ (view_of client origin t.core)) (fresh_is t.phase fresh) (h.holds told also)) begins);
     pair = subst (λ k. IsPaired paired k) (sym same) h.pair;
     seated = seated h.seated;
     idles = idles;
     covered = covered;
   }
     where
-      by_phase : Asking (view client origin t.core) → BeginsOrLacks u.phase → PhaseFact (arc_value t.core.setup) (Refuses client refuses t.core) (view client origin t.core) u.phase
-      by_phase asks (inl is) = subst (PhaseFact (arc_value t.core.setup) (Refuses client refuses t.core) (view client origin t.core)) (sym is) asks
-      by_phase asks (inr is) = subst (PhaseFact (arc_value t.core.setup) (Refuses client refuses t.core) (view client origin t.core)) (sym is)
-          (lacks_memory (arc_value t.core.setup) (Refuses client refuses t.core) (view client origin t.core) (asking_any (arc_value t.core.setup) (Refuses client refuses t.core) (view client origin t.core) asks))
+      by_phase : Asking (view_of client origin t.core) → BeginsOrLacks u.phase → PhaseFact (arc_value t.core.setup) (OriginRefuses client refuses t.core) (view_of client origin t.core) u.phase
+      by_phase asks (inl is) = subst (PhaseFact (arc_value t.core.setup) (OriginRefuses client refuses t.core) (view_of client origin t.core)) (sym is) asks
+      by_phase asks (inr is) = subst (PhaseFact (arc_value t.core.setup) (OriginRefuses client refuses t.core) (view_of client origin t.core)) (sym is)
+          (lacks_memory (arc_value t.core.setup) (OriginRefuses client refuses t.core) (view_of client origin t.core) (asking_any (arc_value t.core.setup) (OriginRefuses client refuses t.core) (view_of client origin t.core) asks))
+
+  -- its group was asked, of which it knows nothing
+  pub sound_asked : (t : Txn C O) (now : Context) → IsAsked (λ s roles. IsSoundTxn ct ot client origin paired refuses t s.pending s.next roles) now
+      → IsSoundTxn ct ot client origin paired refuses t now.log.state.pending now.log.state.next now.roles
+  sound_asked t now asked = record {
+    holds = asked.sound.holds;
+    pair = asked.sound.pair;
+    seated = subst (λ ps. Seated ps now.roles t.main) (sym asked.pending) asked.sound.seated;
+    idles = asked.sound.idles;
+    covered = covered_later t.phase t.main asked.before.next now.log.state.next (omega (arith, asked.next)) asked.sound.covered;
+  }
 
   module _ (t : Txn C O) (now : Context) (role : ℕ) (event : Event)
-      (c : IsCalled (λ s roles. IsSound ct ot client origin paired refuses t s.pending s.next roles) now role event) where
+      (c : IsCalled (λ s roles. IsSoundTxn ct ot client origin paired refuses t s.pending s.next roles) now role event) where
 
-    next_covered : IsCoveredOr t.phase t.main now.log.state.next
-    next_covered = subst (IsCoveredOr t.phase t.main) (sym (same_next _ now role event c t.main c.sound.seated)) c.sound.covered
+    next_covered : HasNextEventOr t.phase t.main now.log.state.next
+    next_covered = subst (HasNextEventOr t.phase t.main) (sym (same_next _ now role event c t.main c.sound.seated)) c.sound.covered
 
     -- an event of another continuation
-    pub sound_other : (role ≡ 1 → ⊥) → IsSound ct ot client origin paired refuses t now.log.state.pending now.log.state.next now.roles
+    pub sound_other : (role ≡ 1 → ⊥) → IsSoundTxn ct ot client origin paired refuses t now.log.state.pending now.log.state.next now.roles
     sound_other other = record {
       holds = c.sound.holds;
       pair = c.sound.pair;
@@ -74,7 +86,7 @@ module _ {C O : Type 0} (ct ot : Bool) (client : C → Look) (origin : O → Loo
     }
 
     -- one at which it does not work
-    pub sound_quiet : works_at event ≡ false → IsSound ct ot client origin paired refuses t now.log.state.pending now.log.state.next now.roles
+    pub sound_quiet : works_at event ≡ false → IsSoundTxn ct ot client origin paired refuses t now.log.state.pending now.log.state.next now.roles
     sound_quiet rests = record {
       holds = c.sound.holds;
       pair = c.sound.pair;
@@ -84,9 +96,9 @@ module _ {C O : Type 0} (ct ot : Bool) (client : C → Look) (origin : O → Loo
     }
 
     -- one at which it made a step
-    pub sound_stepped : (u : Txn C O) (after : Context) → Holds ct ot client origin refuses u.core u.phase → Keeps client origin paired refuses t.core u.core
-        → SeatedAfter (unroused t.main) u.main now after → Idles u.phase u.main → IsCoveredOr u.phase u.main after.log.state.next
-        → IsSound ct ot client origin paired refuses u after.log.state.pending after.log.state.next after.roles
+    pub sound_stepped : (u : Txn C O) (after : Context) → PhaseHolds ct ot client origin refuses u.core u.phase → StepKeeps client origin paired refuses t.core u.core
+        → SeatedAfter (unroused t.main) u.main now after → Idles u.phase u.main → HasNextEventOr u.phase u.main after.log.state.next
+        → IsSoundTxn ct ot client origin paired refuses u after.log.state.pending after.log.state.next after.roles
     sound_stepped u after holds keeps seated idles covered = record {
       holds = holds;
       pair = keeps.pair c.sound.pair;

@@ -9,11 +9,11 @@ use Rattle.ts_wire.specs.Check.{check}
 use Rattle.ts_wire.specs.declared.heads.RequestHead.{RequestHead}
 use Rattle.ts_wire.specs.declared.heads.ResponseHead.{ResponseHead}
 use Rattle.ts_txn.specs.Block.{DenySays, DialSays, IsBlock, VerdictSays, asked, no_head, silent}
-use Rattle.ts_txn.specs.View.{Refuses, Side, View, refuses_if, view}
+use Rattle.ts_txn.specs.View.{OriginRefuses, Side, View, refuses_if, view_of}
 use Rattle.ts_txn.specs.Facts.{Awaits, OwnCause, OwnReady, OwnSends, Relays, Served, decided, fault}
 use Rattle.ts_txn.specs.Ends.{AnyEnd, EndFact, EndsBy, FaultText, HasBlock, Relayed, SomeText}
 use Rattle.ts_txn.specs.Ends as ends
-use Rattle.ts_txn.specs.Holding.{Keeps, PhaseFact}
+use Rattle.ts_txn.specs.Holding.{StepKeeps, PhaseFact}
 use Rattle.ts_txn.specs.Driven.{StaysOrLacks}
 use Rattle.ts_txn.specs.declared.block.Block.{Block}
 use Rattle.ts_txn.specs.declared.parts.Core.{Core}
@@ -134,14 +134,14 @@ stays_or_lacks setup refuses v p d h (inr is) = subst (PhaseFact setup refuses v
 
 -- what a step led to holds of the transaction as it then is
 pub settled : {C O : Type 0} (client : C → Look) (origin : O → Look) (paired : C → O → Type 0) (refuses : O → List ℕ → Type 0) (old new : Core C O) (p d : Phase)
-    → Keeps client origin paired refuses old new → PhaseFact (arc_value old.setup) (Refuses client refuses old) (view client origin new) p → StaysOrLacks p d
-    → PhaseFact (arc_value new.setup) (Refuses client refuses new) (view client origin new) d
+    → StepKeeps client origin paired refuses old new → PhaseFact (arc_value old.setup) (OriginRefuses client refuses old) (view_of client origin new) p → StaysOrLacks p d
+    → PhaseFact (arc_value new.setup) (OriginRefuses client refuses new) (view_of client origin new) d
 settled client origin paired refuses old new p d keeps h stays =
-    let v = view client origin new in
-    let to : Refuses client refuses old → Refuses client refuses new = λ r.
+    let v = view_of client origin new in
+    let to : OriginRefuses client refuses old → OriginRefuses client refuses new = λ r.
         subst (λ (c : List ℕ). refuses_if refuses new.origin c) (sym keeps.client.source) (keeps.refusal.still _ r) in
-    let from : Refuses client refuses new → Refuses client refuses old = λ r.
+    let from : OriginRefuses client refuses new → OriginRefuses client refuses old = λ r.
         keeps.refusal.before _ (subst (λ (c : List ℕ). refuses_if refuses new.origin c) keeps.client.source r) in
-    subst (λ s. PhaseFact (arc_value s) (Refuses client refuses new) v d) (sym keeps.setup)
-    (stays_or_lacks (arc_value old.setup) (Refuses client refuses new) v p d
-      (phase_fact (arc_value old.setup) (Refuses client refuses old) (Refuses client refuses new) to from v p h) stays)
+    subst (λ s. PhaseFact (arc_value s) (OriginRefuses client refuses new) v d) (sym keeps.setup)
+    (stays_or_lacks (arc_value old.setup) (OriginRefuses client refuses new) v p d
+      (phase_fact (arc_value old.setup) (OriginRefuses client refuses old) (OriginRefuses client refuses new) to from v p h) stays)

@@ -1,5 +1,5 @@
--- The duties of a transaction up to the head, and the event that does them: while it goes on, its continuation has a
--- pending event, so that no wake is lost (Developer's Guide, "Continuations" and "Actions and Events").
+-- The duties of a transaction up to the head, and the event that does them: while it goes on, its continuation
+-- has a pending event, so that no wake is lost (Developer's Guide, "Continuations" and "Actions and Events").
 use Rattle.std.specs.Prelude.{◌≡◌, ℕ, ◌≤◌, ◌⊎◌, List, Bool, true, false, Option, Some, None, ⊤}
 use Rattle.ts_journal.specs.declared.entry.TheConstants.{GREATEST}
 use Rattle.ts_journal.specs.declared.entry.Pending.{Pending}
@@ -23,19 +23,19 @@ is_ended (P.Ended end) = true
 is_ended _ = false
 
 -- the transaction was started and has not ended
-abbrev pub GoesOn : Phase → Type 0
-GoesOn P.Fresh = ⊥
-GoesOn (P.Ended end) = ⊥
-GoesOn _ = ⊤
+abbrev pub Proceeds : Phase → Type 0
+Proceeds P.Fresh = ⊥
+Proceeds (P.Ended end) = ⊥
+Proceeds _ = ⊤
 
 -- what a step answers: the transaction goes on where a next step is made, and else it has ended
 abbrev pub StepsTo : Next → Phase → Type 0
-StepsTo N.Go phase = GoesOn phase
-StepsTo N.Wait phase = GoesOn phase
+StepsTo N.Go phase = Proceeds phase
+StepsTo N.Wait phase = Proceeds phase
 StepsTo N.Done phase = is_ended phase ≡ true
 
-abbrev pub Leads : Step → Type 0
-Leads s = StepsTo s.next s.phase
+abbrev pub StepLeads : Step → Type 0
+StepLeads s = StepsTo s.next s.phase
 
 -- the role of the one continuation of a transaction up to the head
 abbrev pub main_role : ℕ
@@ -59,11 +59,11 @@ Idles (P.Ended end) main = main ≡ None
 Idles _ main = ⊤
 
 -- while it goes on, its next step has an event
-abbrev pub IsCovered : Phase → Option StageContinuation → Type 0
-IsCovered P.Fresh main = ⊤
-IsCovered (P.Ended end) main = ⊤
-IsCovered _ main = IsRousedIf main
+abbrev pub HasNextEvent : Phase → Option StageContinuation → Type 0
+HasNextEvent P.Fresh main = ⊤
+HasNextEvent (P.Ended end) main = ⊤
+HasNextEvent _ main = IsRousedIf main
 
 -- or no event can be set, since the numbers of its group are used up
-abbrev pub IsCoveredOr : Phase → Option StageContinuation → ℕ → Type 0
-IsCoveredOr phase main next = IsCovered phase main ⊎ (GREATEST ≤ next)
+abbrev pub HasNextEventOr : Phase → Option StageContinuation → ℕ → Type 0
+HasNextEventOr phase main next = HasNextEvent phase main ⊎ (GREATEST ≤ next)

@@ -8,7 +8,8 @@ use Rattle.ts_txn.specs.declared.phase.Phase.{Phase}
 use Rattle.ts_txn.specs.declared.phase.Phase.TheVariants as P
 
 -- the continuation stays seated
-abbrev pub SeatedAfter : Option StageContinuation → Option StageContinuation → Context → Context → Type 0
+abbrev pub SeatedAfter : Option StageContinuation → Option StageContinuation → Context → Context
+    → Type 0
 SeatedAfter t u a b = Seated a.log.state.pending a.roles t → Seated b.log.state.pending b.roles u
 
 -- the phase is as it was, or the transaction has ended for want of memory

@@ -4,8 +4,8 @@ use Rattle.std.specs.Arc.{arc_value}
 use Rattle.ts_config.specs.declared.setup.Setup.{Setup}
 use Rattle.ts_link.specs.Link.{Look}
 use Rattle.ts_upstream.specs.Uploads.{SameRefusal}
-use Rattle.ts_txn.specs.View.{IsPaired, Refuses, View, refuses_if, side, side_if, view}
-use Rattle.ts_txn.specs.Facts.{Allowed, Asking, Awaits, Checked, OwnReady, OwnSends, Relays, SendsRequest, Uploading}
+use Rattle.ts_txn.specs.View.{IsPaired, OriginRefuses, View, refuses_if, side, side_if, view_of}
+use Rattle.ts_txn.specs.Facts.{IsAllowed, Asking, Awaits, Checked, OwnReady, OwnSends, Relays, SendingRequest, Uploading}
 use Rattle.ts_txn.specs.Ends.{EndFact}
 use Rattle.ts_txn.specs.declared.parts.Core.{Core}
 use Rattle.ts_txn.specs.declared.phase.Phase.{Phase}
@@ -20,8 +20,8 @@ module _ (setup : Setup) (refuses : Type 0) where
   PhaseFact v P.ReadRequest = Asking v
   PhaseFact v (P.ReadRequestHdr q) = Checked v q
   PhaseFact v (P.OsDns q) = Checked v q
-  PhaseFact v (P.SendRequestHdr q) = Allowed setup v q
-  PhaseFact v (P.SendRequest q) = SendsRequest setup v q
+  PhaseFact v (P.SendRequestHdr q) = IsAllowed setup v q
+  PhaseFact v (P.SendRequest q) = SendingRequest setup v q
   PhaseFact v (P.Upload q) = Uploading setup v q
   PhaseFact v (P.ReadResponse q) = Awaits setup refuses v q
   PhaseFact v (P.ReadResponseHdr q h) = Relays setup refuses v q h
@@ -39,14 +39,14 @@ module _ {C O : Type 0} (ctells otells : Bool) (client : C → Look) (origin : O
     (refuses : O → List ℕ → Type 0) where
 
   -- what holds of a transaction in a phase
-  abbrev pub Holds : Core C O → Phase → Type 0
-  Holds t phase = IfTold ctells otells
-      (PhaseFact (arc_value t.setup) (Refuses client refuses t) (view client origin t) phase)
+  abbrev pub PhaseHolds : Core C O → Phase → Type 0
+  PhaseHolds t phase = IfTold ctells otells
+      (PhaseFact (arc_value t.setup) (OriginRefuses client refuses t) (view_of client origin t) phase)
 
   -- What holds after a step, in the phase that it answers. What the origin refuses is what it refused before.
   abbrev pub HoldsAfter : Core C O → Core C O → Step → Type 0
   HoldsAfter old new s = IfTold ctells otells
-      (PhaseFact (arc_value old.setup) (Refuses client refuses old) (view client origin new) s.phase)
+      (PhaseFact (arc_value old.setup) (OriginRefuses client refuses old) (view_of client origin new) s.phase)
 
 -- the same link as before, whatever it gave and took
 pub record IsSameLink (old new : Look) : Type 0 where
@@ -55,13 +55,13 @@ pub record IsSameLink (old new : Look) : Type 0 where
   pub plan : new.plan ≡ old.plan
 
 -- what every step leaves as it is
-pub record Keeps {C O : Type 0} (clook : C → Look) (olook : O → Look) (paired : C → O → Type 0)
+pub record StepKeeps {C O : Type 0} (clook : C → Look) (olook : O → Look) (paired : C → O → Type 0)
     (refuses : O → List ℕ → Type 0) (old new : Core C O) : Type 0 where
   pub number : new.number ≡ old.number
   pub setup : new.setup ≡ old.setup
   pub plugins_at : new.plugins_at ≡ old.plugins_at
   pub client : IsSameLink (clook old.client.link) (clook new.client.link)
   pub origin : IsSameLink (side_if olook old.origin).look (side_if olook new.origin).look
-  pub dialed : (view clook olook new).dialed ≡ (view clook olook old).dialed
+  pub dialed : (view_of clook olook new).dialed ≡ (view_of clook olook old).dialed
   pub pair : IsPaired paired old → IsPaired paired new
   pub refusal : SameRefusal (refuses_if refuses old.origin) (refuses_if refuses new.origin)

@@ -1,19 +1,29 @@
 -- A transaction as it is made, and what is left of it once it is taken apart.
-use Rattle.std.specs.Prelude.{◌≡◌, ℕ, [], Option, Some, None, ⊤}
+use Rattle.std.specs.Prelude.{◌≡◌, ℕ, ◌+◌, ◌≤◌, [], length, Option, Some, None, ⊤}
+use Rattle.ts_config.specs.Bytes.{most_transforms}
+use Rattle.ts_config.specs.declared.setup.Setup.{Setup}
 use Rattle.ts_hooks.specs.declared.txn_end.TxnEnd.{TxnEnd}
 use Rattle.ts_link.specs.Link.{Look}
+use Rattle.ts_txn.specs.declared.making.TheConstants.{MOST_GROUPS, MOST_PLUGINS}
 use Rattle.ts_txn.specs.declared.parts.Peer.{Peer}
 use Rattle.ts_txn.specs.declared.phase.Phase.{Phase}
 use Rattle.ts_txn.specs.declared.phase.Phase.TheVariants as P
 
+-- A setup has so few transform lines and hook plugin lines that a transaction takes it, and each of these plugins has a
+-- group, from this one on.
+pub record HasFewLines (setup : Setup) (plugins_at : ℕ) : Type 0 where
+  pub transforms : length setup.transforms.items ≤ most_transforms
+  pub plugins : length setup.plugins.items ≤ MOST_PLUGINS
+  pub groups : plugins_at + length setup.plugins.items ≤ MOST_GROUPS
+
 -- a link that gave nothing and took nothing
-pub record IsUnused (l : Look) : Type 0 where
+pub record IsNewLink (l : Look) : Type 0 where
   pub no_given : l.given ≡ []
   pub no_taken : l.taken ≡ []
 
-abbrev pub IsUnusedIf : {L : Type 0} → (L → Look) → Option L → Type 0
-IsUnusedIf look None = ⊤
-IsUnusedIf look (Some l) = IsUnused (look l)
+abbrev pub IsNewLinkIf : {L : Type 0} → (L → Look) → Option L → Type 0
+IsNewLinkIf look None = ⊤
+IsNewLinkIf look (Some l) = IsNewLink (look l)
 
 -- the links belong together, if there are two
 abbrev pub ArePaired : {C O : Type 0} → (C → O → Type 0) → C → Option O → Type 0
@@ -34,9 +44,9 @@ IsMadeOfIf look (Some l) None = ⊥
 IsMadeOfIf look (Some l) (Some p) = IsMadeOf look l p
 
 -- how it ended, if it has
-abbrev pub end_of : Phase → Option TxnEnd
-end_of (P.Ended end) = Some end
-end_of _ = None
+abbrev pub end_of_phase : Phase → Option TxnEnd
+end_of_phase (P.Ended end) = Some end
+end_of_phase _ = None
 
 -- the origin's link, if there is one, and its faults when the transaction was made
 abbrev pub link_if : {L : Type 0} → Option (Peer L) → Option L

@@ -1,10 +1,10 @@
 //! How the events of a transaction's continuation drive its steps. Only what stands here sets events.
 ghost use Rattle.std.specs.Prelude.{◌≡◌, true, None, OnOk};
 ghost use Rattle.ts_transform.specs.Driving.{ActsWithin, AddsEvents, IsRousedIf, KeepsStage, SetsOnly};
-ghost use Rattle.ts_txn.specs.Cover.{GoesOn, Idles, IsCoveredOr, IsOfMain, StepsTo};
+ghost use Rattle.ts_txn.specs.Cover.{Proceeds, Idles, HasNextEventOr, IsOfMain, StepsTo};
 ghost use Rattle.ts_txn.specs.Driven.{BeginsOrLacks, SeatedAfter, StaysOrLacks};
 ghost use Rattle.ts_txn.specs.View.{IsPaired};
-ghost use Rattle.ts_txn.specs.Holding.{Holds, Keeps};
+ghost use Rattle.ts_txn.specs.Holding.{PhaseHolds, StepKeeps};
 
 use crate::parts::Core;
 use crate::phase::{Next, Phase};
@@ -81,12 +81,12 @@ fn is_spent(fault: &SetFault) -> bool
 #[tactic(auto, using(crate::proofs::Seating::seated_roused, crate::proofs::Coverage::covered_roused, crate::proofs::Coverage::covered_spent, crate::proofs::Coverage::idle_goes, ts_transform::proofs::Kept::acts_adds))]
 fn rouse_main(after: u64, main: &mut Option<StageContinuation>, phase: &mut Phase, cx: &mut Cx)
     requires turn { cx.old.log.state.held ≡ true }
-    requires goes_on { GoesOn phase.old }
+    requires goes_on { Proceeds phase.old }
     ensures within { ActsWithin 1 cx.old cx.new }
     ensures seated { SeatedAfter main.old main.new cx.old cx.new }
     ensures phase { StaysOrLacks phase.old phase.new }
     ensures idles { Idles phase.new main.new }
-    ensures covered { IsCoveredOr phase.new main.new cx.new.log.state.next }
+    ensures covered { HasNextEventOr phase.new main.new cx.new.log.state.next }
 {
     let Err(fault) = rouse(main, after, cx) else {
         return;
@@ -107,7 +107,7 @@ fn settle(next: Next, main: &mut Option<StageContinuation>, phase: &mut Phase, c
     ensures seated { SeatedAfter main.old main.new cx.old cx.new }
     ensures phase { StaysOrLacks phase.old phase.new }
     ensures idles { Idles phase.new main.new }
-    ensures covered { IsCoveredOr phase.new main.new cx.new.log.state.next }
+    ensures covered { HasNextEventOr phase.new main.new cx.new.log.state.next }
 {
     match next {
         Next::Go => rouse_main(0, main, phase, cx),
@@ -139,14 +139,14 @@ pub fn go_on<C: Link, O: Upstream<C>>(
     cx: &mut Cx,
 )
     requires turn { cx.old.log.state.held ≡ true }
-    requires holds { Holds C.tells O.tells C.look O.look O.refuses core.old phase.old }
+    requires holds { PhaseHolds C.tells O.tells C.look O.look O.refuses core.old phase.old }
     requires pair { IsPaired O.paired core.old }
     ensures within { ActsWithin 1 cx.old cx.new }
-    ensures holds { Holds C.tells O.tells C.look O.look O.refuses core.new phase.new }
-    ensures keeps { Keeps C.look O.look O.paired O.refuses core.old core.new }
+    ensures holds { PhaseHolds C.tells O.tells C.look O.look O.refuses core.new phase.new }
+    ensures keeps { StepKeeps C.look O.look O.paired O.refuses core.old core.new }
     ensures seated { SeatedAfter main.old main.new cx.old cx.new }
     ensures idles { Idles phase.new main.new }
-    ensures covered { IsCoveredOr phase.new main.new cx.new.log.state.next }
+    ensures covered { HasNextEventOr phase.new main.new cx.new.log.state.next }
 {
     let was = take(phase);
     let step = core.step(was);
@@ -163,7 +163,7 @@ pub fn begin(main: &mut Option<StageContinuation>, phase: &mut Phase, cx: &mut C
     ensures phase { BeginsOrLacks phase.new }
     ensures seated { SeatedAfter main.old main.new cx.old cx.new }
     ensures idles { Idles phase.new main.new }
-    ensures covered { IsCoveredOr phase.new main.new cx.new.log.state.next }
+    ensures covered { HasNextEventOr phase.new main.new cx.new.log.state.next }
 {
     let Ok(made) = make_end(MAIN, cx) else {
         lose(phase);

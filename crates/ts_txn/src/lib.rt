@@ -25,9 +25,18 @@ mod txn;
 
 pub use acting::acts_on;
 pub use block::{Block, block_of, one_block};
+pub use driver::MAIN;
+pub use making::{MOST_GROUPS, MOST_PLUGINS, TxnParts};
 pub use own::OwnStatus;
 pub use relayed::client_framing;
 pub use rules::{apply_rules, is_denied};
+pub use txn::{Txn, TxnTag};
 
 #[cfg(test)]
 mod tests;
+#[cfg(test)]
+mod txn_tests;
+#[cfg(test)]
+mod txn_tests_origins;
+#[cfg(test)]
+mod txn_tests_requests;

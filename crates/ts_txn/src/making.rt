@@ -1,8 +1,10 @@
 //! How a transaction is made of its links, and taken apart.
 ghost use Rattle.std.specs.Prelude.{◌≡◌, ℕ, List, [], true, IfOk};
+ghost use Rattle.std.specs.Arc.{arc_value};
+ghost use Rattle.std.specs.Option.{option_copied};
 ghost use Rattle.ts_group.specs.declared.action.Named.{Named};
-ghost use Rattle.ts_txn.specs.Making.{ArePaired, IsMadeOf, IsMadeOfIf, IsUnused, IsUnusedIf, base_if, end_of, link_if};
-ghost use Rattle.ts_txn.specs.World.{IsSound};
+ghost use Rattle.ts_txn.specs.Making.{ArePaired, HasFewLines, IsMadeOf, IsMadeOfIf, IsNewLink, IsNewLinkIf, base_if, end_of_phase, link_if};
+ghost use Rattle.ts_txn.specs.World.{IsSoundTxn};
 
 use crate::parts::{Core, Peer, Sent};
 use crate::phase::Phase;
@@ -15,6 +17,12 @@ use ts_iobuf::Waiting;
 use ts_link::{Link, NoMemory};
 use ts_upstream::Upstream;
 use ts_wire::Mode;
+
+/// How many lines of a configuration that name a hook plugin a transaction takes at most.
+pub const MOST_PLUGINS: u32 = 64;
+
+/// How many mutex groups there are at most, so that each of those plugins has one.
+pub const MOST_GROUPS: u32 = 4_096;
 
 /// What is left of a transaction: its links, what was queued for the client, how many faults the links had met when it was
 /// made, and how it ended, if it has.
@@ -71,15 +79,16 @@ impl<C: Link + Drop, O: Upstream<C> + Drop> Txn<C, O> {
         client: C,
         origin: Option<O>,
     ) -> Result<Txn<C, O>, NoMemory>
-        requires client { C.tells ≡ true → IsUnused (C.look client) }
-        requires origin { O.tells ≡ true → IsUnusedIf O.look origin }
+        requires few { HasFewLines (arc_value setup) plugins_at }
+        requires client { C.tells ≡ true → IsNewLink (C.look client) }
+        requires origin { O.tells ≡ true → IsNewLinkIf O.look origin }
         requires pair { ArePaired O.paired client origin }
         ensures named { IfOk result (λ t. (t.core.number ≡ number) × (t.core.setup ≡ setup)
             × (t.core.plugins_at ≡ plugins_at) × (t.phase ≡ Phase.Fresh)) }
         ensures client { IfOk result (λ t. IsMadeOf C.look client t.core.client) }
         ensures origin { IfOk result (λ t. IsMadeOfIf O.look origin t.core.origin) }
         ensures sound { IfOk result (λ t. (next : ℕ) (roles : List Named) →
-            IsSound C.tells O.tells C.look O.look O.paired O.refuses t [] next roles) }
+            IsSoundTxn C.tells O.tells C.look O.look O.paired O.refuses t [] next roles) }
     {
         let client = make_peer(alloc, client)?;
         let origin = make_peer_if(alloc, origin)?;
@@ -105,7 +114,7 @@ impl<C: Link + Drop, O: Upstream<C> + Drop> Txn<C, O> {
 
     /// How it ended; nothing while it has not.
     pub fn end(&self) -> Option<TxnEnd>
-        ensures { result ≡ end_of self.now.phase }
+        ensures { result ≡ end_of_phase self.now.phase }
     {
         match &self.phase {
             Phase::Ended { end } => Some(*end),
@@ -120,6 +129,16 @@ impl<C: Link + Drop, O: Upstream<C> + Drop> Txn<C, O> {
         self.core.number
     }
 
+    /// The link to the origin that it holds.
+    pub fn origin(&self) -> Option<&O>
+        ensures { option_copied result ≡ link_if self.now.core.origin }
+    {
+        match &self.core.origin {
+            Some(peer) => Some(&peer.link),
+            None => None,
+        }
+    }
+
     /// Takes it apart.
     pub fn into_parts(self) -> TxnParts<C, O>
         ensures links { (result.client ≡ self.core.client.link) × (result.origin ≡ link_if self.core.origin) }
@@ -127,7 +146,7 @@ impl<C: Link + Drop, O: Upstream<C> + Drop> Txn<C, O> {
             × (result.cuts.items ≡ self.core.sent.cuts.items) }
         ensures faults { (result.client_faults ≡ self.core.client.base)
             × (result.origin_faults ≡ base_if self.core.origin) }
-        ensures end { (result.number ≡ self.core.number) × (result.end ≡ end_of self.phase) }
+        ensures end { (result.number ≡ self.core.number) × (result.end ≡ end_of_phase self.phase) }
     {
         let number = self.core.number;
         let end = self.end();
@@ -136,14 +155,23 @@ impl<C: Link + Drop, O: Upstream<C> + Drop> Txn<C, O> {
             main: _,
             phase: _,
         } = self;
+        let Core {
+            alloc: _,
+            number: _,
+            setup: _,
+            plugins_at: _,
+            client,
+            origin,
+            sent,
+        } = core;
         let Peer {
             link: client,
             base: client_faults,
             inbox: _,
             outbox: _,
-        } = core.client;
-        let (origin, origin_faults) = link_of(core.origin);
-        let Sent { head, mode, cuts } = core.sent;
+        } = client;
+        let (origin, origin_faults) = link_of(origin);
+        let Sent { head, mode, cuts } = sent;
         TxnParts {
             number,
             client,

@@ -5,8 +5,8 @@ ghost use Rattle.ts_group.specs.Calls.{IsCalled};
 ghost use Rattle.ts_group.specs.Entries.{Grows};
 ghost use Rattle.ts_transform.specs.Driving.{ActsWithin};
 ghost use Rattle.ts_txn.specs.Cover.{is_fresh};
-ghost use Rattle.ts_txn.specs.Holding.{Keeps};
-ghost use Rattle.ts_txn.specs.World.{Fits, HasTxnBegun, IsSound};
+ghost use Rattle.ts_txn.specs.Holding.{StepKeeps};
+ghost use Rattle.ts_txn.specs.World.{IsTxnOf, HasTxnBegun, IsSoundTxn};
 
 use crate::driver::{MAIN, begin, go_on};
 use crate::parts::Core;
@@ -53,7 +53,7 @@ impl<C: Link + Drop, O: Upstream<C> + Drop> Slotted for Txn<C, O> {
 
     type Trace = ();
 
-    ghost fits = { λ tag t. Fits C.look O.look tag t };
+    ghost fits = { λ tag t. IsTxnOf C.look O.look tag t };
 
     ghost stamp = { λ t. 0 };
 
@@ -68,17 +68,17 @@ impl<C: Link + Drop, O: Upstream<C> + Drop> Slotted for Txn<C, O> {
     ghost follows_on = { λ t u v a b. tt };
 }
 
-#[tactic(auto, using(ts_group::proofs::Grows::grows, ts_group::proofs::Grows::grows_refl, ts_transform::proofs::Kept::acts_none, crate::proofs::Handling::sound_begun, crate::proofs::Handling::sound_other, crate::proofs::Handling::sound_quiet, crate::proofs::Handling::sound_stepped, crate::proofs::Coverage::fresh_none, crate::proofs::Fitting::same_core, crate::proofs::Fitting::fits_on))]
+#[tactic(auto, using(ts_group::proofs::Grows::grows, ts_group::proofs::Grows::grows_refl, ts_transform::proofs::Kept::acts_none, crate::proofs::Handling::sound_begun, crate::proofs::Handling::sound_asked, crate::proofs::Handling::sound_other, crate::proofs::Handling::sound_quiet, crate::proofs::Handling::sound_stepped, crate::proofs::Coverage::fresh_none, crate::proofs::Fitting::same_core, crate::proofs::Fitting::fits_on))]
 impl<C: Link + Drop, O: Upstream<C> + Drop> World for Txn<C, O> {
     type Question = ();
 
     type Reply = ();
 
     ghost sound = { λ t s roles.
-        IsSound C.tells O.tells C.look O.look O.paired O.refuses t s.pending s.next roles };
+        IsSoundTxn C.tells O.tells C.look O.look O.paired O.refuses t s.pending s.next roles };
 
     ghost asking = { λ t s roles role group question.
-        IsSound C.tells O.tells C.look O.look O.paired O.refuses t s.pending s.next roles };
+        IsSoundTxn C.tells O.tells C.look O.look O.paired O.refuses t s.pending s.next roles };
 
     ghost right = { λ t group question reply. ⊤ };
 
@@ -95,15 +95,15 @@ impl<C: Link + Drop, O: Upstream<C> + Drop> World for Txn<C, O> {
     ghost begun = { λ old new. HasTxnBegun old new };
 
     // A handler leads to the same transaction, of the same links.
-    ghost called = { λ old new asked. Keeps C.look O.look O.paired O.refuses old.core new.core };
+    ghost called = { λ old new asked. StepKeeps C.look O.look O.paired O.refuses old.core new.core };
 
     ghost heard = { λ old new asked. new ≡ old };
 
     fn start(&mut self, cx: &mut Cx)
         requires turn { cx.old.log.state.held ≡ true }
-        requires sound { IsSound C.tells O.tells C.look O.look O.paired O.refuses
+        requires sound { IsSoundTxn C.tells O.tells C.look O.look O.paired O.refuses
             self.old cx.old.log.state.pending cx.old.log.state.next cx.old.roles }
-        ensures sound { IsSound C.tells O.tells C.look O.look O.paired O.refuses
+        ensures sound { IsSoundTxn C.tells O.tells C.look O.look O.paired O.refuses
             self.new cx.new.log.state.pending cx.new.log.state.next cx.new.roles }
         ensures within { ActsWithin 1 cx.old cx.new }
         ensures begun { HasTxnBegun self.old self.new }
@@ -117,13 +117,13 @@ impl<C: Link + Drop, O: Upstream<C> + Drop> World for Txn<C, O> {
     fn handle(&mut self, role: u32, event: Event, cx: &mut Cx) -> Want<()>
         requires turn { cx.old.log.state.held ≡ true }
         requires called { IsCalled
-            (λ s roles. IsSound C.tells O.tells C.look O.look O.paired O.refuses self.old s.pending s.next roles)
+            (λ s roles. IsSoundTxn C.tells O.tells C.look O.look O.paired O.refuses self.old s.pending s.next roles)
             cx.old role event }
-        ensures sound { IsSound C.tells O.tells C.look O.look O.paired O.refuses
+        ensures sound { IsSoundTxn C.tells O.tells C.look O.look O.paired O.refuses
             self.new cx.new.log.state.pending cx.new.log.state.next cx.new.roles }
         ensures nothing { result ≡ Want.Nothing }
         ensures within { ActsWithin 1 cx.old cx.new }
-        ensures keeps { Keeps C.look O.look O.paired O.refuses self.old.core self.new.core }
+        ensures keeps { StepKeeps C.look O.look O.paired O.refuses self.old.core self.new.core }
     {
         if role != MAIN {
             return Want::Nothing;
@@ -138,7 +138,7 @@ impl<C: Link + Drop, O: Upstream<C> + Drop> World for Txn<C, O> {
 
     fn told(&mut self, _role: u32, _asked: Asked<(), ()>, _cx: &mut Cx)
         requires turn { _cx.old.log.state.held ≡ true }
-        requires sound { IsSound C.tells O.tells C.look O.look O.paired O.refuses
+        requires sound { IsSoundTxn C.tells O.tells C.look O.look O.paired O.refuses
             self.old _cx.old.log.state.pending _cx.old.log.state.next _cx.old.roles }
         ensures grows { Grows _cx.old _cx.new }
         ensures same { (_cx.new.log.state ≡ _cx.old.log.state) × (_cx.new.roles ≡ _cx.old.roles)
