@@ -53,13 +53,6 @@ pub record Asking (v : View) : Type 0 where
   pub untouched : Untouched v.origin
   pub held : v.client.look.given ≡ v.client.inbox
 
--- a head was
-pub record Heard (v : View) (head : RequestHead) : Type 0 where
-  pub waits : ClientWaits v.client v.sent
-  pub untouched : Untouched v.origin
-  pub rest : List ℕ
-  pub reads : HasRequest (all_of v.client.look) head rest
-
 -- THE REQUEST IS KNOWN
 
 -- the client's head is that of the request, and passed the check
@@ -154,14 +147,6 @@ module _ (setup : Setup) where
       pub waits : ClientWaits v.client v.sent
       pub served : Served (all_of v.client.look) q v.dialed v.origin
       pub passed : PassesInterims v.origin.look.given v.origin.inbox
-
-    -- a head was, which may be interim too
-    pub record Responds (v : View) (q : Request) (h : ResponseHead) : Type 0 where
-      pub waits : ClientWaits v.client v.sent
-      pub served : Served (all_of v.client.look) q v.dialed v.origin
-      pub from : List ℕ
-      pub passed : PassesInterims v.origin.look.given from
-      pub has : HasResponse from h v.origin.inbox
 
     -- the final head is one that can be passed on
     pub record Relays (v : View) (q : Request) (h : ResponseHead) : Type 0 where
