@@ -20,9 +20,9 @@ use Rattle.ts_txn.specs.Own.{own_refusal}
 use Rattle.ts_txn.specs.Relayed.{asks_head}
 use Rattle.ts_txn.specs.Block.{IsBlock, VerdictSays, asked, no_head, own_block, silent, silent_block}
 use Rattle.ts_txn.specs.View.{HasFailed, Side, View}
-use Rattle.ts_txn.specs.Moving.{FindsRequest, HearsRequest, SideReads}
+use Rattle.ts_txn.specs.Moving.{HearsRequest, SideReads}
 use Rattle.ts_txn.specs.Checking.{IsCheckedAs}
-use Rattle.ts_txn.specs.Facts.{Asking, Checked, ClientWaits, Heard, OwnReady, OwnCause, OriginTook, TookExactly, Untouched, decided}
+use Rattle.ts_txn.specs.Facts.{Asking, Checked, ClientWaits, OwnReady, OwnCause, OriginTook, TookExactly, Untouched, decided}
 use Rattle.ts_txn.specs.Facts as facts
 use Rattle.ts_txn.specs.Ends.{AnyEnd, EndFact, HasText}
 use Rattle.ts_txn.specs.Ends as ends
@@ -66,6 +66,13 @@ has_more bytes head rest more h = record {
 
 filled : (xs ys : List ℕ) → length xs < length ys → ys ≢ []
 filled xs ys less is = absurd (omega (arith, less, ap length is))
+
+-- a head was found in what the client gave
+record Heard (v : View) (head : RequestHead) : Type 0 where
+  waits : ClientWaits v.client v.sent
+  untouched : Untouched v.origin
+  rest : List ℕ
+  reads : HasRequest (all_of v.client.look) head rest
 
 heard_at : (v : View) (i : List ℕ) (head : RequestHead) → Asking v → HasRequest v.client.inbox head i → length i < length v.client.inbox
     → Heard (record v { client = record v.client { inbox = i } }) head

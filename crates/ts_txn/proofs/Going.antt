@@ -21,7 +21,7 @@ use Rattle.ts_txn.specs.Relayed.{asks_head}
 use Rattle.ts_txn.specs.Block.{DenySays, DialSays, IsBlock, VerdictSays, asked, own_block, request_text}
 use Rattle.ts_txn.specs.View.{HasCount, HasFailed, Side, View}
 use Rattle.ts_txn.specs.Moving.{MovesBoth, MovesUpload, QueuesRequest, SideWrites, WritesOrigin}
-use Rattle.ts_txn.specs.Facts.{IsAllowed, Awaits, CarriesRequest, Checked, ClientWaits, Goes, Knows, OriginTook, OwnReady, SendingRequest, Served, TookExactly, Uploading, decided, fault}
+use Rattle.ts_txn.specs.Facts.{IsAllowed, CarriesRequest, Checked, Goes, IsUnanswered, Knows, OwnReady, SendingRequest, Uploading, fault}
 use Rattle.ts_txn.specs.Facts as facts
 use Rattle.ts_txn.specs.Ends.{AnyEnd, EndFact}
 use Rattle.ts_txn.specs.Ends as ends
@@ -99,15 +99,14 @@ queued_at : (setup : Setup) (v : View) (q : Request) → IsAllowed setup v q
 queued_at setup v q h =
     let text = request_text setup q.head q.target q.host in
     record {
-      waits = h.waits;
-      goes = h.goes;
-      count = h.untouched.count;
-      no_given = h.untouched.no_given;
-      no_held = h.untouched.no_held;
-      carries = record {
-        upload = [];
-        text = ap (λ (x : List ℕ). x ++ (v.origin.outbox ++ text)) h.untouched.no_taken ∙ ap (λ (x : List ℕ). x ++ text) h.untouched.no_waits ∙ sym (append-nil text);
+      unanswered = record {
+        waits = h.waits;
+        goes = h.goes;
+        count = h.untouched.count;
+        no_given = h.untouched.no_given;
+        no_held = h.untouched.no_held;
       };
+      text = ap (λ (x : List ℕ). x ++ (v.origin.outbox ++ text)) h.untouched.no_taken ∙ ap (λ (x : List ℕ). x ++ text) h.untouched.no_waits;
     }
 
 pub queued : (setup : Setup) (v w : View) (q : Request) (text : List ℕ) → IsAllowed setup v q → text ≡ request_text setup q.head q.target q.host → QueuesRequest text v w
@@ -122,40 +121,51 @@ writes_at : (setup : Setup) (t : Bool) (v : View) (s : Side) (p : Pushed) (q : R
 writes_at setup t v s p q told h writes =
     let takes = writes.pushes.told told in
     record {
-      waits = h.waits;
-      goes = h.goes;
-      count = write_count t v.origin s p writes h.count;
-      no_given = takes.given ∙ h.no_given;
-      no_held = writes.inbox ∙ h.no_held;
-      carries = record { upload = h.carries.upload; text = writes.pushes.text told ∙ h.carries.text };
+      unanswered = record {
+        waits = h.unanswered.waits;
+        goes = h.unanswered.goes;
+        count = write_count t v.origin s p writes h.unanswered.count;
+        no_given = takes.given ∙ h.unanswered.no_given;
+        no_held = writes.inbox ∙ h.unanswered.no_held;
+      };
+      text = writes.pushes.text told ∙ h.text;
     }
 
 pub writes_on : (setup : Setup) (t : Bool) (v w : View) (p : Pushed) (q : Request) → t ≡ true → SendingRequest setup v q → WritesOrigin t v w p → SendingRequest setup w q
 writes_on setup t v w p q told h writes = subst (λ (x : View). SendingRequest setup x q) (sym writes.others) (writes_at setup t v w.origin p q told h writes.origin)
 
+-- what the origin took, with what waits for it, is the head alone
+head_alone : (setup : Setup) (v : View) (q : Request) → SendingRequest setup v q → CarriesRequest setup q v.origin
+head_alone setup v q h = record { upload = []; text = h.text ∙ sym (append-nil (request_text setup q.head q.target q.host)); behind = λ some. refl }
+
 -- all of it was
 pub written : (setup : Setup) (t : Bool) (v w : View) (q : Request) → t ≡ true → SendingRequest setup v q → WritesOrigin t v w V.Nothing → Uploading setup w q
 written setup t v w q told h writes =
-    record { sends = writes_on setup t v w V.Nothing q told h writes; no_waits = writes.origin.pushes.went.1 ∙ writes.origin.pushes.went.0 }
+    let now = writes_on setup t v w V.Nothing q told h writes in
+    record { unanswered = now.unanswered; carries = head_alone setup w q now; no_waits = writes.origin.pushes.went.1 ∙ writes.origin.pushes.went.0 }
+
+pub unanswered_any : (setup : Setup) (refuses : Type 0) (v : View) (q : Request) → IsUnanswered setup v q → CarriesRequest setup q v.origin → AnyEnd setup refuses v
+unanswered_any setup refuses v q h carries = record { took = facts.request q h.goes carries; text = ends.quiet h.waits.quiet }
 
 pub sends_any : (setup : Setup) (refuses : Type 0) (v : View) (q : Request) → SendingRequest setup v q → AnyEnd setup refuses v
-sends_any setup refuses v q h = record { took = facts.request q h.goes h.carries; text = ends.quiet h.waits.quiet }
+sends_any setup refuses v q h = unanswered_any setup refuses v q h.unanswered (head_alone setup v q h)
 
 no_final : (given : List ℕ) → given ≡ [] → LacksFinal given
 no_final given is = subst LacksFinal (sym is) (lacks_final [] [] (record { interims = []; after = refl }) lacks_nil)
 
 -- the origin's link failed
-pub faulty : (setup : Setup) (refuses : Type 0) (v : View) (q : Request) (a : OwnAnswer) → SendingRequest setup v q → HasFailed v.origin
+pub faulty : (setup : Setup) (refuses : Type 0) (v : View) (q : Request) (a : OwnAnswer) → IsUnanswered setup v q → CarriesRequest setup q v.origin → HasFailed v.origin
     → a ≡ record { status = O.BadGateway; to_head = asks_head q.head; end = E.OriginFault } → OwnReady setup refuses v a
-faulty setup refuses v q a h failed same =
+faulty setup refuses v q a h carries failed same =
     subst (λ (x : OwnAnswer). OwnReady setup refuses v x) (sym same)
     (record {
       waits = h.waits;
       cause = fault q h.goes refl refl refl failed (no_final v.origin.look.given h.no_given);
-      took = facts.request q h.goes h.carries;
+      took = facts.request q h.goes carries;
     })
 
 pub write_fault : (setup : Setup) (refuses : Type 0) (t : Bool) (v w : View) (q : Request) (a : OwnAnswer) → t ≡ true → SendingRequest setup v q → WritesOrigin t v w V.Failed
     → a ≡ record { status = O.BadGateway; to_head = asks_head q.head; end = E.OriginFault } → OwnReady setup refuses w a
 write_fault setup refuses t v w q a told h writes same =
-    faulty setup refuses w q a (writes_on setup t v w V.Failed q told h writes) (write_failed t v.origin w.origin V.Failed refl writes.origin h.count) same
+    let now = writes_on setup t v w V.Failed q told h writes in
+    faulty setup refuses w q a now.unanswered (head_alone setup w q now) (write_failed t v.origin w.origin V.Failed refl writes.origin h.unanswered.count) same

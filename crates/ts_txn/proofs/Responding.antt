@@ -15,7 +15,7 @@ use Rattle.ts_txn.specs.Relayed.{asks_head, framing_of}
 use Rattle.ts_txn.specs.Block.{IsGood, LacksAnswer, bad_status, faulty, lacking, no_final, own_block, request_text}
 use Rattle.ts_txn.specs.View.{HasFailed, Side, View}
 use Rattle.ts_txn.specs.Moving.{HearsResponse, SideReads}
-use Rattle.ts_txn.specs.Facts.{Awaits, ClientWaits, OwnReady, Relays, Responds, Served, decided, fault}
+use Rattle.ts_txn.specs.Facts.{Awaits, ClientWaits, OwnReady, Relays, Served, decided, fault}
 use Rattle.ts_txn.specs.Facts as facts
 use Rattle.ts_txn.specs.Ends.{AnyEnd, EndFact}
 use Rattle.ts_txn.specs.Ends as ends
@@ -64,9 +64,24 @@ module _ (setup : Setup) (refuses : Type 0) where
     carries = record {
       upload = h.carries.upload;
       text = ap (λ (x : List ℕ). x ++ s.outbox) taken ∙ ap (λ (x : List ℕ). o.look.taken ++ x) waits ∙ h.carries.text;
+      behind = λ some. h.carries.behind (λ none. some (waits ∙ none));
     };
     no_waits = waits ∙ h.no_waits;
   }
+
+  pub awaits_any : (v : View) (q : Request) → Awaits setup refuses v q → AnyEnd setup refuses v
+  awaits_any v q h = record { took = facts.request q h.served.goes h.served.carries; text = ends.quiet h.waits.quiet }
+
+  pub relays_any : (v : View) (q : Request) (head : ResponseHead) → Relays setup refuses v q head → AnyEnd setup refuses v
+  relays_any v q head h = record { took = facts.request q h.served.goes h.served.carries; text = ends.quiet h.waits.quiet }
+
+  -- a head was found behind the interim ones, which may be interim too
+  record Responds (v : View) (q : Request) (head : ResponseHead) : Type 0 where
+    waits : ClientWaits v.client v.sent
+    served : Served setup refuses (all_of v.client.look) q v.dialed v.origin
+    from : List ℕ
+    passed : PassesInterims v.origin.look.given from
+    has : HasResponse from head v.origin.inbox
 
   module _ (t : Bool) (v w : View) (q : Request) (told : t ≡ true) (h : Awaits setup refuses v q) where
 
@@ -85,9 +100,6 @@ module _ (setup : Setup) (refuses : Type 0) where
     pub awaits_on : (p : Pulled) → HearsResponse t v w (F.Read p) → Awaits setup refuses w q
     awaits_on p hears = subst (λ (x : View). Awaits setup refuses x q) (sym hears.others) (awaits_at w.origin p hears.finds.1)
 
-    pub awaits_any : Awaits setup refuses w q → AnyEnd setup refuses w
-    awaits_any now = record { took = facts.request q now.served.goes now.served.carries; text = ends.quiet now.waits.quiet }
-
     -- memory lacked
     pub awaits_still : HearsResponse t v w F.NoMemory → Awaits setup refuses w q
     awaits_still hears = subst (λ (x : View). Awaits setup refuses x q) (sym (hears.others ∙ ap (λ (s : Side). record v { origin = s }) hears.finds)) h
@@ -95,7 +107,7 @@ module _ (setup : Setup) (refuses : Type 0) where
     -- ---- a head
 
     responds_at : (i : List ℕ) (head : ResponseHead) → HasResponse v.origin.inbox head i
-        → Responds setup refuses (record v { origin = record v.origin { inbox = i } }) q head
+        → Responds (record v { origin = record v.origin { inbox = i } }) q head
     responds_at i head has = record {
       waits = h.waits;
       served = served_as (all_of v.client.look) q v.dialed v.origin (record v.origin { inbox = i }) h.served.count refl refl h.served;
@@ -104,9 +116,9 @@ module _ (setup : Setup) (refuses : Type 0) where
       has = has;
     }
 
-    responds : (head : ResponseHead) → HearsResponse t v w (F.Head head) → Responds setup refuses w q head
+    responds : (head : ResponseHead) → HearsResponse t v w (F.Head head) → Responds w q head
     responds head hears =
-        subst (λ (x : View). Responds setup refuses x q head) (sym (hears.others ∙ ap (λ (s : Side). record v { origin = s }) hears.finds.2))
+        subst (λ (x : View). Responds x q head) (sym (hears.others ∙ ap (λ (s : Side). record v { origin = s }) hears.finds.2))
         (responds_at w.origin.inbox head hears.finds.0)
 
     -- an interim one
@@ -115,7 +127,7 @@ module _ (setup : Setup) (refuses : Type 0) where
         let r = responds head hears in
         record { waits = r.waits; served = r.served; passed = next_interim w.origin.look.given r.from w.origin.inbox head r.passed r.has (sym says ∙ so) }
 
-    final_head : (head : ResponseHead) → Responds setup refuses w q head → is_interim head.status ≡ false → FinalHead w.origin.look.given head w.origin.inbox
+    final_head : (head : ResponseHead) → Responds w q head → is_interim head.status ≡ false → FinalHead w.origin.look.given head w.origin.inbox
     final_head head r not = record { from = r.from; passed = r.passed; reads = r.has; final = not }
 
     -- one that can be passed on

@@ -21,7 +21,7 @@ use Rattle.ts_txn.specs.declared.phase.Request.{Request}
 use Rattle.ts_txn.proofs.OneSide.{failed, quiet_as, some_front}
 use Rattle.ts_txn.proofs.Asks.{client_fails, lacks_memory}
 use Rattle.ts_txn.proofs.Filled.{filled}
-use Rattle.ts_txn.proofs.Going.{faulty, gone_block, sends_any}
+use Rattle.ts_txn.proofs.Going.{faulty, gone_block, unanswered_any}
 
 within : (a b c : ℕ) → a ≤ b → b ≤ c → a ≤ c
 within a b c h k = omega (arith, h, k)
@@ -37,23 +37,25 @@ uploads_at : (setup : Setup) (v : View) (c l : Look) (q : Request) → Uploading
     → Uploading setup (record v { client = record v.client { look = c }; origin = record v.origin { look = l } }) q
 uploads_at setup v c l q h u keeps =
     let text = request_text setup q.head q.target q.host in
-    let before = took_is setup q v.origin h.sends.carries h.no_waits in
+    let before = took_is setup q v.origin h.carries h.no_waits in
+    let un = h.unanswered in
     record {
-      sends = record {
+      unanswered = record {
         waits = record {
-          count = within v.client.base v.client.look.faults c.faults h.sends.waits.count keeps.client.faults;
-          quiet = quiet_as v.client (record v.client { look = c }) v.sent u.client_took refl h.sends.waits.quiet;
-          some = λ is. some_front v.client.look.given u.gave.0 h.sends.waits.some (sym u.gave.1 ∙ is);
+          count = within v.client.base v.client.look.faults c.faults un.waits.count keeps.client.faults;
+          quiet = quiet_as v.client (record v.client { look = c }) v.sent u.client_took refl un.waits.quiet;
+          some = λ is. some_front v.client.look.given u.gave.0 un.waits.some (sym u.gave.1 ∙ is);
         };
-        goes = subst (λ (x : List ℕ). Goes setup x q v.dialed) (sym u.client) h.sends.goes;
-        count = within v.origin.base v.origin.look.faults l.faults h.sends.count keeps.origin.faults;
-        no_given = u.origin_gave ∙ h.sends.no_given;
-        no_held = h.sends.no_held;
-        carries = record {
-          upload = h.sends.carries.upload ++ u.origin_took.0;
-          text = ap (λ (x : List ℕ). l.taken ++ x) h.no_waits ∙ append-nil l.taken ∙ u.origin_took.1 ∙ ap (λ (x : List ℕ). x ++ u.origin_took.0) before
-              ∙ append_assoc text h.sends.carries.upload u.origin_took.0;
-        };
+        goes = subst (λ (x : List ℕ). Goes setup x q v.dialed) (sym u.client) un.goes;
+        count = within v.origin.base v.origin.look.faults l.faults un.count keeps.origin.faults;
+        no_given = u.origin_gave ∙ un.no_given;
+        no_held = un.no_held;
+      };
+      carries = record {
+        upload = h.carries.upload ++ u.origin_took.0;
+        text = ap (λ (x : List ℕ). l.taken ++ x) h.no_waits ∙ append-nil l.taken ∙ u.origin_took.1 ∙ ap (λ (x : List ℕ). x ++ u.origin_took.0) before
+            ∙ append_assoc text h.carries.upload u.origin_took.0;
+        behind = λ some. absurd (some h.no_waits);
       };
       no_waits = h.no_waits;
     }
@@ -72,9 +74,9 @@ module _ (setup : Setup) (ct ot : Bool) (refuses : List ℕ → Type 0) (v w : V
   uploaded m =
       let now = uploads_on U.Done m in
       record {
-        waits = now.sends.waits;
-        served = record { goes = now.sends.goes; accepts = m.moves.causes.refusal client; count = now.sends.count; carries = now.sends.carries; no_waits = now.no_waits };
-        passed = record { interims = []; after = now.sends.no_given ∙ sym now.sends.no_held };
+        waits = now.unanswered.waits;
+        served = record { goes = now.unanswered.goes; accepts = m.moves.causes.refusal client; count = now.unanswered.count; carries = now.carries; no_waits = now.no_waits };
+        passed = record { interims = []; after = now.unanswered.no_given ∙ sym now.unanswered.no_held };
       }
 
   -- it is refused
@@ -85,21 +87,23 @@ module _ (setup : Setup) (ct ot : Bool) (refuses : List ℕ → Type 0) (v w : V
       let text = request_text setup q.head q.target q.host in
       subst (λ (x : OwnAnswer). OwnReady setup (refuses v.client.look.source) w x) (sym same)
       (record {
-        waits = now.sends.waits;
+        waits = now.unanswered.waits;
         cause = decided text
             (gone_block setup w.dialed (refuses v.client.look.source) (all_of w.origin.look) (all_of w.client.look) q (own_block setup text O.BadRequest (asks_head q.head))
-              now.sends.goes (inl (m.moves.causes.refusal client, refl)))
-            refl (took_request setup q w.origin now.sends.carries now.no_waits);
-        took = facts.request q now.sends.goes now.sends.carries;
+              now.unanswered.goes (inl (m.moves.causes.refusal client, refl)))
+            refl (took_request setup q w.origin now.carries now.no_waits);
+        took = facts.request q now.unanswered.goes now.carries;
       })
 
   upload_any : (answer : Uploaded) → MovesUpload ct ot refuses answer v w → AnyEnd setup (refuses v.client.look.source) w
-  upload_any answer m = sends_any setup (refuses v.client.look.source) w q (uploads_on answer m).sends
+  upload_any answer m =
+      let now = uploads_on answer m in
+      unanswered_any setup (refuses v.client.look.source) w q now.unanswered now.carries
 
   -- the client's link failed
   pub upload_client_fault : MovesUpload ct ot refuses U.ClientFailed v w → EndFact setup (refuses v.client.look.source) w E.ClientFault
   upload_client_fault m =
-      let rose : Rose v.client.base w.client.look.faults = failed v.client.base v.client.look.faults w.client.look.faults m.moves.causes.counts h.sends.waits.count in
+      let rose : Rose v.client.base w.client.look.faults = failed v.client.base v.client.look.faults w.client.look.faults m.moves.causes.counts h.unanswered.waits.count in
       client_fails setup (refuses v.client.look.source) w (upload_any U.ClientFailed m)
       (subst (λ (x : View). HasFailed x.client) (sym m.others) rose)
 
@@ -107,8 +111,9 @@ module _ (setup : Setup) (ct ot : Bool) (refuses : List ℕ → Type 0) (v w : V
   pub upload_origin_fault : (a : OwnAnswer) → MovesUpload ct ot refuses U.OriginFailed v w
       → a ≡ record { status = O.BadGateway; to_head = asks_head q.head; end = E.OriginFault } → OwnReady setup (refuses v.client.look.source) w a
   upload_origin_fault a m same =
-      let rose : Rose v.origin.base w.origin.look.faults = failed v.origin.base v.origin.look.faults w.origin.look.faults m.moves.causes.counts h.sends.count in
-      faulty setup (refuses v.client.look.source) w q a (uploads_on U.OriginFailed m).sends
+      let rose : Rose v.origin.base w.origin.look.faults = failed v.origin.base v.origin.look.faults w.origin.look.faults m.moves.causes.counts h.unanswered.count in
+      let now = uploads_on U.OriginFailed m in
+      faulty setup (refuses v.client.look.source) w q a now.unanswered now.carries
       (subst (λ (s : Side). HasFailed s) (sym m.moves.others) rose) same
 
   pub upload_lacks : MovesUpload ct ot refuses U.NoMemory v w → EndFact setup (refuses v.client.look.source) w E.NoMemory

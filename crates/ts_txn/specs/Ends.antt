@@ -1,5 +1,5 @@
--- How a transaction ends, and what then stands of what its links gave and took (Developer's Guide, "HTTP Hooks and
--- Transactions"; RFC 9112, section 8, on incomplete messages).
+-- How a transaction ends, and what then stands of what its links gave and took (Developer's Guide, "HTTP
+-- Hooks and Transactions"; RFC 9112, section 8, on incomplete messages).
 use Rattle.std.specs.Prelude.{◌≡◌, ◌≢◌, ℕ, ◌++◌, List, [], length, map, All, Bool, true, false, ⊤}
 use Rattle.ts_config.specs.declared.setup.Setup.{Setup}
 use Rattle.ts_config.specs.declared.setup.TransformLine.{TransformLine}
@@ -23,7 +23,8 @@ use Rattle.ts_txn.specs.declared.parts.Sent.{Sent}
 use Rattle.ts_txn.specs.declared.phase.OwnAnswer.{OwnAnswer}
 use Rattle.ts_txn.specs.declared.phase.Request.{Request}
 
--- The client's text: a head, and the body that was framed behind it in pieces, with its end if that was framed.
+-- The client's text: a head, and the body that was framed behind it in pieces, with its end if that was
+-- framed.
 pub record HasText (client : Side) (s : Sent) (head body : List ℕ) (fin : Bool) : Type 0 where
   pub pieces : List (List ℕ)
   pub each : All IsPiece pieces
@@ -35,23 +36,23 @@ pub record HasText (client : Side) (s : Sent) (head body : List ℕ) (fin : Bool
 -- The body has ended: its reader says so, or it goes up to the close, and the origin gives no more.
 pub data IsBodyOver (framing : Framing) (origin : Side) (place : Place) : Type 0 where
   told : state_of place.phase ≡ B.Ended → IsBodyOver framing origin place
-  closed : framing ≡ F.UntilClose → state_of place.phase ≡ B.Unfinished → origin.look.left ≡ [] → origin.inbox ≡ []
-      → IsBodyOver framing origin place
+  closed : framing ≡ F.UntilClose → state_of place.phase ≡ B.Unfinished → origin.look.left ≡ []
+      → origin.inbox ≡ [] → IsBodyOver framing origin place
 
 -- one list is a front of the other
 abbrev pub IsFrontOf : List ℕ → List ℕ → Type 0
 IsFrontOf xs ys = (more : List ℕ) × (xs ++ more ≡ ys)
 
--- What was sent is a front of the lines' work on a body: on what was read of it, if it has ended, and else on whatever
--- begins with that.
+-- What was sent is a front of the lines' work on a body: on what was read of it, if it has ended, and else on
+-- whatever begins with that.
 abbrev pub IsFrontThrough : List TransformLine → Bool → List ℕ → List ℕ → Type 0
 IsFrontThrough lines true read sent = IsFrontOf sent (compose_lines lines read)
 IsFrontThrough lines false read sent = (more : List ℕ) → IsFrontOf sent (compose_lines lines (read ++ more))
 
 module _ (setup : Setup) (refuses : Type 0) where
 
-  -- The client's text is the head of the origin's response to this request, and a front of its body through the lines.
-  -- `done`: the body has ended; `fin`: so was what the client gets of it.
+  -- The client's text is the head of the origin's response to this request, and a front of its body through
+  -- the lines. `done`: the body has ended; `fin`: so was what the client gets of it.
   pub record Relayed (v : View) (done fin : Bool) (sent : List ℕ) : Type 0 where
     pub q : Request
     pub h : ResponseHead
@@ -68,16 +69,18 @@ module _ (setup : Setup) (refuses : Type 0) where
     pub front : IsFrontThrough (body_lines setup q.head h) done read sent
     pub whole : fin ≡ true → (done ≡ true) × (sent ≡ compose_lines (body_lines setup q.head h) read)
 
-  -- What holds of the client's text at every moment: it is nothing, or an own answer for its cause, or the origin's.
+  -- What holds of the client's text at every moment: it is nothing, or an own answer for its cause, or the
+  -- origin's.
   pub data SomeText (v : View) : Type 0 where
     quiet : Quiet v.client v.sent → SomeText v
     own : (a : OwnAnswer) → HasOwnCause setup refuses v a → HasOwnText setup v.client v.sent a → SomeText v
     relayed : (done fin : Bool) (sent : List ℕ) → Relayed v done fin sent → SomeText v
 
-  -- After a fault of the origin: the 502 answer, if no final head had come, and else what was framed of the body.
+  -- After a fault of the origin: the 502 answer, if no final head had come, and else what was framed of the
+  -- body.
   pub data FaultText (v : View) : Type 0 where
-    own : (a : OwnAnswer) → a.end ≡ E.OriginFault → HasOwnCause setup refuses v a → HasOwnText setup v.client v.sent a
-        → FaultText v
+    own : (a : OwnAnswer) → a.end ≡ E.OriginFault → HasOwnCause setup refuses v a
+        → HasOwnText setup v.client v.sent a → FaultText v
     cut_off : (done : Bool) (sent : List ℕ) → Relayed v done false sent → FaultText v
 
   -- what holds whatever the end

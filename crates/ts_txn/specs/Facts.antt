@@ -1,7 +1,7 @@
--- What holds of a transaction between two events, phase by phase up to the head that the client gets, for links that tell
--- (Developer's Guide, "HTTP Hooks and Transactions"; RFC 9110, section 7.6, and RFC 9112, section 9.3). Each fact is said
--- of the parts that it speaks of, so that it stays where another part changes. In all of them `c` is all that the client
--- gives.
+-- What holds of a transaction between two events, phase by phase up to the head that the client gets, for
+-- links that tell (Developer's Guide, "HTTP Hooks and Transactions"; RFC 9110, section 7.6, and RFC 9112,
+-- section 9.3). Each fact is said of the parts that it speaks of, so that it stays where another part
+-- changes. In all of them `c` is all that the client gives.
 use Rattle.std.specs.Prelude.{◌≡◌, ◌≢◌, ℕ, ◌≤◌, ◌++◌, List, [], ◌∷◌, length, Bool, true, false, Ok}
 use Rattle.ts_config.specs.declared.setup.Setup.{Setup}
 use Rattle.ts_hooks.specs.declared.txn_end.TxnEnd.TheVariants as E
@@ -53,13 +53,6 @@ pub record Asking (v : View) : Type 0 where
   pub untouched : Untouched v.origin
   pub held : v.client.look.given ≡ v.client.inbox
 
--- a head was
-pub record Heard (v : View) (head : RequestHead) : Type 0 where
-  pub waits : ClientWaits v.client v.sent
-  pub untouched : Untouched v.origin
-  pub rest : List ℕ
-  pub reads : HasRequest (all_of v.client.look) head rest
-
 -- THE REQUEST IS KNOWN
 
 -- the client's head is that of the request, and passed the check
@@ -96,21 +89,30 @@ module _ (setup : Setup) where
 
   -- THE REQUEST IS SENT
 
-  -- what the origin took, with what waits for it, is the request and what an upload wrote
+  -- What the origin took, with what waits for it, is the request's head and what an upload wrote behind it,
+  -- once the head was written.
   pub record CarriesRequest (q : Request) (origin : Side) : Type 0 where
     pub upload : List ℕ
     pub text : origin.look.taken ++ origin.outbox ≡ request_text setup q.head q.target q.host ++ upload
+    pub behind : origin.outbox ≢ [] → upload ≡ []
 
-  pub record SendingRequest (v : View) (q : Request) : Type 0 where
+  -- the origin of the request has given nothing yet
+  pub record IsUnanswered (v : View) (q : Request) : Type 0 where
     pub waits : ClientWaits v.client v.sent
     pub goes : Goes (all_of v.client.look) q v.dialed
     pub count : HasCount v.origin
     pub no_given : v.origin.look.given ≡ []
     pub no_held : v.origin.inbox ≡ []
-    pub carries : CarriesRequest q v.origin
 
+  -- its head is written
+  pub record SendingRequest (v : View) (q : Request) : Type 0 where
+    pub unanswered : IsUnanswered v q
+    pub text : v.origin.look.taken ++ v.origin.outbox ≡ request_text setup q.head q.target q.host
+
+  -- its upload is
   pub record Uploading (v : View) (q : Request) : Type 0 where
-    pub sends : SendingRequest v q
+    pub unanswered : IsUnanswered v q
+    pub carries : CarriesRequest q v.origin
     pub no_waits : v.origin.outbox ≡ []
 
   -- what the origin took, with what waits for it, is nothing, or that of a request that goes to it
@@ -146,14 +148,6 @@ module _ (setup : Setup) where
       pub served : Served (all_of v.client.look) q v.dialed v.origin
       pub passed : PassesInterims v.origin.look.given v.origin.inbox
 
-    -- a head was, which may be interim too
-    pub record Responds (v : View) (q : Request) (h : ResponseHead) : Type 0 where
-      pub waits : ClientWaits v.client v.sent
-      pub served : Served (all_of v.client.look) q v.dialed v.origin
-      pub from : List ℕ
-      pub passed : PassesInterims v.origin.look.given from
-      pub has : HasResponse from h v.origin.inbox
-
     -- the final head is one that can be passed on
     pub record Relays (v : View) (q : Request) (h : ResponseHead) : Type 0 where
       pub waits : ClientWaits v.client v.sent
@@ -163,13 +157,15 @@ module _ (setup : Setup) where
 
     -- THE PROXY ANSWERS BY ITSELF
 
-    -- Why: the block says so, and the origin took the block's request; or the origin's link failed before a final head.
+    -- Why: the block says so, and the origin took the block's request; or the origin's link failed before a
+    -- final head.
     pub data OwnCause (c : List ℕ) (dialed : Bool) (origin : Side) (a : OwnAnswer) : Type 0 where
       decided : (request : List ℕ)
           → IsBlock setup dialed refuses (all_of origin.look) c (own_block setup request a.status a.to_head)
           → a.end ≡ E.Whole → TookExactly request origin → OwnCause c dialed origin a
       fault : (q : Request) → Goes c q dialed → a.status ≡ O.BadGateway → a.to_head ≡ asks_head q.head
-          → a.end ≡ E.OriginFault → HasFailed origin → LacksFinal origin.look.given → OwnCause c dialed origin a
+          → a.end ≡ E.OriginFault → HasFailed origin → LacksFinal origin.look.given
+          → OwnCause c dialed origin a
 
     abbrev pub HasOwnCause : View → OwnAnswer → Type 0
     HasOwnCause v a = OwnCause (all_of v.client.look) v.dialed v.origin a

@@ -43,8 +43,8 @@ abbrev pub cuts_of : List ℕ → List ℕ
 cuts_of [] = []
 cuts_of (b ∷ bs) = length (b ∷ bs) ∷ []
 
--- Some of the upload of a request was moved, by calls that are made on the two links alone. What they gave and took is
--- known where both tell.
+-- Some of the upload of a request was moved, by calls that are made on the two links alone. What they gave
+-- and took is known where both tell.
 pub record MovesBoth (ctells otells : Bool) (refuses : List ℕ → Type 0) (answer : Uploaded) (c d : Look)
     (o p : Side) : Type 0 where
   pub causes : UploadCauses ctells refuses answer c d o.look p.look
@@ -63,33 +63,35 @@ QueuesOn look text old new =
     (is_dialed new ≡ is_dialed old) × GoesIf (λ k l. l ≡ k) old new
     × (side_if look new ≡ record (side_if look old) { outbox = (side_if look old).outbox ++ text })
 
--- What came of looking for a head at the front of what a link gave: a head is taken away from that; none can come; or
--- none is there yet, and one read was made.
-abbrev pub FindsRequest : Bool → Side → Side → Found RequestHead → Type 0
-FindsRequest tells old new (F.Head head) =
-    HasRequest old.inbox head new.inbox × (length new.inbox < length old.inbox) × (new ≡ record old { inbox = new.inbox })
-FindsRequest tells old new F.Never =
+-- What came of looking for a head at the front of what a link gave: a head is taken away from that; none can
+-- come; or none is there yet, and one read was made.
+abbrev pub SeeksRequest : Bool → Side → Side → Found RequestHead → Type 0
+SeeksRequest tells old new (F.Head head) =
+    HasRequest old.inbox head new.inbox × (length new.inbox < length old.inbox)
+    × (new ≡ record old { inbox = new.inbox })
+SeeksRequest tells old new F.Never =
     ((more : List ℕ) → LacksRequest (old.inbox ++ more)) × (new ≡ old)
-FindsRequest tells old new (F.Read answer) =
+SeeksRequest tells old new (F.Read answer) =
     LacksRequest old.inbox × SideReads tells old new answer
-FindsRequest tells old new F.NoMemory = new ≡ old
+SeeksRequest tells old new F.NoMemory = new ≡ old
 
-abbrev pub FindsResponse : Bool → Side → Side → Found ResponseHead → Type 0
-FindsResponse tells old new (F.Head head) =
-    HasResponse old.inbox head new.inbox × (length new.inbox < length old.inbox) × (new ≡ record old { inbox = new.inbox })
-FindsResponse tells old new F.Never =
+abbrev pub SeeksResponse : Bool → Side → Side → Found ResponseHead → Type 0
+SeeksResponse tells old new (F.Head head) =
+    HasResponse old.inbox head new.inbox × (length new.inbox < length old.inbox)
+    × (new ≡ record old { inbox = new.inbox })
+SeeksResponse tells old new F.Never =
     ((more : List ℕ) → LacksResponse (old.inbox ++ more)) × (new ≡ old)
-FindsResponse tells old new (F.Read answer) =
+SeeksResponse tells old new (F.Read answer) =
     LacksResponse old.inbox × SideReads tells old new answer
-FindsResponse tells old new F.NoMemory = new ≡ old
+SeeksResponse tells old new F.NoMemory = new ≡ old
 
 -- the same of a transaction's two sides
 pub record HearsRequest (tells : Bool) (v w : View) (found : Found RequestHead) : Type 0 where
-  pub finds : FindsRequest tells v.client w.client found
+  pub finds : SeeksRequest tells v.client w.client found
   pub others : w ≡ record v { client = w.client }
 
 pub record HearsResponse (tells : Bool) (v w : View) (found : Found ResponseHead) : Type 0 where
-  pub finds : FindsResponse tells v.origin w.origin found
+  pub finds : SeeksResponse tells v.origin w.origin found
   pub others : w ≡ record v { origin = w.origin }
 
 -- the head of a request was queued for the origin

@@ -1,5 +1,6 @@
--- What contracts see of a transaction beside its phase: its two sides, each a link with the bytes that wait between it and
--- the transaction, and what was queued for the client (Developer's Guide, "HTTP Hooks and Transactions").
+-- What contracts see of a transaction beside its phase: its two sides, each a link with the bytes that wait
+-- between it and the transaction, and what was queued for the client (Developer's Guide, "HTTP Hooks and
+-- Transactions").
 use Rattle.std.specs.Prelude.{◌≡◌, ℕ, ◌≤◌, List, [], Bool, true, false, Option, Some, None, ⊤}
 use Rattle.ts_link.specs.Counts.{Rose}
 use Rattle.ts_link.specs.Link.{Look}
@@ -32,8 +33,8 @@ HasFailed s = Rose s.base s.look.faults
 -- the side of no link
 abbrev pub no_side : Side
 no_side = record {
-  look = record { given = []; left = []; taken = []; source = []; name = 0; reads = 0; writes = 0; faults = 0; waits = 0;
-      agains = Some 0; plan = None };
+  look = record { given = []; left = []; taken = []; source = []; name = 0; reads = 0; writes = 0; faults = 0;
+      waits = 0; agains = Some 0; plan = None };
   base = 0;
   inbox = [];
   outbox = [];

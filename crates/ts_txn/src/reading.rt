@@ -1,7 +1,7 @@
 //! Looks for a head at the front of what a link gave, and reads on where none is there yet.
 ghost use Rattle.std.specs.Prelude.{◌≡◌, ◌≢◌, ◌<◌, [], ◌++◌, List, ℕ, length, IfOk};
 ghost use Rattle.ts_txn.specs.View.{GoesIf, side, side_if};
-ghost use Rattle.ts_txn.specs.Moving.{FindsRequest, FindsResponse};
+ghost use Rattle.ts_txn.specs.Moving.{SeeksRequest, SeeksResponse};
 ghost use Rattle.ts_txn.specs.Fronts.{HasFrontRequest, HasFrontResponse, FindsRead};
 
 use crate::parts::Peer;
@@ -59,7 +59,7 @@ fn read_on<L: Link, H>(peer: &mut Peer<L>) -> Found<H>
 
 /// Takes the head of a request from the front of what the link gave, or reads on.
 pub fn next_request<L: Link>(alloc: Global, peer: &mut Peer<L>) -> Found<RequestHead>
-    ensures found { FindsRequest L.tells (side L.look peer.old) (side L.look peer.new) result }
+    ensures found { SeeksRequest L.tells (side L.look peer.old) (side L.look peer.new) result }
     ensures goes { L.goes peer.old.link peer.new.link }
 {
     let Ok(front) = front_request(alloc, &peer.inbox) else {
@@ -78,7 +78,7 @@ pub fn next_request<L: Link>(alloc: Global, peer: &mut Peer<L>) -> Found<Request
 
 /// Takes the head of a response from the front of what the link gave, or reads on.
 fn next_response<L: Link>(alloc: Global, peer: &mut Peer<L>) -> Found<ResponseHead>
-    ensures found { FindsResponse L.tells (side L.look peer.old) (side L.look peer.new) result }
+    ensures found { SeeksResponse L.tells (side L.look peer.old) (side L.look peer.new) result }
     ensures goes { L.goes peer.old.link peer.new.link }
 {
     let Ok(front) = front_response(alloc, &peer.inbox) else {
@@ -100,7 +100,7 @@ pub fn next_response_if<L: Link>(
     alloc: Global,
     origin: &mut Option<Peer<L>>,
 ) -> Found<ResponseHead>
-    ensures found { FindsResponse L.tells (side_if L.look origin.old) (side_if L.look origin.new) result }
+    ensures found { SeeksResponse L.tells (side_if L.look origin.old) (side_if L.look origin.new) result }
     ensures goes { GoesIf L.goes origin.old origin.new }
 {
     match origin {

@@ -64,11 +64,9 @@ returns-in-Read-Failed-clause-fact g c = λ told also.
 
 pub returns-in-NoMemory-clause-fact : goal.returns-in-NoMemory-clause-fact
 returns-in-NoMemory-clause-fact g c = λ told also.
-    lacks_memory (arc_value c.args.self.now.setup) (OriginRefuses g.C.Link.look g.O.Upstream.refuses c.args.self.now)
-    (view_of g.C.Link.look g.O.Link.look c.hear_response.new.self)
-    (awaits_any (arc_value c.args.self.now.setup) (OriginRefuses g.C.Link.look g.O.Upstream.refuses c.args.self.now) g.O.Link.tells
-    (view_of g.C.Link.look g.O.Link.look c.args.self.now) (view_of g.C.Link.look g.O.Link.look c.hear_response.new.self) c.args.request also
-    (c.requires.fact told also)
-    (awaits_still (arc_value c.args.self.now.setup) (OriginRefuses g.C.Link.look g.O.Upstream.refuses c.args.self.now) g.O.Link.tells
-    (view_of g.C.Link.look g.O.Link.look c.args.self.now) (view_of g.C.Link.look g.O.Link.look c.hear_response.new.self) c.args.request also
-    (c.requires.fact told also) c.in-NoMemory.ensures.hears))
+    let setup = arc_value c.args.self.now.setup in
+    let refuses = OriginRefuses g.C.Link.look g.O.Upstream.refuses c.args.self.now in
+    let w = view_of g.C.Link.look g.O.Link.look c.hear_response.new.self in
+    lacks_memory setup refuses w (awaits_any setup refuses w c.args.request
+      (awaits_still setup refuses g.O.Link.tells (view_of g.C.Link.look g.O.Link.look c.args.self.now) w c.args.request also
+        (c.requires.fact told also) c.in-NoMemory.ensures.hears))
