@@ -46,7 +46,7 @@ module _ {C O : Type 0} (ct ot : Bool) (client : C → Look) (origin : O → Loo
       → SeatedAfter t.main u.main a b → Idles u.phase u.main → HasNextEventOr u.phase u.main b.log.state.next
       → IsSoundTxn ct ot client origin paired refuses u b.log.state.pending b.log.state.next b.roles
   sound_begun t u a b h same fresh begins seated idles covered = record {
-    holds = subst (λ k. PhaseHolds ct ot client origin refuses k u.phase) (sym same) (λ told also. by_phase (subst (PhaseFact _ _ (view_of client origin t.core)) (fresh_is t.phase fresh) (h.holds told also)) begins);
+    holds = subst (λ k. PhaseHolds ct ot client origin refuses k u.phase) (sym same) (λ told also. by_phase (subst (PhaseFact (arc_value t.core.setup) (OriginRefuses client refuses t.core) (view_of client origin t.core)) (fresh_is t.phase fresh) (h.holds told also)) begins);
     pair = subst (λ k. IsPaired paired k) (sym same) h.pair;
     seated = seated h.seated;
     idles = idles;

@@ -1,6 +1,7 @@
 -- A transaction that was just made is sound: nothing was given, taken or queued.
 use Rattle.std.proofs.Common.{◌≡◌, ℕ, ◌≤◌, List, [], Bool, true, false, Option, Some, None, inl, arith, refl, sym, ap, subst, ◌∙◌}
 use Rattle.std.specs.Prelude.{⊤}
+use Rattle.std.specs.Arc.{arc_value}
 use Rattle.ts_group.specs.declared.action.Named.{Named}
 use Rattle.ts_group.specs.declared.group.Group.{Group}
 use Rattle.ts_group.specs.Context.{IsFresh}
@@ -12,7 +13,7 @@ use Rattle.ts_txn.specs.Cover.{Idles, HasNextEventOr, Seated}
 use Rattle.ts_txn.specs.Holding.{PhaseFact}
 use Rattle.ts_txn.specs.Facts.{Asking, Untouched}
 use Rattle.ts_txn.specs.Making.{ArePaired, IsMadeOf, IsMadeOfIf, IsNewLink, IsNewLinkIf}
-use Rattle.ts_txn.specs.View.{IsPaired, PairIf, Side, View, no_side, side, side_if, view_of}
+use Rattle.ts_txn.specs.View.{IsPaired, OriginRefuses, PairIf, Side, View, no_side, side, side_if, view_of}
 use Rattle.ts_txn.specs.World.{IsSoundTxn, IsSoundTxnGroup}
 use Rattle.ts_txn.specs.declared.parts.Core.{Core}
 use Rattle.ts_txn.specs.declared.parts.Peer.{Peer}
@@ -67,7 +68,7 @@ module _ {C O : Type 0} (client : C → Look) (origin : O → Look) (c : C) (o :
       → t.phase ≡ P.Fresh → t.main ≡ None → t.core.sent.head ≡ 0 → t.core.sent.mode ≡ M.Plain → t.core.sent.cuts.items ≡ []
       → IsSoundTxn ctells otells client origin paired refuses t [] next roles
   sound ctells otells paired refuses next roles unused unused_origin pair fresh none head mode cuts = record {
-    holds = λ told also. subst (λ p. PhaseFact _ _ (view_of client origin t.core) p) (sym fresh) (asking (unused told) (unused_origin also) head mode cuts);
+    holds = λ told also. subst (λ p. PhaseFact (arc_value t.core.setup) (OriginRefuses client refuses t.core) (view_of client origin t.core) p) (sym fresh) (asking (unused told) (unused_origin also) head mode cuts);
     pair = paired_if paired o t.core.origin of_origin pair;
     seated = subst (λ m. Seated [] roles m) (sym none) (record { of_main = tt; only = λ n p there. let wrong : ◌≡◌ {A = Option Pending} None (Some p) = there in absurd (cc); plain = tt });
     idles = subst (λ p. Idles p t.main) (sym fresh) none;

@@ -1,6 +1,6 @@
 //! How the events of a transaction's continuation drive its steps. Only what stands here sets events.
 ghost use Rattle.std.specs.Prelude.{◌≡◌, true, None, OnOk};
-ghost use Rattle.ts_transform.specs.Driving.{ActsWithin, AddsEvents, IsRousedIf, KeepsStage, SetsOnly};
+ghost use Rattle.ts_transform.specs.Driving.{ActsWithin, AddsEvents, HasLiveIf, IsRousedIf, KeepsStage, SetsOnly};
 ghost use Rattle.ts_txn.specs.Cover.{Proceeds, Idles, HasNextEventOr, IsOfMain, StepsTo};
 ghost use Rattle.ts_txn.specs.Driven.{BeginsOrLacks, SeatedAfter, StaysOrLacks};
 ghost use Rattle.ts_txn.specs.View.{IsPaired};
@@ -28,7 +28,7 @@ fn rouse(
     cx: &mut Cx,
 ) -> Result<(), SetFault>
     requires turn { cx.old.log.state.held ≡ true }
-    ensures adds { AddsEvents 1 result cx.old cx.new }
+    ensures adds { AddsEvents 1 (HasLiveIf cx.new.log.state.live main.new) result cx.old cx.new }
     ensures stage { KeepsStage cx.old cx.new main.old main.new }
     ensures only { SetsOnly (IsOfMain main.old) cx.old cx.new }
     ensures roused { OnOk result (IsRousedIf main.new) }
