@@ -15,5 +15,6 @@ pub mod Own
 pub mod Reading
 pub mod Relayed
 pub mod Rules
+pub mod Steps
 pub mod View
 pub mod World

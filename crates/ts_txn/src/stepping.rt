@@ -1,7 +1,8 @@
 //! One step of a transaction, by its phase.
-ghost use Rattle.ts_txn.specs.View.{IsPaired};
+ghost use Rattle.ts_txn.specs.View.{IsPaired, view_of};
+ghost use Rattle.ts_txn.specs.Steps.{LeavesOriginIn, MindsFaultsIn};
 ghost use Rattle.ts_txn.specs.Cover.{StepLeads};
-ghost use Rattle.ts_txn.specs.Holding.{PhaseHolds, HoldsAfter, StepKeeps};
+ghost use Rattle.ts_txn.specs.Holding.{IfTold, PhaseHolds, HoldsAfter, StepKeeps};
 
 use crate::parts::Core;
 use crate::phase::{Next, Phase, Step};
@@ -12,11 +13,15 @@ use ts_upstream::Upstream;
 impl<C: Link, O: Upstream<C>> Core<C, O> {
     /// The next step of a phase. A response that can be passed on ends the transaction for want of memory, until bodies
     /// are relayed.
+    #[tactic(auto, using(crate::proofs::Leaving::still_leaves, crate::proofs::Minding::stood))]
     pub fn step(&mut self, phase: Phase) -> Step
         requires fact { PhaseHolds C.tells O.tells C.look O.look O.refuses self.old phase }
         requires pair { IsPaired O.paired self.old }
         ensures leads { StepLeads result }
         ensures fact { HoldsAfter C.tells O.tells C.look O.look O.refuses self.old self.new result }
+        ensures minds { MindsFaultsIn phase (view_of C.look O.look self.old) (view_of C.look O.look self.new) result }
+        ensures leaves { IfTold C.tells O.tells
+            (LeavesOriginIn phase (view_of C.look O.look self.old) (view_of C.look O.look self.new)) }
         ensures keeps { StepKeeps C.look O.look O.paired O.refuses self.old self.new }
     {
         match phase {
