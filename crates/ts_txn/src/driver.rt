@@ -145,8 +145,7 @@ pub fn go_on<C: Link, O: Upstream<C>>(
     ensures holds { PhaseHolds C.tells O.tells C.look O.look O.refuses core.new phase.new }
     ensures keeps { StepKeeps C.look O.look O.paired O.refuses core.old core.new }
     ensures seated { SeatedAfter main.old main.new cx.old cx.new }
-    ensures idles { Idles phase.new main.new }
-    ensures covered { HasNextEventOr phase.new main.new cx.new.log.state.next }
+    ensures duty { Idles phase.new main.new × HasNextEventOr phase.new main.new cx.new.log.state.next }
 {
     let was = take(phase);
     let step = core.step(was);
