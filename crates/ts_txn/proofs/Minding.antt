@@ -8,7 +8,7 @@ use Rattle.ts_vconn.specs.declared.moves.Pushed.TheVariants as V
 use Rattle.ts_vconn.specs.MoveAnswers.{pull_failed, push_failed}
 use Rattle.ts_wire.specs.declared.heads.RequestHead.{RequestHead}
 use Rattle.ts_wire.specs.declared.heads.ResponseHead.{ResponseHead}
-use Rattle.ts_txn.specs.View.{Side, View}
+use Rattle.ts_txn.specs.View.{LinkSide, View}
 use Rattle.ts_txn.specs.Moving.{HearsRequest, HearsResponse, QueuesOwn, QueuesRequest, SeeksRequest, SeeksResponse, WritesClient, WritesOrigin}
 use Rattle.ts_txn.specs.Steps.{AnswersOriginFault, ClosesForClientFault, MindsFaults}
 use Rattle.ts_txn.specs.declared.phase.Step.{Step}
@@ -49,17 +49,17 @@ abbrev found_failed : {H : Type 0} → Found H → Bool
 found_failed (F.Read p) = pull_failed p
 found_failed _ = false
 
-request_calm : (t : Bool) (c d : Side) (found : Found RequestHead) → found_failed found ≡ false → SeeksRequest t c d found → d.look.faults ≡ c.look.faults
-request_calm t c d (F.Head head) is seeks = ap (λ (x : Side). x.look.faults) seeks.2
-request_calm t c d F.Never is seeks = ap (λ (x : Side). x.look.faults) seeks.1
+request_calm : (t : Bool) (c d : LinkSide) (found : Found RequestHead) → found_failed found ≡ false → SeeksRequest t c d found → d.look.faults ≡ c.look.faults
+request_calm t c d (F.Head head) is seeks = ap (λ (x : LinkSide). x.look.faults) seeks.2
+request_calm t c d F.Never is seeks = ap (λ (x : LinkSide). x.look.faults) seeks.1
 request_calm t c d (F.Read p) is seeks = counted_same (pull_failed p) c.look.faults d.look.faults is seeks.1.pulls.pulls.calls.faults
-request_calm t c d F.NoMemory is seeks = ap (λ (x : Side). x.look.faults) seeks
+request_calm t c d F.NoMemory is seeks = ap (λ (x : LinkSide). x.look.faults) seeks
 
-response_calm : (t : Bool) (o p : Side) (found : Found ResponseHead) → found_failed found ≡ false → SeeksResponse t o p found → p.look.faults ≡ o.look.faults
-response_calm t o p (F.Head head) is seeks = ap (λ (x : Side). x.look.faults) seeks.2
-response_calm t o p F.Never is seeks = ap (λ (x : Side). x.look.faults) seeks.1
+response_calm : (t : Bool) (o p : LinkSide) (found : Found ResponseHead) → found_failed found ≡ false → SeeksResponse t o p found → p.look.faults ≡ o.look.faults
+response_calm t o p (F.Head head) is seeks = ap (λ (x : LinkSide). x.look.faults) seeks.2
+response_calm t o p F.Never is seeks = ap (λ (x : LinkSide). x.look.faults) seeks.1
 response_calm t o p (F.Read answer) is seeks = counted_same (pull_failed answer) o.look.faults p.look.faults is seeks.1.pulls.pulls.calls.faults
-response_calm t o p F.NoMemory is seeks = ap (λ (x : Side). x.look.faults) seeks
+response_calm t o p F.NoMemory is seeks = ap (λ (x : LinkSide). x.look.faults) seeks
 
 module _ (t : Bool) (v w : View) (s : Step) where
   pub heard_request : (found : Found RequestHead) → found_failed found ≡ false → HearsRequest t v w found → MindsFaults v w s
@@ -104,4 +104,4 @@ module _ (v w : View) (s : Step) where
   queued_request text queues = calm v w s (ap (λ (x : View). x.client.look.faults) queues) (ap (λ (x : View). x.origin.look.faults) queues)
 
   pub queued_own : (head body : List ℕ) → QueuesOwn head body v w → MindsFaults v w s
-  queued_own head body queues = calm v w s (ap (λ (x : Side). x.look.faults) queues.client) (ap (λ (x : Side). x.look.faults) queues.origin)
+  queued_own head body queues = calm v w s (ap (λ (x : LinkSide). x.look.faults) queues.client) (ap (λ (x : LinkSide). x.look.faults) queues.origin)
