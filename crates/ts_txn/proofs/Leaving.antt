@@ -10,7 +10,6 @@ use Rattle.ts_txn.specs.declared.reading.Found.{Found}
 use Rattle.ts_txn.specs.declared.reading.Found.TheVariants as F
 
 module _ (v w : View) where
-
   same_origin : w.origin ≡ v.origin → LeavesOrigin v w
   same_origin same = record { taken = ap (λ (x : LinkSide). x.look.taken) same; waits = ap (λ (x : LinkSide). x.outbox) same }
 

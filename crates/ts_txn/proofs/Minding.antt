@@ -22,7 +22,6 @@ counted_same : (b : Bool) (old new : ℕ) → b ≡ false → Counted b old new 
 counted_same b old new is counted = subst (λ (x : Bool). Counted x old new) is counted
 
 module _ (v w : View) (s : Step) where
-
   -- no count rose
   calm : w.client.look.faults ≡ v.client.look.faults → w.origin.look.faults ≡ v.origin.look.faults → MindsFaults v w s
   calm client origin = record {
@@ -63,7 +62,6 @@ response_calm t o p (F.Read answer) is seeks = counted_same (pull_failed answer)
 response_calm t o p F.NoMemory is seeks = ap (λ (x : LinkSide). x.look.faults) seeks
 
 module _ (t : Bool) (v w : View) (s : Step) where
-
   pub heard_request : (found : Found RequestHead) → found_failed found ≡ false → HearsRequest t v w found → MindsFaults v w s
   heard_request found is hears =
       calm v w s (request_calm t v.client w.client found is hears.finds) (ap (λ (x : View). x.origin.look.faults) hears.others)
@@ -99,7 +97,6 @@ module _ (t : Bool) (v w : View) (s : Step) where
 -- ---- what is queued calls no link
 
 module _ (v w : View) (s : Step) where
-
   pub stood : w ≡ v → MindsFaults v w s
   stood same = calm v w s (ap (λ (x : View). x.client.look.faults) same) (ap (λ (x : View). x.origin.look.faults) same)
 

@@ -1,5 +1,6 @@
--- What the step of a phase owes beside the fact of the phase that it leads to: the fault of a link decides where
--- it leads, and nothing but the request and its upload is sent to the origin (RFC 9110, sections 7.6 and 15.6.3).
+-- What the step of a phase owes beside the fact of the phase that it leads to: the fault of a link decides
+-- where it leads, and nothing but the request and its upload is sent to the origin (RFC 9110, sections 7.6 and
+-- 15.6.3).
 use Rattle.std.specs.Prelude.{◌≡◌, ◌<◌, ⊤}
 use Rattle.ts_hooks.specs.declared.txn_end.TxnEnd.TheVariants as E
 use Rattle.ts_txn.specs.View.{View}

@@ -62,22 +62,58 @@ impl<C: Link, O: Upstream<C>> Core<C, O> {
     {
         match self.hear_request() {
             Found::Head(head) => match check(self.alloc, head) {
-                Ok(Checked::Pass(request)) => Step { phase: Phase::ReadRequestHdr { request }, next: Next::Go },
-                Ok(Checked::Refused(answer)) => Step { phase: Phase::SendResponseHdr { answer }, next: Next::Go },
-                Err(_) => Step { phase: Phase::Ended { end: TxnEnd::NoMemory }, next: Next::Done },
+                Ok(Checked::Pass(request)) => Step {
+                    phase: Phase::ReadRequestHdr { request },
+                    next: Next::Go,
+                },
+                Ok(Checked::Refused(answer)) => Step {
+                    phase: Phase::SendResponseHdr { answer },
+                    next: Next::Go,
+                },
+                Err(_) => Step {
+                    phase: Phase::Ended {
+                        end: TxnEnd::NoMemory,
+                    },
+                    next: Next::Done,
+                },
             },
-            Found::Never => Step { phase: Phase::SendResponseHdr { answer: NO_HEAD }, next: Next::Go },
-            Found::Read(Pulled::Some(_)) => Step { phase: Phase::ReadRequest, next: Next::Go },
+            Found::Never => Step {
+                phase: Phase::SendResponseHdr { answer: NO_HEAD },
+                next: Next::Go,
+            },
+            Found::Read(Pulled::Some(_)) => Step {
+                phase: Phase::ReadRequest,
+                next: Next::Go,
+            },
             Found::Read(Pulled::End) => {
                 if self.client.inbox.is_empty() {
-                    Step { phase: Phase::TxnClose { end: TxnEnd::Whole }, next: Next::Go }
+                    Step {
+                        phase: Phase::TxnClose { end: TxnEnd::Whole },
+                        next: Next::Go,
+                    }
                 } else {
-                    Step { phase: Phase::SendResponseHdr { answer: NO_HEAD }, next: Next::Go }
+                    Step {
+                        phase: Phase::SendResponseHdr { answer: NO_HEAD },
+                        next: Next::Go,
+                    }
                 }
             }
-            Found::Read(Pulled::Again) => Step { phase: Phase::ReadRequest, next: Next::Wait },
-            Found::Read(Pulled::Failed) => Step { phase: Phase::TxnClose { end: TxnEnd::ClientFault }, next: Next::Go },
-            Found::NoMemory => Step { phase: Phase::Ended { end: TxnEnd::NoMemory }, next: Next::Done },
+            Found::Read(Pulled::Again) => Step {
+                phase: Phase::ReadRequest,
+                next: Next::Wait,
+            },
+            Found::Read(Pulled::Failed) => Step {
+                phase: Phase::TxnClose {
+                    end: TxnEnd::ClientFault,
+                },
+                next: Next::Go,
+            },
+            Found::NoMemory => Step {
+                phase: Phase::Ended {
+                    end: TxnEnd::NoMemory,
+                },
+                next: Next::Done,
+            },
         }
     }
 }
