@@ -79,7 +79,6 @@ at_rest ct ot client origin paired refuses t next roles started lasts h = by_cov
     by_cover (inl has) = absurd (no_roused roles t.main h.seated.of_main (goes_roused t.phase t.main started lasts has))
 
 module _ {C O : Type 0} (ct ot : Bool) (client : C → Look) (origin : O → Look) (paired : C → O → Type 0) (refuses : O → List ℕ → Type 0) where
-
   -- it was started
   pub sound_begun : (t u : Txn C O) (a b : Context)
       → IsSoundTxn ct ot client origin paired refuses t a.log.state.pending a.log.state.next a.roles → u.core ≡ t.core → is_fresh t.phase ≡ true → BeginsOrLacks u.phase
@@ -111,7 +110,6 @@ module _ {C O : Type 0} (ct ot : Bool) (client : C → Look) (origin : O → Loo
 
   module _ (t : Txn C O) (now : Context) (role : ℕ) (event : Event)
       (c : IsCalled (λ s roles. IsSoundTxn ct ot client origin paired refuses t s.pending s.next roles) now role event) where
-
     next_covered : HasNextEventOr t.phase t.main now.log.state.next
     next_covered = subst (HasNextEventOr t.phase t.main) (sym (same_next _ now role event c t.main c.sound.seated)) c.sound.covered
 

@@ -20,8 +20,7 @@ const TURNS: u32 = 100_000;
 pub const GET: &[u8] = b"GET / HTTP/1.1\r\nHost: a\r\n\r\n";
 
 /// What the origin gets of it.
-pub const SENT: &[u8] =
-    b"GET / HTTP/1.1\r\nhost: a\r\nvia: 1.1 tsx\r\nconnection: close\r\n\r\n";
+pub const SENT: &[u8] = b"GET / HTTP/1.1\r\nhost: a\r\nvia: 1.1 tsx\r\nconnection: close\r\n\r\n";
 
 pub const BAD_REQUEST: &[u8] =
     b"HTTP/1.1 400 Bad Request\r\ncontent-type: text/plain\r\ncontent-length: 16\r\nconnection: close\r\n\r\n400 Bad Request\n";
@@ -210,12 +209,7 @@ fn no_lines(alloc: Global) -> Setup
 }
 
 // Whether a transaction ended so, and its client got this text, and its origin this one.
-fn has_ended(
-    parts: &TxnParts<MemLink, MemLink>,
-    end: TxnEnd,
-    text: &[u8],
-    request: &[u8],
-) -> bool {
+fn has_ended(parts: &TxnParts<MemLink, MemLink>, end: TxnEnd, text: &[u8], request: &[u8]) -> bool {
     let was_sent = match &parts.origin {
         Some(link) => link.written() == request,
         None => request.is_empty(),
@@ -241,7 +235,14 @@ pub fn is_answered(
 /// proxy itself, and the origin gets nothing.
 pub fn is_refused(alloc: Global, gives: &[u8], text: &[u8]) -> Result<bool, Fail> {
     let at_once = is_answered(alloc, giving(gives), Some(SILENT), TxnEnd::Whole, text, b"")?;
-    let one_by_one = is_answered(alloc, dripping(gives), Some(SILENT), TxnEnd::Whole, text, b"")?;
+    let one_by_one = is_answered(
+        alloc,
+        dripping(gives),
+        Some(SILENT),
+        TxnEnd::Whole,
+        text,
+        b"",
+    )?;
     Ok(at_once && one_by_one)
 }
 
