@@ -1,10 +1,13 @@
 -- What the step of a phase owes beside the fact of the phase that it leads to: the fault of a link decides
--- where it leads, and nothing but the request and its upload is sent to the origin (RFC 9110, sections 7.6 and
--- 15.6.3).
-use Rattle.std.specs.Prelude.{◌≡◌, ◌<◌, ⊤}
+-- where it leads, nothing but the request and its upload is sent to the origin, and it waits for a link alone
+-- (RFC 9110, sections 7.6 and 15.6.3).
+use Rattle.std.specs.Prelude.{◌≡◌, ◌<◌, ◌⊎◌, ⊤}
 use Rattle.ts_hooks.specs.declared.txn_end.TxnEnd.TheVariants as E
+use Rattle.ts_link.specs.Counts.{Rose}
 use Rattle.ts_txn.specs.View.{View}
 use Rattle.ts_txn.specs.declared.own.OwnStatus.TheVariants as O
+use Rattle.ts_txn.specs.declared.phase.Next.{Next}
+use Rattle.ts_txn.specs.declared.phase.Next.TheVariants as N
 use Rattle.ts_txn.specs.declared.phase.Phase.{Phase}
 use Rattle.ts_txn.specs.declared.phase.Phase.TheVariants as P
 use Rattle.ts_txn.specs.declared.phase.Step.{Step}
@@ -40,3 +43,9 @@ LeavesOriginIn (P.SendRequestHdr q) v w = ⊤
 LeavesOriginIn (P.SendRequest q) v w = ⊤
 LeavesOriginIn (P.Upload q) v w = ⊤
 LeavesOriginIn _ v w = LeavesOrigin v w
+
+-- the next step is made later only where a link was not ready
+abbrev pub WaitsRightly : Next → View → View → Type 0
+WaitsRightly N.Wait v w =
+    Rose v.client.look.waits w.client.look.waits ⊎ Rose v.origin.look.waits w.origin.look.waits
+WaitsRightly _ v w = ⊤
