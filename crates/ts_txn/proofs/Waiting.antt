@@ -10,7 +10,6 @@ use Rattle.ts_txn.specs.declared.phase.Next.TheVariants as N
 use Rattle.ts_txn.specs.declared.reading.Found.TheVariants as F
 
 module _ (t : Bool) (v w : View) where
-
   pub asked_waits : HearsRequest t v w (F.Read L.Again) → WaitsRightly N.Wait v w
   asked_waits hears = inl hears.finds.1.pulls.pulls.calls.waits
 
