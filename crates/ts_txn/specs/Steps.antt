@@ -22,15 +22,18 @@ abbrev pub ClosesForClientFault : Phase → Type 0
 ClosesForClientFault (P.TxnClose end) = end ≡ E.ClientFault
 ClosesForClientFault _ = ⊥
 
--- where a link's count of faults rose in a step, that decides where it leads
-pub record MindsFaults (v w : View) (s : Step) : Type 0 where
-  pub client : v.client.look.faults < w.client.look.faults → ClosesForClientFault s.phase
-  pub origin : v.origin.look.faults < w.origin.look.faults → AnswersOriginFault s.phase
+-- Where a link's count of faults rose in a step, that decides where it leads; where a link was not ready, the
+-- next step is made later.
+pub record MindsLinks (v w : View) (s : Step) : Type 0 where
+  pub client_fault : v.client.look.faults < w.client.look.faults → ClosesForClientFault s.phase
+  pub origin_fault : v.origin.look.faults < w.origin.look.faults → AnswersOriginFault s.phase
+  pub client_again : v.client.look.waits < w.client.look.waits → s.next ≡ N.Wait
+  pub origin_again : v.origin.look.waits < w.origin.look.waits → s.next ≡ N.Wait
 
--- an upload alone may meet a fault and still be done
-abbrev pub MindsFaultsIn : Phase → View → View → Step → Type 0
-MindsFaultsIn (P.Upload q) v w s = ⊤
-MindsFaultsIn _ v w s = MindsFaults v w s
+-- an upload alone may meet both and still be done
+abbrev pub MindsLinksIn : Phase → View → View → Step → Type 0
+MindsLinksIn (P.Upload q) v w s = ⊤
+MindsLinksIn _ v w s = MindsLinks v w s
 
 -- nothing is sent to the origin
 pub record LeavesOrigin (v w : View) : Type 0 where

@@ -6,7 +6,7 @@ ghost use Rattle.ts_txn.specs.Rules.{is_denied};
 ghost use Rattle.ts_txn.specs.Relayed.{asks_head};
 ghost use Rattle.ts_txn.specs.Block.{request_text};
 ghost use Rattle.ts_txn.specs.View.{IsPaired, view_of};
-ghost use Rattle.ts_txn.specs.Steps.{MindsFaults, WaitsRightly};
+ghost use Rattle.ts_txn.specs.Steps.{MindsLinks, WaitsRightly};
 ghost use Rattle.ts_txn.specs.Cover.{StepLeads};
 ghost use Rattle.ts_txn.specs.Holding.{PhaseHolds, HoldsAfter, StepKeeps};
 
@@ -98,7 +98,7 @@ impl<C: Link, O: Upstream<C>> Core<C, O> {
             (Phase.SendRequestHdr request) }
         ensures leads { StepLeads result }
         ensures fact { HoldsAfter C.tells O.tells C.look O.look O.refuses self.old self.new result }
-        ensures minds { MindsFaults (view_of C.look O.look self.old) (view_of C.look O.look self.new) result }
+        ensures minds { MindsLinks (view_of C.look O.look self.old) (view_of C.look O.look self.new) result }
         ensures keeps { StepKeeps C.look O.look O.paired O.refuses self.old self.new }
         ensures waits { WaitsRightly result.next
             (view_of C.look O.look self.old) (view_of C.look O.look self.new) }
@@ -126,13 +126,13 @@ impl<C: Link, O: Upstream<C>> Core<C, O> {
     }
 
     /// Writes once of the request's head.
-    #[tactic(auto, using(crate::proofs::Waiting::origin_waits, crate::proofs::Minding::wrote_origin, crate::proofs::Minding::origin_left, crate::proofs::Going::writes_on, crate::proofs::Going::written, crate::proofs::Going::write_fault, crate::proofs::Going::sends_any, crate::proofs::Asks::lacks_memory))]
+    #[tactic(auto, using(crate::proofs::Waiting::origin_waits, crate::proofs::Minding::wrote_origin, crate::proofs::Minding::origin_left, crate::proofs::Minding::full_origin, crate::proofs::Going::writes_on, crate::proofs::Going::written, crate::proofs::Going::write_fault, crate::proofs::Going::sends_any, crate::proofs::Asks::lacks_memory))]
     pub fn send_request(&mut self, request: Request) -> Step
         requires fact { PhaseHolds C.tells O.tells C.look O.look O.refuses self.old
             (Phase.SendRequest request) }
         ensures leads { StepLeads result }
         ensures fact { HoldsAfter C.tells O.tells C.look O.look O.refuses self.old self.new result }
-        ensures minds { MindsFaults (view_of C.look O.look self.old) (view_of C.look O.look self.new) result }
+        ensures minds { MindsLinks (view_of C.look O.look self.old) (view_of C.look O.look self.new) result }
         ensures keeps { StepKeeps C.look O.look O.paired O.refuses self.old self.new }
         ensures waits { WaitsRightly result.next
             (view_of C.look O.look self.old) (view_of C.look O.look self.new) }
