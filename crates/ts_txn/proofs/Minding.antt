@@ -1,5 +1,5 @@
 -- Each answer of a link's call but a fault and Again leaves its counts, and these two are minded.
-use Rattle.std.proofs.Common.{◌≡◌, ℕ, ◌<◌, List, Bool, true, false, arith, ap, subst}
+use Rattle.std.proofs.Common.{◌≡◌, ℕ, ◌<◌, List, Bool, false, arith, ap, subst}
 use Rattle.ts_link.specs.Counts.{Counted}
 use Rattle.ts_link.specs.Link.{Look}
 use Rattle.ts_vconn.specs.declared.moves.Pulled.{Pulled}

@@ -1,5 +1,5 @@
 -- A step that waits met a link that was not ready.
-use Rattle.std.proofs.Common.{◌≡◌, List, ℕ, Bool, inl, inr}
+use Rattle.std.proofs.Common.{List, ℕ, Bool, inl, inr}
 use Rattle.ts_upstream.specs.declared.upstream.Uploaded.TheVariants as U
 use Rattle.ts_vconn.specs.declared.moves.Pulled.TheVariants as L
 use Rattle.ts_vconn.specs.declared.moves.Pushed.TheVariants as V
