@@ -19,3 +19,4 @@ pub mod Seating
 pub mod Settled
 mod Sites
 pub mod Uploading
+pub mod Waiting
