@@ -1,6 +1,7 @@
 pub mod Always
 pub mod Asks
 pub mod Coverage
+pub mod Events
 pub mod Filled
 pub mod Fitting
 pub mod Going

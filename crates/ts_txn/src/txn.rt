@@ -5,7 +5,8 @@ ghost use Rattle.ts_group.specs.Calls.{IsCalled};
 ghost use Rattle.ts_group.specs.Entries.{Grows};
 ghost use Rattle.ts_transform.specs.Driving.{ActsWithin};
 ghost use Rattle.ts_txn.specs.Cover.{is_fresh};
-ghost use Rattle.ts_txn.specs.Holding.{StepKeeps};
+ghost use Rattle.ts_txn.specs.declared.phase.Next.{Next};
+ghost use Rattle.ts_txn.specs.Driven.{HandlesEvent, TakesEvent};
 ghost use Rattle.ts_txn.specs.World.{IsTxnOf, HasTxnBegun, IsSoundTxn};
 
 use crate::driver::{MAIN, begin, go_on};
@@ -68,7 +69,7 @@ impl<C: Link + Drop, O: Upstream<C> + Drop> Slotted for Txn<C, O> {
     ghost follows_on = { λ t u v a b. tt };
 }
 
-#[tactic(auto, using(ts_group::proofs::Grows::grows, ts_group::proofs::Grows::grows_refl, ts_transform::proofs::Kept::acts_none, crate::proofs::Handling::sound_begun, crate::proofs::Handling::sound_asked, crate::proofs::Handling::sound_other, crate::proofs::Handling::sound_quiet, crate::proofs::Handling::sound_stepped, crate::proofs::Coverage::fresh_none, crate::proofs::Fitting::same_core, crate::proofs::Fitting::fits_on))]
+#[tactic(auto, using(ts_group::proofs::Grows::grows, ts_group::proofs::Grows::grows_refl, ts_transform::proofs::Kept::acts_none, crate::proofs::Handling::sound_begun, crate::proofs::Handling::sound_asked, crate::proofs::Handling::sound_other, crate::proofs::Handling::sound_quiet, crate::proofs::Handling::sound_stepped, crate::proofs::Coverage::fresh_none, crate::proofs::Events::handles_nothing, crate::proofs::Fitting::fits_on))]
 impl<C: Link + Drop, O: Upstream<C> + Drop> World for Txn<C, O> {
     type Question = ();
 
@@ -94,8 +95,9 @@ impl<C: Link + Drop, O: Upstream<C> + Drop> World for Txn<C, O> {
 
     ghost begun = { λ old new. HasTxnBegun old new };
 
-    // A handler leads to the same transaction, of the same links.
-    ghost called = { λ old new asked. StepKeeps C.look O.look O.paired O.refuses old.core new.core };
+    // A handler makes one step of the same transaction, or nothing.
+    ghost called = { λ old new asked. (next : Next) × TakesEvent C.tells O.tells C.look O.look
+        O.paired O.refuses old.core new.core old.phase new.phase next };
 
     ghost heard = { λ old new asked. new ≡ old };
 
@@ -124,7 +126,8 @@ impl<C: Link + Drop, O: Upstream<C> + Drop> World for Txn<C, O> {
             self.new cx.new.log.state.pending cx.new.log.state.next cx.new.roles }
         ensures nothing { result ≡ Want.Nothing }
         ensures within { ActsWithin 1 cx.old cx.new }
-        ensures keeps { StepKeeps C.look O.look O.paired O.refuses self.old.core self.new.core }
+        ensures handles { HandlesEvent C.tells O.tells C.look O.look O.paired O.refuses
+            self.old.core self.new.core self.old.phase self.new.phase cx.old cx.new }
     {
         if role != MAIN {
             return Want::Nothing;

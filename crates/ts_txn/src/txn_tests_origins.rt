@@ -44,7 +44,16 @@ fn an_origin_that_gives_no_answer_to_pass_on(rt: HostRuntime) -> Result<(), Fail
     }
     // A body of no known coding, which an answer to a request for the head alone has not.
     let faulty = giving(b"HTTP/1.1 200 OK\r\nTransfer-Encoding: gzip\r\n\r\n");
-    assert!(rt; is_answered(alloc, giving(GET), Some(faulty), TxnEnd::Whole, BAD_GATEWAY, SENT)?);
+    assert!(rt;
+        is_answered(
+            alloc,
+            giving(GET),
+            Some(faulty),
+            TxnEnd::Whole,
+            BAD_GATEWAY,
+            SENT
+        )?
+    );
     Ok(())
 }
 
