@@ -1,5 +1,5 @@
 -- The next step of a transaction has an event, or there is none.
-use Rattle.std.proofs.Common.{◌≡◌, ℕ, ◌≤◌, ◌⊎◌, inl, inr, Bool, true, false, Option, Some, None, arith, refl, sym, ap, subst, ◌∙◌}
+use Rattle.std.proofs.Common.{◌≡◌, ℕ, ◌≤◌, inl, inr, true, Option, None, arith}
 use Rattle.std.specs.Prelude.{⊤}
 use Rattle.ts_journal.specs.declared.entry.TheConstants.{GREATEST}
 use Rattle.ts_transform.specs.Driving.{IsRousedIf}

@@ -1,11 +1,9 @@
 -- A transaction keeps the tags that it fits, since each step leaves it and its links what they are.
-use Rattle.std.proofs.Common.{◌≡◌, ℕ, List, Bool, true, Option, refl, sym, ap, subst, ◌∙◌}
+use Rattle.std.proofs.Common.{ℕ, List, refl, sym, ap, subst, ◌∙◌}
 use Rattle.std.specs.Arc.{arc_value}
 use Rattle.std.specs.Prelude.{IsSomeAnd}
 use Rattle.ts_link.specs.Link.{IsSure, IsSurePlan, Look}
-use Rattle.ts_upstream.specs.Uploads.{SameRefusal}
 use Rattle.ts_txn.specs.Holding.{IsSameLink, StepKeeps}
-use Rattle.ts_txn.specs.View.{is_dialed, side_if}
 use Rattle.ts_txn.specs.World.{IsTxnOf}
 use Rattle.ts_txn.specs.declared.parts.Core.{Core}
 use Rattle.ts_txn.specs.declared.txn.Txn.{Txn}

@@ -1,11 +1,10 @@
 -- The continuation of a transaction: what calls and events leave of it and of what is pending.
-use Rattle.std.proofs.Common.{◌≡◌, ◌≢◌, ℕ, ◌+◌, ◌<◌, ◌≤◌, ◌⊎◌, inl, inr, List, [], ◌∷◌, Bool, true, false, ◌&&◌, ◌==◌, Option, Some, None, Result, Ok, Err, eqb, length, arith, refl, sym, ap, subst, ◌∙◌}
+use Rattle.std.proofs.Common.{◌≡◌, ◌≢◌, ℕ, ◌⊎◌, inl, inr, List, Bool, true, false, ◌&&◌, ◌==◌, Option, Some, None, Result, eqb, length, arith, refl, sym, ap, subst, ◌∙◌}
 use Rattle.std.proofs.lemmas.Bool.Decides.{eqb_tells}
 use Rattle.ts_journal.specs.declared.entry.ContKey.{ContKey}
 use Rattle.ts_journal.specs.declared.entry.Event.{Event}
 use Rattle.ts_journal.specs.declared.entry.Pending.{Pending}
 use Rattle.ts_journal.specs.State.{State, IsLive, pending_at, same_key}
-use Rattle.ts_journal.specs.Machine.{IsValid}
 use Rattle.ts_journal.proofs.Events.{known_in}
 use Rattle.ts_group.proofs.Facts.{plain_at}
 use Rattle.ts_group.specs.declared.action.Action.{Action}
@@ -15,13 +14,13 @@ use Rattle.ts_group.specs.declared.action.Named.{Named}
 use Rattle.ts_group.specs.declared.action.SetFault.{SetFault}
 use Rattle.ts_group.specs.Acts.{Destroys, Sets}
 use Rattle.ts_group.specs.Calls.{IsCalled}
-use Rattle.ts_group.specs.Changes.{HasHandled, HasLost, IsLess, KeepsKeys, SameEvents}
+use Rattle.ts_group.specs.Changes.{HasLost, IsLess, SameEvents}
 use Rattle.ts_group.specs.Context.{AllPlain, Context, IsOrderly, moment_after, role_at}
 use Rattle.ts_group.specs.Entries.{Grows}
-use Rattle.ts_transform.specs.Driving.{ActsWithin, IsDueAfter, IsOfStageIf, IsRousedIf, Keeps, KeepsStage, SetsOnly, unroused, works_at}
+use Rattle.ts_transform.specs.Driving.{ActsWithin, IsDueAfter, Keeps, KeepsStage, SetsOnly, unroused, works_at}
 use Rattle.ts_transform.proofs.Handled.{handled_by, quiet_if, stays_if, unroused_if}
 use Rattle.ts_transform.proofs.Setting.{lessens_less, only_none, set_only}
-use Rattle.ts_transform.proofs.Kept.{acts_lessens, acts_none, soon_later}
+use Rattle.ts_transform.proofs.Kept.{acts_lessens, soon_later}
 use Rattle.ts_transform.specs.declared.continuation.StageContinuation.{StageContinuation}
 use Rattle.ts_txn.specs.Cover.{IsOfMain, Seated, main_role}
 
