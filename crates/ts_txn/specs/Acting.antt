@@ -13,8 +13,12 @@ use Rattle.ts_config.specs.declared.setup.TransformLine.TheVariants as t
 abbrev pub ok : ℕ
 ok = 200
 
+-- the byte `;`
+abbrev pub semicolon : ℕ
+semicolon = 59
+
 abbrev pub is_semicolon : ℕ → Bool
-is_semicolon b = b == 59
+is_semicolon b = b == semicolon
 
 -- the value of Content-Type up to the first `;`, without the spaces and tabs around it (RFC 9110,
 -- section 8.3)

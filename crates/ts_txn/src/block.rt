@@ -37,7 +37,7 @@ pub struct Block {
 }
 
 /// The head that the origin gets.
-fn request_text(
+pub(crate) fn request_text(
     alloc: Global,
     setup: &Setup,
     head: &RequestHead,
@@ -51,7 +51,7 @@ fn request_text(
     origin_head(alloc, head, target.bytes(), host.bytes(), &fields)
 }
 
-fn own_text(alloc: Global, setup: &Setup, status: OwnStatus) -> Result<Octets, NoMemory>
+pub(crate) fn own_text(alloc: Global, setup: &Setup, status: OwnStatus) -> Result<Octets, NoMemory>
     ensures { IfOk result (λ text. text ≡ own_text setup.now status) }
 {
     let fields = apply_rules(Side::Response, setup.plugins.as_slice(), own_fields(alloc)?)?;
@@ -262,7 +262,7 @@ fn relayed(
 }
 
 /// Whether a response can be passed on.
-fn is_good(request: &RequestHead, head: &ResponseHead) -> bool
+pub(crate) fn is_good(request: &RequestHead, head: &ResponseHead) -> bool
     ensures good { result ≡ true → IsGood request.now head.now }
     ensures status { result ≡ false → (is_refused_status head.now.status ≡ true)
         ⊎ (framing_of request.now head.now ≡ Framing.Faulty) }

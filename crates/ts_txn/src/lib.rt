@@ -3,18 +3,40 @@
 #![tactic(auto)]
 
 mod acting;
+mod answering;
+mod asking;
+mod awaiting;
 mod block;
 mod bodies;
+mod driver;
 mod finding;
+mod making;
+mod origins;
 mod own;
+mod parts;
+mod peers;
+mod phase;
+mod reading;
 mod relayed;
 mod rules;
+mod sides;
+mod stepping;
+mod txn;
 
 pub use acting::acts_on;
 pub use block::{Block, block_of, one_block};
+pub use driver::MAIN;
+pub use making::{MOST_GROUPS, MOST_PLUGINS, TxnParts};
 pub use own::OwnStatus;
 pub use relayed::client_framing;
 pub use rules::{apply_rules, is_denied};
+pub use txn::{Txn, TxnTag};
 
 #[cfg(test)]
 mod tests;
+#[cfg(test)]
+mod txn_tests;
+#[cfg(test)]
+mod txn_tests_origins;
+#[cfg(test)]
+mod txn_tests_requests;

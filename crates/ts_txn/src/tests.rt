@@ -1,9 +1,10 @@
 //! Blocks of exchanges that were worked out by hand.
 use crate::{Block, block_of};
+use http_header::{HeaderName, HeaderValue};
 use std::alloc::Global;
 use std::process::Abort;
 use std::test::Fail;
-use ts_config::{PluginLine, Setup, Sites, TransformLine, read_config};
+use ts_config::{PluginLine, Rule, Setup, Side, Sites, TransformLine, read_config};
 use ts_hooks::TxnEnd;
 use ts_link::Octets;
 
@@ -22,6 +23,12 @@ const RESPONSE: &[u8] = b"HTTP/1.1 200 OK\r\nContent-Length: 3\r\n\r\nabc";
 
 const GATEWAY: &[u8] =
     b"HTTP/1.1 502 Bad Gateway\r\ncontent-type: text/plain\r\ncontent-length: 16\r\nconnection: close\r\n\r\n502 Bad Gateway\n";
+
+const BAD_REQUEST: &[u8] =
+    b"HTTP/1.1 400 Bad Request\r\ncontent-type: text/plain\r\ncontent-length: 16\r\nconnection: close\r\n\r\n400 Bad Request\n";
+
+const NOT_SERVED: &[u8] =
+    b"HTTP/1.1 501 Not Implemented\r\ncontent-type: text/plain\r\ncontent-length: 20\r\nconnection: close\r\n\r\n501 Not Implemented\n";
 
 // The setup of a configuration whose files hold `<hr>`.
 fn setup_of(alloc: Global, config: &[u8]) -> Result<Setup, Fail> {
@@ -63,7 +70,9 @@ fn a_body_goes_through_the_lines_that_act_on_it(rt: HostRuntime) -> Result<(), F
     let dropped = b"HTTP/1.1 200 OK\r\nContent-Length: 4\r\n\r\naaaa";
     let chunked =
         b"HTTP/1.1 200 OK\r\nTransfer-Encoding: chunked\r\n\r\n3;x=1\r\nabc\r\n0\r\nT: 1\r\n\r\n";
-    let rows: [(&[u8], &[u8], TxnEnd, &[u8]); 5] = [
+    let bad = b"HTTP/1.1 200 OK\r\nTransfer-Encoding: chunked\r\n\r\n3\r\nabcX";
+    let rows: [(&[u8], &[u8], TxnEnd, &[u8]); 6] = [
+        (b"prepend.so <", bad, TxnEnd::OriginBad, b""),
         (b"drop.so a", dropped, TxnEnd::Whole, b""),
         (b"prepend.so <", RESPONSE, TxnEnd::Whole, b"<abc"),
         (b"prepend.so <", chunked, TxnEnd::Whole, b"<abc"),
@@ -159,5 +168,136 @@ fn a_denied_host_gets_no_request(rt: HostRuntime) -> Result<(), Fail> {
         b"HTTP/1.1 403 Forbidden\r\ncontent-type: text/plain\r\ncontent-length: 14\r\nconnection: close\r\n\r\n403 Forbidden\n";
     let block = block_of(alloc, &setup, client, true, false, RESPONSE)?;
     assert!(rt; answers(&block, TxnEnd::Whole, text) && block.request.bytes().is_empty());
+    Ok(())
+}
+
+#[test]
+fn a_refused_request_never_reaches_the_origin(rt: HostRuntime) -> Result<(), Fail> {
+    let rows: [(&[u8], &[u8]); 8] = [
+        (b"GET / HTTP/1.1\r\nHost: a\r\n", BAD_REQUEST),
+        (b"GET / HTTP/1.1\r\n\r\n", BAD_REQUEST),
+        (b"GET / HTTP/1.1\r\nHost: a\r\nHost: a\r\n\r\n", BAD_REQUEST),
+        (b"GET a HTTP/1.1\r\nHost: a\r\n\r\n", BAD_REQUEST),
+        (
+            b"POST / HTTP/1.1\r\nHost: a\r\nContent-Length: x\r\n\r\n",
+            BAD_REQUEST,
+        ),
+        (b"CONNECT a:80 HTTP/1.1\r\nHost: a\r\n\r\n", NOT_SERVED),
+        (
+            b"POST / HTTP/1.1\r\nHost: a\r\nTransfer-Encoding: chunked\r\n\r\n",
+            NOT_SERVED,
+        ),
+        (
+            b"POST / HTTP/1.1\r\nHost: a\r\nContent-Length: 3\r\n\r\nabc",
+            NOT_SERVED,
+        ),
+    ];
+    for (client, text) in rows {
+        let block = exchange(rt.alloc(), b"", client, RESPONSE)?;
+        assert!(rt; answers(&block, TxnEnd::Whole, text) && block.request.bytes().is_empty());
+    }
+    Ok(())
+}
+
+#[test]
+fn an_own_answer_to_head_has_no_body(rt: HostRuntime) -> Result<(), Fail> {
+    let alloc = rt.alloc();
+    let setup = setup_of(alloc, b"")?;
+    let none = block_of(alloc, &setup, HEAD, false, false, b"")?;
+    let refused = exchange(alloc, b"", b"HEAD / HTTP/1.1\r\n\r\n", RESPONSE)?;
+    let ended = exchange(alloc, b"", HEAD, b"")?;
+    assert!(rt;
+        answers(&none, TxnEnd::Whole, GATEWAY.split_at(93).0) && none.request.bytes().is_empty()
+    );
+    assert!(rt; answers(&refused, TxnEnd::Whole, BAD_REQUEST.split_at(93).0));
+    assert!(rt;
+        answers(&ended, TxnEnd::Whole, GATEWAY.split_at(93).0) && was_sent(&ended, b"HEAD")
+    );
+    assert!(rt;
+        none.body.bytes().is_empty()
+            && refused.body.bytes().is_empty()
+            && ended.body.bytes().is_empty()
+    );
+    Ok(())
+}
+
+#[test]
+fn a_refused_upload_is_answered_by_400(rt: HostRuntime) -> Result<(), Fail> {
+    let setup = setup_of(rt.alloc(), b"")?;
+    let block = block_of(rt.alloc(), &setup, GET, true, true, RESPONSE)?;
+    assert!(rt; answers(&block, TxnEnd::Whole, BAD_REQUEST) && was_sent(&block, b"GET"));
+    Ok(())
+}
+
+#[test]
+fn the_version_and_the_target_of_a_request(rt: HostRuntime) -> Result<(), Fail> {
+    let rows: [(&[u8], &[u8], &[u8]); 3] = [
+        // A client of HTTP/1.0 reads no chunks, and need not name a host.
+        (
+            b"GET / HTTP/1.0\r\n\r\n",
+            b"GET / HTTP/1.1\r\nhost: \r\nvia: 1.0 tsx\r\nconnection: close\r\n\r\n",
+            b"HTTP/1.1 200 OK\r\nvia: 1.0 tsx\r\nconnection: close\r\n\r\nabc",
+        ),
+        // The authority of the target stands in the place of the host that is named.
+        (
+            b"GET HTTP://b:80?x HTTP/1.1\r\nHost: a\r\nAccept: */*\r\n\r\n",
+            b"GET /?x HTTP/1.1\r\nhost: b:80\r\naccept: */*\r\nvia: 1.1 tsx\r\nconnection: close\r\n\r\n",
+            b"HTTP/1.1 200 OK\r\nvia: 1.0 tsx\r\ntransfer-encoding: chunked\r\nconnection: close\r\n\r\nabc",
+        ),
+        (
+            b"OPTIONS http://b HTTP/1.0\r\n\r\n",
+            b"OPTIONS * HTTP/1.1\r\nhost: b\r\nvia: 1.0 tsx\r\nconnection: close\r\n\r\n",
+            b"HTTP/1.1 200 OK\r\nvia: 1.0 tsx\r\nconnection: close\r\n\r\nabc",
+        ),
+    ];
+    for (client, sent, text) in rows {
+        let block = exchange(rt.alloc(), b"", client, b"HTTP/1.0 200 OK\r\n\r\nabc")?;
+        assert_eq!(rt; block.request.bytes(), sent);
+        assert!(rt; answers(&block, TxnEnd::Whole, text));
+    }
+    Ok(())
+}
+
+// A setup with these two header rules: `request add x-a 1`, and `response set content-type x`.
+fn ruled_setup(alloc: Global) -> Result<Setup, Fail> {
+    let mut setup = setup_of(alloc, b"")?;
+    let add = Rule::Add {
+        name: HeaderName::from_static("x-a"),
+        value: HeaderValue::from_static("1"),
+    };
+    let set = Rule::Set {
+        name: HeaderName::from_static("content-type"),
+        value: HeaderValue::from_static("x"),
+    };
+    setup.plugins.push(PluginLine::Header {
+        side: Side::Request,
+        rule: add,
+    })?;
+    setup.plugins.push(PluginLine::Header {
+        side: Side::Response,
+        rule: set,
+    })?;
+    Ok(setup)
+}
+
+#[test]
+fn header_rules_change_one_side(rt: HostRuntime) -> Result<(), Fail> {
+    let setup = ruled_setup(rt.alloc())?;
+    let sent = b"GET / HTTP/1.1\r\nhost: a\r\nx-a: 1\r\nvia: 1.1 tsx\r\nconnection: close\r\n\r\n";
+    let rows: [(&[u8], &[u8]); 2] = [
+        (
+            RESPONSE,
+            b"HTTP/1.1 200 OK\r\ncontent-type: x\r\nvia: 1.1 tsx\r\ncontent-length: 3\r\nconnection: close\r\n\r\nabc",
+        ),
+        (
+            b"",
+            b"HTTP/1.1 502 Bad Gateway\r\ncontent-type: x\r\ncontent-length: 16\r\nconnection: close\r\n\r\n502 Bad Gateway\n",
+        ),
+    ];
+    for (origin, text) in rows {
+        let block = block_of(rt.alloc(), &setup, GET, true, false, origin)?;
+        assert_eq!(rt; block.request.bytes(), sent.as_slice());
+        assert!(rt; answers(&block, TxnEnd::Whole, text));
+    }
     Ok(())
 }

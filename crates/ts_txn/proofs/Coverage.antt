@@ -1,0 +1,99 @@
+-- The next step of a transaction has an event, or there is none.
+use Rattle.std.proofs.Common.{◌≡◌, ℕ, ◌≤◌, inl, inr, true, Option, None, arith}
+use Rattle.std.specs.Prelude.{⊤}
+use Rattle.ts_journal.specs.declared.entry.TheConstants.{GREATEST}
+use Rattle.ts_transform.specs.Driving.{IsRousedIf}
+use Rattle.ts_transform.specs.declared.continuation.StageContinuation.{StageContinuation}
+use Rattle.ts_txn.specs.Cover.{Proceeds, Idles, HasNextEvent, HasNextEventOr, is_ended, is_fresh}
+use Rattle.ts_txn.specs.declared.phase.Phase.{Phase}
+use Rattle.ts_txn.specs.declared.phase.Phase.TheVariants as P
+
+-- its continuation was roused
+pub covered_roused : (p : Phase) (main : Option StageContinuation) (next : ℕ) → Proceeds p → IsRousedIf main → HasNextEventOr p main next
+covered_roused p main next goes roused = inl (by_phase p goes)
+  where
+    by_phase : (p : Phase) → Proceeds p → HasNextEvent p main
+    by_phase P.Fresh goes = tt
+    by_phase P.TxnStart goes = roused
+    by_phase P.ReadRequest goes = roused
+    by_phase (P.ReadRequestHdr q) goes = roused
+    by_phase (P.OsDns q) goes = roused
+    by_phase (P.SendRequestHdr q) goes = roused
+    by_phase (P.SendRequest q) goes = roused
+    by_phase (P.Upload q) goes = roused
+    by_phase (P.ReadResponse q) goes = roused
+    by_phase (P.ReadResponseHdr q h) goes = roused
+    by_phase (P.ResponseTransform q h) goes = roused
+    by_phase (P.SendResponseHdr a) goes = roused
+    by_phase (P.Sending a) goes = roused
+    by_phase (P.TxnClose end) goes = roused
+    by_phase (P.Ended end) goes = tt
+
+-- or the numbers are used up
+pub covered_spent : (p : Phase) (main : Option StageContinuation) (next : ℕ) → GREATEST ≤ next → HasNextEventOr p main next
+covered_spent p main next spent = inr spent
+
+-- so they stay
+pub covered_later : (p : Phase) (main : Option StageContinuation) (m n : ℕ) → m ≤ n → HasNextEventOr p main m → HasNextEventOr p main n
+covered_later p main m n later (inl has) = inl has
+covered_later p main m n later (inr spent) = inr (omega (arith, spent, later))
+
+-- a phase that goes on asks nothing where it has a continuation
+pub idle_goes : (p : Phase) (main : Option StageContinuation) → Proceeds p → Idles p main
+idle_goes P.Fresh main goes = absurd goes
+idle_goes P.TxnStart main goes = tt
+idle_goes P.ReadRequest main goes = tt
+idle_goes (P.ReadRequestHdr q) main goes = tt
+idle_goes (P.OsDns q) main goes = tt
+idle_goes (P.SendRequestHdr q) main goes = tt
+idle_goes (P.SendRequest q) main goes = tt
+idle_goes (P.Upload q) main goes = tt
+idle_goes (P.ReadResponse q) main goes = tt
+idle_goes (P.ReadResponseHdr q h) main goes = tt
+idle_goes (P.ResponseTransform q h) main goes = tt
+idle_goes (P.SendResponseHdr a) main goes = tt
+idle_goes (P.Sending a) main goes = tt
+idle_goes (P.TxnClose end) main goes = tt
+idle_goes (P.Ended end) main goes = absurd goes
+
+-- one that has ended has none
+ended_has : (p : Phase) → is_ended p ≡ true → (T : Phase → Type 0) → ((end : _) → T (P.Ended end)) → T p
+ended_has (P.Ended end) is T h = h end
+ended_has P.Fresh is T h = absurd (cc)
+ended_has P.TxnStart is T h = absurd (cc)
+ended_has P.ReadRequest is T h = absurd (cc)
+ended_has (P.ReadRequestHdr q) is T h = absurd (cc)
+ended_has (P.OsDns q) is T h = absurd (cc)
+ended_has (P.SendRequestHdr q) is T h = absurd (cc)
+ended_has (P.SendRequest q) is T h = absurd (cc)
+ended_has (P.Upload q) is T h = absurd (cc)
+ended_has (P.ReadResponse q) is T h = absurd (cc)
+ended_has (P.ReadResponseHdr q r) is T h = absurd (cc)
+ended_has (P.ResponseTransform q r) is T h = absurd (cc)
+ended_has (P.SendResponseHdr a) is T h = absurd (cc)
+ended_has (P.Sending a) is T h = absurd (cc)
+ended_has (P.TxnClose end) is T h = absurd (cc)
+
+pub ended_idle : (p : Phase) (main : Option StageContinuation) → is_ended p ≡ true → main ≡ None → Idles p main
+ended_idle p main is none = ended_has p is (λ x. Idles x main) (λ end. none)
+
+pub ended_covered : (p : Phase) (main : Option StageContinuation) (next : ℕ) → is_ended p ≡ true → HasNextEventOr p main next
+ended_covered p main next is = ended_has p is (λ x. HasNextEventOr x main next) (λ end. inl tt)
+
+-- one that was not started has none
+pub fresh_none : (p : Phase) (main : Option StageContinuation) → is_fresh p ≡ true → Idles p main → main ≡ None
+fresh_none P.Fresh main is idles = idles
+fresh_none P.TxnStart main is idles = absurd (cc)
+fresh_none P.ReadRequest main is idles = absurd (cc)
+fresh_none (P.ReadRequestHdr q) main is idles = absurd (cc)
+fresh_none (P.OsDns q) main is idles = absurd (cc)
+fresh_none (P.SendRequestHdr q) main is idles = absurd (cc)
+fresh_none (P.SendRequest q) main is idles = absurd (cc)
+fresh_none (P.Upload q) main is idles = absurd (cc)
+fresh_none (P.ReadResponse q) main is idles = absurd (cc)
+fresh_none (P.ReadResponseHdr q r) main is idles = absurd (cc)
+fresh_none (P.ResponseTransform q r) main is idles = absurd (cc)
+fresh_none (P.SendResponseHdr a) main is idles = absurd (cc)
+fresh_none (P.Sending a) main is idles = absurd (cc)
+fresh_none (P.TxnClose end) main is idles = absurd (cc)
+fresh_none (P.Ended end) main is idles = absurd (cc)

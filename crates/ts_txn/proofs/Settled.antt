@@ -1,0 +1,146 @@
+-- A step's facts, said of what the origin's link refuses after it: what it refused before, and nothing else.
+use Rattle.std.proofs.Common.{inl, inr, ℕ, List, Bool, true, false, Result, Ok, Err, sym, subst}
+use Rattle.std.specs.Arc.{arc_value}
+use Rattle.ts_config.specs.declared.setup.Setup.{Setup}
+use Rattle.ts_hooks.specs.declared.txn_end.TxnEnd.{TxnEnd}
+use Rattle.ts_hooks.specs.declared.txn_end.TxnEnd.TheVariants as E
+use Rattle.ts_link.specs.Link.{Look}
+use Rattle.ts_wire.specs.Check.{check}
+use Rattle.ts_wire.specs.declared.heads.RequestHead.{RequestHead}
+use Rattle.ts_wire.specs.declared.heads.ResponseHead.{ResponseHead}
+use Rattle.ts_txn.specs.Block.{DenySays, DialSays, IsBlock, VerdictSays, asked, no_head, silent}
+use Rattle.ts_txn.specs.View.{OriginRefuses, LinkSide, View, refuses_if, view_of}
+use Rattle.ts_txn.specs.Facts.{Awaits, OwnCause, OwnReady, OwnSends, Relays, Served, decided, fault}
+use Rattle.ts_txn.specs.Ends.{AnyEnd, EndFact, EndsBy, FaultText, HasBlock, Relayed, SomeText}
+use Rattle.ts_txn.specs.Ends as ends
+use Rattle.ts_txn.specs.Holding.{StepKeeps, PhaseFact}
+use Rattle.ts_txn.specs.Driven.{StaysOrLacks}
+use Rattle.ts_txn.specs.declared.block.Block.{Block}
+use Rattle.ts_txn.specs.declared.parts.Core.{Core}
+use Rattle.ts_txn.specs.declared.phase.OwnAnswer.{OwnAnswer}
+use Rattle.ts_txn.specs.declared.phase.Phase.{Phase}
+use Rattle.ts_txn.specs.declared.phase.Phase.TheVariants as P
+use Rattle.ts_txn.specs.declared.phase.Request.{Request}
+use Rattle.ts_txn.proofs.Always.{always}
+
+module _ (setup : Setup) (R S : Type 0) (to : R → S) (from : S → R) where
+  -- ---- the block
+
+  dial : (dialed : Bool) (o request : List ℕ) (q : RequestHead) (b : Block) (d : Bool) → DialSays setup dialed R o d request q b → DialSays setup dialed S o d request q b
+  dial dialed o request q b false h = h
+  dial dialed o request q b true (inl (refused, is)) = inl (to refused, is)
+  dial dialed o request q b true (inr (not, says)) = inr (λ s. not (from s), says)
+
+  deny : (dialed : Bool) (o request : List ℕ) (q : RequestHead) (b : Block) (d : Bool) → DenySays setup dialed R o d request q b → DenySays setup dialed S o d request q b
+  deny dialed o request q b true h = h
+  deny dialed o request q b false h = dial dialed o request q b dialed h
+
+  verdict : (dialed : Bool) (o : List ℕ) (q : RequestHead) (b : Block) (r : Result (List ℕ × List ℕ) ℕ) → VerdictSays setup dialed R o r q b → VerdictSays setup dialed S o r q b
+  verdict dialed o q b (Err status) h = h
+  verdict dialed o q b (Ok (target, host)) h = deny dialed o _ q b _ h
+
+  block : (dialed : Bool) (o c : List ℕ) (b : Block) → IsBlock setup dialed R o c b → IsBlock setup dialed S o c b
+  block dialed o c b (silent none is) = silent none is
+  block dialed o c b (no_head some lacks is) = no_head some lacks is
+  block dialed o c b (asked some q rest has says) = asked some q rest has (verdict dialed o q b (check q) says)
+
+  -- ---- the facts
+
+  served : (c : List ℕ) (q : Request) (dialed : Bool) (o : LinkSide) → Served setup R c q dialed o → Served setup S c q dialed o
+  served c q dialed o h = record { goes = h.goes; accepts = λ s. h.accepts (from s); count = h.count; carries = h.carries; no_waits = h.no_waits }
+
+  cause : (c : List ℕ) (dialed : Bool) (o : LinkSide) (a : OwnAnswer) → OwnCause setup R c dialed o a → OwnCause setup S c dialed o a
+  cause c dialed o a (decided request is whole took) = decided request (block dialed _ c _ is) whole took
+  cause c dialed o a (fault q goes status to_head end failed lacks) = fault q goes status to_head end failed lacks
+
+  awaits : (v : View) (q : Request) → Awaits setup R v q → Awaits setup S v q
+  awaits v q h = record { waits = h.waits; served = served _ q v.dialed v.origin h.served; passed = h.passed }
+
+  relays : (v : View) (q : Request) (r : ResponseHead) → Relays setup R v q r → Relays setup S v q r
+  relays v q r h = record { waits = h.waits; served = served _ q v.dialed v.origin h.served; reads = h.reads; good = h.good }
+
+  ready : (v : View) (a : OwnAnswer) → OwnReady setup R v a → OwnReady setup S v a
+  ready v a h = record { waits = h.waits; cause = cause _ v.dialed v.origin a h.cause; took = h.took }
+
+  sends : (v : View) (a : OwnAnswer) → OwnSends setup R v a → OwnSends setup S v a
+  sends v a h = record { count = h.count; some = h.some; cause = cause _ v.dialed v.origin a h.cause; took = h.took; text = h.text }
+
+  relayed : (v : View) (done fin : Bool) (sent : List ℕ) → Relayed setup R v done fin sent → Relayed setup S v done fin sent
+  relayed v done fin sent h = record {
+    q = h.q;
+    h = h.h;
+    served = served _ h.q v.dialed v.origin h.served;
+    good = h.good;
+    fed = h.fed;
+    read = h.read;
+    place = h.place;
+    reads = h.reads;
+    is_fed = h.is_fed;
+    over = h.over;
+    mode = h.mode;
+    text = h.text;
+    front = h.front;
+    whole = h.whole;
+  }
+
+  some_text : (v : View) → SomeText setup R v → SomeText setup S v
+  some_text v (ends.quiet q) = ends.quiet q
+  some_text v (ends.own a why text) = ends.own a (cause _ v.dialed v.origin a why) text
+  some_text v (ends.relayed done fin sent h) = ends.relayed done fin sent (relayed v done fin sent h)
+
+  any : (v : View) → AnyEnd setup R v → AnyEnd setup S v
+  any v h = record { took = h.took; text = some_text v h.text }
+
+  has_block : (v : View) (end : TxnEnd) (b : Block) → HasBlock setup R v end b → HasBlock setup S v end b
+  has_block v end b h = record { is_block = block v.dialed _ _ b h.is_block; ends = h.ends; took = h.took; no_waits = h.no_waits; mode = h.mode }
+
+  fault_text : (v : View) → FaultText setup R v → FaultText setup S v
+  fault_text v (ends.FaultText.own a end why text) = ends.FaultText.own a end (cause _ v.dialed v.origin a why) text
+  fault_text v (ends.cut_off done sent h) = ends.cut_off done sent (relayed v done false sent h)
+
+  by_end : (v : View) (end : TxnEnd) → EndsBy setup R v end → EndsBy setup S v end
+  by_end v E.Whole h = record { block = h.block; has = has_block v E.Whole h.block h.has; text = h.text }
+  by_end v E.OriginCut h = record { block = h.block; has = has_block v E.OriginCut h.block h.has; sent = h.sent; text = h.text; relayed = relayed v false false h.sent h.relayed }
+  by_end v E.OriginBad h = record { block = h.block; has = has_block v E.OriginBad h.block h.has; sent = h.sent; text = h.text; relayed = relayed v false false h.sent h.relayed }
+  by_end v E.OriginFault h = record { failed = h.failed; no_waits = h.no_waits; text = fault_text v h.text }
+  by_end v E.ClientFault h = h
+  by_end v E.NoMemory h = h
+
+  end_fact : (v : View) (end : TxnEnd) → EndFact setup R v end → EndFact setup S v end
+  end_fact v end h = record { any = any v h.any; by = by_end v end h.by }
+
+  pub phase_fact : (v : View) (p : Phase) → PhaseFact setup R v p → PhaseFact setup S v p
+  phase_fact v P.Fresh h = h
+  phase_fact v P.TxnStart h = h
+  phase_fact v P.ReadRequest h = h
+  phase_fact v (P.ReadRequestHdr q) h = h
+  phase_fact v (P.OsDns q) h = h
+  phase_fact v (P.SendRequestHdr q) h = h
+  phase_fact v (P.SendRequest q) h = h
+  phase_fact v (P.Upload q) h = h
+  phase_fact v (P.ReadResponse q) h = awaits v q h
+  phase_fact v (P.ReadResponseHdr q r) h = relays v q r h
+  phase_fact v (P.ResponseTransform q r) h = relays v q r h
+  phase_fact v (P.SendResponseHdr a) h = ready v a h
+  phase_fact v (P.Sending a) h = sends v a h
+  phase_fact v (P.TxnClose end) h = end_fact v end h
+  phase_fact v (P.Ended end) h = end_fact v end h
+
+-- the phase that a step answers, or the end for want of memory
+stays_or_lacks : (setup : Setup) (refuses : Type 0) (v : View) (p d : Phase) → PhaseFact setup refuses v p → StaysOrLacks p d → PhaseFact setup refuses v d
+stays_or_lacks setup refuses v p d h (inl is) = subst (PhaseFact setup refuses v) (sym is) h
+stays_or_lacks setup refuses v p d h (inr is) = subst (PhaseFact setup refuses v) (sym is) (record { any = always setup refuses v p h; by = tt })
+
+-- what a step led to holds of the transaction as it then is
+pub settled : {C O : Type 0} (client : C → Look) (origin : O → Look) (paired : C → O → Type 0) (refuses : O → List ℕ → Type 0) (old new : Core C O) (p d : Phase)
+    → StepKeeps client origin paired refuses old new → PhaseFact (arc_value old.setup) (OriginRefuses client refuses old) (view_of client origin new) p → StaysOrLacks p d
+    → PhaseFact (arc_value new.setup) (OriginRefuses client refuses new) (view_of client origin new) d
+settled client origin paired refuses old new p d keeps h stays =
+    let v = view_of client origin new in
+    let to : OriginRefuses client refuses old → OriginRefuses client refuses new = λ r.
+    subst (λ (c : List ℕ). refuses_if refuses new.origin c) (sym keeps.client.source) (keeps.refusal.still _ r) in
+    let from : OriginRefuses client refuses new → OriginRefuses client refuses old = λ r.
+    keeps.refusal.before _ (subst (λ (c : List ℕ). refuses_if refuses new.origin c) keeps.client.source r) in
+    subst (λ s. PhaseFact (arc_value s) (OriginRefuses client refuses new) v d) (sym keeps.setup)
+    (stays_or_lacks (arc_value old.setup) (OriginRefuses client refuses new) v p d
+    (phase_fact (arc_value old.setup) (OriginRefuses client refuses old) (OriginRefuses client refuses new) to from v p h) stays)

@@ -1,0 +1,39 @@
+use Rattle.std.proofs.Common.{rules, subst}
+use Rattle.std.specs.Arc.{arc_value}
+use Rattle.ts_txn.specs.View.{OriginRefuses, view_of}
+use Rattle.ts_txn.specs.Moving.{HearsRequest}
+use Rattle.ts_txn.specs.Checking.{IsCheckedAs}
+use Rattle.ts_txn.specs.declared.reading.Found.TheVariants as F
+use Rattle.ts_txn.proofs.Asks.{ended_within, gave_nothing, never, refused}
+use Rattle.ts_txn.proofs.parts.Core.read_request.Goals as goal
+
+pub returns-in-Ok-Refused-clause-fact : goal.returns-in-Ok-Refused-clause-fact
+returns-in-Ok-Refused-clause-fact g c = λ told also.
+    refused (arc_value c.args.self.now.setup) (OriginRefuses g.C.Link.look g.O.Upstream.refuses c.args.self.now) g.C.Link.tells
+    (view_of g.C.Link.look g.O.Link.look c.args.self.now) (view_of g.C.Link.look g.O.Link.look c.hear_request.new.self) c.in-Head.head c.in-Ok-Refused.answer
+    (c.requires.fact told also) c.in-Head.ensures.hears
+    (subst (λ r. IsCheckedAs c.in-Head.head r) c.in-Ok-Refused.field-0-is c.in-Ok-Refused.ensures)
+
+pub returns-in-Never-clause-fact : goal.returns-in-Never-clause-fact
+returns-in-Never-clause-fact g c = λ told also.
+    never (arc_value c.args.self.now.setup) (OriginRefuses g.C.Link.look g.O.Upstream.refuses c.args.self.now) g.C.Link.tells
+    (view_of g.C.Link.look g.O.Link.look c.args.self.now) (view_of g.C.Link.look g.O.Link.look c.hear_request.new.self)
+    (c.requires.fact told also) c.in-Never.ensures.hears
+
+pub returns-then-is_empty-clause-fact : goal.returns-then-is_empty-clause-fact
+returns-then-is_empty-clause-fact g c = λ told also.
+    gave_nothing (arc_value c.args.self.now.setup) (OriginRefuses g.C.Link.look g.O.Upstream.refuses c.args.self.now) g.C.Link.tells
+    (view_of g.C.Link.look g.O.Link.look c.args.self.now) (view_of g.C.Link.look g.O.Link.look c.hear_request.new.self) told
+    (c.requires.fact told also)
+    (subst (λ p. HearsRequest g.C.Link.tells (view_of g.C.Link.look g.O.Link.look c.args.self.now) (view_of g.C.Link.look g.O.Link.look c.hear_request.new.self) (F.Read p))
+    c.in-Read-End.field-0-is c.in-Read-End.ensures.hears)
+    (search rules)
+
+pub returns-else-is_empty-clause-fact : goal.returns-else-is_empty-clause-fact
+returns-else-is_empty-clause-fact g c = λ told also.
+    ended_within (arc_value c.args.self.now.setup) (OriginRefuses g.C.Link.look g.O.Upstream.refuses c.args.self.now) g.C.Link.tells
+    (view_of g.C.Link.look g.O.Link.look c.args.self.now) (view_of g.C.Link.look g.O.Link.look c.hear_request.new.self) told
+    (c.requires.fact told also)
+    (subst (λ p. HearsRequest g.C.Link.tells (view_of g.C.Link.look g.O.Link.look c.args.self.now) (view_of g.C.Link.look g.O.Link.look c.hear_request.new.self) (F.Read p))
+    c.in-Read-End.field-0-is c.in-Read-End.ensures.hears)
+    (search rules)

@@ -1,0 +1,212 @@
+//! How a transaction is made of its links, and taken apart.
+ghost use Rattle.std.specs.Prelude.{◌≡◌, ℕ, ◌≤◌, List, [], true, false, None, IfOk};
+ghost use Rattle.std.specs.Arc.{arc_value};
+ghost use Rattle.std.specs.Option.{option_copied};
+ghost use Rattle.ts_group.specs.declared.action.Named.{Named};
+ghost use Rattle.ts_journal.specs.declared.entry.TheConstants.{GREATEST};
+ghost use Rattle.ts_txn.specs.Cover.{is_fresh};
+ghost use Rattle.ts_txn.specs.Making.{ArePaired, HasFewLines, IsMadeOf, IsMadeOfIf, IsNewLink, IsNewLinkIf, base_if, end_of_phase, link_if};
+ghost use Rattle.ts_txn.specs.World.{IsSoundTxn};
+
+use crate::parts::{Core, Peer, Sent};
+use crate::phase::Phase;
+use crate::txn::Txn;
+use std::alloc::Global;
+use std::sync::Arc;
+use ts_config::Setup;
+use ts_hooks::TxnEnd;
+use ts_iobuf::Waiting;
+use ts_link::{Link, NoMemory};
+use ts_upstream::Upstream;
+use ts_wire::Mode;
+
+/// How many lines of a configuration that name a hook plugin a transaction takes at most.
+pub const MOST_PLUGINS: u32 = 64;
+
+/// How many mutex groups there are at most, so that each of those plugins has one.
+pub const MOST_GROUPS: u32 = 4_096;
+
+/// What is left of a transaction: its links, what was queued for the client, how many faults the links had met
+/// when it was made, and how it ended, if it has.
+#[derive(Drop)]
+pub struct TxnParts<C, O> {
+    pub number: u64,
+    pub client: C,
+    pub origin: Option<O>,
+    /// The length of the client's head, 0 where none was queued.
+    pub head: u64,
+    /// How the client's body is written.
+    pub mode: Mode,
+    pub client_faults: u64,
+    /// 0 without an origin.
+    pub origin_faults: u64,
+    /// The lengths of the pieces of body that were framed.
+    pub cuts: Vec<u32>,
+    pub end: Option<TxnEnd>,
+}
+
+fn make_peer<L: Link + Drop>(alloc: Global, link: L) -> Result<Peer<L>, NoMemory>
+    ensures { IfOk result (IsMadeOf L.look link) }
+{
+    let inbox = Waiting::new(alloc)?;
+    let outbox = Waiting::new(alloc)?;
+    Ok(Peer {
+        base: link.faults(),
+        link,
+        inbox,
+        outbox,
+    })
+}
+
+fn make_peer_if<L: Link + Drop>(alloc: Global, link: Option<L>) -> Result<Option<Peer<L>>, NoMemory>
+    ensures { IfOk result (IsMadeOfIf L.look link) }
+{
+    match link {
+        Some(link) => {
+            let peer = make_peer(alloc, link)?;
+            Ok(Some(peer))
+        }
+        None => Ok(None),
+    }
+}
+
+impl<C: Link + Drop, O: Upstream<C> + Drop> Txn<C, O> {
+    /// A transaction between a client and an origin, which were not used. It was not started.
+    #[tactic(auto, using(crate::proofs::Made::sound))]
+    pub fn make(
+        alloc: Global,
+        number: u64,
+        setup: Arc<Setup>,
+        plugins_at: u32,
+        client: C,
+        origin: Option<O>,
+    ) -> Result<Txn<C, O>, NoMemory>
+        requires few { HasFewLines (arc_value setup) plugins_at }
+        requires client { C.tells ≡ true → IsNewLink (C.look client) }
+        requires origin { O.tells ≡ true → IsNewLinkIf O.look origin }
+        requires pair { ArePaired O.paired client origin }
+        ensures named { IfOk result (λ t. (t.core.number ≡ number) × (t.core.setup ≡ setup)
+            × (t.core.plugins_at ≡ plugins_at) × (t.phase ≡ Phase.Fresh)) }
+        ensures client { IfOk result (λ t. IsMadeOf C.look client t.core.client) }
+        ensures origin { IfOk result (λ t. IsMadeOfIf O.look origin t.core.origin) }
+        ensures sound { IfOk result (λ t. (next : ℕ) (roles : List Named) →
+            IsSoundTxn C.tells O.tells C.look O.look O.paired O.refuses t [] next roles) }
+    {
+        let client = make_peer(alloc, client)?;
+        let origin = make_peer_if(alloc, origin)?;
+        let core = Core {
+            alloc,
+            number,
+            setup,
+            plugins_at,
+            client,
+            origin,
+            sent: Sent {
+                head: 0,
+                mode: Mode::Plain,
+                cuts: Vec::new(alloc),
+            },
+        };
+        Ok(Txn {
+            core,
+            main: None,
+            phase: Phase::Fresh,
+        })
+    }
+
+    /// How it ended; nothing while it has not. Once nothing of its group is pending, a transaction that was
+    /// started has ended, or the event numbers are used up.
+    #[tactic(auto, using(crate::proofs::Handling::at_rest))]
+    pub fn end(&self) -> Option<TxnEnd>
+        ensures end { result ≡ end_of_phase self.now.phase }
+        ensures rests { result ≡ None → is_fresh self.now.phase ≡ false → (next : ℕ) (roles : List Named)
+            → IsSoundTxn C.tells O.tells C.look O.look O.paired O.refuses self.now [] next roles
+            → GREATEST ≤ next }
+    {
+        match &self.phase {
+            Phase::Ended { end } => Some(*end),
+            _ => None,
+        }
+    }
+
+    /// The number that it was made with.
+    pub fn number(&self) -> u64
+        ensures { result ≡ self.now.core.number }
+    {
+        self.core.number
+    }
+
+    /// The link to the origin that it holds.
+    pub fn origin(&self) -> Option<&O>
+        ensures { option_copied result ≡ link_if self.now.core.origin }
+    {
+        match &self.core.origin {
+            Some(peer) => Some(&peer.link),
+            None => None,
+        }
+    }
+
+    /// Takes it apart.
+    pub fn into_parts(self) -> TxnParts<C, O>
+        ensures links { (result.client ≡ self.core.client.link) × (result.origin ≡ link_if self.core.origin) }
+        ensures sent { (result.head ≡ self.core.sent.head) × (result.mode ≡ self.core.sent.mode)
+            × (result.cuts.items ≡ self.core.sent.cuts.items) }
+        ensures faults { (result.client_faults ≡ self.core.client.base)
+            × (result.origin_faults ≡ base_if self.core.origin) }
+        ensures end { (result.number ≡ self.core.number) × (result.end ≡ end_of_phase self.phase) }
+    {
+        let number = self.core.number;
+        let end = self.end();
+        let Txn {
+            core,
+            main: _,
+            phase: _,
+        } = self;
+        let Core {
+            alloc: _,
+            number: _,
+            setup: _,
+            plugins_at: _,
+            client,
+            origin,
+            sent,
+        } = core;
+        let Peer {
+            link: client,
+            base: client_faults,
+            inbox: _,
+            outbox: _,
+        } = client;
+        let (origin, origin_faults) = link_of(origin);
+        let Sent { head, mode, cuts } = sent;
+        TxnParts {
+            number,
+            client,
+            origin,
+            head,
+            mode,
+            client_faults,
+            origin_faults,
+            cuts,
+            end,
+        }
+    }
+}
+
+// The origin's link, if there is one, and its faults when the transaction was made.
+fn link_of<L: Drop>(origin: Option<Peer<L>>) -> (Option<L>, u64)
+    ensures { (result.0 ≡ link_if origin) × (result.1 ≡ base_if origin) }
+{
+    match origin {
+        Some(peer) => {
+            let Peer {
+                link,
+                base,
+                inbox: _,
+                outbox: _,
+            } = peer;
+            (Some(link), base)
+        }
+        None => (None, 0),
+    }
+}

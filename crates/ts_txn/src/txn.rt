@@ -1,0 +1,163 @@
+//! A transaction as the world of a mutex group.
+ghost use Rattle.std.specs.Prelude.{◌≡◌, ⊤, true, false, [], None, refl, ℕ};
+ghost use Rattle.ts_group.specs.declared.world.Want.TheVariants as Want;
+ghost use Rattle.ts_group.specs.Calls.{IsCalled};
+ghost use Rattle.ts_group.specs.Entries.{Grows};
+ghost use Rattle.ts_transform.specs.Driving.{ActsWithin};
+ghost use Rattle.ts_txn.specs.Cover.{is_fresh};
+ghost use Rattle.ts_txn.specs.declared.phase.Next.{Next};
+ghost use Rattle.ts_txn.specs.Driven.{HandlesEvent, TakesEvent};
+ghost use Rattle.ts_txn.specs.World.{IsTxnOf, HasTxnBegun, IsSoundTxn};
+
+use crate::driver::{MAIN, begin, go_on};
+use crate::parts::Core;
+use crate::phase::Phase;
+use ts_config::Setup;
+use ts_group::{Asked, Cx, Want, World};
+use ts_journal::{Event, Slotted};
+use ts_link::{Link, Octets};
+use ts_transform::{StageContinuation, unrouse, works};
+use ts_upstream::Upstream;
+
+/// One request and its answer between a client and an origin. Its continuation has the role 1.
+#[derive(Drop)]
+pub struct Txn<C, O> {
+    pub(crate) core: Core<C, O>,
+    pub(crate) main: Option<StageContinuation>,
+    pub(crate) phase: Phase,
+}
+
+/// What a slot promises of the transaction in it: its number, setup and first plugin's group, the sources of
+/// its two links, whether these are sure, and whether the slot had no other tenant before.
+#[derive(Drop)]
+pub struct TxnTag {
+    pub number: u64,
+    pub setup: Setup,
+    pub plugins_at: u32,
+    pub client: Octets,
+    pub origin: Octets,
+    pub sure: bool,
+    pub first: bool,
+}
+
+fn is_fresh(phase: &Phase) -> bool
+    ensures { result ≡ is_fresh phase.now }
+{
+    match phase {
+        Phase::Fresh => true,
+        _ => false,
+    }
+}
+
+impl<C: Link + Drop, O: Upstream<C> + Drop> Slotted for Txn<C, O> {
+    type Tag = TxnTag;
+
+    type Trace = ();
+
+    ghost fits = { λ tag t. IsTxnOf C.look O.look tag t };
+
+    ghost stamp = { λ t. 0 };
+
+    ghost marks = { λ t. [] };
+
+    ghost trace = { λ t. tt };
+
+    ghost follows = { λ t u. ⊤ };
+
+    ghost follows_itself = { λ t. tt };
+
+    ghost follows_on = { λ t u v a b. tt };
+}
+
+#[tactic(auto, using(ts_group::proofs::Grows::grows, ts_group::proofs::Grows::grows_refl, ts_transform::proofs::Kept::acts_none, crate::proofs::Handling::sound_begun, crate::proofs::Handling::sound_asked, crate::proofs::Handling::sound_other, crate::proofs::Handling::sound_quiet, crate::proofs::Handling::sound_stepped, crate::proofs::Coverage::fresh_none, crate::proofs::Events::handles_nothing, crate::proofs::Fitting::fits_on))]
+impl<C: Link + Drop, O: Upstream<C> + Drop> World for Txn<C, O> {
+    type Question = ();
+
+    type Reply = ();
+
+    ghost sound = { λ t s roles.
+        IsSoundTxn C.tells O.tells C.look O.look O.paired O.refuses t s.pending s.next roles };
+
+    ghost asking = { λ t s roles role group question.
+        IsSoundTxn C.tells O.tells C.look O.look O.paired O.refuses t s.pending s.next roles };
+
+    ghost right = { λ t group question reply. ⊤ };
+
+    ghost may_ask = { λ t group. ⊥ };
+
+    ghost answers = { λ t question reply. ⊤ };
+
+    ghost left = { λ t s. None };
+
+    ghost only_asked = { λ tag. false };
+
+    ghost is_first = { λ tag. tag.first };
+
+    ghost begun = { λ old new. HasTxnBegun old new };
+
+    // A handler makes one step of the same transaction, or nothing.
+    ghost called = { λ old new asked. (next : Next) × TakesEvent C.tells O.tells C.look O.look
+        O.paired O.refuses old.core new.core old.phase new.phase next };
+
+    ghost heard = { λ old new asked. new ≡ old };
+
+    fn start(&mut self, cx: &mut Cx)
+        requires turn { cx.old.log.state.held ≡ true }
+        requires sound { IsSoundTxn C.tells O.tells C.look O.look O.paired O.refuses
+            self.old cx.old.log.state.pending cx.old.log.state.next cx.old.roles }
+        ensures sound { IsSoundTxn C.tells O.tells C.look O.look O.paired O.refuses
+            self.new cx.new.log.state.pending cx.new.log.state.next cx.new.roles }
+        ensures within { ActsWithin 1 cx.old cx.new }
+        ensures begun { HasTxnBegun self.old self.new }
+    {
+        if !is_fresh(&self.phase) {
+            return;
+        }
+        begin(&mut self.main, &mut self.phase, cx);
+    }
+
+    fn handle(&mut self, role: u32, event: Event, cx: &mut Cx) -> Want<()>
+        requires turn { cx.old.log.state.held ≡ true }
+        requires called { IsCalled
+            (λ s roles. IsSoundTxn C.tells O.tells C.look O.look O.paired O.refuses
+            self.old s.pending s.next roles)
+            cx.old role event }
+        ensures sound { IsSoundTxn C.tells O.tells C.look O.look O.paired O.refuses
+            self.new cx.new.log.state.pending cx.new.log.state.next cx.new.roles }
+        ensures nothing { result ≡ Want.Nothing }
+        ensures within { ActsWithin 1 cx.old cx.new }
+        ensures handles { HandlesEvent C.tells O.tells C.look O.look O.paired O.refuses
+            self.old.core self.new.core self.old.phase self.new.phase cx.old cx.new }
+    {
+        if role != MAIN {
+            return Want::Nothing;
+        }
+        if !works(event) {
+            return Want::Nothing;
+        }
+        unrouse(&mut self.main);
+        go_on(&mut self.core, &mut self.main, &mut self.phase, cx);
+        Want::Nothing
+    }
+
+    fn told(&mut self, _role: u32, _asked: Asked<(), ()>, _cx: &mut Cx)
+        requires turn { _cx.old.log.state.held ≡ true }
+        requires sound { IsSoundTxn C.tells O.tells C.look O.look O.paired O.refuses
+            self.old _cx.old.log.state.pending _cx.old.log.state.next _cx.old.roles }
+        ensures grows { Grows _cx.old _cx.new }
+        ensures same { (_cx.new.log.state ≡ _cx.old.log.state) × (_cx.new.roles ≡ _cx.old.roles)
+            × (self.new ≡ self.old) }
+    {}
+
+    fn asked(&mut self, _question: (), _cx: &mut Cx) {}
+
+    ghost sound_taken = { λ t s turn seat roles h. h };
+
+    ghost sound_given = { λ t s turn roles h. h };
+
+    ghost left_taken = { λ t s turn seat. refl };
+
+    ghost left_given = { λ t s turn. refl };
+
+    ghost rests = { λ tag t s roles f h. tt };
+}
