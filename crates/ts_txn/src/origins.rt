@@ -5,8 +5,8 @@ ghost use Rattle.ts_wire.specs.Check.{plugin_host};
 ghost use Rattle.ts_txn.specs.Rules.{is_denied};
 ghost use Rattle.ts_txn.specs.Relayed.{asks_head};
 ghost use Rattle.ts_txn.specs.Block.{request_text};
-ghost use Rattle.ts_txn.specs.View.{IsPaired, view_of};
-ghost use Rattle.ts_txn.specs.Steps.{MindsLinks, WaitsRightly};
+ghost use Rattle.ts_txn.specs.View.{IsPaired, left_if, refuses_if, view_of};
+ghost use Rattle.ts_txn.specs.Steps.{MindsLinks, UploadsOnce, WaitsRightly};
 ghost use Rattle.ts_txn.specs.Cover.{StepLeads};
 ghost use Rattle.ts_txn.specs.Holding.{PhaseHolds, HoldsAfter, StepKeeps};
 
@@ -173,6 +173,10 @@ impl<C: Link, O: Upstream<C>> Core<C, O> {
         requires pair { IsPaired O.paired self.old }
         ensures leads { StepLeads result }
         ensures fact { HoldsAfter C.tells O.tells C.look O.look O.refuses self.old self.new result }
+        ensures uploads { UploadsOnce C.tells O.tells (refuses_if O.refuses self.old.origin) request
+            (left_if O.upload_left self.old.client.link self.old.origin)
+            (left_if O.upload_left self.new.client.link self.new.origin)
+            (view_of C.look O.look self.old) (view_of C.look O.look self.new) result }
         ensures keeps { StepKeeps C.look O.look O.paired O.refuses self.old self.new }
         ensures waits { WaitsRightly result.next
             (view_of C.look O.look self.old) (view_of C.look O.look self.new) }
