@@ -93,8 +93,7 @@ fn rouse_main(after: u64, main: &mut Option<StageContinuation>, phase: &mut Phas
     ensures spent { GREATEST ≤ cx.old.log.state.next → HasLiveIf cx.old.log.state.live main.old
         → phase.new ≡ phase.old }
     ensures phase { StaysOrLacks phase.old phase.new }
-    ensures idles { Idles phase.new main.new }
-    ensures covered { HasNextEventOr phase.new main.new cx.new.log.state.next }
+    ensures duty { Idles phase.new main.new × HasNextEventOr phase.new main.new cx.new.log.state.next }
 {
     let Err(fault) = rouse(main, after, cx) else {
         return;

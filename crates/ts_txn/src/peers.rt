@@ -42,8 +42,8 @@ pub fn push_origin<L: Link>(origin: &mut Option<Peer<L>>) -> Pushed
     }
 }
 
-#[tactic(auto, using(crate::proofs::Uploading::none_falls))]
 /// Moves some of the upload of a request; where there is no origin, it is as if memory lacked.
+#[tactic(auto, using(crate::proofs::Uploading::none_falls))]
 pub fn move_upload<C: Link, O: Upstream<C>>(
     client: &mut C,
     origin: &mut Option<Peer<O>>,

@@ -28,7 +28,8 @@ pub struct Txn<C, O> {
 }
 
 /// What a slot promises of the transaction in it: its number, setup and first plugin's group, the sources of
-/// its two links, whether there is one to an origin, whether they are sure, and whether the slot had no other tenant before.
+/// its two links, whether there is one to an origin, whether they are sure, and whether the slot had no other
+/// tenant before.
 #[derive(Drop)]
 pub struct TxnTag {
     pub number: u64,
