@@ -79,3 +79,19 @@ pub record UploadsOnce (client origin : Bool) (refuses : List ℕ → Type 0) (q
   pub moves : MovesUpload client origin refuses answer v w
   pub lowers : LowersUpload answer left left_then v w
   pub leads : UploadLeads answer q s
+
+-- nothing is read of the client, and what it gave is kept
+pub record LeavesClient (v w : View) : Type 0 where
+  pub given : w.client.look.given ≡ v.client.look.given
+  pub held : w.client.inbox ≡ v.client.inbox
+
+-- it is read for the request's head, and by an upload
+abbrev pub LeavesClientIn : Phase → View → View → Type 0
+LeavesClientIn P.ReadRequest v w = ⊤
+LeavesClientIn (P.Upload q) v w = ⊤
+LeavesClientIn _ v w = LeavesClient v w
+
+-- what the step of a phase leaves as it is of both sides
+pub record LeavesSides (p : Phase) (v w : View) : Type 0 where
+  pub origin : LeavesOriginIn p v w
+  pub client : LeavesClientIn p v w
