@@ -5,7 +5,7 @@ use Rattle.ts_link.specs.Link.{Look}
 use Rattle.ts_transform.specs.Driving.{IsDueAfter}
 use Rattle.ts_transform.proofs.Setting.{only_none}
 use Rattle.ts_txn.specs.Driven.{HandlesEvent, MindsOrLacks, StaysOrLacks, TakesEvent}
-use Rattle.ts_txn.specs.Steps.{AnswersOriginFault, ClosesForClientFault, LeavesOrigin, LeavesOriginIn, MindsLinks, MindsLinksIn, WaitsRightly}
+use Rattle.ts_txn.specs.Steps.{AnswersOriginFault, ClosesForClientFault, LeavesClient, LeavesClientIn, LeavesOrigin, LeavesOriginIn, LeavesSides, MindsLinks, MindsLinksIn, WaitsRightly}
 use Rattle.ts_txn.specs.Holding.{IfTold, StepKeeps}
 use Rattle.ts_txn.specs.View.{View, view_of}
 use Rattle.ts_txn.specs.declared.parts.Core.{Core}
@@ -16,6 +16,7 @@ use Rattle.ts_txn.specs.declared.phase.Step.{Step}
 use Rattle.ts_txn.proofs.Fitting.{same_core}
 use Rattle.ts_txn.proofs.Leaving.{still_leaves}
 use Rattle.ts_txn.proofs.Minding.{stood}
+use Rattle.ts_txn.proofs.Sparing.{still_spares}
 
 module _ (v w : View) where
   minds_in : (p : Phase) (s : Step) → MindsLinks v w s → MindsLinksIn p v w s
@@ -52,6 +53,23 @@ module _ (v w : View) where
   leaves_in (P.TxnClose end) leaves = leaves
   leaves_in (P.Ended end) leaves = leaves
 
+  spares_in : (p : Phase) → LeavesClient v w → LeavesClientIn p v w
+  spares_in P.Fresh spares = spares
+  spares_in P.TxnStart spares = spares
+  spares_in P.ReadRequest spares = tt
+  spares_in (P.ReadRequestHdr q) spares = spares
+  spares_in (P.OsDns q) spares = spares
+  spares_in (P.SendRequestHdr q) spares = spares
+  spares_in (P.SendRequest q) spares = spares
+  spares_in (P.Upload q) spares = tt
+  spares_in (P.ReadResponse q) spares = spares
+  spares_in (P.ReadResponseHdr q h) spares = spares
+  spares_in (P.ResponseTransform q h) spares = spares
+  spares_in (P.SendResponseHdr a) spares = spares
+  spares_in (P.Sending a) spares = spares
+  spares_in (P.TxnClose end) spares = spares
+  spares_in (P.Ended end) spares = spares
+
   of_phase : (s t : Step) → t.phase ≡ s.phase → t.next ≡ s.next → MindsLinks v w s → MindsLinks v w t
   of_phase s t same also minds = record {
     client_fault = λ rose. subst ClosesForClientFault (sym same) (minds.client_fault rose);
@@ -86,7 +104,7 @@ module _ (v w : View) where
 -- a step was made
 pub takes_step : {C O : Type 0} (ct ot : Bool) (client : C → Look) (origin : O → Look) (paired : C → O → Type 0) (refuses : O → List ℕ → Type 0) (s t : Core C O)
     (was p d : Phase) (made : Step) → was ≡ p → StepKeeps client origin paired refuses s t → MindsLinksIn was (view_of client origin s) (view_of client origin t) made
-    → WaitsRightly made.next (view_of client origin s) (view_of client origin t) → IfTold ct ot (LeavesOriginIn was (view_of client origin s) (view_of client origin t))
+    → WaitsRightly made.next (view_of client origin s) (view_of client origin t) → IfTold ct ot (LeavesSides was (view_of client origin s) (view_of client origin t))
     → StaysOrLacks made.phase d → TakesEvent ct ot client origin paired refuses s t p d made.next
 takes_step ct ot client origin paired refuses s t was p d made same keeps minds waits leaves stays =
     let v = view_of client origin s in
@@ -95,7 +113,7 @@ takes_step ct ot client origin paired refuses s t was p d made same keeps minds 
       keeps = keeps;
       minds = minds_on v w p d made (subst (λ (x : Phase). MindsLinksIn x v w made) same minds) stays;
       waits = waits;
-      leaves = λ told also. subst (λ (x : Phase). LeavesOriginIn x v w) same (leaves told also);
+      leaves = λ told also. subst (λ (x : Phase). LeavesSides x v w) same (leaves told also);
     }
 
 -- nothing was done
@@ -107,7 +125,7 @@ takes_nothing ct ot client origin paired refuses t p =
       keeps = same_core client origin paired refuses t;
       minds = inr (minds_in v v p (record { phase = p; next = N.Go }) (stood v v (record { phase = p; next = N.Go }) refl));
       waits = tt;
-      leaves = λ told also. leaves_in v v p (still_leaves v v refl);
+      leaves = λ told also. record { origin = leaves_in v v p (still_leaves v v refl); client = spares_in v v p (still_spares v v refl) };
     }
 
 pub handles_nothing : {C O : Type 0} (ct ot : Bool) (client : C → Look) (origin : O → Look) (paired : C → O → Type 0) (refuses : O → List ℕ → Type 0) (t : Core C O) (p : Phase) (a : Context)

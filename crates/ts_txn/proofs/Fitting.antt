@@ -33,6 +33,7 @@ module _ {C O : Type 0} (client : C → Look) (origin : O → Look) (paired : C 
     setup = ap (λ s. arc_value s) keeps.setup ∙ h.setup;
     plugins_at = keeps.plugins_at ∙ h.plugins_at;
     gives = keeps.client.source ∙ h.gives;
+    dialed = keeps.dialed ∙ h.dialed;
     answers = keeps.origin.source ∙ h.answers;
     sure = λ is. still_sure _ _ keeps.client (h.sure is);
     sure_origin = λ is dialed. still_sure _ _ keeps.origin (h.sure_origin is (sym keeps.dialed ∙ dialed));

@@ -18,6 +18,7 @@ mod Saying
 mod Searching
 pub mod Seating
 pub mod Settled
+pub mod Sparing
 mod Sites
 pub mod Uploading
 pub mod Waiting

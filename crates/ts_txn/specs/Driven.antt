@@ -7,7 +7,7 @@ use Rattle.ts_transform.specs.Driving.{IsDueAfter, SetsOnly}
 use Rattle.ts_transform.specs.declared.continuation.StageContinuation.{StageContinuation}
 use Rattle.ts_txn.specs.Cover.{Seated}
 use Rattle.ts_txn.specs.Holding.{IfTold, StepKeeps}
-use Rattle.ts_txn.specs.Steps.{LeavesOriginIn, MindsLinksIn, WaitsRightly}
+use Rattle.ts_txn.specs.Steps.{LeavesSides, MindsLinksIn, WaitsRightly}
 use Rattle.ts_txn.specs.View.{View, view_of}
 use Rattle.ts_txn.specs.declared.driver.TheConstants.{RETRY}
 use Rattle.ts_txn.specs.declared.parts.Core.{Core}
@@ -44,7 +44,7 @@ pub record TakesEvent {C O : Type 0} (ctells otells : Bool) (client : C → Look
   pub keeps : StepKeeps client origin paired refuses s t
   pub minds : MindsOrLacks old new next (view_of client origin s) (view_of client origin t)
   pub waits : WaitsRightly next (view_of client origin s) (view_of client origin t)
-  pub leaves : IfTold ctells otells (LeavesOriginIn old (view_of client origin s) (view_of client origin t))
+  pub leaves : IfTold ctells otells (LeavesSides old (view_of client origin s) (view_of client origin t))
 
 -- the same, and the event of the next step, if one is set, is due when that step is to be made
 pub record HandlesEvent {C O : Type 0} (ctells otells : Bool) (client : C → Look) (origin : O → Look)

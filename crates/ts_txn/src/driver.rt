@@ -1,5 +1,6 @@
 //! How the events of a transaction's continuation drive its steps. Only what stands here sets events.
-ghost use Rattle.std.specs.Prelude.{◌≡◌, true, None, OnOk};
+ghost use Rattle.std.specs.Prelude.{◌≡◌, ◌≢◌, ◌<◌, ◌≤◌, true, false, None, OnOk, Err};
+ghost use Rattle.ts_journal.specs.declared.entry.TheConstants.{GREATEST};
 ghost use Rattle.ts_group.specs.Changes.{IsLess};
 ghost use Rattle.ts_transform.specs.Driving.{ActsWithin, AddsEvents, HasLiveIf, IsDueAfter, IsRousedIf, KeepsStage, SetsOnly};
 ghost use Rattle.ts_txn.specs.Cover.{Proceeds, Idles, HasNextEventOr, IsOfMain, StepsTo};
@@ -30,6 +31,8 @@ fn rouse(main: &mut Option<StageContinuation>, after: u64, cx: &mut Cx) -> Resul
     ensures only { SetsOnly (IsOfMain main.old) cx.old cx.new }
     ensures due { SetsOnly (IsDueAfter after cx.old.moment) cx.old cx.new }
     ensures roused { OnOk result (IsRousedIf main.new) }
+    ensures unspent { result ≡ Err SetFault.NoMemory → cx.old.log.state.next < GREATEST }
+    ensures dead { result ≡ Err SetFault.Dead → HasLiveIf cx.old.log.state.live main.old → ⊥ }
 {
     let Some(continuation) = main else {
         return Err(SetFault::Dead);
@@ -69,7 +72,8 @@ fn lose(phase: &mut Phase)
 
 // Whether the numbers of events are used up.
 fn is_spent(fault: &SetFault) -> bool
-    ensures { result ≡ true → fault.now ≡ SetFault.Spent }
+    ensures spent { result ≡ true → fault.now ≡ SetFault.Spent }
+    ensures other { result ≡ false → fault.now ≢ SetFault.Spent }
 {
     match fault {
         SetFault::Spent => true,
@@ -86,9 +90,10 @@ fn rouse_main(after: u64, main: &mut Option<StageContinuation>, phase: &mut Phas
     ensures within { ActsWithin 1 cx.old cx.new }
     ensures seated { SeatedAfter main.old main.new cx.old cx.new }
     ensures due { SetsOnly (IsDueAfter after cx.old.moment) cx.old cx.new }
+    ensures spent { GREATEST ≤ cx.old.log.state.next → HasLiveIf cx.old.log.state.live main.old
+        → phase.new ≡ phase.old }
     ensures phase { StaysOrLacks phase.old phase.new }
-    ensures idles { Idles phase.new main.new }
-    ensures covered { HasNextEventOr phase.new main.new cx.new.log.state.next }
+    ensures duty { Idles phase.new main.new × HasNextEventOr phase.new main.new cx.new.log.state.next }
 {
     let Err(fault) = rouse(main, after, cx) else {
         return;

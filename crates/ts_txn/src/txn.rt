@@ -28,7 +28,8 @@ pub struct Txn<C, O> {
 }
 
 /// What a slot promises of the transaction in it: its number, setup and first plugin's group, the sources of
-/// its two links, whether these are sure, and whether the slot had no other tenant before.
+/// its two links, whether there is one to an origin, whether they are sure, and whether the slot had no other
+/// tenant before.
 #[derive(Drop)]
 pub struct TxnTag {
     pub number: u64,
@@ -36,6 +37,7 @@ pub struct TxnTag {
     pub plugins_at: u32,
     pub client: Octets,
     pub origin: Octets,
+    pub dialed: bool,
     pub sure: bool,
     pub first: bool,
 }
