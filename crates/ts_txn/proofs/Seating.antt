@@ -69,6 +69,14 @@ due_rests a after = only_none (IsDueAfter after a.moment) a
 pub due_less : (a b c : Context) (after : ℕ) → SetsOnly (IsDueAfter after a.moment) a b → IsLess b.log.state c.log.state → SetsOnly (IsDueAfter after a.moment) a c
 due_less a b c after only less = λ n p none there. only n p none (less.from n p there)
 
+-- so it is where a continuation was made first
+pub due_made : (a b c : Context) (after : ℕ) → Grows a b → SameEvents a.log.state b.log.state → SetsOnly (IsDueAfter after b.moment) b c → SetsOnly (IsDueAfter after a.moment) a c
+due_made a b c after grows same only = λ n p none there.
+    subst (λ (x : ℕ). IsDueAfter after x p) grows.moment (only n p (ap (λ (x : List Pending). pending_at n x) same.pending ∙ none) there)
+
+pub due_kept : (a b : Context) (after : ℕ) → SameEvents a.log.state b.log.state → SetsOnly (IsDueAfter after a.moment) a b
+due_kept a b after same = λ n p none there. absurd (let wrong : None ≡ Some p = sym none ∙ ap (λ (x : List Pending). pending_at n x) (sym same.pending) ∙ there in cc)
+
 pub main_rests : (a : Context) (slot : Option StageContinuation) → SetsOnly (IsOfMain slot) a a
 main_rests a slot = only_none (IsOfMain slot) a
 
