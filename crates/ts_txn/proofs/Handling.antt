@@ -10,7 +10,8 @@ use Rattle.ts_group.specs.Context.{Context}
 use Rattle.ts_link.specs.Link.{Look}
 use Rattle.ts_transform.specs.Driving.{IsOfStageIf, IsRousedIf, unroused, works_at}
 use Rattle.ts_transform.specs.declared.continuation.StageContinuation.{StageContinuation}
-use Rattle.ts_txn.specs.Cover.{HasNextEvent, HasNextEventOr, Idles, Seated, is_fresh, main_role}
+use Rattle.ts_txn.specs.Cover.{HasNextEvent, HasNextEventOr, Idles, Seated, is_fresh}
+use Rattle.ts_txn.specs.declared.driver.TheConstants.{MAIN}
 use Rattle.ts_txn.specs.Driven.{BeginsOrLacks, SeatedAfter}
 use Rattle.ts_txn.specs.Facts.{Asking}
 use Rattle.ts_txn.specs.Holding.{PhaseHolds, StepKeeps, PhaseFact}
@@ -60,7 +61,7 @@ goes_roused (P.TxnClose end) main started lasts has = has
 goes_roused (P.Ended end) main started lasts has = absurd (cc)
 
 -- and so an event
-no_roused : (roles : List Named) (main : Option StageContinuation) → IsOfStageIf [] roles main_role main → IsRousedIf main → ⊥
+no_roused : (roles : List Named) (main : Option StageContinuation) → IsOfStageIf [] roles MAIN main → IsRousedIf main → ⊥
 no_roused roles None of_main roused = roused
 no_roused roles (Some t) of_main roused =
     let event = of_main.event roused in

@@ -22,7 +22,8 @@ use Rattle.ts_transform.proofs.Handled.{handled_by, quiet_if, stays_if, unroused
 use Rattle.ts_transform.proofs.Setting.{lessens_less, only_none, set_only}
 use Rattle.ts_transform.proofs.Kept.{acts_lessens, soon_later}
 use Rattle.ts_transform.specs.declared.continuation.StageContinuation.{StageContinuation}
-use Rattle.ts_txn.specs.Cover.{IsOfMain, Seated, main_role}
+use Rattle.ts_txn.specs.Cover.{IsOfMain, Seated}
+use Rattle.ts_txn.specs.declared.driver.TheConstants.{MAIN}
 
 -- ---- the continuation is roused
 
@@ -37,7 +38,7 @@ same_main (Some t) (Some u) p same of_main =
 pub seated_roused : (a b : Context) (t u : Option StageContinuation) → Keeps a b → KeepsStage a b t u → SetsOnly (IsOfMain t) a b
     → Seated a.log.state.pending a.roles t → Seated b.log.state.pending b.roles u
 seated_roused a b t u keeps stage only h = record {
-  of_main = stage.of_stage main_role h.of_main;
+  of_main = stage.of_stage MAIN h.of_main;
   only = λ n p there. same_main t u p stage.same (by_old n p there (pending_at n a.log.state.pending) refl);
   plain = keeps.plain h.plain;
 }
@@ -68,6 +69,14 @@ due_rests a after = only_none (IsDueAfter after a.moment) a
 -- so it is where something was destroyed then
 pub due_less : (a b c : Context) (after : ℕ) → SetsOnly (IsDueAfter after a.moment) a b → IsLess b.log.state c.log.state → SetsOnly (IsDueAfter after a.moment) a c
 due_less a b c after only less = λ n p none there. only n p none (less.from n p there)
+
+-- so it is where a continuation was made first
+pub due_made : (a b c : Context) (after : ℕ) → Grows a b → SameEvents a.log.state b.log.state → SetsOnly (IsDueAfter after b.moment) b c → SetsOnly (IsDueAfter after a.moment) a c
+due_made a b c after grows same only = λ n p none there.
+    subst (λ (x : ℕ). IsDueAfter after x p) grows.moment (only n p (ap (λ (x : List Pending). pending_at n x) same.pending ∙ none) there)
+
+pub due_kept : (a b : Context) (after : ℕ) → SameEvents a.log.state b.log.state → SetsOnly (IsDueAfter after a.moment) a b
+due_kept a b after same = λ n p none there. absurd (let wrong : None ≡ Some p = sym none ∙ ap (λ (x : List Pending). pending_at n x) (sym same.pending) ∙ there in cc)
 
 pub main_rests : (a : Context) (slot : Option StageContinuation) → SetsOnly (IsOfMain slot) a a
 main_rests a slot = only_none (IsOfMain slot) a
@@ -173,7 +182,7 @@ module _ (Sound : State → List Named → Type 0) (now : Context) (role : ℕ) 
   -- of the continuation
   pub called_main : Seated now.log.state.pending now.roles (unroused t)
   called_main = record {
-    of_main = unroused_if c.before.pending now.log.state.pending now.roles main_role t h.of_main;
+    of_main = unroused_if c.before.pending now.log.state.pending now.roles MAIN t h.of_main;
     only = λ n p there. of_unroused t p (still_only n p there);
     plain = c.has.plain h.plain;
   }
@@ -181,7 +190,7 @@ module _ (Sound : State → List Named → Type 0) (now : Context) (role : ℕ) 
   -- one at which it does not work
   pub called_quiet : works_at event ≡ false → Seated now.log.state.pending now.roles t
   called_quiet rests = record {
-    of_main = quiet_if c.before.pending now.log.state.pending now.roles main_role role event t (handled_by Sound now role event c) rests h.of_main;
+    of_main = quiet_if c.before.pending now.log.state.pending now.roles MAIN role event t (handled_by Sound now role event c) rests h.of_main;
     only = still_only;
     plain = c.has.plain h.plain;
   }
@@ -189,7 +198,7 @@ module _ (Sound : State → List Named → Type 0) (now : Context) (role : ℕ) 
   -- of another
   pub called_other : (role ≡ 1 → ⊥) → Seated now.log.state.pending now.roles t
   called_other other = record {
-    of_main = stays_if c.before.pending now.log.state.pending now.roles main_role role event t (handled_by Sound now role event c) (λ is. other (sym is)) h.of_main;
+    of_main = stays_if c.before.pending now.log.state.pending now.roles MAIN role event t (handled_by Sound now role event c) (λ is. other (sym is)) h.of_main;
     only = still_only;
     plain = c.has.plain h.plain;
   }

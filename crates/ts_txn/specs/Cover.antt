@@ -9,6 +9,7 @@ use Rattle.ts_group.specs.declared.action.Named.{Named}
 use Rattle.ts_group.specs.Context.{AllPlain}
 use Rattle.ts_transform.specs.Driving.{IsOfStageIf, IsRousedIf}
 use Rattle.ts_transform.specs.declared.continuation.StageContinuation.{StageContinuation}
+use Rattle.ts_txn.specs.declared.driver.TheConstants.{MAIN}
 use Rattle.ts_txn.specs.declared.phase.Phase.{Phase}
 use Rattle.ts_txn.specs.declared.phase.Phase.TheVariants as P
 use Rattle.ts_txn.specs.declared.phase.Next.{Next}
@@ -38,10 +39,6 @@ StepsTo N.Done phase = is_ended phase ≡ true
 abbrev pub StepLeads : Step → Type 0
 StepLeads s = StepsTo s.next s.phase
 
--- the role of the one continuation of a transaction up to the head
-abbrev pub main_role : ℕ
-main_role = 1
-
 -- an event of the continuation
 abbrev pub IsOfMain : Option StageContinuation → Pending → Type 0
 IsOfMain None p = ⊥
@@ -50,7 +47,7 @@ IsOfMain (Some t) p = p.key ≡ t.key
 -- The continuation has its role, and an event where it is roused; each pending event is one of it, and plain.
 pub record Seated (pending : List Pending) (roles : List Named)
     (main : Option StageContinuation) : Type 0 where
-  pub of_main : IsOfStageIf pending roles main_role main
+  pub of_main : IsOfStageIf pending roles MAIN main
   pub only : (n : ℕ) (p : Pending) → pending_at n pending ≡ Some p → IsOfMain main p
   pub plain : AllPlain pending
 

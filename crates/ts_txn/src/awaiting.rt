@@ -19,7 +19,7 @@ use ts_vconn::Pulled;
 impl<C: Link, O: Upstream<C>> Core<C, O> {
     /// Looks for the head of the final response in what the origin gave, or reads on. Interim heads are
     /// dropped.
-    #[tactic(auto, using(crate::proofs::Sparing::still_spares, crate::proofs::Sparing::held_spares, crate::proofs::Sparing::queued_spares, crate::proofs::Sparing::wrote_spares, crate::proofs::Sparing::sent_spares, crate::proofs::Sparing::asked_spares, crate::proofs::Waiting::heard_waits, crate::proofs::Leaving::heard_leaves, crate::proofs::Minding::heard_response, crate::proofs::Minding::lost_origin, crate::proofs::Minding::late_origin))]
+    #[tactic(auto, using(crate::proofs::Sparing::held_spares, crate::proofs::Waiting::heard_waits, crate::proofs::Leaving::heard_leaves, crate::proofs::Minding::heard_response, crate::proofs::Minding::lost_origin, crate::proofs::Minding::late_origin))]
     pub fn read_response(&mut self, request: Request) -> Step
         requires fact { PhaseHolds C.tells O.tells C.look O.look O.refuses self.old
             (Phase.ReadResponse request) }

@@ -163,11 +163,12 @@ pub fn go_on<C: Link, O: Upstream<C>>(
 }
 
 /// Makes the continuation of a transaction that was not started, and sets its first event.
-#[tactic(auto, using(crate::proofs::Seating::made_seated, crate::proofs::Seating::unmade_seated, crate::proofs::Seating::made_acts, ts_transform::proofs::Kept::acts_then))]
+#[tactic(auto, using(crate::proofs::Seating::due_made, crate::proofs::Seating::due_kept, crate::proofs::Seating::made_seated, crate::proofs::Seating::unmade_seated, crate::proofs::Seating::made_acts, ts_transform::proofs::Kept::acts_then))]
 pub fn begin(main: &mut Option<StageContinuation>, phase: &mut Phase, cx: &mut Cx)
     requires turn { cx.old.log.state.held ≡ true }
     requires none { main.old ≡ None }
     ensures within { ActsWithin 1 cx.old cx.new }
+    ensures due { SetsOnly (IsDueAfter 0 cx.old.moment) cx.old cx.new }
     ensures phase { BeginsOrLacks phase.new }
     ensures seated { SeatedAfter main.old main.new cx.old cx.new }
     ensures idles { Idles phase.new main.new }

@@ -92,7 +92,7 @@ impl<C: Link, O: Upstream<C>> Core<C, O> {
     }
 
     /// Queues the request's head for the origin.
-    #[tactic(auto, using(crate::proofs::Sparing::still_spares, crate::proofs::Sparing::held_spares, crate::proofs::Sparing::queued_spares, crate::proofs::Sparing::wrote_spares, crate::proofs::Sparing::sent_spares, crate::proofs::Sparing::asked_spares, crate::proofs::Minding::stood, crate::proofs::Minding::queued_request, crate::proofs::Going::queued, crate::proofs::Going::allowed_any, crate::proofs::Asks::lacks_memory))]
+    #[tactic(auto, using(crate::proofs::Sparing::still_spares, crate::proofs::Sparing::asked_spares, crate::proofs::Minding::stood, crate::proofs::Minding::queued_request, crate::proofs::Going::queued, crate::proofs::Going::allowed_any, crate::proofs::Asks::lacks_memory))]
     pub fn send_request_hdr(&mut self, request: Request) -> Step
         requires fact { PhaseHolds C.tells O.tells C.look O.look O.refuses self.old
             (Phase.SendRequestHdr request) }
@@ -128,7 +128,7 @@ impl<C: Link, O: Upstream<C>> Core<C, O> {
     }
 
     /// Writes once of the request's head.
-    #[tactic(auto, using(crate::proofs::Sparing::still_spares, crate::proofs::Sparing::held_spares, crate::proofs::Sparing::queued_spares, crate::proofs::Sparing::wrote_spares, crate::proofs::Sparing::sent_spares, crate::proofs::Sparing::asked_spares, crate::proofs::Waiting::origin_waits, crate::proofs::Minding::wrote_origin, crate::proofs::Minding::origin_left, crate::proofs::Minding::full_origin, crate::proofs::Going::writes_on, crate::proofs::Going::written, crate::proofs::Going::write_fault, crate::proofs::Going::sends_any, crate::proofs::Asks::lacks_memory))]
+    #[tactic(auto, using(crate::proofs::Sparing::sent_spares, crate::proofs::Waiting::origin_waits, crate::proofs::Minding::wrote_origin, crate::proofs::Minding::origin_left, crate::proofs::Minding::full_origin, crate::proofs::Going::writes_on, crate::proofs::Going::written, crate::proofs::Going::write_fault, crate::proofs::Going::sends_any, crate::proofs::Asks::lacks_memory))]
     pub fn send_request(&mut self, request: Request) -> Step
         requires fact { PhaseHolds C.tells O.tells C.look O.look O.refuses self.old
             (Phase.SendRequest request) }

@@ -13,7 +13,7 @@ use ts_upstream::Upstream;
 impl<C: Link, O: Upstream<C>> Core<C, O> {
     /// The next step of a phase. A response that can be passed on ends the transaction for want of memory,
     /// until bodies are relayed.
-    #[tactic(auto, using(crate::proofs::Sparing::still_spares, crate::proofs::Sparing::held_spares, crate::proofs::Sparing::queued_spares, crate::proofs::Sparing::wrote_spares, crate::proofs::Sparing::sent_spares, crate::proofs::Sparing::asked_spares, crate::proofs::Leaving::still_leaves, crate::proofs::Minding::stood))]
+    #[tactic(auto, using(crate::proofs::Sparing::still_spares, crate::proofs::Leaving::still_leaves, crate::proofs::Minding::stood))]
     pub fn step(&mut self, phase: Phase) -> Step
         requires fact { PhaseHolds C.tells O.tells C.look O.look O.refuses self.old phase }
         requires pair { IsPaired O.paired self.old }

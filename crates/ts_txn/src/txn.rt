@@ -3,7 +3,7 @@ ghost use Rattle.std.specs.Prelude.{◌≡◌, ⊤, true, false, [], None, refl,
 ghost use Rattle.ts_group.specs.declared.world.Want.TheVariants as Want;
 ghost use Rattle.ts_group.specs.Calls.{IsCalled};
 ghost use Rattle.ts_group.specs.Entries.{Grows};
-ghost use Rattle.ts_transform.specs.Driving.{ActsWithin};
+ghost use Rattle.ts_transform.specs.Driving.{ActsWithin, IsDueAfter, SetsOnly};
 ghost use Rattle.ts_txn.specs.Cover.{is_fresh};
 ghost use Rattle.ts_txn.specs.declared.phase.Next.{Next};
 ghost use Rattle.ts_txn.specs.Driven.{HandlesEvent, TakesEvent};
@@ -111,6 +111,7 @@ impl<C: Link + Drop, O: Upstream<C> + Drop> World for Txn<C, O> {
             self.new cx.new.log.state.pending cx.new.log.state.next cx.new.roles }
         ensures within { ActsWithin 1 cx.old cx.new }
         ensures begun { HasTxnBegun self.old self.new }
+        ensures due { SetsOnly (IsDueAfter 0 cx.old.moment) cx.old cx.new }
     {
         if !is_fresh(&self.phase) {
             return;
