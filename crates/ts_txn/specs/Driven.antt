@@ -8,7 +8,7 @@ use Rattle.ts_transform.specs.declared.continuation.StageContinuation.{StageCont
 use Rattle.ts_txn.specs.Cover.{Seated}
 use Rattle.ts_txn.specs.Holding.{IfTold, StepKeeps}
 use Rattle.ts_txn.specs.Steps.{LeavesSides, MindsLinksIn, WaitsRightly}
-use Rattle.ts_txn.specs.View.{View, view_of}
+use Rattle.ts_txn.specs.View.{view_of}
 use Rattle.ts_txn.specs.declared.driver.TheConstants.{RETRY}
 use Rattle.ts_txn.specs.declared.parts.Core.{Core}
 use Rattle.ts_txn.specs.declared.phase.Next.{Next}
@@ -31,27 +31,24 @@ delay_of N.Go = 0
 delay_of N.Wait = RETRY
 delay_of N.Done = 0
 
--- what a step owes of the faults and the waits of its links, unless memory lacked
-abbrev pub MindsOrLacks : Phase → Phase → Next → View → View → Type 0
-MindsOrLacks old new next v w = (new ≡ P.Ended E.NoMemory)
-    ⊎ MindsLinksIn old v w (record { phase = new; next = next })
-
--- What one event leads to: it stays the same transaction, of the same links; their faults and waits are minded,
--- and it waits for nothing else; and nothing but the request and its upload is sent to the origin.
+-- What an event of its continuation leads to: it stays the same transaction, of the same links; their faults and
+-- waits are minded, and it waits for nothing else; and nothing but the request and its upload is sent to the
+-- origin.
 pub record TakesEvent {C O : Type 0} (ctells otells : Bool) (client : C → Look) (origin : O → Look)
-    (paired : C → O → Type 0) (refuses : O → List ℕ → Type 0) (s t : Core C O) (old new : Phase)
-    (next : Next) : Type 0 where
+    (paired : C → O → Type 0) (refuses : O → List ℕ → Type 0) (left : C → O → Option ℕ) (s t : Core C O)
+    (old new : Phase) (next : Next) : Type 0 where
   pub keeps : StepKeeps client origin paired refuses s t
-  pub minds : MindsOrLacks old new next (view_of client origin s) (view_of client origin t)
+  pub minds : (new ≡ P.Ended E.NoMemory)
+      ⊎ MindsLinksIn ctells otells client origin refuses left s t old (record { phase = new; next = next })
   pub waits : WaitsRightly next (view_of client origin s) (view_of client origin t)
   pub leaves : IfTold ctells otells (LeavesSides old (view_of client origin s) (view_of client origin t))
 
 -- the same, and the event of the next step, if one is set, is due when that step is to be made
 pub record HandlesEvent {C O : Type 0} (ctells otells : Bool) (client : C → Look) (origin : O → Look)
-    (paired : C → O → Type 0) (refuses : O → List ℕ → Type 0) (s t : Core C O) (old new : Phase)
-    (a b : Context) : Type 0 where
+    (paired : C → O → Type 0) (refuses : O → List ℕ → Type 0) (left : C → O → Option ℕ) (s t : Core C O)
+    (old new : Phase) (a b : Context) : Type 0 where
   pub next : Next
-  pub takes : TakesEvent ctells otells client origin paired refuses s t old new next
+  pub takes : TakesEvent ctells otells client origin paired refuses left s t old new next
   pub due : SetsOnly (IsDueAfter (delay_of next) a.moment) a b
 
 -- it begins, or has ended for want of memory

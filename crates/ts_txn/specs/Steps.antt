@@ -4,10 +4,12 @@
 use Rattle.std.specs.Prelude.{◌≡◌, ◌<◌, ◌⊎◌, ⊤, Bool, List, ℕ, Option}
 use Rattle.ts_hooks.specs.declared.txn_end.TxnEnd.TheVariants as E
 use Rattle.ts_link.specs.Counts.{Rose}
+use Rattle.ts_link.specs.Link.{Look}
 use Rattle.ts_upstream.specs.declared.upstream.Uploaded.{Uploaded}
 use Rattle.ts_upstream.specs.declared.upstream.Uploaded.TheVariants as U
 use Rattle.ts_txn.specs.Moving.{LowersUpload, MovesUpload}
-use Rattle.ts_txn.specs.View.{View}
+use Rattle.ts_txn.specs.View.{View, left_if, refuses_if, view_of}
+use Rattle.ts_txn.specs.declared.parts.Core.{Core}
 use Rattle.ts_txn.specs.declared.phase.Request.{Request}
 use Rattle.ts_txn.specs.declared.own.OwnStatus.TheVariants as O
 use Rattle.ts_txn.specs.declared.phase.Next.{Next}
@@ -38,11 +40,6 @@ pub record MindsLinks (v w : View) (s : Step) : Type 0 where
   pub origin_fault : v.origin.look.faults < w.origin.look.faults → AnswersOriginFault s.phase
   pub client_again : v.client.look.waits < w.client.look.waits → s.next ≡ N.Wait
   pub origin_again : v.origin.look.waits < w.origin.look.waits → s.next ≡ N.Wait
-
--- an upload alone may meet both and still be done
-abbrev pub MindsLinksIn : Phase → View → View → Step → Type 0
-MindsLinksIn (P.Upload q) v w s = ⊤
-MindsLinksIn _ v w s = MindsLinks v w s
 
 -- nothing is sent to the origin
 pub record LeavesOrigin (v w : View) : Type 0 where
@@ -79,6 +76,15 @@ pub record UploadsOnce (client origin : Bool) (refuses : List ℕ → Type 0) (q
   pub moves : MovesUpload client origin refuses answer v w
   pub lowers : LowersUpload answer left left_then v w
   pub leads : UploadLeads answer q s
+
+module _ {C O : Type 0} (ctells otells : Bool) (client : C → Look) (origin : O → Look)
+    (refuses : O → List ℕ → Type 0) (left : C → O → Option ℕ) (t u : Core C O) where
+  -- a link's fault and a link that was not ready decide where a step leads; in an upload its answer does
+  abbrev pub MindsLinksIn : Phase → Step → Type 0
+  MindsLinksIn (P.Upload q) s = UploadsOnce ctells otells (refuses_if refuses t.origin) q
+      (left_if left t.client.link t.origin) (left_if left u.client.link u.origin)
+      (view_of client origin t) (view_of client origin u) s
+  MindsLinksIn _ s = MindsLinks (view_of client origin t) (view_of client origin u) s
 
 -- nothing is read of the client, and what it gave is kept
 pub record LeavesClient (v w : View) : Type 0 where

@@ -139,7 +139,7 @@ fn put(phase: &mut Phase, new: Phase)
 }
 
 /// Makes the next step of a transaction whose continuation has no event, and does what it asks for.
-#[tactic(auto, using(crate::proofs::Events::minds_on, crate::proofs::Settled::settled))]
+#[tactic(auto, using(crate::proofs::Settled::settled))]
 pub fn go_on<C: Link, O: Upstream<C>>(
     core: &mut Core<C, O>,
     main: &mut Option<StageContinuation>,
@@ -151,7 +151,7 @@ pub fn go_on<C: Link, O: Upstream<C>>(
     requires pair { IsPaired O.paired core.old }
     ensures within { ActsWithin 1 cx.old cx.new }
     ensures holds { PhaseHolds C.tells O.tells C.look O.look O.refuses core.new phase.new }
-    ensures handles { HandlesEvent C.tells O.tells C.look O.look O.paired O.refuses
+    ensures handles { HandlesEvent C.tells O.tells C.look O.look O.paired O.refuses O.upload_left
         core.old core.new phase.old phase.new cx.old cx.new }
     ensures seated { SeatedAfter main.old main.new cx.old cx.new }
     ensures duty { Idles phase.new main.new × HasNextEventOr phase.new main.new cx.new.log.state.next }

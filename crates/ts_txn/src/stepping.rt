@@ -19,8 +19,8 @@ impl<C: Link, O: Upstream<C>> Core<C, O> {
         requires pair { IsPaired O.paired self.old }
         ensures leads { StepLeads result }
         ensures fact { HoldsAfter C.tells O.tells C.look O.look O.refuses self.old self.new result }
-        ensures minds { MindsLinksIn phase
-            (view_of C.look O.look self.old) (view_of C.look O.look self.new) result }
+        ensures minds { MindsLinksIn C.tells O.tells C.look O.look O.refuses O.upload_left
+            self.old self.new phase result }
         ensures leaves { IfTold C.tells O.tells
             (LeavesSides phase (view_of C.look O.look self.old) (view_of C.look O.look self.new)) }
         ensures keeps { StepKeeps C.look O.look O.paired O.refuses self.old self.new }

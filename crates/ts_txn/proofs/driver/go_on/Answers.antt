@@ -13,7 +13,7 @@ returns-clause-holds g c = λ told also.
 pub returns-clause-handles : goal.returns-clause-handles
 returns-clause-handles g c = record {
   next = c.step-step.result.next;
-  takes = takes_step g.C.Link.tells g.O.Link.tells g.C.Link.look g.O.Link.look g.O.Upstream.paired g.O.Upstream.refuses c.args.core.now c.step-step.new.self c.take-was.result c.args.phase.now
+  takes = takes_step g.C.Link.tells g.O.Link.tells g.C.Link.look g.O.Link.look g.O.Upstream.paired g.O.Upstream.refuses g.O.Upstream.upload_left c.args.core.now c.step-step.new.self c.take-was.result c.args.phase.now
       c.settle.new.phase c.step-step.result c.take-was.ensures c.step-step.ensures.keeps c.step-step.ensures.minds c.step-step.ensures.waits c.step-step.ensures.leaves
       (subst (λ p. StaysOrLacks p c.settle.new.phase) c.put.ensures c.settle.ensures.phase);
   due = c.settle.ensures.due;
