@@ -31,14 +31,14 @@ delay_of N.Go = 0
 delay_of N.Wait = RETRY
 delay_of N.Done = 0
 
--- What an event of its continuation leads to: it stays the same transaction, of the same links; their faults and
+-- What one event leads to: it stays the same transaction, of the same links; nothing is done, or their faults and
 -- waits are minded, and it waits for nothing else; and nothing but the request and its upload is sent to the
 -- origin.
 pub record TakesEvent {C O : Type 0} (ctells otells : Bool) (client : C → Look) (origin : O → Look)
     (paired : C → O → Type 0) (refuses : O → List ℕ → Type 0) (left : C → O → Option ℕ) (s t : Core C O)
     (old new : Phase) (next : Next) : Type 0 where
   pub keeps : StepKeeps client origin paired refuses s t
-  pub minds : (new ≡ P.Ended E.NoMemory)
+  pub minds : (new ≡ P.Ended E.NoMemory) ⊎ ((t ≡ s) × (new ≡ old))
       ⊎ MindsLinksIn ctells otells client origin refuses left s t old (record { phase = new; next = next })
   pub waits : WaitsRightly next (view_of client origin s) (view_of client origin t)
   pub leaves : IfTold ctells otells (LeavesSides old (view_of client origin s) (view_of client origin t))

@@ -1,9 +1,9 @@
 //! A transaction as the world of a mutex group.
-ghost use Rattle.std.specs.Prelude.{◌≡◌, ◌⊎◌, ⊤, true, false, [], None, refl, ℕ};
+ghost use Rattle.std.specs.Prelude.{◌≡◌, ⊤, true, false, [], None, refl, ℕ};
 ghost use Rattle.ts_group.specs.declared.world.Want.TheVariants as Want;
 ghost use Rattle.ts_group.specs.Calls.{IsCalled};
 ghost use Rattle.ts_group.specs.Entries.{Grows};
-ghost use Rattle.ts_transform.specs.Driving.{ActsWithin, IsDueAfter, SetsOnly, works_at};
+ghost use Rattle.ts_transform.specs.Driving.{ActsWithin, IsDueAfter, SetsOnly};
 ghost use Rattle.ts_txn.specs.Cover.{is_fresh};
 ghost use Rattle.ts_txn.specs.declared.phase.Next.{Next};
 ghost use Rattle.ts_txn.specs.Driven.{HandlesEvent, TakesEvent};
@@ -71,7 +71,7 @@ impl<C: Link + Drop, O: Upstream<C> + Drop> Slotted for Txn<C, O> {
     ghost follows_on = { λ t u v a b. tt };
 }
 
-#[tactic(auto, using(ts_group::proofs::Grows::grows, ts_group::proofs::Grows::grows_refl, ts_transform::proofs::Kept::acts_none, crate::proofs::Handling::sound_begun, crate::proofs::Handling::sound_asked, crate::proofs::Handling::sound_other, crate::proofs::Handling::sound_quiet, crate::proofs::Handling::sound_stepped, crate::proofs::Coverage::fresh_none, crate::proofs::Fitting::fits_on))]
+#[tactic(auto, using(ts_group::proofs::Grows::grows, ts_group::proofs::Grows::grows_refl, ts_transform::proofs::Kept::acts_none, crate::proofs::Handling::sound_begun, crate::proofs::Handling::sound_asked, crate::proofs::Handling::sound_other, crate::proofs::Handling::sound_quiet, crate::proofs::Handling::sound_stepped, crate::proofs::Coverage::fresh_none, crate::proofs::Events::handles_nothing, crate::proofs::Fitting::fits_on))]
 impl<C: Link + Drop, O: Upstream<C> + Drop> World for Txn<C, O> {
     type Question = ();
 
@@ -98,8 +98,8 @@ impl<C: Link + Drop, O: Upstream<C> + Drop> World for Txn<C, O> {
     ghost begun = { λ old new. HasTxnBegun old new };
 
     // A handler makes one step of the same transaction, or nothing.
-    ghost called = { λ old new asked. (new ≡ old) ⊎ ((next : Next) × TakesEvent C.tells O.tells C.look O.look
-        O.paired O.refuses O.upload_left old.core new.core old.phase new.phase next) };
+    ghost called = { λ old new asked. (next : Next) × TakesEvent C.tells O.tells C.look O.look
+        O.paired O.refuses O.upload_left old.core new.core old.phase new.phase next };
 
     ghost heard = { λ old new asked. new ≡ old };
 
@@ -129,10 +129,8 @@ impl<C: Link + Drop, O: Upstream<C> + Drop> World for Txn<C, O> {
             self.new cx.new.log.state.pending cx.new.log.state.next cx.new.roles }
         ensures nothing { result ≡ Want.Nothing }
         ensures within { ActsWithin 1 cx.old cx.new }
-        ensures handles { role ≡ MAIN → works_at event ≡ true
-            → HandlesEvent C.tells O.tells C.look O.look O.paired O.refuses O.upload_left
+        ensures handles { HandlesEvent C.tells O.tells C.look O.look O.paired O.refuses O.upload_left
             self.old.core self.new.core self.old.phase self.new.phase cx.old cx.new }
-        ensures rests { (role ≡ MAIN → works_at event ≡ true → ⊥) → (self.new ≡ self.old) × (cx.new ≡ cx.old) }
     {
         if role != MAIN {
             return Want::Nothing;

@@ -1,4 +1,4 @@
-use Rattle.std.proofs.Common.{◌≡◌, true, false, sym, subst, ◌∙◌}
+use Rattle.std.proofs.Common.{sym, subst, ◌∙◌}
 use Rattle.ts_txn.specs.Driven.{SeatedAfter}
 use Rattle.ts_txn.proofs.Handling.{sound_other, sound_quiet, sound_stepped}
 use Rattle.ts_txn.proofs.txn.TxnWorld.handle.Goals as goal
@@ -21,13 +21,3 @@ returns-clause-sound g c =
     sound_stepped g.C.Link.tells g.O.Link.tells g.C.Link.look g.O.Link.look g.O.Upstream.paired g.O.Upstream.refuses c.args.self.now c.args.cx.now c.args.role c.args.event c.requires.called
     (record { core = c.go_on.new.core; main = c.go_on.new.main; phase = c.go_on.new.phase }) c.go_on.new.cx c.go_on.ensures.holds c.go_on.ensures.handles.takes.keeps
     (subst (λ m. SeatedAfter m c.go_on.new.main c.args.cx.now c.go_on.new.cx) c.unrouse.ensures c.go_on.ensures.seated) c.go_on.ensures.duty.0 c.go_on.ensures.duty.1
-
-pub returns-then-role-ne-MAIN-clause-handles : goal.returns-then-role-ne-MAIN-clause-handles
-returns-then-role-ne-MAIN-clause-handles g c = λ is works. absurd (c.if-role-ne-MAIN.true is)
-
-pub returns-then-not-works-clause-handles : goal.returns-then-not-works-clause-handles
-returns-then-not-works-clause-handles g c = λ is works.
-    absurd (let wrong : false ≡ true = sym (sym c.works.ensures ∙ c.if-not-works.true) ∙ works in cc)
-
-pub returns-clause-rests : goal.returns-clause-rests
-returns-clause-rests g c = λ rests. absurd (rests c.if-role-ne-MAIN.false (sym c.works.ensures ∙ c.if-not-works.false))
