@@ -7,5 +7,6 @@ pub mod Driving
 pub mod Flow
 pub mod Law
 pub mod Loss
+pub mod Seats
 pub mod Stage
 pub mod World
