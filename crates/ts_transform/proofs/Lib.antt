@@ -11,6 +11,7 @@ pub mod Taking
 pub mod Told
 pub mod PassedErrors
 pub mod Called
+pub mod Seating
 pub mod Seats
 pub mod Setting
 pub mod MaySet

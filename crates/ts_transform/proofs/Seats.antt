@@ -1,5 +1,5 @@
 -- Continuations are destroyed, and whose events are pending then.
-use Rattle.std.proofs.Common.{◌≡◌, ◌≢◌, ◌+◌, ◌<◌, ◌≤◌, ◌++◌, ◌⊎◌, inl, inr, ℕ, zero, suc, List, [], ◌∷◌, Bool, true, false, Option, Some, None, length, arith, refl, sym, ap, subst, ◌∙◌}
+use Rattle.std.proofs.Common.{◌≡◌, ◌≢◌, ◌+◌, ◌<◌, ◌≤◌, ◌++◌, ◌⊎◌, inl, inr, ℕ, zero, suc, List, [], ◌∷◌, Bool, true, false, Option, Some, None, slice_get, length, arith, refl, sym, ap, subst, ◌∙◌}
 use Rattle.ts_journal.specs.declared.entry.ContKey.{ContKey}
 use Rattle.ts_journal.specs.declared.entry.Pending.{Pending}
 use Rattle.ts_journal.specs.State.{IsLive, generation_at, pending_at, same_key}
@@ -14,8 +14,10 @@ use Rattle.ts_group.specs.Context.{Context, IsOrderly, role_at}
 use Rattle.ts_group.specs.Entries.{Grows}
 use Rattle.ts_group.proofs.Grows.{grows_trans}
 use Rattle.ts_transform.specs.declared.continuation.StageContinuation.{StageContinuation}
-use Rattle.ts_transform.specs.Driving.{ActsWithin, AreNamed, HasLiveIf, IsNamedIf, IsOfStageIf, Lessens}
-use Rattle.ts_transform.specs.Seats.{AllSeated, Clears, HasKey, KeepsOwn, KeepsOutside}
+use Rattle.ts_transform.specs.Driving.{ActsWithin, AreNamed, HasLiveIf, IsNamedIf, IsOfStageIf, Lessens, changed, gone}
+use Rattle.ts_transform.specs.Seats.{AllSeated, HasKey, KeepsSeated}
+use Rattle.ts_transform.proofs.Seating.{key_beside, key_gone, seat_of}
+use Rattle.ts_transform.specs.Destroying.{Clears, KeepsOwn, KeepsOutside}
 use Rattle.ts_transform.proofs.Closing.{lost_if}
 use Rattle.ts_transform.proofs.Kept.{acts_lessens, few_trans}
 use Rattle.ts_transform.proofs.Setting.{lessens_less, lessens_none}
@@ -169,16 +171,6 @@ pub clears_then : (t : Option StageContinuation) (us ts : List (Option StageCont
 clears_then t us ts a m b is h k = subst (λ vs. Clears vs a b) (sym is) (clears_before t us a m b h k)
 
 -- So whoever is left has the events that are pending, where they and these had them.
-seat_of : (ts us : List (Option StageContinuation)) (key : ContKey) → HasKey (ts ++ us) key → HasKey ts key ⊎ HasKey us key
-seat_of [] us key has = inr has
-seat_of (None ∷ ts) us key has = seat_of ts us key has
-seat_of (Some t ∷ ts) us key (inl same) = inl (inl same)
-seat_of (Some t ∷ ts) us key (inr has) = by_seat (seat_of ts us key has)
-  where
-    by_seat : HasKey ts key ⊎ HasKey us key → HasKey (Some t ∷ ts) key ⊎ HasKey us key
-    by_seat (inl own) = inl (inr own)
-    by_seat (inr other) = inr other
-
 pub seated_cleared : (ts us : List (Option StageContinuation)) (a b : Context) → Clears us a b → AllSeated a.log.state.pending (ts ++ us) → AllSeated b.log.state.pending ts
 seated_cleared ts us a b h seated n p there = by_seat (seat_of ts us p.key (seated n p (h.less.from n p there)))
   where
@@ -188,3 +180,19 @@ seated_cleared ts us a b h seated n p there = by_seat (seat_of ts us p.key (seat
 
 pub cleared_acts : (ts : List (Option StageContinuation)) (a b : Context) → Clears ts a b → ActsWithin 0 a b
 cleared_acts ts a b h = acts_lessens 0 a b h.lessens
+
+-- a continuation was destroyed, or was not live
+pub seated_gone : (ts us : List (Option StageContinuation)) (at : ℕ) (t : StageContinuation) (a b : Context) (d : Destroy) → slice_get ts at ≡ Some (Some t) → us ≡ changed gone ts at → IsOrderly a → Grows a b
+    → Destroys a.log b.log a.roles b.roles d t.key → KeepsSeated ts us a b
+seated_gone ts us at t a b d is changed_is orderly grows h others seated n p there =
+    let clears = one_clears a b t d orderly grows h in
+    let kept = key_beside others ts (changed gone ts at) p.key (key_gone ts at p.key (λ u there_u same. clears.none n p there (inl (own_of u there_u ∙ same)))) (seated n p (clears.less.from n p there)) in
+    subst (λ vs. HasKey (others ++ vs) p.key) (sym changed_is) kept
+  where
+    own_of : (u : StageContinuation) → slice_get ts at ≡ Some (Some u) → t.key ≡ u.key
+    own_of u there_u = let both : Some (Some t) ≡ Some (Some u) = sym is ∙ there_u in let one : t ≡ u = cc in ap (λ x. x.key) one
+
+pub seated_nobody : (ts us : List (Option StageContinuation)) (at : ℕ) (a : Context) → slice_get ts at ≡ Some None → us ≡ changed gone ts at → KeepsSeated ts us a a
+seated_nobody ts us at a is changed_is others seated n p there =
+    subst (λ vs. HasKey (others ++ vs) p.key) (sym changed_is)
+    (key_beside others ts (changed gone ts at) p.key (key_gone ts at p.key (λ u there_u same. let wrong : Some None ≡ Some (Some u) = sym is ∙ there_u in absurd (cc))) (seated n p there))

@@ -2,6 +2,7 @@ pub mod Acting
 pub mod Along
 pub mod Carrying
 pub mod Cover
+pub mod Destroying
 pub mod Driven
 pub mod Driving
 pub mod Flow

@@ -1,11 +1,9 @@
--- Whose events are pending, and what is left where the continuations of stages were destroyed.
-use Rattle.std.specs.Prelude.{◌≡◌, ℕ, ◌+◌, ◌<◌, ◌≤◌, ◌⊎◌, List, [], ◌∷◌, length, Option, Some, None}
+-- Whose events are pending.
+use Rattle.std.specs.Prelude.{◌≡◌, ℕ, ◌⊎◌, ◌++◌, List, [], ◌∷◌, Option, Some, None}
 use Rattle.ts_journal.specs.declared.entry.ContKey.{ContKey}
 use Rattle.ts_journal.specs.declared.entry.Pending.{Pending}
 use Rattle.ts_journal.specs.State.{pending_at}
 use Rattle.ts_group.specs.Context.{Context}
-use Rattle.ts_group.specs.Changes.{IsLess}
-use Rattle.ts_transform.specs.Driving.{AreNamed, HasLiveIf, IsNamedIf, IsOfStageIf, Lessens}
 use Rattle.ts_transform.specs.declared.continuation.StageContinuation.{StageContinuation}
 
 -- one of the continuations has this key
@@ -18,23 +16,8 @@ HasKey (Some t ∷ ts) key = (t.key ≡ key) ⊎ HasKey ts key
 abbrev pub AllSeated : List Pending → List (Option StageContinuation) → Type 0
 AllSeated pending ts = (n : ℕ) (p : Pending) → pending_at n pending ≡ Some p → HasKey ts p.key
 
--- A continuation keeps its role, its event, and its life.
-pub record KeepsOwn (role : ℕ) (t : Option StageContinuation) (a b : Context) : Type 0 where
-  pub named : IsNamedIf b.roles role t
-  pub of_stage : IsOfStageIf a.log.state.pending a.roles role t → IsOfStageIf b.log.state.pending b.roles role t
-  pub live : HasLiveIf a.log.state.live t → HasLiveIf b.log.state.live t
-
--- So does each of a role outside those of the stages, which have the roles from the first on.
-abbrev pub KeepsOutside : ℕ → List (Option StageContinuation) → Context → Context → Type 0
-KeepsOutside first ts a b = AreNamed a.roles first ts → (role : ℕ) (t : Option StageContinuation)
-    → (role < first) ⊎ (first + length ts ≤ role) → IsNamedIf a.roles role t → KeepsOwn role t a b
-
--- The continuations were destroyed: nothing was set, of what was pending all is left but their events, and all others keep
--- what they have.
-pub record Clears (ts : List (Option StageContinuation)) (a b : Context) : Type 0 where
-  pub lessens : Lessens a b
-  pub less : IsLess a.log.state b.log.state
-  pub none : (n : ℕ) (p : Pending) → pending_at n b.log.state.pending ≡ Some p → HasKey ts p.key → ⊥
-  pub stays : (n : ℕ) (p : Pending) → pending_at n a.log.state.pending ≡ Some p → (HasKey ts p.key → ⊥)
-      → pending_at n b.log.state.pending ≡ Some p
-  pub others : (first : ℕ) → KeepsOutside first ts a b
+-- it stays so with others beside them: whatever was set is of one of these
+abbrev pub KeepsSeated : List (Option StageContinuation) → List (Option StageContinuation) → Context → Context
+    → Type 0
+KeepsSeated ts us a b = (others : List (Option StageContinuation))
+    → AllSeated a.log.state.pending (others ++ ts) → AllSeated b.log.state.pending (others ++ us)

@@ -2,7 +2,8 @@
 ghost use Rattle.std.specs.Prelude.{◌≡◌, ◌++◌, ◌∷◌, List, Option, [], true, false};
 ghost use Rattle.ts_transform.specs.Flow.{aborted};
 ghost use Rattle.ts_transform.specs.Driving.{ActsWithin};
-ghost use Rattle.ts_transform.specs.Seats.{AllSeated, Clears};
+ghost use Rattle.ts_transform.specs.Destroying.{Clears};
+ghost use Rattle.ts_transform.specs.Seats.{AllSeated};
 ghost use Rattle.ts_transform.specs.declared.continuation.StageContinuation.{StageContinuation};
 
 use crate::continuation::StageContinuation;

@@ -1,6 +1,6 @@
 -- Whoever is left has the events that are pending.
 use Rattle.std.proofs.Common.{subst}
-use Rattle.ts_transform.specs.Seats.{Clears}
+use Rattle.ts_transform.specs.Destroying.{Clears}
 use Rattle.ts_transform.proofs.Seats.{seated_cleared}
 use Rattle.ts_transform.proofs.driven.DrivenChain.close.Goals as goal
 
