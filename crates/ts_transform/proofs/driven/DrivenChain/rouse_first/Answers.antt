@@ -4,7 +4,7 @@ use Rattle.ts_transform.specs.Driving.{KeepsStages, all_unroused}
 use Rattle.ts_transform.proofs.Driving.{fed, in_table}
 use Rattle.ts_transform.proofs.Kept.{adds_ok, adds_weaker}
 use Rattle.ts_transform.proofs.Living.{all_live}
-use Rattle.std.proofs.Common.{◌≡◌, ℕ, List, Option, ◌++◌, refl, take, drop}
+use Rattle.std.proofs.Common.{◌≡◌, ℕ, List, Option, ◌++◌, take, drop}
 use Rattle.ts_group.specs.Context.{Context}
 use Rattle.ts_transform.specs.declared.continuation.StageContinuation.{StageContinuation}
 use Rattle.ts_transform.specs.declared.driven.DrivenChain.{DrivenChain}

@@ -1,4 +1,4 @@
-use Rattle.std.proofs.Common.{Some, false, length, arith, ◌≡◌, true, refl, sym, ap, subst, inl, inr, ◌∙◌}
+use Rattle.std.proofs.Common.{Some, false, length, arith, true, refl, sym, ap, subst, inl, inr, ◌∙◌}
 use Rattle.ts_transform.specs.Flow.{MustRead, MustWrite}
 use Rattle.ts_transform.specs.Carrying.{MovesOn}
 use Rattle.ts_transform.proofs.Carrying.{moves_aborted, moves_as, moves_none, moves_taken, moves_wait}
