@@ -1,0 +1,31 @@
+use Rattle.std.proofs.Common.{subst}
+use Rattle.std.specs.Arc.{arc_value}
+use Rattle.ts_txn.specs.Holding.{PhaseFact}
+use Rattle.ts_txn.specs.View.{OriginRefuses, view_of}
+use Rattle.ts_txn.specs.declared.phase.Phase.{Phase}
+use Rattle.ts_txn.proofs.Asks.{lacks_memory}
+use Rattle.ts_txn.proofs.Responding.{relays_any}
+use Rattle.ts_txn.proofs.parts.Core.step.Goals as goal
+
+-- until bodies are relayed, a response that can be passed on is not
+pub returns-in-ResponseTransform-clause-fact : goal.returns-in-ResponseTransform-clause-fact
+returns-in-ResponseTransform-clause-fact g c = λ told also.
+    let setup = arc_value c.args.self.now.setup in
+    let refuses = OriginRefuses g.C.Link.look g.O.Upstream.refuses c.args.self.now in
+    let v = view_of g.C.Link.look g.O.Link.look c.args.self.now in
+    lacks_memory setup refuses v
+    (relays_any setup refuses v _ _ (subst (λ (p : Phase). PhaseFact setup refuses v p) c.in-ResponseTransform.is (c.requires.fact told also)))
+
+pub returns-in-TxnClose-clause-fact : goal.returns-in-TxnClose-clause-fact
+returns-in-TxnClose-clause-fact g c = λ told also.
+    let setup = arc_value c.args.self.now.setup in
+    let refuses = OriginRefuses g.C.Link.look g.O.Upstream.refuses c.args.self.now in
+    let v = view_of g.C.Link.look g.O.Link.look c.args.self.now in
+    subst (λ (p : Phase). PhaseFact setup refuses v p) c.in-TxnClose.is (c.requires.fact told also)
+
+pub returns-clause-fact : goal.returns-clause-fact
+returns-clause-fact g c = λ told also.
+    let setup = arc_value c.args.self.now.setup in
+    let refuses = OriginRefuses g.C.Link.look g.O.Upstream.refuses c.args.self.now in
+    let v = view_of g.C.Link.look g.O.Link.look c.args.self.now in
+    subst (λ (p : Phase). PhaseFact setup refuses v p) c.in-Ended.is (c.requires.fact told also)
