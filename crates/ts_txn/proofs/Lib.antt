@@ -10,6 +10,7 @@ pub mod OneBlock
 mod OneHead
 pub mod OneSide
 pub mod Owns
+pub mod Relaying
 pub mod Responding
 mod Saying
 mod Searching

@@ -69,7 +69,7 @@ own_has_text setup v a own = record {
   body_is = pieces_joined a.to_head a.status;
 }
 
-all_took : (old new : Look) (more : List ℕ) → old.given ≢ [] → TakesMore old new more → all_of new ≡ all_of old
+pub all_took : (old new : Look) (more : List ℕ) → old.given ≢ [] → TakesMore old new more → all_of new ≡ all_of old
 all_took old new more some t = λ i. t.given i ++ stays old.given old.left new.left some t.left i
 
 module _ (setup : Setup) (refuses : Type 0) where

@@ -44,7 +44,7 @@ after_more (h ∷ hs) bytes rest more (mid, has, interim, after) = (mid ++ more,
 passes_more : (bytes rest more : List ℕ) → PassesInterims bytes rest → PassesInterims (bytes ++ more) (rest ++ more)
 passes_more bytes rest more p = record { interims = p.interims; after = after_more p.interims bytes rest more p.after }
 
-final_more : (bytes : List ℕ) (h : ResponseHead) (rest more : List ℕ) → FinalHead bytes h rest → FinalHead (bytes ++ more) h (rest ++ more)
+pub final_more : (bytes : List ℕ) (h : ResponseHead) (rest more : List ℕ) → FinalHead bytes h rest → FinalHead (bytes ++ more) h (rest ++ more)
 final_more bytes h rest more f = record {
   from = f.from ++ more;
   passed = passes_more bytes f.from more f.passed;
@@ -55,7 +55,7 @@ final_more bytes h rest more f = record {
 module _ (setup : Setup) (refuses : Type 0) where
 
   -- the origin keeps what it took, and what waits for it
-  served_as : (c : List ℕ) (q : Request) (dialed : Bool) (o s : Side) → s.base ≤ s.look.faults → s.look.taken ≡ o.look.taken → s.outbox ≡ o.outbox
+  pub served_as : (c : List ℕ) (q : Request) (dialed : Bool) (o s : Side) → s.base ≤ s.look.faults → s.look.taken ≡ o.look.taken → s.outbox ≡ o.outbox
       → Served setup refuses c q dialed o → Served setup refuses c q dialed s
   served_as c q dialed o s count taken waits h = record {
     goes = h.goes;

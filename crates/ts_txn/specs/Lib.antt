@@ -13,7 +13,9 @@ pub mod Making
 pub mod Moving
 pub mod Own
 pub mod Reading
+pub mod RelayMoves
 pub mod Relayed
+pub mod Relaying
 pub mod Rules
 pub mod View
 pub mod World

@@ -17,6 +17,7 @@ mod parts;
 mod peers;
 mod phase;
 mod reading;
+mod relay_sides;
 mod relayed;
 mod rules;
 mod sides;

@@ -1,0 +1,207 @@
+-- A body that is passed on: what a write to the client, a read of the origin and a piece that is framed leave of it.
+use Rattle.std.proofs.Common.{◌≡◌, ◌≢◌, ℕ, ◌<◌, ◌≤◌, List, [], ◌∷◌, ◌++◌, map, length, Bool, true, false, refl, sym, ap, subst, ◌∙◌, append_assoc}
+use Rattle.std.specs.Prelude.{All, flat_map}
+use Rattle.std.specs.Bool.{OnTrue}
+use Rattle.std.proofs.lemmas.List.{append-nil, map-append}
+use Rattle.std.proofs.lemmas.List.Elements.{All-append, All-cons, All-nil}
+use Rattle.std.proofs.lemmas.Grind.{flat_map-append}
+use Rattle.ts_config.specs.declared.setup.Setup.{Setup}
+use Rattle.ts_config.specs.declared.setup.TransformLine.{TransformLine}
+use Rattle.ts_config.specs.Bodies.{compose_lines}
+use Rattle.ts_link.specs.Link.{all_of}
+use Rattle.ts_transform.specs.Flow.{ChainState, flow, flow_from}
+use Rattle.ts_vconn.specs.declared.moves.Pulled.{Pulled}
+use Rattle.ts_vconn.specs.declared.moves.Pushed.{Pushed}
+use Rattle.ts_wire.specs.declared.frames.Mode.{Mode}
+use Rattle.ts_wire.specs.declared.heads.ResponseHead.{ResponseHead}
+use Rattle.ts_wire.specs.Frames.{IsPiece, cut_body, end_of, frame_of, frames}
+use Rattle.ts_wire.specs.Place.{Place}
+use Rattle.ts_txn.specs.Block.{body_lines, relayed_head}
+use Rattle.ts_txn.specs.Heads.{FinalHead}
+use Rattle.ts_txn.specs.View.{Side, View}
+use Rattle.ts_txn.specs.Moving.{SideReads, SideWrites, WritesClient}
+use Rattle.ts_txn.specs.RelayMoves.{AddsText, QueuesText, FramesEnd, FramesPiece, QueuesNothing, ReadsOrigin}
+use Rattle.ts_txn.specs.Facts as facts
+use Rattle.ts_txn.specs.Ends.{AnyEnd, HasText, IsFrontThrough, Relayed}
+use Rattle.ts_txn.specs.Ends as ends
+use Rattle.ts_txn.specs.Relaying.{GivesEnd, ReadsBody, RelaysBody, SendsBody}
+use Rattle.ts_txn.specs.declared.parts.Sent.{Sent}
+use Rattle.ts_txn.specs.declared.phase.Request.{Request}
+use Rattle.ts_txn.proofs.OneSide.{read_count, write_count}
+use Rattle.ts_txn.proofs.Owns.{all_took}
+use Rattle.ts_txn.proofs.Responding.{final_more, served_as}
+
+-- ---- the client's text
+
+-- a write takes a front of it
+pub text_written : (t : Bool) (c s : Side) (p : Pushed) (sent : Sent) (head body : List ℕ) (fin : Bool) → t ≡ true → SideWrites t c s p
+    → HasText c sent head body fin → HasText s sent head body fin
+text_written t c s p sent head body fin told writes h = record {
+  pieces = h.pieces;
+  each = h.each;
+  text = writes.pushes.text told ∙ h.text;
+  head_is = h.head_is;
+  cuts = h.cuts;
+  body_is = h.body_is;
+}
+
+-- nothing but the two sides of a text speaks of it
+text_as : (c s : Side) (a b : Sent) (head body : List ℕ) (fin : Bool) → s.look.taken ≡ c.look.taken → s.outbox ≡ c.outbox → b.head ≡ a.head → b.mode ≡ a.mode
+    → b.cuts.items ≡ a.cuts.items → HasText c a head body fin → HasText s b head body fin
+text_as c s a b head body fin taken waits head_is mode cuts h = record {
+  pieces = h.pieces;
+  each = h.each;
+  text = ap (λ (x : List ℕ). x ++ s.outbox) taken ∙ ap (λ (x : List ℕ). c.look.taken ++ x) waits ∙ h.text
+      ∙ ap (λ (m : Mode). head ++ frames m h.pieces fin) (sym mode);
+  head_is = head_is ∙ h.head_is;
+  cuts = cuts ∙ h.cuts;
+  body_is = h.body_is;
+}
+
+-- one piece more is framed
+framed_more : (mode : Mode) (pieces : List (List ℕ)) (piece : List ℕ) → frames mode pieces false ++ frame_of mode piece ≡ frames mode (pieces ++ piece ∷ []) false
+framed_more mode pieces piece =
+    ap (λ (x : List ℕ). x ++ frame_of mode piece) (append-nil (flat_map (frame_of mode) pieces))
+    ∙ ap (λ (x : List ℕ). flat_map (frame_of mode) pieces ++ x) (sym (append-nil (frame_of mode piece)))
+    ∙ sym (flat_map-append (frame_of mode) pieces (piece ∷ []))
+    ∙ sym (append-nil (flat_map (frame_of mode) (pieces ++ piece ∷ [])))
+
+cut_more : (pieces : List (List ℕ)) (piece : List ℕ) → cut_body (pieces ++ piece ∷ []) ≡ cut_body pieces ++ piece
+cut_more pieces piece = flat_map-append (λ (p : List ℕ). p) pieces (piece ∷ []) ∙ ap (λ (x : List ℕ). cut_body pieces ++ x) (append-nil piece)
+
+text_framed : (v w : View) (head body piece : List ℕ) → FramesPiece piece v w → IsPiece piece → HasText v.client v.sent head body false
+    → HasText w.client w.sent head (body ++ piece) false
+text_framed v w head body piece f is h =
+    let taken : w.client.look.taken ≡ v.client.look.taken = ap (λ (s : Side). s.look.taken) f.client in
+    record {
+      pieces = h.pieces ++ piece ∷ [];
+      each = All-append IsPiece h.pieces (piece ∷ []) h.each (All-cons IsPiece piece [] is (All-nil IsPiece));
+      text = ap (λ (x : List ℕ). x ++ w.client.outbox) taken
+          ∙ ap (λ (x : List ℕ). v.client.look.taken ++ x) f.adds.outbox
+          ∙ sym (append_assoc v.client.look.taken v.client.outbox (frame_of v.sent.mode piece))
+          ∙ ap (λ (x : List ℕ). x ++ frame_of v.sent.mode piece) h.text
+          ∙ append_assoc head (frames v.sent.mode h.pieces false) (frame_of v.sent.mode piece)
+          ∙ ap (λ (x : List ℕ). head ++ x) (framed_more v.sent.mode h.pieces piece)
+          ∙ ap (λ (m : Mode). head ++ frames m (h.pieces ++ piece ∷ []) false) (sym f.adds.mode);
+      head_is = f.adds.head ∙ h.head_is;
+      cuts = f.adds.cuts_are ∙ ap (λ (x : List ℕ). x ++ length piece ∷ []) h.cuts ∙ sym (map-append length h.pieces (piece ∷ []));
+      body_is = cut_more h.pieces piece ∙ ap (λ (x : List ℕ). x ++ piece) h.body_is;
+    }
+
+-- its end is framed
+ended_more : (mode : Mode) (pieces : List (List ℕ)) → frames mode pieces false ++ end_of mode ≡ frames mode pieces true
+ended_more mode pieces = ap (λ (x : List ℕ). x ++ end_of mode) (append-nil (flat_map (frame_of mode) pieces))
+
+pub text_ended : (v w : View) (head body : List ℕ) → FramesEnd v w → HasText v.client v.sent head body false → HasText w.client w.sent head body true
+text_ended v w head body f h =
+    let taken : w.client.look.taken ≡ v.client.look.taken = ap (λ (s : Side). s.look.taken) f.client in
+    record {
+      pieces = h.pieces;
+      each = h.each;
+      text = ap (λ (x : List ℕ). x ++ w.client.outbox) taken
+          ∙ ap (λ (x : List ℕ). v.client.look.taken ++ x) f.adds.outbox
+          ∙ sym (append_assoc v.client.look.taken v.client.outbox (end_of v.sent.mode))
+          ∙ ap (λ (x : List ℕ). x ++ end_of v.sent.mode) h.text
+          ∙ append_assoc head (frames v.sent.mode h.pieces false) (end_of v.sent.mode)
+          ∙ ap (λ (x : List ℕ). head ++ x) (ended_more v.sent.mode h.pieces)
+          ∙ ap (λ (m : Mode). head ++ frames m h.pieces true) (sym f.adds.mode);
+      head_is = f.adds.head ∙ h.head_is;
+      cuts = f.adds.cuts_are ∙ append-nil v.sent.cuts.items ∙ h.cuts;
+      body_is = h.body_is;
+    }
+
+-- ---- what the chain still gives
+
+-- bytes that came to a chain stand in front of what still comes
+pub flow_given : {P : Type 0} (rest : P → List ℕ → List ℕ) (c : ChainState P) (given : List ℕ) (ended : Bool) (z : List ℕ)
+    → flow rest (record c { first = c.first ++ given; given = ended }) z ≡ flow rest c (given ++ z)
+flow_given rest c given ended z = ap (flow_from rest c.stages) (append_assoc c.first given z)
+
+-- what was sent is a front of the lines' work
+front_by : (b : Bool) (lines : List TransformLine) (read body : List ℕ) (next : List ℕ → List ℕ)
+    → ((z : List ℕ) → OnTrue b (z ≡ []) → body ++ next z ≡ compose_lines lines (read ++ z)) → IsFrontThrough lines b read body
+front_by true lines read body next flows = (next [], flows [] refl ∙ ap (compose_lines lines) (append-nil read))
+front_by false lines read body next flows = λ more. (next more, flows more tt)
+
+module _ (setup : Setup) (refuses : Type 0) (q : Request) (h : ResponseHead) where
+
+  -- the chain may be dropped at any time
+  pub relays_relayed : {P : Type 0} (rest : P → List ℕ → List ℕ) (v : View) (c : ChainState P) (place : Place) (r : RelaysBody setup refuses q h rest v c place)
+      → Relayed setup refuses v c.given false r.sends.body
+  relays_relayed rest v c place r = record {
+    q = q;
+    h = h;
+    served = r.reads.served;
+    good = r.reads.good;
+    fed = r.reads.fed;
+    read = r.read;
+    place = place;
+    reads = r.reads.reads;
+    is_fed = r.reads.is_fed;
+    over = r.gives_end.ended;
+    mode = r.sends.mode;
+    text = r.sends.text;
+    front = front_by c.given (body_lines setup q.head h) r.read r.sends.body (flow rest c) r.sends.flows;
+    whole = λ fin. absurd (let wrong : false ≡ true = fin in cc);
+  }
+
+  pub relays_any : {P : Type 0} (rest : P → List ℕ → List ℕ) (v : View) (c : ChainState P) (place : Place) → RelaysBody setup refuses q h rest v c place
+      → AnyEnd setup refuses v
+  relays_any rest v c place r = record {
+    took = facts.request q r.reads.served.goes r.reads.served.carries;
+    text = ends.relayed c.given false r.sends.body (relays_relayed rest v c place r);
+  }
+
+  -- ---- a write of what waits for the client
+
+  writes_side : {P : Type 0} (rest : P → List ℕ → List ℕ) (t : Bool) (v : View) (s : Side) (p : Pushed) (c : ChainState P) (place : Place) → t ≡ true
+      → SideWrites t v.client s p → RelaysBody setup refuses q h rest v c place → RelaysBody setup refuses q h rest (record v { client = s }) c place
+  writes_side rest t v s p c place told writes r =
+      let takes = writes.pushes.told told in
+      record {
+        read = r.read;
+        reads = subst (λ (b : List ℕ). ReadsBody setup refuses q h b v.dialed v.origin place r.read) (sym (all_took v.client.look s.look _ r.sends.some takes)) r.reads;
+        gives_end = r.gives_end;
+        sends = record {
+          count = write_count t v.client s p writes r.sends.count;
+          some = λ e. r.sends.some (sym takes.given ∙ e);
+          mode = r.sends.mode;
+          body = r.sends.body;
+          text = text_written t v.client s p v.sent (relayed_head setup q.head h) r.sends.body false told writes r.sends.text;
+          flows = r.sends.flows;
+        };
+      }
+
+  pub writes_on : {P : Type 0} (rest : P → List ℕ → List ℕ) (t : Bool) (v w : View) (p : Pushed) (c : ChainState P) (place : Place) → t ≡ true
+      → WritesClient t v w p → RelaysBody setup refuses q h rest v c place → RelaysBody setup refuses q h rest w c place
+  writes_on rest t v w p c place told writes r =
+      subst (λ (x : View). RelaysBody setup refuses q h rest x c place) (sym writes.others) (writes_side rest t v w.client p c place told writes.client r)
+
+  -- ---- a read of the origin
+
+  reads_side : (t : Bool) (c : List ℕ) (dialed : Bool) (o s : Side) (p : Pulled) (place : Place) (read : List ℕ) → t ≡ true → SideReads t o s p
+      → ReadsBody setup refuses q h c dialed o place read → ReadsBody setup refuses q h c dialed s place read
+  reads_side t c dialed o s p place read told reads r =
+      let gives = reads.pulls.pulls.told told in
+      record {
+        served = served_as setup refuses c q dialed o s (read_count t o s p reads r.served.count) gives.taken reads.outbox r.served;
+        good = r.good;
+        fed = r.fed;
+        reads = subst (λ (g : List ℕ). FinalHead g h (r.fed ++ s.inbox)) (sym gives.given)
+            (subst (λ (i : List ℕ). FinalHead (o.look.given ++ reads.pulls.more) h i)
+              (append_assoc r.fed o.inbox reads.pulls.more ∙ ap (λ (x : List ℕ). r.fed ++ x) (sym reads.pulls.grows))
+              (final_more o.look.given h (r.fed ++ o.inbox) reads.pulls.more r.reads));
+        is_fed = r.is_fed;
+      }
+
+  -- it is made before the chain's end was given
+  pub reads_on : {P : Type 0} (rest : P → List ℕ → List ℕ) (t : Bool) (v w : View) (p : Pulled) (c : ChainState P) (place : Place) → t ≡ true → c.given ≡ false
+      → ReadsOrigin t v w p → RelaysBody setup refuses q h rest v c place → RelaysBody setup refuses q h rest w c place
+  reads_on rest t v w p c place told going reads r =
+      subst (λ (x : View). RelaysBody setup refuses q h rest x c place) (sym reads.others)
+      (record {
+        read = r.read;
+        reads = reads_side t (all_of v.client.look) v.dialed v.origin w.origin p place r.read told reads.origin r.reads;
+        gives_end = record { ended = λ given. absurd (let wrong : true ≡ false = sym given ∙ going in cc); goes_on = r.gives_end.goes_on };
+        sends = r.sends;
+      })
