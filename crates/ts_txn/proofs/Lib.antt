@@ -2,6 +2,7 @@ pub mod Always
 pub mod Asks
 pub mod Coverage
 pub mod Filled
+pub mod Finished
 pub mod Fitting
 pub mod Going
 pub mod Handling

@@ -6,6 +6,7 @@ pub mod Driven
 pub mod Ends
 pub mod Facts
 pub mod Finding
+pub mod Finishing
 pub mod Fronts
 pub mod Heads
 pub mod Holding

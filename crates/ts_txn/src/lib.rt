@@ -10,6 +10,7 @@ mod block;
 mod bodies;
 mod driver;
 mod finding;
+mod finishing;
 mod making;
 mod origins;
 mod own;
