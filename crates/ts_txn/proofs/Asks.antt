@@ -19,10 +19,10 @@ use Rattle.ts_txn.specs.Heads.{HasRequest}
 use Rattle.ts_txn.specs.Own.{own_refusal}
 use Rattle.ts_txn.specs.Relayed.{asks_head}
 use Rattle.ts_txn.specs.Block.{IsBlock, VerdictSays, asked, no_head, own_block, silent, silent_block}
-use Rattle.ts_txn.specs.View.{HasFailed, Side, View}
+use Rattle.ts_txn.specs.View.{HasFailed, LinkSide, View}
 use Rattle.ts_txn.specs.Moving.{HearsRequest, SideReads}
 use Rattle.ts_txn.specs.Checking.{IsCheckedAs}
-use Rattle.ts_txn.specs.Facts.{Asking, Checked, ClientWaits, OwnReady, OwnCause, OriginTook, TookExactly, Untouched, decided}
+use Rattle.ts_txn.specs.Facts.{Asking, PassesCheck, ClientWaits, OwnReady, OwnCause, OriginTook, TookExactly, Untouched, decided}
 use Rattle.ts_txn.specs.Facts as facts
 use Rattle.ts_txn.specs.Ends.{AnyEnd, EndFact, HasText}
 use Rattle.ts_txn.specs.Ends as ends
@@ -37,7 +37,7 @@ use Rattle.ts_txn.proofs.OneSide.{quiet_as, read_count, read_failed, some_front}
 
 -- ---- a read
 
-asking_side : (t : Bool) (v : View) (s : Side) (p : Pulled) → t ≡ true → Asking v → SideReads t v.client s p → Asking (record v { client = s })
+asking_side : (t : Bool) (v : View) (s : LinkSide) (p : Pulled) → t ≡ true → Asking v → SideReads t v.client s p → Asking (record v { client = s })
 asking_side t v s p told a reads =
     let gives = reads.pulls.pulls.told told in
     record {
@@ -53,7 +53,7 @@ goes_on t v w p told a hears = subst Asking (sym hears.others) (asking_side t v 
 
 -- memory lacked
 pub stands : (t : Bool) (v w : View) → Asking v → HearsRequest t v w F.NoMemory → Asking w
-stands t v w a hears = subst Asking (sym (hears.others ∙ ap (λ (s : Side). record v { client = s }) hears.finds)) a
+stands t v w a hears = subst Asking (sym (hears.others ∙ ap (λ (s : LinkSide). record v { client = s }) hears.finds)) a
 
 -- ---- a head
 
@@ -90,11 +90,11 @@ heard_at v i head a has less = record {
 
 heard : (t : Bool) (v w : View) (head : RequestHead) → Asking v → HearsRequest t v w (F.Head head) → Heard w head
 heard t v w head a hears =
-    subst (λ (x : View). Heard x head) (sym (hears.others ∙ ap (λ (s : Side). record v { client = s }) hears.finds.2))
+    subst (λ (x : View). Heard x head) (sym (hears.others ∙ ap (λ (s : LinkSide). record v { client = s }) hears.finds.2))
     (heard_at v w.client.inbox head a hears.finds.0 hears.finds.1)
 
 -- it is a request
-pub passed : (t : Bool) (v w : View) (head : RequestHead) (q : Request) → Asking v → HearsRequest t v w (F.Head head) → IsCheckedAs head (C.Pass q) → Checked w q
+pub passed : (t : Bool) (v w : View) (head : RequestHead) (q : Request) → Asking v → HearsRequest t v w (F.Head head) → IsCheckedAs head (C.Pass q) → PassesCheck w q
 passed t v w head q a hears (is, passes) =
     let h = heard t v w head a hears in
     record {
@@ -109,7 +109,7 @@ passed t v w head q a hears (is, passes) =
     }
 
 -- what an untouched origin took
-took_none : (o : Side) → Untouched o → TookExactly [] o
+took_none : (o : LinkSide) → Untouched o → TookExactly [] o
 took_none o u = record { upload = []; text = u.no_taken; nothing = λ is. refl; no_waits = u.no_waits }
 
 -- an answer whose block has no request
@@ -152,7 +152,7 @@ pub never : (setup : Setup) (refuses : Type 0) (t : Bool) (v w : View) → Askin
     → OwnReady setup refuses w (record { status = O.BadRequest; to_head = false; end = E.Whole })
 never setup refuses t v w a hears =
     subst (λ (x : View). OwnReady setup refuses x (record { status = O.BadRequest; to_head = false; end = E.Whole }))
-    (sym (hears.others ∙ ap (λ (s : Side). record v { client = s }) hears.finds.1))
+    (sym (hears.others ∙ ap (λ (s : LinkSide). record v { client = s }) hears.finds.1))
     (no_request setup refuses v a (some_of v.client.inbox (some_bytes v.client.inbox hears.finds.0)) (hears.finds.0 v.client.look.left))
 
 -- the client has ended within a head

@@ -7,7 +7,7 @@ use Rattle.ts_link.specs.Link.{all_of}
 use Rattle.ts_vconn.specs.declared.moves.Pushed.{Pushed}
 use Rattle.ts_vconn.specs.declared.moves.Pushed.TheVariants as V
 use Rattle.ts_txn.specs.Block.{IsBlock, relayed_head}
-use Rattle.ts_txn.specs.View.{Side, View}
+use Rattle.ts_txn.specs.View.{LinkSide, View}
 use Rattle.ts_txn.specs.Moving.{SideWrites, WritesClient}
 use Rattle.ts_txn.specs.Facts.{OriginTook, Served}
 use Rattle.ts_txn.specs.Ends.{AnyEnd, EndFact, EndsBy, HasText, Relayed, SomeText}
@@ -34,7 +34,7 @@ module _ (setup : Setup) (refuses : Type 0) where
 
   -- ---- a write of what was queued
 
-  relayed_side : (t : Bool) (v : View) (s : Side) (p : Pushed) (done fin : Bool) (sent : List ℕ) → t ≡ true → SideWrites t v.client s p
+  relayed_side : (t : Bool) (v : View) (s : LinkSide) (p : Pushed) (done fin : Bool) (sent : List ℕ) → t ≡ true → SideWrites t v.client s p
       → all_of s.look ≡ all_of v.client.look → Relayed setup refuses v done fin sent → Relayed setup refuses (record v { client = s }) done fin sent
   relayed_side t v s p done fin sent told writes all h = record {
     q = h.q;
@@ -53,7 +53,7 @@ module _ (setup : Setup) (refuses : Type 0) where
     whole = h.whole;
   }
 
-  block_side : (t : Bool) (v : View) (s : Side) (p : Pushed) (end : TxnEnd) (fin : Bool) → t ≡ true → SideWrites t v.client s p
+  block_side : (t : Bool) (v : View) (s : LinkSide) (p : Pushed) (end : TxnEnd) (fin : Bool) → t ≡ true → SideWrites t v.client s p
       → all_of s.look ≡ all_of v.client.look → QueuesBlock setup refuses v end fin → QueuesBlock setup refuses (record v { client = s }) end fin
   block_side t v s p end fin told writes all h = record {
     block = h.block;
@@ -67,7 +67,7 @@ module _ (setup : Setup) (refuses : Type 0) where
     relayed = relayed_side t v s p fin fin h.sent told writes all h.relayed;
   }
 
-  queues_side : (t : Bool) (v : View) (s : Side) (p : Pushed) (end : TxnEnd) → t ≡ true → SideWrites t v.client s p
+  queues_side : (t : Bool) (v : View) (s : LinkSide) (p : Pushed) (end : TxnEnd) → t ≡ true → SideWrites t v.client s p
       → all_of s.look ≡ all_of v.client.look → QueuesFor setup refuses v end → QueuesFor setup refuses (record v { client = s }) end
   queues_side t v s p E.Whole told writes all q = block_side t v s p E.Whole true told writes all q
   queues_side t v s p E.OriginCut told writes all q = block_side t v s p E.OriginCut false told writes all q
@@ -77,7 +77,7 @@ module _ (setup : Setup) (refuses : Type 0) where
   queues_side t v s p E.ClientFault told writes all q = q
   queues_side t v s p E.NoMemory told writes all q = q
 
-  finishing_side : (t : Bool) (v : View) (s : Side) (p : Pushed) (end : TxnEnd) → t ≡ true → SideWrites t v.client s p → IsFinishing setup refuses v end
+  finishing_side : (t : Bool) (v : View) (s : LinkSide) (p : Pushed) (end : TxnEnd) → t ≡ true → SideWrites t v.client s p → IsFinishing setup refuses v end
       → IsFinishing setup refuses (record v { client = s }) end
   finishing_side t v s p end told writes h =
       let takes = writes.pushes.told told in

@@ -19,9 +19,9 @@ use Rattle.ts_txn.specs.Rules.{is_denied}
 use Rattle.ts_txn.specs.Heads.{AfterInterims, FinalHead, LacksFinal, PassesInterims}
 use Rattle.ts_txn.specs.Relayed.{asks_head}
 use Rattle.ts_txn.specs.Block.{DenySays, DialSays, IsBlock, VerdictSays, asked, own_block, request_text}
-use Rattle.ts_txn.specs.View.{HasCount, HasFailed, Side, View}
+use Rattle.ts_txn.specs.View.{HasCount, HasFailed, LinkSide, View}
 use Rattle.ts_txn.specs.Moving.{MovesBoth, MovesUpload, QueuesRequest, SideWrites, WritesOrigin}
-use Rattle.ts_txn.specs.Facts.{IsAllowed, CarriesRequest, Checked, Goes, IsUnanswered, Knows, OwnReady, SendingRequest, Uploading, fault}
+use Rattle.ts_txn.specs.Facts.{IsAllowed, CarriesRequest, PassesCheck, Goes, IsUnanswered, Knows, OwnReady, SendingRequest, Uploading, fault}
 use Rattle.ts_txn.specs.Facts as facts
 use Rattle.ts_txn.specs.Ends.{AnyEnd, EndFact}
 use Rattle.ts_txn.specs.Ends as ends
@@ -67,26 +67,26 @@ module _ (setup : Setup) (dialed : Bool) (refuses : Type 0) (o c : List ℕ) (q 
 
 -- ---- denied, without an origin, or on to it
 
-pub denied : (setup : Setup) (refuses : Type 0) (v : View) (q : Request) (a : OwnAnswer) (is : Bool) → Checked v q → is ≡ is_denied setup.plugins.items (plugin_host q.host) → is ≡ true
+pub denied : (setup : Setup) (refuses : Type 0) (v : View) (q : Request) (a : OwnAnswer) (is : Bool) → PassesCheck v q → is ≡ is_denied setup.plugins.items (plugin_host q.host) → is ≡ true
     → a ≡ record { status = O.Forbidden; to_head = asks_head q.head; end = E.Whole } → OwnReady setup refuses v a
 denied setup refuses v q a is h says so same =
     subst (λ (x : OwnAnswer). OwnReady setup refuses v x) (sym same)
     (untouched_own setup refuses v (record { status = O.Forbidden; to_head = asks_head q.head; end = E.Whole }) h.waits h.untouched refl
       (denied_block setup v.dialed refuses (all_of v.origin.look) (all_of v.client.look) q (own_block setup [] O.Forbidden (asks_head q.head)) h.knows (sym says ∙ so) refl))
 
-pub not_dialed : (setup : Setup) (refuses : Type 0) (v : View) (q : Request) (a : OwnAnswer) (is : Bool) → Checked v q → is ≡ is_denied setup.plugins.items (plugin_host q.host) → is ≡ false
+pub not_dialed : (setup : Setup) (refuses : Type 0) (v : View) (q : Request) (a : OwnAnswer) (is : Bool) → PassesCheck v q → is ≡ is_denied setup.plugins.items (plugin_host q.host) → is ≡ false
     → v.dialed ≡ false → a ≡ record { status = O.BadGateway; to_head = asks_head q.head; end = E.Whole } → OwnReady setup refuses v a
 not_dialed setup refuses v q a is h says allowed none same =
     subst (λ (x : OwnAnswer). OwnReady setup refuses v x) (sym same)
     (untouched_own setup refuses v (record { status = O.BadGateway; to_head = asks_head q.head; end = E.Whole }) h.waits h.untouched refl
       (no_origin_block setup v.dialed refuses (all_of v.origin.look) (all_of v.client.look) q (own_block setup [] O.BadGateway (asks_head q.head)) h.knows (sym says ∙ allowed) none refl))
 
-pub allowed : (setup : Setup) (v : View) (q : Request) (is : Bool) → Checked v q → is ≡ is_denied setup.plugins.items (plugin_host q.host) → is ≡ false
+pub allowed : (setup : Setup) (v : View) (q : Request) (is : Bool) → PassesCheck v q → is ≡ is_denied setup.plugins.items (plugin_host q.host) → is ≡ false
     → v.dialed ≡ true → IsAllowed setup v q
 allowed setup v q is h says free dialed =
     record { waits = h.waits; untouched = h.untouched; goes = record { knows = h.knows; allowed = sym says ∙ free; has_origin = dialed } }
 
-pub checked_any : (setup : Setup) (refuses : Type 0) (v : View) (q : Request) → Checked v q → AnyEnd setup refuses v
+pub checked_any : (setup : Setup) (refuses : Type 0) (v : View) (q : Request) → PassesCheck v q → AnyEnd setup refuses v
 checked_any setup refuses v q h = record { took = facts.nothing h.untouched.no_taken h.untouched.no_waits; text = ends.quiet h.waits.quiet }
 
 -- ---- the head is queued
@@ -116,7 +116,7 @@ queued setup v w q text h is queues =
 
 -- ---- the head is written
 
-writes_at : (setup : Setup) (t : Bool) (v : View) (s : Side) (p : Pushed) (q : Request) → t ≡ true → SendingRequest setup v q → SideWrites t v.origin s p
+writes_at : (setup : Setup) (t : Bool) (v : View) (s : LinkSide) (p : Pushed) (q : Request) → t ≡ true → SendingRequest setup v q → SideWrites t v.origin s p
     → SendingRequest setup (record v { origin = s }) q
 writes_at setup t v s p q told h writes =
     let takes = writes.pushes.told told in

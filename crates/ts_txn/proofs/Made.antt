@@ -13,7 +13,7 @@ use Rattle.ts_txn.specs.Cover.{Idles, HasNextEventOr, Seated}
 use Rattle.ts_txn.specs.Holding.{PhaseFact}
 use Rattle.ts_txn.specs.Facts.{Asking, Untouched}
 use Rattle.ts_txn.specs.Making.{ArePaired, IsMadeOf, IsMadeOfIf, IsNewLink, IsNewLinkIf}
-use Rattle.ts_txn.specs.View.{IsPaired, OriginRefuses, PairIf, Side, View, no_side, side, side_if, view_of}
+use Rattle.ts_txn.specs.View.{IsPaired, OriginRefuses, PairIf, LinkSide, View, no_side, side, side_if, view_of}
 use Rattle.ts_txn.specs.World.{IsSoundTxn, IsSoundTxnGroup}
 use Rattle.ts_txn.specs.declared.parts.Core.{Core}
 use Rattle.ts_txn.specs.declared.parts.Peer.{Peer}

@@ -5,7 +5,7 @@ use Rattle.ts_link.specs.Link.{MayReplace, all_of}
 use Rattle.ts_vconn.specs.declared.moves.Pulled.{Pulled}
 use Rattle.ts_vconn.specs.declared.moves.Pushed.{Pushed}
 use Rattle.ts_vconn.specs.MoveAnswers.{pull_failed, push_failed}
-use Rattle.ts_txn.specs.View.{HasCount, HasFailed, Side}
+use Rattle.ts_txn.specs.View.{HasCount, HasFailed, LinkSide}
 use Rattle.ts_txn.specs.Moving.{SideReads, SideWrites}
 use Rattle.ts_txn.specs.Facts.{ClientWaits, Quiet}
 use Rattle.ts_txn.specs.declared.parts.Sent.{Sent}
@@ -18,20 +18,20 @@ pub failed : (base old new : ℕ) → Rose old new → base ≤ old → Rose bas
 failed base old new rose kept = omega (arith, rose, kept)
 
 -- the count does not fall, and rises at a fault
-pub read_count : (t : Bool) (s r : Side) (p : Pulled) → SideReads t s r p → HasCount s → HasCount r
+pub read_count : (t : Bool) (s r : LinkSide) (p : Pulled) → SideReads t s r p → HasCount s → HasCount r
 read_count t s r p reads kept =
     subst (λ (n : ℕ). n ≤ r.look.faults) (sym reads.base) (grown (pull_failed p) s.base s.look.faults r.look.faults reads.pulls.pulls.calls.faults kept)
 
-pub write_count : (t : Bool) (s r : Side) (p : Pushed) → SideWrites t s r p → HasCount s → HasCount r
+pub write_count : (t : Bool) (s r : LinkSide) (p : Pushed) → SideWrites t s r p → HasCount s → HasCount r
 write_count t s r p writes kept =
     subst (λ (n : ℕ). n ≤ r.look.faults) (sym writes.base) (grown (push_failed p) s.base s.look.faults r.look.faults writes.pushes.calls.faults kept)
 
-pub read_failed : (t : Bool) (s r : Side) (p : Pulled) → pull_failed p ≡ true → SideReads t s r p → HasCount s → HasFailed r
+pub read_failed : (t : Bool) (s r : LinkSide) (p : Pulled) → pull_failed p ≡ true → SideReads t s r p → HasCount s → HasFailed r
 read_failed t s r p is reads kept =
     let rose : Rose s.look.faults r.look.faults = subst (λ (b : Bool). Counted b s.look.faults r.look.faults) is reads.pulls.pulls.calls.faults in
     subst (λ (n : ℕ). Rose n r.look.faults) (sym reads.base) (failed s.base s.look.faults r.look.faults rose kept)
 
-pub write_failed : (t : Bool) (s r : Side) (p : Pushed) → push_failed p ≡ true → SideWrites t s r p → HasCount s → HasFailed r
+pub write_failed : (t : Bool) (s r : LinkSide) (p : Pushed) → push_failed p ≡ true → SideWrites t s r p → HasCount s → HasFailed r
 write_failed t s r p is writes kept =
     let rose : Rose s.look.faults r.look.faults = subst (λ (b : Bool). Counted b s.look.faults r.look.faults) is writes.pushes.calls.faults in
     subst (λ (n : ℕ). Rose n r.look.faults) (sym writes.base) (failed s.base s.look.faults r.look.faults rose kept)
@@ -45,7 +45,7 @@ pub some_front : (xs ys : List ℕ) → xs ≢ [] → xs ++ ys ≢ []
 some_front [] ys some is = some refl
 some_front (x ∷ xs) ys some is = absurd (let wrong : ◌≡◌ {A = List ℕ} (x ∷ (xs ++ ys)) [] = is in cc)
 
-pub quiet_as : (c d : Side) (s : Sent) → d.look.taken ≡ c.look.taken → d.outbox ≡ c.outbox → Quiet c s → Quiet d s
+pub quiet_as : (c d : LinkSide) (s : Sent) → d.look.taken ≡ c.look.taken → d.outbox ≡ c.outbox → Quiet c s → Quiet d s
 quiet_as c d s taken waits q = record {
   no_taken = taken ∙ q.no_taken;
   no_waits = waits ∙ q.no_waits;

@@ -14,7 +14,7 @@ use Rattle.ts_wire.specs.declared.frames.Mode.TheVariants as M
 use Rattle.ts_wire.specs.Frames.{cut_body, frames, IsPiece}
 use Rattle.ts_txn.specs.Own.{own_body, own_sent}
 use Rattle.ts_txn.specs.Block.{own_block, own_text}
-use Rattle.ts_txn.specs.View.{HasFailed, Side, View}
+use Rattle.ts_txn.specs.View.{HasFailed, LinkSide, View}
 use Rattle.ts_txn.specs.Moving.{cuts_of, QueuesOwn, SideWrites, WritesClient}
 use Rattle.ts_txn.specs.Facts.{HasOwnCause, HasOwnText, OwnCause, OwnReady, OwnSends, OriginTook, decided, fault}
 use Rattle.ts_txn.specs.Ends.{AnyEnd, EndFact, EndsBy, HasText}
@@ -89,7 +89,7 @@ module _ (setup : Setup) (refuses : Type 0) where
       let all : v.client.look.taken ++ (v.client.outbox ++ (head ++ body)) ≡ own_text setup a.status ++ own_sent a.to_head a.status =
           λ i. quiet.no_taken i ++ (quiet.no_waits i ++ (head_is i ++ body_is i)) in
       record {
-        text = ap (λ (s : Side). s.look.taken ++ s.outbox) queues.client ∙ all;
+        text = ap (λ (s : LinkSide). s.look.taken ++ s.outbox) queues.client ∙ all;
         head = queues.head_is ∙ ap length head_is;
         plain = queues.plain;
         cuts = queues.cuts ∙ ap cuts_of body_is;
@@ -98,17 +98,17 @@ module _ (setup : Setup) (refuses : Type 0) where
   pub queues : (v w : View) (a : OwnAnswer) (head body : List ℕ) → OwnReady setup refuses v a → QueuesOwn head body v w → head ≡ own_text setup a.status
       → body ≡ own_sent a.to_head a.status → OwnSends setup refuses w a
   queues v w a head body h q head_is body_is =
-      let look : w.client.look ≡ v.client.look = ap (λ (s : Side). s.look) q.client in
+      let look : w.client.look ≡ v.client.look = ap (λ (s : LinkSide). s.look) q.client in
       let all : all_of w.client.look ≡ all_of v.client.look = ap all_of look in
       record {
-        count = subst (λ (s : Side). s.base ≤ s.look.faults) (sym q.client) h.waits.count;
+        count = subst (λ (s : LinkSide). s.base ≤ s.look.faults) (sym q.client) h.waits.count;
         some = λ e. h.waits.some (sym (ap (λ (l : Look). l.given) look) ∙ e);
         cause = subst (λ (c : List ℕ). OwnCause setup refuses c w.dialed w.origin a) (sym all)
             (subst (λ (d : Bool). OwnCause setup refuses (all_of v.client.look) d w.origin a) (sym q.dialed)
-            (subst (λ (s : Side). OwnCause setup refuses (all_of v.client.look) v.dialed s a) (sym q.origin) h.cause));
+            (subst (λ (s : LinkSide). OwnCause setup refuses (all_of v.client.look) v.dialed s a) (sym q.origin) h.cause));
         took = subst (λ (c : List ℕ). OriginTook setup c w.dialed w.origin) (sym all)
             (subst (λ (d : Bool). OriginTook setup (all_of v.client.look) d w.origin) (sym q.dialed)
-            (subst (λ (s : Side). OriginTook setup (all_of v.client.look) v.dialed s) (sym q.origin) h.took));
+            (subst (λ (s : LinkSide). OriginTook setup (all_of v.client.look) v.dialed s) (sym q.origin) h.took));
         text = queued_at v w a head body h q head_is body_is;
       }
 
@@ -118,7 +118,7 @@ module _ (setup : Setup) (refuses : Type 0) where
 
   -- ---- a write of it
 
-  sends_side : (t : Bool) (v : View) (s : Side) (p : Pushed) (a : OwnAnswer) → t ≡ true → OwnSends setup refuses v a → SideWrites t v.client s p
+  sends_side : (t : Bool) (v : View) (s : LinkSide) (p : Pushed) (a : OwnAnswer) → t ≡ true → OwnSends setup refuses v a → SideWrites t v.client s p
       → OwnSends setup refuses (record v { client = s }) a
   sends_side t v s p a told h writes =
       let takes = writes.pushes.told told in

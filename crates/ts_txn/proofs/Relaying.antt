@@ -1,5 +1,5 @@
 -- A body that is passed on: what a write to the client, a read of the origin and a piece that is framed leave of it.
-use Rattle.std.proofs.Common.{◌≡◌, ◌≢◌, ℕ, ◌<◌, ◌≤◌, List, [], ◌∷◌, ◌++◌, map, length, Bool, true, false, refl, sym, ap, subst, ◌∙◌, append_assoc}
+use Rattle.std.proofs.Common.{◌≡◌, ◌≢◌, ℕ, ◌<◌, ◌≤◌, List, [], ◌∷◌, ◌++◌, map, length, take, Bool, true, false, refl, sym, ap, subst, ◌∙◌, append_assoc}
 use Rattle.std.specs.Prelude.{All, flat_map}
 use Rattle.std.specs.Bool.{OnTrue}
 use Rattle.std.proofs.lemmas.List.{append-nil, map-append}
@@ -8,33 +8,35 @@ use Rattle.std.proofs.lemmas.Grind.{flat_map-append}
 use Rattle.ts_config.specs.declared.setup.Setup.{Setup}
 use Rattle.ts_config.specs.declared.setup.TransformLine.{TransformLine}
 use Rattle.ts_config.specs.Bodies.{compose_lines}
+use Rattle.ts_hooks.specs.declared.txn_end.TxnEnd.TheVariants as E
 use Rattle.ts_link.specs.Link.{all_of}
-use Rattle.ts_transform.specs.Flow.{ChainState, flow, flow_from}
+use Rattle.ts_transform.specs.Flow.{ChainState, TakesAway, client_wait, flow, flow_from}
 use Rattle.ts_vconn.specs.declared.moves.Pulled.{Pulled}
 use Rattle.ts_vconn.specs.declared.moves.Pushed.{Pushed}
+use Rattle.ts_vconn.specs.declared.moves.Pushed.TheVariants as V
 use Rattle.ts_wire.specs.declared.frames.Mode.{Mode}
 use Rattle.ts_wire.specs.declared.heads.ResponseHead.{ResponseHead}
 use Rattle.ts_wire.specs.Frames.{IsPiece, cut_body, end_of, frame_of, frames}
 use Rattle.ts_wire.specs.Place.{Place}
 use Rattle.ts_txn.specs.Block.{body_lines, relayed_head}
 use Rattle.ts_txn.specs.Heads.{FinalHead}
-use Rattle.ts_txn.specs.View.{Side, View}
+use Rattle.ts_txn.specs.View.{LinkSide, View}
 use Rattle.ts_txn.specs.Moving.{SideReads, SideWrites, WritesClient}
-use Rattle.ts_txn.specs.RelayMoves.{AddsText, QueuesText, FramesEnd, FramesPiece, QueuesNothing, ReadsOrigin}
+use Rattle.ts_txn.specs.RelayMoves.{QueuesText, FramesEnd, FramesPiece, QueuesNothing, ReadsOrigin}
 use Rattle.ts_txn.specs.Facts as facts
-use Rattle.ts_txn.specs.Ends.{AnyEnd, HasText, IsFrontThrough, Relayed}
+use Rattle.ts_txn.specs.Ends.{AnyEnd, EndFact, HasText, IsFrontThrough, Relayed}
 use Rattle.ts_txn.specs.Ends as ends
-use Rattle.ts_txn.specs.Relaying.{GivesEnd, ReadsBody, RelaysBody, SendsBody}
+use Rattle.ts_txn.specs.Relaying.{GivesEnd, ReadsBody, RelaysBody}
 use Rattle.ts_txn.specs.declared.parts.Sent.{Sent}
 use Rattle.ts_txn.specs.declared.phase.Request.{Request}
-use Rattle.ts_txn.proofs.OneSide.{read_count, write_count}
+use Rattle.ts_txn.proofs.OneSide.{read_count, write_count, write_failed}
 use Rattle.ts_txn.proofs.Owns.{all_took}
 use Rattle.ts_txn.proofs.Responding.{final_more, served_as}
 
 -- ---- the client's text
 
 -- a write takes a front of it
-pub text_written : (t : Bool) (c s : Side) (p : Pushed) (sent : Sent) (head body : List ℕ) (fin : Bool) → t ≡ true → SideWrites t c s p
+pub text_written : (t : Bool) (c s : LinkSide) (p : Pushed) (sent : Sent) (head body : List ℕ) (fin : Bool) → t ≡ true → SideWrites t c s p
     → HasText c sent head body fin → HasText s sent head body fin
 text_written t c s p sent head body fin told writes h = record {
   pieces = h.pieces;
@@ -46,7 +48,7 @@ text_written t c s p sent head body fin told writes h = record {
 }
 
 -- nothing but the two sides of a text speaks of it
-text_as : (c s : Side) (a b : Sent) (head body : List ℕ) (fin : Bool) → s.look.taken ≡ c.look.taken → s.outbox ≡ c.outbox → b.head ≡ a.head → b.mode ≡ a.mode
+text_as : (c s : LinkSide) (a b : Sent) (head body : List ℕ) (fin : Bool) → s.look.taken ≡ c.look.taken → s.outbox ≡ c.outbox → b.head ≡ a.head → b.mode ≡ a.mode
     → b.cuts.items ≡ a.cuts.items → HasText c a head body fin → HasText s b head body fin
 text_as c s a b head body fin taken waits head_is mode cuts h = record {
   pieces = h.pieces;
@@ -72,7 +74,7 @@ cut_more pieces piece = flat_map-append (λ (p : List ℕ). p) pieces (piece ∷
 text_framed : (v w : View) (head body piece : List ℕ) → FramesPiece piece v w → IsPiece piece → HasText v.client v.sent head body false
     → HasText w.client w.sent head (body ++ piece) false
 text_framed v w head body piece f is h =
-    let taken : w.client.look.taken ≡ v.client.look.taken = ap (λ (s : Side). s.look.taken) f.client in
+    let taken : w.client.look.taken ≡ v.client.look.taken = ap (λ (s : LinkSide). s.look.taken) f.client in
     record {
       pieces = h.pieces ++ piece ∷ [];
       each = All-append IsPiece h.pieces (piece ∷ []) h.each (All-cons IsPiece piece [] is (All-nil IsPiece));
@@ -94,7 +96,7 @@ ended_more mode pieces = ap (λ (x : List ℕ). x ++ end_of mode) (append-nil (f
 
 pub text_ended : (v w : View) (head body : List ℕ) → FramesEnd v w → HasText v.client v.sent head body false → HasText w.client w.sent head body true
 text_ended v w head body f h =
-    let taken : w.client.look.taken ≡ v.client.look.taken = ap (λ (s : Side). s.look.taken) f.client in
+    let taken : w.client.look.taken ≡ v.client.look.taken = ap (λ (s : LinkSide). s.look.taken) f.client in
     record {
       pieces = h.pieces;
       each = h.each;
@@ -123,14 +125,14 @@ front_by : (b : Bool) (lines : List TransformLine) (read body : List ℕ) (next 
 front_by true lines read body next flows = (next [], flows [] refl ∙ ap (compose_lines lines) (append-nil read))
 front_by false lines read body next flows = λ more. (next more, flows more tt)
 
-module _ (setup : Setup) (refuses : Type 0) (q : Request) (h : ResponseHead) where
+module _ (setup : Setup) (refuses : Type 0) where
 
   -- the chain may be dropped at any time
-  pub relays_relayed : {P : Type 0} (rest : P → List ℕ → List ℕ) (v : View) (c : ChainState P) (place : Place) (r : RelaysBody setup refuses q h rest v c place)
+  pub relays_relayed : {P : Type 0} (rest : P → List ℕ → List ℕ) (v : View) (c : ChainState P) (place : Place) (r : RelaysBody setup refuses rest v c place)
       → Relayed setup refuses v c.given false r.sends.body
   relays_relayed rest v c place r = record {
-    q = q;
-    h = h;
+    q = r.q;
+    h = r.h;
     served = r.reads.served;
     good = r.reads.good;
     fed = r.reads.fed;
@@ -141,47 +143,118 @@ module _ (setup : Setup) (refuses : Type 0) (q : Request) (h : ResponseHead) whe
     over = r.gives_end.ended;
     mode = r.sends.mode;
     text = r.sends.text;
-    front = front_by c.given (body_lines setup q.head h) r.read r.sends.body (flow rest c) r.sends.flows;
+    front = front_by c.given (body_lines setup r.q.head r.h) r.read r.sends.body (flow rest c) r.sends.flows;
     whole = λ fin. absurd (let wrong : false ≡ true = fin in cc);
   }
 
-  pub relays_any : {P : Type 0} (rest : P → List ℕ → List ℕ) (v : View) (c : ChainState P) (place : Place) → RelaysBody setup refuses q h rest v c place
+  pub relays_any : {P : Type 0} (rest : P → List ℕ → List ℕ) (v : View) (c : ChainState P) (place : Place) → RelaysBody setup refuses rest v c place
       → AnyEnd setup refuses v
   relays_any rest v c place r = record {
-    took = facts.request q r.reads.served.goes r.reads.served.carries;
+    took = facts.request r.q r.reads.served.goes r.reads.served.carries;
     text = ends.relayed c.given false r.sends.body (relays_relayed rest v c place r);
   }
 
+  pub relays_lacks : {P : Type 0} (rest : P → List ℕ → List ℕ) (v : View) (c : ChainState P) (place : Place) → RelaysBody setup refuses rest v c place
+      → EndFact setup refuses v E.NoMemory
+  relays_lacks rest v c place r = record { any = relays_any rest v c place r; by = tt }
+
   -- ---- a write of what waits for the client
 
-  writes_side : {P : Type 0} (rest : P → List ℕ → List ℕ) (t : Bool) (v : View) (s : Side) (p : Pushed) (c : ChainState P) (place : Place) → t ≡ true
-      → SideWrites t v.client s p → RelaysBody setup refuses q h rest v c place → RelaysBody setup refuses q h rest (record v { client = s }) c place
+  writes_side : {P : Type 0} (rest : P → List ℕ → List ℕ) (t : Bool) (v : View) (s : LinkSide) (p : Pushed) (c : ChainState P) (place : Place) → t ≡ true
+      → SideWrites t v.client s p → RelaysBody setup refuses rest v c place → RelaysBody setup refuses rest (record v { client = s }) c place
   writes_side rest t v s p c place told writes r =
       let takes = writes.pushes.told told in
       record {
+        q = r.q;
+        h = r.h;
         read = r.read;
-        reads = subst (λ (b : List ℕ). ReadsBody setup refuses q h b v.dialed v.origin place r.read) (sym (all_took v.client.look s.look _ r.sends.some takes)) r.reads;
+        reads = subst (λ (b : List ℕ). ReadsBody setup refuses r.q r.h b v.dialed v.origin place r.read) (sym (all_took v.client.look s.look _ r.sends.some takes)) r.reads;
         gives_end = r.gives_end;
         sends = record {
           count = write_count t v.client s p writes r.sends.count;
           some = λ e. r.sends.some (sym takes.given ∙ e);
           mode = r.sends.mode;
           body = r.sends.body;
-          text = text_written t v.client s p v.sent (relayed_head setup q.head h) r.sends.body false told writes r.sends.text;
+          text = text_written t v.client s p v.sent (relayed_head setup r.q.head r.h) r.sends.body false told writes r.sends.text;
           flows = r.sends.flows;
         };
       }
 
   pub writes_on : {P : Type 0} (rest : P → List ℕ → List ℕ) (t : Bool) (v w : View) (p : Pushed) (c : ChainState P) (place : Place) → t ≡ true
-      → WritesClient t v w p → RelaysBody setup refuses q h rest v c place → RelaysBody setup refuses q h rest w c place
+      → WritesClient t v w p → RelaysBody setup refuses rest v c place → RelaysBody setup refuses rest w c place
   writes_on rest t v w p c place told writes r =
-      subst (λ (x : View). RelaysBody setup refuses q h rest x c place) (sym writes.others) (writes_side rest t v w.client p c place told writes.client r)
+      subst (λ (x : View). RelaysBody setup refuses rest x c place) (sym writes.others) (writes_side rest t v w.client p c place told writes.client r)
+
+  pub writes_lacks : {P : Type 0} (rest : P → List ℕ → List ℕ) (t : Bool) (v w : View) (p : Pushed) (c : ChainState P) (place : Place) → t ≡ true
+      → WritesClient t v w p → RelaysBody setup refuses rest v c place → EndFact setup refuses w E.NoMemory
+  writes_lacks rest t v w p c place told writes r = relays_lacks rest w c place (writes_on rest t v w p c place told writes r)
+
+  -- the client's link failed
+  pub writes_left : {P : Type 0} (rest : P → List ℕ → List ℕ) (t : Bool) (v w : View) (c : ChainState P) (place : Place) → t ≡ true
+      → WritesClient t v w V.Failed → RelaysBody setup refuses rest v c place → EndFact setup refuses w E.ClientFault
+  writes_left rest t v w c place told writes r = record {
+    any = relays_any rest w c place (writes_on rest t v w V.Failed c place told writes r);
+    by = write_failed t v.client w.client V.Failed refl writes.client r.sends.count;
+  }
+
+  -- ---- a text that is queued for the client
+
+  -- whatever is queued, of the rest nothing changed
+  queued_reads : (text cuts : List ℕ) (v w : View) (q : Request) (h : ResponseHead) (place : Place) (read : List ℕ) → QueuesText text cuts v w
+      → ReadsBody setup refuses q h (all_of v.client.look) v.dialed v.origin place read → ReadsBody setup refuses q h (all_of w.client.look) w.dialed w.origin place read
+  queued_reads text cuts v w q h place read f r =
+      subst (λ (c : List ℕ). ReadsBody setup refuses q h c w.dialed w.origin place read) (sym (ap (λ (s : LinkSide). all_of s.look) f.client))
+      (subst (λ (d : Bool). ReadsBody setup refuses q h (all_of v.client.look) d w.origin place read) (sym f.dialed)
+      (subst (λ (o : LinkSide). ReadsBody setup refuses q h (all_of v.client.look) v.dialed o place read) (sym f.origin) r))
+
+  -- a piece of what the chain gave
+  pub frames_on : {P : Type 0} (rest : P → List ℕ → List ℕ) (v w : View) (c d : ChainState P) (place : Place) (piece : List ℕ) (n : ℕ) → FramesPiece piece v w
+      → IsPiece piece → TakesAway rest n c d → piece ≡ take n (client_wait c) → RelaysBody setup refuses rest v c place → RelaysBody setup refuses rest w d place
+  frames_on rest v w c d place piece n f is takes same r = record {
+    q = r.q;
+    h = r.h;
+    read = r.read;
+    reads = queued_reads (frame_of v.sent.mode piece) (length piece ∷ []) v w r.q r.h place r.read f r.reads;
+    gives_end = subst (λ (o : LinkSide). GivesEnd setup refuses r.q r.h o place d.given) (sym f.origin)
+        (subst (λ (b : Bool). GivesEnd setup refuses r.q r.h v.origin place b) (sym takes.given) r.gives_end);
+    sends = record {
+      count = subst (λ (s : LinkSide). s.base ≤ s.look.faults) (sym f.client) r.sends.count;
+      some = λ e. r.sends.some (sym (ap (λ (s : LinkSide). s.look.given) f.client) ∙ e);
+      mode = f.adds.mode ∙ r.sends.mode;
+      body = r.sends.body ++ piece;
+      text = text_framed v w (relayed_head setup r.q.head r.h) r.sends.body piece f is r.sends.text;
+      flows = λ z last. append_assoc r.sends.body piece (flow rest d z)
+          ∙ ap (λ (x : List ℕ). r.sends.body ++ (x ++ flow rest d z)) same
+          ∙ ap (λ (x : List ℕ). r.sends.body ++ x) (sym (takes.flow z))
+          ∙ r.sends.flows z (subst (λ (b : Bool). OnTrue b (z ≡ [])) takes.given last);
+    };
+  }
+
+  -- memory lacked for it
+  pub frames_lacks : {P : Type 0} (rest : P → List ℕ → List ℕ) (v w : View) (c : ChainState P) (place : Place) → QueuesNothing v w
+      → RelaysBody setup refuses rest v c place → EndFact setup refuses w E.NoMemory
+  frames_lacks rest v w c place f r = relays_lacks rest w c place (record {
+    q = r.q;
+    h = r.h;
+    read = r.read;
+    reads = queued_reads [] [] v w r.q r.h place r.read f r.reads;
+    gives_end = subst (λ (o : LinkSide). GivesEnd setup refuses r.q r.h o place c.given) (sym f.origin) r.gives_end;
+    sends = record {
+      count = subst (λ (s : LinkSide). s.base ≤ s.look.faults) (sym f.client) r.sends.count;
+      some = λ e. r.sends.some (sym (ap (λ (s : LinkSide). s.look.given) f.client) ∙ e);
+      mode = f.adds.mode ∙ r.sends.mode;
+      body = r.sends.body;
+      text = text_as v.client w.client v.sent w.sent (relayed_head setup r.q.head r.h) r.sends.body false (ap (λ (s : LinkSide). s.look.taken) f.client)
+          (f.adds.outbox ∙ append-nil v.client.outbox) f.adds.head f.adds.mode (f.adds.cuts_are ∙ append-nil v.sent.cuts.items) r.sends.text;
+      flows = r.sends.flows;
+    };
+  })
 
   -- ---- a read of the origin
 
-  reads_side : (t : Bool) (c : List ℕ) (dialed : Bool) (o s : Side) (p : Pulled) (place : Place) (read : List ℕ) → t ≡ true → SideReads t o s p
-      → ReadsBody setup refuses q h c dialed o place read → ReadsBody setup refuses q h c dialed s place read
-  reads_side t c dialed o s p place read told reads r =
+  reads_side : (t : Bool) (c : List ℕ) (q : Request) (h : ResponseHead) (dialed : Bool) (o s : LinkSide) (p : Pulled) (place : Place) (read : List ℕ) → t ≡ true
+      → SideReads t o s p → ReadsBody setup refuses q h c dialed o place read → ReadsBody setup refuses q h c dialed s place read
+  reads_side t c q h dialed o s p place read told reads r =
       let gives = reads.pulls.pulls.told told in
       record {
         served = served_as setup refuses c q dialed o s (read_count t o s p reads r.served.count) gives.taken reads.outbox r.served;
@@ -196,12 +269,14 @@ module _ (setup : Setup) (refuses : Type 0) (q : Request) (h : ResponseHead) whe
 
   -- it is made before the chain's end was given
   pub reads_on : {P : Type 0} (rest : P → List ℕ → List ℕ) (t : Bool) (v w : View) (p : Pulled) (c : ChainState P) (place : Place) → t ≡ true → c.given ≡ false
-      → ReadsOrigin t v w p → RelaysBody setup refuses q h rest v c place → RelaysBody setup refuses q h rest w c place
+      → ReadsOrigin t v w p → RelaysBody setup refuses rest v c place → RelaysBody setup refuses rest w c place
   reads_on rest t v w p c place told going reads r =
-      subst (λ (x : View). RelaysBody setup refuses q h rest x c place) (sym reads.others)
+      subst (λ (x : View). RelaysBody setup refuses rest x c place) (sym reads.others)
       (record {
+        q = r.q;
+        h = r.h;
         read = r.read;
-        reads = reads_side t (all_of v.client.look) v.dialed v.origin w.origin p place r.read told reads.origin r.reads;
+        reads = reads_side t (all_of v.client.look) r.q r.h v.dialed v.origin w.origin p place r.read told reads.origin r.reads;
         gives_end = record { ended = λ given. absurd (let wrong : true ≡ false = sym given ∙ going in cc); goes_on = r.gives_end.goes_on };
         sends = r.sends;
       })

@@ -13,7 +13,7 @@ use Rattle.ts_wire.specs.Heads.{LacksResponse}
 use Rattle.ts_txn.specs.Heads.{AfterInterims, FinalHead, HasResponse, LacksFinal, PassesInterims, is_interim, is_refused_status}
 use Rattle.ts_txn.specs.Relayed.{asks_head, framing_of}
 use Rattle.ts_txn.specs.Block.{IsGood, LacksAnswer, bad_status, faulty, lacking, no_final, own_block, request_text}
-use Rattle.ts_txn.specs.View.{HasFailed, Side, View}
+use Rattle.ts_txn.specs.View.{HasFailed, LinkSide, View}
 use Rattle.ts_txn.specs.Moving.{HearsResponse, SideReads}
 use Rattle.ts_txn.specs.Facts.{Awaits, ClientWaits, OwnReady, Relays, Served, decided, fault}
 use Rattle.ts_txn.specs.Facts as facts
@@ -55,7 +55,7 @@ final_more bytes h rest more f = record {
 module _ (setup : Setup) (refuses : Type 0) where
 
   -- the origin keeps what it took, and what waits for it
-  pub served_as : (c : List ℕ) (q : Request) (dialed : Bool) (o s : Side) → s.base ≤ s.look.faults → s.look.taken ≡ o.look.taken → s.outbox ≡ o.outbox
+  pub served_as : (c : List ℕ) (q : Request) (dialed : Bool) (o s : LinkSide) → s.base ≤ s.look.faults → s.look.taken ≡ o.look.taken → s.outbox ≡ o.outbox
       → Served setup refuses c q dialed o → Served setup refuses c q dialed s
   served_as c q dialed o s count taken waits h = record {
     goes = h.goes;
@@ -85,7 +85,7 @@ module _ (setup : Setup) (refuses : Type 0) where
 
   module _ (t : Bool) (v w : View) (q : Request) (told : t ≡ true) (h : Awaits setup refuses v q) where
 
-    awaits_at : (s : Side) (p : Pulled) → SideReads t v.origin s p → Awaits setup refuses (record v { origin = s }) q
+    awaits_at : (s : LinkSide) (p : Pulled) → SideReads t v.origin s p → Awaits setup refuses (record v { origin = s }) q
     awaits_at s p reads =
         let gives = reads.pulls.pulls.told told in
         record {
@@ -102,7 +102,7 @@ module _ (setup : Setup) (refuses : Type 0) where
 
     -- memory lacked
     pub awaits_still : HearsResponse t v w F.NoMemory → Awaits setup refuses w q
-    awaits_still hears = subst (λ (x : View). Awaits setup refuses x q) (sym (hears.others ∙ ap (λ (s : Side). record v { origin = s }) hears.finds)) h
+    awaits_still hears = subst (λ (x : View). Awaits setup refuses x q) (sym (hears.others ∙ ap (λ (s : LinkSide). record v { origin = s }) hears.finds)) h
 
     -- ---- a head
 
@@ -118,7 +118,7 @@ module _ (setup : Setup) (refuses : Type 0) where
 
     responds : (head : ResponseHead) → HearsResponse t v w (F.Head head) → Responds w q head
     responds head hears =
-        subst (λ (x : View). Responds x q head) (sym (hears.others ∙ ap (λ (s : Side). record v { origin = s }) hears.finds.2))
+        subst (λ (x : View). Responds x q head) (sym (hears.others ∙ ap (λ (s : LinkSide). record v { origin = s }) hears.finds.2))
         (responds_at w.origin.inbox head hears.finds.0)
 
     -- an interim one
@@ -170,8 +170,8 @@ module _ (setup : Setup) (refuses : Type 0) where
     -- no head can come
     pub no_head : (a : OwnAnswer) → HearsResponse t v w F.Never → a ≡ record { status = O.BadGateway; to_head = asks_head q.head; end = E.Whole } → OwnReady setup refuses w a
     no_head a hears same =
-        let now = subst (λ (x : View). Awaits setup refuses x q) (sym (hears.others ∙ ap (λ (s : Side). record v { origin = s }) hears.finds.1)) h in
-        let lacks = subst (λ (s : Side). (more : List ℕ) → LacksResponse (s.inbox ++ more)) (sym hears.finds.1) hears.finds.0 in
+        let now = subst (λ (x : View). Awaits setup refuses x q) (sym (hears.others ∙ ap (λ (s : LinkSide). record v { origin = s }) hears.finds.1)) h in
+        let lacks = subst (λ (s : LinkSide). (more : List ℕ) → LacksResponse (s.inbox ++ more)) (sym hears.finds.1) hears.finds.0 in
         answers_502 a now.waits now.served
         (no_final (lacks_final (all_of w.origin.look) (w.origin.inbox ++ w.origin.look.left)
           (passes_more w.origin.look.given w.origin.inbox w.origin.look.left now.passed) (lacks w.origin.look.left))) same

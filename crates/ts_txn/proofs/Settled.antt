@@ -9,7 +9,7 @@ use Rattle.ts_wire.specs.Check.{check}
 use Rattle.ts_wire.specs.declared.heads.RequestHead.{RequestHead}
 use Rattle.ts_wire.specs.declared.heads.ResponseHead.{ResponseHead}
 use Rattle.ts_txn.specs.Block.{DenySays, DialSays, IsBlock, VerdictSays, asked, no_head, silent}
-use Rattle.ts_txn.specs.View.{OriginRefuses, Side, View, refuses_if, view_of}
+use Rattle.ts_txn.specs.View.{OriginRefuses, LinkSide, View, refuses_if, view_of}
 use Rattle.ts_txn.specs.Facts.{Awaits, OwnCause, OwnReady, OwnSends, Relays, Served, decided, fault}
 use Rattle.ts_txn.specs.Ends.{AnyEnd, EndFact, EndsBy, FaultText, HasBlock, Relayed, SomeText}
 use Rattle.ts_txn.specs.Ends as ends
@@ -47,10 +47,10 @@ module _ (setup : Setup) (R S : Type 0) (to : R → S) (from : S → R) where
 
   -- ---- the facts
 
-  served : (c : List ℕ) (q : Request) (dialed : Bool) (o : Side) → Served setup R c q dialed o → Served setup S c q dialed o
+  served : (c : List ℕ) (q : Request) (dialed : Bool) (o : LinkSide) → Served setup R c q dialed o → Served setup S c q dialed o
   served c q dialed o h = record { goes = h.goes; accepts = λ s. h.accepts (from s); count = h.count; carries = h.carries; no_waits = h.no_waits }
 
-  cause : (c : List ℕ) (dialed : Bool) (o : Side) (a : OwnAnswer) → OwnCause setup R c dialed o a → OwnCause setup S c dialed o a
+  cause : (c : List ℕ) (dialed : Bool) (o : LinkSide) (a : OwnAnswer) → OwnCause setup R c dialed o a → OwnCause setup S c dialed o a
   cause c dialed o a (decided request is whole took) = decided request (block dialed _ c _ is) whole took
   cause c dialed o a (fault q goes status to_head end failed lacks) = fault q goes status to_head end failed lacks
 

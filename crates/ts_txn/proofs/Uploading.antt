@@ -10,7 +10,7 @@ use Rattle.ts_upstream.specs.declared.upstream.Uploaded.TheVariants as U
 use Rattle.ts_upstream.specs.Uploads.{UploadKeeps, Uploads}
 use Rattle.ts_txn.specs.Relayed.{asks_head}
 use Rattle.ts_txn.specs.Block.{own_block, request_text}
-use Rattle.ts_txn.specs.View.{HasFailed, Side, View}
+use Rattle.ts_txn.specs.View.{HasFailed, LinkSide, View}
 use Rattle.ts_txn.specs.Moving.{MovesUpload}
 use Rattle.ts_txn.specs.Facts.{Awaits, CarriesRequest, Goes, OwnReady, TookExactly, Uploading, decided}
 use Rattle.ts_txn.specs.Facts as facts
@@ -27,10 +27,10 @@ within : (a b c : ℕ) → a ≤ b → b ≤ c → a ≤ c
 within a b c h k = omega (arith, h, k)
 
 -- what the origin took is the request and the upload, where nothing waits for it
-pub took_is : (setup : Setup) (q : Request) (o : Side) (h : CarriesRequest setup q o) → o.outbox ≡ [] → o.look.taken ≡ request_text setup q.head q.target q.host ++ h.upload
+pub took_is : (setup : Setup) (q : Request) (o : LinkSide) (h : CarriesRequest setup q o) → o.outbox ≡ [] → o.look.taken ≡ request_text setup q.head q.target q.host ++ h.upload
 took_is setup q o h none = sym (append-nil o.look.taken) ∙ ap (λ (x : List ℕ). o.look.taken ++ x) (sym none) ∙ h.text
 
-pub took_request : (setup : Setup) (q : Request) (o : Side) → CarriesRequest setup q o → o.outbox ≡ [] → TookExactly (request_text setup q.head q.target q.host) o
+pub took_request : (setup : Setup) (q : Request) (o : LinkSide) → CarriesRequest setup q o → o.outbox ≡ [] → TookExactly (request_text setup q.head q.target q.host) o
 took_request setup q o h none = record { upload = h.upload; text = took_is setup q o h none; nothing = λ is. absurd (filled setup q is); no_waits = none }
 
 uploads_at : (setup : Setup) (v : View) (c l : Look) (q : Request) → Uploading setup v q → Uploads v.client.look c v.origin.look l → UploadKeeps v.client.look c v.origin.look l
@@ -66,7 +66,7 @@ module _ (setup : Setup) (ct ot : Bool) (refuses : List ℕ → Type 0) (v w : V
   -- some of it was moved
   pub uploads_on : (answer : Uploaded) → MovesUpload ct ot refuses answer v w → Uploading setup w q
   uploads_on answer m =
-      let all = m.others ∙ ap (λ (s : Side). record v { client = record v.client { look = w.client.look }; origin = s }) m.moves.others in
+      let all = m.others ∙ ap (λ (s : LinkSide). record v { client = record v.client { look = w.client.look }; origin = s }) m.moves.others in
       subst (λ (x : View). Uploading setup x q) (sym all) (uploads_at setup v w.client.look w.origin.look q h (m.moves.bytes client origin) m.moves.keeps)
 
   -- all of it was
@@ -114,7 +114,7 @@ module _ (setup : Setup) (ct ot : Bool) (refuses : List ℕ → Type 0) (v w : V
       let rose : Rose v.origin.base w.origin.look.faults = failed v.origin.base v.origin.look.faults w.origin.look.faults m.moves.causes.counts h.unanswered.count in
       let now = uploads_on U.OriginFailed m in
       faulty setup (refuses v.client.look.source) w q a now.unanswered now.carries
-      (subst (λ (s : Side). HasFailed s) (sym m.moves.others) rose) same
+      (subst (λ (s : LinkSide). HasFailed s) (sym m.moves.others) rose) same
 
   pub upload_lacks : MovesUpload ct ot refuses U.NoMemory v w → EndFact setup (refuses v.client.look.source) w E.NoMemory
   upload_lacks m = lacks_memory setup (refuses v.client.look.source) w (upload_any U.NoMemory m)

@@ -16,7 +16,7 @@ use Rattle.ts_wire.specs.Place.{Place, IsFed, state_of}
 use Rattle.ts_txn.specs.Relayed.{framing_of, mode_of}
 use Rattle.ts_txn.specs.Heads.{FinalHead}
 use Rattle.ts_txn.specs.Block.{IsBlock, IsGood, body_lines, framing_for, relayed_head}
-use Rattle.ts_txn.specs.View.{HasFailed, Side, View}
+use Rattle.ts_txn.specs.View.{HasFailed, LinkSide, View}
 use Rattle.ts_txn.specs.Facts.{HasOwnCause, HasOwnText, HasTook, OwnReady, Quiet, Served, TookExactly}
 use Rattle.ts_txn.specs.declared.block.Block.{Block}
 use Rattle.ts_txn.specs.declared.parts.Sent.{Sent}
@@ -25,7 +25,7 @@ use Rattle.ts_txn.specs.declared.phase.Request.{Request}
 
 -- The client's text: a head, and the body that was framed behind it in pieces, with its end if that was
 -- framed.
-pub record HasText (client : Side) (s : Sent) (head body : List ℕ) (fin : Bool) : Type 0 where
+pub record HasText (client : LinkSide) (s : Sent) (head body : List ℕ) (fin : Bool) : Type 0 where
   pub pieces : List (List ℕ)
   pub each : All IsPiece pieces
   pub text : client.look.taken ++ client.outbox ≡ head ++ frames s.mode pieces fin
@@ -34,7 +34,7 @@ pub record HasText (client : Side) (s : Sent) (head body : List ℕ) (fin : Bool
   pub body_is : cut_body pieces ≡ body
 
 -- The body has ended: its reader says so, or it goes up to the close, and the origin gives no more.
-pub data IsBodyOver (framing : Framing) (origin : Side) (place : Place) : Type 0 where
+pub data IsBodyOver (framing : Framing) (origin : LinkSide) (place : Place) : Type 0 where
   told : state_of place.phase ≡ B.Ended → IsBodyOver framing origin place
   closed : framing ≡ F.UntilClose → state_of place.phase ≡ B.Unfinished → origin.look.left ≡ []
       → origin.inbox ≡ [] → IsBodyOver framing origin place

@@ -16,14 +16,14 @@ use Rattle.ts_txn.specs.Moving.{cuts_of}
 use Rattle.ts_txn.specs.Relayed.{asks_head}
 use Rattle.ts_txn.specs.Heads.{HasRequest, HasResponse, PassesInterims, FinalHead, LacksFinal}
 use Rattle.ts_txn.specs.Block.{IsBlock, IsGood, own_block, own_text, request_text}
-use Rattle.ts_txn.specs.View.{HasCount, HasFailed, Side, View}
+use Rattle.ts_txn.specs.View.{HasCount, HasFailed, LinkSide, View}
 use Rattle.ts_txn.specs.declared.own.OwnStatus.TheVariants as O
 use Rattle.ts_txn.specs.declared.parts.Sent.{Sent}
 use Rattle.ts_txn.specs.declared.phase.OwnAnswer.{OwnAnswer}
 use Rattle.ts_txn.specs.declared.phase.Request.{Request}
 
 -- nothing was queued for the client
-pub record Quiet (client : Side) (sent : Sent) : Type 0 where
+pub record Quiet (client : LinkSide) (sent : Sent) : Type 0 where
   pub no_taken : client.look.taken ≡ []
   pub no_waits : client.outbox ≡ []
   pub no_head : sent.head ≡ 0
@@ -31,13 +31,13 @@ pub record Quiet (client : Side) (sent : Sent) : Type 0 where
   pub no_cuts : sent.cuts.items ≡ []
 
 -- the client, which gave something, waits for its answer
-pub record ClientWaits (client : Side) (sent : Sent) : Type 0 where
+pub record ClientWaits (client : LinkSide) (sent : Sent) : Type 0 where
   pub count : HasCount client
   pub quiet : Quiet client sent
   pub some : client.look.given ≢ []
 
 -- the origin's link gave nothing and got nothing
-pub record Untouched (origin : Side) : Type 0 where
+pub record Untouched (origin : LinkSide) : Type 0 where
   pub count : HasCount origin
   pub no_taken : origin.look.taken ≡ []
   pub no_waits : origin.outbox ≡ []
@@ -62,13 +62,13 @@ pub record Knows (c : List ℕ) (q : Request) : Type 0 where
   pub reads : HasRequest c q.head rest
   pub passes : check q.head ≡ Ok (q.target, q.host)
 
-pub record Checked (v : View) (q : Request) : Type 0 where
+pub record PassesCheck (v : View) (q : Request) : Type 0 where
   pub waits : ClientWaits v.client v.sent
   pub untouched : Untouched v.origin
   pub knows : Knows (all_of v.client.look) q
 
 -- the origin took exactly this request and what an upload wrote behind it
-pub record TookExactly (request : List ℕ) (origin : Side) : Type 0 where
+pub record TookExactly (request : List ℕ) (origin : LinkSide) : Type 0 where
   pub upload : List ℕ
   pub text : origin.look.taken ≡ request ++ upload
   pub nothing : request ≡ [] → upload ≡ []
@@ -91,7 +91,7 @@ module _ (setup : Setup) where
 
   -- What the origin took, with what waits for it, is the request's head and what an upload wrote behind it,
   -- once the head was written.
-  pub record CarriesRequest (q : Request) (origin : Side) : Type 0 where
+  pub record CarriesRequest (q : Request) (origin : LinkSide) : Type 0 where
     pub upload : List ℕ
     pub text : origin.look.taken ++ origin.outbox ≡ request_text setup q.head q.target q.host ++ upload
     pub behind : origin.outbox ≢ [] → upload ≡ []
@@ -116,7 +116,7 @@ module _ (setup : Setup) where
     pub no_waits : v.origin.outbox ≡ []
 
   -- what the origin took, with what waits for it, is nothing, or that of a request that goes to it
-  pub data OriginTook (c : List ℕ) (dialed : Bool) (origin : Side) : Type 0 where
+  pub data OriginTook (c : List ℕ) (dialed : Bool) (origin : LinkSide) : Type 0 where
     nothing : origin.look.taken ≡ [] → origin.outbox ≡ [] → OriginTook c dialed origin
     request : (q : Request) → Goes c q dialed → CarriesRequest q origin → OriginTook c dialed origin
 
@@ -124,7 +124,7 @@ module _ (setup : Setup) where
   HasTook v = OriginTook (all_of v.client.look) v.dialed v.origin
 
   -- the client's text is this own answer: its head, and its body, but to a HEAD request, in one piece
-  pub record HasOwnText (client : Side) (sent : Sent) (a : OwnAnswer) : Type 0 where
+  pub record HasOwnText (client : LinkSide) (sent : Sent) (a : OwnAnswer) : Type 0 where
     pub text : client.look.taken ++ client.outbox ≡ own_text setup a.status ++ own_sent a.to_head a.status
     pub head : sent.head ≡ length (own_text setup a.status)
     pub plain : sent.mode ≡ M.Plain
@@ -135,7 +135,7 @@ module _ (setup : Setup) where
     -- THE RESPONSE HEAD IS READ
 
     -- the origin has all that it gets, and its answer counts
-    pub record Served (c : List ℕ) (q : Request) (dialed : Bool) (origin : Side) : Type 0 where
+    pub record Served (c : List ℕ) (q : Request) (dialed : Bool) (origin : LinkSide) : Type 0 where
       pub goes : Goes c q dialed
       pub accepts : refuses → ⊥
       pub count : HasCount origin
@@ -159,7 +159,7 @@ module _ (setup : Setup) where
 
     -- Why: the block says so, and the origin took the block's request; or the origin's link failed before a
     -- final head.
-    pub data OwnCause (c : List ℕ) (dialed : Bool) (origin : Side) (a : OwnAnswer) : Type 0 where
+    pub data OwnCause (c : List ℕ) (dialed : Bool) (origin : LinkSide) (a : OwnAnswer) : Type 0 where
       decided : (request : List ℕ)
           → IsBlock setup dialed refuses (all_of origin.look) c (own_block setup request a.status a.to_head)
           → a.end ≡ E.Whole → TookExactly request origin → OwnCause c dialed origin a

@@ -7,7 +7,7 @@ use Rattle.ts_wire.specs.declared.reading.Read as wire
 use Rattle.ts_wire.specs.declared.reading.Read.TheVariants as R
 use Rattle.ts_wire.specs.Heads.{LacksRequest, LacksResponse}
 use Rattle.ts_txn.specs.Heads.{HasRequest, HasResponse}
-use Rattle.ts_txn.specs.View.{Side}
+use Rattle.ts_txn.specs.View.{LinkSide}
 use Rattle.ts_txn.specs.Moving.{SideReads}
 use Rattle.ts_txn.specs.declared.reading.Found.{Found}
 use Rattle.ts_txn.specs.declared.reading.Found.TheVariants as F
@@ -27,7 +27,7 @@ HasFrontResponse bytes R.Bad = (more : List ℕ) → LacksResponse (bytes ++ mor
 HasFrontResponse bytes R.TooLong = (more : List ℕ) → LacksResponse (bytes ++ more)
 
 -- a read was made, or memory lacked
-abbrev pub FindsRead : {H : Type 0} → Bool → Side → Side → Found H → Type 0
+abbrev pub FindsRead : {H : Type 0} → Bool → LinkSide → LinkSide → Found H → Type 0
 FindsRead tells old new (F.Head head) = ⊥
 FindsRead tells old new F.Never = ⊥
 FindsRead tells old new (F.Read answer) = SideReads tells old new answer

@@ -5,7 +5,7 @@ use Rattle.ts_config.specs.declared.setup.Setup.{Setup}
 use Rattle.ts_link.specs.Link.{Look}
 use Rattle.ts_upstream.specs.Uploads.{SameRefusal}
 use Rattle.ts_txn.specs.View.{IsPaired, OriginRefuses, View, refuses_if, side, side_if, view_of}
-use Rattle.ts_txn.specs.Facts.{IsAllowed, Asking, Awaits, Checked, OwnReady, OwnSends, Relays, SendingRequest, Uploading}
+use Rattle.ts_txn.specs.Facts.{IsAllowed, Asking, Awaits, PassesCheck, OwnReady, OwnSends, Relays, SendingRequest, Uploading}
 use Rattle.ts_txn.specs.Ends.{EndFact}
 use Rattle.ts_txn.specs.declared.parts.Core.{Core}
 use Rattle.ts_txn.specs.declared.phase.Phase.{Phase}
@@ -18,8 +18,8 @@ module _ (setup : Setup) (refuses : Type 0) where
   PhaseFact v P.Fresh = Asking v
   PhaseFact v P.TxnStart = Asking v
   PhaseFact v P.ReadRequest = Asking v
-  PhaseFact v (P.ReadRequestHdr q) = Checked v q
-  PhaseFact v (P.OsDns q) = Checked v q
+  PhaseFact v (P.ReadRequestHdr q) = PassesCheck v q
+  PhaseFact v (P.OsDns q) = PassesCheck v q
   PhaseFact v (P.SendRequestHdr q) = IsAllowed setup v q
   PhaseFact v (P.SendRequest q) = SendingRequest setup v q
   PhaseFact v (P.Upload q) = Uploading setup v q

@@ -11,20 +11,20 @@ use Rattle.ts_wire.specs.declared.heads.ResponseHead.{ResponseHead}
 use Rattle.ts_wire.specs.Heads.{LacksRequest, LacksResponse}
 use Rattle.ts_txn.specs.Heads.{HasRequest, HasResponse}
 use Rattle.ts_link.specs.Link.{Look}
-use Rattle.ts_txn.specs.View.{GoesIf, Side, View, is_dialed, side_if}
+use Rattle.ts_txn.specs.View.{GoesIf, LinkSide, View, is_dialed, side_if}
 use Rattle.ts_txn.specs.declared.parts.Peer.{Peer}
 use Rattle.ts_txn.specs.declared.reading.Found.{Found}
 use Rattle.ts_txn.specs.declared.reading.Found.TheVariants as F
 
 -- one read of the link, behind what came before
-pub record SideReads (tells : Bool) (old new : Side) (answer : Pulled) : Type 0 where
+pub record SideReads (tells : Bool) (old new : LinkSide) (answer : Pulled) : Type 0 where
   pub most : ℕ
   pub pulls : PullsOn tells old.look new.look old.inbox new.inbox answer most
   pub base : new.base ≡ old.base
   pub outbox : new.outbox ≡ old.outbox
 
 -- one write of what waits for the link
-pub record SideWrites (tells : Bool) (old new : Side) (answer : Pushed) : Type 0 where
+pub record SideWrites (tells : Bool) (old new : LinkSide) (answer : Pushed) : Type 0 where
   pub pushes : Pushes tells old.look new.look answer old.outbox new.outbox
   pub base : new.base ≡ old.base
   pub inbox : new.inbox ≡ old.inbox
@@ -46,7 +46,7 @@ cuts_of (b ∷ bs) = length (b ∷ bs) ∷ []
 -- Some of the upload of a request was moved, by calls that are made on the two links alone. What they gave
 -- and took is known where both tell.
 pub record MovesBoth (ctells otells : Bool) (refuses : List ℕ → Type 0) (answer : Uploaded) (c d : Look)
-    (o p : Side) : Type 0 where
+    (o p : LinkSide) : Type 0 where
   pub causes : UploadCauses ctells refuses answer c d o.look p.look
   pub bytes : ctells ≡ true → otells ≡ true → Uploads c d o.look p.look
   pub keeps : UploadKeeps c d o.look p.look
@@ -65,7 +65,7 @@ QueuesOn look text old new =
 
 -- What came of looking for a head at the front of what a link gave: a head is taken away from that; none can
 -- come; or none is there yet, and one read was made.
-abbrev pub SeeksRequest : Bool → Side → Side → Found RequestHead → Type 0
+abbrev pub SeeksRequest : Bool → LinkSide → LinkSide → Found RequestHead → Type 0
 SeeksRequest tells old new (F.Head head) =
     HasRequest old.inbox head new.inbox × (length new.inbox < length old.inbox)
     × (new ≡ record old { inbox = new.inbox })
@@ -75,7 +75,7 @@ SeeksRequest tells old new (F.Read answer) =
     LacksRequest old.inbox × SideReads tells old new answer
 SeeksRequest tells old new F.NoMemory = new ≡ old
 
-abbrev pub SeeksResponse : Bool → Side → Side → Found ResponseHead → Type 0
+abbrev pub SeeksResponse : Bool → LinkSide → LinkSide → Found ResponseHead → Type 0
 SeeksResponse tells old new (F.Head head) =
     HasResponse old.inbox head new.inbox × (length new.inbox < length old.inbox)
     × (new ≡ record old { inbox = new.inbox })

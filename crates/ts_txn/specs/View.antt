@@ -9,7 +9,7 @@ use Rattle.ts_txn.specs.declared.parts.Sent.{Sent}
 use Rattle.ts_txn.specs.declared.parts.Core.{Core}
 
 -- one side of a transaction
-pub record Side : Type 0 where
+pub record LinkSide : Type 0 where
   pub look : Look  -- its link
   pub base : ℕ  -- how many faults the link had met when the transaction was made
   pub inbox : List ℕ  -- what the link gave that was not used yet
@@ -17,21 +17,21 @@ pub record Side : Type 0 where
 
 -- a transaction without its phase, so that a fact on it outlives a change of phase
 pub record View : Type 0 where
-  pub client : Side
+  pub client : LinkSide
   pub dialed : Bool  -- there is an origin
-  pub origin : Side
+  pub origin : LinkSide
   pub sent : Sent
 
 -- the link has not forgotten a fault
-abbrev pub HasCount : Side → Type 0
+abbrev pub HasCount : LinkSide → Type 0
 HasCount s = s.base ≤ s.look.faults
 
 -- the link failed while the transaction held it
-abbrev pub HasFailed : Side → Type 0
+abbrev pub HasFailed : LinkSide → Type 0
 HasFailed s = Rose s.base s.look.faults
 
 -- the side of no link
-abbrev pub no_side : Side
+abbrev pub no_side : LinkSide
 no_side = record {
   look = record { given = []; left = []; taken = []; source = []; name = 0; reads = 0; writes = 0; faults = 0;
       waits = 0; agains = Some 0; plan = None };
@@ -42,10 +42,10 @@ no_side = record {
 
 module _ {L : Type 0} where
 
-  abbrev pub side : (L → Look) → Peer L → Side
+  abbrev pub side : (L → Look) → Peer L → LinkSide
   side look p = record { look = look p.link; base = p.base; inbox = p.inbox; outbox = p.outbox }
 
-  abbrev pub side_if : (L → Look) → Option (Peer L) → Side
+  abbrev pub side_if : (L → Look) → Option (Peer L) → LinkSide
   side_if look None = no_side
   side_if look (Some p) = side look p
 
