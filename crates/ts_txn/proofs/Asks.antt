@@ -129,9 +129,9 @@ refused setup refuses t v w head a asks hears (status, verdict, is) =
     let own : OwnAnswer = record { status = own_refusal status; to_head = asks_head head; end = E.Whole } in
     subst (λ (x : OwnAnswer). OwnReady setup refuses w x) (sym is)
     (untouched_own setup refuses w (record { status = own_refusal status; to_head = asks_head head; end = E.Whole }) h.waits h.untouched refl
-      (asked (some_front w.client.look.given w.client.look.left h.waits.some) head h.rest h.reads
-        (subst (λ (r : Result (List ℕ × List ℕ) ℕ). VerdictSays setup w.dialed refuses (all_of w.origin.look) r head (own_block setup [] (own_refusal status) (asks_head head)))
-          (sym verdict) refl)))
+    (asked (some_front w.client.look.given w.client.look.left h.waits.some) head h.rest h.reads
+    (subst (λ (r : Result (List ℕ × List ℕ) ℕ). VerdictSays setup w.dialed refuses (all_of w.origin.look) r head (own_block setup [] (own_refusal status) (asks_head head)))
+    (sym verdict) refl)))
 
 -- ---- no head
 
@@ -142,7 +142,7 @@ no_request setup refuses v a some lacks =
     untouched_own setup refuses v (record { status = O.BadRequest; to_head = false; end = E.Whole })
     (record { count = a.count; quiet = a.quiet; some = given }) a.untouched refl
     (no_head (some_front v.client.look.given v.client.look.left given)
-      (subst (λ (g : List ℕ). LacksRequest (g ++ v.client.look.left)) (sym a.held) lacks) refl)
+    (subst (λ (g : List ℕ). LacksRequest (g ++ v.client.look.left)) (sym a.held) lacks) refl)
 
 some_of : (xs : List ℕ) → 0 < length xs → xs ≢ []
 some_of xs less is = absurd (omega (arith, less, ap length is))
@@ -163,7 +163,7 @@ ended_within setup refuses t v w told a hears some =
     let pulls = hears.finds.1.pulls in
     let same : w.client.inbox ≡ v.client.inbox = pulls.grows ∙ ap (λ (m : List ℕ). v.client.inbox ++ m) pulls.pulls.came ∙ append-nil v.client.inbox in
     let all : w.client.inbox ++ w.client.look.left ≡ v.client.inbox =
-        ap (λ (l : List ℕ). w.client.inbox ++ l) (pulls.pulls.ends told) ∙ append-nil w.client.inbox ∙ same in
+    ap (λ (l : List ℕ). w.client.inbox ++ l) (pulls.pulls.ends told) ∙ append-nil w.client.inbox ∙ same in
     no_request setup refuses w now some (subst LacksRequest (sym all) hears.finds.0)
 
 plain_end : (mode : Mode) → mode ≡ M.Plain → frames mode [] true ≡ []

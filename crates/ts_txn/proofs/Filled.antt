@@ -15,5 +15,5 @@ pub filled : (setup : Setup) (q : Request) → request_text setup q.head q.targe
 filled setup q e =
     let fields = ruled S.Request setup.plugins.items (forwarded q.head.fields) in
     let front = q.head.method ++ codes " " ++ q.target ++ codes " HTTP/1.1\r\n" ++ missing_host_text q.host fields
-        ++ flat_map (request_field_text (is_absolute q.head.target) q.host) fields ++ via_text q.head.minor in
+    ++ flat_map (request_field_text (is_absolute q.head.target) q.host) fields ++ via_text q.head.minor in
     absurd (omega (arith, length-append front (codes "connection: close\r\n\r\n"), ap length e))

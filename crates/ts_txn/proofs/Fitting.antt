@@ -23,6 +23,8 @@ module _ {C O : Type 0} (client : C → Look) (origin : O → Look) (paired : C 
     plugins_at = refl;
     client = record { source = refl; name = refl; plan = refl };
     origin = record { source = refl; name = refl; plan = refl };
+    client_base = refl;
+    origin_base = refl;
     dialed = refl;
     pair = λ h. h;
     refusal = record { still = λ c h. h; before = λ c h. h };

@@ -37,7 +37,6 @@ use Rattle.ts_txn.proofs.Asks.{client_fails, untouched_own}
 -- ---- the block of a request that is known
 
 module _ (setup : Setup) (dialed : Bool) (refuses : Type 0) (o c : List ℕ) (q : Request) (b : Block) where
-
   -- by the deny lines
   known_block : Knows c q → DenySays setup dialed refuses o (is_denied setup.plugins.items (plugin_host q.host)) (request_text setup q.head q.target q.host) q.head b
       → IsBlock setup dialed refuses o c b
@@ -50,7 +49,7 @@ module _ (setup : Setup) (dialed : Bool) (refuses : Type 0) (o c : List ℕ) (q 
   gone_block goes says =
       known_block goes.knows
       (subst (λ (d : Bool). DenySays setup dialed refuses o d (request_text setup q.head q.target q.host) q.head b) (sym goes.allowed)
-        (subst (λ (d : Bool). DialSays setup dialed refuses o d (request_text setup q.head q.target q.host) q.head b) (sym goes.has_origin) says))
+      (subst (λ (d : Bool). DialSays setup dialed refuses o d (request_text setup q.head q.target q.host) q.head b) (sym goes.has_origin) says))
 
   denied_block : Knows c q → is_denied setup.plugins.items (plugin_host q.host) ≡ true → b ≡ own_block setup [] O.Forbidden (asks_head q.head)
       → IsBlock setup dialed refuses o c b
@@ -63,7 +62,7 @@ module _ (setup : Setup) (dialed : Bool) (refuses : Type 0) (o c : List ℕ) (q 
   no_origin_block knows allowed none is =
       known_block knows
       (subst (λ (d : Bool). DenySays setup dialed refuses o d (request_text setup q.head q.target q.host) q.head b) (sym allowed)
-        (subst (λ (d : Bool). DialSays setup dialed refuses o d (request_text setup q.head q.target q.host) q.head b) (sym none) is))
+      (subst (λ (d : Bool). DialSays setup dialed refuses o d (request_text setup q.head q.target q.host) q.head b) (sym none) is))
 
 -- ---- denied, without an origin, or on to it
 
@@ -72,14 +71,14 @@ pub denied : (setup : Setup) (refuses : Type 0) (v : View) (q : Request) (a : Ow
 denied setup refuses v q a is h says so same =
     subst (λ (x : OwnAnswer). OwnReady setup refuses v x) (sym same)
     (untouched_own setup refuses v (record { status = O.Forbidden; to_head = asks_head q.head; end = E.Whole }) h.waits h.untouched refl
-      (denied_block setup v.dialed refuses (all_of v.origin.look) (all_of v.client.look) q (own_block setup [] O.Forbidden (asks_head q.head)) h.knows (sym says ∙ so) refl))
+    (denied_block setup v.dialed refuses (all_of v.origin.look) (all_of v.client.look) q (own_block setup [] O.Forbidden (asks_head q.head)) h.knows (sym says ∙ so) refl))
 
 pub not_dialed : (setup : Setup) (refuses : Type 0) (v : View) (q : Request) (a : OwnAnswer) (is : Bool) → PassesCheck v q → is ≡ is_denied setup.plugins.items (plugin_host q.host) → is ≡ false
     → v.dialed ≡ false → a ≡ record { status = O.BadGateway; to_head = asks_head q.head; end = E.Whole } → OwnReady setup refuses v a
 not_dialed setup refuses v q a is h says allowed none same =
     subst (λ (x : OwnAnswer). OwnReady setup refuses v x) (sym same)
     (untouched_own setup refuses v (record { status = O.BadGateway; to_head = asks_head q.head; end = E.Whole }) h.waits h.untouched refl
-      (no_origin_block setup v.dialed refuses (all_of v.origin.look) (all_of v.client.look) q (own_block setup [] O.BadGateway (asks_head q.head)) h.knows (sym says ∙ allowed) none refl))
+    (no_origin_block setup v.dialed refuses (all_of v.origin.look) (all_of v.client.look) q (own_block setup [] O.BadGateway (asks_head q.head)) h.knows (sym says ∙ allowed) none refl))
 
 pub allowed : (setup : Setup) (v : View) (q : Request) (is : Bool) → PassesCheck v q → is ≡ is_denied setup.plugins.items (plugin_host q.host) → is ≡ false
     → v.dialed ≡ true → IsAllowed setup v q

@@ -7,6 +7,8 @@ pub mod Fitting
 pub mod Going
 pub mod Handling
 pub mod Made
+pub mod Leaving
+pub mod Minding
 pub mod OneBlock
 mod OneHead
 pub mod OneSide

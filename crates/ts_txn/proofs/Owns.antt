@@ -73,7 +73,6 @@ pub all_took : (old new : Look) (more : List ℕ) → old.given ≢ [] → Takes
 all_took old new more some t = λ i. t.given i ++ stays old.given old.left new.left some t.left i
 
 module _ (setup : Setup) (refuses : Type 0) where
-
   pub ready_any : (v : View) (a : OwnAnswer) → OwnReady setup refuses v a → AnyEnd setup refuses v
   ready_any v a h = record { took = h.took; text = ends.quiet h.waits.quiet }
 
@@ -87,7 +86,7 @@ module _ (setup : Setup) (refuses : Type 0) where
   queued_at v w a head body h queues head_is body_is =
       let quiet = h.waits.quiet in
       let all : v.client.look.taken ++ (v.client.outbox ++ (head ++ body)) ≡ own_text setup a.status ++ own_sent a.to_head a.status =
-          λ i. quiet.no_taken i ++ (quiet.no_waits i ++ (head_is i ++ body_is i)) in
+      λ i. quiet.no_taken i ++ (quiet.no_waits i ++ (head_is i ++ body_is i)) in
       record {
         text = ap (λ (s : LinkSide). s.look.taken ++ s.outbox) queues.client ∙ all;
         head = queues.head_is ∙ ap length head_is;

@@ -53,7 +53,6 @@ final_more bytes h rest more f = record {
 }
 
 module _ (setup : Setup) (refuses : Type 0) where
-
   -- the origin keeps what it took, and what waits for it
   pub served_as : (c : List ℕ) (q : Request) (dialed : Bool) (o s : LinkSide) → s.base ≤ s.look.faults → s.look.taken ≡ o.look.taken → s.outbox ≡ o.outbox
       → Served setup refuses c q dialed o → Served setup refuses c q dialed s
@@ -84,7 +83,6 @@ module _ (setup : Setup) (refuses : Type 0) where
     has : HasResponse from head v.origin.inbox
 
   module _ (t : Bool) (v w : View) (q : Request) (told : t ≡ true) (h : Awaits setup refuses v q) where
-
     awaits_at : (s : LinkSide) (p : Pulled) → SideReads t v.origin s p → Awaits setup refuses (record v { origin = s }) q
     awaits_at s p reads =
         let gives = reads.pulls.pulls.told told in
@@ -93,7 +91,7 @@ module _ (setup : Setup) (refuses : Type 0) where
           served = served_as (all_of v.client.look) q v.dialed v.origin s (read_count t v.origin s p reads h.served.count) gives.taken reads.outbox h.served;
           passed = subst (λ (g : List ℕ). PassesInterims g s.inbox) (sym gives.given)
               (subst (λ (i : List ℕ). PassesInterims (v.origin.look.given ++ reads.pulls.more) i) (sym reads.pulls.grows)
-                (passes_more v.origin.look.given v.origin.inbox reads.pulls.more h.passed));
+              (passes_more v.origin.look.given v.origin.inbox reads.pulls.more h.passed));
         }
 
     -- the origin's head is read on
@@ -148,7 +146,7 @@ module _ (setup : Setup) (refuses : Type 0) where
           waits = waits;
           cause = decided text
               (gone_block setup w.dialed refuses (all_of w.origin.look) (all_of w.client.look) q (own_block setup text O.BadGateway (asks_head q.head))
-                served.goes (inr (served.accepts, lacking lacks refl)))
+              served.goes (inr (served.accepts, lacking lacks refl)))
               refl (took_request setup q w.origin served.carries served.no_waits);
           took = facts.request q served.goes served.carries;
         })
@@ -174,7 +172,7 @@ module _ (setup : Setup) (refuses : Type 0) where
         let lacks = subst (λ (s : LinkSide). (more : List ℕ) → LacksResponse (s.inbox ++ more)) (sym hears.finds.1) hears.finds.0 in
         answers_502 a now.waits now.served
         (no_final (lacks_final (all_of w.origin.look) (w.origin.inbox ++ w.origin.look.left)
-          (passes_more w.origin.look.given w.origin.inbox w.origin.look.left now.passed) (lacks w.origin.look.left))) same
+        (passes_more w.origin.look.given w.origin.inbox w.origin.look.left now.passed) (lacks w.origin.look.left))) same
 
     -- where a read brought nothing, no final head is there
     still_lacks : (p : Pulled) → HearsResponse t v w (F.Read p) → (reads : SideReads t v.origin w.origin p) → reads.pulls.more ≡ [] → LacksFinal w.origin.look.given

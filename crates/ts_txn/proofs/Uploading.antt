@@ -62,7 +62,6 @@ uploads_at setup v c l q h u keeps =
 
 module _ (setup : Setup) (ct ot : Bool) (refuses : List ℕ → Type 0) (v w : View) (q : Request)
     (client : ct ≡ true) (origin : ot ≡ true) (h : Uploading setup v q) where
-
   -- some of it was moved
   pub uploads_on : (answer : Uploaded) → MovesUpload ct ot refuses answer v w → Uploading setup w q
   uploads_on answer m =
@@ -90,7 +89,7 @@ module _ (setup : Setup) (ct ot : Bool) (refuses : List ℕ → Type 0) (v w : V
         waits = now.unanswered.waits;
         cause = decided text
             (gone_block setup w.dialed (refuses v.client.look.source) (all_of w.origin.look) (all_of w.client.look) q (own_block setup text O.BadRequest (asks_head q.head))
-              now.unanswered.goes (inl (m.moves.causes.refusal client, refl)))
+            now.unanswered.goes (inl (m.moves.causes.refusal client, refl)))
             refl (took_request setup q w.origin now.carries now.no_waits);
         took = facts.request q now.unanswered.goes now.carries;
       })

@@ -50,7 +50,6 @@ IsFrontThrough lines true read sent = IsFrontOf sent (compose_lines lines read)
 IsFrontThrough lines false read sent = (more : List ℕ) → IsFrontOf sent (compose_lines lines (read ++ more))
 
 module _ (setup : Setup) (refuses : Type 0) where
-
   -- The client's text is the head of the origin's response to this request, and a front of its body through
   -- the lines. `done`: the body has ended; `fin`: so was what the client gets of it.
   pub record Relayed (v : View) (done fin : Bool) (sent : List ℕ) : Type 0 where

@@ -75,7 +75,6 @@ pub record TookExactly (request : List ℕ) (origin : LinkSide) : Type 0 where
   pub no_waits : origin.outbox ≡ []
 
 module _ (setup : Setup) where
-
   -- the request goes to an origin: no deny line denies its host, and there is one
   pub record Goes (c : List ℕ) (q : Request) (dialed : Bool) : Type 0 where
     pub knows : Knows c q
@@ -131,7 +130,6 @@ module _ (setup : Setup) where
     pub cuts : sent.cuts.items ≡ cuts_of (own_sent a.to_head a.status)
 
   module _ (refuses : Type 0) where
-
     -- THE RESPONSE HEAD IS READ
 
     -- the origin has all that it gets, and its answer counts

@@ -62,6 +62,8 @@ pub record StepKeeps {C O : Type 0} (clook : C → Look) (olook : O → Look) (p
   pub plugins_at : new.plugins_at ≡ old.plugins_at
   pub client : IsSameLink (clook old.client.link) (clook new.client.link)
   pub origin : IsSameLink (side_if olook old.origin).look (side_if olook new.origin).look
+  pub client_base : new.client.base ≡ old.client.base
+  pub origin_base : (side_if olook new.origin).base ≡ (side_if olook old.origin).base
   pub dialed : (view_of clook olook new).dialed ≡ (view_of clook olook old).dialed
   pub pair : IsPaired paired old → IsPaired paired new
   pub refusal : SameRefusal (refuses_if refuses old.origin) (refuses_if refuses new.origin)

@@ -18,5 +18,6 @@ pub mod RelayMoves
 pub mod Relayed
 pub mod Relaying
 pub mod Rules
+pub mod Steps
 pub mod View
 pub mod World

@@ -33,15 +33,25 @@ HasFailed s = Rose s.base s.look.faults
 -- the side of no link
 abbrev pub no_side : LinkSide
 no_side = record {
-  look = record { given = []; left = []; taken = []; source = []; name = 0; reads = 0; writes = 0; faults = 0;
-      waits = 0; agains = Some 0; plan = None };
+  look = record {
+    given = [];
+    left = [];
+    taken = [];
+    source = [];
+    name = 0;
+    reads = 0;
+    writes = 0;
+    faults = 0;
+    waits = 0;
+    agains = Some 0;
+    plan = None;
+  };
   base = 0;
   inbox = [];
   outbox = [];
 }
 
 module _ {L : Type 0} where
-
   abbrev pub side : (L → Look) → Peer L → LinkSide
   side look p = record { look = look p.link; base = p.base; inbox = p.inbox; outbox = p.outbox }
 
@@ -71,7 +81,6 @@ module _ {L : Type 0} where
   PairIf paired c (Some p) = paired c p.link
 
 module _ {C O : Type 0} where
-
   abbrev pub view_of : (C → Look) → (O → Look) → Core C O → View
   view_of client origin t = record {
     client = side client t.client;

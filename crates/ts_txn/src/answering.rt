@@ -2,7 +2,9 @@
 ghost use Rattle.std.specs.Prelude.{◌≡◌, IfOk};
 ghost use Rattle.ts_txn.specs.Block.{own_text};
 ghost use Rattle.ts_txn.specs.Cover.{StepLeads};
-ghost use Rattle.ts_txn.specs.Holding.{PhaseHolds, HoldsAfter, StepKeeps};
+ghost use Rattle.ts_txn.specs.Steps.{LeavesOrigin, MindsFaults};
+ghost use Rattle.ts_txn.specs.View.{view_of};
+ghost use Rattle.ts_txn.specs.Holding.{IfTold, PhaseHolds, HoldsAfter, StepKeeps};
 
 use crate::block::own_text;
 use crate::parts::Core;
@@ -14,34 +16,75 @@ use ts_vconn::Pushed;
 
 impl<C: Link, O: Upstream<C>> Core<C, O> {
     /// Queues an answer of the proxy's own.
+    #[tactic(auto, using(crate::proofs::Leaving::still_leaves, crate::proofs::Leaving::queued_leaves, crate::proofs::Minding::stood, crate::proofs::Minding::queued_own))]
     pub fn send_response_hdr(&mut self, answer: OwnAnswer) -> Step
-        requires fact { PhaseHolds C.tells O.tells C.look O.look O.refuses self.old (Phase.SendResponseHdr answer) }
+        requires fact { PhaseHolds C.tells O.tells C.look O.look O.refuses self.old
+            (Phase.SendResponseHdr answer) }
         ensures leads { StepLeads result }
         ensures fact { HoldsAfter C.tells O.tells C.look O.look O.refuses self.old self.new result }
+        ensures minds { MindsFaults (view_of C.look O.look self.old) (view_of C.look O.look self.new) result }
+        ensures leaves { IfTold C.tells O.tells
+            (LeavesOrigin (view_of C.look O.look self.old) (view_of C.look O.look self.new)) }
         ensures keeps { StepKeeps C.look O.look O.paired O.refuses self.old self.new }
     {
         let Ok(head) = own_text(self.alloc, &self.setup, answer.status) else {
-            return Step { phase: Phase::Ended { end: TxnEnd::NoMemory }, next: Next::Done };
+            return Step {
+                phase: Phase::Ended {
+                    end: TxnEnd::NoMemory,
+                },
+                next: Next::Done,
+            };
         };
         match self.queue_own(head.bytes(), answer.status.sent(answer.to_head)) {
-            Ok(()) => Step { phase: Phase::Sending { answer }, next: Next::Go },
-            Err(_) => Step { phase: Phase::Ended { end: TxnEnd::NoMemory }, next: Next::Done },
+            Ok(()) => Step {
+                phase: Phase::Sending { answer },
+                next: Next::Go,
+            },
+            Err(_) => Step {
+                phase: Phase::Ended {
+                    end: TxnEnd::NoMemory,
+                },
+                next: Next::Done,
+            },
         }
     }
 
     /// Writes once of what was queued.
+    #[tactic(auto, using(crate::proofs::Leaving::wrote_leaves, crate::proofs::Minding::wrote_client, crate::proofs::Minding::client_left))]
     pub fn send(&mut self, answer: OwnAnswer) -> Step
         requires fact { PhaseHolds C.tells O.tells C.look O.look O.refuses self.old (Phase.Sending answer) }
         ensures leads { StepLeads result }
         ensures fact { HoldsAfter C.tells O.tells C.look O.look O.refuses self.old self.new result }
+        ensures minds { MindsFaults (view_of C.look O.look self.old) (view_of C.look O.look self.new) result }
+        ensures leaves { IfTold C.tells O.tells
+            (LeavesOrigin (view_of C.look O.look self.old) (view_of C.look O.look self.new)) }
         ensures keeps { StepKeeps C.look O.look O.paired O.refuses self.old self.new }
     {
         match self.write_client() {
-            Pushed::Some(_) => Step { phase: Phase::Sending { answer }, next: Next::Go },
-            Pushed::Nothing => Step { phase: Phase::TxnClose { end: answer.end }, next: Next::Go },
-            Pushed::Again => Step { phase: Phase::Sending { answer }, next: Next::Wait },
-            Pushed::Failed => Step { phase: Phase::TxnClose { end: TxnEnd::ClientFault }, next: Next::Go },
-            Pushed::NoMemory => Step { phase: Phase::Ended { end: TxnEnd::NoMemory }, next: Next::Done },
+            Pushed::Some(_) => Step {
+                phase: Phase::Sending { answer },
+                next: Next::Go,
+            },
+            Pushed::Nothing => Step {
+                phase: Phase::TxnClose { end: answer.end },
+                next: Next::Go,
+            },
+            Pushed::Again => Step {
+                phase: Phase::Sending { answer },
+                next: Next::Wait,
+            },
+            Pushed::Failed => Step {
+                phase: Phase::TxnClose {
+                    end: TxnEnd::ClientFault,
+                },
+                next: Next::Go,
+            },
+            Pushed::NoMemory => Step {
+                phase: Phase::Ended {
+                    end: TxnEnd::NoMemory,
+                },
+                next: Next::Done,
+            },
         }
     }
 }

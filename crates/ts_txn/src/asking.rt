@@ -1,7 +1,9 @@
 //! The phase in which the client's request head is read and checked.
 ghost use Rattle.std.specs.Prelude.{◌≡◌, IfOk};
 ghost use Rattle.ts_txn.specs.Cover.{StepLeads};
-ghost use Rattle.ts_txn.specs.Holding.{PhaseHolds, HoldsAfter, StepKeeps};
+ghost use Rattle.ts_txn.specs.Holding.{IfTold, PhaseHolds, HoldsAfter, StepKeeps};
+ghost use Rattle.ts_txn.specs.Steps.{LeavesOrigin, MindsFaults};
+ghost use Rattle.ts_txn.specs.View.{view_of};
 ghost use Rattle.ts_txn.specs.Checking.{IsCheckedAs};
 
 use crate::own::OwnStatus;
@@ -48,30 +50,70 @@ fn check(alloc: Global, head: RequestHead) -> Result<Checked, NoMemory>
 
 impl<C: Link, O: Upstream<C>> Core<C, O> {
     /// Looks for the request's head in what the client gave, and checks it, or reads on.
+    #[tactic(auto, using(crate::proofs::Leaving::asked_leaves, crate::proofs::Minding::heard_request, crate::proofs::Minding::lost_client))]
     pub fn read_request(&mut self) -> Step
         requires fact { PhaseHolds C.tells O.tells C.look O.look O.refuses self.old Phase.ReadRequest }
         ensures leads { StepLeads result }
         ensures fact { HoldsAfter C.tells O.tells C.look O.look O.refuses self.old self.new result }
+        ensures minds { MindsFaults (view_of C.look O.look self.old) (view_of C.look O.look self.new) result }
+        ensures leaves { IfTold C.tells O.tells
+            (LeavesOrigin (view_of C.look O.look self.old) (view_of C.look O.look self.new)) }
         ensures keeps { StepKeeps C.look O.look O.paired O.refuses self.old self.new }
     {
         match self.hear_request() {
             Found::Head(head) => match check(self.alloc, head) {
-                Ok(Checked::Pass(request)) => Step { phase: Phase::ReadRequestHdr { request }, next: Next::Go },
-                Ok(Checked::Refused(answer)) => Step { phase: Phase::SendResponseHdr { answer }, next: Next::Go },
-                Err(_) => Step { phase: Phase::Ended { end: TxnEnd::NoMemory }, next: Next::Done },
+                Ok(Checked::Pass(request)) => Step {
+                    phase: Phase::ReadRequestHdr { request },
+                    next: Next::Go,
+                },
+                Ok(Checked::Refused(answer)) => Step {
+                    phase: Phase::SendResponseHdr { answer },
+                    next: Next::Go,
+                },
+                Err(_) => Step {
+                    phase: Phase::Ended {
+                        end: TxnEnd::NoMemory,
+                    },
+                    next: Next::Done,
+                },
             },
-            Found::Never => Step { phase: Phase::SendResponseHdr { answer: NO_HEAD }, next: Next::Go },
-            Found::Read(Pulled::Some(_)) => Step { phase: Phase::ReadRequest, next: Next::Go },
+            Found::Never => Step {
+                phase: Phase::SendResponseHdr { answer: NO_HEAD },
+                next: Next::Go,
+            },
+            Found::Read(Pulled::Some(_)) => Step {
+                phase: Phase::ReadRequest,
+                next: Next::Go,
+            },
             Found::Read(Pulled::End) => {
                 if self.client.inbox.is_empty() {
-                    Step { phase: Phase::TxnClose { end: TxnEnd::Whole }, next: Next::Go }
+                    Step {
+                        phase: Phase::TxnClose { end: TxnEnd::Whole },
+                        next: Next::Go,
+                    }
                 } else {
-                    Step { phase: Phase::SendResponseHdr { answer: NO_HEAD }, next: Next::Go }
+                    Step {
+                        phase: Phase::SendResponseHdr { answer: NO_HEAD },
+                        next: Next::Go,
+                    }
                 }
             }
-            Found::Read(Pulled::Again) => Step { phase: Phase::ReadRequest, next: Next::Wait },
-            Found::Read(Pulled::Failed) => Step { phase: Phase::TxnClose { end: TxnEnd::ClientFault }, next: Next::Go },
-            Found::NoMemory => Step { phase: Phase::Ended { end: TxnEnd::NoMemory }, next: Next::Done },
+            Found::Read(Pulled::Again) => Step {
+                phase: Phase::ReadRequest,
+                next: Next::Wait,
+            },
+            Found::Read(Pulled::Failed) => Step {
+                phase: Phase::TxnClose {
+                    end: TxnEnd::ClientFault,
+                },
+                next: Next::Go,
+            },
+            Found::NoMemory => Step {
+                phase: Phase::Ended {
+                    end: TxnEnd::NoMemory,
+                },
+                next: Next::Done,
+            },
         }
     }
 }

@@ -1,6 +1,8 @@
 //! The phase in which the origin's response head is read.
 ghost use Rattle.ts_txn.specs.Cover.{StepLeads};
-ghost use Rattle.ts_txn.specs.Holding.{PhaseHolds, HoldsAfter, StepKeeps};
+ghost use Rattle.ts_txn.specs.Steps.{LeavesOrigin, MindsFaults};
+ghost use Rattle.ts_txn.specs.View.{view_of};
+ghost use Rattle.ts_txn.specs.Holding.{IfTold, PhaseHolds, HoldsAfter, StepKeeps};
 
 use crate::block::is_good;
 use crate::finding::is_interim;
@@ -15,39 +17,66 @@ use ts_upstream::Upstream;
 use ts_vconn::Pulled;
 
 impl<C: Link, O: Upstream<C>> Core<C, O> {
-    /// Looks for the head of the final response in what the origin gave, or reads on. Interim heads are dropped.
+    /// Looks for the head of the final response in what the origin gave, or reads on. Interim heads are
+    /// dropped.
+    #[tactic(auto, using(crate::proofs::Leaving::heard_leaves, crate::proofs::Minding::heard_response, crate::proofs::Minding::lost_origin))]
     pub fn read_response(&mut self, request: Request) -> Step
-        requires fact { PhaseHolds C.tells O.tells C.look O.look O.refuses self.old (Phase.ReadResponse request) }
+        requires fact { PhaseHolds C.tells O.tells C.look O.look O.refuses self.old
+            (Phase.ReadResponse request) }
         ensures leads { StepLeads result }
         ensures fact { HoldsAfter C.tells O.tells C.look O.look O.refuses self.old self.new result }
+        ensures minds { MindsFaults (view_of C.look O.look self.old) (view_of C.look O.look self.new) result }
+        ensures leaves { IfTold C.tells O.tells
+            (LeavesOrigin (view_of C.look O.look self.old) (view_of C.look O.look self.new)) }
         ensures keeps { StepKeeps C.look O.look O.paired O.refuses self.old self.new }
     {
+        let bad = answer_to(&request, OwnStatus::BadGateway, TxnEnd::Whole);
+        let fault = answer_to(&request, OwnStatus::BadGateway, TxnEnd::OriginFault);
         match self.hear_response() {
             Found::Head(head) => {
                 if is_interim(head.status) {
-                    return Step { phase: Phase::ReadResponse { request }, next: Next::Go };
+                    return Step {
+                        phase: Phase::ReadResponse { request },
+                        next: Next::Go,
+                    };
                 }
                 if is_good(&request.head, &head) {
-                    return Step { phase: Phase::ReadResponseHdr { request, head }, next: Next::Go };
+                    return Step {
+                        phase: Phase::ReadResponseHdr { request, head },
+                        next: Next::Go,
+                    };
                 }
-                let answer = answer_to(&request, OwnStatus::BadGateway, TxnEnd::Whole);
-                Step { phase: Phase::SendResponseHdr { answer }, next: Next::Go }
+                Step {
+                    phase: Phase::SendResponseHdr { answer: bad },
+                    next: Next::Go,
+                }
             }
-            Found::Never => {
-                let answer = answer_to(&request, OwnStatus::BadGateway, TxnEnd::Whole);
-                Step { phase: Phase::SendResponseHdr { answer }, next: Next::Go }
-            }
-            Found::Read(Pulled::Some(_)) => Step { phase: Phase::ReadResponse { request }, next: Next::Go },
-            Found::Read(Pulled::End) => {
-                let answer = answer_to(&request, OwnStatus::BadGateway, TxnEnd::Whole);
-                Step { phase: Phase::SendResponseHdr { answer }, next: Next::Go }
-            }
-            Found::Read(Pulled::Again) => Step { phase: Phase::ReadResponse { request }, next: Next::Wait },
-            Found::Read(Pulled::Failed) => {
-                let answer = answer_to(&request, OwnStatus::BadGateway, TxnEnd::OriginFault);
-                Step { phase: Phase::SendResponseHdr { answer }, next: Next::Go }
-            }
-            Found::NoMemory => Step { phase: Phase::Ended { end: TxnEnd::NoMemory }, next: Next::Done },
+            Found::Never => Step {
+                phase: Phase::SendResponseHdr { answer: bad },
+                next: Next::Go,
+            },
+            Found::Read(Pulled::End) => Step {
+                phase: Phase::SendResponseHdr { answer: bad },
+                next: Next::Go,
+            },
+            Found::Read(Pulled::Some(_)) => Step {
+                phase: Phase::ReadResponse { request },
+                next: Next::Go,
+            },
+            Found::Read(Pulled::Again) => Step {
+                phase: Phase::ReadResponse { request },
+                next: Next::Wait,
+            },
+            Found::Read(Pulled::Failed) => Step {
+                phase: Phase::SendResponseHdr { answer: fault },
+                next: Next::Go,
+            },
+            Found::NoMemory => Step {
+                phase: Phase::Ended {
+                    end: TxnEnd::NoMemory,
+                },
+                next: Next::Done,
+            },
         }
     }
 }

@@ -5,7 +5,8 @@ ghost use Rattle.ts_wire.specs.Check.{plugin_host};
 ghost use Rattle.ts_txn.specs.Rules.{is_denied};
 ghost use Rattle.ts_txn.specs.Relayed.{asks_head};
 ghost use Rattle.ts_txn.specs.Block.{request_text};
-ghost use Rattle.ts_txn.specs.View.{IsPaired};
+ghost use Rattle.ts_txn.specs.View.{IsPaired, view_of};
+ghost use Rattle.ts_txn.specs.Steps.{MindsFaults};
 ghost use Rattle.ts_txn.specs.Cover.{StepLeads};
 ghost use Rattle.ts_txn.specs.Holding.{PhaseHolds, HoldsAfter, StepKeeps};
 
@@ -25,7 +26,8 @@ use ts_wire::plugin_host;
 
 /// Whether a deny line denies the host of the request.
 fn is_host_denied(alloc: Global, setup: &Setup, request: &Request) -> Result<bool, NoMemory>
-    ensures { IfOk result (λ denied. denied ≡ is_denied setup.now.plugins.items (plugin_host request.now.host)) }
+    ensures { IfOk result (λ denied. denied
+        ≡ is_denied setup.now.plugins.items (plugin_host request.now.host)) }
 {
     let host = plugin_host(alloc, request.host.bytes())?;
     let denied = is_denied(setup.plugins.as_slice(), host.bytes())?;
@@ -60,53 +62,101 @@ impl<C: Link, O: Upstream<C>> Core<C, O> {
         ensures fact { HoldsAfter C.tells O.tells C.look O.look O.refuses self.now self.now result }
     {
         let Ok(denied) = is_host_denied(self.alloc, &self.setup, &request) else {
-            return Step { phase: Phase::Ended { end: TxnEnd::NoMemory }, next: Next::Done };
+            return Step {
+                phase: Phase::Ended {
+                    end: TxnEnd::NoMemory,
+                },
+                next: Next::Done,
+            };
         };
         if denied {
             let answer = answer_to(&request, OwnStatus::Forbidden, TxnEnd::Whole);
-            return Step { phase: Phase::SendResponseHdr { answer }, next: Next::Go };
+            return Step {
+                phase: Phase::SendResponseHdr { answer },
+                next: Next::Go,
+            };
         }
         if self.origin.is_none() {
             let answer = answer_to(&request, OwnStatus::BadGateway, TxnEnd::Whole);
-            return Step { phase: Phase::SendResponseHdr { answer }, next: Next::Go };
+            return Step {
+                phase: Phase::SendResponseHdr { answer },
+                next: Next::Go,
+            };
         }
-        Step { phase: Phase::SendRequestHdr { request }, next: Next::Go }
+        Step {
+            phase: Phase::SendRequestHdr { request },
+            next: Next::Go,
+        }
     }
 
     /// Queues the request's head for the origin.
-    #[tactic(auto, using(crate::proofs::Going::queued, crate::proofs::Going::allowed_any, crate::proofs::Asks::lacks_memory))]
+    #[tactic(auto, using(crate::proofs::Minding::stood, crate::proofs::Minding::queued_request, crate::proofs::Going::queued, crate::proofs::Going::allowed_any, crate::proofs::Asks::lacks_memory))]
     pub fn send_request_hdr(&mut self, request: Request) -> Step
-        requires fact { PhaseHolds C.tells O.tells C.look O.look O.refuses self.old (Phase.SendRequestHdr request) }
+        requires fact { PhaseHolds C.tells O.tells C.look O.look O.refuses self.old
+            (Phase.SendRequestHdr request) }
         ensures leads { StepLeads result }
         ensures fact { HoldsAfter C.tells O.tells C.look O.look O.refuses self.old self.new result }
+        ensures minds { MindsFaults (view_of C.look O.look self.old) (view_of C.look O.look self.new) result }
         ensures keeps { StepKeeps C.look O.look O.paired O.refuses self.old self.new }
     {
         let Ok(text) = head_for_origin(self.alloc, &self.setup, &request) else {
-            return Step { phase: Phase::Ended { end: TxnEnd::NoMemory }, next: Next::Done };
+            return Step {
+                phase: Phase::Ended {
+                    end: TxnEnd::NoMemory,
+                },
+                next: Next::Done,
+            };
         };
         match self.queue_request(text.bytes()) {
-            Ok(()) => Step { phase: Phase::SendRequest { request }, next: Next::Go },
-            Err(_) => Step { phase: Phase::Ended { end: TxnEnd::NoMemory }, next: Next::Done },
+            Ok(()) => Step {
+                phase: Phase::SendRequest { request },
+                next: Next::Go,
+            },
+            Err(_) => Step {
+                phase: Phase::Ended {
+                    end: TxnEnd::NoMemory,
+                },
+                next: Next::Done,
+            },
         }
     }
 
     /// Writes once of the request's head.
-    #[tactic(auto, using(crate::proofs::Going::writes_on, crate::proofs::Going::written, crate::proofs::Going::write_fault, crate::proofs::Going::sends_any, crate::proofs::Asks::lacks_memory))]
+    #[tactic(auto, using(crate::proofs::Minding::wrote_origin, crate::proofs::Minding::origin_left, crate::proofs::Going::writes_on, crate::proofs::Going::written, crate::proofs::Going::write_fault, crate::proofs::Going::sends_any, crate::proofs::Asks::lacks_memory))]
     pub fn send_request(&mut self, request: Request) -> Step
-        requires fact { PhaseHolds C.tells O.tells C.look O.look O.refuses self.old (Phase.SendRequest request) }
+        requires fact { PhaseHolds C.tells O.tells C.look O.look O.refuses self.old
+            (Phase.SendRequest request) }
         ensures leads { StepLeads result }
         ensures fact { HoldsAfter C.tells O.tells C.look O.look O.refuses self.old self.new result }
+        ensures minds { MindsFaults (view_of C.look O.look self.old) (view_of C.look O.look self.new) result }
         ensures keeps { StepKeeps C.look O.look O.paired O.refuses self.old self.new }
     {
         match self.write_origin() {
-            Pushed::Some(_) => Step { phase: Phase::SendRequest { request }, next: Next::Go },
-            Pushed::Nothing => Step { phase: Phase::Upload { request }, next: Next::Go },
-            Pushed::Again => Step { phase: Phase::SendRequest { request }, next: Next::Wait },
+            Pushed::Some(_) => Step {
+                phase: Phase::SendRequest { request },
+                next: Next::Go,
+            },
+            Pushed::Nothing => Step {
+                phase: Phase::Upload { request },
+                next: Next::Go,
+            },
+            Pushed::Again => Step {
+                phase: Phase::SendRequest { request },
+                next: Next::Wait,
+            },
             Pushed::Failed => {
                 let answer = answer_to(&request, OwnStatus::BadGateway, TxnEnd::OriginFault);
-                Step { phase: Phase::SendResponseHdr { answer }, next: Next::Go }
+                Step {
+                    phase: Phase::SendResponseHdr { answer },
+                    next: Next::Go,
+                }
             }
-            Pushed::NoMemory => Step { phase: Phase::Ended { end: TxnEnd::NoMemory }, next: Next::Done },
+            Pushed::NoMemory => Step {
+                phase: Phase::Ended {
+                    end: TxnEnd::NoMemory,
+                },
+                next: Next::Done,
+            },
         }
     }
 
@@ -119,22 +169,44 @@ impl<C: Link, O: Upstream<C>> Core<C, O> {
         ensures keeps { StepKeeps C.look O.look O.paired O.refuses self.old self.new }
     {
         match self.upload() {
-            Uploaded::Done => Step { phase: Phase::ReadResponse { request }, next: Next::Go },
-            Uploaded::More => Step { phase: Phase::Upload { request }, next: Next::Go },
-            Uploaded::Again => Step { phase: Phase::Upload { request }, next: Next::Wait },
+            Uploaded::Done => Step {
+                phase: Phase::ReadResponse { request },
+                next: Next::Go,
+            },
+            Uploaded::More => Step {
+                phase: Phase::Upload { request },
+                next: Next::Go,
+            },
+            Uploaded::Again => Step {
+                phase: Phase::Upload { request },
+                next: Next::Wait,
+            },
             Uploaded::ClientFailed => Step {
-                phase: Phase::TxnClose { end: TxnEnd::ClientFault },
+                phase: Phase::TxnClose {
+                    end: TxnEnd::ClientFault,
+                },
                 next: Next::Go,
             },
             Uploaded::OriginFailed => {
                 let answer = answer_to(&request, OwnStatus::BadGateway, TxnEnd::OriginFault);
-                Step { phase: Phase::SendResponseHdr { answer }, next: Next::Go }
+                Step {
+                    phase: Phase::SendResponseHdr { answer },
+                    next: Next::Go,
+                }
             }
             Uploaded::Refused => {
                 let answer = answer_to(&request, OwnStatus::BadRequest, TxnEnd::Whole);
-                Step { phase: Phase::SendResponseHdr { answer }, next: Next::Go }
+                Step {
+                    phase: Phase::SendResponseHdr { answer },
+                    next: Next::Go,
+                }
             }
-            Uploaded::NoMemory => Step { phase: Phase::Ended { end: TxnEnd::NoMemory }, next: Next::Done },
+            Uploaded::NoMemory => Step {
+                phase: Phase::Ended {
+                    end: TxnEnd::NoMemory,
+                },
+                next: Next::Done,
+            },
         }
     }
 }

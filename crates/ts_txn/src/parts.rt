@@ -19,8 +19,8 @@ pub struct Peer<L> {
     pub outbox: Waiting,
 }
 
-/// What was queued for the client: the length of its head, how its body is written, and the lengths of the pieces of
-/// body that were framed.
+/// What was queued for the client: the length of its head, how its body is written, and the lengths of the
+/// pieces of body that were framed.
 #[derive(Drop)]
 pub struct Sent {
     pub head: u64,

@@ -43,7 +43,10 @@ pub fn push_origin<L: Link>(origin: &mut Option<Peer<L>>) -> Pushed
 }
 
 /// Moves some of the upload of a request; where there is no origin, it is as if memory lacked.
-pub fn move_upload<C: Link, O: Upstream<C>>(client: &mut C, origin: &mut Option<Peer<O>>) -> Uploaded
+pub fn move_upload<C: Link, O: Upstream<C>>(
+    client: &mut C,
+    origin: &mut Option<Peer<O>>,
+) -> Uploaded
     requires { PairIf O.paired client.old origin.old }
     ensures paired { PairIf O.paired client.new origin.new }
     ensures moved { MovesBoth C.tells O.tells (refuses_if O.refuses origin.old) result

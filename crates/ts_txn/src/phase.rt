@@ -13,8 +13,8 @@ pub struct Request {
     pub host: Octets,
 }
 
-/// An answer of the proxy's own: its status, whether it goes without its body, as to a HEAD request, and how the
-/// transaction ends once it is sent.
+/// An answer of the proxy's own: its status, whether it goes without its body, as to a HEAD request, and how
+/// the transaction ends once it is sent.
 #[derive(Clone, Copy, Debug, PartialEq, Eq)]
 pub struct OwnAnswer {
     pub status: OwnStatus,
@@ -22,7 +22,8 @@ pub struct OwnAnswer {
     pub end: TxnEnd,
 }
 
-/// Where a transaction stands. The phases that have the name of a hook are those at which its plugins are asked.
+/// Where a transaction stands. The phases that have the name of a hook are those at which its plugins are
+/// asked.
 #[derive(Drop)]
 pub enum Phase {
     /// It was not started.

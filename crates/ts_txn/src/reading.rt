@@ -96,10 +96,7 @@ fn next_response<L: Link>(alloc: Global, peer: &mut Peer<L>) -> Found<ResponseHe
 }
 
 /// The same for the origin's link; where there is no origin, it is as if memory lacked.
-pub fn next_response_if<L: Link>(
-    alloc: Global,
-    origin: &mut Option<Peer<L>>,
-) -> Found<ResponseHead>
+pub fn next_response_if<L: Link>(alloc: Global, origin: &mut Option<Peer<L>>) -> Found<ResponseHead>
     ensures found { SeeksResponse L.tells (side_if L.look origin.old) (side_if L.look origin.new) result }
     ensures goes { GoesIf L.goes origin.old origin.new }
 {

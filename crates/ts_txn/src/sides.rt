@@ -1,5 +1,5 @@
-//! What a step calls on the sides of a transaction. Each call speaks of all of it, so that a step is one call and a
-//! choice by its answer.
+//! What a step calls on the sides of a transaction. Each call speaks of all of it, so that a step is one call
+//! and a choice by its answer.
 ghost use Rattle.std.specs.Prelude.{◌≡◌, ◌++◌, IfOk, OnOk, OnErr};
 ghost use Rattle.ts_txn.specs.View.{IsPaired, refuses_if, view_of};
 ghost use Rattle.ts_txn.specs.Moving.{cuts_of, HearsRequest, HearsResponse, MovesUpload, QueuesOwn, QueuesRequest, WritesClient, WritesOrigin};
@@ -41,7 +41,8 @@ fn joined(alloc: Global, head: &[u8], body: &[u8]) -> Result<Vec<u8>, NoMemory>
 impl<C: Link, O: Upstream<C>> Core<C, O> {
     /// Takes the head of a request from the front of what the client gave, or reads on.
     pub fn hear_request(&mut self) -> Found<RequestHead>
-        ensures hears { HearsRequest C.tells (view_of C.look O.look self.old) (view_of C.look O.look self.new) result }
+        ensures hears { HearsRequest C.tells
+            (view_of C.look O.look self.old) (view_of C.look O.look self.new) result }
         ensures keeps { StepKeeps C.look O.look O.paired O.refuses self.old self.new }
     {
         next_request(self.alloc, &mut self.client)
@@ -49,7 +50,8 @@ impl<C: Link, O: Upstream<C>> Core<C, O> {
 
     /// Takes the head of a response from the front of what the origin gave, or reads on.
     pub fn hear_response(&mut self) -> Found<ResponseHead>
-        ensures hears { HearsResponse O.tells (view_of C.look O.look self.old) (view_of C.look O.look self.new) result }
+        ensures hears { HearsResponse O.tells
+            (view_of C.look O.look self.old) (view_of C.look O.look self.new) result }
         ensures keeps { StepKeeps C.look O.look O.paired O.refuses self.old self.new }
     {
         next_response_if(self.alloc, &mut self.origin)
@@ -57,7 +59,8 @@ impl<C: Link, O: Upstream<C>> Core<C, O> {
 
     /// Makes one write of what waits for the client.
     pub fn write_client(&mut self) -> Pushed
-        ensures writes { WritesClient C.tells (view_of C.look O.look self.old) (view_of C.look O.look self.new) result }
+        ensures writes { WritesClient C.tells
+            (view_of C.look O.look self.old) (view_of C.look O.look self.new) result }
         ensures keeps { StepKeeps C.look O.look O.paired O.refuses self.old self.new }
     {
         self.client.push()
@@ -65,7 +68,8 @@ impl<C: Link, O: Upstream<C>> Core<C, O> {
 
     /// Makes one write of what waits for the origin.
     pub fn write_origin(&mut self) -> Pushed
-        ensures writes { WritesOrigin O.tells (view_of C.look O.look self.old) (view_of C.look O.look self.new) result }
+        ensures writes { WritesOrigin O.tells
+            (view_of C.look O.look self.old) (view_of C.look O.look self.new) result }
         ensures keeps { StepKeeps C.look O.look O.paired O.refuses self.old self.new }
     {
         push_origin(&mut self.origin)

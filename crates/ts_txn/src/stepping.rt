@@ -1,7 +1,8 @@
 //! One step of a transaction, by its phase.
-ghost use Rattle.ts_txn.specs.View.{IsPaired};
+ghost use Rattle.ts_txn.specs.View.{IsPaired, view_of};
+ghost use Rattle.ts_txn.specs.Steps.{LeavesOriginIn, MindsFaultsIn};
 ghost use Rattle.ts_txn.specs.Cover.{StepLeads};
-ghost use Rattle.ts_txn.specs.Holding.{PhaseHolds, HoldsAfter, StepKeeps};
+ghost use Rattle.ts_txn.specs.Holding.{IfTold, PhaseHolds, HoldsAfter, StepKeeps};
 
 use crate::parts::Core;
 use crate::phase::{Next, Phase, Step};
@@ -10,20 +11,34 @@ use ts_link::Link;
 use ts_upstream::Upstream;
 
 impl<C: Link, O: Upstream<C>> Core<C, O> {
-    /// The next step of a phase. A response that can be passed on ends the transaction for want of memory, until bodies
-    /// are relayed.
+    /// The next step of a phase. A response that can be passed on ends the transaction for want of memory,
+    /// until bodies are relayed.
+    #[tactic(auto, using(crate::proofs::Leaving::still_leaves, crate::proofs::Minding::stood))]
     pub fn step(&mut self, phase: Phase) -> Step
         requires fact { PhaseHolds C.tells O.tells C.look O.look O.refuses self.old phase }
         requires pair { IsPaired O.paired self.old }
         ensures leads { StepLeads result }
         ensures fact { HoldsAfter C.tells O.tells C.look O.look O.refuses self.old self.new result }
+        ensures minds { MindsFaultsIn phase
+            (view_of C.look O.look self.old) (view_of C.look O.look self.new) result }
+        ensures leaves { IfTold C.tells O.tells
+            (LeavesOriginIn phase (view_of C.look O.look self.old) (view_of C.look O.look self.new)) }
         ensures keeps { StepKeeps C.look O.look O.paired O.refuses self.old self.new }
     {
         match phase {
-            Phase::Fresh => Step { phase: Phase::TxnStart, next: Next::Go },
-            Phase::TxnStart => Step { phase: Phase::ReadRequest, next: Next::Go },
+            Phase::Fresh => Step {
+                phase: Phase::TxnStart,
+                next: Next::Go,
+            },
+            Phase::TxnStart => Step {
+                phase: Phase::ReadRequest,
+                next: Next::Go,
+            },
             Phase::ReadRequest => self.read_request(),
-            Phase::ReadRequestHdr { request } => Step { phase: Phase::OsDns { request }, next: Next::Go },
+            Phase::ReadRequestHdr { request } => Step {
+                phase: Phase::OsDns { request },
+                next: Next::Go,
+            },
             Phase::OsDns { request } => self.os_dns(request),
             Phase::SendRequestHdr { request } => self.send_request_hdr(request),
             Phase::SendRequest { request } => self.send_request(request),
@@ -34,13 +49,21 @@ impl<C: Link, O: Upstream<C>> Core<C, O> {
                 next: Next::Go,
             },
             Phase::ResponseTransform { .. } => Step {
-                phase: Phase::Ended { end: TxnEnd::NoMemory },
+                phase: Phase::Ended {
+                    end: TxnEnd::NoMemory,
+                },
                 next: Next::Done,
             },
             Phase::SendResponseHdr { answer } => self.send_response_hdr(answer),
             Phase::Sending { answer } => self.send(answer),
-            Phase::TxnClose { end } => Step { phase: Phase::Ended { end }, next: Next::Done },
-            Phase::Ended { end } => Step { phase: Phase::Ended { end }, next: Next::Done },
+            Phase::TxnClose { end } => Step {
+                phase: Phase::Ended { end },
+                next: Next::Done,
+            },
+            Phase::Ended { end } => Step {
+                phase: Phase::Ended { end },
+                next: Next::Done,
+            },
         }
     }
 }

@@ -178,10 +178,19 @@ fn a_refused_request_never_reaches_the_origin(rt: HostRuntime) -> Result<(), Fai
         (b"GET / HTTP/1.1\r\n\r\n", BAD_REQUEST),
         (b"GET / HTTP/1.1\r\nHost: a\r\nHost: a\r\n\r\n", BAD_REQUEST),
         (b"GET a HTTP/1.1\r\nHost: a\r\n\r\n", BAD_REQUEST),
-        (b"POST / HTTP/1.1\r\nHost: a\r\nContent-Length: x\r\n\r\n", BAD_REQUEST),
+        (
+            b"POST / HTTP/1.1\r\nHost: a\r\nContent-Length: x\r\n\r\n",
+            BAD_REQUEST,
+        ),
         (b"CONNECT a:80 HTTP/1.1\r\nHost: a\r\n\r\n", NOT_SERVED),
-        (b"POST / HTTP/1.1\r\nHost: a\r\nTransfer-Encoding: chunked\r\n\r\n", NOT_SERVED),
-        (b"POST / HTTP/1.1\r\nHost: a\r\nContent-Length: 3\r\n\r\nabc", NOT_SERVED),
+        (
+            b"POST / HTTP/1.1\r\nHost: a\r\nTransfer-Encoding: chunked\r\n\r\n",
+            NOT_SERVED,
+        ),
+        (
+            b"POST / HTTP/1.1\r\nHost: a\r\nContent-Length: 3\r\n\r\nabc",
+            NOT_SERVED,
+        ),
     ];
     for (client, text) in rows {
         let block = exchange(rt.alloc(), b"", client, RESPONSE)?;
@@ -197,10 +206,18 @@ fn an_own_answer_to_head_has_no_body(rt: HostRuntime) -> Result<(), Fail> {
     let none = block_of(alloc, &setup, HEAD, false, false, b"")?;
     let refused = exchange(alloc, b"", b"HEAD / HTTP/1.1\r\n\r\n", RESPONSE)?;
     let ended = exchange(alloc, b"", HEAD, b"")?;
-    assert!(rt; answers(&none, TxnEnd::Whole, GATEWAY.split_at(93).0) && none.request.bytes().is_empty());
+    assert!(rt;
+        answers(&none, TxnEnd::Whole, GATEWAY.split_at(93).0) && none.request.bytes().is_empty()
+    );
     assert!(rt; answers(&refused, TxnEnd::Whole, BAD_REQUEST.split_at(93).0));
-    assert!(rt; answers(&ended, TxnEnd::Whole, GATEWAY.split_at(93).0) && was_sent(&ended, b"HEAD"));
-    assert!(rt; none.body.bytes().is_empty() && refused.body.bytes().is_empty() && ended.body.bytes().is_empty());
+    assert!(rt;
+        answers(&ended, TxnEnd::Whole, GATEWAY.split_at(93).0) && was_sent(&ended, b"HEAD")
+    );
+    assert!(rt;
+        none.body.bytes().is_empty()
+            && refused.body.bytes().is_empty()
+            && ended.body.bytes().is_empty()
+    );
     Ok(())
 }
 
@@ -252,8 +269,14 @@ fn ruled_setup(alloc: Global) -> Result<Setup, Fail> {
         name: HeaderName::from_static("content-type"),
         value: HeaderValue::from_static("x"),
     };
-    setup.plugins.push(PluginLine::Header { side: Side::Request, rule: add })?;
-    setup.plugins.push(PluginLine::Header { side: Side::Response, rule: set })?;
+    setup.plugins.push(PluginLine::Header {
+        side: Side::Request,
+        rule: add,
+    })?;
+    setup.plugins.push(PluginLine::Header {
+        side: Side::Response,
+        rule: set,
+    })?;
     Ok(setup)
 }
 

@@ -1,5 +1,5 @@
 //! A transaction as the world of a mutex group.
-ghost use Rattle.std.specs.Prelude.{◌≡◌, ⊤, ⊥, true, [], None, refl, ℕ};
+ghost use Rattle.std.specs.Prelude.{◌≡◌, ⊤, true, false, [], None, refl, ℕ};
 ghost use Rattle.ts_group.specs.declared.world.Want.TheVariants as Want;
 ghost use Rattle.ts_group.specs.Calls.{IsCalled};
 ghost use Rattle.ts_group.specs.Entries.{Grows};

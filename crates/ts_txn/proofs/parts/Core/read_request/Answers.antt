@@ -26,7 +26,7 @@ returns-then-is_empty-clause-fact g c = λ told also.
     (view_of g.C.Link.look g.O.Link.look c.args.self.now) (view_of g.C.Link.look g.O.Link.look c.hear_request.new.self) told
     (c.requires.fact told also)
     (subst (λ p. HearsRequest g.C.Link.tells (view_of g.C.Link.look g.O.Link.look c.args.self.now) (view_of g.C.Link.look g.O.Link.look c.hear_request.new.self) (F.Read p))
-      c.in-Read-End.field-0-is c.in-Read-End.ensures.hears)
+    c.in-Read-End.field-0-is c.in-Read-End.ensures.hears)
     (search rules)
 
 pub returns-else-is_empty-clause-fact : goal.returns-else-is_empty-clause-fact
@@ -35,5 +35,5 @@ returns-else-is_empty-clause-fact g c = λ told also.
     (view_of g.C.Link.look g.O.Link.look c.args.self.now) (view_of g.C.Link.look g.O.Link.look c.hear_request.new.self) told
     (c.requires.fact told also)
     (subst (λ p. HearsRequest g.C.Link.tells (view_of g.C.Link.look g.O.Link.look c.args.self.now) (view_of g.C.Link.look g.O.Link.look c.hear_request.new.self) (F.Read p))
-      c.in-Read-End.field-0-is c.in-Read-End.ensures.hears)
+    c.in-Read-End.field-0-is c.in-Read-End.ensures.hears)
     (search rules)

@@ -24,13 +24,13 @@ returns-else-is_good-clause-fact g c = λ told also.
     refused_head (arc_value c.args.self.now.setup) (OriginRefuses g.C.Link.look g.O.Upstream.refuses c.args.self.now) g.O.Link.tells
     (view_of g.C.Link.look g.O.Link.look c.args.self.now) (view_of g.C.Link.look g.O.Link.look c.hear_response.new.self) c.args.request also
     (c.requires.fact told also) c.in-Head.head _ _ c.in-Head.ensures.hears c.if-is_interim.ensures refl (c.is_good.ensures.status c.if-is_good.false)
-    c.answer_to-answer.ensures
+    c.answer_to-bad.ensures
 
 pub returns-in-Never-clause-fact : goal.returns-in-Never-clause-fact
 returns-in-Never-clause-fact g c = λ told also.
     no_head (arc_value c.args.self.now.setup) (OriginRefuses g.C.Link.look g.O.Upstream.refuses c.args.self.now) g.O.Link.tells
     (view_of g.C.Link.look g.O.Link.look c.args.self.now) (view_of g.C.Link.look g.O.Link.look c.hear_response.new.self) c.args.request also
-    (c.requires.fact told also) _ c.in-Never.ensures.hears c.answer_to-answer-in-Never.ensures
+    (c.requires.fact told also) _ c.in-Never.ensures.hears c.answer_to-bad.ensures
 
 pub returns-in-Read-Some-clause-fact : goal.returns-in-Read-Some-clause-fact
 returns-in-Read-Some-clause-fact g c = λ told also.
@@ -44,8 +44,8 @@ returns-in-Read-End-clause-fact g c = λ told also.
     (view_of g.C.Link.look g.O.Link.look c.args.self.now) (view_of g.C.Link.look g.O.Link.look c.hear_response.new.self) c.args.request also
     (c.requires.fact told also) _
     (subst (λ p. HearsResponse g.O.Link.tells (view_of g.C.Link.look g.O.Link.look c.args.self.now) (view_of g.C.Link.look g.O.Link.look c.hear_response.new.self) (F.Read p))
-      c.in-Read-End.field-0-is c.in-Read-End.ensures.hears)
-    c.answer_to-answer-in-Read-End.ensures
+    c.in-Read-End.field-0-is c.in-Read-End.ensures.hears)
+    c.answer_to-bad.ensures
 
 pub returns-in-Read-Again-clause-fact : goal.returns-in-Read-Again-clause-fact
 returns-in-Read-Again-clause-fact g c = λ told also.
@@ -59,8 +59,8 @@ returns-in-Read-Failed-clause-fact g c = λ told also.
     (view_of g.C.Link.look g.O.Link.look c.args.self.now) (view_of g.C.Link.look g.O.Link.look c.hear_response.new.self) c.args.request also
     (c.requires.fact told also) _
     (subst (λ p. HearsResponse g.O.Link.tells (view_of g.C.Link.look g.O.Link.look c.args.self.now) (view_of g.C.Link.look g.O.Link.look c.hear_response.new.self) (F.Read p))
-      c.in-Read-Failed.field-0-is c.in-Read-Failed.ensures.hears)
-    c.answer_to-answer-in-Read-Failed.ensures
+    c.in-Read-Failed.field-0-is c.in-Read-Failed.ensures.hears)
+    c.answer_to-fault.ensures
 
 pub returns-in-NoMemory-clause-fact : goal.returns-in-NoMemory-clause-fact
 returns-in-NoMemory-clause-fact g c = λ told also.
@@ -68,5 +68,5 @@ returns-in-NoMemory-clause-fact g c = λ told also.
     let refuses = OriginRefuses g.C.Link.look g.O.Upstream.refuses c.args.self.now in
     let w = view_of g.C.Link.look g.O.Link.look c.hear_response.new.self in
     lacks_memory setup refuses w (awaits_any setup refuses w c.args.request
-      (awaits_still setup refuses g.O.Link.tells (view_of g.C.Link.look g.O.Link.look c.args.self.now) w c.args.request also
-        (c.requires.fact told also) c.in-NoMemory.ensures.hears))
+    (awaits_still setup refuses g.O.Link.tells (view_of g.C.Link.look g.O.Link.look c.args.self.now) w c.args.request also
+    (c.requires.fact told also) c.in-NoMemory.ensures.hears))

@@ -17,5 +17,5 @@ returns-in-NoMemory-clause-fact g c = λ told also.
     let refuses = OriginRefuses g.C.Link.look g.O.Upstream.refuses c.args.self.now in
     lacks_memory (arc_value c.args.self.now.setup) refuses w
     (sends_any (arc_value c.args.self.now.setup) refuses w c.args.request
-      (writes_on (arc_value c.args.self.now.setup) g.O.Link.tells (view_of g.C.Link.look g.O.Link.look c.args.self.now) w V.NoMemory c.args.request
-        also (c.requires.fact told also) c.in-NoMemory.ensures.writes))
+    (writes_on (arc_value c.args.self.now.setup) g.O.Link.tells (view_of g.C.Link.look g.O.Link.look c.args.self.now) w V.NoMemory c.args.request
+    also (c.requires.fact told also) c.in-NoMemory.ensures.writes))
