@@ -1,13 +1,14 @@
 pub mod Always
 pub mod Asks
+pub mod Chaining
 pub mod Coverage
 pub mod Filled
 pub mod Finished
 pub mod Fitting
 pub mod Going
 pub mod Handling
-pub mod Made
 pub mod Leaving
+pub mod Made
 pub mod Minding
 pub mod OneBlock
 mod OneHead

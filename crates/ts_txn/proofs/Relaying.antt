@@ -1,13 +1,16 @@
 -- A body that is passed on: what a write to the client, a read of the origin and a piece that is framed leave of it.
-use Rattle.std.proofs.Common.{◌≡◌, ◌≢◌, ℕ, ◌<◌, ◌≤◌, List, [], ◌∷◌, ◌++◌, map, length, take, Bool, true, false, refl, sym, ap, subst, ◌∙◌, append_assoc}
-use Rattle.std.specs.Prelude.{All, flat_map}
+use Rattle.std.proofs.Common.{◌≡◌, ◌≢◌, ℕ, ◌<◌, ◌≤◌, List, [], ◌∷◌, ◌++◌, map, length, take, drop, Bool, true, false, Result, Ok, Err, refl, sym, ap, subst, ◌∙◌, append_assoc, inl, inr}
+use Rattle.std.specs.Prelude.{All, flat_map, ⊤}
 use Rattle.std.specs.Bool.{OnTrue}
-use Rattle.std.proofs.lemmas.List.{append-nil, map-append}
+use Rattle.std.proofs.lemmas.Bool.{OnTrue_from}
+use Rattle.std.proofs.lemmas.List.{append-nil, map-append, take-append-drop, take_at}
 use Rattle.std.proofs.lemmas.List.Elements.{All-append, All-cons, All-nil}
 use Rattle.std.proofs.lemmas.Grind.{flat_map-append}
 use Rattle.ts_config.specs.declared.setup.Setup.{Setup}
 use Rattle.ts_config.specs.declared.setup.TransformLine.{TransformLine}
 use Rattle.ts_config.specs.Bodies.{compose_lines}
+use Rattle.ts_group.specs.declared.action.SetFault.{SetFault}
+use Rattle.ts_group.specs.declared.action.SetFault.TheVariants as F
 use Rattle.ts_hooks.specs.declared.txn_end.TxnEnd.TheVariants as E
 use Rattle.ts_link.specs.Link.{all_of}
 use Rattle.ts_transform.specs.Flow.{ChainState, TakesAway, client_wait, flow, flow_from}
@@ -17,21 +20,30 @@ use Rattle.ts_vconn.specs.declared.moves.Pushed.TheVariants as V
 use Rattle.ts_wire.specs.declared.frames.Mode.{Mode}
 use Rattle.ts_wire.specs.declared.heads.ResponseHead.{ResponseHead}
 use Rattle.ts_wire.specs.Frames.{IsPiece, cut_body, end_of, frame_of, frames}
+use Rattle.ts_wire.specs.declared.body.BodyState.TheVariants as B
+use Rattle.ts_wire.specs.Body.{BodyOf}
 use Rattle.ts_wire.specs.Place.{Place}
-use Rattle.ts_txn.specs.Block.{body_lines, relayed_head}
+use Rattle.ts_wire.proofs.PlaceBody.{place_body}
+use Rattle.ts_txn.specs.Relayed.{framing_of}
+use Rattle.ts_txn.specs.Block.{BodySays, EndsWith, IsBlock, body_lines, ended, passed_on, relayed_block, relayed_head, request_text}
 use Rattle.ts_txn.specs.Heads.{FinalHead}
 use Rattle.ts_txn.specs.View.{LinkSide, View}
 use Rattle.ts_txn.specs.Moving.{SideReads, SideWrites, WritesClient}
 use Rattle.ts_txn.specs.RelayMoves.{QueuesText, FramesEnd, FramesPiece, QueuesNothing, ReadsOrigin}
 use Rattle.ts_txn.specs.Facts as facts
-use Rattle.ts_txn.specs.Ends.{AnyEnd, EndFact, HasText, IsFrontThrough, Relayed}
+use Rattle.ts_txn.specs.Ends.{AnyEnd, EndFact, HasText, IsBodyOver, IsFrontThrough, Relayed}
 use Rattle.ts_txn.specs.Ends as ends
-use Rattle.ts_txn.specs.Relaying.{GivesEnd, ReadsBody, RelaysBody}
+use Rattle.ts_txn.specs.Relaying.{GivesEnd, ReadsBody, RelaysBody, step_after}
+use Rattle.ts_txn.specs.Finishing.{IsFinishing, LeadsBody}
+use Rattle.ts_txn.specs.declared.block.Block.{Block}
+use Rattle.ts_txn.specs.declared.finishing.BodyStep.{BodyStep}
 use Rattle.ts_txn.specs.declared.parts.Sent.{Sent}
 use Rattle.ts_txn.specs.declared.phase.Request.{Request}
 use Rattle.ts_txn.proofs.OneSide.{read_count, write_count, write_failed}
+use Rattle.ts_txn.proofs.Going.{gone_block}
 use Rattle.ts_txn.proofs.Owns.{all_took}
 use Rattle.ts_txn.proofs.Responding.{final_more, served_as}
+use Rattle.ts_txn.proofs.Uploading.{took_request}
 
 -- ---- the client's text
 
@@ -112,12 +124,20 @@ text_ended v w head body f h =
       body_is = h.body_is;
     }
 
+-- a front of the first block of some bytes is a front of these
+pub front_of_block : (bytes block piece : List ℕ) (m : ℕ) → block ≡ take (length block) bytes → piece ≡ take m block → piece ≡ take (length piece) bytes
+front_of_block bytes block piece m front part =
+    let whole : bytes ≡ piece ++ (drop m block ++ drop (length block) bytes) =
+        sym (take-append-drop (length block) bytes) ∙ ap (λ (x : List ℕ). x ++ drop (length block) bytes) (sym front ∙ sym (take-append-drop m block) ∙ ap (λ (x : List ℕ). x ++ drop m block) (sym part))
+        ∙ append_assoc piece (drop m block) (drop (length block) bytes) in
+    sym (ap (take (length piece)) whole ∙ take_at piece (drop m block ++ drop (length block) bytes) (length piece) refl)
+
 -- ---- what the chain still gives
 
 -- bytes that came to a chain stand in front of what still comes
-pub flow_given : {P : Type 0} (rest : P → List ℕ → List ℕ) (c : ChainState P) (given : List ℕ) (ended : Bool) (z : List ℕ)
-    → flow rest (record c { first = c.first ++ given; given = ended }) z ≡ flow rest c (given ++ z)
-flow_given rest c given ended z = ap (flow_from rest c.stages) (append_assoc c.first given z)
+pub flow_given : {P : Type 0} (rest : P → List ℕ → List ℕ) (c : ChainState P) (given : List ℕ) (over : Bool) (z : List ℕ)
+    → flow rest (record c { first = c.first ++ given; given = over }) z ≡ flow rest c (given ++ z)
+flow_given rest c given over z = ap (flow_from rest c.stages) (append_assoc c.first given z)
 
 -- what was sent is a front of the lines' work
 front_by : (b : Bool) (lines : List TransformLine) (read body : List ℕ) (next : List ℕ → List ℕ)
@@ -280,3 +300,95 @@ module _ (setup : Setup) (refuses : Type 0) where
         gives_end = record { ended = λ given. absurd (let wrong : true ≡ false = sym given ∙ going in cc); goes_on = r.gives_end.goes_on };
         sends = r.sends;
       })
+
+  -- where a step leads at which a stage was roused, or could not be
+  pub leads_after : (goes : Type 0) (v : View) (r : Result ⊤ SetFault) → goes → EndFact setup refuses v E.NoMemory → LeadsBody setup refuses goes v (step_after r)
+  leads_after goes v (Ok x) on lacks = on
+  leads_after goes v (Err F.Spent) on lacks = on
+  leads_after goes v (Err F.NoMemory) on lacks = lacks
+  leads_after goes v (Err F.Dead) on lacks = lacks
+
+  pub frames_step : {P : Type 0} (rest : P → List ℕ → List ℕ) (v w : View) (c d : ChainState P) (place : Place) (piece : List ℕ) (n : ℕ) (r : Result ⊤ SetFault)
+      (step : BodyStep) → step ≡ step_after r → FramesPiece piece v w → IsPiece piece → TakesAway rest n c d → piece ≡ take n (client_wait c)
+      → RelaysBody setup refuses rest v c place → LeadsBody setup refuses (RelaysBody setup refuses rest w d place) w step
+  frames_step rest v w c d place piece n r step is f small takes same h =
+      let on = frames_on rest v w c d place piece n f small takes same h in
+      subst (LeadsBody setup refuses (RelaysBody setup refuses rest w d place) w) (sym is)
+      (leads_after (RelaysBody setup refuses rest w d place) w r on (relays_lacks rest w d place on))
+
+  -- ---- all of the body was given, and its end is framed
+
+  -- where the body is over, all bytes of the origin end with it
+  over_ends : (q : Request) (h : ResponseHead) (c : List ℕ) (dialed : Bool) (o : LinkSide) (place : Place) (read : List ℕ)
+      (r : ReadsBody setup refuses q h c dialed o place read) → IsBodyOver (framing_of q.head h) o place
+      → EndsWith (framing_of q.head h) ((r.fed ++ o.inbox) ++ o.look.left) read
+  over_ends q h c dialed o place read r (ends.told state) =
+      inl (subst (λ (x : List ℕ). BodyOf (framing_of q.head h) x read B.Ended) (sym (append_assoc r.fed o.inbox o.look.left))
+        (subst (BodyOf (framing_of q.head h) (r.fed ++ (o.inbox ++ o.look.left)) read) state
+          (place_body (framing_of q.head h) r.fed read place.held place.phase place.total r.is_fed.stands r.is_fed.counted r.is_fed.sound (o.inbox ++ o.look.left)
+            (λ goes. absurd (let wrong : B.Ended ≡ B.Unfinished = sym state ∙ goes in cc)))))
+  over_ends q h c dialed o place read r (ends.closed close state no_left no_held) =
+      let none : o.inbox ++ o.look.left ≡ [] = ap (λ (x : List ℕ). x ++ o.look.left) no_held ∙ no_left in
+      inr (close, subst (λ (x : List ℕ). BodyOf (framing_of q.head h) x read B.Unfinished) (sym (append_assoc r.fed o.inbox o.look.left))
+        (subst (BodyOf (framing_of q.head h) (r.fed ++ (o.inbox ++ o.look.left)) read) state
+          (place_body (framing_of q.head h) r.fed read place.held place.phase place.total r.is_fed.stands r.is_fed.counted r.is_fed.sound (o.inbox ++ o.look.left)
+            (λ goes. none))))
+
+  -- the head is the final one in all that the origin gives
+  all_final : (q : Request) (h : ResponseHead) (c : List ℕ) (dialed : Bool) (o : LinkSide) (place : Place) (read : List ℕ)
+      (r : ReadsBody setup refuses q h c dialed o place read) → FinalHead (all_of o.look) h ((r.fed ++ o.inbox) ++ o.look.left)
+  all_final q h c dialed o place read r = final_more o.look.given h (r.fed ++ o.inbox) o.look.left r.reads
+
+  -- a block of the response that is passed on
+  relayed_is : (q : Request) (h : ResponseHead) (c : List ℕ) (dialed : Bool) (o : LinkSide) (place : Place) (read : List ℕ) (b : Block)
+      (r : ReadsBody setup refuses q h c dialed o place read)
+      → BodySays setup (request_text setup q.head q.target q.host) q.head h ((r.fed ++ o.inbox) ++ o.look.left) b → IsBlock setup dialed refuses (all_of o.look) c b
+  relayed_is q h c dialed o place read b r says =
+      gone_block setup dialed refuses (all_of o.look) c q b r.served.goes
+      (inr (r.served.accepts, passed_on h ((r.fed ++ o.inbox) ++ o.look.left) (all_final q h c dialed o place read r) r.good says))
+
+  pub ends_whole : {P : Type 0} (rest : P → List ℕ → List ℕ) (v w : View) (c : ChainState P) (place : Place) → FramesEnd v w → c.given ≡ true → flow rest c [] ≡ []
+      → RelaysBody setup refuses rest v c place → IsFinishing setup refuses w E.Whole
+  ends_whole rest v w c place f given none r =
+      let reads : ReadsBody setup refuses r.q r.h (all_of w.client.look) w.dialed w.origin place r.read =
+          queued_reads (end_of v.sent.mode) [] v w r.q r.h place r.read f r.reads in
+      let over : IsBodyOver (framing_of r.q.head r.h) w.origin place =
+          subst (λ (o : LinkSide). IsBodyOver (framing_of r.q.head r.h) o place) (sym f.origin) (r.gives_end.ended given) in
+      let text = text_ended v w (relayed_head setup r.q.head r.h) r.sends.body f r.sends.text in
+      let whole : r.sends.body ≡ compose_lines (body_lines setup r.q.head r.h) r.read =
+          sym (append-nil r.sends.body) ∙ ap (λ (x : List ℕ). r.sends.body ++ x) (sym none)
+          ∙ r.sends.flows [] (OnTrue_from c.given ([] ≡ []) (λ so. refl)) ∙ ap (compose_lines (body_lines setup r.q.head r.h)) (append-nil r.read) in
+      let request = request_text setup r.q.head r.q.target r.q.host in
+      let block = relayed_block setup request r.q.head r.h E.Whole (compose_lines (body_lines setup r.q.head r.h) r.read) in
+      record {
+        count = subst (λ (s : LinkSide). s.base ≤ s.look.faults) (sym f.client) r.sends.count;
+        some = λ e. r.sends.some (sym (ap (λ (s : LinkSide). s.look.given) f.client) ∙ e);
+        took = facts.request r.q reads.served.goes reads.served.carries;
+        queues = record {
+          block = block;
+          is_block = relayed_is r.q r.h (all_of w.client.look) w.dialed w.origin place r.read block reads
+              (ended r.read (over_ends r.q r.h (all_of w.client.look) w.dialed w.origin place r.read reads over) refl);
+          ends = refl;
+          took = took_request setup r.q w.origin reads.served.carries reads.served.no_waits;
+          mode = f.adds.mode ∙ r.sends.mode;
+          sent = r.sends.body;
+          text = text;
+          whole = λ fin. whole;
+          relayed = record {
+            q = r.q;
+            h = r.h;
+            served = reads.served;
+            good = reads.good;
+            fed = reads.fed;
+            read = r.read;
+            place = place;
+            reads = reads.reads;
+            is_fed = reads.is_fed;
+            over = λ done. over;
+            mode = f.adds.mode ∙ r.sends.mode;
+            text = text;
+            front = ([], append-nil r.sends.body ∙ whole);
+            whole = λ fin. (refl, whole);
+          };
+        };
+      }

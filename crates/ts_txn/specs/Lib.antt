@@ -5,6 +5,7 @@ pub mod Cover
 pub mod Driven
 pub mod Ends
 pub mod Facts
+pub mod Feeding
 pub mod Finding
 pub mod Finishing
 pub mod Fronts

@@ -9,6 +9,7 @@ mod awaiting;
 mod block;
 mod bodies;
 mod driver;
+mod feeding;
 mod finding;
 mod finishing;
 mod making;

@@ -1,5 +1,6 @@
 //! The steps that write a body to the client: what waits is written, a piece is framed, or the end is.
-ghost use Rattle.std.specs.Prelude.{◌≡◌, true};
+ghost use Rattle.std.specs.Prelude.{◌≡◌, ◌<◌, true, length, take};
+ghost use Rattle.ts_wire.specs.Frames.{IsPiece};
 ghost use Rattle.ts_txn.specs.Relaying.{RelayHolds, RelayLeads, StepsChain};
 ghost use Rattle.ts_txn.specs.Holding.{StepKeeps};
 
@@ -13,6 +14,16 @@ use ts_transform::Transform;
 use ts_upstream::Upstream;
 use ts_vconn::Pushed;
 use ts_wire::MAX_PIECE;
+
+// The front of some bytes that is framed as one piece.
+fn piece_of(bytes: &[u8]) -> &[u8]
+    requires { 0 < length bytes.now }
+    ensures piece { IsPiece result.now }
+    ensures front { result.now ≡ take (length result.now) bytes.now }
+{
+    let (piece, _) = bytes.split_at(bytes.len().min(MAX_PIECE));
+    piece
+}
 
 impl<C: Link, O: Upstream<C>> Core<C, O> {
     // Frames the end of the body, where the chain has given all of it.
@@ -45,7 +56,7 @@ impl<C: Link, O: Upstream<C>> Core<C, O> {
         let Some(block) = relay.driven.chain().out_block() else {
             return self.end_some(relay);
         };
-        let (piece, _) = block.split_at(block.len().min(MAX_PIECE));
+        let piece = piece_of(block);
         let count = piece.len();
         let Ok(()) = self.frame_body(piece) else {
             return BodyStep::Lacks;
