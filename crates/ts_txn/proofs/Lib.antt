@@ -2,6 +2,7 @@ pub mod Always
 pub mod Asks
 pub mod Chaining
 pub mod Coverage
+pub mod Fed
 pub mod Filled
 pub mod Finished
 pub mod Fitting
