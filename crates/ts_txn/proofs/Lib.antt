@@ -22,4 +22,5 @@ mod Searching
 pub mod Seating
 pub mod Settled
 mod Sites
+pub mod Stopping
 pub mod Uploading

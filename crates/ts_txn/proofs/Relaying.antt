@@ -140,7 +140,7 @@ pub flow_given : {P : Type 0} (rest : P → List ℕ → List ℕ) (c : ChainSta
 flow_given rest c given over z = ap (flow_from rest c.stages) (append_assoc c.first given z)
 
 -- what was sent is a front of the lines' work
-front_by : (b : Bool) (lines : List TransformLine) (read body : List ℕ) (next : List ℕ → List ℕ)
+pub front_by : (b : Bool) (lines : List TransformLine) (read body : List ℕ) (next : List ℕ → List ℕ)
     → ((z : List ℕ) → OnTrue b (z ≡ []) → body ++ next z ≡ compose_lines lines (read ++ z)) → IsFrontThrough lines b read body
 front_by true lines read body next flows = (next [], flows [] refl ∙ ap (compose_lines lines) (append-nil read))
 front_by false lines read body next flows = λ more. (next more, flows more tt)
@@ -340,7 +340,7 @@ module _ (setup : Setup) (refuses : Type 0) where
   all_final q h c dialed o place read r = final_more o.look.given h (r.fed ++ o.inbox) o.look.left r.reads
 
   -- a block of the response that is passed on
-  relayed_is : (q : Request) (h : ResponseHead) (c : List ℕ) (dialed : Bool) (o : LinkSide) (place : Place) (read : List ℕ) (b : Block)
+  pub relayed_is : (q : Request) (h : ResponseHead) (c : List ℕ) (dialed : Bool) (o : LinkSide) (place : Place) (read : List ℕ) (b : Block)
       (r : ReadsBody setup refuses q h c dialed o place read)
       → BodySays setup (request_text setup q.head q.target q.host) q.head h ((r.fed ++ o.inbox) ++ o.look.left) b → IsBlock setup dialed refuses (all_of o.look) c b
   relayed_is q h c dialed o place read b r says =

@@ -20,6 +20,7 @@ mod peers;
 mod phase;
 mod reading;
 mod relay;
+mod relay_reading;
 mod relay_sides;
 mod relay_writing;
 mod relayed;
