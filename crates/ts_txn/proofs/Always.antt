@@ -11,7 +11,6 @@ use Rattle.ts_txn.proofs.Responding.{awaits_any, relays_any}
 use Rattle.ts_txn.proofs.Owns.{own_any, ready_any}
 
 module _ (setup : Setup) (refuses : Type 0) (v : View) where
-
   pub always : (p : Phase) → PhaseFact setup refuses v p → AnyEnd setup refuses v
   always P.Fresh h = asking_any setup refuses v h
   always P.TxnStart h = asking_any setup refuses v h

@@ -1,5 +1,5 @@
 -- The phase in which the client's request head is read and checked: where each answer of the client's link leads.
-use Rattle.std.proofs.Common.{◌≡◌, ◌≢◌, ℕ, ◌<◌, ◌≤◌, List, [], ◌∷◌, ◌++◌, Bool, true, false, Option, Some, None, Result, Ok, Err, length, arith, refl, sym, ap, subst, ◌∙◌, append_assoc}
+use Rattle.std.proofs.Common.{◌≡◌, ◌≢◌, ℕ, ◌<◌, List, [], ◌++◌, Bool, true, false, Result, length, arith, refl, sym, ap, subst, ◌∙◌}
 use Rattle.std.proofs.lemmas.List.{append-nil}
 use Rattle.std.proofs.lemmas.List.Elements.{All-nil}
 use Rattle.httparse.proofs.GrammarLemmas.{ReadsRequest-append}
@@ -22,16 +22,14 @@ use Rattle.ts_txn.specs.Block.{IsBlock, VerdictSays, asked, no_head, own_block, 
 use Rattle.ts_txn.specs.View.{HasFailed, LinkSide, View}
 use Rattle.ts_txn.specs.Moving.{HearsRequest, SideReads}
 use Rattle.ts_txn.specs.Checking.{IsCheckedAs}
-use Rattle.ts_txn.specs.Facts.{Asking, PassesCheck, ClientWaits, OwnReady, OwnCause, OriginTook, TookExactly, Untouched, decided}
+use Rattle.ts_txn.specs.Facts.{Asking, PassesCheck, ClientWaits, OwnReady, TookExactly, Untouched, decided}
 use Rattle.ts_txn.specs.Facts as facts
-use Rattle.ts_txn.specs.Ends.{AnyEnd, EndFact, HasText}
+use Rattle.ts_txn.specs.Ends.{AnyEnd, EndFact}
 use Rattle.ts_txn.specs.Ends as ends
-use Rattle.ts_txn.specs.declared.own.OwnStatus.{OwnStatus}
 use Rattle.ts_txn.specs.declared.own.OwnStatus.TheVariants as O
 use Rattle.ts_txn.specs.declared.asking.Checked.TheVariants as C
 use Rattle.ts_txn.specs.declared.phase.OwnAnswer.{OwnAnswer}
 use Rattle.ts_txn.specs.declared.phase.Request.{Request}
-use Rattle.ts_txn.specs.declared.reading.Found.{Found}
 use Rattle.ts_txn.specs.declared.reading.Found.TheVariants as F
 use Rattle.ts_txn.proofs.OneSide.{quiet_as, read_count, read_failed, some_front}
 

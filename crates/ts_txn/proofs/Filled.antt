@@ -1,5 +1,5 @@
 -- The head of a request that an origin gets is not empty.
-use Rattle.std.proofs.Common.{◌≡◌, ◌≢◌, ℕ, List, [], ◌++◌, length, arith, ap, length-append}
+use Rattle.std.proofs.Common.{◌≢◌, [], ◌++◌, length, arith, ap, length-append}
 use Rattle.std.specs.Prelude.{codes, flat_map}
 use Rattle.ts_config.specs.declared.setup.Setup.{Setup}
 use Rattle.ts_config.specs.declared.fields.Side.TheVariants as S

@@ -15,7 +15,6 @@ still_sure : (l m : Look) → IsSameLink l m → IsSure l → IsSure m
 still_sure l m same sure = subst (λ p. IsSomeAnd p IsSurePlan) (sym same.plan) sure
 
 module _ {C O : Type 0} (client : C → Look) (origin : O → Look) (paired : C → O → Type 0) (refuses : O → List ℕ → Type 0) where
-
   pub same_core : (t : Core C O) → StepKeeps client origin paired refuses t t
   same_core t = record {
     number = refl;

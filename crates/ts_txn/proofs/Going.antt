@@ -1,38 +1,30 @@
 -- The phases in which a request is denied or sent to its origin, with its upload: where each step leads.
-use Rattle.std.proofs.Common.{◌≡◌, ◌≢◌, ℕ, ◌<◌, ◌≤◌, List, [], ◌∷◌, ◌++◌, Bool, true, false, Option, Some, None, Result, Ok, Err, length, arith, refl, sym, ap, subst, ◌∙◌, append_assoc, inl, inr}
+use Rattle.std.proofs.Common.{◌≡◌, ℕ, List, [], ◌++◌, Bool, true, false, Result, refl, sym, ap, subst, ◌∙◌}
 use Rattle.std.proofs.lemmas.List.{append-nil}
 use Rattle.ts_config.specs.declared.setup.Setup.{Setup}
 use Rattle.ts_hooks.specs.declared.txn_end.TxnEnd.TheVariants as E
-use Rattle.ts_link.specs.Counts.{Rose}
 use Rattle.ts_link.specs.Link.{all_of}
-use Rattle.ts_upstream.specs.declared.upstream.Uploaded.{Uploaded}
-use Rattle.ts_upstream.specs.declared.upstream.Uploaded.TheVariants as U
-use Rattle.ts_upstream.specs.Uploads.{Uploads}
 use Rattle.ts_vconn.specs.declared.moves.Pushed.{Pushed}
 use Rattle.ts_vconn.specs.declared.moves.Pushed.TheVariants as V
-use Rattle.ts_wire.specs.declared.heads.RequestHead.{RequestHead}
-use Rattle.ts_wire.specs.declared.heads.ResponseHead.{ResponseHead}
-use Rattle.ts_wire.specs.Heads.{LacksResponse}
-use Rattle.ts_wire.specs.Check.{check, plugin_host}
+use Rattle.ts_wire.specs.Check.{plugin_host}
 use Rattle.ts_wire.proofs.OneResponse.{lacks_nil}
 use Rattle.ts_txn.specs.Rules.{is_denied}
-use Rattle.ts_txn.specs.Heads.{AfterInterims, FinalHead, LacksFinal, PassesInterims}
+use Rattle.ts_txn.specs.Heads.{LacksFinal}
 use Rattle.ts_txn.specs.Relayed.{asks_head}
 use Rattle.ts_txn.specs.Block.{DenySays, DialSays, IsBlock, VerdictSays, asked, own_block, request_text}
-use Rattle.ts_txn.specs.View.{HasCount, HasFailed, LinkSide, View}
-use Rattle.ts_txn.specs.Moving.{MovesBoth, MovesUpload, QueuesRequest, SideWrites, WritesOrigin}
+use Rattle.ts_txn.specs.View.{HasFailed, LinkSide, View}
+use Rattle.ts_txn.specs.Moving.{QueuesRequest, SideWrites, WritesOrigin}
 use Rattle.ts_txn.specs.Facts.{IsAllowed, CarriesRequest, PassesCheck, Goes, IsUnanswered, Knows, OwnReady, SendingRequest, Uploading, fault}
 use Rattle.ts_txn.specs.Facts as facts
-use Rattle.ts_txn.specs.Ends.{AnyEnd, EndFact}
+use Rattle.ts_txn.specs.Ends.{AnyEnd}
 use Rattle.ts_txn.specs.Ends as ends
-use Rattle.ts_txn.specs.declared.own.OwnStatus.{OwnStatus}
 use Rattle.ts_txn.specs.declared.own.OwnStatus.TheVariants as O
 use Rattle.ts_txn.specs.declared.block.Block.{Block}
 use Rattle.ts_txn.specs.declared.phase.OwnAnswer.{OwnAnswer}
 use Rattle.ts_txn.specs.declared.phase.Request.{Request}
 use Rattle.ts_txn.proofs.OneHead.{lacks_final}
-use Rattle.ts_txn.proofs.OneSide.{quiet_as, some_front, write_count, write_failed}
-use Rattle.ts_txn.proofs.Asks.{client_fails, untouched_own}
+use Rattle.ts_txn.proofs.OneSide.{write_count, write_failed}
+use Rattle.ts_txn.proofs.Asks.{untouched_own}
 
 -- ---- the block of a request that is known
 

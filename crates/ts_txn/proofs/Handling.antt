@@ -1,17 +1,22 @@
 -- A transaction is sound again when it was started, and when an event was handled.
-use Rattle.std.proofs.Common.{◌≡◌, ◌⊎◌, inl, inr, ℕ, List, Bool, true, false, Option, None, arith, refl, sym, ap, subst, ◌∙◌}
+use Rattle.std.proofs.Common.{◌≡◌, ◌≤◌, ◌⊎◌, inl, inr, ℕ, List, [], Bool, true, false, Option, Some, None, arith, refl, sym, ap, subst, ◌∙◌}
 use Rattle.std.specs.Arc.{arc_value}
 use Rattle.ts_hooks.specs.declared.txn_end.TxnEnd.TheVariants as E
 use Rattle.ts_journal.specs.declared.entry.Event.{Event}
+use Rattle.ts_journal.specs.declared.entry.Pending.{Pending}
+use Rattle.ts_journal.specs.declared.entry.TheConstants.{GREATEST}
+use Rattle.ts_group.specs.declared.action.Named.{Named}
 use Rattle.ts_group.specs.Calls.{IsAsked, IsCalled}
 use Rattle.ts_group.specs.Context.{Context}
 use Rattle.ts_link.specs.Link.{Look}
-use Rattle.ts_transform.specs.Driving.{unroused, works_at}
-use Rattle.ts_txn.specs.Cover.{Idles, HasNextEventOr, Seated, is_fresh}
+use Rattle.ts_transform.specs.Driving.{IsOfStageIf, IsRousedIf, unroused, works_at}
+use Rattle.ts_transform.specs.declared.continuation.StageContinuation.{StageContinuation}
+use Rattle.ts_txn.specs.Cover.{HasNextEvent, HasNextEventOr, Idles, Seated, is_fresh, main_role}
 use Rattle.ts_txn.specs.Driven.{BeginsOrLacks, SeatedAfter}
 use Rattle.ts_txn.specs.Ends.{EndFact}
 use Rattle.ts_txn.specs.Facts.{Asking}
 use Rattle.ts_txn.specs.Holding.{PhaseHolds, StepKeeps, PhaseFact}
+use Rattle.ts_txn.specs.Making.{end_of_phase}
 use Rattle.ts_txn.specs.View.{IsPaired, OriginRefuses, view_of}
 use Rattle.ts_txn.specs.World.{IsSoundTxn}
 use Rattle.ts_txn.specs.declared.phase.Phase.{Phase}
@@ -38,8 +43,42 @@ fresh_is (P.Sending a) is = absurd (cc)
 fresh_is (P.TxnClose end) is = absurd (cc)
 fresh_is (P.Ended end) is = absurd (cc)
 
-module _ {C O : Type 0} (ct ot : Bool) (client : C → Look) (origin : O → Look) (paired : C → O → Type 0) (refuses : O → List ℕ → Type 0) where
+-- one that goes on has its continuation roused
+goes_roused : (p : Phase) (main : Option StageContinuation) → is_fresh p ≡ false → end_of_phase p ≡ None → HasNextEvent p main → IsRousedIf main
+goes_roused P.Fresh main started lasts has = absurd (cc)
+goes_roused P.TxnStart main started lasts has = has
+goes_roused P.ReadRequest main started lasts has = has
+goes_roused (P.ReadRequestHdr q) main started lasts has = has
+goes_roused (P.OsDns q) main started lasts has = has
+goes_roused (P.SendRequestHdr q) main started lasts has = has
+goes_roused (P.SendRequest q) main started lasts has = has
+goes_roused (P.Upload q) main started lasts has = has
+goes_roused (P.ReadResponse q) main started lasts has = has
+goes_roused (P.ReadResponseHdr q r) main started lasts has = has
+goes_roused (P.ResponseTransform q r) main started lasts has = has
+goes_roused (P.SendResponseHdr a) main started lasts has = has
+goes_roused (P.Sending a) main started lasts has = has
+goes_roused (P.TxnClose end) main started lasts has = has
+goes_roused (P.Ended end) main started lasts has = absurd (cc)
 
+-- and so an event
+no_roused : (roles : List Named) (main : Option StageContinuation) → IsOfStageIf [] roles main_role main → IsRousedIf main → ⊥
+no_roused roles None of_main roused = roused
+no_roused roles (Some t) of_main roused =
+    let event = of_main.event roused in
+    let none : ◌≡◌ {A = Option Pending} None (Some event.event) = event.there in
+    absurd (cc)
+
+-- so with nothing pending it has ended, or the numbers are used up
+pub at_rest : {C O : Type 0} (ct ot : Bool) (client : C → Look) (origin : O → Look) (paired : C → O → Type 0) (refuses : O → List ℕ → Type 0) (t : Txn C O)
+    (next : ℕ) (roles : List Named) → is_fresh t.phase ≡ false → end_of_phase t.phase ≡ None → IsSoundTxn ct ot client origin paired refuses t [] next roles → GREATEST ≤ next
+at_rest ct ot client origin paired refuses t next roles started lasts h = by_cover h.covered
+  where
+    by_cover : HasNextEventOr t.phase t.main next → GREATEST ≤ next
+    by_cover (inr spent) = spent
+    by_cover (inl has) = absurd (no_roused roles t.main h.seated.of_main (goes_roused t.phase t.main started lasts has))
+
+module _ {C O : Type 0} (ct ot : Bool) (client : C → Look) (origin : O → Look) (paired : C → O → Type 0) (refuses : O → List ℕ → Type 0) where
   -- it was started
   pub sound_begun : (t u : Txn C O) (a b : Context)
       → IsSoundTxn ct ot client origin paired refuses t a.log.state.pending a.log.state.next a.roles → u.core ≡ t.core → is_fresh t.phase ≡ true → BeginsOrLacks u.phase
@@ -71,7 +110,6 @@ module _ {C O : Type 0} (ct ot : Bool) (client : C → Look) (origin : O → Loo
 
   module _ (t : Txn C O) (now : Context) (role : ℕ) (event : Event)
       (c : IsCalled (λ s roles. IsSoundTxn ct ot client origin paired refuses t s.pending s.next roles) now role event) where
-
     next_covered : HasNextEventOr t.phase t.main now.log.state.next
     next_covered = subst (HasNextEventOr t.phase t.main) (sym (same_next _ now role event c t.main c.sound.seated)) c.sound.covered
 

@@ -1,5 +1,5 @@
 -- The calls of a step that send nothing to the origin.
-use Rattle.std.proofs.Common.{◌≡◌, List, ℕ, Bool, true, ap, refl}
+use Rattle.std.proofs.Common.{◌≡◌, List, ℕ, Bool, true, ap}
 use Rattle.ts_vconn.specs.declared.moves.Pushed.{Pushed}
 use Rattle.ts_wire.specs.declared.heads.RequestHead.{RequestHead}
 use Rattle.ts_wire.specs.declared.heads.ResponseHead.{ResponseHead}

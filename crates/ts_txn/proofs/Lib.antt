@@ -24,3 +24,4 @@ pub mod Settled
 mod Sites
 pub mod Stopping
 pub mod Uploading
+pub mod Waiting

@@ -21,7 +21,6 @@ use Rattle.ts_txn.specs.declared.phase.Phase.TheVariants as P
 use Rattle.ts_txn.specs.declared.txn.Txn.{Txn}
 
 module _ {L : Type 0} (look : L → Look) where
-
   seen : (l : L) (p : Peer L) → IsMadeOf look l p → look p.link ≡ look l
   seen l p made = ap look made.link_is
 
@@ -45,7 +44,6 @@ module _ {L : Type 0} (look : L → Look) where
 
 module _ {C O : Type 0} (client : C → Look) (origin : O → Look) (c : C) (o : Option O) (t : Txn C O)
     (of_client : IsMadeOf client c t.core.client) (of_origin : IsMadeOfIf origin o t.core.origin) where
-
   asking : IsNewLink (client c) → IsNewLinkIf origin o → t.core.sent.head ≡ 0 → t.core.sent.mode ≡ M.Plain → t.core.sent.cuts.items ≡ [] → Asking (view_of client origin t.core)
   asking unused unused_origin head mode cuts =
       let u = untouched client c t.core.client of_client unused in

@@ -1,13 +1,13 @@
 -- What a call on one side of a transaction leaves of the facts on it.
-use Rattle.std.proofs.Common.{◌≡◌, ◌≢◌, ℕ, ◌<◌, ◌≤◌, List, [], ◌∷◌, ◌++◌, Bool, true, false, Option, Some, None, length, arith, refl, sym, ap, subst, ◌∙◌}
+use Rattle.std.proofs.Common.{◌≡◌, ◌≢◌, ℕ, ◌≤◌, List, [], ◌∷◌, ◌++◌, Bool, true, false, arith, refl, sym, subst, ◌∙◌}
 use Rattle.ts_link.specs.Counts.{Counted, Rose}
-use Rattle.ts_link.specs.Link.{MayReplace, all_of}
+use Rattle.ts_link.specs.Link.{MayReplace}
 use Rattle.ts_vconn.specs.declared.moves.Pulled.{Pulled}
 use Rattle.ts_vconn.specs.declared.moves.Pushed.{Pushed}
 use Rattle.ts_vconn.specs.MoveAnswers.{pull_failed, push_failed}
 use Rattle.ts_txn.specs.View.{HasCount, HasFailed, LinkSide}
 use Rattle.ts_txn.specs.Moving.{SideReads, SideWrites}
-use Rattle.ts_txn.specs.Facts.{ClientWaits, Quiet}
+use Rattle.ts_txn.specs.Facts.{Quiet}
 use Rattle.ts_txn.specs.declared.parts.Sent.{Sent}
 
 grown : (b : Bool) (base old new : ℕ) → Counted b old new → base ≤ old → base ≤ new

@@ -1,5 +1,5 @@
 -- The phases in which an answer of the proxy's own is queued and sent: where each step leads.
-use Rattle.std.proofs.Common.{◌≡◌, ◌≢◌, ℕ, ◌<◌, ◌≤◌, List, [], ◌∷◌, ◌++◌, map, length, Bool, true, false, refl, sym, ap, subst, ◌∙◌, arith, append_assoc}
+use Rattle.std.proofs.Common.{◌≡◌, ◌≢◌, ℕ, ◌<◌, ◌≤◌, List, [], ◌∷◌, ◌++◌, map, length, Bool, true, false, refl, sym, ap, subst, ◌∙◌, arith}
 use Rattle.std.specs.Prelude.{All}
 use Rattle.std.proofs.lemmas.List.{append-nil}
 use Rattle.std.proofs.lemmas.List.Elements.{All-nil, All-cons}
@@ -14,7 +14,7 @@ use Rattle.ts_wire.specs.declared.frames.Mode.TheVariants as M
 use Rattle.ts_wire.specs.Frames.{cut_body, frames, IsPiece}
 use Rattle.ts_txn.specs.Own.{own_body, own_sent}
 use Rattle.ts_txn.specs.Block.{own_block, own_text}
-use Rattle.ts_txn.specs.View.{HasFailed, LinkSide, View}
+use Rattle.ts_txn.specs.View.{LinkSide, View}
 use Rattle.ts_txn.specs.Moving.{cuts_of, QueuesOwn, SideWrites, WritesClient}
 use Rattle.ts_txn.specs.Facts.{HasOwnCause, HasOwnText, OwnCause, OwnReady, OwnSends, OriginTook, decided, fault}
 use Rattle.ts_txn.specs.Ends.{AnyEnd, EndFact, EndsBy, HasText}

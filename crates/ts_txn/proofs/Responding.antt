@@ -1,5 +1,5 @@
 -- The phase in which the origin's response head is read: where each answer of the origin's link leads.
-use Rattle.std.proofs.Common.{◌≡◌, ◌≢◌, ℕ, ◌<◌, ◌≤◌, ◌⊎◌, List, [], ◌∷◌, ◌++◌, Bool, true, false, length, arith, refl, sym, ap, subst, ◌∙◌, inl, inr}
+use Rattle.std.proofs.Common.{◌≡◌, ℕ, ◌≤◌, ◌⊎◌, List, [], ◌∷◌, ◌++◌, Bool, true, false, refl, sym, ap, subst, ◌∙◌, inl, inr}
 use Rattle.std.proofs.lemmas.List.{append-nil}
 use Rattle.httparse.proofs.GrammarLemmas.{ReadsResponse-append}
 use Rattle.ts_config.specs.declared.setup.Setup.{Setup}
@@ -13,11 +13,11 @@ use Rattle.ts_wire.specs.Heads.{LacksResponse}
 use Rattle.ts_txn.specs.Heads.{AfterInterims, FinalHead, HasResponse, LacksFinal, PassesInterims, is_interim, is_refused_status}
 use Rattle.ts_txn.specs.Relayed.{asks_head, framing_of}
 use Rattle.ts_txn.specs.Block.{IsGood, LacksAnswer, bad_status, faulty, lacking, no_final, own_block, request_text}
-use Rattle.ts_txn.specs.View.{HasFailed, LinkSide, View}
+use Rattle.ts_txn.specs.View.{LinkSide, View}
 use Rattle.ts_txn.specs.Moving.{HearsResponse, SideReads}
 use Rattle.ts_txn.specs.Facts.{Awaits, ClientWaits, OwnReady, Relays, Served, decided, fault}
 use Rattle.ts_txn.specs.Facts as facts
-use Rattle.ts_txn.specs.Ends.{AnyEnd, EndFact}
+use Rattle.ts_txn.specs.Ends.{AnyEnd}
 use Rattle.ts_txn.specs.Ends as ends
 use Rattle.ts_txn.specs.declared.own.OwnStatus.TheVariants as O
 use Rattle.ts_txn.specs.declared.phase.OwnAnswer.{OwnAnswer}

@@ -140,7 +140,6 @@ made_acts a b n grows turn events = record {
 
 module _ (Sound : State → List Named → Type 0) (now : Context) (role : ℕ) (event : Event) (c : IsCalled Sound now role event)
     (t : Option StageContinuation) (h : Seated c.before.pending now.roles t) where
-
   handled_plain : c.handled.period ≡ 0
   handled_plain = plain_at c.handled.number c.before.pending c.handled h.plain c.there
 

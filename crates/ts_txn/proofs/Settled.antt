@@ -24,7 +24,6 @@ use Rattle.ts_txn.specs.declared.phase.Request.{Request}
 use Rattle.ts_txn.proofs.Always.{always}
 
 module _ (setup : Setup) (R S : Type 0) (to : R → S) (from : S → R) where
-
   -- ---- the block
 
   dial : (dialed : Bool) (o request : List ℕ) (q : RequestHead) (b : Block) (d : Bool) → DialSays setup dialed R o d request q b → DialSays setup dialed S o d request q b
@@ -139,9 +138,9 @@ pub settled : {C O : Type 0} (client : C → Look) (origin : O → Look) (paired
 settled client origin paired refuses old new p d keeps h stays =
     let v = view_of client origin new in
     let to : OriginRefuses client refuses old → OriginRefuses client refuses new = λ r.
-        subst (λ (c : List ℕ). refuses_if refuses new.origin c) (sym keeps.client.source) (keeps.refusal.still _ r) in
+    subst (λ (c : List ℕ). refuses_if refuses new.origin c) (sym keeps.client.source) (keeps.refusal.still _ r) in
     let from : OriginRefuses client refuses new → OriginRefuses client refuses old = λ r.
-        keeps.refusal.before _ (subst (λ (c : List ℕ). refuses_if refuses new.origin c) keeps.client.source r) in
+    keeps.refusal.before _ (subst (λ (c : List ℕ). refuses_if refuses new.origin c) keeps.client.source r) in
     subst (λ s. PhaseFact (arc_value s) (OriginRefuses client refuses new) v d) (sym keeps.setup)
     (stays_or_lacks (arc_value old.setup) (OriginRefuses client refuses new) v p d
-      (phase_fact (arc_value old.setup) (OriginRefuses client refuses old) (OriginRefuses client refuses new) to from v p h) stays)
+    (phase_fact (arc_value old.setup) (OriginRefuses client refuses old) (OriginRefuses client refuses new) to from v p h) stays)

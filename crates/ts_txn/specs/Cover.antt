@@ -1,5 +1,6 @@
--- The duties of a transaction up to the head, and the event that does them: while it goes on, its continuation
--- has a pending event, so that no wake is lost (Developer's Guide, "Continuations" and "Actions and Events").
+-- The duties of a transaction up to the head, and the event that does them: while it goes on, its
+-- continuation has a pending event, so that no wake is lost (Developer's Guide, "Continuations" and "Actions
+-- and Events").
 use Rattle.std.specs.Prelude.{◌≡◌, ℕ, ◌≤◌, ◌⊎◌, List, Bool, true, false, Option, Some, None, ⊤}
 use Rattle.ts_journal.specs.declared.entry.TheConstants.{GREATEST}
 use Rattle.ts_journal.specs.declared.entry.Pending.{Pending}
@@ -47,7 +48,8 @@ IsOfMain None p = ⊥
 IsOfMain (Some t) p = p.key ≡ t.key
 
 -- The continuation has its role, and an event where it is roused; each pending event is one of it, and plain.
-pub record Seated (pending : List Pending) (roles : List Named) (main : Option StageContinuation) : Type 0 where
+pub record Seated (pending : List Pending) (roles : List Named)
+    (main : Option StageContinuation) : Type 0 where
   pub of_main : IsOfStageIf pending roles main_role main
   pub only : (n : ℕ) (p : Pending) → pending_at n pending ≡ Some p → IsOfMain main p
   pub plain : AllPlain pending

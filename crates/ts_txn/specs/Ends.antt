@@ -1,6 +1,6 @@
 -- How a transaction ends, and what then stands of what its links gave and took (Developer's Guide, "HTTP
 -- Hooks and Transactions"; RFC 9112, section 8, on incomplete messages).
-use Rattle.std.specs.Prelude.{◌≡◌, ◌≢◌, ℕ, ◌++◌, List, [], length, map, All, Bool, true, false, ⊤}
+use Rattle.std.specs.Prelude.{◌≡◌, ℕ, ◌++◌, List, [], length, map, All, Bool, true, false, ⊤}
 use Rattle.ts_config.specs.declared.setup.Setup.{Setup}
 use Rattle.ts_config.specs.declared.setup.TransformLine.{TransformLine}
 use Rattle.ts_config.specs.Bodies.{compose_lines}
@@ -17,7 +17,7 @@ use Rattle.ts_txn.specs.Relayed.{framing_of, mode_of}
 use Rattle.ts_txn.specs.Heads.{FinalHead}
 use Rattle.ts_txn.specs.Block.{IsBlock, IsGood, body_lines, framing_for, relayed_head}
 use Rattle.ts_txn.specs.View.{HasFailed, LinkSide, View}
-use Rattle.ts_txn.specs.Facts.{HasOwnCause, HasOwnText, HasTook, OwnReady, Quiet, Served, TookExactly}
+use Rattle.ts_txn.specs.Facts.{HasOwnCause, HasOwnText, HasTook, Quiet, Served, TookExactly}
 use Rattle.ts_txn.specs.declared.block.Block.{Block}
 use Rattle.ts_txn.specs.declared.parts.Sent.{Sent}
 use Rattle.ts_txn.specs.declared.phase.OwnAnswer.{OwnAnswer}

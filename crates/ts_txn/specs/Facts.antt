@@ -2,11 +2,10 @@
 -- links that tell (Developer's Guide, "HTTP Hooks and Transactions"; RFC 9110, section 7.6, and RFC 9112,
 -- section 9.3). Each fact is said of the parts that it speaks of, so that it stays where another part
 -- changes. In all of them `c` is all that the client gives.
-use Rattle.std.specs.Prelude.{◌≡◌, ◌≢◌, ℕ, ◌≤◌, ◌++◌, List, [], ◌∷◌, length, Bool, true, false, Ok}
+use Rattle.std.specs.Prelude.{◌≡◌, ◌≢◌, ℕ, ◌++◌, List, [], length, Bool, true, false, Ok}
 use Rattle.ts_config.specs.declared.setup.Setup.{Setup}
 use Rattle.ts_hooks.specs.declared.txn_end.TxnEnd.TheVariants as E
 use Rattle.ts_link.specs.Link.{all_of}
-use Rattle.ts_wire.specs.declared.heads.RequestHead.{RequestHead}
 use Rattle.ts_wire.specs.declared.heads.ResponseHead.{ResponseHead}
 use Rattle.ts_wire.specs.declared.frames.Mode.TheVariants as M
 use Rattle.ts_wire.specs.Check.{check, plugin_host}
@@ -14,7 +13,7 @@ use Rattle.ts_txn.specs.Rules.{is_denied}
 use Rattle.ts_txn.specs.Own.{own_sent}
 use Rattle.ts_txn.specs.Moving.{cuts_of}
 use Rattle.ts_txn.specs.Relayed.{asks_head}
-use Rattle.ts_txn.specs.Heads.{HasRequest, HasResponse, PassesInterims, FinalHead, LacksFinal}
+use Rattle.ts_txn.specs.Heads.{HasRequest, PassesInterims, FinalHead, LacksFinal}
 use Rattle.ts_txn.specs.Block.{IsBlock, IsGood, own_block, own_text, request_text}
 use Rattle.ts_txn.specs.View.{HasCount, HasFailed, LinkSide, View}
 use Rattle.ts_txn.specs.declared.own.OwnStatus.TheVariants as O

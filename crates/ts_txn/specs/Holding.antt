@@ -13,7 +13,6 @@ use Rattle.ts_txn.specs.declared.phase.Phase.TheVariants as P
 use Rattle.ts_txn.specs.declared.phase.Step.{Step}
 
 module _ (setup : Setup) (refuses : Type 0) where
-
   abbrev pub PhaseFact : View → Phase → Type 0
   PhaseFact v P.Fresh = Asking v
   PhaseFact v P.TxnStart = Asking v
@@ -37,7 +36,6 @@ IfTold client origin P = client ≡ true → origin ≡ true → P
 
 module _ {C O : Type 0} (ctells otells : Bool) (client : C → Look) (origin : O → Look)
     (refuses : O → List ℕ → Type 0) where
-
   -- what holds of a transaction in a phase
   abbrev pub PhaseHolds : Core C O → Phase → Type 0
   PhaseHolds t phase = IfTold ctells otells

@@ -9,8 +9,8 @@ use Rattle.ts_txn.specs.declared.parts.Peer.{Peer}
 use Rattle.ts_txn.specs.declared.phase.Phase.{Phase}
 use Rattle.ts_txn.specs.declared.phase.Phase.TheVariants as P
 
--- A setup has so few transform lines and hook plugin lines that a transaction takes it, and each of these plugins has a
--- group, from this one on.
+-- A setup has so few transform lines and hook plugin lines that a transaction takes it, and each of these
+-- plugins has a group, from this one on.
 pub record HasFewLines (setup : Setup) (plugins_at : ℕ) : Type 0 where
   pub transforms : length setup.transforms.items ≤ most_transforms
   pub plugins : length setup.plugins.items ≤ MOST_PLUGINS

@@ -1,7 +1,7 @@
 -- What contracts see of a transaction beside its phase: its two sides, each a link with the bytes that wait
 -- between it and the transaction, and what was queued for the client (Developer's Guide, "HTTP Hooks and
 -- Transactions").
-use Rattle.std.specs.Prelude.{◌≡◌, ℕ, ◌≤◌, List, [], Bool, true, false, Option, Some, None, ⊤}
+use Rattle.std.specs.Prelude.{ℕ, ◌≤◌, List, [], Bool, true, false, Option, Some, None, ⊤}
 use Rattle.ts_link.specs.Counts.{Rose}
 use Rattle.ts_link.specs.Link.{Look}
 use Rattle.ts_txn.specs.declared.parts.Peer.{Peer}

@@ -2,7 +2,7 @@
 ghost use Rattle.std.specs.Prelude.{◌≡◌, IfOk};
 ghost use Rattle.ts_txn.specs.Block.{own_text};
 ghost use Rattle.ts_txn.specs.Cover.{StepLeads};
-ghost use Rattle.ts_txn.specs.Steps.{LeavesOrigin, MindsFaults};
+ghost use Rattle.ts_txn.specs.Steps.{LeavesOrigin, MindsLinks, WaitsRightly};
 ghost use Rattle.ts_txn.specs.View.{view_of};
 ghost use Rattle.ts_txn.specs.Holding.{IfTold, PhaseHolds, HoldsAfter, StepKeeps};
 
@@ -22,10 +22,12 @@ impl<C: Link, O: Upstream<C>> Core<C, O> {
             (Phase.SendResponseHdr answer) }
         ensures leads { StepLeads result }
         ensures fact { HoldsAfter C.tells O.tells C.look O.look O.refuses self.old self.new result }
-        ensures minds { MindsFaults (view_of C.look O.look self.old) (view_of C.look O.look self.new) result }
+        ensures minds { MindsLinks (view_of C.look O.look self.old) (view_of C.look O.look self.new) result }
         ensures leaves { IfTold C.tells O.tells
             (LeavesOrigin (view_of C.look O.look self.old) (view_of C.look O.look self.new)) }
         ensures keeps { StepKeeps C.look O.look O.paired O.refuses self.old self.new }
+        ensures waits { WaitsRightly result.next
+            (view_of C.look O.look self.old) (view_of C.look O.look self.new) }
     {
         let Ok(head) = own_text(self.alloc, &self.setup, answer.status) else {
             return Step {
@@ -50,15 +52,17 @@ impl<C: Link, O: Upstream<C>> Core<C, O> {
     }
 
     /// Writes once of what was queued.
-    #[tactic(auto, using(crate::proofs::Leaving::wrote_leaves, crate::proofs::Minding::wrote_client, crate::proofs::Minding::client_left))]
+    #[tactic(auto, using(crate::proofs::Waiting::client_waits, crate::proofs::Leaving::wrote_leaves, crate::proofs::Minding::wrote_client, crate::proofs::Minding::client_left, crate::proofs::Minding::full_client))]
     pub fn send(&mut self, answer: OwnAnswer) -> Step
         requires fact { PhaseHolds C.tells O.tells C.look O.look O.refuses self.old (Phase.Sending answer) }
         ensures leads { StepLeads result }
         ensures fact { HoldsAfter C.tells O.tells C.look O.look O.refuses self.old self.new result }
-        ensures minds { MindsFaults (view_of C.look O.look self.old) (view_of C.look O.look self.new) result }
+        ensures minds { MindsLinks (view_of C.look O.look self.old) (view_of C.look O.look self.new) result }
         ensures leaves { IfTold C.tells O.tells
             (LeavesOrigin (view_of C.look O.look self.old) (view_of C.look O.look self.new)) }
         ensures keeps { StepKeeps C.look O.look O.paired O.refuses self.old self.new }
+        ensures waits { WaitsRightly result.next
+            (view_of C.look O.look self.old) (view_of C.look O.look self.new) }
     {
         match self.write_client() {
             Pushed::Some(_) => Step {

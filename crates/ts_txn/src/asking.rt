@@ -2,7 +2,7 @@
 ghost use Rattle.std.specs.Prelude.{◌≡◌, IfOk};
 ghost use Rattle.ts_txn.specs.Cover.{StepLeads};
 ghost use Rattle.ts_txn.specs.Holding.{IfTold, PhaseHolds, HoldsAfter, StepKeeps};
-ghost use Rattle.ts_txn.specs.Steps.{LeavesOrigin, MindsFaults};
+ghost use Rattle.ts_txn.specs.Steps.{LeavesOrigin, MindsLinks, WaitsRightly};
 ghost use Rattle.ts_txn.specs.View.{view_of};
 ghost use Rattle.ts_txn.specs.Checking.{IsCheckedAs};
 
@@ -50,15 +50,17 @@ fn check(alloc: Global, head: RequestHead) -> Result<Checked, NoMemory>
 
 impl<C: Link, O: Upstream<C>> Core<C, O> {
     /// Looks for the request's head in what the client gave, and checks it, or reads on.
-    #[tactic(auto, using(crate::proofs::Leaving::asked_leaves, crate::proofs::Minding::heard_request, crate::proofs::Minding::lost_client))]
+    #[tactic(auto, using(crate::proofs::Waiting::asked_waits, crate::proofs::Leaving::asked_leaves, crate::proofs::Minding::heard_request, crate::proofs::Minding::lost_client, crate::proofs::Minding::late_client))]
     pub fn read_request(&mut self) -> Step
         requires fact { PhaseHolds C.tells O.tells C.look O.look O.refuses self.old Phase.ReadRequest }
         ensures leads { StepLeads result }
         ensures fact { HoldsAfter C.tells O.tells C.look O.look O.refuses self.old self.new result }
-        ensures minds { MindsFaults (view_of C.look O.look self.old) (view_of C.look O.look self.new) result }
+        ensures minds { MindsLinks (view_of C.look O.look self.old) (view_of C.look O.look self.new) result }
         ensures leaves { IfTold C.tells O.tells
             (LeavesOrigin (view_of C.look O.look self.old) (view_of C.look O.look self.new)) }
         ensures keeps { StepKeeps C.look O.look O.paired O.refuses self.old self.new }
+        ensures waits { WaitsRightly result.next
+            (view_of C.look O.look self.old) (view_of C.look O.look self.new) }
     {
         match self.hear_request() {
             Found::Head(head) => match check(self.alloc, head) {

@@ -22,11 +22,7 @@ pub const RETRY: u64 = 10;
 
 // Sees that an event of the continuation is pending, so many milliseconds later where it has none yet.
 #[tactic(auto, using(crate::proofs::Seating::main_set, crate::proofs::Seating::main_rests, ts_transform::proofs::Kept::adds_none, ts_transform::proofs::Kept::adds_dead, ts_transform::proofs::Kept::set_adds, ts_transform::proofs::Kept::set_event, ts_transform::proofs::Kept::works_soon, ts_transform::proofs::Kept::set_keeps, ts_transform::proofs::Kept::kept_if, ts_transform::proofs::Kept::roused_if))]
-fn rouse(
-    main: &mut Option<StageContinuation>,
-    after: u64,
-    cx: &mut Cx,
-) -> Result<(), SetFault>
+fn rouse(main: &mut Option<StageContinuation>, after: u64, cx: &mut Cx) -> Result<(), SetFault>
     requires turn { cx.old.log.state.held ≡ true }
     ensures adds { AddsEvents 1 (HasLiveIf cx.new.log.state.live main.new) result cx.old cx.new }
     ensures stage { KeepsStage cx.old cx.new main.old main.new }
@@ -63,7 +59,9 @@ fn finish(main: &mut Option<StageContinuation>, cx: &mut Cx)
 fn lose(phase: &mut Phase)
     ensures { phase.new ≡ Phase.Ended TxnEnd.NoMemory }
 {
-    *phase = Phase::Ended { end: TxnEnd::NoMemory };
+    *phase = Phase::Ended {
+        end: TxnEnd::NoMemory,
+    };
 }
 
 // Whether the numbers of events are used up.
@@ -145,8 +143,7 @@ pub fn go_on<C: Link, O: Upstream<C>>(
     ensures holds { PhaseHolds C.tells O.tells C.look O.look O.refuses core.new phase.new }
     ensures keeps { StepKeeps C.look O.look O.paired O.refuses core.old core.new }
     ensures seated { SeatedAfter main.old main.new cx.old cx.new }
-    ensures idles { Idles phase.new main.new }
-    ensures covered { HasNextEventOr phase.new main.new cx.new.log.state.next }
+    ensures duty { Idles phase.new main.new × HasNextEventOr phase.new main.new cx.new.log.state.next }
 {
     let was = take(phase);
     let step = core.step(was);

@@ -1,8 +1,10 @@
 //! How a transaction is made of its links, and taken apart.
-ghost use Rattle.std.specs.Prelude.{◌≡◌, ℕ, List, [], true, IfOk};
+ghost use Rattle.std.specs.Prelude.{◌≡◌, ℕ, ◌≤◌, List, [], true, false, None, IfOk};
 ghost use Rattle.std.specs.Arc.{arc_value};
 ghost use Rattle.std.specs.Option.{option_copied};
 ghost use Rattle.ts_group.specs.declared.action.Named.{Named};
+ghost use Rattle.ts_journal.specs.declared.entry.TheConstants.{GREATEST};
+ghost use Rattle.ts_txn.specs.Cover.{is_fresh};
 ghost use Rattle.ts_txn.specs.Making.{ArePaired, HasFewLines, IsMadeOf, IsMadeOfIf, IsNewLink, IsNewLinkIf, base_if, end_of_phase, link_if};
 ghost use Rattle.ts_txn.specs.World.{IsSoundTxn};
 
@@ -24,8 +26,8 @@ pub const MOST_PLUGINS: u32 = 64;
 /// How many mutex groups there are at most, so that each of those plugins has one.
 pub const MOST_GROUPS: u32 = 4_096;
 
-/// What is left of a transaction: its links, what was queued for the client, how many faults the links had met when it was
-/// made, and how it ended, if it has.
+/// What is left of a transaction: its links, what was queued for the client, how many faults the links had met
+/// when it was made, and how it ended, if it has.
 #[derive(Drop)]
 pub struct TxnParts<C, O> {
     pub number: u64,
@@ -112,9 +114,14 @@ impl<C: Link + Drop, O: Upstream<C> + Drop> Txn<C, O> {
         })
     }
 
-    /// How it ended; nothing while it has not.
+    /// How it ended; nothing while it has not. Once nothing of its group is pending, a transaction that was
+    /// started has ended, or the event numbers are used up.
+    #[tactic(auto, using(crate::proofs::Handling::at_rest))]
     pub fn end(&self) -> Option<TxnEnd>
-        ensures { result ≡ end_of_phase self.now.phase }
+        ensures end { result ≡ end_of_phase self.now.phase }
+        ensures rests { result ≡ None → is_fresh self.now.phase ≡ false → (next : ℕ) (roles : List Named)
+            → IsSoundTxn C.tells O.tells C.look O.look O.paired O.refuses self.now [] next roles
+            → GREATEST ≤ next }
     {
         match &self.phase {
             Phase::Ended { end } => Some(*end),

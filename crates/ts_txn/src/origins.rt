@@ -6,7 +6,7 @@ ghost use Rattle.ts_txn.specs.Rules.{is_denied};
 ghost use Rattle.ts_txn.specs.Relayed.{asks_head};
 ghost use Rattle.ts_txn.specs.Block.{request_text};
 ghost use Rattle.ts_txn.specs.View.{IsPaired, view_of};
-ghost use Rattle.ts_txn.specs.Steps.{MindsFaults};
+ghost use Rattle.ts_txn.specs.Steps.{MindsLinks, WaitsRightly};
 ghost use Rattle.ts_txn.specs.Cover.{StepLeads};
 ghost use Rattle.ts_txn.specs.Holding.{PhaseHolds, HoldsAfter, StepKeeps};
 
@@ -60,6 +60,8 @@ impl<C: Link, O: Upstream<C>> Core<C, O> {
         requires fact { PhaseHolds C.tells O.tells C.look O.look O.refuses self.now (Phase.OsDns request) }
         ensures leads { StepLeads result }
         ensures fact { HoldsAfter C.tells O.tells C.look O.look O.refuses self.now self.now result }
+        ensures waits { WaitsRightly result.next
+            (view_of C.look O.look self.now) (view_of C.look O.look self.now) }
     {
         let Ok(denied) = is_host_denied(self.alloc, &self.setup, &request) else {
             return Step {
@@ -96,8 +98,10 @@ impl<C: Link, O: Upstream<C>> Core<C, O> {
             (Phase.SendRequestHdr request) }
         ensures leads { StepLeads result }
         ensures fact { HoldsAfter C.tells O.tells C.look O.look O.refuses self.old self.new result }
-        ensures minds { MindsFaults (view_of C.look O.look self.old) (view_of C.look O.look self.new) result }
+        ensures minds { MindsLinks (view_of C.look O.look self.old) (view_of C.look O.look self.new) result }
         ensures keeps { StepKeeps C.look O.look O.paired O.refuses self.old self.new }
+        ensures waits { WaitsRightly result.next
+            (view_of C.look O.look self.old) (view_of C.look O.look self.new) }
     {
         let Ok(text) = head_for_origin(self.alloc, &self.setup, &request) else {
             return Step {
@@ -122,14 +126,16 @@ impl<C: Link, O: Upstream<C>> Core<C, O> {
     }
 
     /// Writes once of the request's head.
-    #[tactic(auto, using(crate::proofs::Minding::wrote_origin, crate::proofs::Minding::origin_left, crate::proofs::Going::writes_on, crate::proofs::Going::written, crate::proofs::Going::write_fault, crate::proofs::Going::sends_any, crate::proofs::Asks::lacks_memory))]
+    #[tactic(auto, using(crate::proofs::Waiting::origin_waits, crate::proofs::Minding::wrote_origin, crate::proofs::Minding::origin_left, crate::proofs::Minding::full_origin, crate::proofs::Going::writes_on, crate::proofs::Going::written, crate::proofs::Going::write_fault, crate::proofs::Going::sends_any, crate::proofs::Asks::lacks_memory))]
     pub fn send_request(&mut self, request: Request) -> Step
         requires fact { PhaseHolds C.tells O.tells C.look O.look O.refuses self.old
             (Phase.SendRequest request) }
         ensures leads { StepLeads result }
         ensures fact { HoldsAfter C.tells O.tells C.look O.look O.refuses self.old self.new result }
-        ensures minds { MindsFaults (view_of C.look O.look self.old) (view_of C.look O.look self.new) result }
+        ensures minds { MindsLinks (view_of C.look O.look self.old) (view_of C.look O.look self.new) result }
         ensures keeps { StepKeeps C.look O.look O.paired O.refuses self.old self.new }
+        ensures waits { WaitsRightly result.next
+            (view_of C.look O.look self.old) (view_of C.look O.look self.new) }
     {
         match self.write_origin() {
             Pushed::Some(_) => Step {
@@ -161,12 +167,15 @@ impl<C: Link, O: Upstream<C>> Core<C, O> {
     }
 
     /// Moves some of the upload that follows the request's head.
+    #[tactic(auto, using(crate::proofs::Waiting::upload_waits))]
     pub fn upload_some(&mut self, request: Request) -> Step
         requires fact { PhaseHolds C.tells O.tells C.look O.look O.refuses self.old (Phase.Upload request) }
         requires pair { IsPaired O.paired self.old }
         ensures leads { StepLeads result }
         ensures fact { HoldsAfter C.tells O.tells C.look O.look O.refuses self.old self.new result }
         ensures keeps { StepKeeps C.look O.look O.paired O.refuses self.old self.new }
+        ensures waits { WaitsRightly result.next
+            (view_of C.look O.look self.old) (view_of C.look O.look self.new) }
     {
         match self.upload() {
             Uploaded::Done => Step {

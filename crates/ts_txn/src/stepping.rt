@@ -1,6 +1,6 @@
 //! One step of a transaction, by its phase.
 ghost use Rattle.ts_txn.specs.View.{IsPaired, view_of};
-ghost use Rattle.ts_txn.specs.Steps.{LeavesOriginIn, MindsFaultsIn};
+ghost use Rattle.ts_txn.specs.Steps.{LeavesOriginIn, MindsLinksIn, WaitsRightly};
 ghost use Rattle.ts_txn.specs.Cover.{StepLeads};
 ghost use Rattle.ts_txn.specs.Holding.{IfTold, PhaseHolds, HoldsAfter, StepKeeps};
 
@@ -19,11 +19,13 @@ impl<C: Link, O: Upstream<C>> Core<C, O> {
         requires pair { IsPaired O.paired self.old }
         ensures leads { StepLeads result }
         ensures fact { HoldsAfter C.tells O.tells C.look O.look O.refuses self.old self.new result }
-        ensures minds { MindsFaultsIn phase
+        ensures minds { MindsLinksIn phase
             (view_of C.look O.look self.old) (view_of C.look O.look self.new) result }
         ensures leaves { IfTold C.tells O.tells
             (LeavesOriginIn phase (view_of C.look O.look self.old) (view_of C.look O.look self.new)) }
         ensures keeps { StepKeeps C.look O.look O.paired O.refuses self.old self.new }
+        ensures waits { WaitsRightly result.next
+            (view_of C.look O.look self.old) (view_of C.look O.look self.new) }
     {
         match phase {
             Phase::Fresh => Step {

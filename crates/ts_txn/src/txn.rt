@@ -26,8 +26,8 @@ pub struct Txn<C, O> {
     pub(crate) phase: Phase,
 }
 
-/// What a slot promises of the transaction in it: its number, setup and first plugin's group, the sources of its two
-/// links, whether these are sure, and whether the slot had no other tenant before.
+/// What a slot promises of the transaction in it: its number, setup and first plugin's group, the sources of
+/// its two links, whether these are sure, and whether the slot had no other tenant before.
 #[derive(Drop)]
 pub struct TxnTag {
     pub number: u64,
@@ -117,7 +117,8 @@ impl<C: Link + Drop, O: Upstream<C> + Drop> World for Txn<C, O> {
     fn handle(&mut self, role: u32, event: Event, cx: &mut Cx) -> Want<()>
         requires turn { cx.old.log.state.held ≡ true }
         requires called { IsCalled
-            (λ s roles. IsSoundTxn C.tells O.tells C.look O.look O.paired O.refuses self.old s.pending s.next roles)
+            (λ s roles. IsSoundTxn C.tells O.tells C.look O.look O.paired O.refuses
+            self.old s.pending s.next roles)
             cx.old role event }
         ensures sound { IsSoundTxn C.tells O.tells C.look O.look O.paired O.refuses
             self.new cx.new.log.state.pending cx.new.log.state.next cx.new.roles }

@@ -20,8 +20,7 @@ const TURNS: u32 = 100_000;
 pub const GET: &[u8] = b"GET / HTTP/1.1\r\nHost: a\r\n\r\n";
 
 /// What the origin gets of it.
-pub const SENT: &[u8] =
-    b"GET / HTTP/1.1\r\nhost: a\r\nvia: 1.1 tsx\r\nconnection: close\r\n\r\n";
+pub const SENT: &[u8] = b"GET / HTTP/1.1\r\nhost: a\r\nvia: 1.1 tsx\r\nconnection: close\r\n\r\n";
 
 pub const BAD_REQUEST: &[u8] =
     b"HTTP/1.1 400 Bad Request\r\ncontent-type: text/plain\r\ncontent-length: 16\r\nconnection: close\r\n\r\n400 Bad Request\n";
@@ -39,8 +38,8 @@ pub const BAD_GATEWAY: &[u8] =
 pub const HEAD_OF_BAD_GATEWAY: &[u8] =
     b"HTTP/1.1 502 Bad Gateway\r\ncontent-type: text/plain\r\ncontent-length: 16\r\nconnection: close\r\n\r\n";
 
-/// What a link in memory gives and does: how many reads bring one byte each, which read and which write fails, and which
-/// two writes wait. No call has the number 0.
+/// What a link in memory gives and does: how many reads bring one byte each, which read and which write fails,
+/// and which two writes wait. No call has the number 0.
 #[derive(Clone, Copy)]
 pub struct Plan<'a> {
     pub gives: &'a [u8],
@@ -210,12 +209,7 @@ fn no_lines(alloc: Global) -> Setup
 }
 
 // Whether a transaction ended so, and its client got this text, and its origin this one.
-fn has_ended(
-    parts: &TxnParts<MemLink, MemLink>,
-    end: TxnEnd,
-    text: &[u8],
-    request: &[u8],
-) -> bool {
+fn has_ended(parts: &TxnParts<MemLink, MemLink>, end: TxnEnd, text: &[u8], request: &[u8]) -> bool {
     let was_sent = match &parts.origin {
         Some(link) => link.written() == request,
         None => request.is_empty(),
@@ -223,7 +217,7 @@ fn has_ended(
     was_sent && parts.end == Some(end) && parts.client.written() == text
 }
 
-/// Whether a client gets this text, and an origin, if there is one, this request, where nothing is configured.
+/// Whether a client gets this text, and an origin, if there is one, this request. Nothing is configured.
 pub fn is_answered(
     alloc: Global,
     client: Plan<'_>,
@@ -237,11 +231,18 @@ pub fn is_answered(
     Ok(has_ended(&parts, end, text, request))
 }
 
-/// Whether both a client that gives these bytes at once and one that gives them one by one are answered by the proxy
-/// itself, and the origin gets nothing.
+/// Whether both a client that gives these bytes at once and one that gives them one by one are answered by the
+/// proxy itself, and the origin gets nothing.
 pub fn is_refused(alloc: Global, gives: &[u8], text: &[u8]) -> Result<bool, Fail> {
     let at_once = is_answered(alloc, giving(gives), Some(SILENT), TxnEnd::Whole, text, b"")?;
-    let one_by_one = is_answered(alloc, dripping(gives), Some(SILENT), TxnEnd::Whole, text, b"")?;
+    let one_by_one = is_answered(
+        alloc,
+        dripping(gives),
+        Some(SILENT),
+        TxnEnd::Whole,
+        text,
+        b"",
+    )?;
     Ok(at_once && one_by_one)
 }
 

@@ -10,13 +10,19 @@ use ts_hooks::TxnEnd;
 const HEAD: &[u8] = b"HEAD / HTTP/1.1\r\nHost: a\r\n\r\n";
 
 // What the origin gets of it.
-const HEAD_SENT: &[u8] =
-    b"HEAD / HTTP/1.1\r\nhost: a\r\nvia: 1.1 tsx\r\nconnection: close\r\n\r\n";
+const HEAD_SENT: &[u8] = b"HEAD / HTTP/1.1\r\nhost: a\r\nvia: 1.1 tsx\r\nconnection: close\r\n\r\n";
 
 // Whether a request gets the 502 answer, and one for the head alone the same without its body.
 fn is_gateway_fault(alloc: Global, origin: Plan<'_>, end: TxnEnd) -> Result<bool, Fail> {
     let get = is_answered(alloc, giving(GET), Some(origin), end, BAD_GATEWAY, SENT)?;
-    let head = is_answered(alloc, giving(HEAD), Some(origin), end, HEAD_OF_BAD_GATEWAY, HEAD_SENT)?;
+    let head = is_answered(
+        alloc,
+        giving(HEAD),
+        Some(origin),
+        end,
+        HEAD_OF_BAD_GATEWAY,
+        HEAD_SENT,
+    )?;
     Ok(get && head)
 }
 
