@@ -53,7 +53,7 @@ chain_after most r d e a b adds driven loses same = record {
 
 -- ---- one step behind another
 
-grows_next : (a b : Context) → IsOrderly a → Grows a b → a.log.state.next ≤ b.log.state.next
+pub grows_next : (a b : Context) → IsOrderly a → Grows a b → a.log.state.next ≤ b.log.state.next
 grows_next a b orderly grows = (extends_later a.log b.log grows.log.own orderly.valid grows.log.by).next
 
 on_then : {P : Type 0} (d e f : DrivenChain P) (b c : Context) → b.log.state.next ≤ c.log.state.next → (e.running ≡ d.running) ⊎ (GREATEST ≤ b.log.state.next)

@@ -2,6 +2,7 @@ pub mod Always
 pub mod Asks
 pub mod Chaining
 pub mod Coverage
+pub mod Entered
 pub mod Fed
 pub mod Filled
 pub mod Finished
@@ -15,6 +16,7 @@ pub mod OneBlock
 mod OneHead
 pub mod OneSide
 pub mod Owns
+pub mod Parting
 pub mod Relaying
 pub mod Responding
 mod Saying

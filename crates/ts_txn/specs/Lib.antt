@@ -4,6 +4,7 @@ pub mod Checking
 pub mod Cover
 pub mod Driven
 pub mod Ends
+pub mod Entering
 pub mod Facts
 pub mod Feeding
 pub mod Finding

@@ -20,6 +20,8 @@ mod peers;
 mod phase;
 mod reading;
 mod relay;
+mod relay_entering;
+mod relay_making;
 mod relay_reading;
 mod relay_sides;
 mod relay_writing;

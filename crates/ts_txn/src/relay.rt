@@ -7,6 +7,12 @@ use ts_group::SetFault;
 use ts_transform::{DrivenChain, StageContinuation};
 use ts_wire::BodyReader;
 
+/// The role of the continuation that reads a body.
+pub const READER: u32 = 2;
+
+/// The role of the first stage of the chain that a body goes through; those of the others follow.
+pub const FIRST: u32 = 3;
+
 /// A body that is passed on.
 #[derive(Drop)]
 pub struct Relay<P> {
