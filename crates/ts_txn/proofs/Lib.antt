@@ -2,6 +2,7 @@ pub mod Always
 pub mod Asks
 pub mod Chaining
 pub mod Coverage
+pub mod Duty
 pub mod Entered
 pub mod Fed
 pub mod Filled

@@ -3,6 +3,7 @@ pub mod Block
 pub mod Checking
 pub mod Cover
 pub mod Driven
+pub mod Duties
 pub mod Ends
 pub mod Entering
 pub mod Facts

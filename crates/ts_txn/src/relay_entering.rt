@@ -82,11 +82,11 @@ impl<C: Link, O: Upstream<C>> Core<C, O> {
     /// Queues the client's head of a response that is passed on, and makes what its body goes through.
     pub fn queue_relay<P: Transform<Line = TransformLine> + Drop>(
         &mut self,
-        request: Request,
-        head: ResponseHead,
+        request: &Request,
+        head: &ResponseHead,
     ) -> Result<Relay<P>, NoMemory>
         requires acts { ActsAsLines P.whole }
-        requires fact { HeadHolds C.tells O.tells C.look O.look O.refuses self.old request head }
+        requires fact { HeadHolds C.tells O.tells C.look O.look O.refuses self.old request.now head.now }
         ensures ok { IfOk result
             (λ r. EntersAfter C.tells O.tells C.look O.look O.refuses P.rest self.old self.new r) }
         ensures err { OnErr result (LacksAfter C.tells O.tells C.look O.look O.refuses self.old self.new) }
@@ -94,11 +94,17 @@ impl<C: Link, O: Upstream<C>> Core<C, O> {
             × (r.driven.chain.given ≡ false) × OnlyFirstWorks r.driven.chain) }
         ensures keeps { StepKeeps C.look O.look O.paired O.refuses self.old self.new }
     {
-        let made = make_relay(self.alloc, &self.setup, &request.head, &head)?;
-        let text = relayed_head(self.alloc, &self.setup, &request.head, &head)?;
-        let mode = mode_of(framing_for(&self.setup, &request.head, &head));
-        self.queue_head(text.bytes(), mode)?;
-        Ok(made)
+        let Ok(made) = make_relay(self.alloc, &self.setup, &request.head, head) else {
+            return Err(NoMemory);
+        };
+        let Ok(text) = relayed_head(self.alloc, &self.setup, &request.head, head) else {
+            return Err(NoMemory);
+        };
+        let mode = mode_of(framing_for(&self.setup, &request.head, head));
+        match self.queue_head(text.bytes(), mode) {
+            Ok(()) => Ok(made),
+            Err(_) => Err(NoMemory),
+        }
     }
 
     /// Makes the continuations of a body whose head is queued.

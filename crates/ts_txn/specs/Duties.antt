@@ -1,0 +1,64 @@
+-- Who must work while a body is passed on, and that each duty has an event of a continuation that does it (Developer's
+-- Guide, "Continuations" and "Transformations").
+use Rattle.std.specs.Prelude.{◌≡◌, ◌≢◌, ℕ, ◌≤◌, ◌⊎◌, List, [], Bool, true, Option}
+use Rattle.ts_journal.specs.declared.entry.TheConstants.{GREATEST}
+use Rattle.ts_journal.specs.declared.entry.Pending.{Pending}
+use Rattle.ts_group.specs.declared.action.Named.{Named}
+use Rattle.ts_transform.specs.Flow.{ChainState, IsFinished, MustRead, MustWrite}
+use Rattle.ts_group.specs.Context.{Context}
+use Rattle.ts_transform.specs.Driving.{IsOfStageIf, IsRousedIf, KeepsStage, unroused}
+use Rattle.ts_transform.specs.Driven.{IsDrivenWhile}
+use Rattle.ts_transform.specs.declared.continuation.StageContinuation.{StageContinuation}
+use Rattle.ts_txn.specs.Cover.{main_role}
+use Rattle.ts_txn.specs.View.{View}
+use Rattle.ts_txn.specs.Feeding.{OnGoes}
+use Rattle.ts_txn.specs.Relaying.{AddsSome}
+use Rattle.ts_txn.specs.declared.finishing.BodyStep.{BodyStep}
+use Rattle.ts_txn.specs.declared.relay.Relay.{Relay}
+use Rattle.ts_txn.specs.declared.relay.TheConstants.{FIRST, READER}
+
+-- the first continuation must write: something waits for the client, or the chain gave something, or has given all
+abbrev pub MustSend : {P : Type 0} → View → ChainState P → Type 0
+MustSend v c = (v.client.outbox ≢ []) ⊎ MustWrite c ⊎ ((c.given ≡ true) × IsFinished c)
+
+-- The continuations of a body have their roles, each that is roused has an event, and so has each stage that must work.
+pub record IsSeatedRelay {P : Type 0} (main : Option StageContinuation) (r : Relay P) (pending : List Pending)
+    (roles : List Named) : Type 0 where
+  pub of_main : IsOfStageIf pending roles main_role main
+  pub of_reader : IsOfStageIf pending roles READER r.reader
+  pub of_stages : IsDrivenWhile FIRST r.driven pending roles
+
+-- the first continuation and the reader are roused, where they must work
+pub record AreBodyEndsRoused {P : Type 0} (v : View) (main : Option StageContinuation) (r : Relay P) : Type 0 where
+  pub writes : MustSend v r.driven.chain → IsRousedIf main
+  pub reads : MustRead r.driven.chain → IsRousedIf r.reader
+
+-- so each duty of a body is done, unless the event numbers are used up
+abbrev pub IsBodyCovered : {P : Type 0} → View → Option StageContinuation → Relay P → ℕ → Type 0
+IsBodyCovered v main r next = ((r.driven.running ≡ true) × AreBodyEndsRoused v main r) ⊎ (GREATEST ≤ next)
+
+-- whether the first continuation must work
+pub record TellsDuty {P : Type 0} (must : Bool) (v : View) (c : ChainState P) : Type 0 where
+  pub must_send : must ≡ true → MustSend v c
+  pub only : MustSend v c → must ≡ true
+
+-- What is left where a continuation was roused, or could not be: it is, if it must work, or the event numbers are used up.
+pub record RousesOne (step : BodyStep) (must : Bool) (t u : Option StageContinuation) (a b : Context) : Type 0 where
+  pub adds : AddsSome 1 a b
+  pub stage : KeepsStage a b t u
+  pub roused : OnGoes step ((must ≡ true → IsRousedIf u) ⊎ (GREATEST ≤ b.log.state.next))
+
+-- The same of the first continuation and of the reader.
+pub record RousesBoth (step : BodyStep) (writes reads : Bool) (t u r s : Option StageContinuation)
+    (a b : Context) : Type 0 where
+  pub adds : AddsSome 2 a b
+  pub main : (role : ℕ) → IsOfStageIf a.log.state.pending a.roles role t → IsOfStageIf b.log.state.pending b.roles role u
+  pub reader : (role : ℕ) → IsOfStageIf a.log.state.pending a.roles role r → IsOfStageIf b.log.state.pending b.roles role s
+  pub same : (unroused u ≡ unroused t) × (unroused s ≡ unroused r)
+  pub roused : OnGoes step (((writes ≡ true → IsRousedIf u) × (reads ≡ true → IsRousedIf s)) ⊎ (GREATEST ≤ b.log.state.next))
+
+-- The same of a body: the reader must work where more may be given to the chain.
+abbrev pub EndsRouse : {P : Type 0} → BodyStep → Bool → Option StageContinuation → Option StageContinuation → Relay P
+    → Relay P → Context → Context → Type 0
+EndsRouse step writes t u r s a b = (reads : Bool) × (MustRead r.driven.chain → reads ≡ true)
+    × RousesBoth step writes reads t u r.reader s.reader a b
