@@ -1,6 +1,6 @@
 -- The duties of a body: what a stage's event keeps, who is roused, and that none is left where nothing is pending.
 use Rattle.std.proofs.Common.{◌≡◌, ◌≢◌, ℕ, ◌+◌, ◌≤◌, ◌⊎◌, inl, inr, List, [], ◌++◌, Bool, true, false, Option, Some, None, Result, Ok, Err, refl, sym, ap, subst, ◌∙◌, arith}
-use Rattle.std.specs.Prelude.{⊤}
+use Rattle.std.specs.Prelude.{OnOk, ⊤}
 use Rattle.std.specs.Bool.{OnTrue}
 use Rattle.ts_config.specs.declared.setup.Setup.{Setup}
 use Rattle.ts_hooks.specs.declared.txn_end.TxnEnd.{TxnEnd}
@@ -90,14 +90,14 @@ relays_settled setup R T from rest v c place r = record {
 -- ---- the ends are roused
 
 rouses_by : (r : Result ⊤ SetFault) (must : Bool) (Live : Type 0) (t u : Option StageContinuation) (a b : Context) → AddsEvents 1 Live r a b
-    → (must ≡ true → (r ≡ Ok tt → IsRousedIf u)) → OnGoes (step_after r) ((must ≡ true → IsRousedIf u) ⊎ (GREATEST ≤ b.log.state.next))
-rouses_by (Ok x) must Live t u a b adds roused = inl (λ so. roused so refl)
+    → (must ≡ true → OnOk r (IsRousedIf u)) → OnGoes (step_after r) ((must ≡ true → IsRousedIf u) ⊎ (GREATEST ≤ b.log.state.next))
+rouses_by (Ok x) must Live t u a b adds roused = inl roused
 rouses_by (Err F.Spent) must Live t u a b adds roused = inr adds.cause
 rouses_by (Err F.NoMemory) must Live t u a b adds roused = tt
 rouses_by (Err F.Dead) must Live t u a b adds roused = tt
 
 pub rouses_one : (r : Result ⊤ SetFault) (must : Bool) (Live : Type 0) (t u : Option StageContinuation) (a b : Context) (step : BodyStep) → step ≡ step_after r
-    → AddsEvents 1 Live r a b → KeepsStage a b t u → (must ≡ true → (r ≡ Ok tt → IsRousedIf u)) → RousesOne step must t u a b
+    → AddsEvents 1 Live r a b → KeepsStage a b t u → (must ≡ true → OnOk r (IsRousedIf u)) → RousesOne step must t u a b
 rouses_one r must Live t u a b step is adds stage roused = record {
   adds = record { grows = adds.grows; keeps = adds.keeps; few = adds.few };
   stage = stage;
