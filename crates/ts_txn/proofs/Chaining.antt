@@ -11,6 +11,7 @@ use Rattle.ts_group.proofs.Grows.{grows_refl, grows_trans}
 use Rattle.ts_transform.specs.Driving.{AddsEvents, SetsFew, all_unroused}
 use Rattle.ts_transform.specs.Driven.{Loses, StaysDriven}
 use Rattle.ts_transform.specs.declared.driven.DrivenChain.{DrivenChain}
+use Rattle.ts_transform.proofs.Joined.{runs_before}
 use Rattle.ts_transform.proofs.Kept.{few_refl, few_trans, keeps_refl, keeps_trans}
 use Rattle.ts_hooks.specs.declared.txn_end.TxnEnd.{TxnEnd}
 use Rattle.ts_txn.specs.Relaying.{AddsSome, DrivesOn, StepsChain, step_after}
@@ -31,12 +32,13 @@ chain_still step most d a turn = record {
   adds = record { grows = grows_refl a; keeps = keeps_refl a turn; few = few_refl a most };
   driven = λ first h. h;
   on = drives_still step d a;
+  falls = λ runs. runs;
   same = refl;
 }
 
 -- ---- a stage was roused, or could not be
 
-drives_after : {P : Type 0} (r : Result ⊤ SetFault) (d e : DrivenChain P) (now : Context) → Loses r d e now → DrivesOn (step_after r) d e now
+pub drives_after : {P : Type 0} (r : Result ⊤ SetFault) (d e : DrivenChain P) (now : Context) → Loses r d e now → DrivesOn (step_after r) d e now
 drives_after (Ok x) d e now loses = inl loses.0
 drives_after (Err F.Spent) d e now loses = inr loses.2
 drives_after (Err F.NoMemory) d e now loses = tt
@@ -48,6 +50,7 @@ chain_after most r d e a b adds driven loses same = record {
   adds = record { grows = adds.grows; keeps = adds.keeps; few = adds.few };
   driven = driven;
   on = drives_after r d e b loses;
+  falls = runs_before r d e b loses;
   same = same;
 }
 
@@ -76,6 +79,7 @@ chain_then step m n d e f a b c orderly h k = record {
   adds = record { grows = grows_trans h.adds.grows k.adds.grows; keeps = keeps_trans h.adds.keeps k.adds.keeps; few = few_trans m n h.adds.few k.adds.few };
   driven = λ first was. k.driven first (h.driven first was);
   on = drives_then step d e f b c (grows_next b c orderly k.adds.grows) h.on k.on;
+  falls = λ runs. h.falls (k.falls runs);
   same = k.same ∙ h.same;
 }
 
@@ -88,6 +92,7 @@ chain_more step m n d e a b more h = record {
   adds = record { grows = h.adds.grows; keeps = h.adds.keeps; few = few_more m n a b more h.adds.few };
   driven = h.driven;
   on = h.on;
+  falls = h.falls;
   same = h.same;
 }
 
@@ -97,5 +102,6 @@ chain_lacks step m n d e a b more h = record {
   adds = record { grows = h.adds.grows; keeps = h.adds.keeps; few = few_more m n a b more h.adds.few };
   driven = h.driven;
   on = tt;
+  falls = h.falls;
   same = h.same;
 }

@@ -15,7 +15,7 @@ use Rattle.ts_group.proofs.Grows.{grows_trans}
 use Rattle.ts_link.specs.Link.{all_of}
 use Rattle.ts_transform.specs.Flow.{ChainState, EndsInOrder, MustRead}
 use Rattle.ts_transform.specs.Acting.{StillGives}
-use Rattle.ts_transform.specs.Carrying.{AreEndsRoused, IsJoined}
+use Rattle.ts_transform.specs.Carrying.{AreEndsRoused}
 use Rattle.ts_transform.specs.Driving.{AddsEvents, IsCause, IsOfStageIf, IsRousedIf, KeepsStage, SetsFew}
 use Rattle.ts_transform.specs.declared.continuation.StageContinuation.{StageContinuation}
 use Rattle.ts_transform.proofs.Joined.{all_carried}
@@ -25,7 +25,7 @@ use Rattle.ts_txn.specs.View.{LinkSide, View}
 use Rattle.ts_txn.specs.Facts.{Served}
 use Rattle.ts_txn.specs.Feeding.{OnGoes}
 use Rattle.ts_txn.specs.Relaying.{AddsSome, GivesEnd, ReadsBody, RelaysBody, step_after}
-use Rattle.ts_txn.specs.Duties.{AreBodyEndsRoused, IsSeatedRelay, RousesBoth, RousesOne}
+use Rattle.ts_txn.specs.Duties.{AreBodyEndsRoused, IsBodyJoined, RousesBoth, RousesOne}
 use Rattle.ts_txn.specs.declared.finishing.BodyStep.{BodyStep}
 use Rattle.ts_txn.specs.declared.finishing.BodyStep.TheVariants as S
 use Rattle.ts_txn.specs.declared.phase.Request.{Request}
@@ -148,10 +148,9 @@ none_pending roles role (Some t) h roused =
     absurd (let wrong : ◌≡◌ {A = Option Pending} None (Some e.event) = e.there in cc)
 
 -- with nothing pending no body is passed on: its chain would have given all, and the first continuation would be roused
-pub no_lost_wake : {P : Type 0} (v : View) (main : Option StageContinuation) (r : Relay P) (roles : List Named) → IsSeatedRelay main r [] roles → r.driven.running ≡ true
+pub no_lost_wake : {P : Type 0} (v : View) (main : Option StageContinuation) (r : Relay P) (roles : List Named) → IsBodyJoined main r [] roles → r.driven.running ≡ true
     → AreBodyEndsRoused v main r → EndsInOrder r.driven.chain.given r.driven.chain.stages → ⊥
-no_lost_wake v main r roles seated runs ends ordered =
-    let all = all_carried r.driven.chain r.driven.table.items main r.reader roles
-        (record { stages = seated.of_stages runs; of_writer = seated.of_main; of_reader = seated.of_reader })
+no_lost_wake v main r roles joined runs ends ordered =
+    let all = all_carried r.driven.chain r.driven.table.items main r.reader roles (joined runs)
         (record { writes = λ some. ends.writes (inr (inl some)); reads = ends.reads }) ordered in
-    none_pending roles 1 main seated.of_main (ends.writes (inr (inr (all.1, all.0))))
+    none_pending roles 1 main (joined runs).of_writer (ends.writes (inr (inr (all.1, all.0))))

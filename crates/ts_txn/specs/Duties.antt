@@ -1,32 +1,31 @@
 -- Who must work while a body is passed on, and that each duty has an event of a continuation that does it (Developer's
 -- Guide, "Continuations" and "Transformations").
-use Rattle.std.specs.Prelude.{◌≡◌, ◌≢◌, ℕ, ◌≤◌, ◌⊎◌, List, [], Bool, true, Option}
+use Rattle.std.specs.Prelude.{◌≡◌, ◌≢◌, ℕ, ◌≤◌, ◌⊎◌, List, [], Bool, true, Option, ⊤}
 use Rattle.ts_journal.specs.declared.entry.TheConstants.{GREATEST}
+use Rattle.ts_journal.specs.declared.entry.Event.{Event}
 use Rattle.ts_journal.specs.declared.entry.Pending.{Pending}
 use Rattle.ts_group.specs.declared.action.Named.{Named}
 use Rattle.ts_transform.specs.Flow.{ChainState, IsFinished, MustRead, MustWrite}
 use Rattle.ts_group.specs.Context.{Context}
-use Rattle.ts_transform.specs.Driving.{IsOfStageIf, IsRousedIf, KeepsStage, unroused}
-use Rattle.ts_transform.specs.Driven.{IsDrivenWhile}
+use Rattle.ts_transform.specs.Driving.{ActsWithin, IsHandled, IsOfStageIf, IsRousedIf, KeepsStage, unroused}
+use Rattle.ts_transform.specs.Carrying.{IsJoined}
 use Rattle.ts_transform.specs.declared.continuation.StageContinuation.{StageContinuation}
-use Rattle.ts_txn.specs.Cover.{main_role}
 use Rattle.ts_txn.specs.View.{View}
 use Rattle.ts_txn.specs.Feeding.{OnGoes}
 use Rattle.ts_txn.specs.Relaying.{AddsSome}
 use Rattle.ts_txn.specs.declared.finishing.BodyStep.{BodyStep}
+use Rattle.ts_txn.specs.declared.finishing.BodyStep.TheVariants as S
 use Rattle.ts_txn.specs.declared.relay.Relay.{Relay}
-use Rattle.ts_txn.specs.declared.relay.TheConstants.{FIRST, READER}
 
 -- the first continuation must write: something waits for the client, or the chain gave something, or has given all
 abbrev pub MustSend : {P : Type 0} → View → ChainState P → Type 0
 MustSend v c = (v.client.outbox ≢ []) ⊎ MustWrite c ⊎ ((c.given ≡ true) × IsFinished c)
 
--- The continuations of a body have their roles, each that is roused has an event, and so has each stage that must work.
-pub record IsSeatedRelay {P : Type 0} (main : Option StageContinuation) (r : Relay P) (pending : List Pending)
-    (roles : List Named) : Type 0 where
-  pub of_main : IsOfStageIf pending roles main_role main
-  pub of_reader : IsOfStageIf pending roles READER r.reader
-  pub of_stages : IsDrivenWhile FIRST r.driven pending roles
+-- While no event of a stage was lost, the continuations of a body have their roles, each that is roused has an event,
+-- and so has each stage that must work.
+abbrev pub IsBodyJoined : {P : Type 0} → Option StageContinuation → Relay P → List Pending → List Named → Type 0
+IsBodyJoined main r pending roles = r.driven.running ≡ true
+    → IsJoined r.driven.chain r.driven.table.items main r.reader pending roles
 
 -- the first continuation and the reader are roused, where they must work
 pub record AreBodyEndsRoused {P : Type 0} (v : View) (main : Option StageContinuation) (r : Relay P) : Type 0 where
@@ -62,3 +61,42 @@ abbrev pub EndsRouse : {P : Type 0} → BodyStep → Bool → Option StageContin
     → Relay P → Context → Context → Type 0
 EndsRouse step writes t u r s a b = (reads : Bool) × (MustRead r.driven.chain → reads ≡ true)
     × RousesBoth step writes reads t u r.reader s.reader a b
+
+-- the stages run, or the event numbers are used up
+abbrev pub RunsOr : {P : Type 0} → Relay P → ℕ → Type 0
+RunsOr r next = (r.driven.running ≡ true) ⊎ (GREATEST ≤ next)
+
+-- a fact of a body that is passed on after a step, which may also lead to its end
+abbrev pub WhileGoes : BodyStep → Type 0 → Type 0
+WhileGoes S.Goes P = P
+WhileGoes S.Waits P = P
+WhileGoes step P = ⊤
+
+-- What is left where both ends of a body were roused that must work.
+pub record SettlesBody {P : Type 0} (step : BodyStep) (v : View) (t u : Option StageContinuation) (r s : Relay P)
+    (a b : Context) : Type 0 where
+  pub adds : AddsSome 2 a b
+  pub joined : IsBodyJoined t r a.log.state.pending a.roles → IsBodyJoined u s b.log.state.pending b.roles
+  pub covered : RunsOr r a.log.state.next → OnGoes step (IsBodyCovered v u s b.log.state.next)
+  pub goes : OnGoes step ⊤
+
+-- after a step that goes on a body is settled, and else nothing is done
+abbrev pub SettledAs : BodyStep → BodyStep → Type 0
+SettledAs S.Goes result = OnGoes result ⊤
+SettledAs S.Waits result = OnGoes result ⊤
+SettledAs step result = result ≡ step
+
+pub record SettlesAfter {P : Type 0} (step result : BodyStep) (v : View) (t u : Option StageContinuation)
+    (r s : Relay P) (a b : Context) : Type 0 where
+  pub adds : AddsSome 2 a b
+  pub joined : IsBodyJoined t r a.log.state.pending a.roles → IsBodyJoined u s b.log.state.pending b.roles
+  pub covered : RunsOr r a.log.state.next → WhileGoes step (OnGoes result (IsBodyCovered v u s b.log.state.next))
+  pub settled : SettledAs step result
+
+-- What is left where an event of a role was handled while a body is passed on.
+pub record HandlesBody {P : Type 0} (step : BodyStep) (role : ℕ) (event : Event) (v w : View)
+    (t u : Option StageContinuation) (r s : Relay P) (a b : Context) : Type 0 where
+  pub acts : ActsWithin 6 a b
+  pub joined : (before : List Pending) → IsHandled before a.log.state.pending a.roles role event
+      → IsBodyJoined t r before a.roles → IsBodyJoined u s b.log.state.pending b.roles
+  pub covered : IsBodyCovered v t r a.log.state.next → WhileGoes step (IsBodyCovered w u s b.log.state.next)

@@ -98,6 +98,7 @@ pub record StepsChain {P : Type 0} (step : BodyStep) (most : ℕ) (d e : DrivenC
   pub adds : AddsSome most old new
   pub driven : StaysDriven d e old new
   pub on : DrivesOn step d e new
+  pub falls : e.running ≡ true → d.running ≡ true
   pub same : all_unroused e.table.items ≡ all_unroused d.table.items
 
 module _ {C O P : Type 0} (ctells otells : Bool) (client : C → Look) (origin : O → Look)

@@ -22,6 +22,7 @@ mod reading;
 mod relay;
 mod relay_duties;
 mod relay_entering;
+mod relay_events;
 mod relay_making;
 mod relay_reading;
 mod relay_rousing;
