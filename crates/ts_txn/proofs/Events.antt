@@ -24,7 +24,8 @@ use Rattle.ts_txn.specs.Ends.{EndFact}
 use Rattle.ts_txn.specs.Feeding.{OnGoes}
 use Rattle.ts_txn.specs.Finishing.{LeadsBody}
 use Rattle.ts_txn.specs.Relaying.{DrivesOn, RelaysBody, StepsChain, step_after}
-use Rattle.ts_txn.specs.Duties.{AreBodyEndsRoused, EndsRouse, IsBodyCovered, IsBodyJoined, RousesBoth, HandlesBody, RunsOr, SettledAs, SettlesAfter, SettlesBody, TellsDuty, WhileGoes}
+use Rattle.ts_txn.specs.Entering.{BeginsRelay, BeginsRunning}
+use Rattle.ts_txn.specs.Duties.{BeginsBody, AreBodyEndsRoused, EndsRouse, IsBodyCovered, IsBodyJoined, RousesBoth, HandlesBody, RunsOr, SettledAs, SettlesAfter, SettlesBody, TellsDuty, WhileGoes}
 use Rattle.ts_txn.specs.declared.finishing.BodyStep.{BodyStep}
 use Rattle.ts_txn.specs.declared.finishing.BodyStep.TheVariants as S
 use Rattle.ts_txn.specs.declared.relay.Relay.{Relay}
@@ -238,3 +239,37 @@ pub settled_as : {P : Type 0} (setup : Setup) (refuses : Type 0) (rest : P → L
 settled_as setup refuses rest v q s step result settled same h =
     subst (λ x. LeadsBody setup refuses (RelaysBody setup refuses rest v x.driven.chain x.body) v result) (sym same)
     (settled_leads setup refuses (RelaysBody setup refuses rest v q.driven.chain q.body) v step result settled (relays_lacks setup refuses rest v q.driven.chain q.body) h)
+
+-- ---- a body begins
+
+begins_covered : {P : Type 0} (step result : BodyStep) (w : View) (u : Option StageContinuation) (m s : Relay P) (c : Context) (next : ℕ) → BeginsRunning step m.driven c → SettledAs step result
+    → (RunsOr m c.log.state.next → WhileGoes step (OnGoes result (IsBodyCovered w u s next))) → WhileGoes result (IsBodyCovered w u s next)
+begins_covered {P} step result w u m s c next runs settled after = by_step step runs settled after
+  where
+    on_goes : (result : BodyStep) → OnGoes result (IsBodyCovered w u s next) → WhileGoes result (IsBodyCovered w u s next)
+    on_goes S.Goes h = h
+    on_goes S.Waits h = absurd h
+    on_goes (S.Finishes end) h = tt
+    on_goes (S.Closes end) h = tt
+    on_goes S.Lacks h = tt
+
+    by_step : (step : BodyStep) → BeginsRunning step m.driven c → SettledAs step result → (RunsOr m c.log.state.next → WhileGoes step (OnGoes result (IsBodyCovered w u s next)))
+        → WhileGoes result (IsBodyCovered w u s next)
+    by_step S.Goes runs settled after = on_goes result (after runs)
+    by_step S.Waits runs settled after = absurd runs
+    by_step (S.Finishes end) runs settled after = absurd runs
+    by_step (S.Closes end) runs settled after = absurd runs
+    by_step S.Lacks runs settled after = subst (λ (x : BodyStep). WhileGoes x (IsBodyCovered w u s next)) (sym settled) tt
+
+pub begins_body : {P : Type 0} (step result : BodyStep) (w : View) (t u : Option StageContinuation) (m s : Relay P) (a c b : Context) → BeginsRelay step m a c
+    → SettlesAfter step result w t u m s c b → BeginsBody result w t u s a b
+begins_body step result w t u m s a c b begins after = record {
+  acts = acts_then 2 2 4 (omega arith) begins.chain.within
+      (record { grows = after.adds.grows; turn = after.adds.keeps.turn; plain = after.adds.keeps.plain; few = after.adds.few });
+  joined = λ seated. after.joined (λ runs. record {
+    stages = begins.chain.driven runs;
+    of_writer = begins.chain.made 1 t seated;
+    of_reader = begins.of_reader;
+  });
+  covered = begins_covered step result w u m s c b.log.state.next begins.chain.runs after.settled after.covered;
+}

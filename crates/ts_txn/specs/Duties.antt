@@ -10,6 +10,7 @@ use Rattle.ts_group.specs.Context.{Context}
 use Rattle.ts_transform.specs.Driving.{ActsWithin, IsHandled, IsOfStageIf, IsRousedIf, KeepsStage, unroused}
 use Rattle.ts_transform.specs.Carrying.{IsJoined}
 use Rattle.ts_transform.specs.declared.continuation.StageContinuation.{StageContinuation}
+use Rattle.ts_txn.specs.Cover.{main_role}
 use Rattle.ts_txn.specs.View.{View}
 use Rattle.ts_txn.specs.Feeding.{OnGoes}
 use Rattle.ts_txn.specs.Relaying.{AddsSome}
@@ -100,3 +101,11 @@ pub record HandlesBody {P : Type 0} (step : BodyStep) (role : ℕ) (event : Even
   pub joined : (before : List Pending) → IsHandled before a.log.state.pending a.roles role event
       → IsBodyJoined t r before a.roles → IsBodyJoined u s b.log.state.pending b.roles
   pub covered : IsBodyCovered v t r a.log.state.next → WhileGoes step (IsBodyCovered w u s b.log.state.next)
+
+-- What is left where a body began, whose first continuation had its role.
+pub record BeginsBody {P : Type 0} (step : BodyStep) (v : View) (t u : Option StageContinuation) (s : Relay P)
+    (a b : Context) : Type 0 where
+  pub acts : ActsWithin 4 a b
+  pub joined : IsOfStageIf a.log.state.pending a.roles main_role t
+      → IsBodyJoined u s b.log.state.pending b.roles
+  pub covered : WhileGoes step (IsBodyCovered v u s b.log.state.next)

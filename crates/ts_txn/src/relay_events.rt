@@ -1,8 +1,10 @@
 //! The events of the continuations while a body is passed on: each step, and then both ends are roused that must work.
-ghost use Rattle.std.specs.Prelude.{◌≡◌, ◌≢◌, true};
+ghost use Rattle.std.specs.Prelude.{◌≡◌, ◌≢◌, true, false};
 ghost use Rattle.ts_txn.specs.View.{view_of};
 ghost use Rattle.ts_txn.specs.Relaying.{RelayHolds, RelayLeads};
-ghost use Rattle.ts_txn.specs.Duties.{HandlesBody, SettlesAfter, SettlesBody};
+ghost use Rattle.ts_transform.specs.Flow.{OnlyFirstWorks};
+ghost use Rattle.ts_txn.specs.Entering.{EnterHolds, IsUnbegun};
+ghost use Rattle.ts_txn.specs.Duties.{BeginsBody, HandlesBody, SettlesAfter, SettlesBody};
 ghost use Rattle.ts_txn.specs.Holding.{StepKeeps};
 
 use crate::driver::{MAIN, RETRY};
@@ -150,5 +152,24 @@ impl<C: Link, O: Upstream<C>> Core<C, O> {
             return self.read_at(main, relay, event, cx);
         }
         self.stage_at(main, relay, role, event, cx)
+    }
+
+    /// Makes the continuations of a body whose head is queued, and rouses whoever must work.
+    pub fn begin_body<P: Transform + Drop>(
+        &self,
+        main: &mut Option<StageContinuation>,
+        relay: &mut Relay<P>,
+        cx: &mut Cx,
+    ) -> BodyStep
+        requires turn { cx.old.log.state.held ≡ true }
+        requires fresh { IsUnbegun relay.old }
+        requires goes_on { relay.old.driven.chain.given ≡ false }
+        requires first { OnlyFirstWorks relay.old.driven.chain }
+        requires fact { EnterHolds C.tells O.tells C.look O.look O.refuses P.rest self.now relay.old }
+        ensures leads { RelayLeads C.tells O.tells C.look O.look O.refuses P.rest self.now self.now relay.new result }
+        ensures begins { BeginsBody result (view_of C.look O.look self.now) main.old main.new relay.new cx.old cx.new }
+    {
+        let step = self.enter_body(relay, cx);
+        self.settle_after(step, main, relay, (0, 0), cx)
     }
 }
