@@ -1,6 +1,8 @@
 pub mod Always
 pub mod Asks
+pub mod BodyEvents
 pub mod Chaining
+pub mod Coursing
 pub mod Coverage
 pub mod Duty
 pub mod Entered

@@ -8,6 +8,7 @@ mod asking;
 mod awaiting;
 mod block;
 mod bodies;
+mod course;
 mod driver;
 mod feeding;
 mod finding;
