@@ -4,6 +4,9 @@ use Rattle.std.specs.Arc.{arc_value}
 use Rattle.ts_config.specs.declared.setup.Setup.{Setup}
 use Rattle.ts_hooks.specs.declared.txn_end.TxnEnd.{TxnEnd}
 use Rattle.ts_link.specs.Link.{Look}
+use Rattle.ts_transform.specs.Flow.{ChainState}
+use Rattle.ts_wire.specs.Place.{Place}
+use Rattle.ts_txn.specs.Entering.{EntersBody}
 use Rattle.ts_txn.specs.View.{OriginRefuses, View, refuses_if, view_of}
 use Rattle.ts_txn.specs.Course.{CourseFact, course_after, finish_after}
 use Rattle.ts_txn.specs.Finishing.{IsFinishing, LeadsBody}
@@ -54,3 +57,38 @@ course_settled client origin paired refuses rest old new course keeps h =
         keeps.refusal.before _ (subst (λ (c : List ℕ). refuses_if refuses new.origin c) keeps.client.source r) in
     subst (λ s. CourseFact (arc_value s) (OriginRefuses client refuses new) rest v course) (sym keeps.setup)
     (course_moved (arc_value old.setup) (OriginRefuses client refuses old) (OriginRefuses client refuses new) to from rest v course h)
+
+-- a body whose head is queued
+enters_moved : (setup : Setup) (R T : Type 0) → (T → R) → {Q : Type 0} (rest : Q → List ℕ → List ℕ) (v : View) (c : ChainState Q) (place : Place)
+    → EntersBody setup R rest v c place → EntersBody setup T rest v c place
+enters_moved setup R T from rest v c place h = record {
+  q = h.q;
+  h = h.h;
+  read = h.read;
+  reads = record {
+    served = record {
+      goes = h.reads.served.goes;
+      accepts = λ t. h.reads.served.accepts (from t);
+      count = h.reads.served.count;
+      carries = h.reads.served.carries;
+      no_waits = h.reads.served.no_waits;
+    };
+    good = h.reads.good;
+    fed = h.reads.fed;
+    reads = h.reads.reads;
+    is_fed = h.reads.is_fed;
+  };
+  going = h.going;
+  sends = record { count = h.sends.count; some = h.sends.some; mode = h.sends.mode; body = h.sends.body; text = h.sends.text; flows = h.sends.flows };
+}
+
+pub enters_settled : {C O Q : Type 0} (client : C → Look) (origin : O → Look) (paired : C → O → Type 0) (refuses : O → List ℕ → Type 0) (rest : Q → List ℕ → List ℕ) (old new : Core C O)
+    (c : ChainState Q) (place : Place) → StepKeeps client origin paired refuses old new
+    → EntersBody (arc_value old.setup) (OriginRefuses client refuses old) rest (view_of client origin new) c place
+    → EntersBody (arc_value new.setup) (OriginRefuses client refuses new) rest (view_of client origin new) c place
+enters_settled client origin paired refuses rest old new c place keeps h =
+    let v = view_of client origin new in
+    let from : OriginRefuses client refuses new → OriginRefuses client refuses old = λ r.
+        keeps.refusal.before _ (subst (λ (c : List ℕ). refuses_if refuses new.origin c) keeps.client.source r) in
+    subst (λ s. EntersBody (arc_value s) (OriginRefuses client refuses new) rest v c place) (sym keeps.setup)
+    (enters_moved (arc_value old.setup) (OriginRefuses client refuses old) (OriginRefuses client refuses new) from rest v c place h)

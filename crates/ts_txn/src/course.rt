@@ -1,12 +1,10 @@
 //! How far a transaction is, and where an event leads it while a body is passed on.
 ghost use Rattle.std.specs.Prelude.{◌≡◌, true};
 ghost use Rattle.ts_txn.specs.Course.{CourseHolds, course_after, finish_after};
-ghost use Rattle.ts_txn.specs.Duties.{HandlesBody};
 ghost use Rattle.ts_txn.specs.Entering.{ActsAsLines, HeadHolds};
 ghost use Rattle.ts_txn.specs.Finishing.{FinishHolds};
 ghost use Rattle.ts_txn.specs.Holding.{StepKeeps};
 ghost use Rattle.ts_txn.specs.Relaying.{RelayHolds};
-ghost use Rattle.ts_txn.specs.View.{IsPaired};
 
 use crate::finishing::BodyStep;
 use crate::parts::Core;
@@ -89,4 +87,29 @@ pub fn finish_on<C: Link, O: Upstream<C>, P: Transform + Drop>(core: &mut Core<C
 {
     let step = core.send_rest(end);
     finished(end, step)
+}
+
+/// Queues the client's head of a response that is passed on, and begins its body; it answers where the transaction is
+/// then.
+pub fn enter_on<C: Link, O: Upstream<C>, P: Transform<Line = TransformLine> + Drop>(
+    core: &mut Core<C, O>,
+    main: &mut Option<StageContinuation>,
+    request: Request,
+    head: ResponseHead,
+    cx: &mut Cx,
+) -> Course<P>
+    requires turn { cx.old.log.state.held ≡ true }
+    requires acts { ActsAsLines P.whole }
+    requires fact { HeadHolds C.tells O.tells C.look O.look O.refuses core.old request head }
+    ensures fact { CourseHolds C.tells O.tells C.look O.look O.refuses P.rest core.new result }
+    ensures keeps { StepKeeps C.look O.look O.paired O.refuses core.old core.new }
+{
+    let Ok(made) = core.queue_relay(&request, &head) else {
+        return Course::Phased(Phase::Ended {
+            end: TxnEnd::NoMemory,
+        });
+    };
+    let mut relay = made;
+    let step = core.begin_body(main, &mut relay, cx);
+    led(relay, step)
 }
