@@ -1,11 +1,16 @@
 pub mod Acting
 pub mod Block
 pub mod Checking
+pub mod Course
 pub mod Cover
 pub mod Driven
+pub mod Duties
 pub mod Ends
+pub mod Entering
 pub mod Facts
+pub mod Feeding
 pub mod Finding
+pub mod Finishing
 pub mod Fronts
 pub mod Heads
 pub mod Holding
@@ -13,7 +18,9 @@ pub mod Making
 pub mod Moving
 pub mod Own
 pub mod Reading
+pub mod RelayMoves
 pub mod Relayed
+pub mod Relaying
 pub mod Rules
 pub mod Steps
 pub mod View
