@@ -1,7 +1,9 @@
 -- The next step of a transaction has an event, or there is none.
-use Rattle.std.proofs.Common.{◌≡◌, ℕ, ◌≤◌, ◌⊎◌, inl, inr, Bool, true, false, Option, Some, None, arith, refl, sym, ap, subst, ◌∙◌}
+use Rattle.std.proofs.Common.{◌≡◌, ◌≢◌, ℕ, ◌<◌, ◌≤◌, inl, inr, true, Option, None, arith, refl}
 use Rattle.std.specs.Prelude.{⊤}
 use Rattle.ts_journal.specs.declared.entry.TheConstants.{GREATEST}
+use Rattle.ts_group.specs.declared.action.SetFault.{SetFault}
+use Rattle.ts_group.specs.declared.action.SetFault.TheVariants as F
 use Rattle.ts_transform.specs.Driving.{IsRousedIf}
 use Rattle.ts_transform.specs.declared.continuation.StageContinuation.{StageContinuation}
 use Rattle.ts_txn.specs.Cover.{Proceeds, Idles, HasNextEvent, HasNextEventOr, is_ended, is_fresh}
@@ -97,3 +99,10 @@ fresh_none (P.SendResponseHdr a) main is idles = absurd (cc)
 fresh_none (P.Sending a) main is idles = absurd (cc)
 fresh_none (P.TxnClose end) main is idles = absurd (cc)
 fresh_none (P.Ended end) main is idles = absurd (cc)
+
+-- an event can be set of a live continuation where the numbers are not used up, and memory is there
+pub never_spent : (fault : SetFault) (next : ℕ) (Live : Type 0) → fault ≢ F.Spent → (fault ≡ F.NoMemory → next < GREATEST)
+    → (fault ≡ F.Dead → Live → ⊥) → GREATEST ≤ next → Live → ⊥
+never_spent F.Spent next Live other memory dead spent live = other refl
+never_spent F.NoMemory next Live other memory dead spent live = let less : next < GREATEST = memory refl in omega (arith, less, spent)
+never_spent F.Dead next Live other memory dead spent live = dead refl live

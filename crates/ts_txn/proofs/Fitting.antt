@@ -1,11 +1,9 @@
 -- A transaction keeps the tags that it fits, since each step leaves it and its links what they are.
-use Rattle.std.proofs.Common.{◌≡◌, ℕ, List, Bool, true, Option, refl, sym, ap, subst, ◌∙◌}
+use Rattle.std.proofs.Common.{ℕ, List, refl, sym, ap, subst, ◌∙◌}
 use Rattle.std.specs.Arc.{arc_value}
 use Rattle.std.specs.Prelude.{IsSomeAnd}
 use Rattle.ts_link.specs.Link.{IsSure, IsSurePlan, Look}
-use Rattle.ts_upstream.specs.Uploads.{SameRefusal}
 use Rattle.ts_txn.specs.Holding.{IsSameLink, StepKeeps}
-use Rattle.ts_txn.specs.View.{is_dialed, side_if}
 use Rattle.ts_txn.specs.World.{IsTxnOf}
 use Rattle.ts_txn.specs.declared.parts.Core.{Core}
 use Rattle.ts_txn.specs.declared.txn.Txn.{Txn}
@@ -35,6 +33,7 @@ module _ {C O : Type 0} (client : C → Look) (origin : O → Look) (paired : C 
     setup = ap (λ s. arc_value s) keeps.setup ∙ h.setup;
     plugins_at = keeps.plugins_at ∙ h.plugins_at;
     gives = keeps.client.source ∙ h.gives;
+    dialed = keeps.dialed ∙ h.dialed;
     answers = keeps.origin.source ∙ h.answers;
     sure = λ is. still_sure _ _ keeps.client (h.sure is);
     sure_origin = λ is dialed. still_sure _ _ keeps.origin (h.sure_origin is (sym keeps.dialed ∙ dialed));

@@ -1,7 +1,6 @@
 -- A transaction is sound again when it was started, and when an event was handled.
-use Rattle.std.proofs.Common.{◌≡◌, ◌≤◌, ◌⊎◌, inl, inr, ℕ, List, [], Bool, true, false, Option, Some, None, arith, refl, sym, ap, subst, ◌∙◌}
+use Rattle.std.proofs.Common.{◌≡◌, ◌≤◌, inl, inr, ℕ, List, [], Bool, true, false, Option, Some, None, arith, refl, sym, subst}
 use Rattle.std.specs.Arc.{arc_value}
-use Rattle.ts_hooks.specs.declared.txn_end.TxnEnd.TheVariants as E
 use Rattle.ts_journal.specs.declared.entry.Event.{Event}
 use Rattle.ts_journal.specs.declared.entry.Pending.{Pending}
 use Rattle.ts_journal.specs.declared.entry.TheConstants.{GREATEST}
@@ -13,7 +12,6 @@ use Rattle.ts_transform.specs.Driving.{IsOfStageIf, IsRousedIf, unroused, works_
 use Rattle.ts_transform.specs.declared.continuation.StageContinuation.{StageContinuation}
 use Rattle.ts_txn.specs.Cover.{HasNextEvent, HasNextEventOr, Idles, Seated, is_fresh, main_role}
 use Rattle.ts_txn.specs.Driven.{BeginsOrLacks, SeatedAfter}
-use Rattle.ts_txn.specs.Ends.{EndFact}
 use Rattle.ts_txn.specs.Facts.{Asking}
 use Rattle.ts_txn.specs.Holding.{PhaseHolds, StepKeeps, PhaseFact}
 use Rattle.ts_txn.specs.Making.{end_of_phase}

@@ -4,6 +4,7 @@ pub mod Chaining
 pub mod Coverage
 pub mod Entered
 pub mod Fed
+pub mod Events
 pub mod Filled
 pub mod Finished
 pub mod Fitting
@@ -23,6 +24,7 @@ mod Saying
 mod Searching
 pub mod Seating
 pub mod Settled
+pub mod Sparing
 mod Sites
 pub mod Stopping
 pub mod Uploading

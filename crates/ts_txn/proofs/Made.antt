@@ -1,5 +1,5 @@
 -- A transaction that was just made is sound: nothing was given, taken or queued.
-use Rattle.std.proofs.Common.{◌≡◌, ℕ, ◌≤◌, List, [], Bool, true, false, Option, Some, None, inl, arith, refl, sym, ap, subst, ◌∙◌}
+use Rattle.std.proofs.Common.{◌≡◌, ℕ, ◌≤◌, List, [], Bool, true, Option, Some, None, inl, arith, refl, sym, ap, subst, ◌∙◌}
 use Rattle.std.specs.Prelude.{⊤}
 use Rattle.std.specs.Arc.{arc_value}
 use Rattle.ts_group.specs.declared.action.Named.{Named}
@@ -13,9 +13,8 @@ use Rattle.ts_txn.specs.Cover.{Idles, HasNextEventOr, Seated}
 use Rattle.ts_txn.specs.Holding.{PhaseFact}
 use Rattle.ts_txn.specs.Facts.{Asking, Untouched}
 use Rattle.ts_txn.specs.Making.{ArePaired, IsMadeOf, IsMadeOfIf, IsNewLink, IsNewLinkIf}
-use Rattle.ts_txn.specs.View.{IsPaired, OriginRefuses, PairIf, LinkSide, View, no_side, side, side_if, view_of}
+use Rattle.ts_txn.specs.View.{OriginRefuses, PairIf, side, side_if, view_of}
 use Rattle.ts_txn.specs.World.{IsSoundTxn, IsSoundTxnGroup}
-use Rattle.ts_txn.specs.declared.parts.Core.{Core}
 use Rattle.ts_txn.specs.declared.parts.Peer.{Peer}
 use Rattle.ts_txn.specs.declared.phase.Phase.TheVariants as P
 use Rattle.ts_txn.specs.declared.txn.Txn.{Txn}

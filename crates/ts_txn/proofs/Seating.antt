@@ -1,11 +1,10 @@
 -- The continuation of a transaction: what calls and events leave of it and of what is pending.
-use Rattle.std.proofs.Common.{◌≡◌, ◌≢◌, ℕ, ◌+◌, ◌<◌, ◌≤◌, ◌⊎◌, inl, inr, List, [], ◌∷◌, Bool, true, false, ◌&&◌, ◌==◌, Option, Some, None, Result, Ok, Err, eqb, length, arith, refl, sym, ap, subst, ◌∙◌}
+use Rattle.std.proofs.Common.{◌≡◌, ◌≢◌, ℕ, ◌⊎◌, inl, inr, List, Bool, true, false, ◌&&◌, ◌==◌, Option, Some, None, Result, eqb, length, arith, refl, sym, ap, subst, ◌∙◌}
 use Rattle.std.proofs.lemmas.Bool.Decides.{eqb_tells}
 use Rattle.ts_journal.specs.declared.entry.ContKey.{ContKey}
 use Rattle.ts_journal.specs.declared.entry.Event.{Event}
 use Rattle.ts_journal.specs.declared.entry.Pending.{Pending}
 use Rattle.ts_journal.specs.State.{State, IsLive, pending_at, same_key}
-use Rattle.ts_journal.specs.Machine.{IsValid}
 use Rattle.ts_journal.proofs.Events.{known_in}
 use Rattle.ts_group.proofs.Facts.{plain_at}
 use Rattle.ts_group.specs.declared.action.Action.{Action}
@@ -15,13 +14,13 @@ use Rattle.ts_group.specs.declared.action.Named.{Named}
 use Rattle.ts_group.specs.declared.action.SetFault.{SetFault}
 use Rattle.ts_group.specs.Acts.{Destroys, Sets}
 use Rattle.ts_group.specs.Calls.{IsCalled}
-use Rattle.ts_group.specs.Changes.{HasHandled, HasLost, IsLess, KeepsKeys, SameEvents}
-use Rattle.ts_group.specs.Context.{AllPlain, Context, IsOrderly, role_at}
+use Rattle.ts_group.specs.Changes.{HasLost, IsLess, SameEvents}
+use Rattle.ts_group.specs.Context.{AllPlain, Context, IsOrderly, moment_after, role_at}
 use Rattle.ts_group.specs.Entries.{Grows}
-use Rattle.ts_transform.specs.Driving.{ActsWithin, IsOfStageIf, IsRousedIf, Keeps, KeepsStage, SetsOnly, unroused, works_at}
+use Rattle.ts_transform.specs.Driving.{ActsWithin, IsDueAfter, Keeps, KeepsStage, SetsOnly, unroused, works_at}
 use Rattle.ts_transform.proofs.Handled.{handled_by, quiet_if, stays_if, unroused_if}
 use Rattle.ts_transform.proofs.Setting.{lessens_less, only_none, set_only}
-use Rattle.ts_transform.proofs.Kept.{acts_lessens, acts_none}
+use Rattle.ts_transform.proofs.Kept.{acts_lessens, soon_later}
 use Rattle.ts_transform.specs.declared.continuation.StageContinuation.{StageContinuation}
 use Rattle.ts_txn.specs.Cover.{IsOfMain, Seated, main_role}
 
@@ -55,6 +54,20 @@ pub main_set : (a b : Context) (r : Result Action SetFault) (slot : Option Stage
     → Sets a.log b.log r t.key event due 0 → SetsOnly (IsOfMain slot) a b
 main_set a b r slot t event due is sets =
     subst (λ (s : Option StageContinuation). SetsOnly (IsOfMain s) a b) (sym is) (set_only a b r t.key event due (IsOfMain (Some t)) sets (λ p key e d. key))
+
+-- due after its time
+pub due_set : (a b : Context) (r : Result Action SetFault) (key : ContKey) (event : Event) (after : ℕ)
+    → Sets a.log b.log r key event (moment_after a.moment after) 0 → SetsOnly (IsDueAfter after a.moment) a b
+due_set a b r key event after sets =
+    let later = soon_later a.moment after in
+    set_only a b r key event (moment_after a.moment after) (IsDueAfter after a.moment) sets (λ p key event due. (omega (arith, due, later.0), omega (arith, due, later.1)))
+
+pub due_rests : (a : Context) (after : ℕ) → SetsOnly (IsDueAfter after a.moment) a a
+due_rests a after = only_none (IsDueAfter after a.moment) a
+
+-- so it is where something was destroyed then
+pub due_less : (a b c : Context) (after : ℕ) → SetsOnly (IsDueAfter after a.moment) a b → IsLess b.log.state c.log.state → SetsOnly (IsDueAfter after a.moment) a c
+due_less a b c after only less = λ n p none there. only n p none (less.from n p there)
 
 pub main_rests : (a : Context) (slot : Option StageContinuation) → SetsOnly (IsOfMain slot) a a
 main_rests a slot = only_none (IsOfMain slot) a

@@ -3,11 +3,12 @@ use Rattle.std.proofs.Common.{◌≡◌, ℕ, ◌≤◌, List, [], ◌++◌, Boo
 use Rattle.std.proofs.lemmas.List.{append-nil}
 use Rattle.ts_config.specs.declared.setup.Setup.{Setup}
 use Rattle.ts_hooks.specs.declared.txn_end.TxnEnd.TheVariants as E
+use Rattle.std.specs.Prelude.{Option, Some, None}
 use Rattle.ts_link.specs.Counts.{Rose}
 use Rattle.ts_link.specs.Link.{Look, all_of}
 use Rattle.ts_upstream.specs.declared.upstream.Uploaded.{Uploaded}
 use Rattle.ts_upstream.specs.declared.upstream.Uploaded.TheVariants as U
-use Rattle.ts_upstream.specs.Uploads.{UploadKeeps, Uploads}
+use Rattle.ts_upstream.specs.Uploads.{UploadFalls, UploadKeeps, Uploads}
 use Rattle.ts_txn.specs.Relayed.{asks_head}
 use Rattle.ts_txn.specs.Block.{own_block, request_text}
 use Rattle.ts_txn.specs.View.{HasFailed, LinkSide, View}
@@ -117,3 +118,8 @@ module _ (setup : Setup) (ct ot : Bool) (refuses : List ℕ → Type 0) (v w : V
 
   pub upload_lacks : MovesUpload ct ot refuses U.NoMemory v w → EndFact setup (refuses v.client.look.source) w E.NoMemory
   upload_lacks m = lacks_memory setup (refuses v.client.look.source) w (upload_any U.NoMemory m)
+
+-- want of memory without an origin leaves what is left
+pub none_falls : (agains : Option ℕ) → UploadFalls U.NoMemory None None agains agains
+none_falls None = (tt, tt)
+none_falls (Some n) = (tt, omega arith)

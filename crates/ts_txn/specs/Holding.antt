@@ -4,7 +4,7 @@ use Rattle.std.specs.Arc.{arc_value}
 use Rattle.ts_config.specs.declared.setup.Setup.{Setup}
 use Rattle.ts_link.specs.Link.{Look}
 use Rattle.ts_upstream.specs.Uploads.{SameRefusal}
-use Rattle.ts_txn.specs.View.{IsPaired, OriginRefuses, View, refuses_if, side, side_if, view_of}
+use Rattle.ts_txn.specs.View.{IsPaired, OriginRefuses, View, refuses_if, side_if, view_of}
 use Rattle.ts_txn.specs.Facts.{IsAllowed, Asking, Awaits, PassesCheck, OwnReady, OwnSends, Relays, SendingRequest, Uploading}
 use Rattle.ts_txn.specs.Ends.{EndFact}
 use Rattle.ts_txn.specs.declared.parts.Core.{Core}

@@ -4,7 +4,7 @@ use Rattle.ts_vconn.specs.Moves.{PullsOn, Pushes}
 use Rattle.ts_vconn.specs.declared.moves.Pulled.{Pulled}
 use Rattle.ts_vconn.specs.declared.moves.Pushed.{Pushed}
 use Rattle.ts_upstream.specs.declared.upstream.Uploaded.{Uploaded}
-use Rattle.ts_upstream.specs.Uploads.{UploadCauses, UploadKeeps, Uploads}
+use Rattle.ts_upstream.specs.Uploads.{UploadCauses, UploadFalls, UploadKeeps, Uploads, both}
 use Rattle.ts_wire.specs.declared.frames.Mode.TheVariants as M
 use Rattle.ts_wire.specs.declared.heads.RequestHead.{RequestHead}
 use Rattle.ts_wire.specs.declared.heads.ResponseHead.{ResponseHead}
@@ -106,3 +106,8 @@ pub record QueuesOwn (head body : List ℕ) (v w : View) : Type 0 where
   pub head_is : w.sent.head ≡ length head
   pub plain : w.sent.mode ≡ M.Plain
   pub cuts : w.sent.cuts.items ≡ cuts_of body
+
+-- what an upload lowered of what is left: of the upload, and of the Again answers of both links
+abbrev pub LowersUpload : Uploaded → Option ℕ → Option ℕ → View → View → Type 0
+LowersUpload answer left left_then v w = UploadFalls answer left left_then
+    (both v.client.look.agains v.origin.look.agains) (both w.client.look.agains w.origin.look.agains)

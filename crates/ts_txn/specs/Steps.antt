@@ -1,10 +1,14 @@
 -- What the step of a phase owes beside the fact of the phase that it leads to: the fault of a link decides
 -- where it leads, nothing but the request and its upload is sent to the origin, and it waits for a link alone
 -- (RFC 9110, sections 7.6 and 15.6.3).
-use Rattle.std.specs.Prelude.{◌≡◌, ◌<◌, ◌⊎◌, ⊤}
+use Rattle.std.specs.Prelude.{◌≡◌, ◌<◌, ◌⊎◌, ⊤, Bool, List, ℕ, Option}
 use Rattle.ts_hooks.specs.declared.txn_end.TxnEnd.TheVariants as E
 use Rattle.ts_link.specs.Counts.{Rose}
+use Rattle.ts_upstream.specs.declared.upstream.Uploaded.{Uploaded}
+use Rattle.ts_upstream.specs.declared.upstream.Uploaded.TheVariants as U
+use Rattle.ts_txn.specs.Moving.{LowersUpload, MovesUpload}
 use Rattle.ts_txn.specs.View.{View}
+use Rattle.ts_txn.specs.declared.phase.Request.{Request}
 use Rattle.ts_txn.specs.declared.own.OwnStatus.TheVariants as O
 use Rattle.ts_txn.specs.declared.phase.Next.{Next}
 use Rattle.ts_txn.specs.declared.phase.Next.TheVariants as N
@@ -16,6 +20,11 @@ use Rattle.ts_txn.specs.declared.phase.Step.{Step}
 abbrev pub AnswersOriginFault : Phase → Type 0
 AnswersOriginFault (P.SendResponseHdr a) = (a.status ≡ O.BadGateway) × (a.end ≡ E.OriginFault)
 AnswersOriginFault _ = ⊥
+
+-- the 400 answer is next, and then the whole end
+abbrev pub AnswersRefusal : Phase → Type 0
+AnswersRefusal (P.SendResponseHdr a) = (a.status ≡ O.BadRequest) × (a.end ≡ E.Whole)
+AnswersRefusal _ = ⊥
 
 -- the end for the client's fault is next
 abbrev pub ClosesForClientFault : Phase → Type 0
@@ -52,3 +61,37 @@ abbrev pub WaitsRightly : Next → View → View → Type 0
 WaitsRightly N.Wait v w =
     Rose v.client.look.waits w.client.look.waits ⊎ Rose v.origin.look.waits w.origin.look.waits
 WaitsRightly _ v w = ⊤
+
+-- where the answer of an upload leads
+abbrev pub UploadLeads : Uploaded → Request → Step → Type 0
+UploadLeads U.Done q s = s ≡ record { phase = P.ReadResponse q; next = N.Go }
+UploadLeads U.More q s = s ≡ record { phase = P.Upload q; next = N.Go }
+UploadLeads U.Again q s = s ≡ record { phase = P.Upload q; next = N.Wait }
+UploadLeads U.ClientFailed q s = ClosesForClientFault s.phase
+UploadLeads U.OriginFailed q s = AnswersOriginFault s.phase
+UploadLeads U.Refused q s = AnswersRefusal s.phase
+UploadLeads U.NoMemory q s = s ≡ record { phase = P.Ended E.NoMemory; next = N.Done }
+
+-- one upload was made, and its answer decides where the step leads
+pub record UploadsOnce (client origin : Bool) (refuses : List ℕ → Type 0) (q : Request)
+    (left left_then : Option ℕ) (v w : View) (s : Step) : Type 0 where
+  pub answer : Uploaded
+  pub moves : MovesUpload client origin refuses answer v w
+  pub lowers : LowersUpload answer left left_then v w
+  pub leads : UploadLeads answer q s
+
+-- nothing is read of the client, and what it gave is kept
+pub record LeavesClient (v w : View) : Type 0 where
+  pub given : w.client.look.given ≡ v.client.look.given
+  pub held : w.client.inbox ≡ v.client.inbox
+
+-- it is read for the request's head, and by an upload
+abbrev pub LeavesClientIn : Phase → View → View → Type 0
+LeavesClientIn P.ReadRequest v w = ⊤
+LeavesClientIn (P.Upload q) v w = ⊤
+LeavesClientIn _ v w = LeavesClient v w
+
+-- what the step of a phase leaves as it is of both sides
+pub record LeavesSides (p : Phase) (v w : View) : Type 0 where
+  pub origin : LeavesOriginIn p v w
+  pub client : LeavesClientIn p v w

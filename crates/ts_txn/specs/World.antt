@@ -1,7 +1,6 @@
 -- What holds of a transaction in its group between calls, and of which transaction a tag speaks.
-use Rattle.std.specs.Prelude.{◌≡◌, ◌⊎◌, ℕ, List, Bool, true, false}
+use Rattle.std.specs.Prelude.{◌≡◌, ℕ, List, Bool, true, false}
 use Rattle.std.specs.Arc.{arc_value}
-use Rattle.ts_hooks.specs.declared.txn_end.TxnEnd.TheVariants as E
 use Rattle.ts_journal.specs.declared.entry.Pending.{Pending}
 use Rattle.ts_group.specs.declared.action.Named.{Named}
 use Rattle.ts_group.specs.declared.group.Group.{Group}
@@ -30,6 +29,7 @@ pub record IsTxnOf {C O : Type 0} (client : C → Look) (origin : O → Look)
   pub setup : arc_value t.core.setup ≡ tag.setup
   pub plugins_at : t.core.plugins_at ≡ tag.plugins_at
   pub gives : (client t.core.client.link).source ≡ tag.client
+  pub dialed : is_dialed t.core.origin ≡ tag.dialed
   pub answers : (side_if origin t.core.origin).look.source ≡ tag.origin
   pub sure : tag.sure ≡ true → IsSure (client t.core.client.link)
   pub sure_origin : tag.sure ≡ true → is_dialed t.core.origin ≡ true

@@ -2,7 +2,7 @@
 ghost use Rattle.std.specs.Prelude.{◌≡◌, IfOk};
 ghost use Rattle.ts_txn.specs.Block.{own_text};
 ghost use Rattle.ts_txn.specs.Cover.{StepLeads};
-ghost use Rattle.ts_txn.specs.Steps.{LeavesOrigin, MindsLinks, WaitsRightly};
+ghost use Rattle.ts_txn.specs.Steps.{LeavesClient, LeavesOrigin, MindsLinks, WaitsRightly};
 ghost use Rattle.ts_txn.specs.View.{view_of};
 ghost use Rattle.ts_txn.specs.Holding.{IfTold, PhaseHolds, HoldsAfter, StepKeeps};
 
@@ -16,7 +16,7 @@ use ts_vconn::Pushed;
 
 impl<C: Link, O: Upstream<C>> Core<C, O> {
     /// Queues an answer of the proxy's own.
-    #[tactic(auto, using(crate::proofs::Leaving::still_leaves, crate::proofs::Leaving::queued_leaves, crate::proofs::Minding::stood, crate::proofs::Minding::queued_own))]
+    #[tactic(auto, using(crate::proofs::Sparing::still_spares, crate::proofs::Sparing::held_spares, crate::proofs::Sparing::queued_spares, crate::proofs::Sparing::wrote_spares, crate::proofs::Sparing::sent_spares, crate::proofs::Sparing::asked_spares, crate::proofs::Leaving::still_leaves, crate::proofs::Leaving::queued_leaves, crate::proofs::Minding::stood, crate::proofs::Minding::queued_own))]
     pub fn send_response_hdr(&mut self, answer: OwnAnswer) -> Step
         requires fact { PhaseHolds C.tells O.tells C.look O.look O.refuses self.old
             (Phase.SendResponseHdr answer) }
@@ -25,6 +25,8 @@ impl<C: Link, O: Upstream<C>> Core<C, O> {
         ensures minds { MindsLinks (view_of C.look O.look self.old) (view_of C.look O.look self.new) result }
         ensures leaves { IfTold C.tells O.tells
             (LeavesOrigin (view_of C.look O.look self.old) (view_of C.look O.look self.new)) }
+        ensures spares { IfTold C.tells O.tells
+            (LeavesClient (view_of C.look O.look self.old) (view_of C.look O.look self.new)) }
         ensures keeps { StepKeeps C.look O.look O.paired O.refuses self.old self.new }
         ensures waits { WaitsRightly result.next
             (view_of C.look O.look self.old) (view_of C.look O.look self.new) }
@@ -52,7 +54,7 @@ impl<C: Link, O: Upstream<C>> Core<C, O> {
     }
 
     /// Writes once of what was queued.
-    #[tactic(auto, using(crate::proofs::Waiting::client_waits, crate::proofs::Leaving::wrote_leaves, crate::proofs::Minding::wrote_client, crate::proofs::Minding::client_left, crate::proofs::Minding::full_client))]
+    #[tactic(auto, using(crate::proofs::Sparing::still_spares, crate::proofs::Sparing::held_spares, crate::proofs::Sparing::queued_spares, crate::proofs::Sparing::wrote_spares, crate::proofs::Sparing::sent_spares, crate::proofs::Sparing::asked_spares, crate::proofs::Waiting::client_waits, crate::proofs::Leaving::wrote_leaves, crate::proofs::Minding::wrote_client, crate::proofs::Minding::client_left, crate::proofs::Minding::full_client))]
     pub fn send(&mut self, answer: OwnAnswer) -> Step
         requires fact { PhaseHolds C.tells O.tells C.look O.look O.refuses self.old (Phase.Sending answer) }
         ensures leads { StepLeads result }
@@ -60,6 +62,8 @@ impl<C: Link, O: Upstream<C>> Core<C, O> {
         ensures minds { MindsLinks (view_of C.look O.look self.old) (view_of C.look O.look self.new) result }
         ensures leaves { IfTold C.tells O.tells
             (LeavesOrigin (view_of C.look O.look self.old) (view_of C.look O.look self.new)) }
+        ensures spares { IfTold C.tells O.tells
+            (LeavesClient (view_of C.look O.look self.old) (view_of C.look O.look self.new)) }
         ensures keeps { StepKeeps C.look O.look O.paired O.refuses self.old self.new }
         ensures waits { WaitsRightly result.next
             (view_of C.look O.look self.old) (view_of C.look O.look self.new) }

@@ -1,10 +1,12 @@
 //! How the events of a transaction's continuation drive its steps. Only what stands here sets events.
-ghost use Rattle.std.specs.Prelude.{◌≡◌, true, None, OnOk};
-ghost use Rattle.ts_transform.specs.Driving.{ActsWithin, AddsEvents, HasLiveIf, IsRousedIf, KeepsStage, SetsOnly};
+ghost use Rattle.std.specs.Prelude.{◌≡◌, ◌≢◌, ◌<◌, ◌≤◌, true, false, None, OnOk, Err};
+ghost use Rattle.ts_journal.specs.declared.entry.TheConstants.{GREATEST};
+ghost use Rattle.ts_group.specs.Changes.{IsLess};
+ghost use Rattle.ts_transform.specs.Driving.{ActsWithin, AddsEvents, HasLiveIf, IsDueAfter, IsRousedIf, KeepsStage, SetsOnly};
 ghost use Rattle.ts_txn.specs.Cover.{Proceeds, Idles, HasNextEventOr, IsOfMain, StepsTo};
-ghost use Rattle.ts_txn.specs.Driven.{BeginsOrLacks, SeatedAfter, StaysOrLacks};
+ghost use Rattle.ts_txn.specs.Driven.{BeginsOrLacks, HandlesEvent, SeatedAfter, StaysOrLacks, delay_of};
 ghost use Rattle.ts_txn.specs.View.{IsPaired};
-ghost use Rattle.ts_txn.specs.Holding.{PhaseHolds, StepKeeps};
+ghost use Rattle.ts_txn.specs.Holding.{PhaseHolds};
 
 use crate::parts::Core;
 use crate::phase::{Next, Phase};
@@ -21,13 +23,16 @@ pub const MAIN: u32 = 1;
 pub const RETRY: u64 = 10;
 
 // Sees that an event of the continuation is pending, so many milliseconds later where it has none yet.
-#[tactic(auto, using(crate::proofs::Seating::main_set, crate::proofs::Seating::main_rests, ts_transform::proofs::Kept::adds_none, ts_transform::proofs::Kept::adds_dead, ts_transform::proofs::Kept::set_adds, ts_transform::proofs::Kept::set_event, ts_transform::proofs::Kept::works_soon, ts_transform::proofs::Kept::set_keeps, ts_transform::proofs::Kept::kept_if, ts_transform::proofs::Kept::roused_if))]
+#[tactic(auto, using(crate::proofs::Seating::main_set, crate::proofs::Seating::main_rests, crate::proofs::Seating::due_set, crate::proofs::Seating::due_rests, ts_transform::proofs::Kept::adds_none, ts_transform::proofs::Kept::adds_dead, ts_transform::proofs::Kept::set_adds, ts_transform::proofs::Kept::set_event, ts_transform::proofs::Kept::works_soon, ts_transform::proofs::Kept::set_keeps, ts_transform::proofs::Kept::kept_if, ts_transform::proofs::Kept::roused_if))]
 fn rouse(main: &mut Option<StageContinuation>, after: u64, cx: &mut Cx) -> Result<(), SetFault>
     requires turn { cx.old.log.state.held ≡ true }
     ensures adds { AddsEvents 1 (HasLiveIf cx.new.log.state.live main.new) result cx.old cx.new }
     ensures stage { KeepsStage cx.old cx.new main.old main.new }
     ensures only { SetsOnly (IsOfMain main.old) cx.old cx.new }
+    ensures due { SetsOnly (IsDueAfter after cx.old.moment) cx.old cx.new }
     ensures roused { OnOk result (IsRousedIf main.new) }
+    ensures unspent { result ≡ Err SetFault.NoMemory → cx.old.log.state.next < GREATEST }
+    ensures dead { result ≡ Err SetFault.Dead → HasLiveIf cx.old.log.state.live main.old → ⊥ }
 {
     let Some(continuation) = main else {
         return Err(SetFault::Dead);
@@ -41,11 +46,12 @@ fn rouse(main: &mut Option<StageContinuation>, after: u64, cx: &mut Cx) -> Resul
 }
 
 // Destroys the continuation, so that nothing is pending.
-#[tactic(auto, using(crate::proofs::Seating::destroyed, crate::proofs::Seating::destroyed_acts, crate::proofs::Seating::none_seated, ts_transform::proofs::Kept::acts_none))]
+#[tactic(auto, using(crate::proofs::Seating::destroyed, crate::proofs::Seating::destroyed_acts, crate::proofs::Seating::none_seated, ts_group::proofs::Facts::less_none, ts_transform::proofs::Kept::acts_none))]
 fn finish(main: &mut Option<StageContinuation>, cx: &mut Cx)
     requires turn { cx.old.log.state.held ≡ true }
     ensures within { ActsWithin 0 cx.old cx.new }
     ensures none { main.new ≡ None }
+    ensures less { IsLess cx.old.log.state cx.new.log.state }
     ensures seated { SeatedAfter main.old main.new cx.old cx.new }
 {
     cx.known();
@@ -66,7 +72,8 @@ fn lose(phase: &mut Phase)
 
 // Whether the numbers of events are used up.
 fn is_spent(fault: &SetFault) -> bool
-    ensures { result ≡ true → fault.now ≡ SetFault.Spent }
+    ensures spent { result ≡ true → fault.now ≡ SetFault.Spent }
+    ensures other { result ≡ false → fault.now ≢ SetFault.Spent }
 {
     match fault {
         SetFault::Spent => true,
@@ -76,15 +83,17 @@ fn is_spent(fault: &SetFault) -> bool
 }
 
 // Sees that the next step has an event; where there is no memory for one, the transaction ends.
-#[tactic(auto, using(crate::proofs::Seating::seated_roused, crate::proofs::Coverage::covered_roused, crate::proofs::Coverage::covered_spent, crate::proofs::Coverage::idle_goes, ts_transform::proofs::Kept::acts_adds))]
+#[tactic(auto, using(crate::proofs::Seating::due_less, crate::proofs::Seating::seated_roused, crate::proofs::Coverage::covered_roused, crate::proofs::Coverage::covered_spent, crate::proofs::Coverage::idle_goes, ts_transform::proofs::Kept::acts_adds))]
 fn rouse_main(after: u64, main: &mut Option<StageContinuation>, phase: &mut Phase, cx: &mut Cx)
     requires turn { cx.old.log.state.held ≡ true }
     requires goes_on { Proceeds phase.old }
     ensures within { ActsWithin 1 cx.old cx.new }
     ensures seated { SeatedAfter main.old main.new cx.old cx.new }
+    ensures due { SetsOnly (IsDueAfter after cx.old.moment) cx.old cx.new }
+    ensures spent { GREATEST ≤ cx.old.log.state.next → HasLiveIf cx.old.log.state.live main.old
+        → phase.new ≡ phase.old }
     ensures phase { StaysOrLacks phase.old phase.new }
-    ensures idles { Idles phase.new main.new }
-    ensures covered { HasNextEventOr phase.new main.new cx.new.log.state.next }
+    ensures duty { Idles phase.new main.new × HasNextEventOr phase.new main.new cx.new.log.state.next }
 {
     let Err(fault) = rouse(main, after, cx) else {
         return;
@@ -97,12 +106,13 @@ fn rouse_main(after: u64, main: &mut Option<StageContinuation>, phase: &mut Phas
 }
 
 // Does what a step asks for.
-#[tactic(auto, using(crate::proofs::Coverage::ended_idle, crate::proofs::Coverage::ended_covered))]
+#[tactic(auto, using(crate::proofs::Seating::due_rests, crate::proofs::Seating::due_less, crate::proofs::Coverage::ended_idle, crate::proofs::Coverage::ended_covered))]
 fn settle(next: Next, main: &mut Option<StageContinuation>, phase: &mut Phase, cx: &mut Cx)
     requires turn { cx.old.log.state.held ≡ true }
     requires steps { StepsTo next phase.old }
     ensures within { ActsWithin 1 cx.old cx.new }
     ensures seated { SeatedAfter main.old main.new cx.old cx.new }
+    ensures due { SetsOnly (IsDueAfter (delay_of next) cx.old.moment) cx.old cx.new }
     ensures phase { StaysOrLacks phase.old phase.new }
     ensures idles { Idles phase.new main.new }
     ensures covered { HasNextEventOr phase.new main.new cx.new.log.state.next }
@@ -129,7 +139,7 @@ fn put(phase: &mut Phase, new: Phase)
 }
 
 /// Makes the next step of a transaction whose continuation has no event, and does what it asks for.
-#[tactic(auto, using(crate::proofs::Settled::settled))]
+#[tactic(auto, using(crate::proofs::Events::minds_on, crate::proofs::Settled::settled))]
 pub fn go_on<C: Link, O: Upstream<C>>(
     core: &mut Core<C, O>,
     main: &mut Option<StageContinuation>,
@@ -141,7 +151,8 @@ pub fn go_on<C: Link, O: Upstream<C>>(
     requires pair { IsPaired O.paired core.old }
     ensures within { ActsWithin 1 cx.old cx.new }
     ensures holds { PhaseHolds C.tells O.tells C.look O.look O.refuses core.new phase.new }
-    ensures keeps { StepKeeps C.look O.look O.paired O.refuses core.old core.new }
+    ensures handles { HandlesEvent C.tells O.tells C.look O.look O.paired O.refuses
+        core.old core.new phase.old phase.new cx.old cx.new }
     ensures seated { SeatedAfter main.old main.new cx.old cx.new }
     ensures duty { Idles phase.new main.new × HasNextEventOr phase.new main.new cx.new.log.state.next }
 {

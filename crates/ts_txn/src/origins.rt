@@ -5,10 +5,10 @@ ghost use Rattle.ts_wire.specs.Check.{plugin_host};
 ghost use Rattle.ts_txn.specs.Rules.{is_denied};
 ghost use Rattle.ts_txn.specs.Relayed.{asks_head};
 ghost use Rattle.ts_txn.specs.Block.{request_text};
-ghost use Rattle.ts_txn.specs.View.{IsPaired, view_of};
-ghost use Rattle.ts_txn.specs.Steps.{MindsLinks, WaitsRightly};
+ghost use Rattle.ts_txn.specs.View.{IsPaired, left_if, refuses_if, view_of};
+ghost use Rattle.ts_txn.specs.Steps.{LeavesClient, MindsLinks, UploadsOnce, WaitsRightly};
 ghost use Rattle.ts_txn.specs.Cover.{StepLeads};
-ghost use Rattle.ts_txn.specs.Holding.{PhaseHolds, HoldsAfter, StepKeeps};
+ghost use Rattle.ts_txn.specs.Holding.{IfTold, PhaseHolds, HoldsAfter, StepKeeps};
 
 use crate::block::request_text;
 use crate::own::OwnStatus;
@@ -92,13 +92,15 @@ impl<C: Link, O: Upstream<C>> Core<C, O> {
     }
 
     /// Queues the request's head for the origin.
-    #[tactic(auto, using(crate::proofs::Minding::stood, crate::proofs::Minding::queued_request, crate::proofs::Going::queued, crate::proofs::Going::allowed_any, crate::proofs::Asks::lacks_memory))]
+    #[tactic(auto, using(crate::proofs::Sparing::still_spares, crate::proofs::Sparing::held_spares, crate::proofs::Sparing::queued_spares, crate::proofs::Sparing::wrote_spares, crate::proofs::Sparing::sent_spares, crate::proofs::Sparing::asked_spares, crate::proofs::Minding::stood, crate::proofs::Minding::queued_request, crate::proofs::Going::queued, crate::proofs::Going::allowed_any, crate::proofs::Asks::lacks_memory))]
     pub fn send_request_hdr(&mut self, request: Request) -> Step
         requires fact { PhaseHolds C.tells O.tells C.look O.look O.refuses self.old
             (Phase.SendRequestHdr request) }
         ensures leads { StepLeads result }
         ensures fact { HoldsAfter C.tells O.tells C.look O.look O.refuses self.old self.new result }
         ensures minds { MindsLinks (view_of C.look O.look self.old) (view_of C.look O.look self.new) result }
+        ensures spares { IfTold C.tells O.tells
+            (LeavesClient (view_of C.look O.look self.old) (view_of C.look O.look self.new)) }
         ensures keeps { StepKeeps C.look O.look O.paired O.refuses self.old self.new }
         ensures waits { WaitsRightly result.next
             (view_of C.look O.look self.old) (view_of C.look O.look self.new) }
@@ -126,13 +128,15 @@ impl<C: Link, O: Upstream<C>> Core<C, O> {
     }
 
     /// Writes once of the request's head.
-    #[tactic(auto, using(crate::proofs::Waiting::origin_waits, crate::proofs::Minding::wrote_origin, crate::proofs::Minding::origin_left, crate::proofs::Minding::full_origin, crate::proofs::Going::writes_on, crate::proofs::Going::written, crate::proofs::Going::write_fault, crate::proofs::Going::sends_any, crate::proofs::Asks::lacks_memory))]
+    #[tactic(auto, using(crate::proofs::Sparing::still_spares, crate::proofs::Sparing::held_spares, crate::proofs::Sparing::queued_spares, crate::proofs::Sparing::wrote_spares, crate::proofs::Sparing::sent_spares, crate::proofs::Sparing::asked_spares, crate::proofs::Waiting::origin_waits, crate::proofs::Minding::wrote_origin, crate::proofs::Minding::origin_left, crate::proofs::Minding::full_origin, crate::proofs::Going::writes_on, crate::proofs::Going::written, crate::proofs::Going::write_fault, crate::proofs::Going::sends_any, crate::proofs::Asks::lacks_memory))]
     pub fn send_request(&mut self, request: Request) -> Step
         requires fact { PhaseHolds C.tells O.tells C.look O.look O.refuses self.old
             (Phase.SendRequest request) }
         ensures leads { StepLeads result }
         ensures fact { HoldsAfter C.tells O.tells C.look O.look O.refuses self.old self.new result }
         ensures minds { MindsLinks (view_of C.look O.look self.old) (view_of C.look O.look self.new) result }
+        ensures spares { IfTold C.tells O.tells
+            (LeavesClient (view_of C.look O.look self.old) (view_of C.look O.look self.new)) }
         ensures keeps { StepKeeps C.look O.look O.paired O.refuses self.old self.new }
         ensures waits { WaitsRightly result.next
             (view_of C.look O.look self.old) (view_of C.look O.look self.new) }
@@ -173,6 +177,10 @@ impl<C: Link, O: Upstream<C>> Core<C, O> {
         requires pair { IsPaired O.paired self.old }
         ensures leads { StepLeads result }
         ensures fact { HoldsAfter C.tells O.tells C.look O.look O.refuses self.old self.new result }
+        ensures uploads { UploadsOnce C.tells O.tells (refuses_if O.refuses self.old.origin) request
+            (left_if O.upload_left self.old.client.link self.old.origin)
+            (left_if O.upload_left self.new.client.link self.new.origin)
+            (view_of C.look O.look self.old) (view_of C.look O.look self.new) result }
         ensures keeps { StepKeeps C.look O.look O.paired O.refuses self.old self.new }
         ensures waits { WaitsRightly result.next
             (view_of C.look O.look self.old) (view_of C.look O.look self.new) }

@@ -1,8 +1,8 @@
 //! One read, one write and one upload on the sides of a transaction.
 ghost use Rattle.std.specs.Prelude.{◌≡◌, ◌≤◌, IfOk, OnOk, OnErr};
-ghost use Rattle.ts_upstream.specs.Uploads.{SameRefusal};
+ghost use Rattle.ts_upstream.specs.Uploads.{SameRefusal, UploadFalls, both};
 ghost use Rattle.ts_vconn.specs.declared.moves.TheConstants.{MOST_PULLED};
-ghost use Rattle.ts_txn.specs.View.{GoesIf, PairIf, refuses_if, side, side_if, is_dialed};
+ghost use Rattle.ts_txn.specs.View.{GoesIf, PairIf, refuses_if, side, side_if, is_dialed, left_if};
 ghost use Rattle.ts_txn.specs.Moving.{MovesBoth, QueuesOn, SideReads, SideWrites};
 
 use crate::parts::Peer;
@@ -43,6 +43,7 @@ pub fn push_origin<L: Link>(origin: &mut Option<Peer<L>>) -> Pushed
 }
 
 /// Moves some of the upload of a request; where there is no origin, it is as if memory lacked.
+#[tactic(auto, using(crate::proofs::Uploading::none_falls))]
 pub fn move_upload<C: Link, O: Upstream<C>>(
     client: &mut C,
     origin: &mut Option<Peer<O>>,
@@ -51,6 +52,10 @@ pub fn move_upload<C: Link, O: Upstream<C>>(
     ensures paired { PairIf O.paired client.new origin.new }
     ensures moved { MovesBoth C.tells O.tells (refuses_if O.refuses origin.old) result
         (C.look client.old) (C.look client.new) (side_if O.look origin.old) (side_if O.look origin.new) }
+    ensures falls { UploadFalls result
+        (left_if O.upload_left client.old origin.old) (left_if O.upload_left client.new origin.new)
+        (both (C.look client.old).agains (side_if O.look origin.old).look.agains)
+        (both (C.look client.new).agains (side_if O.look origin.new).look.agains) }
     ensures dialed { is_dialed origin.new ≡ is_dialed origin.old }
     ensures refuses { SameRefusal (refuses_if O.refuses origin.old) (refuses_if O.refuses origin.new) }
 {

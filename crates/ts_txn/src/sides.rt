@@ -1,8 +1,8 @@
 //! What a step calls on the sides of a transaction. Each call speaks of all of it, so that a step is one call
 //! and a choice by its answer.
 ghost use Rattle.std.specs.Prelude.{◌≡◌, ◌++◌, IfOk, OnOk, OnErr};
-ghost use Rattle.ts_txn.specs.View.{IsPaired, refuses_if, view_of};
-ghost use Rattle.ts_txn.specs.Moving.{cuts_of, HearsRequest, HearsResponse, MovesUpload, QueuesOwn, QueuesRequest, WritesClient, WritesOrigin};
+ghost use Rattle.ts_txn.specs.View.{IsPaired, left_if, refuses_if, view_of};
+ghost use Rattle.ts_txn.specs.Moving.{cuts_of, HearsRequest, HearsResponse, LowersUpload, MovesUpload, QueuesOwn, QueuesRequest, WritesClient, WritesOrigin};
 ghost use Rattle.ts_txn.specs.Holding.{StepKeeps};
 
 use crate::parts::{Core, Sent};
@@ -79,6 +79,9 @@ impl<C: Link, O: Upstream<C>> Core<C, O> {
     pub fn upload(&mut self) -> Uploaded
         requires pair { IsPaired O.paired self.old }
         ensures moves { MovesUpload C.tells O.tells (refuses_if O.refuses self.old.origin) result
+            (view_of C.look O.look self.old) (view_of C.look O.look self.new) }
+        ensures lowers { LowersUpload result (left_if O.upload_left self.old.client.link self.old.origin)
+            (left_if O.upload_left self.new.client.link self.new.origin)
             (view_of C.look O.look self.old) (view_of C.look O.look self.new) }
         ensures keeps { StepKeeps C.look O.look O.paired O.refuses self.old self.new }
     {

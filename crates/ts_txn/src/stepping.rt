@@ -1,6 +1,6 @@
 //! One step of a transaction, by its phase.
 ghost use Rattle.ts_txn.specs.View.{IsPaired, view_of};
-ghost use Rattle.ts_txn.specs.Steps.{LeavesOriginIn, MindsLinksIn, WaitsRightly};
+ghost use Rattle.ts_txn.specs.Steps.{LeavesSides, MindsLinksIn, WaitsRightly};
 ghost use Rattle.ts_txn.specs.Cover.{StepLeads};
 ghost use Rattle.ts_txn.specs.Holding.{IfTold, PhaseHolds, HoldsAfter, StepKeeps};
 
@@ -13,7 +13,7 @@ use ts_upstream::Upstream;
 impl<C: Link, O: Upstream<C>> Core<C, O> {
     /// The next step of a phase. A response that can be passed on ends the transaction for want of memory,
     /// until bodies are relayed.
-    #[tactic(auto, using(crate::proofs::Leaving::still_leaves, crate::proofs::Minding::stood))]
+    #[tactic(auto, using(crate::proofs::Sparing::still_spares, crate::proofs::Sparing::held_spares, crate::proofs::Sparing::queued_spares, crate::proofs::Sparing::wrote_spares, crate::proofs::Sparing::sent_spares, crate::proofs::Sparing::asked_spares, crate::proofs::Leaving::still_leaves, crate::proofs::Minding::stood))]
     pub fn step(&mut self, phase: Phase) -> Step
         requires fact { PhaseHolds C.tells O.tells C.look O.look O.refuses self.old phase }
         requires pair { IsPaired O.paired self.old }
@@ -22,7 +22,7 @@ impl<C: Link, O: Upstream<C>> Core<C, O> {
         ensures minds { MindsLinksIn phase
             (view_of C.look O.look self.old) (view_of C.look O.look self.new) result }
         ensures leaves { IfTold C.tells O.tells
-            (LeavesOriginIn phase (view_of C.look O.look self.old) (view_of C.look O.look self.new)) }
+            (LeavesSides phase (view_of C.look O.look self.old) (view_of C.look O.look self.new)) }
         ensures keeps { StepKeeps C.look O.look O.paired O.refuses self.old self.new }
         ensures waits { WaitsRightly result.next
             (view_of C.look O.look self.old) (view_of C.look O.look self.new) }

@@ -5,7 +5,8 @@ ghost use Rattle.ts_group.specs.Calls.{IsCalled};
 ghost use Rattle.ts_group.specs.Entries.{Grows};
 ghost use Rattle.ts_transform.specs.Driving.{ActsWithin};
 ghost use Rattle.ts_txn.specs.Cover.{is_fresh};
-ghost use Rattle.ts_txn.specs.Holding.{StepKeeps};
+ghost use Rattle.ts_txn.specs.declared.phase.Next.{Next};
+ghost use Rattle.ts_txn.specs.Driven.{HandlesEvent, TakesEvent};
 ghost use Rattle.ts_txn.specs.World.{IsTxnOf, HasTxnBegun, IsSoundTxn};
 
 use crate::driver::{MAIN, begin, go_on};
@@ -27,7 +28,8 @@ pub struct Txn<C, O> {
 }
 
 /// What a slot promises of the transaction in it: its number, setup and first plugin's group, the sources of
-/// its two links, whether these are sure, and whether the slot had no other tenant before.
+/// its two links, whether there is one to an origin, whether they are sure, and whether the slot had no other
+/// tenant before.
 #[derive(Drop)]
 pub struct TxnTag {
     pub number: u64,
@@ -35,6 +37,7 @@ pub struct TxnTag {
     pub plugins_at: u32,
     pub client: Octets,
     pub origin: Octets,
+    pub dialed: bool,
     pub sure: bool,
     pub first: bool,
 }
@@ -68,7 +71,7 @@ impl<C: Link + Drop, O: Upstream<C> + Drop> Slotted for Txn<C, O> {
     ghost follows_on = { λ t u v a b. tt };
 }
 
-#[tactic(auto, using(ts_group::proofs::Grows::grows, ts_group::proofs::Grows::grows_refl, ts_transform::proofs::Kept::acts_none, crate::proofs::Handling::sound_begun, crate::proofs::Handling::sound_asked, crate::proofs::Handling::sound_other, crate::proofs::Handling::sound_quiet, crate::proofs::Handling::sound_stepped, crate::proofs::Coverage::fresh_none, crate::proofs::Fitting::same_core, crate::proofs::Fitting::fits_on))]
+#[tactic(auto, using(ts_group::proofs::Grows::grows, ts_group::proofs::Grows::grows_refl, ts_transform::proofs::Kept::acts_none, crate::proofs::Handling::sound_begun, crate::proofs::Handling::sound_asked, crate::proofs::Handling::sound_other, crate::proofs::Handling::sound_quiet, crate::proofs::Handling::sound_stepped, crate::proofs::Coverage::fresh_none, crate::proofs::Events::handles_nothing, crate::proofs::Fitting::fits_on))]
 impl<C: Link + Drop, O: Upstream<C> + Drop> World for Txn<C, O> {
     type Question = ();
 
@@ -94,8 +97,9 @@ impl<C: Link + Drop, O: Upstream<C> + Drop> World for Txn<C, O> {
 
     ghost begun = { λ old new. HasTxnBegun old new };
 
-    // A handler leads to the same transaction, of the same links.
-    ghost called = { λ old new asked. StepKeeps C.look O.look O.paired O.refuses old.core new.core };
+    // A handler makes one step of the same transaction, or nothing.
+    ghost called = { λ old new asked. (next : Next) × TakesEvent C.tells O.tells C.look O.look
+        O.paired O.refuses old.core new.core old.phase new.phase next };
 
     ghost heard = { λ old new asked. new ≡ old };
 
@@ -124,7 +128,8 @@ impl<C: Link + Drop, O: Upstream<C> + Drop> World for Txn<C, O> {
             self.new cx.new.log.state.pending cx.new.log.state.next cx.new.roles }
         ensures nothing { result ≡ Want.Nothing }
         ensures within { ActsWithin 1 cx.old cx.new }
-        ensures keeps { StepKeeps C.look O.look O.paired O.refuses self.old.core self.new.core }
+        ensures handles { HandlesEvent C.tells O.tells C.look O.look O.paired O.refuses
+            self.old.core self.new.core self.old.phase self.new.phase cx.old cx.new }
     {
         if role != MAIN {
             return Want::Nothing;

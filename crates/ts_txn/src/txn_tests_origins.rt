@@ -28,20 +28,32 @@ fn is_gateway_fault(alloc: Global, origin: Plan<'_>, end: TxnEnd) -> Result<bool
 
 #[test]
 fn an_origin_that_gives_no_answer_to_pass_on(rt: HostRuntime) -> Result<(), Fail> {
-    let rows: [&[u8]; 8] = [
+    let alloc = rt.alloc();
+    let rows: [&[u8]; 7] = [
         b"",
         b"HTTP/1.1 200 OK\r\nContent-Le",
         b"HTTP/1.1 100 Continue\r\n\r\nHTTP/1.1 103 Early Hints\r\n\r\n",
         b"HTTP/1.1 100 Continue\r\n\r\nHTTP/1.1 200 OK\r\n",
         b"HTTP/1.1 101 Switching Protocols\r\n\r\n",
         b"HTTP/1.1 099 Low\r\n\r\n",
-        b"HTTP/1.1 200 OK\r\nTransfer-Encoding: gzip\r\n\r\n",
         b"abc\r\n\r\n",
     ];
     for origin in rows {
-        assert!(rt; is_gateway_fault(rt.alloc(), giving(origin), TxnEnd::Whole)?);
-        assert!(rt; is_gateway_fault(rt.alloc(), dripping(origin), TxnEnd::Whole)?);
+        assert!(rt; is_gateway_fault(alloc, giving(origin), TxnEnd::Whole)?);
+        assert!(rt; is_gateway_fault(alloc, dripping(origin), TxnEnd::Whole)?);
     }
+    // A body of no known coding, which an answer to a request for the head alone has not.
+    let faulty = giving(b"HTTP/1.1 200 OK\r\nTransfer-Encoding: gzip\r\n\r\n");
+    assert!(rt;
+        is_answered(
+            alloc,
+            giving(GET),
+            Some(faulty),
+            TxnEnd::Whole,
+            BAD_GATEWAY,
+            SENT
+        )?
+    );
     Ok(())
 }
 

@@ -19,5 +19,5 @@ returns-then-not-works-clause-sound g c =
 pub returns-clause-sound : goal.returns-clause-sound
 returns-clause-sound g c =
     sound_stepped g.C.Link.tells g.O.Link.tells g.C.Link.look g.O.Link.look g.O.Upstream.paired g.O.Upstream.refuses c.args.self.now c.args.cx.now c.args.role c.args.event c.requires.called
-    (record { core = c.go_on.new.core; main = c.go_on.new.main; phase = c.go_on.new.phase }) c.go_on.new.cx c.go_on.ensures.holds c.go_on.ensures.keeps
+    (record { core = c.go_on.new.core; main = c.go_on.new.main; phase = c.go_on.new.phase }) c.go_on.new.cx c.go_on.ensures.holds c.go_on.ensures.handles.takes.keeps
     (subst (λ m. SeatedAfter m c.go_on.new.main c.args.cx.now c.go_on.new.cx) c.unrouse.ensures c.go_on.ensures.seated) c.go_on.ensures.duty.0 c.go_on.ensures.duty.1
