@@ -11,6 +11,12 @@ pub mod Fitting
 pub mod Going
 pub mod Handling
 pub mod Leaving
+pub mod Lowering
+pub mod Inserted
+pub mod LoweringBody
+pub mod LoweringEvents
+pub mod LoweringSteps
+pub mod LoweringUpload
 pub mod Made
 pub mod Minding
 pub mod OneBlock
