@@ -13,8 +13,12 @@ pub mod Handling
 pub mod Leaving
 pub mod Lowering
 pub mod Inserted
+pub mod InsertedStages
+pub mod LoweringAnswers
 pub mod LoweringBody
 pub mod LoweringEvents
+pub mod LoweringHeads
+pub mod LoweringLeads
 pub mod LoweringSteps
 pub mod LoweringUpload
 pub mod Made

@@ -223,7 +223,7 @@ module _ (setup : Setup) where
       → 13 + (x' + out' + room + hear' + y' + z') < 14 + (x + out + room + hear + y + z + t)
   asked_next i x x' out out' room hear hear' y y' z z' t again upload less heard long = omega (arith, again, upload, less, heard, long)
 
-  module _ (v w : View) (u u' : Option ℕ) (rose : Rose8 u u' 0) where
+  module _ (v w : View) where
     unsent : w ≡ record v { client = w.client } → length w.origin.outbox ≤ length v.origin.outbox
     unsent same = same_len v.origin.outbox w.origin.outbox (ap (λ (x : View). x.origin.outbox) same)
 
@@ -231,13 +231,19 @@ module _ (setup : Setup) where
     asks_calm p hears = client_calm (pull_again p) v w w.client hears.others hears.finds.1.pulls.pulls.calls.agains
         (same_len v.client.outbox w.client.outbox hears.finds.1.outbox)
 
+    pub head_calm : (head : RequestHead) → HearsRequest true v w (F.Head head) → Calm false v w
+    head_calm head hears = client_calm false v w w.client hears.others
+        (subst (λ (s : LinkSide). AgainsFall false v.client.look.agains s.look.agains) (sym hears.finds.2) (none_fall v.client.look.agains))
+        (same_len v.client.outbox w.client.outbox (ap (λ (s : LinkSide). s.outbox) hears.finds.2))
+
+  module _ (v w : View) (u u' : Option ℕ) (rose : Rose8 u u' 0) where
     -- some of it came, or there was an Again
     pub asks_on : (p : Pulled) → 1 ≤ least_came p + one_if (pull_again p) → HearsRequest true v w (F.Read p)
         → Fewer (work_left setup u v P.ReadRequest) (work_left setup u' w P.ReadRequest)
     asks_on p some hears =
-        let calm = asks_calm p hears in
+        let calm = asks_calm v w p hears in
         let come = comes_ask v.client w.client (least_came p) (read_comes v.client w.client p hears.finds.1) in
-        let sends = unsent hears.others in
+        let sends = unsent v w hears.others in
         work_falls (pull_again p) 0 v w u u' calm rose P.ReadRequest P.ReadRequest (λ x x' y y' again upload.
             asks_again (one_if (pull_again p)) (least_came p) x x' (length v.client.outbox) (length w.client.outbox) (answer_room setup)
                 (to_hear setup v.origin) (to_hear setup w.origin) y y'
@@ -246,17 +252,12 @@ module _ (setup : Setup) where
                 (long_less (length v.origin.outbox) (length w.origin.outbox) (head_room setup) (head_room setup) (plus_same (length v.origin.outbox) (length w.origin.outbox) (head_room setup) sends))
                 come some)
 
-    pub head_calm : (head : RequestHead) → HearsRequest true v w (F.Head head) → Calm false v w
-    head_calm head hears = client_calm false v w w.client hears.others
-        (subst (λ (s : LinkSide). AgainsFall false v.client.look.agains s.look.agains) (sym hears.finds.2) (none_fall v.client.look.agains))
-        (same_len v.client.outbox w.client.outbox (ap (λ (s : LinkSide). s.outbox) hears.finds.2))
-
     -- a head that passes the check was found, and what the origin gets of it is no longer than a head may be
     pub asked : (head : RequestHead) (q : Request) → length (request_text setup q.head q.target q.host) ≤ head_room setup → HearsRequest true v w (F.Head head)
         → Fewer (work_left setup u v P.ReadRequest) (work_left setup u' w (P.ReadRequestHdr q))
     asked head q fits hears =
-        let calm = head_calm head hears in
-        let sends = unsent hears.others in
+        let calm = head_calm v w head hears in
+        let sends = unsent v w hears.others in
         let text = length (request_text setup q.head q.target q.host) in
         let longer : length w.origin.outbox + text ≤ length v.origin.outbox + head_room setup = both_less (length v.origin.outbox) (length w.origin.outbox) (head_room setup) text sends fits in
         work_falls false 0 v w u u' calm rose P.ReadRequest (P.ReadRequestHdr q) (λ x x' y y' again upload.
@@ -338,20 +339,11 @@ module _ (setup : Setup) where
       → 8 + (x' + out' + room + hear') < 8 + (x + out + room + hear)
   hears_next i l x x' out out' room hear hear' again less heard some = omega (arith, again, less, heard, some)
 
-  module _ (v w : View) (u u' : Option ℕ) (rose : Rose8 u u' 0) where
+  module _ (v w : View) where
     pub hears_calm : (p : Pulled) → HearsResponse true v w (F.Read p) → Calm (pull_again p) v w
     hears_calm p hears = origin_calm (pull_again p) v w w.origin hears.others hears.finds.1.pulls.pulls.calls.agains
         (less_plus (to_hear setup w.origin) (to_hear setup v.origin) (least_came p)
             (comes_hear setup v.origin w.origin (least_came p) (read_comes v.origin w.origin p hears.finds.1)))
-
-    pub hears_on : (q : Request) (p : Pulled) → 1 ≤ least_came p + one_if (pull_again p) → HearsResponse true v w (F.Read p)
-        → Fewer (work_left setup u v (P.ReadResponse q)) (work_left setup u' w (P.ReadResponse q))
-    hears_on q p some hears =
-        let calm = hears_calm p hears in
-        work_falls (pull_again p) 0 v w u u' calm rose (P.ReadResponse q) (P.ReadResponse q) (λ x x' y y' again upload.
-            hears_next (one_if (pull_again p)) (least_came p) x x' (length v.client.outbox) (length w.client.outbox) (answer_room setup)
-                (to_hear setup v.origin) (to_hear setup w.origin) again calm.out
-                (comes_hear setup v.origin w.origin (least_came p) (read_comes v.origin w.origin p hears.finds.1)) some)
 
     head_used : (head : ResponseHead) → HearsResponse true v w (F.Head head) → to_hear setup w.origin + 1 ≤ to_hear setup v.origin
     head_used head hears = plus_one (to_hear setup w.origin) (to_hear setup v.origin)
@@ -365,14 +357,24 @@ module _ (setup : Setup) where
         (subst (λ (s : LinkSide). AgainsFall false v.origin.look.agains s.look.agains) (sym hears.finds.2) (none_fall v.origin.look.agains))
         (less_plus (to_hear setup w.origin) (to_hear setup v.origin) 1 (head_used head hears))
 
+  module _ (v w : View) (u u' : Option ℕ) (rose : Rose8 u u' 0) where
+    pub hears_on : (q : Request) (p : Pulled) → 1 ≤ least_came p + one_if (pull_again p) → HearsResponse true v w (F.Read p)
+        → Fewer (work_left setup u v (P.ReadResponse q)) (work_left setup u' w (P.ReadResponse q))
+    hears_on q p some hears =
+        let calm = hears_calm v w p hears in
+        work_falls (pull_again p) 0 v w u u' calm rose (P.ReadResponse q) (P.ReadResponse q) (λ x x' y y' again upload.
+            hears_next (one_if (pull_again p)) (least_came p) x x' (length v.client.outbox) (length w.client.outbox) (answer_room setup)
+                (to_hear setup v.origin) (to_hear setup w.origin) again calm.out
+                (comes_hear setup v.origin w.origin (least_came p) (read_comes v.origin w.origin p hears.finds.1)) some)
+
     -- an interim head was dropped
     pub hears_interim : (q : Request) (head : ResponseHead) → HearsResponse true v w (F.Head head)
         → Fewer (work_left setup u v (P.ReadResponse q)) (work_left setup u' w (P.ReadResponse q))
     hears_interim q head hears =
-        let calm = heard_calm head hears in
+        let calm = heard_calm v w head hears in
         work_falls false 0 v w u u' calm rose (P.ReadResponse q) (P.ReadResponse q) (λ x x' y y' again upload.
             hears_next (one_if false) 1 x x' (length v.client.outbox) (length w.client.outbox) (answer_room setup)
-                (to_hear setup v.origin) (to_hear setup w.origin) again calm.out (head_used head hears) (omega arith))
+                (to_hear setup v.origin) (to_hear setup w.origin) again calm.out (head_used v w head hears) (omega arith))
 
   -- ---- an answer of the proxy's own
 

@@ -1,6 +1,7 @@
 -- What a transaction has left to do, as a number that each of its events lowers: what is left to read, to pass each
 -- boundary and to write, and the Again answers that are left, each weighted above what it makes; and the pending events.
-use Rattle.std.specs.Prelude.{ℕ, ◌+◌, ◌*◌, List, [], ◌∷◌, length, sum_by, Bool, true, false, Option, Some, None}
+use Rattle.std.specs.Prelude.{ℕ, ◌+◌, ◌*◌, List, [], ◌∷◌, length, Bool, true, false, ◌&&◌, Option, Some, None}
+use Rattle.std.specs.Arc.{arc_value}
 use Rattle.ts_config.specs.declared.setup.Setup.{Setup}
 use Rattle.ts_config.specs.declared.setup.TransformLine.{TransformLine}
 use Rattle.ts_config.specs.declared.setup.TransformLine.TheVariants as t
@@ -9,12 +10,12 @@ use Rattle.ts_config.specs.declared.fields.Rule.TheVariants.{Set, Add, Remove}
 use Rattle.ts_config.specs.declared.fields.PluginLine.{PluginLine}
 use Rattle.ts_config.specs.declared.fields.PluginLine.TheVariants.{Deny, Header}
 use Rattle.ts_journal.specs.declared.entry.Pending.{Pending}
-use Rattle.ts_link.specs.Link.{Fewer, NoMore}
+use Rattle.ts_link.specs.Link.{Fewer, Look, NoMore}
 use Rattle.ts_upstream.specs.Uploads.{both}
 use Rattle.ts_wire.specs.Limits.{field_limit, head_limit}
 use Rattle.ts_txn.specs.Block.{own_text, request_text}
 use Rattle.ts_txn.specs.Own.{own_body}
-use Rattle.ts_txn.specs.View.{LinkSide, View}
+use Rattle.ts_txn.specs.View.{LinkSide, View, view_of}
 use Rattle.ts_txn.specs.declared.own.OwnStatus.{OwnStatus}
 use Rattle.ts_txn.specs.declared.own.OwnStatus.TheVariants as O
 use Rattle.ts_txn.specs.declared.parts.Peer.{Peer}
@@ -23,6 +24,8 @@ use Rattle.ts_txn.specs.declared.phase.Next.TheVariants as N
 use Rattle.ts_txn.specs.declared.phase.Phase.{Phase}
 use Rattle.ts_txn.specs.declared.phase.Phase.TheVariants as P
 use Rattle.ts_txn.specs.declared.phase.Request.{Request}
+use Rattle.ts_txn.specs.declared.phase.Step.{Step}
+use Rattle.ts_txn.specs.declared.txn.Txn.{Txn}
 
 -- a step sets fewer events
 abbrev pub events_paid : ℕ
@@ -48,11 +51,19 @@ abbrev pub plugin_length : PluginLine → ℕ
 plugin_length (Deny sites) = 0
 plugin_length (Header side rule) = rule_length rule
 
+abbrev pub plugins_length : List PluginLine → ℕ
+plugins_length [] = 0
+plugins_length (l ∷ ls) = plugin_length l + plugins_length ls
+
 -- the text that a transform line adds
 abbrev pub line_length : TransformLine → ℕ
 line_length (t.Append file text) = length text
 line_length (t.Prepend text) = length text
 line_length _ = 0
+
+abbrev pub lines_length : List TransformLine → ℕ
+lines_length [] = 0
+lines_length (l ∷ ls) = line_length l + lines_length ls
 
 -- so many bytes pass the boundary before each line's stage, and the client's
 abbrev pub passes : List TransformLine → ℕ → ℕ
@@ -84,7 +95,7 @@ module _ (setup : Setup) where
   -- each field of a head within the limits, each rule's, and a Host field
   abbrev pub head_room : ℕ
   head_room = frame_room + (field_limit + length setup.plugins.items + 1) * line_room
-      + sum_by plugin_length setup.plugins.items
+      + plugins_length setup.plugins.items
 
   -- an own answer with its body
   abbrev pub own_length : OwnStatus → ℕ
@@ -96,7 +107,7 @@ module _ (setup : Setup) where
 
   -- a chain that has not begun: each line's text passes each boundary, and each stage ends, and may pass an error on
   abbrev pub chain_room : ℕ
-  chain_room = passes setup.transforms.items (sum_by line_length setup.transforms.items + 2)
+  chain_room = passes setup.transforms.items (lines_length setup.transforms.items + 2)
 
   -- what an answer makes, whichever it is
   abbrev pub answer_room : ℕ
@@ -179,3 +190,14 @@ number_left pending (Some work) = Some (events_paid * work + length pending)
 abbrev pub number_if : Bool → Option ℕ → Option ℕ
 number_if true n = n
 number_if false n = None
+
+-- What the step of a phase leads to lowers what is left.
+abbrev pub StepLowers : Setup → Phase → Option ℕ → Option ℕ → View → View → Step → Type 0
+StepLowers setup p upload upload_then v w s = StepFalls s.next (work_left setup upload v p) (work_left setup upload_then w s.phase)
+
+-- the number of a transaction in its group: it has one where both links tell
+abbrev pub transaction_left : {C O : Type 0} → Bool → Bool → (C → Look) → (O → Look) → (C → O → Option ℕ)
+    → Txn C O → List Pending → Option ℕ
+transaction_left ctells otells client origin left t pending =
+    number_if (ctells && otells) (number_left pending
+        (work_left (arc_value t.core.setup) (upload_told left t.core.client.link t.core.origin) (view_of client origin t.core) t.phase))
