@@ -16,9 +16,11 @@ pub mod Inserted
 pub mod InsertedStages
 pub mod LoweringAnswers
 pub mod LoweringBody
+pub mod LoweringEntry
 pub mod LoweringEvents
 pub mod LoweringHeads
 pub mod LoweringLeads
+pub mod LoweringResponse
 pub mod LoweringSteps
 pub mod LoweringUpload
 pub mod Made

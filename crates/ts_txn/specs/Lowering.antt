@@ -79,7 +79,7 @@ line_room = head_limit + 8
 -- the lines of the fields that were read are at most twice as long as the head; beside them stand the first line, Via,
 -- how the body is framed, and Connection
 abbrev pub frame_room : ℕ
-frame_room = 4 * head_limit + 128
+frame_room = 4 * head_limit + 256
 
 -- THE END OF A BODY
 
