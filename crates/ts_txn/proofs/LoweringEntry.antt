@@ -79,8 +79,8 @@ enter_next : (i x x' out out' text own head chain work errors hear hear' given :
 enter_next i x x' out out' text own head chain work errors hear hear' given again len fits room heard few = omega (arith, again, len, fits, room, heard, few)
 
 -- The head of the response is queued, and the chain has no more to do than its room.
-pub enters : {P : Type 0} (setup : Setup) (rest : P → List ℕ → List ℕ) (ts : List (Option StageContinuation)) (v w : View) (u : Option ℕ) (q : Request) (h : ResponseHead) (mode : Mode)
-    (c : ChainState P) (bytes behind : List ℕ) → HasResponse bytes h behind → QueuesHead (relayed_head setup q.head h) mode v w
+pub enters : {B : Type 0} (setup : Setup) (rest : B → List ℕ → List ℕ) (ts : List (Option StageContinuation)) (v w : View) (u : Option ℕ) (q : Request) (h : ResponseHead) (mode : Mode)
+    (c : ChainState B) (bytes behind : List ℕ) → HasResponse bytes h behind → QueuesHead (relayed_head setup q.head h) mode v w
     → left_to_do rest c [] + errors_to_pass ts ≤ chain_room setup → Fewer (work_left setup u v (P.ResponseTransform q h)) (body_left setup rest ts w c)
 enters setup rest ts v w u q h mode c bytes behind reads queues room =
     let text = relayed_head setup q.head h in

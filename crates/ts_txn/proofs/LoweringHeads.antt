@@ -125,7 +125,7 @@ missing_within : (b : Bool) (host : List ℕ) → length host ≤ head_limit →
 missing_within true host fits = omega arith
 missing_within false host fits = omega (arith, fits, host_line host)
 
-via_within : (b : Bool) → length (cond b (codes "via: 1.0 tsx\r\n") (codes "via: 1.1 tsx\r\n")) ≤ 16
+pub via_within : (b : Bool) → length (cond b (codes "via: 1.0 tsx\r\n") (codes "via: 1.1 tsx\r\n")) ≤ 16
 via_within true = omega arith
 via_within false = omega arith
 
