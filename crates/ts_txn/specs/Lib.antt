@@ -14,6 +14,9 @@ pub mod Finishing
 pub mod Fronts
 pub mod Heads
 pub mod Holding
+pub mod Inserted
+pub mod Lowering
+pub mod LoweringBody
 pub mod Making
 pub mod Moving
 pub mod Own
