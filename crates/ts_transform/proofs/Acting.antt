@@ -9,9 +9,9 @@ use Rattle.ts_group.specs.Context.{Context}
 use Rattle.ts_transform.specs.declared.continuation.StageContinuation.{StageContinuation}
 use Rattle.ts_transform.specs.declared.pump.Pumped.{Pumped}
 use Rattle.ts_transform.specs.Stage.{done_by}
-use Rattle.ts_transform.specs.Flow.{ChainState, AnswersAt, StepsAt, MayPump, PumpsAt, PumpsOnce, ended_at, flow, left_to_do}
-use Rattle.ts_transform.specs.Driving.{IsClosed, IsDestroyed, IsToldBefore, KeepsOthers, KeepsStages, Lessens, OnlyTellsBefore, SetsFew, all_unroused, changed, error_passed, errors_to_pass, gone, may_pass_error_at, unroused_at, unroused_for, works_at}
-use Rattle.ts_transform.specs.Cover.{CallsBefore, OnlySets}
+use Rattle.ts_transform.specs.Flow.{ChainState, AnswersAt, StepsAt, MayPump, ended_at, flow, left_to_do}
+use Rattle.ts_transform.specs.Driving.{IsClosed, IsDestroyed, IsToldBefore, KeepsOthers, KeepsStages, Lessens, OnlyTellsBefore, SetsFew, all_unroused, changed, error_passed, gone, may_pass_error_at, unroused_at, works_at}
+use Rattle.ts_transform.specs.Cover.{OnlySets}
 use Rattle.ts_transform.specs.Acting.{ActsAt, HasNothingToDo, IsStage, Pays, PaysErrors, Pumps, StillGives, TellsBefore}
 use Rattle.ts_transform.proofs.Called.{called_unroused}
 use Rattle.ts_transform.proofs.Handled.{length-changed}
@@ -69,7 +69,7 @@ acts_gone rest pause at event c ts us a b ended closed is lessens = record {
   own = inl refl;
   idle = λ rests. refl;
   only = may_none pause c c ts at event a b lessens.none;
-  closed = λ e. (closed, is);
+  closed = λ e. (closed, is, refl);
   ended = λ now goes. absurd (goes_not goes);
   ready = λ now did. absurd (did refl);
   passed = λ now e goes. absurd (goes_not goes);
@@ -179,7 +179,7 @@ acts_handled rest pause at event c d ts vs us was now a b is same h = record {
   own = h.own;
   idle = h.idle;
   only = subst (λ xs. OnlySets pause c d xs at event a b) is h.only;
-  closed = λ ended. (closed ended, (h.closed ended).1 ∙ gone_unroused (works_at event) ts vs at is);
+  closed = λ ended. (closed ended, (h.closed ended).1 ∙ gone_unroused (works_at event) ts vs at is, (h.closed ended).2);
   ended = h.ended;
   ready = λ running did j above pauses must. called_unroused (works_at event) ts vs at b.log.state.pending us j is above (h.ready running did j above pauses must);
   passed = λ running e goes may. h.passed running e goes (may_pass_same ts vs at same ∙ may);

@@ -1,8 +1,7 @@
 -- What is left of a driven chain when one of its stages acted, when bytes came to it, and when bytes were taken from it.
-use Rattle.std.proofs.Common.{◌≡◌, ◌≢◌, ◌≤◌, ◌<◌, ◌+◌, ◌*◌, ◌++◌, ◌⊎◌, inl, inr, ℕ, zero, suc, List, [], ◌∷◌, Bool, true, false, length, take, drop, eqb, Option, Some, Result, Ok, Err, arith, refl, sym, ap, subst, ◌∙◌}
+use Rattle.std.proofs.Common.{◌≡◌, ◌≢◌, ◌+◌, ◌++◌, ◌⊎◌, inl, inr, ℕ, zero, suc, List, [], ◌∷◌, Bool, true, false, length, take, drop, eqb, Option, Result, Ok, Err, sym, ap, subst, ◌∙◌}
 use Rattle.std.proofs.Math.Seq.{take-append_seam}
 use Rattle.std.proofs.lemmas.Bool.Decides.{eqb_tells}
-use Rattle.std.specs.Bool.{OnTrue}
 use Rattle.ts_journal.specs.declared.entry.Event.{Event}
 use Rattle.ts_group.specs.declared.action.SetFault.{SetFault}
 use Rattle.ts_group.specs.declared.action.SetFault.TheVariants as F
@@ -10,15 +9,16 @@ use Rattle.ts_group.specs.Context.{Context}
 use Rattle.ts_transform.specs.declared.continuation.StageContinuation.{StageContinuation}
 use Rattle.ts_transform.specs.declared.driven.DrivenChain.{DrivenChain}
 use Rattle.ts_transform.specs.declared.pump.Stage.{Stage}
-use Rattle.ts_transform.specs.Flow.{ChainState, MustPump, MustWork, Takes, flow}
+use Rattle.ts_transform.specs.Flow.{ChainState, MustPump, MustWork, Takes}
 use Rattle.ts_transform.specs.Driving.{IsCause, IsRoused, KeepsStages, unroused_at}
-use Rattle.ts_transform.specs.Cover.{IsDriven}
+use Rattle.ts_transform.specs.Cover.{AreAllLive, IsDriven}
 use Rattle.ts_transform.specs.Acting.{ActsAt, StillGives}
 use Rattle.ts_transform.specs.Loss.{IsCauseOf, loss_of}
 use Rattle.ts_transform.specs.Driven.{HasAllLive, Loses, MayLose}
 use Rattle.ts_transform.specs.World.{GoesOnWith}
 use Rattle.ts_transform.specs.declared.world.ChainWorld.{ChainWorld}
 use Rattle.ts_transform.proofs.Acting.{acts_run, nothing_more}
+use Rattle.ts_transform.proofs.Kept.{cause_weaker}
 use Rattle.ts_transform.proofs.Taking.{takes-len, takes-others}
 
 -- What holds of continuations that were lent holds of the table that they are in.
@@ -45,9 +45,14 @@ loss_cause Live F.NoMemory now cause = tt
 loss_cause Live F.Dead now cause = cause
 loss_cause Live F.Spent now cause = cause
 
-pub may_lose : {P T : Type 0} (r : Result T SetFault) (d e : DrivenChain P) (now : Context) → Loses r d e now → MayLose (HasAllLive e now) d e now
-may_lose (Ok x) d e now loses = inl loses
-may_lose (Err fault) d e now (lost, why, cause) = inr (loss_of fault, lost, why, loss_cause (HasAllLive e now) fault now cause)
+pub may_lose : {P T : Type 0} (r : Result T SetFault) (d e : DrivenChain P) (a b : Context) → Loses r d e a b → MayLose (HasAllLive d a) d e b
+may_lose (Ok x) d e a b loses = inl loses
+may_lose (Err fault) d e a b (lost, why, cause) = inr (fault, lost, why, cause)
+
+-- what was found is what was found before its chain changed
+pub loses_found : {P T : Type 0} (r : Result T SetFault) (d e : DrivenChain P) (c : ChainState P) (a b : Context) → (HasAllLive d a → AreAllLive c d.table.items a) → Loses r (record d { chain = c }) e a b → Loses r d e a b
+loses_found (Ok x) d e c a b found loses = loses
+loses_found (Err fault) d e c a b found (lost, why, cause) = (lost, why, cause_weaker fault b found cause)
 
 -- whether a stage behind the first must work does not depend on what comes to the first
 must-behind : {P : Type 0} (up up' : Bool) (from from' : List ℕ) (ss : List (Stage P)) (j : ℕ) → MustPump up from ss (suc j) → MustPump up' from' ss (suc j)

@@ -1,33 +1,37 @@
 -- Each duty of a chain between two links has its event.
-use Rattle.std.proofs.Common.{◌≡◌, ◌≢◌, ◌≤◌, ◌<◌, ◌+◌, ◌⊎◌, inl, inr, ℕ, List, [], ◌∷◌, map, Bool, true, false, length, Option, Some, None, Result, Ok, Err, IsTrue, arith, refl, sym, ap, subst, ◌∙◌}
+use Rattle.std.proofs.Common.{◌≡◌, ◌≢◌, ◌≤◌, ◌+◌, ◌⊎◌, inl, inr, ℕ, List, [], ◌∷◌, map, Bool, true, false, length, Option, Some, None, Result, Ok, Err, IsTrue, arith, refl, sym, ap, subst, ◌∙◌}
 use Rattle.ts_journal.specs.declared.entry.Event.{Event}
 use Rattle.ts_journal.specs.declared.entry.Pending.{Pending}
 use Rattle.ts_group.specs.declared.action.Named.{Named}
 use Rattle.std.specs.Prelude.{⊤}
 use Rattle.ts_group.specs.declared.action.SetFault.{SetFault}
+use Rattle.ts_group.specs.declared.action.SetFault.TheVariants as F
 use Rattle.ts_group.specs.declared.action.MakeFault.{MakeFault}
 use Rattle.ts_group.specs.Context.{AllPlain, Context, IsSame, role_at}
 use Rattle.ts_group.specs.Entries.{Grows}
-use Rattle.ts_group.specs.Changes.{SameEvents}
+use Rattle.ts_group.specs.Changes.{KeepsKeys, SameEvents}
 use Rattle.ts_transform.specs.declared.continuation.StageContinuation.{StageContinuation}
 use Rattle.ts_transform.specs.declared.driven.DrivenChain.{DrivenChain}
 use Rattle.ts_transform.specs.declared.loss.Loss.{Loss}
 use Rattle.ts_transform.specs.declared.pump.Stage.{Stage}
 use Rattle.ts_transform.specs.Stage.{has_ended}
-use Rattle.ts_transform.specs.Flow.{ChainState, EndsInOrder, IsFinished, MustPump, aborted, client_wait, closed, last_ended, last_wait}
-use Rattle.ts_transform.specs.Driving.{ActsWithin, HasEvent, IsCause, IsHandled, IsNamedIf, IsOfStageIf, IsRousedIf, IsRousingOf, SetsOnly, Keeps, KeepsOthers, KeepsStage, unroused, works_at}
+use Rattle.ts_transform.specs.Flow.{ChainState, EndsInOrder, IsFinished, MustPump, aborted, client_wait, closed, last_ended, last_wait, ended_at}
+use Rattle.ts_transform.specs.Driving.{ActsWithin, HasEvent, IsCause, AreOfStages, IsHandled, IsNamedIf, IsOfStageIf, IsRousedIf, IsRousingOf, SetsOnly, Keeps, KeepsOthers, unroused, works_at, all_unroused}
 use Rattle.ts_transform.specs.Cover.{IsDriven}
-use Rattle.ts_transform.specs.declared.loss.Loss.TheVariants.{NoMemory, TableFull, Dead, Spent}
-use Rattle.ts_transform.specs.Driven.{HasBegun, Loses, MayLose}
+use Rattle.ts_transform.specs.declared.loss.Loss.TheVariants.{NoMemory}
+use Rattle.ts_transform.specs.Driven.{HasBegun, Loses, MayLose, HasAllLive}
 use Rattle.ts_transform.specs.Loss.{IsCauseOf, loss_of, making_loss}
-use Rattle.ts_transform.specs.Carrying.{AreEndsRoused, AreLinked, HasNoDuty, IsJoined, IsOfNobody, MayBreak, RetriesRead, RetriesWrite}
+use Rattle.ts_transform.specs.Carrying.{HasBegunAlong, AreEndsRoused, FallsTold, AreLinked, HasNoDuty, IsCarried, IsJoined, IsOfNobody, MayBreak, RetriesOnce, RetriesRead, RetriesWrite, AreLiveAlong, KeepsCourse, StaysLinked}
 use Rattle.ts_transform.specs.declared.link_world.LinkWorld.{LinkWorld}
-use Rattle.ts_transform.specs.declared.link_world.TheConstants.{RETRY}
+use Rattle.ts_transform.specs.declared.link_world.TheConstants.{READER, RETRY, WRITER}
+use Rattle.ts_transform.specs.Acting.{KeepsLive}
 use Rattle.ts_transform.proofs.Handled.{begun_other, begun_quiet, quiet_if, stays_if, unroused_if}
-use Rattle.ts_transform.proofs.Driving.{loss_cause}
-use Rattle.ts_transform.proofs.Living.{making_cause}
-use Rattle.ts_transform.proofs.Kept.{kept_if}
+use Rattle.ts_transform.proofs.Driving.{may_lose}
+use Rattle.ts_transform.proofs.Living.{cause_alive, all_live, end_live, live_aborted, live_stages}
+use Rattle.ts_transform.proofs.Kept.{cause_weaker, keeps_refl, kept_if}
 use Rattle.ts_transform.proofs.Setting.{of_stages_named}
+use Rattle.ts_transform.proofs.Covering.{driven_kept}
+use Rattle.ts_transform.proofs.Starting.{made_if}
 use Rattle.ts_transform.proofs.Taking.{aborted_driven, ended-rests, full-else, none-roused, some-long}
 
 -- the stages went on, and the ends stayed as they were
@@ -101,52 +105,97 @@ pub loses_runs : {P Live : Type 0} (d e : DrivenChain P) (now : Context) → May
 loses_runs d e now (inl (same, lost)) runs = sym same ∙ runs
 loses_runs d e now (inr (loss, stopped, lost, why)) runs = absurd (let wrong : false ≡ true = sym stopped ∙ runs in cc)
 
-pub runs_before : {P T : Type 0} (result : Result T SetFault) (d e : DrivenChain P) (now : Context) → Loses result d e now → e.running ≡ true → d.running ≡ true
-runs_before (Ok x) d e now loses runs = sym loses.0 ∙ runs
-runs_before (Err fault) d e now loses runs = absurd (let wrong : false ≡ true = sym loses.0 ∙ runs in cc)
-
--- what began runs on after its ends were roused, or is lost for a cause
-pub begun_then : {I K P : Type 0} (v w : LinkWorld I K P) (m now : Context) → HasBegun (AreLinked v m) v.driven m → (v.driven.running ≡ false → (w ≡ v) × (now ≡ m)) → MayBreak v w now
-    → HasBegun (AreLinked w now) w.driven now
-begun_then v w m now (inl (runs, none)) idle (inl (goes, kept)) = inl (goes ∙ runs, kept ∙ none)
-begun_then v w m now (inl begun) idle (inr lost) = inr lost
-begun_then {I} {K} {P} v w m now (inr stops) idle then =
-    let same = idle stops.1 in
-    let begun : HasBegun (AreLinked v m) v.driven m = inr stops in
-    subst (λ x. HasBegun (AreLinked x now) x.driven now) (sym same.0) (subst (λ x. HasBegun (AreLinked v x) v.driven x) (sym same.1) begun)
-
--- what is lost after something else was lost: nothing
-pub may_break_then : {I K P : Type 0} (u v w : LinkWorld I K P) (m now : Context) → MayBreak u v m → (v.driven.running ≡ false → (w ≡ v) × (now ≡ m)) → MayBreak v w now → MayBreak u w now
-may_break_then u v w m now (inl (runs, lost)) idle (inl (goes, kept)) = inl (goes ∙ runs, kept ∙ lost)
-may_break_then u v w m now (inl (runs, lost)) idle (inr stops) = inr stops
-may_break_then u v w m now (inr stops) idle then =
-    let same = idle stops.1 in
-    let broke : MayBreak u v m = inr stops in
-    subst (λ x. MayBreak u x now) (sym same.0) (subst (λ x. MayBreak u v x) (sym same.1) broke)
+pub runs_before : {P T : Type 0} (result : Result T SetFault) (d e : DrivenChain P) (a b : Context) → Loses result d e a b → e.running ≡ true → d.running ≡ true
+runs_before (Ok x) d e a b loses runs = sym loses.0 ∙ runs
+runs_before (Err fault) d e a b loses runs = absurd (let wrong : false ≡ true = sym loses.0 ∙ runs in cc)
 
 -- the cause is one of the stages, or of an end, or it is want of memory
-cause_linked : {Live Other : Type 0} (loss : Loss) (now : Context) → (Other → Live) → IsCauseOf Live loss now → IsCauseOf Other loss now
-cause_linked NoMemory now has cause = tt
-cause_linked TableFull now has cause = cause
-cause_linked Dead now has cause = λ other. cause (has other)
-cause_linked Spent now has cause = cause
-
 pub lose_weaker : {P Live Other : Type 0} (d e : DrivenChain P) (now : Context) → (Other → Live) → MayLose Live d e now → MayLose Other d e now
 lose_weaker d e now has (inl same) = inl same
-lose_weaker d e now has (inr (loss, stopped, lost, cause)) = inr (loss, stopped, lost, cause_linked loss now has cause)
+lose_weaker d e now has (inr (fault, stopped, lost, cause)) = inr (fault, stopped, lost, cause_weaker fault now has cause)
 
-pub begun_weaker : {P Live Other : Type 0} (d : DrivenChain P) (now : Context) → (Other → Live) → HasBegun Live d now → HasBegun Other d now
-begun_weaker d now has (inl same) = inl same
-begun_weaker d now has (inr (loss, stopped, lost, cause)) = inr (loss, stopped, lost, cause_linked loss now has cause)
+-- what began runs on after its ends were roused, or is lost for a cause
+pub begun_then : {I K P : Type 0} (v w : LinkWorld I K P) (m now : Context) → HasBegun v.driven m → (HasAllLive v.driven m → AreLinked v m) → (v.driven.running ≡ false → (w ≡ v) × (now ≡ m))
+    → KeepsCourse v w m now → HasBegunAlong w now
+begun_then {I} {K} {P} v w m now (inr stops) alive idle course =
+    let same = idle stops.1 in
+    let begun : HasBegunAlong v m = inr stops in
+    subst (λ x. HasBegunAlong x now) (sym same.0) (subst (λ x. HasBegunAlong v x) (sym same.1) begun)
+begun_then v w m now (inl (runs, none, live)) alive idle course = by_course course.loses
+  where
+    by_course : MayBreak v w m now → HasBegunAlong w now
+    by_course (inl (goes, kept)) = inl (goes ∙ runs, kept ∙ none, course.live (alive live))
+    by_course (inr (fault, stopped, lost, cause)) = inr (loss_of fault, stopped, lost, cause_alive (AreLinked v m) fault now (alive live) cause)
+
+broke_still : {I K P : Type 0} (u v w : LinkWorld I K P) (a m now : Context) → (w ≡ v) × (now ≡ m) → MayBreak u v a m → MayBreak u w a now
+broke_still u v w a m now same broke = subst (λ x. MayBreak u x a now) (sym same.0) (subst (λ x. MayBreak u v a x) (sym same.1) broke)
+
+-- what is lost after something else was lost: nothing
+pub may_break_then : {I K P : Type 0} (u v w : LinkWorld I K P) (a m now : Context) → MayBreak u v a m → (AreLinked u a → AreLinked v m) → (v.driven.running ≡ false → (w ≡ v) × (now ≡ m)) → MayBreak v w m now
+    → MayBreak u w a now
+may_break_then u v w a m now (inl (runs, lost)) linked idle (inl (goes, kept)) = inl (goes ∙ runs, kept ∙ lost)
+may_break_then u v w a m now (inl (runs, lost)) linked idle (inr (fault, stopped, why, cause)) = inr (fault, stopped, why, cause_weaker fault now linked cause)
+may_break_then u v w a m now (inr stops) linked idle then = broke_still u v w a m now (idle stops.1) (inr stops)
+
+-- nothing was done
+pub course_same : {I K P : Type 0} (w : LinkWorld I K P) (a : Context) → a.log.state.held ≡ true → KeepsCourse w w a a
+course_same w a turn = record { loses = inl (refl, refl); keeps = keeps_refl a turn; live = λ all. all; started = λ none. none }
+
+-- continuations stay live where those of the stages and of both ends do
+pub linked_kept : {P : Type 0} (d e : DrivenChain P) (w x r s : Option StageContinuation) (a b : Context) → b.log.state.live ≡ a.log.state.live → (HasAllLive d a → HasAllLive e b) → unroused x ≡ unroused w
+    → unroused s ≡ unroused r → AreLiveAlong d w r a → AreLiveAlong e x s b
+linked_kept d e w x r s a b keys stages writer reader h = record {
+  stages = stages h.stages;
+  writer = end_live w x a b keys writer h.writer;
+  reader = end_live r s a b keys reader h.reader;
+}
+
+-- a stage acted
+pub linked_stage : {I K P : Type 0} (v w : LinkWorld I K P) (a b : Context) → w.writer ≡ v.writer → w.reader ≡ v.reader → KeepsLive v.driven.chain w.driven.chain v.driven.table.items w.driven.table.items a b → StaysLinked v w a b
+linked_stage v w a b writer reader (inl same) = inl (same, writer, reader)
+linked_stage v w a b writer reader (inr (keeps, live)) = inr (keeps, linked_kept v.driven w.driven v.writer w.writer v.reader w.reader a b keeps.live live (ap unroused writer) (ap unroused reader))
+
+-- bytes or their end came to the chain, and a stage may have been roused
+pub course_driven : {I K P T : Type 0} (v w : LinkWorld I K P) (c : ChainState P) (a b : Context) (r : Result T SetFault) → w.writer ≡ v.writer → w.reader ≡ v.reader → c.stages ≡ v.driven.chain.stages
+    → w.driven.chain.stages ≡ c.stages → Keeps a b → all_unroused w.driven.table.items ≡ all_unroused v.driven.table.items
+    → Loses r (record v.driven { chain = c }) w.driven a b → KeepsCourse v w a b
+course_driven v w c a b r writer reader stages kept keeps same loses = record {
+  keeps = keeps;
+  loses = lose_weaker v.driven w.driven b (λ all. live_stages v.driven.chain c v.driven.table.items a stages all.stages) (may_lose r (record v.driven { chain = c }) w.driven a b loses);
+  live = linked_kept v.driven w.driven v.writer w.writer v.reader w.reader a b keeps.live
+      (all_live v.driven.chain w.driven.chain v.driven.table.items w.driven.table.items a b keeps.live same (λ j going. ap (λ ss. ended_at ss j) (sym (kept ∙ stages)) ∙ going)) (ap unroused writer) (ap unroused reader);
+  started = λ none. sym writer ∙ none;
+}
+
+-- a link failed, and the chain was aborted
+pub course_aborted : {I K P : Type 0} (v w : LinkWorld I K P) (c : ChainState P) (a : Context) → a.log.state.held ≡ true → w.driven.chain ≡ aborted c → w.driven.table.items ≡ v.driven.table.items → w.driven.running ≡ v.driven.running
+    → w.driven.lost ≡ v.driven.lost → w.writer ≡ v.writer → w.reader ≡ v.reader → KeepsCourse v w a a
+course_aborted v w c a turn chain table runs lost writer reader = record {
+  keeps = keeps_refl a turn;
+  loses = inl (runs, lost);
+  live = linked_kept v.driven w.driven v.writer w.writer v.reader w.reader a a refl (live_aborted v.driven.chain c w.driven.chain v.driven.table.items w.driven.table.items a chain table) (ap unroused writer) (ap unroused reader);
+  started = λ none. sym writer ∙ none;
+}
+
+-- the ends are roused that must work, since nothing of them changed
+pub ends_moved : {I K P : Type 0} (u v : LinkWorld I K P) → v.driven.chain ≡ u.driven.chain → v.writer ≡ u.writer → v.reader ≡ u.reader → AreEndsRoused u.driven.chain u.writer u.reader → AreEndsRoused v.driven.chain v.writer v.reader
+ends_moved u v chain writer reader ends =
+    subst (λ c. AreEndsRoused c v.writer v.reader) (sym chain) (subst (λ t. AreEndsRoused u.driven.chain t v.reader) (sym writer) (subst (λ t. AreEndsRoused u.driven.chain u.writer t) (sym reader) ends))
+
+-- so it is after a stage acted, which may have closed it where nobody must be roused
+pub break_after : {I K P : Type 0} (u v w : LinkWorld I K P) (a m now : Context) → AreEndsRoused u.driven.chain u.writer u.reader → MayBreak u v a m → StaysLinked u v a m
+    → ((v.driven.running ≡ false) ⊎ AreEndsRoused v.driven.chain v.writer v.reader → (w ≡ v) × (now ≡ m)) → MayBreak v w m now → MayBreak u w a now
+break_after u v w a m now ends broke (inl (chain, writer, reader)) idle then = broke_still u v w a m now (idle (inr (ends_moved u v chain writer reader ends))) broke
+break_after u v w a m now ends broke (inr (keeps, linked)) idle then = may_break_then u v w a m now broke linked (λ stopped. idle (inl stopped)) then
 
 -- where memory lacked, that is the cause
 pub lose_lacks : {P Live Other : Type 0} (d e f : DrivenChain P) (now : Context) → e.lost ≡ Some NoMemory → f.running ≡ e.running → f.lost ≡ e.lost → MayLose Live d e now → MayLose Other d f now
 lose_lacks d e f now lacks runs lost (inl (same, kept)) = inl (runs ∙ same, lost ∙ kept)
-lose_lacks d e f now lacks runs lost (inr (loss, stopped, why, cause)) = inr (NoMemory, runs ∙ stopped, lost ∙ lacks, tt)
+lose_lacks d e f now lacks runs lost (inr (fault, stopped, why, cause)) = inr (F.NoMemory, runs ∙ stopped, lost ∙ lacks, tt)
 
 -- a fault of an end is its cause
 pub end_loses : {P Live : Type 0} (d e : DrivenChain P) (fault : SetFault) (now : Context) → e.running ≡ false → e.lost ≡ Some (loss_of fault) → IsCause Live fault now → MayLose Live d e now
-end_loses {Live = Live} d e fault now stopped lost cause = inr (loss_of fault, stopped, lost, loss_cause Live fault now cause)
+end_loses d e fault now stopped lost cause = inr (fault, stopped, lost, cause)
 
 -- nobody is roused where nothing is pending
 none_of : (roles : List Named) (role : ℕ) (t : Option StageContinuation) → IsOfStageIf [] roles role t → IsRousedIf t → ⊥
@@ -226,21 +275,21 @@ end_rests true slot Duty has rouses = inr (rouses (has refl))
 
 -- A step found the input not ready: its reader tries again later, and nobody else is roused.
 pub again_reads : {I K P : Type 0} (v m n : LinkWorld I K P) (a b c : Context) → AreEndsRoused v.driven.chain v.writer v.reader → RetriesRead v m a b
-    → ((m.driven.running ≡ false) ⊎ AreEndsRoused m.driven.chain m.writer m.reader → (n ≡ m) × (c ≡ b)) → m.driven.running ≡ true → IsRousedIf n.reader × SetsOnly (IsRousingOf 2 RETRY a.moment a.roles) a c
+    → ((m.driven.running ≡ false) ⊎ AreEndsRoused m.driven.chain m.writer m.reader → (n ≡ m) × (c ≡ b)) → m.driven.running ≡ true → IsRousedIf n.reader × RetriesOnce READER a c
 again_reads v m n a b c ends h idle runs =
     let roused : IsRousedIf m.reader = h.roused runs in
     let both : AreEndsRoused m.driven.chain m.writer m.reader = record { writes = λ must. subst IsRousedIf (sym h.writer) (ends.writes (h.chain must)); reads = λ must. roused } in
     let same = idle (inr both) in
-    (subst (λ x. IsRousedIf x.reader) (sym same.0) roused, subst (λ x. SetsOnly (IsRousingOf 2 RETRY a.moment a.roles) a x) (sym same.1) h.only)
+    (subst (λ x. IsRousedIf x.reader) (sym same.0) roused, subst (λ x. RetriesOnce READER a x) (sym same.1) h.only)
 
 -- So does the writer, where the output was not ready.
 pub again_writes : {I K P : Type 0} (v m n : LinkWorld I K P) (a b c : Context) → AreEndsRoused v.driven.chain v.writer v.reader → RetriesWrite v m a b
-    → ((m.driven.running ≡ false) ⊎ AreEndsRoused m.driven.chain m.writer m.reader → (n ≡ m) × (c ≡ b)) → m.driven.running ≡ true → IsRousedIf n.writer × SetsOnly (IsRousingOf 1 RETRY a.moment a.roles) a c
+    → ((m.driven.running ≡ false) ⊎ AreEndsRoused m.driven.chain m.writer m.reader → (n ≡ m) × (c ≡ b)) → m.driven.running ≡ true → IsRousedIf n.writer × RetriesOnce WRITER a c
 again_writes v m n a b c ends h idle runs =
     let roused : IsRousedIf m.writer = h.roused runs in
     let both : AreEndsRoused m.driven.chain m.writer m.reader = record { writes = λ must. roused; reads = λ must. subst IsRousedIf (sym h.reader) (ends.reads (h.chain must)) } in
     let same = idle (inr both) in
-    (subst (λ x. IsRousedIf x.writer) (sym same.0) roused, subst (λ x. SetsOnly (IsRousingOf 1 RETRY a.moment a.roles) a x) (sym same.1) h.only)
+    (subst (λ x. IsRousedIf x.writer) (sym same.0) roused, subst (λ x. RetriesOnce WRITER a x) (sym same.1) h.only)
 
 -- what follows while it runs
 pub while_runs : {A E : Type 0} (b : Bool) → b ≡ true → (E → A) → (b ≡ false) ⊎ E → A
@@ -254,8 +303,9 @@ none_same (Some t) None same is = absurd (let wrong : None ≡ Some (record t { 
 none_same (Some t) (Some u) same is = absurd (let wrong : Some u ≡ None = is in cc)
 
 -- it is lost where a continuation could not be made
-pub begun_made : {P Live : Type 0} (d : DrivenChain P) (fault : MakeFault) (loss : Loss) (now : Context) → d.running ≡ false → d.lost ≡ Some loss → loss ≡ making_loss fault → IsCauseOf ⊤ (making_loss fault) now → HasBegun Live d now
-begun_made {Live = Live} d fault loss now stopped lost is cause = inr (loss, stopped, lost, subst (λ l. IsCauseOf Live l now) (sym is) (making_cause Live fault now cause))
+pub begun_made : {I K P : Type 0} (w : LinkWorld I K P) (fault : MakeFault) (loss : Loss) (now : Context) → w.driven.running ≡ false → w.driven.lost ≡ Some loss → loss ≡ making_loss fault
+    → IsCauseOf ⊤ (making_loss fault) now → HasBegunAlong w now
+begun_made w fault loss now stopped lost is cause = inr (loss, stopped, lost, subst (λ l. IsCauseOf ⊤ l now) (sym is) cause)
 
 -- Where nobody has a duty, and those who stand at the ends were roused, nothing is done.
 pub rests_then : {I K P : Type 0} (role : ℕ) (u v w : LinkWorld I K P) (a b c : Context) → u.driven.running ≡ true → (IsOfNobody role u → (v ≡ u) × IsSame a b)
@@ -274,3 +324,42 @@ no_duty role w ends (inr nobody) = by_run w.driven.running refl
     by_run : (b : Bool) → w.driven.running ≡ b → HasNoDuty role w
     by_run false is = inl is
     by_run true is = inr (nobody, ends is)
+
+-- A fall is told as a fault of an event, or as want of memory.
+pub falls_told : {I K P : Type 0} (v w : LinkWorld I K P) (a b : Context) → MayBreak v w a b → FallsTold v w
+falls_told v w a b (inl (same, kept)) runs stopped = absurd (let wrong : true ≡ false = sym runs ∙ sym same ∙ stopped in cc)
+falls_told v w a b (inr (fault, down, lost, cause)) runs stopped = (fault, lost)
+
+-- each duty keeps its event where others are set
+pub carried_kept : {I K P : Type 0} (a b : Context) (w : LinkWorld I K P) → Keeps a b → IsCarried w a.log.state.pending a.roles → IsCarried w b.log.state.pending b.roles
+carried_kept a b w keeps h = record {
+  joined = λ runs. let j = h.joined runs in record {
+    stages = driven_kept 3 a b w.driven.chain w.driven.table.items keeps j.stages;
+    of_writer = kept_if a b keeps 1 w.writer j.of_writer;
+    of_reader = kept_if a b keeps 2 w.reader j.of_reader;
+  };
+  ends = h.ends;
+  fresh = h.fresh;
+  ordered = h.ordered;
+  bounded = h.bounded;
+}
+
+-- and where a continuation is made
+made_each : (a b : Context) → SameEvents a.log.state b.log.state → KeepsKeys a.log.state b.log.state a.roles b.roles → (role : ℕ) (ts : List (Option StageContinuation)) → AreOfStages a.log.state.pending a.roles role ts
+    → AreOfStages b.log.state.pending b.roles role ts
+made_each a b events keys role [] h = tt
+made_each a b events keys role (t ∷ ts) (here, others) = (made_if a b events keys role t here, made_each a b events keys (role + 1) ts others)
+
+pub carried_made : {I K P : Type 0} (a b : Context) (w : LinkWorld I K P) → SameEvents a.log.state b.log.state → KeepsKeys a.log.state b.log.state a.roles b.roles → IsCarried w a.log.state.pending a.roles
+    → IsCarried w b.log.state.pending b.roles
+carried_made a b w events keys h = record {
+  joined = λ runs. let j = h.joined runs in record {
+    stages = record { len = j.stages.len; of_stages = made_each a b events keys 3 w.driven.table.items j.stages.of_stages; cover = j.stages.cover };
+    of_writer = made_if a b events keys 1 w.writer j.of_writer;
+    of_reader = made_if a b events keys 2 w.reader j.of_reader;
+  };
+  ends = h.ends;
+  fresh = h.fresh;
+  ordered = h.ordered;
+  bounded = h.bounded;
+}

@@ -11,9 +11,12 @@ pub mod Taking
 pub mod Told
 pub mod PassedErrors
 pub mod Called
+pub mod Seating
+pub mod Seats
 pub mod Setting
 pub mod MaySet
 pub mod Acting
+pub mod Along
 pub mod Driving
 pub mod Carrying
 pub mod Joined

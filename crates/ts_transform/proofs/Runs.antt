@@ -1,18 +1,23 @@
 -- What the handlers of one turn carry between two links.
-use Rattle.std.proofs.Common.{◌≡◌, ◌≤◌, ◌<◌, ◌⊎◌, Option, Some, None, inl, inr, ℕ, zero, suc, List, [], Bool, true, false, arith, refl, sym, ap, subst, ◌∙◌}
+use Rattle.std.proofs.Common.{Result, Ok, Err, IfErr, IsErrAnd, ◌≡◌, ◌≤◌, ◌<◌, ◌⊎◌, Some, None, inl, inr, ℕ, zero, suc, List, [], Bool, true, false, arith, refl, sym, ap, subst, ◌∙◌}
 use Rattle.ts_link.specs.Counts.{Rose}
 use Rattle.ts_journal.specs.declared.entry.Entry.{Entry}
 use Rattle.ts_journal.specs.declared.entry.Pending.{Pending}
 use Rattle.ts_journal.specs.State.{State, pending_at}
 use Rattle.ts_group.specs.Due.{IsDueFirst}
 use Rattle.ts_group.specs.declared.group.Group.{Group}
+use Rattle.ts_group.specs.declared.action.SetFault.{SetFault}
+use Rattle.ts_group.specs.Context.{Context}
 use Rattle.ts_group.specs.declared.world.Handling.{Handling}
 use Rattle.ts_group.specs.declared.world.Handling.TheVariants as H
 use Rattle.ts_group.specs.Answers.{HandleGives, MatchHandling}
 use Rattle.ts_group.specs.Calls.{RunsFrom}
 use Rattle.ts_link.specs.Link.{Look}
 use Rattle.ts_transform.specs.declared.link_world.LinkWorld.{LinkWorld}
-use Rattle.ts_transform.specs.Carrying.{CarriesTo, HasStepped, LacksMemory}
+use Rattle.ts_transform.specs.Carrying.{CarriesTo, HasStepped, IsDriveCause, LacksMemory}
+use Rattle.ts_transform.specs.Loss.{loss_of}
+use Rattle.ts_transform.specs.declared.link_drive.DriveFault.{DriveFault}
+use Rattle.ts_transform.specs.declared.link_drive.DriveFault.TheVariants as D
 use Rattle.ts_transform.proofs.Carrying.{carries_one, carries_refl, carries_trans}
 
 pub to_refl : {I K P : Type 0} (rest : P → List ℕ → List ℕ) (it ot : Bool) (input : I → Look) (output : K → Look) (v w : LinkWorld I K P) → w ≡ v → CarriesTo rest it ot input output v w
@@ -21,6 +26,7 @@ to_refl rest it ot input output v w same =
       on = carries_refl rest it ot (input v.input) (output v.output) v.driven.chain v.aborted;
       aborts = λ goes stops. absurd (let wrong : false ≡ true = sym goes ∙ stops in cc);
       rests = λ stopped. refl;
+      falls = λ runs down. absurd (let wrong : true ≡ false = sym runs ∙ down in cc);
     })
 
 -- a fault that was counted stays so, and one that is counted later
@@ -36,8 +42,13 @@ to_trans rest it ot input output u v w h k = record {
   on = carries_trans rest it ot (input u.input) (input v.input) (input w.input) (output u.output) (output v.output) (output w.output) u.driven.chain v.driven.chain w.driven.chain u.aborted v.aborted w.aborted h.on k.on;
   aborts = λ goes stops. by_middle v.aborted refl goes stops;
   rests = λ stopped. k.rests (ap (λ x. x.driven.running) (h.rests stopped) ∙ stopped) ∙ h.rests stopped;
+  falls = λ runs down. by_run v.driven.running refl runs down;
 }
   where
+    by_run : (b : Bool) → v.driven.running ≡ b → u.driven.running ≡ true → w.driven.running ≡ false → (fault : SetFault) × (w.driven.lost ≡ Some (loss_of fault))
+    by_run true is runs down = k.falls is down
+    by_run false is runs down = let told = h.falls runs is in (told.0, ap (λ x. x.driven.lost) (k.rests is) ∙ told.1)
+
     Why : Type 0
     Why = LacksMemory w ⊎ Rose (input u.input).faults (input w.input).faults ⊎ Rose (output u.output).faults (output w.output).faults
 
@@ -60,6 +71,7 @@ to_one rest it ot input output v w h = record {
   on = carries_one rest it ot (input v.input) (input w.input) (output v.output) (output w.output) v.driven.chain w.driven.chain v.aborted w.aborted (LacksMemory w) h.steps;
   aborts = h.steps.aborts;
   rests = h.rests;
+  falls = h.falls;
 }
 
 -- the handlers that ran one after the other
@@ -110,3 +122,14 @@ due_now s t due number moment later q (p, first, is_due, is_number) same now aft
     let one : q ≡ p = cc in
     let at : q.due ≡ due = ap (λ x. x.due) one ∙ is_due in
     omega (arith, now, after, at, is_later)
+
+-- a later turn could not be made
+drive_cause_later : (fault : DriveFault) (a m b : Context) → a.log.state.turns ≤ m.log.state.turns → IsDriveCause fault m b → IsDriveCause fault a b
+drive_cause_later D.Spent a m b later cause = cause
+drive_cause_later D.NoMemory a m b later (inl left) = inl left
+drive_cause_later D.NoMemory a m b later (inr begun) = inr (omega (arith, later, begun))
+
+pub drive_cause_then : {T : Type 0} (r : Result T DriveFault) (fault : DriveFault) (a m b : Context) → IsErrAnd r (λ e. e ≡ fault) → a.log.state.turns ≤ m.log.state.turns → IsDriveCause fault m b
+    → IfErr r (λ f. IsDriveCause f a b)
+drive_cause_then (Ok x) fault a m b is later cause = tt
+drive_cause_then (Err e) fault a m b is later cause = subst (λ f. IsDriveCause f a b) (sym is) (drive_cause_later fault a m b later cause)

@@ -13,6 +13,9 @@ use Rattle.ts_transform.specs.Cover.{IsDriven}
 pub same_events_trans : (a b c : State) → SameEvents a b → SameEvents b c → SameEvents a c
 same_events_trans a b c h k = record { pending = k.pending ∙ h.pending; next = k.next ∙ h.next }
 
+pub keys_trans : (a b c : Context) → KeepsKeys a.log.state b.log.state a.roles b.roles → KeepsKeys b.log.state c.log.state b.roles c.roles → KeepsKeys a.log.state c.log.state a.roles c.roles
+keys_trans a b c h k = record { live = λ key was. k.live key (h.live key was); roles = λ i role was. k.roles i role (h.roles i role was) }
+
 -- a continuation was made, and those that were there keep their roles and their events
 pub made_if : (a b : Context) → SameEvents a.log.state b.log.state → KeepsKeys a.log.state b.log.state a.roles b.roles → (role : ℕ) (t : Option StageContinuation)
     → IsOfStageIf a.log.state.pending a.roles role t → IsOfStageIf b.log.state.pending b.roles role t

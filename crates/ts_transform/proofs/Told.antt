@@ -4,9 +4,8 @@ use Rattle.std.proofs.lemmas.List.{length-map}
 use Rattle.ts_transform.specs.declared.continuation.StageContinuation.{StageContinuation}
 use Rattle.ts_transform.specs.Driving.{unroused, unroused_for, gone, changed, all_unroused}
 use Rattle.ts_transform.specs.declared.pump.Stage.{Stage}
-use Rattle.ts_transform.specs.declared.pump.Pumped.{Pumped}
 use Rattle.ts_transform.specs.declared.pump.Pumped.TheVariants.{Moved}
-use Rattle.ts_transform.specs.Flow.{ChainState, AnswersAt, StepsAt, PumpsAt, PumpsOnce, ended_at}
+use Rattle.ts_transform.specs.Flow.{ChainState, StepsAt, PumpsAt, PumpsOnce, ended_at}
 
 pub moved_goes : {P : Type 0} (rest : P → List ℕ → List ℕ) (from : List ℕ) (ss : List (Stage P)) (at n : ℕ) (from' : List ℕ) (ss' : List (Stage P))
     → StepsAt rest from ss at (Moved n) from' ss' → ended_at ss' at ≡ ended_at ss at
@@ -29,7 +28,7 @@ pub pumped_once : {P : Type 0} (rest : P → List ℕ → List ℕ) (c d : Chain
 pumped_once rest c d at (inl same) = inl same
 pumped_once rest c d at (inr pumps) = inr (at, pumps)
 
-unroused_twice : (t : Option StageContinuation) → unroused (unroused t) ≡ unroused t
+pub unroused_twice : (t : Option StageContinuation) → unroused (unroused t) ≡ unroused t
 unroused_twice None = refl
 unroused_twice (Some t) = refl
 

@@ -1,13 +1,15 @@
 -- What the handler of a stage does.
-use Rattle.std.specs.Prelude.{◌≡◌, ℕ, ◌+◌, ◌*◌, ◌<◌, ◌≤◌, ◌⊎◌, List, [], length, Bool, true, false, Option}
+use Rattle.std.specs.Prelude.{◌≡◌, ℕ, ◌+◌, ◌*◌, ◌<◌, ◌≤◌, ◌⊎◌, List, [], length, Bool, true, false, Option, Result, IfErr}
 use Rattle.std.specs.Bool.{OnTrue}
 use Rattle.ts_journal.specs.declared.entry.Event.{Event}
 use Rattle.ts_journal.specs.declared.entry.Event.TheVariants.{Error, WriteComplete}
 use Rattle.ts_journal.specs.declared.entry.Pending.{Pending}
+use Rattle.ts_group.specs.declared.action.SetFault.{SetFault}
 use Rattle.ts_group.specs.Context.{Context}
 use Rattle.ts_transform.specs.Flow.{ChainState, MayPump, PumpsOnce, ended_at, flow, left_to_do}
-use Rattle.ts_transform.specs.Driving.{IsClosed, IsHandled, IsToldBefore, SetsFew, all_unroused, changed, error_passed, errors_to_pass, gone, may_pass_error_at, unroused_for, works_at}
-use Rattle.ts_transform.specs.Cover.{CallsBefore, IsDriven, IsDrivenFor, OnlySets}
+use Rattle.ts_transform.specs.Driving.{IsCause, IsClosed, IsHandled, IsToldBefore, Keeps, SetsFew, all_unroused, changed, error_passed, errors_to_pass, gone, may_pass_error_at, works_at}
+use Rattle.ts_transform.specs.Cover.{AreAllLive, CallsBefore, IsDriven, IsDrivenFor, OnlySets}
+use Rattle.ts_transform.specs.Seats.{KeepsSeated}
 use Rattle.ts_transform.specs.declared.continuation.StageContinuation.{StageContinuation}
 
 -- there is a stage at the place, and each stage has a continuation or had one
@@ -30,8 +32,8 @@ pub record ActsAt {P : Type 0} (rest : P → List ℕ → List ℕ) (pause : P �
   pub own : MayPump rest at c d
   pub idle : works_at event ≡ false → d ≡ c
   pub only : OnlySets pause c d vs at event a b
-  -- where it had ended, its continuation is destroyed
-  pub closed : ended_at c.stages at ≡ true → IsClosed a b ts at × (us ≡ changed gone ts at)
+  -- where it had ended, its continuation is destroyed, and nothing else is done
+  pub closed : ended_at c.stages at ≡ true → IsClosed a b ts at × (us ≡ changed gone ts at) × (d ≡ c)
   -- While nothing was lost: where it ends, the stage before it is told so; where it did something, that stage is called
   -- if it must work, was not roused, and makes no pause; and the first time that it gets an error, it passes that on.
   pub ended : now ≡ true → ended_at c.stages at ≡ false → ended_at d.stages at ≡ true
@@ -90,6 +92,20 @@ abbrev pub Pays : {P : Type 0} → (P → List ℕ → List ℕ) → ChainState 
 Pays rest c d ts us a b = (z : List ℕ) → OnTrue c.given (z ≡ []) →
     100 * (left_to_do rest d z + errors_to_pass us) + length b.log.state.pending
     ≤ 100 * (left_to_do rest c z + errors_to_pass ts) + length a.log.state.pending
+
+-- The chain is as it was; or no continuation was made or destroyed, and those of its stages stay live.
+abbrev pub KeepsLive : {P : Type 0} → ChainState P → ChainState P → List (Option StageContinuation)
+    → List (Option StageContinuation) → Context → Context → Type 0
+KeepsLive c d ts us a b = (d ≡ c)
+    ⊎ (Keeps a b × (AreAllLive c ts a → AreAllLive d us b))
+
+-- The continuations stay live while the chain goes on; whatever is set is of one of them; and where an event could not be set, it says why: a continuation
+-- was found dead, or there is another cause.
+pub record LivesOn {P T : Type 0} (result : Result T SetFault) (c d : ChainState P)
+    (ts us : List (Option StageContinuation)) (a b : Context) : Type 0 where
+  pub live : KeepsLive c d ts us a b
+  pub seated : KeepsSeated ts us a b
+  pub cause : IfErr result (λ fault. IsCause (AreAllLive c ts a) fault b)
 
 -- A handler goes on with the work of a chain: at most one stage worked, and what still comes out stays, whatever still
 -- comes in while the end was not given, and for nothing more from then on. As many continuations are there, and without

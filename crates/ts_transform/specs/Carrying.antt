@@ -1,24 +1,30 @@
 -- A chain between two links: what a step of it moves, and who must work.
-use Rattle.std.specs.Prelude.{◌≡◌, ◌≢◌, ℕ, ◌+◌, ◌<◌, ◌≤◌, ◌⊎◌, ◌++◌, List, [], length, Bool, true, false, Option, Some, None}
+use Rattle.std.specs.Prelude.{◌≡◌, ◌≢◌, ℕ, ◌+◌, ◌<◌, ◌≤◌, ◌⊎◌, ◌++◌, List, [], length, Bool, true, false, Option, Some, None, ⊤}
 use Rattle.std.specs.Bool.{OnTrue}
+use Rattle.ts_journal.specs.declared.entry.TheConstants.{GREATEST}
 use Rattle.ts_journal.specs.declared.entry.Event.{Event}
 use Rattle.ts_journal.specs.declared.entry.Pending.{Pending}
 use Rattle.ts_group.specs.declared.action.Named.{Named}
+use Rattle.ts_group.specs.declared.action.SetFault.{SetFault}
 use Rattle.ts_group.specs.declared.group.Group.{Group}
 use Rattle.ts_group.specs.Context.{Context}
 use Rattle.ts_link.specs.Counts.{Rose}
 use Rattle.ts_link.specs.Link.{Look}
 use Rattle.ts_transform.specs.Stage.{MOST_WAITING}
 use Rattle.ts_transform.specs.Flow.{ChainState, EndsInOrder, MustRead, MustWrite, OnlyFirstWorks, flow}
-use Rattle.ts_transform.specs.Driving.{HasLiveIf, IsHandled, IsNamedIf, IsOfStageIf, IsRousedIf, IsRousingOf, SetsOnly}
+use Rattle.ts_transform.specs.Driving.{HasLiveIf, IsHandled, IsNamedIf, IsOfStageIf, IsRousedIf, IsRousingOf, Keeps, SetsFew, SetsOnly}
 use Rattle.ts_transform.specs.Cover.{IsDriven}
 use Rattle.ts_transform.specs.Driven.{HasAllLive, IsOfNoStage, MayLose}
 use Rattle.ts_transform.specs.declared.continuation.StageContinuation.{StageContinuation}
 use Rattle.ts_transform.specs.declared.link_world.LinkWorld.{LinkWorld}
+use Rattle.ts_transform.specs.declared.driven.DrivenChain.{DrivenChain}
 use Rattle.ts_vconn.specs.declared.moves.TheConstants.{MOST_PULLED}
-use Rattle.ts_transform.specs.declared.link_world.TheConstants.{RETRY}
+use Rattle.ts_transform.specs.declared.link_world.TheConstants.{FIRST, READER, RETRY, WRITER}
+use Rattle.ts_transform.specs.declared.link_drive.DriveFault.{DriveFault}
+use Rattle.ts_transform.specs.declared.link_drive.DriveFault.TheVariants as D
 use Rattle.ts_transform.specs.declared.loss.Loss.{Loss}
 use Rattle.ts_transform.specs.declared.loss.Loss.TheVariants.{NoMemory}
+use Rattle.ts_transform.specs.Loss.{IsCauseOf, loss_of}
 
 -- The input gave some bytes and the output took some, and what the chain still gives is that much further on: for
 -- whatever still comes before its end was given, and for nothing from then on.
@@ -67,26 +73,32 @@ Moves rest in_tells out_tells input output v w =
     v.driven.chain w.driven.chain v.aborted w.aborted ⊥
 
 -- and of a step of the world: it is aborted for want of memory too
-abbrev pub Steps : {I K P : Type 0} → (P → List ℕ → List ℕ) → Bool → Bool → (I → Look) → (K → Look)
+abbrev pub StepsAlong : {I K P : Type 0} → (P → List ℕ → List ℕ) → Bool → Bool → (I → Look) → (K → Look)
     → LinkWorld I K P → LinkWorld I K P → Type 0
-Steps rest in_tells out_tells input output v w =
+StepsAlong rest in_tells out_tells input output v w =
     MovesOn rest in_tells out_tells (input v.input) (input w.input) (output v.output) (output w.output)
     v.driven.chain w.driven.chain v.aborted w.aborted (LacksMemory w)
+
+-- whether it runs falls only where an event could not be set or memory lacked, and it tells which
+abbrev pub FallsTold : {I K P : Type 0} → LinkWorld I K P → LinkWorld I K P → Type 0
+FallsTold v w = v.driven.running ≡ true → w.driven.running ≡ false
+    → (fault : SetFault) × (w.driven.lost ≡ Some (loss_of fault))
 
 -- So does a handler; where something was lost before, nothing is done, and where memory lacks the chain is aborted.
 pub record HasStepped {I K P : Type 0} (rest : P → List ℕ → List ℕ) (in_tells out_tells : Bool)
     (input : I → Look) (output : K → Look) (v w : LinkWorld I K P) : Type 0 where
-  pub steps : Steps rest in_tells out_tells input output v w
+  pub steps : StepsAlong rest in_tells out_tells input output v w
   pub rests : v.driven.running ≡ false → w ≡ v
+  pub falls : FallsTold v w
   pub stops : v.driven.running ≡ true → LacksMemory w → w.aborted ≡ true
 
--- The stages have the roles from 3 on, the writer has 1 and the reader 2: each that is roused has an event, and so has
--- each stage that must work.
+-- The stages have the roles from the first on, and the writer and the reader have theirs: each that is roused has an
+-- event, and so has each stage that must work.
 pub record IsJoined {P : Type 0} (c : ChainState P) (ts : List (Option StageContinuation))
     (writer reader : Option StageContinuation) (pending : List Pending) (roles : List Named) : Type 0 where
-  pub stages : IsDriven 3 c ts pending roles
-  pub of_writer : IsOfStageIf pending roles 1 writer
-  pub of_reader : IsOfStageIf pending roles 2 reader
+  pub stages : IsDriven FIRST c ts pending roles
+  pub of_writer : IsOfStageIf pending roles WRITER writer
+  pub of_reader : IsOfStageIf pending roles READER reader
 
 -- the same of a world, while no event was lost
 abbrev pub IsJoinedWhile : {I K P : Type 0} → LinkWorld I K P → List Pending → List Named → Type 0
@@ -135,27 +147,47 @@ IsCarriedGroup g = IsCarried g.world g.cx.log.state.pending g.cx.roles
 
 -- The role is that of no continuation of a world: of neither end, and of no stage.
 pub record IsOfNobody {I K P : Type 0} (role : ℕ) (w : LinkWorld I K P) : Type 0 where
-  pub no_writer : role ≢ 1
-  pub no_reader : role ≢ 2
-  pub no_stage : IsOfNoStage 3 role w.driven
+  pub no_writer : role ≢ WRITER
+  pub no_reader : role ≢ READER
+  pub no_stage : IsOfNoStage FIRST role w.driven
 
 -- an event of a role is that of nobody, where both ends are roused that must work; or something was lost before
 abbrev pub HasNoDuty : {I K P : Type 0} → ℕ → LinkWorld I K P → Type 0
 HasNoDuty role w = (w.driven.running ≡ false) ⊎ (IsOfNobody role w × AreEndsRoused w.driven.chain w.writer w.reader)
 
--- the continuations of a world are live
-pub record AreLinked {I K P : Type 0} (w : LinkWorld I K P) (now : Context) : Type 0 where
-  pub stages : HasAllLive w.driven now
-  pub writer : HasLiveIf now.log.state.live w.writer
-  pub reader : HasLiveIf now.log.state.live w.reader
+-- the continuations of stages and of both ends are live
+pub record AreLiveAlong {P : Type 0} (d : DrivenChain P) (t u : Option StageContinuation)
+    (now : Context) : Type 0 where
+  pub stages : HasAllLive d now
+  pub writer : HasLiveIf now.log.state.live t
+  pub reader : HasLiveIf now.log.state.live u
 
--- it goes on as it did, or is lost for a cause
-abbrev pub MayBreak : {I K P : Type 0} → LinkWorld I K P → LinkWorld I K P → Context → Type 0
-MayBreak v w now = MayLose (AreLinked w now) v.driven w.driven now
+-- those of a world
+abbrev pub AreLinked : {I K P : Type 0} → LinkWorld I K P → Context → Type 0
+AreLinked w now = AreLiveAlong w.driven w.writer w.reader now
 
--- whether it runs may only fall, for a cause; and whoever was made stays
-pub record KeepsCourse {I K P : Type 0} (v w : LinkWorld I K P) (now : Context) : Type 0 where
-  pub loses : MayBreak v w now
+-- it runs from now on, and the continuations of its stages and of both ends are live; or it is lost for a cause, but for
+-- no dead continuation, since each was just made
+abbrev pub HasBegunAlong : {I K P : Type 0} → LinkWorld I K P → Context → Type 0
+HasBegunAlong w now =
+    ((w.driven.running ≡ true) × (w.driven.lost ≡ None) × AreLinked w now)
+    ⊎ ((loss : Loss) × (w.driven.running ≡ false) × (w.driven.lost ≡ Some loss) × IsCauseOf ⊤ loss now)
+
+-- the chain and its ends are as they were; or no continuation was made or destroyed, and all stay live
+abbrev pub StaysLinked : {I K P : Type 0} → LinkWorld I K P → LinkWorld I K P → Context → Context → Type 0
+StaysLinked v w a b =
+    ((w.driven.chain ≡ v.driven.chain) × (w.writer ≡ v.writer) × (w.reader ≡ v.reader))
+    ⊎ (Keeps a b × (AreLinked v a → AreLinked w b))
+
+-- it goes on as it did, or is lost for a cause: for a dead continuation only where one was found dead
+abbrev pub MayBreak : {I K P : Type 0} → LinkWorld I K P → LinkWorld I K P → Context → Context → Type 0
+MayBreak v w a b = MayLose (AreLinked v a) v.driven w.driven b
+
+-- whether it runs may only fall, for a cause; and whoever was made stays, and is live if all were
+pub record KeepsCourse {I K P : Type 0} (v w : LinkWorld I K P) (a b : Context) : Type 0 where
+  pub loses : MayBreak v w a b
+  pub keeps : Keeps a b
+  pub live : AreLinked v a → AreLinked w b
   pub started : w.writer ≡ None → v.writer ≡ None
 
 -- An end is roused after so many milliseconds, if it must work and was not roused before, and else nothing is done.
@@ -171,19 +203,23 @@ InputWaits input v w = (input w.input).waits ≢ (input v.input).waits
 abbrev pub OutputWaits : {I K P : Type 0} → (K → Look) → LinkWorld I K P → LinkWorld I K P → Type 0
 OutputWaits output v w = (output w.output).waits ≢ (output v.output).waits
 
+-- at most one event is set, which rouses the continuation of a role after 10 milliseconds
+abbrev pub RetriesOnce : ℕ → Context → Context → Type 0
+RetriesOnce role a b = SetsOnly (IsRousingOf role RETRY a.moment a.roles) a b × SetsFew 1 a b
+
 -- So the chain is as it was; of its ends only the one that found its link not ready changed; that is roused after 10
 -- milliseconds, unless this was lost, and nothing else is set.
 pub record RetriesRead {I K P : Type 0} (v w : LinkWorld I K P) (a b : Context) : Type 0 where
   pub chain : MustWrite w.driven.chain → MustWrite v.driven.chain
   pub writer : w.writer ≡ v.writer
   pub roused : w.driven.running ≡ true → IsRousedIf w.reader
-  pub only : SetsOnly (IsRousingOf 2 RETRY a.moment a.roles) a b
+  pub only : RetriesOnce READER a b
 
 pub record RetriesWrite {I K P : Type 0} (v w : LinkWorld I K P) (a b : Context) : Type 0 where
   pub chain : MustRead w.driven.chain → MustRead v.driven.chain
   pub reader : w.reader ≡ v.reader
   pub roused : w.driven.running ≡ true → IsRousedIf w.writer
-  pub only : SetsOnly (IsRousingOf 1 RETRY a.moment a.roles) a b
+  pub only : RetriesOnce WRITER a b
 
 -- The chain and the links are as they were; and where it had not begun, it runs from then on, or tells why it was lost.
 pub record HasLinkBegun {I K P : Type 0} (v w : LinkWorld I K P) : Type 0 where
@@ -209,7 +245,7 @@ abbrev pub KeepsWriter : {I K P : Type 0} → LinkWorld I K P → LinkWorld I K 
 KeepsWriter v w = w.writer ≡ v.writer
 
 -- What several steps of a world between two links move: the chain is aborted only where memory lacked or a link failed,
--- and nothing is done once something was lost.
+-- and nothing is done once something was lost, which is told.
 pub record CarriesTo {I K P : Type 0} (rest : P → List ℕ → List ℕ) (in_tells out_tells : Bool)
     (input : I → Look) (output : K → Look) (v w : LinkWorld I K P) : Type 0 where
   pub on : CarriesOn rest in_tells out_tells (input v.input) (input w.input) (output v.output) (output w.output)
@@ -217,6 +253,7 @@ pub record CarriesTo {I K P : Type 0} (rest : P → List ℕ → List ℕ) (in_t
   pub aborts : v.aborted ≡ false → w.aborted ≡ true → LacksMemory w
       ⊎ Rose (input v.input).faults (input w.input).faults ⊎ Rose (output v.output).faults (output w.output).faults
   pub rests : v.driven.running ≡ false → w ≡ v
+  pub falls : FallsTold v w
 
 -- All that the input gave, which has nothing left, was written through the chain to the output.
 pub record HasWritten {P : Type 0} (rest : P → List ℕ → List ℕ) (i j o p : Look)
@@ -236,6 +273,12 @@ WritesWhole rest in_tells out_tells input output v w =
     → in_tells ≡ true → out_tells ≡ true
     → HasWritten rest (input v.input) (input w.input) (output v.output) (output w.output) v.driven.chain
 
+-- Why it is driven no further: no number of a turn is left; or memory lacked, where one was left, or for a turn that
+-- had begun.
+abbrev pub IsDriveCause : DriveFault → Context → Context → Type 0
+IsDriveCause D.Spent old new = GREATEST ≤ new.log.state.turns
+IsDriveCause D.NoMemory old new = (new.log.state.turns < GREATEST) ⊎ (old.log.state.turns < new.log.state.turns)
+
 -- So many turns were made, in each of which an event was handled, and something is pending.
 pub record MakesTurns (turns : ℕ) (old new : Context) : Type 0 where
   pub made : new.log.state.turns ≡ old.log.state.turns + turns
@@ -246,9 +289,9 @@ pub record MakesTurns (turns : ℕ) (old new : Context) : Type 0 where
 pub record TriesAgain {I K P : Type 0} (input : I → Look) (output : K → Look) (v w : LinkWorld I K P)
     (a b : Context) : Type 0 where
   pub reads : InputWaits input v w → w.driven.running ≡ true → IsRousedIf w.reader
-      × SetsOnly (IsRousingOf 2 RETRY a.moment a.roles) a b
+      × RetriesOnce READER a b
   pub writes : OutputWaits output v w → w.driven.running ≡ true → IsRousedIf w.writer
-      × SetsOnly (IsRousingOf 1 RETRY a.moment a.roles) a b
+      × RetriesOnce WRITER a b
 
 -- It does so where an event of a role is handled.
 abbrev pub HandlesWaits : {I K P : Type 0} → ℕ → Event → (I → Look) → (K → Look) → LinkWorld I K P

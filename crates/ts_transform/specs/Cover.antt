@@ -8,8 +8,6 @@ use Rattle.ts_group.specs.Context.{Context}
 use Rattle.ts_transform.specs.Stage.{MOST_WAITING}
 use Rattle.ts_transform.specs.Flow.{ChainState, MustWork, client_wait, ended_at, pause_at}
 use Rattle.ts_transform.specs.Driving.{AreLive, AreNamed, AreOfStages, HasLive, IsCalledUnless, IsRoused, IsRousingOf, IsTellingBefore, SetsOnly}
-use Rattle.ts_transform.specs.declared.continuation.Rouser.{Rouser}
-use Rattle.ts_transform.specs.declared.continuation.Rouser.TheVariants.{Downstream}
 use Rattle.ts_transform.specs.declared.continuation.StageContinuation.{StageContinuation}
 
 -- each stage that must work is roused

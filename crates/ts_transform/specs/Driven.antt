@@ -1,5 +1,5 @@
 -- What holds of a driven chain, and how it is lost.
-use Rattle.std.specs.Prelude.{◌≡◌, ℕ, ◌+◌, ◌<◌, ◌≤◌, ◌⊎◌, List, [], length, Bool, true, false, Option, Some, None, Result, Ok, Err, drop, take, ◌++◌, ⊤}
+use Rattle.std.specs.Prelude.{◌≡◌, ℕ, ◌+◌, ◌≤◌, ◌⊎◌, List, length, true, false, Option, Some, None, Result, Ok, Err, ⊤}
 use Rattle.ts_journal.specs.declared.entry.ContKey.{ContKey}
 use Rattle.ts_journal.specs.declared.entry.Event.{Event}
 use Rattle.ts_journal.specs.declared.entry.Pending.{Pending}
@@ -9,11 +9,13 @@ use Rattle.ts_group.specs.declared.action.SetFault.TheVariants as F
 use Rattle.ts_group.specs.Context.{Context}
 use Rattle.ts_transform.specs.Stage.{MOST_WAITING}
 use Rattle.ts_transform.specs.Flow.{ChainState, IsGiven, client_wait, last_ended}
-use Rattle.ts_transform.specs.Driving.{HasEventIf, IsCause, IsHandled, IsRoused, Keeps, unroused_at}
+use Rattle.ts_transform.specs.Driving.{HasEventIf, IsCause, IsHandled, IsRoused, Keeps, KeepsOthers, all_unroused, unroused_at}
 use Rattle.ts_transform.specs.Cover.{AreAllLive, IsDriven}
-use Rattle.ts_transform.specs.Acting.{ActsAt, IsStage}
+use Rattle.ts_transform.specs.Acting.{ActsAt, IsStage, KeepsLive}
+use Rattle.ts_transform.specs.Seats.{KeepsSeated}
 use Rattle.ts_transform.specs.declared.driven.DrivenChain.{DrivenChain}
 use Rattle.ts_transform.specs.declared.loss.Loss.{Loss}
+use Rattle.ts_transform.specs.declared.world.TheConstants.{FIRST}
 use Rattle.ts_transform.specs.Loss.{IsCauseOf, loss_of}
 
 -- while no event of it was lost, it is driven
@@ -46,22 +48,31 @@ IsOfNoStage first role d = (at : ℕ) → role ≡ first + at → IsStage d.chai
 abbrev pub HasAllLive : {P : Type 0} → DrivenChain P → Context → Type 0
 HasAllLive d now = AreAllLive d.chain d.table.items now
 
--- it is lost exactly where an event could not be set, and tells why
-abbrev pub Loses : {P T : Type 0} → Result T SetFault → DrivenChain P → DrivenChain P → Context → Type 0
-Loses (Ok x) d e now = (e.running ≡ d.running) × (e.lost ≡ d.lost)
-Loses (Err fault) d e now = (e.running ≡ false) × (e.lost ≡ Some (loss_of fault)) × IsCause (HasAllLive e now) fault now
+-- it is lost exactly where an event could not be set, and tells why: of a dead continuation only where one was found dead
+abbrev pub Loses : {P T : Type 0} → Result T SetFault → DrivenChain P → DrivenChain P → Context → Context
+    → Type 0
+Loses (Ok x) d e a b = (e.running ≡ d.running) × (e.lost ≡ d.lost)
+Loses (Err fault) d e a b = (e.running ≡ false) × (e.lost ≡ Some (loss_of fault)) × IsCause (HasAllLive d a) fault b
 
 -- it goes on as it did, or is lost for a cause, where continuations ought to be live
 abbrev pub MayLose : {P : Type 0} → Type 0 → DrivenChain P → DrivenChain P → Context → Type 0
 MayLose Live d e now =
     ((e.running ≡ d.running) × (e.lost ≡ d.lost))
-    ⊎ ((loss : Loss) × (e.running ≡ false) × (e.lost ≡ Some loss) × IsCauseOf Live loss now)
+    ⊎ ((fault : SetFault) × (e.running ≡ false) × (e.lost ≡ Some (loss_of fault)) × IsCause Live fault now)
 
--- it runs from now on, or is lost for a cause
-abbrev pub HasBegun : {P : Type 0} → Type 0 → DrivenChain P → Context → Type 0
-HasBegun Live d now =
-    ((d.running ≡ true) × (d.lost ≡ None))
-    ⊎ ((loss : Loss) × (d.running ≡ false) × (d.lost ≡ Some loss) × IsCauseOf Live loss now)
+-- it runs from now on, and its continuations are live; or it is lost for a cause, but for no dead continuation, since
+-- each was just made
+abbrev pub HasBegun : {P : Type 0} → DrivenChain P → Context → Type 0
+HasBegun d now =
+    ((d.running ≡ true) × (d.lost ≡ None) × HasAllLive d now)
+    ⊎ ((loss : Loss) × (d.running ≡ false) × (d.lost ≡ Some loss) × IsCauseOf ⊤ loss now)
+
+-- What a handler leaves of those who were not called: continuations of other roles keep their events, whoever was live
+-- stays so while the chain goes on, and whatever is set is of a stage's continuation.
+pub record KeepsRest {P : Type 0} (first : ℕ) (d e : DrivenChain P) (a b : Context) : Type 0 where
+  pub others : KeepsOthers first d.table.items a b
+  pub live : KeepsLive d.chain e.chain d.table.items e.table.items a b
+  pub seated : KeepsSeated d.table.items e.table.items a b
 
 -- it is driven, where another chain was in its place before
 abbrev pub DrivenAgain : {P : Type 0} → ℕ → ChainState P → DrivenChain P → DrivenChain P → Context → Context
@@ -86,6 +97,11 @@ pub record HasBegunFrom {P : Type 0} (d e : DrivenChain P) : Type 0 where
   pub chain : e.chain ≡ d.chain
   pub begun : length d.table.items ≡ 0 → (e.running ≡ true) ⊎ ((loss : Loss) × (e.lost ≡ Some loss))
 
+-- The same continuations are there, but for who of them is roused, and whatever was set is of one of them.
+pub record SameSeats {P : Type 0} (d e : DrivenChain P) (a b : Context) : Type 0 where
+  pub same : all_unroused e.table.items ≡ all_unroused d.table.items
+  pub seated : KeepsSeated d.table.items e.table.items a b
+
 -- the last stage may be woken: it has not ended, so many bytes wait after it, and it was not roused
 pub record MayWake {P : Type 0} (d : DrivenChain P) : Type 0 where
   pub goes : last_ended true d.chain.stages ≡ false
@@ -95,8 +111,8 @@ pub record MayWake {P : Type 0} (d : DrivenChain P) : Type 0 where
 -- its last stage was marked as roused, for which an event of this key has then to be set, if there is a key
 abbrev pub IsMarkedFor : {P : Type 0} → Option ContKey → DrivenChain P → DrivenChain P → Type 0
 IsMarkedFor key d e = (a b : Context) → Keeps a b → HasEventIf b.log.state.pending key
-    → IsDriven 1 d.chain d.table.items a.log.state.pending a.roles
-    → IsDriven 1 e.chain e.table.items b.log.state.pending b.roles
+    → IsDriven FIRST d.chain d.table.items a.log.state.pending a.roles
+    → IsDriven FIRST e.chain e.table.items b.log.state.pending b.roles
 
 -- it goes on as it did where a stage was marked, and else it is lost
 abbrev pub MarkLoses : {P T : Type 0} → Result T SetFault → DrivenChain P → DrivenChain P → Type 0

@@ -14,6 +14,7 @@ use Rattle.ts_group.specs.declared.action.SetFault.{SetFault}
 use Rattle.ts_group.specs.declared.action.SetFault.TheVariants as F
 use Rattle.ts_group.specs.Context.{Context, role_at, moment_after, AllPlain}
 use Rattle.ts_group.specs.Entries.{Grows}
+use Rattle.ts_transform.specs.Seats.{KeepsSeated}
 use Rattle.ts_transform.specs.declared.continuation.StageContinuation.{StageContinuation}
 
 -- a stage works at each event, but for an error, which it passes on, and for the end of its output
@@ -109,6 +110,11 @@ HasLive live [] at = ⊥
 HasLive live (t ∷ ts) zero = HasLiveIf live t
 HasLive live (t ∷ ts) (suc at) = HasLive live ts at
 
+-- the continuation at each place is there, and is live
+abbrev pub EachIsLive : List ContKey → List (Option StageContinuation) → Type 0
+EachIsLive live [] = ⊤
+EachIsLive live (t ∷ ts) = HasLiveIf live t × EachIsLive live ts
+
 -- each continuation that is there is live
 abbrev pub AreLive : List ContKey → List (Option StageContinuation) → Type 0
 AreLive live ts = (j : ℕ) (t : StageContinuation) → slice_get ts j ≡ Some (Some t) → IsLive live t.key
@@ -174,13 +180,14 @@ unroused_for false ts at = ts
 abbrev pub unroused_at : Event → List (Option StageContinuation) → ℕ → List (Option StageContinuation)
 unroused_at event ts at = unroused_for (works_at event) ts at
 
--- what was pending is so, under the same roles, and no event that was added is periodic
+-- What was pending is so, under the same roles; no event that was added is periodic; and the same continuations are live.
 pub record Keeps (old new : Context) : Type 0 where
   pub pending : (n : ℕ) (p : Pending) → pending_at n old.log.state.pending ≡ Some p
       → pending_at n new.log.state.pending ≡ Some p
   pub roles : new.roles ≡ old.roles
   pub plain : AllPlain old.log.state.pending → AllPlain new.log.state.pending
   pub turn : new.log.state.held ≡ true
+  pub live : new.log.state.live ≡ old.log.state.live
 
 -- The stage of a continuation keeps it, with its event, and is roused if it was.
 pub record KeepsStage (a b : Context) (t u : Option StageContinuation) : Type 0 where
@@ -196,6 +203,7 @@ pub record KeepsStages (a b : Context) (ts us : List (Option StageContinuation))
   pub still : (j : ℕ) → IsRoused ts j → IsRoused us j
   pub same : all_unroused us ≡ all_unroused ts
   pub len : length us ≡ length ts
+  pub seated : KeepsSeated ts us a b
 
 -- only such events were set
 abbrev pub SetsOnly : (Pending → Type 0) → Context → Context → Type 0
@@ -261,8 +269,8 @@ abbrev pub HasEventIf : List Pending → Option ContKey → Type 0
 HasEventIf pending None = ⊤
 HasEventIf pending (Some key) = HasEvent pending key
 
--- Why an event was not set, in the context that was left: the continuations are not live that ought to be, or the event
--- numbers are used up. Want of memory has no cause here.
+-- Why an event was not set: the continuations are not live that ought to be, or the event numbers are used up in the
+-- context that was left. Want of memory has no cause here.
 abbrev pub IsCause : Type 0 → SetFault → Context → Type 0
 IsCause Live F.NoMemory now = ⊤
 IsCause Live F.Dead now = Live → ⊥
@@ -309,7 +317,8 @@ abbrev pub IsLastMarked : Option ContKey → List (Option StageContinuation) →
 IsLastMarked key ts us = (a b : Context) → Keeps a b → HasEventIf b.log.state.pending key → (first : ℕ)
     → AreOfStages a.log.state.pending a.roles first ts → AreOfStages b.log.state.pending b.roles first us
 
--- Each continuation that was made before keeps its role and its event.
-abbrev pub KeepsMade : Context → Context → Type 0
-KeepsMade a b = (role : ℕ) (t : Option StageContinuation) → IsOfStageIf a.log.state.pending a.roles role t
-    → IsOfStageIf b.log.state.pending b.roles role t
+-- Each continuation that was made before keeps its role and its event, and is live if it was.
+pub record KeepsMade (a b : Context) : Type 0 where
+  pub of_stage : (role : ℕ) (t : Option StageContinuation) → IsOfStageIf a.log.state.pending a.roles role t
+      → IsOfStageIf b.log.state.pending b.roles role t
+  pub live : (key : ContKey) → IsLive a.log.state.live key → IsLive b.log.state.live key

@@ -1,5 +1,5 @@
 -- What holds of a chain with its body, as a world of a group.
-use Rattle.std.specs.Prelude.{◌≡◌, ℕ, ◌+◌, ◌*◌, ◌<◌, ◌≤◌, List, [], length, Bool, true, false, Option, Some, Result, IfErr, OnErr}
+use Rattle.std.specs.Prelude.{◌≡◌, ℕ, ◌+◌, ◌*◌, ◌<◌, ◌≤◌, List, [], length, Bool, true, Option, Some}
 use Rattle.ts_journal.specs.declared.entry.Pending.{Pending}
 use Rattle.ts_group.specs.declared.action.Named.{Named}
 use Rattle.ts_group.specs.declared.action.SetFault.{SetFault}
@@ -12,6 +12,7 @@ use Rattle.ts_transform.specs.Driving.{HasLiveIf, IsCause, IsRoused, IsWorkOf, S
 use Rattle.ts_transform.specs.Cover.{IsDriven}
 use Rattle.ts_transform.specs.declared.continuation.StageContinuation.{StageContinuation}
 use Rattle.ts_transform.specs.declared.world.ChainWorld.{ChainWorld}
+use Rattle.ts_transform.specs.declared.world.TheConstants.{FIRST}
 
 -- What holds of a world of one chain: its body was given whole, no event is periodic, and once it runs, while nothing
 -- was lost, each stage that must work has an event. Before it was started only the first stage has work.
@@ -19,7 +20,7 @@ pub record IsCovered {P : Type 0} (c : ChainState P) (ts : List (Option StageCon
     (pending : List Pending) (roles : List Named) : Type 0 where
   pub given : c.given ≡ true
   pub plain : AllPlain pending
-  pub driven : running ≡ true → IsDriven 1 c ts pending roles
+  pub driven : running ≡ true → IsDriven FIRST c ts pending roles
   pub fresh : length ts ≡ 0 → OnlyFirstWorks c
 
 -- what holds of such a world with these pending events and roles

@@ -2,10 +2,10 @@
 ghost use Rattle.std.specs.Prelude.{◌≡◌, ℕ, ◌+◌, ◌<◌, [], length, true, false, None, MatchOption};
 ghost use Rattle.ts_group.specs.Context.{IsSame};
 ghost use Rattle.ts_transform.specs.Flow.{OnlyFirstWorks};
-ghost use Rattle.ts_transform.specs.Driving.{ActsWithin, KeepsMade, KeepsOthers, SetsOnly};
+ghost use Rattle.ts_transform.specs.Driving.{ActsWithin, KeepsMade, SetsOnly};
 ghost use Rattle.ts_transform.specs.Cover.{IsRousing};
 ghost use Rattle.ts_transform.specs.Acting.{IsStage, StillGives};
-ghost use Rattle.ts_transform.specs.Driven.{Acts, HandlesDriven, HasAllLive, HasBegun, IsDrivenWhile, IsOfNoStage, Loses};
+ghost use Rattle.ts_transform.specs.Driven.{Acts, HandlesDriven, HasBegun, IsDrivenWhile, IsOfNoStage, KeepsRest, Loses};
 
 use crate::chain::Chain;
 use crate::continuation::StageContinuation;
@@ -91,7 +91,7 @@ impl<P: Transform + Drop> DrivenChain<P> {
         ensures chain { self.new.chain ≡ self.old.chain }
         ensures driven { OnlyFirstWorks self.old.chain
             → IsDrivenWhile first self.new cx.new.log.state.pending cx.new.roles }
-        ensures begun { HasBegun (HasAllLive self.new cx.new) self.new cx.new }
+        ensures begun { HasBegun self.new cx.new }
         ensures made { KeepsMade cx.old cx.new }
     {
         match begin(first, &self.chain, &mut self.table, cx) {
@@ -133,9 +133,9 @@ impl<P: Transform + Drop> DrivenChain<P> {
         ensures gives { StillGives P.rest self.old.chain self.new.chain
             self.old.table.items self.new.table.items cx.old cx.new }
         ensures driven { HandlesDriven first role event self.old self.new cx.old cx.new }
-        ensures others { KeepsOthers first self.old.table.items cx.old cx.new }
         ensures within { ActsWithin 4 cx.old cx.new }
-        ensures loses { Loses result self.old self.new cx.new }
+        ensures rest { KeepsRest first self.old self.new cx.old cx.new }
+        ensures loses { Loses result self.old self.new cx.old cx.new }
     {
         let Some(at) = self.place_of(first, role) else {
             return Ok(());

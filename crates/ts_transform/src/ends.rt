@@ -1,9 +1,9 @@
 //! What comes to a driven chain at its front, and what is taken from its end.
 ghost use Rattle.std.specs.Prelude.{◌≡◌, ℕ, ◌≤◌, ◌++◌, List, length, true, false, OnOk};
 ghost use Rattle.ts_transform.specs.Flow.{ChainState, Takes, TakesAway, client_wait};
-ghost use Rattle.ts_transform.specs.Driving.{AddsEvents, all_unroused};
+ghost use Rattle.ts_transform.specs.Driving.{AddsEvents};
 ghost use Rattle.ts_transform.specs.Cover.{IsDriven, OnlyRouses};
-ghost use Rattle.ts_transform.specs.Driven.{DrivenAgain, Gives, HasAllLive, IsDrivenWhile, Loses, StaysDriven};
+ghost use Rattle.ts_transform.specs.Driven.{DrivenAgain, Gives, HasAllLive, IsDrivenWhile, Loses, SameSeats, StaysDriven};
 
 use crate::continuation::Rouser;
 use crate::driven::DrivenChain;
@@ -21,9 +21,9 @@ impl<P: Transform + Drop> DrivenChain<P> {
         ensures gives { Gives result P.rest bytes.now self.old.chain self.new.chain }
         ensures driven { StaysDriven self.old self.new cx.old cx.new }
         ensures only { OnlyRouses P.pause self.new.chain self.old.table.items cx.old cx.new }
-        ensures adds { AddsEvents 1 (HasAllLive self.new cx.new) result cx.old cx.new }
-        ensures same { all_unroused self.new.table.items ≡ all_unroused self.old.table.items }
-        ensures loses { Loses result self.old self.new cx.new }
+        ensures adds { AddsEvents 1 (HasAllLive self.old cx.old) result cx.old cx.new }
+        ensures same { SameSeats self.old self.new cx.old cx.new }
+        ensures loses { Loses result self.old self.new cx.old cx.new }
     {
         if let Err(_) = self.chain.give(bytes) {
             self.lose(Loss::NoMemory);
@@ -39,9 +39,9 @@ impl<P: Transform + Drop> DrivenChain<P> {
         ensures chain { self.new.chain ≡ record self.old.chain { given = true } }
         ensures driven { StaysDriven self.old self.new cx.old cx.new }
         ensures only { OnlyRouses P.pause self.new.chain self.old.table.items cx.old cx.new }
-        ensures adds { AddsEvents 1 (HasAllLive self.new cx.new) result cx.old cx.new }
-        ensures same { all_unroused self.new.table.items ≡ all_unroused self.old.table.items }
-        ensures loses { Loses result self.old self.new cx.new }
+        ensures adds { AddsEvents 1 (HasAllLive self.old cx.old) result cx.old cx.new }
+        ensures same { SameSeats self.old self.new cx.old cx.new }
+        ensures loses { Loses result self.old self.new cx.old cx.new }
     {
         self.chain.give_end();
         self.rouse_first(cx)
@@ -54,9 +54,9 @@ impl<P: Transform + Drop> DrivenChain<P> {
         ensures takes { TakesAway P.rest n self.old.chain self.new.chain }
         ensures driven { StaysDriven self.old self.new cx.old cx.new }
         ensures only { OnlyRouses P.pause self.new.chain self.old.table.items cx.old cx.new }
-        ensures adds { AddsEvents 1 (HasAllLive self.new cx.new) result cx.old cx.new }
-        ensures same { all_unroused self.new.table.items ≡ all_unroused self.old.table.items }
-        ensures loses { Loses result self.old self.new cx.new }
+        ensures adds { AddsEvents 1 (HasAllLive self.old cx.old) result cx.old cx.new }
+        ensures same { SameSeats self.old self.new cx.old cx.new }
+        ensures loses { Loses result self.old self.new cx.old cx.new }
     {
         self.chain.take(n);
         self.rouse_last(cx)
@@ -69,9 +69,9 @@ impl<P: Transform + Drop> DrivenChain<P> {
         ensures driven { (first : ℕ) (c : ChainState P) → c.stages ≡ self.old.chain.stages
             → DrivenAgain first c self.old self.new cx.old cx.new }
         ensures only { OnlyRouses P.pause self.old.chain self.old.table.items cx.old cx.new }
-        ensures adds { AddsEvents 1 (HasAllLive self.new cx.new) result cx.old cx.new }
-        ensures same { all_unroused self.new.table.items ≡ all_unroused self.old.table.items }
-        ensures loses { Loses result self.old self.new cx.new }
+        ensures adds { AddsEvents 1 (HasAllLive self.old cx.old) result cx.old cx.new }
+        ensures same { SameSeats self.old self.new cx.old cx.new }
+        ensures loses { Loses result self.old self.new cx.old cx.new }
     {
         match rouse_if_ready(&self.chain, &mut self.table, 0, Rouser::Upstream, cx) {
             Ok(()) => Ok(()),
@@ -91,9 +91,9 @@ impl<P: Transform + Drop> DrivenChain<P> {
             → self.old.chain.given ≡ c.given
             → DrivenAgain first c self.old self.new cx.old cx.new }
         ensures only { OnlyRouses P.pause self.old.chain self.old.table.items cx.old cx.new }
-        ensures adds { AddsEvents 1 (HasAllLive self.new cx.new) result cx.old cx.new }
-        ensures same { all_unroused self.new.table.items ≡ all_unroused self.old.table.items }
-        ensures loses { Loses result self.old self.new cx.new }
+        ensures adds { AddsEvents 1 (HasAllLive self.old cx.old) result cx.old cx.new }
+        ensures same { SameSeats self.old self.new cx.old cx.new }
+        ensures loses { Loses result self.old self.new cx.old cx.new }
     {
         let Some(last) = self.chain.stages().checked_sub(1) else {
             return Ok(());

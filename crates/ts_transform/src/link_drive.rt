@@ -1,9 +1,7 @@
 //! A chain between two links, driven to its end by one who owns its group.
-ghost use Rattle.std.specs.Prelude.{◌≡◌, ◌≤◌, ◌<◌, ◌+◌, [], true, false, Ok, Err, OnOk};
-ghost use Rattle.ts_journal.specs.declared.entry.TheConstants.{GREATEST};
+ghost use Rattle.std.specs.Prelude.{◌≡◌, ◌≤◌, ◌<◌, ◌+◌, [], true, false, Ok, IfErr, OnOk};
 ghost use Rattle.ts_group.specs.Due.{IsDueFirst};
-ghost use Rattle.ts_transform.specs.declared.link_drive.DriveFault.TheVariants.{Spent};
-ghost use Rattle.ts_transform.specs.Carrying.{CarriesTo, IsCarriedGroup, MakesTurns, WritesWhole};
+ghost use Rattle.ts_transform.specs.Carrying.{CarriesTo, IsCarriedGroup, IsDriveCause, MakesTurns, WritesWhole};
 
 use crate::link_world::LinkWorld;
 use crate::transform::Transform;
@@ -37,7 +35,7 @@ fn take_turn<I: Link + Drop, K: Link + Drop, P: Transform + Drop>(
     ensures carries { CarriesTo P.rest I.tells K.tells I.look K.look group.old.world group.new.world }
     ensures turn { OnOk result ((group.new.cx.log.state.turns ≡ group.old.cx.log.state.turns + 1)
         × (group.old.cx.log.state.handled_count < group.new.cx.log.state.handled_count)) }
-    ensures spent { result ≡ Err Spent → GREATEST ≤ group.new.cx.log.state.turns }
+    ensures fault { IfErr result (λ fault. IsDriveCause fault group.old.cx group.new.cx) }
 {
     let Some(turn) = group.journal().turns().checked_add(1) else {
         return Err(DriveFault::Spent);
@@ -71,7 +69,7 @@ pub fn drive_links<I: Link + Drop, K: Link + Drop, P: Transform + Drop>(
     ensures done { result ≡ Ok true → (group.new.cx.log.state.pending ≡ [])
         × WritesWhole P.rest I.tells K.tells I.look K.look group.old.world group.new.world }
     ensures goes_on { result ≡ Ok false → MakesTurns turns group.old.cx group.new.cx }
-    ensures spent { result ≡ Err Spent → GREATEST ≤ group.new.cx.log.state.turns }
+    ensures fault { IfErr result (λ fault. IsDriveCause fault group.old.cx group.new.cx) }
 {
     let mut moment = 0;
     'turns: for made in 0..turns {

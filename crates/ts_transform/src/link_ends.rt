@@ -1,9 +1,11 @@
 //! The two ends of a chain between links: the continuations that read and write.
-ghost use Rattle.std.specs.Prelude.{◌≡◌, ℕ, ◌⊎◌, Some, true, false, is_ok, IfOk, IfErr, OnOk, ⊤};
+ghost use Rattle.std.specs.Prelude.{[], ◌∷◌, ◌≡◌, ℕ, ◌⊎◌, Some, true, false, is_ok, IfOk, IfErr, OnOk, ⊤};
+ghost use Rattle.ts_journal.specs.State.{IsLive};
 ghost use Rattle.ts_group.specs.Context.{role_at};
 ghost use Rattle.ts_group.specs.Entries.{Grows};
 ghost use Rattle.ts_group.specs.Changes.{SameEvents, KeepsKeys};
 ghost use Rattle.ts_transform.specs.Driving.{AddsEvents, HasLiveIf, IsNamedIf, IsRousedIf, IsRousingOf, KeepsStage, SetsOnly, unroused};
+ghost use Rattle.ts_transform.specs.Seats.{KeepsSeated};
 ghost use Rattle.ts_transform.specs.Loss.{IsCauseOf, making_loss};
 
 use crate::continuation::{Rouser, StageContinuation, rouse};
@@ -18,6 +20,7 @@ pub fn make_end(role: u32, cx: &mut Cx) -> Result<StageContinuation, MakeFault>
     ensures events { SameEvents cx.old.log.state cx.new.log.state }
     ensures keys { KeepsKeys cx.old.log.state cx.new.log.state cx.old.roles cx.new.roles }
     ensures named { IfOk result (λ t. (role_at t.key.index cx.new.roles ≡ Some role) × (t.roused ≡ false)) }
+    ensures live { IfOk result (λ t. IsLive cx.new.log.state.live t.key) }
     ensures cause { IfErr result (λ fault. IsCauseOf ⊤ (making_loss fault) cx.new) }
 {
     let key = cx.make(role)?;
@@ -52,6 +55,7 @@ pub fn rouse_end(
     ensures rests { (must ≡ false) ⊎ IsRousedIf slot.old
         → (slot.new ≡ slot.old) × (cx.new ≡ cx.old) × (is_ok result ≡ true) }
     ensures roused { must ≡ true → OnOk result (IsRousedIf slot.new) }
+    ensures seated { KeepsSeated (slot.old ∷ []) (slot.new ∷ []) cx.old cx.new }
 {
     if !must {
         return Ok(());

@@ -1,12 +1,13 @@
 //! Chains between two links, driven to their ends.
-ghost use Rattle.std.specs.Prelude.{◌≡◌, false, IfOk};
+ghost use Rattle.std.specs.Prelude.{◌≡◌, true, false, IfOk, OnOk};
 ghost use Rattle.ts_transform.specs.Carrying.{IsCarriedGroup};
 
 use crate::tests::{Tail, counting, tails};
-use crate::{Chain, LinkWorld, Loss, drive_links};
+use crate::{Chain, LinkWorld, drive_links};
 use std::alloc::Global;
 use std::test::Fail;
 use ts_group::Group;
+use ts_journal::{ContKey, Event};
 use ts_link::{MemLink, Octets};
 
 // More turns than any of the runs takes.
@@ -43,7 +44,7 @@ const SINGLE: Plan = Plan {
 
 // What came of a run: whether the whole body was written, and how many bytes of it; how often either link made its
 // caller wait; the most bytes that waited at one boundary; and whether it was aborted or lost.
-#[derive(Clone, Copy, Debug, PartialEq, Eq)]
+#[derive(Drop)]
 struct Carried {
     is_whole: bool,
     written: usize,
@@ -51,7 +52,7 @@ struct Carried {
     most: usize,
     is_aborted: bool,
     runs: bool,
-    lost: Option<Loss>,
+    is_lost: bool,
 }
 
 // The input of a plan.
@@ -102,6 +103,63 @@ fn begin(alloc: Global, plan: &Plan) -> Result<Group<Links>, Fail>
     Ok(group)
 }
 
+// Begins the next turn.
+fn begin_turn(group: &mut Group<Links>) -> Result<(), Fail>
+    requires idle { group.old.cx.log.state.held ≡ false }
+    requires carried { IsCarriedGroup group.old }
+    ensures turn { OnOk result (group.new.cx.log.state.held ≡ true) }
+    ensures carried { OnOk result (IsCarriedGroup group.new) }
+{
+    let Some(turn) = group.journal().turns().checked_add(1) else {
+        return Err("a turn is left")?;
+    };
+    group.begin_turn(turn, 0, 0)?;
+    Ok(())
+}
+
+// Makes a turn in which the continuation of a key is called with an event.
+fn tell(group: &mut Group<Links>, key: ContKey, event: Event) -> Result<(), Fail>
+    requires idle { group.old.cx.log.state.held ≡ false }
+    requires carried { IsCarriedGroup group.old }
+    ensures idle { OnOk result (group.new.cx.log.state.held ≡ false) }
+    ensures carried { OnOk result (IsCarriedGroup group.new) }
+{
+    begin_turn(group)?;
+    group.cx().call(key, event)?;
+    group.give_turn();
+    Ok(())
+}
+
+// Makes a turn in which a continuation of role 0 is made, which is that of nobody.
+fn make_stranger(group: &mut Group<Links>) -> Result<(), Fail>
+    requires idle { group.old.cx.log.state.held ≡ false }
+    requires carried { IsCarriedGroup group.old }
+    ensures idle { OnOk result (group.new.cx.log.state.held ≡ false) }
+    ensures carried { OnOk result (IsCarriedGroup group.new) }
+{
+    begin_turn(group)?;
+    group.cx().make(0)?;
+    group.give_turn();
+    Ok(())
+}
+
+// Whether three bytes come whole where a continuation is told twice of an event after the first turn: that of the writer
+// is the first, then come those of the reader, of the stage, and of nobody.
+fn runs_through(alloc: Global, place: usize, event: Event) -> Result<bool, Fail> {
+    let mut group = begin(alloc, &SINGLE)?;
+    drive_links(&mut group, 1)?;
+    make_stranger(&mut group)?;
+    let Some(key) = group.journal().live().get(place).copied() else {
+        return Err("there is such a continuation")?;
+    };
+    tell(&mut group, key, event)?;
+    tell(&mut group, key, event)?;
+    run(&mut group)?;
+    let (world, _) = group.into_parts();
+    let came = outcome(world, 0, b"abc");
+    Ok(came.is_whole && came.runs && !came.is_aborted && !came.is_lost)
+}
+
 // The most bytes that wait at one boundary of a chain.
 fn widest(chain: &Chain<Tail>) -> usize {
     let mut most = chain.waiting(chain.stages());
@@ -130,7 +188,7 @@ fn run(group: &mut Group<Links>) -> Result<usize, Fail>
 fn outcome(world: Links, most: usize, body: &[u8]) -> Carried {
     let is_aborted = world.is_aborted();
     let runs = world.is_running();
-    let lost = world.lost();
+    let is_lost = world.lost().is_some();
     let (input, output) = world.into_links();
     let written = output.written();
     Carried {
@@ -140,7 +198,7 @@ fn outcome(world: Links, most: usize, body: &[u8]) -> Carried {
         most,
         is_aborted,
         runs,
-        lost,
+        is_lost,
     }
 }
 
@@ -156,13 +214,13 @@ fn carry(alloc: Global, plan: &Plan) -> Result<Carried, Fail> {
 // Whether a run wrote its whole body, with so many waits.
 fn is_carried(alloc: Global, plan: Plan, waits: (u64, u64)) -> Result<bool, Fail> {
     let came = carry(alloc, &plan)?;
-    Ok(came.is_whole && came.waits == waits && came.runs && !came.is_aborted && came.lost == None)
+    Ok(came.is_whole && came.waits == waits && came.runs && !came.is_aborted && !came.is_lost)
 }
 
 // Whether a run was aborted that had written at most so many bytes.
 fn is_cut_off(alloc: Global, plan: Plan, most: usize) -> Result<bool, Fail> {
     let came = carry(alloc, &plan)?;
-    Ok(came.is_aborted && came.written <= most && came.runs && came.lost == None)
+    Ok(came.is_aborted && came.written <= most && came.runs && !came.is_lost)
 }
 
 #[test]
@@ -194,6 +252,24 @@ fn a_body_comes_whole_through_a_chain_to_another_link(rt: HostRuntime) -> Result
     ];
     for (plan, waits) in cases {
         assert!(rt; is_carried(rt.alloc(), plan, waits)?);
+    }
+    Ok(())
+}
+
+#[test]
+fn no_event_of_any_kind_ends_the_run_between_links(rt: HostRuntime) -> Result<(), Fail> {
+    let events = [
+        Event::Error,
+        Event::ReadReady,
+        Event::Hook,
+        Event::WriteComplete,
+        Event::Timeout,
+    ];
+    for event in events {
+        assert!(rt; runs_through(rt.alloc(), 1, event)?);
+        assert!(rt; runs_through(rt.alloc(), 2, event)?);
+        assert!(rt; runs_through(rt.alloc(), 3, event)?);
+        assert!(rt; runs_through(rt.alloc(), 4, event)?);
     }
     Ok(())
 }

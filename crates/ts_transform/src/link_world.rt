@@ -6,10 +6,12 @@ ghost use Rattle.ts_group.specs.declared.world.Want.TheVariants as Want;
 ghost use Rattle.ts_group.specs.Calls.{IsCalled};
 ghost use Rattle.ts_group.specs.Context.{IsSame};
 ghost use Rattle.ts_group.specs.Entries.{Grows};
-ghost use Rattle.ts_transform.specs.Flow.{IsFinished, aborted, compose, flow, fresh_stage};
-ghost use Rattle.ts_transform.specs.Driving.{ActsWithin, IsNamedIf, IsRousedIf};
-ghost use Rattle.ts_transform.specs.Driven.{HasBegun, SameCourse};
-ghost use Rattle.ts_transform.specs.Carrying.{AreEndsRoused, AreLinked, HandlesCarried, HandlesJoined, HandlesWaits, HasLinkBegun, HasNoDuty, HasStepped, InputWaits, IsCarried, IsOfNobody, IsSameBut, KeepsCourse, KeepsReader, KeepsWriter, LacksMemory, MayBreak, Moves, OutputWaits, RetriesRead, RetriesWrite, RousesEnd, StaysJoined, Steps, TriesAgain};
+ghost use Rattle.ts_transform.specs.declared.link_world.TheConstants.{READER, WRITER};
+ghost use Rattle.ts_transform.specs.Flow.{IsFinished, MustRead, MustWrite, aborted, compose, flow, fresh_stage};
+ghost use Rattle.ts_transform.specs.Driving.{ActsWithin, IsNamedIf, IsRousedIf, SetsOnly};
+ghost use Rattle.ts_transform.specs.Driven.{SameCourse};
+ghost use Rattle.ts_transform.specs.Along.{ActsAlong, HandlesAlong, HandlesEnd, ReadsOnce, RousesAnEnd, SetsForDuty, WorksAlong, WritesOnce};
+ghost use Rattle.ts_transform.specs.Carrying.{AreEndsRoused, HandlesCarried, HandlesJoined, HandlesWaits, HasBegunAlong, HasLinkBegun, HasNoDuty, HasStepped, InputWaits, IsCarried, IsOfNobody, IsSameBut, KeepsCourse, KeepsReader, KeepsWriter, LacksMemory, Moves, OutputWaits, RetriesRead, RetriesWrite, RousesEnd, StaysJoined, StepsAlong, TriesAgain};
 
 use crate::chain::Chain;
 use crate::continuation::{StageContinuation, works};
@@ -26,15 +28,17 @@ use ts_vconn::Pulled;
 /// How long a step waits that found a link not ready, in milliseconds.
 pub const RETRY: u64 = 10;
 
-// The roles of the writer, of the reader, and of the first stage.
-const WRITER: u32 = 1;
+/// The role of the writer.
+pub const WRITER: u32 = 1;
 
-const READER: u32 = 2;
+/// The role of the reader.
+pub const READER: u32 = 2;
 
-const FIRST: u32 = 3;
+/// The role of the first stage.
+pub const FIRST: u32 = 3;
 
-/// A chain that reads its body from one link and writes to another. The writer is the continuation of role 1, the reader
-/// of role 2, and the stages have the roles from 3 on.
+/// A chain that reads its body from one link and writes to another. Its continuations are the writer, the reader, and
+/// one for each stage, with the roles from the first on.
 #[derive(Drop)]
 pub struct LinkWorld<I, K, P> {
     input: I,
@@ -141,9 +145,9 @@ impl<I: Link + Drop, K: Link + Drop, P: Transform + Drop> LinkWorld<I, K, P> {
         requires turn { cx.old.log.state.held ≡ true }
         ensures same { IsSameBut self.old self.new }
         ensures joined { StaysJoined self.old self.new cx.old cx.new }
-        ensures course { KeepsCourse self.old self.new cx.new }
+        ensures course { KeepsCourse self.old self.new cx.old cx.new }
         ensures within { ActsWithin 1 cx.old cx.new }
-        ensures rouses { RousesEnd self.old.writer must 1 after self.old self.new cx.old cx.new }
+        ensures rouses { RousesEnd self.old.writer must WRITER after self.old self.new cx.old cx.new }
         ensures roused { self.new.driven.running ≡ true → must ≡ true → IsRousedIf self.new.writer }
         ensures kept { KeepsReader self.old self.new }
     {
@@ -161,9 +165,9 @@ impl<I: Link + Drop, K: Link + Drop, P: Transform + Drop> LinkWorld<I, K, P> {
         requires turn { cx.old.log.state.held ≡ true }
         ensures same { IsSameBut self.old self.new }
         ensures joined { StaysJoined self.old self.new cx.old cx.new }
-        ensures course { KeepsCourse self.old self.new cx.new }
+        ensures course { KeepsCourse self.old self.new cx.old cx.new }
         ensures within { ActsWithin 1 cx.old cx.new }
-        ensures rouses { RousesEnd self.old.reader must 2 after self.old self.new cx.old cx.new }
+        ensures rouses { RousesEnd self.old.reader must READER after self.old self.new cx.old cx.new }
         ensures roused { self.new.driven.running ≡ true → must ≡ true → IsRousedIf self.new.reader }
         ensures kept { KeepsWriter self.old self.new }
     {
@@ -181,11 +185,12 @@ impl<I: Link + Drop, K: Link + Drop, P: Transform + Drop> LinkWorld<I, K, P> {
         requires turn { cx.old.log.state.held ≡ true }
         ensures moves { Moves P.rest I.tells K.tells I.look K.look self.old self.new }
         ensures joined { StaysJoined self.old self.new cx.old cx.new }
-        ensures course { KeepsCourse self.old self.new cx.new }
-        ensures within { ActsWithin 1 cx.old cx.new }
-        ensures retries { IsNamedIf cx.old.roles 2 self.old.reader → InputWaits I.look self.old self.new
+        ensures course { KeepsCourse self.old self.new cx.old cx.new }
+        ensures duty { SetsForDuty P.pause self.old self.new cx.old cx.new }
+        ensures retries { IsNamedIf cx.old.roles READER self.old.reader → InputWaits I.look self.old self.new
             → RetriesRead self.old self.new cx.old cx.new }
         ensures output { self.new.output ≡ self.old.output }
+        ensures does { MustRead self.old.driven.chain → ReadsOnce I.look self.old self.new }
     {
         if self.driven.chain.is_given() {
             return;
@@ -214,11 +219,12 @@ impl<I: Link + Drop, K: Link + Drop, P: Transform + Drop> LinkWorld<I, K, P> {
         requires turn { cx.old.log.state.held ≡ true }
         ensures moves { Moves P.rest I.tells K.tells I.look K.look self.old self.new }
         ensures joined { StaysJoined self.old self.new cx.old cx.new }
-        ensures course { KeepsCourse self.old self.new cx.new }
-        ensures within { ActsWithin 1 cx.old cx.new }
-        ensures retries { IsNamedIf cx.old.roles 1 self.old.writer → OutputWaits K.look self.old self.new
+        ensures course { KeepsCourse self.old self.new cx.old cx.new }
+        ensures duty { SetsForDuty P.pause self.old self.new cx.old cx.new }
+        ensures retries { IsNamedIf cx.old.roles WRITER self.old.writer → OutputWaits K.look self.old self.new
             → RetriesWrite self.old self.new cx.old cx.new }
         ensures input { self.new.input ≡ self.old.input }
+        ensures does { MustWrite self.old.driven.chain → WritesOnce K.look self.old self.new }
     {
         let Some(block) = self.driven.chain.out_block() else {
             return;
@@ -240,12 +246,14 @@ impl<I: Link + Drop, K: Link + Drop, P: Transform + Drop> LinkWorld<I, K, P> {
     fn write_at(&mut self, event: Event, cx: &mut Cx)
         requires turn { cx.old.log.state.held ≡ true }
         ensures moves { Moves P.rest I.tells K.tells I.look K.look self.old self.new }
-        ensures joined { HandlesJoined 1 event self.old self.new cx.old cx.new }
-        ensures course { KeepsCourse self.old self.new cx.new }
-        ensures within { ActsWithin 1 cx.old cx.new }
-        ensures retries { IsNamedIf cx.old.roles 1 self.old.writer → OutputWaits K.look self.old self.new
+        ensures joined { HandlesJoined WRITER event self.old self.new cx.old cx.new }
+        ensures course { KeepsCourse self.old self.new cx.old cx.new }
+        ensures duty { SetsForDuty P.pause self.old self.new cx.old cx.new }
+        ensures retries { IsNamedIf cx.old.roles WRITER self.old.writer → OutputWaits K.look self.old self.new
             → RetriesWrite self.old self.new cx.old cx.new }
         ensures input { self.new.input ≡ self.old.input }
+        ensures duties { HandlesEnd event (MustWrite self.old.driven.chain → WritesOnce K.look self.old self.new)
+            self.old self.new cx.old cx.new }
     {
         if works(event) {
             unrouse(&mut self.writer);
@@ -257,12 +265,14 @@ impl<I: Link + Drop, K: Link + Drop, P: Transform + Drop> LinkWorld<I, K, P> {
     fn read_at(&mut self, event: Event, cx: &mut Cx)
         requires turn { cx.old.log.state.held ≡ true }
         ensures moves { Moves P.rest I.tells K.tells I.look K.look self.old self.new }
-        ensures joined { HandlesJoined 2 event self.old self.new cx.old cx.new }
-        ensures course { KeepsCourse self.old self.new cx.new }
-        ensures within { ActsWithin 1 cx.old cx.new }
-        ensures retries { IsNamedIf cx.old.roles 2 self.old.reader → InputWaits I.look self.old self.new
+        ensures joined { HandlesJoined READER event self.old self.new cx.old cx.new }
+        ensures course { KeepsCourse self.old self.new cx.old cx.new }
+        ensures duty { SetsForDuty P.pause self.old self.new cx.old cx.new }
+        ensures retries { IsNamedIf cx.old.roles READER self.old.reader → InputWaits I.look self.old self.new
             → RetriesRead self.old self.new cx.old cx.new }
         ensures output { self.new.output ≡ self.old.output }
+        ensures duties { HandlesEnd event (MustRead self.old.driven.chain → ReadsOnce I.look self.old self.new)
+            self.old self.new cx.old cx.new }
     {
         if works(event) {
             unrouse(&mut self.reader);
@@ -275,11 +285,11 @@ impl<I: Link + Drop, K: Link + Drop, P: Transform + Drop> LinkWorld<I, K, P> {
         requires turn { cx.old.log.state.held ≡ true }
         ensures moves { Moves P.rest I.tells K.tells I.look K.look self.old self.new }
         ensures joined { HandlesJoined role event self.old self.new cx.old cx.new }
-        ensures course { KeepsCourse self.old self.new cx.new }
+        ensures course { WorksAlong P.rest P.pause I.look K.look role event self.old self.new cx.old cx.new }
         ensures within { ActsWithin 4 cx.old cx.new }
-        ensures reads { IsNamedIf cx.old.roles 2 self.old.reader → InputWaits I.look self.old self.new
+        ensures reads { IsNamedIf cx.old.roles READER self.old.reader → InputWaits I.look self.old self.new
             → RetriesRead self.old self.new cx.old cx.new }
-        ensures writes { IsNamedIf cx.old.roles 1 self.old.writer → OutputWaits K.look self.old self.new
+        ensures writes { IsNamedIf cx.old.roles WRITER self.old.writer → OutputWaits K.look self.old self.new
             → RetriesWrite self.old self.new cx.old cx.new }
         ensures other { IsOfNobody role self.old → (self.new ≡ self.old) × IsSame cx.old cx.new }
     {
@@ -299,8 +309,10 @@ impl<I: Link + Drop, K: Link + Drop, P: Transform + Drop> LinkWorld<I, K, P> {
         ensures joined { StaysJoined self.old self.new cx.old cx.new }
         ensures ends { self.new.driven.running ≡ true
             → AreEndsRoused self.new.driven.chain self.new.writer self.new.reader }
-        ensures course { KeepsCourse self.old self.new cx.new }
+        ensures course { KeepsCourse self.old self.new cx.old cx.new }
         ensures within { ActsWithin 2 cx.old cx.new }
+        ensures only { IsNamedIf cx.old.roles WRITER self.old.writer → IsNamedIf cx.old.roles READER self.old.reader
+            → SetsOnly (RousesAnEnd self.old.driven.chain cx.old.moment cx.old.roles) cx.old cx.new }
         ensures idle { (self.old.driven.running ≡ false)
             ⊎ AreEndsRoused self.old.driven.chain self.old.writer self.old.reader
             → (self.new ≡ self.old) × (cx.new ≡ cx.old) }
@@ -332,10 +344,10 @@ impl<I: Link + Drop, K: Link + Drop, P: Transform + Drop> LinkWorld<I, K, P> {
     // must work has an event. Where something was lost before, nothing is done.
     fn step(&mut self, role: u32, event: Event, cx: &mut Cx)
         requires turn { cx.old.log.state.held ≡ true }
-        ensures steps { Steps P.rest I.tells K.tells I.look K.look self.old self.new }
+        ensures steps { StepsAlong P.rest I.tells K.tells I.look K.look self.old self.new }
         ensures carried { HandlesCarried role event self.old self.new cx.old cx.new }
         ensures again { HandlesWaits role event I.look K.look self.old self.new cx.old cx.new }
-        ensures loses { MayBreak self.old self.new cx.new }
+        ensures acts { HandlesAlong P.rest P.pause I.look K.look role event self.old self.new cx.old cx.new }
         ensures within { ActsWithin 6 cx.old cx.new }
         ensures rests { HasNoDuty role self.old → (self.new ≡ self.old) × IsSame cx.old cx.new }
         ensures stops { self.old.driven.running ≡ true → LacksMemory self.new → self.new.aborted ≡ true }
@@ -358,7 +370,7 @@ impl<I: Link + Drop, K: Link + Drop, P: Transform + Drop> LinkWorld<I, K, P> {
         ensures carried { IsCarried self.old cx.old.log.state.pending cx.old.roles
             → IsCarried self.new cx.new.log.state.pending cx.new.roles }
         ensures within { ActsWithin 3 cx.old cx.new }
-        ensures cause { HasBegun (AreLinked self.new cx.new) self.new.driven cx.new }
+        ensures cause { HasBegunAlong self.new cx.new }
     {
         match make_end(WRITER, cx) {
             Ok(writer) => self.writer = Some(writer),
@@ -437,8 +449,9 @@ impl<I: Link + Drop, K: Link + Drop, P: Transform + Drop> World for LinkWorld<I,
         ensures sound { IsCarried self.new cx.new.log.state.pending cx.new.roles }
         ensures within { ActsWithin 3 cx.old cx.new }
         ensures begun { HasLinkBegun self.old self.new }
-        ensures cause { self.old.writer ≡ None
-            → HasBegun (AreLinked self.new cx.new) self.new.driven cx.new }
+        ensures cause { self.old.writer ≡ None → HasBegunAlong self.new cx.new }
+        ensures again { (self.old.writer ≡ None → ⊥)
+            → (self.new ≡ self.old) × IsSame cx.old cx.new }
     {
         if self.writer.is_none() {
             self.begin(cx);
@@ -451,7 +464,7 @@ impl<I: Link + Drop, K: Link + Drop, P: Transform + Drop> World for LinkWorld<I,
         ensures sound { (result ≡ Want.Nothing) × IsCarried self.new cx.new.log.state.pending cx.new.roles }
         ensures steps { HasStepped P.rest I.tells K.tells I.look K.look self.old self.new }
         ensures again { TriesAgain I.look K.look self.old self.new cx.old cx.new }
-        ensures loses { MayBreak self.old self.new cx.new }
+        ensures acts { ActsAlong P.rest P.pause I.look K.look role event self.old self.new cx.old cx.new }
         ensures within { ActsWithin 6 cx.old cx.new }
         ensures rests { (self.old.driven.running ≡ false) ⊎ IsOfNobody role self.old
             → (self.new ≡ self.old) × IsSame cx.old cx.new }

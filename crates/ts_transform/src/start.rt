@@ -1,10 +1,11 @@
 //! How the stages of a chain begin: a continuation for each, and an event for the first.
 ghost use Rattle.std.specs.Prelude.{◌≡◌, ℕ, ◌+◌, ◌<◌, [], length, true, false, Some, OnOk, IfOk, IfErr, IfSome, ⊤};
+ghost use Rattle.ts_journal.specs.State.{IsLive};
 ghost use Rattle.ts_group.specs.Context.{role_at};
 ghost use Rattle.ts_group.specs.Entries.{Grows};
 ghost use Rattle.ts_group.specs.Changes.{SameEvents, KeepsKeys};
 ghost use Rattle.ts_transform.specs.Flow.{OnlyFirstWorks};
-ghost use Rattle.ts_transform.specs.Driving.{ActsWithin, AreOfStages, KeepsMade, SetsOnly};
+ghost use Rattle.ts_transform.specs.Driving.{ActsWithin, AreOfStages, EachIsLive, KeepsMade, SetsOnly};
 ghost use Rattle.ts_transform.specs.Cover.{AreAllLive, IsDriven, IsRousing};
 ghost use Rattle.ts_transform.specs.Loss.{IsCauseOf, making_loss};
 
@@ -34,6 +35,7 @@ fn make_one(first: u32, at: usize, cx: &mut Cx) -> Result<StageContinuation, Mak
     ensures keys { KeepsKeys cx.old.log.state cx.new.log.state cx.old.roles cx.new.roles }
     ensures named { IfOk result
         (λ t. (role_at t.key.index cx.new.roles ≡ Some (first + at)) × (t.roused ≡ false)) }
+    ensures live { IfOk result (λ t. IsLive cx.new.log.state.live t.key) }
     ensures cause { IfErr result (λ fault. IsCauseOf ⊤ (making_loss fault) cx.new) }
 {
     let Some(role) = role_of(first, at) else {
@@ -56,9 +58,10 @@ fn make_all(
     ensures turn { cx.new.log.state.held ≡ true }
     ensures events { SameEvents cx.old.log.state cx.new.log.state }
     ensures ok { OnOk result ((length table.new.items ≡ stages)
-        × AreOfStages cx.new.log.state.pending cx.new.roles first table.new.items) }
+        × AreOfStages cx.new.log.state.pending cx.new.roles first table.new.items
+        × EachIsLive cx.new.log.state.live table.new.items) }
     ensures cause { IfErr result (λ fault. IsCauseOf ⊤ (making_loss fault) cx.new) }
-    ensures made { KeepsMade cx.old cx.new }
+    ensures keys { KeepsKeys cx.old.log.state cx.new.log.state cx.old.roles cx.new.roles }
 {
     for at in 0..stages {
         let continuation = make_one(first, at, cx)?;
@@ -84,9 +87,9 @@ pub fn begin<P: Transform + Drop>(
     ensures only { SetsOnly (IsRousing P.pause first chain.now [] cx.old.moment cx.new.roles) cx.old cx.new }
     ensures driven { OnOk result (OnlyFirstWorks chain.now
         → IsDriven first chain.now table.new.items cx.new.log.state.pending cx.new.roles) }
-    ensures cause { IfErr result
-        (λ loss. IsCauseOf (AreAllLive chain.now table.new.items cx.new) loss cx.new) }
+    ensures cause { IfErr result (λ loss. IsCauseOf ⊤ loss cx.new) }
     ensures made { KeepsMade cx.old cx.new }
+    ensures live { OnOk result (AreAllLive chain.now table.new.items cx.new) }
 {
     if let Err(fault) = make_all(first, table, chain.stages(), cx) {
         return Err(Loss::of_make(&fault));

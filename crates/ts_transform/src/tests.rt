@@ -1,5 +1,5 @@
 //! A chain of two transforms, worked stage by stage.
-ghost use Rattle.std.specs.Prelude.{◌++◌};
+ghost use Rattle.std.specs.Prelude.{◌≡◌, ◌++◌, false, IfOk};
 
 use crate::{Chain, Pumped, Transform};
 use std::alloc::Global;
@@ -61,19 +61,45 @@ pub fn counting(alloc: Global, len: u32) -> Result<Vec<u8>, NoMemory> {
     Ok(body)
 }
 
+// A chain of tails of these texts, which got a body.
+fn chain_over(alloc: Global, texts: &[&[u8]], body: &[u8]) -> Result<Chain<Tail>, Fail>
+    ensures goes_on { IfOk result (λ c. c.given ≡ false) }
+{
+    let mut parts = Vec::new(alloc);
+    for text in texts {
+        let line = Octets::copy_of(alloc, *text)?;
+        parts.push(Tail::fresh(alloc, &line)?)?;
+    }
+    let mut chain = Chain::make(alloc, parts)?;
+    chain.give(body)?;
+    Ok(chain)
+}
+
+/// Lets the stage at a place work, and tells whether it answers so.
+pub fn answers(chain: &mut Chain<Tail>, at: usize, answer: Pumped) -> Result<bool, Fail> {
+    if at >= chain.stages() {
+        return Err("there is such a stage")?;
+    }
+    Ok(chain.pump(at)? == answer)
+}
+
+// Takes the first block that waits for the client, and tells whether it is this text and all is finished then.
+fn ends_with(chain: &mut Chain<Tail>, text: &[u8]) -> bool {
+    let Some(block) = chain.out_block() else {
+        return false;
+    };
+    let is_text = block == text;
+    let len = block.len();
+    chain.take(len);
+    is_text && chain.is_finished()
+}
+
 #[test]
 fn two_tails_are_written_in_the_order_of_the_chain(rt: HostRuntime) -> Result<(), Fail> {
-    let mut parts = Vec::new(rt.alloc());
-    for tail in [b"1".as_slice(), b"2".as_slice()] {
-        let line = Octets::copy_of(rt.alloc(), tail)?;
-        parts.push(Tail::fresh(rt.alloc(), &line)?)?;
-    }
-    let mut chain = Chain::make(rt.alloc(), parts)?;
-    chain.give(b"ab")?;
+    let mut chain = chain_over(rt.alloc(), &[b"1".as_slice(), b"2".as_slice()], b"ab")?;
     chain.give_end();
-    assert_eq!(rt; chain.stages(), 2);
-    assert_eq!(rt; chain.waiting(0), 2);
-    let answers = [
+    assert!(rt; chain.stages() == 2 && chain.waiting(0) == 2);
+    let rows = [
         (1, Pumped::Idle),
         (0, Pumped::Moved(2)),
         (1, Pumped::Moved(2)),
@@ -82,34 +108,20 @@ fn two_tails_are_written_in_the_order_of_the_chain(rt: HostRuntime) -> Result<()
         (1, Pumped::Moved(1)),
         (1, Pumped::Ended),
     ];
-    for (stage, answer) in answers {
-        assert!(rt; stage < chain.stages());
-        assert_eq!(rt; chain.pump(stage)?, answer, "stage {stage}");
+    for (at, answer) in rows {
+        assert!(rt; answers(&mut chain, at, answer)?);
     }
     assert!(rt; !chain.is_finished());
-    assert_eq!(rt; chain.out_block(), Some(b"ab12".as_slice()));
-    chain.take(4);
-    assert!(rt; chain.is_finished());
+    assert!(rt; ends_with(&mut chain, b"ab12"));
     Ok(())
 }
 
 #[test]
 fn a_stage_is_blocked_where_65_536_bytes_wait_after_it(rt: HostRuntime) -> Result<(), Fail> {
-    let mut parts = Vec::new(rt.alloc());
-    parts.push(Tail {
-        text: Octets::copy_of(rt.alloc(), b"")?,
-        pause: 0,
-    })?;
-    let mut chain = Chain::make(rt.alloc(), parts)?;
-    chain.give(vec![in rt.alloc(); b'x'; 65_537]?.as_slice())?;
-    let answers = [
-        Pumped::Moved(32_768),
-        Pumped::Moved(32_768),
-        Pumped::Blocked { waiting: 65_536 },
-    ];
-    for answer in answers {
-        assert!(rt; 0 < chain.stages());
-        assert_eq!(rt; chain.pump(0)?, answer);
-    }
+    let body = vec![in rt.alloc(); b'x'; 65_537]?;
+    let mut chain = chain_over(rt.alloc(), &[b"".as_slice()], body.as_slice())?;
+    assert!(rt; answers(&mut chain, 0, Pumped::Moved(32_768))?);
+    assert!(rt; answers(&mut chain, 0, Pumped::Moved(32_768))?);
+    assert!(rt; answers(&mut chain, 0, Pumped::Blocked { waiting: 65_536 })?);
     Ok(())
 }

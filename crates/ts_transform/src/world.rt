@@ -13,6 +13,7 @@ ghost use Rattle.ts_transform.specs.Driving.{ActsWithin, IsRoused, SetsFew, Sets
 ghost use Rattle.ts_transform.specs.Cover.{IsAwake, IsRousing};
 ghost use Rattle.ts_transform.specs.Acting.{IsStage};
 ghost use Rattle.ts_transform.specs.Driven.{Acts, HasAllLive, HasBegun, HasBegunFrom, IsMarkedFor, IsOfNoStage, MarkLoses, MayLose, MayWake, SameCourse};
+ghost use Rattle.ts_transform.specs.declared.world.TheConstants.{FIRST};
 ghost use Rattle.ts_transform.specs.World.{GoesOnWith, IsSound};
 
 use crate::chain::Chain;
@@ -25,14 +26,14 @@ use ts_group::{Asked, Cx, SetFault, Want, World};
 use ts_journal::{ContKey, Event, Slotted};
 use ts_link::{NoMemory, Octets};
 
-/// A chain with its body. Each stage is a continuation, with the role of its place counted from 1.
+/// A chain with its body. Each stage is a continuation, with the roles from the first on.
 #[derive(Drop)]
 pub struct ChainWorld<P> {
     pub(crate) driven: DrivenChain<P>,
 }
 
-// The role of the first stage.
-const FIRST: u32 = 1;
+/// The role of the first stage.
+pub const FIRST: u32 = 1;
 
 impl<P: Transform + Drop> ChainWorld<P> {
     /// A chain of these parts, the first of which acts first, with the whole body before it. It was not started.
@@ -214,10 +215,10 @@ impl<P: Transform + Drop> World for ChainWorld<P> {
         ensures grows { Grows cx.old cx.new }
         ensures sound { IsSound self.new cx.new.log.state.pending cx.new.roles }
         ensures few { SetsFew 1 cx.old cx.new }
-        ensures only { SetsOnly (IsRousing P.pause 1 self.old.driven.chain self.old.driven.table.items
+        ensures only { SetsOnly (IsRousing P.pause FIRST self.old.driven.chain self.old.driven.table.items
             cx.old.moment cx.new.roles) cx.old cx.new }
         ensures begun { (length self.old.driven.table.items ≡ 0
-            → HasBegun (HasAllLive self.new.driven cx.new) self.new.driven cx.new)
+            → HasBegun self.new.driven cx.new)
             × (self.new.driven.chain ≡ self.old.driven.chain) }
         ensures again { (length self.old.driven.table.items ≡ 0 → ⊥)
             → (self.new ≡ self.old) × IsSame cx.old cx.new }
@@ -233,13 +234,13 @@ impl<P: Transform + Drop> World for ChainWorld<P> {
         ensures sound { (result ≡ Want.Nothing) × IsSound self.new cx.new.log.state.pending cx.new.roles }
         ensures within { ActsWithin 4 cx.old cx.new }
         ensures goes_on { GoesOnWith P.rest self.old self.new cx.old cx.new }
-        ensures loses { MayLose (HasAllLive self.new.driven cx.new)
+        ensures loses { MayLose (HasAllLive self.old.driven cx.old)
             self.old.driven self.new.driven cx.new }
 
         // The stage of the role handles the event; of another role all is left as it was.
-        ensures acts { (at : ℕ) → role ≡ 1 + at → IsStage self.old.driven.chain self.old.driven.table.items at
+        ensures acts { (at : ℕ) → role ≡ FIRST + at → IsStage self.old.driven.chain self.old.driven.table.items at
             → Acts P.rest P.pause at event self.old.driven self.new.driven cx.old cx.new }
-        ensures other { IsOfNoStage 1 role self.old.driven → (self.new ≡ self.old) × IsSame cx.old cx.new }
+        ensures other { IsOfNoStage FIRST role self.old.driven → (self.new ≡ self.old) × IsSame cx.old cx.new }
     {
         let _told = self.driven.handle(FIRST, role, event, cx);
         Want::Nothing

@@ -213,15 +213,15 @@ handles_read event step result v w t u r q s a c b orderly steps same after =
       (λ runs. joined_reader r.driven.chain r.driven.table.items t r.reader before a.log.state.pending a.roles event handled (was runs))) after
 
 pub handles_stage : {P : Type 0} (role : ℕ) (event : Event) (f : Result ⊤ SetFault) (step result : BodyStep) (v : View) (t u : Option StageContinuation) (r q s : Relay P) (a c b : Context)
-    → IsOrderly a → step ≡ step_after f → ActsWithin 4 a c → Loses f r.driven q.driven c → KeepsOthers 3 r.driven.table.items a c → HandlesDriven 3 role event r.driven q.driven a c
+    → IsOrderly a → step ≡ step_after f → ActsWithin 4 a c → Loses f r.driven q.driven a c → KeepsOthers 3 r.driven.table.items a c → HandlesDriven 3 role event r.driven q.driven a c
     → role ≢ 1 → role ≢ 2 → q.reader ≡ r.reader → SettlesAfter step result v t u q s c b → HandlesBody result role event v v t u r s a b
 handles_stage role event f step result v t u r q s a c b orderly is acts loses others driven not_main not_reader same after =
     handles_by role event step result v v t t u r q s a c b orderly acts
-    (subst (λ (x : BodyStep). DrivesOn x r.driven q.driven c) (sym is) (drives_after f r.driven q.driven c loses))
+    (subst (λ (x : BodyStep). DrivesOn x r.driven q.driven c) (sym is) (drives_after f r.driven q.driven a c loses))
     (λ before handled was runs.
       subst (λ (x : Option StageContinuation). IsJoined q.driven.chain q.driven.table.items t x c.log.state.pending c.roles) (sym same)
       (joined_stage r.driven.chain q.driven.chain r.driven.table.items q.driven.table.items t r.reader before a c role event handled not_main not_reader others
-        (λ h. driven before handled (λ on. h) runs) (was (runs_before f r.driven q.driven c loses runs)))) after
+        (λ h. driven before handled (λ on. h) runs) (was (runs_before f r.driven q.driven a c loses runs)))) after
 
 -- where the event of a stage leads
 pub stage_leads : {P : Type 0} (setup : Setup) (refuses : Type 0) (rest : P → List ℕ → List ℕ) (v : View) (c d : ChainState P) (place : Place) (ts us : List (Option StageContinuation))

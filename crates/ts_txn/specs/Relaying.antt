@@ -12,9 +12,9 @@ use Rattle.ts_group.specs.Entries.{Grows}
 use Rattle.ts_config.specs.declared.setup.Setup.{Setup}
 use Rattle.ts_config.specs.Bodies.{compose_lines}
 use Rattle.ts_link.specs.Link.{Look, all_of}
-use Rattle.ts_transform.specs.Flow.{ChainState, flow}
-use Rattle.ts_transform.specs.Driving.{Keeps, SetsFew, all_unroused}
-use Rattle.ts_transform.specs.Driven.{StaysDriven}
+use Rattle.ts_transform.specs.Flow.{ChainState, EndsInOrder, flow}
+use Rattle.ts_transform.specs.Driving.{Keeps, SetsFew}
+use Rattle.ts_transform.specs.Driven.{SameSeats, StaysDriven}
 use Rattle.ts_transform.specs.declared.driven.DrivenChain.{DrivenChain}
 use Rattle.ts_wire.specs.declared.heads.ResponseHead.{ResponseHead}
 use Rattle.ts_wire.specs.declared.body.BodyState.TheVariants as B
@@ -99,7 +99,8 @@ pub record StepsChain {P : Type 0} (step : BodyStep) (most : ℕ) (d e : DrivenC
   pub driven : StaysDriven d e old new
   pub on : DrivesOn step d e new
   pub falls : e.running ≡ true → d.running ≡ true
-  pub same : all_unroused e.table.items ≡ all_unroused d.table.items
+  pub seats : SameSeats d e old new
+  pub ordered : EndsInOrder d.chain.given d.chain.stages → EndsInOrder e.chain.given e.chain.stages
 
 module _ {C O P : Type 0} (ctells otells : Bool) (client : C → Look) (origin : O → Look)
     (refuses : O → List ℕ → Type 0) (rest : P → List ℕ → List ℕ) where

@@ -1,9 +1,12 @@
-use Rattle.std.proofs.Common.{◌≡◌, ◌+◌, ◌<◌, refl, subst, sym, ◌∙◌}
+use Rattle.std.proofs.Common.{◌<◌, refl, subst, sym, ◌∙◌}
 use Rattle.std.specs.Prelude.{is_ok}
 use Rattle.ts_transform.specs.Driving.{works_at}
 use Rattle.ts_transform.proofs.Acting.{acts_handled, others_handled, pays_handled}
 use Rattle.ts_transform.proofs.Covering.{on_ok}
 use Rattle.ts_transform.proofs.Handled.{begun_for}
+use Rattle.ts_transform.proofs.Kept.{err_weaker}
+use Rattle.ts_transform.proofs.Seating.{key_same, seated_as, seated_then}
+use Rattle.ts_transform.proofs.Living.{all_live, live_found}
 use Rattle.ts_transform.proofs.Told.{same_length}
 use Rattle.ts_transform.proofs.handler.handle_at.Goals as goal
 
@@ -35,3 +38,13 @@ returns-clause-driven g c =
 pub returns-clause-others : goal.returns-clause-others
 returns-clause-others g c = λ first.
     others_handled first c.args.table.now c.unrouse_for.new.table c.args.cx.now c.act.new.cx c.unrouse_for.ensures.same (c.act.ensures.others first)
+
+pub returns-clause-live : goal.returns-clause-live
+returns-clause-live g c =
+    let found = all_live c.args.chain.now c.args.chain.now c.args.table.now c.unrouse_for.new.table c.args.cx.now c.args.cx.now refl c.unrouse_for.ensures.same (λ j going. going) in
+    record {
+      seated = seated_then c.args.table.now c.unrouse_for.new.table c.act.new.table c.args.cx.now c.args.cx.now c.act.new.cx
+          (seated_as c.args.table.now c.unrouse_for.new.table c.args.cx.now c.args.cx.now refl (λ k. key_same c.args.table.now c.unrouse_for.new.table k c.unrouse_for.ensures.same)) c.act.ensures.live.seated;
+      live = live_found c.args.chain.now c.act.new.chain c.args.table.now c.unrouse_for.new.table c.act.new.table c.args.cx.now c.act.new.cx found c.act.ensures.live.live;
+      cause = err_weaker c.act.result c.act.new.cx found c.act.ensures.live.cause;
+    }

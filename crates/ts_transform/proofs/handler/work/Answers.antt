@@ -1,7 +1,6 @@
 use Rattle.std.proofs.Common.{◌≡◌, ◌≤◌, ◌+◌, ◌*◌, length, refl, ap, subst, sym, arith, true, false, ◌∙◌}
 use Rattle.ts_transform.specs.Stage.{done_by, IfRests}
 use Rattle.ts_transform.specs.Flow.{AnswersAt, StepsAt}
-use Rattle.ts_transform.specs.Driving.{AddsEvents}
 use Rattle.ts_transform.proofs.Acting.{pumps, pumps_none, tells_rest}
 use Rattle.ts_transform.proofs.Called.{called_kept}
 use Rattle.ts_transform.proofs.Covering.{moved-some, worked, rested, driven_kept, on_ok, any_ok, IsResting}
@@ -76,7 +75,7 @@ pub returns-in_ok-rouse_round-in-Ended-clause-stages :
     goal.returns-in_ok-rouse_round-in-Ended-clause-stages
 returns-in_ok-rouse_round-in-Ended-clause-stages g c =
     stages_trans c.rouse_round-in-Ended.ensures.stages
-    (stages_kept c.rouse_round-in-Ended.new.cx c.tell_before.new.cx c.tell_before.ensures.adds.keeps c.rouse_round-in-Ended.new.table)
+    (stages_kept c.rouse_round-in-Ended.new.cx c.tell_before.new.cx c.tell_before.ensures.adds.keeps c.rouse_round-in-Ended.new.table c.tell_before.ensures.seated)
 
 pub returns-in_ok-rouse_round-in-Ended-clause-pumps :
     goal.returns-in_ok-rouse_round-in-Ended-clause-pumps

@@ -1,8 +1,8 @@
-use Rattle.std.proofs.Common.{◌≡◌, ◌+◌, [], true, refl, rules, arith, subst, ◌∙◌}
+use Rattle.std.proofs.Common.{◌≡◌, [], refl, rules, arith, subst}
 use Rattle.ts_transform.specs.Carrying.{IsCarried}
 use Rattle.ts_transform.proofs.Carrying.{has_written}
 use Rattle.ts_transform.proofs.Joined.{all_carried}
-use Rattle.ts_transform.proofs.Runs.{not_aborted, to_refl, to_trans}
+use Rattle.ts_transform.proofs.Runs.{drive_cause_then, not_aborted, to_refl, to_trans}
 use Rattle.ts_transform.proofs.link_drive.drive_links.Goals as goal
 
 pub turns-init : goal.turns-init
@@ -60,3 +60,7 @@ returns-in-None-clause-done g c = λ done.
           has_written g.P.Transform.rest g.I.Link.tells g.K.Link.tells (g.I.Link.look was.input) (g.I.Link.look now.world.input) (g.K.Link.look was.output) (g.K.Link.look now.world.output) was.driven.chain now.world.driven.chain
           was.aborted now.world.aborted carries.on all.0 all.1 (not_aborted g.P.Transform.rest g.I.Link.tells g.K.Link.tells g.I.Link.look g.K.Link.look was now.world carries runs goes reads writes) opened in_tells out_tells,
     )
+
+pub returns-in_err-take_turn-clause-fault : goal.returns-in_err-take_turn-clause-fault
+returns-in_err-take_turn-clause-fault g c =
+    drive_cause_then c.from_residual.result _ c.args.group.now.cx c.turns.group.cx c.take_turn.new.group.cx c.from_residual.ensures.1 (omega (arith, c.turns.invariant.made)) c.in_err-take_turn.ensures.fault

@@ -1,4 +1,4 @@
-use Rattle.std.proofs.Common.{◌≡◌, refl, sym, subst, ◌∙◌}
+use Rattle.std.proofs.Common.{refl, sym, subst, ◌∙◌}
 use Rattle.ts_transform.specs.Carrying.{CarriesTo}
 use Rattle.ts_transform.proofs.Runs.{handle_carries, to_refl}
 use Rattle.ts_transform.proofs.link_drive.take_turn.Goals as goal

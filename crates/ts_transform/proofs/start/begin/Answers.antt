@@ -1,11 +1,18 @@
-use Rattle.std.proofs.Common.{ap, length, sym, subst, ◌∙◌}
+use Rattle.std.proofs.Common.{◌≡◌, ℕ, List, Option, ap, length, sym, subst, ◌∙◌}
+use Rattle.std.specs.Prelude.{⊤}
+use Rattle.ts_journal.specs.State.{IsLive}
+use Rattle.ts_group.specs.Context.{Context}
+use Rattle.ts_group.specs.Changes.{SameEvents, KeepsKeys}
+use Rattle.ts_transform.specs.declared.continuation.StageContinuation.{StageContinuation}
+use Rattle.ts_transform.specs.Flow.{ChainState}
 use Rattle.ts_transform.specs.Cover.{AreAllLive, IsDriven}
 use Rattle.ts_transform.specs.Loss.{IsCauseOf}
-use Rattle.ts_transform.specs.Driving.{AreOfStages}
-use Rattle.ts_transform.proofs.Driving.{in_table, loss_cause}
-use Rattle.ts_transform.proofs.Living.{making_cause}
+use Rattle.ts_transform.specs.Driving.{AreOfStages, EachIsLive, Keeps, KeepsMade, all_unroused}
+use Rattle.ts_transform.proofs.Driving.{in_table}
+use Rattle.ts_transform.proofs.Kept.{kept_if}
+use Rattle.ts_transform.proofs.Living.{all_live, cause_alive, made_live}
 use Rattle.ts_transform.proofs.MaySet.{begin_only}
-use Rattle.ts_transform.proofs.Starting.{begun}
+use Rattle.ts_transform.proofs.Starting.{begun, made_if}
 use Rattle.ts_transform.proofs.start.begin.Goals as goal
 
 pub returns-in-Ok-clause-only : goal.returns-in-Ok-clause-only
@@ -31,16 +38,48 @@ returns-in-Ok-clause-driven g c = λ fresh.
     (roused.ensures.stages.of_stages c.args.first (subst (AreOfStages made.log.state.pending made.roles c.args.first) (sym c.deref_mut.ensures.value) c.in_default.ensures.ok.1))
     c.in-Ok.ensures.ready fresh)
 
+-- Each continuation that was made is live, so no fault is that of a dead one.
+made_alive : {P : Type 0} (c : ChainState P) (ts us vs : List (Option StageContinuation)) (made now : Context) (n : ℕ) → ts ≡ us → length us ≡ n → n ≡ length c.stages → EachIsLive made.log.state.live us
+    → now.log.state.live ≡ made.log.state.live → all_unroused vs ≡ all_unroused ts → AreAllLive c vs now
+made_alive c ts us vs made now n same len stages each keys unchanged =
+    all_live c c ts vs made now keys unchanged (λ j going. going) (made_live c ts made (ap length same ∙ len ∙ stages) (subst (EachIsLive made.log.state.live) (sym same) each))
+
+pub returns-in-Ok-clause-live : goal.returns-in-Ok-clause-live
+returns-in-Ok-clause-live g c =
+    let table = c.make_all.new.table in
+    let roused = c.rouse_if_ready in
+    in_table (λ us. AreAllLive c.args.chain.now us roused.new.cx) table.len roused.new.table table.items (roused.ensures.stages.len ∙ ap length c.deref_mut.ensures.value ∙ sym table.ok.0)
+    (made_alive c.args.chain.now c.deref_mut.result.now table.items roused.new.table c.make_all.new.cx roused.new.cx _ c.deref_mut.ensures.value c.in_default.ensures.ok.0 c.stages.ensures c.in_default.ensures.ok.2
+    roused.ensures.adds.keeps.live roused.ensures.stages.same)
+
 pub returns-in-Err-clause-cause : goal.returns-in-Err-clause-cause
-returns-in-Err-clause-cause g c =
-    subst (λ l. IsCauseOf (AreAllLive c.args.chain.now c.make_all.new.table.items c.make_all.new.cx) l c.make_all.new.cx) (sym c.of_make.ensures) (making_cause (AreAllLive c.args.chain.now c.make_all.new.table.items c.make_all.new.cx) c.in-Err.fault c.make_all.new.cx c.in-Err.ensures.cause)
+returns-in-Err-clause-cause g c = subst (λ l. IsCauseOf ⊤ l c.make_all.new.cx) (sym c.of_make.ensures) c.in-Err.ensures.cause
 
 pub returns-in-Err-rouse_if_ready-clause-cause : goal.returns-in-Err-rouse_if_ready-clause-cause
 returns-in-Err-rouse_if_ready-clause-cause g c =
-    let table = c.make_all.new.table in
     let roused = c.rouse_if_ready in
     let now = roused.new.cx in
-    let chain = c.args.chain.now in
-    in_table (λ us. IsCauseOf (AreAllLive chain us now) c.of_set.result now) table.len roused.new.table table.items
-    (roused.ensures.stages.len ∙ ap length c.deref_mut.ensures.value ∙ sym table.ok.0)
-    (subst (λ l. IsCauseOf (AreAllLive chain roused.new.table now) l now) (sym c.of_set.ensures) (loss_cause (AreAllLive chain roused.new.table now) c.in-Err-rouse_if_ready.fault now c.in-Err-rouse_if_ready.ensures.adds.cause))
+    subst (λ l. IsCauseOf ⊤ l now) (sym c.of_set.ensures)
+    (cause_alive (AreAllLive c.args.chain.now roused.new.table now) c.in-Err-rouse_if_ready.fault now
+    (made_alive c.args.chain.now c.deref_mut.result.now c.make_all.new.table.items roused.new.table c.make_all.new.cx now _ c.deref_mut.ensures.value c.in_default.ensures.ok.0 c.stages.ensures c.in_default.ensures.ok.2
+    roused.ensures.adds.keeps.live roused.ensures.stages.same) c.in-Err-rouse_if_ready.ensures.adds.cause)
+
+-- Whoever was made before keeps what it had.
+made_then : (a m b : Context) → SameEvents a.log.state m.log.state → KeepsKeys a.log.state m.log.state a.roles m.roles → Keeps m b → KeepsMade a b
+made_then a m b events keys keeps = record {
+  of_stage = λ role t h. kept_if m b keeps role t (made_if a m events keys role t h);
+  live = λ key was. subst (λ l. IsLive l key) (sym keeps.live) (keys.live key was);
+}
+
+pub returns-in-Ok-clause-made : goal.returns-in-Ok-clause-made
+returns-in-Ok-clause-made g c = made_then c.args.cx.now c.make_all.new.cx c.rouse_if_ready.new.cx c.make_all.ensures.events c.make_all.ensures.keys c.rouse_if_ready.ensures.adds.keeps
+
+pub returns-in-Err-rouse_if_ready-clause-made : goal.returns-in-Err-rouse_if_ready-clause-made
+returns-in-Err-rouse_if_ready-clause-made g c =
+    made_then c.args.cx.now c.make_all.new.cx c.rouse_if_ready.new.cx c.make_all.ensures.events c.make_all.ensures.keys c.rouse_if_ready.ensures.adds.keeps
+
+pub returns-in-Err-clause-made : goal.returns-in-Err-clause-made
+returns-in-Err-clause-made g c = record {
+  of_stage = λ role t h. made_if c.args.cx.now c.make_all.new.cx c.make_all.ensures.events c.make_all.ensures.keys role t h;
+  live = c.make_all.ensures.keys.live;
+}

@@ -1,8 +1,9 @@
 use Rattle.std.proofs.Common.{◌+◌, Some, length, sym, ap, subst, refl, arith, ◌∙◌}
 use Rattle.std.proofs.lemmas.List.{length_push}
 use Rattle.ts_group.proofs.Grows.{grows_refl, grows_trans}
-use Rattle.ts_transform.specs.Driving.{AreOfStages}
-use Rattle.ts_transform.proofs.Starting.{same_events_trans, made_all, made_if}
+use Rattle.ts_transform.specs.Driving.{AreOfStages, EachIsLive}
+use Rattle.ts_transform.proofs.Living.{each_more, each_push}
+use Rattle.ts_transform.proofs.Starting.{keys_trans, same_events_trans, made_all}
 use Rattle.ts_transform.proofs.start.make_all.Goals as goal
 
 pub loop-at-init : goal.loop-at-init
@@ -12,9 +13,10 @@ loop-at-init c =
       grows = grows_refl now;
       turn = c.requires.turn;
       events = record { pending = refl; next = refl };
-      made = λ role t h. h;
+      keys = record { live = λ key was. was; roles = λ i role was. was };
       len = ap length c.requires.empty;
       of_stages = subst (AreOfStages now.log.state.pending now.roles c.args.first) (sym c.requires.empty) tt;
+      each = subst (EachIsLive now.log.state.live) (sym c.requires.empty) tt;
     }
 
 pub loop-at-preserved : goal.loop-at-preserved
@@ -25,17 +27,17 @@ loop-at-preserved c =
       grows = grows_trans before.grows made.grows;
       turn = made.turn;
       events = same_events_trans _ _ _ before.events made.events;
-      made = λ role t h. made_if c.loop-at.cx c.make_one.new.cx made.events made.keys role t (before.made role t h);
+      keys = keys_trans c.args.cx.now c.loop-at.cx c.make_one.new.cx before.keys made.keys;
       len = ap length c.in_default.ensures.items ∙ length_push c.loop-at.table.items (Some c.in_ok-continuation.continuation) ∙ ap (λ n. n + 1) before.len;
       of_stages = subst (AreOfStages c.make_one.new.cx.log.state.pending c.make_one.new.cx.roles c.args.first) (sym c.in_default.ensures.items)
           (made_all c.loop-at.cx c.make_one.new.cx made.events made.keys c.args.first c.loop-at.table.items c.in_ok-continuation.continuation
           (made.named.0 ∙ ap Some (omega (arith, before.len))) made.named.1 before.of_stages);
+      each = subst (EachIsLive c.make_one.new.cx.log.state.live) (sym c.in_default.ensures.items)
+          (each_push c.make_one.new.cx.log.state.live c.loop-at.table.items c.in_ok-continuation.continuation (each_more c.loop-at.cx c.make_one.new.cx c.loop-at.table.items made.keys.live before.each) made.live);
     }
 
-pub returns-in_err-continuation-clause-made : goal.returns-in_err-continuation-clause-made
-returns-in_err-continuation-clause-made c = λ role t h.
-    made_if c.loop-at.cx c.make_one.new.cx c.make_one.ensures.events c.make_one.ensures.keys role t (c.loop-at.invariant.made role t h)
+pub returns-in_err-continuation-clause-keys : goal.returns-in_err-continuation-clause-keys
+returns-in_err-continuation-clause-keys c = keys_trans c.args.cx.now c.loop-at.cx c.make_one.new.cx c.loop-at.invariant.keys c.make_one.ensures.keys
 
-pub returns-in-Err-clause-made : goal.returns-in-Err-clause-made
-returns-in-Err-clause-made c = λ role t h.
-    made_if c.loop-at.cx c.make_one.new.cx c.make_one.ensures.events c.make_one.ensures.keys role t (c.loop-at.invariant.made role t h)
+pub returns-in-Err-clause-keys : goal.returns-in-Err-clause-keys
+returns-in-Err-clause-keys c = keys_trans c.args.cx.now c.loop-at.cx c.make_one.new.cx c.loop-at.invariant.keys c.make_one.ensures.keys

@@ -1,6 +1,7 @@
-use Rattle.std.proofs.Common.{Some, ◌≡◌, ◌+◌, true, false, refl, ap, arith, sym, subst, length, ◌∙◌}
-use Rattle.ts_transform.specs.Acting.{Pays, StillGives}
-use Rattle.ts_transform.specs.Driving.{IsCause}
+use Rattle.std.proofs.Common.{Some, inl, ◌≡◌, true, false, refl, ap, arith, sym, subst, length, ◌∙◌}
+use Rattle.ts_transform.specs.Seats.{KeepsSeated}
+use Rattle.ts_transform.specs.Acting.{KeepsLive, Pays, StillGives}
+use Rattle.ts_transform.specs.Driving.{IsCause, KeepsOthers}
 use Rattle.ts_transform.specs.Cover.{AreAllLive}
 use Rattle.ts_transform.proofs.Acting.{still_gives}
 use Rattle.ts_transform.proofs.Driving.{acts_in, in_table}
@@ -62,10 +63,40 @@ returns-in-Err-clause-gives g c =
 
 pub returns-in-Err-clause-loses : goal.returns-in-Err-clause-loses
 returns-in-Err-clause-loses g c =
-    let self = c.args.self.now in
-    let acted = c.handle_at in (
+    let self = c.args.self.now in (
       refl,
       ap Some c.of_set.ensures,
-      in_table (λ us. IsCause (AreAllLive acted.new.chain us acted.new.cx) c.in-Err.fault acted.new.cx) self.table.len acted.new.table self.table.items
-          (acted.ensures.acts.len ∙ ap length c.deref_mut.ensures.value ∙ sym self.table.ok.0) c.in-Err.ensures.cause,
+      subst (λ ts. IsCause (AreAllLive self.chain ts c.args.cx.now) c.in-Err.fault c.handle_at.new.cx) c.deref_mut.ensures.value c.in-Err.ensures.live.cause,
     )
+
+-- Whoever was not called is left alone.
+pub returns-in_default-clause-rest : goal.returns-in_default-clause-rest
+returns-in_default-clause-rest g c = record { others = λ role t named outside s. s; live = inl refl; seated = λ others seated. seated }
+
+pub returns-in-Ok-clause-rest : goal.returns-in-Ok-clause-rest
+returns-in-Ok-clause-rest g c =
+    let self = c.args.self.now in
+    let acted = c.handle_at in
+    let cx = c.args.cx.now in
+    record {
+      seated = in_table (λ us. KeepsSeated self.table.items us cx acted.new.cx) self.table.len acted.new.table self.table.items (acted.ensures.acts.len ∙ ap length c.deref_mut.ensures.value ∙ sym self.table.ok.0)
+          (subst (λ ts. KeepsSeated ts acted.new.table cx acted.new.cx) c.deref_mut.ensures.value acted.ensures.live.seated);
+      others = subst (λ ts. KeepsOthers c.args.first ts cx acted.new.cx) c.deref_mut.ensures.value (acted.ensures.others c.args.first);
+      live = in_table (λ us. KeepsLive self.chain acted.new.chain self.table.items us cx acted.new.cx) self.table.len acted.new.table self.table.items
+          (acted.ensures.acts.len ∙ ap length c.deref_mut.ensures.value ∙ sym self.table.ok.0)
+          (subst (λ ts. KeepsLive self.chain acted.new.chain ts acted.new.table cx acted.new.cx) c.deref_mut.ensures.value acted.ensures.live.live);
+    }
+
+pub returns-in-Err-clause-rest : goal.returns-in-Err-clause-rest
+returns-in-Err-clause-rest g c =
+    let self = c.args.self.now in
+    let acted = c.handle_at in
+    let cx = c.args.cx.now in
+    record {
+      seated = in_table (λ us. KeepsSeated self.table.items us cx acted.new.cx) self.table.len acted.new.table self.table.items (acted.ensures.acts.len ∙ ap length c.deref_mut.ensures.value ∙ sym self.table.ok.0)
+          (subst (λ ts. KeepsSeated ts acted.new.table cx acted.new.cx) c.deref_mut.ensures.value acted.ensures.live.seated);
+      others = subst (λ ts. KeepsOthers c.args.first ts cx acted.new.cx) c.deref_mut.ensures.value (acted.ensures.others c.args.first);
+      live = in_table (λ us. KeepsLive self.chain acted.new.chain self.table.items us cx acted.new.cx) self.table.len acted.new.table self.table.items
+          (acted.ensures.acts.len ∙ ap length c.deref_mut.ensures.value ∙ sym self.table.ok.0)
+          (subst (λ ts. KeepsLive self.chain acted.new.chain ts acted.new.table cx acted.new.cx) c.deref_mut.ensures.value acted.ensures.live.live);
+    }

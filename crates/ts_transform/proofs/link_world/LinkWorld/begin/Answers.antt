@@ -1,8 +1,8 @@
-use Rattle.std.proofs.Common.{false, inl, refl, ◌≡◌, ◌+◌, ◌<◌, Some, None, length, arith, sym, ap, subst, ◌∙◌}
+use Rattle.std.proofs.Common.{false, inl, refl, ◌≡◌, ◌+◌, ◌<◌, Some, None, length, arith, sym, subst, ◌∙◌}
 use Rattle.ts_vconn.specs.declared.moves.TheConstants.{MOST_PULLED}
 use Rattle.ts_transform.specs.Stage.{MOST_WAITING}
 use Rattle.ts_transform.specs.Flow.{EndsInOrder}
-use Rattle.ts_transform.proofs.Joined.{acts_made, begun_made, begun_then, begun_weaker, made_of}
+use Rattle.ts_transform.proofs.Joined.{acts_made, begun_made, begun_then, made_of}
 use Rattle.ts_transform.proofs.Kept.{acts_then}
 use Rattle.ts_transform.proofs.Starting.{made_if}
 use Rattle.ts_transform.proofs.link_world.LinkWorld.begin.Goals as goal
@@ -29,9 +29,9 @@ returns-clause-carried g c = λ was.
     record {
       joined = c.rouse_ends.ensures.joined (λ runs. record {
         stages = c.start.ensures.driven fresh.2 runs;
-        of_writer = c.start.ensures.made 1 (Some c.in-Ok.writer) (made_if made both c.make_end-2.ensures.events c.make_end-2.ensures.keys 1 (Some c.in-Ok.writer)
+        of_writer = c.start.ensures.made.of_stage 1 (Some c.in-Ok.writer) (made_if made both c.make_end-2.ensures.events c.make_end-2.ensures.keys 1 (Some c.in-Ok.writer)
             (made_of made.log.state.pending made.roles 1 c.in-Ok.writer c.in-Ok.ensures.named.0 c.in-Ok.ensures.named.1));
-        of_reader = c.start.ensures.made 2 (Some c.in-Ok-make_end.reader) (made_of both.log.state.pending both.roles 2 c.in-Ok-make_end.reader c.in-Ok-make_end.ensures.named.0 c.in-Ok-make_end.ensures.named.1);
+        of_reader = c.start.ensures.made.of_stage 2 (Some c.in-Ok-make_end.reader) (made_of both.log.state.pending both.roles 2 c.in-Ok-make_end.reader c.in-Ok-make_end.ensures.named.0 c.in-Ok-make_end.ensures.named.1);
       });
       ends = c.rouse_ends.ensures.ends;
       fresh = λ none. absurd (let wrong : Some c.in-Ok.writer ≡ None = c.rouse_ends.ensures.course.started none in cc);
@@ -42,13 +42,21 @@ returns-clause-carried g c = λ was.
 -- It runs from now on, or is lost for a cause.
 pub returns-in-Err-clause-cause : goal.returns-in-Err-clause-cause
 returns-in-Err-clause-cause g c =
-    begun_made (record c.args.self.now.driven { running = false; lost = Some c.of_make.result }) c.in-Err.fault c.of_make.result c.make_end.new.cx refl refl c.of_make.ensures c.in-Err.ensures.cause
+    begun_made (record c.args.self.now { driven = record c.args.self.now.driven { running = false; lost = Some c.of_make.result } }) c.in-Err.fault c.of_make.result c.make_end.new.cx refl refl c.of_make.ensures c.in-Err.ensures.cause
 
 pub returns-in-Err-make_end-clause-cause : goal.returns-in-Err-make_end-clause-cause
 returns-in-Err-make_end-clause-cause g c =
-    begun_made (record c.args.self.now.driven { running = false; lost = Some c.of_make-in-Err-make_end.result }) c.in-Err-make_end.fault c.of_make-in-Err-make_end.result c.make_end-2.new.cx refl refl c.of_make-in-Err-make_end.ensures c.in-Err-make_end.ensures.cause
+    begun_made (record c.args.self.now { writer = Some c.in-Ok.writer; driven = record c.args.self.now.driven { running = false; lost = Some c.of_make-in-Err-make_end.result } }) c.in-Err-make_end.fault c.of_make-in-Err-make_end.result c.make_end-2.new.cx refl refl c.of_make-in-Err-make_end.ensures c.in-Err-make_end.ensures.cause
 
 pub returns-clause-cause : goal.returns-clause-cause
 returns-clause-cause g c =
-    begun_then _ c.rouse_ends.new.self c.start.new.cx c.rouse_ends.new.cx (begun_weaker c.start.new.self c.start.new.cx (λ all. all.stages) c.start.ensures.begun)
-    (λ stopped. c.rouse_ends.ensures.idle (inl stopped)) c.rouse_ends.ensures.course.loses
+    let both = c.make_end-2.new.cx in
+    let started = c.start.new.cx in
+    let world = record c.args.self.now { writer = Some c.in-Ok.writer; reader = Some c.in-Ok-make_end.reader; driven = c.start.new.self } in
+    begun_then world c.rouse_ends.new.self started c.rouse_ends.new.cx c.start.ensures.begun
+    (λ stages. record {
+      stages = stages;
+      writer = c.start.ensures.made.live c.in-Ok.writer.key (c.make_end-2.ensures.keys.live c.in-Ok.writer.key c.in-Ok.ensures.live);
+      reader = c.start.ensures.made.live c.in-Ok-make_end.reader.key c.in-Ok-make_end.ensures.live;
+    })
+    (λ stopped. c.rouse_ends.ensures.idle (inl stopped)) c.rouse_ends.ensures.course

@@ -1,9 +1,10 @@
-use Rattle.std.proofs.Common.{◌≡◌, false, sym, subst, ◌∙◌}
-use Rattle.ts_transform.specs.Carrying.{IsJoined}
-use Rattle.ts_transform.specs.Driving.{IsNamedIf}
+use Rattle.std.proofs.Common.{◌≡◌, true, false, refl, ap, sym, subst, ◌∙◌}
+use Rattle.ts_transform.specs.Carrying.{AreLinked, IsJoined}
+use Rattle.ts_transform.specs.Driving.{IsNamedIf, unroused}
 use Rattle.ts_transform.proofs.Carrying.{moves_none}
-use Rattle.ts_transform.proofs.Joined.{joined_quiet, joined_reader, named_unroused}
-use Rattle.ts_transform.proofs.Kept.{acts_none}
+use Rattle.ts_transform.proofs.Joined.{course_same, joined_quiet, linked_kept, lose_weaker, joined_reader, named_unroused}
+use Rattle.ts_transform.proofs.Along.{duty_none}
+use Rattle.ts_transform.proofs.Told.{unroused_twice}
 use Rattle.ts_transform.proofs.link_world.LinkWorld.read_at.Goals as goal
 
 pub returns-then-works-clause-joined : goal.returns-then-works-clause-joined
@@ -25,12 +26,51 @@ returns-else-works-clause-joined g c = λ before handled was runs.
     let cx = c.args.cx.now in
     joined_quiet self.driven.chain self.driven.table.items self.writer self.reader before cx.log.state.pending cx.roles 2 c.args.event handled (sym c.works.ensures ∙ c.if-works.false) (was runs)
 
-pub returns-else-works-clause-within : goal.returns-else-works-clause-within
-returns-else-works-clause-within g c = acts_none 1 c.args.cx.now c.requires.turn
-
 pub returns-then-works-clause-retries : goal.returns-then-works-clause-retries
 returns-then-works-clause-retries g c = λ named waited.
     let self = c.args.self.now in
     let roles = c.args.cx.now.roles in
     let h = c.read.ensures.retries (subst (IsNamedIf roles 2) (sym c.unrouse.ensures) (named_unroused roles 2 self.reader named)) waited in
     record { chain = h.chain; writer = h.writer; roused = h.roused; only = h.only }
+
+pub returns-then-works-clause-course : goal.returns-then-works-clause-course
+returns-then-works-clause-course g c =
+    let self = c.args.self.now in
+    let cx = c.args.cx.now in
+    let course = c.read.ensures.course in
+    let found : AreLinked self cx → AreLinked (record self { reader = c.unrouse.new.slot }) cx =
+    linked_kept self.driven self.driven self.writer self.writer self.reader c.unrouse.new.slot cx cx refl (λ all. all) refl (ap unroused c.unrouse.ensures ∙ unroused_twice self.reader) in
+    record {
+      loses = lose_weaker self.driven c.read.new.self.driven c.read.new.cx found course.loses;
+      keeps = course.keeps;
+      live = λ all. course.live (found all);
+      started = course.started;
+    }
+
+pub returns-else-works-clause-course : goal.returns-else-works-clause-course
+returns-else-works-clause-course g c = course_same c.args.self.now c.args.cx.now c.requires.turn
+
+pub returns-then-works-clause-duty : goal.returns-then-works-clause-duty
+returns-then-works-clause-duty g c =
+    let duty = c.read.ensures.duty in
+    record {
+      within = duty.within;
+      only = λ named. duty.only
+          (record { stages = named.stages; writer = named.writer; reader = subst (IsNamedIf c.args.cx.now.roles 2) (sym c.unrouse.ensures) (named_unroused c.args.cx.now.roles 2 c.args.self.now.reader named.reader) });
+    }
+
+pub returns-else-works-clause-duty : goal.returns-else-works-clause-duty
+returns-else-works-clause-duty g c = duty_none g.P.Transform.pause c.args.self.now c.args.self.now c.args.cx.now c.requires.turn
+
+-- It does its duty where it works, and else nothing.
+pub returns-then-works-clause-duties : goal.returns-then-works-clause-duties
+returns-then-works-clause-duties g c = record {
+  does = λ works. c.read.ensures.does;
+  sure = λ quiet. absurd (let wrong : true ≡ false = sym c.if-works.true ∙ c.works.ensures ∙ quiet in cc);
+}
+
+pub returns-else-works-clause-duties : goal.returns-else-works-clause-duties
+returns-else-works-clause-duties g c = record {
+  does = λ works. absurd (let wrong : false ≡ true = sym c.if-works.false ∙ c.works.ensures ∙ works in cc);
+  sure = λ quiet. (refl, refl);
+}

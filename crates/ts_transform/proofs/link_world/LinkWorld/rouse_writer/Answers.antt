@@ -1,8 +1,9 @@
-use Rattle.std.proofs.Common.{Some, refl, ◌≡◌, true, false, sym, ap, ◌∙◌}
+use Rattle.std.proofs.Common.{Some, inl, refl, ◌≡◌, true, false, sym, ap, ◌∙◌}
 use Rattle.std.specs.Prelude.{is_ok}
 use Rattle.ts_transform.proofs.Covering.{driven_kept}
-use Rattle.ts_transform.proofs.Joined.{end_loses, joined_ends, none_same}
+use Rattle.ts_transform.proofs.Joined.{end_loses, linked_kept, joined_ends, none_same}
 use Rattle.ts_transform.proofs.Kept.{cause_weaker, kept_if}
+use Rattle.ts_transform.proofs.Living.{all_live, end_live}
 use Rattle.ts_transform.proofs.link_world.LinkWorld.rouse_writer.Goals as goal
 
 pub returns-in-Ok-clause-joined : goal.returns-in-Ok-clause-joined
@@ -26,9 +27,28 @@ returns-in-Err-clause-rouses g c = record {
   rests = λ quiet. absurd (let wrong : false ≡ true = ap is_ok (sym c.in-Err.is) ∙ (c.rouse_end.ensures.rests quiet).2 in cc);
 }
 
+pub returns-in-Ok-clause-course : goal.returns-in-Ok-clause-course
+returns-in-Ok-clause-course g c =
+    let self = c.args.self.now in
+    let keys = c.rouse_end.ensures.adds.keeps.live in
+    record {
+      loses = inl (refl, refl);
+      keeps = c.rouse_end.ensures.adds.keeps;
+      live = linked_kept self.driven self.driven self.writer c.rouse_end.new.slot self.reader self.reader c.args.cx.now c.rouse_end.new.cx keys
+          (all_live self.driven.chain self.driven.chain self.driven.table.items self.driven.table.items c.args.cx.now c.rouse_end.new.cx keys refl (λ j going. going)) c.rouse_end.ensures.stage.same refl;
+      started = λ none. none_same c.args.self.now.writer c.rouse_end.new.slot c.rouse_end.ensures.stage.same none;
+    }
+
 pub returns-in-Err-clause-course : goal.returns-in-Err-clause-course
-returns-in-Err-clause-course g c = record {
-  loses = end_loses c.args.self.now.driven (record c.args.self.now.driven { running = false; lost = Some c.of_set.result }) c.in-Err.fault c.rouse_end.new.cx refl (ap Some c.of_set.ensures)
-      (cause_weaker c.in-Err.fault c.rouse_end.new.cx (λ all. all.writer) c.in-Err.ensures.adds.cause);
-  started = λ none. none_same c.args.self.now.writer c.rouse_end.new.slot c.rouse_end.ensures.stage.same none;
-}
+returns-in-Err-clause-course g c =
+    let self = c.args.self.now in
+    let keys = c.rouse_end.ensures.adds.keeps.live in
+    let lost = record self.driven { running = false; lost = Some c.of_set.result } in
+    record {
+      keeps = c.rouse_end.ensures.adds.keeps;
+      loses = end_loses self.driven lost c.in-Err.fault c.rouse_end.new.cx refl (ap Some c.of_set.ensures)
+          (cause_weaker c.in-Err.fault c.rouse_end.new.cx (λ all. end_live self.writer c.rouse_end.new.slot c.args.cx.now c.rouse_end.new.cx keys c.rouse_end.ensures.stage.same all.writer) c.in-Err.ensures.adds.cause);
+      live = linked_kept self.driven lost self.writer c.rouse_end.new.slot self.reader self.reader c.args.cx.now c.rouse_end.new.cx keys
+          (all_live self.driven.chain self.driven.chain self.driven.table.items self.driven.table.items c.args.cx.now c.rouse_end.new.cx keys refl (λ j going. going)) c.rouse_end.ensures.stage.same refl;
+      started = λ none. none_same c.args.self.now.writer c.rouse_end.new.slot c.rouse_end.ensures.stage.same none;
+    }

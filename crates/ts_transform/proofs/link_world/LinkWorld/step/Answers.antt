@@ -1,9 +1,12 @@
-use Rattle.std.proofs.Common.{◌≡◌, true, false, arith, refl, sym, ap, subst, inl, ◌∙◌}
+use Rattle.std.proofs.Common.{◌≡◌, true, false, arith, refl, sym, ap, subst, inl, inr, ◌∙◌}
 use Rattle.ts_transform.specs.Driving.{IsRousedIf}
-use Rattle.ts_transform.specs.Carrying.{IsJoinedWhile, LacksMemory, MayBreak, Steps}
+use Rattle.ts_transform.specs.Carrying.{IsJoinedWhile, LacksMemory, MayBreak, StepsAlong}
 use Rattle.ts_transform.proofs.Carrying.{moves_aborted, moves_as, moves_lacks, moves_none}
-use Rattle.ts_transform.proofs.Joined.{again_reads, again_writes, aborted_quiet, joined_aborted, joined_as, lose_lacks, loses_runs, may_break_then, named_of, rests_then}
+use Rattle.ts_transform.proofs.Joined.{again_reads, again_writes, aborted_quiet, joined_aborted, joined_as, break_after, lose_lacks, loses_runs, named_of, rests_then}
 use Rattle.ts_transform.proofs.Kept.{acts_none, acts_then}
+use Rattle.ts_transform.proofs.Along.{does_then, step_only, step_sure}
+use Rattle.ts_transform.proofs.Setting.{of_stages_named, only_none}
+use Rattle.ts_transform.specs.declared.link_world.TheConstants.{FIRST, READER, WRITER}
 use Rattle.ts_transform.proofs.link_world.LinkWorld.step.Goals as goal
 
 -- Something was lost before.
@@ -42,7 +45,7 @@ returns-then-lacks_memory-clause-carried g c = λ before handled was.
     let now = c.abort.new.self in
     let cx = c.rouse_ends.new.cx in
     let joined : IsJoinedWhile mid cx.log.state.pending cx.roles = c.rouse_ends.ensures.joined (c.work.ensures.joined before handled was.joined) in
-    let steps : Steps g.P.Transform.rest g.I.Link.tells g.K.Link.tells g.I.Link.look g.K.Link.look self now = returns-then-lacks_memory-clause-steps g c in
+    let steps : StepsAlong g.P.Transform.rest g.I.Link.tells g.K.Link.tells g.I.Link.look g.K.Link.look self now = returns-then-lacks_memory-clause-steps g c in
     record {
       joined = λ runs.
           joined_as now.driven.chain now.driven.chain mid.driven.table.items now.driven.table.items mid.writer now.writer mid.reader now.reader cx.log.state.pending cx.roles refl c.abort.ensures.course.table
@@ -74,7 +77,7 @@ pub returns-else-lacks_memory-clause-carried : goal.returns-else-lacks_memory-cl
 returns-else-lacks_memory-clause-carried g c = λ before handled was.
     let self = c.args.self.now in
     let now = c.rouse_ends.new.self in
-    let steps : Steps g.P.Transform.rest g.I.Link.tells g.K.Link.tells g.I.Link.look g.K.Link.look self now = returns-else-lacks_memory-clause-steps g c in
+    let steps : StepsAlong g.P.Transform.rest g.I.Link.tells g.K.Link.tells g.I.Link.look g.K.Link.look self now = returns-else-lacks_memory-clause-steps g c in
     record {
       joined = c.rouse_ends.ensures.joined (c.work.ensures.joined before handled was.joined);
       ends = c.rouse_ends.ensures.ends;
@@ -129,20 +132,77 @@ returns-else-lacks_memory-clause-again g c = λ before handled was.
     }
 
 -- It goes on as it did, or is lost for a cause.
-pub returns-else-lacks_memory-clause-loses : goal.returns-else-lacks_memory-clause-loses
-returns-else-lacks_memory-clause-loses g c =
-    may_break_then c.args.self.now c.work.new.self c.rouse_ends.new.self c.work.new.cx c.rouse_ends.new.cx c.work.ensures.course.loses (λ stopped. c.rouse_ends.ensures.idle (inl stopped))
-    c.rouse_ends.ensures.course.loses
+pub returns-then-not-self-clause-acts : goal.returns-then-not-self-clause-acts
+returns-then-not-self-clause-acts g c = λ before handled was. record {
+  stage = λ runs. absurd (let wrong : false ≡ true = sym c.if-not-self.true ∙ runs in cc);
+  does = λ runs. absurd (let wrong : false ≡ true = sym c.if-not-self.true ∙ runs in cc);
+  loses = inl (refl, refl);
+  only = λ runs. only_none _ c.args.cx.now;
+  sure = λ nothing. refl;
+}
 
-pub returns-then-lacks_memory-clause-loses : goal.returns-then-lacks_memory-clause-loses
-returns-then-lacks_memory-clause-loses g c =
+pub returns-else-lacks_memory-clause-acts : goal.returns-else-lacks_memory-clause-acts
+returns-else-lacks_memory-clause-acts g c = λ before handled was.
+    let self = c.args.self.now in
+    let mid = c.work.new.self in
+    let now = c.rouse_ends.new.self in
+    let cx = c.args.cx.now in
+    let then = c.work.new.cx in
+    let last = c.rouse_ends.new.cx in
+    let ends = was.ends c.if-not-self.false in
+    let joined = was.joined c.if-not-self.false in
+    let idle = c.rouse_ends.ensures.idle in
+    record {
+      stage = λ runs at is stage. record {
+        acted = mid.driven;
+        between = then;
+        acts = c.work.ensures.course.stage at is stage;
+        keeps = c.rouse_ends.ensures.course.keeps;
+        table = c.rouse_ends.ensures.same.table;
+        chain = inr c.rouse_ends.ensures.same.chain;
+      };
+      does = λ runs. does_then g.I.Link.look g.K.Link.look c.args.role c.args.event self mid now c.rouse_ends.ensures.same.input c.rouse_ends.ensures.same.output
+          (λ lacks. subst LacksMemory (sym (idle (inl lacks.0)).0) lacks) c.work.ensures.course.does;
+      loses = break_after self mid now cx then last ends c.work.ensures.course.loses c.work.ensures.course.live idle c.rouse_ends.ensures.course.loses;
+      only = λ runs.
+          let joined_then = c.work.ensures.joined before handled was.joined (loses_runs mid.driven now.driven last c.rouse_ends.ensures.course.loses runs) in
+          step_only g.P.Transform.rest g.P.Transform.pause g.I.Link.look g.K.Link.look c.args.role c.args.event self mid now cx then last ends
+          (record {
+            stages = of_stages_named before cx.roles FIRST self.driven.table.items joined.stages.of_stages;
+            writer = named_of before cx.roles WRITER self.writer joined.of_writer;
+            reader = named_of before cx.roles READER self.reader joined.of_reader;
+          })
+          (named_of then.log.state.pending then.roles WRITER mid.writer joined_then.of_writer) (named_of then.log.state.pending then.roles READER mid.reader joined_then.of_reader)
+          c.work.ensures.course idle c.work.ensures.within.grows.moment c.rouse_ends.ensures.course.keeps c.rouse_ends.ensures.only c.rouse_ends.ensures.same.chain;
+      sure = λ nothing. step_sure self mid now then last ends idle (c.work.ensures.course.sure nothing);
+    }
+
+pub returns-then-lacks_memory-clause-acts : goal.returns-then-lacks_memory-clause-acts
+returns-then-lacks_memory-clause-acts g c = λ before handled was.
     let self = c.args.self.now in
     let mid = c.rouse_ends.new.self in
     let now = c.abort.new.self in
     let cx = c.rouse_ends.new.cx in
-    let broke : MayBreak self mid cx =
-    may_break_then self c.work.new.self mid c.work.new.cx cx c.work.ensures.course.loses (λ stopped. c.rouse_ends.ensures.idle (inl stopped)) c.rouse_ends.ensures.course.loses in
-    lose_lacks self.driven mid.driven now.driven cx (c.lacks_memory.ensures.lacks c.if-lacks_memory.true).1 c.abort.ensures.course.running c.abort.ensures.course.lost broke
+    let ends = was.ends c.if-not-self.false in
+    let stopped = (c.lacks_memory.ensures.lacks c.if-lacks_memory.true).0 in
+    let broke : MayBreak self mid c.args.cx.now cx =
+    break_after self c.work.new.self mid c.args.cx.now c.work.new.cx cx ends c.work.ensures.course.loses c.work.ensures.course.live c.rouse_ends.ensures.idle c.rouse_ends.ensures.course.loses in
+    record {
+      stage = λ runs at is stage. record {
+        acted = c.work.new.self.driven;
+        between = c.work.new.cx;
+        acts = c.work.ensures.course.stage at is stage;
+        keeps = c.rouse_ends.ensures.course.keeps;
+        table = c.abort.ensures.course.table ∙ c.rouse_ends.ensures.same.table;
+        chain = inl (let kept = c.lacks_memory.ensures.lacks c.if-lacks_memory.true in (c.abort.ensures.course.running ∙ kept.0, c.abort.ensures.course.lost ∙ kept.1));
+      };
+      does = λ runs. does_then g.I.Link.look g.K.Link.look c.args.role c.args.event self c.work.new.self now (c.abort.ensures.links.0 ∙ c.rouse_ends.ensures.same.input)
+          (c.abort.ensures.links.1 ∙ c.rouse_ends.ensures.same.output)
+          (λ lacks. let kept = c.lacks_memory.ensures.lacks c.if-lacks_memory.true in (c.abort.ensures.course.running ∙ kept.0, c.abort.ensures.course.lost ∙ kept.1)) c.work.ensures.course.does;
+      loses = lose_lacks self.driven mid.driven now.driven cx (c.lacks_memory.ensures.lacks c.if-lacks_memory.true).1 c.abort.ensures.course.running c.abort.ensures.course.lost broke;
+      only = λ runs. absurd (let wrong : true ≡ false = sym runs ∙ c.abort.ensures.course.running ∙ stopped in cc);
+      sure = λ nothing. c.abort.ensures.course.running ∙ step_sure self c.work.new.self mid c.work.new.cx cx ends c.rouse_ends.ensures.idle (c.work.ensures.course.sure nothing);
+    }
 
 pub returns-else-lacks_memory-clause-stops : goal.returns-else-lacks_memory-clause-stops
 returns-else-lacks_memory-clause-stops g c = λ runs lacks. absurd (c.lacks_memory.ensures.has c.if-lacks_memory.false lacks)

@@ -1,10 +1,15 @@
-use Rattle.std.proofs.Common.{arith, ◌≡◌, true, refl, sym, ap, subst, inl, inr, ◌∙◌}
-use Rattle.ts_transform.specs.Flow.{MustRead}
+use Rattle.std.proofs.Common.{Some, false, length, arith, ◌≡◌, true, refl, sym, ap, subst, inl, inr, ◌∙◌}
+use Rattle.ts_transform.specs.Flow.{MustRead, MustWrite}
 use Rattle.ts_transform.specs.Carrying.{MovesOn}
 use Rattle.ts_transform.proofs.Carrying.{moves_aborted, moves_as, moves_none, moves_taken, moves_wait}
-use Rattle.ts_transform.proofs.Joined.{joined_aborted, joined_as, lose_weaker}
+use Rattle.ts_transform.proofs.Joined.{course_aborted, course_same, joined_aborted, joined_as, linked_kept, lose_weaker}
+use Rattle.ts_transform.proofs.Living.{all_live, live_taken}
+use Rattle.ts_transform.specs.declared.loss.Loss.TheVariants as L
+use Rattle.ts_group.specs.declared.action.SetFault.TheVariants as F
 use Rattle.ts_transform.proofs.Driving.{may_lose}
-use Rattle.ts_transform.proofs.Kept.{acts_none}
+use Rattle.ts_transform.proofs.Kept.{acts_adds, keeps_refl}
+use Rattle.ts_transform.specs.declared.link_world.TheConstants.{FIRST, RETRY}
+use Rattle.ts_transform.proofs.Along.{duty_end, duty_none, duty_stage, rouses_writer}
 use Rattle.ts_transform.proofs.link_world.LinkWorld.write.Goals as goal
 
 -- Nothing waits for the output.
@@ -12,9 +17,6 @@ pub returns-in_default-clause-moves : goal.returns-in_default-clause-moves
 returns-in_default-clause-moves g c =
     let self = c.args.self.now in
     moves_none g.P.Transform.rest g.I.Link.tells g.K.Link.tells (g.I.Link.look self.input) (g.K.Link.look self.output) self.driven.chain self.aborted ⊥
-
-pub returns-in_default-clause-within : goal.returns-in_default-clause-within
-returns-in_default-clause-within g c = acts_none 1 c.args.cx.now c.requires.turn
 
 -- It took some bytes.
 pub returns-in-Took-clause-moves : goal.returns-in-Took-clause-moves
@@ -41,7 +43,7 @@ returns-in-Again-clause-retries g c = λ named waited.
       chain = λ must. subst MustRead same.chain must;
       reader = c.rouse_writer.ensures.kept;
       roused = λ runs. c.rouse_writer.ensures.roused runs refl;
-      only = c.rouse_writer.ensures.rouses.only named;
+      only = (c.rouse_writer.ensures.rouses.only named, c.rouse_writer.ensures.within.few);
     }
 
 -- It failed.
@@ -65,9 +67,6 @@ returns-in-Failed-clause-joined g c = λ was runs.
     c.abort.ensures.ends.0 c.abort.ensures.ends.1
     (joined_aborted self.driven.chain now.driven.chain self.driven.table.items self.writer self.reader cx.log.state.pending cx.roles c.abort.ensures.chain (was (sym c.abort.ensures.course.running ∙ runs)))
 
-pub returns-in-Failed-clause-within : goal.returns-in-Failed-clause-within
-returns-in-Failed-clause-within g c = acts_none 1 c.args.cx.now c.requires.turn
-
 -- Memory lacked.
 pub returns-in-NoMemory-clause-moves : goal.returns-in-NoMemory-clause-moves
 returns-in-NoMemory-clause-moves g c =
@@ -76,11 +75,90 @@ returns-in-NoMemory-clause-moves g c =
     (sym c.in-NoMemory.ensures.writes.lacks)
     (moves_none g.P.Transform.rest g.I.Link.tells g.K.Link.tells (g.I.Link.look self.input) (g.K.Link.look self.output) self.driven.chain self.aborted ⊥)
 
-pub returns-in-NoMemory-clause-within : goal.returns-in-NoMemory-clause-within
-returns-in-NoMemory-clause-within g c = acts_none 1 c.args.cx.now c.requires.turn
+-- The chain goes on, or is lost for a cause.
+pub returns-in_default-clause-course : goal.returns-in_default-clause-course
+returns-in_default-clause-course g c = course_same c.args.self.now c.args.cx.now c.requires.turn
 
 pub returns-in-Took-clause-course : goal.returns-in-Took-clause-course
 returns-in-Took-clause-course g c =
+    let self = c.args.self.now in
     let take = c.take-told in
-    let was = c.args.self.now.driven in
-    record { loses = lose_weaker was take.new.self take.new.cx (λ all. all.stages) (may_lose take.result was take.new.self take.new.cx take.ensures.loses); started = λ none. none }
+    let cx = c.args.cx.now in
+    let keys = take.ensures.adds.keeps.live in
+    record {
+      loses = lose_weaker self.driven take.new.self take.new.cx (λ all. all.stages) (may_lose take.result self.driven take.new.self cx take.new.cx take.ensures.loses);
+      keeps = take.ensures.adds.keeps;
+      live = linked_kept self.driven take.new.self self.writer self.writer self.reader self.reader cx take.new.cx keys
+          (λ all. all_live take.new.self.chain take.new.self.chain self.driven.table.items take.new.self.table.items cx take.new.cx keys take.ensures.same.same (λ j going. going)
+          (live_taken c.in-Took.count self.driven.chain take.new.self.chain self.driven.table.items cx take.ensures.takes.takes all)) refl refl;
+      started = λ none. none;
+    }
+
+pub returns-in-Again-clause-course : goal.returns-in-Again-clause-course
+returns-in-Again-clause-course g c = let course = c.rouse_writer.ensures.course in record { loses = course.loses; keeps = course.keeps; live = course.live; started = course.started }
+
+pub returns-in-Failed-clause-course : goal.returns-in-Failed-clause-course
+returns-in-Failed-clause-course g c =
+    course_aborted c.args.self.now c.abort.new.self c.args.self.now.driven.chain c.args.cx.now c.requires.turn c.abort.ensures.chain c.abort.ensures.course.table c.abort.ensures.course.running c.abort.ensures.course.lost
+    c.abort.ensures.ends.0 c.abort.ensures.ends.1
+
+pub returns-in-NoMemory-clause-course : goal.returns-in-NoMemory-clause-course
+returns-in-NoMemory-clause-course g c =
+    let self = c.args.self.now in
+    let cx = c.args.cx.now in
+    let stopped = record self.driven { running = false; lost = Some L.NoMemory } in
+    record {
+      loses = inr (F.NoMemory, refl, refl, tt);
+      keeps = keeps_refl cx c.requires.turn;
+      live = linked_kept self.driven stopped self.writer self.writer self.reader self.reader cx cx refl (λ all. all) refl refl;
+      started = λ none. none;
+    }
+
+-- At most one event is set, for a duty.
+pub returns-in_default-clause-duty : goal.returns-in_default-clause-duty
+returns-in_default-clause-duty g c = duty_none g.P.Transform.pause c.args.self.now c.args.self.now c.args.cx.now c.requires.turn
+
+pub returns-in-Took-clause-duty : goal.returns-in-Took-clause-duty
+returns-in-Took-clause-duty g c =
+    let self = c.args.self.now in
+    let take = c.take-told in
+    let cx = c.args.cx.now in
+    record {
+      within = acts_adds 1 1 take.result cx take.new.cx (omega arith) take.ensures.adds;
+      only = λ named. duty_stage g.P.Transform.pause take.new.self.chain self.driven.table.items cx take.new.cx (take.ensures.only FIRST named.stages);
+    }
+
+pub returns-in-Again-clause-duty : goal.returns-in-Again-clause-duty
+returns-in-Again-clause-duty g c =
+    let rouse = c.rouse_writer in
+    let cx = c.args.cx.now in
+    let must : MustWrite c.args.self.now.driven.chain = λ none. let low = c.in-Some.ensures.0 in let high = c.in-Some.ensures.1 in let empty = ap length none in omega (arith, low, high, empty) in
+    record {
+      within = rouse.ensures.within;
+      only = λ named. duty_end g.P.Transform.pause rouse.new.self.driven.chain c.args.self.now.driven.table.items cx rouse.new.cx
+          (rouses_writer rouse.new.self.driven.chain RETRY cx rouse.new.cx (inr refl) (inl (subst MustWrite (sym rouse.ensures.same.chain) must)) (rouse.ensures.rouses.only named.writer));
+    }
+
+pub returns-in-Failed-clause-duty : goal.returns-in-Failed-clause-duty
+returns-in-Failed-clause-duty g c = duty_none g.P.Transform.pause c.args.self.now c.abort.new.self c.args.cx.now c.requires.turn
+
+pub returns-in-NoMemory-clause-duty : goal.returns-in-NoMemory-clause-duty
+returns-in-NoMemory-clause-duty g c =
+    let self = c.args.self.now in
+    duty_none g.P.Transform.pause self (record self { output = c.write.new.self; driven = record self.driven { running = false; lost = Some L.NoMemory } }) c.args.cx.now c.requires.turn
+
+-- It writes once where it must.
+pub returns-in_default-clause-does : goal.returns-in_default-clause-does
+returns-in_default-clause-does g c = λ must. absurd (must c.in_default.ensures)
+
+pub returns-in-Took-clause-does : goal.returns-in-Took-clause-does
+returns-in-Took-clause-does g c = λ must. inl c.in-Took.ensures.writes.once.writes
+
+pub returns-in-Again-clause-does : goal.returns-in-Again-clause-does
+returns-in-Again-clause-does g c = λ must. inl (ap (λ x. (g.K.Link.look x).writes) c.rouse_writer.ensures.same.output ∙ c.in-Again.ensures.writes.once.writes)
+
+pub returns-in-Failed-clause-does : goal.returns-in-Failed-clause-does
+returns-in-Failed-clause-does g c = λ must. inl (ap (λ x. (g.K.Link.look x).writes) c.abort.ensures.links.1 ∙ c.in-Failed.ensures.writes.once.writes)
+
+pub returns-in-NoMemory-clause-does : goal.returns-in-NoMemory-clause-does
+returns-in-NoMemory-clause-does g c = λ must. inr (refl, refl)

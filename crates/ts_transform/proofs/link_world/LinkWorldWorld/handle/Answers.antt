@@ -1,6 +1,6 @@
 use Rattle.std.proofs.Common.{inl, refl}
 use Rattle.ts_transform.proofs.Handled.{handled_by}
-use Rattle.ts_transform.proofs.Joined.{no_duty}
+use Rattle.ts_transform.proofs.Joined.{falls_told, no_duty}
 use Rattle.ts_transform.proofs.link_world.LinkWorldWorld.handle.Goals as goal
 
 pub returns-clause-sound : goal.returns-clause-sound
@@ -14,7 +14,19 @@ returns-clause-again g c =
     c.step.ensures.again called.before.pending (handled_by _ c.args.cx.now c.args.role c.args.event called) called.sound
 
 pub returns-clause-steps : goal.returns-clause-steps
-returns-clause-steps g c = record { steps = c.step.ensures.steps; rests = λ stopped. (c.step.ensures.rests (inl stopped)).0; stops = c.step.ensures.stops }
+returns-clause-steps g c =
+    let called = c.requires.called in
+    record {
+      steps = c.step.ensures.steps;
+      rests = λ stopped. (c.step.ensures.rests (inl stopped)).0;
+      falls = falls_told c.args.self.now c.step.new.self c.args.cx.now c.step.new.cx (c.step.ensures.acts called.before.pending (handled_by _ c.args.cx.now c.args.role c.args.event called) called.sound).loses;
+      stops = c.step.ensures.stops;
+    }
 
 pub returns-clause-rests : goal.returns-clause-rests
 returns-clause-rests g c = λ idle. c.step.ensures.rests (no_duty c.args.role c.args.self.now c.requires.called.sound.ends idle)
+
+pub returns-clause-acts : goal.returns-clause-acts
+returns-clause-acts g c =
+    let called = c.requires.called in
+    c.step.ensures.acts called.before.pending (handled_by _ c.args.cx.now c.args.role c.args.event called) called.sound
