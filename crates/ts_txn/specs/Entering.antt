@@ -76,7 +76,8 @@ BeginsRunning S.Lacks d now = ⊤
 BeginsRunning step d now = ⊥
 
 -- What is left where a chain was started: its stages have the roles from the first on.
-pub record BeginsChain {P : Type 0} (step : BodyStep) (most : ℕ) (d : DrivenChain P) (a b : Context) : Type 0 where
+pub record BeginsChain {P : Type 0} (step : BodyStep) (most : ℕ) (d : DrivenChain P)
+    (a b : Context) : Type 0 where
   pub within : ActsWithin most a b
   pub made : KeepsMade a b
   pub driven : IsDrivenWhile FIRST d b.log.state.pending b.roles
@@ -98,7 +99,8 @@ module _ {C O : Type 0} (ctells otells : Bool) (client : C → Look) (origin : O
   -- memory lacked
   abbrev pub LacksAfter : Core C O → Core C O → Type 0
   LacksAfter old new = IfTold ctells otells
-      (EndFact (arc_value old.setup) (OriginRefuses client refuses old) (view_of client origin new) E.NoMemory)
+      (EndFact (arc_value old.setup) (OriginRefuses client refuses old) (view_of client origin new)
+      E.NoMemory)
 
 module _ {C O P : Type 0} (ctells otells : Bool) (client : C → Look) (origin : O → Look)
     (refuses : O → List ℕ → Type 0) (rest : P → List ℕ → List ℕ) where

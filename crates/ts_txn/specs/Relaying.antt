@@ -40,7 +40,8 @@ module _ (setup : Setup) (refuses : Type 0) where
 
     -- The origin answered this request with this head, of a body of which so much was read, by a reader that stands
     -- at this place.
-    pub record ReadsBody (c : List ℕ) (dialed : Bool) (origin : LinkSide) (place : Place) (read : List ℕ) : Type 0 where
+    pub record ReadsBody (c : List ℕ) (dialed : Bool) (origin : LinkSide) (place : Place)
+        (read : List ℕ) : Type 0 where
       pub served : Served setup refuses c q dialed origin
       pub good : IsGood q.head h
       pub fed : List ℕ
@@ -54,8 +55,8 @@ module _ (setup : Setup) (refuses : Type 0) where
 
     -- The client's text is the head, and a body that goes on as the chain does: for whatever still comes before the
     -- end was given, and for nothing from then on.
-    pub record SendsBody {P : Type 0} (rest : P → List ℕ → List ℕ) (client : LinkSide) (s : Sent) (c : ChainState P)
-        (read : List ℕ) : Type 0 where
+    pub record SendsBody {P : Type 0} (rest : P → List ℕ → List ℕ) (client : LinkSide) (s : Sent)
+        (c : ChainState P) (read : List ℕ) : Type 0 where
       pub count : HasCount client
       pub some : client.look.given ≢ []
       pub mode : s.mode ≡ mode_of (framing_for setup q.head h)
