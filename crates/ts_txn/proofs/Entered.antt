@@ -87,13 +87,13 @@ module _ {P : Type 0} (d e : DrivenChain P) (a b : Context) (within : ActsWithin
     (first : OnlyFirstWorks d.chain) (begun : HasBegun e b) where
 
   pub starts_running : e.lost ≡ None → BeginsChain S.Goes 1 e a b
-  starts_running none = record { within = within; made = made; driven = driven first; runs = inl (begun_none e b begun none) }
+  starts_running none = record { within = within; made = made.of_stage; driven = driven first; runs = inl (begun_none e b begun none) }
 
   pub starts_spent : e.lost ≡ Some L.Spent → BeginsChain S.Goes 1 e a b
-  starts_spent spent = record { within = within; made = made; driven = driven first; runs = inr (begun_spent e b begun spent) }
+  starts_spent spent = record { within = within; made = made.of_stage; driven = driven first; runs = inr (begun_spent e b begun spent) }
 
   pub starts_lacks : BeginsChain S.Lacks 1 e a b
-  starts_lacks = record { within = within; made = made; driven = driven first; runs = tt }
+  starts_lacks = record { within = within; made = made.of_stage; driven = driven first; runs = tt }
 
 -- ---- and the reader
 

@@ -1,13 +1,14 @@
 -- Who must work while a body is passed on, and that each duty has an event of a continuation that does it (Developer's
 -- Guide, "Continuations" and "Transformations").
-use Rattle.std.specs.Prelude.{◌≡◌, ◌≢◌, ℕ, ◌≤◌, ◌⊎◌, List, [], Bool, true, Option, ⊤}
+use Rattle.std.specs.Prelude.{◌≡◌, ◌≢◌, ℕ, ◌≤◌, ◌⊎◌, List, [], ◌∷◌, Bool, true, Option, ⊤}
 use Rattle.ts_journal.specs.declared.entry.TheConstants.{GREATEST}
 use Rattle.ts_journal.specs.declared.entry.Event.{Event}
 use Rattle.ts_journal.specs.declared.entry.Pending.{Pending}
 use Rattle.ts_group.specs.declared.action.Named.{Named}
-use Rattle.ts_transform.specs.Flow.{ChainState, IsFinished, MustRead, MustWrite}
+use Rattle.ts_transform.specs.Flow.{ChainState, EndsInOrder, IsFinished, MustRead, MustWrite}
 use Rattle.ts_group.specs.Context.{Context}
 use Rattle.ts_transform.specs.Driving.{ActsWithin, IsHandled, IsOfStageIf, IsRousedIf, KeepsStage, unroused}
+use Rattle.ts_transform.specs.Seats.{KeepsSeated}
 use Rattle.ts_transform.specs.Carrying.{IsJoined}
 use Rattle.ts_transform.specs.declared.continuation.StageContinuation.{StageContinuation}
 use Rattle.ts_txn.specs.Cover.{main_role}
@@ -29,6 +30,10 @@ abbrev pub IsBodyJoined : {P : Type 0} → Option StageContinuation → Relay P 
 IsBodyJoined main r pending roles = r.driven.running ≡ true
     → IsJoined r.driven.chain r.driven.table.items main r.reader pending roles
 
+-- the continuations of a body: the first one, the reader, and those of the stages
+abbrev pub body_seats : {P : Type 0} → Option StageContinuation → Relay P → List (Option StageContinuation)
+body_seats main r = main ∷ r.reader ∷ r.driven.table.items
+
 -- the first continuation and the reader are roused, where they must work
 pub record AreBodyEndsRoused {P : Type 0} (v : View) (main : Option StageContinuation)
     (r : Relay P) : Type 0 where
@@ -49,6 +54,7 @@ pub record RousesOne (step : BodyStep) (must : Bool) (t u : Option StageContinua
     (a b : Context) : Type 0 where
   pub adds : AddsSome 1 a b
   pub stage : KeepsStage a b t u
+  pub seated : KeepsSeated (t ∷ []) (u ∷ []) a b
   pub roused : OnGoes step ((must ≡ true → IsRousedIf u) ⊎ (GREATEST ≤ b.log.state.next))
 
 -- The same of the first continuation and of the reader.
@@ -60,6 +66,7 @@ pub record RousesBoth (step : BodyStep) (writes reads : Bool) (t u r s : Option 
   pub reader : (role : ℕ) → IsOfStageIf a.log.state.pending a.roles role r
       → IsOfStageIf b.log.state.pending b.roles role s
   pub same : (unroused u ≡ unroused t) × (unroused s ≡ unroused r)
+  pub seated : (ts : List (Option StageContinuation)) → KeepsSeated (t ∷ r ∷ ts) (u ∷ s ∷ ts) a b
   pub roused : OnGoes step (((writes ≡ true → IsRousedIf u) × (reads ≡ true → IsRousedIf s))
       ⊎ (GREATEST ≤ b.log.state.next))
 
@@ -86,6 +93,7 @@ pub record SettlesBody {P : Type 0} (step : BodyStep) (v : View) (t u : Option S
   pub joined : IsBodyJoined t r a.log.state.pending a.roles → IsBodyJoined u s b.log.state.pending b.roles
   pub covered : RunsOr r a.log.state.next → OnGoes step (IsBodyCovered v u s b.log.state.next)
   pub goes : OnGoes step ⊤
+  pub seated : KeepsSeated (body_seats t r) (body_seats u s) a b
 
 -- after a step that goes on a body is settled, and else nothing is done
 abbrev pub SettledAs : BodyStep → BodyStep → Type 0
@@ -100,6 +108,7 @@ pub record SettlesAfter {P : Type 0} (step result : BodyStep) (v : View) (t u : 
   pub covered : RunsOr r a.log.state.next → WhileGoes step
       (OnGoes result (IsBodyCovered v u s b.log.state.next))
   pub settled : SettledAs step result
+  pub seated : KeepsSeated (body_seats t r) (body_seats u s) a b
 
 -- What is left where an event of a role was handled while a body is passed on.
 pub record HandlesBody {P : Type 0} (step : BodyStep) (role : ℕ) (event : Event) (v w : View)
@@ -108,6 +117,9 @@ pub record HandlesBody {P : Type 0} (step : BodyStep) (role : ℕ) (event : Even
   pub joined : (before : List Pending) → IsHandled before a.log.state.pending a.roles role event
       → IsBodyJoined t r before a.roles → IsBodyJoined u s b.log.state.pending b.roles
   pub covered : IsBodyCovered v t r a.log.state.next → WhileGoes step (IsBodyCovered w u s b.log.state.next)
+  pub seated : KeepsSeated (body_seats t r) (body_seats u s) a b
+  pub ordered : EndsInOrder r.driven.chain.given r.driven.chain.stages
+      → EndsInOrder s.driven.chain.given s.driven.chain.stages
 
 -- What is left where a body began, whose first continuation had its role.
 pub record BeginsBody {P : Type 0} (step : BodyStep) (v : View) (t u : Option StageContinuation) (s : Relay P)

@@ -1,6 +1,6 @@
 -- How a body begins to be passed on: the transforms of the lines that act on it are made, and the client's head is
 -- queued (Developer's Guide, "Transformations").
-use Rattle.std.specs.Prelude.{◌≡◌, ℕ, ◌≤◌, ◌⊎◌, List, [], Bool, true, false, None, ⊤}
+use Rattle.std.specs.Prelude.{◌≡◌, ℕ, ◌≤◌, ◌⊎◌, List, [], Bool, true, false, Option, None, ⊤}
 use Rattle.std.specs.Arc.{arc_value}
 use Rattle.ts_config.specs.declared.setup.Setup.{Setup}
 use Rattle.ts_config.specs.declared.setup.TransformLine.{TransformLine}
@@ -10,8 +10,9 @@ use Rattle.ts_journal.specs.declared.entry.TheConstants.{GREATEST}
 use Rattle.ts_group.specs.Context.{Context}
 use Rattle.ts_link.specs.Link.{Look, all_of}
 use Rattle.ts_transform.specs.Flow.{ChainState, OnlyFirstWorks, flow}
-use Rattle.ts_transform.specs.Driving.{ActsWithin, IsOfStageIf, KeepsMade}
+use Rattle.ts_transform.specs.Driving.{ActsWithin, IsOfStageIf}
 use Rattle.ts_transform.specs.Driven.{IsDrivenWhile}
+use Rattle.ts_transform.specs.declared.continuation.StageContinuation.{StageContinuation}
 use Rattle.ts_transform.specs.declared.driven.DrivenChain.{DrivenChain}
 use Rattle.ts_wire.specs.declared.heads.RequestHead.{RequestHead}
 use Rattle.ts_wire.specs.declared.heads.ResponseHead.{ResponseHead}
@@ -79,7 +80,8 @@ BeginsRunning step d now = ⊥
 pub record BeginsChain {P : Type 0} (step : BodyStep) (most : ℕ) (d : DrivenChain P)
     (a b : Context) : Type 0 where
   pub within : ActsWithin most a b
-  pub made : KeepsMade a b
+  pub made : (role : ℕ) (t : Option StageContinuation) → IsOfStageIf a.log.state.pending a.roles role t
+      → IsOfStageIf b.log.state.pending b.roles role t
   pub driven : IsDrivenWhile FIRST d b.log.state.pending b.roles
   pub runs : BeginsRunning step d b
 
