@@ -158,5 +158,5 @@ pub no_lost_wake : {P : Type 0} (v : View) (main : Option StageContinuation) (r 
     → AreBodyEndsRoused v main r → EndsInOrder r.driven.chain.given r.driven.chain.stages → ⊥
 no_lost_wake v main r roles joined runs ends ordered =
     let all = all_carried r.driven.chain r.driven.table.items main r.reader roles (joined runs)
-        (record { writes = λ some. ends.writes (inr (inl some)); reads = ends.reads }) ordered in
+    (record { writes = λ some. ends.writes (inr (inl some)); reads = ends.reads }) ordered in
     none_pending roles 1 main (joined runs).of_writer (ends.writes (inr (inr (all.1, all.0))))

@@ -85,7 +85,6 @@ begun_spent d now (inr (loss, stopped, is, cause)) lost =
 
 module _ {P : Type 0} (d e : DrivenChain P) (a b : Context) (within : ActsWithin 1 a b) (made : KeepsMade a b) (driven : OnlyFirstWorks d.chain → IsDrivenWhile FIRST e b.log.state.pending b.roles)
     (first : OnlyFirstWorks d.chain) (begun : HasBegun e b) where
-
   pub starts_running : e.lost ≡ None → BeginsChain S.Goes 1 e a b
   starts_running none = record { within = within; made = made.of_stage; driven = driven first; runs = inl (begun_none e b begun none) }
 
@@ -106,7 +105,6 @@ new_reader b role t named still = record {
 
 module _ {P : Type 0} (a b c : Context) (t : StageContinuation) (grows : Grows a b) (turn : b.log.state.held ≡ true) (events : SameEvents a.log.state b.log.state)
     (keys : KeepsKeys a.log.state b.log.state a.roles b.roles) (named : role_at t.key.index b.roles ≡ Some READER) (still : t.roused ≡ false) where
-
   reader_kept : (step : BodyStep) (most : ℕ) (d : DrivenChain P) → BeginsChain step most d b c → IsOfStageIf c.log.state.pending c.roles READER (Some t)
   reader_kept step most d chain = chain.made READER (Some t) (new_reader b READER t named still)
 
@@ -149,7 +147,6 @@ module _ {P : Type 0} (a b c : Context) (t : StageContinuation) (grows : Grows a
 -- ---- the facts
 
 module _ (setup : Setup) (refuses : Type 0) where
-
   -- the client's head is queued
   pub queues_head : {P : Type 0} (rest : P → List ℕ → List ℕ) (v w : View) (q : Request) (h : ResponseHead) (r : Relay P) (text : List ℕ) (mode : Mode) → Relays setup refuses v q h
       → IsFreshRelay rest setup q.head h r → text ≡ relayed_head setup q.head h → mode ≡ mode_of (framing_for setup q.head h) → QueuesHead text mode v w

@@ -72,7 +72,7 @@ settles step writes v t u r s a b orderly tells (reads, must, rouses) same =
           let before = was (sym (ap (λ d. d.running) driven) ∙ runs) in
           subst (λ d. IsJoined d.chain d.table.items u s.reader b.log.state.pending b.roles) (sym driven)
           (joined_ends r.driven.chain r.driven.table.items t u r.reader s.reader a b rouses.adds.keeps (rouses.main 1) (rouses.reader 2)
-            (λ d. record { len = d.len; of_stages = kept_all a b rouses.adds.keeps 3 r.driven.table.items d.of_stages; cover = d.cover }) before);
+          (λ d. record { len = d.len; of_stages = kept_all a b rouses.adds.keeps 3 r.driven.table.items d.of_stages; cover = d.cover }) before);
       covered = by_run step (subst (λ d. TellsDuty writes v d.chain) (sym driven) tells) (λ duty. must (subst (λ d. MustRead d.chain) driven duty)) rouses.roused (λ runs. ap (λ d. d.running) driven ∙ runs);
       goes = only_goes _ step rouses.roused;
       seated = subst (λ d. KeepsSeated (t ∷ r.reader ∷ r.driven.table.items) (u ∷ s.reader ∷ d.table.items) a b) (sym driven) (rouses.seated r.driven.table.items);
@@ -227,10 +227,10 @@ pub handles_write : {P : Type 0} (event : Event) (step result : BodyStep) (v w :
 handles_write event step result v w t u r q s a c b orderly steps same kept after =
     handles_by 1 event step result v w t (unroused t) u r q s a c b orderly (chain_acts step 1 r.driven q.driven a c (omega arith) steps) steps.on
     (λ before handled was. chain_joined step 1 (unroused t) r q a c steps (ap (λ x. x.reader) same)
-      (λ runs. joined_writer r.driven.chain r.driven.table.items t r.reader before a.log.state.pending a.roles event handled (was runs)))
+    (λ runs. joined_writer r.driven.chain r.driven.table.items t r.reader before a.log.state.pending a.roles event handled (was runs)))
     (subst (λ (x : Option StageContinuation). KeepsSeated (body_seats t r) (unroused t ∷ x ∷ q.driven.table.items) a c) (sym (ap (λ x. x.reader) same))
-      (seated_then (body_seats t r) (body_seats (unroused t) r) (unroused t ∷ r.reader ∷ q.driven.table.items) a a c (main_unroused t (r.reader ∷ r.driven.table.items) a)
-        (stages_seated (unroused t) r.reader r.driven.table.items q.driven.table.items a c steps.seats.seated)))
+    (seated_then (body_seats t r) (body_seats (unroused t) r) (unroused t ∷ r.reader ∷ q.driven.table.items) a a c (main_unroused t (r.reader ∷ r.driven.table.items) a)
+    (stages_seated (unroused t) r.reader r.driven.table.items q.driven.table.items a c steps.seats.seated)))
     steps.ordered kept after
 
 pub handles_read : {P : Type 0} (event : Event) (step result : BodyStep) (v w : View) (t u : Option StageContinuation) (r q s : Relay P) (a c b : Context) → IsOrderly a
@@ -239,11 +239,11 @@ pub handles_read : {P : Type 0} (event : Event) (step result : BodyStep) (v w : 
 handles_read event step result v w t u r q s a c b orderly steps same kept after =
     handles_by 2 event step result v w t t u r q s a c b orderly (chain_acts step 2 r.driven q.driven a c (omega arith) steps) steps.on
     (λ before handled was. chain_joined step 2 t (record r { reader = unroused r.reader }) q a c steps same
-      (λ runs. joined_reader r.driven.chain r.driven.table.items t r.reader before a.log.state.pending a.roles event handled (was runs)))
+    (λ runs. joined_reader r.driven.chain r.driven.table.items t r.reader before a.log.state.pending a.roles event handled (was runs)))
     (subst (λ (x : Option StageContinuation). KeepsSeated (body_seats t r) (t ∷ x ∷ q.driven.table.items) a c) (sym same)
-      (seated_then (body_seats t r) (t ∷ unroused r.reader ∷ r.driven.table.items) (t ∷ unroused r.reader ∷ q.driven.table.items) a a c
-        (seated_behind t (r.reader ∷ r.driven.table.items) (unroused r.reader ∷ r.driven.table.items) a a (main_unroused r.reader r.driven.table.items a))
-        (stages_seated t (unroused r.reader) r.driven.table.items q.driven.table.items a c steps.seats.seated)))
+    (seated_then (body_seats t r) (t ∷ unroused r.reader ∷ r.driven.table.items) (t ∷ unroused r.reader ∷ q.driven.table.items) a a c
+    (seated_behind t (r.reader ∷ r.driven.table.items) (unroused r.reader ∷ r.driven.table.items) a a (main_unroused r.reader r.driven.table.items a))
+    (stages_seated t (unroused r.reader) r.driven.table.items q.driven.table.items a c steps.seats.seated)))
     steps.ordered kept after
 
 pub handles_stage : {P : Type 0} (role : ℕ) (event : Event) (f : Result ⊤ SetFault) (step result : BodyStep) (v : View) (t u : Option StageContinuation) (r q s : Relay P) (a c b : Context)
@@ -255,11 +255,11 @@ handles_stage role event f step result v t u r q s a c b orderly is acts loses o
     handles_by role event step result v v t t u r q s a c b orderly acts
     (subst (λ (x : BodyStep). DrivesOn x r.driven q.driven c) (sym is) (drives_after f r.driven q.driven a c loses))
     (λ before handled was runs.
-      subst (λ (x : Option StageContinuation). IsJoined q.driven.chain q.driven.table.items t x c.log.state.pending c.roles) (sym same)
-      (joined_stage r.driven.chain q.driven.chain r.driven.table.items q.driven.table.items t r.reader before a c role event handled not_main not_reader others
-        (λ h. driven before handled (λ on. h) runs) (was (runs_before f r.driven q.driven a c loses runs))))
+    subst (λ (x : Option StageContinuation). IsJoined q.driven.chain q.driven.table.items t x c.log.state.pending c.roles) (sym same)
+    (joined_stage r.driven.chain q.driven.chain r.driven.table.items q.driven.table.items t r.reader before a c role event handled not_main not_reader others
+    (λ h. driven before handled (λ on. h) runs) (was (runs_before f r.driven q.driven a c loses runs))))
     (subst (λ (x : Option StageContinuation). KeepsSeated (body_seats t r) (t ∷ x ∷ q.driven.table.items) a c) (sym same)
-      (stages_seated t r.reader r.driven.table.items q.driven.table.items a c seated))
+    (stages_seated t r.reader r.driven.table.items q.driven.table.items a c seated))
     ordered kept after
 
 -- where the event of a stage leads

@@ -53,7 +53,6 @@ pub record IsFreshRelay {P : Type 0} (rest : P → List ℕ → List ℕ) (setup
   pub unbegun : IsUnbegun r
 
 module _ (setup : Setup) (refuses : Type 0) where
-
   -- The client's head is queued, and nothing of the body was read.
   pub record EntersBody {P : Type 0} (rest : P → List ℕ → List ℕ) (v : View) (c : ChainState P)
       (place : Place) : Type 0 where
@@ -92,7 +91,6 @@ pub record BeginsRelay {P : Type 0} (step : BodyStep) (r : Relay P) (a b : Conte
 
 module _ {C O : Type 0} (ctells otells : Bool) (client : C → Look) (origin : O → Look)
     (refuses : O → List ℕ → Type 0) where
-
   -- the head of the response that is passed on is known
   abbrev pub HeadHolds : Core C O → Request → ResponseHead → Type 0
   HeadHolds t q h = IfTold ctells otells
@@ -106,7 +104,6 @@ module _ {C O : Type 0} (ctells otells : Bool) (client : C → Look) (origin : O
 
 module _ {C O P : Type 0} (ctells otells : Bool) (client : C → Look) (origin : O → Look)
     (refuses : O → List ℕ → Type 0) (rest : P → List ℕ → List ℕ) where
-
   -- the client's head is queued
   abbrev pub EnterHolds : Core C O → Relay P → Type 0
   EnterHolds t r = IfTold ctells otells

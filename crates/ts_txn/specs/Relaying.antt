@@ -35,9 +35,7 @@ use Rattle.ts_txn.specs.declared.parts.Sent.{Sent}
 use Rattle.ts_txn.specs.declared.phase.Request.{Request}
 
 module _ (setup : Setup) (refuses : Type 0) where
-
   module _ (q : Request) (h : ResponseHead) where
-
     -- The origin answered this request with this head, of a body of which so much was read, by a reader that stands
     -- at this place.
     pub record ReadsBody (c : List ℕ) (dialed : Bool) (origin : LinkSide) (place : Place)
@@ -105,7 +103,6 @@ pub record StepsChain {P : Type 0} (step : BodyStep) (most : ℕ) (d e : DrivenC
 
 module _ {C O P : Type 0} (ctells otells : Bool) (client : C → Look) (origin : O → Look)
     (refuses : O → List ℕ → Type 0) (rest : P → List ℕ → List ℕ) where
-
   -- the fact of a transaction whose links tell
   abbrev pub RelayHolds : Core C O → Relay P → Type 0
   RelayHolds t r = IfTold ctells otells

@@ -38,7 +38,7 @@ fn frame_sent(sent: &mut Sent, out: &mut Waiting, piece: &[u8]) -> Result<(), No
     requires { IsPiece piece.now }
     ensures ok { OnOk result
         (AddsText (frame_of sent.old.mode piece.now) (length piece.now ∷ []) sent.old sent.new out.old
-            out.new) }
+        out.new) }
     ensures err { OnErr result (AddsText [] [] sent.old sent.new out.old out.new) }
 {
     sent.cuts.reserve(1)?;

@@ -69,11 +69,7 @@ impl<C: Link, O: Upstream<C>> Core<C, O> {
     /// Makes one step of the writer: it writes once of what waits for the client, or frames a piece of what
     /// the chain gave,
     /// or the end of the body once the chain has given all.
-    pub fn write_body<P: Transform + Drop>(
-        &mut self,
-        relay: &mut Relay<P>,
-        cx: &mut Cx,
-    ) -> BodyStep
+    pub fn write_body<P: Transform + Drop>(&mut self, relay: &mut Relay<P>, cx: &mut Cx) -> BodyStep
         requires turn { cx.old.log.state.held ≡ true }
         requires fact { RelayHolds C.tells O.tells C.look O.look O.refuses P.rest self.old relay.old }
         ensures leads { RelayLeads C.tells O.tells C.look O.look O.refuses P.rest self.old self.new

@@ -11,7 +11,7 @@ returns-clause-leads g c = λ told also.
     (view_of g.C.Link.look g.O.Link.look c.args.self.now) (record c.args.relay.now { driven = c.handle.new.self }) c.settle_after.new.relay c.step_after-step.result c.settle_after.result
     c.settle_after.ensures.settles.settled c.settle_after.ensures.relay
     (stage_leads (arc_value c.args.self.now.setup) (OriginRefuses g.C.Link.look g.O.Upstream.refuses c.args.self.now) g.P.Transform.rest (view_of g.C.Link.look g.O.Link.look c.args.self.now) c.args.relay.now.driven.chain c.handle.new.self.chain c.args.relay.now.body
-      c.args.relay.now.driven.table.items c.handle.new.self.table.items c.args.cx.now c.handle.new.cx c.handle.result c.step_after-step.result c.step_after-step.ensures c.handle.ensures.gives (c.requires.fact told also))
+    c.args.relay.now.driven.table.items c.handle.new.self.table.items c.args.cx.now c.handle.new.cx c.handle.result c.step_after-step.result c.step_after-step.ensures c.handle.ensures.gives (c.requires.fact told also))
 
 pub returns-clause-handles : goal.returns-clause-handles
 returns-clause-handles g c =
