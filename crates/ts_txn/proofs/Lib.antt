@@ -4,7 +4,7 @@ pub mod Chaining
 pub mod Coverage
 pub mod Duty
 pub mod Entered
-pub mod Events
+pub mod BodyEvents
 pub mod Fed
 pub mod Filled
 pub mod Finished

@@ -2,7 +2,7 @@ use Rattle.std.proofs.Common.{sym, ap, subst, ◌∙◌}
 use Rattle.std.specs.Arc.{arc_value}
 use Rattle.ts_txn.specs.View.{OriginRefuses, view_of}
 use Rattle.ts_txn.specs.Duties.{SettlesAfter}
-use Rattle.ts_txn.proofs.Events.{handles_quiet, handles_write, settled_as}
+use Rattle.ts_txn.proofs.BodyEvents.{handles_quiet, handles_write, settled_as}
 use Rattle.ts_txn.proofs.parts.Core.send_at.Goals as goal
 
 pub returns-then-not-works-clause-handles : goal.returns-then-not-works-clause-handles

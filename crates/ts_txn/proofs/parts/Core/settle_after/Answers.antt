@@ -2,7 +2,7 @@ use Rattle.std.proofs.Common.{refl, sym, subst}
 use Rattle.ts_txn.specs.View.{view_of}
 use Rattle.ts_txn.specs.Duties.{SettlesAfter}
 use Rattle.ts_txn.specs.declared.finishing.BodyStep.TheVariants as S
-use Rattle.ts_txn.proofs.Events.{settles_after, settles_none}
+use Rattle.ts_txn.proofs.BodyEvents.{settles_after, settles_none}
 use Rattle.ts_txn.proofs.parts.Core.settle_after.Goals as goal
 
 pub returns-in-Goes-clause-settles : goal.returns-in-Goes-clause-settles

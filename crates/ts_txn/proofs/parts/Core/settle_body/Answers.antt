@@ -1,5 +1,5 @@
 use Rattle.ts_txn.specs.View.{view_of}
-use Rattle.ts_txn.proofs.Events.{settles}
+use Rattle.ts_txn.proofs.BodyEvents.{settles}
 use Rattle.ts_txn.proofs.parts.Core.settle_body.Goals as goal
 
 pub returns-clause-settles : goal.returns-clause-settles

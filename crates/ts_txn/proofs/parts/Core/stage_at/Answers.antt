@@ -2,7 +2,7 @@ use Rattle.std.proofs.Common.{refl, ap}
 use Rattle.ts_transform.proofs.Carrying.{pumped_order}
 use Rattle.std.specs.Arc.{arc_value}
 use Rattle.ts_txn.specs.View.{OriginRefuses, view_of}
-use Rattle.ts_txn.proofs.Events.{handles_stage, settled_as, stage_leads}
+use Rattle.ts_txn.proofs.BodyEvents.{handles_stage, settled_as, stage_leads}
 use Rattle.ts_txn.proofs.parts.Core.stage_at.Goals as goal
 
 pub returns-clause-leads : goal.returns-clause-leads
