@@ -1,9 +1,10 @@
 -- The events of the continuations while a body is passed on.
-use Rattle.std.proofs.Common.{◌≡◌, ◌≢◌, ℕ, ◌+◌, ◌≤◌, ◌⊎◌, inl, inr, List, [], Bool, true, false, Option, Some, None, Result, refl, sym, ap, subst, ◌∙◌, arith}
+use Rattle.std.proofs.Common.{◌≡◌, ◌≢◌, ℕ, ◌+◌, ◌≤◌, ◌⊎◌, inl, inr, List, [], ◌∷◌, ◌++◌, Bool, true, false, Option, Some, None, Result, refl, sym, ap, subst, ◌∙◌, arith}
 use Rattle.std.specs.Prelude.{⊤}
 use Rattle.ts_config.specs.declared.setup.Setup.{Setup}
 use Rattle.ts_hooks.specs.declared.txn_end.TxnEnd.TheVariants as E
 use Rattle.ts_journal.specs.declared.entry.TheConstants.{GREATEST}
+use Rattle.ts_journal.specs.declared.entry.ContKey.{ContKey}
 use Rattle.ts_journal.specs.declared.entry.Event.{Event}
 use Rattle.ts_journal.specs.declared.entry.Pending.{Pending}
 use Rattle.ts_group.specs.declared.action.SetFault.{SetFault}
@@ -13,10 +14,12 @@ use Rattle.ts_transform.specs.Driving.{ActsWithin, IsHandled, IsRousedIf, KeepsO
 use Rattle.ts_transform.specs.declared.driven.DrivenChain.{DrivenChain}
 use Rattle.ts_transform.specs.declared.continuation.StageContinuation.{StageContinuation}
 use Rattle.ts_transform.proofs.Joined.{joined_driven, joined_ends, joined_quiet, joined_reader, joined_stage, joined_writer, runs_before}
+use Rattle.ts_transform.specs.Seats.{HasKey, KeepsSeated}
+use Rattle.ts_transform.proofs.Seating.{seated_as, seated_behind, seated_then}
 use Rattle.ts_transform.proofs.Kept.{acts_none, acts_then, few_refl, keeps_refl, kept_all}
 use Rattle.ts_transform.specs.Acting.{StillGives}
 use Rattle.ts_transform.specs.Driven.{HandlesDriven, Loses}
-use Rattle.ts_transform.specs.Flow.{ChainState, MustRead}
+use Rattle.ts_transform.specs.Flow.{ChainState, EndsInOrder, MustRead}
 use Rattle.ts_wire.specs.Place.{Place}
 use Rattle.ts_transform.specs.Carrying.{IsJoined}
 use Rattle.ts_txn.specs.View.{View}
@@ -25,7 +28,7 @@ use Rattle.ts_txn.specs.Feeding.{OnGoes}
 use Rattle.ts_txn.specs.Finishing.{LeadsBody}
 use Rattle.ts_txn.specs.Relaying.{DrivesOn, RelaysBody, StepsChain, step_after}
 use Rattle.ts_txn.specs.Entering.{BeginsRelay, BeginsRunning}
-use Rattle.ts_txn.specs.Duties.{BeginsBody, AreBodyEndsRoused, EndsRouse, IsBodyCovered, IsBodyJoined, RousesBoth, HandlesBody, RunsOr, SettledAs, SettlesAfter, SettlesBody, TellsDuty, WhileGoes}
+use Rattle.ts_txn.specs.Duties.{BeginsBody, AreBodyEndsRoused, EndsRouse, IsBodyCovered, IsBodyJoined, RousesBoth, HandlesBody, RunsOr, SettledAs, SettlesAfter, SettlesBody, TellsDuty, WhileGoes, body_seats}
 use Rattle.ts_txn.specs.declared.finishing.BodyStep.{BodyStep}
 use Rattle.ts_txn.specs.declared.finishing.BodyStep.TheVariants as S
 use Rattle.ts_txn.specs.declared.relay.Relay.{Relay}
@@ -69,9 +72,10 @@ settles step writes v t u r s a b orderly tells (reads, must, rouses) same =
           let before = was (sym (ap (λ d. d.running) driven) ∙ runs) in
           subst (λ d. IsJoined d.chain d.table.items u s.reader b.log.state.pending b.roles) (sym driven)
           (joined_ends r.driven.chain r.driven.table.items t u r.reader s.reader a b rouses.adds.keeps (rouses.main 1) (rouses.reader 2)
-            (λ d. record { len = d.len; of_stages = kept_all a b rouses.adds.keeps 3 r.driven.table.items d.of_stages; cover = d.cover }) before);
+          (λ d. record { len = d.len; of_stages = kept_all a b rouses.adds.keeps 3 r.driven.table.items d.of_stages; cover = d.cover }) before);
       covered = by_run step (subst (λ d. TellsDuty writes v d.chain) (sym driven) tells) (λ duty. must (subst (λ d. MustRead d.chain) driven duty)) rouses.roused (λ runs. ap (λ d. d.running) driven ∙ runs);
       goes = only_goes _ step rouses.roused;
+      seated = subst (λ d. KeepsSeated (t ∷ r.reader ∷ r.driven.table.items) (u ∷ s.reader ∷ d.table.items) a b) (sym driven) (rouses.seated r.driven.table.items);
     }
   where
     by_run : (step : BodyStep) → TellsDuty writes v s.driven.chain → (MustRead s.driven.chain → reads ≡ true)
@@ -89,6 +93,7 @@ settles_after step result v t u r s a b settled h = record {
   joined = h.joined;
   covered = λ runs. as_goes step (h.covered runs);
   settled = settled;
+  seated = h.seated;
 }
   where
     as_goes : (step : BodyStep) → OnGoes result (IsBodyCovered v u s b.log.state.next) → WhileGoes step (OnGoes result (IsBodyCovered v u s b.log.state.next))
@@ -105,6 +110,7 @@ settles_none step v t r a turn settled ends = record {
   joined = λ h. h;
   covered = λ runs. ends _;
   settled = settled;
+  seated = λ others h. h;
 }
 
 -- where it leads
@@ -166,12 +172,15 @@ covered_after {P} step result v w t u r m s a b c later on is next settled after
 pub handles_by : {P : Type 0} (role : ℕ) (event : Event) (step result : BodyStep) (v w : View) (t m u : Option StageContinuation) (r q s : Relay P) (a c b : Context) → IsOrderly a
     → ActsWithin 4 a c → DrivesOn step r.driven q.driven c
     → ((before : List Pending) → IsHandled before a.log.state.pending a.roles role event → IsBodyJoined t r before a.roles → IsBodyJoined m q c.log.state.pending c.roles)
-    → SettlesAfter step result w m u q s c b → HandlesBody result role event v w t u r s a b
-handles_by role event step result v w t m u r q s a c b orderly acts on joined after = record {
+    → KeepsSeated (body_seats t r) (body_seats m q) a c → (EndsInOrder r.driven.chain.given r.driven.chain.stages → EndsInOrder q.driven.chain.given q.driven.chain.stages)
+    → s.driven ≡ q.driven → SettlesAfter step result w m u q s c b → HandlesBody result role event v w t u r s a b
+handles_by role event step result v w t m u r q s a c b orderly acts on joined seated ordered same after = record {
   acts = acts_then 4 2 6 (omega arith) acts
       (record { grows = after.adds.grows; turn = after.adds.keeps.turn; plain = after.adds.keeps.plain; few = after.adds.few });
   joined = λ before handled was. after.joined (joined before handled was);
   covered = covered_after step result v w t u r q s a.log.state.next c.log.state.next c (grows_next a c orderly acts.grows) on refl b.log.state.next after.settled after.covered;
+  seated = seated_then (body_seats t r) (body_seats m q) (body_seats u s) a c b seated after.seated;
+  ordered = λ h. subst (λ d. EndsInOrder d.chain.given d.chain.stages) (sym same) (ordered h);
 }
 
 -- one at which nobody works
@@ -181,7 +190,21 @@ handles_quiet role event v t r a turn rests = record {
   acts = acts_none 6 a turn;
   joined = λ before handled was runs. joined_quiet r.driven.chain r.driven.table.items t r.reader before a.log.state.pending a.roles role event handled rests (was runs);
   covered = λ h. h;
+  seated = λ others h. h;
+  ordered = λ h. h;
 }
+
+-- an end whose event was handled sits where it sat
+unroused_key : (t : Option StageContinuation) (ts : List (Option StageContinuation)) (key : ContKey) → HasKey (t ∷ ts) key → HasKey (unroused t ∷ ts) key
+unroused_key None ts key has = has
+unroused_key (Some t) ts key has = has
+
+main_unroused : (t : Option StageContinuation) (ts : List (Option StageContinuation)) (a : Context) → KeepsSeated (t ∷ ts) (unroused t ∷ ts) a a
+main_unroused t ts a = seated_as (t ∷ ts) (unroused t ∷ ts) a a refl (λ key. unroused_key t ts key)
+
+-- of the stages' continuations the same are there
+stages_seated : (t r : Option StageContinuation) (ts us : List (Option StageContinuation)) (a b : Context) → KeepsSeated ts us a b → KeepsSeated (t ∷ r ∷ ts) (t ∷ r ∷ us) a b
+stages_seated t r ts us a b seated = seated_behind t (r ∷ ts) (r ∷ us) a b (seated_behind r ts us a b seated)
 
 -- a chain's step was made behind an event of an end
 chain_acts : {P : Type 0} (step : BodyStep) (n : ℕ) (d e : DrivenChain P) (a b : Context) → n ≤ 4 → StepsChain step n d e a b → ActsWithin 4 a b
@@ -199,29 +222,45 @@ chain_joined step n t r q a b steps same was runs =
     (joined_driven r.driven.chain q.driven.chain r.driven.table.items q.driven.table.items t r.reader a b steps.adds.keeps (λ h. steps.driven 3 (λ on. h) runs) (was (steps.falls runs)))
 
 pub handles_write : {P : Type 0} (event : Event) (step result : BodyStep) (v w : View) (t u : Option StageContinuation) (r q s : Relay P) (a c b : Context) → IsOrderly a
-    → StepsChain step 1 r.driven q.driven a c → q ≡ record r { driven = q.driven } → SettlesAfter step result w (unroused t) u q s c b → HandlesBody result 1 event v w t u r s a b
-handles_write event step result v w t u r q s a c b orderly steps same after =
+    → StepsChain step 1 r.driven q.driven a c → q ≡ record r { driven = q.driven } → s.driven ≡ q.driven → SettlesAfter step result w (unroused t) u q s c b
+    → HandlesBody result 1 event v w t u r s a b
+handles_write event step result v w t u r q s a c b orderly steps same kept after =
     handles_by 1 event step result v w t (unroused t) u r q s a c b orderly (chain_acts step 1 r.driven q.driven a c (omega arith) steps) steps.on
     (λ before handled was. chain_joined step 1 (unroused t) r q a c steps (ap (λ x. x.reader) same)
-      (λ runs. joined_writer r.driven.chain r.driven.table.items t r.reader before a.log.state.pending a.roles event handled (was runs))) after
+    (λ runs. joined_writer r.driven.chain r.driven.table.items t r.reader before a.log.state.pending a.roles event handled (was runs)))
+    (subst (λ (x : Option StageContinuation). KeepsSeated (body_seats t r) (unroused t ∷ x ∷ q.driven.table.items) a c) (sym (ap (λ x. x.reader) same))
+    (seated_then (body_seats t r) (body_seats (unroused t) r) (unroused t ∷ r.reader ∷ q.driven.table.items) a a c (main_unroused t (r.reader ∷ r.driven.table.items) a)
+    (stages_seated (unroused t) r.reader r.driven.table.items q.driven.table.items a c steps.seats.seated)))
+    steps.ordered kept after
 
 pub handles_read : {P : Type 0} (event : Event) (step result : BodyStep) (v w : View) (t u : Option StageContinuation) (r q s : Relay P) (a c b : Context) → IsOrderly a
-    → StepsChain step 2 r.driven q.driven a c → q.reader ≡ unroused r.reader → SettlesAfter step result w t u q s c b → HandlesBody result 2 event v w t u r s a b
-handles_read event step result v w t u r q s a c b orderly steps same after =
+    → StepsChain step 2 r.driven q.driven a c → q.reader ≡ unroused r.reader → s.driven ≡ q.driven → SettlesAfter step result w t u q s c b
+    → HandlesBody result 2 event v w t u r s a b
+handles_read event step result v w t u r q s a c b orderly steps same kept after =
     handles_by 2 event step result v w t t u r q s a c b orderly (chain_acts step 2 r.driven q.driven a c (omega arith) steps) steps.on
     (λ before handled was. chain_joined step 2 t (record r { reader = unroused r.reader }) q a c steps same
-      (λ runs. joined_reader r.driven.chain r.driven.table.items t r.reader before a.log.state.pending a.roles event handled (was runs))) after
+    (λ runs. joined_reader r.driven.chain r.driven.table.items t r.reader before a.log.state.pending a.roles event handled (was runs)))
+    (subst (λ (x : Option StageContinuation). KeepsSeated (body_seats t r) (t ∷ x ∷ q.driven.table.items) a c) (sym same)
+    (seated_then (body_seats t r) (t ∷ unroused r.reader ∷ r.driven.table.items) (t ∷ unroused r.reader ∷ q.driven.table.items) a a c
+    (seated_behind t (r.reader ∷ r.driven.table.items) (unroused r.reader ∷ r.driven.table.items) a a (main_unroused r.reader r.driven.table.items a))
+    (stages_seated t (unroused r.reader) r.driven.table.items q.driven.table.items a c steps.seats.seated)))
+    steps.ordered kept after
 
 pub handles_stage : {P : Type 0} (role : ℕ) (event : Event) (f : Result ⊤ SetFault) (step result : BodyStep) (v : View) (t u : Option StageContinuation) (r q s : Relay P) (a c b : Context)
-    → IsOrderly a → step ≡ step_after f → ActsWithin 4 a c → Loses f r.driven q.driven c → KeepsOthers 3 r.driven.table.items a c → HandlesDriven 3 role event r.driven q.driven a c
-    → role ≢ 1 → role ≢ 2 → q.reader ≡ r.reader → SettlesAfter step result v t u q s c b → HandlesBody result role event v v t u r s a b
-handles_stage role event f step result v t u r q s a c b orderly is acts loses others driven not_main not_reader same after =
+    → IsOrderly a → step ≡ step_after f → ActsWithin 4 a c → Loses f r.driven q.driven a c → KeepsOthers 3 r.driven.table.items a c → HandlesDriven 3 role event r.driven q.driven a c
+    → role ≢ 1 → role ≢ 2 → q.reader ≡ r.reader
+    → KeepsSeated r.driven.table.items q.driven.table.items a c → (EndsInOrder r.driven.chain.given r.driven.chain.stages → EndsInOrder q.driven.chain.given q.driven.chain.stages)
+    → s.driven ≡ q.driven → SettlesAfter step result v t u q s c b → HandlesBody result role event v v t u r s a b
+handles_stage role event f step result v t u r q s a c b orderly is acts loses others driven not_main not_reader same seated ordered kept after =
     handles_by role event step result v v t t u r q s a c b orderly acts
-    (subst (λ (x : BodyStep). DrivesOn x r.driven q.driven c) (sym is) (drives_after f r.driven q.driven c loses))
+    (subst (λ (x : BodyStep). DrivesOn x r.driven q.driven c) (sym is) (drives_after f r.driven q.driven a c loses))
     (λ before handled was runs.
-      subst (λ (x : Option StageContinuation). IsJoined q.driven.chain q.driven.table.items t x c.log.state.pending c.roles) (sym same)
-      (joined_stage r.driven.chain q.driven.chain r.driven.table.items q.driven.table.items t r.reader before a c role event handled not_main not_reader others
-        (λ h. driven before handled (λ on. h) runs) (was (runs_before f r.driven q.driven c loses runs)))) after
+    subst (λ (x : Option StageContinuation). IsJoined q.driven.chain q.driven.table.items t x c.log.state.pending c.roles) (sym same)
+    (joined_stage r.driven.chain q.driven.chain r.driven.table.items q.driven.table.items t r.reader before a c role event handled not_main not_reader others
+    (λ h. driven before handled (λ on. h) runs) (was (runs_before f r.driven q.driven a c loses runs))))
+    (subst (λ (x : Option StageContinuation). KeepsSeated (body_seats t r) (t ∷ x ∷ q.driven.table.items) a c) (sym same)
+    (stages_seated t r.reader r.driven.table.items q.driven.table.items a c seated))
+    ordered kept after
 
 -- where the event of a stage leads
 pub stage_leads : {P : Type 0} (setup : Setup) (refuses : Type 0) (rest : P → List ℕ → List ℕ) (v : View) (c d : ChainState P) (place : Place) (ts us : List (Option StageContinuation))

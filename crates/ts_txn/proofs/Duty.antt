@@ -1,5 +1,5 @@
 -- The duties of a body: what a stage's event keeps, who is roused, and that none is left where nothing is pending.
-use Rattle.std.proofs.Common.{◌≡◌, ◌≢◌, ℕ, ◌+◌, ◌≤◌, ◌⊎◌, inl, inr, List, [], ◌++◌, Bool, true, false, Option, Some, None, Result, Ok, Err, refl, sym, ap, subst, ◌∙◌, arith}
+use Rattle.std.proofs.Common.{◌≡◌, ◌≢◌, ℕ, ◌+◌, ◌≤◌, ◌⊎◌, inl, inr, List, [], ◌∷◌, ◌++◌, Bool, true, false, Option, Some, None, Result, Ok, Err, refl, sym, ap, subst, ◌∙◌, arith}
 use Rattle.std.specs.Prelude.{OnOk, ⊤}
 use Rattle.std.specs.Bool.{OnTrue}
 use Rattle.ts_config.specs.declared.setup.Setup.{Setup}
@@ -18,7 +18,9 @@ use Rattle.ts_transform.specs.Acting.{StillGives}
 use Rattle.ts_transform.specs.Carrying.{AreEndsRoused}
 use Rattle.ts_transform.specs.Driving.{AddsEvents, IsCause, IsOfStageIf, IsRousedIf, KeepsStage, SetsFew}
 use Rattle.ts_transform.specs.declared.continuation.StageContinuation.{StageContinuation}
+use Rattle.ts_transform.specs.Seats.{KeepsSeated}
 use Rattle.ts_transform.proofs.Joined.{all_carried}
+use Rattle.ts_transform.proofs.Seating.{seated_behind, seated_front, seated_then}
 use Rattle.ts_transform.proofs.Kept.{few_trans, kept_if, keeps_trans}
 use Rattle.ts_wire.specs.Place.{Place}
 use Rattle.ts_txn.specs.View.{LinkSide, View}
@@ -97,10 +99,11 @@ rouses_by (Err F.NoMemory) must Live t u a b adds roused = tt
 rouses_by (Err F.Dead) must Live t u a b adds roused = tt
 
 pub rouses_one : (r : Result ⊤ SetFault) (must : Bool) (Live : Type 0) (t u : Option StageContinuation) (a b : Context) (step : BodyStep) → step ≡ step_after r
-    → AddsEvents 1 Live r a b → KeepsStage a b t u → (must ≡ true → OnOk r (IsRousedIf u)) → RousesOne step must t u a b
-rouses_one r must Live t u a b step is adds stage roused = record {
+    → AddsEvents 1 Live r a b → KeepsStage a b t u → KeepsSeated (t ∷ []) (u ∷ []) a b → (must ≡ true → OnOk r (IsRousedIf u)) → RousesOne step must t u a b
+rouses_one r must Live t u a b step is adds stage seated roused = record {
   adds = record { grows = adds.grows; keeps = adds.keeps; few = adds.few };
   stage = stage;
+  seated = seated;
   roused = subst (λ (s : BodyStep). OnGoes s ((must ≡ true → IsRousedIf u) ⊎ (GREATEST ≤ b.log.state.next))) (sym is) (rouses_by r must Live t u a b adds roused);
 }
 
@@ -126,6 +129,8 @@ rouses_both step writes reads t u r s a b c orderly main reader = record {
   main = λ role h. kept_if b c reader.adds.keeps role u (main.stage.of_stage role h);
   reader = λ role h. reader.stage.of_stage role (kept_if a b main.adds.keeps role r h);
   same = (main.stage.same, reader.stage.same);
+  seated = λ ts. seated_then (t ∷ r ∷ ts) (u ∷ r ∷ ts) (u ∷ s ∷ ts) a b c (seated_front t u (r ∷ ts) a b main.seated)
+      (seated_behind u (r ∷ ts) (s ∷ ts) b c (seated_front r s ts b c reader.seated));
   roused = both_roused step writes reads u s b c (grows_next b c orderly reader.adds.grows) main.roused reader.roused;
 }
 
@@ -136,6 +141,7 @@ rouses_lacks step writes reads t u r a b main = record {
   main = main.stage.of_stage;
   reader = λ role h. kept_if a b main.adds.keeps role r h;
   same = (main.stage.same, refl);
+  seated = λ ts. seated_front t u (r ∷ ts) a b main.seated;
   roused = tt;
 }
 
@@ -152,5 +158,5 @@ pub no_lost_wake : {P : Type 0} (v : View) (main : Option StageContinuation) (r 
     → AreBodyEndsRoused v main r → EndsInOrder r.driven.chain.given r.driven.chain.stages → ⊥
 no_lost_wake v main r roles joined runs ends ordered =
     let all = all_carried r.driven.chain r.driven.table.items main r.reader roles (joined runs)
-        (record { writes = λ some. ends.writes (inr (inl some)); reads = ends.reads }) ordered in
+    (record { writes = λ some. ends.writes (inr (inl some)); reads = ends.reads }) ordered in
     none_pending roles 1 main (joined runs).of_writer (ends.writes (inr (inr (all.1, all.0))))

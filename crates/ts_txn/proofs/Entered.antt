@@ -1,5 +1,6 @@
 -- How a body begins to be passed on: what was made of it, and where its first steps lead.
 use Rattle.std.proofs.Common.{◌≡◌, ◌≢◌, ℕ, ◌+◌, ◌≤◌, ◌⊎◌, inl, inr, List, [], ◌++◌, map, length, Bool, true, false, Option, Some, None, refl, sym, ap, subst, ◌∙◌, arith}
+use Rattle.std.specs.Prelude.{⊤}
 use Rattle.std.proofs.lemmas.Bool.{OnTrue_from}
 use Rattle.std.proofs.lemmas.List.{append-nil}
 use Rattle.std.proofs.lemmas.List.Elements.{All-nil}
@@ -71,28 +72,27 @@ fresh_relay rest setup q h d place ps framing none made flows composes is fed = 
 -- ---- the chain is started
 
 -- a chain that was started runs, or tells why it does not
-begun_none : {P Live : Type 0} (d : DrivenChain P) (now : Context) → HasBegun Live d now → d.lost ≡ None → d.running ≡ true
-begun_none d now (inl (runs, none)) lost = runs
+begun_none : {P : Type 0} (d : DrivenChain P) (now : Context) → HasBegun d now → d.lost ≡ None → d.running ≡ true
+begun_none d now (inl (runs, none, live)) lost = runs
 begun_none d now (inr (loss, stopped, is, cause)) lost = absurd (let wrong : ◌≡◌ {A = Option Loss} (Some loss) None = sym is ∙ lost in cc)
 
-begun_spent : {P Live : Type 0} (d : DrivenChain P) (now : Context) → HasBegun Live d now → d.lost ≡ Some L.Spent → GREATEST ≤ now.log.state.next
-begun_spent d now (inl (runs, none)) lost = absurd (let wrong : ◌≡◌ {A = Option Loss} None (Some L.Spent) = sym none ∙ lost in cc)
-begun_spent {Live = Live} d now (inr (loss, stopped, is, cause)) lost =
+begun_spent : {P : Type 0} (d : DrivenChain P) (now : Context) → HasBegun d now → d.lost ≡ Some L.Spent → GREATEST ≤ now.log.state.next
+begun_spent d now (inl (runs, none, live)) lost = absurd (let wrong : ◌≡◌ {A = Option Loss} None (Some L.Spent) = sym none ∙ lost in cc)
+begun_spent d now (inr (loss, stopped, is, cause)) lost =
     let both : ◌≡◌ {A = Option Loss} (Some loss) (Some L.Spent) = sym is ∙ lost in
     let same : loss ≡ L.Spent = cc in
-    subst (λ (l : Loss). IsCauseOf Live l now) same cause
+    subst (λ (l : Loss). IsCauseOf ⊤ l now) same cause
 
-module _ {P Live : Type 0} (d e : DrivenChain P) (a b : Context) (within : ActsWithin 1 a b) (made : KeepsMade a b) (driven : OnlyFirstWorks d.chain → IsDrivenWhile FIRST e b.log.state.pending b.roles)
-    (first : OnlyFirstWorks d.chain) (begun : HasBegun Live e b) where
-
+module _ {P : Type 0} (d e : DrivenChain P) (a b : Context) (within : ActsWithin 1 a b) (made : KeepsMade a b) (driven : OnlyFirstWorks d.chain → IsDrivenWhile FIRST e b.log.state.pending b.roles)
+    (first : OnlyFirstWorks d.chain) (begun : HasBegun e b) where
   pub starts_running : e.lost ≡ None → BeginsChain S.Goes 1 e a b
-  starts_running none = record { within = within; made = made; driven = driven first; runs = inl (begun_none e b begun none) }
+  starts_running none = record { within = within; made = made.of_stage; driven = driven first; runs = inl (begun_none e b begun none) }
 
   pub starts_spent : e.lost ≡ Some L.Spent → BeginsChain S.Goes 1 e a b
-  starts_spent spent = record { within = within; made = made; driven = driven first; runs = inr (begun_spent e b begun spent) }
+  starts_spent spent = record { within = within; made = made.of_stage; driven = driven first; runs = inr (begun_spent e b begun spent) }
 
   pub starts_lacks : BeginsChain S.Lacks 1 e a b
-  starts_lacks = record { within = within; made = made; driven = driven first; runs = tt }
+  starts_lacks = record { within = within; made = made.of_stage; driven = driven first; runs = tt }
 
 -- ---- and the reader
 
@@ -105,7 +105,6 @@ new_reader b role t named still = record {
 
 module _ {P : Type 0} (a b c : Context) (t : StageContinuation) (grows : Grows a b) (turn : b.log.state.held ≡ true) (events : SameEvents a.log.state b.log.state)
     (keys : KeepsKeys a.log.state b.log.state a.roles b.roles) (named : role_at t.key.index b.roles ≡ Some READER) (still : t.roused ≡ false) where
-
   reader_kept : (step : BodyStep) (most : ℕ) (d : DrivenChain P) → BeginsChain step most d b c → IsOfStageIf c.log.state.pending c.roles READER (Some t)
   reader_kept step most d chain = chain.made READER (Some t) (new_reader b READER t named still)
 
@@ -148,7 +147,6 @@ module _ {P : Type 0} (a b c : Context) (t : StageContinuation) (grows : Grows a
 -- ---- the facts
 
 module _ (setup : Setup) (refuses : Type 0) where
-
   -- the client's head is queued
   pub queues_head : {P : Type 0} (rest : P → List ℕ → List ℕ) (v w : View) (q : Request) (h : ResponseHead) (r : Relay P) (text : List ℕ) (mode : Mode) → Relays setup refuses v q h
       → IsFreshRelay rest setup q.head h r → text ≡ relayed_head setup q.head h → mode ≡ mode_of (framing_for setup q.head h) → QueuesHead text mode v w

@@ -42,7 +42,7 @@ unfinished : (framing : Framing) (fed read : List ℕ) (place : Place) → state
 unfinished framing fed read place state is =
     subst (BodyOf framing fed read) state
     (subst (λ (f : List ℕ). BodyOf framing f read (state_of place.phase)) (append-nil fed)
-      (place_body framing fed read place.held place.phase place.total is.stands is.counted is.sound [] (λ goes. refl)))
+    (place_body framing fed read place.held place.phase place.total is.stands is.counted is.sound [] (λ goes. refl)))
 
 up_to_close : (framing : Framing) (fed read : List ℕ) → BodyOf framing fed read B.Unfinished → (IsCutShort framing fed read → N.Ended ≡ N.Cut) → framing ≡ G.UntilClose
 up_to_close G.UntilClose fed read body law = refl

@@ -18,7 +18,6 @@ use Rattle.ts_txn.proofs.Owns.{all_took}
 use Rattle.ts_txn.proofs.Relaying.{text_written}
 
 module _ (setup : Setup) (refuses : Type 0) where
-
   -- ---- whatever the end
 
   some_text : (v : View) (end : TxnEnd) → QueuesFor setup refuses v end → SomeText setup refuses v

@@ -13,7 +13,6 @@ compose-push rest (q ∷ ps) p z = compose-push rest ps p (rest q z)
 module _ {P : Type 0} (rest : P → List ℕ → List ℕ) (whole : TransformLine → List ℕ → List ℕ) (f : TransformLine → Bool) (all : List TransformLine)
     (left more : List TransformLine) (l : TransformLine) (is : left ≡ l ∷ more) (ps : List P)
     (before : (z : List ℕ) → compose_lines (filter f left) (compose rest ps z) ≡ compose_lines (filter f all) z) where
-
   -- a line that acts has a part of its own
   pub part_more : ActsAsLines whole → f l ≡ true → (p : P) → ((w : List ℕ) → rest p w ≡ whole l w)
       → (z : List ℕ) → compose_lines (filter f more) (compose rest (ps ++ p ∷ []) z) ≡ compose_lines (filter f all) z

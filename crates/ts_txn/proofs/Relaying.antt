@@ -128,8 +128,8 @@ text_ended v w head body f h =
 pub front_of_block : (bytes block piece : List ℕ) (m : ℕ) → block ≡ take (length block) bytes → piece ≡ take m block → piece ≡ take (length piece) bytes
 front_of_block bytes block piece m front part =
     let whole : bytes ≡ piece ++ (drop m block ++ drop (length block) bytes) =
-        sym (take-append-drop (length block) bytes) ∙ ap (λ (x : List ℕ). x ++ drop (length block) bytes) (sym front ∙ sym (take-append-drop m block) ∙ ap (λ (x : List ℕ). x ++ drop m block) (sym part))
-        ∙ append_assoc piece (drop m block) (drop (length block) bytes) in
+    sym (take-append-drop (length block) bytes) ∙ ap (λ (x : List ℕ). x ++ drop (length block) bytes) (sym front ∙ sym (take-append-drop m block) ∙ ap (λ (x : List ℕ). x ++ drop m block) (sym part))
+    ∙ append_assoc piece (drop m block) (drop (length block) bytes) in
     sym (ap (take (length piece)) whole ∙ take_at piece (drop m block ++ drop (length block) bytes) (length piece) refl)
 
 -- ---- what the chain still gives
@@ -146,7 +146,6 @@ front_by true lines read body next flows = (next [], flows [] refl ∙ ap (compo
 front_by false lines read body next flows = λ more. (next more, flows more tt)
 
 module _ (setup : Setup) (refuses : Type 0) where
-
   -- the chain may be dropped at any time
   pub relays_relayed : {P : Type 0} (rest : P → List ℕ → List ℕ) (v : View) (c : ChainState P) (place : Place) (r : RelaysBody setup refuses rest v c place)
       → Relayed setup refuses v c.given false r.sends.body
@@ -282,8 +281,8 @@ module _ (setup : Setup) (refuses : Type 0) where
         fed = r.fed;
         reads = subst (λ (g : List ℕ). FinalHead g h (r.fed ++ s.inbox)) (sym gives.given)
             (subst (λ (i : List ℕ). FinalHead (o.look.given ++ reads.pulls.more) h i)
-              (append_assoc r.fed o.inbox reads.pulls.more ∙ ap (λ (x : List ℕ). r.fed ++ x) (sym reads.pulls.grows))
-              (final_more o.look.given h (r.fed ++ o.inbox) reads.pulls.more r.reads));
+            (append_assoc r.fed o.inbox reads.pulls.more ∙ ap (λ (x : List ℕ). r.fed ++ x) (sym reads.pulls.grows))
+            (final_more o.look.given h (r.fed ++ o.inbox) reads.pulls.more r.reads));
         is_fed = r.is_fed;
       }
 
@@ -324,15 +323,18 @@ module _ (setup : Setup) (refuses : Type 0) where
       → EndsWith (framing_of q.head h) ((r.fed ++ o.inbox) ++ o.look.left) read
   over_ends q h c dialed o place read r (ends.told state) =
       inl (subst (λ (x : List ℕ). BodyOf (framing_of q.head h) x read B.Ended) (sym (append_assoc r.fed o.inbox o.look.left))
-        (subst (BodyOf (framing_of q.head h) (r.fed ++ (o.inbox ++ o.look.left)) read) state
-          (place_body (framing_of q.head h) r.fed read place.held place.phase place.total r.is_fed.stands r.is_fed.counted r.is_fed.sound (o.inbox ++ o.look.left)
-            (λ goes. absurd (let wrong : B.Ended ≡ B.Unfinished = sym state ∙ goes in cc)))))
+      (subst (BodyOf (framing_of q.head h) (r.fed ++ (o.inbox ++ o.look.left)) read) state
+      (place_body (framing_of q.head h) r.fed read place.held place.phase place.total r.is_fed.stands r.is_fed.counted r.is_fed.sound (o.inbox ++ o.look.left)
+      (λ goes. absurd (let wrong : B.Ended ≡ B.Unfinished = sym state ∙ goes in cc)))))
   over_ends q h c dialed o place read r (ends.closed close state no_left no_held) =
       let none : o.inbox ++ o.look.left ≡ [] = ap (λ (x : List ℕ). x ++ o.look.left) no_held ∙ no_left in
-      inr (close, subst (λ (x : List ℕ). BodyOf (framing_of q.head h) x read B.Unfinished) (sym (append_assoc r.fed o.inbox o.look.left))
-        (subst (BodyOf (framing_of q.head h) (r.fed ++ (o.inbox ++ o.look.left)) read) state
-          (place_body (framing_of q.head h) r.fed read place.held place.phase place.total r.is_fed.stands r.is_fed.counted r.is_fed.sound (o.inbox ++ o.look.left)
-            (λ goes. none))))
+      inr (
+        close,
+        subst (λ (x : List ℕ). BodyOf (framing_of q.head h) x read B.Unfinished) (sym (append_assoc r.fed o.inbox o.look.left))
+            (subst (BodyOf (framing_of q.head h) (r.fed ++ (o.inbox ++ o.look.left)) read) state
+            (place_body (framing_of q.head h) r.fed read place.held place.phase place.total r.is_fed.stands r.is_fed.counted r.is_fed.sound (o.inbox ++ o.look.left)
+            (λ goes. none))),
+      )
 
   -- the head is the final one in all that the origin gives
   all_final : (q : Request) (h : ResponseHead) (c : List ℕ) (dialed : Bool) (o : LinkSide) (place : Place) (read : List ℕ)
@@ -351,13 +353,13 @@ module _ (setup : Setup) (refuses : Type 0) where
       → RelaysBody setup refuses rest v c place → IsFinishing setup refuses w E.Whole
   ends_whole rest v w c place f given none r =
       let reads : ReadsBody setup refuses r.q r.h (all_of w.client.look) w.dialed w.origin place r.read =
-          queued_reads (end_of v.sent.mode) [] v w r.q r.h place r.read f r.reads in
+      queued_reads (end_of v.sent.mode) [] v w r.q r.h place r.read f r.reads in
       let over : IsBodyOver (framing_of r.q.head r.h) w.origin place =
-          subst (λ (o : LinkSide). IsBodyOver (framing_of r.q.head r.h) o place) (sym f.origin) (r.gives_end.ended given) in
+      subst (λ (o : LinkSide). IsBodyOver (framing_of r.q.head r.h) o place) (sym f.origin) (r.gives_end.ended given) in
       let text = text_ended v w (relayed_head setup r.q.head r.h) r.sends.body f r.sends.text in
       let whole : r.sends.body ≡ compose_lines (body_lines setup r.q.head r.h) r.read =
-          sym (append-nil r.sends.body) ∙ ap (λ (x : List ℕ). r.sends.body ++ x) (sym none)
-          ∙ r.sends.flows [] (OnTrue_from c.given ([] ≡ []) (λ so. refl)) ∙ ap (compose_lines (body_lines setup r.q.head r.h)) (append-nil r.read) in
+      sym (append-nil r.sends.body) ∙ ap (λ (x : List ℕ). r.sends.body ++ x) (sym none)
+      ∙ r.sends.flows [] (OnTrue_from c.given ([] ≡ []) (λ so. refl)) ∙ ap (compose_lines (body_lines setup r.q.head r.h)) (append-nil r.read) in
       let request = request_text setup r.q.head r.q.target r.q.host in
       let block = relayed_block setup request r.q.head r.h E.Whole (compose_lines (body_lines setup r.q.head r.h) r.read) in
       record {

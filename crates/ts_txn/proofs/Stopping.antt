@@ -37,7 +37,6 @@ use Rattle.ts_txn.proofs.Responding.{served_as}
 use Rattle.ts_txn.proofs.Uploading.{took_request}
 
 module _ (setup : Setup) (refuses : Type 0) where
-
   -- ---- a body that is not read on
 
   -- What stands of a body that is not passed on any further, before it was over.
@@ -74,7 +73,7 @@ module _ (setup : Setup) (refuses : Type 0) where
   -- with a block of that end, which has no body
   stop_block : (v : View) (place : Place) (s : Stops v place) (end : TxnEnd)
       → BodySays setup (request_text setup s.q.head s.q.target s.q.host) s.q.head s.h ((s.reads.fed ++ v.origin.inbox) ++ v.origin.look.left)
-        (relayed_block setup (request_text setup s.q.head s.q.target s.q.host) s.q.head s.h end [])
+      (relayed_block setup (request_text setup s.q.head s.q.target s.q.host) s.q.head s.h end [])
       → QueuesBlock setup refuses v end false
   stop_block v place s end says =
       let block = relayed_block setup (request_text setup s.q.head s.q.target s.q.host) s.q.head s.h end [] in
@@ -201,8 +200,8 @@ module _ (setup : Setup) (refuses : Type 0) where
       body_bad q h c dialed o place read r state =
           subst (λ (x : List ℕ). BodyOf (framing_of q.head h) x read B.Bad) (sym (append_assoc r.fed o.inbox o.look.left))
           (subst (BodyOf (framing_of q.head h) (r.fed ++ (o.inbox ++ o.look.left)) read) state
-            (place_body (framing_of q.head h) r.fed read place.held place.phase place.total r.is_fed.stands r.is_fed.counted r.is_fed.sound (o.inbox ++ o.look.left)
-              (λ goes. absurd (let wrong : B.Bad ≡ B.Unfinished = sym state ∙ goes in cc))))
+          (place_body (framing_of q.head h) r.fed read place.held place.phase place.total r.is_fed.stands r.is_fed.counted r.is_fed.sound (o.inbox ++ o.look.left)
+          (λ goes. absurd (let wrong : B.Bad ≡ B.Unfinished = sym state ∙ goes in cc))))
 
   -- memory lacked for it
   feeds_lacks : {P : Type 0} (rest : P → List ℕ → List ℕ) (v w : View) (c : ChainState P) (place : Place) → DrainsOrigin v w → w.origin.inbox ≡ v.origin.inbox
@@ -226,7 +225,6 @@ module _ (setup : Setup) (refuses : Type 0) where
 
   module _ {P : Type 0} (rest : P → List ℕ → List ℕ) (t : Bool) (v w : View) (c : ChainState P) (place : Place) (told : t ≡ true) (going : c.given ≡ false)
       (r : RelaysBody setup refuses rest v c place) where
-
     -- its link failed
     pub reads_failed : ReadsOrigin t v w L.Failed → IsFinishing setup refuses w E.OriginFault
     reads_failed reads =
@@ -252,8 +250,8 @@ module _ (setup : Setup) (refuses : Type 0) where
         let on = reads_on setup refuses rest t v w L.End c place told going reads r in
         let short = here.cuts short_of (framing_of on.q.head on.h) on.reads.fed on.read (on.gives_end.goes_on going) on.reads.is_fed in
         let all : (on.reads.fed ++ w.origin.inbox) ++ w.origin.look.left ≡ on.reads.fed =
-            ap (λ (l : List ℕ). (on.reads.fed ++ w.origin.inbox) ++ l) (reads.origin.pulls.pulls.ends told) ∙ append-nil (on.reads.fed ++ w.origin.inbox)
-            ∙ ap (λ (i : List ℕ). on.reads.fed ++ i) (none_held reads none) ∙ append-nil on.reads.fed in
+        ap (λ (l : List ℕ). (on.reads.fed ++ w.origin.inbox) ++ l) (reads.origin.pulls.pulls.ends told) ∙ append-nil (on.reads.fed ++ w.origin.inbox)
+        ∙ ap (λ (i : List ℕ). on.reads.fed ++ i) (none_held reads none) ∙ append-nil on.reads.fed in
         record {
           count = on.sends.count;
           some = on.sends.some;

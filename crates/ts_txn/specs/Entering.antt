@@ -1,6 +1,6 @@
 -- How a body begins to be passed on: the transforms of the lines that act on it are made, and the client's head is
 -- queued (Developer's Guide, "Transformations").
-use Rattle.std.specs.Prelude.{◌≡◌, ℕ, ◌≤◌, ◌⊎◌, List, [], Bool, true, false, None, ⊤}
+use Rattle.std.specs.Prelude.{◌≡◌, ℕ, ◌≤◌, ◌⊎◌, List, [], Bool, true, false, Option, None, ⊤}
 use Rattle.std.specs.Arc.{arc_value}
 use Rattle.ts_config.specs.declared.setup.Setup.{Setup}
 use Rattle.ts_config.specs.declared.setup.TransformLine.{TransformLine}
@@ -10,8 +10,9 @@ use Rattle.ts_journal.specs.declared.entry.TheConstants.{GREATEST}
 use Rattle.ts_group.specs.Context.{Context}
 use Rattle.ts_link.specs.Link.{Look, all_of}
 use Rattle.ts_transform.specs.Flow.{ChainState, OnlyFirstWorks, flow}
-use Rattle.ts_transform.specs.Driving.{ActsWithin, IsOfStageIf, KeepsMade}
+use Rattle.ts_transform.specs.Driving.{ActsWithin, IsOfStageIf}
 use Rattle.ts_transform.specs.Driven.{IsDrivenWhile}
+use Rattle.ts_transform.specs.declared.continuation.StageContinuation.{StageContinuation}
 use Rattle.ts_transform.specs.declared.driven.DrivenChain.{DrivenChain}
 use Rattle.ts_wire.specs.declared.heads.RequestHead.{RequestHead}
 use Rattle.ts_wire.specs.declared.heads.ResponseHead.{ResponseHead}
@@ -52,7 +53,6 @@ pub record IsFreshRelay {P : Type 0} (rest : P → List ℕ → List ℕ) (setup
   pub unbegun : IsUnbegun r
 
 module _ (setup : Setup) (refuses : Type 0) where
-
   -- The client's head is queued, and nothing of the body was read.
   pub record EntersBody {P : Type 0} (rest : P → List ℕ → List ℕ) (v : View) (c : ChainState P)
       (place : Place) : Type 0 where
@@ -76,9 +76,11 @@ BeginsRunning S.Lacks d now = ⊤
 BeginsRunning step d now = ⊥
 
 -- What is left where a chain was started: its stages have the roles from the first on.
-pub record BeginsChain {P : Type 0} (step : BodyStep) (most : ℕ) (d : DrivenChain P) (a b : Context) : Type 0 where
+pub record BeginsChain {P : Type 0} (step : BodyStep) (most : ℕ) (d : DrivenChain P)
+    (a b : Context) : Type 0 where
   pub within : ActsWithin most a b
-  pub made : KeepsMade a b
+  pub made : (role : ℕ) (t : Option StageContinuation) → IsOfStageIf a.log.state.pending a.roles role t
+      → IsOfStageIf b.log.state.pending b.roles role t
   pub driven : IsDrivenWhile FIRST d b.log.state.pending b.roles
   pub runs : BeginsRunning step d b
 
@@ -89,7 +91,6 @@ pub record BeginsRelay {P : Type 0} (step : BodyStep) (r : Relay P) (a b : Conte
 
 module _ {C O : Type 0} (ctells otells : Bool) (client : C → Look) (origin : O → Look)
     (refuses : O → List ℕ → Type 0) where
-
   -- the head of the response that is passed on is known
   abbrev pub HeadHolds : Core C O → Request → ResponseHead → Type 0
   HeadHolds t q h = IfTold ctells otells
@@ -98,11 +99,11 @@ module _ {C O : Type 0} (ctells otells : Bool) (client : C → Look) (origin : O
   -- memory lacked
   abbrev pub LacksAfter : Core C O → Core C O → Type 0
   LacksAfter old new = IfTold ctells otells
-      (EndFact (arc_value old.setup) (OriginRefuses client refuses old) (view_of client origin new) E.NoMemory)
+      (EndFact (arc_value old.setup) (OriginRefuses client refuses old) (view_of client origin new)
+      E.NoMemory)
 
 module _ {C O P : Type 0} (ctells otells : Bool) (client : C → Look) (origin : O → Look)
     (refuses : O → List ℕ → Type 0) (rest : P → List ℕ → List ℕ) where
-
   -- the client's head is queued
   abbrev pub EnterHolds : Core C O → Relay P → Type 0
   EnterHolds t r = IfTold ctells otells

@@ -26,7 +26,8 @@ GetsPart B.Ended part c d = d ≡ record c { first = c.first ++ part; given = tr
 GetsPart B.Bad part c d = ⊤
 
 -- A front of what waits was fed to the reader, and what of it is body came to the chain.
-pub record FeedsBody {P : Type 0} (old new : Place) (before after : List ℕ) (c d : ChainState P) : Type 0 where
+pub record FeedsBody {P : Type 0} (old new : Place) (before after : List ℕ)
+    (c d : ChainState P) : Type 0 where
   pub piece : List ℕ
   pub part : List ℕ
   pub taken : before ≡ piece ++ after
@@ -34,7 +35,8 @@ pub record FeedsBody {P : Type 0} (old new : Place) (before after : List ℕ) (c
   pub gets : GetsPart (state_of new.phase) part c d
 
 -- the same by where the step leads: a bad body is the transaction's end
-abbrev pub FeedsTo : {P : Type 0} → BodyStep → Place → Place → List ℕ → List ℕ → ChainState P → ChainState P → Type 0
+abbrev pub FeedsTo : {P : Type 0} → BodyStep → Place → Place → List ℕ → List ℕ → ChainState P
+    → ChainState P → Type 0
 FeedsTo S.Goes old new before after c d = FeedsBody old new before after c d × (state_of new.phase ≢ B.Bad)
 FeedsTo (S.Finishes end) old new before after c d =
     FeedsBody old new before after c d × (state_of new.phase ≡ B.Bad) × (end ≡ E.OriginBad)

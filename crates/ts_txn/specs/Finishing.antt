@@ -16,7 +16,6 @@ use Rattle.ts_txn.specs.declared.finishing.BodyStep.{BodyStep}
 use Rattle.ts_txn.specs.declared.finishing.BodyStep.TheVariants as S
 
 module _ (setup : Setup) (refuses : Type 0) where
-
   -- The client's text is the block's head and its body, whole with its end, or so much of it and no end.
   pub record QueuesBlock (v : View) (end : TxnEnd) (fin : Bool) : Type 0 where
     pub block : Block
@@ -61,7 +60,6 @@ module _ (setup : Setup) (refuses : Type 0) where
 
 module _ {C O : Type 0} (ctells otells : Bool) (client : C → Look) (origin : O → Look)
     (refuses : O → List ℕ → Type 0) where
-
   -- the same of a transaction whose links tell
   abbrev pub FinishHolds : Core C O → TxnEnd → Type 0
   FinishHolds t end = IfTold ctells otells

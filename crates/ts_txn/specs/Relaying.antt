@@ -12,9 +12,9 @@ use Rattle.ts_group.specs.Entries.{Grows}
 use Rattle.ts_config.specs.declared.setup.Setup.{Setup}
 use Rattle.ts_config.specs.Bodies.{compose_lines}
 use Rattle.ts_link.specs.Link.{Look, all_of}
-use Rattle.ts_transform.specs.Flow.{ChainState, flow}
-use Rattle.ts_transform.specs.Driving.{Keeps, SetsFew, all_unroused}
-use Rattle.ts_transform.specs.Driven.{StaysDriven}
+use Rattle.ts_transform.specs.Flow.{ChainState, EndsInOrder, flow}
+use Rattle.ts_transform.specs.Driving.{Keeps, SetsFew}
+use Rattle.ts_transform.specs.Driven.{SameSeats, StaysDriven}
 use Rattle.ts_transform.specs.declared.driven.DrivenChain.{DrivenChain}
 use Rattle.ts_wire.specs.declared.heads.ResponseHead.{ResponseHead}
 use Rattle.ts_wire.specs.declared.body.BodyState.TheVariants as B
@@ -35,12 +35,11 @@ use Rattle.ts_txn.specs.declared.parts.Sent.{Sent}
 use Rattle.ts_txn.specs.declared.phase.Request.{Request}
 
 module _ (setup : Setup) (refuses : Type 0) where
-
   module _ (q : Request) (h : ResponseHead) where
-
     -- The origin answered this request with this head, of a body of which so much was read, by a reader that stands
     -- at this place.
-    pub record ReadsBody (c : List ℕ) (dialed : Bool) (origin : LinkSide) (place : Place) (read : List ℕ) : Type 0 where
+    pub record ReadsBody (c : List ℕ) (dialed : Bool) (origin : LinkSide) (place : Place)
+        (read : List ℕ) : Type 0 where
       pub served : Served setup refuses c q dialed origin
       pub good : IsGood q.head h
       pub fed : List ℕ
@@ -54,8 +53,8 @@ module _ (setup : Setup) (refuses : Type 0) where
 
     -- The client's text is the head, and a body that goes on as the chain does: for whatever still comes before the
     -- end was given, and for nothing from then on.
-    pub record SendsBody {P : Type 0} (rest : P → List ℕ → List ℕ) (client : LinkSide) (s : Sent) (c : ChainState P)
-        (read : List ℕ) : Type 0 where
+    pub record SendsBody {P : Type 0} (rest : P → List ℕ → List ℕ) (client : LinkSide) (s : Sent)
+        (c : ChainState P) (read : List ℕ) : Type 0 where
       pub count : HasCount client
       pub some : client.look.given ≢ []
       pub mode : s.mode ≡ mode_of (framing_for setup q.head h)
@@ -99,11 +98,11 @@ pub record StepsChain {P : Type 0} (step : BodyStep) (most : ℕ) (d e : DrivenC
   pub driven : StaysDriven d e old new
   pub on : DrivesOn step d e new
   pub falls : e.running ≡ true → d.running ≡ true
-  pub same : all_unroused e.table.items ≡ all_unroused d.table.items
+  pub seats : SameSeats d e old new
+  pub ordered : EndsInOrder d.chain.given d.chain.stages → EndsInOrder e.chain.given e.chain.stages
 
 module _ {C O P : Type 0} (ctells otells : Bool) (client : C → Look) (origin : O → Look)
     (refuses : O → List ℕ → Type 0) (rest : P → List ℕ → List ℕ) where
-
   -- the fact of a transaction whose links tell
   abbrev pub RelayHolds : Core C O → Relay P → Type 0
   RelayHolds t r = IfTold ctells otells

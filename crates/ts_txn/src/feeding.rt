@@ -18,7 +18,11 @@ use ts_upstream::Upstream;
 use ts_wire::{BodyEnd, BodyReader, BodyState};
 
 // Gives a part of a body to the chain.
-fn give_bytes<P: Transform + Drop>(driven: &mut DrivenChain<P>, part: &[u8], cx: &mut Cx) -> BodyStep
+fn give_bytes<P: Transform + Drop>(
+    driven: &mut DrivenChain<P>,
+    part: &[u8],
+    cx: &mut Cx,
+) -> BodyStep
     requires turn { cx.old.log.state.held ≡ true }
     requires goes_on { driven.old.chain.given ≡ false }
     ensures gets { OnGoes result
@@ -73,7 +77,11 @@ fn give_part<P: Transform + Drop>(
 }
 
 // Feeds the first block of what waits to the reader.
-fn feed_some<P: Transform + Drop>(inbox: &mut Waiting, relay: &mut Relay<P>, cx: &mut Cx) -> BodyStep
+fn feed_some<P: Transform + Drop>(
+    inbox: &mut Waiting,
+    relay: &mut Relay<P>,
+    cx: &mut Cx,
+) -> BodyStep
     requires turn { cx.old.log.state.held ≡ true }
     requires goes_on { relay.old.driven.chain.given ≡ false }
     ensures feeds { FeedsTo result relay.old.body relay.new.body inbox.old inbox.new

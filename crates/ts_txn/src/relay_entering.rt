@@ -1,4 +1,5 @@
-//! How a body begins to be passed on: the client's head is queued, and the reader and the stages get continuations.
+//! How a body begins to be passed on: the client's head is queued, and the reader and the stages get
+// continuations.
 ghost use Rattle.std.specs.Prelude.{◌≡◌, [], true, false, None, OnErr, IfOk};
 ghost use Rattle.ts_transform.specs.Flow.{OnlyFirstWorks};
 ghost use Rattle.ts_wire.specs.Place.{state_of};
@@ -114,7 +115,8 @@ impl<C: Link, O: Upstream<C>> Core<C, O> {
         requires goes_on { relay.old.driven.chain.given ≡ false }
         requires first { OnlyFirstWorks relay.old.driven.chain }
         requires fact { EnterHolds C.tells O.tells C.look O.look O.refuses P.rest self.now relay.old }
-        ensures leads { RelayLeads C.tells O.tells C.look O.look O.refuses P.rest self.now self.now relay.new result }
+        ensures leads { RelayLeads C.tells O.tells C.look O.look O.refuses P.rest self.now self.now
+            relay.new result }
         ensures begins { BeginsRelay result relay.new cx.old cx.new }
     {
         begin_relay(relay, cx)

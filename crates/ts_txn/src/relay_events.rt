@@ -1,4 +1,5 @@
-//! The events of the continuations while a body is passed on: each step, and then both ends are roused that must work.
+//! The events of the continuations while a body is passed on: each step, and then both ends are roused that
+// must work.
 ghost use Rattle.std.specs.Prelude.{◌≡◌, ◌≢◌, true, false};
 ghost use Rattle.ts_txn.specs.View.{view_of};
 ghost use Rattle.ts_txn.specs.Relaying.{RelayHolds, RelayLeads};
@@ -19,7 +20,8 @@ use ts_transform::{StageContinuation, Transform, unrouse, works};
 use ts_upstream::Upstream;
 
 impl<C: Link, O: Upstream<C>> Core<C, O> {
-    /// Sees that an event of each end of a body is pending that must work, after these pauses where it has none yet.
+    /// Sees that an event of each end of a body is pending that must work, after these pauses where it has
+    /// none yet.
     pub fn settle_body<P: Transform + Drop>(
         &self,
         main: &mut Option<StageContinuation>,
@@ -28,8 +30,8 @@ impl<C: Link, O: Upstream<C>> Core<C, O> {
         cx: &mut Cx,
     ) -> BodyStep
         requires turn { cx.old.log.state.held ≡ true }
-        ensures settles { SettlesBody result (view_of C.look O.look self.now) main.old main.new relay.old relay.new
-            cx.old cx.new }
+        ensures settles { SettlesBody result (view_of C.look O.look self.now) main.old main.new
+            relay.old relay.new cx.old cx.new }
         ensures relay { relay.new ≡ record relay.old { reader = relay.new.reader } }
     {
         cx.known();
@@ -47,8 +49,8 @@ impl<C: Link, O: Upstream<C>> Core<C, O> {
         cx: &mut Cx,
     ) -> BodyStep
         requires turn { cx.old.log.state.held ≡ true }
-        ensures settles { SettlesAfter step result (view_of C.look O.look self.now) main.old main.new relay.old relay.new
-            cx.old cx.new }
+        ensures settles { SettlesAfter step result (view_of C.look O.look self.now) main.old main.new
+            relay.old relay.new cx.old cx.new }
         ensures relay { relay.new ≡ record relay.old { reader = relay.new.reader } }
     {
         match step {
@@ -70,10 +72,11 @@ impl<C: Link, O: Upstream<C>> Core<C, O> {
     ) -> BodyStep
         requires turn { cx.old.log.state.held ≡ true }
         requires fact { RelayHolds C.tells O.tells C.look O.look O.refuses P.rest self.old relay.old }
-        ensures leads { RelayLeads C.tells O.tells C.look O.look O.refuses P.rest self.old self.new relay.new result }
+        ensures leads { RelayLeads C.tells O.tells C.look O.look O.refuses P.rest self.old self.new
+            relay.new result }
         ensures keeps { StepKeeps C.look O.look O.paired O.refuses self.old self.new }
-        ensures handles { HandlesBody result MAIN event (view_of C.look O.look self.old) (view_of C.look O.look self.new)
-            main.old main.new relay.old relay.new cx.old cx.new }
+        ensures handles { HandlesBody result MAIN event (view_of C.look O.look self.old)
+            (view_of C.look O.look self.new) main.old main.new relay.old relay.new cx.old cx.new }
     {
         if !works(event) {
             return BodyStep::Goes;
@@ -94,10 +97,11 @@ impl<C: Link, O: Upstream<C>> Core<C, O> {
     ) -> BodyStep
         requires turn { cx.old.log.state.held ≡ true }
         requires fact { RelayHolds C.tells O.tells C.look O.look O.refuses P.rest self.old relay.old }
-        ensures leads { RelayLeads C.tells O.tells C.look O.look O.refuses P.rest self.old self.new relay.new result }
+        ensures leads { RelayLeads C.tells O.tells C.look O.look O.refuses P.rest self.old self.new
+            relay.new result }
         ensures keeps { StepKeeps C.look O.look O.paired O.refuses self.old self.new }
-        ensures handles { HandlesBody result READER event (view_of C.look O.look self.old) (view_of C.look O.look self.new)
-            main.old main.new relay.old relay.new cx.old cx.new }
+        ensures handles { HandlesBody result READER event (view_of C.look O.look self.old)
+            (view_of C.look O.look self.new) main.old main.new relay.old relay.new cx.old cx.new }
     {
         if !works(event) {
             return BodyStep::Goes;
@@ -120,9 +124,10 @@ impl<C: Link, O: Upstream<C>> Core<C, O> {
         requires turn { cx.old.log.state.held ≡ true }
         requires fact { RelayHolds C.tells O.tells C.look O.look O.refuses P.rest self.now relay.old }
         requires role { (role ≢ MAIN) × (role ≢ READER) }
-        ensures leads { RelayLeads C.tells O.tells C.look O.look O.refuses P.rest self.now self.now relay.new result }
-        ensures handles { HandlesBody result role event (view_of C.look O.look self.now) (view_of C.look O.look self.now)
-            main.old main.new relay.old relay.new cx.old cx.new }
+        ensures leads { RelayLeads C.tells O.tells C.look O.look O.refuses P.rest self.now self.now
+            relay.new result }
+        ensures handles { HandlesBody result role event (view_of C.look O.look self.now)
+            (view_of C.look O.look self.now) main.old main.new relay.old relay.new cx.old cx.new }
     {
         cx.known();
         let step = step_after(relay.driven.handle(FIRST, role, event, cx));
@@ -140,10 +145,11 @@ impl<C: Link, O: Upstream<C>> Core<C, O> {
     ) -> BodyStep
         requires turn { cx.old.log.state.held ≡ true }
         requires fact { RelayHolds C.tells O.tells C.look O.look O.refuses P.rest self.old relay.old }
-        ensures leads { RelayLeads C.tells O.tells C.look O.look O.refuses P.rest self.old self.new relay.new result }
+        ensures leads { RelayLeads C.tells O.tells C.look O.look O.refuses P.rest self.old self.new
+            relay.new result }
         ensures keeps { StepKeeps C.look O.look O.paired O.refuses self.old self.new }
-        ensures handles { HandlesBody result role event (view_of C.look O.look self.old) (view_of C.look O.look self.new)
-            main.old main.new relay.old relay.new cx.old cx.new }
+        ensures handles { HandlesBody result role event (view_of C.look O.look self.old)
+            (view_of C.look O.look self.new) main.old main.new relay.old relay.new cx.old cx.new }
     {
         if role == MAIN {
             return self.send_at(main, relay, event, cx);
@@ -166,8 +172,10 @@ impl<C: Link, O: Upstream<C>> Core<C, O> {
         requires goes_on { relay.old.driven.chain.given ≡ false }
         requires first { OnlyFirstWorks relay.old.driven.chain }
         requires fact { EnterHolds C.tells O.tells C.look O.look O.refuses P.rest self.now relay.old }
-        ensures leads { RelayLeads C.tells O.tells C.look O.look O.refuses P.rest self.now self.now relay.new result }
-        ensures begins { BeginsBody result (view_of C.look O.look self.now) main.old main.new relay.new cx.old cx.new }
+        ensures leads { RelayLeads C.tells O.tells C.look O.look O.refuses P.rest self.now self.now
+            relay.new result }
+        ensures begins { BeginsBody result (view_of C.look O.look self.now) main.old main.new relay.new
+            cx.old cx.new }
     {
         let step = self.enter_body(relay, cx);
         self.settle_after(step, main, relay, (0, 0), cx)

@@ -51,7 +51,12 @@ fn body_parts<P: Transform<Line = TransformLine> + Drop>(
     if let Framing::Nothing = framing {
         return Ok(Vec::new(alloc));
     }
-    fresh_parts(alloc, setup.transforms.as_slice(), head.status, head.fields.items())
+    fresh_parts(
+        alloc,
+        setup.transforms.as_slice(),
+        head.status,
+        head.fields.items(),
+    )
 }
 
 // A reader of a body; of a faulty framing there is none, as if memory lacked.

@@ -21,7 +21,8 @@ impl<C: Link, O: Upstream<C>> Core<C, O> {
         requires turn { cx.old.log.state.held ≡ true }
         requires fact { RelayHolds C.tells O.tells C.look O.look O.refuses P.rest self.old relay.old }
         requires goes_on { relay.old.driven.chain.given ≡ false }
-        ensures leads { RelayLeads C.tells O.tells C.look O.look O.refuses P.rest self.old self.new relay.new result }
+        ensures leads { RelayLeads C.tells O.tells C.look O.look O.refuses P.rest self.old self.new
+            relay.new result }
         ensures keeps { StepKeeps C.look O.look O.paired O.refuses self.old self.new }
         ensures chain { StepsChain result 2 relay.old.driven relay.new.driven cx.old cx.new }
         ensures reader { relay.new.reader ≡ relay.old.reader }
@@ -35,7 +36,8 @@ impl<C: Link, O: Upstream<C>> Core<C, O> {
         requires fact { RelayHolds C.tells O.tells C.look O.look O.refuses P.rest self.old relay.old }
         requires goes_on { relay.old.driven.chain.given ≡ false }
         requires drained { (view_of C.look O.look self.old).origin.inbox ≡ [] }
-        ensures leads { RelayLeads C.tells O.tells C.look O.look O.refuses P.rest self.old self.new relay.new result }
+        ensures leads { RelayLeads C.tells O.tells C.look O.look O.refuses P.rest self.old self.new
+            relay.new result }
         ensures keeps { StepKeeps C.look O.look O.paired O.refuses self.old self.new }
         ensures chain { StepsChain result 2 relay.old.driven relay.new.driven cx.old cx.new }
         ensures reader { relay.new.reader ≡ relay.old.reader }
@@ -57,12 +59,14 @@ impl<C: Link, O: Upstream<C>> Core<C, O> {
         }
     }
 
-    /// Makes one step of the reader, unless the body is over or too much of it waits: it feeds the reader of bodies with what
+    /// Makes one step of the reader, unless the body is over or too much of it waits: it feeds the reader of
+    /// bodies with what
     /// waits of the origin's bytes, or reads on.
     pub fn read_body<P: Transform + Drop>(&mut self, relay: &mut Relay<P>, cx: &mut Cx) -> BodyStep
         requires turn { cx.old.log.state.held ≡ true }
         requires fact { RelayHolds C.tells O.tells C.look O.look O.refuses P.rest self.old relay.old }
-        ensures leads { RelayLeads C.tells O.tells C.look O.look O.refuses P.rest self.old self.new relay.new result }
+        ensures leads { RelayLeads C.tells O.tells C.look O.look O.refuses P.rest self.old self.new
+            relay.new result }
         ensures keeps { StepKeeps C.look O.look O.paired O.refuses self.old self.new }
         ensures chain { StepsChain result 2 relay.old.driven relay.new.driven cx.old cx.new }
         ensures reader { relay.new.reader ≡ relay.old.reader }

@@ -29,7 +29,8 @@ impl<C: Link, O: Upstream<C>> Core<C, O> {
     // Frames the end of the body, where the chain has given all of it.
     fn end_some<P: Transform + Drop>(&mut self, relay: &Relay<P>) -> BodyStep
         requires fact { RelayHolds C.tells O.tells C.look O.look O.refuses P.rest self.old relay.now }
-        ensures leads { RelayLeads C.tells O.tells C.look O.look O.refuses P.rest self.old self.new relay.now result }
+        ensures leads { RelayLeads C.tells O.tells C.look O.look O.refuses P.rest self.old self.new
+            relay.now result }
         ensures keeps { StepKeeps C.look O.look O.paired O.refuses self.old self.new }
     {
         if !relay.driven.chain().is_given() {
@@ -48,7 +49,8 @@ impl<C: Link, O: Upstream<C>> Core<C, O> {
     fn frame_some<P: Transform + Drop>(&mut self, relay: &mut Relay<P>, cx: &mut Cx) -> BodyStep
         requires turn { cx.old.log.state.held ≡ true }
         requires fact { RelayHolds C.tells O.tells C.look O.look O.refuses P.rest self.old relay.old }
-        ensures leads { RelayLeads C.tells O.tells C.look O.look O.refuses P.rest self.old self.new relay.new result }
+        ensures leads { RelayLeads C.tells O.tells C.look O.look O.refuses P.rest self.old self.new
+            relay.new result }
         ensures keeps { StepKeeps C.look O.look O.paired O.refuses self.old self.new }
         ensures chain { StepsChain result 1 relay.old.driven relay.new.driven cx.old cx.new }
         ensures relay { relay.new ≡ record relay.old { driven = relay.new.driven } }
@@ -64,16 +66,14 @@ impl<C: Link, O: Upstream<C>> Core<C, O> {
         step_after(relay.driven.take(count, cx))
     }
 
-    /// Makes one step of the writer: it writes once of what waits for the client, or frames a piece of what the chain gave,
+    /// Makes one step of the writer: it writes once of what waits for the client, or frames a piece of what
+    /// the chain gave,
     /// or the end of the body once the chain has given all.
-    pub fn write_body<P: Transform + Drop>(
-        &mut self,
-        relay: &mut Relay<P>,
-        cx: &mut Cx,
-    ) -> BodyStep
+    pub fn write_body<P: Transform + Drop>(&mut self, relay: &mut Relay<P>, cx: &mut Cx) -> BodyStep
         requires turn { cx.old.log.state.held ≡ true }
         requires fact { RelayHolds C.tells O.tells C.look O.look O.refuses P.rest self.old relay.old }
-        ensures leads { RelayLeads C.tells O.tells C.look O.look O.refuses P.rest self.old self.new relay.new result }
+        ensures leads { RelayLeads C.tells O.tells C.look O.look O.refuses P.rest self.old self.new
+            relay.new result }
         ensures keeps { StepKeeps C.look O.look O.paired O.refuses self.old self.new }
         ensures chain { StepsChain result 1 relay.old.driven relay.new.driven cx.old cx.new }
         ensures relay { relay.new ≡ record relay.old { driven = relay.new.driven } }

@@ -7,7 +7,7 @@ returns-in_default-start_chain g c = record {
   gets = tt;
   body = refl;
   begins = begins_unstarted c.args.cx.now c.make_end.new.cx c.start_chain.new.cx c.in-Ok.reader c.make_end.ensures.grows c.make_end.ensures.turn c.make_end.ensures.events c.make_end.ensures.keys
-    c.in-Ok.ensures.named.0 c.in-Ok.ensures.named.1
+      c.in-Ok.ensures.named.0 c.in-Ok.ensures.named.1
       c.start_chain.result _ refl c.start_chain.ensures.begins;
 }
 

@@ -4,7 +4,7 @@ use Rattle.ts_txn.specs.Relaying.{StepsChain}
 use Rattle.std.specs.Arc.{arc_value}
 use Rattle.ts_txn.specs.View.{OriginRefuses, view_of}
 use Rattle.ts_txn.proofs.Relaying.{frames_lacks, frames_step, front_of_block}
-use Rattle.ts_txn.proofs.Chaining.{chain_after, chain_still}
+use Rattle.ts_txn.proofs.Chaining.{chain_after, chain_still, taken_order}
 use Rattle.ts_txn.proofs.parts.Core.frame_some.Goals as goal
 
 pub returns-in_default-clause-chain : goal.returns-in_default-clause-chain
@@ -29,4 +29,5 @@ returns-clause-leads g c = λ told also.
 pub returns-clause-chain : goal.returns-clause-chain
 returns-clause-chain g c =
     subst (λ s. StepsChain s 1 c.args.relay.now.driven c.take.new.self c.args.cx.now c.take.new.cx) (sym c.step_after.ensures)
-    (chain_after 1 c.take.result c.args.relay.now.driven c.take.new.self c.args.cx.now c.take.new.cx c.take.ensures.adds c.take.ensures.driven c.take.ensures.loses c.take.ensures.same)
+    (chain_after 1 c.take.result c.args.relay.now.driven c.take.new.self c.args.cx.now c.take.new.cx c.take.ensures.adds c.take.ensures.driven c.take.ensures.loses c.take.ensures.same
+    (taken_order g.P.Transform.rest _ c.args.relay.now.driven.chain c.take.new.self.chain c.take.ensures.takes))

@@ -1,4 +1,4 @@
-use Rattle.std.proofs.Common.{sym, subst, ◌∙◌}
+use Rattle.std.proofs.Common.{sym, ap, subst, ◌∙◌}
 use Rattle.std.specs.Arc.{arc_value}
 use Rattle.ts_txn.specs.View.{OriginRefuses, view_of}
 use Rattle.ts_txn.specs.Duties.{SettlesAfter}
@@ -18,5 +18,5 @@ returns-clause-leads g c = λ told also.
 pub returns-clause-handles : goal.returns-clause-handles
 returns-clause-handles g c =
     handles_write c.args.event c.write_body-step.result c.settle_after.result (view_of g.C.Link.look g.O.Link.look c.args.self.now) (view_of g.C.Link.look g.O.Link.look c.write_body-step.new.self) c.args.main.now c.settle_after.new.main
-    c.args.relay.now c.write_body-step.new.relay c.settle_after.new.relay c.args.cx.now c.write_body-step.new.cx c.settle_after.new.cx c.known.ensures c.write_body-step.ensures.chain c.write_body-step.ensures.relay
+    c.args.relay.now c.write_body-step.new.relay c.settle_after.new.relay c.args.cx.now c.write_body-step.new.cx c.settle_after.new.cx c.known.ensures c.write_body-step.ensures.chain c.write_body-step.ensures.relay (ap (λ x. x.driven) c.settle_after.ensures.relay)
     (subst (λ x. SettlesAfter c.write_body-step.result c.settle_after.result (view_of g.C.Link.look g.O.Link.look c.write_body-step.new.self) x c.settle_after.new.main c.write_body-step.new.relay c.settle_after.new.relay c.write_body-step.new.cx c.settle_after.new.cx) c.unrouse.ensures c.settle_after.ensures.settles)

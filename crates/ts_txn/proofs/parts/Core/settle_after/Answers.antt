@@ -9,13 +9,13 @@ pub returns-in-Goes-clause-settles : goal.returns-in-Goes-clause-settles
 returns-in-Goes-clause-settles g c =
     subst (λ x. SettlesAfter x c.settle_body.result (view_of g.C.Link.look g.O.Link.look c.args.self.now) c.args.main.now c.settle_body.new.main c.args.relay.now c.settle_body.new.relay c.args.cx.now c.settle_body.new.cx) (sym c.in-Goes.is)
     (settles_after S.Goes c.settle_body.result (view_of g.C.Link.look g.O.Link.look c.args.self.now) c.args.main.now c.settle_body.new.main c.args.relay.now c.settle_body.new.relay c.args.cx.now c.settle_body.new.cx
-      c.settle_body.ensures.settles.goes c.settle_body.ensures.settles)
+    c.settle_body.ensures.settles.goes c.settle_body.ensures.settles)
 
 pub returns-in-Waits-clause-settles : goal.returns-in-Waits-clause-settles
 returns-in-Waits-clause-settles g c =
     subst (λ x. SettlesAfter x c.settle_body-in-Waits.result (view_of g.C.Link.look g.O.Link.look c.args.self.now) c.args.main.now c.settle_body-in-Waits.new.main c.args.relay.now c.settle_body-in-Waits.new.relay c.args.cx.now c.settle_body-in-Waits.new.cx) (sym c.in-Waits.is)
     (settles_after S.Waits c.settle_body-in-Waits.result (view_of g.C.Link.look g.O.Link.look c.args.self.now) c.args.main.now c.settle_body-in-Waits.new.main c.args.relay.now c.settle_body-in-Waits.new.relay c.args.cx.now c.settle_body-in-Waits.new.cx
-      c.settle_body-in-Waits.ensures.settles.goes c.settle_body-in-Waits.ensures.settles)
+    c.settle_body-in-Waits.ensures.settles.goes c.settle_body-in-Waits.ensures.settles)
 
 pub returns-in-Finishes-clause-settles : goal.returns-in-Finishes-clause-settles
 returns-in-Finishes-clause-settles g c =
