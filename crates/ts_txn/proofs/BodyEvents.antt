@@ -28,7 +28,7 @@ use Rattle.ts_txn.specs.Feeding.{OnGoes}
 use Rattle.ts_txn.specs.Finishing.{LeadsBody}
 use Rattle.ts_txn.specs.Relaying.{DrivesOn, RelaysBody, StepsChain, step_after}
 use Rattle.ts_txn.specs.Entering.{BeginsRelay, BeginsRunning}
-use Rattle.ts_txn.specs.Duties.{BeginsBody, AreBodyEndsRoused, EndsRouse, IsBodyCovered, IsBodyJoined, RousesBoth, HandlesBody, RunsOr, SettledAs, SettlesAfter, SettlesBody, TellsDuty, WhileGoes, body_seats}
+use Rattle.ts_txn.specs.Duties.{BeginsBody, AreBodyEndsRoused, EndsRouse, IsBodyCovered, IsBodyJoined, RousesBoth, HandlesBody, RunsOr, SettledAs, SettlesAfter, SettlesBody, TellsDuty, UnlessLacking, WhileGoes, body_seats}
 use Rattle.ts_txn.specs.declared.finishing.BodyStep.{BodyStep}
 use Rattle.ts_txn.specs.declared.finishing.BodyStep.TheVariants as S
 use Rattle.ts_txn.specs.declared.relay.Relay.{Relay}
@@ -75,6 +75,7 @@ settles step writes v t u r s a b orderly tells (reads, must, rouses) same =
           (λ d. record { len = d.len; of_stages = kept_all a b rouses.adds.keeps 3 r.driven.table.items d.of_stages; cover = d.cover }) before);
       covered = by_run step (subst (λ d. TellsDuty writes v d.chain) (sym driven) tells) (λ duty. must (subst (λ d. MustRead d.chain) driven duty)) rouses.roused (λ runs. ap (λ d. d.running) driven ∙ runs);
       goes = only_goes _ step rouses.roused;
+      later = grows_next a b orderly rouses.adds.grows;
       seated = subst (λ d. KeepsSeated (t ∷ r.reader ∷ r.driven.table.items) (u ∷ s.reader ∷ d.table.items) a b) (sym driven) (rouses.seated r.driven.table.items);
     }
   where
@@ -93,6 +94,7 @@ settles_after step result v t u r s a b settled h = record {
   joined = h.joined;
   covered = λ runs. as_goes step (h.covered runs);
   settled = settled;
+  later = h.later;
   seated = h.seated;
 }
   where
@@ -110,6 +112,7 @@ settles_none step v t r a turn settled ends = record {
   joined = λ h. h;
   covered = λ runs. ends _;
   settled = settled;
+  later = omega arith;
   seated = λ others h. h;
 }
 
@@ -169,6 +172,32 @@ covered_after {P} step result v w t u r m s a b c later on is next settled after
     by_step (S.Closes end) on settled after = none result (S.Closes end) settled (λ X. tt)
     by_step S.Lacks on settled after = none result S.Lacks settled (λ X. tt)
 
+-- so they do behind the step, where it leads on or to the end of a body
+runs_after : {P : Type 0} (step result : BodyStep) (v : View) (t : Option StageContinuation) (r m s : Relay P) (a next : ℕ) (c : Context) → a ≤ c.log.state.next → c.log.state.next ≤ next
+    → DrivesOn step r.driven m.driven c → s.driven ≡ m.driven → SettledAs step result → IsBodyCovered v t r a → UnlessLacking result (RunsOr s next)
+runs_after step result v t r m s a next c later after on same settled covered = by_step step on settled
+  where
+    kept : RunsOr m c.log.state.next → RunsOr s next
+    kept (inl runs) = inl (ap (λ d. d.running) same ∙ runs)
+    kept (inr spent) = inr (omega (arith, spent, after))
+
+    runs : (m.driven.running ≡ r.driven.running) ⊎ (GREATEST ≤ c.log.state.next) → RunsOr s next
+    runs h = kept (runs_or v t r m a c.log.state.next later h covered)
+
+    unless : (result : BodyStep) → RunsOr s next → UnlessLacking result (RunsOr s next)
+    unless S.Goes h = h
+    unless S.Waits h = h
+    unless (S.Finishes end) h = h
+    unless (S.Closes end) h = h
+    unless S.Lacks h = tt
+
+    by_step : (step : BodyStep) → DrivesOn step r.driven m.driven c → SettledAs step result → UnlessLacking result (RunsOr s next)
+    by_step S.Goes on settled = unless result (runs on)
+    by_step S.Waits on settled = unless result (runs on)
+    by_step (S.Finishes end) on settled = unless result (runs on)
+    by_step (S.Closes end) on settled = unless result (runs on)
+    by_step S.Lacks on settled = subst (λ (x : BodyStep). UnlessLacking x (RunsOr s next)) (sym settled) tt
+
 pub handles_by : {P : Type 0} (role : ℕ) (event : Event) (step result : BodyStep) (v w : View) (t m u : Option StageContinuation) (r q s : Relay P) (a c b : Context) → IsOrderly a
     → ActsWithin 4 a c → DrivesOn step r.driven q.driven c
     → ((before : List Pending) → IsHandled before a.log.state.pending a.roles role event → IsBodyJoined t r before a.roles → IsBodyJoined m q c.log.state.pending c.roles)
@@ -179,17 +208,23 @@ handles_by role event step result v w t m u r q s a c b orderly acts on joined s
       (record { grows = after.adds.grows; turn = after.adds.keeps.turn; plain = after.adds.keeps.plain; few = after.adds.few });
   joined = λ before handled was. after.joined (joined before handled was);
   covered = covered_after step result v w t u r q s a.log.state.next c.log.state.next c (grows_next a c orderly acts.grows) on refl b.log.state.next after.settled after.covered;
+  runs = runs_after step result v t r q s a.log.state.next b.log.state.next c (grows_next a c orderly acts.grows) after.later on same after.settled;
   seated = seated_then (body_seats t r) (body_seats m q) (body_seats u s) a c b seated after.seated;
   ordered = λ h. subst (λ d. EndsInOrder d.chain.given d.chain.stages) (sym same) (ordered h);
 }
 
 -- one at which nobody works
+runs_quiet : {P : Type 0} (v : View) (t : Option StageContinuation) (r : Relay P) (next : ℕ) → IsBodyCovered v t r next → RunsOr r next
+runs_quiet v t r next (inl (runs, roused)) = inl runs
+runs_quiet v t r next (inr spent) = inr spent
+
 pub handles_quiet : {P : Type 0} (role : ℕ) (event : Event) (v : View) (t : Option StageContinuation) (r : Relay P) (a : Context) → a.log.state.held ≡ true → works_at event ≡ false
     → HandlesBody S.Goes role event v v t t r r a a
 handles_quiet role event v t r a turn rests = record {
   acts = acts_none 6 a turn;
   joined = λ before handled was runs. joined_quiet r.driven.chain r.driven.table.items t r.reader before a.log.state.pending a.roles role event handled rests (was runs);
   covered = λ h. h;
+  runs = runs_quiet v t r a.log.state.next;
   seated = λ others h. h;
   ordered = λ h. h;
 }

@@ -22,7 +22,6 @@ use Rattle.ts_txn.proofs.Duty.{relays_settled}
 use Rattle.ts_txn.proofs.Settled.{finishing, phase_fact}
 
 module _ (setup : Setup) (refuses : Type 0) {Q : Type 0} (rest : Q → List ℕ → List ℕ) (v : View) where
-
   -- a step of a body
   pub led_on : (r : Relay Q) (step : BodyStep) → LeadsBody setup refuses (RelaysBody setup refuses rest v r.driven.chain r.body) v step → CourseFact setup refuses rest v (course_after r step)
   led_on r S.Goes h = h
@@ -52,9 +51,9 @@ pub course_settled : {C O Q : Type 0} (client : C → Look) (origin : O → Look
 course_settled client origin paired refuses rest old new course keeps h =
     let v = view_of client origin new in
     let to : OriginRefuses client refuses old → OriginRefuses client refuses new = λ r.
-        subst (λ (c : List ℕ). refuses_if refuses new.origin c) (sym keeps.client.source) (keeps.refusal.still _ r) in
+    subst (λ (c : List ℕ). refuses_if refuses new.origin c) (sym keeps.client.source) (keeps.refusal.still _ r) in
     let from : OriginRefuses client refuses new → OriginRefuses client refuses old = λ r.
-        keeps.refusal.before _ (subst (λ (c : List ℕ). refuses_if refuses new.origin c) keeps.client.source r) in
+    keeps.refusal.before _ (subst (λ (c : List ℕ). refuses_if refuses new.origin c) keeps.client.source r) in
     subst (λ s. CourseFact (arc_value s) (OriginRefuses client refuses new) rest v course) (sym keeps.setup)
     (course_moved (arc_value old.setup) (OriginRefuses client refuses old) (OriginRefuses client refuses new) to from rest v course h)
 
@@ -89,6 +88,6 @@ pub enters_settled : {C O Q : Type 0} (client : C → Look) (origin : O → Look
 enters_settled client origin paired refuses rest old new c place keeps h =
     let v = view_of client origin new in
     let from : OriginRefuses client refuses new → OriginRefuses client refuses old = λ r.
-        keeps.refusal.before _ (subst (λ (c : List ℕ). refuses_if refuses new.origin c) keeps.client.source r) in
+    keeps.refusal.before _ (subst (λ (c : List ℕ). refuses_if refuses new.origin c) keeps.client.source r) in
     subst (λ s. EntersBody (arc_value s) (OriginRefuses client refuses new) rest v c place) (sym keeps.setup)
     (enters_moved (arc_value old.setup) (OriginRefuses client refuses old) (OriginRefuses client refuses new) from rest v c place h)

@@ -35,7 +35,6 @@ finish_after end (S.Closes other) = K.Phased (P.TxnClose other)
 finish_after end S.Lacks = K.Phased (P.Ended E.NoMemory)
 
 module _ (setup : Setup) (refuses : Type 0) {Q : Type 0} (rest : Q → List ℕ → List ℕ) where
-
   abbrev pub CourseFact : View → Course Q → Type 0
   CourseFact v (K.Phased p) = PhaseFact setup refuses v p
   CourseFact v (K.Relaying r) = RelaysBody setup refuses rest v r.driven.chain r.body
@@ -43,7 +42,6 @@ module _ (setup : Setup) (refuses : Type 0) {Q : Type 0} (rest : Q → List ℕ 
 
 module _ {C O Q : Type 0} (ctells otells : Bool) (client : C → Look) (origin : O → Look)
     (refuses : O → List ℕ → Type 0) (rest : Q → List ℕ → List ℕ) where
-
   -- what holds of a transaction on its course
   abbrev pub CourseHolds : Core C O → Course Q → Type 0
   CourseHolds t course = IfTold ctells otells

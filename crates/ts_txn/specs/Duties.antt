@@ -31,8 +31,11 @@ IsBodyJoined main r pending roles = r.driven.running ≡ true
     → IsJoined r.driven.chain r.driven.table.items main r.reader pending roles
 
 -- the continuations of a body: the first one, the reader, and those of the stages
+abbrev pub relay_seats : {P : Type 0} → Relay P → List (Option StageContinuation)
+relay_seats r = r.reader ∷ r.driven.table.items
+
 abbrev pub body_seats : {P : Type 0} → Option StageContinuation → Relay P → List (Option StageContinuation)
-body_seats main r = main ∷ r.reader ∷ r.driven.table.items
+body_seats main r = main ∷ relay_seats r
 
 -- the first continuation and the reader are roused, where they must work
 pub record AreBodyEndsRoused {P : Type 0} (v : View) (main : Option StageContinuation)
@@ -86,6 +89,11 @@ WhileGoes S.Goes P = P
 WhileGoes S.Waits P = P
 WhileGoes step P = ⊤
 
+-- a fact of a body after a step, but where memory lacked
+abbrev pub UnlessLacking : BodyStep → Type 0 → Type 0
+UnlessLacking S.Lacks P = ⊤
+UnlessLacking step P = P
+
 -- What is left where both ends of a body were roused that must work.
 pub record SettlesBody {P : Type 0} (step : BodyStep) (v : View) (t u : Option StageContinuation)
     (r s : Relay P) (a b : Context) : Type 0 where
@@ -93,6 +101,7 @@ pub record SettlesBody {P : Type 0} (step : BodyStep) (v : View) (t u : Option S
   pub joined : IsBodyJoined t r a.log.state.pending a.roles → IsBodyJoined u s b.log.state.pending b.roles
   pub covered : RunsOr r a.log.state.next → OnGoes step (IsBodyCovered v u s b.log.state.next)
   pub goes : OnGoes step ⊤
+  pub later : a.log.state.next ≤ b.log.state.next
   pub seated : KeepsSeated (body_seats t r) (body_seats u s) a b
 
 -- after a step that goes on a body is settled, and else nothing is done
@@ -108,6 +117,7 @@ pub record SettlesAfter {P : Type 0} (step result : BodyStep) (v : View) (t u : 
   pub covered : RunsOr r a.log.state.next → WhileGoes step
       (OnGoes result (IsBodyCovered v u s b.log.state.next))
   pub settled : SettledAs step result
+  pub later : a.log.state.next ≤ b.log.state.next
   pub seated : KeepsSeated (body_seats t r) (body_seats u s) a b
 
 -- What is left where an event of a role was handled while a body is passed on.
@@ -117,6 +127,7 @@ pub record HandlesBody {P : Type 0} (step : BodyStep) (role : ℕ) (event : Even
   pub joined : (before : List Pending) → IsHandled before a.log.state.pending a.roles role event
       → IsBodyJoined t r before a.roles → IsBodyJoined u s b.log.state.pending b.roles
   pub covered : IsBodyCovered v t r a.log.state.next → WhileGoes step (IsBodyCovered w u s b.log.state.next)
+  pub runs : IsBodyCovered v t r a.log.state.next → UnlessLacking step (RunsOr s b.log.state.next)
   pub seated : KeepsSeated (body_seats t r) (body_seats u s) a b
   pub ordered : EndsInOrder r.driven.chain.given r.driven.chain.stages
       → EndsInOrder s.driven.chain.given s.driven.chain.stages

@@ -2,6 +2,7 @@ pub mod Acting
 pub mod Block
 pub mod Checking
 pub mod Course
+pub mod CourseCover
 pub mod Cover
 pub mod Driven
 pub mod Duties

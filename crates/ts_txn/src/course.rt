@@ -80,7 +80,10 @@ pub fn relay_on<C: Link, O: Upstream<C>, P: Transform + Drop>(
 }
 
 /// Writes once of what was queued last, and answers where the transaction is then.
-pub fn finish_on<C: Link, O: Upstream<C>, P: Transform + Drop>(core: &mut Core<C, O>, end: TxnEnd) -> Course<P>
+pub fn finish_on<C: Link, O: Upstream<C>, P: Transform + Drop>(
+    core: &mut Core<C, O>,
+    end: TxnEnd,
+) -> Course<P>
     requires fact { FinishHolds C.tells O.tells C.look O.look O.refuses core.old end }
     ensures fact { CourseHolds C.tells O.tells C.look O.look O.refuses P.rest core.new result }
     ensures keeps { StepKeeps C.look O.look O.paired O.refuses core.old core.new }

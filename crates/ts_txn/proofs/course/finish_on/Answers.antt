@@ -14,4 +14,4 @@ returns-clause-fact g c = λ told also.
     let v = view_of g.C.Link.look g.O.Link.look new in
     course_settled g.C.Link.look g.O.Link.look g.O.Upstream.paired g.O.Upstream.refuses g.P.Transform.rest core new c.finished.result c.send_rest-step.ensures.keeps
     (subst (λ x. CourseFact setup refuses g.P.Transform.rest v x) (sym c.finished.ensures)
-      (led_last setup refuses g.P.Transform.rest v c.args.end c.send_rest-step.result (c.send_rest-step.ensures.leads told also)))
+    (led_last setup refuses g.P.Transform.rest v c.args.end c.send_rest-step.result (c.send_rest-step.ensures.leads told also)))

@@ -14,4 +14,4 @@ returns-clause-fact g c = λ told also.
     let v = view_of g.C.Link.look g.O.Link.look new in
     course_settled g.C.Link.look g.O.Link.look g.O.Upstream.paired g.O.Upstream.refuses g.P.Transform.rest core new c.led.result c.handle_body-step.ensures.keeps
     (subst (λ x. CourseFact setup refuses g.P.Transform.rest v x) (sym c.led.ensures)
-      (led_on setup refuses g.P.Transform.rest v c.handle_body-step.new.relay c.handle_body-step.result (c.handle_body-step.ensures.leads told also)))
+    (led_on setup refuses g.P.Transform.rest v c.handle_body-step.new.relay c.handle_body-step.result (c.handle_body-step.ensures.leads told also)))
