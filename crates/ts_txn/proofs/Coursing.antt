@@ -1,14 +1,17 @@
 -- Where an event leads a transaction while a body is passed on, said of what its origin's link refuses then.
-use Rattle.std.proofs.Common.{◌≡◌, ℕ, List, sym, subst}
+use Rattle.std.proofs.Common.{◌≡◌, ℕ, List, inl, inr, sym, subst}
 use Rattle.std.specs.Arc.{arc_value}
 use Rattle.ts_config.specs.declared.setup.Setup.{Setup}
 use Rattle.ts_hooks.specs.declared.txn_end.TxnEnd.{TxnEnd}
+use Rattle.ts_hooks.specs.declared.txn_end.TxnEnd.TheVariants as E
 use Rattle.ts_link.specs.Link.{Look}
 use Rattle.ts_transform.specs.Flow.{ChainState}
 use Rattle.ts_wire.specs.Place.{Place}
 use Rattle.ts_txn.specs.Entering.{EntersBody}
 use Rattle.ts_txn.specs.View.{OriginRefuses, View, refuses_if, view_of}
 use Rattle.ts_txn.specs.Course.{CourseFact, course_after, finish_after}
+use Rattle.ts_txn.specs.CourseCover.{StaysOnOrLacks}
+use Rattle.ts_txn.specs.Ends.{EndFact}
 use Rattle.ts_txn.specs.Finishing.{IsFinishing, LeadsBody}
 use Rattle.ts_txn.specs.Holding.{StepKeeps}
 use Rattle.ts_txn.specs.Relaying.{RelaysBody}
@@ -18,6 +21,10 @@ use Rattle.ts_txn.specs.declared.finishing.BodyStep.{BodyStep}
 use Rattle.ts_txn.specs.declared.finishing.BodyStep.TheVariants as S
 use Rattle.ts_txn.specs.declared.parts.Core.{Core}
 use Rattle.ts_txn.specs.declared.relay.Relay.{Relay}
+use Rattle.ts_txn.proofs.Always.{always}
+use Rattle.ts_txn.proofs.Asks.{lacks_memory}
+use Rattle.ts_txn.proofs.Finished.{finishing_any}
+use Rattle.ts_txn.proofs.Relaying.{relays_lacks}
 use Rattle.ts_txn.proofs.Duty.{relays_settled}
 use Rattle.ts_txn.proofs.Settled.{finishing, phase_fact}
 
@@ -37,6 +44,18 @@ module _ (setup : Setup) (refuses : Type 0) {Q : Type 0} (rest : Q → List ℕ 
   led_last end (S.Finishes other) h = h
   led_last end (S.Closes other) h = h
   led_last end S.Lacks h = h
+
+-- wherever it is, it may end for want of memory
+course_lacks : (setup : Setup) (refuses : Type 0) {Q : Type 0} (rest : Q → List ℕ → List ℕ) (v : View) (course : Course Q) → CourseFact setup refuses rest v course → EndFact setup refuses v E.NoMemory
+course_lacks setup refuses rest v (K.Phased p) h = lacks_memory setup refuses v (always setup refuses v p h)
+course_lacks setup refuses rest v (K.Relaying r) h = relays_lacks setup refuses rest v r.driven.chain r.body h
+course_lacks setup refuses rest v (K.Finishing end) h = lacks_memory setup refuses v (finishing_any setup refuses v end h)
+
+-- and so it may where its next event is set
+pub stays_on : (setup : Setup) (refuses : Type 0) {Q : Type 0} (rest : Q → List ℕ → List ℕ) (v : View) (old new : Course Q) → CourseFact setup refuses rest v old → StaysOnOrLacks old new
+    → CourseFact setup refuses rest v new
+stays_on setup refuses rest v old new h (inl same) = subst (λ x. CourseFact setup refuses rest v x) (sym same) h
+stays_on setup refuses rest v old new h (inr lacks) = subst (λ x. CourseFact setup refuses rest v x) (sym lacks) (course_lacks setup refuses rest v old h)
 
 course_moved : (setup : Setup) (R T : Type 0) → (R → T) → (T → R) → {Q : Type 0} (rest : Q → List ℕ → List ℕ) (v : View) (course : Course Q)
     → CourseFact setup R rest v course → CourseFact setup T rest v course

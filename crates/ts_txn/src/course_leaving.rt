@@ -9,7 +9,7 @@ ghost use Rattle.ts_txn.specs.CourseCover.{HasRousedNext, StaysOnOrLacks};
 use crate::course::Course;
 use crate::driver::{RETRY, is_spent, rouse};
 use crate::finishing::BodyStep;
-use crate::phase::Phase;
+use crate::phase::{Next, Phase, Step};
 use crate::relay::Relay;
 use crate::relay_closing::{close_relay, destroy_end};
 use ts_group::Cx;
@@ -114,6 +114,23 @@ pub fn write_on<P: Drop>(
         BodyStep::Lacks => {
             destroy_end(main, cx);
             lacking()
+        }
+    }
+}
+
+/// Where a transaction is after the step of a phase.
+pub fn step_on<P: Drop>(step: Step, main: &mut Option<StageContinuation>, cx: &mut Cx) -> Course<P>
+    requires turn { cx.old.log.state.held ≡ true }
+    ensures course { StaysOnOrLacks (Course.Phased step.phase) result }
+    ensures within { ActsWithin 1 cx.old cx.new }
+{
+    let Step { phase, next } = step;
+    match next {
+        Next::Go => go_to(Course::Phased(phase), 0, main, cx),
+        Next::Wait => go_to(Course::Phased(phase), RETRY, main, cx),
+        Next::Done => {
+            destroy_end(main, cx);
+            Course::Phased(phase)
         }
     }
 }

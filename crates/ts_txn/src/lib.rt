@@ -9,6 +9,7 @@ mod awaiting;
 mod block;
 mod bodies;
 mod course;
+mod course_events;
 mod course_leaving;
 mod driver;
 mod feeding;

@@ -1,11 +1,10 @@
-use Rattle.std.proofs.Common.{sym, subst}
 use Rattle.std.specs.Arc.{arc_value}
 use Rattle.ts_hooks.specs.declared.txn_end.TxnEnd.TheVariants as E
-use Rattle.ts_txn.specs.Course.{CourseFact}
+use Rattle.ts_txn.specs.Course.{course_after}
 use Rattle.ts_txn.specs.View.{OriginRefuses, view_of}
 use Rattle.ts_txn.specs.declared.course.Course.TheVariants as K
 use Rattle.ts_txn.specs.declared.phase.Phase.TheVariants as P
-use Rattle.ts_txn.proofs.Coursing.{course_settled, enters_settled, led_on}
+use Rattle.ts_txn.proofs.Coursing.{course_settled, enters_settled, led_on, stays_on}
 use Rattle.ts_txn.proofs.course.enter_on.Goals as goal
 
 -- Memory lacked for the head.
@@ -25,5 +24,5 @@ returns-clause-fact g c = λ told also.
     let setup = arc_value new.setup in
     let refuses = OriginRefuses g.C.Link.look g.O.Upstream.refuses new in
     let v = view_of g.C.Link.look g.O.Link.look new in
-    subst (λ x. CourseFact setup refuses g.P.Transform.rest v x) (sym c.led.ensures)
-    (led_on setup refuses g.P.Transform.rest v c.begin_body-step.new.relay c.begin_body-step.result (c.begin_body-step.ensures.leads told also))
+    stays_on setup refuses g.P.Transform.rest v (course_after c.begin_body-step.new.relay c.begin_body-step.result) c.leave.result
+    (led_on setup refuses g.P.Transform.rest v c.begin_body-step.new.relay c.begin_body-step.result (c.begin_body-step.ensures.leads told also)) c.leave.ensures.course

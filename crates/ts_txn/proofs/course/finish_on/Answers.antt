@@ -1,8 +1,7 @@
-use Rattle.std.proofs.Common.{sym, subst}
 use Rattle.std.specs.Arc.{arc_value}
-use Rattle.ts_txn.specs.Course.{CourseFact}
+use Rattle.ts_txn.specs.Course.{finish_after}
 use Rattle.ts_txn.specs.View.{OriginRefuses, view_of}
-use Rattle.ts_txn.proofs.Coursing.{course_settled, led_last}
+use Rattle.ts_txn.proofs.Coursing.{course_settled, led_last, stays_on}
 use Rattle.ts_txn.proofs.course.finish_on.Goals as goal
 
 pub returns-clause-fact : goal.returns-clause-fact
@@ -12,6 +11,6 @@ returns-clause-fact g c = λ told also.
     let setup = arc_value core.setup in
     let refuses = OriginRefuses g.C.Link.look g.O.Upstream.refuses core in
     let v = view_of g.C.Link.look g.O.Link.look new in
-    course_settled g.C.Link.look g.O.Link.look g.O.Upstream.paired g.O.Upstream.refuses g.P.Transform.rest core new c.finished.result c.send_rest-step.ensures.keeps
-    (subst (λ x. CourseFact setup refuses g.P.Transform.rest v x) (sym c.finished.ensures)
-    (led_last setup refuses g.P.Transform.rest v c.args.end c.send_rest-step.result (c.send_rest-step.ensures.leads told also)))
+    course_settled g.C.Link.look g.O.Link.look g.O.Upstream.paired g.O.Upstream.refuses g.P.Transform.rest core new c.write_on.result c.send_rest-step.ensures.keeps
+    (stays_on setup refuses g.P.Transform.rest v (finish_after c.args.end c.send_rest-step.result) c.write_on.result
+    (led_last setup refuses g.P.Transform.rest v c.args.end c.send_rest-step.result (c.send_rest-step.ensures.leads told also)) c.write_on.ensures.course)

@@ -1,8 +1,7 @@
-use Rattle.std.proofs.Common.{sym, subst}
 use Rattle.std.specs.Arc.{arc_value}
-use Rattle.ts_txn.specs.Course.{CourseFact}
+use Rattle.ts_txn.specs.Course.{course_after}
 use Rattle.ts_txn.specs.View.{OriginRefuses, view_of}
-use Rattle.ts_txn.proofs.Coursing.{course_settled, led_on}
+use Rattle.ts_txn.proofs.Coursing.{course_settled, led_on, stays_on}
 use Rattle.ts_txn.proofs.course.relay_on.Goals as goal
 
 pub returns-clause-fact : goal.returns-clause-fact
@@ -12,6 +11,6 @@ returns-clause-fact g c = λ told also.
     let setup = arc_value core.setup in
     let refuses = OriginRefuses g.C.Link.look g.O.Upstream.refuses core in
     let v = view_of g.C.Link.look g.O.Link.look new in
-    course_settled g.C.Link.look g.O.Link.look g.O.Upstream.paired g.O.Upstream.refuses g.P.Transform.rest core new c.led.result c.handle_body-step.ensures.keeps
-    (subst (λ x. CourseFact setup refuses g.P.Transform.rest v x) (sym c.led.ensures)
-    (led_on setup refuses g.P.Transform.rest v c.handle_body-step.new.relay c.handle_body-step.result (c.handle_body-step.ensures.leads told also)))
+    course_settled g.C.Link.look g.O.Link.look g.O.Upstream.paired g.O.Upstream.refuses g.P.Transform.rest core new c.leave.result c.handle_body-step.ensures.keeps
+    (stays_on setup refuses g.P.Transform.rest v (course_after c.handle_body-step.new.relay c.handle_body-step.result) c.leave.result
+    (led_on setup refuses g.P.Transform.rest v c.handle_body-step.new.relay c.handle_body-step.result (c.handle_body-step.ensures.leads told also)) c.leave.ensures.course)
