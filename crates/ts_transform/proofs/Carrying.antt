@@ -34,7 +34,7 @@ carries_none rest it ot i o p c waits = record {
 }
 
 -- a chain that is made is in order, and only its first stage may have work
-order_fresh : {P : Type 0} (up : Bool) (ps : List P) → EndsInOrder up (map fresh_stage ps)
+pub order_fresh : {P : Type 0} (up : Bool) (ps : List P) → EndsInOrder up (map fresh_stage ps)
 order_fresh up [] = tt
 order_fresh up (p ∷ ps) = (λ ended. absurd (let wrong : false ≡ true = ended in cc), order_fresh false ps)
 
@@ -73,7 +73,7 @@ pulled_none it i j before after answer most is h =
     h.grows ∙ ap (λ l. before ++ l) none ∙ append-nil before
 
 -- where more may come no stage has ended
-order_any : {P : Type 0} (b : Bool) (ss : List (Stage P)) → EndsInOrder false ss → EndsInOrder b ss
+pub order_any : {P : Type 0} (b : Bool) (ss : List (Stage P)) → EndsInOrder false ss → EndsInOrder b ss
 order_any b [] h = tt
 order_any b (s ∷ ss) (here, others) = (λ ended. absurd (let wrong : false ≡ true = here ended in cc), others)
 
@@ -140,7 +140,7 @@ takes_first from [] n from' ss' takes = let l : length from' ≡ length (drop n 
 takes_first from (s ∷ ss) n from' [] takes = absurd takes
 takes_first from (s ∷ ss) n from' (s' ∷ ss') (same, part, takes) = let l : length from' ≡ length from = ap length same in omega (arith, l)
 
-takes_order : {P : Type 0} (up : Bool) (from : List ℕ) (ss : List (Stage P)) (n : ℕ) (from' : List ℕ) (ss' : List (Stage P)) → Takes from ss n from' ss' → EndsInOrder up ss → EndsInOrder up ss'
+pub takes_order : {P : Type 0} (up : Bool) (from : List ℕ) (ss : List (Stage P)) (n : ℕ) (from' : List ℕ) (ss' : List (Stage P)) → Takes from ss n from' ss' → EndsInOrder up ss → EndsInOrder up ss'
 takes_order up from [] n from' ss' takes h = subst (EndsInOrder up) (sym takes.1) tt
 takes_order up from (s ∷ ss) n from' [] takes h = absurd takes
 takes_order up from (s ∷ ss) n from' (s' ∷ ss') (same, part, takes) (here, others) = (
@@ -234,7 +234,7 @@ pumped_first : {P : Type 0} (rest : P → List ℕ → List ℕ) (c d : ChainSta
 pumped_first rest c d (inl same) = let l : length d.first ≡ length c.first = ap (λ x. length x.first) same in omega (arith, l)
 pumped_first rest c d (inr (at, h)) = steps_first rest c.first c.stages at h.pumped d.first d.stages h.steps
 
-pumped_order : {P : Type 0} (rest : P → List ℕ → List ℕ) (c d : ChainState P) → PumpsOnce rest c d → EndsInOrder c.given c.stages → EndsInOrder d.given d.stages
+pub pumped_order : {P : Type 0} (rest : P → List ℕ → List ℕ) (c d : ChainState P) → PumpsOnce rest c d → EndsInOrder c.given c.stages → EndsInOrder d.given d.stages
 pumped_order rest c d (inl same) ordered = subst (λ x. EndsInOrder x.given x.stages) (sym same) ordered
 pumped_order rest c d (inr (at, h)) ordered = subst (λ b. EndsInOrder b d.stages) (sym h.given) (steps_order rest c.given c.first c.stages at h.pumped d.first d.stages h.answers h.steps ordered)
 

@@ -40,7 +40,7 @@ lost_other a b key mine role t lost named differ s = record {
       works = e.works;
     }
 
-lost_if : (a b : Context) (key : ContKey) (mine role : ℕ) (t : Option StageContinuation) → HasLost a.log.state b.log.state a.roles b.roles key → role_at key.index a.roles ≡ Some mine → role ≢ mine
+pub lost_if : (a b : Context) (key : ContKey) (mine role : ℕ) (t : Option StageContinuation) → HasLost a.log.state b.log.state a.roles b.roles key → role_at key.index a.roles ≡ Some mine → role ≢ mine
     → IsOfStageIf a.log.state.pending a.roles role t → IsOfStageIf b.log.state.pending b.roles role t
 lost_if a b key mine role None lost named differ s = tt
 lost_if a b key mine role (Some t) lost named differ s = lost_other a b key mine role t lost named differ s

@@ -16,14 +16,14 @@ use Rattle.ts_transform.specs.declared.loss.Loss.{Loss}
 use Rattle.ts_transform.specs.declared.pump.Stage.{Stage}
 use Rattle.ts_transform.specs.Stage.{has_ended}
 use Rattle.ts_transform.specs.Flow.{ChainState, EndsInOrder, IsFinished, MustPump, aborted, client_wait, closed, last_ended, last_wait, ended_at}
-use Rattle.ts_transform.specs.Driving.{ActsWithin, HasEvent, IsCause, AreOfStages, IsHandled, IsNamedIf, IsOfStageIf, IsRousedIf, IsRousingOf, SetsOnly, Keeps, KeepsOthers, unroused, works_at, all_unroused}
+use Rattle.ts_transform.specs.Driving.{ActsWithin, HasEvent, IsCause, AreOfStages, IsHandled, IsNamedIf, IsOfStageIf, IsRousedIf, Keeps, KeepsOthers, unroused, works_at, all_unroused}
 use Rattle.ts_transform.specs.Cover.{IsDriven}
 use Rattle.ts_transform.specs.declared.loss.Loss.TheVariants.{NoMemory}
 use Rattle.ts_transform.specs.Driven.{HasBegun, Loses, MayLose, HasAllLive}
 use Rattle.ts_transform.specs.Loss.{IsCauseOf, loss_of, making_loss}
 use Rattle.ts_transform.specs.Carrying.{HasBegunAlong, AreEndsRoused, FallsTold, AreLinked, HasNoDuty, IsCarried, IsJoined, IsOfNobody, MayBreak, RetriesOnce, RetriesRead, RetriesWrite, AreLiveAlong, KeepsCourse, StaysLinked}
 use Rattle.ts_transform.specs.declared.link_world.LinkWorld.{LinkWorld}
-use Rattle.ts_transform.specs.declared.link_world.TheConstants.{READER, RETRY, WRITER}
+use Rattle.ts_transform.specs.declared.link_world.TheConstants.{READER, WRITER}
 use Rattle.ts_transform.specs.Acting.{KeepsLive}
 use Rattle.ts_transform.proofs.Handled.{begun_other, begun_quiet, quiet_if, stays_if, unroused_if}
 use Rattle.ts_transform.proofs.Driving.{may_lose}

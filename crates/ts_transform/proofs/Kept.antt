@@ -1,5 +1,5 @@
 -- What the calls of a handler leave of the events and the roles of stages.
-use Rattle.std.proofs.Common.{◌≡◌, ℕ, zero, suc, ◌+◌, ◌≤◌, List, [], ◌∷◌, Bool, true, false, Option, Some, None, Result, Ok, Err, OnOk, IfOk, IfErr, arith, refl, sym, ap, subst, ◌∙◌, if◌then◌else◌, IsErrAnd}
+use Rattle.std.proofs.Common.{length, ◌≡◌, ℕ, zero, suc, ◌+◌, ◌≤◌, List, [], ◌∷◌, Bool, true, false, Option, Some, None, Result, Ok, Err, OnOk, IfOk, IfErr, arith, refl, sym, ap, subst, ◌∙◌, if◌then◌else◌, IsErrAnd}
 use Rattle.std.specs.Prelude.{⊤}
 use Rattle.ts_journal.specs.declared.entry.ContKey.{ContKey}
 use Rattle.ts_journal.specs.declared.entry.Event.{Event}
@@ -12,8 +12,10 @@ use Rattle.ts_group.specs.Context.{Context, role_at, moment_after}
 use Rattle.ts_group.specs.Entries.{Grows}
 use Rattle.ts_group.proofs.Grows.{grows_refl, grows_trans}
 use Rattle.ts_group.specs.Acts.{Sets}
-use Rattle.ts_transform.specs.Driving.{works_at, ActsWithin, AddsEvents, HasEvent, HasKind, HasEventIf, IsCause, IsOfStage, IsOfStageIf, AreOfStages, IsRoused, Keeps, KeepsStage, KeepsStages, Lessens, SetsFew, all_unroused}
+use Rattle.ts_transform.specs.Driving.{works_at, ActsWithin, AddsEvents, HasEvent, HasKind, HasEventIf, IsCause, IsOfStage, IsOfStageIf, AreOfStages, IsRoused, Keeps, KeepsStage, KeepsStages, Lessens, SetsFew, all_unroused, unroused}
+use Rattle.ts_transform.specs.Seats.{KeepsSeated}
 use Rattle.ts_transform.specs.declared.continuation.StageContinuation.{StageContinuation}
+use Rattle.ts_transform.proofs.Seating.{seated_behind, seated_front}
 
 pub keeps_refl : (a : Context) → a.log.state.held ≡ true → Keeps a a
 keeps_refl a turn = record { pending = λ n p h. h; roles = refl; plain = λ h. h; turn = turn; live = refl }
@@ -144,10 +146,10 @@ kept_all a b keeps role (t ∷ ts) (here, others) = (kept_if a b keeps role t he
 
 -- all stages keep their continuations where none is roused
 pub stages_same : (a : Context) (ts : List (Option StageContinuation)) → KeepsStages a a ts ts
-stages_same a ts = record { of_stages = λ first h. h; still = λ j roused. roused; same = refl; len = refl }
+stages_same a ts = record { of_stages = λ first h. h; still = λ j roused. roused; same = refl; len = refl; seated = λ others seated. seated }
 
-pub stages_kept : (a b : Context) → Keeps a b → (ts : List (Option StageContinuation)) → KeepsStages a b ts ts
-stages_kept a b keeps ts = record { of_stages = λ first h. kept_all a b keeps first ts h; still = λ j roused. roused; same = refl; len = refl }
+pub stages_kept : (a b : Context) → Keeps a b → (ts : List (Option StageContinuation)) → KeepsSeated ts ts a b → KeepsStages a b ts ts
+stages_kept a b keeps ts seated = record { of_stages = λ first h. kept_all a b keeps first ts h; still = λ j roused. roused; same = refl; len = refl; seated = seated }
 
 pub stages_trans : {a b c : Context} {ts us vs : List (Option StageContinuation)} → KeepsStages a b ts us → KeepsStages b c us vs → KeepsStages a c ts vs
 stages_trans h k = record {
@@ -155,6 +157,7 @@ stages_trans h k = record {
   still = λ j roused. k.still j (h.still j roused);
   same = k.same ∙ h.same;
   len = k.len ∙ h.len;
+  seated = λ others seated. k.seated others (h.seated others seated);
 }
 
 -- a continuation was roused: its event is pending
@@ -171,8 +174,9 @@ roused_front a b keeps role t t' ts all is here h =
     (here both.0, kept_all a b keeps (role + 1) ts both.1)
 
 -- so the stages are kept where the first was roused
-stages_front_same : (a b : Context) → Keeps a b → (t t' : Option StageContinuation) (ts : List (Option StageContinuation)) → KeepsStage a b t t' → KeepsStages a b (t ∷ ts) (t' ∷ ts)
-stages_front_same a b keeps t t' ts h = record {
+stages_front_same : (a b : Context) → Keeps a b → (t t' : Option StageContinuation) (ts : List (Option StageContinuation)) → KeepsStage a b t t' → KeepsSeated (t ∷ []) (t' ∷ []) a b → KeepsStages a b (t ∷ ts) (t' ∷ ts)
+stages_front_same a b keeps t t' ts h seated = record {
+  seated = seated_front t t' ts a b seated;
   of_stages = λ first s. (h.of_stage first s.0, kept_all a b keeps (first + 1) ts s.1);
   still = still;
   same = ap (λ u. u ∷ all_unroused ts) h.same;
@@ -183,8 +187,25 @@ stages_front_same a b keeps t t' ts h = record {
     still zero roused = h.still roused
     still (suc j) roused = roused
 
-pub stages_front : (a b : Context) → Keeps a b → (t t' : Option StageContinuation) (ts all : List (Option StageContinuation)) → all ≡ t ∷ ts → KeepsStage a b t t' → KeepsStages a b all (t' ∷ ts)
-stages_front a b keeps t t' ts all is h = subst (λ us. KeepsStages a b us (t' ∷ ts)) (sym is) (stages_front_same a b keeps t t' ts h)
+pub stages_front : (a b : Context) → Keeps a b → (t t' : Option StageContinuation) (ts all : List (Option StageContinuation)) → all ≡ t ∷ ts → KeepsStage a b t t' → KeepsSeated (t ∷ []) (t' ∷ []) a b → KeepsStages a b all (t' ∷ ts)
+stages_front a b keeps t t' ts all is h seated = subst (λ us. KeepsStages a b us (t' ∷ ts)) (sym is) (stages_front_same a b keeps t t' ts h seated)
+
+-- or one behind it
+stages_behind_same : (a b : Context) → Keeps a b → (t : Option StageContinuation) (us vs : List (Option StageContinuation)) → KeepsStages a b us vs → KeepsStages a b (t ∷ us) (t ∷ vs)
+stages_behind_same a b keeps t us vs h = record {
+  of_stages = λ first s. (kept_if a b keeps first t s.0, h.of_stages (first + 1) s.1);
+  still = still;
+  same = ap (λ xs. unroused t ∷ xs) h.same;
+  len = let more : length vs ≡ length us = h.len in omega (arith, more);
+  seated = seated_behind t us vs a b h.seated;
+}
+  where
+    still : (j : ℕ) → IsRoused (t ∷ us) j → IsRoused (t ∷ vs) j
+    still zero roused = roused
+    still (suc j) roused = h.still j roused
+
+pub stages_behind : (a b : Context) → Keeps a b → (t : Option StageContinuation) (us vs all : List (Option StageContinuation)) → all ≡ t ∷ us → KeepsStages a b us vs → KeepsStages a b all (t ∷ vs)
+stages_behind a b keeps t us vs all is h = subst (λ xs. KeepsStages a b xs (t ∷ vs)) (sym is) (stages_behind_same a b keeps t us vs h)
 
 -- the first continuation of a table was marked
 pub marked_front : (r : Result (Option ContKey) SetFault) (t t' : Option StageContinuation) (ts all : List (Option StageContinuation)) → all ≡ t ∷ ts

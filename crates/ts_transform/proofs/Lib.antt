@@ -11,6 +11,8 @@ pub mod Taking
 pub mod Told
 pub mod PassedErrors
 pub mod Called
+pub mod Seating
+pub mod Seats
 pub mod Setting
 pub mod MaySet
 pub mod Acting

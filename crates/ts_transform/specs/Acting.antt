@@ -9,6 +9,7 @@ use Rattle.ts_group.specs.Context.{Context}
 use Rattle.ts_transform.specs.Flow.{ChainState, MayPump, PumpsOnce, ended_at, flow, left_to_do}
 use Rattle.ts_transform.specs.Driving.{IsCause, IsClosed, IsHandled, IsToldBefore, Keeps, SetsFew, all_unroused, changed, error_passed, errors_to_pass, gone, may_pass_error_at, works_at}
 use Rattle.ts_transform.specs.Cover.{AreAllLive, CallsBefore, IsDriven, IsDrivenFor, OnlySets}
+use Rattle.ts_transform.specs.Seats.{KeepsSeated}
 use Rattle.ts_transform.specs.declared.continuation.StageContinuation.{StageContinuation}
 
 -- there is a stage at the place, and each stage has a continuation or had one
@@ -98,11 +99,12 @@ abbrev pub KeepsLive : {P : Type 0} → ChainState P → ChainState P → List (
 KeepsLive c d ts us a b = (d ≡ c)
     ⊎ (Keeps a b × (AreAllLive c ts a → AreAllLive d us b))
 
--- The continuations stay live while the chain goes on; and where an event could not be set, it says why: a continuation
+-- The continuations stay live while the chain goes on; whatever is set is of one of them; and where an event could not be set, it says why: a continuation
 -- was found dead, or there is another cause.
 pub record LivesOn {P T : Type 0} (result : Result T SetFault) (c d : ChainState P)
     (ts us : List (Option StageContinuation)) (a b : Context) : Type 0 where
   pub live : KeepsLive c d ts us a b
+  pub seated : KeepsSeated ts us a b
   pub cause : IfErr result (λ fault. IsCause (AreAllLive c ts a) fault b)
 
 -- A handler goes on with the work of a chain: at most one stage worked, and what still comes out stays, whatever still

@@ -9,9 +9,10 @@ use Rattle.ts_group.specs.declared.action.SetFault.TheVariants as F
 use Rattle.ts_group.specs.Context.{Context}
 use Rattle.ts_transform.specs.Stage.{MOST_WAITING}
 use Rattle.ts_transform.specs.Flow.{ChainState, IsGiven, client_wait, last_ended}
-use Rattle.ts_transform.specs.Driving.{HasEventIf, IsCause, IsHandled, IsRoused, Keeps, KeepsOthers, unroused_at}
+use Rattle.ts_transform.specs.Driving.{HasEventIf, IsCause, IsHandled, IsRoused, Keeps, KeepsOthers, all_unroused, unroused_at}
 use Rattle.ts_transform.specs.Cover.{AreAllLive, IsDriven}
 use Rattle.ts_transform.specs.Acting.{ActsAt, IsStage, KeepsLive}
+use Rattle.ts_transform.specs.Seats.{KeepsSeated}
 use Rattle.ts_transform.specs.declared.driven.DrivenChain.{DrivenChain}
 use Rattle.ts_transform.specs.declared.loss.Loss.{Loss}
 use Rattle.ts_transform.specs.declared.world.TheConstants.{FIRST}
@@ -66,11 +67,12 @@ HasBegun d now =
     ((d.running ≡ true) × (d.lost ≡ None) × HasAllLive d now)
     ⊎ ((loss : Loss) × (d.running ≡ false) × (d.lost ≡ Some loss) × IsCauseOf ⊤ loss now)
 
--- What a handler leaves of those who were not called: continuations of other roles keep their events, and whoever was
--- live stays so while the chain goes on.
+-- What a handler leaves of those who were not called: continuations of other roles keep their events, whoever was live
+-- stays so while the chain goes on, and whatever is set is of a stage's continuation.
 pub record KeepsRest {P : Type 0} (first : ℕ) (d e : DrivenChain P) (a b : Context) : Type 0 where
   pub others : KeepsOthers first d.table.items a b
   pub live : KeepsLive d.chain e.chain d.table.items e.table.items a b
+  pub seated : KeepsSeated d.table.items e.table.items a b
 
 -- it is driven, where another chain was in its place before
 abbrev pub DrivenAgain : {P : Type 0} → ℕ → ChainState P → DrivenChain P → DrivenChain P → Context → Context
@@ -94,6 +96,11 @@ pub record SameCourse {P : Type 0} (d e : DrivenChain P) : Type 0 where
 pub record HasBegunFrom {P : Type 0} (d e : DrivenChain P) : Type 0 where
   pub chain : e.chain ≡ d.chain
   pub begun : length d.table.items ≡ 0 → (e.running ≡ true) ⊎ ((loss : Loss) × (e.lost ≡ Some loss))
+
+-- The same continuations are there, but for who of them is roused, and whatever was set is of one of them.
+pub record SameSeats {P : Type 0} (d e : DrivenChain P) (a b : Context) : Type 0 where
+  pub same : all_unroused e.table.items ≡ all_unroused d.table.items
+  pub seated : KeepsSeated d.table.items e.table.items a b
 
 -- the last stage may be woken: it has not ended, so many bytes wait after it, and it was not roused
 pub record MayWake {P : Type 0} (d : DrivenChain P) : Type 0 where

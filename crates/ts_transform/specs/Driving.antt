@@ -14,6 +14,7 @@ use Rattle.ts_group.specs.declared.action.SetFault.{SetFault}
 use Rattle.ts_group.specs.declared.action.SetFault.TheVariants as F
 use Rattle.ts_group.specs.Context.{Context, role_at, moment_after, AllPlain}
 use Rattle.ts_group.specs.Entries.{Grows}
+use Rattle.ts_transform.specs.Seats.{KeepsSeated}
 use Rattle.ts_transform.specs.declared.continuation.StageContinuation.{StageContinuation}
 
 -- a stage works at each event, but for an error, which it passes on, and for the end of its output
@@ -202,6 +203,7 @@ pub record KeepsStages (a b : Context) (ts us : List (Option StageContinuation))
   pub still : (j : ℕ) → IsRoused ts j → IsRoused us j
   pub same : all_unroused us ≡ all_unroused ts
   pub len : length us ≡ length ts
+  pub seated : KeepsSeated ts us a b
 
 -- only such events were set
 abbrev pub SetsOnly : (Pending → Type 0) → Context → Context → Type 0

@@ -2,10 +2,12 @@ pub mod Acting
 pub mod Along
 pub mod Carrying
 pub mod Cover
+pub mod Destroying
 pub mod Driven
 pub mod Driving
 pub mod Flow
 pub mod Law
 pub mod Loss
+pub mod Seats
 pub mod Stage
 pub mod World

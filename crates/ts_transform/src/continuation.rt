@@ -1,7 +1,8 @@
 //! The continuations of stages, and how one is roused.
-ghost use Rattle.std.specs.Prelude.{◌≡◌, ℕ, ◌<◌, ◌⊎◌, true, is_ok, Some, OnOk};
+ghost use Rattle.std.specs.Prelude.{[], ◌∷◌, ◌≡◌, ℕ, ◌<◌, ◌⊎◌, true, is_ok, Some, OnOk};
 ghost use Rattle.ts_journal.specs.declared.entry.Event.TheVariants.{WriteReady};
 ghost use Rattle.ts_journal.specs.State.{IsLive};
+ghost use Rattle.ts_transform.specs.Seats.{KeepsSeated};
 ghost use Rattle.ts_transform.specs.declared.continuation.Rouser.TheVariants as Rouser;
 ghost use Rattle.ts_transform.specs.Driving.{works_at, AddsEvents, HasEvent, HasKind, HasLiveIf, IsRousedIf, IsRousingOf, IsNamedIf, IsToldIf, IsWorkOf, KeepsStage, SetsOnly};
 
@@ -69,6 +70,7 @@ pub fn rouse(
     ensures only { (role : ℕ) → IsNamedIf cx.old.roles role slot.old
         → SetsOnly (IsRousingOf role pause cx.old.moment cx.old.roles) cx.old cx.new }
     ensures roused { OnOk result (IsRousedIf slot.new) }
+    ensures seated { KeepsSeated (slot.old ∷ []) (slot.new ∷ []) cx.old cx.new }
     ensures called { rouser ≡ Rouser.Downstream → pause ≡ 0
         → OnOk result (IsRousedIf slot.old ⊎ IsToldIf cx.new.log.state.pending WriteReady slot.new) }
 {

@@ -1,9 +1,9 @@
 //! What comes to a driven chain at its front, and what is taken from its end.
 ghost use Rattle.std.specs.Prelude.{◌≡◌, ℕ, ◌≤◌, ◌++◌, List, length, true, false, OnOk};
 ghost use Rattle.ts_transform.specs.Flow.{ChainState, Takes, TakesAway, client_wait};
-ghost use Rattle.ts_transform.specs.Driving.{AddsEvents, all_unroused};
+ghost use Rattle.ts_transform.specs.Driving.{AddsEvents};
 ghost use Rattle.ts_transform.specs.Cover.{IsDriven, OnlyRouses};
-ghost use Rattle.ts_transform.specs.Driven.{DrivenAgain, Gives, HasAllLive, IsDrivenWhile, Loses, StaysDriven};
+ghost use Rattle.ts_transform.specs.Driven.{DrivenAgain, Gives, HasAllLive, IsDrivenWhile, Loses, SameSeats, StaysDriven};
 
 use crate::continuation::Rouser;
 use crate::driven::DrivenChain;
@@ -22,7 +22,7 @@ impl<P: Transform + Drop> DrivenChain<P> {
         ensures driven { StaysDriven self.old self.new cx.old cx.new }
         ensures only { OnlyRouses P.pause self.new.chain self.old.table.items cx.old cx.new }
         ensures adds { AddsEvents 1 (HasAllLive self.old cx.old) result cx.old cx.new }
-        ensures same { all_unroused self.new.table.items ≡ all_unroused self.old.table.items }
+        ensures same { SameSeats self.old self.new cx.old cx.new }
         ensures loses { Loses result self.old self.new cx.old cx.new }
     {
         if let Err(_) = self.chain.give(bytes) {
@@ -40,7 +40,7 @@ impl<P: Transform + Drop> DrivenChain<P> {
         ensures driven { StaysDriven self.old self.new cx.old cx.new }
         ensures only { OnlyRouses P.pause self.new.chain self.old.table.items cx.old cx.new }
         ensures adds { AddsEvents 1 (HasAllLive self.old cx.old) result cx.old cx.new }
-        ensures same { all_unroused self.new.table.items ≡ all_unroused self.old.table.items }
+        ensures same { SameSeats self.old self.new cx.old cx.new }
         ensures loses { Loses result self.old self.new cx.old cx.new }
     {
         self.chain.give_end();
@@ -55,7 +55,7 @@ impl<P: Transform + Drop> DrivenChain<P> {
         ensures driven { StaysDriven self.old self.new cx.old cx.new }
         ensures only { OnlyRouses P.pause self.new.chain self.old.table.items cx.old cx.new }
         ensures adds { AddsEvents 1 (HasAllLive self.old cx.old) result cx.old cx.new }
-        ensures same { all_unroused self.new.table.items ≡ all_unroused self.old.table.items }
+        ensures same { SameSeats self.old self.new cx.old cx.new }
         ensures loses { Loses result self.old self.new cx.old cx.new }
     {
         self.chain.take(n);
@@ -70,7 +70,7 @@ impl<P: Transform + Drop> DrivenChain<P> {
             → DrivenAgain first c self.old self.new cx.old cx.new }
         ensures only { OnlyRouses P.pause self.old.chain self.old.table.items cx.old cx.new }
         ensures adds { AddsEvents 1 (HasAllLive self.old cx.old) result cx.old cx.new }
-        ensures same { all_unroused self.new.table.items ≡ all_unroused self.old.table.items }
+        ensures same { SameSeats self.old self.new cx.old cx.new }
         ensures loses { Loses result self.old self.new cx.old cx.new }
     {
         match rouse_if_ready(&self.chain, &mut self.table, 0, Rouser::Upstream, cx) {
@@ -92,7 +92,7 @@ impl<P: Transform + Drop> DrivenChain<P> {
             → DrivenAgain first c self.old self.new cx.old cx.new }
         ensures only { OnlyRouses P.pause self.old.chain self.old.table.items cx.old cx.new }
         ensures adds { AddsEvents 1 (HasAllLive self.old cx.old) result cx.old cx.new }
-        ensures same { all_unroused self.new.table.items ≡ all_unroused self.old.table.items }
+        ensures same { SameSeats self.old self.new cx.old cx.new }
         ensures loses { Loses result self.old self.new cx.old cx.new }
     {
         let Some(last) = self.chain.stages().checked_sub(1) else {

@@ -9,6 +9,7 @@ ghost use Rattle.ts_transform.specs.declared.continuation.Rouser.TheVariants as 
 ghost use Rattle.ts_transform.specs.Flow.{MustWork, ended_at, pause_at};
 ghost use Rattle.ts_transform.specs.Driving.{ActsWithin, AddsEvents, AreLive, AreOfStages, IsCalledUnless, IsCause, IsClosed, IsHandled, IsRoused, IsTellingBefore, IsToldBefore, KeepsOthers, KeepsStages, Lessens, SetsFew, SetsOnly, OnlyTellsBefore, changed, error_passed, errors_to_pass, gone, may_pass_error_at, unroused_at, works_at};
 ghost use Rattle.ts_transform.specs.Cover.{AreAllLive, CallsBefore, IsDriven, IsDrivenBut, IsDrivenFor, IsRoundRoused, OnlyRouses, OnlySets};
+ghost use Rattle.ts_transform.specs.Seats.{KeepsSeated};
 ghost use Rattle.ts_transform.specs.Acting.{ActsAt, Covers, CoversHandled, IsStage, LivesOn, Pays, PaysErrors, Pumps, TellsBefore};
 
 use crate::chain::Chain;
@@ -137,6 +138,7 @@ fn tell_before(
     requires at { at < length table.now }
     ensures adds { AddsEvents 1 (AreLive cx.new.log.state.live table.now) result cx.old cx.new }
     ensures told { OnOk result (IsToldBefore cx.new.log.state.pending event table.now at) }
+    ensures seated { KeepsSeated table.now table.now cx.old cx.new }
     ensures only { OnlyTellsBefore event at table.now cx.old cx.new }
 {
     if at == 0 {
@@ -155,7 +157,8 @@ fn pass_error(
     requires turn { cx.old.log.state.held ≡ true }
     requires at { at < length table.old }
     ensures adds { AddsEvents 1 (AreLive cx.new.log.state.live table.new) result cx.old cx.new }
-    ensures table { table.new ≡ changed error_passed table.old at }
+    ensures table { (table.new ≡ changed error_passed table.old at)
+        × KeepsSeated table.old table.new cx.old cx.new }
     ensures told { OnOk result (may_pass_error_at table.old at ≡ true
         → IsToldBefore cx.new.log.state.pending Error table.new at) }
     ensures only { OnlyTellsBefore Error at table.old cx.old cx.new }
@@ -174,13 +177,14 @@ fn destroy_at(table: &mut [Option<StageContinuation>], at: usize, cx: &mut Cx)
     requires turn { cx.old.log.state.held ≡ true }
     requires at { at < length table.old }
     ensures lessens { Lessens cx.old cx.new }
-    ensures table { table.new ≡ changed gone table.old at }
+    ensures table { (table.new ≡ changed gone table.old at) × KeepsSeated table.old table.new cx.old cx.new }
     ensures pays { PaysErrors table.old table.new cx.old cx.new }
     ensures of_stages { (first : ℕ) → AreOfStages cx.old.log.state.pending cx.old.roles first table.old
         → AreOfStages cx.new.log.state.pending cx.new.roles first table.new }
     ensures others { (first : ℕ) → KeepsOthers first table.old cx.old cx.new }
     ensures closed { IsClosed cx.old cx.new table.old at }
 {
+    cx.known();
     if let Some(continuation) = take_at(table, at) {
         let _destroyed = cx.destroy(continuation.key);
     }

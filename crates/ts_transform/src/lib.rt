@@ -2,6 +2,7 @@
 #![tactic(auto)]
 
 mod chain;
+mod clearing;
 mod continuation;
 mod driven;
 mod ends;

@@ -1,10 +1,11 @@
 //! The two ends of a chain between links: the continuations that read and write.
-ghost use Rattle.std.specs.Prelude.{◌≡◌, ℕ, ◌⊎◌, Some, true, false, is_ok, IfOk, IfErr, OnOk, ⊤};
+ghost use Rattle.std.specs.Prelude.{[], ◌∷◌, ◌≡◌, ℕ, ◌⊎◌, Some, true, false, is_ok, IfOk, IfErr, OnOk, ⊤};
 ghost use Rattle.ts_journal.specs.State.{IsLive};
 ghost use Rattle.ts_group.specs.Context.{role_at};
 ghost use Rattle.ts_group.specs.Entries.{Grows};
 ghost use Rattle.ts_group.specs.Changes.{SameEvents, KeepsKeys};
 ghost use Rattle.ts_transform.specs.Driving.{AddsEvents, HasLiveIf, IsNamedIf, IsRousedIf, IsRousingOf, KeepsStage, SetsOnly, unroused};
+ghost use Rattle.ts_transform.specs.Seats.{KeepsSeated};
 ghost use Rattle.ts_transform.specs.Loss.{IsCauseOf, making_loss};
 
 use crate::continuation::{Rouser, StageContinuation, rouse};
@@ -54,6 +55,7 @@ pub fn rouse_end(
     ensures rests { (must ≡ false) ⊎ IsRousedIf slot.old
         → (slot.new ≡ slot.old) × (cx.new ≡ cx.old) × (is_ok result ≡ true) }
     ensures roused { must ≡ true → OnOk result (IsRousedIf slot.new) }
+    ensures seated { KeepsSeated (slot.old ∷ []) (slot.new ∷ []) cx.old cx.new }
 {
     if !must {
         return Ok(());

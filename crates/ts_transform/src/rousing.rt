@@ -2,6 +2,7 @@
 ghost use Rattle.std.specs.Prelude.{◌≡◌, ◌≢◌, ℕ, ◌+◌, ◌<◌, length, slice_get, Some, None, true, OnOk, IfOk, IfErr, IfSome};
 ghost use Rattle.ts_group.specs.declared.action.SetFault.TheVariants.{Dead};
 ghost use Rattle.ts_journal.specs.declared.entry.Event.TheVariants.{WriteReady};
+ghost use Rattle.ts_transform.specs.Seats.{KeepsSeated};
 ghost use Rattle.ts_transform.specs.declared.continuation.Rouser.TheVariants as Rouser;
 ghost use Rattle.ts_transform.specs.Driving.{AddsEvents, AreLive, AreNamed, HasLive, IsCalledUnless, IsLastMarked, IsMarked, IsRoused, IsRousedIf, IsTelling, IsTold, KeepsStages, RousesAt, SetsOnly, all_unroused, changed, error_passed, gone, last_of, may_pass_error_at, unroused, unroused_at};
 
@@ -113,6 +114,7 @@ pub fn tell(
     requires at { at < length table.now }
     ensures adds { AddsEvents 1 (AreLive cx.new.log.state.live table.now) result cx.old cx.new }
     ensures told { OnOk result (IsTold cx.new.log.state.pending event table.now at) }
+    ensures seated { KeepsSeated table.now table.now cx.old cx.new }
     ensures only { (first : ℕ) → AreNamed cx.old.roles first table.now
         → SetsOnly (IsTelling event (first + at) cx.old.roles) cx.old cx.new }
 {

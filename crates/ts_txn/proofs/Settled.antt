@@ -13,6 +13,7 @@ use Rattle.ts_txn.specs.View.{OriginRefuses, LinkSide, View, refuses_if, view_of
 use Rattle.ts_txn.specs.Facts.{Awaits, OwnCause, OwnReady, OwnSends, Relays, Served, decided, fault}
 use Rattle.ts_txn.specs.Ends.{AnyEnd, EndFact, EndsBy, FaultText, HasBlock, Relayed, SomeText}
 use Rattle.ts_txn.specs.Ends as ends
+use Rattle.ts_txn.specs.Finishing.{IsFinishing, QueuesBlock, QueuesFor}
 use Rattle.ts_txn.specs.Holding.{StepKeeps, PhaseFact}
 use Rattle.ts_txn.specs.Driven.{StaysOrLacks}
 use Rattle.ts_txn.specs.declared.block.Block.{Block}
@@ -108,6 +109,32 @@ module _ (setup : Setup) (R S : Type 0) (to : R → S) (from : S → R) where
 
   end_fact : (v : View) (end : TxnEnd) → EndFact setup R v end → EndFact setup S v end
   end_fact v end h = record { any = any v h.any; by = by_end v end h.by }
+
+  -- ---- the last of a body
+
+  queues_block : (v : View) (end : TxnEnd) (fin : Bool) → QueuesBlock setup R v end fin → QueuesBlock setup S v end fin
+  queues_block v end fin h = record {
+    block = h.block;
+    is_block = block v.dialed _ _ h.block h.is_block;
+    ends = h.ends;
+    took = h.took;
+    mode = h.mode;
+    sent = h.sent;
+    text = h.text;
+    whole = h.whole;
+    relayed = relayed v fin fin h.sent h.relayed;
+  }
+
+  queues_for : (v : View) (end : TxnEnd) → QueuesFor setup R v end → QueuesFor setup S v end
+  queues_for v E.Whole h = queues_block v E.Whole true h
+  queues_for v E.OriginCut h = queues_block v E.OriginCut false h
+  queues_for v E.OriginBad h = queues_block v E.OriginBad false h
+  queues_for v E.OriginFault h = record { failed = h.failed; done = h.done; sent = h.sent; relayed = relayed v h.done false h.sent h.relayed }
+  queues_for v E.ClientFault h = absurd h
+  queues_for v E.NoMemory h = absurd h
+
+  pub finishing : (v : View) (end : TxnEnd) → IsFinishing setup R v end → IsFinishing setup S v end
+  finishing v end h = record { count = h.count; some = h.some; took = h.took; queues = queues_for v end h.queues }
 
   pub phase_fact : (v : View) (p : Phase) → PhaseFact setup R v p → PhaseFact setup S v p
   phase_fact v P.Fresh h = h

@@ -98,7 +98,11 @@ fn silent_block(alloc: Global) -> Block
 }
 
 /// How the body of a response is framed for the client.
-fn framing_for(setup: &Setup, request: &RequestHead, head: &ResponseHead) -> ClientFraming
+pub(crate) fn framing_for(
+    setup: &Setup,
+    request: &RequestHead,
+    head: &ResponseHead,
+) -> ClientFraming
     ensures { result ≡ framing_for setup.now request.now head.now }
 {
     client_framing(
@@ -114,7 +118,7 @@ fn framing_for(setup: &Setup, request: &RequestHead, head: &ResponseHead) -> Cli
     )
 }
 
-fn relayed_head(
+pub(crate) fn relayed_head(
     alloc: Global,
     setup: &Setup,
     request: &RequestHead,

@@ -22,9 +22,9 @@ pub const MAIN: u32 = 1;
 /// How long a step waits that found a link not ready, in milliseconds.
 pub const RETRY: u64 = 10;
 
-// Sees that an event of the continuation is pending, so many milliseconds later where it has none yet.
+/// Sees that an event of the continuation is pending, so many milliseconds later where it has none yet.
 #[tactic(auto, using(crate::proofs::Seating::main_set, crate::proofs::Seating::main_rests, crate::proofs::Seating::due_set, crate::proofs::Seating::due_rests, ts_transform::proofs::Kept::adds_none, ts_transform::proofs::Kept::adds_dead, ts_transform::proofs::Kept::set_adds, ts_transform::proofs::Kept::set_event, ts_transform::proofs::Kept::works_soon, ts_transform::proofs::Kept::set_keeps, ts_transform::proofs::Kept::kept_if, ts_transform::proofs::Kept::roused_if))]
-fn rouse(main: &mut Option<StageContinuation>, after: u64, cx: &mut Cx) -> Result<(), SetFault>
+pub fn rouse(main: &mut Option<StageContinuation>, after: u64, cx: &mut Cx) -> Result<(), SetFault>
     requires turn { cx.old.log.state.held ≡ true }
     ensures adds { AddsEvents 1 (HasLiveIf cx.new.log.state.live main.new) result cx.old cx.new }
     ensures stage { KeepsStage cx.old cx.new main.old main.new }
@@ -70,8 +70,8 @@ fn lose(phase: &mut Phase)
     };
 }
 
-// Whether the numbers of events are used up.
-fn is_spent(fault: &SetFault) -> bool
+/// Whether the numbers of events are used up.
+pub fn is_spent(fault: &SetFault) -> bool
     ensures spent { result ≡ true → fault.now ≡ SetFault.Spent }
     ensures other { result ≡ false → fault.now ≢ SetFault.Spent }
 {

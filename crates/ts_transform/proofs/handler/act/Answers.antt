@@ -16,7 +16,7 @@ returns-then-has_ended-clause-within g c = acts_lessens 4 c.args.cx.now c.destro
 pub returns-then-has_ended-clause-acts : goal.returns-then-has_ended-clause-acts
 returns-then-has_ended-clause-acts g c =
     acts_gone g.P.Transform.rest g.P.Transform.pause c.args.at c.args.event c.args.chain.now c.args.table.now c.destroy_at.new.table c.args.cx.now c.destroy_at.new.cx
-    (sym c.has_ended.ensures ∙ c.if-has_ended.true) c.destroy_at.ensures.closed c.destroy_at.ensures.table c.destroy_at.ensures.lessens
+    (sym c.has_ended.ensures ∙ c.if-has_ended.true) c.destroy_at.ensures.closed c.destroy_at.ensures.table.0 c.destroy_at.ensures.lessens
 
 pub returns-then-has_ended-clause-pays : goal.returns-then-has_ended-clause-pays
 returns-then-has_ended-clause-pays g c =
@@ -25,7 +25,7 @@ returns-then-has_ended-clause-pays g c =
 pub returns-then-has_ended-clause-driven : goal.returns-then-has_ended-clause-driven
 returns-then-has_ended-clause-driven g c = λ first driven.
     closed_driven first c.args.cx.now c.destroy_at.new.cx c.args.chain.now c.args.table.now c.destroy_at.new.table c.args.at (sym c.has_ended.ensures ∙ c.if-has_ended.true)
-    c.destroy_at.ensures.table (c.destroy_at.ensures.of_stages first)
+    c.destroy_at.ensures.table.0 (c.destroy_at.ensures.of_stages first)
     (driven_but (works_at c.args.event) first c.args.at c.args.chain.now c.args.table.now c.args.cx.now.log.state.pending c.args.cx.now.roles driven)
 
 -- A stage works.
@@ -56,7 +56,7 @@ returns-in-Error-clause-within g c = acts_adds 1 4 c.pass_error.result c.args.cx
 pub returns-in-Error-clause-acts : goal.returns-in-Error-clause-acts
 returns-in-Error-clause-acts g c =
     acts_passes g.P.Transform.rest g.P.Transform.pause c.args.at c.args.event c.args.chain.now c.args.table.now c.pass_error.new.table c.pass_error.result c.args.cx.now c.pass_error.new.cx
-    c.in-Error.is (sym c.has_ended.ensures ∙ c.if-has_ended.false) c.pass_error.ensures.table c.pass_error.ensures.told c.pass_error.ensures.only c.pass_error.ensures.quiet
+    c.in-Error.is (sym c.has_ended.ensures ∙ c.if-has_ended.false) c.pass_error.ensures.table.0 c.pass_error.ensures.told c.pass_error.ensures.only c.pass_error.ensures.quiet
 
 pub returns-in-Error-clause-pays : goal.returns-in-Error-clause-pays
 returns-in-Error-clause-pays g c =
@@ -67,7 +67,7 @@ returns-in-Error-clause-driven g c =
     let old = c.args.cx.now in
     let new = c.pass_error.new.cx in
     any_ok c.pass_error.result
-    (λ first driven. passed_driven first c.args.chain.now c.args.table.now c.pass_error.new.table c.args.at new.log.state.pending new.roles c.pass_error.ensures.table
+    (λ first driven. passed_driven first c.args.chain.now c.args.table.now c.pass_error.new.table c.args.at new.log.state.pending new.roles c.pass_error.ensures.table.0
     (driven_kept first old new c.args.chain.now c.args.table.now c.pass_error.ensures.adds.keeps
     (driven_quiet (works_at c.args.event) first c.args.at c.args.chain.now c.args.table.now old.log.state.pending old.roles (ap works_at c.in-Error.is) driven)))
 
@@ -91,7 +91,7 @@ returns-in_default-clause-driven g c = λ first driven.
 
 -- Whoever was live is so, or the chain is as it was; and of a dead continuation it tells only where one was found dead.
 pub returns-then-has_ended-clause-live : goal.returns-then-has_ended-clause-live
-returns-then-has_ended-clause-live g c = record { live = inl refl; cause = tt }
+returns-then-has_ended-clause-live g c = record { live = inl refl; seated = c.destroy_at.ensures.table.1; cause = tt }
 
 pub returns-then-works-clause-live : goal.returns-then-works-clause-live
 returns-then-works-clause-live g c =
@@ -99,6 +99,7 @@ returns-then-works-clause-live g c =
     let keys = worked.ensures.adds.keeps.live in
     let same = worked.ensures.stages.same in
     record {
+      seated = worked.ensures.stages.seated;
       live = live_worked g.P.Transform.rest c.args.at c.args.chain.now worked.new.chain c.args.table.now worked.new.table c.args.cx.now worked.new.cx worked.ensures.pumps.own worked.ensures.adds.keeps same;
       cause = err_weaker worked.result worked.new.cx
           (all_live c.args.chain.now worked.new.chain c.args.table.now worked.new.table c.args.cx.now worked.new.cx keys same (may_pump_goes g.P.Transform.rest c.args.at c.args.chain.now worked.new.chain worked.ensures.pumps.own))
@@ -110,10 +111,11 @@ returns-in-Error-clause-live g c =
     let passed = c.pass_error in
     record {
       live = inl refl;
+      seated = passed.ensures.table.1;
       cause = err_weaker passed.result passed.new.cx
-          (λ all. subst (λ l. AreLive l passed.new.table) (sym passed.ensures.adds.keeps.live) (live_passed c.args.cx.now.log.state.live c.args.table.now passed.new.table c.args.at passed.ensures.table all.live))
+          (λ all. subst (λ l. AreLive l passed.new.table) (sym passed.ensures.adds.keeps.live) (live_passed c.args.cx.now.log.state.live c.args.table.now passed.new.table c.args.at passed.ensures.table.0 all.live))
           passed.ensures.adds.cause;
     }
 
 pub returns-in_default-clause-live : goal.returns-in_default-clause-live
-returns-in_default-clause-live g c = record { live = inl refl; cause = tt }
+returns-in_default-clause-live g c = record { live = inl refl; seated = λ others seated. seated; cause = tt }

@@ -5,6 +5,7 @@ use Rattle.ts_transform.proofs.Acting.{acts_handled, others_handled, pays_handle
 use Rattle.ts_transform.proofs.Covering.{on_ok}
 use Rattle.ts_transform.proofs.Handled.{begun_for}
 use Rattle.ts_transform.proofs.Kept.{err_weaker}
+use Rattle.ts_transform.proofs.Seating.{key_same, seated_as, seated_then}
 use Rattle.ts_transform.proofs.Living.{all_live, live_found}
 use Rattle.ts_transform.proofs.Told.{same_length}
 use Rattle.ts_transform.proofs.handler.handle_at.Goals as goal
@@ -42,6 +43,8 @@ pub returns-clause-live : goal.returns-clause-live
 returns-clause-live g c =
     let found = all_live c.args.chain.now c.args.chain.now c.args.table.now c.unrouse_for.new.table c.args.cx.now c.args.cx.now refl c.unrouse_for.ensures.same (λ j going. going) in
     record {
+      seated = seated_then c.args.table.now c.unrouse_for.new.table c.act.new.table c.args.cx.now c.args.cx.now c.act.new.cx
+          (seated_as c.args.table.now c.unrouse_for.new.table c.args.cx.now c.args.cx.now refl (λ k. key_same c.args.table.now c.unrouse_for.new.table k c.unrouse_for.ensures.same)) c.act.ensures.live.seated;
       live = live_found c.args.chain.now c.act.new.chain c.args.table.now c.unrouse_for.new.table c.act.new.table c.args.cx.now c.act.new.cx found c.act.ensures.live.live;
       cause = err_weaker c.act.result c.act.new.cx found c.act.ensures.live.cause;
     }

@@ -41,3 +41,6 @@ pub returns-clause-adds : goal.returns-clause-adds
 returns-clause-adds g c =
     adds_then 1 2 3 c.rouse_if_ready.result c.rouse_if_ready-2.result (omega arith) c.rouse_if_ready.ensures.adds
     (adds_then 1 1 2 c.rouse_before.result c.rouse_if_ready-2.result (omega arith) c.rouse_before.ensures.adds c.rouse_if_ready-2.ensures.adds)
+
+pub returns-clause-stages : goal.returns-clause-stages
+returns-clause-stages g c = stages_trans (stages_trans c.rouse_if_ready.ensures.stages c.rouse_before.ensures.stages) c.rouse_if_ready-2.ensures.stages

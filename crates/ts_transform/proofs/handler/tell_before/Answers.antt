@@ -13,3 +13,6 @@ returns-clause-only c = λ first named.
     only_weaker (IsTelling c.args.event (first + (c.args.at - 1)) roles) (IsTellingBefore c.args.event first c.args.at roles) c.args.cx.now c.tell.new.cx
     (λ p telling. record { place = c.args.at - 1; before = omega (arith, c.if-at-eq0.false); telling = telling })
     (c.tell.ensures.only first named)
+
+pub returns-then-at-eq0-clause-seated : goal.returns-then-at-eq0-clause-seated
+returns-then-at-eq0-clause-seated c = λ others seated. seated

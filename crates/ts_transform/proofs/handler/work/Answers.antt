@@ -75,7 +75,7 @@ pub returns-in_ok-rouse_round-in-Ended-clause-stages :
     goal.returns-in_ok-rouse_round-in-Ended-clause-stages
 returns-in_ok-rouse_round-in-Ended-clause-stages g c =
     stages_trans c.rouse_round-in-Ended.ensures.stages
-    (stages_kept c.rouse_round-in-Ended.new.cx c.tell_before.new.cx c.tell_before.ensures.adds.keeps c.rouse_round-in-Ended.new.table)
+    (stages_kept c.rouse_round-in-Ended.new.cx c.tell_before.new.cx c.tell_before.ensures.adds.keeps c.rouse_round-in-Ended.new.table c.tell_before.ensures.seated)
 
 pub returns-in_ok-rouse_round-in-Ended-clause-pumps :
     goal.returns-in_ok-rouse_round-in-Ended-clause-pumps

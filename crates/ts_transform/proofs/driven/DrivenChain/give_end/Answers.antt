@@ -16,3 +16,6 @@ returns-clause-loses g c =
     let self = c.args.self.now in
     loses_found c.rouse_first.result self c.rouse_first.new.self c.give_end.new.self c.args.cx.now c.rouse_first.new.cx
     (live_stages self.chain c.give_end.new.self self.table.items c.args.cx.now (ap (λ x. x.stages) c.give_end.ensures.given)) c.rouse_first.ensures.loses
+
+pub returns-clause-same : goal.returns-clause-same
+returns-clause-same g c = let seats = c.rouse_first.ensures.same in record { same = seats.same; seated = seats.seated }

@@ -1,4 +1,5 @@
 use Rattle.std.proofs.Common.{Some, inl, ◌≡◌, true, false, refl, ap, arith, sym, subst, length, ◌∙◌}
+use Rattle.ts_transform.specs.Seats.{KeepsSeated}
 use Rattle.ts_transform.specs.Acting.{KeepsLive, Pays, StillGives}
 use Rattle.ts_transform.specs.Driving.{IsCause, KeepsOthers}
 use Rattle.ts_transform.specs.Cover.{AreAllLive}
@@ -70,7 +71,7 @@ returns-in-Err-clause-loses g c =
 
 -- Whoever was not called is left alone.
 pub returns-in_default-clause-rest : goal.returns-in_default-clause-rest
-returns-in_default-clause-rest g c = record { others = λ role t named outside s. s; live = inl refl }
+returns-in_default-clause-rest g c = record { others = λ role t named outside s. s; live = inl refl; seated = λ others seated. seated }
 
 pub returns-in-Ok-clause-rest : goal.returns-in-Ok-clause-rest
 returns-in-Ok-clause-rest g c =
@@ -78,6 +79,8 @@ returns-in-Ok-clause-rest g c =
     let acted = c.handle_at in
     let cx = c.args.cx.now in
     record {
+      seated = in_table (λ us. KeepsSeated self.table.items us cx acted.new.cx) self.table.len acted.new.table self.table.items (acted.ensures.acts.len ∙ ap length c.deref_mut.ensures.value ∙ sym self.table.ok.0)
+          (subst (λ ts. KeepsSeated ts acted.new.table cx acted.new.cx) c.deref_mut.ensures.value acted.ensures.live.seated);
       others = subst (λ ts. KeepsOthers c.args.first ts cx acted.new.cx) c.deref_mut.ensures.value (acted.ensures.others c.args.first);
       live = in_table (λ us. KeepsLive self.chain acted.new.chain self.table.items us cx acted.new.cx) self.table.len acted.new.table self.table.items
           (acted.ensures.acts.len ∙ ap length c.deref_mut.ensures.value ∙ sym self.table.ok.0)
@@ -90,6 +93,8 @@ returns-in-Err-clause-rest g c =
     let acted = c.handle_at in
     let cx = c.args.cx.now in
     record {
+      seated = in_table (λ us. KeepsSeated self.table.items us cx acted.new.cx) self.table.len acted.new.table self.table.items (acted.ensures.acts.len ∙ ap length c.deref_mut.ensures.value ∙ sym self.table.ok.0)
+          (subst (λ ts. KeepsSeated ts acted.new.table cx acted.new.cx) c.deref_mut.ensures.value acted.ensures.live.seated);
       others = subst (λ ts. KeepsOthers c.args.first ts cx acted.new.cx) c.deref_mut.ensures.value (acted.ensures.others c.args.first);
       live = in_table (λ us. KeepsLive self.chain acted.new.chain self.table.items us cx acted.new.cx) self.table.len acted.new.table self.table.items
           (acted.ensures.acts.len ∙ ap length c.deref_mut.ensures.value ∙ sym self.table.ok.0)

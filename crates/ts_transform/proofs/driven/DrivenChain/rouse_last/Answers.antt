@@ -5,6 +5,12 @@ use Rattle.ts_transform.specs.Flow.{MustWork}
 use Rattle.ts_transform.proofs.Driving.{drained, in_table}
 use Rattle.ts_transform.proofs.Kept.{adds_none, adds_ok, adds_weaker, stages_same}
 use Rattle.ts_transform.proofs.Living.{all_live}
+use Rattle.std.proofs.Common.{ℕ, List, Option, ◌++◌, refl, take, drop}
+use Rattle.ts_group.specs.Context.{Context}
+use Rattle.ts_transform.specs.declared.continuation.StageContinuation.{StageContinuation}
+use Rattle.ts_transform.specs.declared.driven.DrivenChain.{DrivenChain}
+use Rattle.ts_transform.specs.Driven.{SameSeats}
+use Rattle.ts_transform.specs.Seats.{KeepsSeated}
 use Rattle.ts_transform.proofs.driven.DrivenChain.rouse_last.Goals as goal
 
 pub returns-in_default-clause-driven : goal.returns-in_default-clause-driven
@@ -42,3 +48,29 @@ returns-in-Err-clause-adds g c =
 pub returns-in-Err-clause-loses : goal.returns-in-Err-clause-loses
 returns-in-Err-clause-loses g c =
     let adds = returns-in-Err-clause-adds g c in (ap (λ d. d.running) c.lose.ensures, ap (λ d. d.lost) c.lose.ensures ∙ ap Some c.of_set.ensures, adds.cause)
+
+-- Whatever is set is of one of its continuations.
+same_seats : {P : Type 0} (d : DrivenChain P) (us vs : List (Option StageContinuation)) (n : ℕ) (a b : Context) → vs ≡ d.table.items → length us ≡ n → KeepsStages a b vs us
+    → (all_unroused (take n (us ++ drop (length us) d.table.items)) ≡ all_unroused d.table.items) × KeepsSeated d.table.items (take n (us ++ drop (length us) d.table.items)) a b
+same_seats d us vs n a b value len h =
+    in_table (λ xs. (all_unroused xs ≡ all_unroused d.table.items) × KeepsSeated d.table.items xs a b) n us d.table.items len
+    (h.same ∙ ap all_unroused value, subst (λ ts. KeepsSeated ts us a b) value h.seated)
+
+pub returns-in-Ok-clause-same : goal.returns-in-Ok-clause-same
+returns-in-Ok-clause-same g c =
+    let self = c.args.self.now in
+    let roused = c.rouse_if_ready in
+    let seats = same_seats self roused.new.table c.deref_mut.result.now self.table.len c.args.cx.now roused.new.cx c.deref_mut.ensures.value (roused.ensures.stages.len ∙ ap length c.deref_mut.ensures.value ∙ sym self.table.ok.0)
+    roused.ensures.stages in
+    record { same = seats.0; seated = seats.1 }
+
+pub returns-in-Err-clause-same : goal.returns-in-Err-clause-same
+returns-in-Err-clause-same g c =
+    let self = c.args.self.now in
+    let roused = c.rouse_if_ready in
+    let seats = same_seats self roused.new.table c.deref_mut.result.now self.table.len c.args.cx.now roused.new.cx c.deref_mut.ensures.value (roused.ensures.stages.len ∙ ap length c.deref_mut.ensures.value ∙ sym self.table.ok.0)
+    roused.ensures.stages in
+    subst (λ d. SameSeats self d c.args.cx.now roused.new.cx) (sym c.lose.ensures) (record { same = seats.0; seated = seats.1 })
+
+pub returns-in_default-clause-same : goal.returns-in_default-clause-same
+returns-in_default-clause-same g c = record { same = refl; seated = λ others seated. seated }

@@ -16,3 +16,6 @@ returns-clause-loses g c =
     let self = c.args.self.now in
     loses_found c.rouse_last.result self c.rouse_last.new.self c.take.new.self c.args.cx.now c.rouse_last.new.cx (live_taken c.args.n self.chain c.take.new.self self.table.items c.args.cx.now c.take.ensures.takes)
     c.rouse_last.ensures.loses
+
+pub returns-clause-same : goal.returns-clause-same
+returns-clause-same g c = let seats = c.rouse_last.ensures.same in record { same = seats.same; seated = seats.seated }

@@ -141,7 +141,7 @@ returns-in-Ok-Some-clause-course g c =
     let pulled = c.pull.new.self in
     let cx = c.args.cx.now in
     course_driven self (record self { input = c.pull.new.link; driven = rouse.new.self }) pulled cx rouse.new.cx rouse.result refl refl c.in-Ok-Some.ensures.kept.0
-    (ap (λ x. x.stages) rouse.ensures.chain) rouse.ensures.adds.keeps rouse.ensures.same rouse.ensures.loses
+    (ap (λ x. x.stages) rouse.ensures.chain) rouse.ensures.adds.keeps rouse.ensures.same.same rouse.ensures.loses
 
 pub returns-in-Ok-End-clause-course : goal.returns-in-Ok-End-clause-course
 returns-in-Ok-End-clause-course g c =
@@ -150,7 +150,7 @@ returns-in-Ok-End-clause-course g c =
     let pulled = c.pull.new.self in
     let cx = c.args.cx.now in
     course_driven self (record self { input = c.pull.new.link; driven = end.new.self }) pulled cx end.new.cx end.result refl refl c.in-Ok-End.ensures.kept.0
-    (ap (λ x. x.stages) end.ensures.chain) end.ensures.adds.keeps end.ensures.same end.ensures.loses
+    (ap (λ x. x.stages) end.ensures.chain) end.ensures.adds.keeps end.ensures.same.same end.ensures.loses
 
 pub returns-in-Ok-Again-clause-course : goal.returns-in-Ok-Again-clause-course
 returns-in-Ok-Again-clause-course g c =

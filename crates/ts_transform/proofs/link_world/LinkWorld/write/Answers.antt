@@ -1,4 +1,4 @@
-use Rattle.std.proofs.Common.{Some, false, length, arith, ◌≡◌, true, refl, sym, ap, subst, inl, inr, ◌∙◌}
+use Rattle.std.proofs.Common.{Some, false, length, arith, true, refl, sym, ap, subst, inl, inr, ◌∙◌}
 use Rattle.ts_transform.specs.Flow.{MustRead, MustWrite}
 use Rattle.ts_transform.specs.Carrying.{MovesOn}
 use Rattle.ts_transform.proofs.Carrying.{moves_aborted, moves_as, moves_none, moves_taken, moves_wait}
@@ -89,7 +89,7 @@ returns-in-Took-clause-course g c =
       loses = lose_weaker self.driven take.new.self take.new.cx (λ all. all.stages) (may_lose take.result self.driven take.new.self cx take.new.cx take.ensures.loses);
       keeps = take.ensures.adds.keeps;
       live = linked_kept self.driven take.new.self self.writer self.writer self.reader self.reader cx take.new.cx keys
-          (λ all. all_live take.new.self.chain take.new.self.chain self.driven.table.items take.new.self.table.items cx take.new.cx keys take.ensures.same (λ j going. going)
+          (λ all. all_live take.new.self.chain take.new.self.chain self.driven.table.items take.new.self.table.items cx take.new.cx keys take.ensures.same.same (λ j going. going)
           (live_taken c.in-Took.count self.driven.chain take.new.self.chain self.driven.table.items cx take.ensures.takes.takes all)) refl refl;
       started = λ none. none;
     }

@@ -1,0 +1,112 @@
+-- Where an event leads a transaction while a body is passed on, said of what its origin's link refuses then.
+use Rattle.std.proofs.Common.{◌≡◌, ℕ, List, inl, inr, sym, subst}
+use Rattle.std.specs.Arc.{arc_value}
+use Rattle.ts_config.specs.declared.setup.Setup.{Setup}
+use Rattle.ts_hooks.specs.declared.txn_end.TxnEnd.{TxnEnd}
+use Rattle.ts_hooks.specs.declared.txn_end.TxnEnd.TheVariants as E
+use Rattle.ts_link.specs.Link.{Look}
+use Rattle.ts_transform.specs.Flow.{ChainState}
+use Rattle.ts_wire.specs.Place.{Place}
+use Rattle.ts_txn.specs.Entering.{EntersBody}
+use Rattle.ts_txn.specs.View.{OriginRefuses, View, refuses_if, view_of}
+use Rattle.ts_txn.specs.Course.{CourseFact, course_after, finish_after}
+use Rattle.ts_txn.specs.CourseCover.{StaysOnOrLacks}
+use Rattle.ts_txn.specs.Ends.{EndFact}
+use Rattle.ts_txn.specs.Finishing.{IsFinishing, LeadsBody}
+use Rattle.ts_txn.specs.Holding.{StepKeeps}
+use Rattle.ts_txn.specs.Relaying.{RelaysBody}
+use Rattle.ts_txn.specs.declared.course.Course.{Course}
+use Rattle.ts_txn.specs.declared.course.Course.TheVariants as K
+use Rattle.ts_txn.specs.declared.finishing.BodyStep.{BodyStep}
+use Rattle.ts_txn.specs.declared.finishing.BodyStep.TheVariants as S
+use Rattle.ts_txn.specs.declared.parts.Core.{Core}
+use Rattle.ts_txn.specs.declared.relay.Relay.{Relay}
+use Rattle.ts_txn.proofs.Always.{always}
+use Rattle.ts_txn.proofs.Asks.{lacks_memory}
+use Rattle.ts_txn.proofs.Finished.{finishing_any}
+use Rattle.ts_txn.proofs.Relaying.{relays_lacks}
+use Rattle.ts_txn.proofs.Duty.{relays_settled}
+use Rattle.ts_txn.proofs.Settled.{finishing, phase_fact}
+
+module _ (setup : Setup) (refuses : Type 0) {Q : Type 0} (rest : Q → List ℕ → List ℕ) (v : View) where
+  -- a step of a body
+  pub led_on : (r : Relay Q) (step : BodyStep) → LeadsBody setup refuses (RelaysBody setup refuses rest v r.driven.chain r.body) v step → CourseFact setup refuses rest v (course_after r step)
+  led_on r S.Goes h = h
+  led_on r S.Waits h = h
+  led_on r (S.Finishes end) h = h
+  led_on r (S.Closes end) h = h
+  led_on r S.Lacks h = h
+
+  -- and of its last writes
+  pub led_last : (end : TxnEnd) (step : BodyStep) → LeadsBody setup refuses (IsFinishing setup refuses v end) v step → CourseFact setup refuses rest v (finish_after end step)
+  led_last end S.Goes h = h
+  led_last end S.Waits h = h
+  led_last end (S.Finishes other) h = h
+  led_last end (S.Closes other) h = h
+  led_last end S.Lacks h = h
+
+-- wherever it is, it may end for want of memory
+course_lacks : (setup : Setup) (refuses : Type 0) {Q : Type 0} (rest : Q → List ℕ → List ℕ) (v : View) (course : Course Q) → CourseFact setup refuses rest v course → EndFact setup refuses v E.NoMemory
+course_lacks setup refuses rest v (K.Phased p) h = lacks_memory setup refuses v (always setup refuses v p h)
+course_lacks setup refuses rest v (K.Relaying r) h = relays_lacks setup refuses rest v r.driven.chain r.body h
+course_lacks setup refuses rest v (K.Finishing end) h = lacks_memory setup refuses v (finishing_any setup refuses v end h)
+
+-- and so it may where its next event is set
+pub stays_on : (setup : Setup) (refuses : Type 0) {Q : Type 0} (rest : Q → List ℕ → List ℕ) (v : View) (old new : Course Q) → CourseFact setup refuses rest v old → StaysOnOrLacks old new
+    → CourseFact setup refuses rest v new
+stays_on setup refuses rest v old new h (inl same) = subst (λ x. CourseFact setup refuses rest v x) (sym same) h
+stays_on setup refuses rest v old new h (inr lacks) = subst (λ x. CourseFact setup refuses rest v x) (sym lacks) (course_lacks setup refuses rest v old h)
+
+course_moved : (setup : Setup) (R T : Type 0) → (R → T) → (T → R) → {Q : Type 0} (rest : Q → List ℕ → List ℕ) (v : View) (course : Course Q)
+    → CourseFact setup R rest v course → CourseFact setup T rest v course
+course_moved setup R T to from rest v (K.Phased p) h = phase_fact setup R T to from v p h
+course_moved setup R T to from rest v (K.Relaying r) h = relays_settled setup R T from rest v r.driven.chain r.body h
+course_moved setup R T to from rest v (K.Finishing end) h = finishing setup R T to from v end h
+
+pub course_settled : {C O Q : Type 0} (client : C → Look) (origin : O → Look) (paired : C → O → Type 0) (refuses : O → List ℕ → Type 0) (rest : Q → List ℕ → List ℕ) (old new : Core C O)
+    (course : Course Q) → StepKeeps client origin paired refuses old new
+    → CourseFact (arc_value old.setup) (OriginRefuses client refuses old) rest (view_of client origin new) course
+    → CourseFact (arc_value new.setup) (OriginRefuses client refuses new) rest (view_of client origin new) course
+course_settled client origin paired refuses rest old new course keeps h =
+    let v = view_of client origin new in
+    let to : OriginRefuses client refuses old → OriginRefuses client refuses new = λ r.
+    subst (λ (c : List ℕ). refuses_if refuses new.origin c) (sym keeps.client.source) (keeps.refusal.still _ r) in
+    let from : OriginRefuses client refuses new → OriginRefuses client refuses old = λ r.
+    keeps.refusal.before _ (subst (λ (c : List ℕ). refuses_if refuses new.origin c) keeps.client.source r) in
+    subst (λ s. CourseFact (arc_value s) (OriginRefuses client refuses new) rest v course) (sym keeps.setup)
+    (course_moved (arc_value old.setup) (OriginRefuses client refuses old) (OriginRefuses client refuses new) to from rest v course h)
+
+-- a body whose head is queued
+enters_moved : (setup : Setup) (R T : Type 0) → (T → R) → {Q : Type 0} (rest : Q → List ℕ → List ℕ) (v : View) (c : ChainState Q) (place : Place)
+    → EntersBody setup R rest v c place → EntersBody setup T rest v c place
+enters_moved setup R T from rest v c place h = record {
+  q = h.q;
+  h = h.h;
+  read = h.read;
+  reads = record {
+    served = record {
+      goes = h.reads.served.goes;
+      accepts = λ t. h.reads.served.accepts (from t);
+      count = h.reads.served.count;
+      carries = h.reads.served.carries;
+      no_waits = h.reads.served.no_waits;
+    };
+    good = h.reads.good;
+    fed = h.reads.fed;
+    reads = h.reads.reads;
+    is_fed = h.reads.is_fed;
+  };
+  going = h.going;
+  sends = record { count = h.sends.count; some = h.sends.some; mode = h.sends.mode; body = h.sends.body; text = h.sends.text; flows = h.sends.flows };
+}
+
+pub enters_settled : {C O Q : Type 0} (client : C → Look) (origin : O → Look) (paired : C → O → Type 0) (refuses : O → List ℕ → Type 0) (rest : Q → List ℕ → List ℕ) (old new : Core C O)
+    (c : ChainState Q) (place : Place) → StepKeeps client origin paired refuses old new
+    → EntersBody (arc_value old.setup) (OriginRefuses client refuses old) rest (view_of client origin new) c place
+    → EntersBody (arc_value new.setup) (OriginRefuses client refuses new) rest (view_of client origin new) c place
+enters_settled client origin paired refuses rest old new c place keeps h =
+    let v = view_of client origin new in
+    let from : OriginRefuses client refuses new → OriginRefuses client refuses old = λ r.
+    keeps.refusal.before _ (subst (λ (c : List ℕ). refuses_if refuses new.origin c) keeps.client.source r) in
+    subst (λ s. EntersBody (arc_value s) (OriginRefuses client refuses new) rest v c place) (sym keeps.setup)
+    (enters_moved (arc_value old.setup) (OriginRefuses client refuses old) (OriginRefuses client refuses new) from rest v c place h)

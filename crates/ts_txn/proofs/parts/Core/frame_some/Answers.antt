@@ -1,0 +1,33 @@
+use Rattle.std.proofs.Common.{◌≡◌, length, take, sym, ap, subst, ◌∙◌}
+use Rattle.ts_transform.specs.Flow.{ChainState, client_wait}
+use Rattle.ts_txn.specs.Relaying.{StepsChain}
+use Rattle.std.specs.Arc.{arc_value}
+use Rattle.ts_txn.specs.View.{OriginRefuses, view_of}
+use Rattle.ts_txn.proofs.Relaying.{frames_lacks, frames_step, front_of_block}
+use Rattle.ts_txn.proofs.Chaining.{chain_after, chain_still, taken_order}
+use Rattle.ts_txn.proofs.parts.Core.frame_some.Goals as goal
+
+pub returns-in_default-clause-chain : goal.returns-in_default-clause-chain
+returns-in_default-clause-chain g c = chain_still _ 1 c.args.relay.now.driven c.args.cx.now c.requires.turn
+
+pub returns-in_default-frame_body-clause-leads : goal.returns-in_default-frame_body-clause-leads
+returns-in_default-frame_body-clause-leads g c = λ told also.
+    frames_lacks (arc_value c.args.self.now.setup) (OriginRefuses g.C.Link.look g.O.Upstream.refuses c.args.self.now) g.P.Transform.rest
+    (view_of g.C.Link.look g.O.Link.look c.args.self.now) (view_of g.C.Link.look g.O.Link.look c.frame_body.new.self) c.args.relay.now.driven.chain c.args.relay.now.body
+    c.in_default-frame_body.ensures.err (c.requires.fact told also)
+
+pub returns-in_default-frame_body-clause-chain : goal.returns-in_default-frame_body-clause-chain
+returns-in_default-frame_body-clause-chain g c = chain_still _ 1 c.args.relay.now.driven c.args.cx.now c.requires.turn
+
+pub returns-clause-leads : goal.returns-clause-leads
+returns-clause-leads g c = λ told also.
+    frames_step (arc_value c.args.self.now.setup) (OriginRefuses g.C.Link.look g.O.Upstream.refuses c.args.self.now) g.P.Transform.rest
+    (view_of g.C.Link.look g.O.Link.look c.args.self.now) (view_of g.C.Link.look g.O.Link.look c.frame_body.new.self) c.args.relay.now.driven.chain
+    c.take.new.self.chain c.args.relay.now.body c.piece_of-piece.result.now _ c.take.result c.step_after.result c.step_after.ensures c.in-Ok.ensures.ok c.piece_of-piece.ensures.piece c.take.ensures.takes
+    (front_of_block (client_wait c.args.relay.now.driven.chain) c.in-Some.block.now c.piece_of-piece.result.now _ (c.in-Some.ensures.2 ∙ ap (λ (k : ChainState _). take (length c.in-Some.block.now) (client_wait k)) c.chain.ensures) c.piece_of-piece.ensures.front) (c.requires.fact told also)
+
+pub returns-clause-chain : goal.returns-clause-chain
+returns-clause-chain g c =
+    subst (λ s. StepsChain s 1 c.args.relay.now.driven c.take.new.self c.args.cx.now c.take.new.cx) (sym c.step_after.ensures)
+    (chain_after 1 c.take.result c.args.relay.now.driven c.take.new.self c.args.cx.now c.take.new.cx c.take.ensures.adds c.take.ensures.driven c.take.ensures.loses c.take.ensures.same
+    (taken_order g.P.Transform.rest _ c.args.relay.now.driven.chain c.take.new.self.chain c.take.ensures.takes))

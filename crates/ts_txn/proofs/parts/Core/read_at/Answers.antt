@@ -1,0 +1,21 @@
+use Rattle.std.proofs.Common.{sym, ap, ◌∙◌}
+use Rattle.std.specs.Arc.{arc_value}
+use Rattle.ts_txn.specs.View.{OriginRefuses, view_of}
+use Rattle.ts_txn.proofs.BodyEvents.{handles_quiet, handles_read, settled_as}
+use Rattle.ts_txn.proofs.parts.Core.read_at.Goals as goal
+
+pub returns-then-not-works-clause-handles : goal.returns-then-not-works-clause-handles
+returns-then-not-works-clause-handles g c =
+    handles_quiet 2 c.args.event (view_of g.C.Link.look g.O.Link.look c.args.self.now) c.args.main.now c.args.relay.now c.args.cx.now c.requires.turn (sym c.works.ensures ∙ c.if-not-works.true)
+
+pub returns-clause-leads : goal.returns-clause-leads
+returns-clause-leads g c = λ told also.
+    settled_as (arc_value c.args.self.now.setup) (OriginRefuses g.C.Link.look g.O.Upstream.refuses c.args.self.now) g.P.Transform.rest
+    (view_of g.C.Link.look g.O.Link.look c.read_body-step.new.self) c.read_body-step.new.relay c.settle_after.new.relay c.read_body-step.result c.settle_after.result
+    c.settle_after.ensures.settles.settled c.settle_after.ensures.relay (c.read_body-step.ensures.leads told also)
+
+pub returns-clause-handles : goal.returns-clause-handles
+returns-clause-handles g c =
+    handles_read c.args.event c.read_body-step.result c.settle_after.result (view_of g.C.Link.look g.O.Link.look c.args.self.now) (view_of g.C.Link.look g.O.Link.look c.read_body-step.new.self) c.args.main.now c.settle_after.new.main
+    c.args.relay.now c.read_body-step.new.relay c.settle_after.new.relay c.args.cx.now c.read_body-step.new.cx c.settle_after.new.cx c.known.ensures c.read_body-step.ensures.chain (c.read_body-step.ensures.reader ∙ c.unrouse.ensures)
+    (ap (λ x. x.driven) c.settle_after.ensures.relay) c.settle_after.ensures.settles

@@ -1,0 +1,34 @@
+use Rattle.std.specs.Arc.{arc_value}
+use Rattle.ts_txn.specs.View.{OriginRefuses, view_of}
+use Rattle.ts_txn.proofs.Finished.{finish_lacks, finish_left, finished, finishing_on}
+use Rattle.ts_txn.proofs.parts.Core.send_rest.Goals as goal
+
+pub returns-in-Some-clause-leads : goal.returns-in-Some-clause-leads
+returns-in-Some-clause-leads g c = λ told also.
+    finishing_on (arc_value c.args.self.now.setup) (OriginRefuses g.C.Link.look g.O.Upstream.refuses c.args.self.now) g.C.Link.tells
+    (view_of g.C.Link.look g.O.Link.look c.args.self.now) (view_of g.C.Link.look g.O.Link.look c.write_client.new.self) _ c.args.end told
+    (c.requires.fact told also) c.in-Some.ensures.writes
+
+pub returns-in-Nothing-clause-leads : goal.returns-in-Nothing-clause-leads
+returns-in-Nothing-clause-leads g c = λ told also.
+    finished (arc_value c.args.self.now.setup) (OriginRefuses g.C.Link.look g.O.Upstream.refuses c.args.self.now) g.C.Link.tells
+    (view_of g.C.Link.look g.O.Link.look c.args.self.now) (view_of g.C.Link.look g.O.Link.look c.write_client.new.self) c.args.end told
+    (c.requires.fact told also) c.in-Nothing.ensures.writes
+
+pub returns-in-Again-clause-leads : goal.returns-in-Again-clause-leads
+returns-in-Again-clause-leads g c = λ told also.
+    finishing_on (arc_value c.args.self.now.setup) (OriginRefuses g.C.Link.look g.O.Upstream.refuses c.args.self.now) g.C.Link.tells
+    (view_of g.C.Link.look g.O.Link.look c.args.self.now) (view_of g.C.Link.look g.O.Link.look c.write_client.new.self) _ c.args.end told
+    (c.requires.fact told also) c.in-Again.ensures.writes
+
+pub returns-in-Failed-clause-leads : goal.returns-in-Failed-clause-leads
+returns-in-Failed-clause-leads g c = λ told also.
+    finish_left (arc_value c.args.self.now.setup) (OriginRefuses g.C.Link.look g.O.Upstream.refuses c.args.self.now) g.C.Link.tells
+    (view_of g.C.Link.look g.O.Link.look c.args.self.now) (view_of g.C.Link.look g.O.Link.look c.write_client.new.self) c.args.end told
+    (c.requires.fact told also) c.in-Failed.ensures.writes
+
+pub returns-in-NoMemory-clause-leads : goal.returns-in-NoMemory-clause-leads
+returns-in-NoMemory-clause-leads g c = λ told also.
+    finish_lacks (arc_value c.args.self.now.setup) (OriginRefuses g.C.Link.look g.O.Upstream.refuses c.args.self.now) g.C.Link.tells
+    (view_of g.C.Link.look g.O.Link.look c.args.self.now) (view_of g.C.Link.look g.O.Link.look c.write_client.new.self) c.args.end told
+    (c.requires.fact told also) c.in-NoMemory.ensures.writes

@@ -1,0 +1,21 @@
+use Rattle.std.proofs.Common.{refl, ap}
+use Rattle.ts_transform.proofs.Carrying.{pumped_order}
+use Rattle.std.specs.Arc.{arc_value}
+use Rattle.ts_txn.specs.View.{OriginRefuses, view_of}
+use Rattle.ts_txn.proofs.BodyEvents.{handles_stage, settled_as, stage_leads}
+use Rattle.ts_txn.proofs.parts.Core.stage_at.Goals as goal
+
+pub returns-clause-leads : goal.returns-clause-leads
+returns-clause-leads g c = λ told also.
+    settled_as (arc_value c.args.self.now.setup) (OriginRefuses g.C.Link.look g.O.Upstream.refuses c.args.self.now) g.P.Transform.rest
+    (view_of g.C.Link.look g.O.Link.look c.args.self.now) (record c.args.relay.now { driven = c.handle.new.self }) c.settle_after.new.relay c.step_after-step.result c.settle_after.result
+    c.settle_after.ensures.settles.settled c.settle_after.ensures.relay
+    (stage_leads (arc_value c.args.self.now.setup) (OriginRefuses g.C.Link.look g.O.Upstream.refuses c.args.self.now) g.P.Transform.rest (view_of g.C.Link.look g.O.Link.look c.args.self.now) c.args.relay.now.driven.chain c.handle.new.self.chain c.args.relay.now.body
+    c.args.relay.now.driven.table.items c.handle.new.self.table.items c.args.cx.now c.handle.new.cx c.handle.result c.step_after-step.result c.step_after-step.ensures c.handle.ensures.gives (c.requires.fact told also))
+
+pub returns-clause-handles : goal.returns-clause-handles
+returns-clause-handles g c =
+    handles_stage c.args.role c.args.event c.handle.result c.step_after-step.result c.settle_after.result (view_of g.C.Link.look g.O.Link.look c.args.self.now) c.args.main.now c.settle_after.new.main
+    c.args.relay.now (record c.args.relay.now { driven = c.handle.new.self }) c.settle_after.new.relay c.args.cx.now c.handle.new.cx c.settle_after.new.cx c.known.ensures c.step_after-step.ensures
+    c.handle.ensures.within c.handle.ensures.loses c.handle.ensures.rest.others c.handle.ensures.driven c.requires.role.0 c.requires.role.1 refl
+    c.handle.ensures.rest.seated (pumped_order g.P.Transform.rest c.args.relay.now.driven.chain c.handle.new.self.chain c.handle.ensures.gives.once) (ap (λ x. x.driven) c.settle_after.ensures.relay) c.settle_after.ensures.settles

@@ -1,0 +1,41 @@
+use Rattle.std.specs.Arc.{arc_value}
+use Rattle.ts_txn.specs.View.{OriginRefuses, view_of}
+use Rattle.ts_txn.proofs.Relaying.{writes_lacks, writes_left, writes_on}
+use Rattle.ts_txn.proofs.Chaining.{chain_still}
+use Rattle.ts_txn.proofs.parts.Core.write_body.Goals as goal
+
+pub returns-in-Some-clause-leads : goal.returns-in-Some-clause-leads
+returns-in-Some-clause-leads g c = λ told also.
+    writes_on (arc_value c.args.self.now.setup) (OriginRefuses g.C.Link.look g.O.Upstream.refuses c.args.self.now) g.P.Transform.rest g.C.Link.tells
+    (view_of g.C.Link.look g.O.Link.look c.args.self.now) (view_of g.C.Link.look g.O.Link.look c.write_client.new.self) _ c.args.relay.now.driven.chain c.args.relay.now.body
+    told c.in-Some.ensures.writes (c.requires.fact told also)
+
+pub returns-in-Some-clause-chain : goal.returns-in-Some-clause-chain
+returns-in-Some-clause-chain g c = chain_still _ 1 c.args.relay.now.driven c.args.cx.now c.requires.turn
+
+pub returns-in-Again-clause-leads : goal.returns-in-Again-clause-leads
+returns-in-Again-clause-leads g c = λ told also.
+    writes_on (arc_value c.args.self.now.setup) (OriginRefuses g.C.Link.look g.O.Upstream.refuses c.args.self.now) g.P.Transform.rest g.C.Link.tells
+    (view_of g.C.Link.look g.O.Link.look c.args.self.now) (view_of g.C.Link.look g.O.Link.look c.write_client.new.self) _ c.args.relay.now.driven.chain c.args.relay.now.body
+    told c.in-Again.ensures.writes (c.requires.fact told also)
+
+pub returns-in-Again-clause-chain : goal.returns-in-Again-clause-chain
+returns-in-Again-clause-chain g c = chain_still _ 1 c.args.relay.now.driven c.args.cx.now c.requires.turn
+
+pub returns-in-Failed-clause-leads : goal.returns-in-Failed-clause-leads
+returns-in-Failed-clause-leads g c = λ told also.
+    writes_left (arc_value c.args.self.now.setup) (OriginRefuses g.C.Link.look g.O.Upstream.refuses c.args.self.now) g.P.Transform.rest g.C.Link.tells
+    (view_of g.C.Link.look g.O.Link.look c.args.self.now) (view_of g.C.Link.look g.O.Link.look c.write_client.new.self) c.args.relay.now.driven.chain c.args.relay.now.body
+    told c.in-Failed.ensures.writes (c.requires.fact told also)
+
+pub returns-in-Failed-clause-chain : goal.returns-in-Failed-clause-chain
+returns-in-Failed-clause-chain g c = chain_still _ 1 c.args.relay.now.driven c.args.cx.now c.requires.turn
+
+pub returns-in-NoMemory-clause-leads : goal.returns-in-NoMemory-clause-leads
+returns-in-NoMemory-clause-leads g c = λ told also.
+    writes_lacks (arc_value c.args.self.now.setup) (OriginRefuses g.C.Link.look g.O.Upstream.refuses c.args.self.now) g.P.Transform.rest g.C.Link.tells
+    (view_of g.C.Link.look g.O.Link.look c.args.self.now) (view_of g.C.Link.look g.O.Link.look c.write_client.new.self) _ c.args.relay.now.driven.chain c.args.relay.now.body
+    told c.in-NoMemory.ensures.writes (c.requires.fact told also)
+
+pub returns-in-NoMemory-clause-chain : goal.returns-in-NoMemory-clause-chain
+returns-in-NoMemory-clause-chain g c = chain_still _ 1 c.args.relay.now.driven c.args.cx.now c.requires.turn

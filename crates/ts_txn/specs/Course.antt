@@ -1,0 +1,48 @@
+-- What holds of a transaction by how far it is, where its links tell: in a phase up to the client's head or at its
+-- close, while a body is passed on, and while the last of it is written.
+use Rattle.std.specs.Prelude.{ℕ, List, Bool}
+use Rattle.std.specs.Arc.{arc_value}
+use Rattle.ts_config.specs.declared.setup.Setup.{Setup}
+use Rattle.ts_hooks.specs.declared.txn_end.TxnEnd.{TxnEnd}
+use Rattle.ts_hooks.specs.declared.txn_end.TxnEnd.TheVariants as E
+use Rattle.ts_link.specs.Link.{Look}
+use Rattle.ts_txn.specs.View.{OriginRefuses, View, view_of}
+use Rattle.ts_txn.specs.Finishing.{IsFinishing}
+use Rattle.ts_txn.specs.Relaying.{RelaysBody}
+use Rattle.ts_txn.specs.Holding.{IfTold, PhaseFact}
+use Rattle.ts_txn.specs.declared.finishing.BodyStep.{BodyStep}
+use Rattle.ts_txn.specs.declared.finishing.BodyStep.TheVariants as S
+use Rattle.ts_txn.specs.declared.course.Course.{Course}
+use Rattle.ts_txn.specs.declared.course.Course.TheVariants as K
+use Rattle.ts_txn.specs.declared.parts.Core.{Core}
+use Rattle.ts_txn.specs.declared.phase.Phase.TheVariants as P
+use Rattle.ts_txn.specs.declared.relay.Relay.{Relay}
+
+-- where a transaction is after a step of a body
+abbrev pub course_after : {Q : Type 0} → Relay Q → BodyStep → Course Q
+course_after r S.Goes = K.Relaying r
+course_after r S.Waits = K.Relaying r
+course_after r (S.Finishes end) = K.Finishing end
+course_after r (S.Closes end) = K.Phased (P.TxnClose end)
+course_after r S.Lacks = K.Phased (P.Ended E.NoMemory)
+
+-- and after a step of its last writes
+abbrev pub finish_after : {Q : Type 0} → TxnEnd → BodyStep → Course Q
+finish_after end S.Goes = K.Finishing end
+finish_after end S.Waits = K.Finishing end
+finish_after end (S.Finishes other) = K.Finishing other
+finish_after end (S.Closes other) = K.Phased (P.TxnClose other)
+finish_after end S.Lacks = K.Phased (P.Ended E.NoMemory)
+
+module _ (setup : Setup) (refuses : Type 0) {Q : Type 0} (rest : Q → List ℕ → List ℕ) where
+  abbrev pub CourseFact : View → Course Q → Type 0
+  CourseFact v (K.Phased p) = PhaseFact setup refuses v p
+  CourseFact v (K.Relaying r) = RelaysBody setup refuses rest v r.driven.chain r.body
+  CourseFact v (K.Finishing end) = IsFinishing setup refuses v end
+
+module _ {C O Q : Type 0} (ctells otells : Bool) (client : C → Look) (origin : O → Look)
+    (refuses : O → List ℕ → Type 0) (rest : Q → List ℕ → List ℕ) where
+  -- what holds of a transaction on its course
+  abbrev pub CourseHolds : Core C O → Course Q → Type 0
+  CourseHolds t course = IfTold ctells otells
+      (CourseFact (arc_value t.setup) (OriginRefuses client refuses t) rest (view_of client origin t) course)

@@ -1,0 +1,68 @@
+-- The duties of a transaction on its course, and the events that do them: while it goes on, each has an event of a
+-- continuation that does it, so that no wake is lost (Developer's Guide, "Continuations" and "Actions and Events").
+use Rattle.std.specs.Prelude.{◌≡◌, ℕ, ◌≤◌, ◌⊎◌, List, [], ◌∷◌, Bool, true, false, Option, None, ⊤}
+use Rattle.ts_journal.specs.declared.entry.TheConstants.{GREATEST}
+use Rattle.ts_journal.specs.declared.entry.Pending.{Pending}
+use Rattle.ts_group.specs.declared.action.Named.{Named}
+use Rattle.ts_group.specs.Context.{AllPlain, Context}
+use Rattle.ts_hooks.specs.declared.txn_end.TxnEnd.TheVariants as E
+use Rattle.ts_transform.specs.Carrying.{IsJoined}
+use Rattle.ts_transform.specs.Driving.{IsOfStageIf, IsRousedIf}
+use Rattle.ts_transform.specs.Flow.{EndsInOrder}
+use Rattle.ts_transform.specs.Seats.{AllSeated}
+use Rattle.ts_transform.specs.declared.continuation.StageContinuation.{StageContinuation}
+use Rattle.ts_txn.specs.Cover.{HasNextEvent, Idles}
+use Rattle.ts_txn.specs.Duties.{AreBodyEndsRoused, body_seats}
+use Rattle.ts_txn.specs.View.{View}
+use Rattle.ts_txn.specs.declared.course.Course.{Course}
+use Rattle.ts_txn.specs.declared.course.Course.TheVariants as K
+use Rattle.ts_txn.specs.declared.driver.TheConstants.{MAIN}
+use Rattle.ts_txn.specs.declared.phase.Phase.TheVariants as P
+use Rattle.ts_txn.specs.declared.relay.Relay.{Relay}
+
+-- the continuations of a transaction
+abbrev pub course_seats : {Q : Type 0} → Option StageContinuation → Course Q → List (Option StageContinuation)
+course_seats main (K.Phased p) = main ∷ []
+course_seats main (K.Relaying r) = body_seats main r
+course_seats main (K.Finishing end) = main ∷ []
+
+-- before it was started, and once it has ended, it has none
+abbrev pub IdlesOn : {Q : Type 0} → Course Q → Option StageContinuation → Type 0
+IdlesOn (K.Phased p) main = Idles p main
+IdlesOn (K.Relaying r) main = ⊤
+IdlesOn (K.Finishing end) main = ⊤
+
+-- each duty of a body that is passed on has its event
+pub record BodyHasEvents {Q : Type 0} (v : View) (main : Option StageContinuation) (r : Relay Q)
+    (pending : List Pending) (roles : List Named) : Type 0 where
+  pub runs : r.driven.running ≡ true
+  pub joined : IsJoined r.driven.chain r.driven.table.items main r.reader pending roles
+  pub ends : AreBodyEndsRoused v main r
+  pub ordered : EndsInOrder r.driven.chain.given r.driven.chain.stages
+
+-- so has each duty of a transaction
+abbrev pub HasEventsOn : {Q : Type 0} → View → Option StageContinuation → Course Q → List Pending → List Named
+    → Type 0
+HasEventsOn v main (K.Phased p) pending roles = IsOfStageIf pending roles MAIN main × HasNextEvent p main
+HasEventsOn v main (K.Relaying r) pending roles = BodyHasEvents v main r pending roles
+HasEventsOn v main (K.Finishing end) pending roles = IsOfStageIf pending roles MAIN main × IsRousedIf main
+
+-- Each pending event is plain, and one of its continuations; and each duty has its event, or none can be set, since the
+-- numbers of its group are used up.
+pub record IsCoveredOn {Q : Type 0} (v : View) (main : Option StageContinuation) (course : Course Q)
+    (pending : List Pending) (next : ℕ) (roles : List Named) : Type 0 where
+  pub seated : AllSeated pending (course_seats main course)
+  pub plain : AllPlain pending
+  pub idles : IdlesOn course main
+  pub covered : HasEventsOn v main course pending roles ⊎ (GREATEST ≤ next)
+
+-- it is where it was led, or has ended for want of memory
+abbrev pub StaysOnOrLacks : {Q : Type 0} → Course Q → Course Q → Type 0
+StaysOnOrLacks {Q} old new = (new ≡ old) ⊎ (new ≡ K.Phased (P.Ended E.NoMemory))
+
+-- What is left of the first continuation where its next event was set, or could not be: whether there was memory for it.
+pub record HasRousedNext (has_memory : Bool) (t u : Option StageContinuation) (a b : Context) : Type 0 where
+  pub kept : has_memory ≡ true → IsOfStageIf a.log.state.pending a.roles MAIN t
+      → IsOfStageIf b.log.state.pending b.roles MAIN u
+  pub roused : has_memory ≡ true → IsRousedIf u ⊎ (GREATEST ≤ b.log.state.next)
+  pub lacks : has_memory ≡ false → u ≡ None

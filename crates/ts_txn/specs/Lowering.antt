@@ -1,0 +1,203 @@
+-- What a transaction has left to do, as a number that each of its events lowers: what is left to read, to pass each
+-- boundary and to write, and the Again answers that are left, each weighted above what it makes; and the pending events.
+use Rattle.std.specs.Prelude.{ℕ, ◌+◌, ◌*◌, List, [], ◌∷◌, length, Bool, true, false, ◌&&◌, Option, Some, None}
+use Rattle.std.specs.Arc.{arc_value}
+use Rattle.ts_config.specs.declared.setup.Setup.{Setup}
+use Rattle.ts_config.specs.declared.setup.TransformLine.{TransformLine}
+use Rattle.ts_config.specs.declared.setup.TransformLine.TheVariants as t
+use Rattle.ts_config.specs.declared.fields.Rule.{Rule}
+use Rattle.ts_config.specs.declared.fields.Rule.TheVariants.{Set, Add, Remove}
+use Rattle.ts_config.specs.declared.fields.PluginLine.{PluginLine}
+use Rattle.ts_config.specs.declared.fields.PluginLine.TheVariants.{Deny, Header}
+use Rattle.ts_journal.specs.declared.entry.Pending.{Pending}
+use Rattle.ts_link.specs.Link.{Fewer, Look, NoMore}
+use Rattle.ts_upstream.specs.Uploads.{both}
+use Rattle.ts_wire.specs.Limits.{field_limit, head_limit}
+use Rattle.ts_txn.specs.Block.{own_text, request_text}
+use Rattle.ts_txn.specs.Own.{own_body}
+use Rattle.ts_txn.specs.View.{LinkSide, View, view_of}
+use Rattle.ts_txn.specs.declared.own.OwnStatus.{OwnStatus}
+use Rattle.ts_txn.specs.declared.own.OwnStatus.TheVariants as O
+use Rattle.ts_txn.specs.declared.parts.Peer.{Peer}
+use Rattle.ts_txn.specs.declared.phase.Next.{Next}
+use Rattle.ts_txn.specs.declared.phase.Next.TheVariants as N
+use Rattle.ts_txn.specs.declared.phase.Phase.{Phase}
+use Rattle.ts_txn.specs.declared.phase.Phase.TheVariants as P
+use Rattle.ts_txn.specs.declared.phase.Request.{Request}
+use Rattle.ts_txn.specs.declared.phase.Step.{Step}
+use Rattle.ts_txn.specs.declared.txn.Txn.{Txn}
+
+-- a step sets fewer events
+abbrev pub events_paid : ℕ
+events_paid = 4
+
+-- what a chain has left to do weighs a hundred events: so many steps
+abbrev pub pump_weight : ℕ
+pump_weight = 25
+
+-- a byte that is written to the origin lets the upload rise by 8
+abbrev pub written_weight : ℕ
+written_weight = 9
+
+-- WHAT THE CONFIGURATION ADDS
+
+-- the line of a field that a header rule adds
+abbrev pub rule_length : Rule → ℕ
+rule_length (Set name value) = length name + length value.bytes + 4
+rule_length (Add name value) = length name + length value.bytes + 4
+rule_length (Remove name) = 0
+
+abbrev pub plugin_length : PluginLine → ℕ
+plugin_length (Deny sites) = 0
+plugin_length (Header side rule) = rule_length rule
+
+abbrev pub plugins_length : List PluginLine → ℕ
+plugins_length [] = 0
+plugins_length (l ∷ ls) = plugin_length l + plugins_length ls
+
+-- the text that a transform line adds
+abbrev pub line_length : TransformLine → ℕ
+line_length (t.Append file text) = length text
+line_length (t.Prepend text) = length text
+line_length _ = 0
+
+abbrev pub lines_length : List TransformLine → ℕ
+lines_length [] = 0
+lines_length (l ∷ ls) = line_length l + lines_length ls
+
+-- so many bytes pass the boundary before each line's stage, and the client's
+abbrev pub passes : List TransformLine → ℕ → ℕ
+passes [] bytes = bytes
+passes (l ∷ ls) bytes = bytes + passes ls bytes
+
+-- A HEAD IS NO LONGER THAN THIS
+
+-- a line of a field, or a Host line in its place
+abbrev pub line_room : ℕ
+line_room = head_limit + 8
+
+-- the lines of the fields that were read are at most twice as long as the head; beside them stand the first line, Via,
+-- how the body is framed, and Connection
+abbrev pub frame_room : ℕ
+frame_room = 4 * head_limit + 256
+
+-- THE END OF A BODY
+
+-- the end of a body as it is framed, and the steps behind it
+abbrev pub end_room : ℕ
+end_room = 8
+
+-- what the client gave and may still give, until its request was read
+abbrev pub to_ask : LinkSide → ℕ
+to_ask client = 2 * length client.look.left + length client.inbox
+
+module _ (setup : Setup) where
+  -- each field of a head within the limits, each rule's, and a Host field
+  abbrev pub head_room : ℕ
+  head_room = frame_room + (field_limit + length setup.plugins.items + 1) * line_room
+      + plugins_length setup.plugins.items
+
+  -- an own answer with its body
+  abbrev pub own_length : OwnStatus → ℕ
+  own_length status = length (own_text setup status) + length (own_body status)
+
+  -- no own answer is longer
+  abbrev pub own_room : ℕ
+  own_room = own_length O.BadRequest + own_length O.Forbidden + own_length O.NotImplemented + own_length O.BadGateway
+
+  -- a chain that has not begun: each line's text passes each boundary, and each stage ends, and may pass an error on
+  abbrev pub chain_room : ℕ
+  chain_room = passes setup.transforms.items (lines_length setup.transforms.items + 2)
+
+  -- what an answer makes, whichever it is
+  abbrev pub answer_room : ℕ
+  answer_room = own_room + (head_room + end_room) + pump_weight * chain_room
+
+  -- what the origin gave and may still give is read, and passes a chain
+  abbrev pub to_hear : LinkSide → ℕ
+  to_hear origin = pump_weight * passes setup.transforms.items (length origin.look.left + length origin.inbox)
+      + 2 * length origin.look.left + length origin.inbox
+
+  -- THE PHASES, of which each pays for those behind it. `again` is how many Again answers are left, and `upload` how much
+  -- upload.
+  module _ (again upload : ℕ) (v : View) where
+    -- what was queued is written
+    abbrev pub writes_work : ℕ
+    writes_work = again + length v.client.outbox
+
+    -- what is left once the origin's answer is waited for
+    abbrev pub answer_work : ℕ
+    answer_work = writes_work + answer_room + to_hear v.origin
+
+    -- what is left while a request that is so long is written to the origin
+    abbrev pub request_work : ℕ → ℕ
+    request_work long = answer_work + upload + written_weight * (length v.origin.outbox + long)
+
+    abbrev pub text_work : Request → ℕ
+    text_work q = request_work (length (request_text setup q.head q.target q.host))
+
+    abbrev pub ask_work : ℕ
+    ask_work = request_work head_room + to_ask v.client
+
+    abbrev pub phase_work : Phase → ℕ
+    phase_work P.Fresh = 16 + ask_work
+    phase_work P.TxnStart = 15 + ask_work
+    phase_work P.ReadRequest = 14 + ask_work
+    phase_work (P.ReadRequestHdr q) = 13 + text_work q
+    phase_work (P.OsDns q) = 12 + text_work q
+    phase_work (P.SendRequestHdr q) = 11 + text_work q
+    phase_work (P.SendRequest q) = 10 + request_work 0
+    phase_work (P.Upload q) = 9 + answer_work + upload
+    phase_work (P.ReadResponse q) = 8 + answer_work
+    phase_work (P.ReadResponseHdr q h) = 7 + answer_work
+    phase_work (P.ResponseTransform q h) = 6 + answer_work
+    phase_work (P.SendResponseHdr a) = 3 + writes_work + own_length a.status
+    phase_work (P.Sending a) = 2 + writes_work
+    phase_work (P.TxnClose end) = 1
+    phase_work (P.Ended end) = 0
+
+-- a number of two that are told
+abbrev pub if_told : Option ℕ → Option ℕ → (ℕ → ℕ → ℕ) → Option ℕ
+if_told (Some m) (Some n) f = Some (f m n)
+if_told (Some m) None f = None
+if_told None n f = None
+
+-- how many Again answers both links have left
+abbrev pub agains_left : View → Option ℕ
+agains_left v = both v.client.look.agains v.origin.look.agains
+
+-- what a transaction has left to do in a phase, if its links tell how many Again answers and how much upload is left
+abbrev pub work_left : Setup → Option ℕ → View → Phase → Option ℕ
+work_left setup upload v p = if_told (agains_left v) upload (λ again more. phase_work setup again more v p)
+
+-- how much upload the two links have left: none, if there is no origin
+abbrev pub upload_told : {C L : Type 0} → (C → L → Option ℕ) → C → Option (Peer L) → Option ℕ
+upload_told left c None = Some 0
+upload_told left c (Some p) = left c p.link
+
+-- A step lowers what is left, and the last one doesn't raise it.
+abbrev pub StepFalls : Next → Option ℕ → Option ℕ → Type 0
+StepFalls N.Go old new = Fewer old new
+StepFalls N.Wait old new = Fewer old new
+StepFalls N.Done old new = NoMore old new
+
+-- with the pending events
+abbrev pub number_left : List Pending → Option ℕ → Option ℕ
+number_left pending None = None
+number_left pending (Some work) = Some (events_paid * work + length pending)
+
+-- the number of a transaction whose links tell, and none of another
+abbrev pub number_if : Bool → Option ℕ → Option ℕ
+number_if true n = n
+number_if false n = None
+
+-- What the step of a phase leads to lowers what is left.
+abbrev pub StepLowers : Setup → Phase → Option ℕ → Option ℕ → View → View → Step → Type 0
+StepLowers setup p upload upload_then v w s = StepFalls s.next (work_left setup upload v p) (work_left setup upload_then w s.phase)
+
+-- the number of a transaction in its group: it has one where both links tell
+abbrev pub transaction_left : {C O : Type 0} → Bool → Bool → (C → Look) → (O → Look) → (C → O → Option ℕ)
+    → Txn C O → List Pending → Option ℕ
+transaction_left ctells otells client origin left t pending =
+    number_if (ctells && otells) (number_left pending
+        (work_left (arc_value t.core.setup) (upload_told left t.core.client.link t.core.origin) (view_of client origin t.core) t.phase))

@@ -1,0 +1,93 @@
+//! How far a transaction is, and where an event leads it while a body is passed on.
+ghost use Rattle.std.specs.Prelude.{◌≡◌, true};
+ghost use Rattle.ts_txn.specs.Course.{CourseHolds};
+ghost use Rattle.ts_txn.specs.Entering.{ActsAsLines, HeadHolds};
+ghost use Rattle.ts_txn.specs.Finishing.{FinishHolds};
+ghost use Rattle.ts_txn.specs.Holding.{StepKeeps};
+ghost use Rattle.ts_txn.specs.Relaying.{RelayHolds};
+
+use crate::course_leaving::{leave, write_on};
+use crate::parts::Core;
+use crate::phase::{Phase, Request};
+use crate::relay::Relay;
+use crate::relay_closing::destroy_end;
+use ts_config::TransformLine;
+use ts_group::Cx;
+use ts_hooks::TxnEnd;
+use ts_journal::Event;
+use ts_link::Link;
+use ts_transform::{StageContinuation, Transform};
+use ts_upstream::Upstream;
+use ts_wire::ResponseHead;
+
+/// How far a transaction is.
+#[derive(Drop)]
+pub enum Course<P> {
+    /// In a phase up to the client's head, or at its close.
+    Phased(Phase),
+    /// A body is passed on.
+    Relaying(Relay<P>),
+    /// All that the client gets was queued, and once it is written the transaction ends so.
+    Finishing { end: TxnEnd },
+}
+
+/// Handles an event of a role while a body is passed on, and answers where the transaction is then.
+pub fn relay_on<C: Link, O: Upstream<C>, P: Transform + Drop>(
+    core: &mut Core<C, O>,
+    main: &mut Option<StageContinuation>,
+    relay: Relay<P>,
+    role: u32,
+    event: Event,
+    cx: &mut Cx,
+) -> Course<P>
+    requires turn { cx.old.log.state.held ≡ true }
+    requires fact { RelayHolds C.tells O.tells C.look O.look O.refuses P.rest core.old relay }
+    ensures fact { CourseHolds C.tells O.tells C.look O.look O.refuses P.rest core.new result }
+    ensures keeps { StepKeeps C.look O.look O.paired O.refuses core.old core.new }
+{
+    let mut relay = relay;
+    let step = core.handle_body(main, &mut relay, role, event, cx);
+    leave(relay, step, main, cx)
+}
+
+/// Writes once of what was queued last, and answers where the transaction is then.
+pub fn finish_on<C: Link, O: Upstream<C>, P: Transform + Drop>(
+    core: &mut Core<C, O>,
+    main: &mut Option<StageContinuation>,
+    end: TxnEnd,
+    cx: &mut Cx,
+) -> Course<P>
+    requires turn { cx.old.log.state.held ≡ true }
+    requires fact { FinishHolds C.tells O.tells C.look O.look O.refuses core.old end }
+    ensures fact { CourseHolds C.tells O.tells C.look O.look O.refuses P.rest core.new result }
+    ensures keeps { StepKeeps C.look O.look O.paired O.refuses core.old core.new }
+{
+    let step = core.send_rest(end);
+    write_on(end, step, main, cx)
+}
+
+/// Queues the client's head of a response that is passed on, and begins its body; it answers where the transaction is
+/// then.
+pub fn enter_on<C: Link, O: Upstream<C>, P: Transform<Line = TransformLine> + Drop>(
+    core: &mut Core<C, O>,
+    main: &mut Option<StageContinuation>,
+    request: Request,
+    head: ResponseHead,
+    cx: &mut Cx,
+) -> Course<P>
+    requires turn { cx.old.log.state.held ≡ true }
+    requires acts { ActsAsLines P.whole }
+    requires fact { HeadHolds C.tells O.tells C.look O.look O.refuses core.old request head }
+    ensures fact { CourseHolds C.tells O.tells C.look O.look O.refuses P.rest core.new result }
+    ensures keeps { StepKeeps C.look O.look O.paired O.refuses core.old core.new }
+{
+    let Ok(made) = core.queue_relay(&request, &head) else {
+        destroy_end(main, cx);
+        return Course::Phased(Phase::Ended {
+            end: TxnEnd::NoMemory,
+        });
+    };
+    let mut relay = made;
+    let step = core.begin_body(main, &mut relay, cx);
+    leave(relay, step, main, cx)
+}

@@ -1,0 +1,83 @@
+//! Where an event leads a transaction, wherever it is on its course.
+ghost use Rattle.std.specs.Prelude.{◌≡◌, true};
+ghost use Rattle.ts_txn.specs.Course.{CourseHolds};
+ghost use Rattle.ts_txn.specs.Entering.{ActsAsLines};
+ghost use Rattle.ts_txn.specs.Holding.{PhaseHolds, StepKeeps};
+ghost use Rattle.ts_txn.specs.View.{IsPaired};
+
+use crate::course::{Course, enter_on, finish_on, relay_on};
+use crate::course_leaving::step_on;
+use crate::driver::MAIN;
+use crate::parts::Core;
+use crate::phase::Phase;
+use ts_config::TransformLine;
+use ts_group::Cx;
+use ts_journal::Event;
+use ts_link::Link;
+use ts_transform::{StageContinuation, Transform, unrouse, works};
+use ts_upstream::Upstream;
+
+// Makes the step of a phase, and answers where the transaction is then.
+fn phase_on<C: Link, O: Upstream<C>, P: Transform<Line = TransformLine> + Drop>(
+    core: &mut Core<C, O>,
+    main: &mut Option<StageContinuation>,
+    phase: Phase,
+    cx: &mut Cx,
+) -> Course<P>
+    requires turn { cx.old.log.state.held ≡ true }
+    requires acts { ActsAsLines P.whole }
+    requires fact { PhaseHolds C.tells O.tells C.look O.look O.refuses core.old phase }
+    requires pair { IsPaired O.paired core.old }
+    ensures fact { CourseHolds C.tells O.tells C.look O.look O.refuses P.rest core.new result }
+    ensures keeps { StepKeeps C.look O.look O.paired O.refuses core.old core.new }
+{
+    match phase {
+        Phase::ResponseTransform { request, head } => enter_on(core, main, request, head, cx),
+        phase => {
+            let step = core.step(phase);
+            step_on(step, main, cx)
+        }
+    }
+}
+
+/// Handles an event of a role, and answers where the transaction is then: while a body is passed on each role does its
+/// part, and else the first continuation makes the next step.
+pub fn handle_on<C: Link, O: Upstream<C>, P: Transform<Line = TransformLine> + Drop>(
+    core: &mut Core<C, O>,
+    main: &mut Option<StageContinuation>,
+    course: Course<P>,
+    role: u32,
+    event: Event,
+    cx: &mut Cx,
+) -> Course<P>
+    requires turn { cx.old.log.state.held ≡ true }
+    requires acts { ActsAsLines P.whole }
+    requires fact { CourseHolds C.tells O.tells C.look O.look O.refuses P.rest core.old course }
+    requires pair { IsPaired O.paired core.old }
+    ensures fact { CourseHolds C.tells O.tells C.look O.look O.refuses P.rest core.new result }
+    ensures keeps { StepKeeps C.look O.look O.paired O.refuses core.old core.new }
+{
+    match course {
+        Course::Relaying(relay) => relay_on(core, main, relay, role, event, cx),
+        Course::Phased(phase) => {
+            if role != MAIN {
+                return Course::Phased(phase);
+            }
+            if !works(event) {
+                return Course::Phased(phase);
+            }
+            unrouse(main);
+            phase_on(core, main, phase, cx)
+        }
+        Course::Finishing { end } => {
+            if role != MAIN {
+                return Course::Finishing { end };
+            }
+            if !works(event) {
+                return Course::Finishing { end };
+            }
+            unrouse(main);
+            finish_on(core, main, end, cx)
+        }
+    }
+}

@@ -1,0 +1,136 @@
+//! Where a step leads a transaction on its course, once its next event is set: a body that is left is closed first.
+ghost use Rattle.std.specs.Prelude.{◌≡◌, ◌∷◌, [], true, false, None};
+ghost use Rattle.ts_journal.specs.declared.entry.TheConstants.{GREATEST};
+ghost use Rattle.ts_transform.specs.Driving.{ActsWithin, HasLiveIf, IsDueAfter, SetsOnly};
+ghost use Rattle.ts_transform.specs.Seats.{KeepsSeated};
+ghost use Rattle.ts_txn.specs.Course.{course_after, finish_after};
+ghost use Rattle.ts_txn.specs.CourseCover.{HasRousedNext, StaysOnOrLacks};
+
+use crate::course::Course;
+use crate::driver::{RETRY, is_spent, rouse};
+use crate::finishing::BodyStep;
+use crate::phase::{Next, Phase, Step};
+use crate::relay::Relay;
+use crate::relay_closing::{close_relay, destroy_end};
+use ts_group::Cx;
+use ts_hooks::TxnEnd;
+use ts_transform::{StageContinuation, Transform};
+
+// Sees that the next step has an event, and answers whether it may be made: where there is no memory for an event, the
+// continuation is destroyed.
+#[tactic(auto, using(crate::proofs::CourseSeats::roused_next, crate::proofs::CourseSeats::spent_next, crate::proofs::CourseSeats::lacks_next, crate::proofs::CourseSeats::seated_next, ts_transform::proofs::Kept::acts_adds))]
+fn rouse_next(after: u64, main: &mut Option<StageContinuation>, cx: &mut Cx) -> bool
+    requires turn { cx.old.log.state.held ≡ true }
+    ensures within { ActsWithin 1 cx.old cx.new }
+    ensures seated { KeepsSeated (main.old ∷ []) (main.new ∷ []) cx.old cx.new }
+    ensures due { SetsOnly (IsDueAfter after cx.old.moment) cx.old cx.new }
+    ensures rouses { HasRousedNext result main.old main.new cx.old cx.new }
+    ensures spent { GREATEST ≤ cx.old.log.state.next → HasLiveIf cx.old.log.state.live main.old → result ≡ true }
+{
+    let Err(fault) = rouse(main, after, cx) else {
+        return true;
+    };
+    if is_spent(&fault) {
+        return true;
+    }
+    destroy_end(main, cx);
+    false
+}
+
+// A transaction that has ended for want of memory.
+fn lacking<P>() -> Course<P>
+    ensures { result ≡ Course.Phased (Phase.Ended TxnEnd.NoMemory) }
+{
+    Course::Phased(Phase::Ended {
+        end: TxnEnd::NoMemory,
+    })
+}
+
+/// Sets the event of the next step of a transaction that passes no body on; where there is no memory for one, it ends.
+pub fn go_to<P: Drop>(
+    course: Course<P>,
+    after: u64,
+    main: &mut Option<StageContinuation>,
+    cx: &mut Cx,
+) -> Course<P>
+    requires turn { cx.old.log.state.held ≡ true }
+    ensures course { StaysOnOrLacks course result }
+    ensures within { ActsWithin 1 cx.old cx.new }
+    ensures seated { KeepsSeated (main.old ∷ []) (main.new ∷ []) cx.old cx.new }
+{
+    if rouse_next(after, main, cx) {
+        return course;
+    }
+    lacking()
+}
+
+/// Where a transaction is after a step of a body: one that is left is closed.
+#[tactic(auto, using(ts_transform::proofs::Kept::acts_none))]
+pub fn leave<P: Transform + Drop>(
+    relay: Relay<P>,
+    step: BodyStep,
+    main: &mut Option<StageContinuation>,
+    cx: &mut Cx,
+) -> Course<P>
+    requires turn { cx.old.log.state.held ≡ true }
+    ensures course { StaysOnOrLacks (course_after relay step) result }
+    ensures within { ActsWithin 1 cx.old cx.new }
+{
+    match step {
+        BodyStep::Goes => Course::Relaying(relay),
+        BodyStep::Waits => Course::Relaying(relay),
+        BodyStep::Finishes(end) => {
+            close_relay(relay, cx);
+            go_to(Course::Finishing { end }, 0, main, cx)
+        }
+        BodyStep::Closes(end) => {
+            close_relay(relay, cx);
+            go_to(Course::Phased(Phase::TxnClose { end }), 0, main, cx)
+        }
+        BodyStep::Lacks => {
+            close_relay(relay, cx);
+            destroy_end(main, cx);
+            lacking()
+        }
+    }
+}
+
+/// Where a transaction is after a step of its last writes.
+pub fn write_on<P: Drop>(
+    end: TxnEnd,
+    step: BodyStep,
+    main: &mut Option<StageContinuation>,
+    cx: &mut Cx,
+) -> Course<P>
+    requires turn { cx.old.log.state.held ≡ true }
+    ensures course { StaysOnOrLacks (finish_after end step) result }
+    ensures within { ActsWithin 1 cx.old cx.new }
+{
+    match step {
+        BodyStep::Goes => go_to(Course::Finishing { end }, 0, main, cx),
+        BodyStep::Waits => go_to(Course::Finishing { end }, RETRY, main, cx),
+        BodyStep::Finishes(end) => go_to(Course::Finishing { end }, 0, main, cx),
+        BodyStep::Closes(end) => go_to(Course::Phased(Phase::TxnClose { end }), 0, main, cx),
+        BodyStep::Lacks => {
+            destroy_end(main, cx);
+            lacking()
+        }
+    }
+}
+
+/// Where a transaction is after the step of a phase.
+pub fn step_on<P: Drop>(step: Step, main: &mut Option<StageContinuation>, cx: &mut Cx) -> Course<P>
+    requires turn { cx.old.log.state.held ≡ true }
+    ensures course { StaysOnOrLacks (Course.Phased step.phase) result }
+    ensures within { ActsWithin 1 cx.old cx.new }
+{
+    let Step { phase, next } = step;
+    match next {
+        Next::Go => go_to(Course::Phased(phase), 0, main, cx),
+        Next::Wait => go_to(Course::Phased(phase), RETRY, main, cx),
+        Next::Done => {
+            destroy_end(main, cx);
+            Course::Phased(phase)
+        }
+    }
+}

@@ -1,0 +1,41 @@
+//! The last writes of a transaction that passed a body on: all that the client gets was queued.
+ghost use Rattle.ts_txn.specs.Finishing.{FinishHolds, FinishLeads};
+ghost use Rattle.ts_txn.specs.Holding.{StepKeeps};
+
+use crate::parts::Core;
+use ts_hooks::TxnEnd;
+use ts_link::Link;
+use ts_upstream::Upstream;
+use ts_vconn::Pushed;
+
+/// Where a step of a body leads.
+#[derive(Clone, Copy, Debug, PartialEq, Eq)]
+pub enum BodyStep {
+    /// The next step of its kind is made as it is due.
+    Goes,
+    /// A link was not ready: the next step is made 10 milliseconds later.
+    Waits,
+    /// All that the client gets was queued, and once it is written the transaction ends so.
+    Finishes(TxnEnd),
+    /// The transaction closes at once.
+    Closes(TxnEnd),
+    /// Memory was lacking.
+    Lacks,
+}
+
+impl<C: Link, O: Upstream<C>> Core<C, O> {
+    /// Writes once of what was queued, behind which nothing is queued any more.
+    pub fn send_rest(&mut self, end: TxnEnd) -> BodyStep
+        requires fact { FinishHolds C.tells O.tells C.look O.look O.refuses self.old end }
+        ensures leads { FinishLeads C.tells O.tells C.look O.look O.refuses self.old self.new end result }
+        ensures keeps { StepKeeps C.look O.look O.paired O.refuses self.old self.new }
+    {
+        match self.write_client() {
+            Pushed::Some(_) => BodyStep::Goes,
+            Pushed::Nothing => BodyStep::Closes(end),
+            Pushed::Again => BodyStep::Waits,
+            Pushed::Failed => BodyStep::Closes(TxnEnd::ClientFault),
+            Pushed::NoMemory => BodyStep::Lacks,
+        }
+    }
+}

@@ -1,0 +1,30 @@
+//! Who must work while a body is passed on.
+ghost use Rattle.std.specs.Prelude.{◌≡◌, true, false};
+ghost use Rattle.ts_txn.specs.View.{view_of};
+ghost use Rattle.ts_txn.specs.Duties.{TellsDuty};
+
+use crate::parts::Core;
+use crate::relay::Relay;
+use ts_link::Link;
+use ts_transform::Transform;
+use ts_upstream::Upstream;
+
+impl<C: Link, O: Upstream<C>> Core<C, O> {
+    /// Whether the first continuation must work: something waits for the client, or the chain gave
+    /// something, or has given
+    /// all.
+    pub fn must_send<P: Transform + Drop>(&self, relay: &Relay<P>) -> bool
+        ensures { TellsDuty result (view_of C.look O.look self.now) relay.now.driven.chain }
+    {
+        if !self.client.outbox.is_empty() {
+            return true;
+        }
+        if relay.driven.chain().has_output() {
+            return true;
+        }
+        if !relay.driven.chain().is_given() {
+            return false;
+        }
+        relay.driven.chain().is_finished()
+    }
+}

@@ -1,0 +1,124 @@
+//! How a body begins to be passed on: the client's head is queued, and the reader and the stages get
+// continuations.
+ghost use Rattle.std.specs.Prelude.{◌≡◌, [], true, false, None, OnErr, IfOk};
+ghost use Rattle.ts_transform.specs.Flow.{OnlyFirstWorks};
+ghost use Rattle.ts_wire.specs.Place.{state_of};
+ghost use Rattle.ts_txn.specs.Feeding.{OnGoes};
+ghost use Rattle.ts_txn.specs.Relaying.{RelayLeads, StepsChain};
+ghost use Rattle.ts_txn.specs.Entering.{ActsAsLines, BeginsChain, BeginsRelay, EnterHolds, EntersAfter, GetsStart, HeadHolds, IsUnbegun, LacksAfter};
+ghost use Rattle.ts_txn.specs.Holding.{StepKeeps};
+
+use crate::block::{framing_for, relayed_head};
+use crate::feeding::close_input;
+use crate::finishing::BodyStep;
+use crate::parts::Core;
+use crate::phase::Request;
+use crate::relay::{FIRST, READER, Relay};
+use crate::relay_making::make_relay;
+use crate::relayed::mode_of;
+use ts_config::TransformLine;
+use ts_group::Cx;
+use ts_link::{Link, NoMemory};
+use ts_transform::{DrivenChain, Loss, Transform, make_end};
+use ts_upstream::Upstream;
+use ts_wire::{BodyState, ResponseHead};
+
+// Makes a continuation for each stage of a chain, and rouses the first if it must work.
+fn start_chain<P: Transform + Drop>(driven: &mut DrivenChain<P>, cx: &mut Cx) -> BodyStep
+    requires turn { cx.old.log.state.held ≡ true }
+    requires fresh { driven.old.table.items ≡ [] }
+    requires first { OnlyFirstWorks driven.old.chain }
+    ensures chain { driven.new.chain ≡ driven.old.chain }
+    ensures begins { BeginsChain result 1 driven.new cx.old cx.new }
+{
+    driven.start(FIRST, cx);
+    match driven.lost() {
+        None => BodyStep::Goes,
+        Some(Loss::Spent) => BodyStep::Goes,
+        Some(Loss::NoMemory) => BodyStep::Lacks,
+        Some(Loss::TableFull) => BodyStep::Lacks,
+        Some(Loss::Dead) => BodyStep::Lacks,
+    }
+}
+
+// Gives the chain its end where there is no body.
+fn begin_input<P: Transform + Drop>(relay: &mut Relay<P>, cx: &mut Cx) -> BodyStep
+    requires turn { cx.old.log.state.held ≡ true }
+    requires goes_on { relay.old.driven.chain.given ≡ false }
+    ensures gets { OnGoes result
+        (GetsStart (state_of relay.old.body.phase) relay.old.driven.chain relay.new.driven.chain) }
+    ensures chain { StepsChain result 1 relay.old.driven relay.new.driven cx.old cx.new }
+    ensures relay { relay.new ≡ record relay.old { driven = relay.new.driven } }
+{
+    match relay.body.state() {
+        BodyState::Unfinished => BodyStep::Goes,
+        BodyState::Ended => close_input(&mut relay.driven, cx),
+        BodyState::Bad => BodyStep::Lacks,
+    }
+}
+
+/// Makes the continuations of a body: that of its reader, and one for each stage.
+pub fn begin_relay<P: Transform + Drop>(relay: &mut Relay<P>, cx: &mut Cx) -> BodyStep
+    requires turn { cx.old.log.state.held ≡ true }
+    requires fresh { IsUnbegun relay.old }
+    requires goes_on { relay.old.driven.chain.given ≡ false }
+    requires first { OnlyFirstWorks relay.old.driven.chain }
+    ensures gets { OnGoes result
+        (GetsStart (state_of relay.old.body.phase) relay.old.driven.chain relay.new.driven.chain) }
+    ensures body { relay.new.body ≡ relay.old.body }
+    ensures begins { BeginsRelay result relay.new cx.old cx.new }
+{
+    let Ok(reader) = make_end(READER, cx) else {
+        return BodyStep::Lacks;
+    };
+    relay.reader = Some(reader);
+    let BodyStep::Goes = start_chain(&mut relay.driven, cx) else {
+        return BodyStep::Lacks;
+    };
+    cx.known();
+    begin_input(relay, cx)
+}
+
+impl<C: Link, O: Upstream<C>> Core<C, O> {
+    /// Queues the client's head of a response that is passed on, and makes what its body goes through.
+    pub fn queue_relay<P: Transform<Line = TransformLine> + Drop>(
+        &mut self,
+        request: &Request,
+        head: &ResponseHead,
+    ) -> Result<Relay<P>, NoMemory>
+        requires acts { ActsAsLines P.whole }
+        requires fact { HeadHolds C.tells O.tells C.look O.look O.refuses self.old request.now head.now }
+        ensures ok { IfOk result
+            (λ r. EntersAfter C.tells O.tells C.look O.look O.refuses P.rest self.old self.new r) }
+        ensures err { OnErr result (LacksAfter C.tells O.tells C.look O.look O.refuses self.old self.new) }
+        ensures fresh { IfOk result (λ r. IsUnbegun r
+            × (r.driven.chain.given ≡ false) × OnlyFirstWorks r.driven.chain) }
+        ensures keeps { StepKeeps C.look O.look O.paired O.refuses self.old self.new }
+    {
+        let Ok(made) = make_relay(self.alloc, &self.setup, &request.head, head) else {
+            return Err(NoMemory);
+        };
+        let Ok(text) = relayed_head(self.alloc, &self.setup, &request.head, head) else {
+            return Err(NoMemory);
+        };
+        let mode = mode_of(framing_for(&self.setup, &request.head, head));
+        match self.queue_head(text.bytes(), mode) {
+            Ok(()) => Ok(made),
+            Err(_) => Err(NoMemory),
+        }
+    }
+
+    /// Makes the continuations of a body whose head is queued.
+    pub fn enter_body<P: Transform + Drop>(&self, relay: &mut Relay<P>, cx: &mut Cx) -> BodyStep
+        requires turn { cx.old.log.state.held ≡ true }
+        requires fresh { IsUnbegun relay.old }
+        requires goes_on { relay.old.driven.chain.given ≡ false }
+        requires first { OnlyFirstWorks relay.old.driven.chain }
+        requires fact { EnterHolds C.tells O.tells C.look O.look O.refuses P.rest self.now relay.old }
+        ensures leads { RelayLeads C.tells O.tells C.look O.look O.refuses P.rest self.now self.now
+            relay.new result }
+        ensures begins { BeginsRelay result relay.new cx.old cx.new }
+    {
+        begin_relay(relay, cx)
+    }
+}

@@ -1,0 +1,82 @@
+//! The steps that read a body from the origin: one read, or what waits is fed to the reader of bodies.
+ghost use Rattle.std.specs.Prelude.{◌≡◌, [], true, false};
+ghost use Rattle.ts_txn.specs.View.{view_of};
+ghost use Rattle.ts_txn.specs.Relaying.{RelayHolds, RelayLeads, StepsChain};
+ghost use Rattle.ts_txn.specs.Holding.{StepKeeps};
+
+use crate::feeding::{close_input, ends_here};
+use crate::finishing::BodyStep;
+use crate::parts::Core;
+use crate::relay::Relay;
+use ts_group::Cx;
+use ts_hooks::TxnEnd;
+use ts_link::Link;
+use ts_transform::Transform;
+use ts_upstream::Upstream;
+use ts_vconn::Pulled;
+
+impl<C: Link, O: Upstream<C>> Core<C, O> {
+    // Feeds the reader of bodies with what waits of the origin's bytes.
+    fn feed_relay<P: Transform + Drop>(&mut self, relay: &mut Relay<P>, cx: &mut Cx) -> BodyStep
+        requires turn { cx.old.log.state.held ≡ true }
+        requires fact { RelayHolds C.tells O.tells C.look O.look O.refuses P.rest self.old relay.old }
+        requires goes_on { relay.old.driven.chain.given ≡ false }
+        ensures leads { RelayLeads C.tells O.tells C.look O.look O.refuses P.rest self.old self.new
+            relay.new result }
+        ensures keeps { StepKeeps C.look O.look O.paired O.refuses self.old self.new }
+        ensures chain { StepsChain result 2 relay.old.driven relay.new.driven cx.old cx.new }
+        ensures reader { relay.new.reader ≡ relay.old.reader }
+    {
+        self.feed_body(relay, cx)
+    }
+
+    // Reads once from the origin, of whose bytes none waits.
+    fn pull_relay<P: Transform + Drop>(&mut self, relay: &mut Relay<P>, cx: &mut Cx) -> BodyStep
+        requires turn { cx.old.log.state.held ≡ true }
+        requires fact { RelayHolds C.tells O.tells C.look O.look O.refuses P.rest self.old relay.old }
+        requires goes_on { relay.old.driven.chain.given ≡ false }
+        requires drained { (view_of C.look O.look self.old).origin.inbox ≡ [] }
+        ensures leads { RelayLeads C.tells O.tells C.look O.look O.refuses P.rest self.old self.new
+            relay.new result }
+        ensures keeps { StepKeeps C.look O.look O.paired O.refuses self.old self.new }
+        ensures chain { StepsChain result 2 relay.old.driven relay.new.driven cx.old cx.new }
+        ensures reader { relay.new.reader ≡ relay.old.reader }
+    {
+        let pulled = match self.read_origin() {
+            Ok(pulled) => pulled,
+            Err(_) => return BodyStep::Lacks,
+        };
+        match pulled {
+            Pulled::Some(_) => BodyStep::Goes,
+            Pulled::Again => BodyStep::Waits,
+            Pulled::Failed => BodyStep::Finishes(TxnEnd::OriginFault),
+            Pulled::End => {
+                if !ends_here(&relay.body) {
+                    return BodyStep::Finishes(TxnEnd::OriginCut);
+                }
+                close_input(&mut relay.driven, cx)
+            }
+        }
+    }
+
+    /// Makes one step of the reader, unless the body is over or too much of it waits: it feeds the reader of
+    /// bodies with what
+    /// waits of the origin's bytes, or reads on.
+    pub fn read_body<P: Transform + Drop>(&mut self, relay: &mut Relay<P>, cx: &mut Cx) -> BodyStep
+        requires turn { cx.old.log.state.held ≡ true }
+        requires fact { RelayHolds C.tells O.tells C.look O.look O.refuses P.rest self.old relay.old }
+        ensures leads { RelayLeads C.tells O.tells C.look O.look O.refuses P.rest self.old self.new
+            relay.new result }
+        ensures keeps { StepKeeps C.look O.look O.paired O.refuses self.old self.new }
+        ensures chain { StepsChain result 2 relay.old.driven relay.new.driven cx.old cx.new }
+        ensures reader { relay.new.reader ≡ relay.old.reader }
+    {
+        if !relay.driven.chain().must_read() {
+            return BodyStep::Goes;
+        }
+        if self.holds_body() {
+            return self.feed_relay(relay, cx);
+        }
+        self.pull_relay(relay, cx)
+    }
+}

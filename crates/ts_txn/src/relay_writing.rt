@@ -1,0 +1,92 @@
+//! The steps that write a body to the client: what waits is written, a piece is framed, or the end is.
+ghost use Rattle.std.specs.Prelude.{◌≡◌, ◌<◌, true, length, take};
+ghost use Rattle.ts_wire.specs.Frames.{IsPiece};
+ghost use Rattle.ts_txn.specs.Relaying.{RelayHolds, RelayLeads, StepsChain};
+ghost use Rattle.ts_txn.specs.Holding.{StepKeeps};
+
+use crate::finishing::BodyStep;
+use crate::parts::Core;
+use crate::relay::{Relay, step_after};
+use ts_group::Cx;
+use ts_hooks::TxnEnd;
+use ts_link::Link;
+use ts_transform::Transform;
+use ts_upstream::Upstream;
+use ts_vconn::Pushed;
+use ts_wire::MAX_PIECE;
+
+// The front of some bytes that is framed as one piece.
+fn piece_of(bytes: &[u8]) -> &[u8]
+    requires { 0 < length bytes.now }
+    ensures piece { IsPiece result.now }
+    ensures front { result.now ≡ take (length result.now) bytes.now }
+{
+    let (piece, _) = bytes.split_at(bytes.len().min(MAX_PIECE));
+    piece
+}
+
+impl<C: Link, O: Upstream<C>> Core<C, O> {
+    // Frames the end of the body, where the chain has given all of it.
+    fn end_some<P: Transform + Drop>(&mut self, relay: &Relay<P>) -> BodyStep
+        requires fact { RelayHolds C.tells O.tells C.look O.look O.refuses P.rest self.old relay.now }
+        ensures leads { RelayLeads C.tells O.tells C.look O.look O.refuses P.rest self.old self.new
+            relay.now result }
+        ensures keeps { StepKeeps C.look O.look O.paired O.refuses self.old self.new }
+    {
+        if !relay.driven.chain().is_given() {
+            return BodyStep::Goes;
+        }
+        if !relay.driven.chain().is_finished() {
+            return BodyStep::Goes;
+        }
+        let Ok(()) = self.end_body() else {
+            return BodyStep::Lacks;
+        };
+        BodyStep::Finishes(TxnEnd::Whole)
+    }
+
+    // Frames one piece of what the chain gave, or the end.
+    fn frame_some<P: Transform + Drop>(&mut self, relay: &mut Relay<P>, cx: &mut Cx) -> BodyStep
+        requires turn { cx.old.log.state.held ≡ true }
+        requires fact { RelayHolds C.tells O.tells C.look O.look O.refuses P.rest self.old relay.old }
+        ensures leads { RelayLeads C.tells O.tells C.look O.look O.refuses P.rest self.old self.new
+            relay.new result }
+        ensures keeps { StepKeeps C.look O.look O.paired O.refuses self.old self.new }
+        ensures chain { StepsChain result 1 relay.old.driven relay.new.driven cx.old cx.new }
+        ensures relay { relay.new ≡ record relay.old { driven = relay.new.driven } }
+    {
+        let Some(block) = relay.driven.chain().out_block() else {
+            return self.end_some(relay);
+        };
+        let piece = piece_of(block);
+        let count = piece.len();
+        let Ok(()) = self.frame_body(piece) else {
+            return BodyStep::Lacks;
+        };
+        step_after(relay.driven.take(count, cx))
+    }
+
+    /// Makes one step of the writer: it writes once of what waits for the client, or frames a piece of what
+    /// the chain gave,
+    /// or the end of the body once the chain has given all.
+    pub fn write_body<P: Transform + Drop>(&mut self, relay: &mut Relay<P>, cx: &mut Cx) -> BodyStep
+        requires turn { cx.old.log.state.held ≡ true }
+        requires fact { RelayHolds C.tells O.tells C.look O.look O.refuses P.rest self.old relay.old }
+        ensures leads { RelayLeads C.tells O.tells C.look O.look O.refuses P.rest self.old self.new
+            relay.new result }
+        ensures keeps { StepKeeps C.look O.look O.paired O.refuses self.old self.new }
+        ensures chain { StepsChain result 1 relay.old.driven relay.new.driven cx.old cx.new }
+        ensures relay { relay.new ≡ record relay.old { driven = relay.new.driven } }
+    {
+        if self.client.outbox.is_empty() {
+            return self.frame_some(relay, cx);
+        }
+        match self.write_client() {
+            Pushed::Some(_) => BodyStep::Goes,
+            Pushed::Nothing => BodyStep::Goes,
+            Pushed::Again => BodyStep::Waits,
+            Pushed::Failed => BodyStep::Closes(TxnEnd::ClientFault),
+            Pushed::NoMemory => BodyStep::Lacks,
+        }
+    }
+}
