@@ -1,5 +1,5 @@
 -- What a world and a group answer, and what then holds of the world.
-use Rattle.std.specs.Prelude.{⊤, ◌≡◌, ℕ, ◌+◌, ◌<◌, ◌≤◌, List, [], Option, Some, None}
+use Rattle.std.specs.Prelude.{⊤, ◌≡◌, ℕ, ◌+◌, ◌<◌, ◌≤◌, List, [], Option, Some, None, IsSome}
 use Rattle.ts_journal.specs.declared.entry.Pending.{Pending}
 use Rattle.ts_journal.specs.State.{State, pending_at}
 use Rattle.ts_group.specs.declared.action.Named.{Named}
@@ -102,6 +102,10 @@ Falls (Some before) by (Some now) = now + by ≤ before
 abbrev pub LeavesLess : {W Q R T U : Type 0} → (W → State → Option ℕ)
     → Group W Q R T U → ℕ → Group W Q R T U → Type 0
 LeavesLess Left old by new = Falls (Left old.world old.cx.log.state) by (Left new.world new.cx.log.state)
+
+-- The group's world is finite: it tells what is left to it, the number that each event that it handles lowers.
+abbrev pub Finite : {W Q R T U : Type 0} → (W → State → Option ℕ) → Group W Q R T U → Type 0
+Finite Left g = IsSome (Left g.world g.cx.log.state)
 
 -- a world that tells a number goes on to tell one
 abbrev pub StillTells : Option ℕ → Option ℕ → Type 0

@@ -13,7 +13,8 @@ use Rattle.ts_group.specs.Standing.{FollowsGroup}
 use Rattle.ts_slot.specs.Limits.{most_groups}
 use Rattle.ts_thread.specs.declared.TheConstants.{MOST_LEFT}
 use Rattle.ts_thread.specs.Tags.{GroupsFit}
-use Rattle.ts_thread.specs.Goings.{IsLaterGroup, AllGoOn, IsIdle, HasTurns, Tells, work_left}
+use Rattle.ts_group.specs.Answers.{Finite}
+use Rattle.ts_thread.specs.Goings.{IsLaterGroup, AllGoOn, IsIdle, HasTurns, work_left}
 use Rattle.ts_thread.specs.Started.{IsFirst, WasStarted}
 use Rattle.ts_thread.specs.Threads.{HasHadTurns}
 use Rattle.ts_thread.specs.Whole.{EndSoon, HaveRun, HaveEnded}
@@ -27,12 +28,12 @@ fit_count P (t ∷ ts) (g ∷ gs) fit = let e = fit_count P ts gs fit.1 in omega
 
 module _ {W Q R T U : Type 0} (Fits : T → W → Type 0) (Sound : W → State → List Named → Type 0) (oa isf : T → Bool) where
   module _ (Left : W → State → Option ℕ) where
-    all_tell : (turns : ℕ) (ts : List T) (gs : List (Group W Q R T U)) → EndSoon Q R U Fits Sound oa isf Left turns → GroupsFit Fits Sound oa isf ts gs → All (HasHadTurns turns) gs → All (Tells Left) gs
-    all_tell turns [] [] ends fit few = All-nil (Tells Left)
+    all_tell : (turns : ℕ) (ts : List T) (gs : List (Group W Q R T U)) → EndSoon Q R U Fits Sound oa isf Left turns → GroupsFit Fits Sound oa isf ts gs → All (HasHadTurns turns) gs → All (Finite Left) gs
+    all_tell turns [] [] ends fit few = All-nil (Finite Left)
     all_tell turns [] (g ∷ gs) ends fit few = absurd fit
     all_tell turns (t ∷ ts) [] ends fit few = absurd fit
     all_tell turns (t ∷ ts) (g ∷ gs) ends fit few =
-        All-cons (Tells Left) g gs (ends.each t g fit.0 (All-head (HasHadTurns turns) g gs few)).0 (all_tell turns ts gs ends fit.1 (All-tail (HasHadTurns turns) g gs few))
+        All-cons (Finite Left) g gs (ends.each t g fit.0 (All-head (HasHadTurns turns) g gs few)).0 (all_tell turns ts gs ends fit.1 (All-tail (HasHadTurns turns) g gs few))
 
     all_little : (turns : ℕ) (ts : List T) (gs : List (Group W Q R T U)) → EndSoon Q R U Fits Sound oa isf Left turns → GroupsFit Fits Sound oa isf ts gs → All (HasHadTurns turns) gs → All (λ g. work_left Left g ≤ MOST_LEFT) gs
     all_little turns [] [] ends fit few = All-nil (λ g. work_left Left g ≤ MOST_LEFT)
@@ -43,7 +44,7 @@ module _ {W Q R T U : Type 0} (Fits : T → W → Type 0) (Sound : W → State �
 
     -- so many groups at most tell what is left to do, and have turns enough for it
     pub can_finish : (turns : ℕ) (ts : List T) (gs : List (Group W Q R T U)) → length gs ≤ most_groups → EndSoon Q R U Fits Sound oa isf Left turns → GroupsFit Fits Sound oa isf ts gs → All (HasHadTurns turns) gs
-        → All (Tells Left) gs × All (HasTurns (sum_by (work_left Left) gs)) gs
+        → All (Finite Left) gs × All (HasTurns (sum_by (work_left Left) gs)) gs
     can_finish turns ts gs count ends fit few =
         let low = ends.few in
         let sum : sum_by (work_left Left) gs ≤ length gs * MOST_LEFT = sum_by-le (work_left Left) MOST_LEFT gs (all_little turns ts gs ends fit few) in (

@@ -9,10 +9,10 @@ use Rattle.ts_group.specs.declared.action.Named.{Named}
 use Rattle.ts_group.specs.declared.group.Group.{Group}
 use Rattle.ts_group.specs.declared.world.Asked.{Asked}
 use Rattle.ts_group.specs.declared.world.Asked.TheVariants as asked
-use Rattle.ts_group.specs.Answers.{Falls, LeavesLess, TellFalls, IsAnswer, KeepsTags}
+use Rattle.ts_group.specs.Answers.{Finite, Falls, LeavesLess, TellFalls, IsAnswer, KeepsTags}
 use Rattle.ts_slot.specs.Limits.{last_turn}
 use Rattle.ts_thread.specs.Tags.{GroupFits, GroupsFit, FitAround, CanAsk}
-use Rattle.ts_thread.specs.Goings.{HasTakenTurns, AllGoOn, HasTurns, IsIdle, IsNoMiss, Tells, work_left, Drives, DrivesAt, Finishes}
+use Rattle.ts_thread.specs.Goings.{HasTakenTurns, AllGoOn, HasTurns, IsIdle, IsNoMiss, work_left, Drives, DrivesAt, Finishes}
 use Rattle.ts_thread.proofs.Moves.{goes_refl, goes_trans, goes_over}
 
 pub get_front : {X : Type 0} (xs ys : List X) (k : ℕ) → k < length xs → slice_get (xs ++ ys) k ≡ slice_get xs k
@@ -261,9 +261,9 @@ module _ {W Q R T U : Type 0} (Fits : T → W → Type 0) (Sound : W → State �
     pub own : HasTakenTurns Fits Sound oa isf Left ⊥ old new turns
     pub last : AllGoOn Fits Sound oa isf Left ⊥ after after' turns
     pub less : work_left Left new + turns ≤ work_left Left old
-    pub tells : Tells Left new
+    pub tells : Finite Left new
 
-  pub driving_begins : (before : List (Group W Q R T U)) (g : Group W Q R T U) (after : List (Group W Q R T U)) → Tells Left g → IsDriving before before g g after after
+  pub driving_begins : (before : List (Group W Q R T U)) (g : Group W Q R T U) (after : List (Group W Q R T U)) → Finite Left g → IsDriving before before g g after after
   driving_begins before g after tells = record {
     turns = 0;
     first = all_refl Fits Sound oa isf Left _ before 0;
@@ -325,17 +325,17 @@ module _ {W Q R T U : Type 0} (Fits : T → W → Type 0) (Sound : W → State �
   length_on L (g ∷ gs) (h ∷ hs) n a = let e = length_on L gs hs n a.1 in omega arith
 
   -- no more is left to do, and worlds go on to tell it
-  left_on : (L : Type 0) (gs hs : List (Group W Q R T U)) (n : ℕ) → AllGoOn Fits Sound oa isf Left L gs hs n → All (Tells Left) gs → (sum_by (work_left Left) hs ≤ sum_by (work_left Left) gs) × All (Tells Left) hs
-  left_on L [] [] n a tells = (omega arith, All-nil (Tells Left))
+  left_on : (L : Type 0) (gs hs : List (Group W Q R T U)) (n : ℕ) → AllGoOn Fits Sound oa isf Left L gs hs n → All (Finite Left) gs → (sum_by (work_left Left) hs ≤ sum_by (work_left Left) gs) × All (Finite Left) hs
+  left_on L [] [] n a tells = (omega arith, All-nil (Finite Left))
   left_on L [] (h ∷ hs) n a tells = absurd a
   left_on L (g ∷ gs) [] n a tells = absurd a
   left_on L (g ∷ gs) (h ∷ hs) n a tells =
-      let one = left_falls (Left g.world g.cx.log.state) (Left h.world h.cx.log.state) 0 (All-head (Tells Left) g gs tells) a.0.falls in
+      let one = left_falls (Left g.world g.cx.log.state) (Left h.world h.cx.log.state) 0 (All-head (Finite Left) g gs tells) a.0.falls in
       let less : work_left Left h + 0 ≤ work_left Left g = one.1 in
-      let rest = left_on L gs hs n a.1 (All-tail (Tells Left) g gs tells) in
+      let rest = left_on L gs hs n a.1 (All-tail (Finite Left) g gs tells) in
       let rest_less : sum_by (work_left Left) hs ≤ sum_by (work_left Left) gs = rest.0 in (
         omega (arith, sum_by-cons (work_left Left) g gs, sum_by-cons (work_left Left) h hs),
-        All-cons (Tells Left) h hs one.0 rest.1,
+        All-cons (Finite Left) h hs one.0 rest.1,
       )
 
   -- groups with nothing pending go on to have nothing pending
@@ -350,10 +350,10 @@ module _ {W Q R T U : Type 0} (Fits : T → W → Type 0) (Sound : W → State �
     pub turns : ℕ
     pub goes : AllGoOn Fits Sound oa isf Left ⊥ old new turns
     pub less : sum_by (work_left Left) new + turns ≤ sum_by (work_left Left) old
-    pub tells : All (Tells Left) new
+    pub tells : All (Finite Left) new
     pub idle : All IsIdle (take place new)
 
-  pub finishing_begins : (gs : List (Group W Q R T U)) → All (Tells Left) gs → IsFinishing gs gs 0
+  pub finishing_begins : (gs : List (Group W Q R T U)) → All (Finite Left) gs → IsFinishing gs gs 0
   finishing_begins gs tells = record {
     turns = 0;
     goes = all_refl Fits Sound oa isf Left _ gs 0;
@@ -365,9 +365,9 @@ module _ {W Q R T U : Type 0} (Fits : T → W → Type 0) (Sound : W → State �
   pub finishing_goes_on : (old front front' rest rest' : List (Group W Q R T U)) (g h : Group W Q R T U) (place : ℕ) → length front ≡ place → IsFinishing old (front ++ g ∷ rest) place
       → Drives Fits Sound oa isf Left front front' g h rest rest' (Ok tt) → IsFinishing old (front' ++ h ∷ rest') (place + 1)
   finishing_goes_on old front front' rest rest' g h place len was drives =
-      let tells_front = all_front (Tells Left) front (g ∷ rest) was.tells in
-      let tells_rest = All-tail (Tells Left) g rest (all_back (Tells Left) front (g ∷ rest) was.tells) in
-      let tells_g = all_middle (Tells Left) front g rest was.tells in
+      let tells_front = all_front (Finite Left) front (g ∷ rest) was.tells in
+      let tells_rest = All-tail (Finite Left) g rest (all_back (Finite Left) front (g ∷ rest) was.tells) in
+      let tells_g = all_middle (Finite Left) front g rest was.tells in
       let first = left_on _ front front' drives.turns drives.first tells_front in
       let last = left_on _ rest rest' drives.turns drives.last tells_rest in
       let own = left_falls (Left g.world g.cx.log.state) (Left h.world h.cx.log.state) 0 tells_g drives.own.falls in
@@ -382,7 +382,7 @@ module _ {W Q R T U : Type 0} (Fits : T → W → Type 0) (Sound : W → State �
         goes = all_trans Fits Sound oa isf Left _ old (front ++ g ∷ rest) (front' ++ h ∷ rest') was.turns drives.turns was.goes
             (all_over Fits Sound oa isf Left (lacks_none (Ok tt) refl) (front ++ g ∷ rest) (front' ++ h ∷ rest') drives.turns (all_row Fits Sound oa isf Left front front' rest rest' g h drives.turns drives.first drives.own drives.last));
         less = omega (arith, sum_by-append (work_left Left) front (g ∷ rest), sum_by-append (work_left Left) front' (h ∷ rest'), sum_by-cons (work_left Left) g rest, sum_by-cons (work_left Left) h rest');
-        tells = All-append (Tells Left) front' (h ∷ rest') first.1 (All-cons (Tells Left) h rest' own.0 last.1);
+        tells = All-append (Finite Left) front' (h ∷ rest') first.1 (All-cons (Finite Left) h rest' own.0 last.1);
         idle = subst (λ (gs : List (Group W Q R T U)). All IsIdle gs) (sym (take_more front' h rest' place len'))
             (All-append IsIdle front' (h ∷ []) (idle_on _ front front' drives.turns drives.first idle_front) (All-cons IsIdle h [] drives.idle (All-nil IsIdle)));
       }

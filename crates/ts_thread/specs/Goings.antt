@@ -1,5 +1,5 @@
 -- What the turns of one thread leave of groups.
-use Rattle.std.specs.Prelude.{⊤, ◌≡◌, ◌⊎◌, ℕ, ◌+◌, ◌≤◌, List, [], ◌∷◌, ◌++◌, Bool, Option, Result, length, unwrap_or, IsSome, IsErr, OnOk, All, sum_by}
+use Rattle.std.specs.Prelude.{⊤, ◌≡◌, ◌⊎◌, ℕ, ◌+◌, ◌≤◌, List, [], ◌∷◌, ◌++◌, Bool, Option, Result, length, unwrap_or, IsErr, OnOk, All, sum_by}
 use Rattle.std.specs.List.{AllZip}
 use Rattle.ts_link.specs.declared.octets.NoMemory.{NoMemory}
 use Rattle.ts_journal.specs.declared.entry.Entry.{Entry}
@@ -56,10 +56,6 @@ pub record WorksOn {W Q R T U : Type 0} (Fits : T → W → Type 0) (Sound : W �
 -- what is left to do to a group, 0 where its world does not tell it
 abbrev pub work_left : {W Q R T U : Type 0} → (W → State → Option ℕ) → Group W Q R T U → ℕ
 work_left Left g = unwrap_or (Left g.world g.cx.log.state) 0
-
--- the group's world tells what is left to do
-abbrev pub Tells : {W Q R T U : Type 0} → (W → State → Option ℕ) → Group W Q R T U → Type 0
-Tells Left g = IsSome (Left g.world g.cx.log.state)
 
 -- no event of the group is pending
 abbrev pub IsIdle : {W Q R T U : Type 0} → Group W Q R T U → Type 0

@@ -7,7 +7,8 @@ use Rattle.ts_group.specs.declared.group.Group.{Group}
 use Rattle.ts_group.specs.Standing.{FollowsGroup}
 use Rattle.ts_slot.specs.Limits.{most_groups}
 use Rattle.ts_thread.specs.declared.TheConstants.{MOST_LEFT}
-use Rattle.ts_thread.specs.Goings.{IsIdle, Tells, work_left}
+use Rattle.ts_group.specs.Answers.{Finite}
+use Rattle.ts_thread.specs.Goings.{IsIdle, work_left}
 use Rattle.ts_thread.specs.Started.{IsFirst, WereStarted}
 use Rattle.ts_thread.specs.Tags.{GroupFits, GroupsFit, CanAsk}
 use Rattle.ts_thread.specs.Threads.{IsPlan, HasHadTurns, turns_of}
@@ -41,7 +42,7 @@ pub record EndSoon {W T : Type 0} (Q R U : Type 0) (Fits : T → W → Type 0)
     (Sound : W → State → List Named → Type 0) (only_asked is_first : T → Bool) (Left : W → State → Option ℕ) (turns : ℕ) : Type 0 where
   pub few : turns ≤ MOST_LEFT
   pub each : (t : T) (g : Group W Q R T U) → GroupFits Fits Sound only_asked is_first t g
-      → HasHadTurns turns g → Tells Left g × (work_left Left g ≤ MOST_LEFT)
+      → HasHadTurns turns g → Finite Left g × (work_left Left g ≤ MOST_LEFT)
 
 -- Groups that have ended: each follows the group that was given at its place and fits its tag, no event is
 -- pending, and the first so many were started.

@@ -3,9 +3,9 @@
 ghost use Rattle.std.specs.Prelude.{◌≡◌, ℕ, ◌+◌, ◌<◌, ◌≤◌, List, ◌++◌, ◌∷◌, All, sum_by, true, Some, IsErr, OnOk, length};
 ghost use Rattle.std.specs.List.{slice_get};
 ghost use Rattle.ts_group.specs.declared.group.Group.{Group as GroupOf};
-ghost use Rattle.ts_group.specs.Answers.{Holds, IsAnswer, LeavesLess};
+ghost use Rattle.ts_group.specs.Answers.{Finite, Holds, IsAnswer, LeavesLess};
 ghost use Rattle.ts_thread.specs.Tags.{GroupFits, GroupsFit, FitAround, CanAsk};
-ghost use Rattle.ts_thread.specs.Goings.{HasTakenTurns, WorksOn, AllGoOn, HasTurns, ComesNext, IsNoMiss, Lacked, Tells, work_left, row, Drives, DrivesAt, Finishes};
+ghost use Rattle.ts_thread.specs.Goings.{HasTakenTurns, WorksOn, AllGoOn, HasTurns, ComesNext, IsNoMiss, Lacked, work_left, row, Drives, DrivesAt, Finishes};
 
 use ts_group::{Asked, Group, Handling, World};
 use ts_link::NoMemory;
@@ -205,7 +205,7 @@ fn drive<W: World + Drop>(
 ) -> Result<(), NoMemory>
     requires fits { (tags : List W.Tag) × CanAsk W.fits W.only_asked W.may_ask W.right W.answers tags
         × GroupsFit W.fits W.sound W.only_asked W.is_first tags (row before.old group.old after.old) }
-    requires tells { Tells W.left group.old }
+    requires tells { Finite W.left group.old }
     requires turns { All (HasTurns (work_left W.left group.old)) (row before.old group.old after.old) }
     ensures { Drives W.fits W.sound W.only_asked W.is_first W.left
         before.old before.new group.old group.new after.old after.new result }
@@ -224,7 +224,7 @@ fn drive_first<W: World + Drop>(
     requires rest { 0 < length rest.old }
     requires fits { (tags : List W.Tag) × CanAsk W.fits W.only_asked W.may_ask W.right W.answers tags
         × GroupsFit W.fits W.sound W.only_asked W.is_first tags (before.old ++ rest.old) }
-    requires tells { All (Tells W.left) (before.old ++ rest.old) }
+    requires tells { All (Finite W.left) (before.old ++ rest.old) }
     requires turns { All (HasTurns (sum_by (work_left W.left) (before.old ++ rest.old)))
         (before.old ++ rest.old) }
     ensures { DrivesAt W.fits W.sound W.only_asked W.is_first W.left
@@ -241,7 +241,7 @@ fn drive_at<W: World + Drop>(groups: &mut [Group<W>], place: usize) -> Result<()
     requires place { place < length groups.old }
     requires fits { (tags : List W.Tag) × CanAsk W.fits W.only_asked W.may_ask W.right W.answers tags
         × GroupsFit W.fits W.sound W.only_asked W.is_first tags groups.old }
-    requires tells { All (Tells W.left) groups.old }
+    requires tells { All (Finite W.left) groups.old }
     requires turns { All (HasTurns (sum_by (work_left W.left) groups.old)) groups.old }
     ensures { DrivesAt W.fits W.sound W.only_asked W.is_first W.left place groups.old groups.new result }
 {
@@ -253,7 +253,7 @@ fn drive_at<W: World + Drop>(groups: &mut [Group<W>], place: usize) -> Result<()
 fn finish_all<W: World + Drop>(groups: &mut [Group<W>]) -> Result<(), NoMemory>
     requires fits { (tags : List W.Tag) × CanAsk W.fits W.only_asked W.may_ask W.right W.answers tags
         × GroupsFit W.fits W.sound W.only_asked W.is_first tags groups.old }
-    requires tells { All (Tells W.left) groups.old }
+    requires tells { All (Finite W.left) groups.old }
     requires turns { All (HasTurns (sum_by (work_left W.left) groups.old)) groups.old }
     ensures { Finishes W.fits W.sound W.only_asked W.is_first W.left groups.old groups.new result }
 {
@@ -269,7 +269,7 @@ fn finish_all<W: World + Drop>(groups: &mut [Group<W>]) -> Result<(), NoMemory>
 pub fn finish<W: World + Drop>(groups: &mut Vec<Group<W>>) -> Result<(), NoMemory>
     requires fits { (tags : List W.Tag) × CanAsk W.fits W.only_asked W.may_ask W.right W.answers tags
         × GroupsFit W.fits W.sound W.only_asked W.is_first tags groups.old.items }
-    requires tells { All (Tells W.left) groups.old.items }
+    requires tells { All (Finite W.left) groups.old.items }
     requires turns { All (HasTurns (sum_by (work_left W.left) groups.old.items)) groups.old.items }
     ensures { Finishes W.fits W.sound W.only_asked W.is_first W.left
         groups.old.items groups.new.items result }

@@ -1,12 +1,13 @@
 use Rattle.std.proofs.Common.{◌++◌, All, sum_by, refl, ap, subst}
-use Rattle.ts_thread.specs.Goings.{Tells, HasTurns, work_left, row}
+use Rattle.ts_group.specs.Answers.{Finite}
+use Rattle.ts_thread.specs.Goings.{HasTurns, work_left, row}
 use Rattle.ts_thread.proofs.Rows.{all_middle, fewer_turns, left-le-sum}
 use Rattle.ts_thread.proofs.ending.drive_first.Goals as goal
 
 pub drive-requires-clause-tells : goal.drive-requires-clause-tells
 drive-requires-clause-tells g c =
-    all_middle (Tells g.W.World.left) c.args.before.now c.in-Some.group.now c.in-Some.after.now
-    (subst (λ gs. All (Tells g.W.World.left) (c.args.before.now ++ gs)) c.in-Some.ensures.cases.0 c.requires.tells)
+    all_middle (Finite g.W.World.left) c.args.before.now c.in-Some.group.now c.in-Some.after.now
+    (subst (λ gs. All (Finite g.W.World.left) (c.args.before.now ++ gs)) c.in-Some.ensures.cases.0 c.requires.tells)
 
 pub drive-requires-clause-turns : goal.drive-requires-clause-turns
 drive-requires-clause-turns g c =
