@@ -2,3 +2,4 @@
 pub mod Driven
 pub mod Peers
 pub mod Recorded
+pub mod Toys
