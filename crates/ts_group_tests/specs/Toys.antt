@@ -41,15 +41,6 @@ pub record BurstSound (w : Burst) (s : State) : Type 0 where
 abbrev pub burst_left : Burst → State → Option ℕ
 burst_left w s = Some ((CALLS + 1) * w.bursts + length s.pending)
 
--- so many events were set at most, and exactly so many where all were
-pub record SetsCalls (all : Bool) (calls : ℕ) (old new : State) : Type 0 where
-  pub next : new.next ≤ old.next + calls
-  pub more : length old.pending ≤ length new.pending
-  pub most : length new.pending ≤ length old.pending + calls
-  pub set : new.next + length old.pending ≡ old.next + length new.pending
-  pub exact : all ≡ true → length new.pending ≡ length old.pending + calls
-  pub plain : AllPlain old.pending → AllPlain new.pending
-
 -- the heirs that came and those that are to come are so many, and no event is periodic
 abbrev pub HeirFits : ℕ → Heir → Type 0
 HeirFits t w = (w.plain ≡ true) × (w.done + w.heirs ≡ t)

@@ -3,7 +3,8 @@
 ghost use Rattle.std.specs.Prelude.{⊤, ◌≡◌, ◌+◌, ◌*◌, ◌≤◌, Some, [], true, false, refl, length};
 ghost use Rattle.ts_group.specs.Context.{AllPlain};
 ghost use Rattle.ts_group.specs.Entries.{Grows};
-ghost use Rattle.ts_group_tests.specs.Toys.{BurstFits, BurstSound, SetsCalls, burst_left};
+ghost use Rattle.ts_group_tests.specs.Sets.{SetsEvents};
+ghost use Rattle.ts_group_tests.specs.Toys.{BurstFits, BurstSound, burst_left};
 
 use ts_group::{Asked, Cx, Want, World};
 use ts_journal::{ContKey, Event, Slotted};
@@ -51,7 +52,7 @@ impl Slotted for Burst {
 fn call_target(target: ContKey, cx: &mut Cx) -> bool
     requires turn { cx.old.log.state.held ≡ true }
     ensures grows { Grows cx.old cx.new }
-    ensures sets { SetsCalls result CALLS cx.old.log.state cx.new.log.state }
+    ensures sets { SetsEvents result CALLS cx.old.log.state cx.new.log.state }
 {
     let mut all = true;
     'calls: for _call in 0..CALLS {
