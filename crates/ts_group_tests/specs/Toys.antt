@@ -1,7 +1,7 @@
 -- What holds of the worlds that ask nobody, and what they tell. What each has to do is its tag's number in all; as long as
 -- it is whole, an event is pending until all of that is done.
 use Rattle.std.specs.Prelude.{◌≡◌, ℕ, ◌+◌, ◌*◌, ◌≤◌, Bool, true, Option, Some, None, IfSome, IsSome, length, unwrap_or, if◌then◌else◌}
-use Rattle.std.proofs.Common.{refl, sym, ◌∙◌, subst, arith}
+use Rattle.std.proofs.Common.{refl, sym, subst, arith}
 use Rattle.ts_journal.specs.State.{State, IsLive}
 use Rattle.ts_group.specs.Context.{AllPlain}
 use Rattle.ts_group_tests.specs.declared.burst.Burst.{Burst}

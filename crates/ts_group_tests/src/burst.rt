@@ -128,9 +128,11 @@ impl World for Burst {
 
     fn asked(&mut self, _question: (), _cx: &mut Cx) {}
 
-    ghost sound_taken = { λ w s turn seat roles h. record { plain = h.plain; few = h.few; most = h.most; new = h.new; count = h.count; ends = h.ends } };
+    ghost sound_taken = { λ w s turn seat roles h.
+        record { plain = h.plain; few = h.few; most = h.most; new = h.new; count = h.count; ends = h.ends } };
 
-    ghost sound_given = { λ w s turn roles h. record { plain = h.plain; few = h.few; most = h.most; new = h.new; count = h.count; ends = h.ends } };
+    ghost sound_given = { λ w s turn roles h.
+        record { plain = h.plain; few = h.few; most = h.most; new = h.new; count = h.count; ends = h.ends } };
 
     ghost left_taken = { λ w s turn seat. refl };
 

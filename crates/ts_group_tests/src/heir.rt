@@ -109,9 +109,11 @@ impl World for Heir {
 
     fn asked(&mut self, _question: (), _cx: &mut Cx) {}
 
-    ghost sound_taken = { λ w s turn seat roles h. record { live = h.live; plain = h.plain; few = h.few; most = h.most; ends = h.ends } };
+    ghost sound_taken = { λ w s turn seat roles h.
+        record { live = h.live; plain = h.plain; few = h.few; most = h.most; ends = h.ends } };
 
-    ghost sound_given = { λ w s turn roles h. record { live = h.live; plain = h.plain; few = h.few; most = h.most; ends = h.ends } };
+    ghost sound_given = { λ w s turn roles h.
+        record { live = h.live; plain = h.plain; few = h.few; most = h.most; ends = h.ends } };
 
     ghost left_taken = { λ w s turn seat. refl };
 

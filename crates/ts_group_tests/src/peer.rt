@@ -189,9 +189,11 @@ impl World for Peer {
         u64::from(question) + 1
     }
 
-    ghost sound_taken = { λ w s turn seat roles h. record { plain = h.plain; one = h.one; none = h.none; own = h.own; few = h.few; ends = h.ends } };
+    ghost sound_taken = { λ w s turn seat roles h.
+        record { plain = h.plain; one = h.one; none = h.none; own = h.own; few = h.few; ends = h.ends } };
 
-    ghost sound_given = { λ w s turn roles h. record { plain = h.plain; one = h.one; none = h.none; own = h.own; few = h.few; ends = h.ends } };
+    ghost sound_given = { λ w s turn roles h.
+        record { plain = h.plain; one = h.one; none = h.none; own = h.own; few = h.few; ends = h.ends } };
 
     ghost left_taken = { λ w s turn seat. refl };
 

@@ -69,7 +69,8 @@ pub trait Toy: World {
 
     /// It has counted its work when nothing is pending.
     ghost ends: { (todo : ℕ) (t : Self.Tag) (w : Self) (s : State) (roles : List Named) →
-        tagged todo t → Self.fits t w → Self.sound w s roles → length s.pending ≡ 0 → counted todo w };
+        tagged todo t → Self.fits t w → Self.sound w s roles → length s.pending ≡ 0 →
+        counted todo w };
 }
 
 impl Toy for Steps<Countdown> {

@@ -42,6 +42,12 @@ is_first_of : (b : Bool) (turns : ℕ) → turns ≡ 0 → OnTrue b (turns ≡ 0
 is_first_of true turns e = e
 is_first_of false turns e = tt
 
+-- the tag at a place, where worlds of each tag are not only asked
+tag_at : {T : Type 0} (oa : T → Bool) (Tagged : T → Type 0) (ts : List T) (k : ℕ) → ((t : T) → Tagged t → oa t ≡ false) → All Tagged ts → k < length ts → (t : T) × (get_elem? ts k ≡ some t) × (oa t ≡ false)
+tag_at oa Tagged [] k works all low = absurd (omega arith)
+tag_at oa Tagged (t ∷ ts) zero works all low = (t, refl, works t (All-head Tagged t ts all))
+tag_at oa Tagged (t ∷ ts) (suc k) works all low = tag_at oa Tagged ts k works (All-tail Tagged t ts all) (omega arith)
+
 module _ {W Q R T U : Type 0} (Fits : T → W → Type 0) (Sound : W → State → List Named → Type 0) (oa isf : T → Bool) where
   fresh_fits : (t : T) (g : Group W Q R T U) → oa t ≡ false → Fits t g.world → Holds Sound g → IsFresh 0 g.cx → GroupFits Fits Sound oa isf t g
   fresh_fits t g works fits sound fresh = (
@@ -53,7 +59,7 @@ module _ {W Q R T U : Type 0} (Fits : T → W → Type 0) (Sound : W → State �
 
   module _ (Tagged : T → Type 0) where
     pub toys_begin : (ts : List T) (gs : List (Group W Q R T U)) → ts ≡ [] → gs ≡ [] → AreToys Fits Sound oa isf Tagged 0 ts gs
-    toys_begin ts gs no none = subst (λ us. AreToys Fits Sound oa isf Tagged 0 us gs) (sym no) (subst (λ hs. AreToys Fits Sound oa isf Tagged 0 [] hs) (sym none) (record {
+    toys_begin ts gs untagged none = subst (λ us. AreToys Fits Sound oa isf Tagged 0 us gs) (sym untagged) (subst (λ hs. AreToys Fits Sound oa isf Tagged 0 [] hs) (sym none) (record {
       fits = tt;
       tagged = All-nil Tagged;
       new = All-nil (HasHadTurns 0);
@@ -71,14 +77,9 @@ module _ {W Q R T U : Type 0} (Fits : T → W → Type 0) (Sound : W → State �
           count_is = let e = was.count_is in omega (arith, length-append gs (g ∷ []));
         }))
 
-    tag_at : (ts : List T) (k : ℕ) → ((t : T) → Tagged t → oa t ≡ false) → All Tagged ts → k < length ts → (t : T) × (get_elem? ts k ≡ some t) × (oa t ≡ false)
-    tag_at [] k works all low = absurd (omega arith)
-    tag_at (t ∷ ts) zero works all low = (t, refl, works t (All-head Tagged t ts all))
-    tag_at (t ∷ ts) (suc k) works all low = tag_at ts k works (All-tail Tagged t ts all) (omega arith)
-
     -- toys can be started, all of them
     pub toys_start : (n : ℕ) (ts : List T) (gs : List (Group W Q R T U)) → ((t : T) → Tagged t → oa t ≡ false) → AreToys Fits Sound oa isf Tagged n ts gs → CanStart oa ts n
-    toys_start n ts gs works are k low = tag_at ts k works are.tagged (let e = fit_count (λ u h. GroupFits Fits Sound oa isf u h) ts gs are.fits in let m = are.count_is in omega arith)
+    toys_start n ts gs works are k low = tag_at oa Tagged ts k works are.tagged (let e = fit_count (λ u h. GroupFits Fits Sound oa isf u h) ts gs are.fits in let m = are.count_is in omega arith)
 
     -- as many groups as toys were made fit the same tags
     pub toys_count : (n : ℕ) (ts : List T) (gs hs : List (Group W Q R T U)) → AreToys Fits Sound oa isf Tagged n ts gs → GroupsFit Fits Sound oa isf ts hs → length hs ≡ n

@@ -32,7 +32,7 @@ run_whole-requires-clause-ends g c κs within =
     peers_end (turns_of ASKED c.args.threads BUDGET) (omega arith)
 
 pub returns : goal.returns
-returns g c κs within =
+returns g c =
     IfOk-weaker c.run_whole.result _ (λ gs. All (HasEnded PeerCounted) gs.items)
     (λ gs ended.
     all_ended PeerFits PeerSound (λ b. b) (λ b. true) (λ b. Unit {0}) PeerCounted _ gs.items (λ t w s roles any fits sound none asks whole. sound.ends asks whole none) (all_any c.in_ok-tags.tags.items) ended.fits ended.idle)

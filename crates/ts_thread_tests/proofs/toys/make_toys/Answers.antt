@@ -11,14 +11,14 @@ toys-init g c =
 pub toys-preserved : goal.toys-preserved
 toys-preserved g c =
     let made = c.in_ok-group.ensures in
-    let tagged = c.tag.ensures in
-    toys_next g.W.Slotted.fits g.W.World.sound g.W.World.only_asked g.W.World.is_first (g.W.Toy.tagged c.args.todo) c.toys._toy c.toys.tags.items c.push-2.new.self.items c.toys.groups.items c.push.new.self.items c.tag.result c.in_ok-group.group
+    let tagged = c.tag-tag.ensures in
+    toys_next g.W.Slotted.fits g.W.World.sound g.W.World.only_asked g.W.World.is_first (g.W.Toy.tagged c.args.todo) c.toys._toy c.toys.tags.items c.push-in-toys.new.self.items c.toys.groups.items c.push.new.self.items c.tag-tag.result c.in_ok-group.group
     c.toys.invariant
     c.in_ok-push-2.ensures.items
     c.in_ok-push.ensures.items
     tagged
-    (g.met.W.Toy.works c.args.todo c.tag.result tagged)
-    (made.fits c.tag.result tagged)
+    (g.met.W.Toy.works c.args.todo c.tag-tag.result tagged)
+    (made.fits c.tag-tag.result tagged)
     made.sound
     made.fresh
 
