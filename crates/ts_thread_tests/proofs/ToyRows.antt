@@ -1,8 +1,8 @@
 -- Rows of toy worlds: that they can be run, and what they are at their end.
-use Rattle.std.proofs.Common.{◌≡◌, ℕ, zero, suc, ◌+◌, ◌*◌, ◌<◌, ◌≤◌, List, [], ◌∷◌, ◌++◌, length, length-append, Bool, true, false, Option, refl, sym, ap, ◌∙◌, subst, All, arith}
+use Rattle.std.proofs.Common.{◌≡◌, ℕ, zero, suc, ◌+◌, ◌*◌, ◌<◌, ◌≤◌, List, [], ◌∷◌, ◌++◌, length, length-append, Bool, true, false, Option, refl, sym, ap, subst, All, arith}
 use mathlib.Core.Option.{some}
 use lib.ListN.{get_elem?}
-use Rattle.std.specs.Prelude.{IsSome, unwrap_or, if◌then◌else◌}
+use Rattle.std.specs.Prelude.{IsSome, unwrap_or}
 use Rattle.std.specs.Bool.{OnTrue}
 use Rattle.std.specs.List.{AllZip}
 use Rattle.std.proofs.lemmas.List.Elements.{All-nil, All-cons, All-head, All-tail}
@@ -10,7 +10,7 @@ use Rattle.ts_journal.specs.State.{State}
 use Rattle.ts_group.specs.declared.action.Named.{Named}
 use Rattle.ts_group.specs.declared.group.Group.{Group}
 use Rattle.ts_group.specs.declared.slot.TheConstants.{MOST_IN_TURN}
-use Rattle.ts_group.specs.Answers.{Finite, Holds}
+use Rattle.ts_group.specs.Answers.{Holds}
 use Rattle.ts_group.specs.Context.{IsFresh}
 use Rattle.ts_group.specs.Slot.{IsAtRest}
 use Rattle.ts_group_tests.specs.declared.toy.TheConstants.{MOST_WORK}
