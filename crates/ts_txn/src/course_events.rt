@@ -81,3 +81,30 @@ pub fn handle_on<C: Link, O: Upstream<C>, P: Transform<Line = TransformLine> + D
         }
     }
 }
+
+// Takes the course out, and leaves another in its place.
+fn take<P: Drop>(course: &mut Course<P>) -> Course<P>
+    ensures { result ≡ course.old }
+{
+    std::mem::replace(course, Course::Phased(Phase::Fresh))
+}
+
+/// Handles an event of a role, in place.
+pub fn drive_on<C: Link, O: Upstream<C>, P: Transform<Line = TransformLine> + Drop>(
+    core: &mut Core<C, O>,
+    main: &mut Option<StageContinuation>,
+    course: &mut Course<P>,
+    role: u32,
+    event: Event,
+    cx: &mut Cx,
+)
+    requires turn { cx.old.log.state.held ≡ true }
+    requires acts { ActsAsLines P.whole }
+    requires fact { CourseHolds C.tells O.tells C.look O.look O.refuses P.rest core.old course.old }
+    requires pair { IsPaired O.paired core.old }
+    ensures fact { CourseHolds C.tells O.tells C.look O.look O.refuses P.rest core.new course.new }
+    ensures keeps { StepKeeps C.look O.look O.paired O.refuses core.old core.new }
+{
+    let was = take(course);
+    *course = handle_on(core, main, was, role, event, cx);
+}

@@ -8,15 +8,17 @@ ghost use Rattle.ts_txn.specs.Cover.{is_fresh};
 ghost use Rattle.ts_txn.specs.Making.{ArePaired, HasFewLines, IsMadeOf, IsMadeOfIf, IsNewLink, IsNewLinkIf, base_if, end_of_phase, link_if};
 ghost use Rattle.ts_txn.specs.World.{IsSoundTxn};
 
+use crate::course::Course;
 use crate::parts::{Core, Peer, Sent};
 use crate::phase::Phase;
 use crate::txn::Txn;
 use std::alloc::Global;
 use std::sync::Arc;
-use ts_config::Setup;
+use ts_config::{Setup, TransformLine};
 use ts_hooks::TxnEnd;
 use ts_iobuf::Waiting;
 use ts_link::{Link, NoMemory};
+use ts_transform::Transform;
 use ts_upstream::Upstream;
 use ts_wire::Mode;
 
@@ -70,7 +72,11 @@ fn make_peer_if<L: Link + Drop>(alloc: Global, link: Option<L>) -> Result<Option
     }
 }
 
-impl<C: Link + Drop, O: Upstream<C> + Drop> Txn<C, O> {
+impl<C: Link + Drop, O: Upstream<C> + Drop, P: Transform<Line = TransformLine> + Drop> Txn<
+    C,
+    O,
+    P,
+> {
     /// A transaction between a client and an origin, which were not used. It was not started.
     #[tactic(auto, using(crate::proofs::Made::sound))]
     pub fn make(
@@ -80,7 +86,7 @@ impl<C: Link + Drop, O: Upstream<C> + Drop> Txn<C, O> {
         plugins_at: u32,
         client: C,
         origin: Option<O>,
-    ) -> Result<Txn<C, O>, NoMemory>
+    ) -> Result<Txn<C, O, P>, NoMemory>
         requires few { HasFewLines (arc_value setup) plugins_at }
         requires client { C.tells ≡ true → IsNewLink (C.look client) }
         requires origin { O.tells ≡ true → IsNewLinkIf O.look origin }
@@ -110,7 +116,7 @@ impl<C: Link + Drop, O: Upstream<C> + Drop> Txn<C, O> {
         Ok(Txn {
             core,
             main: None,
-            phase: Phase::Fresh,
+            course: Course::Phased(Phase::Fresh),
         })
     }
 
@@ -123,8 +129,8 @@ impl<C: Link + Drop, O: Upstream<C> + Drop> Txn<C, O> {
             → IsSoundTxn C.tells O.tells C.look O.look O.paired O.refuses self.now [] next roles
             → GREATEST ≤ next }
     {
-        match &self.phase {
-            Phase::Ended { end } => Some(*end),
+        match &self.course {
+            Course::Phased(Phase::Ended { end }) => Some(*end),
             _ => None,
         }
     }
@@ -160,7 +166,7 @@ impl<C: Link + Drop, O: Upstream<C> + Drop> Txn<C, O> {
         let Txn {
             core,
             main: _,
-            phase: _,
+            course: _,
         } = self;
         let Core {
             alloc: _,

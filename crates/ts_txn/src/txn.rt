@@ -9,22 +9,25 @@ ghost use Rattle.ts_txn.specs.declared.phase.Next.{Next};
 ghost use Rattle.ts_txn.specs.Driven.{HandlesEvent, TakesEvent};
 ghost use Rattle.ts_txn.specs.World.{IsTxnOf, HasTxnBegun, IsSoundTxn};
 
-use crate::driver::{MAIN, begin, go_on};
+use crate::course::Course;
+use crate::course_events::drive_on;
+use crate::driver::begin;
 use crate::parts::Core;
 use crate::phase::Phase;
-use ts_config::Setup;
+use ts_config::{Setup, TransformLine};
 use ts_group::{Asked, Cx, Want, World};
 use ts_journal::{Event, Slotted};
 use ts_link::{Link, Octets};
-use ts_transform::{StageContinuation, unrouse, works};
+use ts_transform::{StageContinuation, Transform};
 use ts_upstream::Upstream;
 
-/// One request and its answer between a client and an origin. Its continuation has the role 1.
+/// One request and its answer between a client and an origin. Its continuation has the role 1; while a body is passed
+/// on, its reader has the role 2, and the stages that it goes through have those that follow.
 #[derive(Drop)]
-pub struct Txn<C, O> {
+pub struct Txn<C, O, P> {
     pub(crate) core: Core<C, O>,
     pub(crate) main: Option<StageContinuation>,
-    pub(crate) phase: Phase,
+    pub(crate) course: Course<P>,
 }
 
 /// What a slot promises of the transaction in it: its number, setup and first plugin's group, the sources of
@@ -42,16 +45,17 @@ pub struct TxnTag {
     pub first: bool,
 }
 
-fn is_fresh(phase: &Phase) -> bool
-    ensures { result ≡ is_fresh phase.now }
+fn is_fresh<P>(course: &Course<P>) -> bool
+    ensures { result ≡ is_fresh_on course.now }
 {
-    match phase {
-        Phase::Fresh => true,
+    match course {
+        Course::Phased(Phase::Fresh) => true,
         _ => false,
     }
 }
 
-impl<C: Link + Drop, O: Upstream<C> + Drop> Slotted for Txn<C, O> {
+impl<C: Link + Drop, O: Upstream<C> + Drop, P: Transform<Line = TransformLine> + Drop> Slotted
+    for Txn<C, O, P> {
     type Tag = TxnTag;
 
     type Trace = ();
@@ -72,7 +76,8 @@ impl<C: Link + Drop, O: Upstream<C> + Drop> Slotted for Txn<C, O> {
 }
 
 #[tactic(auto, using(ts_group::proofs::Grows::grows, ts_group::proofs::Grows::grows_refl, ts_transform::proofs::Kept::acts_none, crate::proofs::Handling::sound_begun, crate::proofs::Handling::sound_asked, crate::proofs::Handling::sound_other, crate::proofs::Handling::sound_quiet, crate::proofs::Handling::sound_stepped, crate::proofs::Coverage::fresh_none, crate::proofs::Events::handles_nothing, crate::proofs::Fitting::fits_on))]
-impl<C: Link + Drop, O: Upstream<C> + Drop> World for Txn<C, O> {
+impl<C: Link + Drop, O: Upstream<C> + Drop, P: Transform<Line = TransformLine> + Drop> World
+    for Txn<C, O, P> {
     type Question = ();
 
     type Reply = ();
@@ -113,10 +118,10 @@ impl<C: Link + Drop, O: Upstream<C> + Drop> World for Txn<C, O> {
         ensures begun { HasTxnBegun self.old self.new }
         ensures due { SetsOnly (IsDueAfter 0 cx.old.moment) cx.old cx.new }
     {
-        if !is_fresh(&self.phase) {
+        if !is_fresh(&self.course) {
             return;
         }
-        begin(&mut self.main, &mut self.phase, cx);
+        self.course = begin(&mut self.main, cx);
     }
 
     fn handle(&mut self, role: u32, event: Event, cx: &mut Cx) -> Want<()>
@@ -132,14 +137,14 @@ impl<C: Link + Drop, O: Upstream<C> + Drop> World for Txn<C, O> {
         ensures handles { HandlesEvent C.tells O.tells C.look O.look O.paired O.refuses O.upload_left
             self.old.core self.new.core self.old.phase self.new.phase cx.old cx.new }
     {
-        if role != MAIN {
-            return Want::Nothing;
-        }
-        if !works(event) {
-            return Want::Nothing;
-        }
-        unrouse(&mut self.main);
-        go_on(&mut self.core, &mut self.main, &mut self.phase, cx);
+        drive_on(
+            &mut self.core,
+            &mut self.main,
+            &mut self.course,
+            role,
+            event,
+            cx,
+        );
         Want::Nothing
     }
 
