@@ -90,16 +90,22 @@ pub record IsAlone (main : Option StageContinuation) (now : Context) : Type 0 wh
   pub plain : AllPlain now.log.state.pending
   pub of_main : IsOfStageIf now.log.state.pending now.roles MAIN main ⊎ (GREATEST ≤ now.log.state.next)
 
--- A body stands so behind a step: each pending event is plain, and of one of its continuations, which have their roles
--- and their events; where the step goes on each duty has its event, or the event numbers are used up.
-pub record StandsBehind {Q : Type 0} (step : BodyStep) (v : View) (main : Option StageContinuation) (r : Relay Q)
+-- The duties of a body behind a step: the continuations have their roles and their events, and where the step goes on each
+-- duty has its event.
+pub record HasStepDone {Q : Type 0} (step : BodyStep) (v : View) (main : Option StageContinuation) (r : Relay Q)
     (now : Context) : Type 0 where
-  pub seated : AllSeated now.log.state.pending (body_seats main r)
-  pub plain : AllPlain now.log.state.pending
   pub joined : IsBodyJoined main r now.log.state.pending now.roles
   pub covered : WhileGoes step (IsBodyCovered v main r now.log.state.next)
   pub runs : UnlessLacking step (RunsOr r now.log.state.next)
   pub ordered : EndsInOrder r.driven.chain.given r.driven.chain.stages
+
+-- A body stands so behind a step: each pending event is plain, and of one of its continuations; and its duties are so, or
+-- the event numbers are used up.
+pub record StandsBehind {Q : Type 0} (step : BodyStep) (v : View) (main : Option StageContinuation) (r : Relay Q)
+    (now : Context) : Type 0 where
+  pub seated : AllSeated now.log.state.pending (body_seats main r)
+  pub plain : AllPlain now.log.state.pending
+  pub body : HasStepDone step v main r now ⊎ (GREATEST ≤ now.log.state.next)
 
 -- A transaction whose first continuation was alone is covered where it was led, whatever its links show.
 abbrev pub CoversAlone : {Q : Type 0} → Option StageContinuation → Option StageContinuation → Course Q → Context
