@@ -1,9 +1,10 @@
 //! Where an event leads a transaction, wherever it is on its course.
 ghost use Rattle.std.specs.Prelude.{◌≡◌, true};
-ghost use Rattle.ts_txn.specs.Course.{CourseHolds};
-ghost use Rattle.ts_txn.specs.Entering.{ActsAsLines};
-ghost use Rattle.ts_txn.specs.Holding.{PhaseHolds, StepKeeps};
-ghost use Rattle.ts_txn.specs.View.{IsPaired};
+ghost use Rattle.ts_group.specs.Calls.{IsCalled};
+ghost use Rattle.ts_transform.specs.Driving.{ActsWithin};
+ghost use Rattle.ts_txn.specs.CourseCover.{IsAlone};
+ghost use Rattle.ts_txn.specs.Driven.{HandlesEvent};
+ghost use Rattle.ts_txn.specs.World.{HoldsOn, IsSoundNow, IsSoundOn, most_set};
 
 use crate::course::{Course, enter_on, finish_on, relay_on};
 use crate::course_leaving::step_on;
@@ -25,11 +26,14 @@ fn phase_on<C: Link, O: Upstream<C>, P: Transform<Line = TransformLine> + Drop>(
     cx: &mut Cx,
 ) -> Course<P>
     requires turn { cx.old.log.state.held ≡ true }
-    requires acts { ActsAsLines P.whole }
-    requires fact { PhaseHolds C.tells O.tells C.look O.look O.refuses core.old phase }
-    requires pair { IsPaired O.paired core.old }
-    ensures fact { CourseHolds C.tells O.tells C.look O.look O.refuses P.rest core.new result }
-    ensures keeps { StepKeeps C.look O.look O.paired O.refuses core.old core.new }
+    requires stands { HoldsOn C.tells O.tells C.look O.look O.paired O.refuses P.rest P.whole
+        core.old (Course.Phased phase) }
+    requires alone { IsAlone main.old cx.old }
+    ensures sound { IsSoundNow C.tells O.tells C.look O.look O.paired O.refuses P.rest P.whole
+        core.new main.new result cx.new }
+    ensures within { ActsWithin most_set cx.old cx.new }
+    ensures handles { HandlesEvent C.tells O.tells C.look O.look O.paired O.refuses O.upload_left
+        core.old core.new cx.old cx.new main.old (Course.Phased phase) result }
 {
     match phase {
         Phase::ResponseTransform { request, head } => enter_on(core, main, request, head, cx),
@@ -51,11 +55,15 @@ pub fn handle_on<C: Link, O: Upstream<C>, P: Transform<Line = TransformLine> + D
     cx: &mut Cx,
 ) -> Course<P>
     requires turn { cx.old.log.state.held ≡ true }
-    requires acts { ActsAsLines P.whole }
-    requires fact { CourseHolds C.tells O.tells C.look O.look O.refuses P.rest core.old course }
-    requires pair { IsPaired O.paired core.old }
-    ensures fact { CourseHolds C.tells O.tells C.look O.look O.refuses P.rest core.new result }
-    ensures keeps { StepKeeps C.look O.look O.paired O.refuses core.old core.new }
+    requires called { IsCalled
+        (λ s roles. IsSoundOn C.tells O.tells C.look O.look O.paired O.refuses P.rest P.whole
+        core.old main.old course s.pending s.next roles)
+        cx.old role event }
+    ensures sound { IsSoundNow C.tells O.tells C.look O.look O.paired O.refuses P.rest P.whole
+        core.new main.new result cx.new }
+    ensures within { ActsWithin most_set cx.old cx.new }
+    ensures handles { HandlesEvent C.tells O.tells C.look O.look O.paired O.refuses O.upload_left
+        core.old core.new cx.old cx.new main.old course result }
 {
     match course {
         Course::Relaying(relay) => relay_on(core, main, relay, role, event, cx),
@@ -99,11 +107,15 @@ pub fn drive_on<C: Link, O: Upstream<C>, P: Transform<Line = TransformLine> + Dr
     cx: &mut Cx,
 )
     requires turn { cx.old.log.state.held ≡ true }
-    requires acts { ActsAsLines P.whole }
-    requires fact { CourseHolds C.tells O.tells C.look O.look O.refuses P.rest core.old course.old }
-    requires pair { IsPaired O.paired core.old }
-    ensures fact { CourseHolds C.tells O.tells C.look O.look O.refuses P.rest core.new course.new }
-    ensures keeps { StepKeeps C.look O.look O.paired O.refuses core.old core.new }
+    requires called { IsCalled
+        (λ s roles. IsSoundOn C.tells O.tells C.look O.look O.paired O.refuses P.rest P.whole
+        core.old main.old course.old s.pending s.next roles)
+        cx.old role event }
+    ensures sound { IsSoundNow C.tells O.tells C.look O.look O.paired O.refuses P.rest P.whole
+        core.new main.new course.new cx.new }
+    ensures within { ActsWithin most_set cx.old cx.new }
+    ensures handles { HandlesEvent C.tells O.tells C.look O.look O.paired O.refuses O.upload_left
+        core.old core.new cx.old cx.new main.old course.old course.new }
 {
     let was = take(course);
     *course = handle_on(core, main, was, role, event, cx);

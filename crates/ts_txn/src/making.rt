@@ -4,8 +4,9 @@ ghost use Rattle.std.specs.Arc.{arc_value};
 ghost use Rattle.std.specs.Option.{option_copied};
 ghost use Rattle.ts_group.specs.declared.action.Named.{Named};
 ghost use Rattle.ts_journal.specs.declared.entry.TheConstants.{GREATEST};
-ghost use Rattle.ts_txn.specs.Cover.{is_fresh};
-ghost use Rattle.ts_txn.specs.Making.{ArePaired, HasFewLines, IsMadeOf, IsMadeOfIf, IsNewLink, IsNewLinkIf, base_if, end_of_phase, link_if};
+ghost use Rattle.ts_txn.specs.Cover.{is_fresh_on};
+ghost use Rattle.ts_txn.specs.Entering.{ActsAsLines};
+ghost use Rattle.ts_txn.specs.Making.{ArePaired, HasFewLines, IsMadeOf, IsMadeOfIf, IsNewLink, IsNewLinkIf, base_if, end_of, link_if};
 ghost use Rattle.ts_txn.specs.World.{IsSoundTxn};
 
 use crate::course::Course;
@@ -88,15 +89,16 @@ impl<C: Link + Drop, O: Upstream<C> + Drop, P: Transform<Line = TransformLine> +
         origin: Option<O>,
     ) -> Result<Txn<C, O, P>, NoMemory>
         requires few { HasFewLines (arc_value setup) plugins_at }
+        requires acts { ActsAsLines P.whole }
         requires client { C.tells ≡ true → IsNewLink (C.look client) }
         requires origin { O.tells ≡ true → IsNewLinkIf O.look origin }
         requires pair { ArePaired O.paired client origin }
         ensures named { IfOk result (λ t. (t.core.number ≡ number) × (t.core.setup ≡ setup)
-            × (t.core.plugins_at ≡ plugins_at) × (t.phase ≡ Phase.Fresh)) }
-        ensures client { IfOk result (λ t. IsMadeOf C.look client t.core.client) }
-        ensures origin { IfOk result (λ t. IsMadeOfIf O.look origin t.core.origin) }
+            × (t.core.plugins_at ≡ plugins_at) × (t.course ≡ Course.Phased Phase.Fresh)) }
+        ensures links { IfOk result (λ t. IsMadeOf C.look client t.core.client
+            × IsMadeOfIf O.look origin t.core.origin) }
         ensures sound { IfOk result (λ t. (next : ℕ) (roles : List Named) →
-            IsSoundTxn C.tells O.tells C.look O.look O.paired O.refuses t [] next roles) }
+            IsSoundTxn C.tells O.tells C.look O.look O.paired O.refuses P.rest P.whole t [] next roles) }
     {
         let client = make_peer(alloc, client)?;
         let origin = make_peer_if(alloc, origin)?;
@@ -124,9 +126,9 @@ impl<C: Link + Drop, O: Upstream<C> + Drop, P: Transform<Line = TransformLine> +
     /// started has ended, or the event numbers are used up.
     #[tactic(auto, using(crate::proofs::Handling::at_rest))]
     pub fn end(&self) -> Option<TxnEnd>
-        ensures end { result ≡ end_of_phase self.now.phase }
-        ensures rests { result ≡ None → is_fresh self.now.phase ≡ false → (next : ℕ) (roles : List Named)
-            → IsSoundTxn C.tells O.tells C.look O.look O.paired O.refuses self.now [] next roles
+        ensures end { result ≡ end_of self.now.course }
+        ensures rests { result ≡ None → is_fresh_on self.now.course ≡ false → (next : ℕ) (roles : List Named)
+            → IsSoundTxn C.tells O.tells C.look O.look O.paired O.refuses P.rest P.whole self.now [] next roles
             → GREATEST ≤ next }
     {
         match &self.course {
@@ -159,7 +161,7 @@ impl<C: Link + Drop, O: Upstream<C> + Drop, P: Transform<Line = TransformLine> +
             × (result.cuts.items ≡ self.core.sent.cuts.items) }
         ensures faults { (result.client_faults ≡ self.core.client.base)
             × (result.origin_faults ≡ base_if self.core.origin) }
-        ensures end { (result.number ≡ self.core.number) × (result.end ≡ end_of_phase self.phase) }
+        ensures end { (result.number ≡ self.core.number) × (result.end ≡ end_of self.course) }
     {
         let number = self.core.number;
         let end = self.end();
