@@ -1,14 +1,16 @@
 -- What one event leads to: a step of its phase, a part of a body, one of the last writes, or nothing.
-use Rattle.std.proofs.Common.{◌≡◌, ◌⊎◌, inl, inr, ℕ, List, Bool, Option, refl, sym, ap, subst}
+use Rattle.std.proofs.Common.{◌≡◌, ◌⊎◌, inl, inr, ℕ, List, [], ◌∷◌, Bool, Option, None, refl, sym, ap, subst}
 use Rattle.ts_hooks.specs.declared.txn_end.TxnEnd.{TxnEnd}
 use Rattle.ts_hooks.specs.declared.txn_end.TxnEnd.TheVariants as E
 use Rattle.ts_group.specs.Context.{Context}
 use Rattle.ts_link.specs.Link.{Look}
-use Rattle.ts_transform.specs.Driving.{IsDueAfter}
+use Rattle.ts_journal.specs.declared.entry.Pending.{Pending}
+use Rattle.ts_transform.specs.Driving.{IsDueAfter, SetsOnly}
+use Rattle.ts_transform.specs.Seats.{AllSeated, HasKey}
 use Rattle.ts_transform.specs.declared.continuation.StageContinuation.{StageContinuation}
 use Rattle.ts_transform.proofs.Setting.{only_none}
-use Rattle.ts_txn.specs.CourseCover.{StaysOnOrLacks}
-use Rattle.ts_txn.specs.Driven.{BeginsIn, HandlesEvent, HandlesOn, HandlesStep, HandlesWrite, MindsCourse, TakesEvent, TakesOn, TakesStep}
+use Rattle.ts_txn.specs.CourseCover.{IsCoveredNow, StaysOnOrLacks}
+use Rattle.ts_txn.specs.Driven.{BeginsIn, DueTo, HandlesEvent, HandlesOn, HandlesStep, HandlesWrite, MindsCourse, TakesEvent, TakesOn, TakesStep, delay_of}
 use Rattle.ts_txn.specs.Steps.{LeavesClient, LeavesClientIn, LeavesOrigin, LeavesOriginIn, LeavesSides, MindsLinksIn, WaitsRightly}
 use Rattle.ts_txn.specs.Holding.{IfTold}
 use Rattle.ts_txn.specs.View.{LinkSide, View, view_of}
@@ -16,6 +18,7 @@ use Rattle.ts_txn.specs.declared.course.Course.{Course}
 use Rattle.ts_txn.specs.declared.course.Course.TheVariants as K
 use Rattle.ts_txn.specs.declared.finishing.BodyStep.TheVariants as S
 use Rattle.ts_txn.specs.declared.parts.Core.{Core}
+use Rattle.ts_txn.specs.declared.phase.Next.{Next}
 use Rattle.ts_txn.specs.declared.phase.Next.TheVariants as N
 use Rattle.ts_txn.specs.declared.phase.Phase.{Phase}
 use Rattle.ts_txn.specs.declared.phase.Phase.TheVariants as P
@@ -108,6 +111,24 @@ module _ {C O Q : Type 0} (ct ot : Bool) (client : C → Look) (origin : O → L
           → (new ≡ K.Phased (P.Ended E.NoMemory)) ⊎ ((t ≡ s) × (new ≡ K.Phased p)) ⊎ MindsCourse ct ot client origin paired refuses left s t p N.Go new
       by_lead (inl same) = inr (inr (subst (MindsCourse ct ot client origin paired refuses left s t p N.Go) (sym same) begins))
       by_lead (inr lacks) = inl lacks
+
+  -- the event of the next step is due then
+  pub due_step : (a b : Context) (next : Next) (p : Phase) (new : Course Q) → StaysOnOrLacks (K.Phased p) new → SetsOnly (IsDueAfter (delay_of next) a.moment) a b → DueTo next new a b
+  due_step a b next p new (inl same) due = subst (λ x. DueTo next x a b) (sym same) due
+  due_step a b next p new (inr lacks) due = subst (λ x. DueTo next x a b) (sym lacks) due
+
+  -- where a body was begun, or nothing is pending any more
+  pub due_begin : (v : View) (u : Option StageContinuation) (a b : Context) (new : Course Q) (r : Relay Q) → IsCoveredNow v u new b
+      → (new ≡ K.Relaying r) ⊎ (new ≡ K.Phased (P.Ended E.NoMemory)) → DueTo N.Go new a b
+  due_begin v u a b new r covered (inl same) = subst (λ x. DueTo N.Go x a b) (sym same) tt
+  due_begin v u a b new r covered (inr lacks) =
+      subst (λ x. DueTo N.Go x a b) (sym lacks) (none_due (subst (λ x. IsCoveredNow v u x b) lacks covered))
+    where
+      unseated : (p : Pending) → HasKey (None ∷ []) p.key → ⊥
+      unseated p has = has
+
+      none_due : IsCoveredNow v u (K.Phased {Q} (P.Ended E.NoMemory)) b → DueTo N.Go (K.Phased {Q} (P.Ended E.NoMemory)) a b
+      none_due h n p none there = absurd (unseated p (subst (λ m. AllSeated b.log.state.pending (m ∷ [])) h.idles h.seated n p there))
 
   -- nothing was done in a phase
   pub quiet_step : (t : Core C O) (p : Phase) (a : Context) → HandlesStep ct ot client origin paired refuses left t t a a p (K.Phased {Q} p)

@@ -1,31 +1,32 @@
 -- A transaction is sound again when it was started, and when an event was handled.
-use Rattle.std.proofs.Common.{◌≡◌, ◌≤◌, ◌⊎◌, inl, inr, ℕ, List, [], ◌∷◌, Bool, true, false, None, Option, arith, refl, sym, ap, subst}
+use Rattle.std.proofs.Common.{◌≡◌, ◌≤◌, ◌⊎◌, inl, inr, ℕ, List, [], Bool, true, false, Option, None, arith, sym, subst}
 use Rattle.std.specs.Arc.{arc_value}
 use Rattle.ts_config.specs.declared.setup.TransformLine.{TransformLine}
 use Rattle.ts_journal.specs.declared.entry.Event.{Event}
-use Rattle.ts_journal.specs.declared.entry.Pending.{Pending}
 use Rattle.ts_journal.specs.declared.entry.TheConstants.{GREATEST}
 use Rattle.ts_group.specs.declared.action.Named.{Named}
 use Rattle.ts_group.specs.Calls.{IsAsked, IsCalled}
-use Rattle.ts_group.specs.Context.{AllPlain, Context}
+use Rattle.ts_group.specs.Context.{Context, IsOrderly}
 use Rattle.ts_link.specs.Link.{Look}
-use Rattle.ts_transform.specs.Driving.{unroused, works_at}
-use Rattle.ts_transform.specs.Seats.{AllSeated}
+use Rattle.ts_transform.specs.Driving.{IsOfStageIf, unroused, works_at}
 use Rattle.ts_transform.specs.declared.continuation.StageContinuation.{StageContinuation}
 use Rattle.ts_txn.specs.Course.{CourseFact, CourseHolds}
-use Rattle.ts_txn.specs.CourseCover.{CoversAlone, HasEventsOn, IsAlone, IsCoveredNow, IsCoveredOn, ProceedsOn, StaysOnOrLacks, course_seats}
+use Rattle.ts_txn.specs.CourseCover.{CoversAlone, HasEventsOn, HasStepDone, IsAlone, IsCoveredNow, ProceedsOn, StandsBehind, StaysOnOrLacks}
 use Rattle.ts_txn.specs.Cover.{is_fresh_on}
-use Rattle.ts_txn.specs.Entering.{ActsAsLines}
+use Rattle.ts_txn.specs.Duties.{BeginsBody}
 use Rattle.ts_txn.specs.Holding.{IfTold, StepKeeps}
 use Rattle.ts_txn.specs.Making.{end_of}
-use Rattle.ts_txn.specs.View.{IsPaired, OriginRefuses, view_of}
+use Rattle.ts_txn.specs.View.{OriginRefuses, View, view_of}
 use Rattle.ts_txn.specs.World.{HoldsOn, IsSoundNow, IsSoundOn, IsSoundTxn}
 use Rattle.ts_txn.specs.declared.course.Course.{Course}
 use Rattle.ts_txn.specs.declared.course.Course.TheVariants as K
 use Rattle.ts_txn.specs.declared.driver.TheConstants.{MAIN}
+use Rattle.ts_txn.specs.declared.finishing.BodyStep.{BodyStep}
 use Rattle.ts_txn.specs.declared.parts.Core.{Core}
 use Rattle.ts_txn.specs.declared.phase.Phase.TheVariants as P
+use Rattle.ts_txn.specs.declared.relay.Relay.{Relay}
 use Rattle.ts_txn.specs.declared.txn.Txn.{Txn}
+use Rattle.ts_txn.proofs.Chaining.{grows_next}
 use Rattle.ts_txn.proofs.CourseCalls.{PassesNoBody, alone_called, at_rest_on, on_other, on_quiet, proceeds_phase}
 use Rattle.ts_txn.proofs.Coursing.{course_settled, stays_on}
 use Rattle.ts_txn.proofs.Coverage.{fresh_on}
@@ -36,13 +37,23 @@ goes_on (K.Phased p) started lasts = proceeds_phase p started lasts
 goes_on (K.Relaying r) started lasts = tt
 goes_on (K.Finishing end) started lasts = tt
 
+-- where a body was begun, it stands behind that step
+pub stands_begun : {Q : Type 0} (step : BodyStep) (v : View) (t u : Option StageContinuation) (s : Relay Q) (a b : Context) → IsOrderly a → IsAlone t a → BeginsBody step v t u s a b
+    → StandsBehind step v u s b
+stands_begun step v t u s a b orderly alone h = record { seated = h.seated [] alone.seated; plain = h.acts.plain alone.plain; body = by_main alone.of_main }
+  where
+    by_main : IsOfStageIf a.log.state.pending a.roles MAIN t ⊎ (GREATEST ≤ a.log.state.next) → HasStepDone step v u s b ⊎ (GREATEST ≤ b.log.state.next)
+    by_main (inl is) = inl (record { joined = h.joined is; covered = h.covered; runs = h.runs; ordered = h.ordered })
+    by_main (inr spent) = inr (omega (arith, spent, grows_next a b orderly h.acts.grows))
+
 -- before it was started, nothing is pending but of its first continuation
-fresh_alone : {Q : Type 0} (v : _) (main : Option StageContinuation) (course : Course Q) (now : Context) → is_fresh_on course ≡ true → IsCoveredNow v main course now → IsAlone main now
+fresh_alone : {Q : Type 0} (v : View) (main : Option StageContinuation) (course : Course Q) (now : Context) → is_fresh_on course ≡ true → IsCoveredNow v main course now → IsAlone main now
 fresh_alone {Q} v main course now fresh covered =
     let h : IsCoveredNow v main (K.Phased {Q} P.Fresh) now = subst (λ x. IsCoveredNow v main x now) (fresh_on course fresh) covered in
     record { seated = h.seated; plain = h.plain; of_main = by_event h.covered }
   where
-    by_event : HasEventsOn v main (K.Phased {Q} P.Fresh) now.log.state.pending now.roles ⊎ (GREATEST ≤ now.log.state.next) → _
+    by_event : HasEventsOn v main (K.Phased {Q} P.Fresh) now.log.state.pending now.roles ⊎ (GREATEST ≤ now.log.state.next)
+        → IsOfStageIf now.log.state.pending now.roles MAIN main ⊎ (GREATEST ≤ now.log.state.next)
     by_event (inl has) = inl has.0
     by_event (inr spent) = inr spent
 

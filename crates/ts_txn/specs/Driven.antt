@@ -1,6 +1,6 @@
 -- What an event of a transaction leads to, by how far it is: in a phase it makes a step, while a body is passed on a part
 -- of that, and then one of the last writes.
-use Rattle.std.specs.Prelude.{◌≡◌, ◌⊎◌, ℕ, Bool, List, Option}
+use Rattle.std.specs.Prelude.{◌≡◌, ◌⊎◌, ℕ, Bool, List, Option, ⊤}
 use Rattle.ts_group.specs.Context.{Context}
 use Rattle.ts_hooks.specs.declared.txn_end.TxnEnd.{TxnEnd}
 use Rattle.ts_hooks.specs.declared.txn_end.TxnEnd.TheVariants as E
@@ -35,6 +35,12 @@ abbrev pub BeginsIn : Phase → View → View → Type 0
 BeginsIn (P.ResponseTransform q h) v w =
     (w.client.look ≡ v.client.look) × (w.client.inbox ≡ v.client.inbox) × (w.origin ≡ v.origin)
 BeginsIn _ v w = ⊥
+
+-- the event of the next step, if one is set, is due when that step is to be made
+abbrev pub DueTo : {Q : Type 0} → Next → Course Q → Context → Context → Type 0
+DueTo next (K.Phased p) a b = SetsOnly (IsDueAfter (delay_of next) a.moment) a b
+DueTo next (K.Relaying r) a b = ⊤
+DueTo next (K.Finishing end) a b = ⊥
 
 module _ {C O Q : Type 0} (ctells otells : Bool) (client : C → Look) (origin : O → Look)
     (paired : C → O → Type 0) (refuses : O → List ℕ → Type 0) (left : C → O → Option ℕ)
@@ -85,13 +91,12 @@ module _ {C O Q : Type 0} (ctells otells : Bool) (client : C → Look) (origin :
     pub takes : TakesOn old new
 
   module _ (a b : Context) where
-    -- the same, and the event of the next step, if one is set, is due when that step is to be made
+    -- the same, with the moments of the events that are set
     pub record HandlesStep (old : Phase) (new : Course Q) : Type 0 where
       pub next : Next
       pub takes : TakesStep old next new
-      pub due : SetsOnly (IsDueAfter (delay_of next) a.moment) a b
+      pub due : DueTo next new a b
 
-    -- so is that of the step after a body
     pub record HandlesRelay (main : Option StageContinuation) (old : Relay Q) (new : Course Q) : Type 0 where
       pub step : BodyStep
       pub after : Relay Q

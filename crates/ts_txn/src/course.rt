@@ -104,6 +104,7 @@ pub fn enter_on<C: Link, O: Upstream<C>, P: Transform<Line = TransformLine> + Dr
         });
     };
     let mut relay = made;
+    cx.known();
     let step = core.begin_body(main, &mut relay, cx);
     leave(relay, step, main, cx)
 }

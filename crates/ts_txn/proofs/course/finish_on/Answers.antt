@@ -28,7 +28,7 @@ returns-clause-handles g c = record {
   keeps = c.send_rest-step.ensures.keeps;
   handles = record {
     step = c.send_rest-step.result;
-    takes = inr (record { led = c.write_on.ensures.course; rest = c.send_rest-step.ensures.rest });
+    takes = inr (record { led = c.write_on.ensures.course; rest = c.send_rest-step.ensures.links });
     due = c.write_on.ensures.due;
   };
 }

@@ -37,7 +37,7 @@ returns-clause-handles g c = record {
     after = c.handle_body-step.new.relay;
     led = c.leave.ensures.course;
     behind = c.handle_body-step.new.cx;
-    links = c.handle_body-step.ensures.minds;
+    links = c.handle_body-step.ensures.links;
     due = c.leave.ensures.due;
   };
 }
