@@ -9,7 +9,8 @@ use Rattle.ts_journal.specs.declared.entry.Pending.{Pending}
 use Rattle.ts_journal.specs.State.{State, pending_at}
 use Rattle.ts_group.specs.declared.action.Named.{Named}
 use Rattle.ts_group.specs.Calls.{IsCalled}
-use Rattle.ts_group.specs.Context.{AllPlain, Context}
+use Rattle.ts_group.specs.Changes.{SameEvents}
+use Rattle.ts_group.specs.Context.{AllPlain, Context, role_at}
 use Rattle.ts_group.proofs.Facts.{plain_at}
 use Rattle.ts_transform.specs.declared.continuation.StageContinuation.{StageContinuation}
 use Rattle.ts_transform.specs.Driving.{IsOfStageIf, IsRousedIf, unroused, works_at}
@@ -35,6 +36,26 @@ abbrev pub PassesNoBody : {Q : Type 0} → Course Q → Type 0
 PassesNoBody (K.Phased p) = ⊤
 PassesNoBody (K.Relaying r) = ⊥
 PassesNoBody (K.Finishing end) = ⊤
+
+-- ---- its first continuation is made
+
+pub alone_made : (t : StageContinuation) (a b : Context) → AllSeated a.log.state.pending (None ∷ []) → AllPlain a.log.state.pending → SameEvents a.log.state b.log.state
+    → role_at t.key.index b.roles ≡ Some MAIN → t.roused ≡ false → IsAlone (Some t) b
+alone_made t a b seated plain same named rests = record {
+  seated = λ n p there. absurd (seated n p (ap (pending_at n) (sym same.pending) ∙ there));
+  plain = subst AllPlain (sym same.pending) plain;
+  of_main = inl (record { named = named; event = λ roused. absurd (let wrong : true ≡ false = sym roused ∙ rests in cc) });
+}
+
+-- ---- its group was asked
+
+pub later_covered : {Q : Type 0} (v : View) (main : Option StageContinuation) (course : Course Q) (pending : List Pending) (m n : ℕ) (roles : List Named) → m ≤ n
+    → IsCoveredOn v main course pending m roles → IsCoveredOn v main course pending n roles
+later_covered v main course pending m n roles later h = record { seated = h.seated; plain = h.plain; idles = h.idles; covered = by_event h.covered }
+  where
+    by_event : HasEventsOn v main course pending roles ⊎ (GREATEST ≤ m) → HasEventsOn v main course pending roles ⊎ (GREATEST ≤ n)
+    by_event (inl has) = inl has
+    by_event (inr spent) = inr (omega (arith, spent, later))
 
 -- ---- an event is handled
 

@@ -19,6 +19,8 @@ use Rattle.ts_txn.specs.declared.course.Course.TheVariants as K
 use Rattle.ts_txn.specs.declared.driver.TheConstants.{MAIN, RETRY}
 use Rattle.ts_txn.specs.declared.finishing.BodyStep.{BodyStep}
 use Rattle.ts_txn.specs.declared.finishing.BodyStep.TheVariants as S
+use Rattle.ts_txn.specs.declared.phase.Next.{Next}
+use Rattle.ts_txn.specs.declared.phase.Next.TheVariants as N
 use Rattle.ts_txn.specs.declared.phase.Phase.TheVariants as P
 use Rattle.ts_txn.specs.declared.relay.Relay.{Relay}
 
@@ -77,6 +79,16 @@ GoesAlone (K.Finishing end) = ⊤
 -- it is where it was led, or has ended for want of memory
 abbrev pub StaysOnOrLacks : {Q : Type 0} → Course Q → Course Q → Type 0
 StaysOnOrLacks {Q} old new = (new ≡ old) ⊎ (new ≡ K.Phased (P.Ended E.NoMemory))
+
+-- how many events are set at most where a body is left, and behind the step of a phase
+abbrev pub set_leaving : BodyStep → ℕ
+set_leaving S.Goes = 0
+set_leaving S.Waits = 0
+set_leaving step = 1
+
+abbrev pub set_after : Next → ℕ
+set_after N.Done = 0
+set_after next = 1
 
 -- how long after a step of the last writes the next one is made, in milliseconds
 abbrev pub pause_of : BodyStep → ℕ

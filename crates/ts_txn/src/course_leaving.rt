@@ -5,7 +5,7 @@ ghost use Rattle.ts_transform.specs.Driving.{ActsWithin, HasLiveIf, IsDueAfter, 
 ghost use Rattle.ts_transform.specs.Seats.{KeepsSeated};
 ghost use Rattle.ts_txn.specs.Course.{course_after, finish_after};
 ghost use Rattle.ts_txn.specs.Cover.{StepLeads};
-ghost use Rattle.ts_txn.specs.CourseCover.{CoversAlone, CoversLed, GoesAlone, HasRousedNext, StaysOnOrLacks, pause_of};
+ghost use Rattle.ts_txn.specs.CourseCover.{CoversAlone, CoversLed, GoesAlone, HasRousedNext, StaysOnOrLacks, pause_of, set_after, set_leaving};
 ghost use Rattle.ts_txn.specs.Driven.{delay_of};
 
 use crate::course::Course;
@@ -20,7 +20,7 @@ use ts_transform::{StageContinuation, Transform};
 
 // Sees that the next step has an event, and answers whether it may be made: where there is no memory for an event, the
 // continuation is destroyed.
-#[tactic(auto, using(crate::proofs::CourseSeats::roused_next, crate::proofs::CourseSeats::spent_next, crate::proofs::CourseSeats::lacks_next, crate::proofs::CourseSeats::seated_next, ts_transform::proofs::Kept::acts_adds))]
+#[tactic(auto, using(crate::proofs::CourseCalls::at_rest_on, crate::proofs::CourseSeats::spent_next, ts_transform::proofs::Kept::acts_adds))]
 fn rouse_next(after: u64, main: &mut Option<StageContinuation>, cx: &mut Cx) -> bool
     requires turn { cx.old.log.state.held ≡ true }
     ensures within { ActsWithin 1 cx.old cx.new }
@@ -78,7 +78,7 @@ pub fn leave<P: Transform + Drop>(
 ) -> Course<P>
     requires turn { cx.old.log.state.held ≡ true }
     ensures course { StaysOnOrLacks (course_after relay step) result }
-    ensures within { ActsWithin 1 cx.old cx.new }
+    ensures within { ActsWithin (set_leaving step) cx.old cx.new }
     ensures due { SetsOnly (IsDueAfter 0 cx.old.moment) cx.old cx.new }
     ensures covered { CoversLed step relay main.old main.new result cx.old cx.new }
 {
@@ -130,7 +130,7 @@ pub fn write_on<P: Drop>(
 pub fn step_on<P: Drop>(step: Step, main: &mut Option<StageContinuation>, cx: &mut Cx) -> Course<P>
     requires turn { cx.old.log.state.held ≡ true }
     ensures course { StaysOnOrLacks (Course.Phased step.phase) result }
-    ensures within { ActsWithin 1 cx.old cx.new }
+    ensures within { ActsWithin (set_after step.next) cx.old cx.new }
     ensures due { SetsOnly (IsDueAfter (delay_of step.next) cx.old.moment) cx.old cx.new }
     ensures covered { StepLeads step → CoversAlone main.old main.new result cx.old cx.new }
 {
