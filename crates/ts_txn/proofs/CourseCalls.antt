@@ -181,9 +181,9 @@ next_roused (P.Ended end) main goes has = absurd goes
 
 -- so a transaction that was started has ended, or the event numbers are used up
 pub at_rest_on : {Q : Type 0} (v : View) (main : Option StageContinuation) (course : Course Q) (next : ℕ) (roles : List Named) → ProceedsOn course → IsCoveredOn v main course [] next roles → GREATEST ≤ next
-at_rest_on v main course next roles goes h = by_event course goes h.covered
+at_rest_on {Q} v main course next roles goes h = by_event course goes h.covered
   where
-    by_event : (course : Course _) → ProceedsOn course → HasEventsOn v main course [] roles ⊎ (GREATEST ≤ next) → GREATEST ≤ next
+    by_event : (course : Course Q) → ProceedsOn course → HasEventsOn v main course [] roles ⊎ (GREATEST ≤ next) → GREATEST ≤ next
     by_event course goes (inr spent) = spent
     by_event (K.Phased p) goes (inl (is, has)) = absurd (never_roused roles main is (next_roused p main goes has))
     by_event (K.Relaying r) goes (inl has) = absurd (no_lost_wake v main r roles (λ runs. has.joined) has.runs has.ends has.ordered)
