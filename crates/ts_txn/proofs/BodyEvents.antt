@@ -28,7 +28,7 @@ use Rattle.ts_txn.specs.Feeding.{OnGoes}
 use Rattle.ts_txn.specs.Finishing.{LeadsBody}
 use Rattle.ts_txn.specs.Relaying.{DrivesOn, RelaysBody, StepsChain, step_after}
 use Rattle.ts_txn.specs.Entering.{BeginsRelay, BeginsRunning}
-use Rattle.ts_txn.specs.Duties.{BeginsBody, AreBodyEndsRoused, EndsRouse, IsBodyCovered, IsBodyJoined, RousesBoth, HandlesBody, RunsOr, SettledAs, SettlesAfter, SettlesBody, TellsDuty, UnlessLacking, WhileGoes, body_seats}
+use Rattle.ts_txn.specs.Duties.{BeginsBody, AreBodyEndsRoused, EndsRouse, IsBodyCovered, IsBodyJoined, RousesBoth, HandlesBody, RunsOr, SettledAs, SettlesAfter, SettlesBody, TellsDuty, UnlessLacking, WhileGoes, body_seats, relay_seats}
 use Rattle.ts_txn.specs.declared.finishing.BodyStep.{BodyStep}
 use Rattle.ts_txn.specs.declared.finishing.BodyStep.TheVariants as S
 use Rattle.ts_txn.specs.declared.relay.Relay.{Relay}
@@ -335,9 +335,32 @@ begins_covered {P} step result w u m s c next runs settled after = by_step step 
     by_step (S.Closes end) runs settled after = absurd runs
     by_step S.Lacks runs settled after = subst (λ (x : BodyStep). WhileGoes x (IsBodyCovered w u s next)) (sym settled) tt
 
-pub begins_body : {P : Type 0} (step result : BodyStep) (w : View) (t u : Option StageContinuation) (m s : Relay P) (a c b : Context) → BeginsRelay step m a c
+-- so its stages run
+begins_runs : {P : Type 0} (step result : BodyStep) (m s : Relay P) (c : Context) (next : ℕ) → c.log.state.next ≤ next → s.driven ≡ m.driven → BeginsRunning step m.driven c → SettledAs step result
+    → UnlessLacking result (RunsOr s next)
+begins_runs step result m s c next later same runs settled = by_step step runs settled
+  where
+    kept : (m.driven.running ≡ true) ⊎ (GREATEST ≤ c.log.state.next) → RunsOr s next
+    kept (inl runs) = inl (ap (λ d. d.running) same ∙ runs)
+    kept (inr spent) = inr (omega (arith, spent, later))
+
+    unless : (result : BodyStep) → RunsOr s next → UnlessLacking result (RunsOr s next)
+    unless S.Goes h = h
+    unless S.Waits h = h
+    unless (S.Finishes end) h = h
+    unless (S.Closes end) h = h
+    unless S.Lacks h = tt
+
+    by_step : (step : BodyStep) → BeginsRunning step m.driven c → SettledAs step result → UnlessLacking result (RunsOr s next)
+    by_step S.Goes runs settled = unless result (kept runs)
+    by_step S.Waits runs settled = absurd runs
+    by_step (S.Finishes end) runs settled = absurd runs
+    by_step (S.Closes end) runs settled = absurd runs
+    by_step S.Lacks runs settled = subst (λ (x : BodyStep). UnlessLacking x (RunsOr s next)) (sym settled) tt
+
+pub begins_body : {P : Type 0} (step result : BodyStep) (w : View) (t u : Option StageContinuation) (m s : Relay P) (a c b : Context) → BeginsRelay step m a c → s.driven ≡ m.driven
     → SettlesAfter step result w t u m s c b → BeginsBody result w t u s a b
-begins_body step result w t u m s a c b begins after = record {
+begins_body step result w t u m s a c b begins same after = record {
   acts = acts_then 2 2 4 (omega arith) begins.chain.within
       (record { grows = after.adds.grows; turn = after.adds.keeps.turn; plain = after.adds.keeps.plain; few = after.adds.few });
   joined = λ seated. after.joined (λ runs. record {
@@ -346,4 +369,7 @@ begins_body step result w t u m s a c b begins after = record {
     of_reader = begins.of_reader;
   });
   covered = begins_covered step result w u m s c b.log.state.next begins.chain.runs after.settled after.covered;
+  runs = begins_runs step result m s c b.log.state.next after.later same begins.chain.runs after.settled;
+  seated = seated_then (t ∷ []) (body_seats t m) (body_seats u s) a c b (seated_behind t [] (relay_seats m) a c begins.seated) after.seated;
+  ordered = subst (λ d. EndsInOrder d.chain.given d.chain.stages) (sym same) begins.ordered;
 }

@@ -139,3 +139,6 @@ pub record BeginsBody {P : Type 0} (step : BodyStep) (v : View) (t u : Option St
   pub joined : IsOfStageIf a.log.state.pending a.roles MAIN t
       → IsBodyJoined u s b.log.state.pending b.roles
   pub covered : WhileGoes step (IsBodyCovered v u s b.log.state.next)
+  pub runs : UnlessLacking step (RunsOr s b.log.state.next)
+  pub seated : KeepsSeated (t ∷ []) (body_seats u s) a b
+  pub ordered : EndsInOrder s.driven.chain.given s.driven.chain.stages

@@ -30,4 +30,4 @@ pub returns-clause-chain : goal.returns-clause-chain
 returns-clause-chain g c =
     subst (λ s. StepsChain s 1 c.args.relay.now.driven c.take.new.self c.args.cx.now c.take.new.cx) (sym c.step_after.ensures)
     (chain_after 1 c.take.result c.args.relay.now.driven c.take.new.self c.args.cx.now c.take.new.cx c.take.ensures.adds c.take.ensures.driven c.take.ensures.loses c.take.ensures.same
-    (taken_order g.P.Transform.rest _ c.args.relay.now.driven.chain c.take.new.self.chain c.take.ensures.takes))
+    g.P.Transform.pause c.take.ensures.only (taken_order g.P.Transform.rest _ c.args.relay.now.driven.chain c.take.new.self.chain c.take.ensures.takes))
