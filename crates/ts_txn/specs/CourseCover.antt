@@ -7,7 +7,7 @@ use Rattle.ts_group.specs.declared.action.Named.{Named}
 use Rattle.ts_group.specs.Context.{AllPlain, Context}
 use Rattle.ts_hooks.specs.declared.txn_end.TxnEnd.TheVariants as E
 use Rattle.ts_transform.specs.Carrying.{IsJoined}
-use Rattle.ts_transform.specs.Driving.{IsOfStageIf, IsRousedIf}
+use Rattle.ts_transform.specs.Driving.{ActsWithin, IsOfStageIf, IsRousedIf}
 use Rattle.ts_transform.specs.Flow.{EndsInOrder}
 use Rattle.ts_transform.specs.Seats.{AllSeated}
 use Rattle.ts_transform.specs.declared.continuation.StageContinuation.{StageContinuation}
@@ -79,6 +79,10 @@ GoesAlone (K.Finishing end) = ⊤
 -- it is where it was led, or has ended for want of memory
 abbrev pub StaysOnOrLacks : {Q : Type 0} → Course Q → Course Q → Type 0
 StaysOnOrLacks {Q} old new = (new ≡ old) ⊎ (new ≡ K.Phased (P.Ended E.NoMemory))
+
+-- a handler's calls set one event, or none
+abbrev pub SetsOneOrNone : Context → Context → Type 0
+SetsOneOrNone a b = ActsWithin 1 a b
 
 -- how many events are set at most where a body is left, and behind the step of a phase
 abbrev pub set_leaving : BodyStep → ℕ
