@@ -18,7 +18,7 @@ use Rattle.ts_transform.proofs.Seating.{key_same, seated_set}
 use Rattle.ts_transform.proofs.Seats.{seated_cleared}
 use Rattle.ts_transform.proofs.Setting.{of_stages_named}
 use Rattle.ts_txn.specs.Cover.{HasNextEvent, HasNextEventOr, IsOfMain, is_ended}
-use Rattle.ts_txn.specs.CourseCover.{CoversAlone, CoversLed, GoesAlone, HasRousedNext, HasStepDone, IsAlone, IsCoveredNow, StandsBehind}
+use Rattle.ts_txn.specs.CourseCover.{CoversAlone, CoversLed, GoesAlone, HasRousedNext, HasStepDone, IsAlone, IsCoveredNow, StandsBehind, StaysWhereNamed, StaysWhereSpent}
 use Rattle.ts_txn.specs.Duties.{RunsOr, UnlessLacking, relay_seats}
 use Rattle.ts_txn.specs.View.{View}
 use Rattle.ts_txn.specs.declared.course.Course.{Course}
@@ -191,3 +191,9 @@ pub lost_covers : {Q : Type 0} (step : BodyStep) (r : Relay Q) (result : Course 
 lost_covers step r result t u a m b is clears gone none v stands =
     subst (λ x. IsCoveredNow v u x b) (sym is)
     (ended_by v u b (gone_seated t u m b gone (seated_cleared (t ∷ []) (relay_seats r) a m clears stands.seated)) (gone.less.plain (clears.less.plain stands.plain)) (P.Ended E.NoMemory) refl none)
+
+-- used-up numbers do not end it there
+pub left_spent : {Q : Type 0} (led : Course Q) (r : Relay Q) (result : Course Q) (t : Option StageContinuation) (a b : Context) → Clears (relay_seats r) a b → StaysWhereSpent led result t b
+    → StaysWhereNamed led r result t a
+left_spent led r result t a b clears stays named all spent live =
+    stays (subst (λ (n : ℕ). GREATEST ≤ n) (sym clears.less.next) spent) ((clears.others READER all MAIN t (inl (omega arith)) named).live live)

@@ -5,7 +5,7 @@ ghost use Rattle.ts_transform.specs.Driving.{ActsWithin, HasLiveIf, IsDueAfter, 
 ghost use Rattle.ts_transform.specs.Seats.{KeepsSeated};
 ghost use Rattle.ts_txn.specs.Course.{course_after, finish_after};
 ghost use Rattle.ts_txn.specs.Cover.{StepLeads};
-ghost use Rattle.ts_txn.specs.CourseCover.{CoversAlone, CoversLed, GoesAlone, HasRousedNext, StaysOnOrLacks, SetsOneOrNone, pause_of, set_after, set_leaving};
+ghost use Rattle.ts_txn.specs.CourseCover.{CoversAlone, CoversLed, GoesAlone, HasRousedNext, SetsOneOrNone, StaysOnOrLacks, StaysWhereNamed, StaysWhereSpent, pause_of, set_after, set_leaving};
 ghost use Rattle.ts_txn.specs.Driven.{delay_of};
 
 use crate::course::Course;
@@ -63,7 +63,7 @@ pub fn go_to<P: Drop>(
     ensures course { StaysOnOrLacks course result }
     ensures within { SetsOneOrNone cx.old cx.new }
     ensures due { SetsOnly (IsDueAfter after cx.old.moment) cx.old cx.new }
-    ensures spent { GREATEST ≤ cx.old.log.state.next → HasLiveIf cx.old.log.state.live main.old → result ≡ course }
+    ensures spent { StaysWhereSpent course result main.old cx.old }
     ensures covered { GoesAlone course → CoversAlone main.old main.new result cx.old cx.new }
 {
     if rouse_next(after, main, cx) {
@@ -83,6 +83,7 @@ pub fn leave<P: Transform + Drop>(
     ensures course { StaysOnOrLacks (course_after relay step) result }
     ensures within { ActsWithin (set_leaving step) cx.old cx.new }
     ensures due { SetsOnly (IsDueAfter AT_ONCE cx.old.moment) cx.old cx.new }
+    ensures spent { StaysWhereNamed (course_after relay step) relay result main.old cx.old }
     ensures covered { CoversLed step relay main.old main.new result cx.old cx.new }
 {
     match step {
@@ -115,6 +116,7 @@ pub fn write_on<P: Drop>(
     ensures course { StaysOnOrLacks (finish_after end step) result }
     ensures within { SetsOneOrNone cx.old cx.new }
     ensures due { SetsOnly (IsDueAfter (pause_of step) cx.old.moment) cx.old cx.new }
+    ensures spent { StaysWhereSpent (finish_after end step) result main.old cx.old }
     ensures covered { CoversAlone main.old main.new result cx.old cx.new }
 {
     match step {
@@ -135,6 +137,7 @@ pub fn step_on<P: Drop>(step: Step, main: &mut Option<StageContinuation>, cx: &m
     ensures course { StaysOnOrLacks (Course.Phased step.phase) result }
     ensures within { ActsWithin (set_after step.next) cx.old cx.new }
     ensures due { SetsOnly (IsDueAfter (delay_of step.next) cx.old.moment) cx.old cx.new }
+    ensures spent { StaysWhereSpent (Course.Phased step.phase) result main.old cx.old }
     ensures covered { StepLeads step → CoversAlone main.old main.new result cx.old cx.new }
 {
     let Step { phase, next } = step;
