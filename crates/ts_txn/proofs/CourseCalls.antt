@@ -1,6 +1,6 @@
 -- The duties of a transaction when an event is handled, wherever it is on its course; and that none is left where nothing is
 -- pending, unless the event numbers are used up.
-use Rattle.std.proofs.Common.{◌≡◌, ◌≢◌, ◌≤◌, ◌⊎◌, inl, inr, ℕ, List, [], ◌∷◌, Bool, true, false, Option, Some, None, eqb, arith, refl, sym, ap, subst, ◌∙◌}
+use Rattle.std.proofs.Common.{◌≡◌, ◌≢◌, ◌≤◌, ◌⊎◌, inl, inr, ℕ, List, [], ◌∷◌, true, false, Option, Some, None, eqb, arith, refl, sym, ap, subst, ◌∙◌}
 use Rattle.std.specs.Prelude.{⊤}
 use Rattle.std.proofs.lemmas.Bool.Decides.{eqb_tells}
 use Rattle.ts_journal.specs.declared.entry.TheConstants.{GREATEST}
@@ -9,15 +9,16 @@ use Rattle.ts_journal.specs.declared.entry.Pending.{Pending}
 use Rattle.ts_journal.specs.State.{State, pending_at}
 use Rattle.ts_group.specs.declared.action.Named.{Named}
 use Rattle.ts_group.specs.Calls.{IsCalled}
-use Rattle.ts_group.specs.Context.{AllPlain, Context}
+use Rattle.ts_group.specs.Changes.{SameEvents}
+use Rattle.ts_group.specs.Context.{AllPlain, Context, IsOrderly, role_at}
 use Rattle.ts_group.proofs.Facts.{plain_at}
 use Rattle.ts_transform.specs.declared.continuation.StageContinuation.{StageContinuation}
 use Rattle.ts_transform.specs.Driving.{IsOfStageIf, IsRousedIf, unroused, works_at}
 use Rattle.ts_transform.specs.Seats.{AllSeated, HasKey}
 use Rattle.ts_transform.proofs.Handled.{handled_by, quiet_if, stays_if, unroused_if}
 use Rattle.ts_txn.specs.Cover.{HasNextEvent, Proceeds, is_fresh}
-use Rattle.ts_txn.specs.CourseCover.{BodyHasEvents, GoesAlone, HasEventsOn, HasStepDone, IsAlone, IsCoveredNow, IsCoveredOn, ProceedsOn, StandsBehind, course_seats}
-use Rattle.ts_txn.specs.Duties.{HandlesBody, IsBodyJoined, body_seats}
+use Rattle.ts_txn.specs.CourseCover.{BodyHasEvents, HasEventsOn, HasStepDone, IsAlone, IsCoveredNow, IsCoveredOn, ProceedsOn, StandsBehind, course_seats}
+use Rattle.ts_txn.specs.Duties.{BeginsBody, HandlesBody, body_seats}
 use Rattle.ts_txn.specs.Making.{end_of_phase}
 use Rattle.ts_txn.specs.View.{View}
 use Rattle.ts_txn.specs.declared.course.Course.{Course}
@@ -35,6 +36,26 @@ abbrev pub PassesNoBody : {Q : Type 0} → Course Q → Type 0
 PassesNoBody (K.Phased p) = ⊤
 PassesNoBody (K.Relaying r) = ⊥
 PassesNoBody (K.Finishing end) = ⊤
+
+-- ---- its first continuation is made
+
+pub alone_made : (t : StageContinuation) (a b : Context) → AllSeated a.log.state.pending (None ∷ []) → AllPlain a.log.state.pending → SameEvents a.log.state b.log.state
+    → role_at t.key.index b.roles ≡ Some MAIN → t.roused ≡ false → IsAlone (Some t) b
+alone_made t a b seated plain same named rests = record {
+  seated = λ n p there. absurd (seated n p (ap (pending_at n) (sym same.pending) ∙ there));
+  plain = subst AllPlain (sym same.pending) plain;
+  of_main = inl (record { named = named; event = λ roused. absurd (let wrong : true ≡ false = sym roused ∙ rests in cc) });
+}
+
+-- ---- its group was asked
+
+pub later_covered : {Q : Type 0} (v : View) (main : Option StageContinuation) (course : Course Q) (pending : List Pending) (m n : ℕ) (roles : List Named) → m ≤ n
+    → IsCoveredOn v main course pending m roles → IsCoveredOn v main course pending n roles
+later_covered v main course pending m n roles later h = record { seated = h.seated; plain = h.plain; idles = h.idles; covered = by_event h.covered }
+  where
+    by_event : HasEventsOn v main course pending roles ⊎ (GREATEST ≤ m) → HasEventsOn v main course pending roles ⊎ (GREATEST ≤ n)
+    by_event (inl has) = inl has
+    by_event (inr spent) = inr (omega (arith, spent, later))
 
 -- ---- an event is handled
 
@@ -133,6 +154,19 @@ module _ {Q : Type 0} (Sound : State → List Named → Type 0) (v : View) (main
       })
       by_event (inr spent) = inr (omega (arith, spent_still Sound now role event c covered.plain spent, grows_next now b c.orderly h.acts.grows))
 
+-- ---- a body begins
+
+pub stands_begun : {Q : Type 0} (step : BodyStep) (w : View) (t u : Option StageContinuation) (s : Relay Q) (a b : Context) → IsOrderly a → BeginsBody step w t u s a b → IsAlone t a → StandsBehind step w u s b
+stands_begun step w t u s a b orderly h alone = record {
+  seated = h.seated [] alone.seated;
+  plain = h.acts.plain alone.plain;
+  body = by_main alone.of_main;
+}
+  where
+    by_main : IsOfStageIf a.log.state.pending a.roles MAIN t ⊎ (GREATEST ≤ a.log.state.next) → HasStepDone step w u s b ⊎ (GREATEST ≤ b.log.state.next)
+    by_main (inl is) = inl (record { joined = h.joined is; covered = h.covered; runs = h.runs; ordered = h.ordered })
+    by_main (inr spent) = inr (omega (arith, spent, grows_next a b orderly h.acts.grows))
+
 -- ---- nothing is pending
 
 never_roused : (roles : List Named) (main : Option StageContinuation) → IsOfStageIf [] roles MAIN main → IsRousedIf main → ⊥
@@ -160,9 +194,9 @@ next_roused (P.Ended end) main goes has = absurd goes
 
 -- so a transaction that was started has ended, or the event numbers are used up
 pub at_rest_on : {Q : Type 0} (v : View) (main : Option StageContinuation) (course : Course Q) (next : ℕ) (roles : List Named) → ProceedsOn course → IsCoveredOn v main course [] next roles → GREATEST ≤ next
-at_rest_on v main course next roles goes h = by_event course goes h.covered
+at_rest_on {Q} v main course next roles goes h = by_event course goes h.covered
   where
-    by_event : (course : Course _) → ProceedsOn course → HasEventsOn v main course [] roles ⊎ (GREATEST ≤ next) → GREATEST ≤ next
+    by_event : (course : Course Q) → ProceedsOn course → HasEventsOn v main course [] roles ⊎ (GREATEST ≤ next) → GREATEST ≤ next
     by_event course goes (inr spent) = spent
     by_event (K.Phased p) goes (inl (is, has)) = absurd (never_roused roles main is (next_roused p main goes has))
     by_event (K.Relaying r) goes (inl has) = absurd (no_lost_wake v main r roles (λ runs. has.joined) has.runs has.ends has.ordered)

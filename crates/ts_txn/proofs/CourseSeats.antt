@@ -6,24 +6,26 @@ use Rattle.ts_journal.specs.declared.entry.Pending.{Pending}
 use Rattle.ts_journal.specs.State.{pending_at}
 use Rattle.ts_group.specs.Context.{AllPlain, Context, IsOrderly}
 use Rattle.ts_group.specs.Entries.{Grows}
+use Rattle.ts_hooks.specs.declared.txn_end.TxnEnd.{TxnEnd}
 use Rattle.ts_hooks.specs.declared.txn_end.TxnEnd.TheVariants as E
 use Rattle.ts_transform.specs.Carrying.{IsJoined}
 use Rattle.ts_transform.specs.declared.continuation.StageContinuation.{StageContinuation}
 use Rattle.ts_transform.specs.Destroying.{Clears}
-use Rattle.ts_transform.specs.Driving.{ActsWithin, IsDueAfter, IsOfStageIf, IsRousedIf, Keeps, KeepsStage, SetsOnly, unroused}
+use Rattle.ts_transform.specs.Driving.{ActsWithin, IsOfStageIf, IsRousedIf, Keeps, KeepsStage, SetsOnly, unroused}
 use Rattle.ts_transform.specs.Seats.{AllSeated, HasKey, KeepsSeated}
 use Rattle.ts_transform.proofs.Joined.{named_of}
 use Rattle.ts_transform.proofs.Seating.{key_same, seated_set}
 use Rattle.ts_transform.proofs.Seats.{seated_cleared}
 use Rattle.ts_transform.proofs.Setting.{of_stages_named}
-use Rattle.ts_txn.specs.Cover.{HasNextEventOr, IsOfMain, is_ended}
-use Rattle.ts_txn.specs.CourseCover.{BodyHasEvents, CoversAlone, CoversLed, GoesAlone, HasEventsOn, HasRousedNext, HasStepDone, IsAlone, IsCoveredNow, StandsBehind}
-use Rattle.ts_txn.specs.Duties.{IsBodyCovered, RunsOr, UnlessLacking, WhileGoes, relay_seats}
+use Rattle.ts_txn.specs.Cover.{HasNextEvent, HasNextEventOr, IsOfMain, is_ended}
+use Rattle.ts_txn.specs.CourseCover.{CoversAlone, CoversLed, GoesAlone, HasRousedNext, HasStepDone, IsAlone, IsCoveredNow, StandsBehind, StaysWhereNamed, StaysWhereSpent}
+use Rattle.ts_txn.specs.Duties.{RunsOr, UnlessLacking, relay_seats}
 use Rattle.ts_txn.specs.View.{View}
 use Rattle.ts_txn.specs.declared.course.Course.{Course}
 use Rattle.ts_txn.specs.declared.course.Course.TheVariants as K
 use Rattle.ts_txn.specs.declared.driver.TheConstants.{MAIN}
 use Rattle.ts_txn.specs.declared.finishing.BodyStep.{BodyStep}
+use Rattle.ts_txn.specs.declared.finishing.BodyStep.TheVariants as S
 use Rattle.ts_txn.specs.declared.phase.Phase.{Phase}
 use Rattle.ts_txn.specs.declared.phase.Phase.TheVariants as P
 use Rattle.ts_txn.specs.declared.relay.Relay.{Relay}
@@ -91,43 +93,32 @@ seated_destroyed t u v a m b h clears none = λ others seated n p there.
 pub gone_seated : (t u : Option StageContinuation) (a b : Context) → Clears (t ∷ []) a b → AllSeated a.log.state.pending (t ∷ []) → AllSeated b.log.state.pending (u ∷ [])
 gone_seated t u a b clears seated n p there = absurd (seated_cleared [] (t ∷ []) a b clears seated n p there)
 
--- ---- and what is due where continuations were destroyed
-
-pub due_gone : (ts : List (Option StageContinuation)) (a b : Context) (after : ℕ) → Clears ts a b → SetsOnly (IsDueAfter after a.moment) a b
-due_gone ts a b after clears n p none there = absurd (clears.lessens.none n p none there)
-
-pub due_cleared : (ts : List (Option StageContinuation)) (a m b : Context) (after : ℕ) → Clears ts a m → SetsOnly (IsDueAfter after m.moment) m b → SetsOnly (IsDueAfter after a.moment) a b
-due_cleared ts a m b after clears only n p none there = by_middle (pending_at n m.log.state.pending) refl
-  where
-    by_middle : (o : Option Pending) → pending_at n m.log.state.pending ≡ o → IsDueAfter after a.moment p
-    by_middle None gone = subst (λ (x : ℕ). IsDueAfter after x p) clears.lessens.grows.moment (only n p gone there)
-    by_middle (Some q) kept = absurd (clears.lessens.none n q none kept)
-
 -- ---- where a transaction was led
 
-module _ {Q : Type 0} (v : View) (u : Option StageContinuation) (b : Context) (seated : AllSeated b.log.state.pending (u ∷ [])) (plain : AllPlain b.log.state.pending) where
-  with_main : (p : Phase) → IsOfStageIf b.log.state.pending b.roles MAIN u → HasNextEventOr p u b.log.state.next
-      → HasEventsOn v u (K.Phased {Q} p) b.log.state.pending b.roles ⊎ (GREATEST ≤ b.log.state.next)
-  with_main p is (inl has) = inl (is, has)
-  with_main p is (inr spent) = inr spent
+with_main : (p : Phase) (u : Option StageContinuation) (b : Context) → IsOfStageIf b.log.state.pending b.roles MAIN u → HasNextEventOr p u b.log.state.next
+    → (IsOfStageIf b.log.state.pending b.roles MAIN u × HasNextEvent p u) ⊎ (GREATEST ≤ b.log.state.next)
+with_main p u b is (inl has) = inl (is, has)
+with_main p u b is (inr spent) = inr spent
 
+module _ {Q : Type 0} (v : View) (u : Option StageContinuation) (b : Context) (seated : AllSeated b.log.state.pending (u ∷ [])) (plain : AllPlain b.log.state.pending) where
   -- it goes on, with its next event or with no number left for one
   goes_covered : (course : Course Q) → GoesAlone course → (IsOfStageIf b.log.state.pending b.roles MAIN u × IsRousedIf u) ⊎ (GREATEST ≤ b.log.state.next) → IsCoveredNow v u course b
   goes_covered (K.Phased p) goes has = record { seated = seated; plain = plain; idles = idle_goes p u goes; covered = by_event has }
     where
-      by_event : (IsOfStageIf b.log.state.pending b.roles MAIN u × IsRousedIf u) ⊎ (GREATEST ≤ b.log.state.next) → HasEventsOn v u (K.Phased {Q} p) b.log.state.pending b.roles ⊎ (GREATEST ≤ b.log.state.next)
-      by_event (inl (is, roused)) = with_main p is (covered_roused p u b.log.state.next goes roused)
+      by_event : (IsOfStageIf b.log.state.pending b.roles MAIN u × IsRousedIf u) ⊎ (GREATEST ≤ b.log.state.next)
+          → (IsOfStageIf b.log.state.pending b.roles MAIN u × HasNextEvent p u) ⊎ (GREATEST ≤ b.log.state.next)
+      by_event (inl (is, roused)) = with_main p u b is (covered_roused p u b.log.state.next goes roused)
       by_event (inr spent) = inr spent
   goes_covered (K.Relaying r) goes has = absurd goes
   goes_covered (K.Finishing end) goes has = record { seated = seated; plain = plain; idles = tt; covered = has }
 
   -- it has ended
-  ended_by : (p : Phase) → is_ended p ≡ true → u ≡ None → IsCoveredNow v u (K.Phased {Q} p) b
+  ended_by : (p : Phase) → is_ended p ≡ true → u ≡ None → IsCoveredNow {Q = Q} v u (K.Phased p) b
   ended_by p is none = record {
     seated = seated;
     plain = plain;
     idles = ended_idle p u is none;
-    covered = with_main p (subst (IsOfStageIf b.log.state.pending b.roles MAIN) (sym none) tt) (ended_covered p u b.log.state.next is);
+    covered = with_main p u b (subst (IsOfStageIf b.log.state.pending b.roles MAIN) (sym none) tt) (ended_covered p u b.log.state.next is);
   }
 
 -- where its next event was set, or no number was left for one
@@ -184,6 +175,12 @@ left_alone step v t r a b clears unless stands = record {
     by_body (inr spent) = inr (spent_then spent)
 
 -- it finishes or closes
+pub runs_finishing : (step : BodyStep) (end : TxnEnd) (X : Type 0) → step ≡ S.Finishes end → UnlessLacking step X → X
+runs_finishing step end X is h = subst (λ (s : BodyStep). UnlessLacking s X) is h
+
+pub runs_closing : (step : BodyStep) (end : TxnEnd) (X : Type 0) → step ≡ S.Closes end → UnlessLacking step X → X
+runs_closing step end X is h = subst (λ (s : BodyStep). UnlessLacking s X) is h
+
 pub left_covers : {Q : Type 0} (step : BodyStep) (r : Relay Q) (result : Course Q) (t u : Option StageContinuation) (a m b : Context)
     → (UnlessLacking step (RunsOr r a.log.state.next) → RunsOr r a.log.state.next) → Clears (relay_seats r) a m → CoversAlone t u result m b → CoversLed step r t u result a b
 left_covers step r result t u a m b unless clears covers v stands = covers (left_alone step v t r a m clears unless stands) v
@@ -195,14 +192,8 @@ lost_covers step r result t u a m b is clears gone none v stands =
     subst (λ x. IsCoveredNow v u x b) (sym is)
     (ended_by v u b (gone_seated t u m b gone (seated_cleared (t ∷ []) (relay_seats r) a m clears stands.seated)) (gone.less.plain (clears.less.plain stands.plain)) (P.Ended E.NoMemory) refl none)
 
--- it is passed on
-pub relays_covers : {Q : Type 0} (step : BodyStep) (r : Relay Q) (t : Option StageContinuation) (a : Context) → ((X : Type 0) → WhileGoes step X → X) → CoversLed step r t t (K.Relaying r) a a
-relays_covers step r t a goes v stands = record { seated = stands.seated; plain = stands.plain; idles = tt; covered = by_body stands.body }
-  where
-    by_cover : HasStepDone step v t r a → IsBodyCovered v t r a.log.state.next → BodyHasEvents v t r a.log.state.pending a.roles ⊎ (GREATEST ≤ a.log.state.next)
-    by_cover done (inl (runs, ends)) = inl (record { runs = runs; joined = done.joined runs; ends = ends; ordered = done.ordered })
-    by_cover done (inr spent) = inr spent
-
-    by_body : HasStepDone step v t r a ⊎ (GREATEST ≤ a.log.state.next) → BodyHasEvents v t r a.log.state.pending a.roles ⊎ (GREATEST ≤ a.log.state.next)
-    by_body (inl done) = by_cover done (goes (IsBodyCovered v t r a.log.state.next) done.covered)
-    by_body (inr spent) = inr spent
+-- used-up numbers do not end it there
+pub left_spent : {Q : Type 0} (led : Course Q) (r : Relay Q) (result : Course Q) (t : Option StageContinuation) (a b : Context) → Clears (relay_seats r) a b → StaysWhereSpent led result t b
+    → StaysWhereNamed led r result t a
+left_spent led r result t a b clears stays named all spent live =
+    stays (subst (λ (n : ℕ). GREATEST ≤ n) (sym clears.less.next) spent) ((clears.others READER all MAIN t (inl (omega arith)) named).live live)
