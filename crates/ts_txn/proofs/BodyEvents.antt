@@ -64,7 +64,7 @@ only_goes X S.Lacks goes = tt
 
 pub settles : {P : Type 0} (step : BodyStep) (writes : Bool) (v : View) (t u : Option StageContinuation) (r s : Relay P) (a b : Context) → IsOrderly a → TellsDuty writes v r.driven.chain
     → EndsRouse step writes t u r s a b → s ≡ record r { reader = s.reader } → SettlesBody step v t u r s a b
-settles step writes v t u r s a b orderly tells (reads, must, rouses) same =
+settles step writes v t u r s a b orderly tells (reads, must, only, rouses) same =
     let driven : s.driven ≡ r.driven = ap (λ x. x.driven) same in
     record {
       adds = rouses.adds;
@@ -77,6 +77,7 @@ settles step writes v t u r s a b orderly tells (reads, must, rouses) same =
       goes = only_goes _ step rouses.roused;
       later = grows_next a b orderly rouses.adds.grows;
       seated = subst (λ d. KeepsSeated (t ∷ r.reader ∷ r.driven.table.items) (u ∷ s.reader ∷ d.table.items) a b) (sym driven) (rouses.seated r.driven.table.items);
+      rests = λ ends. rouses.rests (λ duty. ends.writes (tells.must_send duty)) (λ duty. ends.reads (only duty));
     }
   where
     by_run : (step : BodyStep) → TellsDuty writes v s.driven.chain → (MustRead s.driven.chain → reads ≡ true)
@@ -96,6 +97,7 @@ settles_after step result v t u r s a b settled h = record {
   settled = settled;
   later = h.later;
   seated = h.seated;
+  rests = h.rests;
 }
   where
     as_goes : (step : BodyStep) → OnGoes result (IsBodyCovered v u s b.log.state.next) → WhileGoes step (OnGoes result (IsBodyCovered v u s b.log.state.next))
@@ -114,6 +116,7 @@ settles_none step v t r a turn settled ends = record {
   settled = settled;
   later = omega arith;
   seated = λ others h. h;
+  rests = λ ends. refl;
 }
 
 -- where it leads

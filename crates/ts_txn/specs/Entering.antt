@@ -66,6 +66,12 @@ module _ (setup : Setup) (refuses : Type 0) where
     pub going : c.given ≡ false
     pub sends : SendsBody setup refuses q h rest v.client v.sent c read
 
+-- no call was made on either link, and what they gave is kept
+pub record QuietLinks (v w : View) : Type 0 where
+  pub client : w.client.look ≡ v.client.look
+  pub held : w.client.inbox ≡ v.client.inbox
+  pub origin : w.origin ≡ v.origin
+
 -- the chain begins with its end where there is no body; nothing is bad before its first byte
 abbrev pub GetsStart : {P : Type 0} → BodyState → ChainState P → ChainState P → Type 0
 GetsStart B.Unfinished c d = d ≡ c

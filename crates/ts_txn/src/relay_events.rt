@@ -82,7 +82,7 @@ impl<C: Link, O: Upstream<C>> Core<C, O> {
         ensures handles { HandlesBody result MAIN event (view_of C.look O.look self.old)
             (view_of C.look O.look self.new) main.old main.new relay.old relay.new cx.old cx.new }
         ensures links { HandlesLinks C.tells O.tells (view_of C.look O.look self.old)
-            (view_of C.look O.look self.new) main.old relay.old result cx.old cx.new }
+            (view_of C.look O.look self.new) main.old relay.old relay.new result cx.old cx.new }
     {
         if !works(event) {
             return BodyStep::Goes;
@@ -109,7 +109,7 @@ impl<C: Link, O: Upstream<C>> Core<C, O> {
         ensures handles { HandlesBody result READER event (view_of C.look O.look self.old)
             (view_of C.look O.look self.new) main.old main.new relay.old relay.new cx.old cx.new }
         ensures links { HandlesLinks C.tells O.tells (view_of C.look O.look self.old)
-            (view_of C.look O.look self.new) main.old relay.old result cx.old cx.new }
+            (view_of C.look O.look self.new) main.old relay.old relay.new result cx.old cx.new }
     {
         if !works(event) {
             return BodyStep::Goes;
@@ -137,7 +137,7 @@ impl<C: Link, O: Upstream<C>> Core<C, O> {
         ensures handles { HandlesBody result role event (view_of C.look O.look self.now)
             (view_of C.look O.look self.now) main.old main.new relay.old relay.new cx.old cx.new }
         ensures links { HandlesLinks C.tells O.tells (view_of C.look O.look self.now)
-            (view_of C.look O.look self.now) main.old relay.old result cx.old cx.new }
+            (view_of C.look O.look self.now) main.old relay.old relay.new result cx.old cx.new }
     {
         cx.known();
         let step = step_after(relay.driven.handle(FIRST, role, event, cx));
@@ -161,7 +161,7 @@ impl<C: Link, O: Upstream<C>> Core<C, O> {
         ensures handles { HandlesBody result role event (view_of C.look O.look self.old)
             (view_of C.look O.look self.new) main.old main.new relay.old relay.new cx.old cx.new }
         ensures links { HandlesLinks C.tells O.tells (view_of C.look O.look self.old)
-            (view_of C.look O.look self.new) main.old relay.old result cx.old cx.new }
+            (view_of C.look O.look self.new) main.old relay.old relay.new result cx.old cx.new }
     {
         if role == MAIN {
             return self.send_at(main, relay, event, cx);
