@@ -105,6 +105,11 @@ pub record HandlesLinks {P : Type 0} (ctells otells : Bool) (v w : View) (main :
   pub due : AreBodyNamed a.roles main r
       → OnlyOfBody (pause_if client_late RETRY) (pause_if origin_late RETRY) a b
 
+-- While the stages of a body run that begins, what it sets is of one of them, or lets an end of the body work at once.
+abbrev pub BeginsInTime : {P : Type 0} → Option StageContinuation → Relay P → Context → Context → Type 0
+BeginsInTime main s a b = s.driven.running ≡ true → IsNamedIf a.roles MAIN main
+    → SetsOnly (λ p. IsOfRoleFrom FIRST b.roles p ⊎ IsOfEnd 0 0 a.moment b.roles p) a b
+
 -- Where one of the last writes leads: to the end that was found, once nothing waits, and to that for the client's fault
 -- where its link failed.
 abbrev pub RestLeads : TxnEnd → LinkSide → LinkSide → BodyStep → Type 0

@@ -136,13 +136,14 @@ pub record HandlesBody {P : Type 0} (step : BodyStep) (role : ℕ) (event : Even
   pub ordered : EndsInOrder r.driven.chain.given r.driven.chain.stages
       → EndsInOrder s.driven.chain.given s.driven.chain.stages
 
--- What is left where a body began, whose first continuation had its role.
+-- What is left where a body began, whose first continuation had its role: it is passed on, or memory lacked.
 pub record BeginsBody {P : Type 0} (step : BodyStep) (v : View) (t u : Option StageContinuation) (s : Relay P)
     (a b : Context) : Type 0 where
   pub acts : ActsWithin 4 a b
   pub joined : IsOfStageIf a.log.state.pending a.roles MAIN t
       → IsBodyJoined u s b.log.state.pending b.roles
   pub covered : WhileGoes step (IsBodyCovered v u s b.log.state.next)
+  pub goes : OnGoes step ⊤
   pub runs : UnlessLacking step (RunsOr s b.log.state.next)
   pub seated : KeepsSeated (t ∷ []) (body_seats u s) a b
   pub ordered : EndsInOrder s.driven.chain.given s.driven.chain.stages

@@ -1,10 +1,10 @@
-//! How a body begins to be passed on: the client's head is queued, and the reader and the stages get
-// continuations.
+//! How a body begins to be passed on: the client's head is queued, and continuations are made.
 ghost use Rattle.std.specs.Prelude.{◌≡◌, [], true, false, None, OnErr, IfOk};
 ghost use Rattle.ts_transform.specs.Flow.{OnlyFirstWorks};
 ghost use Rattle.ts_wire.specs.Place.{state_of};
 ghost use Rattle.ts_txn.specs.Feeding.{OnGoes};
-ghost use Rattle.ts_txn.specs.Relaying.{RelayLeads, StepsChain};
+ghost use Rattle.ts_transform.specs.Driving.{SetsOnly};
+ghost use Rattle.ts_txn.specs.Relaying.{IsOfRoleFrom, RelayLeads, StepsChain};
 ghost use Rattle.ts_txn.specs.Entering.{ActsAsLines, BeginsChain, BeginsRelay, EnterHolds, EntersAfter, GetsStart, HeadHolds, IsUnbegun, LacksAfter, QuietLinks};
 ghost use Rattle.ts_txn.specs.Holding.{StepKeeps};
 ghost use Rattle.ts_txn.specs.View.{view_of};
@@ -31,6 +31,7 @@ fn start_chain<P: Transform + Drop>(driven: &mut DrivenChain<P>, cx: &mut Cx) ->
     requires first { OnlyFirstWorks driven.old.chain }
     ensures chain { driven.new.chain ≡ driven.old.chain }
     ensures begins { BeginsChain result 1 driven.new cx.old cx.new }
+    ensures due { SetsOnly (IsOfRoleFrom FIRST cx.new.roles) cx.old cx.new }
 {
     driven.start(FIRST, cx);
     match driven.lost() {
@@ -68,6 +69,8 @@ pub fn begin_relay<P: Transform + Drop>(relay: &mut Relay<P>, cx: &mut Cx) -> Bo
         (GetsStart (state_of relay.old.body.phase) relay.old.driven.chain relay.new.driven.chain) }
     ensures body { relay.new.body ≡ relay.old.body }
     ensures begins { BeginsRelay result relay.new cx.old cx.new }
+    ensures due { relay.new.driven.running ≡ true
+        → SetsOnly (IsOfRoleFrom FIRST cx.new.roles) cx.old cx.new }
 {
     let Ok(reader) = make_end(READER, cx) else {
         return BodyStep::Lacks;
@@ -121,6 +124,8 @@ impl<C: Link, O: Upstream<C>> Core<C, O> {
         ensures leads { RelayLeads C.tells O.tells C.look O.look O.refuses P.rest self.now self.now
             relay.new result }
         ensures begins { BeginsRelay result relay.new cx.old cx.new }
+        ensures due { relay.new.driven.running ≡ true
+            → SetsOnly (IsOfRoleFrom FIRST cx.new.roles) cx.old cx.new }
     {
         begin_relay(relay, cx)
     }

@@ -1,10 +1,9 @@
-//! The events of the continuations while a body is passed on: each step, and then both ends are roused that
-// must work.
+//! The events of the continuations while a body is passed on: a step, and then both ends are roused.
 ghost use Rattle.std.specs.Prelude.{◌≡◌, ◌≢◌, true, false};
 ghost use Rattle.ts_txn.specs.View.{view_of};
 ghost use Rattle.ts_txn.specs.Relaying.{RelayHolds, RelayLeads};
 ghost use Rattle.ts_transform.specs.Flow.{OnlyFirstWorks};
-ghost use Rattle.ts_txn.specs.BodyLinks.{HandlesLinks, OnlyOfEnds, is_late, pause_if};
+ghost use Rattle.ts_txn.specs.BodyLinks.{BeginsInTime, HandlesLinks, OnlyOfEnds, is_late, pause_if};
 ghost use Rattle.ts_txn.specs.Entering.{EnterHolds, IsUnbegun};
 ghost use Rattle.ts_txn.specs.Duties.{BeginsBody, HandlesBody, SettlesAfter, SettlesBody};
 ghost use Rattle.ts_txn.specs.Holding.{StepKeeps};
@@ -188,6 +187,7 @@ impl<C: Link, O: Upstream<C>> Core<C, O> {
             relay.new result }
         ensures begins { BeginsBody result (view_of C.look O.look self.now) main.old main.new relay.new
             cx.old cx.new }
+        ensures due { BeginsInTime main.old relay.new cx.old cx.new }
     {
         let step = self.enter_body(relay, cx);
         self.settle_after(step, main, relay, (0, 0), cx)
