@@ -1,5 +1,5 @@
 -- The events of the continuations while a body is passed on.
-use Rattle.std.proofs.Common.{◌≡◌, ◌≢◌, ℕ, ◌+◌, ◌≤◌, ◌⊎◌, inl, inr, List, [], ◌∷◌, ◌++◌, Bool, true, false, Option, Some, None, Result, refl, sym, ap, subst, ◌∙◌, arith}
+use Rattle.std.proofs.Common.{◌≡◌, ◌≢◌, ℕ, ◌≤◌, ◌⊎◌, inl, inr, List, [], ◌∷◌, Bool, true, false, Option, Some, None, Result, refl, sym, ap, subst, ◌∙◌, arith}
 use Rattle.std.specs.Prelude.{⊤}
 use Rattle.ts_config.specs.declared.setup.Setup.{Setup}
 use Rattle.ts_hooks.specs.declared.txn_end.TxnEnd.TheVariants as E
@@ -28,7 +28,7 @@ use Rattle.ts_txn.specs.Feeding.{OnGoes}
 use Rattle.ts_txn.specs.Finishing.{LeadsBody}
 use Rattle.ts_txn.specs.Relaying.{DrivesOn, RelaysBody, StepsChain, step_after}
 use Rattle.ts_txn.specs.Entering.{BeginsRelay, BeginsRunning}
-use Rattle.ts_txn.specs.Duties.{BeginsBody, AreBodyEndsRoused, EndsRouse, IsBodyCovered, IsBodyJoined, RousesBoth, HandlesBody, RunsOr, SettledAs, SettlesAfter, SettlesBody, TellsDuty, UnlessLacking, WhileGoes, body_seats, relay_seats}
+use Rattle.ts_txn.specs.Duties.{BeginsBody, EndsRouse, IsBodyCovered, IsBodyJoined, HandlesBody, RunsOr, SettledAs, SettlesAfter, SettlesBody, TellsDuty, UnlessLacking, WhileGoes, body_seats, relay_seats}
 use Rattle.ts_txn.specs.declared.finishing.BodyStep.{BodyStep}
 use Rattle.ts_txn.specs.declared.finishing.BodyStep.TheVariants as S
 use Rattle.ts_txn.specs.declared.relay.Relay.{Relay}

@@ -42,7 +42,7 @@ use Rattle.ts_txn.specs.Feeding.{DrainsOrigin, FeedsBody, FeedsTo, GetsPart, OnG
 use Rattle.ts_txn.specs.Relaying.{AddsSome, IsOfRoleFrom, StepsChain, step_after}
 use Rattle.ts_txn.specs.Duties.{SettledAs, UnlessLacking}
 use Rattle.ts_txn.specs.Entering.{BeginsRelay}
-use Rattle.ts_txn.specs.BodyLinks.{AreBodyNamed, BeginsInTime, HandlesLinks, HoldsLittle, IsOfEnd, IsUnread, IsUnwritten, MindsBody, OnlyOfBody, OnlyOfEnds, RestLeads, SendsRest, is_client_fault, is_late, is_origin_fault, pause_if}
+use Rattle.ts_txn.specs.BodyLinks.{BeginsInTime, HandlesLinks, HoldsLittle, IsOfEnd, IsUnread, IsUnwritten, MindsBody, OnlyOfBody, OnlyOfEnds, RestLeads, SendsRest, is_client_fault, is_late, is_origin_fault, pause_if}
 use Rattle.ts_txn.specs.declared.driver.TheConstants.{MAIN, RETRY}
 use Rattle.ts_txn.specs.declared.finishing.BodyStep.{BodyStep}
 use Rattle.ts_txn.specs.declared.finishing.BodyStep.TheVariants as S
