@@ -1,5 +1,5 @@
 -- How a body begins to be passed on: what was made of it, and where its first steps lead.
-use Rattle.std.proofs.Common.{◌≡◌, ◌≢◌, ℕ, ◌+◌, ◌≤◌, ◌⊎◌, inl, inr, List, [], ◌∷◌, ◌++◌, map, length, Bool, true, false, Option, Some, None, refl, sym, ap, subst, ◌∙◌, arith}
+use Rattle.std.proofs.Common.{◌≡◌, ℕ, ◌+◌, ◌≤◌, inl, inr, List, [], ◌∷◌, ◌++◌, map, length, Bool, true, false, Option, Some, None, refl, sym, ap, subst, ◌∙◌, arith}
 use Rattle.std.specs.Prelude.{⊤}
 use Rattle.std.proofs.lemmas.Bool.{OnTrue_from}
 use Rattle.std.proofs.lemmas.List.{append-nil}
@@ -45,7 +45,7 @@ use Rattle.ts_txn.specs.Finishing.{LeadsBody}
 use Rattle.ts_txn.specs.RelayMoves.{QueuesHead}
 use Rattle.ts_txn.specs.Relaying.{DrivesOn, ReadsBody, RelaysBody, StepsChain}
 use Rattle.ts_txn.specs.Duties.{relay_seats}
-use Rattle.ts_txn.specs.Entering.{BeginsChain, BeginsRelay, BeginsRunning, EntersBody, GetsStart, IsFreshRelay, IsUnbegun}
+use Rattle.ts_txn.specs.Entering.{BeginsChain, BeginsRelay, BeginsRunning, EntersBody, GetsStart, IsFreshRelay, IsUnbegun, QuietLinks}
 use Rattle.ts_txn.specs.declared.finishing.BodyStep.{BodyStep}
 use Rattle.ts_txn.specs.declared.finishing.BodyStep.TheVariants as S
 use Rattle.ts_txn.specs.declared.phase.Request.{Request}
@@ -284,3 +284,10 @@ module _ (setup : Setup) (refuses : Type 0) where
   -- nothing was queued
   pub unqueued : (v w : View) (q : Request) (h : ResponseHead) → w ≡ v → Relays setup refuses v q h → EndFact setup refuses w E.NoMemory
   unqueued v w q h same f = subst (λ (x : View). EndFact setup refuses x E.NoMemory) (sym same) (record { any = relays_any setup refuses v q h f; by = tt })
+
+-- no call was made
+pub quiet_none : (v w : View) → w ≡ v → QuietLinks v w
+quiet_none v w same = record { client = ap (λ (x : View). x.client.look) same; held = ap (λ (x : View). x.client.inbox) same; origin = ap (λ (x : View). x.origin) same }
+
+pub quiet_head : (text : List ℕ) (mode : Mode) (v w : View) → QueuesHead text mode v w → QuietLinks v w
+quiet_head text mode v w queued = record { client = ap (λ (s : LinkSide). s.look) queued.client; held = ap (λ (s : LinkSide). s.inbox) queued.client; origin = queued.origin }

@@ -1,5 +1,5 @@
--- How a body begins to be passed on: the transforms of the lines that act on it are made, and the client's head is
--- queued (Developer's Guide, "Transformations").
+-- How a body begins to be passed on: the transforms of the lines that act on it are made, and the client's
+-- head is queued (Developer's Guide, "Transformations").
 use Rattle.std.specs.Prelude.{◌≡◌, ℕ, ◌≤◌, ◌⊎◌, List, [], Bool, true, false, Option, None, ⊤}
 use Rattle.std.specs.Arc.{arc_value}
 use Rattle.ts_config.specs.declared.setup.Setup.{Setup}
@@ -65,6 +65,12 @@ module _ (setup : Setup) (refuses : Type 0) where
     pub reads : ReadsBody setup refuses q h (all_of v.client.look) v.dialed v.origin place read
     pub going : c.given ≡ false
     pub sends : SendsBody setup refuses q h rest v.client v.sent c read
+
+-- no call was made on either link, and what they gave is kept
+pub record QuietLinks (v w : View) : Type 0 where
+  pub client : w.client.look ≡ v.client.look
+  pub held : w.client.inbox ≡ v.client.inbox
+  pub origin : w.origin ≡ v.origin
 
 -- the chain begins with its end where there is no body; nothing is bad before its first byte
 abbrev pub GetsStart : {P : Type 0} → BodyState → ChainState P → ChainState P → Type 0

@@ -1,10 +1,9 @@
-//! The events of the continuations while a body is passed on: each step, and then both ends are roused that
-// must work.
+//! The events of the continuations while a body is passed on: a step, and then both ends are roused.
 ghost use Rattle.std.specs.Prelude.{◌≡◌, ◌≢◌, true, false};
 ghost use Rattle.ts_txn.specs.View.{view_of};
 ghost use Rattle.ts_txn.specs.Relaying.{RelayHolds, RelayLeads};
 ghost use Rattle.ts_transform.specs.Flow.{OnlyFirstWorks};
-ghost use Rattle.ts_txn.specs.BodyLinks.{HandlesLinks, OnlyOfEnds, is_late, pause_if};
+ghost use Rattle.ts_txn.specs.BodyLinks.{BeginsInTime, HandlesLinks, OnlyOfEnds, is_late, pause_if};
 ghost use Rattle.ts_txn.specs.Entering.{EnterHolds, IsUnbegun};
 ghost use Rattle.ts_txn.specs.Duties.{BeginsBody, HandlesBody, SettlesAfter, SettlesBody};
 ghost use Rattle.ts_txn.specs.Holding.{StepKeeps};
@@ -82,7 +81,7 @@ impl<C: Link, O: Upstream<C>> Core<C, O> {
         ensures handles { HandlesBody result MAIN event (view_of C.look O.look self.old)
             (view_of C.look O.look self.new) main.old main.new relay.old relay.new cx.old cx.new }
         ensures links { HandlesLinks C.tells O.tells (view_of C.look O.look self.old)
-            (view_of C.look O.look self.new) main.old relay.old result cx.old cx.new }
+            (view_of C.look O.look self.new) main.old relay.old relay.new result cx.old cx.new }
     {
         if !works(event) {
             return BodyStep::Goes;
@@ -109,7 +108,7 @@ impl<C: Link, O: Upstream<C>> Core<C, O> {
         ensures handles { HandlesBody result READER event (view_of C.look O.look self.old)
             (view_of C.look O.look self.new) main.old main.new relay.old relay.new cx.old cx.new }
         ensures links { HandlesLinks C.tells O.tells (view_of C.look O.look self.old)
-            (view_of C.look O.look self.new) main.old relay.old result cx.old cx.new }
+            (view_of C.look O.look self.new) main.old relay.old relay.new result cx.old cx.new }
     {
         if !works(event) {
             return BodyStep::Goes;
@@ -137,7 +136,7 @@ impl<C: Link, O: Upstream<C>> Core<C, O> {
         ensures handles { HandlesBody result role event (view_of C.look O.look self.now)
             (view_of C.look O.look self.now) main.old main.new relay.old relay.new cx.old cx.new }
         ensures links { HandlesLinks C.tells O.tells (view_of C.look O.look self.now)
-            (view_of C.look O.look self.now) main.old relay.old result cx.old cx.new }
+            (view_of C.look O.look self.now) main.old relay.old relay.new result cx.old cx.new }
     {
         cx.known();
         let step = step_after(relay.driven.handle(FIRST, role, event, cx));
@@ -161,7 +160,7 @@ impl<C: Link, O: Upstream<C>> Core<C, O> {
         ensures handles { HandlesBody result role event (view_of C.look O.look self.old)
             (view_of C.look O.look self.new) main.old main.new relay.old relay.new cx.old cx.new }
         ensures links { HandlesLinks C.tells O.tells (view_of C.look O.look self.old)
-            (view_of C.look O.look self.new) main.old relay.old result cx.old cx.new }
+            (view_of C.look O.look self.new) main.old relay.old relay.new result cx.old cx.new }
     {
         if role == MAIN {
             return self.send_at(main, relay, event, cx);
@@ -188,6 +187,7 @@ impl<C: Link, O: Upstream<C>> Core<C, O> {
             relay.new result }
         ensures begins { BeginsBody result (view_of C.look O.look self.now) main.old main.new relay.new
             cx.old cx.new }
+        ensures due { BeginsInTime main.old relay.new cx.old cx.new }
     {
         let step = self.enter_body(relay, cx);
         self.settle_after(step, main, relay, (0, 0), cx)

@@ -19,7 +19,7 @@ use ts_vconn::Pulled;
 
 impl<C: Link, O: Upstream<C>> Core<C, O> {
     // Feeds the reader of bodies with what waits of the origin's bytes.
-    #[tactic(auto, using(crate::proofs::BodyLinks::minds_drained, crate::proofs::BodyLinks::calm_feeds))]
+    #[tactic(auto, using(crate::proofs::BodyLinks::minds_drained))]
     fn feed_relay<P: Transform + Drop>(&mut self, relay: &mut Relay<P>, cx: &mut Cx) -> BodyStep
         requires turn { cx.old.log.state.held ≡ true }
         requires fact { RelayHolds C.tells O.tells C.look O.look O.refuses P.rest self.old relay.old }
@@ -30,13 +30,14 @@ impl<C: Link, O: Upstream<C>> Core<C, O> {
         ensures chain { StepsChain result 2 relay.old.driven relay.new.driven cx.old cx.new }
         ensures reader { relay.new.reader ≡ relay.old.reader }
         ensures links { MindsBody C.tells O.tells (view_of C.look O.look self.old)
-            (view_of C.look O.look self.new) relay.old.driven.chain result false (is_late result) }
+            (view_of C.look O.look self.new) relay.old.driven.chain relay.new.driven.chain result
+            false (is_late result) }
     {
         self.feed_body(relay, cx)
     }
 
     // Reads once from the origin, of whose bytes none waits.
-    #[tactic(auto, using(crate::proofs::BodyLinks::minds_read, crate::proofs::BodyLinks::minds_none, crate::proofs::BodyLinks::calm_goes))]
+    #[tactic(auto, using(crate::proofs::BodyLinks::minds_read, crate::proofs::BodyLinks::minds_ended, crate::proofs::BodyLinks::minds_none))]
     fn pull_relay<P: Transform + Drop>(&mut self, relay: &mut Relay<P>, cx: &mut Cx) -> BodyStep
         requires turn { cx.old.log.state.held ≡ true }
         requires fact { RelayHolds C.tells O.tells C.look O.look O.refuses P.rest self.old relay.old }
@@ -48,7 +49,8 @@ impl<C: Link, O: Upstream<C>> Core<C, O> {
         ensures chain { StepsChain result 2 relay.old.driven relay.new.driven cx.old cx.new }
         ensures reader { relay.new.reader ≡ relay.old.reader }
         ensures links { MindsBody C.tells O.tells (view_of C.look O.look self.old)
-            (view_of C.look O.look self.new) relay.old.driven.chain result false (is_late result) }
+            (view_of C.look O.look self.new) relay.old.driven.chain relay.new.driven.chain result
+            false (is_late result) }
     {
         let pulled = match self.read_origin() {
             Ok(pulled) => pulled,
@@ -68,8 +70,7 @@ impl<C: Link, O: Upstream<C>> Core<C, O> {
     }
 
     /// Makes one step of the reader, unless the body is over or too much of it waits: it feeds the reader of
-    /// bodies with what
-    /// waits of the origin's bytes, or reads on.
+    /// bodies with what waits of the origin's bytes, or reads on.
     #[tactic(auto, using(crate::proofs::BodyLinks::minds_none))]
     pub fn read_body<P: Transform + Drop>(&mut self, relay: &mut Relay<P>, cx: &mut Cx) -> BodyStep
         requires turn { cx.old.log.state.held ≡ true }
@@ -80,7 +81,8 @@ impl<C: Link, O: Upstream<C>> Core<C, O> {
         ensures chain { StepsChain result 2 relay.old.driven relay.new.driven cx.old cx.new }
         ensures reader { relay.new.reader ≡ relay.old.reader }
         ensures links { MindsBody C.tells O.tells (view_of C.look O.look self.old)
-            (view_of C.look O.look self.new) relay.old.driven.chain result false (is_late result) }
+            (view_of C.look O.look self.new) relay.old.driven.chain relay.new.driven.chain result
+            false (is_late result) }
     {
         let reads = relay.driven.chain().must_read();
         if !reads {

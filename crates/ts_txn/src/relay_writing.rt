@@ -41,11 +41,13 @@ impl<C: Link, O: Upstream<C>> Core<C, O> {
     #[tactic(auto, using(crate::proofs::BodyLinks::minds_none, crate::proofs::BodyLinks::minds_queued))]
     fn end_some<P: Transform + Drop>(&mut self, relay: &Relay<P>) -> BodyStep
         requires fact { RelayHolds C.tells O.tells C.look O.look O.refuses P.rest self.old relay.now }
+        requires empty { (view_of C.look O.look self.old).client.outbox ≡ [] }
         ensures leads { RelayLeads C.tells O.tells C.look O.look O.refuses P.rest self.old self.new
             relay.now result }
         ensures keeps { StepKeeps C.look O.look O.paired O.refuses self.old self.new }
         ensures links { MindsBody C.tells O.tells (view_of C.look O.look self.old)
-            (view_of C.look O.look self.new) relay.now.driven.chain result (is_late result) false }
+            (view_of C.look O.look self.new) relay.now.driven.chain relay.now.driven.chain result
+            (is_late result) false }
     {
         if !has_given_all(relay.driven.chain()) {
             return BodyStep::Goes;
@@ -57,15 +59,17 @@ impl<C: Link, O: Upstream<C>> Core<C, O> {
     }
 
     // Frames one piece of what the chain gave, or the end.
-    #[tactic(auto, using(crate::proofs::BodyLinks::minds_queued, crate::proofs::BodyLinks::calm_after))]
+    #[tactic(auto, using(crate::proofs::BodyLinks::minds_queued))]
     fn frame_some<P: Transform + Drop>(&mut self, relay: &mut Relay<P>, cx: &mut Cx) -> BodyStep
         requires turn { cx.old.log.state.held ≡ true }
         requires fact { RelayHolds C.tells O.tells C.look O.look O.refuses P.rest self.old relay.old }
+        requires empty { (view_of C.look O.look self.old).client.outbox ≡ [] }
         ensures leads { RelayLeads C.tells O.tells C.look O.look O.refuses P.rest self.old self.new
             relay.new result }
         ensures keeps { StepKeeps C.look O.look O.paired O.refuses self.old self.new }
         ensures links { MindsBody C.tells O.tells (view_of C.look O.look self.old)
-            (view_of C.look O.look self.new) relay.old.driven.chain result (is_late result) false }
+            (view_of C.look O.look self.new) relay.old.driven.chain relay.new.driven.chain result
+            (is_late result) false }
         ensures chain { StepsChain result 1 relay.old.driven relay.new.driven cx.old cx.new }
         ensures relay { relay.new ≡ record relay.old { driven = relay.new.driven } }
     {
@@ -81,8 +85,7 @@ impl<C: Link, O: Upstream<C>> Core<C, O> {
     }
 
     /// Makes one step of the writer: it writes once of what waits for the client, or frames a piece of what
-    /// the chain gave,
-    /// or the end of the body once the chain has given all.
+    /// the chain gave, or the end of the body once the chain has given all.
     #[tactic(auto, using(crate::proofs::BodyLinks::minds_wrote))]
     pub fn write_body<P: Transform + Drop>(&mut self, relay: &mut Relay<P>, cx: &mut Cx) -> BodyStep
         requires turn { cx.old.log.state.held ≡ true }
@@ -91,7 +94,8 @@ impl<C: Link, O: Upstream<C>> Core<C, O> {
             relay.new result }
         ensures keeps { StepKeeps C.look O.look O.paired O.refuses self.old self.new }
         ensures links { MindsBody C.tells O.tells (view_of C.look O.look self.old)
-            (view_of C.look O.look self.new) relay.old.driven.chain result (is_late result) false }
+            (view_of C.look O.look self.new) relay.old.driven.chain relay.new.driven.chain result
+            (is_late result) false }
         ensures chain { StepsChain result 1 relay.old.driven relay.new.driven cx.old cx.new }
         ensures relay { relay.new ≡ record relay.old { driven = relay.new.driven } }
     {

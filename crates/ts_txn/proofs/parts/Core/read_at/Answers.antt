@@ -28,5 +28,6 @@ returns-then-not-works-clause-links g c =
 pub returns-clause-links : goal.returns-clause-links
 returns-clause-links g c =
     links_read g.C.Link.tells g.O.Link.tells (view_of g.C.Link.look g.O.Link.look c.args.self.now) (view_of g.C.Link.look g.O.Link.look c.read_body-step.new.self) c.read_body-step.result c.settle_after.result
-    c.args.main.now c.args.relay.now c.read_body-step.new.relay c.args.cx.now c.read_body-step.new.cx c.settle_after.new.cx c.read_body-step.ensures.links c.settle_after.ensures.settles.settled
+    c.args.main.now c.args.relay.now c.read_body-step.new.relay c.settle_after.new.relay c.args.cx.now c.read_body-step.new.cx c.settle_after.new.cx c.read_body-step.ensures.links c.settle_after.ensures.settles.settled
+    (ap (λ x. x.driven) c.settle_after.ensures.relay)
     c.read_body-step.ensures.chain (c.read_body-step.ensures.reader ∙ c.unrouse.ensures) c.settle_after.ensures.settles.adds c.settle_after.ensures.due

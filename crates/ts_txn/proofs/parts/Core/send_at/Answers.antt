@@ -29,5 +29,6 @@ returns-then-not-works-clause-links g c =
 pub returns-clause-links : goal.returns-clause-links
 returns-clause-links g c =
     links_write g.C.Link.tells g.O.Link.tells (view_of g.C.Link.look g.O.Link.look c.args.self.now) (view_of g.C.Link.look g.O.Link.look c.write_body-step.new.self) c.write_body-step.result c.settle_after.result
-    c.args.main.now c.unrouse.new.slot c.args.relay.now c.write_body-step.new.relay c.args.cx.now c.write_body-step.new.cx c.settle_after.new.cx c.write_body-step.ensures.links c.settle_after.ensures.settles.settled
+    c.args.main.now c.unrouse.new.slot c.args.relay.now c.write_body-step.new.relay c.settle_after.new.relay c.args.cx.now c.write_body-step.new.cx c.settle_after.new.cx c.write_body-step.ensures.links c.settle_after.ensures.settles.settled
+    (ap (λ x. x.driven) c.settle_after.ensures.relay)
     c.write_body-step.ensures.chain c.write_body-step.ensures.relay c.unrouse.ensures c.settle_after.ensures.settles.adds c.settle_after.ensures.due

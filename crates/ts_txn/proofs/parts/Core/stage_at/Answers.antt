@@ -24,6 +24,6 @@ returns-clause-handles g c =
 pub returns-clause-links : goal.returns-clause-links
 returns-clause-links g c =
     links_stage g.C.Link.tells g.O.Link.tells g.P.Transform.rest g.P.Transform.pause c.args.role c.args.event c.handle.result (view_of g.C.Link.look g.O.Link.look c.args.self.now) c.step_after-step.result
-    c.settle_after.result c.args.main.now c.args.relay.now (record c.args.relay.now { driven = c.handle.new.self }) c.args.cx.now c.handle.new.cx c.settle_after.new.cx c.step_after-step.ensures
-    c.settle_after.ensures.settles.settled c.handle.ensures.within.grows.moment c.handle.ensures.acts (λ none. (c.handle.ensures.other none).1) c.handle.ensures.rest.others refl
+    c.settle_after.result c.args.main.now c.args.relay.now (record c.args.relay.now { driven = c.handle.new.self }) c.settle_after.new.relay c.args.cx.now c.handle.new.cx c.settle_after.new.cx
+    c.step_after-step.ensures c.settle_after.ensures.settles.settled (ap (λ x. x.driven) c.settle_after.ensures.relay) c.handle.ensures.gives.once c.handle.ensures.within.grows.moment c.handle.ensures.acts (λ none. (c.handle.ensures.other none).1) c.handle.ensures.rest.others refl
     c.settle_after.ensures.settles.adds c.settle_after.ensures.due
