@@ -1,5 +1,5 @@
 -- The next step of a transaction has an event, or there is none.
-use Rattle.std.proofs.Common.{◌≡◌, ◌≢◌, ℕ, ◌<◌, ◌≤◌, inl, inr, true, Option, None, arith, refl, ap}
+use Rattle.std.proofs.Common.{◌≡◌, ◌≢◌, ℕ, ◌<◌, ◌≤◌, inl, inr, true, Option, None, arith, refl, ap, subst}
 use Rattle.std.specs.Prelude.{⊤}
 use Rattle.ts_journal.specs.declared.entry.TheConstants.{GREATEST}
 use Rattle.ts_group.specs.declared.action.SetFault.{SetFault}
@@ -7,6 +7,7 @@ use Rattle.ts_group.specs.declared.action.SetFault.TheVariants as F
 use Rattle.ts_transform.specs.Driving.{IsRousedIf}
 use Rattle.ts_transform.specs.declared.continuation.StageContinuation.{StageContinuation}
 use Rattle.ts_txn.specs.Cover.{Proceeds, Idles, HasNextEvent, HasNextEventOr, is_ended, is_fresh, is_fresh_on}
+use Rattle.ts_txn.specs.CourseCover.{IdlesOn}
 use Rattle.ts_txn.specs.declared.course.Course.{Course}
 use Rattle.ts_txn.specs.declared.course.Course.TheVariants as K
 use Rattle.ts_txn.specs.declared.phase.Phase.{Phase}
@@ -94,9 +95,13 @@ fresh_is (P.TxnClose end) is = absurd (cc)
 fresh_is (P.Ended end) is = absurd (cc)
 
 pub fresh_on : {Q : Type 0} (course : Course Q) → is_fresh_on course ≡ true → course ≡ K.Phased P.Fresh
-fresh_on {Q} (K.Phased p) is = ap (λ x. K.Phased {Q} x) (fresh_is p is)
+fresh_on {Q} (K.Phased p) is = ap {B = Course Q} (λ x. K.Phased x) (fresh_is p is)
 fresh_on (K.Relaying r) is = absurd (cc)
 fresh_on (K.Finishing end) is = absurd (cc)
+
+-- and so without a continuation
+pub fresh_none : {Q : Type 0} (course : Course Q) (main : Option StageContinuation) → is_fresh_on course ≡ true → IdlesOn course main → main ≡ None
+fresh_none course main is idles = subst (λ x. IdlesOn x main) (fresh_on course is) idles
 
 -- an event can be set of a live continuation where the numbers are not used up, and memory is there
 pub never_spent : (fault : SetFault) (next : ℕ) (Live : Type 0) → fault ≢ F.Spent → (fault ≡ F.NoMemory → next < GREATEST)

@@ -9,13 +9,18 @@ use Rattle.ts_transform.specs.Driving.{IsDueAfter, SetsOnly}
 use Rattle.ts_transform.specs.Seats.{AllSeated, HasKey}
 use Rattle.ts_transform.specs.declared.continuation.StageContinuation.{StageContinuation}
 use Rattle.ts_transform.proofs.Setting.{only_none}
+use Rattle.std.specs.Prelude.{⊤}
+use Rattle.ts_txn.specs.Course.{course_after}
 use Rattle.ts_txn.specs.CourseCover.{IsCoveredNow, StaysOnOrLacks}
 use Rattle.ts_txn.specs.Driven.{BeginsIn, DueTo, HandlesEvent, HandlesOn, HandlesStep, HandlesWrite, MindsCourse, TakesEvent, TakesOn, TakesStep, delay_of}
+use Rattle.ts_txn.specs.Entering.{QuietLinks}
 use Rattle.ts_txn.specs.Steps.{LeavesClient, LeavesClientIn, LeavesOrigin, LeavesOriginIn, LeavesSides, MindsLinksIn, WaitsRightly}
 use Rattle.ts_txn.specs.Holding.{IfTold}
 use Rattle.ts_txn.specs.View.{LinkSide, View, view_of}
 use Rattle.ts_txn.specs.declared.course.Course.{Course}
 use Rattle.ts_txn.specs.declared.course.Course.TheVariants as K
+use Rattle.ts_txn.specs.Feeding.{OnGoes}
+use Rattle.ts_txn.specs.declared.finishing.BodyStep.{BodyStep}
 use Rattle.ts_txn.specs.declared.finishing.BodyStep.TheVariants as S
 use Rattle.ts_txn.specs.declared.parts.Core.{Core}
 use Rattle.ts_txn.specs.declared.phase.Next.{Next}
@@ -65,11 +70,11 @@ module _ (v w : View) where
   -- a body begins
   pub leaves_begun : (p : Phase) → BeginsIn p v w → LeavesSides p v w
   leaves_begun p begins = record {
-    origin = leaves_in p (record { taken = ap (λ (s : LinkSide). s.look.taken) (calls p begins).2; waits = ap (λ (s : LinkSide). s.outbox) (calls p begins).2 });
-    client = spares_in p (record { given = ap (λ (l : Look). l.given) (calls p begins).0; held = (calls p begins).1 });
+    origin = leaves_in p (record { taken = ap (λ (s : LinkSide). s.look.taken) (calls p begins).origin; waits = ap (λ (s : LinkSide). s.outbox) (calls p begins).origin });
+    client = spares_in p (record { given = ap (λ (l : Look). l.given) (calls p begins).client; held = (calls p begins).held });
   }
     where
-      calls : (p : Phase) → BeginsIn p v w → (w.client.look ≡ v.client.look) × (w.client.inbox ≡ v.client.inbox) × (w.origin ≡ v.origin)
+      calls : (p : Phase) → BeginsIn p v w → QuietLinks v w
       calls P.Fresh begins = absurd begins
       calls P.TxnStart begins = absurd begins
       calls P.ReadRequest begins = absurd begins
@@ -98,6 +103,16 @@ module _ {C O Q : Type 0} (ct ot : Bool) (client : C → Look) (origin : O → L
       by_lead (inl same) = inr (inr (subst (MindsCourse ct ot client origin paired refuses left s t p made.next) (sym same) minds))
       by_lead (inr lacks) = inl lacks
 
+  -- where a body that begins leads: it is passed on, or memory lacked
+  pub begin_led : (r : Relay Q) (step : BodyStep) (new : Course Q) → OnGoes step ⊤ → StaysOnOrLacks (course_after r step) new
+      → (new ≡ K.Relaying r) ⊎ (new ≡ K.Phased (P.Ended E.NoMemory))
+  begin_led r S.Goes new goes led = led
+  begin_led r S.Waits new goes led = absurd goes
+  begin_led r (S.Finishes end) new goes led = absurd goes
+  begin_led r (S.Closes end) new goes led = absurd goes
+  begin_led r S.Lacks new goes (inl lacks) = inr lacks
+  begin_led r S.Lacks new goes (inr lacks) = inr lacks
+
   -- a body was begun, or memory lacked for that
   pub takes_begin : (s t : Core C O) (p : Phase) (new : Course Q) (r : Relay Q) → BeginsIn p (view_of client origin s) (view_of client origin t)
       → (new ≡ K.Relaying r) ⊎ (new ≡ K.Phased (P.Ended E.NoMemory)) → TakesStep ct ot client origin paired refuses left s t p N.Go new
@@ -111,6 +126,15 @@ module _ {C O Q : Type 0} (ct ot : Bool) (client : C → Look) (origin : O → L
           → (new ≡ K.Phased (P.Ended E.NoMemory)) ⊎ ((t ≡ s) × (new ≡ K.Phased p)) ⊎ MindsCourse ct ot client origin paired refuses left s t p N.Go new
       by_lead (inl same) = inr (inr (subst (MindsCourse ct ot client origin paired refuses left s t p N.Go) (sym same) begins))
       by_lead (inr lacks) = inl lacks
+
+  -- memory lacked for its head
+  pub takes_lost : (s t : Core C O) (p : Phase) → BeginsIn p (view_of client origin s) (view_of client origin t)
+      → TakesStep {Q = Q} ct ot client origin paired refuses left s t p N.Go (K.Phased (P.Ended E.NoMemory))
+  takes_lost s t p begins = record {
+    minds = inl refl;
+    waits = tt;
+    leaves = λ told also. leaves_begun (view_of client origin s) (view_of client origin t) p begins;
+  }
 
   -- the event of the next step is due then
   pub due_step : (a b : Context) (next : Next) (p : Phase) (new : Course Q) → StaysOnOrLacks (K.Phased p) new → SetsOnly (IsDueAfter (delay_of next) a.moment) a b → DueTo next new a b
@@ -127,11 +151,11 @@ module _ {C O Q : Type 0} (ct ot : Bool) (client : C → Look) (origin : O → L
       unseated : (p : Pending) → HasKey (None ∷ []) p.key → ⊥
       unseated p has = has
 
-      none_due : IsCoveredNow v u (K.Phased {Q} (P.Ended E.NoMemory)) b → DueTo N.Go (K.Phased {Q} (P.Ended E.NoMemory)) a b
+      none_due : IsCoveredNow {Q = Q} v u (K.Phased (P.Ended E.NoMemory)) b → DueTo {Q = Q} N.Go (K.Phased (P.Ended E.NoMemory)) a b
       none_due h n p none there = absurd (unseated p (subst (λ m. AllSeated b.log.state.pending (m ∷ [])) h.idles h.seated n p there))
 
   -- nothing was done in a phase
-  pub quiet_step : (t : Core C O) (p : Phase) (a : Context) → HandlesStep ct ot client origin paired refuses left t t a a p (K.Phased {Q} p)
+  pub quiet_step : (t : Core C O) (p : Phase) (a : Context) → HandlesStep {Q = Q} ct ot client origin paired refuses left t t a a p (K.Phased p)
   quiet_step t p a =
       let v = view_of client origin t in
       record {
@@ -145,7 +169,7 @@ module _ {C O Q : Type 0} (ct ot : Bool) (client : C → Look) (origin : O → L
       }
 
   -- nor while the last is written
-  pub quiet_write : (t : Core C O) (end : TxnEnd) (a : Context) → HandlesWrite ct ot client origin paired refuses left t t a a end (K.Finishing {Q} end)
+  pub quiet_write : (t : Core C O) (end : TxnEnd) (a : Context) → HandlesWrite {Q = Q} ct ot client origin paired refuses left t t a a end (K.Finishing end)
   quiet_write t end a = record { step = S.Goes; takes = inl (refl, refl); due = only_none (IsDueAfter 0 a.moment) a }
 
   -- where an event leads, without the moments of those that are set

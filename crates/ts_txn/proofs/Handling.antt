@@ -6,14 +6,13 @@ use Rattle.ts_journal.specs.declared.entry.Event.{Event}
 use Rattle.ts_journal.specs.declared.entry.TheConstants.{GREATEST}
 use Rattle.ts_group.specs.declared.action.Named.{Named}
 use Rattle.ts_group.specs.Calls.{IsAsked, IsCalled}
-use Rattle.ts_group.specs.Context.{Context, IsOrderly}
+use Rattle.ts_group.specs.Context.{Context}
 use Rattle.ts_link.specs.Link.{Look}
 use Rattle.ts_transform.specs.Driving.{IsOfStageIf, unroused, works_at}
 use Rattle.ts_transform.specs.declared.continuation.StageContinuation.{StageContinuation}
 use Rattle.ts_txn.specs.Course.{CourseFact, CourseHolds}
-use Rattle.ts_txn.specs.CourseCover.{CoversAlone, HasEventsOn, HasStepDone, IsAlone, IsCoveredNow, ProceedsOn, StandsBehind, StaysOnOrLacks}
+use Rattle.ts_txn.specs.CourseCover.{CoversAlone, HasEventsOn, IsAlone, IsCoveredNow, IsCoveredOn, ProceedsOn, StaysOnOrLacks, set_after, set_leaving}
 use Rattle.ts_txn.specs.Cover.{is_fresh_on}
-use Rattle.ts_txn.specs.Duties.{BeginsBody}
 use Rattle.ts_txn.specs.Holding.{IfTold, StepKeeps}
 use Rattle.ts_txn.specs.Making.{end_of}
 use Rattle.ts_txn.specs.View.{OriginRefuses, View, view_of}
@@ -22,12 +21,13 @@ use Rattle.ts_txn.specs.declared.course.Course.{Course}
 use Rattle.ts_txn.specs.declared.course.Course.TheVariants as K
 use Rattle.ts_txn.specs.declared.driver.TheConstants.{MAIN}
 use Rattle.ts_txn.specs.declared.finishing.BodyStep.{BodyStep}
+use Rattle.ts_txn.specs.declared.finishing.BodyStep.TheVariants as S
 use Rattle.ts_txn.specs.declared.parts.Core.{Core}
+use Rattle.ts_txn.specs.declared.phase.Next.{Next}
+use Rattle.ts_txn.specs.declared.phase.Next.TheVariants as N
 use Rattle.ts_txn.specs.declared.phase.Phase.TheVariants as P
-use Rattle.ts_txn.specs.declared.relay.Relay.{Relay}
 use Rattle.ts_txn.specs.declared.txn.Txn.{Txn}
-use Rattle.ts_txn.proofs.Chaining.{grows_next}
-use Rattle.ts_txn.proofs.CourseCalls.{PassesNoBody, alone_called, at_rest_on, on_other, on_quiet, proceeds_phase}
+use Rattle.ts_txn.proofs.CourseCalls.{PassesNoBody, alone_called, at_rest_on, later_covered, on_other, on_quiet, proceeds_phase}
 use Rattle.ts_txn.proofs.Coursing.{course_settled, stays_on}
 use Rattle.ts_txn.proofs.Coverage.{fresh_on}
 
@@ -37,25 +37,29 @@ goes_on (K.Phased p) started lasts = proceeds_phase p started lasts
 goes_on (K.Relaying r) started lasts = tt
 goes_on (K.Finishing end) started lasts = tt
 
--- where a body was begun, it stands behind that step
-pub stands_begun : {Q : Type 0} (step : BodyStep) (v : View) (t u : Option StageContinuation) (s : Relay Q) (a b : Context) → IsOrderly a → IsAlone t a → BeginsBody step v t u s a b
-    → StandsBehind step v u s b
-stands_begun step v t u s a b orderly alone h = record { seated = h.seated [] alone.seated; plain = h.acts.plain alone.plain; body = by_main alone.of_main }
-  where
-    by_main : IsOfStageIf a.log.state.pending a.roles MAIN t ⊎ (GREATEST ≤ a.log.state.next) → HasStepDone step v u s b ⊎ (GREATEST ≤ b.log.state.next)
-    by_main (inl is) = inl (record { joined = h.joined is; covered = h.covered; runs = h.runs; ordered = h.ordered })
-    by_main (inr spent) = inr (omega (arith, spent, grows_next a b orderly h.acts.grows))
-
 -- before it was started, nothing is pending but of its first continuation
 fresh_alone : {Q : Type 0} (v : View) (main : Option StageContinuation) (course : Course Q) (now : Context) → is_fresh_on course ≡ true → IsCoveredNow v main course now → IsAlone main now
 fresh_alone {Q} v main course now fresh covered =
-    let h : IsCoveredNow v main (K.Phased {Q} P.Fresh) now = subst (λ x. IsCoveredNow v main x now) (fresh_on course fresh) covered in
+    let h : IsCoveredNow {Q = Q} v main (K.Phased P.Fresh) now = subst (λ x. IsCoveredNow v main x now) (fresh_on course fresh) covered in
     record { seated = h.seated; plain = h.plain; of_main = by_event h.covered }
   where
-    by_event : HasEventsOn v main (K.Phased {Q} P.Fresh) now.log.state.pending now.roles ⊎ (GREATEST ≤ now.log.state.next)
+    by_event : HasEventsOn {Q = Q} v main (K.Phased P.Fresh) now.log.state.pending now.roles ⊎ (GREATEST ≤ now.log.state.next)
         → IsOfStageIf now.log.state.pending now.roles MAIN main ⊎ (GREATEST ≤ now.log.state.next)
     by_event (inl has) = inl has.0
     by_event (inr spent) = inr spent
+
+-- at most one event is set where a body is left, and behind the step of a phase
+pub leaving_one : (step : BodyStep) → set_leaving step ≤ 1
+leaving_one S.Goes = omega arith
+leaving_one S.Waits = omega arith
+leaving_one (S.Finishes end) = omega arith
+leaving_one (S.Closes end) = omega arith
+leaving_one S.Lacks = omega arith
+
+pub after_one : (next : Next) → set_after next ≤ 1
+after_one N.Go = omega arith
+after_one N.Wait = omega arith
+after_one N.Done = omega arith
 
 module _ {C O Q : Type 0} (ct ot : Bool) (client : C → Look) (origin : O → Look) (paired : C → O → Type 0) (refuses : O → List ℕ → Type 0) (rest : Q → List ℕ → List ℕ)
     (whole : TransformLine → List ℕ → List ℕ) where
@@ -85,31 +89,28 @@ module _ {C O Q : Type 0} (ct ot : Bool) (client : C → Look) (origin : O → L
   sound_asked t now asked =
       subst (λ ps. IsSoundOn ct ot client origin paired refuses rest whole t.core t.main t.course ps now.log.state.next now.roles) (sym asked.pending) (record {
         stands = asked.sound.stands;
-        covered = record {
-          seated = asked.sound.covered.seated;
-          plain = asked.sound.covered.plain;
-          idles = asked.sound.covered.idles;
-          covered = later asked.sound.covered.covered;
-        };
+        covered = later_covered (view_of client origin t.core) t.main t.course asked.before.pending asked.before.next now.log.state.next now.roles (omega (arith, asked.next)) asked.sound.covered;
       })
-    where
-      later : {X : Type 0} → X ⊎ (GREATEST ≤ asked.before.next) → X ⊎ (GREATEST ≤ now.log.state.next)
-      later (inl has) = inl has
-      later (inr spent) = inr (omega (arith, asked.next, spent))
 
-  module _ (core : Core C O) (main : Option StageContinuation) (course : Course Q) (none : PassesNoBody course) (now : Context) (role : ℕ) (event : Event)
-      (c : IsCalled (λ s roles. IsSoundOn ct ot client origin paired refuses rest whole core main course s.pending s.next roles) now role event) where
+  module _ (core : Core C O) (main : Option StageContinuation) (was course : Course Q) (same : was ≡ course) (none : PassesNoBody course) (now : Context) (role : ℕ) (event : Event)
+      (c : IsCalled (λ s roles. IsSoundOn ct ot client origin paired refuses rest whole core main was s.pending s.next roles) now role event) where
+    stood : HoldsOn ct ot client origin paired refuses rest whole core course
+    stood = subst (λ x. HoldsOn ct ot client origin paired refuses rest whole core x) same c.sound.stands
+
+    was_covered : IsCoveredOn (view_of client origin core) main course c.before.pending c.before.next now.roles
+    was_covered = subst (λ x. IsCoveredOn (view_of client origin core) main x c.before.pending c.before.next now.roles) same c.sound.covered
+
     -- an event of another continuation, where no body is passed on
     pub sound_other : (role ≡ MAIN → ⊥) → IsSoundNow ct ot client origin paired refuses rest whole core main course now
-    sound_other other = record { stands = c.sound.stands; covered = on_other _ (view_of client origin core) main now role event c course none other c.sound.covered }
+    sound_other other = record { stands = stood; covered = on_other _ (view_of client origin core) main now role event c course none other was_covered }
 
     -- one at which it does not work
     pub sound_quiet : works_at event ≡ false → IsSoundNow ct ot client origin paired refuses rest whole core main course now
-    sound_quiet rests = record { stands = c.sound.stands; covered = on_quiet _ (view_of client origin core) main now role event c course none rests c.sound.covered }
+    sound_quiet rests = record { stands = stood; covered = on_quiet _ (view_of client origin core) main now role event c course none rests was_covered }
 
     -- one at which the first continuation makes the next step
     pub alone_then : (t : Option StageContinuation) → t ≡ unroused main → IsAlone t now
-    alone_then t is = subst (λ s. IsAlone s now) (sym is) (alone_called _ (view_of client origin core) main now role event c course none c.sound.covered)
+    alone_then t is = subst (λ s. IsAlone s now) (sym is) (alone_called _ (view_of client origin core) main now role event c course none was_covered)
 
   -- it was led on
   pub sound_here : (s t : Core C O) (old new : Course Q) (u : Option StageContinuation) (b : Context) → HoldsOn ct ot client origin paired refuses rest whole s old

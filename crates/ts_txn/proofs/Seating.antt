@@ -1,29 +1,20 @@
--- The continuation of a transaction: what calls and events leave of it and of what is pending.
-use Rattle.std.proofs.Common.{◌≡◌, ◌≢◌, ℕ, ◌⊎◌, inl, inr, List, Bool, true, false, ◌&&◌, ◌==◌, Option, Some, None, Result, eqb, length, arith, refl, sym, ap, subst, ◌∙◌}
-use Rattle.std.proofs.lemmas.Bool.Decides.{eqb_tells}
+-- The first continuation of a transaction: whose events its calls set, and when these are due.
+use Rattle.std.proofs.Common.{◌≡◌, ℕ, List, true, Option, Some, None, Result, length, arith, sym, ap, subst, ◌∙◌}
 use Rattle.ts_journal.specs.declared.entry.ContKey.{ContKey}
 use Rattle.ts_journal.specs.declared.entry.Event.{Event}
 use Rattle.ts_journal.specs.declared.entry.Pending.{Pending}
-use Rattle.ts_journal.specs.State.{State, IsLive, pending_at, same_key}
-use Rattle.ts_journal.proofs.Events.{known_in}
-use Rattle.ts_group.proofs.Facts.{plain_at}
+use Rattle.ts_journal.specs.State.{pending_at}
 use Rattle.ts_group.specs.declared.action.Action.{Action}
-use Rattle.ts_group.specs.declared.action.Destroy.{Destroy}
-use Rattle.ts_group.specs.declared.action.Destroy.TheVariants as D
-use Rattle.ts_group.specs.declared.action.Named.{Named}
 use Rattle.ts_group.specs.declared.action.SetFault.{SetFault}
-use Rattle.ts_group.specs.Acts.{Destroys, Sets}
-use Rattle.ts_group.specs.Calls.{IsCalled}
-use Rattle.ts_group.specs.Changes.{HasLost, IsLess, SameEvents}
-use Rattle.ts_group.specs.Context.{AllPlain, Context, IsOrderly, moment_after, role_at}
+use Rattle.ts_group.specs.Acts.{Sets}
+use Rattle.ts_group.specs.Changes.{IsLess, SameEvents}
+use Rattle.ts_group.specs.Context.{AllPlain, Context, moment_after}
 use Rattle.ts_group.specs.Entries.{Grows}
-use Rattle.ts_transform.specs.Driving.{ActsWithin, IsDueAfter, Keeps, KeepsStage, SetsOnly, unroused, works_at}
-use Rattle.ts_transform.proofs.Handled.{handled_by, quiet_if, stays_if, unroused_if}
-use Rattle.ts_transform.proofs.Setting.{lessens_less, only_none, set_only}
-use Rattle.ts_transform.proofs.Kept.{acts_lessens, soon_later}
+use Rattle.ts_transform.specs.Driving.{ActsWithin, IsDueAfter, SetsOnly}
+use Rattle.ts_transform.proofs.Setting.{only_none, set_only}
+use Rattle.ts_transform.proofs.Kept.{soon_later}
 use Rattle.ts_transform.specs.declared.continuation.StageContinuation.{StageContinuation}
-use Rattle.ts_txn.specs.Cover.{IsOfMain, Seated}
-use Rattle.ts_txn.specs.declared.driver.TheConstants.{MAIN}
+use Rattle.ts_txn.specs.Cover.{IsOfMain}
 
 -- ---- the continuation is roused
 
@@ -59,26 +50,6 @@ pub main_rests : (a : Context) (slot : Option StageContinuation) → SetsOnly (I
 main_rests a slot = only_none (IsOfMain slot) a
 
 -- ---- it is made
-
--- the first continuation is alone then, without an event
-pub made_alone : (a b : Context) (slot : Option StageContinuation) (t : StageContinuation) → slot ≡ None → SameEvents a.log.state b.log.state → role_at t.key.index b.roles ≡ Some MAIN
-    → t.roused ≡ false → IsAlone slot a → IsAlone (Some t) b
-made_alone a b slot t is events named rests alone = record {
-  seated = λ n p there. absurd (unseated n p (subst (λ s. AllSeated a.log.state.pending (s ∷ [])) is alone.seated n p (ap (pending_at n) (sym events.pending) ∙ there)));
-  plain = subst AllPlain (sym events.pending) alone.plain;
-  of_main = inl (record { named = named; event = λ roused. absurd (let wrong : true ≡ false = sym roused ∙ rests in cc) });
-}
-  where
-    unseated : (n : ℕ) (p : Pending) → HasKey (None ∷ []) p.key → ⊥
-    unseated n p has = has
-
--- or it could not be made
-pub unmade_alone : (a b : Context) (slot : Option StageContinuation) → slot ≡ None → SameEvents a.log.state b.log.state → IsAlone slot a → IsAlone None b
-unmade_alone a b slot is events alone = record {
-  seated = λ n p there. subst (λ s. AllSeated a.log.state.pending (s ∷ [])) is alone.seated n p (ap (pending_at n) (sym events.pending) ∙ there);
-  plain = subst AllPlain (sym events.pending) alone.plain;
-  of_main = inl tt;
-}
 
 pub made_acts : (a b : Context) (n : ℕ) → Grows a b → b.log.state.held ≡ true → SameEvents a.log.state b.log.state → ActsWithin n a b
 made_acts a b n grows turn events = record {

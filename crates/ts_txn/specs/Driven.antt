@@ -10,6 +10,7 @@ use Rattle.ts_transform.specs.declared.continuation.StageContinuation.{StageCont
 use Rattle.ts_txn.specs.BodyLinks.{HandlesLinks, MindsBody, SendsRest}
 use Rattle.ts_txn.specs.Course.{course_after, finish_after}
 use Rattle.ts_txn.specs.CourseCover.{StaysOnOrLacks, pause_of}
+use Rattle.ts_txn.specs.Entering.{QuietLinks}
 use Rattle.ts_txn.specs.Holding.{IfTold, StepKeeps}
 use Rattle.ts_txn.specs.Steps.{LeavesSides, MindsLinksIn, WaitsRightly}
 use Rattle.ts_txn.specs.View.{View, view_of}
@@ -32,8 +33,7 @@ delay_of N.Done = 0
 
 -- a body begins to be passed on in one phase alone, and no call is made on a link then
 abbrev pub BeginsIn : Phase → View → View → Type 0
-BeginsIn (P.ResponseTransform q h) v w =
-    (w.client.look ≡ v.client.look) × (w.client.inbox ≡ v.client.inbox) × (w.origin ≡ v.origin)
+BeginsIn (P.ResponseTransform q h) v w = QuietLinks v w
 BeginsIn _ v w = ⊥
 
 -- the event of the next step, if one is set, is due when that step is to be made
@@ -68,7 +68,7 @@ module _ {C O Q : Type 0} (ctells otells : Bool) (client : C → Look) (origin :
     pub client_late : Bool
     pub origin_late : Bool
     pub minds : MindsBody ctells otells (view_of client origin s) (view_of client origin t) old.driven.chain
-        step client_late origin_late
+        after.driven.chain step client_late origin_late
 
   -- one of the last writes is made
   pub record TakesWrite (end : TxnEnd) (step : BodyStep) (new : Course Q) : Type 0 where
@@ -102,8 +102,8 @@ module _ {C O Q : Type 0} (ctells otells : Bool) (client : C → Look) (origin :
       pub after : Relay Q
       pub led : StaysOnOrLacks (course_after after step) new
       pub behind : Context
-      pub links : HandlesLinks ctells otells (view_of client origin s) (view_of client origin t) main old step
-          a behind
+      pub links : HandlesLinks ctells otells (view_of client origin s) (view_of client origin t) main old after
+          step a behind
       pub due : SetsOnly (IsDueAfter 0 behind.moment) behind b
 
     pub record HandlesWrite (end : TxnEnd) (new : Course Q) : Type 0 where

@@ -18,7 +18,28 @@ use ts_link::Link;
 use ts_transform::{StageContinuation, Transform, unrouse, works};
 use ts_upstream::Upstream;
 
-// Makes the step of a phase, and answers where the transaction is then.
+// Makes the step of a phase at which no body begins, and answers where the transaction is then.
+fn step_phase<C: Link, O: Upstream<C>, P: Transform<Line = TransformLine> + Drop>(
+    core: &mut Core<C, O>,
+    main: &mut Option<StageContinuation>,
+    phase: Phase,
+    cx: &mut Cx,
+) -> Course<P>
+    requires turn { cx.old.log.state.held ≡ true }
+    requires stands { HoldsOn C.tells O.tells C.look O.look O.paired O.refuses P.rest P.whole
+        core.old (Course.Phased phase) }
+    requires alone { IsAlone main.old cx.old }
+    ensures sound { IsSoundNow C.tells O.tells C.look O.look O.paired O.refuses P.rest P.whole
+        core.new main.new result cx.new }
+    ensures within { ActsWithin most_set cx.old cx.new }
+    ensures handles { HandlesEvent C.tells O.tells C.look O.look O.paired O.refuses O.upload_left
+        core.old core.new cx.old cx.new main.old (Course.Phased phase) result }
+{
+    let step = core.step(phase);
+    step_on(step, main, cx)
+}
+
+// Makes the step of a phase, and answers where the transaction is then: at one phase its body begins.
 fn phase_on<C: Link, O: Upstream<C>, P: Transform<Line = TransformLine> + Drop>(
     core: &mut Core<C, O>,
     main: &mut Option<StageContinuation>,
@@ -37,10 +58,7 @@ fn phase_on<C: Link, O: Upstream<C>, P: Transform<Line = TransformLine> + Drop>(
 {
     match phase {
         Phase::ResponseTransform { request, head } => enter_on(core, main, request, head, cx),
-        phase => {
-            let step = core.step(phase);
-            step_on(step, main, cx)
-        }
+        phase => step_phase(core, main, phase, cx),
     }
 }
 

@@ -1,12 +1,12 @@
 //! The first continuation of a transaction: how its events are set.
 ghost use Rattle.std.specs.Prelude.{◌≡◌, ◌≢◌, ◌<◌, true, false, None, OnOk, Err};
 ghost use Rattle.ts_journal.specs.declared.entry.TheConstants.{GREATEST};
-ghost use Rattle.ts_transform.specs.Driving.{ActsWithin, AddsEvents, HasLiveIf, IsDueAfter, IsRousedIf, KeepsStage, SetsOnly};
+ghost use Rattle.ts_transform.specs.Driving.{AddsEvents, HasLiveIf, IsDueAfter, IsRousedIf, KeepsStage, SetsOnly};
 ghost use Rattle.ts_txn.specs.Cover.{IsOfMain};
-ghost use Rattle.ts_txn.specs.CourseCover.{CoversAlone, StaysOnOrLacks};
+ghost use Rattle.ts_txn.specs.CourseCover.{CoversAlone, SetsOneOrNone, StaysOnOrLacks};
 
 use crate::course::Course;
-use crate::course_leaving::go_to;
+use crate::course_leaving::{AT_ONCE, go_to};
 use crate::phase::Phase;
 use ts_group::{Cx, SetFault};
 use ts_hooks::TxnEnd;
@@ -59,8 +59,8 @@ pub fn begin<P: Drop>(main: &mut Option<StageContinuation>, cx: &mut Cx) -> Cour
     requires turn { cx.old.log.state.held ≡ true }
     requires none { main.old ≡ None }
     ensures course { StaysOnOrLacks (Course.Phased Phase.TxnStart) result }
-    ensures within { ActsWithin 1 cx.old cx.new }
-    ensures due { SetsOnly (IsDueAfter 0 cx.old.moment) cx.old cx.new }
+    ensures within { SetsOneOrNone cx.old cx.new }
+    ensures due { SetsOnly (IsDueAfter AT_ONCE cx.old.moment) cx.old cx.new }
     ensures covered { CoversAlone main.old main.new result cx.old cx.new }
 {
     let Ok(made) = make_end(MAIN, cx) else {
@@ -69,5 +69,5 @@ pub fn begin<P: Drop>(main: &mut Option<StageContinuation>, cx: &mut Cx) -> Cour
         });
     };
     *main = Some(made);
-    go_to(Course::Phased(Phase::TxnStart), 0, main, cx)
+    go_to(Course::Phased(Phase::TxnStart), AT_ONCE, main, cx)
 }

@@ -5,11 +5,13 @@ ghost use Rattle.ts_group.specs.Calls.{IsCalled};
 ghost use Rattle.ts_group.specs.Entries.{Grows};
 ghost use Rattle.ts_transform.specs.Driving.{ActsWithin, IsDueAfter, SetsOnly};
 ghost use Rattle.ts_txn.specs.Cover.{is_fresh_on};
+ghost use Rattle.ts_txn.specs.CourseCover.{SetsOneOrNone};
 ghost use Rattle.ts_txn.specs.Driven.{HandlesEvent, TakesEvent};
 ghost use Rattle.ts_txn.specs.World.{IsTxnOf, HasTxnBegun, IsSoundTxn, most_set};
 
 use crate::course::Course;
 use crate::course_events::drive_on;
+use crate::course_leaving::AT_ONCE;
 use crate::driver::begin;
 use crate::parts::Core;
 use crate::phase::Phase;
@@ -74,7 +76,7 @@ impl<C: Link + Drop, O: Upstream<C> + Drop, P: Transform<Line = TransformLine> +
     ghost follows_on = { λ t u v a b. tt };
 }
 
-#[tactic(auto, using(ts_group::proofs::Grows::grows, ts_group::proofs::Grows::grows_refl, ts_transform::proofs::Kept::acts_none, crate::proofs::Handling::sound_begun, crate::proofs::Handling::sound_asked, crate::proofs::Handling::sound_other, crate::proofs::Handling::sound_quiet, crate::proofs::Handling::sound_stepped, crate::proofs::Coverage::fresh_none, crate::proofs::Events::handles_nothing, crate::proofs::Fitting::fits_on))]
+#[tactic(auto, using(ts_group::proofs::Grows::grows, ts_group::proofs::Grows::grows_refl, ts_transform::proofs::Kept::acts_none, crate::proofs::Handling::sound_begun, crate::proofs::Handling::sound_asked, crate::proofs::Seating::due_rests, crate::proofs::Coverage::fresh_none, crate::proofs::Events::takes_event, crate::proofs::Fitting::fits_on))]
 impl<C: Link + Drop, O: Upstream<C> + Drop, P: Transform<Line = TransformLine> + Drop> World
     for Txn<C, O, P> {
     type Question = ();
@@ -113,9 +115,9 @@ impl<C: Link + Drop, O: Upstream<C> + Drop, P: Transform<Line = TransformLine> +
             self.old cx.old.log.state.pending cx.old.log.state.next cx.old.roles }
         ensures sound { IsSoundTxn C.tells O.tells C.look O.look O.paired O.refuses P.rest P.whole
             self.new cx.new.log.state.pending cx.new.log.state.next cx.new.roles }
-        ensures within { ActsWithin 1 cx.old cx.new }
+        ensures within { SetsOneOrNone cx.old cx.new }
         ensures begun { HasTxnBegun self.old self.new }
-        ensures due { SetsOnly (IsDueAfter 0 cx.old.moment) cx.old cx.new }
+        ensures due { SetsOnly (IsDueAfter AT_ONCE cx.old.moment) cx.old cx.new }
     {
         if !is_fresh(&self.course) {
             return;

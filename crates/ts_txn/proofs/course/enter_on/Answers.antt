@@ -1,19 +1,21 @@
 use Rattle.std.specs.Arc.{arc_value}
 use Rattle.std.specs.Prelude.{◌∷◌, []}
-use Rattle.std.proofs.Common.{arith, refl, inr}
+use Rattle.std.proofs.Common.{arith, refl, ◌≤◌}
 use Rattle.ts_hooks.specs.declared.txn_end.TxnEnd.TheVariants as E
 use Rattle.ts_transform.proofs.Kept.{acts_none, acts_then}
 use Rattle.ts_transform.proofs.Seats.{cleared_acts}
 use Rattle.ts_txn.specs.Course.{course_after}
+use Rattle.ts_txn.specs.CourseCover.{set_leaving}
 use Rattle.ts_txn.specs.View.{OriginRefuses, view_of}
 use Rattle.ts_txn.specs.World.{most_set}
 use Rattle.ts_txn.specs.declared.course.Course.TheVariants as K
 use Rattle.ts_txn.specs.declared.phase.Phase.TheVariants as P
 use Rattle.ts_txn.specs.declared.phase.Next.TheVariants as N
-use Rattle.ts_txn.proofs.CourseSeats.{due_gone, ended_alone}
+use Rattle.ts_txn.proofs.CourseCalls.{stands_begun}
+use Rattle.ts_txn.proofs.CourseSeats.{ended_alone}
 use Rattle.ts_txn.proofs.Coursing.{course_settled, enters_settled, led_on, stays_on}
-use Rattle.ts_txn.proofs.Events.{takes_begin}
-use Rattle.ts_txn.proofs.Handling.{sound_here}
+use Rattle.ts_txn.proofs.Events.{begin_led, due_begin, takes_begin, takes_lost}
+use Rattle.ts_txn.proofs.Handling.{leaving_one, sound_here}
 use Rattle.ts_txn.proofs.course.enter_on.Goals as goal
 
 -- Memory lacked for the head.
@@ -37,5 +39,58 @@ begin_body-step-requires-clause-fact g c = λ told also.
     enters_settled g.C.Link.look g.O.Link.look g.O.Upstream.paired g.O.Upstream.refuses g.P.Transform.rest c.args.core.now c.queue_relay.new.self c.in-Ok.made.driven.chain c.in-Ok.made.body
     c.queue_relay.ensures.keeps (c.in-Ok.ensures.ok told also)
 
+pub returns-in_default-clause-handles : goal.returns-in_default-clause-handles
+returns-in_default-clause-handles g c =
+    let core = c.args.core.now in
+    let new = c.queue_relay.new.self in
+    record {
+      keeps = c.queue_relay.ensures.keeps;
+      handles = record {
+        next = N.Go;
+        takes = takes_lost g.C.Link.tells g.O.Link.tells g.C.Link.look g.O.Link.look g.O.Upstream.paired g.O.Upstream.refuses g.O.Upstream.upload_left core new
+            (P.ResponseTransform c.args.request c.args.head) c.queue_relay.ensures.quiet;
+        due = λ n p none there. absurd (c.destroy_end.ensures.clears.lessens.none n p none there);
+      };
+    }
+
+pub returns-clause-sound : goal.returns-clause-sound
+returns-clause-sound g c =
+    let core = c.args.core.now in
+    let new = c.queue_relay.new.self in
+    let relay = c.begin_body-step.new.relay in
+    let step = c.begin_body-step.result in
+    let v = view_of g.C.Link.look g.O.Link.look new in
+    sound_here g.C.Link.tells g.O.Link.tells g.C.Link.look g.O.Link.look g.O.Upstream.paired g.O.Upstream.refuses g.P.Transform.rest g.P.Transform.whole core new
+    (K.Phased (P.ResponseTransform c.args.request c.args.head)) c.leave.result c.leave.new.main c.leave.new.cx c.requires.stands c.queue_relay.ensures.keeps
+    (λ told also. stays_on (arc_value new.setup) (OriginRefuses g.C.Link.look g.O.Upstream.refuses new) g.P.Transform.rest v (course_after relay step) c.leave.result
+    (led_on (arc_value new.setup) (OriginRefuses g.C.Link.look g.O.Upstream.refuses new) g.P.Transform.rest v relay step (c.begin_body-step.ensures.leads told also)) c.leave.ensures.course)
+    (c.leave.ensures.covered v
+    (stands_begun step v c.args.main.now c.begin_body-step.new.main relay c.args.cx.now c.begin_body-step.new.cx c.known.ensures c.begin_body-step.ensures.begins c.requires.alone))
+
 pub returns-clause-within : goal.returns-clause-within
-returns-clause-within g c = acts_then 4 1 most_set (omega arith) c.begin_body-step.ensures.begins.acts c.leave.ensures.within
+returns-clause-within g c =
+    let step = c.begin_body-step.result in
+    let few : set_leaving step ≤ 1 = leaving_one step in
+    acts_then 4 (set_leaving step) most_set (omega (arith, few)) c.begin_body-step.ensures.begins.acts c.leave.ensures.within
+
+pub returns-clause-handles : goal.returns-clause-handles
+returns-clause-handles g c =
+    let core = c.args.core.now in
+    let new = c.queue_relay.new.self in
+    let relay = c.begin_body-step.new.relay in
+    let v = view_of g.C.Link.look g.O.Link.look new in
+    let led = begin_led g.C.Link.tells g.O.Link.tells g.C.Link.look g.O.Link.look g.O.Upstream.paired g.O.Upstream.refuses g.O.Upstream.upload_left relay c.begin_body-step.result c.leave.result
+        c.begin_body-step.ensures.begins.goes c.leave.ensures.course in
+    record {
+      keeps = c.queue_relay.ensures.keeps;
+      handles = record {
+        next = N.Go;
+        takes = takes_begin g.C.Link.tells g.O.Link.tells g.C.Link.look g.O.Link.look g.O.Upstream.paired g.O.Upstream.refuses g.O.Upstream.upload_left core new
+            (P.ResponseTransform c.args.request c.args.head) c.leave.result relay c.queue_relay.ensures.quiet led;
+        due = due_begin g.C.Link.tells g.O.Link.tells g.C.Link.look g.O.Link.look g.O.Upstream.paired g.O.Upstream.refuses g.O.Upstream.upload_left v c.leave.new.main c.args.cx.now c.leave.new.cx
+            c.leave.result relay
+            (c.leave.ensures.covered v
+            (stands_begun c.begin_body-step.result v c.args.main.now c.begin_body-step.new.main relay c.args.cx.now c.begin_body-step.new.cx c.known.ensures c.begin_body-step.ensures.begins
+            c.requires.alone)) led;
+      };
+    }

@@ -1,13 +1,14 @@
 use Rattle.std.specs.Arc.{arc_value}
-use Rattle.std.proofs.Common.{arith}
+use Rattle.std.proofs.Common.{arith, ◌≤◌}
 use Rattle.ts_transform.proofs.Kept.{acts_then}
 use Rattle.ts_txn.specs.Course.{course_after}
+use Rattle.ts_txn.specs.CourseCover.{set_leaving}
 use Rattle.ts_txn.specs.View.{OriginRefuses, view_of}
 use Rattle.ts_txn.specs.World.{most_set}
 use Rattle.ts_txn.specs.declared.course.Course.TheVariants as K
 use Rattle.ts_txn.proofs.CourseCalls.{stands_handled}
 use Rattle.ts_txn.proofs.Coursing.{led_on}
-use Rattle.ts_txn.proofs.Handling.{sound_led}
+use Rattle.ts_txn.proofs.Handling.{leaving_one, sound_led}
 use Rattle.ts_txn.proofs.course.relay_on.Goals as goal
 
 pub returns-clause-sound : goal.returns-clause-sound
@@ -27,7 +28,10 @@ returns-clause-sound g c =
     c.requires.called.sound.covered c.handle_body-step.ensures.handles))
 
 pub returns-clause-within : goal.returns-clause-within
-returns-clause-within g c = acts_then 6 1 most_set (omega arith) c.handle_body-step.ensures.handles.acts c.leave.ensures.within
+returns-clause-within g c =
+    let step = c.handle_body-step.result in
+    let few : set_leaving step ≤ 1 = leaving_one step in
+    acts_then 6 (set_leaving step) most_set (omega (arith, few)) c.handle_body-step.ensures.handles.acts c.leave.ensures.within
 
 pub returns-clause-handles : goal.returns-clause-handles
 returns-clause-handles g c = record {
