@@ -1,4 +1,4 @@
-use Rattle.std.proofs.Common.{ap, ◌∙◌}
+use Rattle.std.proofs.Common.{◌≡◌, ap, ◌∙◌}
 use Rattle.ts_transform.specs.Flow.{flow}
 use Rattle.ts_txn.proofs.Entered.{fresh_relay}
 use Rattle.ts_txn.proofs.relay_making.make_relay.Goals as goal
