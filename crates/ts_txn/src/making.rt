@@ -1,12 +1,15 @@
 //! How a transaction is made of its links, and taken apart.
-ghost use Rattle.std.specs.Prelude.{◌≡◌, ℕ, ◌≤◌, List, [], true, false, None, IfOk};
+ghost use Rattle.std.specs.Prelude.{◌≡◌, ℕ, ◌≤◌, List, [], true, false, Some, None, IfOk};
 ghost use Rattle.std.specs.Arc.{arc_value};
 ghost use Rattle.std.specs.Option.{option_copied};
 ghost use Rattle.ts_group.specs.declared.action.Named.{Named};
+ghost use Rattle.ts_hooks.specs.declared.txn_end.TxnEnd.{TxnEnd};
+ghost use Rattle.ts_journal.specs.declared.entry.Pending.{Pending};
 ghost use Rattle.ts_journal.specs.declared.entry.TheConstants.{GREATEST};
 ghost use Rattle.ts_txn.specs.Cover.{is_fresh_on};
 ghost use Rattle.ts_txn.specs.Entering.{ActsAsLines};
-ghost use Rattle.ts_txn.specs.Making.{ArePaired, HasFewLines, IsMadeOf, IsMadeOfIf, IsNewLink, IsNewLinkIf, base_if, end_of, link_if};
+ghost use Rattle.ts_txn.specs.Making.{ArePaired, HasFewLines, IsMadeOf, IsMadeOfIf, IsNewLink, IsNewLinkIf, base_if, end_of, end_of_phase, link_if};
+ghost use Rattle.ts_txn.specs.Resting.{HasEndedSo, RestsWithBlock};
 ghost use Rattle.ts_txn.specs.World.{IsSoundTxn};
 
 use crate::course::Course;
@@ -124,17 +127,21 @@ impl<C: Link + Drop, O: Upstream<C> + Drop, P: Transform<Line = TransformLine> +
 
     /// How it ended; nothing while it has not. Once nothing of its group is pending, a transaction that was
     /// started has ended, or the event numbers are used up.
-    #[tactic(auto, using(crate::proofs::Handling::at_rest))]
     pub fn end(&self) -> Option<TxnEnd>
         ensures end { result ≡ end_of self.now.course }
         ensures rests { result ≡ None → is_fresh_on self.now.course ≡ false → (next : ℕ) (roles : List Named)
             → IsSoundTxn C.tells O.tells C.look O.look O.paired O.refuses P.rest P.whole self.now [] next roles
             → GREATEST ≤ next }
+        ensures law { (end : TxnEnd) → result ≡ Some end
+            → (pending : List Pending) (next : ℕ) (roles : List Named)
+            → IsSoundTxn C.tells O.tells C.look O.look O.paired O.refuses P.rest P.whole
+            self.now pending next roles
+            → HasEndedSo C.tells O.tells C.look O.look O.refuses self.now end }
+        ensures block { (next : ℕ) (roles : List Named)
+            → IsSoundTxn C.tells O.tells C.look O.look O.paired O.refuses P.rest P.whole self.now [] next roles
+            → RestsWithBlock C.tells O.tells C.look O.look O.refuses self.now next }
     {
-        match &self.course {
-            Course::Phased(Phase::Ended { end }) => Some(*end),
-            _ => None,
-        }
+        end_of(&self.course)
     }
 
     /// The number that it was made with.
@@ -198,6 +205,26 @@ impl<C: Link + Drop, O: Upstream<C> + Drop, P: Transform<Line = TransformLine> +
             cuts,
             end,
         }
+    }
+}
+
+// How a transaction has ended, if it has.
+fn end_of<P>(course: &Course<P>) -> Option<TxnEnd>
+    ensures { result ≡ end_of course.now }
+{
+    match course {
+        Course::Phased(phase) => end_of_phase(phase),
+        Course::Relaying(_) => None,
+        Course::Finishing { .. } => None,
+    }
+}
+
+fn end_of_phase(phase: &Phase) -> Option<TxnEnd>
+    ensures { result ≡ end_of_phase phase.now }
+{
+    match phase {
+        Phase::Ended { end } => Some(*end),
+        _ => None,
     }
 }
 
