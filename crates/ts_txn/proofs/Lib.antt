@@ -24,7 +24,11 @@ pub mod LoweringEntry
 pub mod LoweringEvents
 pub mod LoweringHeads
 pub mod LoweringLeads
+pub mod LoweringPays
+pub mod LoweringRelay
 pub mod LoweringResponse
+pub mod LoweringStages
+pub mod LoweringStands
 pub mod LoweringSteps
 pub mod LoweringUpload
 pub mod Made

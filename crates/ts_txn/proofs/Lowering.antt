@@ -75,6 +75,11 @@ pub none_rise : (n : Option ℕ) → Rose8 n n 0
 none_rise None = tt
 none_rise (Some y) = omega arith
 
+-- where none is left, none rose
+pub none_left : (n : Option ℕ) (k : ℕ) → Rose8 n (Some 0) k
+none_left None k = tt
+none_left (Some y) k = omega arith
+
 -- ---- bytes that were read
 
 pub passes_less : (ls : List TransformLine) (m n : ℕ) → m ≤ n → passes ls m ≤ passes ls n

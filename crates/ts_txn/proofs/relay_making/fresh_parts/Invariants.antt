@@ -1,10 +1,9 @@
-use Rattle.std.proofs.Common.{◌≡◌, ℕ, List, drop}
-use Rattle.ts_transform.specs.Flow.{compose}
-use Rattle.ts_config.specs.Bodies.{compose_lines}
+use Rattle.std.proofs.Common.{List, ◌++◌, drop}
 use Rattle.ts_txn.specs.Acting.{acting}
+use Rattle.ts_txn.specs.Inserted.{AreOfLines}
 use Rattle.ts_txn.proofs.relay_making.fresh_parts.Given as goal
 
--- the parts that were made, and then the lines that are left, compose as all lines that act do
+-- the parts that were made, and then any of the lines that are left, are of all lines that act
 abbrev pub invariant-loop-line : goal.invariant-loop-line
-invariant-loop-line g l = (z : List ℕ) →
-    compose_lines (acting (drop l.line-index l.lines) l.status l.fields) (compose g.P.Transform.rest l.parts.items z) ≡ compose_lines (acting l.lines l.status l.fields) z
+invariant-loop-line g l = (qs : List g.P) → AreOfLines g.P.Transform.rest (acting (drop l.line-index l.lines) l.status l.fields) qs
+    → AreOfLines g.P.Transform.rest (acting l.lines l.status l.fields) (l.parts.items ++ qs)
