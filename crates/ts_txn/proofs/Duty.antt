@@ -98,13 +98,19 @@ rouses_by (Err F.Spent) must Live t u a b adds roused = inr adds.cause
 rouses_by (Err F.NoMemory) must Live t u a b adds roused = tt
 rouses_by (Err F.Dead) must Live t u a b adds roused = tt
 
+-- one that need not work, or was roused, is let be
+rests_by : {X Y : Type 0} (must : Bool) → ((must ≡ false) ⊎ X → Y) → (must ≡ true → X) → Y
+rests_by true rests roused = rests (inr (roused refl))
+rests_by false rests roused = rests (inl refl)
+
 pub rouses_one : (r : Result ⊤ SetFault) (must : Bool) (Live : Type 0) (t u : Option StageContinuation) (a b : Context) (step : BodyStep) → step ≡ step_after r
-    → AddsEvents 1 Live r a b → KeepsStage a b t u → KeepsSeated (t ∷ []) (u ∷ []) a b → (must ≡ true → OnOk r (IsRousedIf u)) → RousesOne step must t u a b
-rouses_one r must Live t u a b step is adds stage seated roused = record {
+    → AddsEvents 1 Live r a b → KeepsStage a b t u → KeepsSeated (t ∷ []) (u ∷ []) a b → (must ≡ true → OnOk r (IsRousedIf u)) → ((must ≡ false) ⊎ IsRousedIf t → b ≡ a) → RousesOne step must t u a b
+rouses_one r must Live t u a b step is adds stage seated roused rests = record {
   adds = record { grows = adds.grows; keeps = adds.keeps; few = adds.few };
   stage = stage;
   seated = seated;
   roused = subst (λ (s : BodyStep). OnGoes s ((must ≡ true → IsRousedIf u) ⊎ (GREATEST ≤ b.log.state.next))) (sym is) (rouses_by r must Live t u a b adds roused);
+  rests = rests_by must rests;
 }
 
 both_roused : (step : BodyStep) (writes reads : Bool) (u s : Option StageContinuation) (b c : Context) → b.log.state.next ≤ c.log.state.next
@@ -132,6 +138,7 @@ rouses_both step writes reads t u r s a b c orderly main reader = record {
   seated = λ ts. seated_then (t ∷ r ∷ ts) (u ∷ r ∷ ts) (u ∷ s ∷ ts) a b c (seated_front t u (r ∷ ts) a b main.seated)
       (seated_behind u (r ∷ ts) (s ∷ ts) b c (seated_front r s ts b c reader.seated));
   roused = both_roused step writes reads u s b c (grows_next b c orderly reader.adds.grows) main.roused reader.roused;
+  rests = λ of_main of_reader. reader.rests of_reader ∙ main.rests of_main;
 }
 
 -- memory lacked for the first
@@ -143,6 +150,7 @@ rouses_lacks step writes reads t u r a b main = record {
   same = (main.stage.same, refl);
   seated = λ ts. seated_front t u (r ∷ ts) a b main.seated;
   roused = tt;
+  rests = λ of_main of_reader. main.rests of_main;
 }
 
 -- ---- no wake is lost

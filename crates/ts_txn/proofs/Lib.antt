@@ -1,6 +1,7 @@
 pub mod Always
 pub mod Asks
 pub mod BodyEvents
+pub mod BodyLinks
 pub mod Chaining
 pub mod CourseSeats
 pub mod Coursing

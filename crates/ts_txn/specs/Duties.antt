@@ -59,6 +59,7 @@ pub record RousesOne (step : BodyStep) (must : Bool) (t u : Option StageContinua
   pub stage : KeepsStage a b t u
   pub seated : KeepsSeated (t ∷ []) (u ∷ []) a b
   pub roused : OnGoes step ((must ≡ true → IsRousedIf u) ⊎ (GREATEST ≤ b.log.state.next))
+  pub rests : (must ≡ true → IsRousedIf t) → b ≡ a
 
 -- The same of the first continuation and of the reader.
 pub record RousesBoth (step : BodyStep) (writes reads : Bool) (t u r s : Option StageContinuation)
@@ -72,12 +73,13 @@ pub record RousesBoth (step : BodyStep) (writes reads : Bool) (t u r s : Option 
   pub seated : (ts : List (Option StageContinuation)) → KeepsSeated (t ∷ r ∷ ts) (u ∷ s ∷ ts) a b
   pub roused : OnGoes step (((writes ≡ true → IsRousedIf u) × (reads ≡ true → IsRousedIf s))
       ⊎ (GREATEST ≤ b.log.state.next))
+  pub rests : (writes ≡ true → IsRousedIf t) → (reads ≡ true → IsRousedIf r) → b ≡ a
 
 -- The same of a body: the reader must work where more may be given to the chain.
 abbrev pub EndsRouse : {P : Type 0} → BodyStep → Bool → Option StageContinuation → Option StageContinuation
     → Relay P → Relay P → Context → Context → Type 0
 EndsRouse step writes t u r s a b = (reads : Bool) × (MustRead r.driven.chain → reads ≡ true)
-    × RousesBoth step writes reads t u r.reader s.reader a b
+    × (reads ≡ true → MustRead r.driven.chain) × RousesBoth step writes reads t u r.reader s.reader a b
 
 -- the stages run, or the event numbers are used up
 abbrev pub RunsOr : {P : Type 0} → Relay P → ℕ → Type 0
@@ -103,6 +105,7 @@ pub record SettlesBody {P : Type 0} (step : BodyStep) (v : View) (t u : Option S
   pub goes : OnGoes step ⊤
   pub later : a.log.state.next ≤ b.log.state.next
   pub seated : KeepsSeated (body_seats t r) (body_seats u s) a b
+  pub rests : AreBodyEndsRoused v t r → b ≡ a
 
 -- after a step that goes on a body is settled, and else nothing is done
 abbrev pub SettledAs : BodyStep → BodyStep → Type 0
@@ -119,6 +122,7 @@ pub record SettlesAfter {P : Type 0} (step result : BodyStep) (v : View) (t u : 
   pub settled : SettledAs step result
   pub later : a.log.state.next ≤ b.log.state.next
   pub seated : KeepsSeated (body_seats t r) (body_seats u s) a b
+  pub rests : AreBodyEndsRoused v t r → b ≡ a
 
 -- What is left where an event of a role was handled while a body is passed on.
 pub record HandlesBody {P : Type 0} (step : BodyStep) (role : ℕ) (event : Event) (v w : View)
@@ -139,3 +143,6 @@ pub record BeginsBody {P : Type 0} (step : BodyStep) (v : View) (t u : Option St
   pub joined : IsOfStageIf a.log.state.pending a.roles MAIN t
       → IsBodyJoined u s b.log.state.pending b.roles
   pub covered : WhileGoes step (IsBodyCovered v u s b.log.state.next)
+  pub runs : UnlessLacking step (RunsOr s b.log.state.next)
+  pub seated : KeepsSeated (t ∷ []) (body_seats u s) a b
+  pub ordered : EndsInOrder s.driven.chain.given s.driven.chain.stages

@@ -1,5 +1,6 @@
 pub mod Acting
 pub mod Block
+pub mod BodyLinks
 pub mod Checking
 pub mod Course
 pub mod CourseCover

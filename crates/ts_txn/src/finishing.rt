@@ -1,6 +1,8 @@
 //! The last writes of a transaction that passed a body on: all that the client gets was queued.
+ghost use Rattle.ts_txn.specs.BodyLinks.{SendsRest};
 ghost use Rattle.ts_txn.specs.Finishing.{FinishHolds, FinishLeads};
 ghost use Rattle.ts_txn.specs.Holding.{StepKeeps};
+ghost use Rattle.ts_txn.specs.View.{view_of};
 
 use crate::parts::Core;
 use ts_hooks::TxnEnd;
@@ -25,10 +27,13 @@ pub enum BodyStep {
 
 impl<C: Link, O: Upstream<C>> Core<C, O> {
     /// Writes once of what was queued, behind which nothing is queued any more.
+    #[tactic(auto, using(crate::proofs::BodyLinks::sends_some, crate::proofs::BodyLinks::sends_all, crate::proofs::BodyLinks::sends_late, crate::proofs::BodyLinks::sends_left, crate::proofs::BodyLinks::sends_lacks))]
     pub fn send_rest(&mut self, end: TxnEnd) -> BodyStep
         requires fact { FinishHolds C.tells O.tells C.look O.look O.refuses self.old end }
         ensures leads { FinishLeads C.tells O.tells C.look O.look O.refuses self.old self.new end result }
         ensures keeps { StepKeeps C.look O.look O.paired O.refuses self.old self.new }
+        ensures links { SendsRest C.tells end
+            (view_of C.look O.look self.old) (view_of C.look O.look self.new) result }
     {
         match self.write_client() {
             Pushed::Some(_) => BodyStep::Goes,

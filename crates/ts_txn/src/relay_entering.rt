@@ -5,8 +5,9 @@ ghost use Rattle.ts_transform.specs.Flow.{OnlyFirstWorks};
 ghost use Rattle.ts_wire.specs.Place.{state_of};
 ghost use Rattle.ts_txn.specs.Feeding.{OnGoes};
 ghost use Rattle.ts_txn.specs.Relaying.{RelayLeads, StepsChain};
-ghost use Rattle.ts_txn.specs.Entering.{ActsAsLines, BeginsChain, BeginsRelay, EnterHolds, EntersAfter, GetsStart, HeadHolds, IsUnbegun, LacksAfter};
+ghost use Rattle.ts_txn.specs.Entering.{ActsAsLines, BeginsChain, BeginsRelay, EnterHolds, EntersAfter, GetsStart, HeadHolds, IsUnbegun, LacksAfter, QuietLinks};
 ghost use Rattle.ts_txn.specs.Holding.{StepKeeps};
+ghost use Rattle.ts_txn.specs.View.{view_of};
 
 use crate::block::{framing_for, relayed_head};
 use crate::feeding::close_input;
@@ -81,6 +82,7 @@ pub fn begin_relay<P: Transform + Drop>(relay: &mut Relay<P>, cx: &mut Cx) -> Bo
 
 impl<C: Link, O: Upstream<C>> Core<C, O> {
     /// Queues the client's head of a response that is passed on, and makes what its body goes through.
+    #[tactic(auto, using(crate::proofs::Entered::quiet_none, crate::proofs::Entered::quiet_head))]
     pub fn queue_relay<P: Transform<Line = TransformLine> + Drop>(
         &mut self,
         request: &Request,
@@ -93,6 +95,7 @@ impl<C: Link, O: Upstream<C>> Core<C, O> {
         ensures err { OnErr result (LacksAfter C.tells O.tells C.look O.look O.refuses self.old self.new) }
         ensures fresh { IfOk result (λ r. IsUnbegun r
             × (r.driven.chain.given ≡ false) × OnlyFirstWorks r.driven.chain) }
+        ensures quiet { QuietLinks (view_of C.look O.look self.old) (view_of C.look O.look self.new) }
         ensures keeps { StepKeeps C.look O.look O.paired O.refuses self.old self.new }
     {
         let Ok(made) = make_relay(self.alloc, &self.setup, &request.head, head) else {

@@ -1,3 +1,4 @@
+use Rattle.std.proofs.Common.{ap}
 use Rattle.std.specs.Arc.{arc_value}
 use Rattle.ts_txn.specs.View.{OriginRefuses, view_of}
 use Rattle.ts_txn.proofs.BodyEvents.{begins_body, settled_as}
@@ -12,4 +13,4 @@ returns-clause-leads g c = λ told also.
 pub returns-clause-begins : goal.returns-clause-begins
 returns-clause-begins g c =
     begins_body c.enter_body-step.result c.settle_after.result (view_of g.C.Link.look g.O.Link.look c.args.self.now) c.args.main.now c.settle_after.new.main
-    c.enter_body-step.new.relay c.settle_after.new.relay c.args.cx.now c.enter_body-step.new.cx c.settle_after.new.cx c.enter_body-step.ensures.begins c.settle_after.ensures.settles
+    c.enter_body-step.new.relay c.settle_after.new.relay c.args.cx.now c.enter_body-step.new.cx c.settle_after.new.cx c.enter_body-step.ensures.begins (ap (λ r. r.driven) c.settle_after.ensures.relay) c.settle_after.ensures.settles

@@ -1,5 +1,4 @@
-use Rattle.std.proofs.Common.{◌≡◌, [], refl, sym, ap, subst, ◌∙◌}
-use Rattle.std.specs.Prelude.{IsTrue}
+use Rattle.std.proofs.Common.{[], sym, ap, ◌∙◌}
 use Rattle.ts_transform.specs.Flow.{ChainState, flow}
 use Rattle.std.specs.Arc.{arc_value}
 use Rattle.ts_txn.specs.View.{OriginRefuses, view_of}
@@ -16,5 +15,5 @@ pub returns-clause-leads : goal.returns-clause-leads
 returns-clause-leads g c = λ told also.
     ends_whole (arc_value c.args.self.now.setup) (OriginRefuses g.C.Link.look g.O.Upstream.refuses c.args.self.now) g.P.Transform.rest
     (view_of g.C.Link.look g.O.Link.look c.args.self.now) (view_of g.C.Link.look g.O.Link.look c.end_body.new.self) c.args.relay.now.driven.chain c.args.relay.now.body
-    c.in-Ok.ensures.ok (sym (c.is_given.ensures ∙ ap (λ (k : ChainState _). k.given) c.chain.ensures) ∙ c.if-not-is_given.false)
-    (ap (λ (k : ChainState _). flow g.P.Transform.rest k []) (sym c.chain-2.ensures) ∙ c.is_finished.ensures.flow (subst IsTrue (sym c.if-not-is_finished.false) refl)) (c.requires.fact told also)
+    c.in-Ok.ensures.ok (sym (ap (λ (k : ChainState _). k.given) c.chain.ensures) ∙ c.has_given_all.ensures.given c.if-not-has_given_all.false)
+    (ap (λ (k : ChainState _). flow g.P.Transform.rest k []) (sym c.chain.ensures) ∙ c.has_given_all.ensures.all c.if-not-has_given_all.false) (c.requires.fact told also)

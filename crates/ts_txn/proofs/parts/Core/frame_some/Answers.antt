@@ -1,8 +1,10 @@
-use Rattle.std.proofs.Common.{◌≡◌, length, take, sym, ap, subst, ◌∙◌}
+use Rattle.std.proofs.Common.{◌≡◌, length, take, false, refl, sym, ap, subst, ◌∙◌}
 use Rattle.ts_transform.specs.Flow.{ChainState, client_wait}
 use Rattle.ts_txn.specs.Relaying.{StepsChain}
 use Rattle.std.specs.Arc.{arc_value}
 use Rattle.ts_txn.specs.View.{OriginRefuses, view_of}
+use Rattle.ts_txn.specs.BodyLinks.{is_late}
+use Rattle.ts_txn.proofs.BodyLinks.{calm_after, minds_framed}
 use Rattle.ts_txn.proofs.Relaying.{frames_lacks, frames_step, front_of_block}
 use Rattle.ts_txn.proofs.Chaining.{chain_after, chain_still, taken_order}
 use Rattle.ts_txn.proofs.parts.Core.frame_some.Goals as goal
@@ -30,4 +32,10 @@ pub returns-clause-chain : goal.returns-clause-chain
 returns-clause-chain g c =
     subst (λ s. StepsChain s 1 c.args.relay.now.driven c.take.new.self c.args.cx.now c.take.new.cx) (sym c.step_after.ensures)
     (chain_after 1 c.take.result c.args.relay.now.driven c.take.new.self c.args.cx.now c.take.new.cx c.take.ensures.adds c.take.ensures.driven c.take.ensures.loses c.take.ensures.same
-    (taken_order g.P.Transform.rest _ c.args.relay.now.driven.chain c.take.new.self.chain c.take.ensures.takes))
+    g.P.Transform.pause c.take.ensures.only (taken_order g.P.Transform.rest _ c.args.relay.now.driven.chain c.take.new.self.chain c.take.ensures.takes))
+
+pub returns-clause-links : goal.returns-clause-links
+returns-clause-links g c =
+    let calm = calm_after c.take.result c.step_after.result c.step_after.ensures in
+    minds_framed g.C.Link.tells g.O.Link.tells (view_of g.C.Link.look g.O.Link.look c.args.self.now) (view_of g.C.Link.look g.O.Link.look c.frame_body.new.self) c.args.relay.now.driven.chain c.take.new.self.chain
+    c.step_after.result (is_late c.step_after.result) false _ _ g.P.Transform.rest _ calm calm.late refl c.requires.empty c.take.ensures.takes c.in-Ok.ensures.ok

@@ -18,7 +18,7 @@ returns-in-Err-clause-chain g c = chain_still _ 2 c.args.relay.now.driven c.args
 pub returns-in-Some-clause-leads : goal.returns-in-Some-clause-leads
 returns-in-Some-clause-leads g c = λ told also.
     reads_on (arc_value c.args.self.now.setup) (OriginRefuses g.C.Link.look g.O.Upstream.refuses c.args.self.now) g.P.Transform.rest g.O.Link.tells
-    (view_of g.C.Link.look g.O.Link.look c.args.self.now) (view_of g.C.Link.look g.O.Link.look c.read_origin.new.self) _ c.args.relay.now.driven.chain c.args.relay.now.body also c.requires.goes_on
+    (view_of g.C.Link.look g.O.Link.look c.args.self.now) (view_of g.C.Link.look g.O.Link.look c.read_origin.new.self) _ c.args.relay.now.driven.chain c.args.relay.now.body also c.requires.goes_on.0.0
     c.in-Ok.ensures.reads (c.requires.fact told also)
 
 pub returns-in-Some-clause-chain : goal.returns-in-Some-clause-chain
@@ -27,7 +27,7 @@ returns-in-Some-clause-chain g c = chain_still _ 2 c.args.relay.now.driven c.arg
 pub returns-in-Again-clause-leads : goal.returns-in-Again-clause-leads
 returns-in-Again-clause-leads g c = λ told also.
     reads_on (arc_value c.args.self.now.setup) (OriginRefuses g.C.Link.look g.O.Upstream.refuses c.args.self.now) g.P.Transform.rest g.O.Link.tells
-    (view_of g.C.Link.look g.O.Link.look c.args.self.now) (view_of g.C.Link.look g.O.Link.look c.read_origin.new.self) _ c.args.relay.now.driven.chain c.args.relay.now.body also c.requires.goes_on
+    (view_of g.C.Link.look g.O.Link.look c.args.self.now) (view_of g.C.Link.look g.O.Link.look c.read_origin.new.self) _ c.args.relay.now.driven.chain c.args.relay.now.body also c.requires.goes_on.0.0
     c.in-Ok.ensures.reads (c.requires.fact told also)
 
 pub returns-in-Again-clause-chain : goal.returns-in-Again-clause-chain
@@ -36,7 +36,7 @@ returns-in-Again-clause-chain g c = chain_still _ 2 c.args.relay.now.driven c.ar
 pub returns-in-Failed-clause-leads : goal.returns-in-Failed-clause-leads
 returns-in-Failed-clause-leads g c = λ told also.
     reads_failed (arc_value c.args.self.now.setup) (OriginRefuses g.C.Link.look g.O.Upstream.refuses c.args.self.now) g.P.Transform.rest g.O.Link.tells
-    (view_of g.C.Link.look g.O.Link.look c.args.self.now) (view_of g.C.Link.look g.O.Link.look c.read_origin.new.self) c.args.relay.now.driven.chain c.args.relay.now.body also c.requires.goes_on (c.requires.fact told also)
+    (view_of g.C.Link.look g.O.Link.look c.args.self.now) (view_of g.C.Link.look g.O.Link.look c.read_origin.new.self) c.args.relay.now.driven.chain c.args.relay.now.body also c.requires.goes_on.0.0 (c.requires.fact told also)
     (subst (λ p. ReadsOrigin g.O.Link.tells (view_of g.C.Link.look g.O.Link.look c.args.self.now) (view_of g.C.Link.look g.O.Link.look c.read_origin.new.self) p) c.in-Failed.is c.in-Ok.ensures.reads)
 
 pub returns-in-Failed-clause-chain : goal.returns-in-Failed-clause-chain
@@ -45,8 +45,8 @@ returns-in-Failed-clause-chain g c = chain_still _ 2 c.args.relay.now.driven c.a
 pub returns-then-not-ends_here-clause-leads : goal.returns-then-not-ends_here-clause-leads
 returns-then-not-ends_here-clause-leads g c = λ told also.
     reads_cut (arc_value c.args.self.now.setup) (OriginRefuses g.C.Link.look g.O.Upstream.refuses c.args.self.now) g.P.Transform.rest g.O.Link.tells
-    (view_of g.C.Link.look g.O.Link.look c.args.self.now) (view_of g.C.Link.look g.O.Link.look c.read_origin.new.self) c.args.relay.now.driven.chain c.args.relay.now.body also c.requires.goes_on (c.requires.fact told also)
-    (subst (λ p. ReadsOrigin g.O.Link.tells (view_of g.C.Link.look g.O.Link.look c.args.self.now) (view_of g.C.Link.look g.O.Link.look c.read_origin.new.self) p) c.in-End.is c.in-Ok.ensures.reads) c.requires.drained c.ends_here.result c.ends_here.ensures c.if-not-ends_here.true
+    (view_of g.C.Link.look g.O.Link.look c.args.self.now) (view_of g.C.Link.look g.O.Link.look c.read_origin.new.self) c.args.relay.now.driven.chain c.args.relay.now.body also c.requires.goes_on.0.0 (c.requires.fact told also)
+    (subst (λ p. ReadsOrigin g.O.Link.tells (view_of g.C.Link.look g.O.Link.look c.args.self.now) (view_of g.C.Link.look g.O.Link.look c.read_origin.new.self) p) c.in-End.is c.in-Ok.ensures.reads) c.requires.goes_on.1 c.ends_here.result c.ends_here.ensures c.if-not-ends_here.true
 
 pub returns-then-not-ends_here-clause-chain : goal.returns-then-not-ends_here-clause-chain
 returns-then-not-ends_here-clause-chain g c = chain_still _ 2 c.args.relay.now.driven c.args.cx.now c.requires.turn
@@ -54,8 +54,8 @@ returns-then-not-ends_here-clause-chain g c = chain_still _ 2 c.args.relay.now.d
 pub returns-else-not-ends_here-clause-leads : goal.returns-else-not-ends_here-clause-leads
 returns-else-not-ends_here-clause-leads g c = λ told also.
     closes_lead (arc_value c.args.self.now.setup) (OriginRefuses g.C.Link.look g.O.Upstream.refuses c.args.self.now) g.P.Transform.rest g.O.Link.tells
-    (view_of g.C.Link.look g.O.Link.look c.args.self.now) (view_of g.C.Link.look g.O.Link.look c.read_origin.new.self) c.args.relay.now.driven.chain c.args.relay.now.body also c.requires.goes_on (c.requires.fact told also)
-    c.close_input.new.driven.chain c.close_input.result (subst (λ p. ReadsOrigin g.O.Link.tells (view_of g.C.Link.look g.O.Link.look c.args.self.now) (view_of g.C.Link.look g.O.Link.look c.read_origin.new.self) p) c.in-End.is c.in-Ok.ensures.reads) c.requires.drained c.ends_here.result c.ends_here.ensures c.if-not-ends_here.false c.close_input.ensures.gets
+    (view_of g.C.Link.look g.O.Link.look c.args.self.now) (view_of g.C.Link.look g.O.Link.look c.read_origin.new.self) c.args.relay.now.driven.chain c.args.relay.now.body also c.requires.goes_on.0.0 (c.requires.fact told also)
+    c.close_input.new.driven.chain c.close_input.result (subst (λ p. ReadsOrigin g.O.Link.tells (view_of g.C.Link.look g.O.Link.look c.args.self.now) (view_of g.C.Link.look g.O.Link.look c.read_origin.new.self) p) c.in-End.is c.in-Ok.ensures.reads) c.requires.goes_on.1 c.ends_here.result c.ends_here.ensures c.if-not-ends_here.false c.close_input.ensures.gets
 
 pub returns-else-not-ends_here-clause-chain : goal.returns-else-not-ends_here-clause-chain
 returns-else-not-ends_here-clause-chain g c =
