@@ -3,6 +3,7 @@ pub mod Asks
 pub mod BodyEvents
 pub mod BodyLinks
 pub mod Chaining
+pub mod CourseCalls
 pub mod CourseSeats
 pub mod Coursing
 pub mod Coverage

@@ -1,10 +1,12 @@
 //! Where a step leads a transaction on its course, once its next event is set: a body that is left is closed first.
-ghost use Rattle.std.specs.Prelude.{◌≡◌, ◌∷◌, [], true, false, None};
+ghost use Rattle.std.specs.Prelude.{◌≡◌, ◌≤◌, ◌∷◌, [], true};
 ghost use Rattle.ts_journal.specs.declared.entry.TheConstants.{GREATEST};
 ghost use Rattle.ts_transform.specs.Driving.{ActsWithin, HasLiveIf, IsDueAfter, SetsOnly};
 ghost use Rattle.ts_transform.specs.Seats.{KeepsSeated};
 ghost use Rattle.ts_txn.specs.Course.{course_after, finish_after};
-ghost use Rattle.ts_txn.specs.CourseCover.{HasRousedNext, StaysOnOrLacks};
+ghost use Rattle.ts_txn.specs.Cover.{StepLeads};
+ghost use Rattle.ts_txn.specs.CourseCover.{CoversAlone, CoversLed, GoesAlone, HasRousedNext, StaysOnOrLacks, pause_of, set_after, set_leaving};
+ghost use Rattle.ts_txn.specs.Driven.{delay_of};
 
 use crate::course::Course;
 use crate::driver::{RETRY, is_spent, rouse};
@@ -18,7 +20,7 @@ use ts_transform::{StageContinuation, Transform};
 
 // Sees that the next step has an event, and answers whether it may be made: where there is no memory for an event, the
 // continuation is destroyed.
-#[tactic(auto, using(crate::proofs::CourseSeats::roused_next, crate::proofs::CourseSeats::spent_next, crate::proofs::CourseSeats::lacks_next, crate::proofs::CourseSeats::seated_next, ts_transform::proofs::Kept::acts_adds))]
+#[tactic(auto, using(crate::proofs::CourseCalls::at_rest_on, crate::proofs::CourseSeats::spent_next, ts_transform::proofs::Kept::acts_adds))]
 fn rouse_next(after: u64, main: &mut Option<StageContinuation>, cx: &mut Cx) -> bool
     requires turn { cx.old.log.state.held ≡ true }
     ensures within { ActsWithin 1 cx.old cx.new }
@@ -27,6 +29,7 @@ fn rouse_next(after: u64, main: &mut Option<StageContinuation>, cx: &mut Cx) -> 
     ensures rouses { HasRousedNext result main.old main.new cx.old cx.new }
     ensures spent { GREATEST ≤ cx.old.log.state.next → HasLiveIf cx.old.log.state.live main.old → result ≡ true }
 {
+    cx.known();
     let Err(fault) = rouse(main, after, cx) else {
         return true;
     };
@@ -56,7 +59,9 @@ pub fn go_to<P: Drop>(
     requires turn { cx.old.log.state.held ≡ true }
     ensures course { StaysOnOrLacks course result }
     ensures within { ActsWithin 1 cx.old cx.new }
-    ensures seated { KeepsSeated (main.old ∷ []) (main.new ∷ []) cx.old cx.new }
+    ensures due { SetsOnly (IsDueAfter after cx.old.moment) cx.old cx.new }
+    ensures spent { GREATEST ≤ cx.old.log.state.next → HasLiveIf cx.old.log.state.live main.old → result ≡ course }
+    ensures covered { GoesAlone course → CoversAlone main.old main.new result cx.old cx.new }
 {
     if rouse_next(after, main, cx) {
         return course;
@@ -65,7 +70,6 @@ pub fn go_to<P: Drop>(
 }
 
 /// Where a transaction is after a step of a body: one that is left is closed.
-#[tactic(auto, using(ts_transform::proofs::Kept::acts_none))]
 pub fn leave<P: Transform + Drop>(
     relay: Relay<P>,
     step: BodyStep,
@@ -74,7 +78,9 @@ pub fn leave<P: Transform + Drop>(
 ) -> Course<P>
     requires turn { cx.old.log.state.held ≡ true }
     ensures course { StaysOnOrLacks (course_after relay step) result }
-    ensures within { ActsWithin 1 cx.old cx.new }
+    ensures within { ActsWithin (set_leaving step) cx.old cx.new }
+    ensures due { SetsOnly (IsDueAfter 0 cx.old.moment) cx.old cx.new }
+    ensures covered { CoversLed step relay main.old main.new result cx.old cx.new }
 {
     match step {
         BodyStep::Goes => Course::Relaying(relay),
@@ -105,6 +111,8 @@ pub fn write_on<P: Drop>(
     requires turn { cx.old.log.state.held ≡ true }
     ensures course { StaysOnOrLacks (finish_after end step) result }
     ensures within { ActsWithin 1 cx.old cx.new }
+    ensures due { SetsOnly (IsDueAfter (pause_of step) cx.old.moment) cx.old cx.new }
+    ensures covered { CoversAlone main.old main.new result cx.old cx.new }
 {
     match step {
         BodyStep::Goes => go_to(Course::Finishing { end }, 0, main, cx),
@@ -122,7 +130,9 @@ pub fn write_on<P: Drop>(
 pub fn step_on<P: Drop>(step: Step, main: &mut Option<StageContinuation>, cx: &mut Cx) -> Course<P>
     requires turn { cx.old.log.state.held ≡ true }
     ensures course { StaysOnOrLacks (Course.Phased step.phase) result }
-    ensures within { ActsWithin 1 cx.old cx.new }
+    ensures within { ActsWithin (set_after step.next) cx.old cx.new }
+    ensures due { SetsOnly (IsDueAfter (delay_of step.next) cx.old.moment) cx.old cx.new }
+    ensures covered { StepLeads step → CoversAlone main.old main.new result cx.old cx.new }
 {
     let Step { phase, next } = step;
     match next {
