@@ -22,6 +22,7 @@ pub mod Leaving
 pub mod Lowering
 pub mod LoweringAnswers
 pub mod LoweringBody
+pub mod LoweringCourse
 pub mod LoweringEntry
 pub mod LoweringEvents
 pub mod LoweringHeads
@@ -29,6 +30,7 @@ pub mod LoweringLeads
 pub mod LoweringPays
 pub mod LoweringRelay
 pub mod LoweringResponse
+pub mod LoweringRest
 pub mod LoweringStages
 pub mod LoweringStands
 pub mod LoweringSteps

@@ -43,7 +43,7 @@ stages_within (s ∷ ss) [] n few = absurd (omega (arith, few))
 stages_within (s ∷ ss) (l ∷ ls) n few = let rest : stage_passes ss n ≤ passes ls n = stages_within ss ls n (omega (arith, few)) in omega (arith, rest)
 
 -- what was queued calls no link
-queues_same : (v w : View) (text cuts : List ℕ) → QueuesText text cuts v w → AgainsFall false (agains_left v) (agains_left w)
+pub queues_same : (v w : View) (text cuts : List ℕ) → QueuesText text cuts v w → AgainsFall false (agains_left v) (agains_left w)
 queues_same v w text cuts queues =
     subst (λ (s : LinkSide). AgainsFall false (agains_left v) (both w.client.look.agains s.look.agains)) (sym queues.origin)
     (subst (λ (s : LinkSide). AgainsFall false (agains_left v) (both s.look.agains v.origin.look.agains)) (sym queues.client) (none_fall (agains_left v)))

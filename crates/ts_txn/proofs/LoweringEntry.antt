@@ -83,7 +83,7 @@ module _ {P : Type 0} (setup : Setup) (rest : P → List ℕ → List ℕ) (ms :
       same_count rest [] [] of = refl
       same_count rest [] (p ∷ ps) of = absurd of
       same_count rest (l ∷ ls) [] of = absurd of
-      same_count rest (l ∷ ls) (p ∷ ps) of = ap (λ (n : ℕ). n + 1) (same_count rest ls ps of.1)
+      same_count rest (l ∷ ls) (p ∷ ps) of = omega (arith, same_count rest ls ps of.1)
       few_stages : (stages parts less all : ℕ) → stages ≡ parts → parts ≡ less → less ≤ all → stages ≤ all
       few_stages stages parts less all len same few = omega (arith, len, same, few)
       room_sum : (left passed stages parts room : ℕ) → left ≡ passed → stages ≡ parts → passed + parts ≤ room → left + stages ≤ room

@@ -13,6 +13,7 @@ use Rattle.ts_group.specs.Answers.{Falls}
 use Rattle.ts_group.specs.Context.{Context}
 use Rattle.ts_group.specs.Entries.{AllOwn, Grows}
 use Rattle.ts_link.specs.Link.{Fewer, NoMore}
+use Rattle.ts_txn.specs.CourseCover.{set_after}
 use Rattle.ts_txn.specs.Lowering.{StepFalls, events_paid, if_told, number_left}
 use Rattle.ts_txn.specs.declared.phase.Next.{Next}
 use Rattle.ts_txn.specs.declared.phase.Next.TheVariants as N
@@ -84,12 +85,6 @@ handled_falls before after now (Some x) None handled paid = absurd paid
 handled_falls before after now (Some x) (Some x') handled paid = omega (arith, handled, paid)
 
 -- ---- the step of a phase
-
--- so many events are set at most where a step leads
-abbrev pub set_after : Next → ℕ
-set_after N.Go = 1
-set_after N.Wait = 1
-set_after N.Done = 0
 
 one_paid : (a b : ℕ) → a ≤ b + 1 → a + 0 ≤ b + events_paid
 one_paid a b few = omega (arith, few)

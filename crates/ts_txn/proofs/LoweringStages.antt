@@ -13,10 +13,13 @@ use Rattle.ts_transform.specs.declared.continuation.StageContinuation.{StageCont
 use Rattle.ts_transform.specs.declared.pump.Pumped.{Pumped}
 use Rattle.ts_transform.specs.declared.pump.Pumped.TheVariants.{Moved, Ended, Blocked, Idle}
 use Rattle.ts_transform.specs.declared.pump.Stage.{Stage}
+use Rattle.ts_config.specs.declared.setup.Setup.{Setup}
 use Rattle.ts_transform.proofs.Acting.{nothing_more}
 use Rattle.ts_transform.proofs.Covering.{moved-some}
 use Rattle.ts_transform.proofs.Moving.{stepped-less}
 use Rattle.ts_transform.proofs.PassedErrors.{errors_same, gone_fewer, passed_less, passed_same}
+use Rattle.ts_txn.specs.LoweringBody.{IsOfLines}
+use Rattle.ts_txn.proofs.InsertedStages.{pumped_lines}
 
 -- ---- a stage worked, or the chain is as it was
 
@@ -137,3 +140,19 @@ module _ {P : Type 0} (rest : P → List ℕ → List ℕ) (c d : ChainState P) 
       by_work (inr less) = inl (more_done (left_to_do rest c []) (left_to_do rest d []) (errors_to_pass ts) (errors_to_pass us) less fewer)
       by_work (inl same) = by_still same (still_sum (left_to_do rest c []) (left_to_do rest d []) (errors_to_pass ts) (errors_to_pass us) (length a.log.state.pending) (length b.log.state.pending)
           (ap (λ (x : ChainState P). left_to_do rest x []) same) fewer (gives.pays [] (nothing_more c.given)))
+
+-- ---- the chain stays one of the configuration's
+
+pub handled_lines : {P : Type 0} (setup : Setup) (rest : P → List ℕ → List ℕ) (c d : ChainState P) → PumpsOnce rest c d → IsOfLines setup rest c → IsOfLines setup rest d
+handled_lines {P} setup rest c d (inl same) of = subst (λ (x : ChainState P). IsOfLines setup rest x) (sym same) of
+handled_lines setup rest c d (inr (at, p)) of = pumped_lines setup rest at c d p (stepped_len rest p.pumped c.first c.stages at d.first d.stages p.steps) of
+  where
+    stepped_len : {P : Type 0} (rest : P → List ℕ → List ℕ) (r : Pumped) (from : List ℕ) (ss : List (Stage P)) (at : ℕ) (from' : List ℕ) (ss' : List (Stage P)) → StepsAt rest from ss at r from' ss' → length ss' ≡ length ss
+    stepped_len rest r from [] at from' ss' steps = absurd steps
+    stepped_len {P} rest r from (s ∷ ss) at from' [] steps = absurd (by_place at steps)
+      where
+        by_place : (at : ℕ) → StepsAt rest from (s ∷ ss) at r from' [] → ⊥
+        by_place zero h = h
+        by_place (suc at) h = h
+    stepped_len {P} rest r from (s ∷ ss) zero from' (s' ∷ ss') steps = let same : length ss' ≡ length ss = ap length steps.1 in omega (arith, same)
+    stepped_len rest r from (s ∷ ss) (suc at) from' (s' ∷ ss') steps = let behind : length ss' ≡ length ss = stepped_len rest r s.after ss at s'.after ss' steps.2 in omega (arith, behind)

@@ -1,6 +1,6 @@
 -- What a transaction that passes a body on has left to do: what is left to read passes a chain, which pays for what its
 -- stages set; and what is framed is written.
-use Rattle.std.specs.Prelude.{◌≡◌, ◌≤◌, ◌⊎◌, ℕ, ◌+◌, ◌*◌, List, [], length, Bool, Option, Some}
+use Rattle.std.specs.Prelude.{◌≡◌, ◌≤◌, ◌⊎◌, ℕ, ◌+◌, ◌*◌, List, [], length, Bool, Option, Some, if◌then◌else◌}
 use Rattle.ts_config.specs.declared.setup.Setup.{Setup}
 use Rattle.ts_group.specs.Answers.{Falls}
 use Rattle.ts_group.specs.Context.{Context}
@@ -9,6 +9,8 @@ use Rattle.ts_transform.specs.Driving.{errors_to_pass}
 use Rattle.ts_transform.specs.Flow.{ChainState, left_to_do}
 use Rattle.ts_transform.specs.Stage.{to_end}
 use Rattle.ts_transform.specs.declared.continuation.StageContinuation.{StageContinuation}
+use Rattle.ts_transform.specs.declared.driven.DrivenChain.{DrivenChain}
+use Rattle.ts_txn.specs.CourseCover.{set_leaving}
 use Rattle.ts_txn.specs.Duties.{IsBodyCovered, WhileGoes}
 use Rattle.ts_txn.specs.Holding.{IfTold}
 use Rattle.ts_txn.specs.Inserted.{AllAddNoMore}
@@ -49,9 +51,13 @@ close_left v = if_told (agains_left v) (Some 0) (λ again upload. 1)
 abbrev pub ended_left : View → Option ℕ
 ended_left v = if_told (agains_left v) (Some 0) (λ again upload. 0)
 
+-- how many errors its stages may pass on: none, once it runs no more, since no event can be set then
+abbrev pub errors_left : {P : Type 0} → DrivenChain P → ℕ
+errors_left d = if d.running then errors_to_pass d.table.items else 0
+
 module _ {P : Type 0} (setup : Setup) (rest : P → List ℕ → List ℕ) where
   abbrev pub relay_left : View → Relay P → Option ℕ
-  relay_left v r = body_left setup rest (errors_to_pass r.driven.table.items) v r.driven.chain
+  relay_left v r = body_left setup rest (errors_left r.driven) v r.driven.chain
 
   -- before its stages have continuations each of them may pass an error on
   abbrev pub unbegun_left : View → Relay P → Option ℕ
@@ -111,12 +117,6 @@ rest_after S.Waits v = finish_left v
 rest_after (S.Finishes end) v = finish_left v
 rest_after (S.Closes end) v = close_left v
 rest_after S.Lacks v = ended_left v
-
--- how many events are set where a body is left
-abbrev pub set_leaving : BodyStep → ℕ
-set_leaving S.Goes = 0
-set_leaving S.Waits = 0
-set_leaving step = 1
 
 -- An event that was handled while a body is passed on raised the number of its transaction by none of the events that it
 -- set, where both links tell; and where the body is left, it pays for the event that is set then.

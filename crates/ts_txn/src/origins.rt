@@ -26,7 +26,6 @@ use ts_vconn::Pushed;
 use ts_wire::plugin_host;
 
 /// Whether a deny line denies the host of the request.
-#[tactic(auto, using(crate::proofs::LoweringPays::stage_pays, crate::proofs::LoweringPays::end_pays, crate::proofs::LoweringEntry::fresh_has_room, crate::proofs::LoweringStages::stage_did, crate::proofs::LoweringEvents::step_pays))]
 fn is_host_denied(alloc: Global, setup: &Setup, request: &Request) -> Result<bool, NoMemory>
     ensures { IfOk result (λ denied. denied
         ≡ is_denied setup.now.plugins.items (plugin_host request.now.host)) }

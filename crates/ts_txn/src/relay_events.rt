@@ -1,6 +1,8 @@
 //! The events of the continuations while a body is passed on: each step, and then both ends are roused that
 // must work.
 ghost use Rattle.std.specs.Prelude.{◌≡◌, ◌≢◌, true, false};
+ghost use Rattle.std.specs.Arc.{arc_value};
+ghost use Rattle.ts_txn.specs.LoweringBody.{PaysBody};
 ghost use Rattle.ts_txn.specs.View.{view_of};
 ghost use Rattle.ts_txn.specs.Relaying.{RelayHolds, RelayLeads};
 ghost use Rattle.ts_transform.specs.Flow.{OnlyFirstWorks};
@@ -83,6 +85,8 @@ impl<C: Link, O: Upstream<C>> Core<C, O> {
             (view_of C.look O.look self.new) main.old main.new relay.old relay.new cx.old cx.new }
         ensures links { HandlesLinks C.tells O.tells (view_of C.look O.look self.old)
             (view_of C.look O.look self.new) main.old relay.old relay.new result cx.old cx.new }
+        ensures pays { PaysBody C.tells O.tells (arc_value self.old.setup) P.rest result
+            (view_of C.look O.look self.old) (view_of C.look O.look self.new) main.old relay.old relay.new cx.old cx.new }
     {
         if !works(event) {
             return BodyStep::Goes;
@@ -110,6 +114,8 @@ impl<C: Link, O: Upstream<C>> Core<C, O> {
             (view_of C.look O.look self.new) main.old main.new relay.old relay.new cx.old cx.new }
         ensures links { HandlesLinks C.tells O.tells (view_of C.look O.look self.old)
             (view_of C.look O.look self.new) main.old relay.old relay.new result cx.old cx.new }
+        ensures pays { PaysBody C.tells O.tells (arc_value self.old.setup) P.rest result
+            (view_of C.look O.look self.old) (view_of C.look O.look self.new) main.old relay.old relay.new cx.old cx.new }
     {
         if !works(event) {
             return BodyStep::Goes;
@@ -138,6 +144,8 @@ impl<C: Link, O: Upstream<C>> Core<C, O> {
             (view_of C.look O.look self.now) main.old main.new relay.old relay.new cx.old cx.new }
         ensures links { HandlesLinks C.tells O.tells (view_of C.look O.look self.now)
             (view_of C.look O.look self.now) main.old relay.old relay.new result cx.old cx.new }
+        ensures pays { PaysBody C.tells O.tells (arc_value self.now.setup) P.rest result
+            (view_of C.look O.look self.now) (view_of C.look O.look self.now) main.old relay.old relay.new cx.old cx.new }
     {
         cx.known();
         let step = step_after(relay.driven.handle(FIRST, role, event, cx));
@@ -162,6 +170,8 @@ impl<C: Link, O: Upstream<C>> Core<C, O> {
             (view_of C.look O.look self.new) main.old main.new relay.old relay.new cx.old cx.new }
         ensures links { HandlesLinks C.tells O.tells (view_of C.look O.look self.old)
             (view_of C.look O.look self.new) main.old relay.old relay.new result cx.old cx.new }
+        ensures pays { PaysBody C.tells O.tells (arc_value self.old.setup) P.rest result
+            (view_of C.look O.look self.old) (view_of C.look O.look self.new) main.old relay.old relay.new cx.old cx.new }
     {
         if role == MAIN {
             return self.send_at(main, relay, event, cx);
