@@ -92,7 +92,7 @@ module _ (ct ot : Bool) (setup : Setup) (v w : View) (u u' : Option ℕ) (rose :
   asks_passes q passes hears told also =
       let h = subst (λ (b : Bool). HearsRequest b v w (F.Head q.head)) told hears in
       asked setup v w u u' (rose_client (F.Head q.head) h) q.head q
-          (request_fits setup v.client.inbox w.client.inbox q.head q.target q.host h.finds.0 passes) h
+      (request_fits setup v.client.inbox w.client.inbox q.head q.target q.host h.finds.0 passes) h
 
   pub asks_own : (found : Found RequestHead) (a : OwnAnswer) → HearsRequest ct v w found
       → IfTold ct ot (StepLowers setup P.ReadRequest u u' v w (record { phase = P.SendResponseHdr a; next = N.Go }))
@@ -223,7 +223,7 @@ module _ (ct ot : Bool) (setup : Setup) (v w : View) (u u' : Option ℕ) (rose :
       → IfTold ct ot (StepLowers setup (P.SendResponseHdr a) u u' v w (record { phase = P.Sending a; next = N.Go }))
   queues_own a head body queues head_is body_is told also =
       own_text_queued setup v w u u' a (rose_none v w u u' (ap (λ (s : LinkSide). s.look.taken) queues.origin) rose)
-          (subst (λ (xs : List ℕ). QueuesOwn xs (own_sent a.to_head a.status) v w) head_is (subst (λ (xs : List ℕ). QueuesOwn head xs v w) body_is queues))
+      (subst (λ (xs : List ℕ). QueuesOwn xs (own_sent a.to_head a.status) v w) head_is (subst (λ (xs : List ℕ). QueuesOwn head xs v w) body_is queues))
 
   -- ---- nothing moved
 

@@ -72,10 +72,10 @@ module _ {P : Type 0} (setup : Setup) (rest : P → List ℕ → List ℕ) (erro
     reads_on p reads some =
         let came : to_hear setup w.origin + least_came p ≤ to_hear setup v.origin = comes_hear setup v.origin w.origin (least_came p) (read_comes v.origin w.origin p reads.origin) in
         let calm = origin_calm setup (pull_again p) v w w.origin reads.others reads.origin.pulls.pulls.calls.agains
-            (less_plus setup (to_hear setup w.origin) (to_hear setup v.origin) (least_came p) came) in
+        (less_plus setup (to_hear setup w.origin) (to_hear setup v.origin) (least_came p) came) in
         body_falls (pull_again p) v w c c calm.again (λ x x' again.
-            read_next end_room (one_if (pull_again p)) (least_came p) x x' (length v.client.outbox) (length w.client.outbox) (to_hear setup v.origin) (to_hear setup w.origin)
-                (chain_work setup rest errors c) (to_end c.given) again calm.out came some)
+        read_next end_room (one_if (pull_again p)) (least_came p) x x' (length v.client.outbox) (length w.client.outbox) (to_hear setup v.origin) (to_hear setup w.origin)
+        (chain_work setup rest errors c) (to_end c.given) again calm.out came some)
 
     -- some of it went, or there was an Again
     pub writes_on : (p : Pushed) → WritesClient true v w p → 1 ≤ least_went p + one_if (push_again p)
@@ -83,10 +83,10 @@ module _ {P : Type 0} (setup : Setup) (rest : P → List ℕ → List ℕ) (erro
     writes_on p writes some =
         let went : length w.client.outbox + least_went p ≤ length v.client.outbox = went_some p v.client.outbox w.client.outbox writes.client.pushes.went in
         let calm = client_calm setup (push_again p) v w w.client writes.others writes.client.pushes.calls.agains
-            (less_plus setup (length w.client.outbox) (length v.client.outbox) (least_went p) went) in
+        (less_plus setup (length w.client.outbox) (length v.client.outbox) (least_went p) went) in
         body_falls (push_again p) v w c c calm.again (λ x x' again.
-            write_next end_room (one_if (push_again p)) (least_went p) x x' (length v.client.outbox) (length w.client.outbox) (to_hear setup v.origin) (to_hear setup w.origin)
-                (chain_work setup rest errors c) (to_end c.given) again went calm.hear some)
+        write_next end_room (one_if (push_again p)) (least_went p) x x' (length v.client.outbox) (length w.client.outbox) (to_hear setup v.origin) (to_hear setup w.origin)
+        (chain_work setup rest errors c) (to_end c.given) again went calm.hear some)
 
   -- ---- a part of the body is given to the chain
 
@@ -100,13 +100,14 @@ module _ {P : Type 0} (setup : Setup) (rest : P → List ℕ → List ℕ) (erro
       let same : length w.origin.look.left ≡ left = ap (λ (x : View). length x.origin.look.left) drains in
       let len : length v.origin.inbox ≡ length piece + held = ap length taken ∙ length-append piece w.origin.inbox in
       let all : passes ls (left + length v.origin.inbox) ≡ passes ls (length piece) + passes ls (left + held) =
-          ap (passes ls) (turned left (length piece) held (length v.origin.inbox) len) ∙ passes_sum ls (length piece) (left + held) in
+      ap (passes ls) (turned left (length piece) held (length v.origin.inbox) len) ∙ passes_sum ls (length piece) (left + held) in
       let also : passes ls (length w.origin.look.left + held) ≡ passes ls (left + held) = ap (λ (k : ℕ). passes ls (k + held)) same in
       drained_sum left (length w.origin.look.left) held (length v.origin.inbox) (length piece) (passes ls (left + length v.origin.inbox)) (passes ls (length piece))
-          (passes ls (left + held)) (passes ls (length w.origin.look.left + held)) same len all also
+      (passes ls (left + held)) (passes ls (length w.origin.look.left + held)) same len all also
     where
       turned : (left piece held all : ℕ) → all ≡ piece + held → left + all ≡ piece + (left + held)
       turned left piece held all len = omega (arith, len)
+
       drained_sum : (left left' held all piece passed more was now : ℕ) → left' ≡ left → all ≡ piece + held → passed ≡ more + was → now ≡ was
           → pump_weight * now + 2 * left' + held + pump_weight * more + piece ≤ pump_weight * passed + 2 * left + all
       drained_sum left left' held all piece passed more was now same len sum also = omega (arith, same, len, sum, also)
@@ -117,13 +118,13 @@ module _ {P : Type 0} (setup : Setup) (rest : P → List ℕ → List ℕ) (erro
   given_more c d part lines stages first =
       let put = inserted_append (length part) c.first (c.first ++ part) [] (inserted_behind c.first part) in
       let more : passing rest c.stages ((c.first ++ part) ++ []) ≤ passing rest c.stages (c.first ++ []) + stage_passes c.stages (length part) =
-          passing_more rest c.stages lines.adds (length part) (c.first ++ []) ((c.first ++ part) ++ []) put in
+      passing_more rest c.stages lines.adds (length part) (c.first ++ []) ((c.first ++ part) ++ []) put in
       let within : stage_passes c.stages (length part) ≤ passes setup.transforms.items (length part) =
-          stages_within c.stages setup.transforms.items (length part) lines.few in
+      stages_within c.stages setup.transforms.items (length part) lines.few in
       let same : left_to_do rest d [] ≡ passing rest c.stages ((c.first ++ part) ++ []) =
-          ap (λ (ss : List (Stage P)). passing rest ss (d.first ++ [])) stages ∙ ap (λ (xs : List ℕ). passing rest c.stages (xs ++ [])) first in
+      ap (λ (ss : List (Stage P)). passing rest ss (d.first ++ [])) stages ∙ ap (λ (xs : List ℕ). passing rest c.stages (xs ++ [])) first in
       more_sum (left_to_do rest d []) (passing rest c.stages ((c.first ++ part) ++ [])) (passing rest c.stages (c.first ++ [])) (stage_passes c.stages (length part))
-          (passes setup.transforms.items (length part)) same more within
+      (passes setup.transforms.items (length part)) same more within
     where
       more_sum : (now was before step most : ℕ) → now ≡ was → was ≤ before + step → step ≤ most → now ≤ before + most
       more_sum now was before step most same more within = omega (arith, same, more, within)
@@ -141,10 +142,10 @@ module _ {P : Type 0} (setup : Setup) (rest : P → List ℕ → List ℕ) (erro
       let again : AgainsFall false (agains_left v) (agains_left w) = subst (λ (x : View). AgainsFall false (agains_left v) (agains_left x)) (sym drains) (none_fall (agains_left v)) in
       let out : length w.client.outbox ≡ length v.client.outbox = ap (λ (x : View). length x.client.outbox) drains in
       body_falls false v w c d again (λ x x' less.
-          subst (λ (n : ℕ). end_room + (x' + n) + to_hear setup w.origin + chain_work setup rest errors d + to_end d.given < body_work setup rest errors x v c) (sym out)
-          (fed_next end_room (one_if false) x x' (length v.client.outbox) (to_hear setup v.origin) (to_hear setup w.origin) (left_to_do rest c []) (left_to_do rest d []) errors
-              (passes ls (length part)) (passes ls (length piece)) (length piece) (to_end c.given) (to_end d.given) less (drained v w drains piece taken)
-              (given_more c d part lines stages first) (passes_less ls (length part) (length piece) fits) some))
+      subst (λ (n : ℕ). end_room + (x' + n) + to_hear setup w.origin + chain_work setup rest errors d + to_end d.given < body_work setup rest errors x v c) (sym out)
+      (fed_next end_room (one_if false) x x' (length v.client.outbox) (to_hear setup v.origin) (to_hear setup w.origin) (left_to_do rest c []) (left_to_do rest d []) errors
+      (passes ls (length part)) (passes ls (length piece)) (length piece) (to_end c.given) (to_end d.given) less (drained v w drains piece taken)
+      (given_more c d part lines stages first) (passes_less ls (length part) (length piece) fits) some))
 
   -- ---- the chain's input ends
 
@@ -155,9 +156,9 @@ module _ {P : Type 0} (setup : Setup) (rest : P → List ℕ → List ℕ) (erro
       → Fewer (body_left setup rest errors v c) (body_left setup rest errors w d)
   closes v w c d calm out going is = subst (λ (e : ChainState P). Fewer (body_left setup rest errors v c) (body_left setup rest errors w e)) (sym is)
       (body_falls false v w c (record c { given = true }) calm.again (λ x x' again.
-          subst (λ (n : ℕ). end_room + (x' + n) + to_hear setup w.origin + chain_work setup rest errors (record c { given = true }) + 0 < body_work setup rest errors x v c) (sym out)
-          (closed_next end_room (one_if false) x x' (length v.client.outbox) (to_hear setup v.origin) (to_hear setup w.origin) (chain_work setup rest errors c)
-              (chain_work setup rest errors (record c { given = true })) (to_end c.given) again calm.hear refl (ap to_end going))))
+      subst (λ (n : ℕ). end_room + (x' + n) + to_hear setup w.origin + chain_work setup rest errors (record c { given = true }) + 0 < body_work setup rest errors x v c) (sym out)
+      (closed_next end_room (one_if false) x x' (length v.client.outbox) (to_hear setup v.origin) (to_hear setup w.origin) (chain_work setup rest errors c)
+      (chain_work setup rest errors (record c { given = true })) (to_end c.given) again calm.hear refl (ap to_end going))))
 
   -- ---- a piece is framed
 
@@ -174,9 +175,9 @@ module _ {P : Type 0} (setup : Setup) (rest : P → List ℕ → List ℕ) (erro
       let len : length w.client.outbox ≡ length v.client.outbox + length frame = ap length frames.adds.outbox ∙ length-append v.client.outbox frame in
       let again : AgainsFall false (agains_left v) (agains_left w) = queues_same v w (frame_of v.sent.mode piece) (length piece ∷ []) frames in
       body_falls false v w c d again (λ x x' less.
-          framed_next end_room (one_if false) x x' (length v.client.outbox) (length w.client.outbox) (length frame) (length piece) (to_hear setup v.origin) (to_hear setup w.origin)
-              (left_to_do rest c []) (left_to_do rest d []) errors (to_end c.given) (to_end d.given) less len (length-frame_of v.sent.mode piece is) is.0
-              (ap (to_hear setup) frames.origin) (takes.falls []) (ap to_end takes.given))
+      framed_next end_room (one_if false) x x' (length v.client.outbox) (length w.client.outbox) (length frame) (length piece) (to_hear setup v.origin) (to_hear setup w.origin)
+      (left_to_do rest c []) (left_to_do rest d []) errors (to_end c.given) (to_end d.given) less len (length-frame_of v.sent.mode piece is) is.0
+      (ap (to_hear setup) frames.origin) (takes.falls []) (ap to_end takes.given))
 
   -- ---- the end of the body is framed
 
@@ -193,8 +194,8 @@ module _ {P : Type 0} (setup : Setup) (rest : P → List ℕ → List ℕ) (erro
       let len : length w.client.outbox ≡ length v.client.outbox + length end = ap length frames.adds.outbox ∙ length-append v.client.outbox end in
       let again : AgainsFall false (agains_left v) (agains_left w) = queues_same v w (end_of v.sent.mode) [] frames in
       told_fewer (λ x y. body_work setup rest errors x v c) (λ x y. 2 + (x + length w.client.outbox)) false 0 (agains_left v) (agains_left w) (Some 0) (Some 0) again (omega arith)
-          (λ x x' y y' less upload. ended_next (one_if false) x x' (length v.client.outbox) (length w.client.outbox) (length end) (to_hear setup v.origin) (chain_work setup rest errors c)
-              (to_end c.given) less len (end_few v.sent.mode))
+      (λ x x' y y' less upload. ended_next (one_if false) x x' (length v.client.outbox) (length w.client.outbox) (length end) (to_hear setup v.origin) (chain_work setup rest errors c)
+      (to_end c.given) less len (end_few v.sent.mode))
 
   -- ---- the body is left
 

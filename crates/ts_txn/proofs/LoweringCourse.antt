@@ -103,10 +103,10 @@ module _ {Q : Type 0} (setup : Setup) (rest : Q → List ℕ → List ℕ) where
   body_led step r result w upload before mid now m (inl same) paid few =
       subst (λ (c : Course Q). Falls (number_left before m) 0 (number_left now (course_left setup rest upload w c))) (sym same)
       (subst (λ (n : Option ℕ). Falls (number_left before m) 0 (number_left now n)) (sym (course_after_left step r w upload))
-          (paid_then before mid now m (left_after setup rest step w r) (set_leaving step) 0 paid (plus_none (length now) (length mid) (set_leaving step) few)))
+      (paid_then before mid now m (left_after setup rest step w r) (set_leaving step) 0 paid (plus_none (length now) (length mid) (set_leaving step) few)))
   body_led step r result w upload before mid now m (inr lacks) paid few =
       subst (λ (c : Course Q). Falls (number_left before m) 0 (number_left now (course_left setup rest upload w c))) (sym lacks)
-          (after_ended step r w before mid now m (set_leaving step) paid few)
+      (after_ended step r w before mid now m (set_leaving step) paid few)
 
   -- the chain stays one of the configuration's
   pub lines_led : (step : BodyStep) (r s : Relay Q) (result : Course Q) → WhileGoes step (StaysOfLines setup rest r s) → IsOfLines setup rest r.driven.chain → StaysOnOrLacks (course_after s step) result
@@ -124,11 +124,11 @@ module _ {Q : Type 0} (setup : Setup) (rest : Q → List ℕ → List ℕ) where
       → Fewer (work_left setup upload v (P.ResponseTransform q h)) (unbegun_left setup rest w r) → NoMore (unbegun_left setup rest w r) (left_after setup rest step w s)
       → length mid ≤ length before + 4 → StaysOnOrLacks (course_after s step) result → length now ≤ length mid + set_leaving step
       → Falls (number_left before (work_left setup upload v (P.ResponseTransform q h))) 0 (number_left now (course_left setup rest upload_then w result))
-  begun_led q h step r s result v w upload upload_then before mid now fell kept few led then =
+  begun_led q h step r s result v w upload upload_then before mid now fell kept few led behind =
       body_led step s result w upload_then before mid now (work_left setup upload v (P.ResponseTransform q h)) led
-          (paid_fewer before mid (work_left setup upload v (P.ResponseTransform q h)) (left_after setup rest step w s) (set_leaving step)
-              (fewer_then (work_left setup upload v (P.ResponseTransform q h)) (unbegun_left setup rest w r) (left_after setup rest step w s) fell kept)
-              (five_paid (length before) (length mid) (set_leaving step) few (set_one step))) then
+      (paid_fewer before mid (work_left setup upload v (P.ResponseTransform q h)) (left_after setup rest step w s) (set_leaving step)
+      (fewer_then (work_left setup upload v (P.ResponseTransform q h)) (unbegun_left setup rest w r) (left_after setup rest step w s) fell kept)
+      (five_paid (length before) (length mid) (set_leaving step) few (set_one step))) behind
 
   -- memory lacked for its head
   pub not_begun : (q : Request) (h : ResponseHead) (v w : View) (upload upload_then : Option ℕ) (before now : List Pending) → w.client.look.agains ≡ v.client.look.agains
@@ -139,12 +139,14 @@ module _ {Q : Type 0} (setup : Setup) (rest : Q → List ℕ → List ℕ) where
     where
       phase_work_of : View → ℕ → ℕ
       phase_work_of v x = phase_work setup x 0 v (P.ResponseTransform q h)
+
       zero_more : (m m' : Option ℕ) (f : ℕ → ℕ) → m' ≡ m → NoMore (if_told m (Some 0) (λ x y. f x)) (if_told m' (Some 0) (λ x y. 0))
       zero_more None m' f same = tt
       zero_more (Some x) m' f same = subst (λ (n : Option ℕ). NoMore (Some (f x)) (if_told n (Some 0) (λ x y. 0))) (sym same) (zero_least (f x))
         where
           zero_least : (n : ℕ) → 0 ≤ n
           zero_least n = omega arith
+
       same_agains : (v w : View) → w.client.look.agains ≡ v.client.look.agains → w.origin.look.agains ≡ v.origin.look.agains → agains_left w ≡ agains_left v
       same_agains v w client origin = rw (client, origin) refl
 
@@ -170,10 +172,10 @@ module _ {Q : Type 0} (setup : Setup) (rest : Q → List ℕ → List ℕ) where
   finish_led end step result v w upload before now (inl same) fell few =
       subst (λ (c : Course Q). Falls (number_left before (finish_left v)) 0 (number_left now (course_left setup rest upload w c))) (sym same)
       (subst (λ (n : Option ℕ). Falls (number_left before (finish_left v)) 0 (number_left now n)) (sym (finish_after_left end step w upload))
-          (paid_fewer before now (finish_left v) (rest_after step w) 0 fell (one_paid (length now) (length before) few)))
+      (paid_fewer before now (finish_left v) (rest_after step w) 0 fell (one_paid (length now) (length before) few)))
   finish_led end step result v w upload before now (inr lacks) fell few =
       subst (λ (c : Course Q). Falls (number_left before (finish_left v)) 0 (number_left now (course_left setup rest upload w c))) (sym lacks)
-          (paid_fewer before now (finish_left v) (ended_left w) 0 (rest_ended step (finish_left v) w fell) (one_paid (length now) (length before) few))
+      (paid_fewer before now (finish_left v) (ended_left w) 0 (rest_ended step (finish_left v) w fell) (one_paid (length now) (length before) few))
 
   -- ---- the step of a phase
 
@@ -182,11 +184,11 @@ module _ {Q : Type 0} (setup : Setup) (rest : Q → List ℕ → List ℕ) where
       → Falls (number_left before (work_left setup upload v p)) 0 (number_left now (course_left setup rest upload_then w result))
   phase_led p step result v w upload upload_then before now (inl same) fell few =
       subst (λ (c : Course Q). Falls (number_left before (work_left setup upload v p)) 0 (number_left now (course_left setup rest upload_then w c))) (sym same)
-          (step_pays before now step.next (work_left setup upload v p) (work_left setup upload_then w step.phase) fell few)
+      (step_pays before now step.next (work_left setup upload v p) (work_left setup upload_then w step.phase) fell few)
   phase_led p step result v w upload upload_then before now (inr lacks) fell few =
       subst (λ (c : Course Q). Falls (number_left before (work_left setup upload v p)) 0 (number_left now (course_left setup rest upload_then w c))) (sym lacks)
-          (step_pays before now step.next (work_left setup upload v p) (ended_left w)
-              (ended_step step.next (work_left setup upload v p) (agains_left w) (upload_in upload_then step.phase) (λ x y. phase_work setup x y w step.phase) fell) few)
+      (step_pays before now step.next (work_left setup upload v p) (ended_left w)
+      (ended_step step.next (work_left setup upload v p) (agains_left w) (upload_in upload_then step.phase) (λ x y. phase_work setup x y w step.phase) fell) few)
 
 -- ---- in the group
 
@@ -211,12 +213,12 @@ module _ {C O Q : Type 0} (ct ot : Bool) (client : C → Look) (origin : O → L
   -- the event that was handled is pending no more: each event lowers the number of the transaction
   pub transaction_falls : (old new : Core C O) (course result : Course Q) (before after now : List Pending) → new.setup ≡ old.setup → length after + 1 ≡ length before
       → IfTold ct ot (Falls (number_left after (parts_left ct ot client origin left rest old course)) 0
-          (number_left now (course_left (arc_value old.setup) rest (upload_told left new.client.link new.origin) (view_of client origin new) result)))
+      (number_left now (course_left (arc_value old.setup) rest (upload_told left new.client.link new.origin) (view_of client origin new) result)))
       → Falls (transaction_left ct ot client origin left rest old course before) 1 (transaction_left ct ot client origin left rest new result now)
   transaction_falls old new course result before after now setup handled paid =
       subst (λ (s : Setup). Falls (transaction_left ct ot client origin left rest old course before) 1
-          (number_if (ct && ot) (number_left now (course_left s rest (upload_told left new.client.link new.origin) (view_of client origin new) result)))) (sym (ap arc_value setup))
+      (number_if (ct && ot) (number_left now (course_left s rest (upload_told left new.client.link new.origin) (view_of client origin new) result)))) (sym (ap arc_value setup))
       (if_both ct ot (number_left before (parts_left ct ot client origin left rest old course))
-          (number_left now (course_left (arc_value old.setup) rest (upload_told left new.client.link new.origin) (view_of client origin new) result)) 1
-          (λ told also. handled_falls before after now (parts_left ct ot client origin left rest old course)
-              (course_left (arc_value old.setup) rest (upload_told left new.client.link new.origin) (view_of client origin new) result) (less_by_one (length after) (length before) handled) (paid told also)))
+      (number_left now (course_left (arc_value old.setup) rest (upload_told left new.client.link new.origin) (view_of client origin new) result)) 1
+      (λ told also. handled_falls before after now (parts_left ct ot client origin left rest old course)
+      (course_left (arc_value old.setup) rest (upload_told left new.client.link new.origin) (view_of client origin new) result) (less_by_one (length after) (length before) handled) (paid told also)))

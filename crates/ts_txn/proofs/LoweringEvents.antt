@@ -38,10 +38,10 @@ spent_own s (Set number key event due series period ∷ es) own lawful spent =
 spent_own s (Handled number moment ∷ es) own lawful spent = absurd own.0
 spent_own s (Cancelled number ∷ es) own lawful spent =
     less_trans (length (replay (after s (Cancelled number)) es).pending) (length (without number s.pending)) (length s.pending)
-        (spent_own (after s (Cancelled number)) es own.1 lawful.1 spent) (fewer_without number s.pending lawful.0.1 lawful.0.2)
+    (spent_own (after s (Cancelled number)) es own.1 lawful.1 spent) (fewer_without number s.pending lawful.0.1 lawful.0.2)
 spent_own s (Dropped number ∷ es) own lawful spent =
     less_trans (length (replay (after s (Dropped number)) es).pending) (length (without number s.pending)) (length s.pending)
-        (spent_own (after s (Dropped number)) es own.1 lawful.1 spent) (fewer_without number s.pending lawful.0.1 lawful.0.2)
+    (spent_own (after s (Dropped number)) es own.1 lawful.1 spent) (fewer_without number s.pending lawful.0.1 lawful.0.2)
 spent_own s (Destroyed key ∷ es) own lawful spent = spent_own (after s (Destroyed key)) es own.1 lawful.1 spent
 
 pub spent_none : (a b : Context) → Grows a b → GREATEST ≤ a.log.state.next → length b.log.state.pending ≤ length a.log.state.pending

@@ -156,9 +156,9 @@ module _ {P : Type 0} (ct ot : Bool) (must : Type 0) (setup : Setup) (rest : P �
           omega (arith, ap (λ (x : Context). length x.log.state.pending) same_now)
       quiet (inr spent) idle =
           let first : length c.log.state.pending ≡ length a.log.state.pending = ap (λ (x : Context). length x.log.state.pending) idle.quiet in
-          let then : length b.log.state.pending ≤ length c.log.state.pending =
-              spent_none c b settles.adds.grows (subst (λ (x : Context). GREATEST ≤ x.log.state.next) (sym idle.quiet) spent) in
-          omega (arith, first, then)
+          let behind : length b.log.state.pending ≤ length c.log.state.pending =
+          spent_none c b settles.adds.grows (subst (λ (x : Context). GREATEST ≤ x.log.state.next) (sym idle.quiet) spent) in
+          omega (arith, first, behind)
 
       on_goes : (step : BodyStep) → step ≡ S.Goes → SettledAs step result → OnGoes result ⊤
       on_goes step is settled = subst (λ (x : BodyStep). SettledAs x result) is settled
@@ -206,6 +206,7 @@ module _ {P : Type 0} (ct ot : Bool) (setup : Setup) (rest : P → List ℕ → 
     where
       work : ℕ
       work = left_to_do rest r.driven.chain [] + errors_left r.driven
+
       work' : ℕ
       work' = left_to_do rest m.driven.chain [] + errors_left m.driven
 
@@ -216,21 +217,21 @@ module _ {P : Type 0} (ct ot : Bool) (setup : Setup) (rest : P → List ℕ → 
       less_paid less = paid_sum a.log.state.pending b.log.state.pending (agains_left v) (λ x. body_work setup rest (errors_left r.driven) x v r.driven.chain)
           (λ x. body_work setup rest (errors_left m.driven) x v m.driven.chain) 0 (λ x.
           subst (λ (g : Bool). events_paid * (end_room + (x + length v.client.outbox) + to_hear setup v.origin + pump_weight * work' + to_end g) + length b.log.state.pending + 0
-              ≤ events_paid * body_work setup rest (errors_left r.driven) x v r.driven.chain + length a.log.state.pending) (sym given)
+          ≤ events_paid * body_work setup rest (errors_left r.driven) x v r.driven.chain + length a.log.state.pending) (sym given)
           (stage_less (length a.log.state.pending) (length c.log.state.pending) (length b.log.state.pending) x (length v.client.outbox) (to_hear setup v.origin) work work' (to_end r.driven.chain.given) 0
-              less acts.few.pending settles.adds.few.pending (omega arith)))
+          less acts.few.pending settles.adds.few.pending (omega arith)))
 
       ended_paid : Paid S.Lacks
       ended_paid = paid_sum a.log.state.pending b.log.state.pending (agains_left v) (λ x. body_work setup rest (errors_left r.driven) x v r.driven.chain) (λ x. 0) 1 (λ x.
           stage_ended (length a.log.state.pending) (length c.log.state.pending) (length b.log.state.pending) x (length v.client.outbox) (to_hear setup v.origin) (pump_weight * work)
-              (to_end r.driven.chain.given) acts.few.pending settles.adds.few.pending)
+          (to_end r.driven.chain.given) acts.few.pending settles.adds.few.pending)
 
       -- no event was set, and there is no more to do
       rests_paid : work' ≤ work → length b.log.state.pending ≤ length a.log.state.pending → Paid S.Goes
       rests_paid few none = paid_sum a.log.state.pending b.log.state.pending (agains_left v) (λ x. body_work setup rest (errors_left r.driven) x v r.driven.chain)
           (λ x. body_work setup rest (errors_left m.driven) x v m.driven.chain) 0 (λ x.
           subst (λ (g : Bool). events_paid * (end_room + (x + length v.client.outbox) + to_hear setup v.origin + pump_weight * work' + to_end g) + length b.log.state.pending + 0
-              ≤ events_paid * body_work setup rest (errors_left r.driven) x v r.driven.chain + length a.log.state.pending) (sym given)
+          ≤ events_paid * body_work setup rest (errors_left r.driven) x v r.driven.chain + length a.log.state.pending) (sym given)
           (stage_rests (length a.log.state.pending) (length b.log.state.pending) x (length v.client.outbox) (to_hear setup v.origin) work work' (to_end r.driven.chain.given) few none))
 
       -- the chain is as it was, so that nobody is roused
@@ -260,10 +261,10 @@ module _ {P : Type 0} (ct ot : Bool) (setup : Setup) (rest : P → List ℕ → 
       running_paid : r.driven.running ≡ true → AreBodyEndsRoused v main r → StageDid rest r.driven.chain m.driven.chain r.driven.table.items m.driven.table.items a c → Paid S.Goes
       running_paid is_running ends (inl done) = less_paid
           (less_sum (left_to_do rest r.driven.chain []) (left_to_do rest m.driven.chain []) (errors_to_pass r.driven.table.items) (errors_to_pass m.driven.table.items) (errors_left r.driven) (errors_left m.driven)
-              done (counted r.driven.running (errors_to_pass r.driven.table.items) is_running) (at_most m.driven.running (errors_to_pass m.driven.table.items)))
+          done (counted r.driven.running (errors_to_pass r.driven.table.items) is_running) (at_most m.driven.running (errors_to_pass m.driven.table.items)))
       running_paid is_running ends (inr (same, errors, none)) = rests_paid
           (same_sum (left_to_do rest r.driven.chain []) (left_to_do rest m.driven.chain []) (errors_to_pass r.driven.table.items) (errors_to_pass m.driven.table.items) (errors_left r.driven) (errors_left m.driven)
-              (ap (λ (x : ChainState P). left_to_do rest x []) same) errors (counted r.driven.running (errors_to_pass r.driven.table.items) is_running) (at_most m.driven.running (errors_to_pass m.driven.table.items)))
+          (ap (λ (x : ChainState P). left_to_do rest x []) same) errors (counted r.driven.running (errors_to_pass r.driven.table.items) is_running) (at_most m.driven.running (errors_to_pass m.driven.table.items)))
           (quiet ends same none)
 
       both_less : (l l' f f' : ℕ) → l' ≤ l → f' ≤ f → l' + f' ≤ l + f
@@ -273,7 +274,7 @@ module _ {P : Type 0} (ct ot : Bool) (setup : Setup) (rest : P → List ℕ → 
       goes_paid (inl (is_running, ends)) did = running_paid is_running ends did
       goes_paid (inr spent) did = rests_paid
           (both_less (left_to_do rest r.driven.chain []) (left_to_do rest m.driven.chain []) (errors_left r.driven) (errors_left m.driven) less
-              (errors_fewer m.driven.running r.driven.running (errors_to_pass m.driven.table.items) (errors_to_pass r.driven.table.items) fewer runs))
+          (errors_fewer m.driven.running r.driven.running (errors_to_pass m.driven.table.items) (errors_to_pass r.driven.table.items) fewer runs))
           (spent_none a b (grows_trans acts.grows settles.adds.grows) spent)
 
       by_step : (step result : BodyStep) → OnGoes step ⊤ → SettledAs step result → IsBodyCovered v main r a.log.state.next
@@ -309,7 +310,7 @@ module _ {P : Type 0} (ct ot : Bool) (setup : Setup) (rest : P → List ℕ → 
       → SettlesAfter step result w t u m s c b → s ≡ record m { reader = s.reader } → PaysBody ct ot setup rest result v w main r s a b
   send_pays is chain lowers settles same =
       end_pays ct ot (MustSend v r.driven.chain) setup rest step result v w main t u r r m s a c b refl (λ of. of)
-          (λ free ends. record { writes = λ must. absurd (free must); reads = ends.reads }) lowers (few_two chain.adds.few) settles same
+      (λ free ends. record { writes = λ must. absurd (free must); reads = ends.reads }) lowers (few_two chain.adds.few) settles same
     where
       few_two : SetsFew 1 a c → SetsFew 2 a c
       few_two few = record { next = omega (arith, few.next); pending = omega (arith, few.pending) }
@@ -318,11 +319,11 @@ module _ {P : Type 0} (ct ot : Bool) (setup : Setup) (rest : P → List ℕ → 
       → SettlesAfter step result w t u m s c b → s ≡ record m { reader = s.reader } → PaysBody ct ot setup rest result v w main r s a b
   read_pays is same_main chain lowers settles same =
       end_pays ct ot (MustRead q.driven.chain) setup rest step result v w main t u r q m s a c b
-          (ap (λ (x : Relay P). relay_left setup rest v x) is) (λ of. subst (λ (x : Relay P). IsOfLines setup rest x.driven.chain) (sym is) of)
-          (λ free ends. record {
-            writes = λ must. subst (λ (x : Option StageContinuation). IsRousedIf x) (sym same_main) (ends.writes (subst (λ (x : Relay P). MustSend v x.driven.chain) is must));
-            reads = λ must. absurd (free must);
-          }) lowers chain.adds.few settles same
+      (ap (λ (x : Relay P). relay_left setup rest v x) is) (λ of. subst (λ (x : Relay P). IsOfLines setup rest x.driven.chain) (sym is) of)
+      (λ free ends. record {
+        writes = λ must. subst (λ (x : Option StageContinuation). IsRousedIf x) (sym same_main) (ends.writes (subst (λ (x : Relay P). MustSend v x.driven.chain) is must));
+        reads = λ must. absurd (free must);
+      }) lowers chain.adds.few settles same
 
 -- ---- a stage
 
@@ -334,6 +335,7 @@ module _ {P : Type 0} (ct ot : Bool) (setup : Setup) (rest : P → List ℕ → 
     where
       same_errors : (m n : ℕ) → m ≡ n → m ≤ n
       same_errors m n same = omega (arith, same)
+
       by_stage : ((at : ℕ) × (role ≡ FIRST + at) × IsStage r.driven.chain r.driven.table.items at) ⊎ ((at : ℕ) → role ≡ FIRST + at → IsStage r.driven.chain r.driven.table.items at → ⊥)
           → errors_to_pass e.table.items ≤ errors_to_pass r.driven.table.items
       by_stage (inl (at, is, stage)) = errors_fall rest pause at r.driven.chain e.chain r.driven.table.items _ e.table.items r.driven.running e.running a c event (acts at is stage)
@@ -354,6 +356,6 @@ module _ {P : Type 0} (ct ot : Bool) (setup : Setup) (rest : P → List ℕ → 
       → SettlesAfter (step_after answer) result v main u (record r { driven = e }) s c b → s ≡ record (record r { driven = e }) { reader = s.reader } → PaysBody ct ot setup rest result v v main r s a b
   role_pays acts other gives within loses settles same =
       stage_pays ct ot setup rest (step_after answer) result v main u r (record r { driven = e }) s a c b (goes_after answer) (handled_lines setup rest r.driven.chain e.chain gives.once) refl gives.given
-          (chain_less (left_to_do rest r.driven.chain []) (left_to_do rest e.chain []) r.driven.chain e.chain refl refl (once_works rest r.driven.chain e.chain gives.once)) (driven_errors acts other)
-          (loses_runs answer r.driven e a c loses)
-          (stage_did rest r.driven.chain e.chain r.driven.table.items e.table.items a c gives (driven_errors acts other)) within settles same
+      (chain_less (left_to_do rest r.driven.chain []) (left_to_do rest e.chain []) r.driven.chain e.chain refl refl (once_works rest r.driven.chain e.chain gives.once)) (driven_errors acts other)
+      (loses_runs answer r.driven e a c loses)
+      (stage_did rest r.driven.chain e.chain r.driven.table.items e.table.items a c gives (driven_errors acts other)) within settles same

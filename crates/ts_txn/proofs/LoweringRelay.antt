@@ -208,12 +208,14 @@ module _ {P : Type 0} (ct ot : Bool) (must : Type 0) (setup : Setup) (rest : P �
       where
         goes_on : Fewer (relay_left setup rest v r) (relay_left setup rest w s)
         goes_on = with_table same (relay_left setup rest v r) (frames_piece setup rest (errors_left r.driven) v w r.driven.chain s.driven.chain piece is frames takes)
+
         lacks : Fewer (relay_left setup rest v r) (ended_left w)
         lacks = ended_by (frames_piece setup rest (errors_left r.driven) v w r.driven.chain s.driven.chain piece is frames takes)
           where
             ended_by : Fewer (relay_left setup rest v r) (body_left setup rest (errors_left r.driven) w s.driven.chain) → Fewer (relay_left setup rest v r) (ended_left w)
             ended_by fell = ended_if (relay_left setup rest v r) (agains_left w)
                 (λ x. end_room + (x + length w.client.outbox) + to_hear setup w.origin + pump_weight * (left_to_do rest s.driven.chain [] + errors_left r.driven) + to_end s.driven.chain.given) fell
+
         by_answer : (answer : Result ⊤ SetFault) → Fewer (relay_left setup rest v r) (left_after setup rest (step_after answer) w s)
         by_answer (Ok x) = goes_on
         by_answer (Err F.Spent) = goes_on
@@ -249,8 +251,8 @@ module _ {P : Type 0} (ct ot : Bool) (must : Type 0) (setup : Setup) (rest : P �
     feeds_goes state piece part drains taken good gets within going progress same reader =
         let came = given_first state part good gets in
         lowers_by S.Goes v w r s a b reader (same_lines setup rest r.driven.chain s.driven.chain came.1) (λ told also of.
-            with_table same (relay_left setup rest v r) (feeds_on setup rest (errors_left r.driven) v w r.driven.chain s.driven.chain piece part drains taken of came.1 came.0 within
-                (given_some state piece part good gets going (progress told also))))
+        with_table same (relay_left setup rest v r) (feeds_on setup rest (errors_left r.driven) v w r.driven.chain s.driven.chain piece part drains taken of came.1 came.0 within
+        (given_some state piece part good gets going (progress told also))))
 
     drains_calm : (piece : List ℕ) → DrainsOrigin v w → v.origin.inbox ≡ piece ++ w.origin.inbox → Calm setup false v w
     drains_calm piece drains taken = record {
@@ -279,7 +281,7 @@ module _ {P : Type 0} (ct ot : Bool) (must : Type 0) (setup : Setup) (rest : P �
         → LowersBody ct ot must setup rest step v w r s a b
     closes_input S.Goes ends going reads same reader = lowers_by S.Goes v w r s a b reader (same_lines setup rest r.driven.chain s.driven.chain (ap (λ (c : ChainState P). c.stages) ends)) (λ told also of.
         with_table same (relay_left setup rest v r) (closes setup rest (errors_left r.driven) v w r.driven.chain s.driven.chain (read_calm v w r a L.End (also_told v w r a L.End also reads))
-            (ap (λ (x : View). length x.client.outbox) reads.others) going ends))
+        (ap (λ (x : View). length x.client.outbox) reads.others) going ends))
     closes_input S.Waits ends going reads same reader = absurd ends
     closes_input (S.Finishes end) ends going reads same reader = absurd ends
     closes_input (S.Closes end) ends going reads same reader = absurd ends

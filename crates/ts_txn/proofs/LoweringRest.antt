@@ -28,7 +28,7 @@ module _ (v w : View) (p : Pushed) (writes : WritesClient true v w p) where
   rest_more : 1 ≤ least_went p + one_if (push_again p) → Fewer (finish_left v) (finish_left w)
   rest_more some = told_fewer (λ x y. 2 + (x + length v.client.outbox)) (λ x y. 2 + (x + length w.client.outbox)) (push_again p) 0 (agains_left v) (agains_left w) (Some 0) (Some 0) rest_again (omega arith)
       (λ x x' y y' again upload. more_next (one_if (push_again p)) (least_went p) x x' (length v.client.outbox) (length w.client.outbox) again
-          (went_some p v.client.outbox w.client.outbox writes.client.pushes.went) some)
+      (went_some p v.client.outbox w.client.outbox writes.client.pushes.went) some)
 
   rest_close : Fewer (finish_left v) (close_left w)
   rest_close = told_fewer (λ x y. 2 + (x + length v.client.outbox)) (λ x y. 1) (push_again p) 0 (agains_left v) (agains_left w) (Some 0) (Some 0) rest_again (omega arith)

@@ -61,7 +61,7 @@ module _ {P : Type 0} (rest : P → List ℕ → List ℕ) (c d : ChainState P) 
   pumped_works : (at : ℕ) (r : Pumped) → AnswersAt c.given c.first c.stages at r → StepsAt rest c.first c.stages at r d.first d.stages → d.given ≡ c.given → WorksOrStays
   pumped_works at (Moved n) answers steps given =
       inr (one_less (left_to_do rest d []) (left_to_do rest c []) n (stepped-less rest c.given c.first c.stages at (Moved n) d.first d.stages answers steps [] (nothing_more c.given))
-          (moved-some c.given c.first c.stages at n answers))
+      (moved-some c.given c.first c.stages at n answers))
   pumped_works at Ended answers steps given =
       inr (one_less (left_to_do rest d []) (left_to_do rest c []) 1 (stepped-less rest c.given c.first c.stages at Ended d.first d.stages answers steps [] (nothing_more c.given)) (omega arith))
   pumped_works at (Blocked w) answers steps given =
@@ -116,6 +116,7 @@ still_sum l l' e e' p p' same fewer pays = by_errors (le_split e' e fewer)
         by_next : (m + 1 ≤ n) ⊎ (m ≡ n) → (suc m + 1 ≤ suc n) ⊎ (suc m ≡ suc n)
         by_next (inl h) = inl (omega (arith, h))
         by_next (inr h) = inr (ap suc h)
+
     by_errors : (e' + 1 ≤ e) ⊎ (e' ≡ e) → (l' + e' + 1 ≤ l + e) ⊎ ((l' ≡ l) × (e' ≡ e) × (p' ≤ p))
     by_errors (inl h) = inl (omega (arith, same, h))
     by_errors (inr h) = inr (same, h, omega (arith, same, h, pays))
@@ -136,6 +137,7 @@ module _ {P : Type 0} (rest : P → List ℕ → List ℕ) (c d : ChainState P) 
           ⊎ ((left_to_do rest d [] ≡ left_to_do rest c []) × (errors_to_pass us ≡ errors_to_pass ts) × (length b.log.state.pending ≤ length a.log.state.pending)) → StageDid
       by_still same (inl less) = inl less
       by_still same (inr still) = inr (same, still.1, still.2)
+
       by_work : WorksOrStays rest c d → StageDid
       by_work (inr less) = inl (more_done (left_to_do rest c []) (left_to_do rest d []) (errors_to_pass ts) (errors_to_pass us) less fewer)
       by_work (inl same) = by_still same (still_sum (left_to_do rest c []) (left_to_do rest d []) (errors_to_pass ts) (errors_to_pass us) (length a.log.state.pending) (length b.log.state.pending)

@@ -36,8 +36,8 @@ module _ {P : Type 0} (rest : P → List ℕ → List ℕ) (whole : TransformLin
   part_more acts does p fresh qs of =
       let front : AreOfLines rest (cond true (l ∷ filter f more) (filter f more)) (p ∷ qs) = (λ z. fresh z ∙ acts l z, of) in
       let also : AreOfLines rest (filter f left) (p ∷ qs) =
-          subst (λ (ls : List TransformLine). AreOfLines rest (filter f ls) (p ∷ qs)) (sym is)
-          (subst (λ (b : Bool). AreOfLines rest (cond b (l ∷ filter f more) (filter f more)) (p ∷ qs)) (sym does) front) in
+      subst (λ (ls : List TransformLine). AreOfLines rest (filter f ls) (p ∷ qs)) (sym is)
+      (subst (λ (b : Bool). AreOfLines rest (cond b (l ∷ filter f more) (filter f more)) (p ∷ qs)) (sym does) front) in
       subst (λ (xs : List P). AreOfLines rest (filter f all) xs) (sym (append_assoc ps (p ∷ []) qs)) (before (p ∷ qs) also)
 
   -- another has none

@@ -1,11 +1,13 @@
 //! How a body begins to be passed on: the client's head is queued, and the reader and the stages get
 // continuations.
 ghost use Rattle.std.specs.Prelude.{◌≡◌, [], true, false, None, OnErr, IfOk};
+ghost use Rattle.std.specs.Arc.{arc_value};
 ghost use Rattle.ts_transform.specs.Flow.{OnlyFirstWorks};
 ghost use Rattle.ts_wire.specs.Place.{state_of};
 ghost use Rattle.ts_txn.specs.Feeding.{OnGoes};
 ghost use Rattle.ts_txn.specs.Relaying.{RelayLeads, StepsChain};
 ghost use Rattle.ts_txn.specs.Entering.{ActsAsLines, BeginsChain, BeginsRelay, EnterHolds, EntersAfter, GetsStart, HeadHolds, IsUnbegun, LacksAfter, QuietLinks};
+ghost use Rattle.ts_txn.specs.LoweringBody.{BeginsLower, LowersEntering};
 ghost use Rattle.ts_txn.specs.Holding.{StepKeeps};
 ghost use Rattle.ts_txn.specs.View.{view_of};
 
@@ -96,6 +98,8 @@ impl<C: Link, O: Upstream<C>> Core<C, O> {
         ensures fresh { IfOk result (λ r. IsUnbegun r
             × (r.driven.chain.given ≡ false) × OnlyFirstWorks r.driven.chain) }
         ensures quiet { QuietLinks (view_of C.look O.look self.old) (view_of C.look O.look self.new) }
+        ensures lowers { IfOk result (LowersEntering C.tells O.tells (arc_value self.old.setup) P.rest
+            request.now head.now (view_of C.look O.look self.old) (view_of C.look O.look self.new)) }
         ensures keeps { StepKeeps C.look O.look O.paired O.refuses self.old self.new }
     {
         let Ok(made) = make_relay(self.alloc, &self.setup, &request.head, head) else {
@@ -121,6 +125,8 @@ impl<C: Link, O: Upstream<C>> Core<C, O> {
         ensures leads { RelayLeads C.tells O.tells C.look O.look O.refuses P.rest self.now self.now
             relay.new result }
         ensures begins { BeginsRelay result relay.new cx.old cx.new }
+        ensures lowers { BeginsLower (arc_value self.now.setup) P.rest result (view_of C.look O.look self.now)
+            relay.old relay.new }
     {
         begin_relay(relay, cx)
     }

@@ -2,7 +2,7 @@
 // must work.
 ghost use Rattle.std.specs.Prelude.{◌≡◌, ◌≢◌, true, false};
 ghost use Rattle.std.specs.Arc.{arc_value};
-ghost use Rattle.ts_txn.specs.LoweringBody.{PaysBody};
+ghost use Rattle.ts_txn.specs.LoweringBody.{BeginsLower, PaysBody};
 ghost use Rattle.ts_txn.specs.View.{view_of};
 ghost use Rattle.ts_txn.specs.Relaying.{RelayHolds, RelayLeads};
 ghost use Rattle.ts_transform.specs.Flow.{OnlyFirstWorks};
@@ -198,6 +198,8 @@ impl<C: Link, O: Upstream<C>> Core<C, O> {
             relay.new result }
         ensures begins { BeginsBody result (view_of C.look O.look self.now) main.old main.new relay.new
             cx.old cx.new }
+        ensures lowers { BeginsLower (arc_value self.now.setup) P.rest result (view_of C.look O.look self.now)
+            relay.old relay.new }
     {
         let step = self.enter_body(relay, cx);
         self.settle_after(step, main, relay, (0, 0), cx)
