@@ -1,5 +1,5 @@
 -- The events of the continuations while a body is passed on.
-use Rattle.std.proofs.Common.{◌≡◌, ◌≢◌, ℕ, ◌+◌, ◌≤◌, ◌⊎◌, inl, inr, List, [], ◌∷◌, ◌++◌, Bool, true, false, Option, Some, None, Result, refl, sym, ap, subst, ◌∙◌, arith}
+use Rattle.std.proofs.Common.{◌≡◌, ◌≢◌, ℕ, ◌≤◌, ◌⊎◌, inl, inr, List, [], ◌∷◌, Bool, true, false, Option, Some, None, Result, refl, sym, ap, subst, ◌∙◌, arith}
 use Rattle.std.specs.Prelude.{⊤}
 use Rattle.ts_config.specs.declared.setup.Setup.{Setup}
 use Rattle.ts_hooks.specs.declared.txn_end.TxnEnd.TheVariants as E
@@ -28,7 +28,7 @@ use Rattle.ts_txn.specs.Feeding.{OnGoes}
 use Rattle.ts_txn.specs.Finishing.{LeadsBody}
 use Rattle.ts_txn.specs.Relaying.{DrivesOn, RelaysBody, StepsChain, step_after}
 use Rattle.ts_txn.specs.Entering.{BeginsRelay, BeginsRunning}
-use Rattle.ts_txn.specs.Duties.{BeginsBody, AreBodyEndsRoused, EndsRouse, IsBodyCovered, IsBodyJoined, RousesBoth, HandlesBody, RunsOr, SettledAs, SettlesAfter, SettlesBody, TellsDuty, UnlessLacking, WhileGoes, body_seats, relay_seats}
+use Rattle.ts_txn.specs.Duties.{BeginsBody, EndsRouse, IsBodyCovered, IsBodyJoined, HandlesBody, RunsOr, SettledAs, SettlesAfter, SettlesBody, TellsDuty, UnlessLacking, WhileGoes, body_seats, relay_seats}
 use Rattle.ts_txn.specs.declared.finishing.BodyStep.{BodyStep}
 use Rattle.ts_txn.specs.declared.finishing.BodyStep.TheVariants as S
 use Rattle.ts_txn.specs.declared.relay.Relay.{Relay}
@@ -361,6 +361,14 @@ begins_runs step result m s c next later same runs settled = by_step step runs s
     by_step (S.Closes end) runs settled = absurd runs
     by_step S.Lacks runs settled = subst (λ (x : BodyStep). UnlessLacking x (RunsOr s next)) (sym settled) tt
 
+-- and it is passed on, unless memory lacked
+begins_goes : {P : Type 0} (step result : BodyStep) (m : Relay P) (c : Context) → BeginsRunning step m.driven c → SettledAs step result → OnGoes result ⊤
+begins_goes S.Goes result m c runs settled = settled
+begins_goes S.Waits result m c runs settled = absurd runs
+begins_goes (S.Finishes end) result m c runs settled = absurd runs
+begins_goes (S.Closes end) result m c runs settled = absurd runs
+begins_goes S.Lacks result m c runs settled = subst (λ (x : BodyStep). OnGoes x ⊤) (sym settled) tt
+
 pub begins_body : {P : Type 0} (step result : BodyStep) (w : View) (t u : Option StageContinuation) (m s : Relay P) (a c b : Context) → BeginsRelay step m a c → s.driven ≡ m.driven
     → SettlesAfter step result w t u m s c b → BeginsBody result w t u s a b
 begins_body step result w t u m s a c b begins same after = record {
@@ -372,6 +380,7 @@ begins_body step result w t u m s a c b begins same after = record {
     of_reader = begins.of_reader;
   });
   covered = begins_covered step result w u m s c b.log.state.next begins.chain.runs after.settled after.covered;
+  goes = begins_goes step result m c begins.chain.runs after.settled;
   runs = begins_runs step result m s c b.log.state.next after.later same begins.chain.runs after.settled;
   seated = seated_then (t ∷ []) (body_seats t m) (body_seats u s) a c b (seated_behind t [] (relay_seats m) a c begins.seated) after.seated;
   ordered = subst (λ d. EndsInOrder d.chain.given d.chain.stages) (sym same) begins.ordered;

@@ -7,22 +7,24 @@ use Rattle.ts_hooks.specs.declared.txn_end.TxnEnd.{TxnEnd}
 use Rattle.ts_hooks.specs.declared.txn_end.TxnEnd.TheVariants as E
 use Rattle.ts_journal.specs.declared.entry.Event.{Event}
 use Rattle.ts_journal.specs.declared.entry.Pending.{Pending}
+use Rattle.ts_journal.specs.State.{pending_at}
 use Rattle.ts_group.specs.declared.action.Named.{Named}
 use Rattle.ts_group.specs.declared.action.SetFault.{SetFault}
 use Rattle.ts_group.specs.declared.action.SetFault.TheVariants as F
 use Rattle.ts_group.specs.Context.{Context, IsSame}
 use Rattle.ts_link.specs.Link.{Calls, Look, NoMore}
 use Rattle.ts_transform.specs.Acting.{IsStage}
-use Rattle.ts_transform.specs.Cover.{MaySet}
-use Rattle.ts_transform.specs.Driven.{Acts, IsOfNoStage}
-use Rattle.ts_transform.specs.Driving.{AreNamed, IsNamedIf, IsRousingOf, Keeps, KeepsOthers, SetsOnly, changed, unroused, unroused_at, unroused_for, works_at}
+use Rattle.ts_transform.specs.Cover.{IsRousing, MaySet}
+use Rattle.ts_transform.specs.Driven.{Acts, IsDrivenWhile, IsOfNoStage}
+use Rattle.ts_transform.specs.Driving.{AreNamed, IsNamedIf, IsOfStageIf, IsRousingOf, Keeps, KeepsOthers, SetsOnly, changed, unroused, unroused_at, unroused_for, works_at}
 use Rattle.ts_transform.specs.Flow.{ChainState, MustRead, PumpsOnce, StepsAt, Takes, TakesAway}
 use Rattle.ts_transform.specs.Stage.{Steps}
 use Rattle.ts_transform.specs.declared.pump.Pumped.{Pumped}
 use Rattle.ts_transform.specs.declared.pump.Pumped.TheVariants as U
 use Rattle.ts_transform.specs.declared.pump.Stage.{Stage}
 use Rattle.ts_transform.specs.declared.continuation.StageContinuation.{StageContinuation}
-use Rattle.ts_transform.proofs.Setting.{named_same, only_none, only_same, only_trans, only_weaker}
+use Rattle.ts_transform.specs.declared.driven.DrivenChain.{DrivenChain}
+use Rattle.ts_transform.proofs.Setting.{named_same, of_stages_named, only_none, only_same, only_trans, only_weaker}
 use Rattle.ts_transform.proofs.Told.{same_unroused}
 use Rattle.ts_vconn.specs.MoveAnswers.{Came, Went, pull_again, pull_failed, push_again, push_failed}
 use Rattle.ts_vconn.specs.declared.moves.Pulled.{Pulled}
@@ -39,7 +41,8 @@ use Rattle.ts_txn.specs.RelayMoves.{QueuesText, ReadsOrigin}
 use Rattle.ts_txn.specs.Feeding.{DrainsOrigin, FeedsBody, FeedsTo, GetsPart, OnGoes}
 use Rattle.ts_txn.specs.Relaying.{AddsSome, IsOfRoleFrom, StepsChain, step_after}
 use Rattle.ts_txn.specs.Duties.{SettledAs, UnlessLacking}
-use Rattle.ts_txn.specs.BodyLinks.{AreBodyNamed, HandlesLinks, HoldsLittle, IsOfEnd, IsUnread, IsUnwritten, MindsBody, OnlyOfBody, OnlyOfEnds, RestLeads, SendsRest, is_client_fault, is_late, is_origin_fault, pause_if}
+use Rattle.ts_txn.specs.Entering.{BeginsRelay}
+use Rattle.ts_txn.specs.BodyLinks.{BeginsInTime, HandlesLinks, HoldsLittle, IsOfEnd, IsUnread, IsUnwritten, MindsBody, OnlyOfBody, OnlyOfEnds, RestLeads, SendsRest, is_client_fault, is_late, is_origin_fault, pause_if}
 use Rattle.ts_txn.specs.declared.driver.TheConstants.{MAIN, RETRY}
 use Rattle.ts_txn.specs.declared.finishing.BodyStep.{BodyStep}
 use Rattle.ts_txn.specs.declared.finishing.BodyStep.TheVariants as S
@@ -499,3 +502,46 @@ sends_left ct end v w writes = sends_by ct end v w V.Failed (S.Closes E.ClientFa
 
 pub sends_lacks : (ct : Bool) (end : TxnEnd) (v w : View) → WritesClient ct v w V.NoMemory → SendsRest ct end v w S.Lacks
 sends_lacks ct end v w writes = sends_by ct end v w V.NoMemory S.Lacks writes writes.client.pushes.calls
+
+-- ---- a body begins
+
+-- what a start sets is of a stage
+pub starts_in_time : {P : Type 0} (pause : P → ℕ) (c : ChainState P) (moment : ℕ) (a b : Context) → SetsOnly (IsRousing pause FIRST c [] moment b.roles) a b → SetsOnly (IsOfRoleFrom FIRST b.roles) a b
+starts_in_time pause c moment a b =
+    only_weaker (IsRousing pause FIRST c [] moment b.roles) (IsOfRoleFrom FIRST b.roles) a b (λ p h. record { place = h.at; role_is = h.of_stage.role_is })
+
+-- nothing was set before
+pub set_behind : (Such : Pending → Type 0) (a b c : Context) → b.log.state.pending ≡ a.log.state.pending → SetsOnly Such b c → SetsOnly Such a c
+set_behind Such a b c same only n p none there = only n p (ap (pending_at n) same ∙ none) there
+
+-- and so is what its first step sets, while the stages run
+pub begins_in_time : {P : Type 0} (step : BodyStep) (d e : DrivenChain P) (a b c f : Context) → b.log.state.pending ≡ a.log.state.pending → SetsOnly (IsOfRoleFrom FIRST c.roles) b c
+    → IsDrivenWhile FIRST d c.log.state.pending c.roles → StepsChain step 1 d e c f → e.running ≡ true → SetsOnly (IsOfRoleFrom FIRST f.roles) a f
+begins_in_time step d e a b c f same started driven steps runs =
+    let named = of_stages_named c.log.state.pending c.roles FIRST d.table.items (driven (steps.falls runs)).of_stages in
+    subst (λ roles. SetsOnly (IsOfRoleFrom FIRST roles) a f) (sym steps.adds.keeps.roles)
+    (only_trans (IsOfRoleFrom FIRST c.roles) a c f (set_behind (IsOfRoleFrom FIRST c.roles) a b c same started) steps.adds.keeps (steps.only FIRST named))
+
+-- the ends are roused behind that, at once
+pub body_in_time : {P : Type 0} (step : BodyStep) (t : Option StageContinuation) (m s : Relay P) (a c b : Context) → BeginsRelay step m a c → s.driven ≡ m.driven → AddsSome 2 c b
+    → (m.driven.running ≡ true → SetsOnly (IsOfRoleFrom FIRST c.roles) a c) → OnlyOfEnds (pause_if (is_late step) 0) (pause_if (is_late step) 0) t m.reader c b → BeginsInTime t s a b
+body_in_time step t m s a c b begins same adds first ends runs of_main =
+    only_trans Such a c b (only_weaker (IsOfRoleFrom FIRST c.roles) Such a c (λ p h. inl (subst (λ roles. IsOfRoleFrom FIRST roles p) (sym adds.keeps.roles) h)) (first (sym (ap (λ d. d.running) same) ∙ runs)))
+    adds.keeps
+    (only_weaker (IsOfEnd 0 0 a.moment b.roles) Such c b (λ p h. inr h)
+    (subst (λ n. SetsOnly (IsOfEnd n n a.moment b.roles) c b) (no_pause (is_late step))
+    (subst (λ m. SetsOnly (IsOfEnd (pause_if (is_late step) 0) (pause_if (is_late step) 0) m b.roles) c b) begins.chain.within.grows.moment
+    (subst (λ roles. SetsOnly (IsOfEnd (pause_if (is_late step) 0) (pause_if (is_late step) 0) c.moment roles) c b) (sym adds.keeps.roles)
+    (ends (named_made t of_main) (named_of c.log.state.pending c.roles READER m.reader begins.of_reader))))))
+  where
+    Such : Pending → Type 0
+    Such p = IsOfRoleFrom FIRST b.roles p ⊎ IsOfEnd 0 0 a.moment b.roles p
+
+    named_of : (pending : List Pending) (roles : List Named) (role : ℕ) (u : Option StageContinuation) → IsOfStageIf pending roles role u → IsNamedIf roles role u
+    named_of pending roles role None h = tt
+    named_of pending roles role (Some u) h = h.named
+
+    named_made : (u : Option StageContinuation) → IsNamedIf a.roles MAIN u → IsNamedIf c.roles MAIN u
+    named_made None h = tt
+    named_made (Some u) h =
+        (begins.chain.made MAIN (Some (record u { roused = false })) (record { named = h; event = λ roused. absurd (let wrong : false ≡ true = roused in cc) })).named

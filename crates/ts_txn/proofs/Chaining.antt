@@ -18,8 +18,7 @@ use Rattle.ts_transform.proofs.Carrying.{order_any, takes_order}
 use Rattle.ts_transform.proofs.Joined.{runs_before}
 use Rattle.ts_transform.proofs.Kept.{few_refl, few_trans, keeps_refl, keeps_trans}
 use Rattle.ts_transform.proofs.Setting.{named_kept, only_none, only_trans, only_weaker}
-use Rattle.ts_hooks.specs.declared.txn_end.TxnEnd.{TxnEnd}
-use Rattle.ts_txn.specs.Relaying.{AddsSome, DrivesOn, IsOfRoleFrom, OnlyOfStages, StepsChain, step_after}
+use Rattle.ts_txn.specs.Relaying.{DrivesOn, IsOfRoleFrom, OnlyOfStages, StepsChain, step_after}
 use Rattle.ts_txn.specs.declared.finishing.BodyStep.{BodyStep}
 use Rattle.ts_txn.specs.declared.finishing.BodyStep.TheVariants as S
 

@@ -1,10 +1,8 @@
 -- The duties of a body: what a stage's event keeps, who is roused, and that none is left where nothing is pending.
-use Rattle.std.proofs.Common.{◌≡◌, ◌≢◌, ℕ, ◌+◌, ◌≤◌, ◌⊎◌, inl, inr, List, [], ◌∷◌, ◌++◌, Bool, true, false, Option, Some, None, Result, Ok, Err, refl, sym, ap, subst, ◌∙◌, arith}
+use Rattle.std.proofs.Common.{◌≡◌, ℕ, ◌≤◌, ◌⊎◌, inl, inr, List, [], ◌∷◌, ◌++◌, Bool, true, false, Option, Some, None, Result, Ok, Err, refl, sym, ap, subst, ◌∙◌, arith}
 use Rattle.std.specs.Prelude.{OnOk, ⊤}
 use Rattle.std.specs.Bool.{OnTrue}
 use Rattle.ts_config.specs.declared.setup.Setup.{Setup}
-use Rattle.ts_hooks.specs.declared.txn_end.TxnEnd.{TxnEnd}
-use Rattle.ts_hooks.specs.declared.txn_end.TxnEnd.TheVariants as E
 use Rattle.ts_journal.specs.declared.entry.TheConstants.{GREATEST}
 use Rattle.ts_journal.specs.declared.entry.Pending.{Pending}
 use Rattle.ts_group.specs.declared.action.Named.{Named}
@@ -12,25 +10,21 @@ use Rattle.ts_group.specs.declared.action.SetFault.{SetFault}
 use Rattle.ts_group.specs.declared.action.SetFault.TheVariants as F
 use Rattle.ts_group.specs.Context.{Context, IsOrderly}
 use Rattle.ts_group.proofs.Grows.{grows_trans}
-use Rattle.ts_link.specs.Link.{all_of}
-use Rattle.ts_transform.specs.Flow.{ChainState, EndsInOrder, MustRead}
+use Rattle.ts_transform.specs.Flow.{ChainState, EndsInOrder}
 use Rattle.ts_transform.specs.Acting.{StillGives}
-use Rattle.ts_transform.specs.Carrying.{AreEndsRoused}
-use Rattle.ts_transform.specs.Driving.{AddsEvents, IsCause, IsOfStageIf, IsRousedIf, KeepsStage, SetsFew}
+use Rattle.ts_transform.specs.Driving.{AddsEvents, IsOfStageIf, IsRousedIf, KeepsStage}
 use Rattle.ts_transform.specs.declared.continuation.StageContinuation.{StageContinuation}
 use Rattle.ts_transform.specs.Seats.{KeepsSeated}
 use Rattle.ts_transform.proofs.Joined.{all_carried}
 use Rattle.ts_transform.proofs.Seating.{seated_behind, seated_front, seated_then}
 use Rattle.ts_transform.proofs.Kept.{few_trans, kept_if, keeps_trans}
 use Rattle.ts_wire.specs.Place.{Place}
-use Rattle.ts_txn.specs.View.{LinkSide, View}
-use Rattle.ts_txn.specs.Facts.{Served}
+use Rattle.ts_txn.specs.View.{View}
 use Rattle.ts_txn.specs.Feeding.{OnGoes}
-use Rattle.ts_txn.specs.Relaying.{AddsSome, GivesEnd, ReadsBody, RelaysBody, step_after}
+use Rattle.ts_txn.specs.Relaying.{GivesEnd, RelaysBody, step_after}
 use Rattle.ts_txn.specs.Duties.{AreBodyEndsRoused, IsBodyJoined, RousesBoth, RousesOne}
 use Rattle.ts_txn.specs.declared.finishing.BodyStep.{BodyStep}
 use Rattle.ts_txn.specs.declared.finishing.BodyStep.TheVariants as S
-use Rattle.ts_txn.specs.declared.phase.Request.{Request}
 use Rattle.ts_txn.specs.declared.relay.Relay.{Relay}
 use Rattle.ts_txn.proofs.Chaining.{grows_next}
 

@@ -1,5 +1,5 @@
 -- A reader of bodies that is fed with what waits, and whether a body ends with its bytes.
-use Rattle.std.proofs.Common.{◌≡◌, ◌≢◌, ℕ, ◌<◌, ◌≤◌, ◌⊎◌, inl, inr, arith, List, [], ◌++◌, length, take, drop, Bool, true, false, refl, sym, ap, subst, ◌∙◌}
+use Rattle.std.proofs.Common.{◌≡◌, ◌≢◌, ℕ, ◌<◌, ◌≤◌, ◌⊎◌, inl, inr, arith, List, [], ◌++◌, length, take, drop, true, false, refl, sym, ap, subst, ◌∙◌}
 use Rattle.std.specs.Prelude.{slice_range, ◌↔◌}
 use Rattle.httparse.proofs.RunLemmas.{length-slice_range}
 use Rattle.std.proofs.lemmas.List.{append-nil, length-take, take-append-drop, take-take}

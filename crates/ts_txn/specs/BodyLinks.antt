@@ -1,7 +1,7 @@
--- What an event of a body owes to the two links: a fault of one of them decides where it leads, and it leads there for
--- nothing else; nothing is written to the origin and nothing is read of the client; the origin is read on only while more
--- may be given to the chain and there is room; and an end of the body waits only for its link (RFC 9112, sections 6.3 and
--- 8; Developer's Guide, "Transformations").
+-- What an event of a body owes to the two links: a fault of one of them decides where it leads, and it
+-- leads there for nothing else; nothing is written to the origin and nothing is read of the client; the
+-- origin is read on only while more may be given to the chain and there is room; and an end of the body
+-- waits only for its link (RFC 9112, sections 6.3 and 8; Developer's Guide, "Transformations").
 use Rattle.std.specs.Prelude.{◌≡◌, ℕ, ◌+◌, ◌<◌, ◌≤◌, ◌⊎◌, List, [], length, Bool, true, false, Option}
 use Rattle.ts_hooks.specs.declared.txn_end.TxnEnd.{TxnEnd}
 use Rattle.ts_hooks.specs.declared.txn_end.TxnEnd.TheVariants as E
@@ -50,15 +50,15 @@ pub record IsUnwritten (tells : Bool) (old new : LinkSide) : Type 0 where
   pub waits : new.outbox ≡ old.outbox
   pub taken : tells ≡ true → new.look.taken ≡ old.look.taken
 
--- What a transaction holds of a body before it comes to the first stage: no more than one read of the origin brings, and
--- at the front of the chain less than one more above what stops the reader.
+-- What a transaction holds of a body before it comes to the first stage: no more than one read of the
+-- origin brings, and at the front of the chain less than one more above what stops the reader.
 pub record HoldsLittle {P : Type 0} (v : View) (c : ChainState P) : Type 0 where
   pub held : length v.origin.inbox ≤ MOST_PULLED
   pub front : length c.first < MOST_WAITING + MOST_PULLED
 
--- What a step of a body does with the links, each of which may have made it wait: a link's count of faults rises exactly
--- where the step leads to the end for that; the origin is read on only where more may be given to the chain, and more is
--- queued for the client only where nothing waits for it; so little is held.
+-- What a step of a body does with the links, each of which may have made it wait: a link's count of faults
+-- rises exactly where the step leads to the end for that; the origin is read on only where more may be
+-- given to the chain, and more is queued for the client only where nothing waits for it; so little is held.
 pub record MindsBody {P : Type 0} (ctells otells : Bool) (v w : View) (c d : ChainState P) (step : BodyStep)
     (client_late origin_late : Bool) : Type 0 where
   pub client : Calls v.client.look w.client.look (is_client_fault step) client_late
@@ -75,12 +75,14 @@ IsOfEnd writes reads moment roles p =
     IsRousingOf MAIN writes moment roles p ⊎ IsRousingOf READER reads moment roles p
 
 -- only such events were set, where both ends have their roles
-abbrev pub OnlyOfEnds : ℕ → ℕ → Option StageContinuation → Option StageContinuation → Context → Context → Type 0
+abbrev pub OnlyOfEnds : ℕ → ℕ → Option StageContinuation → Option StageContinuation → Context → Context
+    → Type 0
 OnlyOfEnds writes reads main reader a b = IsNamedIf a.roles MAIN main → IsNamedIf a.roles READER reader
     → SetsOnly (IsOfEnd writes reads a.moment a.roles) a b
 
 -- the continuations of a body have their roles
-pub record AreBodyNamed {P : Type 0} (roles : List Named) (main : Option StageContinuation) (r : Relay P) : Type 0 where
+pub record AreBodyNamed {P : Type 0} (roles : List Named) (main : Option StageContinuation)
+    (r : Relay P) : Type 0 where
   pub of_main : IsNamedIf roles MAIN main
   pub of_reader : IsNamedIf roles READER r.reader
   pub stages : AreNamed roles FIRST r.driven.table.items
@@ -95,8 +97,8 @@ abbrev pub OnlyOfBody : ℕ → ℕ → Context → Context → Type 0
 OnlyOfBody writes reads a b =
     SetsOnly (λ p. IsOfRoleFrom FIRST a.roles p ⊎ IsOfEnd writes reads a.moment b.roles p) a b
 
--- What an event of a body does with the links; and what it sets is of a stage, or lets an end of the body work: at once, or
--- 10 milliseconds later where its link was not ready.
+-- What an event of a body does with the links; and what it sets is of a stage, or lets an end of the body
+-- work: at once, or 10 milliseconds later where its link was not ready.
 pub record HandlesLinks {P : Type 0} (ctells otells : Bool) (v w : View) (main : Option StageContinuation)
     (r s : Relay P) (step : BodyStep) (a b : Context) : Type 0 where
   pub client_late : Bool
@@ -105,8 +107,14 @@ pub record HandlesLinks {P : Type 0} (ctells otells : Bool) (v w : View) (main :
   pub due : AreBodyNamed a.roles main r
       → OnlyOfBody (pause_if client_late RETRY) (pause_if origin_late RETRY) a b
 
--- Where one of the last writes leads: to the end that was found, once nothing waits, and to that for the client's fault
--- where its link failed.
+-- While the stages of a body run that begins, what it sets is of one of them, or lets an end of the body
+-- work at once.
+abbrev pub BeginsInTime : {P : Type 0} → Option StageContinuation → Relay P → Context → Context → Type 0
+BeginsInTime main s a b = s.driven.running ≡ true → IsNamedIf a.roles MAIN main
+    → SetsOnly (λ p. IsOfRoleFrom FIRST b.roles p ⊎ IsOfEnd 0 0 a.moment b.roles p) a b
+
+-- Where one of the last writes leads: to the end that was found, once nothing waits, and to that for the
+-- client's fault where its link failed.
 abbrev pub RestLeads : TxnEnd → LinkSide → LinkSide → BodyStep → Type 0
 RestLeads end old new S.Goes = Calls old.look new.look false false
 RestLeads end old new S.Waits = Calls old.look new.look false true

@@ -1,5 +1,5 @@
--- How a body comes to the chain: what waits of the origin's bytes is fed to a reader of bodies, and what of it is body
--- is given to the chain (RFC 9112, sections 6.3 and 7.1).
+-- How a body comes to the chain: what waits of the origin's bytes is fed to a reader of bodies, and what of
+-- it is body is given to the chain (RFC 9112, sections 6.3 and 7.1).
 use Rattle.std.specs.Prelude.{◌≡◌, ◌≢◌, ℕ, ◌<◌, ◌≤◌, ◌⊎◌, ◌++◌, List, length, Bool, true, false, ⊤}
 use Rattle.ts_hooks.specs.declared.txn_end.TxnEnd.TheVariants as E
 use Rattle.ts_transform.specs.Flow.{ChainState}

@@ -39,8 +39,8 @@ use Rattle.ts_txn.specs.declared.phase.Request.{Request}
 
 module _ (setup : Setup) (refuses : Type 0) where
   module _ (q : Request) (h : ResponseHead) where
-    -- The origin answered this request with this head, of a body of which so much was read, by a reader that stands
-    -- at this place.
+    -- The origin answered this request with this head, of a body of which so much was read, by a reader
+    -- that stands at this place.
     pub record ReadsBody (c : List ℕ) (dialed : Bool) (origin : LinkSide) (place : Place)
         (read : List ℕ) : Type 0 where
       pub served : Served setup refuses c q dialed origin
@@ -54,8 +54,8 @@ module _ (setup : Setup) (refuses : Type 0) where
       pub ended : given ≡ true → IsBodyOver (framing_of q.head h) origin place
       pub goes_on : given ≡ false → state_of place.phase ≡ B.Unfinished
 
-    -- The client's text is the head, and a body that goes on as the chain does: for whatever still comes before the
-    -- end was given, and for nothing from then on.
+    -- The client's text is the head, and a body that goes on as the chain does: for whatever still comes
+    -- before the end was given, and for nothing from then on.
     pub record SendsBody {P : Type 0} (rest : P → List ℕ → List ℕ) (client : LinkSide) (s : Sent)
         (c : ChainState P) (read : List ℕ) : Type 0 where
       pub count : HasCount client
@@ -76,8 +76,8 @@ module _ (setup : Setup) (refuses : Type 0) where
     pub gives_end : GivesEnd q h v.origin place c.given
     pub sends : SendsBody q h rest v.client v.sent c read
 
--- where a step leads at which an event was set, or could not be: memory lacks, or the event numbers are used up,
--- which ends nothing
+-- where a step leads at which an event was set, or could not be: memory lacks, or the event numbers are
+-- used up, which ends nothing
 abbrev pub step_after : {T : Type 0} → Result T SetFault → BodyStep
 step_after (Ok x) = S.Goes
 step_after (Err F.Spent) = S.Goes

@@ -1,12 +1,11 @@
-//! The events of the continuations while a body is passed on: each step, and then both ends are roused that
-// must work.
+//! The events of the continuations while a body is passed on: a step, and then both ends are roused.
 ghost use Rattle.std.specs.Prelude.{◌≡◌, ◌≢◌, true, false};
 ghost use Rattle.std.specs.Arc.{arc_value};
 ghost use Rattle.ts_txn.specs.LoweringBody.{BeginsLower, PaysBody};
 ghost use Rattle.ts_txn.specs.View.{view_of};
 ghost use Rattle.ts_txn.specs.Relaying.{RelayHolds, RelayLeads};
 ghost use Rattle.ts_transform.specs.Flow.{OnlyFirstWorks};
-ghost use Rattle.ts_txn.specs.BodyLinks.{HandlesLinks, OnlyOfEnds, is_late, pause_if};
+ghost use Rattle.ts_txn.specs.BodyLinks.{BeginsInTime, HandlesLinks, OnlyOfEnds, is_late, pause_if};
 ghost use Rattle.ts_txn.specs.Entering.{EnterHolds, IsUnbegun};
 ghost use Rattle.ts_txn.specs.Duties.{BeginsBody, HandlesBody, SettlesAfter, SettlesBody};
 ghost use Rattle.ts_txn.specs.Holding.{StepKeeps};
@@ -191,8 +190,8 @@ impl<C: Link, O: Upstream<C>> Core<C, O> {
     ) -> BodyStep
         requires turn { cx.old.log.state.held ≡ true }
         requires fresh { IsUnbegun relay.old }
-        requires goes_on { relay.old.driven.chain.given ≡ false }
-        requires first { OnlyFirstWorks relay.old.driven.chain }
+        requires goes_on { (relay.old.driven.chain.given ≡ false)
+            × OnlyFirstWorks relay.old.driven.chain }
         requires fact { EnterHolds C.tells O.tells C.look O.look O.refuses P.rest self.now relay.old }
         ensures leads { RelayLeads C.tells O.tells C.look O.look O.refuses P.rest self.now self.now
             relay.new result }
@@ -200,6 +199,7 @@ impl<C: Link, O: Upstream<C>> Core<C, O> {
             cx.old cx.new }
         ensures lowers { BeginsLower (arc_value self.now.setup) P.rest result (view_of C.look O.look self.now)
             relay.old relay.new }
+        ensures due { BeginsInTime main.old relay.new cx.old cx.new }
     {
         let step = self.enter_body(relay, cx);
         self.settle_after(step, main, relay, (0, 0), cx)

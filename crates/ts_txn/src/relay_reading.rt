@@ -74,8 +74,7 @@ impl<C: Link, O: Upstream<C>> Core<C, O> {
     }
 
     /// Makes one step of the reader, unless the body is over or too much of it waits: it feeds the reader of
-    /// bodies with what
-    /// waits of the origin's bytes, or reads on.
+    /// bodies with what waits of the origin's bytes, or reads on.
     #[tactic(auto, using(crate::proofs::BodyLinks::minds_none))]
     pub fn read_body<P: Transform + Drop>(&mut self, relay: &mut Relay<P>, cx: &mut Cx) -> BodyStep
         requires turn { cx.old.log.state.held ≡ true }

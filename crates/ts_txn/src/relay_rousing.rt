@@ -9,7 +9,8 @@ use crate::relay::{Relay, step_after};
 use ts_group::Cx;
 use ts_transform::{StageContinuation, Transform, rouse_end};
 
-// Sees that an event of a continuation is pending, if it must work: after so many milliseconds, where it has none yet.
+// Sees that an event of a continuation is pending, if it must work: after so many milliseconds, where it
+// has none yet.
 fn rouse_one(slot: &mut Option<StageContinuation>, must: bool, after: u64, cx: &mut Cx) -> BodyStep
     requires turn { cx.old.log.state.held ≡ true }
     ensures rouses { RousesOne result must slot.old slot.new cx.old cx.new }
@@ -39,8 +40,8 @@ fn rouse_two(
     rouse_one(reader, reads, pauses.1, cx)
 }
 
-/// Sees that an event of each end of a body is pending that must work: of the first continuation and of the reader after
-/// these pauses, where they have none yet.
+/// Sees that an event of each end of a body is pending that must work: of the first continuation and of the
+/// reader after these pauses, where they have none yet.
 pub fn rouse_ends<P: Transform + Drop>(
     main: &mut Option<StageContinuation>,
     relay: &mut Relay<P>,

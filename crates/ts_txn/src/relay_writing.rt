@@ -96,8 +96,7 @@ impl<C: Link, O: Upstream<C>> Core<C, O> {
     }
 
     /// Makes one step of the writer: it writes once of what waits for the client, or frames a piece of what
-    /// the chain gave,
-    /// or the end of the body once the chain has given all.
+    /// the chain gave, or the end of the body once the chain has given all.
     #[tactic(auto, using(crate::proofs::BodyLinks::minds_wrote))]
     pub fn write_body<P: Transform + Drop>(&mut self, relay: &mut Relay<P>, cx: &mut Cx) -> BodyStep
         requires turn { cx.old.log.state.held ≡ true }

@@ -1,4 +1,4 @@
-use Rattle.std.proofs.Common.{◌≡◌, sym, subst}
+use Rattle.std.proofs.Common.{sym, subst}
 use Rattle.ts_txn.specs.Relaying.{StepsChain}
 use Rattle.ts_txn.proofs.Chaining.{chain_after, given_end}
 use Rattle.ts_txn.proofs.feeding.close_input.Goals as goal

@@ -1,4 +1,4 @@
-use Rattle.std.proofs.Common.{◌≡◌, sym, subst}
+use Rattle.std.proofs.Common.{sym, subst}
 use Rattle.ts_txn.specs.Relaying.{StepsChain}
 use Rattle.ts_txn.proofs.Chaining.{chain_after, given_bytes}
 use Rattle.ts_txn.proofs.feeding.give_bytes.Goals as goal

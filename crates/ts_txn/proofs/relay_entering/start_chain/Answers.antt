@@ -1,5 +1,6 @@
 use Rattle.std.proofs.Common.{Some, sym, ap, ◌∙◌}
 use Rattle.ts_transform.specs.declared.loss.Loss.{Loss}
+use Rattle.ts_txn.proofs.BodyLinks.{starts_in_time}
 use Rattle.ts_txn.proofs.Entered.{starts_lacks, starts_running, starts_spent}
 use Rattle.ts_txn.proofs.relay_entering.start_chain.Goals as goal
 
@@ -17,3 +18,18 @@ returns-in-Some-TableFull-clause-begins g c = starts_lacks c.args.driven.now c.s
 
 pub returns-in-Some-Dead-clause-begins : goal.returns-in-Some-Dead-clause-begins
 returns-in-Some-Dead-clause-begins g c = starts_lacks c.args.driven.now c.start.new.self c.args.cx.now c.start.new.cx c.start.ensures.within c.start.ensures.rest c.start.ensures.driven c.requires.first c.start.ensures.begun
+
+pub returns-in-None-clause-due : goal.returns-in-None-clause-due
+returns-in-None-clause-due g c = starts_in_time g.P.Transform.pause c.args.driven.now.chain c.args.cx.now.moment c.args.cx.now c.start.new.cx c.start.ensures.only
+
+pub returns-in-Some-Spent-clause-due : goal.returns-in-Some-Spent-clause-due
+returns-in-Some-Spent-clause-due g c = starts_in_time g.P.Transform.pause c.args.driven.now.chain c.args.cx.now.moment c.args.cx.now c.start.new.cx c.start.ensures.only
+
+pub returns-in-Some-NoMemory-clause-due : goal.returns-in-Some-NoMemory-clause-due
+returns-in-Some-NoMemory-clause-due g c = starts_in_time g.P.Transform.pause c.args.driven.now.chain c.args.cx.now.moment c.args.cx.now c.start.new.cx c.start.ensures.only
+
+pub returns-in-Some-TableFull-clause-due : goal.returns-in-Some-TableFull-clause-due
+returns-in-Some-TableFull-clause-due g c = starts_in_time g.P.Transform.pause c.args.driven.now.chain c.args.cx.now.moment c.args.cx.now c.start.new.cx c.start.ensures.only
+
+pub returns-in-Some-Dead-clause-due : goal.returns-in-Some-Dead-clause-due
+returns-in-Some-Dead-clause-due g c = starts_in_time g.P.Transform.pause c.args.driven.now.chain c.args.cx.now.moment c.args.cx.now c.start.new.cx c.start.ensures.only

@@ -1,4 +1,4 @@
-use Rattle.std.proofs.Common.{◌≡◌, length, take, false, refl, sym, ap, subst, ◌∙◌}
+use Rattle.std.proofs.Common.{length, take, false, refl, sym, ap, subst, ◌∙◌}
 use Rattle.ts_transform.specs.Flow.{ChainState, client_wait}
 use Rattle.ts_txn.specs.Relaying.{StepsChain}
 use Rattle.std.specs.Arc.{arc_value}
