@@ -1,6 +1,6 @@
 -- The duties of a transaction when an event is handled, wherever it is on its course; and that none is left where nothing is
 -- pending, unless the event numbers are used up.
-use Rattle.std.proofs.Common.{◌≡◌, ◌≢◌, ◌≤◌, ◌⊎◌, inl, inr, ℕ, List, [], ◌∷◌, Bool, true, false, Option, Some, None, eqb, arith, refl, sym, ap, subst, ◌∙◌}
+use Rattle.std.proofs.Common.{◌≡◌, ◌≢◌, ◌≤◌, ◌⊎◌, inl, inr, ℕ, List, [], ◌∷◌, true, false, Option, Some, None, eqb, arith, refl, sym, ap, subst, ◌∙◌}
 use Rattle.std.specs.Prelude.{⊤}
 use Rattle.std.proofs.lemmas.Bool.Decides.{eqb_tells}
 use Rattle.ts_journal.specs.declared.entry.TheConstants.{GREATEST}
@@ -10,15 +10,15 @@ use Rattle.ts_journal.specs.State.{State, pending_at}
 use Rattle.ts_group.specs.declared.action.Named.{Named}
 use Rattle.ts_group.specs.Calls.{IsCalled}
 use Rattle.ts_group.specs.Changes.{SameEvents}
-use Rattle.ts_group.specs.Context.{AllPlain, Context, role_at}
+use Rattle.ts_group.specs.Context.{AllPlain, Context, IsOrderly, role_at}
 use Rattle.ts_group.proofs.Facts.{plain_at}
 use Rattle.ts_transform.specs.declared.continuation.StageContinuation.{StageContinuation}
 use Rattle.ts_transform.specs.Driving.{IsOfStageIf, IsRousedIf, unroused, works_at}
 use Rattle.ts_transform.specs.Seats.{AllSeated, HasKey}
 use Rattle.ts_transform.proofs.Handled.{handled_by, quiet_if, stays_if, unroused_if}
 use Rattle.ts_txn.specs.Cover.{HasNextEvent, Proceeds, is_fresh}
-use Rattle.ts_txn.specs.CourseCover.{BodyHasEvents, GoesAlone, HasEventsOn, HasStepDone, IsAlone, IsCoveredNow, IsCoveredOn, ProceedsOn, StandsBehind, course_seats}
-use Rattle.ts_txn.specs.Duties.{HandlesBody, IsBodyJoined, body_seats}
+use Rattle.ts_txn.specs.CourseCover.{BodyHasEvents, HasEventsOn, HasStepDone, IsAlone, IsCoveredNow, IsCoveredOn, ProceedsOn, StandsBehind, course_seats}
+use Rattle.ts_txn.specs.Duties.{BeginsBody, HandlesBody, body_seats}
 use Rattle.ts_txn.specs.Making.{end_of_phase}
 use Rattle.ts_txn.specs.View.{View}
 use Rattle.ts_txn.specs.declared.course.Course.{Course}
@@ -153,6 +153,19 @@ module _ {Q : Type 0} (Sound : State → List Named → Type 0) (v : View) (main
         ordered = h.ordered has.ordered;
       })
       by_event (inr spent) = inr (omega (arith, spent_still Sound now role event c covered.plain spent, grows_next now b c.orderly h.acts.grows))
+
+-- ---- a body begins
+
+pub stands_begun : {Q : Type 0} (step : BodyStep) (w : View) (t u : Option StageContinuation) (s : Relay Q) (a b : Context) → IsOrderly a → BeginsBody step w t u s a b → IsAlone t a → StandsBehind step w u s b
+stands_begun step w t u s a b orderly h alone = record {
+  seated = h.seated [] alone.seated;
+  plain = h.acts.plain alone.plain;
+  body = by_main alone.of_main;
+}
+  where
+    by_main : IsOfStageIf a.log.state.pending a.roles MAIN t ⊎ (GREATEST ≤ a.log.state.next) → HasStepDone step w u s b ⊎ (GREATEST ≤ b.log.state.next)
+    by_main (inl is) = inl (record { joined = h.joined is; covered = h.covered; runs = h.runs; ordered = h.ordered })
+    by_main (inr spent) = inr (omega (arith, spent, grows_next a b orderly h.acts.grows))
 
 -- ---- nothing is pending
 

@@ -18,8 +18,8 @@ use Rattle.ts_transform.proofs.Seating.{key_same, seated_set}
 use Rattle.ts_transform.proofs.Seats.{seated_cleared}
 use Rattle.ts_transform.proofs.Setting.{of_stages_named}
 use Rattle.ts_txn.specs.Cover.{HasNextEvent, HasNextEventOr, IsOfMain, is_ended}
-use Rattle.ts_txn.specs.CourseCover.{BodyHasEvents, CoversAlone, CoversLed, GoesAlone, HasRousedNext, HasStepDone, IsAlone, IsCoveredNow, StandsBehind}
-use Rattle.ts_txn.specs.Duties.{IsBodyCovered, RunsOr, UnlessLacking, WhileGoes, relay_seats}
+use Rattle.ts_txn.specs.CourseCover.{CoversAlone, CoversLed, GoesAlone, HasRousedNext, HasStepDone, IsAlone, IsCoveredNow, StandsBehind, StaysWhereNamed, StaysWhereSpent}
+use Rattle.ts_txn.specs.Duties.{RunsOr, UnlessLacking, relay_seats}
 use Rattle.ts_txn.specs.View.{View}
 use Rattle.ts_txn.specs.declared.course.Course.{Course}
 use Rattle.ts_txn.specs.declared.course.Course.TheVariants as K
@@ -192,14 +192,8 @@ lost_covers step r result t u a m b is clears gone none v stands =
     subst (λ x. IsCoveredNow v u x b) (sym is)
     (ended_by v u b (gone_seated t u m b gone (seated_cleared (t ∷ []) (relay_seats r) a m clears stands.seated)) (gone.less.plain (clears.less.plain stands.plain)) (P.Ended E.NoMemory) refl none)
 
--- it is passed on
-pub relays_covers : {Q : Type 0} (step : BodyStep) (r : Relay Q) (t : Option StageContinuation) (a : Context) → ((X : Type 0) → WhileGoes step X → X) → CoversLed step r t t (K.Relaying r) a a
-relays_covers step r t a goes v stands = record { seated = stands.seated; plain = stands.plain; idles = tt; covered = by_body stands.body }
-  where
-    by_cover : HasStepDone step v t r a → IsBodyCovered v t r a.log.state.next → BodyHasEvents v t r a.log.state.pending a.roles ⊎ (GREATEST ≤ a.log.state.next)
-    by_cover done (inl (runs, ends)) = inl (record { runs = runs; joined = done.joined runs; ends = ends; ordered = done.ordered })
-    by_cover done (inr spent) = inr spent
-
-    by_body : HasStepDone step v t r a ⊎ (GREATEST ≤ a.log.state.next) → BodyHasEvents v t r a.log.state.pending a.roles ⊎ (GREATEST ≤ a.log.state.next)
-    by_body (inl done) = by_cover done (goes (IsBodyCovered v t r a.log.state.next) done.covered)
-    by_body (inr spent) = inr spent
+-- used-up numbers do not end it there
+pub left_spent : {Q : Type 0} (led : Course Q) (r : Relay Q) (result : Course Q) (t : Option StageContinuation) (a b : Context) → Clears (relay_seats r) a b → StaysWhereSpent led result t b
+    → StaysWhereNamed led r result t a
+left_spent led r result t a b clears stays named all spent live =
+    stays (subst (λ (n : ℕ). GREATEST ≤ n) (sym clears.less.next) spent) ((clears.others READER all MAIN t (inl (omega arith)) named).live live)

@@ -7,12 +7,12 @@ use Rattle.ts_group.specs.declared.action.Named.{Named}
 use Rattle.ts_group.specs.Context.{AllPlain, Context}
 use Rattle.ts_hooks.specs.declared.txn_end.TxnEnd.TheVariants as E
 use Rattle.ts_transform.specs.Carrying.{IsJoined}
-use Rattle.ts_transform.specs.Driving.{IsOfStageIf, IsRousedIf}
+use Rattle.ts_transform.specs.Driving.{ActsWithin, AreNamed, HasLiveIf, IsNamedIf, IsOfStageIf, IsRousedIf}
 use Rattle.ts_transform.specs.Flow.{EndsInOrder}
 use Rattle.ts_transform.specs.Seats.{AllSeated}
 use Rattle.ts_transform.specs.declared.continuation.StageContinuation.{StageContinuation}
 use Rattle.ts_txn.specs.Cover.{HasNextEvent, Idles, Proceeds}
-use Rattle.ts_txn.specs.Duties.{AreBodyEndsRoused, IsBodyCovered, IsBodyJoined, RunsOr, UnlessLacking, WhileGoes, body_seats}
+use Rattle.ts_txn.specs.Duties.{AreBodyEndsRoused, IsBodyCovered, IsBodyJoined, RunsOr, UnlessLacking, WhileGoes, body_seats, relay_seats}
 use Rattle.ts_txn.specs.View.{View}
 use Rattle.ts_txn.specs.declared.course.Course.{Course}
 use Rattle.ts_txn.specs.declared.course.Course.TheVariants as K
@@ -23,6 +23,7 @@ use Rattle.ts_txn.specs.declared.phase.Next.{Next}
 use Rattle.ts_txn.specs.declared.phase.Next.TheVariants as N
 use Rattle.ts_txn.specs.declared.phase.Phase.TheVariants as P
 use Rattle.ts_txn.specs.declared.relay.Relay.{Relay}
+use Rattle.ts_txn.specs.declared.relay.TheConstants.{READER}
 
 -- the continuations of a transaction
 abbrev pub course_seats : {Q : Type 0} → Option StageContinuation → Course Q → List (Option StageContinuation)
@@ -80,6 +81,10 @@ GoesAlone (K.Finishing end) = ⊤
 abbrev pub StaysOnOrLacks : {Q : Type 0} → Course Q → Course Q → Type 0
 StaysOnOrLacks {Q} old new = (new ≡ old) ⊎ (new ≡ K.Phased (P.Ended E.NoMemory))
 
+-- a handler's calls set one event, or none
+abbrev pub SetsOneOrNone : Context → Context → Type 0
+SetsOneOrNone a b = ActsWithin 1 a b
+
 -- how many events are set at most where a body is left, and behind the step of a phase
 abbrev pub set_leaving : BodyStep → ℕ
 set_leaving S.Goes = 0
@@ -89,6 +94,15 @@ set_leaving step = 1
 abbrev pub set_after : Next → ℕ
 set_after N.Done = 0
 set_after next = 1
+
+-- used-up event numbers never end it, where its first continuation is live
+abbrev pub StaysWhereSpent : {Q : Type 0} → Course Q → Course Q → Option StageContinuation → Context → Type 0
+StaysWhereSpent {Q} led result main now = GREATEST ≤ now.log.state.next → HasLiveIf now.log.state.live main → result ≡ led
+
+-- nor do they where a body is left, whose continuations have their roles
+abbrev pub StaysWhereNamed : {Q : Type 0} → Course Q → Relay Q → Course Q → Option StageContinuation → Context → Type 0
+StaysWhereNamed led r result main now = IsNamedIf now.roles MAIN main → AreNamed now.roles READER (relay_seats r)
+    → StaysWhereSpent led result main now
 
 -- how long after a step of the last writes the next one is made, in milliseconds
 abbrev pub pause_of : BodyStep → ℕ
