@@ -410,7 +410,7 @@ links_read ct ot v w step result t r q s a c b minds settled kept steps handled 
 }
 
 -- a role is that of a stage, or it is not
-stage_at : {P : Type 0} (role : ℕ) (c : ChainState P) (ts : List (Option StageContinuation)) → ((at : ℕ) × (role ≡ FIRST + at) × IsStage c ts at) ⊎ ((at : ℕ) → role ≡ FIRST + at → IsStage c ts at → ⊥)
+pub stage_at : {P : Type 0} (role : ℕ) (c : ChainState P) (ts : List (Option StageContinuation)) → ((at : ℕ) × (role ≡ FIRST + at) × IsStage c ts at) ⊎ ((at : ℕ) → role ≡ FIRST + at → IsStage c ts at → ⊥)
 stage_at {P} role c ts = by_role (leb_tells 3 role)
   where
     by_len : (at : ℕ) → role ≡ 3 + at → at + 1 ≤ length ts → ((eqb (length ts) (length c.stages) ≡ true) × (length ts ≡ length c.stages)) ⊎ ((eqb (length ts) (length c.stages) ≡ false) × (length ts ≡ length c.stages → ⊥))

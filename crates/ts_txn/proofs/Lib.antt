@@ -22,11 +22,17 @@ pub mod Leaving
 pub mod Lowering
 pub mod LoweringAnswers
 pub mod LoweringBody
+pub mod LoweringCourse
 pub mod LoweringEntry
 pub mod LoweringEvents
 pub mod LoweringHeads
 pub mod LoweringLeads
+pub mod LoweringPays
+pub mod LoweringRelay
 pub mod LoweringResponse
+pub mod LoweringRest
+pub mod LoweringStages
+pub mod LoweringStands
 pub mod LoweringSteps
 pub mod LoweringUpload
 pub mod Made

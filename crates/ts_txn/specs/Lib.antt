@@ -19,6 +19,7 @@ pub mod Holding
 pub mod Inserted
 pub mod Lowering
 pub mod LoweringBody
+pub mod LoweringCourse
 pub mod Making
 pub mod Moving
 pub mod Own

@@ -1,11 +1,13 @@
 //! How a body begins to be passed on: the client's head is queued, and continuations are made.
 ghost use Rattle.std.specs.Prelude.{◌≡◌, [], true, false, None, OnErr, IfOk};
+ghost use Rattle.std.specs.Arc.{arc_value};
 ghost use Rattle.ts_transform.specs.Flow.{OnlyFirstWorks};
 ghost use Rattle.ts_wire.specs.Place.{state_of};
 ghost use Rattle.ts_txn.specs.Feeding.{OnGoes};
 ghost use Rattle.ts_transform.specs.Driving.{SetsOnly};
 ghost use Rattle.ts_txn.specs.Relaying.{IsOfRoleFrom, RelayLeads, StepsChain};
 ghost use Rattle.ts_txn.specs.Entering.{ActsAsLines, BeginsChain, BeginsRelay, EnterHolds, EntersAfter, GetsStart, HeadHolds, IsUnbegun, LacksAfter, QuietLinks};
+ghost use Rattle.ts_txn.specs.LoweringBody.{BeginsLower, LowersEntering};
 ghost use Rattle.ts_txn.specs.Holding.{StepKeeps};
 ghost use Rattle.ts_txn.specs.View.{view_of};
 
@@ -99,6 +101,8 @@ impl<C: Link, O: Upstream<C>> Core<C, O> {
         ensures fresh { IfOk result (λ r. IsUnbegun r
             × (r.driven.chain.given ≡ false) × OnlyFirstWorks r.driven.chain) }
         ensures quiet { QuietLinks (view_of C.look O.look self.old) (view_of C.look O.look self.new) }
+        ensures lowers { IfOk result (LowersEntering C.tells O.tells (arc_value self.old.setup) P.rest
+            request.now head.now (view_of C.look O.look self.old) (view_of C.look O.look self.new)) }
         ensures keeps { StepKeeps C.look O.look O.paired O.refuses self.old self.new }
     {
         let Ok(made) = make_relay(self.alloc, &self.setup, &request.head, head) else {
@@ -118,12 +122,14 @@ impl<C: Link, O: Upstream<C>> Core<C, O> {
     pub fn enter_body<P: Transform + Drop>(&self, relay: &mut Relay<P>, cx: &mut Cx) -> BodyStep
         requires turn { cx.old.log.state.held ≡ true }
         requires fresh { IsUnbegun relay.old }
-        requires goes_on { relay.old.driven.chain.given ≡ false }
-        requires first { OnlyFirstWorks relay.old.driven.chain }
+        requires goes_on { (relay.old.driven.chain.given ≡ false)
+            × OnlyFirstWorks relay.old.driven.chain }
         requires fact { EnterHolds C.tells O.tells C.look O.look O.refuses P.rest self.now relay.old }
         ensures leads { RelayLeads C.tells O.tells C.look O.look O.refuses P.rest self.now self.now
             relay.new result }
         ensures begins { BeginsRelay result relay.new cx.old cx.new }
+        ensures lowers { BeginsLower (arc_value self.now.setup) P.rest result (view_of C.look O.look self.now)
+            relay.old relay.new }
         ensures due { relay.new.driven.running ≡ true
             → SetsOnly (IsOfRoleFrom FIRST cx.new.roles) cx.old cx.new }
     {

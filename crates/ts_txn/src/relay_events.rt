@@ -1,5 +1,7 @@
 //! The events of the continuations while a body is passed on: a step, and then both ends are roused.
 ghost use Rattle.std.specs.Prelude.{◌≡◌, ◌≢◌, true, false};
+ghost use Rattle.std.specs.Arc.{arc_value};
+ghost use Rattle.ts_txn.specs.LoweringBody.{BeginsLower, PaysBody};
 ghost use Rattle.ts_txn.specs.View.{view_of};
 ghost use Rattle.ts_txn.specs.Relaying.{RelayHolds, RelayLeads};
 ghost use Rattle.ts_transform.specs.Flow.{OnlyFirstWorks};
@@ -82,6 +84,8 @@ impl<C: Link, O: Upstream<C>> Core<C, O> {
             (view_of C.look O.look self.new) main.old main.new relay.old relay.new cx.old cx.new }
         ensures links { HandlesLinks C.tells O.tells (view_of C.look O.look self.old)
             (view_of C.look O.look self.new) main.old relay.old relay.new result cx.old cx.new }
+        ensures pays { PaysBody C.tells O.tells (arc_value self.old.setup) P.rest result
+            (view_of C.look O.look self.old) (view_of C.look O.look self.new) main.old relay.old relay.new cx.old cx.new }
     {
         if !works(event) {
             return BodyStep::Goes;
@@ -109,6 +113,8 @@ impl<C: Link, O: Upstream<C>> Core<C, O> {
             (view_of C.look O.look self.new) main.old main.new relay.old relay.new cx.old cx.new }
         ensures links { HandlesLinks C.tells O.tells (view_of C.look O.look self.old)
             (view_of C.look O.look self.new) main.old relay.old relay.new result cx.old cx.new }
+        ensures pays { PaysBody C.tells O.tells (arc_value self.old.setup) P.rest result
+            (view_of C.look O.look self.old) (view_of C.look O.look self.new) main.old relay.old relay.new cx.old cx.new }
     {
         if !works(event) {
             return BodyStep::Goes;
@@ -137,6 +143,8 @@ impl<C: Link, O: Upstream<C>> Core<C, O> {
             (view_of C.look O.look self.now) main.old main.new relay.old relay.new cx.old cx.new }
         ensures links { HandlesLinks C.tells O.tells (view_of C.look O.look self.now)
             (view_of C.look O.look self.now) main.old relay.old relay.new result cx.old cx.new }
+        ensures pays { PaysBody C.tells O.tells (arc_value self.now.setup) P.rest result
+            (view_of C.look O.look self.now) (view_of C.look O.look self.now) main.old relay.old relay.new cx.old cx.new }
     {
         cx.known();
         let step = step_after(relay.driven.handle(FIRST, role, event, cx));
@@ -161,6 +169,8 @@ impl<C: Link, O: Upstream<C>> Core<C, O> {
             (view_of C.look O.look self.new) main.old main.new relay.old relay.new cx.old cx.new }
         ensures links { HandlesLinks C.tells O.tells (view_of C.look O.look self.old)
             (view_of C.look O.look self.new) main.old relay.old relay.new result cx.old cx.new }
+        ensures pays { PaysBody C.tells O.tells (arc_value self.old.setup) P.rest result
+            (view_of C.look O.look self.old) (view_of C.look O.look self.new) main.old relay.old relay.new cx.old cx.new }
     {
         if role == MAIN {
             return self.send_at(main, relay, event, cx);
@@ -180,13 +190,15 @@ impl<C: Link, O: Upstream<C>> Core<C, O> {
     ) -> BodyStep
         requires turn { cx.old.log.state.held ≡ true }
         requires fresh { IsUnbegun relay.old }
-        requires goes_on { relay.old.driven.chain.given ≡ false }
-        requires first { OnlyFirstWorks relay.old.driven.chain }
+        requires goes_on { (relay.old.driven.chain.given ≡ false)
+            × OnlyFirstWorks relay.old.driven.chain }
         requires fact { EnterHolds C.tells O.tells C.look O.look O.refuses P.rest self.now relay.old }
         ensures leads { RelayLeads C.tells O.tells C.look O.look O.refuses P.rest self.now self.now
             relay.new result }
         ensures begins { BeginsBody result (view_of C.look O.look self.now) main.old main.new relay.new
             cx.old cx.new }
+        ensures lowers { BeginsLower (arc_value self.now.setup) P.rest result (view_of C.look O.look self.now)
+            relay.old relay.new }
         ensures due { BeginsInTime main.old relay.new cx.old cx.new }
     {
         let step = self.enter_body(relay, cx);

@@ -1,7 +1,9 @@
 //! The steps that read a body from the origin: one read, or what waits is fed to the reader of bodies.
 ghost use Rattle.std.specs.Prelude.{◌≡◌, [], true, false};
+ghost use Rattle.std.specs.Arc.{arc_value};
 ghost use Rattle.ts_transform.specs.Flow.{MustRead};
 ghost use Rattle.ts_txn.specs.BodyLinks.{MindsBody, is_late};
+ghost use Rattle.ts_txn.specs.LoweringBody.{LowersBody};
 ghost use Rattle.ts_txn.specs.View.{view_of};
 ghost use Rattle.ts_txn.specs.Relaying.{RelayHolds, RelayLeads, StepsChain};
 ghost use Rattle.ts_txn.specs.Holding.{StepKeeps};
@@ -28,7 +30,8 @@ impl<C: Link, O: Upstream<C>> Core<C, O> {
             relay.new result }
         ensures keeps { StepKeeps C.look O.look O.paired O.refuses self.old self.new }
         ensures chain { StepsChain result 2 relay.old.driven relay.new.driven cx.old cx.new }
-        ensures reader { relay.new.reader ≡ relay.old.reader }
+        ensures lowers { LowersBody C.tells O.tells (MustRead relay.old.driven.chain) (arc_value self.old.setup) P.rest
+            result (view_of C.look O.look self.old) (view_of C.look O.look self.new) relay.old relay.new cx.old cx.new }
         ensures links { MindsBody C.tells O.tells (view_of C.look O.look self.old)
             (view_of C.look O.look self.new) relay.old.driven.chain relay.new.driven.chain result
             false (is_late result) }
@@ -47,7 +50,8 @@ impl<C: Link, O: Upstream<C>> Core<C, O> {
             relay.new result }
         ensures keeps { StepKeeps C.look O.look O.paired O.refuses self.old self.new }
         ensures chain { StepsChain result 2 relay.old.driven relay.new.driven cx.old cx.new }
-        ensures reader { relay.new.reader ≡ relay.old.reader }
+        ensures lowers { LowersBody C.tells O.tells (MustRead relay.old.driven.chain) (arc_value self.old.setup) P.rest
+            result (view_of C.look O.look self.old) (view_of C.look O.look self.new) relay.old relay.new cx.old cx.new }
         ensures links { MindsBody C.tells O.tells (view_of C.look O.look self.old)
             (view_of C.look O.look self.new) relay.old.driven.chain relay.new.driven.chain result
             false (is_late result) }
@@ -80,6 +84,8 @@ impl<C: Link, O: Upstream<C>> Core<C, O> {
         ensures keeps { StepKeeps C.look O.look O.paired O.refuses self.old self.new }
         ensures chain { StepsChain result 2 relay.old.driven relay.new.driven cx.old cx.new }
         ensures reader { relay.new.reader ≡ relay.old.reader }
+        ensures lowers { LowersBody C.tells O.tells (MustRead relay.old.driven.chain) (arc_value self.old.setup) P.rest
+            result (view_of C.look O.look self.old) (view_of C.look O.look self.new) relay.old relay.new cx.old cx.new }
         ensures links { MindsBody C.tells O.tells (view_of C.look O.look self.old)
             (view_of C.look O.look self.new) relay.old.driven.chain relay.new.driven.chain result
             false (is_late result) }

@@ -1,7 +1,11 @@
 //! The steps that write a body to the client: what waits is written, a piece is framed, or the end is.
 ghost use Rattle.std.specs.Prelude.{◌≡◌, ◌<◌, [], true, false, length, take};
-ghost use Rattle.ts_transform.specs.Flow.{flow};
+ghost use Rattle.std.specs.Arc.{arc_value};
+ghost use Rattle.ts_group.specs.Context.{Context};
+ghost use Rattle.ts_transform.specs.Flow.{IsFinished, flow};
 ghost use Rattle.ts_wire.specs.Frames.{IsPiece};
+ghost use Rattle.ts_txn.specs.Duties.{MustSend};
+ghost use Rattle.ts_txn.specs.LoweringBody.{LowersBody};
 ghost use Rattle.ts_txn.specs.View.{view_of};
 ghost use Rattle.ts_txn.specs.BodyLinks.{MindsBody, is_late};
 ghost use Rattle.ts_txn.specs.Relaying.{RelayHolds, RelayLeads, StepsChain};
@@ -32,6 +36,7 @@ fn piece_of(bytes: &[u8]) -> &[u8]
 fn has_given_all<P: Transform + Drop>(chain: &Chain<P>) -> bool
     ensures given { result ≡ true → chain.now.given ≡ true }
     ensures all { result ≡ true → flow P.rest chain.now [] ≡ [] }
+    ensures only { chain.now.given ≡ true → IsFinished chain.now → result ≡ true }
 {
     chain.is_given() && chain.is_finished()
 }
@@ -45,6 +50,9 @@ impl<C: Link, O: Upstream<C>> Core<C, O> {
         ensures leads { RelayLeads C.tells O.tells C.look O.look O.refuses P.rest self.old self.new
             relay.now result }
         ensures keeps { StepKeeps C.look O.look O.paired O.refuses self.old self.new }
+        ensures lowers { (now : Context) → LowersBody C.tells O.tells
+            ((relay.now.driven.chain.given ≡ true) × IsFinished relay.now.driven.chain) (arc_value self.old.setup) P.rest
+            result (view_of C.look O.look self.old) (view_of C.look O.look self.new) relay.now relay.now now now }
         ensures links { MindsBody C.tells O.tells (view_of C.look O.look self.old)
             (view_of C.look O.look self.new) relay.now.driven.chain relay.now.driven.chain result
             (is_late result) false }
@@ -62,8 +70,8 @@ impl<C: Link, O: Upstream<C>> Core<C, O> {
     #[tactic(auto, using(crate::proofs::BodyLinks::minds_queued))]
     fn frame_some<P: Transform + Drop>(&mut self, relay: &mut Relay<P>, cx: &mut Cx) -> BodyStep
         requires turn { cx.old.log.state.held ≡ true }
-        requires fact { RelayHolds C.tells O.tells C.look O.look O.refuses P.rest self.old relay.old }
-        requires empty { (view_of C.look O.look self.old).client.outbox ≡ [] }
+        requires stands { RelayHolds C.tells O.tells C.look O.look O.refuses P.rest self.old relay.old
+            × ((view_of C.look O.look self.old).client.outbox ≡ []) }
         ensures leads { RelayLeads C.tells O.tells C.look O.look O.refuses P.rest self.old self.new
             relay.new result }
         ensures keeps { StepKeeps C.look O.look O.paired O.refuses self.old self.new }
@@ -72,6 +80,9 @@ impl<C: Link, O: Upstream<C>> Core<C, O> {
             (is_late result) false }
         ensures chain { StepsChain result 1 relay.old.driven relay.new.driven cx.old cx.new }
         ensures relay { relay.new ≡ record relay.old { driven = relay.new.driven } }
+        ensures lowers { LowersBody C.tells O.tells (MustSend (view_of C.look O.look self.old) relay.old.driven.chain)
+            (arc_value self.old.setup) P.rest result
+            (view_of C.look O.look self.old) (view_of C.look O.look self.new) relay.old relay.new cx.old cx.new }
     {
         let Some(block) = relay.driven.chain().out_block() else {
             return self.end_some(relay);
@@ -98,6 +109,9 @@ impl<C: Link, O: Upstream<C>> Core<C, O> {
             (is_late result) false }
         ensures chain { StepsChain result 1 relay.old.driven relay.new.driven cx.old cx.new }
         ensures relay { relay.new ≡ record relay.old { driven = relay.new.driven } }
+        ensures lowers { LowersBody C.tells O.tells (MustSend (view_of C.look O.look self.old) relay.old.driven.chain)
+            (arc_value self.old.setup) P.rest result
+            (view_of C.look O.look self.old) (view_of C.look O.look self.new) relay.old relay.new cx.old cx.new }
     {
         if self.client.outbox.is_empty() {
             return self.frame_some(relay, cx);
