@@ -12,7 +12,7 @@ use Rattle.ts_transform.proofs.Setting.{only_none}
 use Rattle.std.specs.Prelude.{⊤}
 use Rattle.ts_txn.specs.Course.{course_after}
 use Rattle.ts_txn.specs.CourseCover.{IsCoveredNow, StaysOnOrLacks}
-use Rattle.ts_txn.specs.Driven.{BeginsIn, DueTo, HandlesEvent, HandlesOn, HandlesStep, HandlesWrite, MindsCourse, TakesEvent, TakesOn, TakesStep, delay_of}
+use Rattle.ts_txn.specs.Driven.{BeginsIn, BeginsOnTime, DueTo, HandlesEvent, HandlesOn, HandlesStep, HandlesWrite, MindsCourse, TakesEvent, TakesOn, TakesStep, delay_of}
 use Rattle.ts_txn.specs.Entering.{QuietLinks}
 use Rattle.ts_txn.specs.Steps.{LeavesClient, LeavesClientIn, LeavesOrigin, LeavesOriginIn, LeavesSides, MindsLinksIn, WaitsRightly}
 use Rattle.ts_txn.specs.Holding.{IfTold}
@@ -137,26 +137,27 @@ module _ {C O Q : Type 0} (ct ot : Bool) (client : C → Look) (origin : O → L
   }
 
   -- the event of the next step is due then
-  pub due_step : (a b : Context) (next : Next) (p : Phase) (new : Course Q) → StaysOnOrLacks (K.Phased p) new → SetsOnly (IsDueAfter (delay_of next) a.moment) a b → DueTo next new a b
-  due_step a b next p new (inl same) due = subst (λ x. DueTo next x a b) (sym same) due
-  due_step a b next p new (inr lacks) due = subst (λ x. DueTo next x a b) (sym lacks) due
+  pub due_step : (main : Option StageContinuation) (a b : Context) (next : Next) (p : Phase) (new : Course Q) → StaysOnOrLacks (K.Phased p) new
+      → SetsOnly (IsDueAfter (delay_of next) a.moment) a b → DueTo main next new a b
+  due_step main a b next p new (inl same) due = subst (λ x. DueTo main next x a b) (sym same) due
+  due_step main a b next p new (inr lacks) due = subst (λ x. DueTo main next x a b) (sym lacks) due
 
   -- where a body was begun, or nothing is pending any more
-  pub due_begin : (v : View) (u : Option StageContinuation) (a b : Context) (new : Course Q) (r : Relay Q) → IsCoveredNow v u new b
-      → (new ≡ K.Relaying r) ⊎ (new ≡ K.Phased (P.Ended E.NoMemory)) → DueTo N.Go new a b
-  due_begin v u a b new r covered (inl same) = subst (λ x. DueTo N.Go x a b) (sym same) tt
-  due_begin v u a b new r covered (inr lacks) =
-      subst (λ x. DueTo N.Go x a b) (sym lacks) (none_due (subst (λ x. IsCoveredNow v u x b) lacks covered))
+  pub due_begin : (main : Option StageContinuation) (v : View) (u : Option StageContinuation) (a b : Context) (new : Course Q) (r : Relay Q) → BeginsOnTime main r a b → IsCoveredNow v u new b
+      → (new ≡ K.Relaying r) ⊎ (new ≡ K.Phased (P.Ended E.NoMemory)) → DueTo main N.Go new a b
+  due_begin main v u a b new r begins covered (inl same) = subst (λ x. DueTo main N.Go x a b) (sym same) begins
+  due_begin main v u a b new r begins covered (inr lacks) =
+      subst (λ x. DueTo main N.Go x a b) (sym lacks) (none_due (subst (λ x. IsCoveredNow v u x b) lacks covered))
     where
       unseated : (p : Pending) → HasKey (None ∷ []) p.key → ⊥
       unseated p has = has
 
-      none_due : IsCoveredNow {Q = Q} v u (K.Phased (P.Ended E.NoMemory)) b → DueTo {Q = Q} N.Go (K.Phased (P.Ended E.NoMemory)) a b
+      none_due : IsCoveredNow {Q = Q} v u (K.Phased (P.Ended E.NoMemory)) b → DueTo {Q = Q} main N.Go (K.Phased (P.Ended E.NoMemory)) a b
       none_due h n p none there = absurd (unseated p (subst (λ m. AllSeated b.log.state.pending (m ∷ [])) h.idles h.seated n p there))
 
   -- nothing was done in a phase
-  pub quiet_step : (t : Core C O) (p : Phase) (a : Context) → HandlesStep {Q = Q} ct ot client origin paired refuses left t t a a p (K.Phased p)
-  quiet_step t p a =
+  pub quiet_step : (main : Option StageContinuation) (t : Core C O) (p : Phase) (a : Context) → HandlesStep {Q = Q} ct ot client origin paired refuses left t t a a main p (K.Phased p)
+  quiet_step main t p a =
       let v = view_of client origin t in
       record {
         next = N.Go;
@@ -170,7 +171,7 @@ module _ {C O Q : Type 0} (ct ot : Bool) (client : C → Look) (origin : O → L
 
   -- nor while the last is written
   pub quiet_write : (t : Core C O) (end : TxnEnd) (a : Context) → HandlesWrite {Q = Q} ct ot client origin paired refuses left t t a a end (K.Finishing end)
-  quiet_write t end a = record { step = S.Goes; takes = inl (refl, refl); due = only_none (IsDueAfter 0 a.moment) a }
+  quiet_write t end a = record { step = S.Goes; takes = inl (refl, refl, refl); due = only_none (IsDueAfter 0 a.moment) a }
 
   -- where an event leads, without the moments of those that are set
   takes_on : (s t : Core C O) (a b : Context) (main : Option StageContinuation) (old new : Course Q) → HandlesOn ct ot client origin paired refuses left s t a b main old new

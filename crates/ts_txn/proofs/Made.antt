@@ -71,6 +71,7 @@ module _ {C O Q : Type 0} (client : C → Look) (origin : O → Look) (c : C) (o
           holds = λ told also. asking (unused told) (unused_origin also) head mode cuts;
           pair = paired_if paired o t.core.origin of_origin pair;
           acts = acts;
+          lines = tt;
         };
         covered = record {
           seated = λ n p there. let wrong : ◌≡◌ {A = Option Pending} None (Some p) = there in absurd (cc);

@@ -14,7 +14,7 @@ use Rattle.ts_txn.specs.Ends.{EndFact}
 use Rattle.ts_txn.specs.Making.{end_of, end_of_phase}
 use Rattle.ts_txn.specs.Resting.{HasEndedSo, NeverFailed, RestsWithBlock, SendsBlock}
 use Rattle.ts_txn.specs.Resting as rest
-use Rattle.ts_txn.specs.View.{View, view_of}
+use Rattle.ts_txn.specs.View.{OriginRefuses, View, view_of}
 use Rattle.ts_txn.specs.World.{IsSoundTxn}
 use Rattle.ts_txn.specs.declared.course.Course.{Course}
 use Rattle.ts_txn.specs.declared.course.Course.TheVariants as K
@@ -67,6 +67,7 @@ module _ {C O Q : Type 0} (ct ot : Bool) (client : C → Look) (origin : O → L
       v : View
       v = view_of client origin t.core
 
-      by_end : (o : Option TxnEnd) → end_of t.course ≡ o → (end : TxnEnd) × (end_of t.course ≡ Some end) × _
+      by_end : (o : Option TxnEnd) → end_of t.course ≡ o → (end : TxnEnd) × (end_of t.course ≡ Some end)
+          × SendsBlock (arc_value t.core.setup) (OriginRefuses client refuses t.core) v end
       by_end None none = absurd (let spent : GREATEST ≤ next = at_rest ct ot client origin paired refuses rest whole t next roles started none sound in omega (arith, spent, few))
-      by_end (Some end) is = (end, is, sends_block _ _ v end never (λ (lacks : end ≡ E.NoMemory). memory (is ∙ ap Some lacks)) (ended_so [] next roles end is sound told also))
+      by_end (Some end) is = (end, is, sends_block (arc_value t.core.setup) (OriginRefuses client refuses t.core) v end never (λ (lacks : end ≡ E.NoMemory). memory (is ∙ ap Some lacks)) (ended_so [] next roles end is sound told also))

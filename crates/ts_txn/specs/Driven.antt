@@ -1,13 +1,14 @@
 -- What an event of a transaction leads to, by how far it is: in a phase it makes a step, while a body is passed on a part
 -- of that, and then one of the last writes.
-use Rattle.std.specs.Prelude.{◌≡◌, ◌⊎◌, ℕ, Bool, List, Option, ⊤}
+use Rattle.std.specs.Prelude.{◌≡◌, ◌⊎◌, ℕ, Bool, List, Option}
 use Rattle.ts_group.specs.Context.{Context}
+use Rattle.ts_group.specs.Entries.{Grows}
 use Rattle.ts_hooks.specs.declared.txn_end.TxnEnd.{TxnEnd}
 use Rattle.ts_hooks.specs.declared.txn_end.TxnEnd.TheVariants as E
 use Rattle.ts_link.specs.Link.{Look}
 use Rattle.ts_transform.specs.Driving.{IsDueAfter, SetsOnly}
 use Rattle.ts_transform.specs.declared.continuation.StageContinuation.{StageContinuation}
-use Rattle.ts_txn.specs.BodyLinks.{HandlesLinks, MindsBody, SendsRest}
+use Rattle.ts_txn.specs.BodyLinks.{BeginsInTime, HandlesLinks, MindsBody, SendsRest}
 use Rattle.ts_txn.specs.Course.{course_after, finish_after}
 use Rattle.ts_txn.specs.CourseCover.{StaysOnOrLacks, pause_of}
 use Rattle.ts_txn.specs.Entering.{QuietLinks}
@@ -16,8 +17,10 @@ use Rattle.ts_txn.specs.Steps.{LeavesSides, MindsLinksIn, WaitsRightly}
 use Rattle.ts_txn.specs.View.{View, view_of}
 use Rattle.ts_txn.specs.declared.course.Course.{Course}
 use Rattle.ts_txn.specs.declared.course.Course.TheVariants as K
+use Rattle.ts_txn.specs.declared.course_leaving.TheConstants.{AT_ONCE}
 use Rattle.ts_txn.specs.declared.driver.TheConstants.{RETRY}
 use Rattle.ts_txn.specs.declared.finishing.BodyStep.{BodyStep}
+use Rattle.ts_txn.specs.declared.finishing.BodyStep.TheVariants as S
 use Rattle.ts_txn.specs.declared.parts.Core.{Core}
 use Rattle.ts_txn.specs.declared.phase.Next.{Next}
 use Rattle.ts_txn.specs.declared.phase.Next.TheVariants as N
@@ -36,11 +39,20 @@ abbrev pub BeginsIn : Phase → View → View → Type 0
 BeginsIn (P.ResponseTransform q h) v w = QuietLinks v w
 BeginsIn _ v w = ⊥
 
+-- Where a body begins, what is set is of one of its stages, or lets an end of it work at once; and where it is left at
+-- once, the event of the next step is due then.
+pub record BeginsOnTime {Q : Type 0} (main : Option StageContinuation) (r : Relay Q) (a b : Context) : Type 0 where
+  pub behind : Context
+  pub first : Grows a behind
+  pub then : Grows behind b
+  pub begins : BeginsInTime main r a behind
+  pub due : SetsOnly (IsDueAfter AT_ONCE behind.moment) behind b
+
 -- the event of the next step, if one is set, is due when that step is to be made
-abbrev pub DueTo : {Q : Type 0} → Next → Course Q → Context → Context → Type 0
-DueTo next (K.Phased p) a b = SetsOnly (IsDueAfter (delay_of next) a.moment) a b
-DueTo next (K.Relaying r) a b = ⊤
-DueTo next (K.Finishing end) a b = ⊥
+abbrev pub DueTo : {Q : Type 0} → Option StageContinuation → Next → Course Q → Context → Context → Type 0
+DueTo main next (K.Phased p) a b = SetsOnly (IsDueAfter (delay_of next) a.moment) a b
+DueTo main next (K.Relaying r) a b = BeginsOnTime main r a b
+DueTo main next (K.Finishing end) a b = ⊥
 
 module _ {C O Q : Type 0} (ctells otells : Bool) (client : C → Look) (origin : O → Look)
     (paired : C → O → Type 0) (refuses : O → List ℕ → Type 0) (left : C → O → Option ℕ)
@@ -77,7 +89,8 @@ module _ {C O Q : Type 0} (ctells otells : Bool) (client : C → Look) (origin :
 
   -- it is, or nothing is done
   abbrev pub WritesOr : TxnEnd → BodyStep → Course Q → Type 0
-  WritesOr end step new = ((t ≡ s) × (new ≡ K.Finishing end)) ⊎ TakesWrite end step new
+  WritesOr end step new =
+      ((step ≡ S.Goes) × (t ≡ s) × (new ≡ K.Finishing end)) ⊎ TakesWrite end step new
 
   -- what one event leads to
   abbrev pub TakesOn : Course Q → Course Q → Type 0
@@ -92,19 +105,22 @@ module _ {C O Q : Type 0} (ctells otells : Bool) (client : C → Look) (origin :
 
   module _ (a b : Context) where
     -- the same, with the moments of the events that are set
-    pub record HandlesStep (old : Phase) (new : Course Q) : Type 0 where
+    pub record HandlesStep (main : Option StageContinuation) (old : Phase) (new : Course Q) : Type 0 where
       pub next : Next
       pub takes : TakesStep old next new
-      pub due : DueTo next new a b
+      pub due : DueTo main next new a b
 
+    -- while a body is passed on, and where it is left the event of the next step is due at once
     pub record HandlesRelay (main : Option StageContinuation) (old : Relay Q) (new : Course Q) : Type 0 where
       pub step : BodyStep
       pub after : Relay Q
       pub led : StaysOnOrLacks (course_after after step) new
       pub behind : Context
+      pub first : Grows a behind
+      pub then : Grows behind b
       pub links : HandlesLinks ctells otells (view_of client origin s) (view_of client origin t) main old after
           step a behind
-      pub due : SetsOnly (IsDueAfter 0 behind.moment) behind b
+      pub due : SetsOnly (IsDueAfter AT_ONCE behind.moment) behind b
 
     pub record HandlesWrite (end : TxnEnd) (new : Course Q) : Type 0 where
       pub step : BodyStep
@@ -112,7 +128,7 @@ module _ {C O Q : Type 0} (ctells otells : Bool) (client : C → Look) (origin :
       pub due : SetsOnly (IsDueAfter (pause_of step) a.moment) a b
 
     abbrev pub HandlesOn : Option StageContinuation → Course Q → Course Q → Type 0
-    HandlesOn main (K.Phased phase) new = HandlesStep phase new
+    HandlesOn main (K.Phased phase) new = HandlesStep main phase new
     HandlesOn main (K.Relaying r) new = HandlesRelay main r new
     HandlesOn main (K.Finishing end) new = HandlesWrite end new
 

@@ -11,6 +11,7 @@ use Rattle.ts_transform.specs.declared.continuation.StageContinuation.{StageCont
 use Rattle.ts_txn.specs.Course.{CourseHolds}
 use Rattle.ts_txn.specs.CourseCover.{IsCoveredOn, StaysOnOrLacks}
 use Rattle.ts_txn.specs.Entering.{ActsAsLines}
+use Rattle.ts_txn.specs.LoweringCourse.{IsOfLinesOn}
 use Rattle.ts_txn.specs.View.{IsPaired, is_dialed, side_if, view_of}
 use Rattle.ts_txn.specs.Cover.{is_fresh_on}
 use Rattle.ts_txn.specs.declared.course.Course.{Course}
@@ -27,12 +28,13 @@ most_set = 7
 module _ {C O Q : Type 0} (ctells otells : Bool) (client : C → Look) (origin : O → Look)
     (paired : C → O → Type 0) (refuses : O → List ℕ → Type 0) (rest : Q → List ℕ → List ℕ)
     (whole : TransformLine → List ℕ → List ℕ) where
-  -- What its step may count on: it is where it is with right where its links tell, they belong together, and the
-  -- transforms do what the lines say.
+  -- What its step may count on: it is where it is with right where its links tell, they belong together, the transforms do
+  -- what the lines say, and a body that is passed on goes through such.
   pub record HoldsOn (core : Core C O) (course : Course Q) : Type 0 where
     pub holds : CourseHolds ctells otells client origin refuses rest core course
     pub pair : IsPaired paired core
     pub acts : ActsAsLines whole
+    pub lines : IsOfLinesOn (arc_value core.setup) rest course
 
   -- so it stands, and each of its duties has an event
   pub record IsSoundOn (core : Core C O) (main : Option StageContinuation) (course : Course Q)

@@ -4,6 +4,7 @@ ghost use Rattle.ts_group.specs.Calls.{IsCalled};
 ghost use Rattle.ts_transform.specs.Driving.{ActsWithin};
 ghost use Rattle.ts_txn.specs.CourseCover.{IsAlone};
 ghost use Rattle.ts_txn.specs.Driven.{HandlesEvent};
+ghost use Rattle.ts_txn.specs.LoweringCourse.{PaysEvents};
 ghost use Rattle.ts_txn.specs.World.{HoldsOn, IsSoundNow, IsSoundOn, most_set};
 
 use crate::course_leaving::{leave, write_on};
@@ -50,6 +51,8 @@ pub fn relay_on<C: Link, O: Upstream<C>, P: Transform<Line = TransformLine> + Dr
     ensures within { ActsWithin most_set cx.old cx.new }
     ensures handles { HandlesEvent C.tells O.tells C.look O.look O.paired O.refuses O.upload_left
         core.old core.new cx.old cx.new main.old (Course.Relaying relay) result }
+    ensures pays { PaysEvents C.tells O.tells C.look O.look O.upload_left P.rest
+        core.old core.new (Course.Relaying relay) result cx.old cx.new }
 {
     let mut relay = relay;
     let step = core.handle_body(main, &mut relay, role, event, cx);
@@ -72,6 +75,8 @@ pub fn finish_on<C: Link, O: Upstream<C>, P: Transform<Line = TransformLine> + D
     ensures within { ActsWithin most_set cx.old cx.new }
     ensures handles { HandlesEvent C.tells O.tells C.look O.look O.paired O.refuses O.upload_left
         core.old core.new cx.old cx.new main.old (Course.Finishing end) result }
+    ensures pays { PaysEvents C.tells O.tells C.look O.look O.upload_left P.rest
+        core.old core.new (Course.Finishing end) result cx.old cx.new }
 {
     let step = core.send_rest(end);
     write_on(end, step, main, cx)
@@ -96,6 +101,8 @@ pub fn enter_on<C: Link, O: Upstream<C>, P: Transform<Line = TransformLine> + Dr
     ensures handles { HandlesEvent C.tells O.tells C.look O.look O.paired O.refuses O.upload_left
         core.old core.new cx.old cx.new main.old (Course.Phased (Phase.ResponseTransform request head))
         result }
+    ensures pays { PaysEvents C.tells O.tells C.look O.look O.upload_left P.rest
+        core.old core.new (Course.Phased (Phase.ResponseTransform request head)) result cx.old cx.new }
 {
     let Ok(made) = core.queue_relay(&request, &head) else {
         destroy_end(main, cx);

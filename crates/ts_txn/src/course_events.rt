@@ -4,6 +4,7 @@ ghost use Rattle.ts_group.specs.Calls.{IsCalled};
 ghost use Rattle.ts_transform.specs.Driving.{ActsWithin};
 ghost use Rattle.ts_txn.specs.CourseCover.{IsAlone};
 ghost use Rattle.ts_txn.specs.Driven.{HandlesEvent};
+ghost use Rattle.ts_txn.specs.LoweringCourse.{PaysEvents};
 ghost use Rattle.ts_txn.specs.World.{HoldsOn, IsSoundNow, IsSoundOn, most_set};
 
 use crate::course::{Course, enter_on, finish_on, relay_on};
@@ -34,6 +35,8 @@ fn step_phase<C: Link, O: Upstream<C>, P: Transform<Line = TransformLine> + Drop
     ensures within { ActsWithin most_set cx.old cx.new }
     ensures handles { HandlesEvent C.tells O.tells C.look O.look O.paired O.refuses O.upload_left
         core.old core.new cx.old cx.new main.old (Course.Phased phase) result }
+    ensures pays { PaysEvents C.tells O.tells C.look O.look O.upload_left P.rest
+        core.old core.new (Course.Phased phase) result cx.old cx.new }
 {
     let step = core.step(phase);
     step_on(step, main, cx)
@@ -55,6 +58,8 @@ fn phase_on<C: Link, O: Upstream<C>, P: Transform<Line = TransformLine> + Drop>(
     ensures within { ActsWithin most_set cx.old cx.new }
     ensures handles { HandlesEvent C.tells O.tells C.look O.look O.paired O.refuses O.upload_left
         core.old core.new cx.old cx.new main.old (Course.Phased phase) result }
+    ensures pays { PaysEvents C.tells O.tells C.look O.look O.upload_left P.rest
+        core.old core.new (Course.Phased phase) result cx.old cx.new }
 {
     match phase {
         Phase::ResponseTransform { request, head } => enter_on(core, main, request, head, cx),
@@ -64,6 +69,7 @@ fn phase_on<C: Link, O: Upstream<C>, P: Transform<Line = TransformLine> + Drop>(
 
 /// Handles an event of a role, and answers where the transaction is then: while a body is passed on each role does its
 /// part, and else the first continuation makes the next step.
+#[tactic(auto, using(ts_group::proofs::Keeps::falls_refl))]
 pub fn handle_on<C: Link, O: Upstream<C>, P: Transform<Line = TransformLine> + Drop>(
     core: &mut Core<C, O>,
     main: &mut Option<StageContinuation>,
@@ -82,6 +88,8 @@ pub fn handle_on<C: Link, O: Upstream<C>, P: Transform<Line = TransformLine> + D
     ensures within { ActsWithin most_set cx.old cx.new }
     ensures handles { HandlesEvent C.tells O.tells C.look O.look O.paired O.refuses O.upload_left
         core.old core.new cx.old cx.new main.old course result }
+    ensures pays { PaysEvents C.tells O.tells C.look O.look O.upload_left P.rest
+        core.old core.new course result cx.old cx.new }
 {
     match course {
         Course::Relaying(relay) => relay_on(core, main, relay, role, event, cx),
@@ -134,6 +142,8 @@ pub fn drive_on<C: Link, O: Upstream<C>, P: Transform<Line = TransformLine> + Dr
     ensures within { ActsWithin most_set cx.old cx.new }
     ensures handles { HandlesEvent C.tells O.tells C.look O.look O.paired O.refuses O.upload_left
         core.old core.new cx.old cx.new main.old course.old course.new }
+    ensures pays { PaysEvents C.tells O.tells C.look O.look O.upload_left P.rest
+        core.old core.new course.old course.new cx.old cx.new }
 {
     let was = take(course);
     *course = handle_on(core, main, was, role, event, cx);

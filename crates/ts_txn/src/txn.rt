@@ -7,6 +7,7 @@ ghost use Rattle.ts_transform.specs.Driving.{ActsWithin, IsDueAfter, SetsOnly};
 ghost use Rattle.ts_txn.specs.Cover.{is_fresh_on};
 ghost use Rattle.ts_txn.specs.CourseCover.{SetsOneOrNone};
 ghost use Rattle.ts_txn.specs.Driven.{HandlesEvent, TakesEvent};
+ghost use Rattle.ts_txn.specs.LoweringCourse.{transaction_left};
 ghost use Rattle.ts_txn.specs.World.{IsTxnOf, HasTxnBegun, IsSoundTxn, most_set};
 
 use crate::course::Course;
@@ -95,7 +96,8 @@ impl<C: Link + Drop, O: Upstream<C> + Drop, P: Transform<Line = TransformLine> +
 
     ghost answers = { λ t question reply. ⊤ };
 
-    ghost left = { λ t s. None };
+    ghost left = { λ t s. transaction_left C.tells O.tells C.look O.look O.upload_left P.rest
+        t.core t.course s.pending };
 
     ghost only_asked = { λ tag. false };
 
