@@ -1,11 +1,11 @@
 -- Bytes that are put into a list, and what the transform lines and a chain make of them.
-use Rattle.std.proofs.Common.{◌≡◌, ◌⊎◌, inl, inr, ℕ, ◌+◌, ◌≤◌, List, [], ◌∷◌, ◌++◌, length, map, filter, Bool, true, false, cond, arith, refl, sym, ap, subst, ◌∙◌, length-append}
-use Rattle.std.specs.Prelude.{◌==◌, not, Option, Some, None, if◌then◌else◌, take}
-use Rattle.ts_config.specs.Bodies.{mapped, whole_of, without_byte}
+use Rattle.std.proofs.Common.{◌≡◌, inl, inr, ℕ, ◌+◌, ◌≤◌, List, [], ◌∷◌, ◌++◌, length, map, filter, Bool, true, false, cond, arith, refl, sym, ap, subst}
+use Rattle.std.specs.Prelude.{◌==◌, not, if◌then◌else◌}
+use Rattle.ts_config.specs.Bodies.{whole_of}
 use Rattle.ts_config.specs.declared.setup.TransformLine.{TransformLine}
 use Rattle.ts_config.specs.declared.setup.TransformLine.TheVariants as t
 use Rattle.ts_transform.specs.Flow.{passing}
-use Rattle.ts_transform.specs.Stage.{has_ended, passed, rest_of, to_end}
+use Rattle.ts_transform.specs.Stage.{passed, rest_of}
 use Rattle.ts_transform.specs.declared.pump.Stage.{Stage}
 use Rattle.ts_txn.specs.Inserted.{AddsNoMore, AllAddNoMore, HasInserted}
 

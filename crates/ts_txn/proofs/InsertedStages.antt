@@ -1,8 +1,8 @@
 -- A chain of transforms that add no more stays one, and a chain of fresh transforms has little to do.
-use Rattle.std.proofs.Common.{◌≡◌, ℕ, zero, suc, ◌+◌, ◌≤◌, List, [], ◌∷◌, ◌++◌, length, map, filter, take, Bool, true, false, cond, arith, refl, sym, ap, subst, length-append}
-use Rattle.std.specs.Prelude.{◌==◌, not, Option, Some, None, if◌then◌else◌, ⊤}
+use Rattle.std.proofs.Common.{◌≡◌, ℕ, zero, suc, ◌+◌, ◌≤◌, List, [], ◌∷◌, length, map, filter, take, Bool, true, false, cond, arith, refl, sym, subst, length-append}
+use Rattle.std.specs.Prelude.{◌==◌, not, Option, None, if◌then◌else◌}
 use Rattle.std.proofs.lemmas.List.{length-map}
-use Rattle.ts_config.specs.Bodies.{mapped, whole_of, without_byte}
+use Rattle.ts_config.specs.Bodies.{whole_of}
 use Rattle.ts_config.specs.declared.setup.Setup.{Setup}
 use Rattle.ts_config.specs.declared.setup.TransformLine.{TransformLine}
 use Rattle.ts_config.specs.declared.setup.TransformLine.TheVariants as t

@@ -22,6 +22,7 @@ pub mod Leaving
 pub mod Lowering
 pub mod LoweringAnswers
 pub mod LoweringBody
+pub mod LoweringBound
 pub mod LoweringCourse
 pub mod LoweringEntry
 pub mod LoweringEvents

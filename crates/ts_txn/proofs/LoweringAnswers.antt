@@ -1,9 +1,8 @@
 -- Where each answer of a call leads, what is left to do is less, if both links tell.
-use Rattle.std.proofs.Common.{◌≡◌, ℕ, ◌+◌, ◌-◌, ◌≤◌, List, length, Bool, true, false, Ok, arith, refl, sym, ap, subst}
+use Rattle.std.proofs.Common.{◌≡◌, ℕ, ◌-◌, List, length, Bool, true, false, Ok, arith, refl, ap, subst}
 use Rattle.std.specs.Prelude.{Option}
 use Rattle.ts_config.specs.declared.setup.Setup.{Setup}
 use Rattle.ts_hooks.specs.declared.txn_end.TxnEnd.{TxnEnd}
-use Rattle.ts_link.specs.Link.{AgainsFall}
 use Rattle.ts_upstream.specs.Uploads.{Rose8, taken_since}
 use Rattle.ts_vconn.specs.declared.moves.Pulled.TheVariants as L
 use Rattle.ts_vconn.specs.declared.moves.Pushed.{Pushed}
@@ -17,17 +16,16 @@ use Rattle.ts_txn.specs.Own.{own_sent}
 use Rattle.ts_txn.specs.Holding.{IfTold}
 use Rattle.ts_txn.specs.View.{LinkSide, View}
 use Rattle.ts_txn.specs.Moving.{HearsRequest, HearsResponse, QueuesOwn, QueuesRequest, WritesClient, WritesOrigin}
-use Rattle.ts_txn.specs.Lowering.{StepLowers, agains_left, to_hear}
+use Rattle.ts_txn.specs.Lowering.{StepLowers}
 use Rattle.ts_txn.specs.declared.phase.Next.TheVariants as N
 use Rattle.ts_txn.specs.declared.phase.OwnAnswer.{OwnAnswer}
 use Rattle.ts_txn.specs.declared.phase.Phase.{Phase}
 use Rattle.ts_txn.specs.declared.phase.Phase.TheVariants as P
 use Rattle.ts_txn.specs.declared.phase.Request.{Request}
-use Rattle.ts_txn.specs.declared.phase.Step.{Step}
 use Rattle.ts_txn.specs.declared.reading.Found.{Found}
 use Rattle.ts_txn.specs.declared.reading.Found.TheVariants as F
 use Rattle.ts_txn.proofs.LoweringHeads.{request_fits}
-use Rattle.ts_txn.proofs.LoweringSteps.{Calm, IsEarly, asked, asks_calm, asks_on, head_calm, heard_calm, hears_calm, hears_interim, hears_on, own_text_queued, queued, response_heard, same_len, sends_calm, sends_on, sent_close, stays_calm, to_close, to_end, to_own, write_calm, write_fails, writes_on, written}
+use Rattle.ts_txn.proofs.LoweringSteps.{Calm, IsEarly, asked, asks_calm, asks_on, head_calm, heard_calm, hears_calm, hears_interim, hears_on, own_text_queued, queued, response_heard, sends_calm, sends_on, sent_close, stays_calm, to_close, to_end, to_own, write_calm, write_fails, writes_on, written}
 
 -- ---- nothing was taken by the origin
 

@@ -1,10 +1,9 @@
 -- Each step of a body lowers what a transaction has left to do.
-use Rattle.std.proofs.Common.{◌≡◌, ◌⊎◌, inl, inr, ℕ, ◌+◌, ◌-◌, ◌*◌, ◌<◌, ◌≤◌, List, [], ◌∷◌, ◌++◌, length, Bool, true, false, arith, refl, sym, ap, subst, ◌∙◌, length-append}
-use Rattle.std.proofs.lemmas.List.{append-nil}
-use Rattle.std.specs.Prelude.{Option, Some, None}
+use Rattle.std.proofs.Common.{◌≡◌, ℕ, ◌+◌, ◌-◌, ◌*◌, ◌<◌, ◌≤◌, List, [], ◌∷◌, ◌++◌, length, Bool, true, false, arith, refl, sym, ap, subst, ◌∙◌, length-append}
+use Rattle.std.specs.Prelude.{Some}
 use Rattle.ts_config.specs.declared.setup.Setup.{Setup}
 use Rattle.ts_config.specs.declared.setup.TransformLine.{TransformLine}
-use Rattle.ts_link.specs.Link.{AgainsFall, Fewer, NoMore}
+use Rattle.ts_link.specs.Link.{AgainsFall, Fewer}
 use Rattle.ts_transform.specs.Flow.{ChainState, TakesAway, left_to_do, passing}
 use Rattle.ts_transform.specs.Stage.{to_end}
 use Rattle.ts_transform.specs.declared.pump.Stage.{Stage}

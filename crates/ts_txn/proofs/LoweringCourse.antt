@@ -1,6 +1,6 @@
 -- Wherever an event leads a transaction on its course, what is left to do pays for each event that is set, so that each event
 -- that is handled lowers its number.
-use Rattle.std.proofs.Common.{◌≡◌, ◌⊎◌, inl, inr, ℕ, ◌+◌, ◌≤◌, List, length, Bool, true, false, arith, refl, sym, ap, subst}
+use Rattle.std.proofs.Common.{◌≡◌, inl, inr, ℕ, ◌+◌, ◌≤◌, List, length, Bool, true, false, arith, refl, sym, ap, subst}
 use Rattle.std.specs.Prelude.{◌&&◌, Option, Some, None}
 use Rattle.std.specs.Arc.{arc_value}
 use Rattle.ts_config.specs.declared.setup.Setup.{Setup}
@@ -15,7 +15,7 @@ use Rattle.ts_txn.specs.CourseCover.{StaysOnOrLacks, set_after, set_leaving}
 use Rattle.ts_txn.specs.Duties.{WhileGoes}
 use Rattle.ts_txn.specs.Holding.{IfTold}
 use Rattle.ts_txn.specs.Lowering.{StepFalls, agains_left, events_paid, if_told, number_left, phase_work, upload_in, work_left}
-use Rattle.ts_txn.specs.LoweringBody.{IsOfLines, StaysOfLines, body_work, ended_left, finish_left, left_after, relay_left, rest_after, unbegun_left}
+use Rattle.ts_txn.specs.LoweringBody.{IsOfLines, StaysOfLines, ended_left, finish_left, left_after, rest_after, unbegun_left}
 use Rattle.ts_txn.specs.LoweringCourse.{IsOfLinesOn, course_left, number_if, parts_left, transaction_left}
 use Rattle.ts_txn.specs.View.{View, upload_told, view_of}
 use Rattle.ts_txn.specs.declared.course.Course.{Course}

@@ -1,5 +1,5 @@
 -- The step with which a body begins to be passed on lowers what a transaction has left to do.
-use Rattle.std.proofs.Common.{◌≡◌, ℕ, ◌+◌, ◌*◌, ◌<◌, ◌≤◌, List, [], ◌∷◌, ◌++◌, length, map, filter, Bool, true, false, cond, arith, refl, sym, ap, subst, ◌∙◌, length-append}
+use Rattle.std.proofs.Common.{◌≡◌, ℕ, ◌+◌, ◌*◌, ◌<◌, ◌≤◌, List, [], ◌∷◌, length, map, filter, Bool, true, false, cond, arith, refl, sym, ap, subst, ◌∙◌, length-append}
 use Rattle.std.specs.Prelude.{Option, Some, None, ⊤, if◌then◌else◌}
 use Rattle.std.proofs.lemmas.List.{length-map}
 use Rattle.ts_config.specs.declared.setup.Setup.{Setup}
@@ -24,7 +24,7 @@ use Rattle.ts_txn.specs.Heads.{HasResponse}
 use Rattle.ts_txn.specs.View.{LinkSide, View}
 use Rattle.ts_txn.specs.RelayMoves.{QueuesHead}
 use Rattle.ts_txn.specs.Inserted.{AllAddNoMore, AreOfLines}
-use Rattle.ts_txn.specs.Lowering.{agains_left, chain_room, end_room, head_room, if_told, line_length, lines_length, own_room, passes, phase_work, pump_weight, to_hear, work_left}
+use Rattle.ts_txn.specs.Lowering.{agains_left, chain_room, end_room, head_room, if_told, lines_length, own_room, passes, phase_work, pump_weight, to_hear, work_left}
 use Rattle.ts_txn.specs.Duties.{SettledAs}
 use Rattle.ts_txn.specs.Entering.{BeginsRelay, GetsStart}
 use Rattle.ts_txn.specs.Facts.{Relays}

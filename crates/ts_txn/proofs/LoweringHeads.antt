@@ -1,11 +1,11 @@
 -- No head of a request that is sent is longer than its room.
-use Rattle.std.proofs.Common.{◌≡◌, ℕ, ◌+◌, ◌*◌, ◌≤◌, Bool, true, false, cond, List, [], ◌∷◌, ◌++◌, map, filter, length, reverse, take, drop, Result, Ok, Err, refl, sym, ap, subst, ◌∙◌, arith, length-append}
+use Rattle.std.proofs.Common.{◌≡◌, ℕ, ◌+◌, ◌*◌, ◌≤◌, Bool, true, false, cond, List, [], ◌∷◌, ◌++◌, map, filter, length, reverse, take, drop, Result, Ok, Err, refl, sym, ap, subst, arith, length-append}
 use Rattle.std.specs.Prelude.{Option, Some, None, ◌==◌, ◌&&◌, ◌||◌, not, codes, find, flat_map, bytes_eq}
 use Rattle.std.specs.List.{list_any, position_or_len}
 use Rattle.std.proofs.lemmas.List.{length-drop, length-map, length-reverse, length-take}
 use Rattle.httparse.specs.Ascii.{crlf_bytes}
 use Rattle.httparse.specs.Grammar as grammar
-use Rattle.httparse.specs.Grammar.{field_value, is_ows, print_blank, print_end, print_field, print_request, print_section, print_version, skip_ows, trim_ows}
+use Rattle.httparse.specs.Grammar.{is_ows, print_blank, print_end, print_field, print_request, print_section, print_version, skip_ows, trim_ows}
 use Rattle.ts_config.specs.declared.setup.Setup.{Setup}
 use Rattle.ts_config.specs.declared.fields.Side.{Side}
 use Rattle.ts_config.specs.declared.fields.Side.TheVariants as S

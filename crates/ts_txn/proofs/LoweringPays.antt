@@ -3,13 +3,11 @@ use Rattle.std.proofs.Common.{◌≡◌, ◌⊎◌, inl, inr, ℕ, ◌+◌, ◌*
 use Rattle.std.specs.Prelude.{Option, Some, None, ⊤, if◌then◌else◌}
 use Rattle.ts_config.specs.declared.setup.Setup.{Setup}
 use Rattle.ts_journal.specs.declared.entry.TheConstants.{GREATEST}
-use Rattle.ts_journal.specs.declared.entry.Pending.{Pending}
 use Rattle.ts_journal.specs.declared.entry.Event.{Event}
 use Rattle.ts_group.specs.declared.action.SetFault.{SetFault}
 use Rattle.ts_group.specs.declared.action.SetFault.TheVariants as F
 use Rattle.ts_group.specs.Answers.{Falls}
 use Rattle.ts_group.specs.Context.{Context}
-use Rattle.ts_group.specs.Entries.{Grows}
 use Rattle.ts_group.proofs.Grows.{grows_trans}
 use Rattle.ts_link.specs.Link.{Fewer, NoMore}
 use Rattle.ts_transform.specs.Acting.{IsStage, StillGives}
@@ -24,9 +22,8 @@ use Rattle.ts_txn.specs.Duties.{AreBodyEndsRoused, IsBodyCovered, MustSend, Sett
 use Rattle.ts_txn.specs.Feeding.{OnGoes}
 use Rattle.ts_txn.specs.Relaying.{StepsChain, step_after}
 use Rattle.ts_txn.specs.declared.relay.TheConstants.{FIRST}
-use Rattle.ts_txn.specs.Holding.{IfTold}
-use Rattle.ts_txn.specs.Lowering.{agains_left, end_room, events_paid, if_told, number_left, pump_weight, to_hear}
-use Rattle.ts_txn.specs.LoweringBody.{IsIdle, IsOfLines, LowersBody, PaysBody, StaysOfLines, body_left, body_work, ended_left, errors_left, left_after, relay_left}
+use Rattle.ts_txn.specs.Lowering.{agains_left, end_room, events_paid, number_left, pump_weight, to_hear}
+use Rattle.ts_txn.specs.LoweringBody.{IsIdle, IsOfLines, LowersBody, PaysBody, StaysOfLines, body_work, ended_left, errors_left, left_after, relay_left}
 use Rattle.ts_txn.specs.View.{View}
 use Rattle.ts_txn.specs.declared.finishing.BodyStep.{BodyStep}
 use Rattle.ts_txn.specs.declared.finishing.BodyStep.TheVariants as S

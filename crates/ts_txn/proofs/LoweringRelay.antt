@@ -1,5 +1,5 @@
 -- Where each step of an end of a body leads, what a transaction has left to do is less; or the end had nothing to do.
-use Rattle.std.proofs.Common.{◌≡◌, ◌≢◌, ◌⊎◌, inl, inr, ℕ, zero, suc, ◌+◌, ◌*◌, ◌<◌, ◌≤◌, List, [], ◌∷◌, ◌++◌, length, Bool, true, false, Result, Ok, Err, arith, refl, sym, ap, subst, ◌∙◌, length-append}
+use Rattle.std.proofs.Common.{◌≡◌, ◌≢◌, ◌⊎◌, inl, inr, ℕ, ◌+◌, ◌*◌, ◌<◌, ◌≤◌, List, [], ◌∷◌, ◌++◌, length, Bool, true, false, Result, Ok, Err, arith, refl, sym, ap, subst, ◌∙◌, length-append}
 use Rattle.std.specs.Prelude.{Option, Some, None, ⊤, if◌then◌else◌}
 use Rattle.ts_config.specs.declared.setup.Setup.{Setup}
 use Rattle.ts_group.specs.declared.action.SetFault.{SetFault}
@@ -12,7 +12,6 @@ use Rattle.ts_transform.specs.Driving.{all_unroused, errors_to_pass}
 use Rattle.ts_transform.specs.declared.driven.DrivenChain.{DrivenChain}
 use Rattle.ts_transform.specs.Flow.{ChainState, IsFinished, Takes, TakesAway, client_wait, left_to_do}
 use Rattle.ts_transform.specs.Stage.{rest_of, to_end}
-use Rattle.ts_transform.specs.declared.continuation.StageContinuation.{StageContinuation}
 use Rattle.ts_transform.specs.declared.pump.Stage.{Stage}
 use Rattle.ts_transform.proofs.PassedErrors.{errors_same}
 use Rattle.ts_vconn.specs.declared.moves.Pulled.{Pulled}
@@ -20,14 +19,13 @@ use Rattle.ts_vconn.specs.declared.moves.Pulled.TheVariants as L
 use Rattle.ts_vconn.specs.declared.moves.Pushed.{Pushed}
 use Rattle.ts_vconn.specs.declared.moves.Pushed.TheVariants as V
 use Rattle.ts_vconn.specs.MoveAnswers.{pull_again, push_again}
-use Rattle.ts_upstream.specs.Uploads.{both}
 use Rattle.ts_wire.specs.Frames.{IsPiece}
 use Rattle.ts_wire.specs.Place.{state_of}
 use Rattle.ts_wire.specs.declared.body.BodyState.{BodyState}
 use Rattle.ts_wire.specs.declared.body.BodyState.TheVariants as B
 use Rattle.ts_txn.specs.View.{LinkSide, View}
 use Rattle.ts_txn.specs.Moving.{WritesClient}
-use Rattle.ts_txn.specs.RelayMoves.{FramesEnd, FramesPiece, QueuesNothing, QueuesText, ReadsOrigin}
+use Rattle.ts_txn.specs.RelayMoves.{FramesEnd, FramesPiece, QueuesNothing, ReadsOrigin}
 use Rattle.ts_txn.specs.Relaying.{step_after}
 use Rattle.ts_txn.specs.Duties.{MustSend, WhileGoes}
 use Rattle.ts_txn.specs.Feeding.{DrainsOrigin, FeedsTo, GetsPart, OnGoes}

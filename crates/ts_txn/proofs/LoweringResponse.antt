@@ -1,23 +1,20 @@
 -- No head of a response that is passed on is longer than its room.
-use Rattle.std.proofs.Common.{◌≡◌, ℕ, zero, suc, ◌+◌, ◌*◌, ◌≤◌, ◌/◌, ◌%◌, Bool, true, false, cond, List, [], ◌∷◌, ◌++◌, length, sym, ap, subst, ◌∙◌, arith, length-append}
-use Rattle.std.specs.Prelude.{Option, Some, None, ◌==◌, codes, decimal, flat_map}
+use Rattle.std.proofs.Common.{◌≡◌, ℕ, zero, suc, ◌+◌, ◌*◌, ◌≤◌, ◌/◌, ◌%◌, Bool, true, false, cond, List, [], ◌∷◌, ◌++◌, length, sym, subst, arith, length-append}
+use Rattle.std.specs.Prelude.{Option, Some, None, ◌==◌, codes, decimal}
 use Rattle.std.specs.Fmt.{digit_glyph, digits, digits_onto}
 use Rattle.std.specs.List.{list_all}
-use Rattle.std.proofs.lemmas.List.{length-map}
 use Rattle.httparse.specs.Ascii.{crlf_bytes}
 use Rattle.httparse.specs.Grammar as grammar
-use Rattle.httparse.specs.Grammar.{print_blank, print_end, print_field, print_reason, print_response, print_section, print_version, reason_phrase}
+use Rattle.httparse.specs.Grammar.{print_blank, print_end, print_reason, print_response, print_section, print_version, reason_phrase}
 use Rattle.ts_config.specs.declared.setup.Setup.{Setup}
 use Rattle.ts_config.specs.declared.fields.Side.TheVariants as S
-use Rattle.ts_wire.specs.declared.fields.Field.{Field}
 use Rattle.ts_wire.specs.declared.heads.RequestHead.{RequestHead}
 use Rattle.ts_wire.specs.declared.heads.ResponseHead.{ResponseHead}
 use Rattle.ts_wire.specs.declared.printed.ClientFraming.{ClientFraming}
 use Rattle.ts_wire.specs.declared.printed.ClientFraming.TheVariants as C
-use Rattle.ts_wire.specs.Forward.{forwarded, is_forwarded}
-use Rattle.ts_wire.specs.Heads.{kept_field}
+use Rattle.ts_wire.specs.Forward.{forwarded}
 use Rattle.ts_wire.specs.Limits.{field_limit, head_limit}
-use Rattle.ts_wire.specs.Printed.{fields_text, framing_line, is_ascii_byte, reason_text, status_text, via_line, via_text}
+use Rattle.ts_wire.specs.Printed.{fields_text, framing_line, is_ascii_byte, reason_text, status_text, via_line}
 use Rattle.ts_wire.proofs.Sizes.{length-forwarded_response}
 use Rattle.ts_txn.specs.Block.{framing_for, relayed_head}
 use Rattle.ts_txn.specs.Heads.{HasResponse}

@@ -1,13 +1,12 @@
 -- An event of a stage: what the stage has done pays for the events that it set, and for those of the two ends of the body.
-use Rattle.std.proofs.Common.{◌≡◌, ◌⊎◌, inl, inr, ℕ, zero, suc, ◌+◌, ◌*◌, ◌≤◌, List, [], ◌∷◌, ◌++◌, length, Bool, true, false, arith, refl, sym, ap, subst, ◌∙◌}
-use Rattle.std.specs.Prelude.{Option, Some, None}
-use Rattle.std.specs.Bool.{OnTrue}
+use Rattle.std.proofs.Common.{◌≡◌, ◌⊎◌, inl, inr, ℕ, zero, suc, ◌+◌, ◌*◌, ◌≤◌, List, [], ◌∷◌, length, Bool, true, false, arith, refl, sym, ap, subst, ◌∙◌}
+use Rattle.std.specs.Prelude.{Option}
 use Rattle.ts_group.specs.Context.{Context}
 use Rattle.ts_journal.specs.declared.entry.Event.{Event}
 use Rattle.ts_journal.specs.declared.entry.Event.TheVariants.{Immediate, Timeout, Error, ReadReady, WriteReady, ReadComplete, WriteComplete, Eos, InactivityTimeout, Hook}
 use Rattle.ts_transform.specs.Acting.{ActsAt, StillGives}
 use Rattle.ts_transform.specs.Driving.{errors_to_pass, may_pass_error_at}
-use Rattle.ts_transform.specs.Flow.{AnswersAt, ChainState, PumpsAt, PumpsOnce, StepsAt, ended_at, left_to_do}
+use Rattle.ts_transform.specs.Flow.{AnswersAt, ChainState, PumpsOnce, StepsAt, ended_at, left_to_do}
 use Rattle.ts_transform.specs.Stage.{Steps}
 use Rattle.ts_transform.specs.declared.continuation.StageContinuation.{StageContinuation}
 use Rattle.ts_transform.specs.declared.pump.Pumped.{Pumped}

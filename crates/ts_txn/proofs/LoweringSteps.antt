@@ -1,7 +1,6 @@
 -- Each step up to the head lowers what a transaction has left to do.
-use Rattle.std.proofs.Common.{◌≡◌, ℕ, ◌+◌, ◌-◌, ◌*◌, ◌<◌, ◌≤◌, List, [], ◌∷◌, ◌++◌, length, take, Bool, true, false, arith, refl, sym, ap, subst, ◌∙◌, length-append}
-use Rattle.std.specs.Prelude.{Option, Some, None, ⊤}
-use Rattle.std.proofs.lemmas.List.{length-take-le}
+use Rattle.std.proofs.Common.{◌≡◌, ℕ, ◌+◌, ◌-◌, ◌*◌, ◌<◌, ◌≤◌, List, ◌++◌, length, Bool, true, false, arith, refl, sym, ap, subst, ◌∙◌, length-append}
+use Rattle.std.specs.Prelude.{Option, Some, ⊤}
 use Rattle.ts_config.specs.declared.setup.Setup.{Setup}
 use Rattle.ts_hooks.specs.declared.txn_end.TxnEnd.{TxnEnd}
 use Rattle.ts_link.specs.Link.{AgainsFall, Fewer, NoMore}
@@ -14,7 +13,7 @@ use Rattle.ts_wire.specs.declared.heads.ResponseHead.{ResponseHead}
 use Rattle.ts_txn.specs.Block.{own_text, request_text}
 use Rattle.ts_txn.specs.Own.{own_body, own_sent}
 use Rattle.ts_txn.specs.View.{LinkSide, View}
-use Rattle.ts_txn.specs.Moving.{HearsRequest, HearsResponse, QueuesOwn, QueuesRequest, SideReads, SideWrites, WritesClient, WritesOrigin}
+use Rattle.ts_txn.specs.Moving.{HearsRequest, HearsResponse, QueuesOwn, QueuesRequest, WritesClient, WritesOrigin}
 use Rattle.ts_txn.specs.Lowering.{agains_left, answer_room, answer_work, chain_room, end_room, head_room, own_length, own_room, phase_work, pump_weight, to_ask, to_hear, upload_in, work_left, written_weight}
 use Rattle.ts_txn.specs.declared.own.OwnStatus.{OwnStatus}
 use Rattle.ts_txn.specs.declared.own.OwnStatus.TheVariants as O
@@ -22,9 +21,8 @@ use Rattle.ts_txn.specs.declared.phase.OwnAnswer.{OwnAnswer}
 use Rattle.ts_txn.specs.declared.phase.Phase.{Phase}
 use Rattle.ts_txn.specs.declared.phase.Phase.TheVariants as P
 use Rattle.ts_txn.specs.declared.phase.Request.{Request}
-use Rattle.ts_txn.specs.declared.reading.Found.{Found}
 use Rattle.ts_txn.specs.declared.reading.Found.TheVariants as F
-use Rattle.ts_txn.proofs.Lowering.{Comes, comes_ask, comes_hear, first_falls, least_came, least_went, none_fall, none_left, none_rise, one_if, read_comes, second_falls, told_fewer, told_no_more, used_hear, went_some, write_hear}
+use Rattle.ts_txn.proofs.Lowering.{comes_ask, comes_hear, first_falls, least_came, least_went, none_fall, none_left, none_rise, one_if, read_comes, second_falls, told_fewer, told_no_more, used_hear, went_some, write_hear}
 
 -- ---- sums
 

@@ -51,7 +51,7 @@ fn check(alloc: Global, head: RequestHead) -> Result<Checked, NoMemory>
 
 impl<C: Link, O: Upstream<C>> Core<C, O> {
     /// Looks for the request's head in what the client gave, and checks it, or reads on.
-    #[tactic(auto, using(crate::proofs::Waiting::asked_waits, crate::proofs::Leaving::asked_leaves, crate::proofs::Minding::heard_request, crate::proofs::Minding::lost_client, crate::proofs::Minding::late_client, crate::proofs::LoweringAnswers::asks_some, crate::proofs::LoweringAnswers::asks_wait, crate::proofs::LoweringAnswers::asks_passes, crate::proofs::LoweringAnswers::asks_own, crate::proofs::LoweringAnswers::asks_close, crate::proofs::LoweringAnswers::asks_end))]
+    #[tactic(auto, using(crate::proofs::Waiting::asked_waits, crate::proofs::Leaving::asked_leaves, crate::proofs::Minding::heard_request, crate::proofs::Minding::lost_client, crate::proofs::Minding::late_client, crate::proofs::LoweringAnswers::asks_some, crate::proofs::LoweringAnswers::asks_wait, crate::proofs::LoweringAnswers::asks_own, crate::proofs::LoweringAnswers::asks_close, crate::proofs::LoweringAnswers::asks_end))]
     pub fn read_request(&mut self) -> Step
         requires fact { PhaseHolds C.tells O.tells C.look O.look O.refuses self.old Phase.ReadRequest }
         ensures leads { StepLeads result }

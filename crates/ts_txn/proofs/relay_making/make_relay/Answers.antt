@@ -1,6 +1,5 @@
-use Rattle.std.proofs.Common.{◌≡◌, ap, sym, subst, ◌∙◌}
+use Rattle.std.proofs.Common.{ap, ◌∙◌}
 use Rattle.ts_transform.specs.Flow.{flow}
-use Rattle.ts_wire.specs.declared.framing.Framing.{Framing}
 use Rattle.ts_txn.specs.Block.{lines_for}
 use Rattle.ts_txn.specs.Relayed.{if_body}
 use Rattle.ts_txn.specs.Acting.{acts_on}

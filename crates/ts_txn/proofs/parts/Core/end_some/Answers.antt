@@ -1,4 +1,4 @@
-use Rattle.std.proofs.Common.{◌≡◌, Bool, true, false, [], sym, ap, subst, ◌∙◌}
+use Rattle.std.proofs.Common.{◌≡◌, true, false, [], sym, ap, subst, ◌∙◌}
 use Rattle.ts_transform.specs.Flow.{ChainState, IsFinished, flow}
 use Rattle.std.specs.Arc.{arc_value}
 use Rattle.ts_txn.specs.View.{OriginRefuses, view_of}
