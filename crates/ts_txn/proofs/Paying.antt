@@ -1,5 +1,5 @@
 -- What a transaction has left to do falls with each event that its group handles, and not where nothing was done.
-use Rattle.std.proofs.Common.{◌≡◌, ℕ, List, Bool, Option, Some, None, arith, length, sym, ap, subst}
+use Rattle.std.proofs.Common.{◌≡◌, ℕ, ◌+◌, List, Bool, Option, Some, None, arith, length, sym, ap, subst}
 use Rattle.std.specs.Arc.{arc_value}
 use Rattle.ts_journal.specs.declared.entry.Event.{Event}
 use Rattle.ts_journal.specs.declared.entry.Pending.{Pending}

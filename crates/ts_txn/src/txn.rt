@@ -77,7 +77,7 @@ impl<C: Link + Drop, O: Upstream<C> + Drop, P: Transform<Line = TransformLine> +
     ghost follows_on = { λ t u v a b. tt };
 }
 
-#[tactic(auto, using(ts_group::proofs::Grows::grows, ts_group::proofs::Grows::grows_refl, ts_transform::proofs::Kept::acts_none, crate::proofs::Handling::sound_begun, crate::proofs::Handling::sound_asked, crate::proofs::Seating::due_rests, crate::proofs::Coverage::fresh_none, crate::proofs::Events::takes_event, crate::proofs::Fitting::fits_on))]
+#[tactic(auto, using(ts_group::proofs::Grows::grows, ts_group::proofs::Grows::grows_refl, ts_transform::proofs::Kept::acts_none, crate::proofs::Handling::sound_begun, crate::proofs::Handling::sound_asked, crate::proofs::Seating::due_rests, crate::proofs::Coverage::fresh_none, crate::proofs::Events::takes_event, crate::proofs::Fitting::fits_on, crate::proofs::Paying::tell_same, crate::proofs::Paying::handled_lowers))]
 impl<C: Link + Drop, O: Upstream<C> + Drop, P: Transform<Line = TransformLine> + Drop> World
     for Txn<C, O, P> {
     type Question = ();
@@ -120,6 +120,7 @@ impl<C: Link + Drop, O: Upstream<C> + Drop, P: Transform<Line = TransformLine> +
         ensures within { SetsOneOrNone cx.old cx.new }
         ensures begun { HasTxnBegun self.old self.new }
         ensures due { SetsOnly (IsDueAfter AT_ONCE cx.old.moment) cx.old cx.new }
+        ensures rests { is_fresh_on self.old.course ≡ false → cx.new ≡ cx.old }
     {
         if !is_fresh(&self.course) {
             return;
