@@ -93,6 +93,11 @@ module _ (v w : View) where
       calls (P.TxnClose end) begins = absurd begins
       calls (P.Ended end) begins = absurd begins
 
+-- the first continuation keeps its role when its event is handled
+named_before : (roles : List Named) (main : Option StageContinuation) → IsNamedIf roles MAIN main → IsNamedIf roles MAIN (unroused main)
+named_before roles None named = named
+named_before roles (Some t) named = named
+
 module _ {C O Q : Type 0} (ct ot : Bool) (client : C → Look) (origin : O → Look) (paired : C → O → Type 0) (refuses : O → List ℕ → Type 0) (left : C → O → Option ℕ) where
   -- a step of a phase was made, and led to the phase that it answered, or to the end for want of memory
   pub takes_step : (s t : Core C O) (p : Phase) (new : Course Q) (made : Step) → MindsLinksIn ct ot client origin refuses left s t p made
@@ -176,10 +181,6 @@ module _ {C O Q : Type 0} (ct ot : Bool) (client : C → Look) (origin : O → L
   quiet_write t end a = record { step = S.Goes; takes = inl (refl, refl, refl); due = only_none (IsDueAfter 0 a.moment) a }
 
   -- in a phase, said of the first continuation before its event was handled
-  named_before : (roles : List Named) (main : Option StageContinuation) → IsNamedIf roles MAIN main → IsNamedIf roles MAIN (unroused main)
-  named_before roles None named = named
-  named_before roles (Some t) named = named
-
   due_before : (main u : Option StageContinuation) → u ≡ unroused main → (next : Next) (new : Course Q) (a b : Context) → DueTo u next new a b → DueTo main next new a b
   due_before main u is next (K.Phased p) a b due = due
   due_before main u is next (K.Relaying r) a b due = record {
