@@ -1,13 +1,13 @@
 -- The number of a transaction that was not started, and that it is far below any that a counter holds.
-use Rattle.std.proofs.Common.{◌≡◌, ℕ, ◌+◌, ◌*◌, ◌^◌, ◌≤◌, List, [], ◌∷◌, length, true, arith, refl, ap, ◌∙◌}
+use Rattle.std.proofs.Common.{◌≡◌, ℕ, ◌+◌, ◌*◌, ◌^◌, ◌≤◌, List, [], ◌∷◌, length, true, arith, ap, ◌∙◌}
 use Rattle.std.specs.Prelude.{Option, Some}
 use Rattle.std.specs.Arc.{arc_value}
 use Rattle.ts_config.specs.declared.setup.Setup.{Setup}
 use Rattle.ts_config.specs.declared.setup.TransformLine.{TransformLine}
 use Rattle.ts_link.specs.Link.{Look}
-use Rattle.ts_txn.specs.Lowering.{agains_left, answer_room, chain_room, end_room, events_paid, frame_room, head_room, if_told, line_room, lines_length, number_left, own_room, passes, phase_work, plugins_length, pump_weight, to_ask, to_hear, work_left, written_weight}
+use Rattle.ts_txn.specs.Lowering.{agains_left, answer_room, chain_room, end_room, events_paid, frame_room, head_room, if_told, line_room, lines_length, number_left, own_room, passes, phase_work, plugins_length, pump_weight, to_hear, written_weight}
 use Rattle.ts_txn.specs.LoweringCourse.{IsModest, IsUnused, fresh_work, many_bytes, many_events, many_lines, transaction_left}
-use Rattle.ts_txn.specs.View.{LinkSide, View, upload_told, view_of}
+use Rattle.ts_txn.specs.View.{View, upload_told, view_of}
 use Rattle.ts_txn.specs.declared.course.Course.TheVariants as K
 use Rattle.ts_txn.specs.declared.parts.Core.{Core}
 use Rattle.ts_txn.specs.declared.phase.Phase.TheVariants as P
@@ -30,10 +30,10 @@ fresh_phase : (setup : Setup) (again upload : ℕ) (v : View) → IsUnused v.cli
     → phase_work setup again upload v P.Fresh ≡ fresh_work setup again upload (length v.client.look.left) (length v.origin.look.left)
 fresh_phase setup again upload v client origin =
     fresh_sum again upload (length v.client.outbox) (length v.client.inbox) (length v.origin.outbox) (length v.origin.inbox) (answer_room setup) (to_hear setup v.origin)
-        (pump_weight * passes setup.transforms.items (length v.origin.look.left) + 2 * length v.origin.look.left) (head_room setup) (length v.client.look.left)
-        (none_long v.client.outbox client.no_waits) (none_long v.client.inbox client.no_held) (none_long v.origin.outbox origin.no_waits) (none_long v.origin.inbox origin.no_held)
-        (hear_sum (passes setup.transforms.items (length v.origin.look.left)) (passes setup.transforms.items (length v.origin.look.left + length v.origin.inbox)) (length v.origin.look.left) (length v.origin.inbox)
-            (ap (passes setup.transforms.items) (plus_none (length v.origin.look.left) (length v.origin.inbox) (none_long v.origin.inbox origin.no_held))) (none_long v.origin.inbox origin.no_held))
+    (pump_weight * passes setup.transforms.items (length v.origin.look.left) + 2 * length v.origin.look.left) (head_room setup) (length v.client.look.left)
+    (none_long v.client.outbox client.no_waits) (none_long v.client.inbox client.no_held) (none_long v.origin.outbox origin.no_waits) (none_long v.origin.inbox origin.no_held)
+    (hear_sum (passes setup.transforms.items (length v.origin.look.left)) (passes setup.transforms.items (length v.origin.look.left + length v.origin.inbox)) (length v.origin.look.left) (length v.origin.inbox)
+    (ap (passes setup.transforms.items) (plus_none (length v.origin.look.left) (length v.origin.inbox) (none_long v.origin.inbox origin.no_held))) (none_long v.origin.inbox origin.no_held))
 
 -- It is told where the links tell how many Again answers and how much upload they have left.
 module _ {C O Q : Type 0} (client : C → Look) (origin : O → Look) (left : C → O → Option ℕ) (rest : Q → List ℕ → List ℕ) (core : Core C O) (again upload : ℕ) where
@@ -55,17 +55,18 @@ passes_within (l ∷ ls) n few = let rest : passes ls n ≤ 2 * many_bytes * (le
 modest_sum : (again upload client origin own lines plugins fields texts passed chain : ℕ) → lines ≤ many_lines → texts ≤ many_bytes → plugins ≤ many_lines → fields ≤ many_bytes → own ≤ many_bytes
     → again ≤ many_bytes → upload ≤ many_bytes → client ≤ many_bytes → origin ≤ many_bytes → passed ≤ 2 * many_bytes * (lines + 1) → chain ≤ 2 * many_bytes * (lines + 1)
     → events_paid * (16 + (again + (own + (frame_room + (field_limit + plugins + 1) * line_room + fields + end_room) + pump_weight * chain) + (pump_weight * passed + 2 * origin) + upload
-        + written_weight * (frame_room + (field_limit + plugins + 1) * line_room + fields) + 2 * client)) + 0 ≤ 2 ^ 58
+    + written_weight * (frame_room + (field_limit + plugins + 1) * line_room + fields) + 2 * client)) + 0 ≤ 2 ^ 58
 modest_sum again upload client origin own lines plugins fields texts passed chain a b c d e f g h i j k = omega (arith, a, b, c, d, e, f, g, h, i, j, k)
 
 pub modest_number : (setup : Setup) (again upload client origin : ℕ) → IsModest setup again upload client origin → events_paid * fresh_work setup again upload client origin + 0 ≤ many_events
 modest_number setup again upload client origin modest =
     let ls = setup.transforms.items in
     modest_sum again upload client origin (own_room setup) (length ls) (length setup.plugins.items) (plugins_length setup.plugins.items) (lines_length ls) (passes ls origin) (chain_room setup)
-        modest.lines modest.texts modest.plugins modest.fields modest.names modest.agains modest.uploads modest.client_bytes modest.origin_bytes
-        (passes_within ls origin (bytes_two origin modest.origin_bytes)) (passes_within ls (lines_length ls + 2) (text_two (lines_length ls) modest.texts))
+    modest.lines modest.texts modest.plugins modest.fields modest.names modest.agains modest.uploads modest.client_bytes modest.origin_bytes
+    (passes_within ls origin (bytes_two origin modest.origin_bytes)) (passes_within ls (lines_length ls + 2) (text_two (lines_length ls) modest.texts))
   where
     bytes_two : (n : ℕ) → n ≤ many_bytes → n ≤ 2 * many_bytes
     bytes_two n few = omega (arith, few)
+
     text_two : (n : ℕ) → n ≤ many_bytes → n + 2 ≤ 2 * many_bytes
     text_two n few = omega (arith, few)
