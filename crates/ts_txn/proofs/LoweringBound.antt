@@ -1,15 +1,18 @@
 -- The number of a transaction that was not started, and that it is far below any that a counter holds.
 use Rattle.std.proofs.Common.{◌≡◌, ℕ, ◌+◌, ◌*◌, ◌^◌, ◌≤◌, List, [], ◌∷◌, length, true, arith, ap, ◌∙◌}
-use Rattle.std.specs.Prelude.{Option, Some}
+use Rattle.std.specs.Prelude.{Option, Some, None}
 use Rattle.std.specs.Arc.{arc_value}
 use Rattle.ts_config.specs.declared.setup.Setup.{Setup}
 use Rattle.ts_config.specs.declared.setup.TransformLine.{TransformLine}
 use Rattle.ts_link.specs.Link.{Look}
+use Rattle.ts_link.specs.MemLink.{LinkState, look_of}
+use Rattle.ts_upstream.specs.Uploads.{both}
 use Rattle.ts_txn.specs.Lowering.{agains_left, answer_room, chain_room, end_room, events_paid, frame_room, head_room, if_told, line_room, lines_length, number_left, own_room, passes, phase_work, plugins_length, pump_weight, to_hear, written_weight}
-use Rattle.ts_txn.specs.LoweringCourse.{IsModest, IsUnused, fresh_work, many_bytes, many_events, many_lines, transaction_left}
-use Rattle.ts_txn.specs.View.{View, upload_told, view_of}
+use Rattle.ts_txn.specs.LoweringCourse.{IsModest, IsUnused, fresh_work, many_bytes, many_events, many_lines, transaction_left, waits_if, waits_of}
+use Rattle.ts_txn.specs.View.{View, side_if, upload_told, view_of}
 use Rattle.ts_txn.specs.declared.course.Course.TheVariants as K
 use Rattle.ts_txn.specs.declared.parts.Core.{Core}
+use Rattle.ts_txn.specs.declared.parts.Peer.{Peer}
 use Rattle.ts_txn.specs.declared.phase.Phase.TheVariants as P
 use Rattle.ts_wire.specs.Limits.{field_limit}
 
@@ -45,6 +48,24 @@ module _ {C O Q : Type 0} (client : C → Look) (origin : O → Look) (left : C 
       ap (λ (m : Option ℕ). number_left [] (if_told m (upload_told left core.client.link core.origin) (λ x y. phase_work (arc_value core.setup) x y (view_of client origin core) P.Fresh))) agains
       ∙ ap (λ (m : Option ℕ). number_left [] (if_told (Some again) m (λ x y. phase_work (arc_value core.setup) x y (view_of client origin core) P.Fresh))) uploads
       ∙ ap (λ (n : ℕ). Some (events_paid * n + 0)) (fresh_phase (arc_value core.setup) again upload (view_of client origin core) of_client of_origin)
+
+-- ---- links in memory
+
+agains_mem : (c : LinkState) (o : Option (Peer LinkState)) → both (look_of c).agains (side_if look_of o).look.agains ≡ Some (waits_of c + waits_if o)
+agains_mem c None = refl
+agains_mem c (Some p) = refl
+
+uploads_mem : (c : LinkState) (o : Option (Peer LinkState)) → upload_told (λ x y. Some 0) c o ≡ Some 0
+uploads_mem c None = refl
+uploads_mem c (Some p) = refl
+
+-- over links in memory it is told
+pub mem_number : {Q : Type 0} (rest : Q → List ℕ → List ℕ) (core : Core LinkState LinkState) → IsUnused (view_of look_of look_of core).client → IsUnused (view_of look_of look_of core).origin
+    → transaction_left true true look_of look_of (λ x y. Some 0) rest core (K.Phased P.Fresh) []
+    ≡ Some (events_paid * fresh_work (arc_value core.setup) (waits_of core.client.link + waits_if core.origin) 0 (length (look_of core.client.link).left)
+    (length (view_of look_of look_of core).origin.look.left) + 0)
+mem_number rest core of_client of_origin =
+    fresh_number look_of look_of (λ x y. Some 0) rest core (waits_of core.client.link + waits_if core.origin) 0 (agains_mem core.client.link core.origin) (uploads_mem core.client.link core.origin) of_client of_origin
 
 -- ---- far below the greatest number
 
