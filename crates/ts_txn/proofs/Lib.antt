@@ -44,6 +44,7 @@ pub mod OneSide
 pub mod Owns
 pub mod Parting
 pub mod Relaying
+pub mod Resting
 pub mod Responding
 mod Saying
 mod Searching

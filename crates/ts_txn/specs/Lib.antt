@@ -27,6 +27,7 @@ pub mod Reading
 pub mod RelayMoves
 pub mod Relayed
 pub mod Relaying
+pub mod Resting
 pub mod Rules
 pub mod Steps
 pub mod View

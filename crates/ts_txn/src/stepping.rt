@@ -12,8 +12,8 @@ use ts_link::Link;
 use ts_upstream::Upstream;
 
 impl<C: Link, O: Upstream<C>> Core<C, O> {
-    /// The next step of a phase. A response that can be passed on ends the transaction for want of memory,
-    /// until bodies are relayed.
+    /// The next step of a phase. At the one where a body begins, `enter_on` takes its place, since that makes
+    /// continuations; here, where there are none to make it of, it could but end for want of memory.
     #[tactic(auto, using(crate::proofs::Sparing::still_spares, crate::proofs::Leaving::still_leaves, crate::proofs::Minding::stood, crate::proofs::LoweringStands::fresh_lowers, crate::proofs::LoweringStands::start_lowers, crate::proofs::LoweringStands::checked_lowers, crate::proofs::LoweringStands::heard_lowers, crate::proofs::LoweringStands::still_end))]
     pub fn step(&mut self, phase: Phase) -> Step
         requires stands { PhaseHolds C.tells O.tells C.look O.look O.refuses self.old phase
