@@ -1,19 +1,26 @@
 -- The number of a transaction that was not started, and that it is far below any that a counter holds.
-use Rattle.std.proofs.Common.{◌≡◌, ℕ, ◌+◌, ◌*◌, ◌^◌, ◌≤◌, List, [], ◌∷◌, length, true, arith, ap, ◌∙◌}
-use Rattle.std.specs.Prelude.{Option, Some, None}
+use Rattle.std.proofs.Common.{◌≡◌, ℕ, ◌+◌, ◌*◌, ◌^◌, ◌≤◌, List, [], ◌∷◌, length, true, arith, refl, ap, subst, ◌∙◌}
+use Rattle.std.specs.Prelude.{Option, Some, None, IsSomeAnd}
 use Rattle.std.specs.Arc.{arc_value}
 use Rattle.ts_config.specs.declared.setup.Setup.{Setup}
+use Rattle.ts_group.specs.Answers.{Falls}
+use Rattle.ts_journal.specs.declared.entry.Pending.{Pending}
 use Rattle.ts_config.specs.declared.setup.TransformLine.{TransformLine}
 use Rattle.ts_link.specs.Link.{Look}
 use Rattle.ts_link.specs.MemLink.{LinkState, look_of}
 use Rattle.ts_upstream.specs.Uploads.{both}
+use Rattle.ts_txn.specs.CourseCover.{StaysOnOrLacks, set_after}
 use Rattle.ts_txn.specs.Lowering.{agains_left, answer_room, chain_room, end_room, events_paid, frame_room, head_room, if_told, line_room, lines_length, number_left, own_room, passes, phase_work, plugins_length, pump_weight, to_hear, written_weight}
 use Rattle.ts_txn.specs.LoweringCourse.{IsModest, IsUnused, fresh_work, many_bytes, many_events, many_lines, transaction_left, waits_if, waits_of}
 use Rattle.ts_txn.specs.View.{View, side_if, upload_told, view_of}
+use Rattle.ts_txn.specs.declared.course.Course.{Course}
 use Rattle.ts_txn.specs.declared.course.Course.TheVariants as K
 use Rattle.ts_txn.specs.declared.parts.Core.{Core}
 use Rattle.ts_txn.specs.declared.parts.Peer.{Peer}
+use Rattle.ts_txn.specs.declared.phase.Next.TheVariants as N
 use Rattle.ts_txn.specs.declared.phase.Phase.TheVariants as P
+use Rattle.ts_txn.proofs.LoweringCourse.{phase_led}
+use Rattle.ts_txn.proofs.LoweringSteps.{begins}
 use Rattle.ts_wire.specs.Limits.{field_limit}
 
 none_long : (xs : List ℕ) → xs ≡ [] → length xs ≡ 0
@@ -91,3 +98,35 @@ modest_number setup again upload client origin modest =
 
     text_two : (n : ℕ) → n ≤ many_bytes → n + 2 ≤ 2 * many_bytes
     text_two n few = omega (arith, few)
+
+-- ---- and so it is once it was started
+
+start_paid : (a b : ℕ) → a ≤ b + 1 → a ≤ b + set_after N.Go
+start_paid a b few = omega (arith, few)
+
+module _ {C O Q : Type 0} (client : C → Look) (origin : O → Look) (left : C → O → Option ℕ) (rest : Q → List ℕ → List ℕ) (core : Core C O) (result : Course Q) (pending : List Pending) where
+  -- the first event is paid, too
+  pub start_falls : StaysOnOrLacks (K.Phased P.TxnStart) result → length pending ≤ length {A = Pending} [] + 1
+      → Falls (transaction_left true true client origin left rest core (K.Phased P.Fresh) []) 0 (transaction_left true true client origin left rest core result pending)
+  start_falls led few =
+      phase_led (arc_value core.setup) rest P.Fresh (record { phase = P.TxnStart; next = N.Go }) result (view_of client origin core) (view_of client origin core)
+      (upload_told left core.client.link core.origin) (upload_told left core.client.link core.origin) [] pending led
+      (begins (arc_value core.setup) (view_of client origin core) (upload_told left core.client.link core.origin)) (start_paid (length pending) (length {A = Pending} []) few)
+
+at_most : (before : ℕ) (m : Option ℕ) → before ≤ many_events → Falls (Some before) 0 m → IsSomeAnd m (λ n. n ≤ many_events)
+at_most before None few falls = absurd falls
+at_most before (Some now) few falls = omega (arith, few, falls)
+
+-- over links in memory a transaction that was started tells a number that is far below the greatest
+pub mem_started : {Q : Type 0} (rest : Q → List ℕ → List ℕ) (core : Core LinkState LinkState) (result : Course Q) (pending : List Pending)
+    → IsUnused (view_of look_of look_of core).client → IsUnused (view_of look_of look_of core).origin
+    → IsModest (arc_value core.setup) (waits_of core.client.link + waits_if core.origin) 0 (length (look_of core.client.link).left) (length (view_of look_of look_of core).origin.look.left)
+    → StaysOnOrLacks (K.Phased P.TxnStart) result → length pending ≤ length {A = Pending} [] + 1
+    → IsSomeAnd (transaction_left true true look_of look_of (λ x y. Some 0) rest core result pending) (λ n. n ≤ many_events)
+mem_started rest core result pending of_client of_origin modest led few =
+    let number = events_paid * fresh_work (arc_value core.setup) (waits_of core.client.link + waits_if core.origin) 0 (length (look_of core.client.link).left)
+    (length (view_of look_of look_of core).origin.look.left) + 0 in
+    at_most number (transaction_left true true look_of look_of (λ x y. Some 0) rest core result pending)
+    (modest_number (arc_value core.setup) (waits_of core.client.link + waits_if core.origin) 0 (length (look_of core.client.link).left) (length (view_of look_of look_of core).origin.look.left) modest)
+    (subst (λ (m : Option ℕ). Falls m 0 (transaction_left true true look_of look_of (λ x y. Some 0) rest core result pending)) (mem_number rest core of_client of_origin)
+    (start_falls look_of look_of (λ x y. Some 0) rest core result pending led few))

@@ -86,7 +86,7 @@ returns-clause-handles g c =
     let relay = c.begin_body-step.new.relay in
     let v = view_of g.C.Link.look g.O.Link.look new in
     let led = begin_led g.C.Link.tells g.O.Link.tells g.C.Link.look g.O.Link.look g.O.Upstream.paired g.O.Upstream.refuses g.O.Upstream.upload_left relay c.begin_body-step.result c.leave.result
-        c.begin_body-step.ensures.begins.goes c.leave.ensures.course in
+    c.begin_body-step.ensures.begins.goes c.leave.ensures.course in
     record {
       keeps = c.queue_relay.ensures.keeps;
       handles = record {
@@ -121,7 +121,7 @@ returns-clause-pays g c = λ told also.
     let step = c.begin_body-step.result in
     let w = view_of g.C.Link.look g.O.Link.look new in
     let kept = subst (λ x. NoMore (unbegun_left (arc_value x) g.P.Transform.rest w made) (left_after (arc_value x) g.P.Transform.rest step w relay)) c.queue_relay.ensures.keeps.setup
-        c.begin_body-step.ensures.lowers.falls in
+    c.begin_body-step.ensures.lowers.falls in
     begun_led (arc_value core.setup) g.P.Transform.rest c.args.request c.args.head step made relay c.leave.result (view_of g.C.Link.look g.O.Link.look core) w
     (upload_told g.O.Upstream.upload_left core.client.link core.origin) (upload_told g.O.Upstream.upload_left new.client.link new.origin) c.args.cx.now.log.state.pending
     c.begin_body-step.new.cx.log.state.pending c.leave.new.cx.log.state.pending (c.in-Ok.ensures.lowers.falls told also) kept c.begin_body-step.ensures.begins.acts.few.pending
