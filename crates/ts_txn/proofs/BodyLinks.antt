@@ -1,6 +1,6 @@
 -- The steps of a body, and what they do with the two links: which counts rise, and which events are set when.
-use Rattle.std.proofs.Common.{◌≡◌, ℕ, zero, suc, ◌+◌, ◌-◌, ◌<◌, ◌≤◌, ◌⊎◌, inl, inr, List, [], ◌∷◌, ◌++◌, Bool, true, false, Option, Some, None, Result, Ok, Err, eqb, leb, length, length-append, drop, refl, sym, ap, subst, ◌∙◌, arith}
-use Rattle.std.proofs.lemmas.List.{length-drop}
+use Rattle.std.proofs.Common.{◌≡◌, ℕ, zero, suc, ◌+◌, ◌-◌, ◌<◌, ◌≤◌, ◌⊎◌, inl, inr, List, [], ◌∷◌, ◌++◌, Bool, true, false, Option, Some, None, Result, Ok, Err, eqb, leb, length, length-append, append_assoc, drop, refl, sym, ap, subst, ◌∙◌, arith}
+use Rattle.std.proofs.lemmas.List.{append-nil, length-drop}
 use Rattle.std.proofs.lemmas.Bool.Decides.{eqb_tells, leb_tells}
 use Rattle.std.specs.Prelude.{⊤}
 use Rattle.ts_hooks.specs.declared.txn_end.TxnEnd.{TxnEnd}
@@ -36,16 +36,18 @@ use Rattle.ts_wire.specs.declared.body.BodyState.{BodyState}
 use Rattle.ts_wire.specs.declared.body.BodyState.TheVariants as B
 use Rattle.ts_wire.specs.Place.{Place, state_of}
 use Rattle.ts_txn.specs.View.{LinkSide, View}
+use Rattle.ts_txn.specs.Ends.{IsFrontOf}
 use Rattle.ts_txn.specs.Moving.{WritesClient}
 use Rattle.ts_txn.specs.RelayMoves.{QueuesText, ReadsOrigin}
 use Rattle.ts_txn.specs.Feeding.{DrainsOrigin, FeedsBody, FeedsTo, GetsPart, OnGoes}
 use Rattle.ts_txn.specs.Relaying.{AddsSome, IsOfRoleFrom, StepsChain, step_after}
 use Rattle.ts_txn.specs.Duties.{SettledAs, UnlessLacking}
 use Rattle.ts_txn.specs.Entering.{BeginsRelay}
-use Rattle.ts_txn.specs.BodyLinks.{BeginsInTime, HandlesLinks, HoldsLittle, IsOfEnd, IsUnread, IsUnwritten, MindsBody, OnlyOfBody, OnlyOfEnds, RestLeads, SendsRest, is_client_fault, is_late, is_origin_fault, pause_if}
+use Rattle.ts_txn.specs.BodyLinks.{BeginsInTime, HandlesLinks, HoldsLittle, IsOfEnd, KeepsQueued, IsUnread, IsUnwritten, MindsBody, OnlyOfBody, OnlyOfEnds, RestLeads, SendsRest, is_client_fault, is_late, is_origin_fault, pause_if}
 use Rattle.ts_txn.specs.declared.driver.TheConstants.{MAIN, RETRY}
 use Rattle.ts_txn.specs.declared.finishing.BodyStep.{BodyStep}
 use Rattle.ts_txn.specs.declared.finishing.BodyStep.TheVariants as S
+use Rattle.ts_txn.specs.declared.parts.Sent.{Sent}
 use Rattle.ts_txn.specs.declared.relay.Relay.{Relay}
 use Rattle.ts_txn.specs.declared.relay.TheConstants.{FIRST, READER}
 
@@ -93,6 +95,41 @@ calm_feeds S.Waits old new before after c d feeds = absurd feeds
 calm_feeds (S.Finishes end) old new before after c d (fed, bad, is) = subst (λ e. IsCalm (S.Finishes e)) (sym is) (record { client = refl; origin = refl; late = refl })
 calm_feeds (S.Closes end) old new before after c d feeds = absurd feeds
 calm_feeds S.Lacks old new before after c d feeds = record { client = refl; origin = refl; late = refl }
+
+-- ---- what was queued
+
+front_same : (xs ys : List ℕ) → ys ≡ xs → IsFrontOf xs ys
+front_same xs ys same = ([], append-nil xs ∙ sym same)
+
+queued_same : (t : Bool) (v w : View) → w.sent ≡ v.sent → w.client ≡ v.client → KeepsQueued t v w
+queued_same t v w sent client = record {
+  head = ap (λ (x : Sent). x.head) sent;
+  mode = ap (λ (x : Sent). x.mode) sent;
+  cuts = front_same v.sent.cuts.items w.sent.cuts.items (ap (λ (x : Sent). x.cuts.items) sent);
+  text = λ told. front_same (v.client.look.taken ++ v.client.outbox) (w.client.look.taken ++ w.client.outbox) (ap (λ (s : LinkSide). s.look.taken ++ s.outbox) client);
+}
+
+queued_text : (t : Bool) (text cuts : List ℕ) (v w : View) → QueuesText text cuts v w → KeepsQueued t v w
+queued_text t text cuts v w queued = record {
+  head = queued.adds.head;
+  mode = queued.adds.mode;
+  cuts = (cuts, sym queued.adds.cuts_are);
+  text = λ told. (
+    text,
+    append_assoc v.client.look.taken v.client.outbox text
+        ∙ sym (ap (λ (x : List ℕ). x ++ w.client.outbox) (ap (λ (s : LinkSide). s.look.taken) queued.client) ∙ ap (λ (x : List ℕ). v.client.look.taken ++ x) queued.adds.outbox),
+  );
+}
+
+queued_wrote : (t : Bool) (v w : View) (p : Pushed) → WritesClient t v w p → KeepsQueued t v w
+queued_wrote t v w p writes =
+    let sent : w.sent ≡ v.sent = ap (λ (x : View). x.sent) writes.others in
+    record {
+      head = ap (λ (x : Sent). x.head) sent;
+      mode = ap (λ (x : Sent). x.mode) sent;
+      cuts = front_same v.sent.cuts.items w.sent.cuts.items (ap (λ (x : Sent). x.cuts.items) sent);
+      text = λ told. front_same (v.client.look.taken ++ v.client.outbox) (w.client.look.taken ++ w.client.outbox) (writes.client.pushes.text told);
+    }
 
 -- ---- what is held
 
@@ -188,6 +225,7 @@ module _ {P : Type 0} (ct ot : Bool) (v w : View) (c d : ChainState P) (step : B
     reads = inl (ap (λ x. x.origin) same);
     unread = unread_same ct v.client w.client (ap (λ x. x.client) same);
     unwritten = unwritten_same ot v.origin w.origin (ap (λ x. x.origin) same);
+    queued = queued_same ct v w (ap (λ x. x.sent) same) (ap (λ x. x.client) same);
     queues = inl (no_longer v.client.outbox w.client.outbox (ap (λ x. x.client.outbox) same));
     holds = unless_lacking (HoldsLittle v c → HoldsLittle w d) step (holds_kept v w c d (no_longer v.origin.inbox w.origin.inbox (ap (λ x. x.origin.inbox) same)) shorter);
   }
@@ -205,6 +243,7 @@ module _ {P : Type 0} (ct ot : Bool) (v w : View) (c d : ChainState P) (step : B
         reads = inl queued.origin;
         unread = record { reads = ap (λ (l : Look). l.reads) look; held = ap (λ (s : LinkSide). s.inbox) queued.client; given = λ told. ap (λ (l : Look). l.given) look };
         unwritten = unwritten_same ot v.origin w.origin queued.origin;
+        queued = queued_text ct text cuts v w queued;
         queues = inr none;
         holds = unless_lacking (HoldsLittle v c → HoldsLittle w d) step (holds_kept v w c d (no_longer v.origin.inbox w.origin.inbox (ap (λ (s : LinkSide). s.inbox) queued.origin)) shorter);
       }
@@ -229,6 +268,7 @@ module _ {P : Type 0} (ct ot : Bool) (v w : View) (c d : ChainState P) (step : B
         reads = inr must;
         unread = unread_same ct v.client w.client (ap (λ (x : View). x.client) drains);
         unwritten = record { writes = ap (λ (l : Look). l.writes) look; waits = ap (λ (x : View). x.origin.outbox) drains; taken = λ told. ap (λ (l : Look). l.taken) look };
+        queued = queued_same ct v w (ap (λ (x : View). x.sent) drains) (ap (λ (x : View). x.client) drains);
         queues = inl (no_longer v.client.outbox w.client.outbox (ap (λ (x : View). x.client.outbox) drains));
         holds = feeds_holds step v w c d old new must feeds;
       }
@@ -243,6 +283,7 @@ module _ {P : Type 0} (ct ot : Bool) (v w : View) (c d : ChainState P) (step : B
         reads = inl origin;
         unread = record { reads = writes.client.pushes.once.reads; held = writes.client.inbox; given = λ told. (writes.client.pushes.told told).given };
         unwritten = unwritten_same ot v.origin w.origin origin;
+        queued = queued_wrote ct v w p writes;
         queues = inl (went_shorter p v.client.outbox w.client.outbox writes.client.pushes.went);
         holds = unless_lacking (HoldsLittle v c → HoldsLittle w d) step
             (holds_kept v w c d (no_longer v.origin.inbox w.origin.inbox (ap (λ (s : LinkSide). s.inbox) origin)) (no_longer c.first d.first (ap (λ k. k.first) chain)));
@@ -259,6 +300,7 @@ module _ {P : Type 0} (ct ot : Bool) (v w : View) (c d : ChainState P) (step : B
         reads = inr must;
         unread = unread_same ct v.client w.client client;
         unwritten = record { writes = reads.origin.pulls.pulls.once.writes; waits = reads.origin.outbox; taken = λ told. (reads.origin.pulls.pulls.told told).taken };
+        queued = queued_same ct v w (ap (λ (x : View). x.sent) reads.others) client;
         queues = inl (no_longer v.client.outbox w.client.outbox (ap (λ (s : LinkSide). s.outbox) client));
         holds = read_holds step shorter;
       }
@@ -302,6 +344,7 @@ minds_as ct ot v w c d e step result cl ol client origin holds h = record {
   reads = h.reads;
   unread = h.unread;
   unwritten = h.unwritten;
+  queued = h.queued;
   queues = h.queues;
   holds = holds;
 }
