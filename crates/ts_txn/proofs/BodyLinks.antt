@@ -43,7 +43,7 @@ use Rattle.ts_txn.specs.Feeding.{DrainsOrigin, FeedsBody, FeedsTo, GetsPart, OnG
 use Rattle.ts_txn.specs.Relaying.{AddsSome, IsOfRoleFrom, StepsChain, step_after}
 use Rattle.ts_txn.specs.Duties.{SettledAs, UnlessLacking}
 use Rattle.ts_txn.specs.Entering.{BeginsRelay}
-use Rattle.ts_txn.specs.BodyLinks.{BeginsInTime, HandlesLinks, HoldsLittle, IsOfEnd, KeepsQueued, IsUnread, IsUnwritten, MindsBody, OnlyOfBody, OnlyOfEnds, RestLeads, SendsRest, is_client_fault, is_late, is_origin_fault, pause_if}
+use Rattle.ts_txn.specs.BodyLinks.{BeginsInTime, HandlesLinks, HoldsLittle, IsOfEnd, KeepsQueued, IsUnread, IsUnwritten, MindsBody, OnlyOfBody, OnlyOfEnds, RestLeads, ReadsLinks, SendsRest, WritesLinks, is_client_fault, is_late, is_origin_fault, pause_if}
 use Rattle.ts_txn.specs.declared.driver.TheConstants.{MAIN, RETRY}
 use Rattle.ts_txn.specs.declared.finishing.BodyStep.{BodyStep}
 use Rattle.ts_txn.specs.declared.finishing.BodyStep.TheVariants as S
@@ -230,7 +230,7 @@ module _ {P : Type 0} (ct ot : Bool) (v w : View) (c d : ChainState P) (step : B
     holds = unless_lacking (HoldsLittle v c → HoldsLittle w d) step (holds_kept v w c d (no_longer v.origin.inbox w.origin.inbox (ap (λ x. x.origin.inbox) same)) shorter);
   }
 
-  pub minds_none : IsCalm step → cl ≡ false → ol ≡ false → w ≡ v → d ≡ c → MindsBody ct ot v w c d step cl ol
+  minds_none : IsCalm step → cl ≡ false → ol ≡ false → w ≡ v → d ≡ c → MindsBody ct ot v w c d step cl ol
   minds_none calm no_client no_origin same chain = still_minds calm no_client no_origin same (no_longer c.first d.first (ap (λ k. k.first) chain))
 
   -- a text was queued for the client
@@ -248,17 +248,17 @@ module _ {P : Type 0} (ct ot : Bool) (v w : View) (c d : ChainState P) (step : B
         holds = unless_lacking (HoldsLittle v c → HoldsLittle w d) step (holds_kept v w c d (no_longer v.origin.inbox w.origin.inbox (ap (λ (s : LinkSide). s.inbox) queued.origin)) shorter);
       }
 
-  pub minds_queued : (text cuts : List ℕ) → IsCalm step → cl ≡ false → ol ≡ false → v.client.outbox ≡ [] → d ≡ c → QueuesText text cuts v w → MindsBody ct ot v w c d step cl ol
+  minds_queued : (text cuts : List ℕ) → IsCalm step → cl ≡ false → ol ≡ false → v.client.outbox ≡ [] → d ≡ c → QueuesText text cuts v w → MindsBody ct ot v w c d step cl ol
   minds_queued text cuts calm no_client no_origin none chain queued = queued_minds text cuts calm no_client no_origin none queued (no_longer c.first d.first (ap (λ k. k.first) chain))
 
   -- that of a piece, which was taken from the chain
-  pub minds_framed : (text cuts : List ℕ) (rest : P → List ℕ → List ℕ) (n : ℕ) → IsCalm step → cl ≡ false → ol ≡ false → v.client.outbox ≡ [] → TakesAway rest n c d → QueuesText text cuts v w
+  minds_framed : (text cuts : List ℕ) (rest : P → List ℕ → List ℕ) (n : ℕ) → IsCalm step → cl ≡ false → ol ≡ false → v.client.outbox ≡ [] → TakesAway rest n c d → QueuesText text cuts v w
       → MindsBody ct ot v w c d step cl ol
   minds_framed text cuts rest n calm no_client no_origin none takes queued =
       queued_minds text cuts calm no_client no_origin none queued (taken_shorter c.first c.stages n d.first d.stages takes.takes)
 
   -- what waits of the origin's bytes was used
-  pub minds_drained : (old new : Place) → cl ≡ false → ol ≡ is_late step → MustRead c → FeedsTo step old new v.origin.inbox w.origin.inbox c d → DrainsOrigin v w → MindsBody ct ot v w c d step cl ol
+  minds_drained : (old new : Place) → cl ≡ false → ol ≡ is_late step → MustRead c → FeedsTo step old new v.origin.inbox w.origin.inbox c d → DrainsOrigin v w → MindsBody ct ot v w c d step cl ol
   minds_drained old new no_client late must feeds drains =
       let look : w.origin.look ≡ v.origin.look = ap (λ (x : View). x.origin.look) drains in
       let calm = calm_feeds step old new v.origin.inbox w.origin.inbox c d feeds in
@@ -274,7 +274,7 @@ module _ {P : Type 0} (ct ot : Bool) (v w : View) (c d : ChainState P) (step : B
       }
 
   -- what waits for the client was written
-  pub minds_wrote : (p : Pushed) → is_client_fault step ≡ push_failed p → cl ≡ push_again p → is_origin_fault step ≡ false → ol ≡ false → d ≡ c → WritesClient ct v w p → MindsBody ct ot v w c d step cl ol
+  minds_wrote : (p : Pushed) → is_client_fault step ≡ push_failed p → cl ≡ push_again p → is_origin_fault step ≡ false → ol ≡ false → d ≡ c → WritesClient ct v w p → MindsBody ct ot v w c d step cl ol
   minds_wrote p failed again no_origin ready chain writes =
       let origin : w.origin ≡ v.origin = ap (λ (x : View). x.origin) writes.others in
       record {
@@ -315,13 +315,13 @@ module _ {P : Type 0} (ct ot : Bool) (v w : View) (c d : ChainState P) (step : B
       read_holds (S.Closes end) first = by_first first
       read_holds S.Lacks first = tt
 
-  pub minds_read : (p : Pulled) → is_origin_fault step ≡ pull_failed p → ol ≡ pull_again p → is_client_fault step ≡ false → cl ≡ false → MustRead c → v.origin.inbox ≡ [] → d ≡ c → ReadsOrigin ot v w p
+  minds_read : (p : Pulled) → is_origin_fault step ≡ pull_failed p → ol ≡ pull_again p → is_client_fault step ≡ false → cl ≡ false → MustRead c → v.origin.inbox ≡ [] → d ≡ c → ReadsOrigin ot v w p
       → MindsBody ct ot v w c d step cl ol
   minds_read p failed again no_client ready must none chain reads =
       read_minds p failed again no_client ready must none reads (unless_lacking (length d.first ≤ length c.first) step (no_longer c.first d.first (ap (λ k. k.first) chain)))
 
   -- and its end was met, up to which the body goes
-  pub minds_ended : cl ≡ false → ol ≡ is_late step → MustRead c → v.origin.inbox ≡ [] → OnGoes step (d ≡ record c { given = true }) → ReadsOrigin ot v w L.End → MindsBody ct ot v w c d step cl ol
+  minds_ended : cl ≡ false → ol ≡ is_late step → MustRead c → v.origin.inbox ≡ [] → OnGoes step (d ≡ record c { given = true }) → ReadsOrigin ot v w L.End → MindsBody ct ot v w c d step cl ol
   minds_ended ready late must none goes reads =
       let calm = calm_goes (d ≡ record c { given = true }) step goes in
       read_minds L.End calm.origin (late ∙ calm.late) calm.client ready must none reads (by_step step goes)
@@ -332,6 +332,53 @@ module _ {P : Type 0} (ct ot : Bool) (v w : View) (c d : ChainState P) (step : B
       by_step (S.Finishes end) goes = absurd goes
       by_step (S.Closes end) goes = absurd goes
       by_step S.Lacks goes = tt
+
+-- ---- the steps of the writer, and of the reader
+
+module _ {P : Type 0} (ct ot : Bool) (v w : View) (c d : ChainState P) (step : BodyStep) where
+  pub writer_rests : IsCalm step → w ≡ v → d ≡ c → WritesLinks ct ot v w c d step
+  writer_rests calm same chain = record { minds = minds_none ct ot v w c d step (is_late step) false calm calm.late refl same chain; origin = ap (λ (x : View). x.origin) same }
+
+  pub writer_queued : (text cuts : List ℕ) → IsCalm step → v.client.outbox ≡ [] → d ≡ c → QueuesText text cuts v w → WritesLinks ct ot v w c d step
+  writer_queued text cuts calm none chain queued =
+      record { minds = minds_queued ct ot v w c d step (is_late step) false text cuts calm calm.late refl none chain queued; origin = queued.origin }
+
+  pub writer_framed : (text cuts : List ℕ) (rest : P → List ℕ → List ℕ) (n : ℕ) → IsCalm step → v.client.outbox ≡ [] → TakesAway rest n c d → QueuesText text cuts v w → WritesLinks ct ot v w c d step
+  writer_framed text cuts rest n calm none takes queued =
+      record { minds = minds_framed ct ot v w c d step (is_late step) false text cuts rest n calm calm.late refl none takes queued; origin = queued.origin }
+
+  pub writer_wrote : (p : Pushed) → is_client_fault step ≡ push_failed p → is_late step ≡ push_again p → is_origin_fault step ≡ false → d ≡ c → WritesClient ct v w p → WritesLinks ct ot v w c d step
+  writer_wrote p failed again no_origin chain writes =
+      record { minds = minds_wrote ct ot v w c d step (is_late step) false p failed again no_origin refl chain writes; origin = ap (λ (x : View). x.origin) writes.others }
+
+  pub reader_rests : IsCalm step → w ≡ v → d ≡ c → ReadsLinks ct ot v w c d step
+  reader_rests calm same chain = record {
+    minds = minds_none ct ot v w c d step false (is_late step) calm refl calm.late same chain;
+    client = ap (λ (x : View). x.client) same;
+    sent = ap (λ (x : View). x.sent) same;
+  }
+
+  pub reader_drained : (old new : Place) → MustRead c → FeedsTo step old new v.origin.inbox w.origin.inbox c d → DrainsOrigin v w → ReadsLinks ct ot v w c d step
+  reader_drained old new must feeds drains = record {
+    minds = minds_drained ct ot v w c d step false (is_late step) old new refl refl must feeds drains;
+    client = ap (λ (x : View). x.client) drains;
+    sent = ap (λ (x : View). x.sent) drains;
+  }
+
+  pub reader_read : (p : Pulled) → is_origin_fault step ≡ pull_failed p → is_late step ≡ pull_again p → is_client_fault step ≡ false → MustRead c → v.origin.inbox ≡ [] → d ≡ c → ReadsOrigin ot v w p
+      → ReadsLinks ct ot v w c d step
+  reader_read p failed again no_client must none chain reads = record {
+    minds = minds_read ct ot v w c d step false (is_late step) p failed again no_client refl must none chain reads;
+    client = ap (λ (x : View). x.client) reads.others;
+    sent = ap (λ (x : View). x.sent) reads.others;
+  }
+
+  pub reader_ended : MustRead c → v.origin.inbox ≡ [] → OnGoes step (d ≡ record c { given = true }) → ReadsOrigin ot v w L.End → ReadsLinks ct ot v w c d step
+  reader_ended must none goes reads = record {
+    minds = minds_ended ct ot v w c d step false (is_late step) refl refl must none goes reads;
+    client = ap (λ (x : View). x.client) reads.others;
+    sent = ap (λ (x : View). x.sent) reads.others;
+  }
 
 -- ---- the ends are roused behind a step
 
@@ -426,12 +473,12 @@ links_quiet ct ot v t r a = record {
 
 -- one of the writer
 pub links_write : {P : Type 0} (ct ot : Bool) (v w : View) (step result : BodyStep) (t m : Option StageContinuation) (r q s : Relay P) (a c b : Context)
-    → MindsBody ct ot v w r.driven.chain q.driven.chain step (is_late step) false → SettledAs step result → s.driven ≡ q.driven → StepsChain step 1 r.driven q.driven a c → q ≡ record r { driven = q.driven } → m ≡ unroused t → AddsSome 2 c b
+    → WritesLinks ct ot v w r.driven.chain q.driven.chain step → SettledAs step result → s.driven ≡ q.driven → StepsChain step 1 r.driven q.driven a c → q ≡ record r { driven = q.driven } → m ≡ unroused t → AddsSome 2 c b
     → OnlyOfEnds (pause_if (is_late step) RETRY) (pause_if (is_late step) 0) m q.reader c b → HandlesLinks ct ot v w t r s result a b
-links_write ct ot v w step result t m r q s a c b minds settled kept steps same handled adds ends = record {
+links_write ct ot v w step result t m r q s a c b links settled kept steps same handled adds ends = record {
   client_late = is_late step;
   origin_late = false;
-  minds = minds_settled ct ot v w r.driven.chain q.driven.chain s.driven.chain step result (is_late step) false settled (ap (λ e. e.chain) kept) minds;
+  minds = minds_settled ct ot v w r.driven.chain q.driven.chain s.driven.chain step result (is_late step) false settled (ap (λ e. e.chain) kept) links.minds;
   due = λ named. subst (λ n. OnlyOfBody (pause_if (is_late step) RETRY) n a b) (no_pause (is_late step))
       (in_time (pause_if (is_late step) RETRY) (pause_if (is_late step) 0) m q.reader a c b steps.adds.grows.moment adds.keeps (steps.only FIRST named.stages)
       (named_later a c MAIN (unroused t) m steps.adds.keeps handled (named_unroused a.roles MAIN t named.of_main))
@@ -440,12 +487,12 @@ links_write ct ot v w step result t m r q s a c b minds settled kept steps same 
 
 -- one of the reader
 pub links_read : {P : Type 0} (ct ot : Bool) (v w : View) (step result : BodyStep) (t : Option StageContinuation) (r q s : Relay P) (a c b : Context)
-    → MindsBody ct ot v w r.driven.chain q.driven.chain step false (is_late step) → SettledAs step result → s.driven ≡ q.driven → StepsChain step 2 r.driven q.driven a c → q.reader ≡ unroused r.reader → AddsSome 2 c b
+    → ReadsLinks ct ot v w r.driven.chain q.driven.chain step → SettledAs step result → s.driven ≡ q.driven → StepsChain step 2 r.driven q.driven a c → q.reader ≡ unroused r.reader → AddsSome 2 c b
     → OnlyOfEnds (pause_if (is_late step) 0) (pause_if (is_late step) RETRY) t q.reader c b → HandlesLinks ct ot v w t r s result a b
-links_read ct ot v w step result t r q s a c b minds settled kept steps handled adds ends = record {
+links_read ct ot v w step result t r q s a c b links settled kept steps handled adds ends = record {
   client_late = false;
   origin_late = is_late step;
-  minds = minds_settled ct ot v w r.driven.chain q.driven.chain s.driven.chain step result false (is_late step) settled (ap (λ e. e.chain) kept) minds;
+  minds = minds_settled ct ot v w r.driven.chain q.driven.chain s.driven.chain step result false (is_late step) settled (ap (λ e. e.chain) kept) links.minds;
   due = λ named. subst (λ n. OnlyOfBody n (pause_if (is_late step) RETRY) a b) (no_pause (is_late step))
       (in_time (pause_if (is_late step) 0) (pause_if (is_late step) RETRY) t q.reader a c b steps.adds.grows.moment adds.keeps (steps.only FIRST named.stages)
       (named_later a c MAIN t t steps.adds.keeps refl named.of_main)

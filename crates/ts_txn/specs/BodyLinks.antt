@@ -79,6 +79,19 @@ pub record MindsBody {P : Type 0} (ctells otells : Bool) (v w : View) (c d : Cha
   pub queues : (length w.client.outbox ≤ length v.client.outbox) ⊎ (v.client.outbox ≡ [])
   pub holds : UnlessLacking step (HoldsLittle v c → HoldsLittle w d)
 
+-- What a step of the writer does with the links: nothing with the origin's.
+pub record WritesLinks {P : Type 0} (ctells otells : Bool) (v w : View) (c d : ChainState P)
+    (step : BodyStep) : Type 0 where
+  pub minds : MindsBody ctells otells v w c d step (is_late step) false
+  pub origin : w.origin ≡ v.origin
+
+-- And one of the reader: nothing with the client's.
+pub record ReadsLinks {P : Type 0} (ctells otells : Bool) (v w : View) (c d : ChainState P)
+    (step : BodyStep) : Type 0 where
+  pub minds : MindsBody ctells otells v w c d step false (is_late step)
+  pub client : w.client ≡ v.client
+  pub sent : w.sent ≡ v.sent
+
 -- an event that lets an end of a body work: the first continuation, or the reader, each after its pause
 abbrev pub IsOfEnd : ℕ → ℕ → ℕ → List Named → Pending → Type 0
 IsOfEnd writes reads moment roles p =
