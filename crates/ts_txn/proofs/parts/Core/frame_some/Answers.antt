@@ -41,6 +41,7 @@ pub returns-clause-links : goal.returns-clause-links
 returns-clause-links g c =
     writer_framed g.C.Link.tells g.O.Link.tells (view_of g.C.Link.look g.O.Link.look c.args.self.now) (view_of g.C.Link.look g.O.Link.look c.frame_body.new.self) c.args.relay.now.driven.chain c.take.new.self.chain
     c.step_after.result _ _ g.P.Transform.rest _ (calm_after c.take.result c.step_after.result c.step_after.ensures) c.requires.stands.1 c.take.ensures.takes c.in-Ok.ensures.ok
+
 -- there is nothing to frame, or the end
 pub returns-in_default-clause-lowers : goal.returns-in_default-clause-lowers
 returns-in_default-clause-lowers g c =
