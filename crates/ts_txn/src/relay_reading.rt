@@ -30,8 +30,9 @@ impl<C: Link, O: Upstream<C>> Core<C, O> {
             relay.new result }
         ensures keeps { StepKeeps C.look O.look O.paired O.refuses self.old self.new }
         ensures chain { StepsChain result 2 relay.old.driven relay.new.driven cx.old cx.new }
-        ensures lowers { LowersBody C.tells O.tells (MustRead relay.old.driven.chain) (arc_value self.old.setup) P.rest
-            result (view_of C.look O.look self.old) (view_of C.look O.look self.new) relay.old relay.new cx.old cx.new }
+        ensures lowers { LowersBody C.tells O.tells (MustRead relay.old.driven.chain)
+            (arc_value self.old.setup) P.rest result (view_of C.look O.look self.old)
+            (view_of C.look O.look self.new) relay.old relay.new cx.old cx.new }
         ensures links { ReadsLinks C.tells O.tells (view_of C.look O.look self.old)
             (view_of C.look O.look self.new) relay.old.driven.chain relay.new.driven.chain result }
     {
@@ -49,8 +50,9 @@ impl<C: Link, O: Upstream<C>> Core<C, O> {
             relay.new result }
         ensures keeps { StepKeeps C.look O.look O.paired O.refuses self.old self.new }
         ensures chain { StepsChain result 2 relay.old.driven relay.new.driven cx.old cx.new }
-        ensures lowers { LowersBody C.tells O.tells (MustRead relay.old.driven.chain) (arc_value self.old.setup) P.rest
-            result (view_of C.look O.look self.old) (view_of C.look O.look self.new) relay.old relay.new cx.old cx.new }
+        ensures lowers { LowersBody C.tells O.tells (MustRead relay.old.driven.chain)
+            (arc_value self.old.setup) P.rest result (view_of C.look O.look self.old)
+            (view_of C.look O.look self.new) relay.old relay.new cx.old cx.new }
         ensures links { ReadsLinks C.tells O.tells (view_of C.look O.look self.old)
             (view_of C.look O.look self.new) relay.old.driven.chain relay.new.driven.chain result }
     {
@@ -82,8 +84,9 @@ impl<C: Link, O: Upstream<C>> Core<C, O> {
         ensures keeps { StepKeeps C.look O.look O.paired O.refuses self.old self.new }
         ensures chain { StepsChain result 2 relay.old.driven relay.new.driven cx.old cx.new }
         ensures reader { relay.new.reader ≡ relay.old.reader }
-        ensures lowers { LowersBody C.tells O.tells (MustRead relay.old.driven.chain) (arc_value self.old.setup) P.rest
-            result (view_of C.look O.look self.old) (view_of C.look O.look self.new) relay.old relay.new cx.old cx.new }
+        ensures lowers { LowersBody C.tells O.tells (MustRead relay.old.driven.chain)
+            (arc_value self.old.setup) P.rest result (view_of C.look O.look self.old)
+            (view_of C.look O.look self.new) relay.old relay.new cx.old cx.new }
         ensures links { ReadsLinks C.tells O.tells (view_of C.look O.look self.old)
             (view_of C.look O.look self.new) relay.old.driven.chain relay.new.driven.chain result }
     {

@@ -51,8 +51,9 @@ impl<C: Link, O: Upstream<C>> Core<C, O> {
             relay.now result }
         ensures keeps { StepKeeps C.look O.look O.paired O.refuses self.old self.new }
         ensures lowers { (now : Context) → LowersBody C.tells O.tells
-            ((relay.now.driven.chain.given ≡ true) × IsFinished relay.now.driven.chain) (arc_value self.old.setup) P.rest
-            result (view_of C.look O.look self.old) (view_of C.look O.look self.new) relay.now relay.now now now }
+            ((relay.now.driven.chain.given ≡ true) × IsFinished relay.now.driven.chain)
+            (arc_value self.old.setup) P.rest result (view_of C.look O.look self.old)
+            (view_of C.look O.look self.new) relay.now relay.now now now }
         ensures links { WritesLinks C.tells O.tells (view_of C.look O.look self.old)
             (view_of C.look O.look self.new) relay.now.driven.chain relay.now.driven.chain result }
     {
@@ -78,9 +79,10 @@ impl<C: Link, O: Upstream<C>> Core<C, O> {
             (view_of C.look O.look self.new) relay.old.driven.chain relay.new.driven.chain result }
         ensures chain { StepsChain result 1 relay.old.driven relay.new.driven cx.old cx.new }
         ensures relay { relay.new ≡ record relay.old { driven = relay.new.driven } }
-        ensures lowers { LowersBody C.tells O.tells (MustSend (view_of C.look O.look self.old) relay.old.driven.chain)
-            (arc_value self.old.setup) P.rest result
-            (view_of C.look O.look self.old) (view_of C.look O.look self.new) relay.old relay.new cx.old cx.new }
+        ensures lowers { LowersBody C.tells O.tells
+            (MustSend (view_of C.look O.look self.old) relay.old.driven.chain)
+            (arc_value self.old.setup) P.rest result (view_of C.look O.look self.old)
+            (view_of C.look O.look self.new) relay.old relay.new cx.old cx.new }
     {
         let Some(block) = relay.driven.chain().out_block() else {
             return self.end_some(relay);
@@ -106,9 +108,10 @@ impl<C: Link, O: Upstream<C>> Core<C, O> {
             (view_of C.look O.look self.new) relay.old.driven.chain relay.new.driven.chain result }
         ensures chain { StepsChain result 1 relay.old.driven relay.new.driven cx.old cx.new }
         ensures relay { relay.new ≡ record relay.old { driven = relay.new.driven } }
-        ensures lowers { LowersBody C.tells O.tells (MustSend (view_of C.look O.look self.old) relay.old.driven.chain)
-            (arc_value self.old.setup) P.rest result
-            (view_of C.look O.look self.old) (view_of C.look O.look self.new) relay.old relay.new cx.old cx.new }
+        ensures lowers { LowersBody C.tells O.tells
+            (MustSend (view_of C.look O.look self.old) relay.old.driven.chain)
+            (arc_value self.old.setup) P.rest result (view_of C.look O.look self.old)
+            (view_of C.look O.look self.new) relay.old relay.new cx.old cx.new }
     {
         if self.client.outbox.is_empty() {
             return self.frame_some(relay, cx);
