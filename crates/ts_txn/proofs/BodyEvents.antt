@@ -1,5 +1,5 @@
 -- The events of the continuations while a body is passed on.
-use Rattle.std.proofs.Common.{◌≡◌, ◌≢◌, ℕ, ◌+◌, ◌≤◌, ◌⊎◌, inl, inr, List, [], ◌∷◌, ◌++◌, Bool, true, false, Option, Some, None, Result, refl, sym, ap, subst, ◌∙◌, arith}
+use Rattle.std.proofs.Common.{◌≡◌, ◌≢◌, ℕ, ◌≤◌, ◌⊎◌, inl, inr, List, [], ◌∷◌, Bool, true, false, Option, Some, None, Result, refl, sym, ap, subst, ◌∙◌, arith}
 use Rattle.std.specs.Prelude.{⊤}
 use Rattle.ts_config.specs.declared.setup.Setup.{Setup}
 use Rattle.ts_hooks.specs.declared.txn_end.TxnEnd.TheVariants as E
@@ -28,7 +28,7 @@ use Rattle.ts_txn.specs.Feeding.{OnGoes}
 use Rattle.ts_txn.specs.Finishing.{LeadsBody}
 use Rattle.ts_txn.specs.Relaying.{DrivesOn, RelaysBody, StepsChain, step_after}
 use Rattle.ts_txn.specs.Entering.{BeginsRelay, BeginsRunning}
-use Rattle.ts_txn.specs.Duties.{BeginsBody, AreBodyEndsRoused, EndsRouse, IsBodyCovered, IsBodyJoined, RousesBoth, HandlesBody, RunsOr, SettledAs, SettlesAfter, SettlesBody, TellsDuty, UnlessLacking, WhileGoes, body_seats}
+use Rattle.ts_txn.specs.Duties.{BeginsBody, DoesOwnWork, EndsRouse, IsBodyCovered, IsBodyJoined, HandlesBody, RunsOr, SettledAs, SettlesAfter, SettlesBody, TellsDuty, UnlessLacking, WhileGoes, body_seats, relay_seats}
 use Rattle.ts_txn.specs.declared.finishing.BodyStep.{BodyStep}
 use Rattle.ts_txn.specs.declared.finishing.BodyStep.TheVariants as S
 use Rattle.ts_txn.specs.declared.relay.Relay.{Relay}
@@ -64,7 +64,7 @@ only_goes X S.Lacks goes = tt
 
 pub settles : {P : Type 0} (step : BodyStep) (writes : Bool) (v : View) (t u : Option StageContinuation) (r s : Relay P) (a b : Context) → IsOrderly a → TellsDuty writes v r.driven.chain
     → EndsRouse step writes t u r s a b → s ≡ record r { reader = s.reader } → SettlesBody step v t u r s a b
-settles step writes v t u r s a b orderly tells (reads, must, rouses) same =
+settles step writes v t u r s a b orderly tells (reads, must, only, rouses) same =
     let driven : s.driven ≡ r.driven = ap (λ x. x.driven) same in
     record {
       adds = rouses.adds;
@@ -77,6 +77,7 @@ settles step writes v t u r s a b orderly tells (reads, must, rouses) same =
       goes = only_goes _ step rouses.roused;
       later = grows_next a b orderly rouses.adds.grows;
       seated = subst (λ d. KeepsSeated (t ∷ r.reader ∷ r.driven.table.items) (u ∷ s.reader ∷ d.table.items) a b) (sym driven) (rouses.seated r.driven.table.items);
+      rests = λ ends. rouses.rests (λ duty. ends.writes (tells.must_send duty)) (λ duty. ends.reads (only duty));
     }
   where
     by_run : (step : BodyStep) → TellsDuty writes v s.driven.chain → (MustRead s.driven.chain → reads ≡ true)
@@ -96,6 +97,7 @@ settles_after step result v t u r s a b settled h = record {
   settled = settled;
   later = h.later;
   seated = h.seated;
+  rests = h.rests;
 }
   where
     as_goes : (step : BodyStep) → OnGoes result (IsBodyCovered v u s b.log.state.next) → WhileGoes step (OnGoes result (IsBodyCovered v u s b.log.state.next))
@@ -114,6 +116,7 @@ settles_none step v t r a turn settled ends = record {
   settled = settled;
   later = omega arith;
   seated = λ others h. h;
+  rests = λ ends. refl;
 }
 
 -- where it leads
@@ -202,15 +205,38 @@ pub handles_by : {P : Type 0} (role : ℕ) (event : Event) (step result : BodySt
     → ActsWithin 4 a c → DrivesOn step r.driven q.driven c
     → ((before : List Pending) → IsHandled before a.log.state.pending a.roles role event → IsBodyJoined t r before a.roles → IsBodyJoined m q c.log.state.pending c.roles)
     → KeepsSeated (body_seats t r) (body_seats m q) a c → (EndsInOrder r.driven.chain.given r.driven.chain.stages → EndsInOrder q.driven.chain.given q.driven.chain.stages)
-    → s.driven ≡ q.driven → SettlesAfter step result w m u q s c b → HandlesBody result role event v w t u r s a b
-handles_by role event step result v w t m u r q s a c b orderly acts on joined seated ordered same after = record {
+    → s.driven ≡ q.driven → SettlesAfter step result w m u q s c b → DoesOwnWork role v w → HandlesBody result role event v w t u r s a b
+handles_by role event step result v w t m u r q s a c b orderly acts on joined seated ordered same after own = record {
   acts = acts_then 4 2 6 (omega arith) acts
       (record { grows = after.adds.grows; turn = after.adds.keeps.turn; plain = after.adds.keeps.plain; few = after.adds.few });
   joined = λ before handled was. after.joined (joined before handled was);
   covered = covered_after step result v w t u r q s a.log.state.next c.log.state.next c (grows_next a c orderly acts.grows) on refl b.log.state.next after.settled after.covered;
+  own = own;
   runs = runs_after step result v t r q s a.log.state.next b.log.state.next c (grows_next a c orderly acts.grows) after.later on same after.settled;
   seated = seated_then (body_seats t r) (body_seats m q) (body_seats u s) a c b seated after.seated;
   ordered = λ h. subst (λ d. EndsInOrder d.chain.given d.chain.stages) (sym same) (ordered h);
+}
+
+-- a side is touched by its own end alone
+no_work : (role : ℕ) (v w : View) → w ≡ v → DoesOwnWork role v w
+no_work role v w same = record {
+  main = λ is. ap (λ (x : View). x.origin) same;
+  reader = λ is. (ap (λ (x : View). x.client) same, ap (λ (x : View). x.sent) same);
+  others = λ not_main not_reader. same;
+}
+
+writer_work : (v w : View) → w.origin ≡ v.origin → DoesOwnWork 1 v w
+writer_work v w origin = record {
+  main = λ is. origin;
+  reader = λ is. absurd (let wrong : 1 ≡ 2 = is in omega (arith, wrong));
+  others = λ not_main not_reader. absurd (not_main refl);
+}
+
+reader_work : (v w : View) → w.client ≡ v.client → w.sent ≡ v.sent → DoesOwnWork 2 v w
+reader_work v w client sent = record {
+  main = λ is. absurd (let wrong : 2 ≡ 1 = is in omega (arith, wrong));
+  reader = λ is. (client, sent);
+  others = λ not_main not_reader. absurd (not_reader refl);
 }
 
 -- one at which nobody works
@@ -224,6 +250,7 @@ handles_quiet role event v t r a turn rests = record {
   acts = acts_none 6 a turn;
   joined = λ before handled was runs. joined_quiet r.driven.chain r.driven.table.items t r.reader before a.log.state.pending a.roles role event handled rests (was runs);
   covered = λ h. h;
+  own = no_work role v v refl;
   runs = runs_quiet v t r a.log.state.next;
   seated = λ others h. h;
   ordered = λ h. h;
@@ -258,20 +285,20 @@ chain_joined step n t r q a b steps same was runs =
 
 pub handles_write : {P : Type 0} (event : Event) (step result : BodyStep) (v w : View) (t u : Option StageContinuation) (r q s : Relay P) (a c b : Context) → IsOrderly a
     → StepsChain step 1 r.driven q.driven a c → q ≡ record r { driven = q.driven } → s.driven ≡ q.driven → SettlesAfter step result w (unroused t) u q s c b
-    → HandlesBody result 1 event v w t u r s a b
-handles_write event step result v w t u r q s a c b orderly steps same kept after =
+    → w.origin ≡ v.origin → HandlesBody result 1 event v w t u r s a b
+handles_write event step result v w t u r q s a c b orderly steps same kept after origin =
     handles_by 1 event step result v w t (unroused t) u r q s a c b orderly (chain_acts step 1 r.driven q.driven a c (omega arith) steps) steps.on
     (λ before handled was. chain_joined step 1 (unroused t) r q a c steps (ap (λ x. x.reader) same)
     (λ runs. joined_writer r.driven.chain r.driven.table.items t r.reader before a.log.state.pending a.roles event handled (was runs)))
     (subst (λ (x : Option StageContinuation). KeepsSeated (body_seats t r) (unroused t ∷ x ∷ q.driven.table.items) a c) (sym (ap (λ x. x.reader) same))
     (seated_then (body_seats t r) (body_seats (unroused t) r) (unroused t ∷ r.reader ∷ q.driven.table.items) a a c (main_unroused t (r.reader ∷ r.driven.table.items) a)
     (stages_seated (unroused t) r.reader r.driven.table.items q.driven.table.items a c steps.seats.seated)))
-    steps.ordered kept after
+    steps.ordered kept after (writer_work v w origin)
 
 pub handles_read : {P : Type 0} (event : Event) (step result : BodyStep) (v w : View) (t u : Option StageContinuation) (r q s : Relay P) (a c b : Context) → IsOrderly a
     → StepsChain step 2 r.driven q.driven a c → q.reader ≡ unroused r.reader → s.driven ≡ q.driven → SettlesAfter step result w t u q s c b
-    → HandlesBody result 2 event v w t u r s a b
-handles_read event step result v w t u r q s a c b orderly steps same kept after =
+    → w.client ≡ v.client → w.sent ≡ v.sent → HandlesBody result 2 event v w t u r s a b
+handles_read event step result v w t u r q s a c b orderly steps same kept after client sent =
     handles_by 2 event step result v w t t u r q s a c b orderly (chain_acts step 2 r.driven q.driven a c (omega arith) steps) steps.on
     (λ before handled was. chain_joined step 2 t (record r { reader = unroused r.reader }) q a c steps same
     (λ runs. joined_reader r.driven.chain r.driven.table.items t r.reader before a.log.state.pending a.roles event handled (was runs)))
@@ -279,7 +306,7 @@ handles_read event step result v w t u r q s a c b orderly steps same kept after
     (seated_then (body_seats t r) (t ∷ unroused r.reader ∷ r.driven.table.items) (t ∷ unroused r.reader ∷ q.driven.table.items) a a c
     (seated_behind t (r.reader ∷ r.driven.table.items) (unroused r.reader ∷ r.driven.table.items) a a (main_unroused r.reader r.driven.table.items a))
     (stages_seated t (unroused r.reader) r.driven.table.items q.driven.table.items a c steps.seats.seated)))
-    steps.ordered kept after
+    steps.ordered kept after (reader_work v w client sent)
 
 pub handles_stage : {P : Type 0} (role : ℕ) (event : Event) (f : Result ⊤ SetFault) (step result : BodyStep) (v : View) (t u : Option StageContinuation) (r q s : Relay P) (a c b : Context)
     → IsOrderly a → step ≡ step_after f → ActsWithin 4 a c → Loses f r.driven q.driven a c → KeepsOthers 3 r.driven.table.items a c → HandlesDriven 3 role event r.driven q.driven a c
@@ -295,7 +322,7 @@ handles_stage role event f step result v t u r q s a c b orderly is acts loses o
     (λ h. driven before handled (λ on. h) runs) (was (runs_before f r.driven q.driven a c loses runs))))
     (subst (λ (x : Option StageContinuation). KeepsSeated (body_seats t r) (t ∷ x ∷ q.driven.table.items) a c) (sym same)
     (stages_seated t r.reader r.driven.table.items q.driven.table.items a c seated))
-    ordered kept after
+    ordered kept after (no_work role v v refl)
 
 -- where the event of a stage leads
 pub stage_leads : {P : Type 0} (setup : Setup) (refuses : Type 0) (rest : P → List ℕ → List ℕ) (v : View) (c d : ChainState P) (place : Place) (ts us : List (Option StageContinuation))
@@ -335,9 +362,40 @@ begins_covered {P} step result w u m s c next runs settled after = by_step step 
     by_step (S.Closes end) runs settled after = absurd runs
     by_step S.Lacks runs settled after = subst (λ (x : BodyStep). WhileGoes x (IsBodyCovered w u s next)) (sym settled) tt
 
-pub begins_body : {P : Type 0} (step result : BodyStep) (w : View) (t u : Option StageContinuation) (m s : Relay P) (a c b : Context) → BeginsRelay step m a c
+-- so its stages run
+begins_runs : {P : Type 0} (step result : BodyStep) (m s : Relay P) (c : Context) (next : ℕ) → c.log.state.next ≤ next → s.driven ≡ m.driven → BeginsRunning step m.driven c → SettledAs step result
+    → UnlessLacking result (RunsOr s next)
+begins_runs step result m s c next later same runs settled = by_step step runs settled
+  where
+    kept : (m.driven.running ≡ true) ⊎ (GREATEST ≤ c.log.state.next) → RunsOr s next
+    kept (inl runs) = inl (ap (λ d. d.running) same ∙ runs)
+    kept (inr spent) = inr (omega (arith, spent, later))
+
+    unless : (result : BodyStep) → RunsOr s next → UnlessLacking result (RunsOr s next)
+    unless S.Goes h = h
+    unless S.Waits h = h
+    unless (S.Finishes end) h = h
+    unless (S.Closes end) h = h
+    unless S.Lacks h = tt
+
+    by_step : (step : BodyStep) → BeginsRunning step m.driven c → SettledAs step result → UnlessLacking result (RunsOr s next)
+    by_step S.Goes runs settled = unless result (kept runs)
+    by_step S.Waits runs settled = absurd runs
+    by_step (S.Finishes end) runs settled = absurd runs
+    by_step (S.Closes end) runs settled = absurd runs
+    by_step S.Lacks runs settled = subst (λ (x : BodyStep). UnlessLacking x (RunsOr s next)) (sym settled) tt
+
+-- and it is passed on, unless memory lacked
+begins_goes : {P : Type 0} (step result : BodyStep) (m : Relay P) (c : Context) → BeginsRunning step m.driven c → SettledAs step result → OnGoes result ⊤
+begins_goes S.Goes result m c runs settled = settled
+begins_goes S.Waits result m c runs settled = absurd runs
+begins_goes (S.Finishes end) result m c runs settled = absurd runs
+begins_goes (S.Closes end) result m c runs settled = absurd runs
+begins_goes S.Lacks result m c runs settled = subst (λ (x : BodyStep). OnGoes x ⊤) (sym settled) tt
+
+pub begins_body : {P : Type 0} (step result : BodyStep) (w : View) (t u : Option StageContinuation) (m s : Relay P) (a c b : Context) → BeginsRelay step m a c → s.driven ≡ m.driven
     → SettlesAfter step result w t u m s c b → BeginsBody result w t u s a b
-begins_body step result w t u m s a c b begins after = record {
+begins_body step result w t u m s a c b begins same after = record {
   acts = acts_then 2 2 4 (omega arith) begins.chain.within
       (record { grows = after.adds.grows; turn = after.adds.keeps.turn; plain = after.adds.keeps.plain; few = after.adds.few });
   joined = λ seated. after.joined (λ runs. record {
@@ -346,4 +404,8 @@ begins_body step result w t u m s a c b begins after = record {
     of_reader = begins.of_reader;
   });
   covered = begins_covered step result w u m s c b.log.state.next begins.chain.runs after.settled after.covered;
+  goes = begins_goes step result m c begins.chain.runs after.settled;
+  runs = begins_runs step result m s c b.log.state.next after.later same begins.chain.runs after.settled;
+  seated = seated_then (t ∷ []) (body_seats t m) (body_seats u s) a c b (seated_behind t [] (relay_seats m) a c begins.seated) after.seated;
+  ordered = subst (λ d. EndsInOrder d.chain.given d.chain.stages) (sym same) begins.ordered;
 }

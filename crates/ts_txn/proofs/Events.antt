@@ -1,20 +1,39 @@
--- What one event leads to: a step of its phase, or nothing.
-use Rattle.std.proofs.Common.{◌≡◌, ◌⊎◌, inl, inr, ℕ, List, Bool, Option, refl, sym, subst}
+-- What one event leads to: a step of its phase, a part of a body, one of the last writes, or nothing.
+use Rattle.std.proofs.Common.{◌≡◌, ◌⊎◌, inl, inr, ℕ, List, [], ◌∷◌, Bool, Option, Some, None, refl, sym, ap, subst}
+use Rattle.ts_hooks.specs.declared.txn_end.TxnEnd.{TxnEnd}
 use Rattle.ts_hooks.specs.declared.txn_end.TxnEnd.TheVariants as E
+use Rattle.ts_group.specs.declared.action.Named.{Named}
 use Rattle.ts_group.specs.Context.{Context}
+use Rattle.ts_group.specs.Entries.{Grows}
 use Rattle.ts_link.specs.Link.{Look}
-use Rattle.ts_transform.specs.Driving.{IsDueAfter}
+use Rattle.ts_journal.specs.declared.entry.Pending.{Pending}
+use Rattle.ts_transform.specs.Driving.{ActsWithin, IsDueAfter, IsNamedIf, SetsOnly, unroused}
+use Rattle.ts_transform.specs.Seats.{AllSeated, HasKey}
+use Rattle.ts_transform.specs.declared.continuation.StageContinuation.{StageContinuation}
 use Rattle.ts_transform.proofs.Setting.{only_none}
-use Rattle.ts_txn.specs.Driven.{HandlesEvent, StaysOrLacks, TakesEvent}
+use Rattle.std.specs.Prelude.{⊤}
+use Rattle.ts_txn.specs.BodyLinks.{BeginsInTime}
+use Rattle.ts_txn.specs.Course.{course_after}
+use Rattle.ts_txn.specs.CourseCover.{IsCoveredNow, LedAfter, LedBehind, StaysOnOrLacks, set_leaving}
+use Rattle.ts_txn.specs.Driven.{BeginsIn, ClosesAs, DueTo, HandlesEvent, HandlesOn, HandlesStep, HandlesWrite, MindsCourse, TakesEvent, TakesOn, TakesStep, delay_of}
+use Rattle.ts_txn.specs.Entering.{QuietLinks}
 use Rattle.ts_txn.specs.Steps.{LeavesClient, LeavesClientIn, LeavesOrigin, LeavesOriginIn, LeavesSides, MindsLinksIn, WaitsRightly}
-use Rattle.ts_txn.specs.Holding.{IfTold, StepKeeps}
-use Rattle.ts_txn.specs.View.{View, view_of}
+use Rattle.ts_txn.specs.Holding.{IfTold}
+use Rattle.ts_txn.specs.View.{LinkSide, View, view_of}
+use Rattle.ts_txn.specs.declared.course.Course.{Course}
+use Rattle.ts_txn.specs.declared.course.Course.TheVariants as K
+use Rattle.ts_txn.specs.declared.driver.TheConstants.{MAIN}
+use Rattle.ts_txn.specs.Feeding.{OnGoes}
+use Rattle.ts_txn.specs.declared.finishing.BodyStep.{BodyStep}
+use Rattle.ts_txn.specs.declared.finishing.BodyStep.TheVariants as S
 use Rattle.ts_txn.specs.declared.parts.Core.{Core}
+use Rattle.ts_txn.specs.declared.phase.Next.{Next}
 use Rattle.ts_txn.specs.declared.phase.Next.TheVariants as N
 use Rattle.ts_txn.specs.declared.phase.Phase.{Phase}
 use Rattle.ts_txn.specs.declared.phase.Phase.TheVariants as P
 use Rattle.ts_txn.specs.declared.phase.Step.{Step}
-use Rattle.ts_txn.proofs.Fitting.{same_core}
+use Rattle.ts_txn.specs.declared.relay.Relay.{Relay}
+use Rattle.ts_txn.proofs.Coursing.{behind_led}
 use Rattle.ts_txn.proofs.Leaving.{still_leaves}
 use Rattle.ts_txn.proofs.Sparing.{still_spares}
 
@@ -53,38 +72,220 @@ module _ (v w : View) where
   spares_in (P.TxnClose end) spares = spares
   spares_in (P.Ended end) spares = spares
 
-module _ {C O : Type 0} (ct ot : Bool) (client : C → Look) (origin : O → Look) (paired : C → O → Type 0) (refuses : O → List ℕ → Type 0) (left : C → O → Option ℕ) where
-  -- the phase that a step answered, or the end for want of memory
-  minds_on : (s t : Core C O) (p d : Phase) (made : Step) → MindsLinksIn ct ot client origin refuses left s t p made → StaysOrLacks made.phase d
-      → (d ≡ P.Ended E.NoMemory) ⊎ ((t ≡ s) × (d ≡ p)) ⊎ MindsLinksIn ct ot client origin refuses left s t p (record { phase = d; next = made.next })
-  minds_on s t p d made minds (inl same) =
-      inr (inr (subst (λ (x : Phase). MindsLinksIn ct ot client origin refuses left s t p (record { phase = x; next = made.next })) (sym same) minds))
-  minds_on s t p d made minds (inr lacks) = inl lacks
+  -- nothing closes where a body begins
+  begin_closes : {Q : Type 0} (p : Phase) (new : Course Q) → BeginsIn p v w → ClosesAs p new
+  begin_closes P.Fresh new begins = tt
+  begin_closes P.TxnStart new begins = tt
+  begin_closes P.ReadRequest new begins = tt
+  begin_closes (P.ReadRequestHdr q) new begins = tt
+  begin_closes (P.OsDns q) new begins = tt
+  begin_closes (P.SendRequestHdr q) new begins = tt
+  begin_closes (P.SendRequest q) new begins = tt
+  begin_closes (P.Upload q) new begins = tt
+  begin_closes (P.ReadResponse q) new begins = tt
+  begin_closes (P.ReadResponseHdr q h) new begins = tt
+  begin_closes (P.ResponseTransform q h) new begins = tt
+  begin_closes (P.SendResponseHdr a) new begins = tt
+  begin_closes (P.Sending a) new begins = tt
+  begin_closes (P.TxnClose end) new begins = absurd begins
+  begin_closes (P.Ended end) new begins = tt
 
-  -- a step was made
-  pub takes_step : (s t : Core C O) (was p d : Phase) (made : Step) → was ≡ p → StepKeeps client origin paired refuses s t → MindsLinksIn ct ot client origin refuses left s t was made
-      → WaitsRightly made.next (view_of client origin s) (view_of client origin t) → IfTold ct ot (LeavesSides was (view_of client origin s) (view_of client origin t))
-      → StaysOrLacks made.phase d → TakesEvent ct ot client origin paired refuses left s t p d made.next
-  takes_step s t was p d made same keeps minds waits leaves stays =
-      let v = view_of client origin s in
-      let w = view_of client origin t in
-      record {
-        keeps = keeps;
-        minds = minds_on s t p d made (subst (λ (x : Phase). MindsLinksIn ct ot client origin refuses left s t x made) same minds) stays;
-        waits = waits;
-        leaves = λ told also. subst (λ (x : Phase). LeavesSides x v w) same (leaves told also);
-      }
+  -- a body begins
+  pub leaves_begun : (p : Phase) → BeginsIn p v w → LeavesSides p v w
+  leaves_begun p begins = record {
+    origin = leaves_in p (record { taken = ap (λ (s : LinkSide). s.look.taken) (calls p begins).origin; waits = ap (λ (s : LinkSide). s.outbox) (calls p begins).origin });
+    client = spares_in p (record { given = ap (λ (l : Look). l.given) (calls p begins).client; held = (calls p begins).held });
+  }
+    where
+      calls : (p : Phase) → BeginsIn p v w → QuietLinks v w
+      calls P.Fresh begins = absurd begins
+      calls P.TxnStart begins = absurd begins
+      calls P.ReadRequest begins = absurd begins
+      calls (P.ReadRequestHdr q) begins = absurd begins
+      calls (P.OsDns q) begins = absurd begins
+      calls (P.SendRequestHdr q) begins = absurd begins
+      calls (P.SendRequest q) begins = absurd begins
+      calls (P.Upload q) begins = absurd begins
+      calls (P.ReadResponse q) begins = absurd begins
+      calls (P.ReadResponseHdr q h) begins = absurd begins
+      calls (P.ResponseTransform q h) begins = begins
+      calls (P.SendResponseHdr a) begins = absurd begins
+      calls (P.Sending a) begins = absurd begins
+      calls (P.TxnClose end) begins = absurd begins
+      calls (P.Ended end) begins = absurd begins
 
-  -- nothing was done
-  pub takes_nothing : (t : Core C O) (p : Phase) → TakesEvent ct ot client origin paired refuses left t t p p N.Go
-  takes_nothing t p =
+-- nor where nothing is done
+still_closes : (Q : Type 0) (p : Phase) → ClosesAs {Q = Q} p (K.Phased p)
+still_closes Q P.Fresh = tt
+still_closes Q P.TxnStart = tt
+still_closes Q P.ReadRequest = tt
+still_closes Q (P.ReadRequestHdr q) = tt
+still_closes Q (P.OsDns q) = tt
+still_closes Q (P.SendRequestHdr q) = tt
+still_closes Q (P.SendRequest q) = tt
+still_closes Q (P.Upload q) = tt
+still_closes Q (P.ReadResponse q) = tt
+still_closes Q (P.ReadResponseHdr q h) = tt
+still_closes Q (P.ResponseTransform q h) = tt
+still_closes Q (P.SendResponseHdr a) = tt
+still_closes Q (P.Sending a) = tt
+still_closes Q (P.TxnClose end) = inl refl
+still_closes Q (P.Ended end) = tt
+
+-- the first continuation keeps its role when its event is handled
+named_before : (roles : List Named) (main : Option StageContinuation) → IsNamedIf roles MAIN main → IsNamedIf roles MAIN (unroused main)
+named_before roles None named = named
+named_before roles (Some t) named = named
+
+module _ {C O Q : Type 0} (ct ot : Bool) (client : C → Look) (origin : O → Look) (paired : C → O → Type 0) (refuses : O → List ℕ → Type 0) (left : C → O → Option ℕ) where
+  -- a step of a phase was made, and led to the phase that it answered, or to the end for want of memory
+  pub takes_step : (s t : Core C O) (p : Phase) (new : Course Q) (made : Step) → MindsLinksIn ct ot client origin refuses left s t p made
+      → WaitsRightly made.next (view_of client origin s) (view_of client origin t) → IfTold ct ot (LeavesSides p (view_of client origin s) (view_of client origin t))
+      → LedBehind made.next (K.Phased made.phase) new → TakesStep ct ot client origin paired refuses left s t p made.next new
+  takes_step s t p new made minds waits leaves led = record {
+    minds = by_lead (behind_led made.next (K.Phased made.phase) new led);
+    waits = waits;
+    leaves = leaves;
+    closes = by_phase p minds;
+  }
+    where
+      by_lead : StaysOnOrLacks (K.Phased made.phase) new
+          → (new ≡ K.Phased (P.Ended E.NoMemory)) ⊎ ((t ≡ s) × (new ≡ K.Phased p)) ⊎ MindsCourse ct ot client origin paired refuses left s t p made.next new
+      by_lead (inl same) = inr (inr (subst (MindsCourse ct ot client origin paired refuses left s t p made.next) (sym same) minds))
+      by_lead (inr lacks) = inl lacks
+
+      by_phase : (p : Phase) → MindsLinksIn ct ot client origin refuses left s t p made → ClosesAs p new
+      by_phase P.Fresh minds = tt
+      by_phase P.TxnStart minds = tt
+      by_phase P.ReadRequest minds = tt
+      by_phase (P.ReadRequestHdr q) minds = tt
+      by_phase (P.OsDns q) minds = tt
+      by_phase (P.SendRequestHdr q) minds = tt
+      by_phase (P.SendRequest q) minds = tt
+      by_phase (P.Upload q) minds = tt
+      by_phase (P.ReadResponse q) minds = tt
+      by_phase (P.ReadResponseHdr q h) minds = tt
+      by_phase (P.ResponseTransform q h) minds = tt
+      by_phase (P.SendResponseHdr a) minds = tt
+      by_phase (P.Sending a) minds = tt
+      by_phase (P.TxnClose end) minds = inr (subst (λ (m : Step). LedBehind m.next (K.Phased m.phase) new) minds.1 led)
+      by_phase (P.Ended end) minds = tt
+
+  -- where a body that begins leads: it is passed on, or memory lacked
+  pub begin_led : (r : Relay Q) (step : BodyStep) (new : Course Q) → OnGoes step ⊤ → LedAfter step (course_after r step) new
+      → (new ≡ K.Relaying r) ⊎ (new ≡ K.Phased (P.Ended E.NoMemory))
+  begin_led r S.Goes new goes led = inl led
+  begin_led r S.Waits new goes led = absurd goes
+  begin_led r (S.Finishes end) new goes led = absurd goes
+  begin_led r (S.Closes end) new goes led = absurd goes
+  begin_led r S.Lacks new goes (inl lacks) = inr lacks
+  begin_led r S.Lacks new goes (inr lacks) = inr lacks
+
+  -- a body was begun, or memory lacked for that
+  pub takes_begin : (s t : Core C O) (p : Phase) (new : Course Q) (r : Relay Q) → BeginsIn p (view_of client origin s) (view_of client origin t)
+      → (new ≡ K.Relaying r) ⊎ (new ≡ K.Phased (P.Ended E.NoMemory)) → TakesStep ct ot client origin paired refuses left s t p N.Go new
+  takes_begin s t p new r begins led = record {
+    minds = by_lead led;
+    waits = tt;
+    leaves = λ told also. leaves_begun (view_of client origin s) (view_of client origin t) p begins;
+    closes = begin_closes (view_of client origin s) (view_of client origin t) p new begins;
+  }
+    where
+      by_lead : (new ≡ K.Relaying r) ⊎ (new ≡ K.Phased (P.Ended E.NoMemory))
+          → (new ≡ K.Phased (P.Ended E.NoMemory)) ⊎ ((t ≡ s) × (new ≡ K.Phased p)) ⊎ MindsCourse ct ot client origin paired refuses left s t p N.Go new
+      by_lead (inl same) = inr (inr (subst (MindsCourse ct ot client origin paired refuses left s t p N.Go) (sym same) begins))
+      by_lead (inr lacks) = inl lacks
+
+  -- memory lacked for its head
+  pub takes_lost : (s t : Core C O) (p : Phase) → BeginsIn p (view_of client origin s) (view_of client origin t)
+      → TakesStep {Q = Q} ct ot client origin paired refuses left s t p N.Go (K.Phased (P.Ended E.NoMemory))
+  takes_lost s t p begins = record {
+    minds = inl refl;
+    waits = tt;
+    leaves = λ told also. leaves_begun (view_of client origin s) (view_of client origin t) p begins;
+    closes = begin_closes (view_of client origin s) (view_of client origin t) p (K.Phased (P.Ended E.NoMemory)) begins;
+  }
+
+  -- the event of the next step is due then
+  pub due_step : (main : Option StageContinuation) (a b : Context) (next : Next) (p : Phase) (new : Course Q) → StaysOnOrLacks (K.Phased p) new
+      → SetsOnly (IsDueAfter (delay_of next) a.moment) a b → DueTo main next new a b
+  due_step main a b next p new (inl same) due = subst (λ x. DueTo main next x a b) (sym same) due
+  due_step main a b next p new (inr lacks) due = subst (λ x. DueTo main next x a b) (sym lacks) due
+
+  -- where a body was begun, or nothing is pending any more
+  pub due_begin : (main : Option StageContinuation) (v : View) (u : Option StageContinuation) (a m b : Context) (step : BodyStep) (r : Relay Q) (new : Course Q) → OnGoes step ⊤
+      → LedAfter step (course_after r step) new → Grows a m → BeginsInTime main r a m → ActsWithin (set_leaving step) m b → IsCoveredNow v u new b → DueTo main N.Go new a b
+  due_begin main v u a m b S.Goes r new goes led first begins then covered = subst (λ x. DueTo main N.Go x a b) (sym led) (record { behind = m; first = first; begins = begins; then = then })
+  due_begin main v u a m b S.Waits r new goes led first begins then covered = absurd goes
+  due_begin main v u a m b (S.Finishes end) r new goes led first begins then covered = absurd goes
+  due_begin main v u a m b (S.Closes end) r new goes led first begins then covered = absurd goes
+  due_begin main v u a m b S.Lacks r new goes led first begins then covered = lost (by_lead led)
+    where
+      by_lead : (new ≡ K.Phased (P.Ended E.NoMemory)) ⊎ (new ≡ K.Phased (P.Ended E.NoMemory)) → new ≡ K.Phased (P.Ended E.NoMemory)
+      by_lead (inl lacks) = lacks
+      by_lead (inr lacks) = lacks
+
+      unseated : (p : Pending) → HasKey (None ∷ []) p.key → ⊥
+      unseated p has = has
+
+      none_due : IsCoveredNow {Q = Q} v u (K.Phased (P.Ended E.NoMemory)) b → DueTo {Q = Q} main N.Go (K.Phased (P.Ended E.NoMemory)) a b
+      none_due h n p none there = absurd (unseated p (subst (λ x. AllSeated b.log.state.pending (x ∷ [])) h.idles h.seated n p there))
+
+      lost : new ≡ K.Phased (P.Ended E.NoMemory) → DueTo main N.Go new a b
+      lost lacks = subst (λ x. DueTo main N.Go x a b) (sym lacks) (none_due (subst (λ x. IsCoveredNow v u x b) lacks covered))
+
+  -- nothing was done in a phase
+  pub quiet_step : (main : Option StageContinuation) (t : Core C O) (p : Phase) (a : Context) → HandlesStep {Q = Q} ct ot client origin paired refuses left t t a a main p (K.Phased p)
+  quiet_step main t p a =
       let v = view_of client origin t in
       record {
-        keeps = same_core client origin paired refuses t;
-        minds = inr (inl (refl, refl));
-        waits = tt;
-        leaves = λ told also. record { origin = leaves_in v v p (still_leaves v v refl); client = spares_in v v p (still_spares v v refl) };
+        next = N.Go;
+        takes = record {
+          minds = inr (inl (refl, refl));
+          waits = tt;
+          leaves = λ told also. record { origin = leaves_in v v p (still_leaves v v refl); client = spares_in v v p (still_spares v v refl) };
+          closes = still_closes Q p;
+        };
+        due = only_none (IsDueAfter 0 a.moment) a;
       }
 
-  pub handles_nothing : (t : Core C O) (p : Phase) (a : Context) → HandlesEvent ct ot client origin paired refuses left t t p p a a
-  handles_nothing t p a = record { next = N.Go; takes = takes_nothing t p; due = only_none (IsDueAfter 0 a.moment) a }
+  -- nor while the last is written
+  pub quiet_write : (t : Core C O) (end : TxnEnd) (a : Context) → HandlesWrite {Q = Q} ct ot client origin paired refuses left t t a a end (K.Finishing end)
+  quiet_write t end a = record { step = S.Goes; takes = inl (refl, refl, refl); due = only_none (IsDueAfter 0 a.moment) a }
+
+  -- in a phase, said of the first continuation before its event was handled
+  due_before : (main u : Option StageContinuation) → u ≡ unroused main → (next : Next) (new : Course Q) (a b : Context) → DueTo u next new a b → DueTo main next new a b
+  due_before main u is next (K.Phased p) a b due = due
+  due_before main u is next (K.Relaying r) a b due = record {
+    behind = due.behind;
+    first = due.first;
+    begins = λ runs named. due.begins runs (subst (IsNamedIf a.roles MAIN) (sym is) (named_before a.roles main named));
+    then = due.then;
+  }
+  due_before main u is next (K.Finishing end) a b due = due
+
+  pub handles_phased : (s t : Core C O) (a b : Context) (main u : Option StageContinuation) → u ≡ unroused main → (course : Course Q) (p : Phase) → course ≡ K.Phased p → (new : Course Q)
+      → HandlesEvent ct ot client origin paired refuses left s t a b u (K.Phased p) new → HandlesEvent ct ot client origin paired refuses left s t a b main course new
+  handles_phased s t a b main u quiet course p is new h =
+      subst (λ x. HandlesEvent ct ot client origin paired refuses left s t a b main x new) (sym is) (record {
+        keeps = h.keeps;
+        handles = record { next = h.handles.next; takes = h.handles.takes; due = due_before main u quiet h.handles.next new a b h.handles.due };
+      })
+
+  -- where an event leads, without the moments of those that are set
+  takes_on : (s t : Core C O) (a b : Context) (main : Option StageContinuation) (old new : Course Q) → HandlesOn ct ot client origin paired refuses left s t a b main old new
+      → TakesOn ct ot client origin paired refuses left s t old new
+  takes_on s t a b main (K.Phased p) new h = (h.next, h.takes)
+  takes_on s t a b main (K.Relaying r) new h = record {
+    step = h.step;
+    after = h.after;
+    led = h.led;
+    client_late = h.links.client_late;
+    origin_late = h.links.origin_late;
+    minds = h.links.minds;
+  }
+  takes_on s t a b main (K.Finishing end) new h = (h.step, h.takes)
+
+  pub takes_event : (s t : Core C O) (a b : Context) (main : Option StageContinuation) (old new : Course Q) → HandlesEvent ct ot client origin paired refuses left s t a b main old new
+      → TakesEvent ct ot client origin paired refuses left s t old new
+  takes_event s t a b main old new h = record { keeps = h.keeps; takes = takes_on s t a b main old new h.handles }

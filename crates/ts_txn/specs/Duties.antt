@@ -1,5 +1,5 @@
--- Who must work while a body is passed on, and that each duty has an event of a continuation that does it (Developer's
--- Guide, "Continuations" and "Transformations").
+-- Who must work while a body is passed on, and that each duty has an event of a continuation that does it
+-- (Developer's Guide, "Continuations" and "Transformations").
 use Rattle.std.specs.Prelude.{◌≡◌, ◌≢◌, ℕ, ◌≤◌, ◌⊎◌, List, [], ◌∷◌, Bool, true, Option, ⊤}
 use Rattle.ts_journal.specs.declared.entry.TheConstants.{GREATEST}
 use Rattle.ts_journal.specs.declared.entry.Event.{Event}
@@ -18,13 +18,15 @@ use Rattle.ts_txn.specs.Relaying.{AddsSome}
 use Rattle.ts_txn.specs.declared.finishing.BodyStep.{BodyStep}
 use Rattle.ts_txn.specs.declared.finishing.BodyStep.TheVariants as S
 use Rattle.ts_txn.specs.declared.relay.Relay.{Relay}
+use Rattle.ts_txn.specs.declared.relay.TheConstants.{READER}
 
--- the first continuation must write: something waits for the client, or the chain gave something, or has given all
+-- the first continuation must write: something waits for the client, or the chain gave something, or has
+-- given all
 abbrev pub MustSend : {P : Type 0} → View → ChainState P → Type 0
 MustSend v c = (v.client.outbox ≢ []) ⊎ MustWrite c ⊎ ((c.given ≡ true) × IsFinished c)
 
--- While no event of a stage was lost, the continuations of a body have their roles, each that is roused has an event,
--- and so has each stage that must work.
+-- While no event of a stage was lost, the continuations of a body have their roles, each that is roused has
+-- an event, and so has each stage that must work.
 abbrev pub IsBodyJoined : {P : Type 0} → Option StageContinuation → Relay P → List Pending → List Named
     → Type 0
 IsBodyJoined main r pending roles = r.driven.running ≡ true
@@ -52,18 +54,34 @@ pub record TellsDuty {P : Type 0} (must : Bool) (v : View) (c : ChainState P) : 
   pub must_send : must ≡ true → MustSend v c
   pub only : MustSend v c → must ≡ true
 
--- What is left where a continuation was roused, or could not be: it is, if it must work, or the event numbers are used up.
+-- how many events are set at most: where an end of a body is roused, where both are, where an event of a
+-- body is handled, and where a body begins
+abbrev pub set_by_end : ℕ
+set_by_end = 1
+
+abbrev pub set_by_ends : ℕ
+set_by_ends = 2
+
+abbrev pub set_by_event : ℕ
+set_by_event = 6
+
+abbrev pub set_by_beginning : ℕ
+set_by_beginning = 4
+
+-- What is left where a continuation was roused, or could not be: it is, if it must work, or the event
+-- numbers are used up.
 pub record RousesOne (step : BodyStep) (must : Bool) (t u : Option StageContinuation)
     (a b : Context) : Type 0 where
-  pub adds : AddsSome 1 a b
+  pub adds : AddsSome set_by_end a b
   pub stage : KeepsStage a b t u
   pub seated : KeepsSeated (t ∷ []) (u ∷ []) a b
   pub roused : OnGoes step ((must ≡ true → IsRousedIf u) ⊎ (GREATEST ≤ b.log.state.next))
+  pub rests : (must ≡ true → IsRousedIf t) → b ≡ a
 
 -- The same of the first continuation and of the reader.
 pub record RousesBoth (step : BodyStep) (writes reads : Bool) (t u r s : Option StageContinuation)
     (a b : Context) : Type 0 where
-  pub adds : AddsSome 2 a b
+  pub adds : AddsSome set_by_ends a b
   pub main : (role : ℕ) → IsOfStageIf a.log.state.pending a.roles role t
       → IsOfStageIf b.log.state.pending b.roles role u
   pub reader : (role : ℕ) → IsOfStageIf a.log.state.pending a.roles role r
@@ -72,12 +90,13 @@ pub record RousesBoth (step : BodyStep) (writes reads : Bool) (t u r s : Option 
   pub seated : (ts : List (Option StageContinuation)) → KeepsSeated (t ∷ r ∷ ts) (u ∷ s ∷ ts) a b
   pub roused : OnGoes step (((writes ≡ true → IsRousedIf u) × (reads ≡ true → IsRousedIf s))
       ⊎ (GREATEST ≤ b.log.state.next))
+  pub rests : (writes ≡ true → IsRousedIf t) → (reads ≡ true → IsRousedIf r) → b ≡ a
 
 -- The same of a body: the reader must work where more may be given to the chain.
 abbrev pub EndsRouse : {P : Type 0} → BodyStep → Bool → Option StageContinuation → Option StageContinuation
     → Relay P → Relay P → Context → Context → Type 0
 EndsRouse step writes t u r s a b = (reads : Bool) × (MustRead r.driven.chain → reads ≡ true)
-    × RousesBoth step writes reads t u r.reader s.reader a b
+    × (reads ≡ true → MustRead r.driven.chain) × RousesBoth step writes reads t u r.reader s.reader a b
 
 -- the stages run, or the event numbers are used up
 abbrev pub RunsOr : {P : Type 0} → Relay P → ℕ → Type 0
@@ -97,12 +116,13 @@ UnlessLacking step P = P
 -- What is left where both ends of a body were roused that must work.
 pub record SettlesBody {P : Type 0} (step : BodyStep) (v : View) (t u : Option StageContinuation)
     (r s : Relay P) (a b : Context) : Type 0 where
-  pub adds : AddsSome 2 a b
+  pub adds : AddsSome set_by_ends a b
   pub joined : IsBodyJoined t r a.log.state.pending a.roles → IsBodyJoined u s b.log.state.pending b.roles
   pub covered : RunsOr r a.log.state.next → OnGoes step (IsBodyCovered v u s b.log.state.next)
   pub goes : OnGoes step ⊤
   pub later : a.log.state.next ≤ b.log.state.next
   pub seated : KeepsSeated (body_seats t r) (body_seats u s) a b
+  pub rests : AreBodyEndsRoused v t r → b ≡ a
 
 -- after a step that goes on a body is settled, and else nothing is done
 abbrev pub SettledAs : BodyStep → BodyStep → Type 0
@@ -112,30 +132,43 @@ SettledAs step result = result ≡ step
 
 pub record SettlesAfter {P : Type 0} (step result : BodyStep) (v : View) (t u : Option StageContinuation)
     (r s : Relay P) (a b : Context) : Type 0 where
-  pub adds : AddsSome 2 a b
+  pub adds : AddsSome set_by_ends a b
   pub joined : IsBodyJoined t r a.log.state.pending a.roles → IsBodyJoined u s b.log.state.pending b.roles
   pub covered : RunsOr r a.log.state.next → WhileGoes step
       (OnGoes result (IsBodyCovered v u s b.log.state.next))
   pub settled : SettledAs step result
   pub later : a.log.state.next ≤ b.log.state.next
   pub seated : KeepsSeated (body_seats t r) (body_seats u s) a b
+  pub rests : AreBodyEndsRoused v t r → b ≡ a
+
+-- Which side an event of a body may touch: of the first continuation the client's, of the reader the
+-- origin's, and of any other neither.
+pub record DoesOwnWork (role : ℕ) (v w : View) : Type 0 where
+  pub main : role ≡ MAIN → w.origin ≡ v.origin
+  pub reader : role ≡ READER → (w.client ≡ v.client) × (w.sent ≡ v.sent)
+  pub others : role ≢ MAIN → role ≢ READER → w ≡ v
 
 -- What is left where an event of a role was handled while a body is passed on.
 pub record HandlesBody {P : Type 0} (step : BodyStep) (role : ℕ) (event : Event) (v w : View)
     (t u : Option StageContinuation) (r s : Relay P) (a b : Context) : Type 0 where
-  pub acts : ActsWithin 6 a b
+  pub acts : ActsWithin set_by_event a b
   pub joined : (before : List Pending) → IsHandled before a.log.state.pending a.roles role event
       → IsBodyJoined t r before a.roles → IsBodyJoined u s b.log.state.pending b.roles
   pub covered : IsBodyCovered v t r a.log.state.next → WhileGoes step (IsBodyCovered w u s b.log.state.next)
+  pub own : DoesOwnWork role v w
   pub runs : IsBodyCovered v t r a.log.state.next → UnlessLacking step (RunsOr s b.log.state.next)
   pub seated : KeepsSeated (body_seats t r) (body_seats u s) a b
   pub ordered : EndsInOrder r.driven.chain.given r.driven.chain.stages
       → EndsInOrder s.driven.chain.given s.driven.chain.stages
 
--- What is left where a body began, whose first continuation had its role.
+-- What is left where a body began, whose first continuation had its role: it is passed on, or memory lacked.
 pub record BeginsBody {P : Type 0} (step : BodyStep) (v : View) (t u : Option StageContinuation) (s : Relay P)
     (a b : Context) : Type 0 where
-  pub acts : ActsWithin 4 a b
+  pub acts : ActsWithin set_by_beginning a b
   pub joined : IsOfStageIf a.log.state.pending a.roles MAIN t
       → IsBodyJoined u s b.log.state.pending b.roles
   pub covered : WhileGoes step (IsBodyCovered v u s b.log.state.next)
+  pub goes : OnGoes step ⊤
+  pub runs : UnlessLacking step (RunsOr s b.log.state.next)
+  pub seated : KeepsSeated (t ∷ []) (body_seats u s) a b
+  pub ordered : EndsInOrder s.driven.chain.given s.driven.chain.stages

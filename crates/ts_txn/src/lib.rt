@@ -52,6 +52,8 @@ mod tests;
 #[cfg(test)]
 mod txn_tests;
 #[cfg(test)]
+mod txn_tests_bodies;
+#[cfg(test)]
 mod txn_tests_origins;
 #[cfg(test)]
 mod txn_tests_requests;

@@ -1,30 +1,36 @@
 //! A transaction as the world of a mutex group.
 ghost use Rattle.std.specs.Prelude.{◌≡◌, ⊤, true, false, [], None, refl, ℕ};
 ghost use Rattle.ts_group.specs.declared.world.Want.TheVariants as Want;
+ghost use Rattle.ts_group.specs.Answers.{Falls};
 ghost use Rattle.ts_group.specs.Calls.{IsCalled};
 ghost use Rattle.ts_group.specs.Entries.{Grows};
 ghost use Rattle.ts_transform.specs.Driving.{ActsWithin, IsDueAfter, SetsOnly};
-ghost use Rattle.ts_txn.specs.Cover.{is_fresh};
-ghost use Rattle.ts_txn.specs.declared.phase.Next.{Next};
+ghost use Rattle.ts_txn.specs.Cover.{is_fresh_on};
+ghost use Rattle.ts_txn.specs.CourseCover.{SetsOneOrNone};
 ghost use Rattle.ts_txn.specs.Driven.{HandlesEvent, TakesEvent};
-ghost use Rattle.ts_txn.specs.World.{IsTxnOf, HasTxnBegun, IsSoundTxn};
+ghost use Rattle.ts_txn.specs.LoweringCourse.{transaction_left};
+ghost use Rattle.ts_txn.specs.World.{IsTxnOf, HasTxnBegun, IsSoundTxn, most_set};
 
-use crate::driver::{MAIN, begin, go_on};
+use crate::course::Course;
+use crate::course_events::drive_on;
+use crate::course_leaving::AT_ONCE;
+use crate::driver::begin;
 use crate::parts::Core;
 use crate::phase::Phase;
-use ts_config::Setup;
+use ts_config::{Setup, TransformLine};
 use ts_group::{Asked, Cx, Want, World};
 use ts_journal::{Event, Slotted};
 use ts_link::{Link, Octets};
-use ts_transform::{StageContinuation, unrouse, works};
+use ts_transform::{StageContinuation, Transform};
 use ts_upstream::Upstream;
 
-/// One request and its answer between a client and an origin. Its continuation has the role 1.
+/// One request and its answer between a client and an origin. Its continuation has the role 1; while a body is passed
+/// on, its reader has the role 2, and the stages that it goes through have those that follow.
 #[derive(Drop)]
-pub struct Txn<C, O> {
+pub struct Txn<C, O, P> {
     pub(crate) core: Core<C, O>,
     pub(crate) main: Option<StageContinuation>,
-    pub(crate) phase: Phase,
+    pub(crate) course: Course<P>,
 }
 
 /// What a slot promises of the transaction in it: its number, setup and first plugin's group, the sources of
@@ -42,16 +48,17 @@ pub struct TxnTag {
     pub first: bool,
 }
 
-fn is_fresh(phase: &Phase) -> bool
-    ensures { result ≡ is_fresh phase.now }
+fn is_fresh<P>(course: &Course<P>) -> bool
+    ensures { result ≡ is_fresh_on course.now }
 {
-    match phase {
-        Phase::Fresh => true,
+    match course {
+        Course::Phased(Phase::Fresh) => true,
         _ => false,
     }
 }
 
-impl<C: Link + Drop, O: Upstream<C> + Drop> Slotted for Txn<C, O> {
+impl<C: Link + Drop, O: Upstream<C> + Drop, P: Transform<Line = TransformLine> + Drop> Slotted
+    for Txn<C, O, P> {
     type Tag = TxnTag;
 
     type Trace = ();
@@ -71,17 +78,18 @@ impl<C: Link + Drop, O: Upstream<C> + Drop> Slotted for Txn<C, O> {
     ghost follows_on = { λ t u v a b. tt };
 }
 
-#[tactic(auto, using(ts_group::proofs::Grows::grows, ts_group::proofs::Grows::grows_refl, ts_transform::proofs::Kept::acts_none, crate::proofs::Handling::sound_begun, crate::proofs::Handling::sound_asked, crate::proofs::Handling::sound_other, crate::proofs::Handling::sound_quiet, crate::proofs::Handling::sound_stepped, crate::proofs::Coverage::fresh_none, crate::proofs::Events::handles_nothing, crate::proofs::Fitting::fits_on))]
-impl<C: Link + Drop, O: Upstream<C> + Drop> World for Txn<C, O> {
+#[tactic(auto, using(ts_group::proofs::Grows::grows, ts_group::proofs::Grows::grows_refl, ts_transform::proofs::Kept::acts_none, crate::proofs::Handling::sound_begun, crate::proofs::Handling::sound_asked, crate::proofs::Seating::due_rests, crate::proofs::Coverage::fresh_none, crate::proofs::Fitting::fits_on, crate::proofs::LoweringCourse::hears_same, crate::proofs::LoweringCourse::asked_same))]
+impl<C: Link + Drop, O: Upstream<C> + Drop, P: Transform<Line = TransformLine> + Drop> World
+    for Txn<C, O, P> {
     type Question = ();
 
     type Reply = ();
 
     ghost sound = { λ t s roles.
-        IsSoundTxn C.tells O.tells C.look O.look O.paired O.refuses t s.pending s.next roles };
+        IsSoundTxn C.tells O.tells C.look O.look O.paired O.refuses P.rest P.whole t s.pending s.next roles };
 
     ghost asking = { λ t s roles role group question.
-        IsSoundTxn C.tells O.tells C.look O.look O.paired O.refuses t s.pending s.next roles };
+        IsSoundTxn C.tells O.tells C.look O.look O.paired O.refuses P.rest P.whole t s.pending s.next roles };
 
     ghost right = { λ t group question reply. ⊤ };
 
@@ -89,7 +97,9 @@ impl<C: Link + Drop, O: Upstream<C> + Drop> World for Txn<C, O> {
 
     ghost answers = { λ t question reply. ⊤ };
 
-    ghost left = { λ t s. None };
+    // Where both links tell, each event that is handled lowers it.
+    ghost left = { λ t s. transaction_left C.tells O.tells C.look O.look O.upload_left P.rest
+        t.core t.course s.pending };
 
     ghost only_asked = { λ tag. false };
 
@@ -97,55 +107,66 @@ impl<C: Link + Drop, O: Upstream<C> + Drop> World for Txn<C, O> {
 
     ghost begun = { λ old new. HasTxnBegun old new };
 
-    // A handler makes one step of the same transaction, or nothing.
-    ghost called = { λ old new asked. (next : Next) × TakesEvent C.tells O.tells C.look O.look
-        O.paired O.refuses O.upload_left old.core new.core old.phase new.phase next };
+    // A handler leads the same transaction on, or does nothing.
+    ghost called = { λ old new asked. TakesEvent C.tells O.tells C.look O.look O.paired O.refuses
+        O.upload_left old.core new.core old.course new.course };
 
     ghost heard = { λ old new asked. new ≡ old };
 
     fn start(&mut self, cx: &mut Cx)
         requires turn { cx.old.log.state.held ≡ true }
-        requires sound { IsSoundTxn C.tells O.tells C.look O.look O.paired O.refuses
+        requires sound { IsSoundTxn C.tells O.tells C.look O.look O.paired O.refuses P.rest P.whole
             self.old cx.old.log.state.pending cx.old.log.state.next cx.old.roles }
-        ensures sound { IsSoundTxn C.tells O.tells C.look O.look O.paired O.refuses
+        ensures sound { IsSoundTxn C.tells O.tells C.look O.look O.paired O.refuses P.rest P.whole
             self.new cx.new.log.state.pending cx.new.log.state.next cx.new.roles }
-        ensures within { ActsWithin 1 cx.old cx.new }
+        ensures within { SetsOneOrNone cx.old cx.new }
         ensures begun { HasTxnBegun self.old self.new }
-        ensures due { SetsOnly (IsDueAfter 0 cx.old.moment) cx.old cx.new }
+        ensures due { SetsOnly (IsDueAfter AT_ONCE cx.old.moment) cx.old cx.new }
+        ensures rests { is_fresh_on self.old.course ≡ false → cx.new ≡ cx.old }
     {
-        if !is_fresh(&self.phase) {
+        if !is_fresh(&self.course) {
             return;
         }
-        begin(&mut self.main, &mut self.phase, cx);
+        self.course = begin(&mut self.main, cx);
     }
 
     fn handle(&mut self, role: u32, event: Event, cx: &mut Cx) -> Want<()>
         requires turn { cx.old.log.state.held ≡ true }
         requires called { IsCalled
-            (λ s roles. IsSoundTxn C.tells O.tells C.look O.look O.paired O.refuses
+            (λ s roles. IsSoundTxn C.tells O.tells C.look O.look O.paired O.refuses P.rest P.whole
             self.old s.pending s.next roles)
             cx.old role event }
-        ensures sound { IsSoundTxn C.tells O.tells C.look O.look O.paired O.refuses
+        ensures sound { IsSoundTxn C.tells O.tells C.look O.look O.paired O.refuses P.rest P.whole
             self.new cx.new.log.state.pending cx.new.log.state.next cx.new.roles }
         ensures nothing { result ≡ Want.Nothing }
-        ensures within { ActsWithin 1 cx.old cx.new }
+        ensures within { ActsWithin most_set cx.old cx.new }
         ensures handles { HandlesEvent C.tells O.tells C.look O.look O.paired O.refuses O.upload_left
-            self.old.core self.new.core self.old.phase self.new.phase cx.old cx.new }
+            self.old.core self.new.core cx.old cx.new self.old.main self.old.course self.new.course }
+        ensures takes { TakesEvent C.tells O.tells C.look O.look O.paired O.refuses O.upload_left
+            self.old.core self.new.core self.old.course self.new.course }
+        ensures lowers { (c : IsCalled
+            (λ s roles. IsSoundTxn C.tells O.tells C.look O.look O.paired O.refuses P.rest P.whole
+            self.old s.pending s.next roles)
+            cx.old role event) → Falls
+            (transaction_left C.tells O.tells C.look O.look O.upload_left P.rest
+            self.old.core self.old.course c.before.pending) 1
+            (transaction_left C.tells O.tells C.look O.look O.upload_left P.rest
+            self.new.core self.new.course cx.new.log.state.pending) }
     {
-        if role != MAIN {
-            return Want::Nothing;
-        }
-        if !works(event) {
-            return Want::Nothing;
-        }
-        unrouse(&mut self.main);
-        go_on(&mut self.core, &mut self.main, &mut self.phase, cx);
+        drive_on(
+            &mut self.core,
+            &mut self.main,
+            &mut self.course,
+            role,
+            event,
+            cx,
+        );
         Want::Nothing
     }
 
     fn told(&mut self, _role: u32, _asked: Asked<(), ()>, _cx: &mut Cx)
         requires turn { _cx.old.log.state.held ≡ true }
-        requires sound { IsSoundTxn C.tells O.tells C.look O.look O.paired O.refuses
+        requires sound { IsSoundTxn C.tells O.tells C.look O.look O.paired O.refuses P.rest P.whole
             self.old _cx.old.log.state.pending _cx.old.log.state.next _cx.old.roles }
         ensures grows { Grows _cx.old _cx.new }
         ensures same { (_cx.new.log.state ≡ _cx.old.log.state) × (_cx.new.roles ≡ _cx.old.roles)
