@@ -28,7 +28,7 @@ use Rattle.ts_txn.specs.View.{View}
 use Rattle.ts_txn.specs.declared.finishing.BodyStep.{BodyStep}
 use Rattle.ts_txn.specs.declared.finishing.BodyStep.TheVariants as S
 use Rattle.ts_txn.specs.declared.relay.Relay.{Relay}
-use Rattle.ts_txn.proofs.BodyLinks.{stage_at}
+use Rattle.ts_transform.proofs.Along.{stage_at}
 use Rattle.ts_txn.proofs.LoweringBody.{to_ended}
 use Rattle.ts_txn.proofs.LoweringEvents.{paid_fewer, paid_none, paid_sum, spent_none}
 use Rattle.ts_txn.proofs.LoweringRelay.{ended_if, loses_runs}

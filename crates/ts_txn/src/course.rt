@@ -82,8 +82,8 @@ pub fn finish_on<C: Link, O: Upstream<C>, P: Transform<Line = TransformLine> + D
     write_on(end, step, main, cx)
 }
 
-/// Queues the client's head of a response that is passed on, and begins its body; it answers where the transaction is
-/// then.
+/// Queues the client's head of a response that is passed on, and begins its body; it answers where the
+/// transaction is then.
 pub fn enter_on<C: Link, O: Upstream<C>, P: Transform<Line = TransformLine> + Drop>(
     core: &mut Core<C, O>,
     main: &mut Option<StageContinuation>,

@@ -67,8 +67,8 @@ fn phase_on<C: Link, O: Upstream<C>, P: Transform<Line = TransformLine> + Drop>(
     }
 }
 
-/// Handles an event of a role, and answers where the transaction is then: while a body is passed on each role does its
-/// part, and else the first continuation makes the next step.
+/// Handles an event of a role, and answers where the transaction is then: while a body is passed on each
+/// role does its part, and else the first continuation makes the next step.
 #[tactic(auto, using(ts_group::proofs::Keeps::falls_refl))]
 pub fn handle_on<C: Link, O: Upstream<C>, P: Transform<Line = TransformLine> + Drop>(
     core: &mut Core<C, O>,

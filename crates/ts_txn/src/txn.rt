@@ -24,8 +24,8 @@ use ts_link::{Link, Octets};
 use ts_transform::{StageContinuation, Transform};
 use ts_upstream::Upstream;
 
-/// One request and its answer between a client and an origin. Its continuation has the role 1; while a body is passed
-/// on, its reader has the role 2, and the stages that it goes through have those that follow.
+/// One request and its answer between a client and an origin. Its continuation has the role 1; while a body
+/// is passed on, its reader has the role 2, and the stages that it goes through have those that follow.
 #[derive(Drop)]
 pub struct Txn<C, O, P> {
     pub(crate) core: Core<C, O>,
