@@ -115,22 +115,22 @@ module _ (v w : View) where
       calls (P.Ended end) begins = absurd begins
 
 -- nor where nothing is done
-still_closes : {Q : Type 0} (p : Phase) → ClosesAs {Q = Q} p (K.Phased p)
-still_closes P.Fresh = tt
-still_closes P.TxnStart = tt
-still_closes P.ReadRequest = tt
-still_closes (P.ReadRequestHdr q) = tt
-still_closes (P.OsDns q) = tt
-still_closes (P.SendRequestHdr q) = tt
-still_closes (P.SendRequest q) = tt
-still_closes (P.Upload q) = tt
-still_closes (P.ReadResponse q) = tt
-still_closes (P.ReadResponseHdr q h) = tt
-still_closes (P.ResponseTransform q h) = tt
-still_closes (P.SendResponseHdr a) = tt
-still_closes (P.Sending a) = tt
-still_closes (P.TxnClose end) = inl refl
-still_closes (P.Ended end) = tt
+still_closes : (Q : Type 0) (p : Phase) → ClosesAs {Q = Q} p (K.Phased p)
+still_closes Q P.Fresh = tt
+still_closes Q P.TxnStart = tt
+still_closes Q P.ReadRequest = tt
+still_closes Q (P.ReadRequestHdr q) = tt
+still_closes Q (P.OsDns q) = tt
+still_closes Q (P.SendRequestHdr q) = tt
+still_closes Q (P.SendRequest q) = tt
+still_closes Q (P.Upload q) = tt
+still_closes Q (P.ReadResponse q) = tt
+still_closes Q (P.ReadResponseHdr q h) = tt
+still_closes Q (P.ResponseTransform q h) = tt
+still_closes Q (P.SendResponseHdr a) = tt
+still_closes Q (P.Sending a) = tt
+still_closes Q (P.TxnClose end) = inl refl
+still_closes Q (P.Ended end) = tt
 
 -- the first continuation keeps its role when its event is handled
 named_before : (roles : List Named) (main : Option StageContinuation) → IsNamedIf roles MAIN main → IsNamedIf roles MAIN (unroused main)
@@ -244,7 +244,7 @@ module _ {C O Q : Type 0} (ct ot : Bool) (client : C → Look) (origin : O → L
           minds = inr (inl (refl, refl));
           waits = tt;
           leaves = λ told also. record { origin = leaves_in v v p (still_leaves v v refl); client = spares_in v v p (still_spares v v refl) };
-          closes = still_closes p;
+          closes = still_closes Q p;
         };
         due = only_none (IsDueAfter 0 a.moment) a;
       }
