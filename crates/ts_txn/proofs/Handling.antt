@@ -12,7 +12,7 @@ use Rattle.ts_transform.specs.Driving.{IsOfStageIf, unroused, works_at}
 use Rattle.ts_transform.specs.declared.continuation.StageContinuation.{StageContinuation}
 use Rattle.ts_txn.specs.Course.{CourseFact, CourseHolds}
 use Rattle.ts_txn.specs.LoweringCourse.{IsOfLinesOn}
-use Rattle.ts_txn.specs.CourseCover.{CoversAlone, HasEventsOn, IsAlone, IsCoveredNow, IsCoveredOn, ProceedsOn, StaysOnOrLacks, set_after, set_leaving}
+use Rattle.ts_txn.specs.CourseCover.{CoversAlone, HasEventsOn, IsAlone, IsCoveredNow, IsCoveredOn, ProceedsOn, StaysOnOrLacks, set_after}
 use Rattle.ts_txn.specs.Cover.{is_fresh_on}
 use Rattle.ts_txn.specs.Holding.{IfTold, StepKeeps}
 use Rattle.ts_txn.specs.Making.{end_of}
@@ -21,8 +21,6 @@ use Rattle.ts_txn.specs.World.{HoldsOn, IsSoundNow, IsSoundOn, IsSoundTxn}
 use Rattle.ts_txn.specs.declared.course.Course.{Course}
 use Rattle.ts_txn.specs.declared.course.Course.TheVariants as K
 use Rattle.ts_txn.specs.declared.driver.TheConstants.{MAIN}
-use Rattle.ts_txn.specs.declared.finishing.BodyStep.{BodyStep}
-use Rattle.ts_txn.specs.declared.finishing.BodyStep.TheVariants as S
 use Rattle.ts_txn.specs.declared.parts.Core.{Core}
 use Rattle.ts_txn.specs.declared.phase.Next.{Next}
 use Rattle.ts_txn.specs.declared.phase.Next.TheVariants as N
@@ -50,14 +48,7 @@ fresh_alone {Q} v main course now fresh covered =
     by_event (inl has) = inl has.0
     by_event (inr spent) = inr spent
 
--- at most one event is set where a body is left, and behind the step of a phase
-pub leaving_one : (step : BodyStep) → set_leaving step ≤ 1
-leaving_one S.Goes = omega arith
-leaving_one S.Waits = omega arith
-leaving_one (S.Finishes end) = omega arith
-leaving_one (S.Closes end) = omega arith
-leaving_one S.Lacks = omega arith
-
+-- at most one event is set behind the step of a phase
 pub after_one : (next : Next) → set_after next ≤ 1
 after_one N.Go = omega arith
 after_one N.Wait = omega arith

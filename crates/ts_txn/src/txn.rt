@@ -141,7 +141,7 @@ impl<C: Link + Drop, O: Upstream<C> + Drop, P: Transform<Line = TransformLine> +
         ensures nothing { result ≡ Want.Nothing }
         ensures within { ActsWithin most_set cx.old cx.new }
         ensures handles { HandlesEvent C.tells O.tells C.look O.look O.paired O.refuses O.upload_left
-            self.old.core self.new.core cx.old cx.new self.old.main self.old.course self.new.course }
+            self.old.core self.new.core cx.old cx.new role self.old.main self.old.course self.new.course }
         ensures takes { TakesEvent C.tells O.tells C.look O.look O.paired O.refuses O.upload_left
             self.old.core self.new.core self.old.course self.new.course }
         ensures lowers { (c : IsCalled
