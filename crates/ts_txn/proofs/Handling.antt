@@ -2,6 +2,7 @@
 use Rattle.std.proofs.Common.{◌≡◌, ◌+◌, ◌<◌, ◌≤◌, length, ap, ◌⊎◌, inl, inr, ℕ, List, [], Bool, true, false, Option, None, arith, sym, subst}
 use Rattle.std.specs.Arc.{arc_value}
 use Rattle.ts_hooks.specs.declared.txn_end.TxnEnd.{TxnEnd}
+use Rattle.ts_transform.specs.Flow.{ChainState}
 use Rattle.ts_transform.specs.Stage.{MOST_WAITING}
 use Rattle.ts_vconn.specs.declared.moves.TheConstants.{MOST_PULLED}
 use Rattle.ts_config.specs.declared.setup.TransformLine.{TransformLine}
@@ -16,7 +17,7 @@ use Rattle.ts_transform.specs.declared.continuation.StageContinuation.{StageCont
 use Rattle.ts_txn.specs.BodyLinks.{HoldsLittle}
 use Rattle.ts_txn.specs.Course.{CourseFact, CourseHolds, course_after, finish_after}
 use Rattle.ts_txn.specs.LoweringCourse.{IsOfLinesOn}
-use Rattle.ts_txn.specs.CourseCover.{CoversAlone, HasEventsOn, IsAlone, IsCoveredNow, IsCoveredOn, ProceedsOn, StaysOnOrLacks, set_after, set_leaving}
+use Rattle.ts_txn.specs.CourseCover.{CoversAlone, HasEventsOn, IsAlone, IsCoveredNow, IsCoveredOn, ProceedsOn, StaysOnOrLacks, set_after}
 use Rattle.ts_txn.specs.Cover.{is_fresh_on}
 use Rattle.ts_txn.specs.Duties.{UnlessLacking, WhileGoes}
 use Rattle.ts_txn.specs.Holding.{IfTold, StepKeeps}
@@ -56,14 +57,7 @@ fresh_alone {Q} v main course now fresh covered =
     by_event (inl has) = inl has.0
     by_event (inr spent) = inr spent
 
--- at most one event is set where a body is left, and behind the step of a phase
-pub leaving_one : (step : BodyStep) → set_leaving step ≤ 1
-leaving_one S.Goes = omega arith
-leaving_one S.Waits = omega arith
-leaving_one (S.Finishes end) = omega arith
-leaving_one (S.Closes end) = omega arith
-leaving_one S.Lacks = omega arith
-
+-- at most one event is set behind the step of a phase
 pub after_one : (next : Next) → set_after next ≤ 1
 after_one N.Go = omega arith
 after_one N.Wait = omega arith
@@ -82,18 +76,16 @@ little_after v w (S.Finishes end) r s holds little = tt
 little_after v w (S.Closes end) r s holds little = tt
 little_after v w S.Lacks r s holds little = tt
 
+front_same : (first now most : ℕ) → now ≡ first → first < most → now < most
+front_same first now most same less = omega (arith, same, less)
+
+little_first : {P : Type 0} (v : View) (c d : ChainState P) → d.first ≡ c.first → HoldsLittle v c → HoldsLittle v d
+little_first v c d same little = record { held = little.held; front = front_same (length c.first) (length d.first) (MOST_WAITING + MOST_PULLED) (ap length same) little.front }
+
 pub little_begun : {Q : Type 0} (v : View) (step : BodyStep) (r s : Relay Q) → WhileGoes step (s.driven.chain.first ≡ r.driven.chain.first)
     → HoldsLittle v r.driven.chain → HoldsLittleOn v (course_after s step)
-little_begun v S.Goes r s first little = record {
-  held = little.held;
-  front = let same : length s.driven.chain.first ≡ length r.driven.chain.first = ap length first in
-      let front : length r.driven.chain.first < MOST_WAITING + MOST_PULLED = little.front in omega (arith, same, front);
-}
-little_begun v S.Waits r s first little = record {
-  held = little.held;
-  front = let same : length s.driven.chain.first ≡ length r.driven.chain.first = ap length first in
-      let front : length r.driven.chain.first < MOST_WAITING + MOST_PULLED = little.front in omega (arith, same, front);
-}
+little_begun v S.Goes r s first little = little_first v r.driven.chain s.driven.chain first little
+little_begun v S.Waits r s first little = little_first v r.driven.chain s.driven.chain first little
 little_begun v (S.Finishes end) r s first little = tt
 little_begun v (S.Closes end) r s first little = tt
 little_begun v S.Lacks r s first little = tt

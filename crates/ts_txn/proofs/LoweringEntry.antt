@@ -41,7 +41,7 @@ use Rattle.ts_txn.specs.declared.finishing.BodyStep.TheVariants as S
 use Rattle.ts_txn.specs.declared.phase.Request.{Request}
 use Rattle.ts_txn.specs.declared.relay.Relay.{Relay}
 use Rattle.ts_txn.proofs.InsertedStages.{fresh_adds, fresh_work}
-use Rattle.ts_txn.proofs.Lowering.{none_fall, none_left, one_if, passes_less, told_fewer}
+use Rattle.ts_txn.proofs.Lowering.{no_more_same, none_fall, none_left, one_if, passes_less, told_fewer}
 use Rattle.ts_txn.proofs.LoweringRelay.{same_lines}
 use Rattle.ts_txn.proofs.LoweringResponse.{response_fits}
 
@@ -218,17 +218,13 @@ ended_no_more None m' f kept = tt
 ended_no_more (Some x) None f kept = absurd kept
 ended_no_more (Some x) (Some x') f kept = omega arith
 
-not_more : (m : Option ℕ) → NoMore m m
-not_more None = tt
-not_more (Some x) = omega arith
-
 module _ {B : Type 0} (setup : Setup) (rest : B → List ℕ → List ℕ) (v : View) where
   -- memory lacked
   lacks_begun : (r s : Relay B) → BeginsLower setup rest S.Lacks v r s
   lacks_begun r s = record {
     lines = tt;
     first = tt;
-    falls = ended_no_more (unbegun_left setup rest v r) (agains_left v) (λ x. body_work setup rest (length r.driven.chain.stages) x v r.driven.chain) (not_more (unbegun_left setup rest v r));
+    falls = ended_no_more (unbegun_left setup rest v r) (agains_left v) (λ x. body_work setup rest (length r.driven.chain.stages) x v r.driven.chain) (no_more_same (unbegun_left setup rest v r));
   }
 
   started : (state : BodyState) (c d : ChainState B) → GetsStart state c d → (d.stages ≡ c.stages) × (left_to_do rest d [] ≡ left_to_do rest c []) × (to_end d.given ≤ to_end c.given)

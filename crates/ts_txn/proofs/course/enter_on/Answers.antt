@@ -17,8 +17,9 @@ use Rattle.ts_txn.proofs.CourseCalls.{stands_begun}
 use Rattle.ts_txn.proofs.CourseSeats.{ended_alone}
 use Rattle.ts_txn.proofs.Coursing.{after_led, course_settled, enters_settled, led_on, stays_on}
 use Rattle.ts_txn.proofs.Events.{begin_led, due_begin, takes_begin, takes_lost}
-use Rattle.ts_txn.proofs.Handling.{leaving_one, little_begun, little_stay, sound_here}
+use Rattle.ts_txn.proofs.Handling.{little_begun, little_stay, sound_here}
 use Rattle.ts_txn.proofs.LoweringCourse.{begun_led, lines_after, lines_stay, not_begun}
+use Rattle.ts_txn.proofs.LoweringPays.{set_one}
 use Rattle.ts_txn.proofs.course.enter_on.Goals as goal
 
 -- Memory lacked for the head.
@@ -79,7 +80,7 @@ returns-clause-sound g c =
 pub returns-clause-within : goal.returns-clause-within
 returns-clause-within g c =
     let step = c.begin_body-step.result in
-    let few : set_leaving step ≤ 1 = leaving_one step in
+    let few : set_leaving step ≤ 1 = set_one step in
     acts_then 4 (set_leaving step) most_set (omega (arith, few)) c.begin_body-step.ensures.begins.acts c.leave.ensures.within
 
 pub returns-clause-handles : goal.returns-clause-handles

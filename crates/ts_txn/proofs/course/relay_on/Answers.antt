@@ -9,8 +9,9 @@ use Rattle.ts_txn.specs.World.{most_set}
 use Rattle.ts_txn.specs.declared.course.Course.TheVariants as K
 use Rattle.ts_txn.proofs.CourseCalls.{stands_handled}
 use Rattle.ts_txn.proofs.Coursing.{after_led, led_on}
-use Rattle.ts_txn.proofs.Handling.{leaving_one, little_after, sound_led}
+use Rattle.ts_txn.proofs.Handling.{little_after, sound_led}
 use Rattle.ts_txn.proofs.LoweringCourse.{body_led, covered_called, lines_after}
+use Rattle.ts_txn.proofs.LoweringPays.{set_one}
 use Rattle.ts_txn.proofs.course.relay_on.Goals as goal
 
 pub returns-clause-sound : goal.returns-clause-sound
@@ -34,7 +35,7 @@ returns-clause-sound g c =
 pub returns-clause-within : goal.returns-clause-within
 returns-clause-within g c =
     let step = c.handle_body-step.result in
-    let few : set_leaving step ≤ 1 = leaving_one step in
+    let few : set_leaving step ≤ 1 = set_one step in
     acts_then 6 (set_leaving step) most_set (omega (arith, few)) c.handle_body-step.ensures.handles.acts c.leave.ensures.within
 
 pub returns-clause-handles : goal.returns-clause-handles
