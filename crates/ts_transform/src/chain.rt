@@ -18,8 +18,8 @@ use ts_iobuf::Waiting;
 use ts_link::{Link, NoMemory, Octets};
 use ts_vconn::{MOST_PULLED, Pulled, pull_waiting};
 
-/// A chain of transforms, with the bytes that wait before, between and after them. Boundary 0 lies before the first
-/// stage, and boundary `stages()` at the client.
+/// A chain of transforms, with the bytes that wait before, between and after them. Boundary 0 lies before
+/// the first stage, and boundary `stages()` at the client.
 #[derive(Drop)]
 pub struct Chain<P> {
     first: Waiting,
@@ -36,7 +36,8 @@ impl<P> Model for Chain<P> {
 }
 
 impl<P: Transform + Drop> Chain<P> {
-    /// A chain of these parts, the first of which acts first. What it gives is their composition over what it gets.
+    /// A chain of these parts, the first of which acts first. What it gives is their composition over what
+    /// it gets.
     pub fn make(alloc: Global, parts: Vec<P>) -> Result<Chain<P>, NoMemory>
         ensures made { IfOk result
             (λ c. c ≡ record { first = []; stages = map fresh_stage parts.items; given = false }) }

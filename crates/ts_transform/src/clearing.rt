@@ -39,8 +39,8 @@ fn destroy_all(table: &[Option<StageContinuation>], cx: &mut Cx)
 }
 
 impl<P: Transform + Drop> DrivenChain<P> {
-    /// Closes it: all that waits is dropped, and the continuations of its stages are destroyed, with their events. It
-    /// runs no more.
+    /// Closes it: all that waits is dropped, and the continuations of its stages are destroyed, with their
+    /// events. It runs no more.
     #[tactic(auto, using(crate::proofs::Seats::seated_cleared, crate::proofs::Seats::cleared_acts))]
     pub fn close(&mut self, cx: &mut Cx)
         requires turn { cx.old.log.state.held ≡ true }

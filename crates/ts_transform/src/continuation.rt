@@ -9,8 +9,8 @@ ghost use Rattle.ts_transform.specs.Driving.{works_at, AddsEvents, HasEvent, Has
 use ts_group::{Action, Cx, SetFault};
 use ts_journal::{ContKey, Event};
 
-/// The continuation of a stage: whether an event of it is pending at which the stage works, and whether it has passed an
-/// error on.
+/// The continuation of a stage: whether an event of it is pending at which the stage works, and whether it
+/// has passed an error on.
 #[derive(Clone, Copy, Debug, PartialEq, Eq)]
 pub struct StageContinuation {
     pub key: ContKey,
@@ -18,8 +18,8 @@ pub struct StageContinuation {
     pub passed_error: bool,
 }
 
-/// Who rouses a stage: the stage itself or its upstream, which reenables its output, or its downstream, which calls it
-/// once there is room.
+/// Who rouses a stage: the stage itself or its upstream, which reenables its output, or its downstream,
+/// which calls it once there is room.
 #[derive(Clone, Copy, Debug, PartialEq, Eq)]
 pub enum Rouser {
     Upstream,

@@ -17,8 +17,8 @@ use std::alloc::Global;
 use ts_group::{Cx, SetFault};
 use ts_journal::Event;
 
-/// A chain whose stages are continuations of one group. Their roles are the numbers from one on, which its owner
-/// chooses.
+/// A chain whose stages are continuations of one group. Their roles are the numbers from one on, which its
+/// owner chooses.
 #[derive(Drop)]
 pub struct DrivenChain<P> {
     pub(crate) chain: Chain<P>,
@@ -80,8 +80,8 @@ impl<P: Transform + Drop> DrivenChain<P> {
         self.lost = Some(loss);
     }
 
-    /// Makes a continuation for each stage, with the roles from the first on, and rouses the first stage if it must
-    /// work.
+    /// Makes a continuation for each stage, with the roles from the first on, and rouses the first stage
+    /// if it must work.
     pub fn start(&mut self, first: u32, cx: &mut Cx)
         requires turn { cx.old.log.state.held ≡ true }
         requires fresh { self.old.table.items ≡ [] }
@@ -117,8 +117,9 @@ impl<P: Transform + Drop> DrivenChain<P> {
         }
     }
 
-    /// Handles an event of a role, where the stages have the roles from the first on; of the role of no stage, nothing is
-    /// done. It refuses where memory lacks or an event could not be set, and no longer runs then.
+    /// Handles an event of a role, where the stages have the roles from the first on; of the role of no
+    /// stage, nothing is done. It refuses where memory lacks or an event could not be set, and no longer
+    /// runs then.
     pub fn handle(
         &mut self,
         first: u32,

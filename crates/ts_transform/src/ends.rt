@@ -13,8 +13,8 @@ use crate::transform::Transform;
 use ts_group::{Cx, SetFault};
 
 impl<P: Transform + Drop> DrivenChain<P> {
-    /// Gives the chain more bytes, and rouses its first stage if that must work. Where memory lacked for the bytes, they
-    /// were not given.
+    /// Gives the chain more bytes, and rouses its first stage if that must work. Where memory lacked for
+    /// the bytes, they were not given.
     pub fn give(&mut self, bytes: &[u8], cx: &mut Cx) -> Result<(), SetFault>
         requires turn { cx.old.log.state.held ≡ true }
         requires goes_on { self.old.chain.given ≡ false }

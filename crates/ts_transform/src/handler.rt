@@ -70,8 +70,8 @@ fn rouse_before<P: Transform + Drop>(
     rouse_if_ready(chain, table, at - 1, Rouser::Downstream, cx)
 }
 
-// Rouses the stages round one that worked, those of them that must work: the next, since its output has more; the one
-// before, since there is room; and itself.
+// Rouses the stages round one that worked, those of them that must work: the next, since its output has
+// more; the one before, since there is room; and itself.
 #[tactic(auto, using(crate::proofs::Kept::stages_trans))]
 fn rouse_round<P: Transform + Drop>(
     chain: &Chain<P>,
@@ -93,8 +93,8 @@ fn rouse_round<P: Transform + Drop>(
     rouse_if_ready(chain, table, at, Rouser::Upstream, cx)
 }
 
-// Lets a stage work whose event was handled, and rouses those round it that then must work. Where it ends, the stage
-// before it is told so.
+// Lets a stage work whose event was handled, and rouses those round it that then must work. Where it ends,
+// the stage before it is told so.
 #[tactic(auto, using(crate::proofs::Kept::stages_same))]
 fn work<P: Transform + Drop>(
     chain: &mut Chain<P>,
@@ -190,8 +190,9 @@ fn destroy_at(table: &mut [Option<StageContinuation>], at: usize, cx: &mut Cx)
     }
 }
 
-// Acts at an event of the stage at a place, which was handled. Where the stage has ended, its continuation is destroyed;
-// it passes an error on; at the end of its output it has nothing more to write there; else it works.
+// Acts at an event of the stage at a place, which was handled. Where the stage has ended, its continuation
+// is destroyed; it passes an error on; at the end of its output it has nothing more to write there; else
+// it works.
 fn act<P: Transform + Drop>(
     chain: &mut Chain<P>,
     table: &mut [Option<StageContinuation>],

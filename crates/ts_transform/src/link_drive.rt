@@ -56,9 +56,9 @@ fn take_turn<I: Link + Drop, K: Link + Drop, P: Transform + Drop>(
     }
 }
 
-/// Drives a chain between two links that was started, until nothing is pending or so many turns were made: each turn
-/// handles the event that is due first. It answers whether nothing is pending. Where nothing was lost then, and no link
-/// failed, all that the input gave was written, and it has nothing left.
+/// Drives a chain between two links that was started, until nothing is pending or so many turns were made:
+/// each turn handles the event that is due first. It answers whether nothing is pending. Where nothing was
+/// lost then, and no link failed, all that the input gave was written, and it has nothing left.
 pub fn drive_links<I: Link + Drop, K: Link + Drop, P: Transform + Drop>(
     group: &mut Group<LinkWorld<I, K, P>>,
     turns: u32,

@@ -18,10 +18,10 @@ const PLACES: u32 = MOST_KEYS - 1;
 
 type Links = LinkWorld<MemLink, MemLink, Tail>;
 
-// What a run is made of: its null stages; how many bytes its body has, and how many reads bring one byte each; the read
-// that waits and the one that fails; how many bytes a write takes at most, the write that waits and the one that fails;
-// how many turns its group has made elsewhere, and how many continuations of nobody it has before the chain starts. No
-// call has the number 0.
+// What a run is made of: its null stages; how many bytes its body has, and how many reads bring one byte
+// each; the read that waits and the one that fails; how many bytes a write takes at most, the write that
+// waits and the one that fails; how many turns its group has made elsewhere, and how many continuations of
+// nobody it has before the chain starts. No call has the number 0.
 #[derive(Clone, Copy)]
 struct Plan {
     stages: usize,
@@ -50,8 +50,9 @@ const SINGLE: Plan = Plan {
     strangers: 0,
 };
 
-// What came of a run: whether the whole body was written, and how many bytes of it; how often either link made its
-// caller wait; the most bytes that waited at one boundary; and whether it was aborted, runs, or why it was lost.
+// What came of a run: whether the whole body was written, and how many bytes of it; how often either link
+// made its caller wait; the most bytes that waited at one boundary; and whether it was aborted, runs, or
+// why it was lost.
 #[derive(Drop)]
 struct Carried {
     is_whole: bool,
@@ -152,8 +153,8 @@ fn make_strangers(group: &mut Group<Links>, count: u32) -> Result<(), Fail>
     Ok(())
 }
 
-// Whether three bytes come whole where a continuation is told twice of an event after the first turn: that of nobody is
-// the first, then come those of the writer, of the reader, and of the stage.
+// Whether three bytes come whole where a continuation is told twice of an event after the first turn: that
+// of nobody is the first, then come those of the writer, of the reader, and of the stage.
 fn runs_through(alloc: Global, place: usize, event: Event) -> Result<bool, Fail> {
     let plan = Plan {
         strangers: 1,

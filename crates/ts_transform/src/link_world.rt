@@ -37,8 +37,8 @@ pub const READER: u32 = 2;
 /// The role of the first stage.
 pub const FIRST: u32 = 3;
 
-/// A chain that reads its body from one link and writes to another. Its continuations are the writer, the reader, and
-/// one for each stage, with the roles from the first on.
+/// A chain that reads its body from one link and writes to another. Its continuations are the writer, the
+/// reader, and one for each stage, with the roles from the first on.
 #[derive(Drop)]
 pub struct LinkWorld<I, K, P> {
     input: I,
@@ -101,8 +101,8 @@ impl<I: Link + Drop, K: Link + Drop, P: Transform + Drop> LinkWorld<I, K, P> {
         self.driven.chain()
     }
 
-    /// Whether it was started and nothing was lost: each duty has an event. So it has read and written all, once nothing
-    /// is pending.
+    /// Whether it was started and nothing was lost: each duty has an event. So it has read and written
+    /// all, once nothing is pending.
     pub fn is_running(&self) -> bool
         ensures running { result ≡ self.now.driven.running }
         ensures finished { result ≡ true → (next : ℕ) (roles : List Named) → IsCarried self.now [] next roles
@@ -253,7 +253,8 @@ impl<I: Link + Drop, K: Link + Drop, P: Transform + Drop> LinkWorld<I, K, P> {
             → RetriesWrite self.old self.new cx.old cx.new }
         ensures input { self.new.input ≡ self.old.input }
         ensures duties { HandlesEnd event
-            (MustWrite self.old.driven.chain → WritesOnce K.look self.old self.new) self.old self.new cx.old cx.new }
+            (MustWrite self.old.driven.chain → WritesOnce K.look self.old self.new)
+            self.old self.new cx.old cx.new }
     {
         if works(event) {
             unrouse(&mut self.writer);
@@ -272,7 +273,8 @@ impl<I: Link + Drop, K: Link + Drop, P: Transform + Drop> LinkWorld<I, K, P> {
             → RetriesRead self.old self.new cx.old cx.new }
         ensures output { self.new.output ≡ self.old.output }
         ensures duties { HandlesEnd event
-            (MustRead self.old.driven.chain → ReadsOnce I.look self.old self.new) self.old self.new cx.old cx.new }
+            (MustRead self.old.driven.chain → ReadsOnce I.look self.old self.new)
+            self.old self.new cx.old cx.new }
     {
         if works(event) {
             unrouse(&mut self.reader);
@@ -341,8 +343,8 @@ impl<I: Link + Drop, K: Link + Drop, P: Transform + Drop> LinkWorld<I, K, P> {
         matches!(self.driven.lost, Some(Loss::NoMemory))
     }
 
-    // Handles an event of a role: what the input gave and the output took is what the chain is further on, and whoever
-    // must work has an event. Where something was lost before, nothing is done.
+    // Handles an event of a role: what the input gave and the output took is what the chain is further on,
+    // and whoever must work has an event. Where something was lost before, nothing is done.
     fn step(&mut self, role: u32, event: Event, cx: &mut Cx)
         requires turn { cx.old.log.state.held ≡ true }
         ensures steps { StepsAlong P.rest I.tells K.tells I.look K.look self.old self.new }

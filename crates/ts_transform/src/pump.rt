@@ -9,8 +9,8 @@ use crate::transform::Transform;
 use ts_iobuf::Waiting;
 use ts_link::NoMemory;
 
-/// What a pump of a stage did: it moved bytes, ended the stage, found too many bytes waiting after it, or found no
-/// work.
+/// What a pump of a stage did: it moved bytes, ended the stage, found too many bytes waiting after it, or
+/// found no work.
 #[derive(Clone, Copy, Debug, PartialEq, Eq)]
 pub enum Pumped {
     Moved(usize),
@@ -95,8 +95,8 @@ fn pump_part<P: Transform>(
     Ok(Pumped::Moved(taken))
 }
 
-/// Runs one stage on what waits before it. `up_ended` says that nothing more comes there. Its transform is taken out of
-/// it meanwhile, and put back unless it ended.
+/// Runs one stage on what waits before it. `up_ended` says that nothing more comes there. Its transform is
+/// taken out of it meanwhile, and put back unless it ended.
 pub fn pump_stage<P: Transform + Drop>(
     up_ended: bool,
     from: &mut Waiting,
@@ -142,8 +142,8 @@ fn run_at<P: Transform + Drop>(
     }
 }
 
-/// Runs the stage at a place of these, on what waits before them: the flow stays, and what is left to do is less by
-/// what was done.
+/// Runs the stage at a place of these, on what waits before them: the flow stays, and what is left to do
+/// is less by what was done.
 pub fn pump_at<P: Transform + Drop>(
     up_ended: bool,
     from: &mut Waiting,

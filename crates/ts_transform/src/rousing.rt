@@ -66,7 +66,8 @@ pub fn unrouse_for(table: &mut [Option<StageContinuation>], at: usize, event: Ev
     }
 }
 
-/// Says that the stage at a place has passed an error on. It answers whether there is a continuation that had not.
+/// Says that the stage at a place has passed an error on. It answers whether there is a continuation that
+/// had not.
 pub fn mark_error_passed(table: &mut [Option<StageContinuation>], at: usize) -> bool
     requires { at < length table.old }
     ensures first { result ≡ may_pass_error_at table.old at }
@@ -125,8 +126,8 @@ pub fn tell(
     Ok(())
 }
 
-// Marks a continuation as roused, and answers the key for which an event has then to be set; `None` where it was roused
-// before.
+// Marks a continuation as roused, and answers the key for which an event has then to be set; `None` where
+// it was roused before.
 #[tactic(auto, using(crate::proofs::Kept::kept_if, crate::proofs::Kept::roused_if))]
 fn mark(slot: &mut Option<StageContinuation>) -> Result<Option<ContKey>, SetFault>
     ensures marked { IfOk result (λ key. IsMarked key slot.old slot.new) }
@@ -148,8 +149,8 @@ fn mark(slot: &mut Option<StageContinuation>) -> Result<Option<ContKey>, SetFaul
     Ok(Some(continuation.key))
 }
 
-/// Marks the last stage as roused, and answers the key for which an event has then to be set; `None` where it was
-/// roused before. It refuses where there is none, or it has no continuation.
+/// Marks the last stage as roused, and answers the key for which an event has then to be set; `None` where
+/// it was roused before. It refuses where there is none, or it has no continuation.
 pub fn mark_last(table: &mut [Option<StageContinuation>]) -> Result<Option<ContKey>, SetFault>
     ensures marked { IfOk result (λ key. IsLastMarked key table.old table.new) }
     ensures last { OnOk result ((j : ℕ) → j + 1 ≡ length table.old → IsRoused table.new j) }

@@ -24,8 +24,8 @@ fn role_of(first: u32, at: usize) -> Option<u32>
     first.checked_add(u32::try_from(at).ok()?)
 }
 
-// Makes a continuation for the stage at a place, without an event. For want of a role memory lacks: there are not so
-// many places in it.
+// Makes a continuation for the stage at a place, without an event. For want of a role memory lacks: there
+// are not so many places in it.
 #[tactic(auto, using(ts_group::proofs::Grows::grows_refl))]
 fn make_one(first: u32, at: usize, cx: &mut Cx) -> Result<StageContinuation, MakeFault>
     requires turn { cx.old.log.state.held ≡ true }
@@ -72,8 +72,8 @@ fn make_all(
     Ok(())
 }
 
-/// Makes a continuation for each stage of a chain, with the roles from the first on, and rouses the first stage if it
-/// must work.
+/// Makes a continuation for each stage of a chain, with the roles from the first on, and rouses the first
+/// stage if it must work.
 #[tactic(auto, using(ts_group::proofs::Grows::grows_trans))]
 pub fn begin<P: Transform + Drop>(
     first: u32,

@@ -85,7 +85,8 @@ pub fn answers(chain: &mut Chain<Tail>, at: usize, answer: Pumped) -> Result<boo
     Ok(chain.pump(at)? == answer)
 }
 
-// Takes the first block that waits for the client, and tells whether it is this text and all is finished then.
+// Takes the first block that waits for the client, and tells whether it is this text and all is finished
+// then.
 fn ends_with(chain: &mut Chain<Tail>, text: &[u8]) -> bool {
     let Some(block) = chain.out_block() else {
         return false;

@@ -7,8 +7,9 @@ use std::alloc::Global;
 use ts_iobuf::IoBuffer;
 use ts_link::NoMemory;
 
-/// Makes one stream of bytes of another. What it still writes is a function of what it still gets, and each call
-/// keeps that function; so whatever the pieces are, what it writes in all is what its line makes of the whole.
+/// Makes one stream of bytes of another. What it still writes is a function of what it still gets, and
+/// each call keeps that function; so whatever the pieces are, what it writes in all is what its line makes
+/// of the whole.
 pub trait Transform: Sized {
     /// What a transform is made of, as a line of the configuration.
     type Line;

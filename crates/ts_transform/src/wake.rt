@@ -10,10 +10,11 @@ use crate::world::ChainWorld;
 use ts_group::{Group, SetFault};
 
 impl<P: Transform + Drop> ChainWorld<P> {
-    /// Sets an event for the last stage, where that has not ended, 65,536 bytes or more wait after it, and it has none;
-    /// so it goes on once its client has taken bytes. It is asked in a turn, after its events, and bytes are taken before
-    /// the next: where none are, the stage finds its output full again. It refuses where the stage's continuation is not
-    /// live, the event numbers are used up, or memory lacks; then no event was set.
+    /// Sets an event for the last stage, where that has not ended, 65,536 bytes or more wait after it, and
+    /// it has none; so it goes on once its client has taken bytes. It is asked in a turn, after its
+    /// events, and bytes are taken before the next: where none are, the stage finds its output full again.
+    /// It refuses where the stage's continuation is not live, the event numbers are used up, or memory
+    /// lacks; then no event was set.
     #[tactic(auto, using(ts_group::proofs::Grows::grows_refl, crate::proofs::PassedErrors::errors_same))]
     pub fn wake(group: &mut Group<ChainWorld<P>>) -> Result<(), SetFault>
         requires turn { group.old.cx.log.state.held ≡ true }

@@ -36,7 +36,8 @@ pub struct ChainWorld<P> {
 pub const FIRST: u32 = 1;
 
 impl<P: Transform + Drop> ChainWorld<P> {
-    /// A chain of these parts, the first of which acts first, with the whole body before it. It was not started.
+    /// A chain of these parts, the first of which acts first, with the whole body before it. It was not
+    /// started.
     pub fn make(alloc: Global, parts: Vec<P>, body: Octets) -> Result<ChainWorld<P>, NoMemory>
         ensures flow { IfOk result (λ w. flow P.rest w.driven.chain [] ≡ compose P.rest parts.items body) }
         ensures made { IfOk result (λ w. w.driven.chain
@@ -59,8 +60,8 @@ impl<P: Transform + Drop> ChainWorld<P> {
         self.driven.chain()
     }
 
-    /// Whether it was started and nothing was lost: each stage that must work has an event. So it has given all once
-    /// nothing is pending and nothing waits for its client.
+    /// Whether it was started and nothing was lost: each stage that must work has an event. So it has
+    /// given all once nothing is pending and nothing waits for its client.
     #[tactic(auto, using(crate::proofs::Taking::all_given))]
     pub fn is_running(&self) -> bool
         ensures running { result ≡ self.now.driven.running }
@@ -81,8 +82,8 @@ impl<P: Transform + Drop> ChainWorld<P> {
 }
 
 impl<P: Transform + Drop> ChainWorld<P> {
-    /// Takes away the first `n` bytes that wait for the client. It stays sound, where `wake` was asked since a handler
-    /// ran.
+    /// Takes away the first `n` bytes that wait for the client. It stays sound, where `wake` was asked
+    /// since a handler ran.
     #[tactic(auto, using(crate::proofs::Taking::taken_awake))]
     pub fn take(&mut self, n: usize)
         requires { n ≤ length (client_wait self.old.driven.chain) }
@@ -131,8 +132,9 @@ impl<P: Transform + Drop> ChainWorld<P> {
         self.driven.lose(loss);
     }
 
-    // Marks the last stage as roused, where that has not ended and 65,536 bytes or more wait after it. It answers the
-    // key for which an event has then to be set, and refuses where that stage has no continuation.
+    // Marks the last stage as roused, where that has not ended and 65,536 bytes or more wait after it. It
+    // answers the key for which an event has then to be set, and refuses where that stage has no
+    // continuation.
     pub(crate) fn mark(&mut self) -> Result<Option<ContKey>, SetFault>
         ensures chain { self.new.driven.chain ≡ self.old.driven.chain }
         ensures course { MarkLoses result self.old.driven self.new.driven }

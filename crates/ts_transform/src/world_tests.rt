@@ -118,7 +118,8 @@ fn abort(group: &mut Tails)
     group.world_mut().abort();
 }
 
-// Whether a run that ended still ran, with nothing lost, all given or not, and this text waiting for the client or none.
+// Whether a run that ended still ran, with nothing lost, all given or not, and this text waiting for the
+// client or none.
 fn has_run(group: &Tails, is_finished: bool, text: Option<&[u8]>) -> bool {
     let world = group.world();
     let chain = world.chain();
@@ -128,7 +129,8 @@ fn has_run(group: &Tails, is_finished: bool, text: Option<&[u8]>) -> bool {
         && chain.out_block() == text
 }
 
-// Whether a chain runs to its end, whose first stage or second is called twice with an event after the first turn.
+// Whether a chain runs to its end, whose first stage or second is called twice with an event after the
+// first turn.
 fn runs_with(alloc: Global, role: usize, event: Event) -> Result<bool, Fail> {
     let mut group = begin(alloc)?;
     run(&mut group, 1)?;

@@ -32,8 +32,8 @@ pub const MOST_PLUGINS: u32 = 64;
 /// How many mutex groups there are at most, so that each of those plugins has one.
 pub const MOST_GROUPS: u32 = 4_096;
 
-/// What is left of a transaction: its links, what was queued for the client, how many faults the links had met
-/// when it was made, and how it ended, if it has.
+/// What is left of a transaction: its links, what was queued for the client, how many faults the links had
+/// met when it was made, and how it ended, if it has.
 #[derive(Drop)]
 pub struct TxnParts<C, O> {
     pub number: u64,

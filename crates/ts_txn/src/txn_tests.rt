@@ -75,8 +75,8 @@ pub const BAD_GATEWAY: &[u8] =
 pub const HEAD_OF_BAD_GATEWAY: &[u8] =
     b"HTTP/1.1 502 Bad Gateway\r\ncontent-type: text/plain\r\ncontent-length: 16\r\nconnection: close\r\n\r\n";
 
-/// What a link in memory gives and does: how many reads bring one byte each, which read and which write fails,
-/// and which two writes wait. No call has the number 0.
+/// What a link in memory gives and does: how many reads bring one byte each, which read and which write
+/// fails, and which two writes wait. No call has the number 0.
 #[derive(Clone, Copy)]
 pub struct Plan<'a> {
     pub gives: &'a [u8],
@@ -275,8 +275,8 @@ pub fn is_answered(
     Ok(has_ended(&parts, end, text, request))
 }
 
-/// Whether both a client that gives these bytes at once and one that gives them one by one are answered by the
-/// proxy itself, and the origin gets nothing.
+/// Whether both a client that gives these bytes at once and one that gives them one by one are answered by
+/// the proxy itself, and the origin gets nothing.
 pub fn is_refused(alloc: Global, gives: &[u8], text: &[u8]) -> Result<bool, Fail> {
     let at_once = is_answered(alloc, giving(gives), Some(SILENT), TxnEnd::Whole, text, b"")?;
     let one_by_one = is_answered(
