@@ -1,11 +1,12 @@
 //! The proxy's own answers beside the lines of a configuration, and what a transaction tells of itself.
 
-use crate::exchange::{NUMBER, begin, drive, setup_of};
+use crate::exchange::{MemTxn, NUMBER, begin, drive, setup_of};
 use crate::lines::{FILE, STOCK};
 use crate::plan::{giving, link_of};
 use crate::row::{Row, Verdict, check, get, judge};
 use crate::stated::{ABC, BAD_GATEWAY, BAD_REQUEST, GET, HEAD, HEAD_SENT, NOT_IMPLEMENTED, SIZED};
 use std::test::Fail;
+use ts_group::Group;
 use ts_hooks::TxnEnd;
 use ts_wire::Mode;
 
@@ -70,7 +71,7 @@ fn a_transaction_tells_its_number_origin_and_end(rt: HostRuntime) -> Result<(), 
     let setup = setup_of(alloc, b"", b"")?;
     let client = link_of(alloc, &giving(GET))?;
     let origin = link_of(alloc, &giving(ABC))?;
-    let mut group = begin(alloc, setup, client, Some(origin))?;
+    let mut group: Group<MemTxn> = begin(alloc, setup, client, Some(origin))?;
     assert_eq!(rt; group.world().number(), NUMBER);
     assert_eq!(rt; group.world().end(), None);
     let Some(link) = group.world().origin() else {
@@ -91,7 +92,7 @@ fn a_transaction_starts_once(rt: HostRuntime) -> Result<(), Fail> {
     let setup = setup_of(alloc, b"", b"")?;
     let client = link_of(alloc, &giving(GET))?;
     let origin = link_of(alloc, &giving(ABC))?;
-    let mut group = begin(alloc, setup, client, Some(origin))?;
+    let mut group: Group<MemTxn> = begin(alloc, setup, client, Some(origin))?;
     let counts = group.journal().counts();
     group.begin_turn(2, 0, 0)?;
     group.start();

@@ -13,6 +13,10 @@ mod faults;
 #[cfg(test)]
 mod framings;
 #[cfg(test)]
+mod journals;
+#[cfg(test)]
+mod large;
+#[cfg(test)]
 mod lines;
 #[cfg(test)]
 mod memory;

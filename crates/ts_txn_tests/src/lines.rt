@@ -20,8 +20,8 @@ pub const HTML_HEAD: &[u8] =
 /// The text of the files that the lines here name.
 pub const FILE: &[u8] = b"<hr>";
 
-// As many lines as there may be.
-const SIXTEEN: &[u8] =
+/// As many lines as there may be.
+pub const SIXTEEN: &[u8] =
     b"null_transform.so\nnull_transform.so\nnull_transform.so\nnull_transform.so\nnull_transform.so\nnull_transform.so\nnull_transform.so\nnull_transform.so\nnull_transform.so\nnull_transform.so\nnull_transform.so\nnull_transform.so\nnull_transform.so\nnull_transform.so\nnull_transform.so\nnull_transform.so\n";
 
 /// Each stock line and five in a row, and what they make of the six bytes.

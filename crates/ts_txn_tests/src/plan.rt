@@ -10,13 +10,14 @@ use ts_link::{MemLink, Octets, Piece};
 // How many bytes a link takes a write that takes few.
 const FEW: usize = 16;
 
-/// What a link gives, how many bytes of it in a first piece and how many one by one after that, how many bytes a write
-/// takes at most, and which calls fail or wait. No call has the number 0.
+/// What a link gives, how long its first piece is, if it is told, and how many pieces of one length follow; how many
+/// bytes a write takes at most, and which calls fail or wait. No call has the number 0.
 #[derive(Clone, Copy)]
 pub struct Plan<'a> {
     pub gives: &'a [u8],
     pub first: u32,
-    pub singles: usize,
+    pub piece: u32,
+    pub pieces: usize,
     pub take: usize,
     pub fail_read: u64,
     pub fail_write: u64,
@@ -29,7 +30,8 @@ pub fn giving(gives: &[u8]) -> Plan<'_> {
     Plan {
         gives,
         first: 0,
-        singles: 0,
+        piece: 1,
+        pieces: 0,
         take: usize::MAX,
         fail_read: 0,
         fail_write: 0,
@@ -41,7 +43,7 @@ pub fn giving(gives: &[u8]) -> Plan<'_> {
 /// A link that gives these bytes one by one, and takes one byte a write.
 pub fn dripping(gives: &[u8]) -> Plan<'_> {
     Plan {
-        singles: gives.len(),
+        pieces: gives.len(),
         take: 1,
         ..giving(gives)
     }
@@ -51,7 +53,7 @@ pub fn dripping(gives: &[u8]) -> Plan<'_> {
 pub fn dripping_after(gives: &[u8], front: u32) -> Plan<'_> {
     Plan {
         first: front,
-        singles: gives.len(),
+        pieces: gives.len(),
         take: FEW,
         ..giving(gives)
     }
@@ -63,7 +65,7 @@ fn cuts_of(alloc: Global, plan: &Plan<'_>) -> Result<Vec<u32>, Refusal> {
     if plan.first > 0 {
         cuts.push(plan.first)?;
     }
-    cuts.extend_from_slice(vec![in alloc; 1; plan.singles]?.as_slice())?;
+    cuts.extend_from_slice(vec![in alloc; plan.piece.max(1); plan.pieces]?.as_slice())?;
     Ok(cuts)
 }
 

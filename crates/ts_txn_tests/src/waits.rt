@@ -1,6 +1,7 @@
 //! Links that make their caller wait: the same texts, and a pause of 10 milliseconds for each such answer.
 
 use crate::exchange::Ended;
+use crate::journals::{last_made, last_moment, least_gap};
 use crate::lines::{HTML, HTML_FRONT, STOCK, html};
 use crate::plan::{Plan, dripping, dripping_after};
 use crate::refusal::Refusal;
@@ -52,7 +53,7 @@ fn check_pauses(
     if waits_of(&ended) != waits {
         return Ok(Verdict::OtherWaits);
     }
-    if ended.moment != PAUSE * WAITS {
+    if last_moment(ended.journal.entries()) != PAUSE * WAITS {
         return Ok(Verdict::OtherMoment);
     }
     judge(alloc, row, &ended.parts)
@@ -187,5 +188,27 @@ fn a_client_that_waits_at_its_first_writes(rt: HostRuntime) -> Result<(), Fail> 
         check_pauses(rt.alloc(), &row, &client, None, (2, 0))?,
         Verdict::AsStated
     );
+    Ok(())
+}
+
+// How long the stage of a line that pauses does nothing between two of its events, in milliseconds.
+const DELAY: u64 = 5;
+
+#[test]
+fn a_stage_pauses_between_its_events(rt: HostRuntime) -> Result<(), Fail> {
+    let alloc = rt.alloc();
+    let row = html(b"delay.so 5\n", b"banana");
+    let origin = dripping_after(HTML, HTML_FRONT);
+    let ended = run_row(alloc, &row, &dripping_after(GET, 0), Some(origin))?;
+    assert_eq!(rt; judge(alloc, &row, &ended.parts)?, Verdict::AsStated);
+    let entries = ended.journal.entries();
+    // The one stage is made last.
+    let Some(stage) = last_made(entries) else {
+        return Err("a continuation is made")?;
+    };
+    let (gap, count) = least_gap(entries, stage);
+    assert!(rt; count >= 2);
+    assert!(rt; gap >= Some(DELAY), "{gap:?}");
+    assert_eq!(rt; last_moment(entries) % DELAY, 0);
     Ok(())
 }
