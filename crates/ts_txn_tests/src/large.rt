@@ -58,8 +58,8 @@ fn check_long(
     check_between(alloc, &row, &client, Some(origin))
 }
 
-// Each byte takes some 40 events, and each event four entries of the journal, which keeps them all; so a body of a MiB
-// in single bytes is no test.
+// Each byte takes some 20 events, and each event four entries of the journal, which keeps them all: a body of a MiB in
+// single bytes would take 80 million entries.
 #[test]
 fn a_body_of_1_kib_byte_by_byte(rt: HostRuntime) -> Result<(), Fail> {
     let verdict = check_long(rt.alloc(), SIXTEEN, KIB, 1, usize::MAX)?;
