@@ -322,3 +322,9 @@ pub record KeepsMade (a b : Context) : Type 0 where
   pub of_stage : (role : ℕ) (t : Option StageContinuation) → IsOfStageIf a.log.state.pending a.roles role t
       → IsOfStageIf b.log.state.pending b.roles role t
   pub live : (key : ContKey) → IsLive a.log.state.live key → IsLive b.log.state.live key
+
+-- What a start leaves, which makes these continuations: whoever was made before stays, and whatever was set is of one of
+-- these.
+pub record BeginsBeside (ts : List (Option StageContinuation)) (a b : Context) : Type 0 where
+  pub made : KeepsMade a b
+  pub seated : KeepsSeated [] ts a b

@@ -3,7 +3,7 @@ ghost use Rattle.std.specs.Prelude.{◌≡◌, ◌+◌, ◌<◌, ◌≤◌, ◌+
 ghost use Rattle.std.specs.Bool.{OnTrue};
 ghost use Rattle.ts_transform.specs.Stage.{IfRests, done_by};
 ghost use Rattle.ts_transform.specs.Stage.{MOST_WAITING};
-ghost use Rattle.ts_transform.specs.Flow.{AnswersAt, IsFinished, IsGiven, MustRead, MustWork, MustWrite, StepsAt, TakesAway, aborted, client_wait, compose, ended_at, flow, fresh_stage, last_ended, left_to_do, pause_at, wait_at};
+ghost use Rattle.ts_transform.specs.Flow.{AnswersAt, EndsInOrder, IsFinished, IsGiven, MustRead, MustWork, MustWrite, StepsAt, TakesAway, aborted, client_wait, compose, ended_at, flow, fresh_stage, last_ended, left_to_do, pause_at, wait_at};
 ghost use Rattle.ts_vconn.specs.Moves.{PullsOn};
 
 use crate::pump::{MOST_WAITING, Pumped, Stage, pump_at};
@@ -41,6 +41,7 @@ impl<P: Transform + Drop> Chain<P> {
         ensures made { IfOk result
             (λ c. c ≡ record { first = []; stages = map fresh_stage parts.items; given = false }) }
         ensures flow { IfOk result (λ c. (z : List ℕ) → flow P.rest c z ≡ compose P.rest parts.items z) }
+        ensures ordered { IfOk result (λ c. EndsInOrder c.given c.stages) }
     {
         let first = Waiting::new(alloc)?;
         let stages = fresh_stages(alloc, parts)?;
@@ -56,6 +57,7 @@ impl<P: Transform + Drop> Chain<P> {
         ensures made { IfOk result
             (λ c. c ≡ record { first = body; stages = map fresh_stage parts.items; given = true }) }
         ensures flow { IfOk result (λ c. flow P.rest c [] ≡ compose P.rest parts.items body) }
+        ensures ordered { IfOk result (λ c. EndsInOrder c.given c.stages) }
     {
         let first = Waiting::of_octets(alloc, body)?;
         let stages = fresh_stages(alloc, parts)?;

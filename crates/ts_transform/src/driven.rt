@@ -2,7 +2,7 @@
 ghost use Rattle.std.specs.Prelude.{◌≡◌, ℕ, ◌+◌, ◌<◌, [], length, true, false, None, MatchOption};
 ghost use Rattle.ts_group.specs.Context.{IsSame};
 ghost use Rattle.ts_transform.specs.Flow.{OnlyFirstWorks};
-ghost use Rattle.ts_transform.specs.Driving.{ActsWithin, KeepsMade, SetsOnly};
+ghost use Rattle.ts_transform.specs.Driving.{ActsWithin, BeginsBeside, SetsOnly};
 ghost use Rattle.ts_transform.specs.Cover.{IsRousing};
 ghost use Rattle.ts_transform.specs.Acting.{IsStage, StillGives};
 ghost use Rattle.ts_transform.specs.Driven.{Acts, HandlesDriven, HasBegun, IsDrivenWhile, IsOfNoStage, KeepsRest, Loses};
@@ -92,7 +92,7 @@ impl<P: Transform + Drop> DrivenChain<P> {
         ensures driven { OnlyFirstWorks self.old.chain
             → IsDrivenWhile first self.new cx.new.log.state.pending cx.new.roles }
         ensures begun { HasBegun self.new cx.new }
-        ensures made { KeepsMade cx.old cx.new }
+        ensures rest { BeginsBeside self.new.table.items cx.old cx.new }
     {
         match begin(first, &self.chain, &mut self.table, cx) {
             Ok(()) => {

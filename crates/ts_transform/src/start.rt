@@ -5,7 +5,7 @@ ghost use Rattle.ts_group.specs.Context.{role_at};
 ghost use Rattle.ts_group.specs.Entries.{Grows};
 ghost use Rattle.ts_group.specs.Changes.{SameEvents, KeepsKeys};
 ghost use Rattle.ts_transform.specs.Flow.{OnlyFirstWorks};
-ghost use Rattle.ts_transform.specs.Driving.{ActsWithin, AreOfStages, EachIsLive, KeepsMade, SetsOnly};
+ghost use Rattle.ts_transform.specs.Driving.{ActsWithin, AreOfStages, BeginsBeside, EachIsLive, SetsOnly};
 ghost use Rattle.ts_transform.specs.Cover.{AreAllLive, IsDriven, IsRousing};
 ghost use Rattle.ts_transform.specs.Loss.{IsCauseOf, making_loss};
 
@@ -88,7 +88,7 @@ pub fn begin<P: Transform + Drop>(
     ensures driven { OnOk result (OnlyFirstWorks chain.now
         → IsDriven first chain.now table.new.items cx.new.log.state.pending cx.new.roles) }
     ensures cause { IfErr result (λ loss. IsCauseOf ⊤ loss cx.new) }
-    ensures made { KeepsMade cx.old cx.new }
+    ensures rest { BeginsBeside table.new.items cx.old cx.new }
     ensures live { OnOk result (AreAllLive chain.now table.new.items cx.new) }
 {
     if let Err(fault) = make_all(first, table, chain.stages(), cx) {

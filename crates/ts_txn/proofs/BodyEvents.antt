@@ -1,5 +1,5 @@
 -- The events of the continuations while a body is passed on.
-use Rattle.std.proofs.Common.{◌≡◌, ◌≢◌, ℕ, ◌+◌, ◌≤◌, ◌⊎◌, inl, inr, List, [], ◌∷◌, ◌++◌, Bool, true, false, Option, Some, None, Result, refl, sym, ap, subst, ◌∙◌, arith}
+use Rattle.std.proofs.Common.{◌≡◌, ◌≢◌, ℕ, ◌≤◌, ◌⊎◌, inl, inr, List, [], ◌∷◌, Bool, true, false, Option, Some, None, Result, refl, sym, ap, subst, ◌∙◌, arith}
 use Rattle.std.specs.Prelude.{⊤}
 use Rattle.ts_config.specs.declared.setup.Setup.{Setup}
 use Rattle.ts_hooks.specs.declared.txn_end.TxnEnd.TheVariants as E
@@ -28,7 +28,7 @@ use Rattle.ts_txn.specs.Feeding.{OnGoes}
 use Rattle.ts_txn.specs.Finishing.{LeadsBody}
 use Rattle.ts_txn.specs.Relaying.{DrivesOn, RelaysBody, StepsChain, step_after}
 use Rattle.ts_txn.specs.Entering.{BeginsRelay, BeginsRunning}
-use Rattle.ts_txn.specs.Duties.{BeginsBody, AreBodyEndsRoused, EndsRouse, IsBodyCovered, IsBodyJoined, RousesBoth, HandlesBody, RunsOr, SettledAs, SettlesAfter, SettlesBody, TellsDuty, UnlessLacking, WhileGoes, body_seats}
+use Rattle.ts_txn.specs.Duties.{BeginsBody, EndsRouse, IsBodyCovered, IsBodyJoined, HandlesBody, RunsOr, SettledAs, SettlesAfter, SettlesBody, TellsDuty, UnlessLacking, WhileGoes, body_seats, relay_seats}
 use Rattle.ts_txn.specs.declared.finishing.BodyStep.{BodyStep}
 use Rattle.ts_txn.specs.declared.finishing.BodyStep.TheVariants as S
 use Rattle.ts_txn.specs.declared.relay.Relay.{Relay}
@@ -64,7 +64,7 @@ only_goes X S.Lacks goes = tt
 
 pub settles : {P : Type 0} (step : BodyStep) (writes : Bool) (v : View) (t u : Option StageContinuation) (r s : Relay P) (a b : Context) → IsOrderly a → TellsDuty writes v r.driven.chain
     → EndsRouse step writes t u r s a b → s ≡ record r { reader = s.reader } → SettlesBody step v t u r s a b
-settles step writes v t u r s a b orderly tells (reads, must, rouses) same =
+settles step writes v t u r s a b orderly tells (reads, must, only, rouses) same =
     let driven : s.driven ≡ r.driven = ap (λ x. x.driven) same in
     record {
       adds = rouses.adds;
@@ -77,6 +77,7 @@ settles step writes v t u r s a b orderly tells (reads, must, rouses) same =
       goes = only_goes _ step rouses.roused;
       later = grows_next a b orderly rouses.adds.grows;
       seated = subst (λ d. KeepsSeated (t ∷ r.reader ∷ r.driven.table.items) (u ∷ s.reader ∷ d.table.items) a b) (sym driven) (rouses.seated r.driven.table.items);
+      rests = λ ends. rouses.rests (λ duty. ends.writes (tells.must_send duty)) (λ duty. ends.reads (only duty));
     }
   where
     by_run : (step : BodyStep) → TellsDuty writes v s.driven.chain → (MustRead s.driven.chain → reads ≡ true)
@@ -96,6 +97,7 @@ settles_after step result v t u r s a b settled h = record {
   settled = settled;
   later = h.later;
   seated = h.seated;
+  rests = h.rests;
 }
   where
     as_goes : (step : BodyStep) → OnGoes result (IsBodyCovered v u s b.log.state.next) → WhileGoes step (OnGoes result (IsBodyCovered v u s b.log.state.next))
@@ -114,6 +116,7 @@ settles_none step v t r a turn settled ends = record {
   settled = settled;
   later = omega arith;
   seated = λ others h. h;
+  rests = λ ends. refl;
 }
 
 -- where it leads
@@ -335,9 +338,40 @@ begins_covered {P} step result w u m s c next runs settled after = by_step step 
     by_step (S.Closes end) runs settled after = absurd runs
     by_step S.Lacks runs settled after = subst (λ (x : BodyStep). WhileGoes x (IsBodyCovered w u s next)) (sym settled) tt
 
-pub begins_body : {P : Type 0} (step result : BodyStep) (w : View) (t u : Option StageContinuation) (m s : Relay P) (a c b : Context) → BeginsRelay step m a c
+-- so its stages run
+begins_runs : {P : Type 0} (step result : BodyStep) (m s : Relay P) (c : Context) (next : ℕ) → c.log.state.next ≤ next → s.driven ≡ m.driven → BeginsRunning step m.driven c → SettledAs step result
+    → UnlessLacking result (RunsOr s next)
+begins_runs step result m s c next later same runs settled = by_step step runs settled
+  where
+    kept : (m.driven.running ≡ true) ⊎ (GREATEST ≤ c.log.state.next) → RunsOr s next
+    kept (inl runs) = inl (ap (λ d. d.running) same ∙ runs)
+    kept (inr spent) = inr (omega (arith, spent, later))
+
+    unless : (result : BodyStep) → RunsOr s next → UnlessLacking result (RunsOr s next)
+    unless S.Goes h = h
+    unless S.Waits h = h
+    unless (S.Finishes end) h = h
+    unless (S.Closes end) h = h
+    unless S.Lacks h = tt
+
+    by_step : (step : BodyStep) → BeginsRunning step m.driven c → SettledAs step result → UnlessLacking result (RunsOr s next)
+    by_step S.Goes runs settled = unless result (kept runs)
+    by_step S.Waits runs settled = absurd runs
+    by_step (S.Finishes end) runs settled = absurd runs
+    by_step (S.Closes end) runs settled = absurd runs
+    by_step S.Lacks runs settled = subst (λ (x : BodyStep). UnlessLacking x (RunsOr s next)) (sym settled) tt
+
+-- and it is passed on, unless memory lacked
+begins_goes : {P : Type 0} (step result : BodyStep) (m : Relay P) (c : Context) → BeginsRunning step m.driven c → SettledAs step result → OnGoes result ⊤
+begins_goes S.Goes result m c runs settled = settled
+begins_goes S.Waits result m c runs settled = absurd runs
+begins_goes (S.Finishes end) result m c runs settled = absurd runs
+begins_goes (S.Closes end) result m c runs settled = absurd runs
+begins_goes S.Lacks result m c runs settled = subst (λ (x : BodyStep). OnGoes x ⊤) (sym settled) tt
+
+pub begins_body : {P : Type 0} (step result : BodyStep) (w : View) (t u : Option StageContinuation) (m s : Relay P) (a c b : Context) → BeginsRelay step m a c → s.driven ≡ m.driven
     → SettlesAfter step result w t u m s c b → BeginsBody result w t u s a b
-begins_body step result w t u m s a c b begins after = record {
+begins_body step result w t u m s a c b begins same after = record {
   acts = acts_then 2 2 4 (omega arith) begins.chain.within
       (record { grows = after.adds.grows; turn = after.adds.keeps.turn; plain = after.adds.keeps.plain; few = after.adds.few });
   joined = λ seated. after.joined (λ runs. record {
@@ -346,4 +380,8 @@ begins_body step result w t u m s a c b begins after = record {
     of_reader = begins.of_reader;
   });
   covered = begins_covered step result w u m s c b.log.state.next begins.chain.runs after.settled after.covered;
+  goes = begins_goes step result m c begins.chain.runs after.settled;
+  runs = begins_runs step result m s c b.log.state.next after.later same begins.chain.runs after.settled;
+  seated = seated_then (t ∷ []) (body_seats t m) (body_seats u s) a c b (seated_behind t [] (relay_seats m) a c begins.seated) after.seated;
+  ordered = subst (λ d. EndsInOrder d.chain.given d.chain.stages) (sym same) begins.ordered;
 }

@@ -1,5 +1,5 @@
 -- What a step of a body leaves of its chain and of what is pending.
-use Rattle.std.proofs.Common.{◌≡◌, ℕ, ◌+◌, ◌≤◌, ◌⊎◌, inl, inr, List, Bool, true, false, Result, Ok, Err, refl, sym, ap, subst, arith, ◌∙◌}
+use Rattle.std.proofs.Common.{◌≡◌, ℕ, ◌+◌, ◌≤◌, ◌⊎◌, inl, inr, List, Option, Bool, true, false, Result, Ok, Err, refl, sym, ap, subst, arith, ◌∙◌}
 use Rattle.std.specs.Prelude.{⊤}
 use Rattle.ts_journal.specs.declared.entry.TheConstants.{GREATEST}
 use Rattle.ts_journal.proofs.Later.{extends_later}
@@ -8,15 +8,17 @@ use Rattle.ts_group.specs.Entries.{Grows}
 use Rattle.ts_group.specs.declared.action.SetFault.{SetFault}
 use Rattle.ts_group.specs.declared.action.SetFault.TheVariants as F
 use Rattle.ts_group.proofs.Grows.{grows_refl, grows_trans}
+use Rattle.ts_transform.specs.Cover.{IsRousing, OnlyRouses}
 use Rattle.ts_transform.specs.Flow.{ChainState, EndsInOrder, TakesAway}
-use Rattle.ts_transform.specs.Driving.{AddsEvents, SetsFew}
+use Rattle.ts_transform.specs.Driving.{AddsEvents, SetsFew, SetsOnly}
+use Rattle.ts_transform.specs.declared.continuation.StageContinuation.{StageContinuation}
 use Rattle.ts_transform.specs.Driven.{Gives, Loses, SameSeats, StaysDriven}
 use Rattle.ts_transform.specs.declared.driven.DrivenChain.{DrivenChain}
 use Rattle.ts_transform.proofs.Carrying.{order_any, takes_order}
 use Rattle.ts_transform.proofs.Joined.{runs_before}
 use Rattle.ts_transform.proofs.Kept.{few_refl, few_trans, keeps_refl, keeps_trans}
-use Rattle.ts_hooks.specs.declared.txn_end.TxnEnd.{TxnEnd}
-use Rattle.ts_txn.specs.Relaying.{AddsSome, DrivesOn, StepsChain, step_after}
+use Rattle.ts_transform.proofs.Setting.{named_kept, only_none, only_trans, only_weaker}
+use Rattle.ts_txn.specs.Relaying.{DrivesOn, IsOfRoleFrom, OnlyOfStages, StepsChain, step_after}
 use Rattle.ts_txn.specs.declared.finishing.BodyStep.{BodyStep}
 use Rattle.ts_txn.specs.declared.finishing.BodyStep.TheVariants as S
 
@@ -36,6 +38,7 @@ chain_still step most d a turn = record {
   on = drives_still step d a;
   falls = λ runs. runs;
   seats = record { same = refl; seated = λ others h. h };
+  only = λ first named. only_none (IsOfRoleFrom first a.roles) a;
   ordered = λ h. h;
 }
 
@@ -47,14 +50,21 @@ drives_after (Err F.Spent) d e before now loses = inr loses.2
 drives_after (Err F.NoMemory) d e before now loses = tt
 drives_after (Err F.Dead) d e before now loses = tt
 
+-- whatever rouses a stage is of one
+of_rouses : {P : Type 0} (pause : P → ℕ) (c : ChainState P) (ts : List (Option StageContinuation)) (a b : Context) → OnlyRouses pause c ts a b → OnlyOfStages ts a b
+of_rouses pause c ts a b only first named =
+    only_weaker (IsRousing pause first c ts a.moment a.roles) (IsOfRoleFrom first a.roles) a b (λ p h. record { place = h.at; role_is = h.of_stage.role_is }) (only first named)
+
 pub chain_after : {P Live : Type 0} (most : ℕ) (r : Result ⊤ SetFault) (d e : DrivenChain P) (a b : Context) → AddsEvents most Live r a b → StaysDriven d e a b → Loses r d e a b
-    → SameSeats d e a b → (EndsInOrder d.chain.given d.chain.stages → EndsInOrder e.chain.given e.chain.stages) → StepsChain (step_after r) most d e a b
-chain_after most r d e a b adds driven loses seats ordered = record {
+    → SameSeats d e a b → (pause : P → ℕ) → OnlyRouses pause e.chain d.table.items a b → (EndsInOrder d.chain.given d.chain.stages → EndsInOrder e.chain.given e.chain.stages)
+    → StepsChain (step_after r) most d e a b
+chain_after most r d e a b adds driven loses seats pause only ordered = record {
   adds = record { grows = adds.grows; keeps = adds.keeps; few = adds.few };
   driven = driven;
   on = drives_after r d e a b loses;
   falls = runs_before r d e a b loses;
   seats = seats;
+  only = of_rouses pause e.chain d.table.items a b only;
   ordered = ordered;
 }
 
@@ -85,6 +95,8 @@ chain_then step m n d e f a b c orderly h k = record {
   on = drives_then step d e f b c (grows_next b c orderly k.adds.grows) h.on k.on;
   falls = λ runs. h.falls (k.falls runs);
   seats = record { same = k.seats.same ∙ h.seats.same; seated = λ others was. k.seats.seated others (h.seats.seated others was) };
+  only = λ first named. only_trans (IsOfRoleFrom first a.roles) a b c (h.only first named) k.adds.keeps
+      (subst (λ roles. SetsOnly (IsOfRoleFrom first roles) b c) h.adds.keeps.roles (k.only first (named_kept first a b d.table.items e.table.items h.adds.keeps h.seats.same named)));
   ordered = λ was. k.ordered (h.ordered was);
 }
 
@@ -99,6 +111,7 @@ chain_more step m n d e a b more h = record {
   on = h.on;
   falls = h.falls;
   seats = h.seats;
+  only = h.only;
   ordered = h.ordered;
 }
 
@@ -110,6 +123,7 @@ chain_lacks step m n d e a b more h = record {
   on = tt;
   falls = h.falls;
   seats = h.seats;
+  only = h.only;
   ordered = h.ordered;
 }
 

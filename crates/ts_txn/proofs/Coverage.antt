@@ -1,12 +1,15 @@
 -- The next step of a transaction has an event, or there is none.
-use Rattle.std.proofs.Common.{◌≡◌, ◌≢◌, ℕ, ◌<◌, ◌≤◌, inl, inr, true, Option, None, arith, refl}
+use Rattle.std.proofs.Common.{◌≡◌, ◌≢◌, ℕ, ◌<◌, ◌≤◌, inl, inr, true, Option, None, arith, refl, ap, subst}
 use Rattle.std.specs.Prelude.{⊤}
 use Rattle.ts_journal.specs.declared.entry.TheConstants.{GREATEST}
 use Rattle.ts_group.specs.declared.action.SetFault.{SetFault}
 use Rattle.ts_group.specs.declared.action.SetFault.TheVariants as F
 use Rattle.ts_transform.specs.Driving.{IsRousedIf}
 use Rattle.ts_transform.specs.declared.continuation.StageContinuation.{StageContinuation}
-use Rattle.ts_txn.specs.Cover.{Proceeds, Idles, HasNextEvent, HasNextEventOr, is_ended, is_fresh}
+use Rattle.ts_txn.specs.Cover.{Proceeds, Idles, HasNextEvent, HasNextEventOr, is_ended, is_fresh, is_fresh_on}
+use Rattle.ts_txn.specs.CourseCover.{IdlesOn}
+use Rattle.ts_txn.specs.declared.course.Course.{Course}
+use Rattle.ts_txn.specs.declared.course.Course.TheVariants as K
 use Rattle.ts_txn.specs.declared.phase.Phase.{Phase}
 use Rattle.ts_txn.specs.declared.phase.Phase.TheVariants as P
 
@@ -30,15 +33,6 @@ covered_roused p main next goes roused = inl (by_phase p goes)
     by_phase (P.Sending a) goes = roused
     by_phase (P.TxnClose end) goes = roused
     by_phase (P.Ended end) goes = tt
-
--- or the numbers are used up
-pub covered_spent : (p : Phase) (main : Option StageContinuation) (next : ℕ) → GREATEST ≤ next → HasNextEventOr p main next
-covered_spent p main next spent = inr spent
-
--- so they stay
-pub covered_later : (p : Phase) (main : Option StageContinuation) (m n : ℕ) → m ≤ n → HasNextEventOr p main m → HasNextEventOr p main n
-covered_later p main m n later (inl has) = inl has
-covered_later p main m n later (inr spent) = inr (omega (arith, spent, later))
 
 -- a phase that goes on asks nothing where it has a continuation
 pub idle_goes : (p : Phase) (main : Option StageContinuation) → Proceeds p → Idles p main
@@ -82,23 +76,32 @@ ended_idle p main is none = ended_has p is (λ x. Idles x main) (λ end. none)
 pub ended_covered : (p : Phase) (main : Option StageContinuation) (next : ℕ) → is_ended p ≡ true → HasNextEventOr p main next
 ended_covered p main next is = ended_has p is (λ x. HasNextEventOr x main next) (λ end. inl tt)
 
--- one that was not started has none
-pub fresh_none : (p : Phase) (main : Option StageContinuation) → is_fresh p ≡ true → Idles p main → main ≡ None
-fresh_none P.Fresh main is idles = idles
-fresh_none P.TxnStart main is idles = absurd (cc)
-fresh_none P.ReadRequest main is idles = absurd (cc)
-fresh_none (P.ReadRequestHdr q) main is idles = absurd (cc)
-fresh_none (P.OsDns q) main is idles = absurd (cc)
-fresh_none (P.SendRequestHdr q) main is idles = absurd (cc)
-fresh_none (P.SendRequest q) main is idles = absurd (cc)
-fresh_none (P.Upload q) main is idles = absurd (cc)
-fresh_none (P.ReadResponse q) main is idles = absurd (cc)
-fresh_none (P.ReadResponseHdr q r) main is idles = absurd (cc)
-fresh_none (P.ResponseTransform q r) main is idles = absurd (cc)
-fresh_none (P.SendResponseHdr a) main is idles = absurd (cc)
-fresh_none (P.Sending a) main is idles = absurd (cc)
-fresh_none (P.TxnClose end) main is idles = absurd (cc)
-fresh_none (P.Ended end) main is idles = absurd (cc)
+-- one that was not started is in its first phase
+fresh_is : (p : Phase) → is_fresh p ≡ true → p ≡ P.Fresh
+fresh_is P.Fresh is = refl
+fresh_is P.TxnStart is = absurd (cc)
+fresh_is P.ReadRequest is = absurd (cc)
+fresh_is (P.ReadRequestHdr q) is = absurd (cc)
+fresh_is (P.OsDns q) is = absurd (cc)
+fresh_is (P.SendRequestHdr q) is = absurd (cc)
+fresh_is (P.SendRequest q) is = absurd (cc)
+fresh_is (P.Upload q) is = absurd (cc)
+fresh_is (P.ReadResponse q) is = absurd (cc)
+fresh_is (P.ReadResponseHdr q r) is = absurd (cc)
+fresh_is (P.ResponseTransform q r) is = absurd (cc)
+fresh_is (P.SendResponseHdr a) is = absurd (cc)
+fresh_is (P.Sending a) is = absurd (cc)
+fresh_is (P.TxnClose end) is = absurd (cc)
+fresh_is (P.Ended end) is = absurd (cc)
+
+pub fresh_on : {Q : Type 0} (course : Course Q) → is_fresh_on course ≡ true → course ≡ K.Phased P.Fresh
+fresh_on {Q} (K.Phased p) is = ap {B = Course Q} (λ x. K.Phased x) (fresh_is p is)
+fresh_on (K.Relaying r) is = absurd (cc)
+fresh_on (K.Finishing end) is = absurd (cc)
+
+-- and so without a continuation
+pub fresh_none : {Q : Type 0} (course : Course Q) (main : Option StageContinuation) → is_fresh_on course ≡ true → IdlesOn course main → main ≡ None
+fresh_none course main is idles = subst (λ x. IdlesOn x main) (fresh_on course is) idles
 
 -- an event can be set of a live continuation where the numbers are not used up, and memory is there
 pub never_spent : (fault : SetFault) (next : ℕ) (Live : Type 0) → fault ≢ F.Spent → (fault ≡ F.NoMemory → next < GREATEST)

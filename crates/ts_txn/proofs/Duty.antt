@@ -1,10 +1,8 @@
 -- The duties of a body: what a stage's event keeps, who is roused, and that none is left where nothing is pending.
-use Rattle.std.proofs.Common.{◌≡◌, ◌≢◌, ℕ, ◌+◌, ◌≤◌, ◌⊎◌, inl, inr, List, [], ◌∷◌, ◌++◌, Bool, true, false, Option, Some, None, Result, Ok, Err, refl, sym, ap, subst, ◌∙◌, arith}
+use Rattle.std.proofs.Common.{◌≡◌, ℕ, ◌≤◌, ◌⊎◌, inl, inr, List, [], ◌∷◌, ◌++◌, Bool, true, false, Option, Some, None, Result, Ok, Err, refl, sym, ap, subst, ◌∙◌, arith}
 use Rattle.std.specs.Prelude.{OnOk, ⊤}
 use Rattle.std.specs.Bool.{OnTrue}
 use Rattle.ts_config.specs.declared.setup.Setup.{Setup}
-use Rattle.ts_hooks.specs.declared.txn_end.TxnEnd.{TxnEnd}
-use Rattle.ts_hooks.specs.declared.txn_end.TxnEnd.TheVariants as E
 use Rattle.ts_journal.specs.declared.entry.TheConstants.{GREATEST}
 use Rattle.ts_journal.specs.declared.entry.Pending.{Pending}
 use Rattle.ts_group.specs.declared.action.Named.{Named}
@@ -12,25 +10,21 @@ use Rattle.ts_group.specs.declared.action.SetFault.{SetFault}
 use Rattle.ts_group.specs.declared.action.SetFault.TheVariants as F
 use Rattle.ts_group.specs.Context.{Context, IsOrderly}
 use Rattle.ts_group.proofs.Grows.{grows_trans}
-use Rattle.ts_link.specs.Link.{all_of}
-use Rattle.ts_transform.specs.Flow.{ChainState, EndsInOrder, MustRead}
+use Rattle.ts_transform.specs.Flow.{ChainState, EndsInOrder}
 use Rattle.ts_transform.specs.Acting.{StillGives}
-use Rattle.ts_transform.specs.Carrying.{AreEndsRoused}
-use Rattle.ts_transform.specs.Driving.{AddsEvents, IsCause, IsOfStageIf, IsRousedIf, KeepsStage, SetsFew}
+use Rattle.ts_transform.specs.Driving.{AddsEvents, IsOfStageIf, IsRousedIf, KeepsStage}
 use Rattle.ts_transform.specs.declared.continuation.StageContinuation.{StageContinuation}
 use Rattle.ts_transform.specs.Seats.{KeepsSeated}
 use Rattle.ts_transform.proofs.Joined.{all_carried}
 use Rattle.ts_transform.proofs.Seating.{seated_behind, seated_front, seated_then}
 use Rattle.ts_transform.proofs.Kept.{few_trans, kept_if, keeps_trans}
 use Rattle.ts_wire.specs.Place.{Place}
-use Rattle.ts_txn.specs.View.{LinkSide, View}
-use Rattle.ts_txn.specs.Facts.{Served}
+use Rattle.ts_txn.specs.View.{View}
 use Rattle.ts_txn.specs.Feeding.{OnGoes}
-use Rattle.ts_txn.specs.Relaying.{AddsSome, GivesEnd, ReadsBody, RelaysBody, step_after}
+use Rattle.ts_txn.specs.Relaying.{GivesEnd, RelaysBody, step_after}
 use Rattle.ts_txn.specs.Duties.{AreBodyEndsRoused, IsBodyJoined, RousesBoth, RousesOne}
 use Rattle.ts_txn.specs.declared.finishing.BodyStep.{BodyStep}
 use Rattle.ts_txn.specs.declared.finishing.BodyStep.TheVariants as S
-use Rattle.ts_txn.specs.declared.phase.Request.{Request}
 use Rattle.ts_txn.specs.declared.relay.Relay.{Relay}
 use Rattle.ts_txn.proofs.Chaining.{grows_next}
 
@@ -98,13 +92,19 @@ rouses_by (Err F.Spent) must Live t u a b adds roused = inr adds.cause
 rouses_by (Err F.NoMemory) must Live t u a b adds roused = tt
 rouses_by (Err F.Dead) must Live t u a b adds roused = tt
 
+-- one that need not work, or was roused, is let be
+rests_by : {X Y : Type 0} (must : Bool) → ((must ≡ false) ⊎ X → Y) → (must ≡ true → X) → Y
+rests_by true rests roused = rests (inr (roused refl))
+rests_by false rests roused = rests (inl refl)
+
 pub rouses_one : (r : Result ⊤ SetFault) (must : Bool) (Live : Type 0) (t u : Option StageContinuation) (a b : Context) (step : BodyStep) → step ≡ step_after r
-    → AddsEvents 1 Live r a b → KeepsStage a b t u → KeepsSeated (t ∷ []) (u ∷ []) a b → (must ≡ true → OnOk r (IsRousedIf u)) → RousesOne step must t u a b
-rouses_one r must Live t u a b step is adds stage seated roused = record {
+    → AddsEvents 1 Live r a b → KeepsStage a b t u → KeepsSeated (t ∷ []) (u ∷ []) a b → (must ≡ true → OnOk r (IsRousedIf u)) → ((must ≡ false) ⊎ IsRousedIf t → b ≡ a) → RousesOne step must t u a b
+rouses_one r must Live t u a b step is adds stage seated roused rests = record {
   adds = record { grows = adds.grows; keeps = adds.keeps; few = adds.few };
   stage = stage;
   seated = seated;
   roused = subst (λ (s : BodyStep). OnGoes s ((must ≡ true → IsRousedIf u) ⊎ (GREATEST ≤ b.log.state.next))) (sym is) (rouses_by r must Live t u a b adds roused);
+  rests = rests_by must rests;
 }
 
 both_roused : (step : BodyStep) (writes reads : Bool) (u s : Option StageContinuation) (b c : Context) → b.log.state.next ≤ c.log.state.next
@@ -132,6 +132,7 @@ rouses_both step writes reads t u r s a b c orderly main reader = record {
   seated = λ ts. seated_then (t ∷ r ∷ ts) (u ∷ r ∷ ts) (u ∷ s ∷ ts) a b c (seated_front t u (r ∷ ts) a b main.seated)
       (seated_behind u (r ∷ ts) (s ∷ ts) b c (seated_front r s ts b c reader.seated));
   roused = both_roused step writes reads u s b c (grows_next b c orderly reader.adds.grows) main.roused reader.roused;
+  rests = λ of_main of_reader. reader.rests of_reader ∙ main.rests of_main;
 }
 
 -- memory lacked for the first
@@ -143,6 +144,7 @@ rouses_lacks step writes reads t u r a b main = record {
   same = (main.stage.same, refl);
   seated = λ ts. seated_front t u (r ∷ ts) a b main.seated;
   roused = tt;
+  rests = λ of_main of_reader. main.rests of_main;
 }
 
 -- ---- no wake is lost

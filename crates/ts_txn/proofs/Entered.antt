@@ -1,5 +1,5 @@
 -- How a body begins to be passed on: what was made of it, and where its first steps lead.
-use Rattle.std.proofs.Common.{◌≡◌, ◌≢◌, ℕ, ◌+◌, ◌≤◌, ◌⊎◌, inl, inr, List, [], ◌++◌, map, length, Bool, true, false, Option, Some, None, refl, sym, ap, subst, ◌∙◌, arith}
+use Rattle.std.proofs.Common.{◌≡◌, ℕ, ◌+◌, ◌≤◌, inl, inr, List, [], ◌∷◌, ◌++◌, map, length, Bool, true, false, Option, Some, None, refl, sym, ap, subst, ◌∙◌, arith}
 use Rattle.std.specs.Prelude.{⊤}
 use Rattle.std.proofs.lemmas.Bool.{OnTrue_from}
 use Rattle.std.proofs.lemmas.List.{append-nil}
@@ -12,14 +12,17 @@ use Rattle.ts_group.specs.Changes.{KeepsKeys, SameEvents}
 use Rattle.ts_group.specs.Context.{Context, IsOrderly, role_at}
 use Rattle.ts_group.specs.Entries.{Grows}
 use Rattle.ts_link.specs.Link.{Look, all_of}
-use Rattle.ts_transform.specs.Driving.{ActsWithin, IsOfStageIf, KeepsMade}
+use Rattle.ts_transform.specs.Driving.{ActsWithin, BeginsBeside, IsOfStageIf}
 use Rattle.ts_transform.specs.declared.continuation.StageContinuation.{StageContinuation}
-use Rattle.ts_transform.proofs.Kept.{acts_then, kept_if}
+use Rattle.ts_transform.proofs.Carrying.{made_fresh}
+use Rattle.ts_transform.proofs.Kept.{acts_none, acts_then, kept_if}
+use Rattle.ts_transform.proofs.Seating.{seated_as, seated_behind, seated_then}
+use Rattle.ts_transform.specs.Seats.{KeepsSeated}
 use Rattle.ts_transform.specs.Driven.{HasBegun, IsDrivenWhile}
 use Rattle.ts_transform.specs.Loss.{IsCauseOf}
 use Rattle.ts_transform.specs.declared.loss.Loss.{Loss}
 use Rattle.ts_transform.specs.declared.loss.Loss.TheVariants as L
-use Rattle.ts_transform.specs.Flow.{ChainState, HasWork, OnlyFirstWorks, compose, flow, fresh_stage}
+use Rattle.ts_transform.specs.Flow.{ChainState, EndsInOrder, HasWork, OnlyFirstWorks, compose, flow, fresh_stage}
 use Rattle.ts_transform.specs.declared.driven.DrivenChain.{DrivenChain}
 use Rattle.ts_transform.proofs.Starting.{fresh-first, made_if}
 use Rattle.ts_wire.specs.declared.framing.Framing.{Framing}
@@ -41,7 +44,8 @@ use Rattle.ts_txn.specs.Feeding.{OnGoes}
 use Rattle.ts_txn.specs.Finishing.{LeadsBody}
 use Rattle.ts_txn.specs.RelayMoves.{QueuesHead}
 use Rattle.ts_txn.specs.Relaying.{DrivesOn, ReadsBody, RelaysBody, StepsChain}
-use Rattle.ts_txn.specs.Entering.{BeginsChain, BeginsRelay, BeginsRunning, EntersBody, GetsStart, IsFreshRelay}
+use Rattle.ts_txn.specs.Duties.{relay_seats}
+use Rattle.ts_txn.specs.Entering.{BeginsChain, BeginsRelay, BeginsRunning, EntersBody, GetsStart, IsFreshRelay, IsUnbegun, QuietLinks}
 use Rattle.ts_txn.specs.declared.finishing.BodyStep.{BodyStep}
 use Rattle.ts_txn.specs.declared.finishing.BodyStep.TheVariants as S
 use Rattle.ts_txn.specs.declared.phase.Request.{Request}
@@ -66,7 +70,7 @@ fresh_relay rest setup q h d place ps framing none made flows composes is fed = 
   going = ap (λ (k : ChainState _). k.given) made;
   first = first_works d.chain ps made;
   fed = subst (λ (f : Framing). IsFed f [] [] place) is fed;
-  unbegun = record { no_stage = none.0; stopped = none.1; no_reader = refl };
+  unbegun = record { no_stage = none.0; stopped = none.1; no_reader = refl; in_order = (made_fresh ps d.chain made).2 };
 }
 
 -- ---- the chain is started
@@ -83,16 +87,16 @@ begun_spent d now (inr (loss, stopped, is, cause)) lost =
     let same : loss ≡ L.Spent = cc in
     subst (λ (l : Loss). IsCauseOf ⊤ l now) same cause
 
-module _ {P : Type 0} (d e : DrivenChain P) (a b : Context) (within : ActsWithin 1 a b) (made : KeepsMade a b) (driven : OnlyFirstWorks d.chain → IsDrivenWhile FIRST e b.log.state.pending b.roles)
+module _ {P : Type 0} (d e : DrivenChain P) (a b : Context) (within : ActsWithin 1 a b) (rest : BeginsBeside e.table.items a b) (driven : OnlyFirstWorks d.chain → IsDrivenWhile FIRST e b.log.state.pending b.roles)
     (first : OnlyFirstWorks d.chain) (begun : HasBegun e b) where
   pub starts_running : e.lost ≡ None → BeginsChain S.Goes 1 e a b
-  starts_running none = record { within = within; made = made.of_stage; driven = driven first; runs = inl (begun_none e b begun none) }
+  starts_running none = record { within = within; made = rest.made.of_stage; driven = driven first; runs = inl (begun_none e b begun none); seated = rest.seated }
 
   pub starts_spent : e.lost ≡ Some L.Spent → BeginsChain S.Goes 1 e a b
-  starts_spent spent = record { within = within; made = made.of_stage; driven = driven first; runs = inr (begun_spent e b begun spent) }
+  starts_spent spent = record { within = within; made = rest.made.of_stage; driven = driven first; runs = inr (begun_spent e b begun spent); seated = rest.seated }
 
   pub starts_lacks : BeginsChain S.Lacks 1 e a b
-  starts_lacks = record { within = within; made = made.of_stage; driven = driven first; runs = tt }
+  starts_lacks = record { within = within; made = rest.made.of_stage; driven = driven first; runs = tt; seated = rest.seated }
 
 -- ---- and the reader
 
@@ -108,16 +112,24 @@ module _ {P : Type 0} (a b c : Context) (t : StageContinuation) (grows : Grows a
   reader_kept : (step : BodyStep) (most : ℕ) (d : DrivenChain P) → BeginsChain step most d b c → IsOfStageIf c.log.state.pending c.roles READER (Some t)
   reader_kept step most d chain = chain.made READER (Some t) (new_reader b READER t named still)
 
+  -- whatever was set then is of a stage
+  reader_seated : (step : BodyStep) (most : ℕ) (d : DrivenChain P) → BeginsChain step most d b c → KeepsSeated [] (Some t ∷ d.table.items) a c
+  reader_seated step most d chain =
+      seated_then [] (Some t ∷ []) (Some t ∷ d.table.items) a b c (seated_as [] (Some t ∷ []) a b events.pending (λ key none. absurd none)) (seated_behind (Some t) [] d.table.items b c chain.seated)
+
   -- where the chain could not be started
-  pub begins_unstarted : (step : BodyStep) (r : Relay P) → r.reader ≡ Some t → BeginsChain step 1 r.driven b c → BeginsRelay S.Lacks r a c
-  begins_unstarted step r is chain = record {
+  pub begins_unstarted : (step : BodyStep) (r : Relay P) → r.reader ≡ Some t → EndsInOrder r.driven.chain.given r.driven.chain.stages → BeginsChain step 1 r.driven b c → BeginsRelay S.Lacks r a c
+  begins_unstarted step r is ordered chain = record {
     chain = record {
       within = acts_then 0 1 2 (omega arith) (made_acts a b 0 grows turn events) chain.within;
       made = λ role s h. chain.made role s (made_if a b events keys role s h);
       driven = chain.driven;
       runs = tt;
+      seated = seated_then [] [] r.driven.table.items a b c (seated_as [] [] a b events.pending (λ key none. none)) chain.seated;
     };
     of_reader = subst (IsOfStageIf c.log.state.pending c.roles READER) (sym is) (reader_kept step 1 r.driven chain);
+    seated = subst (λ x. KeepsSeated [] (x ∷ r.driven.table.items) a c) (sym is) (reader_seated step 1 r.driven chain);
+    ordered = ordered;
   }
 
   runs_on : (step : BodyStep) (d e : DrivenChain P) (f : Context) → c.log.state.next ≤ f.log.state.next → BeginsRunning S.Goes d c → DrivesOn step d e f → (X : Type 0) → OnGoes step X
@@ -131,18 +143,39 @@ module _ {P : Type 0} (a b c : Context) (t : StageContinuation) (grows : Grows a
   runs_on S.Lacks d e f later runs on X gets = tt
 
   -- and then its first step was made
-  pub begins_all : (step : BodyStep) (d : DrivenChain P) (r : Relay P) (f : Context) → IsOrderly c → r.reader ≡ Some t → BeginsChain S.Goes 1 d b c → StepsChain step 1 d r.driven c f
-      → (X : Type 0) → OnGoes step X → BeginsRelay step r a f
-  begins_all step d r f orderly is chain steps X gets = record {
+  pub begins_all : (step : BodyStep) (d : DrivenChain P) (r : Relay P) (f : Context) → IsOrderly c → r.reader ≡ Some t → EndsInOrder d.chain.given d.chain.stages → BeginsChain S.Goes 1 d b c
+      → StepsChain step 1 d r.driven c f → (X : Type 0) → OnGoes step X → BeginsRelay step r a f
+  begins_all step d r f orderly is ordered chain steps X gets = record {
     chain = record {
       within = acts_then 1 1 2 (omega arith) (acts_then 0 1 1 (omega arith) (made_acts a b 0 grows turn events) chain.within)
           (record { grows = steps.adds.grows; turn = steps.adds.keeps.turn; plain = steps.adds.keeps.plain; few = steps.adds.few });
       made = λ role s h. kept_if c f steps.adds.keeps role s (chain.made role s (made_if a b events keys role s h));
       driven = steps.driven FIRST chain.driven;
       runs = runs_on step d r.driven f (grows_next c f orderly steps.adds.grows) chain.runs steps.on X gets;
+      seated = seated_then [] d.table.items r.driven.table.items a c f
+          (seated_then [] [] d.table.items a b c (seated_as [] [] a b events.pending (λ key none. none)) chain.seated) steps.seats.seated;
     };
     of_reader = subst (IsOfStageIf f.log.state.pending f.roles READER) (sym is) (kept_if c f steps.adds.keeps READER (Some t) (reader_kept S.Goes 1 d chain));
+    seated = subst (λ x. KeepsSeated [] (x ∷ r.driven.table.items) a f) (sym is)
+        (seated_then [] (Some t ∷ d.table.items) (Some t ∷ r.driven.table.items) a c f (reader_seated S.Goes 1 d chain) (seated_behind (Some t) d.table.items r.driven.table.items c f steps.seats.seated));
+    ordered = steps.ordered ordered;
   }
+
+-- where no continuation could be made for the reader
+pub begins_none : {P : Type 0} (r : Relay P) (a b : Context) → Grows a b → b.log.state.held ≡ true → SameEvents a.log.state b.log.state → KeepsKeys a.log.state b.log.state a.roles b.roles → IsUnbegun r
+    → BeginsRelay S.Lacks r a b
+begins_none r a b grows turn events keys fresh = record {
+  chain = record {
+    within = acts_then 0 2 2 (omega arith) (made_acts a b 0 grows turn events) (acts_none 2 b turn);
+    made = λ role s h. made_if a b events keys role s h;
+    driven = λ runs. absurd (let wrong : false ≡ true = sym fresh.stopped ∙ runs in cc);
+    runs = tt;
+    seated = seated_as [] r.driven.table.items a b events.pending (λ key none. absurd none);
+  };
+  of_reader = subst (IsOfStageIf b.log.state.pending b.roles READER) (sym fresh.no_reader) tt;
+  seated = seated_as [] (relay_seats r) a b events.pending (λ key none. absurd none);
+  ordered = fresh.in_order;
+}
 
 -- ---- the facts
 
@@ -251,3 +284,10 @@ module _ (setup : Setup) (refuses : Type 0) where
   -- nothing was queued
   pub unqueued : (v w : View) (q : Request) (h : ResponseHead) → w ≡ v → Relays setup refuses v q h → EndFact setup refuses w E.NoMemory
   unqueued v w q h same f = subst (λ (x : View). EndFact setup refuses x E.NoMemory) (sym same) (record { any = relays_any setup refuses v q h f; by = tt })
+
+-- no call was made
+pub quiet_none : (v w : View) → w ≡ v → QuietLinks v w
+quiet_none v w same = record { client = ap (λ (x : View). x.client.look) same; held = ap (λ (x : View). x.client.inbox) same; origin = ap (λ (x : View). x.origin) same }
+
+pub quiet_head : (text : List ℕ) (mode : Mode) (v w : View) → QueuesHead text mode v w → QuietLinks v w
+quiet_head text mode v w queued = record { client = ap (λ (s : LinkSide). s.look) queued.client; held = ap (λ (s : LinkSide). s.inbox) queued.client; origin = queued.origin }

@@ -1,20 +1,34 @@
--- What one event leads to: a step of its phase, or nothing.
-use Rattle.std.proofs.Common.{◌≡◌, ◌⊎◌, inl, inr, ℕ, List, Bool, Option, refl, sym, subst}
+-- What one event leads to: a step of its phase, a part of a body, one of the last writes, or nothing.
+use Rattle.std.proofs.Common.{◌≡◌, ◌⊎◌, inl, inr, ℕ, List, [], ◌∷◌, Bool, Option, None, refl, sym, ap, subst}
+use Rattle.ts_hooks.specs.declared.txn_end.TxnEnd.{TxnEnd}
 use Rattle.ts_hooks.specs.declared.txn_end.TxnEnd.TheVariants as E
 use Rattle.ts_group.specs.Context.{Context}
 use Rattle.ts_link.specs.Link.{Look}
-use Rattle.ts_transform.specs.Driving.{IsDueAfter}
+use Rattle.ts_journal.specs.declared.entry.Pending.{Pending}
+use Rattle.ts_transform.specs.Driving.{IsDueAfter, SetsOnly}
+use Rattle.ts_transform.specs.Seats.{AllSeated, HasKey}
+use Rattle.ts_transform.specs.declared.continuation.StageContinuation.{StageContinuation}
 use Rattle.ts_transform.proofs.Setting.{only_none}
-use Rattle.ts_txn.specs.Driven.{HandlesEvent, StaysOrLacks, TakesEvent}
+use Rattle.std.specs.Prelude.{⊤}
+use Rattle.ts_txn.specs.Course.{course_after}
+use Rattle.ts_txn.specs.CourseCover.{IsCoveredNow, StaysOnOrLacks}
+use Rattle.ts_txn.specs.Driven.{BeginsIn, BeginsOnTime, DueTo, HandlesEvent, HandlesOn, HandlesStep, HandlesWrite, MindsCourse, TakesEvent, TakesOn, TakesStep, delay_of}
+use Rattle.ts_txn.specs.Entering.{QuietLinks}
 use Rattle.ts_txn.specs.Steps.{LeavesClient, LeavesClientIn, LeavesOrigin, LeavesOriginIn, LeavesSides, MindsLinksIn, WaitsRightly}
-use Rattle.ts_txn.specs.Holding.{IfTold, StepKeeps}
-use Rattle.ts_txn.specs.View.{View, view_of}
+use Rattle.ts_txn.specs.Holding.{IfTold}
+use Rattle.ts_txn.specs.View.{LinkSide, View, view_of}
+use Rattle.ts_txn.specs.declared.course.Course.{Course}
+use Rattle.ts_txn.specs.declared.course.Course.TheVariants as K
+use Rattle.ts_txn.specs.Feeding.{OnGoes}
+use Rattle.ts_txn.specs.declared.finishing.BodyStep.{BodyStep}
+use Rattle.ts_txn.specs.declared.finishing.BodyStep.TheVariants as S
 use Rattle.ts_txn.specs.declared.parts.Core.{Core}
+use Rattle.ts_txn.specs.declared.phase.Next.{Next}
 use Rattle.ts_txn.specs.declared.phase.Next.TheVariants as N
 use Rattle.ts_txn.specs.declared.phase.Phase.{Phase}
 use Rattle.ts_txn.specs.declared.phase.Phase.TheVariants as P
 use Rattle.ts_txn.specs.declared.phase.Step.{Step}
-use Rattle.ts_txn.proofs.Fitting.{same_core}
+use Rattle.ts_txn.specs.declared.relay.Relay.{Relay}
 use Rattle.ts_txn.proofs.Leaving.{still_leaves}
 use Rattle.ts_txn.proofs.Sparing.{still_spares}
 
@@ -53,38 +67,126 @@ module _ (v w : View) where
   spares_in (P.TxnClose end) spares = spares
   spares_in (P.Ended end) spares = spares
 
-module _ {C O : Type 0} (ct ot : Bool) (client : C → Look) (origin : O → Look) (paired : C → O → Type 0) (refuses : O → List ℕ → Type 0) (left : C → O → Option ℕ) where
-  -- the phase that a step answered, or the end for want of memory
-  minds_on : (s t : Core C O) (p d : Phase) (made : Step) → MindsLinksIn ct ot client origin refuses left s t p made → StaysOrLacks made.phase d
-      → (d ≡ P.Ended E.NoMemory) ⊎ ((t ≡ s) × (d ≡ p)) ⊎ MindsLinksIn ct ot client origin refuses left s t p (record { phase = d; next = made.next })
-  minds_on s t p d made minds (inl same) =
-      inr (inr (subst (λ (x : Phase). MindsLinksIn ct ot client origin refuses left s t p (record { phase = x; next = made.next })) (sym same) minds))
-  minds_on s t p d made minds (inr lacks) = inl lacks
+  -- a body begins
+  pub leaves_begun : (p : Phase) → BeginsIn p v w → LeavesSides p v w
+  leaves_begun p begins = record {
+    origin = leaves_in p (record { taken = ap (λ (s : LinkSide). s.look.taken) (calls p begins).origin; waits = ap (λ (s : LinkSide). s.outbox) (calls p begins).origin });
+    client = spares_in p (record { given = ap (λ (l : Look). l.given) (calls p begins).client; held = (calls p begins).held });
+  }
+    where
+      calls : (p : Phase) → BeginsIn p v w → QuietLinks v w
+      calls P.Fresh begins = absurd begins
+      calls P.TxnStart begins = absurd begins
+      calls P.ReadRequest begins = absurd begins
+      calls (P.ReadRequestHdr q) begins = absurd begins
+      calls (P.OsDns q) begins = absurd begins
+      calls (P.SendRequestHdr q) begins = absurd begins
+      calls (P.SendRequest q) begins = absurd begins
+      calls (P.Upload q) begins = absurd begins
+      calls (P.ReadResponse q) begins = absurd begins
+      calls (P.ReadResponseHdr q h) begins = absurd begins
+      calls (P.ResponseTransform q h) begins = begins
+      calls (P.SendResponseHdr a) begins = absurd begins
+      calls (P.Sending a) begins = absurd begins
+      calls (P.TxnClose end) begins = absurd begins
+      calls (P.Ended end) begins = absurd begins
 
-  -- a step was made
-  pub takes_step : (s t : Core C O) (was p d : Phase) (made : Step) → was ≡ p → StepKeeps client origin paired refuses s t → MindsLinksIn ct ot client origin refuses left s t was made
-      → WaitsRightly made.next (view_of client origin s) (view_of client origin t) → IfTold ct ot (LeavesSides was (view_of client origin s) (view_of client origin t))
-      → StaysOrLacks made.phase d → TakesEvent ct ot client origin paired refuses left s t p d made.next
-  takes_step s t was p d made same keeps minds waits leaves stays =
-      let v = view_of client origin s in
-      let w = view_of client origin t in
-      record {
-        keeps = keeps;
-        minds = minds_on s t p d made (subst (λ (x : Phase). MindsLinksIn ct ot client origin refuses left s t x made) same minds) stays;
-        waits = waits;
-        leaves = λ told also. subst (λ (x : Phase). LeavesSides x v w) same (leaves told also);
-      }
+module _ {C O Q : Type 0} (ct ot : Bool) (client : C → Look) (origin : O → Look) (paired : C → O → Type 0) (refuses : O → List ℕ → Type 0) (left : C → O → Option ℕ) where
+  -- a step of a phase was made, and led to the phase that it answered, or to the end for want of memory
+  pub takes_step : (s t : Core C O) (p : Phase) (new : Course Q) (made : Step) → MindsLinksIn ct ot client origin refuses left s t p made
+      → WaitsRightly made.next (view_of client origin s) (view_of client origin t) → IfTold ct ot (LeavesSides p (view_of client origin s) (view_of client origin t))
+      → StaysOnOrLacks (K.Phased made.phase) new → TakesStep ct ot client origin paired refuses left s t p made.next new
+  takes_step s t p new made minds waits leaves led = record { minds = by_lead led; waits = waits; leaves = leaves }
+    where
+      by_lead : StaysOnOrLacks (K.Phased made.phase) new
+          → (new ≡ K.Phased (P.Ended E.NoMemory)) ⊎ ((t ≡ s) × (new ≡ K.Phased p)) ⊎ MindsCourse ct ot client origin paired refuses left s t p made.next new
+      by_lead (inl same) = inr (inr (subst (MindsCourse ct ot client origin paired refuses left s t p made.next) (sym same) minds))
+      by_lead (inr lacks) = inl lacks
 
-  -- nothing was done
-  pub takes_nothing : (t : Core C O) (p : Phase) → TakesEvent ct ot client origin paired refuses left t t p p N.Go
-  takes_nothing t p =
+  -- where a body that begins leads: it is passed on, or memory lacked
+  pub begin_led : (r : Relay Q) (step : BodyStep) (new : Course Q) → OnGoes step ⊤ → StaysOnOrLacks (course_after r step) new
+      → (new ≡ K.Relaying r) ⊎ (new ≡ K.Phased (P.Ended E.NoMemory))
+  begin_led r S.Goes new goes led = led
+  begin_led r S.Waits new goes led = absurd goes
+  begin_led r (S.Finishes end) new goes led = absurd goes
+  begin_led r (S.Closes end) new goes led = absurd goes
+  begin_led r S.Lacks new goes (inl lacks) = inr lacks
+  begin_led r S.Lacks new goes (inr lacks) = inr lacks
+
+  -- a body was begun, or memory lacked for that
+  pub takes_begin : (s t : Core C O) (p : Phase) (new : Course Q) (r : Relay Q) → BeginsIn p (view_of client origin s) (view_of client origin t)
+      → (new ≡ K.Relaying r) ⊎ (new ≡ K.Phased (P.Ended E.NoMemory)) → TakesStep ct ot client origin paired refuses left s t p N.Go new
+  takes_begin s t p new r begins led = record {
+    minds = by_lead led;
+    waits = tt;
+    leaves = λ told also. leaves_begun (view_of client origin s) (view_of client origin t) p begins;
+  }
+    where
+      by_lead : (new ≡ K.Relaying r) ⊎ (new ≡ K.Phased (P.Ended E.NoMemory))
+          → (new ≡ K.Phased (P.Ended E.NoMemory)) ⊎ ((t ≡ s) × (new ≡ K.Phased p)) ⊎ MindsCourse ct ot client origin paired refuses left s t p N.Go new
+      by_lead (inl same) = inr (inr (subst (MindsCourse ct ot client origin paired refuses left s t p N.Go) (sym same) begins))
+      by_lead (inr lacks) = inl lacks
+
+  -- memory lacked for its head
+  pub takes_lost : (s t : Core C O) (p : Phase) → BeginsIn p (view_of client origin s) (view_of client origin t)
+      → TakesStep {Q = Q} ct ot client origin paired refuses left s t p N.Go (K.Phased (P.Ended E.NoMemory))
+  takes_lost s t p begins = record {
+    minds = inl refl;
+    waits = tt;
+    leaves = λ told also. leaves_begun (view_of client origin s) (view_of client origin t) p begins;
+  }
+
+  -- the event of the next step is due then
+  pub due_step : (main : Option StageContinuation) (a b : Context) (next : Next) (p : Phase) (new : Course Q) → StaysOnOrLacks (K.Phased p) new
+      → SetsOnly (IsDueAfter (delay_of next) a.moment) a b → DueTo main next new a b
+  due_step main a b next p new (inl same) due = subst (λ x. DueTo main next x a b) (sym same) due
+  due_step main a b next p new (inr lacks) due = subst (λ x. DueTo main next x a b) (sym lacks) due
+
+  -- where a body was begun, or nothing is pending any more
+  pub due_begin : (main : Option StageContinuation) (v : View) (u : Option StageContinuation) (a b : Context) (new : Course Q) (r : Relay Q) → BeginsOnTime main r a b → IsCoveredNow v u new b
+      → (new ≡ K.Relaying r) ⊎ (new ≡ K.Phased (P.Ended E.NoMemory)) → DueTo main N.Go new a b
+  due_begin main v u a b new r begins covered (inl same) = subst (λ x. DueTo main N.Go x a b) (sym same) begins
+  due_begin main v u a b new r begins covered (inr lacks) =
+      subst (λ x. DueTo main N.Go x a b) (sym lacks) (none_due (subst (λ x. IsCoveredNow v u x b) lacks covered))
+    where
+      unseated : (p : Pending) → HasKey (None ∷ []) p.key → ⊥
+      unseated p has = has
+
+      none_due : IsCoveredNow {Q = Q} v u (K.Phased (P.Ended E.NoMemory)) b → DueTo {Q = Q} main N.Go (K.Phased (P.Ended E.NoMemory)) a b
+      none_due h n p none there = absurd (unseated p (subst (λ m. AllSeated b.log.state.pending (m ∷ [])) h.idles h.seated n p there))
+
+  -- nothing was done in a phase
+  pub quiet_step : (main : Option StageContinuation) (t : Core C O) (p : Phase) (a : Context) → HandlesStep {Q = Q} ct ot client origin paired refuses left t t a a main p (K.Phased p)
+  quiet_step main t p a =
       let v = view_of client origin t in
       record {
-        keeps = same_core client origin paired refuses t;
-        minds = inr (inl (refl, refl));
-        waits = tt;
-        leaves = λ told also. record { origin = leaves_in v v p (still_leaves v v refl); client = spares_in v v p (still_spares v v refl) };
+        next = N.Go;
+        takes = record {
+          minds = inr (inl (refl, refl));
+          waits = tt;
+          leaves = λ told also. record { origin = leaves_in v v p (still_leaves v v refl); client = spares_in v v p (still_spares v v refl) };
+        };
+        due = only_none (IsDueAfter 0 a.moment) a;
       }
 
-  pub handles_nothing : (t : Core C O) (p : Phase) (a : Context) → HandlesEvent ct ot client origin paired refuses left t t p p a a
-  handles_nothing t p a = record { next = N.Go; takes = takes_nothing t p; due = only_none (IsDueAfter 0 a.moment) a }
+  -- nor while the last is written
+  pub quiet_write : (t : Core C O) (end : TxnEnd) (a : Context) → HandlesWrite {Q = Q} ct ot client origin paired refuses left t t a a end (K.Finishing end)
+  quiet_write t end a = record { step = S.Goes; takes = inl (refl, refl, refl); due = only_none (IsDueAfter 0 a.moment) a }
+
+  -- where an event leads, without the moments of those that are set
+  takes_on : (s t : Core C O) (a b : Context) (main : Option StageContinuation) (old new : Course Q) → HandlesOn ct ot client origin paired refuses left s t a b main old new
+      → TakesOn ct ot client origin paired refuses left s t old new
+  takes_on s t a b main (K.Phased p) new h = (h.next, h.takes)
+  takes_on s t a b main (K.Relaying r) new h = record {
+    step = h.step;
+    after = h.after;
+    led = h.led;
+    client_late = h.links.client_late;
+    origin_late = h.links.origin_late;
+    minds = h.links.minds;
+  }
+  takes_on s t a b main (K.Finishing end) new h = (h.step, h.takes)
+
+  pub takes_event : (s t : Core C O) (a b : Context) (main : Option StageContinuation) (old new : Course Q) → HandlesEvent ct ot client origin paired refuses left s t a b main old new
+      → TakesEvent ct ot client origin paired refuses left s t old new
+  takes_event s t a b main old new h = record { keeps = h.keeps; takes = takes_on s t a b main old new h.handles }

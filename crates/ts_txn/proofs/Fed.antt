@@ -1,7 +1,8 @@
 -- A reader of bodies that is fed with what waits, and whether a body ends with its bytes.
-use Rattle.std.proofs.Common.{◌≡◌, ◌≢◌, ℕ, ◌≤◌, List, [], ◌++◌, length, take, drop, Bool, true, false, refl, sym, ap, subst, ◌∙◌}
+use Rattle.std.proofs.Common.{◌≡◌, ◌≢◌, ℕ, ◌<◌, ◌≤◌, ◌⊎◌, inl, inr, arith, List, [], ◌++◌, length, take, drop, true, false, refl, sym, ap, subst, ◌∙◌}
 use Rattle.std.specs.Prelude.{slice_range, ◌↔◌}
-use Rattle.std.proofs.lemmas.List.{append-nil, take-append-drop, take-take}
+use Rattle.httparse.proofs.RunLemmas.{length-slice_range}
+use Rattle.std.proofs.lemmas.List.{append-nil, length-take, take-append-drop, take-take}
 use Rattle.ts_transform.specs.Flow.{ChainState}
 use Rattle.ts_wire.specs.declared.body.BodyEnd.{BodyEnd}
 use Rattle.ts_wire.specs.declared.body.BodyEnd.TheVariants as N
@@ -22,13 +23,29 @@ block_taken before after block n front within left =
     ∙ ap (λ (x : List ℕ). x ++ drop n before) (sym (ap (take n) front ∙ take-take n (length block) before within))
     ∙ ap (λ (x : List ℕ). take n block ++ x) (sym left)
 
-pub feeds_by : {P : Type 0} (old new : Place) (before after block : List ℕ) (fed : wire.Fed) (c d : ChainState P) → block ≡ take (length block) before
+-- no more of it is body
+part_within : (block : List ℕ) (from to n : ℕ) → from ≤ to → to ≤ n → n ≤ length block → length (slice_range block from to) ≤ length (take n block)
+part_within block from to n ordered within taken =
+    omega (arith, ordered, within, taken, length-slice_range block from to ordered (omega (arith, within, taken)), length-take n block)
+
+-- some of a block is used, until the body is over
+takes_some : (old new : Place) (block : List ℕ) (fed : wire.Fed) → 0 < length block → TakesBytes old new block fed → state_of old.phase ≡ B.Unfinished
+    → (0 < length (take fed.taken block)) ⊎ (state_of new.phase ≢ B.Unfinished)
+takes_some old new block fed some takes is = by_progress (takes.progress some is)
+  where
+    by_progress : (0 < fed.taken) ⊎ (fed.state ≢ B.Unfinished) → (0 < length (take fed.taken block)) ⊎ (state_of new.phase ≢ B.Unfinished)
+    by_progress (inl taken) = inl (omega (arith, taken, takes.taken, length-take fed.taken block))
+    by_progress (inr over) = inr (λ e. over (takes.state ∙ e))
+
+pub feeds_by : {P : Type 0} (old new : Place) (before after block : List ℕ) (fed : wire.Fed) (c d : ChainState P) → 0 < length block → block ≡ take (length block) before
     → TakesBytes old new block fed → GoesOn old new (take fed.taken block) (slice_range block fed.from fed.to) → after ≡ drop fed.taken before
     → GetsPart fed.state (slice_range block fed.from fed.to) c d → FeedsBody old new before after c d
-feeds_by old new before after block fed c d front takes goes left gets = record {
+feeds_by old new before after block fed c d some front takes goes left gets = record {
   piece = take fed.taken block;
   part = slice_range block fed.from fed.to;
+  within = part_within block fed.from fed.to fed.taken takes.ordered takes.within takes.taken;
   taken = block_taken before after block fed.taken front takes.taken left;
+  progress = takes_some old new block fed some takes;
   goes = goes;
   gets = subst (λ (s : BodyState). GetsPart s (slice_range block fed.from fed.to) c d) takes.state gets;
 }

@@ -1,5 +1,5 @@
 -- The last writes of a transaction that passed a body on: where each answer of the client's link leads.
-use Rattle.std.proofs.Common.{◌≡◌, ◌≢◌, ℕ, List, [], Bool, true, false, refl, sym, ap, subst, ◌∙◌}
+use Rattle.std.proofs.Common.{◌≡◌, ℕ, List, [], Bool, true, false, refl, sym, subst, ◌∙◌}
 use Rattle.ts_config.specs.declared.setup.Setup.{Setup}
 use Rattle.ts_hooks.specs.declared.txn_end.TxnEnd.{TxnEnd}
 use Rattle.ts_hooks.specs.declared.txn_end.TxnEnd.TheVariants as E
@@ -12,7 +12,7 @@ use Rattle.ts_txn.specs.Moving.{SideWrites, WritesClient}
 use Rattle.ts_txn.specs.Facts.{OriginTook, Served}
 use Rattle.ts_txn.specs.Ends.{AnyEnd, EndFact, EndsBy, HasText, Relayed, SomeText}
 use Rattle.ts_txn.specs.Ends as ends
-use Rattle.ts_txn.specs.Finishing.{FailsLate, IsFinishing, QueuesBlock, QueuesFor}
+use Rattle.ts_txn.specs.Finishing.{IsFinishing, QueuesBlock, QueuesFor}
 use Rattle.ts_txn.proofs.OneSide.{write_count, write_failed}
 use Rattle.ts_txn.proofs.Owns.{all_took}
 use Rattle.ts_txn.proofs.Relaying.{text_written}

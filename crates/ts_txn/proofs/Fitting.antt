@@ -27,7 +27,7 @@ module _ {C O : Type 0} (client : C → Look) (origin : O → Look) (paired : C 
     refusal = record { still = λ c h. h; before = λ c h. h };
   }
 
-  pub fits_on : (tag : TxnTag) (t u : Txn C O) → StepKeeps client origin paired refuses t.core u.core → IsTxnOf client origin tag t → IsTxnOf client origin tag u
+  pub fits_on : {Q : Type 0} (tag : TxnTag) (t u : Txn C O Q) → StepKeeps client origin paired refuses t.core u.core → IsTxnOf client origin tag t → IsTxnOf client origin tag u
   fits_on tag t u keeps h = record {
     number = keeps.number ∙ h.number;
     setup = ap (λ s. arc_value s) keeps.setup ∙ h.setup;

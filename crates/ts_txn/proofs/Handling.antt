@@ -1,145 +1,163 @@
 -- A transaction is sound again when it was started, and when an event was handled.
-use Rattle.std.proofs.Common.{◌≡◌, ◌≤◌, inl, inr, ℕ, List, [], Bool, true, false, Option, Some, None, arith, refl, sym, subst}
+use Rattle.std.proofs.Common.{◌≡◌, ◌≤◌, ◌⊎◌, inl, inr, ℕ, List, [], Bool, true, false, Option, None, arith, sym, subst}
 use Rattle.std.specs.Arc.{arc_value}
+use Rattle.ts_config.specs.declared.setup.TransformLine.{TransformLine}
 use Rattle.ts_journal.specs.declared.entry.Event.{Event}
-use Rattle.ts_journal.specs.declared.entry.Pending.{Pending}
 use Rattle.ts_journal.specs.declared.entry.TheConstants.{GREATEST}
 use Rattle.ts_group.specs.declared.action.Named.{Named}
 use Rattle.ts_group.specs.Calls.{IsAsked, IsCalled}
 use Rattle.ts_group.specs.Context.{Context}
 use Rattle.ts_link.specs.Link.{Look}
-use Rattle.ts_transform.specs.Driving.{IsOfStageIf, IsRousedIf, unroused, works_at}
+use Rattle.ts_transform.specs.Driving.{IsOfStageIf, unroused, works_at}
 use Rattle.ts_transform.specs.declared.continuation.StageContinuation.{StageContinuation}
-use Rattle.ts_txn.specs.Cover.{HasNextEvent, HasNextEventOr, Idles, Seated, is_fresh}
+use Rattle.ts_config.specs.declared.setup.Setup.{Setup}
+use Rattle.ts_hooks.specs.declared.txn_end.TxnEnd.{TxnEnd}
+use Rattle.ts_group.proofs.Facts.{plain_at}
+use Rattle.ts_txn.specs.Course.{CourseFact, CourseHolds, finish_after}
+use Rattle.ts_txn.specs.Duties.{IsBodyCovered}
+use Rattle.ts_txn.specs.LoweringCourse.{IsOfLinesOn}
+use Rattle.ts_txn.specs.declared.relay.Relay.{Relay}
+use Rattle.ts_txn.specs.CourseCover.{BodyHasEvents, CoversAlone, HasEventsOn, IsAlone, IsCoveredNow, IsCoveredOn, ProceedsOn, StaysOnOrLacks, set_after, set_leaving}
+use Rattle.ts_txn.specs.Cover.{is_fresh_on}
+use Rattle.ts_txn.specs.Holding.{IfTold, StepKeeps}
+use Rattle.ts_txn.specs.Making.{end_of}
+use Rattle.ts_txn.specs.View.{OriginRefuses, View, view_of}
+use Rattle.ts_txn.specs.World.{HoldsOn, IsSoundNow, IsSoundOn, IsSoundTxn}
+use Rattle.ts_txn.specs.declared.course.Course.{Course}
+use Rattle.ts_txn.specs.declared.course.Course.TheVariants as K
 use Rattle.ts_txn.specs.declared.driver.TheConstants.{MAIN}
-use Rattle.ts_txn.specs.Driven.{BeginsOrLacks, SeatedAfter}
-use Rattle.ts_txn.specs.Facts.{Asking}
-use Rattle.ts_txn.specs.Holding.{PhaseHolds, StepKeeps, PhaseFact}
-use Rattle.ts_txn.specs.Making.{end_of_phase}
-use Rattle.ts_txn.specs.View.{IsPaired, OriginRefuses, view_of}
-use Rattle.ts_txn.specs.World.{IsSoundTxn}
-use Rattle.ts_txn.specs.declared.phase.Phase.{Phase}
+use Rattle.ts_txn.specs.declared.finishing.BodyStep.{BodyStep}
+use Rattle.ts_txn.specs.declared.finishing.BodyStep.TheVariants as S
+use Rattle.ts_txn.specs.declared.parts.Core.{Core}
+use Rattle.ts_txn.specs.declared.phase.Next.{Next}
+use Rattle.ts_txn.specs.declared.phase.Next.TheVariants as N
 use Rattle.ts_txn.specs.declared.phase.Phase.TheVariants as P
 use Rattle.ts_txn.specs.declared.txn.Txn.{Txn}
-use Rattle.ts_txn.proofs.Asks.{asking_any, lacks_memory}
-use Rattle.ts_txn.proofs.Coverage.{covered_later}
-use Rattle.ts_txn.proofs.Seating.{called_main, called_other, called_quiet, same_next}
+use Rattle.ts_txn.proofs.CourseCalls.{PassesNoBody, alone_called, at_rest_on, later_covered, on_other, on_quiet, proceeds_phase}
+use Rattle.ts_txn.proofs.Coursing.{course_settled, stays_on}
+use Rattle.ts_txn.proofs.Coverage.{fresh_on}
 
-fresh_is : (p : Phase) → is_fresh p ≡ true → p ≡ P.Fresh
-fresh_is P.Fresh is = refl
-fresh_is P.TxnStart is = absurd (cc)
-fresh_is P.ReadRequest is = absurd (cc)
-fresh_is (P.ReadRequestHdr q) is = absurd (cc)
-fresh_is (P.OsDns q) is = absurd (cc)
-fresh_is (P.SendRequestHdr q) is = absurd (cc)
-fresh_is (P.SendRequest q) is = absurd (cc)
-fresh_is (P.Upload q) is = absurd (cc)
-fresh_is (P.ReadResponse q) is = absurd (cc)
-fresh_is (P.ReadResponseHdr q r) is = absurd (cc)
-fresh_is (P.ResponseTransform q r) is = absurd (cc)
-fresh_is (P.SendResponseHdr a) is = absurd (cc)
-fresh_is (P.Sending a) is = absurd (cc)
-fresh_is (P.TxnClose end) is = absurd (cc)
-fresh_is (P.Ended end) is = absurd (cc)
+-- one that was started and has not ended goes on
+goes_on : {Q : Type 0} (course : Course Q) → is_fresh_on course ≡ false → end_of course ≡ None → ProceedsOn course
+goes_on (K.Phased p) started lasts = proceeds_phase p started lasts
+goes_on (K.Relaying r) started lasts = tt
+goes_on (K.Finishing end) started lasts = tt
 
--- one that goes on has its continuation roused
-goes_roused : (p : Phase) (main : Option StageContinuation) → is_fresh p ≡ false → end_of_phase p ≡ None → HasNextEvent p main → IsRousedIf main
-goes_roused P.Fresh main started lasts has = absurd (cc)
-goes_roused P.TxnStart main started lasts has = has
-goes_roused P.ReadRequest main started lasts has = has
-goes_roused (P.ReadRequestHdr q) main started lasts has = has
-goes_roused (P.OsDns q) main started lasts has = has
-goes_roused (P.SendRequestHdr q) main started lasts has = has
-goes_roused (P.SendRequest q) main started lasts has = has
-goes_roused (P.Upload q) main started lasts has = has
-goes_roused (P.ReadResponse q) main started lasts has = has
-goes_roused (P.ReadResponseHdr q r) main started lasts has = has
-goes_roused (P.ResponseTransform q r) main started lasts has = has
-goes_roused (P.SendResponseHdr a) main started lasts has = has
-goes_roused (P.Sending a) main started lasts has = has
-goes_roused (P.TxnClose end) main started lasts has = has
-goes_roused (P.Ended end) main started lasts has = absurd (cc)
-
--- and so an event
-no_roused : (roles : List Named) (main : Option StageContinuation) → IsOfStageIf [] roles MAIN main → IsRousedIf main → ⊥
-no_roused roles None of_main roused = roused
-no_roused roles (Some t) of_main roused =
-    let event = of_main.event roused in
-    let none : ◌≡◌ {A = Option Pending} None (Some event.event) = event.there in
-    absurd (cc)
-
--- so with nothing pending it has ended, or the numbers are used up
-pub at_rest : {C O : Type 0} (ct ot : Bool) (client : C → Look) (origin : O → Look) (paired : C → O → Type 0) (refuses : O → List ℕ → Type 0) (t : Txn C O)
-    (next : ℕ) (roles : List Named) → is_fresh t.phase ≡ false → end_of_phase t.phase ≡ None → IsSoundTxn ct ot client origin paired refuses t [] next roles → GREATEST ≤ next
-at_rest ct ot client origin paired refuses t next roles started lasts h = by_cover h.covered
+-- before it was started, nothing is pending but of its first continuation
+fresh_alone : {Q : Type 0} (v : View) (main : Option StageContinuation) (course : Course Q) (now : Context) → is_fresh_on course ≡ true → IsCoveredNow v main course now → IsAlone main now
+fresh_alone {Q} v main course now fresh covered =
+    let h : IsCoveredNow {Q = Q} v main (K.Phased P.Fresh) now = subst (λ x. IsCoveredNow v main x now) (fresh_on course fresh) covered in
+    record { seated = h.seated; plain = h.plain; of_main = by_event h.covered }
   where
-    by_cover : HasNextEventOr t.phase t.main next → GREATEST ≤ next
-    by_cover (inr spent) = spent
-    by_cover (inl has) = absurd (no_roused roles t.main h.seated.of_main (goes_roused t.phase t.main started lasts has))
+    by_event : HasEventsOn {Q = Q} v main (K.Phased P.Fresh) now.log.state.pending now.roles ⊎ (GREATEST ≤ now.log.state.next)
+        → IsOfStageIf now.log.state.pending now.roles MAIN main ⊎ (GREATEST ≤ now.log.state.next)
+    by_event (inl has) = inl has.0
+    by_event (inr spent) = inr spent
 
-module _ {C O : Type 0} (ct ot : Bool) (client : C → Look) (origin : O → Look) (paired : C → O → Type 0) (refuses : O → List ℕ → Type 0) where
+-- at most one event is set where a body is left, and behind the step of a phase
+pub leaving_one : (step : BodyStep) → set_leaving step ≤ 1
+leaving_one S.Goes = omega arith
+leaving_one S.Waits = omega arith
+leaving_one (S.Finishes end) = omega arith
+leaving_one (S.Closes end) = omega arith
+leaving_one S.Lacks = omega arith
+
+pub after_one : (next : Next) → set_after next ≤ 1
+after_one N.Go = omega arith
+after_one N.Wait = omega arith
+after_one N.Done = omega arith
+
+-- a course that is no body goes through no line
+pub lines_stay : (setup : Setup) {Q : Type 0} (rest : Q → List ℕ → List ℕ) (led new : Course Q) → StaysOnOrLacks led new → IsOfLinesOn setup rest led → IsOfLinesOn setup rest new
+lines_stay setup rest led new (inl same) lines = subst (λ x. IsOfLinesOn setup rest x) (sym same) lines
+lines_stay setup rest led new (inr lacks) lines = subst (λ x. IsOfLinesOn setup rest x) (sym lacks) tt
+
+pub lines_written : (setup : Setup) {Q : Type 0} (rest : Q → List ℕ → List ℕ) (end : TxnEnd) (step : BodyStep) → IsOfLinesOn setup rest (finish_after {Q = Q} end step)
+lines_written setup rest end S.Goes = tt
+lines_written setup rest end S.Waits = tt
+lines_written setup rest end (S.Finishes other) = tt
+lines_written setup rest end (S.Closes other) = tt
+lines_written setup rest end S.Lacks = tt
+
+module _ {C O Q : Type 0} (ct ot : Bool) (client : C → Look) (origin : O → Look) (paired : C → O → Type 0) (refuses : O → List ℕ → Type 0) (rest : Q → List ℕ → List ℕ)
+    (whole : TransformLine → List ℕ → List ℕ) where
+  -- with nothing pending it has ended, or the numbers are used up
+  pub at_rest : (t : Txn C O Q) (next : ℕ) (roles : List Named) → is_fresh_on t.course ≡ false → end_of t.course ≡ None
+      → IsSoundTxn ct ot client origin paired refuses rest whole t [] next roles → GREATEST ≤ next
+  at_rest t next roles started lasts h = at_rest_on (view_of client origin t.core) t.main t.course next roles (goes_on t.course started lasts) h.covered
+
   -- it was started
-  pub sound_begun : (t u : Txn C O) (a b : Context)
-      → IsSoundTxn ct ot client origin paired refuses t a.log.state.pending a.log.state.next a.roles → u.core ≡ t.core → is_fresh t.phase ≡ true → BeginsOrLacks u.phase
-      → SeatedAfter t.main u.main a b → Idles u.phase u.main → HasNextEventOr u.phase u.main b.log.state.next
-      → IsSoundTxn ct ot client origin paired refuses u b.log.state.pending b.log.state.next b.roles
-  sound_begun t u a b h same fresh begins seated idles covered = record {
-    holds = subst (λ k. PhaseHolds ct ot client origin refuses k u.phase) (sym same) (λ told also. by_phase (subst (PhaseFact (arc_value t.core.setup) (OriginRefuses client refuses t.core) (view_of client origin t.core)) (fresh_is t.phase fresh) (h.holds told also)) begins);
-    pair = subst (λ k. IsPaired paired k) (sym same) h.pair;
-    seated = seated h.seated;
-    idles = idles;
-    covered = covered;
-  }
-    where
-      by_phase : Asking (view_of client origin t.core) → BeginsOrLacks u.phase → PhaseFact (arc_value t.core.setup) (OriginRefuses client refuses t.core) (view_of client origin t.core) u.phase
-      by_phase asks (inl is) = subst (PhaseFact (arc_value t.core.setup) (OriginRefuses client refuses t.core) (view_of client origin t.core)) (sym is) asks
-      by_phase asks (inr is) = subst (PhaseFact (arc_value t.core.setup) (OriginRefuses client refuses t.core) (view_of client origin t.core)) (sym is)
-          (lacks_memory (arc_value t.core.setup) (OriginRefuses client refuses t.core) (view_of client origin t.core) (asking_any (arc_value t.core.setup) (OriginRefuses client refuses t.core) (view_of client origin t.core) asks))
+  pub sound_begun : (t u : Txn C O Q) (a b : Context) → IsSoundTxn ct ot client origin paired refuses rest whole t a.log.state.pending a.log.state.next a.roles → u.core ≡ t.core
+      → is_fresh_on t.course ≡ true → StaysOnOrLacks (K.Phased P.TxnStart) u.course → CoversAlone t.main u.main u.course a b
+      → IsSoundTxn ct ot client origin paired refuses rest whole u b.log.state.pending b.log.state.next b.roles
+  sound_begun t u a b h same fresh led covers =
+      let was : CourseHolds ct ot client origin refuses rest t.core (K.Phased P.Fresh) = subst (CourseHolds ct ot client origin refuses rest t.core) (fresh_on t.course fresh) h.stands.holds in
+      subst (λ k. IsSoundNow ct ot client origin paired refuses rest whole k u.main u.course b) (sym same) (record {
+        stands = record {
+          holds = λ told also. stays_on (arc_value t.core.setup) (OriginRefuses client refuses t.core) rest (view_of client origin t.core) (K.Phased P.TxnStart) u.course (was told also) led;
+          pair = h.stands.pair;
+          acts = h.stands.acts;
+          lines = lines_stay (arc_value t.core.setup) rest (K.Phased P.TxnStart) u.course led tt;
+        };
+        covered = covers (fresh_alone (view_of client origin t.core) t.main t.course a fresh h.covered) (view_of client origin t.core);
+      })
 
   -- its group was asked, of which it knows nothing
-  pub sound_asked : (t : Txn C O) (now : Context) → IsAsked (λ s roles. IsSoundTxn ct ot client origin paired refuses t s.pending s.next roles) now
-      → IsSoundTxn ct ot client origin paired refuses t now.log.state.pending now.log.state.next now.roles
-  sound_asked t now asked = record {
-    holds = asked.sound.holds;
-    pair = asked.sound.pair;
-    seated = subst (λ ps. Seated ps now.roles t.main) (sym asked.pending) asked.sound.seated;
-    idles = asked.sound.idles;
-    covered = covered_later t.phase t.main asked.before.next now.log.state.next (omega (arith, asked.next)) asked.sound.covered;
-  }
+  pub sound_asked : (t : Txn C O Q) (now : Context) → IsAsked (λ s roles. IsSoundTxn ct ot client origin paired refuses rest whole t s.pending s.next roles) now
+      → IsSoundTxn ct ot client origin paired refuses rest whole t now.log.state.pending now.log.state.next now.roles
+  sound_asked t now asked =
+      subst (λ ps. IsSoundOn ct ot client origin paired refuses rest whole t.core t.main t.course ps now.log.state.next now.roles) (sym asked.pending) (record {
+        stands = asked.sound.stands;
+        covered = later_covered (view_of client origin t.core) t.main t.course asked.before.pending asked.before.next now.log.state.next now.roles (omega (arith, asked.next)) asked.sound.covered;
+      })
 
-  module _ (t : Txn C O) (now : Context) (role : ℕ) (event : Event)
-      (c : IsCalled (λ s roles. IsSoundTxn ct ot client origin paired refuses t s.pending s.next roles) now role event) where
-    next_covered : HasNextEventOr t.phase t.main now.log.state.next
-    next_covered = subst (HasNextEventOr t.phase t.main) (sym (same_next _ now role event c t.main c.sound.seated)) c.sound.covered
+  module _ (core : Core C O) (main : Option StageContinuation) (was course : Course Q) (same : was ≡ course) (none : PassesNoBody course) (now : Context) (role : ℕ) (event : Event)
+      (c : IsCalled (λ s roles. IsSoundOn ct ot client origin paired refuses rest whole core main was s.pending s.next roles) now role event) where
+    stood : HoldsOn ct ot client origin paired refuses rest whole core course
+    stood = subst (λ x. HoldsOn ct ot client origin paired refuses rest whole core x) same c.sound.stands
 
-    -- an event of another continuation
-    pub sound_other : (role ≡ 1 → ⊥) → IsSoundTxn ct ot client origin paired refuses t now.log.state.pending now.log.state.next now.roles
-    sound_other other = record {
-      holds = c.sound.holds;
-      pair = c.sound.pair;
-      seated = called_other _ now role event c t.main c.sound.seated other;
-      idles = c.sound.idles;
-      covered = next_covered;
-    }
+    was_covered : IsCoveredOn (view_of client origin core) main course c.before.pending c.before.next now.roles
+    was_covered = subst (λ x. IsCoveredOn (view_of client origin core) main x c.before.pending c.before.next now.roles) same c.sound.covered
+
+    -- an event of another continuation, where no body is passed on
+    pub sound_other : (role ≡ MAIN → ⊥) → IsSoundNow ct ot client origin paired refuses rest whole core main course now
+    sound_other other = record { stands = stood; covered = on_other _ (view_of client origin core) main now role event c course none other was_covered }
 
     -- one at which it does not work
-    pub sound_quiet : works_at event ≡ false → IsSoundTxn ct ot client origin paired refuses t now.log.state.pending now.log.state.next now.roles
-    sound_quiet rests = record {
-      holds = c.sound.holds;
-      pair = c.sound.pair;
-      seated = called_quiet _ now role event c t.main c.sound.seated rests;
-      idles = c.sound.idles;
-      covered = next_covered;
-    }
+    pub sound_quiet : works_at event ≡ false → IsSoundNow ct ot client origin paired refuses rest whole core main course now
+    sound_quiet rests = record { stands = stood; covered = on_quiet _ (view_of client origin core) main now role event c course none rests was_covered }
 
-    -- one at which it made a step
-    pub sound_stepped : (u : Txn C O) (after : Context) → PhaseHolds ct ot client origin refuses u.core u.phase → StepKeeps client origin paired refuses t.core u.core
-        → SeatedAfter (unroused t.main) u.main now after → Idles u.phase u.main → HasNextEventOr u.phase u.main after.log.state.next
-        → IsSoundTxn ct ot client origin paired refuses u after.log.state.pending after.log.state.next after.roles
-    sound_stepped u after holds keeps seated idles covered = record {
-      holds = holds;
-      pair = keeps.pair c.sound.pair;
-      seated = seated (called_main _ now role event c t.main c.sound.seated);
-      idles = idles;
-      covered = covered;
-    }
+    -- one at which the first continuation makes the next step
+    pub alone_then : (t : Option StageContinuation) → t ≡ unroused main → IsAlone t now
+    alone_then t is = subst (λ s. IsAlone s now) (sym is) (alone_called _ (view_of client origin core) main now role event c course none was_covered)
+
+  -- while a body is passed on, each of its duties still has its event when one is handled
+  pub body_covered : (core : Core C O) (main : Option StageContinuation) (r : Relay Q) (now : Context) (role : ℕ) (event : Event)
+      (c : IsCalled (λ s roles. IsSoundOn ct ot client origin paired refuses rest whole core main (K.Relaying r) s.pending s.next roles) now role event)
+      → IsBodyCovered (view_of client origin core) main r now.log.state.next
+  body_covered core main r now role event c = by_event c.sound.covered.covered
+    where
+      same_next : now.log.state.next ≡ c.before.next
+      same_next = c.has.next (plain_at c.handled.number c.before.pending c.handled c.sound.covered.plain c.there)
+
+      by_event : BodyHasEvents (view_of client origin core) main r c.before.pending now.roles ⊎ (GREATEST ≤ c.before.next) → IsBodyCovered (view_of client origin core) main r now.log.state.next
+      by_event (inl has) = inl (has.runs, has.ends)
+      by_event (inr spent) = inr (subst (λ (n : ℕ). GREATEST ≤ n) (sym same_next) spent)
+
+  -- it was led on
+  pub sound_here : (s t : Core C O) (old new : Course Q) (u : Option StageContinuation) (b : Context) → HoldsOn ct ot client origin paired refuses rest whole s old
+      → StepKeeps client origin paired refuses s t → CourseHolds ct ot client origin refuses rest t new → IsOfLinesOn (arc_value t.setup) rest new
+      → IsCoveredNow (view_of client origin t) u new b → IsSoundNow ct ot client origin paired refuses rest whole t u new b
+  sound_here s t old new u b stands keeps holds lines covered =
+      record { stands = record { holds = holds; pair = keeps.pair stands.pair; acts = stands.acts; lines = lines }; covered = covered }
+
+  -- by a step, whose facts speak of what the origin's link refused before it
+  pub sound_led : (s t : Core C O) (old led new : Course Q) (u : Option StageContinuation) (b : Context) → HoldsOn ct ot client origin paired refuses rest whole s old
+      → StepKeeps client origin paired refuses s t → IfTold ct ot (CourseFact (arc_value s.setup) (OriginRefuses client refuses s) rest (view_of client origin t) led)
+      → StaysOnOrLacks led new → IsOfLinesOn (arc_value s.setup) rest new → IsCoveredNow (view_of client origin t) u new b
+      → IsSoundNow ct ot client origin paired refuses rest whole t u new b
+  sound_led s t old led new u b stands keeps fact stays lines covered =
+      sound_here s t old new u b stands keeps
+      (λ told also. course_settled client origin paired refuses rest s t new keeps
+      (stays_on (arc_value s.setup) (OriginRefuses client refuses s) rest (view_of client origin t) led new (fact told also) stays))
+      (subst (λ x. IsOfLinesOn (arc_value x) rest new) (sym keeps.setup) lines) covered

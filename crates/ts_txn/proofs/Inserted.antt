@@ -1,11 +1,11 @@
 -- Bytes that are put into a list, and what the transform lines and a chain make of them.
-use Rattle.std.proofs.Common.{◌≡◌, ◌⊎◌, inl, inr, ℕ, ◌+◌, ◌≤◌, List, [], ◌∷◌, ◌++◌, length, map, filter, Bool, true, false, cond, arith, refl, sym, ap, subst, ◌∙◌, length-append}
-use Rattle.std.specs.Prelude.{◌==◌, not, Option, Some, None, if◌then◌else◌, take}
-use Rattle.ts_config.specs.Bodies.{mapped, whole_of, without_byte}
+use Rattle.std.proofs.Common.{◌≡◌, inl, inr, ℕ, ◌+◌, ◌≤◌, List, [], ◌∷◌, ◌++◌, length, map, filter, Bool, true, false, cond, arith, refl, sym, ap, subst}
+use Rattle.std.specs.Prelude.{◌==◌, not, if◌then◌else◌}
+use Rattle.ts_config.specs.Bodies.{whole_of}
 use Rattle.ts_config.specs.declared.setup.TransformLine.{TransformLine}
 use Rattle.ts_config.specs.declared.setup.TransformLine.TheVariants as t
 use Rattle.ts_transform.specs.Flow.{passing}
-use Rattle.ts_transform.specs.Stage.{has_ended, passed, rest_of, to_end}
+use Rattle.ts_transform.specs.Stage.{passed, rest_of}
 use Rattle.ts_transform.specs.declared.pump.Stage.{Stage}
 use Rattle.ts_txn.specs.Inserted.{AddsNoMore, AllAddNoMore, HasInserted}
 
@@ -92,7 +92,7 @@ inserted_filter p n xs [] none = ap (filter p) none
 inserted_filter p n xs (y ∷ ys) (inl (m, less, rest)) = kept_in (p y) y m n (filter p xs) (filter p ys) less (inserted_filter p m xs ys rest)
 inserted_filter p n xs (y ∷ ys) (inr (zs, same, rest)) =
     subst (λ (us : List ℕ). HasInserted n (filter p us) (filter p (y ∷ ys))) (sym same)
-        (kept_both (p y) y n (filter p zs) (filter p ys) (inserted_filter p n zs ys rest))
+    (kept_both (p y) y n (filter p zs) (filter p ys) (inserted_filter p n zs ys rest))
 
 pub line_adds : (l : TransformLine) → AddsNoMore (whole_of l)
 line_adds t.Null n xs ys inserted = inserted
@@ -110,7 +110,7 @@ pub fed_adds : (rest rest' : List ℕ → List ℕ) (c more : List ℕ) → Adds
 fed_adds rest rest' c more adds law n xs ys inserted =
     let fed : HasInserted n (rest (c ++ xs)) (rest (c ++ ys)) = adds n (c ++ xs) (c ++ ys) (inserted_prepend n xs ys c inserted) in
     inserted_drop n more (rest' xs) (rest' ys)
-        (subst (λ (us : List ℕ). HasInserted n us (more ++ rest' ys)) (law xs) (subst (λ (us : List ℕ). HasInserted n (rest (c ++ xs)) us) (law ys) fed))
+    (subst (λ (us : List ℕ). HasInserted n us (more ++ rest' ys)) (law xs) (subst (λ (us : List ℕ). HasInserted n (rest (c ++ xs)) us) (law ys) fed))
 
 -- and so does one that is the same
 pub same_adds : (rest rest' : List ℕ → List ℕ) → ((z : List ℕ) → rest' z ≡ rest z) → AddsNoMore rest → AddsNoMore rest'
@@ -130,6 +130,6 @@ passing_more rest [] all n xs ys inserted = inserted_length n xs ys inserted
 passing_more rest (s ∷ ss) all n xs ys inserted =
     let first : length ys ≤ length xs + n = inserted_length n xs ys inserted in
     let behind : passing rest ss (passed rest s ys) ≤ passing rest ss (passed rest s xs) + stage_passes ss n =
-        passing_more rest ss all.1 n (passed rest s xs) (passed rest s ys)
-            (inserted_prepend n (rest_of rest s.part xs) (rest_of rest s.part ys) s.after (all.0 n xs ys inserted)) in
+    passing_more rest ss all.1 n (passed rest s xs) (passed rest s ys)
+    (inserted_prepend n (rest_of rest s.part xs) (rest_of rest s.part ys) s.after (all.0 n xs ys inserted)) in
     omega (arith, first, behind)

@@ -1,8 +1,8 @@
 -- A chain of transforms that add no more stays one, and a chain of fresh transforms has little to do.
-use Rattle.std.proofs.Common.{◌≡◌, ℕ, zero, suc, ◌+◌, ◌≤◌, List, [], ◌∷◌, ◌++◌, length, map, filter, take, Bool, true, false, cond, arith, refl, sym, ap, subst, length-append}
-use Rattle.std.specs.Prelude.{◌==◌, not, Option, Some, None, if◌then◌else◌, ⊤}
+use Rattle.std.proofs.Common.{◌≡◌, ℕ, zero, suc, ◌+◌, ◌≤◌, List, [], ◌∷◌, length, map, filter, take, Bool, true, false, cond, arith, refl, sym, subst, length-append}
+use Rattle.std.specs.Prelude.{◌==◌, not, Option, None, if◌then◌else◌}
 use Rattle.std.proofs.lemmas.List.{length-map}
-use Rattle.ts_config.specs.Bodies.{mapped, whole_of, without_byte}
+use Rattle.ts_config.specs.Bodies.{whole_of}
 use Rattle.ts_config.specs.declared.setup.Setup.{Setup}
 use Rattle.ts_config.specs.declared.setup.TransformLine.{TransformLine}
 use Rattle.ts_config.specs.declared.setup.TransformLine.TheVariants as t
@@ -11,7 +11,7 @@ use Rattle.ts_transform.specs.Stage.{Steps, rest_of}
 use Rattle.ts_transform.specs.declared.pump.Pumped.{Pumped}
 use Rattle.ts_transform.specs.declared.pump.Pumped.TheVariants.{Moved, Ended, Blocked, Idle}
 use Rattle.ts_transform.specs.declared.pump.Stage.{Stage}
-use Rattle.ts_txn.specs.Inserted.{AddsNoMore, AllAddNoMore}
+use Rattle.ts_txn.specs.Inserted.{AddsNoMore, AllAddNoMore, AreOfLines}
 use Rattle.ts_txn.specs.Lowering.{line_length, lines_length, passes}
 use Rattle.ts_txn.specs.LoweringBody.{IsOfLines}
 use Rattle.ts_txn.proofs.Inserted.{fed_adds, line_adds, same_adds}
@@ -46,13 +46,6 @@ pumped_lines setup rest at c d pumps len lines = record {
 }
 
 -- ---- fresh transforms
-
--- each of them makes of a body what its line does
-abbrev pub AreOfLines : {P : Type 0} → (P → List ℕ → List ℕ) → List TransformLine → List P → Type 0
-AreOfLines rest [] [] = ⊤
-AreOfLines rest [] (p ∷ ps) = ⊥
-AreOfLines rest (l ∷ ls) [] = ⊥
-AreOfLines rest (l ∷ ls) (p ∷ ps) = ((z : List ℕ) → rest p z ≡ whole_of l z) × AreOfLines rest ls ps
 
 pub fresh_adds : {P : Type 0} (rest : P → List ℕ → List ℕ) (ls : List TransformLine) (ps : List P) → AreOfLines rest ls ps → AllAddNoMore rest (map fresh_stage ps)
 fresh_adds rest [] [] of = tt

@@ -1,7 +1,9 @@
 pub mod Always
 pub mod Asks
 pub mod BodyEvents
+pub mod BodyLinks
 pub mod Chaining
+pub mod CourseCalls
 pub mod CourseSeats
 pub mod Coursing
 pub mod Coverage
@@ -20,11 +22,18 @@ pub mod Leaving
 pub mod Lowering
 pub mod LoweringAnswers
 pub mod LoweringBody
+pub mod LoweringBound
+pub mod LoweringCourse
 pub mod LoweringEntry
 pub mod LoweringEvents
 pub mod LoweringHeads
 pub mod LoweringLeads
+pub mod LoweringPays
+pub mod LoweringRelay
 pub mod LoweringResponse
+pub mod LoweringRest
+pub mod LoweringStages
+pub mod LoweringStands
 pub mod LoweringSteps
 pub mod LoweringUpload
 pub mod Made
@@ -34,7 +43,9 @@ mod OneHead
 pub mod OneSide
 pub mod Owns
 pub mod Parting
+pub mod Paying
 pub mod Relaying
+pub mod Resting
 pub mod Responding
 mod Saying
 mod Searching

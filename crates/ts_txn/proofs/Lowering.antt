@@ -1,6 +1,6 @@
 -- What one call on a side of a transaction lowers of what is left.
-use Rattle.std.proofs.Common.{◌≡◌, ℕ, ◌+◌, ◌-◌, ◌*◌, ◌<◌, ◌≤◌, List, [], ◌∷◌, ◌++◌, length, drop, Bool, true, false, arith, refl, sym, ap, subst, ◌∙◌, length-append}
-use Rattle.std.specs.Prelude.{Option, Some, None, if◌then◌else◌}
+use Rattle.std.proofs.Common.{◌≡◌, ℕ, ◌+◌, ◌-◌, ◌*◌, ◌<◌, ◌≤◌, List, [], ◌∷◌, length, Bool, true, false, arith, refl, ap, ◌∙◌, length-append}
+use Rattle.std.specs.Prelude.{Option, Some, None}
 use Rattle.std.proofs.lemmas.List.{length-drop}
 use Rattle.ts_config.specs.declared.setup.Setup.{Setup}
 use Rattle.ts_config.specs.declared.setup.TransformLine.{TransformLine}
@@ -75,6 +75,11 @@ pub none_rise : (n : Option ℕ) → Rose8 n n 0
 none_rise None = tt
 none_rise (Some y) = omega arith
 
+-- where none is left, none rose
+pub none_left : (n : Option ℕ) (k : ℕ) → Rose8 n (Some 0) k
+none_left None k = tt
+none_left (Some y) k = omega arith
+
 -- ---- bytes that were read
 
 pub passes_less : (ls : List TransformLine) (m n : ℕ) → m ≤ n → passes ls m ≤ passes ls n
@@ -120,7 +125,7 @@ comes_hear setup c d least comes =
     let ls = setup.transforms.items in
     let total : length d.look.left + length d.inbox ≤ length c.look.left + length c.inbox = omega (arith, comes.held, comes.left) in
     let passed : passes ls (length d.look.left + length d.inbox) ≤ passes ls (length c.look.left + length c.inbox) =
-        passes_less ls (length d.look.left + length d.inbox) (length c.look.left + length c.inbox) total in
+    passes_less ls (length d.look.left + length d.inbox) (length c.look.left + length c.inbox) total in
     omega (arith, passed, comes.held, comes.left, comes.some)
 
 pub comes_ask : (c d : LinkSide) (least : ℕ) → Comes c d least → to_ask d + least ≤ to_ask c
@@ -132,7 +137,7 @@ used_hear setup c d used left =
     let ls = setup.transforms.items in
     let total : length d.look.left + length d.inbox ≤ length c.look.left + length c.inbox = omega (arith, used, left) in
     let passed : passes ls (length d.look.left + length d.inbox) ≤ passes ls (length c.look.left + length c.inbox) =
-        passes_less ls (length d.look.left + length d.inbox) (length c.look.left + length c.inbox) total in
+    passes_less ls (length d.look.left + length d.inbox) (length c.look.left + length c.inbox) total in
     omega (arith, passed, used, left)
 
 pub still_hear : (setup : Setup) (c d : LinkSide) → length d.inbox ≤ length c.inbox → length d.look.left ≤ length c.look.left → to_hear setup d ≤ to_hear setup c
@@ -140,7 +145,7 @@ still_hear setup c d held left =
     let ls = setup.transforms.items in
     let total : length d.look.left + length d.inbox ≤ length c.look.left + length c.inbox = omega (arith, held, left) in
     let passed : passes ls (length d.look.left + length d.inbox) ≤ passes ls (length c.look.left + length c.inbox) =
-        passes_less ls (length d.look.left + length d.inbox) (length c.look.left + length c.inbox) total in
+    passes_less ls (length d.look.left + length d.inbox) (length c.look.left + length c.inbox) total in
     omega (arith, passed, held, left)
 
 -- ---- bytes that were written
@@ -163,4 +168,4 @@ went_some V.NoMemory before after went = omega (arith, same_length before after 
 pub write_hear : (setup : Setup) (c d : LinkSide) (p : Pushed) → SideWrites true c d p → to_hear setup d ≤ to_hear setup c
 write_hear setup c d p writes =
     still_hear setup c d (same_length c.inbox d.inbox writes.inbox)
-        (replaced_within c.look.given c.look.left d.look.left (writes.pushes.told refl).left)
+    (replaced_within c.look.given c.look.left d.look.left (writes.pushes.told refl).left)

@@ -1,9 +1,8 @@
 -- Where each answer of a call leads, what is left to do is less, if both links tell.
-use Rattle.std.proofs.Common.{◌≡◌, ℕ, ◌+◌, ◌-◌, ◌≤◌, List, length, Bool, true, false, Ok, arith, refl, sym, ap, subst}
+use Rattle.std.proofs.Common.{◌≡◌, ℕ, ◌-◌, List, length, Bool, true, false, Ok, arith, refl, ap, subst}
 use Rattle.std.specs.Prelude.{Option}
 use Rattle.ts_config.specs.declared.setup.Setup.{Setup}
 use Rattle.ts_hooks.specs.declared.txn_end.TxnEnd.{TxnEnd}
-use Rattle.ts_link.specs.Link.{AgainsFall}
 use Rattle.ts_upstream.specs.Uploads.{Rose8, taken_since}
 use Rattle.ts_vconn.specs.declared.moves.Pulled.TheVariants as L
 use Rattle.ts_vconn.specs.declared.moves.Pushed.{Pushed}
@@ -17,17 +16,16 @@ use Rattle.ts_txn.specs.Own.{own_sent}
 use Rattle.ts_txn.specs.Holding.{IfTold}
 use Rattle.ts_txn.specs.View.{LinkSide, View}
 use Rattle.ts_txn.specs.Moving.{HearsRequest, HearsResponse, QueuesOwn, QueuesRequest, WritesClient, WritesOrigin}
-use Rattle.ts_txn.specs.Lowering.{StepLowers, agains_left, to_hear}
+use Rattle.ts_txn.specs.Lowering.{StepLowers}
 use Rattle.ts_txn.specs.declared.phase.Next.TheVariants as N
 use Rattle.ts_txn.specs.declared.phase.OwnAnswer.{OwnAnswer}
 use Rattle.ts_txn.specs.declared.phase.Phase.{Phase}
 use Rattle.ts_txn.specs.declared.phase.Phase.TheVariants as P
 use Rattle.ts_txn.specs.declared.phase.Request.{Request}
-use Rattle.ts_txn.specs.declared.phase.Step.{Step}
 use Rattle.ts_txn.specs.declared.reading.Found.{Found}
 use Rattle.ts_txn.specs.declared.reading.Found.TheVariants as F
 use Rattle.ts_txn.proofs.LoweringHeads.{request_fits}
-use Rattle.ts_txn.proofs.LoweringSteps.{Calm, IsEarly, asked, asks_calm, asks_on, head_calm, heard_calm, hears_calm, hears_interim, hears_on, own_text_queued, queued, response_heard, same_len, sends_calm, sends_on, sent_close, stays_calm, to_close, to_end, to_own, write_fails, writes_on, written}
+use Rattle.ts_txn.proofs.LoweringSteps.{Calm, IsEarly, asked, asks_calm, asks_on, head_calm, heard_calm, hears_calm, hears_interim, hears_on, own_text_queued, queued, response_heard, sends_calm, sends_on, sent_close, stays_calm, to_close, to_end, to_own, write_calm, write_fails, writes_on, written}
 
 -- ---- nothing was taken by the origin
 
@@ -92,7 +90,7 @@ module _ (ct ot : Bool) (setup : Setup) (v w : View) (u u' : Option ℕ) (rose :
   asks_passes q passes hears told also =
       let h = subst (λ (b : Bool). HearsRequest b v w (F.Head q.head)) told hears in
       asked setup v w u u' (rose_client (F.Head q.head) h) q.head q
-          (request_fits setup v.client.inbox w.client.inbox q.head q.target q.host h.finds.0 passes) h
+      (request_fits setup v.client.inbox w.client.inbox q.head q.target q.host h.finds.0 passes) h
 
   pub asks_own : (found : Found RequestHead) (a : OwnAnswer) → HearsRequest ct v w found
       → IfTold ct ot (StepLowers setup P.ReadRequest u u' v w (record { phase = P.SendResponseHdr a; next = N.Go }))
@@ -178,6 +176,12 @@ module _ (ct ot : Bool) (setup : Setup) (v w : View) (u u' : Option ℕ) (rose :
       → IfTold ct ot (StepLowers setup (P.SendRequest q) u u' v w (record { phase = P.SendResponseHdr a; next = N.Go }))
   writes_own q p a writes told also = write_fails setup v w u u' rose p (subst (λ (b : Bool). WritesOrigin b v w p) also writes) q a
 
+  pub writes_end : (q : Request) (p : Pushed) (end : TxnEnd) → WritesOrigin ot v w p
+      → IfTold ct ot (StepLowers setup (P.SendRequest q) u u' v w (record { phase = P.Ended end; next = N.Done }))
+  writes_end q p end writes told also =
+      let h = subst (λ (b : Bool). WritesOrigin b v w p) also writes in
+      to_end setup (push_again p) (taken_since v.origin.look w.origin.look) v w u u' (write_calm setup v w u u' rose p h) rose (P.SendRequest q) end
+
   -- ---- an answer of the proxy's own is written
 
   rose_sent : (p : Pushed) → WritesClient true v w p → Rose8 u u' 0
@@ -213,9 +217,11 @@ module _ (ct ot : Bool) (setup : Setup) (v w : View) (u u' : Option ℕ) (rose :
       → IfTold ct ot (StepLowers setup (P.SendRequestHdr q) u u' v w (record { phase = P.SendRequest q; next = N.Go }))
   queues_request q queues told also = queued setup v w u u' q (rose_none v w u u' (ap (λ (x : View). x.origin.look.taken) queues) rose) queues
 
-  pub queues_own : (a : OwnAnswer) → QueuesOwn (own_text setup a.status) (own_sent a.to_head a.status) v w
+  pub queues_own : (a : OwnAnswer) (head body : List ℕ) → QueuesOwn head body v w → head ≡ own_text setup a.status → body ≡ own_sent a.to_head a.status
       → IfTold ct ot (StepLowers setup (P.SendResponseHdr a) u u' v w (record { phase = P.Sending a; next = N.Go }))
-  queues_own a queues told also = own_text_queued setup v w u u' a (rose_none v w u u' (ap (λ (s : LinkSide). s.look.taken) queues.origin) rose) queues
+  queues_own a head body queues head_is body_is told also =
+      own_text_queued setup v w u u' a (rose_none v w u u' (ap (λ (s : LinkSide). s.look.taken) queues.origin) rose)
+      (subst (λ (xs : List ℕ). QueuesOwn xs (own_sent a.to_head a.status) v w) head_is (subst (λ (xs : List ℕ). QueuesOwn head xs v w) body_is queues))
 
   -- ---- nothing moved
 

@@ -1,26 +1,44 @@
 -- The step with which a body begins to be passed on lowers what a transaction has left to do.
-use Rattle.std.proofs.Common.{◌≡◌, ℕ, ◌+◌, ◌*◌, ◌<◌, ◌≤◌, List, [], ◌∷◌, ◌++◌, length, map, filter, Bool, true, false, cond, arith, refl, sym, ap, subst, ◌∙◌, length-append}
-use Rattle.std.specs.Prelude.{Option, Some, None}
+use Rattle.std.proofs.Common.{◌≡◌, ℕ, ◌+◌, ◌*◌, ◌<◌, ◌≤◌, List, [], ◌∷◌, length, map, filter, Bool, true, false, cond, arith, refl, sym, ap, subst, ◌∙◌, length-append}
+use Rattle.std.specs.Prelude.{Option, Some, None, ⊤, if◌then◌else◌}
+use Rattle.std.proofs.lemmas.List.{length-map}
 use Rattle.ts_config.specs.declared.setup.Setup.{Setup}
 use Rattle.ts_config.specs.declared.setup.TransformLine.{TransformLine}
-use Rattle.ts_link.specs.Link.{AgainsFall, Fewer}
-use Rattle.ts_transform.specs.Driving.{errors_to_pass}
+use Rattle.ts_group.specs.Context.{Context}
+use Rattle.ts_link.specs.Link.{AgainsFall, Fewer, NoMore}
+use Rattle.ts_transform.specs.Driving.{errors_to_pass, may_pass_error}
+use Rattle.ts_transform.specs.declared.continuation.StageContinuation.{StageContinuation}
 use Rattle.ts_transform.specs.Flow.{ChainState, fresh_stage, left_to_do, passing}
 use Rattle.ts_transform.specs.Stage.{to_end}
-use Rattle.ts_transform.specs.declared.continuation.StageContinuation.{StageContinuation}
-use Rattle.ts_upstream.specs.Uploads.{Rose8, both}
+use Rattle.ts_upstream.specs.Uploads.{both}
+use Rattle.ts_transform.specs.declared.pump.Stage.{Stage}
+use Rattle.ts_wire.specs.declared.body.BodyState.{BodyState}
+use Rattle.ts_wire.specs.declared.body.BodyState.TheVariants as state
+use Rattle.ts_wire.specs.declared.framing.Framing.{Framing}
+use Rattle.ts_wire.specs.declared.framing.Framing.TheVariants as F
 use Rattle.ts_wire.specs.declared.frames.Mode.{Mode}
 use Rattle.ts_wire.specs.declared.heads.ResponseHead.{ResponseHead}
+use Rattle.ts_txn.specs.Relayed.{if_body}
 use Rattle.ts_txn.specs.Block.{relayed_head}
 use Rattle.ts_txn.specs.Heads.{HasResponse}
 use Rattle.ts_txn.specs.View.{LinkSide, View}
 use Rattle.ts_txn.specs.RelayMoves.{QueuesHead}
-use Rattle.ts_txn.specs.Lowering.{agains_left, chain_room, end_room, head_room, line_length, lines_length, own_room, passes, phase_work, pump_weight, to_hear, work_left}
-use Rattle.ts_txn.specs.LoweringBody.{body_left, body_work}
+use Rattle.ts_txn.specs.Inserted.{AllAddNoMore, AreOfLines}
+use Rattle.ts_txn.specs.Lowering.{agains_left, chain_room, end_room, head_room, if_told, lines_length, own_room, passes, phase_work, pump_weight, to_hear, work_left}
+use Rattle.ts_txn.specs.Duties.{SettledAs}
+use Rattle.ts_txn.specs.Entering.{BeginsRelay, GetsStart}
+use Rattle.ts_txn.specs.Facts.{Relays}
+use Rattle.ts_txn.specs.Feeding.{OnGoes}
+use Rattle.ts_txn.specs.Holding.{IfTold}
+use Rattle.ts_txn.specs.LoweringBody.{BeginsLower, HasRoom, LowersEntering, body_left, body_work, errors_left, unbegun_left}
 use Rattle.ts_txn.specs.declared.phase.Phase.TheVariants as P
+use Rattle.ts_txn.specs.declared.finishing.BodyStep.{BodyStep}
+use Rattle.ts_txn.specs.declared.finishing.BodyStep.TheVariants as S
 use Rattle.ts_txn.specs.declared.phase.Request.{Request}
-use Rattle.ts_txn.proofs.InsertedStages.{AreOfLines, fresh_work}
-use Rattle.ts_txn.proofs.Lowering.{none_fall, one_if, passes_less, told_fewer}
+use Rattle.ts_txn.specs.declared.relay.Relay.{Relay}
+use Rattle.ts_txn.proofs.InsertedStages.{fresh_adds, fresh_work}
+use Rattle.ts_txn.proofs.Lowering.{none_fall, none_left, one_if, passes_less, told_fewer}
+use Rattle.ts_txn.proofs.LoweringRelay.{same_lines}
 use Rattle.ts_txn.proofs.LoweringResponse.{response_fits}
 
 -- ---- the lines that act are some of the configuration's
@@ -54,21 +72,71 @@ no_bytes : (n : ℕ) → length {A = ℕ} [] + n ≤ n
 no_bytes n = omega arith
 
 -- so what their fresh transforms have left to do has room
-pub fresh_room : {P : Type 0} (rest : P → List ℕ → List ℕ) (p : TransformLine → Bool) (ls : List TransformLine) (ps : List P) → AreOfLines rest (filter p ls) ps
-    → passing rest (map fresh_stage ps) [] + length ps ≤ passes ls (lines_length ls + 2)
-fresh_room rest p ls ps of =
-    let ms = filter p ls in
-    let less = filter_less p ls in
-    within (passing rest (map fresh_stage ps) [] + length ps) (passes ms (lines_length ms + 2)) (passes ls (lines_length ls + 2))
-        (fresh_work rest ms ps of [] (lines_length ms) (no_bytes (lines_length ms)))
-        (within (passes ms (lines_length ms + 2)) (passes ls (lines_length ms + 2)) (passes ls (lines_length ls + 2)) (less.passed (lines_length ms + 2))
-            (passes_less ls (lines_length ms + 2) (lines_length ls + 2) (two_more (lines_length ms) (lines_length ls) less.text)))
+module _ {P : Type 0} (setup : Setup) (rest : P → List ℕ → List ℕ) (ms : List TransformLine) (ps : List P) (c : ChainState P) where
+  less_has_room : IsLess setup.transforms.items ms → length ms ≤ length setup.transforms.items → AreOfLines rest ms ps
+      → c ≡ record { first = []; stages = map fresh_stage ps; given = false } → HasRoom setup rest c
+  less_has_room less few of made =
+      let ls = setup.transforms.items in
+      let stages : c.stages ≡ map fresh_stage ps = ap (λ (d : ChainState P). d.stages) made in
+      let len : length c.stages ≡ length ps = ap length stages ∙ length-map ps fresh_stage in
+      let left : left_to_do rest c [] ≡ passing rest (map fresh_stage ps) [] = ap (λ (d : ChainState P). left_to_do rest d []) made in
+      let room : passing rest (map fresh_stage ps) [] + length ps ≤ passes ls (lines_length ls + 2) =
+      within (passing rest (map fresh_stage ps) [] + length ps) (passes ms (lines_length ms + 2)) (passes ls (lines_length ls + 2))
+      (fresh_work rest ms ps of [] (lines_length ms) (no_bytes (lines_length ms)))
+      (within (passes ms (lines_length ms + 2)) (passes ls (lines_length ms + 2)) (passes ls (lines_length ls + 2)) (less.passed (lines_length ms + 2))
+      (passes_less ls (lines_length ms + 2) (lines_length ls + 2) (two_more (lines_length ms) (lines_length ls) less.text))) in
+      record {
+        lines = record {
+          few = few_stages (length c.stages) (length ps) (length ms) (length ls) len (same_count rest ms ps of) few;
+          adds = subst (λ (ss : List (Stage P)). AllAddNoMore rest ss) (sym stages) (fresh_adds rest ms ps of);
+        };
+        room = room_sum (left_to_do rest c []) (passing rest (map fresh_stage ps) []) (length c.stages) (length ps) (passes ls (lines_length ls + 2)) left len room;
+      }
+    where
+      same_count : (rest : P → List ℕ → List ℕ) (ls : List TransformLine) (ps : List P) → AreOfLines rest ls ps → length ps ≡ length ls
+      same_count rest [] [] of = refl
+      same_count rest [] (p ∷ ps) of = absurd of
+      same_count rest (l ∷ ls) [] of = absurd of
+      same_count rest (l ∷ ls) (p ∷ ps) of = omega (arith, same_count rest ls ps of.1)
+
+      few_stages : (stages parts less all : ℕ) → stages ≡ parts → parts ≡ less → less ≤ all → stages ≤ all
+      few_stages stages parts less all len same few = omega (arith, len, same, few)
+
+      room_sum : (left passed stages parts room : ℕ) → left ≡ passed → stages ≡ parts → passed + parts ≤ room → left + stages ≤ room
+      room_sum left passed stages parts room same len fits = omega (arith, same, len, fits)
+
+none_less : (ls : List TransformLine) → IsLess ls []
+none_less [] = record { text = omega arith; passed = λ n. omega arith }
+none_less (l ∷ ls) = let less = none_less ls in record {
+  text = omega arith;
+  passed = λ n. let behind : n ≤ passes ls n = less.passed n in omega (arith, behind);
+}
+
+filter_few : (p : TransformLine → Bool) (ls : List TransformLine) → length (filter p ls) ≤ length ls
+filter_few p [] = omega arith
+filter_few p (l ∷ ls) = kept_few (p l) (filter p ls) (filter_few p ls)
+  where
+    kept_few : (b : Bool) (ms : List TransformLine) → length ms ≤ length ls → length (cond b (l ∷ ms) ms) ≤ length (l ∷ ls)
+    kept_few true ms few = omega (arith, few)
+    kept_few false ms few = omega (arith, few)
+
+-- the chain of a response's body: of the lines that act, or of none where there is no body
+pub fresh_has_room : {P : Type 0} (setup : Setup) (rest : P → List ℕ → List ℕ) (framing : Framing) (p : TransformLine → Bool) (ps : List P) (c : ChainState P)
+    → AreOfLines rest (if_body framing (filter p setup.transforms.items)) ps → c ≡ record { first = []; stages = map fresh_stage ps; given = false } → HasRoom setup rest c
+fresh_has_room setup rest F.Nothing p ps c of made = less_has_room setup rest [] ps c (none_less setup.transforms.items) (no_lines (length setup.transforms.items)) of made
+  where
+    no_lines : (n : ℕ) → length {A = TransformLine} [] ≤ n
+    no_lines n = omega arith
+fresh_has_room setup rest (F.Sized n) p ps c of made =
+    less_has_room setup rest (filter p setup.transforms.items) ps c (filter_less p setup.transforms.items) (filter_few p setup.transforms.items) of made
+fresh_has_room setup rest F.Chunked p ps c of made =
+    less_has_room setup rest (filter p setup.transforms.items) ps c (filter_less p setup.transforms.items) (filter_few p setup.transforms.items) of made
+fresh_has_room setup rest F.UntilClose p ps c of made =
+    less_has_room setup rest (filter p setup.transforms.items) ps c (filter_less p setup.transforms.items) (filter_few p setup.transforms.items) of made
+fresh_has_room setup rest F.Faulty p ps c of made =
+    less_has_room setup rest (filter p setup.transforms.items) ps c (filter_less p setup.transforms.items) (filter_few p setup.transforms.items) of made
 
 -- ---- the step
-
-upload_over : (u : Option ℕ) → Rose8 u (Some 0) 0
-upload_over None = tt
-upload_over (Some y) = omega arith
 
 end_within : (b : Bool) → to_end b ≤ 1
 end_within true = omega arith
@@ -79,16 +147,119 @@ enter_next : (i x x' out out' text own head chain work errors hear hear' given :
 enter_next i x x' out out' text own head chain work errors hear hear' given again len fits room heard few = omega (arith, again, len, fits, room, heard, few)
 
 -- The head of the response is queued, and the chain has no more to do than its room.
-pub enters : {B : Type 0} (setup : Setup) (rest : B → List ℕ → List ℕ) (ts : List (Option StageContinuation)) (v w : View) (u : Option ℕ) (q : Request) (h : ResponseHead) (mode : Mode)
+pub enters : {B : Type 0} (setup : Setup) (rest : B → List ℕ → List ℕ) (errors : ℕ) (v w : View) (u : Option ℕ) (q : Request) (h : ResponseHead) (mode : Mode)
     (c : ChainState B) (bytes behind : List ℕ) → HasResponse bytes h behind → QueuesHead (relayed_head setup q.head h) mode v w
-    → left_to_do rest c [] + errors_to_pass ts ≤ chain_room setup → Fewer (work_left setup u v (P.ResponseTransform q h)) (body_left setup rest ts w c)
-enters setup rest ts v w u q h mode c bytes behind reads queues room =
+    → left_to_do rest c [] + errors ≤ chain_room setup → Fewer (work_left setup u v (P.ResponseTransform q h)) (body_left setup rest errors w c)
+enters setup rest errors v w u q h mode c bytes behind reads queues room =
     let text = relayed_head setup q.head h in
     let len : length w.client.outbox ≡ length v.client.outbox + length text = ap (λ (s : LinkSide). length s.outbox) queues.client ∙ length-append v.client.outbox text in
     let again : AgainsFall false (agains_left v) (agains_left w) =
-        subst (λ (s : LinkSide). AgainsFall false (agains_left v) (both w.client.look.agains s.look.agains)) (sym queues.origin)
-        (subst (λ (s : LinkSide). AgainsFall false (agains_left v) (both s.look.agains v.origin.look.agains)) (sym queues.client) (none_fall (agains_left v))) in
-    told_fewer (λ x y. phase_work setup x y v (P.ResponseTransform q h)) (λ x y. body_work setup rest ts x w c) false 0 (agains_left v) (agains_left w) u (Some 0) again (upload_over u)
-        (λ x x' y y' falls upload. enter_next (one_if false) x x' (length v.client.outbox) (length w.client.outbox) (length text) (own_room setup) (head_room setup) (chain_room setup)
-            (left_to_do rest c []) (errors_to_pass ts) (to_hear setup v.origin) (to_hear setup w.origin) (to_end c.given) falls len
-            (response_fits setup bytes behind q.head h reads) room (ap (to_hear setup) queues.origin) (end_within c.given))
+    subst (λ (s : LinkSide). AgainsFall false (agains_left v) (both w.client.look.agains s.look.agains)) (sym queues.origin)
+    (subst (λ (s : LinkSide). AgainsFall false (agains_left v) (both s.look.agains v.origin.look.agains)) (sym queues.client) (none_fall (agains_left v))) in
+    told_fewer (λ x y. phase_work setup x y v (P.ResponseTransform q h)) (λ x y. body_work setup rest errors x w c) false 0 (agains_left v) (agains_left w) (Some 0) (Some 0) again (none_left (Some 0) 0)
+    (λ x x' y y' falls upload. enter_next (one_if false) x x' (length v.client.outbox) (length w.client.outbox) (length text) (own_room setup) (head_room setup) (chain_room setup)
+    (left_to_do rest c []) errors (to_hear setup v.origin) (to_hear setup w.origin) (to_end c.given) falls len
+    (response_fits setup bytes behind q.head h reads) room (ap (to_hear setup) queues.origin) (end_within c.given))
+
+-- the head of the response is queued, and no stage has begun
+pub queues_lower : {B : Type 0} (ct ot : Bool) (setup : Setup) (refuses : Type 0) (rest : B → List ℕ → List ℕ) (v w : View) (q : Request) (h : ResponseHead) (text : List ℕ) (mode : Mode) (r : Relay B)
+    → IfTold ct ot (Relays setup refuses v q h) → HasRoom setup rest r.driven.chain → text ≡ relayed_head setup q.head h → QueuesHead text mode v w → LowersEntering ct ot setup rest q h v w r
+queues_lower ct ot setup refuses rest v w q h text mode r relays room is queues = record {
+  lines = room.lines;
+  falls = λ told also.
+      let reads = (relays told also).reads in
+      enters setup rest (length r.driven.chain.stages) v w (Some 0) q h mode r.driven.chain reads.from v.origin.inbox reads.reads
+      (subst (λ (xs : List ℕ). QueuesHead xs mode v w) is queues) room.room;
+}
+
+-- ---- the stages begin
+
+errors_within : (ts : List (Option StageContinuation)) → errors_to_pass ts ≤ length ts
+errors_within [] = omega arith
+errors_within (t ∷ ts) = let here = one_at_most (may_pass_error t) (errors_to_pass ts) (length ts) (errors_within ts) in omega (arith, here)
+  where
+    one_at_most : (b : Bool) (e n : ℕ) → e ≤ n → (if b then 1 else 0) + e ≤ n + 1
+    one_at_most true e n less = omega (arith, less)
+    one_at_most false e n less = omega (arith, less)
+
+counted_within : (b : Bool) (e n : ℕ) → (b ≡ true → e ≤ n) → (if b then e else 0) ≤ n
+counted_within true e n less = less refl
+counted_within false e n less = omega arith
+
+no_more_errors : {B : Type 0} (setup : Setup) (rest : B → List ℕ → List ℕ) (n n' : ℕ) (v : View) (c d : ChainState B) → left_to_do rest d [] ≡ left_to_do rest c [] → n' ≤ n → to_end d.given ≤ to_end c.given
+    → NoMore (body_left setup rest n v c) (body_left setup rest n' v d)
+no_more_errors setup rest n n' v c d same fewer ends = by_told (agains_left v)
+  where
+    by_told : (t : Option ℕ) → NoMore (if_told t (Some 0) (λ again upload. body_work setup rest n again v c)) (if_told t (Some 0) (λ again upload. body_work setup rest n' again v d))
+    by_told None = tt
+    by_told (Some x) = less (end_room + (x + length v.client.outbox) + to_hear setup v.origin) (left_to_do rest c []) (left_to_do rest d []) (to_end c.given) (to_end d.given) same fewer ends
+      where
+        less : (a l l' g g' : ℕ) → l' ≡ l → n' ≤ n → g' ≤ g → a + pump_weight * (l' + n') + g' ≤ a + pump_weight * (l + n) + g
+        less a l l' g g' same fewer ends = omega (arith, same, fewer, ends)
+
+ended_no_more : (m m' : Option ℕ) (f : ℕ → ℕ) → NoMore m (if_told m' (Some 0) (λ x y. f x)) → NoMore m (if_told m' (Some 0) (λ x y. 0))
+ended_no_more None m' f kept = tt
+ended_no_more (Some x) None f kept = absurd kept
+ended_no_more (Some x) (Some x') f kept = omega arith
+
+not_more : (m : Option ℕ) → NoMore m m
+not_more None = tt
+not_more (Some x) = omega arith
+
+module _ {B : Type 0} (setup : Setup) (rest : B → List ℕ → List ℕ) (v : View) where
+  -- memory lacked
+  lacks_begun : (r s : Relay B) → BeginsLower setup rest S.Lacks v r s
+  lacks_begun r s = record {
+    lines = tt;
+    falls = ended_no_more (unbegun_left setup rest v r) (agains_left v) (λ x. body_work setup rest (length r.driven.chain.stages) x v r.driven.chain) (not_more (unbegun_left setup rest v r));
+  }
+
+  started : (state : BodyState) (c d : ChainState B) → GetsStart state c d → (d.stages ≡ c.stages) × (left_to_do rest d [] ≡ left_to_do rest c []) × (to_end d.given ≤ to_end c.given)
+  started state.Unfinished c d gets =
+      (ap (λ (x : ChainState B). x.stages) gets, ap (λ (x : ChainState B). left_to_do rest x []) gets, same_end (to_end d.given) (to_end c.given) (ap (λ (x : ChainState B). to_end x.given) gets))
+    where
+      same_end : (m n : ℕ) → m ≡ n → m ≤ n
+      same_end m n same = omega (arith, same)
+  started state.Ended c d gets =
+      (ap (λ (x : ChainState B). x.stages) gets, ap (λ (x : ChainState B). left_to_do rest x []) gets, given_end (to_end d.given) (to_end c.given) (ap (λ (x : ChainState B). to_end x.given) gets))
+    where
+      given_end : (m n : ℕ) → m ≡ 0 → m ≤ n
+      given_end m n none = omega (arith, none)
+  started state.Bad c d gets = absurd gets
+
+  pub begins_lower : (step : BodyStep) (state : BodyState) (r s : Relay B) (a b : Context) → OnGoes step (GetsStart state r.driven.chain s.driven.chain) → BeginsRelay step s a b → BeginsLower setup rest step v r s
+  begins_lower S.Goes state r s a b gets begins =
+      let is = started state r.driven.chain s.driven.chain gets in
+      record {
+        lines = same_lines setup rest r.driven.chain s.driven.chain is.0;
+        falls = no_more_errors setup rest (length r.driven.chain.stages) (errors_left s.driven) v r.driven.chain s.driven.chain is.1
+            (counted_within s.driven.running (errors_to_pass s.driven.table.items) (length r.driven.chain.stages) (λ runs.
+            few_errors (errors_to_pass s.driven.table.items) (length s.driven.table.items) (length s.driven.chain.stages) (length r.driven.chain.stages) (errors_within s.driven.table.items)
+            (begins.chain.driven runs).len (ap length is.0))) is.2;
+      }
+    where
+      few_errors : (e t d c : ℕ) → e ≤ t → t ≡ d → d ≡ c → e ≤ c
+      few_errors e t d c within len same = omega (arith, within, len, same)
+  begins_lower S.Waits state r s a b gets begins = absurd gets
+  begins_lower (S.Finishes end) state r s a b gets begins = absurd gets
+  begins_lower (S.Closes end) state r s a b gets begins = absurd gets
+  begins_lower S.Lacks state r s a b gets begins = lacks_begun r s
+
+  -- both ends are roused that must work
+  pub begins_settled : (step result : BodyStep) (r m s : Relay B) → BeginsLower setup rest step v r m → OnGoes step ⊤ → SettledAs step result → s ≡ record m { reader = s.reader } → BeginsLower setup rest result v r s
+  begins_settled S.Goes S.Goes r m s lower on settled is = subst (λ (x : Relay B). BeginsLower setup rest S.Goes v r x) (sym is) (record { lines = lower.lines; falls = lower.falls })
+  begins_settled S.Goes S.Waits r m s lower on settled is = absurd settled
+  begins_settled S.Goes (S.Finishes end) r m s lower on settled is = absurd settled
+  begins_settled S.Goes (S.Closes end) r m s lower on settled is = absurd settled
+  begins_settled S.Goes S.Lacks r m s lower on settled is = lacks_begun r s
+  begins_settled S.Waits result r m s lower on settled is = absurd on
+  begins_settled (S.Finishes end) result r m s lower on settled is = absurd on
+  begins_settled (S.Closes end) result r m s lower on settled is = absurd on
+  begins_settled S.Lacks result r m s lower on settled is = subst (λ (x : BodyStep). BeginsLower setup rest x v r s) (sym settled) (lacks_begun r s)
+
+  pub begun_goes : (step : BodyStep) (s : Relay B) (a b : Context) → BeginsRelay step s a b → OnGoes step ⊤
+  begun_goes S.Goes s a b begins = tt
+  begun_goes S.Waits s a b begins = begins.chain.runs
+  begun_goes (S.Finishes end) s a b begins = begins.chain.runs
+  begun_goes (S.Closes end) s a b begins = begins.chain.runs
+  begun_goes S.Lacks s a b begins = tt

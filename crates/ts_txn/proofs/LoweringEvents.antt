@@ -1,41 +1,99 @@
--- With what is left to do, each event that is handled lowers the number of a transaction.
-use Rattle.std.proofs.Common.{◌≡◌, ℕ, ◌+◌, ◌*◌, ◌<◌, ◌≤◌, List, length, arith}
+-- What is left to do pays for the events that are set, so that each event that is handled lowers the number of a
+-- transaction.
+use Rattle.std.proofs.Common.{◌≡◌, ℕ, ◌+◌, ◌*◌, ◌<◌, ◌≤◌, List, [], ◌∷◌, length, arith, ap}
 use Rattle.std.specs.Prelude.{Option, Some, None}
-use Rattle.ts_group.specs.Answers.{Falls}
+use Rattle.ts_journal.specs.declared.entry.TheConstants.{GREATEST}
+use Rattle.ts_journal.specs.declared.entry.Entry.{Entry}
+use Rattle.ts_journal.specs.declared.entry.Entry.TheVariants.{Took, Gave, Made, Set, Handled, Cancelled, Dropped, Destroyed}
 use Rattle.ts_journal.specs.declared.entry.Pending.{Pending}
+use Rattle.ts_journal.specs.State.{State, pending_at, without}
+use Rattle.ts_journal.specs.Machine.{IsLawful, after, replay}
+use Rattle.ts_journal.proofs.Events.{length_without}
+use Rattle.ts_group.specs.Answers.{Falls}
+use Rattle.ts_group.specs.Context.{Context}
+use Rattle.ts_group.specs.Entries.{AllOwn, Grows}
 use Rattle.ts_link.specs.Link.{Fewer, NoMore}
-use Rattle.ts_txn.specs.Lowering.{StepFalls, events_paid, number_left}
+use Rattle.ts_txn.specs.CourseCover.{set_after}
+use Rattle.ts_txn.specs.Lowering.{StepFalls, events_paid, if_told, number_left}
 use Rattle.ts_txn.specs.declared.phase.Next.{Next}
 use Rattle.ts_txn.specs.declared.phase.Next.TheVariants as N
 
--- the event was handled, and what is left to do fell: fewer events were set than that pays for
-pub falls_less : (before after now : List Pending) (m m' : Option ℕ) → length after + 1 ≤ length before → Fewer m m' → length now < length after + events_paid
+-- ---- once the event numbers are used up, none is set
+
+fewer_without : (n : ℕ) (ps : List Pending) (p : Pending) → pending_at n ps ≡ Some p → length (without n ps) ≤ length ps
+fewer_without n ps p there = omega (arith, length_without n ps p there)
+
+less_trans : (a b c : ℕ) → a ≤ b → b ≤ c → a ≤ c
+less_trans a b c first second = omega (arith, first, second)
+
+spent_own : (s : State) (es : List Entry) → AllOwn es → IsLawful s es → GREATEST ≤ s.next → length (replay s es).pending ≤ length s.pending
+spent_own s [] own lawful spent = omega arith
+spent_own s (Took turn seat ∷ es) own lawful spent = absurd own.0
+spent_own s (Gave turn ∷ es) own lawful spent = absurd own.0
+spent_own s (Made key ∷ es) own lawful spent = spent_own (after s (Made key)) es own.1 lawful.1 spent
+spent_own s (Set number key event due series period ∷ es) own lawful spent =
+    let is : number ≡ s.next = lawful.0.1 in
+    let below : number < GREATEST = lawful.0.2 in
+    absurd (omega (arith, is, below, spent))
+spent_own s (Handled number moment ∷ es) own lawful spent = absurd own.0
+spent_own s (Cancelled number ∷ es) own lawful spent =
+    less_trans (length (replay (after s (Cancelled number)) es).pending) (length (without number s.pending)) (length s.pending)
+    (spent_own (after s (Cancelled number)) es own.1 lawful.1 spent) (fewer_without number s.pending lawful.0.1 lawful.0.2)
+spent_own s (Dropped number ∷ es) own lawful spent =
+    less_trans (length (replay (after s (Dropped number)) es).pending) (length (without number s.pending)) (length s.pending)
+    (spent_own (after s (Dropped number)) es own.1 lawful.1 spent) (fewer_without number s.pending lawful.0.1 lawful.0.2)
+spent_own s (Destroyed key ∷ es) own lawful spent = spent_own (after s (Destroyed key)) es own.1 lawful.1 spent
+
+pub spent_none : (a b : Context) → Grows a b → GREATEST ≤ a.log.state.next → length b.log.state.pending ≤ length a.log.state.pending
+spent_none a b grows spent =
+    let now : length b.log.state.pending ≡ length (replay a.log.state grows.log.own).pending = ap (λ (s : State). length s.pending) grows.log.by.state in
+    omega (arith, now, spent_own a.log.state grows.log.own grows.log.all_own grows.log.by.lawful spent)
+
+-- ---- numbers that are told
+
+-- what is left fell, and pays for the events that were set, and for so many more
+pub paid_fewer : (before now : List Pending) (m m' : Option ℕ) (more : ℕ) → Fewer m m' → length now + more ≤ length before + events_paid
+    → Falls (number_left before m) more (number_left now m')
+paid_fewer before now None m' more fell few = tt
+paid_fewer before now (Some x) None more fell few = absurd fell
+paid_fewer before now (Some x) (Some x') more fell few = omega (arith, fell, few)
+
+-- it is no more, and no event was set
+pub paid_none : (before now : List Pending) (m m' : Option ℕ) → NoMore m m' → length now ≤ length before → Falls (number_left before m) 0 (number_left now m')
+paid_none before now None m' kept few = tt
+paid_none before now (Some x) None kept few = absurd kept
+paid_none before now (Some x) (Some x') kept few = omega (arith, kept, few)
+
+-- the same by a sum, where as many Again answers are left
+pub paid_sum : (before now : List Pending) (m : Option ℕ) (f g : ℕ → ℕ) (more : ℕ) → ((x : ℕ) → events_paid * g x + length now + more ≤ events_paid * f x + length before)
+    → Falls (number_left before (if_told m (Some 0) (λ x y. f x))) more (number_left now (if_told m (Some 0) (λ x y. g x)))
+paid_sum before now None f g more pays = tt
+paid_sum before now (Some x) f g more pays = omega (arith, pays x)
+
+-- what was paid before pays for so much
+pub paid_then : (before mid now : List Pending) (m m' : Option ℕ) (more less : ℕ) → Falls (number_left before m) more (number_left mid m') → length now + less ≤ length mid + more
+    → Falls (number_left before m) less (number_left now m')
+paid_then before mid now None m' more less paid few = tt
+paid_then before mid now (Some x) None more less paid few = absurd paid
+paid_then before mid now (Some x) (Some x') more less paid few = omega (arith, paid, few)
+
+-- the event that was handled is pending no more
+pub handled_falls : (before after now : List Pending) (m m' : Option ℕ) → length after + 1 ≤ length before → Falls (number_left after m) 0 (number_left now m')
     → Falls (number_left before m) 1 (number_left now m')
-falls_less before after now None m' handled fell few = tt
-falls_less before after now (Some x) None handled fell few = absurd fell
-falls_less before after now (Some x) (Some x') handled fell few = omega (arith, handled, fell, few)
+handled_falls before after now None m' handled paid = tt
+handled_falls before after now (Some x) None handled paid = absurd paid
+handled_falls before after now (Some x) (Some x') handled paid = omega (arith, handled, paid)
 
--- or no event was set
-pub falls_same : (before after now : List Pending) (m m' : Option ℕ) → length after + 1 ≤ length before → NoMore m m' → length now ≤ length after
-    → Falls (number_left before m) 1 (number_left now m')
-falls_same before after now None m' handled kept none = tt
-falls_same before after now (Some x) None handled kept none = absurd kept
-falls_same before after now (Some x) (Some x') handled kept none = omega (arith, handled, kept, none)
+-- ---- the step of a phase
 
--- so many events are set at most where a step leads
-abbrev pub set_after : Next → ℕ
-set_after N.Go = 1
-set_after N.Wait = 1
-set_after N.Done = 0
-
-one_more : (a b : ℕ) → a ≤ b + 1 → a < b + events_paid
-one_more a b few = omega (arith, few)
+one_paid : (a b : ℕ) → a ≤ b + 1 → a + 0 ≤ b + events_paid
+one_paid a b few = omega (arith, few)
 
 none_more : (a b : ℕ) → a ≤ b + 0 → a ≤ b
 none_more a b few = omega (arith, few)
 
-pub step_lowers : (before after now : List Pending) (next : Next) (m m' : Option ℕ) → length after + 1 ≤ length before → StepFalls next m m'
-    → length now ≤ length after + set_after next → Falls (number_left before m) 1 (number_left now m')
-step_lowers before after now N.Go m m' handled fell few = falls_less before after now m m' handled fell (one_more (length now) (length after) few)
-step_lowers before after now N.Wait m m' handled fell few = falls_less before after now m m' handled fell (one_more (length now) (length after) few)
-step_lowers before after now N.Done m m' handled kept few = falls_same before after now m m' handled kept (none_more (length now) (length after) few)
+pub step_pays : (before now : List Pending) (next : Next) (m m' : Option ℕ) → StepFalls next m m' → length now ≤ length before + set_after next
+    → Falls (number_left before m) 0 (number_left now m')
+step_pays before now N.Go m m' fell few = paid_fewer before now m m' 0 fell (one_paid (length now) (length before) few)
+step_pays before now N.Wait m m' fell few = paid_fewer before now m m' 0 fell (one_paid (length now) (length before) few)
+step_pays before now N.Done m m' kept few = paid_none before now m m' kept (none_more (length now) (length before) few)

@@ -1,11 +1,11 @@
 -- No head of a request that is sent is longer than its room.
-use Rattle.std.proofs.Common.{◌≡◌, ℕ, ◌+◌, ◌*◌, ◌≤◌, Bool, true, false, cond, List, [], ◌∷◌, ◌++◌, map, filter, length, reverse, take, drop, Result, Ok, Err, refl, sym, ap, subst, ◌∙◌, arith, length-append}
+use Rattle.std.proofs.Common.{◌≡◌, ℕ, ◌+◌, ◌*◌, ◌≤◌, Bool, true, false, cond, List, [], ◌∷◌, ◌++◌, map, filter, length, reverse, take, drop, Result, Ok, Err, refl, sym, ap, subst, arith, length-append}
 use Rattle.std.specs.Prelude.{Option, Some, None, ◌==◌, ◌&&◌, ◌||◌, not, codes, find, flat_map, bytes_eq}
 use Rattle.std.specs.List.{list_any, position_or_len}
 use Rattle.std.proofs.lemmas.List.{length-drop, length-map, length-reverse, length-take}
 use Rattle.httparse.specs.Ascii.{crlf_bytes}
 use Rattle.httparse.specs.Grammar as grammar
-use Rattle.httparse.specs.Grammar.{field_value, is_ows, print_blank, print_end, print_field, print_request, print_section, print_version, skip_ows, trim_ows}
+use Rattle.httparse.specs.Grammar.{is_ows, print_blank, print_end, print_field, print_request, print_section, print_version, skip_ows, trim_ows}
 use Rattle.ts_config.specs.declared.setup.Setup.{Setup}
 use Rattle.ts_config.specs.declared.fields.Side.{Side}
 use Rattle.ts_config.specs.declared.fields.Side.TheVariants as S
@@ -118,8 +118,13 @@ pub request_fields : (absolute : Bool) (host : List ℕ) (fs : List Field) → l
 request_fields absolute host [] fits = omega arith
 request_fields absolute host (f ∷ fs) fits =
     let rest : length (flat_map (request_field_text absolute host) fs) ≤ length (fields_text fs) + length fs * line_room = request_fields absolute host fs fits in
-    omega (arith, rest, field_or_host (absolute && is_named (codes "host") f) host f fits, length-append (request_field_text absolute host f) (flat_map (request_field_text absolute host) fs),
-        length-append (field_text f) (fields_text fs))
+    omega (
+      arith,
+      rest,
+      field_or_host (absolute && is_named (codes "host") f) host f fits,
+      length-append (request_field_text absolute host f) (flat_map (request_field_text absolute host) fs),
+      length-append (field_text f) (fields_text fs),
+    )
 
 missing_within : (b : Bool) (host : List ℕ) → length host ≤ head_limit → length (cond b [] (host_text host)) ≤ line_room
 missing_within true host fits = omega arith
@@ -252,19 +257,25 @@ checked_short : (limit : ℕ) (head : RequestHead) (target host : List ℕ) → 
     → AreShort limit target host
 checked_short limit head target host fits also passes =
     by_form (begins_with_slash head.target) (bytes_eq head.target (codes "*") && bytes_eq head.method (codes "OPTIONS")) (is_absolute head.target) limit head.method head.target
-        (host_named head.fields) (target, host) fits also
-        (opened (bytes_eq head.method (codes "CONNECT")) (has_wrong_hosts head.minor (count_named (codes "host") head.fields))
-            (target_parts head.method head.target (host_named head.fields)) head.fields (target, host) passes)
+    (host_named head.fields) (target, host) fits also
+    (opened (bytes_eq head.method (codes "CONNECT")) (has_wrong_hosts head.minor (count_named (codes "host") head.fields))
+    (target_parts head.method head.target (host_named head.fields)) head.fields (target, host) passes)
 
 -- ---- the head that the origin gets
 
 text_sum : (m t x f v : List ℕ) → length (m ++ codes " " ++ t ++ codes " HTTP/1.1\r\n" ++ x ++ f ++ v ++ codes "connection: close\r\n\r\n")
     ≡ length m + length t + length x + length f + length v + 33
 text_sum m t x f v =
-    omega (arith, length-append (m ++ codes " " ++ t ++ codes " HTTP/1.1\r\n" ++ x ++ f ++ v) (codes "connection: close\r\n\r\n"),
-        length-append (m ++ codes " " ++ t ++ codes " HTTP/1.1\r\n" ++ x ++ f) v, length-append (m ++ codes " " ++ t ++ codes " HTTP/1.1\r\n" ++ x) f,
-        length-append (m ++ codes " " ++ t ++ codes " HTTP/1.1\r\n") x, length-append (m ++ codes " " ++ t) (codes " HTTP/1.1\r\n"),
-        length-append (m ++ codes " ") t, length-append m (codes " "))
+    omega (
+      arith,
+      length-append (m ++ codes " " ++ t ++ codes " HTTP/1.1\r\n" ++ x ++ f ++ v) (codes "connection: close\r\n\r\n"),
+      length-append (m ++ codes " " ++ t ++ codes " HTTP/1.1\r\n" ++ x ++ f) v,
+      length-append (m ++ codes " " ++ t ++ codes " HTTP/1.1\r\n" ++ x) f,
+      length-append (m ++ codes " " ++ t ++ codes " HTTP/1.1\r\n") x,
+      length-append (m ++ codes " " ++ t) (codes " HTTP/1.1\r\n"),
+      length-append (m ++ codes " ") t,
+      length-append m (codes " "),
+    )
 
 room_sum : (m t x f v sent fields lines more : ℕ) → m ≤ head_limit → t ≤ head_limit + 1 → x ≤ line_room → v ≤ 16 → sent ≤ 2 * head_limit
     → f ≤ sent + more + (fields + lines) * line_room → fields ≤ field_limit
@@ -285,7 +296,7 @@ request_fits setup bytes rest head target host reads passes =
     let inside = request_in h in
     let lines : length (flat_map print_field h.fields) ≤ length (print_section h.fields h.last) = omega (arith, length-append (flat_map print_field h.fields) (print_end h.last)) in
     let first : length (host_named head.fields) ≤ length (flat_map print_field h.fields) =
-        subst (λ (fs : List Field). length (host_named fs) ≤ length (flat_map print_field h.fields)) (sym reads.keeps.fields) (first_short (is_named (codes "host")) h.fields) in
+    subst (λ (fs : List Field). length (host_named fs) ≤ length (flat_map print_field h.fields)) (sym reads.keeps.fields) (first_short (is_named (codes "host")) h.fields) in
     let aim : length head.target ≤ head_limit = subst (λ (xs : List ℕ). length xs ≤ head_limit) (sym reads.keeps.target) (omega (arith, limit, inside.target)) in
     let method : length head.method ≤ head_limit = subst (λ (xs : List ℕ). length xs ≤ head_limit) (sym reads.keeps.method) (omega (arith, limit, inside.method)) in
     let short = checked_short head_limit head target host aim (omega (arith, first, lines, inside.section, limit)) passes in
@@ -296,10 +307,10 @@ request_fits setup bytes rest head target host reads passes =
     let sent : length (fields_text (forwarded head.fields)) ≤ 2 * head_limit = omega (arith, length-forwarded_request h head reads.keeps, limit) in
     let lined = request_fields (is_absolute head.target) host fields short.host_short in
     subst (λ (n : ℕ). n ≤ head_room setup)
-        (sym (text_sum head.method target (missing_host_text host fields) (flat_map (request_field_text (is_absolute head.target) host) fields) (via_text head.minor)))
-        (room_sum (length head.method) (length target) (length (missing_host_text host fields)) (length (flat_map (request_field_text (is_absolute head.target) host) fields))
-            (length (via_text head.minor)) (length (fields_text (forwarded head.fields))) (length (forwarded head.fields)) (length setup.plugins.items) (plugins_length setup.plugins.items)
-            method short.target_short (missing_within (list_any (is_named (codes "host")) fields) host short.host_short) (via_within (head.minor == 0)) sent
-            (ruled_room (length (flat_map (request_field_text (is_absolute head.target) host) fields)) (length (fields_text fields)) (length (fields_text (forwarded head.fields)))
-                (plugins_length setup.plugins.items) (length fields) (length (forwarded head.fields)) (length setup.plugins.items) lined all.text all.count)
-            few)
+    (sym (text_sum head.method target (missing_host_text host fields) (flat_map (request_field_text (is_absolute head.target) host) fields) (via_text head.minor)))
+    (room_sum (length head.method) (length target) (length (missing_host_text host fields)) (length (flat_map (request_field_text (is_absolute head.target) host) fields))
+    (length (via_text head.minor)) (length (fields_text (forwarded head.fields))) (length (forwarded head.fields)) (length setup.plugins.items) (plugins_length setup.plugins.items)
+    method short.target_short (missing_within (list_any (is_named (codes "host")) fields) host short.host_short) (via_within (head.minor == 0)) sent
+    (ruled_room (length (flat_map (request_field_text (is_absolute head.target) host) fields)) (length (fields_text fields)) (length (fields_text (forwarded head.fields)))
+    (plugins_length setup.plugins.items) (length fields) (length (forwarded head.fields)) (length setup.plugins.items) lined all.text all.count)
+    few)

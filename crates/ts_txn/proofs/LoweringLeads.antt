@@ -1,5 +1,5 @@
 -- Where the answer of an upload leads, what is left to do is less, if both links tell.
-use Rattle.std.proofs.Common.{◌≡◌, ℕ, ◌<◌, ◌≤◌, List, Bool, true, false, arith, sym, subst}
+use Rattle.std.proofs.Common.{ℕ, List, Bool, true, false, arith, sym, subst}
 use Rattle.std.specs.Prelude.{Option, Some, None}
 use Rattle.ts_config.specs.declared.setup.Setup.{Setup}
 use Rattle.ts_hooks.specs.declared.txn_end.TxnEnd.TheVariants as E
@@ -95,19 +95,21 @@ module _ (setup : Setup) (refuses : List ℕ → Type 0) (v w : View) (u u' : Op
   leads_on U.Again moves lowers leads = subst (λ (x : Step). StepLowers setup (P.Upload q) u u' v w x) (sym leads) (uploads_again setup refuses v w u u' q moves lowers)
   leads_on U.ClientFailed moves lowers leads = falls_by s.next (work_left setup u v (P.Upload q)) (work_left setup u' w s.phase)
       (closes_by setup w (work_left setup u v (P.Upload q)) u' s.phase leads
-          (to_close setup false 0 v w u u' (upload_calm setup refuses v w U.ClientFailed moves false lowers.1) (not_risen u u' lowers.0) (P.Upload q) E.ClientFault tt))
+      (to_close setup false 0 v w u u' (upload_calm setup refuses v w U.ClientFailed moves false lowers.1) (not_risen u u' lowers.0) (P.Upload q) E.ClientFault tt))
   leads_on U.OriginFailed moves lowers leads = falls_by s.next (work_left setup u v (P.Upload q)) (work_left setup u' w s.phase)
       (answers_by setup w (work_left setup u v (P.Upload q)) u' s.phase leads
-          (λ a. to_own setup false 0 v w u u' (upload_calm setup refuses v w U.OriginFailed moves false lowers.1) (not_risen u u' lowers.0) (P.Upload q) a tt))
+      (λ a. to_own setup false 0 v w u u' (upload_calm setup refuses v w U.OriginFailed moves false lowers.1) (not_risen u u' lowers.0) (P.Upload q) a tt))
   leads_on U.Refused moves lowers leads = falls_by s.next (work_left setup u v (P.Upload q)) (work_left setup u' w s.phase)
       (refuses_by setup w (work_left setup u v (P.Upload q)) u' s.phase leads
-          (λ a. to_own setup false 0 v w u u' (upload_calm setup refuses v w U.Refused moves false lowers.1) (not_risen u u' lowers.0) (P.Upload q) a tt))
+      (λ a. to_own setup false 0 v w u u' (upload_calm setup refuses v w U.Refused moves false lowers.1) (not_risen u u' lowers.0) (P.Upload q) a tt))
   leads_on U.NoMemory moves lowers leads = subst (λ (x : Step). StepLowers setup (P.Upload q) u u' v w x) (sym leads)
       (to_end setup false 0 v w u u' (upload_calm setup refuses v w U.NoMemory moves false lowers.1) (not_risen u u' lowers.0) (P.Upload q) E.NoMemory)
 
   -- one upload, wherever its answer leads
+  pub uploads_by : (ct ot : Bool) (answer : Uploaded) → MovesUpload ct ot refuses answer v w → LowersUpload answer u u' v w → UploadLeads answer q s
+      → IfTold ct ot (StepLowers setup (P.Upload q) u u' v w s)
+  uploads_by ct ot answer moves lowers leads told also =
+      leads_on answer (subst (λ (b : Bool). MovesUpload true b refuses answer v w) also (subst (λ (b : Bool). MovesUpload b ot refuses answer v w) told moves)) lowers leads
+
   pub uploads_lower : (ct ot : Bool) → UploadsOnce ct ot refuses q u u' v w s → IfTold ct ot (StepLowers setup (P.Upload q) u u' v w s)
-  uploads_lower ct ot once told also =
-      leads_on once.answer
-          (subst (λ (b : Bool). MovesUpload true b refuses once.answer v w) also (subst (λ (b : Bool). MovesUpload b ot refuses once.answer v w) told once.moves))
-          once.lowers once.leads
+  uploads_lower ct ot once = uploads_by ct ot once.answer once.moves once.lowers once.leads

@@ -1,23 +1,20 @@
 -- No head of a response that is passed on is longer than its room.
-use Rattle.std.proofs.Common.{◌≡◌, ℕ, zero, suc, ◌+◌, ◌*◌, ◌≤◌, ◌/◌, ◌%◌, Bool, true, false, cond, List, [], ◌∷◌, ◌++◌, length, sym, ap, subst, ◌∙◌, arith, length-append}
-use Rattle.std.specs.Prelude.{Option, Some, None, ◌==◌, codes, decimal, flat_map}
+use Rattle.std.proofs.Common.{◌≡◌, ℕ, zero, suc, ◌+◌, ◌*◌, ◌≤◌, ◌/◌, ◌%◌, Bool, true, false, cond, List, [], ◌∷◌, ◌++◌, length, sym, subst, arith, length-append}
+use Rattle.std.specs.Prelude.{Option, Some, None, ◌==◌, codes, decimal}
 use Rattle.std.specs.Fmt.{digit_glyph, digits, digits_onto}
 use Rattle.std.specs.List.{list_all}
-use Rattle.std.proofs.lemmas.List.{length-map}
 use Rattle.httparse.specs.Ascii.{crlf_bytes}
 use Rattle.httparse.specs.Grammar as grammar
-use Rattle.httparse.specs.Grammar.{print_blank, print_end, print_field, print_reason, print_response, print_section, print_version, reason_phrase}
+use Rattle.httparse.specs.Grammar.{print_blank, print_end, print_reason, print_response, print_section, print_version, reason_phrase}
 use Rattle.ts_config.specs.declared.setup.Setup.{Setup}
 use Rattle.ts_config.specs.declared.fields.Side.TheVariants as S
-use Rattle.ts_wire.specs.declared.fields.Field.{Field}
 use Rattle.ts_wire.specs.declared.heads.RequestHead.{RequestHead}
 use Rattle.ts_wire.specs.declared.heads.ResponseHead.{ResponseHead}
 use Rattle.ts_wire.specs.declared.printed.ClientFraming.{ClientFraming}
 use Rattle.ts_wire.specs.declared.printed.ClientFraming.TheVariants as C
-use Rattle.ts_wire.specs.Forward.{forwarded, is_forwarded}
-use Rattle.ts_wire.specs.Heads.{kept_field}
+use Rattle.ts_wire.specs.Forward.{forwarded}
 use Rattle.ts_wire.specs.Limits.{field_limit, head_limit}
-use Rattle.ts_wire.specs.Printed.{fields_text, framing_line, is_ascii_byte, reason_text, status_text, via_line, via_text}
+use Rattle.ts_wire.specs.Printed.{fields_text, framing_line, is_ascii_byte, reason_text, status_text, via_line}
 use Rattle.ts_wire.proofs.Sizes.{length-forwarded_response}
 use Rattle.ts_txn.specs.Block.{framing_for, relayed_head}
 use Rattle.ts_txn.specs.Heads.{HasResponse}
@@ -78,10 +75,18 @@ response_in h = parts_in (print_blank h.blank) (print_version h.minor) h.digits 
 text_sum : (s r f v g : List ℕ) → length s ≡ 3 → length (codes "HTTP/1.1 " ++ s ++ codes " " ++ r ++ crlf_bytes ++ f ++ v ++ g ++ codes "connection: close\r\n\r\n")
     ≡ length r + length f + length v + length g + 36
 text_sum s r f v g three =
-    omega (arith, three, length-append (codes "HTTP/1.1 " ++ s ++ codes " " ++ r ++ crlf_bytes ++ f ++ v ++ g) (codes "connection: close\r\n\r\n"),
-        length-append (codes "HTTP/1.1 " ++ s ++ codes " " ++ r ++ crlf_bytes ++ f ++ v) g, length-append (codes "HTTP/1.1 " ++ s ++ codes " " ++ r ++ crlf_bytes ++ f) v,
-        length-append (codes "HTTP/1.1 " ++ s ++ codes " " ++ r ++ crlf_bytes) f, length-append (codes "HTTP/1.1 " ++ s ++ codes " " ++ r) crlf_bytes,
-        length-append (codes "HTTP/1.1 " ++ s ++ codes " ") r, length-append (codes "HTTP/1.1 " ++ s) (codes " "), length-append (codes "HTTP/1.1 ") s)
+    omega (
+      arith,
+      three,
+      length-append (codes "HTTP/1.1 " ++ s ++ codes " " ++ r ++ crlf_bytes ++ f ++ v ++ g) (codes "connection: close\r\n\r\n"),
+      length-append (codes "HTTP/1.1 " ++ s ++ codes " " ++ r ++ crlf_bytes ++ f ++ v) g,
+      length-append (codes "HTTP/1.1 " ++ s ++ codes " " ++ r ++ crlf_bytes ++ f) v,
+      length-append (codes "HTTP/1.1 " ++ s ++ codes " " ++ r ++ crlf_bytes) f,
+      length-append (codes "HTTP/1.1 " ++ s ++ codes " " ++ r) crlf_bytes,
+      length-append (codes "HTTP/1.1 " ++ s ++ codes " ") r,
+      length-append (codes "HTTP/1.1 " ++ s) (codes " "),
+      length-append (codes "HTTP/1.1 ") s,
+    )
 
 room_sum : (r f v g sent lines more : ℕ) → r ≤ head_limit → v ≤ 16 → g ≤ 96 → sent ≤ 2 * head_limit → f ≤ sent + more
     → r + f + v + g + 36 ≤ frame_room + (field_limit + lines + 1) * line_room + more
@@ -98,7 +103,7 @@ response_fits setup bytes rest q head reads =
     let fields = ruled S.Response setup.plugins.items (forwarded head.fields) in
     let all = ruled_adds S.Response setup.plugins.items (forwarded head.fields) in
     subst (λ (n : ℕ). n ≤ head_room setup)
-        (sym (text_sum (status_text head.status) (reason_text head.reason) (fields_text fields) (via_line (Some head.minor)) (framing_line (framing_for setup q head)) (omega arith)))
-        (room_sum (length (reason_text head.reason)) (length (fields_text fields)) (length (via_line (Some head.minor))) (length (framing_line (framing_for setup q head)))
-            (length (fields_text (forwarded head.fields))) (length setup.plugins.items) (plugins_length setup.plugins.items) reason (via_within (head.minor == 0))
-            (framing_short (framing_for setup q head)) sent all.text)
+    (sym (text_sum (status_text head.status) (reason_text head.reason) (fields_text fields) (via_line (Some head.minor)) (framing_line (framing_for setup q head)) (omega arith)))
+    (room_sum (length (reason_text head.reason)) (length (fields_text fields)) (length (via_line (Some head.minor))) (length (framing_line (framing_for setup q head)))
+    (length (fields_text (forwarded head.fields))) (length setup.plugins.items) (plugins_length setup.plugins.items) reason (via_within (head.minor == 0))
+    (framing_short (framing_for setup q head)) sent all.text)

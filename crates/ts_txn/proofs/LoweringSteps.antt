@@ -1,7 +1,6 @@
 -- Each step up to the head lowers what a transaction has left to do.
-use Rattle.std.proofs.Common.{◌≡◌, ℕ, ◌+◌, ◌-◌, ◌*◌, ◌<◌, ◌≤◌, List, [], ◌∷◌, ◌++◌, length, take, Bool, true, false, arith, refl, sym, ap, subst, ◌∙◌, length-append}
-use Rattle.std.specs.Prelude.{Option, Some, None, ⊤}
-use Rattle.std.proofs.lemmas.List.{length-take-le}
+use Rattle.std.proofs.Common.{◌≡◌, ℕ, ◌+◌, ◌-◌, ◌*◌, ◌<◌, ◌≤◌, List, ◌++◌, length, Bool, true, false, arith, refl, sym, ap, subst, ◌∙◌, length-append}
+use Rattle.std.specs.Prelude.{Option, Some, ⊤}
 use Rattle.ts_config.specs.declared.setup.Setup.{Setup}
 use Rattle.ts_hooks.specs.declared.txn_end.TxnEnd.{TxnEnd}
 use Rattle.ts_link.specs.Link.{AgainsFall, Fewer, NoMore}
@@ -14,17 +13,16 @@ use Rattle.ts_wire.specs.declared.heads.ResponseHead.{ResponseHead}
 use Rattle.ts_txn.specs.Block.{own_text, request_text}
 use Rattle.ts_txn.specs.Own.{own_body, own_sent}
 use Rattle.ts_txn.specs.View.{LinkSide, View}
-use Rattle.ts_txn.specs.Moving.{HearsRequest, HearsResponse, QueuesOwn, QueuesRequest, SideReads, SideWrites, WritesClient, WritesOrigin}
-use Rattle.ts_txn.specs.Lowering.{agains_left, answer_room, answer_work, chain_room, end_room, head_room, own_length, own_room, phase_work, pump_weight, to_ask, to_hear, work_left, written_weight}
+use Rattle.ts_txn.specs.Moving.{HearsRequest, HearsResponse, QueuesOwn, QueuesRequest, WritesClient, WritesOrigin}
+use Rattle.ts_txn.specs.Lowering.{agains_left, answer_room, answer_work, chain_room, end_room, head_room, own_length, own_room, phase_work, pump_weight, to_ask, to_hear, upload_in, work_left, written_weight}
 use Rattle.ts_txn.specs.declared.own.OwnStatus.{OwnStatus}
 use Rattle.ts_txn.specs.declared.own.OwnStatus.TheVariants as O
 use Rattle.ts_txn.specs.declared.phase.OwnAnswer.{OwnAnswer}
 use Rattle.ts_txn.specs.declared.phase.Phase.{Phase}
 use Rattle.ts_txn.specs.declared.phase.Phase.TheVariants as P
 use Rattle.ts_txn.specs.declared.phase.Request.{Request}
-use Rattle.ts_txn.specs.declared.reading.Found.{Found}
 use Rattle.ts_txn.specs.declared.reading.Found.TheVariants as F
-use Rattle.ts_txn.proofs.Lowering.{Comes, comes_ask, comes_hear, first_falls, least_came, least_went, none_fall, none_rise, one_if, read_comes, second_falls, told_fewer, told_no_more, used_hear, went_some, write_hear}
+use Rattle.ts_txn.proofs.Lowering.{comes_ask, comes_hear, first_falls, least_came, least_went, none_fall, none_left, none_rise, one_if, read_comes, second_falls, told_fewer, told_no_more, used_hear, went_some, write_hear}
 
 -- ---- sums
 
@@ -116,18 +114,18 @@ module _ (setup : Setup) where
   -- ---- where a step leads that raised nothing
 
   module _ (b : Bool) (k : ℕ) (v w : View) (u u' : Option ℕ) (calm : Calm b v w) (rose : Rose8 u u' k) where
-    pub work_falls : (p p' : Phase) → ((x x' y y' : ℕ) → x' + one_if b ≤ x → y' ≤ y + 8 * k → phase_work setup x' y' w p' < phase_work setup x y v p)
+    pub work_falls : (p p' : Phase) → Rose8 (upload_in u p) (upload_in u' p') k → ((x x' y y' : ℕ) → x' + one_if b ≤ x → y' ≤ y + 8 * k → phase_work setup x' y' w p' < phase_work setup x y v p)
         → Fewer (work_left setup u v p) (work_left setup u' w p')
-    work_falls p p' falls = told_fewer (λ x y. phase_work setup x y v p) (λ x y. phase_work setup x y w p') b k (agains_left v) (agains_left w) u u' calm.again rose falls
+    work_falls p p' risen falls = told_fewer (λ x y. phase_work setup x y v p) (λ x y. phase_work setup x y w p') b k (agains_left v) (agains_left w) (upload_in u p) (upload_in u' p') calm.again risen falls
 
     -- to an answer of the proxy's own
     own_next : (i x x' out out' room hear own all : ℕ) → x' + i ≤ x → out' ≤ out → own ≤ room → 4 + (x + out + room + hear) ≤ all → 3 + (x' + out') + own < all
     own_next i x x' out out' room hear own all again less fits least = omega (arith, again, less, fits, least)
 
     pub to_own : (p : Phase) (a : OwnAnswer) → IsEarly p → Fewer (work_left setup u v p) (work_left setup u' w (P.SendResponseHdr a))
-    to_own p a early = work_falls p (P.SendResponseHdr a) (λ x x' y y' again upload.
+    to_own p a early = work_falls p (P.SendResponseHdr a) (none_left (upload_in u p) k) (λ x x' y y' again upload.
         own_next (one_if b) x x' (length v.client.outbox) (length w.client.outbox) (answer_room setup) (to_hear setup v.origin) (own_length setup a.status)
-            (phase_work setup x y v p) again calm.out (own_within a.status) (above x y v p early))
+        (phase_work setup x y v p) again calm.out (own_within a.status) (above x y v p early))
 
     -- to the close
     close_next : (a all : ℕ) → 4 + a ≤ all → 1 < all
@@ -137,14 +135,14 @@ module _ (setup : Setup) where
     close_sent a = omega arith
 
     pub to_close : (p : Phase) (end : TxnEnd) → IsEarly p → Fewer (work_left setup u v p) (work_left setup u' w (P.TxnClose end))
-    to_close p end early = work_falls p (P.TxnClose end) (λ x x' y y' again upload. close_next (answer_work setup x y v) (phase_work setup x y v p) (above x y v p early))
+    to_close p end early = work_falls p (P.TxnClose end) (none_left (upload_in u p) k) (λ x x' y y' again upload. close_next (answer_work setup x y v) (phase_work setup x y v p) (above x y v p early))
 
     pub sent_close : (a : OwnAnswer) (end : TxnEnd) → Fewer (work_left setup u v (P.Sending a)) (work_left setup u' w (P.TxnClose end))
-    sent_close a end = work_falls (P.Sending a) (P.TxnClose end) (λ x x' y y' again upload. close_sent (x + length v.client.outbox))
+    sent_close a end = work_falls (P.Sending a) (P.TxnClose end) (none_left (Some 0) k) (λ x x' y y' again upload. close_sent (x + length v.client.outbox))
 
     -- to the end
     pub to_end : (p : Phase) (end : TxnEnd) → NoMore (work_left setup u v p) (work_left setup u' w (P.Ended end))
-    to_end p end = told_no_more (λ x y. phase_work setup x y v p) (λ x y. phase_work setup x y w (P.Ended end)) b k (agains_left v) (agains_left w) u u' calm.again rose
+    to_end p end = told_no_more (λ x y. phase_work setup x y v p) (λ x y. phase_work setup x y w (P.Ended end)) b k (agains_left v) (agains_left w) (upload_in u p) (Some 0) calm.again (none_left (upload_in u p) k)
         (λ x x' y y' again upload. zero_least (phase_work setup x y v p))
 
     -- from one phase that has only the answer before it to the next
@@ -155,26 +153,26 @@ module _ (setup : Setup) where
     upload_next r s i x x' out out' room hear hear' y ranks again less heard = omega (arith, ranks, again, less, heard)
 
     pub upload_done : (q : Request) → Fewer (work_left setup u v (P.Upload q)) (work_left setup u' w (P.ReadResponse q))
-    upload_done q = work_falls (P.Upload q) (P.ReadResponse q) (λ x x' y y' again upload.
+    upload_done q = work_falls (P.Upload q) (P.ReadResponse q) (none_left u k) (λ x x' y y' again upload.
         upload_next 9 8 (one_if b) x x' (length v.client.outbox) (length w.client.outbox) (answer_room setup) (to_hear setup v.origin) (to_hear setup w.origin) y
-            (omega arith) again calm.out calm.hear)
+        (omega arith) again calm.out calm.hear)
 
     pub response_heard : (q : Request) (h : ResponseHead) → Fewer (work_left setup u v (P.ReadResponse q)) (work_left setup u' w (P.ReadResponseHdr q h))
-    response_heard q h = work_falls (P.ReadResponse q) (P.ReadResponseHdr q h) (λ x x' y y' again upload.
+    response_heard q h = work_falls (P.ReadResponse q) (P.ReadResponseHdr q h) (none_left (Some 0) k) (λ x x' y y' again upload.
         answer_next 8 7 (one_if b) x x' (length v.client.outbox) (length w.client.outbox) (answer_room setup) (to_hear setup v.origin) (to_hear setup w.origin)
-            (omega arith) again calm.out calm.hear)
+        (omega arith) again calm.out calm.hear)
 
     pub response_passed : (q : Request) (h : ResponseHead) → Fewer (work_left setup u v (P.ReadResponseHdr q h)) (work_left setup u' w (P.ResponseTransform q h))
-    response_passed q h = work_falls (P.ReadResponseHdr q h) (P.ResponseTransform q h) (λ x x' y y' again upload.
+    response_passed q h = work_falls (P.ReadResponseHdr q h) (P.ResponseTransform q h) (none_left (Some 0) k) (λ x x' y y' again upload.
         answer_next 7 6 (one_if b) x x' (length v.client.outbox) (length w.client.outbox) (answer_room setup) (to_hear setup v.origin) (to_hear setup w.origin)
-            (omega arith) again calm.out calm.hear)
+        (omega arith) again calm.out calm.hear)
 
   -- ---- the phases in which nothing moves
 
   module _ (v : View) (u : Option ℕ) where
-    same_less : (p p' : Phase) → ((x x' y y' : ℕ) → x' + one_if false ≤ x → y' ≤ y + 8 * 0 → phase_work setup x' y' v p' < phase_work setup x y v p)
+    same_less : (p p' : Phase) → Rose8 (upload_in u p) (upload_in u p') 0 → ((x x' y y' : ℕ) → x' + one_if false ≤ x → y' ≤ y + 8 * 0 → phase_work setup x' y' v p' < phase_work setup x y v p)
         → Fewer (work_left setup u v p) (work_left setup u v p')
-    same_less p p' falls = work_falls false 0 v v u u (stays_calm v v refl) (none_rise u) p p' falls
+    same_less p p' risen falls = work_falls false 0 v v u u (stays_calm v v refl) (none_rise u) p p' risen falls
 
     ask_next : (r s i x x' out room hear y y' z t : ℕ) → s < r → x' + i ≤ x → y' ≤ y + 8 * 0
         → s + (x' + out + room + hear + y' + z + t) < r + (x + out + room + hear + y + z + t)
@@ -185,24 +183,24 @@ module _ (setup : Setup) where
     text_next r s i x x' out room hear y y' z ranks again upload = omega (arith, ranks, again, upload)
 
     pub begins : Fewer (work_left setup u v P.Fresh) (work_left setup u v P.TxnStart)
-    begins = same_less P.Fresh P.TxnStart (λ x x' y y' again upload.
+    begins = same_less P.Fresh P.TxnStart (none_rise u) (λ x x' y y' again upload.
         ask_next 16 15 (one_if false) x x' (length v.client.outbox) (answer_room setup) (to_hear setup v.origin) y y'
-            (written_weight * (length v.origin.outbox + head_room setup)) (to_ask v.client) (omega arith) again upload)
+        (written_weight * (length v.origin.outbox + head_room setup)) (to_ask v.client) (omega arith) again upload)
 
     pub started : Fewer (work_left setup u v P.TxnStart) (work_left setup u v P.ReadRequest)
-    started = same_less P.TxnStart P.ReadRequest (λ x x' y y' again upload.
+    started = same_less P.TxnStart P.ReadRequest (none_rise u) (λ x x' y y' again upload.
         ask_next 15 14 (one_if false) x x' (length v.client.outbox) (answer_room setup) (to_hear setup v.origin) y y'
-            (written_weight * (length v.origin.outbox + head_room setup)) (to_ask v.client) (omega arith) again upload)
+        (written_weight * (length v.origin.outbox + head_room setup)) (to_ask v.client) (omega arith) again upload)
 
     pub request_read : (q : Request) → Fewer (work_left setup u v (P.ReadRequestHdr q)) (work_left setup u v (P.OsDns q))
-    request_read q = same_less (P.ReadRequestHdr q) (P.OsDns q) (λ x x' y y' again upload.
+    request_read q = same_less (P.ReadRequestHdr q) (P.OsDns q) (none_rise u) (λ x x' y y' again upload.
         text_next 13 12 (one_if false) x x' (length v.client.outbox) (answer_room setup) (to_hear setup v.origin) y y'
-            (written_weight * (length v.origin.outbox + length (request_text setup q.head q.target q.host))) (omega arith) again upload)
+        (written_weight * (length v.origin.outbox + length (request_text setup q.head q.target q.host))) (omega arith) again upload)
 
     pub request_goes : (q : Request) → Fewer (work_left setup u v (P.OsDns q)) (work_left setup u v (P.SendRequestHdr q))
-    request_goes q = same_less (P.OsDns q) (P.SendRequestHdr q) (λ x x' y y' again upload.
+    request_goes q = same_less (P.OsDns q) (P.SendRequestHdr q) (none_rise u) (λ x x' y y' again upload.
         text_next 12 11 (one_if false) x x' (length v.client.outbox) (answer_room setup) (to_hear setup v.origin) y y'
-            (written_weight * (length v.origin.outbox + length (request_text setup q.head q.target q.host))) (omega arith) again upload)
+        (written_weight * (length v.origin.outbox + length (request_text setup q.head q.target q.host))) (omega arith) again upload)
 
   -- ---- the client's head is read
 
@@ -244,13 +242,13 @@ module _ (setup : Setup) where
         let calm = asks_calm v w p hears in
         let come = comes_ask v.client w.client (least_came p) (read_comes v.client w.client p hears.finds.1) in
         let sends = unsent v w hears.others in
-        work_falls (pull_again p) 0 v w u u' calm rose P.ReadRequest P.ReadRequest (λ x x' y y' again upload.
-            asks_again (one_if (pull_again p)) (least_came p) x x' (length v.client.outbox) (length w.client.outbox) (answer_room setup)
-                (to_hear setup v.origin) (to_hear setup w.origin) y y'
-                (written_weight * (length v.origin.outbox + head_room setup)) (written_weight * (length w.origin.outbox + head_room setup))
-                (to_ask v.client) (to_ask w.client) again upload calm.out calm.hear
-                (long_less (length v.origin.outbox) (length w.origin.outbox) (head_room setup) (head_room setup) (plus_same (length v.origin.outbox) (length w.origin.outbox) (head_room setup) sends))
-                come some)
+        work_falls (pull_again p) 0 v w u u' calm rose P.ReadRequest P.ReadRequest rose (λ x x' y y' again upload.
+        asks_again (one_if (pull_again p)) (least_came p) x x' (length v.client.outbox) (length w.client.outbox) (answer_room setup)
+        (to_hear setup v.origin) (to_hear setup w.origin) y y'
+        (written_weight * (length v.origin.outbox + head_room setup)) (written_weight * (length w.origin.outbox + head_room setup))
+        (to_ask v.client) (to_ask w.client) again upload calm.out calm.hear
+        (long_less (length v.origin.outbox) (length w.origin.outbox) (head_room setup) (head_room setup) (plus_same (length v.origin.outbox) (length w.origin.outbox) (head_room setup) sends))
+        come some)
 
     -- a head that passes the check was found, and what the origin gets of it is no longer than a head may be
     pub asked : (head : RequestHead) (q : Request) → length (request_text setup q.head q.target q.host) ≤ head_room setup → HearsRequest true v w (F.Head head)
@@ -260,12 +258,12 @@ module _ (setup : Setup) where
         let sends = unsent v w hears.others in
         let text = length (request_text setup q.head q.target q.host) in
         let longer : length w.origin.outbox + text ≤ length v.origin.outbox + head_room setup = both_less (length v.origin.outbox) (length w.origin.outbox) (head_room setup) text sends fits in
-        work_falls false 0 v w u u' calm rose P.ReadRequest (P.ReadRequestHdr q) (λ x x' y y' again upload.
-            asked_next (one_if false) x x' (length v.client.outbox) (length w.client.outbox) (answer_room setup)
-                (to_hear setup v.origin) (to_hear setup w.origin) y y'
-                (written_weight * (length v.origin.outbox + head_room setup)) (written_weight * (length w.origin.outbox + text))
-                (to_ask v.client) again upload calm.out calm.hear
-                (long_less (length v.origin.outbox) (length w.origin.outbox) (head_room setup) text longer))
+        work_falls false 0 v w u u' calm rose P.ReadRequest (P.ReadRequestHdr q) rose (λ x x' y y' again upload.
+        asked_next (one_if false) x x' (length v.client.outbox) (length w.client.outbox) (answer_room setup)
+        (to_hear setup v.origin) (to_hear setup w.origin) y y'
+        (written_weight * (length v.origin.outbox + head_room setup)) (written_weight * (length w.origin.outbox + text))
+        (to_ask v.client) again upload calm.out calm.hear
+        (long_less (length v.origin.outbox) (length w.origin.outbox) (head_room setup) text longer))
       where
         both_less : (o o' n n' : ℕ) → o' ≤ o → n' ≤ n → o' + n' ≤ o + n
         both_less o o' n n' sends fits = omega (arith, sends, fits)
@@ -282,11 +280,11 @@ module _ (setup : Setup) where
       let text = request_text setup q.head q.target q.host in
       let calm : Calm false v w = origin_calm false v w (record v.origin { outbox = v.origin.outbox ++ text }) queues (none_fall v.origin.look.agains) (no_more (to_hear setup v.origin)) in
       let len : length w.origin.outbox ≡ length v.origin.outbox + length text = ap (λ (x : View). length x.origin.outbox) queues ∙ length-append v.origin.outbox text in
-      work_falls false 0 v w u u' calm rose (P.SendRequestHdr q) (P.SendRequest q) (λ x x' y y' again upload.
-          queue_next (one_if false) x x' (length v.client.outbox) (length w.client.outbox) (answer_room setup)
-              (to_hear setup v.origin) (to_hear setup w.origin) y y'
-              (written_weight * (length v.origin.outbox + length text)) (written_weight * (length w.origin.outbox + 0)) again upload calm.out calm.hear
-              (long_less (length v.origin.outbox) (length w.origin.outbox) (length text) 0 (end_less (length v.origin.outbox) (length w.origin.outbox) (length text) len)))
+      work_falls false 0 v w u u' calm rose (P.SendRequestHdr q) (P.SendRequest q) rose (λ x x' y y' again upload.
+      queue_next (one_if false) x x' (length v.client.outbox) (length w.client.outbox) (answer_room setup)
+      (to_hear setup v.origin) (to_hear setup w.origin) y y'
+      (written_weight * (length v.origin.outbox + length text)) (written_weight * (length w.origin.outbox + 0)) again upload calm.out calm.hear
+      (long_less (length v.origin.outbox) (length w.origin.outbox) (length text) 0 (end_less (length v.origin.outbox) (length w.origin.outbox) (length text) len)))
     where
       end_less : (o o' n : ℕ) → o' ≡ o + n → o' + 0 ≤ o + n
       end_less o o' n len = omega (arith, len)
@@ -309,7 +307,7 @@ module _ (setup : Setup) where
   less_plus a b n less = omega (arith, less)
 
   module _ (v w : View) (u u' : Option ℕ) (rose : Rose8 u u' (taken_since v.origin.look w.origin.look)) (p : Pushed) (writes : WritesOrigin true v w p) where
-    write_calm : Calm (push_again p) v w
+    pub write_calm : Calm (push_again p) v w
     write_calm = origin_calm (push_again p) v w w.origin writes.others writes.origin.pushes.calls.agains (write_hear setup v.origin w.origin p writes.origin)
 
     went_least : length w.origin.outbox + least_went p ≤ length v.origin.outbox
@@ -321,14 +319,14 @@ module _ (setup : Setup) where
 
     -- some of it went, or there was an Again
     pub writes_on : (q : Request) → 1 ≤ least_went p + one_if (push_again p) → Fewer (work_left setup u v (P.SendRequest q)) (work_left setup u' w (P.SendRequest q))
-    writes_on q some = work_falls (push_again p) (taken_since v.origin.look w.origin.look) v w u u' write_calm rose (P.SendRequest q) (P.SendRequest q) (λ x x' y y' again upload.
+    writes_on q some = work_falls (push_again p) (taken_since v.origin.look w.origin.look) v w u u' write_calm rose (P.SendRequest q) (P.SendRequest q) rose (λ x x' y y' again upload.
         write_next (one_if (push_again p)) (least_went p) (taken_since v.origin.look w.origin.look) x x' (length v.client.outbox) (length w.client.outbox) (answer_room setup)
-            (to_hear setup v.origin) (to_hear setup w.origin) y y' (length v.origin.outbox) (length w.origin.outbox) again upload write_calm.out write_calm.hear went_all went_least some)
+        (to_hear setup v.origin) (to_hear setup w.origin) y y' (length v.origin.outbox) (length w.origin.outbox) again upload write_calm.out write_calm.hear went_all went_least some)
 
     pub written : (q : Request) → Fewer (work_left setup u v (P.SendRequest q)) (work_left setup u' w (P.Upload q))
-    written q = work_falls (push_again p) (taken_since v.origin.look w.origin.look) v w u u' write_calm rose (P.SendRequest q) (P.Upload q) (λ x x' y y' again upload.
+    written q = work_falls (push_again p) (taken_since v.origin.look w.origin.look) v w u u' write_calm rose (P.SendRequest q) (P.Upload q) rose (λ x x' y y' again upload.
         written_next (one_if (push_again p)) (taken_since v.origin.look w.origin.look) x x' (length v.client.outbox) (length w.client.outbox) (answer_room setup)
-            (to_hear setup v.origin) (to_hear setup w.origin) y y' (length v.origin.outbox) (length w.origin.outbox) again upload write_calm.out write_calm.hear went_all)
+        (to_hear setup v.origin) (to_hear setup w.origin) y y' (length v.origin.outbox) (length w.origin.outbox) again upload write_calm.out write_calm.hear went_all)
 
     pub write_fails : (q : Request) (a : OwnAnswer) → Fewer (work_left setup u v (P.SendRequest q)) (work_left setup u' w (P.SendResponseHdr a))
     write_fails q a = to_own (push_again p) (taken_since v.origin.look w.origin.look) v w u u' write_calm rose (P.SendRequest q) a tt
@@ -343,7 +341,7 @@ module _ (setup : Setup) where
     pub hears_calm : (p : Pulled) → HearsResponse true v w (F.Read p) → Calm (pull_again p) v w
     hears_calm p hears = origin_calm (pull_again p) v w w.origin hears.others hears.finds.1.pulls.pulls.calls.agains
         (less_plus (to_hear setup w.origin) (to_hear setup v.origin) (least_came p)
-            (comes_hear setup v.origin w.origin (least_came p) (read_comes v.origin w.origin p hears.finds.1)))
+        (comes_hear setup v.origin w.origin (least_came p) (read_comes v.origin w.origin p hears.finds.1)))
 
     head_used : (head : ResponseHead) → HearsResponse true v w (F.Head head) → to_hear setup w.origin + 1 ≤ to_hear setup v.origin
     head_used head hears = plus_one (to_hear setup w.origin) (to_hear setup v.origin)
@@ -362,19 +360,19 @@ module _ (setup : Setup) where
         → Fewer (work_left setup u v (P.ReadResponse q)) (work_left setup u' w (P.ReadResponse q))
     hears_on q p some hears =
         let calm = hears_calm v w p hears in
-        work_falls (pull_again p) 0 v w u u' calm rose (P.ReadResponse q) (P.ReadResponse q) (λ x x' y y' again upload.
-            hears_next (one_if (pull_again p)) (least_came p) x x' (length v.client.outbox) (length w.client.outbox) (answer_room setup)
-                (to_hear setup v.origin) (to_hear setup w.origin) again calm.out
-                (comes_hear setup v.origin w.origin (least_came p) (read_comes v.origin w.origin p hears.finds.1)) some)
+        work_falls (pull_again p) 0 v w u u' calm rose (P.ReadResponse q) (P.ReadResponse q) (none_left (Some 0) 0) (λ x x' y y' again upload.
+        hears_next (one_if (pull_again p)) (least_came p) x x' (length v.client.outbox) (length w.client.outbox) (answer_room setup)
+        (to_hear setup v.origin) (to_hear setup w.origin) again calm.out
+        (comes_hear setup v.origin w.origin (least_came p) (read_comes v.origin w.origin p hears.finds.1)) some)
 
     -- an interim head was dropped
     pub hears_interim : (q : Request) (head : ResponseHead) → HearsResponse true v w (F.Head head)
         → Fewer (work_left setup u v (P.ReadResponse q)) (work_left setup u' w (P.ReadResponse q))
     hears_interim q head hears =
         let calm = heard_calm v w head hears in
-        work_falls false 0 v w u u' calm rose (P.ReadResponse q) (P.ReadResponse q) (λ x x' y y' again upload.
-            hears_next (one_if false) 1 x x' (length v.client.outbox) (length w.client.outbox) (answer_room setup)
-                (to_hear setup v.origin) (to_hear setup w.origin) again calm.out (head_used v w head hears) (omega arith))
+        work_falls false 0 v w u u' calm rose (P.ReadResponse q) (P.ReadResponse q) (none_left (Some 0) 0) (λ x x' y y' again upload.
+        hears_next (one_if false) 1 x x' (length v.client.outbox) (length w.client.outbox) (answer_room setup)
+        (to_hear setup v.origin) (to_hear setup w.origin) again calm.out (head_used v w head hears) (omega arith))
 
   -- ---- an answer of the proxy's own
 
@@ -394,14 +392,14 @@ module _ (setup : Setup) where
       let head = own_text setup a.status in
       let body = own_sent a.to_head a.status in
       let len : length w.client.outbox ≡ length v.client.outbox + length (head ++ body) =
-          ap (λ (s : LinkSide). length s.outbox) queues.client ∙ length-append v.client.outbox (head ++ body) in
+      ap (λ (s : LinkSide). length s.outbox) queues.client ∙ length-append v.client.outbox (head ++ body) in
       let again : AgainsFall false (agains_left v) (agains_left w) =
-          subst (λ (s : LinkSide). AgainsFall false (agains_left v) (both w.client.look.agains s.look.agains)) (sym queues.origin)
-          (subst (λ (s : LinkSide). AgainsFall false (agains_left v) (both s.look.agains v.origin.look.agains)) (sym queues.client) (none_fall (agains_left v))) in
-      told_fewer (λ x y. phase_work setup x y v (P.SendResponseHdr a)) (λ x y. phase_work setup x y w (P.Sending a)) false 0 (agains_left v) (agains_left w) u u' again rose
-          (λ x x' y y' falls upload. own_queued (one_if false) x x' (length v.client.outbox) (length w.client.outbox) (own_length setup a.status) falls
-              (longer (length v.client.outbox) (length w.client.outbox) (length (head ++ body)) (length head) (length body) (length (own_body a.status))
-                  len (length-append head body) (sent_within a.to_head a.status)))
+      subst (λ (s : LinkSide). AgainsFall false (agains_left v) (both w.client.look.agains s.look.agains)) (sym queues.origin)
+      (subst (λ (s : LinkSide). AgainsFall false (agains_left v) (both s.look.agains v.origin.look.agains)) (sym queues.client) (none_fall (agains_left v))) in
+      told_fewer (λ x y. phase_work setup x y v (P.SendResponseHdr a)) (λ x y. phase_work setup x y w (P.Sending a)) false 0 (agains_left v) (agains_left w) (Some 0) (Some 0) again (none_left (Some 0) 0)
+      (λ x x' y y' falls upload. own_queued (one_if false) x x' (length v.client.outbox) (length w.client.outbox) (own_length setup a.status) falls
+      (longer (length v.client.outbox) (length w.client.outbox) (length (head ++ body)) (length head) (length body) (length (own_body a.status))
+      len (length-append head body) (sent_within a.to_head a.status)))
     where
       longer : (out out' both head body most : ℕ) → out' ≡ out + both → both ≡ head + body → body ≤ most → out' ≤ out + (head + most)
       longer out out' both head body most len parts within = omega (arith, len, parts, within)
@@ -416,5 +414,5 @@ module _ (setup : Setup) where
 
     -- some of it went, or there was an Again
     pub sends_on : (a : OwnAnswer) → 1 ≤ least_went p + one_if (push_again p) → Fewer (work_left setup u v (P.Sending a)) (work_left setup u' w (P.Sending a))
-    sends_on a some = work_falls (push_again p) 0 v w u u' sends_calm rose (P.Sending a) (P.Sending a) (λ x x' y y' again upload.
+    sends_on a some = work_falls (push_again p) 0 v w u u' sends_calm rose (P.Sending a) (P.Sending a) (none_left (Some 0) 0) (λ x x' y y' again upload.
         own_sent_next (one_if (push_again p)) (least_went p) x x' (length v.client.outbox) (length w.client.outbox) again sent_least some)

@@ -1,11 +1,11 @@
 -- Each step of an upload lowers what a transaction has left to do.
-use Rattle.std.proofs.Common.{◌≡◌, ℕ, ◌+◌, ◌*◌, ◌<◌, ◌≤◌, List, length, Bool, true, false, arith, refl, ap}
+use Rattle.std.proofs.Common.{ℕ, ◌+◌, ◌*◌, ◌<◌, ◌≤◌, List, length, Bool, true, arith, refl, ap}
 use Rattle.std.specs.Prelude.{Option, Some, None}
 use Rattle.ts_config.specs.declared.setup.Setup.{Setup}
 use Rattle.ts_link.specs.Link.{AgainsFall, Fewer, NoMore}
 use Rattle.ts_upstream.specs.declared.upstream.Uploaded.{Uploaded}
 use Rattle.ts_upstream.specs.declared.upstream.Uploaded.TheVariants as U
-use Rattle.ts_upstream.specs.Uploads.{Rose8}
+use Rattle.ts_upstream.specs.Uploads.{Rose8, UploadFalls}
 use Rattle.ts_txn.specs.View.{LinkSide, View}
 use Rattle.ts_txn.specs.Moving.{LowersUpload, MovesUpload}
 use Rattle.ts_txn.specs.Lowering.{agains_left, answer_room, if_told, phase_work, to_hear, work_left}
@@ -53,11 +53,16 @@ module _ (setup : Setup) (refuses : List ℕ → Type 0) (v w : View) (u u' : Op
       → Fewer (work_left setup u v (P.Upload q)) (work_left setup u' w (P.Upload q))
   uploads_more moves lowers = told_lower (λ x y. phase_work setup x y v (P.Upload q)) (λ x y. phase_work setup x y w (P.Upload q)) (agains_left v) (agains_left w) u u' lowers.1 lowers.0
       (λ x x' y y' again upload. more_next x x' (length v.client.outbox) (length w.client.outbox) (answer_room setup) (to_hear setup v.origin) (to_hear setup w.origin) y y' again upload
-          (upload_out setup refuses v w U.More moves) (upload_hear setup refuses v w U.More moves))
+      (upload_out setup refuses v w U.More moves) (upload_hear setup refuses v w U.More moves))
 
   pub uploads_again : MovesUpload true true refuses U.Again v w → LowersUpload U.Again u u' v w
       → Fewer (work_left setup u v (P.Upload q)) (work_left setup u' w (P.Upload q))
   uploads_again moves lowers =
       let calm = upload_calm setup refuses v w U.Again moves true lowers.1 in
-      work_falls setup true 0 v w u u' calm (not_risen u u' lowers.0) (P.Upload q) (P.Upload q) (λ x x' y y' again upload.
-          again_next x x' (length v.client.outbox) (length w.client.outbox) (answer_room setup) (to_hear setup v.origin) (to_hear setup w.origin) y y' again upload calm.out calm.hear)
+      work_falls setup true 0 v w u u' calm (not_risen u u' lowers.0) (P.Upload q) (P.Upload q) (not_risen u u' lowers.0) (λ x x' y y' again upload.
+      again_next x x' (length v.client.outbox) (length w.client.outbox) (answer_room setup) (to_hear setup v.origin) (to_hear setup w.origin) y y' again upload calm.out calm.hear)
+
+-- want of memory without an origin leaves what is left
+pub none_stays : (agains : Option ℕ) → UploadFalls U.NoMemory (Some 0) (Some 0) agains agains
+none_stays None = (omega arith, tt)
+none_stays (Some n) = (omega arith, omega arith)

@@ -1,7 +1,6 @@
 -- A transaction that was just made is sound: nothing was given, taken or queued.
 use Rattle.std.proofs.Common.{◌≡◌, ℕ, ◌≤◌, List, [], Bool, true, Option, Some, None, inl, arith, refl, sym, ap, subst, ◌∙◌}
 use Rattle.std.specs.Prelude.{⊤}
-use Rattle.std.specs.Arc.{arc_value}
 use Rattle.ts_group.specs.declared.action.Named.{Named}
 use Rattle.ts_group.specs.declared.group.Group.{Group}
 use Rattle.ts_group.specs.Context.{IsFresh}
@@ -9,12 +8,13 @@ use Rattle.ts_journal.specs.declared.entry.Pending.{Pending}
 use Rattle.ts_journal.specs.State.{State}
 use Rattle.ts_link.specs.Link.{Look}
 use Rattle.ts_wire.specs.declared.frames.Mode.TheVariants as M
-use Rattle.ts_txn.specs.Cover.{Idles, HasNextEventOr, Seated}
-use Rattle.ts_txn.specs.Holding.{PhaseFact}
+use Rattle.ts_config.specs.declared.setup.TransformLine.{TransformLine}
+use Rattle.ts_txn.specs.Entering.{ActsAsLines}
 use Rattle.ts_txn.specs.Facts.{Asking, Untouched}
 use Rattle.ts_txn.specs.Making.{ArePaired, IsMadeOf, IsMadeOfIf, IsNewLink, IsNewLinkIf}
-use Rattle.ts_txn.specs.View.{OriginRefuses, PairIf, side, side_if, view_of}
-use Rattle.ts_txn.specs.World.{IsSoundTxn, IsSoundTxnGroup}
+use Rattle.ts_txn.specs.View.{PairIf, side, side_if, view_of}
+use Rattle.ts_txn.specs.World.{IsSoundOn, IsSoundTxn, IsSoundTxnGroup}
+use Rattle.ts_txn.specs.declared.course.Course.TheVariants as K
 use Rattle.ts_txn.specs.declared.parts.Peer.{Peer}
 use Rattle.ts_txn.specs.declared.phase.Phase.TheVariants as P
 use Rattle.ts_txn.specs.declared.txn.Txn.{Txn}
@@ -41,7 +41,7 @@ module _ {L : Type 0} (look : L → Look) where
   untouched_if (Some l) None made unused = absurd made
   untouched_if (Some l) (Some p) made unused = untouched l p made unused
 
-module _ {C O : Type 0} (client : C → Look) (origin : O → Look) (c : C) (o : Option O) (t : Txn C O)
+module _ {C O Q : Type 0} (client : C → Look) (origin : O → Look) (c : C) (o : Option O) (t : Txn C O Q)
     (of_client : IsMadeOf client c t.core.client) (of_origin : IsMadeOfIf origin o t.core.origin) where
   asking : IsNewLink (client c) → IsNewLinkIf origin o → t.core.sent.head ≡ 0 → t.core.sent.mode ≡ M.Plain → t.core.sent.cuts.items ≡ [] → Asking (view_of client origin t.core)
   asking unused unused_origin head mode cuts =
@@ -60,17 +60,26 @@ module _ {C O : Type 0} (client : C → Look) (origin : O → Look) (c : C) (o :
   paired_if paired (Some l) (Some p) made pair =
       subst (λ (k : O). paired t.core.client.link k) (sym made.link_is) (subst (λ (d : C). paired d l) (sym of_client.link_is) pair)
 
-  pub sound : (ctells otells : Bool) (paired : C → O → Type 0) (refuses : O → List ℕ → Type 0) (next : ℕ) (roles : List Named)
-      → (ctells ≡ true → IsNewLink (client c)) → (otells ≡ true → IsNewLinkIf origin o) → ArePaired paired c o
-      → t.phase ≡ P.Fresh → t.main ≡ None → t.core.sent.head ≡ 0 → t.core.sent.mode ≡ M.Plain → t.core.sent.cuts.items ≡ []
-      → IsSoundTxn ctells otells client origin paired refuses t [] next roles
-  sound ctells otells paired refuses next roles unused unused_origin pair fresh none head mode cuts = record {
-    holds = λ told also. subst (λ p. PhaseFact (arc_value t.core.setup) (OriginRefuses client refuses t.core) (view_of client origin t.core) p) (sym fresh) (asking (unused told) (unused_origin also) head mode cuts);
-    pair = paired_if paired o t.core.origin of_origin pair;
-    seated = subst (λ m. Seated [] roles m) (sym none) (record { of_main = tt; only = λ n p there. let wrong : ◌≡◌ {A = Option Pending} None (Some p) = there in absurd (cc); plain = tt });
-    idles = subst (λ p. Idles p t.main) (sym fresh) none;
-    covered = subst (λ p. HasNextEventOr p t.main next) (sym fresh) (inl tt);
-  }
+  pub sound : (ctells otells : Bool) (paired : C → O → Type 0) (refuses : O → List ℕ → Type 0) (rest : Q → List ℕ → List ℕ) (whole : TransformLine → List ℕ → List ℕ) (next : ℕ) (roles : List Named)
+      → (ctells ≡ true → IsNewLink (client c)) → (otells ≡ true → IsNewLinkIf origin o) → ArePaired paired c o → ActsAsLines whole
+      → t.course ≡ K.Phased P.Fresh → t.main ≡ None → t.core.sent.head ≡ 0 → t.core.sent.mode ≡ M.Plain → t.core.sent.cuts.items ≡ []
+      → IsSoundTxn ctells otells client origin paired refuses rest whole t [] next roles
+  sound ctells otells paired refuses rest whole next roles unused unused_origin pair acts fresh none head mode cuts =
+      subst (λ k. IsSoundOn ctells otells client origin paired refuses rest whole t.core t.main k [] next roles) (sym fresh)
+      (subst (λ m. IsSoundOn ctells otells client origin paired refuses rest whole t.core m (K.Phased P.Fresh) [] next roles) (sym none) (record {
+        stands = record {
+          holds = λ told also. asking (unused told) (unused_origin also) head mode cuts;
+          pair = paired_if paired o t.core.origin of_origin pair;
+          acts = acts;
+          lines = tt;
+        };
+        covered = record {
+          seated = λ n p there. let wrong : ◌≡◌ {A = Option Pending} None (Some p) = there in absurd (cc);
+          plain = tt;
+          idles = refl;
+          covered = inl (tt, tt);
+        };
+      }))
 
 -- links of which any two belong together do
 pub any_paired : {C O : Type 0} (c : C) (o : Option O) → ArePaired (λ x y. ⊤) c o
@@ -78,9 +87,10 @@ any_paired c None = tt
 any_paired c (Some l) = tt
 
 -- so is a group that was made of it
-pub sound_in_group : {C O Q R T U : Type 0} (ctells otells : Bool) (client : C → Look) (origin : O → Look) (paired : C → O → Type 0) (refuses : O → List ℕ → Type 0)
-    (t : Txn C O) (g : Group (Txn C O) Q R T U) (turns : ℕ) → ((next : ℕ) (roles : List Named) → IsSoundTxn ctells otells client origin paired refuses t [] next roles)
-    → g.world ≡ t → IsFresh turns g.cx → IsSoundTxnGroup ctells otells client origin paired refuses g
-sound_in_group ctells otells client origin paired refuses t g turns sound world fresh =
-    subst (λ w. IsSoundTxn ctells otells client origin paired refuses w g.cx.log.state.pending g.cx.log.state.next g.cx.roles) (sym world)
-    (subst (λ (s : State). IsSoundTxn ctells otells client origin paired refuses t s.pending s.next g.cx.roles) (sym fresh.state) (sound _ g.cx.roles))
+pub sound_in_group : {C O Q A R T U : Type 0} (ctells otells : Bool) (client : C → Look) (origin : O → Look) (paired : C → O → Type 0) (refuses : O → List ℕ → Type 0)
+    (rest : Q → List ℕ → List ℕ) (whole : TransformLine → List ℕ → List ℕ) (t : Txn C O Q) (g : Group (Txn C O Q) A R T U) (turns : ℕ)
+    → ((next : ℕ) (roles : List Named) → IsSoundTxn ctells otells client origin paired refuses rest whole t [] next roles)
+    → g.world ≡ t → IsFresh turns g.cx → IsSoundTxnGroup ctells otells client origin paired refuses rest whole g
+sound_in_group ctells otells client origin paired refuses rest whole t g turns sound world fresh =
+    subst (λ w. IsSoundTxn ctells otells client origin paired refuses rest whole w g.cx.log.state.pending g.cx.log.state.next g.cx.roles) (sym world)
+    (subst (λ (s : State). IsSoundTxn ctells otells client origin paired refuses rest whole t s.pending s.next g.cx.roles) (sym fresh.state) (sound _ g.cx.roles))

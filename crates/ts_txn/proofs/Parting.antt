@@ -1,30 +1,47 @@
--- The parts of a chain, made one by one, compose as the lines that act do.
-use Rattle.std.proofs.Common.{◌≡◌, ℕ, List, [], ◌∷◌, ◌++◌, Bool, true, false, cond, refl, sym, ap, ◌∙◌}
+-- The parts of a chain, made one by one, are those of the lines that act.
+use Rattle.std.proofs.Common.{◌≡◌, ℕ, List, [], ◌∷◌, ◌++◌, Bool, true, false, cond, refl, sym, ap, subst, ◌∙◌, append_assoc}
 use Rattle.std.specs.Prelude.{filter}
+use Rattle.std.proofs.lemmas.List.{append-nil}
 use Rattle.ts_transform.specs.Flow.{compose}
 use Rattle.ts_config.specs.declared.setup.TransformLine.{TransformLine}
 use Rattle.ts_config.specs.Bodies.{compose_lines, whole_of}
 use Rattle.ts_txn.specs.Entering.{ActsAsLines}
+use Rattle.ts_txn.specs.Inserted.{AreOfLines}
 
-compose-push : {P : Type 0} (rest : P → List ℕ → List ℕ) (ps : List P) (p : P) (z : List ℕ) → compose rest (ps ++ p ∷ []) z ≡ rest p (compose rest ps z)
-compose-push rest [] p z = refl
-compose-push rest (q ∷ ps) p z = compose-push rest ps p (rest q z)
+-- they compose as the lines do
+pub compose_of_lines : {P : Type 0} (rest : P → List ℕ → List ℕ) (ls : List TransformLine) (ps : List P) → AreOfLines rest ls ps → (z : List ℕ) → compose rest ps z ≡ compose_lines ls z
+compose_of_lines rest [] [] of z = refl
+compose_of_lines rest [] (p ∷ ps) of z = absurd of
+compose_of_lines rest (l ∷ ls) [] of z = absurd of
+compose_of_lines rest (l ∷ ls) (p ∷ ps) of z = ap (compose rest ps) (of.0 z) ∙ compose_of_lines rest ls ps of.1 (whole_of l z)
+
+-- the parts that were made, and then any of the lines that are left, are of all lines that act
+abbrev pub Continues : {P : Type 0} → (P → List ℕ → List ℕ) → (TransformLine → Bool) → List TransformLine → List TransformLine → List P → Type 0
+Continues {P} rest f all left ps = (qs : List P) → AreOfLines rest (filter f left) qs → AreOfLines rest (filter f all) (ps ++ qs)
+
+pub part_first : {P : Type 0} (rest : P → List ℕ → List ℕ) (f : TransformLine → Bool) (all : List TransformLine) → Continues rest f all all []
+part_first rest f all qs of = of
+
+pub part_last : {P : Type 0} (rest : P → List ℕ → List ℕ) (f : TransformLine → Bool) (all left : List TransformLine) (ps : List P) → left ≡ [] → Continues rest f all left ps
+    → AreOfLines rest (filter f all) ps
+part_last {P} rest f all left ps none before =
+    subst (λ (xs : List P). AreOfLines rest (filter f all) xs) (append-nil ps) (before [] (subst (λ (ls : List TransformLine). AreOfLines rest (filter f ls) []) (sym none) tt))
 
 module _ {P : Type 0} (rest : P → List ℕ → List ℕ) (whole : TransformLine → List ℕ → List ℕ) (f : TransformLine → Bool) (all : List TransformLine)
     (left more : List TransformLine) (l : TransformLine) (is : left ≡ l ∷ more) (ps : List P)
-    (before : (z : List ℕ) → compose_lines (filter f left) (compose rest ps z) ≡ compose_lines (filter f all) z) where
+    (before : Continues rest f all left ps) where
   -- a line that acts has a part of its own
   pub part_more : ActsAsLines whole → f l ≡ true → (p : P) → ((w : List ℕ) → rest p w ≡ whole l w)
-      → (z : List ℕ) → compose_lines (filter f more) (compose rest (ps ++ p ∷ []) z) ≡ compose_lines (filter f all) z
-  part_more acts does p fresh z =
-      ap (compose_lines (filter f more)) (compose-push rest ps p z ∙ fresh (compose rest ps z) ∙ acts l (compose rest ps z))
-      ∙ ap (λ (ls : List TransformLine). compose_lines ls (compose rest ps z)) (sym (ap (λ (b : Bool). cond b (l ∷ filter f more) (filter f more)) does))
-      ∙ ap (λ (ls : List TransformLine). compose_lines (filter f ls) (compose rest ps z)) (sym is)
-      ∙ before z
+      → Continues rest f all more (ps ++ p ∷ [])
+  part_more acts does p fresh qs of =
+      let front : AreOfLines rest (cond true (l ∷ filter f more) (filter f more)) (p ∷ qs) = (λ z. fresh z ∙ acts l z, of) in
+      let also : AreOfLines rest (filter f left) (p ∷ qs) =
+      subst (λ (ls : List TransformLine). AreOfLines rest (filter f ls) (p ∷ qs)) (sym is)
+      (subst (λ (b : Bool). AreOfLines rest (cond b (l ∷ filter f more) (filter f more)) (p ∷ qs)) (sym does) front) in
+      subst (λ (xs : List P). AreOfLines rest (filter f all) xs) (sym (append_assoc ps (p ∷ []) qs)) (before (p ∷ qs) also)
 
   -- another has none
-  pub part_none : f l ≡ false → (z : List ℕ) → compose_lines (filter f more) (compose rest ps z) ≡ compose_lines (filter f all) z
-  part_none idle z =
-      ap (λ (ls : List TransformLine). compose_lines ls (compose rest ps z)) (sym (ap (λ (b : Bool). cond b (l ∷ filter f more) (filter f more)) idle))
-      ∙ ap (λ (ls : List TransformLine). compose_lines (filter f ls) (compose rest ps z)) (sym is)
-      ∙ before z
+  pub part_none : f l ≡ false → Continues rest f all more ps
+  part_none idle qs of = before qs
+      (subst (λ (ls : List TransformLine). AreOfLines rest (filter f ls) qs) (sym is)
+      (subst (λ (b : Bool). AreOfLines rest (cond b (l ∷ filter f more) (filter f more)) qs) (sym idle) of))

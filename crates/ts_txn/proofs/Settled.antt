@@ -15,14 +15,12 @@ use Rattle.ts_txn.specs.Ends.{AnyEnd, EndFact, EndsBy, FaultText, HasBlock, Rela
 use Rattle.ts_txn.specs.Ends as ends
 use Rattle.ts_txn.specs.Finishing.{IsFinishing, QueuesBlock, QueuesFor}
 use Rattle.ts_txn.specs.Holding.{StepKeeps, PhaseFact}
-use Rattle.ts_txn.specs.Driven.{StaysOrLacks}
 use Rattle.ts_txn.specs.declared.block.Block.{Block}
 use Rattle.ts_txn.specs.declared.parts.Core.{Core}
 use Rattle.ts_txn.specs.declared.phase.OwnAnswer.{OwnAnswer}
 use Rattle.ts_txn.specs.declared.phase.Phase.{Phase}
 use Rattle.ts_txn.specs.declared.phase.Phase.TheVariants as P
 use Rattle.ts_txn.specs.declared.phase.Request.{Request}
-use Rattle.ts_txn.proofs.Always.{always}
 
 module _ (setup : Setup) (R S : Type 0) (to : R → S) (from : S → R) where
   -- ---- the block
@@ -152,22 +150,3 @@ module _ (setup : Setup) (R S : Type 0) (to : R → S) (from : S → R) where
   phase_fact v (P.Sending a) h = sends v a h
   phase_fact v (P.TxnClose end) h = end_fact v end h
   phase_fact v (P.Ended end) h = end_fact v end h
-
--- the phase that a step answers, or the end for want of memory
-stays_or_lacks : (setup : Setup) (refuses : Type 0) (v : View) (p d : Phase) → PhaseFact setup refuses v p → StaysOrLacks p d → PhaseFact setup refuses v d
-stays_or_lacks setup refuses v p d h (inl is) = subst (PhaseFact setup refuses v) (sym is) h
-stays_or_lacks setup refuses v p d h (inr is) = subst (PhaseFact setup refuses v) (sym is) (record { any = always setup refuses v p h; by = tt })
-
--- what a step led to holds of the transaction as it then is
-pub settled : {C O : Type 0} (client : C → Look) (origin : O → Look) (paired : C → O → Type 0) (refuses : O → List ℕ → Type 0) (old new : Core C O) (p d : Phase)
-    → StepKeeps client origin paired refuses old new → PhaseFact (arc_value old.setup) (OriginRefuses client refuses old) (view_of client origin new) p → StaysOrLacks p d
-    → PhaseFact (arc_value new.setup) (OriginRefuses client refuses new) (view_of client origin new) d
-settled client origin paired refuses old new p d keeps h stays =
-    let v = view_of client origin new in
-    let to : OriginRefuses client refuses old → OriginRefuses client refuses new = λ r.
-    subst (λ (c : List ℕ). refuses_if refuses new.origin c) (sym keeps.client.source) (keeps.refusal.still _ r) in
-    let from : OriginRefuses client refuses new → OriginRefuses client refuses old = λ r.
-    keeps.refusal.before _ (subst (λ (c : List ℕ). refuses_if refuses new.origin c) keeps.client.source r) in
-    subst (λ s. PhaseFact (arc_value s) (OriginRefuses client refuses new) v d) (sym keeps.setup)
-    (stays_or_lacks (arc_value old.setup) (OriginRefuses client refuses new) v p d
-    (phase_fact (arc_value old.setup) (OriginRefuses client refuses old) (OriginRefuses client refuses new) to from v p h) stays)

@@ -1,6 +1,5 @@
 -- A body that is read on: it goes on, is bad, is cut, or the origin's link fails.
-use Rattle.std.proofs.Common.{◌≡◌, ◌≢◌, ℕ, List, [], ◌++◌, Bool, true, false, refl, sym, ap, subst, ◌∙◌, append_assoc, inr}
-use Rattle.std.specs.Bool.{OnTrue}
+use Rattle.std.proofs.Common.{◌≡◌, ◌≢◌, ℕ, List, [], ◌++◌, Bool, true, false, refl, sym, ap, subst, ◌∙◌, append_assoc}
 use Rattle.std.proofs.lemmas.Bool.{OnTrue_from}
 use Rattle.std.proofs.lemmas.List.{append-nil}
 use Rattle.ts_config.specs.declared.setup.Setup.{Setup}
@@ -8,7 +7,7 @@ use Rattle.ts_config.specs.Bodies.{compose_lines}
 use Rattle.ts_hooks.specs.declared.txn_end.TxnEnd.{TxnEnd}
 use Rattle.ts_hooks.specs.declared.txn_end.TxnEnd.TheVariants as E
 use Rattle.ts_link.specs.Link.{all_of}
-use Rattle.ts_transform.specs.Flow.{ChainState, flow, flow_from}
+use Rattle.ts_transform.specs.Flow.{ChainState, flow}
 use Rattle.ts_vconn.specs.declared.moves.Pulled.TheVariants as L
 use Rattle.ts_wire.specs.declared.heads.ResponseHead.{ResponseHead}
 use Rattle.ts_wire.specs.declared.body.BodyState.{BodyState}
@@ -18,7 +17,7 @@ use Rattle.ts_wire.specs.Place.{GoesOn, Place, state_of}
 use Rattle.ts_wire.proofs.PlaceBody.{place_body}
 use Rattle.ts_txn.specs.Relayed.{framing_of, mode_of}
 use Rattle.ts_txn.specs.Heads.{FinalHead}
-use Rattle.ts_txn.specs.Block.{BodySays, IsBlock, bad, body_lines, cut, framing_for, relayed_block, relayed_head, request_text}
+use Rattle.ts_txn.specs.Block.{BodySays, bad, body_lines, cut, framing_for, relayed_block, relayed_head, request_text}
 use Rattle.ts_txn.specs.View.{HasCount, LinkSide, View}
 use Rattle.ts_txn.specs.RelayMoves.{ReadsOrigin}
 use Rattle.ts_txn.specs.Facts as facts
@@ -26,8 +25,7 @@ use Rattle.ts_txn.specs.Ends.{EndFact, HasText, IsFrontOf, IsFrontThrough, Relay
 use Rattle.ts_txn.specs.Ends as ends
 use Rattle.ts_txn.specs.Feeding.{DrainsOrigin, EndsHere, FeedsBody, FeedsTo, GetsPart, OnGoes}
 use Rattle.ts_txn.specs.Finishing.{IsFinishing, LeadsBody, QueuesBlock}
-use Rattle.ts_txn.specs.Relaying.{GivesEnd, ReadsBody, RelaysBody, SendsBody}
-use Rattle.ts_txn.specs.declared.block.Block.{Block}
+use Rattle.ts_txn.specs.Relaying.{GivesEnd, ReadsBody, RelaysBody}
 use Rattle.ts_txn.specs.declared.finishing.BodyStep.{BodyStep}
 use Rattle.ts_txn.specs.declared.finishing.BodyStep.TheVariants as S
 use Rattle.ts_txn.specs.declared.phase.Request.{Request}

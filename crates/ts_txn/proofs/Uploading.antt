@@ -118,8 +118,3 @@ module _ (setup : Setup) (ct ot : Bool) (refuses : List ℕ → Type 0) (v w : V
 
   pub upload_lacks : MovesUpload ct ot refuses U.NoMemory v w → EndFact setup (refuses v.client.look.source) w E.NoMemory
   upload_lacks m = lacks_memory setup (refuses v.client.look.source) w (upload_any U.NoMemory m)
-
--- want of memory without an origin leaves what is left
-pub none_falls : (agains : Option ℕ) → UploadFalls U.NoMemory None None agains agains
-none_falls None = (tt, tt)
-none_falls (Some n) = (tt, omega arith)

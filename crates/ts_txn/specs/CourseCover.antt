@@ -7,18 +7,23 @@ use Rattle.ts_group.specs.declared.action.Named.{Named}
 use Rattle.ts_group.specs.Context.{AllPlain, Context}
 use Rattle.ts_hooks.specs.declared.txn_end.TxnEnd.TheVariants as E
 use Rattle.ts_transform.specs.Carrying.{IsJoined}
-use Rattle.ts_transform.specs.Driving.{IsOfStageIf, IsRousedIf}
+use Rattle.ts_transform.specs.Driving.{ActsWithin, AreNamed, HasLiveIf, IsNamedIf, IsOfStageIf, IsRousedIf}
 use Rattle.ts_transform.specs.Flow.{EndsInOrder}
 use Rattle.ts_transform.specs.Seats.{AllSeated}
 use Rattle.ts_transform.specs.declared.continuation.StageContinuation.{StageContinuation}
-use Rattle.ts_txn.specs.Cover.{HasNextEvent, Idles}
-use Rattle.ts_txn.specs.Duties.{AreBodyEndsRoused, body_seats}
+use Rattle.ts_txn.specs.Cover.{HasNextEvent, Idles, Proceeds}
+use Rattle.ts_txn.specs.Duties.{AreBodyEndsRoused, IsBodyCovered, IsBodyJoined, RunsOr, UnlessLacking, WhileGoes, body_seats, relay_seats}
 use Rattle.ts_txn.specs.View.{View}
 use Rattle.ts_txn.specs.declared.course.Course.{Course}
 use Rattle.ts_txn.specs.declared.course.Course.TheVariants as K
-use Rattle.ts_txn.specs.declared.driver.TheConstants.{MAIN}
+use Rattle.ts_txn.specs.declared.driver.TheConstants.{MAIN, RETRY}
+use Rattle.ts_txn.specs.declared.finishing.BodyStep.{BodyStep}
+use Rattle.ts_txn.specs.declared.finishing.BodyStep.TheVariants as S
+use Rattle.ts_txn.specs.declared.phase.Next.{Next}
+use Rattle.ts_txn.specs.declared.phase.Next.TheVariants as N
 use Rattle.ts_txn.specs.declared.phase.Phase.TheVariants as P
 use Rattle.ts_txn.specs.declared.relay.Relay.{Relay}
+use Rattle.ts_txn.specs.declared.relay.TheConstants.{READER}
 
 -- the continuations of a transaction
 abbrev pub course_seats : {Q : Type 0} → Option StageContinuation → Course Q → List (Option StageContinuation)
@@ -56,9 +61,87 @@ pub record IsCoveredOn {Q : Type 0} (v : View) (main : Option StageContinuation)
   pub idles : IdlesOn course main
   pub covered : HasEventsOn v main course pending roles ⊎ (GREATEST ≤ next)
 
+-- the same of what is pending now
+abbrev pub IsCoveredNow : {Q : Type 0} → View → Option StageContinuation → Course Q → Context → Type 0
+IsCoveredNow v main course now = IsCoveredOn v main course now.log.state.pending now.log.state.next now.roles
+
+-- it was started, and has not ended
+abbrev pub ProceedsOn : {Q : Type 0} → Course Q → Type 0
+ProceedsOn (K.Phased p) = Proceeds p
+ProceedsOn (K.Relaying r) = ⊤
+ProceedsOn (K.Finishing end) = ⊤
+
+-- so it is, and passes no body on: its next step is one of its first continuation
+abbrev pub GoesAlone : {Q : Type 0} → Course Q → Type 0
+GoesAlone (K.Phased p) = Proceeds p
+GoesAlone (K.Relaying r) = ⊥
+GoesAlone (K.Finishing end) = ⊤
+
 -- it is where it was led, or has ended for want of memory
 abbrev pub StaysOnOrLacks : {Q : Type 0} → Course Q → Course Q → Type 0
 StaysOnOrLacks {Q} old new = (new ≡ old) ⊎ (new ≡ K.Phased (P.Ended E.NoMemory))
+
+-- a handler's calls set one event, or none
+abbrev pub SetsOneOrNone : Context → Context → Type 0
+SetsOneOrNone a b = ActsWithin 1 a b
+
+-- how many events are set at most where a body is left, and behind the step of a phase
+abbrev pub set_leaving : BodyStep → ℕ
+set_leaving S.Goes = 0
+set_leaving S.Waits = 0
+set_leaving step = 1
+
+abbrev pub set_after : Next → ℕ
+set_after N.Done = 0
+set_after next = 1
+
+-- used-up event numbers never end it, where its first continuation is live
+abbrev pub StaysWhereSpent : {Q : Type 0} → Course Q → Course Q → Option StageContinuation → Context → Type 0
+StaysWhereSpent {Q} led result main now = GREATEST ≤ now.log.state.next → HasLiveIf now.log.state.live main → result ≡ led
+
+-- nor do they where a body is left, whose continuations have their roles
+abbrev pub StaysWhereNamed : {Q : Type 0} → Course Q → Relay Q → Course Q → Option StageContinuation → Context → Type 0
+StaysWhereNamed led r result main now = IsNamedIf now.roles MAIN main → AreNamed now.roles READER (relay_seats r)
+    → StaysWhereSpent led result main now
+
+-- how long after a step of the last writes the next one is made, in milliseconds
+abbrev pub pause_of : BodyStep → ℕ
+pause_of S.Waits = RETRY
+pause_of step = 0
+
+-- No continuation is there but the first: each pending event is plain, and of it; and it has its role, and an event where
+-- it is roused, or the event numbers are used up.
+pub record IsAlone (main : Option StageContinuation) (now : Context) : Type 0 where
+  pub seated : AllSeated now.log.state.pending (main ∷ [])
+  pub plain : AllPlain now.log.state.pending
+  pub of_main : IsOfStageIf now.log.state.pending now.roles MAIN main ⊎ (GREATEST ≤ now.log.state.next)
+
+-- The duties of a body behind a step: the continuations have their roles and their events, and where the step goes on each
+-- duty has its event.
+pub record HasStepDone {Q : Type 0} (step : BodyStep) (v : View) (main : Option StageContinuation) (r : Relay Q)
+    (now : Context) : Type 0 where
+  pub joined : IsBodyJoined main r now.log.state.pending now.roles
+  pub covered : WhileGoes step (IsBodyCovered v main r now.log.state.next)
+  pub runs : UnlessLacking step (RunsOr r now.log.state.next)
+  pub ordered : EndsInOrder r.driven.chain.given r.driven.chain.stages
+
+-- A body stands so behind a step: each pending event is plain, and of one of its continuations; and its duties are so, or
+-- the event numbers are used up.
+pub record StandsBehind {Q : Type 0} (step : BodyStep) (v : View) (main : Option StageContinuation) (r : Relay Q)
+    (now : Context) : Type 0 where
+  pub seated : AllSeated now.log.state.pending (body_seats main r)
+  pub plain : AllPlain now.log.state.pending
+  pub body : HasStepDone step v main r now ⊎ (GREATEST ≤ now.log.state.next)
+
+-- A transaction whose first continuation was alone is covered where it was led, whatever its links show.
+abbrev pub CoversAlone : {Q : Type 0} → Option StageContinuation → Option StageContinuation → Course Q → Context
+    → Context → Type 0
+CoversAlone t u result a b = IsAlone t a → (v : View) → IsCoveredNow v u result b
+
+-- So is one whose body stood so behind a step.
+abbrev pub CoversLed : {Q : Type 0} → BodyStep → Relay Q → Option StageContinuation → Option StageContinuation
+    → Course Q → Context → Context → Type 0
+CoversLed step r t u result a b = (v : View) → StandsBehind step v t r a → IsCoveredNow v u result b
 
 -- What is left of the first continuation where its next event was set, or could not be: whether there was memory for it.
 pub record HasRousedNext (has_memory : Bool) (t u : Option StageContinuation) (a b : Context) : Type 0 where
@@ -66,3 +149,4 @@ pub record HasRousedNext (has_memory : Bool) (t u : Option StageContinuation) (a
       → IsOfStageIf b.log.state.pending b.roles MAIN u
   pub roused : has_memory ≡ true → IsRousedIf u ⊎ (GREATEST ≤ b.log.state.next)
   pub lacks : has_memory ≡ false → u ≡ None
+  pub later : a.log.state.next ≤ b.log.state.next

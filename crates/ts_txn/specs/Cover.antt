@@ -1,24 +1,27 @@
--- The duties of a transaction up to the head, and the event that does them: while it goes on, its
--- continuation has a pending event, so that no wake is lost (Developer's Guide, "Continuations" and "Actions
--- and Events").
-use Rattle.std.specs.Prelude.{◌≡◌, ℕ, ◌≤◌, ◌⊎◌, List, Bool, true, false, Option, Some, None, ⊤}
+-- The duties of a transaction in a phase, and the event that does them: while it goes on, its first continuation has a
+-- pending event, so that no wake is lost (Developer's Guide, "Continuations" and "Actions and Events").
+use Rattle.std.specs.Prelude.{◌≡◌, ℕ, ◌≤◌, ◌⊎◌, Bool, true, false, Option, Some, None, ⊤}
 use Rattle.ts_journal.specs.declared.entry.TheConstants.{GREATEST}
 use Rattle.ts_journal.specs.declared.entry.Pending.{Pending}
-use Rattle.ts_journal.specs.State.{pending_at}
-use Rattle.ts_group.specs.declared.action.Named.{Named}
-use Rattle.ts_group.specs.Context.{AllPlain}
-use Rattle.ts_transform.specs.Driving.{IsOfStageIf, IsRousedIf}
+use Rattle.ts_transform.specs.Driving.{IsRousedIf}
 use Rattle.ts_transform.specs.declared.continuation.StageContinuation.{StageContinuation}
-use Rattle.ts_txn.specs.declared.driver.TheConstants.{MAIN}
+use Rattle.ts_txn.specs.declared.course.Course.{Course}
+use Rattle.ts_txn.specs.declared.course.Course.TheVariants as K
 use Rattle.ts_txn.specs.declared.phase.Phase.{Phase}
 use Rattle.ts_txn.specs.declared.phase.Phase.TheVariants as P
 use Rattle.ts_txn.specs.declared.phase.Next.{Next}
 use Rattle.ts_txn.specs.declared.phase.Next.TheVariants as N
 use Rattle.ts_txn.specs.declared.phase.Step.{Step}
 
+-- the transaction was not started
 abbrev pub is_fresh : Phase → Bool
 is_fresh P.Fresh = true
 is_fresh _ = false
+
+abbrev pub is_fresh_on : {Q : Type 0} → Course Q → Bool
+is_fresh_on (K.Phased p) = is_fresh p
+is_fresh_on (K.Relaying r) = false
+is_fresh_on (K.Finishing end) = false
 
 abbrev pub is_ended : Phase → Bool
 is_ended (P.Ended end) = true
@@ -43,13 +46,6 @@ StepLeads s = StepsTo s.next s.phase
 abbrev pub IsOfMain : Option StageContinuation → Pending → Type 0
 IsOfMain None p = ⊥
 IsOfMain (Some t) p = p.key ≡ t.key
-
--- The continuation has its role, and an event where it is roused; each pending event is one of it, and plain.
-pub record Seated (pending : List Pending) (roles : List Named)
-    (main : Option StageContinuation) : Type 0 where
-  pub of_main : IsOfStageIf pending roles MAIN main
-  pub only : (n : ℕ) (p : Pending) → pending_at n pending ≡ Some p → IsOfMain main p
-  pub plain : AllPlain pending
 
 -- before it was started, and once it has ended, a transaction has no continuation, and so nothing is pending
 abbrev pub Idles : Phase → Option StageContinuation → Type 0

@@ -1,29 +1,32 @@
--- What a handler of a transaction leaves of its continuation and its phase.
+-- What an event of a transaction leads to, by how far it is: in a phase it makes a step, while a body is passed on a part
+-- of that, and then one of the last writes.
 use Rattle.std.specs.Prelude.{◌≡◌, ◌⊎◌, ℕ, Bool, List, Option}
 use Rattle.ts_group.specs.Context.{Context}
+use Rattle.ts_group.specs.Entries.{Grows}
+use Rattle.ts_hooks.specs.declared.txn_end.TxnEnd.{TxnEnd}
 use Rattle.ts_hooks.specs.declared.txn_end.TxnEnd.TheVariants as E
 use Rattle.ts_link.specs.Link.{Look}
 use Rattle.ts_transform.specs.Driving.{IsDueAfter, SetsOnly}
 use Rattle.ts_transform.specs.declared.continuation.StageContinuation.{StageContinuation}
-use Rattle.ts_txn.specs.Cover.{Seated}
+use Rattle.ts_txn.specs.BodyLinks.{BeginsInTime, HandlesLinks, MindsBody, SendsRest}
+use Rattle.ts_txn.specs.Course.{course_after, finish_after}
+use Rattle.ts_txn.specs.CourseCover.{StaysOnOrLacks, pause_of}
+use Rattle.ts_txn.specs.Entering.{QuietLinks}
 use Rattle.ts_txn.specs.Holding.{IfTold, StepKeeps}
 use Rattle.ts_txn.specs.Steps.{LeavesSides, MindsLinksIn, WaitsRightly}
-use Rattle.ts_txn.specs.View.{view_of}
+use Rattle.ts_txn.specs.View.{View, view_of}
+use Rattle.ts_txn.specs.declared.course.Course.{Course}
+use Rattle.ts_txn.specs.declared.course.Course.TheVariants as K
+use Rattle.ts_txn.specs.declared.course_leaving.TheConstants.{AT_ONCE}
 use Rattle.ts_txn.specs.declared.driver.TheConstants.{RETRY}
+use Rattle.ts_txn.specs.declared.finishing.BodyStep.{BodyStep}
+use Rattle.ts_txn.specs.declared.finishing.BodyStep.TheVariants as S
 use Rattle.ts_txn.specs.declared.parts.Core.{Core}
 use Rattle.ts_txn.specs.declared.phase.Next.{Next}
 use Rattle.ts_txn.specs.declared.phase.Next.TheVariants as N
 use Rattle.ts_txn.specs.declared.phase.Phase.{Phase}
 use Rattle.ts_txn.specs.declared.phase.Phase.TheVariants as P
-
--- the continuation stays seated
-abbrev pub SeatedAfter : Option StageContinuation → Option StageContinuation → Context → Context
-    → Type 0
-SeatedAfter t u a b = Seated a.log.state.pending a.roles t → Seated b.log.state.pending b.roles u
-
--- the phase is as it was, or the transaction has ended for want of memory
-abbrev pub StaysOrLacks : Phase → Phase → Type 0
-StaysOrLacks old new = (new ≡ old) ⊎ (new ≡ P.Ended E.NoMemory)
+use Rattle.ts_txn.specs.declared.relay.Relay.{Relay}
 
 -- how long after a step the next one is made, in milliseconds
 abbrev pub delay_of : Next → ℕ
@@ -31,26 +34,104 @@ delay_of N.Go = 0
 delay_of N.Wait = RETRY
 delay_of N.Done = 0
 
--- What one event leads to: it stays the same transaction, of the same links; nothing is done, or their faults and
--- waits are minded, and it waits for nothing else; and nothing but the request and its upload is sent to the
--- origin.
-pub record TakesEvent {C O : Type 0} (ctells otells : Bool) (client : C → Look) (origin : O → Look)
-    (paired : C → O → Type 0) (refuses : O → List ℕ → Type 0) (left : C → O → Option ℕ) (s t : Core C O)
-    (old new : Phase) (next : Next) : Type 0 where
-  pub keeps : StepKeeps client origin paired refuses s t
-  pub minds : (new ≡ P.Ended E.NoMemory) ⊎ ((t ≡ s) × (new ≡ old))
-      ⊎ MindsLinksIn ctells otells client origin refuses left s t old (record { phase = new; next = next })
-  pub waits : WaitsRightly next (view_of client origin s) (view_of client origin t)
-  pub leaves : IfTold ctells otells (LeavesSides old (view_of client origin s) (view_of client origin t))
+-- a body begins to be passed on in one phase alone, and no call is made on a link then
+abbrev pub BeginsIn : Phase → View → View → Type 0
+BeginsIn (P.ResponseTransform q h) v w = QuietLinks v w
+BeginsIn _ v w = ⊥
 
--- the same, and the event of the next step, if one is set, is due when that step is to be made
-pub record HandlesEvent {C O : Type 0} (ctells otells : Bool) (client : C → Look) (origin : O → Look)
-    (paired : C → O → Type 0) (refuses : O → List ℕ → Type 0) (left : C → O → Option ℕ) (s t : Core C O)
-    (old new : Phase) (a b : Context) : Type 0 where
-  pub next : Next
-  pub takes : TakesEvent ctells otells client origin paired refuses left s t old new next
-  pub due : SetsOnly (IsDueAfter (delay_of next) a.moment) a b
+-- Where a body begins, what is set is of one of its stages, or lets an end of it work at once; and where it is left at
+-- once, the event of the next step is due then.
+pub record BeginsOnTime {Q : Type 0} (main : Option StageContinuation) (r : Relay Q) (a b : Context) : Type 0 where
+  pub behind : Context
+  pub first : Grows a behind
+  pub then : Grows behind b
+  pub begins : BeginsInTime main r a behind
+  pub due : SetsOnly (IsDueAfter AT_ONCE behind.moment) behind b
 
--- it begins, or has ended for want of memory
-abbrev pub BeginsOrLacks : Phase → Type 0
-BeginsOrLacks new = (new ≡ P.TxnStart) ⊎ (new ≡ P.Ended E.NoMemory)
+-- the event of the next step, if one is set, is due when that step is to be made
+abbrev pub DueTo : {Q : Type 0} → Option StageContinuation → Next → Course Q → Context → Context → Type 0
+DueTo main next (K.Phased p) a b = SetsOnly (IsDueAfter (delay_of next) a.moment) a b
+DueTo main next (K.Relaying r) a b = BeginsOnTime main r a b
+DueTo main next (K.Finishing end) a b = ⊥
+
+module _ {C O Q : Type 0} (ctells otells : Bool) (client : C → Look) (origin : O → Look)
+    (paired : C → O → Type 0) (refuses : O → List ℕ → Type 0) (left : C → O → Option ℕ)
+    (s t : Core C O) where
+  -- where the step of a phase leads: the faults and the waits of the links are minded
+  abbrev pub MindsCourse : Phase → Next → Course Q → Type 0
+  MindsCourse old next (K.Phased new) =
+      MindsLinksIn ctells otells client origin refuses left s t old (record { phase = new; next = next })
+  MindsCourse old next (K.Relaying r) = BeginsIn old (view_of client origin s) (view_of client origin t)
+  MindsCourse old next (K.Finishing end) = ⊥
+
+  -- In a phase nothing is done, or the links are minded, and it waits for nothing else; and nothing but the request and
+  -- its upload is sent to the origin.
+  pub record TakesStep (old : Phase) (next : Next) (new : Course Q) : Type 0 where
+    pub minds : (new ≡ K.Phased (P.Ended E.NoMemory)) ⊎ ((t ≡ s) × (new ≡ K.Phased old))
+        ⊎ MindsCourse old next new
+    pub waits : WaitsRightly next (view_of client origin s) (view_of client origin t)
+    pub leaves : IfTold ctells otells (LeavesSides old (view_of client origin s) (view_of client origin t))
+
+  -- while a body is passed on, a part of that is done
+  pub record TakesBody (old : Relay Q) (new : Course Q) : Type 0 where
+    pub step : BodyStep
+    pub after : Relay Q
+    pub led : StaysOnOrLacks (course_after after step) new
+    pub client_late : Bool
+    pub origin_late : Bool
+    pub minds : MindsBody ctells otells (view_of client origin s) (view_of client origin t) old.driven.chain
+        after.driven.chain step client_late origin_late
+
+  -- one of the last writes is made
+  pub record TakesWrite (end : TxnEnd) (step : BodyStep) (new : Course Q) : Type 0 where
+    pub led : StaysOnOrLacks (finish_after end step) new
+    pub rest : SendsRest ctells end (view_of client origin s) (view_of client origin t) step
+
+  -- it is, or nothing is done
+  abbrev pub WritesOr : TxnEnd → BodyStep → Course Q → Type 0
+  WritesOr end step new =
+      ((step ≡ S.Goes) × (t ≡ s) × (new ≡ K.Finishing end)) ⊎ TakesWrite end step new
+
+  -- what one event leads to
+  abbrev pub TakesOn : Course Q → Course Q → Type 0
+  TakesOn (K.Phased phase) new = (next : Next) × TakesStep phase next new
+  TakesOn (K.Relaying r) new = TakesBody r new
+  TakesOn (K.Finishing end) new = (step : BodyStep) × WritesOr end step new
+
+  -- it stays the same transaction, of the same links
+  pub record TakesEvent (old new : Course Q) : Type 0 where
+    pub keeps : StepKeeps client origin paired refuses s t
+    pub takes : TakesOn old new
+
+  module _ (a b : Context) where
+    -- the same, with the moments of the events that are set
+    pub record HandlesStep (main : Option StageContinuation) (old : Phase) (new : Course Q) : Type 0 where
+      pub next : Next
+      pub takes : TakesStep old next new
+      pub due : DueTo main next new a b
+
+    -- while a body is passed on, and where it is left the event of the next step is due at once
+    pub record HandlesRelay (main : Option StageContinuation) (old : Relay Q) (new : Course Q) : Type 0 where
+      pub step : BodyStep
+      pub after : Relay Q
+      pub led : StaysOnOrLacks (course_after after step) new
+      pub behind : Context
+      pub first : Grows a behind
+      pub then : Grows behind b
+      pub links : HandlesLinks ctells otells (view_of client origin s) (view_of client origin t) main old after
+          step a behind
+      pub due : SetsOnly (IsDueAfter AT_ONCE behind.moment) behind b
+
+    pub record HandlesWrite (end : TxnEnd) (new : Course Q) : Type 0 where
+      pub step : BodyStep
+      pub takes : WritesOr end step new
+      pub due : SetsOnly (IsDueAfter (pause_of step) a.moment) a b
+
+    abbrev pub HandlesOn : Option StageContinuation → Course Q → Course Q → Type 0
+    HandlesOn main (K.Phased phase) new = HandlesStep main phase new
+    HandlesOn main (K.Relaying r) new = HandlesRelay main r new
+    HandlesOn main (K.Finishing end) new = HandlesWrite end new
+
+    pub record HandlesEvent (main : Option StageContinuation) (old new : Course Q) : Type 0 where
+      pub keeps : StepKeeps client origin paired refuses s t
+      pub handles : HandlesOn main old new

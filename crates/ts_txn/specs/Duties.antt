@@ -1,5 +1,5 @@
--- Who must work while a body is passed on, and that each duty has an event of a continuation that does it (Developer's
--- Guide, "Continuations" and "Transformations").
+-- Who must work while a body is passed on, and that each duty has an event of a continuation that does it
+-- (Developer's Guide, "Continuations" and "Transformations").
 use Rattle.std.specs.Prelude.{◌≡◌, ◌≢◌, ℕ, ◌≤◌, ◌⊎◌, List, [], ◌∷◌, Bool, true, Option, ⊤}
 use Rattle.ts_journal.specs.declared.entry.TheConstants.{GREATEST}
 use Rattle.ts_journal.specs.declared.entry.Event.{Event}
@@ -19,12 +19,13 @@ use Rattle.ts_txn.specs.declared.finishing.BodyStep.{BodyStep}
 use Rattle.ts_txn.specs.declared.finishing.BodyStep.TheVariants as S
 use Rattle.ts_txn.specs.declared.relay.Relay.{Relay}
 
--- the first continuation must write: something waits for the client, or the chain gave something, or has given all
+-- the first continuation must write: something waits for the client, or the chain gave something, or has
+-- given all
 abbrev pub MustSend : {P : Type 0} → View → ChainState P → Type 0
 MustSend v c = (v.client.outbox ≢ []) ⊎ MustWrite c ⊎ ((c.given ≡ true) × IsFinished c)
 
--- While no event of a stage was lost, the continuations of a body have their roles, each that is roused has an event,
--- and so has each stage that must work.
+-- While no event of a stage was lost, the continuations of a body have their roles, each that is roused has
+-- an event, and so has each stage that must work.
 abbrev pub IsBodyJoined : {P : Type 0} → Option StageContinuation → Relay P → List Pending → List Named
     → Type 0
 IsBodyJoined main r pending roles = r.driven.running ≡ true
@@ -52,13 +53,15 @@ pub record TellsDuty {P : Type 0} (must : Bool) (v : View) (c : ChainState P) : 
   pub must_send : must ≡ true → MustSend v c
   pub only : MustSend v c → must ≡ true
 
--- What is left where a continuation was roused, or could not be: it is, if it must work, or the event numbers are used up.
+-- What is left where a continuation was roused, or could not be: it is, if it must work, or the event
+-- numbers are used up.
 pub record RousesOne (step : BodyStep) (must : Bool) (t u : Option StageContinuation)
     (a b : Context) : Type 0 where
   pub adds : AddsSome 1 a b
   pub stage : KeepsStage a b t u
   pub seated : KeepsSeated (t ∷ []) (u ∷ []) a b
   pub roused : OnGoes step ((must ≡ true → IsRousedIf u) ⊎ (GREATEST ≤ b.log.state.next))
+  pub rests : (must ≡ true → IsRousedIf t) → b ≡ a
 
 -- The same of the first continuation and of the reader.
 pub record RousesBoth (step : BodyStep) (writes reads : Bool) (t u r s : Option StageContinuation)
@@ -72,12 +75,13 @@ pub record RousesBoth (step : BodyStep) (writes reads : Bool) (t u r s : Option 
   pub seated : (ts : List (Option StageContinuation)) → KeepsSeated (t ∷ r ∷ ts) (u ∷ s ∷ ts) a b
   pub roused : OnGoes step (((writes ≡ true → IsRousedIf u) × (reads ≡ true → IsRousedIf s))
       ⊎ (GREATEST ≤ b.log.state.next))
+  pub rests : (writes ≡ true → IsRousedIf t) → (reads ≡ true → IsRousedIf r) → b ≡ a
 
 -- The same of a body: the reader must work where more may be given to the chain.
 abbrev pub EndsRouse : {P : Type 0} → BodyStep → Bool → Option StageContinuation → Option StageContinuation
     → Relay P → Relay P → Context → Context → Type 0
 EndsRouse step writes t u r s a b = (reads : Bool) × (MustRead r.driven.chain → reads ≡ true)
-    × RousesBoth step writes reads t u r.reader s.reader a b
+    × (reads ≡ true → MustRead r.driven.chain) × RousesBoth step writes reads t u r.reader s.reader a b
 
 -- the stages run, or the event numbers are used up
 abbrev pub RunsOr : {P : Type 0} → Relay P → ℕ → Type 0
@@ -103,6 +107,7 @@ pub record SettlesBody {P : Type 0} (step : BodyStep) (v : View) (t u : Option S
   pub goes : OnGoes step ⊤
   pub later : a.log.state.next ≤ b.log.state.next
   pub seated : KeepsSeated (body_seats t r) (body_seats u s) a b
+  pub rests : AreBodyEndsRoused v t r → b ≡ a
 
 -- after a step that goes on a body is settled, and else nothing is done
 abbrev pub SettledAs : BodyStep → BodyStep → Type 0
@@ -119,6 +124,7 @@ pub record SettlesAfter {P : Type 0} (step result : BodyStep) (v : View) (t u : 
   pub settled : SettledAs step result
   pub later : a.log.state.next ≤ b.log.state.next
   pub seated : KeepsSeated (body_seats t r) (body_seats u s) a b
+  pub rests : AreBodyEndsRoused v t r → b ≡ a
 
 -- What is left where an event of a role was handled while a body is passed on.
 pub record HandlesBody {P : Type 0} (step : BodyStep) (role : ℕ) (event : Event) (v w : View)
@@ -132,10 +138,14 @@ pub record HandlesBody {P : Type 0} (step : BodyStep) (role : ℕ) (event : Even
   pub ordered : EndsInOrder r.driven.chain.given r.driven.chain.stages
       → EndsInOrder s.driven.chain.given s.driven.chain.stages
 
--- What is left where a body began, whose first continuation had its role.
+-- What is left where a body began, whose first continuation had its role: it is passed on, or memory lacked.
 pub record BeginsBody {P : Type 0} (step : BodyStep) (v : View) (t u : Option StageContinuation) (s : Relay P)
     (a b : Context) : Type 0 where
   pub acts : ActsWithin 4 a b
   pub joined : IsOfStageIf a.log.state.pending a.roles MAIN t
       → IsBodyJoined u s b.log.state.pending b.roles
   pub covered : WhileGoes step (IsBodyCovered v u s b.log.state.next)
+  pub goes : OnGoes step ⊤
+  pub runs : UnlessLacking step (RunsOr s b.log.state.next)
+  pub seated : KeepsSeated (t ∷ []) (body_seats u s) a b
+  pub ordered : EndsInOrder s.driven.chain.given s.driven.chain.stages

@@ -1,5 +1,5 @@
--- How a body begins to be passed on: the transforms of the lines that act on it are made, and the client's head is
--- queued (Developer's Guide, "Transformations").
+-- How a body begins to be passed on: the transforms of the lines that act on it are made, and the client's
+-- head is queued (Developer's Guide, "Transformations").
 use Rattle.std.specs.Prelude.{◌≡◌, ℕ, ◌≤◌, ◌⊎◌, List, [], Bool, true, false, Option, None, ⊤}
 use Rattle.std.specs.Arc.{arc_value}
 use Rattle.ts_config.specs.declared.setup.Setup.{Setup}
@@ -9,9 +9,10 @@ use Rattle.ts_hooks.specs.declared.txn_end.TxnEnd.TheVariants as E
 use Rattle.ts_journal.specs.declared.entry.TheConstants.{GREATEST}
 use Rattle.ts_group.specs.Context.{Context}
 use Rattle.ts_link.specs.Link.{Look, all_of}
-use Rattle.ts_transform.specs.Flow.{ChainState, OnlyFirstWorks, flow}
+use Rattle.ts_transform.specs.Flow.{ChainState, EndsInOrder, OnlyFirstWorks, flow}
 use Rattle.ts_transform.specs.Driving.{ActsWithin, IsOfStageIf}
 use Rattle.ts_transform.specs.Driven.{IsDrivenWhile}
+use Rattle.ts_transform.specs.Seats.{KeepsSeated}
 use Rattle.ts_transform.specs.declared.continuation.StageContinuation.{StageContinuation}
 use Rattle.ts_transform.specs.declared.driven.DrivenChain.{DrivenChain}
 use Rattle.ts_wire.specs.declared.heads.RequestHead.{RequestHead}
@@ -25,6 +26,7 @@ use Rattle.ts_txn.specs.View.{OriginRefuses, View, view_of}
 use Rattle.ts_txn.specs.Facts.{Relays}
 use Rattle.ts_txn.specs.Holding.{IfTold}
 use Rattle.ts_txn.specs.Ends.{EndFact}
+use Rattle.ts_txn.specs.Duties.{relay_seats}
 use Rattle.ts_txn.specs.Relaying.{ReadsBody, SendsBody}
 use Rattle.ts_txn.specs.declared.finishing.BodyStep.{BodyStep}
 use Rattle.ts_txn.specs.declared.finishing.BodyStep.TheVariants as S
@@ -37,11 +39,12 @@ use Rattle.ts_txn.specs.declared.relay.TheConstants.{FIRST, READER}
 abbrev pub ActsAsLines : (TransformLine → List ℕ → List ℕ) → Type 0
 ActsAsLines whole = (l : TransformLine) (z : List ℕ) → whole l z ≡ whole_of l z
 
--- no continuation was made
+-- no continuation was made, and no stage has ended
 pub record IsUnbegun {P : Type 0} (r : Relay P) : Type 0 where
   pub no_stage : r.driven.table.items ≡ []
   pub stopped : r.driven.running ≡ false
   pub no_reader : r.reader ≡ None
+  pub in_order : EndsInOrder r.driven.chain.given r.driven.chain.stages
 
 -- The body of this response is passed on through its lines, and nothing was begun.
 pub record IsFreshRelay {P : Type 0} (rest : P → List ℕ → List ℕ) (setup : Setup) (q : RequestHead)
@@ -63,6 +66,12 @@ module _ (setup : Setup) (refuses : Type 0) where
     pub going : c.given ≡ false
     pub sends : SendsBody setup refuses q h rest v.client v.sent c read
 
+-- no call was made on either link, and what they gave is kept
+pub record QuietLinks (v w : View) : Type 0 where
+  pub client : w.client.look ≡ v.client.look
+  pub held : w.client.inbox ≡ v.client.inbox
+  pub origin : w.origin ≡ v.origin
+
 -- the chain begins with its end where there is no body; nothing is bad before its first byte
 abbrev pub GetsStart : {P : Type 0} → BodyState → ChainState P → ChainState P → Type 0
 GetsStart B.Unfinished c d = d ≡ c
@@ -83,11 +92,14 @@ pub record BeginsChain {P : Type 0} (step : BodyStep) (most : ℕ) (d : DrivenCh
       → IsOfStageIf b.log.state.pending b.roles role t
   pub driven : IsDrivenWhile FIRST d b.log.state.pending b.roles
   pub runs : BeginsRunning step d b
+  pub seated : KeepsSeated [] d.table.items a b
 
--- And the reader has a role of its own.
+-- And the reader has a role of its own: whatever was set is of one of these.
 pub record BeginsRelay {P : Type 0} (step : BodyStep) (r : Relay P) (a b : Context) : Type 0 where
   pub chain : BeginsChain step 2 r.driven a b
   pub of_reader : IsOfStageIf b.log.state.pending b.roles READER r.reader
+  pub seated : KeepsSeated [] (relay_seats r) a b
+  pub ordered : EndsInOrder r.driven.chain.given r.driven.chain.stages
 
 module _ {C O : Type 0} (ctells otells : Bool) (client : C → Look) (origin : O → Look)
     (refuses : O → List ℕ → Type 0) where

@@ -1,6 +1,6 @@
--- How a body comes to the chain: what waits of the origin's bytes is fed to a reader of bodies, and what of it is body
--- is given to the chain (RFC 9112, sections 6.3 and 7.1).
-use Rattle.std.specs.Prelude.{◌≡◌, ◌≢◌, ℕ, ◌++◌, List, Bool, true, false, ⊤}
+-- How a body comes to the chain: what waits of the origin's bytes is fed to a reader of bodies, and what of
+-- it is body is given to the chain (RFC 9112, sections 6.3 and 7.1).
+use Rattle.std.specs.Prelude.{◌≡◌, ◌≢◌, ℕ, ◌<◌, ◌≤◌, ◌⊎◌, ◌++◌, List, length, Bool, true, false, ⊤}
 use Rattle.ts_hooks.specs.declared.txn_end.TxnEnd.TheVariants as E
 use Rattle.ts_transform.specs.Flow.{ChainState}
 use Rattle.ts_wire.specs.declared.body.BodyState.{BodyState}
@@ -19,18 +19,20 @@ OnGoes S.Goes P = P
 OnGoes S.Lacks P = ⊤
 OnGoes step P = ⊥
 
--- what the chain gets of a body in this state: a part of it, and its end; of a bad body nothing is said
+-- what the chain gets of a body in this state: a part of it, and its end; and nothing of a bad one
 abbrev pub GetsPart : {P : Type 0} → BodyState → List ℕ → ChainState P → ChainState P → Type 0
 GetsPart B.Unfinished part c d = d ≡ record c { first = c.first ++ part }
 GetsPart B.Ended part c d = d ≡ record c { first = c.first ++ part; given = true }
-GetsPart B.Bad part c d = ⊤
+GetsPart B.Bad part c d = d ≡ c
 
 -- A front of what waits was fed to the reader, and what of it is body came to the chain.
 pub record FeedsBody {P : Type 0} (old new : Place) (before after : List ℕ)
     (c d : ChainState P) : Type 0 where
   pub piece : List ℕ
   pub part : List ℕ
+  pub within : length part ≤ length piece
   pub taken : before ≡ piece ++ after
+  pub progress : state_of old.phase ≡ B.Unfinished → (0 < length piece) ⊎ (state_of new.phase ≢ B.Unfinished)
   pub goes : GoesOn old new piece part
   pub gets : GetsPart (state_of new.phase) part c d
 

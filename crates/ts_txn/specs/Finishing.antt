@@ -1,4 +1,5 @@
--- A transaction whose client's text was queued whole, and where the steps of a body lead (RFC 9112, section 8).
+-- A transaction whose client's text was queued whole, and where the steps of a body lead (RFC 9112, section
+-- 8).
 use Rattle.std.specs.Prelude.{◌≡◌, ◌≢◌, List, ℕ, [], Bool, true, false}
 use Rattle.std.specs.Arc.{arc_value}
 use Rattle.ts_config.specs.declared.setup.Setup.{Setup}

@@ -1,5 +1,6 @@
 pub mod Acting
 pub mod Block
+pub mod BodyLinks
 pub mod Checking
 pub mod Course
 pub mod CourseCover
@@ -18,6 +19,7 @@ pub mod Holding
 pub mod Inserted
 pub mod Lowering
 pub mod LoweringBody
+pub mod LoweringCourse
 pub mod Making
 pub mod Moving
 pub mod Own
@@ -25,6 +27,7 @@ pub mod Reading
 pub mod RelayMoves
 pub mod Relayed
 pub mod Relaying
+pub mod Resting
 pub mod Rules
 pub mod Steps
 pub mod View

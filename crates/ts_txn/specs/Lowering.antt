@@ -1,6 +1,6 @@
 -- What a transaction has left to do, as a number that each of its events lowers: what is left to read, to pass each
 -- boundary and to write, and the Again answers that are left, each weighted above what it makes; and the pending events.
-use Rattle.std.specs.Prelude.{ℕ, ◌+◌, ◌*◌, List, [], ◌∷◌, length, Bool, true, false, ◌&&◌, Option, Some, None}
+use Rattle.std.specs.Prelude.{ℕ, ◌+◌, ◌*◌, List, [], ◌∷◌, length, Bool, Option, Some, None}
 use Rattle.std.specs.Arc.{arc_value}
 use Rattle.ts_config.specs.declared.setup.Setup.{Setup}
 use Rattle.ts_config.specs.declared.setup.TransformLine.{TransformLine}
@@ -11,29 +11,29 @@ use Rattle.ts_config.specs.declared.fields.PluginLine.{PluginLine}
 use Rattle.ts_config.specs.declared.fields.PluginLine.TheVariants.{Deny, Header}
 use Rattle.ts_journal.specs.declared.entry.Pending.{Pending}
 use Rattle.ts_link.specs.Link.{Fewer, Look, NoMore}
-use Rattle.ts_upstream.specs.Uploads.{both}
+use Rattle.ts_upstream.specs.Uploads.{Rose8, both, taken_since}
 use Rattle.ts_wire.specs.Limits.{field_limit, head_limit}
 use Rattle.ts_txn.specs.Block.{own_text, request_text}
 use Rattle.ts_txn.specs.Own.{own_body}
-use Rattle.ts_txn.specs.View.{LinkSide, View, view_of}
+use Rattle.ts_txn.specs.Holding.{IfTold}
+use Rattle.ts_txn.specs.View.{LinkSide, View, side_if, upload_told, view_of}
 use Rattle.ts_txn.specs.declared.own.OwnStatus.{OwnStatus}
 use Rattle.ts_txn.specs.declared.own.OwnStatus.TheVariants as O
-use Rattle.ts_txn.specs.declared.parts.Peer.{Peer}
+use Rattle.ts_txn.specs.declared.parts.Core.{Core}
 use Rattle.ts_txn.specs.declared.phase.Next.{Next}
 use Rattle.ts_txn.specs.declared.phase.Next.TheVariants as N
 use Rattle.ts_txn.specs.declared.phase.Phase.{Phase}
 use Rattle.ts_txn.specs.declared.phase.Phase.TheVariants as P
 use Rattle.ts_txn.specs.declared.phase.Request.{Request}
 use Rattle.ts_txn.specs.declared.phase.Step.{Step}
-use Rattle.ts_txn.specs.declared.txn.Txn.{Txn}
 
--- a step sets fewer events
+-- a step sets no more events
 abbrev pub events_paid : ℕ
-events_paid = 4
+events_paid = 5
 
 -- what a chain has left to do weighs a hundred events: so many steps
 abbrev pub pump_weight : ℕ
-pump_weight = 25
+pump_weight = 20
 
 -- a byte that is written to the origin lets the upload rise by 8
 abbrev pub written_weight : ℕ
@@ -85,7 +85,7 @@ frame_room = 4 * head_limit + 256
 
 -- the end of a body as it is framed, and the steps behind it
 abbrev pub end_room : ℕ
-end_room = 8
+end_room = 16
 
 -- what the client gave and may still give, until its request was read
 abbrev pub to_ask : LinkSide → ℕ
@@ -166,14 +166,20 @@ if_told None n f = None
 abbrev pub agains_left : View → Option ℕ
 agains_left v = both v.client.look.agains v.origin.look.agains
 
+-- how much upload is left in a phase: none, once the answer is waited for
+abbrev pub upload_in : Option ℕ → Phase → Option ℕ
+upload_in upload (P.ReadResponse q) = Some 0
+upload_in upload (P.ReadResponseHdr q h) = Some 0
+upload_in upload (P.ResponseTransform q h) = Some 0
+upload_in upload (P.SendResponseHdr a) = Some 0
+upload_in upload (P.Sending a) = Some 0
+upload_in upload (P.TxnClose end) = Some 0
+upload_in upload (P.Ended end) = Some 0
+upload_in upload _ = upload
+
 -- what a transaction has left to do in a phase, if its links tell how many Again answers and how much upload is left
 abbrev pub work_left : Setup → Option ℕ → View → Phase → Option ℕ
-work_left setup upload v p = if_told (agains_left v) upload (λ again more. phase_work setup again more v p)
-
--- how much upload the two links have left: none, if there is no origin
-abbrev pub upload_told : {C L : Type 0} → (C → L → Option ℕ) → C → Option (Peer L) → Option ℕ
-upload_told left c None = Some 0
-upload_told left c (Some p) = left c p.link
+work_left setup upload v p = if_told (agains_left v) (upload_in upload p) (λ again more. phase_work setup again more v p)
 
 -- A step lowers what is left, and the last one doesn't raise it.
 abbrev pub StepFalls : Next → Option ℕ → Option ℕ → Type 0
@@ -186,18 +192,17 @@ abbrev pub number_left : List Pending → Option ℕ → Option ℕ
 number_left pending None = None
 number_left pending (Some work) = Some (events_paid * work + length pending)
 
--- the number of a transaction whose links tell, and none of another
-abbrev pub number_if : Bool → Option ℕ → Option ℕ
-number_if true n = n
-number_if false n = None
-
 -- What the step of a phase leads to lowers what is left.
 abbrev pub StepLowers : Setup → Phase → Option ℕ → Option ℕ → View → View → Step → Type 0
 StepLowers setup p upload upload_then v w s = StepFalls s.next (work_left setup upload v p) (work_left setup upload_then w s.phase)
 
--- the number of a transaction in its group: it has one where both links tell
-abbrev pub transaction_left : {C O : Type 0} → Bool → Bool → (C → Look) → (O → Look) → (C → O → Option ℕ)
-    → Txn C O → List Pending → Option ℕ
-transaction_left ctells otells client origin left t pending =
-    number_if (ctells && otells) (number_left pending
-        (work_left (arc_value t.core.setup) (upload_told left t.core.client.link t.core.origin) (view_of client origin t.core) t.phase))
+module _ {C O : Type 0} (ctells otells : Bool) (client : C → Look) (origin : O → Look) (left : C → O → Option ℕ) where
+  -- the step of a phase lowers what is left, where both links tell
+  abbrev pub StepFallsFrom : Core C O → Core C O → Phase → Step → Type 0
+  StepFallsFrom t u p s = IfTold ctells otells (StepLowers (arc_value t.setup) p (upload_told left t.client.link t.origin)
+      (upload_told left u.client.link u.origin) (view_of client origin t) (view_of client origin u) s)
+
+-- calls that upload nothing raise what the upload has left by at most 8 for each byte that the origin took
+abbrev pub RaisesUpload : {C O : Type 0} → (O → Look) → (C → O → Option ℕ) → Core C O → Core C O → Type 0
+RaisesUpload origin left t u = Rose8 (upload_told left t.client.link t.origin) (upload_told left u.client.link u.origin)
+    (taken_since (side_if origin t.origin).look (side_if origin u.origin).look)

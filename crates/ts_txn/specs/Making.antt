@@ -6,6 +6,8 @@ use Rattle.ts_hooks.specs.declared.txn_end.TxnEnd.{TxnEnd}
 use Rattle.ts_link.specs.Link.{Look}
 use Rattle.ts_txn.specs.declared.making.TheConstants.{MOST_GROUPS, MOST_PLUGINS}
 use Rattle.ts_txn.specs.declared.parts.Peer.{Peer}
+use Rattle.ts_txn.specs.declared.course.Course.{Course}
+use Rattle.ts_txn.specs.declared.course.Course.TheVariants as K
 use Rattle.ts_txn.specs.declared.phase.Phase.{Phase}
 use Rattle.ts_txn.specs.declared.phase.Phase.TheVariants as P
 
@@ -47,6 +49,11 @@ IsMadeOfIf look (Some l) (Some p) = IsMadeOf look l p
 abbrev pub end_of_phase : Phase → Option TxnEnd
 end_of_phase (P.Ended end) = Some end
 end_of_phase _ = None
+
+abbrev pub end_of : {Q : Type 0} → Course Q → Option TxnEnd
+end_of (K.Phased p) = end_of_phase p
+end_of (K.Relaying r) = None
+end_of (K.Finishing end) = None
 
 -- the origin's link, if there is one, and its faults when the transaction was made
 abbrev pub link_if : {L : Type 0} → Option (Peer L) → Option L

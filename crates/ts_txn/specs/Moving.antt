@@ -1,8 +1,9 @@
 -- What one call on a side of a transaction moves, and which head it finds at the front of what came.
-use Rattle.std.specs.Prelude.{◌≡◌, ℕ, ◌<◌, ◌++◌, List, [], ◌∷◌, length, Bool, true, Option}
+use Rattle.std.specs.Prelude.{◌≡◌, ℕ, ◌<◌, ◌≤◌, ◌++◌, List, [], ◌∷◌, length, Bool, true, Option}
 use Rattle.ts_vconn.specs.Moves.{PullsOn, Pushes}
 use Rattle.ts_vconn.specs.declared.moves.Pulled.{Pulled}
 use Rattle.ts_vconn.specs.declared.moves.Pushed.{Pushed}
+use Rattle.ts_vconn.specs.declared.moves.TheConstants.{MOST_PULLED}
 use Rattle.ts_upstream.specs.declared.upstream.Uploaded.{Uploaded}
 use Rattle.ts_upstream.specs.Uploads.{UploadCauses, UploadFalls, UploadKeeps, Uploads, both}
 use Rattle.ts_wire.specs.declared.frames.Mode.TheVariants as M
@@ -19,6 +20,7 @@ use Rattle.ts_txn.specs.declared.reading.Found.TheVariants as F
 -- one read of the link, behind what came before
 pub record SideReads (tells : Bool) (old new : LinkSide) (answer : Pulled) : Type 0 where
   pub most : ℕ
+  pub few : most ≤ MOST_PULLED
   pub pulls : PullsOn tells old.look new.look old.inbox new.inbox answer most
   pub base : new.base ≡ old.base
   pub outbox : new.outbox ≡ old.outbox

@@ -1,5 +1,5 @@
--- What one call moves on a side of a transaction that passes a body on: a read of the origin, a head or a piece of
--- body that is queued for the client, and the end of that body (RFC 9112, sections 6 and 7).
+-- What one call moves on a side of a transaction that passes a body on: a read of the origin, a head or a
+-- piece of body that is queued for the client, and the end of that body (RFC 9112, sections 6 and 7).
 use Rattle.std.specs.Prelude.{◌≡◌, ℕ, ◌++◌, List, [], ◌∷◌, length, Bool}
 use Rattle.ts_vconn.specs.declared.moves.Pulled.{Pulled}
 use Rattle.ts_wire.specs.declared.frames.Mode.{Mode}

@@ -1,20 +1,23 @@
 -- What holds of a transaction that passes a body on, between two events, for links that tell: what was sent,
 -- followed by what the chain still gives, is the lines' work on what was read, followed by what still comes
 -- (Developer's Guide, "Transformations"; RFC 9112, sections 6.3 and 8).
-use Rattle.std.specs.Prelude.{◌≡◌, ◌≢◌, ℕ, ◌≤◌, ◌⊎◌, ◌++◌, List, [], Bool, true, false, Result, Ok, Err, ⊤}
+use Rattle.std.specs.Prelude.{◌≡◌, ◌≢◌, ℕ, ◌+◌, ◌≤◌, ◌⊎◌, ◌++◌, List, [], Bool, true, false, Option, Some, Result, Ok, Err, ⊤}
 use Rattle.std.specs.Arc.{arc_value}
 use Rattle.std.specs.Bool.{OnTrue}
+use Rattle.ts_journal.specs.declared.entry.Pending.{Pending}
 use Rattle.ts_journal.specs.declared.entry.TheConstants.{GREATEST}
 use Rattle.ts_group.specs.declared.action.SetFault.{SetFault}
 use Rattle.ts_group.specs.declared.action.SetFault.TheVariants as F
-use Rattle.ts_group.specs.Context.{Context}
+use Rattle.ts_group.specs.declared.action.Named.{Named}
+use Rattle.ts_group.specs.Context.{Context, role_at}
 use Rattle.ts_group.specs.Entries.{Grows}
 use Rattle.ts_config.specs.declared.setup.Setup.{Setup}
 use Rattle.ts_config.specs.Bodies.{compose_lines}
 use Rattle.ts_link.specs.Link.{Look, all_of}
 use Rattle.ts_transform.specs.Flow.{ChainState, EndsInOrder, flow}
-use Rattle.ts_transform.specs.Driving.{Keeps, SetsFew}
+use Rattle.ts_transform.specs.Driving.{AreNamed, Keeps, SetsFew, SetsOnly}
 use Rattle.ts_transform.specs.Driven.{SameSeats, StaysDriven}
+use Rattle.ts_transform.specs.declared.continuation.StageContinuation.{StageContinuation}
 use Rattle.ts_transform.specs.declared.driven.DrivenChain.{DrivenChain}
 use Rattle.ts_wire.specs.declared.heads.ResponseHead.{ResponseHead}
 use Rattle.ts_wire.specs.declared.body.BodyState.TheVariants as B
@@ -36,8 +39,8 @@ use Rattle.ts_txn.specs.declared.phase.Request.{Request}
 
 module _ (setup : Setup) (refuses : Type 0) where
   module _ (q : Request) (h : ResponseHead) where
-    -- The origin answered this request with this head, of a body of which so much was read, by a reader that stands
-    -- at this place.
+    -- The origin answered this request with this head, of a body of which so much was read, by a reader
+    -- that stands at this place.
     pub record ReadsBody (c : List ℕ) (dialed : Bool) (origin : LinkSide) (place : Place)
         (read : List ℕ) : Type 0 where
       pub served : Served setup refuses c q dialed origin
@@ -51,8 +54,8 @@ module _ (setup : Setup) (refuses : Type 0) where
       pub ended : given ≡ true → IsBodyOver (framing_of q.head h) origin place
       pub goes_on : given ≡ false → state_of place.phase ≡ B.Unfinished
 
-    -- The client's text is the head, and a body that goes on as the chain does: for whatever still comes before the
-    -- end was given, and for nothing from then on.
+    -- The client's text is the head, and a body that goes on as the chain does: for whatever still comes
+    -- before the end was given, and for nothing from then on.
     pub record SendsBody {P : Type 0} (rest : P → List ℕ → List ℕ) (client : LinkSide) (s : Sent)
         (c : ChainState P) (read : List ℕ) : Type 0 where
       pub count : HasCount client
@@ -73,8 +76,8 @@ module _ (setup : Setup) (refuses : Type 0) where
     pub gives_end : GivesEnd q h v.origin place c.given
     pub sends : SendsBody q h rest v.client v.sent c read
 
--- where a step leads at which an event was set, or could not be: memory lacks, or the event numbers are used up,
--- which ends nothing
+-- where a step leads at which an event was set, or could not be: memory lacks, or the event numbers are
+-- used up, which ends nothing
 abbrev pub step_after : {T : Type 0} → Result T SetFault → BodyStep
 step_after (Ok x) = S.Goes
 step_after (Err F.Spent) = S.Goes
@@ -91,6 +94,15 @@ abbrev pub DrivesOn : {P : Type 0} → BodyStep → DrivenChain P → DrivenChai
 DrivesOn S.Lacks d e now = ⊤
 DrivesOn step d e now = (e.running ≡ d.running) ⊎ (GREATEST ≤ now.log.state.next)
 
+-- an event of a continuation whose role is the first of the stages', or behind it
+pub record IsOfRoleFrom (first : ℕ) (roles : List Named) (p : Pending) : Type 0 where
+  pub place : ℕ
+  pub role_is : role_at p.key.index roles ≡ Some (first + place)
+
+-- only such events were set, whatever role of the stages is the first
+abbrev pub OnlyOfStages : List (Option StageContinuation) → Context → Context → Type 0
+OnlyOfStages ts a b = (first : ℕ) → AreNamed a.roles first ts → SetsOnly (IsOfRoleFrom first a.roles) a b
+
 -- What a step of a body leaves of its chain and of what is pending: each duty of a stage has its event.
 pub record StepsChain {P : Type 0} (step : BodyStep) (most : ℕ) (d e : DrivenChain P)
     (old new : Context) : Type 0 where
@@ -99,6 +111,7 @@ pub record StepsChain {P : Type 0} (step : BodyStep) (most : ℕ) (d e : DrivenC
   pub on : DrivesOn step d e new
   pub falls : e.running ≡ true → d.running ≡ true
   pub seats : SameSeats d e old new
+  pub only : OnlyOfStages d.table.items old new
   pub ordered : EndsInOrder d.chain.given d.chain.stages → EndsInOrder e.chain.given e.chain.stages
 
 module _ {C O P : Type 0} (ctells otells : Bool) (client : C → Look) (origin : O → Look)

@@ -8,7 +8,7 @@ use Rattle.ts_link.specs.Link.{Look}
 use Rattle.ts_upstream.specs.declared.upstream.Uploaded.{Uploaded}
 use Rattle.ts_upstream.specs.declared.upstream.Uploaded.TheVariants as U
 use Rattle.ts_txn.specs.Moving.{LowersUpload, MovesUpload}
-use Rattle.ts_txn.specs.View.{View, left_if, refuses_if, view_of}
+use Rattle.ts_txn.specs.View.{View, refuses_if, upload_told, view_of}
 use Rattle.ts_txn.specs.declared.parts.Core.{Core}
 use Rattle.ts_txn.specs.declared.phase.Request.{Request}
 use Rattle.ts_txn.specs.declared.own.OwnStatus.TheVariants as O
@@ -82,7 +82,7 @@ module _ {C O : Type 0} (ctells otells : Bool) (client : C → Look) (origin : O
   -- a link's fault and a link that was not ready decide where a step leads; in an upload its answer does
   abbrev pub MindsLinksIn : Phase → Step → Type 0
   MindsLinksIn (P.Upload q) s = UploadsOnce ctells otells (refuses_if refuses t.origin) q
-      (left_if left t.client.link t.origin) (left_if left u.client.link u.origin)
+      (upload_told left t.client.link t.origin) (upload_told left u.client.link u.origin)
       (view_of client origin t) (view_of client origin u) s
   MindsLinksIn _ s = MindsLinks (view_of client origin t) (view_of client origin u) s
 

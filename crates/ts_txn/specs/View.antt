@@ -75,10 +75,10 @@ module _ {L : Type 0} where
   refuses_if refuses None c = ⊥
   refuses_if refuses (Some p) c = refuses p.link c
 
-  -- how much upload the two links have left, if there is an origin
-  abbrev pub left_if : {C : Type 0} → (C → L → Option ℕ) → C → Option (Peer L) → Option ℕ
-  left_if left c None = None
-  left_if left c (Some p) = left c p.link
+  -- how much upload the two links have left: none, if there is no origin
+  abbrev pub upload_told : {C : Type 0} → (C → L → Option ℕ) → C → Option (Peer L) → Option ℕ
+  upload_told left c None = Some 0
+  upload_told left c (Some p) = left c p.link
 
   -- the links of the two sides belong together
   abbrev pub PairIf : {C : Type 0} → (C → L → Type 0) → C → Option (Peer L) → Type 0

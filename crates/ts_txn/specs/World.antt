@@ -1,30 +1,62 @@
 -- What holds of a transaction in its group between calls, and of which transaction a tag speaks.
-use Rattle.std.specs.Prelude.{◌≡◌, ℕ, List, Bool, true, false}
+use Rattle.std.specs.Prelude.{◌≡◌, ℕ, List, Bool, true, false, Option}
 use Rattle.std.specs.Arc.{arc_value}
+use Rattle.ts_config.specs.declared.setup.TransformLine.{TransformLine}
 use Rattle.ts_journal.specs.declared.entry.Pending.{Pending}
+use Rattle.ts_group.specs.Context.{Context}
 use Rattle.ts_group.specs.declared.action.Named.{Named}
 use Rattle.ts_group.specs.declared.group.Group.{Group}
 use Rattle.ts_link.specs.Link.{IsSure, Look}
-use Rattle.ts_txn.specs.View.{IsPaired, is_dialed, side_if}
-use Rattle.ts_txn.specs.Holding.{PhaseHolds}
-use Rattle.ts_txn.specs.Cover.{Idles, HasNextEventOr, Seated, is_fresh}
-use Rattle.ts_txn.specs.Driven.{BeginsOrLacks}
+use Rattle.ts_transform.specs.declared.continuation.StageContinuation.{StageContinuation}
+use Rattle.ts_txn.specs.Course.{CourseHolds}
+use Rattle.ts_txn.specs.CourseCover.{IsCoveredOn, StaysOnOrLacks}
+use Rattle.ts_txn.specs.Entering.{ActsAsLines}
+use Rattle.ts_txn.specs.LoweringCourse.{IsOfLinesOn}
+use Rattle.ts_txn.specs.View.{IsPaired, is_dialed, side_if, view_of}
+use Rattle.ts_txn.specs.Cover.{is_fresh_on}
+use Rattle.ts_txn.specs.declared.course.Course.{Course}
+use Rattle.ts_txn.specs.declared.course.Course.TheVariants as K
+use Rattle.ts_txn.specs.declared.parts.Core.{Core}
+use Rattle.ts_txn.specs.declared.phase.Phase.TheVariants as P
 use Rattle.ts_txn.specs.declared.txn.Txn.{Txn}
 use Rattle.ts_txn.specs.declared.txn.TxnTag.{TxnTag}
 
--- its phase holds where its links tell, they belong together, and its next step has an event
-pub record IsSoundTxn {C O : Type 0} (ctells otells : Bool) (client : C → Look) (origin : O → Look)
-    (paired : C → O → Type 0) (refuses : O → List ℕ → Type 0) (t : Txn C O)
-    (pending : List Pending) (next : ℕ) (roles : List Named) : Type 0 where
-  pub holds : PhaseHolds ctells otells client origin refuses t.core t.phase
-  pub pair : IsPaired paired t.core
-  pub seated : Seated pending roles t.main
-  pub idles : Idles t.phase t.main
-  pub covered : HasNextEventOr t.phase t.main next
+-- how many events a transaction sets at most when one is handled
+abbrev pub most_set : ℕ
+most_set = 7
+
+module _ {C O Q : Type 0} (ctells otells : Bool) (client : C → Look) (origin : O → Look)
+    (paired : C → O → Type 0) (refuses : O → List ℕ → Type 0) (rest : Q → List ℕ → List ℕ)
+    (whole : TransformLine → List ℕ → List ℕ) where
+  -- What its step may count on: it is where it is with right where its links tell, they belong together, the transforms do
+  -- what the lines say, and a body that is passed on goes through such.
+  pub record HoldsOn (core : Core C O) (course : Course Q) : Type 0 where
+    pub holds : CourseHolds ctells otells client origin refuses rest core course
+    pub pair : IsPaired paired core
+    pub acts : ActsAsLines whole
+    pub lines : IsOfLinesOn (arc_value core.setup) rest course
+
+  -- so it stands, and each of its duties has an event
+  pub record IsSoundOn (core : Core C O) (main : Option StageContinuation) (course : Course Q)
+      (pending : List Pending) (next : ℕ) (roles : List Named) : Type 0 where
+    pub stands : HoldsOn core course
+    pub covered : IsCoveredOn (view_of client origin core) main course pending next roles
+
+  -- the same of what is pending now
+  abbrev pub IsSoundNow : Core C O → Option StageContinuation → Course Q → Context → Type 0
+  IsSoundNow core main course now =
+      IsSoundOn core main course now.log.state.pending now.log.state.next now.roles
+
+  abbrev pub IsSoundTxn : Txn C O Q → List Pending → ℕ → List Named → Type 0
+  IsSoundTxn t pending next roles = IsSoundOn t.core t.main t.course pending next roles
+
+  -- the same of the world of a group
+  abbrev pub IsSoundTxnGroup : {A R T U : Type 0} → Group (Txn C O Q) A R T U → Type 0
+  IsSoundTxnGroup g = IsSoundNow g.world.core g.world.main g.world.course g.cx
 
 -- the transaction is the one that the tag names, of the same links
-pub record IsTxnOf {C O : Type 0} (client : C → Look) (origin : O → Look)
-    (tag : TxnTag) (t : Txn C O) : Type 0 where
+pub record IsTxnOf {C O Q : Type 0} (client : C → Look) (origin : O → Look)
+    (tag : TxnTag) (t : Txn C O Q) : Type 0 where
   pub number : t.core.number ≡ tag.number
   pub setup : arc_value t.core.setup ≡ tag.setup
   pub plugins_at : t.core.plugins_at ≡ tag.plugins_at
@@ -36,14 +68,7 @@ pub record IsTxnOf {C O : Type 0} (client : C → Look) (origin : O → Look)
       → IsSure (side_if origin t.core.origin).look
 
 -- where it was not started, it is, or has ended for want of memory; else nothing changed
-pub record HasTxnBegun {C O : Type 0} (old new : Txn C O) : Type 0 where
+pub record HasTxnBegun {C O Q : Type 0} (old new : Txn C O Q) : Type 0 where
   pub core : new.core ≡ old.core
-  pub begun : is_fresh old.phase ≡ true → BeginsOrLacks new.phase
-  pub same : is_fresh old.phase ≡ false → new ≡ old
-
--- the same of the world of a group
-abbrev pub IsSoundTxnGroup : {C O Q R T U : Type 0} → Bool → Bool → (C → Look) → (O → Look) → (C → O → Type 0)
-    → (O → List ℕ → Type 0) → Group (Txn C O) Q R T U → Type 0
-IsSoundTxnGroup ctells otells client origin paired refuses g =
-    IsSoundTxn ctells otells client origin paired refuses g.world
-    g.cx.log.state.pending g.cx.log.state.next g.cx.roles
+  pub begun : is_fresh_on old.course ≡ true → StaysOnOrLacks (K.Phased P.TxnStart) new.course
+  pub same : is_fresh_on old.course ≡ false → new ≡ old

@@ -1,5 +1,6 @@
 //! The phase in which the client's request head is read and checked.
 ghost use Rattle.std.specs.Prelude.{◌≡◌, IfOk};
+ghost use Rattle.ts_txn.specs.Lowering.{StepFallsFrom};
 ghost use Rattle.ts_txn.specs.Cover.{StepLeads};
 ghost use Rattle.ts_txn.specs.Holding.{IfTold, PhaseHolds, HoldsAfter, StepKeeps};
 ghost use Rattle.ts_txn.specs.Steps.{LeavesOrigin, MindsLinks, WaitsRightly};
@@ -50,7 +51,7 @@ fn check(alloc: Global, head: RequestHead) -> Result<Checked, NoMemory>
 
 impl<C: Link, O: Upstream<C>> Core<C, O> {
     /// Looks for the request's head in what the client gave, and checks it, or reads on.
-    #[tactic(auto, using(crate::proofs::Waiting::asked_waits, crate::proofs::Leaving::asked_leaves, crate::proofs::Minding::heard_request, crate::proofs::Minding::lost_client, crate::proofs::Minding::late_client))]
+    #[tactic(auto, using(crate::proofs::Waiting::asked_waits, crate::proofs::Leaving::asked_leaves, crate::proofs::Minding::heard_request, crate::proofs::Minding::lost_client, crate::proofs::Minding::late_client, crate::proofs::LoweringAnswers::asks_some, crate::proofs::LoweringAnswers::asks_wait, crate::proofs::LoweringAnswers::asks_own, crate::proofs::LoweringAnswers::asks_close, crate::proofs::LoweringAnswers::asks_end))]
     pub fn read_request(&mut self) -> Step
         requires fact { PhaseHolds C.tells O.tells C.look O.look O.refuses self.old Phase.ReadRequest }
         ensures leads { StepLeads result }
@@ -58,6 +59,8 @@ impl<C: Link, O: Upstream<C>> Core<C, O> {
         ensures minds { MindsLinks (view_of C.look O.look self.old) (view_of C.look O.look self.new) result }
         ensures leaves { IfTold C.tells O.tells
             (LeavesOrigin (view_of C.look O.look self.old) (view_of C.look O.look self.new)) }
+        ensures falls { StepFallsFrom C.tells O.tells C.look O.look O.upload_left self.old self.new
+            Phase.ReadRequest result }
         ensures keeps { StepKeeps C.look O.look O.paired O.refuses self.old self.new }
         ensures waits { WaitsRightly result.next
             (view_of C.look O.look self.old) (view_of C.look O.look self.new) }

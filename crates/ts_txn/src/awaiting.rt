@@ -1,6 +1,7 @@
 //! The phase in which the origin's response head is read.
+ghost use Rattle.ts_txn.specs.Lowering.{StepFallsFrom};
 ghost use Rattle.ts_txn.specs.Cover.{StepLeads};
-ghost use Rattle.ts_txn.specs.Steps.{LeavesClient, LeavesOrigin, MindsLinks, WaitsRightly};
+ghost use Rattle.ts_txn.specs.Steps.{LeavesSides, MindsLinks, WaitsRightly};
 ghost use Rattle.ts_txn.specs.View.{view_of};
 ghost use Rattle.ts_txn.specs.Holding.{IfTold, PhaseHolds, HoldsAfter, StepKeeps};
 
@@ -19,17 +20,17 @@ use ts_vconn::Pulled;
 impl<C: Link, O: Upstream<C>> Core<C, O> {
     /// Looks for the head of the final response in what the origin gave, or reads on. Interim heads are
     /// dropped.
-    #[tactic(auto, using(crate::proofs::Sparing::held_spares, crate::proofs::Waiting::heard_waits, crate::proofs::Leaving::heard_leaves, crate::proofs::Minding::heard_response, crate::proofs::Minding::lost_origin, crate::proofs::Minding::late_origin))]
+    #[tactic(auto, using(crate::proofs::Sparing::held_spares, crate::proofs::Waiting::heard_waits, crate::proofs::Leaving::heard_leaves, crate::proofs::Minding::heard_response, crate::proofs::Minding::lost_origin, crate::proofs::Minding::late_origin, crate::proofs::LoweringAnswers::hears_wait, crate::proofs::LoweringAnswers::hears_dropped, crate::proofs::LoweringAnswers::hears_own, crate::proofs::LoweringAnswers::hears_end))]
     pub fn read_response(&mut self, request: Request) -> Step
         requires fact { PhaseHolds C.tells O.tells C.look O.look O.refuses self.old
             (Phase.ReadResponse request) }
         ensures leads { StepLeads result }
         ensures fact { HoldsAfter C.tells O.tells C.look O.look O.refuses self.old self.new result }
         ensures minds { MindsLinks (view_of C.look O.look self.old) (view_of C.look O.look self.new) result }
-        ensures leaves { IfTold C.tells O.tells
-            (LeavesOrigin (view_of C.look O.look self.old) (view_of C.look O.look self.new)) }
-        ensures spares { IfTold C.tells O.tells
-            (LeavesClient (view_of C.look O.look self.old) (view_of C.look O.look self.new)) }
+        ensures leaves { IfTold C.tells O.tells (LeavesSides (Phase.ReadResponse request)
+            (view_of C.look O.look self.old) (view_of C.look O.look self.new)) }
+        ensures falls { StepFallsFrom C.tells O.tells C.look O.look O.upload_left self.old self.new
+            (Phase.ReadResponse request) result }
         ensures keeps { StepKeeps C.look O.look O.paired O.refuses self.old self.new }
         ensures waits { WaitsRightly result.next
             (view_of C.look O.look self.old) (view_of C.look O.look self.new) }

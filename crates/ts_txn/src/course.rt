@@ -1,10 +1,11 @@
-//! How far a transaction is, and where an event leads it while a body is passed on.
+//! How far a transaction is, and where an event leads it from there.
 ghost use Rattle.std.specs.Prelude.{◌≡◌, true};
-ghost use Rattle.ts_txn.specs.Course.{CourseHolds};
-ghost use Rattle.ts_txn.specs.Entering.{ActsAsLines, HeadHolds};
-ghost use Rattle.ts_txn.specs.Finishing.{FinishHolds};
-ghost use Rattle.ts_txn.specs.Holding.{StepKeeps};
-ghost use Rattle.ts_txn.specs.Relaying.{RelayHolds};
+ghost use Rattle.ts_group.specs.Calls.{IsCalled};
+ghost use Rattle.ts_transform.specs.Driving.{ActsWithin};
+ghost use Rattle.ts_txn.specs.CourseCover.{IsAlone};
+ghost use Rattle.ts_txn.specs.Driven.{HandlesEvent};
+ghost use Rattle.ts_txn.specs.LoweringCourse.{PaysEvents};
+ghost use Rattle.ts_txn.specs.World.{HoldsOn, IsSoundNow, IsSoundOn, most_set};
 
 use crate::course_leaving::{leave, write_on};
 use crate::parts::Core;
@@ -32,7 +33,7 @@ pub enum Course<P> {
 }
 
 /// Handles an event of a role while a body is passed on, and answers where the transaction is then.
-pub fn relay_on<C: Link, O: Upstream<C>, P: Transform + Drop>(
+pub fn relay_on<C: Link, O: Upstream<C>, P: Transform<Line = TransformLine> + Drop>(
     core: &mut Core<C, O>,
     main: &mut Option<StageContinuation>,
     relay: Relay<P>,
@@ -41,9 +42,17 @@ pub fn relay_on<C: Link, O: Upstream<C>, P: Transform + Drop>(
     cx: &mut Cx,
 ) -> Course<P>
     requires turn { cx.old.log.state.held ≡ true }
-    requires fact { RelayHolds C.tells O.tells C.look O.look O.refuses P.rest core.old relay }
-    ensures fact { CourseHolds C.tells O.tells C.look O.look O.refuses P.rest core.new result }
-    ensures keeps { StepKeeps C.look O.look O.paired O.refuses core.old core.new }
+    requires called { IsCalled
+        (λ s roles. IsSoundOn C.tells O.tells C.look O.look O.paired O.refuses P.rest P.whole
+        core.old main.old (Course.Relaying relay) s.pending s.next roles)
+        cx.old role event }
+    ensures sound { IsSoundNow C.tells O.tells C.look O.look O.paired O.refuses P.rest P.whole
+        core.new main.new result cx.new }
+    ensures within { ActsWithin most_set cx.old cx.new }
+    ensures handles { HandlesEvent C.tells O.tells C.look O.look O.paired O.refuses O.upload_left
+        core.old core.new cx.old cx.new main.old (Course.Relaying relay) result }
+    ensures pays { PaysEvents C.tells O.tells C.look O.look O.upload_left P.rest
+        core.old core.new (Course.Relaying relay) result cx.old cx.new }
 {
     let mut relay = relay;
     let step = core.handle_body(main, &mut relay, role, event, cx);
@@ -51,16 +60,23 @@ pub fn relay_on<C: Link, O: Upstream<C>, P: Transform + Drop>(
 }
 
 /// Writes once of what was queued last, and answers where the transaction is then.
-pub fn finish_on<C: Link, O: Upstream<C>, P: Transform + Drop>(
+pub fn finish_on<C: Link, O: Upstream<C>, P: Transform<Line = TransformLine> + Drop>(
     core: &mut Core<C, O>,
     main: &mut Option<StageContinuation>,
     end: TxnEnd,
     cx: &mut Cx,
 ) -> Course<P>
     requires turn { cx.old.log.state.held ≡ true }
-    requires fact { FinishHolds C.tells O.tells C.look O.look O.refuses core.old end }
-    ensures fact { CourseHolds C.tells O.tells C.look O.look O.refuses P.rest core.new result }
-    ensures keeps { StepKeeps C.look O.look O.paired O.refuses core.old core.new }
+    requires stands { HoldsOn C.tells O.tells C.look O.look O.paired O.refuses P.rest P.whole
+        core.old (Course.Finishing end) }
+    requires alone { IsAlone main.old cx.old }
+    ensures sound { IsSoundNow C.tells O.tells C.look O.look O.paired O.refuses P.rest P.whole
+        core.new main.new result cx.new }
+    ensures within { ActsWithin most_set cx.old cx.new }
+    ensures handles { HandlesEvent C.tells O.tells C.look O.look O.paired O.refuses O.upload_left
+        core.old core.new cx.old cx.new main.old (Course.Finishing end) result }
+    ensures pays { PaysEvents C.tells O.tells C.look O.look O.upload_left P.rest
+        core.old core.new (Course.Finishing end) result cx.old cx.new }
 {
     let step = core.send_rest(end);
     write_on(end, step, main, cx)
@@ -76,10 +92,17 @@ pub fn enter_on<C: Link, O: Upstream<C>, P: Transform<Line = TransformLine> + Dr
     cx: &mut Cx,
 ) -> Course<P>
     requires turn { cx.old.log.state.held ≡ true }
-    requires acts { ActsAsLines P.whole }
-    requires fact { HeadHolds C.tells O.tells C.look O.look O.refuses core.old request head }
-    ensures fact { CourseHolds C.tells O.tells C.look O.look O.refuses P.rest core.new result }
-    ensures keeps { StepKeeps C.look O.look O.paired O.refuses core.old core.new }
+    requires stands { HoldsOn C.tells O.tells C.look O.look O.paired O.refuses P.rest P.whole
+        core.old (Course.Phased (Phase.ResponseTransform request head)) }
+    requires alone { IsAlone main.old cx.old }
+    ensures sound { IsSoundNow C.tells O.tells C.look O.look O.paired O.refuses P.rest P.whole
+        core.new main.new result cx.new }
+    ensures within { ActsWithin most_set cx.old cx.new }
+    ensures handles { HandlesEvent C.tells O.tells C.look O.look O.paired O.refuses O.upload_left
+        core.old core.new cx.old cx.new main.old (Course.Phased (Phase.ResponseTransform request head))
+        result }
+    ensures pays { PaysEvents C.tells O.tells C.look O.look O.upload_left P.rest
+        core.old core.new (Course.Phased (Phase.ResponseTransform request head)) result cx.old cx.new }
 {
     let Ok(made) = core.queue_relay(&request, &head) else {
         destroy_end(main, cx);
@@ -88,6 +111,7 @@ pub fn enter_on<C: Link, O: Upstream<C>, P: Transform<Line = TransformLine> + Dr
         });
     };
     let mut relay = made;
+    cx.known();
     let step = core.begin_body(main, &mut relay, cx);
     leave(relay, step, main, cx)
 }

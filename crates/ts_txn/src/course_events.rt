@@ -1,9 +1,11 @@
 //! Where an event leads a transaction, wherever it is on its course.
 ghost use Rattle.std.specs.Prelude.{◌≡◌, true};
-ghost use Rattle.ts_txn.specs.Course.{CourseHolds};
-ghost use Rattle.ts_txn.specs.Entering.{ActsAsLines};
-ghost use Rattle.ts_txn.specs.Holding.{PhaseHolds, StepKeeps};
-ghost use Rattle.ts_txn.specs.View.{IsPaired};
+ghost use Rattle.ts_group.specs.Calls.{IsCalled};
+ghost use Rattle.ts_transform.specs.Driving.{ActsWithin};
+ghost use Rattle.ts_txn.specs.CourseCover.{IsAlone};
+ghost use Rattle.ts_txn.specs.Driven.{HandlesEvent};
+ghost use Rattle.ts_txn.specs.LoweringCourse.{PaysEvents};
+ghost use Rattle.ts_txn.specs.World.{HoldsOn, IsSoundNow, IsSoundOn, most_set};
 
 use crate::course::{Course, enter_on, finish_on, relay_on};
 use crate::course_leaving::step_on;
@@ -17,7 +19,30 @@ use ts_link::Link;
 use ts_transform::{StageContinuation, Transform, unrouse, works};
 use ts_upstream::Upstream;
 
-// Makes the step of a phase, and answers where the transaction is then.
+// Makes the step of a phase at which no body begins, and answers where the transaction is then.
+fn step_phase<C: Link, O: Upstream<C>, P: Transform<Line = TransformLine> + Drop>(
+    core: &mut Core<C, O>,
+    main: &mut Option<StageContinuation>,
+    phase: Phase,
+    cx: &mut Cx,
+) -> Course<P>
+    requires turn { cx.old.log.state.held ≡ true }
+    requires stands { HoldsOn C.tells O.tells C.look O.look O.paired O.refuses P.rest P.whole
+        core.old (Course.Phased phase) }
+    requires alone { IsAlone main.old cx.old }
+    ensures sound { IsSoundNow C.tells O.tells C.look O.look O.paired O.refuses P.rest P.whole
+        core.new main.new result cx.new }
+    ensures within { ActsWithin most_set cx.old cx.new }
+    ensures handles { HandlesEvent C.tells O.tells C.look O.look O.paired O.refuses O.upload_left
+        core.old core.new cx.old cx.new main.old (Course.Phased phase) result }
+    ensures pays { PaysEvents C.tells O.tells C.look O.look O.upload_left P.rest
+        core.old core.new (Course.Phased phase) result cx.old cx.new }
+{
+    let step = core.step(phase);
+    step_on(step, main, cx)
+}
+
+// Makes the step of a phase, and answers where the transaction is then: at one phase its body begins.
 fn phase_on<C: Link, O: Upstream<C>, P: Transform<Line = TransformLine> + Drop>(
     core: &mut Core<C, O>,
     main: &mut Option<StageContinuation>,
@@ -25,23 +50,26 @@ fn phase_on<C: Link, O: Upstream<C>, P: Transform<Line = TransformLine> + Drop>(
     cx: &mut Cx,
 ) -> Course<P>
     requires turn { cx.old.log.state.held ≡ true }
-    requires acts { ActsAsLines P.whole }
-    requires fact { PhaseHolds C.tells O.tells C.look O.look O.refuses core.old phase }
-    requires pair { IsPaired O.paired core.old }
-    ensures fact { CourseHolds C.tells O.tells C.look O.look O.refuses P.rest core.new result }
-    ensures keeps { StepKeeps C.look O.look O.paired O.refuses core.old core.new }
+    requires stands { HoldsOn C.tells O.tells C.look O.look O.paired O.refuses P.rest P.whole
+        core.old (Course.Phased phase) }
+    requires alone { IsAlone main.old cx.old }
+    ensures sound { IsSoundNow C.tells O.tells C.look O.look O.paired O.refuses P.rest P.whole
+        core.new main.new result cx.new }
+    ensures within { ActsWithin most_set cx.old cx.new }
+    ensures handles { HandlesEvent C.tells O.tells C.look O.look O.paired O.refuses O.upload_left
+        core.old core.new cx.old cx.new main.old (Course.Phased phase) result }
+    ensures pays { PaysEvents C.tells O.tells C.look O.look O.upload_left P.rest
+        core.old core.new (Course.Phased phase) result cx.old cx.new }
 {
     match phase {
         Phase::ResponseTransform { request, head } => enter_on(core, main, request, head, cx),
-        phase => {
-            let step = core.step(phase);
-            step_on(step, main, cx)
-        }
+        phase => step_phase(core, main, phase, cx),
     }
 }
 
 /// Handles an event of a role, and answers where the transaction is then: while a body is passed on each role does its
 /// part, and else the first continuation makes the next step.
+#[tactic(auto, using(ts_group::proofs::Keeps::falls_refl))]
 pub fn handle_on<C: Link, O: Upstream<C>, P: Transform<Line = TransformLine> + Drop>(
     core: &mut Core<C, O>,
     main: &mut Option<StageContinuation>,
@@ -51,11 +79,17 @@ pub fn handle_on<C: Link, O: Upstream<C>, P: Transform<Line = TransformLine> + D
     cx: &mut Cx,
 ) -> Course<P>
     requires turn { cx.old.log.state.held ≡ true }
-    requires acts { ActsAsLines P.whole }
-    requires fact { CourseHolds C.tells O.tells C.look O.look O.refuses P.rest core.old course }
-    requires pair { IsPaired O.paired core.old }
-    ensures fact { CourseHolds C.tells O.tells C.look O.look O.refuses P.rest core.new result }
-    ensures keeps { StepKeeps C.look O.look O.paired O.refuses core.old core.new }
+    requires called { IsCalled
+        (λ s roles. IsSoundOn C.tells O.tells C.look O.look O.paired O.refuses P.rest P.whole
+        core.old main.old course s.pending s.next roles)
+        cx.old role event }
+    ensures sound { IsSoundNow C.tells O.tells C.look O.look O.paired O.refuses P.rest P.whole
+        core.new main.new result cx.new }
+    ensures within { ActsWithin most_set cx.old cx.new }
+    ensures handles { HandlesEvent C.tells O.tells C.look O.look O.paired O.refuses O.upload_left
+        core.old core.new cx.old cx.new main.old course result }
+    ensures pays { PaysEvents C.tells O.tells C.look O.look O.upload_left P.rest
+        core.old core.new course result cx.old cx.new }
 {
     match course {
         Course::Relaying(relay) => relay_on(core, main, relay, role, event, cx),
@@ -99,11 +133,17 @@ pub fn drive_on<C: Link, O: Upstream<C>, P: Transform<Line = TransformLine> + Dr
     cx: &mut Cx,
 )
     requires turn { cx.old.log.state.held ≡ true }
-    requires acts { ActsAsLines P.whole }
-    requires fact { CourseHolds C.tells O.tells C.look O.look O.refuses P.rest core.old course.old }
-    requires pair { IsPaired O.paired core.old }
-    ensures fact { CourseHolds C.tells O.tells C.look O.look O.refuses P.rest core.new course.new }
-    ensures keeps { StepKeeps C.look O.look O.paired O.refuses core.old core.new }
+    requires called { IsCalled
+        (λ s roles. IsSoundOn C.tells O.tells C.look O.look O.paired O.refuses P.rest P.whole
+        core.old main.old course.old s.pending s.next roles)
+        cx.old role event }
+    ensures sound { IsSoundNow C.tells O.tells C.look O.look O.paired O.refuses P.rest P.whole
+        core.new main.new course.new cx.new }
+    ensures within { ActsWithin most_set cx.old cx.new }
+    ensures handles { HandlesEvent C.tells O.tells C.look O.look O.paired O.refuses O.upload_left
+        core.old core.new cx.old cx.new main.old course.old course.new }
+    ensures pays { PaysEvents C.tells O.tells C.look O.look O.upload_left P.rest
+        core.old core.new course.old course.new cx.old cx.new }
 {
     let was = take(course);
     *course = handle_on(core, main, was, role, event, cx);

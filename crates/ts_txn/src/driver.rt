@@ -1,21 +1,18 @@
-//! How the events of a transaction's continuation drive its steps. Only what stands here sets events.
-ghost use Rattle.std.specs.Prelude.{◌≡◌, ◌≢◌, ◌<◌, ◌≤◌, true, false, None, OnOk, Err};
+//! The first continuation of a transaction: how its events are set.
+ghost use Rattle.std.specs.Prelude.{◌≡◌, ◌≢◌, ◌<◌, true, false, None, OnOk, Err};
 ghost use Rattle.ts_journal.specs.declared.entry.TheConstants.{GREATEST};
-ghost use Rattle.ts_group.specs.Changes.{IsLess};
-ghost use Rattle.ts_transform.specs.Driving.{ActsWithin, AddsEvents, HasLiveIf, IsDueAfter, IsRousedIf, KeepsStage, SetsOnly};
-ghost use Rattle.ts_txn.specs.Cover.{Proceeds, Idles, HasNextEventOr, IsOfMain, StepsTo};
-ghost use Rattle.ts_txn.specs.Driven.{BeginsOrLacks, HandlesEvent, SeatedAfter, StaysOrLacks, delay_of};
-ghost use Rattle.ts_txn.specs.View.{IsPaired};
-ghost use Rattle.ts_txn.specs.Holding.{PhaseHolds};
+ghost use Rattle.ts_transform.specs.Driving.{AddsEvents, HasLiveIf, IsDueAfter, IsRousedIf, KeepsStage, SetsOnly};
+ghost use Rattle.ts_txn.specs.Cover.{IsOfMain};
+ghost use Rattle.ts_txn.specs.CourseCover.{CoversAlone, SetsOneOrNone, StaysOnOrLacks};
 
 use crate::course::Course;
-use crate::course_leaving::go_to;
+use crate::course_leaving::{AT_ONCE, go_to};
 use crate::phase::Phase;
 use ts_group::{Cx, SetFault};
 use ts_hooks::TxnEnd;
 use ts_transform::{StageContinuation, make_end};
 
-/// The role of the one continuation that a transaction has up to the head.
+/// The role of the first continuation of a transaction, the only one that it has up to the head.
 pub const MAIN: u32 = 1;
 
 /// How long a step waits that found a link not ready, in milliseconds.
@@ -61,7 +58,10 @@ pub fn is_spent(fault: &SetFault) -> bool
 pub fn begin<P: Drop>(main: &mut Option<StageContinuation>, cx: &mut Cx) -> Course<P>
     requires turn { cx.old.log.state.held ≡ true }
     requires none { main.old ≡ None }
-    ensures within { ActsWithin 1 cx.old cx.new }
+    ensures course { StaysOnOrLacks (Course.Phased Phase.TxnStart) result }
+    ensures within { SetsOneOrNone cx.old cx.new }
+    ensures due { SetsOnly (IsDueAfter AT_ONCE cx.old.moment) cx.old cx.new }
+    ensures covered { CoversAlone main.old main.new result cx.old cx.new }
 {
     let Ok(made) = make_end(MAIN, cx) else {
         return Course::Phased(Phase::Ended {
@@ -69,5 +69,5 @@ pub fn begin<P: Drop>(main: &mut Option<StageContinuation>, cx: &mut Cx) -> Cour
         });
     };
     *main = Some(made);
-    go_to(Course::Phased(Phase::TxnStart), 0, main, cx)
+    go_to(Course::Phased(Phase::TxnStart), AT_ONCE, main, cx)
 }

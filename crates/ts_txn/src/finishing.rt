@@ -1,6 +1,10 @@
 //! The last writes of a transaction that passed a body on: all that the client gets was queued.
+ghost use Rattle.ts_txn.specs.BodyLinks.{SendsRest};
 ghost use Rattle.ts_txn.specs.Finishing.{FinishHolds, FinishLeads};
-ghost use Rattle.ts_txn.specs.Holding.{StepKeeps};
+ghost use Rattle.ts_link.specs.Link.{Fewer};
+ghost use Rattle.ts_txn.specs.LoweringBody.{finish_left, rest_after};
+ghost use Rattle.ts_txn.specs.Holding.{IfTold, StepKeeps};
+ghost use Rattle.ts_txn.specs.View.{view_of};
 
 use crate::parts::Core;
 use ts_hooks::TxnEnd;
@@ -25,10 +29,15 @@ pub enum BodyStep {
 
 impl<C: Link, O: Upstream<C>> Core<C, O> {
     /// Writes once of what was queued, behind which nothing is queued any more.
+    #[tactic(auto, using(crate::proofs::BodyLinks::sends_some, crate::proofs::BodyLinks::sends_all, crate::proofs::BodyLinks::sends_late, crate::proofs::BodyLinks::sends_left, crate::proofs::BodyLinks::sends_lacks, crate::proofs::LoweringRest::rest_goes, crate::proofs::LoweringRest::rest_waits, crate::proofs::LoweringRest::rest_closes, crate::proofs::LoweringRest::rest_lacks))]
     pub fn send_rest(&mut self, end: TxnEnd) -> BodyStep
         requires fact { FinishHolds C.tells O.tells C.look O.look O.refuses self.old end }
         ensures leads { FinishLeads C.tells O.tells C.look O.look O.refuses self.old self.new end result }
         ensures keeps { StepKeeps C.look O.look O.paired O.refuses self.old self.new }
+        ensures falls { IfTold C.tells O.tells (Fewer (finish_left (view_of C.look O.look self.old))
+            (rest_after result (view_of C.look O.look self.new))) }
+        ensures links { SendsRest C.tells end
+            (view_of C.look O.look self.old) (view_of C.look O.look self.new) result }
     {
         match self.write_client() {
             Pushed::Some(_) => BodyStep::Goes,

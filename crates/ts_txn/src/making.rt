@@ -1,11 +1,15 @@
 //! How a transaction is made of its links, and taken apart.
-ghost use Rattle.std.specs.Prelude.{◌≡◌, ℕ, ◌≤◌, List, [], true, false, None, IfOk};
+ghost use Rattle.std.specs.Prelude.{◌≡◌, ℕ, ◌≤◌, List, [], true, false, Some, None, IfOk};
 ghost use Rattle.std.specs.Arc.{arc_value};
 ghost use Rattle.std.specs.Option.{option_copied};
 ghost use Rattle.ts_group.specs.declared.action.Named.{Named};
+ghost use Rattle.ts_hooks.specs.declared.txn_end.TxnEnd.{TxnEnd};
+ghost use Rattle.ts_journal.specs.declared.entry.Pending.{Pending};
 ghost use Rattle.ts_journal.specs.declared.entry.TheConstants.{GREATEST};
-ghost use Rattle.ts_txn.specs.Cover.{is_fresh};
-ghost use Rattle.ts_txn.specs.Making.{ArePaired, HasFewLines, IsMadeOf, IsMadeOfIf, IsNewLink, IsNewLinkIf, base_if, end_of_phase, link_if};
+ghost use Rattle.ts_txn.specs.Cover.{is_fresh_on};
+ghost use Rattle.ts_txn.specs.Entering.{ActsAsLines};
+ghost use Rattle.ts_txn.specs.Making.{ArePaired, HasFewLines, IsMadeOf, IsMadeOfIf, IsNewLink, IsNewLinkIf, base_if, end_of, end_of_phase, link_if};
+ghost use Rattle.ts_txn.specs.Resting.{HasEndedSo, RestsWithBlock};
 ghost use Rattle.ts_txn.specs.World.{IsSoundTxn};
 
 use crate::course::Course;
@@ -88,15 +92,16 @@ impl<C: Link + Drop, O: Upstream<C> + Drop, P: Transform<Line = TransformLine> +
         origin: Option<O>,
     ) -> Result<Txn<C, O, P>, NoMemory>
         requires few { HasFewLines (arc_value setup) plugins_at }
+        requires acts { ActsAsLines P.whole }
         requires client { C.tells ≡ true → IsNewLink (C.look client) }
         requires origin { O.tells ≡ true → IsNewLinkIf O.look origin }
         requires pair { ArePaired O.paired client origin }
         ensures named { IfOk result (λ t. (t.core.number ≡ number) × (t.core.setup ≡ setup)
-            × (t.core.plugins_at ≡ plugins_at) × (t.phase ≡ Phase.Fresh)) }
-        ensures client { IfOk result (λ t. IsMadeOf C.look client t.core.client) }
-        ensures origin { IfOk result (λ t. IsMadeOfIf O.look origin t.core.origin) }
+            × (t.core.plugins_at ≡ plugins_at) × (t.course ≡ Course.Phased Phase.Fresh)) }
+        ensures links { IfOk result (λ t. IsMadeOf C.look client t.core.client
+            × IsMadeOfIf O.look origin t.core.origin) }
         ensures sound { IfOk result (λ t. (next : ℕ) (roles : List Named) →
-            IsSoundTxn C.tells O.tells C.look O.look O.paired O.refuses t [] next roles) }
+            IsSoundTxn C.tells O.tells C.look O.look O.paired O.refuses P.rest P.whole t [] next roles) }
     {
         let client = make_peer(alloc, client)?;
         let origin = make_peer_if(alloc, origin)?;
@@ -122,17 +127,21 @@ impl<C: Link + Drop, O: Upstream<C> + Drop, P: Transform<Line = TransformLine> +
 
     /// How it ended; nothing while it has not. Once nothing of its group is pending, a transaction that was
     /// started has ended, or the event numbers are used up.
-    #[tactic(auto, using(crate::proofs::Handling::at_rest))]
     pub fn end(&self) -> Option<TxnEnd>
-        ensures end { result ≡ end_of_phase self.now.phase }
-        ensures rests { result ≡ None → is_fresh self.now.phase ≡ false → (next : ℕ) (roles : List Named)
-            → IsSoundTxn C.tells O.tells C.look O.look O.paired O.refuses self.now [] next roles
+        ensures end { result ≡ end_of self.now.course }
+        ensures rests { result ≡ None → is_fresh_on self.now.course ≡ false → (next : ℕ) (roles : List Named)
+            → IsSoundTxn C.tells O.tells C.look O.look O.paired O.refuses P.rest P.whole self.now [] next roles
             → GREATEST ≤ next }
+        ensures law { (end : TxnEnd) → result ≡ Some end
+            → (pending : List Pending) (next : ℕ) (roles : List Named)
+            → IsSoundTxn C.tells O.tells C.look O.look O.paired O.refuses P.rest P.whole
+            self.now pending next roles
+            → HasEndedSo C.tells O.tells C.look O.look O.refuses self.now end }
+        ensures block { (next : ℕ) (roles : List Named)
+            → IsSoundTxn C.tells O.tells C.look O.look O.paired O.refuses P.rest P.whole self.now [] next roles
+            → RestsWithBlock C.tells O.tells C.look O.look O.refuses self.now next }
     {
-        match &self.course {
-            Course::Phased(Phase::Ended { end }) => Some(*end),
-            _ => None,
-        }
+        end_of(&self.course)
     }
 
     /// The number that it was made with.
@@ -159,7 +168,7 @@ impl<C: Link + Drop, O: Upstream<C> + Drop, P: Transform<Line = TransformLine> +
             × (result.cuts.items ≡ self.core.sent.cuts.items) }
         ensures faults { (result.client_faults ≡ self.core.client.base)
             × (result.origin_faults ≡ base_if self.core.origin) }
-        ensures end { (result.number ≡ self.core.number) × (result.end ≡ end_of_phase self.phase) }
+        ensures end { (result.number ≡ self.core.number) × (result.end ≡ end_of self.course) }
     {
         let number = self.core.number;
         let end = self.end();
@@ -196,6 +205,26 @@ impl<C: Link + Drop, O: Upstream<C> + Drop, P: Transform<Line = TransformLine> +
             cuts,
             end,
         }
+    }
+}
+
+// How a transaction has ended, if it has.
+fn end_of<P>(course: &Course<P>) -> Option<TxnEnd>
+    ensures { result ≡ end_of course.now }
+{
+    match course {
+        Course::Phased(phase) => end_of_phase(phase),
+        Course::Relaying(_) => None,
+        Course::Finishing { .. } => None,
+    }
+}
+
+fn end_of_phase(phase: &Phase) -> Option<TxnEnd>
+    ensures { result ≡ end_of_phase phase.now }
+{
+    match phase {
+        Phase::Ended { end } => Some(*end),
+        _ => None,
     }
 }
 

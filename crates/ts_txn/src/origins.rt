@@ -5,8 +5,9 @@ ghost use Rattle.ts_wire.specs.Check.{plugin_host};
 ghost use Rattle.ts_txn.specs.Rules.{is_denied};
 ghost use Rattle.ts_txn.specs.Relayed.{asks_head};
 ghost use Rattle.ts_txn.specs.Block.{request_text};
-ghost use Rattle.ts_txn.specs.View.{IsPaired, left_if, refuses_if, view_of};
+ghost use Rattle.ts_txn.specs.View.{IsPaired, refuses_if, upload_told, view_of};
 ghost use Rattle.ts_txn.specs.Steps.{LeavesClient, MindsLinks, UploadsOnce, WaitsRightly};
+ghost use Rattle.ts_txn.specs.Lowering.{StepFallsFrom};
 ghost use Rattle.ts_txn.specs.Cover.{StepLeads};
 ghost use Rattle.ts_txn.specs.Holding.{IfTold, PhaseHolds, HoldsAfter, StepKeeps};
 
@@ -55,11 +56,13 @@ pub fn answer_to(request: &Request, status: OwnStatus, end: TxnEnd) -> OwnAnswer
 
 impl<C: Link, O: Upstream<C>> Core<C, O> {
     /// Denies the request, or finds that it has no origin.
-    #[tactic(auto, using(crate::proofs::Going::denied, crate::proofs::Going::not_dialed, crate::proofs::Going::allowed, crate::proofs::Going::checked_any, crate::proofs::Asks::lacks_memory))]
+    #[tactic(auto, using(crate::proofs::Going::denied, crate::proofs::Going::not_dialed, crate::proofs::Going::allowed, crate::proofs::Going::checked_any, crate::proofs::Asks::lacks_memory, crate::proofs::LoweringStands::still_end, crate::proofs::LoweringStands::denied_lowers, crate::proofs::LoweringStands::allowed_lowers))]
     pub fn os_dns(&self, request: Request) -> Step
         requires fact { PhaseHolds C.tells O.tells C.look O.look O.refuses self.now (Phase.OsDns request) }
         ensures leads { StepLeads result }
         ensures fact { HoldsAfter C.tells O.tells C.look O.look O.refuses self.now self.now result }
+        ensures falls { StepFallsFrom C.tells O.tells C.look O.look O.upload_left self.now self.now
+            (Phase.OsDns request) result }
         ensures waits { WaitsRightly result.next
             (view_of C.look O.look self.now) (view_of C.look O.look self.now) }
     {
@@ -92,7 +95,7 @@ impl<C: Link, O: Upstream<C>> Core<C, O> {
     }
 
     /// Queues the request's head for the origin.
-    #[tactic(auto, using(crate::proofs::Sparing::still_spares, crate::proofs::Sparing::asked_spares, crate::proofs::Minding::stood, crate::proofs::Minding::queued_request, crate::proofs::Going::queued, crate::proofs::Going::allowed_any, crate::proofs::Asks::lacks_memory))]
+    #[tactic(auto, using(crate::proofs::Sparing::still_spares, crate::proofs::Sparing::asked_spares, crate::proofs::Minding::stood, crate::proofs::Minding::queued_request, crate::proofs::Going::queued, crate::proofs::Going::allowed_any, crate::proofs::Asks::lacks_memory, crate::proofs::LoweringAnswers::queues_request, crate::proofs::LoweringAnswers::stands_end))]
     pub fn send_request_hdr(&mut self, request: Request) -> Step
         requires fact { PhaseHolds C.tells O.tells C.look O.look O.refuses self.old
             (Phase.SendRequestHdr request) }
@@ -101,6 +104,8 @@ impl<C: Link, O: Upstream<C>> Core<C, O> {
         ensures minds { MindsLinks (view_of C.look O.look self.old) (view_of C.look O.look self.new) result }
         ensures spares { IfTold C.tells O.tells
             (LeavesClient (view_of C.look O.look self.old) (view_of C.look O.look self.new)) }
+        ensures falls { StepFallsFrom C.tells O.tells C.look O.look O.upload_left self.old self.new
+            (Phase.SendRequestHdr request) result }
         ensures keeps { StepKeeps C.look O.look O.paired O.refuses self.old self.new }
         ensures waits { WaitsRightly result.next
             (view_of C.look O.look self.old) (view_of C.look O.look self.new) }
@@ -128,7 +133,7 @@ impl<C: Link, O: Upstream<C>> Core<C, O> {
     }
 
     /// Writes once of the request's head.
-    #[tactic(auto, using(crate::proofs::Sparing::sent_spares, crate::proofs::Waiting::origin_waits, crate::proofs::Minding::wrote_origin, crate::proofs::Minding::origin_left, crate::proofs::Minding::full_origin, crate::proofs::Going::writes_on, crate::proofs::Going::written, crate::proofs::Going::write_fault, crate::proofs::Going::sends_any, crate::proofs::Asks::lacks_memory))]
+    #[tactic(auto, using(crate::proofs::Sparing::sent_spares, crate::proofs::Waiting::origin_waits, crate::proofs::Minding::wrote_origin, crate::proofs::Minding::origin_left, crate::proofs::Minding::full_origin, crate::proofs::Going::writes_on, crate::proofs::Going::written, crate::proofs::Going::write_fault, crate::proofs::Going::sends_any, crate::proofs::Asks::lacks_memory, crate::proofs::LoweringAnswers::writes_some, crate::proofs::LoweringAnswers::writes_wait, crate::proofs::LoweringAnswers::writes_all, crate::proofs::LoweringAnswers::writes_own, crate::proofs::LoweringAnswers::writes_end))]
     pub fn send_request(&mut self, request: Request) -> Step
         requires fact { PhaseHolds C.tells O.tells C.look O.look O.refuses self.old
             (Phase.SendRequest request) }
@@ -137,6 +142,8 @@ impl<C: Link, O: Upstream<C>> Core<C, O> {
         ensures minds { MindsLinks (view_of C.look O.look self.old) (view_of C.look O.look self.new) result }
         ensures spares { IfTold C.tells O.tells
             (LeavesClient (view_of C.look O.look self.old) (view_of C.look O.look self.new)) }
+        ensures falls { StepFallsFrom C.tells O.tells C.look O.look O.upload_left self.old self.new
+            (Phase.SendRequest request) result }
         ensures keeps { StepKeeps C.look O.look O.paired O.refuses self.old self.new }
         ensures waits { WaitsRightly result.next
             (view_of C.look O.look self.old) (view_of C.look O.look self.new) }
@@ -171,16 +178,18 @@ impl<C: Link, O: Upstream<C>> Core<C, O> {
     }
 
     /// Moves some of the upload that follows the request's head.
-    #[tactic(auto, using(crate::proofs::Waiting::upload_waits))]
+    #[tactic(auto, using(crate::proofs::Waiting::upload_waits, crate::proofs::LoweringLeads::uploads_lower))]
     pub fn upload_some(&mut self, request: Request) -> Step
         requires fact { PhaseHolds C.tells O.tells C.look O.look O.refuses self.old (Phase.Upload request) }
         requires pair { IsPaired O.paired self.old }
         ensures leads { StepLeads result }
         ensures fact { HoldsAfter C.tells O.tells C.look O.look O.refuses self.old self.new result }
         ensures uploads { UploadsOnce C.tells O.tells (refuses_if O.refuses self.old.origin) request
-            (left_if O.upload_left self.old.client.link self.old.origin)
-            (left_if O.upload_left self.new.client.link self.new.origin)
+            (upload_told O.upload_left self.old.client.link self.old.origin)
+            (upload_told O.upload_left self.new.client.link self.new.origin)
             (view_of C.look O.look self.old) (view_of C.look O.look self.new) result }
+        ensures falls { StepFallsFrom C.tells O.tells C.look O.look O.upload_left self.old self.new
+            (Phase.Upload request) result }
         ensures keeps { StepKeeps C.look O.look O.paired O.refuses self.old self.new }
         ensures waits { WaitsRightly result.next
             (view_of C.look O.look self.old) (view_of C.look O.look self.new) }

@@ -2,7 +2,7 @@
 ghost use Rattle.std.specs.Prelude.{◌≡◌, ◌≤◌, IfOk, OnOk, OnErr};
 ghost use Rattle.ts_upstream.specs.Uploads.{SameRefusal, UploadFalls, both};
 ghost use Rattle.ts_vconn.specs.declared.moves.TheConstants.{MOST_PULLED};
-ghost use Rattle.ts_txn.specs.View.{GoesIf, PairIf, refuses_if, side, side_if, is_dialed, left_if};
+ghost use Rattle.ts_txn.specs.View.{GoesIf, PairIf, refuses_if, side, side_if, is_dialed, upload_told};
 ghost use Rattle.ts_txn.specs.Moving.{MovesBoth, QueuesOn, SideReads, SideWrites};
 
 use crate::parts::Peer;
@@ -43,7 +43,7 @@ pub fn push_origin<L: Link>(origin: &mut Option<Peer<L>>) -> Pushed
 }
 
 /// Moves some of the upload of a request; where there is no origin, it is as if memory lacked.
-#[tactic(auto, using(crate::proofs::Uploading::none_falls))]
+#[tactic(auto, using(crate::proofs::LoweringUpload::none_stays))]
 pub fn move_upload<C: Link, O: Upstream<C>>(
     client: &mut C,
     origin: &mut Option<Peer<O>>,
@@ -53,7 +53,7 @@ pub fn move_upload<C: Link, O: Upstream<C>>(
     ensures moved { MovesBoth C.tells O.tells (refuses_if O.refuses origin.old) result
         (C.look client.old) (C.look client.new) (side_if O.look origin.old) (side_if O.look origin.new) }
     ensures falls { UploadFalls result
-        (left_if O.upload_left client.old origin.old) (left_if O.upload_left client.new origin.new)
+        (upload_told O.upload_left client.old origin.old) (upload_told O.upload_left client.new origin.new)
         (both (C.look client.old).agains (side_if O.look origin.old).look.agains)
         (both (C.look client.new).agains (side_if O.look origin.new).look.agains) }
     ensures dialed { is_dialed origin.new ≡ is_dialed origin.old }

@@ -1,4 +1,4 @@
-//! A body that is passed on: the chain that it goes through, where its reader stands, and the continuation that reads.
+//! A body that is passed on: its chain, where its reader stands, and the continuation that reads.
 ghost use Rattle.std.specs.Prelude.{◌≡◌};
 ghost use Rattle.ts_txn.specs.Relaying.{step_after};
 

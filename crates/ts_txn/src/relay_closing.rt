@@ -8,7 +8,7 @@ use ts_group::Cx;
 use ts_transform::{StageContinuation, Transform};
 
 /// Destroys a continuation, if there is one, with its events.
-#[tactic(auto, using(ts_transform::proofs::Seats::clears_one, ts_transform::proofs::Seats::clears_none))]
+#[tactic(auto, using(ts_transform::proofs::Seats::clears_none))]
 pub fn destroy_end(slot: &mut Option<StageContinuation>, cx: &mut Cx)
     requires turn { cx.old.log.state.held ≡ true }
     ensures clears { Clears (slot.old ∷ []) cx.old cx.new }
@@ -23,7 +23,6 @@ pub fn destroy_end(slot: &mut Option<StageContinuation>, cx: &mut Cx)
 }
 
 /// Destroys the reader of a body, and the stages that it went through.
-#[tactic(auto, using(ts_transform::proofs::Seats::clears_then))]
 pub fn close_relay<P: Transform + Drop>(relay: Relay<P>, cx: &mut Cx)
     requires turn { cx.old.log.state.held ≡ true }
     ensures clears { Clears (relay_seats relay) cx.old cx.new }

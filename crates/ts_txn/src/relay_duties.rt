@@ -10,9 +10,8 @@ use ts_transform::Transform;
 use ts_upstream::Upstream;
 
 impl<C: Link, O: Upstream<C>> Core<C, O> {
-    /// Whether the first continuation must work: something waits for the client, or the chain gave
-    /// something, or has given
-    /// all.
+    /// Whether the first continuation must work: something waits for the client, or the chain gave something,
+    /// or has given all.
     pub fn must_send<P: Transform + Drop>(&self, relay: &Relay<P>) -> bool
         ensures { TellsDuty result (view_of C.look O.look self.now) relay.now.driven.chain }
     {

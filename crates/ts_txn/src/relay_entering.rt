@@ -1,12 +1,15 @@
-//! How a body begins to be passed on: the client's head is queued, and the reader and the stages get
-// continuations.
+//! How a body begins to be passed on: the client's head is queued, and continuations are made.
 ghost use Rattle.std.specs.Prelude.{◌≡◌, [], true, false, None, OnErr, IfOk};
+ghost use Rattle.std.specs.Arc.{arc_value};
 ghost use Rattle.ts_transform.specs.Flow.{OnlyFirstWorks};
 ghost use Rattle.ts_wire.specs.Place.{state_of};
 ghost use Rattle.ts_txn.specs.Feeding.{OnGoes};
-ghost use Rattle.ts_txn.specs.Relaying.{RelayLeads, StepsChain};
-ghost use Rattle.ts_txn.specs.Entering.{ActsAsLines, BeginsChain, BeginsRelay, EnterHolds, EntersAfter, GetsStart, HeadHolds, IsUnbegun, LacksAfter};
+ghost use Rattle.ts_transform.specs.Driving.{SetsOnly};
+ghost use Rattle.ts_txn.specs.Relaying.{IsOfRoleFrom, RelayLeads, StepsChain};
+ghost use Rattle.ts_txn.specs.Entering.{ActsAsLines, BeginsChain, BeginsRelay, EnterHolds, EntersAfter, GetsStart, HeadHolds, IsUnbegun, LacksAfter, QuietLinks};
+ghost use Rattle.ts_txn.specs.LoweringBody.{BeginsLower, LowersEntering};
 ghost use Rattle.ts_txn.specs.Holding.{StepKeeps};
+ghost use Rattle.ts_txn.specs.View.{view_of};
 
 use crate::block::{framing_for, relayed_head};
 use crate::feeding::close_input;
@@ -30,6 +33,7 @@ fn start_chain<P: Transform + Drop>(driven: &mut DrivenChain<P>, cx: &mut Cx) ->
     requires first { OnlyFirstWorks driven.old.chain }
     ensures chain { driven.new.chain ≡ driven.old.chain }
     ensures begins { BeginsChain result 1 driven.new cx.old cx.new }
+    ensures due { SetsOnly (IsOfRoleFrom FIRST cx.new.roles) cx.old cx.new }
 {
     driven.start(FIRST, cx);
     match driven.lost() {
@@ -67,6 +71,8 @@ pub fn begin_relay<P: Transform + Drop>(relay: &mut Relay<P>, cx: &mut Cx) -> Bo
         (GetsStart (state_of relay.old.body.phase) relay.old.driven.chain relay.new.driven.chain) }
     ensures body { relay.new.body ≡ relay.old.body }
     ensures begins { BeginsRelay result relay.new cx.old cx.new }
+    ensures due { relay.new.driven.running ≡ true
+        → SetsOnly (IsOfRoleFrom FIRST cx.new.roles) cx.old cx.new }
 {
     let Ok(reader) = make_end(READER, cx) else {
         return BodyStep::Lacks;
@@ -81,6 +87,7 @@ pub fn begin_relay<P: Transform + Drop>(relay: &mut Relay<P>, cx: &mut Cx) -> Bo
 
 impl<C: Link, O: Upstream<C>> Core<C, O> {
     /// Queues the client's head of a response that is passed on, and makes what its body goes through.
+    #[tactic(auto, using(crate::proofs::Entered::quiet_none, crate::proofs::Entered::quiet_head))]
     pub fn queue_relay<P: Transform<Line = TransformLine> + Drop>(
         &mut self,
         request: &Request,
@@ -93,6 +100,9 @@ impl<C: Link, O: Upstream<C>> Core<C, O> {
         ensures err { OnErr result (LacksAfter C.tells O.tells C.look O.look O.refuses self.old self.new) }
         ensures fresh { IfOk result (λ r. IsUnbegun r
             × (r.driven.chain.given ≡ false) × OnlyFirstWorks r.driven.chain) }
+        ensures quiet { QuietLinks (view_of C.look O.look self.old) (view_of C.look O.look self.new) }
+        ensures lowers { IfOk result (LowersEntering C.tells O.tells (arc_value self.old.setup) P.rest
+            request.now head.now (view_of C.look O.look self.old) (view_of C.look O.look self.new)) }
         ensures keeps { StepKeeps C.look O.look O.paired O.refuses self.old self.new }
     {
         let Ok(made) = make_relay(self.alloc, &self.setup, &request.head, head) else {
@@ -112,12 +122,16 @@ impl<C: Link, O: Upstream<C>> Core<C, O> {
     pub fn enter_body<P: Transform + Drop>(&self, relay: &mut Relay<P>, cx: &mut Cx) -> BodyStep
         requires turn { cx.old.log.state.held ≡ true }
         requires fresh { IsUnbegun relay.old }
-        requires goes_on { relay.old.driven.chain.given ≡ false }
-        requires first { OnlyFirstWorks relay.old.driven.chain }
+        requires goes_on { (relay.old.driven.chain.given ≡ false)
+            × OnlyFirstWorks relay.old.driven.chain }
         requires fact { EnterHolds C.tells O.tells C.look O.look O.refuses P.rest self.now relay.old }
         ensures leads { RelayLeads C.tells O.tells C.look O.look O.refuses P.rest self.now self.now
             relay.new result }
         ensures begins { BeginsRelay result relay.new cx.old cx.new }
+        ensures lowers { BeginsLower (arc_value self.now.setup) P.rest result (view_of C.look O.look self.now)
+            relay.old relay.new }
+        ensures due { relay.new.driven.running ≡ true
+            → SetsOnly (IsOfRoleFrom FIRST cx.new.roles) cx.old cx.new }
     {
         begin_relay(relay, cx)
     }

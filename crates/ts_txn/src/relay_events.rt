@@ -1,9 +1,11 @@
-//! The events of the continuations while a body is passed on: each step, and then both ends are roused that
-// must work.
+//! The events of the continuations while a body is passed on: a step, and then both ends are roused.
 ghost use Rattle.std.specs.Prelude.{◌≡◌, ◌≢◌, true, false};
+ghost use Rattle.std.specs.Arc.{arc_value};
+ghost use Rattle.ts_txn.specs.LoweringBody.{BeginsLower, PaysBody};
 ghost use Rattle.ts_txn.specs.View.{view_of};
 ghost use Rattle.ts_txn.specs.Relaying.{RelayHolds, RelayLeads};
 ghost use Rattle.ts_transform.specs.Flow.{OnlyFirstWorks};
+ghost use Rattle.ts_txn.specs.BodyLinks.{BeginsInTime, HandlesLinks, OnlyOfEnds, is_late, pause_if};
 ghost use Rattle.ts_txn.specs.Entering.{EnterHolds, IsUnbegun};
 ghost use Rattle.ts_txn.specs.Duties.{BeginsBody, HandlesBody, SettlesAfter, SettlesBody};
 ghost use Rattle.ts_txn.specs.Holding.{StepKeeps};
@@ -32,6 +34,7 @@ impl<C: Link, O: Upstream<C>> Core<C, O> {
         requires turn { cx.old.log.state.held ≡ true }
         ensures settles { SettlesBody result (view_of C.look O.look self.now) main.old main.new
             relay.old relay.new cx.old cx.new }
+        ensures due { OnlyOfEnds pauses.0 pauses.1 main.old relay.old.reader cx.old cx.new }
         ensures relay { relay.new ≡ record relay.old { reader = relay.new.reader } }
     {
         cx.known();
@@ -51,6 +54,8 @@ impl<C: Link, O: Upstream<C>> Core<C, O> {
         requires turn { cx.old.log.state.held ≡ true }
         ensures settles { SettlesAfter step result (view_of C.look O.look self.now) main.old main.new
             relay.old relay.new cx.old cx.new }
+        ensures due { OnlyOfEnds (pause_if (is_late step) pauses.0) (pause_if (is_late step) pauses.1)
+            main.old relay.old.reader cx.old cx.new }
         ensures relay { relay.new ≡ record relay.old { reader = relay.new.reader } }
     {
         match step {
@@ -77,6 +82,10 @@ impl<C: Link, O: Upstream<C>> Core<C, O> {
         ensures keeps { StepKeeps C.look O.look O.paired O.refuses self.old self.new }
         ensures handles { HandlesBody result MAIN event (view_of C.look O.look self.old)
             (view_of C.look O.look self.new) main.old main.new relay.old relay.new cx.old cx.new }
+        ensures links { HandlesLinks C.tells O.tells (view_of C.look O.look self.old)
+            (view_of C.look O.look self.new) main.old relay.old relay.new result cx.old cx.new }
+        ensures pays { PaysBody C.tells O.tells (arc_value self.old.setup) P.rest result
+            (view_of C.look O.look self.old) (view_of C.look O.look self.new) main.old relay.old relay.new cx.old cx.new }
     {
         if !works(event) {
             return BodyStep::Goes;
@@ -102,6 +111,10 @@ impl<C: Link, O: Upstream<C>> Core<C, O> {
         ensures keeps { StepKeeps C.look O.look O.paired O.refuses self.old self.new }
         ensures handles { HandlesBody result READER event (view_of C.look O.look self.old)
             (view_of C.look O.look self.new) main.old main.new relay.old relay.new cx.old cx.new }
+        ensures links { HandlesLinks C.tells O.tells (view_of C.look O.look self.old)
+            (view_of C.look O.look self.new) main.old relay.old relay.new result cx.old cx.new }
+        ensures pays { PaysBody C.tells O.tells (arc_value self.old.setup) P.rest result
+            (view_of C.look O.look self.old) (view_of C.look O.look self.new) main.old relay.old relay.new cx.old cx.new }
     {
         if !works(event) {
             return BodyStep::Goes;
@@ -128,6 +141,10 @@ impl<C: Link, O: Upstream<C>> Core<C, O> {
             relay.new result }
         ensures handles { HandlesBody result role event (view_of C.look O.look self.now)
             (view_of C.look O.look self.now) main.old main.new relay.old relay.new cx.old cx.new }
+        ensures links { HandlesLinks C.tells O.tells (view_of C.look O.look self.now)
+            (view_of C.look O.look self.now) main.old relay.old relay.new result cx.old cx.new }
+        ensures pays { PaysBody C.tells O.tells (arc_value self.now.setup) P.rest result
+            (view_of C.look O.look self.now) (view_of C.look O.look self.now) main.old relay.old relay.new cx.old cx.new }
     {
         cx.known();
         let step = step_after(relay.driven.handle(FIRST, role, event, cx));
@@ -150,6 +167,10 @@ impl<C: Link, O: Upstream<C>> Core<C, O> {
         ensures keeps { StepKeeps C.look O.look O.paired O.refuses self.old self.new }
         ensures handles { HandlesBody result role event (view_of C.look O.look self.old)
             (view_of C.look O.look self.new) main.old main.new relay.old relay.new cx.old cx.new }
+        ensures links { HandlesLinks C.tells O.tells (view_of C.look O.look self.old)
+            (view_of C.look O.look self.new) main.old relay.old relay.new result cx.old cx.new }
+        ensures pays { PaysBody C.tells O.tells (arc_value self.old.setup) P.rest result
+            (view_of C.look O.look self.old) (view_of C.look O.look self.new) main.old relay.old relay.new cx.old cx.new }
     {
         if role == MAIN {
             return self.send_at(main, relay, event, cx);
@@ -169,13 +190,16 @@ impl<C: Link, O: Upstream<C>> Core<C, O> {
     ) -> BodyStep
         requires turn { cx.old.log.state.held ≡ true }
         requires fresh { IsUnbegun relay.old }
-        requires goes_on { relay.old.driven.chain.given ≡ false }
-        requires first { OnlyFirstWorks relay.old.driven.chain }
+        requires goes_on { (relay.old.driven.chain.given ≡ false)
+            × OnlyFirstWorks relay.old.driven.chain }
         requires fact { EnterHolds C.tells O.tells C.look O.look O.refuses P.rest self.now relay.old }
         ensures leads { RelayLeads C.tells O.tells C.look O.look O.refuses P.rest self.now self.now
             relay.new result }
         ensures begins { BeginsBody result (view_of C.look O.look self.now) main.old main.new relay.new
             cx.old cx.new }
+        ensures lowers { BeginsLower (arc_value self.now.setup) P.rest result (view_of C.look O.look self.now)
+            relay.old relay.new }
+        ensures due { BeginsInTime main.old relay.new cx.old cx.new }
     {
         let step = self.enter_body(relay, cx);
         self.settle_after(step, main, relay, (0, 0), cx)

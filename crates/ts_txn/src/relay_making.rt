@@ -1,12 +1,12 @@
 //! How the chain of a body is made: the transforms of the lines that act on a response, in their order.
-ghost use Rattle.std.specs.Prelude.{◌≡◌, ◌≢◌, List, ℕ, [], IfOk};
+ghost use Rattle.std.specs.Prelude.{[], IfOk};
 ghost use Rattle.ts_wire.specs.Place.{IsFed};
-ghost use Rattle.ts_transform.specs.Flow.{compose};
-ghost use Rattle.ts_config.specs.Bodies.{compose_lines};
 ghost use Rattle.ts_txn.specs.Acting.{acting};
 ghost use Rattle.ts_txn.specs.Relayed.{if_body};
 ghost use Rattle.ts_txn.specs.Block.{lines_for};
 ghost use Rattle.ts_txn.specs.Entering.{ActsAsLines, IsFreshRelay};
+ghost use Rattle.ts_txn.specs.Inserted.{AreOfLines};
+ghost use Rattle.ts_txn.specs.LoweringBody.{HasRoom};
 
 use crate::acting::acts_on;
 use crate::relay::Relay;
@@ -25,8 +25,7 @@ fn fresh_parts<P: Transform<Line = TransformLine> + Drop>(
     fields: &[Field],
 ) -> Result<Vec<P>, NoMemory>
     requires { ActsAsLines P.whole }
-    ensures { IfOk result (λ parts. (z : List ℕ) →
-        compose P.rest parts.items z ≡ compose_lines (acting lines.now status fields.now) z) }
+    ensures { IfOk result (λ parts. AreOfLines P.rest (acting lines.now status fields.now) parts.items) }
 {
     let mut parts = Vec::new(alloc);
     for line in lines {
@@ -45,8 +44,8 @@ fn body_parts<P: Transform<Line = TransformLine> + Drop>(
     head: &ResponseHead,
 ) -> Result<Vec<P>, NoMemory>
     requires { ActsAsLines P.whole }
-    ensures { IfOk result (λ parts. (z : List ℕ) →
-        compose P.rest parts.items z ≡ compose_lines (if_body framing (lines_for setup.now head.now)) z) }
+    ensures { IfOk result
+        (λ parts. AreOfLines P.rest (if_body framing (lines_for setup.now head.now)) parts.items) }
 {
     if let Framing::Nothing = framing {
         return Ok(Vec::new(alloc));
@@ -77,7 +76,8 @@ pub fn make_relay<P: Transform<Line = TransformLine> + Drop>(
     head: &ResponseHead,
 ) -> Result<Relay<P>, NoMemory>
     requires { ActsAsLines P.whole }
-    ensures { IfOk result (IsFreshRelay P.rest setup.now request.now head.now) }
+    ensures fresh { IfOk result (IsFreshRelay P.rest setup.now request.now head.now) }
+    ensures room { IfOk result (λ r. HasRoom setup.now P.rest r.driven.chain) }
 {
     let framing = framing_between(request, head);
     let body = reader_of(alloc, framing)?;

@@ -1,5 +1,4 @@
-//! What passing a body on calls on the sides of a transaction: a read of the origin, and what is queued for
-// the client.
+//! What passing a body on calls on the sides: a read of the origin, and what is queued for the client.
 ghost use Rattle.std.specs.Prelude.{◌≡◌, ◌++◌, ◌∷◌, [], length, IfOk, OnOk, OnErr};
 ghost use Rattle.ts_wire.specs.Frames.{IsPiece, end_of, frame_of};
 ghost use Rattle.ts_vconn.specs.declared.moves.TheConstants.{MOST_PULLED};

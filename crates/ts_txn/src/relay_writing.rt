@@ -1,6 +1,13 @@
 //! The steps that write a body to the client: what waits is written, a piece is framed, or the end is.
-ghost use Rattle.std.specs.Prelude.{◌≡◌, ◌<◌, true, length, take};
+ghost use Rattle.std.specs.Prelude.{◌≡◌, ◌<◌, [], true, false, length, take};
+ghost use Rattle.std.specs.Arc.{arc_value};
+ghost use Rattle.ts_group.specs.Context.{Context};
+ghost use Rattle.ts_transform.specs.Flow.{IsFinished, flow};
 ghost use Rattle.ts_wire.specs.Frames.{IsPiece};
+ghost use Rattle.ts_txn.specs.Duties.{MustSend};
+ghost use Rattle.ts_txn.specs.LoweringBody.{LowersBody};
+ghost use Rattle.ts_txn.specs.View.{view_of};
+ghost use Rattle.ts_txn.specs.BodyLinks.{MindsBody, is_late};
 ghost use Rattle.ts_txn.specs.Relaying.{RelayHolds, RelayLeads, StepsChain};
 ghost use Rattle.ts_txn.specs.Holding.{StepKeeps};
 
@@ -10,7 +17,7 @@ use crate::relay::{Relay, step_after};
 use ts_group::Cx;
 use ts_hooks::TxnEnd;
 use ts_link::Link;
-use ts_transform::Transform;
+use ts_transform::{Chain, Transform};
 use ts_upstream::Upstream;
 use ts_vconn::Pushed;
 use ts_wire::MAX_PIECE;
@@ -25,18 +32,32 @@ fn piece_of(bytes: &[u8]) -> &[u8]
     piece
 }
 
+// Whether a chain got its end, and has given all that it gives.
+fn has_given_all<P: Transform + Drop>(chain: &Chain<P>) -> bool
+    ensures given { result ≡ true → chain.now.given ≡ true }
+    ensures all { result ≡ true → flow P.rest chain.now [] ≡ [] }
+    ensures only { chain.now.given ≡ true → IsFinished chain.now → result ≡ true }
+{
+    chain.is_given() && chain.is_finished()
+}
+
 impl<C: Link, O: Upstream<C>> Core<C, O> {
     // Frames the end of the body, where the chain has given all of it.
+    #[tactic(auto, using(crate::proofs::BodyLinks::minds_none, crate::proofs::BodyLinks::minds_queued))]
     fn end_some<P: Transform + Drop>(&mut self, relay: &Relay<P>) -> BodyStep
         requires fact { RelayHolds C.tells O.tells C.look O.look O.refuses P.rest self.old relay.now }
+        requires empty { (view_of C.look O.look self.old).client.outbox ≡ [] }
         ensures leads { RelayLeads C.tells O.tells C.look O.look O.refuses P.rest self.old self.new
             relay.now result }
         ensures keeps { StepKeeps C.look O.look O.paired O.refuses self.old self.new }
+        ensures lowers { (now : Context) → LowersBody C.tells O.tells
+            ((relay.now.driven.chain.given ≡ true) × IsFinished relay.now.driven.chain) (arc_value self.old.setup) P.rest
+            result (view_of C.look O.look self.old) (view_of C.look O.look self.new) relay.now relay.now now now }
+        ensures links { MindsBody C.tells O.tells (view_of C.look O.look self.old)
+            (view_of C.look O.look self.new) relay.now.driven.chain relay.now.driven.chain result
+            (is_late result) false }
     {
-        if !relay.driven.chain().is_given() {
-            return BodyStep::Goes;
-        }
-        if !relay.driven.chain().is_finished() {
+        if !has_given_all(relay.driven.chain()) {
             return BodyStep::Goes;
         }
         let Ok(()) = self.end_body() else {
@@ -46,14 +67,22 @@ impl<C: Link, O: Upstream<C>> Core<C, O> {
     }
 
     // Frames one piece of what the chain gave, or the end.
+    #[tactic(auto, using(crate::proofs::BodyLinks::minds_queued))]
     fn frame_some<P: Transform + Drop>(&mut self, relay: &mut Relay<P>, cx: &mut Cx) -> BodyStep
         requires turn { cx.old.log.state.held ≡ true }
-        requires fact { RelayHolds C.tells O.tells C.look O.look O.refuses P.rest self.old relay.old }
+        requires stands { RelayHolds C.tells O.tells C.look O.look O.refuses P.rest self.old relay.old
+            × ((view_of C.look O.look self.old).client.outbox ≡ []) }
         ensures leads { RelayLeads C.tells O.tells C.look O.look O.refuses P.rest self.old self.new
             relay.new result }
         ensures keeps { StepKeeps C.look O.look O.paired O.refuses self.old self.new }
+        ensures links { MindsBody C.tells O.tells (view_of C.look O.look self.old)
+            (view_of C.look O.look self.new) relay.old.driven.chain relay.new.driven.chain result
+            (is_late result) false }
         ensures chain { StepsChain result 1 relay.old.driven relay.new.driven cx.old cx.new }
         ensures relay { relay.new ≡ record relay.old { driven = relay.new.driven } }
+        ensures lowers { LowersBody C.tells O.tells (MustSend (view_of C.look O.look self.old) relay.old.driven.chain)
+            (arc_value self.old.setup) P.rest result
+            (view_of C.look O.look self.old) (view_of C.look O.look self.new) relay.old relay.new cx.old cx.new }
     {
         let Some(block) = relay.driven.chain().out_block() else {
             return self.end_some(relay);
@@ -67,16 +96,22 @@ impl<C: Link, O: Upstream<C>> Core<C, O> {
     }
 
     /// Makes one step of the writer: it writes once of what waits for the client, or frames a piece of what
-    /// the chain gave,
-    /// or the end of the body once the chain has given all.
+    /// the chain gave, or the end of the body once the chain has given all.
+    #[tactic(auto, using(crate::proofs::BodyLinks::minds_wrote))]
     pub fn write_body<P: Transform + Drop>(&mut self, relay: &mut Relay<P>, cx: &mut Cx) -> BodyStep
         requires turn { cx.old.log.state.held ≡ true }
         requires fact { RelayHolds C.tells O.tells C.look O.look O.refuses P.rest self.old relay.old }
         ensures leads { RelayLeads C.tells O.tells C.look O.look O.refuses P.rest self.old self.new
             relay.new result }
         ensures keeps { StepKeeps C.look O.look O.paired O.refuses self.old self.new }
+        ensures links { MindsBody C.tells O.tells (view_of C.look O.look self.old)
+            (view_of C.look O.look self.new) relay.old.driven.chain relay.new.driven.chain result
+            (is_late result) false }
         ensures chain { StepsChain result 1 relay.old.driven relay.new.driven cx.old cx.new }
         ensures relay { relay.new ≡ record relay.old { driven = relay.new.driven } }
+        ensures lowers { LowersBody C.tells O.tells (MustSend (view_of C.look O.look self.old) relay.old.driven.chain)
+            (arc_value self.old.setup) P.rest result
+            (view_of C.look O.look self.old) (view_of C.look O.look self.new) relay.old relay.new cx.old cx.new }
     {
         if self.client.outbox.is_empty() {
             return self.frame_some(relay, cx);

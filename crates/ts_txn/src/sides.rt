@@ -1,9 +1,10 @@
 //! What a step calls on the sides of a transaction. Each call speaks of all of it, so that a step is one call
 //! and a choice by its answer.
 ghost use Rattle.std.specs.Prelude.{◌≡◌, ◌++◌, IfOk, OnOk, OnErr};
-ghost use Rattle.ts_txn.specs.View.{IsPaired, left_if, refuses_if, view_of};
+ghost use Rattle.ts_txn.specs.View.{IsPaired, refuses_if, upload_told, view_of};
 ghost use Rattle.ts_txn.specs.Moving.{cuts_of, HearsRequest, HearsResponse, LowersUpload, MovesUpload, QueuesOwn, QueuesRequest, WritesClient, WritesOrigin};
 ghost use Rattle.ts_txn.specs.Holding.{StepKeeps};
+ghost use Rattle.ts_txn.specs.Lowering.{RaisesUpload};
 
 use crate::parts::{Core, Sent};
 use crate::peers::{move_upload, push_origin, queue_if};
@@ -43,6 +44,7 @@ impl<C: Link, O: Upstream<C>> Core<C, O> {
     pub fn hear_request(&mut self) -> Found<RequestHead>
         ensures hears { HearsRequest C.tells
             (view_of C.look O.look self.old) (view_of C.look O.look self.new) result }
+        ensures rises { RaisesUpload O.look O.upload_left self.old self.new }
         ensures keeps { StepKeeps C.look O.look O.paired O.refuses self.old self.new }
     {
         next_request(self.alloc, &mut self.client)
@@ -52,6 +54,7 @@ impl<C: Link, O: Upstream<C>> Core<C, O> {
     pub fn hear_response(&mut self) -> Found<ResponseHead>
         ensures hears { HearsResponse O.tells
             (view_of C.look O.look self.old) (view_of C.look O.look self.new) result }
+        ensures rises { RaisesUpload O.look O.upload_left self.old self.new }
         ensures keeps { StepKeeps C.look O.look O.paired O.refuses self.old self.new }
     {
         next_response_if(self.alloc, &mut self.origin)
@@ -61,6 +64,7 @@ impl<C: Link, O: Upstream<C>> Core<C, O> {
     pub fn write_client(&mut self) -> Pushed
         ensures writes { WritesClient C.tells
             (view_of C.look O.look self.old) (view_of C.look O.look self.new) result }
+        ensures rises { RaisesUpload O.look O.upload_left self.old self.new }
         ensures keeps { StepKeeps C.look O.look O.paired O.refuses self.old self.new }
     {
         self.client.push()
@@ -70,6 +74,7 @@ impl<C: Link, O: Upstream<C>> Core<C, O> {
     pub fn write_origin(&mut self) -> Pushed
         ensures writes { WritesOrigin O.tells
             (view_of C.look O.look self.old) (view_of C.look O.look self.new) result }
+        ensures rises { RaisesUpload O.look O.upload_left self.old self.new }
         ensures keeps { StepKeeps C.look O.look O.paired O.refuses self.old self.new }
     {
         push_origin(&mut self.origin)
@@ -80,8 +85,8 @@ impl<C: Link, O: Upstream<C>> Core<C, O> {
         requires pair { IsPaired O.paired self.old }
         ensures moves { MovesUpload C.tells O.tells (refuses_if O.refuses self.old.origin) result
             (view_of C.look O.look self.old) (view_of C.look O.look self.new) }
-        ensures lowers { LowersUpload result (left_if O.upload_left self.old.client.link self.old.origin)
-            (left_if O.upload_left self.new.client.link self.new.origin)
+        ensures lowers { LowersUpload result (upload_told O.upload_left self.old.client.link self.old.origin)
+            (upload_told O.upload_left self.new.client.link self.new.origin)
             (view_of C.look O.look self.old) (view_of C.look O.look self.new) }
         ensures keeps { StepKeeps C.look O.look O.paired O.refuses self.old self.new }
     {
@@ -93,6 +98,7 @@ impl<C: Link, O: Upstream<C>> Core<C, O> {
         ensures ok { OnOk result
             (QueuesRequest text.now (view_of C.look O.look self.old) (view_of C.look O.look self.new)) }
         ensures err { OnErr result (view_of C.look O.look self.new ≡ view_of C.look O.look self.old) }
+        ensures rises { RaisesUpload O.look O.upload_left self.old self.new }
         ensures keeps { StepKeeps C.look O.look O.paired O.refuses self.old self.new }
     {
         queue_if(&mut self.origin, text)
@@ -103,6 +109,7 @@ impl<C: Link, O: Upstream<C>> Core<C, O> {
         ensures ok { OnOk result
             (QueuesOwn head.now body.now (view_of C.look O.look self.old) (view_of C.look O.look self.new)) }
         ensures err { OnErr result (view_of C.look O.look self.new ≡ view_of C.look O.look self.old) }
+        ensures rises { RaisesUpload O.look O.upload_left self.old self.new }
         ensures keeps { StepKeeps C.look O.look O.paired O.refuses self.old self.new }
     {
         let cuts = cuts_of(self.alloc, body)?;

@@ -2,6 +2,7 @@
 ghost use Rattle.ts_txn.specs.View.{IsPaired, view_of};
 ghost use Rattle.ts_txn.specs.Steps.{LeavesSides, MindsLinksIn, WaitsRightly};
 ghost use Rattle.ts_txn.specs.Cover.{StepLeads};
+ghost use Rattle.ts_txn.specs.Lowering.{StepFallsFrom};
 ghost use Rattle.ts_txn.specs.Holding.{IfTold, PhaseHolds, HoldsAfter, StepKeeps};
 
 use crate::parts::Core;
@@ -11,18 +12,19 @@ use ts_link::Link;
 use ts_upstream::Upstream;
 
 impl<C: Link, O: Upstream<C>> Core<C, O> {
-    /// The next step of a phase. A response that can be passed on ends the transaction for want of memory,
-    /// until bodies are relayed.
-    #[tactic(auto, using(crate::proofs::Sparing::still_spares, crate::proofs::Leaving::still_leaves, crate::proofs::Minding::stood))]
+    /// The next step of a phase. At the one where a body begins, `enter_on` takes its place, since that makes
+    /// continuations; here, where there are none to make it of, it could but end for want of memory.
+    #[tactic(auto, using(crate::proofs::Sparing::still_spares, crate::proofs::Leaving::still_leaves, crate::proofs::Minding::stood, crate::proofs::LoweringStands::fresh_lowers, crate::proofs::LoweringStands::start_lowers, crate::proofs::LoweringStands::checked_lowers, crate::proofs::LoweringStands::heard_lowers, crate::proofs::LoweringStands::still_end))]
     pub fn step(&mut self, phase: Phase) -> Step
-        requires fact { PhaseHolds C.tells O.tells C.look O.look O.refuses self.old phase }
-        requires pair { IsPaired O.paired self.old }
+        requires stands { PhaseHolds C.tells O.tells C.look O.look O.refuses self.old phase
+            × IsPaired O.paired self.old }
         ensures leads { StepLeads result }
         ensures fact { HoldsAfter C.tells O.tells C.look O.look O.refuses self.old self.new result }
         ensures minds { MindsLinksIn C.tells O.tells C.look O.look O.refuses O.upload_left
             self.old self.new phase result }
         ensures leaves { IfTold C.tells O.tells
             (LeavesSides phase (view_of C.look O.look self.old) (view_of C.look O.look self.new)) }
+        ensures falls { StepFallsFrom C.tells O.tells C.look O.look O.upload_left self.old self.new phase result }
         ensures keeps { StepKeeps C.look O.look O.paired O.refuses self.old self.new }
         ensures waits { WaitsRightly result.next
             (view_of C.look O.look self.old) (view_of C.look O.look self.new) }

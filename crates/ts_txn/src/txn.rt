@@ -4,13 +4,15 @@ ghost use Rattle.ts_group.specs.declared.world.Want.TheVariants as Want;
 ghost use Rattle.ts_group.specs.Calls.{IsCalled};
 ghost use Rattle.ts_group.specs.Entries.{Grows};
 ghost use Rattle.ts_transform.specs.Driving.{ActsWithin, IsDueAfter, SetsOnly};
-ghost use Rattle.ts_txn.specs.Cover.{is_fresh};
-ghost use Rattle.ts_txn.specs.declared.phase.Next.{Next};
+ghost use Rattle.ts_txn.specs.Cover.{is_fresh_on};
+ghost use Rattle.ts_txn.specs.CourseCover.{SetsOneOrNone};
 ghost use Rattle.ts_txn.specs.Driven.{HandlesEvent, TakesEvent};
-ghost use Rattle.ts_txn.specs.World.{IsTxnOf, HasTxnBegun, IsSoundTxn};
+ghost use Rattle.ts_txn.specs.LoweringCourse.{transaction_left};
+ghost use Rattle.ts_txn.specs.World.{IsTxnOf, HasTxnBegun, IsSoundTxn, most_set};
 
 use crate::course::Course;
 use crate::course_events::drive_on;
+use crate::course_leaving::AT_ONCE;
 use crate::driver::begin;
 use crate::parts::Core;
 use crate::phase::Phase;
@@ -75,7 +77,7 @@ impl<C: Link + Drop, O: Upstream<C> + Drop, P: Transform<Line = TransformLine> +
     ghost follows_on = { λ t u v a b. tt };
 }
 
-#[tactic(auto, using(ts_group::proofs::Grows::grows, ts_group::proofs::Grows::grows_refl, ts_transform::proofs::Kept::acts_none, crate::proofs::Handling::sound_begun, crate::proofs::Handling::sound_asked, crate::proofs::Handling::sound_other, crate::proofs::Handling::sound_quiet, crate::proofs::Handling::sound_stepped, crate::proofs::Coverage::fresh_none, crate::proofs::Events::handles_nothing, crate::proofs::Fitting::fits_on))]
+#[tactic(auto, using(ts_group::proofs::Grows::grows, ts_group::proofs::Grows::grows_refl, ts_transform::proofs::Kept::acts_none, crate::proofs::Handling::sound_begun, crate::proofs::Handling::sound_asked, crate::proofs::Seating::due_rests, crate::proofs::Coverage::fresh_none, crate::proofs::Events::takes_event, crate::proofs::Fitting::fits_on))]
 impl<C: Link + Drop, O: Upstream<C> + Drop, P: Transform<Line = TransformLine> + Drop> World
     for Txn<C, O, P> {
     type Question = ();
@@ -83,10 +85,10 @@ impl<C: Link + Drop, O: Upstream<C> + Drop, P: Transform<Line = TransformLine> +
     type Reply = ();
 
     ghost sound = { λ t s roles.
-        IsSoundTxn C.tells O.tells C.look O.look O.paired O.refuses t s.pending s.next roles };
+        IsSoundTxn C.tells O.tells C.look O.look O.paired O.refuses P.rest P.whole t s.pending s.next roles };
 
     ghost asking = { λ t s roles role group question.
-        IsSoundTxn C.tells O.tells C.look O.look O.paired O.refuses t s.pending s.next roles };
+        IsSoundTxn C.tells O.tells C.look O.look O.paired O.refuses P.rest P.whole t s.pending s.next roles };
 
     ghost right = { λ t group question reply. ⊤ };
 
@@ -94,7 +96,8 @@ impl<C: Link + Drop, O: Upstream<C> + Drop, P: Transform<Line = TransformLine> +
 
     ghost answers = { λ t question reply. ⊤ };
 
-    ghost left = { λ t s. None };
+    ghost left = { λ t s. transaction_left C.tells O.tells C.look O.look O.upload_left P.rest
+        t.core t.course s.pending };
 
     ghost only_asked = { λ tag. false };
 
@@ -102,21 +105,21 @@ impl<C: Link + Drop, O: Upstream<C> + Drop, P: Transform<Line = TransformLine> +
 
     ghost begun = { λ old new. HasTxnBegun old new };
 
-    // A handler makes one step of the same transaction, or nothing.
-    ghost called = { λ old new asked. (next : Next) × TakesEvent C.tells O.tells C.look O.look
-        O.paired O.refuses O.upload_left old.core new.core old.phase new.phase next };
+    // A handler leads the same transaction on, or does nothing.
+    ghost called = { λ old new asked. TakesEvent C.tells O.tells C.look O.look O.paired O.refuses
+        O.upload_left old.core new.core old.course new.course };
 
     ghost heard = { λ old new asked. new ≡ old };
 
     fn start(&mut self, cx: &mut Cx)
         requires turn { cx.old.log.state.held ≡ true }
-        requires sound { IsSoundTxn C.tells O.tells C.look O.look O.paired O.refuses
+        requires sound { IsSoundTxn C.tells O.tells C.look O.look O.paired O.refuses P.rest P.whole
             self.old cx.old.log.state.pending cx.old.log.state.next cx.old.roles }
-        ensures sound { IsSoundTxn C.tells O.tells C.look O.look O.paired O.refuses
+        ensures sound { IsSoundTxn C.tells O.tells C.look O.look O.paired O.refuses P.rest P.whole
             self.new cx.new.log.state.pending cx.new.log.state.next cx.new.roles }
-        ensures within { ActsWithin 1 cx.old cx.new }
+        ensures within { SetsOneOrNone cx.old cx.new }
         ensures begun { HasTxnBegun self.old self.new }
-        ensures due { SetsOnly (IsDueAfter 0 cx.old.moment) cx.old cx.new }
+        ensures due { SetsOnly (IsDueAfter AT_ONCE cx.old.moment) cx.old cx.new }
     {
         if !is_fresh(&self.course) {
             return;
@@ -127,15 +130,15 @@ impl<C: Link + Drop, O: Upstream<C> + Drop, P: Transform<Line = TransformLine> +
     fn handle(&mut self, role: u32, event: Event, cx: &mut Cx) -> Want<()>
         requires turn { cx.old.log.state.held ≡ true }
         requires called { IsCalled
-            (λ s roles. IsSoundTxn C.tells O.tells C.look O.look O.paired O.refuses
+            (λ s roles. IsSoundTxn C.tells O.tells C.look O.look O.paired O.refuses P.rest P.whole
             self.old s.pending s.next roles)
             cx.old role event }
-        ensures sound { IsSoundTxn C.tells O.tells C.look O.look O.paired O.refuses
+        ensures sound { IsSoundTxn C.tells O.tells C.look O.look O.paired O.refuses P.rest P.whole
             self.new cx.new.log.state.pending cx.new.log.state.next cx.new.roles }
         ensures nothing { result ≡ Want.Nothing }
-        ensures within { ActsWithin 1 cx.old cx.new }
+        ensures within { ActsWithin most_set cx.old cx.new }
         ensures handles { HandlesEvent C.tells O.tells C.look O.look O.paired O.refuses O.upload_left
-            self.old.core self.new.core self.old.phase self.new.phase cx.old cx.new }
+            self.old.core self.new.core cx.old cx.new self.old.main self.old.course self.new.course }
     {
         drive_on(
             &mut self.core,
@@ -150,7 +153,7 @@ impl<C: Link + Drop, O: Upstream<C> + Drop, P: Transform<Line = TransformLine> +
 
     fn told(&mut self, _role: u32, _asked: Asked<(), ()>, _cx: &mut Cx)
         requires turn { _cx.old.log.state.held ≡ true }
-        requires sound { IsSoundTxn C.tells O.tells C.look O.look O.paired O.refuses
+        requires sound { IsSoundTxn C.tells O.tells C.look O.look O.paired O.refuses P.rest P.whole
             self.old _cx.old.log.state.pending _cx.old.log.state.next _cx.old.roles }
         ensures grows { Grows _cx.old _cx.new }
         ensures same { (_cx.new.log.state ≡ _cx.old.log.state) × (_cx.new.roles ≡ _cx.old.roles)

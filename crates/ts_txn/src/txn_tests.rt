@@ -2,6 +2,7 @@
 ghost use Rattle.std.specs.Prelude.{◌≡◌, true, false, IfOk, OnOk};
 ghost use Rattle.ts_config.specs.Bodies.{whole_of};
 ghost use Rattle.ts_link.specs.MemLink.{look_of};
+ghost use Rattle.ts_txn.specs.Entering.{ActsAsLines};
 ghost use Rattle.ts_txn.specs.Making.{ArePaired, HasFewLines, IsNewLink, IsNewLinkIf};
 ghost use Rattle.ts_txn.specs.World.{IsSoundTxnGroup};
 
@@ -145,21 +146,23 @@ fn origin_of(alloc: Global, plan: Option<Plan<'_>>) -> Result<Option<MemLink>, F
 }
 
 // A transaction in a group of its own, started in the first turn.
-fn begin<C: Link + Drop, O: Upstream<C> + Drop>(
+fn begin<C: Link + Drop, O: Upstream<C> + Drop, P: Transform<Line = TransformLine> + Drop>(
     alloc: Global,
     setup: Setup,
     client: C,
     origin: Option<O>,
-) -> Result<Group<Txn<C, O, Passing>>, Fail>
+) -> Result<Group<Txn<C, O, P>>, Fail>
     requires few { HasFewLines setup 0 }
+    requires acts { ActsAsLines P.whole }
     requires client { C.tells ≡ true → IsNewLink (C.look client) }
     requires origin { O.tells ≡ true → IsNewLinkIf O.look origin }
     requires pair { ArePaired O.paired client origin }
     ensures idle { IfOk result (λ g. g.cx.log.state.held ≡ false) }
-    ensures sound { IfOk result (IsSoundTxnGroup C.tells O.tells C.look O.look O.paired O.refuses) }
+    ensures sound { IfOk result (IsSoundTxnGroup C.tells O.tells C.look O.look O.paired O.refuses
+        P.rest P.whole) }
 {
     let setup = Arc::new(alloc, setup)?;
-    let txn: Txn<C, O, Passing> = Txn::make(alloc, 1, setup, 0, client, origin)?;
+    let txn: Txn<C, O, P> = Txn::make(alloc, 1, setup, 0, client, origin)?;
     let mut group = Group::make(alloc, txn, 0)?;
     group.begin_turn(1, 0, 0)?;
     group.start();
@@ -168,15 +171,17 @@ fn begin<C: Link + Drop, O: Upstream<C> + Drop>(
 }
 
 // Handles the event of a number, in a turn of its own.
-fn take_turn<C: Link + Drop, O: Upstream<C> + Drop>(
-    group: &mut Group<Txn<C, O, Passing>>,
+fn take_turn<C: Link + Drop, O: Upstream<C> + Drop, P: Transform<Line = TransformLine> + Drop>(
+    group: &mut Group<Txn<C, O, P>>,
     number: u64,
     moment: u64,
 ) -> Result<(), Fail>
     requires idle { group.old.cx.log.state.held ≡ false }
-    requires sound { IsSoundTxnGroup C.tells O.tells C.look O.look O.paired O.refuses group.old }
+    requires sound { IsSoundTxnGroup C.tells O.tells C.look O.look O.paired O.refuses
+        P.rest P.whole group.old }
     ensures idle { OnOk result (group.new.cx.log.state.held ≡ false) }
-    ensures sound { OnOk result (IsSoundTxnGroup C.tells O.tells C.look O.look O.paired O.refuses group.new) }
+    ensures sound { OnOk result (IsSoundTxnGroup C.tells O.tells C.look O.look O.paired O.refuses
+        P.rest P.whole group.new) }
 {
     let Some(turn) = group.journal().turns().checked_add(1) else {
         return Err("a turn is left")?;
@@ -190,11 +195,12 @@ fn take_turn<C: Link + Drop, O: Upstream<C> + Drop>(
 }
 
 // Handles the event that is due first, until none is pending.
-fn run<C: Link + Drop, O: Upstream<C> + Drop>(
-    group: &mut Group<Txn<C, O, Passing>>,
+fn run<C: Link + Drop, O: Upstream<C> + Drop, P: Transform<Line = TransformLine> + Drop>(
+    group: &mut Group<Txn<C, O, P>>,
 ) -> Result<(), Fail>
     requires idle { group.old.cx.log.state.held ≡ false }
-    requires sound { IsSoundTxnGroup C.tells O.tells C.look O.look O.paired O.refuses group.old }
+    requires sound { IsSoundTxnGroup C.tells O.tells C.look O.look O.paired O.refuses
+        P.rest P.whole group.old }
 {
     let mut moment = 0;
     'turns: for _ in 0..TURNS {
@@ -228,7 +234,7 @@ fn exchange(
     requires client { IsNewLink (look_of client) }
     requires origin { IsNewLinkIf look_of origin }
 {
-    let mut group = begin(alloc, setup, client, origin)?;
+    let mut group: Group<Txn<MemLink, MemLink, Passing>> = begin(alloc, setup, client, origin)?;
     run(&mut group)?;
     let (txn, _) = group.into_parts();
     Ok(txn.into_parts())

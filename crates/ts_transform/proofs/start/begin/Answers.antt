@@ -1,4 +1,4 @@
-use Rattle.std.proofs.Common.{◌≡◌, ℕ, List, Option, ap, length, sym, subst, ◌∙◌}
+use Rattle.std.proofs.Common.{◌≡◌, ℕ, List, [], Option, ap, length, sym, subst, ◌∙◌}
 use Rattle.std.specs.Prelude.{⊤}
 use Rattle.ts_journal.specs.State.{IsLive}
 use Rattle.ts_group.specs.Context.{Context}
@@ -7,11 +7,13 @@ use Rattle.ts_transform.specs.declared.continuation.StageContinuation.{StageCont
 use Rattle.ts_transform.specs.Flow.{ChainState}
 use Rattle.ts_transform.specs.Cover.{AreAllLive, IsDriven}
 use Rattle.ts_transform.specs.Loss.{IsCauseOf}
-use Rattle.ts_transform.specs.Driving.{AreOfStages, EachIsLive, Keeps, KeepsMade, all_unroused}
+use Rattle.ts_transform.specs.Driving.{AreOfStages, BeginsBeside, EachIsLive, Keeps, all_unroused}
+use Rattle.ts_transform.specs.Seats.{KeepsSeated}
 use Rattle.ts_transform.proofs.Driving.{in_table}
 use Rattle.ts_transform.proofs.Kept.{kept_if}
 use Rattle.ts_transform.proofs.Living.{all_live, cause_alive, made_live}
 use Rattle.ts_transform.proofs.MaySet.{begin_only}
+use Rattle.ts_transform.proofs.Seating.{seated_as, seated_then}
 use Rattle.ts_transform.proofs.Starting.{begun, made_if}
 use Rattle.ts_transform.proofs.start.begin.Goals as goal
 
@@ -64,22 +66,38 @@ returns-in-Err-rouse_if_ready-clause-cause g c =
     (made_alive c.args.chain.now c.deref_mut.result.now c.make_all.new.table.items roused.new.table c.make_all.new.cx now _ c.deref_mut.ensures.value c.in_default.ensures.ok.0 c.stages.ensures c.in_default.ensures.ok.2
     roused.ensures.adds.keeps.live roused.ensures.stages.same) c.in-Err-rouse_if_ready.ensures.adds.cause)
 
--- Whoever was made before keeps what it had.
-made_then : (a m b : Context) → SameEvents a.log.state m.log.state → KeepsKeys a.log.state m.log.state a.roles m.roles → Keeps m b → KeepsMade a b
-made_then a m b events keys keeps = record {
-  of_stage = λ role t h. kept_if m b keeps role t (made_if a m events keys role t h);
-  live = λ key was. subst (λ l. IsLive l key) (sym keeps.live) (keys.live key was);
+-- Whoever was made before keeps what it had, and whatever was set is of a stage that was roused.
+begins_then : (us vs : List (Option StageContinuation)) (a m b : Context) → SameEvents a.log.state m.log.state → KeepsKeys a.log.state m.log.state a.roles m.roles → Keeps m b → KeepsSeated us vs m b
+    → BeginsBeside vs a b
+begins_then us vs a m b events keys keeps seated = record {
+  made = record {
+    of_stage = λ role t h. kept_if m b keeps role t (made_if a m events keys role t h);
+    live = λ key was. subst (λ l. IsLive l key) (sym keeps.live) (keys.live key was);
+  };
+  seated = seated_then [] us vs a m b (seated_as [] us a m events.pending (λ key has. absurd has)) seated;
 }
 
-pub returns-in-Ok-clause-made : goal.returns-in-Ok-clause-made
-returns-in-Ok-clause-made g c = made_then c.args.cx.now c.make_all.new.cx c.rouse_if_ready.new.cx c.make_all.ensures.events c.make_all.ensures.keys c.rouse_if_ready.ensures.adds.keeps
+pub returns-in-Ok-clause-rest : goal.returns-in-Ok-clause-rest
+returns-in-Ok-clause-rest g c =
+    let table = c.make_all.new.table in
+    let roused = c.rouse_if_ready in
+    in_table (λ us. BeginsBeside us c.args.cx.now roused.new.cx) table.len roused.new.table table.items (roused.ensures.stages.len ∙ ap length c.deref_mut.ensures.value ∙ sym table.ok.0)
+    (begins_then c.deref_mut.result.now roused.new.table c.args.cx.now c.make_all.new.cx roused.new.cx c.make_all.ensures.events c.make_all.ensures.keys roused.ensures.adds.keeps roused.ensures.stages.seated)
 
-pub returns-in-Err-rouse_if_ready-clause-made : goal.returns-in-Err-rouse_if_ready-clause-made
-returns-in-Err-rouse_if_ready-clause-made g c =
-    made_then c.args.cx.now c.make_all.new.cx c.rouse_if_ready.new.cx c.make_all.ensures.events c.make_all.ensures.keys c.rouse_if_ready.ensures.adds.keeps
+pub returns-in-Err-rouse_if_ready-clause-rest : goal.returns-in-Err-rouse_if_ready-clause-rest
+returns-in-Err-rouse_if_ready-clause-rest g c =
+    let table = c.make_all.new.table in
+    let roused = c.rouse_if_ready in
+    in_table (λ us. BeginsBeside us c.args.cx.now roused.new.cx) table.len roused.new.table table.items (roused.ensures.stages.len ∙ ap length c.deref_mut.ensures.value ∙ sym table.ok.0)
+    (begins_then c.deref_mut.result.now roused.new.table c.args.cx.now c.make_all.new.cx roused.new.cx c.make_all.ensures.events c.make_all.ensures.keys roused.ensures.adds.keeps roused.ensures.stages.seated)
 
-pub returns-in-Err-clause-made : goal.returns-in-Err-clause-made
-returns-in-Err-clause-made g c = record {
-  of_stage = λ role t h. made_if c.args.cx.now c.make_all.new.cx c.make_all.ensures.events c.make_all.ensures.keys role t h;
-  live = c.make_all.ensures.keys.live;
-}
+pub returns-in-Err-clause-rest : goal.returns-in-Err-clause-rest
+returns-in-Err-clause-rest g c =
+    let made = c.make_all in
+    record {
+      made = record {
+        of_stage = λ role t h. made_if c.args.cx.now made.new.cx made.ensures.events made.ensures.keys role t h;
+        live = made.ensures.keys.live;
+      };
+      seated = seated_as [] made.new.table.items c.args.cx.now made.new.cx made.ensures.events.pending (λ key has. absurd has);
+    }

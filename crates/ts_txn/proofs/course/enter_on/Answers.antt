@@ -1,28 +1,142 @@
 use Rattle.std.specs.Arc.{arc_value}
+use Rattle.std.specs.Prelude.{◌∷◌, []}
+use Rattle.std.proofs.Common.{arith, refl, sym, ap, subst, ◌≤◌}
 use Rattle.ts_hooks.specs.declared.txn_end.TxnEnd.TheVariants as E
+use Rattle.ts_transform.proofs.Kept.{acts_none, acts_then}
+use Rattle.ts_transform.proofs.Seats.{cleared_acts}
 use Rattle.ts_txn.specs.Course.{course_after}
-use Rattle.ts_txn.specs.View.{OriginRefuses, view_of}
+use Rattle.ts_txn.specs.CourseCover.{set_leaving}
+use Rattle.ts_link.specs.Link.{Look, NoMore}
+use Rattle.ts_txn.specs.LoweringBody.{IsOfLines, left_after, unbegun_left}
+use Rattle.ts_txn.specs.View.{LinkSide, OriginRefuses, upload_told, view_of}
+use Rattle.ts_txn.specs.World.{most_set}
 use Rattle.ts_txn.specs.declared.course.Course.TheVariants as K
 use Rattle.ts_txn.specs.declared.phase.Phase.TheVariants as P
+use Rattle.ts_txn.specs.declared.phase.Next.TheVariants as N
+use Rattle.ts_txn.proofs.CourseCalls.{stands_begun}
+use Rattle.ts_txn.proofs.CourseSeats.{ended_alone}
 use Rattle.ts_txn.proofs.Coursing.{course_settled, enters_settled, led_on, stays_on}
+use Rattle.ts_txn.proofs.Events.{begin_led, due_begin, takes_begin, takes_lost}
+use Rattle.ts_txn.proofs.Handling.{leaving_one, sound_here}
+use Rattle.ts_txn.proofs.LoweringCourse.{begun_led, lines_led, not_begun}
+use Rattle.ts_txn.proofs.Paying.{pays_led}
 use Rattle.ts_txn.proofs.course.enter_on.Goals as goal
 
 -- Memory lacked for the head.
-pub returns-in_default-clause-fact : goal.returns-in_default-clause-fact
-returns-in_default-clause-fact g c = λ told also.
-    course_settled g.C.Link.look g.O.Link.look g.O.Upstream.paired g.O.Upstream.refuses g.P.Transform.rest c.args.core.now c.queue_relay.new.self (K.Phased (P.Ended E.NoMemory)) c.queue_relay.ensures.keeps
-    (c.in_default.ensures.err told also)
+pub returns-in_default-clause-sound : goal.returns-in_default-clause-sound
+returns-in_default-clause-sound g c =
+    let core = c.args.core.now in
+    let new = c.queue_relay.new.self in
+    sound_here g.C.Link.tells g.O.Link.tells g.C.Link.look g.O.Link.look g.O.Upstream.paired g.O.Upstream.refuses g.P.Transform.rest g.P.Transform.whole core new
+    (K.Phased (P.ResponseTransform c.args.request c.args.head)) (K.Phased (P.Ended E.NoMemory)) c.destroy_end.new.slot c.destroy_end.new.cx c.requires.stands c.queue_relay.ensures.keeps
+    (λ told also. course_settled g.C.Link.look g.O.Link.look g.O.Upstream.paired g.O.Upstream.refuses g.P.Transform.rest core new (K.Phased (P.Ended E.NoMemory)) c.queue_relay.ensures.keeps
+    (c.in_default.ensures.err told also)) tt
+    (ended_alone (P.Ended E.NoMemory) (K.Phased (P.Ended E.NoMemory)) c.args.main.now c.destroy_end.new.slot c.args.cx.now c.destroy_end.new.cx refl refl c.destroy_end.ensures.clears
+    c.destroy_end.ensures.none c.requires.alone (view_of g.C.Link.look g.O.Link.look new))
+
+pub returns-in_default-clause-within : goal.returns-in_default-clause-within
+returns-in_default-clause-within g c =
+    acts_then 0 0 most_set (omega arith) (acts_none 0 c.args.cx.now c.requires.turn) (cleared_acts (c.args.main.now ∷ []) c.args.cx.now c.destroy_end.new.cx c.destroy_end.ensures.clears)
 
 pub begin_body-step-requires-clause-fact : goal.begin_body-step-requires-clause-fact
 begin_body-step-requires-clause-fact g c = λ told also.
     enters_settled g.C.Link.look g.O.Link.look g.O.Upstream.paired g.O.Upstream.refuses g.P.Transform.rest c.args.core.now c.queue_relay.new.self c.in-Ok.made.driven.chain c.in-Ok.made.body
     c.queue_relay.ensures.keeps (c.in-Ok.ensures.ok told also)
 
-pub returns-clause-fact : goal.returns-clause-fact
-returns-clause-fact g c = λ told also.
+pub returns-in_default-clause-handles : goal.returns-in_default-clause-handles
+returns-in_default-clause-handles g c =
+    let core = c.args.core.now in
     let new = c.queue_relay.new.self in
-    let setup = arc_value new.setup in
-    let refuses = OriginRefuses g.C.Link.look g.O.Upstream.refuses new in
+    record {
+      keeps = c.queue_relay.ensures.keeps;
+      handles = record {
+        next = N.Go;
+        takes = takes_lost g.C.Link.tells g.O.Link.tells g.C.Link.look g.O.Link.look g.O.Upstream.paired g.O.Upstream.refuses g.O.Upstream.upload_left core new
+            (P.ResponseTransform c.args.request c.args.head) c.queue_relay.ensures.quiet;
+        due = λ n p none there. absurd (c.destroy_end.ensures.clears.lessens.none n p none there);
+      };
+    }
+
+pub returns-clause-sound : goal.returns-clause-sound
+returns-clause-sound g c =
+    let core = c.args.core.now in
+    let new = c.queue_relay.new.self in
+    let relay = c.begin_body-step.new.relay in
+    let step = c.begin_body-step.result in
     let v = view_of g.C.Link.look g.O.Link.look new in
-    stays_on setup refuses g.P.Transform.rest v (course_after c.begin_body-step.new.relay c.begin_body-step.result) c.leave.result
-    (led_on setup refuses g.P.Transform.rest v c.begin_body-step.new.relay c.begin_body-step.result (c.begin_body-step.ensures.leads told also)) c.leave.ensures.course
+    sound_here g.C.Link.tells g.O.Link.tells g.C.Link.look g.O.Link.look g.O.Upstream.paired g.O.Upstream.refuses g.P.Transform.rest g.P.Transform.whole core new
+    (K.Phased (P.ResponseTransform c.args.request c.args.head)) c.leave.result c.leave.new.main c.leave.new.cx c.requires.stands c.queue_relay.ensures.keeps
+    (λ told also. stays_on (arc_value new.setup) (OriginRefuses g.C.Link.look g.O.Upstream.refuses new) g.P.Transform.rest v (course_after relay step) c.leave.result
+    (led_on (arc_value new.setup) (OriginRefuses g.C.Link.look g.O.Upstream.refuses new) g.P.Transform.rest v relay step (c.begin_body-step.ensures.leads told also)) c.leave.ensures.course)
+    (lines_led (arc_value new.setup) g.P.Transform.rest step c.in-Ok.made relay c.leave.result c.begin_body-step.ensures.lowers.lines
+    (subst (λ x. IsOfLines (arc_value x) g.P.Transform.rest c.in-Ok.made.driven.chain) (sym c.queue_relay.ensures.keeps.setup) c.in-Ok.ensures.lowers.lines) c.leave.ensures.course)
+    (c.leave.ensures.covered v
+    (stands_begun step v c.args.main.now c.begin_body-step.new.main relay c.args.cx.now c.begin_body-step.new.cx c.known.ensures c.begin_body-step.ensures.begins c.requires.alone))
+
+pub returns-clause-within : goal.returns-clause-within
+returns-clause-within g c =
+    let step = c.begin_body-step.result in
+    let few : set_leaving step ≤ 1 = leaving_one step in
+    acts_then 4 (set_leaving step) most_set (omega (arith, few)) c.begin_body-step.ensures.begins.acts c.leave.ensures.within
+
+pub returns-clause-handles : goal.returns-clause-handles
+returns-clause-handles g c =
+    let core = c.args.core.now in
+    let new = c.queue_relay.new.self in
+    let relay = c.begin_body-step.new.relay in
+    let v = view_of g.C.Link.look g.O.Link.look new in
+    let led = begin_led g.C.Link.tells g.O.Link.tells g.C.Link.look g.O.Link.look g.O.Upstream.paired g.O.Upstream.refuses g.O.Upstream.upload_left relay c.begin_body-step.result c.leave.result
+        c.begin_body-step.ensures.begins.goes c.leave.ensures.course in
+    record {
+      keeps = c.queue_relay.ensures.keeps;
+      handles = record {
+        next = N.Go;
+        takes = takes_begin g.C.Link.tells g.O.Link.tells g.C.Link.look g.O.Link.look g.O.Upstream.paired g.O.Upstream.refuses g.O.Upstream.upload_left core new
+            (P.ResponseTransform c.args.request c.args.head) c.leave.result relay c.queue_relay.ensures.quiet led;
+        due = due_begin g.C.Link.tells g.O.Link.tells g.C.Link.look g.O.Link.look g.O.Upstream.paired g.O.Upstream.refuses g.O.Upstream.upload_left c.args.main.now v c.leave.new.main c.args.cx.now
+            c.leave.new.cx c.leave.result relay
+            (record {
+              behind = c.begin_body-step.new.cx;
+              first = c.begin_body-step.ensures.begins.acts.grows;
+              then = c.leave.ensures.within.grows;
+              begins = c.begin_body-step.ensures.due;
+              due = c.leave.ensures.due;
+            })
+            (c.leave.ensures.covered v
+            (stands_begun c.begin_body-step.result v c.args.main.now c.begin_body-step.new.main relay c.args.cx.now c.begin_body-step.new.cx c.known.ensures c.begin_body-step.ensures.begins
+            c.requires.alone)) led;
+      };
+    }
+
+pub returns-in_default-clause-pays : goal.returns-in_default-clause-pays
+returns-in_default-clause-pays g c =
+    let core = c.args.core.now in
+    let new = c.queue_relay.new.self in
+    let q = c.args.request in
+    let h = c.args.head in
+    let few = c.destroy_end.ensures.clears.lessens.few.pending in
+    pays_led g.C.Link.tells g.O.Link.tells g.C.Link.look g.O.Link.look g.O.Upstream.upload_left g.P.Transform.rest core new (K.Phased (P.ResponseTransform q h)) (K.Phased (P.Ended E.NoMemory))
+    c.args.cx.now c.destroy_end.new.cx c.queue_relay.ensures.keeps.setup
+    (λ told also. not_begun (arc_value core.setup) g.P.Transform.rest q h (view_of g.C.Link.look g.O.Link.look core) (view_of g.C.Link.look g.O.Link.look new)
+    (upload_told g.O.Upstream.upload_left core.client.link core.origin) (upload_told g.O.Upstream.upload_left new.client.link new.origin) c.args.cx.now.log.state.pending
+    c.destroy_end.new.cx.log.state.pending (ap (λ (l : Look). l.agains) c.queue_relay.ensures.quiet.client) (ap (λ (s : LinkSide). s.look.agains) c.queue_relay.ensures.quiet.origin)
+    (omega (arith, few)))
+
+pub returns-clause-pays : goal.returns-clause-pays
+returns-clause-pays g c =
+    let core = c.args.core.now in
+    let new = c.queue_relay.new.self in
+    let q = c.args.request in
+    let h = c.args.head in
+    let made = c.in-Ok.made in
+    let relay = c.begin_body-step.new.relay in
+    let step = c.begin_body-step.result in
+    let w = view_of g.C.Link.look g.O.Link.look new in
+    let kept = subst (λ x. NoMore (unbegun_left (arc_value x) g.P.Transform.rest w made) (left_after (arc_value x) g.P.Transform.rest step w relay)) c.queue_relay.ensures.keeps.setup
+        c.begin_body-step.ensures.lowers.falls in
+    pays_led g.C.Link.tells g.O.Link.tells g.C.Link.look g.O.Link.look g.O.Upstream.upload_left g.P.Transform.rest core new (K.Phased (P.ResponseTransform q h)) c.leave.result c.args.cx.now
+    c.leave.new.cx c.queue_relay.ensures.keeps.setup
+    (λ told also. begun_led (arc_value core.setup) g.P.Transform.rest q h step made relay c.leave.result (view_of g.C.Link.look g.O.Link.look core) w
+    (upload_told g.O.Upstream.upload_left core.client.link core.origin) (upload_told g.O.Upstream.upload_left new.client.link new.origin) c.args.cx.now.log.state.pending
+    c.begin_body-step.new.cx.log.state.pending c.leave.new.cx.log.state.pending (c.in-Ok.ensures.lowers.falls told also) kept c.begin_body-step.ensures.begins.acts.few.pending
+    c.leave.ensures.course c.leave.ensures.within.few.pending)

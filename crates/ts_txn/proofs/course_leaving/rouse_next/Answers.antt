@@ -1,18 +1,35 @@
-use Rattle.std.proofs.Common.{arith, rules}
+use Rattle.std.proofs.Common.{◌∷◌, [], arith, rules}
+use Rattle.ts_transform.specs.Driving.{HasLiveIf}
 use Rattle.ts_transform.proofs.Kept.{acts_adds, acts_then}
 use Rattle.ts_transform.proofs.Seats.{cleared_acts}
-use Rattle.std.specs.Prelude.{◌∷◌, []}
-use Rattle.ts_transform.specs.Driving.{HasLiveIf}
 use Rattle.ts_txn.proofs.Coverage.{never_spent}
-use Rattle.ts_txn.proofs.CourseSeats.{seated_destroyed, seated_next}
+use Rattle.ts_txn.proofs.CourseSeats.{lacks_next, roused_next, seated_destroyed, seated_next}
 use Rattle.ts_txn.proofs.Seating.{due_less}
 use Rattle.ts_txn.proofs.course_leaving.rouse_next.Goals as goal
+
+-- The event was set, or no number was left for it.
+pub returns-in_default-clause-seated : goal.returns-in_default-clause-seated
+returns-in_default-clause-seated c =
+    seated_next c.args.main.now c.rouse.new.main c.args.cx.now c.rouse.new.cx c.rouse.ensures.adds.keeps c.rouse.ensures.stage.same c.rouse.ensures.only
+
+pub returns-in_default-clause-rouses : goal.returns-in_default-clause-rouses
+returns-in_default-clause-rouses c =
+    roused_next c.args.main.now c.rouse.new.main c.args.cx.now c.rouse.new.cx c.known.ensures c.rouse.ensures.adds.grows c.rouse.ensures.stage c.in_default.ensures.roused
+
+pub returns-then-is_spent-clause-seated : goal.returns-then-is_spent-clause-seated
+returns-then-is_spent-clause-seated c =
+    seated_next c.args.main.now c.rouse.new.main c.args.cx.now c.rouse.new.cx c.rouse.ensures.adds.keeps c.rouse.ensures.stage.same c.rouse.ensures.only
 
 -- There was no memory for an event, and the continuation was destroyed.
 pub returns-clause-seated : goal.returns-clause-seated
 returns-clause-seated c =
     seated_destroyed c.args.main.now c.rouse.new.main c.destroy_end.new.slot c.args.cx.now c.rouse.new.cx c.destroy_end.new.cx
     (seated_next c.args.main.now c.rouse.new.main c.args.cx.now c.rouse.new.cx c.rouse.ensures.adds.keeps c.rouse.ensures.stage.same c.rouse.ensures.only)
+    c.destroy_end.ensures.clears c.destroy_end.ensures.none
+
+pub returns-clause-rouses : goal.returns-clause-rouses
+returns-clause-rouses c =
+    lacks_next c.args.main.now c.destroy_end.new.slot (c.rouse.new.main ∷ []) c.args.cx.now c.rouse.new.cx c.destroy_end.new.cx c.known.ensures c.rouse.ensures.adds.grows
     c.destroy_end.ensures.clears c.destroy_end.ensures.none
 
 pub returns-clause-within : goal.returns-clause-within

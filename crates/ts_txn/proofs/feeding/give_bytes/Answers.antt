@@ -1,4 +1,4 @@
-use Rattle.std.proofs.Common.{◌≡◌, sym, subst}
+use Rattle.std.proofs.Common.{sym, subst}
 use Rattle.ts_txn.specs.Relaying.{StepsChain}
 use Rattle.ts_txn.proofs.Chaining.{chain_after, given_bytes}
 use Rattle.ts_txn.proofs.feeding.give_bytes.Goals as goal
@@ -7,4 +7,4 @@ pub returns-clause-chain : goal.returns-clause-chain
 returns-clause-chain g c =
     subst (λ s. StepsChain s 1 c.args.driven.now c.give.new.self c.args.cx.now c.give.new.cx) (sym c.step_after.ensures)
     (chain_after 1 c.give.result c.args.driven.now c.give.new.self c.args.cx.now c.give.new.cx c.give.ensures.adds c.give.ensures.driven c.give.ensures.loses c.give.ensures.same
-    (given_bytes g.P.Transform.rest c.give.result c.args.part.now c.args.driven.now.chain c.give.new.self.chain c.give.ensures.gives))
+    g.P.Transform.pause c.give.ensures.only (given_bytes g.P.Transform.rest c.give.result c.args.part.now c.args.driven.now.chain c.give.new.self.chain c.give.ensures.gives))

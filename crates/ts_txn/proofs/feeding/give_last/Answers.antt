@@ -1,5 +1,3 @@
-use Rattle.std.proofs.Common.{subst}
-use Rattle.ts_txn.specs.Relaying.{StepsChain}
 use Rattle.ts_txn.proofs.Chaining.{chain_then}
 use Rattle.ts_txn.proofs.feeding.give_last.Goals as goal
 

@@ -1,9 +1,7 @@
-use Rattle.std.proofs.Common.{◌≡◌, ◌+◌, List, ◌∷◌, drop, ap, sym, ◌∙◌}
-use Rattle.std.proofs.lemmas.List.{drop_more}
-use Rattle.ts_transform.specs.Flow.{compose}
-use Rattle.ts_config.specs.Bodies.{compose_lines}
-use Rattle.ts_txn.specs.Acting.{acting, acts_on}
-use Rattle.ts_txn.proofs.Parting.{part_more, part_none}
+use Rattle.std.proofs.Common.{◌+◌, ◌∷◌, drop, ap, sym, subst, ◌∙◌}
+use Rattle.std.proofs.lemmas.List.{drop_all, drop_more}
+use Rattle.ts_txn.specs.Acting.{acts_on}
+use Rattle.ts_txn.proofs.Parting.{Continues, part_last, part_more, part_none}
 use Rattle.ts_txn.proofs.relay_making.fresh_parts.Goals.{then-acts_on+in_ok-fresh+in_ok-push, else-acts_on}
 use Rattle.ts_txn.proofs.relay_making.fresh_parts.Goals as goal
 
@@ -16,12 +14,17 @@ loop-line-preserved g c =
     let more = drop (i + 1) c.args.lines.now in
     let is = drop_more c.args.lines.now i c.line-item.result c.loop-line-test.true ∙ ap (λ l. l ∷ drop (i + 1) c.args.lines.now) (sym c.line-item.is) in
     elim c.if-acts_on.branch [
-      | then-acts_on+in_ok-fresh+in_ok-push w ↦ λ z.
-          ap (λ ps. compose_lines (acting more c.args.status c.args.fields.now) (compose rest ps z)) (ap (λ v. v.items) w.parts-is ∙ w.in_ok-push.ensures.items)
-          ∙ part_more rest g.P.Transform.whole acts c.args.lines.now left more c.line-item.result is c.loop-line.parts.items c.loop-line.invariant c.requires
-          (sym c.acts_on.ensures ∙ w.if-acts_on.true) w.in_ok-fresh.field-0 w.in_ok-fresh.ensures z
-      | else-acts_on w ↦ λ z.
-          ap (λ ps. compose_lines (acting more c.args.status c.args.fields.now) (compose rest ps z)) (ap (λ v. v.items) w.parts-is)
-          ∙ part_none rest g.P.Transform.whole acts c.args.lines.now left more c.line-item.result is c.loop-line.parts.items c.loop-line.invariant
-          (sym c.acts_on.ensures ∙ w.if-acts_on.false) z
+      | then-acts_on+in_ok-fresh+in_ok-push w ↦
+          subst (λ ps. Continues rest acts c.args.lines.now more ps) (sym (ap (λ v. v.items) w.parts-is ∙ w.in_ok-push.ensures.items))
+          (part_more rest g.P.Transform.whole acts c.args.lines.now left more c.line-item.result is c.loop-line.parts.items c.loop-line.invariant c.requires
+          (sym c.acts_on.ensures ∙ w.if-acts_on.true) w.in_ok-fresh.field-0 w.in_ok-fresh.ensures)
+      | else-acts_on w ↦
+          subst (λ ps. Continues rest acts c.args.lines.now more ps) (sym (ap (λ v. v.items) w.parts-is))
+          (part_none rest g.P.Transform.whole acts c.args.lines.now left more c.line-item.result is c.loop-line.parts.items c.loop-line.invariant
+          (sym c.acts_on.ensures ∙ w.if-acts_on.false))
     ]
+
+pub returns : goal.returns
+returns g c =
+    part_last g.P.Transform.rest (acts_on c.args.status c.args.fields.now) c.args.lines.now (drop c.loop-line.line-index c.args.lines.now) c.loop-line.parts.items
+    (drop_all c.loop-line.line-index _ c.loop-line-test.false) c.loop-line.invariant

@@ -1,6 +1,7 @@
-use Rattle.std.proofs.Common.{[], ◌++◌, ◌∙◌, ap, map}
+use Rattle.std.proofs.Common.{[], ◌++◌, ◌∙◌, ap, map, subst, sym, true}
 use Rattle.std.proofs.lemmas.List.{append-nil}
-use Rattle.ts_transform.specs.Flow.{flow_from, fresh_stage}
+use Rattle.ts_transform.specs.Flow.{EndsInOrder, flow_from, fresh_stage}
+use Rattle.ts_transform.proofs.Carrying.{order_fresh}
 use Rattle.ts_transform.proofs.Flowing.{flow_from-fresh}
 use Rattle.ts_transform.proofs.chain.Chain.over.Goals as goal
 
@@ -11,3 +12,6 @@ returns-clause-flow g c =
     ∙ ap (λ first. flow_from rest (map fresh_stage c.args.parts.items) (first ++ [])) c.in_ok-first.ensures
     ∙ ap (flow_from rest (map fresh_stage c.args.parts.items)) (append-nil c.args.body)
     ∙ flow_from-fresh rest c.args.parts.items c.args.body
+
+pub returns-clause-ordered : goal.returns-clause-ordered
+returns-clause-ordered g c = subst (EndsInOrder true) (sym c.in_ok-stages.ensures) (order_fresh true c.args.parts.items)

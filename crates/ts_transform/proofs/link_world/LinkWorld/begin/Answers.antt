@@ -29,9 +29,9 @@ returns-clause-carried g c = λ was.
     record {
       joined = c.rouse_ends.ensures.joined (λ runs. record {
         stages = c.start.ensures.driven fresh.2 runs;
-        of_writer = c.start.ensures.made.of_stage 1 (Some c.in-Ok.writer) (made_if made both c.make_end-2.ensures.events c.make_end-2.ensures.keys 1 (Some c.in-Ok.writer)
+        of_writer = c.start.ensures.rest.made.of_stage 1 (Some c.in-Ok.writer) (made_if made both c.make_end-2.ensures.events c.make_end-2.ensures.keys 1 (Some c.in-Ok.writer)
             (made_of made.log.state.pending made.roles 1 c.in-Ok.writer c.in-Ok.ensures.named.0 c.in-Ok.ensures.named.1));
-        of_reader = c.start.ensures.made.of_stage 2 (Some c.in-Ok-make_end.reader) (made_of both.log.state.pending both.roles 2 c.in-Ok-make_end.reader c.in-Ok-make_end.ensures.named.0 c.in-Ok-make_end.ensures.named.1);
+        of_reader = c.start.ensures.rest.made.of_stage 2 (Some c.in-Ok-make_end.reader) (made_of both.log.state.pending both.roles 2 c.in-Ok-make_end.reader c.in-Ok-make_end.ensures.named.0 c.in-Ok-make_end.ensures.named.1);
       });
       ends = c.rouse_ends.ensures.ends;
       fresh = λ none. absurd (let wrong : Some c.in-Ok.writer ≡ None = c.rouse_ends.ensures.course.started none in cc);
@@ -56,7 +56,7 @@ returns-clause-cause g c =
     begun_then world c.rouse_ends.new.self started c.rouse_ends.new.cx c.start.ensures.begun
     (λ stages. record {
       stages = stages;
-      writer = c.start.ensures.made.live c.in-Ok.writer.key (c.make_end-2.ensures.keys.live c.in-Ok.writer.key c.in-Ok.ensures.live);
-      reader = c.start.ensures.made.live c.in-Ok-make_end.reader.key c.in-Ok-make_end.ensures.live;
+      writer = c.start.ensures.rest.made.live c.in-Ok.writer.key (c.make_end-2.ensures.keys.live c.in-Ok.writer.key c.in-Ok.ensures.live);
+      reader = c.start.ensures.rest.made.live c.in-Ok-make_end.reader.key c.in-Ok-make_end.ensures.live;
     })
     (λ stopped. c.rouse_ends.ensures.idle (inl stopped)) c.rouse_ends.ensures.course

@@ -1,6 +1,9 @@
+use Rattle.std.proofs.Common.{ap}
 use Rattle.std.specs.Arc.{arc_value}
 use Rattle.ts_txn.specs.View.{OriginRefuses, view_of}
 use Rattle.ts_txn.proofs.BodyEvents.{begins_body, settled_as}
+use Rattle.ts_txn.proofs.LoweringEntry.{begins_settled, begun_goes}
+use Rattle.ts_txn.proofs.BodyLinks.{body_in_time}
 use Rattle.ts_txn.proofs.parts.Core.begin_body.Goals as goal
 
 pub returns-clause-leads : goal.returns-clause-leads
@@ -12,4 +15,16 @@ returns-clause-leads g c = λ told also.
 pub returns-clause-begins : goal.returns-clause-begins
 returns-clause-begins g c =
     begins_body c.enter_body-step.result c.settle_after.result (view_of g.C.Link.look g.O.Link.look c.args.self.now) c.args.main.now c.settle_after.new.main
-    c.enter_body-step.new.relay c.settle_after.new.relay c.args.cx.now c.enter_body-step.new.cx c.settle_after.new.cx c.enter_body-step.ensures.begins c.settle_after.ensures.settles
+    c.enter_body-step.new.relay c.settle_after.new.relay c.args.cx.now c.enter_body-step.new.cx c.settle_after.new.cx c.enter_body-step.ensures.begins (ap (λ r. r.driven) c.settle_after.ensures.relay) c.settle_after.ensures.settles
+
+pub returns-clause-lowers : goal.returns-clause-lowers
+returns-clause-lowers g c =
+    begins_settled (arc_value c.args.self.now.setup) g.P.Transform.rest (view_of g.C.Link.look g.O.Link.look c.args.self.now) c.enter_body-step.result c.settle_after.result c.args.relay.now c.enter_body-step.new.relay
+    c.settle_after.new.relay c.enter_body-step.ensures.lowers
+    (begun_goes (arc_value c.args.self.now.setup) g.P.Transform.rest (view_of g.C.Link.look g.O.Link.look c.args.self.now) c.enter_body-step.result c.enter_body-step.new.relay c.args.cx.now c.enter_body-step.new.cx c.enter_body-step.ensures.begins)
+    c.settle_after.ensures.settles.settled c.settle_after.ensures.relay
+
+pub returns-clause-due : goal.returns-clause-due
+returns-clause-due g c =
+    body_in_time c.enter_body-step.result c.args.main.now c.enter_body-step.new.relay c.settle_after.new.relay c.args.cx.now c.enter_body-step.new.cx c.settle_after.new.cx c.enter_body-step.ensures.begins
+    (ap (λ r. r.driven) c.settle_after.ensures.relay) c.settle_after.ensures.settles.adds c.enter_body-step.ensures.due c.settle_after.ensures.due

@@ -1,8 +1,9 @@
-use Rattle.std.proofs.Common.{◌≡◌, [], refl, sym, ap, subst, ◌∙◌}
-use Rattle.std.specs.Prelude.{IsTrue}
-use Rattle.ts_transform.specs.Flow.{ChainState, flow}
+use Rattle.std.proofs.Common.{◌≡◌, true, false, [], sym, ap, subst, ◌∙◌}
+use Rattle.ts_transform.specs.Flow.{ChainState, IsFinished, flow}
 use Rattle.std.specs.Arc.{arc_value}
 use Rattle.ts_txn.specs.View.{OriginRefuses, view_of}
+use Rattle.ts_hooks.specs.declared.txn_end.TxnEnd.TheVariants as E
+use Rattle.ts_txn.proofs.LoweringRelay.{idles, lowers_whole, queues_lacks}
 use Rattle.ts_txn.proofs.Relaying.{ends_whole, frames_lacks}
 use Rattle.ts_txn.proofs.parts.Core.end_some.Goals as goal
 
@@ -16,5 +17,17 @@ pub returns-clause-leads : goal.returns-clause-leads
 returns-clause-leads g c = λ told also.
     ends_whole (arc_value c.args.self.now.setup) (OriginRefuses g.C.Link.look g.O.Upstream.refuses c.args.self.now) g.P.Transform.rest
     (view_of g.C.Link.look g.O.Link.look c.args.self.now) (view_of g.C.Link.look g.O.Link.look c.end_body.new.self) c.args.relay.now.driven.chain c.args.relay.now.body
-    c.in-Ok.ensures.ok (sym (c.is_given.ensures ∙ ap (λ (k : ChainState _). k.given) c.chain.ensures) ∙ c.if-not-is_given.false)
-    (ap (λ (k : ChainState _). flow g.P.Transform.rest k []) (sym c.chain-2.ensures) ∙ c.is_finished.ensures.flow (subst IsTrue (sym c.if-not-is_finished.false) refl)) (c.requires.fact told also)
+    c.in-Ok.ensures.ok (sym (ap (λ (k : ChainState _). k.given) c.chain.ensures) ∙ c.has_given_all.ensures.given c.if-not-has_given_all.false)
+    (ap (λ (k : ChainState _). flow g.P.Transform.rest k []) (sym c.chain.ensures) ∙ c.has_given_all.ensures.all c.if-not-has_given_all.false) (c.requires.fact told also)
+
+pub returns-then-not-has_given_all-clause-lowers : goal.returns-then-not-has_given_all-clause-lowers
+returns-then-not-has_given_all-clause-lowers g c = λ now.
+    idles g.C.Link.tells g.O.Link.tells ((c.args.relay.now.driven.chain.given ≡ true) × IsFinished c.args.relay.now.driven.chain) (arc_value c.args.self.now.setup) g.P.Transform.rest (view_of g.C.Link.look g.O.Link.look c.args.self.now) c.args.relay.now now
+    (λ all. absurd (let wrong : false ≡ true = sym c.if-not-has_given_all.true ∙ c.has_given_all.ensures.only (ap (λ (k : ChainState _). k.given) c.chain.ensures ∙ all.0)
+    (subst (λ (k : ChainState _). IsFinished k) (sym c.chain.ensures) all.1) in cc))
+
+pub returns-in_default-clause-lowers : goal.returns-in_default-clause-lowers
+returns-in_default-clause-lowers g c = λ now. queues_lacks g.C.Link.tells g.O.Link.tells ((c.args.relay.now.driven.chain.given ≡ true) × IsFinished c.args.relay.now.driven.chain) (arc_value c.args.self.now.setup) g.P.Transform.rest (view_of g.C.Link.look g.O.Link.look c.args.self.now) (view_of g.C.Link.look g.O.Link.look c.end_body.new.self) c.args.relay.now now c.in_default.ensures.err
+
+pub returns-clause-lowers : goal.returns-clause-lowers
+returns-clause-lowers g c = λ now. lowers_whole g.C.Link.tells g.O.Link.tells ((c.args.relay.now.driven.chain.given ≡ true) × IsFinished c.args.relay.now.driven.chain) (arc_value c.args.self.now.setup) g.P.Transform.rest (view_of g.C.Link.look g.O.Link.look c.args.self.now) (view_of g.C.Link.look g.O.Link.look c.end_body.new.self) c.args.relay.now now E.Whole c.in-Ok.ensures.ok

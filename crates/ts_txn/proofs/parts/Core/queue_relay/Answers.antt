@@ -1,10 +1,12 @@
-use Rattle.std.proofs.Common.{◌≡◌, refl, ap, subst, ◌∙◌}
+use Rattle.std.proofs.Common.{refl, ap, subst, ◌∙◌}
 use Rattle.std.specs.Arc.{arc_value}
 use Rattle.ts_txn.specs.Block.{framing_for, relayed_head}
 use Rattle.ts_txn.specs.Relayed.{mode_of}
 use Rattle.ts_txn.specs.Entering.{IsFreshRelay}
 use Rattle.ts_txn.specs.View.{OriginRefuses, view_of}
+use Rattle.ts_txn.specs.LoweringBody.{HasRoom}
 use Rattle.ts_txn.proofs.Entered.{queues_head, unqueued}
+use Rattle.ts_txn.proofs.LoweringEntry.{queues_lower}
 use Rattle.ts_txn.proofs.parts.Core.queue_relay.Goals as goal
 
 pub returns-in_default-clause-err : goal.returns-in_default-clause-err
@@ -24,7 +26,7 @@ returns-in-Ok-queue_head-clause-ok g c = λ told also.
     queues_head (arc_value c.args.self.now.setup) (OriginRefuses g.C.Link.look g.O.Upstream.refuses c.args.self.now) g.P.Transform.rest
     (view_of g.C.Link.look g.O.Link.look c.args.self.now) (view_of g.C.Link.look g.O.Link.look c.queue_head.new.self) q h c.in-Ok.made c.bytes.result.now c.mode_of-mode.result
     (c.requires.fact told also)
-    (subst (λ s. IsFreshRelay g.P.Transform.rest s q.head h c.in-Ok.made) c.deref.ensures c.in-Ok.ensures)
+    (subst (λ s. IsFreshRelay g.P.Transform.rest s q.head h c.in-Ok.made) c.deref.ensures c.in-Ok.ensures.fresh)
     (c.bytes.ensures ∙ c.in-Ok-relayed_head.ensures ∙ ap (λ s. relayed_head s q.head h) c.deref-2.ensures)
     (c.mode_of-mode.ensures ∙ ap mode_of (c.framing_for.ensures ∙ ap (λ s. framing_for s q.head h) c.deref-3.ensures))
     c.in-Ok-queue_head.ensures.ok
@@ -34,3 +36,12 @@ returns-in-Err-clause-err g c = λ told also.
     unqueued (arc_value c.args.self.now.setup) (OriginRefuses g.C.Link.look g.O.Upstream.refuses c.args.self.now)
     (view_of g.C.Link.look g.O.Link.look c.args.self.now) (view_of g.C.Link.look g.O.Link.look c.queue_head.new.self) c.args.request.now c.args.head.now
     c.in-Err.ensures.err (c.requires.fact told also)
+
+pub returns-in-Ok-queue_head-clause-lowers : goal.returns-in-Ok-queue_head-clause-lowers
+returns-in-Ok-queue_head-clause-lowers g c =
+    let q = c.args.request.now in
+    let h = c.args.head.now in
+    queues_lower g.C.Link.tells g.O.Link.tells (arc_value c.args.self.now.setup) (OriginRefuses g.C.Link.look g.O.Upstream.refuses c.args.self.now) g.P.Transform.rest
+    (view_of g.C.Link.look g.O.Link.look c.args.self.now) (view_of g.C.Link.look g.O.Link.look c.queue_head.new.self) q h c.bytes.result.now c.mode_of-mode.result c.in-Ok.made c.requires.fact
+    (subst (λ s. HasRoom s g.P.Transform.rest c.in-Ok.made.driven.chain) c.deref.ensures c.in-Ok.ensures.room)
+    (c.bytes.ensures ∙ c.in-Ok-relayed_head.ensures ∙ ap (λ s. relayed_head s q.head h) c.deref-2.ensures) c.in-Ok-queue_head.ensures.ok

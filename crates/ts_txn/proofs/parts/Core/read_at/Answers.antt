@@ -1,7 +1,9 @@
-use Rattle.std.proofs.Common.{sym, ap, ◌∙◌}
+use Rattle.std.proofs.Common.{refl, sym, ap, ◌∙◌}
 use Rattle.std.specs.Arc.{arc_value}
 use Rattle.ts_txn.specs.View.{OriginRefuses, view_of}
 use Rattle.ts_txn.proofs.BodyEvents.{handles_quiet, handles_read, settled_as}
+use Rattle.ts_txn.proofs.BodyLinks.{links_quiet, links_read}
+use Rattle.ts_txn.proofs.LoweringPays.{quiet_pays, read_pays}
 use Rattle.ts_txn.proofs.parts.Core.read_at.Goals as goal
 
 pub returns-then-not-works-clause-handles : goal.returns-then-not-works-clause-handles
@@ -19,3 +21,24 @@ returns-clause-handles g c =
     handles_read c.args.event c.read_body-step.result c.settle_after.result (view_of g.C.Link.look g.O.Link.look c.args.self.now) (view_of g.C.Link.look g.O.Link.look c.read_body-step.new.self) c.args.main.now c.settle_after.new.main
     c.args.relay.now c.read_body-step.new.relay c.settle_after.new.relay c.args.cx.now c.read_body-step.new.cx c.settle_after.new.cx c.known.ensures c.read_body-step.ensures.chain (c.read_body-step.ensures.reader ∙ c.unrouse.ensures)
     (ap (λ x. x.driven) c.settle_after.ensures.relay) c.settle_after.ensures.settles
+
+pub returns-then-not-works-clause-links : goal.returns-then-not-works-clause-links
+returns-then-not-works-clause-links g c =
+    links_quiet g.C.Link.tells g.O.Link.tells (view_of g.C.Link.look g.O.Link.look c.args.self.now) c.args.main.now c.args.relay.now c.args.cx.now
+
+pub returns-clause-links : goal.returns-clause-links
+returns-clause-links g c =
+    links_read g.C.Link.tells g.O.Link.tells (view_of g.C.Link.look g.O.Link.look c.args.self.now) (view_of g.C.Link.look g.O.Link.look c.read_body-step.new.self) c.read_body-step.result c.settle_after.result
+    c.args.main.now c.args.relay.now c.read_body-step.new.relay c.settle_after.new.relay c.args.cx.now c.read_body-step.new.cx c.settle_after.new.cx c.read_body-step.ensures.links c.settle_after.ensures.settles.settled
+    (ap (λ x. x.driven) c.settle_after.ensures.relay)
+    c.read_body-step.ensures.chain (c.read_body-step.ensures.reader ∙ c.unrouse.ensures) c.settle_after.ensures.settles.adds c.settle_after.ensures.due
+
+pub returns-then-not-works-clause-pays : goal.returns-then-not-works-clause-pays
+returns-then-not-works-clause-pays g c = quiet_pays g.C.Link.tells g.O.Link.tells (arc_value c.args.self.now.setup) g.P.Transform.rest (view_of g.C.Link.look g.O.Link.look c.args.self.now) c.args.main.now c.args.relay.now c.args.cx.now
+
+pub returns-clause-pays : goal.returns-clause-pays
+returns-clause-pays g c =
+    read_pays g.C.Link.tells g.O.Link.tells (arc_value c.args.self.now.setup) g.P.Transform.rest c.read_body-step.result c.settle_after.result (view_of g.C.Link.look g.O.Link.look c.args.self.now) (view_of g.C.Link.look g.O.Link.look c.read_body-step.new.self) c.args.main.now c.args.main.now c.settle_after.new.main
+    c.args.relay.now (record c.args.relay.now { reader = c.unrouse.new.slot }) c.read_body-step.new.relay c.settle_after.new.relay c.args.cx.now c.read_body-step.new.cx c.settle_after.new.cx
+    (ap (λ x. record c.args.relay.now { reader = x }) c.unrouse.ensures) refl c.read_body-step.ensures.chain c.read_body-step.ensures.lowers
+    c.settle_after.ensures.settles c.settle_after.ensures.relay

@@ -1,5 +1,15 @@
+use Rattle.std.proofs.Common.{◌≡◌, true, false, sym, subst, ◌∙◌}
+use Rattle.std.specs.Arc.{arc_value}
+use Rattle.ts_transform.specs.Flow.{ChainState, MustRead}
+use Rattle.ts_txn.specs.View.{view_of}
 use Rattle.ts_txn.proofs.Chaining.{chain_still}
+use Rattle.ts_txn.proofs.LoweringRelay.{idles}
 use Rattle.ts_txn.proofs.parts.Core.read_body.Goals as goal
 
-pub returns-then-not-must_read-clause-chain : goal.returns-then-not-must_read-clause-chain
-returns-then-not-must_read-clause-chain g c = chain_still _ 2 c.args.relay.now.driven c.args.cx.now c.requires.turn
+pub returns-then-not-reads-clause-chain : goal.returns-then-not-reads-clause-chain
+returns-then-not-reads-clause-chain g c = chain_still _ 2 c.args.relay.now.driven c.args.cx.now c.requires.turn
+
+pub returns-then-not-reads-clause-lowers : goal.returns-then-not-reads-clause-lowers
+returns-then-not-reads-clause-lowers g c =
+    idles g.C.Link.tells g.O.Link.tells (MustRead c.args.relay.now.driven.chain) (arc_value c.args.self.now.setup) g.P.Transform.rest (view_of g.C.Link.look g.O.Link.look c.args.self.now) c.args.relay.now c.args.cx.now
+    (λ must. absurd (let wrong : false ≡ true = sym c.if-not-reads.true ∙ c.must_read-reads.ensures.1 (subst (λ (k : ChainState _). MustRead k) (sym c.chain.ensures) must) in cc))

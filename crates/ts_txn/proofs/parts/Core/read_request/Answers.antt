@@ -1,9 +1,12 @@
-use Rattle.std.proofs.Common.{rules, subst}
+use Rattle.std.proofs.Common.{◌∙◌, ap, rules, subst, sym}
 use Rattle.std.specs.Arc.{arc_value}
-use Rattle.ts_txn.specs.View.{OriginRefuses, view_of}
+use Rattle.ts_wire.specs.Check.{check}
+use Rattle.ts_wire.specs.declared.heads.RequestHead.{RequestHead}
+use Rattle.ts_txn.specs.View.{OriginRefuses, upload_told, view_of}
 use Rattle.ts_txn.specs.Moving.{HearsRequest}
 use Rattle.ts_txn.specs.Checking.{IsCheckedAs}
 use Rattle.ts_txn.specs.declared.reading.Found.TheVariants as F
+use Rattle.ts_txn.proofs.LoweringAnswers.{asks_passes}
 use Rattle.ts_txn.proofs.Asks.{ended_within, gave_nothing, never, refused}
 use Rattle.ts_txn.proofs.parts.Core.read_request.Goals as goal
 
@@ -37,3 +40,11 @@ returns-else-is_empty-clause-fact g c = λ told also.
     (subst (λ p. HearsRequest g.C.Link.tells (view_of g.C.Link.look g.O.Link.look c.args.self.now) (view_of g.C.Link.look g.O.Link.look c.hear_request.new.self) (F.Read p))
     c.in-Read-End.field-0-is c.in-Read-End.ensures.hears)
     (search rules)
+
+pub returns-in-Ok-Pass-clause-falls : goal.returns-in-Ok-Pass-clause-falls
+returns-in-Ok-Pass-clause-falls g c =
+    let checked = subst (λ r. IsCheckedAs c.in-Head.head r) c.in-Ok-Pass.field-0-is c.in-Ok-Pass.ensures in
+    asks_passes g.C.Link.tells g.O.Link.tells (arc_value c.args.self.now.setup) (view_of g.C.Link.look g.O.Link.look c.args.self.now) (view_of g.C.Link.look g.O.Link.look c.hear_request.new.self)
+    (upload_told g.O.Upstream.upload_left c.args.self.now.client.link c.args.self.now.origin) (upload_told g.O.Upstream.upload_left c.hear_request.new.self.client.link c.hear_request.new.self.origin)
+    c.in-Head.ensures.rises c.in-Ok-Pass.request (ap check checked.0 ∙ checked.1)
+    (subst (λ (h : RequestHead). HearsRequest g.C.Link.tells (view_of g.C.Link.look g.O.Link.look c.args.self.now) (view_of g.C.Link.look g.O.Link.look c.hear_request.new.self) (F.Head h)) (sym checked.0) c.in-Head.ensures.hears)

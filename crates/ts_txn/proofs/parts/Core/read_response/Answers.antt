@@ -1,9 +1,10 @@
 use Rattle.std.proofs.Common.{refl, subst}
 use Rattle.std.specs.Arc.{arc_value}
-use Rattle.ts_txn.specs.View.{OriginRefuses, view_of}
+use Rattle.ts_txn.specs.View.{OriginRefuses, upload_told, view_of}
 use Rattle.ts_txn.specs.Moving.{HearsResponse}
 use Rattle.ts_txn.specs.declared.reading.Found.TheVariants as F
 use Rattle.ts_txn.proofs.Asks.{lacks_memory}
+use Rattle.ts_txn.proofs.LoweringAnswers.{hears_final, hears_some}
 use Rattle.ts_txn.proofs.Responding.{awaits_any, awaits_on, awaits_still, ended_early, failed_early, interim, no_head, refused_head, relays}
 use Rattle.ts_txn.proofs.parts.Core.read_response.Goals as goal
 
@@ -70,3 +71,17 @@ returns-in-NoMemory-clause-fact g c = λ told also.
     lacks_memory setup refuses w (awaits_any setup refuses w c.args.request
     (awaits_still setup refuses g.O.Link.tells (view_of g.C.Link.look g.O.Link.look c.args.self.now) w c.args.request also
     (c.requires.fact told also) c.in-NoMemory.ensures.hears))
+
+pub returns-then-is_good-clause-falls : goal.returns-then-is_good-clause-falls
+returns-then-is_good-clause-falls g c =
+    hears_final g.C.Link.tells g.O.Link.tells (arc_value c.args.self.now.setup) (view_of g.C.Link.look g.O.Link.look c.args.self.now) (view_of g.C.Link.look g.O.Link.look c.hear_response.new.self)
+    (upload_told g.O.Upstream.upload_left c.args.self.now.client.link c.args.self.now.origin) (upload_told g.O.Upstream.upload_left c.hear_response.new.self.client.link c.hear_response.new.self.origin)
+    c.in-Head.ensures.rises c.args.request c.in-Head.head c.in-Head.ensures.hears
+
+pub returns-in-Read-Some-clause-falls : goal.returns-in-Read-Some-clause-falls
+returns-in-Read-Some-clause-falls g c =
+    hears_some g.C.Link.tells g.O.Link.tells (arc_value c.args.self.now.setup) (view_of g.C.Link.look g.O.Link.look c.args.self.now) (view_of g.C.Link.look g.O.Link.look c.hear_response.new.self)
+    (upload_told g.O.Upstream.upload_left c.args.self.now.client.link c.args.self.now.origin) (upload_told g.O.Upstream.upload_left c.hear_response.new.self.client.link c.hear_response.new.self.origin)
+    c.in-Read-Some.ensures.rises c.args.request _
+    (subst (λ p. HearsResponse g.O.Link.tells (view_of g.C.Link.look g.O.Link.look c.args.self.now) (view_of g.C.Link.look g.O.Link.look c.hear_response.new.self) (F.Read p))
+    c.in-Read-Some.field-0-is c.in-Read-Some.ensures.hears)

@@ -1,8 +1,10 @@
 use Rattle.std.proofs.Common.{refl, sym, subst}
 use Rattle.ts_txn.specs.View.{view_of}
+use Rattle.ts_txn.specs.BodyLinks.{OnlyOfEnds, is_late, pause_if}
 use Rattle.ts_txn.specs.Duties.{SettlesAfter}
 use Rattle.ts_txn.specs.declared.finishing.BodyStep.TheVariants as S
 use Rattle.ts_txn.proofs.BodyEvents.{settles_after, settles_none}
+use Rattle.ts_txn.proofs.BodyLinks.{ends_none}
 use Rattle.ts_txn.proofs.parts.Core.settle_after.Goals as goal
 
 pub returns-in-Goes-clause-settles : goal.returns-in-Goes-clause-settles
@@ -31,3 +33,22 @@ pub returns-in-Lacks-clause-settles : goal.returns-in-Lacks-clause-settles
 returns-in-Lacks-clause-settles g c =
     subst (λ x. SettlesAfter x S.Lacks (view_of g.C.Link.look g.O.Link.look c.args.self.now) c.args.main.now c.args.main.now c.args.relay.now c.args.relay.now c.args.cx.now c.args.cx.now) (sym c.in-Lacks.is)
     (settles_none S.Lacks (view_of g.C.Link.look g.O.Link.look c.args.self.now) c.args.main.now c.args.relay.now c.args.cx.now c.requires.turn refl (λ X. tt))
+
+pub returns-in-Goes-clause-due : goal.returns-in-Goes-clause-due
+returns-in-Goes-clause-due g c =
+    subst (λ x. OnlyOfEnds (pause_if (is_late x) c.args.pauses.0) (pause_if (is_late x) c.args.pauses.1) c.args.main.now c.args.relay.now.reader c.args.cx.now c.settle_body.new.cx) (sym c.in-Goes.is)
+    c.settle_body.ensures.due
+
+pub returns-in-Waits-clause-due : goal.returns-in-Waits-clause-due
+returns-in-Waits-clause-due g c =
+    subst (λ x. OnlyOfEnds (pause_if (is_late x) c.args.pauses.0) (pause_if (is_late x) c.args.pauses.1) c.args.main.now c.args.relay.now.reader c.args.cx.now c.settle_body-in-Waits.new.cx) (sym c.in-Waits.is)
+    c.settle_body-in-Waits.ensures.due
+
+pub returns-in-Finishes-clause-due : goal.returns-in-Finishes-clause-due
+returns-in-Finishes-clause-due g c = ends_none _ _ c.args.main.now c.args.relay.now.reader c.args.cx.now
+
+pub returns-in-Closes-clause-due : goal.returns-in-Closes-clause-due
+returns-in-Closes-clause-due g c = ends_none _ _ c.args.main.now c.args.relay.now.reader c.args.cx.now
+
+pub returns-in-Lacks-clause-due : goal.returns-in-Lacks-clause-due
+returns-in-Lacks-clause-due g c = ends_none _ _ c.args.main.now c.args.relay.now.reader c.args.cx.now

@@ -14,18 +14,18 @@ returns-in-ResponseTransform-clause-fact g c = λ told also.
     let refuses = OriginRefuses g.C.Link.look g.O.Upstream.refuses c.args.self.now in
     let v = view_of g.C.Link.look g.O.Link.look c.args.self.now in
     lacks_memory setup refuses v
-    (relays_any setup refuses v _ _ (subst (λ (p : Phase). PhaseFact setup refuses v p) c.in-ResponseTransform.is (c.requires.fact told also)))
+    (relays_any setup refuses v _ _ (subst (λ (p : Phase). PhaseFact setup refuses v p) c.in-ResponseTransform.is (c.requires.stands.0 told also)))
 
 pub returns-in-TxnClose-clause-fact : goal.returns-in-TxnClose-clause-fact
 returns-in-TxnClose-clause-fact g c = λ told also.
     let setup = arc_value c.args.self.now.setup in
     let refuses = OriginRefuses g.C.Link.look g.O.Upstream.refuses c.args.self.now in
     let v = view_of g.C.Link.look g.O.Link.look c.args.self.now in
-    subst (λ (p : Phase). PhaseFact setup refuses v p) c.in-TxnClose.is (c.requires.fact told also)
+    subst (λ (p : Phase). PhaseFact setup refuses v p) c.in-TxnClose.is (c.requires.stands.0 told also)
 
 pub returns-clause-fact : goal.returns-clause-fact
 returns-clause-fact g c = λ told also.
     let setup = arc_value c.args.self.now.setup in
     let refuses = OriginRefuses g.C.Link.look g.O.Upstream.refuses c.args.self.now in
     let v = view_of g.C.Link.look g.O.Link.look c.args.self.now in
-    subst (λ (p : Phase). PhaseFact setup refuses v p) c.in-Ended.is (c.requires.fact told also)
+    subst (λ (p : Phase). PhaseFact setup refuses v p) c.in-Ended.is (c.requires.stands.0 told also)

@@ -1,4 +1,9 @@
+use Rattle.std.proofs.Common.{◌≡◌, true, false, sym, ◌∙◌}
 use Rattle.std.specs.Arc.{arc_value}
+use Rattle.ts_hooks.specs.declared.txn_end.TxnEnd.TheVariants as E
+use Rattle.ts_vconn.specs.declared.moves.Pushed.TheVariants as V
+use Rattle.ts_txn.specs.Duties.{MustSend}
+use Rattle.ts_txn.proofs.LoweringRelay as lowering
 use Rattle.ts_txn.specs.View.{OriginRefuses, view_of}
 use Rattle.ts_txn.proofs.Relaying.{writes_lacks, writes_left, writes_on}
 use Rattle.ts_txn.proofs.Chaining.{chain_still}
@@ -39,3 +44,23 @@ returns-in-NoMemory-clause-leads g c = λ told also.
 
 pub returns-in-NoMemory-clause-chain : goal.returns-in-NoMemory-clause-chain
 returns-in-NoMemory-clause-chain g c = chain_still _ 1 c.args.relay.now.driven c.args.cx.now c.requires.turn
+
+pub returns-in-Some-clause-lowers : goal.returns-in-Some-clause-lowers
+returns-in-Some-clause-lowers g c =
+    lowering.writes_goes g.C.Link.tells g.O.Link.tells (MustSend (view_of g.C.Link.look g.O.Link.look c.args.self.now) c.args.relay.now.driven.chain) (arc_value c.args.self.now.setup) g.P.Transform.rest (view_of g.C.Link.look g.O.Link.look c.args.self.now) (view_of g.C.Link.look g.O.Link.look c.write_client.new.self) c.args.relay.now c.args.cx.now _ c.in-Some.ensures.writes
+
+pub returns-in-Nothing-clause-lowers : goal.returns-in-Nothing-clause-lowers
+returns-in-Nothing-clause-lowers g c =
+    lowering.writes_nothing g.C.Link.tells g.O.Link.tells (MustSend (view_of g.C.Link.look g.O.Link.look c.args.self.now) c.args.relay.now.driven.chain) (arc_value c.args.self.now.setup) g.P.Transform.rest (view_of g.C.Link.look g.O.Link.look c.args.self.now) (view_of g.C.Link.look g.O.Link.look c.write_client.new.self) c.args.relay.now c.args.cx.now c.in-Nothing.ensures.writes (λ none. absurd (let wrong : false ≡ true = sym c.if-is_empty.false ∙ c.is_empty.ensures.1 none in cc))
+
+pub returns-in-Again-clause-lowers : goal.returns-in-Again-clause-lowers
+returns-in-Again-clause-lowers g c =
+    lowering.writes_waits g.C.Link.tells g.O.Link.tells (MustSend (view_of g.C.Link.look g.O.Link.look c.args.self.now) c.args.relay.now.driven.chain) (arc_value c.args.self.now.setup) g.P.Transform.rest (view_of g.C.Link.look g.O.Link.look c.args.self.now) (view_of g.C.Link.look g.O.Link.look c.write_client.new.self) c.args.relay.now c.args.cx.now c.in-Again.ensures.writes
+
+pub returns-in-Failed-clause-lowers : goal.returns-in-Failed-clause-lowers
+returns-in-Failed-clause-lowers g c =
+    lowering.writes_closes g.C.Link.tells g.O.Link.tells (MustSend (view_of g.C.Link.look g.O.Link.look c.args.self.now) c.args.relay.now.driven.chain) (arc_value c.args.self.now.setup) g.P.Transform.rest (view_of g.C.Link.look g.O.Link.look c.args.self.now) (view_of g.C.Link.look g.O.Link.look c.write_client.new.self) c.args.relay.now c.args.cx.now V.Failed E.ClientFault c.in-Failed.ensures.writes
+
+pub returns-in-NoMemory-clause-lowers : goal.returns-in-NoMemory-clause-lowers
+returns-in-NoMemory-clause-lowers g c =
+    lowering.writes_lacks g.C.Link.tells g.O.Link.tells (MustSend (view_of g.C.Link.look g.O.Link.look c.args.self.now) c.args.relay.now.driven.chain) (arc_value c.args.self.now.setup) g.P.Transform.rest (view_of g.C.Link.look g.O.Link.look c.args.self.now) (view_of g.C.Link.look g.O.Link.look c.write_client.new.self) c.args.relay.now c.args.cx.now V.NoMemory c.in-NoMemory.ensures.writes

@@ -1,0 +1,547 @@
+-- The steps of a body, and what they do with the two links: which counts rise, and which events are set when.
+use Rattle.std.proofs.Common.{◌≡◌, ℕ, zero, suc, ◌+◌, ◌-◌, ◌<◌, ◌≤◌, ◌⊎◌, inl, inr, List, [], ◌∷◌, ◌++◌, Bool, true, false, Option, Some, None, Result, Ok, Err, eqb, leb, length, length-append, drop, refl, sym, ap, subst, ◌∙◌, arith}
+use Rattle.std.proofs.lemmas.List.{length-drop}
+use Rattle.std.proofs.lemmas.Bool.Decides.{eqb_tells, leb_tells}
+use Rattle.std.specs.Prelude.{⊤}
+use Rattle.ts_hooks.specs.declared.txn_end.TxnEnd.{TxnEnd}
+use Rattle.ts_hooks.specs.declared.txn_end.TxnEnd.TheVariants as E
+use Rattle.ts_journal.specs.declared.entry.Event.{Event}
+use Rattle.ts_journal.specs.declared.entry.Pending.{Pending}
+use Rattle.ts_journal.specs.State.{pending_at}
+use Rattle.ts_group.specs.declared.action.Named.{Named}
+use Rattle.ts_group.specs.declared.action.SetFault.{SetFault}
+use Rattle.ts_group.specs.declared.action.SetFault.TheVariants as F
+use Rattle.ts_group.specs.Context.{Context, IsSame}
+use Rattle.ts_link.specs.Link.{Calls, Look, NoMore}
+use Rattle.ts_transform.specs.Acting.{IsStage}
+use Rattle.ts_transform.specs.Cover.{IsRousing, MaySet}
+use Rattle.ts_transform.specs.Driven.{Acts, IsDrivenWhile, IsOfNoStage}
+use Rattle.ts_transform.specs.Driving.{AreNamed, IsNamedIf, IsOfStageIf, IsRousingOf, Keeps, KeepsOthers, SetsOnly, changed, unroused, unroused_at, unroused_for, works_at}
+use Rattle.ts_transform.specs.Flow.{ChainState, MustRead, PumpsOnce, StepsAt, Takes, TakesAway}
+use Rattle.ts_transform.specs.Stage.{Steps}
+use Rattle.ts_transform.specs.declared.pump.Pumped.{Pumped}
+use Rattle.ts_transform.specs.declared.pump.Pumped.TheVariants as U
+use Rattle.ts_transform.specs.declared.pump.Stage.{Stage}
+use Rattle.ts_transform.specs.declared.continuation.StageContinuation.{StageContinuation}
+use Rattle.ts_transform.specs.declared.driven.DrivenChain.{DrivenChain}
+use Rattle.ts_transform.proofs.Setting.{named_same, of_stages_named, only_none, only_same, only_trans, only_weaker}
+use Rattle.ts_transform.proofs.Told.{same_unroused}
+use Rattle.ts_vconn.specs.MoveAnswers.{Came, Went, pull_again, pull_failed, push_again, push_failed}
+use Rattle.ts_vconn.specs.declared.moves.Pulled.{Pulled}
+use Rattle.ts_vconn.specs.declared.moves.Pulled.TheVariants as L
+use Rattle.ts_vconn.specs.declared.moves.Pushed.{Pushed}
+use Rattle.ts_vconn.specs.declared.moves.Pushed.TheVariants as V
+use Rattle.ts_vconn.specs.declared.moves.TheConstants.{MOST_PULLED}
+use Rattle.ts_wire.specs.declared.body.BodyState.{BodyState}
+use Rattle.ts_wire.specs.declared.body.BodyState.TheVariants as B
+use Rattle.ts_wire.specs.Place.{Place, state_of}
+use Rattle.ts_txn.specs.View.{LinkSide, View}
+use Rattle.ts_txn.specs.Moving.{WritesClient}
+use Rattle.ts_txn.specs.RelayMoves.{QueuesText, ReadsOrigin}
+use Rattle.ts_txn.specs.Feeding.{DrainsOrigin, FeedsBody, FeedsTo, GetsPart, OnGoes}
+use Rattle.ts_txn.specs.Relaying.{AddsSome, IsOfRoleFrom, StepsChain, step_after}
+use Rattle.ts_txn.specs.Duties.{SettledAs, UnlessLacking}
+use Rattle.ts_txn.specs.Entering.{BeginsRelay}
+use Rattle.ts_txn.specs.BodyLinks.{BeginsInTime, HandlesLinks, HoldsLittle, IsOfEnd, IsUnread, IsUnwritten, MindsBody, OnlyOfBody, OnlyOfEnds, RestLeads, SendsRest, is_client_fault, is_late, is_origin_fault, pause_if}
+use Rattle.ts_txn.specs.declared.driver.TheConstants.{MAIN, RETRY}
+use Rattle.ts_txn.specs.declared.finishing.BodyStep.{BodyStep}
+use Rattle.ts_txn.specs.declared.finishing.BodyStep.TheVariants as S
+use Rattle.ts_txn.specs.declared.relay.Relay.{Relay}
+use Rattle.ts_txn.specs.declared.relay.TheConstants.{FIRST, READER}
+
+-- ---- a link that is not called
+
+no_more : (n : Option ℕ) → NoMore n n
+no_more None = tt
+no_more (Some n) = omega arith
+
+calls_none : (l m : Look) → m ≡ l → Calls l m false false
+calls_none l m same = subst (λ x. Calls l x false false) (sym same) (record { source = refl; name = refl; plan = refl; faults = refl; waits = refl; agains = no_more l.agains })
+
+calls_as : (l m : Look) (failed waited f g : Bool) → f ≡ failed → g ≡ waited → Calls l m failed waited → Calls l m f g
+calls_as l m failed waited f g failed_is waited_is calls = subst (λ x. Calls l m x g) (sym failed_is) (subst (λ x. Calls l m failed x) (sym waited_is) calls)
+
+unread_same : (t : Bool) (s u : LinkSide) → u ≡ s → IsUnread t s u
+unread_same t s u same = record { reads = ap (λ x. x.look.reads) same; held = ap (λ x. x.inbox) same; given = λ told. ap (λ x. x.look.given) same }
+
+unwritten_same : (t : Bool) (s u : LinkSide) → u ≡ s → IsUnwritten t s u
+unwritten_same t s u same = record { writes = ap (λ x. x.look.writes) same; waits = ap (λ x. x.outbox) same; taken = λ told. ap (λ x. x.look.taken) same }
+
+-- ---- answers that name no fault, and no link that was not ready
+
+pub record IsCalm (step : BodyStep) : Type 0 where
+  pub client : is_client_fault step ≡ false
+  pub origin : is_origin_fault step ≡ false
+  pub late : is_late step ≡ false
+
+pub calm_after : (f : Result ⊤ SetFault) (step : BodyStep) → step ≡ step_after f → IsCalm step
+calm_after (Ok x) step is = subst IsCalm (sym is) (record { client = refl; origin = refl; late = refl })
+calm_after (Err F.Spent) step is = subst IsCalm (sym is) (record { client = refl; origin = refl; late = refl })
+calm_after (Err F.NoMemory) step is = subst IsCalm (sym is) (record { client = refl; origin = refl; late = refl })
+calm_after (Err F.Dead) step is = subst IsCalm (sym is) (record { client = refl; origin = refl; late = refl })
+
+pub calm_goes : (X : Type 0) (step : BodyStep) → OnGoes step X → IsCalm step
+calm_goes X S.Goes goes = record { client = refl; origin = refl; late = refl }
+calm_goes X S.Waits goes = absurd goes
+calm_goes X (S.Finishes end) goes = absurd goes
+calm_goes X (S.Closes end) goes = absurd goes
+calm_goes X S.Lacks goes = record { client = refl; origin = refl; late = refl }
+
+pub calm_feeds : {P : Type 0} (step : BodyStep) (old new : Place) (before after : List ℕ) (c d : ChainState P) → FeedsTo step old new before after c d → IsCalm step
+calm_feeds S.Goes old new before after c d feeds = record { client = refl; origin = refl; late = refl }
+calm_feeds S.Waits old new before after c d feeds = absurd feeds
+calm_feeds (S.Finishes end) old new before after c d (fed, bad, is) = subst (λ e. IsCalm (S.Finishes e)) (sym is) (record { client = refl; origin = refl; late = refl })
+calm_feeds (S.Closes end) old new before after c d feeds = absurd feeds
+calm_feeds S.Lacks old new before after c d feeds = record { client = refl; origin = refl; late = refl }
+
+-- ---- what is held
+
+no_longer : (xs ys : List ℕ) → ys ≡ xs → length ys ≤ length xs
+no_longer xs ys same = omega (arith, ap length same)
+
+no_longer_drop : (n : ℕ) (xs ys : List ℕ) → ys ≡ drop n xs → length ys ≤ length xs
+no_longer_drop n xs ys same = omega (arith, ap length same, length-drop n xs)
+
+holds_kept : {P : Type 0} (v w : View) (c d : ChainState P) → length w.origin.inbox ≤ length v.origin.inbox → length d.first ≤ length c.first → HoldsLittle v c → HoldsLittle w d
+holds_kept v w c d inbox first h = record { held = omega (arith, inbox, h.held); front = omega (arith, first, h.front) }
+
+unless_lacking : (X : Type 0) (step : BodyStep) → X → UnlessLacking step X
+unless_lacking X S.Goes h = h
+unless_lacking X S.Waits h = h
+unless_lacking X (S.Finishes end) h = h
+unless_lacking X (S.Closes end) h = h
+unless_lacking X S.Lacks h = tt
+
+-- what is taken from the end of a chain leaves no more at its front
+taken_shorter : {P : Type 0} (from : List ℕ) (ss : List (Stage P)) (n : ℕ) (from' : List ℕ) (ss' : List (Stage P)) → Takes from ss n from' ss' → length from' ≤ length from
+taken_shorter from [] n from' ss' takes = no_longer_drop n from from' takes.0
+taken_shorter from (s ∷ ss) n from' [] takes = absurd takes
+taken_shorter from (s ∷ ss) n from' (s' ∷ ss') takes = no_longer from from' takes.0
+
+-- nor does the work of a stage
+steps_shorter : {P : Type 0} (rest : P → List ℕ → List ℕ) (from : List ℕ) (s : Stage P) (r : Pumped) (from' : List ℕ) (s' : Stage P) → Steps rest from s r from' s' → length from' ≤ length from
+steps_shorter rest from s (U.Moved n) from' s' steps = no_longer_drop n from from' steps.0
+steps_shorter rest from s U.Ended from' s' steps = no_longer from from' steps.0
+steps_shorter rest from s (U.Blocked n) from' s' steps = no_longer from from' steps.0
+steps_shorter rest from s U.Idle from' s' steps = no_longer from from' steps.0
+
+pumped_shorter : {P : Type 0} (rest : P → List ℕ → List ℕ) (from : List ℕ) (ss : List (Stage P)) (at : ℕ) (r : Pumped) (from' : List ℕ) (ss' : List (Stage P)) → StepsAt rest from ss at r from' ss'
+    → length from' ≤ length from
+pumped_shorter rest from [] at r from' ss' steps = absurd steps
+pumped_shorter rest from (s ∷ ss) at r from' [] steps = absurd steps
+pumped_shorter rest from (s ∷ ss) zero r from' (s' ∷ ss') steps = steps_shorter rest from s r from' s' steps.0
+pumped_shorter rest from (s ∷ ss) (suc at) r from' (s' ∷ ss') steps = no_longer from from' steps.0
+
+once_shorter : {P : Type 0} (rest : P → List ℕ → List ℕ) (c d : ChainState P) → PumpsOnce rest c d → length d.first ≤ length c.first
+once_shorter rest c d (inl same) = no_longer c.first d.first (ap (λ k. k.first) same)
+once_shorter rest c d (inr (at, pumps)) = pumped_shorter rest c.first c.stages at pumps.pumped d.first d.stages pumps.steps
+
+-- a read brings no more than one piece, where nothing waited
+came_few : (p : Pulled) (most : ℕ) (more : List ℕ) → most ≤ MOST_PULLED → Came p most more → length more ≤ MOST_PULLED
+came_few (L.Some n) most more few came = omega (arith, few, came.0, came.2)
+came_few L.End most more few came = omega (arith, ap length came)
+came_few L.Again most more few came = omega (arith, ap length came)
+came_few L.Failed most more few came = omega (arith, ap length came)
+
+read_few : (t : Bool) (v w : View) (p : Pulled) → v.origin.inbox ≡ [] → ReadsOrigin t v w p → length w.origin.inbox ≤ MOST_PULLED
+read_few t v w p none reads =
+    let few = came_few p reads.origin.most reads.origin.pulls.more reads.origin.few reads.origin.pulls.pulls.came in
+    omega (arith, few, ap length (reads.origin.pulls.grows ∙ ap (λ (x : List ℕ). x ++ reads.origin.pulls.more) none))
+
+went_shorter : (p : Pushed) (before after : List ℕ) → Went p before after → length after ≤ length before
+went_shorter (V.Some n) before after went = no_longer_drop n before after went.2
+went_shorter V.Nothing before after went = no_longer before after went.1
+went_shorter V.Again before after went = no_longer before after went.1
+went_shorter V.Failed before after went = no_longer before after went.1
+went_shorter V.NoMemory before after went = no_longer before after went.1
+
+-- what is fed comes to the front of the chain, which had room
+fed_first : {P : Type 0} (state : BodyState) (part : List ℕ) (c d : ChainState P) → GetsPart state part c d → length d.first ≤ length c.first + length part
+fed_first B.Unfinished part c d gets = omega (arith, ap (λ k. length k.first) gets, length-append c.first part)
+fed_first B.Ended part c d gets = omega (arith, ap (λ k. length k.first) gets, length-append c.first part)
+fed_first B.Bad part c d gets = omega (arith, ap (λ k. length k.first) gets)
+
+fed_holds : {P : Type 0} (v w : View) (c d : ChainState P) (old new : Place) → MustRead c → FeedsBody old new v.origin.inbox w.origin.inbox c d → HoldsLittle v c → HoldsLittle w d
+fed_holds v w c d old new must fed h =
+    let all : length v.origin.inbox ≡ length fed.piece + length w.origin.inbox = ap length fed.taken ∙ length-append fed.piece w.origin.inbox in
+    record {
+      held = omega (arith, all, h.held);
+      front = omega (arith, all, h.held, must.1, fed.within, fed_first (state_of new.phase) fed.part c d fed.gets);
+    }
+
+feeds_holds : {P : Type 0} (step : BodyStep) (v w : View) (c d : ChainState P) (old new : Place) → MustRead c → FeedsTo step old new v.origin.inbox w.origin.inbox c d
+    → UnlessLacking step (HoldsLittle v c → HoldsLittle w d)
+feeds_holds S.Goes v w c d old new must feeds = fed_holds v w c d old new must feeds.0
+feeds_holds S.Waits v w c d old new must feeds = absurd feeds
+feeds_holds (S.Finishes end) v w c d old new must feeds = fed_holds v w c d old new must feeds.0
+feeds_holds (S.Closes end) v w c d old new must feeds = absurd feeds
+feeds_holds S.Lacks v w c d old new must feeds = tt
+
+-- ---- the calls of a step
+
+module _ {P : Type 0} (ct ot : Bool) (v w : View) (c d : ChainState P) (step : BodyStep) (cl ol : Bool) where
+  -- nothing was called
+  still_minds : IsCalm step → cl ≡ false → ol ≡ false → w ≡ v → length d.first ≤ length c.first → MindsBody ct ot v w c d step cl ol
+  still_minds calm no_client no_origin same shorter = record {
+    client = calls_as v.client.look w.client.look false false (is_client_fault step) cl calm.client no_client (calls_none v.client.look w.client.look (ap (λ x. x.client.look) same));
+    origin = calls_as v.origin.look w.origin.look false false (is_origin_fault step) ol calm.origin no_origin (calls_none v.origin.look w.origin.look (ap (λ x. x.origin.look) same));
+    reads = inl (ap (λ x. x.origin) same);
+    unread = unread_same ct v.client w.client (ap (λ x. x.client) same);
+    unwritten = unwritten_same ot v.origin w.origin (ap (λ x. x.origin) same);
+    queues = inl (no_longer v.client.outbox w.client.outbox (ap (λ x. x.client.outbox) same));
+    holds = unless_lacking (HoldsLittle v c → HoldsLittle w d) step (holds_kept v w c d (no_longer v.origin.inbox w.origin.inbox (ap (λ x. x.origin.inbox) same)) shorter);
+  }
+
+  pub minds_none : IsCalm step → cl ≡ false → ol ≡ false → w ≡ v → d ≡ c → MindsBody ct ot v w c d step cl ol
+  minds_none calm no_client no_origin same chain = still_minds calm no_client no_origin same (no_longer c.first d.first (ap (λ k. k.first) chain))
+
+  -- a text was queued for the client
+  queued_minds : (text cuts : List ℕ) → IsCalm step → cl ≡ false → ol ≡ false → v.client.outbox ≡ [] → QueuesText text cuts v w → length d.first ≤ length c.first → MindsBody ct ot v w c d step cl ol
+  queued_minds text cuts calm no_client no_origin none queued shorter =
+      let look : w.client.look ≡ v.client.look = ap (λ (s : LinkSide). s.look) queued.client in
+      record {
+        client = calls_as v.client.look w.client.look false false (is_client_fault step) cl calm.client no_client (calls_none v.client.look w.client.look look);
+        origin = calls_as v.origin.look w.origin.look false false (is_origin_fault step) ol calm.origin no_origin (calls_none v.origin.look w.origin.look (ap (λ x. x.look) queued.origin));
+        reads = inl queued.origin;
+        unread = record { reads = ap (λ (l : Look). l.reads) look; held = ap (λ (s : LinkSide). s.inbox) queued.client; given = λ told. ap (λ (l : Look). l.given) look };
+        unwritten = unwritten_same ot v.origin w.origin queued.origin;
+        queues = inr none;
+        holds = unless_lacking (HoldsLittle v c → HoldsLittle w d) step (holds_kept v w c d (no_longer v.origin.inbox w.origin.inbox (ap (λ (s : LinkSide). s.inbox) queued.origin)) shorter);
+      }
+
+  pub minds_queued : (text cuts : List ℕ) → IsCalm step → cl ≡ false → ol ≡ false → v.client.outbox ≡ [] → d ≡ c → QueuesText text cuts v w → MindsBody ct ot v w c d step cl ol
+  minds_queued text cuts calm no_client no_origin none chain queued = queued_minds text cuts calm no_client no_origin none queued (no_longer c.first d.first (ap (λ k. k.first) chain))
+
+  -- that of a piece, which was taken from the chain
+  pub minds_framed : (text cuts : List ℕ) (rest : P → List ℕ → List ℕ) (n : ℕ) → IsCalm step → cl ≡ false → ol ≡ false → v.client.outbox ≡ [] → TakesAway rest n c d → QueuesText text cuts v w
+      → MindsBody ct ot v w c d step cl ol
+  minds_framed text cuts rest n calm no_client no_origin none takes queued =
+      queued_minds text cuts calm no_client no_origin none queued (taken_shorter c.first c.stages n d.first d.stages takes.takes)
+
+  -- what waits of the origin's bytes was used
+  pub minds_drained : (old new : Place) → cl ≡ false → ol ≡ is_late step → MustRead c → FeedsTo step old new v.origin.inbox w.origin.inbox c d → DrainsOrigin v w → MindsBody ct ot v w c d step cl ol
+  minds_drained old new no_client late must feeds drains =
+      let look : w.origin.look ≡ v.origin.look = ap (λ (x : View). x.origin.look) drains in
+      let calm = calm_feeds step old new v.origin.inbox w.origin.inbox c d feeds in
+      record {
+        client = calls_as v.client.look w.client.look false false (is_client_fault step) cl calm.client no_client (calls_none v.client.look w.client.look (ap (λ (x : View). x.client.look) drains));
+        origin = calls_as v.origin.look w.origin.look false false (is_origin_fault step) ol calm.origin (late ∙ calm.late) (calls_none v.origin.look w.origin.look look);
+        reads = inr must;
+        unread = unread_same ct v.client w.client (ap (λ (x : View). x.client) drains);
+        unwritten = record { writes = ap (λ (l : Look). l.writes) look; waits = ap (λ (x : View). x.origin.outbox) drains; taken = λ told. ap (λ (l : Look). l.taken) look };
+        queues = inl (no_longer v.client.outbox w.client.outbox (ap (λ (x : View). x.client.outbox) drains));
+        holds = feeds_holds step v w c d old new must feeds;
+      }
+
+  -- what waits for the client was written
+  pub minds_wrote : (p : Pushed) → is_client_fault step ≡ push_failed p → cl ≡ push_again p → is_origin_fault step ≡ false → ol ≡ false → d ≡ c → WritesClient ct v w p → MindsBody ct ot v w c d step cl ol
+  minds_wrote p failed again no_origin ready chain writes =
+      let origin : w.origin ≡ v.origin = ap (λ (x : View). x.origin) writes.others in
+      record {
+        client = calls_as v.client.look w.client.look (push_failed p) (push_again p) (is_client_fault step) cl failed again writes.client.pushes.calls;
+        origin = calls_as v.origin.look w.origin.look false false (is_origin_fault step) ol no_origin ready (calls_none v.origin.look w.origin.look (ap (λ (s : LinkSide). s.look) origin));
+        reads = inl origin;
+        unread = record { reads = writes.client.pushes.once.reads; held = writes.client.inbox; given = λ told. (writes.client.pushes.told told).given };
+        unwritten = unwritten_same ot v.origin w.origin origin;
+        queues = inl (went_shorter p v.client.outbox w.client.outbox writes.client.pushes.went);
+        holds = unless_lacking (HoldsLittle v c → HoldsLittle w d) step
+            (holds_kept v w c d (no_longer v.origin.inbox w.origin.inbox (ap (λ (s : LinkSide). s.inbox) origin)) (no_longer c.first d.first (ap (λ k. k.first) chain)));
+      }
+
+  -- the origin was read
+  read_minds : (p : Pulled) → is_origin_fault step ≡ pull_failed p → ol ≡ pull_again p → is_client_fault step ≡ false → cl ≡ false → MustRead c → v.origin.inbox ≡ [] → ReadsOrigin ot v w p
+      → UnlessLacking step (length d.first ≤ length c.first) → MindsBody ct ot v w c d step cl ol
+  read_minds p failed again no_client ready must none reads shorter =
+      let client : w.client ≡ v.client = ap (λ (x : View). x.client) reads.others in
+      record {
+        client = calls_as v.client.look w.client.look false false (is_client_fault step) cl no_client ready (calls_none v.client.look w.client.look (ap (λ (s : LinkSide). s.look) client));
+        origin = calls_as v.origin.look w.origin.look (pull_failed p) (pull_again p) (is_origin_fault step) ol failed again reads.origin.pulls.pulls.calls;
+        reads = inr must;
+        unread = unread_same ct v.client w.client client;
+        unwritten = record { writes = reads.origin.pulls.pulls.once.writes; waits = reads.origin.outbox; taken = λ told. (reads.origin.pulls.pulls.told told).taken };
+        queues = inl (no_longer v.client.outbox w.client.outbox (ap (λ (s : LinkSide). s.outbox) client));
+        holds = read_holds step shorter;
+      }
+    where
+      by_first : length d.first ≤ length c.first → HoldsLittle v c → HoldsLittle w d
+      by_first first h = record { held = read_few ot v w p none reads; front = omega (arith, first, h.front) }
+
+      read_holds : (step : BodyStep) → UnlessLacking step (length d.first ≤ length c.first) → UnlessLacking step (HoldsLittle v c → HoldsLittle w d)
+      read_holds S.Goes first = by_first first
+      read_holds S.Waits first = by_first first
+      read_holds (S.Finishes end) first = by_first first
+      read_holds (S.Closes end) first = by_first first
+      read_holds S.Lacks first = tt
+
+  pub minds_read : (p : Pulled) → is_origin_fault step ≡ pull_failed p → ol ≡ pull_again p → is_client_fault step ≡ false → cl ≡ false → MustRead c → v.origin.inbox ≡ [] → d ≡ c → ReadsOrigin ot v w p
+      → MindsBody ct ot v w c d step cl ol
+  minds_read p failed again no_client ready must none chain reads =
+      read_minds p failed again no_client ready must none reads (unless_lacking (length d.first ≤ length c.first) step (no_longer c.first d.first (ap (λ k. k.first) chain)))
+
+  -- and its end was met, up to which the body goes
+  pub minds_ended : cl ≡ false → ol ≡ is_late step → MustRead c → v.origin.inbox ≡ [] → OnGoes step (d ≡ record c { given = true }) → ReadsOrigin ot v w L.End → MindsBody ct ot v w c d step cl ol
+  minds_ended ready late must none goes reads =
+      let calm = calm_goes (d ≡ record c { given = true }) step goes in
+      read_minds L.End calm.origin (late ∙ calm.late) calm.client ready must none reads (by_step step goes)
+    where
+      by_step : (step : BodyStep) → OnGoes step (d ≡ record c { given = true }) → UnlessLacking step (length d.first ≤ length c.first)
+      by_step S.Goes goes = no_longer c.first d.first (ap (λ k. k.first) goes)
+      by_step S.Waits goes = absurd goes
+      by_step (S.Finishes end) goes = absurd goes
+      by_step (S.Closes end) goes = absurd goes
+      by_step S.Lacks goes = tt
+
+-- ---- the ends are roused behind a step
+
+-- the same links were called, and the same fault is named
+minds_as : {P : Type 0} (ct ot : Bool) (v w : View) (c d e : ChainState P) (step result : BodyStep) (cl ol : Bool) → is_client_fault result ≡ is_client_fault step
+    → is_origin_fault result ≡ is_origin_fault step → UnlessLacking result (HoldsLittle v c → HoldsLittle w e) → MindsBody ct ot v w c d step cl ol → MindsBody ct ot v w c e result cl ol
+minds_as ct ot v w c d e step result cl ol client origin holds h = record {
+  client = subst (λ f. Calls v.client.look w.client.look f cl) (sym client) h.client;
+  origin = subst (λ f. Calls v.origin.look w.origin.look f ol) (sym origin) h.origin;
+  reads = h.reads;
+  unread = h.unread;
+  unwritten = h.unwritten;
+  queues = h.queues;
+  holds = holds;
+}
+
+minds_settled : {P : Type 0} (ct ot : Bool) (v w : View) (c d e : ChainState P) (step result : BodyStep) (cl ol : Bool) → SettledAs step result → e ≡ d → MindsBody ct ot v w c d step cl ol
+    → MindsBody ct ot v w c e result cl ol
+minds_settled {P} ct ot v w c d e step result cl ol settled chain h = subst (λ k. MindsBody ct ot v w c k result cl ol) (sym chain) (by_step step settled h)
+  where
+    on : (step : BodyStep) → is_client_fault step ≡ false → is_origin_fault step ≡ false → OnGoes result ⊤ → (HoldsLittle v c → HoldsLittle w d) → MindsBody ct ot v w c d step cl ol
+        → MindsBody ct ot v w c d result cl ol
+    on step no_client no_origin goes holds m =
+        let calm = calm_goes ⊤ result goes in
+        minds_as ct ot v w c d d step result cl ol (calm.client ∙ sym no_client) (calm.origin ∙ sym no_origin) (unless_lacking (HoldsLittle v c → HoldsLittle w d) result holds) m
+
+    by_step : (step : BodyStep) → SettledAs step result → MindsBody ct ot v w c d step cl ol → MindsBody ct ot v w c d result cl ol
+    by_step S.Goes goes m = on S.Goes refl refl goes m.holds m
+    by_step S.Waits goes m = on S.Waits refl refl goes m.holds m
+    by_step (S.Finishes end) same m = subst (λ x. MindsBody ct ot v w c d x cl ol) (sym same) m
+    by_step (S.Closes end) same m = subst (λ x. MindsBody ct ot v w c d x cl ol) (sym same) m
+    by_step S.Lacks same m = subst (λ x. MindsBody ct ot v w c d x cl ol) (sym same) m
+
+-- ---- which events are set
+
+-- one end was roused, and then the other
+pub ends_both : (writes reads : ℕ) (t r : Option StageContinuation) (a c b : Context) → c.moment ≡ a.moment → Keeps a c → Keeps c b
+    → ((role : ℕ) → IsNamedIf a.roles role t → SetsOnly (IsRousingOf role writes a.moment a.roles) a c)
+    → ((role : ℕ) → IsNamedIf c.roles role r → SetsOnly (IsRousingOf role reads c.moment c.roles) c b) → OnlyOfEnds writes reads t r a b
+ends_both writes reads t r a c b moment keeps later main reader of_main of_reader =
+    only_trans (IsOfEnd writes reads a.moment a.roles) a c b
+    (only_weaker (IsRousingOf MAIN writes a.moment a.roles) (IsOfEnd writes reads a.moment a.roles) a c (λ p h. inl h) (main MAIN of_main)) later
+    (only_weaker (IsRousingOf READER reads a.moment a.roles) (IsOfEnd writes reads a.moment a.roles) c b (λ p h. inr h)
+    (subst (λ m. SetsOnly (IsRousingOf READER reads m a.roles) c b) moment
+    (subst (λ roles. SetsOnly (IsRousingOf READER reads c.moment roles) c b) keeps.roles
+    (reader READER (subst (λ roles. IsNamedIf roles READER r) (sym keeps.roles) of_reader)))))
+
+-- or the first alone
+pub ends_first : (writes reads : ℕ) (t r : Option StageContinuation) (a c : Context) → ((role : ℕ) → IsNamedIf a.roles role t → SetsOnly (IsRousingOf role writes a.moment a.roles) a c)
+    → OnlyOfEnds writes reads t r a c
+ends_first writes reads t r a c main of_main of_reader =
+    only_weaker (IsRousingOf MAIN writes a.moment a.roles) (IsOfEnd writes reads a.moment a.roles) a c (λ p h. inl h) (main MAIN of_main)
+
+-- or none
+pub ends_none : (writes reads : ℕ) (t r : Option StageContinuation) (a : Context) → OnlyOfEnds writes reads t r a a
+ends_none writes reads t r a of_main of_reader = only_none (IsOfEnd writes reads a.moment a.roles) a
+
+-- events of stages first, and then of the ends
+in_time : (writes reads : ℕ) (t r : Option StageContinuation) (a c b : Context) → c.moment ≡ a.moment → Keeps c b → SetsOnly (IsOfRoleFrom FIRST a.roles) a c → IsNamedIf c.roles MAIN t → IsNamedIf c.roles READER r
+    → OnlyOfEnds writes reads t r c b → OnlyOfBody writes reads a b
+in_time writes reads t r a c b moment keeps first of_main of_reader ends =
+    only_trans Such a c b (only_weaker (IsOfRoleFrom FIRST a.roles) Such a c (λ p h. inl h) first) keeps
+    (only_weaker (IsOfEnd writes reads a.moment b.roles) Such c b (λ p h. inr h)
+    (subst (λ m. SetsOnly (IsOfEnd writes reads m b.roles) c b) moment
+    (subst (λ roles. SetsOnly (IsOfEnd writes reads c.moment roles) c b) (sym keeps.roles) (ends of_main of_reader))))
+  where
+    Such : Pending → Type 0
+    Such p = IsOfRoleFrom FIRST a.roles p ⊎ IsOfEnd writes reads a.moment b.roles p
+
+no_pause : (b : Bool) → pause_if b 0 ≡ 0
+no_pause true = refl
+no_pause false = refl
+
+-- an end whose event was handled has its role
+named_unroused : (roles : List Named) (role : ℕ) (t : Option StageContinuation) → IsNamedIf roles role t → IsNamedIf roles role (unroused t)
+named_unroused roles role None named = tt
+named_unroused roles role (Some t) named = named
+
+named_later : (a c : Context) (role : ℕ) (t u : Option StageContinuation) → Keeps a c → u ≡ t → IsNamedIf a.roles role t → IsNamedIf c.roles role u
+named_later a c role t u keeps same named = subst (λ roles. IsNamedIf roles role u) (sym keeps.roles) (subst (IsNamedIf a.roles role) (sym same) named)
+
+-- ---- the events of a body
+
+pub links_quiet : {P : Type 0} (ct ot : Bool) (v : View) (t : Option StageContinuation) (r : Relay P) (a : Context) → HandlesLinks ct ot v v t r r S.Goes a a
+links_quiet ct ot v t r a = record {
+  client_late = false;
+  origin_late = false;
+  minds = minds_none ct ot v v r.driven.chain r.driven.chain S.Goes false false (record { client = refl; origin = refl; late = refl }) refl refl refl refl;
+  due = λ named. only_none _ a;
+}
+
+-- one of the writer
+pub links_write : {P : Type 0} (ct ot : Bool) (v w : View) (step result : BodyStep) (t m : Option StageContinuation) (r q s : Relay P) (a c b : Context)
+    → MindsBody ct ot v w r.driven.chain q.driven.chain step (is_late step) false → SettledAs step result → s.driven ≡ q.driven → StepsChain step 1 r.driven q.driven a c → q ≡ record r { driven = q.driven } → m ≡ unroused t → AddsSome 2 c b
+    → OnlyOfEnds (pause_if (is_late step) RETRY) (pause_if (is_late step) 0) m q.reader c b → HandlesLinks ct ot v w t r s result a b
+links_write ct ot v w step result t m r q s a c b minds settled kept steps same handled adds ends = record {
+  client_late = is_late step;
+  origin_late = false;
+  minds = minds_settled ct ot v w r.driven.chain q.driven.chain s.driven.chain step result (is_late step) false settled (ap (λ e. e.chain) kept) minds;
+  due = λ named. subst (λ n. OnlyOfBody (pause_if (is_late step) RETRY) n a b) (no_pause (is_late step))
+      (in_time (pause_if (is_late step) RETRY) (pause_if (is_late step) 0) m q.reader a c b steps.adds.grows.moment adds.keeps (steps.only FIRST named.stages)
+      (named_later a c MAIN (unroused t) m steps.adds.keeps handled (named_unroused a.roles MAIN t named.of_main))
+      (named_later a c READER r.reader q.reader steps.adds.keeps (ap (λ x. x.reader) same) named.of_reader) ends);
+}
+
+-- one of the reader
+pub links_read : {P : Type 0} (ct ot : Bool) (v w : View) (step result : BodyStep) (t : Option StageContinuation) (r q s : Relay P) (a c b : Context)
+    → MindsBody ct ot v w r.driven.chain q.driven.chain step false (is_late step) → SettledAs step result → s.driven ≡ q.driven → StepsChain step 2 r.driven q.driven a c → q.reader ≡ unroused r.reader → AddsSome 2 c b
+    → OnlyOfEnds (pause_if (is_late step) 0) (pause_if (is_late step) RETRY) t q.reader c b → HandlesLinks ct ot v w t r s result a b
+links_read ct ot v w step result t r q s a c b minds settled kept steps handled adds ends = record {
+  client_late = false;
+  origin_late = is_late step;
+  minds = minds_settled ct ot v w r.driven.chain q.driven.chain s.driven.chain step result false (is_late step) settled (ap (λ e. e.chain) kept) minds;
+  due = λ named. subst (λ n. OnlyOfBody n (pause_if (is_late step) RETRY) a b) (no_pause (is_late step))
+      (in_time (pause_if (is_late step) 0) (pause_if (is_late step) RETRY) t q.reader a c b steps.adds.grows.moment adds.keeps (steps.only FIRST named.stages)
+      (named_later a c MAIN t t steps.adds.keeps refl named.of_main)
+      (named_later a c READER (unroused r.reader) q.reader steps.adds.keeps handled (named_unroused a.roles READER r.reader named.of_reader)) ends);
+}
+
+-- a role is that of a stage, or it is not
+pub stage_at : {P : Type 0} (role : ℕ) (c : ChainState P) (ts : List (Option StageContinuation)) → ((at : ℕ) × (role ≡ FIRST + at) × IsStage c ts at) ⊎ ((at : ℕ) → role ≡ FIRST + at → IsStage c ts at → ⊥)
+stage_at {P} role c ts = by_role (leb_tells 3 role)
+  where
+    by_len : (at : ℕ) → role ≡ 3 + at → at + 1 ≤ length ts → ((eqb (length ts) (length c.stages) ≡ true) × (length ts ≡ length c.stages)) ⊎ ((eqb (length ts) (length c.stages) ≡ false) × (length ts ≡ length c.stages → ⊥))
+        → ((at : ℕ) × (role ≡ FIRST + at) × IsStage c ts at) ⊎ ((at : ℕ) → role ≡ FIRST + at → IsStage c ts at → ⊥)
+    by_len at is below (inl (t, same)) = inl (at, is, record { within = omega (arith, below); len = same })
+    by_len at is below (inr (t, other)) = inr (λ j is_j stage. other stage.len)
+
+    by_place : (at : ℕ) → role ≡ 3 + at → ((leb (at + 1) (length ts) ≡ true) × (at + 1 ≤ length ts)) ⊎ ((leb (at + 1) (length ts) ≡ false) × (length ts < at + 1))
+        → ((at : ℕ) × (role ≡ FIRST + at) × IsStage c ts at) ⊎ ((at : ℕ) → role ≡ FIRST + at → IsStage c ts at → ⊥)
+    by_place at is (inl (t, below)) = by_len at is below (eqb_tells (length ts) (length c.stages))
+    by_place at is (inr (t, above)) = inr (λ j is_j stage. let k : role ≡ 3 + j = is_j in omega (arith, k, is, above, stage.within))
+
+    by_role : ((leb 3 role ≡ true) × (3 ≤ role)) ⊎ ((leb 3 role ≡ false) × (role < 3)) → ((at : ℕ) × (role ≡ FIRST + at) × IsStage c ts at) ⊎ ((at : ℕ) → role ≡ FIRST + at → IsStage c ts at → ⊥)
+    by_role (inl (t, behind)) = by_place (role - 3) (omega (arith, behind)) (leb_tells ((role - 3) + 1) (length ts))
+    by_role (inr (t, before)) = inr (λ j is_j stage. let k : role ≡ 3 + j = is_j in omega (arith, k, before))
+
+-- continuations have their roles, whether an event of one was handled or not
+named_handled : (b : Bool) (roles : List Named) (role at : ℕ) (ts : List (Option StageContinuation)) → AreNamed roles role ts → AreNamed roles role (unroused_for b ts at)
+named_handled true roles role at ts named = named_same roles role ts (changed unroused ts at) (same_unroused ts (changed unroused ts at) at refl) named
+named_handled false roles role at ts named = named
+
+-- whatever a stage sets is of one
+of_stage : {P : Type 0} (pause : P → ℕ) (first : ℕ) (old new : ChainState P) (ts : List (Option StageContinuation)) (at : ℕ) (event : Event) (moment : ℕ) (roles : List Named) (p : Pending)
+    → MaySet pause first old new ts at event moment roles p → IsOfRoleFrom first roles p
+of_stage pause first old new ts at event moment roles p (inl h) = record { place = h.at; role_is = h.of_stage.role_is }
+of_stage pause first old new ts at event moment roles p (inr (inl (h, goes, ended))) = record { place = h.place; role_is = h.telling.role_is }
+of_stage pause first old new ts at event moment roles p (inr (inr (h, is))) = record { place = h.place; role_is = h.telling.role_is }
+
+stage_only : {P : Type 0} (rest : P → List ℕ → List ℕ) (pause : P → ℕ) (role : ℕ) (event : Event) (r q : Relay P) (a b : Context)
+    → ((at : ℕ) → role ≡ FIRST + at → IsStage r.driven.chain r.driven.table.items at → Acts rest pause at event r.driven q.driven a b) → (IsOfNoStage FIRST role r.driven → IsSame a b)
+    → AreNamed a.roles FIRST r.driven.table.items → SetsOnly (IsOfRoleFrom FIRST a.roles) a b
+stage_only {P} rest pause role event r q a b acts other named = by_stage (stage_at role r.driven.chain r.driven.table.items)
+  where
+    by_stage : ((at : ℕ) × (role ≡ FIRST + at) × IsStage r.driven.chain r.driven.table.items at) ⊎ ((at : ℕ) → role ≡ FIRST + at → IsStage r.driven.chain r.driven.table.items at → ⊥)
+        → SetsOnly (IsOfRoleFrom FIRST a.roles) a b
+    by_stage (inl (at, is, stage)) =
+        only_weaker (MaySet pause FIRST r.driven.chain q.driven.chain (unroused_at event r.driven.table.items at) at event a.moment a.roles) (IsOfRoleFrom FIRST a.roles) a b
+        (of_stage pause FIRST r.driven.chain q.driven.chain (unroused_at event r.driven.table.items at) at event a.moment a.roles)
+        ((acts at is stage).only FIRST (named_handled (works_at event) a.roles FIRST at r.driven.table.items named))
+    by_stage (inr none) = only_same (IsOfRoleFrom FIRST a.roles) a b (ap (λ s. s.pending) (other none).log.state)
+
+-- an end keeps its role behind an event of a stage
+named_others : (ts : List (Option StageContinuation)) (role : ℕ) (t : Option StageContinuation) (a b : Context) → KeepsOthers FIRST ts a b → AreNamed a.roles FIRST ts → role < FIRST → IsNamedIf a.roles role t
+    → IsNamedIf b.roles role t
+named_others ts role None a b others named below h = tt
+named_others ts role (Some t) a b others named below h =
+    (others role (Some (record t { roused = false })) named (inl below) (record { named = h; event = λ roused. absurd (let wrong : false ≡ true = roused in cc) })).named
+
+-- one of a stage, or of nobody
+pub links_stage : {P : Type 0} (ct ot : Bool) (rest : P → List ℕ → List ℕ) (pause : P → ℕ) (role : ℕ) (event : Event) (f : Result ⊤ SetFault) (v : View) (step result : BodyStep) (t : Option StageContinuation)
+    (r q s : Relay P) (a c b : Context) → step ≡ step_after f → SettledAs step result → s.driven ≡ q.driven → PumpsOnce rest r.driven.chain q.driven.chain → c.moment ≡ a.moment
+    → ((at : ℕ) → role ≡ FIRST + at → IsStage r.driven.chain r.driven.table.items at → Acts rest pause at event r.driven q.driven a c) → (IsOfNoStage FIRST role r.driven → IsSame a c)
+    → KeepsOthers FIRST r.driven.table.items a c → q.reader ≡ r.reader → AddsSome 2 c b → OnlyOfEnds (pause_if (is_late step) 0) (pause_if (is_late step) 0) t q.reader c b
+    → HandlesLinks ct ot v v t r s result a b
+links_stage ct ot rest pause role event f v step result t r q s a c b is settled kept once moment acts other others same adds ends =
+    let calm = calm_after f step is in
+    record {
+      client_late = false;
+      origin_late = false;
+      minds = minds_settled ct ot v v r.driven.chain q.driven.chain s.driven.chain step result false false settled (ap (λ e. e.chain) kept)
+          (still_minds ct ot v v r.driven.chain q.driven.chain step false false calm refl refl refl (once_shorter rest r.driven.chain q.driven.chain once));
+      due = λ named. subst (λ n. OnlyOfBody n n a b) (no_pause (is_late step))
+          (in_time (pause_if (is_late step) 0) (pause_if (is_late step) 0) t q.reader a c b moment adds.keeps (stage_only rest pause role event r q a c acts other named.stages)
+          (named_others r.driven.table.items MAIN t a c others named.stages (omega arith) named.of_main)
+          (named_others r.driven.table.items READER q.reader a c others named.stages (omega arith) (subst (IsNamedIf a.roles READER) (sym same) named.of_reader)) ends);
+    }
+
+-- ---- the last writes
+
+sends_by : (ct : Bool) (end : TxnEnd) (v w : View) (p : Pushed) (step : BodyStep) → WritesClient ct v w p → RestLeads end v.client w.client step → SendsRest ct end v w step
+sends_by ct end v w p step writes leads = record {
+  leads = leads;
+  unread = record { reads = writes.client.pushes.once.reads; held = writes.client.inbox; given = λ told. (writes.client.pushes.told told).given };
+  others = writes.others;
+}
+
+pub sends_some : (ct : Bool) (end : TxnEnd) (v w : View) (n : ℕ) → WritesClient ct v w (V.Some n) → SendsRest ct end v w S.Goes
+sends_some ct end v w n writes = sends_by ct end v w (V.Some n) S.Goes writes writes.client.pushes.calls
+
+pub sends_all : (ct : Bool) (end : TxnEnd) (v w : View) → WritesClient ct v w V.Nothing → SendsRest ct end v w (S.Closes end)
+sends_all ct end v w writes =
+    sends_by ct end v w V.Nothing (S.Closes end) writes (inl (refl, writes.client.pushes.went.1 ∙ writes.client.pushes.went.0, writes.client.pushes.calls))
+
+pub sends_late : (ct : Bool) (end : TxnEnd) (v w : View) → WritesClient ct v w V.Again → SendsRest ct end v w S.Waits
+sends_late ct end v w writes = sends_by ct end v w V.Again S.Waits writes writes.client.pushes.calls
+
+pub sends_left : (ct : Bool) (end : TxnEnd) (v w : View) → WritesClient ct v w V.Failed → SendsRest ct end v w (S.Closes E.ClientFault)
+sends_left ct end v w writes = sends_by ct end v w V.Failed (S.Closes E.ClientFault) writes (inr (refl, writes.client.pushes.calls))
+
+pub sends_lacks : (ct : Bool) (end : TxnEnd) (v w : View) → WritesClient ct v w V.NoMemory → SendsRest ct end v w S.Lacks
+sends_lacks ct end v w writes = sends_by ct end v w V.NoMemory S.Lacks writes writes.client.pushes.calls
+
+-- ---- a body begins
+
+-- what a start sets is of a stage
+pub starts_in_time : {P : Type 0} (pause : P → ℕ) (c : ChainState P) (moment : ℕ) (a b : Context) → SetsOnly (IsRousing pause FIRST c [] moment b.roles) a b → SetsOnly (IsOfRoleFrom FIRST b.roles) a b
+starts_in_time pause c moment a b =
+    only_weaker (IsRousing pause FIRST c [] moment b.roles) (IsOfRoleFrom FIRST b.roles) a b (λ p h. record { place = h.at; role_is = h.of_stage.role_is })
+
+-- nothing was set before
+pub set_behind : (Such : Pending → Type 0) (a b c : Context) → b.log.state.pending ≡ a.log.state.pending → SetsOnly Such b c → SetsOnly Such a c
+set_behind Such a b c same only n p none there = only n p (ap (pending_at n) same ∙ none) there
+
+-- and so is what its first step sets, while the stages run
+pub begins_in_time : {P : Type 0} (step : BodyStep) (d e : DrivenChain P) (a b c f : Context) → b.log.state.pending ≡ a.log.state.pending → SetsOnly (IsOfRoleFrom FIRST c.roles) b c
+    → IsDrivenWhile FIRST d c.log.state.pending c.roles → StepsChain step 1 d e c f → e.running ≡ true → SetsOnly (IsOfRoleFrom FIRST f.roles) a f
+begins_in_time step d e a b c f same started driven steps runs =
+    let named = of_stages_named c.log.state.pending c.roles FIRST d.table.items (driven (steps.falls runs)).of_stages in
+    subst (λ roles. SetsOnly (IsOfRoleFrom FIRST roles) a f) (sym steps.adds.keeps.roles)
+    (only_trans (IsOfRoleFrom FIRST c.roles) a c f (set_behind (IsOfRoleFrom FIRST c.roles) a b c same started) steps.adds.keeps (steps.only FIRST named))
+
+-- the ends are roused behind that, at once
+pub body_in_time : {P : Type 0} (step : BodyStep) (t : Option StageContinuation) (m s : Relay P) (a c b : Context) → BeginsRelay step m a c → s.driven ≡ m.driven → AddsSome 2 c b
+    → (m.driven.running ≡ true → SetsOnly (IsOfRoleFrom FIRST c.roles) a c) → OnlyOfEnds (pause_if (is_late step) 0) (pause_if (is_late step) 0) t m.reader c b → BeginsInTime t s a b
+body_in_time step t m s a c b begins same adds first ends runs of_main =
+    only_trans Such a c b (only_weaker (IsOfRoleFrom FIRST c.roles) Such a c (λ p h. inl (subst (λ roles. IsOfRoleFrom FIRST roles p) (sym adds.keeps.roles) h)) (first (sym (ap (λ d. d.running) same) ∙ runs)))
+    adds.keeps
+    (only_weaker (IsOfEnd 0 0 a.moment b.roles) Such c b (λ p h. inr h)
+    (subst (λ n. SetsOnly (IsOfEnd n n a.moment b.roles) c b) (no_pause (is_late step))
+    (subst (λ m. SetsOnly (IsOfEnd (pause_if (is_late step) 0) (pause_if (is_late step) 0) m b.roles) c b) begins.chain.within.grows.moment
+    (subst (λ roles. SetsOnly (IsOfEnd (pause_if (is_late step) 0) (pause_if (is_late step) 0) c.moment roles) c b) (sym adds.keeps.roles)
+    (ends (named_made t of_main) (named_of c.log.state.pending c.roles READER m.reader begins.of_reader))))))
+  where
+    Such : Pending → Type 0
+    Such p = IsOfRoleFrom FIRST b.roles p ⊎ IsOfEnd 0 0 a.moment b.roles p
+
+    named_of : (pending : List Pending) (roles : List Named) (role : ℕ) (u : Option StageContinuation) → IsOfStageIf pending roles role u → IsNamedIf roles role u
+    named_of pending roles role None h = tt
+    named_of pending roles role (Some u) h = h.named
+
+    named_made : (u : Option StageContinuation) → IsNamedIf a.roles MAIN u → IsNamedIf c.roles MAIN u
+    named_made None h = tt
+    named_made (Some u) h =
+        (begins.chain.made MAIN (Some (record u { roused = false })) (record { named = h; event = λ roused. absurd (let wrong : false ≡ true = roused in cc) })).named

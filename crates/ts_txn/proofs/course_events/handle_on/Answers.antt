@@ -1,0 +1,36 @@
+use Rattle.std.proofs.Common.{sym, ◌∙◌}
+use Rattle.ts_txn.specs.declared.course.Course.TheVariants as K
+use Rattle.ts_txn.proofs.Handling.{alone_then, sound_other, sound_quiet}
+use Rattle.ts_txn.proofs.course_events.handle_on.Goals as goal
+
+-- In a phase: an event of another continuation, one at which nobody works, and that of the next step.
+pub returns-then-role-ne-MAIN-clause-sound : goal.returns-then-role-ne-MAIN-clause-sound
+returns-then-role-ne-MAIN-clause-sound g c =
+    sound_other g.C.Link.tells g.O.Link.tells g.C.Link.look g.O.Link.look g.O.Upstream.paired g.O.Upstream.refuses g.P.Transform.rest g.P.Transform.whole c.args.core.now c.args.main.now c.args.course
+    (K.Phased c.in-Phased.phase) c.in-Phased.is tt c.args.cx.now c.args.role c.args.event c.requires.called c.if-role-ne-MAIN.true
+
+pub returns-then-not-works-clause-sound : goal.returns-then-not-works-clause-sound
+returns-then-not-works-clause-sound g c =
+    sound_quiet g.C.Link.tells g.O.Link.tells g.C.Link.look g.O.Link.look g.O.Upstream.paired g.O.Upstream.refuses g.P.Transform.rest g.P.Transform.whole c.args.core.now c.args.main.now c.args.course
+    (K.Phased c.in-Phased.phase) c.in-Phased.is tt c.args.cx.now c.args.role c.args.event c.requires.called (sym c.works.ensures ∙ c.if-not-works.true)
+
+pub phase_on-requires-clause-alone : goal.phase_on-requires-clause-alone
+phase_on-requires-clause-alone g c =
+    alone_then g.C.Link.tells g.O.Link.tells g.C.Link.look g.O.Link.look g.O.Upstream.paired g.O.Upstream.refuses g.P.Transform.rest g.P.Transform.whole c.args.core.now c.args.main.now c.args.course
+    (K.Phased c.in-Phased.phase) c.in-Phased.is tt c.args.cx.now c.args.role c.args.event c.requires.called c.unrouse.new.slot c.unrouse.ensures
+
+-- The same while the last is written.
+pub returns-then-role-ne-MAIN-2-clause-sound : goal.returns-then-role-ne-MAIN-2-clause-sound
+returns-then-role-ne-MAIN-2-clause-sound g c =
+    sound_other g.C.Link.tells g.O.Link.tells g.C.Link.look g.O.Link.look g.O.Upstream.paired g.O.Upstream.refuses g.P.Transform.rest g.P.Transform.whole c.args.core.now c.args.main.now c.args.course
+    (K.Finishing c.in-Finishing.end) c.in-Finishing.is tt c.args.cx.now c.args.role c.args.event c.requires.called c.if-role-ne-MAIN-2.true
+
+pub returns-then-not-works-2-clause-sound : goal.returns-then-not-works-2-clause-sound
+returns-then-not-works-2-clause-sound g c =
+    sound_quiet g.C.Link.tells g.O.Link.tells g.C.Link.look g.O.Link.look g.O.Upstream.paired g.O.Upstream.refuses g.P.Transform.rest g.P.Transform.whole c.args.core.now c.args.main.now c.args.course
+    (K.Finishing c.in-Finishing.end) c.in-Finishing.is tt c.args.cx.now c.args.role c.args.event c.requires.called (sym c.works-in-Finishing.ensures ∙ c.if-not-works-2.true)
+
+pub finish_on-requires-clause-alone : goal.finish_on-requires-clause-alone
+finish_on-requires-clause-alone g c =
+    alone_then g.C.Link.tells g.O.Link.tells g.C.Link.look g.O.Link.look g.O.Upstream.paired g.O.Upstream.refuses g.P.Transform.rest g.P.Transform.whole c.args.core.now c.args.main.now c.args.course
+    (K.Finishing c.in-Finishing.end) c.in-Finishing.is tt c.args.cx.now c.args.role c.args.event c.requires.called c.unrouse-in-Finishing.new.slot c.unrouse-in-Finishing.ensures

@@ -1,0 +1,12 @@
+use Rattle.ts_txn.proofs.CourseSeats.{lacks_alone, led_alone}
+use Rattle.ts_txn.proofs.course_leaving.go_to.Goals as goal
+
+pub returns-then-rouse_next-clause-covered : goal.returns-then-rouse_next-clause-covered
+returns-then-rouse_next-clause-covered g c =
+    led_alone c.args.course c.args.main.now c.rouse_next.new.main c.args.cx.now c.rouse_next.new.cx c.if-rouse_next.ensures.rouses c.rouse_next.ensures.seated c.rouse_next.ensures.within
+
+-- There was no memory for the event.
+pub returns-clause-covered : goal.returns-clause-covered
+returns-clause-covered g c = λ goes.
+    lacks_alone c.lacking.result c.args.main.now c.rouse_next.new.main c.args.cx.now c.rouse_next.new.cx c.lacking.ensures c.if-rouse_next.ensures.rouses c.rouse_next.ensures.seated
+    c.rouse_next.ensures.within
