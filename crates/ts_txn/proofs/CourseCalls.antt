@@ -77,7 +77,7 @@ module _ (Sound : State → List Named → Type 0) (now : Context) (role : ℕ) 
   still_next : now.log.state.next ≡ c.before.next
   still_next = c.has.next handled_plain
 
-  spent_still : GREATEST ≤ c.before.next → GREATEST ≤ now.log.state.next
+  pub spent_still : GREATEST ≤ c.before.next → GREATEST ≤ now.log.state.next
   spent_still spent = subst (λ (n : ℕ). GREATEST ≤ n) (sym still_next) spent
 
 module _ {Q : Type 0} (Sound : State → List Named → Type 0) (v : View) (main : Option StageContinuation) (now : Context) (role : ℕ) (event : Event) (c : IsCalled Sound now role event) where

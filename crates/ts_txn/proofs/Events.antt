@@ -1,11 +1,12 @@
 -- What one event leads to: a step of its phase, a part of a body, one of the last writes, or nothing.
-use Rattle.std.proofs.Common.{◌≡◌, ◌⊎◌, inl, inr, ℕ, List, [], ◌∷◌, Bool, Option, None, refl, sym, ap, subst}
+use Rattle.std.proofs.Common.{◌≡◌, ◌⊎◌, inl, inr, ℕ, List, [], ◌∷◌, Bool, Option, Some, None, refl, sym, ap, subst}
 use Rattle.ts_hooks.specs.declared.txn_end.TxnEnd.{TxnEnd}
 use Rattle.ts_hooks.specs.declared.txn_end.TxnEnd.TheVariants as E
+use Rattle.ts_group.specs.declared.action.Named.{Named}
 use Rattle.ts_group.specs.Context.{Context}
 use Rattle.ts_link.specs.Link.{Look}
 use Rattle.ts_journal.specs.declared.entry.Pending.{Pending}
-use Rattle.ts_transform.specs.Driving.{IsDueAfter, SetsOnly}
+use Rattle.ts_transform.specs.Driving.{IsDueAfter, IsNamedIf, SetsOnly, unroused}
 use Rattle.ts_transform.specs.Seats.{AllSeated, HasKey}
 use Rattle.ts_transform.specs.declared.continuation.StageContinuation.{StageContinuation}
 use Rattle.ts_transform.proofs.Setting.{only_none}
@@ -19,6 +20,7 @@ use Rattle.ts_txn.specs.Holding.{IfTold}
 use Rattle.ts_txn.specs.View.{LinkSide, View, view_of}
 use Rattle.ts_txn.specs.declared.course.Course.{Course}
 use Rattle.ts_txn.specs.declared.course.Course.TheVariants as K
+use Rattle.ts_txn.specs.declared.driver.TheConstants.{MAIN}
 use Rattle.ts_txn.specs.Feeding.{OnGoes}
 use Rattle.ts_txn.specs.declared.finishing.BodyStep.{BodyStep}
 use Rattle.ts_txn.specs.declared.finishing.BodyStep.TheVariants as S
@@ -90,6 +92,11 @@ module _ (v w : View) where
       calls (P.Sending a) begins = absurd begins
       calls (P.TxnClose end) begins = absurd begins
       calls (P.Ended end) begins = absurd begins
+
+-- the first continuation keeps its role when its event is handled
+named_before : (roles : List Named) (main : Option StageContinuation) → IsNamedIf roles MAIN main → IsNamedIf roles MAIN (unroused main)
+named_before roles None named = named
+named_before roles (Some t) named = named
 
 module _ {C O Q : Type 0} (ct ot : Bool) (client : C → Look) (origin : O → Look) (paired : C → O → Type 0) (refuses : O → List ℕ → Type 0) (left : C → O → Option ℕ) where
   -- a step of a phase was made, and led to the phase that it answered, or to the end for want of memory
@@ -172,6 +179,26 @@ module _ {C O Q : Type 0} (ct ot : Bool) (client : C → Look) (origin : O → L
   -- nor while the last is written
   pub quiet_write : (t : Core C O) (end : TxnEnd) (a : Context) → HandlesWrite {Q = Q} ct ot client origin paired refuses left t t a a end (K.Finishing end)
   quiet_write t end a = record { step = S.Goes; takes = inl (refl, refl, refl); due = only_none (IsDueAfter 0 a.moment) a }
+
+  -- in a phase, said of the first continuation before its event was handled
+  due_before : (main u : Option StageContinuation) → u ≡ unroused main → (next : Next) (new : Course Q) (a b : Context) → DueTo u next new a b → DueTo main next new a b
+  due_before main u is next (K.Phased p) a b due = due
+  due_before main u is next (K.Relaying r) a b due = record {
+    behind = due.behind;
+    first = due.first;
+    then = due.then;
+    begins = λ runs named. due.begins runs (subst (IsNamedIf a.roles MAIN) (sym is) (named_before a.roles main named));
+    due = due.due;
+  }
+  due_before main u is next (K.Finishing end) a b due = due
+
+  pub handles_phased : (s t : Core C O) (a b : Context) (main u : Option StageContinuation) → u ≡ unroused main → (course : Course Q) (p : Phase) → course ≡ K.Phased p → (new : Course Q)
+      → HandlesEvent ct ot client origin paired refuses left s t a b u (K.Phased p) new → HandlesEvent ct ot client origin paired refuses left s t a b main course new
+  handles_phased s t a b main u quiet course p is new h =
+      subst (λ x. HandlesEvent ct ot client origin paired refuses left s t a b main x new) (sym is) (record {
+        keeps = h.keeps;
+        handles = record { next = h.handles.next; takes = h.handles.takes; due = due_before main u quiet h.handles.next new a b h.handles.due };
+      })
 
   -- where an event leads, without the moments of those that are set
   takes_on : (s t : Core C O) (a b : Context) (main : Option StageContinuation) (old new : Course Q) → HandlesOn ct ot client origin paired refuses left s t a b main old new

@@ -10,14 +10,9 @@ use Rattle.ts_group.specs.Context.{Context}
 use Rattle.ts_link.specs.Link.{Look}
 use Rattle.ts_transform.specs.Driving.{IsOfStageIf, unroused, works_at}
 use Rattle.ts_transform.specs.declared.continuation.StageContinuation.{StageContinuation}
-use Rattle.ts_config.specs.declared.setup.Setup.{Setup}
-use Rattle.ts_hooks.specs.declared.txn_end.TxnEnd.{TxnEnd}
-use Rattle.ts_group.proofs.Facts.{plain_at}
-use Rattle.ts_txn.specs.Course.{CourseFact, CourseHolds, finish_after}
-use Rattle.ts_txn.specs.Duties.{IsBodyCovered}
+use Rattle.ts_txn.specs.Course.{CourseFact, CourseHolds}
 use Rattle.ts_txn.specs.LoweringCourse.{IsOfLinesOn}
-use Rattle.ts_txn.specs.declared.relay.Relay.{Relay}
-use Rattle.ts_txn.specs.CourseCover.{BodyHasEvents, CoversAlone, HasEventsOn, IsAlone, IsCoveredNow, IsCoveredOn, ProceedsOn, StaysOnOrLacks, set_after, set_leaving}
+use Rattle.ts_txn.specs.CourseCover.{CoversAlone, HasEventsOn, IsAlone, IsCoveredNow, IsCoveredOn, ProceedsOn, StaysOnOrLacks, set_after, set_leaving}
 use Rattle.ts_txn.specs.Cover.{is_fresh_on}
 use Rattle.ts_txn.specs.Holding.{IfTold, StepKeeps}
 use Rattle.ts_txn.specs.Making.{end_of}
@@ -36,6 +31,7 @@ use Rattle.ts_txn.specs.declared.txn.Txn.{Txn}
 use Rattle.ts_txn.proofs.CourseCalls.{PassesNoBody, alone_called, at_rest_on, later_covered, on_other, on_quiet, proceeds_phase}
 use Rattle.ts_txn.proofs.Coursing.{course_settled, stays_on}
 use Rattle.ts_txn.proofs.Coverage.{fresh_on}
+use Rattle.ts_txn.proofs.LoweringCourse.{lines_stay}
 
 -- one that was started and has not ended goes on
 goes_on : {Q : Type 0} (course : Course Q) → is_fresh_on course ≡ false → end_of course ≡ None → ProceedsOn course
@@ -67,18 +63,6 @@ after_one N.Go = omega arith
 after_one N.Wait = omega arith
 after_one N.Done = omega arith
 
--- a course that is no body goes through no line
-pub lines_stay : (setup : Setup) {Q : Type 0} (rest : Q → List ℕ → List ℕ) (led new : Course Q) → StaysOnOrLacks led new → IsOfLinesOn setup rest led → IsOfLinesOn setup rest new
-lines_stay setup rest led new (inl same) lines = subst (λ x. IsOfLinesOn setup rest x) (sym same) lines
-lines_stay setup rest led new (inr lacks) lines = subst (λ x. IsOfLinesOn setup rest x) (sym lacks) tt
-
-pub lines_written : (setup : Setup) {Q : Type 0} (rest : Q → List ℕ → List ℕ) (end : TxnEnd) (step : BodyStep) → IsOfLinesOn setup rest (finish_after {Q = Q} end step)
-lines_written setup rest end S.Goes = tt
-lines_written setup rest end S.Waits = tt
-lines_written setup rest end (S.Finishes other) = tt
-lines_written setup rest end (S.Closes other) = tt
-lines_written setup rest end S.Lacks = tt
-
 module _ {C O Q : Type 0} (ct ot : Bool) (client : C → Look) (origin : O → Look) (paired : C → O → Type 0) (refuses : O → List ℕ → Type 0) (rest : Q → List ℕ → List ℕ)
     (whole : TransformLine → List ℕ → List ℕ) where
   -- with nothing pending it has ended, or the numbers are used up
@@ -97,7 +81,7 @@ module _ {C O Q : Type 0} (ct ot : Bool) (client : C → Look) (origin : O → L
           holds = λ told also. stays_on (arc_value t.core.setup) (OriginRefuses client refuses t.core) rest (view_of client origin t.core) (K.Phased P.TxnStart) u.course (was told also) led;
           pair = h.stands.pair;
           acts = h.stands.acts;
-          lines = lines_stay (arc_value t.core.setup) rest (K.Phased P.TxnStart) u.course led tt;
+          lines = lines_stay (arc_value t.core.setup) rest (K.Phased P.TxnStart) u.course tt led;
         };
         covered = covers (fresh_alone (view_of client origin t.core) t.main t.course a fresh h.covered) (view_of client origin t.core);
       })
@@ -131,19 +115,6 @@ module _ {C O Q : Type 0} (ct ot : Bool) (client : C → Look) (origin : O → L
     pub alone_then : (t : Option StageContinuation) → t ≡ unroused main → IsAlone t now
     alone_then t is = subst (λ s. IsAlone s now) (sym is) (alone_called _ (view_of client origin core) main now role event c course none was_covered)
 
-  -- while a body is passed on, each of its duties still has its event when one is handled
-  pub body_covered : (core : Core C O) (main : Option StageContinuation) (r : Relay Q) (now : Context) (role : ℕ) (event : Event)
-      (c : IsCalled (λ s roles. IsSoundOn ct ot client origin paired refuses rest whole core main (K.Relaying r) s.pending s.next roles) now role event)
-      → IsBodyCovered (view_of client origin core) main r now.log.state.next
-  body_covered core main r now role event c = by_event c.sound.covered.covered
-    where
-      same_next : now.log.state.next ≡ c.before.next
-      same_next = c.has.next (plain_at c.handled.number c.before.pending c.handled c.sound.covered.plain c.there)
-
-      by_event : BodyHasEvents (view_of client origin core) main r c.before.pending now.roles ⊎ (GREATEST ≤ c.before.next) → IsBodyCovered (view_of client origin core) main r now.log.state.next
-      by_event (inl has) = inl (has.runs, has.ends)
-      by_event (inr spent) = inr (subst (λ (n : ℕ). GREATEST ≤ n) (sym same_next) spent)
-
   -- it was led on
   pub sound_here : (s t : Core C O) (old new : Course Q) (u : Option StageContinuation) (b : Context) → HoldsOn ct ot client origin paired refuses rest whole s old
       → StepKeeps client origin paired refuses s t → CourseHolds ct ot client origin refuses rest t new → IsOfLinesOn (arc_value t.setup) rest new
@@ -154,10 +125,10 @@ module _ {C O Q : Type 0} (ct ot : Bool) (client : C → Look) (origin : O → L
   -- by a step, whose facts speak of what the origin's link refused before it
   pub sound_led : (s t : Core C O) (old led new : Course Q) (u : Option StageContinuation) (b : Context) → HoldsOn ct ot client origin paired refuses rest whole s old
       → StepKeeps client origin paired refuses s t → IfTold ct ot (CourseFact (arc_value s.setup) (OriginRefuses client refuses s) rest (view_of client origin t) led)
-      → StaysOnOrLacks led new → IsOfLinesOn (arc_value s.setup) rest new → IsCoveredNow (view_of client origin t) u new b
+      → IsOfLinesOn (arc_value s.setup) rest led → StaysOnOrLacks led new → IsCoveredNow (view_of client origin t) u new b
       → IsSoundNow ct ot client origin paired refuses rest whole t u new b
-  sound_led s t old led new u b stands keeps fact stays lines covered =
+  sound_led s t old led new u b stands keeps fact lines stays covered =
       sound_here s t old new u b stands keeps
       (λ told also. course_settled client origin paired refuses rest s t new keeps
       (stays_on (arc_value s.setup) (OriginRefuses client refuses s) rest (view_of client origin t) led new (fact told also) stays))
-      (subst (λ x. IsOfLinesOn (arc_value x) rest new) (sym keeps.setup) lines) covered
+      (subst (λ x. IsOfLinesOn (arc_value x) rest new) (sym keeps.setup) (lines_stay (arc_value s.setup) rest led new lines stays)) covered

@@ -43,7 +43,6 @@ mod OneHead
 pub mod OneSide
 pub mod Owns
 pub mod Parting
-pub mod Paying
 pub mod Relaying
 pub mod Resting
 pub mod Responding

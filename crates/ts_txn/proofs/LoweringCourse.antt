@@ -1,22 +1,31 @@
 -- Wherever an event leads a transaction on its course, what is left to do pays for each event that is set, so that each event
 -- that is handled lowers its number.
-use Rattle.std.proofs.Common.{◌≡◌, inl, inr, ℕ, ◌+◌, ◌≤◌, List, length, Bool, true, false, arith, refl, sym, ap, subst}
+use Rattle.std.proofs.Common.{◌≡◌, ◌⊎◌, inl, inr, ℕ, ◌+◌, ◌≤◌, List, length, Bool, true, false, arith, refl, sym, ap, subst}
 use Rattle.std.specs.Prelude.{◌&&◌, Option, Some, None}
 use Rattle.std.specs.Arc.{arc_value}
 use Rattle.ts_config.specs.declared.setup.Setup.{Setup}
 use Rattle.ts_hooks.specs.declared.txn_end.TxnEnd.{TxnEnd}
 use Rattle.ts_hooks.specs.declared.txn_end.TxnEnd.TheVariants as E
 use Rattle.ts_journal.specs.declared.entry.Pending.{Pending}
-use Rattle.ts_group.specs.Answers.{Falls}
+use Rattle.ts_journal.specs.declared.entry.TheConstants.{GREATEST}
+use Rattle.ts_journal.specs.declared.entry.Event.{Event}
+use Rattle.ts_journal.specs.State.{State}
+use Rattle.ts_group.specs.Answers.{Falls, TellFalls}
+use Rattle.ts_group.specs.Calls.{IsCalled}
+use Rattle.ts_group.specs.Context.{Context}
+use Rattle.ts_group.specs.declared.action.Named.{Named}
+use Rattle.ts_group.specs.declared.world.Asked.{Asked}
+use Rattle.ts_group.specs.declared.world.Asked.TheVariants.{Reply, Missed, NoMemory}
 use Rattle.ts_link.specs.Link.{Fewer, Look, NoMore}
 use Rattle.ts_wire.specs.declared.heads.ResponseHead.{ResponseHead}
 use Rattle.ts_txn.specs.Course.{course_after, finish_after}
-use Rattle.ts_txn.specs.CourseCover.{StaysOnOrLacks, set_after, set_leaving}
-use Rattle.ts_txn.specs.Duties.{WhileGoes}
+use Rattle.ts_transform.specs.declared.continuation.StageContinuation.{StageContinuation}
+use Rattle.ts_txn.specs.CourseCover.{BodyHasEvents, IsCoveredOn, StaysOnOrLacks, set_after, set_leaving}
+use Rattle.ts_txn.specs.Duties.{IsBodyCovered, WhileGoes}
 use Rattle.ts_txn.specs.Holding.{IfTold}
 use Rattle.ts_txn.specs.Lowering.{StepFalls, agains_left, events_paid, if_told, number_left, phase_work, upload_in, work_left}
 use Rattle.ts_txn.specs.LoweringBody.{IsOfLines, StaysOfLines, ended_left, finish_left, left_after, rest_after, unbegun_left}
-use Rattle.ts_txn.specs.LoweringCourse.{IsOfLinesOn, course_left, number_if, parts_left, transaction_left}
+use Rattle.ts_txn.specs.LoweringCourse.{IsOfLinesOn, PaysEvents, course_left, number_if, parts_left, transaction_left}
 use Rattle.ts_txn.specs.View.{View, upload_told, view_of}
 use Rattle.ts_txn.specs.declared.course.Course.{Course}
 use Rattle.ts_txn.specs.declared.course.Course.TheVariants as K
@@ -30,6 +39,7 @@ use Rattle.ts_txn.specs.declared.phase.Phase.TheVariants as P
 use Rattle.ts_txn.specs.declared.phase.Request.{Request}
 use Rattle.ts_txn.specs.declared.phase.Step.{Step}
 use Rattle.ts_txn.specs.declared.relay.Relay.{Relay}
+use Rattle.ts_txn.proofs.CourseCalls.{spent_still}
 use Rattle.ts_txn.proofs.LoweringEvents.{handled_falls, paid_fewer, paid_none, paid_then, step_pays}
 use Rattle.ts_txn.proofs.LoweringRelay.{ended_if}
 
@@ -109,14 +119,23 @@ module _ {Q : Type 0} (setup : Setup) (rest : Q → List ℕ → List ℕ) where
       (after_ended step r w before mid now m (set_leaving step) paid few)
 
   -- the chain stays one of the configuration's
-  pub lines_led : (step : BodyStep) (r s : Relay Q) (result : Course Q) → WhileGoes step (StaysOfLines setup rest r s) → IsOfLines setup rest r.driven.chain → StaysOnOrLacks (course_after s step) result
-      → IsOfLinesOn setup rest result
-  lines_led step r s result lines of (inr lacks) = subst (λ (c : Course Q). IsOfLinesOn setup rest c) (sym lacks) tt
-  lines_led S.Goes r s result lines of (inl same) = subst (λ (c : Course Q). IsOfLinesOn setup rest c) (sym same) (lines of)
-  lines_led S.Waits r s result lines of (inl same) = subst (λ (c : Course Q). IsOfLinesOn setup rest c) (sym same) (lines of)
-  lines_led (S.Finishes end) r s result lines of (inl same) = subst (λ (c : Course Q). IsOfLinesOn setup rest c) (sym same) tt
-  lines_led (S.Closes end) r s result lines of (inl same) = subst (λ (c : Course Q). IsOfLinesOn setup rest c) (sym same) tt
-  lines_led S.Lacks r s result lines of (inl same) = subst (λ (c : Course Q). IsOfLinesOn setup rest c) (sym same) tt
+  pub lines_stay : (led result : Course Q) → IsOfLinesOn setup rest led → StaysOnOrLacks led result → IsOfLinesOn setup rest result
+  lines_stay led result lines (inl same) = subst (λ (c : Course Q). IsOfLinesOn setup rest c) (sym same) lines
+  lines_stay led result lines (inr lacks) = subst (λ (c : Course Q). IsOfLinesOn setup rest c) (sym lacks) tt
+
+  pub lines_after : (step : BodyStep) (r s : Relay Q) → WhileGoes step (StaysOfLines setup rest r s) → IsOfLines setup rest r.driven.chain → IsOfLinesOn setup rest (course_after s step)
+  lines_after S.Goes r s lines of = lines of
+  lines_after S.Waits r s lines of = lines of
+  lines_after (S.Finishes end) r s lines of = tt
+  lines_after (S.Closes end) r s lines of = tt
+  lines_after S.Lacks r s lines of = tt
+
+  pub lines_last : (end : TxnEnd) (step : BodyStep) → IsOfLinesOn setup rest (finish_after end step)
+  lines_last end S.Goes = tt
+  lines_last end S.Waits = tt
+  lines_last end (S.Finishes other) = tt
+  lines_last end (S.Closes other) = tt
+  lines_last end S.Lacks = tt
 
   -- ---- the body began
 
@@ -222,3 +241,32 @@ module _ {C O Q : Type 0} (ct ot : Bool) (client : C → Look) (origin : O → L
       (number_left now (course_left (arc_value old.setup) rest (upload_told left new.client.link new.origin) (view_of client origin new) result)) 1
       (λ told also. handled_falls before after now (parts_left ct ot client origin left rest old course)
       (course_left (arc_value old.setup) rest (upload_told left new.client.link new.origin) (view_of client origin new) result) (less_by_one (length after) (length before) handled) (paid told also)))
+
+-- where nothing was done
+pub hears_same : {R T : Type 0} (asked : Asked R T) (m n : Option ℕ) → n ≡ m → TellFalls asked m n
+hears_same {R} {T} asked m n same = subst (λ (x : Option ℕ). TellFalls asked m x) (sym same) (by_answer asked m)
+  where
+    by_answer : (asked : Asked R T) (m : Option ℕ) → TellFalls asked m m
+    by_answer (Reply r) m = falls_same m
+    by_answer (Missed seen q) None = tt
+    by_answer (Missed seen q) (Some x) = tt
+    by_answer (NoMemory q) m = falls_same m
+
+pub asked_same : (m n : Option ℕ) → n ≡ m → Falls m 0 n
+asked_same m n same = subst (λ (x : Option ℕ). Falls m 0 x) (sym same) (falls_same m)
+
+-- ---- the event of a role
+
+-- who must work in a body is covered once its event was handled
+pub covered_called : {Q : Type 0} (Sound : State → List Named → Type 0) (v : View) (main : Option StageContinuation) (r : Relay Q) (now : Context) (role : ℕ) (event : Event)
+    (c : IsCalled Sound now role event) → IsCoveredOn v main (K.Relaying r) c.before.pending c.before.next now.roles → IsBodyCovered v main r now.log.state.next
+covered_called Sound v main r now role event c covered = by_event covered.covered
+  where
+    by_event : BodyHasEvents v main r c.before.pending now.roles ⊎ (GREATEST ≤ c.before.next) → IsBodyCovered v main r now.log.state.next
+    by_event (inl has) = inl (has.runs, has.ends)
+    by_event (inr spent) = inr (spent_still Sound now role event c covered.plain spent)
+
+-- the same course, by an equation
+pub pays_as : {C O Q : Type 0} (ct ot : Bool) (client : C → Look) (origin : O → Look) (left : C → O → Option ℕ) (rest : Q → List ℕ → List ℕ) (s t : Core C O) (was course result : Course Q) (a b : Context)
+    → was ≡ course → PaysEvents ct ot client origin left rest s t course result a b → PaysEvents ct ot client origin left rest s t was result a b
+pays_as {Q = Q} ct ot client origin left rest s t was course result a b same pays = subst (λ (x : Course Q). PaysEvents ct ot client origin left rest s t x result a b) (sym same) pays

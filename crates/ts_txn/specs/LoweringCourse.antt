@@ -1,5 +1,5 @@
 -- What a transaction has left to do on its course, as one number, with the events that are pending.
-use Rattle.std.specs.Prelude.{ℕ, List, Bool, true, false, ◌&&◌, Option, None, ⊤}
+use Rattle.std.specs.Prelude.{◌≡◌, ◌≤◌, ℕ, ◌+◌, ◌*◌, ◌^◌, List, [], length, Bool, true, false, ◌&&◌, Option, None, ⊤}
 use Rattle.std.specs.Arc.{arc_value}
 use Rattle.ts_config.specs.declared.setup.Setup.{Setup}
 use Rattle.ts_group.specs.Answers.{Falls}
@@ -46,7 +46,8 @@ module _ {C O Q : Type 0} (ctells otells : Bool) (client : C → Look) (origin :
   -- no event that is set raises it
   abbrev pub PaysEvents : Core C O → Core C O → Course Q → Course Q → Context → Context → Type 0
   PaysEvents old new before after a b = IfTold ctells otells
-      (Falls (number_left a.log.state.pending (parts_left old before)) 0 (number_left b.log.state.pending (parts_left new after)))
+      (Falls (number_left a.log.state.pending (parts_left old before)) 0 (number_left b.log.state.pending
+      (course_left (arc_value old.setup) rest (upload_told left new.client.link new.origin) (view_of client origin new) after)))
 
 -- THE NUMBER OF A TRANSACTION THAT WAS NOT STARTED
 

@@ -1,6 +1,7 @@
 //! A transaction as the world of a mutex group.
 ghost use Rattle.std.specs.Prelude.{◌≡◌, ⊤, true, false, [], None, refl, ℕ};
 ghost use Rattle.ts_group.specs.declared.world.Want.TheVariants as Want;
+ghost use Rattle.ts_group.specs.Answers.{Falls};
 ghost use Rattle.ts_group.specs.Calls.{IsCalled};
 ghost use Rattle.ts_group.specs.Entries.{Grows};
 ghost use Rattle.ts_transform.specs.Driving.{ActsWithin, IsDueAfter, SetsOnly};
@@ -77,7 +78,7 @@ impl<C: Link + Drop, O: Upstream<C> + Drop, P: Transform<Line = TransformLine> +
     ghost follows_on = { λ t u v a b. tt };
 }
 
-#[tactic(auto, using(ts_group::proofs::Grows::grows, ts_group::proofs::Grows::grows_refl, ts_transform::proofs::Kept::acts_none, crate::proofs::Handling::sound_begun, crate::proofs::Handling::sound_asked, crate::proofs::Seating::due_rests, crate::proofs::Coverage::fresh_none, crate::proofs::Events::takes_event, crate::proofs::Fitting::fits_on))]
+#[tactic(auto, using(ts_group::proofs::Grows::grows, ts_group::proofs::Grows::grows_refl, ts_transform::proofs::Kept::acts_none, crate::proofs::Handling::sound_begun, crate::proofs::Handling::sound_asked, crate::proofs::Seating::due_rests, crate::proofs::Coverage::fresh_none, crate::proofs::Events::takes_event, crate::proofs::Fitting::fits_on, crate::proofs::LoweringCourse::hears_same, crate::proofs::LoweringCourse::asked_same))]
 impl<C: Link + Drop, O: Upstream<C> + Drop, P: Transform<Line = TransformLine> + Drop> World
     for Txn<C, O, P> {
     type Question = ();
@@ -96,6 +97,7 @@ impl<C: Link + Drop, O: Upstream<C> + Drop, P: Transform<Line = TransformLine> +
 
     ghost answers = { λ t question reply. ⊤ };
 
+    // Where both links tell, each event that is handled lowers it.
     ghost left = { λ t s. transaction_left C.tells O.tells C.look O.look O.upload_left P.rest
         t.core t.course s.pending };
 
@@ -120,6 +122,7 @@ impl<C: Link + Drop, O: Upstream<C> + Drop, P: Transform<Line = TransformLine> +
         ensures within { SetsOneOrNone cx.old cx.new }
         ensures begun { HasTxnBegun self.old self.new }
         ensures due { SetsOnly (IsDueAfter AT_ONCE cx.old.moment) cx.old cx.new }
+        ensures rests { is_fresh_on self.old.course ≡ false → cx.new ≡ cx.old }
     {
         if !is_fresh(&self.course) {
             return;
@@ -139,6 +142,14 @@ impl<C: Link + Drop, O: Upstream<C> + Drop, P: Transform<Line = TransformLine> +
         ensures within { ActsWithin most_set cx.old cx.new }
         ensures handles { HandlesEvent C.tells O.tells C.look O.look O.paired O.refuses O.upload_left
             self.old.core self.new.core cx.old cx.new self.old.main self.old.course self.new.course }
+        ensures lowers { (c : IsCalled
+            (λ s roles. IsSoundTxn C.tells O.tells C.look O.look O.paired O.refuses P.rest P.whole
+            self.old s.pending s.next roles)
+            cx.old role event) → Falls
+            (transaction_left C.tells O.tells C.look O.look O.upload_left P.rest
+            self.old.core self.old.course c.before.pending) 1
+            (transaction_left C.tells O.tells C.look O.look O.upload_left P.rest
+            self.new.core self.new.course cx.new.log.state.pending) }
     {
         drive_on(
             &mut self.core,

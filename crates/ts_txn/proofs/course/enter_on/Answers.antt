@@ -18,8 +18,7 @@ use Rattle.ts_txn.proofs.CourseSeats.{ended_alone}
 use Rattle.ts_txn.proofs.Coursing.{course_settled, enters_settled, led_on, stays_on}
 use Rattle.ts_txn.proofs.Events.{begin_led, due_begin, takes_begin, takes_lost}
 use Rattle.ts_txn.proofs.Handling.{leaving_one, sound_here}
-use Rattle.ts_txn.proofs.LoweringCourse.{begun_led, lines_led, not_begun}
-use Rattle.ts_txn.proofs.Paying.{pays_led}
+use Rattle.ts_txn.proofs.LoweringCourse.{begun_led, lines_after, lines_stay, not_begun}
 use Rattle.ts_txn.proofs.course.enter_on.Goals as goal
 
 -- Memory lacked for the head.
@@ -68,8 +67,9 @@ returns-clause-sound g c =
     (K.Phased (P.ResponseTransform c.args.request c.args.head)) c.leave.result c.leave.new.main c.leave.new.cx c.requires.stands c.queue_relay.ensures.keeps
     (λ told also. stays_on (arc_value new.setup) (OriginRefuses g.C.Link.look g.O.Upstream.refuses new) g.P.Transform.rest v (course_after relay step) c.leave.result
     (led_on (arc_value new.setup) (OriginRefuses g.C.Link.look g.O.Upstream.refuses new) g.P.Transform.rest v relay step (c.begin_body-step.ensures.leads told also)) c.leave.ensures.course)
-    (lines_led (arc_value new.setup) g.P.Transform.rest step c.in-Ok.made relay c.leave.result c.begin_body-step.ensures.lowers.lines
-    (subst (λ x. IsOfLines (arc_value x) g.P.Transform.rest c.in-Ok.made.driven.chain) (sym c.queue_relay.ensures.keeps.setup) c.in-Ok.ensures.lowers.lines) c.leave.ensures.course)
+    (lines_stay (arc_value new.setup) g.P.Transform.rest (course_after relay step) c.leave.result
+    (lines_after (arc_value new.setup) g.P.Transform.rest step c.in-Ok.made relay c.begin_body-step.ensures.lowers.lines
+    (subst (λ x. IsOfLines (arc_value x) g.P.Transform.rest c.in-Ok.made.driven.chain) (sym c.queue_relay.ensures.keeps.setup) c.in-Ok.ensures.lowers.lines)) c.leave.ensures.course)
     (c.leave.ensures.covered v
     (stands_begun step v c.args.main.now c.begin_body-step.new.main relay c.args.cx.now c.begin_body-step.new.cx c.known.ensures c.begin_body-step.ensures.begins c.requires.alone))
 
@@ -109,34 +109,26 @@ returns-clause-handles g c =
     }
 
 pub returns-in_default-clause-pays : goal.returns-in_default-clause-pays
-returns-in_default-clause-pays g c =
+returns-in_default-clause-pays g c = λ told also.
     let core = c.args.core.now in
     let new = c.queue_relay.new.self in
-    let q = c.args.request in
-    let h = c.args.head in
     let few = c.destroy_end.ensures.clears.lessens.few.pending in
-    pays_led g.C.Link.tells g.O.Link.tells g.C.Link.look g.O.Link.look g.O.Upstream.upload_left g.P.Transform.rest core new (K.Phased (P.ResponseTransform q h)) (K.Phased (P.Ended E.NoMemory))
-    c.args.cx.now c.destroy_end.new.cx c.queue_relay.ensures.keeps.setup
-    (λ told also. not_begun (arc_value core.setup) g.P.Transform.rest q h (view_of g.C.Link.look g.O.Link.look core) (view_of g.C.Link.look g.O.Link.look new)
+    not_begun (arc_value core.setup) g.P.Transform.rest c.args.request c.args.head (view_of g.C.Link.look g.O.Link.look core) (view_of g.C.Link.look g.O.Link.look new)
     (upload_told g.O.Upstream.upload_left core.client.link core.origin) (upload_told g.O.Upstream.upload_left new.client.link new.origin) c.args.cx.now.log.state.pending
     c.destroy_end.new.cx.log.state.pending (ap (λ (l : Look). l.agains) c.queue_relay.ensures.quiet.client) (ap (λ (s : LinkSide). s.look.agains) c.queue_relay.ensures.quiet.origin)
-    (omega (arith, few)))
+    (omega (arith, few))
 
 pub returns-clause-pays : goal.returns-clause-pays
-returns-clause-pays g c =
+returns-clause-pays g c = λ told also.
     let core = c.args.core.now in
     let new = c.queue_relay.new.self in
-    let q = c.args.request in
-    let h = c.args.head in
     let made = c.in-Ok.made in
     let relay = c.begin_body-step.new.relay in
     let step = c.begin_body-step.result in
     let w = view_of g.C.Link.look g.O.Link.look new in
     let kept = subst (λ x. NoMore (unbegun_left (arc_value x) g.P.Transform.rest w made) (left_after (arc_value x) g.P.Transform.rest step w relay)) c.queue_relay.ensures.keeps.setup
         c.begin_body-step.ensures.lowers.falls in
-    pays_led g.C.Link.tells g.O.Link.tells g.C.Link.look g.O.Link.look g.O.Upstream.upload_left g.P.Transform.rest core new (K.Phased (P.ResponseTransform q h)) c.leave.result c.args.cx.now
-    c.leave.new.cx c.queue_relay.ensures.keeps.setup
-    (λ told also. begun_led (arc_value core.setup) g.P.Transform.rest q h step made relay c.leave.result (view_of g.C.Link.look g.O.Link.look core) w
+    begun_led (arc_value core.setup) g.P.Transform.rest c.args.request c.args.head step made relay c.leave.result (view_of g.C.Link.look g.O.Link.look core) w
     (upload_told g.O.Upstream.upload_left core.client.link core.origin) (upload_told g.O.Upstream.upload_left new.client.link new.origin) c.args.cx.now.log.state.pending
     c.begin_body-step.new.cx.log.state.pending c.leave.new.cx.log.state.pending (c.in-Ok.ensures.lowers.falls told also) kept c.begin_body-step.ensures.begins.acts.few.pending
-    c.leave.ensures.course c.leave.ensures.within.few.pending)
+    c.leave.ensures.course c.leave.ensures.within.few.pending

@@ -6,9 +6,8 @@ use Rattle.ts_txn.specs.View.{OriginRefuses, upload_told, view_of}
 use Rattle.ts_txn.specs.World.{most_set}
 use Rattle.ts_txn.specs.declared.course.Course.TheVariants as K
 use Rattle.ts_txn.proofs.Coursing.{led_last}
-use Rattle.ts_txn.proofs.Handling.{lines_stay, lines_written, sound_led}
-use Rattle.ts_txn.proofs.LoweringCourse.{finish_led}
-use Rattle.ts_txn.proofs.Paying.{pays_led}
+use Rattle.ts_txn.proofs.Handling.{sound_led}
+use Rattle.ts_txn.proofs.LoweringCourse.{finish_led, lines_last}
 use Rattle.ts_txn.proofs.course.finish_on.Goals as goal
 
 pub returns-clause-sound : goal.returns-clause-sound
@@ -20,9 +19,7 @@ returns-clause-sound g c =
     (finish_after c.args.end c.send_rest-step.result) c.write_on.result c.write_on.new.main c.write_on.new.cx c.requires.stands c.send_rest-step.ensures.keeps
     (λ told also. led_last (arc_value core.setup) (OriginRefuses g.C.Link.look g.O.Upstream.refuses core) g.P.Transform.rest v c.args.end c.send_rest-step.result
     (c.send_rest-step.ensures.leads told also))
-    c.write_on.ensures.course
-    (lines_stay (arc_value core.setup) g.P.Transform.rest (finish_after c.args.end c.send_rest-step.result) c.write_on.result c.write_on.ensures.course
-    (lines_written (arc_value core.setup) g.P.Transform.rest c.args.end c.send_rest-step.result))
+    (lines_last (arc_value core.setup) g.P.Transform.rest c.args.end c.send_rest-step.result) c.write_on.ensures.course
     (c.write_on.ensures.covered c.requires.alone v)
 
 pub returns-clause-within : goal.returns-clause-within
@@ -39,11 +36,9 @@ returns-clause-handles g c = record {
 }
 
 pub returns-clause-pays : goal.returns-clause-pays
-returns-clause-pays g c =
+returns-clause-pays g c = λ told also.
     let core = c.args.core.now in
     let new = c.send_rest-step.new.self in
-    pays_led g.C.Link.tells g.O.Link.tells g.C.Link.look g.O.Link.look g.O.Upstream.upload_left g.P.Transform.rest core new (K.Finishing c.args.end) c.write_on.result c.args.cx.now c.write_on.new.cx
-    c.send_rest-step.ensures.keeps.setup
-    (λ told also. finish_led (arc_value core.setup) g.P.Transform.rest c.args.end c.send_rest-step.result c.write_on.result (view_of g.C.Link.look g.O.Link.look core)
+    finish_led (arc_value core.setup) g.P.Transform.rest c.args.end c.send_rest-step.result c.write_on.result (view_of g.C.Link.look g.O.Link.look core)
     (view_of g.C.Link.look g.O.Link.look new) (upload_told g.O.Upstream.upload_left new.client.link new.origin) c.args.cx.now.log.state.pending c.write_on.new.cx.log.state.pending
-    c.write_on.ensures.course (c.send_rest-step.ensures.falls told also) c.write_on.ensures.within.few.pending)
+    c.write_on.ensures.course (c.send_rest-step.ensures.falls told also) c.write_on.ensures.within.few.pending

@@ -9,9 +9,8 @@ use Rattle.ts_txn.specs.World.{most_set}
 use Rattle.ts_txn.specs.declared.course.Course.TheVariants as K
 use Rattle.ts_txn.proofs.CourseCalls.{stands_handled}
 use Rattle.ts_txn.proofs.Coursing.{led_on}
-use Rattle.ts_txn.proofs.Handling.{body_covered, leaving_one, sound_led}
-use Rattle.ts_txn.proofs.LoweringCourse.{body_led, lines_led}
-use Rattle.ts_txn.proofs.Paying.{pays_led}
+use Rattle.ts_txn.proofs.Handling.{leaving_one, sound_led}
+use Rattle.ts_txn.proofs.LoweringCourse.{body_led, covered_called, lines_after}
 use Rattle.ts_txn.proofs.course.relay_on.Goals as goal
 
 pub returns-clause-sound : goal.returns-clause-sound
@@ -26,8 +25,7 @@ returns-clause-sound g c =
     sound_led g.C.Link.tells g.O.Link.tells g.C.Link.look g.O.Link.look g.O.Upstream.paired g.O.Upstream.refuses g.P.Transform.rest g.P.Transform.whole core new (K.Relaying c.args.relay)
     (course_after relay step) c.leave.result c.leave.new.main c.leave.new.cx c.requires.called.sound.stands c.handle_body-step.ensures.keeps
     (λ told also. led_on (arc_value core.setup) (OriginRefuses g.C.Link.look g.O.Upstream.refuses core) g.P.Transform.rest w relay step (c.handle_body-step.ensures.leads told also))
-    c.leave.ensures.course
-    (lines_led (arc_value core.setup) g.P.Transform.rest step c.args.relay relay c.leave.result c.handle_body-step.ensures.pays.lines c.requires.called.sound.stands.lines c.leave.ensures.course)
+    (lines_after (arc_value core.setup) g.P.Transform.rest step c.args.relay relay c.handle_body-step.ensures.pays.lines c.requires.called.sound.stands.lines) c.leave.ensures.course
     (c.leave.ensures.covered w (stands_handled _ v c.args.main.now c.args.cx.now c.args.role c.args.event c.requires.called step w main c.args.relay relay c.handle_body-step.new.cx
     c.requires.called.sound.covered c.handle_body-step.ensures.handles))
 
@@ -53,17 +51,15 @@ returns-clause-handles g c = record {
 }
 
 pub returns-clause-pays : goal.returns-clause-pays
-returns-clause-pays g c =
+returns-clause-pays g c = λ told also.
     let core = c.args.core.now in
     let new = c.handle_body-step.new.self in
     let relay = c.handle_body-step.new.relay in
-    let step = c.handle_body-step.result in
     let v = view_of g.C.Link.look g.O.Link.look core in
     let w = view_of g.C.Link.look g.O.Link.look new in
-    let covered = body_covered g.C.Link.tells g.O.Link.tells g.C.Link.look g.O.Link.look g.O.Upstream.paired g.O.Upstream.refuses g.P.Transform.rest g.P.Transform.whole core c.args.main.now c.args.relay
-        c.args.cx.now c.args.role c.args.event c.requires.called in
-    pays_led g.C.Link.tells g.O.Link.tells g.C.Link.look g.O.Link.look g.O.Upstream.upload_left g.P.Transform.rest core new (K.Relaying c.args.relay) c.leave.result c.args.cx.now c.leave.new.cx
-    c.handle_body-step.ensures.keeps.setup
-    (λ told also. body_led (arc_value core.setup) g.P.Transform.rest step relay c.leave.result w (upload_told g.O.Upstream.upload_left new.client.link new.origin) c.args.cx.now.log.state.pending
-    c.handle_body-step.new.cx.log.state.pending c.leave.new.cx.log.state.pending (relay_left (arc_value core.setup) g.P.Transform.rest v c.args.relay) c.leave.ensures.course
-    (c.handle_body-step.ensures.pays.pays told also c.requires.called.sound.stands.lines covered) c.leave.ensures.within.few.pending)
+    body_led (arc_value core.setup) g.P.Transform.rest c.handle_body-step.result relay c.leave.result w (upload_told g.O.Upstream.upload_left new.client.link new.origin)
+    c.args.cx.now.log.state.pending c.handle_body-step.new.cx.log.state.pending c.leave.new.cx.log.state.pending (relay_left (arc_value core.setup) g.P.Transform.rest v c.args.relay)
+    c.leave.ensures.course
+    (c.handle_body-step.ensures.pays.pays told also c.requires.called.sound.stands.lines
+    (covered_called _ v c.args.main.now c.args.relay c.args.cx.now c.args.role c.args.event c.requires.called c.requires.called.sound.covered))
+    c.leave.ensures.within.few.pending

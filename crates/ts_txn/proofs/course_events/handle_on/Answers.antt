@@ -1,5 +1,6 @@
 use Rattle.std.proofs.Common.{sym, ◌∙◌}
 use Rattle.ts_txn.specs.declared.course.Course.TheVariants as K
+use Rattle.ts_txn.proofs.Events.{handles_phased}
 use Rattle.ts_txn.proofs.Handling.{alone_then, sound_other, sound_quiet}
 use Rattle.ts_txn.proofs.course_events.handle_on.Goals as goal
 
@@ -18,6 +19,11 @@ pub phase_on-requires-clause-alone : goal.phase_on-requires-clause-alone
 phase_on-requires-clause-alone g c =
     alone_then g.C.Link.tells g.O.Link.tells g.C.Link.look g.O.Link.look g.O.Upstream.paired g.O.Upstream.refuses g.P.Transform.rest g.P.Transform.whole c.args.core.now c.args.main.now c.args.course
     (K.Phased c.in-Phased.phase) c.in-Phased.is tt c.args.cx.now c.args.role c.args.event c.requires.called c.unrouse.new.slot c.unrouse.ensures
+
+pub returns-else-not-works-clause-handles : goal.returns-else-not-works-clause-handles
+returns-else-not-works-clause-handles g c =
+    handles_phased g.C.Link.tells g.O.Link.tells g.C.Link.look g.O.Link.look g.O.Upstream.paired g.O.Upstream.refuses g.O.Upstream.upload_left c.args.core.now c.phase_on.new.core c.args.cx.now
+    c.phase_on.new.cx c.args.main.now c.unrouse.new.slot c.unrouse.ensures c.args.course c.in-Phased.phase c.in-Phased.is c.phase_on.result c.phase_on.ensures.handles
 
 -- The same while the last is written.
 pub returns-then-role-ne-MAIN-2-clause-sound : goal.returns-then-role-ne-MAIN-2-clause-sound

@@ -6,9 +6,8 @@ use Rattle.ts_txn.specs.View.{upload_told, view_of}
 use Rattle.ts_txn.specs.World.{most_set}
 use Rattle.ts_txn.specs.declared.course.Course.TheVariants as K
 use Rattle.ts_txn.proofs.Events.{due_step, takes_step}
-use Rattle.ts_txn.proofs.Handling.{after_one, lines_stay, sound_led}
+use Rattle.ts_txn.proofs.Handling.{after_one, sound_led}
 use Rattle.ts_txn.proofs.LoweringCourse.{phase_led}
-use Rattle.ts_txn.proofs.Paying.{pays_led}
 use Rattle.ts_txn.proofs.course_events.step_phase.Goals as goal
 
 pub returns-clause-sound : goal.returns-clause-sound
@@ -16,8 +15,7 @@ returns-clause-sound g c =
     let core = c.args.core.now in
     let new = c.step-step.new.self in
     sound_led g.C.Link.tells g.O.Link.tells g.C.Link.look g.O.Link.look g.O.Upstream.paired g.O.Upstream.refuses g.P.Transform.rest g.P.Transform.whole core new (K.Phased c.args.phase)
-    (K.Phased c.step-step.result.phase) c.step_on.result c.step_on.new.main c.step_on.new.cx c.requires.stands c.step-step.ensures.keeps c.step-step.ensures.fact c.step_on.ensures.course
-    (lines_stay (arc_value core.setup) g.P.Transform.rest (K.Phased c.step-step.result.phase) c.step_on.result c.step_on.ensures.course tt)
+    (K.Phased c.step-step.result.phase) c.step_on.result c.step_on.new.main c.step_on.new.cx c.requires.stands c.step-step.ensures.keeps c.step-step.ensures.fact tt c.step_on.ensures.course
     (c.step_on.ensures.covered c.step-step.ensures.leads c.requires.alone (view_of g.C.Link.look g.O.Link.look new))
 
 pub returns-clause-within : goal.returns-clause-within
@@ -39,11 +37,9 @@ returns-clause-handles g c = record {
 }
 
 pub returns-clause-pays : goal.returns-clause-pays
-returns-clause-pays g c =
+returns-clause-pays g c = λ told also.
     let core = c.args.core.now in
     let new = c.step-step.new.self in
-    pays_led g.C.Link.tells g.O.Link.tells g.C.Link.look g.O.Link.look g.O.Upstream.upload_left g.P.Transform.rest core new (K.Phased c.args.phase) c.step_on.result c.args.cx.now c.step_on.new.cx
-    c.step-step.ensures.keeps.setup
-    (λ told also. phase_led (arc_value core.setup) g.P.Transform.rest c.args.phase c.step-step.result c.step_on.result (view_of g.C.Link.look g.O.Link.look core)
+    phase_led (arc_value core.setup) g.P.Transform.rest c.args.phase c.step-step.result c.step_on.result (view_of g.C.Link.look g.O.Link.look core)
     (view_of g.C.Link.look g.O.Link.look new) (upload_told g.O.Upstream.upload_left core.client.link core.origin) (upload_told g.O.Upstream.upload_left new.client.link new.origin)
-    c.args.cx.now.log.state.pending c.step_on.new.cx.log.state.pending c.step_on.ensures.course (c.step-step.ensures.falls told also) c.step_on.ensures.within.few.pending)
+    c.args.cx.now.log.state.pending c.step_on.new.cx.log.state.pending c.step_on.ensures.course (c.step-step.ensures.falls told also) c.step_on.ensures.within.few.pending

@@ -1,8 +1,8 @@
-use Rattle.ts_txn.proofs.Paying.{handled_lowers}
+use Rattle.ts_txn.proofs.LoweringCourse.{transaction_falls}
 use Rattle.ts_txn.proofs.txn.TxnWorld.handle.Goals as goal
 
--- The event that was handled is pending no more.
-pub returns-clause-falls : goal.returns-clause-falls
-returns-clause-falls g c = λ called.
-    handled_lowers g.C.Link.tells g.O.Link.tells g.C.Link.look g.O.Link.look g.O.Upstream.upload_left g.P.Transform.rest c.args.self.now.core c.drive_on.new.core c.args.self.now.course
-    c.drive_on.new.course called.before.pending c.args.cx.now c.drive_on.new.cx c.drive_on.ensures.handles.keeps.setup (called.has.fewer called.sound.covered.plain) c.drive_on.ensures.pays
+-- the event that was handled is pending no more, and those that were set are paid
+pub returns-clause-lowers : goal.returns-clause-lowers
+returns-clause-lowers g c = λ call.
+    transaction_falls g.C.Link.tells g.O.Link.tells g.C.Link.look g.O.Link.look g.O.Upstream.upload_left g.P.Transform.rest c.args.self.now.core c.drive_on.new.core c.args.self.now.course c.drive_on.new.course
+    call.before.pending c.args.cx.now.log.state.pending c.drive_on.new.cx.log.state.pending c.drive_on.ensures.handles.keeps.setup (call.has.fewer call.sound.covered.plain) c.drive_on.ensures.pays
