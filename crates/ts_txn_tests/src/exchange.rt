@@ -10,13 +10,13 @@ use crate::plan::{Plan, link_of, origin_of};
 use crate::refusal::Refusal;
 use std::alloc::Global;
 use std::sync::Arc;
-use ts_config::{Setup, TransformLine, read_config};
+use ts_config::{PluginLine, Setup, TransformLine, read_config};
 use ts_group::{Group, Handling, World};
 use ts_journal::Journal;
 use ts_link::{Link, MemLink, Octets};
 use ts_stock::Stock;
 use ts_transform::Transform;
-use ts_txn::{Txn, TxnParts};
+use ts_txn::{MOST_PLUGINS, Txn, TxnParts};
 use ts_upstream::Upstream;
 
 /// A transaction between links in memory, with the stock transforms.
@@ -58,6 +58,24 @@ pub fn setup_of(alloc: Global, lines: &[u8], file: &[u8]) -> Result<Setup, Refus
         return Err(Refusal::Lines);
     }
     Ok(setup)
+}
+
+/// The same setup with these hook plugin lines.
+pub fn with_plugins(setup: Setup, plugins: Vec<PluginLine>) -> Result<Setup, Refusal>
+    requires { HasFewLines setup 0 }
+    ensures { IfOk result (λ s. HasFewLines s 0) }
+{
+    if plugins.len() > MOST_PLUGINS as usize {
+        return Err(Refusal::Lines);
+    }
+    let Setup {
+        transforms,
+        plugins: _,
+    } = setup;
+    Ok(Setup {
+        transforms,
+        plugins,
+    })
 }
 
 /// A transaction in a group of its own, started in the first turn.

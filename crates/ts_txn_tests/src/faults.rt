@@ -56,7 +56,18 @@ fn check_leaving(alloc: Global, row: &Row<'_>, at: usize) -> Result<Verdict, Ref
 }
 
 #[test]
-fn a_client_that_leaves_at_each_byte_got_a_front(rt: HostRuntime) -> Result<(), Fail> {
+fn a_client_that_leaves_in_its_head_got_a_front(rt: HostRuntime) -> Result<(), Fail> {
+    let alloc = rt.alloc();
+    let row = html(b"prepend.so <\n", b"<banana");
+    for at in 0..row.head.len() {
+        let verdict = check_leaving(alloc, &row, at)?;
+        assert_eq!(rt; verdict, Verdict::AsStated, "at {at}");
+    }
+    Ok(())
+}
+
+#[test]
+fn a_client_that_leaves_in_its_body_got_a_front(rt: HostRuntime) -> Result<(), Fail> {
     let alloc = rt.alloc();
     for (place, (lines, body)) in STOCK.iter().enumerate() {
         let row = html(lines, body);
@@ -67,7 +78,7 @@ fn a_client_that_leaves_at_each_byte_got_a_front(rt: HostRuntime) -> Result<(), 
             Verdict::AsStated,
             "line {place}"
         );
-        for at in 0..whole.parts.client.written().len() {
+        for at in row.head.len()..whole.parts.client.written().len() {
             let verdict = check_leaving(alloc, &row, at)?;
             assert_eq!(rt; verdict, Verdict::AsStated, "line {place}, at {at}");
         }

@@ -27,6 +27,8 @@ mod refusal;
 #[cfg(test)]
 mod row;
 #[cfg(test)]
+mod rules;
+#[cfg(test)]
 mod stated;
 #[cfg(test)]
 mod waits;
