@@ -10,6 +10,7 @@ use Rattle.ts_group.specs.declared.group.Group.{Group}
 use Rattle.ts_transform.specs.declared.world.ChainWorld.{ChainWorld}
 use Rattle.ts_transform.specs.Flow.{client_wait, flow, left_to_do}
 use Rattle.ts_transform.specs.Driving.{errors_to_pass}
+use Rattle.ts_transform.specs.Acting.{step_weight}
 use Rattle.ts_transform.specs.Cover.{IsAwake}
 use Rattle.ts_transform.specs.World.{IsSound, IsSoundGroup}
 use Rattle.ts_proxy.specs.declared.writing.Driven.{Driven}
@@ -50,10 +51,6 @@ to_come rest w = flow rest w.driven.chain []
 -- what waits for the client of a world of a chain
 abbrev pub for_client : {P : Type 0} → ChainWorld P → List ℕ
 for_client w = client_wait w.driven.chain
-
--- a step of a stage counts as so many events, which is more than it sets
-abbrev pub step_weight : ℕ
-step_weight = 100
 
 -- what a world of a chain has left to do, but for its pending events
 abbrev pub left_of : {P : Type 0} → (P → List ℕ → List ℕ) → ChainWorld P → ℕ

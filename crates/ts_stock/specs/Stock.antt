@@ -49,3 +49,8 @@ CountTaken _ n most = n ≡ most
 abbrev pub pause_of : State → ℕ
 pause_of (s.Delaying ms) = ms
 pause_of _ = 0
+
+-- how long that of a line waits
+abbrev pub pause_of_line : TransformLine → ℕ
+pause_of_line (t.Delay ms) = ms
+pause_of_line _ = 0

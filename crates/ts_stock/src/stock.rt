@@ -3,7 +3,7 @@ ghost use Rattle.std.specs.Prelude.{◌≡◌, ℕ, ◌<◌, ◌≤◌, ◌++◌
 ghost use Rattle.ts_config.specs.Bodies.{whole_of};
 ghost use Rattle.ts_iobuf.specs.Buffer.{GrowsBy};
 ghost use Rattle.ts_transform.specs.Law.{Feeds};
-ghost use Rattle.ts_stock.specs.Stock.{still_writes, start_of, fed, written_at_feed, pause_of, CountTaken};
+ghost use Rattle.ts_stock.specs.Stock.{still_writes, start_of, fed, written_at_feed, pause_of, pause_of_line, CountTaken};
 
 use crate::dropping::write_without;
 use crate::held::Held;
@@ -65,8 +65,11 @@ impl Transform for Stock {
 
     ghost pause = { pause_of };
 
+    ghost line_pause = { pause_of_line };
+
     fn fresh(alloc: Global, line: &TransformLine) -> Result<Stock, NoMemory>
         ensures rest { IfOk result (λ s. (z : List ℕ) → still_writes s z ≡ whole_of line.now z) }
+        ensures pause { IfOk result (λ s. pause_of s ≡ pause_of_line line.now) }
         ensures state { IfOk result (λ s. s ≡ start_of line.now) }
     {
         let state = match line {

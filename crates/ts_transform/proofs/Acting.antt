@@ -12,7 +12,7 @@ use Rattle.ts_transform.specs.Stage.{done_by}
 use Rattle.ts_transform.specs.Flow.{ChainState, AnswersAt, StepsAt, MayPump, ended_at, flow, left_to_do}
 use Rattle.ts_transform.specs.Driving.{IsClosed, IsDestroyed, IsToldBefore, KeepsOthers, KeepsStages, Lessens, OnlyTellsBefore, SetsFew, all_unroused, changed, error_passed, gone, may_pass_error_at, unroused_at, works_at}
 use Rattle.ts_transform.specs.Cover.{OnlySets}
-use Rattle.ts_transform.specs.Acting.{ActsAt, HasNothingToDo, IsStage, Pays, PaysErrors, Pumps, StillGives, TellsBefore}
+use Rattle.ts_transform.specs.Acting.{ActsAt, HasNothingToDo, IsStage, Pays, PaysErrors, Pumps, StillGives, TellsBefore, step_weight}
 use Rattle.ts_transform.proofs.Called.{called_unroused}
 use Rattle.ts_transform.proofs.Handled.{length-changed}
 use Rattle.ts_transform.proofs.Kept.{few_refl}
@@ -25,7 +25,7 @@ use Rattle.ts_transform.proofs.Told.{gone_unroused, pumped_once, same_length, un
 -- a pump pays for the events that follow it
 pub pumps : {P : Type 0} (rest : P → List ℕ → List ℕ) (at : ℕ) (c d : ChainState P) (r : Pumped) (a b : Context) → AnswersAt c.given c.first c.stages at r → StepsAt rest c.first c.stages at r d.first d.stages
     → d.given ≡ c.given → length d.stages ≡ length c.stages → ((z : List ℕ) → OnTrue c.given (z ≡ []) → left_to_do rest d z + done_by r ≡ left_to_do rest c z)
-    → length b.log.state.pending ≤ length a.log.state.pending + 100 * done_by r → Pumps rest at c d a b
+    → length b.log.state.pending ≤ length a.log.state.pending + step_weight * done_by r → Pumps rest at c d a b
 pumps rest at c d r a b answers steps given len falls few = record {
   own = inr (record { pumped = r; answers = answers; steps = steps; given = given });
   len = len;

@@ -65,7 +65,7 @@ pub along_duty : {P : Type 0} (pause : P → ℕ) (role : ℕ) (event : Event) (
 along_duty pause role event c d ts a b only = only_weaker (IsForDuty pause d ts a.moment a.roles) (MaySetAlong pause role event c d ts a.moment a.roles) a b (λ p h. inl h) only
 
 -- a role is that of a stage, or it is not
-stage_at : {P : Type 0} (role : ℕ) (c : ChainState P) (ts : List (Option StageContinuation)) → ((at : ℕ) × (role ≡ FIRST + at) × IsStage c ts at) ⊎ ((at : ℕ) → role ≡ FIRST + at → IsStage c ts at → ⊥)
+pub stage_at : {P : Type 0} (role : ℕ) (c : ChainState P) (ts : List (Option StageContinuation)) → ((at : ℕ) × (role ≡ FIRST + at) × IsStage c ts at) ⊎ ((at : ℕ) → role ≡ FIRST + at → IsStage c ts at → ⊥)
 stage_at {P} role c ts = by_role (leb_tells 3 role)
   where
     by_len : (at : ℕ) → role ≡ 3 + at → at + 1 ≤ length ts → ((eqb (length ts) (length c.stages) ≡ true) × (length ts ≡ length c.stages)) ⊎ ((eqb (length ts) (length c.stages) ≡ false) × (length ts ≡ length c.stages → ⊥))
@@ -83,7 +83,7 @@ stage_at {P} role c ts = by_role (leb_tells 3 role)
     by_role (inr (t, before)) = inr (λ j is_j stage. let k : role ≡ 3 + j = is_j in omega (arith, k, before))
 
 -- continuations have their roles, whether an event of one was handled or not
-named_handled : (b : Bool) (roles : List Named) (role at : ℕ) (ts : List (Option StageContinuation)) → AreNamed roles role ts → AreNamed roles role (unroused_for b ts at)
+pub named_handled : (b : Bool) (roles : List Named) (role at : ℕ) (ts : List (Option StageContinuation)) → AreNamed roles role ts → AreNamed roles role (unroused_for b ts at)
 named_handled true roles role at ts named = named_same roles role ts (changed unroused ts at) (same_unroused ts (changed unroused ts at) at refl) named
 named_handled false roles role at ts named = named
 

@@ -331,8 +331,10 @@ falls_told v w a b (inl (same, kept)) runs stopped = absurd (let wrong : true �
 falls_told v w a b (inr (fault, down, lost, cause)) runs stopped = (fault, lost)
 
 -- each duty keeps its event where others are set
-pub carried_kept : {I K P : Type 0} (a b : Context) (w : LinkWorld I K P) → Keeps a b → IsCarried w a.log.state.pending a.roles → IsCarried w b.log.state.pending b.roles
-carried_kept a b w keeps h = record {
+pub carried_kept : {I K P : Type 0} (a b : Context) (w : LinkWorld I K P) → Keeps a b → a.log.state.next ≤ b.log.state.next → IsCarried w a.log.state.pending a.log.state.next a.roles
+    → IsCarried w b.log.state.pending b.log.state.next b.roles
+carried_kept a b w keeps rises h = record {
+  told = λ spent. let used = h.told spent in omega (arith, used, rises);
   joined = λ runs. let j = h.joined runs in record {
     stages = driven_kept 3 a b w.driven.chain w.driven.table.items keeps j.stages;
     of_writer = kept_if a b keeps 1 w.writer j.of_writer;
@@ -350,9 +352,10 @@ made_each : (a b : Context) → SameEvents a.log.state b.log.state → KeepsKeys
 made_each a b events keys role [] h = tt
 made_each a b events keys role (t ∷ ts) (here, others) = (made_if a b events keys role t here, made_each a b events keys (role + 1) ts others)
 
-pub carried_made : {I K P : Type 0} (a b : Context) (w : LinkWorld I K P) → SameEvents a.log.state b.log.state → KeepsKeys a.log.state b.log.state a.roles b.roles → IsCarried w a.log.state.pending a.roles
-    → IsCarried w b.log.state.pending b.roles
+pub carried_made : {I K P : Type 0} (a b : Context) (w : LinkWorld I K P) → SameEvents a.log.state b.log.state → KeepsKeys a.log.state b.log.state a.roles b.roles → IsCarried w a.log.state.pending a.log.state.next a.roles
+    → IsCarried w b.log.state.pending b.log.state.next b.roles
 carried_made a b w events keys h = record {
+  told = λ spent. let used = h.told spent in omega (arith, used, events.next);
   joined = λ runs. let j = h.joined runs in record {
     stages = record { len = j.stages.len; of_stages = made_each a b events keys 3 w.driven.table.items j.stages.of_stages; cover = j.stages.cover };
     of_writer = made_if a b events keys 1 w.writer j.of_writer;

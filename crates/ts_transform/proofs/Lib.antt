@@ -21,3 +21,4 @@ pub mod Driving
 pub mod Carrying
 pub mod Joined
 pub mod Runs
+pub mod Losing

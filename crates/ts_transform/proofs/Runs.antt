@@ -1,20 +1,22 @@
 -- What the handlers of one turn carry between two links.
-use Rattle.std.proofs.Common.{Result, Ok, Err, IfErr, IsErrAnd, ◌≡◌, ◌≤◌, ◌<◌, ◌⊎◌, Some, None, inl, inr, ℕ, zero, suc, List, [], Bool, true, false, arith, refl, sym, ap, subst, ◌∙◌}
+use Rattle.std.proofs.Common.{append_assoc, Result, Ok, Err, IfErr, IsErrAnd, ◌≡◌, ◌≤◌, ◌<◌, ◌⊎◌, Some, None, inl, inr, ℕ, zero, suc, List, [], ◌∷◌, ◌++◌, Bool, true, false, arith, refl, sym, ap, subst, ◌∙◌}
 use Rattle.ts_link.specs.Counts.{Rose}
 use Rattle.ts_journal.specs.declared.entry.Entry.{Entry}
+use Rattle.ts_journal.specs.declared.entry.Entry.TheVariants.{Gave, Took}
 use Rattle.ts_journal.specs.declared.entry.Pending.{Pending}
 use Rattle.ts_journal.specs.State.{State, pending_at}
 use Rattle.ts_group.specs.Due.{IsDueFirst}
 use Rattle.ts_group.specs.declared.group.Group.{Group}
 use Rattle.ts_group.specs.declared.action.SetFault.{SetFault}
-use Rattle.ts_group.specs.Context.{Context}
+use Rattle.ts_group.specs.Acts.{BeginsTurn, GivesTurn}
+use Rattle.ts_group.specs.Context.{Context, IsSame}
 use Rattle.ts_group.specs.declared.world.Handling.{Handling}
 use Rattle.ts_group.specs.declared.world.Handling.TheVariants as H
 use Rattle.ts_group.specs.Answers.{HandleGives, MatchHandling}
 use Rattle.ts_group.specs.Calls.{RunsFrom}
 use Rattle.ts_link.specs.Link.{Look}
 use Rattle.ts_transform.specs.declared.link_world.LinkWorld.{LinkWorld}
-use Rattle.ts_transform.specs.Carrying.{CarriesTo, HasStepped, IsDriveCause, LacksMemory}
+use Rattle.ts_transform.specs.Carrying.{CarriesTo, HandledNothing, HasStepped, IsDriveCause, LacksMemory}
 use Rattle.ts_transform.specs.Loss.{loss_of}
 use Rattle.ts_transform.specs.declared.link_drive.DriveFault.{DriveFault}
 use Rattle.ts_transform.specs.declared.link_drive.DriveFault.TheVariants as D
@@ -123,11 +125,24 @@ due_now s t due number moment later q (p, first, is_due, is_number) same now aft
     let at : q.due ≡ due = ap (λ x. x.due) one ∙ is_due in
     omega (arith, now, after, at, is_later)
 
+-- a turn was begun and given back, and nothing was entered between
+pub handled_nothing : (a m h b : Context) (turn seat moment : ℕ) → BeginsTurn a m turn seat moment → IsSame m h → GivesTurn h b → a.log.state.turns < turn → HandledNothing a b
+handled_nothing a m h b turn seat moment begins same gives later =
+    let kept : h.log.state.turns ≡ turn = ap (λ s. s.turns) same.log.state ∙ ap (λ s. s.turns) begins.state in
+    let given : b.log.state.turns ≡ turn = ap (λ s. s.turns) gives.state ∙ kept in
+    record {
+      earlier = a.log.entries;
+      seat = seat;
+      entries = gives.by.entries ∙ ap (λ es. es ++ Gave h.log.state.turns ∷ []) (same.log.entries ∙ begins.by.entries) ∙ append_assoc a.log.entries (Took turn seat ∷ []) (Gave h.log.state.turns ∷ [])
+          ∙ ap (λ n. a.log.entries ++ Took turn seat ∷ Gave n ∷ []) kept ∙ ap (λ n. a.log.entries ++ Took n seat ∷ Gave n ∷ []) (sym given);
+      made = omega (arith, later, given);
+    }
+
 -- a later turn could not be made
 drive_cause_later : (fault : DriveFault) (a m b : Context) → a.log.state.turns ≤ m.log.state.turns → IsDriveCause fault m b → IsDriveCause fault a b
 drive_cause_later D.Spent a m b later cause = cause
-drive_cause_later D.NoMemory a m b later (inl left) = inl left
-drive_cause_later D.NoMemory a m b later (inr begun) = inr (omega (arith, later, begun))
+drive_cause_later D.NoMemory a m b later cause = cause
+drive_cause_later D.NoMemoryInTurn a m b later cause = record { earlier = cause.earlier; seat = cause.seat; entries = cause.entries; made = omega (arith, later, cause.made) }
 
 pub drive_cause_then : {T : Type 0} (r : Result T DriveFault) (fault : DriveFault) (a m b : Context) → IsErrAnd r (λ e. e ≡ fault) → a.log.state.turns ≤ m.log.state.turns → IsDriveCause fault m b
     → IfErr r (λ f. IsDriveCause f a b)

@@ -23,6 +23,10 @@ abbrev pub HasNothingToDo : {P : Type 0} → Event → ChainState P → List (Op
 HasNothingToDo event c ts at = (ended_at c.stages at ≡ true) ⊎ (event ≡ WriteComplete)
     ⊎ ((event ≡ Error) × (may_pass_error_at ts at ≡ false))
 
+-- each thing that is left to do counts as so many events, which is more than are set where it is done
+abbrev pub step_weight : ℕ
+step_weight = 100
+
 -- What the handler of the stage at a place does at an event: the chain and the continuations were c and ts, and are d
 -- and us, and vs are those of ts once the event was handled; whether nothing was lost before, and now.
 pub record ActsAt {P : Type 0} (rest : P → List ℕ → List ℕ) (pause : P → ℕ) (at : ℕ) (event : Event)
@@ -57,7 +61,7 @@ pub record Pumps {P : Type 0} (rest : P → List ℕ → List ℕ) (at : ℕ) (c
   pub own : MayPump rest at c d
   pub len : length d.stages ≡ length c.stages
   pub pays : (z : List ℕ) → OnTrue c.given (z ≡ []) →
-      100 * left_to_do rest d z + length b.log.state.pending ≤ 100 * left_to_do rest c z + length a.log.state.pending
+      step_weight * left_to_do rest d z + length b.log.state.pending ≤ step_weight * left_to_do rest c z + length a.log.state.pending
 
 -- A stage that ended tells the one before it so; and one that did something calls that.
 pub record TellsBefore {P : Type 0} (pause : P → ℕ) (at : ℕ) (c d : ChainState P)
@@ -83,15 +87,15 @@ CoversHandled at event c d ts us a b = (first : ℕ) (before : List Pending)
 -- The errors that are still to be passed on pay for each event that is set.
 abbrev pub PaysErrors : List (Option StageContinuation) → List (Option StageContinuation) → Context → Context
     → Type 0
-PaysErrors ts us a b = 100 * errors_to_pass us + length b.log.state.pending ≤ 100 * errors_to_pass ts + length a.log.state.pending
+PaysErrors ts us a b = step_weight * errors_to_pass us + length b.log.state.pending ≤ step_weight * errors_to_pass ts + length a.log.state.pending
 
 -- What is left to do pays for each event that is set, whatever still comes: while the end was not given, and for nothing
 -- more from then on.
 abbrev pub Pays : {P : Type 0} → (P → List ℕ → List ℕ) → ChainState P → ChainState P
     → List (Option StageContinuation) → List (Option StageContinuation) → Context → Context → Type 0
 Pays rest c d ts us a b = (z : List ℕ) → OnTrue c.given (z ≡ []) →
-    100 * (left_to_do rest d z + errors_to_pass us) + length b.log.state.pending
-    ≤ 100 * (left_to_do rest c z + errors_to_pass ts) + length a.log.state.pending
+    step_weight * (left_to_do rest d z + errors_to_pass us) + length b.log.state.pending
+    ≤ step_weight * (left_to_do rest c z + errors_to_pass ts) + length a.log.state.pending
 
 -- The chain is as it was; or no continuation was made or destroyed, and those of its stages stay live.
 abbrev pub KeepsLive : {P : Type 0} → ChainState P → ChainState P → List (Option StageContinuation)

@@ -5,14 +5,14 @@ use Rattle.ts_journal.specs.declared.entry.Pending.{Pending}
 use Rattle.ts_group.specs.declared.action.Named.{Named}
 use Rattle.ts_group.specs.Context.{Context}
 use Rattle.ts_transform.specs.Flow.{ChainState, MustRead, MustWrite}
-use Rattle.ts_transform.specs.Driving.{ActsWithin, AreNamed, IsHandled, IsNamedIf, IsRousingOf, Keeps, SetsOnly, unroused_at, works_at}
+use Rattle.ts_transform.specs.Driving.{ActsWithin, AreNamed, IsNamedIf, IsRousingOf, Keeps, SetsOnly, unroused_at, works_at}
 use Rattle.ts_transform.specs.Cover.{IsRousing, MaySet}
 use Rattle.ts_transform.specs.Acting.{HasNothingToDo, IsStage}
 use Rattle.ts_transform.specs.Driven.{Acts}
 use Rattle.ts_transform.specs.declared.driven.DrivenChain.{DrivenChain}
 use Rattle.ts_link.specs.Counts.{one_more}
 use Rattle.ts_link.specs.Link.{Look}
-use Rattle.ts_transform.specs.Carrying.{IsCarried, LacksMemory, MayBreak, StaysLinked}
+use Rattle.ts_transform.specs.Carrying.{IsCarriedTo, LacksMemory, MayBreak, StaysLinked}
 use Rattle.ts_transform.specs.declared.continuation.StageContinuation.{StageContinuation}
 use Rattle.ts_transform.specs.declared.link_world.LinkWorld.{LinkWorld}
 use Rattle.ts_transform.specs.declared.link_world.TheConstants.{FIRST, READER, RETRY, WRITER}
@@ -120,6 +120,5 @@ pub record ActsAlong {I K P : Type 0} (rest : P → List ℕ → List ℕ) (paus
 -- So it does where an event of a role is handled.
 abbrev pub HandlesAlong : {I K P : Type 0} → (P → List ℕ → List ℕ) → (P → ℕ) → (I → Look) → (K → Look) → ℕ → Event → LinkWorld I K P
     → LinkWorld I K P → Context → Context → Type 0
-HandlesAlong rest pause input output role event v w a b = (before : List Pending)
-    → IsHandled before a.log.state.pending a.roles role event
-    → IsCarried v before a.roles → ActsAlong rest pause input output role event v w a b
+HandlesAlong rest pause input output role event v w a b = (before : List Pending) (next : ℕ)
+    → IsCarriedTo role event v before next a → ActsAlong rest pause input output role event v w a b

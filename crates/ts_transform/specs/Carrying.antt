@@ -1,7 +1,9 @@
 -- A chain between two links: what a step of it moves, and who must work.
-use Rattle.std.specs.Prelude.{◌≡◌, ◌≢◌, ℕ, ◌+◌, ◌<◌, ◌≤◌, ◌⊎◌, ◌++◌, List, [], length, Bool, true, false, Option, Some, None, ⊤}
+use Rattle.std.specs.Prelude.{◌≡◌, ◌≢◌, ℕ, ◌+◌, ◌<◌, ◌≤◌, ◌⊎◌, ◌++◌, List, [], ◌∷◌, length, Bool, true, false, Option, Some, None, ⊤}
 use Rattle.std.specs.Bool.{OnTrue}
 use Rattle.ts_journal.specs.declared.entry.TheConstants.{GREATEST}
+use Rattle.ts_journal.specs.declared.entry.Entry.{Entry}
+use Rattle.ts_journal.specs.declared.entry.Entry.TheVariants.{Gave, Took}
 use Rattle.ts_journal.specs.declared.entry.Event.{Event}
 use Rattle.ts_journal.specs.declared.entry.Pending.{Pending}
 use Rattle.ts_group.specs.declared.action.Named.{Named}
@@ -23,7 +25,7 @@ use Rattle.ts_transform.specs.declared.link_world.TheConstants.{FIRST, READER, R
 use Rattle.ts_transform.specs.declared.link_drive.DriveFault.{DriveFault}
 use Rattle.ts_transform.specs.declared.link_drive.DriveFault.TheVariants as D
 use Rattle.ts_transform.specs.declared.loss.Loss.{Loss}
-use Rattle.ts_transform.specs.declared.loss.Loss.TheVariants.{NoMemory}
+use Rattle.ts_transform.specs.declared.loss.Loss.TheVariants.{NoMemory, Spent}
 use Rattle.ts_transform.specs.Loss.{IsCauseOf, loss_of}
 
 -- The input gave some bytes and the output took some, and what the chain still gives is that much further on: for
@@ -124,8 +126,9 @@ pub record AreEndsRoused {P : Type 0} (c : ChainState P)
   pub reads : MustRead c → IsRousedIf reader
 
 -- What holds of a chain between two links: once it was started, while no event was lost, each duty has an event of a
--- continuation that does it. Before the first stage fewer bytes wait than fill it up and one read more brings.
-pub record IsCarried {I K P : Type 0} (w : LinkWorld I K P) (pending : List Pending)
+-- continuation that does it. Before the first stage fewer bytes wait than fill it up and one read more brings. Where it
+-- tells that the numbers of events are used up, they are, and the next is the last.
+pub record IsCarried {I K P : Type 0} (w : LinkWorld I K P) (pending : List Pending) (next : ℕ)
     (roles : List Named) : Type 0 where
   pub joined : IsJoinedWhile w pending roles
   pub ends : w.driven.running ≡ true → AreEndsRoused w.driven.chain w.writer w.reader
@@ -133,17 +136,24 @@ pub record IsCarried {I K P : Type 0} (w : LinkWorld I K P) (pending : List Pend
       × OnlyFirstWorks w.driven.chain
   pub ordered : EndsInOrder w.driven.chain.given w.driven.chain.stages
   pub bounded : length w.driven.chain.first < MOST_WAITING + MOST_PULLED
+  pub told : w.driven.lost ≡ Some Spent → GREATEST ≤ next
+
+-- it holds before an event of a role is handled, with what is pending then, and the number of the next event
+pub record IsCarriedTo {I K P : Type 0} (role : ℕ) (event : Event) (w : LinkWorld I K P) (before : List Pending)
+    (next : ℕ) (now : Context) : Type 0 where
+  pub carried : IsCarried w before next now.roles
+  pub handled : IsHandled before now.log.state.pending now.roles role event
+  pub next_rises : next ≤ now.log.state.next
 
 -- it holds again where an event of a role is handled
 abbrev pub HandlesCarried : {I K P : Type 0} → ℕ → Event → LinkWorld I K P → LinkWorld I K P → Context
     → Context → Type 0
-HandlesCarried role event v w a b = (before : List Pending)
-    → IsHandled before a.log.state.pending a.roles role event
-    → IsCarried v before a.roles → IsCarried w b.log.state.pending b.roles
+HandlesCarried role event v w a b = (before : List Pending) (next : ℕ) → IsCarriedTo role event v before next a
+    → IsCarried w b.log.state.pending b.log.state.next b.roles
 
 -- what holds of its group
 abbrev pub IsCarriedGroup : {I K P Q R T U : Type 0} → Group (LinkWorld I K P) Q R T U → Type 0
-IsCarriedGroup g = IsCarried g.world g.cx.log.state.pending g.cx.roles
+IsCarriedGroup g = IsCarried g.world g.cx.log.state.pending g.cx.log.state.next g.cx.roles
 
 -- The role is that of no continuation of a world: of neither end, and of no stage.
 pub record IsOfNobody {I K P : Type 0} (role : ℕ) (w : LinkWorld I K P) : Type 0 where
@@ -273,11 +283,19 @@ WritesWhole rest in_tells out_tells input output v w =
     → in_tells ≡ true → out_tells ≡ true
     → HasWritten rest (input v.input) (input w.input) (output v.output) (output w.output) v.driven.chain
 
--- Why it is driven no further: no number of a turn is left; or memory lacked, where one was left, or for a turn that
--- had begun.
+-- the turn that was made last was given back with nothing handled in it
+pub record HandledNothing (old new : Context) : Type 0 where
+  pub earlier : List Entry
+  pub seat : ℕ
+  pub entries : new.log.entries ≡ earlier ++ Took new.log.state.turns seat ∷ Gave new.log.state.turns ∷ []
+  pub made : old.log.state.turns < new.log.state.turns
+
+-- Why it is driven no further: no number of a turn is left; or memory lacked for a turn, though a number was left; or it
+-- lacked in the last turn, in which then nothing was handled.
 abbrev pub IsDriveCause : DriveFault → Context → Context → Type 0
 IsDriveCause D.Spent old new = GREATEST ≤ new.log.state.turns
-IsDriveCause D.NoMemory old new = (new.log.state.turns < GREATEST) ⊎ (old.log.state.turns < new.log.state.turns)
+IsDriveCause D.NoMemory old new = new.log.state.turns < GREATEST
+IsDriveCause D.NoMemoryInTurn old new = HandledNothing old new
 
 -- So many turns were made, in each of which an event was handled, and something is pending.
 pub record MakesTurns (turns : ℕ) (old new : Context) : Type 0 where
@@ -296,6 +314,5 @@ pub record TriesAgain {I K P : Type 0} (input : I → Look) (output : K → Look
 -- It does so where an event of a role is handled.
 abbrev pub HandlesWaits : {I K P : Type 0} → ℕ → Event → (I → Look) → (K → Look) → LinkWorld I K P
     → LinkWorld I K P → Context → Context → Type 0
-HandlesWaits role event input output v w a b = (before : List Pending)
-    → IsHandled before a.log.state.pending a.roles role event
-    → IsCarried v before a.roles → TriesAgain input output v w a b
+HandlesWaits role event input output v w a b = (before : List Pending) (next : ℕ)
+    → IsCarriedTo role event v before next a → TriesAgain input output v w a b

@@ -10,6 +10,7 @@ use Rattle.ts_transform.specs.Stage.{MOST_WAITING}
 use Rattle.ts_transform.specs.Flow.{ChainState, OnlyFirstWorks, PumpsOnce, client_wait, flow, last_ended, left_to_do, pause_at}
 use Rattle.ts_transform.specs.Driving.{HasLiveIf, IsCause, IsRoused, IsWorkOf, SetsOnly, all_unroused, errors_to_pass, last_of}
 use Rattle.ts_transform.specs.Cover.{IsDriven}
+use Rattle.ts_transform.specs.Acting.{step_weight}
 use Rattle.ts_transform.specs.declared.continuation.StageContinuation.{StageContinuation}
 use Rattle.ts_transform.specs.declared.world.ChainWorld.{ChainWorld}
 use Rattle.ts_transform.specs.declared.world.TheConstants.{FIRST}
@@ -37,8 +38,8 @@ pub record GoesOnWith {P : Type 0} (rest : P → List ℕ → List ℕ) (v w : C
     (a b : Context) : Type 0 where
   pub once : PumpsOnce rest v.driven.chain w.driven.chain
   pub flow : flow rest w.driven.chain [] ≡ flow rest v.driven.chain []
-  pub pays : 100 * (left_to_do rest w.driven.chain [] + errors_to_pass w.driven.table.items) + length b.log.state.pending
-      ≤ 100 * (left_to_do rest v.driven.chain [] + errors_to_pass v.driven.table.items) + length a.log.state.pending
+  pub pays : step_weight * (left_to_do rest w.driven.chain [] + errors_to_pass w.driven.table.items) + length b.log.state.pending
+      ≤ step_weight * (left_to_do rest v.driven.chain [] + errors_to_pass v.driven.table.items) + length a.log.state.pending
 
 -- A wake leaves the chain and the turn; of the continuations only who is roused may change.
 pub record WakeKeeps {P : Type 0} (v w : ChainWorld P) (a b : Context) : Type 0 where

@@ -45,7 +45,8 @@ impl<P: Transform + Drop> DrivenChain<P> {
     pub fn close(&mut self, cx: &mut Cx)
         requires turn { cx.old.log.state.held ≡ true }
         ensures chain { self.new.chain ≡ aborted self.old.chain }
-        ensures ended { (self.new.table.items ≡ []) × (self.new.running ≡ false) × (self.new.lost ≡ self.old.lost) }
+        ensures ended { (self.new.table.items ≡ []) × (self.new.running ≡ false)
+            × (self.new.lost ≡ self.old.lost) }
         ensures within { ActsWithin 0 cx.old cx.new }
         ensures clears { Clears self.old.table.items cx.old cx.new }
         ensures seated { (ts : List (Option StageContinuation))

@@ -14,8 +14,10 @@ const SEAT: u64 = 0;
 /// Why a chain is driven no further.
 #[derive(Clone, Copy, Debug, PartialEq, Eq)]
 pub enum DriveFault {
-    /// Memory lacked for a turn, or for the next event of a series.
+    /// Memory lacked for a turn.
     NoMemory,
+    /// Memory lacked in a turn, for the next event of a series; nothing was handled in it.
+    NoMemoryInTurn,
     /// The numbers of turns are used up.
     Spent,
 }
@@ -50,7 +52,7 @@ fn take_turn<I: Link + Drop, K: Link + Drop, P: Transform + Drop>(
         Ok(Handling::Asks { .. }) => unreachable!(),
         Ok(Handling::NotPending) => unreachable!(),
         Ok(Handling::NotDue { due: _ }) => unreachable!(),
-        Err(_) => Err(DriveFault::NoMemory),
+        Err(_) => Err(DriveFault::NoMemoryInTurn),
     }
 }
 

@@ -3,21 +3,25 @@ ghost use Rattle.std.specs.Prelude.{◌≡◌, true, false, IfOk, OnOk};
 ghost use Rattle.ts_transform.specs.Carrying.{IsCarriedGroup};
 
 use crate::tests::{Tail, counting, tails};
-use crate::{Chain, LinkWorld, drive_links};
+use crate::{Chain, DriveFault, LinkWorld, Loss, drive_links};
 use std::alloc::Global;
 use std::test::Fail;
 use ts_group::Group;
-use ts_journal::{ContKey, Event};
+use ts_journal::{ContKey, Event, MOST_KEYS};
 use ts_link::{MemLink, Octets};
 
 // More turns than any of the runs takes.
 const TURNS: u32 = 10_000;
 
+// So many continuations a group has room for beside its own.
+const PLACES: u32 = MOST_KEYS - 1;
+
 type Links = LinkWorld<MemLink, MemLink, Tail>;
 
 // What a run is made of: its null stages; how many bytes its body has, and how many reads bring one byte each; the read
-// that waits and the one that fails; how many bytes a write takes at most, the write that waits and the one that fails.
-// No call has the number 0.
+// that waits and the one that fails; how many bytes a write takes at most, the write that waits and the one that fails;
+// how many turns its group has made elsewhere, and how many continuations of nobody it has before the chain starts. No
+// call has the number 0.
 #[derive(Clone, Copy)]
 struct Plan {
     stages: usize,
@@ -28,6 +32,8 @@ struct Plan {
     take: usize,
     again_write: u64,
     fail_write: u64,
+    turns: u64,
+    strangers: u32,
 }
 
 // Three bytes that come and go one by one.
@@ -40,10 +46,12 @@ const SINGLE: Plan = Plan {
     take: 1,
     again_write: 0,
     fail_write: 0,
+    turns: 0,
+    strangers: 0,
 };
 
 // What came of a run: whether the whole body was written, and how many bytes of it; how often either link made its
-// caller wait; the most bytes that waited at one boundary; and whether it was aborted or lost.
+// caller wait; the most bytes that waited at one boundary; and whether it was aborted, runs, or why it was lost.
 #[derive(Drop)]
 struct Carried {
     is_whole: bool,
@@ -52,7 +60,7 @@ struct Carried {
     most: usize,
     is_aborted: bool,
     runs: bool,
-    is_lost: bool,
+    lost: Option<Loss>,
 }
 
 // The input of a plan.
@@ -96,8 +104,9 @@ fn begin(alloc: Global, plan: &Plan) -> Result<Group<Links>, Fail>
         input_of(alloc, plan)?,
         output_of(alloc, plan)?,
     )?;
-    let mut group = Group::make(alloc, world, 0)?;
-    group.begin_turn(1, 0, 0)?;
+    let mut group = Group::make(alloc, world, plan.turns)?;
+    begin_turn(&mut group)?;
+    make_strangers(&mut group, plan.strangers)?;
     group.start();
     group.give_turn();
     Ok(group)
@@ -130,25 +139,28 @@ fn tell(group: &mut Group<Links>, key: ContKey, event: Event) -> Result<(), Fail
     Ok(())
 }
 
-// Makes a turn in which a continuation of role 0 is made, which is that of nobody.
-fn make_stranger(group: &mut Group<Links>) -> Result<(), Fail>
-    requires idle { group.old.cx.log.state.held ≡ false }
+// Makes so many continuations of role 0, which is that of nobody.
+fn make_strangers(group: &mut Group<Links>, count: u32) -> Result<(), Fail>
+    requires turn { group.old.cx.log.state.held ≡ true }
     requires carried { IsCarriedGroup group.old }
-    ensures idle { OnOk result (group.new.cx.log.state.held ≡ false) }
+    ensures turn { OnOk result (group.new.cx.log.state.held ≡ true) }
     ensures carried { OnOk result (IsCarriedGroup group.new) }
 {
-    begin_turn(group)?;
-    group.cx().make(0)?;
-    group.give_turn();
+    'strangers: for _ in 0..count {
+        group.cx().make(0)?;
+    }
     Ok(())
 }
 
-// Whether three bytes come whole where a continuation is told twice of an event after the first turn: that of the writer
-// is the first, then come those of the reader, of the stage, and of nobody.
+// Whether three bytes come whole where a continuation is told twice of an event after the first turn: that of nobody is
+// the first, then come those of the writer, of the reader, and of the stage.
 fn runs_through(alloc: Global, place: usize, event: Event) -> Result<bool, Fail> {
-    let mut group = begin(alloc, &SINGLE)?;
+    let plan = Plan {
+        strangers: 1,
+        ..SINGLE
+    };
+    let mut group = begin(alloc, &plan)?;
     drive_links(&mut group, 1)?;
-    make_stranger(&mut group)?;
     let Some(key) = group.journal().live().get(place).copied() else {
         return Err("there is such a continuation")?;
     };
@@ -157,7 +169,7 @@ fn runs_through(alloc: Global, place: usize, event: Event) -> Result<bool, Fail>
     run(&mut group)?;
     let (world, _) = group.into_parts();
     let came = outcome(world, 0, b"abc");
-    Ok(came.is_whole && came.runs && !came.is_aborted && !came.is_lost)
+    Ok(came.is_whole && came.runs && !came.is_aborted && came.lost.is_none())
 }
 
 // The most bytes that wait at one boundary of a chain.
@@ -188,7 +200,7 @@ fn run(group: &mut Group<Links>) -> Result<usize, Fail>
 fn outcome(world: Links, most: usize, body: &[u8]) -> Carried {
     let is_aborted = world.is_aborted();
     let runs = world.is_running();
-    let is_lost = world.lost().is_some();
+    let lost = world.lost();
     let (input, output) = world.into_links();
     let written = output.written();
     Carried {
@@ -198,7 +210,7 @@ fn outcome(world: Links, most: usize, body: &[u8]) -> Carried {
         most,
         is_aborted,
         runs,
-        is_lost,
+        lost,
     }
 }
 
@@ -214,13 +226,13 @@ fn carry(alloc: Global, plan: &Plan) -> Result<Carried, Fail> {
 // Whether a run wrote its whole body, with so many waits.
 fn is_carried(alloc: Global, plan: Plan, waits: (u64, u64)) -> Result<bool, Fail> {
     let came = carry(alloc, &plan)?;
-    Ok(came.is_whole && came.waits == waits && came.runs && !came.is_aborted && !came.is_lost)
+    Ok(came.is_whole && came.waits == waits && came.runs && !came.is_aborted && came.lost.is_none())
 }
 
 // Whether a run was aborted that had written at most so many bytes.
 fn is_cut_off(alloc: Global, plan: Plan, most: usize) -> Result<bool, Fail> {
     let came = carry(alloc, &plan)?;
-    Ok(came.is_aborted && came.written <= most && came.runs && !came.is_lost)
+    Ok(came.is_aborted && came.written <= most && came.runs && came.lost.is_none())
 }
 
 #[test]
@@ -302,6 +314,40 @@ fn a_fault_of_a_link_aborts_the_chain(rt: HostRuntime) -> Result<(), Fail> {
     for (plan, most) in cases {
         assert!(rt; is_cut_off(rt.alloc(), plan, most)?);
     }
+    Ok(())
+}
+
+// Why a run of a chain was lost that carried nothing, where the table had room for so few more continuations.
+fn lost_at(alloc: Global, places: u32) -> Result<Option<Loss>, Fail> {
+    let plan = Plan {
+        strangers: PLACES - places.min(PLACES),
+        ..SINGLE
+    };
+    let came = carry(alloc, &plan)?;
+    if came.runs || came.is_aborted || came.written > 0 {
+        return Ok(None);
+    }
+    Ok(came.lost)
+}
+
+#[test]
+fn a_chain_is_lost_that_finds_the_table_full(rt: HostRuntime) -> Result<(), Fail> {
+    for places in [0, 1, 2] {
+        assert!(rt; lost_at(rt.alloc(), places)? == Some(Loss::TableFull));
+    }
+    assert!(rt; lost_at(rt.alloc(), 3)? == None);
+    Ok(())
+}
+
+#[test]
+fn a_chain_is_driven_until_the_numbers_of_turns_are_used_up(rt: HostRuntime) -> Result<(), Fail> {
+    let plan = Plan {
+        turns: u64::MAX - 2,
+        ..SINGLE
+    };
+    let mut group = begin(rt.alloc(), &plan)?;
+    assert!(rt; drive_links(&mut group, 1)? == false);
+    assert!(rt; drive_links(&mut group, 1) == Err(DriveFault::Spent));
     Ok(())
 }
 

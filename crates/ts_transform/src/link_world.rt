@@ -66,7 +66,7 @@ impl<I: Link + Drop, K: Link + Drop, P: Transform + Drop> LinkWorld<I, K, P> {
         ensures fresh { IfOk result (λ w. (w.driven.table.items ≡ []) × (w.driven.running ≡ false)
             × (w.driven.lost ≡ None) × (w.aborted ≡ false)) }
         ensures carried { IfOk result
-            (λ w. (pending : List Pending) (roles : List Named) → IsCarried w pending roles) }
+            (λ w. (pending : List Pending) (next : ℕ) (roles : List Named) → IsCarried w pending next roles) }
     {
         let chain = Chain::make(alloc, parts)?;
         Ok(LinkWorld {
@@ -105,7 +105,7 @@ impl<I: Link + Drop, K: Link + Drop, P: Transform + Drop> LinkWorld<I, K, P> {
     /// is pending.
     pub fn is_running(&self) -> bool
         ensures running { result ≡ self.now.driven.running }
-        ensures finished { result ≡ true → (roles : List Named) → IsCarried self.now [] roles
+        ensures finished { result ≡ true → (next : ℕ) (roles : List Named) → IsCarried self.now [] next roles
             → IsFinished self.now.driven.chain × (self.now.driven.chain.given ≡ true) }
     {
         self.driven.is_running()
@@ -252,8 +252,8 @@ impl<I: Link + Drop, K: Link + Drop, P: Transform + Drop> LinkWorld<I, K, P> {
         ensures retries { IsNamedIf cx.old.roles WRITER self.old.writer → OutputWaits K.look self.old self.new
             → RetriesWrite self.old self.new cx.old cx.new }
         ensures input { self.new.input ≡ self.old.input }
-        ensures duties { HandlesEnd event (MustWrite self.old.driven.chain → WritesOnce K.look self.old self.new)
-            self.old self.new cx.old cx.new }
+        ensures duties { HandlesEnd event
+            (MustWrite self.old.driven.chain → WritesOnce K.look self.old self.new) self.old self.new cx.old cx.new }
     {
         if works(event) {
             unrouse(&mut self.writer);
@@ -271,8 +271,8 @@ impl<I: Link + Drop, K: Link + Drop, P: Transform + Drop> LinkWorld<I, K, P> {
         ensures retries { IsNamedIf cx.old.roles READER self.old.reader → InputWaits I.look self.old self.new
             → RetriesRead self.old self.new cx.old cx.new }
         ensures output { self.new.output ≡ self.old.output }
-        ensures duties { HandlesEnd event (MustRead self.old.driven.chain → ReadsOnce I.look self.old self.new)
-            self.old self.new cx.old cx.new }
+        ensures duties { HandlesEnd event
+            (MustRead self.old.driven.chain → ReadsOnce I.look self.old self.new) self.old self.new cx.old cx.new }
     {
         if works(event) {
             unrouse(&mut self.reader);
@@ -311,7 +311,8 @@ impl<I: Link + Drop, K: Link + Drop, P: Transform + Drop> LinkWorld<I, K, P> {
             → AreEndsRoused self.new.driven.chain self.new.writer self.new.reader }
         ensures course { KeepsCourse self.old self.new cx.old cx.new }
         ensures within { ActsWithin 2 cx.old cx.new }
-        ensures only { IsNamedIf cx.old.roles WRITER self.old.writer → IsNamedIf cx.old.roles READER self.old.reader
+        ensures only { IsNamedIf cx.old.roles WRITER self.old.writer
+            → IsNamedIf cx.old.roles READER self.old.reader
             → SetsOnly (RousesAnEnd self.old.driven.chain cx.old.moment cx.old.roles) cx.old cx.new }
         ensures idle { (self.old.driven.running ≡ false)
             ⊎ AreEndsRoused self.old.driven.chain self.old.writer self.old.reader
@@ -367,8 +368,8 @@ impl<I: Link + Drop, K: Link + Drop, P: Transform + Drop> LinkWorld<I, K, P> {
         requires turn { cx.old.log.state.held ≡ true }
         requires fresh { (self.old.writer ≡ None) × (self.old.driven.table.items ≡ []) }
         ensures begun { HasLinkBegun self.old self.new }
-        ensures carried { IsCarried self.old cx.old.log.state.pending cx.old.roles
-            → IsCarried self.new cx.new.log.state.pending cx.new.roles }
+        ensures carried { IsCarried self.old cx.old.log.state.pending cx.old.log.state.next cx.old.roles
+            → IsCarried self.new cx.new.log.state.pending cx.new.log.state.next cx.new.roles }
         ensures within { ActsWithin 3 cx.old cx.new }
         ensures cause { HasBegunAlong self.new cx.new }
     {
@@ -420,9 +421,9 @@ impl<I: Link + Drop, K: Link + Drop, P: Transform + Drop> World for LinkWorld<I,
 
     type Reply = ();
 
-    ghost sound = { λ w s roles. IsCarried w s.pending roles };
+    ghost sound = { λ w s roles. IsCarried w s.pending s.next roles };
 
-    ghost asking = { λ w s roles role group question. IsCarried w s.pending roles };
+    ghost asking = { λ w s roles role group question. IsCarried w s.pending s.next roles };
 
     ghost right = { λ w group question reply. ⊤ };
 
@@ -445,8 +446,8 @@ impl<I: Link + Drop, K: Link + Drop, P: Transform + Drop> World for LinkWorld<I,
 
     fn start(&mut self, cx: &mut Cx)
         requires turn { cx.old.log.state.held ≡ true }
-        requires sound { IsCarried self.old cx.old.log.state.pending cx.old.roles }
-        ensures sound { IsCarried self.new cx.new.log.state.pending cx.new.roles }
+        requires sound { IsCarried self.old cx.old.log.state.pending cx.old.log.state.next cx.old.roles }
+        ensures sound { IsCarried self.new cx.new.log.state.pending cx.new.log.state.next cx.new.roles }
         ensures within { ActsWithin 3 cx.old cx.new }
         ensures begun { HasLinkBegun self.old self.new }
         ensures cause { self.old.writer ≡ None → HasBegunAlong self.new cx.new }
@@ -460,8 +461,9 @@ impl<I: Link + Drop, K: Link + Drop, P: Transform + Drop> World for LinkWorld<I,
 
     fn handle(&mut self, role: u32, event: Event, cx: &mut Cx) -> Want<()>
         requires turn { cx.old.log.state.held ≡ true }
-        requires called { IsCalled (λ s roles. IsCarried self.old s.pending roles) cx.old role event }
-        ensures sound { (result ≡ Want.Nothing) × IsCarried self.new cx.new.log.state.pending cx.new.roles }
+        requires called { IsCalled (λ s roles. IsCarried self.old s.pending s.next roles) cx.old role event }
+        ensures sound { (result ≡ Want.Nothing)
+            × IsCarried self.new cx.new.log.state.pending cx.new.log.state.next cx.new.roles }
         ensures steps { HasStepped P.rest I.tells K.tells I.look K.look self.old self.new }
         ensures again { TriesAgain I.look K.look self.old self.new cx.old cx.new }
         ensures acts { ActsAlong P.rest P.pause I.look K.look role event self.old self.new cx.old cx.new }
@@ -475,7 +477,7 @@ impl<I: Link + Drop, K: Link + Drop, P: Transform + Drop> World for LinkWorld<I,
 
     fn told(&mut self, _role: u32, _asked: Asked<(), ()>, _cx: &mut Cx)
         requires turn { _cx.old.log.state.held ≡ true }
-        requires sound { IsCarried self.old _cx.old.log.state.pending _cx.old.roles }
+        requires sound { IsCarried self.old _cx.old.log.state.pending _cx.old.log.state.next _cx.old.roles }
         ensures grows { Grows _cx.old _cx.new }
         ensures same { (_cx.new.log.state ≡ _cx.old.log.state) × (_cx.new.roles ≡ _cx.old.roles)
             × (self.new ≡ self.old) }

@@ -23,6 +23,8 @@ impl Transform for Tail {
 
     ghost pause = { λ s. s.pause };
 
+    ghost line_pause = { λ line. 0 };
+
     fn fresh(alloc: Global, line: &Octets) -> Result<Tail, NoMemory> {
         let text = Octets::copy_of(alloc, line.bytes())?;
         Ok(Tail { text, pause: 0 })

@@ -22,9 +22,13 @@ pub trait Transform: Sized {
     // The milliseconds between two events of a stage.
     ghost pause: { Self → ℕ };
 
+    // So many of a stage that a line makes.
+    ghost line_pause: { Self.Line → ℕ };
+
     /// A transform that got nothing yet.
     fn fresh(alloc: Global, line: &Self::Line) -> Result<Self, NoMemory>
-        ensures { IfOk result (λ t. (z : List ℕ) → rest t z ≡ whole line.now z) };
+        ensures rest { IfOk result (λ t. (z : List ℕ) → rest t z ≡ whole line.now z) }
+        ensures pause { IfOk result (λ t. pause t ≡ line_pause line.now) };
 
     /// Takes bytes from the front of the input, at least one, and answers how many.
     fn feed(&mut self, input: &[u8], out: &mut IoBuffer) -> Result<usize, NoMemory>

@@ -11,7 +11,7 @@ ghost use Rattle.ts_transform.specs.Flow.{IsFinished, PumpsOnce, TakesAway, abor
 ghost use Rattle.ts_transform.specs.declared.continuation.StageContinuation.{StageContinuation};
 ghost use Rattle.ts_transform.specs.Driving.{ActsWithin, IsRoused, SetsFew, SetsOnly, all_unroused, errors_to_pass, last_of};
 ghost use Rattle.ts_transform.specs.Cover.{IsAwake, IsRousing};
-ghost use Rattle.ts_transform.specs.Acting.{IsStage};
+ghost use Rattle.ts_transform.specs.Acting.{IsStage, step_weight};
 ghost use Rattle.ts_transform.specs.Driven.{Acts, HasAllLive, HasBegun, HasBegunFrom, IsMarkedFor, IsOfNoStage, MarkLoses, MayLose, MayWake, SameCourse};
 ghost use Rattle.ts_transform.specs.declared.world.TheConstants.{FIRST};
 ghost use Rattle.ts_transform.specs.World.{GoesOnWith, IsSound};
@@ -187,7 +187,7 @@ impl<P: Transform + Drop> World for ChainWorld<P> {
 
     ghost asking = { λ w s roles role group question. IsSound w s.pending roles };
 
-    ghost left = { λ w s. Some (100 * (left_to_do P.rest w.driven.chain []
+    ghost left = { λ w s. Some (step_weight * (left_to_do P.rest w.driven.chain []
         + errors_to_pass w.driven.table.items) + length s.pending) };
 
     ghost right = { λ w group question reply. ⊤ };
@@ -238,9 +238,11 @@ impl<P: Transform + Drop> World for ChainWorld<P> {
             self.old.driven self.new.driven cx.new }
 
         // The stage of the role handles the event; of another role all is left as it was.
-        ensures acts { (at : ℕ) → role ≡ FIRST + at → IsStage self.old.driven.chain self.old.driven.table.items at
+        ensures acts { (at : ℕ) → role ≡ FIRST + at
+            → IsStage self.old.driven.chain self.old.driven.table.items at
             → Acts P.rest P.pause at event self.old.driven self.new.driven cx.old cx.new }
-        ensures other { IsOfNoStage FIRST role self.old.driven → (self.new ≡ self.old) × IsSame cx.old cx.new }
+        ensures other { IsOfNoStage FIRST role self.old.driven
+            → (self.new ≡ self.old) × IsSame cx.old cx.new }
     {
         let _told = self.driven.handle(FIRST, role, event, cx);
         Want::Nothing

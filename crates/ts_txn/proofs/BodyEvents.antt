@@ -28,7 +28,7 @@ use Rattle.ts_txn.specs.Feeding.{OnGoes}
 use Rattle.ts_txn.specs.Finishing.{LeadsBody}
 use Rattle.ts_txn.specs.Relaying.{DrivesOn, RelaysBody, StepsChain, step_after}
 use Rattle.ts_txn.specs.Entering.{BeginsRelay, BeginsRunning}
-use Rattle.ts_txn.specs.Duties.{BeginsBody, EndsRouse, IsBodyCovered, IsBodyJoined, HandlesBody, RunsOr, SettledAs, SettlesAfter, SettlesBody, TellsDuty, UnlessLacking, WhileGoes, body_seats, relay_seats}
+use Rattle.ts_txn.specs.Duties.{BeginsBody, DoesOwnWork, EndsRouse, IsBodyCovered, IsBodyJoined, HandlesBody, RunsOr, SettledAs, SettlesAfter, SettlesBody, TellsDuty, UnlessLacking, WhileGoes, body_seats, relay_seats}
 use Rattle.ts_txn.specs.declared.finishing.BodyStep.{BodyStep}
 use Rattle.ts_txn.specs.declared.finishing.BodyStep.TheVariants as S
 use Rattle.ts_txn.specs.declared.relay.Relay.{Relay}
@@ -205,15 +205,38 @@ pub handles_by : {P : Type 0} (role : ℕ) (event : Event) (step result : BodySt
     → ActsWithin 4 a c → DrivesOn step r.driven q.driven c
     → ((before : List Pending) → IsHandled before a.log.state.pending a.roles role event → IsBodyJoined t r before a.roles → IsBodyJoined m q c.log.state.pending c.roles)
     → KeepsSeated (body_seats t r) (body_seats m q) a c → (EndsInOrder r.driven.chain.given r.driven.chain.stages → EndsInOrder q.driven.chain.given q.driven.chain.stages)
-    → s.driven ≡ q.driven → SettlesAfter step result w m u q s c b → HandlesBody result role event v w t u r s a b
-handles_by role event step result v w t m u r q s a c b orderly acts on joined seated ordered same after = record {
+    → s.driven ≡ q.driven → SettlesAfter step result w m u q s c b → DoesOwnWork role v w → HandlesBody result role event v w t u r s a b
+handles_by role event step result v w t m u r q s a c b orderly acts on joined seated ordered same after own = record {
   acts = acts_then 4 2 6 (omega arith) acts
       (record { grows = after.adds.grows; turn = after.adds.keeps.turn; plain = after.adds.keeps.plain; few = after.adds.few });
   joined = λ before handled was. after.joined (joined before handled was);
   covered = covered_after step result v w t u r q s a.log.state.next c.log.state.next c (grows_next a c orderly acts.grows) on refl b.log.state.next after.settled after.covered;
+  own = own;
   runs = runs_after step result v t r q s a.log.state.next b.log.state.next c (grows_next a c orderly acts.grows) after.later on same after.settled;
   seated = seated_then (body_seats t r) (body_seats m q) (body_seats u s) a c b seated after.seated;
   ordered = λ h. subst (λ d. EndsInOrder d.chain.given d.chain.stages) (sym same) (ordered h);
+}
+
+-- a side is touched by its own end alone
+no_work : (role : ℕ) (v w : View) → w ≡ v → DoesOwnWork role v w
+no_work role v w same = record {
+  main = λ is. ap (λ (x : View). x.origin) same;
+  reader = λ is. (ap (λ (x : View). x.client) same, ap (λ (x : View). x.sent) same);
+  others = λ not_main not_reader. same;
+}
+
+writer_work : (v w : View) → w.origin ≡ v.origin → DoesOwnWork 1 v w
+writer_work v w origin = record {
+  main = λ is. origin;
+  reader = λ is. absurd (let wrong : 1 ≡ 2 = is in omega (arith, wrong));
+  others = λ not_main not_reader. absurd (not_main refl);
+}
+
+reader_work : (v w : View) → w.client ≡ v.client → w.sent ≡ v.sent → DoesOwnWork 2 v w
+reader_work v w client sent = record {
+  main = λ is. absurd (let wrong : 2 ≡ 1 = is in omega (arith, wrong));
+  reader = λ is. (client, sent);
+  others = λ not_main not_reader. absurd (not_reader refl);
 }
 
 -- one at which nobody works
@@ -227,6 +250,7 @@ handles_quiet role event v t r a turn rests = record {
   acts = acts_none 6 a turn;
   joined = λ before handled was runs. joined_quiet r.driven.chain r.driven.table.items t r.reader before a.log.state.pending a.roles role event handled rests (was runs);
   covered = λ h. h;
+  own = no_work role v v refl;
   runs = runs_quiet v t r a.log.state.next;
   seated = λ others h. h;
   ordered = λ h. h;
@@ -261,20 +285,20 @@ chain_joined step n t r q a b steps same was runs =
 
 pub handles_write : {P : Type 0} (event : Event) (step result : BodyStep) (v w : View) (t u : Option StageContinuation) (r q s : Relay P) (a c b : Context) → IsOrderly a
     → StepsChain step 1 r.driven q.driven a c → q ≡ record r { driven = q.driven } → s.driven ≡ q.driven → SettlesAfter step result w (unroused t) u q s c b
-    → HandlesBody result 1 event v w t u r s a b
-handles_write event step result v w t u r q s a c b orderly steps same kept after =
+    → w.origin ≡ v.origin → HandlesBody result 1 event v w t u r s a b
+handles_write event step result v w t u r q s a c b orderly steps same kept after origin =
     handles_by 1 event step result v w t (unroused t) u r q s a c b orderly (chain_acts step 1 r.driven q.driven a c (omega arith) steps) steps.on
     (λ before handled was. chain_joined step 1 (unroused t) r q a c steps (ap (λ x. x.reader) same)
     (λ runs. joined_writer r.driven.chain r.driven.table.items t r.reader before a.log.state.pending a.roles event handled (was runs)))
     (subst (λ (x : Option StageContinuation). KeepsSeated (body_seats t r) (unroused t ∷ x ∷ q.driven.table.items) a c) (sym (ap (λ x. x.reader) same))
     (seated_then (body_seats t r) (body_seats (unroused t) r) (unroused t ∷ r.reader ∷ q.driven.table.items) a a c (main_unroused t (r.reader ∷ r.driven.table.items) a)
     (stages_seated (unroused t) r.reader r.driven.table.items q.driven.table.items a c steps.seats.seated)))
-    steps.ordered kept after
+    steps.ordered kept after (writer_work v w origin)
 
 pub handles_read : {P : Type 0} (event : Event) (step result : BodyStep) (v w : View) (t u : Option StageContinuation) (r q s : Relay P) (a c b : Context) → IsOrderly a
     → StepsChain step 2 r.driven q.driven a c → q.reader ≡ unroused r.reader → s.driven ≡ q.driven → SettlesAfter step result w t u q s c b
-    → HandlesBody result 2 event v w t u r s a b
-handles_read event step result v w t u r q s a c b orderly steps same kept after =
+    → w.client ≡ v.client → w.sent ≡ v.sent → HandlesBody result 2 event v w t u r s a b
+handles_read event step result v w t u r q s a c b orderly steps same kept after client sent =
     handles_by 2 event step result v w t t u r q s a c b orderly (chain_acts step 2 r.driven q.driven a c (omega arith) steps) steps.on
     (λ before handled was. chain_joined step 2 t (record r { reader = unroused r.reader }) q a c steps same
     (λ runs. joined_reader r.driven.chain r.driven.table.items t r.reader before a.log.state.pending a.roles event handled (was runs)))
@@ -282,7 +306,7 @@ handles_read event step result v w t u r q s a c b orderly steps same kept after
     (seated_then (body_seats t r) (t ∷ unroused r.reader ∷ r.driven.table.items) (t ∷ unroused r.reader ∷ q.driven.table.items) a a c
     (seated_behind t (r.reader ∷ r.driven.table.items) (unroused r.reader ∷ r.driven.table.items) a a (main_unroused r.reader r.driven.table.items a))
     (stages_seated t (unroused r.reader) r.driven.table.items q.driven.table.items a c steps.seats.seated)))
-    steps.ordered kept after
+    steps.ordered kept after (reader_work v w client sent)
 
 pub handles_stage : {P : Type 0} (role : ℕ) (event : Event) (f : Result ⊤ SetFault) (step result : BodyStep) (v : View) (t u : Option StageContinuation) (r q s : Relay P) (a c b : Context)
     → IsOrderly a → step ≡ step_after f → ActsWithin 4 a c → Loses f r.driven q.driven a c → KeepsOthers 3 r.driven.table.items a c → HandlesDriven 3 role event r.driven q.driven a c
@@ -298,7 +322,7 @@ handles_stage role event f step result v t u r q s a c b orderly is acts loses o
     (λ h. driven before handled (λ on. h) runs) (was (runs_before f r.driven q.driven a c loses runs))))
     (subst (λ (x : Option StageContinuation). KeepsSeated (body_seats t r) (t ∷ x ∷ q.driven.table.items) a c) (sym same)
     (stages_seated t r.reader r.driven.table.items q.driven.table.items a c seated))
-    ordered kept after
+    ordered kept after (no_work role v v refl)
 
 -- where the event of a stage leads
 pub stage_leads : {P : Type 0} (setup : Setup) (refuses : Type 0) (rest : P → List ℕ → List ℕ) (v : View) (c d : ChainState P) (place : Place) (ts us : List (Option StageContinuation))

@@ -1,6 +1,6 @@
 -- The steps of a body, and what they do with the two links: which counts rise, and which events are set when.
-use Rattle.std.proofs.Common.{◌≡◌, ℕ, zero, suc, ◌+◌, ◌-◌, ◌<◌, ◌≤◌, ◌⊎◌, inl, inr, List, [], ◌∷◌, ◌++◌, Bool, true, false, Option, Some, None, Result, Ok, Err, eqb, leb, length, length-append, drop, refl, sym, ap, subst, ◌∙◌, arith}
-use Rattle.std.proofs.lemmas.List.{length-drop}
+use Rattle.std.proofs.Common.{◌≡◌, ℕ, zero, suc, ◌+◌, ◌-◌, ◌<◌, ◌≤◌, ◌⊎◌, inl, inr, List, [], ◌∷◌, ◌++◌, Bool, true, false, Option, Some, None, Result, Ok, Err, eqb, leb, length, length-append, append_assoc, drop, refl, sym, ap, subst, ◌∙◌, arith}
+use Rattle.std.proofs.lemmas.List.{append-nil, length-drop}
 use Rattle.std.proofs.lemmas.Bool.Decides.{eqb_tells, leb_tells}
 use Rattle.std.specs.Prelude.{⊤}
 use Rattle.ts_hooks.specs.declared.txn_end.TxnEnd.{TxnEnd}
@@ -36,16 +36,18 @@ use Rattle.ts_wire.specs.declared.body.BodyState.{BodyState}
 use Rattle.ts_wire.specs.declared.body.BodyState.TheVariants as B
 use Rattle.ts_wire.specs.Place.{Place, state_of}
 use Rattle.ts_txn.specs.View.{LinkSide, View}
+use Rattle.ts_txn.specs.Ends.{IsFrontOf}
 use Rattle.ts_txn.specs.Moving.{WritesClient}
 use Rattle.ts_txn.specs.RelayMoves.{QueuesText, ReadsOrigin}
 use Rattle.ts_txn.specs.Feeding.{DrainsOrigin, FeedsBody, FeedsTo, GetsPart, OnGoes}
 use Rattle.ts_txn.specs.Relaying.{AddsSome, IsOfRoleFrom, StepsChain, step_after}
 use Rattle.ts_txn.specs.Duties.{SettledAs, UnlessLacking}
 use Rattle.ts_txn.specs.Entering.{BeginsRelay}
-use Rattle.ts_txn.specs.BodyLinks.{BeginsInTime, HandlesLinks, HoldsLittle, IsOfEnd, IsUnread, IsUnwritten, MindsBody, OnlyOfBody, OnlyOfEnds, RestLeads, SendsRest, is_client_fault, is_late, is_origin_fault, pause_if}
+use Rattle.ts_txn.specs.BodyLinks.{BeginsInTime, HandlesLinks, HoldsLittle, IsOfEnd, KeepsQueued, IsUnread, IsUnwritten, MindsBody, OnlyOfBody, OnlyOfEnds, RestLeads, ReadsLinks, SendsRest, WritesLinks, is_client_fault, is_late, is_origin_fault, pause_if}
 use Rattle.ts_txn.specs.declared.driver.TheConstants.{MAIN, RETRY}
 use Rattle.ts_txn.specs.declared.finishing.BodyStep.{BodyStep}
 use Rattle.ts_txn.specs.declared.finishing.BodyStep.TheVariants as S
+use Rattle.ts_txn.specs.declared.parts.Sent.{Sent}
 use Rattle.ts_txn.specs.declared.relay.Relay.{Relay}
 use Rattle.ts_txn.specs.declared.relay.TheConstants.{FIRST, READER}
 
@@ -93,6 +95,41 @@ calm_feeds S.Waits old new before after c d feeds = absurd feeds
 calm_feeds (S.Finishes end) old new before after c d (fed, bad, is) = subst (λ e. IsCalm (S.Finishes e)) (sym is) (record { client = refl; origin = refl; late = refl })
 calm_feeds (S.Closes end) old new before after c d feeds = absurd feeds
 calm_feeds S.Lacks old new before after c d feeds = record { client = refl; origin = refl; late = refl }
+
+-- ---- what was queued
+
+front_same : (xs ys : List ℕ) → ys ≡ xs → IsFrontOf xs ys
+front_same xs ys same = ([], append-nil xs ∙ sym same)
+
+queued_same : (t : Bool) (v w : View) → w.sent ≡ v.sent → w.client ≡ v.client → KeepsQueued t v w
+queued_same t v w sent client = record {
+  head = ap (λ (x : Sent). x.head) sent;
+  mode = ap (λ (x : Sent). x.mode) sent;
+  cuts = front_same v.sent.cuts.items w.sent.cuts.items (ap (λ (x : Sent). x.cuts.items) sent);
+  text = λ told. front_same (v.client.look.taken ++ v.client.outbox) (w.client.look.taken ++ w.client.outbox) (ap (λ (s : LinkSide). s.look.taken ++ s.outbox) client);
+}
+
+queued_text : (t : Bool) (text cuts : List ℕ) (v w : View) → QueuesText text cuts v w → KeepsQueued t v w
+queued_text t text cuts v w queued = record {
+  head = queued.adds.head;
+  mode = queued.adds.mode;
+  cuts = (cuts, sym queued.adds.cuts_are);
+  text = λ told. (
+    text,
+    append_assoc v.client.look.taken v.client.outbox text
+        ∙ sym (ap (λ (x : List ℕ). x ++ w.client.outbox) (ap (λ (s : LinkSide). s.look.taken) queued.client) ∙ ap (λ (x : List ℕ). v.client.look.taken ++ x) queued.adds.outbox),
+  );
+}
+
+queued_wrote : (t : Bool) (v w : View) (p : Pushed) → WritesClient t v w p → KeepsQueued t v w
+queued_wrote t v w p writes =
+    let sent : w.sent ≡ v.sent = ap (λ (x : View). x.sent) writes.others in
+    record {
+      head = ap (λ (x : Sent). x.head) sent;
+      mode = ap (λ (x : Sent). x.mode) sent;
+      cuts = front_same v.sent.cuts.items w.sent.cuts.items (ap (λ (x : Sent). x.cuts.items) sent);
+      text = λ told. front_same (v.client.look.taken ++ v.client.outbox) (w.client.look.taken ++ w.client.outbox) (writes.client.pushes.text told);
+    }
 
 -- ---- what is held
 
@@ -188,11 +225,12 @@ module _ {P : Type 0} (ct ot : Bool) (v w : View) (c d : ChainState P) (step : B
     reads = inl (ap (λ x. x.origin) same);
     unread = unread_same ct v.client w.client (ap (λ x. x.client) same);
     unwritten = unwritten_same ot v.origin w.origin (ap (λ x. x.origin) same);
+    queued = queued_same ct v w (ap (λ x. x.sent) same) (ap (λ x. x.client) same);
     queues = inl (no_longer v.client.outbox w.client.outbox (ap (λ x. x.client.outbox) same));
     holds = unless_lacking (HoldsLittle v c → HoldsLittle w d) step (holds_kept v w c d (no_longer v.origin.inbox w.origin.inbox (ap (λ x. x.origin.inbox) same)) shorter);
   }
 
-  pub minds_none : IsCalm step → cl ≡ false → ol ≡ false → w ≡ v → d ≡ c → MindsBody ct ot v w c d step cl ol
+  minds_none : IsCalm step → cl ≡ false → ol ≡ false → w ≡ v → d ≡ c → MindsBody ct ot v w c d step cl ol
   minds_none calm no_client no_origin same chain = still_minds calm no_client no_origin same (no_longer c.first d.first (ap (λ k. k.first) chain))
 
   -- a text was queued for the client
@@ -205,21 +243,22 @@ module _ {P : Type 0} (ct ot : Bool) (v w : View) (c d : ChainState P) (step : B
         reads = inl queued.origin;
         unread = record { reads = ap (λ (l : Look). l.reads) look; held = ap (λ (s : LinkSide). s.inbox) queued.client; given = λ told. ap (λ (l : Look). l.given) look };
         unwritten = unwritten_same ot v.origin w.origin queued.origin;
+        queued = queued_text ct text cuts v w queued;
         queues = inr none;
         holds = unless_lacking (HoldsLittle v c → HoldsLittle w d) step (holds_kept v w c d (no_longer v.origin.inbox w.origin.inbox (ap (λ (s : LinkSide). s.inbox) queued.origin)) shorter);
       }
 
-  pub minds_queued : (text cuts : List ℕ) → IsCalm step → cl ≡ false → ol ≡ false → v.client.outbox ≡ [] → d ≡ c → QueuesText text cuts v w → MindsBody ct ot v w c d step cl ol
+  minds_queued : (text cuts : List ℕ) → IsCalm step → cl ≡ false → ol ≡ false → v.client.outbox ≡ [] → d ≡ c → QueuesText text cuts v w → MindsBody ct ot v w c d step cl ol
   minds_queued text cuts calm no_client no_origin none chain queued = queued_minds text cuts calm no_client no_origin none queued (no_longer c.first d.first (ap (λ k. k.first) chain))
 
   -- that of a piece, which was taken from the chain
-  pub minds_framed : (text cuts : List ℕ) (rest : P → List ℕ → List ℕ) (n : ℕ) → IsCalm step → cl ≡ false → ol ≡ false → v.client.outbox ≡ [] → TakesAway rest n c d → QueuesText text cuts v w
+  minds_framed : (text cuts : List ℕ) (rest : P → List ℕ → List ℕ) (n : ℕ) → IsCalm step → cl ≡ false → ol ≡ false → v.client.outbox ≡ [] → TakesAway rest n c d → QueuesText text cuts v w
       → MindsBody ct ot v w c d step cl ol
   minds_framed text cuts rest n calm no_client no_origin none takes queued =
       queued_minds text cuts calm no_client no_origin none queued (taken_shorter c.first c.stages n d.first d.stages takes.takes)
 
   -- what waits of the origin's bytes was used
-  pub minds_drained : (old new : Place) → cl ≡ false → ol ≡ is_late step → MustRead c → FeedsTo step old new v.origin.inbox w.origin.inbox c d → DrainsOrigin v w → MindsBody ct ot v w c d step cl ol
+  minds_drained : (old new : Place) → cl ≡ false → ol ≡ is_late step → MustRead c → FeedsTo step old new v.origin.inbox w.origin.inbox c d → DrainsOrigin v w → MindsBody ct ot v w c d step cl ol
   minds_drained old new no_client late must feeds drains =
       let look : w.origin.look ≡ v.origin.look = ap (λ (x : View). x.origin.look) drains in
       let calm = calm_feeds step old new v.origin.inbox w.origin.inbox c d feeds in
@@ -229,12 +268,13 @@ module _ {P : Type 0} (ct ot : Bool) (v w : View) (c d : ChainState P) (step : B
         reads = inr must;
         unread = unread_same ct v.client w.client (ap (λ (x : View). x.client) drains);
         unwritten = record { writes = ap (λ (l : Look). l.writes) look; waits = ap (λ (x : View). x.origin.outbox) drains; taken = λ told. ap (λ (l : Look). l.taken) look };
+        queued = queued_same ct v w (ap (λ (x : View). x.sent) drains) (ap (λ (x : View). x.client) drains);
         queues = inl (no_longer v.client.outbox w.client.outbox (ap (λ (x : View). x.client.outbox) drains));
         holds = feeds_holds step v w c d old new must feeds;
       }
 
   -- what waits for the client was written
-  pub minds_wrote : (p : Pushed) → is_client_fault step ≡ push_failed p → cl ≡ push_again p → is_origin_fault step ≡ false → ol ≡ false → d ≡ c → WritesClient ct v w p → MindsBody ct ot v w c d step cl ol
+  minds_wrote : (p : Pushed) → is_client_fault step ≡ push_failed p → cl ≡ push_again p → is_origin_fault step ≡ false → ol ≡ false → d ≡ c → WritesClient ct v w p → MindsBody ct ot v w c d step cl ol
   minds_wrote p failed again no_origin ready chain writes =
       let origin : w.origin ≡ v.origin = ap (λ (x : View). x.origin) writes.others in
       record {
@@ -243,6 +283,7 @@ module _ {P : Type 0} (ct ot : Bool) (v w : View) (c d : ChainState P) (step : B
         reads = inl origin;
         unread = record { reads = writes.client.pushes.once.reads; held = writes.client.inbox; given = λ told. (writes.client.pushes.told told).given };
         unwritten = unwritten_same ot v.origin w.origin origin;
+        queued = queued_wrote ct v w p writes;
         queues = inl (went_shorter p v.client.outbox w.client.outbox writes.client.pushes.went);
         holds = unless_lacking (HoldsLittle v c → HoldsLittle w d) step
             (holds_kept v w c d (no_longer v.origin.inbox w.origin.inbox (ap (λ (s : LinkSide). s.inbox) origin)) (no_longer c.first d.first (ap (λ k. k.first) chain)));
@@ -259,6 +300,7 @@ module _ {P : Type 0} (ct ot : Bool) (v w : View) (c d : ChainState P) (step : B
         reads = inr must;
         unread = unread_same ct v.client w.client client;
         unwritten = record { writes = reads.origin.pulls.pulls.once.writes; waits = reads.origin.outbox; taken = λ told. (reads.origin.pulls.pulls.told told).taken };
+        queued = queued_same ct v w (ap (λ (x : View). x.sent) reads.others) client;
         queues = inl (no_longer v.client.outbox w.client.outbox (ap (λ (s : LinkSide). s.outbox) client));
         holds = read_holds step shorter;
       }
@@ -273,13 +315,13 @@ module _ {P : Type 0} (ct ot : Bool) (v w : View) (c d : ChainState P) (step : B
       read_holds (S.Closes end) first = by_first first
       read_holds S.Lacks first = tt
 
-  pub minds_read : (p : Pulled) → is_origin_fault step ≡ pull_failed p → ol ≡ pull_again p → is_client_fault step ≡ false → cl ≡ false → MustRead c → v.origin.inbox ≡ [] → d ≡ c → ReadsOrigin ot v w p
+  minds_read : (p : Pulled) → is_origin_fault step ≡ pull_failed p → ol ≡ pull_again p → is_client_fault step ≡ false → cl ≡ false → MustRead c → v.origin.inbox ≡ [] → d ≡ c → ReadsOrigin ot v w p
       → MindsBody ct ot v w c d step cl ol
   minds_read p failed again no_client ready must none chain reads =
       read_minds p failed again no_client ready must none reads (unless_lacking (length d.first ≤ length c.first) step (no_longer c.first d.first (ap (λ k. k.first) chain)))
 
   -- and its end was met, up to which the body goes
-  pub minds_ended : cl ≡ false → ol ≡ is_late step → MustRead c → v.origin.inbox ≡ [] → OnGoes step (d ≡ record c { given = true }) → ReadsOrigin ot v w L.End → MindsBody ct ot v w c d step cl ol
+  minds_ended : cl ≡ false → ol ≡ is_late step → MustRead c → v.origin.inbox ≡ [] → OnGoes step (d ≡ record c { given = true }) → ReadsOrigin ot v w L.End → MindsBody ct ot v w c d step cl ol
   minds_ended ready late must none goes reads =
       let calm = calm_goes (d ≡ record c { given = true }) step goes in
       read_minds L.End calm.origin (late ∙ calm.late) calm.client ready must none reads (by_step step goes)
@@ -290,6 +332,53 @@ module _ {P : Type 0} (ct ot : Bool) (v w : View) (c d : ChainState P) (step : B
       by_step (S.Finishes end) goes = absurd goes
       by_step (S.Closes end) goes = absurd goes
       by_step S.Lacks goes = tt
+
+-- ---- the steps of the writer, and of the reader
+
+module _ {P : Type 0} (ct ot : Bool) (v w : View) (c d : ChainState P) (step : BodyStep) where
+  pub writer_rests : IsCalm step → w ≡ v → d ≡ c → WritesLinks ct ot v w c d step
+  writer_rests calm same chain = record { minds = minds_none ct ot v w c d step (is_late step) false calm calm.late refl same chain; origin = ap (λ (x : View). x.origin) same }
+
+  pub writer_queued : (text cuts : List ℕ) → IsCalm step → v.client.outbox ≡ [] → d ≡ c → QueuesText text cuts v w → WritesLinks ct ot v w c d step
+  writer_queued text cuts calm none chain queued =
+      record { minds = minds_queued ct ot v w c d step (is_late step) false text cuts calm calm.late refl none chain queued; origin = queued.origin }
+
+  pub writer_framed : (text cuts : List ℕ) (rest : P → List ℕ → List ℕ) (n : ℕ) → IsCalm step → v.client.outbox ≡ [] → TakesAway rest n c d → QueuesText text cuts v w → WritesLinks ct ot v w c d step
+  writer_framed text cuts rest n calm none takes queued =
+      record { minds = minds_framed ct ot v w c d step (is_late step) false text cuts rest n calm calm.late refl none takes queued; origin = queued.origin }
+
+  pub writer_wrote : (p : Pushed) → is_client_fault step ≡ push_failed p → is_late step ≡ push_again p → is_origin_fault step ≡ false → d ≡ c → WritesClient ct v w p → WritesLinks ct ot v w c d step
+  writer_wrote p failed again no_origin chain writes =
+      record { minds = minds_wrote ct ot v w c d step (is_late step) false p failed again no_origin refl chain writes; origin = ap (λ (x : View). x.origin) writes.others }
+
+  pub reader_rests : IsCalm step → w ≡ v → d ≡ c → ReadsLinks ct ot v w c d step
+  reader_rests calm same chain = record {
+    minds = minds_none ct ot v w c d step false (is_late step) calm refl calm.late same chain;
+    client = ap (λ (x : View). x.client) same;
+    sent = ap (λ (x : View). x.sent) same;
+  }
+
+  pub reader_drained : (old new : Place) → MustRead c → FeedsTo step old new v.origin.inbox w.origin.inbox c d → DrainsOrigin v w → ReadsLinks ct ot v w c d step
+  reader_drained old new must feeds drains = record {
+    minds = minds_drained ct ot v w c d step false (is_late step) old new refl refl must feeds drains;
+    client = ap (λ (x : View). x.client) drains;
+    sent = ap (λ (x : View). x.sent) drains;
+  }
+
+  pub reader_read : (p : Pulled) → is_origin_fault step ≡ pull_failed p → is_late step ≡ pull_again p → is_client_fault step ≡ false → MustRead c → v.origin.inbox ≡ [] → d ≡ c → ReadsOrigin ot v w p
+      → ReadsLinks ct ot v w c d step
+  reader_read p failed again no_client must none chain reads = record {
+    minds = minds_read ct ot v w c d step false (is_late step) p failed again no_client refl must none chain reads;
+    client = ap (λ (x : View). x.client) reads.others;
+    sent = ap (λ (x : View). x.sent) reads.others;
+  }
+
+  pub reader_ended : MustRead c → v.origin.inbox ≡ [] → OnGoes step (d ≡ record c { given = true }) → ReadsOrigin ot v w L.End → ReadsLinks ct ot v w c d step
+  reader_ended must none goes reads = record {
+    minds = minds_ended ct ot v w c d step false (is_late step) refl refl must none goes reads;
+    client = ap (λ (x : View). x.client) reads.others;
+    sent = ap (λ (x : View). x.sent) reads.others;
+  }
 
 -- ---- the ends are roused behind a step
 
@@ -302,6 +391,7 @@ minds_as ct ot v w c d e step result cl ol client origin holds h = record {
   reads = h.reads;
   unread = h.unread;
   unwritten = h.unwritten;
+  queued = h.queued;
   queues = h.queues;
   holds = holds;
 }
@@ -383,12 +473,12 @@ links_quiet ct ot v t r a = record {
 
 -- one of the writer
 pub links_write : {P : Type 0} (ct ot : Bool) (v w : View) (step result : BodyStep) (t m : Option StageContinuation) (r q s : Relay P) (a c b : Context)
-    → MindsBody ct ot v w r.driven.chain q.driven.chain step (is_late step) false → SettledAs step result → s.driven ≡ q.driven → StepsChain step 1 r.driven q.driven a c → q ≡ record r { driven = q.driven } → m ≡ unroused t → AddsSome 2 c b
+    → WritesLinks ct ot v w r.driven.chain q.driven.chain step → SettledAs step result → s.driven ≡ q.driven → StepsChain step 1 r.driven q.driven a c → q ≡ record r { driven = q.driven } → m ≡ unroused t → AddsSome 2 c b
     → OnlyOfEnds (pause_if (is_late step) RETRY) (pause_if (is_late step) 0) m q.reader c b → HandlesLinks ct ot v w t r s result a b
-links_write ct ot v w step result t m r q s a c b minds settled kept steps same handled adds ends = record {
+links_write ct ot v w step result t m r q s a c b links settled kept steps same handled adds ends = record {
   client_late = is_late step;
   origin_late = false;
-  minds = minds_settled ct ot v w r.driven.chain q.driven.chain s.driven.chain step result (is_late step) false settled (ap (λ e. e.chain) kept) minds;
+  minds = minds_settled ct ot v w r.driven.chain q.driven.chain s.driven.chain step result (is_late step) false settled (ap (λ e. e.chain) kept) links.minds;
   due = λ named. subst (λ n. OnlyOfBody (pause_if (is_late step) RETRY) n a b) (no_pause (is_late step))
       (in_time (pause_if (is_late step) RETRY) (pause_if (is_late step) 0) m q.reader a c b steps.adds.grows.moment adds.keeps (steps.only FIRST named.stages)
       (named_later a c MAIN (unroused t) m steps.adds.keeps handled (named_unroused a.roles MAIN t named.of_main))
@@ -397,12 +487,12 @@ links_write ct ot v w step result t m r q s a c b minds settled kept steps same 
 
 -- one of the reader
 pub links_read : {P : Type 0} (ct ot : Bool) (v w : View) (step result : BodyStep) (t : Option StageContinuation) (r q s : Relay P) (a c b : Context)
-    → MindsBody ct ot v w r.driven.chain q.driven.chain step false (is_late step) → SettledAs step result → s.driven ≡ q.driven → StepsChain step 2 r.driven q.driven a c → q.reader ≡ unroused r.reader → AddsSome 2 c b
+    → ReadsLinks ct ot v w r.driven.chain q.driven.chain step → SettledAs step result → s.driven ≡ q.driven → StepsChain step 2 r.driven q.driven a c → q.reader ≡ unroused r.reader → AddsSome 2 c b
     → OnlyOfEnds (pause_if (is_late step) 0) (pause_if (is_late step) RETRY) t q.reader c b → HandlesLinks ct ot v w t r s result a b
-links_read ct ot v w step result t r q s a c b minds settled kept steps handled adds ends = record {
+links_read ct ot v w step result t r q s a c b links settled kept steps handled adds ends = record {
   client_late = false;
   origin_late = is_late step;
-  minds = minds_settled ct ot v w r.driven.chain q.driven.chain s.driven.chain step result false (is_late step) settled (ap (λ e. e.chain) kept) minds;
+  minds = minds_settled ct ot v w r.driven.chain q.driven.chain s.driven.chain step result false (is_late step) settled (ap (λ e. e.chain) kept) links.minds;
   due = λ named. subst (λ n. OnlyOfBody n (pause_if (is_late step) RETRY) a b) (no_pause (is_late step))
       (in_time (pause_if (is_late step) 0) (pause_if (is_late step) RETRY) t q.reader a c b steps.adds.grows.moment adds.keeps (steps.only FIRST named.stages)
       (named_later a c MAIN t t steps.adds.keeps refl named.of_main)

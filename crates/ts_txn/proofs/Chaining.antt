@@ -1,5 +1,5 @@
 -- What a step of a body leaves of its chain and of what is pending.
-use Rattle.std.proofs.Common.{◌≡◌, ℕ, ◌+◌, ◌≤◌, ◌⊎◌, inl, inr, List, Option, Bool, true, false, Result, Ok, Err, refl, sym, ap, subst, arith, ◌∙◌}
+use Rattle.std.proofs.Common.{◌≡◌, ℕ, ◌+◌, ◌≤◌, ◌⊎◌, inl, inr, List, Option, Some, Bool, true, false, Result, Ok, Err, refl, sym, ap, subst, arith, ◌∙◌}
 use Rattle.std.specs.Prelude.{⊤}
 use Rattle.ts_journal.specs.declared.entry.TheConstants.{GREATEST}
 use Rattle.ts_journal.proofs.Later.{extends_later}
@@ -14,11 +14,13 @@ use Rattle.ts_transform.specs.Driving.{AddsEvents, SetsFew, SetsOnly}
 use Rattle.ts_transform.specs.declared.continuation.StageContinuation.{StageContinuation}
 use Rattle.ts_transform.specs.Driven.{Gives, Loses, SameSeats, StaysDriven}
 use Rattle.ts_transform.specs.declared.driven.DrivenChain.{DrivenChain}
+use Rattle.ts_transform.specs.declared.loss.Loss.{Loss}
+use Rattle.ts_transform.specs.declared.loss.Loss.TheVariants as L
 use Rattle.ts_transform.proofs.Carrying.{order_any, takes_order}
 use Rattle.ts_transform.proofs.Joined.{runs_before}
 use Rattle.ts_transform.proofs.Kept.{few_refl, few_trans, keeps_refl, keeps_trans}
 use Rattle.ts_transform.proofs.Setting.{named_kept, only_none, only_trans, only_weaker}
-use Rattle.ts_txn.specs.Relaying.{DrivesOn, IsOfRoleFrom, OnlyOfStages, StepsChain, step_after}
+use Rattle.ts_txn.specs.Relaying.{DrivesOn, IsNotSpent, IsOfRoleFrom, OnlyOfStages, StepsChain, step_after}
 use Rattle.ts_txn.specs.declared.finishing.BodyStep.{BodyStep}
 use Rattle.ts_txn.specs.declared.finishing.BodyStep.TheVariants as S
 
@@ -36,6 +38,7 @@ chain_still step most d a turn = record {
   adds = record { grows = grows_refl a; keeps = keeps_refl a turn; few = few_refl a most };
   driven = λ first h. h;
   on = drives_still step d a;
+  spent = λ lacks spent. refl;
   falls = λ runs. runs;
   seats = record { same = refl; seated = λ others h. h };
   only = λ first named. only_none (IsOfRoleFrom first a.roles) a;
@@ -50,6 +53,21 @@ drives_after (Err F.Spent) d e before now loses = inr loses.2
 drives_after (Err F.NoMemory) d e before now loses = tt
 drives_after (Err F.Dead) d e before now loses = tt
 
+-- used-up numbers do not lack memory
+pub not_spent : {P : Type 0} (r : Result ⊤ SetFault) (d e : DrivenChain P) (a b : Context) (step : BodyStep) → step ≡ step_after r → Loses r d e a b → IsNotSpent step e
+not_spent (Ok x) d e a b step is loses lacks spent = absurd (let wrong : S.Goes ≡ S.Lacks = sym is ∙ lacks in cc)
+not_spent (Err F.Spent) d e a b step is loses lacks spent = absurd (let wrong : S.Goes ≡ S.Lacks = sym is ∙ lacks in cc)
+not_spent (Err F.NoMemory) d e a b step is loses lacks spent = absurd (let wrong : ◌≡◌ {A = Option Loss} (Some L.NoMemory) (Some L.Spent) = sym loses.1 ∙ spent in cc)
+not_spent (Err F.Dead) d e a b step is loses lacks spent = absurd (let wrong : ◌≡◌ {A = Option Loss} (Some L.Dead) (Some L.Spent) = sym loses.1 ∙ spent in cc)
+
+pub goes_unspent : {P : Type 0} (e : DrivenChain P) → IsNotSpent S.Goes e
+goes_unspent e lacks spent = let wrong : S.Goes ≡ S.Lacks = lacks in cc
+
+pub lost_unspent : {P : Type 0} (loss : Loss) (e : DrivenChain P) → e.lost ≡ Some loss → (loss ≡ L.Spent → ⊥) → IsNotSpent S.Lacks e
+lost_unspent loss e lost other lacks spent =
+    let both : ◌≡◌ {A = Option Loss} (Some loss) (Some L.Spent) = sym lost ∙ spent in
+    other (let same : loss ≡ L.Spent = cc in same)
+
 -- whatever rouses a stage is of one
 of_rouses : {P : Type 0} (pause : P → ℕ) (c : ChainState P) (ts : List (Option StageContinuation)) (a b : Context) → OnlyRouses pause c ts a b → OnlyOfStages ts a b
 of_rouses pause c ts a b only first named =
@@ -62,6 +80,7 @@ chain_after most r d e a b adds driven loses seats pause only ordered = record {
   adds = record { grows = adds.grows; keeps = adds.keeps; few = adds.few };
   driven = driven;
   on = drives_after r d e a b loses;
+  spent = λ lacks spent. absurd (not_spent r d e a b (step_after r) refl loses lacks spent);
   falls = runs_before r d e a b loses;
   seats = seats;
   only = of_rouses pause e.chain d.table.items a b only;
@@ -87,12 +106,13 @@ drives_then S.Waits d e f b c later on next = on_then d e f b c later on next
 drives_then (S.Finishes end) d e f b c later on next = on_then d e f b c later on next
 drives_then (S.Closes end) d e f b c later on next = on_then d e f b c later on next
 
-pub chain_then : {P : Type 0} (step : BodyStep) (m n : ℕ) (d e f : DrivenChain P) (a b c : Context) → IsOrderly b → StepsChain S.Goes m d e a b → StepsChain step n e f b c
+pub chain_then : {P : Type 0} (step : BodyStep) (m n : ℕ) (d e f : DrivenChain P) (a b c : Context) → IsOrderly b → StepsChain S.Goes m d e a b → StepsChain step n e f b c → IsNotSpent step f
     → StepsChain step (m + n) d f a c
-chain_then step m n d e f a b c orderly h k = record {
+chain_then step m n d e f a b c orderly h k unspent = record {
   adds = record { grows = grows_trans h.adds.grows k.adds.grows; keeps = keeps_trans h.adds.keeps k.adds.keeps; few = few_trans m n h.adds.few k.adds.few };
   driven = λ first was. k.driven first (h.driven first was);
   on = drives_then step d e f b c (grows_next b c orderly k.adds.grows) h.on k.on;
+  spent = λ lacks spent. absurd (unspent lacks spent);
   falls = λ runs. h.falls (k.falls runs);
   seats = record { same = k.seats.same ∙ h.seats.same; seated = λ others was. k.seats.seated others (h.seats.seated others was) };
   only = λ first named. only_trans (IsOfRoleFrom first a.roles) a b c (h.only first named) k.adds.keeps
@@ -109,18 +129,7 @@ chain_more step m n d e a b more h = record {
   adds = record { grows = h.adds.grows; keeps = h.adds.keeps; few = few_more m n a b more h.adds.few };
   driven = h.driven;
   on = h.on;
-  falls = h.falls;
-  seats = h.seats;
-  only = h.only;
-  ordered = h.ordered;
-}
-
--- memory lacks, whatever came before
-pub chain_lacks : {P : Type 0} (step : BodyStep) (m n : ℕ) (d e : DrivenChain P) (a b : Context) → m ≤ n → StepsChain step m d e a b → StepsChain S.Lacks n d e a b
-chain_lacks step m n d e a b more h = record {
-  adds = record { grows = h.adds.grows; keeps = h.adds.keeps; few = few_more m n a b more h.adds.few };
-  driven = h.driven;
-  on = tt;
+  spent = h.spent;
   falls = h.falls;
   seats = h.seats;
   only = h.only;

@@ -10,7 +10,7 @@ use Rattle.ts_wire.specs.Place.{Place}
 use Rattle.ts_txn.specs.Entering.{EntersBody}
 use Rattle.ts_txn.specs.View.{OriginRefuses, View, refuses_if, view_of}
 use Rattle.ts_txn.specs.Course.{CourseFact, course_after, finish_after}
-use Rattle.ts_txn.specs.CourseCover.{StaysOnOrLacks}
+use Rattle.ts_txn.specs.CourseCover.{LedAfter, LedBehind, StaysOnOrLacks}
 use Rattle.ts_txn.specs.Ends.{EndFact}
 use Rattle.ts_txn.specs.Finishing.{IsFinishing, LeadsBody}
 use Rattle.ts_txn.specs.Holding.{StepKeeps}
@@ -20,6 +20,8 @@ use Rattle.ts_txn.specs.declared.course.Course.TheVariants as K
 use Rattle.ts_txn.specs.declared.finishing.BodyStep.{BodyStep}
 use Rattle.ts_txn.specs.declared.finishing.BodyStep.TheVariants as S
 use Rattle.ts_txn.specs.declared.parts.Core.{Core}
+use Rattle.ts_txn.specs.declared.phase.Next.{Next}
+use Rattle.ts_txn.specs.declared.phase.Next.TheVariants as N
 use Rattle.ts_txn.specs.declared.relay.Relay.{Relay}
 use Rattle.ts_txn.proofs.Always.{always}
 use Rattle.ts_txn.proofs.Asks.{lacks_memory}
@@ -56,6 +58,19 @@ pub stays_on : (setup : Setup) (refuses : Type 0) {Q : Type 0} (rest : Q → Lis
     → CourseFact setup refuses rest v new
 stays_on setup refuses rest v old new h (inl same) = subst (λ x. CourseFact setup refuses rest v x) (sym same) h
 stays_on setup refuses rest v old new h (inr lacks) = subst (λ x. CourseFact setup refuses rest v x) (sym lacks) (course_lacks setup refuses rest v old h)
+
+-- so it may where an event may have been set
+pub behind_led : {Q : Type 0} (next : Next) (led new : Course Q) → LedBehind next led new → StaysOnOrLacks led new
+behind_led N.Go led new h = h
+behind_led N.Wait led new h = h
+behind_led N.Done led new h = inl h
+
+pub after_led : {Q : Type 0} (step : BodyStep) (led new : Course Q) → LedAfter step led new → StaysOnOrLacks led new
+after_led S.Goes led new h = inl h
+after_led S.Waits led new h = inl h
+after_led (S.Finishes end) led new h = h
+after_led (S.Closes end) led new h = h
+after_led S.Lacks led new h = h
 
 course_moved : (setup : Setup) (R T : Type 0) → (R → T) → (T → R) → {Q : Type 0} (rest : Q → List ℕ → List ℕ) (v : View) (course : Course Q)
     → CourseFact setup R rest v course → CourseFact setup T rest v course

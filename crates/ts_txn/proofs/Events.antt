@@ -4,16 +4,18 @@ use Rattle.ts_hooks.specs.declared.txn_end.TxnEnd.{TxnEnd}
 use Rattle.ts_hooks.specs.declared.txn_end.TxnEnd.TheVariants as E
 use Rattle.ts_group.specs.declared.action.Named.{Named}
 use Rattle.ts_group.specs.Context.{Context}
+use Rattle.ts_group.specs.Entries.{Grows}
 use Rattle.ts_link.specs.Link.{Look}
 use Rattle.ts_journal.specs.declared.entry.Pending.{Pending}
-use Rattle.ts_transform.specs.Driving.{IsDueAfter, IsNamedIf, SetsOnly, unroused}
+use Rattle.ts_transform.specs.Driving.{ActsWithin, IsDueAfter, IsNamedIf, SetsOnly, unroused}
 use Rattle.ts_transform.specs.Seats.{AllSeated, HasKey}
 use Rattle.ts_transform.specs.declared.continuation.StageContinuation.{StageContinuation}
 use Rattle.ts_transform.proofs.Setting.{only_none}
 use Rattle.std.specs.Prelude.{⊤}
+use Rattle.ts_txn.specs.BodyLinks.{BeginsInTime}
 use Rattle.ts_txn.specs.Course.{course_after}
-use Rattle.ts_txn.specs.CourseCover.{IsCoveredNow, StaysOnOrLacks}
-use Rattle.ts_txn.specs.Driven.{BeginsIn, BeginsOnTime, DueTo, HandlesEvent, HandlesOn, HandlesStep, HandlesWrite, MindsCourse, TakesEvent, TakesOn, TakesStep, delay_of}
+use Rattle.ts_txn.specs.CourseCover.{IsCoveredNow, LedAfter, LedBehind, StaysOnOrLacks, set_leaving}
+use Rattle.ts_txn.specs.Driven.{BeginsIn, ClosesAs, DueTo, HandlesEvent, HandlesOn, HandlesStep, HandlesWrite, MindsCourse, TakesEvent, TakesOn, TakesStep, delay_of}
 use Rattle.ts_txn.specs.Entering.{QuietLinks}
 use Rattle.ts_txn.specs.Steps.{LeavesClient, LeavesClientIn, LeavesOrigin, LeavesOriginIn, LeavesSides, MindsLinksIn, WaitsRightly}
 use Rattle.ts_txn.specs.Holding.{IfTold}
@@ -31,6 +33,7 @@ use Rattle.ts_txn.specs.declared.phase.Phase.{Phase}
 use Rattle.ts_txn.specs.declared.phase.Phase.TheVariants as P
 use Rattle.ts_txn.specs.declared.phase.Step.{Step}
 use Rattle.ts_txn.specs.declared.relay.Relay.{Relay}
+use Rattle.ts_txn.proofs.Coursing.{behind_led}
 use Rattle.ts_txn.proofs.Leaving.{still_leaves}
 use Rattle.ts_txn.proofs.Sparing.{still_spares}
 
@@ -69,6 +72,24 @@ module _ (v w : View) where
   spares_in (P.TxnClose end) spares = spares
   spares_in (P.Ended end) spares = spares
 
+  -- nothing closes where a body begins
+  begin_closes : {Q : Type 0} (p : Phase) (new : Course Q) → BeginsIn p v w → ClosesAs p new
+  begin_closes P.Fresh new begins = tt
+  begin_closes P.TxnStart new begins = tt
+  begin_closes P.ReadRequest new begins = tt
+  begin_closes (P.ReadRequestHdr q) new begins = tt
+  begin_closes (P.OsDns q) new begins = tt
+  begin_closes (P.SendRequestHdr q) new begins = tt
+  begin_closes (P.SendRequest q) new begins = tt
+  begin_closes (P.Upload q) new begins = tt
+  begin_closes (P.ReadResponse q) new begins = tt
+  begin_closes (P.ReadResponseHdr q h) new begins = tt
+  begin_closes (P.ResponseTransform q h) new begins = tt
+  begin_closes (P.SendResponseHdr a) new begins = tt
+  begin_closes (P.Sending a) new begins = tt
+  begin_closes (P.TxnClose end) new begins = absurd begins
+  begin_closes (P.Ended end) new begins = tt
+
   -- a body begins
   pub leaves_begun : (p : Phase) → BeginsIn p v w → LeavesSides p v w
   leaves_begun p begins = record {
@@ -93,6 +114,24 @@ module _ (v w : View) where
       calls (P.TxnClose end) begins = absurd begins
       calls (P.Ended end) begins = absurd begins
 
+-- nor where nothing is done
+still_closes : (Q : Type 0) (p : Phase) → ClosesAs {Q = Q} p (K.Phased p)
+still_closes Q P.Fresh = tt
+still_closes Q P.TxnStart = tt
+still_closes Q P.ReadRequest = tt
+still_closes Q (P.ReadRequestHdr q) = tt
+still_closes Q (P.OsDns q) = tt
+still_closes Q (P.SendRequestHdr q) = tt
+still_closes Q (P.SendRequest q) = tt
+still_closes Q (P.Upload q) = tt
+still_closes Q (P.ReadResponse q) = tt
+still_closes Q (P.ReadResponseHdr q h) = tt
+still_closes Q (P.ResponseTransform q h) = tt
+still_closes Q (P.SendResponseHdr a) = tt
+still_closes Q (P.Sending a) = tt
+still_closes Q (P.TxnClose end) = inl refl
+still_closes Q (P.Ended end) = tt
+
 -- the first continuation keeps its role when its event is handled
 named_before : (roles : List Named) (main : Option StageContinuation) → IsNamedIf roles MAIN main → IsNamedIf roles MAIN (unroused main)
 named_before roles None named = named
@@ -102,18 +141,40 @@ module _ {C O Q : Type 0} (ct ot : Bool) (client : C → Look) (origin : O → L
   -- a step of a phase was made, and led to the phase that it answered, or to the end for want of memory
   pub takes_step : (s t : Core C O) (p : Phase) (new : Course Q) (made : Step) → MindsLinksIn ct ot client origin refuses left s t p made
       → WaitsRightly made.next (view_of client origin s) (view_of client origin t) → IfTold ct ot (LeavesSides p (view_of client origin s) (view_of client origin t))
-      → StaysOnOrLacks (K.Phased made.phase) new → TakesStep ct ot client origin paired refuses left s t p made.next new
-  takes_step s t p new made minds waits leaves led = record { minds = by_lead led; waits = waits; leaves = leaves }
+      → LedBehind made.next (K.Phased made.phase) new → TakesStep ct ot client origin paired refuses left s t p made.next new
+  takes_step s t p new made minds waits leaves led = record {
+    minds = by_lead (behind_led made.next (K.Phased made.phase) new led);
+    waits = waits;
+    leaves = leaves;
+    closes = by_phase p minds;
+  }
     where
       by_lead : StaysOnOrLacks (K.Phased made.phase) new
           → (new ≡ K.Phased (P.Ended E.NoMemory)) ⊎ ((t ≡ s) × (new ≡ K.Phased p)) ⊎ MindsCourse ct ot client origin paired refuses left s t p made.next new
       by_lead (inl same) = inr (inr (subst (MindsCourse ct ot client origin paired refuses left s t p made.next) (sym same) minds))
       by_lead (inr lacks) = inl lacks
 
+      by_phase : (p : Phase) → MindsLinksIn ct ot client origin refuses left s t p made → ClosesAs p new
+      by_phase P.Fresh minds = tt
+      by_phase P.TxnStart minds = tt
+      by_phase P.ReadRequest minds = tt
+      by_phase (P.ReadRequestHdr q) minds = tt
+      by_phase (P.OsDns q) minds = tt
+      by_phase (P.SendRequestHdr q) minds = tt
+      by_phase (P.SendRequest q) minds = tt
+      by_phase (P.Upload q) minds = tt
+      by_phase (P.ReadResponse q) minds = tt
+      by_phase (P.ReadResponseHdr q h) minds = tt
+      by_phase (P.ResponseTransform q h) minds = tt
+      by_phase (P.SendResponseHdr a) minds = tt
+      by_phase (P.Sending a) minds = tt
+      by_phase (P.TxnClose end) minds = inr (subst (λ (m : Step). LedBehind m.next (K.Phased m.phase) new) minds.1 led)
+      by_phase (P.Ended end) minds = tt
+
   -- where a body that begins leads: it is passed on, or memory lacked
-  pub begin_led : (r : Relay Q) (step : BodyStep) (new : Course Q) → OnGoes step ⊤ → StaysOnOrLacks (course_after r step) new
+  pub begin_led : (r : Relay Q) (step : BodyStep) (new : Course Q) → OnGoes step ⊤ → LedAfter step (course_after r step) new
       → (new ≡ K.Relaying r) ⊎ (new ≡ K.Phased (P.Ended E.NoMemory))
-  begin_led r S.Goes new goes led = led
+  begin_led r S.Goes new goes led = inl led
   begin_led r S.Waits new goes led = absurd goes
   begin_led r (S.Finishes end) new goes led = absurd goes
   begin_led r (S.Closes end) new goes led = absurd goes
@@ -127,6 +188,7 @@ module _ {C O Q : Type 0} (ct ot : Bool) (client : C → Look) (origin : O → L
     minds = by_lead led;
     waits = tt;
     leaves = λ told also. leaves_begun (view_of client origin s) (view_of client origin t) p begins;
+    closes = begin_closes (view_of client origin s) (view_of client origin t) p new begins;
   }
     where
       by_lead : (new ≡ K.Relaying r) ⊎ (new ≡ K.Phased (P.Ended E.NoMemory))
@@ -141,6 +203,7 @@ module _ {C O Q : Type 0} (ct ot : Bool) (client : C → Look) (origin : O → L
     minds = inl refl;
     waits = tt;
     leaves = λ told also. leaves_begun (view_of client origin s) (view_of client origin t) p begins;
+    closes = begin_closes (view_of client origin s) (view_of client origin t) p (K.Phased (P.Ended E.NoMemory)) begins;
   }
 
   -- the event of the next step is due then
@@ -150,17 +213,26 @@ module _ {C O Q : Type 0} (ct ot : Bool) (client : C → Look) (origin : O → L
   due_step main a b next p new (inr lacks) due = subst (λ x. DueTo main next x a b) (sym lacks) due
 
   -- where a body was begun, or nothing is pending any more
-  pub due_begin : (main : Option StageContinuation) (v : View) (u : Option StageContinuation) (a b : Context) (new : Course Q) (r : Relay Q) → BeginsOnTime main r a b → IsCoveredNow v u new b
-      → (new ≡ K.Relaying r) ⊎ (new ≡ K.Phased (P.Ended E.NoMemory)) → DueTo main N.Go new a b
-  due_begin main v u a b new r begins covered (inl same) = subst (λ x. DueTo main N.Go x a b) (sym same) begins
-  due_begin main v u a b new r begins covered (inr lacks) =
-      subst (λ x. DueTo main N.Go x a b) (sym lacks) (none_due (subst (λ x. IsCoveredNow v u x b) lacks covered))
+  pub due_begin : (main : Option StageContinuation) (v : View) (u : Option StageContinuation) (a m b : Context) (step : BodyStep) (r : Relay Q) (new : Course Q) → OnGoes step ⊤
+      → LedAfter step (course_after r step) new → Grows a m → BeginsInTime main r a m → ActsWithin (set_leaving step) m b → IsCoveredNow v u new b → DueTo main N.Go new a b
+  due_begin main v u a m b S.Goes r new goes led first begins then covered = subst (λ x. DueTo main N.Go x a b) (sym led) (record { behind = m; first = first; begins = begins; then = then })
+  due_begin main v u a m b S.Waits r new goes led first begins then covered = absurd goes
+  due_begin main v u a m b (S.Finishes end) r new goes led first begins then covered = absurd goes
+  due_begin main v u a m b (S.Closes end) r new goes led first begins then covered = absurd goes
+  due_begin main v u a m b S.Lacks r new goes led first begins then covered = lost (by_lead led)
     where
+      by_lead : (new ≡ K.Phased (P.Ended E.NoMemory)) ⊎ (new ≡ K.Phased (P.Ended E.NoMemory)) → new ≡ K.Phased (P.Ended E.NoMemory)
+      by_lead (inl lacks) = lacks
+      by_lead (inr lacks) = lacks
+
       unseated : (p : Pending) → HasKey (None ∷ []) p.key → ⊥
       unseated p has = has
 
       none_due : IsCoveredNow {Q = Q} v u (K.Phased (P.Ended E.NoMemory)) b → DueTo {Q = Q} main N.Go (K.Phased (P.Ended E.NoMemory)) a b
-      none_due h n p none there = absurd (unseated p (subst (λ m. AllSeated b.log.state.pending (m ∷ [])) h.idles h.seated n p there))
+      none_due h n p none there = absurd (unseated p (subst (λ x. AllSeated b.log.state.pending (x ∷ [])) h.idles h.seated n p there))
+
+      lost : new ≡ K.Phased (P.Ended E.NoMemory) → DueTo main N.Go new a b
+      lost lacks = subst (λ x. DueTo main N.Go x a b) (sym lacks) (none_due (subst (λ x. IsCoveredNow v u x b) lacks covered))
 
   -- nothing was done in a phase
   pub quiet_step : (main : Option StageContinuation) (t : Core C O) (p : Phase) (a : Context) → HandlesStep {Q = Q} ct ot client origin paired refuses left t t a a main p (K.Phased p)
@@ -172,6 +244,7 @@ module _ {C O Q : Type 0} (ct ot : Bool) (client : C → Look) (origin : O → L
           minds = inr (inl (refl, refl));
           waits = tt;
           leaves = λ told also. record { origin = leaves_in v v p (still_leaves v v refl); client = spares_in v v p (still_spares v v refl) };
+          closes = still_closes Q p;
         };
         due = only_none (IsDueAfter 0 a.moment) a;
       }
@@ -186,9 +259,8 @@ module _ {C O Q : Type 0} (ct ot : Bool) (client : C → Look) (origin : O → L
   due_before main u is next (K.Relaying r) a b due = record {
     behind = due.behind;
     first = due.first;
-    then = due.then;
     begins = λ runs named. due.begins runs (subst (IsNamedIf a.roles MAIN) (sym is) (named_before a.roles main named));
-    due = due.due;
+    then = due.then;
   }
   due_before main u is next (K.Finishing end) a b due = due
 

@@ -47,11 +47,11 @@ pumped_lines setup rest at c d pumps len lines = record {
 
 -- ---- fresh transforms
 
-pub fresh_adds : {P : Type 0} (rest : P → List ℕ → List ℕ) (ls : List TransformLine) (ps : List P) → AreOfLines rest ls ps → AllAddNoMore rest (map fresh_stage ps)
-fresh_adds rest [] [] of = tt
-fresh_adds rest [] (p ∷ ps) of = absurd of
-fresh_adds rest (l ∷ ls) [] of = absurd of
-fresh_adds rest (l ∷ ls) (p ∷ ps) of = (same_adds (whole_of l) (rest p) of.0 (line_adds l), fresh_adds rest ls ps of.1)
+pub fresh_adds : {P : Type 0} (rest : P → List ℕ → List ℕ) (pause : P → ℕ) (line_pause : TransformLine → ℕ) (ls : List TransformLine) (ps : List P) → AreOfLines rest pause line_pause ls ps → AllAddNoMore rest (map fresh_stage ps)
+fresh_adds rest pause line_pause [] [] of = tt
+fresh_adds rest pause line_pause [] (p ∷ ps) of = absurd of
+fresh_adds rest pause line_pause (l ∷ ls) [] of = absurd of
+fresh_adds rest pause line_pause (l ∷ ls) (p ∷ ps) of = (same_adds (whole_of l) (rest p) of.0 (line_adds l), fresh_adds rest pause line_pause ls ps of.2)
 
 kept_shorter : (b : Bool) (x : ℕ) (xs ys : List ℕ) → length ys ≤ length xs → length (cond b (x ∷ ys) ys) ≤ length (x ∷ xs)
 kept_shorter true x xs ys less = omega (arith, less)
@@ -72,12 +72,12 @@ line_within (t.Drop byte) xs = omega (arith, filter_shorter (λ b. not (b == byt
 line_within (t.Delay ms) xs = omega arith
 
 -- What fresh transforms have left to do, with an error for each, is no more than their lines' texts at each boundary.
-pub fresh_work : {P : Type 0} (rest : P → List ℕ → List ℕ) (ls : List TransformLine) (ps : List P) → AreOfLines rest ls ps → (v : List ℕ) (most : ℕ)
+pub fresh_work : {P : Type 0} (rest : P → List ℕ → List ℕ) (pause : P → ℕ) (line_pause : TransformLine → ℕ) (ls : List TransformLine) (ps : List P) → AreOfLines rest pause line_pause ls ps → (v : List ℕ) (most : ℕ)
     → length v + lines_length ls ≤ most → passing rest (map fresh_stage ps) v + length ps ≤ passes ls (most + 2)
-fresh_work rest [] [] of v most fits = omega (arith, fits)
-fresh_work rest [] (p ∷ ps) of v most fits = absurd of
-fresh_work rest (l ∷ ls) [] of v most fits = absurd of
-fresh_work rest (l ∷ ls) (p ∷ ps) of v most fits =
+fresh_work rest pause line_pause [] [] of v most fits = omega (arith, fits)
+fresh_work rest pause line_pause [] (p ∷ ps) of v most fits = absurd of
+fresh_work rest pause line_pause (l ∷ ls) [] of v most fits = absurd of
+fresh_work rest pause line_pause (l ∷ ls) (p ∷ ps) of v most fits =
     let longer : length (rest p v) ≤ length v + line_length l = subst (λ (xs : List ℕ). length xs ≤ length v + line_length l) (sym (of.0 v)) (line_within l v) in
-    let behind : passing rest (map fresh_stage ps) (rest p v) + length ps ≤ passes ls (most + 2) = fresh_work rest ls ps of.1 (rest p v) most (omega (arith, longer, fits)) in
+    let behind : passing rest (map fresh_stage ps) (rest p v) + length ps ≤ passes ls (most + 2) = fresh_work rest pause line_pause ls ps of.2 (rest p v) most (omega (arith, longer, fits)) in
     omega (arith, behind, fits)

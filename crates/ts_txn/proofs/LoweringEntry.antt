@@ -18,12 +18,14 @@ use Rattle.ts_wire.specs.declared.framing.Framing.{Framing}
 use Rattle.ts_wire.specs.declared.framing.Framing.TheVariants as F
 use Rattle.ts_wire.specs.declared.frames.Mode.{Mode}
 use Rattle.ts_wire.specs.declared.heads.ResponseHead.{ResponseHead}
-use Rattle.ts_txn.specs.Relayed.{if_body}
-use Rattle.ts_txn.specs.Block.{relayed_head}
+use Rattle.ts_wire.specs.declared.heads.RequestHead.{RequestHead}
+use Rattle.ts_txn.specs.Acting.{acts_on}
+use Rattle.ts_txn.specs.Relayed.{framing_of, if_body}
+use Rattle.ts_txn.specs.Block.{body_lines, relayed_head}
 use Rattle.ts_txn.specs.Heads.{HasResponse}
 use Rattle.ts_txn.specs.View.{LinkSide, View}
 use Rattle.ts_txn.specs.RelayMoves.{QueuesHead}
-use Rattle.ts_txn.specs.Inserted.{AllAddNoMore, AreOfLines}
+use Rattle.ts_txn.specs.Inserted.{AllAddNoMore, AreOfLines, IsOfParts}
 use Rattle.ts_txn.specs.Lowering.{agains_left, chain_room, end_room, head_room, if_told, lines_length, own_room, passes, phase_work, pump_weight, to_hear, work_left}
 use Rattle.ts_txn.specs.Duties.{SettledAs}
 use Rattle.ts_txn.specs.Entering.{BeginsRelay, GetsStart}
@@ -72,8 +74,8 @@ no_bytes : (n : ℕ) → length {A = ℕ} [] + n ≤ n
 no_bytes n = omega arith
 
 -- so what their fresh transforms have left to do has room
-module _ {P : Type 0} (setup : Setup) (rest : P → List ℕ → List ℕ) (ms : List TransformLine) (ps : List P) (c : ChainState P) where
-  less_has_room : IsLess setup.transforms.items ms → length ms ≤ length setup.transforms.items → AreOfLines rest ms ps
+module _ {P : Type 0} (setup : Setup) (rest : P → List ℕ → List ℕ) (pause : P → ℕ) (line_pause : TransformLine → ℕ) (ms : List TransformLine) (ps : List P) (c : ChainState P) where
+  less_has_room : IsLess setup.transforms.items ms → length ms ≤ length setup.transforms.items → AreOfLines rest pause line_pause ms ps
       → c ≡ record { first = []; stages = map fresh_stage ps; given = false } → HasRoom setup rest c
   less_has_room less few of made =
       let ls = setup.transforms.items in
@@ -82,22 +84,22 @@ module _ {P : Type 0} (setup : Setup) (rest : P → List ℕ → List ℕ) (ms :
       let left : left_to_do rest c [] ≡ passing rest (map fresh_stage ps) [] = ap (λ (d : ChainState P). left_to_do rest d []) made in
       let room : passing rest (map fresh_stage ps) [] + length ps ≤ passes ls (lines_length ls + 2) =
       within (passing rest (map fresh_stage ps) [] + length ps) (passes ms (lines_length ms + 2)) (passes ls (lines_length ls + 2))
-      (fresh_work rest ms ps of [] (lines_length ms) (no_bytes (lines_length ms)))
+      (fresh_work rest pause line_pause ms ps of [] (lines_length ms) (no_bytes (lines_length ms)))
       (within (passes ms (lines_length ms + 2)) (passes ls (lines_length ms + 2)) (passes ls (lines_length ls + 2)) (less.passed (lines_length ms + 2))
       (passes_less ls (lines_length ms + 2) (lines_length ls + 2) (two_more (lines_length ms) (lines_length ls) less.text))) in
       record {
         lines = record {
-          few = few_stages (length c.stages) (length ps) (length ms) (length ls) len (same_count rest ms ps of) few;
-          adds = subst (λ (ss : List (Stage P)). AllAddNoMore rest ss) (sym stages) (fresh_adds rest ms ps of);
+          few = few_stages (length c.stages) (length ps) (length ms) (length ls) len (same_count ms ps of) few;
+          adds = subst (λ (ss : List (Stage P)). AllAddNoMore rest ss) (sym stages) (fresh_adds rest pause line_pause ms ps of);
         };
         room = room_sum (left_to_do rest c []) (passing rest (map fresh_stage ps) []) (length c.stages) (length ps) (passes ls (lines_length ls + 2)) left len room;
       }
     where
-      same_count : (rest : P → List ℕ → List ℕ) (ls : List TransformLine) (ps : List P) → AreOfLines rest ls ps → length ps ≡ length ls
-      same_count rest [] [] of = refl
-      same_count rest [] (p ∷ ps) of = absurd of
-      same_count rest (l ∷ ls) [] of = absurd of
-      same_count rest (l ∷ ls) (p ∷ ps) of = omega (arith, same_count rest ls ps of.1)
+      same_count : (ls : List TransformLine) (ps : List P) → AreOfLines rest pause line_pause ls ps → length ps ≡ length ls
+      same_count [] [] of = refl
+      same_count [] (p ∷ ps) of = absurd of
+      same_count (l ∷ ls) [] of = absurd of
+      same_count (l ∷ ls) (p ∷ ps) of = omega (arith, same_count ls ps of.2)
 
       few_stages : (stages parts less all : ℕ) → stages ≡ parts → parts ≡ less → less ≤ all → stages ≤ all
       few_stages stages parts less all len same few = omega (arith, len, same, few)
@@ -121,20 +123,24 @@ filter_few p (l ∷ ls) = kept_few (p l) (filter p ls) (filter_few p ls)
     kept_few false ms few = omega (arith, few)
 
 -- the chain of a response's body: of the lines that act, or of none where there is no body
-pub fresh_has_room : {P : Type 0} (setup : Setup) (rest : P → List ℕ → List ℕ) (framing : Framing) (p : TransformLine → Bool) (ps : List P) (c : ChainState P)
-    → AreOfLines rest (if_body framing (filter p setup.transforms.items)) ps → c ≡ record { first = []; stages = map fresh_stage ps; given = false } → HasRoom setup rest c
-fresh_has_room setup rest F.Nothing p ps c of made = less_has_room setup rest [] ps c (none_less setup.transforms.items) (no_lines (length setup.transforms.items)) of made
+pub fresh_has_room : {P : Type 0} (setup : Setup) (rest : P → List ℕ → List ℕ) (pause : P → ℕ) (line_pause : TransformLine → ℕ) (framing : Framing) (p : TransformLine → Bool) (ps : List P) (c : ChainState P)
+    → AreOfLines rest pause line_pause (if_body framing (filter p setup.transforms.items)) ps → c ≡ record { first = []; stages = map fresh_stage ps; given = false } → HasRoom setup rest c
+fresh_has_room setup rest pause line_pause F.Nothing p ps c of made = less_has_room setup rest pause line_pause [] ps c (none_less setup.transforms.items) (no_lines (length setup.transforms.items)) of made
   where
     no_lines : (n : ℕ) → length {A = TransformLine} [] ≤ n
     no_lines n = omega arith
-fresh_has_room setup rest (F.Sized n) p ps c of made =
-    less_has_room setup rest (filter p setup.transforms.items) ps c (filter_less p setup.transforms.items) (filter_few p setup.transforms.items) of made
-fresh_has_room setup rest F.Chunked p ps c of made =
-    less_has_room setup rest (filter p setup.transforms.items) ps c (filter_less p setup.transforms.items) (filter_few p setup.transforms.items) of made
-fresh_has_room setup rest F.UntilClose p ps c of made =
-    less_has_room setup rest (filter p setup.transforms.items) ps c (filter_less p setup.transforms.items) (filter_few p setup.transforms.items) of made
-fresh_has_room setup rest F.Faulty p ps c of made =
-    less_has_room setup rest (filter p setup.transforms.items) ps c (filter_less p setup.transforms.items) (filter_few p setup.transforms.items) of made
+fresh_has_room setup rest pause line_pause (F.Sized n) p ps c of made =
+    less_has_room setup rest pause line_pause (filter p setup.transforms.items) ps c (filter_less p setup.transforms.items) (filter_few p setup.transforms.items) of made
+fresh_has_room setup rest pause line_pause F.Chunked p ps c of made =
+    less_has_room setup rest pause line_pause (filter p setup.transforms.items) ps c (filter_less p setup.transforms.items) (filter_few p setup.transforms.items) of made
+fresh_has_room setup rest pause line_pause F.UntilClose p ps c of made =
+    less_has_room setup rest pause line_pause (filter p setup.transforms.items) ps c (filter_less p setup.transforms.items) (filter_few p setup.transforms.items) of made
+fresh_has_room setup rest pause line_pause F.Faulty p ps c of made =
+    less_has_room setup rest pause line_pause (filter p setup.transforms.items) ps c (filter_less p setup.transforms.items) (filter_few p setup.transforms.items) of made
+
+pub parts_have_room : {P : Type 0} (setup : Setup) (rest : P → List ℕ → List ℕ) (pause : P → ℕ) (line_pause : TransformLine → ℕ) (q : RequestHead) (h : ResponseHead) (c : ChainState P)
+    → IsOfParts rest pause line_pause (body_lines setup q h) c → HasRoom setup rest c
+parts_have_room setup rest pause line_pause q h c of = fresh_has_room setup rest pause line_pause (framing_of q h) (acts_on h.status h.fields) of.parts c of.of_lines of.chain
 
 -- ---- the step
 

@@ -2,7 +2,7 @@
 -- leads there for nothing else; nothing is written to the origin and nothing is read of the client; the
 -- origin is read on only while more may be given to the chain and there is room; and an end of the body
 -- waits only for its link (RFC 9112, sections 6.3 and 8; Developer's Guide, "Transformations").
-use Rattle.std.specs.Prelude.{◌≡◌, ℕ, ◌+◌, ◌<◌, ◌≤◌, ◌⊎◌, List, [], length, Bool, true, false, Option}
+use Rattle.std.specs.Prelude.{◌≡◌, ℕ, ◌+◌, ◌<◌, ◌≤◌, ◌⊎◌, ◌++◌, List, [], length, Bool, true, false, Option}
 use Rattle.ts_hooks.specs.declared.txn_end.TxnEnd.{TxnEnd}
 use Rattle.ts_hooks.specs.declared.txn_end.TxnEnd.TheVariants as E
 use Rattle.ts_journal.specs.declared.entry.Pending.{Pending}
@@ -15,6 +15,7 @@ use Rattle.ts_transform.specs.Stage.{MOST_WAITING}
 use Rattle.ts_transform.specs.declared.continuation.StageContinuation.{StageContinuation}
 use Rattle.ts_vconn.specs.declared.moves.TheConstants.{MOST_PULLED}
 use Rattle.ts_txn.specs.Duties.{UnlessLacking}
+use Rattle.ts_txn.specs.Ends.{IsFrontOf}
 use Rattle.ts_txn.specs.Relaying.{IsOfRoleFrom}
 use Rattle.ts_txn.specs.View.{LinkSide, View}
 use Rattle.ts_txn.specs.declared.driver.TheConstants.{MAIN, RETRY}
@@ -56,6 +57,14 @@ pub record HoldsLittle {P : Type 0} (v : View) (c : ChainState P) : Type 0 where
   pub held : length v.origin.inbox ≤ MOST_PULLED
   pub front : length c.first < MOST_WAITING + MOST_PULLED
 
+-- What was queued for the client stays queued, or was written: its pieces are never taken back.
+pub record KeepsQueued (tells : Bool) (v w : View) : Type 0 where
+  pub head : w.sent.head ≡ v.sent.head
+  pub mode : w.sent.mode ≡ v.sent.mode
+  pub cuts : IsFrontOf v.sent.cuts.items w.sent.cuts.items
+  pub text : tells ≡ true → IsFrontOf (v.client.look.taken ++ v.client.outbox)
+      (w.client.look.taken ++ w.client.outbox)
+
 -- What a step of a body does with the links, each of which may have made it wait: a link's count of faults
 -- rises exactly where the step leads to the end for that; the origin is read on only where more may be
 -- given to the chain, and more is queued for the client only where nothing waits for it; so little is held.
@@ -66,8 +75,22 @@ pub record MindsBody {P : Type 0} (ctells otells : Bool) (v w : View) (c d : Cha
   pub reads : (w.origin ≡ v.origin) ⊎ MustRead c
   pub unread : IsUnread ctells v.client w.client
   pub unwritten : IsUnwritten otells v.origin w.origin
+  pub queued : KeepsQueued ctells v w
   pub queues : (length w.client.outbox ≤ length v.client.outbox) ⊎ (v.client.outbox ≡ [])
   pub holds : UnlessLacking step (HoldsLittle v c → HoldsLittle w d)
+
+-- What a step of the writer does with the links: nothing with the origin's.
+pub record WritesLinks {P : Type 0} (ctells otells : Bool) (v w : View) (c d : ChainState P)
+    (step : BodyStep) : Type 0 where
+  pub minds : MindsBody ctells otells v w c d step (is_late step) false
+  pub origin : w.origin ≡ v.origin
+
+-- And one of the reader: nothing with the client's.
+pub record ReadsLinks {P : Type 0} (ctells otells : Bool) (v w : View) (c d : ChainState P)
+    (step : BodyStep) : Type 0 where
+  pub minds : MindsBody ctells otells v w c d step false (is_late step)
+  pub client : w.client ≡ v.client
+  pub sent : w.sent ≡ v.sent
 
 -- an event that lets an end of a body work: the first continuation, or the reader, each after its pause
 abbrev pub IsOfEnd : ℕ → ℕ → ℕ → List Named → Pending → Type 0

@@ -104,6 +104,17 @@ abbrev pub StaysWhereNamed : {Q : Type 0} → Course Q → Relay Q → Course Q 
 StaysWhereNamed led r result main now = IsNamedIf now.roles MAIN main → AreNamed now.roles READER (relay_seats r)
     → StaysWhereSpent led result main now
 
+-- Behind the step of a phase it is where that led, or has ended for want of memory where an event was to be set.
+abbrev pub LedBehind : {Q : Type 0} → Next → Course Q → Course Q → Type 0
+LedBehind N.Done led new = new ≡ led
+LedBehind next led new = StaysOnOrLacks led new
+
+-- The same behind a step of a body.
+abbrev pub LedAfter : {Q : Type 0} → BodyStep → Course Q → Course Q → Type 0
+LedAfter S.Goes led new = new ≡ led
+LedAfter S.Waits led new = new ≡ led
+LedAfter step led new = StaysOnOrLacks led new
+
 -- how long after a step of the last writes the next one is made, in milliseconds
 abbrev pub pause_of : BodyStep → ℕ
 pause_of S.Waits = RETRY

@@ -1,16 +1,16 @@
 -- What an event of a transaction leads to, by how far it is: in a phase it makes a step, while a body is passed on a part
 -- of that, and then one of the last writes.
-use Rattle.std.specs.Prelude.{◌≡◌, ◌⊎◌, ℕ, Bool, List, Option}
+use Rattle.std.specs.Prelude.{◌≡◌, ◌⊎◌, ℕ, Bool, List, Option, ⊤}
 use Rattle.ts_group.specs.Context.{Context}
 use Rattle.ts_group.specs.Entries.{Grows}
 use Rattle.ts_hooks.specs.declared.txn_end.TxnEnd.{TxnEnd}
 use Rattle.ts_hooks.specs.declared.txn_end.TxnEnd.TheVariants as E
 use Rattle.ts_link.specs.Link.{Look}
-use Rattle.ts_transform.specs.Driving.{IsDueAfter, SetsOnly}
+use Rattle.ts_transform.specs.Driving.{ActsWithin, IsDueAfter, SetsOnly}
 use Rattle.ts_transform.specs.declared.continuation.StageContinuation.{StageContinuation}
 use Rattle.ts_txn.specs.BodyLinks.{BeginsInTime, HandlesLinks, MindsBody, SendsRest}
 use Rattle.ts_txn.specs.Course.{course_after, finish_after}
-use Rattle.ts_txn.specs.CourseCover.{StaysOnOrLacks, pause_of}
+use Rattle.ts_txn.specs.CourseCover.{LedAfter, StaysOnOrLacks, pause_of, set_leaving}
 use Rattle.ts_txn.specs.Entering.{QuietLinks}
 use Rattle.ts_txn.specs.Holding.{IfTold, StepKeeps}
 use Rattle.ts_txn.specs.Steps.{LeavesSides, MindsLinksIn, WaitsRightly}
@@ -39,14 +39,17 @@ abbrev pub BeginsIn : Phase → View → View → Type 0
 BeginsIn (P.ResponseTransform q h) v w = QuietLinks v w
 BeginsIn _ v w = ⊥
 
--- Where a body begins, what is set is of one of its stages, or lets an end of it work at once; and where it is left at
--- once, the event of the next step is due then.
+-- a transaction that closes ends so, and nothing else comes of it
+abbrev pub ClosesAs : {Q : Type 0} → Phase → Course Q → Type 0
+ClosesAs (P.TxnClose end) new = (new ≡ K.Phased (P.TxnClose end)) ⊎ (new ≡ K.Phased (P.Ended end))
+ClosesAs _ new = ⊤
+
+-- Where a body begins, what is set is of one of its stages, or lets an end of it work at once.
 pub record BeginsOnTime {Q : Type 0} (main : Option StageContinuation) (r : Relay Q) (a b : Context) : Type 0 where
   pub behind : Context
   pub first : Grows a behind
-  pub then : Grows behind b
   pub begins : BeginsInTime main r a behind
-  pub due : SetsOnly (IsDueAfter AT_ONCE behind.moment) behind b
+  pub then : ActsWithin (set_leaving S.Goes) behind b
 
 -- the event of the next step, if one is set, is due when that step is to be made
 abbrev pub DueTo : {Q : Type 0} → Option StageContinuation → Next → Course Q → Context → Context → Type 0
@@ -71,12 +74,13 @@ module _ {C O Q : Type 0} (ctells otells : Bool) (client : C → Look) (origin :
         ⊎ MindsCourse old next new
     pub waits : WaitsRightly next (view_of client origin s) (view_of client origin t)
     pub leaves : IfTold ctells otells (LeavesSides old (view_of client origin s) (view_of client origin t))
+    pub closes : ClosesAs old new
 
   -- while a body is passed on, a part of that is done
   pub record TakesBody (old : Relay Q) (new : Course Q) : Type 0 where
     pub step : BodyStep
     pub after : Relay Q
-    pub led : StaysOnOrLacks (course_after after step) new
+    pub led : LedAfter step (course_after after step) new
     pub client_late : Bool
     pub origin_late : Bool
     pub minds : MindsBody ctells otells (view_of client origin s) (view_of client origin t) old.driven.chain
@@ -114,10 +118,10 @@ module _ {C O Q : Type 0} (ctells otells : Bool) (client : C → Look) (origin :
     pub record HandlesRelay (main : Option StageContinuation) (old : Relay Q) (new : Course Q) : Type 0 where
       pub step : BodyStep
       pub after : Relay Q
-      pub led : StaysOnOrLacks (course_after after step) new
+      pub led : LedAfter step (course_after after step) new
       pub behind : Context
       pub first : Grows a behind
-      pub then : Grows behind b
+      pub then : ActsWithin (set_leaving step) behind b
       pub links : HandlesLinks ctells otells (view_of client origin s) (view_of client origin t) main old after
           step a behind
       pub due : SetsOnly (IsDueAfter AT_ONCE behind.moment) behind b

@@ -18,6 +18,7 @@ use Rattle.ts_txn.specs.Relaying.{AddsSome}
 use Rattle.ts_txn.specs.declared.finishing.BodyStep.{BodyStep}
 use Rattle.ts_txn.specs.declared.finishing.BodyStep.TheVariants as S
 use Rattle.ts_txn.specs.declared.relay.Relay.{Relay}
+use Rattle.ts_txn.specs.declared.relay.TheConstants.{READER}
 
 -- the first continuation must write: something waits for the client, or the chain gave something, or has
 -- given all
@@ -126,6 +127,13 @@ pub record SettlesAfter {P : Type 0} (step result : BodyStep) (v : View) (t u : 
   pub seated : KeepsSeated (body_seats t r) (body_seats u s) a b
   pub rests : AreBodyEndsRoused v t r → b ≡ a
 
+-- Which side an event of a body may touch: of the first continuation the client's, of the reader the
+-- origin's, and of any other neither.
+pub record DoesOwnWork (role : ℕ) (v w : View) : Type 0 where
+  pub main : role ≡ MAIN → w.origin ≡ v.origin
+  pub reader : role ≡ READER → (w.client ≡ v.client) × (w.sent ≡ v.sent)
+  pub others : role ≢ MAIN → role ≢ READER → w ≡ v
+
 -- What is left where an event of a role was handled while a body is passed on.
 pub record HandlesBody {P : Type 0} (step : BodyStep) (role : ℕ) (event : Event) (v w : View)
     (t u : Option StageContinuation) (r s : Relay P) (a b : Context) : Type 0 where
@@ -133,6 +141,7 @@ pub record HandlesBody {P : Type 0} (step : BodyStep) (role : ℕ) (event : Even
   pub joined : (before : List Pending) → IsHandled before a.log.state.pending a.roles role event
       → IsBodyJoined t r before a.roles → IsBodyJoined u s b.log.state.pending b.roles
   pub covered : IsBodyCovered v t r a.log.state.next → WhileGoes step (IsBodyCovered w u s b.log.state.next)
+  pub own : DoesOwnWork role v w
   pub runs : IsBodyCovered v t r a.log.state.next → UnlessLacking step (RunsOr s b.log.state.next)
   pub seated : KeepsSeated (body_seats t r) (body_seats u s) a b
   pub ordered : EndsInOrder r.driven.chain.given r.driven.chain.stages

@@ -1,8 +1,9 @@
--- Bytes that are put into a list: each transform line writes at most so many more for them, wherever they stand; and the
--- transforms of lines.
-use Rattle.std.specs.Prelude.{◌≡◌, ℕ, ◌+◌, ◌≤◌, ◌⊎◌, List, [], ◌∷◌, ⊤}
+-- Bytes that are put into a list: each transform line writes at most so many more for them, wherever they
+-- stand; and the transforms of lines.
+use Rattle.std.specs.Prelude.{◌≡◌, ℕ, ◌+◌, ◌≤◌, ◌⊎◌, List, [], ◌∷◌, ⊤, map, false}
 use Rattle.ts_config.specs.Bodies.{whole_of}
 use Rattle.ts_config.specs.declared.setup.TransformLine.{TransformLine}
+use Rattle.ts_transform.specs.Flow.{ChainState, fresh_stage}
 use Rattle.ts_transform.specs.Stage.{rest_of}
 use Rattle.ts_transform.specs.declared.pump.Stage.{Stage}
 
@@ -21,9 +22,18 @@ abbrev pub AllAddNoMore : {P : Type 0} → (P → List ℕ → List ℕ) → Lis
 AllAddNoMore rest [] = ⊤
 AllAddNoMore rest (s ∷ ss) = AddsNoMore (rest_of rest s.part) × AllAddNoMore rest ss
 
--- each transform makes of what it gets what its line makes of a whole body
-abbrev pub AreOfLines : {P : Type 0} → (P → List ℕ → List ℕ) → List TransformLine → List P → Type 0
-AreOfLines rest [] [] = ⊤
-AreOfLines rest [] (p ∷ ps) = ⊥
-AreOfLines rest (l ∷ ls) [] = ⊥
-AreOfLines rest (l ∷ ls) (p ∷ ps) = ((z : List ℕ) → rest p z ≡ whole_of l z) × AreOfLines rest ls ps
+-- each transform makes of what it gets what its line makes of a whole body, and pauses as its line says
+abbrev pub AreOfLines : {P : Type 0} → (P → List ℕ → List ℕ) → (P → ℕ) → (TransformLine → ℕ)
+    → List TransformLine → List P → Type 0
+AreOfLines rest pause line_pause [] [] = ⊤
+AreOfLines rest pause line_pause [] (p ∷ ps) = ⊥
+AreOfLines rest pause line_pause (l ∷ ls) [] = ⊥
+AreOfLines rest pause line_pause (l ∷ ls) (p ∷ ps) = ((z : List ℕ) → rest p z ≡ whole_of l z)
+    × (pause p ≡ line_pause l) × AreOfLines rest pause line_pause ls ps
+
+-- a chain of fresh transforms of these lines, which got nothing yet
+pub record IsOfParts {P : Type 0} (rest : P → List ℕ → List ℕ) (pause : P → ℕ)
+    (line_pause : TransformLine → ℕ) (lines : List TransformLine) (c : ChainState P) : Type 0 where
+  pub parts : List P
+  pub of_lines : AreOfLines rest pause line_pause lines parts
+  pub chain : c ≡ record { first = []; stages = map fresh_stage parts; given = false }

@@ -1,5 +1,6 @@
--- What a transaction has left to do, as a number that each of its events lowers: what is left to read, to pass each
--- boundary and to write, and the Again answers that are left, each weighted above what it makes; and the pending events.
+-- What a transaction has left to do, as a number that each of its events lowers: what is left to read, to
+-- pass each boundary and to write, and the Again answers that are left, each weighted above what it makes;
+-- and the pending events.
 use Rattle.std.specs.Prelude.{ℕ, ◌+◌, ◌*◌, List, [], ◌∷◌, length, Bool, Option, Some, None}
 use Rattle.std.specs.Arc.{arc_value}
 use Rattle.ts_config.specs.declared.setup.Setup.{Setup}
@@ -76,8 +77,8 @@ passes (l ∷ ls) bytes = bytes + passes ls bytes
 abbrev pub line_room : ℕ
 line_room = head_limit + 8
 
--- the lines of the fields that were read are at most twice as long as the head; beside them stand the first line, Via,
--- how the body is framed, and Connection
+-- the lines of the fields that were read are at most twice as long as the head; beside them stand the first
+-- line, Via, how the body is framed, and Connection
 abbrev pub frame_room : ℕ
 frame_room = 4 * head_limit + 256
 
@@ -103,9 +104,11 @@ module _ (setup : Setup) where
 
   -- no own answer is longer
   abbrev pub own_room : ℕ
-  own_room = own_length O.BadRequest + own_length O.Forbidden + own_length O.NotImplemented + own_length O.BadGateway
+  own_room = own_length O.BadRequest + own_length O.Forbidden + own_length O.NotImplemented
+      + own_length O.BadGateway
 
-  -- a chain that has not begun: each line's text passes each boundary, and each stage ends, and may pass an error on
+  -- a chain that has not begun: each line's text passes each boundary, and each stage ends, and may pass an
+  -- error on
   abbrev pub chain_room : ℕ
   chain_room = passes setup.transforms.items (lines_length setup.transforms.items + 2)
 
@@ -118,8 +121,8 @@ module _ (setup : Setup) where
   to_hear origin = pump_weight * passes setup.transforms.items (length origin.look.left + length origin.inbox)
       + 2 * length origin.look.left + length origin.inbox
 
-  -- THE PHASES, of which each pays for those behind it. `again` is how many Again answers are left, and `upload` how much
-  -- upload.
+  -- THE PHASES, of which each pays for those behind it. `again` is how many Again answers are left, and
+  -- `upload` how much upload.
   module _ (again upload : ℕ) (v : View) where
     -- what was queued is written
     abbrev pub writes_work : ℕ
@@ -177,9 +180,11 @@ upload_in upload (P.TxnClose end) = Some 0
 upload_in upload (P.Ended end) = Some 0
 upload_in upload _ = upload
 
--- what a transaction has left to do in a phase, if its links tell how many Again answers and how much upload is left
+-- what a transaction has left to do in a phase, if its links tell how many Again answers and how much upload
+-- is left
 abbrev pub work_left : Setup → Option ℕ → View → Phase → Option ℕ
-work_left setup upload v p = if_told (agains_left v) (upload_in upload p) (λ again more. phase_work setup again more v p)
+work_left setup upload v p = if_told (agains_left v) (upload_in upload p)
+    (λ again more. phase_work setup again more v p)
 
 -- A step lowers what is left, and the last one doesn't raise it.
 abbrev pub StepFalls : Next → Option ℕ → Option ℕ → Type 0
@@ -194,15 +199,19 @@ number_left pending (Some work) = Some (events_paid * work + length pending)
 
 -- What the step of a phase leads to lowers what is left.
 abbrev pub StepLowers : Setup → Phase → Option ℕ → Option ℕ → View → View → Step → Type 0
-StepLowers setup p upload upload_then v w s = StepFalls s.next (work_left setup upload v p) (work_left setup upload_then w s.phase)
+StepLowers setup p upload upload_then v w s =
+    StepFalls s.next (work_left setup upload v p) (work_left setup upload_then w s.phase)
 
-module _ {C O : Type 0} (ctells otells : Bool) (client : C → Look) (origin : O → Look) (left : C → O → Option ℕ) where
+module _ {C O : Type 0} (ctells otells : Bool) (client : C → Look) (origin : O → Look)
+    (left : C → O → Option ℕ) where
   -- the step of a phase lowers what is left, where both links tell
   abbrev pub StepFallsFrom : Core C O → Core C O → Phase → Step → Type 0
-  StepFallsFrom t u p s = IfTold ctells otells (StepLowers (arc_value t.setup) p (upload_told left t.client.link t.origin)
-      (upload_told left u.client.link u.origin) (view_of client origin t) (view_of client origin u) s)
+  StepFallsFrom t u p s = IfTold ctells otells (StepLowers (arc_value t.setup) p
+      (upload_told left t.client.link t.origin) (upload_told left u.client.link u.origin)
+      (view_of client origin t) (view_of client origin u) s)
 
 -- calls that upload nothing raise what the upload has left by at most 8 for each byte that the origin took
 abbrev pub RaisesUpload : {C O : Type 0} → (O → Look) → (C → O → Option ℕ) → Core C O → Core C O → Type 0
-RaisesUpload origin left t u = Rose8 (upload_told left t.client.link t.origin) (upload_told left u.client.link u.origin)
+RaisesUpload origin left t u = Rose8
+    (upload_told left t.client.link t.origin) (upload_told left u.client.link u.origin)
     (taken_since (side_if origin t.origin).look (side_if origin u.origin).look)

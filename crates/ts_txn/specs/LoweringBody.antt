@@ -1,5 +1,5 @@
--- What a transaction that passes a body on has left to do: what is left to read passes a chain, which pays for what its
--- stages set; and what is framed is written.
+-- What a transaction that passes a body on has left to do: what is left to read passes a chain, which pays
+-- for what its stages set; and what is framed is written.
 use Rattle.std.specs.Prelude.{◌≡◌, ◌≤◌, ◌⊎◌, ℕ, ◌+◌, ◌*◌, List, [], length, Bool, Option, Some, if◌then◌else◌}
 use Rattle.ts_config.specs.declared.setup.Setup.{Setup}
 use Rattle.ts_group.specs.Answers.{Falls}
@@ -23,8 +23,10 @@ use Rattle.ts_txn.specs.declared.phase.Request.{Request}
 use Rattle.ts_txn.specs.declared.relay.Relay.{Relay}
 use Rattle.ts_wire.specs.declared.heads.ResponseHead.{ResponseHead}
 
--- A chain of the configuration's: it has no more stages than that has transform lines, and each of them adds no more.
-pub record IsOfLines {P : Type 0} (setup : Setup) (rest : P → List ℕ → List ℕ) (c : ChainState P) : Type 0 where
+-- A chain of the configuration's: it has no more stages than that has transform lines, and each of them adds
+-- no more.
+pub record IsOfLines {P : Type 0} (setup : Setup) (rest : P → List ℕ → List ℕ)
+    (c : ChainState P) : Type 0 where
   pub few : length c.stages ≤ length setup.transforms.items
   pub adds : AllAddNoMore rest c.stages
 
@@ -34,7 +36,8 @@ module _ {P : Type 0} (setup : Setup) (rest : P → List ℕ → List ℕ) (erro
   chain_work c = pump_weight * (left_to_do rest c [] + errors)
 
   abbrev pub body_work : ℕ → View → ChainState P → ℕ
-  body_work again v c = end_room + (again + length v.client.outbox) + to_hear setup v.origin + chain_work c + to_end c.given
+  body_work again v c = end_room + (again + length v.client.outbox) + to_hear setup v.origin + chain_work c
+      + to_end c.given
 
   -- what is left while a body is passed on, if the links tell how many Again answers are left
   abbrev pub body_left : View → ChainState P → Option ℕ
@@ -75,8 +78,10 @@ module _ {P : Type 0} (setup : Setup) (rest : P → List ℕ → List ℕ) where
   abbrev pub StaysOfLines : Relay P → Relay P → Type 0
   StaysOfLines r s = IsOfLines setup rest r.driven.chain → IsOfLines setup rest s.driven.chain
 
--- A chain of fresh transforms: what it has left to do, with an error for each stage, has room in what was left before.
-pub record HasRoom {P : Type 0} (setup : Setup) (rest : P → List ℕ → List ℕ) (c : ChainState P) : Type 0 where
+-- A chain of fresh transforms: what it has left to do, with an error for each stage, has room in what was
+-- left before.
+pub record HasRoom {P : Type 0} (setup : Setup) (rest : P → List ℕ → List ℕ)
+    (c : ChainState P) : Type 0 where
   pub lines : IsOfLines setup rest c
   pub room : left_to_do rest c [] + length c.stages ≤ chain_room setup
 
@@ -94,17 +99,19 @@ pub record BeginsLower {P : Type 0} (setup : Setup) (rest : P → List ℕ → L
   pub falls : NoMore (unbegun_left setup rest v r) (left_after setup rest step v s)
 
 -- an end had nothing to do, and nothing changed
-pub record IsIdle {P : Type 0} (must : Type 0) (step : BodyStep) (v w : View) (r s : Relay P) (a b : Context) : Type 0 where
+pub record IsIdle {P : Type 0} (must : Type 0) (step : BodyStep) (v w : View) (r s : Relay P)
+    (a b : Context) : Type 0 where
   pub free : must → ⊥
   pub goes : step ≡ S.Goes
   pub view : w ≡ v
   pub relay : s ≡ r
   pub quiet : b ≡ a
 
--- The step of an end of a body lowers what is left, where both links tell, or the end had nothing to do. Whether the reader
--- is roused stays.
-pub record LowersBody {P : Type 0} (ctells otells : Bool) (must : Type 0) (setup : Setup) (rest : P → List ℕ → List ℕ)
-    (step : BodyStep) (v w : View) (r s : Relay P) (a b : Context) : Type 0 where
+-- The step of an end of a body lowers what is left, where both links tell, or the end had nothing to do.
+-- Whether the reader is roused stays.
+pub record LowersBody {P : Type 0} (ctells otells : Bool) (must : Type 0) (setup : Setup)
+    (rest : P → List ℕ → List ℕ) (step : BodyStep) (v w : View) (r s : Relay P)
+    (a b : Context) : Type 0 where
   pub reader : s.reader ≡ r.reader
   pub lines : WhileGoes step (StaysOfLines setup rest r s)
   pub falls : IfTold ctells otells (IsOfLines setup rest r.driven.chain →
@@ -118,11 +125,14 @@ rest_after (S.Finishes end) v = finish_left v
 rest_after (S.Closes end) v = close_left v
 rest_after S.Lacks v = ended_left v
 
--- An event that was handled while a body is passed on raised the number of its transaction by none of the events that it
--- set, where both links tell; and where the body is left, it pays for the event that is set then.
-pub record PaysBody {P : Type 0} (ctells otells : Bool) (setup : Setup) (rest : P → List ℕ → List ℕ) (step : BodyStep)
-    (v w : View) (main : Option StageContinuation) (r s : Relay P) (a b : Context) : Type 0 where
+-- An event that was handled while a body is passed on raised the number of its transaction by none of the
+-- events that it set, where both links tell; and where the body is left, it pays for the event that is set
+-- then.
+pub record PaysBody {P : Type 0} (ctells otells : Bool) (setup : Setup) (rest : P → List ℕ → List ℕ)
+    (step : BodyStep) (v w : View) (main : Option StageContinuation) (r s : Relay P)
+    (a b : Context) : Type 0 where
   pub lines : WhileGoes step (StaysOfLines setup rest r s)
-  pub pays : IfTold ctells otells (IsOfLines setup rest r.driven.chain → IsBodyCovered v main r a.log.state.next →
+  pub pays : IfTold ctells otells (IsOfLines setup rest r.driven.chain →
+      IsBodyCovered v main r a.log.state.next →
       Falls (number_left a.log.state.pending (relay_left setup rest v r)) (set_leaving step)
       (number_left b.log.state.pending (left_after setup rest step w s)))

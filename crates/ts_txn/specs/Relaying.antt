@@ -19,6 +19,7 @@ use Rattle.ts_transform.specs.Driving.{AreNamed, Keeps, SetsFew, SetsOnly}
 use Rattle.ts_transform.specs.Driven.{SameSeats, StaysDriven}
 use Rattle.ts_transform.specs.declared.continuation.StageContinuation.{StageContinuation}
 use Rattle.ts_transform.specs.declared.driven.DrivenChain.{DrivenChain}
+use Rattle.ts_transform.specs.declared.loss.Loss.TheVariants as L
 use Rattle.ts_wire.specs.declared.heads.ResponseHead.{ResponseHead}
 use Rattle.ts_wire.specs.declared.body.BodyState.TheVariants as B
 use Rattle.ts_wire.specs.Place.{Place, IsFed, state_of}
@@ -103,12 +104,17 @@ pub record IsOfRoleFrom (first : ℕ) (roles : List Named) (p : Pending) : Type 
 abbrev pub OnlyOfStages : List (Option StageContinuation) → Context → Context → Type 0
 OnlyOfStages ts a b = (first : ℕ) → AreNamed a.roles first ts → SetsOnly (IsOfRoleFrom first a.roles) a b
 
+-- memory lacked, and it is not that the event numbers are used up, which ends nothing
+abbrev pub IsNotSpent : {P : Type 0} → BodyStep → DrivenChain P → Type 0
+IsNotSpent step e = step ≡ S.Lacks → e.lost ≡ Some L.Spent → ⊥
+
 -- What a step of a body leaves of its chain and of what is pending: each duty of a stage has its event.
 pub record StepsChain {P : Type 0} (step : BodyStep) (most : ℕ) (d e : DrivenChain P)
     (old new : Context) : Type 0 where
   pub adds : AddsSome most old new
   pub driven : StaysDriven d e old new
   pub on : DrivesOn step d e new
+  pub spent : step ≡ S.Lacks → e.lost ≡ Some L.Spent → e.lost ≡ d.lost
   pub falls : e.running ≡ true → d.running ≡ true
   pub seats : SameSeats d e old new
   pub only : OnlyOfStages d.table.items old new

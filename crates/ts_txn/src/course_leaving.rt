@@ -5,7 +5,7 @@ ghost use Rattle.ts_transform.specs.Driving.{ActsWithin, HasLiveIf, IsDueAfter, 
 ghost use Rattle.ts_transform.specs.Seats.{KeepsSeated};
 ghost use Rattle.ts_txn.specs.Course.{course_after, finish_after};
 ghost use Rattle.ts_txn.specs.Cover.{StepLeads};
-ghost use Rattle.ts_txn.specs.CourseCover.{CoversAlone, CoversLed, GoesAlone, HasRousedNext, SetsOneOrNone, StaysOnOrLacks, StaysWhereNamed, StaysWhereSpent, pause_of, set_after, set_leaving};
+ghost use Rattle.ts_txn.specs.CourseCover.{CoversAlone, CoversLed, GoesAlone, HasRousedNext, LedAfter, LedBehind, SetsOneOrNone, StaysOnOrLacks, StaysWhereNamed, StaysWhereSpent, pause_of, set_after, set_leaving};
 ghost use Rattle.ts_txn.specs.Driven.{delay_of};
 
 use crate::course::Course;
@@ -80,7 +80,7 @@ pub fn leave<P: Transform + Drop>(
     cx: &mut Cx,
 ) -> Course<P>
     requires turn { cx.old.log.state.held ≡ true }
-    ensures course { StaysOnOrLacks (course_after relay step) result }
+    ensures course { LedAfter step (course_after relay step) result }
     ensures within { ActsWithin (set_leaving step) cx.old cx.new }
     ensures due { SetsOnly (IsDueAfter AT_ONCE cx.old.moment) cx.old cx.new }
     ensures spent { StaysWhereNamed (course_after relay step) relay result main.old cx.old }
@@ -134,7 +134,7 @@ pub fn write_on<P: Drop>(
 /// Where a transaction is after the step of a phase.
 pub fn step_on<P: Drop>(step: Step, main: &mut Option<StageContinuation>, cx: &mut Cx) -> Course<P>
     requires turn { cx.old.log.state.held ≡ true }
-    ensures course { StaysOnOrLacks (Course.Phased step.phase) result }
+    ensures course { LedBehind step.next (Course.Phased step.phase) result }
     ensures within { ActsWithin (set_after step.next) cx.old cx.new }
     ensures due { SetsOnly (IsDueAfter (delay_of step.next) cx.old.moment) cx.old cx.new }
     ensures spent { StaysWhereSpent (Course.Phased step.phase) result main.old cx.old }

@@ -2,7 +2,7 @@
 ghost use Rattle.std.specs.Prelude.{◌≡◌, ◌≢◌, ◌++◌, [], true, false};
 ghost use Rattle.ts_txn.specs.View.{GoesIf, is_dialed, side_if, view_of};
 ghost use Rattle.ts_txn.specs.Feeding.{DrainsOrigin, EndsHere, FeedsTo, GetsPart, OnGoes};
-ghost use Rattle.ts_txn.specs.Relaying.{StepsChain};
+ghost use Rattle.ts_txn.specs.Relaying.{IsNotSpent, StepsChain};
 ghost use Rattle.ts_txn.specs.Holding.{StepKeeps};
 ghost use Rattle.ts_wire.specs.declared.body.BodyState.TheVariants.{Bad};
 
@@ -28,6 +28,7 @@ fn give_bytes<P: Transform + Drop>(
     ensures gets { OnGoes result
         (driven.new.chain ≡ record driven.old.chain { first = driven.old.chain.first ++ part.now }) }
     ensures chain { StepsChain result 1 driven.old driven.new cx.old cx.new }
+    ensures spent { IsNotSpent result driven.new }
 {
     step_after(driven.give(part, cx))
 }
@@ -38,6 +39,7 @@ pub fn close_input<P: Transform + Drop>(driven: &mut DrivenChain<P>, cx: &mut Cx
     requires goes_on { driven.old.chain.given ≡ false }
     ensures gets { OnGoes result (driven.new.chain ≡ record driven.old.chain { given = true }) }
     ensures chain { StepsChain result 1 driven.old driven.new cx.old cx.new }
+    ensures spent { IsNotSpent result driven.new }
 {
     step_after(driven.give_end(cx))
 }
@@ -130,7 +132,8 @@ fn feed_if<L: Link, P: Transform + Drop>(
 
 // Whether bytes of the origin wait.
 fn holds_some<L: Link>(origin: &Option<Peer<L>>) -> bool
-    ensures { result ≡ false → (side_if L.look origin.now).inbox ≡ [] }
+    ensures none { result ≡ false → (side_if L.look origin.now).inbox ≡ [] }
+    ensures some { result ≡ true → (side_if L.look origin.now).inbox ≢ [] }
 {
     match origin {
         Some(peer) => !peer.inbox.is_empty(),
@@ -156,7 +159,8 @@ pub fn ends_here(body: &BodyReader) -> bool
 impl<C: Link, O: Upstream<C>> Core<C, O> {
     /// Whether bytes of the origin wait.
     pub fn holds_body(&self) -> bool
-        ensures { result ≡ false → (view_of C.look O.look self.now).origin.inbox ≡ [] }
+        ensures none { result ≡ false → (view_of C.look O.look self.now).origin.inbox ≡ [] }
+        ensures some { result ≡ true → (view_of C.look O.look self.now).origin.inbox ≢ [] }
     {
         holds_some(&self.origin)
     }

@@ -5,7 +5,7 @@ ghost use Rattle.ts_transform.specs.Flow.{OnlyFirstWorks};
 ghost use Rattle.ts_wire.specs.Place.{state_of};
 ghost use Rattle.ts_txn.specs.Feeding.{OnGoes};
 ghost use Rattle.ts_transform.specs.Driving.{SetsOnly};
-ghost use Rattle.ts_txn.specs.Relaying.{IsOfRoleFrom, RelayLeads, StepsChain};
+ghost use Rattle.ts_txn.specs.Relaying.{IsNotSpent, IsOfRoleFrom, RelayLeads, StepsChain};
 ghost use Rattle.ts_txn.specs.Entering.{ActsAsLines, BeginsChain, BeginsRelay, EnterHolds, EntersAfter, GetsStart, HeadHolds, IsUnbegun, LacksAfter, QuietLinks};
 ghost use Rattle.ts_txn.specs.LoweringBody.{BeginsLower, LowersEntering};
 ghost use Rattle.ts_txn.specs.Holding.{StepKeeps};
@@ -34,6 +34,7 @@ fn start_chain<P: Transform + Drop>(driven: &mut DrivenChain<P>, cx: &mut Cx) ->
     ensures chain { driven.new.chain ≡ driven.old.chain }
     ensures begins { BeginsChain result 1 driven.new cx.old cx.new }
     ensures due { SetsOnly (IsOfRoleFrom FIRST cx.new.roles) cx.old cx.new }
+    ensures spent { IsNotSpent result driven.new }
 {
     driven.start(FIRST, cx);
     match driven.lost() {

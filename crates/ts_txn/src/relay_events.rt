@@ -85,7 +85,8 @@ impl<C: Link, O: Upstream<C>> Core<C, O> {
         ensures links { HandlesLinks C.tells O.tells (view_of C.look O.look self.old)
             (view_of C.look O.look self.new) main.old relay.old relay.new result cx.old cx.new }
         ensures pays { PaysBody C.tells O.tells (arc_value self.old.setup) P.rest result
-            (view_of C.look O.look self.old) (view_of C.look O.look self.new) main.old relay.old relay.new cx.old cx.new }
+            (view_of C.look O.look self.old) (view_of C.look O.look self.new)
+            main.old relay.old relay.new cx.old cx.new }
     {
         if !works(event) {
             return BodyStep::Goes;
@@ -114,7 +115,8 @@ impl<C: Link, O: Upstream<C>> Core<C, O> {
         ensures links { HandlesLinks C.tells O.tells (view_of C.look O.look self.old)
             (view_of C.look O.look self.new) main.old relay.old relay.new result cx.old cx.new }
         ensures pays { PaysBody C.tells O.tells (arc_value self.old.setup) P.rest result
-            (view_of C.look O.look self.old) (view_of C.look O.look self.new) main.old relay.old relay.new cx.old cx.new }
+            (view_of C.look O.look self.old) (view_of C.look O.look self.new)
+            main.old relay.old relay.new cx.old cx.new }
     {
         if !works(event) {
             return BodyStep::Goes;
@@ -144,7 +146,8 @@ impl<C: Link, O: Upstream<C>> Core<C, O> {
         ensures links { HandlesLinks C.tells O.tells (view_of C.look O.look self.now)
             (view_of C.look O.look self.now) main.old relay.old relay.new result cx.old cx.new }
         ensures pays { PaysBody C.tells O.tells (arc_value self.now.setup) P.rest result
-            (view_of C.look O.look self.now) (view_of C.look O.look self.now) main.old relay.old relay.new cx.old cx.new }
+            (view_of C.look O.look self.now) (view_of C.look O.look self.now)
+            main.old relay.old relay.new cx.old cx.new }
     {
         cx.known();
         let step = step_after(relay.driven.handle(FIRST, role, event, cx));
@@ -170,7 +173,8 @@ impl<C: Link, O: Upstream<C>> Core<C, O> {
         ensures links { HandlesLinks C.tells O.tells (view_of C.look O.look self.old)
             (view_of C.look O.look self.new) main.old relay.old relay.new result cx.old cx.new }
         ensures pays { PaysBody C.tells O.tells (arc_value self.old.setup) P.rest result
-            (view_of C.look O.look self.old) (view_of C.look O.look self.new) main.old relay.old relay.new cx.old cx.new }
+            (view_of C.look O.look self.old) (view_of C.look O.look self.new)
+            main.old relay.old relay.new cx.old cx.new }
     {
         if role == MAIN {
             return self.send_at(main, relay, event, cx);

@@ -3,10 +3,9 @@ ghost use Rattle.std.specs.Prelude.{[], IfOk};
 ghost use Rattle.ts_wire.specs.Place.{IsFed};
 ghost use Rattle.ts_txn.specs.Acting.{acting};
 ghost use Rattle.ts_txn.specs.Relayed.{if_body};
-ghost use Rattle.ts_txn.specs.Block.{lines_for};
+ghost use Rattle.ts_txn.specs.Block.{body_lines, lines_for};
 ghost use Rattle.ts_txn.specs.Entering.{ActsAsLines, IsFreshRelay};
-ghost use Rattle.ts_txn.specs.Inserted.{AreOfLines};
-ghost use Rattle.ts_txn.specs.LoweringBody.{HasRoom};
+ghost use Rattle.ts_txn.specs.Inserted.{AreOfLines, IsOfParts};
 
 use crate::acting::acts_on;
 use crate::relay::Relay;
@@ -25,7 +24,8 @@ fn fresh_parts<P: Transform<Line = TransformLine> + Drop>(
     fields: &[Field],
 ) -> Result<Vec<P>, NoMemory>
     requires { ActsAsLines P.whole }
-    ensures { IfOk result (λ parts. AreOfLines P.rest (acting lines.now status fields.now) parts.items) }
+    ensures { IfOk result
+        (λ parts. AreOfLines P.rest P.pause P.line_pause (acting lines.now status fields.now) parts.items) }
 {
     let mut parts = Vec::new(alloc);
     for line in lines {
@@ -45,7 +45,8 @@ fn body_parts<P: Transform<Line = TransformLine> + Drop>(
 ) -> Result<Vec<P>, NoMemory>
     requires { ActsAsLines P.whole }
     ensures { IfOk result
-        (λ parts. AreOfLines P.rest (if_body framing (lines_for setup.now head.now)) parts.items) }
+        (λ parts. AreOfLines P.rest P.pause P.line_pause (if_body framing (lines_for setup.now head.now))
+        parts.items) }
 {
     if let Framing::Nothing = framing {
         return Ok(Vec::new(alloc));
@@ -77,7 +78,8 @@ pub fn make_relay<P: Transform<Line = TransformLine> + Drop>(
 ) -> Result<Relay<P>, NoMemory>
     requires { ActsAsLines P.whole }
     ensures fresh { IfOk result (IsFreshRelay P.rest setup.now request.now head.now) }
-    ensures room { IfOk result (λ r. HasRoom setup.now P.rest r.driven.chain) }
+    ensures parts { IfOk result (λ r. IsOfParts P.rest P.pause P.line_pause
+        (body_lines setup.now request.now head.now) r.driven.chain) }
 {
     let framing = framing_between(request, head);
     let body = reader_of(alloc, framing)?;

@@ -2,7 +2,7 @@
 ghost use Rattle.std.specs.Prelude.{◌≡◌, [], true, false};
 ghost use Rattle.std.specs.Arc.{arc_value};
 ghost use Rattle.ts_transform.specs.Flow.{MustRead};
-ghost use Rattle.ts_txn.specs.BodyLinks.{MindsBody, is_late};
+ghost use Rattle.ts_txn.specs.BodyLinks.{ReadsLinks};
 ghost use Rattle.ts_txn.specs.LoweringBody.{LowersBody};
 ghost use Rattle.ts_txn.specs.View.{view_of};
 ghost use Rattle.ts_txn.specs.Relaying.{RelayHolds, RelayLeads, StepsChain};
@@ -21,7 +21,7 @@ use ts_vconn::Pulled;
 
 impl<C: Link, O: Upstream<C>> Core<C, O> {
     // Feeds the reader of bodies with what waits of the origin's bytes.
-    #[tactic(auto, using(crate::proofs::BodyLinks::minds_drained))]
+    #[tactic(auto, using(crate::proofs::BodyLinks::reader_drained))]
     fn feed_relay<P: Transform + Drop>(&mut self, relay: &mut Relay<P>, cx: &mut Cx) -> BodyStep
         requires turn { cx.old.log.state.held ≡ true }
         requires fact { RelayHolds C.tells O.tells C.look O.look O.refuses P.rest self.old relay.old }
@@ -30,17 +30,17 @@ impl<C: Link, O: Upstream<C>> Core<C, O> {
             relay.new result }
         ensures keeps { StepKeeps C.look O.look O.paired O.refuses self.old self.new }
         ensures chain { StepsChain result 2 relay.old.driven relay.new.driven cx.old cx.new }
-        ensures lowers { LowersBody C.tells O.tells (MustRead relay.old.driven.chain) (arc_value self.old.setup) P.rest
-            result (view_of C.look O.look self.old) (view_of C.look O.look self.new) relay.old relay.new cx.old cx.new }
-        ensures links { MindsBody C.tells O.tells (view_of C.look O.look self.old)
-            (view_of C.look O.look self.new) relay.old.driven.chain relay.new.driven.chain result
-            false (is_late result) }
+        ensures lowers { LowersBody C.tells O.tells (MustRead relay.old.driven.chain)
+            (arc_value self.old.setup) P.rest result (view_of C.look O.look self.old)
+            (view_of C.look O.look self.new) relay.old relay.new cx.old cx.new }
+        ensures links { ReadsLinks C.tells O.tells (view_of C.look O.look self.old)
+            (view_of C.look O.look self.new) relay.old.driven.chain relay.new.driven.chain result }
     {
         self.feed_body(relay, cx)
     }
 
     // Reads once from the origin, of whose bytes none waits.
-    #[tactic(auto, using(crate::proofs::BodyLinks::minds_read, crate::proofs::BodyLinks::minds_ended, crate::proofs::BodyLinks::minds_none))]
+    #[tactic(auto, using(crate::proofs::BodyLinks::reader_read, crate::proofs::BodyLinks::reader_ended, crate::proofs::BodyLinks::reader_rests))]
     fn pull_relay<P: Transform + Drop>(&mut self, relay: &mut Relay<P>, cx: &mut Cx) -> BodyStep
         requires turn { cx.old.log.state.held ≡ true }
         requires fact { RelayHolds C.tells O.tells C.look O.look O.refuses P.rest self.old relay.old }
@@ -50,11 +50,11 @@ impl<C: Link, O: Upstream<C>> Core<C, O> {
             relay.new result }
         ensures keeps { StepKeeps C.look O.look O.paired O.refuses self.old self.new }
         ensures chain { StepsChain result 2 relay.old.driven relay.new.driven cx.old cx.new }
-        ensures lowers { LowersBody C.tells O.tells (MustRead relay.old.driven.chain) (arc_value self.old.setup) P.rest
-            result (view_of C.look O.look self.old) (view_of C.look O.look self.new) relay.old relay.new cx.old cx.new }
-        ensures links { MindsBody C.tells O.tells (view_of C.look O.look self.old)
-            (view_of C.look O.look self.new) relay.old.driven.chain relay.new.driven.chain result
-            false (is_late result) }
+        ensures lowers { LowersBody C.tells O.tells (MustRead relay.old.driven.chain)
+            (arc_value self.old.setup) P.rest result (view_of C.look O.look self.old)
+            (view_of C.look O.look self.new) relay.old relay.new cx.old cx.new }
+        ensures links { ReadsLinks C.tells O.tells (view_of C.look O.look self.old)
+            (view_of C.look O.look self.new) relay.old.driven.chain relay.new.driven.chain result }
     {
         let pulled = match self.read_origin() {
             Ok(pulled) => pulled,
@@ -75,7 +75,7 @@ impl<C: Link, O: Upstream<C>> Core<C, O> {
 
     /// Makes one step of the reader, unless the body is over or too much of it waits: it feeds the reader of
     /// bodies with what waits of the origin's bytes, or reads on.
-    #[tactic(auto, using(crate::proofs::BodyLinks::minds_none))]
+    #[tactic(auto, using(crate::proofs::BodyLinks::reader_rests))]
     pub fn read_body<P: Transform + Drop>(&mut self, relay: &mut Relay<P>, cx: &mut Cx) -> BodyStep
         requires turn { cx.old.log.state.held ≡ true }
         requires fact { RelayHolds C.tells O.tells C.look O.look O.refuses P.rest self.old relay.old }
@@ -84,11 +84,11 @@ impl<C: Link, O: Upstream<C>> Core<C, O> {
         ensures keeps { StepKeeps C.look O.look O.paired O.refuses self.old self.new }
         ensures chain { StepsChain result 2 relay.old.driven relay.new.driven cx.old cx.new }
         ensures reader { relay.new.reader ≡ relay.old.reader }
-        ensures lowers { LowersBody C.tells O.tells (MustRead relay.old.driven.chain) (arc_value self.old.setup) P.rest
-            result (view_of C.look O.look self.old) (view_of C.look O.look self.new) relay.old relay.new cx.old cx.new }
-        ensures links { MindsBody C.tells O.tells (view_of C.look O.look self.old)
-            (view_of C.look O.look self.new) relay.old.driven.chain relay.new.driven.chain result
-            false (is_late result) }
+        ensures lowers { LowersBody C.tells O.tells (MustRead relay.old.driven.chain)
+            (arc_value self.old.setup) P.rest result (view_of C.look O.look self.old)
+            (view_of C.look O.look self.new) relay.old relay.new cx.old cx.new }
+        ensures links { ReadsLinks C.tells O.tells (view_of C.look O.look self.old)
+            (view_of C.look O.look self.new) relay.old.driven.chain relay.new.driven.chain result }
     {
         let reads = relay.driven.chain().must_read();
         if !reads {

@@ -7,7 +7,7 @@ ghost use Rattle.ts_wire.specs.Frames.{IsPiece};
 ghost use Rattle.ts_txn.specs.Duties.{MustSend};
 ghost use Rattle.ts_txn.specs.LoweringBody.{LowersBody};
 ghost use Rattle.ts_txn.specs.View.{view_of};
-ghost use Rattle.ts_txn.specs.BodyLinks.{MindsBody, is_late};
+ghost use Rattle.ts_txn.specs.BodyLinks.{WritesLinks};
 ghost use Rattle.ts_txn.specs.Relaying.{RelayHolds, RelayLeads, StepsChain};
 ghost use Rattle.ts_txn.specs.Holding.{StepKeeps};
 
@@ -43,7 +43,7 @@ fn has_given_all<P: Transform + Drop>(chain: &Chain<P>) -> bool
 
 impl<C: Link, O: Upstream<C>> Core<C, O> {
     // Frames the end of the body, where the chain has given all of it.
-    #[tactic(auto, using(crate::proofs::BodyLinks::minds_none, crate::proofs::BodyLinks::minds_queued))]
+    #[tactic(auto, using(crate::proofs::BodyLinks::writer_rests, crate::proofs::BodyLinks::writer_queued))]
     fn end_some<P: Transform + Drop>(&mut self, relay: &Relay<P>) -> BodyStep
         requires fact { RelayHolds C.tells O.tells C.look O.look O.refuses P.rest self.old relay.now }
         requires empty { (view_of C.look O.look self.old).client.outbox ≡ [] }
@@ -51,11 +51,11 @@ impl<C: Link, O: Upstream<C>> Core<C, O> {
             relay.now result }
         ensures keeps { StepKeeps C.look O.look O.paired O.refuses self.old self.new }
         ensures lowers { (now : Context) → LowersBody C.tells O.tells
-            ((relay.now.driven.chain.given ≡ true) × IsFinished relay.now.driven.chain) (arc_value self.old.setup) P.rest
-            result (view_of C.look O.look self.old) (view_of C.look O.look self.new) relay.now relay.now now now }
-        ensures links { MindsBody C.tells O.tells (view_of C.look O.look self.old)
-            (view_of C.look O.look self.new) relay.now.driven.chain relay.now.driven.chain result
-            (is_late result) false }
+            ((relay.now.driven.chain.given ≡ true) × IsFinished relay.now.driven.chain)
+            (arc_value self.old.setup) P.rest result (view_of C.look O.look self.old)
+            (view_of C.look O.look self.new) relay.now relay.now now now }
+        ensures links { WritesLinks C.tells O.tells (view_of C.look O.look self.old)
+            (view_of C.look O.look self.new) relay.now.driven.chain relay.now.driven.chain result }
     {
         if !has_given_all(relay.driven.chain()) {
             return BodyStep::Goes;
@@ -67,7 +67,7 @@ impl<C: Link, O: Upstream<C>> Core<C, O> {
     }
 
     // Frames one piece of what the chain gave, or the end.
-    #[tactic(auto, using(crate::proofs::BodyLinks::minds_queued))]
+    #[tactic(auto, using(crate::proofs::BodyLinks::writer_queued))]
     fn frame_some<P: Transform + Drop>(&mut self, relay: &mut Relay<P>, cx: &mut Cx) -> BodyStep
         requires turn { cx.old.log.state.held ≡ true }
         requires stands { RelayHolds C.tells O.tells C.look O.look O.refuses P.rest self.old relay.old
@@ -75,14 +75,14 @@ impl<C: Link, O: Upstream<C>> Core<C, O> {
         ensures leads { RelayLeads C.tells O.tells C.look O.look O.refuses P.rest self.old self.new
             relay.new result }
         ensures keeps { StepKeeps C.look O.look O.paired O.refuses self.old self.new }
-        ensures links { MindsBody C.tells O.tells (view_of C.look O.look self.old)
-            (view_of C.look O.look self.new) relay.old.driven.chain relay.new.driven.chain result
-            (is_late result) false }
+        ensures links { WritesLinks C.tells O.tells (view_of C.look O.look self.old)
+            (view_of C.look O.look self.new) relay.old.driven.chain relay.new.driven.chain result }
         ensures chain { StepsChain result 1 relay.old.driven relay.new.driven cx.old cx.new }
         ensures relay { relay.new ≡ record relay.old { driven = relay.new.driven } }
-        ensures lowers { LowersBody C.tells O.tells (MustSend (view_of C.look O.look self.old) relay.old.driven.chain)
-            (arc_value self.old.setup) P.rest result
-            (view_of C.look O.look self.old) (view_of C.look O.look self.new) relay.old relay.new cx.old cx.new }
+        ensures lowers { LowersBody C.tells O.tells
+            (MustSend (view_of C.look O.look self.old) relay.old.driven.chain)
+            (arc_value self.old.setup) P.rest result (view_of C.look O.look self.old)
+            (view_of C.look O.look self.new) relay.old relay.new cx.old cx.new }
     {
         let Some(block) = relay.driven.chain().out_block() else {
             return self.end_some(relay);
@@ -97,21 +97,21 @@ impl<C: Link, O: Upstream<C>> Core<C, O> {
 
     /// Makes one step of the writer: it writes once of what waits for the client, or frames a piece of what
     /// the chain gave, or the end of the body once the chain has given all.
-    #[tactic(auto, using(crate::proofs::BodyLinks::minds_wrote))]
+    #[tactic(auto, using(crate::proofs::BodyLinks::writer_wrote))]
     pub fn write_body<P: Transform + Drop>(&mut self, relay: &mut Relay<P>, cx: &mut Cx) -> BodyStep
         requires turn { cx.old.log.state.held ≡ true }
         requires fact { RelayHolds C.tells O.tells C.look O.look O.refuses P.rest self.old relay.old }
         ensures leads { RelayLeads C.tells O.tells C.look O.look O.refuses P.rest self.old self.new
             relay.new result }
         ensures keeps { StepKeeps C.look O.look O.paired O.refuses self.old self.new }
-        ensures links { MindsBody C.tells O.tells (view_of C.look O.look self.old)
-            (view_of C.look O.look self.new) relay.old.driven.chain relay.new.driven.chain result
-            (is_late result) false }
+        ensures links { WritesLinks C.tells O.tells (view_of C.look O.look self.old)
+            (view_of C.look O.look self.new) relay.old.driven.chain relay.new.driven.chain result }
         ensures chain { StepsChain result 1 relay.old.driven relay.new.driven cx.old cx.new }
         ensures relay { relay.new ≡ record relay.old { driven = relay.new.driven } }
-        ensures lowers { LowersBody C.tells O.tells (MustSend (view_of C.look O.look self.old) relay.old.driven.chain)
-            (arc_value self.old.setup) P.rest result
-            (view_of C.look O.look self.old) (view_of C.look O.look self.new) relay.old relay.new cx.old cx.new }
+        ensures lowers { LowersBody C.tells O.tells
+            (MustSend (view_of C.look O.look self.old) relay.old.driven.chain)
+            (arc_value self.old.setup) P.rest result (view_of C.look O.look self.old)
+            (view_of C.look O.look self.new) relay.old relay.new cx.old cx.new }
     {
         if self.client.outbox.is_empty() {
             return self.frame_some(relay, cx);

@@ -24,7 +24,8 @@ impl<C: Link, O: Upstream<C>> Core<C, O> {
             self.old self.new phase result }
         ensures leaves { IfTold C.tells O.tells
             (LeavesSides phase (view_of C.look O.look self.old) (view_of C.look O.look self.new)) }
-        ensures falls { StepFallsFrom C.tells O.tells C.look O.look O.upload_left self.old self.new phase result }
+        ensures falls { StepFallsFrom C.tells O.tells C.look O.look O.upload_left self.old self.new
+            phase result }
         ensures keeps { StepKeeps C.look O.look O.paired O.refuses self.old self.new }
         ensures waits { WaitsRightly result.next
             (view_of C.look O.look self.old) (view_of C.look O.look self.new) }

@@ -78,7 +78,7 @@ impl<C: Link + Drop, O: Upstream<C> + Drop, P: Transform<Line = TransformLine> +
     ghost follows_on = { λ t u v a b. tt };
 }
 
-#[tactic(auto, using(ts_group::proofs::Grows::grows, ts_group::proofs::Grows::grows_refl, ts_transform::proofs::Kept::acts_none, crate::proofs::Handling::sound_begun, crate::proofs::Handling::sound_asked, crate::proofs::Seating::due_rests, crate::proofs::Coverage::fresh_none, crate::proofs::Events::takes_event, crate::proofs::Fitting::fits_on, crate::proofs::LoweringCourse::hears_same, crate::proofs::LoweringCourse::asked_same))]
+#[tactic(auto, using(ts_group::proofs::Grows::grows, ts_group::proofs::Grows::grows_refl, ts_transform::proofs::Kept::acts_none, crate::proofs::Handling::sound_begun, crate::proofs::Handling::sound_asked, crate::proofs::Seating::due_rests, crate::proofs::Coverage::fresh_none, crate::proofs::Fitting::fits_on, crate::proofs::LoweringCourse::hears_same, crate::proofs::LoweringCourse::asked_same))]
 impl<C: Link + Drop, O: Upstream<C> + Drop, P: Transform<Line = TransformLine> + Drop> World
     for Txn<C, O, P> {
     type Question = ();
@@ -142,6 +142,8 @@ impl<C: Link + Drop, O: Upstream<C> + Drop, P: Transform<Line = TransformLine> +
         ensures within { ActsWithin most_set cx.old cx.new }
         ensures handles { HandlesEvent C.tells O.tells C.look O.look O.paired O.refuses O.upload_left
             self.old.core self.new.core cx.old cx.new self.old.main self.old.course self.new.course }
+        ensures takes { TakesEvent C.tells O.tells C.look O.look O.paired O.refuses O.upload_left
+            self.old.core self.new.core self.old.course self.new.course }
         ensures lowers { (c : IsCalled
             (λ s roles. IsSoundTxn C.tells O.tells C.look O.look O.paired O.refuses P.rest P.whole
             self.old s.pending s.next roles)

@@ -31,6 +31,8 @@ impl Transform for Passing {
 
     ghost pause = { λ s. 0 };
 
+    ghost line_pause = { λ line. 0 };
+
     fn fresh(_alloc: Global, _line: &TransformLine) -> Result<Passing, NoMemory> {
         Err(NoMemory)
     }

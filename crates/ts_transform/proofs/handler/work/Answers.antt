@@ -1,6 +1,7 @@
 use Rattle.std.proofs.Common.{◌≡◌, ◌≤◌, ◌+◌, ◌*◌, length, refl, ap, subst, sym, arith, true, false, ◌∙◌}
 use Rattle.ts_transform.specs.Stage.{done_by, IfRests}
 use Rattle.ts_transform.specs.Flow.{AnswersAt, StepsAt}
+use Rattle.ts_transform.specs.Acting.{step_weight}
 use Rattle.ts_transform.proofs.Acting.{pumps, pumps_none, tells_rest}
 use Rattle.ts_transform.proofs.Called.{called_kept}
 use Rattle.ts_transform.proofs.Covering.{moved-some, worked, rested, driven_kept, on_ok, any_ok, IsResting}
@@ -19,7 +20,7 @@ returns-in-Moved-clause-pumps g c =
     let did : done_by c.in-Ok.pumped ≡ c.in-Moved.field-0 = ap done_by c.in-Moved.is in
     let some : 1 ≤ c.in-Moved.field-0 = moved-some old.given old.first old.stages c.args.at c.in-Moved.field-0
     (subst (AnswersAt old.given old.first old.stages c.args.at) c.in-Moved.is c.in-Ok.ensures.answer) in
-    let paid : length c.rouse_round.new.cx.log.state.pending ≤ length c.args.cx.now.log.state.pending + 100 * done_by c.in-Ok.pumped = omega (arith, some, did, c.rouse_round.ensures.adds.few.pending) in
+    let paid : length c.rouse_round.new.cx.log.state.pending ≤ length c.args.cx.now.log.state.pending + step_weight * done_by c.in-Ok.pumped = omega (arith, some, did, c.rouse_round.ensures.adds.few.pending) in
     pumps g.P.Transform.rest c.args.at old c.pump.new.self c.in-Ok.pumped c.args.cx.now c.rouse_round.new.cx c.in-Ok.ensures.answer c.in-Ok.ensures.steps c.in-Ok.ensures.kept.0 c.in-Ok.ensures.kept.1
     c.in-Ok.ensures.falls paid
 
@@ -56,7 +57,7 @@ pub returns-in_err-rouse_round-in-Ended-clause-pumps :
 returns-in_err-rouse_round-in-Ended-clause-pumps g c =
     let did : done_by c.in-Ok.pumped ≡ 1 = ap done_by c.in-Ended.is in
     let round = c.rouse_round-in-Ended in
-    let paid : length round.new.cx.log.state.pending ≤ length c.args.cx.now.log.state.pending + 100 * done_by c.in-Ok.pumped = omega (arith, did, round.ensures.adds.few.pending) in
+    let paid : length round.new.cx.log.state.pending ≤ length c.args.cx.now.log.state.pending + step_weight * done_by c.in-Ok.pumped = omega (arith, did, round.ensures.adds.few.pending) in
     pumps g.P.Transform.rest c.args.at c.args.chain.now c.pump.new.self c.in-Ok.pumped c.args.cx.now round.new.cx c.in-Ok.ensures.answer c.in-Ok.ensures.steps c.in-Ok.ensures.kept.0 c.in-Ok.ensures.kept.1
     c.in-Ok.ensures.falls paid
 
@@ -81,7 +82,7 @@ pub returns-in_ok-rouse_round-in-Ended-clause-pumps :
     goal.returns-in_ok-rouse_round-in-Ended-clause-pumps
 returns-in_ok-rouse_round-in-Ended-clause-pumps g c =
     let did : done_by c.in-Ok.pumped ≡ 1 = ap done_by c.in-Ended.is in
-    let paid : length c.tell_before.new.cx.log.state.pending ≤ length c.args.cx.now.log.state.pending + 100 * done_by c.in-Ok.pumped =
+    let paid : length c.tell_before.new.cx.log.state.pending ≤ length c.args.cx.now.log.state.pending + step_weight * done_by c.in-Ok.pumped =
     omega (arith, did, c.rouse_round-in-Ended.ensures.adds.few.pending, c.tell_before.ensures.adds.few.pending) in
     pumps g.P.Transform.rest c.args.at c.args.chain.now c.pump.new.self c.in-Ok.pumped c.args.cx.now c.tell_before.new.cx c.in-Ok.ensures.answer c.in-Ok.ensures.steps c.in-Ok.ensures.kept.0 c.in-Ok.ensures.kept.1
     c.in-Ok.ensures.falls paid

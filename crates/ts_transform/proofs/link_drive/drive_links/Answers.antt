@@ -39,7 +39,7 @@ returns-in_default-clause-done g c = λ done.
     let now = c.turns.group in
     let none : now.cx.log.state.pending ≡ [] = search rules in
     let carries = c.turns.invariant.carries in
-    let carried : IsCarried now.world [] now.cx.roles = subst (λ ps. IsCarried now.world ps now.cx.roles) none c.turns.invariant.carried in (
+    let carried : IsCarried now.world [] now.cx.log.state.next now.cx.roles = subst (λ ps. IsCarried now.world ps now.cx.log.state.next now.cx.roles) none c.turns.invariant.carried in (
       none,
       λ runs goes opened reads writes in_tells out_tells.
           let all = all_carried now.world.driven.chain now.world.driven.table.items now.world.writer now.world.reader now.cx.roles (carried.joined runs) (carried.ends runs) carried.ordered in
@@ -53,7 +53,7 @@ returns-in-None-clause-done g c = λ done.
     let now = c.turns.group in
     let none : now.cx.log.state.pending ≡ [] = search rules in
     let carries = c.turns.invariant.carries in
-    let carried : IsCarried now.world [] now.cx.roles = subst (λ ps. IsCarried now.world ps now.cx.roles) none c.turns.invariant.carried in (
+    let carried : IsCarried now.world [] now.cx.log.state.next now.cx.roles = subst (λ ps. IsCarried now.world ps now.cx.log.state.next now.cx.roles) none c.turns.invariant.carried in (
       none,
       λ runs goes opened reads writes in_tells out_tells.
           let all = all_carried now.world.driven.chain now.world.driven.table.items now.world.writer now.world.reader now.cx.roles (carried.joined runs) (carried.ends runs) carried.ordered in

@@ -1,6 +1,6 @@
-use Rattle.std.proofs.Common.{refl, sym, subst, ◌∙◌}
+use Rattle.std.proofs.Common.{ap, arith, refl, sym, subst, ◌∙◌}
 use Rattle.ts_transform.specs.Carrying.{CarriesTo}
-use Rattle.ts_transform.proofs.Runs.{handle_carries, to_refl}
+use Rattle.ts_transform.proofs.Runs.{handle_carries, handled_nothing, to_refl}
 use Rattle.ts_transform.proofs.link_drive.take_turn.Goals as goal
 
 -- No turn was made.
@@ -27,3 +27,9 @@ pub returns-in-Err-handled-clause-carries : goal.returns-in-Err-handled-clause-c
 returns-in-Err-handled-clause-carries g c =
     to_refl g.P.Transform.rest g.I.Link.tells g.K.Link.tells g.I.Link.look g.K.Link.look c.args.group.now.world c.give_turn.new.self.world
     (c.give_turn.ensures.world ∙ c.in-Err-handled.ensures.err.same.world ∙ c.begin_turn.ensures.world)
+
+-- Memory lacked in the turn.
+pub returns-in-Err-handled-clause-fault : goal.returns-in-Err-handled-clause-fault
+returns-in-Err-handled-clause-fault g c =
+    handled_nothing c.args.group.now.cx c.begin_turn.new.self.cx c.handle-handled.new.self.cx c.give_turn.new.self.cx c.in-Some.turn _ c.args.moment c.in_default-begin_turn.ensures.begins
+    c.in-Err-handled.ensures.err.same.cx c.give_turn.ensures.gives (omega (arith, c.in-Some.ensures, c.turns.ensures, ap (λ l. l.state.turns) c.journal.ensures))

@@ -15,7 +15,7 @@ use Rattle.ts_txn.specs.declared.phase.Phase.TheVariants as P
 use Rattle.ts_txn.specs.declared.phase.Next.TheVariants as N
 use Rattle.ts_txn.proofs.CourseCalls.{stands_begun}
 use Rattle.ts_txn.proofs.CourseSeats.{ended_alone}
-use Rattle.ts_txn.proofs.Coursing.{course_settled, enters_settled, led_on, stays_on}
+use Rattle.ts_txn.proofs.Coursing.{after_led, course_settled, enters_settled, led_on, stays_on}
 use Rattle.ts_txn.proofs.Events.{begin_led, due_begin, takes_begin, takes_lost}
 use Rattle.ts_txn.proofs.Handling.{leaving_one, sound_here}
 use Rattle.ts_txn.proofs.LoweringCourse.{begun_led, lines_after, lines_stay, not_begun}
@@ -66,10 +66,10 @@ returns-clause-sound g c =
     sound_here g.C.Link.tells g.O.Link.tells g.C.Link.look g.O.Link.look g.O.Upstream.paired g.O.Upstream.refuses g.P.Transform.rest g.P.Transform.whole core new
     (K.Phased (P.ResponseTransform c.args.request c.args.head)) c.leave.result c.leave.new.main c.leave.new.cx c.requires.stands c.queue_relay.ensures.keeps
     (λ told also. stays_on (arc_value new.setup) (OriginRefuses g.C.Link.look g.O.Upstream.refuses new) g.P.Transform.rest v (course_after relay step) c.leave.result
-    (led_on (arc_value new.setup) (OriginRefuses g.C.Link.look g.O.Upstream.refuses new) g.P.Transform.rest v relay step (c.begin_body-step.ensures.leads told also)) c.leave.ensures.course)
+    (led_on (arc_value new.setup) (OriginRefuses g.C.Link.look g.O.Upstream.refuses new) g.P.Transform.rest v relay step (c.begin_body-step.ensures.leads told also)) (after_led step (course_after relay step) c.leave.result c.leave.ensures.course))
     (lines_stay (arc_value new.setup) g.P.Transform.rest (course_after relay step) c.leave.result
     (lines_after (arc_value new.setup) g.P.Transform.rest step c.in-Ok.made relay c.begin_body-step.ensures.lowers.lines
-    (subst (λ x. IsOfLines (arc_value x) g.P.Transform.rest c.in-Ok.made.driven.chain) (sym c.queue_relay.ensures.keeps.setup) c.in-Ok.ensures.lowers.lines)) c.leave.ensures.course)
+    (subst (λ x. IsOfLines (arc_value x) g.P.Transform.rest c.in-Ok.made.driven.chain) (sym c.queue_relay.ensures.keeps.setup) c.in-Ok.ensures.lowers.lines)) (after_led step (course_after relay step) c.leave.result c.leave.ensures.course))
     (c.leave.ensures.covered v
     (stands_begun step v c.args.main.now c.begin_body-step.new.main relay c.args.cx.now c.begin_body-step.new.cx c.known.ensures c.begin_body-step.ensures.begins c.requires.alone))
 
@@ -86,7 +86,7 @@ returns-clause-handles g c =
     let relay = c.begin_body-step.new.relay in
     let v = view_of g.C.Link.look g.O.Link.look new in
     let led = begin_led g.C.Link.tells g.O.Link.tells g.C.Link.look g.O.Link.look g.O.Upstream.paired g.O.Upstream.refuses g.O.Upstream.upload_left relay c.begin_body-step.result c.leave.result
-        c.begin_body-step.ensures.begins.goes c.leave.ensures.course in
+    c.begin_body-step.ensures.begins.goes c.leave.ensures.course in
     record {
       keeps = c.queue_relay.ensures.keeps;
       handles = record {
@@ -94,17 +94,11 @@ returns-clause-handles g c =
         takes = takes_begin g.C.Link.tells g.O.Link.tells g.C.Link.look g.O.Link.look g.O.Upstream.paired g.O.Upstream.refuses g.O.Upstream.upload_left core new
             (P.ResponseTransform c.args.request c.args.head) c.leave.result relay c.queue_relay.ensures.quiet led;
         due = due_begin g.C.Link.tells g.O.Link.tells g.C.Link.look g.O.Link.look g.O.Upstream.paired g.O.Upstream.refuses g.O.Upstream.upload_left c.args.main.now v c.leave.new.main c.args.cx.now
-            c.leave.new.cx c.leave.result relay
-            (record {
-              behind = c.begin_body-step.new.cx;
-              first = c.begin_body-step.ensures.begins.acts.grows;
-              then = c.leave.ensures.within.grows;
-              begins = c.begin_body-step.ensures.due;
-              due = c.leave.ensures.due;
-            })
+            c.begin_body-step.new.cx c.leave.new.cx c.begin_body-step.result relay c.leave.result c.begin_body-step.ensures.begins.goes c.leave.ensures.course
+            c.begin_body-step.ensures.begins.acts.grows c.begin_body-step.ensures.due c.leave.ensures.within
             (c.leave.ensures.covered v
             (stands_begun c.begin_body-step.result v c.args.main.now c.begin_body-step.new.main relay c.args.cx.now c.begin_body-step.new.cx c.known.ensures c.begin_body-step.ensures.begins
-            c.requires.alone)) led;
+            c.requires.alone));
       };
     }
 
@@ -127,8 +121,8 @@ returns-clause-pays g c = λ told also.
     let step = c.begin_body-step.result in
     let w = view_of g.C.Link.look g.O.Link.look new in
     let kept = subst (λ x. NoMore (unbegun_left (arc_value x) g.P.Transform.rest w made) (left_after (arc_value x) g.P.Transform.rest step w relay)) c.queue_relay.ensures.keeps.setup
-        c.begin_body-step.ensures.lowers.falls in
+    c.begin_body-step.ensures.lowers.falls in
     begun_led (arc_value core.setup) g.P.Transform.rest c.args.request c.args.head step made relay c.leave.result (view_of g.C.Link.look g.O.Link.look core) w
     (upload_told g.O.Upstream.upload_left core.client.link core.origin) (upload_told g.O.Upstream.upload_left new.client.link new.origin) c.args.cx.now.log.state.pending
     c.begin_body-step.new.cx.log.state.pending c.leave.new.cx.log.state.pending (c.in-Ok.ensures.lowers.falls told also) kept c.begin_body-step.ensures.begins.acts.few.pending
-    c.leave.ensures.course c.leave.ensures.within.few.pending
+    (after_led step (course_after relay step) c.leave.result c.leave.ensures.course) c.leave.ensures.within.few.pending

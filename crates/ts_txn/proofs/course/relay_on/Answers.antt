@@ -8,7 +8,7 @@ use Rattle.ts_txn.specs.View.{OriginRefuses, upload_told, view_of}
 use Rattle.ts_txn.specs.World.{most_set}
 use Rattle.ts_txn.specs.declared.course.Course.TheVariants as K
 use Rattle.ts_txn.proofs.CourseCalls.{stands_handled}
-use Rattle.ts_txn.proofs.Coursing.{led_on}
+use Rattle.ts_txn.proofs.Coursing.{after_led, led_on}
 use Rattle.ts_txn.proofs.Handling.{leaving_one, sound_led}
 use Rattle.ts_txn.proofs.LoweringCourse.{body_led, covered_called, lines_after}
 use Rattle.ts_txn.proofs.course.relay_on.Goals as goal
@@ -25,7 +25,8 @@ returns-clause-sound g c =
     sound_led g.C.Link.tells g.O.Link.tells g.C.Link.look g.O.Link.look g.O.Upstream.paired g.O.Upstream.refuses g.P.Transform.rest g.P.Transform.whole core new (K.Relaying c.args.relay)
     (course_after relay step) c.leave.result c.leave.new.main c.leave.new.cx c.requires.called.sound.stands c.handle_body-step.ensures.keeps
     (λ told also. led_on (arc_value core.setup) (OriginRefuses g.C.Link.look g.O.Upstream.refuses core) g.P.Transform.rest w relay step (c.handle_body-step.ensures.leads told also))
-    (lines_after (arc_value core.setup) g.P.Transform.rest step c.args.relay relay c.handle_body-step.ensures.pays.lines c.requires.called.sound.stands.lines) c.leave.ensures.course
+    (lines_after (arc_value core.setup) g.P.Transform.rest step c.args.relay relay c.handle_body-step.ensures.pays.lines c.requires.called.sound.stands.lines)
+    (after_led step (course_after relay step) c.leave.result c.leave.ensures.course)
     (c.leave.ensures.covered w (stands_handled _ v c.args.main.now c.args.cx.now c.args.role c.args.event c.requires.called step w main c.args.relay relay c.handle_body-step.new.cx
     c.requires.called.sound.covered c.handle_body-step.ensures.handles))
 
@@ -44,7 +45,7 @@ returns-clause-handles g c = record {
     led = c.leave.ensures.course;
     behind = c.handle_body-step.new.cx;
     first = c.handle_body-step.ensures.handles.acts.grows;
-    then = c.leave.ensures.within.grows;
+    then = c.leave.ensures.within;
     links = c.handle_body-step.ensures.links;
     due = c.leave.ensures.due;
   };
@@ -59,7 +60,7 @@ returns-clause-pays g c = λ told also.
     let w = view_of g.C.Link.look g.O.Link.look new in
     body_led (arc_value core.setup) g.P.Transform.rest c.handle_body-step.result relay c.leave.result w (upload_told g.O.Upstream.upload_left new.client.link new.origin)
     c.args.cx.now.log.state.pending c.handle_body-step.new.cx.log.state.pending c.leave.new.cx.log.state.pending (relay_left (arc_value core.setup) g.P.Transform.rest v c.args.relay)
-    c.leave.ensures.course
+    (after_led c.handle_body-step.result (course_after relay c.handle_body-step.result) c.leave.result c.leave.ensures.course)
     (c.handle_body-step.ensures.pays.pays told also c.requires.called.sound.stands.lines
     (covered_called _ v c.args.main.now c.args.relay c.args.cx.now c.args.role c.args.event c.requires.called c.requires.called.sound.covered))
     c.leave.ensures.within.few.pending

@@ -5,6 +5,7 @@ use Rattle.ts_txn.specs.CourseCover.{set_after}
 use Rattle.ts_txn.specs.View.{upload_told, view_of}
 use Rattle.ts_txn.specs.World.{most_set}
 use Rattle.ts_txn.specs.declared.course.Course.TheVariants as K
+use Rattle.ts_txn.proofs.Coursing.{behind_led}
 use Rattle.ts_txn.proofs.Events.{due_step, takes_step}
 use Rattle.ts_txn.proofs.Handling.{after_one, sound_led}
 use Rattle.ts_txn.proofs.LoweringCourse.{phase_led}
@@ -15,7 +16,7 @@ returns-clause-sound g c =
     let core = c.args.core.now in
     let new = c.step-step.new.self in
     sound_led g.C.Link.tells g.O.Link.tells g.C.Link.look g.O.Link.look g.O.Upstream.paired g.O.Upstream.refuses g.P.Transform.rest g.P.Transform.whole core new (K.Phased c.args.phase)
-    (K.Phased c.step-step.result.phase) c.step_on.result c.step_on.new.main c.step_on.new.cx c.requires.stands c.step-step.ensures.keeps c.step-step.ensures.fact tt c.step_on.ensures.course
+    (K.Phased c.step-step.result.phase) c.step_on.result c.step_on.new.main c.step_on.new.cx c.requires.stands c.step-step.ensures.keeps c.step-step.ensures.fact tt (behind_led c.step-step.result.next (K.Phased c.step-step.result.phase) c.step_on.result c.step_on.ensures.course)
     (c.step_on.ensures.covered c.step-step.ensures.leads c.requires.alone (view_of g.C.Link.look g.O.Link.look new))
 
 pub returns-clause-within : goal.returns-clause-within
@@ -32,7 +33,7 @@ returns-clause-handles g c = record {
     takes = takes_step g.C.Link.tells g.O.Link.tells g.C.Link.look g.O.Link.look g.O.Upstream.paired g.O.Upstream.refuses g.O.Upstream.upload_left c.args.core.now c.step-step.new.self c.args.phase
         c.step_on.result c.step-step.result c.step-step.ensures.minds c.step-step.ensures.waits c.step-step.ensures.leaves c.step_on.ensures.course;
     due = due_step g.C.Link.tells g.O.Link.tells g.C.Link.look g.O.Link.look g.O.Upstream.paired g.O.Upstream.refuses g.O.Upstream.upload_left c.args.main.now c.args.cx.now c.step_on.new.cx c.step-step.result.next
-        c.step-step.result.phase c.step_on.result c.step_on.ensures.course c.step_on.ensures.due;
+        c.step-step.result.phase c.step_on.result (behind_led c.step-step.result.next (K.Phased c.step-step.result.phase) c.step_on.result c.step_on.ensures.course) c.step_on.ensures.due;
   };
 }
 
@@ -42,4 +43,4 @@ returns-clause-pays g c = λ told also.
     let new = c.step-step.new.self in
     phase_led (arc_value core.setup) g.P.Transform.rest c.args.phase c.step-step.result c.step_on.result (view_of g.C.Link.look g.O.Link.look core)
     (view_of g.C.Link.look g.O.Link.look new) (upload_told g.O.Upstream.upload_left core.client.link core.origin) (upload_told g.O.Upstream.upload_left new.client.link new.origin)
-    c.args.cx.now.log.state.pending c.step_on.new.cx.log.state.pending c.step_on.ensures.course (c.step-step.ensures.falls told also) c.step_on.ensures.within.few.pending
+    c.args.cx.now.log.state.pending c.step_on.new.cx.log.state.pending (behind_led c.step-step.result.next (K.Phased c.step-step.result.phase) c.step_on.result c.step_on.ensures.course) (c.step-step.ensures.falls told also) c.step_on.ensures.within.few.pending

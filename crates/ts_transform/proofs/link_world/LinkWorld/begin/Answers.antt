@@ -4,6 +4,7 @@ use Rattle.ts_transform.specs.Stage.{MOST_WAITING}
 use Rattle.ts_transform.specs.Flow.{EndsInOrder}
 use Rattle.ts_transform.proofs.Joined.{acts_made, begun_made, begun_then, made_of}
 use Rattle.ts_transform.proofs.Kept.{acts_then}
+use Rattle.ts_transform.proofs.Losing.{told_begun}
 use Rattle.ts_transform.proofs.Starting.{made_if}
 use Rattle.ts_transform.proofs.link_world.LinkWorld.begin.Goals as goal
 
@@ -17,27 +18,6 @@ returns-clause-within g c =
     acts_then 0 3 3 (omega arith) (acts_made 0 c.args.cx.now c.make_end.new.cx c.make_end.ensures.grows c.make_end.ensures.turn c.make_end.ensures.events)
     (acts_then 0 3 3 (omega arith) (acts_made 0 c.make_end.new.cx c.make_end-2.new.cx c.make_end-2.ensures.grows c.make_end-2.ensures.turn c.make_end-2.ensures.events)
     (acts_then 1 2 3 (omega arith) c.start.ensures.within c.rouse_ends.ensures.within))
-
-pub returns-clause-carried : goal.returns-clause-carried
-returns-clause-carried g c = λ was.
-    let self = c.args.self.now in
-    let made = c.make_end.new.cx in
-    let both = c.make_end-2.new.cx in
-    let started = c.start.new.self in
-    let fresh = was.fresh c.requires.fresh.0 in
-    let chain : c.rouse_ends.new.self.driven.chain ≡ self.driven.chain = c.rouse_ends.ensures.same.chain ∙ c.start.ensures.chain in
-    record {
-      joined = c.rouse_ends.ensures.joined (λ runs. record {
-        stages = c.start.ensures.driven fresh.2 runs;
-        of_writer = c.start.ensures.rest.made.of_stage 1 (Some c.in-Ok.writer) (made_if made both c.make_end-2.ensures.events c.make_end-2.ensures.keys 1 (Some c.in-Ok.writer)
-            (made_of made.log.state.pending made.roles 1 c.in-Ok.writer c.in-Ok.ensures.named.0 c.in-Ok.ensures.named.1));
-        of_reader = c.start.ensures.rest.made.of_stage 2 (Some c.in-Ok-make_end.reader) (made_of both.log.state.pending both.roles 2 c.in-Ok-make_end.reader c.in-Ok-make_end.ensures.named.0 c.in-Ok-make_end.ensures.named.1);
-      });
-      ends = c.rouse_ends.ensures.ends;
-      fresh = λ none. absurd (let wrong : Some c.in-Ok.writer ≡ None = c.rouse_ends.ensures.course.started none in cc);
-      ordered = subst (λ x. EndsInOrder x.given x.stages) (sym chain) was.ordered;
-      bounded = subst (λ x. length x.first < MOST_WAITING + MOST_PULLED) (sym chain) was.bounded;
-    }
 
 -- It runs from now on, or is lost for a cause.
 pub returns-in-Err-clause-cause : goal.returns-in-Err-clause-cause
@@ -60,3 +40,25 @@ returns-clause-cause g c =
       reader = c.start.ensures.rest.made.live c.in-Ok-make_end.reader.key c.in-Ok-make_end.ensures.live;
     })
     (λ stopped. c.rouse_ends.ensures.idle (inl stopped)) c.rouse_ends.ensures.course
+
+pub returns-clause-carried : goal.returns-clause-carried
+returns-clause-carried g c = λ was.
+    let self = c.args.self.now in
+    let made = c.make_end.new.cx in
+    let both = c.make_end-2.new.cx in
+    let started = c.start.new.self in
+    let fresh = was.fresh c.requires.fresh.0 in
+    let chain : c.rouse_ends.new.self.driven.chain ≡ self.driven.chain = c.rouse_ends.ensures.same.chain ∙ c.start.ensures.chain in
+    record {
+      joined = c.rouse_ends.ensures.joined (λ runs. record {
+        stages = c.start.ensures.driven fresh.2 runs;
+        of_writer = c.start.ensures.rest.made.of_stage 1 (Some c.in-Ok.writer) (made_if made both c.make_end-2.ensures.events c.make_end-2.ensures.keys 1 (Some c.in-Ok.writer)
+            (made_of made.log.state.pending made.roles 1 c.in-Ok.writer c.in-Ok.ensures.named.0 c.in-Ok.ensures.named.1));
+        of_reader = c.start.ensures.rest.made.of_stage 2 (Some c.in-Ok-make_end.reader) (made_of both.log.state.pending both.roles 2 c.in-Ok-make_end.reader c.in-Ok-make_end.ensures.named.0 c.in-Ok-make_end.ensures.named.1);
+      });
+      ends = c.rouse_ends.ensures.ends;
+      fresh = λ none. absurd (let wrong : Some c.in-Ok.writer ≡ None = c.rouse_ends.ensures.course.started none in cc);
+      ordered = subst (λ x. EndsInOrder x.given x.stages) (sym chain) was.ordered;
+      told = told_begun c.rouse_ends.new.self c.rouse_ends.new.cx (returns-clause-cause g c);
+      bounded = subst (λ x. length x.first < MOST_WAITING + MOST_PULLED) (sym chain) was.bounded;
+    }

@@ -1,8 +1,10 @@
-use Rattle.std.proofs.Common.{◌≡◌, true, false, arith, refl, sym, ap, subst, inl, inr, ◌∙◌}
+use Rattle.std.proofs.Common.{◌≡◌, Some, true, false, arith, refl, sym, ap, subst, inl, inr, ◌∙◌}
 use Rattle.ts_transform.specs.Driving.{IsRousedIf}
 use Rattle.ts_transform.specs.Carrying.{IsJoinedWhile, LacksMemory, MayBreak, StepsAlong}
 use Rattle.ts_transform.proofs.Carrying.{moves_aborted, moves_as, moves_lacks, moves_none}
 use Rattle.ts_transform.proofs.Joined.{again_reads, again_writes, aborted_quiet, joined_aborted, joined_as, break_after, lose_lacks, loses_runs, named_of, rests_then}
+use Rattle.ts_transform.specs.declared.loss.Loss.TheVariants.{NoMemory, Spent}
+use Rattle.ts_transform.proofs.Losing.{grows_next, told_then}
 use Rattle.ts_transform.proofs.Kept.{acts_none, acts_then}
 use Rattle.ts_transform.proofs.Along.{does_then, step_only, step_sure}
 use Rattle.ts_transform.proofs.Setting.{of_stages_named, only_none}
@@ -39,7 +41,9 @@ returns-then-lacks_memory-clause-steps g c =
     (omega (arith, counts.0, reads), omega (arith, counts.1, writes)))
 
 pub returns-then-lacks_memory-clause-carried : goal.returns-then-lacks_memory-clause-carried
-returns-then-lacks_memory-clause-carried g c = λ before handled was.
+returns-then-lacks_memory-clause-carried g c = λ before next stood.
+    let was = stood.carried in
+    let handled = stood.handled in
     let self = c.args.self.now in
     let mid = c.rouse_ends.new.self in
     let now = c.abort.new.self in
@@ -55,6 +59,7 @@ returns-then-lacks_memory-clause-carried g c = λ before handled was.
       fresh = λ none. absurd (let wrong : false ≡ true = sym (was.fresh (c.work.ensures.course.started (c.rouse_ends.ensures.course.started (sym c.abort.ensures.ends.0 ∙ none)))).0 ∙ c.if-not-self.false in cc);
       ordered = steps.ordered was.ordered;
       bounded = steps.bounded was.bounded;
+      told = λ spent. absurd (let wrong : Some NoMemory ≡ Some Spent = sym (c.abort.ensures.course.lost ∙ (c.lacks_memory.ensures.lacks c.if-lacks_memory.true).1) ∙ spent in cc);
     }
 
 pub returns-then-lacks_memory-clause-within : goal.returns-then-lacks_memory-clause-within
@@ -74,9 +79,14 @@ returns-else-lacks_memory-clause-steps g c =
     self.driven.chain mid.driven.chain now.driven.chain self.aborted mid.aborted now.aborted ⊥ (ap g.I.Link.look same.input) (ap g.K.Link.look same.output) same.chain same.aborted c.work.ensures.moves)
 
 pub returns-else-lacks_memory-clause-carried : goal.returns-else-lacks_memory-clause-carried
-returns-else-lacks_memory-clause-carried g c = λ before handled was.
+returns-else-lacks_memory-clause-carried g c = λ before next stood.
+    let was = stood.carried in
+    let handled = stood.handled in
     let self = c.args.self.now in
+    let mid = c.work.new.self in
     let now = c.rouse_ends.new.self in
+    let then = c.work.new.cx in
+    let last = c.rouse_ends.new.cx in
     let steps : StepsAlong g.P.Transform.rest g.I.Link.tells g.K.Link.tells g.I.Link.look g.K.Link.look self now = returns-else-lacks_memory-clause-steps g c in
     record {
       joined = c.rouse_ends.ensures.joined (c.work.ensures.joined before handled was.joined);
@@ -84,13 +94,17 @@ returns-else-lacks_memory-clause-carried g c = λ before handled was.
       fresh = λ none. absurd (let wrong : false ≡ true = sym (was.fresh (c.work.ensures.course.started (c.rouse_ends.ensures.course.started none))).0 ∙ c.if-not-self.false in cc);
       ordered = steps.ordered was.ordered;
       bounded = steps.bounded was.bounded;
+      told = told_then mid.driven now.driven then.log.state.next last c.rouse_ends.ensures.course.loses (grows_next then last c.rouse_ends.ensures.within.grows)
+          (told_then self.driven mid.driven c.args.cx.now.log.state.next then c.work.ensures.course.loses (grows_next c.args.cx.now then c.work.ensures.within.grows) (λ spent. let used = was.told spent in omega (arith, used, stood.next_rises)));
     }
 
 pub returns-else-lacks_memory-clause-within : goal.returns-else-lacks_memory-clause-within
 returns-else-lacks_memory-clause-within g c = acts_then 4 2 6 (omega arith) c.work.ensures.within c.rouse_ends.ensures.within
 
 pub returns-then-lacks_memory-clause-again : goal.returns-then-lacks_memory-clause-again
-returns-then-lacks_memory-clause-again g c = λ before handled was.
+returns-then-lacks_memory-clause-again g c = λ before next stood.
+    let was = stood.carried in
+    let handled = stood.handled in
     let self = c.args.self.now in
     let mid = c.work.new.self in
     let now = c.rouse_ends.new.self in
@@ -113,7 +127,9 @@ returns-then-lacks_memory-clause-again g c = λ before handled was.
     }
 
 pub returns-else-lacks_memory-clause-again : goal.returns-else-lacks_memory-clause-again
-returns-else-lacks_memory-clause-again g c = λ before handled was.
+returns-else-lacks_memory-clause-again g c = λ before next stood.
+    let was = stood.carried in
+    let handled = stood.handled in
     let self = c.args.self.now in
     let mid = c.work.new.self in
     let now = c.rouse_ends.new.self in
@@ -133,7 +149,7 @@ returns-else-lacks_memory-clause-again g c = λ before handled was.
 
 -- It goes on as it did, or is lost for a cause.
 pub returns-then-not-self-clause-acts : goal.returns-then-not-self-clause-acts
-returns-then-not-self-clause-acts g c = λ before handled was. record {
+returns-then-not-self-clause-acts g c = λ before next stood. record {
   stage = λ runs. absurd (let wrong : false ≡ true = sym c.if-not-self.true ∙ runs in cc);
   does = λ runs. absurd (let wrong : false ≡ true = sym c.if-not-self.true ∙ runs in cc);
   loses = inl (refl, refl);
@@ -142,7 +158,9 @@ returns-then-not-self-clause-acts g c = λ before handled was. record {
 }
 
 pub returns-else-lacks_memory-clause-acts : goal.returns-else-lacks_memory-clause-acts
-returns-else-lacks_memory-clause-acts g c = λ before handled was.
+returns-else-lacks_memory-clause-acts g c = λ before next stood.
+    let was = stood.carried in
+    let handled = stood.handled in
     let self = c.args.self.now in
     let mid = c.work.new.self in
     let now = c.rouse_ends.new.self in
@@ -178,7 +196,9 @@ returns-else-lacks_memory-clause-acts g c = λ before handled was.
     }
 
 pub returns-then-lacks_memory-clause-acts : goal.returns-then-lacks_memory-clause-acts
-returns-then-lacks_memory-clause-acts g c = λ before handled was.
+returns-then-lacks_memory-clause-acts g c = λ before next stood.
+    let was = stood.carried in
+    let handled = stood.handled in
     let self = c.args.self.now in
     let mid = c.rouse_ends.new.self in
     let now = c.abort.new.self in

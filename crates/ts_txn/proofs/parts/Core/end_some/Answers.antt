@@ -1,8 +1,10 @@
-use Rattle.std.proofs.Common.{◌≡◌, true, false, [], sym, ap, subst, ◌∙◌}
+use Rattle.std.proofs.Common.{◌≡◌, true, false, [], refl, sym, ap, subst, ◌∙◌}
 use Rattle.ts_transform.specs.Flow.{ChainState, IsFinished, flow}
 use Rattle.std.specs.Arc.{arc_value}
 use Rattle.ts_txn.specs.View.{OriginRefuses, view_of}
 use Rattle.ts_hooks.specs.declared.txn_end.TxnEnd.TheVariants as E
+use Rattle.ts_txn.specs.declared.finishing.BodyStep.TheVariants as S
+use Rattle.ts_txn.proofs.BodyLinks.{writer_queued}
 use Rattle.ts_txn.proofs.LoweringRelay.{idles, lowers_whole, queues_lacks}
 use Rattle.ts_txn.proofs.Relaying.{ends_whole, frames_lacks}
 use Rattle.ts_txn.proofs.parts.Core.end_some.Goals as goal
@@ -31,3 +33,8 @@ returns-in_default-clause-lowers g c = λ now. queues_lacks g.C.Link.tells g.O.L
 
 pub returns-clause-lowers : goal.returns-clause-lowers
 returns-clause-lowers g c = λ now. lowers_whole g.C.Link.tells g.O.Link.tells ((c.args.relay.now.driven.chain.given ≡ true) × IsFinished c.args.relay.now.driven.chain) (arc_value c.args.self.now.setup) g.P.Transform.rest (view_of g.C.Link.look g.O.Link.look c.args.self.now) (view_of g.C.Link.look g.O.Link.look c.end_body.new.self) c.args.relay.now now E.Whole c.in-Ok.ensures.ok
+
+pub returns-clause-links : goal.returns-clause-links
+returns-clause-links g c =
+    writer_queued g.C.Link.tells g.O.Link.tells (view_of g.C.Link.look g.O.Link.look c.args.self.now) (view_of g.C.Link.look g.O.Link.look c.end_body.new.self) c.args.relay.now.driven.chain c.args.relay.now.driven.chain
+    (S.Finishes E.Whole) _ [] (record { client = refl; origin = refl; late = refl }) c.requires.empty refl c.in-Ok.ensures.ok

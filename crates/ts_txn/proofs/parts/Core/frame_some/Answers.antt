@@ -6,7 +6,7 @@ use Rattle.ts_txn.specs.View.{OriginRefuses, view_of}
 use Rattle.ts_txn.specs.BodyLinks.{is_late}
 use Rattle.ts_txn.specs.Duties.{MustSend}
 use Rattle.ts_txn.specs.LoweringBody.{LowersBody}
-use Rattle.ts_txn.proofs.BodyLinks.{calm_after, minds_framed}
+use Rattle.ts_txn.proofs.BodyLinks.{calm_after, writer_framed}
 use Rattle.ts_txn.proofs.LoweringRelay.{frames_after, loses_runs, must_weaker, queues_lacks, rest_to_send}
 use Rattle.ts_txn.proofs.Relaying.{frames_lacks, frames_step, front_of_block}
 use Rattle.ts_txn.proofs.Chaining.{chain_after, chain_still, taken_order}
@@ -39,9 +39,8 @@ returns-clause-chain g c =
 
 pub returns-clause-links : goal.returns-clause-links
 returns-clause-links g c =
-    let calm = calm_after c.take.result c.step_after.result c.step_after.ensures in
-    minds_framed g.C.Link.tells g.O.Link.tells (view_of g.C.Link.look g.O.Link.look c.args.self.now) (view_of g.C.Link.look g.O.Link.look c.frame_body.new.self) c.args.relay.now.driven.chain c.take.new.self.chain
-    c.step_after.result (is_late c.step_after.result) false _ _ g.P.Transform.rest _ calm calm.late refl c.requires.stands.1 c.take.ensures.takes c.in-Ok.ensures.ok
+    writer_framed g.C.Link.tells g.O.Link.tells (view_of g.C.Link.look g.O.Link.look c.args.self.now) (view_of g.C.Link.look g.O.Link.look c.frame_body.new.self) c.args.relay.now.driven.chain c.take.new.self.chain
+    c.step_after.result _ _ g.P.Transform.rest _ (calm_after c.take.result c.step_after.result c.step_after.ensures) c.requires.stands.1 c.take.ensures.takes c.in-Ok.ensures.ok
 
 -- there is nothing to frame, or the end
 pub returns-in_default-clause-lowers : goal.returns-in_default-clause-lowers

@@ -20,7 +20,7 @@ pub returns-clause-handles : goal.returns-clause-handles
 returns-clause-handles g c =
     handles_read c.args.event c.read_body-step.result c.settle_after.result (view_of g.C.Link.look g.O.Link.look c.args.self.now) (view_of g.C.Link.look g.O.Link.look c.read_body-step.new.self) c.args.main.now c.settle_after.new.main
     c.args.relay.now c.read_body-step.new.relay c.settle_after.new.relay c.args.cx.now c.read_body-step.new.cx c.settle_after.new.cx c.known.ensures c.read_body-step.ensures.chain (c.read_body-step.ensures.reader ∙ c.unrouse.ensures)
-    (ap (λ x. x.driven) c.settle_after.ensures.relay) c.settle_after.ensures.settles
+    (ap (λ x. x.driven) c.settle_after.ensures.relay) c.settle_after.ensures.settles c.read_body-step.ensures.links.client c.read_body-step.ensures.links.sent
 
 pub returns-then-not-works-clause-links : goal.returns-then-not-works-clause-links
 returns-then-not-works-clause-links g c =

@@ -22,6 +22,7 @@ returns-clause-handles g c =
     handles_write c.args.event c.write_body-step.result c.settle_after.result (view_of g.C.Link.look g.O.Link.look c.args.self.now) (view_of g.C.Link.look g.O.Link.look c.write_body-step.new.self) c.args.main.now c.settle_after.new.main
     c.args.relay.now c.write_body-step.new.relay c.settle_after.new.relay c.args.cx.now c.write_body-step.new.cx c.settle_after.new.cx c.known.ensures c.write_body-step.ensures.chain c.write_body-step.ensures.relay (ap (λ x. x.driven) c.settle_after.ensures.relay)
     (subst (λ x. SettlesAfter c.write_body-step.result c.settle_after.result (view_of g.C.Link.look g.O.Link.look c.write_body-step.new.self) x c.settle_after.new.main c.write_body-step.new.relay c.settle_after.new.relay c.write_body-step.new.cx c.settle_after.new.cx) c.unrouse.ensures c.settle_after.ensures.settles)
+    c.write_body-step.ensures.links.origin
 
 pub returns-then-not-works-clause-links : goal.returns-then-not-works-clause-links
 returns-then-not-works-clause-links g c =
