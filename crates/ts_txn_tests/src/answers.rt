@@ -1,6 +1,6 @@
 //! The proxy's own answers beside the lines of a configuration, and what a transaction tells of itself.
 
-use crate::exchange::{MemTxn, NUMBER, begin, drive, setup_of};
+use crate::exchange::{MemTxn, NUMBER, begin, drive, setup_of, start_again};
 use crate::lines::{FILE, STOCK};
 use crate::plan::{giving, link_of};
 use crate::row::{Row, Verdict, check, get, judge};
@@ -94,18 +94,11 @@ fn a_transaction_starts_once(rt: HostRuntime) -> Result<(), Fail> {
     let origin = link_of(alloc, &giving(ABC))?;
     let mut group: Group<MemTxn> = begin(alloc, setup, client, Some(origin))?;
     let counts = group.journal().counts();
-    group.begin_turn(2, 0, 0)?;
-    group.start();
-    group.give_turn();
+    start_again(&mut group)?;
     assert_eq!(rt; group.journal().counts(), counts);
     drive(&mut group)?;
     let counts = group.journal().counts();
-    let Some(turn) = group.journal().turns().checked_add(1) else {
-        return Err("a turn is left")?;
-    };
-    group.begin_turn(turn, 0, 0)?;
-    group.start();
-    group.give_turn();
+    start_again(&mut group)?;
     assert_eq!(rt; group.journal().counts(), counts);
     assert_eq!(rt; counts.pending, 0);
     let (txn, _) = group.into_parts();

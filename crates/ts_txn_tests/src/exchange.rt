@@ -103,6 +103,22 @@ pub fn begin<C: Link + Drop, O: Upstream<C> + Drop, P: Transform<Line = Transfor
     Ok(group)
 }
 
+/// Starts it once more, in a turn of its own.
+pub fn start_again<W: World + Drop>(group: &mut Group<W>) -> Result<(), Refusal>
+    requires idle { group.old.cx.log.state.held ≡ false }
+    requires sound { Holds W.sound group.old }
+    ensures idle { OnOk result (group.new.cx.log.state.held ≡ false) }
+    ensures sound { OnOk result (Holds W.sound group.new) }
+{
+    let Some(turn) = group.journal().turns().checked_add(1) else {
+        return Err(Refusal::Turns);
+    };
+    group.begin_turn(turn, 0, 0)?;
+    group.start();
+    group.give_turn();
+    Ok(())
+}
+
 // Handles the event of a number, in a turn of its own.
 fn take_turn<W: World + Drop>(group: &mut Group<W>, number: u64, moment: u64) -> Result<(), Refusal>
 where

@@ -19,9 +19,9 @@ const KIB: usize = 1_024;
 
 const MIB: usize = 1_048_576;
 
-// A response with a body of so many letters, one after the other.
-fn long_response(alloc: Global, length: usize) -> Result<Vec<u8>, Refusal> {
-    let mut text = Vec::from_slice(alloc, FRONT)?;
+// So many letters, one after the other.
+fn letters(alloc: Global, length: usize) -> Result<Vec<u8>, Refusal> {
+    let mut text = Vec::new(alloc);
     text.reserve(length)?;
     let mut letter = b'a';
     for _ in 0..length {
@@ -31,7 +31,7 @@ fn long_response(alloc: Global, length: usize) -> Result<Vec<u8>, Refusal> {
     Ok(text)
 }
 
-// Whether such a response comes through these lines as it is, where the origin gives it in pieces of one length and the
+// Whether a body of letters comes through these lines as it is, where the origin gives it in pieces of one length and the
 // client takes so many bytes a write.
 fn check_long(
     alloc: Global,
@@ -40,11 +40,12 @@ fn check_long(
     piece: u32,
     take: usize,
 ) -> Result<Verdict, Refusal> {
-    let response = long_response(alloc, length)?;
-    let (_, body) = response.as_slice().split_at(FRONT.len());
+    let body = letters(alloc, length)?;
+    let mut response = Vec::from_slice(alloc, FRONT)?;
+    response.extend_from_slice(body.as_slice())?;
     let row = Row {
         lines,
-        ..get(b"", CHUNKED, Mode::Chunked, body)
+        ..get(b"", CHUNKED, Mode::Chunked, body.as_slice())
     };
     let client = Plan {
         take,
