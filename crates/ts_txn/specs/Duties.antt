@@ -54,11 +54,25 @@ pub record TellsDuty {P : Type 0} (must : Bool) (v : View) (c : ChainState P) : 
   pub must_send : must ≡ true → MustSend v c
   pub only : MustSend v c → must ≡ true
 
+-- how many events are set at most: where an end of a body is roused, where both are, where an event of a
+-- body is handled, and where a body begins
+abbrev pub set_by_end : ℕ
+set_by_end = 1
+
+abbrev pub set_by_ends : ℕ
+set_by_ends = 2
+
+abbrev pub set_by_event : ℕ
+set_by_event = 6
+
+abbrev pub set_by_beginning : ℕ
+set_by_beginning = 4
+
 -- What is left where a continuation was roused, or could not be: it is, if it must work, or the event
 -- numbers are used up.
 pub record RousesOne (step : BodyStep) (must : Bool) (t u : Option StageContinuation)
     (a b : Context) : Type 0 where
-  pub adds : AddsSome 1 a b
+  pub adds : AddsSome set_by_end a b
   pub stage : KeepsStage a b t u
   pub seated : KeepsSeated (t ∷ []) (u ∷ []) a b
   pub roused : OnGoes step ((must ≡ true → IsRousedIf u) ⊎ (GREATEST ≤ b.log.state.next))
@@ -67,7 +81,7 @@ pub record RousesOne (step : BodyStep) (must : Bool) (t u : Option StageContinua
 -- The same of the first continuation and of the reader.
 pub record RousesBoth (step : BodyStep) (writes reads : Bool) (t u r s : Option StageContinuation)
     (a b : Context) : Type 0 where
-  pub adds : AddsSome 2 a b
+  pub adds : AddsSome set_by_ends a b
   pub main : (role : ℕ) → IsOfStageIf a.log.state.pending a.roles role t
       → IsOfStageIf b.log.state.pending b.roles role u
   pub reader : (role : ℕ) → IsOfStageIf a.log.state.pending a.roles role r
@@ -102,7 +116,7 @@ UnlessLacking step P = P
 -- What is left where both ends of a body were roused that must work.
 pub record SettlesBody {P : Type 0} (step : BodyStep) (v : View) (t u : Option StageContinuation)
     (r s : Relay P) (a b : Context) : Type 0 where
-  pub adds : AddsSome 2 a b
+  pub adds : AddsSome set_by_ends a b
   pub joined : IsBodyJoined t r a.log.state.pending a.roles → IsBodyJoined u s b.log.state.pending b.roles
   pub covered : RunsOr r a.log.state.next → OnGoes step (IsBodyCovered v u s b.log.state.next)
   pub goes : OnGoes step ⊤
@@ -118,7 +132,7 @@ SettledAs step result = result ≡ step
 
 pub record SettlesAfter {P : Type 0} (step result : BodyStep) (v : View) (t u : Option StageContinuation)
     (r s : Relay P) (a b : Context) : Type 0 where
-  pub adds : AddsSome 2 a b
+  pub adds : AddsSome set_by_ends a b
   pub joined : IsBodyJoined t r a.log.state.pending a.roles → IsBodyJoined u s b.log.state.pending b.roles
   pub covered : RunsOr r a.log.state.next → WhileGoes step
       (OnGoes result (IsBodyCovered v u s b.log.state.next))
@@ -137,7 +151,7 @@ pub record DoesOwnWork (role : ℕ) (v w : View) : Type 0 where
 -- What is left where an event of a role was handled while a body is passed on.
 pub record HandlesBody {P : Type 0} (step : BodyStep) (role : ℕ) (event : Event) (v w : View)
     (t u : Option StageContinuation) (r s : Relay P) (a b : Context) : Type 0 where
-  pub acts : ActsWithin 6 a b
+  pub acts : ActsWithin set_by_event a b
   pub joined : (before : List Pending) → IsHandled before a.log.state.pending a.roles role event
       → IsBodyJoined t r before a.roles → IsBodyJoined u s b.log.state.pending b.roles
   pub covered : IsBodyCovered v t r a.log.state.next → WhileGoes step (IsBodyCovered w u s b.log.state.next)
@@ -150,7 +164,7 @@ pub record HandlesBody {P : Type 0} (step : BodyStep) (role : ℕ) (event : Even
 -- What is left where a body began, whose first continuation had its role: it is passed on, or memory lacked.
 pub record BeginsBody {P : Type 0} (step : BodyStep) (v : View) (t u : Option StageContinuation) (s : Relay P)
     (a b : Context) : Type 0 where
-  pub acts : ActsWithin 4 a b
+  pub acts : ActsWithin set_by_beginning a b
   pub joined : IsOfStageIf a.log.state.pending a.roles MAIN t
       → IsBodyJoined u s b.log.state.pending b.roles
   pub covered : WhileGoes step (IsBodyCovered v u s b.log.state.next)

@@ -27,7 +27,7 @@ use Rattle.ts_txn.specs.Facts.{Relays}
 use Rattle.ts_txn.specs.Holding.{IfTold}
 use Rattle.ts_txn.specs.Ends.{EndFact}
 use Rattle.ts_txn.specs.Duties.{relay_seats}
-use Rattle.ts_txn.specs.Relaying.{ReadsBody, SendsBody}
+use Rattle.ts_txn.specs.Relaying.{ReadsBody, SendsBody, set_by_part}
 use Rattle.ts_txn.specs.declared.finishing.BodyStep.{BodyStep}
 use Rattle.ts_txn.specs.declared.finishing.BodyStep.TheVariants as S
 use Rattle.ts_txn.specs.declared.parts.Core.{Core}
@@ -96,7 +96,7 @@ pub record BeginsChain {P : Type 0} (step : BodyStep) (most : ℕ) (d : DrivenCh
 
 -- And the reader has a role of its own: whatever was set is of one of these.
 pub record BeginsRelay {P : Type 0} (step : BodyStep) (r : Relay P) (a b : Context) : Type 0 where
-  pub chain : BeginsChain step 2 r.driven a b
+  pub chain : BeginsChain step set_by_part r.driven a b
   pub of_reader : IsOfStageIf b.log.state.pending b.roles READER r.reader
   pub seated : KeepsSeated [] (relay_seats r) a b
   pub ordered : EndsInOrder r.driven.chain.given r.driven.chain.stages

@@ -108,6 +108,14 @@ OnlyOfStages ts a b = (first : ℕ) → AreNamed a.roles first ts → SetsOnly (
 abbrev pub IsNotSpent : {P : Type 0} → BodyStep → DrivenChain P → Type 0
 IsNotSpent step e = step ≡ S.Lacks → e.lost ≡ Some L.Spent → ⊥
 
+-- how many events are set at most where a stage is roused, and where a part of a body comes to the chain,
+-- and its end
+abbrev pub set_by_stage : ℕ
+set_by_stage = 1
+
+abbrev pub set_by_part : ℕ
+set_by_part = 2
+
 -- What a step of a body leaves of its chain and of what is pending: each duty of a stage has its event.
 pub record StepsChain {P : Type 0} (step : BodyStep) (most : ℕ) (d e : DrivenChain P)
     (old new : Context) : Type 0 where

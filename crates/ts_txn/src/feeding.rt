@@ -2,7 +2,7 @@
 ghost use Rattle.std.specs.Prelude.{◌≡◌, ◌≢◌, ◌++◌, [], true, false};
 ghost use Rattle.ts_txn.specs.View.{GoesIf, is_dialed, side_if, view_of};
 ghost use Rattle.ts_txn.specs.Feeding.{DrainsOrigin, EndsHere, FeedsTo, GetsPart, OnGoes};
-ghost use Rattle.ts_txn.specs.Relaying.{IsNotSpent, StepsChain};
+ghost use Rattle.ts_txn.specs.Relaying.{IsNotSpent, StepsChain, set_by_part, set_by_stage};
 ghost use Rattle.ts_txn.specs.Holding.{StepKeeps};
 ghost use Rattle.ts_wire.specs.declared.body.BodyState.TheVariants.{Bad};
 
@@ -27,7 +27,7 @@ fn give_bytes<P: Transform + Drop>(
     requires goes_on { driven.old.chain.given ≡ false }
     ensures gets { OnGoes result
         (driven.new.chain ≡ record driven.old.chain { first = driven.old.chain.first ++ part.now }) }
-    ensures chain { StepsChain result 1 driven.old driven.new cx.old cx.new }
+    ensures chain { StepsChain result set_by_stage driven.old driven.new cx.old cx.new }
     ensures spent { IsNotSpent result driven.new }
 {
     step_after(driven.give(part, cx))
@@ -38,7 +38,7 @@ pub fn close_input<P: Transform + Drop>(driven: &mut DrivenChain<P>, cx: &mut Cx
     requires turn { cx.old.log.state.held ≡ true }
     requires goes_on { driven.old.chain.given ≡ false }
     ensures gets { OnGoes result (driven.new.chain ≡ record driven.old.chain { given = true }) }
-    ensures chain { StepsChain result 1 driven.old driven.new cx.old cx.new }
+    ensures chain { StepsChain result set_by_stage driven.old driven.new cx.old cx.new }
     ensures spent { IsNotSpent result driven.new }
 {
     step_after(driven.give_end(cx))
@@ -50,7 +50,7 @@ fn give_last<P: Transform + Drop>(driven: &mut DrivenChain<P>, part: &[u8], cx: 
     requires goes_on { driven.old.chain.given ≡ false }
     ensures gets { OnGoes result (driven.new.chain
         ≡ record driven.old.chain { first = driven.old.chain.first ++ part.now; given = true }) }
-    ensures chain { StepsChain result 2 driven.old driven.new cx.old cx.new }
+    ensures chain { StepsChain result set_by_part driven.old driven.new cx.old cx.new }
 {
     let BodyStep::Goes = give_bytes(driven, part, cx) else {
         return BodyStep::Lacks;
@@ -69,7 +69,7 @@ fn give_part<P: Transform + Drop>(
     requires turn { cx.old.log.state.held ≡ true }
     requires goes_on { driven.old.chain.given ≡ false }
     ensures gets { OnGoes result (GetsPart state part.now driven.old.chain driven.new.chain) }
-    ensures chain { StepsChain result 2 driven.old driven.new cx.old cx.new }
+    ensures chain { StepsChain result set_by_part driven.old driven.new cx.old cx.new }
 {
     match state {
         BodyState::Unfinished => give_bytes(driven, part, cx),
@@ -88,7 +88,7 @@ fn feed_some<P: Transform + Drop>(
     requires goes_on { relay.old.driven.chain.given ≡ false }
     ensures feeds { FeedsTo result relay.old.body relay.new.body inbox.old inbox.new
         relay.old.driven.chain relay.new.driven.chain }
-    ensures chain { StepsChain result 2 relay.old.driven relay.new.driven cx.old cx.new }
+    ensures chain { StepsChain result set_by_part relay.old.driven relay.new.driven cx.old cx.new }
     ensures reader { relay.new.reader ≡ relay.old.reader }
 {
     let Some(block) = inbox.block() else {
@@ -117,7 +117,7 @@ fn feed_if<L: Link, P: Transform + Drop>(
     requires goes_on { relay.old.driven.chain.given ≡ false }
     ensures feeds { FeedsTo result relay.old.body relay.new.body (side_if L.look origin.old).inbox
         (side_if L.look origin.new).inbox relay.old.driven.chain relay.new.driven.chain }
-    ensures chain { StepsChain result 2 relay.old.driven relay.new.driven cx.old cx.new }
+    ensures chain { StepsChain result set_by_part relay.old.driven relay.new.driven cx.old cx.new }
     ensures reader { relay.new.reader ≡ relay.old.reader }
     ensures side { side_if L.look origin.new
         ≡ record (side_if L.look origin.old) { inbox = (side_if L.look origin.new).inbox } }
@@ -174,7 +174,7 @@ impl<C: Link, O: Upstream<C>> Core<C, O> {
             relay.old.driven.chain relay.new.driven.chain }
         ensures others { DrainsOrigin (view_of C.look O.look self.old) (view_of C.look O.look self.new) }
         ensures keeps { StepKeeps C.look O.look O.paired O.refuses self.old self.new }
-        ensures chain { StepsChain result 2 relay.old.driven relay.new.driven cx.old cx.new }
+        ensures chain { StepsChain result set_by_part relay.old.driven relay.new.driven cx.old cx.new }
         ensures reader { relay.new.reader ≡ relay.old.reader }
     {
         feed_if(&mut self.origin, relay, cx)

@@ -5,7 +5,7 @@ ghost use Rattle.ts_transform.specs.Flow.{OnlyFirstWorks};
 ghost use Rattle.ts_wire.specs.Place.{state_of};
 ghost use Rattle.ts_txn.specs.Feeding.{OnGoes};
 ghost use Rattle.ts_transform.specs.Driving.{SetsOnly};
-ghost use Rattle.ts_txn.specs.Relaying.{IsNotSpent, IsOfRoleFrom, RelayLeads, StepsChain};
+ghost use Rattle.ts_txn.specs.Relaying.{IsNotSpent, IsOfRoleFrom, RelayLeads, StepsChain, set_by_stage};
 ghost use Rattle.ts_txn.specs.Entering.{ActsAsLines, BeginsChain, BeginsRelay, EnterHolds, EntersAfter, GetsStart, HeadHolds, IsUnbegun, LacksAfter, QuietLinks};
 ghost use Rattle.ts_txn.specs.LoweringBody.{BeginsLower, LowersEntering};
 ghost use Rattle.ts_txn.specs.Holding.{StepKeeps};
@@ -32,7 +32,7 @@ fn start_chain<P: Transform + Drop>(driven: &mut DrivenChain<P>, cx: &mut Cx) ->
     requires fresh { driven.old.table.items ≡ [] }
     requires first { OnlyFirstWorks driven.old.chain }
     ensures chain { driven.new.chain ≡ driven.old.chain }
-    ensures begins { BeginsChain result 1 driven.new cx.old cx.new }
+    ensures begins { BeginsChain result set_by_stage driven.new cx.old cx.new }
     ensures due { SetsOnly (IsOfRoleFrom FIRST cx.new.roles) cx.old cx.new }
     ensures spent { IsNotSpent result driven.new }
 {
@@ -52,7 +52,7 @@ fn begin_input<P: Transform + Drop>(relay: &mut Relay<P>, cx: &mut Cx) -> BodySt
     requires goes_on { relay.old.driven.chain.given ≡ false }
     ensures gets { OnGoes result
         (GetsStart (state_of relay.old.body.phase) relay.old.driven.chain relay.new.driven.chain) }
-    ensures chain { StepsChain result 1 relay.old.driven relay.new.driven cx.old cx.new }
+    ensures chain { StepsChain result set_by_stage relay.old.driven relay.new.driven cx.old cx.new }
     ensures relay { relay.new ≡ record relay.old { driven = relay.new.driven } }
 {
     match relay.body.state() {

@@ -5,7 +5,7 @@ ghost use Rattle.ts_transform.specs.Flow.{MustRead};
 ghost use Rattle.ts_txn.specs.BodyLinks.{ReadsLinks};
 ghost use Rattle.ts_txn.specs.LoweringBody.{LowersBody};
 ghost use Rattle.ts_txn.specs.View.{view_of};
-ghost use Rattle.ts_txn.specs.Relaying.{RelayHolds, RelayLeads, StepsChain};
+ghost use Rattle.ts_txn.specs.Relaying.{RelayHolds, RelayLeads, StepsChain, set_by_part};
 ghost use Rattle.ts_txn.specs.Holding.{StepKeeps};
 
 use crate::feeding::{close_input, ends_here};
@@ -29,7 +29,7 @@ impl<C: Link, O: Upstream<C>> Core<C, O> {
         ensures leads { RelayLeads C.tells O.tells C.look O.look O.refuses P.rest self.old self.new
             relay.new result }
         ensures keeps { StepKeeps C.look O.look O.paired O.refuses self.old self.new }
-        ensures chain { StepsChain result 2 relay.old.driven relay.new.driven cx.old cx.new }
+        ensures chain { StepsChain result set_by_part relay.old.driven relay.new.driven cx.old cx.new }
         ensures lowers { LowersBody C.tells O.tells (MustRead relay.old.driven.chain)
             (arc_value self.old.setup) P.rest result (view_of C.look O.look self.old)
             (view_of C.look O.look self.new) relay.old relay.new cx.old cx.new }
@@ -49,7 +49,7 @@ impl<C: Link, O: Upstream<C>> Core<C, O> {
         ensures leads { RelayLeads C.tells O.tells C.look O.look O.refuses P.rest self.old self.new
             relay.new result }
         ensures keeps { StepKeeps C.look O.look O.paired O.refuses self.old self.new }
-        ensures chain { StepsChain result 2 relay.old.driven relay.new.driven cx.old cx.new }
+        ensures chain { StepsChain result set_by_part relay.old.driven relay.new.driven cx.old cx.new }
         ensures lowers { LowersBody C.tells O.tells (MustRead relay.old.driven.chain)
             (arc_value self.old.setup) P.rest result (view_of C.look O.look self.old)
             (view_of C.look O.look self.new) relay.old relay.new cx.old cx.new }
@@ -82,7 +82,7 @@ impl<C: Link, O: Upstream<C>> Core<C, O> {
         ensures leads { RelayLeads C.tells O.tells C.look O.look O.refuses P.rest self.old self.new
             relay.new result }
         ensures keeps { StepKeeps C.look O.look O.paired O.refuses self.old self.new }
-        ensures chain { StepsChain result 2 relay.old.driven relay.new.driven cx.old cx.new }
+        ensures chain { StepsChain result set_by_part relay.old.driven relay.new.driven cx.old cx.new }
         ensures reader { relay.new.reader ≡ relay.old.reader }
         ensures lowers { LowersBody C.tells O.tells (MustRead relay.old.driven.chain)
             (arc_value self.old.setup) P.rest result (view_of C.look O.look self.old)

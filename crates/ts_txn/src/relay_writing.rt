@@ -8,7 +8,7 @@ ghost use Rattle.ts_txn.specs.Duties.{MustSend};
 ghost use Rattle.ts_txn.specs.LoweringBody.{LowersBody};
 ghost use Rattle.ts_txn.specs.View.{view_of};
 ghost use Rattle.ts_txn.specs.BodyLinks.{WritesLinks};
-ghost use Rattle.ts_txn.specs.Relaying.{RelayHolds, RelayLeads, StepsChain};
+ghost use Rattle.ts_txn.specs.Relaying.{RelayHolds, RelayLeads, StepsChain, set_by_stage};
 ghost use Rattle.ts_txn.specs.Holding.{StepKeeps};
 
 use crate::finishing::BodyStep;
@@ -77,7 +77,7 @@ impl<C: Link, O: Upstream<C>> Core<C, O> {
         ensures keeps { StepKeeps C.look O.look O.paired O.refuses self.old self.new }
         ensures links { WritesLinks C.tells O.tells (view_of C.look O.look self.old)
             (view_of C.look O.look self.new) relay.old.driven.chain relay.new.driven.chain result }
-        ensures chain { StepsChain result 1 relay.old.driven relay.new.driven cx.old cx.new }
+        ensures chain { StepsChain result set_by_stage relay.old.driven relay.new.driven cx.old cx.new }
         ensures relay { relay.new ≡ record relay.old { driven = relay.new.driven } }
         ensures lowers { LowersBody C.tells O.tells
             (MustSend (view_of C.look O.look self.old) relay.old.driven.chain)
@@ -106,7 +106,7 @@ impl<C: Link, O: Upstream<C>> Core<C, O> {
         ensures keeps { StepKeeps C.look O.look O.paired O.refuses self.old self.new }
         ensures links { WritesLinks C.tells O.tells (view_of C.look O.look self.old)
             (view_of C.look O.look self.new) relay.old.driven.chain relay.new.driven.chain result }
-        ensures chain { StepsChain result 1 relay.old.driven relay.new.driven cx.old cx.new }
+        ensures chain { StepsChain result set_by_stage relay.old.driven relay.new.driven cx.old cx.new }
         ensures relay { relay.new ≡ record relay.old { driven = relay.new.driven } }
         ensures lowers { LowersBody C.tells O.tells
             (MustSend (view_of C.look O.look self.old) relay.old.driven.chain)
