@@ -2,3 +2,5 @@
 pub mod Driven
 pub mod Peers
 pub mod Recorded
+pub mod Sets
+pub mod Toys

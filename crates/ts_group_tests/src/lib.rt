@@ -9,3 +9,4 @@ pub mod recorded;
 pub mod steps;
 #[cfg(test)]
 mod tests;
+pub mod toy;

@@ -1,12 +1,13 @@
 //! A world that works by itself, asks another one of its own type, or is only asked.
 
-ghost use Rattle.std.specs.Prelude.{⊤, ◌≡◌, ◌+◌, ◌≤◌, true, refl, [], IfOk};
+ghost use Rattle.std.specs.Prelude.{⊤, ◌≡◌, ◌+◌, ◌≤◌, true, refl, None, [], IfOk};
 ghost use Rattle.std.proofs.Common.{sym, subst};
 ghost use Rattle.std.specs.Bool.{OnTrue};
 ghost use Rattle.ts_journal.specs.State.{IsLive};
 ghost use Rattle.ts_group.specs.Context.{IsFresh, own_key};
 ghost use Rattle.ts_group.specs.Entries.{Grows};
 ghost use Rattle.ts_group.specs.Answers.{IsAnswered, Hears};
+ghost use Rattle.ts_group_tests.specs.Sets.{SetsEvents};
 ghost use Rattle.ts_group_tests.specs.Peers.{PeerFits, PeerSound, PeerAsking, PeerMayAsk, PeerAnswers, PeerRight, PeerHeard, peer_left};
 
 use std::alloc::Global;
@@ -30,6 +31,8 @@ pub struct Peer {
     /// The reply that came last.
     pub last: u64,
     pub main: Option<ContKey>,
+    /// Whether it was started, and each event that it wanted was set.
+    pub whole: bool,
 }
 
 /// A group of a peer that has had no turn.
@@ -52,6 +55,7 @@ pub fn new_peer(
             todo,
             last: 0,
             main: None,
+            whole: false,
         },
         0,
     )
@@ -75,6 +79,23 @@ impl Slotted for Peer {
     ghost follows_itself = { λ t. tt };
 
     ghost follows_on = { λ t u v a b. tt };
+}
+
+// Sets the next event of a peer's continuation, so many milliseconds later, and answers whether it was set.
+#[tactic(auto, using(ts_group::proofs::Grows::grows))]
+fn set_next(main: Option<ContKey>, after: u64, cx: &mut Cx) -> bool
+    requires turn { cx.old.log.state.held ≡ true }
+    ensures grows { Grows cx.old cx.new }
+    ensures sets { SetsEvents result 1 cx.old.log.state cx.new.log.state }
+    ensures none { main ≡ None → cx.new.log.state.pending ≡ cx.old.log.state.pending }
+{
+    let Some(key) = main else {
+        return false;
+    };
+    if let Err(_) = cx.schedule(key, after) {
+        return false;
+    }
+    true
 }
 
 #[tactic(auto, using(ts_group::proofs::Grows::grows))]
@@ -114,7 +135,9 @@ impl World for Peer {
         }
         if let Ok(key) = cx.make(1) {
             self.main = Some(key);
-            let _action = cx.schedule(key, 0);
+            if let Ok(_action) = cx.schedule(key, 0) {
+                self.whole = true;
+            }
         }
     }
 
@@ -129,8 +152,8 @@ impl World for Peer {
             };
         }
         self.todo -= 1;
-        if let Some(key) = self.main {
-            let _action = cx.schedule(key, 1);
+        if !set_next(self.main, 1, cx) {
+            self.whole = false;
         }
         Want::Nothing
     }
@@ -149,16 +172,16 @@ impl World for Peer {
             Asked::Reply(reply) => {
                 self.last = reply;
                 self.todo -= 1;
-                if let Some(key) = self.main {
-                    let _action = cx.schedule(key, 0);
+                if !set_next(self.main, 0, cx) {
+                    self.whole = false;
                 }
             }
             Asked::Missed { .. } => {
-                if let Some(key) = self.main {
-                    let _action = cx.schedule(key, 10);
+                if !set_next(self.main, 10, cx) {
+                    self.whole = false;
                 }
             }
-            Asked::NoMemory(_) => {}
+            Asked::NoMemory(_) => self.whole = false,
         }
     }
 
@@ -166,9 +189,11 @@ impl World for Peer {
         u64::from(question) + 1
     }
 
-    ghost sound_taken = { λ w s turn seat roles h. record { plain = h.plain; one = h.one; none = h.none; own = h.own; few = h.few } };
+    ghost sound_taken = { λ w s turn seat roles h.
+        record { plain = h.plain; one = h.one; none = h.none; own = h.own; few = h.few; ends = h.ends } };
 
-    ghost sound_given = { λ w s turn roles h. record { plain = h.plain; one = h.one; none = h.none; own = h.own; few = h.few } };
+    ghost sound_given = { λ w s turn roles h.
+        record { plain = h.plain; one = h.one; none = h.none; own = h.own; few = h.few; ends = h.ends } };
 
     ghost left_taken = { λ w s turn seat. refl };
 

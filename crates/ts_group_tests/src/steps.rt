@@ -1,8 +1,8 @@
 //! A world that is generic over its part, and tells how much is left to do.
 
 ghost use Rattle.std.specs.Prelude.{⊤, ◌≡◌, ℕ, ◌+◌, ◌*◌, true, false, refl, Some, [], length, MatchBool};
-ghost use Rattle.ts_group.specs.Context.{AllPlain};
 ghost use Rattle.ts_group.specs.Entries.{Grows};
+ghost use Rattle.ts_group_tests.specs.Toys.{StepsFits, StepsSound};
 
 use ts_group::{Asked, Cx, Want, World};
 use ts_journal::{Event, Slotted};
@@ -38,17 +38,22 @@ impl Part for Countdown {
 }
 
 /// A world that does one step of its part at each event, and sets the next event while there was one to do.
+/// Its tag tells how many steps it has in all.
 #[derive(Drop)]
 pub struct Steps<P: Part> {
     pub part: P,
+    /// How many steps were done.
+    pub done: u32,
+    /// Whether it was started, and each event that it wanted was set.
+    pub whole: bool,
 }
 
 impl<P: Part> Slotted for Steps<P> {
-    type Tag = ();
+    type Tag = u32;
 
     type Trace = ();
 
-    ghost fits = { λ t w. ⊤ };
+    ghost fits = { StepsFits P.steps };
 
     ghost stamp = { λ w. 0 };
 
@@ -69,9 +74,9 @@ impl<P: Part> World for Steps<P> {
 
     type Reply = ();
 
-    ghost sound = { λ w s roles. AllPlain s.pending };
+    ghost sound = { λ w s roles. StepsSound P.steps w s };
 
-    ghost asking = { λ w s roles role group question. AllPlain s.pending };
+    ghost asking = { λ w s roles role group question. StepsSound P.steps w s };
 
     ghost right = { λ w group question reply. ⊤ };
 
@@ -81,7 +86,7 @@ impl<P: Part> World for Steps<P> {
 
     ghost only_asked = { λ t. false };
 
-    ghost is_first = { λ t. false };
+    ghost is_first = { λ t. true };
 
     ghost begun = { λ old new. ⊤ };
 
@@ -93,30 +98,37 @@ impl<P: Part> World for Steps<P> {
 
     fn start(&mut self, cx: &mut Cx) {
         if let Ok(key) = cx.make(1) {
-            let _action = cx.schedule(key, 0);
+            if let Ok(_action) = cx.schedule(key, 0) {
+                self.whole = true;
+            }
         }
     }
 
     fn handle(&mut self, _role: u32, _event: Event, cx: &mut Cx) -> Want<()> {
         let key = cx.key();
         if self.part.step() {
-            let _action = cx.schedule(key, 1);
+            self.done += 1;
+            if let Err(_) = cx.schedule(key, 1) {
+                self.whole = false;
+            }
         }
         Want::Nothing
     }
 
     fn told(&mut self, _role: u32, _asked: Asked<(), ()>, _cx: &mut Cx)
         requires turn { _cx.old.log.state.held ≡ true }
-        requires sound { AllPlain _cx.old.log.state.pending }
+        requires sound { StepsSound P.steps self.old _cx.old.log.state }
         ensures grows { Grows _cx.old _cx.new }
         ensures same { (_cx.new.log.state ≡ _cx.old.log.state) × (self.new ≡ self.old) }
     {}
 
     fn asked(&mut self, _question: (), _cx: &mut Cx) {}
 
-    ghost sound_taken = { λ w s turn seat roles h. h };
+    ghost sound_taken = { λ w s turn seat roles h.
+        record { plain = h.plain; few = h.few; most = h.most; ends = h.ends } };
 
-    ghost sound_given = { λ w s turn roles h. h };
+    ghost sound_given = { λ w s turn roles h.
+        record { plain = h.plain; few = h.few; most = h.most; ends = h.ends } };
 
     ghost left_taken = { λ w s turn seat. refl };
 

@@ -1,11 +1,12 @@
 //! Small worlds that are run: what their groups record, and how they end.
 
-use crate::burst::{Burst, CALLER};
+use crate::burst::Burst;
 use crate::drive::{Driven, ask_for, drive};
 use crate::heir::Heir;
 use crate::peer::{ASKED, new_peer};
 use crate::recorded::visit;
 use crate::steps::{Countdown, Steps};
+use crate::toy::Toy;
 use std::test::Fail;
 use ts_group::{Action, Cancel, Destroy, Group, Handling};
 use ts_journal::{ContKey, Counts, Entry, Event};
@@ -19,7 +20,7 @@ const FIRST: ContKey = ContKey {
 // An event that is cancelled is not pending, and the action of one that was handled is done.
 #[test]
 fn a_cancelled_event_is_not_handled(rt: HostRuntime) -> Result<(), Fail> {
-    let mut group = Group::make(rt.alloc(), Heir { key: None }, 0)?;
+    let mut group = Heir::group(rt.alloc(), 1)?;
     group.begin_turn(1, 0, 5)?;
     let key = group.cx().make(0)?;
     assert_eq!(rt; key, FIRST);
@@ -51,7 +52,14 @@ fn a_cancelled_event_is_not_handled(rt: HostRuntime) -> Result<(), Fail> {
 // The handler of a periodic event destroys its own continuation and makes another.
 #[test]
 fn a_periodic_event_goes_with_its_key(rt: HostRuntime) -> Result<(), Fail> {
-    let mut group = Group::make(rt.alloc(), Heir { key: None }, 0)?;
+    let world = Heir {
+        plain: false,
+        key: None,
+        heirs: 1,
+        done: 0,
+        whole: false,
+    };
+    let mut group = Group::make(rt.alloc(), world, 0)?;
     group.begin_turn(1, 0, 0)?;
     let key = group.cx().make(0)?;
     let action = group.cx().every(key, 10)?;
@@ -98,6 +106,14 @@ fn a_periodic_event_goes_with_its_key(rt: HostRuntime) -> Result<(), Fail> {
         Entry::Dropped { number: 2 },
         Entry::Destroyed { key: FIRST },
         Entry::Made { key: second },
+        Entry::Set {
+            number: 3,
+            key: second,
+            event: Event::Timeout,
+            due: 11,
+            series: 3,
+            period: 0,
+        },
         Entry::Gave { turn: 2 },
     ];
     assert_eq!(rt; journal.entries(), entries.as_slice());
@@ -107,16 +123,9 @@ fn a_periodic_event_goes_with_its_key(rt: HostRuntime) -> Result<(), Fail> {
 // A turn handles 64 events, the first and the direct calls of its handler, and leaves the rest pending.
 #[test]
 fn a_turn_handles_64_events(rt: HostRuntime) -> Result<(), Fail> {
-    let world = Burst {
-        target: None,
-        handled: 0,
-    };
-    let mut group = Group::make(rt.alloc(), world, 0)?;
+    let mut group = Burst::group(rt.alloc(), 1)?;
     group.begin_turn(1, 0, 0)?;
-    let caller = group.cx().make(CALLER)?;
-    let target = group.cx().make(2)?;
-    group.world_mut().target = Some(target);
-    let _action = group.cx().schedule(caller, 0)?;
+    group.start();
     assert_eq!(rt; group.next_news(), Some((1, 0)));
     assert_eq!(rt; group.next_news(), None);
     let handling = group.handle(1, 0)?;
@@ -142,8 +151,7 @@ fn a_turn_handles_64_events(rt: HostRuntime) -> Result<(), Fail> {
 // A world that does three steps is driven to its end.
 #[test]
 fn a_world_is_driven_to_its_end(rt: HostRuntime) -> Result<(), Fail> {
-    let part = Countdown { left: 3 };
-    let mut group = Group::make(rt.alloc(), Steps { part }, 0)?;
+    let mut group = Steps::<Countdown>::group(rt.alloc(), 3)?;
     group.begin_turn(1, 0, 0)?;
     group.start();
     group.give_turn();
@@ -192,13 +200,10 @@ fn a_group_asks_another(rt: HostRuntime) -> Result<(), Fail> {
 // The turns of a group that stands in a slot are recorded under the numbers that the slot gives, each with its seat.
 #[test]
 fn turns_at_a_slot_are_recorded(rt: HostRuntime) -> Result<(), Fail> {
-    let world = Steps {
-        part: Countdown { left: 3 },
-    };
     let mut groups = Vec::new(rt.alloc());
-    groups.push(Group::make(rt.alloc(), world, 0)?)?;
+    groups.push(Steps::<Countdown>::group(rt.alloc(), 3)?)?;
     let mut tags = Vec::new(rt.alloc());
-    tags.push(())?;
+    tags.push(3)?;
     let Ok((slots, mut seat)) = Slots::make(rt.alloc(), groups, tags) else {
         panic!(rt; "no memory")
     };

@@ -104,13 +104,9 @@ module _ {W Q R T U : Type 0} {d : Ghosts (Group W Q R T U) T (Group W Q R T U)}
   -- what was done with a token that was taken
   abbrev pub Uses : Token → ℕ → Desk (Group W Q R T U) T (Group W Q R T U) d
       → Desk (Group W Q R T U) T (Group W Q R T U) d → Did → Type 0
-  Uses token moment old new (did.Ran events) = Enters token moment old new (did.Ran events)
-  Uses token moment old new (did.PutBack group seen) = PutsBack token moment group seen old new
-  Uses token moment old new (did.AskMissed group seen) =
-      Enters token moment old new (did.AskMissed group seen)
-  Uses token moment old new did.Stale = Enters token moment old new did.Stale
-  Uses token moment old new (did.NotDue due) = Enters token moment old new (did.NotDue due)
   Uses token moment old new did.Idle = ⊥
+  Uses token moment old new (did.PutBack group seen) = PutsBack token moment group seen old new
+  Uses token moment old new answer = Enters token moment old new answer
 
   -- A token of one of the groups was taken and used.
   pub record TakesOne (moment : ℕ) (old new : Desk (Group W Q R T U) T (Group W Q R T U) d)
@@ -124,8 +120,4 @@ module _ {W Q R T U : Type 0} {d : Ghosts (Group W Q R T U) T (Group W Q R T U)}
   abbrev pub IsDid : ℕ → Desk (Group W Q R T U) T (Group W Q R T U) d
       → Desk (Group W Q R T U) T (Group W Q R T U) d → Did → Type 0
   IsDid moment old new did.Idle = StaysIdle (length tags) moment old new
-  IsDid moment old new (did.Ran events) = TakesOne moment old new (did.Ran events)
-  IsDid moment old new (did.PutBack group seen) = TakesOne moment old new (did.PutBack group seen)
-  IsDid moment old new (did.AskMissed group seen) = TakesOne moment old new (did.AskMissed group seen)
-  IsDid moment old new did.Stale = TakesOne moment old new did.Stale
-  IsDid moment old new (did.NotDue due) = TakesOne moment old new (did.NotDue due)
+  IsDid moment old new answer = TakesOne moment old new answer

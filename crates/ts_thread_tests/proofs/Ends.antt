@@ -51,7 +51,8 @@ pub record IsFilling (n : ℕ) (started : Bool) (gs : List (Group Peer ℕ ℕ B
   pub few : All (λ g. g.cx.log.state.turns ≤ 1) gs
   pub new : started ≡ false → All (λ g. g.cx.log.state.turns ≤ 0) gs
 
-all_more : (P : Group Peer ℕ ℕ Bool (Unit {0}) → Type 0) (gs : List (Group Peer ℕ ℕ Bool (Unit {0}))) (g : Group Peer ℕ ℕ Bool (Unit {0})) → All P gs → P g → All P (gs ++ g ∷ [])
+-- one more of which P holds
+pub all_more : {X : Type 0} (P : X → Type 0) (gs : List X) (g : X) → All P gs → P g → All P (gs ++ g ∷ [])
 all_more P gs g all one = All-append P gs (g ∷ []) all (All-cons P g [] one (All-nil P))
 
 pub filling_begins : (started : Bool) (gs : List (Group Peer ℕ ℕ Bool (Unit {0}))) → gs ≡ [] → IsFilling 0 started gs

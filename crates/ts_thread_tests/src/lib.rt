@@ -4,4 +4,5 @@
 pub mod row;
 #[cfg(test)]
 mod tests;
+pub mod toys;
 pub mod turns;

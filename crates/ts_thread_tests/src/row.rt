@@ -3,7 +3,9 @@
 ghost use Rattle.std.specs.Prelude.{◌≡◌, ◌<◌, ◌≤◌, true, false, All, IfOk, OnOk};
 ghost use Rattle.ts_thread.specs.declared.TheConstants.{MOST_THREADS};
 ghost use Rattle.ts_thread.specs.Goings.{IsIdle};
+ghost use Rattle.ts_group_tests.specs.Peers.{PeerCounted};
 ghost use Rattle.ts_thread_tests.specs.Peers.{IsPeer, AreRow, row_tags};
+ghost use Rattle.ts_thread_tests.specs.ToyRows.{HasEnded};
 
 use std::alloc::Global;
 use std::sync::Wait;
@@ -15,13 +17,15 @@ use ts_link::{Gate, NoMemory};
 use ts_thread::{ONLY_SEAT, finish, run_whole};
 
 /// How many turns each thread takes at most.
-const BUDGET: u64 = 1_000_000;
+pub(crate) const BUDGET: u64 = 1_000_000;
 
 /// What stands at the end.
 #[derive(Clone, Copy, Debug, PartialEq, Eq)]
 pub struct Tally {
     pub groups: usize,
     pub pending: u64,
+    /// How many of its peers are whole.
+    pub whole: u64,
     /// How many steps are left.
     pub todo: u64,
     /// How many questions the last group was asked.
@@ -96,7 +100,7 @@ pub fn run_row<G: Gate + Sync, R: Threads + Wait + Sync>(
 ) -> Result<Vec<Group<Peer>>, NoMemory>
     requires todo { todo ≤ MOST_TODO }
     requires threads { (0 < threads) × (threads ≤ MOST_THREADS) }
-    ensures { IfOk result (λ gs. All IsIdle gs.items) }
+    ensures { IfOk result (λ gs. All (HasEnded PeerCounted) gs.items) }
 {
     let groups = make_row(alloc, todo, false)?;
     let tags = make_tags(alloc)?;
@@ -120,12 +124,16 @@ pub fn tally_of(groups: &[Group<Peer>]) -> Tally {
     let mut tally = Tally {
         groups: groups.len(),
         pending: 0,
+        whole: 0,
         todo: 0,
         questions: 0,
     };
     for group in groups {
         let counts = group.journal().counts();
         tally.pending = tally.pending.wrapping_add(counts.pending);
+        if group.world().whole {
+            tally.whole = tally.whole.wrapping_add(1);
+        }
         tally.todo = tally.todo.wrapping_add(u64::from(group.world().todo));
         if group.world().only_asked {
             tally.questions = tally.questions.wrapping_add(counts.handled);

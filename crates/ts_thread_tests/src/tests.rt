@@ -1,17 +1,22 @@
 //! Rows of peers that are run and driven to their end, and single turns of a thread.
 
 use crate::row::{Tally, drive_row, first_seat, make_row, run_row, tally_of};
+use crate::toys::{ToyTally, run_tally};
 use crate::turns::{play, play_held, play_runs};
 use std::test::Fail;
+use ts_group_tests::burst::Burst;
+use ts_group_tests::heir::Heir;
+use ts_group_tests::steps::{Countdown, Steps};
 use ts_link::{MeetGate, OpenGate};
 use ts_queue::Token;
 use ts_thread::{Did, RunEnd};
 
-// What stands of a row whose peers had three steps each: nothing pending, nothing to do, and the last of them was asked
-// for each step of the four that ask.
+// What stands of a row whose peers had three steps each: nothing pending, each that works whole, nothing to do, and the last
+// of them was asked for each step of the four that ask.
 const DONE: Tally = Tally {
     groups: 9,
     pending: 0,
+    whole: 8,
     todo: 0,
     questions: 12,
 };
@@ -51,6 +56,80 @@ fn two_handlers_run_beside_each_other(rt: HostRuntime) -> Result<(), Fail> {
     let second = first_seat(other.journal().entries());
     assert!(rt; first.is_some() && second.is_some());
     assert!(rt; first != second);
+    Ok(())
+}
+
+// What stands of a row of toy worlds that had three things to do each: nothing pending, each world whole, and all done.
+const ENDED: ToyTally = ToyTally {
+    groups: 8,
+    pending: 0,
+    whole: 8,
+    done: 24,
+};
+
+// Worlds that count down, run by 1, 2, 8 and 64 threads.
+#[test]
+fn threads_run_countdowns_to_their_end(rt: HostRuntime) -> Result<(), Fail> {
+    assert_eq!(rt;
+        run_tally::<Steps<Countdown>, HostRuntime>(&rt, rt.alloc(), 3, 1)?,
+        ENDED
+    );
+    assert_eq!(rt;
+        run_tally::<Steps<Countdown>, HostRuntime>(&rt, rt.alloc(), 3, 2)?,
+        ENDED
+    );
+    assert_eq!(rt;
+        run_tally::<Steps<Countdown>, HostRuntime>(&rt, rt.alloc(), 3, 8)?,
+        ENDED
+    );
+    assert_eq!(rt;
+        run_tally::<Steps<Countdown>, HostRuntime>(&rt, rt.alloc(), 3, 64)?,
+        ENDED
+    );
+    Ok(())
+}
+
+// Worlds that ask for more direct calls than a turn handles.
+#[test]
+fn threads_run_bursts_to_their_end(rt: HostRuntime) -> Result<(), Fail> {
+    assert_eq!(rt;
+        run_tally::<Burst, HostRuntime>(&rt, rt.alloc(), 3, 1)?,
+        ENDED
+    );
+    assert_eq!(rt;
+        run_tally::<Burst, HostRuntime>(&rt, rt.alloc(), 3, 2)?,
+        ENDED
+    );
+    assert_eq!(rt;
+        run_tally::<Burst, HostRuntime>(&rt, rt.alloc(), 3, 8)?,
+        ENDED
+    );
+    assert_eq!(rt;
+        run_tally::<Burst, HostRuntime>(&rt, rt.alloc(), 3, 64)?,
+        ENDED
+    );
+    Ok(())
+}
+
+// Worlds whose continuations give their place to others.
+#[test]
+fn threads_run_heirs_to_their_end(rt: HostRuntime) -> Result<(), Fail> {
+    assert_eq!(rt;
+        run_tally::<Heir, HostRuntime>(&rt, rt.alloc(), 3, 1)?,
+        ENDED
+    );
+    assert_eq!(rt;
+        run_tally::<Heir, HostRuntime>(&rt, rt.alloc(), 3, 2)?,
+        ENDED
+    );
+    assert_eq!(rt;
+        run_tally::<Heir, HostRuntime>(&rt, rt.alloc(), 3, 8)?,
+        ENDED
+    );
+    assert_eq!(rt;
+        run_tally::<Heir, HostRuntime>(&rt, rt.alloc(), 3, 64)?,
+        ENDED
+    );
     Ok(())
 }
 

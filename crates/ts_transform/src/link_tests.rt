@@ -278,10 +278,9 @@ fn no_event_of_any_kind_ends_the_run_between_links(rt: HostRuntime) -> Result<()
         Event::Timeout,
     ];
     for event in events {
-        assert!(rt; runs_through(rt.alloc(), 1, event)?);
-        assert!(rt; runs_through(rt.alloc(), 2, event)?);
-        assert!(rt; runs_through(rt.alloc(), 3, event)?);
-        assert!(rt; runs_through(rt.alloc(), 4, event)?);
+        for place in 1..5 {
+            assert!(rt; runs_through(rt.alloc(), place, event)?);
+        }
     }
     Ok(())
 }
@@ -332,10 +331,10 @@ fn lost_at(alloc: Global, places: u32) -> Result<Option<Loss>, Fail> {
 
 #[test]
 fn a_chain_is_lost_that_finds_the_table_full(rt: HostRuntime) -> Result<(), Fail> {
-    for places in [0, 1, 2] {
-        assert!(rt; lost_at(rt.alloc(), places)? == Some(Loss::TableFull));
+    let full = Some(Loss::TableFull);
+    for (places, lost) in [(0, full), (1, full), (2, full), (3, None)] {
+        assert!(rt; lost_at(rt.alloc(), places)? == lost);
     }
-    assert!(rt; lost_at(rt.alloc(), 3)? == None);
     Ok(())
 }
 

@@ -1,7 +1,6 @@
 -- The steps of a body, and what they do with the two links: which counts rise, and which events are set when.
-use Rattle.std.proofs.Common.{◌≡◌, ℕ, zero, suc, ◌+◌, ◌-◌, ◌<◌, ◌≤◌, ◌⊎◌, inl, inr, List, [], ◌∷◌, ◌++◌, Bool, true, false, Option, Some, None, Result, Ok, Err, eqb, leb, length, length-append, append_assoc, drop, refl, sym, ap, subst, ◌∙◌, arith}
+use Rattle.std.proofs.Common.{◌≡◌, ℕ, zero, suc, ◌+◌, ◌<◌, ◌≤◌, ◌⊎◌, inl, inr, List, [], ◌∷◌, ◌++◌, Bool, true, false, Option, Some, None, Result, Ok, Err, length, length-append, append_assoc, drop, refl, sym, ap, subst, ◌∙◌, arith}
 use Rattle.std.proofs.lemmas.List.{append-nil, length-drop}
-use Rattle.std.proofs.lemmas.Bool.Decides.{eqb_tells, leb_tells}
 use Rattle.std.specs.Prelude.{⊤}
 use Rattle.ts_hooks.specs.declared.txn_end.TxnEnd.{TxnEnd}
 use Rattle.ts_hooks.specs.declared.txn_end.TxnEnd.TheVariants as E
@@ -16,7 +15,7 @@ use Rattle.ts_link.specs.Link.{Calls, Look, NoMore}
 use Rattle.ts_transform.specs.Acting.{IsStage}
 use Rattle.ts_transform.specs.Cover.{IsRousing, MaySet}
 use Rattle.ts_transform.specs.Driven.{Acts, IsDrivenWhile, IsOfNoStage}
-use Rattle.ts_transform.specs.Driving.{AreNamed, IsNamedIf, IsOfStageIf, IsRousingOf, Keeps, KeepsOthers, SetsOnly, changed, unroused, unroused_at, unroused_for, works_at}
+use Rattle.ts_transform.specs.Driving.{AreNamed, IsNamedIf, IsOfStageIf, IsRousingOf, Keeps, KeepsOthers, SetsOnly, unroused, unroused_at, works_at}
 use Rattle.ts_transform.specs.Flow.{ChainState, MustRead, PumpsOnce, StepsAt, Takes, TakesAway}
 use Rattle.ts_transform.specs.Stage.{Steps}
 use Rattle.ts_transform.specs.declared.pump.Pumped.{Pumped}
@@ -24,8 +23,8 @@ use Rattle.ts_transform.specs.declared.pump.Pumped.TheVariants as U
 use Rattle.ts_transform.specs.declared.pump.Stage.{Stage}
 use Rattle.ts_transform.specs.declared.continuation.StageContinuation.{StageContinuation}
 use Rattle.ts_transform.specs.declared.driven.DrivenChain.{DrivenChain}
-use Rattle.ts_transform.proofs.Setting.{named_same, of_stages_named, only_none, only_same, only_trans, only_weaker}
-use Rattle.ts_transform.proofs.Told.{same_unroused}
+use Rattle.ts_transform.proofs.Along.{named_handled, stage_at}
+use Rattle.ts_transform.proofs.Setting.{of_stages_named, only_none, only_same, only_trans, only_weaker}
 use Rattle.ts_vconn.specs.MoveAnswers.{Came, Went, pull_again, pull_failed, push_again, push_failed}
 use Rattle.ts_vconn.specs.declared.moves.Pulled.{Pulled}
 use Rattle.ts_vconn.specs.declared.moves.Pulled.TheVariants as L
@@ -498,29 +497,6 @@ links_read ct ot v w step result t r q s a c b links settled kept steps handled 
       (named_later a c MAIN t t steps.adds.keeps refl named.of_main)
       (named_later a c READER (unroused r.reader) q.reader steps.adds.keeps handled (named_unroused a.roles READER r.reader named.of_reader)) ends);
 }
-
--- a role is that of a stage, or it is not
-pub stage_at : {P : Type 0} (role : ℕ) (c : ChainState P) (ts : List (Option StageContinuation)) → ((at : ℕ) × (role ≡ FIRST + at) × IsStage c ts at) ⊎ ((at : ℕ) → role ≡ FIRST + at → IsStage c ts at → ⊥)
-stage_at {P} role c ts = by_role (leb_tells 3 role)
-  where
-    by_len : (at : ℕ) → role ≡ 3 + at → at + 1 ≤ length ts → ((eqb (length ts) (length c.stages) ≡ true) × (length ts ≡ length c.stages)) ⊎ ((eqb (length ts) (length c.stages) ≡ false) × (length ts ≡ length c.stages → ⊥))
-        → ((at : ℕ) × (role ≡ FIRST + at) × IsStage c ts at) ⊎ ((at : ℕ) → role ≡ FIRST + at → IsStage c ts at → ⊥)
-    by_len at is below (inl (t, same)) = inl (at, is, record { within = omega (arith, below); len = same })
-    by_len at is below (inr (t, other)) = inr (λ j is_j stage. other stage.len)
-
-    by_place : (at : ℕ) → role ≡ 3 + at → ((leb (at + 1) (length ts) ≡ true) × (at + 1 ≤ length ts)) ⊎ ((leb (at + 1) (length ts) ≡ false) × (length ts < at + 1))
-        → ((at : ℕ) × (role ≡ FIRST + at) × IsStage c ts at) ⊎ ((at : ℕ) → role ≡ FIRST + at → IsStage c ts at → ⊥)
-    by_place at is (inl (t, below)) = by_len at is below (eqb_tells (length ts) (length c.stages))
-    by_place at is (inr (t, above)) = inr (λ j is_j stage. let k : role ≡ 3 + j = is_j in omega (arith, k, is, above, stage.within))
-
-    by_role : ((leb 3 role ≡ true) × (3 ≤ role)) ⊎ ((leb 3 role ≡ false) × (role < 3)) → ((at : ℕ) × (role ≡ FIRST + at) × IsStage c ts at) ⊎ ((at : ℕ) → role ≡ FIRST + at → IsStage c ts at → ⊥)
-    by_role (inl (t, behind)) = by_place (role - 3) (omega (arith, behind)) (leb_tells ((role - 3) + 1) (length ts))
-    by_role (inr (t, before)) = inr (λ j is_j stage. let k : role ≡ 3 + j = is_j in omega (arith, k, before))
-
--- continuations have their roles, whether an event of one was handled or not
-named_handled : (b : Bool) (roles : List Named) (role at : ℕ) (ts : List (Option StageContinuation)) → AreNamed roles role ts → AreNamed roles role (unroused_for b ts at)
-named_handled true roles role at ts named = named_same roles role ts (changed unroused ts at) (same_unroused ts (changed unroused ts at) at refl) named
-named_handled false roles role at ts named = named
 
 -- whatever a stage sets is of one
 of_stage : {P : Type 0} (pause : P → ℕ) (first : ℕ) (old new : ChainState P) (ts : List (Option StageContinuation)) (at : ℕ) (event : Event) (moment : ℕ) (roles : List Named) (p : Pending)

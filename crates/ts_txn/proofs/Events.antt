@@ -264,19 +264,19 @@ module _ {C O Q : Type 0} (ct ot : Bool) (client : C → Look) (origin : O → L
   }
   due_before main u is next (K.Finishing end) a b due = due
 
-  pub handles_phased : (s t : Core C O) (a b : Context) (main u : Option StageContinuation) → u ≡ unroused main → (course : Course Q) (p : Phase) → course ≡ K.Phased p → (new : Course Q)
-      → HandlesEvent ct ot client origin paired refuses left s t a b u (K.Phased p) new → HandlesEvent ct ot client origin paired refuses left s t a b main course new
-  handles_phased s t a b main u quiet course p is new h =
-      subst (λ x. HandlesEvent ct ot client origin paired refuses left s t a b main x new) (sym is) (record {
+  pub handles_phased : (s t : Core C O) (a b : Context) (role : ℕ) (main u : Option StageContinuation) → u ≡ unroused main → (course : Course Q) (p : Phase) → course ≡ K.Phased p → (new : Course Q)
+      → HandlesEvent ct ot client origin paired refuses left s t a b MAIN u (K.Phased p) new → HandlesEvent ct ot client origin paired refuses left s t a b role main course new
+  handles_phased s t a b role main u quiet course p is new h =
+      subst (λ x. HandlesEvent ct ot client origin paired refuses left s t a b role main x new) (sym is) (record {
         keeps = h.keeps;
         handles = record { next = h.handles.next; takes = h.handles.takes; due = due_before main u quiet h.handles.next new a b h.handles.due };
       })
 
   -- where an event leads, without the moments of those that are set
-  takes_on : (s t : Core C O) (a b : Context) (main : Option StageContinuation) (old new : Course Q) → HandlesOn ct ot client origin paired refuses left s t a b main old new
+  takes_on : (s t : Core C O) (a b : Context) (role : ℕ) (main : Option StageContinuation) (old new : Course Q) → HandlesOn ct ot client origin paired refuses left s t a b role main old new
       → TakesOn ct ot client origin paired refuses left s t old new
-  takes_on s t a b main (K.Phased p) new h = (h.next, h.takes)
-  takes_on s t a b main (K.Relaying r) new h = record {
+  takes_on s t a b role main (K.Phased p) new h = (h.next, h.takes)
+  takes_on s t a b role main (K.Relaying r) new h = record {
     step = h.step;
     after = h.after;
     led = h.led;
@@ -284,8 +284,8 @@ module _ {C O Q : Type 0} (ct ot : Bool) (client : C → Look) (origin : O → L
     origin_late = h.links.origin_late;
     minds = h.links.minds;
   }
-  takes_on s t a b main (K.Finishing end) new h = (h.step, h.takes)
+  takes_on s t a b role main (K.Finishing end) new h = (h.step, h.takes)
 
-  pub takes_event : (s t : Core C O) (a b : Context) (main : Option StageContinuation) (old new : Course Q) → HandlesEvent ct ot client origin paired refuses left s t a b main old new
+  pub takes_event : (s t : Core C O) (a b : Context) (role : ℕ) (main : Option StageContinuation) (old new : Course Q) → HandlesEvent ct ot client origin paired refuses left s t a b role main old new
       → TakesEvent ct ot client origin paired refuses left s t old new
-  takes_event s t a b main old new h = record { keeps = h.keeps; takes = takes_on s t a b main old new h.handles }
+  takes_event s t a b role main old new h = record { keeps = h.keeps; takes = takes_on s t a b role main old new h.handles }

@@ -1,6 +1,10 @@
 -- A transaction is sound again when it was started, and when an event was handled.
-use Rattle.std.proofs.Common.{◌≡◌, ◌≤◌, ◌⊎◌, inl, inr, ℕ, List, [], Bool, true, false, Option, None, arith, sym, subst}
+use Rattle.std.proofs.Common.{◌≡◌, ◌+◌, ◌<◌, ◌≤◌, length, ap, ◌⊎◌, inl, inr, ℕ, List, [], Bool, true, false, Option, None, arith, sym, subst}
 use Rattle.std.specs.Arc.{arc_value}
+use Rattle.ts_hooks.specs.declared.txn_end.TxnEnd.{TxnEnd}
+use Rattle.ts_transform.specs.Flow.{ChainState}
+use Rattle.ts_transform.specs.Stage.{MOST_WAITING}
+use Rattle.ts_vconn.specs.declared.moves.TheConstants.{MOST_PULLED}
 use Rattle.ts_config.specs.declared.setup.TransformLine.{TransformLine}
 use Rattle.ts_journal.specs.declared.entry.Event.{Event}
 use Rattle.ts_journal.specs.declared.entry.TheConstants.{GREATEST}
@@ -10,14 +14,16 @@ use Rattle.ts_group.specs.Context.{Context}
 use Rattle.ts_link.specs.Link.{Look}
 use Rattle.ts_transform.specs.Driving.{IsOfStageIf, unroused, works_at}
 use Rattle.ts_transform.specs.declared.continuation.StageContinuation.{StageContinuation}
-use Rattle.ts_txn.specs.Course.{CourseFact, CourseHolds}
+use Rattle.ts_txn.specs.BodyLinks.{HoldsLittle}
+use Rattle.ts_txn.specs.Course.{CourseFact, CourseHolds, course_after, finish_after}
 use Rattle.ts_txn.specs.LoweringCourse.{IsOfLinesOn}
-use Rattle.ts_txn.specs.CourseCover.{CoversAlone, HasEventsOn, IsAlone, IsCoveredNow, IsCoveredOn, ProceedsOn, StaysOnOrLacks, set_after, set_leaving}
+use Rattle.ts_txn.specs.CourseCover.{CoversAlone, HasEventsOn, IsAlone, IsCoveredNow, IsCoveredOn, ProceedsOn, StaysOnOrLacks, set_after}
 use Rattle.ts_txn.specs.Cover.{is_fresh_on}
+use Rattle.ts_txn.specs.Duties.{UnlessLacking, WhileGoes}
 use Rattle.ts_txn.specs.Holding.{IfTold, StepKeeps}
 use Rattle.ts_txn.specs.Making.{end_of}
 use Rattle.ts_txn.specs.View.{OriginRefuses, View, view_of}
-use Rattle.ts_txn.specs.World.{HoldsOn, IsSoundNow, IsSoundOn, IsSoundTxn}
+use Rattle.ts_txn.specs.World.{HoldsLittleOn, HoldsOn, IsSoundNow, IsSoundOn, IsSoundTxn}
 use Rattle.ts_txn.specs.declared.course.Course.{Course}
 use Rattle.ts_txn.specs.declared.course.Course.TheVariants as K
 use Rattle.ts_txn.specs.declared.driver.TheConstants.{MAIN}
@@ -27,6 +33,7 @@ use Rattle.ts_txn.specs.declared.parts.Core.{Core}
 use Rattle.ts_txn.specs.declared.phase.Next.{Next}
 use Rattle.ts_txn.specs.declared.phase.Next.TheVariants as N
 use Rattle.ts_txn.specs.declared.phase.Phase.TheVariants as P
+use Rattle.ts_txn.specs.declared.relay.Relay.{Relay}
 use Rattle.ts_txn.specs.declared.txn.Txn.{Txn}
 use Rattle.ts_txn.proofs.CourseCalls.{PassesNoBody, alone_called, at_rest_on, later_covered, on_other, on_quiet, proceeds_phase}
 use Rattle.ts_txn.proofs.Coursing.{course_settled, stays_on}
@@ -50,18 +57,45 @@ fresh_alone {Q} v main course now fresh covered =
     by_event (inl has) = inl has.0
     by_event (inr spent) = inr spent
 
--- at most one event is set where a body is left, and behind the step of a phase
-pub leaving_one : (step : BodyStep) → set_leaving step ≤ 1
-leaving_one S.Goes = omega arith
-leaving_one S.Waits = omega arith
-leaving_one (S.Finishes end) = omega arith
-leaving_one (S.Closes end) = omega arith
-leaving_one S.Lacks = omega arith
-
+-- at most one event is set behind the step of a phase
 pub after_one : (next : Next) → set_after next ≤ 1
 after_one N.Go = omega arith
 after_one N.Wait = omega arith
 after_one N.Done = omega arith
+
+-- little is held where a body goes on
+pub little_stay : {Q : Type 0} (v : View) (led new : Course Q) → HoldsLittleOn v led → StaysOnOrLacks led new → HoldsLittleOn v new
+little_stay v led new little (inl same) = subst (λ x. HoldsLittleOn v x) (sym same) little
+little_stay v led new little (inr lacks) = subst (λ x. HoldsLittleOn v x) (sym lacks) tt
+
+pub little_after : {Q : Type 0} (v w : View) (step : BodyStep) (r s : Relay Q) → UnlessLacking step (HoldsLittle v r.driven.chain → HoldsLittle w s.driven.chain)
+    → HoldsLittle v r.driven.chain → HoldsLittleOn w (course_after s step)
+little_after v w S.Goes r s holds little = holds little
+little_after v w S.Waits r s holds little = holds little
+little_after v w (S.Finishes end) r s holds little = tt
+little_after v w (S.Closes end) r s holds little = tt
+little_after v w S.Lacks r s holds little = tt
+
+front_same : (first now most : ℕ) → now ≡ first → first < most → now < most
+front_same first now most same less = omega (arith, same, less)
+
+little_first : {P : Type 0} (v : View) (c d : ChainState P) → d.first ≡ c.first → HoldsLittle v c → HoldsLittle v d
+little_first v c d same little = record { held = little.held; front = front_same (length c.first) (length d.first) (MOST_WAITING + MOST_PULLED) (ap length same) little.front }
+
+pub little_begun : {Q : Type 0} (v : View) (step : BodyStep) (r s : Relay Q) → WhileGoes step (s.driven.chain.first ≡ r.driven.chain.first)
+    → HoldsLittle v r.driven.chain → HoldsLittleOn v (course_after s step)
+little_begun v S.Goes r s first little = little_first v r.driven.chain s.driven.chain first little
+little_begun v S.Waits r s first little = little_first v r.driven.chain s.driven.chain first little
+little_begun v (S.Finishes end) r s first little = tt
+little_begun v (S.Closes end) r s first little = tt
+little_begun v S.Lacks r s first little = tt
+
+pub little_last : (Q : Type 0) (v : View) (end : TxnEnd) (step : BodyStep) → HoldsLittleOn {Q = Q} v (finish_after end step)
+little_last Q v end S.Goes = tt
+little_last Q v end S.Waits = tt
+little_last Q v end (S.Finishes other) = tt
+little_last Q v end (S.Closes other) = tt
+little_last Q v end S.Lacks = tt
 
 module _ {C O Q : Type 0} (ct ot : Bool) (client : C → Look) (origin : O → Look) (paired : C → O → Type 0) (refuses : O → List ℕ → Type 0) (rest : Q → List ℕ → List ℕ)
     (whole : TransformLine → List ℕ → List ℕ) where
@@ -82,6 +116,7 @@ module _ {C O Q : Type 0} (ct ot : Bool) (client : C → Look) (origin : O → L
           pair = h.stands.pair;
           acts = h.stands.acts;
           lines = lines_stay (arc_value t.core.setup) rest (K.Phased P.TxnStart) u.course tt led;
+          little = λ told also. little_stay (view_of client origin t.core) (K.Phased P.TxnStart) u.course tt led;
         };
         covered = covers (fresh_alone (view_of client origin t.core) t.main t.course a fresh h.covered) (view_of client origin t.core);
       })
@@ -118,17 +153,18 @@ module _ {C O Q : Type 0} (ct ot : Bool) (client : C → Look) (origin : O → L
   -- it was led on
   pub sound_here : (s t : Core C O) (old new : Course Q) (u : Option StageContinuation) (b : Context) → HoldsOn ct ot client origin paired refuses rest whole s old
       → StepKeeps client origin paired refuses s t → CourseHolds ct ot client origin refuses rest t new → IsOfLinesOn (arc_value t.setup) rest new
-      → IsCoveredNow (view_of client origin t) u new b → IsSoundNow ct ot client origin paired refuses rest whole t u new b
-  sound_here s t old new u b stands keeps holds lines covered =
-      record { stands = record { holds = holds; pair = keeps.pair stands.pair; acts = stands.acts; lines = lines }; covered = covered }
+      → IfTold ct ot (HoldsLittleOn (view_of client origin t) new) → IsCoveredNow (view_of client origin t) u new b → IsSoundNow ct ot client origin paired refuses rest whole t u new b
+  sound_here s t old new u b stands keeps holds lines little covered =
+      record { stands = record { holds = holds; pair = keeps.pair stands.pair; acts = stands.acts; lines = lines; little = little }; covered = covered }
 
   -- by a step, whose facts speak of what the origin's link refused before it
   pub sound_led : (s t : Core C O) (old led new : Course Q) (u : Option StageContinuation) (b : Context) → HoldsOn ct ot client origin paired refuses rest whole s old
       → StepKeeps client origin paired refuses s t → IfTold ct ot (CourseFact (arc_value s.setup) (OriginRefuses client refuses s) rest (view_of client origin t) led)
-      → IsOfLinesOn (arc_value s.setup) rest led → StaysOnOrLacks led new → IsCoveredNow (view_of client origin t) u new b
+      → IsOfLinesOn (arc_value s.setup) rest led → IfTold ct ot (HoldsLittleOn (view_of client origin t) led) → StaysOnOrLacks led new → IsCoveredNow (view_of client origin t) u new b
       → IsSoundNow ct ot client origin paired refuses rest whole t u new b
-  sound_led s t old led new u b stands keeps fact lines stays covered =
+  sound_led s t old led new u b stands keeps fact lines little stays covered =
       sound_here s t old new u b stands keeps
       (λ told also. course_settled client origin paired refuses rest s t new keeps
       (stays_on (arc_value s.setup) (OriginRefuses client refuses s) rest (view_of client origin t) led new (fact told also) stays))
-      (subst (λ x. IsOfLinesOn (arc_value x) rest new) (sym keeps.setup) (lines_stay (arc_value s.setup) rest led new lines stays)) covered
+      (subst (λ x. IsOfLinesOn (arc_value x) rest new) (sym keeps.setup) (lines_stay (arc_value s.setup) rest led new lines stays))
+      (λ told also. little_stay (view_of client origin t) led new (little told also) stays) covered

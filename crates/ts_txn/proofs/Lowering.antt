@@ -75,6 +75,11 @@ pub none_rise : (n : Option ℕ) → Rose8 n n 0
 none_rise None = tt
 none_rise (Some y) = omega arith
 
+-- what stays is no more
+pub no_more_same : (m : Option ℕ) → NoMore m m
+no_more_same None = tt
+no_more_same (Some x) = omega arith
+
 -- where none is left, none rose
 pub none_left : (n : Option ℕ) (k : ℕ) → Rose8 n (Some 0) k
 none_left None k = tt

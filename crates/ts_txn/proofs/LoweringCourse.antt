@@ -41,6 +41,7 @@ use Rattle.ts_txn.specs.declared.phase.Step.{Step}
 use Rattle.ts_txn.specs.declared.relay.Relay.{Relay}
 use Rattle.ts_txn.proofs.CourseCalls.{spent_still}
 use Rattle.ts_txn.proofs.LoweringEvents.{handled_falls, paid_fewer, paid_none, paid_then, step_pays}
+use Rattle.ts_txn.proofs.LoweringPays.{set_one}
 use Rattle.ts_txn.proofs.LoweringRelay.{ended_if}
 
 -- ---- it can also end at once
@@ -72,13 +73,6 @@ fewer_then None n k fell kept = tt
 fewer_then (Some x) None k fell kept = absurd fell
 fewer_then (Some x) (Some y) None fell kept = absurd kept
 fewer_then (Some x) (Some y) (Some z) fell kept = omega (arith, fell, kept)
-
-set_one : (step : BodyStep) → set_leaving step ≤ 1
-set_one S.Goes = omega arith
-set_one S.Waits = omega arith
-set_one (S.Finishes end) = omega arith
-set_one (S.Closes end) = omega arith
-set_one S.Lacks = omega arith
 
 plus_none : (a b k : ℕ) → a ≤ b + k → a + 0 ≤ b + k
 plus_none a b k few = omega (arith, few)

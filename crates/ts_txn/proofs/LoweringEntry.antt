@@ -27,6 +27,8 @@ use Rattle.ts_txn.specs.View.{LinkSide, View}
 use Rattle.ts_txn.specs.RelayMoves.{QueuesHead}
 use Rattle.ts_txn.specs.Inserted.{AllAddNoMore, AreOfLines, IsOfParts}
 use Rattle.ts_txn.specs.Lowering.{agains_left, chain_room, end_room, head_room, if_told, lines_length, own_room, passes, phase_work, pump_weight, to_hear, work_left}
+use Rattle.ts_wire.specs.Limits.{head_limit}
+use Rattle.ts_txn.specs.BodyLinks.{HoldsLittle}
 use Rattle.ts_txn.specs.Duties.{SettledAs}
 use Rattle.ts_txn.specs.Entering.{BeginsRelay, GetsStart}
 use Rattle.ts_txn.specs.Facts.{Relays}
@@ -39,7 +41,7 @@ use Rattle.ts_txn.specs.declared.finishing.BodyStep.TheVariants as S
 use Rattle.ts_txn.specs.declared.phase.Request.{Request}
 use Rattle.ts_txn.specs.declared.relay.Relay.{Relay}
 use Rattle.ts_txn.proofs.InsertedStages.{fresh_adds, fresh_work}
-use Rattle.ts_txn.proofs.Lowering.{none_fall, none_left, one_if, passes_less, told_fewer}
+use Rattle.ts_txn.proofs.Lowering.{no_more_same, none_fall, none_left, one_if, passes_less, told_fewer}
 use Rattle.ts_txn.proofs.LoweringRelay.{same_lines}
 use Rattle.ts_txn.proofs.LoweringResponse.{response_fits}
 
@@ -167,11 +169,19 @@ enters setup rest errors v w u q h mode c bytes behind reads queues room =
     (left_to_do rest c []) errors (to_hear setup v.origin) (to_hear setup w.origin) (to_end c.given) falls len
     (response_fits setup bytes behind q.head h reads) room (ap (to_hear setup) queues.origin) (end_within c.given))
 
+-- little is held where a body begins: no more than a head is long, and nothing in the chain
+entered_little : {B : Type 0} (v w : View) (c : ChainState B) → w.origin ≡ v.origin → c.first ≡ [] → length v.origin.inbox ≤ head_limit → HoldsLittle w c
+entered_little v w c same none held =
+    let kept : length w.origin.inbox ≡ length v.origin.inbox = ap (λ (s : LinkSide). length s.inbox) same in
+    let first : length c.first ≡ 0 = ap length none in
+    record { held = omega (arith, kept, held); front = omega (arith, first) }
+
 -- the head of the response is queued, and no stage has begun
 pub queues_lower : {B : Type 0} (ct ot : Bool) (setup : Setup) (refuses : Type 0) (rest : B → List ℕ → List ℕ) (v w : View) (q : Request) (h : ResponseHead) (text : List ℕ) (mode : Mode) (r : Relay B)
-    → IfTold ct ot (Relays setup refuses v q h) → HasRoom setup rest r.driven.chain → text ≡ relayed_head setup q.head h → QueuesHead text mode v w → LowersEntering ct ot setup rest q h v w r
-queues_lower ct ot setup refuses rest v w q h text mode r relays room is queues = record {
+    → IfTold ct ot (Relays setup refuses v q h) → r.driven.chain.first ≡ [] → HasRoom setup rest r.driven.chain → text ≡ relayed_head setup q.head h → QueuesHead text mode v w → LowersEntering ct ot setup rest q h v w r
+queues_lower ct ot setup refuses rest v w q h text mode r relays none room is queues = record {
   lines = room.lines;
+  little = λ told also. entered_little v w r.driven.chain queues.origin none (relays told also).held;
   falls = λ told also.
       let reads = (relays told also).reads in
       enters setup rest (length r.driven.chain.stages) v w (Some 0) q h mode r.driven.chain reads.from v.origin.inbox reads.reads
@@ -208,16 +218,13 @@ ended_no_more None m' f kept = tt
 ended_no_more (Some x) None f kept = absurd kept
 ended_no_more (Some x) (Some x') f kept = omega arith
 
-not_more : (m : Option ℕ) → NoMore m m
-not_more None = tt
-not_more (Some x) = omega arith
-
 module _ {B : Type 0} (setup : Setup) (rest : B → List ℕ → List ℕ) (v : View) where
   -- memory lacked
   lacks_begun : (r s : Relay B) → BeginsLower setup rest S.Lacks v r s
   lacks_begun r s = record {
     lines = tt;
-    falls = ended_no_more (unbegun_left setup rest v r) (agains_left v) (λ x. body_work setup rest (length r.driven.chain.stages) x v r.driven.chain) (not_more (unbegun_left setup rest v r));
+    first = tt;
+    falls = ended_no_more (unbegun_left setup rest v r) (agains_left v) (λ x. body_work setup rest (length r.driven.chain.stages) x v r.driven.chain) (no_more_same (unbegun_left setup rest v r));
   }
 
   started : (state : BodyState) (c d : ChainState B) → GetsStart state c d → (d.stages ≡ c.stages) × (left_to_do rest d [] ≡ left_to_do rest c []) × (to_end d.given ≤ to_end c.given)
@@ -233,11 +240,17 @@ module _ {B : Type 0} (setup : Setup) (rest : B → List ℕ → List ℕ) (v : 
       given_end m n none = omega (arith, none)
   started state.Bad c d gets = absurd gets
 
+  started_first : (state : BodyState) (c d : ChainState B) → GetsStart state c d → d.first ≡ c.first
+  started_first state.Unfinished c d gets = ap (λ (x : ChainState B). x.first) gets
+  started_first state.Ended c d gets = ap (λ (x : ChainState B). x.first) gets
+  started_first state.Bad c d gets = absurd gets
+
   pub begins_lower : (step : BodyStep) (state : BodyState) (r s : Relay B) (a b : Context) → OnGoes step (GetsStart state r.driven.chain s.driven.chain) → BeginsRelay step s a b → BeginsLower setup rest step v r s
   begins_lower S.Goes state r s a b gets begins =
       let is = started state r.driven.chain s.driven.chain gets in
       record {
         lines = same_lines setup rest r.driven.chain s.driven.chain is.0;
+        first = started_first state r.driven.chain s.driven.chain gets;
         falls = no_more_errors setup rest (length r.driven.chain.stages) (errors_left s.driven) v r.driven.chain s.driven.chain is.1
             (counted_within s.driven.running (errors_to_pass s.driven.table.items) (length r.driven.chain.stages) (λ runs.
             few_errors (errors_to_pass s.driven.table.items) (length s.driven.table.items) (length s.driven.chain.stages) (length r.driven.chain.stages) (errors_within s.driven.table.items)
@@ -253,7 +266,7 @@ module _ {B : Type 0} (setup : Setup) (rest : B → List ℕ → List ℕ) (v : 
 
   -- both ends are roused that must work
   pub begins_settled : (step result : BodyStep) (r m s : Relay B) → BeginsLower setup rest step v r m → OnGoes step ⊤ → SettledAs step result → s ≡ record m { reader = s.reader } → BeginsLower setup rest result v r s
-  begins_settled S.Goes S.Goes r m s lower on settled is = subst (λ (x : Relay B). BeginsLower setup rest S.Goes v r x) (sym is) (record { lines = lower.lines; falls = lower.falls })
+  begins_settled S.Goes S.Goes r m s lower on settled is = subst (λ (x : Relay B). BeginsLower setup rest S.Goes v r x) (sym is) (record { lines = lower.lines; first = lower.first; falls = lower.falls })
   begins_settled S.Goes S.Waits r m s lower on settled is = absurd settled
   begins_settled S.Goes (S.Finishes end) r m s lower on settled is = absurd settled
   begins_settled S.Goes (S.Closes end) r m s lower on settled is = absurd settled

@@ -1,6 +1,6 @@
 -- An event that is handled while a body is passed on: what was done pays for each event that was set.
 use Rattle.std.proofs.Common.{◌≡◌, ◌⊎◌, inl, inr, ℕ, ◌+◌, ◌*◌, ◌≤◌, List, [], length, Bool, true, false, Result, Ok, Err, arith, refl, sym, ap, subst, ◌∙◌}
-use Rattle.std.specs.Prelude.{Option, Some, None, ⊤, if◌then◌else◌}
+use Rattle.std.specs.Prelude.{Option, ⊤, if◌then◌else◌}
 use Rattle.ts_config.specs.declared.setup.Setup.{Setup}
 use Rattle.ts_journal.specs.declared.entry.TheConstants.{GREATEST}
 use Rattle.ts_journal.specs.declared.entry.Event.{Event}
@@ -9,7 +9,7 @@ use Rattle.ts_group.specs.declared.action.SetFault.TheVariants as F
 use Rattle.ts_group.specs.Answers.{Falls}
 use Rattle.ts_group.specs.Context.{Context}
 use Rattle.ts_group.proofs.Grows.{grows_trans}
-use Rattle.ts_link.specs.Link.{Fewer, NoMore}
+use Rattle.ts_link.specs.Link.{Fewer}
 use Rattle.ts_transform.specs.Acting.{IsStage, StillGives}
 use Rattle.ts_transform.specs.Driven.{Acts, IsOfNoStage, Loses}
 use Rattle.ts_transform.specs.declared.driven.DrivenChain.{DrivenChain}
@@ -28,18 +28,16 @@ use Rattle.ts_txn.specs.View.{View}
 use Rattle.ts_txn.specs.declared.finishing.BodyStep.{BodyStep}
 use Rattle.ts_txn.specs.declared.finishing.BodyStep.TheVariants as S
 use Rattle.ts_txn.specs.declared.relay.Relay.{Relay}
-use Rattle.ts_txn.proofs.BodyLinks.{stage_at}
+use Rattle.ts_transform.proofs.Along.{stage_at}
 use Rattle.ts_txn.proofs.LoweringBody.{to_ended}
 use Rattle.ts_txn.proofs.LoweringEvents.{paid_fewer, paid_none, paid_sum, spent_none}
-use Rattle.ts_txn.proofs.LoweringRelay.{ended_if, loses_runs}
+use Rattle.ts_txn.proofs.Lowering.{no_more_same}
+use Rattle.ts_txn.proofs.LoweringRelay.{ended_if, errors_fewer, loses_runs}
 use Rattle.ts_txn.proofs.LoweringStages.{StageDid, WorksOrStays, errors_fall, handled_lines, once_works, stage_did}
 use Rattle.ts_txn.proofs.LoweringSteps.{stays_calm}
 
-no_more_same : (m : Option ℕ) → NoMore m m
-no_more_same None = tt
-no_more_same (Some n) = omega arith
-
-set_one : (step : BodyStep) → set_leaving step ≤ 1
+-- at most one event is set where a body is left
+pub set_one : (step : BodyStep) → set_leaving step ≤ 1
 set_one S.Goes = omega arith
 set_one S.Waits = omega arith
 set_one (S.Finishes end) = omega arith
@@ -181,12 +179,6 @@ stage_ended p p1 p2 x out hear work given few after = omega (arith, few, after)
 stage_rests : (p p2 x out hear work work' given : ℕ) → work' ≤ work → p2 ≤ p
     → events_paid * (end_room + (x + out) + hear + pump_weight * work' + given) + p2 + 0 ≤ events_paid * (end_room + (x + out) + hear + pump_weight * work + given) + p
 stage_rests p p2 x out hear work work' given less none = omega (arith, less, none)
-
-errors_fewer : (b' b : Bool) (e' e : ℕ) → e' ≤ e → (b' ≡ true → b ≡ true) → (if b' then e' else 0) ≤ (if b then e else 0)
-errors_fewer true true e' e fewer runs = omega (arith, fewer)
-errors_fewer true false e' e fewer runs = absurd (let wrong : false ≡ true = runs refl in cc)
-errors_fewer false true e' e fewer runs = omega arith
-errors_fewer false false e' e fewer runs = omega arith
 
 module _ {P : Type 0} (ct ot : Bool) (setup : Setup) (rest : P → List ℕ → List ℕ) (step result : BodyStep) (v : View) (main u : Option StageContinuation)
     (r m s : Relay P) (a c b : Context) where

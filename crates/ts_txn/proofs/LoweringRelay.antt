@@ -1,5 +1,6 @@
 -- Where each step of an end of a body leads, what a transaction has left to do is less; or the end had nothing to do.
 use Rattle.std.proofs.Common.{◌≡◌, ◌≢◌, ◌⊎◌, inl, inr, ℕ, ◌+◌, ◌*◌, ◌<◌, ◌≤◌, List, [], ◌∷◌, ◌++◌, length, Bool, true, false, Result, Ok, Err, arith, refl, sym, ap, subst, ◌∙◌, length-append}
+use Rattle.std.proofs.lemmas.List.{append-nil}
 use Rattle.std.specs.Prelude.{Option, Some, None, ⊤, if◌then◌else◌}
 use Rattle.ts_config.specs.declared.setup.Setup.{Setup}
 use Rattle.ts_group.specs.declared.action.SetFault.{SetFault}
@@ -41,11 +42,15 @@ use Rattle.ts_txn.proofs.LoweringSteps.{Calm, client_calm, less_plus, origin_cal
 
 -- ---- what is left does not depend on who is roused
 
-fewer_if : (b' b : Bool) (e' e : ℕ) → e' ≡ e → (b' ≡ true → b ≡ true) → (if b' then e' else 0) ≤ (if b then e else 0)
-fewer_if true true e' e same runs = omega (arith, same)
-fewer_if true false e' e same runs = absurd (let wrong : false ≡ true = runs refl in cc)
-fewer_if false true e' e same runs = omega arith
-fewer_if false false e' e same runs = omega arith
+-- a chain that runs only if it ran has no more of them
+pub errors_fewer : (b' b : Bool) (e' e : ℕ) → e' ≤ e → (b' ≡ true → b ≡ true) → (if b' then e' else 0) ≤ (if b then e else 0)
+errors_fewer true true e' e fewer runs = omega (arith, fewer)
+errors_fewer true false e' e fewer runs = absurd (let wrong : false ≡ true = runs refl in cc)
+errors_fewer false true e' e fewer runs = omega arith
+errors_fewer false false e' e fewer runs = omega arith
+
+same_errors : (m n : ℕ) → m ≡ n → m ≤ n
+same_errors m n same = omega (arith, same)
 
 -- fewer errors are less to do
 pub fewer_errors : {P : Type 0} (setup : Setup) (rest : P → List ℕ → List ℕ) (n n' : ℕ) (m : Option ℕ) (w : View) (d : ChainState P) → n ≤ n' → Fewer m (body_left setup rest n' w d) → Fewer m (body_left setup rest n w d)
@@ -94,14 +99,10 @@ same_lines {P} setup rest c d same lines = record {
 queues_calm : (setup : Setup) (v w : View) → QueuesNothing v w → Calm setup false v w
 queues_calm setup v w queues = record {
   again = queues_same v w [] [] queues;
-  out = same_len setup v.client.outbox w.client.outbox (queues.adds.outbox ∙ nothing_behind v.client.outbox);
+  out = same_len setup v.client.outbox w.client.outbox (queues.adds.outbox ∙ append-nil v.client.outbox);
   hear = still_hear setup v.origin w.origin (same_len setup v.origin.inbox w.origin.inbox (ap (λ (s : LinkSide). s.inbox) queues.origin))
       (same_len setup v.origin.look.left w.origin.look.left (ap (λ (s : LinkSide). s.look.left) queues.origin));
 }
-  where
-    nothing_behind : (xs : List ℕ) → xs ++ [] ≡ xs
-    nothing_behind [] = refl
-    nothing_behind (x ∷ xs) = ap (λ (ys : List ℕ). x ∷ ys) (nothing_behind xs)
 
 drains_again : (v w : View) → DrainsOrigin v w → AgainsFall false (agains_left v) (agains_left w)
 drains_again v w drains = subst (λ (x : View). AgainsFall false (agains_left v) (agains_left x)) (sym drains) (none_fall (agains_left v))
@@ -197,7 +198,8 @@ module _ {P : Type 0} (ct ot : Bool) (must : Type 0) (setup : Setup) (rest : P �
 
     with_table : SameTable → (m : Option ℕ) → Fewer m (body_left setup rest (errors_left r.driven) w s.driven.chain) → Fewer m (relay_left setup rest w s)
     with_table same m fell = fewer_errors setup rest (errors_left s.driven) (errors_left r.driven) m w s.driven.chain
-        (fewer_if s.driven.running r.driven.running (errors_to_pass s.driven.table.items) (errors_to_pass r.driven.table.items) (errors_same r.driven.table.items s.driven.table.items same.0) same.1) fell
+        (errors_fewer s.driven.running r.driven.running (errors_to_pass s.driven.table.items) (errors_to_pass r.driven.table.items)
+        (same_errors (errors_to_pass s.driven.table.items) (errors_to_pass r.driven.table.items) (errors_same r.driven.table.items s.driven.table.items same.0)) same.1) fell
 
     pub frames_after : (answer : Result ⊤ SetFault) (piece : List ℕ) → IsPiece piece → FramesPiece piece v w → TakesAway rest (length piece) r.driven.chain s.driven.chain → SameTable → s.reader ≡ r.reader
         → LowersBody ct ot must setup rest (step_after answer) v w r s a b

@@ -72,6 +72,7 @@ module _ {C O Q : Type 0} (client : C → Look) (origin : O → Look) (c : C) (o
           pair = paired_if paired o t.core.origin of_origin pair;
           acts = acts;
           lines = tt;
+          little = λ told also. tt;
         };
         covered = record {
           seated = λ n p there. let wrong : ◌≡◌ {A = Option Pending} None (Some p) = there in absurd (cc);

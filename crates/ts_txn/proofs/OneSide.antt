@@ -1,10 +1,14 @@
 -- What a call on one side of a transaction leaves of the facts on it.
-use Rattle.std.proofs.Common.{◌≡◌, ◌≢◌, ℕ, ◌≤◌, List, [], ◌∷◌, ◌++◌, Bool, true, false, arith, refl, sym, subst, ◌∙◌}
+use Rattle.std.proofs.Common.{◌≡◌, ◌≢◌, ℕ, ◌+◌, ◌≤◌, List, [], ◌∷◌, ◌++◌, Bool, true, false, Result, Ok, Err, length, length-append, arith, refl, sym, ap, subst, ◌∙◌}
+use Rattle.std.specs.Prelude.{IfOk}
 use Rattle.ts_link.specs.Counts.{Counted, Rose}
-use Rattle.ts_link.specs.Link.{MayReplace}
+use Rattle.ts_link.specs.Link.{Look, MayReplace}
+use Rattle.ts_link.specs.declared.octets.NoMemory.{NoMemory}
 use Rattle.ts_vconn.specs.declared.moves.Pulled.{Pulled}
+use Rattle.ts_vconn.specs.declared.moves.Pulled.TheVariants as L
 use Rattle.ts_vconn.specs.declared.moves.Pushed.{Pushed}
-use Rattle.ts_vconn.specs.MoveAnswers.{pull_failed, push_failed}
+use Rattle.ts_vconn.specs.Moves.{PullsOn}
+use Rattle.ts_vconn.specs.MoveAnswers.{Came, pull_failed, push_failed}
 use Rattle.ts_txn.specs.View.{HasCount, HasFailed, LinkSide}
 use Rattle.ts_txn.specs.Moving.{SideReads, SideWrites}
 use Rattle.ts_txn.specs.Facts.{Quiet}
@@ -35,6 +39,21 @@ pub write_failed : (t : Bool) (s r : LinkSide) (p : Pushed) → push_failed p �
 write_failed t s r p is writes kept =
     let rose : Rose s.look.faults r.look.faults = subst (λ (b : Bool). Counted b s.look.faults r.look.faults) is writes.pushes.calls.faults in
     subst (λ (n : ℕ). Rose n r.look.faults) (sym writes.base) (failed s.base s.look.faults r.look.faults rose kept)
+
+-- no more waits than one read brings behind what waited
+came_few : (p : Pulled) (most : ℕ) (more : List ℕ) → Came p most more → length more ≤ most
+came_few (L.Some n) most more (len, some, few) = omega (arith, len, few)
+came_few L.End most more none = let no : length more ≡ 0 = ap length none in omega (arith, no)
+came_few L.Again most more none = let no : length more ≡ 0 = ap length none in omega (arith, no)
+came_few L.Failed most more none = let no : length more ≡ 0 = ap length none in omega (arith, no)
+
+pub few_pulled : (t : Bool) (c d : Look) (before after : List ℕ) (most : ℕ) (r : Result Pulled NoMemory) → IfOk r (λ p. PullsOn t c d before after p most)
+    → IfOk r (λ p. length after ≤ length before + most)
+few_pulled t c d before after most (Ok p) on =
+    let few : length on.more ≤ most = came_few p most on.more on.pulls.came in
+    let len : length after ≡ length before + length on.more = ap length on.grows ∙ length-append before on.more in
+    omega (arith, few, len)
+few_pulled t c d before after most (Err e) on = tt
 
 -- what may still be given stays, once something was
 pub stays : (given before after : List ℕ) → given ≢ [] → MayReplace given before after → after ≡ before

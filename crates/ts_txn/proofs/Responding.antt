@@ -1,5 +1,5 @@
 -- The phase in which the origin's response head is read: where each answer of the origin's link leads.
-use Rattle.std.proofs.Common.{◌≡◌, ℕ, ◌≤◌, ◌⊎◌, List, [], ◌∷◌, ◌++◌, Bool, true, false, refl, sym, ap, subst, ◌∙◌, inl, inr}
+use Rattle.std.proofs.Common.{◌≡◌, ℕ, ◌≤◌, ◌<◌, length, arith, ◌⊎◌, List, [], ◌∷◌, ◌++◌, Bool, true, false, refl, sym, ap, subst, ◌∙◌, inl, inr}
 use Rattle.std.proofs.lemmas.List.{append-nil}
 use Rattle.httparse.proofs.GrammarLemmas.{ReadsResponse-append}
 use Rattle.ts_config.specs.declared.setup.Setup.{Setup}
@@ -9,6 +9,7 @@ use Rattle.ts_vconn.specs.declared.moves.Pulled.{Pulled}
 use Rattle.ts_vconn.specs.declared.moves.Pulled.TheVariants as L
 use Rattle.ts_wire.specs.declared.heads.ResponseHead.{ResponseHead}
 use Rattle.ts_wire.specs.declared.framing.Framing.TheVariants as G
+use Rattle.ts_wire.specs.Limits.{head_limit}
 use Rattle.ts_wire.specs.Heads.{LacksResponse}
 use Rattle.ts_txn.specs.Heads.{AfterInterims, FinalHead, HasResponse, LacksFinal, PassesInterims, is_interim, is_refused_status}
 use Rattle.ts_txn.specs.Relayed.{asks_head, framing_of}
@@ -52,6 +53,9 @@ final_more bytes h rest more f = record {
   final = f.final;
 }
 
+less_held : (new old most : ℕ) → new < old → old ≤ most → new ≤ most
+less_held new old most less held = omega (arith, less, held)
+
 module _ (setup : Setup) (refuses : Type 0) where
   -- the origin keeps what it took, and what waits for it
   pub served_as : (c : List ℕ) (q : Request) (dialed : Bool) (o s : LinkSide) → s.base ≤ s.look.faults → s.look.taken ≡ o.look.taken → s.outbox ≡ o.outbox
@@ -81,10 +85,11 @@ module _ (setup : Setup) (refuses : Type 0) where
     from : List ℕ
     passed : PassesInterims v.origin.look.given from
     has : HasResponse from head v.origin.inbox
+    held : length v.origin.inbox ≤ head_limit
 
   module _ (t : Bool) (v w : View) (q : Request) (told : t ≡ true) (h : Awaits setup refuses v q) where
-    awaits_at : (s : LinkSide) (p : Pulled) → SideReads t v.origin s p → Awaits setup refuses (record v { origin = s }) q
-    awaits_at s p reads =
+    awaits_at : (s : LinkSide) (p : Pulled) → SideReads t v.origin s p → length s.inbox ≤ head_limit → Awaits setup refuses (record v { origin = s }) q
+    awaits_at s p reads few =
         let gives = reads.pulls.pulls.told told in
         record {
           waits = h.waits;
@@ -92,11 +97,12 @@ module _ (setup : Setup) (refuses : Type 0) where
           passed = subst (λ (g : List ℕ). PassesInterims g s.inbox) (sym gives.given)
               (subst (λ (i : List ℕ). PassesInterims (v.origin.look.given ++ reads.pulls.more) i) (sym reads.pulls.grows)
               (passes_more v.origin.look.given v.origin.inbox reads.pulls.more h.passed));
+          held = few;
         }
 
     -- the origin's head is read on
     pub awaits_on : (p : Pulled) → HearsResponse t v w (F.Read p) → Awaits setup refuses w q
-    awaits_on p hears = subst (λ (x : View). Awaits setup refuses x q) (sym hears.others) (awaits_at w.origin p hears.finds.1)
+    awaits_on p hears = subst (λ (x : View). Awaits setup refuses x q) (sym hears.others) (awaits_at w.origin p hears.finds.1 hears.finds.2)
 
     -- memory lacked
     pub awaits_still : HearsResponse t v w F.NoMemory → Awaits setup refuses w q
@@ -104,26 +110,27 @@ module _ (setup : Setup) (refuses : Type 0) where
 
     -- ---- a head
 
-    responds_at : (i : List ℕ) (head : ResponseHead) → HasResponse v.origin.inbox head i
+    responds_at : (i : List ℕ) (head : ResponseHead) → HasResponse v.origin.inbox head i → length i < length v.origin.inbox
         → Responds (record v { origin = record v.origin { inbox = i } }) q head
-    responds_at i head has = record {
+    responds_at i head has less = record {
       waits = h.waits;
       served = served_as (all_of v.client.look) q v.dialed v.origin (record v.origin { inbox = i }) h.served.count refl refl h.served;
       from = v.origin.inbox;
       passed = h.passed;
       has = has;
+      held = less_held (length i) (length v.origin.inbox) head_limit less h.held;
     }
 
     responds : (head : ResponseHead) → HearsResponse t v w (F.Head head) → Responds w q head
     responds head hears =
         subst (λ (x : View). Responds x q head) (sym (hears.others ∙ ap (λ (s : LinkSide). record v { origin = s }) hears.finds.2))
-        (responds_at w.origin.inbox head hears.finds.0)
+        (responds_at w.origin.inbox head hears.finds.0 hears.finds.1)
 
     -- an interim one
     pub interim : (head : ResponseHead) (is : Bool) → HearsResponse t v w (F.Head head) → is ≡ is_interim head.status → is ≡ true → Awaits setup refuses w q
     interim head is hears says so =
         let r = responds head hears in
-        record { waits = r.waits; served = r.served; passed = next_interim w.origin.look.given r.from w.origin.inbox head r.passed r.has (sym says ∙ so) }
+        record { waits = r.waits; served = r.served; passed = next_interim w.origin.look.given r.from w.origin.inbox head r.passed r.has (sym says ∙ so); held = r.held }
 
     final_head : (head : ResponseHead) → Responds w q head → is_interim head.status ≡ false → FinalHead w.origin.look.given head w.origin.inbox
     final_head head r not = record { from = r.from; passed = r.passed; reads = r.has; final = not }
@@ -133,7 +140,7 @@ module _ (setup : Setup) (refuses : Type 0) where
         → Relays setup refuses w q head
     relays head is hears says not good =
         let r = responds head hears in
-        record { waits = r.waits; served = r.served; reads = final_head head r (sym says ∙ not); good = good }
+        record { waits = r.waits; served = r.served; reads = final_head head r (sym says ∙ not); good = good; held = r.held }
 
     -- ---- the 502 answer
 

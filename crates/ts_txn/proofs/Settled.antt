@@ -1,22 +1,19 @@
 -- A step's facts, said of what the origin's link refuses after it: what it refused before, and nothing else.
-use Rattle.std.proofs.Common.{inl, inr, ℕ, List, Bool, true, false, Result, Ok, Err, sym, subst}
-use Rattle.std.specs.Arc.{arc_value}
+use Rattle.std.proofs.Common.{inl, inr, ℕ, List, Bool, true, false, Result, Ok, Err}
 use Rattle.ts_config.specs.declared.setup.Setup.{Setup}
 use Rattle.ts_hooks.specs.declared.txn_end.TxnEnd.{TxnEnd}
 use Rattle.ts_hooks.specs.declared.txn_end.TxnEnd.TheVariants as E
-use Rattle.ts_link.specs.Link.{Look}
 use Rattle.ts_wire.specs.Check.{check}
 use Rattle.ts_wire.specs.declared.heads.RequestHead.{RequestHead}
 use Rattle.ts_wire.specs.declared.heads.ResponseHead.{ResponseHead}
 use Rattle.ts_txn.specs.Block.{DenySays, DialSays, IsBlock, VerdictSays, asked, no_head, silent}
-use Rattle.ts_txn.specs.View.{OriginRefuses, LinkSide, View, refuses_if, view_of}
+use Rattle.ts_txn.specs.View.{LinkSide, View}
 use Rattle.ts_txn.specs.Facts.{Awaits, OwnCause, OwnReady, OwnSends, Relays, Served, decided, fault}
 use Rattle.ts_txn.specs.Ends.{AnyEnd, EndFact, EndsBy, FaultText, HasBlock, Relayed, SomeText}
 use Rattle.ts_txn.specs.Ends as ends
 use Rattle.ts_txn.specs.Finishing.{IsFinishing, QueuesBlock, QueuesFor}
-use Rattle.ts_txn.specs.Holding.{StepKeeps, PhaseFact}
+use Rattle.ts_txn.specs.Holding.{PhaseFact}
 use Rattle.ts_txn.specs.declared.block.Block.{Block}
-use Rattle.ts_txn.specs.declared.parts.Core.{Core}
 use Rattle.ts_txn.specs.declared.phase.OwnAnswer.{OwnAnswer}
 use Rattle.ts_txn.specs.declared.phase.Phase.{Phase}
 use Rattle.ts_txn.specs.declared.phase.Phase.TheVariants as P
@@ -53,10 +50,10 @@ module _ (setup : Setup) (R S : Type 0) (to : R → S) (from : S → R) where
   cause c dialed o a (fault q goes status to_head end failed lacks) = fault q goes status to_head end failed lacks
 
   awaits : (v : View) (q : Request) → Awaits setup R v q → Awaits setup S v q
-  awaits v q h = record { waits = h.waits; served = served _ q v.dialed v.origin h.served; passed = h.passed }
+  awaits v q h = record { waits = h.waits; served = served _ q v.dialed v.origin h.served; passed = h.passed; held = h.held }
 
   relays : (v : View) (q : Request) (r : ResponseHead) → Relays setup R v q r → Relays setup S v q r
-  relays v q r h = record { waits = h.waits; served = served _ q v.dialed v.origin h.served; reads = h.reads; good = h.good }
+  relays v q r h = record { waits = h.waits; served = served _ q v.dialed v.origin h.served; reads = h.reads; good = h.good; held = h.held }
 
   ready : (v : View) (a : OwnAnswer) → OwnReady setup R v a → OwnReady setup S v a
   ready v a h = record { waits = h.waits; cause = cause _ v.dialed v.origin a h.cause; took = h.took }

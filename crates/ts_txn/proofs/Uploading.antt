@@ -1,14 +1,14 @@
 -- The phase in which the origin's link moves an upload: where each answer leads.
-use Rattle.std.proofs.Common.{◌≡◌, ℕ, ◌≤◌, List, [], ◌++◌, Bool, true, arith, refl, sym, ap, subst, ◌∙◌, append_assoc, inl}
+use Rattle.std.proofs.Common.{◌≡◌, ℕ, ◌≤◌, List, [], ◌++◌, Bool, true, arith, refl, sym, ap, subst, ◌∙◌, append_assoc, inl, length}
 use Rattle.std.proofs.lemmas.List.{append-nil}
 use Rattle.ts_config.specs.declared.setup.Setup.{Setup}
 use Rattle.ts_hooks.specs.declared.txn_end.TxnEnd.TheVariants as E
-use Rattle.std.specs.Prelude.{Option, Some, None}
 use Rattle.ts_link.specs.Counts.{Rose}
 use Rattle.ts_link.specs.Link.{Look, all_of}
 use Rattle.ts_upstream.specs.declared.upstream.Uploaded.{Uploaded}
 use Rattle.ts_upstream.specs.declared.upstream.Uploaded.TheVariants as U
-use Rattle.ts_upstream.specs.Uploads.{UploadFalls, UploadKeeps, Uploads}
+use Rattle.ts_upstream.specs.Uploads.{UploadKeeps, Uploads}
+use Rattle.ts_wire.specs.Limits.{head_limit}
 use Rattle.ts_txn.specs.Relayed.{asks_head}
 use Rattle.ts_txn.specs.Block.{own_block, request_text}
 use Rattle.ts_txn.specs.View.{HasFailed, LinkSide, View}
@@ -26,6 +26,9 @@ use Rattle.ts_txn.proofs.Going.{faulty, gone_block, unanswered_any}
 
 within : (a b c : ℕ) → a ≤ b → b ≤ c → a ≤ c
 within a b c h k = omega (arith, h, k)
+
+none_held : (held : List ℕ) → held ≡ [] → length held ≤ head_limit
+none_held held none = let no : length held ≡ 0 = ap length none in omega (arith, no)
 
 -- what the origin took is the request and the upload, where nothing waits for it
 pub took_is : (setup : Setup) (q : Request) (o : LinkSide) (h : CarriesRequest setup q o) → o.outbox ≡ [] → o.look.taken ≡ request_text setup q.head q.target q.host ++ h.upload
@@ -77,6 +80,7 @@ module _ (setup : Setup) (ct ot : Bool) (refuses : List ℕ → Type 0) (v w : V
         waits = now.unanswered.waits;
         served = record { goes = now.unanswered.goes; accepts = m.moves.causes.refusal client; count = now.unanswered.count; carries = now.carries; no_waits = now.no_waits };
         passed = record { interims = []; after = now.unanswered.no_given ∙ sym now.unanswered.no_held };
+        held = none_held w.origin.inbox now.unanswered.no_held;
       }
 
   -- it is refused

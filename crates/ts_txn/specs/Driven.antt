@@ -11,6 +11,7 @@ use Rattle.ts_transform.specs.declared.continuation.StageContinuation.{StageCont
 use Rattle.ts_txn.specs.BodyLinks.{BeginsInTime, HandlesLinks, MindsBody, SendsRest}
 use Rattle.ts_txn.specs.Course.{course_after, finish_after}
 use Rattle.ts_txn.specs.CourseCover.{LedAfter, StaysOnOrLacks, pause_of, set_leaving}
+use Rattle.ts_txn.specs.Duties.{DoesOwnWork}
 use Rattle.ts_txn.specs.Entering.{QuietLinks}
 use Rattle.ts_txn.specs.Holding.{IfTold, StepKeeps}
 use Rattle.ts_txn.specs.Steps.{LeavesSides, MindsLinksIn, WaitsRightly}
@@ -114,12 +115,15 @@ module _ {C O Q : Type 0} (ctells otells : Bool) (client : C → Look) (origin :
       pub takes : TakesStep old next new
       pub due : DueTo main next new a b
 
-    -- while a body is passed on, and where it is left the event of the next step is due at once
-    pub record HandlesRelay (main : Option StageContinuation) (old : Relay Q) (new : Course Q) : Type 0 where
+    -- While a body is passed on, each end of it does its own work; and where it is left, the event of the next step is due
+    -- at once.
+    pub record HandlesRelay (role : ℕ) (main : Option StageContinuation) (old : Relay Q)
+        (new : Course Q) : Type 0 where
       pub step : BodyStep
       pub after : Relay Q
       pub led : LedAfter step (course_after after step) new
       pub behind : Context
+      pub own : DoesOwnWork role (view_of client origin s) (view_of client origin t)
       pub first : Grows a behind
       pub then : ActsWithin (set_leaving step) behind b
       pub links : HandlesLinks ctells otells (view_of client origin s) (view_of client origin t) main old after
@@ -131,11 +135,12 @@ module _ {C O Q : Type 0} (ctells otells : Bool) (client : C → Look) (origin :
       pub takes : WritesOr end step new
       pub due : SetsOnly (IsDueAfter (pause_of step) a.moment) a b
 
-    abbrev pub HandlesOn : Option StageContinuation → Course Q → Course Q → Type 0
-    HandlesOn main (K.Phased phase) new = HandlesStep main phase new
-    HandlesOn main (K.Relaying r) new = HandlesRelay main r new
-    HandlesOn main (K.Finishing end) new = HandlesWrite end new
+    -- so an event of a role leads it on
+    abbrev pub HandlesOn : ℕ → Option StageContinuation → Course Q → Course Q → Type 0
+    HandlesOn role main (K.Phased phase) new = HandlesStep main phase new
+    HandlesOn role main (K.Relaying r) new = HandlesRelay role main r new
+    HandlesOn role main (K.Finishing end) new = HandlesWrite end new
 
-    pub record HandlesEvent (main : Option StageContinuation) (old new : Course Q) : Type 0 where
+    pub record HandlesEvent (role : ℕ) (main : Option StageContinuation) (old new : Course Q) : Type 0 where
       pub keeps : StepKeeps client origin paired refuses s t
-      pub handles : HandlesOn main old new
+      pub handles : HandlesOn role main old new

@@ -2,12 +2,13 @@
 -- links that tell (Developer's Guide, "HTTP Hooks and Transactions"; RFC 9110, section 7.6, and RFC 9112,
 -- section 9.3). Each fact is said of the parts that it speaks of, so that it stays where another part
 -- changes. In all of them `c` is all that the client gives.
-use Rattle.std.specs.Prelude.{◌≡◌, ◌≢◌, ℕ, ◌++◌, List, [], length, Bool, true, false, Ok}
+use Rattle.std.specs.Prelude.{◌≡◌, ◌≢◌, ℕ, ◌≤◌, ◌++◌, List, [], length, Bool, true, false, Ok}
 use Rattle.ts_config.specs.declared.setup.Setup.{Setup}
 use Rattle.ts_hooks.specs.declared.txn_end.TxnEnd.TheVariants as E
 use Rattle.ts_link.specs.Link.{all_of}
 use Rattle.ts_wire.specs.declared.heads.ResponseHead.{ResponseHead}
 use Rattle.ts_wire.specs.declared.frames.Mode.TheVariants as M
+use Rattle.ts_wire.specs.Limits.{head_limit}
 use Rattle.ts_wire.specs.Check.{check, plugin_host}
 use Rattle.ts_txn.specs.Rules.{is_denied}
 use Rattle.ts_txn.specs.Own.{own_sent}
@@ -139,18 +140,20 @@ module _ (setup : Setup) where
       pub carries : CarriesRequest q origin
       pub no_waits : origin.outbox ≡ []
 
-    -- no final head was found behind some interim ones
+    -- no final head was found behind some interim ones, and no more waits than a head may be long
     pub record Awaits (v : View) (q : Request) : Type 0 where
       pub waits : ClientWaits v.client v.sent
       pub served : Served (all_of v.client.look) q v.dialed v.origin
       pub passed : PassesInterims v.origin.look.given v.origin.inbox
+      pub held : length v.origin.inbox ≤ head_limit
 
-    -- the final head is one that can be passed on
+    -- the final head is one that can be passed on, and behind it no more waits than that
     pub record Relays (v : View) (q : Request) (h : ResponseHead) : Type 0 where
       pub waits : ClientWaits v.client v.sent
       pub served : Served (all_of v.client.look) q v.dialed v.origin
       pub reads : FinalHead v.origin.look.given h v.origin.inbox
       pub good : IsGood q.head h
+      pub held : length v.origin.inbox ≤ head_limit
 
     -- THE PROXY ANSWERS BY ITSELF
 

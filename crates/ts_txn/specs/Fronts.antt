@@ -30,5 +30,6 @@ HasFrontResponse bytes R.TooLong = (more : List ℕ) → LacksResponse (bytes ++
 abbrev pub FindsRead : {H : Type 0} → Bool → LinkSide → LinkSide → Found H → Type 0
 FindsRead tells old new (F.Head head) = ⊥
 FindsRead tells old new F.Never = ⊥
-FindsRead tells old new (F.Read answer) = SideReads tells old new answer
+FindsRead tells old new (F.Read answer) =
+    SideReads tells old new answer × (length new.inbox ≤ head_limit)
 FindsRead tells old new F.NoMemory = new ≡ old

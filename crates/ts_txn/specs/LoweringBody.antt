@@ -10,6 +10,7 @@ use Rattle.ts_transform.specs.Flow.{ChainState, left_to_do}
 use Rattle.ts_transform.specs.Stage.{to_end}
 use Rattle.ts_transform.specs.declared.continuation.StageContinuation.{StageContinuation}
 use Rattle.ts_transform.specs.declared.driven.DrivenChain.{DrivenChain}
+use Rattle.ts_txn.specs.BodyLinks.{HoldsLittle}
 use Rattle.ts_txn.specs.CourseCover.{set_leaving}
 use Rattle.ts_txn.specs.Duties.{IsBodyCovered, WhileGoes}
 use Rattle.ts_txn.specs.Holding.{IfTold}
@@ -85,17 +86,20 @@ pub record HasRoom {P : Type 0} (setup : Setup) (rest : P → List ℕ → List 
   pub lines : IsOfLines setup rest c
   pub room : left_to_do rest c [] + length c.stages ≤ chain_room setup
 
--- The head of a response was queued whose body is passed on: what is left is less, where both links tell.
+-- The head of a response was queued whose body is passed on: where both links tell, little of the body is
+-- held, and what is left is less.
 pub record LowersEntering {P : Type 0} (ctells otells : Bool) (setup : Setup) (rest : P → List ℕ → List ℕ)
     (q : Request) (h : ResponseHead) (v w : View) (r : Relay P) : Type 0 where
   pub lines : IsOfLines setup rest r.driven.chain
+  pub little : IfTold ctells otells (HoldsLittle w r.driven.chain)
   pub falls : IfTold ctells otells
       (Fewer (work_left setup (Some 0) v (phase.ResponseTransform q h)) (unbegun_left setup rest w r))
 
--- Its continuations were made: what is left did not rise.
+-- Its continuations were made: the front of the chain is as it was, and what is left did not rise.
 pub record BeginsLower {P : Type 0} (setup : Setup) (rest : P → List ℕ → List ℕ) (step : BodyStep) (v : View)
     (r s : Relay P) : Type 0 where
   pub lines : WhileGoes step (StaysOfLines setup rest r s)
+  pub first : WhileGoes step (s.driven.chain.first ≡ r.driven.chain.first)
   pub falls : NoMore (unbegun_left setup rest v r) (left_after setup rest step v s)
 
 -- an end had nothing to do, and nothing changed

@@ -9,6 +9,7 @@ use Rattle.ts_upstream.specs.Uploads.{UploadCauses, UploadFalls, UploadKeeps, Up
 use Rattle.ts_wire.specs.declared.frames.Mode.TheVariants as M
 use Rattle.ts_wire.specs.declared.heads.RequestHead.{RequestHead}
 use Rattle.ts_wire.specs.declared.heads.ResponseHead.{ResponseHead}
+use Rattle.ts_wire.specs.Limits.{head_limit}
 use Rattle.ts_wire.specs.Heads.{LacksRequest, LacksResponse}
 use Rattle.ts_txn.specs.Heads.{HasRequest, HasResponse}
 use Rattle.ts_link.specs.Link.{Look}
@@ -66,7 +67,7 @@ QueuesOn look text old new =
     × (side_if look new ≡ record (side_if look old) { outbox = (side_if look old).outbox ++ text })
 
 -- What came of looking for a head at the front of what a link gave: a head is taken away from that; none can
--- come; or none is there yet, and one read was made.
+-- come; or none is there yet, and one read was made, to no more than the most that a head is long.
 abbrev pub SeeksRequest : Bool → LinkSide → LinkSide → Found RequestHead → Type 0
 SeeksRequest tells old new (F.Head head) =
     HasRequest old.inbox head new.inbox × (length new.inbox < length old.inbox)
@@ -74,7 +75,7 @@ SeeksRequest tells old new (F.Head head) =
 SeeksRequest tells old new F.Never =
     ((more : List ℕ) → LacksRequest (old.inbox ++ more)) × (new ≡ old)
 SeeksRequest tells old new (F.Read answer) =
-    LacksRequest old.inbox × SideReads tells old new answer
+    LacksRequest old.inbox × SideReads tells old new answer × (length new.inbox ≤ head_limit)
 SeeksRequest tells old new F.NoMemory = new ≡ old
 
 abbrev pub SeeksResponse : Bool → LinkSide → LinkSide → Found ResponseHead → Type 0
@@ -84,7 +85,7 @@ SeeksResponse tells old new (F.Head head) =
 SeeksResponse tells old new F.Never =
     ((more : List ℕ) → LacksResponse (old.inbox ++ more)) × (new ≡ old)
 SeeksResponse tells old new (F.Read answer) =
-    LacksResponse old.inbox × SideReads tells old new answer
+    LacksResponse old.inbox × SideReads tells old new answer × (length new.inbox ≤ head_limit)
 SeeksResponse tells old new F.NoMemory = new ≡ old
 
 -- the same of a transaction's two sides

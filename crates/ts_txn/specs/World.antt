@@ -1,5 +1,5 @@
 -- What holds of a transaction in its group between calls, and of which transaction a tag speaks.
-use Rattle.std.specs.Prelude.{◌≡◌, ℕ, List, Bool, true, false, Option}
+use Rattle.std.specs.Prelude.{◌≡◌, ℕ, List, Bool, true, false, Option, ⊤}
 use Rattle.std.specs.Arc.{arc_value}
 use Rattle.ts_config.specs.declared.setup.TransformLine.{TransformLine}
 use Rattle.ts_journal.specs.declared.entry.Pending.{Pending}
@@ -8,11 +8,13 @@ use Rattle.ts_group.specs.declared.action.Named.{Named}
 use Rattle.ts_group.specs.declared.group.Group.{Group}
 use Rattle.ts_link.specs.Link.{IsSure, Look}
 use Rattle.ts_transform.specs.declared.continuation.StageContinuation.{StageContinuation}
+use Rattle.ts_txn.specs.BodyLinks.{HoldsLittle}
 use Rattle.ts_txn.specs.Course.{CourseHolds}
 use Rattle.ts_txn.specs.CourseCover.{IsCoveredOn, StaysOnOrLacks}
 use Rattle.ts_txn.specs.Entering.{ActsAsLines}
+use Rattle.ts_txn.specs.Holding.{IfTold}
 use Rattle.ts_txn.specs.LoweringCourse.{IsOfLinesOn}
-use Rattle.ts_txn.specs.View.{IsPaired, is_dialed, side_if, view_of}
+use Rattle.ts_txn.specs.View.{IsPaired, View, is_dialed, side_if, view_of}
 use Rattle.ts_txn.specs.Cover.{is_fresh_on}
 use Rattle.ts_txn.specs.declared.course.Course.{Course}
 use Rattle.ts_txn.specs.declared.course.Course.TheVariants as K
@@ -25,16 +27,24 @@ use Rattle.ts_txn.specs.declared.txn.TxnTag.{TxnTag}
 abbrev pub most_set : ℕ
 most_set = 7
 
+-- while a body is passed on, little of it is held before it comes to the first stage
+abbrev pub HoldsLittleOn : {Q : Type 0} → View → Course Q → Type 0
+HoldsLittleOn v (K.Phased p) = ⊤
+HoldsLittleOn v (K.Relaying r) = HoldsLittle v r.driven.chain
+HoldsLittleOn v (K.Finishing end) = ⊤
+
 module _ {C O Q : Type 0} (ctells otells : Bool) (client : C → Look) (origin : O → Look)
     (paired : C → O → Type 0) (refuses : O → List ℕ → Type 0) (rest : Q → List ℕ → List ℕ)
     (whole : TransformLine → List ℕ → List ℕ) where
-  -- What its step may count on: it is where it is with right where its links tell, they belong together, the transforms do
-  -- what the lines say, and a body that is passed on goes through such.
+  -- What its step may count on: it is where it is with right where its links tell, they belong together, the
+  -- transforms do what the lines say, and a body that is passed on goes through such, with little of it held
+  -- before them.
   pub record HoldsOn (core : Core C O) (course : Course Q) : Type 0 where
     pub holds : CourseHolds ctells otells client origin refuses rest core course
     pub pair : IsPaired paired core
     pub acts : ActsAsLines whole
     pub lines : IsOfLinesOn (arc_value core.setup) rest course
+    pub little : IfTold ctells otells (HoldsLittleOn (view_of client origin core) course)
 
   -- so it stands, and each of its duties has an event
   pub record IsSoundOn (core : Core C O) (main : Option StageContinuation) (course : Course Q)

@@ -5,6 +5,7 @@ ghost use Rattle.ts_transform.specs.Driving.{ActsWithin};
 ghost use Rattle.ts_txn.specs.CourseCover.{IsAlone};
 ghost use Rattle.ts_txn.specs.Driven.{HandlesEvent};
 ghost use Rattle.ts_txn.specs.LoweringCourse.{PaysEvents};
+ghost use Rattle.ts_txn.specs.declared.driver.TheConstants.{MAIN};
 ghost use Rattle.ts_txn.specs.World.{HoldsOn, IsSoundNow, IsSoundOn, most_set};
 
 use crate::course_leaving::{leave, write_on};
@@ -50,7 +51,7 @@ pub fn relay_on<C: Link, O: Upstream<C>, P: Transform<Line = TransformLine> + Dr
         core.new main.new result cx.new }
     ensures within { ActsWithin most_set cx.old cx.new }
     ensures handles { HandlesEvent C.tells O.tells C.look O.look O.paired O.refuses O.upload_left
-        core.old core.new cx.old cx.new main.old (Course.Relaying relay) result }
+        core.old core.new cx.old cx.new role main.old (Course.Relaying relay) result }
     ensures pays { PaysEvents C.tells O.tells C.look O.look O.upload_left P.rest
         core.old core.new (Course.Relaying relay) result cx.old cx.new }
 {
@@ -74,7 +75,7 @@ pub fn finish_on<C: Link, O: Upstream<C>, P: Transform<Line = TransformLine> + D
         core.new main.new result cx.new }
     ensures within { ActsWithin most_set cx.old cx.new }
     ensures handles { HandlesEvent C.tells O.tells C.look O.look O.paired O.refuses O.upload_left
-        core.old core.new cx.old cx.new main.old (Course.Finishing end) result }
+        core.old core.new cx.old cx.new MAIN main.old (Course.Finishing end) result }
     ensures pays { PaysEvents C.tells O.tells C.look O.look O.upload_left P.rest
         core.old core.new (Course.Finishing end) result cx.old cx.new }
 {
@@ -82,8 +83,8 @@ pub fn finish_on<C: Link, O: Upstream<C>, P: Transform<Line = TransformLine> + D
     write_on(end, step, main, cx)
 }
 
-/// Queues the client's head of a response that is passed on, and begins its body; it answers where the transaction is
-/// then.
+/// Queues the client's head of a response that is passed on, and begins its body; it answers where the
+/// transaction is then.
 pub fn enter_on<C: Link, O: Upstream<C>, P: Transform<Line = TransformLine> + Drop>(
     core: &mut Core<C, O>,
     main: &mut Option<StageContinuation>,
@@ -99,7 +100,7 @@ pub fn enter_on<C: Link, O: Upstream<C>, P: Transform<Line = TransformLine> + Dr
         core.new main.new result cx.new }
     ensures within { ActsWithin most_set cx.old cx.new }
     ensures handles { HandlesEvent C.tells O.tells C.look O.look O.paired O.refuses O.upload_left
-        core.old core.new cx.old cx.new main.old (Course.Phased (Phase.ResponseTransform request head))
+        core.old core.new cx.old cx.new MAIN main.old (Course.Phased (Phase.ResponseTransform request head))
         result }
     ensures pays { PaysEvents C.tells O.tells C.look O.look O.upload_left P.rest
         core.old core.new (Course.Phased (Phase.ResponseTransform request head)) result cx.old cx.new }

@@ -34,7 +34,7 @@ fn step_phase<C: Link, O: Upstream<C>, P: Transform<Line = TransformLine> + Drop
         core.new main.new result cx.new }
     ensures within { ActsWithin most_set cx.old cx.new }
     ensures handles { HandlesEvent C.tells O.tells C.look O.look O.paired O.refuses O.upload_left
-        core.old core.new cx.old cx.new main.old (Course.Phased phase) result }
+        core.old core.new cx.old cx.new MAIN main.old (Course.Phased phase) result }
     ensures pays { PaysEvents C.tells O.tells C.look O.look O.upload_left P.rest
         core.old core.new (Course.Phased phase) result cx.old cx.new }
 {
@@ -57,7 +57,7 @@ fn phase_on<C: Link, O: Upstream<C>, P: Transform<Line = TransformLine> + Drop>(
         core.new main.new result cx.new }
     ensures within { ActsWithin most_set cx.old cx.new }
     ensures handles { HandlesEvent C.tells O.tells C.look O.look O.paired O.refuses O.upload_left
-        core.old core.new cx.old cx.new main.old (Course.Phased phase) result }
+        core.old core.new cx.old cx.new MAIN main.old (Course.Phased phase) result }
     ensures pays { PaysEvents C.tells O.tells C.look O.look O.upload_left P.rest
         core.old core.new (Course.Phased phase) result cx.old cx.new }
 {
@@ -67,8 +67,8 @@ fn phase_on<C: Link, O: Upstream<C>, P: Transform<Line = TransformLine> + Drop>(
     }
 }
 
-/// Handles an event of a role, and answers where the transaction is then: while a body is passed on each role does its
-/// part, and else the first continuation makes the next step.
+/// Handles an event of a role, and answers where the transaction is then: while a body is passed on each
+/// role does its part, and else the first continuation makes the next step.
 #[tactic(auto, using(ts_group::proofs::Keeps::falls_refl))]
 pub fn handle_on<C: Link, O: Upstream<C>, P: Transform<Line = TransformLine> + Drop>(
     core: &mut Core<C, O>,
@@ -87,7 +87,7 @@ pub fn handle_on<C: Link, O: Upstream<C>, P: Transform<Line = TransformLine> + D
         core.new main.new result cx.new }
     ensures within { ActsWithin most_set cx.old cx.new }
     ensures handles { HandlesEvent C.tells O.tells C.look O.look O.paired O.refuses O.upload_left
-        core.old core.new cx.old cx.new main.old course result }
+        core.old core.new cx.old cx.new role main.old course result }
     ensures pays { PaysEvents C.tells O.tells C.look O.look O.upload_left P.rest
         core.old core.new course result cx.old cx.new }
 {
@@ -141,7 +141,7 @@ pub fn drive_on<C: Link, O: Upstream<C>, P: Transform<Line = TransformLine> + Dr
         core.new main.new course.new cx.new }
     ensures within { ActsWithin most_set cx.old cx.new }
     ensures handles { HandlesEvent C.tells O.tells C.look O.look O.paired O.refuses O.upload_left
-        core.old core.new cx.old cx.new main.old course.old course.new }
+        core.old core.new cx.old cx.new role main.old course.old course.new }
     ensures pays { PaysEvents C.tells O.tells C.look O.look O.upload_left P.rest
         core.old core.new course.old course.new cx.old cx.new }
 {

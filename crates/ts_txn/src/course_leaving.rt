@@ -1,4 +1,4 @@
-//! Where a step leads a transaction on its course, once its next event is set: a body that is left is closed first.
+//! Where a step leads a transaction, once its next event is set: a body that is left is closed first.
 ghost use Rattle.std.specs.Prelude.{◌≡◌, ◌≤◌, ◌∷◌, [], true};
 ghost use Rattle.ts_journal.specs.declared.entry.TheConstants.{GREATEST};
 ghost use Rattle.ts_transform.specs.Driving.{ActsWithin, HasLiveIf, IsDueAfter, SetsOnly};
@@ -21,8 +21,8 @@ use ts_transform::{StageContinuation, Transform};
 /// How long it is until a step that is made at once, in milliseconds.
 pub const AT_ONCE: u64 = 0;
 
-// Sees that the next step has an event, and answers whether it may be made: where there is no memory for an event, the
-// continuation is destroyed.
+// Sees that the next step has an event, and answers whether it may be made: where there is no memory for an
+// event, the continuation is destroyed.
 #[tactic(auto, using(crate::proofs::CourseSeats::spent_next, ts_transform::proofs::Kept::acts_adds))]
 fn rouse_next(after: u64, main: &mut Option<StageContinuation>, cx: &mut Cx) -> bool
     requires turn { cx.old.log.state.held ≡ true }
@@ -30,7 +30,8 @@ fn rouse_next(after: u64, main: &mut Option<StageContinuation>, cx: &mut Cx) -> 
     ensures seated { KeepsSeated (main.old ∷ []) (main.new ∷ []) cx.old cx.new }
     ensures due { SetsOnly (IsDueAfter after cx.old.moment) cx.old cx.new }
     ensures rouses { HasRousedNext result main.old main.new cx.old cx.new }
-    ensures spent { GREATEST ≤ cx.old.log.state.next → HasLiveIf cx.old.log.state.live main.old → result ≡ true }
+    ensures spent { GREATEST ≤ cx.old.log.state.next → HasLiveIf cx.old.log.state.live main.old
+        → result ≡ true }
 {
     cx.known();
     let Err(fault) = rouse(main, after, cx) else {
@@ -52,7 +53,8 @@ fn lacking<P>() -> Course<P>
     })
 }
 
-/// Sets the event of the next step of a transaction that passes no body on; where there is no memory for one, it ends.
+/// Sets the event of the next step of a transaction that passes no body on; where there is no memory for
+/// one, it ends.
 pub fn go_to<P: Drop>(
     course: Course<P>,
     after: u64,

@@ -53,8 +53,8 @@ pub fn is_spent(fault: &SetFault) -> bool
     }
 }
 
-/// Makes the continuation of a transaction that was not started, and sets its first event; it answers where the
-/// transaction is then.
+/// Makes the continuation of a transaction that was not started, and sets its first event; it answers where
+/// the transaction is then.
 pub fn begin<P: Drop>(main: &mut Option<StageContinuation>, cx: &mut Cx) -> Course<P>
     requires turn { cx.old.log.state.held ≡ true }
     requires none { main.old ≡ None }

@@ -130,7 +130,8 @@ impl<C: Link + Drop, O: Upstream<C> + Drop, P: Transform<Line = TransformLine> +
     pub fn end(&self) -> Option<TxnEnd>
         ensures end { result ≡ end_of self.now.course }
         ensures rests { result ≡ None → is_fresh_on self.now.course ≡ false → (next : ℕ) (roles : List Named)
-            → IsSoundTxn C.tells O.tells C.look O.look O.paired O.refuses P.rest P.whole self.now [] next roles
+            → IsSoundTxn C.tells O.tells C.look O.look O.paired O.refuses P.rest P.whole
+            self.now [] next roles
             → GREATEST ≤ next }
         ensures law { (end : TxnEnd) → result ≡ Some end
             → (pending : List Pending) (next : ℕ) (roles : List Named)
@@ -138,7 +139,8 @@ impl<C: Link + Drop, O: Upstream<C> + Drop, P: Transform<Line = TransformLine> +
             self.now pending next roles
             → HasEndedSo C.tells O.tells C.look O.look O.refuses self.now end }
         ensures block { (next : ℕ) (roles : List Named)
-            → IsSoundTxn C.tells O.tells C.look O.look O.paired O.refuses P.rest P.whole self.now [] next roles
+            → IsSoundTxn C.tells O.tells C.look O.look O.paired O.refuses P.rest P.whole
+            self.now [] next roles
             → RestsWithBlock C.tells O.tells C.look O.look O.refuses self.now next }
     {
         end_of(&self.course)

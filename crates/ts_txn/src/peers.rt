@@ -1,5 +1,5 @@
 //! One read, one write and one upload on the sides of a transaction.
-ghost use Rattle.std.specs.Prelude.{◌≡◌, ◌≤◌, IfOk, OnOk, OnErr};
+ghost use Rattle.std.specs.Prelude.{◌≡◌, ◌≤◌, ◌+◌, length, IfOk, OnOk, OnErr};
 ghost use Rattle.ts_upstream.specs.Uploads.{SameRefusal, UploadFalls, both};
 ghost use Rattle.ts_vconn.specs.declared.moves.TheConstants.{MOST_PULLED};
 ghost use Rattle.ts_txn.specs.View.{GoesIf, PairIf, refuses_if, side, side_if, is_dialed, upload_told};
@@ -12,11 +12,13 @@ use ts_vconn::{Pulled, Pushed, pull_waiting, push_waiting};
 
 impl<L: Link> Peer<L> {
     /// Makes one read of the link, of at most so many bytes.
+    #[tactic(auto, using(crate::proofs::OneSide::few_pulled))]
     pub fn pull(&mut self, most: usize) -> Result<Pulled, NoMemory>
         requires { (1 ≤ most) × (most ≤ MOST_PULLED) }
         ensures moved { IfOk result
             (λ p. SideReads L.tells (side L.look self.old) (side L.look self.new) p) }
         ensures goes { L.goes self.old.link self.new.link }
+        ensures few { IfOk result (λ p. length self.new.inbox ≤ length self.old.inbox + most) }
         ensures err { OnErr result (self.new ≡ self.old) }
     {
         pull_waiting(&mut self.link, &mut self.inbox, most)

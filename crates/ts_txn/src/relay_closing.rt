@@ -1,4 +1,4 @@
-//! How a body that was passed on is left: its reader and the stages of its chain are destroyed, with their events.
+//! How a body is left that was passed on: its reader and its stages are destroyed, with their events.
 ghost use Rattle.std.specs.Prelude.{◌≡◌, ◌∷◌, [], true, None};
 ghost use Rattle.ts_transform.specs.Destroying.{Clears};
 ghost use Rattle.ts_txn.specs.Duties.{relay_seats};

@@ -24,8 +24,8 @@ use ts_link::{Link, Octets};
 use ts_transform::{StageContinuation, Transform};
 use ts_upstream::Upstream;
 
-/// One request and its answer between a client and an origin. Its continuation has the role 1; while a body is passed
-/// on, its reader has the role 2, and the stages that it goes through have those that follow.
+/// One request and its answer between a client and an origin. Its continuation has the role 1; while a body
+/// is passed on, its reader has the role 2, and the stages that it goes through have those that follow.
 #[derive(Drop)]
 pub struct Txn<C, O, P> {
     pub(crate) core: Core<C, O>,
@@ -141,7 +141,7 @@ impl<C: Link + Drop, O: Upstream<C> + Drop, P: Transform<Line = TransformLine> +
         ensures nothing { result ≡ Want.Nothing }
         ensures within { ActsWithin most_set cx.old cx.new }
         ensures handles { HandlesEvent C.tells O.tells C.look O.look O.paired O.refuses O.upload_left
-            self.old.core self.new.core cx.old cx.new self.old.main self.old.course self.new.course }
+            self.old.core self.new.core cx.old cx.new role self.old.main self.old.course self.new.course }
         ensures takes { TakesEvent C.tells O.tells C.look O.look O.paired O.refuses O.upload_left
             self.old.core self.new.core self.old.course self.new.course }
         ensures lowers { (c : IsCalled

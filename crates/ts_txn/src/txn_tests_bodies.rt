@@ -4,8 +4,8 @@ use std::alloc::Global;
 use std::test::Fail;
 use ts_hooks::TxnEnd;
 
-// Whether the client gets this text of an origin that gives its response at once, and of one that gives it byte by
-// byte.
+// Whether the client gets this text of an origin that gives its response at once, and of one that gives it
+// byte by byte.
 fn is_passed_on(alloc: Global, origin: &[u8], end: TxnEnd, text: &[u8]) -> Result<bool, Fail> {
     let at_once = is_answered(alloc, giving(GET), Some(giving(origin)), end, text, SENT)?;
     let one_by_one = is_answered(alloc, giving(GET), Some(dripping(origin)), end, text, SENT)?;

@@ -1,5 +1,5 @@
 -- The turn that the group records is this one, of this seat.
-use Rattle.std.proofs.Common.{◌≡◌, ℕ, ◌⊎◌, inl, inr, List, [], ◌∷◌, ◌++◌, refl, sym, ap, ◌∙◌, subst, ⊎_elim}
+use Rattle.std.proofs.Common.{◌≡◌, ℕ, inl, inr, [], ◌∷◌, sym, ap, ◌∙◌, subst, ⊎_elim}
 use Rattle.std.specs.List.{Contains}
 use Rattle.ts_journal.specs.declared.entry.Entry.TheVariants.{Took, Gave}
 use Rattle.ts_group.specs.Context.{IsSame}

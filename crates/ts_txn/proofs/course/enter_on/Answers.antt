@@ -17,8 +17,9 @@ use Rattle.ts_txn.proofs.CourseCalls.{stands_begun}
 use Rattle.ts_txn.proofs.CourseSeats.{ended_alone}
 use Rattle.ts_txn.proofs.Coursing.{after_led, course_settled, enters_settled, led_on, stays_on}
 use Rattle.ts_txn.proofs.Events.{begin_led, due_begin, takes_begin, takes_lost}
-use Rattle.ts_txn.proofs.Handling.{leaving_one, sound_here}
+use Rattle.ts_txn.proofs.Handling.{little_begun, little_stay, sound_here}
 use Rattle.ts_txn.proofs.LoweringCourse.{begun_led, lines_after, lines_stay, not_begun}
+use Rattle.ts_txn.proofs.LoweringPays.{set_one}
 use Rattle.ts_txn.proofs.course.enter_on.Goals as goal
 
 -- Memory lacked for the head.
@@ -29,7 +30,7 @@ returns-in_default-clause-sound g c =
     sound_here g.C.Link.tells g.O.Link.tells g.C.Link.look g.O.Link.look g.O.Upstream.paired g.O.Upstream.refuses g.P.Transform.rest g.P.Transform.whole core new
     (K.Phased (P.ResponseTransform c.args.request c.args.head)) (K.Phased (P.Ended E.NoMemory)) c.destroy_end.new.slot c.destroy_end.new.cx c.requires.stands c.queue_relay.ensures.keeps
     (λ told also. course_settled g.C.Link.look g.O.Link.look g.O.Upstream.paired g.O.Upstream.refuses g.P.Transform.rest core new (K.Phased (P.Ended E.NoMemory)) c.queue_relay.ensures.keeps
-    (c.in_default.ensures.err told also)) tt
+    (c.in_default.ensures.err told also)) tt (λ told also. tt)
     (ended_alone (P.Ended E.NoMemory) (K.Phased (P.Ended E.NoMemory)) c.args.main.now c.destroy_end.new.slot c.args.cx.now c.destroy_end.new.cx refl refl c.destroy_end.ensures.clears
     c.destroy_end.ensures.none c.requires.alone (view_of g.C.Link.look g.O.Link.look new))
 
@@ -70,13 +71,16 @@ returns-clause-sound g c =
     (lines_stay (arc_value new.setup) g.P.Transform.rest (course_after relay step) c.leave.result
     (lines_after (arc_value new.setup) g.P.Transform.rest step c.in-Ok.made relay c.begin_body-step.ensures.lowers.lines
     (subst (λ x. IsOfLines (arc_value x) g.P.Transform.rest c.in-Ok.made.driven.chain) (sym c.queue_relay.ensures.keeps.setup) c.in-Ok.ensures.lowers.lines)) (after_led step (course_after relay step) c.leave.result c.leave.ensures.course))
+    (λ told also. little_stay v (course_after relay step) c.leave.result
+    (little_begun v step c.in-Ok.made relay c.begin_body-step.ensures.lowers.first (c.in-Ok.ensures.lowers.little told also))
+    (after_led step (course_after relay step) c.leave.result c.leave.ensures.course))
     (c.leave.ensures.covered v
     (stands_begun step v c.args.main.now c.begin_body-step.new.main relay c.args.cx.now c.begin_body-step.new.cx c.known.ensures c.begin_body-step.ensures.begins c.requires.alone))
 
 pub returns-clause-within : goal.returns-clause-within
 returns-clause-within g c =
     let step = c.begin_body-step.result in
-    let few : set_leaving step ≤ 1 = leaving_one step in
+    let few : set_leaving step ≤ 1 = set_one step in
     acts_then 4 (set_leaving step) most_set (omega (arith, few)) c.begin_body-step.ensures.begins.acts c.leave.ensures.within
 
 pub returns-clause-handles : goal.returns-clause-handles

@@ -6,7 +6,7 @@ use Rattle.ts_txn.specs.View.{OriginRefuses, upload_told, view_of}
 use Rattle.ts_txn.specs.World.{most_set}
 use Rattle.ts_txn.specs.declared.course.Course.TheVariants as K
 use Rattle.ts_txn.proofs.Coursing.{led_last}
-use Rattle.ts_txn.proofs.Handling.{sound_led}
+use Rattle.ts_txn.proofs.Handling.{little_last, sound_led}
 use Rattle.ts_txn.proofs.LoweringCourse.{finish_led, lines_last}
 use Rattle.ts_txn.proofs.course.finish_on.Goals as goal
 
@@ -19,7 +19,8 @@ returns-clause-sound g c =
     (finish_after c.args.end c.send_rest-step.result) c.write_on.result c.write_on.new.main c.write_on.new.cx c.requires.stands c.send_rest-step.ensures.keeps
     (λ told also. led_last (arc_value core.setup) (OriginRefuses g.C.Link.look g.O.Upstream.refuses core) g.P.Transform.rest v c.args.end c.send_rest-step.result
     (c.send_rest-step.ensures.leads told also))
-    (lines_last (arc_value core.setup) g.P.Transform.rest c.args.end c.send_rest-step.result) c.write_on.ensures.course
+    (lines_last (arc_value core.setup) g.P.Transform.rest c.args.end c.send_rest-step.result)
+    (λ told also. little_last _ v c.args.end c.send_rest-step.result) c.write_on.ensures.course
     (c.write_on.ensures.covered c.requires.alone v)
 
 pub returns-clause-within : goal.returns-clause-within

@@ -9,8 +9,9 @@ use Rattle.ts_txn.specs.World.{most_set}
 use Rattle.ts_txn.specs.declared.course.Course.TheVariants as K
 use Rattle.ts_txn.proofs.CourseCalls.{stands_handled}
 use Rattle.ts_txn.proofs.Coursing.{after_led, led_on}
-use Rattle.ts_txn.proofs.Handling.{leaving_one, sound_led}
+use Rattle.ts_txn.proofs.Handling.{little_after, sound_led}
 use Rattle.ts_txn.proofs.LoweringCourse.{body_led, covered_called, lines_after}
+use Rattle.ts_txn.proofs.LoweringPays.{set_one}
 use Rattle.ts_txn.proofs.course.relay_on.Goals as goal
 
 pub returns-clause-sound : goal.returns-clause-sound
@@ -26,6 +27,7 @@ returns-clause-sound g c =
     (course_after relay step) c.leave.result c.leave.new.main c.leave.new.cx c.requires.called.sound.stands c.handle_body-step.ensures.keeps
     (λ told also. led_on (arc_value core.setup) (OriginRefuses g.C.Link.look g.O.Upstream.refuses core) g.P.Transform.rest w relay step (c.handle_body-step.ensures.leads told also))
     (lines_after (arc_value core.setup) g.P.Transform.rest step c.args.relay relay c.handle_body-step.ensures.pays.lines c.requires.called.sound.stands.lines)
+    (λ told also. little_after v w step c.args.relay relay c.handle_body-step.ensures.links.minds.holds (c.requires.called.sound.stands.little told also))
     (after_led step (course_after relay step) c.leave.result c.leave.ensures.course)
     (c.leave.ensures.covered w (stands_handled _ v c.args.main.now c.args.cx.now c.args.role c.args.event c.requires.called step w main c.args.relay relay c.handle_body-step.new.cx
     c.requires.called.sound.covered c.handle_body-step.ensures.handles))
@@ -33,7 +35,7 @@ returns-clause-sound g c =
 pub returns-clause-within : goal.returns-clause-within
 returns-clause-within g c =
     let step = c.handle_body-step.result in
-    let few : set_leaving step ≤ 1 = leaving_one step in
+    let few : set_leaving step ≤ 1 = set_one step in
     acts_then 6 (set_leaving step) most_set (omega (arith, few)) c.handle_body-step.ensures.handles.acts c.leave.ensures.within
 
 pub returns-clause-handles : goal.returns-clause-handles
@@ -44,6 +46,7 @@ returns-clause-handles g c = record {
     after = c.handle_body-step.new.relay;
     led = c.leave.ensures.course;
     behind = c.handle_body-step.new.cx;
+    own = c.handle_body-step.ensures.handles.own;
     first = c.handle_body-step.ensures.handles.acts.grows;
     then = c.leave.ensures.within;
     links = c.handle_body-step.ensures.links;

@@ -23,7 +23,7 @@ phase_on-requires-clause-alone g c =
 pub returns-else-not-works-clause-handles : goal.returns-else-not-works-clause-handles
 returns-else-not-works-clause-handles g c =
     handles_phased g.C.Link.tells g.O.Link.tells g.C.Link.look g.O.Link.look g.O.Upstream.paired g.O.Upstream.refuses g.O.Upstream.upload_left c.args.core.now c.phase_on.new.core c.args.cx.now
-    c.phase_on.new.cx c.args.main.now c.unrouse.new.slot c.unrouse.ensures c.args.course c.in-Phased.phase c.in-Phased.is c.phase_on.result c.phase_on.ensures.handles
+    c.phase_on.new.cx c.args.role c.args.main.now c.unrouse.new.slot c.unrouse.ensures c.args.course c.in-Phased.phase c.in-Phased.is c.phase_on.result c.phase_on.ensures.handles
 
 -- The same while the last is written.
 pub returns-then-role-ne-MAIN-2-clause-sound : goal.returns-then-role-ne-MAIN-2-clause-sound

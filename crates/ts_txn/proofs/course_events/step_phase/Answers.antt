@@ -16,7 +16,7 @@ returns-clause-sound g c =
     let core = c.args.core.now in
     let new = c.step-step.new.self in
     sound_led g.C.Link.tells g.O.Link.tells g.C.Link.look g.O.Link.look g.O.Upstream.paired g.O.Upstream.refuses g.P.Transform.rest g.P.Transform.whole core new (K.Phased c.args.phase)
-    (K.Phased c.step-step.result.phase) c.step_on.result c.step_on.new.main c.step_on.new.cx c.requires.stands c.step-step.ensures.keeps c.step-step.ensures.fact tt (behind_led c.step-step.result.next (K.Phased c.step-step.result.phase) c.step_on.result c.step_on.ensures.course)
+    (K.Phased c.step-step.result.phase) c.step_on.result c.step_on.new.main c.step_on.new.cx c.requires.stands c.step-step.ensures.keeps c.step-step.ensures.fact tt (λ told also. tt) (behind_led c.step-step.result.next (K.Phased c.step-step.result.phase) c.step_on.result c.step_on.ensures.course)
     (c.step_on.ensures.covered c.step-step.ensures.leads c.requires.alone (view_of g.C.Link.look g.O.Link.look new))
 
 pub returns-clause-within : goal.returns-clause-within

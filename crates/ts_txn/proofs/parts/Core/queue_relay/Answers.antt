@@ -43,6 +43,7 @@ returns-in-Ok-queue_head-clause-lowers g c =
     let h = c.args.head.now in
     queues_lower g.C.Link.tells g.O.Link.tells (arc_value c.args.self.now.setup) (OriginRefuses g.C.Link.look g.O.Upstream.refuses c.args.self.now) g.P.Transform.rest
     (view_of g.C.Link.look g.O.Link.look c.args.self.now) (view_of g.C.Link.look g.O.Link.look c.queue_head.new.self) q h c.bytes.result.now c.mode_of-mode.result c.in-Ok.made c.requires.fact
+    (ap (λ d. d.first) c.in-Ok.ensures.parts.chain)
     (subst (λ s. HasRoom s g.P.Transform.rest c.in-Ok.made.driven.chain) c.deref.ensures
     (parts_have_room _ g.P.Transform.rest g.P.Transform.pause g.P.Transform.line_pause q.head h c.in-Ok.made.driven.chain c.in-Ok.ensures.parts))
     (c.bytes.ensures ∙ c.in-Ok-relayed_head.ensures ∙ ap (λ s. relayed_head s q.head h) c.deref-2.ensures) c.in-Ok-queue_head.ensures.ok

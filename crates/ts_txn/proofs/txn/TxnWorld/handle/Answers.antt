@@ -5,7 +5,7 @@ use Rattle.ts_txn.proofs.txn.TxnWorld.handle.Goals as goal
 pub returns-clause-takes : goal.returns-clause-takes
 returns-clause-takes g c =
     takes_event g.C.Link.tells g.O.Link.tells g.C.Link.look g.O.Link.look g.O.Upstream.paired g.O.Upstream.refuses g.O.Upstream.upload_left c.args.self.now.core c.drive_on.new.core c.args.cx.now
-    c.drive_on.new.cx c.args.self.now.main c.args.self.now.course c.drive_on.new.course c.drive_on.ensures.handles
+    c.drive_on.new.cx c.args.role c.args.self.now.main c.args.self.now.course c.drive_on.new.course c.drive_on.ensures.handles
 
 -- the event that was handled is pending no more, and those that were set are paid
 pub returns-clause-lowers : goal.returns-clause-lowers
