@@ -1,9 +1,9 @@
 //! Bodies that are cut or bad: the client gets a front, without an end.
 
-use crate::lines::{FILE, STOCK, html};
+use crate::lines::{STOCK, html};
 use crate::plan::{dripping_after, giving};
 use crate::refusal::Refusal;
-use crate::row::{Row, Verdict, check, check_between, get};
+use crate::row::{Row, Verdict, check, check_between, chunked, get};
 use crate::stated::{ABC, BAD_GATEWAY, CHUNKED, GET, SIZED};
 use std::alloc::Global;
 use std::test::Fail;
@@ -46,15 +46,14 @@ fn a_body_that_is_cut_is_a_front(rt: HostRuntime) -> Result<(), Fail> {
     Ok(())
 }
 
-// The chunks up to this place through these lines, which come at once, and after their head byte by byte.
+// Whether a client gets this body of such a front of the chunks, which come at once, and byte by byte after their head.
 fn check_cut(
     alloc: Global,
     lines: &[u8],
     body: &[u8],
-    at: usize,
+    front: &[u8],
     end: TxnEnd,
 ) -> Result<Verdict, Refusal> {
-    let (front, _) = CHUNKS.split_at(at);
     let row = Row {
         end,
         ..html(lines, body)
@@ -72,10 +71,11 @@ fn chunks_that_are_cut_are_a_front(rt: HostRuntime) -> Result<(), Fail> {
     let alloc = rt.alloc();
     for (place, (lines, body)) in STOCK.iter().enumerate() {
         for at in CHUNKS_FRONT as usize..CHUNKS.len() {
-            let cut = check_cut(alloc, lines, body, at, TxnEnd::OriginCut)?;
+            let (front, _) = CHUNKS.split_at(at);
+            let cut = check_cut(alloc, lines, body, front, TxnEnd::OriginCut)?;
             assert_eq!(rt; cut, Verdict::AsStated, "line {place}, at {at}");
         }
-        let whole = check_cut(alloc, lines, body, CHUNKS.len(), TxnEnd::Whole)?;
+        let whole = check_cut(alloc, lines, body, CHUNKS, TxnEnd::Whole)?;
         assert_eq!(rt; whole, Verdict::AsStated, "line {place}");
     }
     Ok(())
@@ -94,17 +94,19 @@ fn a_head_that_is_cut_is_answered_for(rt: HostRuntime) -> Result<(), Fail> {
     Ok(())
 }
 
-// What a client gets of a response in chunks that go wrong.
+// A response in chunks that go wrong.
+fn bad_row<'a>(lines: &'a [u8], origin: &'a [u8], body: &'a [u8]) -> Row<'a> {
+    Row {
+        end: TxnEnd::OriginBad,
+        ..chunked(lines, origin, body)
+    }
+}
+
+// Whether a client gets this body of a response in chunks that go wrong.
 fn check_bad(alloc: Global, chunks: &[u8], lines: &[u8], body: &[u8]) -> Result<Verdict, Refusal> {
     let mut origin = Vec::from_slice(alloc, IN_CHUNKS)?;
     origin.extend_from_slice(chunks)?;
-    let row = Row {
-        lines,
-        file: FILE,
-        end: TxnEnd::OriginBad,
-        ..get(origin.as_slice(), CHUNKED, Mode::Chunked, body)
-    };
-    check(alloc, &row)
+    check(alloc, &bad_row(lines, origin.as_slice(), body))
 }
 
 #[test]

@@ -3,11 +3,10 @@
 use crate::lines::SIXTEEN;
 use crate::plan::{Plan, giving};
 use crate::refusal::Refusal;
-use crate::row::{Row, Verdict, check_between, get};
-use crate::stated::{CHUNKED, GET};
+use crate::row::{Verdict, check_between, chunked};
+use crate::stated::GET;
 use std::alloc::Global;
 use std::test::Fail;
-use ts_wire::Mode;
 
 // The head of a response up to the close.
 const FRONT: &[u8] = b"HTTP/1.1 200 OK\r\n\r\n";
@@ -43,10 +42,7 @@ fn check_long(
     let body = letters(alloc, length)?;
     let mut response = Vec::from_slice(alloc, FRONT)?;
     response.extend_from_slice(body.as_slice())?;
-    let row = Row {
-        lines,
-        ..get(b"", CHUNKED, Mode::Chunked, body.as_slice())
-    };
+    let row = chunked(lines, b"", body.as_slice());
     let client = Plan {
         take,
         ..giving(GET)

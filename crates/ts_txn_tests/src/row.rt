@@ -3,7 +3,7 @@
 use crate::exchange::{Ended, NUMBER, run};
 use crate::plan::{Plan, dripping, giving};
 use crate::refusal::Refusal;
-use crate::stated::{GET, GET_SENT, HEAD, HEAD_SENT, text_of};
+use crate::stated::{CHUNKED, GET, GET_SENT, HEAD, HEAD_SENT, text_of};
 use std::alloc::Global;
 use ts_hooks::TxnEnd;
 use ts_link::MemLink;
@@ -54,6 +54,14 @@ pub fn get<'a>(origin: &'a [u8], head: &'a [u8], mode: Mode, body: &'a [u8]) -> 
         mode,
         body,
         end: TxnEnd::Whole,
+    }
+}
+
+/// A response to GET through these lines, whose body goes in chunks.
+pub fn chunked<'a>(lines: &'a [u8], origin: &'a [u8], body: &'a [u8]) -> Row<'a> {
+    Row {
+        lines,
+        ..get(origin, CHUNKED, Mode::Chunked, body)
     }
 }
 

@@ -26,12 +26,12 @@ fn check_ruled(alloc: Global, plugin: PluginLine, row: &Row<'_>) -> Result<Verdi
 }
 
 // `header.so SIDE set content-type VALUE`.
-fn sets_type(side: Side, value: &'static str) -> PluginLine {
+fn sets_type(side: Side, value: HeaderValue) -> PluginLine {
     PluginLine::Header {
         side,
         rule: Rule::Set {
             name: HeaderName::from_static("content-type"),
-            value: HeaderValue::from_static(value),
+            value,
         },
     }
 }
@@ -42,7 +42,11 @@ fn a_rule_of_the_request_side_changes_the_request(rt: HostRuntime) -> Result<(),
         sent: b"GET / HTTP/1.1\r\nhost: a\r\ncontent-type: x\r\nvia: 1.1 tsx\r\nconnection: close\r\n\r\n",
         ..get(ABC, SIZED, Mode::Plain, b"abc")
     };
-    let verdict = check_ruled(rt.alloc(), sets_type(Side::Request, "x"), &row)?;
+    let verdict = check_ruled(
+        rt.alloc(),
+        sets_type(Side::Request, HeaderValue::from_static("x")),
+        &row,
+    )?;
     assert_eq!(rt; verdict, Verdict::AsStated);
     Ok(())
 }
@@ -70,7 +74,11 @@ fn a_rule_of_the_response_side_changes_each_head(rt: HostRuntime) -> Result<(), 
         ),
     ];
     for (place, row) in rows.iter().enumerate() {
-        let verdict = check_ruled(rt.alloc(), sets_type(Side::Response, "x"), row)?;
+        let verdict = check_ruled(
+            rt.alloc(),
+            sets_type(Side::Response, HeaderValue::from_static("x")),
+            row,
+        )?;
         assert_eq!(rt; verdict, Verdict::AsStated, "row {place}");
     }
     Ok(())
@@ -107,7 +115,11 @@ fn a_rule_does_not_change_which_lines_act(rt: HostRuntime) -> Result<(), Fail> {
             b"abc",
         )
     };
-    let verdict = check_ruled(rt.alloc(), sets_type(Side::Response, "text/html"), &plain)?;
+    let verdict = check_ruled(
+        rt.alloc(),
+        sets_type(Side::Response, HeaderValue::from_static("text/html")),
+        &plain,
+    )?;
     assert_eq!(rt; verdict, Verdict::AsStated);
     let html = Row {
         lines: b"append_transform.so f\n",
@@ -119,7 +131,11 @@ fn a_rule_does_not_change_which_lines_act(rt: HostRuntime) -> Result<(), Fail> {
             b"abc<hr>",
         )
     };
-    let verdict = check_ruled(rt.alloc(), sets_type(Side::Response, "text/plain"), &html)?;
+    let verdict = check_ruled(
+        rt.alloc(),
+        sets_type(Side::Response, HeaderValue::from_static("text/plain")),
+        &html,
+    )?;
     assert_eq!(rt; verdict, Verdict::AsStated);
     Ok(())
 }

@@ -6,7 +6,7 @@ use crate::lines::{HTML, HTML_FRONT, STOCK, html};
 use crate::plan::{Plan, dripping, dripping_after};
 use crate::refusal::Refusal;
 use crate::row::{Row, Verdict, get, judge, run_row};
-use crate::stated::{ABC, BAD_GATEWAY, GET, SIZED};
+use crate::stated::{ABC, BAD_GATEWAY, GET, GET_SENT, SIZED};
 use std::alloc::Global;
 use std::test::Fail;
 use ts_wire::Mode;
@@ -76,7 +76,7 @@ fn a_client_that_waits_at_each_read(rt: HostRuntime) -> Result<(), Fail> {
 #[test]
 fn an_origin_that_waits_at_each_write(rt: HostRuntime) -> Result<(), Fail> {
     let row = get(ABC, SIZED, Mode::Plain, b"abc");
-    for write in 1..=row.sent.len() as u64 {
+    for write in 1..=GET_SENT.len() as u64 {
         let origin = Plan {
             again_writes: (write, write + 1),
             ..dripping(ABC)
