@@ -84,11 +84,10 @@ fn a_transaction_tells_its_number_origin_and_end(rt: HostRuntime) -> Result<(), 
     Ok(())
 }
 
-// A second start, before its first step and after its end, changes nothing.
+// A second start before its first step changes nothing.
 #[test]
 fn a_transaction_starts_once(rt: HostRuntime) -> Result<(), Fail> {
     let alloc = rt.alloc();
-    let row = get(ABC, SIZED, Mode::Plain, b"abc");
     let setup = setup_of(alloc, b"", b"")?;
     let client = link_of(alloc, &giving(GET))?;
     let origin = link_of(alloc, &giving(ABC))?;
@@ -97,11 +96,24 @@ fn a_transaction_starts_once(rt: HostRuntime) -> Result<(), Fail> {
     start_again(&mut group)?;
     assert_eq!(rt; group.journal().counts(), counts);
     drive(&mut group)?;
+    let (txn, _) = group.into_parts();
+    let row = get(ABC, SIZED, Mode::Plain, b"abc");
+    assert_eq!(rt; judge(alloc, &row, &txn.into_parts())?, Verdict::AsStated);
+    Ok(())
+}
+
+// Nor does one after its end.
+#[test]
+fn a_transaction_that_has_ended_does_not_start(rt: HostRuntime) -> Result<(), Fail> {
+    let alloc = rt.alloc();
+    let setup = setup_of(alloc, b"", b"")?;
+    let client = link_of(alloc, &giving(GET))?;
+    let mut group: Group<MemTxn> = begin(alloc, setup, client, None)?;
+    drive(&mut group)?;
     let counts = group.journal().counts();
     start_again(&mut group)?;
     assert_eq!(rt; group.journal().counts(), counts);
     assert_eq!(rt; counts.pending, 0);
-    let (txn, _) = group.into_parts();
-    assert_eq!(rt; judge(alloc, &row, &txn.into_parts())?, Verdict::AsStated);
+    assert_eq!(rt; group.world().end(), Some(TxnEnd::Whole));
     Ok(())
 }

@@ -30,6 +30,18 @@ fn letters(alloc: Global, length: usize) -> Result<Vec<u8>, Refusal> {
     Ok(text)
 }
 
+// Whether a body comes through these lines as it is between the links of these plans.
+fn check_letters(
+    alloc: Global,
+    lines: &[u8],
+    body: &[u8],
+    client: &Plan<'_>,
+    origin: Plan<'_>,
+) -> Result<Verdict, Refusal> {
+    let row = chunked(lines, b"", body);
+    check_between(alloc, &row, client, Some(origin))
+}
+
 // Whether a body of letters comes through these lines as it is, where the origin gives it in pieces of one length and the
 // client takes so many bytes a write.
 fn check_long(
@@ -42,7 +54,6 @@ fn check_long(
     let body = letters(alloc, length)?;
     let mut response = Vec::from_slice(alloc, FRONT)?;
     response.extend_from_slice(body.as_slice())?;
-    let row = chunked(lines, b"", body.as_slice());
     let client = Plan {
         take,
         ..giving(GET)
@@ -52,7 +63,7 @@ fn check_long(
         pieces: length / piece.max(1) as usize,
         ..giving(response.as_slice())
     };
-    check_between(alloc, &row, &client, Some(origin))
+    check_letters(alloc, lines, body.as_slice(), &client, origin)
 }
 
 // Each byte takes some 20 events, and each event four entries of the journal, which keeps them all: a body of a MiB in
