@@ -1,5 +1,5 @@
 //! What a link in memory gives and does.
-ghost use Rattle.std.specs.Prelude.{◌≡◌, IfOk};
+ghost use Rattle.std.specs.Prelude.{IfOk};
 ghost use Rattle.ts_link.specs.MemLink.{look_of};
 ghost use Rattle.ts_txn.specs.Making.{IsNewLink, IsNewLinkIf};
 
