@@ -1,10 +1,10 @@
 //! The proxy's own answers beside the lines of a configuration, and what a transaction tells of itself.
 
-use crate::exchange::{MemTxn, NUMBER, begin, drive, setup_of, start_again};
+use crate::exchange::{MemTxn, NUMBER, begin, drive, setup_of, starts_once};
 use crate::lines::{FILE, STOCK};
 use crate::plan::{giving, link_of};
-use crate::row::{Row, Verdict, check, get, judge};
-use crate::stated::{ABC, BAD_GATEWAY, BAD_REQUEST, GET, HEAD, HEAD_SENT, NOT_IMPLEMENTED, SIZED};
+use crate::row::{Row, Verdict, check, get};
+use crate::stated::{ABC, BAD_GATEWAY, BAD_REQUEST, GET, HEAD, HEAD_SENT, NOT_IMPLEMENTED};
 use std::test::Fail;
 use ts_group::Group;
 use ts_hooks::TxnEnd;
@@ -84,36 +84,13 @@ fn a_transaction_tells_its_number_origin_and_end(rt: HostRuntime) -> Result<(), 
     Ok(())
 }
 
-// A second start before its first step changes nothing.
 #[test]
 fn a_transaction_starts_once(rt: HostRuntime) -> Result<(), Fail> {
     let alloc = rt.alloc();
     let setup = setup_of(alloc, b"", b"")?;
     let client = link_of(alloc, &giving(GET))?;
-    let origin = link_of(alloc, &giving(ABC))?;
-    let mut group: Group<MemTxn> = begin(alloc, setup, client, Some(origin))?;
-    let counts = group.journal().counts();
-    start_again(&mut group)?;
-    assert_eq!(rt; group.journal().counts(), counts);
-    drive(&mut group)?;
-    let (txn, _) = group.into_parts();
-    let row = get(ABC, SIZED, Mode::Plain, b"abc");
-    assert_eq!(rt; judge(alloc, &row, &txn.into_parts())?, Verdict::AsStated);
-    Ok(())
-}
-
-// Nor does one after its end.
-#[test]
-fn a_transaction_that_has_ended_does_not_start(rt: HostRuntime) -> Result<(), Fail> {
-    let alloc = rt.alloc();
-    let setup = setup_of(alloc, b"", b"")?;
-    let client = link_of(alloc, &giving(GET))?;
     let mut group: Group<MemTxn> = begin(alloc, setup, client, None)?;
-    drive(&mut group)?;
-    let counts = group.journal().counts();
-    start_again(&mut group)?;
-    assert_eq!(rt; group.journal().counts(), counts);
-    assert_eq!(rt; counts.pending, 0);
+    assert!(rt; starts_once(&mut group)?);
     assert_eq!(rt; group.world().end(), Some(TxnEnd::Whole));
     Ok(())
 }
