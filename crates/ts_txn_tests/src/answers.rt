@@ -1,6 +1,6 @@
 //! The proxy's own answers beside the lines of a configuration, and what a transaction tells of itself.
 
-use crate::exchange::{MemTxn, NUMBER, begin, drive, setup_of, starts_once};
+use crate::exchange::{MemTxn, NUMBER, begin, drive, setup_of};
 use crate::lines::{FILE, STOCK};
 use crate::plan::{giving, link_of};
 use crate::row::{Row, Verdict, check, get};
@@ -81,16 +81,5 @@ fn a_transaction_tells_its_number_origin_and_end(rt: HostRuntime) -> Result<(), 
     drive(&mut group)?;
     assert_eq!(rt; group.world().end(), Some(TxnEnd::Whole));
     assert_eq!(rt; group.world().number(), NUMBER);
-    Ok(())
-}
-
-#[test]
-fn a_transaction_starts_once(rt: HostRuntime) -> Result<(), Fail> {
-    let alloc = rt.alloc();
-    let setup = setup_of(alloc, b"", b"")?;
-    let client = link_of(alloc, &giving(GET))?;
-    let mut group: Group<MemTxn> = begin(alloc, setup, client, None)?;
-    assert!(rt; starts_once(&mut group)?);
-    assert_eq!(rt; group.world().end(), Some(TxnEnd::Whole));
     Ok(())
 }

@@ -103,23 +103,6 @@ pub fn begin<C: Link + Drop, O: Upstream<C> + Drop, P: Transform<Line = Transfor
     Ok(group)
 }
 
-// Starts it once more, in a turn of its own, and answers whether no event was set, handled, cancelled or dropped.
-fn starts_for_nothing<W: World + Drop>(group: &mut Group<W>) -> Result<bool, Refusal>
-    requires idle { group.old.cx.log.state.held ≡ false }
-    requires sound { Holds W.sound group.old }
-    ensures idle { OnOk result (group.new.cx.log.state.held ≡ false) }
-    ensures sound { OnOk result (Holds W.sound group.new) }
-{
-    let Some(turn) = group.journal().turns().checked_add(1) else {
-        return Err(Refusal::Turns);
-    };
-    let counts = group.journal().counts();
-    group.begin_turn(turn, 0, 0)?;
-    group.start();
-    group.give_turn();
-    Ok(group.journal().counts() == counts)
-}
-
 // Handles the event of a number, in a turn of its own.
 fn take_turn<W: World + Drop>(group: &mut Group<W>, number: u64, moment: u64) -> Result<(), Refusal>
 where
@@ -158,19 +141,6 @@ where
         take_turn(group, number, moment)?;
     }
     Err(Refusal::Turns)
-}
-
-/// The same, and whether a further start before its first event and one after its last do nothing.
-pub fn starts_once<W: World + Drop>(group: &mut Group<W>) -> Result<bool, Refusal>
-where
-    W::Question: Drop,
-    requires idle { group.old.cx.log.state.held ≡ false }
-    requires sound { Holds W.sound group.old }
-{
-    let first = starts_for_nothing(group)?;
-    drive(group)?;
-    let last = starts_for_nothing(group)?;
-    Ok(first && last)
 }
 
 /// What is left of a transaction between two links.
