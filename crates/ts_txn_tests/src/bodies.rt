@@ -1,0 +1,152 @@
+//! Bodies that are cut or bad: the client gets a front, without an end.
+
+use crate::lines::{STOCK, html};
+use crate::plan::{dripping_after, giving};
+use crate::refusal::Refusal;
+use crate::row::{Row, Verdict, check, check_between, chunked, get};
+use crate::stated::{ABC, BAD_GATEWAY, CHUNKED, GET, SIZED};
+use std::alloc::Global;
+use std::test::Fail;
+use ts_hooks::TxnEnd;
+use ts_wire::Mode;
+
+const CHUNKS: &[u8] =
+    b"HTTP/1.1 200 OK\r\nContent-Type: text/html\r\nTransfer-Encoding: chunked\r\n\r\n3;x=1\r\nban\r\n3\r\nana\r\n0\r\nT: 1\r\n\r\n";
+
+// How much of them is the head.
+const CHUNKS_FRONT: u32 = 72;
+
+// How much of the response of three bytes is its head.
+const ABC_FRONT: usize = 38;
+
+const IN_CHUNKS: &[u8] = b"HTTP/1.1 200 OK\r\nTransfer-Encoding: chunked\r\n\r\n";
+
+#[test]
+fn a_body_that_is_cut_is_a_front(rt: HostRuntime) -> Result<(), Fail> {
+    let alloc = rt.alloc();
+    assert_eq!(rt; ABC.split_at(ABC_FRONT).1, b"abc".as_slice());
+    for at in ABC_FRONT..ABC.len() {
+        let (front, _) = ABC.split_at(at);
+        let row = Row {
+            end: TxnEnd::OriginCut,
+            ..get(front, SIZED, Mode::Plain, b"ab")
+        };
+        assert_eq!(rt; check(alloc, &row)?, Verdict::AsStated, "at {at}");
+        let lined = Row {
+            end: TxnEnd::OriginCut,
+            lines: b"prepend.so <\n",
+            ..get(front, CHUNKED, Mode::Chunked, b"<ab")
+        };
+        assert_eq!(rt;
+            check(alloc, &lined)?,
+            Verdict::AsStated,
+            "with a line, at {at}"
+        );
+    }
+    Ok(())
+}
+
+// Whether a client gets this body of such a front of the chunks, which come at once, and byte by byte after their head.
+fn check_cut(
+    alloc: Global,
+    lines: &[u8],
+    body: &[u8],
+    front: &[u8],
+    end: TxnEnd,
+) -> Result<Verdict, Refusal> {
+    let row = Row {
+        end,
+        ..html(lines, body)
+    };
+    let at_once = check_between(alloc, &row, &giving(GET), Some(giving(front)))?;
+    if at_once != Verdict::AsStated {
+        return Ok(at_once);
+    }
+    let origin = dripping_after(front, CHUNKS_FRONT);
+    check_between(alloc, &row, &dripping_after(GET, 0), Some(origin))
+}
+
+#[test]
+fn chunks_that_are_cut_are_a_front(rt: HostRuntime) -> Result<(), Fail> {
+    let alloc = rt.alloc();
+    for (place, (lines, body)) in STOCK.iter().enumerate() {
+        for at in CHUNKS_FRONT as usize..CHUNKS.len() {
+            let (front, _) = CHUNKS.split_at(at);
+            let cut = check_cut(alloc, lines, body, front, TxnEnd::OriginCut)?;
+            assert_eq!(rt; cut, Verdict::AsStated, "line {place}, at {at}");
+        }
+        let whole = check_cut(alloc, lines, body, CHUNKS, TxnEnd::Whole)?;
+        assert_eq!(rt; whole, Verdict::AsStated, "line {place}");
+    }
+    Ok(())
+}
+
+#[test]
+fn a_head_that_is_cut_is_answered_for(rt: HostRuntime) -> Result<(), Fail> {
+    for at in 0..CHUNKS_FRONT as usize {
+        let (front, _) = CHUNKS.split_at(at);
+        let row = Row {
+            lines: b"prepend.so <\n",
+            ..get(front, BAD_GATEWAY, Mode::Plain, b"502 Bad Gateway\n")
+        };
+        assert_eq!(rt; check(rt.alloc(), &row)?, Verdict::AsStated, "at {at}");
+    }
+    Ok(())
+}
+
+// A response in chunks that go wrong.
+fn bad_row<'a>(lines: &'a [u8], origin: &'a [u8], body: &'a [u8]) -> Row<'a> {
+    Row {
+        end: TxnEnd::OriginBad,
+        ..chunked(lines, origin, body)
+    }
+}
+
+// Whether a client gets this body of a response in chunks that go wrong.
+fn check_bad(alloc: Global, chunks: &[u8], lines: &[u8], body: &[u8]) -> Result<Verdict, Refusal> {
+    let mut origin = Vec::from_slice(alloc, IN_CHUNKS)?;
+    origin.extend_from_slice(chunks)?;
+    check(alloc, &bad_row(lines, origin.as_slice(), body))
+}
+
+#[test]
+fn bad_chunks_end_a_body_at_a_front(rt: HostRuntime) -> Result<(), Fail> {
+    let rows: [(&[u8], &[u8]); 8] = [
+        (b"x\r\n", b""),
+        (b"3\r\nabcX", b"abc"),
+        (b"3\r\nabc\rX", b"abc"),
+        (b"3\r\nabc\r\nx\r\n0\r\n\r\n", b"abc"),
+        (b"3\r\nabc\r\n-1\r\n", b"abc"),
+        // More than 2^63 - 1 bytes.
+        (b"8000000000000000\r\nabc", b""),
+        (b"3\r\nabc\r\n7fffffffffffffff\r\nabc", b"abc"),
+        // A trailer that is no field.
+        (b"3\r\nabc\r\n0\r\n\x00\r\n\r\n", b"abc"),
+    ];
+    for (place, (chunks, body)) in rows.iter().enumerate() {
+        let verdict = check_bad(rt.alloc(), chunks, b"", body)?;
+        assert_eq!(rt; verdict, Verdict::AsStated, "row {place}");
+        // A body that is held back is not sent at all.
+        let held = check_bad(rt.alloc(), chunks, b"bnull_transform.so\n", b"")?;
+        assert_eq!(rt; held, Verdict::AsStated, "held back, row {place}");
+    }
+    Ok(())
+}
+
+#[test]
+fn a_chunk_line_and_a_trailer_have_their_limits(rt: HostRuntime) -> Result<(), Fail> {
+    let alloc = rt.alloc();
+    // A chunk line of 4,096 bytes that has not ended.
+    let mut endless = Vec::from_slice(alloc, b"3;")?;
+    endless.extend_from_slice(vec![in alloc; b'a'; 4_094]?.as_slice())?;
+    let verdict = check_bad(alloc, endless.as_slice(), b"", b"")?;
+    assert_eq!(rt; verdict, Verdict::AsStated);
+    // A trailer section of 65 fields.
+    let mut fields = Vec::from_slice(alloc, b"3\r\nabc\r\n0\r\n")?;
+    for _ in 0..65 {
+        fields.extend_from_slice(b"T: 1\r\n")?;
+    }
+    let verdict = check_bad(alloc, fields.as_slice(), b"", b"abc")?;
+    assert_eq!(rt; verdict, Verdict::AsStated);
+    Ok(())
+}

@@ -1,0 +1,226 @@
+//! Links that fail or leave: how the transaction ends, and that what was sent by then is a front of what is stated.
+
+use crate::exchange::{exchange, setup_of};
+use crate::lines::{HTML, HTML_FRONT, STOCK, html};
+use crate::plan::{Plan, dripping, dripping_after, giving, leaving, link_of};
+use crate::refusal::Refusal;
+use crate::row::{Row, Verdict, check_between, get, judge, judge_front, run_row};
+use crate::stated::{ABC, BAD_GATEWAY, GET, GET_SENT, SIZED};
+use std::alloc::Global;
+use std::test::Fail;
+use ts_hooks::TxnEnd;
+use ts_wire::Mode;
+
+// The response of HTML up to the close.
+const ENDLESS: &[u8] = b"HTTP/1.1 200 OK\r\nContent-Type: text/html\r\n\r\nbanana";
+
+// How much of it is its head.
+const ENDLESS_FRONT: u32 = 44;
+
+// The answer where the origin fails before its head is whole.
+fn gateway_fault(row: Row<'_>) -> Row<'_> {
+    Row {
+        head: BAD_GATEWAY,
+        mode: Mode::Plain,
+        body: b"502 Bad Gateway\n",
+        end: TxnEnd::OriginFault,
+        ..row
+    }
+}
+
+// Whether a client whose write of this number fails got a front of all before it, where each write takes one byte.
+fn check_failing(alloc: Global, row: &Row<'_>, write: u64) -> Result<Verdict, Refusal> {
+    let client = Plan {
+        fail_write: write,
+        take: 1,
+        ..giving(GET)
+    };
+    let origin = dripping_after(HTML, HTML_FRONT);
+    let ended = run_row(alloc, row, &client, Some(origin))?;
+    if ended.parts.client.written().len() as u64 + 1 != write {
+        return Ok(Verdict::OtherText);
+    }
+    judge_front(alloc, row, TxnEnd::ClientFault, &ended.parts)
+}
+
+// Whether a client that leaves when it has taken so many bytes got a front of them.
+fn check_leaving(alloc: Global, row: &Row<'_>, at: usize) -> Result<Verdict, Refusal> {
+    let setup = setup_of(alloc, row.lines, row.file)?;
+    let client = leaving(alloc, GET, at)?;
+    let origin = link_of(alloc, &dripping_after(HTML, HTML_FRONT))?;
+    let ended = exchange(alloc, setup, client, Some(origin))?;
+    if ended.parts.client.written().len() != at {
+        return Ok(Verdict::OtherText);
+    }
+    judge_front(alloc, row, TxnEnd::ClientFault, &ended.parts)
+}
+
+#[test]
+fn a_client_that_leaves_in_its_head_got_a_front(rt: HostRuntime) -> Result<(), Fail> {
+    let alloc = rt.alloc();
+    let row = html(b"prepend.so <\n", b"<banana");
+    for at in 0..row.head.len() {
+        let verdict = check_leaving(alloc, &row, at)?;
+        assert_eq!(rt; verdict, Verdict::AsStated, "at {at}");
+    }
+    Ok(())
+}
+
+#[test]
+fn a_client_that_leaves_in_its_body_got_a_front(rt: HostRuntime) -> Result<(), Fail> {
+    let alloc = rt.alloc();
+    for (place, (lines, body)) in STOCK.iter().enumerate() {
+        let row = html(lines, body);
+        let origin = dripping_after(HTML, HTML_FRONT);
+        let whole = run_row(alloc, &row, &giving(GET), Some(origin))?;
+        assert_eq!(rt;
+            judge(alloc, &row, &whole.parts)?,
+            Verdict::AsStated,
+            "line {place}"
+        );
+        for at in row.head.len()..whole.parts.client.written().len() {
+            let verdict = check_leaving(alloc, &row, at)?;
+            assert_eq!(rt; verdict, Verdict::AsStated, "line {place}, at {at}");
+        }
+    }
+    Ok(())
+}
+
+#[test]
+fn a_client_that_fails_at_each_write_got_a_front(rt: HostRuntime) -> Result<(), Fail> {
+    let alloc = rt.alloc();
+    let row = html(b"prepend.so <\n", b"<banana");
+    // Each of the seven bytes goes in a chunk of its own at most.
+    let least = row.head.len() as u64 + 17;
+    for write in 1..=least {
+        let verdict = check_failing(alloc, &row, write)?;
+        assert_eq!(rt; verdict, Verdict::AsStated, "write {write}");
+    }
+    Ok(())
+}
+
+// Whether an origin whose read of this number fails is answered for by all that was framed, where it gives one byte a
+// read behind its head.
+fn check_origin(
+    alloc: Global,
+    row: &Row<'_>,
+    gives: &[u8],
+    front: u32,
+    read: u64,
+) -> Result<Verdict, Refusal> {
+    let failed = Row {
+        end: TxnEnd::OriginFault,
+        ..*row
+    };
+    let origin = Plan {
+        fail_read: read,
+        ..dripping_after(gives, front)
+    };
+    let at_once = check_between(alloc, &failed, &giving(GET), Some(origin))?;
+    if at_once != Verdict::AsStated {
+        return Ok(at_once);
+    }
+    check_between(alloc, &failed, &dripping_after(GET, 0), Some(origin))
+}
+
+#[test]
+fn an_origin_that_fails_in_its_body_gave_a_front(rt: HostRuntime) -> Result<(), Fail> {
+    let alloc = rt.alloc();
+    for (place, (lines, body)) in STOCK.iter().enumerate() {
+        let row = html(lines, body);
+        // The first read brings the head, and each of the other six a byte.
+        for read in 2..=7 {
+            let verdict = check_origin(alloc, &row, HTML, HTML_FRONT, read)?;
+            assert_eq!(rt; verdict, Verdict::AsStated, "line {place}, read {read}");
+        }
+        // Of a body up to the close one more read brings its end.
+        for read in 2..=8 {
+            let verdict = check_origin(alloc, &row, ENDLESS, ENDLESS_FRONT, read)?;
+            assert_eq!(rt;
+                verdict,
+                Verdict::AsStated,
+                "line {place}, endless, read {read}"
+            );
+        }
+    }
+    Ok(())
+}
+
+#[test]
+fn an_origin_that_fails_in_its_head_is_answered_for(rt: HostRuntime) -> Result<(), Fail> {
+    let alloc = rt.alloc();
+    let row = gateway_fault(html(b"prepend.so <\n", b""));
+    for read in 1..=u64::from(HTML_FRONT) {
+        let origin = Plan {
+            fail_read: read,
+            ..dripping(HTML)
+        };
+        let verdict = check_between(alloc, &row, &giving(GET), Some(origin))?;
+        assert_eq!(rt; verdict, Verdict::AsStated, "read {read}");
+    }
+    Ok(())
+}
+
+#[test]
+fn an_origin_that_fails_at_each_write_is_answered_for(rt: HostRuntime) -> Result<(), Fail> {
+    let alloc = rt.alloc();
+    for write in 1..=GET_SENT.len() {
+        let (sent, _) = GET_SENT.split_at(write - 1);
+        let row = gateway_fault(Row {
+            sent,
+            ..get(ABC, SIZED, Mode::Plain, b"")
+        });
+        let origin = Plan {
+            fail_write: write as u64,
+            ..dripping(ABC)
+        };
+        let verdict = check_between(alloc, &row, &giving(GET), Some(origin))?;
+        assert_eq!(rt; verdict, Verdict::AsStated, "write {write}");
+    }
+    Ok(())
+}
+
+#[test]
+fn a_client_that_fails_at_each_read_gets_nothing(rt: HostRuntime) -> Result<(), Fail> {
+    let alloc = rt.alloc();
+    let row = Row {
+        sent: b"",
+        end: TxnEnd::ClientFault,
+        ..get(ABC, b"", Mode::Plain, b"")
+    };
+    for read in 1..=GET.len() {
+        let client = Plan {
+            fail_read: read as u64,
+            ..dripping(GET)
+        };
+        let verdict = check_between(alloc, &row, &client, Some(giving(ABC)))?;
+        assert_eq!(rt; verdict, Verdict::AsStated, "read {read}");
+    }
+    Ok(())
+}
+
+// A client that fails while the rest of a body is sent that was cut, or whose origin failed.
+#[test]
+fn a_client_that_fails_last_decides_the_end(rt: HostRuntime) -> Result<(), Fail> {
+    let alloc = rt.alloc();
+    let row = get(ABC, SIZED, Mode::Plain, b"abc");
+    let (front, _) = ABC.split_at(40);
+    let cut = giving(front);
+    let failing = Plan {
+        fail_read: 3,
+        ..dripping_after(ABC, 38)
+    };
+    for origin in [cut, failing] {
+        for write in 1..=SIZED.len() as u64 {
+            let client = Plan {
+                fail_write: write,
+                take: 1,
+                ..giving(GET)
+            };
+            let ended = run_row(alloc, &row, &client, Some(origin))?;
+            let verdict = judge_front(alloc, &row, TxnEnd::ClientFault, &ended.parts)?;
+            assert_eq!(rt; verdict, Verdict::AsStated, "write {write}");
+        }
+    }
+    Ok(())
+}

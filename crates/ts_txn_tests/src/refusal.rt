@@ -1,0 +1,42 @@
+//! Why an exchange that is tried gives no outcome.
+
+use std::alloc::{AllocError, AllocFailed};
+use ts_config::ConfigRefusal;
+use ts_link::NoMemory;
+
+/// Want of memory, a configuration that is not read or has too many lines, an event that is not handled, or more turns
+/// than were counted on.
+#[derive(Clone, Copy, Debug, PartialEq, Eq)]
+pub enum Refusal {
+    NoMemory,
+    Lines,
+    Event,
+    Turns,
+}
+
+impl From<NoMemory> for Refusal {
+    fn from(_refusal: NoMemory) -> Refusal {
+        Refusal::NoMemory
+    }
+}
+
+impl From<AllocError> for Refusal {
+    fn from(_refusal: AllocError) -> Refusal {
+        Refusal::NoMemory
+    }
+}
+
+impl<T: Drop> From<AllocFailed<T>> for Refusal {
+    fn from(_refusal: AllocFailed<T>) -> Refusal {
+        Refusal::NoMemory
+    }
+}
+
+impl From<ConfigRefusal> for Refusal {
+    fn from(refusal: ConfigRefusal) -> Refusal {
+        match refusal {
+            ConfigRefusal::Fault(_) => Refusal::Lines,
+            ConfigRefusal::NoMemory => Refusal::NoMemory,
+        }
+    }
+}

@@ -1,0 +1,201 @@
+//! Rows: a request, what the origin gives, and what is stated of both ends.
+
+use crate::exchange::{Ended, NUMBER, run};
+use crate::plan::{Plan, dripping, giving};
+use crate::refusal::Refusal;
+use crate::stated::{CHUNKED, GET, GET_SENT, HEAD, HEAD_SENT, text_of};
+use std::alloc::Global;
+use ts_hooks::TxnEnd;
+use ts_link::MemLink;
+use ts_txn::TxnParts;
+use ts_wire::Mode;
+
+/// An exchange through the lines of a configuration, and what is stated of it. Where it does not end whole, the client
+/// gets a front of the body.
+#[derive(Clone, Copy)]
+pub struct Row<'a> {
+    pub lines: &'a [u8],
+    /// The text of each file that the lines name.
+    pub file: &'a [u8],
+    pub request: &'a [u8],
+    /// What the origin gives, if there is one.
+    pub origin: Option<&'a [u8]>,
+    /// What the origin gets.
+    pub sent: &'a [u8],
+    pub head: &'a [u8],
+    pub mode: Mode,
+    pub body: &'a [u8],
+    pub end: TxnEnd,
+}
+
+/// What came of a row: as it is stated, or the first that is other.
+#[derive(Clone, Copy, Debug, PartialEq, Eq)]
+pub enum Verdict {
+    AsStated,
+    OtherEnd,
+    OtherRequest,
+    OtherHead,
+    OtherPieces,
+    OtherText,
+    OtherNumber,
+    OtherWaits,
+    OtherMoment,
+}
+
+/// A response to GET that is passed on whole, with nothing configured.
+pub fn get<'a>(origin: &'a [u8], head: &'a [u8], mode: Mode, body: &'a [u8]) -> Row<'a> {
+    Row {
+        lines: b"",
+        file: b"",
+        request: GET,
+        origin: Some(origin),
+        sent: GET_SENT,
+        head,
+        mode,
+        body,
+        end: TxnEnd::Whole,
+    }
+}
+
+/// A response to GET through these lines, whose body goes in chunks.
+pub fn chunked<'a>(lines: &'a [u8], origin: &'a [u8], body: &'a [u8]) -> Row<'a> {
+    Row {
+        lines,
+        ..get(origin, CHUNKED, Mode::Chunked, body)
+    }
+}
+
+/// A response to HEAD, with nothing configured.
+pub fn head<'a>(origin: &'a [u8], head: &'a [u8]) -> Row<'a> {
+    Row {
+        request: HEAD,
+        sent: HEAD_SENT,
+        ..get(origin, head, Mode::Plain, b"")
+    }
+}
+
+// What the origin got.
+fn request_of(origin: &Option<MemLink>) -> &[u8] {
+    match origin {
+        Some(link) => link.written(),
+        None => b"",
+    }
+}
+
+/// The text that the client of a row gets in these pieces, if they are pieces of its body.
+pub fn stated_text(
+    alloc: Global,
+    row: &Row<'_>,
+    cuts: &[u32],
+    ended: bool,
+) -> Result<Option<Vec<u8>>, Refusal> {
+    text_of(alloc, row.head, row.mode, row.body, cuts, ended)
+}
+
+/// Whether a transaction came out as the row states.
+pub fn judge(
+    alloc: Global,
+    row: &Row<'_>,
+    parts: &TxnParts<MemLink, MemLink>,
+) -> Result<Verdict, Refusal> {
+    if parts.end != Some(row.end) {
+        return Ok(Verdict::OtherEnd);
+    }
+    if parts.number != NUMBER {
+        return Ok(Verdict::OtherNumber);
+    }
+    if request_of(&parts.origin) != row.sent {
+        return Ok(Verdict::OtherRequest);
+    }
+    if parts.head != row.head.len() as u64 || parts.mode != row.mode {
+        return Ok(Verdict::OtherHead);
+    }
+    let whole = row.end == TxnEnd::Whole;
+    let Some(text) = stated_text(alloc, row, parts.cuts.as_slice(), whole)? else {
+        return Ok(Verdict::OtherPieces);
+    };
+    if parts.client.written() != text.as_slice() {
+        return Ok(Verdict::OtherText);
+    }
+    Ok(if whole {
+        judge_whole(row, parts)
+    } else {
+        Verdict::AsStated
+    })
+}
+
+// Whether the pieces of a body are all of it.
+fn judge_whole(row: &Row<'_>, parts: &TxnParts<MemLink, MemLink>) -> Verdict {
+    let mut sum: u64 = 0;
+    for cut in parts.cuts.as_slice() {
+        sum = sum.saturating_add(u64::from(*cut));
+    }
+    if sum != row.body.len() as u64 {
+        return Verdict::OtherPieces;
+    }
+    Verdict::AsStated
+}
+
+/// Whether a transaction ended so, and its client got a front of what the row states.
+pub fn judge_front(
+    alloc: Global,
+    row: &Row<'_>,
+    end: TxnEnd,
+    parts: &TxnParts<MemLink, MemLink>,
+) -> Result<Verdict, Refusal> {
+    if parts.end != Some(end) {
+        return Ok(Verdict::OtherEnd);
+    }
+    let Some(text) = stated_text(alloc, row, parts.cuts.as_slice(), true)? else {
+        return Ok(Verdict::OtherPieces);
+    };
+    if !text.as_slice().starts_with(parts.client.written()) {
+        return Ok(Verdict::OtherText);
+    }
+    Ok(Verdict::AsStated)
+}
+
+/// What comes of a row between the links of these plans.
+pub fn run_row(
+    alloc: Global,
+    row: &Row<'_>,
+    client: &Plan<'_>,
+    origin: Option<Plan<'_>>,
+) -> Result<Ended, Refusal> {
+    run(alloc, row.lines, row.file, client, origin)
+}
+
+fn giving_if(gives: Option<&[u8]>) -> Option<Plan<'_>> {
+    match gives {
+        Some(gives) => Some(giving(gives)),
+        None => None,
+    }
+}
+
+fn dripping_if(gives: Option<&[u8]>) -> Option<Plan<'_>> {
+    match gives {
+        Some(gives) => Some(dripping(gives)),
+        None => None,
+    }
+}
+
+/// Whether a row comes out as stated between the links of these plans.
+pub fn check_between(
+    alloc: Global,
+    row: &Row<'_>,
+    client: &Plan<'_>,
+    origin: Option<Plan<'_>>,
+) -> Result<Verdict, Refusal> {
+    let ended = run_row(alloc, row, client, origin)?;
+    judge(alloc, row, &ended.parts)
+}
+
+/// Whether a row comes out as stated, both where the links give and take all at once and where each call of them
+/// moves one byte.
+pub fn check(alloc: Global, row: &Row<'_>) -> Result<Verdict, Refusal> {
+    let at_once = check_between(alloc, row, &giving(row.request), giving_if(row.origin))?;
+    if at_once != Verdict::AsStated {
+        return Ok(at_once);
+    }
+    check_between(alloc, row, &dripping(row.request), dripping_if(row.origin))
+}

@@ -1,0 +1,169 @@
+//! Hook plugin lines: rules for the fields of heads, and hosts that are denied.
+
+use crate::exchange::{exchange, setup_of, with_plugins};
+use crate::lines::FILE;
+use crate::plan::{giving, link_of};
+use crate::refusal::Refusal;
+use crate::row::{Row, Verdict, get, judge};
+use crate::stated::{ABC, FORBIDDEN, SIZED};
+use http_header::{HeaderName, HeaderValue};
+use std::alloc::Global;
+use std::test::Fail;
+use ts_config::{PluginLine, Rule, Side, Sites};
+use ts_link::Octets;
+use ts_wire::Mode;
+
+// Whether a row comes out as stated with this plugin line.
+fn check_ruled(alloc: Global, plugin: PluginLine, row: &Row<'_>) -> Result<Verdict, Refusal> {
+    let mut plugins = Vec::new(alloc);
+    plugins.push(plugin)?;
+    let setup = with_plugins(setup_of(alloc, row.lines, row.file)?, plugins)?;
+    let client = link_of(alloc, &giving(row.request))?;
+    let gives = row.origin.unwrap_or(b"");
+    let origin = link_of(alloc, &giving(gives))?;
+    let ended = exchange(alloc, setup, client, Some(origin))?;
+    judge(alloc, row, &ended.parts)
+}
+
+// `header.so SIDE set content-type VALUE`.
+fn sets_type(side: Side, value: HeaderValue) -> PluginLine {
+    PluginLine::Header {
+        side,
+        rule: Rule::Set {
+            name: HeaderName::from_static("content-type"),
+            value,
+        },
+    }
+}
+
+#[test]
+fn a_rule_of_the_request_side_changes_the_request(rt: HostRuntime) -> Result<(), Fail> {
+    let row = Row {
+        sent: b"GET / HTTP/1.1\r\nhost: a\r\ncontent-type: x\r\nvia: 1.1 tsx\r\nconnection: close\r\n\r\n",
+        ..get(ABC, SIZED, Mode::Plain, b"abc")
+    };
+    let verdict = check_ruled(
+        rt.alloc(),
+        sets_type(Side::Request, HeaderValue::from_static("x")),
+        &row,
+    )?;
+    assert_eq!(rt; verdict, Verdict::AsStated);
+    Ok(())
+}
+
+#[test]
+fn a_rule_of_the_response_side_changes_each_head(rt: HostRuntime) -> Result<(), Fail> {
+    let rows = [
+        get(
+            ABC,
+            b"HTTP/1.1 200 OK\r\ncontent-type: x\r\nvia: 1.1 tsx\r\ncontent-length: 3\r\nconnection: close\r\n\r\n",
+            Mode::Plain,
+            b"abc",
+        ),
+        get(
+            b"HTTP/1.1 200 OK\r\nContent-Type: y\r\nServer: z\r\n\r\nabc",
+            b"HTTP/1.1 200 OK\r\nserver: z\r\ncontent-type: x\r\nvia: 1.1 tsx\r\ntransfer-encoding: chunked\r\nconnection: close\r\n\r\n",
+            Mode::Chunked,
+            b"abc",
+        ),
+        get(
+            b"",
+            b"HTTP/1.1 502 Bad Gateway\r\ncontent-type: x\r\ncontent-length: 16\r\nconnection: close\r\n\r\n",
+            Mode::Plain,
+            b"502 Bad Gateway\n",
+        ),
+    ];
+    for (place, row) in rows.iter().enumerate() {
+        let verdict = check_ruled(
+            rt.alloc(),
+            sets_type(Side::Response, HeaderValue::from_static("x")),
+            row,
+        )?;
+        assert_eq!(rt; verdict, Verdict::AsStated, "row {place}");
+    }
+    Ok(())
+}
+
+#[test]
+fn a_rule_removes_a_field(rt: HostRuntime) -> Result<(), Fail> {
+    let remove = PluginLine::Header {
+        side: Side::Response,
+        rule: Rule::Remove {
+            name: HeaderName::from_static("server"),
+        },
+    };
+    let row = get(
+        b"HTTP/1.1 200 OK\r\nServer: z\r\nX: y\r\nSERVER: w\r\nContent-Length: 3\r\n\r\nabc",
+        b"HTTP/1.1 200 OK\r\nx: y\r\nvia: 1.1 tsx\r\ncontent-length: 3\r\nconnection: close\r\n\r\n",
+        Mode::Plain,
+        b"abc",
+    );
+    assert_eq!(rt; check_ruled(rt.alloc(), remove, &row)?, Verdict::AsStated);
+    Ok(())
+}
+
+// Which lines act is decided by the head as the origin gave it.
+#[test]
+fn a_rule_does_not_change_which_lines_act(rt: HostRuntime) -> Result<(), Fail> {
+    let plain = Row {
+        lines: b"append_transform.so f\n",
+        file: FILE,
+        ..get(
+            b"HTTP/1.1 200 OK\r\nContent-Type: text/plain\r\nContent-Length: 3\r\n\r\nabc",
+            b"HTTP/1.1 200 OK\r\ncontent-type: text/html\r\nvia: 1.1 tsx\r\ncontent-length: 3\r\nconnection: close\r\n\r\n",
+            Mode::Plain,
+            b"abc",
+        )
+    };
+    let verdict = check_ruled(
+        rt.alloc(),
+        sets_type(Side::Response, HeaderValue::from_static("text/html")),
+        &plain,
+    )?;
+    assert_eq!(rt; verdict, Verdict::AsStated);
+    let html = Row {
+        lines: b"append_transform.so f\n",
+        file: FILE,
+        ..get(
+            b"HTTP/1.1 200 OK\r\nContent-Type: text/html\r\nContent-Length: 3\r\n\r\nabc",
+            b"HTTP/1.1 200 OK\r\ncontent-type: text/plain\r\nvia: 1.1 tsx\r\ntransfer-encoding: chunked\r\nconnection: close\r\n\r\n",
+            Mode::Chunked,
+            b"abc<hr>",
+        )
+    };
+    let verdict = check_ruled(
+        rt.alloc(),
+        sets_type(Side::Response, HeaderValue::from_static("text/plain")),
+        &html,
+    )?;
+    assert_eq!(rt; verdict, Verdict::AsStated);
+    Ok(())
+}
+
+#[test]
+fn a_denied_host_gets_nothing_of_an_origin(rt: HostRuntime) -> Result<(), Fail> {
+    let alloc = rt.alloc();
+    let rows = [
+        (
+            "A",
+            Row {
+                sent: b"",
+                ..get(ABC, FORBIDDEN, Mode::Plain, b"403 Forbidden\n")
+            },
+        ),
+        ("b", get(ABC, SIZED, Mode::Plain, b"abc")),
+    ];
+    for (site, row) in rows {
+        let mut sites = Vec::new(alloc);
+        sites.push(Octets::copy_of(alloc, site.as_bytes())?)?;
+        let deny = PluginLine::Deny {
+            sites: Sites::of_vec(sites),
+        };
+        assert_eq!(rt;
+            check_ruled(alloc, deny, &row)?,
+            Verdict::AsStated,
+            "{site}"
+        );
+    }
+    Ok(())
+}

@@ -1,0 +1,214 @@
+//! Links that make their caller wait: the same texts, and a pause of 10 milliseconds for each such answer.
+
+use crate::exchange::Ended;
+use crate::journals::{last_made, last_moment, least_gap};
+use crate::lines::{HTML, HTML_FRONT, STOCK, html};
+use crate::plan::{Plan, dripping, dripping_after};
+use crate::refusal::Refusal;
+use crate::row::{Row, Verdict, get, judge, run_row};
+use crate::stated::{ABC, BAD_GATEWAY, GET, GET_SENT, SIZED};
+use std::alloc::Global;
+use std::test::Fail;
+use ts_wire::Mode;
+
+// How long a link that was not ready is left alone, in milliseconds.
+const PAUSE: u64 = 10;
+
+// How many calls of a link wait in each of these runs.
+const WAITS: u64 = 2;
+
+// How often the links of a transaction made their caller wait.
+fn waits_of(ended: &Ended) -> (u64, u64) {
+    let origin = match &ended.parts.origin {
+        Some(link) => link.waits(),
+        None => 0,
+    };
+    (ended.parts.client.waits(), origin)
+}
+
+// Whether a row comes out as stated where its links wait so often.
+fn check_waiting(
+    alloc: Global,
+    row: &Row<'_>,
+    client: &Plan<'_>,
+    origin: Plan<'_>,
+    waits: (u64, u64),
+) -> Result<Verdict, Refusal> {
+    let ended = run_row(alloc, row, client, Some(origin))?;
+    if waits_of(&ended) != waits {
+        return Ok(Verdict::OtherWaits);
+    }
+    judge(alloc, row, &ended.parts)
+}
+
+// Whether a row comes out as stated where one link waits twice, and so makes two pauses.
+fn check_pauses(
+    alloc: Global,
+    row: &Row<'_>,
+    client: &Plan<'_>,
+    origin: Option<Plan<'_>>,
+    waits: (u64, u64),
+) -> Result<Verdict, Refusal> {
+    let ended = run_row(alloc, row, client, origin)?;
+    if waits_of(&ended) != waits {
+        return Ok(Verdict::OtherWaits);
+    }
+    if last_moment(ended.journal.entries()) != PAUSE * WAITS {
+        return Ok(Verdict::OtherMoment);
+    }
+    judge(alloc, row, &ended.parts)
+}
+
+#[test]
+fn a_client_that_waits_at_each_read(rt: HostRuntime) -> Result<(), Fail> {
+    let row = get(ABC, SIZED, Mode::Plain, b"abc");
+    for read in 1..=GET.len() as u64 {
+        let client = Plan {
+            again_reads: (read, read + 1),
+            ..dripping(GET)
+        };
+        let verdict = check_pauses(rt.alloc(), &row, &client, Some(dripping(ABC)), (2, 0))?;
+        assert_eq!(rt; verdict, Verdict::AsStated, "read {read}");
+    }
+    Ok(())
+}
+
+#[test]
+fn an_origin_that_waits_at_each_write(rt: HostRuntime) -> Result<(), Fail> {
+    let row = get(ABC, SIZED, Mode::Plain, b"abc");
+    for write in 1..=GET_SENT.len() as u64 {
+        let origin = Plan {
+            again_writes: (write, write + 1),
+            ..dripping(ABC)
+        };
+        let verdict = check_pauses(rt.alloc(), &row, &dripping(GET), Some(origin), (0, 2))?;
+        assert_eq!(rt; verdict, Verdict::AsStated, "write {write}");
+    }
+    Ok(())
+}
+
+// How many writes of few bytes a client makes at least that gets a body.
+const WRITES: u64 = 8;
+
+// How many reads bring the head, and one byte of the body each.
+const READS: u64 = 7;
+
+#[test]
+fn a_client_that_waits_at_each_write(rt: HostRuntime) -> Result<(), Fail> {
+    let alloc = rt.alloc();
+    let origin = dripping_after(HTML, HTML_FRONT);
+    for (place, (lines, body)) in STOCK.iter().enumerate() {
+        let row = html(lines, body);
+        for write in 1..WRITES {
+            let client = Plan {
+                again_writes: (write, write + 1),
+                ..dripping_after(GET, 0)
+            };
+            let verdict = check_waiting(alloc, &row, &client, origin, (WAITS, 0))?;
+            assert_eq!(rt; verdict, Verdict::AsStated, "line {place}, write {write}");
+        }
+    }
+    Ok(())
+}
+
+#[test]
+fn an_origin_that_waits_at_each_read(rt: HostRuntime) -> Result<(), Fail> {
+    let alloc = rt.alloc();
+    let client = dripping_after(GET, 0);
+    for (place, (lines, body)) in STOCK.iter().enumerate() {
+        let row = html(lines, body);
+        for read in 1..=READS {
+            let origin = Plan {
+                again_reads: (read, read + 1),
+                ..dripping_after(HTML, HTML_FRONT)
+            };
+            let verdict = check_waiting(alloc, &row, &client, origin, (0, WAITS))?;
+            assert_eq!(rt; verdict, Verdict::AsStated, "line {place}, read {read}");
+        }
+    }
+    Ok(())
+}
+
+#[test]
+fn both_links_wait_at_each_call(rt: HostRuntime) -> Result<(), Fail> {
+    let alloc = rt.alloc();
+    for (place, (lines, body)) in STOCK.iter().enumerate() {
+        let row = html(lines, body);
+        for (write, read) in [(1, 1), (2, 2), (3, 7), (7, 1), (7, 3), (7, 7)] {
+            let client = Plan {
+                again_writes: (write, write + 1),
+                ..dripping_after(GET, 0)
+            };
+            let origin = Plan {
+                again_reads: (read, read + 1),
+                ..dripping_after(HTML, HTML_FRONT)
+            };
+            let verdict = check_waiting(alloc, &row, &client, origin, (WAITS, WAITS))?;
+            assert_eq!(rt; verdict, Verdict::AsStated, "line {place}, {write}, {read}");
+        }
+    }
+    Ok(())
+}
+
+// Pauses while a body is passed on: each link by itself makes two of them.
+#[test]
+fn a_link_that_waits_is_left_alone_for_ten_milliseconds(rt: HostRuntime) -> Result<(), Fail> {
+    let alloc = rt.alloc();
+    let row = html(b"prepend.so <\n", b"<banana");
+    let (client, origin) = (dripping_after(GET, 0), dripping_after(HTML, HTML_FRONT));
+    for call in 1..=READS {
+        let late = Plan {
+            again_writes: (call, call + 1),
+            ..client
+        };
+        let verdict = check_pauses(alloc, &row, &late, Some(origin), (WAITS, 0))?;
+        assert_eq!(rt; verdict, Verdict::AsStated, "write {call}");
+        let late = Plan {
+            again_reads: (call, call + 1),
+            ..origin
+        };
+        let verdict = check_pauses(alloc, &row, &client, Some(late), (0, WAITS))?;
+        assert_eq!(rt; verdict, Verdict::AsStated, "read {call}");
+    }
+    Ok(())
+}
+
+#[test]
+fn a_client_that_waits_at_its_first_writes(rt: HostRuntime) -> Result<(), Fail> {
+    let row = Row {
+        origin: None,
+        sent: b"",
+        ..get(b"", BAD_GATEWAY, Mode::Plain, b"502 Bad Gateway\n")
+    };
+    let client = Plan {
+        again_writes: (1, 2),
+        ..dripping(GET)
+    };
+    assert_eq!(rt;
+        check_pauses(rt.alloc(), &row, &client, None, (2, 0))?,
+        Verdict::AsStated
+    );
+    Ok(())
+}
+
+// How long the stage of a line that pauses does nothing between two of its events, in milliseconds.
+const DELAY: u64 = 5;
+
+#[test]
+fn a_stage_pauses_between_its_events(rt: HostRuntime) -> Result<(), Fail> {
+    let alloc = rt.alloc();
+    let row = html(b"delay.so 5\n", b"banana");
+    let origin = dripping_after(HTML, HTML_FRONT);
+    let ended = run_row(alloc, &row, &dripping_after(GET, 0), Some(origin))?;
+    assert_eq!(rt; judge(alloc, &row, &ended.parts)?, Verdict::AsStated);
+    let entries = ended.journal.entries();
+    // The one stage is made last.
+    let Some(stage) = last_made(entries) else {
+        return Err("a continuation is made")?;
+    };
+    let (gap, count) = least_gap(entries, stage);
+    assert!(rt; count >= 2);
+    assert!(rt; gap >= Some(DELAY), "{gap:?}");
+    assert_eq!(rt; last_moment(entries) % DELAY, 0);
+    Ok(())
+}
