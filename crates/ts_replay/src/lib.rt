@@ -2,6 +2,10 @@
 //! driven to its end, and the report says what they came to.
 #![tactic(auto)]
 
+mod fault;
 mod replay;
+mod report;
 
-pub use replay::{Replayed, ReplayFault, one_report, replay};
+pub use fault::ReplayFault;
+pub use replay::{one_report, replay};
+pub use report::Replayed;

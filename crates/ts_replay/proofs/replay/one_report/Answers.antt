@@ -1,4 +1,4 @@
-use Rattle.ts_replay.proofs.Reporting.{one_report}
+use Rattle.ts_replay.proofs.OneReport.{one_report}
 use Rattle.ts_replay.proofs.replay.one_report.Goals as goal
 
 pub returns : goal.returns
