@@ -23,8 +23,7 @@ use Rattle.ts_wire.specs.declared.heads.RequestHead.{RequestHead}
 use Rattle.ts_wire.specs.declared.heads.ResponseHead.{ResponseHead}
 
 -- the block whose answer is the origin's, by the lines alone
-relayed_by : List ℕ → RequestHead → ResponseHead → TxnEnd → List ℕ → List TransformLine → List PluginLine → Block
-unfolding relayed_by
+abbrev relayed_by : List ℕ → RequestHead → ResponseHead → TxnEnd → List ℕ → List TransformLine → List PluginLine → Block
 relayed_by request q h end body ls ps =
     let framing = client_framing (framing_of q h) h.status (length_told h.fields) (list_any (acts_on h.status h.fields) ls) (reads_chunks q) in
     record {
