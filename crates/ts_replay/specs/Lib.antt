@@ -1,3 +1,4 @@
 pub mod Recorded
 pub mod Replayed
 pub mod Reports
+pub mod Rows

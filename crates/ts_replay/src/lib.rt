@@ -2,10 +2,13 @@
 //! driven to its end, and the report says what they came to.
 #![tactic(auto)]
 
+mod block;
 mod fault;
-mod replay;
+mod groups;
+mod replaying;
 mod report;
+mod running;
 
 pub use fault::ReplayFault;
-pub use replay::{one_report, replay};
+pub use replaying::{one_report, replay};
 pub use report::Replayed;
