@@ -29,7 +29,8 @@ module _ {W Q R T U : Type 0} (Fits : T → W → Type 0) where
   pub stands_itself : (t : Group W Q R T U) → StandsAfter t t
   stands_itself t = record { follows = follows_itself t; news = λ same. omega arith }
 
-  made_later : (t u : Group W Q R T U) → FollowsGroup t u → u.cx.log.base.turns ≤ t.cx.log.base.turns
+  -- a group that follows another was made with as many turns at least
+  pub made_later : (t u : Group W Q R T U) → FollowsGroup t u → u.cx.log.base.turns ≤ t.cx.log.base.turns
   made_later t u a = elim a.journal [ inl later ↦ omega arith | inr same ↦ let s = same.0 in omega arith ]
 
   -- what stands between two groups that were made with as many turns was made with as many too

@@ -12,6 +12,7 @@ use Rattle.ts_group.specs.Context.{IsSame}
 use Rattle.ts_group.specs.Answers.{KeepsTags}
 use Rattle.ts_group.specs.Acts.{BeginsTurn, GivesTurn, KeepsRoles}
 use Rattle.ts_group.specs.Slot.{marks_of}
+use Rattle.ts_group.specs.Standing.{FollowsGroup}
 use Rattle.ts_group.proofs.Slots.{marks_append, either_way}
 use Rattle.std.proofs.lemmas.List.Elements.{Contains-append_cases}
 use Rattle.ts_group.proofs.Slots.{one_mark}
@@ -107,6 +108,13 @@ module _ {W Q R T U : Type 0} where
     base = goes.base ∙ has.base;
     news_from = goes.news_from ∙ has.news_from;
     tags = λ tag fit. goes.tags tag (has.tags tag fit);
+  }
+
+  -- a group in its turn follows what was found
+  pub turn_follows : (Fits : T → W → Type 0) (found now : Group W Q R T U) (turn seat : ℕ) → HasTurn Fits found now turn seat → FollowsGroup Fits now found
+  turn_follows Fits found now turn seat has = record {
+    journal = inr (ap (λ (s : State). s.turns) has.base, has.later);
+    tags = λ same. has.tags;
   }
 
   -- a turn that is given back
