@@ -2,10 +2,9 @@
 ghost use Rattle.std.specs.Prelude.{◌≡◌, Some, true, false, ⊤, IfOk};
 ghost use Rattle.std.proofs.Common.{arith};
 ghost use Rattle.std.specs.List.{concat};
-ghost use Rattle.ts_link.specs.Inputs.{bytes_of};
 ghost use Rattle.ts_link.specs.Link.{all_of};
 ghost use Rattle.ts_link.specs.MemLink.{look_of};
-ghost use Rattle.ts_record.specs.Links.{IsNewSide, NeverFails};
+ghost use Rattle.ts_record.specs.Links.{IsNewSide, NeverFails, recorded_side, side_pieces};
 
 use std::alloc::Global;
 use std::collections::VecDeque;
@@ -14,7 +13,7 @@ use ts_link::{Got, Link, MemLink, NoMemory, Octets, Piece, Put};
 use ts_upstream::{Uploaded, Upstream};
 
 /// One side of a recorded transaction: it gives the pieces of its side and then its end, and takes all that is
-/// written to it. No call of it fails.
+/// written to it. No call of it fails or waits.
 #[derive(Drop)]
 pub struct RecordedLink {
     link: MemLink,
@@ -34,7 +33,7 @@ impl Model for RecordedLink {
 
 // The pieces as a link in memory takes them.
 fn given_pieces(alloc: Global, pieces: Vec<Octets>) -> Result<Vec<Piece>, NoMemory>
-    ensures { IfOk result (λ ps. bytes_of ps.items ≡ concat pieces.items) }
+    ensures { IfOk result (λ given. given.items ≡ side_pieces pieces.items) }
 {
     let mut given = Vec::with_capacity(alloc, pieces.len())?;
     let mut rest = VecDeque::from_vec(pieces);
@@ -47,7 +46,8 @@ fn given_pieces(alloc: Global, pieces: Vec<Octets>) -> Result<Vec<Piece>, NoMemo
 impl RecordedLink {
     /// The side that gives these pieces. It was not used.
     pub fn make(alloc: Global, pieces: Vec<Octets>) -> Result<RecordedLink, NoMemory>
-        ensures { IfOk result (IsNewSide (concat pieces.items)) }
+        ensures made { IfOk result (λ l. l ≡ recorded_side pieces.items) }
+        ensures new { IfOk result (IsNewSide (concat pieces.items)) }
     {
         let given = given_pieces(alloc, pieces)?;
         Ok(RecordedLink {
@@ -62,7 +62,8 @@ impl RecordedLink {
         self.link.written()
     }
 
-    /// What holds of every one: no call failed, and what it gave and may still give are the bytes of its side.
+    /// What holds of every one: no call failed or waited, and what it gave and may still give are the bytes of its
+    /// side.
     pub fn known(&self)
         ensures fails { NeverFails self.now }
         ensures whole { all_of (look_of self.now) ≡ (look_of self.now).source }
