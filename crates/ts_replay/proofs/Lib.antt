@@ -1,1 +1,5 @@
+pub mod Blank
+pub mod Blocks
 pub mod Reporting
+pub mod Telling
+pub mod Unframing

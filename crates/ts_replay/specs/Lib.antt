@@ -1,2 +1,4 @@
+pub mod Exchanged
 pub mod Replayed
 pub mod Reports
+pub mod Unframing

@@ -2,6 +2,8 @@
 //! driven to its end, and the report says what they came to.
 #![tactic(auto)]
 
+mod block;
+mod framed;
 mod replay;
 
 pub use replay::{Replayed, ReplayFault, one_report, replay};
