@@ -6,6 +6,7 @@ ghost use Rattle.ts_replay.specs.Recorded.{FitsIn, HasLinesOnly, IsTagOf};
 ghost use Rattle.ts_replay.specs.Rows.{IsRowOf};
 ghost use Rattle.ts_thread.specs.Threads.{HasHadTurns};
 
+use crate::block::Recorded;
 use std::alloc::Global;
 use std::collections::VecDeque;
 use std::snapshot::Snapshot;
@@ -14,13 +15,9 @@ use ts_config::Setup;
 use ts_group::Group;
 use ts_link::NoMemory;
 use ts_record::{MOST_TXNS, RecordedLink, RecordedTxn};
-use ts_stock::Stock;
 use ts_txn::{Txn, TxnTag};
 
-/// A transaction between two recorded sides.
-pub type Recorded = Txn<RecordedLink, RecordedLink, Stock>;
-
-/// What a slot promises of one.
+/// What a slot promises of a transaction between two recorded sides.
 pub type RecordedTag = TxnTag<RecordedLink, RecordedLink>;
 
 /// Groups in their order, each with the tag of its slot.

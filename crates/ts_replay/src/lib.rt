@@ -4,6 +4,7 @@
 
 mod block;
 mod fault;
+mod framed;
 mod groups;
 mod replaying;
 mod report;

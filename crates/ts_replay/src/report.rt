@@ -5,8 +5,7 @@ ghost use Rattle.ts_config.specs.declared.setup.Setup.{Setup};
 ghost use Rattle.ts_record.specs.Grammar.{TxnPieces};
 ghost use Rattle.ts_replay.specs.Replayed.{ComesTo, EachOf, HasRunAs};
 
-use crate::block::told;
-use crate::groups::Recorded;
+use crate::block::{Recorded, told};
 use std::alloc::Global;
 use std::collections::VecDeque;
 use ts_group::Group;

@@ -7,8 +7,9 @@ ghost use Rattle.ts_record.specs.Grammar.{TxnPieces};
 ghost use Rattle.ts_replay.specs.Replayed.{EachOf, HasRunAs, HasWorn};
 ghost use Rattle.ts_replay.specs.Rows.{IsRowOf};
 
+use crate::block::Recorded;
 use crate::fault::ReplayFault;
-use crate::groups::{Recorded, Row};
+use crate::groups::Row;
 use std::alloc::Global;
 use std::sync::Wait;
 use std::thread::Threads;
