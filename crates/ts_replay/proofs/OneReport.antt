@@ -16,7 +16,7 @@ module _ (s t : Setup) (lines : s.transforms.items ≡ t.transforms.items) (plug
   shown_one txn a b h k =
       h.shows
       ∙ ap shown (one_block t true (false ≡ true) (concat txn.1) (concat txn.0) h.block k.block
-          (block_same s t lines plugins true (false ≡ true) (concat txn.1) (concat txn.0) h.block h.is_block) k.is_block)
+      (block_same s t lines plugins true (false ≡ true) (concat txn.1) (concat txn.0) h.block h.is_block) k.is_block)
       ∙ sym k.shows
 
   -- and transactions by one list of blocks

@@ -59,11 +59,7 @@ fn make_group(
 }
 
 /// The groups of these transactions, numbered from 1, all under one setup.
-pub fn make_row(
-    alloc: Global,
-    setup: &Arc<Setup>,
-    txns: Vec<RecordedTxn>,
-) -> Result<Row, NoMemory>
+pub fn make_row(alloc: Global, setup: &Arc<Setup>, txns: Vec<RecordedTxn>) -> Result<Row, NoMemory>
     requires lines { HasLinesOnly (arc_value setup.now) }
     requires count { length txns.items ≤ MOST_TXNS }
     ensures { IfOk result (λ row. IsRowOf (arc_value setup.now) txns.items row.tags.items row.groups.items) }
