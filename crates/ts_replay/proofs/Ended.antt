@@ -18,7 +18,7 @@ use Rattle.ts_record.specs.Links.{recorded_side}
 use Rattle.ts_record.proofs.Links.{side_bytes}
 use Rattle.ts_replay.specs.Exchanged.{IsRunBetween}
 use Rattle.ts_replay.specs.Recorded.{AreTagsOf, FitInRow, FitsIn, FitsTag, HasLinesOnly, IsSound, IsTagOf, Recorded, RecordedGroup, RecordedTag, is_asked_only, is_first}
-use Rattle.ts_replay.specs.Replayed.{EachOf, HasRunAs, IsGroupOf}
+use Rattle.ts_replay.specs.Replayed.{EachOf, HasRunAs}
 use Rattle.ts_replay.specs.Rows.{IsRowOf}
 use Rattle.ts_stock.specs.Stock.{still_writes}
 use Rattle.ts_thread.specs.declared.TheConstants.{MOST_ALONE}
@@ -148,16 +148,6 @@ each_ran setup from most (txn ∷ txns) (tag ∷ tags) (g ∷ gs) lines are fit 
   has_run setup from most txn tag g lines are.0 fit.0 (All-head IsIdle g gs idle) (All-head (HasHadTurns most) g gs few) low (started 0 g refl),
   each_ran setup (from + 1) most txns tags gs lines are.1 fit.1 (All-tail IsIdle g gs idle) (All-tail (HasHadTurns most) g gs few) low (λ k h at. started (suc k) h at),
 )
-
--- the groups of a row, whatever their turns
-pub each_fits : (setup : Setup) (from : ℕ) (txns : List TxnPieces) (tags : List RecordedTag) (groups : List RecordedGroup) → AreTagsOf setup from txns tags → FitInRow tags groups
-    → EachOf (IsGroupOf setup) from txns groups
-each_fits setup from [] [] [] are fit = tt
-each_fits setup from [] [] (g ∷ gs) are fit = absurd fit
-each_fits setup from [] (tag ∷ tags) gs are fit = absurd are
-each_fits setup from (txn ∷ txns) [] gs are fit = absurd are
-each_fits setup from (txn ∷ txns) (tag ∷ tags) [] are fit = absurd fit
-each_fits setup from (txn ∷ txns) (tag ∷ tags) (g ∷ gs) are fit = ((tag, are.0, fit.0), each_fits setup (from + 1) txns tags gs are.1 fit.1)
 
 -- groups of a row that were run by threads and driven to their end
 pub row_ran : (setup : Setup) (txns : List TxnPieces) (tags : List RecordedTag) (given groups : List RecordedGroup) (starts threads budget : ℕ) → IsRowOf setup txns tags given → starts ≡ length given

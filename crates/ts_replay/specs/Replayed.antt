@@ -1,5 +1,5 @@
 -- What the replay of transactions comes to: the groups in which they ran, their journals and the report.
-use Rattle.std.specs.Prelude.{◌≡◌, ℕ, ◌+◌, ◌<◌, List, [], ◌∷◌, true, false, map, Any, IsSomeAnd, ⊤}
+use Rattle.std.specs.Prelude.{◌≡◌, ℕ, ◌+◌, ◌<◌, List, [], ◌∷◌, true, false, map, IsSomeAnd, ⊤}
 use Rattle.ts_config.specs.declared.setup.Setup.{Setup}
 use Rattle.ts_config.specs.declared.setup.TransformLine.{TransformLine}
 use Rattle.ts_journal.specs.Log.{Log}
@@ -7,10 +7,9 @@ use Rattle.ts_journal.specs.Machine.{IsLawful, replay}
 use Rattle.ts_journal.specs.declared.entry.TheConstants.{GREATEST}
 use Rattle.ts_record.specs.Grammar.{TxnPieces}
 use Rattle.ts_record.specs.Report.{IsReported}
-use Rattle.ts_replay.specs.Recorded.{FitsIn, FitsTag, HasLinesOnly, IsSound, IsTagOf, RecordedGroup, RecordedTag}
+use Rattle.ts_replay.specs.Recorded.{FitsTag, HasLinesOnly, IsSound, IsTagOf, RecordedGroup, RecordedTag}
 use Rattle.ts_replay.specs.Reports.{IsReport, IsSetupOf}
 use Rattle.ts_replay.specs.declared.report.Replayed.{Replayed}
-use Rattle.ts_thread.specs.Goings.{IsWorn}
 use Rattle.ts_txn.specs.Making.{end_of}
 
 -- a journal that is lawful and not held, with nothing pending
@@ -57,25 +56,9 @@ pub record ComesTo (setup : Setup) (txns : List TxnPieces) (groups : List Record
   pub journals : r.journals.items ≡ map journal_of groups
   pub report : IsReport setup txns r.report.items
 
--- the group is that of the transaction of this number
-abbrev pub IsGroupOf : Setup → ℕ → TxnPieces → RecordedGroup → Type 0
-IsGroupOf setup number txn g = (tag : RecordedTag) × IsTagOf setup number txn false tag × FitsIn tag g
-
--- groups of these transactions, of which one has had as many turns as a group gets
-pub record HasWorn (setup : Setup) (txns : List TxnPieces) : Type 0 where
-  pub groups : List RecordedGroup
-  pub each : EachOf (IsGroupOf setup) 1 txns groups
-  pub worn : Any IsWorn groups
-
 -- THE REPLAY of transactions under these lines, each in a group of its own
 pub record IsReplayed (lines : List TransformLine) (txns : List TxnPieces) (r : Replayed) : Type 0 where
   pub setup : Setup
   pub lines_are : IsSetupOf lines setup
   pub groups : List RecordedGroup
   pub comes : ComesTo setup txns groups r
-
--- transactions under these lines wore a group out
-pub record WearsOut (lines : List TransformLine) (txns : List TxnPieces) : Type 0 where
-  pub setup : Setup
-  pub lines_are : IsSetupOf lines setup
-  pub worn : HasWorn setup txns

@@ -3,7 +3,6 @@
 ghost use Rattle.std.specs.Prelude.{◌≡◌};
 ghost use Rattle.ts_replay.specs.declared.fault.ReplayFault.TheVariants as f;
 
-use std::alloc::AllocFailed;
 use thiserror::Error;
 use ts_link::NoMemory;
 
@@ -12,7 +11,7 @@ use ts_link::NoMemory;
 pub enum ReplayFault {
     #[error("NoMemory")]
     NoMemory,
-    /// One of them had so many turns that its group gets no more of them.
+    /// The group of one of them had had 2^50 turns, and was to have another. No clause says so.
     #[error("Worn")]
     Worn,
 }

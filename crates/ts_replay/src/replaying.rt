@@ -2,9 +2,8 @@
 
 ghost use Rattle.std.specs.Prelude.{◌<◌, ◌≤◌, IfOk, length};
 ghost use Rattle.std.specs.Arc.{arc_value};
-ghost use Rattle.std.specs.Result.{IsErrOf};
 ghost use Rattle.ts_config.specs.Bytes.{most_transforms};
-ghost use Rattle.ts_replay.specs.Replayed.{IsReplayed, WearsOut};
+ghost use Rattle.ts_replay.specs.Replayed.{IsReplayed};
 ghost use Rattle.ts_replay.specs.Reports.{HasOneReport, IsSetupOf};
 
 use crate::fault::ReplayFault;
@@ -44,8 +43,7 @@ pub fn replay<G: Gate + Sync, R: Threads + Wait + Sync>(
     requires lines { length lines.items ≤ most_transforms }
     requires txns { length txns.items ≤ MOST_TXNS }
     requires threads { (0 < threads) × (threads ≤ MOST_THREADS) }
-    ensures replayed { IfOk result (IsReplayed lines.items txns.items) }
-    ensures worn { IsErrOf result ReplayFault.Worn → WearsOut lines.items txns.items }
+    ensures { IfOk result (IsReplayed lines.items txns.items) }
 {
     let setup = setup_of(alloc, lines)?;
     let row = make_row(alloc, &setup, txns)?;

@@ -1,10 +1,9 @@
 //! A row of groups is run by event threads, and then driven to its end.
 
 ghost use Rattle.std.specs.Prelude.{◌<◌, ◌≤◌, IfOk, List, length};
-ghost use Rattle.std.specs.Result.{IsErrOf};
 ghost use Rattle.ts_config.specs.declared.setup.Setup.{Setup};
 ghost use Rattle.ts_record.specs.Grammar.{TxnPieces};
-ghost use Rattle.ts_replay.specs.Replayed.{EachOf, HasRunAs, HasWorn};
+ghost use Rattle.ts_replay.specs.Replayed.{EachOf, HasRunAs};
 ghost use Rattle.ts_replay.specs.Rows.{IsRowOf};
 
 use crate::block::Recorded;
@@ -32,10 +31,8 @@ pub fn run_row<G: Gate + Sync, R: Threads + Wait + Sync>(
     requires row { (setup : Setup) × (txns : List TxnPieces) × (length txns ≤ MOST_TXNS)
         × IsRowOf setup txns row.tags.items row.groups.items }
     requires threads { (0 < threads) × (threads ≤ MOST_THREADS) }
-    ensures ran { (setup : Setup) (txns : List TxnPieces) → IsRowOf setup txns row.tags.items row.groups.items →
+    ensures { (setup : Setup) (txns : List TxnPieces) → IsRowOf setup txns row.tags.items row.groups.items →
         IfOk result (λ gs. EachOf (HasRunAs setup) 1 txns gs.items) }
-    ensures worn { IsErrOf result ReplayFault.Worn → (setup : Setup) (txns : List TxnPieces)
-        → IsRowOf setup txns row.tags.items row.groups.items → HasWorn setup txns }
 {
     let Row { groups, tags } = row;
     if groups.is_empty() {
