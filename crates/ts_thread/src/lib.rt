@@ -17,7 +17,7 @@ mod threads;
 mod turning;
 mod whole;
 
-pub use did::{Did, RunEnd};
+pub use did::{Did, RunEnd, Unfinished};
 pub use ending::{ONLY_SEAT, finish};
 pub use running::{run_groups, start_groups};
 pub use thread::EventThread;
@@ -32,5 +32,5 @@ pub const MOST_ENTERED: u64 = 2;
 /// How many milliseconds after a miss a token is due again.
 pub const PUT_BACK: u64 = 10;
 
-/// How much is left to do to a group at most, where many groups are run and then driven to their end.
-pub const MOST_LEFT: u64 = 1 << 50;
+/// How many turns a group has had at most that gets one more where groups are driven to their end.
+pub const MOST_ALONE: u64 = 1 << 50;
