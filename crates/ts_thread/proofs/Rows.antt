@@ -1,7 +1,7 @@
 -- Rows of groups.
 use Rattle.std.proofs.Common.{◌≡◌, ℕ, zero, suc, ◌+◌, List, [], ◌∷◌, ◌++◌, ◌-◌, ◌<◌, ◌≤◌, length, Bool, true, Option, Some, None, Result, Ok, Err, IsSome, IsErr, unwrap_or, OnOk, All, take, length-append, append_assoc, refl, ap, sym, ◌∙◌, subst, arith}
 use Rattle.std.specs.List.{slice_get, sum_by, Any}
-use Rattle.std.specs.Result.{IsErrOf}
+use Rattle.std.specs.Result.{IsErrAnd, IsErrOf}
 use Rattle.std.proofs.lemmas.List.Sums.{sum_by-cons, sum_by-append}
 use Rattle.std.proofs.lemmas.List.Elements.{All-nil, All-cons, All-head, All-tail, All-append, Contains-append_left, Contains-append_right}
 use Rattle.ts_journal.specs.State.{State}
@@ -81,6 +81,15 @@ any_back P xs ys (k, x, low, is, p) = let at = Contains-append_right xs ys x (k,
 
 pub any_head : {X : Type 0} (P : X → Type 0) (x : X) (xs : List X) → P x → Any P (x ∷ xs)
 any_head P x xs p = (0, x, omega arith, refl, p)
+
+any_tail : {X : Type 0} (P : X → Type 0) (x : X) (xs : List X) → Any P xs → Any P (x ∷ xs)
+any_tail P x xs some = any_back P (x ∷ []) xs some
+
+-- what holds of one of those around another, holds of one of the row
+pub any_around : {X : Type 0} (P : X → Type 0) (xs : List X) (x : X) (ys : List X) → Any P (xs ++ ys) → Any P (xs ++ x ∷ ys)
+any_around P [] x ys some = any_tail P x ys some
+any_around P (z ∷ xs) x ys (zero, y, low, is, p) = any_head P z (xs ++ x ∷ ys) (subst P (sym is) p)
+any_around P (z ∷ xs) x ys (suc k, y, low, is, p) = any_tail P z (xs ++ x ∷ ys) (any_around P xs x ys (k, y, omega arith, is, p))
 
 module _ {W Q R T U : Type 0} (Fits : T → W → Type 0) (Sound : W → State → List Named → Type 0) (oa isf : T → Bool) (Left : W → State → Option ℕ) where
   pub all_refl : (r : Result (Unit {0}) Unfinished) (gs : List (Group W Q R T U)) (n : ℕ) → AllGoOn Fits Sound oa isf Left r gs gs n
@@ -218,6 +227,11 @@ pub answer_right : {Q R : Type 0} (A B : ℕ → Q → R → Type 0) (j k : ℕ)
 answer_right A B j k q (asked.Reply r) a f = f r a
 answer_right A B j k q (asked.Missed seen p) a f = a
 answer_right A B j k q (asked.NoMemory p) a f = a
+
+-- what holds of a fault holds of the answer that it was
+pub same_fault : {A E : Type 0} (P : Result A E → Type 0) (r : Result A E) (e : E) → IsErrAnd r (λ x. x ≡ e) → P (Err e) → P r
+same_fault P (Ok a) e is p = absurd is
+same_fault P (Err x) e is p = subst (λ y. P (Err y)) (sym is) p
 
 -- an answer that is no fault names no worn group
 never_worn : {E : Type 0} {e : E} → IsErrOf {T = Unit {0}} (Ok tt) e → ⊥

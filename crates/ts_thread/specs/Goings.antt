@@ -25,11 +25,10 @@ pub record IsLaterGroup {W Q R T U : Type 0} (old new : Group W Q R T U) : Type 
   pub base : new.cx.log.base ≡ old.cx.log.base
   pub later : IsLater old.cx.log.state new.cx.log.state
 
--- What at most so many turns, of which none is held any more, leave of a group, where groups were driven with this
--- answer.
-pub record HasTakenTurns {W Q R T U : Type 0} (Fits : T → W → Type 0) (Sound : W → State → List Named → Type 0)
-    (only_asked is_first : T → Bool) (Left : W → State → Option ℕ) (result : Result (Unit {0}) Unfinished)
-    (old new : Group W Q R T U) (turns : ℕ) : Type 0 where
+-- What at most so many turns, of which none is held any more, leave of a group, where a drive gave this answer.
+pub record HasTakenTurns {W Q R T U : Type 0} (Fits : T → W → Type 0)
+    (Sound : W → State → List Named → Type 0) (only_asked is_first : T → Bool) (Left : W → State → Option ℕ)
+    (result : Result (Unit {0}) Unfinished) (old new : Group W Q R T U) (turns : ℕ) : Type 0 where
   -- it fits each tag that it fitted
   pub fits : (t : T) → GroupFits Fits Sound only_asked is_first t old
       → GroupFits Fits Sound only_asked is_first t new
@@ -44,10 +43,11 @@ pub record HasTakenTurns {W Q R T U : Type 0} (Fits : T → W → Type 0) (Sound
   pub nothing : old.cx.log.state.pending ≡ [] → new.cx.log.state.pending ≡ []
   pub later : IsLaterGroup old new
 
--- What a group becomes in a turn that it has, in which the event that is due first is handled, or nothing at want of
--- memory, with this answer: the turn is still held.
+-- What a group becomes in a turn that it has, in which the event that is due first is handled, or nothing at
+-- want of memory, with this answer: the turn is still held.
 pub record WorksOn {W Q R T U : Type 0} (Fits : T → W → Type 0) (Sound : W → State → List Named → Type 0)
-    (Left : W → State → Option ℕ) (result : Result (Unit {0}) Unfinished) (old new : Group W Q R T U) : Type 0 where
+    (Left : W → State → Option ℕ) (result : Result (Unit {0}) Unfinished)
+    (old new : Group W Q R T U) : Type 0 where
   pub did : List Entry
   pub by : Extends old.cx.log new.cx.log did
   pub first : (IsErrOf result unfinished.NoMemory × (did ≡ [])) ⊎ HandlesDue old.cx.log.state did
@@ -66,8 +66,8 @@ work_left Left g = unwrap_or (Left g.world g.cx.log.state) 0
 abbrev pub IsIdle : {W Q R T U : Type 0} → Group W Q R T U → Type 0
 IsIdle g = g.cx.log.state.pending ≡ []
 
--- What a drive answers where this came of a question. Nobody else has the groups, so a question is missed only by a
--- worn group.
+-- What a drive answers where this came of a question. Nobody else has the groups, so a question is missed
+-- only by a worn group.
 abbrev pub came_of : {Q R : Type 0} → Asked Q R → Result (Unit {0}) Unfinished
 came_of (asked.Reply r) = Ok tt
 came_of (asked.Missed seen q) = Err unfinished.Worn
@@ -100,8 +100,9 @@ ComesNext g number moment = IsDueFirst g.cx.log.state moment number
 abbrev pub row : {X : Type 0} → List X → X → List X → List X
 row before x after = before ++ x ∷ after
 
--- What a drive of one group leaves of it and of those before and after it: so many turns at most were taken of each, no
--- more than the group had left to do and one, and where it came to its end, the group has that much less to do.
+-- What a drive of one group leaves of it and of those before and after it: so many turns at most were taken of
+-- each, no more than the group had left to do and one, and where it came to its end, the group has that much
+-- less to do.
 pub record Drives {W Q R T U : Type 0} (Fits : T → W → Type 0) (Sound : W → State → List Named → Type 0)
     (only_asked is_first : T → Bool) (Left : W → State → Option ℕ)
     (before before' : List (Group W Q R T U)) (old new : Group W Q R T U)
@@ -130,8 +131,8 @@ pub record DrivesAt {W Q R T U : Type 0} (Fits : T → W → Type 0) (Sound : W 
   pub new_is : new ≡ row before' group' after'
   pub drives : Drives Fits Sound only_asked is_first Left before before' group group' after after' result
 
--- What a drive of all groups leaves of them: so many turns at most were taken of each, no more than was left to do in
--- all and one. Where it came to its end, that much less is left to do in all, and no event is pending.
+-- What a drive of all groups leaves of them: so many turns at most were taken of each, no more than was left to
+-- do in all and one. Where it came to its end, that much less is left to do in all, and no event is pending.
 pub record Finishes {W Q R T U : Type 0} (Fits : T → W → Type 0) (Sound : W → State → List Named → Type 0)
     (only_asked is_first : T → Bool) (Left : W → State → Option ℕ)
     (old new : List (Group W Q R T U)) (result : Result (Unit {0}) Unfinished) : Type 0 where

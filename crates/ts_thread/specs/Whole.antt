@@ -42,8 +42,8 @@ abbrev pub EachTells : {W T : Type 0} → Type 0 → Type 0 → Type 0 → (T �
 EachTells {W} {T} Q R U Fits Sound only_asked is_first Left = (t : T) (g : Group W Q R T U)
     → GroupFits Fits Sound only_asked is_first t g → Finite Left g
 
--- So many groups end soon: of each that fits a tag and has had at most so many turns, no more than this is left to do,
--- and there are turns enough for that of all of them before one is worn.
+-- So many groups end soon: of each that fits a tag and has had at most so many turns, no more than this is
+-- left to do, and there are turns enough for that of all of them before one is worn.
 pub record EndSoon {W T : Type 0} (Q R U : Type 0) (Fits : T → W → Type 0)
     (Sound : W → State → List Named → Type 0) (only_asked is_first : T → Bool) (Left : W → State → Option ℕ)
     (count turns : ℕ) : Type 0 where
@@ -53,7 +53,8 @@ pub record EndSoon {W T : Type 0} (Q R U : Type 0) (Fits : T → W → Type 0)
   pub enough : turns + count * most + 1 < MOST_ALONE
 
 -- Groups that have ended: each follows the group that was given at its place and fits its tag, no event is
--- pending, each has had no more turns than the plan gives or than one thread gives, and the first so many were started.
+-- pending, each has had no more turns than the plan gives or than one thread gives, and the first so many
+-- were started.
 pub record HaveEnded {W Q R T U : Type 0} (Fits : T → W → Type 0) (Sound : W → State → List Named → Type 0)
     (only_asked is_first : T → Bool) (Begun : W → W → Type 0) (tags : List T) (given : List (Group W Q R T U))
     (starts threads budget : ℕ) (groups : List (Group W Q R T U)) : Type 0 where
@@ -63,8 +64,8 @@ pub record HaveEnded {W Q R T U : Type 0} (Fits : T → W → Type 0) (Sound : W
   pub turns : All (HasHadTurns (max (turns_of starts threads budget) MOST_ALONE)) groups
   pub started : WereStarted (IsFirst is_first tags) Begun Sound starts given groups
 
--- Groups of which one was worn when it was to have a turn: each follows the group that was given at its place and fits
--- its tag.
+-- Groups of which one was worn when it was to have a turn: each follows the group that was given at its
+-- place and fits its tag.
 pub record HadWorn {W Q R T U : Type 0} (Fits : T → W → Type 0) (Sound : W → State → List Named → Type 0)
     (only_asked is_first : T → Bool) (tags : List T) (given : List (Group W Q R T U)) : Type 0 where
   pub groups : List (Group W Q R T U)

@@ -268,9 +268,9 @@ fn finish_all<W: World + Drop>(groups: &mut [Group<W>]) -> Result<(), Unfinished
     Ok(())
 }
 
-/// Handles the events of groups until none is pending, each in a turn of its own, and of each group the one that is due
-/// first before the others. A group that a handler wants to ask is asked in a turn of its own. A group has no turn more
-/// after its turn `MOST_ALONE`. No turn is held when it returns, whatever it answers.
+/// Handles the events of groups until none is pending, each in a turn of its own, and of each group the one
+/// that is due first before the others. A group that a handler wants to ask is asked in a turn of its own. A
+/// group has no turn more after its turn `MOST_ALONE`. No turn is held when it returns, whatever it answers.
 pub fn finish<W: World + Drop>(groups: &mut Vec<Group<W>>) -> Result<(), Unfinished>
     requires fits { (tags : List W.Tag) × CanAsk W.fits W.only_asked W.may_ask W.right W.answers tags
         × GroupsFit W.fits W.sound W.only_asked W.is_first tags groups.old.items }

@@ -14,8 +14,8 @@ use std::thread::Threads;
 use ts_group::{Group, World};
 use ts_link::Gate;
 
-/// Runs groups as `run_groups` does, and then handles what is still pending on this thread, until nothing is. The worlds
-/// tell what they have left to do.
+/// Runs groups as `run_groups` does, and then handles what is still pending on this thread, until nothing is.
+/// The worlds tell what they have left to do.
 pub fn run_whole<W: World + Drop + Send, G: Gate + Sync, R: Threads + Wait + Sync>(
     rt: &R,
     alloc: Global,

@@ -14,12 +14,12 @@ use Rattle.ts_group.specs.Answers.{Holds}
 use Rattle.ts_group.specs.Context.{IsFresh}
 use Rattle.ts_group.specs.Slot.{IsAtRest}
 use Rattle.ts_group_tests.specs.declared.toy.TheConstants.{MOST_WORK}
-use Rattle.ts_thread.specs.declared.TheConstants.{MOST_LEFT}
+use Rattle.ts_thread.specs.declared.TheConstants.{MOST_ALONE}
 use Rattle.ts_thread.specs.Goings.{IsIdle}
 use Rattle.ts_thread.specs.Started.{CanStart}
 use Rattle.ts_thread.specs.Tags.{CanAsk, GroupFits, GroupsFit}
 use Rattle.ts_thread.specs.Threads.{HasHadTurns}
-use Rattle.ts_thread.specs.Whole.{EndSoon}
+use Rattle.ts_thread.specs.Whole.{EachTells, EndSoon}
 use Rattle.ts_thread.proofs.Ended.{fit_count}
 use Rattle.ts_thread_tests.specs.ToyRows.{AreToys, HasEnded}
 use Rattle.ts_thread_tests.proofs.Ends.{all_more}
@@ -101,17 +101,22 @@ module _ {W Q R T U : Type 0} (Fits : T → W → Type 0) (Sound : W → State �
         (none, ends t g.world g.cx.log.state g.cx.roles (All-head Tagged t ts tagged) fits.0.0 fits.0.1 (ap (λ ps. length ps) none))
         (all_ended Counted ts gs ends (All-tail Tagged t ts tagged) fits.1 (All-tail IsIdle g gs idle))
 
-  -- worlds that tell little come to their end
-  pub toys_end : (Left : W → State → Option ℕ) (turns : ℕ)
-      → ((t : T) (w : W) (s : State) (roles : List Named) → Fits t w → Sound w s roles → IsSome (Left w s) × (unwrap_or (Left w s) 0 ≤ MOST_WORK + s.next))
-      → MOST_IN_TURN * turns + 1 + MOST_WORK ≤ MOST_LEFT → turns ≤ MOST_LEFT → EndSoon Q R U Fits Sound oa isf Left turns
-  toys_end Left turns little low few = record {
-    few = few;
-    each = λ t g fit had.
-        let tells = little t g.world g.cx.log.state g.cx.roles fit.0 fit.1 in
-        let next = next_bound (oa t) g.cx.log.state fit.2 in
-        let bound = tells.1 in (tells.0, omega arith);
-  }
+  module _ (Left : W → State → Option ℕ) (little : (t : T) (w : W) (s : State) (roles : List Named) → Fits t w → Sound w s roles → IsSome (Left w s) × (unwrap_or (Left w s) 0 ≤ MOST_WORK + s.next)) where
+    -- worlds that tell little tell it
+    pub toys_tell : EachTells Q R U Fits Sound oa isf Left
+    toys_tell t g fit = (little t g.world g.cx.log.state g.cx.roles fit.0 fit.1).0
+
+    -- and end soon
+    pub toys_end : (count turns : ℕ) → turns + count * (MOST_IN_TURN * turns + 1 + MOST_WORK) + 1 < MOST_ALONE → EndSoon Q R U Fits Sound oa isf Left count turns
+    toys_end count turns low = record {
+      most = MOST_IN_TURN * turns + 1 + MOST_WORK;
+      each = λ t g fit had.
+          let tells = little t g.world g.cx.log.state g.cx.roles fit.0 fit.1 in
+          let next = next_bound (oa t) g.cx.log.state fit.2 in
+          let bound = tells.1 in
+          omega arith;
+      enough = low;
+    }
 
 -- worlds that ask nobody can ask whom they may
 pub toys_can_ask : {W Q R T : Type 0} (Fits : T → W → Type 0) (oa : T → Bool) (MayAsk : W → ℕ → Type 0) (Right : W → ℕ → Q → R → Type 0) (Answers : W → Q → R → Type 0) (ts : List T) → ((w : W) (k : ℕ) → MayAsk w k → ⊥)

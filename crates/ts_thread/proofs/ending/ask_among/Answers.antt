@@ -1,5 +1,6 @@
 use Rattle.std.proofs.Common.{◌∷◌, sym, ◌∙◌}
-use Rattle.ts_thread.proofs.Rows.{all_refl, get_front, get_back}
+use Rattle.ts_thread.specs.Goings.{IsWorn}
+use Rattle.ts_thread.proofs.Rows.{all_refl, any_front, any_back, get_front, get_back}
 use Rattle.ts_thread.proofs.ending.ask_among.Goals as goal
 
 pub ask_at-requires-clause-there : goal.ask_at-requires-clause-there
@@ -23,3 +24,9 @@ returns-else-place-before-clause-before g c = all_refl g.W.Slotted.fits g.W.Worl
 pub returns-else-place-before-clause-answer : goal.returns-else-place-before-clause-answer
 returns-else-place-before-clause-answer g c = λ other here there.
     c.ask_at-else-place-before.ensures.answer other (sym (get_back c.args.before.now here c.args.after.now c.args.number c.if-place-before.false c.requires.there.3) ∙ there)
+
+pub returns-then-place-before-clause-worn : goal.returns-then-place-before-clause-worn
+returns-then-place-before-clause-worn g c = λ is. any_front IsWorn c.ask_at.new.groups c.args.after.now (c.ask_at.ensures.worn is)
+
+pub returns-else-place-before-clause-worn : goal.returns-else-place-before-clause-worn
+returns-else-place-before-clause-worn g c = λ is. any_back IsWorn c.args.before.now c.ask_at-else-place-before.new.groups (c.ask_at-else-place-before.ensures.worn is)

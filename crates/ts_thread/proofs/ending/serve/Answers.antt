@@ -1,6 +1,7 @@
-use Rattle.std.proofs.Common.{ℕ, IsErr, refl}
-use Rattle.ts_thread.proofs.Rows.{all_refl, all_over, askable, answer_right, told_falls, on_ok}
+use Rattle.std.proofs.Common.{ℕ, refl, sym, ◌∙◌, subst}
+use Rattle.ts_thread.proofs.Rows.{all_refl, askable, answer_right, told_falls, well_then}
 use Rattle.ts_group.specs.Answers.{LeavesLess}
+use Rattle.ts_thread.specs.Goings.{AllGoOn}
 use Rattle.ts_thread.proofs.Moves.{handled_works, told_works, same_works}
 use Rattle.ts_thread.proofs.ending.serve.Goals as goal
 
@@ -38,10 +39,15 @@ pub returns-in-Ok-Handled-clause-after : goal.returns-in-Ok-Handled-clause-after
 returns-in-Ok-Handled-clause-after g c = all_refl g.W.Slotted.fits g.W.World.sound g.W.World.only_asked g.W.World.is_first g.W.World.left _ c.args.after.now 1
 
 pub returns-in-Ok-Asks-clause-before : goal.returns-in-Ok-Asks-clause-before
-returns-in-Ok-Asks-clause-before g c = all_over g.W.Slotted.fits g.W.World.sound g.W.World.only_asked g.W.World.is_first g.W.World.left c.lack_of-answer.ensures c.args.before.now c.ask_among-asked.new.before 1 c.ask_among-asked.ensures.before
+returns-in-Ok-Asks-clause-before g c =
+    subst (λ r. AllGoOn g.W.Slotted.fits g.W.World.sound g.W.World.only_asked g.W.World.is_first g.W.World.left r c.args.before.now c.ask_among-asked.new.before 1) (sym c.came_of-answer.ensures) c.ask_among-asked.ensures.before
 
 pub returns-in-Ok-Asks-clause-after : goal.returns-in-Ok-Asks-clause-after
-returns-in-Ok-Asks-clause-after g c = all_over g.W.Slotted.fits g.W.World.sound g.W.World.only_asked g.W.World.is_first g.W.World.left c.lack_of-answer.ensures c.args.after.now c.ask_among-asked.new.after 1 c.ask_among-asked.ensures.after
+returns-in-Ok-Asks-clause-after g c =
+    subst (λ r. AllGoOn g.W.Slotted.fits g.W.World.sound g.W.World.only_asked g.W.World.is_first g.W.World.left r c.args.after.now c.ask_among-asked.new.after 1) (sym c.came_of-answer.ensures) c.ask_among-asked.ensures.after
+
+pub returns-in-Ok-Asks-clause-worn : goal.returns-in-Ok-Asks-clause-worn
+returns-in-Ok-Asks-clause-worn g c = λ is. c.ask_among-asked.ensures.worn (sym c.came_of-answer.ensures ∙ is)
 
 pub returns-in-Err-clause-before : goal.returns-in-Err-clause-before
 returns-in-Err-clause-before g c = all_refl g.W.Slotted.fits g.W.World.sound g.W.World.only_asked g.W.World.is_first g.W.World.left _ c.args.before.now 1
@@ -67,9 +73,9 @@ returns-in-Ok-Asks-clause-works g c =
     let gives = rw c.in-Ok-Asks.field-0-is at handle.gives in
     let falls = rw c.in-Ok-Asks.field-0-is at handle.falls in
     let told = c.answered.ensures in
-    (told_works g.W.Slotted.fits g.W.World.sound g.W.World.only_asked g.W.World.is_first g.W.World.left {L = IsErr c.lack_of-answer.result} g.W.World.called c.args.group.now c.handle.new.self c.answered.new.self c.args.number c.args.moment _ c.requires.due c.known.ensures.valid
+    (told_works g.W.Slotted.fits g.W.World.sound g.W.World.only_asked g.W.World.is_first g.W.World.left {r = c.came_of-answer.result} g.W.World.called c.args.group.now c.handle.new.self c.answered.new.self c.args.number c.args.moment _ c.requires.due c.known.ensures.valid
     c.known-in-Ok-Asks.ensures.valid gives handle.promises.tags handle.few falls told.grows told.turn told.sound told.promises.tags told.few
-    (told_falls c.ask_among-asked.result _ _ c.ask_among-asked.ensures.came told.hears.falls)).0
+    (λ well. told_falls c.ask_among-asked.result _ _ told.hears.falls (λ is. well (c.came_of-answer.ensures ∙ is)))).0
 
 pub returns-in-Ok-Asks-clause-falls : goal.returns-in-Ok-Asks-clause-falls
 returns-in-Ok-Asks-clause-falls g c =
@@ -77,10 +83,10 @@ returns-in-Ok-Asks-clause-falls g c =
     let gives = rw c.in-Ok-Asks.field-0-is at handle.gives in
     let falls = rw c.in-Ok-Asks.field-0-is at handle.falls in
     let told = c.answered.ensures in
-    on_ok c.lack_of-answer.result (LeavesLess g.W.World.left c.args.group.now 1 c.answered.new.self)
-    (told_works g.W.Slotted.fits g.W.World.sound g.W.World.only_asked g.W.World.is_first g.W.World.left {L = ⊥} g.W.World.called c.args.group.now c.handle.new.self c.answered.new.self c.args.number c.args.moment _ c.requires.due c.known.ensures.valid
+    well_then c.came_of-answer.result (LeavesLess g.W.World.left c.args.group.now 1 c.answered.new.self)
+    (told_works g.W.Slotted.fits g.W.World.sound g.W.World.only_asked g.W.World.is_first g.W.World.left {r = c.came_of-answer.result} g.W.World.called c.args.group.now c.handle.new.self c.answered.new.self c.args.number c.args.moment _ c.requires.due c.known.ensures.valid
     c.known-in-Ok-Asks.ensures.valid gives handle.promises.tags handle.few falls told.grows told.turn told.sound told.promises.tags told.few
-    (told_falls c.ask_among-asked.result _ _ c.ask_among-asked.ensures.came told.hears.falls)).1
+    (λ well. told_falls c.ask_among-asked.result _ _ told.hears.falls (λ is. well (c.came_of-answer.ensures ∙ is)))).1
 
 pub returns-in-Err-clause-works : goal.returns-in-Err-clause-works
 returns-in-Err-clause-works g c =

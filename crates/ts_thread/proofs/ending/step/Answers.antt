@@ -1,17 +1,10 @@
-use Rattle.std.proofs.Common.{◌+◌, ◌∷◌, ap, ◌∙◌, sym, subst, arith}
+use Rattle.std.proofs.Common.{◌+◌, ap, ◌∙◌, sym, subst, arith}
 use Rattle.ts_journal.specs.State.{State}
 use Rattle.ts_group.specs.Due.{IsDueFirst}
-use Rattle.ts_thread.specs.Goings.{HasTurns}
-use Rattle.ts_thread.proofs.Rows.{all_refl, all_front, all_back, all_middle, fit_middle, around}
-use Rattle.std.proofs.lemmas.List.Elements.{All-tail}
+use Rattle.ts_thread.specs.Goings.{IsWorn}
+use Rattle.ts_thread.proofs.Rows.{all_refl, fit_middle, around, any_around}
 use Rattle.ts_thread.proofs.Moves.{stepped}
 use Rattle.ts_thread.proofs.ending.step.Goals as goal
-
-pub overflow_add-turn : goal.overflow_add-turn
-overflow_add-turn g c =
-    let young = all_middle (HasTurns 0) c.args.before.now c.args.group.now c.args.after.now c.requires.turns in
-    let turns = c.turns-turn.ensures ∙ ap (λ j. j.state.turns) c.journal.ensures in
-    omega arith
 
 pub begin_turn-requires-clause-idle : goal.begin_turn-requires-clause-idle
 begin_turn-requires-clause-idle g c =
@@ -40,21 +33,14 @@ serve-answer-requires-clause-fits g c =
       around g.W.Slotted.fits g.W.World.sound g.W.World.only_asked g.W.World.is_first g.W.World.left fits.0 c.args.before.now c.args.group.now c.begin_turn.new.self.world c.args.after.now fits.2 c.in_ok-begin_turn.ensures.world,
     )
 
-pub serve-answer-requires-clause-turns : goal.serve-answer-requires-clause-turns
-serve-answer-requires-clause-turns g c =
-    let before = c.args.before.now in
-    let group = c.args.group.now in
-    let after = c.args.after.now in
-    let rest = all_back (HasTurns 0) before (group ∷ after) c.requires.turns in (
-      all_front (HasTurns 0) before (group ∷ after) c.requires.turns,
-      All-tail (HasTurns 0) group after rest,
-    )
-
 pub returns-clause-own : goal.returns-clause-own
 returns-clause-own g c =
     let begun = c.in_ok-begin_turn.ensures in
     let given = c.give_turn.ensures in
     let works = c.serve-answer.ensures.works in
-    stepped g.W.Slotted.fits g.W.World.sound g.W.World.only_asked g.W.World.is_first g.W.World.left c.args.group.now c.begin_turn.new.self c.serve-answer.new.group c.give_turn.new.self (c.turns-turn.result + 1) c.args.moment c.args.number c.requires.due
-    (ap (λ n. n + 1) (c.turns-turn.ensures ∙ ap (λ j. j.state.turns) c.journal.ensures)) begun.begins begun.world begun.left works given.gives given.world given.left
+    stepped g.W.Slotted.fits g.W.World.sound g.W.World.only_asked g.W.World.is_first g.W.World.left c.args.group.now c.begin_turn.new.self c.serve-answer.new.group c.give_turn.new.self (c.turns.result + 1) c.args.moment c.args.number c.requires.due (omega arith)
+    (ap (λ n. n + 1) (c.turns.ensures ∙ ap (λ j. j.state.turns) c.journal.ensures)) begun.begins begun.world begun.left works given.gives given.world given.left
     (given.sound works.sound)
+
+pub returns-clause-worn : goal.returns-clause-worn
+returns-clause-worn g c = λ is. any_around IsWorn c.serve-answer.new.before c.give_turn.new.self c.serve-answer.new.after (c.serve-answer.ensures.worn is)
