@@ -23,9 +23,10 @@ use Rattle.ts_group.specs.Changes.{StaysInTurn}
 use Rattle.ts_group.specs.Entries.{Grows, CanBeAsked}
 use Rattle.ts_group.specs.Acts.{BeginsTurn, GivesTurn}
 use Rattle.ts_group.specs.Slot.{IsAtRest}
+use Rattle.ts_group.specs.Due.{IsDueFirst}
 use Rattle.ts_group.specs.Answers.{Holds, Falls, LeavesLess, KeepsTags, SetsAtMost, SetsQuestion, IsSameGroup}
 use Rattle.ts_group.proofs.Keeps.{falls_refl, falls_trans}
-use Rattle.ts_thread.specs.declared.TheConstants.{MOST_ALONE}
+use Rattle.ts_thread.specs.declared.ending.TheConstants.{MOST_TURNS}
 use Rattle.ts_thread.specs.declared.did.Unfinished.{Unfinished}
 use Rattle.ts_thread.specs.declared.did.Unfinished.TheVariants as unfinished
 use Rattle.ts_thread.specs.Tags.{GroupFits}
@@ -44,6 +45,12 @@ not_asked : (oa : Bool) (s : State) (number : ℕ) (p : Pending) → OnTrue oa (
 not_asked false s number p none there = refl
 not_asked true s number p none there = let h : pending_at number [] ≡ Some p = sym (ap (pending_at number) none) ∙ there in absurd (cc)
 
+-- where an event comes next, one is pending
+pub next_pending : (s : State) (moment number : ℕ) → IsDueFirst s moment number → s.pending ≡ [] → ⊥
+next_pending s moment number due none =
+    let there : pending_at number s.pending ≡ Some due.0 = subst (λ (n : ℕ). pending_at n s.pending ≡ Some due.0) due.3 due.1.0 in
+    let h : pending_at number [] ≡ Some due.0 = sym (ap (pending_at number) none) ∙ there in absurd (cc)
+
 -- one event more may be set in one turn more
 rest_on : (b : Bool) (n t m u : ℕ) → n ≤ cond b (t + 1) (MOST_IN_TURN * t + 1) → m ≤ n + 1 → u ≡ t + 1 → m ≤ cond b (u + 1) (MOST_IN_TURN * u + 1)
 rest_on true n t m u a b c = omega arith
@@ -54,14 +61,14 @@ none_on true old new none stays = stays none
 none_on false old new none stays = tt
 
 -- turns within the bound
-within_same : (t u : ℕ) → u ≡ t → u ≤ max t MOST_ALONE
-within_same t u same = omega arith
+within_same : (limit t u : ℕ) → u ≡ t → u ≤ max t limit
+within_same limit t u same = omega arith
 
-within_one : (t u : ℕ) → t < MOST_ALONE → u ≡ t + 1 → u ≤ max t MOST_ALONE
-within_one t u young is = omega arith
+within_one : (limit t u : ℕ) → t < limit → u ≡ t + 1 → u ≤ max t limit
+within_one limit t u young is = omega arith
 
-within_on : (t u v : ℕ) → u ≤ max t MOST_ALONE → v ≤ max u MOST_ALONE → v ≤ max t MOST_ALONE
-within_on t u v a b = omega arith
+within_on : (limit t u v : ℕ) → u ≤ max t limit → v ≤ max u limit → v ≤ max t limit
+within_on limit t u v a b = omega arith
 
 -- a turn that is taken, and one that is given back, lead to a state that does not go back
 took_later : (s t : State) (turn seat : ℕ) → s.turns < turn → t ≡ after s (Took turn seat) → IsLater s t
@@ -105,8 +112,8 @@ over_turn g0 g1 g2 g3 turn moment more begins base on gives = record {
       (later_trans g1.cx.log.state g2.cx.log.state g3.cx.log.state on (gave_later g2.cx.log.state g3.cx.log.state g2.cx.log.state.turns gives.state));
 }
 
-module _ {W Q R T U : Type 0} (Fits : T → W → Type 0) (Sound : W → State → List Named → Type 0) (oa isf : T → Bool) (Left : W → State → Option ℕ) where
-  pub goes_refl : {L : Type 0} (g : Group W Q R T U) (n : ℕ) → HasTakenTurns Fits Sound oa isf Left r g g n
+module _ {W Q R T U : Type 0} (Fits : T → W → Type 0) (Sound : W → State → List Named → Type 0) (oa isf : T → Bool) (Left : W → State → Option ℕ) (limit : ℕ) where
+  pub goes_refl : {L : Type 0} (g : Group W Q R T U) (n : ℕ) → HasTakenTurns Fits Sound oa isf Left limit r g g n
   goes_refl {r = r} g n = record {
     fits = λ t f. f;
     tags = λ t f. f;
@@ -118,12 +125,12 @@ module _ {W Q R T U : Type 0} (Fits : T → W → Type 0) (Sound : W → State �
     later = record { base = refl; later = later_refl g.cx.log.state };
   }
 
-  pub goes_trans : {L : Type 0} (g h k : Group W Q R T U) (m n : ℕ) → HasTakenTurns Fits Sound oa isf Left r g h m → HasTakenTurns Fits Sound oa isf Left r h k n → HasTakenTurns Fits Sound oa isf Left r g k (m + n)
+  pub goes_trans : {L : Type 0} (g h k : Group W Q R T U) (m n : ℕ) → HasTakenTurns Fits Sound oa isf Left limit r g h m → HasTakenTurns Fits Sound oa isf Left limit r h k n → HasTakenTurns Fits Sound oa isf Left limit r g k (m + n)
   goes_trans {r = r} g h k m n a b = record {
     fits = λ t f. b.fits t (a.fits t f);
     tags = λ t f. b.tags t (a.tags t f);
     took = let x = a.took in let y = b.took in omega arith;
-    within = within_on g.cx.log.state.turns h.cx.log.state.turns k.cx.log.state.turns a.within b.within;
+    within = within_on limit g.cx.log.state.turns h.cx.log.state.turns k.cx.log.state.turns a.within b.within;
     falls = λ well. falls_trans (Left g.world g.cx.log.state) (Left h.world h.cx.log.state) (Left k.world k.cx.log.state) 0 0 (a.falls well) (b.falls well);
     nothing = λ e. b.nothing (a.nothing e);
     takes = takes_on (IsErrOf r unfinished.NoMemory) g.cx.log h.cx.log k.cx.log m n a.takes b.takes;
@@ -131,11 +138,11 @@ module _ {W Q R T U : Type 0} (Fits : T → W → Type 0) (Sound : W → State �
   }
 
   -- a turn in which an event was handled that was due
-  pub stepped : {L : Type 0} (g0 g1 g2 g3 : Group W Q R T U) (turn moment number : ℕ) → ComesNext g0 number moment → g0.cx.log.state.turns < MOST_ALONE → turn ≡ g0.cx.log.state.turns + 1
+  pub stepped : {L : Type 0} (g0 g1 g2 g3 : Group W Q R T U) (turn moment number : ℕ) → ComesNext g0 number moment → g0.cx.log.state.turns < limit → turn ≡ g0.cx.log.state.turns + 1
       → BeginsTurn g0.cx g1.cx turn 0 moment → g1.world ≡ g0.world → Left g1.world g1.cx.log.state ≡ Left g0.world g0.cx.log.state
       → WorksOn Fits Sound Left r g1 g2
       → GivesTurn g2.cx g3.cx → g3.world ≡ g2.world → Left g3.world g3.cx.log.state ≡ Left g2.world g2.cx.log.state → Holds Sound g3
-      → HasTakenTurns Fits Sound oa isf Left r g0 g3 1
+      → HasTakenTurns Fits Sound oa isf Left limit r g0 g3 1
   stepped {r = r} g0 g1 g2 g3 turn moment number due young is begins same left works gives still left_too sound =
       let there : pending_at number g0.cx.log.state.pending ≡ Some due.0 = subst (λ (n : ℕ). pending_at n g0.cx.log.state.pending ≡ Some due.0) due.3 due.1.0 in
       let next1 : g1.cx.log.state.next ≡ g0.cx.log.state.next = ap (λ (s : State). s.next) begins.state in
@@ -162,15 +169,15 @@ module _ {W Q R T U : Type 0} (Fits : T → W → Type 0) (Sound : W → State �
             );
         tags = tags;
         took = omega arith;
-        within = within_one g0.cx.log.state.turns g3.cx.log.state.turns young (omega arith);
+        within = within_one limit g0.cx.log.state.turns g3.cx.log.state.turns young (omega arith);
         falls = λ well. subst (λ (x : Option ℕ). Falls x 0 (Left g3.world g3.cx.log.state)) left (subst (λ (x : Option ℕ). Falls (Left g1.world g1.cx.log.state) 0 x) (sym left_too) (works.falls well));
-        nothing = λ none. let h : pending_at number [] ≡ Some due.0 = sym (ap (pending_at number) none) ∙ there in absurd (cc);
+        nothing = λ none. absurd (next_pending g0.cx.log.state moment number due none);
         takes = one_turn (IsErrOf r unfinished.NoMemory) g0.cx g1.cx g2.cx g3.cx turn moment works.did is begins works.by (works.turn.turns) (first_after (IsErrOf r unfinished.NoMemory) g0.cx g1.cx turn moment works.did begins works.first) gives;
         later = over_turn g0 g1 g2 g3 turn moment (omega arith) begins works.by.base works.later gives;
       }
 
   -- a group that is the same but for its room
-  pub same_goes : {L : Type 0} (g h : Group W Q R T U) (n : ℕ) → IsSame g.cx h.cx → h.world ≡ g.world → HasTakenTurns Fits Sound oa isf Left r g h n
+  pub same_goes : {L : Type 0} (g h : Group W Q R T U) (n : ℕ) → IsSame g.cx h.cx → h.world ≡ g.world → HasTakenTurns Fits Sound oa isf Left limit r g h n
   same_goes {r = r} g h n cx world =
       let state : h.cx.log.state ≡ g.cx.log.state = cx.log.state in
       record {
@@ -180,7 +187,7 @@ module _ {W Q R T U : Type 0} (Fits : T → W → Type 0) (Sound : W → State �
             let rest : IsAtRest (oa t) h.cx.log.state = subst (λ (s : State). IsAtRest (oa t) s) (sym state) f.2 in (fit, sound, rest, subst (λ (s : State). OnTrue (isf t) (s.turns ≡ 0)) (sym cx.log.base) f.3);
         tags = λ t f. subst (λ (w : W). Fits t w) (sym world) f;
         took = let e = ap (λ (s : State). s.turns) state in omega arith;
-        within = let e = ap (λ (s : State). s.turns) state in within_same g.cx.log.state.turns h.cx.log.state.turns e;
+        within = let e = ap (λ (s : State). s.turns) state in within_same limit g.cx.log.state.turns h.cx.log.state.turns e;
         falls = λ well. subst (λ (x : W × State). Falls (Left g.world g.cx.log.state) 0 (Left x.0 x.1)) (λ i. (sym world i, sym state i)) (falls_refl (Left g.world g.cx.log.state));
         nothing = λ e. ap (λ (s : State). s.pending) state ∙ e;
         takes = takes_none (IsErrOf r unfinished.NoMemory) g.cx.log h.cx.log n cx.log;
@@ -242,11 +249,11 @@ module _ {W Q R T U : Type 0} (Fits : T → W → Type 0) (Sound : W → State �
       )
 
   -- a turn in which a group was asked
-  pub asked_goes : {L : Type 0} (g0 g1 g2 g3 : Group W Q R T U) (turn moment : ℕ) (tag : T) → GroupFits Fits Sound oa isf tag g0 → g0.cx.log.state.turns < MOST_ALONE → turn ≡ g0.cx.log.state.turns + 1
+  pub asked_goes : {L : Type 0} (g0 g1 g2 g3 : Group W Q R T U) (turn moment : ℕ) (tag : T) → GroupFits Fits Sound oa isf tag g0 → g0.cx.log.state.turns < limit → turn ≡ g0.cx.log.state.turns + 1
       → BeginsTurn g0.cx g1.cx turn 0 moment → g1.world ≡ g0.world → Left g1.world g1.cx.log.state ≡ Left g0.world g0.cx.log.state
       → SetsQuestion Fits g1.world g1.cx g2.cx → KeepsTags Fits g1.world g2.world → (did : List Entry) → Extends g1.cx.log g2.cx.log did → ((IsErrOf r unfinished.NoMemory × (did ≡ [])) ⊎ HandlesQuestion g1.cx.log.state did) → IsLater g1.cx.log.state g2.cx.log.state → g2.cx.log.state.turns ≡ g1.cx.log.state.turns → LeavesLess Left g1 0 g2
       → GivesTurn g2.cx g3.cx → g3.world ≡ g2.world → Left g3.world g3.cx.log.state ≡ Left g2.world g2.cx.log.state → Holds Sound g3
-      → HasTakenTurns Fits Sound oa isf Left r g0 g3 1
+      → HasTakenTurns Fits Sound oa isf Left limit r g0 g3 1
   asked_goes {r = r} g0 g1 g2 g3 turn moment tag fit young is begins same left sets keeps did by asks later turns2 less gives still left_too sound =
       let next1 : g1.cx.log.state.next ≡ g0.cx.log.state.next = ap (λ (s : State). s.next) begins.state in
       let turns1 : g1.cx.log.state.turns ≡ turn = ap (λ (s : State). s.turns) begins.state in
@@ -269,7 +276,7 @@ module _ {W Q R T U : Type 0} (Fits : T → W → Type 0) (Sound : W → State �
         );
         tags = tags;
         took = omega arith;
-        within = within_one g0.cx.log.state.turns g3.cx.log.state.turns young (omega arith);
+        within = within_one limit g0.cx.log.state.turns g3.cx.log.state.turns young (omega arith);
         falls = λ well. subst (λ (x : Option ℕ). Falls x 0 (Left g3.world g3.cx.log.state)) left (subst (λ (x : Option ℕ). Falls (Left g1.world g1.cx.log.state) 0 x) (sym left_too) less);
         nothing = nothing;
         takes = one_turn (IsErrOf r unfinished.NoMemory) g0.cx g1.cx g2.cx g3.cx turn moment did is begins by turns2 (asks_after (IsErrOf r unfinished.NoMemory) g0.cx g1.cx turn moment did begins asks) gives;
@@ -284,9 +291,9 @@ module _ {W Q R T U : Type 0} (Fits : T → W → Type 0) (Sound : W → State �
   )
 
   -- a group that is only asked can be asked once its turn has begun
-  pub can_ask : (g0 g1 : Group W Q R T U) (turn moment : ℕ) (tag : T) → GroupFits Fits Sound oa isf tag g0 → oa tag ≡ true → g0.cx.log.state.turns < MOST_ALONE
+  pub can_ask : (g0 g1 : Group W Q R T U) (turn moment : ℕ) (tag : T) → GroupFits Fits Sound oa isf tag g0 → oa tag ≡ true → g0.cx.log.state.turns < limit → limit ≤ MOST_TURNS
       → OnTrue (oa tag) (IsLive g0.cx.log.state.live own_key) → BeginsTurn g0.cx g1.cx turn 0 moment → CanBeAsked g1.cx.log.state
-  can_ask g0 g1 turn moment tag fit asked young rests begins =
+  can_ask g0 g1 turn moment tag fit asked young low rests begins =
       let next1 : g1.cx.log.state.next ≡ g0.cx.log.state.next = ap (λ (s : State). s.next) begins.state in
       let was : g0.cx.log.state.next ≤ g0.cx.log.state.turns + 1 = subst (λ (b : Bool). g0.cx.log.state.next ≤ cond b (g0.cx.log.state.turns + 1) (MOST_IN_TURN * g0.cx.log.state.turns + 1)) asked fit.2.1 in
       let live : IsLive g0.cx.log.state.live own_key = subst (λ (b : Bool). OnTrue b (IsLive g0.cx.log.state.live own_key)) asked rests in
@@ -297,7 +304,7 @@ module _ {W Q R T U : Type 0} (Fits : T → W → Type 0) (Sound : W → State �
       }
 
   -- what a group becomes where all goes well, it becomes with any answer
-  pub goes_well : {r : Result (Unit {0}) Unfinished} (g h : Group W Q R T U) (n : ℕ) → HasTakenTurns Fits Sound oa isf Left (Ok tt) g h n → HasTakenTurns Fits Sound oa isf Left r g h n
+  pub goes_well : {r : Result (Unit {0}) Unfinished} (g h : Group W Q R T U) (n : ℕ) → HasTakenTurns Fits Sound oa isf Left limit (Ok tt) g h n → HasTakenTurns Fits Sound oa isf Left limit r g h n
   goes_well {r} g h n t = record {
     fits = t.fits;
     tags = t.tags;

@@ -10,7 +10,6 @@ use Rattle.ts_group.specs.declared.group.Group.{Group}
 use Rattle.ts_group.specs.declared.world.Asked.{Asked}
 use Rattle.ts_group.specs.declared.world.Asked.TheVariants as asked
 use Rattle.ts_group.specs.Answers.{Finite, Falls, LeavesLess, TellFalls, IsAnswer, KeepsTags}
-use Rattle.ts_thread.specs.declared.TheConstants.{MOST_ALONE}
 use Rattle.ts_thread.specs.declared.did.Unfinished.{Unfinished}
 use Rattle.ts_thread.specs.declared.did.Unfinished.TheVariants as unfinished
 use Rattle.ts_thread.specs.Tags.{GroupFits, GroupsFit, FitAround, CanAsk}
@@ -82,6 +81,9 @@ any_back P xs ys (k, x, low, is, p) = let at = Contains-append_right xs ys x (k,
 pub any_head : {X : Type 0} (P : X → Type 0) (x : X) (xs : List X) → P x → Any P (x ∷ xs)
 any_head P x xs p = (0, x, omega arith, refl, p)
 
+pub any_middle : {X : Type 0} (P : X → Type 0) (xs : List X) (x : X) (ys : List X) → P x → Any P (xs ++ x ∷ ys)
+any_middle P xs x ys p = any_back P xs (x ∷ ys) (any_head P x ys p)
+
 any_tail : {X : Type 0} (P : X → Type 0) (x : X) (xs : List X) → Any P xs → Any P (x ∷ xs)
 any_tail P x xs some = any_back P (x ∷ []) xs some
 
@@ -91,42 +93,42 @@ any_around P [] x ys some = any_tail P x ys some
 any_around P (z ∷ xs) x ys (zero, y, low, is, p) = any_head P z (xs ++ x ∷ ys) (subst P (sym is) p)
 any_around P (z ∷ xs) x ys (suc k, y, low, is, p) = any_tail P z (xs ++ x ∷ ys) (any_around P xs x ys (k, y, omega arith, is, p))
 
-module _ {W Q R T U : Type 0} (Fits : T → W → Type 0) (Sound : W → State → List Named → Type 0) (oa isf : T → Bool) (Left : W → State → Option ℕ) where
-  pub all_refl : (r : Result (Unit {0}) Unfinished) (gs : List (Group W Q R T U)) (n : ℕ) → AllGoOn Fits Sound oa isf Left r gs gs n
+module _ {W Q R T U : Type 0} (Fits : T → W → Type 0) (Sound : W → State → List Named → Type 0) (oa isf : T → Bool) (Left : W → State → Option ℕ) (limit : ℕ) where
+  pub all_refl : (r : Result (Unit {0}) Unfinished) (gs : List (Group W Q R T U)) (n : ℕ) → AllGoOn Fits Sound oa isf Left limit r gs gs n
   all_refl r [] n = tt
-  all_refl r (g ∷ gs) n = (goes_refl Fits Sound oa isf Left g n, all_refl r gs n)
+  all_refl r (g ∷ gs) n = (goes_refl Fits Sound oa isf Left limit g n, all_refl r gs n)
 
   -- what groups become where all goes well, they become with any answer
-  pub all_well : {r : Result (Unit {0}) Unfinished} (gs hs : List (Group W Q R T U)) (n : ℕ) → AllGoOn Fits Sound oa isf Left (Ok tt) gs hs n → AllGoOn Fits Sound oa isf Left r gs hs n
+  pub all_well : {r : Result (Unit {0}) Unfinished} (gs hs : List (Group W Q R T U)) (n : ℕ) → AllGoOn Fits Sound oa isf Left limit (Ok tt) gs hs n → AllGoOn Fits Sound oa isf Left limit r gs hs n
   all_well [] [] n a = tt
   all_well [] (h ∷ hs) n a = absurd a
   all_well (g ∷ gs) [] n a = absurd a
-  all_well (g ∷ gs) (h ∷ hs) n a = (goes_well Fits Sound oa isf Left g h n a.0, all_well gs hs n a.1)
+  all_well (g ∷ gs) (h ∷ hs) n a = (goes_well Fits Sound oa isf Left limit g h n a.0, all_well gs hs n a.1)
 
-  pub all_trans : (r : Result (Unit {0}) Unfinished) (gs hs ks : List (Group W Q R T U)) (m n : ℕ) → AllGoOn Fits Sound oa isf Left r gs hs m → AllGoOn Fits Sound oa isf Left r hs ks n → AllGoOn Fits Sound oa isf Left r gs ks (m + n)
+  pub all_trans : (r : Result (Unit {0}) Unfinished) (gs hs ks : List (Group W Q R T U)) (m n : ℕ) → AllGoOn Fits Sound oa isf Left limit r gs hs m → AllGoOn Fits Sound oa isf Left limit r hs ks n → AllGoOn Fits Sound oa isf Left limit r gs ks (m + n)
   all_trans r [] [] [] m n a b = tt
   all_trans r [] [] (k ∷ ks) m n a b = absurd b
   all_trans r [] (h ∷ hs) ks m n a b = absurd a
   all_trans r (g ∷ gs) [] ks m n a b = absurd a
   all_trans r (g ∷ gs) (h ∷ hs) [] m n a b = absurd b
-  all_trans r (g ∷ gs) (h ∷ hs) (k ∷ ks) m n a b = (goes_trans Fits Sound oa isf Left g h k m n a.0 b.0, all_trans r gs hs ks m n a.1 b.1)
+  all_trans r (g ∷ gs) (h ∷ hs) (k ∷ ks) m n a b = (goes_trans Fits Sound oa isf Left limit g h k m n a.0 b.0, all_trans r gs hs ks m n a.1 b.1)
 
-  pub all_both : (r : Result (Unit {0}) Unfinished) (xs xs' ys ys' : List (Group W Q R T U)) (n : ℕ) → AllGoOn Fits Sound oa isf Left r xs xs' n → AllGoOn Fits Sound oa isf Left r ys ys' n → AllGoOn Fits Sound oa isf Left r (xs ++ ys) (xs' ++ ys') n
+  pub all_both : (r : Result (Unit {0}) Unfinished) (xs xs' ys ys' : List (Group W Q R T U)) (n : ℕ) → AllGoOn Fits Sound oa isf Left limit r xs xs' n → AllGoOn Fits Sound oa isf Left limit r ys ys' n → AllGoOn Fits Sound oa isf Left limit r (xs ++ ys) (xs' ++ ys') n
   all_both r [] [] ys ys' n a b = b
   all_both r [] (x ∷ xs) ys ys' n a b = absurd a
   all_both r (x ∷ xs) [] ys ys' n a b = absurd a
   all_both r (x ∷ xs) (y ∷ zs) ys ys' n a b = (a.0, all_both r xs zs ys ys' n a.1 b)
 
   -- one of a row goes on, between those before and after it
-  pub all_row : {r : Result (Unit {0}) Unfinished} (before before' after after' : List (Group W Q R T U)) (g h : Group W Q R T U) (n : ℕ) → AllGoOn Fits Sound oa isf Left r before before' n → HasTakenTurns Fits Sound oa isf Left r g h n
-      → AllGoOn Fits Sound oa isf Left r after after' n → AllGoOn Fits Sound oa isf Left r (before ++ g ∷ after) (before' ++ h ∷ after') n
+  pub all_row : {r : Result (Unit {0}) Unfinished} (before before' after after' : List (Group W Q R T U)) (g h : Group W Q R T U) (n : ℕ) → AllGoOn Fits Sound oa isf Left limit r before before' n → HasTakenTurns Fits Sound oa isf Left limit r g h n
+      → AllGoOn Fits Sound oa isf Left limit r after after' n → AllGoOn Fits Sound oa isf Left limit r (before ++ g ∷ after) (before' ++ h ∷ after') n
   all_row [] [] after after' g h n a b c = (b, c)
   all_row [] (x ∷ xs) after after' g h n a b c = absurd a
   all_row (x ∷ xs) [] after after' g h n a b c = absurd a
   all_row (x ∷ xs) (y ∷ ys) after after' g h n a b c = (a.0, all_row xs ys after after' g h n a.1 b c)
 
   -- groups that went on fit the tags that they fitted
-  pub fits_on : (r : Result (Unit {0}) Unfinished) (tags : List T) (gs hs : List (Group W Q R T U)) (n : ℕ) → GroupsFit Fits Sound oa isf tags gs → AllGoOn Fits Sound oa isf Left r gs hs n → GroupsFit Fits Sound oa isf tags hs
+  pub fits_on : (r : Result (Unit {0}) Unfinished) (tags : List T) (gs hs : List (Group W Q R T U)) (n : ℕ) → GroupsFit Fits Sound oa isf tags gs → AllGoOn Fits Sound oa isf Left limit r gs hs n → GroupsFit Fits Sound oa isf tags hs
   fits_on r [] [] [] n f a = tt
   fits_on r [] [] (h ∷ hs) n f a = absurd a
   fits_on r [] (g ∷ gs) hs n f a = absurd f
@@ -254,51 +256,51 @@ left_falls None b n tells f = absurd (cc)
 left_falls (Some x) None n tells f = absurd f
 left_falls (Some x) (Some y) n tells f = (refl, f)
 
-module _ {W Q R T U : Type 0} (Fits : T → W → Type 0) (Sound : W → State → List Named → Type 0) (oa isf : T → Bool) (Left : W → State → Option ℕ) where
+module _ {W Q R T U : Type 0} (Fits : T → W → Type 0) (Sound : W → State → List Named → Type 0) (oa isf : T → Bool) (Left : W → State → Option ℕ) (limit : ℕ) where
   -- groups that had turns enough for those that were taken are not worn
-  young_on : (r : Result (Unit {0}) Unfinished) (gs hs : List (Group W Q R T U)) (n m : ℕ) → AllGoOn Fits Sound oa isf Left r gs hs n → n ≤ m + 1 → All (HasTurns m) gs → All (λ h. h.cx.log.state.turns < MOST_ALONE) hs
-  young_on r [] [] n m a le all = All-nil (λ h. h.cx.log.state.turns < MOST_ALONE)
+  young_on : (r : Result (Unit {0}) Unfinished) (gs hs : List (Group W Q R T U)) (n m : ℕ) → AllGoOn Fits Sound oa isf Left limit r gs hs n → n ≤ m + 1 → All (HasTurns limit m) gs → All (λ h. h.cx.log.state.turns < limit) hs
+  young_on r [] [] n m a le all = All-nil (λ h. h.cx.log.state.turns < limit)
   young_on r [] (h ∷ hs) n m a le all = absurd a
   young_on r (g ∷ gs) [] n m a le all = absurd a
   young_on r (g ∷ gs) (h ∷ hs) n m a le all =
-      let young : g.cx.log.state.turns + m + 1 < MOST_ALONE = All-head (HasTurns m) g gs all in
+      let young : g.cx.log.state.turns + m + 1 < limit = All-head (HasTurns limit m) g gs all in
       let took : h.cx.log.state.turns ≤ g.cx.log.state.turns + n = a.0.took in
-      All-cons (λ k. k.cx.log.state.turns < MOST_ALONE) h hs (omega arith) (young_on r gs hs n m a.1 le (All-tail (HasTurns m) g gs all))
+      All-cons (λ k. k.cx.log.state.turns < limit) h hs (omega arith) (young_on r gs hs n m a.1 le (All-tail (HasTurns limit m) g gs all))
 
   -- where each group has turns enough for all that is left to do, none is worn
-  pub finish_spares : (gs hs : List (Group W Q R T U)) (result : Result (Unit {0}) Unfinished) → Finishes Fits Sound oa isf Left gs hs result → All (HasTurns (sum_by (work_left Left) gs)) gs → IsErrOf result unfinished.Worn → ⊥
+  pub finish_spares : (gs hs : List (Group W Q R T U)) (result : Result (Unit {0}) Unfinished) → Finishes Fits Sound oa isf Left limit gs hs result → All (HasTurns limit (sum_by (work_left Left) gs)) gs → IsErrOf result unfinished.Worn → ⊥
   finish_spares gs hs result ends all is =
       let worn = ends.worn is in
       let young = young_on result gs hs ends.turns (sum_by (work_left Left) gs) ends.goes ends.within all in
-      let low : worn.1.cx.log.state.turns < MOST_ALONE = subst (λ (h : Group W Q R T U). h.cx.log.state.turns < MOST_ALONE) worn.3 (young worn.0 worn.1 worn.2) in
-      let high : MOST_ALONE ≤ worn.1.cx.log.state.turns = worn.4 in
+      let low : worn.1.cx.log.state.turns < limit = subst (λ (h : Group W Q R T U). h.cx.log.state.turns < limit) worn.3 (young worn.0 worn.1 worn.2) in
+      let high : limit ≤ worn.1.cx.log.state.turns = worn.4 in
       omega arith
 
   -- What holds while a group is driven.
   pub record IsDriving (before before' : List (Group W Q R T U)) (old new : Group W Q R T U) (after after' : List (Group W Q R T U)) : Type 0 where
     pub turns : ℕ
-    pub first : AllGoOn Fits Sound oa isf Left (Ok tt) before before' turns
-    pub own : HasTakenTurns Fits Sound oa isf Left (Ok tt) old new turns
-    pub last : AllGoOn Fits Sound oa isf Left (Ok tt) after after' turns
+    pub first : AllGoOn Fits Sound oa isf Left limit (Ok tt) before before' turns
+    pub own : HasTakenTurns Fits Sound oa isf Left limit (Ok tt) old new turns
+    pub last : AllGoOn Fits Sound oa isf Left limit (Ok tt) after after' turns
     pub less : work_left Left new + turns ≤ work_left Left old
     pub tells : Finite Left new
 
   pub driving_begins : (before : List (Group W Q R T U)) (g : Group W Q R T U) (after : List (Group W Q R T U)) → Finite Left g → IsDriving before before g g after after
   driving_begins before g after tells = record {
     turns = 0;
-    first = all_refl Fits Sound oa isf Left _ before 0;
-    own = goes_refl Fits Sound oa isf Left g 0;
-    last = all_refl Fits Sound oa isf Left _ after 0;
+    first = all_refl Fits Sound oa isf Left limit _ before 0;
+    own = goes_refl Fits Sound oa isf Left limit g 0;
+    last = all_refl Fits Sound oa isf Left limit _ after 0;
     less = omega arith;
     tells = tells;
   }
 
   pub driving_row : (before before' : List (Group W Q R T U)) (old new : Group W Q R T U) (after after' : List (Group W Q R T U)) (h : IsDriving before before' old new after after')
-      → AllGoOn Fits Sound oa isf Left (Ok tt) (before ++ old ∷ after) (before' ++ new ∷ after') h.turns
-  driving_row before before' old new after after' h = all_row Fits Sound oa isf Left before before' after after' old new h.turns h.first h.own h.last
+      → AllGoOn Fits Sound oa isf Left limit (Ok tt) (before ++ old ∷ after) (before' ++ new ∷ after') h.turns
+  driving_row before before' old new after after' h = all_row Fits Sound oa isf Left limit before before' after after' old new h.turns h.first h.own h.last
 
   pub driving_goes_on : (b0 b1 b2 : List (Group W Q R T U)) (g0 g1 g2 : Group W Q R T U) (a0 a1 a2 : List (Group W Q R T U)) → IsDriving b0 b1 g0 g1 a0 a1
-      → AllGoOn Fits Sound oa isf Left (Ok tt) b1 b2 1 → HasTakenTurns Fits Sound oa isf Left (Ok tt) g1 g2 1 → AllGoOn Fits Sound oa isf Left (Ok tt) a1 a2 1 → LeavesLess Left g1 1 g2
+      → AllGoOn Fits Sound oa isf Left limit (Ok tt) b1 b2 1 → HasTakenTurns Fits Sound oa isf Left limit (Ok tt) g1 g2 1 → AllGoOn Fits Sound oa isf Left limit (Ok tt) a1 a2 1 → LeavesLess Left g1 1 g2
       → IsDriving b0 b2 g0 g2 a0 a2 × (work_left Left g2 < work_left Left g1)
   driving_goes_on b0 b1 b2 g0 g1 g2 a0 a1 a2 h b g a falls =
       let left = left_falls (Left g1.world g1.cx.log.state) (Left g2.world g2.cx.log.state) 1 h.tells falls in
@@ -306,9 +308,9 @@ module _ {W Q R T U : Type 0} (Fits : T → W → Type 0) (Sound : W → State �
       let was = h.less in (
         record {
           turns = h.turns + 1;
-          first = all_trans Fits Sound oa isf Left _ b0 b1 b2 h.turns 1 h.first b;
-          own = goes_trans Fits Sound oa isf Left g0 g1 g2 h.turns 1 h.own g;
-          last = all_trans Fits Sound oa isf Left _ a0 a1 a2 h.turns 1 h.last a;
+          first = all_trans Fits Sound oa isf Left limit _ b0 b1 b2 h.turns 1 h.first b;
+          own = goes_trans Fits Sound oa isf Left limit g0 g1 g2 h.turns 1 h.own g;
+          last = all_trans Fits Sound oa isf Left limit _ a0 a1 a2 h.turns 1 h.last a;
           less = omega arith;
           tells = left.0;
         },
@@ -316,20 +318,20 @@ module _ {W Q R T U : Type 0} (Fits : T → W → Type 0) (Sound : W → State �
       )
 
   pub driving_stops : (b0 b1 b2 : List (Group W Q R T U)) (g0 g1 g2 : Group W Q R T U) (a0 a1 a2 : List (Group W Q R T U)) (e : Unfinished) → IsDriving b0 b1 g0 g1 a0 a1
-      → AllGoOn Fits Sound oa isf Left (Err e) b1 b2 1 → HasTakenTurns Fits Sound oa isf Left (Err e) g1 g2 1 → AllGoOn Fits Sound oa isf Left (Err e) a1 a2 1 → WornAmong (Err e) (row b2 g2 a2)
-      → Drives Fits Sound oa isf Left b0 b2 g0 g2 a0 a2 (Err e)
+      → AllGoOn Fits Sound oa isf Left limit (Err e) b1 b2 1 → HasTakenTurns Fits Sound oa isf Left limit (Err e) g1 g2 1 → AllGoOn Fits Sound oa isf Left limit (Err e) a1 a2 1 → WornAmong Fits Sound oa isf limit (Err e) (row b2 g2 a2)
+      → Drives Fits Sound oa isf Left limit b0 b2 g0 g2 a0 a2 (Err e)
   driving_stops b0 b1 b2 g0 g1 g2 a0 a1 a2 e h b g a worn = record {
     turns = h.turns + 1;
     within = let less = h.less in omega arith;
-    first = all_trans Fits Sound oa isf Left _ b0 b1 b2 h.turns 1 (all_well Fits Sound oa isf Left b0 b1 h.turns h.first) b;
-    own = goes_trans Fits Sound oa isf Left g0 g1 g2 h.turns 1 (goes_well Fits Sound oa isf Left g0 g1 h.turns h.own) g;
-    last = all_trans Fits Sound oa isf Left _ a0 a1 a2 h.turns 1 (all_well Fits Sound oa isf Left a0 a1 h.turns h.last) a;
+    first = all_trans Fits Sound oa isf Left limit _ b0 b1 b2 h.turns 1 (all_well Fits Sound oa isf Left limit b0 b1 h.turns h.first) b;
+    own = goes_trans Fits Sound oa isf Left limit g0 g1 g2 h.turns 1 (goes_well Fits Sound oa isf Left limit g0 g1 h.turns h.own) g;
+    last = all_trans Fits Sound oa isf Left limit _ a0 a1 a2 h.turns 1 (all_well Fits Sound oa isf Left limit a0 a1 h.turns h.last) a;
     less = tt;
     idle = tt;
     worn = worn;
   }
 
-  pub driving_ends : (b0 b1 : List (Group W Q R T U)) (g0 g1 : Group W Q R T U) (a0 a1 : List (Group W Q R T U)) → IsDriving b0 b1 g0 g1 a0 a1 → IsIdle g1 → Drives Fits Sound oa isf Left b0 b1 g0 g1 a0 a1 (Ok tt)
+  pub driving_ends : (b0 b1 : List (Group W Q R T U)) (g0 g1 : Group W Q R T U) (a0 a1 : List (Group W Q R T U)) → IsDriving b0 b1 g0 g1 a0 a1 → IsIdle g1 → Drives Fits Sound oa isf Left limit b0 b1 g0 g1 a0 a1 (Ok tt)
   driving_ends b0 b1 g0 g1 a0 a1 h idle = record {
     turns = h.turns;
     within = let less = h.less in omega arith;
@@ -342,14 +344,14 @@ module _ {W Q R T U : Type 0} (Fits : T → W → Type 0) (Sound : W → State �
   }
 
   -- the lists of groups are of one length
-  length_on : (r : Result (Unit {0}) Unfinished) (gs hs : List (Group W Q R T U)) (n : ℕ) → AllGoOn Fits Sound oa isf Left r gs hs n → length hs ≡ length gs
+  length_on : (r : Result (Unit {0}) Unfinished) (gs hs : List (Group W Q R T U)) (n : ℕ) → AllGoOn Fits Sound oa isf Left limit r gs hs n → length hs ≡ length gs
   length_on r [] [] n a = refl
   length_on r [] (h ∷ hs) n a = absurd a
   length_on r (g ∷ gs) [] n a = absurd a
   length_on r (g ∷ gs) (h ∷ hs) n a = let e = length_on r gs hs n a.1 in omega arith
 
   -- no more is left to do, and worlds go on to tell it
-  left_on : (gs hs : List (Group W Q R T U)) (n : ℕ) → AllGoOn Fits Sound oa isf Left (Ok tt) gs hs n → All (Finite Left) gs → (sum_by (work_left Left) hs ≤ sum_by (work_left Left) gs) × All (Finite Left) hs
+  left_on : (gs hs : List (Group W Q R T U)) (n : ℕ) → AllGoOn Fits Sound oa isf Left limit (Ok tt) gs hs n → All (Finite Left) gs → (sum_by (work_left Left) hs ≤ sum_by (work_left Left) gs) × All (Finite Left) hs
   left_on [] [] n a tells = (omega arith, All-nil (Finite Left))
   left_on [] (h ∷ hs) n a tells = absurd a
   left_on (g ∷ gs) [] n a tells = absurd a
@@ -363,7 +365,7 @@ module _ {W Q R T U : Type 0} (Fits : T → W → Type 0) (Sound : W → State �
       )
 
   -- groups with nothing pending go on to have nothing pending
-  idle_on : (r : Result (Unit {0}) Unfinished) (gs hs : List (Group W Q R T U)) (n : ℕ) → AllGoOn Fits Sound oa isf Left r gs hs n → All IsIdle gs → All IsIdle hs
+  idle_on : (r : Result (Unit {0}) Unfinished) (gs hs : List (Group W Q R T U)) (n : ℕ) → AllGoOn Fits Sound oa isf Left limit r gs hs n → All IsIdle gs → All IsIdle hs
   idle_on r [] [] n a idle = All-nil IsIdle
   idle_on r [] (h ∷ hs) n a idle = absurd a
   idle_on r (g ∷ gs) [] n a idle = absurd a
@@ -372,7 +374,7 @@ module _ {W Q R T U : Type 0} (Fits : T → W → Type 0) (Sound : W → State �
   -- What holds while groups are driven to their end, those below a place first.
   pub record IsFinishing (old new : List (Group W Q R T U)) (place : ℕ) : Type 0 where
     pub turns : ℕ
-    pub goes : AllGoOn Fits Sound oa isf Left (Ok tt) old new turns
+    pub goes : AllGoOn Fits Sound oa isf Left limit (Ok tt) old new turns
     pub less : sum_by (work_left Left) new + turns ≤ sum_by (work_left Left) old
     pub tells : All (Finite Left) new
     pub idle : All IsIdle (take place new)
@@ -380,14 +382,14 @@ module _ {W Q R T U : Type 0} (Fits : T → W → Type 0) (Sound : W → State �
   pub finishing_begins : (gs : List (Group W Q R T U)) → All (Finite Left) gs → IsFinishing gs gs 0
   finishing_begins gs tells = record {
     turns = 0;
-    goes = all_refl Fits Sound oa isf Left _ gs 0;
+    goes = all_refl Fits Sound oa isf Left limit _ gs 0;
     less = omega arith;
     tells = tells;
     idle = All-nil IsIdle;
   }
 
   pub finishing_goes_on : (old front front' rest rest' : List (Group W Q R T U)) (g h : Group W Q R T U) (place : ℕ) → length front ≡ place → IsFinishing old (front ++ g ∷ rest) place
-      → Drives Fits Sound oa isf Left front front' g h rest rest' (Ok tt) → IsFinishing old (front' ++ h ∷ rest') (place + 1)
+      → Drives Fits Sound oa isf Left limit front front' g h rest rest' (Ok tt) → IsFinishing old (front' ++ h ∷ rest') (place + 1)
   finishing_goes_on old front front' rest rest' g h place len was drives =
       let tells_front = all_front (Finite Left) front (g ∷ rest) was.tells in
       let tells_rest = All-tail (Finite Left) g rest (all_back (Finite Left) front (g ∷ rest) was.tells) in
@@ -403,8 +405,8 @@ module _ {W Q R T U : Type 0} (Fits : T → W → Type 0) (Sound : W → State �
       let len' : length front' ≡ place = length_on _ front front' drives.turns drives.first ∙ len in
       record {
         turns = was.turns + drives.turns;
-        goes = all_trans Fits Sound oa isf Left _ old (front ++ g ∷ rest) (front' ++ h ∷ rest') was.turns drives.turns was.goes
-            (all_row Fits Sound oa isf Left front front' rest rest' g h drives.turns drives.first drives.own drives.last);
+        goes = all_trans Fits Sound oa isf Left limit _ old (front ++ g ∷ rest) (front' ++ h ∷ rest') was.turns drives.turns was.goes
+            (all_row Fits Sound oa isf Left limit front front' rest rest' g h drives.turns drives.first drives.own drives.last);
         less = omega (arith, sum_by-append (work_left Left) front (g ∷ rest), sum_by-append (work_left Left) front' (h ∷ rest'), sum_by-cons (work_left Left) g rest, sum_by-cons (work_left Left) h rest');
         tells = All-append (Finite Left) front' (h ∷ rest') first.1 (All-cons (Finite Left) h rest' own.0 last.1);
         idle = subst (λ (gs : List (Group W Q R T U)). All IsIdle gs) (sym (take_more front' h rest' place len'))
@@ -414,25 +416,25 @@ module _ {W Q R T U : Type 0} (Fits : T → W → Type 0) (Sound : W → State �
   left-le-sum : (front : List (Group W Q R T U)) (g : Group W Q R T U) (rest : List (Group W Q R T U)) → work_left Left g ≤ sum_by (work_left Left) (front ++ g ∷ rest)
   left-le-sum front g rest = omega (arith, sum_by-append (work_left Left) front (g ∷ rest), sum_by-cons (work_left Left) g rest)
 
-  pub finishing_next : (old new next : List (Group W Q R T U)) (place : ℕ) → IsFinishing old new place → DrivesAt Fits Sound oa isf Left place new next (Ok tt) → IsFinishing old next (place + 1)
+  pub finishing_next : (old new next : List (Group W Q R T U)) (place : ℕ) → IsFinishing old new place → DrivesAt Fits Sound oa isf Left limit place new next (Ok tt) → IsFinishing old next (place + 1)
   finishing_next old new next place was at = subst (λ (gs : List (Group W Q R T U)). IsFinishing old gs (place + 1)) (sym at.new_is)
       (finishing_goes_on old at.before at.before' at.after at.after' at.group at.group' place at.at_place (subst (λ (gs : List (Group W Q R T U)). IsFinishing old gs place) at.old_is was) at.drives)
 
-  pub finishing_stops : (old new next : List (Group W Q R T U)) (place : ℕ) (e : Unfinished) → IsFinishing old new place → DrivesAt Fits Sound oa isf Left place new next (Err e) → Finishes Fits Sound oa isf Left old next (Err e)
+  pub finishing_stops : (old new next : List (Group W Q R T U)) (place : ℕ) (e : Unfinished) → IsFinishing old new place → DrivesAt Fits Sound oa isf Left limit place new next (Err e) → Finishes Fits Sound oa isf Left limit old next (Err e)
   finishing_stops old new next place e was at =
-      let row_goes = all_row Fits Sound oa isf Left at.before at.before' at.after at.after' at.group at.group' at.drives.turns at.drives.first at.drives.own at.drives.last in
+      let row_goes = all_row Fits Sound oa isf Left limit at.before at.before' at.after at.after' at.group at.group' at.drives.turns at.drives.first at.drives.own at.drives.last in
       let left : work_left Left at.group ≤ sum_by (work_left Left) new = subst (λ (gs : List (Group W Q R T U)). work_left Left at.group ≤ sum_by (work_left Left) gs) (sym at.old_is) (left-le-sum at.before at.group at.after) in
       record {
         turns = was.turns + at.drives.turns;
         within = let less = was.less in let few = at.drives.within in omega arith;
-        goes = all_trans Fits Sound oa isf Left _ old new next was.turns at.drives.turns (all_well Fits Sound oa isf Left old new was.turns was.goes)
-            (subst (λ (x : List (Group W Q R T U) × List (Group W Q R T U)). AllGoOn Fits Sound oa isf Left (Err e) x.0 x.1 at.drives.turns) (λ i. (sym at.old_is i, sym at.new_is i)) row_goes);
+        goes = all_trans Fits Sound oa isf Left limit _ old new next was.turns at.drives.turns (all_well Fits Sound oa isf Left limit old new was.turns was.goes)
+            (subst (λ (x : List (Group W Q R T U) × List (Group W Q R T U)). AllGoOn Fits Sound oa isf Left limit (Err e) x.0 x.1 at.drives.turns) (λ i. (sym at.old_is i, sym at.new_is i)) row_goes);
         less = tt;
         idle = tt;
-        worn = subst (λ (gs : List (Group W Q R T U)). WornAmong (Err e) gs) (sym at.new_is) at.drives.worn;
+        worn = subst (λ (gs : List (Group W Q R T U)). WornAmong Fits Sound oa isf limit (Err e) gs) (sym at.new_is) at.drives.worn;
       }
 
-  pub finishing_ends : (old new : List (Group W Q R T U)) (place : ℕ) → length new ≤ place → IsFinishing old new place → Finishes Fits Sound oa isf Left old new (Ok tt)
+  pub finishing_ends : (old new : List (Group W Q R T U)) (place : ℕ) → length new ≤ place → IsFinishing old new place → Finishes Fits Sound oa isf Left limit old new (Ok tt)
   finishing_ends old new place le was = record {
     turns = was.turns;
     within = let less = was.less in omega arith;
@@ -443,4 +445,4 @@ module _ {W Q R T U : Type 0} (Fits : T → W → Type 0) (Sound : W → State �
   }
 
   pub finishing_fits : (tags : List T) (old new : List (Group W Q R T U)) (place : ℕ) → GroupsFit Fits Sound oa isf tags old → IsFinishing old new place → GroupsFit Fits Sound oa isf tags new
-  finishing_fits tags old new place fits was = fits_on Fits Sound oa isf Left _ tags old new was.turns fits was.goes
+  finishing_fits tags old new place fits was = fits_on Fits Sound oa isf Left limit _ tags old new was.turns fits was.goes

@@ -32,7 +32,7 @@ pub enum RunEnd {
 #[derive(Clone, Copy, PartialEq, Eq, Debug)]
 pub enum Unfinished {
     NoMemory,
-    /// A group was to have a turn, and had had `MOST_ALONE` of them.
+    /// A group was to have a turn, and had had as many as it may have.
     Worn,
 }
 

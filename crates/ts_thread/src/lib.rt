@@ -18,7 +18,7 @@ mod turning;
 mod whole;
 
 pub use did::{Did, RunEnd, Unfinished};
-pub use ending::{ONLY_SEAT, finish};
+pub use ending::{MOST_TURNS, ONLY_SEAT, finish, finish_within};
 pub use running::{run_groups, start_groups};
 pub use thread::EventThread;
 pub use whole::run_whole;
@@ -32,5 +32,5 @@ pub const MOST_ENTERED: u64 = 2;
 /// How many milliseconds after a miss a token is due again.
 pub const PUT_BACK: u64 = 10;
 
-/// How many turns a group has had at most that gets one more where groups are driven to their end.
+/// How many turns a group has had at most after `run_whole`, if threads gave it no more.
 pub const MOST_ALONE: u64 = 1 << 50;

@@ -7,6 +7,7 @@ use lib.ListN.{get_elem?}
 use Rattle.std.specs.List.{slice_get}
 use Rattle.std.proofs.lemmas.List.Elements.{All-nil, All-cons, All-append, All-head, All-tail}
 use Rattle.ts_group.specs.declared.group.Group.{Group}
+use Rattle.ts_thread.specs.declared.TheConstants.{MOST_ALONE}
 use Rattle.ts_thread.specs.declared.did.Unfinished.{Unfinished}
 use Rattle.ts_thread.specs.declared.did.Unfinished.TheVariants as unfinished
 use Rattle.ts_thread.specs.Tags.{CanAsk, GroupsFit}
@@ -37,14 +38,14 @@ peers_can_ask = record {
 pub row_can_ask : (tags : List Bool) → tags ≡ row_tags ASKED → CanAsk PeerFits (λ b. b) PeerMayAsk PeerRight PeerAnswers tags
 row_can_ask tags e = subst (CanAsk PeerFits (λ b. b) PeerMayAsk PeerRight PeerAnswers) (sym e) peers_can_ask
 
-pub peers_tell : EachTells ℕ ℕ (Unit {0}) PeerFits PeerSound (λ b. b) (λ b. true) peer_left
-peers_tell t g fit = refl
+pub peers_tell : (tags : List Bool) → EachTells ℕ ℕ (Unit {0}) PeerFits PeerSound (λ b. b) (λ b. true) peer_left tags
+peers_tell tags = λ k d low g fit. refl
 
 -- a row of peers ends soon
-pub peers_end : (turns : ℕ) → turns ≤ 2 ^ 40 → EndSoon ℕ ℕ (Unit {0}) PeerFits PeerSound (λ b. b) (λ b. true) peer_left (ASKED + 1) turns
+pub peers_end : (turns : ℕ) → turns ≤ 2 ^ 40 → EndSoon ℕ ℕ (Unit {0}) PeerFits PeerSound (λ b. b) (λ b. true) peer_left MOST_ALONE turns (row_tags ASKED)
 peers_end turns low = record {
   most = 2 * MOST_TODO + 1;
-  each = λ t g fit few. let sound = fit.1 in let todo = sound.few in let one = sound.one in omega arith;
+  each = λ k d low g fit few. let sound = fit.1 in let todo = sound.few in let one = sound.one in omega arith;
   enough = omega arith;
 }
 

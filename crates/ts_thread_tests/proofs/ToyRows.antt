@@ -24,6 +24,11 @@ use Rattle.ts_thread.proofs.Ended.{fit_count}
 use Rattle.ts_thread_tests.specs.ToyRows.{AreToys, HasEnded}
 use Rattle.ts_thread_tests.proofs.Ends.{all_more}
 
+-- what holds of everything holds of all in a list
+all_of : {X : Type 0} (P : X → Type 0) (xs : List X) → ((x : X) → P x) → All P xs
+all_of P [] f = All-nil P
+all_of P (x ∷ xs) f = All-cons P x xs (f x) (all_of P xs f)
+
 zip_append : {A B : Type 0} (P : A → B → Type 0) (xs : List A) (ys : List B) (a : A) (b : B) → AllZip P xs ys → P a b → AllZip P (xs ++ a ∷ []) (ys ++ b ∷ [])
 zip_append P [] [] a b all one = (one, tt)
 zip_append P [] (y ∷ ys) a b all one = absurd all
@@ -103,18 +108,19 @@ module _ {W Q R T U : Type 0} (Fits : T → W → Type 0) (Sound : W → State �
 
   module _ (Left : W → State → Option ℕ) (little : (t : T) (w : W) (s : State) (roles : List Named) → Fits t w → Sound w s roles → IsSome (Left w s) × (unwrap_or (Left w s) 0 ≤ MOST_WORK + s.next)) where
     -- worlds that tell little tell it
-    pub toys_tell : EachTells Q R U Fits Sound oa isf Left
-    toys_tell t g fit = (little t g.world g.cx.log.state g.cx.roles fit.0 fit.1).0
+    pub toys_tell : (ts : List T) → EachTells Q R U Fits Sound oa isf Left ts
+    toys_tell ts = all_of (λ t. (g : Group W Q R T U) → GroupFits Fits Sound oa isf t g → IsSome (Left g.world g.cx.log.state)) ts (λ t g fit. (little t g.world g.cx.log.state g.cx.roles fit.0 fit.1).0)
 
     -- and end soon
-    pub toys_end : (count turns : ℕ) → turns + count * (MOST_IN_TURN * turns + 1 + MOST_WORK) + 1 < MOST_ALONE → EndSoon Q R U Fits Sound oa isf Left count turns
-    toys_end count turns low = record {
+    pub toys_end : (turns : ℕ) (ts : List T) → turns + length ts * (MOST_IN_TURN * turns + 1 + MOST_WORK) + 1 < MOST_ALONE → EndSoon Q R U Fits Sound oa isf Left MOST_ALONE turns ts
+    toys_end turns ts low = record {
       most = MOST_IN_TURN * turns + 1 + MOST_WORK;
-      each = λ t g fit had.
+      each = all_of (λ t. (g : Group W Q R T U) → GroupFits Fits Sound oa isf t g → HasHadTurns turns g → unwrap_or (Left g.world g.cx.log.state) 0 ≤ MOST_IN_TURN * turns + 1 + MOST_WORK) ts
+          (λ t g fit had.
           let tells = little t g.world g.cx.log.state g.cx.roles fit.0 fit.1 in
           let next = next_bound (oa t) g.cx.log.state fit.2 in
           let bound = tells.1 in
-          omega arith;
+          omega arith);
       enough = low;
     }
 
@@ -128,5 +134,4 @@ toys_can_ask Fits oa MayAsk Right Answers ts alone fair = record {
 
 -- of each tag this holds
 pub all_any : {T : Type 0} (ts : List T) → All (λ (t : T). Unit {0}) ts
-all_any {T} [] = All-nil (λ (t : T). Unit {0})
-all_any {T} (t ∷ ts) = All-cons (λ (u : T). Unit {0}) t ts tt (all_any ts)
+all_any {T} ts = all_of (λ (t : T). Unit {0}) ts (λ t. tt)

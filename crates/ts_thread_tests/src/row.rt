@@ -14,7 +14,7 @@ use ts_group::Group;
 use ts_group_tests::peer::{ASKED, MOST_TODO, Peer, new_peer};
 use ts_journal::Entry;
 use ts_link::{Gate, NoMemory};
-use ts_thread::{ONLY_SEAT, Unfinished, finish, run_whole};
+use ts_thread::{MOST_ALONE, ONLY_SEAT, Unfinished, finish_within, run_whole};
 
 /// How many turns each thread takes at most.
 pub(crate) const BUDGET: u64 = 1_000_000;
@@ -88,7 +88,7 @@ pub fn drive_row(groups: &mut Vec<Group<Peer>>) -> Result<(), Unfinished>
     ensures ended { OnOk result (All IsIdle groups.new.items) }
     ensures lacks { IsOkUnless result Unfinished.NoMemory }
 {
-    finish(groups)
+    finish_within(groups, MOST_ALONE)
 }
 
 /// Runs a row that was not started by so many threads, and drives it to its end.

@@ -3,7 +3,7 @@ use Rattle.std.proofs.lemmas.Nat.{mul-le}
 use Rattle.std.proofs.lemmas.Result.{IfOk-weaker}
 use Rattle.ts_group_tests.specs.declared.peer.TheConstants.{ASKED}
 use Rattle.ts_group_tests.specs.Peers.{PeerFits, PeerSound, PeerMayAsk, PeerRight, PeerAnswers, PeerCounted, peer_left}
-use Rattle.ts_thread.specs.declared.TheConstants.{MOST_THREADS}
+use Rattle.ts_thread.specs.declared.TheConstants.{MOST_ALONE, MOST_THREADS}
 use Rattle.ts_thread.specs.Threads.{turns_of}
 use Rattle.ts_thread.specs.Whole.{CanBeRun, EndSoon}
 use Rattle.ts_thread_tests.specs.declared.row.TheConstants.{BUDGET}
@@ -27,7 +27,7 @@ run_whole-requires-clause-run g c κs within =
     })
 
 pub run_whole-requires-clause-tells : goal.run_whole-requires-clause-tells
-run_whole-requires-clause-tells g c κs within = peers_tell
+run_whole-requires-clause-tells g c κs within = peers_tell c.in_ok-tags.tags.items
 
 pub returns-clause-ended : goal.returns-clause-ended
 returns-clause-ended g c =
@@ -38,7 +38,6 @@ returns-clause-ended g c =
 
 pub returns-clause-lacks : goal.returns-clause-lacks
 returns-clause-lacks g c =
-    let row = c.in_ok-groups.ensures.new refl in
     let times : c.args.threads * (2 * BUDGET) ≤ MOST_THREADS * (2 * BUDGET) = mul-le c.args.threads (2 * BUDGET) MOST_THREADS (2 * BUDGET) c.requires.threads.1 (omega arith) in
     only_memory c.run_whole.result (c.run_whole.ensures.spares
-    (subst (λ n. EndSoon ℕ ℕ (Unit {0}) PeerFits PeerSound (λ b. b) (λ b. true) peer_left n (turns_of ASKED c.args.threads BUDGET)) (sym row.count) (peers_end (turns_of ASKED c.args.threads BUDGET) (omega arith))))
+    (subst (λ ts. EndSoon ℕ ℕ (Unit {0}) PeerFits PeerSound (λ b. b) (λ b. true) peer_left MOST_ALONE (turns_of ASKED c.args.threads BUDGET) ts) (sym c.in_ok-tags.ensures) (peers_end (turns_of ASKED c.args.threads BUDGET) (omega arith))))

@@ -1,10 +1,9 @@
 -- The laws of a bound hold wherever a thread may run; `toy` says them where this function runs.
-use Rattle.std.proofs.Common.{◌≡◌, ◌≤◌, ◌*◌, All, length, sym, subst, arith}
+use Rattle.std.proofs.Common.{◌≡◌, ◌≤◌, ◌*◌, All, length, arith}
 use Rattle.std.proofs.lemmas.Result.{IfOk-weaker}
 use Rattle.std.proofs.lemmas.Nat.{mul-le}
 use Rattle.ts_thread.specs.declared.TheConstants.{MOST_THREADS}
 use Rattle.ts_thread.specs.Threads.{turns_of}
-use Rattle.ts_thread.specs.Whole.{EndSoon}
 use Rattle.ts_thread_tests.specs.declared.row.TheConstants.{BUDGET}
 use Rattle.ts_thread_tests.specs.declared.toys.TheConstants.{TOYS}
 use Rattle.ts_thread_tests.specs.ToyRows.{HasEnded}
@@ -34,7 +33,7 @@ run_whole-requires-clause-run g c κs within =
 pub run_whole-requires-clause-tells : goal.run_whole-requires-clause-tells
 run_whole-requires-clause-tells g c κs within =
     let toy = g.met.W.Toy g.world.𝓛 g.world.𝓜 g.world.𝓡 ((λ s x. x), (λ x. x), (λ x. x), λ x. x) in
-    toys_tell g.W.Slotted.fits g.W.World.sound g.W.World.only_asked g.W.World.is_first g.W.World.left toy.little
+    toys_tell g.W.Slotted.fits g.W.World.sound g.W.World.only_asked g.W.World.is_first g.W.World.left toy.little c.in_ok-groups.groups.tags.items
 
 pub returns-clause-count : goal.returns-clause-count
 returns-clause-count g c =
@@ -53,8 +52,6 @@ returns-clause-ended g c =
 pub returns-clause-lacks : goal.returns-clause-lacks
 returns-clause-lacks g c =
     let toy = g.met.W.Toy g.world.𝓛 g.world.𝓜 g.world.𝓡 ((λ s x. x), (λ x. x), (λ x. x), λ x. x) in
-    let are = c.in_ok-groups.ensures in
     let times : c.args.threads * (2 * BUDGET) ≤ MOST_THREADS * (2 * BUDGET) = mul-le c.args.threads (2 * BUDGET) MOST_THREADS (2 * BUDGET) c.requires.threads.1 (omega arith) in
     only_memory c.run_whole.result (c.run_whole.ensures.spares
-    (subst (λ n. EndSoon g.W.World.Question g.W.World.Reply g.W.Slotted.Trace g.W.Slotted.fits g.W.World.sound g.W.World.only_asked g.W.World.is_first g.W.World.left n (turns_of TOYS c.args.threads BUDGET)) (sym are.count_is)
-    (toys_end g.W.Slotted.fits g.W.World.sound g.W.World.only_asked g.W.World.is_first g.W.World.left toy.little TOYS (turns_of TOYS c.args.threads BUDGET) (omega arith))))
+    (toys_end g.W.Slotted.fits g.W.World.sound g.W.World.only_asked g.W.World.is_first g.W.World.left toy.little (turns_of TOYS c.args.threads BUDGET) _ ?))
