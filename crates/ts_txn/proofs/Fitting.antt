@@ -54,19 +54,27 @@ module _ {L : Type 0} (look : L → Look) where
   same_made_if (Some l) None made = absurd made
   same_made_if (Some l) (Some p) made = same_made l p made
 
+  sure_made : (o : Option L) (x : Option (Peer L)) → IsMadeOfIf look o x → ((l : L) → o ≡ Some l → IsSure (look l)) → IsSureIf look x
+  sure_made None None made sure = tt
+  sure_made None (Some p) made sure = absurd made
+  sure_made (Some l) None made sure = absurd made
+  sure_made (Some l) (Some p) made sure = still_sure (look l) (look p.link) (same_made l p made) (sure l refl)
+
 -- ---- the tags
 
 module _ {C O : Type 0} (client : C → Look) (origin : O → Look) where
-  -- one that was just made fits its tag, which says neither that its links are sure nor that it was started
+  -- one that was just made of the links of a tag fits it
   pub fits_made : {Q : Type 0} (tag : TxnTag C O) (t : Txn C O Q) → t.core.number ≡ tag.number → arc_value t.core.setup ≡ tag.setup.value → t.core.plugins_at ≡ tag.plugins_at
-      → IsMadeOf client tag.client.value t.core.client → IsMadeOfIf origin tag.origin.value t.core.origin → tag.sure ≡ false → tag.started ≡ false → IsTxnOf client origin tag t
+      → IsMadeOf client tag.client.value t.core.client → IsMadeOfIf origin tag.origin.value t.core.origin
+      → (tag.sure ≡ true → IsSure (client tag.client.value) × ((l : O) → tag.origin.value ≡ Some l → IsSure (origin l))) → tag.started ≡ false → IsTxnOf client origin tag t
   fits_made tag t number setup plugins of_client of_origin sure started = record {
     number = number;
     setup = setup;
     plugins_at = plugins;
     client = same_made client tag.client.value t.core.client of_client;
     origin = same_made_if origin tag.origin.value t.core.origin of_origin;
-    sure = λ is. cc;
+    sure = λ is. (still_sure _ _ (same_made client tag.client.value t.core.client of_client) (sure is).0,
+        sure_made origin tag.origin.value t.core.origin of_origin (sure is).1);
     started = λ is. cc;
   }
 

@@ -77,8 +77,9 @@ IsSameLinkIf look None (Some p) = ⊥
 IsSameLinkIf look (Some l) None = ⊥
 IsSameLinkIf look (Some l) (Some p) = IsSameLink (look l) (look p.link)
 
--- The transaction is the one that the tag names, between the links that the tag shows as they were made. Where the tag
--- says so, the links are sure, and it was started.
+-- The transaction is the one that the tag names, between the links that the tag shows as they were made: their sources,
+-- names and plans, with where they stall and leave, stay. Where the tag says so, no call of them fails or waits by its
+-- number, and the transaction was started.
 pub record IsTxnOf {C O Q : Type 0} (clook : C → Look) (olook : O → Look)
     (tag : TxnTag C O) (t : Txn C O Q) : Type 0 where
   pub number : t.core.number ≡ tag.number
