@@ -43,8 +43,8 @@ module _ {W Q R T U : Type 0} (Fits : T → W → Type 0) (Sound : W → State �
         → All (HasTurns limit (sum_by (work_left Left) gs)) gs
     turns_enough limit turns ts gs ends fit few =
         let little : All (λ g. HasHadTurns turns g → work_left Left g ≤ ends.most) gs =
-            all_across (λ t g. GroupFits Fits Sound oa isf t g) (λ t. (g : Group W Q R T U) → GroupFits Fits Sound oa isf t g → HasHadTurns turns g → work_left Left g ≤ ends.most) (λ g. HasHadTurns turns g → work_left Left g ≤ ends.most) ts gs
-            (λ t g each fits. each g fits) ends.each fit in
+        all_across (λ t g. GroupFits Fits Sound oa isf t g) (λ t. (g : Group W Q R T U) → GroupFits Fits Sound oa isf t g → HasHadTurns turns g → work_left Left g ≤ ends.most) (λ g. HasHadTurns turns g → work_left Left g ≤ ends.most) ts gs
+        (λ t g each fits. each g fits) ends.each fit in
         let all : All (λ g. work_left Left g ≤ ends.most) gs = λ k d low. little k d low (few k d low) in
         let sum : sum_by (work_left Left) gs ≤ length gs * ends.most = sum_by-le (work_left Left) ends.most gs all in
         let count : length gs ≡ length ts = fit_count (λ t g. GroupFits Fits Sound oa isf t g) ts gs fit in

@@ -113,7 +113,7 @@ over_turn g0 g1 g2 g3 turn moment more begins base on gives = record {
 }
 
 module _ {W Q R T U : Type 0} (Fits : T → W → Type 0) (Sound : W → State → List Named → Type 0) (oa isf : T → Bool) (Left : W → State → Option ℕ) (limit : ℕ) where
-  pub goes_refl : {L : Type 0} (g : Group W Q R T U) (n : ℕ) → HasTakenTurns Fits Sound oa isf Left limit r g g n
+  pub goes_refl : {r : Result (Unit {0}) Unfinished} (g : Group W Q R T U) (n : ℕ) → HasTakenTurns Fits Sound oa isf Left limit r g g n
   goes_refl {r = r} g n = record {
     fits = λ t f. f;
     tags = λ t f. f;
@@ -125,7 +125,7 @@ module _ {W Q R T U : Type 0} (Fits : T → W → Type 0) (Sound : W → State �
     later = record { base = refl; later = later_refl g.cx.log.state };
   }
 
-  pub goes_trans : {L : Type 0} (g h k : Group W Q R T U) (m n : ℕ) → HasTakenTurns Fits Sound oa isf Left limit r g h m → HasTakenTurns Fits Sound oa isf Left limit r h k n → HasTakenTurns Fits Sound oa isf Left limit r g k (m + n)
+  pub goes_trans : {r : Result (Unit {0}) Unfinished} (g h k : Group W Q R T U) (m n : ℕ) → HasTakenTurns Fits Sound oa isf Left limit r g h m → HasTakenTurns Fits Sound oa isf Left limit r h k n → HasTakenTurns Fits Sound oa isf Left limit r g k (m + n)
   goes_trans {r = r} g h k m n a b = record {
     fits = λ t f. b.fits t (a.fits t f);
     tags = λ t f. b.tags t (a.tags t f);
@@ -138,7 +138,7 @@ module _ {W Q R T U : Type 0} (Fits : T → W → Type 0) (Sound : W → State �
   }
 
   -- a turn in which an event was handled that was due
-  pub stepped : {L : Type 0} (g0 g1 g2 g3 : Group W Q R T U) (turn moment number : ℕ) → ComesNext g0 number moment → g0.cx.log.state.turns < limit → turn ≡ g0.cx.log.state.turns + 1
+  pub stepped : {r : Result (Unit {0}) Unfinished} (g0 g1 g2 g3 : Group W Q R T U) (turn moment number : ℕ) → ComesNext g0 number moment → g0.cx.log.state.turns < limit → turn ≡ g0.cx.log.state.turns + 1
       → BeginsTurn g0.cx g1.cx turn 0 moment → g1.world ≡ g0.world → Left g1.world g1.cx.log.state ≡ Left g0.world g0.cx.log.state
       → WorksOn Fits Sound Left r g1 g2
       → GivesTurn g2.cx g3.cx → g3.world ≡ g2.world → Left g3.world g3.cx.log.state ≡ Left g2.world g2.cx.log.state → Holds Sound g3
@@ -177,7 +177,7 @@ module _ {W Q R T U : Type 0} (Fits : T → W → Type 0) (Sound : W → State �
       }
 
   -- a group that is the same but for its room
-  pub same_goes : {L : Type 0} (g h : Group W Q R T U) (n : ℕ) → IsSame g.cx h.cx → h.world ≡ g.world → HasTakenTurns Fits Sound oa isf Left limit r g h n
+  pub same_goes : {r : Result (Unit {0}) Unfinished} (g h : Group W Q R T U) (n : ℕ) → IsSame g.cx h.cx → h.world ≡ g.world → HasTakenTurns Fits Sound oa isf Left limit r g h n
   same_goes {r = r} g h n cx world =
       let state : h.cx.log.state ≡ g.cx.log.state = cx.log.state in
       record {
@@ -194,7 +194,7 @@ module _ {W Q R T U : Type 0} (Fits : T → W → Type 0) (Sound : W → State �
         later = later_same g h cx;
       }
 
-  pub same_works : {L : Type 0} (g h : Group W Q R T U) → g.cx.log.state.held ≡ true → Holds Sound g → IsSameGroup g h → IsErrOf r unfinished.NoMemory → WorksOn Fits Sound Left r g h
+  pub same_works : {r : Result (Unit {0}) Unfinished} (g h : Group W Q R T U) → g.cx.log.state.held ≡ true → Holds Sound g → IsSameGroup g h → IsErrOf r unfinished.NoMemory → WorksOn Fits Sound Left r g h
   same_works g h held sound same lack =
       let state : h.cx.log.state ≡ g.cx.log.state = same.cx.log.state in
       record {
@@ -210,7 +210,7 @@ module _ {W Q R T U : Type 0} (Fits : T → W → Type 0) (Sound : W → State �
       }
 
   -- an event was handled in a turn
-  pub handled_works : {L : Type 0} (Called : W → W → List ℕ → Type 0) (g h : Group W Q R T U) (number moment events : ℕ) → ComesNext g number moment → IsValid g.cx.log.state → Handles Called g h number moment events
+  pub handled_works : {r : Result (Unit {0}) Unfinished} (Called : W → W → List ℕ → Type 0) (g h : Group W Q R T U) (number moment events : ℕ) → ComesNext g number moment → IsValid g.cx.log.state → Handles Called g h number moment events
       → KeepsTags Fits g.world h.world → Holds Sound h → SetsAtMost Fits g.world (MOST_EVENTS * (MOST_SET + 1)) g.cx h.cx → LeavesLess Left g events h → WorksOn Fits Sound Left r g h
   handled_works Called g h number moment events due valid handles tags sound few falls = record {
     did = handles.es;
@@ -225,15 +225,15 @@ module _ {W Q R T U : Type 0} (Fits : T → W → Type 0) (Sound : W → State �
   }
 
   -- and the handler was told what came of its question
-  pub told_works : {L : Type 0} (Called : W → W → List ℕ → Type 0) (g h k : Group W Q R T U) (number moment events : ℕ) → ComesNext g number moment → IsValid g.cx.log.state → IsValid h.cx.log.state → Handles Called g h number moment events
+  pub told_works : {r : Result (Unit {0}) Unfinished} (Called : W → W → List ℕ → Type 0) (g h k : Group W Q R T U) (number moment events : ℕ) → ComesNext g number moment → IsValid g.cx.log.state → IsValid h.cx.log.state → Handles Called g h number moment events
       → KeepsTags Fits g.world h.world → SetsAtMost Fits g.world (MOST_EVENTS * (MOST_SET + 1)) g.cx h.cx → LeavesLess Left g events h
       → Grows h.cx k.cx → StaysInTurn h.cx.log.state k.cx.log.state → Holds Sound k → KeepsTags Fits h.world k.world → SetsAtMost Fits h.world MOST_SET h.cx k.cx → ((IsErrOf r unfinished.Worn → ⊥) → LeavesLess Left h 0 k)
       → WorksOn Fits Sound Left r g k × ((IsErrOf r unfinished.Worn → ⊥) → LeavesLess Left g 1 k)
-  told_works Called g h k number moment events due valid valid' handles tags few falls grows turn sound tags' few' falls' =
+  told_works {r = r} Called g h k number moment events due valid valid' handles tags few falls grows turn sound tags' few' falls' =
       let some : 1 ≤ events = handles.some in
       let begin = runs_begin Called g.world h.world g.cx.log.state moment number [] events handles.es h.cx.calls handles.runs in
       let less : (IsErrOf r unfinished.Worn → ⊥) → LeavesLess Left g (events + 0) k =
-          λ well. falls_trans (Left g.world g.cx.log.state) (Left h.world h.cx.log.state) (Left k.world k.cx.log.state) events 0 falls (falls' well) in (
+      λ well. falls_trans (Left g.world g.cx.log.state) (Left h.world h.cx.log.state) (Left k.world k.cx.log.state) events 0 falls (falls' well) in (
         record {
           did = handles.es ++ grows.log.own;
           by = extends_trans handles.by grows.log.by;
@@ -249,7 +249,7 @@ module _ {W Q R T U : Type 0} (Fits : T → W → Type 0) (Sound : W → State �
       )
 
   -- a turn in which a group was asked
-  pub asked_goes : {L : Type 0} (g0 g1 g2 g3 : Group W Q R T U) (turn moment : ℕ) (tag : T) → GroupFits Fits Sound oa isf tag g0 → g0.cx.log.state.turns < limit → turn ≡ g0.cx.log.state.turns + 1
+  pub asked_goes : {r : Result (Unit {0}) Unfinished} (g0 g1 g2 g3 : Group W Q R T U) (turn moment : ℕ) (tag : T) → GroupFits Fits Sound oa isf tag g0 → g0.cx.log.state.turns < limit → turn ≡ g0.cx.log.state.turns + 1
       → BeginsTurn g0.cx g1.cx turn 0 moment → g1.world ≡ g0.world → Left g1.world g1.cx.log.state ≡ Left g0.world g0.cx.log.state
       → SetsQuestion Fits g1.world g1.cx g2.cx → KeepsTags Fits g1.world g2.world → (did : List Entry) → Extends g1.cx.log g2.cx.log did → ((IsErrOf r unfinished.NoMemory × (did ≡ [])) ⊎ HandlesQuestion g1.cx.log.state did) → IsLater g1.cx.log.state g2.cx.log.state → g2.cx.log.state.turns ≡ g1.cx.log.state.turns → LeavesLess Left g1 0 g2
       → GivesTurn g2.cx g3.cx → g3.world ≡ g2.world → Left g3.world g3.cx.log.state ≡ Left g2.world g2.cx.log.state → Holds Sound g3
@@ -318,5 +318,6 @@ module _ {W Q R T U : Type 0} (Fits : T → W → Type 0) (Sound : W → State �
     where
       never_worn : IsErrOf {T = Unit {0}} (Ok tt) unfinished.Worn → ⊥
       never_worn e = absurd (cc)
+
       well_known : IsErrOf {T = Unit {0}} (Ok tt) unfinished.NoMemory → IsErrOf r unfinished.NoMemory
       well_known e = absurd (cc)

@@ -99,11 +99,11 @@ module _ {W Q R T U : Type 0} (Fits : T → W → Type 0) (Sound : W → State �
   all_refl r (g ∷ gs) n = (goes_refl Fits Sound oa isf Left limit g n, all_refl r gs n)
 
   -- what groups become where all goes well, they become with any answer
-  pub all_well : {r : Result (Unit {0}) Unfinished} (gs hs : List (Group W Q R T U)) (n : ℕ) → AllGoOn Fits Sound oa isf Left limit (Ok tt) gs hs n → AllGoOn Fits Sound oa isf Left limit r gs hs n
-  all_well [] [] n a = tt
-  all_well [] (h ∷ hs) n a = absurd a
-  all_well (g ∷ gs) [] n a = absurd a
-  all_well (g ∷ gs) (h ∷ hs) n a = (goes_well Fits Sound oa isf Left limit g h n a.0, all_well gs hs n a.1)
+  pub all_well : (r : Result (Unit {0}) Unfinished) (gs hs : List (Group W Q R T U)) (n : ℕ) → AllGoOn Fits Sound oa isf Left limit (Ok tt) gs hs n → AllGoOn Fits Sound oa isf Left limit r gs hs n
+  all_well r [] [] n a = tt
+  all_well r [] (h ∷ hs) n a = absurd a
+  all_well r (g ∷ gs) [] n a = absurd a
+  all_well r (g ∷ gs) (h ∷ hs) n a = (goes_well Fits Sound oa isf Left limit g h n a.0, all_well r gs hs n a.1)
 
   pub all_trans : (r : Result (Unit {0}) Unfinished) (gs hs ks : List (Group W Q R T U)) (m n : ℕ) → AllGoOn Fits Sound oa isf Left limit r gs hs m → AllGoOn Fits Sound oa isf Left limit r hs ks n → AllGoOn Fits Sound oa isf Left limit r gs ks (m + n)
   all_trans r [] [] [] m n a b = tt
@@ -273,7 +273,7 @@ module _ {W Q R T U : Type 0} (Fits : T → W → Type 0) (Sound : W → State �
       let worn = ends.worn is in
       let young = young_on result gs hs ends.turns (sum_by (work_left Left) gs) ends.goes ends.within all in
       let low : worn.1.cx.log.state.turns < limit = subst (λ (h : Group W Q R T U). h.cx.log.state.turns < limit) worn.3 (young worn.0 worn.1 worn.2) in
-      let high : limit ≤ worn.1.cx.log.state.turns = worn.4 in
+      let high : limit ≤ worn.1.cx.log.state.turns = worn.4.0 in
       omega arith
 
   -- What holds while a group is driven.
@@ -323,9 +323,9 @@ module _ {W Q R T U : Type 0} (Fits : T → W → Type 0) (Sound : W → State �
   driving_stops b0 b1 b2 g0 g1 g2 a0 a1 a2 e h b g a worn = record {
     turns = h.turns + 1;
     within = let less = h.less in omega arith;
-    first = all_trans Fits Sound oa isf Left limit _ b0 b1 b2 h.turns 1 (all_well Fits Sound oa isf Left limit b0 b1 h.turns h.first) b;
+    first = all_trans Fits Sound oa isf Left limit _ b0 b1 b2 h.turns 1 (all_well Fits Sound oa isf Left limit (Err e) b0 b1 h.turns h.first) b;
     own = goes_trans Fits Sound oa isf Left limit g0 g1 g2 h.turns 1 (goes_well Fits Sound oa isf Left limit g0 g1 h.turns h.own) g;
-    last = all_trans Fits Sound oa isf Left limit _ a0 a1 a2 h.turns 1 (all_well Fits Sound oa isf Left limit a0 a1 h.turns h.last) a;
+    last = all_trans Fits Sound oa isf Left limit _ a0 a1 a2 h.turns 1 (all_well Fits Sound oa isf Left limit (Err e) a0 a1 h.turns h.last) a;
     less = tt;
     idle = tt;
     worn = worn;
@@ -427,7 +427,7 @@ module _ {W Q R T U : Type 0} (Fits : T → W → Type 0) (Sound : W → State �
       record {
         turns = was.turns + at.drives.turns;
         within = let less = was.less in let few = at.drives.within in omega arith;
-        goes = all_trans Fits Sound oa isf Left limit _ old new next was.turns at.drives.turns (all_well Fits Sound oa isf Left limit old new was.turns was.goes)
+        goes = all_trans Fits Sound oa isf Left limit _ old new next was.turns at.drives.turns (all_well Fits Sound oa isf Left limit (Err e) old new was.turns was.goes)
             (subst (λ (x : List (Group W Q R T U) × List (Group W Q R T U)). AllGoOn Fits Sound oa isf Left limit (Err e) x.0 x.1 at.drives.turns) (λ i. (sym at.old_is i, sym at.new_is i)) row_goes);
         less = tt;
         idle = tt;

@@ -42,8 +42,8 @@ pub peers_tell : (tags : List Bool) → EachTells ℕ ℕ (Unit {0}) PeerFits Pe
 peers_tell tags = λ k d low g fit. refl
 
 -- a row of peers ends soon
-pub peers_end : (turns : ℕ) → turns ≤ 2 ^ 40 → EndSoon ℕ ℕ (Unit {0}) PeerFits PeerSound (λ b. b) (λ b. true) peer_left MOST_ALONE turns (row_tags ASKED)
-peers_end turns low = record {
+pub peers_end : (limit turns : ℕ) → turns ≤ 2 ^ 40 → MOST_ALONE ≤ limit → EndSoon ℕ ℕ (Unit {0}) PeerFits PeerSound (λ b. b) (λ b. true) peer_left limit turns (row_tags ASKED)
+peers_end limit turns low high = record {
   most = 2 * MOST_TODO + 1;
   each = λ k d low g fit few. let sound = fit.1 in let todo = sound.few in let one = sound.one in omega arith;
   enough = omega arith;

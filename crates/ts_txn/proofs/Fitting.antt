@@ -2,7 +2,7 @@
 -- stays so.
 use Rattle.std.proofs.Common.{◌≡◌, ℕ, List, Bool, true, false, Option, Some, None, refl, sym, ap, subst, ◌∙◌}
 use Rattle.std.specs.Arc.{arc_value}
-use Rattle.std.specs.Prelude.{IsSomeAnd}
+use Rattle.std.specs.Prelude.{IsSomeAnd, ⊤}
 use Rattle.ts_link.specs.Link.{IsSure, IsSurePlan, Look}
 use Rattle.ts_txn.specs.Cover.{is_fresh_on}
 use Rattle.ts_txn.specs.Driven.{TakesEvent}
@@ -78,20 +78,6 @@ module _ {C O : Type 0} (client : C → Look) (origin : O → Look) where
     started = λ is. cc;
   }
 
-  -- one that was started fits the tag that says so
-  pub fits_begun : {Q : Type 0} (tag : TxnTag C O) (t u : Txn C O Q) → HasTxnBegun t u → IsTxnOf client origin tag t → IsTxnOf client origin (record tag { started = true }) u
-  fits_begun tag t u begun h =
-      let core : {P : Core C O → Type 0} → P t.core → P u.core = λ {P} p. subst P (sym begun.core) p in
-      record {
-        number = core {P = λ k. k.number ≡ tag.number} h.number;
-        setup = core {P = λ k. arc_value k.setup ≡ tag.setup.value} h.setup;
-        plugins_at = core {P = λ k. k.plugins_at ≡ tag.plugins_at} h.plugins_at;
-        client = core {P = λ k. IsSameLink (client tag.client.value) (client k.client.link)} h.client;
-        origin = core {P = λ k. IsSameLinkIf origin tag.origin.value k.origin} h.origin;
-        sure = core {P = λ k. tag.sure ≡ true → IsSure (client k.client.link) × IsSureIf origin k.origin} h.sure;
-        started = λ is. begun.started;
-      }
-
 module _ {C O : Type 0} (client : C → Look) (origin : O → Look) (paired : C → O → Type 0) (refuses : O → List ℕ → Type 0) where
   same_core : (t : Core C O) → StepKeeps client origin paired refuses t t
   same_core t = record {
@@ -127,3 +113,10 @@ module _ {C O : Type 0} (client : C → Look) (origin : O → Look) (paired : C 
   -- so does the start
   pub fits_start : {Q : Type 0} (tag : TxnTag C O) (t u : Txn C O Q) → HasTxnBegun t u → IsTxnOf client origin tag t → IsTxnOf client origin tag u
   fits_start tag t u begun h = fits_on tag t u (subst (λ k. StepKeeps client origin paired refuses t.core k) (sym begun.core) (same_core t.core)) (λ was. begun.started) h
+
+module _ {C O : Type 0} (client : C → Look) (origin : O → Look) where
+  -- it fits the tag that says that it was started, too
+  pub fits_begun : {Q : Type 0} (tag : TxnTag C O) (t u : Txn C O Q) → HasTxnBegun t u → IsTxnOf client origin tag t → IsTxnOf client origin (record tag { started = true }) u
+  fits_begun tag t u begun h =
+      let k : IsTxnOf client origin tag u = fits_start client origin (λ c o. ⊤) (λ o list. ⊥) tag t u begun h in
+      record { number = k.number; setup = k.setup; plugins_at = k.plugins_at; client = k.client; origin = k.origin; sure = k.sure; started = λ is. begun.started }

@@ -1,8 +1,7 @@
 -- A transaction between links in memory can be driven to its end: its group fits its tag, asks nobody and tells its number;
 -- and one that was started has ended once nothing is pending.
-use Rattle.std.proofs.Common.{◌≡◌, ℕ, ◌+◌, ◌*◌, ◌≤◌, List, [], ◌∷◌, ◌++◌, Bool, true, false, Option, Some, None, arith, refl, sym, ap, subst, ◌∙◌}
-use Rattle.std.specs.Prelude.{⊤, All, IsSome, Result, Ok, OnOk, max}
-use Rattle.std.specs.List.{AllZip}
+use Rattle.std.proofs.Common.{◌≡◌, ◌⊎◌, inl, inr, ℕ, ◌≤◌, List, [], ◌∷◌, true, false, Option, Some, None, refl, sym, subst}
+use Rattle.std.specs.Prelude.{⊤, All, IsSome, Result, Ok}
 use Rattle.std.proofs.lemmas.List.Elements.{All-nil, All-cons, All-head}
 use Rattle.ts_config.specs.Bodies.{whole_of}
 use Rattle.ts_group.specs.declared.group.Group.{Group}
@@ -12,7 +11,7 @@ use Rattle.ts_journal.specs.State.{State}
 use Rattle.ts_link.specs.MemLink.{LinkState, look_of}
 use Rattle.ts_stock.specs.Stock.{still_writes}
 use Rattle.ts_stock.specs.declared.stock.State.{State as StockState}
-use Rattle.ts_thread.specs.declared.TheConstants.{MOST_ALONE}
+use Rattle.ts_thread.specs.declared.ending.TheConstants.{MOST_TURNS}
 use Rattle.ts_thread.specs.declared.did.Unfinished.{Unfinished}
 use Rattle.ts_thread.specs.Goings.{AllGoOn, Finishes, HasTakenTurns, IsIdle}
 use Rattle.ts_thread.specs.Tags.{CanAsk, GroupsFit}
@@ -23,7 +22,7 @@ use Rattle.ts_txn.specs.declared.txn.Txn.{Txn}
 use Rattle.ts_txn.specs.declared.txn.TxnTag.{TxnTag}
 use Rattle.ts_txn.proofs.Handling.{at_rest}
 use Rattle.ts_txn.proofs.Telling.{mem_tells}
-use Rattle.ts_txn_tests.specs.Begun.{FitsTag, HasBegunAs, IsSoundIn, any_pair, no_refusal}
+use Rattle.ts_txn_tests.specs.Begun.{FitsTag, HasBegunAs, HasEndedOr, IsSoundIn, any_pair, no_refusal}
 
 abbrev MemTag : Type 0
 MemTag = TxnTag LinkState LinkState
@@ -40,14 +39,10 @@ pub can_ask : {A R : Type 0} (tags : List MemTag) → CanAsk {W = MemTxn} {Q = A
     (λ t question reply. ⊤) tags
 can_ask tags = record { others = λ j k t w at fit may. absurd may; replies = λ j k t u w v q r at fit there fits answers. tt }
 
--- a group at rest after so many turns has an event number left
-numbers_left : (turns next : ℕ) → turns ≤ max 1 MOST_ALONE → next ≤ 8192 * turns + 1 → GREATEST ≤ next → ⊥
-numbers_left turns next few rests spent = omega (arith, few, rests, spent)
-
--- what has not ended goes on
-ends : (Q : Type 0) (end : Option Q) → (end ≡ None → ⊥) → IsSome end
-ends Q None on = absurd (on refl)
-ends Q (Some x) on = refl
+-- what has not come to an end goes on
+ends_or : {X : Type 0} (end : Option X) (spent : Type 0) → (end ≡ None → spent) → IsSome end ⊎ spent
+ends_or None spent on = inr (on refl)
+ends_or (Some x) spent on = inl refl
 
 module _ {A R U : Type 0} where
   abbrev MemGroup : Type 0
@@ -57,7 +52,7 @@ module _ {A R U : Type 0} where
   Fits = FitsTag true true look_of look_of any_pair no_refusal still_writes whole_of
 
   abbrev Ends : List MemGroup → List MemGroup → Result (Unit {0}) Unfinished → Type 0
-  Ends = Finishes (IsTxnOf look_of look_of) (IsSoundIn true true look_of look_of any_pair no_refusal still_writes whole_of) (λ tag. false) (λ tag. tag.first) left
+  Ends = Finishes (IsTxnOf look_of look_of) (IsSoundIn true true look_of look_of any_pair no_refusal still_writes whole_of) (λ tag. false) (λ tag. tag.first) left MOST_TURNS
 
   abbrev Begins : MemTag → MemGroup → Type 0
   Begins = HasBegunAs true true look_of look_of any_pair no_refusal still_writes whole_of
@@ -69,28 +64,26 @@ module _ {A R U : Type 0} where
     pub group_tells : All (Finite left) gs
     group_tells = subst (All (Finite left)) (sym one) (All-cons (Finite left) g [] (mem_tells still_writes g.world.core g.world.course g.cx.log.state.pending) (All-nil (Finite left)))
 
-  -- one that was started, has its tag and is idle has ended
+  -- one that was started, has its tag and is idle has ended, or its event numbers are used up
   has_ended : (tag : MemTag) (g h : MemGroup) (result : Result (Unit {0}) Unfinished) (n : ℕ) → Begins tag g
-      → HasTakenTurns (IsTxnOf look_of look_of) (IsSoundIn true true look_of look_of any_pair no_refusal still_writes whole_of) (λ tag. false) (λ tag. tag.first) left result g h n
-      → IsIdle h → IsSome (end_of h.world.course)
+      → HasTakenTurns (IsTxnOf look_of look_of) (IsSoundIn true true look_of look_of any_pair no_refusal still_writes whole_of) (λ tag. false) (λ tag. tag.first) left MOST_TURNS result g h n
+      → IsIdle h → HasEndedOr h
   has_ended tag g h result n begun goes idle =
       let fits : Fits tag h = goes.fits tag begun.fits in
-      let few : h.cx.log.state.turns ≤ max 1 MOST_ALONE = subst (λ (k : ℕ). h.cx.log.state.turns ≤ max k MOST_ALONE) begun.turns goes.within in
-      ends _ (end_of h.world.course)
-      (λ on. numbers_left h.cx.log.state.turns h.cx.log.state.next few fits.2.1
-      (at_rest true true look_of look_of any_pair no_refusal still_writes whole_of h.world h.cx.log.state.next h.cx.roles (fits.0.started begun.started) on
-      (subst (λ ps. IsSoundIn true true look_of look_of any_pair no_refusal still_writes whole_of h.world (record h.cx.log.state { pending = ps }) h.cx.roles) idle fits.1)))
+      ends_or (end_of h.world.course) (GREATEST ≤ h.cx.log.state.next)
+      (λ on. at_rest true true look_of look_of any_pair no_refusal still_writes whole_of h.world h.cx.log.state.next h.cx.roles (fits.0.started begun.started) on
+      (subst (λ ps. IsSoundIn true true look_of look_of any_pair no_refusal still_writes whole_of h.world (record h.cx.log.state { pending = ps }) h.cx.roles) idle fits.1))
 
   all_ended : (tag : MemTag) (g : MemGroup) (hs : List MemGroup) (n : ℕ) → Begins tag g
-      → AllGoOn (IsTxnOf look_of look_of) (IsSoundIn true true look_of look_of any_pair no_refusal still_writes whole_of) (λ tag. false) (λ tag. tag.first) left (Ok tt) (g ∷ []) hs n
-      → All IsIdle hs → (h : MemGroup) × (hs ≡ h ∷ []) × IsSome (end_of h.world.course)
+      → AllGoOn (IsTxnOf look_of look_of) (IsSoundIn true true look_of look_of any_pair no_refusal still_writes whole_of) (λ tag. false) (λ tag. tag.first) left MOST_TURNS (Ok tt) (g ∷ []) hs n
+      → All IsIdle hs → (h : MemGroup) × (hs ≡ h ∷ []) × HasEndedOr h
   all_ended tag g [] n begun goes idle = absurd goes
   all_ended tag g (h ∷ []) n begun goes idle = (h, refl, has_ended tag g h (Ok tt) n begun goes.0 (All-head IsIdle h [] idle))
   all_ended tag g (h ∷ k ∷ hs) n begun goes idle = absurd goes.1
 
   -- the one group is there, and its transaction has ended
   pub one_ended : (tag : MemTag) (g : MemGroup) (gs hs : List MemGroup) (result : Result (Unit {0}) Unfinished) → result ≡ Ok tt → gs ≡ g ∷ [] → Begins tag g → Ends gs hs result
-      → (h : MemGroup) × (hs ≡ h ∷ []) × IsSome (end_of h.world.course)
+      → (h : MemGroup) × (hs ≡ h ∷ []) × HasEndedOr h
   one_ended tag g gs hs result ok one begun finishes =
       let here : Ends (g ∷ []) hs (Ok tt) = subst (λ r. Ends (g ∷ []) hs r) ok (subst (λ xs. Ends xs hs result) one finishes) in
       all_ended tag g hs here.turns begun here.goes here.idle

@@ -1,11 +1,12 @@
 //! A transaction in a group of its own, driven to its end.
-ghost use Rattle.std.specs.Prelude.{◌≡◌, true, IfOk, IsSome};
+ghost use Rattle.std.specs.Prelude.{◌≡◌, ◌⊎◌, ◌≤◌, true, IfOk, IsSome};
 ghost use Rattle.ts_config.specs.Bodies.{whole_of};
+ghost use Rattle.ts_journal.specs.declared.entry.TheConstants.{GREATEST};
 ghost use Rattle.ts_link.specs.MemLink.{look_of};
 ghost use Rattle.ts_stock.specs.Stock.{still_writes};
 ghost use Rattle.ts_txn.specs.Entering.{ActsAsLines};
-ghost use Rattle.ts_txn.specs.Making.{ArePaired, HasFewLines, IsNewLink, IsNewLinkIf, end_of};
-ghost use Rattle.ts_txn_tests.specs.Begun.{HasBegunAs, any_pair, no_refusal};
+ghost use Rattle.ts_txn.specs.Making.{ArePaired, HasFewLines, IsNewLink, IsNewLinkIf};
+ghost use Rattle.ts_txn_tests.specs.Begun.{HasBegunAs, HasEndedOr, any_pair, no_refusal};
 
 use crate::plan::{Plan, link_of, origin_of};
 use crate::refusal::Refusal;
@@ -122,8 +123,9 @@ pub fn drive(
     group: Group<MemTxn>,
     tag: TxnTag<MemLink, MemLink>,
 ) -> Result<Group<MemTxn>, Refusal>
-    requires begun { HasBegunAs true true look_of look_of any_pair no_refusal still_writes whole_of tag group }
-    ensures ended { IfOk result (λ g. IsSome (end_of g.world.course)) }
+    requires begun { HasBegunAs true true look_of look_of any_pair no_refusal still_writes whole_of
+        tag group }
+    ensures ended { IfOk result HasEndedOr }
 {
     let mut groups = Vec::new(alloc);
     groups.push(group)?;
@@ -145,7 +147,7 @@ pub fn exchange(
     requires few { HasFewLines setup 0 }
     requires client { IsNewLink (look_of client) }
     requires origin { IsNewLinkIf look_of origin }
-    ensures ended { IfOk result (λ e. IsSome e.parts.end) }
+    ensures ended { IfOk result (λ e. IsSome e.parts.end ⊎ (GREATEST ≤ e.journal.state.next)) }
 {
     let (group, tag) = begin(alloc, setup, client, origin)?;
     let group = drive(alloc, group, tag)?;

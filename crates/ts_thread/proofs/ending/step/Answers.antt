@@ -39,8 +39,9 @@ returns-clause-own g c =
     let begun = c.in_ok-begin_turn.ensures in
     let given = c.give_turn.ensures in
     let works = c.serve-answer.ensures.works in
-    stepped g.W.Slotted.fits g.W.World.sound g.W.World.only_asked g.W.World.is_first g.W.World.left c.args.limit c.args.group.now c.begin_turn.new.self c.serve-answer.new.group c.give_turn.new.self (c.turns.result + 1) c.args.moment c.args.number c.requires.due (omega arith)
-    (ap (λ n. n + 1) (c.turns.ensures ∙ ap (λ j. j.state.turns) c.journal.ensures)) begun.begins begun.world begun.left works given.gives given.world given.left
+    let turns = c.turns-turns.ensures ∙ ap (λ j. j.state.turns) c.journal.ensures in
+    stepped g.W.Slotted.fits g.W.World.sound g.W.World.only_asked g.W.World.is_first g.W.World.left c.args.limit c.args.group.now c.begin_turn.new.self c.serve-answer.new.group c.give_turn.new.self (c.turns-turns.result + 1) c.args.moment c.args.number c.requires.due (omega arith)
+    (ap (λ n. n + 1) turns) begun.begins begun.world begun.left works given.gives given.world given.left
     (given.sound works.sound)
 
 pub returns-clause-worn : goal.returns-clause-worn
@@ -48,4 +49,11 @@ returns-clause-worn g c = λ is. any_around (IsWorn g.W.Slotted.fits g.W.World.s
 
 pub returns-then-turns-limit-clause-worn : goal.returns-then-turns-limit-clause-worn
 returns-then-turns-limit-clause-worn g c = λ is.
-    any_middle (IsWorn g.W.Slotted.fits g.W.World.sound g.W.World.only_asked g.W.World.is_first c.args.limit) c.args.before.now c.args.group.now c.args.after.now (?, inl (next_pending c.args.group.now.cx.log.state c.args.moment c.args.number c.requires.due))
+    let turns = c.turns-turns.ensures ∙ ap (λ j. j.state.turns) c.journal.ensures in
+    any_middle (IsWorn g.W.Slotted.fits g.W.World.sound g.W.World.only_asked g.W.World.is_first c.args.limit) c.args.before.now c.args.group.now c.args.after.now (omega arith, inl (next_pending c.args.group.now.cx.log.state c.args.moment c.args.number c.requires.due))
+
+pub returns-then-turns-limit-clause-before : goal.returns-then-turns-limit-clause-before
+returns-then-turns-limit-clause-before g c = all_refl g.W.Slotted.fits g.W.World.sound g.W.World.only_asked g.W.World.is_first g.W.World.left c.args.limit _ c.args.before.now 1
+
+pub returns-then-turns-limit-clause-after : goal.returns-then-turns-limit-clause-after
+returns-then-turns-limit-clause-after g c = all_refl g.W.Slotted.fits g.W.World.sound g.W.World.only_asked g.W.World.is_first g.W.World.left c.args.limit _ c.args.after.now 1

@@ -1,6 +1,5 @@
 use Rattle.std.proofs.Common.{true, arith}
 use Rattle.ts_thread.proofs.Ended.{all_tell, turns_enough}
-use Rattle.ts_thread.specs.declared.TheConstants.{MOST_ALONE}
 use Rattle.ts_group_tests.specs.declared.peer.TheConstants.{ASKED}
 use Rattle.ts_group_tests.specs.Peers.{PeerFits, PeerSound, peer_left}
 use Rattle.ts_thread_tests.specs.Peers.{row_tags}
@@ -8,12 +7,12 @@ use Rattle.ts_thread_tests.proofs.Ends.{peers_can_ask, peers_tell, peers_end, on
 use Rattle.ts_thread_tests.proofs.row.drive_row.Goals as goal
 
 pub finish_within-requires-clause-fits : goal.finish_within-requires-clause-fits
-finish_within-requires-clause-fits c = (row_tags ASKED, peers_can_ask, c.requires.fits)
+finish_within-requires-clause-fits c = (row_tags ASKED, peers_can_ask, c.requires.row.fits)
 
 pub finish_within-requires-clause-tells : goal.finish_within-requires-clause-tells
-finish_within-requires-clause-tells c = all_tell PeerFits PeerSound (λ b. b) (λ b. true) peer_left (row_tags ASKED) c.args.groups.now.items (peers_tell (row_tags ASKED)) c.requires.fits
+finish_within-requires-clause-tells c = all_tell PeerFits PeerSound (λ b. b) (λ b. true) peer_left (row_tags ASKED) c.args.groups.now.items (peers_tell (row_tags ASKED)) c.requires.row.fits
 
 pub returns-clause-lacks : goal.returns-clause-lacks
-returns-clause-lacks c =
+returns-clause-lacks c = λ high.
     only_memory c.finish_within.result (c.finish_within.ensures.spares
-    (turns_enough PeerFits PeerSound (λ b. b) (λ b. true) peer_left MOST_ALONE 1 (row_tags ASKED) c.args.groups.now.items (peers_end 1 (omega arith)) c.requires.fits c.requires.few))
+    (turns_enough PeerFits PeerSound (λ b. b) (λ b. true) peer_left c.args.limit 1 (row_tags ASKED) c.args.groups.now.items (peers_end c.args.limit 1 (omega arith) high) c.requires.row.fits c.requires.row.few))

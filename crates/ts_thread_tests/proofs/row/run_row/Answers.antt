@@ -40,4 +40,4 @@ pub returns-clause-lacks : goal.returns-clause-lacks
 returns-clause-lacks g c =
     let times : c.args.threads * (2 * BUDGET) ≤ MOST_THREADS * (2 * BUDGET) = mul-le c.args.threads (2 * BUDGET) MOST_THREADS (2 * BUDGET) c.requires.threads.1 (omega arith) in
     only_memory c.run_whole.result (c.run_whole.ensures.spares
-    (subst (λ ts. EndSoon ℕ ℕ (Unit {0}) PeerFits PeerSound (λ b. b) (λ b. true) peer_left MOST_ALONE (turns_of ASKED c.args.threads BUDGET) ts) (sym c.in_ok-tags.ensures) (peers_end (turns_of ASKED c.args.threads BUDGET) (omega arith))))
+    (subst (λ ts. EndSoon ℕ ℕ (Unit {0}) PeerFits PeerSound (λ b. b) (λ b. true) peer_left MOST_ALONE (turns_of ASKED c.args.threads BUDGET) ts) (sym c.in_ok-tags.ensures) (peers_end MOST_ALONE (turns_of ASKED c.args.threads BUDGET) (omega arith) (omega arith))))
