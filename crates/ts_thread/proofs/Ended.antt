@@ -65,6 +65,7 @@ module _ {W Q R T U : Type 0} (Fits : T → W → Type 0) (Sound : W → State �
     found = was.found;
     stood = was.stood;
     started = was.started;
+    turned = was.turned;
     goes = was.goes;
     first = was.first;
     begun = was.begun;
