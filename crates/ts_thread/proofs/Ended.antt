@@ -6,15 +6,14 @@ use Rattle.std.specs.List.{AllZip, sum_by}
 use Rattle.std.proofs.lemmas.List.Sums.{sum_by-le}
 use Rattle.std.proofs.lemmas.List.Elements.{All-nil, All-cons, All-head, All-tail, All-weaker}
 use Rattle.ts_journal.specs.State.{State}
-use Rattle.ts_journal.proofs.Later.{follows_trans}
 use Rattle.ts_group.specs.declared.action.Named.{Named}
 use Rattle.ts_group.specs.declared.group.Group.{Group}
-use Rattle.ts_group.specs.Standing.{FollowsGroup}
+use Rattle.ts_group.specs.Standing.{FollowsGroup, follows_on}
 use Rattle.ts_slot.specs.Limits.{most_groups}
 use Rattle.ts_thread.specs.declared.TheConstants.{MOST_LEFT}
 use Rattle.ts_thread.specs.Tags.{GroupsFit}
-use Rattle.ts_group.specs.Answers.{Finite}
-use Rattle.ts_thread.specs.Goings.{IsLaterGroup, AllGoOn, IsIdle, HasTurns, work_left}
+use Rattle.ts_group.specs.Answers.{Finite, KeepsTags}
+use Rattle.ts_thread.specs.Goings.{IsLaterGroup, HasTakenTurns, AllGoOn, IsIdle, HasTurns, work_left}
 use Rattle.ts_thread.specs.Started.{IsFirst, WasStarted}
 use Rattle.ts_thread.specs.Threads.{HasHadTurns}
 use Rattle.ts_thread.specs.Whole.{EndSoon, HaveRun, HaveEnded}
@@ -53,37 +52,41 @@ module _ {W Q R T U : Type 0} (Fits : T → W → Type 0) (Sound : W → State �
         )
 
   -- a group that follows another, follows it still when it went on
-  later_follows : (x g h : Group W Q R T U) → IsLaterGroup g h → FollowsGroup g x → FollowsGroup h x
-  later_follows x g h later follows = follows_trans (h.cx.log.base.turns, h.cx.log.state) (g.cx.log.base.turns, g.cx.log.state) (x.cx.log.base.turns, x.cx.log.state) (inr (ap (λ (s : State). s.turns) later.base, later.later)) follows
+  later_follows : (x g h : Group W Q R T U) → IsLaterGroup g h → KeepsTags Fits g.world h.world → FollowsGroup Fits g x → FollowsGroup Fits h x
+  later_follows x g h later tags = follows_on Fits h g x (record {
+    journal = inr (ap (λ (s : State). s.turns) later.base, later.later);
+    tags = λ same. tags;
+  })
 
   -- a group that follows one that was started, follows it still when it went on
-  later_started : (First : ℕ → ℕ → Type 0) (Begun : W → W → Type 0) (k : ℕ) (given g h : Group W Q R T U) → IsLaterGroup g h → WasStarted First Begun Sound k given g → WasStarted First Begun Sound k given h
-  later_started First Begun k given g h later was = record {
+  later_started : (First : ℕ → ℕ → Type 0) (Begun : W → W → Type 0) (k : ℕ) (given g h : Group W Q R T U) → IsLaterGroup g h → KeepsTags Fits g.world h.world → WasStarted Fits First Begun Sound k given g → WasStarted Fits First Begun Sound k given h
+  later_started First Begun k given g h later tags was = record {
     found = was.found;
     stood = was.stood;
     started = was.started;
+    goes = was.goes;
     first = was.first;
     begun = was.begun;
     sound = was.sound;
-    follows = later_follows was.started g h later was.follows;
+    follows = later_follows was.started g h later tags was.follows;
   }
 
   -- groups that follow those that were given, follow them still when they went on
-  all_follow : (L : Type 0) (Left : W → State → Option ℕ) (turns : ℕ) (given gs hs : List (Group W Q R T U)) → AllZip FollowsGroup gs given → AllGoOn Fits Sound oa isf Left L gs hs turns → AllZip FollowsGroup hs given
+  all_follow : (L : Type 0) (Left : W → State → Option ℕ) (turns : ℕ) (given gs hs : List (Group W Q R T U)) → AllZip (FollowsGroup Fits) gs given → AllGoOn Fits Sound oa isf Left L gs hs turns → AllZip (FollowsGroup Fits) hs given
   all_follow L Left turns [] [] [] all goes = tt
   all_follow L Left turns [] [] (h ∷ hs) all goes = absurd goes
   all_follow L Left turns [] (g ∷ gs) hs all goes = absurd all
   all_follow L Left turns (x ∷ xs) [] hs all goes = absurd all
   all_follow L Left turns (x ∷ xs) (g ∷ gs) [] all goes = absurd goes
-  all_follow L Left turns (x ∷ xs) (g ∷ gs) (h ∷ hs) all goes = (later_follows x g h goes.0.later all.0, all_follow L Left turns xs gs hs all.1 goes.1)
+  all_follow L Left turns (x ∷ xs) (g ∷ gs) (h ∷ hs) all goes = (later_follows x g h goes.0.later goes.0.tags all.0, all_follow L Left turns xs gs hs all.1 goes.1)
 
   -- the group from which one went on
   back_at : (L : Type 0) (Left : W → State → Option ℕ) (turns : ℕ) (gs hs : List (Group W Q R T U)) (k : ℕ) (h : Group W Q R T U) → AllGoOn Fits Sound oa isf Left L gs hs turns → get_elem? hs k ≡ some h
-      → (g : Group W Q R T U) × (get_elem? gs k ≡ some g) × IsLaterGroup g h
+      → (g : Group W Q R T U) × (get_elem? gs k ≡ some g) × HasTakenTurns Fits Sound oa isf Left L g h turns
   back_at L Left turns [] [] k h a e = absurd (cc)
   back_at L Left turns [] (y ∷ ys) k h a e = absurd a
   back_at L Left turns (x ∷ xs) [] k h a e = absurd a
-  back_at L Left turns (x ∷ xs) (y ∷ ys) zero h a e = let is : y ≡ h = cc in (x, refl, subst (λ (z : Group W Q R T U). IsLaterGroup x z) is a.0.later)
+  back_at L Left turns (x ∷ xs) (y ∷ ys) zero h a e = let is : y ≡ h = cc in (x, refl, subst (λ (z : Group W Q R T U). HasTakenTurns Fits Sound oa isf Left L x z turns) is a.0)
   back_at L Left turns (x ∷ xs) (y ∷ ys) (suc k) h a e = back_at L Left turns xs ys k h a.1 e
 
   -- groups that threads ran and that went on to their end
@@ -93,5 +96,5 @@ module _ {W Q R T U : Type 0} (Fits : T → W → Type 0) (Sound : W → State �
     follow = all_follow L Left turns given old new run.follow goes;
     fits = fits_on Fits Sound oa isf Left _ tags old new turns run.fits goes;
     idle = idle;
-    started = λ k x h low at there. let was = back_at L Left turns old new k h goes there in later_started (IsFirst isf tags) Begun k x was.0 h was.2 (run.started k x was.0 low at was.1);
+    started = λ k x h low at there. let was = back_at L Left turns old new k h goes there in later_started (IsFirst isf tags) Begun k x was.0 h was.2.later was.2.tags (run.started k x was.0 low at was.1);
   }

@@ -31,10 +31,10 @@ pub record CanBeRun {W Q R T U : Type 0} (Fits : T → W → Type 0) (Sound : W 
 pub record HaveRun {W Q R T U : Type 0} (Fits : T → W → Type 0) (Sound : W → State → List Named → Type 0)
     (only_asked is_first : T → Bool) (Begun : W → W → Type 0) (tags : List T) (given : List (Group W Q R T U))
     (starts threads budget : ℕ) (groups : List (Group W Q R T U)) : Type 0 where
-  pub follow : AllZip FollowsGroup groups given
+  pub follow : AllZip (FollowsGroup Fits) groups given
   pub fits : GroupsFit Fits Sound only_asked is_first tags groups
   pub turns : All (HasHadTurns (turns_of starts threads budget)) groups
-  pub started : WereStarted (IsFirst is_first tags) Begun Sound starts given groups
+  pub started : WereStarted Fits (IsFirst is_first tags) Begun Sound starts given groups
 
 -- So many turns are few, and each group that fits a tag and has had no more tells what is left to do, which
 -- is not much.
@@ -49,7 +49,7 @@ pub record EndSoon {W T : Type 0} (Q R U : Type 0) (Fits : T → W → Type 0)
 pub record HaveEnded {W Q R T U : Type 0} (Fits : T → W → Type 0) (Sound : W → State → List Named → Type 0)
     (only_asked is_first : T → Bool) (Begun : W → W → Type 0) (tags : List T) (starts : ℕ)
     (given groups : List (Group W Q R T U)) : Type 0 where
-  pub follow : AllZip FollowsGroup groups given
+  pub follow : AllZip (FollowsGroup Fits) groups given
   pub fits : GroupsFit Fits Sound only_asked is_first tags groups
   pub idle : All IsIdle groups
-  pub started : WereStarted (IsFirst is_first tags) Begun Sound starts given groups
+  pub started : WereStarted Fits (IsFirst is_first tags) Begun Sound starts given groups

@@ -18,10 +18,10 @@ pub fn begin<W: World + Drop>(
     requires free { group.old.cx.log.state.held ≡ false }
     requires later { group.old.cx.log.state.turns < turn }
     requires sound { Holds W.sound group.old }
-    ensures begun { OnOk result (HasTurn group.old group.new turn seat) }
+    ensures begun { OnOk result (HasTurn W.fits group.old group.new turn seat) }
     ensures same { BeginsSame group.old group.new }
     ensures sound { Holds W.sound group.new }
-    ensures err { OnErr result (IsGivenBack group.old group.new turn seat
+    ensures err { OnErr result (IsGivenBack W.fits group.old group.new turn seat
         × (group.new.cx.log.state ≡ group.old.cx.log.state)) }
 {
     group.known();
