@@ -29,11 +29,6 @@ pub record IsReport (setup : Setup) (txns : List TxnPieces) (text : List ℕ) : 
   pub each : AllZip (IsShown setup) txns blocks
   pub text_is : text ≡ report_text blocks
 
--- a setup and transactions have at most one report
-abbrev pub HasOneReport : Type 0
-HasOneReport =
-    (setup : Setup) (txns : List TxnPieces) (a b : List ℕ) → IsReport setup txns a → IsReport setup txns b → a ≡ b
-
 -- a setup of these lines, with no hook plugin
 pub record IsSetupOf (lines : List TransformLine) (setup : Setup) : Type 0 where
   pub transforms : setup.transforms.items ≡ lines
@@ -46,6 +41,11 @@ pub record IsReportOn (lines : List TransformLine) (bytes text : List ℕ) : Typ
   pub txns : List TxnPieces
   pub recording : IsRecording bytes txns
   pub report : IsReport setup txns text
+
+-- lines and the bytes of a recording have at most one report
+abbrev pub HasOneReport : Type 0
+HasOneReport =
+    (lines : List TransformLine) (bytes a b : List ℕ) → IsReportOn lines bytes a → IsReportOn lines bytes b → a ≡ b
 
 -- the bytes are a recording
 abbrev pub HasRecording : List ℕ → Type 0

@@ -3,7 +3,13 @@
 #![tactic(auto)]
 
 mod block;
+mod fault;
 mod framed;
-mod replay;
+mod groups;
+mod replaying;
+mod report;
+mod running;
 
-pub use replay::{Replayed, ReplayFault, one_report, replay};
+pub use fault::ReplayFault;
+pub use replaying::{one_report, replay};
+pub use report::Replayed;
