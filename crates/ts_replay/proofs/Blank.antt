@@ -9,7 +9,7 @@ use Rattle.http_header.proofs.TokenLemmas.{AllPass-from_test}
 use Rattle.httparse.specs.Ascii.{colon, crlf_bytes, space}
 use Rattle.httparse.specs.Grammar as grammar
 use Rattle.httparse.specs.Grammar.{IsField, IsRequestHead, LineEnd, crlf, is_token_byte, is_uri_byte, is_value_byte, print_blank, print_end, print_field, print_request, print_section, print_version}
-use Rattle.memchr.specs.Find.{FindsNeedle, IsFirst, Nowhere, OccursAt}
+use Rattle.memchr.specs.Find.{IsFirst, Nowhere, OccursAt}
 use Rattle.memchr.proofs.lemmas.MatchLemmas.{OccursAt-part, OccursAt-from_part}
 use Rattle.ts_wire.specs.OneHead.{SendsRequest}
 use Rattle.ts_replay.specs.Exchanged.{EndsBlank, blank_end}

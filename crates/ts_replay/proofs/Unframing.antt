@@ -1,10 +1,9 @@
 -- A body is taken out of its frames, piece by piece.
-use Rattle.std.proofs.Common.{◌≡◌, ℕ, ◌+◌, ◌<◌, ◌≤◌, true, List, [], ◌∷◌, ◌++◌, All, take, drop, map, length, get_or, refl, sym, ap, ◌∙◌, arith, append_assoc, length-append}
+use Rattle.std.proofs.Common.{◌≡◌, ℕ, ◌+◌, ◌<◌, ◌≤◌, true, List, [], ◌∷◌, ◌++◌, take, drop, length, get_or, refl, sym, ap, ◌∙◌, arith, append_assoc, length-append}
 use Rattle.std.proofs.lemmas.List.{append-nil, take_at, drop_at, take_all, length-drop, length-map, get_or-map, take_more, drop_more}
 use Rattle.std.proofs.lemmas.Grind.{flat_map-append}
 use Rattle.std.proofs.lemmas.List.Elements.{All-get_or}
 use Rattle.httparse.specs.Ascii.{crlf_bytes}
-use Rattle.ts_wire.specs.declared.frames.Mode.{Mode}
 use Rattle.ts_wire.specs.declared.frames.Mode.TheVariants.{Plain, Chunked}
 use Rattle.ts_wire.specs.Frames.{IsPiece, hex, frame_of, frames, cut_body}
 use Rattle.ts_wire.specs.Limits.{piece_limit}

@@ -1,5 +1,5 @@
 -- A recorded transaction that has ended, and what it left.
-use Rattle.std.specs.Prelude.{◌≡◌, ◌≢◌, ◌⊎◌, ℕ, ◌<◌, List, [], ◌++◌, length, map, All, ⊤, Bool, true, false, codes}
+use Rattle.std.specs.Prelude.{◌≡◌, ◌⊎◌, ℕ, ◌<◌, List, [], ◌++◌, length, map, All, ⊤, Bool, true, false, codes}
 use Rattle.std.specs.Arc.{arc_value}
 use Rattle.memchr.specs.Find.{OccursAt}
 use Rattle.ts_config.specs.Bodies.{whole_of}

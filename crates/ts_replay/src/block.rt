@@ -101,10 +101,10 @@ fn told_of(alloc: Global, parts: &RecordedParts) -> Result<Block, NoMemory>
     };
     parts.client.known();
     origin.known();
-    match parts.end {
-        Some(TxnEnd::NoMemory) => Err(NoMemory),
-        Some(end) => block_of(alloc, parts, origin, end),
-        None => unreachable!(),
+    let Some(end) = parts.end else { unreachable!() };
+    match end {
+        TxnEnd::NoMemory => Err(NoMemory),
+        _ => block_of(alloc, parts, origin, end),
     }
 }
 

@@ -1,8 +1,6 @@
-use Rattle.std.proofs.Common.{ℕ, ◌≡◌, ◌+◌, ◌<◌, ◌≤◌, ◌++◌, List, [], get_or, length, take, drop, true, sym, ap, subst, ◌∙◌, arith}
-use Rattle.ts_wire.specs.declared.frames.Mode.TheVariants.{Chunked}
-use Rattle.ts_wire.specs.Frames.{cut_body, frames, hex}
+use Rattle.std.proofs.Common.{◌≡◌, ◌+◌, ◌≤◌, [], get_or, length, take, drop, sym, ap, subst, ◌∙◌, arith}
+use Rattle.ts_wire.specs.Frames.{hex}
 use Rattle.ts_wire.specs.Limits.{piece_limit}
-use Rattle.ts_replay.specs.Unframing.{IsFramed}
 use Rattle.ts_replay.proofs.HexLengths.{few_digits}
 use Rattle.ts_replay.proofs.Unframing.{HasChunk, body_more, end_within, line_within, next_chunk, others_are, piece_is, piece_within, small_size}
 use Rattle.ts_replay.proofs.framed.unchunked.Goals as goal
