@@ -65,18 +65,20 @@ module _ {W Q R T U : Type 0} (Fits : T → W → Type 0) (Sound : W → State �
 
   -- a group was entered, started and left
   pub starts_one : (k turn seat : ℕ) (found v g0 g1 g1' g2 left : Group W Q R T U) (old before entered new : View T (Group W Q R T U)) → FitsHere Fits Sound only_asked is_first tags k v → found ≡ v → g0 ≡ v
-      → HasTurn Fits g0 g1 turn seat → BeginsSame g0 g1 → g1' ≡ g1 → StartsInTurn Fits Sound Begun g1' g2 → entered ≡ won k turn v before → Leaves entered new
+      → HasTurn Fits g0 g1 turn seat → BeginsSame g0 g1 → g1' ≡ g1 → StartsInTurn Fits Sound Begun g1' g2 → v.cx.log.state.turns < turn → entered ≡ won k turn v before → Leaves entered new
       → left.world ≡ g2.world → left.cx.log.base ≡ g2.cx.log.base → IsLater g2.cx.log.state left.cx.log.state → NoNews left.cx.news_from left.cx.log.state → KnowsTurn k turn left new.known
       → Starts Fits (IsFirst is_first tags) Begun Sound k turn found g2 left new.known
-  starts_one k turn seat found v g0 g1 g1' g2 left old before entered new fit is_found is has same is1 starts wins leaves stays base later told knows =
+  starts_one k turn seat found v g0 g1 g1' g2 left old before entered new fit is_found is has same is1 starts young wins leaves stays base later told knows =
       let world : g1'.world ≡ found.world = ap (λ (x : Group W Q R T U). x.world) is1 ∙ same.world ∙ ap (λ (x : Group W Q R T U). x.world) is ∙ ap (λ (x : Group W Q R T U). x.world) (sym is_found) in
       let base0 : g2.cx.log.base ≡ v.cx.log.base = starts.goes.base ∙ ap (λ (x : Group W Q R T U). x.cx.log.base) is1 ∙ has.base ∙ ap (λ (x : Group W Q R T U). x.cx.log.base) is in
       let taken : HasTurn Fits found g1' turn seat = subst (λ (x : Group W Q R T U). HasTurn Fits x g1' turn seat) (is ∙ sym is_found) (subst (λ (x : Group W Q R T U). HasTurn Fits g0 x turn seat) (sym is1) has) in
+      let gone : HasTurn Fits found g2 turn seat = has_gone Fits found g1' g2 turn seat taken starts.goes in
       let there : IsIn (k, turn - 1, v) entered.known = subst (IsIn (k, turn - 1, v)) (sym (ap (λ (x : View T (Group W Q R T U)). x.known) wins)) (inl refl) in
       record {
         first = (fit.0, fit.1, subst (λ (s : State). OnTrue (is_first fit.0) (s.turns ≡ 0)) (sym base0) fit.2.3);
         stood = subst (λ (x : Group W Q R T U). IsIn (k, turn - 1, x) new.known) (sym is_found) (leaves.known.stays (k, turn - 1, v) there);
-        goes = turn_follows Fits found g2 turn seat (has_gone Fits found g1' g2 turn seat taken starts.goes);
+        turned = let number = gone.number in let was = ap (λ (x : Group W Q R T U). x.cx.log.state.turns) is_found in omega arith;
+        goes = turn_follows Fits found g2 turn seat gone;
         begun = subst (λ w. Begun w g2.world) world starts.begun;
         sound = starts.sound;
         world = stays;
@@ -96,6 +98,7 @@ module _ {W T : Type 0} (Q R U : Type 0) (Fits : T → W → Type 0) (First : �
     starts = record {
       first = s.starts.first;
       stood = more.stays (k, s.turn - 1, s.found) s.starts.stood;
+      turned = s.starts.turned;
       goes = s.starts.goes;
       begun = s.starts.begun;
       sound = s.starts.sound;
@@ -155,6 +158,7 @@ was_started {W} {Q} {R} {T} {U} Fits First Begun Sound old known turns k given n
       found = s.found;
       stood = coherent_after (StandsAfter Fits) old k 0 (s.turn - 1) given s.found coherent first s.starts.stood (omega arith);
       started = s.started;
+      turned = s.starts.turned;
       goes = s.starts.goes;
       first = s.starts.first;
       begun = s.starts.begun;

@@ -30,6 +30,7 @@ module _ {W Q R T U : Type 0} where
       (known : List (ℕ × ℕ × Group W Q R T U)) : Type 0 where
     pub first : First k started.cx.log.base.turns
     pub stood : IsIn (k, turn - 1, found) known
+    pub turned : found.cx.log.state.turns < started.cx.log.state.turns
     pub goes : FollowsGroup Fits started found
     pub begun : Begun found.world started.world
     pub sound : Holds Sound started
@@ -39,13 +40,15 @@ module _ {W Q R T U : Type 0} where
     pub told : NoNews left.cx.news_from left.cx.log.state
     pub knows : KnowsTurn k turn left known
 
-  -- The group k follows one that was started, from one that the slot had after the group that was given.
+  -- The group k follows one that was started in a turn, from one that the slot had after the group that was
+  -- given.
   pub record WasStarted (Fits : T → W → Type 0) (First : ℕ → ℕ → Type 0) (Begun : W → W → Type 0)
       (Sound : W → State → List Named → Type 0)
       (k : ℕ) (given now : Group W Q R T U) : Type 0 where
     pub found : Group W Q R T U
     pub stood : StandsAfter Fits found given
     pub started : Group W Q R T U
+    pub turned : found.cx.log.state.turns < started.cx.log.state.turns
     pub goes : FollowsGroup Fits started found
     pub first : First k started.cx.log.base.turns
     pub begun : Begun found.world started.world

@@ -8,7 +8,7 @@ use ts_group::{Group, World};
 use ts_link::NoMemory;
 
 /// Begins a turn of a group.
-#[tactic(auto, using(crate::proofs::Groups::has_begun, crate::proofs::Groups::begins_same, crate::proofs::Groups::given_same, crate::proofs::Groups::ok_to, crate::proofs::Groups::err_to))]
+#[tactic(auto, using(crate::proofs::Groups::begins_same, crate::proofs::Groups::given_same, crate::proofs::Groups::err_to))]
 pub fn begin<W: World + Drop>(
     group: &mut Group<W>,
     turn: u64,

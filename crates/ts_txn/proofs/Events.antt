@@ -345,24 +345,24 @@ module _ {C O Q : Type 0} (ct ot : Bool) (client : C → Look) (origin : O → L
   takes_event s t a b role main old new h = record { keeps = h.keeps; takes = takes_on s t a b role main old new h.handles }
 
 -- an event leaves a transaction started that was
+body_started : {Q : Type 0} (r : Relay Q) (step : BodyStep) (new : Course Q) → LedAfter step (course_after r step) new → is_fresh_on new ≡ false
+body_started r S.Goes new led = ap is_fresh_on led
+body_started r S.Waits new led = ap is_fresh_on led
+body_started r (S.Finishes end) new led = stays_started (K.Finishing end) new refl led
+body_started r (S.Closes end) new led = stays_started (K.Phased (P.TxnClose end)) new refl led
+body_started r S.Lacks new led = stays_started (K.Phased (P.Ended E.NoMemory)) new refl led
+
+after_write : (Q : Type 0) (end : TxnEnd) (step : BodyStep) → is_fresh_on (finish_after {Q = Q} end step) ≡ false
+after_write Q end S.Goes = refl
+after_write Q end S.Waits = refl
+after_write Q end (S.Finishes other) = refl
+after_write Q end (S.Closes other) = refl
+after_write Q end S.Lacks = refl
+
 module _ {C O Q : Type 0} (ct ot : Bool) (client : C → Look) (origin : O → Look) (paired : C → O → Type 0) (refuses : O → List ℕ → Type 0) (left : C → O → Option ℕ) where
-  body_started : (r : Relay Q) (step : BodyStep) (new : Course Q) → LedAfter step (course_after r step) new → is_fresh_on new ≡ false
-  body_started r S.Goes new led = ap is_fresh_on led
-  body_started r S.Waits new led = ap is_fresh_on led
-  body_started r (S.Finishes end) new led = stays_started (K.Finishing end) new refl led
-  body_started r (S.Closes end) new led = stays_started (K.Phased (P.TxnClose end)) new refl led
-  body_started r S.Lacks new led = stays_started (K.Phased (P.Ended E.NoMemory)) new refl led
-
-  after_write : (end : TxnEnd) (step : BodyStep) → is_fresh_on (finish_after {Q = Q} end step) ≡ false
-  after_write end S.Goes = refl
-  after_write end S.Waits = refl
-  after_write end (S.Finishes other) = refl
-  after_write end (S.Closes other) = refl
-  after_write end S.Lacks = refl
-
   write_started : (s t : Core C O) (end : TxnEnd) (step : BodyStep) (new : Course Q) → WritesOr ct ot client origin paired refuses left s t end step new → is_fresh_on new ≡ false
   write_started s t end step new (inl none) = ap is_fresh_on none.2
-  write_started s t end step new (inr takes) = stays_started (finish_after end step) new (after_write end step) takes.led
+  write_started s t end step new (inr takes) = stays_started (finish_after end step) new (after_write Q end step) takes.led
 
   takes_started : (s t : Core C O) (old new : Course Q) → TakesOn ct ot client origin paired refuses left s t old new → is_fresh_on old ≡ false → is_fresh_on new ≡ false
   takes_started s t (K.Phased p) new h was = h.1.started was

@@ -2,7 +2,7 @@
 -- stays so.
 use Rattle.std.proofs.Common.{◌≡◌, ℕ, List, Bool, true, false, Option, Some, None, refl, sym, ap, subst, ◌∙◌}
 use Rattle.std.specs.Arc.{arc_value}
-use Rattle.std.specs.Prelude.{IsSomeAnd}
+use Rattle.std.specs.Prelude.{IsSomeAnd, ⊤}
 use Rattle.ts_link.specs.Link.{IsSure, IsSurePlan, Look}
 use Rattle.ts_txn.specs.Cover.{is_fresh_on}
 use Rattle.ts_txn.specs.Driven.{TakesEvent}
@@ -10,7 +10,6 @@ use Rattle.ts_txn.specs.Holding.{IsSameLink, StepKeeps}
 use Rattle.ts_txn.specs.Making.{IsMadeOf, IsMadeOfIf}
 use Rattle.ts_txn.specs.View.{is_dialed, side_if}
 use Rattle.ts_txn.specs.World.{HasTxnBegun, IsSameLinkIf, IsSureIf, IsTxnOf}
-use Rattle.ts_txn.specs.declared.course.Course.{Course}
 use Rattle.ts_txn.specs.declared.parts.Core.{Core}
 use Rattle.ts_txn.specs.declared.parts.Peer.{Peer}
 use Rattle.ts_txn.specs.declared.txn.Txn.{Txn}
@@ -54,35 +53,29 @@ module _ {L : Type 0} (look : L → Look) where
   same_made_if (Some l) None made = absurd made
   same_made_if (Some l) (Some p) made = same_made l p made
 
+  sure_made : (o : Option L) (x : Option (Peer L)) → IsMadeOfIf look o x → ((l : L) → o ≡ Some l → IsSure (look l)) → IsSureIf look x
+  sure_made None None made sure = tt
+  sure_made None (Some p) made sure = absurd made
+  sure_made (Some l) None made sure = absurd made
+  sure_made (Some l) (Some p) made sure = still_sure (look l) (look p.link) (same_made l p made) (sure l refl)
+
 -- ---- the tags
 
 module _ {C O : Type 0} (client : C → Look) (origin : O → Look) where
-  -- one that was just made fits its tag, which says neither that its links are sure nor that it was started
+  -- one that was just made of the links of a tag fits it
   pub fits_made : {Q : Type 0} (tag : TxnTag C O) (t : Txn C O Q) → t.core.number ≡ tag.number → arc_value t.core.setup ≡ tag.setup.value → t.core.plugins_at ≡ tag.plugins_at
-      → IsMadeOf client tag.client.value t.core.client → IsMadeOfIf origin tag.origin.value t.core.origin → tag.sure ≡ false → tag.started ≡ false → IsTxnOf client origin tag t
+      → IsMadeOf client tag.client.value t.core.client → IsMadeOfIf origin tag.origin.value t.core.origin
+      → (tag.sure ≡ true → IsSure (client tag.client.value) × ((l : O) → tag.origin.value ≡ Some l → IsSure (origin l))) → tag.started ≡ false → IsTxnOf client origin tag t
   fits_made tag t number setup plugins of_client of_origin sure started = record {
     number = number;
     setup = setup;
     plugins_at = plugins;
     client = same_made client tag.client.value t.core.client of_client;
     origin = same_made_if origin tag.origin.value t.core.origin of_origin;
-    sure = λ is. cc;
+    sure = λ is. (still_sure _ _ (same_made client tag.client.value t.core.client of_client) (sure is).0,
+        sure_made origin tag.origin.value t.core.origin of_origin (sure is).1);
     started = λ is. cc;
   }
-
-  -- one that was started fits the tag that says so
-  pub fits_begun : {Q : Type 0} (tag : TxnTag C O) (t u : Txn C O Q) → HasTxnBegun t u → IsTxnOf client origin tag t → IsTxnOf client origin (record tag { started = true }) u
-  fits_begun tag t u begun h =
-      let core : {P : Core C O → Type 0} → P t.core → P u.core = λ {P} p. subst P (sym begun.core) p in
-      record {
-        number = core {P = λ k. k.number ≡ tag.number} h.number;
-        setup = core {P = λ k. arc_value k.setup ≡ tag.setup.value} h.setup;
-        plugins_at = core {P = λ k. k.plugins_at ≡ tag.plugins_at} h.plugins_at;
-        client = core {P = λ k. IsSameLink (client tag.client.value) (client k.client.link)} h.client;
-        origin = core {P = λ k. IsSameLinkIf origin tag.origin.value k.origin} h.origin;
-        sure = core {P = λ k. tag.sure ≡ true → IsSure (client k.client.link) × IsSureIf origin k.origin} h.sure;
-        started = λ is. begun.started;
-      }
 
 module _ {C O : Type 0} (client : C → Look) (origin : O → Look) (paired : C → O → Type 0) (refuses : O → List ℕ → Type 0) where
   same_core : (t : Core C O) → StepKeeps client origin paired refuses t t
@@ -119,3 +112,10 @@ module _ {C O : Type 0} (client : C → Look) (origin : O → Look) (paired : C 
   -- so does the start
   pub fits_start : {Q : Type 0} (tag : TxnTag C O) (t u : Txn C O Q) → HasTxnBegun t u → IsTxnOf client origin tag t → IsTxnOf client origin tag u
   fits_start tag t u begun h = fits_on tag t u (subst (λ k. StepKeeps client origin paired refuses t.core k) (sym begun.core) (same_core t.core)) (λ was. begun.started) h
+
+module _ {C O : Type 0} (client : C → Look) (origin : O → Look) where
+  -- it fits the tag that says that it was started, too
+  pub fits_begun : {Q : Type 0} (tag : TxnTag C O) (t u : Txn C O Q) → HasTxnBegun t u → IsTxnOf client origin tag t → IsTxnOf client origin (record tag { started = true }) u
+  fits_begun tag t u begun h =
+      let k : IsTxnOf client origin tag u = fits_start client origin (λ c o. ⊤) (λ o list. ⊥) tag t u begun h in
+      record { number = k.number; setup = k.setup; plugins_at = k.plugins_at; client = k.client; origin = k.origin; sure = k.sure; started = λ is. begun.started }

@@ -77,8 +77,9 @@ IsSameLinkIf look None (Some p) = ⊥
 IsSameLinkIf look (Some l) None = ⊥
 IsSameLinkIf look (Some l) (Some p) = IsSameLink (look l) (look p.link)
 
--- The transaction is the one that the tag names, between the links that the tag shows as they were made. Where the tag
--- says so, the links are sure, and it was started.
+-- The transaction is the one that the tag names, between the links that the tag shows as they were made: they
+-- keep their sources, names and plans, and so where they stall and leave. Where the tag says so, no call of
+-- them fails or waits by its number, and the transaction was started.
 pub record IsTxnOf {C O Q : Type 0} (clook : C → Look) (olook : O → Look)
     (tag : TxnTag C O) (t : Txn C O Q) : Type 0 where
   pub number : t.core.number ≡ tag.number
@@ -89,7 +90,7 @@ pub record IsTxnOf {C O Q : Type 0} (clook : C → Look) (olook : O → Look)
   pub sure : tag.sure ≡ true → IsSure (clook t.core.client.link) × IsSureIf olook t.core.origin
   pub started : tag.started ≡ true → is_fresh_on t.course ≡ false
 
--- Where it was not started, it is, or has ended for want of memory; else nothing changed. Then it was started.
+-- Where it was not started, it is, or has ended for want of memory; else nothing changed. Now it was started.
 pub record HasTxnBegun {C O Q : Type 0} (old new : Txn C O Q) : Type 0 where
   pub core : new.core ≡ old.core
   pub begun : is_fresh_on old.course ≡ true → StaysOnOrLacks (K.Phased P.TxnStart) new.course

@@ -85,6 +85,7 @@ returns-clause-started g c =
           begun.same
           c.value-2.ensures.value
           c.start.ensures.starts
+          entered.later
           entered.wins
           c.end_turn.ensures.leaves.seat
           ends.as_now.world
