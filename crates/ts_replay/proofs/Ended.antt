@@ -1,5 +1,5 @@
 -- What is known of each transaction of a row once the threads and the last turns are done.
-use Rattle.std.proofs.Common.{◌≡◌, ℕ, zero, suc, ◌+◌, ◌*◌, ◌<◌, ◌≤◌, List, [], ◌∷◌, length, Bool, true, false, Option, Some, None, All, refl, sym, ap, subst, ◌∙◌, arith}
+use Rattle.std.proofs.Common.{◌≡◌, ℕ, zero, suc, ◌+◌, ◌*◌, ◌<◌, ◌≤◌, List, [], ◌∷◌, length, Bool, true, false, Option, Some, None, All, refl, sym, ap, subst, ◌∙◌, inl, inr, arith}
 use mathlib.Core.Option.{some}
 use lib.ListN.{get_elem?}
 use Rattle.std.specs.Prelude.{max, ⊤}
@@ -12,6 +12,8 @@ use Rattle.ts_config.specs.declared.setup.Setup.{Setup}
 use Rattle.ts_group.specs.declared.slot.TheConstants.{MOST_IN_TURN}
 use Rattle.ts_group.specs.Standing.{FollowsGroup}
 use Rattle.ts_journal.specs.declared.entry.TheConstants.{GREATEST}
+use Rattle.ts_journal.specs.Later.{Follows}
+use Rattle.ts_journal.specs.State.{State}
 use Rattle.ts_link.specs.MemLink.{LinkState, look_of}
 use Rattle.ts_record.specs.Grammar.{TxnPieces}
 use Rattle.ts_record.specs.Links.{recorded_side}
@@ -65,14 +67,29 @@ when_true : (b : Bool) (P : Type 0) → b ≡ true → OnTrue b P → P
 when_true true P is h = h
 when_true false P is h = absurd (cc)
 
--- what follows one that was started was started
-stays_started : (tags : List RecordedTag) (k : ℕ) (tag : RecordedTag) (given now : RecordedGroup) → get_elem? tags k ≡ some tag → ((t : RecordedTag) → get_elem? tags k ≡ some t → is_first t ≡ true)
-    → now.cx.log.base.turns ≡ 0 → WasStarted FitsTag (IsFirst is_first tags) HasTxnBegun IsSound k given now → is_fresh_on now.world.course ≡ false
-stays_started tags k tag given now at first none was =
+-- a state that follows another of a group that was made with no turn has had no fewer turns
+later_turns : (a b : ℕ) (s t : State) → a ≡ 0 → Follows (a, t) (b, s) → s.turns ≤ t.turns
+later_turns a b s t none (inl low) = absurd (omega (arith, none, low))
+later_turns a b s t none (inr (same, later)) = later.turns
+
+-- it was started, and has had a turn
+pub record Goes (g : RecordedGroup) : Type 0 where
+  pub started : is_fresh_on g.world.course ≡ false
+  pub turned : 0 < g.cx.log.state.turns
+
+-- as what follows one that was started
+goes_on : (tags : List RecordedTag) (k : ℕ) (tag : RecordedTag) (given now : RecordedGroup) → ((t : RecordedTag) → get_elem? tags k ≡ some t → is_first t ≡ true)
+    → now.cx.log.base.turns ≡ 0 → WasStarted FitsTag (IsFirst is_first tags) HasTxnBegun IsSound k given now → Goes now
+goes_on tags k tag given now first none was =
     let begun = was.started in
     let of_first = was.first in
     let began : begun.cx.log.base.turns ≡ 0 = when_true (is_first of_first.0) (begun.cx.log.base.turns ≡ 0) (first of_first.0 of_first.1) of_first.2 in
-    (was.follows.tags (none ∙ sym began) (own_tag tag begun.world) (fits_own tag begun.world was.begun.started)).started refl
+    let more = later_turns now.cx.log.base.turns begun.cx.log.base.turns begun.cx.log.state now.cx.log.state none was.follows.journal in
+    let own = was.turned in
+    record {
+      started = (was.follows.tags (none ∙ sym began) (own_tag tag begun.world) (fits_own tag begun.world was.begun.started)).started refl;
+      turned = omega (arith, more, own);
+    }
 
 -- ---- the elements of lists at the same places
 
@@ -106,8 +123,8 @@ at_below (y ∷ xs) (suc k) x at = let low = at_below xs k x at in omega arith
 
 -- one that has run
 has_run : (setup : Setup) (number most : ℕ) (txn : TxnPieces) (tag : RecordedTag) (g : RecordedGroup) → HasLinesOnly setup → IsTagOf setup number txn false tag → FitsIn tag g → IsIdle g → HasHadTurns most g
-    → MOST_IN_TURN * most + 1 < GREATEST → is_fresh_on g.world.course ≡ false → HasRunAs setup number txn g
-has_run setup number most txn tag g lines is fits idle few low started = record {
+    → MOST_IN_TURN * most + 1 < GREATEST → Goes g → HasRunAs setup number txn g
+has_run setup number most txn tag g lines is fits idle few low goes = record {
   lines = lines;
   tag = record tag { started = true };
   tag_is = record {
@@ -127,10 +144,11 @@ has_run setup number most txn tag g lines is fits idle few low started = record 
     client = fits.0.client;
     origin = fits.0.origin;
     sure = fits.0.sure;
-    started = λ is. started;
+    started = λ is. goes.started;
   };
   sound = fits.1;
   began = when_true tag.first (g.cx.log.base.turns ≡ 0) is.first fits.3;
+  turned = goes.turned;
   idle = idle;
   given = fits.2.0;
   numbers = let next = fits.2.1 in omega (arith, next, few, low);
@@ -138,15 +156,15 @@ has_run setup number most txn tag g lines is fits idle few low started = record 
 
 pub each_ran : (setup : Setup) (from most : ℕ) (txns : List TxnPieces) (tags : List RecordedTag) (groups : List RecordedGroup) → HasLinesOnly setup → AreTagsOf setup from txns tags → FitInRow tags groups
     → All IsIdle groups → All (HasHadTurns most) groups → MOST_IN_TURN * most + 1 < GREATEST
-    → ((k : ℕ) (g : RecordedGroup) → get_elem? groups k ≡ some g → is_fresh_on g.world.course ≡ false) → EachOf (HasRunAs setup) from txns groups
-each_ran setup from most [] [] [] lines are fit idle few low started = tt
-each_ran setup from most [] [] (g ∷ gs) lines are fit idle few low started = absurd fit
-each_ran setup from most [] (tag ∷ tags) gs lines are fit idle few low started = absurd are
-each_ran setup from most (txn ∷ txns) [] gs lines are fit idle few low started = absurd are
-each_ran setup from most (txn ∷ txns) (tag ∷ tags) [] lines are fit idle few low started = absurd fit
-each_ran setup from most (txn ∷ txns) (tag ∷ tags) (g ∷ gs) lines are fit idle few low started = (
-  has_run setup from most txn tag g lines are.0 fit.0 (All-head IsIdle g gs idle) (All-head (HasHadTurns most) g gs few) low (started 0 g refl),
-  each_ran setup (from + 1) most txns tags gs lines are.1 fit.1 (All-tail IsIdle g gs idle) (All-tail (HasHadTurns most) g gs few) low (λ k h at. started (suc k) h at),
+    → ((k : ℕ) (g : RecordedGroup) → get_elem? groups k ≡ some g → Goes g) → EachOf (HasRunAs setup) from txns groups
+each_ran setup from most [] [] [] lines are fit idle few low goes = tt
+each_ran setup from most [] [] (g ∷ gs) lines are fit idle few low goes = absurd fit
+each_ran setup from most [] (tag ∷ tags) gs lines are fit idle few low goes = absurd are
+each_ran setup from most (txn ∷ txns) [] gs lines are fit idle few low goes = absurd are
+each_ran setup from most (txn ∷ txns) (tag ∷ tags) [] lines are fit idle few low goes = absurd fit
+each_ran setup from most (txn ∷ txns) (tag ∷ tags) (g ∷ gs) lines are fit idle few low goes = (
+  has_run setup from most txn tag g lines are.0 fit.0 (All-head IsIdle g gs idle) (All-head (HasHadTurns most) g gs few) low (goes 0 g refl),
+  each_ran setup (from + 1) most txns tags gs lines are.1 fit.1 (All-tail IsIdle g gs idle) (All-tail (HasHadTurns most) g gs few) low (λ k h at. goes (suc k) h at),
 )
 
 -- groups of a row that were run by threads and driven to their end
@@ -154,14 +172,14 @@ pub row_ran : (setup : Setup) (txns : List TxnPieces) (tags : List RecordedTag) 
     → MOST_IN_TURN * max (turns_of starts threads budget) MOST_ALONE + 1 < GREATEST
     → HaveEnded FitsTag IsSound is_asked_only is_first HasTxnBegun tags given starts threads budget groups → EachOf (HasRunAs setup) 1 txns groups
 row_ran setup txns tags given groups starts threads budget row all low ended =
-    each_ran setup 1 (max (turns_of starts threads budget) MOST_ALONE) txns tags groups row.lines row.tags_are ended.fits ended.idle ended.turns low started
+    each_ran setup 1 (max (turns_of starts threads budget) MOST_ALONE) txns tags groups row.lines row.tags_are ended.fits ended.idle ended.turns low goes
   where
-    started : (k : ℕ) (g : RecordedGroup) → get_elem? groups k ≡ some g → is_fresh_on g.world.course ≡ false
-    started k g at =
+    goes : (k : ℕ) (g : RecordedGroup) → get_elem? groups k ≡ some g → Goes g
+    goes k g at =
         let of_tag = zip_at FitsIn tags groups k g ended.fits at in
         let of_given = zip_left (FollowsGroup FitsTag) groups given k g ended.follow at in
         let first = all_first setup 1 txns tags k of_tag.0 row.tags_are of_tag.1 in
-        stays_started tags k of_tag.0 of_given.0 g of_tag.1 (λ t is. all_first setup 1 txns tags k t row.tags_are is)
+        goes_on tags k of_tag.0 of_given.0 g (λ t is. all_first setup 1 txns tags k t row.tags_are is)
         (when_true (is_first of_tag.0) (g.cx.log.base.turns ≡ 0) first of_tag.2.3)
         (ended.started k of_given.0 g (omega (arith, all, at_below given k of_given.0 of_given.1)) of_given.1 at)
 

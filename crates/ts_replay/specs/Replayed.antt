@@ -20,7 +20,7 @@ pub record IsFinal (j : Log) : Type 0 where
   pub none : j.state.pending ≡ []
 
 -- The transaction of this number has run in its group, until nothing of it was pending: it is the one that its tag names,
--- which was started, and event numbers are left. The group began with no turn.
+-- which was started, and event numbers are left. The group began with no turn, and has had one.
 pub record HasRunAs (setup : Setup) (number : ℕ) (txn : TxnPieces) (group : RecordedGroup) : Type 0 where
   pub lines : HasLinesOnly setup
   pub tag : RecordedTag
@@ -28,6 +28,7 @@ pub record HasRunAs (setup : Setup) (number : ℕ) (txn : TxnPieces) (group : Re
   pub fits : FitsTag tag group.world
   pub sound : IsSound group.world group.cx.log.state group.cx.roles
   pub began : group.cx.log.base.turns ≡ 0
+  pub turned : 0 < group.cx.log.state.turns
   pub idle : group.cx.log.state.pending ≡ []
   pub given : group.cx.log.state.held ≡ false
   pub numbers : group.cx.log.state.next < GREATEST
