@@ -9,7 +9,7 @@ use Rattle.http_header.proofs.TokenLemmas.{AllPass-from_test}
 use Rattle.httparse.specs.Ascii.{colon, crlf_bytes, space}
 use Rattle.httparse.specs.Grammar as grammar
 use Rattle.httparse.specs.Grammar.{IsField, IsRequestHead, LineEnd, crlf, is_token_byte, is_uri_byte, is_value_byte, print_blank, print_end, print_field, print_request, print_section, print_version}
-use Rattle.memchr.specs.Find.{FindsNeedle, IsFirst, Nowhere, OccursAt}
+use Rattle.memchr.specs.Find.{IsFirst, Nowhere, OccursAt}
 use Rattle.memchr.proofs.lemmas.MatchLemmas.{OccursAt-part, OccursAt-from_part}
 use Rattle.ts_wire.specs.OneHead.{SendsRequest}
 use Rattle.ts_replay.specs.Exchanged.{EndsBlank, blank_end}
@@ -101,49 +101,52 @@ uri_other b pass is = let wrong : IsTrue (is_uri_byte 13) = subst (λ x. IsTrue 
 value_other : (b : ℕ) → IsTrue (is_value_byte b) → b ≢ 13
 value_other b pass is = let wrong : IsTrue (is_value_byte 13) = subst (λ x. IsTrue (is_value_byte x)) is pass in absurd (cc)
 
-field_line : (f : grammar.Field) → IsField f → NoReturn (f.name ++ colon ∷ f.raw)
-field_line f good =
+-- a field line, without its end
+abbrev field_line : grammar.Field → List ℕ
+field_line f = f.name ++ (colon ∷ f.raw)
+
+field_other : (f : grammar.Field) → IsField f → NoReturn (field_line f)
+field_other f good =
     All-append (λ b. b ≢ 13) f.name (colon ∷ f.raw)
     (All-weaker (λ b. IsTrue (is_token_byte b)) (λ b. b ≢ 13) token_other f.name good.name.1)
     (All-cons (λ b. b ≢ 13) colon f.raw (λ wrong. absurd (omega (arith, wrong)))
     (All-weaker (λ b. IsTrue (is_value_byte b)) (λ b. b ≢ 13) value_other f.raw good.raw))
 
 section_is : (f : grammar.Field) (fs : List grammar.Field) → f.end ≡ crlf
-    → print_section (f ∷ fs) crlf ≡ (f.name ++ colon ∷ f.raw) ++ (crlf_bytes ++ print_section fs crlf)
+    → print_section (f ∷ fs) crlf ≡ field_line f ++ (crlf_bytes ++ print_section fs crlf)
 section_is f fs ends =
     let others = flat_map print_field fs in
-    ap (λ e. ((f.name ++ colon ∷ f.raw ++ print_end e) ++ others) ++ crlf_bytes) ends
-    ∙ append_assoc (f.name ++ ((colon ∷ f.raw) ++ crlf_bytes)) others crlf_bytes
-    ∙ ap (λ l. l ++ (others ++ crlf_bytes)) (sym (append_assoc f.name (colon ∷ f.raw) crlf_bytes))
-    ∙ append_assoc (f.name ++ colon ∷ f.raw) crlf_bytes (others ++ crlf_bytes)
+    ap (λ e. ((field_line f ++ print_end e) ++ others) ++ crlf_bytes) ends
+    ∙ append_assoc (field_line f ++ crlf_bytes) others crlf_bytes
+    ∙ append_assoc (field_line f) crlf_bytes (others ++ crlf_bytes)
 
 section_lines : (fields : List grammar.Field) → All IsField fields → All (λ f. f.end ≡ crlf) fields → AreLines (print_section fields crlf)
 section_lines [] good ends = last_line
 section_lines (f ∷ fs) good ends =
     let here = All-head IsField f fs good in
-    let some : 0 < length (f.name ++ colon ∷ f.raw) = let long = length-append f.name (colon ∷ f.raw) in omega (arith, long, here.name.0) in
+    let some : 0 < length (field_line f) = let long = length-append f.name (colon ∷ f.raw) in omega (arith, long, here.name.0) in
     subst AreLines (sym (section_is f fs (All-head (λ g. g.end ≡ crlf) f fs ends)))
-    (one_more (f.name ++ colon ∷ f.raw) (print_section fs crlf) some (field_line f here)
+    (one_more (field_line f) (print_section fs crlf) some (field_other f here)
     (section_lines fs (All-tail IsField f fs good) (All-tail (λ g. g.end ≡ crlf) f fs ends)))
 
-version_line : (minor : ℕ) → NoReturn (print_version minor)
-version_line minor =
+version_other : (minor : ℕ) → NoReturn (print_version minor)
+version_other minor =
     All-append (λ b. b ≢ 13) (codes "HTTP/1.") ((48 + minor) ∷ [])
     (All-weaker (λ b. IsTrue (is_value_byte b)) (λ b. b ≢ 13) value_other (codes "HTTP/1.") (AllPass-from_test is_value_byte (codes "HTTP/1.") refl))
     (All-cons (λ b. b ≢ 13) (48 + minor) [] (λ wrong. absurd (omega (arith, wrong))) (All-nil (λ b. b ≢ 13)))
 
 -- the start line, without its end
 abbrev start_line : grammar.RequestHead → List ℕ
-start_line h = h.method ++ space ∷ h.target ++ space ∷ print_version h.minor
+start_line h = (h.method ++ (space ∷ h.target)) ++ (space ∷ print_version h.minor)
 
 start_other : (h : grammar.RequestHead) → IsRequestHead h → NoReturn (start_line h)
 start_other h good =
-    All-append (λ b. b ≢ 13) h.method (space ∷ h.target ++ space ∷ print_version h.minor)
+    All-append (λ b. b ≢ 13) (h.method ++ (space ∷ h.target)) (space ∷ print_version h.minor)
+    (All-append (λ b. b ≢ 13) h.method (space ∷ h.target)
     (All-weaker (λ b. IsTrue (is_token_byte b)) (λ b. b ≢ 13) token_other h.method good.method.1)
-    (All-cons (λ b. b ≢ 13) space (h.target ++ space ∷ print_version h.minor) (λ wrong. absurd (omega (arith, wrong)))
-    (All-append (λ b. b ≢ 13) h.target (space ∷ print_version h.minor)
-    (All-weaker (λ b. IsTrue (is_uri_byte b)) (λ b. b ≢ 13) uri_other h.target good.target.1)
-    (All-cons (λ b. b ≢ 13) space (print_version h.minor) (λ wrong. absurd (omega (arith, wrong))) (version_line h.minor))))
+    (All-cons (λ b. b ≢ 13) space h.target (λ wrong. absurd (omega (arith, wrong)))
+    (All-weaker (λ b. IsTrue (is_uri_byte b)) (λ b. b ≢ 13) uri_other h.target good.target.1)))
+    (All-cons (λ b. b ≢ 13) space (print_version h.minor) (λ wrong. absurd (omega (arith, wrong))) (version_other h.minor))
 
 -- a head as it is printed with these empty lines in front of it and these line ends
 abbrev printed : grammar.RequestHead → List LineEnd → LineEnd → LineEnd → List ℕ
@@ -154,10 +157,7 @@ request_is : (h : grammar.RequestHead) → h.blank ≡ [] → h.line_end ≡ crl
     → print_request h ≡ start_line h ++ (crlf_bytes ++ print_section h.fields crlf)
 unfolding print_request
 request_is h before start last =
-    let behind = crlf_bytes ++ print_section h.fields crlf in
-    (λ i. printed h (before i) (start i) (last i))
-    ∙ sym (append_assoc h.method (space ∷ h.target ++ space ∷ print_version h.minor) behind
-    ∙ ap (λ l. h.method ++ space ∷ l) (append_assoc h.target (space ∷ print_version h.minor) behind))
+    (λ i. printed h (before i) (start i) (last i)) ∙ append_assoc (start_line h) crlf_bytes (print_section h.fields crlf)
 
 -- a request that is sent ends with its only empty line
 pub sent_ends : (method target host text : List ℕ) → SendsRequest method target host text → EndsBlank text
@@ -166,7 +166,9 @@ sent_ends method target host text sends =
     let good : IsRequestHead h = sends.one.whole.0 in
     let section = section_lines h.fields good.fields sends.lines.field_lines in
     let some : 0 < length (start_line h) =
-    let long = length-append h.method (space ∷ h.target ++ space ∷ print_version h.minor) in omega (arith, long, good.method.0) in
+    let long = length-append (h.method ++ (space ∷ h.target)) (space ∷ print_version h.minor) in
+    let front = length-append h.method (space ∷ h.target) in
+    omega (arith, long, front, good.method.0) in
     let is : text ≡ start_line h ++ (crlf_bytes ++ print_section h.fields crlf) =
     sends.one.whole.1 ∙ append-nil (print_request h) ∙ request_is h sends.lines.none_before sends.lines.start_line sends.lines.last_line in
     let lines = one_more (start_line h) (print_section h.fields crlf) some (start_other h good) section in

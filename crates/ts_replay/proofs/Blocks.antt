@@ -1,10 +1,10 @@
 -- What every block of a transaction without hook plugins is like: how its request ends, and that only a whole answer has a
 -- body.
-use Rattle.std.proofs.Common.{◌≡◌, ◌≢◌, ◌⊎◌, ℕ, List, [], Bool, true, false, Result, Ok, Err, inl, inr, refl, sym, ap, subst, ◌∙◌}
+use Rattle.std.proofs.Common.{◌≡◌, ◌≢◌, ◌⊎◌, ℕ, List, [], Bool, true, false, Result, Ok, Err, inl, inr, refl, sym, ap, subst}
 use Rattle.ts_config.specs.declared.fields.Side.TheVariants as S
 use Rattle.ts_config.specs.declared.setup.Setup.{Setup}
 use Rattle.ts_hooks.specs.declared.txn_end.TxnEnd.TheVariants as E
-use Rattle.ts_txn.specs.Block.{AnswerSays, BodySays, DenySays, DialSays, IsBlock, VerdictSays, asked, bad, cut, ended, lacking, no_head, own_block, passed_on, request_text, silent}
+use Rattle.ts_txn.specs.Block.{AnswerSays, DenySays, DialSays, IsBlock, VerdictSays, asked, bad, cut, ended, lacking, no_head, own_block, passed_on, request_text, silent}
 use Rattle.ts_txn.specs.Heads.{HasRequest}
 use Rattle.ts_txn.specs.Rules.{ruled}
 use Rattle.ts_txn.specs.declared.block.Block.{Block}
@@ -79,5 +79,5 @@ module _ (setup : Setup) (plain : setup.plugins.items ≡ []) where
 
     pub block_shaped : (c : List ℕ) (b : Block) → IsBlock setup dialed refuses o c b → IsShaped b
     block_shaped c b (silent e is) = whole_shaped [] b (inl refl) (ap (λ (x : Block). x.request) is) (ap (λ (x : Block). x.end) is)
-    block_shaped c b (no_head n l is) = own_shaped [] _ _ b (inl refl) is
+    block_shaped c b (no_head n l is) = whole_shaped [] b (inl refl) (ap (λ (x : Block). x.request) is) (ap (λ (x : Block). x.end) is)
     block_shaped c b (asked n q rest has says) = verdict_shaped _ q b (was_read c q rest has) refl says

@@ -1,6 +1,7 @@
 pub mod Blank
 pub mod Blocks
 pub mod Ended
+pub mod HexLengths
 pub mod OneReport
 pub mod Reporting
 pub mod Rows

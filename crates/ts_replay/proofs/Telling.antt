@@ -1,7 +1,6 @@
 -- From what holds of a transaction that has ended to the block that it came to.
-use Rattle.std.proofs.Common.{◌≡◌, ◌≢◌, ◌⊎◌, Result, Ok, Err, IfOk, take, drop, ℕ, ◌<◌, ◌≤◌, List, [], ◌++◌, Bool, true, false, Option, Some, None, length, refl, sym, ap, subst, ◌∙◌, arith}
+use Rattle.std.proofs.Common.{◌≡◌, ◌≢◌, Result, Ok, Err, IfOk, take, drop, ℕ, ◌≤◌, List, [], ◌++◌, Bool, true, false, Option, Some, None, length, refl, sym, ap, subst, ◌∙◌, arith}
 use Rattle.std.specs.Prelude.{⊤, unwrap_or}
-use Rattle.std.specs.Arc.{arc_value}
 use Rattle.std.proofs.lemmas.List.{append-nil, take_at, drop_at, length-append}
 use Rattle.ts_config.specs.Bodies.{whole_of}
 use Rattle.ts_config.specs.declared.setup.Setup.{Setup}
@@ -16,7 +15,6 @@ use Rattle.ts_stock.specs.Stock.{still_writes}
 use Rattle.ts_stock.specs.declared.stock.State.{State}
 use Rattle.ts_txn.specs.Block.{IsBlock}
 use Rattle.ts_txn.specs.Ends.{HasBlock, HasText}
-use Rattle.ts_txn.specs.Facts.{TookExactly}
 use Rattle.ts_txn.specs.Making.{end_of, link_if}
 use Rattle.ts_txn.specs.Resting.{NeverFailed, SendsBlock}
 use Rattle.ts_txn.specs.Resting as rest
@@ -25,12 +23,13 @@ use Rattle.ts_txn.specs.declared.block.Block.{Block}
 use Rattle.ts_txn.specs.declared.making.TxnParts.{TxnParts}
 use Rattle.ts_txn.specs.declared.parts.Peer.{Peer}
 use Rattle.ts_txn.specs.declared.parts.Sent.{Sent}
+use Rattle.ts_txn.specs.declared.txn.Txn.{Txn}
 use Rattle.ts_txn.proofs.Resting.{rests_with_block}
 use Rattle.ts_wire.specs.Frames.{cut_body, frames}
-use Rattle.ts_replay.specs.Exchanged.{GotBy, HasGot, HasTaken, IsLeftBetween, LeavesBlock}
+use Rattle.ts_replay.specs.Exchanged.{GotBy, HasGot, HasTaken, IsLeftBetween, IsRunBetween, LeavesBlock}
 use Rattle.ts_replay.specs.Reports.{IsShownOf, shown}
 use Rattle.ts_replay.specs.Unframing.{IsFramed}
-use Rattle.ts_replay.proofs.Blocks.{IsShaped, block_shaped}
+use Rattle.ts_replay.proofs.Blocks.{block_shaped}
 
 -- an origin's link refuses no upload
 abbrev refuses_none : LinkState → List ℕ → Type 0
@@ -47,10 +46,8 @@ record AreLeftOf (client : LinkSide) (sent : Sent) (parts : TxnParts LinkState L
   mode : parts.mode ≡ sent.mode
   cuts : parts.cuts.items ≡ sent.cuts.items
 
--- the block that a transaction came to which left these parts, and its end
-pub record HasBlockOf (setup : Setup) (c o : List ℕ) (parts : TxnParts LinkState LinkState) (link : LinkState) : Type 0 where
-  pub end : TxnEnd
-  pub ends : parts.end ≡ Some end
+-- the block that a transaction came to which left these parts and ended so
+pub record HasBlockAt (setup : Setup) (c o : List ℕ) (parts : TxnParts LinkState LinkState) (link : LinkState) (end : TxnEnd) : Type 0 where
   pub reported : IsReported end
   pub block : Block
   pub is_block : IsBlock setup true (false ≡ true) o c block
@@ -85,10 +82,8 @@ module _ (setup : Setup) (plain : setup.plugins.items ≡ []) (p : Peer LinkStat
     ends = (block_shaped setup plain true (false ≡ true) _ _ b has.is_block).request;
   }
 
-  block_sent : (end : TxnEnd) → parts.end ≡ Some end → SendsBlock setup (refuses_if refuses_none (Some p) cs) (viewed client (Some p) sent) end → HasBlockOf setup c o parts link
-  block_sent E.Whole ends (rest.SendsBlock.whole w) = record {
-    end = E.Whole;
-    ends = ends;
+  block_sent : (end : TxnEnd) → SendsBlock setup (refuses_if refuses_none (Some p) cs) (viewed client (Some p) sent) end → HasBlockAt setup c o parts link end
+  block_sent E.Whole (rest.SendsBlock.whole w) = record {
     reported = tt;
     block = w.block;
     is_block = same_block w.block w.has.is_block;
@@ -98,42 +93,41 @@ module _ (setup : Setup) (plain : setup.plugins.items ≡ []) (p : Peer LinkStat
       got = got_text client sent parts w.block w.block.body true left w.has.no_waits w.text;
     };
   }
-  block_sent E.OriginCut ends (rest.SendsBlock.cut s) =
+  block_sent E.OriginCut (rest.SendsBlock.cut s) =
       let shaped = block_shaped setup plain true (false ≡ true) _ _ s.block s.has.is_block in
       record {
-        end = E.OriginCut;
-        ends = ends;
         reported = tt;
         block = s.block;
         is_block = same_block s.block s.has.is_block;
         leaves = record {
           end_is = s.has.ends;
           taken = taken_of E.OriginCut s.block s.has;
-          got = (shaped.short (λ whole. let both = sym whole ∙ s.has.ends in absurd (cc)), s.sent, got_text client sent parts s.block s.sent false left s.has.no_waits s.text);
+          got = (shaped.short (λ whole. let both = sym whole ∙ s.has.ends in absurd (cc)), (s.sent, got_text client sent parts s.block s.sent false left s.has.no_waits s.text));
         };
       }
-  block_sent E.OriginBad ends (rest.SendsBlock.bad s) =
+  block_sent E.OriginBad (rest.SendsBlock.bad s) =
       let shaped = block_shaped setup plain true (false ≡ true) _ _ s.block s.has.is_block in
       record {
-        end = E.OriginBad;
-        ends = ends;
         reported = tt;
         block = s.block;
         is_block = same_block s.block s.has.is_block;
         leaves = record {
           end_is = s.has.ends;
           taken = taken_of E.OriginBad s.block s.has;
-          got = (shaped.short (λ whole. let both = sym whole ∙ s.has.ends in absurd (cc)), s.sent, got_text client sent parts s.block s.sent false left s.has.no_waits s.text);
+          got = (shaped.short (λ whole. let both = sym whole ∙ s.has.ends in absurd (cc)), (s.sent, got_text client sent parts s.block s.sent false left s.has.no_waits s.text));
         };
       }
+  block_sent E.OriginFault sends = elim sends [ ]
+  block_sent E.ClientFault sends = elim sends [ ]
+  block_sent E.NoMemory sends = elim sends [ ]
 
 -- the same, where the origin's side may lack
 sent_if : (setup : Setup) (x : Option (Peer LinkState)) (client : LinkSide) (sent : Sent) (cs c o : List ℕ) (parts : TxnParts LinkState LinkState) (link : LinkState) → setup.plugins.items ≡ []
     → link_if x ≡ Some link → AreLeftOf client sent parts → all_of (look_of parts.client) ≡ c → all_of (look_of link) ≡ o
-    → (end : TxnEnd) → parts.end ≡ Some end → SendsBlock setup (refuses_if refuses_none x cs) (viewed client x sent) end → HasBlockOf setup c o parts link
-sent_if setup None client sent cs c o parts link plain is left gives answers end ends sends = absurd (cc)
-sent_if setup (Some p) client sent cs c o parts link plain is left gives answers end ends sends =
-    block_sent setup plain p client sent cs c o parts link (ap (λ m. unwrap_or m p.link) is) left gives answers end ends sends
+    → (end : TxnEnd) → SendsBlock setup (refuses_if refuses_none x cs) (viewed client x sent) end → HasBlockAt setup c o parts link end
+sent_if setup None client sent cs c o parts link plain is left gives answers end sends = absurd (cc)
+sent_if setup (Some p) client sent cs c o parts link plain is left gives answers end sends =
+    block_sent setup plain p client sent cs c o parts link (ap (λ m. unwrap_or m p.link) is) left gives answers end sends
 
 -- no fault is counted, so none was met
 never_rose : (base faults : ℕ) → faults ≡ 0 → Rose base faults → ⊥
@@ -148,32 +142,49 @@ source_of : (x : Option (Peer LinkState)) (link : LinkState) → link_if x ≡ S
 source_of None link is = absurd (cc)
 source_of (Some p) link is = ap (λ m. (look_of (unwrap_or m p.link)).source) (sym is)
 
--- the block of a transaction between two sides of which no call failed, and each of which gave or may still give all of its
--- bytes, where memory did not lack
-pub block_for : (setup : Setup) (c o : List ℕ) (parts : TxnParts LinkState LinkState) (link : LinkState) → IsLeftBetween setup c o parts → parts.origin ≡ Some link
-    → parts.client.faults ≡ 0 → link.faults ≡ 0 → all_of (look_of parts.client) ≡ (look_of parts.client).source → all_of (look_of link) ≡ (look_of link).source
-    → (parts.end ≡ Some E.NoMemory → ⊥) → HasBlockOf setup c o parts link
-block_for setup c o parts link h dialed of_client of_link whole whole_link memory =
-    let t = h.txn in
-    let run = h.run in
-    let is : link_if t.core.origin ≡ Some link = sym h.links.1 ∙ dialed in
-    let gives : all_of (look_of parts.client) ≡ c = whole ∙ ap (λ (l : LinkState). (look_of l).source) h.links.0 ∙ run.gives in
-    let answers : all_of (look_of link) ≡ o = whole_link ∙ source_of t.core.origin link is ∙ run.answers in
-    let never : NeverFailed (viewed (side look_of t.core.client) t.core.origin t.core.sent) = record {
-      client = never_rose t.core.client.base t.core.client.link.faults (ap (λ (l : LinkState). l.faults) (sym h.links.0) ∙ of_client);
-      origin = never_failed t.core.origin link is of_link;
-    } in
-    let rested =
-    rests_with_block true true look_of look_of (λ (x y : LinkState). ⊤) refuses_none still_writes whole_of t run.next run.roles run.sound
-    run.started run.left never (λ lacks. memory (h.end_is ∙ lacks)) refl refl in
-    sent_if setup t.core.origin (side look_of t.core.client) t.core.sent (look_of t.core.client.link).source c o parts link run.no_plugins is
-    (record { look = ap look_of (sym h.links.0); head = h.sent.0; mode = h.sent.1; cuts = h.sent.2 }) gives answers rested.0 (h.end_is ∙ rested.1)
-    (subst (λ s. SendsBlock s (refuses_if refuses_none t.core.origin (look_of t.core.client.link).source) (viewed (side look_of t.core.client) t.core.origin t.core.sent) rested.0) run.setup_is rested.2)
+-- of a transaction between two sides of which no call failed, and each of which gave or may still give all of its bytes
+module _ (setup : Setup) (c o : List ℕ) (parts : TxnParts LinkState LinkState) (link : LinkState) (h : IsLeftBetween setup c o parts) (dialed : parts.origin ≡ Some link)
+    (of_client : parts.client.faults ≡ 0) (of_link : link.faults ≡ 0) (whole : all_of (look_of parts.client) ≡ (look_of parts.client).source)
+    (whole_link : all_of (look_of link) ≡ (look_of link).source) where
+  -- it has ended, and came to a block, where memory did not lack
+  block_for : (parts.end ≡ Some E.NoMemory → ⊥) → (end : TxnEnd) × (parts.end ≡ Some end) × HasBlockAt setup c o parts link end
+  block_for memory =
+      let t = h.txn in
+      let run = h.run in
+      let is : link_if t.core.origin ≡ Some link = sym h.links.1 ∙ dialed in
+      let gives : all_of (look_of parts.client) ≡ c = whole ∙ ap (λ (l : LinkState). (look_of l).source) h.links.0 ∙ run.gives in
+      let answers : all_of (look_of link) ≡ o = whole_link ∙ source_of t.core.origin link is ∙ run.answers in
+      let never : NeverFailed (viewed (side look_of t.core.client) t.core.origin t.core.sent) = record {
+        client = never_rose t.core.client.base t.core.client.link.faults (ap (λ (l : LinkState). l.faults) (sym h.links.0) ∙ of_client);
+        origin = never_failed t.core.origin link is of_link;
+      } in
+      let rested =
+      rests_with_block true true look_of look_of (λ (x y : LinkState). ⊤) refuses_none still_writes whole_of t run.next run.roles run.sound
+      run.started run.left never (λ lacks. memory (h.end_is ∙ lacks)) refl refl in (
+        rested.0,
+        h.end_is ∙ rested.1,
+        sent_if setup t.core.origin (side look_of t.core.client) t.core.sent (look_of t.core.client.link).source c o parts link run.no_plugins is
+            (record { look = ap look_of (sym h.links.0); head = h.sent.0; mode = h.sent.1; cuts = h.sent.2 }) gives answers rested.0
+            (subst (λ s. SendsBlock s (refuses_if refuses_none t.core.origin (look_of t.core.client.link).source) (viewed (side look_of t.core.client) t.core.origin t.core.sent) rested.0)
+            run.setup_is rested.2),
+      )
 
--- an origin was dialed
-pub dialed_some : (x : Option (Peer LinkState)) (parts : TxnParts LinkState LinkState) → is_dialed x ≡ true → parts.origin ≡ link_if x → parts.origin ≡ None → ⊥
-dialed_some None parts dialed is none = cc
-dialed_some (Some p) parts dialed is none = let both : Some p.link ≡ None = sym is ∙ none in cc
+  -- by its end
+  pub block_at : (end : TxnEnd) → parts.end ≡ Some end → end ≢ E.NoMemory → HasBlockAt setup c o parts link end
+  block_at end is other =
+      let found = block_for (λ lacks. other (ap (λ m. unwrap_or m end) (sym is ∙ lacks))) in
+      subst (HasBlockAt setup c o parts link) (ap (λ m. unwrap_or m end) (sym found.1 ∙ is)) found.2
+
+  pub has_ended : parts.end ≡ None → ⊥
+  has_ended none =
+      let found = block_for (λ lacks. let both = sym none ∙ lacks in cc) in
+      let both = sym found.1 ∙ none in cc
+
+-- what is left of a transaction that was run between two sides
+pub left_between : (setup : Setup) (c o : List ℕ) (t : Txn LinkState LinkState State) (parts : TxnParts LinkState LinkState) → IsRunBetween setup c o t
+    → (parts.client ≡ t.core.client.link) × (parts.origin ≡ link_if t.core.origin)
+    → (parts.head ≡ t.core.sent.head) × (parts.mode ≡ t.core.sent.mode) × (parts.cuts.items ≡ t.core.sent.cuts.items) → parts.end ≡ end_of t.course → IsLeftBetween setup c o parts
+left_between setup c o t parts run links sent ends = record { txn = t; run = run; links = links; sent = sent; end_is = ends }
 
 -- the frames behind the head of a whole answer
 pub framed_behind : (parts : TxnParts LinkState LinkState) (link : LinkState) (b : Block) (behind : List ℕ) → behind ≡ drop parts.head parts.client.taken → (h : LeavesBlock parts link E.Whole b)
@@ -234,6 +245,7 @@ module _ {X : Type 0} (setup : Setup) (c o : List ℕ) (b : Block) where
   shows_if (Ok s) says is = record { block = b; is_block = says; shows = is }
   shows_if (Err e) says is = tt
 
-pub ends_if : {X : Type 0} (r : Result Shown X) (b : Block) (P : TxnEnd → Type 0) → P b.end → IfOk r (λ s. s ≡ shown b) → IfOk r (λ s. P s.end)
-ends_if (Ok s) b P holds is = subst P (sym (ap (λ (x : Shown). x.end) is)) holds
-ends_if (Err e) b P holds is = tt
+-- and so is its end
+pub ends_if : {X : Type 0} (b : Block) (P : TxnEnd → Type 0) (r : Result Shown X) → P b.end → IfOk r (λ s. s ≡ shown b) → IfOk r (λ s. P s.end)
+ends_if b P (Ok s) holds is = subst P (sym (ap (λ (x : Shown). x.end) is)) holds
+ends_if b P (Err e) holds is = tt

@@ -1,44 +1,13 @@
 -- A body is taken out of its frames, piece by piece.
-use Rattle.std.proofs.Common.{◌≡◌, ℕ, ◌+◌, ◌-◌, ◌<◌, ◌≤◌, true, cond, ltb, List, [], ◌∷◌, ◌++◌, All, take, drop, map, length, get_or, refl, sym, ap, ◌∙◌, arith, append_assoc, length-append}
-use Rattle.std.proofs.lemmas.Bool.{lt-ltb, le-ltb}
+use Rattle.std.proofs.Common.{◌≡◌, ℕ, ◌+◌, ◌<◌, ◌≤◌, true, List, [], ◌∷◌, ◌++◌, take, drop, length, get_or, refl, sym, ap, ◌∙◌, arith, append_assoc, length-append}
 use Rattle.std.proofs.lemmas.List.{append-nil, take_at, drop_at, take_all, length-drop, length-map, get_or-map, take_more, drop_more}
 use Rattle.std.proofs.lemmas.Grind.{flat_map-append}
 use Rattle.std.proofs.lemmas.List.Elements.{All-get_or}
 use Rattle.httparse.specs.Ascii.{crlf_bytes}
-use Rattle.ts_wire.specs.declared.frames.Mode.{Mode}
 use Rattle.ts_wire.specs.declared.frames.Mode.TheVariants.{Plain, Chunked}
-use Rattle.ts_wire.specs.Frames.{IsPiece, hex, frame_of, frames, cut_body, four_digits, leading_zeros}
+use Rattle.ts_wire.specs.Frames.{IsPiece, hex, frame_of, frames, cut_body}
 use Rattle.ts_wire.specs.Limits.{piece_limit}
-use Rattle.ts_wire.proofs.HexLemmas.{four_digits_are}
 use Rattle.ts_replay.specs.Unframing.{IsFramed}
-
--- HOW LONG A LENGTH IS
-
-counted : (n : ℕ) → n < 65536 → length (hex n) ≡ 4 - leading_zeros n
-counted n fits = sym (ap length (four_digits_are n fits)) ∙ length-drop (leading_zeros n) (four_digits n)
-
-pub one_digit : (n : ℕ) → n < 16 → length (hex n) ≡ 1
-one_digit n small = counted n (omega arith) ∙ ap (λ t. 4 - cond t 3 (cond (ltb n 256) 2 (cond (ltb n 4096) 1 0))) (lt-ltb n 16 small)
-
-pub two_digits : (n : ℕ) → 16 ≤ n → n < 256 → length (hex n) ≡ 2
-two_digits n large small =
-    counted n (omega arith)
-    ∙ ap (λ t. 4 - cond t 3 (cond (ltb n 256) 2 (cond (ltb n 4096) 1 0))) (le-ltb n 16 large)
-    ∙ ap (λ t. 4 - cond t 2 (cond (ltb n 4096) 1 0)) (lt-ltb n 256 small)
-
-pub three_digits : (n : ℕ) → 256 ≤ n → n < 4096 → length (hex n) ≡ 3
-three_digits n large small =
-    counted n (omega arith)
-    ∙ ap (λ t. 4 - cond t 3 (cond (ltb n 256) 2 (cond (ltb n 4096) 1 0))) (le-ltb n 16 (omega arith))
-    ∙ ap (λ t. 4 - cond t 2 (cond (ltb n 4096) 1 0)) (le-ltb n 256 large)
-    ∙ ap (λ t. 4 - cond t 1 0) (lt-ltb n 4096 small)
-
-pub all_digits : (n : ℕ) → 4096 ≤ n → n ≤ piece_limit → length (hex n) ≡ 4
-all_digits n large small =
-    counted n (omega arith)
-    ∙ ap (λ t. 4 - cond t 3 (cond (ltb n 256) 2 (cond (ltb n 4096) 1 0))) (le-ltb n 16 (omega arith))
-    ∙ ap (λ t. 4 - cond t 2 (cond (ltb n 4096) 1 0)) (le-ltb n 256 (omega arith))
-    ∙ ap (λ t. 4 - cond t 1 0) (le-ltb n 4096 large)
 
 -- THE FIRST CHUNK
 
@@ -59,34 +28,37 @@ pub record HasChunk (n : ℕ) (bytes piece : List ℕ) (behind : List (List ℕ)
   pub is : IsPiece piece
   pub bytes_are : bytes ≡ frames Chunked (piece ∷ behind) true
 
-module _ (n : ℕ) (bytes piece : List ℕ) (behind : List (List ℕ)) (h : HasChunk n bytes piece behind) where
-  pub small_size : n ≤ piece_limit
-  small_size = omega (arith, h.size, h.is.1)
+pub small_size : {n : ℕ} {bytes piece : List ℕ} {behind : List (List ℕ)} → HasChunk n bytes piece behind → n ≤ piece_limit
+small_size h = omega (arith, h.size, h.is.1)
 
-  -- behind its line
-  pub behind_line : drop (length (hex n) + 2) bytes ≡ piece ++ (crlf_bytes ++ frames Chunked behind true)
+-- its line has so many digits
+module _ {n : ℕ} {bytes piece : List ℕ} {behind : List (List ℕ)} (h : HasChunk n bytes piece behind) (digits : ℕ) (are : digits ≡ length (hex n)) where
+  behind_line : drop (digits + 2) bytes ≡ piece ++ (crlf_bytes ++ frames Chunked behind true)
   behind_line =
-      let line : length (hex (length piece) ++ crlf_bytes) ≡ length (hex n) + 2 =
-      length-append (hex (length piece)) crlf_bytes ∙ ap (λ m. length (hex m) + 2) (sym h.size) in
-      ap (drop (length (hex n) + 2)) (h.bytes_are ∙ chunk_first piece behind)
-      ∙ drop_at (hex (length piece) ++ crlf_bytes) (piece ++ (crlf_bytes ++ frames Chunked behind true)) (length (hex n) + 2) line
+      let line : length (hex (length piece) ++ crlf_bytes) ≡ digits + 2 =
+      length-append (hex (length piece)) crlf_bytes ∙ ap (λ m. length (hex m) + 2) (sym h.size) ∙ ap (λ k. k + 2) (sym are) in
+      ap (drop (digits + 2)) (h.bytes_are ∙ chunk_first piece behind)
+      ∙ drop_at (hex (length piece) ++ crlf_bytes) (piece ++ (crlf_bytes ++ frames Chunked behind true)) (digits + 2) line
 
-  -- so long is what stands behind the line, and the line stands in front of it
-  pub behind_length : length (drop (length (hex n) + 2) bytes) ≡ n + 2 + length (frames Chunked behind true)
+  behind_length : length (drop (digits + 2) bytes) ≡ n + 2 + length (frames Chunked behind true)
   behind_length =
       let all = ap length behind_line ∙ length-append piece (crlf_bytes ++ frames Chunked behind true) in
       let rest = length-append crlf_bytes (frames Chunked behind true) in
       omega (arith, all, rest, h.size)
 
-  pub line_within : length (hex n) + 2 ≤ length bytes
-  line_within =
-      let left = length-drop (length (hex n) + 2) bytes in
-      omega (arith, behind_length, left)
+  pub line_within : digits + 2 ≤ length bytes
+  line_within = let left = length-drop (digits + 2) bytes in omega (arith, behind_length, left)
 
-  pub piece_is : take n (drop (length (hex n) + 2) bytes) ≡ piece
+  pub piece_within : n ≤ length (drop (digits + 2) bytes)
+  piece_within = omega (arith, behind_length)
+
+  pub end_within : 2 ≤ length (drop n (drop (digits + 2) bytes))
+  end_within = let left = length-drop n (drop (digits + 2) bytes) in omega (arith, behind_length, left)
+
+  pub piece_is : take n (drop (digits + 2) bytes) ≡ piece
   piece_is = ap (take n) behind_line ∙ take_at piece (crlf_bytes ++ frames Chunked behind true) n (sym h.size)
 
-  pub others_are : drop 2 (drop n (drop (length (hex n) + 2) bytes)) ≡ frames Chunked behind true
+  pub others_are : drop 2 (drop n (drop (digits + 2) bytes)) ≡ frames Chunked behind true
   others_are =
       ap (drop 2) (ap (drop n) behind_line ∙ drop_at piece (crlf_bytes ++ frames Chunked behind true) n (sym h.size))
       ∙ drop_at crlf_bytes (frames Chunked behind true) 2 refl
@@ -95,7 +67,7 @@ module _ (n : ℕ) (bytes piece : List ℕ) (behind : List (List ℕ)) (h : HasC
 
 module _ (cuts bytes : List ℕ) (pieces : List (List ℕ)) (h : IsFramed Chunked cuts bytes pieces) where
   pub as_many : length pieces ≡ length cuts
-  as_many = sym (ap length h.cuts_are ∙ length-map length pieces)
+  as_many = sym (ap length h.cuts_are ∙ length-map pieces (λ p. length p))
 
   -- the next chunk of what is left
   pub next_chunk : (i : ℕ) (rest : List ℕ) → i < length cuts → rest ≡ frames Chunked (drop i pieces) true
@@ -103,7 +75,7 @@ module _ (cuts bytes : List ℕ) (pieces : List (List ℕ)) (h : IsFramed Chunke
   next_chunk i rest lt is =
       let within : i < length pieces = omega (arith, as_many, lt) in
       record {
-        size = ap (λ l. get_or l i 0) h.cuts_are ∙ get_or-map length pieces i [] 0 within;
+        size = ap (λ l. get_or l i 0) h.cuts_are ∙ get_or-map (λ p. length p) pieces i [] 0 within;
         is = All-get_or IsPiece pieces i [] within h.each;
         bytes_are = is ∙ ap (λ ps. frames Chunked ps true) (drop_more pieces i [] within);
       }

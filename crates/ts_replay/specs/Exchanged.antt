@@ -1,5 +1,5 @@
 -- A recorded transaction that has ended, and what it left.
-use Rattle.std.specs.Prelude.{◌≡◌, ◌≢◌, ◌⊎◌, ℕ, ◌<◌, List, [], ◌++◌, length, map, All, ⊤, Bool, true, false, codes}
+use Rattle.std.specs.Prelude.{◌≡◌, ◌⊎◌, ℕ, ◌<◌, List, [], ◌++◌, length, map, All, ⊤, Bool, true, false, codes}
 use Rattle.std.specs.Arc.{arc_value}
 use Rattle.memchr.specs.Find.{OccursAt}
 use Rattle.ts_config.specs.Bodies.{whole_of}
@@ -20,8 +20,8 @@ use Rattle.ts_txn.specs.declared.making.TxnParts.{TxnParts}
 use Rattle.ts_txn.specs.declared.txn.Txn.{Txn}
 use Rattle.ts_wire.specs.Frames.{IsPiece, cut_body, frames}
 
--- The transaction is one of this setup, which has no hook plugin, between two sides that give these bytes. It was started,
--- nothing of its group is pending, the group has an event number left, and what is to hold of the transaction holds.
+-- The transaction is one of this setup, which has no hook plugin, between two sides that give these bytes. It was
+-- started, nothing of its group is pending, the group has an event number left, and what is to hold of it holds.
 pub record IsRunBetween (setup : Setup) (c o : List ℕ) (t : Txn LinkState LinkState State) : Type 0 where
   pub setup_is : arc_value t.core.setup ≡ setup
   pub no_plugins : setup.plugins.items ≡ []
@@ -61,8 +61,10 @@ pub record HasTaken (origin : LinkState) (b : Block) : Type 0 where
   pub nothing : b.request ≡ [] → upload ≡ []
   pub ends : (b.request ≡ []) ⊎ EndsBlank b.request
 
--- the client took the head of the block, and behind it this much of a body in pieces in their frames, and its end or not
-pub record HasGot (parts : TxnParts LinkState LinkState) (b : Block) (sent : List ℕ) (fin : Bool) : Type 0 where
+-- the client took the head of the block, and behind it this much of a body in pieces in their frames, with its end or
+-- without
+pub record HasGot (parts : TxnParts LinkState LinkState) (b : Block) (sent : List ℕ) (fin : Bool)
+    : Type 0 where
   pub pieces : List (List ℕ)
   pub each : All IsPiece pieces
   pub text : parts.client.taken ≡ b.head ++ frames parts.mode pieces fin

@@ -10,7 +10,6 @@ use Rattle.ts_txn.specs.Holding.{IsSameLink, StepKeeps}
 use Rattle.ts_txn.specs.Making.{IsMadeOf, IsMadeOfIf}
 use Rattle.ts_txn.specs.View.{is_dialed, side_if}
 use Rattle.ts_txn.specs.World.{HasTxnBegun, IsSameLinkIf, IsSureIf, IsTxnOf}
-use Rattle.ts_txn.specs.declared.course.Course.{Course}
 use Rattle.ts_txn.specs.declared.parts.Core.{Core}
 use Rattle.ts_txn.specs.declared.parts.Peer.{Peer}
 use Rattle.ts_txn.specs.declared.txn.Txn.{Txn}

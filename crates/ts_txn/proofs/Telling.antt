@@ -1,5 +1,5 @@
 -- A transaction tells its number where its links tell theirs, as links in memory do.
-use Rattle.std.proofs.Common.{◌≡◌, ℕ, List, true, Option, Some, None, refl}
+use Rattle.std.proofs.Common.{ℕ, List, true, Option, Some, None, refl}
 use Rattle.std.specs.Prelude.{IsSome}
 use Rattle.std.specs.Arc.{arc_value}
 use Rattle.ts_journal.specs.declared.entry.Pending.{Pending}
