@@ -16,7 +16,7 @@ use Rattle.ts_group.specs.Answers.{Finite, KeepsTags}
 use Rattle.ts_thread.specs.Goings.{IsLaterGroup, HasTakenTurns, AllGoOn, IsIdle, HasTurns, work_left}
 use Rattle.ts_thread.specs.Started.{IsFirst, WasStarted}
 use Rattle.ts_thread.specs.Threads.{HasHadTurns, turns_of}
-use Rattle.ts_thread.specs.Whole.{EachTells, EndSoon, HaveRun, HaveEnded, HadWorn}
+use Rattle.ts_thread.specs.Whole.{EachTells, EndSoon, HaveRun, HaveEnded}
 use Rattle.ts_thread.proofs.Rows.{fits_on}
 
 pub fit_count : {A B : Type 0} (P : A → B → Type 0) (ts : List A) (gs : List B) → AllZip P ts gs → length gs ≡ length ts

@@ -1,5 +1,5 @@
 -- What is known at the end of the world of a group that was started.
-use Rattle.std.proofs.Common.{◌≡◌, ℕ, Bool, true, List, sym, subst, arith}
+use Rattle.std.proofs.Common.{◌≡◌, ℕ, Bool, true, List, subst, arith}
 use Rattle.std.specs.Bool.{OnTrue}
 use mathlib.Core.Option.{some}
 use lib.ListN.{get_elem?}

@@ -235,6 +235,11 @@ pub same_fault : {A E : Type 0} (P : Result A E → Type 0) (r : Result A E) (e 
 same_fault P (Ok a) e is p = absurd is
 same_fault P (Err x) e is p = subst (λ y. P (Err y)) (sym is) p
 
+-- what no fault of one call is, no fault is that it was
+pub no_fault : {A B E : Type 0} (r : Result A E) (e f : E) → IsErrAnd r (λ x. x ≡ e) → (IsErrOf {T = B} (Err e) f → ⊥) → IsErrOf r f → ⊥
+no_fault (Ok a) e f is none worn = absurd is
+no_fault (Err x) e f is none worn = let same : e ≡ f = cc in none (ap (λ y. Err y) same)
+
 -- an answer that is no fault names no worn group
 never_worn : {E : Type 0} {e : E} → IsErrOf {T = Unit {0}} (Ok tt) e → ⊥
 never_worn is = absurd (cc)

@@ -1,5 +1,5 @@
 -- A group stands after itself when a turn was recorded, or none was.
-use Rattle.std.proofs.Common.{[], ◌∷◌, inr, ap, sym, subst, arith}
+use Rattle.std.proofs.Common.{[], ◌∷◌, inr, ap, sym, ◌∙◌, subst, arith}
 use Rattle.ts_journal.specs.declared.entry.Entry.TheVariants.{Took, Gave}
 use Rattle.ts_journal.specs.Later.{IsLater}
 use Rattle.ts_journal.proofs.Later.{later_refl, follows_trans, extends_follows}

@@ -1,7 +1,7 @@
-use Rattle.std.proofs.Common.{◌∙◌, sym, arith}
-use Rattle.ts_thread.specs.Tags.{GroupFits}
+use Rattle.ts_thread.specs.declared.TheConstants.{MOST_ALONE}
 use Rattle.ts_thread.specs.Threads.{turns_of}
-use Rattle.ts_thread.proofs.Ended.{fit_count, all_tell, turns_enough, have_ended, had_worn}
+use Rattle.ts_thread.proofs.Rows.{no_fault}
+use Rattle.ts_thread.proofs.Ended.{all_tell, turns_enough, have_ended}
 use Rattle.ts_thread.proofs.whole.run_whole.Goals as goal
 
 pub finish_within-requires-clause-fits : goal.finish_within-requires-clause-fits
@@ -16,3 +16,10 @@ returns-clause-ended g c =
     let run = c.in_ok-groups.ensures in
     let ends = c.in_ok-finish_within.ensures.finishes in
     have_ended g.W.Slotted.fits g.W.World.sound g.W.World.only_asked g.W.World.is_first g.W.World.left g.W.World.begun c.args.tags.items c.args.starts c.args.threads c.args.budget ends.turns c.args.groups.items c.in_ok-groups.groups.items c.finish_within.new.groups.items run ends.goes ends.idle
+
+pub returns-in_err-finish_within-clause-spares : goal.returns-in_err-finish_within-clause-spares
+returns-in_err-finish_within-clause-spares g c = λ soon.
+    let run = c.in_ok-groups.ensures in
+    no_fault c.from_residual.result _ _ c.from_residual.ensures.1
+    (c.in_err-finish_within.ensures.spares
+    (turns_enough g.W.Slotted.fits g.W.World.sound g.W.World.only_asked g.W.World.is_first g.W.World.left MOST_ALONE (turns_of c.args.starts c.args.threads c.args.budget) c.args.tags.items c.in_ok-groups.groups.items soon run.fits run.turns))
