@@ -6,10 +6,11 @@ use Rattle.ts_journal.specs.declared.entry.Pending.{Pending}
 use Rattle.ts_journal.specs.State.{State, fresh_with}
 use Rattle.ts_journal.specs.Log.{Log, Extends}
 use Rattle.ts_journal.specs.Laws.{NoTurns}
-use Rattle.ts_journal.specs.Machine.{IsLawful, after, replay}
+use Rattle.ts_journal.specs.Machine.{after}
 use Rattle.ts_group.specs.declared.group.TheConstants.{MOST_EVENTS}
 use Rattle.ts_group.specs.Context.{own_key}
 use Rattle.ts_group.specs.Due.{IsFirstDue}
+use Rattle.ts_replay.specs.Replayed.{IsFinal}
 
 -- the seat of a driver that nobody else drives beside
 abbrev pub only_seat : ℕ
@@ -109,13 +110,6 @@ pub record EndsSerially (old new : Log) : Type 0 where
   pub on : GoesOnSerially old new
   pub given : new.state.held ≡ false
   pub none : new.state.pending ≡ []
-
--- a journal that is lawful and not held, with nothing pending
-pub record IsFinal (j : Log) : Type 0 where
-  pub lawful : IsLawful j.base j.entries
-  pub state : j.state ≡ replay j.base j.entries
-  pub given : j.state.held ≡ false
-  pub none : j.state.pending ≡ []
 
 -- the journal of a new group that the serial driver alone drove, to its end
 pub record IsOfDriver (j : Log) : Type 0 where
