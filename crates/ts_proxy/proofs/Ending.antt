@@ -243,3 +243,26 @@ answer-performed asked task tells out_tells shelf shelf' out out' answer js is c
 pub line-performed : (asked : Option Task) (task : Task) (tells : Bool) (old new : SinkSeen) (answer : Answer) → asked ≡ Some task
     → (tells ≡ true → LineTold old new (line_of task.config task.input answer)) → SaysLine tells old new asked (status_of answer) answer
 line-performed asked task tells old new answer is told = rw is (record { is = refl; told = told })
+
+-- the status of words of no command
+pub status-usage : (asked : Option Task) (tells : Bool) (shelf : ShelfSeen) → asked ≡ None → IsStatusOf tells shelf asked usage
+status-usage asked tells shelf is = rw is (record { known = inr (inr (inr (inl refl))); of_none = (λ use. refl, λ none. refl); at = λ told. refl })
+
+-- they are of no text
+pub completes-usage : (asked : Option Task) (shelf shelf' : ShelfSeen) (out out' : SinkSeen) (n : ℕ) → asked ≡ None → HasText (outcome_of shelf asked)
+    → Completes n shelf shelf' out out'
+completes-usage asked shelf shelf' out out' n is = rw is (λ text. absurd text)
+
+-- nothing was taken
+pub takes-usage : (asked : Option Task) (shelf : ShelfSeen) (out : SinkSeen) → TakesAt (outcome_of shelf asked) usage out out
+takes-usage asked shelf out = record { some = inl refl; whole = λ is. absurd (omega (arith, is)) }
+
+pub journals-usage : (asked : Option Task) (tells : Bool) (shelf : ShelfSeen) (js : List Log) → js ≡ [] → JournalsAt tells shelf asked usage js
+journals-usage asked tells shelf js none = record { job = λ is. absurd (omega (arith, is)); each = λ told is. absurd (omega (arith, is)); none = λ other. none }
+
+pub answer-usage : (asked : Option Task) (tells : Bool) (shelf : ShelfSeen) → asked ≡ None → IsAnswerOf tells shelf asked a.Usage
+answer-usage asked tells shelf is = rw is (record { comes = λ told. refl; named = λ told. tt })
+
+pub line-usage : (asked : Option Task) (tells : Bool) (old new : SinkSeen) → asked ≡ None → (tells ≡ true → LineTold old new (line_of [] [] a.Usage))
+    → SaysLine tells old new asked usage a.Usage
+line-usage asked tells old new is told = rw is (record { is = refl; told = told })

@@ -6,4 +6,5 @@ pub mod Parts
 pub mod Performing
 pub mod Serial
 pub mod Staying
+pub mod Threads
 pub mod Words

@@ -13,7 +13,7 @@ use Rattle.ts_link.specs.Seen.{ShelfSeen, SinkSeen}
 use Rattle.ts_proxy.specs.Outcome.{Outcome, most_input, opened, set_up, performed, worked, Long, Text}
 use Rattle.ts_proxy.specs.declared.answer.NamedFile.TheVariants as file
 use Rattle.ts_config.specs.declared.setup.TransformLine.{TransformLine}
-use Rattle.ts_proxy.specs.declared.command.Command.{Command}
+use Rattle.ts_proxy.specs.Words.{Command}
 
 -- a file that was read
 pub opened-read : (o : Option (List ℕ)) (most : ℕ) (name bytes : List ℕ) (next : List ℕ → Outcome) → o ≡ Some bytes → length bytes ≤ most
@@ -46,10 +46,10 @@ writing-comes config input text a.OutOfMemory old new h = tt
 writing-comes config input text (a.TooLong n) old new h = absurd h
 
 -- a command whose files were read does its part
-pub performed-worked : (command : Command) (files files' : List ℕ → Option (List ℕ)) (config input bytes : List ℕ) (lines : List TransformLine)
+pub performed-read : (command : Command) (files files' : List ℕ → Option (List ℕ)) (config input bytes : List ℕ) (lines : List TransformLine)
     → ((next : List TransformLine → Outcome) → set_up files config next ≡ next lines) → files' ≡ files → files' input ≡ Some bytes → length bytes ≤ most_input
     → performed command files config input ≡ worked command lines bytes
-performed-worked command files files' config input bytes lines read same is within =
+performed-read command files files' config input bytes lines read same is within =
     read (λ ls. opened (files input) most_input input (worked command ls))
     ∙ opened-read (files input) most_input input bytes (worked command lines) (ap (λ f. f input) (sym same) ∙ is) within
 

@@ -1,7 +1,8 @@
 -- From the parts of a task's work to what the task came to.
 use Rattle.std.specs.Prelude.{⊤, Err}
-use Rattle.std.proofs.Common.{◌≡◌, ◌++◌, ℕ, Bool, true, List, [], ◌∷◌, All, Some, inl, inr, refl, sym, subst, ◌∙◌}
-use Rattle.std.proofs.lemmas.List.{append-nil}
+use Rattle.std.proofs.Common.{◌≡◌, ℕ, ◌+◌, Bool, true, List, [], ◌∷◌, All, map, Some, inl, inr, refl, sym, subst}
+use Rattle.std.proofs.lemmas.List.Elements.{All-nil, All-cons}
+use Rattle.ts_config.specs.declared.setup.Setup.{Setup}
 use Rattle.ts_config.specs.declared.setup.TransformLine.{TransformLine}
 use Rattle.ts_config.specs.Bodies.{compose_lines}
 use Rattle.ts_journal.specs.Log.{Log}
@@ -12,12 +13,14 @@ use Rattle.ts_proxy.specs.declared.answer.Answer.TheVariants as a
 use Rattle.ts_proxy.specs.declared.answer.NamedFile.{NamedFile}
 use Rattle.ts_proxy.specs.Answers.{ComesAt, HasText, IsCausedBy, IsOfReading, IsOfRunning, IsOfWork, IsReadBy, IsTextOf, OnCannotRead, OnQuiet, TookAt}
 use Rattle.ts_proxy.specs.Outcome.{Outcome, Text, Report, outcome_of, performed, worked}
-use Rattle.ts_proxy.specs.Performed.{IsPerformed, IsReplayOn, IsWorked, LeavesJournals, LeavesJournalsAt}
+use Rattle.ts_proxy.specs.Performed.{AreJournalsOf, IsPerformed, IsReplayOn, IsWorked, LeavesJournals, LeavesJournalsAt}
 use Rattle.ts_proxy.specs.Took.{TookAll, TookFront, TookNothing}
 use Rattle.ts_proxy.specs.Words.{Command, Transform, Replay, Task}
-use Rattle.ts_replay.specs.Replayed.{IsFinal}
+use Rattle.ts_record.specs.Grammar.{TxnPieces}
+use Rattle.ts_replay.specs.Replayed.{EachOf, IsFinal, IsReplayOf, journal_of}
+use Rattle.ts_replay.specs.Recorded.{RecordedGroup}
 use Rattle.ts_replay.specs.Reports.{IsReportOn}
-use Rattle.ts_replay.specs.declared.replaying.Replayed.{Replayed}
+use Rattle.ts_replay.specs.declared.report.Replayed.{Replayed}
 
 -- an answer of the part that comes after reading tells of no file
 work-names : (answer : Answer) (out out' : SinkSeen) (P : NamedFile → Type 0) → IsOfWork answer out out' → OnCannotRead answer P
@@ -145,5 +148,87 @@ report-on lines bytes r on = record {
   lines_are = on.replayed.lines_are;
   txns = on.txns;
   recording = on.recording;
-  report = on.replayed.report;
+  report = on.replayed.comes.report;
+}
+
+-- each journal of a replay is final
+finals : (setup : Setup) (number : ℕ) (txns : List TxnPieces) (groups : List RecordedGroup) → EachOf (IsReplayOf setup) number txns groups
+    → All IsFinal (map journal_of groups)
+finals setup number [] [] each = All-nil IsFinal
+finals setup number [] (g ∷ gs) each = absurd each
+finals setup number (t ∷ ts) [] each = absurd each
+finals setup number (t ∷ ts) (g ∷ gs) each = All-cons IsFinal (journal_of g) (map journal_of gs) each.0.final (finals setup (number + 1) ts gs each.1)
+
+-- the report of a replay was written
+pub worked-written : (lines : List TransformLine) (bytes : List ℕ) (r : Replayed) (out_tells : Bool) (out out' : SinkSeen) → IsReplayOn lines bytes r
+    → (out_tells ≡ true → TookAll out out' r.report.items) → IsWorked Replay lines bytes out_tells out out' a.Done r.journals.items
+worked-written lines bytes r out_tells out out' on told = record {
+  comes = λ config name. (on.txns, on.recording);
+  took = λ tell. (r.report.items, report-on lines bytes r on, told tell);
+  quiet = λ tell. tt;
+  cause = tt;
+  journals = subst (All IsFinal) (sym on.replayed.comes.journals) (finals on.replayed.setup 1 on.txns on.replayed.groups on.replayed.comes.each);
+  each = (r, on, refl);
+}
+
+-- or a write of it failed
+pub worked-unwritten : (lines : List TransformLine) (bytes : List ℕ) (r : Replayed) (out_tells : Bool) (out out' : SinkSeen) (js : List Log) → IsReplayOn lines bytes r
+    → (out_tells ≡ true → TookFront out out' r.report.items) → Rose out.faults out'.faults → js ≡ []
+    → IsWorked Replay lines bytes out_tells out out' a.CannotWrite js
+worked-unwritten lines bytes r out_tells out out' js on told rose none = record {
+  comes = λ config name. (on.txns, on.recording);
+  took = λ tell. inr (r.report.items, report-on lines bytes r on, told tell);
+  quiet = λ tell. tt;
+  cause = rose;
+  journals = none;
+  each = tt;
+}
+
+-- or memory lacked
+pub worked-lacking : (lines : List TransformLine) (bytes : List ℕ) (r : Replayed) (out_tells : Bool) (out out' : SinkSeen) (js : List Log) → IsReplayOn lines bytes r
+    → (out_tells ≡ true → TookFront out out' r.report.items) → js ≡ [] → IsWorked Replay lines bytes out_tells out out' a.OutOfMemory js
+worked-lacking lines bytes r out_tells out out' js on told none = record {
+  comes = λ config name. tt;
+  took = λ tell. inr (r.report.items, report-on lines bytes r on, told tell);
+  quiet = λ tell. tt;
+  cause = tt;
+  journals = none;
+  each = tt;
+}
+
+-- a body was driven through the lines
+pub worked-driven : (lines : List TransformLine) (body : List ℕ) (out_tells : Bool) (out out' : SinkSeen) (js : List Log)
+    → (out_tells ≡ true → TookAll out out' (compose_lines lines body)) → AreJournalsOf Transform js → IsWorked Transform lines body out_tells out out' a.Done js
+worked-driven lines body out_tells out out' js told left = record {
+  comes = λ config name. tt;
+  took = λ tell. (compose_lines lines body, refl, told tell);
+  quiet = λ tell. tt;
+  cause = tt;
+  journals = left;
+  each = tt;
+}
+
+-- or a write failed
+pub worked-undriven : (lines : List TransformLine) (body : List ℕ) (out_tells : Bool) (out out' : SinkSeen) (js : List Log)
+    → (out_tells ≡ true → TookFront out out' (compose_lines lines body)) → Rose out.faults out'.faults → js ≡ []
+    → IsWorked Transform lines body out_tells out out' a.CannotWrite js
+worked-undriven lines body out_tells out out' js told rose none = record {
+  comes = λ config name. tt;
+  took = λ tell. inr (compose_lines lines body, refl, told tell);
+  quiet = λ tell. tt;
+  cause = rose;
+  journals = none;
+  each = tt;
+}
+
+-- or memory lacked
+pub worked-stopped : (lines : List TransformLine) (body : List ℕ) (out_tells : Bool) (out out' : SinkSeen) (js : List Log)
+    → (out_tells ≡ true → TookFront out out' (compose_lines lines body)) → js ≡ [] → IsWorked Transform lines body out_tells out out' a.OutOfMemory js
+worked-stopped lines body out_tells out out' js told none = record {
+  comes = λ config name. tt;
+  took = λ tell. inr (compose_lines lines body, refl, told tell);
+  quiet = λ tell. tt;
+  cause = tt;
+  journals = none;
+  each = tt;
 }

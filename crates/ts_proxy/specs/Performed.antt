@@ -12,7 +12,7 @@ use Rattle.ts_proxy.specs.declared.answer.Answer.{Answer}
 use Rattle.ts_proxy.specs.declared.answer.Answer.TheVariants as a
 use Rattle.ts_record.specs.Grammar.{TxnPieces, IsRecording}
 use Rattle.ts_replay.specs.Replayed.{IsFinal, IsReplayed}
-use Rattle.ts_replay.specs.declared.replaying.Replayed.{Replayed}
+use Rattle.ts_replay.specs.declared.report.Replayed.{Replayed}
 
 -- the journals of a job that was done: that of the serial driver of a body, or those of the transactions of a recording
 abbrev pub AreJournalsOf : Command → List Log → Type 0

@@ -49,9 +49,10 @@ pub fn transform_task(words: &[String]) -> Option<TransformTask<'_>>
 fn threads_of(word: &str) -> Option<u32>
     ensures { result ≡ threads_of word.now }
 {
-    let [b'1'..=b'9', ..] = word.as_bytes() else {
+    let first = word.as_bytes().first()?;
+    if !first.is_ascii_digit() || *first == b'0' {
         return None;
-    };
+    }
     match word.parse::<u32>() {
         Ok(threads) if threads <= MOST_THREADS => Some(threads),
         _ => None,

@@ -10,7 +10,7 @@ ghost use Rattle.ts_thread.specs.declared.TheConstants.{MOST_THREADS};
 
 use crate::answer::{Answer, Performed};
 use crate::command::ReplayTask;
-use crate::reading::read_files;
+use crate::reading::{Files, read_files};
 use crate::writing::{Driven, write_all};
 use std::alloc::Global;
 use std::sync::Wait;
@@ -32,8 +32,8 @@ fn read_txns(alloc: Global, bytes: Octets) -> Result<Vec<RecordedTxn>, Answer>
     }
 }
 
-// Runs the transactions of the recording in these bytes under the lines. Of its causes not to, that a group is worn is
-// not told apart from want of memory.
+// Runs the transactions of the recording in these bytes under the lines. Where a group had all the turns that it gets, it
+// answers as where memory lacks.
 fn run_txns<G: Gate + Sync, R: Threads + Wait + Sync>(
     rt: &R,
     alloc: Global,
@@ -79,21 +79,21 @@ fn send_report<K: Sink>(alloc: Global, replayed: Replayed, out: &mut K) -> Perfo
 pub fn replay<S: Shelf, K: Sink, G: Gate + Sync, R: Threads + Wait + Sync>(
     rt: &R,
     alloc: Global,
-    task: ReplayTask<'_>,
+    task: &ReplayTask<'_>,
     shelf: &mut S,
     out: &mut K,
     gate: &G,
 ) -> Performed
-    requires threads { (0 < task.threads) × (task.threads ≤ MOST_THREADS) }
-    ensures { IsPerformed (task_at Replay task.config.now task.recording.now)
+    requires threads { (0 < task.now.threads) × (task.now.threads ≤ MOST_THREADS) }
+    ensures { IsPerformed (task_at Replay task.now.config.now task.now.recording.now)
         S.tells K.tells (S.seen shelf.old) (S.seen shelf.new) (K.seen out.old) (K.seen out.new)
         result.answer result.journals.items }
 {
-    let files = match read_files(alloc, shelf, task.config, task.recording) {
+    let Files { lines, input } = match read_files(alloc, shelf, task.config, task.recording) {
         Ok(files) => files,
         Err(answer) => return Performed::without(alloc, answer),
     };
-    match run_txns(rt, alloc, files.lines, files.input, task.threads, gate) {
+    match run_txns(rt, alloc, lines, input, task.threads, gate) {
         Ok(replayed) => send_report(alloc, replayed, out),
         Err(answer) => Performed::without(alloc, answer),
     }

@@ -21,8 +21,8 @@ use ts_link::{Gate, Shelf, Sink};
 
 /// How the program ended: 0 the job was done; 2 the words are of no command; 3 a line of the configuration is not in
 /// the grammar; 4 the input is no recording; 5 a file could not be read; 6 the output could not be written; 7 memory was
-/// lacking; 9 a file is longer than its limit. With status 0 there are the journals of the groups that did the job, with
-/// another none.
+/// lacking, or the group of a recorded transaction had all the turns that it gets, which takes years; 9 a file is longer
+/// than its limit. With status 0 there are the journals of the groups that did the job, with another none.
 #[derive(Drop)]
 pub struct Ended {
     pub status: u8,
@@ -105,7 +105,7 @@ pub fn run<S: Shelf, K: Sink, E: Sink, G: Gate + Sync, R: Threads + Wait + Sync>
     let Some(task) = replay_task(words) else {
         return end(err, Performed::without(alloc, Answer::Usage), "", "");
     };
-    let performed = replay(rt, alloc, task, shelf, out, gate);
+    let performed = replay(rt, alloc, &task, shelf, out, gate);
     end(err, performed, task.config, task.recording)
 }
 
@@ -135,6 +135,6 @@ pub fn run_transform<S: Shelf, K: Sink, E: Sink>(
     let Some(task) = transform_task(words) else {
         return end(err, Performed::without(alloc, Answer::Usage), "", "");
     };
-    let performed = transform(alloc, task, shelf, out);
+    let performed = transform(alloc, &task, shelf, out);
     end(err, performed, task.config, task.body)
 }

@@ -10,7 +10,7 @@ ghost use Rattle.ts_proxy.specs.Words.{Transform, task_at};
 use crate::answer::{Answer, Performed};
 use crate::command::TransformTask;
 use crate::drive::drive;
-use crate::reading::read_files;
+use crate::reading::{Files, read_files};
 use crate::writing::Driven;
 use std::alloc::Global;
 use ts_config::TransformLine;
@@ -63,16 +63,16 @@ fn send_body<K: Sink>(alloc: Global, lines: &[TransformLine], body: Octets, out:
 /// Writes a body through the lines of a configuration, both of which the shelf has under these names.
 pub fn transform<S: Shelf, K: Sink>(
     alloc: Global,
-    task: TransformTask<'_>,
+    task: &TransformTask<'_>,
     shelf: &mut S,
     out: &mut K,
 ) -> Performed
-    ensures { IsPerformed (task_at Transform task.config.now task.body.now)
+    ensures { IsPerformed (task_at Transform task.now.config.now task.now.body.now)
         S.tells K.tells (S.seen shelf.old) (S.seen shelf.new) (K.seen out.old) (K.seen out.new)
         result.answer result.journals.items }
 {
     match read_files(alloc, shelf, task.config, task.body) {
-        Ok(files) => send_body(alloc, files.lines.as_slice(), files.input, out),
+        Ok(Files { lines, input }) => send_body(alloc, lines.as_slice(), input, out),
         Err(answer) => Performed::without(alloc, answer),
     }
 }
