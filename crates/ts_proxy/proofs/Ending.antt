@@ -135,7 +135,7 @@ pub status-performed : (asked : Option Task) (task : Task) (tells out_tells : Bo
     → asked ≡ Some task → IsPerformed task tells out_tells shelf shelf' out out' answer js → IsStatusOf tells shelf asked (status_of answer)
 status-performed asked task tells out_tells shelf shelf' out out' answer js is came = rw is (record {
   known = status-known answer;
-  of_none = (λ use. absurd (not-usage answer shelf shelf' out out' came.cause use), λ none. absurd (cc));
+  of_none = (λ said. absurd (not-usage answer shelf shelf' out out' came.cause said), λ none. absurd (cc));
   at = λ told. ends-performed shelf task answer (came.comes told);
 })
 
@@ -201,14 +201,22 @@ pub takes-performed : (asked : Option Task) (task : Task) (tells out_tells : Boo
 takes-performed asked task tells out_tells shelf shelf' out out' answer js is came told out_told = rw is
     (takes-took answer (outcome_of shelf (Some task)) out out' (came.took told out_told))
 
+-- a status that comes before anything is written is none of the others
+loud : (n : ℕ) → IsQuiet n → (n ≡ done → ⊥) × (n ≡ cannot_write → ⊥) × (n ≡ out_of_memory → ⊥)
+loud n (inl is) = (λ e. omega (arith, is, e), λ e. omega (arith, is, e), λ e. omega (arith, is, e))
+loud n (inr (inl is)) = (λ e. omega (arith, is, e), λ e. omega (arith, is, e), λ e. omega (arith, is, e))
+loud n (inr (inr (inl is))) = (λ e. omega (arith, is, e), λ e. omega (arith, is, e), λ e. omega (arith, is, e))
+loud n (inr (inr (inr (inl is)))) = (λ e. omega (arith, is, e), λ e. omega (arith, is, e), λ e. omega (arith, is, e))
+loud n (inr (inr (inr (inr is)))) = (λ e. omega (arith, is, e), λ e. omega (arith, is, e), λ e. omega (arith, is, e))
+
 quiet-answer : (answer : Answer) (P : Type 0) → OnQuiet answer P → IsQuiet (status_of answer) → P
-quiet-answer a.Done P h quiet = absurd (search (cases quiet, arith))
+quiet-answer a.Done P h quiet = absurd ((loud done quiet).0 refl)
 quiet-answer a.Usage P h quiet = h
 quiet-answer (a.BadLine f) P h quiet = h
 quiet-answer (a.BadRecording offset) P h quiet = h
 quiet-answer (a.CannotRead f) P h quiet = h
-quiet-answer a.CannotWrite P h quiet = absurd (search (cases quiet, arith))
-quiet-answer a.OutOfMemory P h quiet = absurd (search (cases quiet, arith))
+quiet-answer a.CannotWrite P h quiet = absurd ((loud cannot_write quiet).1 refl)
+quiet-answer a.OutOfMemory P h quiet = absurd ((loud out_of_memory quiet).2 refl)
 quiet-answer (a.TooLong f) P h quiet = h
 
 -- nothing was taken with a status that comes before anything is written
@@ -246,7 +254,7 @@ line-performed asked task tells old new answer is told = rw is (record { is = re
 
 -- the status of words of no command
 pub status-usage : (asked : Option Task) (tells : Bool) (shelf : ShelfSeen) → asked ≡ None → IsStatusOf tells shelf asked usage
-status-usage asked tells shelf is = rw is (record { known = inr (inr (inr (inl refl))); of_none = (λ use. refl, λ none. refl); at = λ told. refl })
+status-usage asked tells shelf is = rw is (record { known = inr (inr (inr (inl refl))); of_none = (λ said. refl, λ none. refl); at = λ told. refl })
 
 -- they are of no text
 pub completes-usage : (asked : Option Task) (shelf shelf' : ShelfSeen) (out out' : SinkSeen) (n : ℕ) → asked ≡ None → HasText (outcome_of shelf asked)

@@ -25,6 +25,13 @@ pub record Leads (word : List ℕ) : Type 0 where
   pub digit : is_ascii_digit (get_or word 0 0) ≡ true
   pub not_zero : get_or word 0 0 ≢ 48
 
+pub leads : (word bytes : List ℕ) (first : ℕ) → bytes ≡ word → 0 < length bytes → first ≡ get_or bytes 0 0 → true ≡ is_ascii_digit first → (first ≡ 48 → ⊥) → Leads word
+leads word bytes first same some is digit other = subst Leads same (record {
+  some = some;
+  digit = ap is_ascii_digit (sym is) ∙ sym digit;
+  not_zero = λ zero. other (is ∙ zero);
+})
+
 digit-range : (b : ℕ) → is_ascii_digit b ≡ true → IsInRange 48 57 b
 digit-range b is = grind (arith, nat_tests)
 
@@ -50,7 +57,7 @@ no-plus word leads = let range = digit-range (get_or word 0 0) leads.digit in λ
 pub threads-read : {E : Type 0} (word : List ℕ) (r : Result ℕ E) (n : ℕ) → Leads word → ParsesUnsigned 32 10 word r → r ≡ Ok n → n ≤ MOST_THREADS
     → Some n ≡ threads_of word
 threads-read {E} word r n leads parsed is few =
-    let read = parse_plain own 32 word (Ok n) (subst (ParsesUnsigned {E} 32 10 word) is parsed) (no-plus word leads) in
+    let read = parse_plain own {E = E} 32 word (Ok n) (subst (ParsesUnsigned {E = E} 32 10 word) is parsed) (no-plus word leads) in
     let fits : digits_value 10 word ≤ MOST_THREADS = omega (arith, read.1, few) in
     let number : number_of MOST_THREADS word ≡ Some (digits_value 10 word) = a_number MOST_THREADS word (no-zero word leads) read.0.0 fits in
     sym (
@@ -59,11 +66,17 @@ threads-read {E} word r n leads parsed is few =
       ∙ ap Some (sym read.1)
     )
 
+-- what was read is one or more
+pub threads-some : {E : Type 0} (word : List ℕ) (r : Result ℕ E) (n : ℕ) → Leads word → ParsesUnsigned 32 10 word r → r ≡ Ok n → 0 < n
+threads-some {E} word r n leads parsed is =
+    let read = parse_plain own {E = E} 32 word (Ok n) (subst (ParsesUnsigned {E = E} 32 10 word) is parsed) (no-plus word leads) in
+    omega (arith, read.1, some-threads word leads)
+
 -- it was read, and is no number of threads
 pub threads-many : {E : Type 0} (word : List ℕ) (r : Result ℕ E) (n : ℕ) → Leads word → ParsesUnsigned 32 10 word r → r ≡ Ok n → MOST_THREADS < n
     → None ≡ threads_of word
 threads-many {E} word r n leads parsed is many =
-    let read = parse_plain own 32 word (Ok n) (subst (ParsesUnsigned {E} 32 10 word) is parsed) (no-plus word leads) in
+    let read = parse_plain own {E = E} 32 word (Ok n) (subst (ParsesUnsigned {E = E} 32 10 word) is parsed) (no-plus word leads) in
     sym (ap (option_and_then (λ m. if nat_le 1 m then Some m else None)) (too_large MOST_THREADS word (omega (arith, read.1, many))))
 
 unread : (word : List ℕ) (digits : Bool) → all_ascii_digits word ≡ digits → (digits ≡ true → MOST_THREADS < digits_value 10 word) → number_of MOST_THREADS word ≡ None
@@ -81,6 +94,6 @@ too-long word never some digits = over (digits_value 10 word) (λ fits. never (d
 pub threads-unread : {E : Type 0} (word : List ℕ) (r : Result ℕ E) (e : E) → Leads word → ParsesUnsigned 32 10 word r → r ≡ Err e
     → None ≡ threads_of word
 threads-unread {E} word r e leads parsed is =
-    let never = parse_plain own 32 word (Err e) (subst (ParsesUnsigned {E} 32 10 word) is parsed) (no-plus word leads) in
+    let never = parse_plain own {E = E} 32 word (Err e) (subst (ParsesUnsigned {E = E} 32 10 word) is parsed) (no-plus word leads) in
     sym (ap (option_and_then (λ m. if nat_le 1 m then Some m else None))
     (unread word (all_ascii_digits word) refl (λ digits. let over = too-long word never leads.some digits in omega (arith, over))))

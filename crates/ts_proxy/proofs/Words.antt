@@ -2,8 +2,9 @@
 use Rattle.std.proofs.Common.{◌≡◌, ◌≢◌, ◌≤◌, ◌<◌, ℕ, Bool, true, false, List, [], ◌∷◌, length, get_or, map, Option, Some, None, arith, refl, sym, ap, subst, ◌∙◌, codes, if◌then◌else◌}
 use Rattle.std.specs.Option.{option_map}
 use Rattle.std.specs.Str.{bytes_eq}
+use Rattle.std.specs.declared.string.String.{String}
 use Rattle.std.proofs.lemmas.Slice.Eq.{bytes_eq-Decides}
-use Rattle.ts_proxy.specs.Words.{Command, Transform, Replay, Task, begins_transform, command_named, task_at, task_of, threads_asked}
+use Rattle.ts_proxy.specs.Words.{Command, Transform, Replay, Task, asked, begins_transform, command_named, task_at, task_of, threads_asked}
 
 -- a list of three
 pub map-three : {X Y : Type 0} (f : X → Y) (xs : List X) (a b c : X) (u v w : Y) → 3 ≤ length xs → length xs < 4
@@ -62,3 +63,23 @@ pub asks-no-threads : (ws : List (List ℕ)) (word option number config recordin
     → ws ≡ word ∷ option ∷ number ∷ config ∷ recording ∷ [] → threads_asked word option number ≡ None → task_of ws ≡ None
 asks-no-threads ws word option number config recording is named =
     ap task_of is ∙ ap (option_map (λ threads. task_at Replay config recording)) named
+
+-- `transform` and `replay` alone take two words more
+pub asks-other : (ws : List (List ℕ)) (word config input : List ℕ) → ws ≡ word ∷ config ∷ input ∷ [] → begins_transform ws ≡ false
+    → bytes_eq word (codes "replay") ≡ false → task_of ws ≡ None
+asks-other ws word config input is first named =
+    let other : bytes_eq word (codes "transform") ≡ false = subst (λ l. begins_transform l ≡ false) is first in
+    ap task_of is
+    ∙ ap (λ b. option_map (λ command. task_at command config input)
+    (if b then Some Transform else if bytes_eq word (codes "replay") then Some Replay else None)) other
+    ∙ ap (λ b. option_map (λ command. task_at command config input) (if b then Some Replay else None)) named
+
+-- all commands take two words more, or four
+pub none_other : {A : Type 0} (words : List (String A)) → (length words ≡ 3 → ⊥) → (length words ≡ 5 → ⊥) → asked words ≡ None
+none_other [] three five = refl
+none_other (a ∷ []) three five = refl
+none_other (a ∷ b ∷ []) three five = refl
+none_other (a ∷ b ∷ c ∷ []) three five = absurd (three refl)
+none_other (a ∷ b ∷ c ∷ d ∷ []) three five = refl
+none_other (a ∷ b ∷ c ∷ d ∷ e ∷ []) three five = absurd (five refl)
+none_other (a ∷ b ∷ c ∷ d ∷ e ∷ f ∷ words) three five = refl

@@ -47,7 +47,8 @@ pub fn transform_task(words: &[String]) -> Option<TransformTask<'_>>
 
 // The number of threads that a word stands for.
 fn threads_of(word: &str) -> Option<u32>
-    ensures { result ≡ threads_of word.now }
+    ensures number { result ≡ threads_of word.now }
+    ensures range { IfSome result (λ n. (0 < n) × (n ≤ MOST_THREADS)) }
 {
     let first = word.as_bytes().first()?;
     if !first.is_ascii_digit() || *first == b'0' {
@@ -61,7 +62,8 @@ fn threads_of(word: &str) -> Option<u32>
 
 // The number of threads of words that begin with these three, if they are of `replay`.
 fn threads_asked(word: &str, option: &str, number: &str) -> Option<u32>
-    ensures { result ≡ threads_asked word.now option.now number.now }
+    ensures number { result ≡ threads_asked word.now option.now number.now }
+    ensures range { IfSome result (λ n. (0 < n) × (n ≤ MOST_THREADS)) }
 {
     if word == "replay" && option == "--threads" {
         threads_of(number)
@@ -72,6 +74,7 @@ fn threads_asked(word: &str, option: &str, number: &str) -> Option<u32>
 
 /// How `replay` is asked for, if words that don't begin with `transform` are of that command. It is asked for on one
 /// thread where they name no number.
+#[tactic(auto, using(crate::proofs::Words::none_other))]
 pub fn replay_task(words: &[String]) -> Option<ReplayTask<'_>>
     requires { begins_transform (word_bytes words.now) ≡ false }
     ensures task { MatchOption result (asked words.now ≡ None) (λ task. asked words.now ≡
@@ -79,11 +82,16 @@ pub fn replay_task(words: &[String]) -> Option<ReplayTask<'_>>
     ensures threads { IfSome result (λ task. (0 < task.threads) × (task.threads ≤ MOST_THREADS)) }
 {
     match words {
-        [word, config, recording] if word.as_str() == "replay" => Some(ReplayTask {
-            threads: 1,
-            config: config.as_str(),
-            recording: recording.as_str(),
-        }),
+        [word, config, recording] => {
+            if word.as_str() != "replay" {
+                return None;
+            }
+            Some(ReplayTask {
+                threads: 1,
+                config: config.as_str(),
+                recording: recording.as_str(),
+            })
+        }
         [word, option, number, config, recording] => Some(ReplayTask {
             threads: threads_asked(word.as_str(), option.as_str(), number.as_str())?,
             config: config.as_str(),

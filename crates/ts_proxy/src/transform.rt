@@ -71,8 +71,9 @@ pub fn transform<S: Shelf, K: Sink>(
         S.tells K.tells (S.seen shelf.old) (S.seen shelf.new) (K.seen out.old) (K.seen out.new)
         result.answer result.journals.items }
 {
-    match read_files(alloc, shelf, task.config, task.body) {
-        Ok(Files { lines, input }) => send_body(alloc, lines.as_slice(), input, out),
-        Err(answer) => Performed::without(alloc, answer),
-    }
+    let Files { lines, input } = match read_files(alloc, shelf, task.config, task.body) {
+        Ok(files) => files,
+        Err(answer) => return Performed::without(alloc, answer),
+    };
+    send_body(alloc, lines.as_slice(), input, out)
 }

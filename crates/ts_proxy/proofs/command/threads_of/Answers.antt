@@ -1,18 +1,27 @@
-use Rattle.std.proofs.Common.{arith, ap, sym, ◌∙◌, get_or, ◌≡◌}
+use Rattle.std.proofs.Common.{arith, ap, sym, subst, ◌∙◌, ◌≡◌, length, get_or, true}
 use Rattle.std.specs.Char.{is_ascii_digit}
-use Rattle.ts_proxy.proofs.Threads.{Leads, threads-read, threads-unread}
+use Rattle.ts_proxy.proofs.Threads.{Leads, leads, threads-read, threads-some, threads-unread}
 use Rattle.ts_proxy.proofs.command.threads_of.Goals as goal
 
-pub returns-in-Ok : goal.returns-in-Ok
-returns-in-Ok c =
-    let first = c.in_ok-first.ensures.value in
-    let item = c.in_ok-first.ensures.item in
+pub returns-in-Ok-clause-number : goal.returns-in-Ok-clause-number
+returns-in-Ok-clause-number c =
     threads-read c.args.word.now c.parse.result c.in-Ok.threads
-    (record { some = ?; digit = ?; not_zero = ? })
+    (leads c.args.word.now c.as_bytes.result.now c.in_ok-first.first.now c.as_bytes.ensures.value c.in_ok-first.ensures.item.3.0 (c.in_ok-first.ensures.item.3.1 0)
+    c.if-not-is_ascii_digit.ensures.value c.if-first-eq48.false)
     c.parse.ensures.value.0 c.in-Ok.is c.if-threads-le-MOST_THREADS.true
 
-pub returns-in_default-2 : goal.returns-in_default-2
-returns-in_default-2 c =
+pub returns-in-Ok-clause-range : goal.returns-in-Ok-clause-range
+returns-in-Ok-clause-range c = (
+  threads-some c.args.word.now c.parse.result c.in-Ok.threads
+      (leads c.args.word.now c.as_bytes.result.now c.in_ok-first.first.now c.as_bytes.ensures.value c.in_ok-first.ensures.item.3.0 (c.in_ok-first.ensures.item.3.1 0)
+      c.if-not-is_ascii_digit.ensures.value c.if-first-eq48.false)
+      c.parse.ensures.value.0 c.in-Ok.is,
+  c.if-threads-le-MOST_THREADS.true,
+)
+
+pub returns-in_default-2-clause-number : goal.returns-in_default-2-clause-number
+returns-in_default-2-clause-number c =
     threads-unread c.args.word.now c.parse.result c.in_default.field-0
-    (record { some = ?; digit = ?; not_zero = ? })
+    (leads c.args.word.now c.as_bytes.result.now c.in_ok-first.first.now c.as_bytes.ensures.value c.in_ok-first.ensures.item.3.0 (c.in_ok-first.ensures.item.3.1 0)
+    c.if-not-is_ascii_digit.ensures.value c.if-first-eq48.false)
     c.parse.ensures.value.0 c.in_default.is
