@@ -1,6 +1,7 @@
 -- From the parts of a task's work to what the task came to.
 use Rattle.std.specs.Prelude.{⊤, Err}
 use Rattle.std.proofs.Common.{◌≡◌, ℕ, ◌+◌, Bool, true, List, [], ◌∷◌, All, map, Some, inl, inr, refl, sym, subst}
+use Rattle.std.proofs.lemmas.List.{append-nil}
 use Rattle.std.proofs.lemmas.List.Elements.{All-nil, All-cons}
 use Rattle.ts_config.specs.declared.setup.Setup.{Setup}
 use Rattle.ts_config.specs.declared.setup.TransformLine.{TransformLine}
@@ -195,6 +196,10 @@ worked-lacking lines bytes r out_tells out out' js on told none = record {
   journals = none;
   each = tt;
 }
+
+-- nothing is a front of any text
+pub front-none : (out : SinkSeen) (text : List ℕ) → TookFront out out text
+front-none out text = record { took = []; left = text; grew = sym (append-nil out.taken); front = refl }
 
 -- a body was driven through the lines
 pub worked-driven : (lines : List TransformLine) (body : List ℕ) (out_tells : Bool) (out out' : SinkSeen) (js : List Log)

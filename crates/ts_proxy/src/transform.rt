@@ -52,12 +52,20 @@ fn send_body<K: Sink>(alloc: Global, lines: &[TransformLine], body: Octets, out:
         return Performed::without(alloc, Answer::OutOfMemory);
     };
     let mut journals = Vec::new(alloc);
-    let answer = match drive(alloc, world, out, &mut journals) {
-        Driven::Done => Answer::Done,
-        Driven::Failed => Answer::CannotWrite,
-        Driven::NoMemory => Answer::OutOfMemory,
-    };
-    Performed { answer, journals }
+    match drive(alloc, world, out, &mut journals) {
+        Driven::Done => Performed {
+            answer: Answer::Done,
+            journals,
+        },
+        Driven::Failed => Performed {
+            answer: Answer::CannotWrite,
+            journals,
+        },
+        Driven::NoMemory => Performed {
+            answer: Answer::OutOfMemory,
+            journals,
+        },
+    }
 }
 
 /// Writes a body through the lines of a configuration, both of which the shelf has under these names.
