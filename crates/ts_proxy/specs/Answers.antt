@@ -65,9 +65,10 @@ abbrev pub IsNamedBy : TransformLine → NamedFile → Type 0
 IsNamedBy line (file.Appended name) = (text : List ℕ) × (line ≡ t.Append name text)
 IsNamedBy line _ = ⊥
 
--- the work on these lines comes to a file: a line names it, and the files of all lines before that one are there within
--- their limit
-pub record ComesTo (files : List ℕ → Option (List ℕ)) (lines : List TransformLine) (f : NamedFile) : Type 0 where
+-- the work on these lines comes to a file: a line names it, and the files of all lines before that one are
+-- there within their limit
+pub record ComesTo (files : List ℕ → Option (List ℕ)) (lines : List TransformLine) (f : NamedFile)
+    : Type 0 where
   pub before : List TransformLine
   pub line : TransformLine
   pub after : List TransformLine
@@ -75,13 +76,14 @@ pub record ComesTo (files : List ℕ → Option (List ℕ)) (lines : List Transf
   pub names : IsNamedBy line f
   pub read : HasText (filled files before (λ ls. Text []))
 
--- the configuration is there within its limit and has no faulty line, and the work on its lines comes to a file
+-- the configuration is there within its limit and has no faulty line, and the work on its lines comes to a
+-- file
 abbrev pub IsReadFor : (List ℕ → Option (List ℕ)) → List ℕ → NamedFile → Type 0
 IsReadFor files config f = IsSomeAnd (files config) (λ bytes. (length bytes ≤ most_config)
     × (lines : List TransformLine) × (config_of bytes ≡ Good lines) × ComesTo files lines f)
 
--- the file whose read failed is one that the work comes to: the configuration; a file that one of its lines names; and
--- the input, once all the others were read
+-- the file whose read failed is one that the work comes to: the configuration; a file that one of its lines
+-- names; and the input, once all the others were read
 abbrev pub IsReadBy : ShelfSeen → List ℕ → NamedFile → Type 0
 IsReadBy shelf config file.Config = ⊤
 IsReadBy shelf config file.Input = HasText (set_up shelf.file config (λ lines. Text []))
@@ -123,8 +125,8 @@ IsOfRunning bytes (a.BadRecording offset) = IsRefusedAt bytes offset
 IsOfRunning bytes a.OutOfMemory = ⊤
 IsOfRunning bytes _ = ⊥
 
--- the count that shows the cause of an answer: of the shelf's faults, of its files that were too long, or of the
--- sink's faults
+-- the count that shows the cause of an answer: of the shelf's faults, of its files that were too long, or of
+-- the sink's faults
 abbrev pub IsCausedBy : Answer → ShelfSeen → ShelfSeen → SinkSeen → SinkSeen → Type 0
 IsCausedBy a.Usage shelf shelf' out out' = ⊥
 IsCausedBy (a.CannotRead f) shelf shelf' out out' = Rose shelf.faults shelf'.faults
@@ -132,16 +134,16 @@ IsCausedBy a.CannotWrite shelf shelf' out out' = Rose out.faults out'.faults
 IsCausedBy (a.TooLong f) shelf shelf' out out' = Rose shelf.longs shelf'.longs
 IsCausedBy _ shelf shelf' out out' = ⊤
 
--- what a sink took of a text: all of it where the job was done, a front of it where writing failed or memory lacked, and
--- nothing with an answer that comes before anything is written
+-- what a sink took of a text: all of it where the job was done, a front of it where writing failed or memory
+-- lacked, and nothing with an answer that comes before anything is written
 abbrev pub TookText : Answer → SinkSeen → SinkSeen → List ℕ → Type 0
 TookText a.Done old new text = TookAll old new text
 TookText a.CannotWrite old new text = TookFront old new text
 TookText a.OutOfMemory old new text = TookFront old new text
 TookText _ old new text = TookNothing old new
 
--- what a sink took of the text of an outcome: all of it where the job was done, a front of it or nothing where writing
--- failed or memory lacked, and nothing with an answer that comes before anything is written
+-- what a sink took of the text of an outcome: all of it where the job was done, a front of it or nothing
+-- where writing failed or memory lacked, and nothing with an answer that comes before anything is written
 abbrev pub TookAt : Answer → SinkSeen → SinkSeen → Outcome → Type 0
 TookAt a.Done old new o = TookWhole (IsTextOf o) old new
 TookAt a.CannotWrite old new o = TookSome (IsTextOf o) old new

@@ -57,8 +57,8 @@ IsQuiet n = (n ≡ usage) ⊎ (n ≡ bad_line) ⊎ (n ≡ bad_recording) ⊎ (n 
 abbrev pub IsStatus : ℕ → Type 0
 IsStatus n = (n ≡ done) ⊎ (n ≡ cannot_write) ⊎ (n ≡ out_of_memory) ⊎ IsQuiet n
 
--- the statuses at an outcome: its own, and those of a failed read, of want of memory and, where there is a text to
--- write, of a failed write; that of a bad recording exactly where the bytes are none
+-- the statuses at an outcome: its own, and those of a failed read, of want of memory and, where there is a
+-- text to write, of a failed write; that of a bad recording exactly where the bytes are none
 abbrev pub EndsAt : Outcome → ℕ → Type 0
 EndsAt Usage n = n ≡ usage
 EndsAt (BadLine line kind) n = (n ≡ bad_line) ⊎ (n ≡ cannot_read) ⊎ (n ≡ out_of_memory)
@@ -69,16 +69,16 @@ EndsAt (Report lines bytes) n =
     (((n ≡ done) ⊎ (n ≡ cannot_write)) × HasRecording bytes)
     ⊎ ((n ≡ bad_recording) × (HasRecording bytes → ⊥)) ⊎ (n ≡ cannot_read) ⊎ (n ≡ out_of_memory)
 
--- A status that a task may end with over a shelf that tells its files or not. That of usage comes exactly where the words
--- are of no command; each outcome has its own, which comes there alone and always, unless a read failed, memory lacked
--- or, where there is a text, a write failed.
+-- A status that a task may end with over a shelf that tells its files or not. That of usage comes exactly
+-- where the words are of no command; each outcome has its own, which comes there alone and always, unless a
+-- read failed, memory lacked or, where there is a text, a write failed.
 pub record IsStatusOf (tells : Bool) (shelf : ShelfSeen) (task : Option Task) (n : ℕ) : Type 0 where
   pub known : IsStatus n
   pub of_none : (n ≡ usage) ↔ (task ≡ None)
   pub at : tells ≡ true → EndsAt (outcome_of shelf task) n
 
--- A failure is one of the shelf or of the sink that was handed in: a status of a failure comes only where its count
--- rose.
+-- A failure is one of the shelf or of the sink that was handed in: a status of a failure comes only where its
+-- count rose.
 pub record HasCause (n : ℕ) (shelf shelf' : ShelfSeen) (out out' : SinkSeen) : Type 0 where
   pub read : n ≡ cannot_read → Rose shelf.faults shelf'.faults
   pub long : n ≡ too_long → Rose shelf.longs shelf'.longs
@@ -87,16 +87,18 @@ pub record HasCause (n : ℕ) (shelf shelf' : ShelfSeen) (out out' : SinkSeen) :
 -- neither a read nor a write failed, so the job is done, unless memory lacked
 abbrev pub Completes : ℕ → ShelfSeen → ShelfSeen → SinkSeen → SinkSeen → Type 0
 Completes n shelf shelf' out out' =
-    (Rose shelf.faults shelf'.faults → ⊥) → (Rose out.faults out'.faults → ⊥) → (n ≡ done) ⊎ (n ≡ out_of_memory)
+    (Rose shelf.faults shelf'.faults → ⊥) → (Rose out.faults out'.faults → ⊥)
+    → (n ≡ done) ⊎ (n ≡ out_of_memory)
 
 -- what the sink took at an outcome: nothing, or a front of its text, and where the job was done all of it
 pub record TakesAt (o : Outcome) (n : ℕ) (old new : SinkSeen) : Type 0 where
   pub some : TookSome (IsTextOf o) old new
   pub whole : n ≡ done → TookWhole (IsTextOf o) old new
 
--- The journals of a task at a status: those of its job where it was done, and else none. Over a shelf that tells its
--- files, they are those of its outcome.
-pub record JournalsAt (tells : Bool) (shelf : ShelfSeen) (task : Option Task) (n : ℕ) (js : List Log) : Type 0 where
+-- The journals of a task at a status: those of its job where it was done, and else none. Over a shelf that
+-- tells its files, they are those of its outcome.
+pub record JournalsAt (tells : Bool) (shelf : ShelfSeen) (task : Option Task) (n : ℕ) (js : List Log)
+    : Type 0 where
   pub job : n ≡ done → IsSomeAnd task (λ t. AreJournalsOf t.command js)
   pub each : tells ≡ true → n ≡ done → AreJournalsAt (outcome_of shelf task) js
   pub none : n ≢ done → js ≡ []

@@ -31,8 +31,10 @@ parts_of config input a.Done = []
 parts_of config input a.Usage = usage_line ∷ []
 parts_of config input (a.BadLine f) =
     codes "tsx: configuration line " ∷ decimal f.line ∷ codes ": " ∷ kind_text f.kind ∷ codes "\n" ∷ []
-parts_of config input (a.BadRecording offset) = codes "tsx: recording offset " ∷ decimal offset ∷ codes "\n" ∷ []
-parts_of config input (a.CannotRead f) = codes "tsx: cannot read " ∷ file_name config input f ∷ codes "\n" ∷ []
+parts_of config input (a.BadRecording offset) =
+    codes "tsx: recording offset " ∷ decimal offset ∷ codes "\n" ∷ []
+parts_of config input (a.CannotRead f) =
+    codes "tsx: cannot read " ∷ file_name config input f ∷ codes "\n" ∷ []
 parts_of config input a.CannotWrite = codes "tsx: cannot write\n" ∷ []
 parts_of config input a.OutOfMemory = codes "tsx: out of memory\n" ∷ []
 parts_of config input (a.TooLong f) = codes "tsx: too long: " ∷ file_name config input f ∷ codes "\n" ∷ []
@@ -46,13 +48,14 @@ pub record LineTold (old new : SinkSeen) (line : List ℕ) : Type 0 where
   pub front : TookFront old new line
   pub whole : TookAll old new line ⊎ Rose old.faults new.faults ⊎ Rose old.lacks new.lacks
 
--- An answer to a task, over a shelf that tells its files or not: it comes at the outcome, and after a failed read it
--- names a file that the work comes to.
+-- An answer to a task, over a shelf that tells its files or not: it comes at the outcome, and after a failed
+-- read it names a file that the work comes to.
 pub record IsAnswerOf (tells : Bool) (shelf : ShelfSeen) (task : Option Task) (answer : Answer) : Type 0 where
   pub comes : tells ≡ true → ComesAt (config_name task) (input_name task) answer (outcome_of shelf task)
   pub named : tells ≡ true → OnCannotRead answer (IsReadBy shelf (config_name task))
 
 -- an answer has this status, and its line was told to a sink that tells what it took or not
-pub record SaysLine (tells : Bool) (old new : SinkSeen) (task : Option Task) (n : ℕ) (answer : Answer) : Type 0 where
+pub record SaysLine (tells : Bool) (old new : SinkSeen) (task : Option Task) (n : ℕ) (answer : Answer)
+    : Type 0 where
   pub is : n ≡ status_of answer
   pub told : tells ≡ true → LineTold old new (line_of (config_name task) (input_name task) answer)

@@ -1,5 +1,5 @@
--- What a command comes to if nothing fails: a function of its words and of the files. It is the first trouble in the
--- order of the work, or the text that is written.
+-- What a command comes to if nothing fails: a function of its words and of the files. It is the first trouble
+-- in the order of the work, or the text that is written.
 use Rattle.std.specs.Prelude.{ℕ, nat_le, List, [], ◌∷◌, length, Option, Some, None, if◌then◌else◌}
 use Rattle.ts_link.specs.Seen.{ShelfSeen}
 use Rattle.ts_config.specs.declared.setup.TransformLine.{TransformLine}
@@ -21,9 +21,9 @@ most_append = 16384
 abbrev pub most_input : ℕ
 most_input = 67108864
 
--- the words are of no command; the configuration's line of this number breaks this rule; the file of this name is not
--- there, or longer than its limit; this text is written; the report is written on the recording in these bytes, under
--- these lines, if they are one
+-- the words are of no command; the configuration's line of this number breaks this rule; the file of this
+-- name is not there, or longer than its limit; this text is written; the report is written on the recording
+-- in these bytes, under these lines, if they are one
 pub data Outcome : Type 0 where
   Usage : Outcome
   BadLine : ℕ → ConfigKind → Outcome
@@ -57,8 +57,8 @@ abbrev pub set_up : (List ℕ → Option (List ℕ)) → List ℕ → (List Tran
 set_up files config next =
     opened (files config) most_config config (λ bytes. understood (config_of bytes) (λ ls. filled files ls next))
 
--- what a command makes of the lines and its input: `transform` passes a body through the lines, and `replay` runs a
--- recording under them
+-- what a command makes of the lines and its input: `transform` passes a body through the lines, and `replay`
+-- runs a recording under them
 abbrev pub worked : Command → List TransformLine → List ℕ → Outcome
 worked Transform lines input = Text (compose_lines lines input)
 worked Replay lines input = Report lines input

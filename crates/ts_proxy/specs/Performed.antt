@@ -14,7 +14,8 @@ use Rattle.ts_record.specs.Grammar.{TxnPieces, IsRecording}
 use Rattle.ts_replay.specs.Replayed.{IsFinal, IsReplayed}
 use Rattle.ts_replay.specs.declared.report.Replayed.{Replayed}
 
--- the journals of a job that was done: that of the serial driver of a body, or those of the transactions of a recording
+-- the journals of a job that was done: that of the serial driver of a body, or those of the transactions of a
+-- recording
 abbrev pub AreJournalsOf : Command → List Log → Type 0
 AreJournalsOf Transform js = (j : Log) × (js ≡ j ∷ []) × IsOfDriver j
 AreJournalsOf Replay js = All IsFinal js
@@ -40,8 +41,8 @@ abbrev pub LeavesJournalsAt : Answer → Outcome → List Log → Type 0
 LeavesJournalsAt a.Done o js = AreJournalsAt o js
 LeavesJournalsAt _ o js = ⊤
 
--- What the part of a command that comes after reading answers and leaves, of these lines and this input: it comes at
--- their outcome, and out took what it is to take. A failed write was one of out.
+-- What the part of a command that comes after reading answers and leaves, of these lines and this input: it
+-- comes at their outcome, and out took what it is to take. A failed write was one of out.
 pub record IsWorked (command : Command) (lines : List TransformLine) (input : List ℕ) (out_tells : Bool)
     (out out' : SinkSeen) (answer : Answer) (js : List Log) : Type 0 where
   pub comes : (config name : List ℕ) → ComesAt config name answer (worked command lines input)

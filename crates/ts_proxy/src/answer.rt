@@ -22,7 +22,8 @@ pub enum Answer {
     Done,
     Usage,
     BadLine(ConfigFault),
-    /// The input is no recording; the longest of its fronts that some recording begins with has this length in bytes.
+    /// The input is no recording; the longest of its fronts that some recording begins with has this length
+    /// in bytes.
     BadRecording { offset: u64 },
     CannotRead(NamedFile),
     CannotWrite,

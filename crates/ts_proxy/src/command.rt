@@ -1,4 +1,5 @@
-//! What the words after the program's name ask for: the command, its files by name, and the number of threads.
+//! What the words after the program's name ask for: the command, its files by name, and the number of
+//! threads.
 ghost use Rattle.std.specs.Prelude.{◌≡◌, ◌≤◌, ◌<◌, None, Some, true, false, IfSome, MatchOption};
 ghost use Rattle.ts_proxy.specs.Words.{Replay, Transform, asked, begins_transform, task_at, threads_asked, threads_of, word_bytes};
 ghost use Rattle.ts_thread.specs.declared.TheConstants.{MOST_THREADS};
@@ -72,8 +73,8 @@ fn threads_asked(word: &str, option: &str, number: &str) -> Option<u32>
     }
 }
 
-/// How `replay` is asked for, if words that don't begin with `transform` are of that command. It is asked for on one
-/// thread where they name no number.
+/// How `replay` is asked for, if words that don't begin with `transform` are of that command. It is asked for
+/// on one thread where they name no number.
 #[tactic(auto, using(crate::proofs::Words::none_other))]
 pub fn replay_task(words: &[String]) -> Option<ReplayTask<'_>>
     requires { begins_transform (word_bytes words.now) ≡ false }

@@ -1,4 +1,5 @@
-//! The proxy's top call: all that the program does, over the files, the sinks and the gate that are handed in.
+//! The proxy's top call: all that the program does, over the files, the sinks and the gate that are handed
+//! in.
 #![tactic(auto)]
 
 mod answer;

@@ -1,5 +1,5 @@
-//! The files of a command are read in the order of the work: the configuration, the files of its append lines, and then
-//! the body or the recording.
+//! The files of a command are read in the order of the work: the configuration, the files of its append
+//! lines, and then the body or the recording.
 ghost use Rattle.std.specs.Prelude.{◌≡◌, ◌∷◌, ◌++◌, ◌≤◌, [], List, ℕ, length, true, All, IfOk, IfErr, OnOk};
 ghost use Rattle.std.specs.Str.{IsUtf8};
 ghost use Rattle.ts_config.specs.Bytes.{most_transforms};
@@ -24,8 +24,8 @@ const MOST_TEXT: u64 = 16_384;
 
 const MOST_INPUT: u64 = 67_108_864;
 
-/// What the files of a command hold: the lines of its configuration, with the texts of the files that they name, and the
-/// bytes of its body or recording.
+/// What the files of a command hold: the lines of its configuration, with the texts of the files that they
+/// name, and the bytes of its body or recording.
 #[derive(Drop)]
 pub struct Files {
     pub lines: Vec<TransformLine>,

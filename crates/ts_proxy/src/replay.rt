@@ -1,4 +1,5 @@
-//! The command `replay`: the transactions of a recording are run on event threads, and the report on them is written.
+//! The command `replay`: the transactions of a recording are run on event threads, and the report on them is
+//! written.
 ghost use Rattle.std.specs.Prelude.{◌<◌, ◌≤◌, ℕ, List, length, IfErr, IfOk};
 ghost use Rattle.ts_config.specs.Bytes.{most_transforms};
 ghost use Rattle.ts_config.specs.declared.setup.TransformLine.{TransformLine};
@@ -32,8 +33,8 @@ fn read_txns(alloc: Global, bytes: Octets) -> Result<Vec<RecordedTxn>, Answer>
     }
 }
 
-// Runs the transactions of the recording in these bytes under the lines. Where a group had all the turns that it gets, it
-// answers as where memory lacks.
+// Runs the transactions of the recording in these bytes under the lines. Where a group had all the turns that
+// it gets, it answers as where memory lacks.
 fn run_txns<G: Gate + Sync, R: Threads + Wait + Sync>(
     rt: &R,
     alloc: Global,
@@ -74,8 +75,8 @@ fn send_report<K: Sink>(alloc: Global, replayed: Replayed, out: &mut K) -> Perfo
     }
 }
 
-/// Runs a recording under the lines of a configuration, both of which the shelf has under these names, on so many event
-/// threads, which pass the gate, and writes the report.
+/// Runs a recording under the lines of a configuration, both of which the shelf has under these names, on so
+/// many event threads, which pass the gate, and writes the report.
 pub fn replay<S: Shelf, K: Sink, G: Gate + Sync, R: Threads + Wait + Sync>(
     rt: &R,
     alloc: Global,

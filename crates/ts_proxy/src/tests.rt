@@ -15,7 +15,8 @@ const CANNOT_WRITE: &[u8] = b"tsx: cannot write\n";
 
 const TRANSFORM: &[&str] = &["transform", "c", "b"];
 
-// How the sinks behave: out takes so many bytes a call, and the write calls of these numbers fail, counted from 1, or 0.
+// How the sinks behave: out takes so many bytes a call, and the write calls of these numbers fail, counted
+// from 1, or 0.
 #[derive(Clone, Copy)]
 struct Sinks {
     take: usize,
@@ -29,7 +30,8 @@ const FINE: Sinks = Sinks {
     untold: 0,
 };
 
-// What a command left: its status, what out and err took, and the turns and handled events of each journal at rest.
+// What a command left: its status, what out and err took, and the turns and handled events of each journal at
+// rest.
 #[derive(Drop)]
 struct Left {
     status: u8,
@@ -113,7 +115,8 @@ fn refuses<R: Abort + AllocGlobal + Threads + Wait + Sync>(rt: &R, config: &[u8]
     check(rt, &left, 3, b"", line)
 }
 
-// How a body of `abc` with an append of `XY` ends, where the read of this number fails, counted from 1, or none.
+// How a body of `abc` with an append of `XY` ends, where the read of this number fails, counted from 1, or
+// none.
 fn appends<R: Abort + AllocGlobal + Threads + Wait + Sync>(
     rt: &R,
     words: &[&str],
@@ -296,8 +299,8 @@ fn limits(rt: HostRuntime) -> Result<(), Fail> {
     )
 }
 
-// Of two stages and 40,000 bytes the driver begins, then each stage moves two pieces and ends, and in the last turn the
-// first stage is told too that its output was written.
+// Of two stages and 40,000 bytes the driver begins, then each stage moves two pieces and ends, and in the
+// last turn the first stage is told too that its output was written.
 #[test]
 fn long_bodies(rt: HostRuntime) -> Result<(), Fail> {
     assert_eq!(rt; nulls(&rt, 1, 65_537, 1)?.status, 0);

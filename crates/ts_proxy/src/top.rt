@@ -19,10 +19,11 @@ use std::thread::Threads;
 use ts_journal::Journal;
 use ts_link::{Gate, Shelf, Sink};
 
-/// How the program ended: 0 the job was done; 2 the words are of no command; 3 a line of the configuration is not in
-/// the grammar; 4 the input is no recording; 5 a file could not be read; 6 the output could not be written; 7 memory was
-/// lacking, or the group of a recorded transaction had all the turns that it gets, which takes years; 9 a file is longer
-/// than its limit. With status 0 there are the journals of the groups that did the job, with another none.
+/// How the program ended: 0 the job was done; 2 the words are of no command; 3 a line of the configuration is
+/// not in the grammar; 4 the input is no recording; 5 a file could not be read; 6 the output could not be
+/// written; 7 memory was lacking, or the group of a recorded transaction had all the turns that it gets,
+/// which takes years; 9 a file is longer than its limit. With status 0 there are the journals of the groups
+/// that did the job, with another none.
 #[derive(Drop)]
 pub struct Ended {
     pub status: u8,
@@ -58,11 +59,13 @@ fn end<E: Sink>(err: &mut E, performed: Performed, config: &str, input: &str) ->
     }
 }
 
-/// Runs the command that the words name, which are those after the program's name: it reads from the shelf, writes to
-/// `out`, and says on `err` in one line why it did not end with status 0. Where it runs event threads, they pass the gate.
+/// Runs the command that the words name, which are those after the program's name: it reads from the shelf,
+/// writes to `out`, and says on `err` in one line why it did not end with status 0. Where it runs event
+/// threads, they pass the gate.
 ///
-/// What it comes to is a function of what the words ask for and the files, the outcome, in which the number of threads
-/// does not stand. Each clause on content holds where the shelf tells its files and the sink tells what it took.
+/// What it comes to is a function of what the words ask for and the files, the outcome, in which the number
+/// of threads does not stand. Each clause on content holds where the shelf tells its files and the sink tells
+/// what it took.
 pub fn run<S: Shelf, K: Sink, E: Sink, G: Gate + Sync, R: Threads + Wait + Sync>(
     rt: &R,
     alloc: Global,
@@ -72,8 +75,9 @@ pub fn run<S: Shelf, K: Sink, E: Sink, G: Gate + Sync, R: Threads + Wait + Sync>
     err: &mut E,
     gate: &G,
 ) -> Ended
-    // The status of usage comes exactly where the words are of no command. Each outcome has its own status, which comes
-    // there alone and always, unless a read failed, memory lacked or, where there is a text, a write failed.
+    // The status of usage comes exactly where the words are of no command. Each outcome has its own status,
+    // which comes there alone and always, unless a read failed, memory lacked or, where there is a text, a
+    // write failed.
     ensures status { IsStatusOf S.tells (S.seen shelf.old) (asked words.now) result.status }
 
     // A failure is one of the shelf or the sink that was handed in.
@@ -84,18 +88,20 @@ pub fn run<S: Shelf, K: Sink, E: Sink, G: Gate + Sync, R: Threads + Wait + Sync>
     ensures completes { S.tells ≡ true → HasText (outcome_of (S.seen shelf.old) (asked words.now)) →
         Completes result.status (S.seen shelf.old) (S.seen shelf.new) (K.seen out.old) (K.seen out.new) }
 
-    // What out took: with status 0 the whole text, else a front of it, and nothing where there is no such text.
-    ensures takes { S.tells ≡ true → K.tells ≡ true → TakesAt (outcome_of (S.seen shelf.old) (asked words.now))
-        result.status (K.seen out.old) (K.seen out.new) }
+    // What out took: with status 0 the whole text, else a front of it, and nothing where there is none.
+    ensures takes { S.tells ≡ true → K.tells ≡ true →
+        TakesAt (outcome_of (S.seen shelf.old) (asked words.now)) result.status
+        (K.seen out.old) (K.seen out.new) }
     ensures quiet { K.tells ≡ true → IsQuiet result.status → TookNothing (K.seen out.old) (K.seen out.new) }
 
-    // With status 0 the journal of the group of `transform`, which is that of a serial driver, or those of the groups of
-    // the recorded transactions, in their order. Each is lawful and not held, with nothing pending.
+    // With status 0 the journal of the group of `transform`, which is that of a serial driver, or those of
+    // the groups of the recorded transactions, in their order. Each is lawful and not held, with nothing
+    // pending.
     ensures journals { JournalsAt S.tells (S.seen shelf.old) (asked words.now)
         result.status result.journals.items }
 
-    // What err took: the line of an answer that has this status, and that comes at the outcome. After a failed read it
-    // names a file that the work came to.
+    // What err took: the line of an answer that has this status, and that comes at the outcome. After a
+    // failed read it names a file that the work came to.
     ensures line { (answer : Answer) × IsAnswerOf S.tells (S.seen shelf.old) (asked words.now) answer
         × SaysLine E.tells (E.seen err.old) (E.seen err.new) (asked words.now) result.status answer }
 {
@@ -124,8 +130,9 @@ pub fn run_transform<S: Shelf, K: Sink, E: Sink>(
         (S.seen shelf.old) (S.seen shelf.new) (K.seen out.old) (K.seen out.new) }
     ensures completes { S.tells ≡ true → HasText (outcome_of (S.seen shelf.old) (asked words.now)) →
         Completes result.status (S.seen shelf.old) (S.seen shelf.new) (K.seen out.old) (K.seen out.new) }
-    ensures takes { S.tells ≡ true → K.tells ≡ true → TakesAt (outcome_of (S.seen shelf.old) (asked words.now))
-        result.status (K.seen out.old) (K.seen out.new) }
+    ensures takes { S.tells ≡ true → K.tells ≡ true →
+        TakesAt (outcome_of (S.seen shelf.old) (asked words.now)) result.status
+        (K.seen out.old) (K.seen out.new) }
     ensures quiet { K.tells ≡ true → IsQuiet result.status → TookNothing (K.seen out.old) (K.seen out.new) }
     ensures journals { JournalsAt S.tells (S.seen shelf.old) (asked words.now)
         result.status result.journals.items }
