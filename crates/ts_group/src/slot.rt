@@ -29,11 +29,11 @@ impl<W: World> Slotted for Group<W> {
 
     ghost trace = { λ g. g };
 
-    ghost follows = { λ t u. StandsAfter t u };
+    ghost follows = { λ t u. StandsAfter W.fits t u };
 
-    ghost follows_itself = { λ t. stands_itself t };
+    ghost follows_itself = { λ t. stands_itself W.fits t };
 
-    ghost follows_on = { λ t u v a b. stands_on t u v a b };
+    ghost follows_on = { λ t u v a b. stands_on W.fits t u v a b };
 }
 
 impl<W: World + Drop> Group<W> {

@@ -22,7 +22,7 @@ fn record<W: World + Drop>(
     requires later { group.old.cx.log.state.turns < turn }
     ensures ok { OnOk result (Records group.old group.new turn seat) }
     ensures sound { Holds W.sound group.old → Holds W.sound group.new }
-    ensures stands { StandsAfter group.new group.old }
+    ensures stands { StandsAfter W.fits group.new group.old }
     ensures err { OnErr result (IsSame group.old.cx group.new.cx × (group.new.world ≡ group.old.world)) }
 {
     group.known();

@@ -1,6 +1,7 @@
 pub mod Fails
 pub mod Growing
 pub mod Keywords
+pub mod Links
 pub mod Numbers
 pub mod PieceTexts
 pub mod Places

@@ -1,5 +1,6 @@
 pub mod Grammar
 pub mod Keywords
+pub mod Links
 pub mod Offsets
 pub mod Printing
 pub mod Refusing

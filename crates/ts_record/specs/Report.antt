@@ -1,5 +1,5 @@
 -- The report on a recording, block by block.
-use Rattle.std.specs.Prelude.{ℕ, List, [], ◌∷◌, ◌++◌, codes, length, ⊤}
+use Rattle.std.specs.Prelude.{ℕ, ◌+◌, List, [], ◌∷◌, ◌++◌, codes, length, ⊤}
 use Rattle.std.specs.Fmt.{decimal}
 use Rattle.ts_hooks.specs.declared.txn_end.TxnEnd.{TxnEnd}
 use Rattle.ts_hooks.specs.declared.txn_end.TxnEnd.TheVariants as e
@@ -37,3 +37,19 @@ block_text number block =
     ++ codes "end " ++ end_word block.end ++ line_feed ∷ []
     ++ sized_text (codes "head ") block.head
     ++ body_text block.end block.content
+
+-- the first line of a report, with its version, and the last one
+abbrev pub report_begin : List ℕ
+report_begin = codes "tsx-report 1\n"
+
+abbrev pub report_end : List ℕ
+report_end = codes "done\n"
+
+-- the lines on transactions, of which the first has this number
+abbrev pub blocks_text : ℕ → List Block → List ℕ
+blocks_text number [] = []
+blocks_text number (b ∷ bs) = block_text number b ++ blocks_text (number + 1) bs
+
+-- the report on transactions that came to these blocks, in their order
+abbrev pub report_text : List Block → List ℕ
+report_text blocks = report_begin ++ blocks_text 1 blocks ++ report_end

@@ -3,6 +3,7 @@
 #![tactic(auto)]
 
 mod keyword;
+mod link;
 mod piece;
 mod pieces;
 mod print;
@@ -10,10 +11,11 @@ mod read;
 mod recording;
 mod report;
 
+pub use link::RecordedLink;
 pub use print::print_recording;
 pub use read::read_recording;
 pub use recording::{MOST_PIECE, MOST_TXNS, RecordedTxn, Recording, RecordingRefusal};
-pub use report::{Block, report_block};
+pub use report::{Block, REPORT_BEGIN, REPORT_END, add_block, report_block};
 
 #[cfg(test)]
 mod tests;

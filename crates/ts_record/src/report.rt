@@ -7,6 +7,12 @@ use std::alloc::Global;
 use ts_hooks::TxnEnd;
 use ts_link::{NoMemory, Octets};
 
+/// The first line of a report, with its version.
+pub const REPORT_BEGIN: &[u8] = b"tsx-report 1\n";
+
+/// The last line of a report.
+pub const REPORT_END: &[u8] = b"done\n";
+
 /// What a transaction came to.
 #[derive(Drop)]
 pub struct Block {
@@ -45,23 +51,33 @@ fn print_sized(out: &mut Vec<u8>, name: &[u8], bytes: &[u8]) -> Result<(), NoMem
     Ok(())
 }
 
-/// The lines of a report on the transaction of this number, counted from 1. Only a whole answer has lines for its
-/// body.
+/// Adds the lines on the transaction of this number, counted from 1, to a report. Only a whole answer has lines for
+/// its body.
+pub fn add_block(out: &mut Vec<u8>, number: u64, block: &Block) -> Result<(), NoMemory>
+    requires { IsReported block.now.end }
+    ensures { OnOk result (out.new.items ≡ out.old.items ++ block_text number block.now) }
+{
+    let mut digits = Buffer::new();
+    out.extend_from_slice(b"txn ")?;
+    out.extend_from_slice(digits.format(number).as_bytes())?;
+    out.push(b'\n')?;
+    print_sized(out, b"request ", block.request.bytes())?;
+    out.extend_from_slice(b"end ")?;
+    out.extend_from_slice(end_word(block.end))?;
+    out.push(b'\n')?;
+    print_sized(out, b"head ", block.head.bytes())?;
+    if block.end == TxnEnd::Whole {
+        print_sized(out, b"body ", block.content.bytes())?;
+    }
+    Ok(())
+}
+
+/// The lines of a report on the transaction of this number, counted from 1.
 pub fn report_block(alloc: Global, number: u64, block: &Block) -> Result<Octets, NoMemory>
     requires { IsReported block.now.end }
     ensures { IfOk result (λ o. o ≡ block_text number block.now) }
 {
-    let mut digits = Buffer::new();
-    let mut out = Vec::from_slice(alloc, b"txn ")?;
-    out.extend_from_slice(digits.format(number).as_bytes())?;
-    out.push(b'\n')?;
-    print_sized(&mut out, b"request ", block.request.bytes())?;
-    out.extend_from_slice(b"end ")?;
-    out.extend_from_slice(end_word(block.end))?;
-    out.push(b'\n')?;
-    print_sized(&mut out, b"head ", block.head.bytes())?;
-    if block.end == TxnEnd::Whole {
-        print_sized(&mut out, b"body ", block.content.bytes())?;
-    }
+    let mut out = Vec::new(alloc);
+    add_block(&mut out, number, block)?;
     Ok(Octets::of_vec(out))
 }

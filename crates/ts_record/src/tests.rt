@@ -1,11 +1,15 @@
-//! Recordings that are read, refused at their offsets and printed, and the lines of a report.
+//! Recordings that are read, refused at their offsets and printed, their sides as links, and the lines of a report.
 ghost use Rattle.ts_record.specs.Report.{IsReported};
 
-use crate::{Block, RecordingRefusal, print_recording, read_recording, report_block};
+use crate::{
+    Block, REPORT_BEGIN, REPORT_END, RecordedLink, RecordingRefusal, add_block, print_recording,
+    read_recording, report_block,
+};
 use std::alloc::Global;
 use std::test::Fail;
 use ts_hooks::TxnEnd;
-use ts_link::Octets;
+use ts_link::{Got, Link, Octets, Put};
+use ts_upstream::{Uploaded, Upstream};
 
 /// The recording of one exchange, with what stands before and behind the length of its client's piece.
 const BEFORE: &[u8] = b"tsx-recording 1\ntxn\nclient ";
@@ -142,5 +146,74 @@ body 4\n<abc\n";
     assert_eq!(rt; 13 + cut.bytes().len() + 5, 193);
     let bad = report_on(rt.alloc(), 4000, TxnEnd::OriginBad)?;
     assert_eq!(rt; 13 + bad.bytes().len() + 5, 196);
+    Ok(())
+}
+
+#[test]
+fn blocks_behind_one_another(rt: HostRuntime) -> Result<(), Fail> {
+    let alloc = rt.alloc();
+    let silent = Block {
+        request: Octets::copy_of(alloc, b"")?,
+        end: TxnEnd::Whole,
+        head: Octets::copy_of(alloc, b"")?,
+        content: Octets::copy_of(alloc, b"")?,
+    };
+    let mut report = Vec::from_slice(alloc, REPORT_BEGIN)?;
+    add_block(&mut report, 1, &silent)?;
+    add_block(&mut report, 2, &silent)?;
+    report.extend_from_slice(REPORT_END)?;
+    let text = b"tsx-report 1\n\
+txn 1\nrequest 0\n\nend whole\nhead 0\n\nbody 0\n\n\
+txn 2\nrequest 0\n\nend whole\nhead 0\n\nbody 0\n\n\
+done\n";
+    assert_eq!(rt; report.as_slice(), text.as_slice());
+    Ok(())
+}
+
+// A side of a recorded transaction that gives these two pieces.
+fn side(alloc: Global, first: &[u8], second: &[u8]) -> Result<RecordedLink, Fail> {
+    let mut pieces = Vec::new(alloc);
+    pieces.push(Octets::copy_of(alloc, first)?)?;
+    pieces.push(Octets::copy_of(alloc, second)?)?;
+    Ok(RecordedLink::make(alloc, pieces)?)
+}
+
+#[test]
+fn a_side_gives_its_pieces_and_then_its_end(rt: HostRuntime) -> Result<(), Fail> {
+    let mut side = side(rt.alloc(), b"ab", b"cde")?;
+    let mut room = [0u8; 2];
+    assert_eq!(rt; side.read(&mut room), Got::Bytes(2));
+    assert_eq!(rt; room, *b"ab");
+    assert_eq!(rt; side.read(&mut room), Got::Bytes(2));
+    assert_eq!(rt; room, *b"cd");
+    assert_eq!(rt; side.read(&mut room), Got::Bytes(1));
+    assert_eq!(rt; room, *b"ed");
+    assert_eq!(rt; side.read(&mut room), Got::End);
+    assert_eq!(rt; side.read(&mut room), Got::End);
+    assert_eq!(rt; side.faults(), 0);
+    side.known();
+    Ok(())
+}
+
+#[test]
+fn a_side_keeps_what_it_takes(rt: HostRuntime) -> Result<(), Fail> {
+    let mut side = side(rt.alloc(), b"", b"x")?;
+    assert!(rt; side.written().is_empty());
+    assert_eq!(rt; side.write(b"GET / "), Put::Took(6));
+    assert_eq!(rt; side.write(b"HTTP/1.1"), Put::Took(8));
+    assert_eq!(rt; side.written(), b"GET / HTTP/1.1".as_slice());
+    assert_eq!(rt; side.faults(), 0);
+    Ok(())
+}
+
+#[test]
+fn a_side_moves_no_upload(rt: HostRuntime) -> Result<(), Fail> {
+    let alloc = rt.alloc();
+    let mut client = side(alloc, b"GET / HTTP/1.1\r\n\r\n", b"upload")?;
+    let mut origin = side(alloc, b"", b"")?;
+    assert_eq!(rt; origin.upload(&mut client), Uploaded::Done);
+    assert!(rt; origin.written().is_empty());
+    let mut room = [0u8; 32];
+    assert_eq!(rt; client.read(&mut room), Got::Bytes(18));
     Ok(())
 }

@@ -9,6 +9,7 @@ use Rattle.ts_journal.specs.Later.{IsLater}
 use Rattle.ts_journal.proofs.Later.{later_trans}
 use Rattle.ts_group.specs.declared.group.Group.{Group}
 use Rattle.ts_group.specs.Context.{IsSame}
+use Rattle.ts_group.specs.Answers.{KeepsTags}
 use Rattle.ts_group.specs.Slot.{marks_of}
 use Rattle.ts_group.proofs.Slots.{one_mark}
 use Rattle.ts_queue.specs.declared.queue.EventQueue.{EventQueue}
@@ -22,10 +23,11 @@ use Rattle.ts_wheel.specs.Due.{added}
 use Rattle.ts_thread.specs.declared.desk.Desk.{Desk}
 use Rattle.ts_thread.specs.Desks.{IsDeskOf}
 use Rattle.ts_thread.specs.Held.{HasTurn, IsGivenBack, GivesBack}
-use Rattle.ts_thread.specs.News.{HasTold, HasPlace, HasTicket, is_between, is_news, in_wheel, in_tickets, places_of}
+use Rattle.ts_thread.specs.News.{OnlyNews, HasTold, HasPlace, HasTicket, is_between, is_news, in_wheel, in_tickets, places_of}
 use Rattle.ts_thread.specs.Seats.{KnowsTurn}
 use Rattle.ts_thread.specs.Tokens.{AllName}
 use Rattle.ts_thread.specs.Turning.{EndsTurn}
+use Rattle.ts_thread.proofs.Groups.{keeps_same}
 use Rattle.ts_thread.proofs.Tokens.{one_if, All-added}
 
 -- a desk stays one of its tables when a token of one of the groups is added to its wheel
@@ -38,17 +40,18 @@ desk_added slots queue a b token due names seat pass wheel was = record {
 }
 
 -- what a group has to have when its turn is given back
-pub record IsGivable {W Q R T U : Type 0} (found now : Group W Q R T U) (turn seat : ℕ) : Type 0 where
+pub record IsGivable {W Q R T U : Type 0} (Fits : T → W → Type 0) (found now : Group W Q R T U) (turn seat : ℕ) : Type 0 where
   pub held : now.cx.log.state.held ≡ true
   pub number : now.cx.log.state.turns ≡ turn
   pub marks : marks_of now.cx.log.entries ≡ marks_of found.cx.log.entries ++ (turn, seat) ∷ []
   pub later : IsLater found.cx.log.state now.cx.log.state
   pub base : now.cx.log.base ≡ found.cx.log.base
   pub rose : found.cx.news_from ≤ now.cx.news_from
+  pub tags : KeepsTags Fits found.world now.world
 
 module _ {W Q R T U : Type 0} where
-  given_held : (found a b : Group W Q R T U) (turn seat : ℕ) → IsGivable found a turn seat → GivesBack a b → IsGivenBack found b turn seat
-  given_held found a b turn seat has gives = record {
+  given_held : (Fits : T → W → Type 0) (found a b : Group W Q R T U) (turn seat : ℕ) → IsGivable Fits found a turn seat → GivesBack a b → IsGivenBack Fits found b turn seat
+  given_held Fits found a b turn seat has gives = record {
     free = gives.free;
     stamp = inr (gives.number ∙ has.number);
     marks = λ mark there.
@@ -58,22 +61,24 @@ module _ {W Q R T U : Type 0} where
     later = later_trans found.cx.log.state a.cx.log.state b.cx.log.state has.later gives.later;
     base = gives.base ∙ has.base;
     rose = let a = has.rose in let b = gives.news_from in omega arith;
+    tags = λ tag fit. keeps_same Fits a.world b.world gives.same.world tag (has.tags tag fit);
   }
 
   -- a turn stays one where nothing changes but the news
-  pub told_has : (found a b : Group W Q R T U) (turn seat : ℕ) → HasTurn found a turn seat → IsSame (record a.cx { news_from = b.cx.news_from }) b.cx → a.cx.news_from ≤ b.cx.news_from → IsGivable found b turn seat
-  told_has found a b turn seat has same rose = record {
+  pub told_has : (Fits : T → W → Type 0) (found a b : Group W Q R T U) (turn seat : ℕ) → HasTurn Fits found a turn seat → OnlyNews a b → IsGivable Fits found b turn seat
+  told_has Fits found a b turn seat has only = let same = only.cx in record {
     held = ap (λ (s : State). s.held) same.log.state ∙ has.held;
     number = ap (λ (s : State). s.turns) same.log.state ∙ has.number;
     marks = ap marks_of same.log.entries ∙ has.marks;
     later = subst (λ (s : State). IsLater found.cx.log.state s) (sym same.log.state) has.later;
     base = same.log.base ∙ has.base;
-    rose = let e = has.news_from in omega arith;
+    rose = let e = has.news_from in let rose = only.rose in omega arith;
+    tags = λ tag fit. keeps_same Fits a.world b.world only.world tag (has.tags tag fit);
   }
 
   -- the news was told, and the turn given back
-  pub told_given : (found a a' b b' c : Group W Q R T U) (turn seat : ℕ) → HasTurn found a turn seat → a' ≡ a → IsSame (record a'.cx { news_from = b.cx.news_from }) b.cx → a'.cx.news_from ≤ b.cx.news_from → b' ≡ b → GivesBack b' c → IsGivenBack found c turn seat
-  told_given found a a' b b' c turn seat has e same rose f gives = given_held found b c turn seat (told_has found a' b turn seat (subst (λ x. HasTurn found x turn seat) (sym e) has) same rose) (subst (λ x. GivesBack x c) f gives)
+  pub told_given : (Fits : T → W → Type 0) (found a a' b b' c : Group W Q R T U) (turn seat : ℕ) → HasTurn Fits found a turn seat → a' ≡ a → OnlyNews a' b → b' ≡ b → GivesBack b' c → IsGivenBack Fits found c turn seat
+  told_given Fits found a a' b b' c turn seat has e only f gives = given_held Fits found b c turn seat (told_has Fits found a' b turn seat (subst (λ x. HasTurn Fits found x turn seat) (sym e) has) only) (subst (λ x. GivesBack x c) f gives)
 
   module _ {d : Ghosts (Group W Q R T U) T (Group W Q R T U)} where
     pub ends_turn : (k k' turn moment : ℕ) (a a' b b' c : Group W Q R T U) (old mid new : Desk (Group W Q R T U) T (Group W Q R T U) d) → k' ≡ k → a' ≡ a → IsSame (record a'.cx { news_from = b.cx.news_from }) b.cx → b.world ≡ a'.world → b' ≡ b → GivesBack b' c

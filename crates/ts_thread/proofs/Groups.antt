@@ -9,8 +9,10 @@ use Rattle.ts_journal.specs.Later.{IsLater}
 use Rattle.ts_journal.proofs.Later.{later_refl, later_trans, extends_later}
 use Rattle.ts_group.specs.declared.group.Group.{Group}
 use Rattle.ts_group.specs.Context.{IsSame}
+use Rattle.ts_group.specs.Answers.{KeepsTags}
 use Rattle.ts_group.specs.Acts.{BeginsTurn, GivesTurn, KeepsRoles}
 use Rattle.ts_group.specs.Slot.{marks_of}
+use Rattle.ts_group.specs.Standing.{FollowsGroup}
 use Rattle.ts_group.proofs.Slots.{marks_append, either_way}
 use Rattle.std.proofs.lemmas.List.Elements.{Contains-append_cases}
 use Rattle.ts_group.proofs.Slots.{one_mark}
@@ -28,15 +30,20 @@ err_to (Err e) f h = f h
 later_same : (s t : State) → t ≡ s → IsLater s t
 later_same s t e = subst (IsLater s) (sym e) (later_refl s)
 
+-- a world that is the same fits what it fitted
+pub keeps_same : {T W : Type 0} (Fits : T → W → Type 0) (v w : W) → w ≡ v → KeepsTags Fits v w
+keeps_same Fits v w same tag = subst (Fits tag) (sym same)
+
 module _ {W Q R T U : Type 0} where
-  pub has_begun : (old new : Group W Q R T U) (turn seat moment : ℕ) → IsValid old.cx.log.state → BeginsTurn old.cx new.cx turn seat moment → KeepsRoles old.cx new.cx → HasTurn old new turn seat
-  has_begun old new turn seat moment valid begins kept = record {
+  pub has_begun : (Fits : T → W → Type 0) (old new : Group W Q R T U) (turn seat moment : ℕ) → IsValid old.cx.log.state → BeginsTurn old.cx new.cx turn seat moment → KeepsRoles old.cx new.cx → new.world ≡ old.world → HasTurn Fits old new turn seat
+  has_begun Fits old new turn seat moment valid begins kept world = record {
     held = ap (λ (s : State). s.held) begins.state;
     number = ap (λ (s : State). s.turns) begins.state;
     marks = ap marks_of begins.by.entries ∙ marks_append old.cx.log.entries (Took turn seat ∷ []);
     later = extends_later old.cx.log new.cx.log (Took turn seat ∷ []) valid begins.by;
     base = begins.by.base;
     news_from = kept.news_from;
+    tags = keeps_same Fits old.world new.world world;
   }
 
   pub begins_same : {A E : Type 0} (r : Result A E) (old new : Group W Q R T U) (turn seat moment : ℕ) → OnOk r (BeginsTurn old.cx new.cx turn seat moment) → OnErr r (IsSame old.cx new.cx)
@@ -60,8 +67,8 @@ module _ {W Q R T U : Type 0} where
       (either_way r (BeginsTurn old.cx new.cx turn seat moment) (IsSame old.cx new.cx) ok err)
 
   -- a group in which no turn was begun
-  pub given_same : (old new : Group W Q R T U) (turn seat : ℕ) → old.cx.log.state.held ≡ false → IsSame old.cx new.cx → IsGivenBack old new turn seat × (new.cx.log.state ≡ old.cx.log.state)
-  given_same old new turn seat free same = (
+  pub given_same : (Fits : T → W → Type 0) (old new : Group W Q R T U) (turn seat : ℕ) → old.cx.log.state.held ≡ false → IsSame old.cx new.cx → new.world ≡ old.world → IsGivenBack Fits old new turn seat × (new.cx.log.state ≡ old.cx.log.state)
+  given_same Fits old new turn seat free same world = (
     record {
       free = ap (λ (s : State). s.held) same.log.state ∙ free;
       stamp = inl (ap (λ (s : State). s.turns) same.log.state);
@@ -69,6 +76,7 @@ module _ {W Q R T U : Type 0} where
       later = later_same old.cx.log.state new.cx.log.state same.log.state;
       base = same.log.base;
       rose = let e = same.news_from in omega arith;
+      tags = keeps_same Fits old.world new.world world;
     },
     same.log.state,
   )
@@ -91,7 +99,7 @@ module _ {W Q R T U : Type 0} where
   }
 
   -- a turn that goes on
-  pub has_gone : (Fits : T → W → Type 0) (found a b : Group W Q R T U) (turn seat : ℕ) → HasTurn found a turn seat → GoesInTurn Fits a b → HasTurn found b turn seat
+  pub has_gone : (Fits : T → W → Type 0) (found a b : Group W Q R T U) (turn seat : ℕ) → HasTurn Fits found a turn seat → GoesInTurn Fits a b → HasTurn Fits found b turn seat
   has_gone Fits found a b turn seat has goes = record {
     held = goes.turn.held;
     number = goes.turn.turns ∙ has.number;
@@ -99,11 +107,19 @@ module _ {W Q R T U : Type 0} where
     later = later_trans found.cx.log.state a.cx.log.state b.cx.log.state has.later goes.later;
     base = goes.base ∙ has.base;
     news_from = goes.news_from ∙ has.news_from;
+    tags = λ tag fit. goes.tags tag (has.tags tag fit);
+  }
+
+  -- a group in its turn follows what was found
+  pub turn_follows : (Fits : T → W → Type 0) (found now : Group W Q R T U) (turn seat : ℕ) → HasTurn Fits found now turn seat → FollowsGroup Fits now found
+  turn_follows Fits found now turn seat has = record {
+    journal = inr (ap (λ (s : State). s.turns) has.base, has.later);
+    tags = λ same. has.tags;
   }
 
   -- a turn that is given back
-  pub given_back : (found a b : Group W Q R T U) (turn seat : ℕ) → HasTurn found a turn seat → GivesBack a b → IsGivenBack found b turn seat
-  given_back found a b turn seat has gives = record {
+  pub given_back : (Fits : T → W → Type 0) (found a b : Group W Q R T U) (turn seat : ℕ) → HasTurn Fits found a turn seat → GivesBack a b → IsGivenBack Fits found b turn seat
+  given_back Fits found a b turn seat has gives = record {
     free = gives.free;
     stamp = inr (gives.number ∙ has.number);
     marks = λ mark there.
@@ -113,4 +129,5 @@ module _ {W Q R T U : Type 0} where
     later = later_trans found.cx.log.state a.cx.log.state b.cx.log.state has.later gives.later;
     base = gives.base ∙ has.base;
     rose = let a = has.news_from in let b = gives.news_from in omega arith;
+    tags = λ tag fit. keeps_same Fits a.world b.world gives.same.world tag (has.tags tag fit);
   }

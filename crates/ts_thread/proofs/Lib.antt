@@ -4,6 +4,7 @@ mod Ends
 mod Entries
 mod Groups
 mod Joins
+pub mod Known
 mod Moves
 mod Rows
 mod Seats

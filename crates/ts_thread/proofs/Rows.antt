@@ -1,19 +1,20 @@
 -- Rows of groups.
 use Rattle.std.proofs.Common.{◌≡◌, ℕ, zero, suc, ◌+◌, List, [], ◌∷◌, ◌++◌, ◌-◌, ◌<◌, ◌≤◌, length, Bool, true, Option, Some, None, Result, Ok, Err, IsSome, IsErr, unwrap_or, OnOk, All, take, length-append, append_assoc, refl, ap, sym, ◌∙◌, subst, arith}
-use Rattle.std.specs.List.{slice_get, sum_by}
+use Rattle.std.specs.List.{slice_get, sum_by, Any}
+use Rattle.std.specs.Result.{IsErrAnd, IsErrOf}
 use Rattle.std.proofs.lemmas.List.Sums.{sum_by-cons, sum_by-append}
-use Rattle.std.proofs.lemmas.List.Elements.{All-nil, All-cons, All-head, All-tail, All-append, All-weaker}
-use Rattle.ts_link.specs.declared.octets.NoMemory.{NoMemory}
+use Rattle.std.proofs.lemmas.List.Elements.{All-nil, All-cons, All-head, All-tail, All-append, Contains-append_left, Contains-append_right}
 use Rattle.ts_journal.specs.State.{State}
 use Rattle.ts_group.specs.declared.action.Named.{Named}
 use Rattle.ts_group.specs.declared.group.Group.{Group}
 use Rattle.ts_group.specs.declared.world.Asked.{Asked}
 use Rattle.ts_group.specs.declared.world.Asked.TheVariants as asked
 use Rattle.ts_group.specs.Answers.{Finite, Falls, LeavesLess, TellFalls, IsAnswer, KeepsTags}
-use Rattle.ts_slot.specs.Limits.{last_turn}
+use Rattle.ts_thread.specs.declared.did.Unfinished.{Unfinished}
+use Rattle.ts_thread.specs.declared.did.Unfinished.TheVariants as unfinished
 use Rattle.ts_thread.specs.Tags.{GroupFits, GroupsFit, FitAround, CanAsk}
-use Rattle.ts_thread.specs.Goings.{HasTakenTurns, AllGoOn, HasTurns, IsIdle, IsNoMiss, work_left, Drives, DrivesAt, Finishes}
-use Rattle.ts_thread.proofs.Moves.{goes_refl, goes_trans, goes_over}
+use Rattle.ts_thread.specs.Goings.{HasTakenTurns, AllGoOn, HasTurns, IsIdle, IsWorn, WornAmong, came_of, row, work_left, Drives, DrivesAt, Finishes}
+use Rattle.ts_thread.proofs.Moves.{goes_refl, goes_trans, goes_well}
 
 pub get_front : {X : Type 0} (xs ys : List X) (k : ℕ) → k < length xs → slice_get (xs ++ ys) k ≡ slice_get xs k
 get_front [] ys k h = absurd (omega arith)
@@ -70,47 +71,70 @@ all_back P (x ∷ xs) ys h = all_back P xs ys (All-tail P x (xs ++ ys) h)
 pub all_middle : {X : Type 0} (P : X → Type 0) (xs : List X) (x : X) (ys : List X) → All P (xs ++ x ∷ ys) → P x
 all_middle P xs x ys h = All-head P x ys (all_back P xs (x ∷ ys) h)
 
-module _ {W Q R T U : Type 0} (Fits : T → W → Type 0) (Sound : W → State → List Named → Type 0) (oa isf : T → Bool) (Left : W → State → Option ℕ) where
-  pub all_refl : (L : Type 0) (gs : List (Group W Q R T U)) (n : ℕ) → AllGoOn Fits Sound oa isf Left L gs gs n
-  all_refl L [] n = tt
-  all_refl L (g ∷ gs) n = (goes_refl Fits Sound oa isf Left g n, all_refl L gs n)
+-- what holds of one of a row
+pub any_front : {X : Type 0} (P : X → Type 0) (xs ys : List X) → Any P xs → Any P (xs ++ ys)
+any_front P xs ys (k, x, low, is, p) = let at = Contains-append_left xs ys x (k, low, is) in (at.0, x, at.1, at.2, p)
 
-  pub all_over : {L M : Type 0} → (L → M) → (gs hs : List (Group W Q R T U)) (n : ℕ) → AllGoOn Fits Sound oa isf Left L gs hs n → AllGoOn Fits Sound oa isf Left M gs hs n
-  all_over f [] [] n a = tt
-  all_over f [] (h ∷ hs) n a = absurd a
-  all_over f (g ∷ gs) [] n a = absurd a
-  all_over f (g ∷ gs) (h ∷ hs) n a = (goes_over Fits Sound oa isf Left f g h n a.0, all_over f gs hs n a.1)
+pub any_back : {X : Type 0} (P : X → Type 0) (xs ys : List X) → Any P ys → Any P (xs ++ ys)
+any_back P xs ys (k, x, low, is, p) = let at = Contains-append_right xs ys x (k, low, is) in (at.0, x, at.1, at.2, p)
 
-  pub all_trans : (L : Type 0) (gs hs ks : List (Group W Q R T U)) (m n : ℕ) → AllGoOn Fits Sound oa isf Left L gs hs m → AllGoOn Fits Sound oa isf Left L hs ks n → AllGoOn Fits Sound oa isf Left L gs ks (m + n)
-  all_trans L [] [] [] m n a b = tt
-  all_trans L [] [] (k ∷ ks) m n a b = absurd b
-  all_trans L [] (h ∷ hs) ks m n a b = absurd a
-  all_trans L (g ∷ gs) [] ks m n a b = absurd a
-  all_trans L (g ∷ gs) (h ∷ hs) [] m n a b = absurd b
-  all_trans L (g ∷ gs) (h ∷ hs) (k ∷ ks) m n a b = (goes_trans Fits Sound oa isf Left g h k m n a.0 b.0, all_trans L gs hs ks m n a.1 b.1)
+pub any_head : {X : Type 0} (P : X → Type 0) (x : X) (xs : List X) → P x → Any P (x ∷ xs)
+any_head P x xs p = (0, x, omega arith, refl, p)
 
-  pub all_both : (L : Type 0) (xs xs' ys ys' : List (Group W Q R T U)) (n : ℕ) → AllGoOn Fits Sound oa isf Left L xs xs' n → AllGoOn Fits Sound oa isf Left L ys ys' n → AllGoOn Fits Sound oa isf Left L (xs ++ ys) (xs' ++ ys') n
-  all_both L [] [] ys ys' n a b = b
-  all_both L [] (x ∷ xs) ys ys' n a b = absurd a
-  all_both L (x ∷ xs) [] ys ys' n a b = absurd a
-  all_both L (x ∷ xs) (y ∷ zs) ys ys' n a b = (a.0, all_both L xs zs ys ys' n a.1 b)
+pub any_middle : {X : Type 0} (P : X → Type 0) (xs : List X) (x : X) (ys : List X) → P x → Any P (xs ++ x ∷ ys)
+any_middle P xs x ys p = any_back P xs (x ∷ ys) (any_head P x ys p)
+
+any_tail : {X : Type 0} (P : X → Type 0) (x : X) (xs : List X) → Any P xs → Any P (x ∷ xs)
+any_tail P x xs some = any_back P (x ∷ []) xs some
+
+-- what holds of one of those around another, holds of one of the row
+pub any_around : {X : Type 0} (P : X → Type 0) (xs : List X) (x : X) (ys : List X) → Any P (xs ++ ys) → Any P (xs ++ x ∷ ys)
+any_around P [] x ys some = any_tail P x ys some
+any_around P (z ∷ xs) x ys (zero, y, low, is, p) = any_head P z (xs ++ x ∷ ys) (subst P (sym is) p)
+any_around P (z ∷ xs) x ys (suc k, y, low, is, p) = any_tail P z (xs ++ x ∷ ys) (any_around P xs x ys (k, y, omega arith, is, p))
+
+module _ {W Q R T U : Type 0} (Fits : T → W → Type 0) (Sound : W → State → List Named → Type 0) (oa isf : T → Bool) (Left : W → State → Option ℕ) (limit : ℕ) where
+  pub all_refl : (r : Result (Unit {0}) Unfinished) (gs : List (Group W Q R T U)) (n : ℕ) → AllGoOn Fits Sound oa isf Left limit r gs gs n
+  all_refl r [] n = tt
+  all_refl r (g ∷ gs) n = (goes_refl Fits Sound oa isf Left limit g n, all_refl r gs n)
+
+  -- what groups become where all goes well, they become with any answer
+  pub all_well : (r : Result (Unit {0}) Unfinished) (gs hs : List (Group W Q R T U)) (n : ℕ) → AllGoOn Fits Sound oa isf Left limit (Ok tt) gs hs n → AllGoOn Fits Sound oa isf Left limit r gs hs n
+  all_well r [] [] n a = tt
+  all_well r [] (h ∷ hs) n a = absurd a
+  all_well r (g ∷ gs) [] n a = absurd a
+  all_well r (g ∷ gs) (h ∷ hs) n a = (goes_well Fits Sound oa isf Left limit g h n a.0, all_well r gs hs n a.1)
+
+  pub all_trans : (r : Result (Unit {0}) Unfinished) (gs hs ks : List (Group W Q R T U)) (m n : ℕ) → AllGoOn Fits Sound oa isf Left limit r gs hs m → AllGoOn Fits Sound oa isf Left limit r hs ks n → AllGoOn Fits Sound oa isf Left limit r gs ks (m + n)
+  all_trans r [] [] [] m n a b = tt
+  all_trans r [] [] (k ∷ ks) m n a b = absurd b
+  all_trans r [] (h ∷ hs) ks m n a b = absurd a
+  all_trans r (g ∷ gs) [] ks m n a b = absurd a
+  all_trans r (g ∷ gs) (h ∷ hs) [] m n a b = absurd b
+  all_trans r (g ∷ gs) (h ∷ hs) (k ∷ ks) m n a b = (goes_trans Fits Sound oa isf Left limit g h k m n a.0 b.0, all_trans r gs hs ks m n a.1 b.1)
+
+  pub all_both : (r : Result (Unit {0}) Unfinished) (xs xs' ys ys' : List (Group W Q R T U)) (n : ℕ) → AllGoOn Fits Sound oa isf Left limit r xs xs' n → AllGoOn Fits Sound oa isf Left limit r ys ys' n → AllGoOn Fits Sound oa isf Left limit r (xs ++ ys) (xs' ++ ys') n
+  all_both r [] [] ys ys' n a b = b
+  all_both r [] (x ∷ xs) ys ys' n a b = absurd a
+  all_both r (x ∷ xs) [] ys ys' n a b = absurd a
+  all_both r (x ∷ xs) (y ∷ zs) ys ys' n a b = (a.0, all_both r xs zs ys ys' n a.1 b)
 
   -- one of a row goes on, between those before and after it
-  pub all_row : {L : Type 0} (before before' after after' : List (Group W Q R T U)) (g h : Group W Q R T U) (n : ℕ) → AllGoOn Fits Sound oa isf Left L before before' n → HasTakenTurns Fits Sound oa isf Left L g h n
-      → AllGoOn Fits Sound oa isf Left L after after' n → AllGoOn Fits Sound oa isf Left L (before ++ g ∷ after) (before' ++ h ∷ after') n
+  pub all_row : {r : Result (Unit {0}) Unfinished} (before before' after after' : List (Group W Q R T U)) (g h : Group W Q R T U) (n : ℕ) → AllGoOn Fits Sound oa isf Left limit r before before' n → HasTakenTurns Fits Sound oa isf Left limit r g h n
+      → AllGoOn Fits Sound oa isf Left limit r after after' n → AllGoOn Fits Sound oa isf Left limit r (before ++ g ∷ after) (before' ++ h ∷ after') n
   all_row [] [] after after' g h n a b c = (b, c)
   all_row [] (x ∷ xs) after after' g h n a b c = absurd a
   all_row (x ∷ xs) [] after after' g h n a b c = absurd a
   all_row (x ∷ xs) (y ∷ ys) after after' g h n a b c = (a.0, all_row xs ys after after' g h n a.1 b c)
 
   -- groups that went on fit the tags that they fitted
-  pub fits_on : (L : Type 0) (tags : List T) (gs hs : List (Group W Q R T U)) (n : ℕ) → GroupsFit Fits Sound oa isf tags gs → AllGoOn Fits Sound oa isf Left L gs hs n → GroupsFit Fits Sound oa isf tags hs
-  fits_on L [] [] [] n f a = tt
-  fits_on L [] [] (h ∷ hs) n f a = absurd a
-  fits_on L [] (g ∷ gs) hs n f a = absurd f
-  fits_on L (t ∷ ts) [] hs n f a = absurd f
-  fits_on L (t ∷ ts) (g ∷ gs) [] n f a = absurd a
-  fits_on L (t ∷ ts) (g ∷ gs) (h ∷ hs) n f a = (a.0.fits t f.0, fits_on L ts gs hs n f.1 a.1)
+  pub fits_on : (r : Result (Unit {0}) Unfinished) (tags : List T) (gs hs : List (Group W Q R T U)) (n : ℕ) → GroupsFit Fits Sound oa isf tags gs → AllGoOn Fits Sound oa isf Left limit r gs hs n → GroupsFit Fits Sound oa isf tags hs
+  fits_on r [] [] [] n f a = tt
+  fits_on r [] [] (h ∷ hs) n f a = absurd a
+  fits_on r [] (g ∷ gs) hs n f a = absurd f
+  fits_on r (t ∷ ts) [] hs n f a = absurd f
+  fits_on r (t ∷ ts) (g ∷ gs) [] n f a = absurd a
+  fits_on r (t ∷ ts) (g ∷ gs) (h ∷ hs) n f a = (a.0.fits t f.0, fits_on r ts gs hs n f.1 a.1)
 
   -- the tags of a row, around that of one of its groups
   pub around : (tags : List T) (before : List (Group W Q R T U)) (g : Group W Q R T U) (world : W) (after : List (Group W Q R T U)) → GroupsFit Fits Sound oa isf tags (before ++ g ∷ after) → world ≡ g.world
@@ -206,26 +230,30 @@ answer_right A B j k q (asked.Reply r) a f = f r a
 answer_right A B j k q (asked.Missed seen p) a f = a
 answer_right A B j k q (asked.NoMemory p) a f = a
 
-pub on_ok : {A E : Type 0} (r : Result A E) (P : Type 0) → P → OnOk r P
-on_ok (Ok a) P p = p
-on_ok (Err e) P p = tt
+-- what holds of a fault holds of the answer that it was
+pub same_fault : {A E : Type 0} (P : Result A E → Type 0) (r : Result A E) (e : E) → IsErrAnd r (λ x. x ≡ e) → P (Err e) → P r
+same_fault P (Ok a) e is p = absurd is
+same_fault P (Err x) e is p = subst (λ y. P (Err y)) (sym is) p
 
-pub ok_not_err : {A E : Type 0} (r : Result A E) (a : A) → r ≡ Ok a → IsErr r → ⊥
-ok_not_err (Ok b) a is e = absurd (cc)
-ok_not_err (Err e) a is lack = absurd (cc)
+-- what no fault of one call is, no fault is that it was
+pub no_fault : {A B E : Type 0} (r : Result A E) (e f : E) → IsErrAnd r (λ x. x ≡ e) → (IsErrOf {T = B} (Err e) f → ⊥) → IsErrOf r f → ⊥
+no_fault (Ok a) e f is none worn = absurd is
+no_fault (Err x) e f is none worn = let same : e ≡ f = cc in none (ap (λ y. Err y) same)
 
--- memory lacked in a drive, or it did not
-abbrev Lacks : Result (Unit {0}) NoMemory → Type 0
-Lacks r = IsErr r
+-- an answer that is no fault names no worn group
+never_worn : {E : Type 0} {e : E} → IsErrOf {T = Unit {0}} (Ok tt) e → ⊥
+never_worn is = absurd (cc)
 
-lacks_none : (r : Result (Unit {0}) NoMemory) → r ≡ Ok tt → IsErr r → ⊥
-lacks_none r is = ok_not_err r tt is
+-- what holds where no group is worn, holds where all went well
+pub well_then : (r : Result (Unit {0}) Unfinished) (P : Type 0) → ((IsErrOf r unfinished.Worn → ⊥) → P) → OnOk r P
+well_then (Ok tt) P p = p (λ is. never_worn is)
+well_then (Err e) P p = tt
 
--- a question that was not missed leaves no more to do
-pub told_falls : {Q R : Type 0} (answer : Asked Q R) (a b : Option ℕ) → IsNoMiss answer → TellFalls answer a b → Falls a 0 b
-told_falls (asked.Reply r) a b seen_none f = f
-told_falls (asked.Missed seen q) a b seen_none f = absurd seen_none
-told_falls (asked.NoMemory q) a b seen_none f = f
+-- a question that no worn group missed leaves no more to do
+pub told_falls : {Q R : Type 0} (answer : Asked Q R) (a b : Option ℕ) → TellFalls answer a b → (IsErrOf (came_of answer) unfinished.Worn → ⊥) → Falls a 0 b
+told_falls (asked.Reply r) a b f well = f
+told_falls (asked.Missed seen q) a b f well = absurd (well refl)
+told_falls (asked.NoMemory q) a b f well = f
 
 -- what is left falls, and goes on to be told
 left_falls : (a b : Option ℕ) (n : ℕ) → IsSome a → Falls a n b → IsSome b × (unwrap_or b 0 + n ≤ unwrap_or a 0)
@@ -233,122 +261,125 @@ left_falls None b n tells f = absurd (cc)
 left_falls (Some x) None n tells f = absurd f
 left_falls (Some x) (Some y) n tells f = (refl, f)
 
-module _ {W Q R T U : Type 0} (Fits : T → W → Type 0) (Sound : W → State → List Named → Type 0) (oa isf : T → Bool) (Left : W → State → Option ℕ) where
-  -- groups that had as many turns left as were taken still have some
-  pub turns_on : (L : Type 0) (gs hs : List (Group W Q R T U)) (n m : ℕ) → AllGoOn Fits Sound oa isf Left L gs hs n → n ≤ m → All (HasTurns m) gs → All (HasTurns 0) hs
-  turns_on L [] [] n m a le all = All-nil (HasTurns 0)
-  turns_on L [] (h ∷ hs) n m a le all = absurd a
-  turns_on L (g ∷ gs) [] n m a le all = absurd a
-  turns_on L (g ∷ gs) (h ∷ hs) n m a le all =
-      let young : g.cx.log.state.turns + m ≤ last_turn = All-head (HasTurns m) g gs all in
+module _ {W Q R T U : Type 0} (Fits : T → W → Type 0) (Sound : W → State → List Named → Type 0) (oa isf : T → Bool) (Left : W → State → Option ℕ) (limit : ℕ) where
+  -- groups that had turns enough for those that were taken are not worn
+  young_on : (r : Result (Unit {0}) Unfinished) (gs hs : List (Group W Q R T U)) (n m : ℕ) → AllGoOn Fits Sound oa isf Left limit r gs hs n → n ≤ m + 1 → All (HasTurns limit m) gs → All (λ h. h.cx.log.state.turns < limit) hs
+  young_on r [] [] n m a le all = All-nil (λ h. h.cx.log.state.turns < limit)
+  young_on r [] (h ∷ hs) n m a le all = absurd a
+  young_on r (g ∷ gs) [] n m a le all = absurd a
+  young_on r (g ∷ gs) (h ∷ hs) n m a le all =
+      let young : g.cx.log.state.turns + m + 1 < limit = All-head (HasTurns limit m) g gs all in
       let took : h.cx.log.state.turns ≤ g.cx.log.state.turns + n = a.0.took in
-      All-cons (HasTurns 0) h hs (omega arith) (turns_on L gs hs n m a.1 le (All-tail (HasTurns m) g gs all))
+      All-cons (λ k. k.cx.log.state.turns < limit) h hs (omega arith) (young_on r gs hs n m a.1 le (All-tail (HasTurns limit m) g gs all))
 
-  -- the same, with turns to spare
-  pub spare_on : (L : Type 0) (gs hs : List (Group W Q R T U)) (n m k : ℕ) → AllGoOn Fits Sound oa isf Left L gs hs n → k + n ≤ m → All (HasTurns m) gs → All (HasTurns k) hs
-  spare_on L [] [] n m k a le all = All-nil (HasTurns k)
-  spare_on L [] (h ∷ hs) n m k a le all = absurd a
-  spare_on L (g ∷ gs) [] n m k a le all = absurd a
-  spare_on L (g ∷ gs) (h ∷ hs) n m k a le all =
-      let young : g.cx.log.state.turns + m ≤ last_turn = All-head (HasTurns m) g gs all in
-      let took : h.cx.log.state.turns ≤ g.cx.log.state.turns + n = a.0.took in
-      All-cons (HasTurns k) h hs (omega arith) (spare_on L gs hs n m k a.1 le (All-tail (HasTurns m) g gs all))
+  -- where each group has turns enough for all that is left to do, none is worn
+  pub finish_spares : (gs hs : List (Group W Q R T U)) (result : Result (Unit {0}) Unfinished) → Finishes Fits Sound oa isf Left limit gs hs result → All (HasTurns limit (sum_by (work_left Left) gs)) gs → IsErrOf result unfinished.Worn → ⊥
+  finish_spares gs hs result ends all is =
+      let worn = ends.worn is in
+      let young = young_on result gs hs ends.turns (sum_by (work_left Left) gs) ends.goes ends.within all in
+      let low : worn.1.cx.log.state.turns < limit = subst (λ (h : Group W Q R T U). h.cx.log.state.turns < limit) worn.3 (young worn.0 worn.1 worn.2) in
+      let high : limit ≤ worn.1.cx.log.state.turns = worn.4.0 in
+      omega arith
 
   -- What holds while a group is driven.
   pub record IsDriving (before before' : List (Group W Q R T U)) (old new : Group W Q R T U) (after after' : List (Group W Q R T U)) : Type 0 where
     pub turns : ℕ
-    pub first : AllGoOn Fits Sound oa isf Left ⊥ before before' turns
-    pub own : HasTakenTurns Fits Sound oa isf Left ⊥ old new turns
-    pub last : AllGoOn Fits Sound oa isf Left ⊥ after after' turns
+    pub first : AllGoOn Fits Sound oa isf Left limit (Ok tt) before before' turns
+    pub own : HasTakenTurns Fits Sound oa isf Left limit (Ok tt) old new turns
+    pub last : AllGoOn Fits Sound oa isf Left limit (Ok tt) after after' turns
     pub less : work_left Left new + turns ≤ work_left Left old
     pub tells : Finite Left new
 
   pub driving_begins : (before : List (Group W Q R T U)) (g : Group W Q R T U) (after : List (Group W Q R T U)) → Finite Left g → IsDriving before before g g after after
   driving_begins before g after tells = record {
     turns = 0;
-    first = all_refl Fits Sound oa isf Left _ before 0;
-    own = goes_refl Fits Sound oa isf Left g 0;
-    last = all_refl Fits Sound oa isf Left _ after 0;
+    first = all_refl Fits Sound oa isf Left limit _ before 0;
+    own = goes_refl Fits Sound oa isf Left limit g 0;
+    last = all_refl Fits Sound oa isf Left limit _ after 0;
     less = omega arith;
     tells = tells;
   }
 
   pub driving_row : (before before' : List (Group W Q R T U)) (old new : Group W Q R T U) (after after' : List (Group W Q R T U)) (h : IsDriving before before' old new after after')
-      → AllGoOn Fits Sound oa isf Left ⊥ (before ++ old ∷ after) (before' ++ new ∷ after') h.turns
-  driving_row before before' old new after after' h = all_row Fits Sound oa isf Left before before' after after' old new h.turns h.first h.own h.last
+      → AllGoOn Fits Sound oa isf Left limit (Ok tt) (before ++ old ∷ after) (before' ++ new ∷ after') h.turns
+  driving_row before before' old new after after' h = all_row Fits Sound oa isf Left limit before before' after after' old new h.turns h.first h.own h.last
 
-  pub driving_goes_on : {L : Type 0} → (L → ⊥) → (b0 b1 b2 : List (Group W Q R T U)) (g0 g1 g2 : Group W Q R T U) (a0 a1 a2 : List (Group W Q R T U)) → IsDriving b0 b1 g0 g1 a0 a1
-      → AllGoOn Fits Sound oa isf Left L b1 b2 1 → HasTakenTurns Fits Sound oa isf Left L g1 g2 1 → AllGoOn Fits Sound oa isf Left L a1 a2 1 → LeavesLess Left g1 1 g2
+  pub driving_goes_on : (b0 b1 b2 : List (Group W Q R T U)) (g0 g1 g2 : Group W Q R T U) (a0 a1 a2 : List (Group W Q R T U)) → IsDriving b0 b1 g0 g1 a0 a1
+      → AllGoOn Fits Sound oa isf Left limit (Ok tt) b1 b2 1 → HasTakenTurns Fits Sound oa isf Left limit (Ok tt) g1 g2 1 → AllGoOn Fits Sound oa isf Left limit (Ok tt) a1 a2 1 → LeavesLess Left g1 1 g2
       → IsDriving b0 b2 g0 g2 a0 a2 × (work_left Left g2 < work_left Left g1)
-  driving_goes_on none b0 b1 b2 g0 g1 g2 a0 a1 a2 h b g a falls =
+  driving_goes_on b0 b1 b2 g0 g1 g2 a0 a1 a2 h b g a falls =
       let left = left_falls (Left g1.world g1.cx.log.state) (Left g2.world g2.cx.log.state) 1 h.tells falls in
       let less : work_left Left g2 + 1 ≤ work_left Left g1 = left.1 in
       let was = h.less in (
         record {
           turns = h.turns + 1;
-          first = all_trans Fits Sound oa isf Left _ b0 b1 b2 h.turns 1 h.first (all_over Fits Sound oa isf Left none b1 b2 1 b);
-          own = goes_trans Fits Sound oa isf Left g0 g1 g2 h.turns 1 h.own (goes_over Fits Sound oa isf Left none g1 g2 1 g);
-          last = all_trans Fits Sound oa isf Left _ a0 a1 a2 h.turns 1 h.last (all_over Fits Sound oa isf Left none a1 a2 1 a);
+          first = all_trans Fits Sound oa isf Left limit _ b0 b1 b2 h.turns 1 h.first b;
+          own = goes_trans Fits Sound oa isf Left limit g0 g1 g2 h.turns 1 h.own g;
+          last = all_trans Fits Sound oa isf Left limit _ a0 a1 a2 h.turns 1 h.last a;
           less = omega arith;
           tells = left.0;
         },
         omega arith,
       )
 
-  pub driving_stops : {L : Type 0} (b0 b1 b2 : List (Group W Q R T U)) (g0 g1 g2 : Group W Q R T U) (a0 a1 a2 : List (Group W Q R T U)) (result : Result (Unit {0}) NoMemory) → IsErr result → IsDriving b0 b1 g0 g1 a0 a1
-      → AllGoOn Fits Sound oa isf Left L b1 b2 1 → HasTakenTurns Fits Sound oa isf Left L g1 g2 1 → AllGoOn Fits Sound oa isf Left L a1 a2 1 → Drives Fits Sound oa isf Left b0 b2 g0 g2 a0 a2 result
-  driving_stops b0 b1 b2 g0 g1 g2 a0 a1 a2 (Ok u) is h b g a = absurd (cc)
-  driving_stops {L} b0 b1 b2 g0 g1 g2 a0 a1 a2 (Err e) is h b g a = record {
+  pub driving_stops : (b0 b1 b2 : List (Group W Q R T U)) (g0 g1 g2 : Group W Q R T U) (a0 a1 a2 : List (Group W Q R T U)) (e : Unfinished) → IsDriving b0 b1 g0 g1 a0 a1
+      → AllGoOn Fits Sound oa isf Left limit (Err e) b1 b2 1 → HasTakenTurns Fits Sound oa isf Left limit (Err e) g1 g2 1 → AllGoOn Fits Sound oa isf Left limit (Err e) a1 a2 1 → WornAmong Fits Sound oa isf limit (Err e) (row b2 g2 a2)
+      → Drives Fits Sound oa isf Left limit b0 b2 g0 g2 a0 a2 (Err e)
+  driving_stops b0 b1 b2 g0 g1 g2 a0 a1 a2 e h b g a worn = record {
     turns = h.turns + 1;
-    first = all_trans Fits Sound oa isf Left _ b0 b1 b2 h.turns 1 (all_over Fits Sound oa isf Left (λ (no : ⊥). absurd no) b0 b1 h.turns h.first) (all_over Fits Sound oa isf Left (λ (l : L). is) b1 b2 1 b);
-    own = goes_trans Fits Sound oa isf Left g0 g1 g2 h.turns 1 (goes_over Fits Sound oa isf Left (λ (no : ⊥). absurd no) g0 g1 h.turns h.own) (goes_over Fits Sound oa isf Left (λ (l : L). is) g1 g2 1 g);
-    last = all_trans Fits Sound oa isf Left _ a0 a1 a2 h.turns 1 (all_over Fits Sound oa isf Left (λ (no : ⊥). absurd no) a0 a1 h.turns h.last) (all_over Fits Sound oa isf Left (λ (l : L). is) a1 a2 1 a);
+    within = let less = h.less in omega arith;
+    first = all_trans Fits Sound oa isf Left limit _ b0 b1 b2 h.turns 1 (all_well Fits Sound oa isf Left limit (Err e) b0 b1 h.turns h.first) b;
+    own = goes_trans Fits Sound oa isf Left limit g0 g1 g2 h.turns 1 (goes_well Fits Sound oa isf Left limit g0 g1 h.turns h.own) g;
+    last = all_trans Fits Sound oa isf Left limit _ a0 a1 a2 h.turns 1 (all_well Fits Sound oa isf Left limit (Err e) a0 a1 h.turns h.last) a;
     less = tt;
     idle = tt;
+    worn = worn;
   }
 
-  pub driving_ends : (b0 b1 : List (Group W Q R T U)) (g0 g1 : Group W Q R T U) (a0 a1 : List (Group W Q R T U)) → IsDriving b0 b1 g0 g1 a0 a1 → IsIdle g1 → Drives Fits Sound oa isf Left b0 b1 g0 g1 a0 a1 (Ok tt)
+  pub driving_ends : (b0 b1 : List (Group W Q R T U)) (g0 g1 : Group W Q R T U) (a0 a1 : List (Group W Q R T U)) → IsDriving b0 b1 g0 g1 a0 a1 → IsIdle g1 → Drives Fits Sound oa isf Left limit b0 b1 g0 g1 a0 a1 (Ok tt)
   driving_ends b0 b1 g0 g1 a0 a1 h idle = record {
     turns = h.turns;
-    first = all_over Fits Sound oa isf Left (λ (no : ⊥). absurd no) b0 b1 h.turns h.first;
-    own = goes_over Fits Sound oa isf Left (λ (no : ⊥). absurd no) g0 g1 h.turns h.own;
-    last = all_over Fits Sound oa isf Left (λ (no : ⊥). absurd no) a0 a1 h.turns h.last;
+    within = let less = h.less in omega arith;
+    first = h.first;
+    own = h.own;
+    last = h.last;
     less = h.less;
     idle = idle;
+    worn = λ is. absurd (never_worn is);
   }
 
   -- the lists of groups are of one length
-  length_on : (L : Type 0) (gs hs : List (Group W Q R T U)) (n : ℕ) → AllGoOn Fits Sound oa isf Left L gs hs n → length hs ≡ length gs
-  length_on L [] [] n a = refl
-  length_on L [] (h ∷ hs) n a = absurd a
-  length_on L (g ∷ gs) [] n a = absurd a
-  length_on L (g ∷ gs) (h ∷ hs) n a = let e = length_on L gs hs n a.1 in omega arith
+  length_on : (r : Result (Unit {0}) Unfinished) (gs hs : List (Group W Q R T U)) (n : ℕ) → AllGoOn Fits Sound oa isf Left limit r gs hs n → length hs ≡ length gs
+  length_on r [] [] n a = refl
+  length_on r [] (h ∷ hs) n a = absurd a
+  length_on r (g ∷ gs) [] n a = absurd a
+  length_on r (g ∷ gs) (h ∷ hs) n a = let e = length_on r gs hs n a.1 in omega arith
 
   -- no more is left to do, and worlds go on to tell it
-  left_on : (L : Type 0) (gs hs : List (Group W Q R T U)) (n : ℕ) → AllGoOn Fits Sound oa isf Left L gs hs n → All (Finite Left) gs → (sum_by (work_left Left) hs ≤ sum_by (work_left Left) gs) × All (Finite Left) hs
-  left_on L [] [] n a tells = (omega arith, All-nil (Finite Left))
-  left_on L [] (h ∷ hs) n a tells = absurd a
-  left_on L (g ∷ gs) [] n a tells = absurd a
-  left_on L (g ∷ gs) (h ∷ hs) n a tells =
-      let one = left_falls (Left g.world g.cx.log.state) (Left h.world h.cx.log.state) 0 (All-head (Finite Left) g gs tells) a.0.falls in
+  left_on : (gs hs : List (Group W Q R T U)) (n : ℕ) → AllGoOn Fits Sound oa isf Left limit (Ok tt) gs hs n → All (Finite Left) gs → (sum_by (work_left Left) hs ≤ sum_by (work_left Left) gs) × All (Finite Left) hs
+  left_on [] [] n a tells = (omega arith, All-nil (Finite Left))
+  left_on [] (h ∷ hs) n a tells = absurd a
+  left_on (g ∷ gs) [] n a tells = absurd a
+  left_on (g ∷ gs) (h ∷ hs) n a tells =
+      let one = left_falls (Left g.world g.cx.log.state) (Left h.world h.cx.log.state) 0 (All-head (Finite Left) g gs tells) (a.0.falls (λ is. never_worn is)) in
       let less : work_left Left h + 0 ≤ work_left Left g = one.1 in
-      let rest = left_on L gs hs n a.1 (All-tail (Finite Left) g gs tells) in
+      let rest = left_on gs hs n a.1 (All-tail (Finite Left) g gs tells) in
       let rest_less : sum_by (work_left Left) hs ≤ sum_by (work_left Left) gs = rest.0 in (
         omega (arith, sum_by-cons (work_left Left) g gs, sum_by-cons (work_left Left) h hs),
         All-cons (Finite Left) h hs one.0 rest.1,
       )
 
   -- groups with nothing pending go on to have nothing pending
-  idle_on : (L : Type 0) (gs hs : List (Group W Q R T U)) (n : ℕ) → AllGoOn Fits Sound oa isf Left L gs hs n → All IsIdle gs → All IsIdle hs
-  idle_on L [] [] n a idle = All-nil IsIdle
-  idle_on L [] (h ∷ hs) n a idle = absurd a
-  idle_on L (g ∷ gs) [] n a idle = absurd a
-  idle_on L (g ∷ gs) (h ∷ hs) n a idle = All-cons IsIdle h hs (a.0.nothing (All-head IsIdle g gs idle)) (idle_on L gs hs n a.1 (All-tail IsIdle g gs idle))
+  idle_on : (r : Result (Unit {0}) Unfinished) (gs hs : List (Group W Q R T U)) (n : ℕ) → AllGoOn Fits Sound oa isf Left limit r gs hs n → All IsIdle gs → All IsIdle hs
+  idle_on r [] [] n a idle = All-nil IsIdle
+  idle_on r [] (h ∷ hs) n a idle = absurd a
+  idle_on r (g ∷ gs) [] n a idle = absurd a
+  idle_on r (g ∷ gs) (h ∷ hs) n a idle = All-cons IsIdle h hs (a.0.nothing (All-head IsIdle g gs idle)) (idle_on r gs hs n a.1 (All-tail IsIdle g gs idle))
 
   -- What holds while groups are driven to their end, those below a place first.
   pub record IsFinishing (old new : List (Group W Q R T U)) (place : ℕ) : Type 0 where
     pub turns : ℕ
-    pub goes : AllGoOn Fits Sound oa isf Left ⊥ old new turns
+    pub goes : AllGoOn Fits Sound oa isf Left limit (Ok tt) old new turns
     pub less : sum_by (work_left Left) new + turns ≤ sum_by (work_left Left) old
     pub tells : All (Finite Left) new
     pub idle : All IsIdle (take place new)
@@ -356,21 +387,21 @@ module _ {W Q R T U : Type 0} (Fits : T → W → Type 0) (Sound : W → State �
   pub finishing_begins : (gs : List (Group W Q R T U)) → All (Finite Left) gs → IsFinishing gs gs 0
   finishing_begins gs tells = record {
     turns = 0;
-    goes = all_refl Fits Sound oa isf Left _ gs 0;
+    goes = all_refl Fits Sound oa isf Left limit _ gs 0;
     less = omega arith;
     tells = tells;
     idle = All-nil IsIdle;
   }
 
   pub finishing_goes_on : (old front front' rest rest' : List (Group W Q R T U)) (g h : Group W Q R T U) (place : ℕ) → length front ≡ place → IsFinishing old (front ++ g ∷ rest) place
-      → Drives Fits Sound oa isf Left front front' g h rest rest' (Ok tt) → IsFinishing old (front' ++ h ∷ rest') (place + 1)
+      → Drives Fits Sound oa isf Left limit front front' g h rest rest' (Ok tt) → IsFinishing old (front' ++ h ∷ rest') (place + 1)
   finishing_goes_on old front front' rest rest' g h place len was drives =
       let tells_front = all_front (Finite Left) front (g ∷ rest) was.tells in
       let tells_rest = All-tail (Finite Left) g rest (all_back (Finite Left) front (g ∷ rest) was.tells) in
       let tells_g = all_middle (Finite Left) front g rest was.tells in
-      let first = left_on _ front front' drives.turns drives.first tells_front in
-      let last = left_on _ rest rest' drives.turns drives.last tells_rest in
-      let own = left_falls (Left g.world g.cx.log.state) (Left h.world h.cx.log.state) 0 tells_g drives.own.falls in
+      let first = left_on front front' drives.turns drives.first tells_front in
+      let last = left_on rest rest' drives.turns drives.last tells_rest in
+      let own = left_falls (Left g.world g.cx.log.state) (Left h.world h.cx.log.state) 0 tells_g (drives.own.falls (λ is. never_worn is)) in
       let first_less : sum_by (work_left Left) front' ≤ sum_by (work_left Left) front = first.0 in
       let last_less : sum_by (work_left Left) rest' ≤ sum_by (work_left Left) rest = last.0 in
       let own_less : work_left Left h + drives.turns ≤ work_left Left g = drives.less in
@@ -379,46 +410,44 @@ module _ {W Q R T U : Type 0} (Fits : T → W → Type 0) (Sound : W → State �
       let len' : length front' ≡ place = length_on _ front front' drives.turns drives.first ∙ len in
       record {
         turns = was.turns + drives.turns;
-        goes = all_trans Fits Sound oa isf Left _ old (front ++ g ∷ rest) (front' ++ h ∷ rest') was.turns drives.turns was.goes
-            (all_over Fits Sound oa isf Left (lacks_none (Ok tt) refl) (front ++ g ∷ rest) (front' ++ h ∷ rest') drives.turns (all_row Fits Sound oa isf Left front front' rest rest' g h drives.turns drives.first drives.own drives.last));
+        goes = all_trans Fits Sound oa isf Left limit _ old (front ++ g ∷ rest) (front' ++ h ∷ rest') was.turns drives.turns was.goes
+            (all_row Fits Sound oa isf Left limit front front' rest rest' g h drives.turns drives.first drives.own drives.last);
         less = omega (arith, sum_by-append (work_left Left) front (g ∷ rest), sum_by-append (work_left Left) front' (h ∷ rest'), sum_by-cons (work_left Left) g rest, sum_by-cons (work_left Left) h rest');
         tells = All-append (Finite Left) front' (h ∷ rest') first.1 (All-cons (Finite Left) h rest' own.0 last.1);
         idle = subst (λ (gs : List (Group W Q R T U)). All IsIdle gs) (sym (take_more front' h rest' place len'))
             (All-append IsIdle front' (h ∷ []) (idle_on _ front front' drives.turns drives.first idle_front) (All-cons IsIdle h [] drives.idle (All-nil IsIdle)));
       }
 
-  pub left-le-sum : (front : List (Group W Q R T U)) (g : Group W Q R T U) (rest : List (Group W Q R T U)) → work_left Left g ≤ sum_by (work_left Left) (front ++ g ∷ rest)
+  left-le-sum : (front : List (Group W Q R T U)) (g : Group W Q R T U) (rest : List (Group W Q R T U)) → work_left Left g ≤ sum_by (work_left Left) (front ++ g ∷ rest)
   left-le-sum front g rest = omega (arith, sum_by-append (work_left Left) front (g ∷ rest), sum_by-cons (work_left Left) g rest)
 
-  pub fewer_turns : (gs : List (Group W Q R T U)) (m k : ℕ) → k ≤ m → All (HasTurns m) gs → All (HasTurns k) gs
-  fewer_turns gs m k le all = All-weaker (HasTurns m) (HasTurns k) (λ g h. omega arith) gs all
-
-  pub finishing_next : (old new next : List (Group W Q R T U)) (place : ℕ) → IsFinishing old new place → DrivesAt Fits Sound oa isf Left place new next (Ok tt) → IsFinishing old next (place + 1)
+  pub finishing_next : (old new next : List (Group W Q R T U)) (place : ℕ) → IsFinishing old new place → DrivesAt Fits Sound oa isf Left limit place new next (Ok tt) → IsFinishing old next (place + 1)
   finishing_next old new next place was at = subst (λ (gs : List (Group W Q R T U)). IsFinishing old gs (place + 1)) (sym at.new_is)
       (finishing_goes_on old at.before at.before' at.after at.after' at.group at.group' place at.at_place (subst (λ (gs : List (Group W Q R T U)). IsFinishing old gs place) at.old_is was) at.drives)
 
-  pub finishing_stops : (old new next : List (Group W Q R T U)) (place : ℕ) (result : Result (Unit {0}) NoMemory) (e : NoMemory) → IsErr result → IsFinishing old new place → DrivesAt Fits Sound oa isf Left place new next (Err e) → Finishes Fits Sound oa isf Left old next result
-  finishing_stops old new next place (Ok u) e is was at = absurd (cc)
-  finishing_stops old new next place (Err f) e is was at =
-      let row_goes = all_row Fits Sound oa isf Left at.before at.before' at.after at.after' at.group at.group' at.drives.turns at.drives.first at.drives.own at.drives.last in
+  pub finishing_stops : (old new next : List (Group W Q R T U)) (place : ℕ) (e : Unfinished) → IsFinishing old new place → DrivesAt Fits Sound oa isf Left limit place new next (Err e) → Finishes Fits Sound oa isf Left limit old next (Err e)
+  finishing_stops old new next place e was at =
+      let row_goes = all_row Fits Sound oa isf Left limit at.before at.before' at.after at.after' at.group at.group' at.drives.turns at.drives.first at.drives.own at.drives.last in
+      let left : work_left Left at.group ≤ sum_by (work_left Left) new = subst (λ (gs : List (Group W Q R T U)). work_left Left at.group ≤ sum_by (work_left Left) gs) (sym at.old_is) (left-le-sum at.before at.group at.after) in
       record {
         turns = was.turns + at.drives.turns;
-        goes = all_trans Fits Sound oa isf Left _ old new next was.turns at.drives.turns (all_over Fits Sound oa isf Left (λ (no : ⊥). absurd no) old new was.turns was.goes)
-            (subst (λ (x : List (Group W Q R T U) × List (Group W Q R T U)). AllGoOn Fits Sound oa isf Left (Lacks (Err e)) x.0 x.1 at.drives.turns) (λ i. (sym at.old_is i, sym at.new_is i)) row_goes);
+        within = let less = was.less in let few = at.drives.within in omega arith;
+        goes = all_trans Fits Sound oa isf Left limit _ old new next was.turns at.drives.turns (all_well Fits Sound oa isf Left limit (Err e) old new was.turns was.goes)
+            (subst (λ (x : List (Group W Q R T U) × List (Group W Q R T U)). AllGoOn Fits Sound oa isf Left limit (Err e) x.0 x.1 at.drives.turns) (λ i. (sym at.old_is i, sym at.new_is i)) row_goes);
         less = tt;
         idle = tt;
+        worn = subst (λ (gs : List (Group W Q R T U)). WornAmong Fits Sound oa isf limit (Err e) gs) (sym at.new_is) at.drives.worn;
       }
 
-  pub finishing_ends : (old new : List (Group W Q R T U)) (place : ℕ) → length new ≤ place → IsFinishing old new place → Finishes Fits Sound oa isf Left old new (Ok tt)
+  pub finishing_ends : (old new : List (Group W Q R T U)) (place : ℕ) → length new ≤ place → IsFinishing old new place → Finishes Fits Sound oa isf Left limit old new (Ok tt)
   finishing_ends old new place le was = record {
     turns = was.turns;
-    goes = all_over Fits Sound oa isf Left (λ (no : ⊥). absurd no) old new was.turns was.goes;
+    within = let less = was.less in omega arith;
+    goes = was.goes;
     less = was.less;
     idle = subst (λ (gs : List (Group W Q R T U)). All IsIdle gs) (take_all new place le) was.idle;
+    worn = λ is. absurd (never_worn is);
   }
 
   pub finishing_fits : (tags : List T) (old new : List (Group W Q R T U)) (place : ℕ) → GroupsFit Fits Sound oa isf tags old → IsFinishing old new place → GroupsFit Fits Sound oa isf tags new
-  finishing_fits tags old new place fits was = fits_on Fits Sound oa isf Left _ tags old new was.turns fits was.goes
-
-  pub finishing_turns : (old new : List (Group W Q R T U)) (place : ℕ) → All (HasTurns (sum_by (work_left Left) old)) old → IsFinishing old new place → All (HasTurns (sum_by (work_left Left) new)) new
-  finishing_turns old new place young was = spare_on _ old new was.turns (sum_by (work_left Left) old) (sum_by (work_left Left) new) was.goes was.less young
+  finishing_fits tags old new place fits was = fits_on Fits Sound oa isf Left limit _ tags old new was.turns fits was.goes

@@ -9,12 +9,11 @@ use lib.ListN.{get_elem?}
 use Rattle.ts_journal.specs.declared.slotted.Slotted.{Ghosts}
 use Rattle.ts_journal.specs.State.{State}
 use Rattle.ts_journal.specs.Later.{IsLater}
-use Rattle.ts_journal.proofs.Later.{follows_trans}
 use Rattle.ts_group.specs.declared.action.Named.{Named}
 use Rattle.ts_group.specs.declared.group.Group.{Group}
 use Rattle.ts_group.specs.declared.slot.TheConstants.{MOST_IN_TURN}
 use Rattle.ts_group.specs.Due.{NoNews}
-use Rattle.ts_group.specs.Standing.{StandsAfter}
+use Rattle.ts_group.specs.Standing.{StandsAfter, follows_on}
 use Rattle.ts_slot.specs.declared.seat.Turn.{Turn}
 use Rattle.ts_slot.specs.declared.view.View.{View}
 use Rattle.ts_slot.specs.Limits.{last_turn}
@@ -24,6 +23,7 @@ use Rattle.ts_thread.specs.Entering.{IsEntered}
 use Rattle.ts_thread.specs.Held.{HasTurn, BeginsSame, StartsInTurn, FitsHere, WillFit}
 use Rattle.ts_thread.specs.Seats.{More, KeepsSeat, Leaves, KnowsTurn}
 use Rattle.ts_thread.specs.Started.{IsFirst, Starts, WasStarted, Started, AllStarted}
+use Rattle.ts_thread.proofs.Groups.{keeps_same, turn_follows, has_gone}
 use Rattle.ts_thread.proofs.Seats.{keeps_trans, won_left}
 
 -- one element stands at a place
@@ -38,7 +38,7 @@ entered_left {d = d} tags k old new u turn entered leaves =
 module _ {W Q R T U : Type 0} (Fits : T → W → Type 0) (Sound : W → State → List Named → Type 0) (only_asked is_first : T → Bool) (Begun : W → W → Type 0) (tags : List T) where
   -- a group that was started fits its tag once its turn is given back
   pub start_fits : (k k' turn seat : ℕ) (v g0 g1 g1' g2 : Group W Q R T U) (t : T) → FitsHere Fits Sound only_asked is_first tags k v → get_elem? tags k ≡ some t → only_asked t ≡ false → k' ≡ k → g0 ≡ v
-      → HasTurn g0 g1 turn seat → BeginsSame g0 g1 → g1' ≡ g1 → StartsInTurn Fits Sound Begun g1' g2 → v.cx.log.state.turns < turn → WillFit Fits Sound only_asked is_first tags k' g2
+      → HasTurn Fits g0 g1 turn seat → BeginsSame g0 g1 → g1' ≡ g1 → StartsInTurn Fits Sound Begun g1' g2 → v.cx.log.state.turns < turn → WillFit Fits Sound only_asked is_first tags k' g2
   start_fits k k' turn seat v g0 g1 g1' g2 t fit at not group is has same is1 starts later =
       let own = fit.0 in
       let tag : own ≡ t = same_at tags k own t fit.1 at in
@@ -65,26 +65,31 @@ module _ {W Q R T U : Type 0} (Fits : T → W → Type 0) (Sound : W → State �
 
   -- a group was entered, started and left
   pub starts_one : (k turn seat : ℕ) (found v g0 g1 g1' g2 left : Group W Q R T U) (old before entered new : View T (Group W Q R T U)) → FitsHere Fits Sound only_asked is_first tags k v → found ≡ v → g0 ≡ v
-      → HasTurn g0 g1 turn seat → BeginsSame g0 g1 → g1' ≡ g1 → StartsInTurn Fits Sound Begun g1' g2 → entered ≡ won k turn v before → Leaves entered new
-      → left.cx.log.base ≡ g2.cx.log.base → IsLater g2.cx.log.state left.cx.log.state → NoNews left.cx.news_from left.cx.log.state → KnowsTurn k turn left new.known
-      → Starts (IsFirst is_first tags) Begun Sound k turn found g2 left new.known
-  starts_one k turn seat found v g0 g1 g1' g2 left old before entered new fit is_found is has same is1 starts wins leaves base later told knows =
+      → HasTurn Fits g0 g1 turn seat → BeginsSame g0 g1 → g1' ≡ g1 → StartsInTurn Fits Sound Begun g1' g2 → v.cx.log.state.turns < turn → entered ≡ won k turn v before → Leaves entered new
+      → left.world ≡ g2.world → left.cx.log.base ≡ g2.cx.log.base → IsLater g2.cx.log.state left.cx.log.state → NoNews left.cx.news_from left.cx.log.state → KnowsTurn k turn left new.known
+      → Starts Fits (IsFirst is_first tags) Begun Sound k turn found g2 left new.known
+  starts_one k turn seat found v g0 g1 g1' g2 left old before entered new fit is_found is has same is1 starts young wins leaves stays base later told knows =
       let world : g1'.world ≡ found.world = ap (λ (x : Group W Q R T U). x.world) is1 ∙ same.world ∙ ap (λ (x : Group W Q R T U). x.world) is ∙ ap (λ (x : Group W Q R T U). x.world) (sym is_found) in
       let base0 : g2.cx.log.base ≡ v.cx.log.base = starts.goes.base ∙ ap (λ (x : Group W Q R T U). x.cx.log.base) is1 ∙ has.base ∙ ap (λ (x : Group W Q R T U). x.cx.log.base) is in
+      let taken : HasTurn Fits found g1' turn seat = subst (λ (x : Group W Q R T U). HasTurn Fits x g1' turn seat) (is ∙ sym is_found) (subst (λ (x : Group W Q R T U). HasTurn Fits g0 x turn seat) (sym is1) has) in
+      let gone : HasTurn Fits found g2 turn seat = has_gone Fits found g1' g2 turn seat taken starts.goes in
       let there : IsIn (k, turn - 1, v) entered.known = subst (IsIn (k, turn - 1, v)) (sym (ap (λ (x : View T (Group W Q R T U)). x.known) wins)) (inl refl) in
       record {
         first = (fit.0, fit.1, subst (λ (s : State). OnTrue (is_first fit.0) (s.turns ≡ 0)) (sym base0) fit.2.3);
         stood = subst (λ (x : Group W Q R T U). IsIn (k, turn - 1, x) new.known) (sym is_found) (leaves.known.stays (k, turn - 1, v) there);
+        turned = let number = gone.number in let was = ap (λ (x : Group W Q R T U). x.cx.log.state.turns) is_found in omega arith;
+        goes = turn_follows Fits found g2 turn seat gone;
         begun = subst (λ w. Begun w g2.world) world starts.begun;
         sound = starts.sound;
+        world = stays;
         base = base;
         later = later;
         told = told;
         knows = knows;
       }
 
-module _ {W : Type 0} (Q R T U : Type 0) (First : ℕ → ℕ → Type 0) (Begun : W → W → Type 0) (Sound : W → State → List Named → Type 0) where
-  pub started_more : (xs ys : List (ℕ × ℕ × Group W Q R T U)) (k : ℕ) → More xs ys → Started Q R T U First Begun Sound xs k → Started Q R T U First Begun Sound ys k
+module _ {W T : Type 0} (Q R U : Type 0) (Fits : T → W → Type 0) (First : ℕ → ℕ → Type 0) (Begun : W → W → Type 0) (Sound : W → State → List Named → Type 0) where
+  pub started_more : (xs ys : List (ℕ × ℕ × Group W Q R T U)) (k : ℕ) → More xs ys → Started Q R U Fits First Begun Sound xs k → Started Q R U Fits First Begun Sound ys k
   started_more xs ys k more s = record {
     turn = s.turn;
     found = s.found;
@@ -93,8 +98,11 @@ module _ {W : Type 0} (Q R T U : Type 0) (First : ℕ → ℕ → Type 0) (Begun
     starts = record {
       first = s.starts.first;
       stood = more.stays (k, s.turn - 1, s.found) s.starts.stood;
+      turned = s.starts.turned;
+      goes = s.starts.goes;
       begun = s.starts.begun;
       sound = s.starts.sound;
+      world = s.starts.world;
       base = s.starts.base;
       later = s.starts.later;
       told = s.starts.told;
@@ -102,12 +110,12 @@ module _ {W : Type 0} (Q R T U : Type 0) (First : ℕ → ℕ → Type 0) (Begun
     };
   }
 
-  pub all_more : (xs ys : List (ℕ × ℕ × Group W Q R T U)) (n : ℕ) → More xs ys → AllStarted Q R T U First Begun Sound xs n → AllStarted Q R T U First Begun Sound ys n
+  pub all_more : (xs ys : List (ℕ × ℕ × Group W Q R T U)) (n : ℕ) → More xs ys → AllStarted Q R U Fits First Begun Sound xs n → AllStarted Q R U Fits First Begun Sound ys n
   all_more xs ys n more all k low = started_more xs ys k more (all k low)
 
-  pub one_more : (xs ys : List (ℕ × ℕ × Group W Q R T U)) (n : ℕ) → More xs ys → AllStarted Q R T U First Begun Sound xs n → Started Q R T U First Begun Sound ys n → AllStarted Q R T U First Begun Sound ys (n + 1)
+  pub one_more : (xs ys : List (ℕ × ℕ × Group W Q R T U)) (n : ℕ) → More xs ys → AllStarted Q R U Fits First Begun Sound xs n → Started Q R U Fits First Begun Sound ys n → AllStarted Q R U Fits First Begun Sound ys (n + 1)
   one_more xs ys n more all one k low =
-      ⊎_elim (λ (less : k < n). started_more xs ys k more (all k less)) (λ (past : n ≤ k). let e : k ≡ n = omega arith in subst (Started Q R T U First Begun Sound ys) (sym e) one) (cases_lt k n)
+      ⊎_elim (λ (less : k < n). started_more xs ys k more (all k less)) (λ (past : n ≤ k). let e : k ≡ n = omega arith in subst (Started Q R U Fits First Begun Sound ys) (sym e) one) (cases_lt k n)
 
 -- what holds of each entry of a list holds of one that stands in it
 each_in : {A : Type 0} (P : A → Type 0) (xs : List A) (x : A) → Each P xs → IsIn x xs → P x
@@ -139,22 +147,26 @@ given_known (y ∷ ys) i zero j x e at = let same : y ≡ x = cc in let place : 
 given_known (y ∷ ys) i (suc k) j x e at = inr (given_known ys (i + 1) k j x (omega arith) at)
 
 -- At the end, a group that was started follows what stood then, as far as it was known before.
-pub was_started : {W Q R T U : Type 0} (First : ℕ → ℕ → Type 0) (Begun : W → W → Type 0) (Sound : W → State → List Named → Type 0) (old known : List (ℕ × ℕ × Group W Q R T U)) (turns : List (ℕ × ℕ)) (k : ℕ) (given now : Group W Q R T U)
-    → entries k turns + 1 < last_turn → Started Q R T U First Begun Sound old k → Coherent StandsAfter old → IsIn (k, 0, given) old → More old known → IsAfter StandsAfter k (entries k turns + 1) now known → WasStarted First Begun Sound k given now
-was_started {W} {Q} {R} {T} {U} First Begun Sound old known turns k given now low s coherent first more after =
-    let found = each_in (λ (e : ℕ × ℕ × Group W Q R T U). e.0 ≡ k → (e.1 < entries k turns + 1) × StandsAfter now e.2 × (e.1 + 1 ≡ entries k turns + 1 → now ≡ e.2)) known (k, s.turn - 1, s.found) after (more.stays (k, s.turn - 1, s.found) s.starts.stood) refl in
+pub was_started : {W Q R T U : Type 0} (Fits : T → W → Type 0) (First : ℕ → ℕ → Type 0) (Begun : W → W → Type 0) (Sound : W → State → List Named → Type 0) (old known : List (ℕ × ℕ × Group W Q R T U)) (turns : List (ℕ × ℕ)) (k : ℕ) (given now : Group W Q R T U)
+    → entries k turns + 1 < last_turn → Started Q R U Fits First Begun Sound old k → Coherent (StandsAfter Fits) old → IsIn (k, 0, given) old → More old known → IsAfter (StandsAfter Fits) k (entries k turns + 1) now known → WasStarted Fits First Begun Sound k given now
+was_started {W} {Q} {R} {T} {U} Fits First Begun Sound old known turns k given now low s coherent first more after =
+    let found = each_in (λ (e : ℕ × ℕ × Group W Q R T U). e.0 ≡ k → (e.1 < entries k turns + 1) × StandsAfter Fits now e.2 × (e.1 + 1 ≡ entries k turns + 1 → now ≡ e.2)) known (k, s.turn - 1, s.found) after (more.stays (k, s.turn - 1, s.found) s.starts.stood) refl in
     let below = found.0 in
     let young : s.turn < last_turn = omega arith in
-    let left = after_known StandsAfter known k (entries k turns + 1) s.turn s.left now after (more.stays (k, s.turn, s.left) (s.starts.knows young)) in
+    let left = after_known (StandsAfter Fits) known k (entries k turns + 1) s.turn s.left now after (more.stays (k, s.turn, s.left) (s.starts.knows young)) in
     record {
       found = s.found;
-      stood = coherent_after StandsAfter old k 0 (s.turn - 1) given s.found coherent first s.starts.stood (omega arith);
+      stood = coherent_after (StandsAfter Fits) old k 0 (s.turn - 1) given s.found coherent first s.starts.stood (omega arith);
       started = s.started;
+      turned = s.starts.turned;
+      goes = s.starts.goes;
       first = s.starts.first;
       begun = s.starts.begun;
       sound = s.starts.sound;
-      follows = follows_trans (now.cx.log.base.turns, now.cx.log.state) (s.left.cx.log.base.turns, s.left.cx.log.state) (s.started.cx.log.base.turns, s.started.cx.log.state) left.follows
-          (inr (ap (λ (x : State). x.turns) s.starts.base, s.starts.later));
+      follows = follows_on Fits now s.left s.started left.follows (record {
+        journal = inr (ap (λ (x : State). x.turns) s.starts.base, s.starts.later);
+        tags = λ same. keeps_same Fits s.started.world s.left.world s.starts.world;
+      });
     }
 
 -- elements of two lists at the same places

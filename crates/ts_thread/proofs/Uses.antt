@@ -121,7 +121,7 @@ module _ {X G T : Type 0} {d : Ghosts X G T} where
 
 module _ {W Q R T U : Type 0} {d : Ghosts (Group W Q R T U) T (Group W Q R T U)} (Fits : T → W → Type 0) (Asking : W → State → List Named → ℕ → ℕ → Q → Type 0) (Answers : W → Q → R → Type 0) (Called : W → W → List ℕ → Type 0) (Heard : W → W → Asked Q R → Type 0) (Left : W → State → Option ℕ) (tags : List T) where
   pub serve_ends : (token : Token) (k turn moment : ℕ) (found v1 begun v2 now : Group W Q R T U) (old worked new : Desk (Group W Q R T U) T (Group W Q R T U) d) (answer : Did) → k ≡ token.group → v1 ≡ found → BeginsSame v1 begun
-      → HasTurn v1 begun turn old.seat.number → v2 ≡ begun → now.cx.news_from ≡ v2.cx.news_from → Works token old worked answer
+      → HasTurn Fits v1 begun turn old.seat.number → v2 ≡ begun → now.cx.news_from ≡ v2.cx.news_from → Works token old worked answer
       → RunsHandlers Fits Asking Answers Called Heard Left tags token.number moment v2 now (view old.seat) (view worked.seat) (Ok answer) → IsShown v2.cx.log.state now.cx.log.state token.number moment answer
       → LeavesDesk worked new → EndsTurn k turn moment now worked new → Serves Fits Asking Answers Called Heard Left tags token moment turn found old new answer
   serve_ends token k turn moment found v1 begun v2 now old worked new answer group is same has is2 now_from works ran shown leaves ends =
@@ -140,7 +140,7 @@ module _ {W Q R T U : Type 0} {d : Ghosts (Group W Q R T U) T (Group W Q R T U)}
       } in
       record {
         begun = v2;
-        has = subst (λ (x : Group W Q R T U). HasTurn x v2 turn old.seat.number) is (subst (λ (x : Group W Q R T U). HasTurn v1 x turn old.seat.number) (sym is2) has);
+        has = subst (λ (x : Group W Q R T U). HasTurn Fits x v2 turn old.seat.number) is (subst (λ (x : Group W Q R T U). HasTurn Fits v1 x turn old.seat.number) (sym is2) has);
         begins = subst (λ (x : Group W Q R T U). BeginsSame x v2) is (subst (BeginsSame v1) (sym is2) same);
         now = now;
         worked = worked;
@@ -155,12 +155,12 @@ module _ {W Q R T U : Type 0} {d : Ghosts (Group W Q R T U) T (Group W Q R T U)}
       }
 
   pub uses_of : (token : Token) (moment turn : ℕ) (found value : Group W Q R T U) (old entered new : Desk (Group W Q R T U) T (Group W Q R T U) d) → found ≡ value
-      → IsAfter StandsAfter token.group turn value (view old.seat).known → view entered.seat ≡ won token.group turn value (view old.seat) → entered.wheel ≡ old.wheel → entered.pass ≡ old.pass
+      → IsAfter (StandsAfter Fits) token.group turn value (view old.seat).known → view entered.seat ≡ won token.group turn value (view old.seat) → entered.wheel ≡ old.wheel → entered.pass ≡ old.pass
       → (answer : Did) → Serves Fits Asking Answers Called Heard Left tags token moment turn found entered new answer → Uses Fits Asking Answers Called Heard Left tags token moment old new answer
   uses_of token moment turn found value old entered new is after wins wheel pass answer serves = by_answer answer (record {
     turn = turn;
     found = found;
-    after = subst (λ (x : Group W Q R T U). IsAfter StandsAfter token.group turn x (view old.seat).known) (sym is) after;
+    after = subst (λ (x : Group W Q R T U). IsAfter (StandsAfter Fits) token.group turn x (view old.seat).known) (sym is) after;
     entered = entered;
     wins = subst (λ (x : Group W Q R T U). view entered.seat ≡ won token.group turn x (view old.seat)) (sym is) wins;
     wheel = wheel;

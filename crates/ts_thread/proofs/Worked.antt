@@ -213,7 +213,7 @@ answer_over A B k q (asked.NoMemory x) h f = h
 
 module _ {W Q R T U : Type 0} (Fits : T → W → Type 0) (Sound : W → State → List Named → Type 0) (only_asked is_first : T → Bool) where
   -- a group that is only asked can be asked in a turn
-  pub can_be_asked : (old new : Group W Q R T U) (turn seat : ℕ) (t : T) → HasTurn old new turn seat → BeginsSame old new → GroupFits Fits Sound only_asked is_first t old → only_asked t ≡ true
+  pub can_be_asked : (old new : Group W Q R T U) (turn seat : ℕ) (t : T) → HasTurn Fits old new turn seat → BeginsSame old new → GroupFits Fits Sound only_asked is_first t old → only_asked t ≡ true
       → old.cx.log.state.turns < turn → turn ≤ last_turn → OnTrue (only_asked t) (IsLive new.cx.log.state.live own_key) → CanBeAsked new.cx.log.state
   can_be_asked old new turn seat t has same fit asked young low rests =
       let next = same.next in
@@ -231,7 +231,7 @@ module _ {W Q R T U : Type 0} (Fits : T → W → Type 0) (Sound : W → State �
   asked_goes Answers (Err e) old new question moment valid held ok err tags = same_goes Fits old new held err.1
 
 -- which turns are recorded in a group that is given back, by what is known of the one that was found
-pub given_marks : {W Q R T U : Type 0} (found new old : Group W Q R T U) (turn turn' seat seat' : ℕ) → IsGivenBack found new turn seat → found ≡ old → turn ≡ turn' → seat ≡ seat'
+pub given_marks : {W Q R T U : Type 0} (Fits : T → W → Type 0) (found new old : Group W Q R T U) (turn turn' seat seat' : ℕ) → IsGivenBack Fits found new turn seat → found ≡ old → turn ≡ turn' → seat ≡ seat'
     → (mark : ℕ × ℕ) → Contains (marks_of new.cx.log.entries) mark → Contains (marks_of old.cx.log.entries) mark ⊎ (mark ≡ (turn', seat'))
-given_marks {W} {Q} {R} {T} {U} found new old turn turn' seat seat' given e f h mark there =
+given_marks {W} {Q} {R} {T} {U} Fits found new old turn turn' seat seat' given e f h mark there =
     subst (λ (x : Group W Q R T U × ℕ × ℕ). Contains (marks_of x.0.cx.log.entries) mark ⊎ (mark ≡ (x.1, x.2))) (λ i. (e i, f i, h i)) (given.marks mark there)

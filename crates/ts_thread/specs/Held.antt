@@ -28,17 +28,18 @@ HasFew only_asked s =
 
 module _ {W Q R T U : Type 0} where
   -- A seat has a turn of a group, which it found as the one and which is the other now.
-  pub record HasTurn (found now : Group W Q R T U) (turn seat : ℕ) : Type 0 where
+  pub record HasTurn (Fits : T → W → Type 0) (found now : Group W Q R T U) (turn seat : ℕ) : Type 0 where
     pub held : now.cx.log.state.held ≡ true
     pub number : now.cx.log.state.turns ≡ turn
     pub marks : marks_of now.cx.log.entries ≡ marks_of found.cx.log.entries ++ (turn, seat) ∷ []
     pub later : IsLater found.cx.log.state now.cx.log.state
     pub base : now.cx.log.base ≡ found.cx.log.base
     pub news_from : now.cx.news_from ≡ found.cx.news_from
+    pub tags : KeepsTags Fits found.world now.world
 
   -- A group that a seat found and leaves: it holds no turn, and records none but this one of the seat beside
   -- those that it recorded.
-  pub record IsGivenBack (found left : Group W Q R T U) (turn seat : ℕ) : Type 0 where
+  pub record IsGivenBack (Fits : T → W → Type 0) (found left : Group W Q R T U) (turn seat : ℕ) : Type 0 where
     pub free : left.cx.log.state.held ≡ false
     pub stamp : (left.cx.log.state.turns ≡ found.cx.log.state.turns) ⊎ (left.cx.log.state.turns ≡ turn)
     pub marks : (mark : ℕ × ℕ) → Contains (marks_of left.cx.log.entries) mark
@@ -46,6 +47,7 @@ module _ {W Q R T U : Type 0} where
     pub later : IsLater found.cx.log.state left.cx.log.state
     pub base : left.cx.log.base ≡ found.cx.log.base
     pub rose : found.cx.news_from ≤ left.cx.news_from
+    pub tags : KeepsTags Fits found.world left.world
 
   -- a group goes on in the turn that it has
   pub record GoesInTurn (Fits : T → W → Type 0) (old new : Group W Q R T U) : Type 0 where

@@ -24,49 +24,56 @@ IsFirst {T} is_first tags k turns = (t : T) × (get_elem? tags k ≡ some t) × 
 
 module _ {W Q R T U : Type 0} where
   -- A seat started the group k in a turn, after which nothing is news in it, and knows what stood then.
-  pub record Starts (First : ℕ → ℕ → Type 0) (Begun : W → W → Type 0)
+  pub record Starts (Fits : T → W → Type 0) (First : ℕ → ℕ → Type 0) (Begun : W → W → Type 0)
       (Sound : W → State → List Named → Type 0)
       (k turn : ℕ) (found started left : Group W Q R T U)
       (known : List (ℕ × ℕ × Group W Q R T U)) : Type 0 where
     pub first : First k started.cx.log.base.turns
     pub stood : IsIn (k, turn - 1, found) known
+    pub turned : found.cx.log.state.turns < started.cx.log.state.turns
+    pub goes : FollowsGroup Fits started found
     pub begun : Begun found.world started.world
     pub sound : Holds Sound started
+    pub world : left.world ≡ started.world
     pub base : left.cx.log.base ≡ started.cx.log.base
     pub later : IsLater started.cx.log.state left.cx.log.state
     pub told : NoNews left.cx.news_from left.cx.log.state
     pub knows : KnowsTurn k turn left known
 
-  -- The group k follows one that was started, which the slot had after the group that was given.
-  pub record WasStarted (First : ℕ → ℕ → Type 0) (Begun : W → W → Type 0)
+  -- The group k follows one that was started in a turn, from one that the slot had after the group that was
+  -- given.
+  pub record WasStarted (Fits : T → W → Type 0) (First : ℕ → ℕ → Type 0) (Begun : W → W → Type 0)
       (Sound : W → State → List Named → Type 0)
       (k : ℕ) (given now : Group W Q R T U) : Type 0 where
     pub found : Group W Q R T U
-    pub stood : StandsAfter found given
+    pub stood : StandsAfter Fits found given
     pub started : Group W Q R T U
+    pub turned : found.cx.log.state.turns < started.cx.log.state.turns
+    pub goes : FollowsGroup Fits started found
     pub first : First k started.cx.log.base.turns
     pub begun : Begun found.world started.world
     pub sound : Holds Sound started
-    pub follows : FollowsGroup now started
+    pub follows : FollowsGroup Fits now started
 
   -- each of the first so many groups follows one that was started, which was given at its place
-  abbrev pub WereStarted : (ℕ → ℕ → Type 0) → (W → W → Type 0) → (W → State → List Named → Type 0) → ℕ
-      → List (Group W Q R T U) → List (Group W Q R T U) → Type 0
-  WereStarted First Begun Sound starts given groups =
+  abbrev pub WereStarted : (T → W → Type 0) → (ℕ → ℕ → Type 0) → (W → W → Type 0)
+      → (W → State → List Named → Type 0) → ℕ → List (Group W Q R T U) → List (Group W Q R T U) → Type 0
+  WereStarted Fits First Begun Sound starts given groups =
       (k : ℕ) (h g : Group W Q R T U) → k < starts → get_elem? given k ≡ some h → get_elem? groups k ≡ some g
-      → WasStarted First Begun Sound k h g
+      → WasStarted Fits First Begun Sound k h g
 
 -- A seat started the group k in a turn that it had.
-pub record Started {W : Type 0} (Q R T U : Type 0) (First : ℕ → ℕ → Type 0) (Begun : W → W → Type 0)
-    (Sound : W → State → List Named → Type 0) (known : List (ℕ × ℕ × Group W Q R T U)) (k : ℕ) : Type 0 where
+pub record Started {W T : Type 0} (Q R U : Type 0) (Fits : T → W → Type 0) (First : ℕ → ℕ → Type 0)
+    (Begun : W → W → Type 0) (Sound : W → State → List Named → Type 0)
+    (known : List (ℕ × ℕ × Group W Q R T U)) (k : ℕ) : Type 0 where
   pub turn : ℕ
   pub found : Group W Q R T U
   pub started : Group W Q R T U
   pub left : Group W Q R T U
-  pub starts : Starts First Begun Sound k turn found started left known
+  pub starts : Starts Fits First Begun Sound k turn found started left known
 
 -- a seat started each of the first so many groups
-abbrev pub AllStarted : {W : Type 0} (Q R T U : Type 0) → (ℕ → ℕ → Type 0) → (W → W → Type 0)
-    → (W → State → List Named → Type 0) → List (ℕ × ℕ × Group W Q R T U) → ℕ → Type 0
-AllStarted Q R T U First Begun Sound known starts =
-    (k : ℕ) → k < starts → Started Q R T U First Begun Sound known k
+abbrev pub AllStarted : {W T : Type 0} (Q R U : Type 0) → (T → W → Type 0) → (ℕ → ℕ → Type 0)
+    → (W → W → Type 0) → (W → State → List Named → Type 0) → List (ℕ × ℕ × Group W Q R T U) → ℕ → Type 0
+AllStarted Q R U Fits First Begun Sound known starts =
+    (k : ℕ) → k < starts → Started Q R U Fits First Begun Sound known k

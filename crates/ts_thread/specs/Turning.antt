@@ -75,7 +75,7 @@ module _ {W Q R T U : Type 0} {d : Ghosts (Group W Q R T U) T (Group W Q R T U)}
   pub record Serves (token : Token) (moment turn : ℕ) (found : Group W Q R T U)
       (old new : Desk (Group W Q R T U) T (Group W Q R T U) d) (answer : Did) : Type 0 where
     pub begun : Group W Q R T U
-    pub has : HasTurn found begun turn old.seat.number
+    pub has : HasTurn Fits found begun turn old.seat.number
     pub begins : BeginsSame found begun
     pub now : Group W Q R T U
     pub worked : Desk (Group W Q R T U) T (Group W Q R T U) d
@@ -94,7 +94,7 @@ module _ {W Q R T U : Type 0} {d : Ghosts (Group W Q R T U) T (Group W Q R T U)}
       (answer : Did) : Type 0 where
     pub turn : ℕ
     pub found : Group W Q R T U
-    pub after : IsAfter StandsAfter token.group turn found (view old.seat).known
+    pub after : IsAfter (StandsAfter Fits) token.group turn found (view old.seat).known
     pub entered : Desk (Group W Q R T U) T (Group W Q R T U) d
     pub wins : view entered.seat ≡ won token.group turn found (view old.seat)
     pub wheel : entered.wheel ≡ old.wheel

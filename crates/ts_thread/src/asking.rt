@@ -25,7 +25,7 @@ fn ask_turn<W: World + Drop>(
 ) -> Result<W::Reply, (NoMemory, W::Question)>
     requires fits { TakesQuestions W.fits W.sound W.only_asked W.is_first group.old }
     requires turn { (group.old.cx.log.state.turns < turn) × (turn ≤ last_turn) }
-    ensures given { IsGivenBack group.old group.new turn seat }
+    ensures given { IsGivenBack W.fits group.old group.new turn seat }
     ensures fits { (t : W.Tag) → GroupFits W.fits W.sound W.only_asked W.is_first t group.old
         → GroupFits W.fits W.sound W.only_asked W.is_first t group.new }
     ensures reply { IfOk result (λ reply. W.answers group.old.world question reply) }

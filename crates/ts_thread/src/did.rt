@@ -1,5 +1,7 @@
 //! What comes of turns.
 
+use ts_link::NoMemory;
+
 /// What came of a turn.
 #[derive(Clone, Copy, PartialEq, Eq, Debug)]
 pub enum Did {
@@ -24,4 +26,23 @@ pub enum RunEnd {
     Budget,
     /// The last turn was idle, and the wheel is empty.
     Idle,
+}
+
+/// Why groups were not driven to their end.
+#[derive(Clone, Copy, PartialEq, Eq, Debug)]
+pub enum Unfinished {
+    NoMemory,
+    /// A group was to have a turn, and had had as many as it may have.
+    Worn,
+}
+
+impl From<NoMemory> for Unfinished {
+    ghost use Rattle.std.specs.Prelude.{◌≡◌};
+    ghost use Rattle.ts_thread.specs.declared.did.Unfinished.TheVariants as unfinished;
+
+    ghost from_gives = { λ _ e. e ≡ unfinished.NoMemory };
+
+    fn from(_lack: NoMemory) -> Unfinished {
+        Unfinished::NoMemory
+    }
 }

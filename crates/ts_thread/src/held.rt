@@ -8,7 +8,7 @@ use ts_group::{Group, World};
 use ts_link::NoMemory;
 
 /// Begins a turn of a group.
-#[tactic(auto, using(crate::proofs::Groups::has_begun, crate::proofs::Groups::begins_same, crate::proofs::Groups::given_same, crate::proofs::Groups::ok_to, crate::proofs::Groups::err_to))]
+#[tactic(auto, using(crate::proofs::Groups::begins_same, crate::proofs::Groups::given_same, crate::proofs::Groups::err_to))]
 pub fn begin<W: World + Drop>(
     group: &mut Group<W>,
     turn: u64,
@@ -18,10 +18,10 @@ pub fn begin<W: World + Drop>(
     requires free { group.old.cx.log.state.held ≡ false }
     requires later { group.old.cx.log.state.turns < turn }
     requires sound { Holds W.sound group.old }
-    ensures begun { OnOk result (HasTurn group.old group.new turn seat) }
+    ensures begun { OnOk result (HasTurn W.fits group.old group.new turn seat) }
     ensures same { BeginsSame group.old group.new }
     ensures sound { Holds W.sound group.new }
-    ensures err { OnErr result (IsGivenBack group.old group.new turn seat
+    ensures err { OnErr result (IsGivenBack W.fits group.old group.new turn seat
         × (group.new.cx.log.state ≡ group.old.cx.log.state)) }
 {
     group.known();

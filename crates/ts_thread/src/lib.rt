@@ -17,8 +17,8 @@ mod threads;
 mod turning;
 mod whole;
 
-pub use did::{Did, RunEnd};
-pub use ending::{ONLY_SEAT, finish};
+pub use did::{Did, RunEnd, Unfinished};
+pub use ending::{MOST_TURNS, ONLY_SEAT, finish, finish_within};
 pub use running::{run_groups, start_groups};
 pub use thread::EventThread;
 pub use whole::run_whole;
@@ -32,5 +32,5 @@ pub const MOST_ENTERED: u64 = 2;
 /// How many milliseconds after a miss a token is due again.
 pub const PUT_BACK: u64 = 10;
 
-/// How much is left to do to a group at most, where many groups are run and then driven to their end.
-pub const MOST_LEFT: u64 = 1 << 50;
+/// How many turns a group has had at most after `run_whole`, if threads gave it no more.
+pub const MOST_ALONE: u64 = 1 << 50;

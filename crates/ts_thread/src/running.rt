@@ -38,8 +38,8 @@ pub fn start_groups<W: World + Drop, R: Wait>(
     ensures pair { OnOk result (IsPair slots.now queue.now seat.new pass.new) }
     ensures opened { OnOk result (HasOpened starts seat.new pass.new) }
     ensures knows { OnOk result (More (view seat.old).known (view seat.new).known) }
-    ensures later { OnOk result (Coherent StandsAfter (view seat.new).known) }
-    ensures started { OnOk result (AllStarted W.Question W.Reply W.Tag W.Trace
+    ensures later { OnOk result (Coherent (StandsAfter W.fits) (view seat.new).known) }
+    ensures started { OnOk result (AllStarted W.Question W.Reply W.Trace W.fits
         (IsFirst W.is_first (tags_of slots.now)) W.begun W.sound (view seat.new).known starts) }
 {
     let wheel = Wheel::new(alloc)?;

@@ -43,7 +43,7 @@ fn start_one<W: World + Drop, R: Wait>(
     requires tags { CanStart W.only_asked (tags_of slots.now) (k + 1) }
     ensures desk { IsDeskOf slots.now queue.now desk.new }
     ensures keeps { KeepsDesk desk.old desk.new 1 }
-    ensures started { OnOk result (Started W.Question W.Reply W.Tag W.Trace
+    ensures started { OnOk result (Started W.Question W.Reply W.Trace W.fits
         (IsFirst W.is_first (tags_of slots.now)) W.begun W.sound (view desk.new.seat).known k) }
 {
     let mut turn = enter_at(rt, slots, &mut desk.seat, k);
@@ -69,7 +69,7 @@ pub fn start_all<W: World + Drop, R: Wait>(
     requires tags { CanStart W.only_asked (tags_of slots.now) starts }
     ensures desk { IsDeskOf slots.now queue.now desk.new }
     ensures keeps { KeepsDesk desk.old desk.new starts }
-    ensures started { OnOk result (AllStarted W.Question W.Reply W.Tag W.Trace
+    ensures started { OnOk result (AllStarted W.Question W.Reply W.Trace W.fits
         (IsFirst W.is_first (tags_of slots.now)) W.begun W.sound (view desk.new.seat).known starts) }
 {
     'starts: for k in 0..starts {

@@ -93,7 +93,7 @@ pub fn end_turn<W: World + Drop, R: Wait>(
 ) -> Result<(), NoMemory>
     requires desk { IsDeskOf slots.now queue.now desk.old }
     requires top { IsTop (view desk.old.seat) turn.group turn.number turn.found.value }
-    requires has { HasTurn turn.found.value turn.value turn.number desk.old.seat.number }
+    requires has { HasTurn W.fits turn.found.value turn.value turn.number desk.old.seat.number }
     requires fits { WillFit W.fits W.sound W.only_asked W.is_first (tags_of slots.now) turn.group turn.value }
     ensures desk { IsDeskOf slots.now queue.now desk.new }
     ensures leaves { LeavesDesk desk.old desk.new }

@@ -1,16 +1,20 @@
 -- Rows of peers: that they can ask, and that they end.
-use Rattle.std.proofs.Common.{◌≡◌, ℕ, zero, suc, ◌+◌, ◌<◌, ◌≤◌, List, [], ◌∷◌, ◌++◌, length, length-append, Bool, true, false, Some, refl, sym, ap, ◌∙◌, subst, All, arith}
+use Rattle.std.proofs.Common.{◌≡◌, ℕ, zero, suc, ◌+◌, ◌*◌, ◌<◌, ◌≤◌, List, [], ◌∷◌, ◌++◌, length, length-append, Bool, true, false, Some, refl, sym, ap, ◌∙◌, subst, All, Result, Ok, Err, arith}
+use Rattle.std.specs.Prelude.{IsOkUnless}
+use Rattle.std.specs.Result.{IsErrOf}
 use mathlib.Core.Option.{some}
 use lib.ListN.{get_elem?}
 use Rattle.std.specs.List.{slice_get}
 use Rattle.std.proofs.lemmas.List.Elements.{All-nil, All-cons, All-append, All-head, All-tail}
 use Rattle.ts_group.specs.declared.group.Group.{Group}
-use Rattle.ts_thread.specs.declared.TheConstants.{MOST_LEFT}
+use Rattle.ts_thread.specs.declared.TheConstants.{MOST_ALONE}
+use Rattle.ts_thread.specs.declared.did.Unfinished.{Unfinished}
+use Rattle.ts_thread.specs.declared.did.Unfinished.TheVariants as unfinished
 use Rattle.ts_thread.specs.Tags.{CanAsk, GroupsFit}
 use Rattle.ts_thread.specs.Started.{CanStart}
-use Rattle.ts_thread.specs.Whole.{EndSoon}
+use Rattle.ts_thread.specs.Whole.{EachTells, EndSoon}
 use Rattle.ts_group_tests.specs.declared.peer.Peer.{Peer}
-use Rattle.ts_group_tests.specs.declared.peer.TheConstants.{ASKED}
+use Rattle.ts_group_tests.specs.declared.peer.TheConstants.{ASKED, MOST_TODO}
 use Rattle.ts_group_tests.specs.Peers.{PeerFits, PeerSound, PeerMayAsk, PeerRight, PeerAnswers, peer_left}
 use Rattle.ts_thread_tests.specs.Peers.{IsPeer, AreRow, row_tags}
 
@@ -34,8 +38,22 @@ peers_can_ask = record {
 pub row_can_ask : (tags : List Bool) → tags ≡ row_tags ASKED → CanAsk PeerFits (λ b. b) PeerMayAsk PeerRight PeerAnswers tags
 row_can_ask tags e = subst (CanAsk PeerFits (λ b. b) PeerMayAsk PeerRight PeerAnswers) (sym e) peers_can_ask
 
-pub peers_end : (turns : ℕ) → turns ≤ MOST_LEFT → EndSoon ℕ ℕ (Unit {0}) PeerFits PeerSound (λ b. b) (λ b. true) peer_left turns
-peers_end turns low = record { few = low; each = λ t g fit few. let sound = fit.1 in let todo = sound.few in let one = sound.one in (refl, omega arith) }
+pub peers_tell : (tags : List Bool) → EachTells ℕ ℕ (Unit {0}) PeerFits PeerSound (λ b. b) (λ b. true) peer_left tags
+peers_tell tags = λ k d low g fit. refl
+
+-- a row of peers ends soon
+pub peers_end : (limit turns : ℕ) → turns ≤ 2 ^ 40 → MOST_ALONE ≤ limit → EndSoon ℕ ℕ (Unit {0}) PeerFits PeerSound (λ b. b) (λ b. true) peer_left limit turns (row_tags ASKED)
+peers_end limit turns low high = record {
+  most = 2 * MOST_TODO + 1;
+  each = λ k d low g fit few. let sound = fit.1 in let todo = sound.few in let one = sound.one in omega arith;
+  enough = omega arith;
+}
+
+-- where no group is worn, only memory can lack
+pub only_memory : {A : Type 0} (r : Result A Unfinished) → (IsErrOf r unfinished.Worn → ⊥) → IsOkUnless r unfinished.NoMemory
+only_memory (Ok a) none = tt
+only_memory (Err unfinished.NoMemory) none = refl
+only_memory (Err unfinished.Worn) none = absurd (none refl)
 
 pub row_of : (n : ℕ) (xs : List (Group Peer ℕ ℕ Bool (Unit {0}))) (x : Group Peer ℕ ℕ Bool (Unit {0})) → length xs ≡ n → All (λ g. IsPeer false g) xs → IsPeer true x
     → GroupsFit PeerFits PeerSound (λ b. b) (λ b. true) (row_tags n) (xs ++ x ∷ [])

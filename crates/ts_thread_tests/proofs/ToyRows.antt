@@ -14,15 +14,20 @@ use Rattle.ts_group.specs.Answers.{Holds}
 use Rattle.ts_group.specs.Context.{IsFresh}
 use Rattle.ts_group.specs.Slot.{IsAtRest}
 use Rattle.ts_group_tests.specs.declared.toy.TheConstants.{MOST_WORK}
-use Rattle.ts_thread.specs.declared.TheConstants.{MOST_LEFT}
+use Rattle.ts_thread.specs.declared.TheConstants.{MOST_ALONE}
 use Rattle.ts_thread.specs.Goings.{IsIdle}
 use Rattle.ts_thread.specs.Started.{CanStart}
 use Rattle.ts_thread.specs.Tags.{CanAsk, GroupFits, GroupsFit}
 use Rattle.ts_thread.specs.Threads.{HasHadTurns}
-use Rattle.ts_thread.specs.Whole.{EndSoon}
+use Rattle.ts_thread.specs.Whole.{EachTells, EndSoon}
 use Rattle.ts_thread.proofs.Ended.{fit_count}
 use Rattle.ts_thread_tests.specs.ToyRows.{AreToys, HasEnded}
 use Rattle.ts_thread_tests.proofs.Ends.{all_more}
+
+-- what holds of everything holds of all in a list
+all_of : {X : Type 0} (P : X → Type 0) (xs : List X) → ((x : X) → P x) → All P xs
+all_of P [] f = All-nil P
+all_of P (x ∷ xs) f = All-cons P x xs (f x) (all_of P xs f)
 
 zip_append : {A B : Type 0} (P : A → B → Type 0) (xs : List A) (ys : List B) (a : A) (b : B) → AllZip P xs ys → P a b → AllZip P (xs ++ a ∷ []) (ys ++ b ∷ [])
 zip_append P [] [] a b all one = (one, tt)
@@ -101,17 +106,23 @@ module _ {W Q R T U : Type 0} (Fits : T → W → Type 0) (Sound : W → State �
         (none, ends t g.world g.cx.log.state g.cx.roles (All-head Tagged t ts tagged) fits.0.0 fits.0.1 (ap (λ ps. length ps) none))
         (all_ended Counted ts gs ends (All-tail Tagged t ts tagged) fits.1 (All-tail IsIdle g gs idle))
 
-  -- worlds that tell little come to their end
-  pub toys_end : (Left : W → State → Option ℕ) (turns : ℕ)
-      → ((t : T) (w : W) (s : State) (roles : List Named) → Fits t w → Sound w s roles → IsSome (Left w s) × (unwrap_or (Left w s) 0 ≤ MOST_WORK + s.next))
-      → MOST_IN_TURN * turns + 1 + MOST_WORK ≤ MOST_LEFT → turns ≤ MOST_LEFT → EndSoon Q R U Fits Sound oa isf Left turns
-  toys_end Left turns little low few = record {
-    few = few;
-    each = λ t g fit had.
-        let tells = little t g.world g.cx.log.state g.cx.roles fit.0 fit.1 in
-        let next = next_bound (oa t) g.cx.log.state fit.2 in
-        let bound = tells.1 in (tells.0, omega arith);
-  }
+  module _ (Left : W → State → Option ℕ) (little : (t : T) (w : W) (s : State) (roles : List Named) → Fits t w → Sound w s roles → IsSome (Left w s) × (unwrap_or (Left w s) 0 ≤ MOST_WORK + s.next)) where
+    -- worlds that tell little tell it
+    pub toys_tell : (ts : List T) → EachTells Q R U Fits Sound oa isf Left ts
+    toys_tell ts = all_of (λ t. (g : Group W Q R T U) → GroupFits Fits Sound oa isf t g → IsSome (Left g.world g.cx.log.state)) ts (λ t g fit. (little t g.world g.cx.log.state g.cx.roles fit.0 fit.1).0)
+
+    -- and end soon
+    pub toys_end : (turns : ℕ) (ts : List T) → turns + length ts * (MOST_IN_TURN * turns + 1 + MOST_WORK) + 1 < MOST_ALONE → EndSoon Q R U Fits Sound oa isf Left MOST_ALONE turns ts
+    toys_end turns ts low = record {
+      most = MOST_IN_TURN * turns + 1 + MOST_WORK;
+      each = all_of (λ t. (g : Group W Q R T U) → GroupFits Fits Sound oa isf t g → HasHadTurns turns g → unwrap_or (Left g.world g.cx.log.state) 0 ≤ MOST_IN_TURN * turns + 1 + MOST_WORK) ts
+          (λ t g fit had.
+          let tells = little t g.world g.cx.log.state g.cx.roles fit.0 fit.1 in
+          let next = next_bound (oa t) g.cx.log.state fit.2 in
+          let bound = tells.1 in
+          omega arith);
+      enough = low;
+    }
 
 -- worlds that ask nobody can ask whom they may
 pub toys_can_ask : {W Q R T : Type 0} (Fits : T → W → Type 0) (oa : T → Bool) (MayAsk : W → ℕ → Type 0) (Right : W → ℕ → Q → R → Type 0) (Answers : W → Q → R → Type 0) (ts : List T) → ((w : W) (k : ℕ) → MayAsk w k → ⊥)
@@ -123,5 +134,4 @@ toys_can_ask Fits oa MayAsk Right Answers ts alone fair = record {
 
 -- of each tag this holds
 pub all_any : {T : Type 0} (ts : List T) → All (λ (t : T). Unit {0}) ts
-all_any {T} [] = All-nil (λ (t : T). Unit {0})
-all_any {T} (t ∷ ts) = All-cons (λ (u : T). Unit {0}) t ts tt (all_any ts)
+all_any {T} ts = all_of (λ (t : T). Unit {0}) ts (λ t. tt)

@@ -1,7 +1,8 @@
 //! A row of peers, of which the last is only asked.
 
-ghost use Rattle.std.specs.Prelude.{◌≡◌, ◌<◌, ◌≤◌, true, false, All, IfOk, OnOk};
-ghost use Rattle.ts_thread.specs.declared.TheConstants.{MOST_THREADS};
+ghost use Rattle.std.specs.Prelude.{◌≡◌, ◌<◌, ◌≤◌, true, false, All, IfOk, OnOk, IsOkUnless};
+ghost use Rattle.ts_thread.specs.declared.TheConstants.{MOST_ALONE, MOST_THREADS};
+ghost use Rattle.ts_thread.specs.declared.ending.TheConstants.{MOST_TURNS};
 ghost use Rattle.ts_thread.specs.Goings.{IsIdle};
 ghost use Rattle.ts_group_tests.specs.Peers.{PeerCounted};
 ghost use Rattle.ts_thread_tests.specs.Peers.{IsPeer, AreRow, row_tags};
@@ -14,7 +15,7 @@ use ts_group::Group;
 use ts_group_tests::peer::{ASKED, MOST_TODO, Peer, new_peer};
 use ts_journal::Entry;
 use ts_link::{Gate, NoMemory};
-use ts_thread::{ONLY_SEAT, finish, run_whole};
+use ts_thread::{ONLY_SEAT, Unfinished, finish_within, run_whole};
 
 /// How many turns each thread takes at most.
 pub(crate) const BUDGET: u64 = 1_000_000;
@@ -82,12 +83,14 @@ pub fn make_row(alloc: Global, todo: u32, started: bool) -> Result<Vec<Group<Pee
     Ok(groups)
 }
 
-/// Drives a row to its end on this thread.
-pub fn drive_row(groups: &mut Vec<Group<Peer>>) -> Result<(), NoMemory>
-    requires { AreRow 1 groups.old.items }
-    ensures { OnOk result (All IsIdle groups.new.items) }
+/// Drives a row to its end on this thread. No group has more turns than this.
+pub fn drive_row(groups: &mut Vec<Group<Peer>>, limit: u64) -> Result<(), Unfinished>
+    requires row { AreRow 1 groups.old.items }
+    requires limit { limit ≤ MOST_TURNS }
+    ensures ended { OnOk result (All IsIdle groups.new.items) }
+    ensures lacks { MOST_ALONE ≤ limit → IsOkUnless result Unfinished.NoMemory }
 {
-    finish(groups)
+    finish_within(groups, limit)
 }
 
 /// Runs a row that was not started by so many threads, and drives it to its end.
@@ -97,10 +100,11 @@ pub fn run_row<G: Gate + Sync, R: Threads + Wait + Sync>(
     todo: u32,
     threads: u32,
     gate: &G,
-) -> Result<Vec<Group<Peer>>, NoMemory>
+) -> Result<Vec<Group<Peer>>, Unfinished>
     requires todo { todo ≤ MOST_TODO }
     requires threads { (0 < threads) × (threads ≤ MOST_THREADS) }
-    ensures { IfOk result (λ gs. All (HasEnded PeerCounted) gs.items) }
+    ensures ended { IfOk result (λ gs. All (HasEnded PeerCounted) gs.items) }
+    ensures lacks { IsOkUnless result Unfinished.NoMemory }
 {
     let groups = make_row(alloc, todo, false)?;
     let tags = make_tags(alloc)?;

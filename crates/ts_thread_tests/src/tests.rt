@@ -1,5 +1,7 @@
 //! Rows of peers that are run and driven to their end, and single turns of a thread.
 
+ghost use Rattle.std.specs.Prelude.{◌≤◌};
+
 use crate::row::{Tally, drive_row, first_seat, make_row, run_row, tally_of};
 use crate::toys::{ToyTally, run_tally};
 use crate::turns::{play, play_held, play_runs};
@@ -9,7 +11,7 @@ use ts_group_tests::heir::Heir;
 use ts_group_tests::steps::{Countdown, Steps};
 use ts_link::{MeetGate, OpenGate};
 use ts_queue::Token;
-use ts_thread::{Did, RunEnd};
+use ts_thread::{Did, MOST_ALONE, RunEnd, Unfinished};
 
 // What stands of a row whose peers had three steps each: nothing pending, each that works whole, nothing to do, and the last
 // of them was asked for each step of the four that ask.
@@ -25,8 +27,50 @@ const DONE: Tally = Tally {
 #[test]
 fn a_row_is_driven_to_its_end(rt: HostRuntime) -> Result<(), Fail> {
     let mut groups = make_row(rt.alloc(), 3, true)?;
-    drive_row(&mut groups)?;
+    drive_row(&mut groups, MOST_ALONE)?;
     assert_eq!(rt; tally_of(&groups), DONE);
+    Ok(())
+}
+
+// What a row of peers with three steps each comes to whose groups get so many turns at most, too few for one of them.
+fn worn_row(rt: &HostRuntime, limit: u64) -> Result<Tally, Fail>
+    requires { limit ≤ MOST_ALONE }
+{
+    let mut groups = make_row(rt.alloc(), 3, true)?;
+    assert_eq!(rt; drive_row(&mut groups, limit), Err(Unfinished::Worn));
+    Ok(tally_of(&groups))
+}
+
+// Each peer that works was started in its first turn. It needs four more: one for each step, and a last one in which it
+// has nothing to do. With a limit of one turn none has another, and with four the first peer's last event stays pending.
+#[test]
+fn a_worn_peer_has_no_more_turns(rt: HostRuntime) -> Result<(), Fail> {
+    let mut expected = Tally {
+        groups: 9,
+        pending: 8,
+        whole: 8,
+        todo: 24,
+        questions: 0,
+    };
+    assert_eq!(rt; worn_row(&rt, 1)?, expected);
+    expected.todo = 21;
+    expected.questions = 3;
+    assert_eq!(rt; worn_row(&rt, 4)?, expected);
+    Ok(())
+}
+
+// With five turns each peer that works could end, but the one that is asked has no turn for the sixth question, the last
+// of the third peer. That peer waits to ask again, and is whole still.
+#[test]
+fn a_worn_peer_is_not_asked(rt: HostRuntime) -> Result<(), Fail> {
+    let expected = Tally {
+        groups: 9,
+        pending: 6,
+        whole: 8,
+        todo: 16,
+        questions: 5,
+    };
+    assert_eq!(rt; worn_row(&rt, 5)?, expected);
     Ok(())
 }
 

@@ -1,6 +1,6 @@
 //! Rows of toy worlds, which threads run and which are driven to their end.
 
-ghost use Rattle.std.specs.Prelude.{◌≡◌, ◌<◌, ◌≤◌, IfOk, All, length};
+ghost use Rattle.std.specs.Prelude.{◌≡◌, ◌<◌, ◌≤◌, IfOk, IsOkUnless, All, length};
 ghost use Rattle.ts_group_tests.specs.declared.peer.TheConstants.{MOST_TODO};
 ghost use Rattle.ts_thread.specs.declared.TheConstants.{MOST_THREADS};
 ghost use Rattle.ts_thread_tests.specs.ToyRows.{AreToys, HasEnded};
@@ -12,7 +12,7 @@ use std::thread::Threads;
 use ts_group::Group;
 use ts_group_tests::toy::Toy;
 use ts_link::{Gate, NoMemory, OpenGate};
-use ts_thread::run_whole;
+use ts_thread::{Unfinished, run_whole};
 
 /// How many groups a row has.
 pub const TOYS: u32 = 8;
@@ -50,13 +50,14 @@ pub fn run_toys<W: Toy + Drop + Send, G: Gate + Sync, R: Threads + Wait + Sync>(
     todo: u32,
     threads: u32,
     gate: &G,
-) -> Result<Vec<Group<W>>, NoMemory>
+) -> Result<Vec<Group<W>>, Unfinished>
 where
     W::Tag: Drop,
     requires todo { todo ≤ MOST_TODO }
     requires threads { (0 < threads) × (threads ≤ MOST_THREADS) }
     ensures count { IfOk result (λ gs. length gs.items ≡ TOYS) }
     ensures ended { IfOk result (λ gs. All (HasEnded (W.counted todo)) gs.items) }
+    ensures lacks { IsOkUnless result Unfinished.NoMemory }
 {
     let Row { groups, tags } = make_toys(alloc, todo)?;
     run_whole(rt, alloc, groups, tags, TOYS, threads, BUDGET, gate)
@@ -97,7 +98,7 @@ pub fn run_tally<W: Toy + Drop + Send, R: Threads + Wait + Sync>(
     alloc: Global,
     todo: u32,
     threads: u32,
-) -> Result<ToyTally, NoMemory>
+) -> Result<ToyTally, Unfinished>
 where
     W::Tag: Drop,
     requires todo { todo ≤ MOST_TODO }

@@ -1,5 +1,5 @@
 -- What one event leads to: a step of its phase, a part of a body, one of the last writes, or nothing.
-use Rattle.std.proofs.Common.{◌≡◌, ◌⊎◌, inl, inr, ℕ, List, [], ◌∷◌, Bool, Option, Some, None, refl, sym, ap, subst}
+use Rattle.std.proofs.Common.{◌≡◌, ◌⊎◌, inl, inr, ℕ, List, [], ◌∷◌, Bool, true, false, Option, Some, None, refl, sym, ap, subst, ◌∙◌}
 use Rattle.ts_hooks.specs.declared.txn_end.TxnEnd.{TxnEnd}
 use Rattle.ts_hooks.specs.declared.txn_end.TxnEnd.TheVariants as E
 use Rattle.ts_group.specs.declared.action.Named.{Named}
@@ -13,9 +13,10 @@ use Rattle.ts_transform.specs.declared.continuation.StageContinuation.{StageCont
 use Rattle.ts_transform.proofs.Setting.{only_none}
 use Rattle.std.specs.Prelude.{⊤}
 use Rattle.ts_txn.specs.BodyLinks.{BeginsInTime}
-use Rattle.ts_txn.specs.Course.{course_after}
+use Rattle.ts_txn.specs.Course.{course_after, finish_after}
+use Rattle.ts_txn.specs.Cover.{Proceeds, StepLeads, StepsTo, is_ended, is_fresh, is_fresh_on}
 use Rattle.ts_txn.specs.CourseCover.{IsCoveredNow, LedAfter, LedBehind, StaysOnOrLacks, set_leaving}
-use Rattle.ts_txn.specs.Driven.{BeginsIn, ClosesAs, DueTo, HandlesEvent, HandlesOn, HandlesStep, HandlesWrite, MindsCourse, TakesEvent, TakesOn, TakesStep, delay_of}
+use Rattle.ts_txn.specs.Driven.{BeginsIn, ClosesAs, DueTo, HandlesEvent, HandlesOn, HandlesStep, HandlesWrite, MindsCourse, TakesEvent, TakesOn, TakesStep, WritesOr, delay_of}
 use Rattle.ts_txn.specs.Entering.{QuietLinks}
 use Rattle.ts_txn.specs.Steps.{LeavesClient, LeavesClientIn, LeavesOrigin, LeavesOriginIn, LeavesSides, MindsLinksIn, WaitsRightly}
 use Rattle.ts_txn.specs.Holding.{IfTold}
@@ -132,6 +133,51 @@ still_closes Q (P.Sending a) = tt
 still_closes Q (P.TxnClose end) = inl refl
 still_closes Q (P.Ended end) = tt
 
+-- a step leads to no phase of one that was not started
+proceeds_started : (p : Phase) → Proceeds p → is_fresh p ≡ false
+proceeds_started P.Fresh on = absurd on
+proceeds_started P.TxnStart on = refl
+proceeds_started P.ReadRequest on = refl
+proceeds_started (P.ReadRequestHdr q) on = refl
+proceeds_started (P.OsDns q) on = refl
+proceeds_started (P.SendRequestHdr q) on = refl
+proceeds_started (P.SendRequest q) on = refl
+proceeds_started (P.Upload q) on = refl
+proceeds_started (P.ReadResponse q) on = refl
+proceeds_started (P.ReadResponseHdr q h) on = refl
+proceeds_started (P.ResponseTransform q h) on = refl
+proceeds_started (P.SendResponseHdr a) on = refl
+proceeds_started (P.Sending a) on = refl
+proceeds_started (P.TxnClose end) on = refl
+proceeds_started (P.Ended end) on = absurd on
+
+ended_started : (p : Phase) → is_ended p ≡ true → is_fresh p ≡ false
+ended_started P.Fresh ended = cc
+ended_started P.TxnStart ended = refl
+ended_started P.ReadRequest ended = refl
+ended_started (P.ReadRequestHdr q) ended = refl
+ended_started (P.OsDns q) ended = refl
+ended_started (P.SendRequestHdr q) ended = refl
+ended_started (P.SendRequest q) ended = refl
+ended_started (P.Upload q) ended = refl
+ended_started (P.ReadResponse q) ended = refl
+ended_started (P.ReadResponseHdr q h) ended = refl
+ended_started (P.ResponseTransform q h) ended = refl
+ended_started (P.SendResponseHdr a) ended = refl
+ended_started (P.Sending a) ended = refl
+ended_started (P.TxnClose end) ended = refl
+ended_started (P.Ended end) ended = refl
+
+steps_started : (next : Next) (p : Phase) → StepsTo next p → is_fresh p ≡ false
+steps_started N.Go p on = proceeds_started p on
+steps_started N.Wait p on = proceeds_started p on
+steps_started N.Done p ended = ended_started p ended
+
+-- nor does its end for want of memory
+pub stays_started : {Q : Type 0} (led new : Course Q) → is_fresh_on led ≡ false → StaysOnOrLacks led new → is_fresh_on new ≡ false
+stays_started led new started (inl same) = ap is_fresh_on same ∙ started
+stays_started led new started (inr lacks) = ap is_fresh_on lacks
+
 -- the first continuation keeps its role when its event is handled
 named_before : (roles : List Named) (main : Option StageContinuation) → IsNamedIf roles MAIN main → IsNamedIf roles MAIN (unroused main)
 named_before roles None named = named
@@ -139,14 +185,15 @@ named_before roles (Some t) named = named
 
 module _ {C O Q : Type 0} (ct ot : Bool) (client : C → Look) (origin : O → Look) (paired : C → O → Type 0) (refuses : O → List ℕ → Type 0) (left : C → O → Option ℕ) where
   -- a step of a phase was made, and led to the phase that it answered, or to the end for want of memory
-  pub takes_step : (s t : Core C O) (p : Phase) (new : Course Q) (made : Step) → MindsLinksIn ct ot client origin refuses left s t p made
+  pub takes_step : (s t : Core C O) (p : Phase) (new : Course Q) (made : Step) → StepLeads made → MindsLinksIn ct ot client origin refuses left s t p made
       → WaitsRightly made.next (view_of client origin s) (view_of client origin t) → IfTold ct ot (LeavesSides p (view_of client origin s) (view_of client origin t))
       → LedBehind made.next (K.Phased made.phase) new → TakesStep ct ot client origin paired refuses left s t p made.next new
-  takes_step s t p new made minds waits leaves led = record {
+  takes_step s t p new made leads minds waits leaves led = record {
     minds = by_lead (behind_led made.next (K.Phased made.phase) new led);
     waits = waits;
     leaves = leaves;
     closes = by_phase p minds;
+    started = λ was. stays_started (K.Phased made.phase) new (steps_started made.next made.phase leads) (behind_led made.next (K.Phased made.phase) new led);
   }
     where
       by_lead : StaysOnOrLacks (K.Phased made.phase) new
@@ -189,12 +236,17 @@ module _ {C O Q : Type 0} (ct ot : Bool) (client : C → Look) (origin : O → L
     waits = tt;
     leaves = λ told also. leaves_begun (view_of client origin s) (view_of client origin t) p begins;
     closes = begin_closes (view_of client origin s) (view_of client origin t) p new begins;
+    started = λ was. by_start led;
   }
     where
       by_lead : (new ≡ K.Relaying r) ⊎ (new ≡ K.Phased (P.Ended E.NoMemory))
           → (new ≡ K.Phased (P.Ended E.NoMemory)) ⊎ ((t ≡ s) × (new ≡ K.Phased p)) ⊎ MindsCourse ct ot client origin paired refuses left s t p N.Go new
       by_lead (inl same) = inr (inr (subst (MindsCourse ct ot client origin paired refuses left s t p N.Go) (sym same) begins))
       by_lead (inr lacks) = inl lacks
+
+      by_start : (new ≡ K.Relaying r) ⊎ (new ≡ K.Phased (P.Ended E.NoMemory)) → is_fresh_on new ≡ false
+      by_start (inl same) = ap is_fresh_on same
+      by_start (inr lacks) = ap is_fresh_on lacks
 
   -- memory lacked for its head
   pub takes_lost : (s t : Core C O) (p : Phase) → BeginsIn p (view_of client origin s) (view_of client origin t)
@@ -204,6 +256,7 @@ module _ {C O Q : Type 0} (ct ot : Bool) (client : C → Look) (origin : O → L
     waits = tt;
     leaves = λ told also. leaves_begun (view_of client origin s) (view_of client origin t) p begins;
     closes = begin_closes (view_of client origin s) (view_of client origin t) p (K.Phased (P.Ended E.NoMemory)) begins;
+    started = λ was. refl;
   }
 
   -- the event of the next step is due then
@@ -245,6 +298,7 @@ module _ {C O Q : Type 0} (ct ot : Bool) (client : C → Look) (origin : O → L
           waits = tt;
           leaves = λ told also. record { origin = leaves_in v v p (still_leaves v v refl); client = spares_in v v p (still_spares v v refl) };
           closes = still_closes Q p;
+          started = λ was. was;
         };
         due = only_none (IsDueAfter 0 a.moment) a;
       }
@@ -289,3 +343,31 @@ module _ {C O Q : Type 0} (ct ot : Bool) (client : C → Look) (origin : O → L
   pub takes_event : (s t : Core C O) (a b : Context) (role : ℕ) (main : Option StageContinuation) (old new : Course Q) → HandlesEvent ct ot client origin paired refuses left s t a b role main old new
       → TakesEvent ct ot client origin paired refuses left s t old new
   takes_event s t a b role main old new h = record { keeps = h.keeps; takes = takes_on s t a b role main old new h.handles }
+
+-- an event leaves a transaction started that was
+body_started : {Q : Type 0} (r : Relay Q) (step : BodyStep) (new : Course Q) → LedAfter step (course_after r step) new → is_fresh_on new ≡ false
+body_started r S.Goes new led = ap is_fresh_on led
+body_started r S.Waits new led = ap is_fresh_on led
+body_started r (S.Finishes end) new led = stays_started (K.Finishing end) new refl led
+body_started r (S.Closes end) new led = stays_started (K.Phased (P.TxnClose end)) new refl led
+body_started r S.Lacks new led = stays_started (K.Phased (P.Ended E.NoMemory)) new refl led
+
+after_write : (Q : Type 0) (end : TxnEnd) (step : BodyStep) → is_fresh_on (finish_after {Q = Q} end step) ≡ false
+after_write Q end S.Goes = refl
+after_write Q end S.Waits = refl
+after_write Q end (S.Finishes other) = refl
+after_write Q end (S.Closes other) = refl
+after_write Q end S.Lacks = refl
+
+module _ {C O Q : Type 0} (ct ot : Bool) (client : C → Look) (origin : O → Look) (paired : C → O → Type 0) (refuses : O → List ℕ → Type 0) (left : C → O → Option ℕ) where
+  write_started : (s t : Core C O) (end : TxnEnd) (step : BodyStep) (new : Course Q) → WritesOr ct ot client origin paired refuses left s t end step new → is_fresh_on new ≡ false
+  write_started s t end step new (inl none) = ap is_fresh_on none.2
+  write_started s t end step new (inr takes) = stays_started (finish_after end step) new (after_write Q end step) takes.led
+
+  takes_started : (s t : Core C O) (old new : Course Q) → TakesOn ct ot client origin paired refuses left s t old new → is_fresh_on old ≡ false → is_fresh_on new ≡ false
+  takes_started s t (K.Phased p) new h was = h.1.started was
+  takes_started s t (K.Relaying r) new h was = body_started h.after h.step new h.led
+  takes_started s t (K.Finishing end) new h was = write_started s t end h.0 new h.1
+
+  pub event_started : (s t : Core C O) (old new : Course Q) → TakesEvent ct ot client origin paired refuses left s t old new → is_fresh_on old ≡ false → is_fresh_on new ≡ false
+  event_started s t old new h was = takes_started s t old new h.takes was

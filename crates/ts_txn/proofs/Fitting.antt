@@ -1,19 +1,84 @@
--- A transaction keeps the tags that it fits, since each step leaves it and its links what they are.
-use Rattle.std.proofs.Common.{ℕ, List, refl, sym, ap, subst, ◌∙◌}
+-- A transaction keeps the tags that it fits, since each step leaves it and its links what they are, and one that was started
+-- stays so.
+use Rattle.std.proofs.Common.{◌≡◌, ℕ, List, Bool, true, false, Option, Some, None, refl, sym, ap, subst, ◌∙◌}
 use Rattle.std.specs.Arc.{arc_value}
-use Rattle.std.specs.Prelude.{IsSomeAnd}
+use Rattle.std.specs.Prelude.{IsSomeAnd, ⊤}
 use Rattle.ts_link.specs.Link.{IsSure, IsSurePlan, Look}
+use Rattle.ts_txn.specs.Cover.{is_fresh_on}
+use Rattle.ts_txn.specs.Driven.{TakesEvent}
 use Rattle.ts_txn.specs.Holding.{IsSameLink, StepKeeps}
-use Rattle.ts_txn.specs.World.{IsTxnOf}
+use Rattle.ts_txn.specs.Making.{IsMadeOf, IsMadeOfIf}
+use Rattle.ts_txn.specs.View.{is_dialed, side_if}
+use Rattle.ts_txn.specs.World.{HasTxnBegun, IsSameLinkIf, IsSureIf, IsTxnOf}
 use Rattle.ts_txn.specs.declared.parts.Core.{Core}
+use Rattle.ts_txn.specs.declared.parts.Peer.{Peer}
 use Rattle.ts_txn.specs.declared.txn.Txn.{Txn}
 use Rattle.ts_txn.specs.declared.txn.TxnTag.{TxnTag}
+use Rattle.ts_txn.proofs.Events.{event_started}
+
+-- ---- the links
 
 still_sure : (l m : Look) → IsSameLink l m → IsSure l → IsSure m
 still_sure l m same sure = subst (λ p. IsSomeAnd p IsSurePlan) (sym same.plan) sure
 
+same_then : (l m n : Look) → IsSameLink l m → IsSameLink m n → IsSameLink l n
+same_then l m n h k = record { source = k.source ∙ h.source; name = k.name ∙ h.name; plan = k.plan ∙ h.plan }
+
+module _ {L : Type 0} (look : L → Look) where
+  same_on : (o : Option L) (x y : Option (Peer L)) → is_dialed y ≡ is_dialed x → IsSameLink (side_if look x).look (side_if look y).look → IsSameLinkIf look o x → IsSameLinkIf look o y
+  same_on None None None dialed same h = h
+  same_on None None (Some q) dialed same h = cc
+  same_on None (Some p) y dialed same h = absurd h
+  same_on (Some l) None y dialed same h = absurd h
+  same_on (Some l) (Some p) None dialed same h = cc
+  same_on (Some l) (Some p) (Some q) dialed same h = same_then (look l) (look p.link) (look q.link) h same
+
+  sure_on : (x y : Option (Peer L)) → is_dialed y ≡ is_dialed x → IsSameLink (side_if look x).look (side_if look y).look → IsSureIf look x → IsSureIf look y
+  sure_on None None dialed same sure = sure
+  sure_on None (Some q) dialed same sure = cc
+  sure_on (Some p) None dialed same sure = tt
+  sure_on (Some p) (Some q) dialed same sure = still_sure (look p.link) (look q.link) same sure
+
+  -- what a link was made of is the same link
+  same_made : (l : L) (p : Peer L) → IsMadeOf look l p → IsSameLink (look l) (look p.link)
+  same_made l p made = record {
+    source = ap (λ (k : L). (look k).source) made.link_is;
+    name = ap (λ (k : L). (look k).name) made.link_is;
+    plan = ap (λ (k : L). (look k).plan) made.link_is;
+  }
+
+  same_made_if : (o : Option L) (x : Option (Peer L)) → IsMadeOfIf look o x → IsSameLinkIf look o x
+  same_made_if None None made = tt
+  same_made_if None (Some p) made = absurd made
+  same_made_if (Some l) None made = absurd made
+  same_made_if (Some l) (Some p) made = same_made l p made
+
+  sure_made : (o : Option L) (x : Option (Peer L)) → IsMadeOfIf look o x → ((l : L) → o ≡ Some l → IsSure (look l)) → IsSureIf look x
+  sure_made None None made sure = tt
+  sure_made None (Some p) made sure = absurd made
+  sure_made (Some l) None made sure = absurd made
+  sure_made (Some l) (Some p) made sure = still_sure (look l) (look p.link) (same_made l p made) (sure l refl)
+
+-- ---- the tags
+
+module _ {C O : Type 0} (client : C → Look) (origin : O → Look) where
+  -- one that was just made of the links of a tag fits it
+  pub fits_made : {Q : Type 0} (tag : TxnTag C O) (t : Txn C O Q) → t.core.number ≡ tag.number → arc_value t.core.setup ≡ tag.setup.value → t.core.plugins_at ≡ tag.plugins_at
+      → IsMadeOf client tag.client.value t.core.client → IsMadeOfIf origin tag.origin.value t.core.origin
+      → (tag.sure ≡ true → IsSure (client tag.client.value) × ((l : O) → tag.origin.value ≡ Some l → IsSure (origin l))) → tag.started ≡ false → IsTxnOf client origin tag t
+  fits_made tag t number setup plugins of_client of_origin sure started = record {
+    number = number;
+    setup = setup;
+    plugins_at = plugins;
+    client = same_made client tag.client.value t.core.client of_client;
+    origin = same_made_if origin tag.origin.value t.core.origin of_origin;
+    sure = λ is. (still_sure _ _ (same_made client tag.client.value t.core.client of_client) (sure is).0,
+        sure_made origin tag.origin.value t.core.origin of_origin (sure is).1);
+    started = λ is. cc;
+  }
+
 module _ {C O : Type 0} (client : C → Look) (origin : O → Look) (paired : C → O → Type 0) (refuses : O → List ℕ → Type 0) where
-  pub same_core : (t : Core C O) → StepKeeps client origin paired refuses t t
+  same_core : (t : Core C O) → StepKeeps client origin paired refuses t t
   same_core t = record {
     number = refl;
     setup = refl;
@@ -27,14 +92,30 @@ module _ {C O : Type 0} (client : C → Look) (origin : O → Look) (paired : C 
     refusal = record { still = λ c h. h; before = λ c h. h };
   }
 
-  pub fits_on : {Q : Type 0} (tag : TxnTag) (t u : Txn C O Q) → StepKeeps client origin paired refuses t.core u.core → IsTxnOf client origin tag t → IsTxnOf client origin tag u
-  fits_on tag t u keeps h = record {
+  pub fits_on : {Q : Type 0} (tag : TxnTag C O) (t u : Txn C O Q) → StepKeeps client origin paired refuses t.core u.core → (is_fresh_on t.course ≡ false → is_fresh_on u.course ≡ false)
+      → IsTxnOf client origin tag t → IsTxnOf client origin tag u
+  fits_on tag t u keeps started h = record {
     number = keeps.number ∙ h.number;
     setup = ap (λ s. arc_value s) keeps.setup ∙ h.setup;
     plugins_at = keeps.plugins_at ∙ h.plugins_at;
-    gives = keeps.client.source ∙ h.gives;
-    dialed = keeps.dialed ∙ h.dialed;
-    answers = keeps.origin.source ∙ h.answers;
-    sure = λ is. still_sure _ _ keeps.client (h.sure is);
-    sure_origin = λ is dialed. still_sure _ _ keeps.origin (h.sure_origin is (sym keeps.dialed ∙ dialed));
+    client = same_then _ _ _ h.client keeps.client;
+    origin = same_on origin tag.origin.value t.core.origin u.core.origin keeps.dialed keeps.origin h.origin;
+    sure = λ is. (still_sure _ _ keeps.client (h.sure is).0, sure_on origin t.core.origin u.core.origin keeps.dialed keeps.origin (h.sure is).1);
+    started = λ is. started (h.started is);
   }
+
+  -- an event leaves the tags
+  pub fits_event : {Q : Type 0} (ct ot : Bool) (left : C → O → Option ℕ) (tag : TxnTag C O) (t u : Txn C O Q) → TakesEvent ct ot client origin paired refuses left t.core u.core t.course u.course
+      → IsTxnOf client origin tag t → IsTxnOf client origin tag u
+  fits_event ct ot left tag t u takes h = fits_on tag t u takes.keeps (event_started ct ot client origin paired refuses left t.core u.core t.course u.course takes) h
+
+  -- so does the start
+  pub fits_start : {Q : Type 0} (tag : TxnTag C O) (t u : Txn C O Q) → HasTxnBegun t u → IsTxnOf client origin tag t → IsTxnOf client origin tag u
+  fits_start tag t u begun h = fits_on tag t u (subst (λ k. StepKeeps client origin paired refuses t.core k) (sym begun.core) (same_core t.core)) (λ was. begun.started) h
+
+module _ {C O : Type 0} (client : C → Look) (origin : O → Look) where
+  -- it fits the tag that says that it was started, too
+  pub fits_begun : {Q : Type 0} (tag : TxnTag C O) (t u : Txn C O Q) → HasTxnBegun t u → IsTxnOf client origin tag t → IsTxnOf client origin (record tag { started = true }) u
+  fits_begun tag t u begun h =
+      let k : IsTxnOf client origin tag u = fits_start client origin (λ c o. ⊤) (λ o list. ⊥) tag t u begun h in
+      record { number = k.number; setup = k.setup; plugins_at = k.plugins_at; client = k.client; origin = k.origin; sure = k.sure; started = λ is. begun.started }

@@ -22,7 +22,6 @@ pub mod Leaving
 pub mod Lowering
 pub mod LoweringAnswers
 pub mod LoweringBody
-pub mod LoweringBound
 pub mod LoweringCourse
 pub mod LoweringEntry
 pub mod LoweringEvents
@@ -53,5 +52,6 @@ pub mod Settled
 mod Sites
 pub mod Sparing
 pub mod Stopping
+pub mod Telling
 pub mod Uploading
 pub mod Waiting

@@ -1,6 +1,6 @@
 -- What an event of a transaction leads to, by how far it is: in a phase it makes a step, while a body is passed on a part
 -- of that, and then one of the last writes.
-use Rattle.std.specs.Prelude.{◌≡◌, ◌⊎◌, ℕ, Bool, List, Option, ⊤}
+use Rattle.std.specs.Prelude.{◌≡◌, ◌⊎◌, ℕ, Bool, false, List, Option, ⊤}
 use Rattle.ts_group.specs.Context.{Context}
 use Rattle.ts_group.specs.Entries.{Grows}
 use Rattle.ts_hooks.specs.declared.txn_end.TxnEnd.{TxnEnd}
@@ -10,6 +10,7 @@ use Rattle.ts_transform.specs.Driving.{ActsWithin, IsDueAfter, SetsOnly}
 use Rattle.ts_transform.specs.declared.continuation.StageContinuation.{StageContinuation}
 use Rattle.ts_txn.specs.BodyLinks.{BeginsInTime, HandlesLinks, MindsBody, SendsRest}
 use Rattle.ts_txn.specs.Course.{course_after, finish_after}
+use Rattle.ts_txn.specs.Cover.{is_fresh, is_fresh_on}
 use Rattle.ts_txn.specs.CourseCover.{LedAfter, StaysOnOrLacks, pause_of, set_leaving}
 use Rattle.ts_txn.specs.Duties.{DoesOwnWork}
 use Rattle.ts_txn.specs.Entering.{QuietLinks}
@@ -68,14 +69,15 @@ module _ {C O Q : Type 0} (ctells otells : Bool) (client : C → Look) (origin :
   MindsCourse old next (K.Relaying r) = BeginsIn old (view_of client origin s) (view_of client origin t)
   MindsCourse old next (K.Finishing end) = ⊥
 
-  -- In a phase nothing is done, or the links are minded, and it waits for nothing else; and nothing but the request and
-  -- its upload is sent to the origin.
+  -- In a phase nothing is done, or the links are minded, and it waits for nothing else; nothing but the request and its
+  -- upload is sent to the origin; and a transaction that was started stays so.
   pub record TakesStep (old : Phase) (next : Next) (new : Course Q) : Type 0 where
     pub minds : (new ≡ K.Phased (P.Ended E.NoMemory)) ⊎ ((t ≡ s) × (new ≡ K.Phased old))
         ⊎ MindsCourse old next new
     pub waits : WaitsRightly next (view_of client origin s) (view_of client origin t)
     pub leaves : IfTold ctells otells (LeavesSides old (view_of client origin s) (view_of client origin t))
     pub closes : ClosesAs old new
+    pub started : is_fresh old ≡ false → is_fresh_on new ≡ false
 
   -- while a body is passed on, a part of that is done
   pub record TakesBody (old : Relay Q) (new : Course Q) : Type 0 where

@@ -1,5 +1,5 @@
 -- What holds of a transaction in its group between calls, and of which transaction a tag speaks.
-use Rattle.std.specs.Prelude.{◌≡◌, ℕ, List, Bool, true, false, Option, ⊤}
+use Rattle.std.specs.Prelude.{◌≡◌, ℕ, List, Bool, true, false, Option, Some, None, ⊤}
 use Rattle.std.specs.Arc.{arc_value}
 use Rattle.ts_config.specs.declared.setup.TransformLine.{TransformLine}
 use Rattle.ts_journal.specs.declared.entry.Pending.{Pending}
@@ -12,13 +12,14 @@ use Rattle.ts_txn.specs.BodyLinks.{HoldsLittle}
 use Rattle.ts_txn.specs.Course.{CourseHolds}
 use Rattle.ts_txn.specs.CourseCover.{IsCoveredOn, StaysOnOrLacks}
 use Rattle.ts_txn.specs.Entering.{ActsAsLines}
-use Rattle.ts_txn.specs.Holding.{IfTold}
+use Rattle.ts_txn.specs.Holding.{IfTold, IsSameLink}
 use Rattle.ts_txn.specs.LoweringCourse.{IsOfLinesOn}
-use Rattle.ts_txn.specs.View.{IsPaired, View, is_dialed, side_if, view_of}
+use Rattle.ts_txn.specs.View.{IsPaired, View, view_of}
 use Rattle.ts_txn.specs.Cover.{is_fresh_on}
 use Rattle.ts_txn.specs.declared.course.Course.{Course}
 use Rattle.ts_txn.specs.declared.course.Course.TheVariants as K
 use Rattle.ts_txn.specs.declared.parts.Core.{Core}
+use Rattle.ts_txn.specs.declared.parts.Peer.{Peer}
 use Rattle.ts_txn.specs.declared.phase.Phase.TheVariants as P
 use Rattle.ts_txn.specs.declared.txn.Txn.{Txn}
 use Rattle.ts_txn.specs.declared.txn.TxnTag.{TxnTag}
@@ -64,21 +65,34 @@ module _ {C O Q : Type 0} (ctells otells : Bool) (client : C → Look) (origin :
   abbrev pub IsSoundTxnGroup : {A R T U : Type 0} → Group (Txn C O Q) A R T U → Type 0
   IsSoundTxnGroup g = IsSoundNow g.world.core g.world.main g.world.course g.cx
 
--- the transaction is the one that the tag names, of the same links
-pub record IsTxnOf {C O Q : Type 0} (client : C → Look) (origin : O → Look)
-    (tag : TxnTag) (t : Txn C O Q) : Type 0 where
-  pub number : t.core.number ≡ tag.number
-  pub setup : arc_value t.core.setup ≡ tag.setup
-  pub plugins_at : t.core.plugins_at ≡ tag.plugins_at
-  pub gives : (client t.core.client.link).source ≡ tag.client
-  pub dialed : is_dialed t.core.origin ≡ tag.dialed
-  pub answers : (side_if origin t.core.origin).look.source ≡ tag.origin
-  pub sure : tag.sure ≡ true → IsSure (client t.core.client.link)
-  pub sure_origin : tag.sure ≡ true → is_dialed t.core.origin ≡ true
-      → IsSure (side_if origin t.core.origin).look
+-- no call of the link fails or waits by its number, if there is one
+abbrev pub IsSureIf : {L : Type 0} → (L → Look) → Option (Peer L) → Type 0
+IsSureIf look None = ⊤
+IsSureIf look (Some p) = IsSure (look p.link)
 
--- where it was not started, it is, or has ended for want of memory; else nothing changed
+-- both are there, the same link as before, or neither is
+abbrev pub IsSameLinkIf : {L : Type 0} → (L → Look) → Option L → Option (Peer L) → Type 0
+IsSameLinkIf look None None = ⊤
+IsSameLinkIf look None (Some p) = ⊥
+IsSameLinkIf look (Some l) None = ⊥
+IsSameLinkIf look (Some l) (Some p) = IsSameLink (look l) (look p.link)
+
+-- The transaction is the one that the tag names, between the links that the tag shows as they were made: they
+-- keep their sources, names and plans, and so where they stall and leave. Where the tag says so, no call of
+-- them fails or waits by its number, and the transaction was started.
+pub record IsTxnOf {C O Q : Type 0} (clook : C → Look) (olook : O → Look)
+    (tag : TxnTag C O) (t : Txn C O Q) : Type 0 where
+  pub number : t.core.number ≡ tag.number
+  pub setup : arc_value t.core.setup ≡ tag.setup.value
+  pub plugins_at : t.core.plugins_at ≡ tag.plugins_at
+  pub client : IsSameLink (clook tag.client.value) (clook t.core.client.link)
+  pub origin : IsSameLinkIf olook tag.origin.value t.core.origin
+  pub sure : tag.sure ≡ true → IsSure (clook t.core.client.link) × IsSureIf olook t.core.origin
+  pub started : tag.started ≡ true → is_fresh_on t.course ≡ false
+
+-- Where it was not started, it is, or has ended for want of memory; else nothing changed. Now it was started.
 pub record HasTxnBegun {C O Q : Type 0} (old new : Txn C O Q) : Type 0 where
   pub core : new.core ≡ old.core
   pub begun : is_fresh_on old.course ≡ true → StaysOnOrLacks (K.Phased P.TxnStart) new.course
   pub same : is_fresh_on old.course ≡ false → new ≡ old
+  pub started : is_fresh_on new.course ≡ false

@@ -17,10 +17,11 @@ use crate::course_leaving::AT_ONCE;
 use crate::driver::begin;
 use crate::parts::Core;
 use crate::phase::Phase;
+use std::snapshot::Snapshot;
 use ts_config::{Setup, TransformLine};
 use ts_group::{Asked, Cx, Want, World};
 use ts_journal::{Event, Slotted};
-use ts_link::{Link, Octets};
+use ts_link::Link;
 use ts_transform::{StageContinuation, Transform};
 use ts_upstream::Upstream;
 
@@ -33,19 +34,24 @@ pub struct Txn<C, O, P> {
     pub(crate) course: Course<P>,
 }
 
-/// What a slot promises of the transaction in it: its number, setup and first plugin's group, the sources of
-/// its two links, whether there is one to an origin, whether they are sure, and whether the slot had no other
-/// tenant before.
+/// What a slot promises of the transaction in it. The setup and the links are for contracts alone, and take no
+/// memory.
 #[derive(Drop)]
-pub struct TxnTag {
+pub struct TxnTag<C, O> {
     pub number: u64,
-    pub setup: Setup,
+    pub setup: Snapshot<Setup>,
+    /// The group of the first plugin line.
     pub plugins_at: u32,
-    pub client: Octets,
-    pub origin: Octets,
-    pub dialed: bool,
+    /// The client's link as it was made.
+    pub client: Snapshot<C>,
+    /// The origin's link as it was made, if there is one.
+    pub origin: Snapshot<Option<O>>,
+    /// No call of a link fails or waits by its number.
     pub sure: bool,
+    /// The slot had no other tenant before.
     pub first: bool,
+    /// It was started.
+    pub started: bool,
 }
 
 fn is_fresh<P>(course: &Course<P>) -> bool
@@ -59,7 +65,7 @@ fn is_fresh<P>(course: &Course<P>) -> bool
 
 impl<C: Link + Drop, O: Upstream<C> + Drop, P: Transform<Line = TransformLine> + Drop> Slotted
     for Txn<C, O, P> {
-    type Tag = TxnTag;
+    type Tag = TxnTag<C, O>;
 
     type Trace = ();
 
@@ -78,7 +84,7 @@ impl<C: Link + Drop, O: Upstream<C> + Drop, P: Transform<Line = TransformLine> +
     ghost follows_on = { λ t u v a b. tt };
 }
 
-#[tactic(auto, using(ts_group::proofs::Grows::grows, ts_group::proofs::Grows::grows_refl, ts_transform::proofs::Kept::acts_none, crate::proofs::Handling::sound_begun, crate::proofs::Handling::sound_asked, crate::proofs::Seating::due_rests, crate::proofs::Coverage::fresh_none, crate::proofs::Fitting::fits_on, crate::proofs::LoweringCourse::hears_same, crate::proofs::LoweringCourse::asked_same))]
+#[tactic(auto, using(ts_group::proofs::Grows::grows, ts_group::proofs::Grows::grows_refl, ts_transform::proofs::Kept::acts_none, crate::proofs::Handling::sound_begun, crate::proofs::Handling::sound_asked, crate::proofs::Seating::due_rests, crate::proofs::Coverage::fresh_none, crate::proofs::Fitting::fits_event, crate::proofs::Fitting::fits_start, crate::proofs::Events::stays_started, crate::proofs::LoweringCourse::hears_same, crate::proofs::LoweringCourse::asked_same))]
 impl<C: Link + Drop, O: Upstream<C> + Drop, P: Transform<Line = TransformLine> + Drop> World
     for Txn<C, O, P> {
     type Question = ();

@@ -71,14 +71,14 @@ fn a_transaction_tells_its_number_origin_and_end(rt: HostRuntime) -> Result<(), 
     let setup = setup_of(alloc, b"", b"")?;
     let client = link_of(alloc, &giving(GET))?;
     let origin = link_of(alloc, &giving(ABC))?;
-    let mut group: Group<MemTxn> = begin(alloc, setup, client, Some(origin))?;
+    let (group, tag): (Group<MemTxn>, _) = begin(alloc, setup, client, Some(origin))?;
     assert_eq!(rt; group.world().number(), NUMBER);
     assert_eq!(rt; group.world().end(), None);
     let Some(link) = group.world().origin() else {
         return Err("it holds its origin")?;
     };
     assert!(rt; link.written().is_empty());
-    drive(&mut group)?;
+    let group = drive(alloc, group, tag)?;
     assert_eq!(rt; group.world().end(), Some(TxnEnd::Whole));
     assert_eq!(rt; group.world().number(), NUMBER);
     Ok(())

@@ -1,22 +1,26 @@
 //! A transaction in a group of its own, driven to its end.
-ghost use Rattle.std.specs.Prelude.{◌≡◌, true, false, IfOk, OnOk};
-ghost use Rattle.ts_group.specs.Answers.{Holds};
+ghost use Rattle.std.specs.Prelude.{◌≡◌, ◌⊎◌, ◌≤◌, true, IfOk, IsSome};
+ghost use Rattle.ts_config.specs.Bodies.{whole_of};
+ghost use Rattle.ts_journal.specs.declared.entry.TheConstants.{GREATEST};
 ghost use Rattle.ts_link.specs.MemLink.{look_of};
+ghost use Rattle.ts_stock.specs.Stock.{still_writes};
 ghost use Rattle.ts_txn.specs.Entering.{ActsAsLines};
 ghost use Rattle.ts_txn.specs.Making.{ArePaired, HasFewLines, IsNewLink, IsNewLinkIf};
-ghost use Rattle.ts_txn.specs.World.{IsSoundTxnGroup};
+ghost use Rattle.ts_txn_tests.specs.Begun.{HasBegunAs, HasEndedOr, any_pair, no_refusal};
 
 use crate::plan::{Plan, link_of, origin_of};
 use crate::refusal::Refusal;
 use std::alloc::Global;
+use std::snapshot::Snapshot;
 use std::sync::Arc;
 use ts_config::{PluginLine, Setup, TransformLine, read_config};
-use ts_group::{Group, Handling, World};
+use ts_group::Group;
 use ts_journal::Journal;
 use ts_link::{Link, MemLink, Octets};
 use ts_stock::Stock;
 use ts_transform::Transform;
-use ts_txn::{MOST_PLUGINS, Txn, TxnParts};
+use ts_thread::{ONLY_SEAT, finish};
+use ts_txn::{MOST_PLUGINS, Txn, TxnParts, TxnTag};
 use ts_upstream::Upstream;
 
 /// A transaction between links in memory, with the stock transforms.
@@ -25,8 +29,8 @@ pub type MemTxn = Txn<MemLink, MemLink, Stock>;
 /// The number of each transaction here.
 pub const NUMBER: u64 = 7;
 
-// More turns than any of the runs takes.
-const TURNS: u32 = 100_000_000;
+/// The turn in which a transaction is started.
+pub const FIRST_TURN: u64 = 1;
 
 // How many transform lines a transaction takes at most.
 const MOST_LINES: usize = 16;
@@ -78,69 +82,58 @@ pub fn with_plugins(setup: Setup, plugins: Vec<PluginLine>) -> Result<Setup, Ref
     })
 }
 
-/// A transaction in a group of its own, started in the first turn.
+/// A transaction in a group of its own, started in the first turn, and the tag that says so.
+#[tactic(auto, using(ts_txn::proofs::Fitting::fits_made, ts_txn::proofs::Fitting::fits_begun))]
 pub fn begin<C: Link + Drop, O: Upstream<C> + Drop, P: Transform<Line = TransformLine> + Drop>(
     alloc: Global,
     setup: Setup,
     client: C,
     origin: Option<O>,
-) -> Result<Group<Txn<C, O, P>>, Refusal>
+) -> Result<(Group<Txn<C, O, P>>, TxnTag<C, O>), Refusal>
     requires acts { ActsAsLines P.whole }
     requires few { HasFewLines setup 0 }
     requires client { C.tells ≡ true → IsNewLink (C.look client) }
     requires origin { O.tells ≡ true → IsNewLinkIf O.look origin }
     requires pair { ArePaired O.paired client origin }
-    ensures idle { IfOk result (λ g. g.cx.log.state.held ≡ false) }
-    ensures sound { IfOk result (IsSoundTxnGroup C.tells O.tells C.look O.look O.paired O.refuses
-        P.rest P.whole) }
+    ensures begun { IfOk result (λ r. HasBegunAs C.tells O.tells C.look O.look O.paired O.refuses
+        P.rest P.whole r.1 r.0) }
 {
+    let tag = TxnTag {
+        number: NUMBER,
+        setup: Snapshot::of(&setup),
+        plugins_at: 0,
+        client: Snapshot::of(&client),
+        origin: Snapshot::of(&origin),
+        sure: false,
+        first: true,
+        started: true,
+    };
     let setup = Arc::new(alloc, setup)?;
     let txn: Txn<C, O, P> = Txn::make(alloc, NUMBER, setup, 0, client, origin)?;
     let mut group = Group::make(alloc, txn, 0)?;
-    group.begin_turn(1, 0, 0)?;
+    group.begin_turn(FIRST_TURN, ONLY_SEAT, 0)?;
     group.start();
     group.give_turn();
+    Ok((group, tag))
+}
+
+/// Handles what is pending of a transaction, until nothing is.
+pub fn drive(
+    alloc: Global,
+    group: Group<MemTxn>,
+    tag: TxnTag<MemLink, MemLink>,
+) -> Result<Group<MemTxn>, Refusal>
+    requires begun { HasBegunAs true true look_of look_of any_pair no_refusal still_writes whole_of
+        tag group }
+    ensures ended { IfOk result HasEndedOr }
+{
+    let mut groups = Vec::new(alloc);
+    groups.push(group)?;
+    finish(&mut groups)?;
+    let Some(group) = groups.pop() else {
+        unreachable!()
+    };
     Ok(group)
-}
-
-// Handles the event of a number, in a turn of its own.
-fn take_turn<W: World + Drop>(group: &mut Group<W>, number: u64, moment: u64) -> Result<(), Refusal>
-where
-    W::Question: Drop,
-    requires idle { group.old.cx.log.state.held ≡ false }
-    requires sound { Holds W.sound group.old }
-    ensures idle { OnOk result (group.new.cx.log.state.held ≡ false) }
-    ensures sound { OnOk result (Holds W.sound group.new) }
-{
-    let Some(turn) = group.journal().turns().checked_add(1) else {
-        return Err(Refusal::Turns);
-    };
-    group.begin_turn(turn, 0, moment)?;
-    let Handling::Handled { events: _ } = group.handle(number, moment)? else {
-        return Err(Refusal::Event);
-    };
-    group.give_turn();
-    Ok(())
-}
-
-/// Handles the event that is due first, until none is pending.
-pub fn drive<W: World + Drop>(group: &mut Group<W>) -> Result<(), Refusal>
-where
-    W::Question: Drop,
-    requires idle { group.old.cx.log.state.held ≡ false }
-    requires sound { Holds W.sound group.old }
-    ensures idle { OnOk result (group.new.cx.log.state.held ≡ false) }
-    ensures sound { OnOk result (Holds W.sound group.new) }
-{
-    let mut moment = 0;
-    'turns: for _turn in 0..TURNS {
-        let Some((due, number)) = group.next_due() else {
-            return Ok(());
-        };
-        moment = due.max(moment);
-        take_turn(group, number, moment)?;
-    }
-    Err(Refusal::Turns)
 }
 
 /// What is left of a transaction between two links.
@@ -154,9 +147,10 @@ pub fn exchange(
     requires few { HasFewLines setup 0 }
     requires client { IsNewLink (look_of client) }
     requires origin { IsNewLinkIf look_of origin }
+    ensures ended { IfOk result (λ e. IsSome e.parts.end ⊎ (GREATEST ≤ e.journal.state.next)) }
 {
-    let mut group: Group<MemTxn> = begin(alloc, setup, client, origin)?;
-    drive(&mut group)?;
+    let (group, tag) = begin(alloc, setup, client, origin)?;
+    let group = drive(alloc, group, tag)?;
     let (txn, journal) = group.into_parts();
     Ok(Ended {
         parts: txn.into_parts(),

@@ -3,15 +3,15 @@
 use std::alloc::{AllocError, AllocFailed};
 use ts_config::ConfigRefusal;
 use ts_link::NoMemory;
+use ts_thread::Unfinished;
 
-/// Want of memory, a configuration that is not read or has too many lines, an event that is not handled, or more turns
-/// than were counted on.
+/// Want of memory, a configuration that is not read or has too many lines, or a group that has had its last
+/// turn.
 #[derive(Clone, Copy, Debug, PartialEq, Eq)]
 pub enum Refusal {
     NoMemory,
     Lines,
-    Event,
-    Turns,
+    Worn,
 }
 
 impl From<NoMemory> for Refusal {
@@ -37,6 +37,15 @@ impl From<ConfigRefusal> for Refusal {
         match refusal {
             ConfigRefusal::Fault(_) => Refusal::Lines,
             ConfigRefusal::NoMemory => Refusal::NoMemory,
+        }
+    }
+}
+
+impl From<Unfinished> for Refusal {
+    fn from(unfinished: Unfinished) -> Refusal {
+        match unfinished {
+            Unfinished::NoMemory => Refusal::NoMemory,
+            Unfinished::Worn => Refusal::Worn,
         }
     }
 }

@@ -16,4 +16,4 @@ returns-clause-given g c =
     let begun = c.in-Ok.ensures.begun in
     let asked = c.ask-reply.ensures in
     let goes = asked_goes g.W.Slotted.fits g.W.World.sound g.W.World.only_asked g.W.World.is_first g.W.World.answers c.ask-reply.result c.begin.new.group c.ask-reply.new.self c.args.question c.args.moment c.known.ensures.valid begun.held asked.replied asked.err asked.promises.tags in
-    given_back c.args.group.now c.ask-reply.new.self c.give.new.group c.args.turn c.args.seat (has_gone g.W.Slotted.fits c.args.group.now c.begin.new.group c.ask-reply.new.self c.args.turn c.args.seat begun goes) c.give.ensures.gives
+    given_back g.W.Slotted.fits c.args.group.now c.ask-reply.new.self c.give.new.group c.args.turn c.args.seat (has_gone g.W.Slotted.fits c.args.group.now c.begin.new.group c.ask-reply.new.self c.args.turn c.args.seat begun goes) c.give.ensures.gives

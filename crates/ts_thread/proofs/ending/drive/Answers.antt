@@ -1,42 +1,33 @@
-use Rattle.std.proofs.Common.{◌≡◌, false, true, arith}
-use Rattle.ts_thread.specs.Goings.{work_left, row}
-use Rattle.ts_thread.proofs.Rows.{driving_begins, driving_ends, driving_row, driving_goes_on, driving_stops, fits_on, turns_on}
+use Rattle.std.proofs.Common.{subst}
+use Rattle.ts_thread.specs.Goings.{Drives, row}
+use Rattle.ts_thread.proofs.Rows.{driving_begins, driving_ends, driving_row, driving_goes_on, driving_stops, fits_on, same_fault}
 use Rattle.ts_thread.proofs.ending.drive.Goals as goal
 
 pub events-init : goal.events-init
-events-init g c = driving_begins g.W.Slotted.fits g.W.World.sound g.W.World.only_asked g.W.World.is_first g.W.World.left c.args.before.now c.args.group.now c.args.after.now c.requires.tells
+events-init g c = driving_begins g.W.Slotted.fits g.W.World.sound g.W.World.only_asked g.W.World.is_first g.W.World.left c.args.limit c.args.before.now c.args.group.now c.args.after.now c.requires.tells
 
 pub step-requires-clause-fits : goal.step-requires-clause-fits
 step-requires-clause-fits g c =
     let fits = c.requires.fits in
     let was = c.events.invariant in
-    let goes = driving_row g.W.Slotted.fits g.W.World.sound g.W.World.only_asked g.W.World.is_first g.W.World.left c.args.before.now c.events.before c.args.group.now c.events.group c.args.after.now c.events.after was in
-    (fits.0, fits.1, fits_on g.W.Slotted.fits g.W.World.sound g.W.World.only_asked g.W.World.is_first g.W.World.left _ fits.0 (row c.args.before.now c.args.group.now c.args.after.now) (row c.events.before c.events.group c.events.after) was.turns fits.2 goes)
-
-pub step-requires-clause-turns : goal.step-requires-clause-turns
-step-requires-clause-turns g c =
-    let was = c.events.invariant in
-    let less = was.less in
-    let goes = driving_row g.W.Slotted.fits g.W.World.sound g.W.World.only_asked g.W.World.is_first g.W.World.left c.args.before.now c.events.before c.args.group.now c.events.group c.args.after.now c.events.after was in
-    turns_on g.W.Slotted.fits g.W.World.sound g.W.World.only_asked g.W.World.is_first g.W.World.left _ (row c.args.before.now c.args.group.now c.args.after.now) (row c.events.before c.events.group c.events.after) was.turns
-    (work_left g.W.World.left c.args.group.now)
-    goes
-    (omega arith)
-    c.requires.turns
+    let goes = driving_row g.W.Slotted.fits g.W.World.sound g.W.World.only_asked g.W.World.is_first g.W.World.left c.args.limit c.args.before.now c.events.before c.args.group.now c.events.group c.args.after.now c.events.after was in
+    (fits.0, fits.1, fits_on g.W.Slotted.fits g.W.World.sound g.W.World.only_asked g.W.World.is_first g.W.World.left c.args.limit _ fits.0 (row c.args.before.now c.args.group.now c.args.after.now) (row c.events.before c.events.group c.events.after) was.turns fits.2 goes)
 
 pub events-preserved : goal.events-preserved
 events-preserved g c =
     let step = c.in_ok-step.ensures in
-    (driving_goes_on g.W.Slotted.fits g.W.World.sound g.W.World.only_asked g.W.World.is_first g.W.World.left (λ (lack : false ≡ true). absurd (cc)) c.args.before.now c.events.before c.step.new.before c.args.group.now c.events.group c.step.new.group c.args.after.now c.events.after c.step.new.after c.events.invariant step.before step.own step.after step.falls).0
+    (driving_goes_on g.W.Slotted.fits g.W.World.sound g.W.World.only_asked g.W.World.is_first g.W.World.left c.args.limit c.args.before.now c.events.before c.step.new.before c.args.group.now c.events.group c.step.new.group c.args.after.now c.events.after c.step.new.after c.events.invariant step.before step.own step.after step.falls).0
 
 pub returns : goal.returns
-returns g c = driving_ends g.W.Slotted.fits g.W.World.sound g.W.World.only_asked g.W.World.is_first g.W.World.left c.args.before.now c.events.before c.args.group.now c.events.group c.args.after.now c.events.after c.events.invariant (c.next_due.ensures.none c.in_default.is)
+returns g c = driving_ends g.W.Slotted.fits g.W.World.sound g.W.World.only_asked g.W.World.is_first g.W.World.left c.args.limit c.args.before.now c.events.before c.args.group.now c.events.group c.args.after.now c.events.after c.events.invariant (c.next_due.ensures.none c.in_default.is)
 
 pub returns-in_err-step : goal.returns-in_err-step
 returns-in_err-step g c =
     let step = c.in_err-step.ensures in
-    driving_stops g.W.Slotted.fits g.W.World.sound g.W.World.only_asked g.W.World.is_first g.W.World.left c.args.before.now c.events.before c.step.new.before c.args.group.now c.events.group c.step.new.group c.args.after.now c.events.after c.step.new.after c.from_residual.result c.from_residual.ensures.0
+    same_fault (Drives g.W.Slotted.fits g.W.World.sound g.W.World.only_asked g.W.World.is_first g.W.World.left c.args.limit c.args.before.now c.step.new.before c.args.group.now c.step.new.group c.args.after.now c.step.new.after) c.from_residual.result _ c.from_residual.ensures.1
+    (driving_stops g.W.Slotted.fits g.W.World.sound g.W.World.only_asked g.W.World.is_first g.W.World.left c.args.limit c.args.before.now c.events.before c.step.new.before c.args.group.now c.events.group c.step.new.group c.args.after.now c.events.after c.step.new.after _
     c.events.invariant
     step.before
     step.own
     step.after
+    step.worn)

@@ -1,53 +1,37 @@
-use Rattle.std.proofs.Common.{◌+◌, ◌∷◌, ap, ◌∙◌, sym, subst, arith}
+use Rattle.std.proofs.Common.{◌+◌, inl, ap, ◌∙◌, sym, subst, arith}
 use Rattle.ts_journal.specs.State.{State}
 use Rattle.ts_group.specs.Due.{IsDueFirst}
-use Rattle.ts_thread.specs.Goings.{HasTurns}
-use Rattle.ts_thread.proofs.Rows.{all_refl, all_front, all_back, all_middle, fit_middle, around}
-use Rattle.std.proofs.lemmas.List.Elements.{All-tail}
-use Rattle.ts_thread.proofs.Moves.{stepped}
+use Rattle.ts_thread.specs.Goings.{IsWorn}
+use Rattle.ts_thread.proofs.Rows.{all_refl, fit_middle, around, any_around, any_middle}
+use Rattle.ts_thread.proofs.Moves.{next_pending, stepped}
 use Rattle.ts_thread.proofs.ending.step.Goals as goal
-
-pub overflow_add-turn : goal.overflow_add-turn
-overflow_add-turn g c =
-    let young = all_middle (HasTurns 0) c.args.before.now c.args.group.now c.args.after.now c.requires.turns in
-    let turns = c.turns-turn.ensures ∙ ap (λ j. j.state.turns) c.journal.ensures in
-    omega arith
 
 pub begin_turn-requires-clause-idle : goal.begin_turn-requires-clause-idle
 begin_turn-requires-clause-idle g c =
-    let fits = c.requires.fits in (fit_middle g.W.Slotted.fits g.W.World.sound g.W.World.only_asked g.W.World.is_first g.W.World.left fits.0 c.args.before.now c.args.group.now c.args.after.now fits.2).1.2.0
+    let fits = c.requires.fits in (fit_middle g.W.Slotted.fits g.W.World.sound g.W.World.only_asked g.W.World.is_first g.W.World.left c.args.limit fits.0 c.args.before.now c.args.group.now c.args.after.now fits.2).1.2.0
 
 pub returns-in_err-begin_turn-clause-before : goal.returns-in_err-begin_turn-clause-before
-returns-in_err-begin_turn-clause-before g c = all_refl g.W.Slotted.fits g.W.World.sound g.W.World.only_asked g.W.World.is_first g.W.World.left _ c.args.before.now 1
+returns-in_err-begin_turn-clause-before g c = all_refl g.W.Slotted.fits g.W.World.sound g.W.World.only_asked g.W.World.is_first g.W.World.left c.args.limit _ c.args.before.now 1
 
 pub returns-in_err-begin_turn-clause-after : goal.returns-in_err-begin_turn-clause-after
-returns-in_err-begin_turn-clause-after g c = all_refl g.W.Slotted.fits g.W.World.sound g.W.World.only_asked g.W.World.is_first g.W.World.left _ c.args.after.now 1
+returns-in_err-begin_turn-clause-after g c = all_refl g.W.Slotted.fits g.W.World.sound g.W.World.only_asked g.W.World.is_first g.W.World.left c.args.limit _ c.args.after.now 1
 
 pub serve-answer-requires-clause-turn : goal.serve-answer-requires-clause-turn
 serve-answer-requires-clause-turn g c =
     let fits = c.requires.fits in
-    let fit = fit_middle g.W.Slotted.fits g.W.World.sound g.W.World.only_asked g.W.World.is_first g.W.World.left fits.0 c.args.before.now c.args.group.now c.args.after.now fits.2 in
-    let begun = c.in_ok-begin_turn.ensures in (ap (λ (s : State). s.held) begun.begins.state, begun.sound fit.1.1)
-
-pub serve-answer-requires-clause-due : goal.serve-answer-requires-clause-due
-serve-answer-requires-clause-due g c = subst (λ (s : State). IsDueFirst s c.args.moment c.args.number) (sym c.in_ok-begin_turn.ensures.begins.state) c.requires.due
+    let fit = fit_middle g.W.Slotted.fits g.W.World.sound g.W.World.only_asked g.W.World.is_first g.W.World.left c.args.limit fits.0 c.args.before.now c.args.group.now c.args.after.now fits.2 in
+    let begun = c.in_ok-begin_turn.ensures in (
+      ap (λ (s : State). s.held) begun.begins.state,
+      begun.sound fit.1.1,
+      subst (λ (s : State). IsDueFirst s c.args.moment c.args.number) (sym begun.begins.state) c.requires.due,
+    )
 
 pub serve-answer-requires-clause-fits : goal.serve-answer-requires-clause-fits
 serve-answer-requires-clause-fits g c =
     let fits = c.requires.fits in (
       fits.0,
       fits.1,
-      around g.W.Slotted.fits g.W.World.sound g.W.World.only_asked g.W.World.is_first g.W.World.left fits.0 c.args.before.now c.args.group.now c.begin_turn.new.self.world c.args.after.now fits.2 c.in_ok-begin_turn.ensures.world,
-    )
-
-pub serve-answer-requires-clause-turns : goal.serve-answer-requires-clause-turns
-serve-answer-requires-clause-turns g c =
-    let before = c.args.before.now in
-    let group = c.args.group.now in
-    let after = c.args.after.now in
-    let rest = all_back (HasTurns 0) before (group ∷ after) c.requires.turns in (
-      all_front (HasTurns 0) before (group ∷ after) c.requires.turns,
-      All-tail (HasTurns 0) group after rest,
+      around g.W.Slotted.fits g.W.World.sound g.W.World.only_asked g.W.World.is_first g.W.World.left c.args.limit fits.0 c.args.before.now c.args.group.now c.begin_turn.new.self.world c.args.after.now fits.2 c.in_ok-begin_turn.ensures.world,
     )
 
 pub returns-clause-own : goal.returns-clause-own
@@ -55,6 +39,21 @@ returns-clause-own g c =
     let begun = c.in_ok-begin_turn.ensures in
     let given = c.give_turn.ensures in
     let works = c.serve-answer.ensures.works in
-    stepped g.W.Slotted.fits g.W.World.sound g.W.World.only_asked g.W.World.is_first g.W.World.left c.args.group.now c.begin_turn.new.self c.serve-answer.new.group c.give_turn.new.self (c.turns-turn.result + 1) c.args.moment c.args.number c.requires.due
-    (ap (λ n. n + 1) (c.turns-turn.ensures ∙ ap (λ j. j.state.turns) c.journal.ensures)) begun.begins begun.world begun.left works given.gives given.world given.left
+    let turns = c.turns-turns.ensures ∙ ap (λ j. j.state.turns) c.journal.ensures in
+    stepped g.W.Slotted.fits g.W.World.sound g.W.World.only_asked g.W.World.is_first g.W.World.left c.args.limit c.args.group.now c.begin_turn.new.self c.serve-answer.new.group c.give_turn.new.self (c.turns-turns.result + 1) c.args.moment c.args.number c.requires.due (omega arith)
+    (ap (λ n. n + 1) turns) begun.begins begun.world begun.left works given.gives given.world given.left
     (given.sound works.sound)
+
+pub returns-clause-worn : goal.returns-clause-worn
+returns-clause-worn g c = λ is. any_around (IsWorn g.W.Slotted.fits g.W.World.sound g.W.World.only_asked g.W.World.is_first c.args.limit) c.serve-answer.new.before c.give_turn.new.self c.serve-answer.new.after (c.serve-answer.ensures.worn is)
+
+pub returns-then-turns-limit-clause-worn : goal.returns-then-turns-limit-clause-worn
+returns-then-turns-limit-clause-worn g c = λ is.
+    let turns = c.turns-turns.ensures ∙ ap (λ j. j.state.turns) c.journal.ensures in
+    any_middle (IsWorn g.W.Slotted.fits g.W.World.sound g.W.World.only_asked g.W.World.is_first c.args.limit) c.args.before.now c.args.group.now c.args.after.now (omega arith, inl (next_pending c.args.group.now.cx.log.state c.args.moment c.args.number c.requires.due))
+
+pub returns-then-turns-limit-clause-before : goal.returns-then-turns-limit-clause-before
+returns-then-turns-limit-clause-before g c = all_refl g.W.Slotted.fits g.W.World.sound g.W.World.only_asked g.W.World.is_first g.W.World.left c.args.limit _ c.args.before.now 1
+
+pub returns-then-turns-limit-clause-after : goal.returns-then-turns-limit-clause-after
+returns-then-turns-limit-clause-after g c = all_refl g.W.Slotted.fits g.W.World.sound g.W.World.only_asked g.W.World.is_first g.W.World.left c.args.limit _ c.args.after.now 1

@@ -28,8 +28,8 @@ returns g c =
     let was : IsIn (k, 0, h) (view c.in-Ok.seat).known = subst (λ v. IsIn (k, 0, h) v.known) (sym c.in-Ok.ensures.view) (given_known c.args.groups.items 0 k k h (omega arith) at) in
     c.run_all-seat.ensures.back.keeps.known.stays (k, 0, h) (c.in_ok-start_groups.ensures.knows.stays (k, 0, h) was) in
     record {
-      follow = zip_pairs FollowsGroup c.in-Ok-close.groups.items c.args.groups.items (fit_count fit c.args.tags.items c.args.groups.items c.requires.fits ∙ sym count)
-          (λ k x h at at'. (after_known StandsAfter seat.known k (entries k seat.turns + 1) 0 h x (c.in-Ok-close.ensures.values k x at).later (known k h at')).follows);
+      follow = zip_pairs (FollowsGroup g.W.Slotted.fits) c.in-Ok-close.groups.items c.args.groups.items (fit_count fit c.args.tags.items c.args.groups.items c.requires.fits ∙ sym count)
+          (λ k x h at at'. (after_known (StandsAfter g.W.Slotted.fits) seat.known k (entries k seat.turns + 1) 0 h x (c.in-Ok-close.ensures.values k x at).later (known k h at')).follows);
       fits = zip_from fit c.args.tags.items c.in-Ok-close.groups.items count (λ k x at.
           let last = c.in-Ok-close.ensures.values k x at in
           subst (λ ts. (t : g.row.W-Tag.Denot) × (get_elem? ts k ≡ some t) × fit t x) c.in-Ok.ensures.tags last.fit);
@@ -39,8 +39,8 @@ returns g c =
       started = λ k h x low given at.
           let last = c.in-Ok-close.ensures.values k x at in
           let old = (view c.start_groups.new.seat).known in
-          let started = subst (λ ts. AllStarted g.row.W-Question.Denot g.row.W-Reply.Denot g.row.W-Tag.Denot g.row.W-Trace.Denot (IsFirst g.W.World.is_first ts) g.W.World.begun g.W.World.sound old c.args.starts) c.in-Ok.ensures.tags c.in_ok-start_groups.ensures.started in
+          let started = subst (λ ts. AllStarted g.row.W-Question.Denot g.row.W-Reply.Denot g.row.W-Trace.Denot g.W.Slotted.fits (IsFirst g.W.World.is_first ts) g.W.World.begun g.W.World.sound old c.args.starts) c.in-Ok.ensures.tags c.in_ok-start_groups.ensures.started in
           let few = few_all (entries k seat.turns) (entries k seat.turns) (length seat.turns) (length (view c.start_groups.new.seat).turns) c.args.starts (c.args.threads * (2 * c.args.budget)) (le_refl (entries k seat.turns)) (few_entries k seat.turns) c.run_all-seat.ensures.back.keeps.turns c.in_ok-start_groups.ensures.opened.few in
           let stood = c.in_ok-start_groups.ensures.knows.stays (k, 0, h) (subst (λ v. IsIn (k, 0, h) v.known) (sym c.in-Ok.ensures.view) (given_known c.args.groups.items 0 k k h (omega arith) given)) in
-          was_started first g.W.World.begun g.W.World.sound old seat.known seat.turns k h x (still_young (entries k seat.turns) (turns_of c.args.starts c.args.threads c.args.budget) few c.requires.plan.turns) (started k low) c.in_ok-start_groups.ensures.later stood c.run_all-seat.ensures.back.keeps.known last.later;
+          was_started g.W.Slotted.fits first g.W.World.begun g.W.World.sound old seat.known seat.turns k h x (still_young (entries k seat.turns) (turns_of c.args.starts c.args.threads c.args.budget) few c.requires.plan.turns) (started k low) c.in_ok-start_groups.ensures.later stood c.run_all-seat.ensures.back.keeps.known last.later;
     }

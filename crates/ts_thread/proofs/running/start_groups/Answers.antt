@@ -17,7 +17,7 @@ returns-clause-later g c = ok_to c.start_all-started.result (λ started. c.join.
 pub returns-clause-started : goal.returns-clause-started
 returns-clause-started g c =
     ok_to c.start_all-started.result
-    (all_more g.row.W-Question.Denot g.row.W-Reply.Denot g.row.W-Tag.Denot g.row.W-Trace.Denot (IsFirst g.W.World.is_first (tags_of c.args.slots.now)) g.W.World.begun g.W.World.sound
+    (all_more g.row.W-Question.Denot g.row.W-Reply.Denot g.row.W-Trace.Denot g.W.Slotted.fits (IsFirst g.W.World.is_first (tags_of c.args.slots.now)) g.W.World.begun g.W.World.sound
     (view c.start_all-started.new.desk.seat).known
     (view c.join.new.into).known
     c.args.starts

@@ -15,6 +15,6 @@ starts-preserved g c =
     let one = c.start_one.ensures in (
       one.desk,
       keeps_desk c.args.desk.now c.starts.desk c.start_one.new.desk c.starts.k 1 (c.starts.k + 1) (omega arith) c.starts.invariant.1 one.keeps,
-      one_more g.row.W-Question.Denot g.row.W-Reply.Denot g.row.W-Tag.Denot g.row.W-Trace.Denot (IsFirst g.W.World.is_first (tags_of c.args.slots.now)) g.W.World.begun g.W.World.sound
+      one_more g.row.W-Question.Denot g.row.W-Reply.Denot g.row.W-Trace.Denot g.W.Slotted.fits (IsFirst g.W.World.is_first (tags_of c.args.slots.now)) g.W.World.begun g.W.World.sound
           (view c.starts.desk.seat).known (view c.start_one.new.desk.seat).known c.starts.k one.keeps.seat.known c.starts.invariant.2 c.in_ok-start_one.ensures.started,
     )

@@ -13,7 +13,7 @@ enter_at-turn-requires-clause-group g c =
 
 pub leave-requires-clause-marks : goal.leave-requires-clause-marks
 leave-requires-clause-marks g c mark there =
-    given_marks c.value.result.now c.begin.new.group c.enter_at-turn.result.found.value c.number-number.result c.enter_at-turn.result.number c.number-owner.result c.enter_at-turn.new.seat.number c.in-Err.ensures.err.0
+    given_marks g.W.Slotted.fits c.value.result.now c.begin.new.group c.enter_at-turn.result.found.value c.number-number.result c.enter_at-turn.result.number c.number-owner.result c.enter_at-turn.new.seat.number c.in-Err.ensures.err.0
     (c.value.ensures.value ∙ sym c.enter_at-turn.ensures.entered.found)
     c.number-number.ensures
     c.number-owner.ensures
@@ -81,12 +81,14 @@ returns-clause-started g c =
           entered.fits
           entered.found
           c.value.ensures.value
-          (subst (λ n. HasTurn c.value.result.now c.begin.new.group n c.number-owner.result) c.number-number.ensures begun.begun)
+          (subst (λ n. HasTurn g.W.Slotted.fits c.value.result.now c.begin.new.group n c.number-owner.result) c.number-number.ensures begun.begun)
           begun.same
           c.value-2.ensures.value
           c.start.ensures.starts
+          entered.later
           entered.wins
           c.end_turn.ensures.leaves.seat
+          ends.as_now.world
           ends.as_now.base
           ends.as_now.later
           ends.told.none

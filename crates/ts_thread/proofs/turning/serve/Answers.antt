@@ -7,7 +7,7 @@ use Rattle.ts_thread.proofs.turning.serve.Goals as goal
 
 pub leave-requires-clause-marks : goal.leave-requires-clause-marks
 leave-requires-clause-marks g c mark there =
-    given_marks c.value.result.now c.begin.new.group c.args.turn.found.value c.number-number.result c.args.turn.number c.number-owner.result c.args.desk.now.seat.number c.in-Err.ensures.err.0
+    given_marks g.W.Slotted.fits c.value.result.now c.begin.new.group c.args.turn.found.value c.number-number.result c.args.turn.number c.number-owner.result c.args.desk.now.seat.number c.in-Err.ensures.err.0
     (c.value.ensures.value ∙ sym c.requires.found.same)
     c.number-number.ensures
     c.number-owner.ensures
@@ -34,7 +34,7 @@ returns-clause-serves g c =
     c.requires.found.group
     (c.value.ensures.value ∙ sym c.requires.found.same)
     begun.same
-    (subst (λ (x : ℕ × ℕ). HasTurn c.value.result.now c.begin.new.group x.0 x.1) (λ i. (c.number-number.ensures i, c.number-owner.ensures i)) begun.begun)
+    (subst (λ (x : ℕ × ℕ). HasTurn g.W.Slotted.fits c.value.result.now c.begin.new.group x.0 x.1) (λ i. (c.number-number.ensures i, c.number-owner.ensures i)) begun.begun)
     c.value-2.ensures.value
     worked.worked.goes.news_from
     worked.works

@@ -1,32 +1,25 @@
-use Rattle.std.proofs.Common.{arith}
-use Rattle.ts_thread.specs.Tags.{GroupFits}
+use Rattle.ts_thread.specs.declared.TheConstants.{MOST_ALONE}
 use Rattle.ts_thread.specs.Threads.{turns_of}
-use Rattle.ts_thread.proofs.Ended.{fit_count, can_finish, have_ended}
+use Rattle.ts_thread.proofs.Rows.{no_fault}
+use Rattle.ts_thread.proofs.Ended.{all_tell, turns_enough, have_ended}
 use Rattle.ts_thread.proofs.whole.run_whole.Goals as goal
 
-pub finish-requires-clause-fits : goal.finish-requires-clause-fits
-finish-requires-clause-fits g c = (c.args.tags.items, c.requires.run.asks, c.in_ok-groups.ensures.fits)
+pub finish_within-requires-clause-fits : goal.finish_within-requires-clause-fits
+finish_within-requires-clause-fits g c = (c.args.tags.items, c.requires.run.asks, c.in_ok-groups.ensures.fits)
 
-pub finish-requires-clause-tells : goal.finish-requires-clause-tells
-finish-requires-clause-tells g c =
-    let groups = c.in_ok-groups.groups.items in
-    let run = c.in_ok-groups.ensures in
-    let old = fit_count (λ t h. GroupFits g.W.Slotted.fits g.W.World.sound g.W.World.only_asked g.W.World.is_first t h) c.args.tags.items c.args.groups.items c.requires.run.fits in
-    let now = fit_count (λ t h. GroupFits g.W.Slotted.fits g.W.World.sound g.W.World.only_asked g.W.World.is_first t h) c.args.tags.items groups run.fits in
-    let most = c.requires.run.few in
-    (can_finish g.W.Slotted.fits g.W.World.sound g.W.World.only_asked g.W.World.is_first g.W.World.left (turns_of c.args.starts c.args.threads c.args.budget) c.args.tags.items groups (omega arith) c.requires.ends run.fits run.turns).0
+pub finish_within-requires-clause-tells : goal.finish_within-requires-clause-tells
+finish_within-requires-clause-tells g c =
+    all_tell g.W.Slotted.fits g.W.World.sound g.W.World.only_asked g.W.World.is_first g.W.World.left c.args.tags.items c.in_ok-groups.groups.items c.requires.tells c.in_ok-groups.ensures.fits
 
-pub finish-requires-clause-turns : goal.finish-requires-clause-turns
-finish-requires-clause-turns g c =
-    let groups = c.in_ok-groups.groups.items in
+pub returns-clause-ended : goal.returns-clause-ended
+returns-clause-ended g c =
     let run = c.in_ok-groups.ensures in
-    let old = fit_count (λ t h. GroupFits g.W.Slotted.fits g.W.World.sound g.W.World.only_asked g.W.World.is_first t h) c.args.tags.items c.args.groups.items c.requires.run.fits in
-    let now = fit_count (λ t h. GroupFits g.W.Slotted.fits g.W.World.sound g.W.World.only_asked g.W.World.is_first t h) c.args.tags.items groups run.fits in
-    let most = c.requires.run.few in
-    (can_finish g.W.Slotted.fits g.W.World.sound g.W.World.only_asked g.W.World.is_first g.W.World.left (turns_of c.args.starts c.args.threads c.args.budget) c.args.tags.items groups (omega arith) c.requires.ends run.fits run.turns).1
+    let ends = c.in_ok-finish_within.ensures.finishes in
+    have_ended g.W.Slotted.fits g.W.World.sound g.W.World.only_asked g.W.World.is_first g.W.World.left g.W.World.begun c.args.tags.items c.args.starts c.args.threads c.args.budget ends.turns c.args.groups.items c.in_ok-groups.groups.items c.finish_within.new.groups.items run ends.goes ends.idle
 
-pub returns : goal.returns
-returns g c =
+pub returns-in_err-finish_within-clause-spares : goal.returns-in_err-finish_within-clause-spares
+returns-in_err-finish_within-clause-spares g c = λ soon.
     let run = c.in_ok-groups.ensures in
-    let ends = c.in_ok-finish.ensures in
-    have_ended g.W.Slotted.fits g.W.World.sound g.W.World.only_asked g.W.World.is_first _ g.W.World.left g.W.World.begun c.args.tags.items c.args.starts c.args.threads c.args.budget ends.turns c.args.groups.items c.in_ok-groups.groups.items c.finish.new.groups.items run ends.goes ends.idle
+    no_fault c.from_residual.result _ _ c.from_residual.ensures.1
+    (c.in_err-finish_within.ensures.spares
+    (turns_enough g.W.Slotted.fits g.W.World.sound g.W.World.only_asked g.W.World.is_first g.W.World.left MOST_ALONE (turns_of c.args.starts c.args.threads c.args.budget) c.args.tags.items c.in_ok-groups.groups.items soon run.fits run.turns))

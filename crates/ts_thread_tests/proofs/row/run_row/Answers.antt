@@ -1,15 +1,15 @@
-use Rattle.std.proofs.Common.{◌≤◌, ◌*◌, All, true, refl, sym, subst, arith}
+use Rattle.std.proofs.Common.{◌≤◌, ◌*◌, ℕ, All, true, refl, sym, subst, arith}
 use Rattle.std.proofs.lemmas.Nat.{mul-le}
 use Rattle.std.proofs.lemmas.Result.{IfOk-weaker}
 use Rattle.ts_group_tests.specs.declared.peer.TheConstants.{ASKED}
-use Rattle.ts_group_tests.specs.Peers.{PeerFits, PeerSound, PeerMayAsk, PeerRight, PeerAnswers, PeerCounted}
-use Rattle.ts_thread.specs.declared.TheConstants.{MOST_THREADS}
+use Rattle.ts_group_tests.specs.Peers.{PeerFits, PeerSound, PeerMayAsk, PeerRight, PeerAnswers, PeerCounted, peer_left}
+use Rattle.ts_thread.specs.declared.TheConstants.{MOST_ALONE, MOST_THREADS}
 use Rattle.ts_thread.specs.Threads.{turns_of}
-use Rattle.ts_thread.specs.Whole.{CanBeRun}
+use Rattle.ts_thread.specs.Whole.{CanBeRun, EndSoon}
 use Rattle.ts_thread_tests.specs.declared.row.TheConstants.{BUDGET}
 use Rattle.ts_thread_tests.specs.ToyRows.{HasEnded}
 use Rattle.ts_thread_tests.proofs.ToyRows.{all_any, all_ended}
-use Rattle.ts_thread_tests.proofs.Ends.{peers_can_ask, peers_end, row_starts}
+use Rattle.ts_thread_tests.proofs.Ends.{peers_can_ask, peers_tell, peers_end, only_memory, row_starts}
 use Rattle.ts_thread_tests.proofs.row.run_row.Goals as goal
 
 pub run_whole-requires-clause-run : goal.run_whole-requires-clause-run
@@ -26,14 +26,18 @@ run_whole-requires-clause-run g c κs within =
       asks = peers_can_ask;
     })
 
-pub run_whole-requires-clause-ends : goal.run_whole-requires-clause-ends
-run_whole-requires-clause-ends g c κs within =
-    let times : c.args.threads * (2 * BUDGET) ≤ MOST_THREADS * (2 * BUDGET) = mul-le c.args.threads (2 * BUDGET) MOST_THREADS (2 * BUDGET) c.requires.threads.1 (omega arith) in
-    peers_end (turns_of ASKED c.args.threads BUDGET) (omega arith)
+pub run_whole-requires-clause-tells : goal.run_whole-requires-clause-tells
+run_whole-requires-clause-tells g c κs within = peers_tell c.in_ok-tags.tags.items
 
-pub returns : goal.returns
-returns g c =
+pub returns-clause-ended : goal.returns-clause-ended
+returns-clause-ended g c =
     IfOk-weaker c.run_whole.result _ (λ gs. All (HasEnded PeerCounted) gs.items)
     (λ gs ended.
     all_ended PeerFits PeerSound (λ b. b) (λ b. true) (λ b. Unit {0}) PeerCounted _ gs.items (λ t w s roles any fits sound none asks whole. sound.ends asks whole none) (all_any c.in_ok-tags.tags.items) ended.fits ended.idle)
-    c.run_whole.ensures
+    c.run_whole.ensures.ended
+
+pub returns-clause-lacks : goal.returns-clause-lacks
+returns-clause-lacks g c =
+    let times : c.args.threads * (2 * BUDGET) ≤ MOST_THREADS * (2 * BUDGET) = mul-le c.args.threads (2 * BUDGET) MOST_THREADS (2 * BUDGET) c.requires.threads.1 (omega arith) in
+    only_memory c.run_whole.result (c.run_whole.ensures.spares
+    (subst (λ ts. EndSoon ℕ ℕ (Unit {0}) PeerFits PeerSound (λ b. b) (λ b. true) peer_left MOST_ALONE (turns_of ASKED c.args.threads BUDGET) ts) (sym c.in_ok-tags.ensures) (peers_end MOST_ALONE (turns_of ASKED c.args.threads BUDGET) (omega arith) (omega arith))))

@@ -7,7 +7,8 @@ use Rattle.ts_thread.specs.Threads.{turns_of}
 use Rattle.ts_thread_tests.specs.declared.row.TheConstants.{BUDGET}
 use Rattle.ts_thread_tests.specs.declared.toys.TheConstants.{TOYS}
 use Rattle.ts_thread_tests.specs.ToyRows.{HasEnded}
-use Rattle.ts_thread_tests.proofs.ToyRows.{toys_start, toys_can_ask, toys_end, toys_count, all_ended}
+use Rattle.ts_thread_tests.proofs.ToyRows.{toys_start, toys_can_ask, toys_tell, toys_end, toys_count, all_ended}
+use Rattle.ts_thread_tests.proofs.Ends.{only_memory}
 use Rattle.ts_thread_tests.proofs.toys.run_toys.Goals as goal
 
 pub run_whole-requires-clause-run : goal.run_whole-requires-clause-run
@@ -29,17 +30,16 @@ run_whole-requires-clause-run g c κs within =
       asks = toys_can_ask g.W.Slotted.fits g.W.World.only_asked g.W.World.may_ask g.W.World.right g.W.World.answers _ toy.alone toy.fair;
     }
 
-pub run_whole-requires-clause-ends : goal.run_whole-requires-clause-ends
-run_whole-requires-clause-ends g c κs within =
+pub run_whole-requires-clause-tells : goal.run_whole-requires-clause-tells
+run_whole-requires-clause-tells g c κs within =
     let toy = g.met.W.Toy g.world.𝓛 g.world.𝓜 g.world.𝓡 ((λ s x. x), (λ x. x), (λ x. x), λ x. x) in
-    let times : c.args.threads * (2 * BUDGET) ≤ MOST_THREADS * (2 * BUDGET) = mul-le c.args.threads (2 * BUDGET) MOST_THREADS (2 * BUDGET) c.requires.threads.1 (omega arith) in
-    toys_end g.W.Slotted.fits g.W.World.sound g.W.World.only_asked g.W.World.is_first g.W.World.left (turns_of TOYS c.args.threads BUDGET) toy.little (omega arith) (omega arith)
+    toys_tell g.W.Slotted.fits g.W.World.sound g.W.World.only_asked g.W.World.is_first g.W.World.left toy.little c.in_ok-groups.groups.tags.items
 
 pub returns-clause-count : goal.returns-clause-count
 returns-clause-count g c =
     IfOk-weaker c.run_whole.result _ (λ gs. length gs.items ≡ TOYS)
     (λ gs ended. toys_count g.W.Slotted.fits g.W.World.sound g.W.World.only_asked g.W.World.is_first (g.W.Toy.tagged c.args.todo) TOYS _ _ gs.items c.in_ok-groups.ensures ended.fits)
-    c.run_whole.ensures
+    c.run_whole.ensures.ended
 
 pub returns-clause-ended : goal.returns-clause-ended
 returns-clause-ended g c =
@@ -47,4 +47,11 @@ returns-clause-ended g c =
     IfOk-weaker c.run_whole.result _ (λ gs. All (HasEnded (g.W.Toy.counted c.args.todo)) gs.items)
     (λ gs ended.
     all_ended g.W.Slotted.fits g.W.World.sound g.W.World.only_asked g.W.World.is_first (g.W.Toy.tagged c.args.todo) (g.W.Toy.counted c.args.todo) _ gs.items (toy.ends c.args.todo) c.in_ok-groups.ensures.tagged ended.fits ended.idle)
-    c.run_whole.ensures
+    c.run_whole.ensures.ended
+
+pub returns-clause-lacks : goal.returns-clause-lacks
+returns-clause-lacks g c =
+    let toy = g.met.W.Toy g.world.𝓛 g.world.𝓜 g.world.𝓡 ((λ s x. x), (λ x. x), (λ x. x), λ x. x) in
+    let times : c.args.threads * (2 * BUDGET) ≤ MOST_THREADS * (2 * BUDGET) = mul-le c.args.threads (2 * BUDGET) MOST_THREADS (2 * BUDGET) c.requires.threads.1 (omega arith) in
+    only_memory c.run_whole.result (c.run_whole.ensures.spares
+    (toys_end g.W.Slotted.fits g.W.World.sound g.W.World.only_asked g.W.World.is_first g.W.World.left toy.little (turns_of TOYS c.args.threads BUDGET) _ ?))

@@ -31,7 +31,7 @@ returns-clause-handles g c = record {
   handles = record {
     next = c.step-step.result.next;
     takes = takes_step g.C.Link.tells g.O.Link.tells g.C.Link.look g.O.Link.look g.O.Upstream.paired g.O.Upstream.refuses g.O.Upstream.upload_left c.args.core.now c.step-step.new.self c.args.phase
-        c.step_on.result c.step-step.result c.step-step.ensures.minds c.step-step.ensures.waits c.step-step.ensures.leaves c.step_on.ensures.course;
+        c.step_on.result c.step-step.result c.step-step.ensures.leads c.step-step.ensures.minds c.step-step.ensures.waits c.step-step.ensures.leaves c.step_on.ensures.course;
     due = due_step g.C.Link.tells g.O.Link.tells g.C.Link.look g.O.Link.look g.O.Upstream.paired g.O.Upstream.refuses g.O.Upstream.upload_left c.args.main.now c.args.cx.now c.step_on.new.cx c.step-step.result.next
         c.step-step.result.phase c.step_on.result (behind_led c.step-step.result.next (K.Phased c.step-step.result.phase) c.step_on.result c.step_on.ensures.course) c.step_on.ensures.due;
   };

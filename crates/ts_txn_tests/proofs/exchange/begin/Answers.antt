@@ -1,5 +1,8 @@
--- A transaction that was made is sound in a group that was made of it.
+-- A transaction that was made is sound in a group that was made of it, and once it was started its group fits its tag.
+use Rattle.std.proofs.Common.{refl}
+use Rattle.ts_txn.proofs.Fitting.{fits_made}
 use Rattle.ts_txn.proofs.Made.{sound_in_group}
+use Rattle.ts_txn_tests.proofs.Begun.{begun_as}
 use Rattle.ts_txn_tests.proofs.exchange.begin.Goals as goal
 
 pub start-requires-clause-sound : goal.start-requires-clause-sound

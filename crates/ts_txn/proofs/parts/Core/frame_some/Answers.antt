@@ -1,9 +1,8 @@
-use Rattle.std.proofs.Common.{length, take, false, refl, sym, ap, subst, ◌∙◌}
+use Rattle.std.proofs.Common.{length, take, refl, sym, ap, subst, ◌∙◌}
 use Rattle.ts_transform.specs.Flow.{ChainState, client_wait}
 use Rattle.ts_txn.specs.Relaying.{StepsChain}
 use Rattle.std.specs.Arc.{arc_value}
 use Rattle.ts_txn.specs.View.{OriginRefuses, view_of}
-use Rattle.ts_txn.specs.BodyLinks.{is_late}
 use Rattle.ts_txn.specs.Duties.{MustSend}
 use Rattle.ts_txn.specs.LoweringBody.{LowersBody}
 use Rattle.ts_txn.proofs.BodyLinks.{calm_after, writer_framed}

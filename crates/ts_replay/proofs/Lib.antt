@@ -1,0 +1,11 @@
+pub mod Blank
+pub mod Blocks
+pub mod Ended
+pub mod HexLengths
+pub mod OneReport
+pub mod Reporting
+pub mod Rows
+pub mod SameLines
+pub mod Telling
+pub mod Tells
+pub mod Unframing

@@ -1,0 +1,162 @@
+-- A report grows block by block, and the journals with it.
+use Rattle.std.proofs.Common.{◌≡◌, ℕ, zero, suc, ◌+◌, ◌<◌, ◌≤◌, List, [], ◌∷◌, ◌++◌, length, length-append, append_assoc, map, Some, refl, sym, ap, subst, ◌∙◌, arith}
+use Rattle.std.specs.Prelude.{IsSomeAnd}
+use Rattle.std.specs.List.{AllZip, concat}
+use Rattle.std.proofs.lemmas.List.{append-nil, map-append}
+use Rattle.ts_config.specs.declared.setup.Setup.{Setup}
+use Rattle.ts_journal.specs.Log.{Log}
+use Rattle.ts_journal.specs.Machine.{IsLawful, replay}
+use Rattle.ts_record.specs.Grammar.{TxnPieces}
+use Rattle.ts_record.specs.Report.{IsReported, block_text, blocks_text, report_begin, report_end}
+use Rattle.ts_record.specs.declared.report.Block.{Block}
+use Rattle.ts_replay.specs.Exchanged.{IsRunBetween}
+use Rattle.ts_replay.specs.Recorded.{RecordedGroup}
+use Rattle.ts_replay.specs.Replayed.{ComesTo, EachOf, HasRunAs, IsReplayOf, journal_of}
+use Rattle.ts_replay.specs.Reports.{IsShown, IsShownOf}
+use Rattle.ts_replay.specs.declared.report.Replayed.{Replayed}
+use Rattle.ts_replay.proofs.Ended.{run_between}
+use Rattle.ts_replay.proofs.Rows.{zip_more}
+use Rattle.ts_txn.specs.Making.{end_of}
+
+-- the lines on one transaction more
+blocks_more : (k n : ℕ) (bs : List Block) (b : Block) → n ≡ k + length bs → blocks_text k (bs ++ b ∷ []) ≡ blocks_text k bs ++ block_text n b
+blocks_more k n [] b is = let first : n ≡ k = omega (arith, is) in append-nil (block_text k b) ∙ ap (λ m. block_text m b) (sym first)
+blocks_more k n (a ∷ bs) b is =
+    let next : n ≡ (k + 1) + length bs = omega (arith, is) in
+    ap (λ l. block_text k a ++ l) (blocks_more (k + 1) n bs b next) ∙ sym (append_assoc (block_text k a) (blocks_text (k + 1) bs) (block_text n b))
+
+module _ (Holds : ℕ → TxnPieces → RecordedGroup → Type 0) where
+  -- one transaction more has its group
+  each_more : (from number : ℕ) (txns : List TxnPieces) (groups : List RecordedGroup) (txn : TxnPieces) (g : RecordedGroup) → number ≡ from + length txns → EachOf Holds from txns groups → Holds number txn g
+      → EachOf Holds from (txns ++ txn ∷ []) (groups ++ g ∷ [])
+  each_more from number [] [] txn g is each one = (let here : number ≡ from = omega (arith, is) in subst (λ n. Holds n txn g) here one, tt)
+  each_more from number [] (h ∷ groups) txn g is each one = absurd each
+  each_more from number (t ∷ txns) [] txn g is each one = absurd each
+  each_more from number (t ∷ txns) (h ∷ groups) txn g is each one =
+      (each.0, each_more (from + 1) number txns groups txn g (let later : number ≡ from + 1 + length txns = omega (arith, is) in later) each.1 one)
+
+  -- the first of these groups has its transaction
+  pub record FirstOf (number : ℕ) (txns : List TxnPieces) (g : RecordedGroup) (rest : List RecordedGroup) : Type 0 where
+    pub txn : TxnPieces
+    pub others : List TxnPieces
+    pub are : txns ≡ txn ∷ others
+    pub first : Holds number txn g
+    pub each : EachOf Holds (number + 1) others rest
+
+  first_of : (number : ℕ) (txns : List TxnPieces) (g : RecordedGroup) (rest : List RecordedGroup) → EachOf Holds number txns (g ∷ rest) → FirstOf number txns g rest
+  first_of number [] g rest each = absurd each
+  first_of number (t ∷ txns) g rest each = record { txn = t; others = txns; are = refl; first = each.0; each = each.1 }
+
+  none_left : (number : ℕ) (txns : List TxnPieces) → EachOf Holds number txns [] → txns ≡ []
+  none_left number [] each = refl
+  none_left number (t ∷ txns) each = absurd each
+
+-- so many of the transactions were reported on, and their journals are there
+pub record ReportsBut (setup : Setup) (txns : List TxnPieces) (groups rest : List RecordedGroup) (number : ℕ) (text : List ℕ) (journals : List Log) : Type 0 where
+  pub done : List TxnPieces
+  pub left : List TxnPieces
+  pub gone : List RecordedGroup
+  pub blocks : List Block
+  pub txns_are : txns ≡ done ++ left
+  pub groups_are : groups ≡ gone ++ rest
+  pub number_is : number ≡ length done
+  pub blocks_are : length blocks ≡ length done
+  pub each : EachOf (IsReplayOf setup) 1 done gone
+  pub to_come : EachOf (HasRunAs setup) (number + 1) left rest
+  pub shows : AllZip (IsShown setup) done blocks
+  pub text_is : text ≡ report_begin ++ blocks_text 1 blocks
+  pub journals_are : journals ≡ map journal_of gone
+
+-- none was
+pub reports_none : (setup : Setup) (txns : List TxnPieces) (groups : List RecordedGroup) (text : List ℕ) (journals : List Log) → EachOf (HasRunAs setup) 1 txns groups → text ≡ report_begin → journals ≡ []
+    → ReportsBut setup txns groups groups 0 text journals
+reports_none setup txns groups text journals each is none = record {
+  done = [];
+  left = txns;
+  gone = [];
+  blocks = [];
+  txns_are = refl;
+  groups_are = refl;
+  number_is = refl;
+  blocks_are = refl;
+  each = tt;
+  to_come = each;
+  shows = tt;
+  text_is = is ∙ sym (append-nil report_begin);
+  journals_are = none;
+}
+
+-- the next one
+pub record NextOf (setup : Setup) (number : ℕ) (g : RecordedGroup) : Type 0 where
+  pub txn : TxnPieces
+  pub ran : HasRunAs setup number txn g
+  pub between : IsRunBetween setup (concat txn.0) (concat txn.1) g.world
+
+pub next_of : (setup : Setup) (txns : List TxnPieces) (groups left rest : List RecordedGroup) (number : ℕ) (text : List ℕ) (journals : List Log) (g : RecordedGroup)
+    → ReportsBut setup txns groups left number text journals → left ≡ g ∷ rest → NextOf setup (number + 1) g
+next_of setup txns groups left rest number text journals g before is =
+    let next = first_of (HasRunAs setup) (number + 1) before.left g rest (subst (λ gs. EachOf (HasRunAs setup) (number + 1) before.left gs) is before.to_come) in
+    record { txn = next.txn; ran = next.first; between = run_between setup (number + 1) next.txn g next.first }
+
+-- its number is one of theirs
+pub next_counts : (setup : Setup) (txns : List TxnPieces) (groups left rest : List RecordedGroup) (number : ℕ) (text : List ℕ) (journals : List Log) (g : RecordedGroup)
+    → ReportsBut setup txns groups left number text journals → left ≡ g ∷ rest → number < length txns
+next_counts setup txns groups left rest number text journals g before is =
+    let next = first_of (HasRunAs setup) (number + 1) before.left g rest (subst (λ gs. EachOf (HasRunAs setup) (number + 1) before.left gs) is before.to_come) in
+    let all : length txns ≡ length before.done + length before.left = ap length before.txns_are ∙ length-append before.done before.left in
+    let some : length before.left ≡ length next.others + 1 = ap length next.are ∙ (let e : length (next.txn ∷ next.others) ≡ length next.others + 1 = omega arith in e) in
+    omega (arith, all, some, before.number_is)
+
+-- what is known of a group whose transaction has a block
+pub replay_of : (setup : Setup) (number : ℕ) (txn : TxnPieces) (g : RecordedGroup) (b : Block) → HasRunAs setup number txn g → end_of g.world.course ≡ Some b.end → IsReported b.end
+    → IsLawful g.cx.log.base g.cx.log.entries → g.cx.log.state ≡ replay g.cx.log.base g.cx.log.entries → IsReplayOf setup number txn g
+replay_of setup number txn g b ran ends reported lawful state = record {
+  ran = ran;
+  ended = subst (λ e. IsSomeAnd e IsReported) (sym ends) reported;
+  final = record { lawful = lawful; state = state; given = ran.given; none = ran.idle };
+}
+
+-- one more was
+pub reports_more : (setup : Setup) (txns : List TxnPieces) (groups left rest : List RecordedGroup) (number next : ℕ) (text text' : List ℕ) (journals journals' : List Log) (g : RecordedGroup) (b : Block)
+    → ReportsBut setup txns groups left number text journals → left ≡ g ∷ rest → next ≡ number + 1
+    → ((c o : List ℕ) → IsRunBetween setup c o g.world → IsShownOf setup c o b) → end_of g.world.course ≡ Some b.end → IsReported b.end
+    → IsLawful g.cx.log.base g.cx.log.entries → g.cx.log.state ≡ replay g.cx.log.base g.cx.log.entries
+    → text' ≡ text ++ block_text next b → journals' ≡ journals ++ g.cx.log ∷ [] → ReportsBut setup txns groups rest next text' journals'
+reports_more setup txns groups left rest number next text text' journals journals' g b before is up says ends reported lawful state longer added =
+    let first = first_of (HasRunAs setup) (number + 1) before.left g rest (subst (λ gs. EachOf (HasRunAs setup) (number + 1) before.left gs) is before.to_come) in
+    let at : number + 1 ≡ 1 + length before.done = omega (arith, before.number_is) in
+    let at_block : next ≡ 1 + length before.blocks = omega (arith, before.number_is, before.blocks_are, up) in
+    let shown : IsShown setup first.txn b = says (concat first.txn.0) (concat first.txn.1) (run_between setup (number + 1) first.txn g first.first) in
+    record {
+      done = before.done ++ first.txn ∷ [];
+      left = first.others;
+      gone = before.gone ++ g ∷ [];
+      blocks = before.blocks ++ b ∷ [];
+      txns_are = before.txns_are ∙ ap (λ l. before.done ++ l) first.are ∙ sym (append_assoc before.done (first.txn ∷ []) first.others);
+      groups_are = before.groups_are ∙ ap (λ l. before.gone ++ l) is ∙ sym (append_assoc before.gone (g ∷ []) rest);
+      number_is = omega (arith, up, before.number_is, length-append before.done (first.txn ∷ []));
+      blocks_are = omega (arith, before.blocks_are, length-append before.blocks (b ∷ []), length-append before.done (first.txn ∷ []));
+      each = each_more (IsReplayOf setup) 1 (number + 1) before.done before.gone first.txn g at before.each (replay_of setup (number + 1) first.txn g b first.first ends reported lawful state);
+      to_come = subst (λ n. EachOf (HasRunAs setup) (n + 1) first.others rest) (sym up) first.each;
+      shows = zip_more (IsShown setup) before.done before.blocks first.txn b before.shows shown;
+      text_is = longer ∙ ap (λ l. l ++ block_text next b) before.text_is ∙ append_assoc report_begin (blocks_text 1 before.blocks) (block_text next b)
+          ∙ ap (λ l. report_begin ++ l) (sym (blocks_more 1 next before.blocks b at_block));
+      journals_are = added ∙ ap (λ l. l ++ g.cx.log ∷ []) before.journals_are ∙ sym (map-append journal_of before.gone (g ∷ []));
+    }
+
+-- all were, and the last line stands behind
+pub reports_all : (setup : Setup) (txns : List TxnPieces) (groups : List RecordedGroup) (number : ℕ) (text text' : List ℕ) (journals : List Log) (r : Replayed)
+    → ReportsBut setup txns groups [] number text journals → text' ≡ text ++ report_end → r.report.items ≡ text' → r.journals.items ≡ journals → ComesTo setup txns groups r
+reports_all setup txns groups number text text' journals r all longer text_is journals_are =
+    let none = none_left (HasRunAs setup) (number + 1) all.left all.to_come in
+    let txns_done : all.done ≡ txns = sym (append-nil all.done) ∙ ap (λ l. all.done ++ l) (sym none) ∙ sym all.txns_are in
+    let groups_gone : all.gone ≡ groups = sym (append-nil all.gone) ∙ sym all.groups_are in
+    record {
+      each = subst (λ ts. EachOf (IsReplayOf setup) 1 ts groups) txns_done (subst (λ gs. EachOf (IsReplayOf setup) 1 all.done gs) groups_gone all.each);
+      journals = journals_are ∙ all.journals_are ∙ ap (map journal_of) groups_gone;
+      report = record {
+        blocks = all.blocks;
+        each = subst (λ ts. AllZip (IsShown setup) ts all.blocks) txns_done all.shows;
+        text_is = text_is ∙ longer ∙ ap (λ l. l ++ report_end) all.text_is ∙ append_assoc report_begin (blocks_text 1 all.blocks) report_end;
+      };
+    }

@@ -1,0 +1,162 @@
+-- Rows of groups of recorded transactions grow, and can be run.
+use Rattle.std.proofs.Common.{◌≡◌, ℕ, zero, suc, ◌+◌, ◌*◌, ◌<◌, ◌≤◌, List, [], ◌∷◌, ◌++◌, length, length-append, append_assoc, Bool, true, false, Option, Some, None, All, refl, sym, ap, subst, ◌∙◌, arith}
+use mathlib.Core.Option.{some}
+use lib.ListN.{get_elem?}
+use Rattle.std.specs.Prelude.{⊤}
+use Rattle.std.specs.Arc.{arc_value}
+use Rattle.std.specs.List.{AllZip, concat}
+use Rattle.std.specs.Bool.{OnTrue}
+use Rattle.std.proofs.lemmas.List.{append-nil}
+use Rattle.std.proofs.lemmas.List.Elements.{All-nil, All-push}
+use Rattle.ts_config.specs.declared.setup.Setup.{Setup}
+use Rattle.ts_group.specs.Context.{IsFresh}
+use Rattle.ts_group.specs.Slot.{IsAtRest}
+use Rattle.ts_journal.specs.State.{State}
+use Rattle.ts_link.specs.Link.{IsSure}
+use Rattle.ts_link.specs.MemLink.{LinkState, look_of}
+use Rattle.ts_record.specs.Grammar.{TxnPieces}
+use Rattle.ts_record.specs.Links.{recorded_side}
+use Rattle.ts_record.proofs.Links.{never_fails}
+use Rattle.ts_replay.specs.Recorded.{AreTagsOf, FitInRow, FitsIn, FitsTag, HasLinesOnly, IsSound, IsTagOf, Recorded, RecordedGroup, RecordedTag, is_asked_only, is_first}
+use Rattle.ts_replay.specs.Rows.{IsRowOf}
+use Rattle.ts_thread.specs.Started.{CanStart}
+use Rattle.ts_thread.specs.Tags.{CanAsk}
+use Rattle.ts_thread.specs.Threads.{HasHadTurns}
+use Rattle.ts_txn.specs.Making.{HasFewLines, IsMadeOf, IsMadeOfIf}
+use Rattle.ts_txn.proofs.Fitting.{fits_made}
+
+-- ---- a group as it is made
+
+-- a setup of few lines
+pub few_of : (setup : Setup) → HasLinesOnly setup → HasFewLines setup 0
+few_of setup h =
+    let none : length setup.plugins.items ≡ 0 = ap length h.no_plugins in
+    record { transforms = h.few; plugins = omega (arith, none); groups = omega (arith, none) }
+
+sure_side : (pieces : List (List ℕ)) (made : LinkState) → made ≡ recorded_side pieces → IsSure (look_of made)
+sure_side pieces made is = let never = never_fails pieces made is in record {
+  fail_reads = never.fail_reads;
+  fail_writes = never.fail_writes;
+  again_reads = never.again_reads;
+  again_writes = never.again_writes;
+}
+
+-- a transaction that was just made of two recorded sides fits its tag
+pub fits_recorded : (setup : Setup) (number : ℕ) (txn : TxnPieces) (tag : RecordedTag) (t : Recorded) → IsTagOf setup number txn false tag
+    → t.core.number ≡ number → arc_value t.core.setup ≡ setup → t.core.plugins_at ≡ 0
+    → IsMadeOf look_of (recorded_side txn.0) t.core.client → IsMadeOfIf look_of (Some (recorded_side txn.1)) t.core.origin → FitsTag tag t
+fits_recorded setup number txn tag t is number_is setup_is plugins_at made made_origin =
+    fits_made look_of look_of tag t (number_is ∙ sym is.number_is) (setup_is ∙ sym is.setup_is) (plugins_at ∙ sym is.plugins_at)
+    (subst (λ l. IsMadeOf look_of l t.core.client) (sym is.client) made) (subst (λ o. IsMadeOfIf look_of o t.core.origin) (sym is.origin) made_origin)
+    (λ sure. (sure_side txn.0 tag.client.value is.client, λ l of_origin. sure_side txn.1 l (let same : Some l ≡ Some (recorded_side txn.1) = sym of_origin ∙ is.origin in cc)))
+    is.started_is
+
+on_true : (b : Bool) (P : Type 0) → P → OnTrue b P
+on_true true P h = h
+on_true false P h = tt
+
+at_first : (s : State) → s.held ≡ false → s.next ≡ 1 → IsAtRest false s
+at_first s given one = (given, omega (arith, one), tt)
+
+-- its group, which has had no turn, fits it too
+pub fits_fresh : (tag : RecordedTag) (g : RecordedGroup) → FitsTag tag g.world → IsSound g.world g.cx.log.state g.cx.roles → IsFresh 0 g.cx → FitsIn tag g
+fits_fresh tag g fits sound fresh = (
+  fits,
+  sound,
+  at_first g.cx.log.state (ap (λ (s : State). s.held) fresh.state) (ap (λ (s : State). s.next) fresh.state),
+  on_true tag.first (g.cx.log.base.turns ≡ 0) (ap (λ (s : State). s.turns) fresh.base),
+)
+
+-- ---- a row grows
+
+pub zip_more : {A B : Type 0} (R : A → B → Type 0) (xs : List A) (ys : List B) (x : A) (y : B) → AllZip R xs ys → R x y → AllZip R (xs ++ x ∷ []) (ys ++ y ∷ [])
+zip_more R [] [] x y all one = (one, tt)
+zip_more R [] (b ∷ ys) x y all one = absurd all
+zip_more R (a ∷ xs) [] x y all one = absurd all
+zip_more R (a ∷ xs) (b ∷ ys) x y all one = (all.0, zip_more R xs ys x y all.1 one)
+
+tags_more : (setup : Setup) (from number : ℕ) (txns : List TxnPieces) (tags : List RecordedTag) (txn : TxnPieces) (tag : RecordedTag) → number ≡ from + length txns
+    → AreTagsOf setup from txns tags → IsTagOf setup number txn false tag → AreTagsOf setup from (txns ++ txn ∷ []) (tags ++ tag ∷ [])
+tags_more setup from number [] [] txn tag at are is = (let here : number ≡ from = omega (arith, at) in subst (λ n. IsTagOf setup n txn false tag) here is, tt)
+tags_more setup from number [] (t ∷ tags) txn tag at are is = absurd are
+tags_more setup from number (x ∷ txns) [] txn tag at are is = absurd are
+tags_more setup from number (x ∷ txns) (t ∷ tags) txn tag at are is =
+    (are.0, tags_more setup (from + 1) number txns tags txn tag (let later : number ≡ from + 1 + length txns = omega (arith, at) in later) are.1 is)
+
+-- all transactions but those that are left have a group
+pub record RowBut (setup : Setup) (txns rest : List TxnPieces) (number : ℕ) (tags : List RecordedTag) (groups : List RecordedGroup) : Type 0 where
+  pub done : List TxnPieces
+  pub split : txns ≡ done ++ rest
+  pub number_is : number ≡ length done
+  pub row : IsRowOf setup done tags groups
+
+-- none has
+pub row_none : (setup : Setup) (txns : List TxnPieces) (tags : List RecordedTag) (groups : List RecordedGroup) → HasLinesOnly setup → tags ≡ [] → groups ≡ [] → RowBut setup txns txns 0 tags groups
+row_none setup txns tags groups lines untagged none = record {
+  done = [];
+  split = refl;
+  number_is = refl;
+  row = subst (λ ts. IsRowOf setup [] ts groups) (sym untagged) (subst (λ gs. IsRowOf setup [] [] gs) (sym none) (record {
+    lines = lines;
+    tags_are = tt;
+    fit = tt;
+    new = All-nil (HasHadTurns 0);
+    count = refl;
+  }));
+}
+
+-- one more has
+pub row_more : (setup : Setup) (txns left rest : List TxnPieces) (txn : TxnPieces) (number next : ℕ) (tags us : List RecordedTag) (groups hs : List RecordedGroup) (tag : RecordedTag) (group : RecordedGroup)
+    → RowBut setup txns left number tags groups → left ≡ txn ∷ rest → next ≡ number + 1 → us ≡ tags ++ tag ∷ [] → hs ≡ groups ++ group ∷ []
+    → IsTagOf setup next txn false tag → FitsIn tag group → HasHadTurns 0 group → RowBut setup txns rest next us hs
+row_more setup txns left rest txn number next tags us groups hs tag group but is up more moreover tagged fits new =
+    let row = but.row in
+    let at : next ≡ 1 + length but.done = omega (arith, but.number_is, up) in
+    record {
+      done = but.done ++ txn ∷ [];
+      split = but.split ∙ ap (λ l. but.done ++ l) is ∙ sym (append_assoc but.done (txn ∷ []) rest);
+      number_is = omega (arith, at, length-append but.done (txn ∷ []));
+      row = subst (λ ts. IsRowOf setup (but.done ++ txn ∷ []) ts hs) (sym more) (subst (λ gs. IsRowOf setup (but.done ++ txn ∷ []) (tags ++ tag ∷ []) gs) (sym moreover) (record {
+        lines = row.lines;
+        tags_are = tags_more setup 1 next but.done tags txn tag at row.tags_are tagged;
+        fit = zip_more FitsIn tags groups tag group row.fit fits;
+        new = All-push (HasHadTurns 0) groups group row.new new;
+        count = omega (arith, row.count, length-append groups (group ∷ []), length-append but.done (txn ∷ []));
+      }));
+    }
+
+-- all have
+pub row_all : (setup : Setup) (txns : List TxnPieces) (number : ℕ) (tags : List RecordedTag) (groups : List RecordedGroup) → RowBut setup txns [] number tags groups → IsRowOf setup txns tags groups
+row_all setup txns number tags groups but = subst (λ ts. IsRowOf setup ts tags groups) (sym (append-nil but.done) ∙ sym but.split) but.row
+
+-- so many have, and more are left
+pub row_counts : (setup : Setup) (txns left rest : List TxnPieces) (txn : TxnPieces) (number : ℕ) (tags : List RecordedTag) (groups : List RecordedGroup) → RowBut setup txns left number tags groups → left ≡ txn ∷ rest
+    → number < length txns
+row_counts setup txns left rest txn number tags groups but is =
+    let all : length txns ≡ length but.done + length left = ap length but.split ∙ length-append but.done left in
+    let some : length left ≡ length rest + 1 = ap length is ∙ (let e : length (txn ∷ rest) ≡ length rest + 1 = omega arith in e) in
+    omega (arith, all, some, but.number_is)
+
+-- ---- a row can be run
+
+tag_at : (tags : List RecordedTag) (k : ℕ) → k < length tags → (t : RecordedTag) × (get_elem? tags k ≡ some t) × (is_asked_only t ≡ false)
+tag_at [] k low = absurd (omega arith)
+tag_at (t ∷ tags) zero low = (t, refl, refl)
+tag_at (t ∷ tags) (suc k) low = tag_at tags k (omega arith)
+
+zip_long : {A B : Type 0} (R : A → B → Type 0) (xs : List A) (ys : List B) → AllZip R xs ys → length ys ≡ length xs
+zip_long R [] [] all = refl
+zip_long R [] (y ∷ ys) all = absurd all
+zip_long R (x ∷ xs) [] all = absurd all
+zip_long R (x ∷ xs) (y ∷ ys) all = let e = zip_long R xs ys all.1 in omega arith
+
+pub row_starts : (setup : Setup) (txns : List TxnPieces) (tags : List RecordedTag) (groups : List RecordedGroup) (starts : ℕ) → IsRowOf setup txns tags groups → starts ≡ length groups
+    → CanStart is_asked_only tags starts
+row_starts setup txns tags groups starts row all k low = tag_at tags k (omega (arith, zip_long FitsIn tags groups row.fit, all, low))
+
+-- nobody asks anybody
+pub row_asks : {Q R : Type 0} (tags : List RecordedTag) → CanAsk {Q = Q} {R = R} FitsTag is_asked_only (λ t k. ⊥) (λ t k q r. ⊤) (λ t q r. ⊤) tags
+row_asks tags = record {
+  others = λ j k t w at fits may. absurd may;
+  replies = λ j k t u w v q r at fits there fit answers. tt;
+}

@@ -1,0 +1,5 @@
+use Rattle.ts_replay.proofs.OneReport.{one_report}
+use Rattle.ts_replay.proofs.replaying.one_report.Goals as goal
+
+pub returns : goal.returns
+returns c = one_report

@@ -1,0 +1,85 @@
+-- A recorded transaction that has ended, and what it left.
+use Rattle.std.specs.Prelude.{◌≡◌, ◌⊎◌, ℕ, ◌<◌, List, [], ◌++◌, length, map, All, ⊤, Bool, true, false, codes}
+use Rattle.std.specs.Arc.{arc_value}
+use Rattle.memchr.specs.Find.{OccursAt}
+use Rattle.ts_config.specs.Bodies.{whole_of}
+use Rattle.ts_config.specs.declared.setup.Setup.{Setup}
+use Rattle.ts_group.specs.declared.action.Named.{Named}
+use Rattle.ts_hooks.specs.declared.txn_end.TxnEnd.{TxnEnd}
+use Rattle.ts_hooks.specs.declared.txn_end.TxnEnd.TheVariants as E
+use Rattle.ts_journal.specs.declared.entry.TheConstants.{GREATEST}
+use Rattle.ts_link.specs.MemLink.{LinkState, look_of}
+use Rattle.ts_stock.specs.Stock.{still_writes}
+use Rattle.ts_stock.specs.declared.stock.State.{State}
+use Rattle.ts_txn.specs.Cover.{is_fresh_on}
+use Rattle.ts_txn.specs.Making.{end_of, link_if}
+use Rattle.ts_txn.specs.View.{is_dialed, side_if}
+use Rattle.ts_txn.specs.World.{IsSoundTxn}
+use Rattle.ts_txn.specs.declared.block.Block.{Block}
+use Rattle.ts_txn.specs.declared.making.TxnParts.{TxnParts}
+use Rattle.ts_txn.specs.declared.txn.Txn.{Txn}
+use Rattle.ts_wire.specs.Frames.{IsPiece, cut_body, frames}
+
+-- The transaction is one of this setup, which has no hook plugin, between two sides that give these bytes. It was
+-- started, nothing of its group is pending, the group has an event number left, and what is to hold of it holds.
+pub record IsRunBetween (setup : Setup) (c o : List ℕ) (t : Txn LinkState LinkState State) : Type 0 where
+  pub setup_is : arc_value t.core.setup ≡ setup
+  pub no_plugins : setup.plugins.items ≡ []
+  pub gives : (look_of t.core.client.link).source ≡ c
+  pub dialed : is_dialed t.core.origin ≡ true
+  pub answers : (side_if look_of t.core.origin).look.source ≡ o
+  pub started : is_fresh_on t.course ≡ false
+  pub next : ℕ
+  pub left : next < GREATEST
+  pub roles : List Named
+  pub sound : IsSoundTxn true true look_of look_of (λ (x y : LinkState). ⊤)
+      (λ (l : LinkState) (list : List ℕ). false ≡ true) still_writes whole_of t [] next roles
+
+-- what is left of such a transaction
+pub record IsLeftBetween (setup : Setup) (c o : List ℕ) (parts : TxnParts LinkState LinkState) : Type 0 where
+  pub txn : Txn LinkState LinkState State
+  pub run : IsRunBetween setup c o txn
+  pub links : (parts.client ≡ txn.core.client.link) × (parts.origin ≡ link_if txn.core.origin)
+  pub sent : (parts.head ≡ txn.core.sent.head) × (parts.mode ≡ txn.core.sent.mode)
+      × (parts.cuts.items ≡ txn.core.sent.cuts.items)
+  pub end_is : parts.end ≡ end_of txn.course
+
+-- the end of the last field of a head, and its empty line (RFC 9112, section 2.1)
+abbrev pub blank_end : List ℕ
+blank_end = codes "\r\n\r\n"
+
+-- the text ends with an empty line, which is the only one in it
+pub record EndsBlank (text : List ℕ) : Type 0 where
+  pub front : List ℕ
+  pub text_is : text ≡ front ++ blank_end
+  pub once : (place : ℕ) → OccursAt text blank_end place → place ≡ length front
+
+-- an origin took the request of a block, behind which there is at most an upload
+pub record HasTaken (origin : LinkState) (b : Block) : Type 0 where
+  pub upload : List ℕ
+  pub text : origin.taken ≡ b.request ++ upload
+  pub nothing : b.request ≡ [] → upload ≡ []
+  pub ends : (b.request ≡ []) ⊎ EndsBlank b.request
+
+-- the client took the head of the block, and behind it this much of a body in pieces in their frames, with its end or
+-- without
+pub record HasGot (parts : TxnParts LinkState LinkState) (b : Block) (sent : List ℕ) (fin : Bool)
+    : Type 0 where
+  pub pieces : List (List ℕ)
+  pub each : All IsPiece pieces
+  pub text : parts.client.taken ≡ b.head ++ frames parts.mode pieces fin
+  pub head : parts.head ≡ length b.head
+  pub cuts : parts.cuts.items ≡ map length pieces
+  pub body : cut_body pieces ≡ sent
+
+-- by the end: the whole body, or some of it
+abbrev pub GotBy : TxnEnd → TxnParts LinkState LinkState → Block → Type 0
+GotBy E.Whole parts b = HasGot parts b b.body true
+GotBy other parts b = (b.body ≡ []) × ((sent : List ℕ) × HasGot parts b sent false)
+
+-- a transaction between this origin and its client that has ended so came to this block
+pub record LeavesBlock (parts : TxnParts LinkState LinkState) (origin : LinkState) (end : TxnEnd)
+    (b : Block) : Type 0 where
+  pub end_is : b.end ≡ end
+  pub taken : HasTaken origin b
+  pub got : GotBy end parts b

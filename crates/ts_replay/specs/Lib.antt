@@ -1,0 +1,6 @@
+pub mod Exchanged
+pub mod Recorded
+pub mod Replayed
+pub mod Reports
+pub mod Rows
+pub mod Unframing

@@ -1,0 +1,65 @@
+-- What the replay of transactions comes to: the groups in which they ran, their journals and the report.
+use Rattle.std.specs.Prelude.{◌≡◌, ℕ, ◌+◌, ◌<◌, List, [], ◌∷◌, true, false, map, IsSomeAnd, ⊤}
+use Rattle.ts_config.specs.declared.setup.Setup.{Setup}
+use Rattle.ts_config.specs.declared.setup.TransformLine.{TransformLine}
+use Rattle.ts_journal.specs.Log.{Log}
+use Rattle.ts_journal.specs.Machine.{IsLawful, replay}
+use Rattle.ts_journal.specs.declared.entry.TheConstants.{GREATEST}
+use Rattle.ts_record.specs.Grammar.{TxnPieces}
+use Rattle.ts_record.specs.Report.{IsReported}
+use Rattle.ts_replay.specs.Recorded.{FitsTag, HasLinesOnly, IsSound, IsTagOf, RecordedGroup, RecordedTag}
+use Rattle.ts_replay.specs.Reports.{IsReport, IsSetupOf}
+use Rattle.ts_replay.specs.declared.report.Replayed.{Replayed}
+use Rattle.ts_txn.specs.Making.{end_of}
+
+-- a journal that is lawful and not held, with nothing pending
+pub record IsFinal (j : Log) : Type 0 where
+  pub lawful : IsLawful j.base j.entries
+  pub state : j.state ≡ replay j.base j.entries
+  pub given : j.state.held ≡ false
+  pub none : j.state.pending ≡ []
+
+-- The transaction of this number has run in its group, until nothing of it was pending: it is the one that its tag names,
+-- which was started, and event numbers are left. The group began with no turn, and has had one.
+pub record HasRunAs (setup : Setup) (number : ℕ) (txn : TxnPieces) (group : RecordedGroup) : Type 0 where
+  pub lines : HasLinesOnly setup
+  pub tag : RecordedTag
+  pub tag_is : IsTagOf setup number txn true tag
+  pub fits : FitsTag tag group.world
+  pub sound : IsSound group.world group.cx.log.state group.cx.roles
+  pub began : group.cx.log.base.turns ≡ 0
+  pub turned : 0 < group.cx.log.state.turns
+  pub idle : group.cx.log.state.pending ≡ []
+  pub given : group.cx.log.state.held ≡ false
+  pub numbers : group.cx.log.state.next < GREATEST
+
+-- And it has ended, so that the report tells how, and the journal of its group is final.
+pub record IsReplayOf (setup : Setup) (number : ℕ) (txn : TxnPieces) (group : RecordedGroup) : Type 0 where
+  pub ran : HasRunAs setup number txn group
+  pub ended : IsSomeAnd (end_of group.world.course) IsReported
+  pub final : IsFinal group.cx.log
+
+-- a group for each of these transactions, in their order, of which this holds; the first has this number
+abbrev pub EachOf : (ℕ → TxnPieces → RecordedGroup → Type 0) → ℕ → List TxnPieces → List RecordedGroup → Type 0
+EachOf Holds number [] [] = ⊤
+EachOf Holds number [] (g ∷ gs) = ⊥
+EachOf Holds number (t ∷ ts) [] = ⊥
+EachOf Holds number (t ∷ ts) (g ∷ gs) = Holds number t g × EachOf Holds (number + 1) ts gs
+
+-- what happened in a group
+abbrev pub journal_of : RecordedGroup → Log
+journal_of g = g.cx.log
+
+-- What transactions under a setup came to in these groups: each ran to its end in the group at its place, numbered from
+-- 1, the journals are those of the groups, in order, and the report is that on the transactions.
+pub record ComesTo (setup : Setup) (txns : List TxnPieces) (groups : List RecordedGroup) (r : Replayed) : Type 0 where
+  pub each : EachOf (IsReplayOf setup) 1 txns groups
+  pub journals : r.journals.items ≡ map journal_of groups
+  pub report : IsReport setup txns r.report.items
+
+-- THE REPLAY of transactions under these lines, each in a group of its own
+pub record IsReplayed (lines : List TransformLine) (txns : List TxnPieces) (r : Replayed) : Type 0 where
+  pub setup : Setup
+  pub lines_are : IsSetupOf lines setup
+  pub groups : List RecordedGroup
+  pub comes : ComesTo setup txns groups r

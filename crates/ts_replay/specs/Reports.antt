@@ -1,0 +1,52 @@
+-- The report on a recording: what each of its transactions comes to, in their order.
+use Rattle.std.specs.Prelude.{◌≡◌, ℕ, List, [], true, false}
+use Rattle.std.specs.List.{AllZip, concat}
+use Rattle.ts_config.specs.declared.setup.Setup.{Setup}
+use Rattle.ts_config.specs.declared.setup.TransformLine.{TransformLine}
+use Rattle.ts_record.specs.Grammar.{TxnPieces, IsRecording}
+use Rattle.ts_record.specs.Report.{report_text}
+use Rattle.ts_record.specs.declared.report.Block.{Block}
+use Rattle.ts_txn.specs.Block.{IsBlock}
+use Rattle.ts_txn.specs.declared.block.Block.{Block as TxnBlock}
+
+-- a block as a report shows it
+abbrev pub shown : TxnBlock → Block
+shown b = record { request = b.request; end = b.end; head = b.head; content = b.body }
+
+-- What a report says of a transaction between two sides: the block of all that they give, each followed by its end.
+pub record IsShownOf (setup : Setup) (client origin : List ℕ) (b : Block) : Type 0 where
+  pub block : TxnBlock
+  pub is_block : IsBlock setup true (false ≡ true) origin client block
+  pub shows : b ≡ shown block
+
+-- and of a recorded transaction
+abbrev pub IsShown : Setup → TxnPieces → Block → Type 0
+IsShown setup txn b = IsShownOf setup (concat txn.0) (concat txn.1) b
+
+-- THE REPORT on transactions under a setup
+pub record IsReport (setup : Setup) (txns : List TxnPieces) (text : List ℕ) : Type 0 where
+  pub blocks : List Block
+  pub each : AllZip (IsShown setup) txns blocks
+  pub text_is : text ≡ report_text blocks
+
+-- a setup of these lines, with no hook plugin
+pub record IsSetupOf (lines : List TransformLine) (setup : Setup) : Type 0 where
+  pub transforms : setup.transforms.items ≡ lines
+  pub no_plugins : setup.plugins.items ≡ []
+
+-- the text is the report on the recording in these bytes under these lines
+pub record IsReportOn (lines : List TransformLine) (bytes text : List ℕ) : Type 0 where
+  pub setup : Setup
+  pub lines_are : IsSetupOf lines setup
+  pub txns : List TxnPieces
+  pub recording : IsRecording bytes txns
+  pub report : IsReport setup txns text
+
+-- lines and the bytes of a recording have at most one report
+abbrev pub HasOneReport : Type 0
+HasOneReport =
+    (lines : List TransformLine) (bytes a b : List ℕ) → IsReportOn lines bytes a → IsReportOn lines bytes b → a ≡ b
+
+-- the bytes are a recording
+abbrev pub HasRecording : List ℕ → Type 0
+HasRecording bytes = (txns : List TxnPieces) × IsRecording bytes txns

@@ -1,0 +1,123 @@
+//! What a recorded transaction came to that has ended: its block, as the report shows it.
+ghost use Rattle.std.specs.Prelude.{◌≡◌, ◌≢◌, ◌++◌, ℕ, List, [], Some, IfOk};
+ghost use Rattle.ts_config.specs.declared.setup.Setup.{Setup as SetupOf};
+ghost use Rattle.ts_record.specs.Report.{IsReported};
+ghost use Rattle.ts_replay.specs.Exchanged.{EndsBlank, HasTaken, IsLeftBetween, IsRunBetween, LeavesBlock};
+ghost use Rattle.ts_replay.specs.Reports.{IsShownOf, shown};
+ghost use Rattle.ts_replay.specs.Unframing.{IsFramed};
+ghost use Rattle.ts_txn.specs.Making.{end_of};
+ghost use Rattle.ts_txn.specs.declared.block.Block.{Block as TxnBlock};
+ghost use Rattle.ts_wire.specs.Frames.{cut_body};
+
+use crate::framed::unframed;
+use memchr::memmem;
+use std::alloc::Global;
+use ts_hooks::TxnEnd;
+use ts_link::{NoMemory, Octets};
+use ts_record::{Block, RecordedLink};
+use ts_stock::Stock;
+use ts_txn::{Txn, TxnParts};
+
+// The end of the last field of a head, and its empty line.
+const BLANK_END: &[u8] = b"\r\n\r\n";
+
+/// A transaction between two recorded sides, whose body goes through stock transforms.
+pub type Recorded = Txn<RecordedLink, RecordedLink, Stock>;
+
+// What is left of one.
+type RecordedParts = TxnParts<RecordedLink, RecordedLink>;
+
+// The head at the front of the bytes: all of them, where no empty line ends one.
+fn first_head(bytes: &[u8]) -> &[u8]
+    ensures head { (head behind : List ℕ) → bytes.now ≡ head ++ behind → EndsBlank head
+        → result.now ≡ head }
+    ensures none { bytes.now ≡ [] → result.now ≡ [] }
+{
+    match memmem::find(bytes, BLANK_END) {
+        Some(place) => bytes.split_at(place + BLANK_END.len()).0,
+        None => bytes,
+    }
+}
+
+// The head that the origin was sent. A recorded side moves no upload, but no clause of a transaction says so: the
+// request is cut at its empty line.
+fn request_of(alloc: Global, origin: &RecordedLink) -> Result<Octets, NoMemory>
+    ensures { (b : TxnBlock) → HasTaken origin.now b → IfOk result (λ request. request ≡ b.request) }
+{
+    Octets::copy_of(alloc, first_head(origin.written()))
+}
+
+// The body that the client was sent behind its head. It is shown only where it is whole.
+fn content_of(
+    alloc: Global,
+    parts: &RecordedParts,
+    end: TxnEnd,
+    framed: &[u8],
+) -> Result<Octets, NoMemory>
+    requires framed { end ≡ TxnEnd.Whole → (pieces : List (List ℕ))
+        × IsFramed parts.now.mode parts.now.cuts.items framed.now pieces }
+    ensures whole { end ≡ TxnEnd.Whole → (pieces : List (List ℕ))
+        → IsFramed parts.now.mode parts.now.cuts.items framed.now pieces
+        → IfOk result (λ body. body ≡ cut_body pieces) }
+    ensures short { end ≢ TxnEnd.Whole → IfOk result (λ body. body ≡ []) }
+{
+    match end {
+        TxnEnd::Whole => unframed(alloc, parts.mode, parts.cuts.as_slice(), framed),
+        _ => Ok(Octets::of_vec(Vec::new(alloc))),
+    }
+}
+
+// What a transaction came to that has ended so.
+fn block_of(
+    alloc: Global,
+    parts: &RecordedParts,
+    origin: &RecordedLink,
+    end: TxnEnd,
+) -> Result<Block, NoMemory>
+    requires block { (b : TxnBlock) × LeavesBlock parts.now origin.now end b }
+    ensures { (b : TxnBlock) → LeavesBlock parts.now origin.now end b → IfOk result (λ s. s ≡ shown b) }
+{
+    let request = request_of(alloc, origin)?;
+    let (head, framed) = parts.client.written().split_at(parts.head as usize);
+    let head = Octets::copy_of(alloc, head)?;
+    let content = content_of(alloc, parts, end, framed)?;
+    Ok(Block {
+        request,
+        end,
+        head,
+        content,
+    })
+}
+
+// What a transaction came to that left these parts.
+fn told_of(alloc: Global, parts: &RecordedParts) -> Result<Block, NoMemory>
+    requires left { (setup : SetupOf) × (c : List ℕ) × (o : List ℕ) × IsLeftBetween setup c o parts.now }
+    ensures shown { (setup : SetupOf) (c o : List ℕ) → IsLeftBetween setup c o parts.now
+        → IfOk result (IsShownOf setup c o) }
+    ensures ended { IfOk result (λ b. parts.now.end ≡ Some b.end) }
+    ensures reported { IfOk result (λ b. IsReported b.end) }
+{
+    let Some(origin) = &parts.origin else {
+        unreachable!()
+    };
+    parts.client.known();
+    origin.known();
+    let Some(end) = parts.end else { unreachable!() };
+    match end {
+        TxnEnd::NoMemory => Err(NoMemory),
+        _ => block_of(alloc, parts, origin, end),
+    }
+}
+
+/// What a transaction came to that was started, and of whose group nothing is pending. Where memory lacked for
+/// the transaction, it is lacking here.
+pub fn told(alloc: Global, txn: Recorded) -> Result<Block, NoMemory>
+    requires run { (setup : SetupOf) × (c : List ℕ) × (o : List ℕ) × IsRunBetween setup c o txn }
+    ensures shown { (setup : SetupOf) (c o : List ℕ) → IsRunBetween setup c o txn
+        → IfOk result (IsShownOf setup c o) }
+    ensures ended { IfOk result (λ b. end_of txn.course ≡ Some b.end) }
+    ensures reported { IfOk result (λ b. IsReported b.end) }
+{
+    let parts = txn.into_parts();
+    told_of(alloc, &parts)
+}

@@ -1,0 +1,25 @@
+//! Why recorded transactions were not replayed.
+
+ghost use Rattle.std.specs.Prelude.{◌≡◌};
+ghost use Rattle.ts_replay.specs.declared.fault.ReplayFault.TheVariants as f;
+
+use thiserror::Error;
+use ts_link::NoMemory;
+
+/// The causes.
+#[derive(Debug, Drop, Error)]
+pub enum ReplayFault {
+    #[error("NoMemory")]
+    NoMemory,
+    /// The group of one of them had had 2^50 turns, and was to have another. No clause says so.
+    #[error("Worn")]
+    Worn,
+}
+
+impl From<NoMemory> for ReplayFault {
+    ghost from_gives = { λ _ e. e ≡ f.NoMemory };
+
+    fn from(_refusal: NoMemory) -> ReplayFault {
+        ReplayFault::NoMemory
+    }
+}
