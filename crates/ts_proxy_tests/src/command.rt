@@ -7,8 +7,8 @@ use ts_journal::Journal;
 use ts_link::{Gate, MemShelf, MemSink, NoMemory, OpenGate};
 use ts_proxy::run;
 
-/// The words that replay the recording `r` under the configuration `c`, on one thread without saying so, and on 1, 2, 4, 8
-/// and 64.
+/// The words that replay the recording `r` under the configuration `c`, on one thread without saying so, and
+/// on 1, 2, 4, 8 and 64.
 pub const PLAIN: &[&str] = &["replay", "c", "r"];
 
 pub const ON_1: &[&str] = &["replay", "--threads", "1", "c", "r"];

@@ -1,4 +1,5 @@
-//! Whole runs of `replay` over forms in memory: recordings that are run on threads, and what is written and said of them.
+//! Whole runs of `replay` over forms in memory: recordings that are run on threads, and what is written and
+//! said of them.
 #![tactic(auto)]
 
 pub mod command;

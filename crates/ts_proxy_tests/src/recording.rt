@@ -7,8 +7,8 @@ use ts_link::NoMemory;
 /// The most bytes of a piece.
 pub const MOST_PIECE: usize = 32_768;
 
-/// A recorded transaction: what the client sends and what the origin gives, in pieces of at most so many bytes. A side that
-/// is empty has no piece.
+/// A recorded transaction: what the client sends and what the origin gives, in pieces of at most so many
+/// bytes. A side that is empty has no piece.
 #[derive(Clone, Copy)]
 pub struct Exchange<'a> {
     pub client: &'a [u8],

@@ -12,8 +12,8 @@ pub enum Came<'a> {
     Bad,
 }
 
-/// What is stated of a transaction: the head that the origin got, empty where it got none, the head that the client got,
-/// and how it ended.
+/// What is stated of a transaction: the head that the origin got, empty where it got none, the head that the
+/// client got, and how it ended.
 #[derive(Clone, Copy)]
 pub struct Stated<'a> {
     pub request: &'a [u8],

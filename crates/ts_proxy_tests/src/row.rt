@@ -71,8 +71,8 @@ pub fn dripping(row: Row<'_>) -> Row<'_> {
     }
 }
 
-/// Whether a replay of so many transactions was done, and wrote this report: nothing is said, and each transaction has a
-/// journal that is at rest.
+/// Whether a replay of so many transactions was done, and wrote this report: nothing is said, and each
+/// transaction has a journal that is at rest.
 pub fn judge(left: &Left, report: &[u8], txns: usize) -> Verdict {
     if left.status != 0 {
         return Verdict::OtherStatus;

@@ -1,5 +1,5 @@
-//! Rows by subject, whose values come from the tables of heads, framings and answers, and from exchanges that were
-//! worked out by hand.
+//! Rows by subject, whose values come from the tables of heads, framings and answers, and from exchanges that
+//! were worked out by hand.
 
 use crate::row::{Row, Verdict, check};
 use std::process::Abort;

@@ -87,7 +87,8 @@ fn origins_without_a_response(rt: HostRuntime) -> Result<(), Fail> {
     check_all(&rt, &rows)
 }
 
-// The first so many bytes of a response of 41, whose head has 38: before these all of the answer is the proxy's own.
+// The first so many bytes of a response of 41, whose head has 38: before these all of the answer is the
+// proxy's own.
 #[test]
 fn fronts_of_a_response(rt: HostRuntime) -> Result<(), Fail> {
     assert_eq!(rt; ABC.len(), 41);

@@ -122,7 +122,8 @@ fn fields_that_are_not_passed_on(rt: HostRuntime) -> Result<(), Fail> {
     check_all(&rt, &rows.map(dripping))
 }
 
-// An origin that ends within its body, or whose chunks are none. What stands behind the end of a body is read by nobody.
+// An origin that ends within its body, or whose chunks are none. What stands behind the end of a body is read
+// by nobody.
 #[test]
 fn bodies_that_are_not_whole(rt: HostRuntime) -> Result<(), Fail> {
     let rows = [

@@ -69,7 +69,8 @@ fn most_transactions(rt: HostRuntime) -> Result<(), Fail> {
     Ok(())
 }
 
-// A body of 1 MiB, in pieces as large as they may be and in smaller ones, through as many lines as there may be.
+// A body of 1 MiB, in pieces as large as they may be and in smaller ones, through as many lines as there may
+// be.
 #[test]
 fn a_large_body(rt: HostRuntime) -> Result<(), Fail> {
     let alloc = rt.alloc();
@@ -100,8 +101,8 @@ const EQUAL_BODY: usize = 1_048_557;
 
 const LAST_BODY: usize = 1_016_794;
 
-// What replaying responses with these bodies leaves on 4 threads, where the recording is as long as it may be, or one
-// byte longer.
+// What replaying responses with these bodies leaves on 4 threads, where the recording is as long as it may
+// be, or one byte longer.
 fn filled<R: Abort + Threads + Wait + Sync>(
     rt: &R,
     alloc: Global,

@@ -1,4 +1,5 @@
-//! What many threads make of a recording: the same report, each journal in its place, two handlers beside each other.
+//! What many threads make of a recording: the same report, each journal in its place, two handlers beside
+//! each other.
 
 use crate::command::{
     ON_1, ON_2, ON_4, ON_8, ON_64, PLAIN, left_by, replayed, shelf_of, wide_sink,
@@ -83,8 +84,8 @@ fn fifty_runs(rt: HostRuntime) -> Result<(), Fail> {
     Ok(())
 }
 
-// Two equal transactions, each of which waits in its first handler for the other: the first events of the two were
-// handled under different seats.
+// Two equal transactions, each of which waits in its first handler for the other: the first events of the two
+// were handled under different seats.
 #[test]
 fn two_transactions_run_beside_each_other(rt: HostRuntime) -> Result<(), Fail> {
     let alloc = rt.alloc();
@@ -106,7 +107,8 @@ fn two_transactions_run_beside_each_other(rt: HostRuntime) -> Result<(), Fail> {
     Ok(())
 }
 
-// The journal of a transaction that passes many pieces on stands between those of two that do next to nothing.
+// The journal of a transaction that passes many pieces on stands between those of two that do next to
+// nothing.
 #[test]
 fn journals_stand_in_the_order_of_their_transactions(rt: HostRuntime) -> Result<(), Fail> {
     let drips = Exchange {
