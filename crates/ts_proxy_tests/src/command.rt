@@ -7,18 +7,22 @@ use ts_journal::Journal;
 use ts_link::{Gate, MemShelf, MemSink, NoMemory, OpenGate};
 use ts_proxy::run;
 
-/// The words that replay the recording `r` under the configuration `c`, on one thread without saying so, and
-/// on 1, 2, 4, 8 and 64.
+/// The words that replay the recording `r` under the configuration `c`, without a number of threads.
 pub const PLAIN: &[&str] = &["replay", "c", "r"];
 
+/// The same on 1 thread.
 pub const ON_1: &[&str] = &["replay", "--threads", "1", "c", "r"];
 
+/// The same on 2 threads.
 pub const ON_2: &[&str] = &["replay", "--threads", "2", "c", "r"];
 
+/// The same on 4 threads.
 pub const ON_4: &[&str] = &["replay", "--threads", "4", "c", "r"];
 
+/// The same on 8 threads.
 pub const ON_8: &[&str] = &["replay", "--threads", "8", "c", "r"];
 
+/// The same on 64 threads.
 pub const ON_64: &[&str] = &["replay", "--threads", "64", "c", "r"];
 
 /// What a command left: its status, what out and err took, and the journals.

@@ -1,11 +1,13 @@
 //! Texts that rows share: requests, responses, the heads that clients get, and the proxy's own answers.
 
+/// A request for a page.
 pub const GET: &[u8] = b"GET / HTTP/1.1\r\nHost: a\r\n\r\n";
 
 /// What the origin gets of it.
 pub const GET_SENT: &[u8] =
     b"GET / HTTP/1.1\r\nhost: a\r\nvia: 1.1 tsx\r\nconnection: close\r\n\r\n";
 
+/// A request for the head of a page.
 pub const HEAD: &[u8] = b"HEAD / HTTP/1.1\r\nHost: a\r\n\r\n";
 
 /// What the origin gets of it.
