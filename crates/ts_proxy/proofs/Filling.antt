@@ -6,7 +6,7 @@ use Rattle.ts_proxy.specs.declared.answer.Answer.{Answer}
 use Rattle.ts_proxy.specs.declared.answer.Answer.TheVariants as a
 use Rattle.ts_proxy.specs.declared.answer.NamedFile.{NamedFile}
 use Rattle.ts_proxy.specs.Outcome.{Outcome, Text, line_filled, filled}
-use Rattle.ts_proxy.specs.Answers.{IsText, IsNamedBy, ComesTo, OnCannotRead}
+use Rattle.ts_proxy.specs.Answers.{HasText, IsNamedBy, ComesTo, OnCannotRead}
 
 -- all lines but those that are left were filled, so the work comes to what it comes to on these
 pub record FillsBut (files : List ℕ → Option (List ℕ)) (all : List TransformLine) (found : List TransformLine) (left : List TransformLine) : Type 0 where
@@ -27,7 +27,7 @@ comes-behind files left left' line first f is fills comes = record {
   after = comes.after;
   stands = is ∙ ap (λ ls. line ∷ ls) comes.stands;
   names = comes.names;
-  read = subst IsText (sym (fills (λ one. filled files comes.before (λ ls. Text [])))) comes.read;
+  read = subst HasText (sym (fills (λ one. filled files comes.before (λ ls. Text [])))) comes.read;
 }
 
 -- one line more was filled
@@ -49,6 +49,7 @@ pub stopped-comes : (files : List ℕ → Option (List ℕ)) (all left left' : L
 stopped-comes files all left left' found line a.Done before is names = tt
 stopped-comes files all left left' found line a.Usage before is names = tt
 stopped-comes files all left left' found line (a.BadLine b) before is names = tt
+stopped-comes files all left left' found line (a.BadRecording offset) before is names = tt
 stopped-comes files all left left' found line (a.CannotRead f) before is names = before.comes f (comes-first files left left' line f is names)
 stopped-comes files all left left' found line a.CannotWrite before is names = tt
 stopped-comes files all left left' found line a.OutOfMemory before is names = tt

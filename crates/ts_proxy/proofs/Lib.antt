@@ -3,6 +3,8 @@ pub mod Ending
 pub mod Filling
 pub mod Opening
 pub mod Parts
+pub mod Performing
 pub mod Serial
 pub mod Staying
+pub mod Threads
 pub mod Words

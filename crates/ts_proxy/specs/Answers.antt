@@ -4,8 +4,7 @@ use Rattle.ts_link.specs.Counts.{Rose}
 use Rattle.ts_link.specs.Seen.{ShelfSeen, SinkSeen}
 use Rattle.ts_link.specs.declared.shelf.ShelfFault.{ShelfFault}
 use Rattle.ts_link.specs.declared.shelf.ShelfFault.TheVariants as fault
-use Rattle.ts_journal.specs.Log.{Log}
-use Rattle.ts_proxy.specs.Journals.{IsOfDriver}
+use Rattle.ts_replay.specs.Reports.{HasRecording, IsReportOn}
 use Rattle.ts_proxy.specs.declared.answer.Answer.{Answer}
 use Rattle.ts_proxy.specs.declared.answer.Answer.TheVariants as a
 use Rattle.ts_proxy.specs.declared.answer.NamedFile.{NamedFile}
@@ -13,14 +12,15 @@ use Rattle.ts_proxy.specs.declared.answer.NamedFile.TheVariants as file
 use Rattle.ts_config.specs.declared.setup.TransformLine.{TransformLine}
 use Rattle.ts_config.specs.declared.setup.TransformLine.TheVariants as t
 use Rattle.ts_config.specs.Value.{Good, config_of}
-use Rattle.ts_proxy.specs.Outcome.{Outcome, Usage, BadLine, Long, Text, most_config, filled, set_up}
-use Rattle.ts_proxy.specs.Took.{TookAll, TookFront, TookNothing}
+use Rattle.ts_proxy.specs.Outcome.{Outcome, Usage, BadLine, Long, Text, Report, most_config, filled, set_up}
+use Rattle.ts_proxy.specs.Took.{TookAll, TookFront, TookNothing, TookSome, TookWhole}
+use Rattle.ts_record.specs.Offsets.{IsRefusedAt}
 
--- the name of a file of a command with these names of its configuration and its body
+-- the name of a file of a command with these names of its configuration and its input
 abbrev pub file_name : List ℕ → List ℕ → NamedFile → List ℕ
-file_name config body file.Config = config
-file_name config body file.Body = body
-file_name config body (file.Appended name) = name
+file_name config input file.Config = config
+file_name config input file.Input = input
+file_name config input (file.Appended name) = name
 
 -- the answer of a read that was refused
 abbrev pub answer_of : ShelfFault → NamedFile → Answer
@@ -28,50 +28,65 @@ answer_of fault.Failed f = a.CannotRead f
 answer_of (fault.TooLong seen) f = a.TooLong f
 answer_of fault.NoMemory f = a.OutOfMemory
 
--- an outcome is a text to write
-abbrev pub IsText : Outcome → Type 0
-IsText (Text t) = ⊤
-IsText _ = ⊥
+-- an outcome has a text to write
+abbrev pub HasText : Outcome → Type 0
+HasText (Text t) = ⊤
+HasText (Report lines bytes) = HasRecording bytes
+HasText _ = ⊥
+
+-- its text
+abbrev pub IsTextOf : Outcome → List ℕ → Type 0
+IsTextOf (Text t) text = text ≡ t
+IsTextOf (Report lines bytes) text = IsReportOn lines bytes text
+IsTextOf _ text = ⊥
+
+-- the bytes of a recording are refused at this offset
+abbrev pub RefusesRecording : Outcome → ℕ → Type 0
+RefusesRecording (Report lines bytes) offset = IsRefusedAt bytes offset
+RefusesRecording _ offset = ⊥
 
 -- at which outcome an answer comes; a failed read and want of memory may come at any
 abbrev pub ComesAt : List ℕ → List ℕ → Answer → Outcome → Type 0
-ComesAt config body a.Done o = IsText o
-ComesAt config body a.Usage o = o ≡ Usage
-ComesAt config body (a.BadLine f) o = o ≡ BadLine f.line f.kind
-ComesAt config body a.CannotWrite o = IsText o
-ComesAt config body (a.TooLong f) o = o ≡ Long (file_name config body f)
-ComesAt config body _ o = ⊤
+ComesAt config input a.Done o = HasText o
+ComesAt config input a.Usage o = o ≡ Usage
+ComesAt config input (a.BadLine f) o = o ≡ BadLine f.line f.kind
+ComesAt config input (a.BadRecording offset) o = RefusesRecording o offset
+ComesAt config input a.CannotWrite o = HasText o
+ComesAt config input (a.TooLong f) o = o ≡ Long (file_name config input f)
+ComesAt config input _ o = ⊤
 
 -- a part of the work went on as the outcome does, or its answer comes at the outcome
 abbrev pub Leads : {X : Type 0} → List ℕ → List ℕ → Result X Answer → Outcome → (X → Outcome) → Type 0
-Leads config body (Ok x) o next = o ≡ next x
-Leads config body (Err answer) o next = ComesAt config body answer o
+Leads config input (Ok x) o next = o ≡ next x
+Leads config input (Err answer) o next = ComesAt config input answer o
 
 -- the file of an append line
 abbrev pub IsNamedBy : TransformLine → NamedFile → Type 0
 IsNamedBy line (file.Appended name) = (text : List ℕ) × (line ≡ t.Append name text)
 IsNamedBy line _ = ⊥
 
--- the work on these lines comes to a file: a line names it, and the files of all lines before that one are there within
--- their limit
-pub record ComesTo (files : List ℕ → Option (List ℕ)) (lines : List TransformLine) (f : NamedFile) : Type 0 where
+-- the work on these lines comes to a file: a line names it, and the files of all lines before that one are
+-- there within their limit
+pub record ComesTo (files : List ℕ → Option (List ℕ)) (lines : List TransformLine) (f : NamedFile)
+    : Type 0 where
   pub before : List TransformLine
   pub line : TransformLine
   pub after : List TransformLine
   pub stands : lines ≡ before ++ line ∷ after
   pub names : IsNamedBy line f
-  pub read : IsText (filled files before (λ ls. Text []))
+  pub read : HasText (filled files before (λ ls. Text []))
 
--- the configuration is there within its limit and has no faulty line, and the work on its lines comes to a file
+-- the configuration is there within its limit and has no faulty line, and the work on its lines comes to a
+-- file
 abbrev pub IsReadFor : (List ℕ → Option (List ℕ)) → List ℕ → NamedFile → Type 0
 IsReadFor files config f = IsSomeAnd (files config) (λ bytes. (length bytes ≤ most_config)
     × (lines : List TransformLine) × (config_of bytes ≡ Good lines) × ComesTo files lines f)
 
--- the file whose read failed is one that the work comes to: the configuration; a file that one of its lines names; and
--- the body, once all the others were read
+-- the file whose read failed is one that the work comes to: the configuration; a file that one of its lines
+-- names; and the input, once all the others were read
 abbrev pub IsReadBy : ShelfSeen → List ℕ → NamedFile → Type 0
 IsReadBy shelf config file.Config = ⊤
-IsReadBy shelf config file.Body = IsText (set_up shelf.file config (λ lines. Text []))
+IsReadBy shelf config file.Input = HasText (set_up shelf.file config (λ lines. Text []))
 IsReadBy shelf config (file.Appended name) = IsReadFor shelf.file config (file.Appended name)
 
 -- what is said of the file of a failed read
@@ -99,8 +114,19 @@ IsOfWriting a.CannotWrite old new = Rose old.faults new.faults
 IsOfWriting a.OutOfMemory old new = ⊤
 IsOfWriting _ old new = ⊥
 
--- the count that shows the cause of an answer: of the shelf's faults, of its files that were too long, or of the
--- sink's faults
+-- an answer of the part that comes after reading: it writes, or finds that the input is no recording
+abbrev pub IsOfWork : Answer → SinkSeen → SinkSeen → Type 0
+IsOfWork (a.BadRecording offset) old new = ⊤
+IsOfWork answer old new = IsOfWriting answer old new
+
+-- an answer where transactions were not run: the bytes are no recording, or memory lacked
+abbrev pub IsOfRunning : List ℕ → Answer → Type 0
+IsOfRunning bytes (a.BadRecording offset) = IsRefusedAt bytes offset
+IsOfRunning bytes a.OutOfMemory = ⊤
+IsOfRunning bytes _ = ⊥
+
+-- the count that shows the cause of an answer: of the shelf's faults, of its files that were too long, or of
+-- the sink's faults
 abbrev pub IsCausedBy : Answer → ShelfSeen → ShelfSeen → SinkSeen → SinkSeen → Type 0
 IsCausedBy a.Usage shelf shelf' out out' = ⊥
 IsCausedBy (a.CannotRead f) shelf shelf' out out' = Rose shelf.faults shelf'.faults
@@ -108,18 +134,21 @@ IsCausedBy a.CannotWrite shelf shelf' out out' = Rose out.faults out'.faults
 IsCausedBy (a.TooLong f) shelf shelf' out out' = Rose shelf.longs shelf'.longs
 IsCausedBy _ shelf shelf' out out' = ⊤
 
--- what a sink took of a text: all of it where the job was done, a front of it where writing failed or memory lacked, and
--- nothing with an answer that comes before anything is written
+-- what a sink took of a text: all of it where the job was done, a front of it where writing failed or memory
+-- lacked, and nothing with an answer that comes before anything is written
 abbrev pub TookText : Answer → SinkSeen → SinkSeen → List ℕ → Type 0
 TookText a.Done old new text = TookAll old new text
 TookText a.CannotWrite old new text = TookFront old new text
 TookText a.OutOfMemory old new text = TookFront old new text
 TookText _ old new text = TookNothing old new
 
--- what a sink took with an answer at an outcome
+-- what a sink took of the text of an outcome: all of it where the job was done, a front of it or nothing
+-- where writing failed or memory lacked, and nothing with an answer that comes before anything is written
 abbrev pub TookAt : Answer → SinkSeen → SinkSeen → Outcome → Type 0
-TookAt answer old new (Text t) = TookText answer old new t
-TookAt answer old new _ = TookNothing old new
+TookAt a.Done old new o = TookWhole (IsTextOf o) old new
+TookAt a.CannotWrite old new o = TookSome (IsTextOf o) old new
+TookAt a.OutOfMemory old new o = TookSome (IsTextOf o) old new
+TookAt _ old new o = TookNothing old new
 
 -- what is said of an answer that comes before anything is written
 abbrev pub OnQuiet : Answer → Type 0 → Type 0
@@ -127,8 +156,3 @@ OnQuiet a.Done P = ⊤
 OnQuiet a.CannotWrite P = ⊤
 OnQuiet a.OutOfMemory P = ⊤
 OnQuiet _ P = P
-
--- where the job was done the journal of its events was added, and else none
-abbrev pub AnswerAdds : Answer → List Log → List Log → Type 0
-AnswerAdds a.Done old new = (j : Log) × (new ≡ old ++ j ∷ []) × IsOfDriver j
-AnswerAdds _ old new = new ≡ old

@@ -64,8 +64,8 @@ left_in rest g = left_of rest g.world + length g.cx.log.state.pending
 abbrev pub HasLessLeft : {P Q R T U : Type 0} → (P → List ℕ → List ℕ) → Group (ChainWorld P) Q R T U → Group (ChainWorld P) Q R T U → Type 0
 HasLessLeft rest old new = left_in rest new < left_in rest old + (if nat_lt 0 (length (for_client new.world)) then 1 else 0)
 
--- while a world of a chain runs, its last stage is roused where it is full, so that it goes on once its client has taken
--- bytes
+-- while a world of a chain runs, its last stage is roused where it is full, so that it goes on once its
+-- client has taken bytes
 abbrev pub IsWoken : {P : Type 0} → ChainWorld P → Type 0
 IsWoken w = w.driven.running ≡ true → IsAwake w.driven.chain w.driven.table.items
 

@@ -6,10 +6,11 @@ use Rattle.ts_journal.specs.declared.entry.Pending.{Pending}
 use Rattle.ts_journal.specs.State.{State, fresh_with}
 use Rattle.ts_journal.specs.Log.{Log, Extends}
 use Rattle.ts_journal.specs.Laws.{NoTurns}
-use Rattle.ts_journal.specs.Machine.{IsLawful, after, replay}
+use Rattle.ts_journal.specs.Machine.{after}
 use Rattle.ts_group.specs.declared.group.TheConstants.{MOST_EVENTS}
 use Rattle.ts_group.specs.Context.{own_key}
 use Rattle.ts_group.specs.Due.{IsFirstDue}
+use Rattle.ts_replay.specs.Replayed.{IsFinal}
 
 -- the seat of a driver that nobody else drives beside
 abbrev pub only_seat : ℕ
@@ -33,12 +34,13 @@ last_moment m (_ ∷ es) = last_moment m es
 abbrev pub moment_of : Log → ℕ
 moment_of j = last_moment first_moment j.entries
 
--- The event of this number is pending, and no pending event is due before it. The moment is the later one of the moment
--- before and that at which the event is due.
+-- The event of this number is pending, and no pending event is due before it. The moment is the later one of
+-- the moment before and that at which the event is due.
 abbrev pub IsNextDue : ℕ → State → ℕ → ℕ → Type 0
 IsNextDue m s number moment = (p : Pending) × (p.number ≡ number) × (moment ≡ max m p.due) × IsFirstDue s p
 
--- what is left of a turn handles at most so many events, each at this moment, under numbers that rise from this one on
+-- what is left of a turn handles at most so many events, each at this moment, under numbers that rise from
+-- this one on
 abbrev pub HandlesFrom : ℕ → ℕ → ℕ → List Entry → Type 0
 HandlesFrom low now most [] = ⊤
 HandlesFrom low now most (Took turn seat ∷ es) = ⊤
@@ -47,9 +49,9 @@ HandlesFrom low now most (Handled number moment ∷ es) =
     (low ≤ number) × (moment ≡ now) × (1 ≤ most) × HandlesFrom (number + 1) now (most - 1) es
 HandlesFrom low now most (_ ∷ es) = HandlesFrom low now most es
 
--- The event that a turn handles first is due first, and those that it handles then, in the order of their numbers, were
--- set since. The moment moves on from the one before to that at which the first is due, if that is later, and stays for
--- the turn. Only the first turn, in which the work begins, may handle nothing.
+-- The event that a turn handles first is due first, and those that it handles then, in the order of their
+-- numbers, were set since. The moment moves on from the one before to that at which the first is due, if that
+-- is later, and stays for the turn. Only the first turn, in which the work begins, may handle nothing.
 abbrev pub HandlesFirst : ℕ → State → List Entry → Type 0
 HandlesFirst m s [] = ⊤
 HandlesFirst m s (Took turn seat ∷ es) = ⊤
@@ -57,9 +59,10 @@ HandlesFirst m s (Gave turn ∷ es) = turn ≡ first_turn
 HandlesFirst m s (Handled number moment ∷ es) = IsNextDue m s number moment × HandlesFrom s.next moment (MOST_EVENTS - 1) es
 HandlesFirst m s (e ∷ es) = HandlesFirst m (after s e) es
 
--- The turns of one driver that nobody else drives beside, from a moment of it on: each has its seat and the number after
--- the one before. It handles one event, which is due first, and then only what is set while it is handled, at most 64 in
--- all; the first turn may handle nothing. The driver's moment moves on to what is due, and no further.
+-- The turns of one driver that nobody else drives beside, from a moment of it on: each has its seat and the
+-- number after the one before. It handles one event, which is due first, and then only what is set while it
+-- is handled, at most 64 in all; the first turn may handle nothing. The driver's moment moves on to what is
+-- due, and no further.
 abbrev pub IsSerial : ℕ → State → List Entry → Type 0
 IsSerial m s [] = ⊤
 IsSerial m s (Took turn seat ∷ es) =
@@ -109,13 +112,6 @@ pub record EndsSerially (old new : Log) : Type 0 where
   pub on : GoesOnSerially old new
   pub given : new.state.held ≡ false
   pub none : new.state.pending ≡ []
-
--- a journal that is lawful and not held, with nothing pending
-pub record IsFinal (j : Log) : Type 0 where
-  pub lawful : IsLawful j.base j.entries
-  pub state : j.state ≡ replay j.base j.entries
-  pub given : j.state.held ≡ false
-  pub none : j.state.pending ≡ []
 
 -- the journal of a new group that the serial driver alone drove, to its end
 pub record IsOfDriver (j : Log) : Type 0 where

@@ -4,4 +4,6 @@ pub mod Ends
 pub mod Journals
 pub mod Lines
 pub mod Outcome
+pub mod Performed
 pub mod Took
+pub mod Words

@@ -1,14 +1,13 @@
--- What a command comes to if nothing fails: a function of its words and of the files. It is the first trouble in the
--- order of the work, or the text that is written.
-use Rattle.std.specs.Prelude.{ℕ, nat_le, Bool, false, List, [], ◌∷◌, length, map, Option, Some, None, codes, string_bytes, unwrap_or, slice_get, if◌then◌else◌}
-use Rattle.std.specs.Str.{bytes_eq}
-use Rattle.std.specs.declared.string.String.{String}
+-- What a command comes to if nothing fails: a function of its words and of the files. It is the first trouble
+-- in the order of the work, or the text that is written.
+use Rattle.std.specs.Prelude.{ℕ, nat_le, List, [], ◌∷◌, length, Option, Some, None, if◌then◌else◌}
 use Rattle.ts_link.specs.Seen.{ShelfSeen}
 use Rattle.ts_config.specs.declared.setup.TransformLine.{TransformLine}
 use Rattle.ts_config.specs.declared.setup.TransformLine.TheVariants as t
 use Rattle.ts_config.specs.declared.setup.ConfigKind.{ConfigKind}
 use Rattle.ts_config.specs.Value.{Reading, Good, Bad, config_of}
 use Rattle.ts_config.specs.Bodies.{compose_lines}
+use Rattle.ts_proxy.specs.Words.{Command, Transform, Replay, Task}
 
 -- the most bytes of a configuration, 1 MiB
 abbrev pub most_config : ℕ
@@ -18,18 +17,20 @@ most_config = 1048576
 abbrev pub most_append : ℕ
 most_append = 16384
 
--- the most bytes of a body, 64 MiB
-abbrev pub most_body : ℕ
-most_body = 67108864
+-- the most bytes of an input, a body or a recording, 64 MiB
+abbrev pub most_input : ℕ
+most_input = 67108864
 
--- the words are of no command; the configuration's line of this number breaks this rule; the file of this name is not
--- there, or longer than its limit; this text is written
+-- the words are of no command; the configuration's line of this number breaks this rule; the file of this
+-- name is not there, or longer than its limit; this text is written; the report is written on the recording
+-- in these bytes, under these lines, if they are one
 pub data Outcome : Type 0 where
   Usage : Outcome
   BadLine : ℕ → ConfigKind → Outcome
   Missing : List ℕ → Outcome
   Long : List ℕ → Outcome
   Text : List ℕ → Outcome
+  Report : List TransformLine → List ℕ → Outcome
 
 -- goes on with the bytes of a file, if it is there and has at most `most` of them
 abbrev pub opened : Option (List ℕ) → ℕ → List ℕ → (List ℕ → Outcome) → Outcome
@@ -56,32 +57,18 @@ abbrev pub set_up : (List ℕ → Option (List ℕ)) → List ℕ → (List Tran
 set_up files config next =
     opened (files config) most_config config (λ bytes. understood (config_of bytes) (λ ls. filled files ls next))
 
--- the outcome of `transform`: the configuration is set up, then a body is read, and passes through its lines
-abbrev pub transformed : (List ℕ → Option (List ℕ)) → List ℕ → List ℕ → Outcome
-transformed files config body =
-    set_up files config (λ lines. opened (files body) most_body body (λ x. Text (compose_lines lines x)))
+-- what a command makes of the lines and its input: `transform` passes a body through the lines, and `replay`
+-- runs a recording under them
+abbrev pub worked : Command → List TransformLine → List ℕ → Outcome
+worked Transform lines input = Text (compose_lines lines input)
+worked Replay lines input = Report lines input
 
--- the words after the program's name are those of `transform`
-abbrev pub is_transform : List (List ℕ) → Bool
-is_transform (a ∷ b ∷ c ∷ []) = bytes_eq a (codes "transform")
-is_transform _ = false
+-- the outcome of a command: the configuration is set up, then the input is read
+abbrev pub performed : Command → (List ℕ → Option (List ℕ)) → List ℕ → List ℕ → Outcome
+performed command files config input =
+    set_up files config (λ lines. opened (files input) most_input input (worked command lines))
 
--- the word at a place, or none
-abbrev pub word : ℕ → List (List ℕ) → List ℕ
-word k ws = unwrap_or (slice_get ws k) []
-
--- the bytes of the words after the program's name
-abbrev pub word_bytes : {A : Type 0} → List (String A) → List (List ℕ)
-word_bytes words = map string_bytes words
-
--- the name of the configuration in the words of `transform`
-abbrev pub config_name : List (List ℕ) → List ℕ
-config_name ws = word 1 ws
-
--- the name of the body there
-abbrev pub body_name : List (List ℕ) → List ℕ
-body_name ws = word 2 ws
-
--- the outcome of these words over the files of a shelf
-abbrev pub outcome_of : ShelfSeen → List (List ℕ) → Outcome
-outcome_of shelf ws = if is_transform ws then transformed shelf.file (config_name ws) (body_name ws) else Usage
+-- the outcome of a task over the files of a shelf; without one the words are of no command
+abbrev pub outcome_of : ShelfSeen → Option Task → Outcome
+outcome_of shelf None = Usage
+outcome_of shelf (Some task) = performed task.command shelf.file task.config task.input

@@ -1,5 +1,5 @@
 -- What a sink took of a text.
-use Rattle.std.specs.Prelude.{◌≡◌, ℕ, ◌++◌, List}
+use Rattle.std.specs.Prelude.{◌≡◌, ◌⊎◌, ℕ, ◌++◌, List}
 use Rattle.ts_link.specs.Seen.{SinkSeen}
 
 -- what a sink took grew by a front of the text
@@ -16,3 +16,11 @@ TookAll old new text = new.taken ≡ old.taken ++ text
 -- a sink took nothing
 abbrev pub TookNothing : SinkSeen → SinkSeen → Type 0
 TookNothing old new = new.taken ≡ old.taken
+
+-- a sink took a text of this kind
+abbrev pub TookWhole : (List ℕ → Type 0) → SinkSeen → SinkSeen → Type 0
+TookWhole IsIt old new = (text : List ℕ) × IsIt text × TookAll old new text
+
+-- a sink took nothing, or a front of a text of this kind
+abbrev pub TookSome : (List ℕ → Type 0) → SinkSeen → SinkSeen → Type 0
+TookSome IsIt old new = TookNothing old new ⊎ ((text : List ℕ) × IsIt text × TookFront old new text)

@@ -1,5 +1,5 @@
-//! The serial driver: a body goes through a chain of transforms by events, each in a turn of its own, and what comes out
-//! is written into a sink between the turns.
+//! The serial driver: a body goes through a chain of transforms by events, each in a turn of its own, and
+//! what comes out is written into a sink between the turns.
 ghost use Rattle.std.specs.Prelude.{◌≡◌, ◌+◌, ◌≤◌, [], length, true, false, OnOk};
 ghost use Rattle.ts_link.specs.Counts.{Counted};
 ghost use Rattle.ts_transform.specs.World.{IsSoundGroup};
@@ -37,7 +37,8 @@ fn drain<P: Transform + Drop, K: Sink>(world: &mut ChainWorld<P>, out: &mut K) -
     Driven::Done
 }
 
-// Handles the event that is due next, under its number, and sees that the last stage goes on once bytes were taken.
+// Handles the event that is due next, under its number, and sees that the last stage goes on once bytes were
+// taken.
 fn handle_next<P: Transform + Drop>(
     group: &mut Group<ChainWorld<P>>,
     number: u64,
@@ -109,8 +110,8 @@ fn start<P: Transform + Drop>(group: &mut Group<ChainWorld<P>>) -> Result<(), No
     }
 }
 
-// Handles events until none is pending, each in a turn of its own and the one that is due first before the others, and
-// writes between the turns. The moment moves on to the next due one where nothing is due.
+// Handles events until none is pending, each in a turn of its own and the one that is due first before the
+// others, and writes between the turns. The moment moves on to the next due one where nothing is due.
 #[tactic(auto, using(crate::proofs::Serial::serial_trans))]
 fn run_events<P: Transform + Drop, K: Sink>(group: &mut Group<ChainWorld<P>>, out: &mut K) -> Driven
     requires between { IsBetweenTurns group.old }
@@ -164,8 +165,8 @@ fn drive_group<P: Transform + Drop, K: Sink>(
     }
 }
 
-/// Sends the body of a chain's world through the chain, and writes all that comes out. Where all was done, the journal of
-/// its events is added to the journals; the place for it is taken before anything is written.
+/// Sends the body of a chain's world through the chain, and writes all that comes out. Where all was done,
+/// the journal of its events is added to the journals; the place for it is taken before anything is written.
 pub fn drive<P: Transform + Drop, K: Sink>(
     alloc: Global,
     world: ChainWorld<P>,

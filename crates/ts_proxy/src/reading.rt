@@ -1,11 +1,14 @@
-//! The files of a command are read in the order of the work: the configuration, then the files of its append lines.
-ghost use Rattle.std.specs.Prelude.{◌≡◌, ◌∷◌, ◌++◌, [], List, ℕ, true, All, IfErr, OnOk};
+//! The files of a command are read in the order of the work: the configuration, the files of its append
+//! lines, and then the body or the recording.
+ghost use Rattle.std.specs.Prelude.{◌≡◌, ◌∷◌, ◌++◌, ◌≤◌, [], List, ℕ, length, true, All, IfOk, IfErr, OnOk};
 ghost use Rattle.std.specs.Str.{IsUtf8};
+ghost use Rattle.ts_config.specs.Bytes.{most_transforms};
 ghost use Rattle.ts_config.specs.Setup.{HasFileName};
 ghost use Rattle.ts_config.specs.declared.setup.TransformLine.{TransformLine};
 ghost use Rattle.ts_config.specs.declared.setup.TransformLine.TheVariants as t;
 ghost use Rattle.ts_proxy.specs.declared.answer.NamedFile.TheVariants as named;
-ghost use Rattle.ts_proxy.specs.Outcome.{Outcome, most_append, opened, line_filled, filled, set_up};
+ghost use Rattle.ts_proxy.specs.Outcome.{Outcome, most_append, opened, line_filled, filled, performed, set_up, worked};
+ghost use Rattle.ts_proxy.specs.Words.{Command};
 ghost use Rattle.ts_proxy.specs.Answers.{Leads, IsOfReading, IsUnfailed, OnCannotRead, IsNamedBy, ComesTo, IsReadBy};
 
 use crate::answer::{Answer, NamedFile, refused};
@@ -19,11 +22,21 @@ const MOST_CONFIG: u64 = 1_048_576;
 
 const MOST_TEXT: u64 = 16_384;
 
+const MOST_INPUT: u64 = 67_108_864;
+
+/// What the files of a command hold: the lines of its configuration, with the texts of the files that they
+/// name, and the bytes of its body or recording.
+#[derive(Drop)]
+pub struct Files {
+    pub lines: Vec<TransformLine>,
+    pub input: Octets,
+}
+
 // An append line with the text of its file.
 fn read_text<S: Shelf>(alloc: Global, shelf: &mut S, file: Octets) -> Result<TransformLine, Answer>
     requires { IsUtf8 file }
-    ensures told { S.tells ≡ true → (config body : List ℕ) (next : TransformLine → Outcome) →
-        Leads config body result
+    ensures told { S.tells ≡ true → (config input : List ℕ) (next : TransformLine → Outcome) →
+        Leads config input result
         (opened ((S.seen shelf.old).file file) most_append file (λ bytes. next (t.Append file bytes))) next }
     ensures named { IfErr result (λ a. OnCannotRead a (λ f. f ≡ named.Appended file)) }
     ensures files { S.tells ≡ true → (S.seen shelf.new).file ≡ (S.seen shelf.old).file }
@@ -46,8 +59,8 @@ fn fill_one<S: Shelf>(
     line: TransformLine,
 ) -> Result<TransformLine, Answer>
     requires { HasFileName line }
-    ensures told { S.tells ≡ true → (config body : List ℕ) (next : TransformLine → Outcome) →
-        Leads config body result (line_filled (S.seen shelf.old).file line next) next }
+    ensures told { S.tells ≡ true → (config input : List ℕ) (next : TransformLine → Outcome) →
+        Leads config input result (line_filled (S.seen shelf.old).file line next) next }
     ensures named { IfErr result (λ a. OnCannotRead a (IsNamedBy line)) }
     ensures files { S.tells ≡ true → (S.seen shelf.new).file ≡ (S.seen shelf.old).file }
     ensures same { OnOk result (IsUnfailed (S.seen shelf.old) (S.seen shelf.new)) }
@@ -73,10 +86,11 @@ fn fill_lines<S: Shelf>(
     mut lines: VecDeque<TransformLine>,
 ) -> Result<Vec<TransformLine>, Answer>
     requires { All HasFileName lines.items }
-    ensures told { S.tells ≡ true → (config body : List ℕ) (next : List TransformLine → Outcome) →
-        Leads config body result (filled (S.seen shelf.old).file lines.items next) (λ ls. next ls.items) }
+    ensures told { S.tells ≡ true → (config input : List ℕ) (next : List TransformLine → Outcome) →
+        Leads config input result (filled (S.seen shelf.old).file lines.items next) (λ ls. next ls.items) }
     ensures named { S.tells ≡ true →
         IfErr result (λ a. OnCannotRead a (ComesTo (S.seen shelf.old).file lines.items)) }
+    ensures count { IfOk result (λ ls. length ls.items ≡ length lines.items) }
     ensures files { S.tells ≡ true → (S.seen shelf.new).file ≡ (S.seen shelf.old).file }
     ensures same { OnOk result (IsUnfailed (S.seen shelf.old) (S.seen shelf.new)) }
     ensures cause { IfErr result (λ a. IsOfReading a (S.seen shelf.old) (S.seen shelf.new)) }
@@ -94,16 +108,17 @@ fn fill_lines<S: Shelf>(
     Ok(found)
 }
 
-/// The lines of a configuration, with the texts of the files that they name.
-pub fn read_setup<S: Shelf>(
+// The lines of a configuration, with the texts of the files that they name.
+fn read_setup<S: Shelf>(
     alloc: Global,
     shelf: &mut S,
     config: &str,
 ) -> Result<Vec<TransformLine>, Answer>
-    ensures told { S.tells ≡ true → (body : List ℕ) (next : List TransformLine → Outcome) →
-        Leads config.now body result (set_up (S.seen shelf.old).file config.now next) (λ ls. next ls.items) }
+    ensures told { S.tells ≡ true → (input : List ℕ) (next : List TransformLine → Outcome) →
+        Leads config.now input result (set_up (S.seen shelf.old).file config.now next) (λ ls. next ls.items) }
     ensures named { S.tells ≡ true →
         IfErr result (λ a. OnCannotRead a (IsReadBy (S.seen shelf.old) config.now)) }
+    ensures few { IfOk result (λ ls. length ls.items ≤ most_transforms) }
     ensures files { S.tells ≡ true → (S.seen shelf.new).file ≡ (S.seen shelf.old).file }
     ensures same { OnOk result (IsUnfailed (S.seen shelf.old) (S.seen shelf.new)) }
     ensures cause { IfErr result (λ a. IsOfReading a (S.seen shelf.old) (S.seen shelf.new)) }
@@ -116,5 +131,30 @@ pub fn read_setup<S: Shelf>(
         Ok(setup) => fill_lines(alloc, shelf, VecDeque::from_vec(setup.transforms)),
         Err(ConfigRefusal::Fault(fault)) => Err(Answer::BadLine(fault)),
         Err(ConfigRefusal::NoMemory) => Err(Answer::OutOfMemory),
+    }
+}
+
+/// Reads the files of a command, which the shelf has under these names.
+pub fn read_files<S: Shelf>(
+    alloc: Global,
+    shelf: &mut S,
+    config: &str,
+    input: &str,
+) -> Result<Files, Answer>
+    ensures told { S.tells ≡ true → (command : Command) → Leads config.now input.now result
+        (performed command (S.seen shelf.old).file config.now input.now)
+        (λ files. worked command files.lines.items files.input) }
+    ensures named { S.tells ≡ true →
+        IfErr result (λ a. OnCannotRead a (IsReadBy (S.seen shelf.old) config.now)) }
+    ensures few { IfOk result (λ files. length files.lines.items ≤ most_transforms) }
+    ensures cause { IfErr result (λ a. IsOfReading a (S.seen shelf.old) (S.seen shelf.new)) }
+{
+    let lines = match read_setup(alloc, shelf, config) {
+        Ok(lines) => lines,
+        Err(answer) => return Err(answer),
+    };
+    match shelf.read(alloc, input, MOST_INPUT) {
+        Ok(input) => Ok(Files { lines, input }),
+        Err(fault) => Err(refused(fault, NamedFile::Input)),
     }
 }

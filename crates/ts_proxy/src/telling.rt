@@ -15,6 +15,8 @@ const USAGE: &[u8] =
 
 const BAD_LINE: &[u8] = b"tsx: configuration line ";
 
+const BAD_RECORDING: &[u8] = b"tsx: recording offset ";
+
 const CANNOT_READ: &[u8] = b"tsx: cannot read ";
 
 const CANNOT_WRITE: &[u8] = b"tsx: cannot write\n";
@@ -63,20 +65,20 @@ fn tell<E: Sink>(err: &mut E, parts: &[&[u8]])
     }
 }
 
-fn name<'a>(config: &'a str, body: &'a str, file: &'a NamedFile) -> &'a [u8]
-    ensures { result.now ≡ file_name config.now body.now file.now }
+fn name<'a>(config: &'a str, input: &'a str, file: &'a NamedFile) -> &'a [u8]
+    ensures { result.now ≡ file_name config.now input.now file.now }
 {
     match file {
         NamedFile::Config => config.as_bytes(),
-        NamedFile::Body => body.as_bytes(),
+        NamedFile::Input => input.as_bytes(),
         NamedFile::Appended(name) => name.bytes(),
     }
 }
 
 /// Tells the line of an answer.
-pub fn say<E: Sink>(err: &mut E, answer: &Answer, config: &str, body: &str)
+pub fn say<E: Sink>(err: &mut E, answer: &Answer, config: &str, input: &str)
     ensures { E.tells ≡ true →
-        LineTold (E.seen err.old) (E.seen err.new) (line_of config.now body.now answer.now) }
+        LineTold (E.seen err.old) (E.seen err.new) (line_of config.now input.now answer.now) }
 {
     match answer {
         Answer::Done => {}
@@ -89,9 +91,14 @@ pub fn say<E: Sink>(err: &mut E, answer: &Answer, config: &str, body: &str)
                 &[BAD_LINE, number, COLON, text_of(fault.kind), LINE_FEED],
             );
         }
-        Answer::CannotRead(file) => tell(err, &[CANNOT_READ, name(config, body, file), LINE_FEED]),
+        Answer::BadRecording { offset } => {
+            let mut digits = Buffer::new();
+            let number = digits.format(*offset).as_bytes();
+            tell(err, &[BAD_RECORDING, number, LINE_FEED]);
+        }
+        Answer::CannotRead(file) => tell(err, &[CANNOT_READ, name(config, input, file), LINE_FEED]),
         Answer::CannotWrite => tell(err, &[CANNOT_WRITE]),
         Answer::OutOfMemory => tell(err, &[OUT_OF_MEMORY]),
-        Answer::TooLong(file) => tell(err, &[TOO_LONG, name(config, body, file), LINE_FEED]),
+        Answer::TooLong(file) => tell(err, &[TOO_LONG, name(config, input, file), LINE_FEED]),
     }
 }

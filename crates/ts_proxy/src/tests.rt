@@ -3,8 +3,10 @@
 use crate::run;
 use std::alloc::{AllocError, Global};
 use std::process::Abort;
+use std::sync::Wait;
 use std::test::Fail;
-use ts_link::{MemShelf, MemSink, NoMemory};
+use std::thread::Threads;
+use ts_link::{MemShelf, MemSink, NoMemory, OpenGate};
 
 const USAGE: &[u8] =
     b"tsx: usage: transform CONFIG BODY | replay [--threads N] CONFIG RECORDING | serve --listen L --origin A --config F [--threads N] [--connections N] | generate SEED COUNT SIZE\n";
@@ -13,7 +15,8 @@ const CANNOT_WRITE: &[u8] = b"tsx: cannot write\n";
 
 const TRANSFORM: &[&str] = &["transform", "c", "b"];
 
-// How the sinks behave: out takes so many bytes a call, and the write calls of these numbers fail, counted from 1, or 0.
+// How the sinks behave: out takes so many bytes a call, and the write calls of these numbers fail, counted
+// from 1, or 0.
 #[derive(Clone, Copy)]
 struct Sinks {
     take: usize,
@@ -27,7 +30,8 @@ const FINE: Sinks = Sinks {
     untold: 0,
 };
 
-// What a command left: its status, what out and err took, and the turns and handled events of each journal at rest.
+// What a command left: its status, what out and err took, and the turns and handled events of each journal at
+// rest.
 #[derive(Drop)]
 struct Left {
     status: u8,
@@ -44,7 +48,8 @@ fn strings(alloc: Global, said: &[&str]) -> Result<Vec<String>, AllocError> {
     Ok(words)
 }
 
-fn left_by(
+fn left_by<R: Threads + Wait + Sync>(
+    rt: &R,
     alloc: Global,
     mut shelf: MemShelf,
     words: &[&str],
@@ -53,7 +58,8 @@ fn left_by(
     let mut out = MemSink::make(alloc, sinks.take.max(1), vec![in alloc; sinks.failing]?);
     let mut err = MemSink::make(alloc, 7, vec![in alloc; sinks.untold]?);
     let said = strings(alloc, words)?;
-    let ended = run(alloc, said.as_slice(), &mut shelf, &mut out, &mut err);
+    let gate = OpenGate::make();
+    let ended = run(rt, alloc, said.as_slice(), &mut shelf, &mut out, &mut err, &gate);
     let mut turns = Vec::new(alloc);
     for journal in ended.journals.as_slice() {
         if !journal.is_held() && journal.pending().is_empty() {
@@ -89,28 +95,29 @@ fn shelf_of(alloc: Global, config: &[u8], body: &[u8]) -> Result<MemShelf, NoMem
 }
 
 // What a body becomes by a configuration.
-fn ends<R: Abort + AllocGlobal>(
+fn ends<R: Abort + AllocGlobal + Threads + Wait + Sync>(
     rt: &R,
     config: &[u8],
     body: &[u8],
     out: &[u8],
 ) -> Result<(), Fail> {
     let alloc = rt.alloc();
-    let left = left_by(alloc, shelf_of(alloc, config, body)?, TRANSFORM, FINE)?;
+    let left = left_by(rt, alloc, shelf_of(alloc, config, body)?, TRANSFORM, FINE)?;
     check(rt, &left, 0, out, b"")
 }
 
 // The line of a configuration that is refused, before a body is looked for.
-fn refuses<R: Abort + AllocGlobal>(rt: &R, config: &[u8], line: &[u8]) -> Result<(), Fail> {
+fn refuses<R: Abort + AllocGlobal + Threads + Wait + Sync>(rt: &R, config: &[u8], line: &[u8]) -> Result<(), Fail> {
     let alloc = rt.alloc();
     let mut shelf = MemShelf::make(alloc);
     shelf.add("c", config)?;
-    let left = left_by(alloc, shelf, TRANSFORM, FINE)?;
+    let left = left_by(rt, alloc, shelf, TRANSFORM, FINE)?;
     check(rt, &left, 3, b"", line)
 }
 
-// How a body of `abc` with an append of `XY` ends, where the read of this number fails, counted from 1, or none.
-fn appends<R: Abort + AllocGlobal>(
+// How a body of `abc` with an append of `XY` ends, where the read of this number fails, counted from 1, or
+// none.
+fn appends<R: Abort + AllocGlobal + Threads + Wait + Sync>(
     rt: &R,
     words: &[&str],
     unread: u64,
@@ -125,12 +132,12 @@ fn appends<R: Abort + AllocGlobal>(
     shelf.add("tail.txt", b"XY")?;
     shelf.add("b", b"abc")?;
     shelf.fail_at(unread)?;
-    let left = left_by(alloc, shelf, words, sinks)?;
+    let left = left_by(rt, alloc, shelf, words, sinks)?;
     check(rt, &left, status, out, err)
 }
 
 // How the lines of a configuration end over an empty body, where one file beside it has this text.
-fn texts<R: Abort + AllocGlobal>(
+fn texts<R: Abort + AllocGlobal + Threads + Wait + Sync>(
     rt: &R,
     config: &[u8],
     name: &str,
@@ -144,12 +151,12 @@ fn texts<R: Abort + AllocGlobal>(
     shelf.add("c", config)?;
     shelf.add("b", b"")?;
     shelf.add(name, text)?;
-    let left = left_by(alloc, shelf, TRANSFORM, FINE)?;
+    let left = left_by(rt, alloc, shelf, TRANSFORM, FINE)?;
     check(rt, &left, status, out, err)
 }
 
 // What so many lines that pass a body on leave of a body of so many bytes.
-fn nulls<R: Abort + AllocGlobal>(
+fn nulls<R: Abort + AllocGlobal + Threads + Wait + Sync>(
     rt: &R,
     lines: usize,
     bytes: usize,
@@ -162,7 +169,7 @@ fn nulls<R: Abort + AllocGlobal>(
     }
     let body = vec![in alloc; b'x'; bytes]?;
     let shelf = shelf_of(alloc, config.as_slice(), body.as_slice())?;
-    let left = left_by(alloc, shelf, TRANSFORM, Sinks { take, ..FINE })?;
+    let left = left_by(rt, alloc, shelf, TRANSFORM, Sinks { take, ..FINE })?;
     if left.status == 0 {
         assert_eq!(rt; left.out.written(), body.as_slice());
     }
@@ -240,7 +247,7 @@ fn causes(rt: HostRuntime) -> Result<(), Fail> {
     appends(&rt, TRANSFORM, 0, one_by_one, 0, b"abcXY", b"")?;
     appends(&rt, &[], 0, FINE, 2, b"", USAGE)?;
     appends(&rt, &["transform", "c", "b", "b"], 0, FINE, 2, b"", USAGE)?;
-    appends(&rt, &["replay", "c", "b"], 0, FINE, 2, b"", USAGE)?;
+    appends(&rt, &["generate", "c", "b"], 0, FINE, 2, b"", USAGE)?;
     appends(&rt, TRANSFORM, 0, first_write, 6, b"", CANNOT_WRITE)?;
     appends(&rt, TRANSFORM, 0, second_write, 6, b"a", CANNOT_WRITE)?;
     appends(&rt, TRANSFORM, 1, FINE, 5, b"", b"tsx: cannot read c\n")?;
@@ -292,8 +299,8 @@ fn limits(rt: HostRuntime) -> Result<(), Fail> {
     )
 }
 
-// Of two stages and 40,000 bytes the driver begins, then each stage moves two pieces and ends, and in the last turn the
-// first stage is told too that its output was written.
+// Of two stages and 40,000 bytes the driver begins, then each stage moves two pieces and ends, and in the
+// last turn the first stage is told too that its output was written.
 #[test]
 fn long_bodies(rt: HostRuntime) -> Result<(), Fail> {
     assert_eq!(rt; nulls(&rt, 1, 65_537, 1)?.status, 0);

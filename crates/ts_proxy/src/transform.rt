@@ -1,25 +1,22 @@
 //! The command `transform`: a body passes through the lines of a configuration, into a sink.
-ghost use Rattle.std.specs.Prelude.{◌≡◌, List, ℕ, true, IfOk};
+ghost use Rattle.std.specs.Prelude.{◌≡◌, List, ℕ, IfOk};
 ghost use Rattle.ts_transform.specs.Flow.{compose};
 ghost use Rattle.ts_config.specs.Bodies.{compose_lines};
 ghost use Rattle.ts_stock.specs.Stock.{still_writes};
-ghost use Rattle.ts_proxy.specs.Outcome.{transformed};
-ghost use Rattle.ts_proxy.specs.Answers.{ComesAt, TookAt, TookText, OnQuiet, OnCannotRead, IsReadBy, IsCausedBy, IsOfWriting, AnswerAdds};
 ghost use Rattle.ts_proxy.specs.Driven.{IsSoundAlone, to_come};
-ghost use Rattle.ts_proxy.specs.Took.{TookNothing};
+ghost use Rattle.ts_proxy.specs.Performed.{IsPerformed, IsWorked};
+ghost use Rattle.ts_proxy.specs.Words.{Transform, task_at};
 
-use crate::answer::{Answer, NamedFile, refused};
+use crate::answer::{Answer, Performed};
+use crate::command::TransformTask;
 use crate::drive::drive;
-use crate::reading::read_setup;
+use crate::reading::{Files, read_files};
 use crate::writing::Driven;
 use std::alloc::Global;
 use ts_config::TransformLine;
-use ts_journal::Journal;
 use ts_link::{NoMemory, Octets, Shelf, Sink};
 use ts_stock::Stock;
 use ts_transform::{ChainWorld, Transform};
-
-const MOST_BODY: u64 = 67_108_864;
 
 // The transforms of these lines, none of which was fed yet.
 fn fresh_parts(alloc: Global, lines: &[TransformLine]) -> Result<Vec<Stock>, NoMemory>
@@ -46,56 +43,45 @@ fn world_of(
     ChainWorld::make(alloc, parts, body)
 }
 
-// Writes a body through the lines, the first of which acts first. Where all was done, the journal of its events is added
-// to the journals.
-fn send_body<K: Sink>(
-    alloc: Global,
-    lines: &[TransformLine],
-    body: Octets,
-    out: &mut K,
-    journals: &mut Vec<Journal>,
-) -> Answer
-    ensures told { K.tells ≡ true →
-        TookText result (K.seen out.old) (K.seen out.new) (compose_lines lines.now body) }
-    ensures cause { IsOfWriting result (K.seen out.old) (K.seen out.new) }
-    ensures journals { AnswerAdds result journals.old.items journals.new.items }
+// Writes a body through the lines, the first of which acts first.
+fn send_body<K: Sink>(alloc: Global, lines: &[TransformLine], body: Octets, out: &mut K) -> Performed
+    ensures { IsWorked Transform lines.now body K.tells (K.seen out.old) (K.seen out.new)
+        result.answer result.journals.items }
 {
     let Ok(world) = world_of(alloc, lines, body) else {
-        return Answer::OutOfMemory;
+        return Performed::without(alloc, Answer::OutOfMemory);
     };
-    match drive(alloc, world, out, journals) {
-        Driven::Done => Answer::Done,
-        Driven::Failed => Answer::CannotWrite,
-        Driven::NoMemory => Answer::OutOfMemory,
+    let mut journals = Vec::new(alloc);
+    match drive(alloc, world, out, &mut journals) {
+        Driven::Done => Performed {
+            answer: Answer::Done,
+            journals,
+        },
+        Driven::Failed => Performed {
+            answer: Answer::CannotWrite,
+            journals,
+        },
+        Driven::NoMemory => Performed {
+            answer: Answer::OutOfMemory,
+            journals,
+        },
     }
 }
 
 /// Writes a body through the lines of a configuration, both of which the shelf has under these names.
 pub fn transform<S: Shelf, K: Sink>(
     alloc: Global,
-    config: &str,
-    body: &str,
+    task: &TransformTask<'_>,
     shelf: &mut S,
     out: &mut K,
-    journals: &mut Vec<Journal>,
-) -> Answer
-    ensures told { S.tells ≡ true →
-        ComesAt config.now body.now result (transformed (S.seen shelf.old).file config.now body.now) }
-    ensures named { S.tells ≡ true → OnCannotRead result (IsReadBy (S.seen shelf.old) config.now) }
-    ensures took { S.tells ≡ true → K.tells ≡ true →
-        TookAt result (K.seen out.old) (K.seen out.new)
-        (transformed (S.seen shelf.old).file config.now body.now) }
-    ensures quiet { K.tells ≡ true → OnQuiet result (TookNothing (K.seen out.old) (K.seen out.new)) }
-    ensures journals { AnswerAdds result journals.old.items journals.new.items }
-    ensures cause { IsCausedBy result
-        (S.seen shelf.old) (S.seen shelf.new) (K.seen out.old) (K.seen out.new) }
+) -> Performed
+    ensures { IsPerformed (task_at Transform task.now.config.now task.now.body.now)
+        S.tells K.tells (S.seen shelf.old) (S.seen shelf.new) (K.seen out.old) (K.seen out.new)
+        result.answer result.journals.items }
 {
-    let lines = match read_setup(alloc, shelf, config) {
-        Ok(lines) => lines,
-        Err(answer) => return answer,
+    let Files { lines, input } = match read_files(alloc, shelf, task.config, task.body) {
+        Ok(files) => files,
+        Err(answer) => return Performed::without(alloc, answer),
     };
-    match shelf.read(alloc, body, MOST_BODY) {
-        Ok(bytes) => send_body(alloc, lines.as_slice(), bytes, out, journals),
-        Err(fault) => refused(fault, NamedFile::Body),
-    }
+    send_body(alloc, lines.as_slice(), input, out)
 }

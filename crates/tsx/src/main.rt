@@ -1,4 +1,4 @@
-//! `tsx`: the event system's transforms over files and standard streams.
+//! `tsx`: the proxy's commands over files and standard streams.
 #![tactic(auto)]
 
 mod count;
@@ -11,6 +11,7 @@ use std::env::Env;
 use std::io::{ErrorKind, Write};
 use std::process::ExitCode;
 use std::{env, io};
+use ts_link::OpenGate;
 use ts_proxy::run;
 use writer_sink::WriterSink;
 
@@ -26,17 +27,26 @@ fn words<R: Env + AllocGlobal>(rt: &R) -> io::Result<Vec<String>> {
 // Runs the command of the words. Words that are no text are of no command.
 fn main(rt: HostRuntime) -> ExitCode {
     let alloc: Global = rt.alloc();
-    let mut shelf = FileShelf::new(&rt);
-    let mut out = WriterSink::new(rt.stdout());
-    let mut err = WriterSink::new(rt.stderr());
-    let none: [String; 0] = [];
-    let ended = match words(&rt) {
-        Ok(words) => run(alloc, words.as_slice(), &mut shelf, &mut out, &mut err),
+    let words = match words(&rt) {
+        Ok(words) => words,
         Err(e) if e.kind() == ErrorKind::OutOfMemory => {
             let _ = rt.stderr().write_all(b"tsx: out of memory\n");
             return ExitCode::from(7);
         }
-        Err(_) => run(alloc, none.as_slice(), &mut shelf, &mut out, &mut err),
+        Err(_) => Vec::new(alloc),
     };
+    let mut shelf = FileShelf::new(&rt);
+    let mut out = WriterSink::new(rt.stdout());
+    let mut err = WriterSink::new(rt.stderr());
+    let gate = OpenGate::make();
+    let ended = run(
+        &rt,
+        alloc,
+        words.as_slice(),
+        &mut shelf,
+        &mut out,
+        &mut err,
+        &gate,
+    );
     ExitCode::from(ended.status)
 }

@@ -1,4 +1,4 @@
-use Rattle.std.proofs.Common.{◌≡◌, All, true}
+use Rattle.std.proofs.Common.{◌≡◌, ◌+◌, All, length, true}
 use Rattle.std.specs.VecDeque.{deque_len}
 use Rattle.ts_config.specs.Setup.{HasFileName}
 use Rattle.ts_proxy.proofs.Filling.{FillsBut}
@@ -9,6 +9,7 @@ abbrev pub invariant-loop-line : goal.invariant-loop-line
 invariant-loop-line g l = record {
   told : g.S.Shelf.tells ≡ true → FillsBut (g.S.Shelf.seen l.initial.shelf).file l.initial.lines.items l.found.items l.lines.items;
   names : All HasFileName l.lines.items;
+  count : length l.found.items + length l.lines.items ≡ length l.initial.lines.items;
   files : g.S.Shelf.tells ≡ true → (g.S.Shelf.seen l.shelf).file ≡ (g.S.Shelf.seen l.initial.shelf).file;
   faults : (g.S.Shelf.seen l.shelf).faults ≡ (g.S.Shelf.seen l.initial.shelf).faults;
   longs : (g.S.Shelf.seen l.shelf).longs ≡ (g.S.Shelf.seen l.initial.shelf).longs;

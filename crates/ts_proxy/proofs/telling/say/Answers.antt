@@ -28,3 +28,10 @@ returns-in-BadLine g c = λ tells.
     (ap (λ n. concat (codes "tsx: configuration line " ∷ n ∷ codes ": " ∷ c.text_of.result.now ∷ codes "\n" ∷ [])) (c.as_bytes-number.ensures.value ∙ c.format.ensures.text)
     ∙ ap (λ k. concat (codes "tsx: configuration line " ∷ decimal c.in-BadLine.fault.line ∷ codes ": " ∷ k ∷ codes "\n" ∷ [])) c.text_of.ensures)
     (c.tell-in-BadLine.ensures tells))
+
+pub returns-in-BadRecording : goal.returns-in-BadRecording
+returns-in-BadRecording g c = λ tells.
+    rw c.in-BadRecording.is
+    (told-same (g.E.Sink.seen c.args.err.now) (g.E.Sink.seen c.tell-in-BadRecording.new.err) _ _
+    (ap (λ n. concat (codes "tsx: recording offset " ∷ n ∷ codes "\n" ∷ [])) (c.as_bytes-number-in-BadRecording.ensures.value ∙ c.format-in-BadRecording.ensures.text))
+    (c.tell-in-BadRecording.ensures tells))

@@ -1,0 +1,101 @@
+//! The command `replay`: the transactions of a recording are run on event threads, and the report on them is
+//! written.
+ghost use Rattle.std.specs.Prelude.{◌<◌, ◌≤◌, ℕ, List, length, IfErr, IfOk};
+ghost use Rattle.ts_config.specs.Bytes.{most_transforms};
+ghost use Rattle.ts_config.specs.declared.setup.TransformLine.{TransformLine};
+ghost use Rattle.ts_proxy.specs.Answers.{IsOfRunning};
+ghost use Rattle.ts_proxy.specs.Performed.{IsPerformed, IsReplayOn, IsWorked};
+ghost use Rattle.ts_proxy.specs.Words.{Replay, task_at};
+ghost use Rattle.ts_record.specs.Grammar.{IsRecording};
+ghost use Rattle.ts_thread.specs.declared.TheConstants.{MOST_THREADS};
+
+use crate::answer::{Answer, Performed};
+use crate::command::ReplayTask;
+use crate::reading::{Files, read_files};
+use crate::writing::{Driven, write_all};
+use std::alloc::Global;
+use std::sync::Wait;
+use std::thread::Threads;
+use ts_config::TransformLine;
+use ts_link::{Gate, Octets, Shelf, Sink};
+use ts_record::{RecordedTxn, RecordingRefusal, read_recording};
+use ts_replay::{ReplayFault, Replayed};
+
+// The transactions of the recording in these bytes.
+fn read_txns(alloc: Global, bytes: Octets) -> Result<Vec<RecordedTxn>, Answer>
+    ensures recording { IfOk result (λ txns. IsRecording bytes txns.items) }
+    ensures refusal { IfErr result (IsOfRunning bytes) }
+{
+    match read_recording(alloc, bytes.bytes()) {
+        Ok(recording) => Ok(recording.txns),
+        Err(RecordingRefusal::Fault { offset }) => Err(Answer::BadRecording { offset }),
+        Err(RecordingRefusal::NoMemory) => Err(Answer::OutOfMemory),
+    }
+}
+
+// Runs the transactions of the recording in these bytes under the lines. Where a group had all the turns that
+// it gets, it answers as where memory lacks.
+fn run_txns<G: Gate + Sync, R: Threads + Wait + Sync>(
+    rt: &R,
+    alloc: Global,
+    lines: Vec<TransformLine>,
+    bytes: Octets,
+    threads: u32,
+    gate: &G,
+) -> Result<Replayed, Answer>
+    requires lines { length lines.items ≤ most_transforms }
+    requires threads { (0 < threads) × (threads ≤ MOST_THREADS) }
+    ensures replayed { IfOk result (IsReplayOn lines.items bytes) }
+    ensures refusal { IfErr result (IsOfRunning bytes) }
+{
+    let txns = match read_txns(alloc, bytes) {
+        Ok(txns) => txns,
+        Err(answer) => return Err(answer),
+    };
+    match ts_replay::replay(rt, alloc, lines, txns, threads, gate) {
+        Ok(replayed) => Ok(replayed),
+        Err(ReplayFault::NoMemory) => Err(Answer::OutOfMemory),
+        Err(ReplayFault::Worn) => Err(Answer::OutOfMemory),
+    }
+}
+
+// Writes the report of a replay.
+fn send_report<K: Sink>(alloc: Global, replayed: Replayed, out: &mut K) -> Performed
+    ensures { (lines : List TransformLine) (bytes : List ℕ) → IsReplayOn lines bytes replayed →
+        IsWorked Replay lines bytes K.tells (K.seen out.old) (K.seen out.new)
+        result.answer result.journals.items }
+{
+    match write_all(out, replayed.report.as_slice()) {
+        Driven::Done => Performed {
+            answer: Answer::Done,
+            journals: replayed.journals,
+        },
+        Driven::Failed => Performed::without(alloc, Answer::CannotWrite),
+        Driven::NoMemory => Performed::without(alloc, Answer::OutOfMemory),
+    }
+}
+
+/// Runs a recording under the lines of a configuration, both of which the shelf has under these names, on so
+/// many event threads, which pass the gate, and writes the report.
+pub fn replay<S: Shelf, K: Sink, G: Gate + Sync, R: Threads + Wait + Sync>(
+    rt: &R,
+    alloc: Global,
+    task: &ReplayTask<'_>,
+    shelf: &mut S,
+    out: &mut K,
+    gate: &G,
+) -> Performed
+    requires threads { (0 < task.now.threads) × (task.now.threads ≤ MOST_THREADS) }
+    ensures { IsPerformed (task_at Replay task.now.config.now task.now.recording.now)
+        S.tells K.tells (S.seen shelf.old) (S.seen shelf.new) (K.seen out.old) (K.seen out.new)
+        result.answer result.journals.items }
+{
+    let Files { lines, input } = match read_files(alloc, shelf, task.config, task.recording) {
+        Ok(files) => files,
+        Err(answer) => return Performed::without(alloc, answer),
+    };
+    match run_txns(rt, alloc, lines, input, task.threads, gate) {
+        Ok(replayed) => send_report(alloc, replayed, out),
+        Err(answer) => Performed::without(alloc, answer),
+    }
+}
