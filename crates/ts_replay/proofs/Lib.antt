@@ -3,6 +3,7 @@ pub mod Blocks
 pub mod Ended
 pub mod HexLengths
 pub mod OneReport
+pub mod Plans
 pub mod Reporting
 pub mod Rows
 pub mod SameLines

@@ -4,6 +4,7 @@ use Rattle.std.specs.Prelude.{IsSomeAnd}
 use Rattle.std.specs.List.{AllZip, concat}
 use Rattle.std.proofs.lemmas.List.{append-nil, map-append}
 use Rattle.ts_config.specs.declared.setup.Setup.{Setup}
+use Rattle.ts_journal.specs.declared.entry.Entry.{Entry}
 use Rattle.ts_journal.specs.Log.{Log}
 use Rattle.ts_journal.specs.Machine.{IsLawful, replay}
 use Rattle.ts_record.specs.Grammar.{TxnPieces}
@@ -115,6 +116,13 @@ replay_of setup number txn g b ran ends reported lawful state = record {
   ended = subst (λ e. IsSomeAnd e IsReported) (sym ends) reported;
   final = record { lawful = lawful; state = state; given = ran.given; none = ran.idle };
 }
+
+-- what is read of a journal is known of its group
+pub lawful_of : (j k : Log) (es : List Entry) → k ≡ j → es ≡ k.entries → IsLawful k.base es → IsLawful j.base j.entries
+lawful_of j k es same are lawful = subst (λ (l : Log). IsLawful l.base l.entries) same (subst (IsLawful k.base) are lawful)
+
+pub state_of : (j k : Log) (es : List Entry) → k ≡ j → es ≡ k.entries → k.state ≡ replay k.base es → j.state ≡ replay j.base j.entries
+state_of j k es same are state = subst (λ (l : Log). l.state ≡ replay l.base l.entries) same (state ∙ ap (replay k.base) are)
 
 -- one more was
 pub reports_more : (setup : Setup) (txns : List TxnPieces) (groups left rest : List RecordedGroup) (number next : ℕ) (text text' : List ℕ) (journals journals' : List Log) (g : RecordedGroup) (b : Block)

@@ -8,7 +8,9 @@ use Rattle.std.specs.List.{AllZip, concat}
 use Rattle.std.specs.Bool.{OnTrue}
 use Rattle.std.proofs.lemmas.List.{append-nil}
 use Rattle.std.proofs.lemmas.List.Elements.{All-nil, All-push}
+use Rattle.ts_config.specs.Bodies.{whole_of}
 use Rattle.ts_config.specs.declared.setup.Setup.{Setup}
+use Rattle.ts_group.specs.declared.action.Named.{Named}
 use Rattle.ts_group.specs.Context.{IsFresh}
 use Rattle.ts_group.specs.Slot.{IsAtRest}
 use Rattle.ts_journal.specs.State.{State}
@@ -19,10 +21,12 @@ use Rattle.ts_record.specs.Links.{recorded_side}
 use Rattle.ts_record.proofs.Links.{never_fails}
 use Rattle.ts_replay.specs.Recorded.{AreTagsOf, FitInRow, FitsIn, FitsTag, HasLinesOnly, IsSound, IsTagOf, Recorded, RecordedGroup, RecordedTag, is_asked_only, is_first}
 use Rattle.ts_replay.specs.Rows.{IsRowOf}
+use Rattle.ts_stock.specs.Stock.{still_writes}
 use Rattle.ts_thread.specs.Started.{CanStart}
 use Rattle.ts_thread.specs.Tags.{CanAsk}
 use Rattle.ts_thread.specs.Threads.{HasHadTurns}
 use Rattle.ts_txn.specs.Making.{HasFewLines, IsMadeOf, IsMadeOfIf}
+use Rattle.ts_txn.specs.World.{IsSoundTxn}
 use Rattle.ts_txn.proofs.Fitting.{fits_made}
 
 -- ---- a group as it is made
@@ -66,6 +70,21 @@ fits_fresh tag g fits sound fresh = (
   at_first g.cx.log.state (ap (λ (s : State). s.held) fresh.state) (ap (λ (s : State). s.next) fresh.state),
   on_true tag.first (g.cx.log.base.turns ≡ 0) (ap (λ (s : State). s.turns) fresh.base),
 )
+
+-- as one that was just made
+pub fits_group : (setup : Setup) (number : ℕ) (txn : TxnPieces) (tag : RecordedTag) (t : Recorded) (g : RecordedGroup) → IsTagOf setup number txn false tag
+    → t.core.number ≡ number → arc_value t.core.setup ≡ setup → t.core.plugins_at ≡ 0
+    → IsMadeOf look_of (recorded_side txn.0) t.core.client → IsMadeOfIf look_of (Some (recorded_side txn.1)) t.core.origin
+    → ((next : ℕ) (roles : List Named) → IsSoundTxn true true look_of look_of (λ (x y : LinkState). ⊤) (λ (l : LinkState) (list : List ℕ). false ≡ true) still_writes whole_of t [] next roles)
+    → g.world ≡ t → IsFresh 0 g.cx → FitsIn tag g
+fits_group setup number txn tag t g is number_is setup_is plugins_at made made_origin sound world fresh =
+    let none : g.cx.log.state.pending ≡ [] = ap (λ (s : State). s.pending) fresh.state in
+    fits_fresh tag g
+    (subst (FitsTag tag) (sym world) (fits_recorded setup number txn tag t is number_is setup_is plugins_at made made_origin))
+    (subst (λ w. IsSound w g.cx.log.state g.cx.roles) (sym world)
+    (subst (λ ps. IsSoundTxn true true look_of look_of (λ (x y : LinkState). ⊤) (λ (l : LinkState) (list : List ℕ). false ≡ true) still_writes whole_of t ps g.cx.log.state.next g.cx.roles) (sym none)
+    (sound g.cx.log.state.next g.cx.roles)))
+    fresh
 
 -- ---- a row grows
 

@@ -15,6 +15,7 @@ use Rattle.ts_txn.specs.Relayed.{client_framing, framing_of, if_body, length_tol
 use Rattle.ts_txn.specs.Rules.{is_denied, ruled}
 use Rattle.ts_txn.specs.declared.block.Block.{Block}
 use Rattle.ts_txn.specs.declared.own.OwnStatus.{OwnStatus}
+use Rattle.ts_txn.specs.declared.own.OwnStatus.TheVariants as O
 use Rattle.ts_wire.specs.Check.{check, is_absolute, plugin_host}
 use Rattle.ts_wire.specs.Forward.{forwarded}
 use Rattle.ts_wire.specs.Printed.{client_text, origin_text}
@@ -79,5 +80,5 @@ module _ (s t : Setup) (lines : s.transforms.items ≡ t.transforms.items) (plug
 
     pub block_same : (c : List ℕ) (b : Block) → IsBlock s dialed refuses o c b → IsBlock t dialed refuses o c b
     block_same c b (silent none is) = silent none is
-    block_same c b (no_head some lacks is) = no_head some lacks (is ∙ own_same [] _ _)
+    block_same c b (no_head some lacks is) = no_head some lacks (is ∙ own_same [] O.BadRequest false)
     block_same c b (asked some q rest has says) = asked some q rest has (verdict_same (check q) q b says)

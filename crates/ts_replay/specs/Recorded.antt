@@ -1,4 +1,4 @@
--- A transaction between two recorded sides: the group in which it runs, the tag of its slot, and what is to hold of it.
+-- A transaction between two recorded sides: its group, the tag of its slot, and what is to hold of it.
 use Rattle.std.specs.Prelude.{◌≡◌, ℕ, ◌+◌, ◌≤◌, List, [], ◌∷◌, length, Bool, true, false, Some, ⊤}
 use Rattle.ts_config.specs.Bodies.{whole_of}
 use Rattle.ts_config.specs.Bytes.{most_transforms}
@@ -31,9 +31,10 @@ pub record HasLinesOnly (setup : Setup) : Type 0 where
   pub few : length setup.transforms.items ≤ most_transforms
   pub no_plugins : setup.plugins.items ≡ []
 
--- The tag is that of the transaction of this number between sides that give these pieces: its links are sure, its slot had
--- no other tenant, and it was started or not.
-pub record IsTagOf (setup : Setup) (number : ℕ) (txn : TxnPieces) (started : Bool) (tag : RecordedTag) : Type 0 where
+-- The tag is that of the transaction of this number between sides that give these pieces: its links are sure,
+-- its slot had no other tenant, and it was started or not.
+pub record IsTagOf (setup : Setup) (number : ℕ) (txn : TxnPieces) (started : Bool)
+    (tag : RecordedTag) : Type 0 where
   pub number_is : tag.number ≡ number
   pub setup_is : tag.setup.value ≡ setup
   pub plugins_at : tag.plugins_at ≡ 0
@@ -58,8 +59,8 @@ FitsTag = IsTxnOf look_of look_of
 -- what is to hold of it holds
 abbrev pub IsSound : Recorded → State → List Named → Type 0
 IsSound t s roles =
-    IsSoundTxn true true look_of look_of (λ (c o : LinkState). ⊤) (λ (o : LinkState) (list : List ℕ). false ≡ true)
-    still_writes whole_of t s.pending s.next roles
+    IsSoundTxn true true look_of look_of (λ (c o : LinkState). ⊤)
+    (λ (o : LinkState) (list : List ℕ). false ≡ true) still_writes whole_of t s.pending s.next roles
 
 -- it is never only asked
 abbrev pub is_asked_only : RecordedTag → Bool

@@ -6,8 +6,8 @@ use Rattle.ts_replay.specs.Recorded.{AreTagsOf, FitInRow, HasLinesOnly, Recorded
 use Rattle.ts_thread.specs.Threads.{HasHadTurns}
 
 -- a group for each transaction under this setup, numbered from 1, that fits its tag and has had no turn
-pub record IsRowOf (setup : Setup) (txns : List TxnPieces) (tags : List RecordedTag) (groups : List RecordedGroup)
-    : Type 0 where
+pub record IsRowOf (setup : Setup) (txns : List TxnPieces) (tags : List RecordedTag)
+    (groups : List RecordedGroup) : Type 0 where
   pub lines : HasLinesOnly setup
   pub tags_are : AreTagsOf setup 1 txns tags
   pub fit : FitInRow tags groups

@@ -1,4 +1,4 @@
-//! Recorded transactions are run in mutex groups by event threads and driven to their end, and the report on them is made.
+//! Recorded transactions are run in mutex groups by event threads, and the report on them is made.
 
 ghost use Rattle.std.specs.Prelude.{◌<◌, ◌≤◌, IfOk, length};
 ghost use Rattle.std.specs.Arc.{arc_value};
@@ -30,8 +30,8 @@ fn setup_of(alloc: Global, lines: Vec<TransformLine>) -> Result<Arc<Setup>, NoMe
     Ok(shared)
 }
 
-/// Runs recorded transactions under the lines, each in a mutex group of its own, on so many event threads that pass the
-/// gate, and drives them to their end.
+/// Runs recorded transactions under the lines, each in a mutex group of its own, on so many event threads that
+/// pass the gate, and drives them to their end.
 pub fn replay<G: Gate + Sync, R: Threads + Wait + Sync>(
     rt: &R,
     alloc: Global,

@@ -5,11 +5,12 @@ ghost use Rattle.std.specs.Prelude.{◌≤◌};
 use crate::row::{Tally, drive_row, first_seat, make_row, run_row, tally_of};
 use crate::toys::{ToyTally, run_tally};
 use crate::turns::{play, play_held, play_runs};
+use std::alloc::Global;
 use std::test::Fail;
 use ts_group_tests::burst::Burst;
 use ts_group_tests::heir::Heir;
 use ts_group_tests::steps::{Countdown, Steps};
-use ts_link::{MeetGate, OpenGate};
+use ts_link::{MeetGate, NoMemory, OpenGate};
 use ts_queue::Token;
 use ts_thread::{Did, MOST_ALONE, RunEnd, Unfinished};
 
@@ -32,45 +33,45 @@ fn a_row_is_driven_to_its_end(rt: HostRuntime) -> Result<(), Fail> {
     Ok(())
 }
 
-// What a row of peers with three steps each comes to whose groups get so many turns at most, too few for one of them.
-fn worn_row(rt: &HostRuntime, limit: u64) -> Result<Tally, Fail>
+// What a drive of a row answers whose groups get so many turns at most, and what the row is then.
+fn driven(alloc: Global, limit: u64) -> Result<(Result<(), Unfinished>, Tally), NoMemory>
     requires { limit ≤ MOST_ALONE }
 {
-    let mut groups = make_row(rt.alloc(), 3, true)?;
-    assert_eq!(rt; drive_row(&mut groups, limit), Err(Unfinished::Worn));
-    Ok(tally_of(&groups))
+    let mut groups = make_row(alloc, 3, true)?;
+    let answer = drive_row(&mut groups, limit);
+    Ok((answer, tally_of(&groups)))
 }
 
 // Each peer that works was started in its first turn. It needs four more: one for each step, and a last one in which it
 // has nothing to do. With a limit of one turn none has another, and with four the first peer's last event stays pending.
 #[test]
 fn a_worn_peer_has_no_more_turns(rt: HostRuntime) -> Result<(), Fail> {
-    let mut expected = Tally {
+    let mut stands = Tally {
         groups: 9,
         pending: 8,
         whole: 8,
         todo: 24,
         questions: 0,
     };
-    assert_eq!(rt; worn_row(&rt, 1)?, expected);
-    expected.todo = 21;
-    expected.questions = 3;
-    assert_eq!(rt; worn_row(&rt, 4)?, expected);
+    assert_eq!(rt; driven(rt.alloc(), 1)?, (Err(Unfinished::Worn), stands));
+    stands.todo = 21;
+    stands.questions = 3;
+    assert_eq!(rt; driven(rt.alloc(), 4)?, (Err(Unfinished::Worn), stands));
     Ok(())
 }
 
-// With five turns each peer that works could end, but the one that is asked has no turn for the sixth question, the last
-// of the third peer. That peer waits to ask again, and is whole still.
+// With five turns each peer that works could end, but the one that is asked has none for the sixth question, the last of
+// the third peer. That peer waits to ask again, and is whole still.
 #[test]
 fn a_worn_peer_is_not_asked(rt: HostRuntime) -> Result<(), Fail> {
-    let expected = Tally {
+    let stands = Tally {
         groups: 9,
         pending: 6,
         whole: 8,
         todo: 16,
         questions: 5,
     };
-    assert_eq!(rt; worn_row(&rt, 5)?, expected);
+    assert_eq!(rt; driven(rt.alloc(), 5)?, (Err(Unfinished::Worn), stands));
     Ok(())
 }
 

@@ -72,8 +72,10 @@ module _ {C O : Type 0} (client : C → Look) (origin : O → Look) where
     plugins_at = plugins;
     client = same_made client tag.client.value t.core.client of_client;
     origin = same_made_if origin tag.origin.value t.core.origin of_origin;
-    sure = λ is. (still_sure _ _ (same_made client tag.client.value t.core.client of_client) (sure is).0,
-        sure_made origin tag.origin.value t.core.origin of_origin (sure is).1);
+    sure = λ is. (
+      still_sure _ _ (same_made client tag.client.value t.core.client of_client) (sure is).0,
+      sure_made origin tag.origin.value t.core.origin of_origin (sure is).1,
+    );
     started = λ is. cc;
   }
 

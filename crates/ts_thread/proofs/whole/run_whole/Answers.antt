@@ -20,6 +20,6 @@ returns-clause-ended g c =
 pub returns-in_err-finish_within-clause-spares : goal.returns-in_err-finish_within-clause-spares
 returns-in_err-finish_within-clause-spares g c = λ soon.
     let run = c.in_ok-groups.ensures in
-    no_fault c.from_residual.result _ _ c.from_residual.ensures.1
+    no_fault c.from_residual-in_err-finish_within.result _ _ c.from_residual-in_err-finish_within.ensures.1
     (c.in_err-finish_within.ensures.spares
     (turns_enough g.W.Slotted.fits g.W.World.sound g.W.World.only_asked g.W.World.is_first g.W.World.left MOST_ALONE (turns_of c.args.starts c.args.threads c.args.budget) c.args.tags.items c.in_ok-groups.groups.items soon run.fits run.turns))

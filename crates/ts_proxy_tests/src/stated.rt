@@ -1,0 +1,70 @@
+//! Texts that rows share: requests, responses, the heads that clients get, and the proxy's own answers.
+
+/// A request for a page.
+pub const GET: &[u8] = b"GET / HTTP/1.1\r\nHost: a\r\n\r\n";
+
+/// What the origin gets of it.
+pub const GET_SENT: &[u8] =
+    b"GET / HTTP/1.1\r\nhost: a\r\nvia: 1.1 tsx\r\nconnection: close\r\n\r\n";
+
+/// A request for the head of a page.
+pub const HEAD: &[u8] = b"HEAD / HTTP/1.1\r\nHost: a\r\n\r\n";
+
+/// What the origin gets of it.
+pub const HEAD_SENT: &[u8] =
+    b"HEAD / HTTP/1.1\r\nhost: a\r\nvia: 1.1 tsx\r\nconnection: close\r\n\r\n";
+
+/// A response of three bytes.
+pub const ABC: &[u8] = b"HTTP/1.1 200 OK\r\nContent-Length: 3\r\n\r\nabc";
+
+/// The client's head of a body in chunks.
+pub const CHUNKED: &[u8] =
+    b"HTTP/1.1 200 OK\r\nvia: 1.1 tsx\r\ntransfer-encoding: chunked\r\nconnection: close\r\n\r\n";
+
+/// The client's head of a body of three bytes.
+pub const SIZED: &[u8] =
+    b"HTTP/1.1 200 OK\r\nvia: 1.1 tsx\r\ncontent-length: 3\r\nconnection: close\r\n\r\n";
+
+/// The client's head of a body up to the close, and of none.
+pub const PLAIN: &[u8] = b"HTTP/1.1 200 OK\r\nvia: 1.1 tsx\r\nconnection: close\r\n\r\n";
+
+/// An answer of the proxy's own.
+#[derive(Clone, Copy)]
+pub struct OwnAnswer<'a> {
+    pub head: &'a [u8],
+    pub body: &'a [u8],
+}
+
+/// The answer to a request that cannot be read.
+pub const BAD_REQUEST: OwnAnswer<'static> = OwnAnswer {
+    head: b"HTTP/1.1 400 Bad Request\r\ncontent-type: text/plain\r\ncontent-length: 16\r\nconnection: close\r\n\r\n",
+    body: b"400 Bad Request\n",
+};
+
+/// The answer to a request that is not served.
+pub const NOT_IMPLEMENTED: OwnAnswer<'static> = OwnAnswer {
+    head: b"HTTP/1.1 501 Not Implemented\r\ncontent-type: text/plain\r\ncontent-length: 20\r\nconnection: close\r\n\r\n",
+    body: b"501 Not Implemented\n",
+};
+
+/// The answer where the origin gives none to pass on.
+pub const BAD_GATEWAY: OwnAnswer<'static> = OwnAnswer {
+    head: b"HTTP/1.1 502 Bad Gateway\r\ncontent-type: text/plain\r\ncontent-length: 16\r\nconnection: close\r\n\r\n",
+    body: b"502 Bad Gateway\n",
+};
+
+/// A usual request.
+pub const USUAL: &[u8] =
+    b"GET /index.html HTTP/1.1\r\nHost: www.example.com\r\nUser-Agent: curl/8.5.0\r\nAccept: */*\r\n\r\n";
+
+/// What the origin gets of it.
+pub const USUAL_SENT: &[u8] =
+    b"GET /index.html HTTP/1.1\r\nhost: www.example.com\r\nuser-agent: curl/8.5.0\r\naccept: */*\r\nvia: 1.1 tsx\r\nconnection: close\r\n\r\n";
+
+/// A usual response to it.
+pub const PAGE: &[u8] =
+    b"HTTP/1.1 200 OK\r\nDate: Mon, 01 Jan 2024 00:00:00 GMT\r\nContent-Type: text/html; charset=utf-8\r\nContent-Length: 13\r\nConnection: keep-alive\r\n\r\n<p>hello</p>\n";
+
+/// The client's head of that, where a line acts on it.
+pub const PAGE_HEAD: &[u8] =
+    b"HTTP/1.1 200 OK\r\ndate: Mon, 01 Jan 2024 00:00:00 GMT\r\ncontent-type: text/html; charset=utf-8\r\nvia: 1.1 tsx\r\ntransfer-encoding: chunked\r\nconnection: close\r\n\r\n";

@@ -1,0 +1,29 @@
+//! Rows by subject, whose values come from the tables of heads, framings and answers, and from exchanges that
+//! were worked out by hand.
+
+use crate::row::{Row, Verdict, check};
+use std::process::Abort;
+use std::sync::Wait;
+use std::test::Fail;
+use std::thread::Threads;
+
+mod answers;
+mod bodies;
+mod framings;
+mod orders;
+mod refusals;
+mod sizes;
+mod threads;
+mod words;
+
+// Each of these rows comes out as stated.
+fn check_all<R: Abort + AllocGlobal + Threads + Wait + Sync>(
+    rt: &R,
+    rows: &[Row<'_>],
+) -> Result<(), Fail> {
+    for (place, row) in rows.iter().enumerate() {
+        let verdict = check(rt, rt.alloc(), row)?;
+        assert_eq!(rt; verdict, Verdict::AsStated, "row {place}");
+    }
+    Ok(())
+}

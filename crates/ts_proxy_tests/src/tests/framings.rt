@@ -1,0 +1,169 @@
+//! How long a body is and how the client gets it: by its length, in chunks, up to the close, or not at all.
+
+use super::check_all;
+use crate::recording::at_once;
+use crate::report::{Came, Stated};
+use crate::row::{Row, chunked, dripping, get};
+use crate::stated::{ABC, CHUNKED, HEAD, HEAD_SENT, PLAIN, SIZED};
+use std::test::Fail;
+
+const LESS: &[u8] = b"prepend.so <";
+
+// A response to HEAD that has the head of three bytes.
+fn head<'a>(config: &'a [u8], got: &'a [u8]) -> Row<'a> {
+    Row {
+        config,
+        exchange: at_once(HEAD, b"HTTP/1.1 200 OK\r\nContent-Length: 3\r\n\r\n"),
+        stated: Stated {
+            request: HEAD_SENT,
+            head: got,
+            came: Came::Whole(b""),
+        },
+    }
+}
+
+// A request of HTTP/1.0, which gets no chunks.
+fn older<'a>(config: &'a [u8], got: &'a [u8], body: &'a [u8]) -> Row<'a> {
+    Row {
+        config,
+        exchange: at_once(b"GET / HTTP/1.0\r\nHost: a\r\n\r\n", ABC),
+        stated: Stated {
+            request: b"GET / HTTP/1.1\r\nhost: a\r\nvia: 1.0 tsx\r\nconnection: close\r\n\r\n",
+            head: got,
+            came: Came::Whole(body),
+        },
+    }
+}
+
+#[test]
+fn bodies_are_framed(rt: HostRuntime) -> Result<(), Fail> {
+    let rows = [
+        get(b"", ABC, SIZED, Came::Whole(b"abc")),
+        chunked(b"", b"HTTP/1.1 200 OK\r\n\r\nabc", b"abc"),
+        older(b"", SIZED, b"abc"),
+        older(LESS, PLAIN, b"<abc"),
+    ];
+    check_all(&rt, &rows)?;
+    check_all(&rt, &rows.map(dripping))
+}
+
+#[test]
+fn responses_without_a_body(rt: HostRuntime) -> Result<(), Fail> {
+    let rows = [
+        get(
+            b"",
+            b"HTTP/1.1 204 No Content\r\nContent-Length: 5\r\n\r\n",
+            b"HTTP/1.1 204 No Content\r\nvia: 1.1 tsx\r\nconnection: close\r\n\r\n",
+            Came::Whole(b""),
+        ),
+        get(
+            LESS,
+            b"HTTP/1.1 304 Not Modified\r\nContent-Length: 5\r\n\r\n",
+            b"HTTP/1.1 304 Not Modified\r\nvia: 1.1 tsx\r\ncontent-length: 5\r\nconnection: close\r\n\r\n",
+            Came::Whole(b""),
+        ),
+        head(b"", SIZED),
+        head(LESS, PLAIN),
+    ];
+    check_all(&rt, &rows)?;
+    check_all(&rt, &rows.map(dripping))
+}
+
+// Lines that do not act on a response leave its length and its body as they are.
+#[test]
+fn responses_on_which_no_line_acts(rt: HostRuntime) -> Result<(), Fail> {
+    let rows = [
+        get(
+            LESS,
+            b"HTTP/1.1 404 Not Found\r\nContent-Length: 3\r\n\r\nabc",
+            b"HTTP/1.1 404 Not Found\r\nvia: 1.1 tsx\r\ncontent-length: 3\r\nconnection: close\r\n\r\n",
+            Came::Whole(b"abc"),
+        ),
+        get(
+            LESS,
+            b"HTTP/1.1 200 OK\r\nContent-Encoding: gzip\r\nContent-Length: 3\r\n\r\nabc",
+            b"HTTP/1.1 200 OK\r\ncontent-encoding: gzip\r\nvia: 1.1 tsx\r\ncontent-length: 3\r\nconnection: close\r\n\r\n",
+            Came::Whole(b"abc"),
+        ),
+        get(
+            b"append_transform.so f",
+            b"HTTP/1.1 200 OK\r\nContent-Type: text/plain\r\nContent-Length: 3\r\n\r\nabc",
+            b"HTTP/1.1 200 OK\r\ncontent-type: text/plain\r\nvia: 1.1 tsx\r\ncontent-length: 3\r\nconnection: close\r\n\r\n",
+            Came::Whole(b"abc"),
+        ),
+    ];
+    check_all(&rt, &rows)
+}
+
+// Interim heads are dropped, and so are the fields of one connection.
+#[test]
+fn fields_that_are_not_passed_on(rt: HostRuntime) -> Result<(), Fail> {
+    let rows = [
+        get(
+            b"",
+            b"HTTP/1.1 100 Continue\r\n\r\nHTTP/1.1 103 Early Hints\r\nLink: x\r\n\r\nHTTP/1.1 200 OK\r\nContent-Length: 3\r\n\r\nabc",
+            SIZED,
+            Came::Whole(b"abc"),
+        ),
+        get(
+            b"",
+            b"HTTP/1.1 200 OK\r\nConnection: x-a\r\nX-A: 1\r\nKeep-Alive: 5\r\nContent-Length: 3\r\nX-B: 2\r\n\r\nabc",
+            b"HTTP/1.1 200 OK\r\nx-b: 2\r\nvia: 1.1 tsx\r\ncontent-length: 3\r\nconnection: close\r\n\r\n",
+            Came::Whole(b"abc"),
+        ),
+        get(
+            b"",
+            b"HTTP/1.0 200 Fine\r\nContent-Length: 3\r\n\r\nabc",
+            b"HTTP/1.1 200 Fine\r\nvia: 1.0 tsx\r\ncontent-length: 3\r\nconnection: close\r\n\r\n",
+            Came::Whole(b"abc"),
+        ),
+    ];
+    check_all(&rt, &rows)?;
+    check_all(&rt, &rows.map(dripping))
+}
+
+// An origin that ends within its body, or whose chunks are none. What stands behind the end of a body is read
+// by nobody.
+#[test]
+fn bodies_that_are_not_whole(rt: HostRuntime) -> Result<(), Fail> {
+    let rows = [
+        get(
+            LESS,
+            b"HTTP/1.1 200 OK\r\nContent-Length: 3\r\n\r\nab",
+            CHUNKED,
+            Came::Cut,
+        ),
+        get(
+            b"",
+            b"HTTP/1.1 200 OK\r\nContent-Length: 3\r\n\r\nab",
+            SIZED,
+            Came::Cut,
+        ),
+        get(
+            b"",
+            b"HTTP/1.1 200 OK\r\nTransfer-Encoding: chunked\r\n\r\n3\r\nabc",
+            CHUNKED,
+            Came::Cut,
+        ),
+        get(
+            b"",
+            b"HTTP/1.1 200 OK\r\nTransfer-Encoding: chunked\r\n\r\n3\r\nabcd",
+            CHUNKED,
+            Came::Bad,
+        ),
+        get(
+            b"",
+            b"HTTP/1.1 200 OK\r\nTransfer-Encoding: chunked\r\n\r\nx",
+            CHUNKED,
+            Came::Bad,
+        ),
+        get(
+            b"",
+            b"HTTP/1.1 200 OK\r\nContent-Length: 3\r\n\r\nabcd",
+            SIZED,
+            Came::Whole(b"abc"),
+        ),
+    ];
+    check_all(&rt, &rows)?;
+    check_all(&rt, &rows.map(dripping))
+}

@@ -1,0 +1,103 @@
+//! Of several faults the first in the order of the work decides: configuration, append files, recording, out.
+
+use crate::command::{ON_2, PLAIN, failing_sink, left_by, shelf_of};
+use crate::recording::{at_once, recording_of};
+use crate::report::{Came, Stated, report_of};
+use crate::stated::{ABC, CHUNKED, GET, GET_SENT};
+use std::process::Abort;
+use std::sync::Wait;
+use std::test::Fail;
+use std::thread::Threads;
+use ts_link::{MemShelf, OpenGate};
+
+// What is left of a command that came to no report: its status, and its line.
+fn ends<R: Abort + AllocGlobal + Threads + Wait + Sync>(
+    rt: &R,
+    shelf: MemShelf,
+    status: u8,
+    line: &[u8],
+) -> Result<(), Fail> {
+    let out = failing_sink(rt.alloc(), 1, 1)?;
+    let left = left_by(rt, rt.alloc(), ON_2, shelf, out, &OpenGate::make())?;
+    assert_eq!(rt; left.status, status);
+    assert!(rt; left.out.written().is_empty());
+    assert_eq!(rt; left.err.written(), line);
+    assert!(rt; left.journals.is_empty());
+    Ok(())
+}
+
+// Each of these shelves has one fault less than the one before, up to the output's own.
+#[test]
+fn the_first_fault_decides(rt: HostRuntime) -> Result<(), Fail> {
+    let alloc = rt.alloc();
+    let empty = MemShelf::make(alloc);
+    ends(&rt, empty, 5, b"tsx: cannot read c\n")?;
+    let mut faulty = MemShelf::make(alloc);
+    faulty.add("c", b"append_transform.so f\nfoo.so\n")?;
+    ends(&rt, faulty, 3, b"tsx: configuration line 2: plugin\n")?;
+    let mut bare = MemShelf::make(alloc);
+    bare.add("c", b"append_transform.so f")?;
+    ends(&rt, bare, 5, b"tsx: cannot read f\n")?;
+    let mut unrecorded = MemShelf::make(alloc);
+    unrecorded.add("c", b"append_transform.so f")?;
+    unrecorded.add("f", b"<hr>")?;
+    ends(&rt, unrecorded, 5, b"tsx: cannot read r\n")?;
+    let cut = shelf_of(alloc, b"append_transform.so f", b"tsx-recording 1\n")?;
+    ends(&rt, cut, 4, b"tsx: recording offset 16\n")?;
+    let whole = shelf_of(alloc, b"append_transform.so f", b"tsx-recording 1\nend\n")?;
+    ends(&rt, whole, 6, b"tsx: cannot write\n")
+}
+
+#[test]
+fn files_that_are_too_long(rt: HostRuntime) -> Result<(), Fail> {
+    let alloc = rt.alloc();
+    let text = vec![in alloc; b'#'; 1_048_577]?;
+    let long_config = shelf_of(alloc, text.as_slice(), b"")?;
+    ends(&rt, long_config, 9, b"tsx: too long: c\n")?;
+    let mut long_text = MemShelf::make(alloc);
+    long_text.add("c", b"append_transform.so f")?;
+    long_text.add("f", text.as_slice())?;
+    ends(&rt, long_text, 9, b"tsx: too long: f\n")
+}
+
+// A read that fails is told by the name of its file.
+#[test]
+fn reads_that_fail(rt: HostRuntime) -> Result<(), Fail> {
+    let recording = recording_of(rt.alloc(), &[at_once(GET, ABC)])?;
+    let lines: [&[u8]; 3] = [
+        b"tsx: cannot read c\n",
+        b"tsx: cannot read f\n",
+        b"tsx: cannot read r\n",
+    ];
+    for (place, line) in lines.iter().enumerate() {
+        let config = b"append_transform.so f";
+        let mut shelf = shelf_of(rt.alloc(), config, recording.as_slice())?;
+        shelf.fail_at(place as u64 + 1)?;
+        ends(&rt, shelf, 5, line)?;
+    }
+    Ok(())
+}
+
+// What is written before a write that fails is a front of the report.
+#[test]
+fn writes_that_fail(rt: HostRuntime) -> Result<(), Fail> {
+    let alloc = rt.alloc();
+    let recording = recording_of(alloc, &[at_once(GET, ABC)])?;
+    let stated = Stated {
+        request: GET_SENT,
+        head: CHUNKED,
+        came: Came::Whole(b"<abc"),
+    };
+    let report = report_of(alloc, &[stated])?;
+    for call in 1..22 {
+        let shelf = shelf_of(alloc, b"prepend.so <", recording.as_slice())?;
+        let out = failing_sink(alloc, 10, call)?;
+        let left = left_by(&rt, alloc, PLAIN, shelf, out, &OpenGate::make())?;
+        let (front, _) = report.as_slice().split_at(10 * (call as usize - 1));
+        assert_eq!(rt; left.status, 6, "call {call}");
+        assert_eq!(rt; left.out.written(), front, "call {call}");
+        assert_eq!(rt; left.err.written(), b"tsx: cannot write\n".as_slice());
+        assert!(rt; left.journals.is_empty());
+    }
+    Ok(())
+}

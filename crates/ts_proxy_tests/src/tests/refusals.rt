@@ -1,0 +1,54 @@
+//! Recordings that are refused, with the place behind the front that is right.
+
+use crate::command::{PLAIN, replayed};
+use crate::recording::{at_once, recording_of, repeated};
+use crate::stated::{ABC, GET};
+use std::process::Abort;
+use std::sync::Wait;
+use std::test::Fail;
+use std::thread::Threads;
+
+// A recording is refused at this offset, with nothing written and no journal.
+fn refused<R: Abort + AllocGlobal + Threads + Wait + Sync>(
+    rt: &R,
+    text: &[u8],
+    offset: usize,
+) -> Result<(), Fail> {
+    let left = replayed(rt, rt.alloc(), PLAIN, b"prepend.so <", text)?;
+    let line = format!(in rt.alloc(); "tsx: recording offset {offset}\n")?;
+    assert_eq!(rt; left.status, 4, "offset {offset}");
+    assert!(rt; left.out.written().is_empty());
+    assert_eq!(rt; left.err.written(), line.as_bytes());
+    assert!(rt; left.journals.is_empty());
+    Ok(())
+}
+
+// Each front of a recording stops where it ends, and a byte behind the whole is one too many.
+#[test]
+fn fronts_of_a_recording(rt: HostRuntime) -> Result<(), Fail> {
+    let mut text = recording_of(rt.alloc(), &[at_once(GET, ABC)])?;
+    for length in 0..text.len() {
+        let (front, _) = text.as_slice().split_at(length);
+        refused(&rt, front, length)?;
+    }
+    text.push(b'x')?;
+    refused(&rt, text.as_slice(), 120)
+}
+
+#[test]
+fn texts_that_are_no_recording(rt: HostRuntime) -> Result<(), Fail> {
+    refused(&rt, b"tsx-recording 2\n", 14)?;
+    refused(&rt, b"tsx-recording 1\r\nend\n", 15)?;
+    refused(&rt, b"tsx-recording 1\ntxn\nclient 0\n", 27)?;
+    refused(&rt, b"tsx-recording 1\ntxn\nclient 40000\n", 31)?;
+    refused(&rt, b"tsx-recording 1\ntxn\nclient 1\nab", 30)?;
+    refused(&rt, b"tsx-recording 1\ntxn\norigin 1\na\nclient 1\n", 33)?;
+    refused(&rt, b"tsx-recording 1\ntxn\nend\n", 20)
+}
+
+// The 4,001st transaction is one too many.
+#[test]
+fn too_many_transactions(rt: HostRuntime) -> Result<(), Fail> {
+    let text = repeated(rt.alloc(), &at_once(b"", b""), 4001)?;
+    refused(&rt, text.as_slice(), 40_016)
+}

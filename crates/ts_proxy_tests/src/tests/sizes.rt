@@ -1,0 +1,150 @@
+//! Recordings as large as they may be: in transactions, in bytes, and in the pieces of one body.
+
+use crate::command::{Left, ON_1, ON_4, ON_64, left_by, replayed, shelf_of, wide_sink};
+use crate::recording::{Exchange, MOST_PIECE, at_once, recording_of, repeated};
+use crate::report::{Came, Stated, report_of, report_on};
+use crate::row::{Verdict, judge};
+use crate::stated::{ABC, CHUNKED, GET, GET_SENT};
+use std::alloc::Global;
+use std::process::Abort;
+use std::sync::Wait;
+use std::test::Fail;
+use std::thread::Threads;
+use ts_link::{NoMemory, OpenGate};
+
+// The most transactions of a recording.
+const MOST_TXNS: usize = 4_000;
+
+// The most bytes of a recording.
+const MOST_RECORDING: usize = 67_108_864;
+
+const MIB: usize = 1_048_576;
+
+// The head of a response up to the close.
+const FRONT: &[u8] = b"HTTP/1.1 200 OK\r\n\r\n";
+
+// So many letters, one after the other.
+fn letters(alloc: Global, length: usize) -> Result<Vec<u8>, NoMemory> {
+    let mut text = Vec::new(alloc);
+    text.reserve(length)?;
+    let mut letter = b'a';
+    for _ in 0..length {
+        text.push(letter)?;
+        letter = if letter < b'z' { letter + 1 } else { b'a' };
+    }
+    Ok(text)
+}
+
+// A response whose body is these bytes, up to the close.
+fn response_of(alloc: Global, body: &[u8]) -> Result<Vec<u8>, NoMemory> {
+    let mut text = Vec::from_slice(alloc, FRONT)?;
+    text.extend_from_slice(body)?;
+    Ok(text)
+}
+
+fn whole(body: &[u8]) -> Stated<'_> {
+    Stated {
+        request: GET_SENT,
+        head: CHUNKED,
+        came: Came::Whole(body),
+    }
+}
+
+// As many transactions as there may be, each with a body, on 1, 4 and 64 threads.
+#[test]
+fn most_transactions(rt: HostRuntime) -> Result<(), Fail> {
+    let recording = repeated(rt.alloc(), &at_once(GET, ABC), MOST_TXNS)?;
+    let report = report_on(rt.alloc(), &whole(b"<abc"), MOST_TXNS)?;
+    for words in [ON_1, ON_4, ON_64] {
+        let left = replayed(
+            &rt,
+            rt.alloc(),
+            words,
+            b"prepend.so <",
+            recording.as_slice(),
+        )?;
+        let verdict = judge(&left, report.as_slice(), MOST_TXNS);
+        assert_eq!(rt; verdict, Verdict::AsStated, "at {words:?}");
+    }
+    Ok(())
+}
+
+// A body of 1 MiB, in pieces as large as they may be and in smaller ones, through as many lines as there may
+// be.
+#[test]
+fn a_large_body(rt: HostRuntime) -> Result<(), Fail> {
+    let alloc = rt.alloc();
+    let body = letters(alloc, MIB)?;
+    let response = response_of(alloc, body.as_slice())?;
+    let report = report_of(alloc, &[whole(body.as_slice())])?;
+    let mut config = Vec::new(alloc);
+    for _ in 0..16 {
+        config.extend_from_slice(b"null_transform.so\n")?;
+    }
+    for piece in [MOST_PIECE, 1_000] {
+        let exchange = Exchange {
+            piece,
+            ..at_once(GET, response.as_slice())
+        };
+        let recording = recording_of(alloc, &[exchange])?;
+        let left = replayed(&rt, alloc, ON_4, config.as_slice(), recording.as_slice())?;
+        let verdict = judge(&left, report.as_slice(), 1);
+        assert_eq!(rt; verdict, Verdict::AsStated, "pieces of {piece}");
+    }
+    Ok(())
+}
+
+// Bodies that fill a recording to its last byte: so many equal ones, and a last one.
+const EQUAL: usize = 63;
+
+const EQUAL_BODY: usize = 1_048_557;
+
+const LAST_BODY: usize = 1_016_794;
+
+// What replaying responses with these bodies leaves on 4 threads, where the recording is as long as it may
+// be, or one byte longer.
+fn filled<R: Abort + Threads + Wait + Sync>(
+    rt: &R,
+    alloc: Global,
+    body: &[u8],
+    last: &[u8],
+) -> Result<Left, Fail> {
+    let (response, last_response) = (response_of(alloc, body)?, response_of(alloc, last)?);
+    let mut exchanges = vec![in alloc; at_once(GET, response.as_slice()); EQUAL]?;
+    exchanges.push(at_once(GET, last_response.as_slice()))?;
+    let recording = recording_of(alloc, exchanges.as_slice())?;
+    let shelf = shelf_of(alloc, b"null_transform.so", recording.as_slice())?;
+    assert_eq!(rt; recording.len() + LAST_BODY, MOST_RECORDING + last.len());
+    drop(recording);
+    Ok(left_by(rt, alloc, ON_4, shelf, wide_sink(alloc), &OpenGate::make())?)
+}
+
+// As many bytes as there may be.
+#[test]
+fn most_bytes(rt: HostRuntime) -> Result<(), Fail> {
+    let alloc = rt.alloc();
+    let body = letters(alloc, EQUAL_BODY)?;
+    let last = letters(alloc, LAST_BODY)?;
+    let left = filled(&rt, alloc, body.as_slice(), last.as_slice())?;
+    let mut all = vec![in alloc; whole(body.as_slice()); EQUAL]?;
+    all.push(whole(last.as_slice()))?;
+    let report = report_of(alloc, all.as_slice())?;
+    assert_eq!(rt;
+        judge(&left, report.as_slice(), EQUAL + 1),
+        Verdict::AsStated
+    );
+    Ok(())
+}
+
+// One byte more is refused by the length of its file.
+#[test]
+fn one_byte_too_many(rt: HostRuntime) -> Result<(), Fail> {
+    let alloc = rt.alloc();
+    let body = letters(alloc, EQUAL_BODY)?;
+    let last = letters(alloc, LAST_BODY + 1)?;
+    let left = filled(&rt, alloc, body.as_slice(), last.as_slice())?;
+    assert_eq!(rt; left.status, 9);
+    assert!(rt; left.out.written().is_empty());
+    assert_eq!(rt; left.err.written(), b"tsx: too long: r\n".as_slice());
+    Ok(())
+}

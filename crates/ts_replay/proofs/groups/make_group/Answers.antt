@@ -1,0 +1,24 @@
+use Rattle.std.proofs.Common.{◌≡◌, Some, false, true, refl, sym, ap, subst, ◌∙◌, rules}
+use Rattle.std.specs.Arc.{arc_value}
+use Rattle.ts_link.specs.MemLink.{look_of}
+use Rattle.ts_record.specs.Grammar.{TxnPieces}
+use Rattle.ts_record.specs.Links.{recorded_side}
+use Rattle.ts_txn.specs.Making.{IsMadeOf, IsMadeOfIf}
+use Rattle.ts_replay.specs.Recorded.{IsTagOf, RecordedTag}
+use Rattle.ts_replay.proofs.Rows.{fits_group}
+use Rattle.ts_replay.proofs.groups.make_group.Goals as goal
+
+pub returns-clause-fits : goal.returns-clause-fits
+returns-clause-fits c =
+    let made = c.in_ok-txn.ensures in
+    let t = c.in_ok-txn.txn in
+    let tag : RecordedTag = record { number = c.args.number; setup = c.of.result; plugins_at = 0; client = c.of-2.result; origin = c.of-3.result; sure = true; first = true; started = false } in
+    let is : IsTagOf (arc_value c.args.setup) c.args.number c.args.txn false tag = search rules in
+    let of_client = ap (λ (s : TxnPieces). s.0) c.txn.view_is in
+    let of_origin = ap (λ (s : TxnPieces). s.1) c.txn.view_is in
+    let client : c.txn.inside.client.items ≡ c.args.txn.0 = cc in
+    let origin : c.txn.inside.origin.items ≡ c.args.txn.1 = cc in
+    fits_group (arc_value c.args.setup) c.args.number c.args.txn tag t c.in_ok-group.group is made.named.0 (ap arc_value made.named.1) made.named.2
+    (subst (λ l. IsMadeOf look_of l t.core.client) (c.in_ok-client.ensures.made ∙ ap recorded_side client) made.links.0)
+    (subst (λ l. IsMadeOfIf look_of (Some l) t.core.origin) (c.in_ok-origin.ensures.made ∙ ap recorded_side origin) made.links.1)
+    made.sound c.in_ok-group.ensures.world c.in_ok-group.ensures.fresh
