@@ -1,5 +1,5 @@
 -- A report grows block by block, and the journals with it.
-use Rattle.std.proofs.Common.{◌≡◌, ℕ, zero, suc, ◌+◌, ◌<◌, ◌≤◌, List, [], ◌∷◌, ◌++◌, length, length-append, append_assoc, map, Some, refl, sym, ap, subst, ◌∙◌, arith}
+use Rattle.std.proofs.Common.{◌≡◌, ℕ, ◌+◌, List, [], ◌∷◌, ◌++◌, length, length-append, append_assoc, map, Some, refl, sym, ap, subst, ◌∙◌, arith}
 use Rattle.std.specs.Prelude.{IsSomeAnd}
 use Rattle.std.specs.List.{AllZip, concat}
 use Rattle.std.proofs.lemmas.List.{append-nil, map-append}
@@ -68,25 +68,6 @@ pub record ReportsBut (setup : Setup) (txns : List TxnPieces) (groups rest : Lis
   pub text_is : text ≡ report_begin ++ blocks_text 1 blocks
   pub journals_are : journals ≡ map journal_of gone
 
--- none was
-pub reports_none : (setup : Setup) (txns : List TxnPieces) (groups : List RecordedGroup) (text : List ℕ) (journals : List Log) → EachOf (HasRunAs setup) 1 txns groups → text ≡ report_begin → journals ≡ []
-    → ReportsBut setup txns groups groups 0 text journals
-reports_none setup txns groups text journals each is none = record {
-  done = [];
-  left = txns;
-  gone = [];
-  blocks = [];
-  txns_are = refl;
-  groups_are = refl;
-  number_is = refl;
-  blocks_are = refl;
-  each = tt;
-  to_come = each;
-  shows = tt;
-  text_is = is ∙ sym (append-nil report_begin);
-  journals_are = none;
-}
-
 -- the next one
 pub record NextOf (setup : Setup) (number : ℕ) (g : RecordedGroup) : Type 0 where
   pub txn : TxnPieces
@@ -98,15 +79,6 @@ pub next_of : (setup : Setup) (txns : List TxnPieces) (groups left rest : List R
 next_of setup txns groups left rest number text journals g before is =
     let next = first_of (HasRunAs setup) (number + 1) before.left g rest (subst (λ gs. EachOf (HasRunAs setup) (number + 1) before.left gs) is before.to_come) in
     record { txn = next.txn; ran = next.first; between = run_between setup (number + 1) next.txn g next.first }
-
--- its number is one of theirs
-pub next_counts : (setup : Setup) (txns : List TxnPieces) (groups left rest : List RecordedGroup) (number : ℕ) (text : List ℕ) (journals : List Log) (g : RecordedGroup)
-    → ReportsBut setup txns groups left number text journals → left ≡ g ∷ rest → number < length txns
-next_counts setup txns groups left rest number text journals g before is =
-    let next = first_of (HasRunAs setup) (number + 1) before.left g rest (subst (λ gs. EachOf (HasRunAs setup) (number + 1) before.left gs) is before.to_come) in
-    let all : length txns ≡ length before.done + length before.left = ap length before.txns_are ∙ length-append before.done before.left in
-    let some : length before.left ≡ length next.others + 1 = ap length next.are ∙ (let e : length (next.txn ∷ next.others) ≡ length next.others + 1 = omega arith in e) in
-    omega (arith, all, some, before.number_is)
 
 -- what is known of a group whose transaction has a block
 pub replay_of : (setup : Setup) (number : ℕ) (txn : TxnPieces) (g : RecordedGroup) (b : Block) → HasRunAs setup number txn g → end_of g.world.course ≡ Some b.end → IsReported b.end

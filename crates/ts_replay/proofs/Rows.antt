@@ -1,13 +1,13 @@
 -- Rows of groups of recorded transactions grow, and can be run.
-use Rattle.std.proofs.Common.{◌≡◌, ℕ, zero, suc, ◌+◌, ◌*◌, ◌<◌, ◌≤◌, List, [], ◌∷◌, ◌++◌, length, length-append, append_assoc, Bool, true, false, Option, Some, None, All, refl, sym, ap, subst, ◌∙◌, arith}
+use Rattle.std.proofs.Common.{◌≡◌, ℕ, zero, suc, ◌+◌, ◌<◌, List, [], ◌∷◌, ◌++◌, length, length-append, append_assoc, Bool, true, false, Some, refl, sym, ap, subst, ◌∙◌, arith}
 use mathlib.Core.Option.{some}
 use lib.ListN.{get_elem?}
 use Rattle.std.specs.Prelude.{⊤}
 use Rattle.std.specs.Arc.{arc_value}
-use Rattle.std.specs.List.{AllZip, concat}
+use Rattle.std.specs.List.{AllZip}
 use Rattle.std.specs.Bool.{OnTrue}
-use Rattle.std.proofs.lemmas.List.{append-nil}
-use Rattle.std.proofs.lemmas.List.Elements.{All-nil, All-push}
+use Rattle.std.proofs.lemmas.Slice.Zip.{AllZip-long}
+use Rattle.std.proofs.lemmas.List.Elements.{All-push}
 use Rattle.ts_config.specs.Bodies.{whole_of}
 use Rattle.ts_config.specs.declared.setup.Setup.{Setup}
 use Rattle.ts_group.specs.declared.action.Named.{Named}
@@ -19,23 +19,17 @@ use Rattle.ts_link.specs.MemLink.{LinkState, look_of}
 use Rattle.ts_record.specs.Grammar.{TxnPieces}
 use Rattle.ts_record.specs.Links.{recorded_side}
 use Rattle.ts_record.proofs.Links.{never_fails}
-use Rattle.ts_replay.specs.Recorded.{AreTagsOf, FitInRow, FitsIn, FitsTag, HasLinesOnly, IsSound, IsTagOf, Recorded, RecordedGroup, RecordedTag, is_asked_only, is_first}
+use Rattle.ts_replay.specs.Recorded.{AreTagsOf, FitsIn, FitsTag, IsSound, IsTagOf, Recorded, RecordedGroup, RecordedTag, is_asked_only}
 use Rattle.ts_replay.specs.Rows.{IsRowOf}
 use Rattle.ts_stock.specs.Stock.{still_writes}
 use Rattle.ts_thread.specs.Started.{CanStart}
 use Rattle.ts_thread.specs.Tags.{CanAsk}
 use Rattle.ts_thread.specs.Threads.{HasHadTurns}
-use Rattle.ts_txn.specs.Making.{HasFewLines, IsMadeOf, IsMadeOfIf}
+use Rattle.ts_txn.specs.Making.{IsMadeOf, IsMadeOfIf}
 use Rattle.ts_txn.specs.World.{IsSoundTxn}
 use Rattle.ts_txn.proofs.Fitting.{fits_made}
 
 -- ---- a group as it is made
-
--- a setup of few lines
-pub few_of : (setup : Setup) → HasLinesOnly setup → HasFewLines setup 0
-few_of setup h =
-    let none : length setup.plugins.items ≡ 0 = ap length h.no_plugins in
-    record { transforms = h.few; plugins = omega (arith, none); groups = omega (arith, none) }
 
 sure_side : (pieces : List (List ℕ)) (made : LinkState) → made ≡ recorded_side pieces → IsSure (look_of made)
 sure_side pieces made is = let never = never_fails pieces made is in record {
@@ -109,21 +103,6 @@ pub record RowBut (setup : Setup) (txns rest : List TxnPieces) (number : ℕ) (t
   pub number_is : number ≡ length done
   pub row : IsRowOf setup done tags groups
 
--- none has
-pub row_none : (setup : Setup) (txns : List TxnPieces) (tags : List RecordedTag) (groups : List RecordedGroup) → HasLinesOnly setup → tags ≡ [] → groups ≡ [] → RowBut setup txns txns 0 tags groups
-row_none setup txns tags groups lines untagged none = record {
-  done = [];
-  split = refl;
-  number_is = refl;
-  row = subst (λ ts. IsRowOf setup [] ts groups) (sym untagged) (subst (λ gs. IsRowOf setup [] [] gs) (sym none) (record {
-    lines = lines;
-    tags_are = tt;
-    fit = tt;
-    new = All-nil (HasHadTurns 0);
-    count = refl;
-  }));
-}
-
 -- one more has
 pub row_more : (setup : Setup) (txns left rest : List TxnPieces) (txn : TxnPieces) (number next : ℕ) (tags us : List RecordedTag) (groups hs : List RecordedGroup) (tag : RecordedTag) (group : RecordedGroup)
     → RowBut setup txns left number tags groups → left ≡ txn ∷ rest → next ≡ number + 1 → us ≡ tags ++ tag ∷ [] → hs ≡ groups ++ group ∷ []
@@ -144,18 +123,6 @@ row_more setup txns left rest txn number next tags us groups hs tag group but is
       }));
     }
 
--- all have
-pub row_all : (setup : Setup) (txns : List TxnPieces) (number : ℕ) (tags : List RecordedTag) (groups : List RecordedGroup) → RowBut setup txns [] number tags groups → IsRowOf setup txns tags groups
-row_all setup txns number tags groups but = subst (λ ts. IsRowOf setup ts tags groups) (sym (append-nil but.done) ∙ sym but.split) but.row
-
--- so many have, and more are left
-pub row_counts : (setup : Setup) (txns left rest : List TxnPieces) (txn : TxnPieces) (number : ℕ) (tags : List RecordedTag) (groups : List RecordedGroup) → RowBut setup txns left number tags groups → left ≡ txn ∷ rest
-    → number < length txns
-row_counts setup txns left rest txn number tags groups but is =
-    let all : length txns ≡ length but.done + length left = ap length but.split ∙ length-append but.done left in
-    let some : length left ≡ length rest + 1 = ap length is ∙ (let e : length (txn ∷ rest) ≡ length rest + 1 = omega arith in e) in
-    omega (arith, all, some, but.number_is)
-
 -- ---- a row can be run
 
 tag_at : (tags : List RecordedTag) (k : ℕ) → k < length tags → (t : RecordedTag) × (get_elem? tags k ≡ some t) × (is_asked_only t ≡ false)
@@ -163,15 +130,9 @@ tag_at [] k low = absurd (omega arith)
 tag_at (t ∷ tags) zero low = (t, refl, refl)
 tag_at (t ∷ tags) (suc k) low = tag_at tags k (omega arith)
 
-zip_long : {A B : Type 0} (R : A → B → Type 0) (xs : List A) (ys : List B) → AllZip R xs ys → length ys ≡ length xs
-zip_long R [] [] all = refl
-zip_long R [] (y ∷ ys) all = absurd all
-zip_long R (x ∷ xs) [] all = absurd all
-zip_long R (x ∷ xs) (y ∷ ys) all = let e = zip_long R xs ys all.1 in omega arith
-
 pub row_starts : (setup : Setup) (txns : List TxnPieces) (tags : List RecordedTag) (groups : List RecordedGroup) (starts : ℕ) → IsRowOf setup txns tags groups → starts ≡ length groups
     → CanStart is_asked_only tags starts
-row_starts setup txns tags groups starts row all k low = tag_at tags k (omega (arith, zip_long FitsIn tags groups row.fit, all, low))
+row_starts setup txns tags groups starts row all k low = tag_at tags k (omega (arith, AllZip-long FitsIn tags groups row.fit, all, low))
 
 -- nobody asks anybody
 pub row_asks : {Q R : Type 0} (tags : List RecordedTag) → CanAsk {Q = Q} {R = R} FitsTag is_asked_only (λ t k. ⊥) (λ t k q r. ⊤) (λ t q r. ⊤) tags

@@ -1,5 +1,5 @@
 -- A recorded transaction tells what it has left to do.
-use Rattle.std.proofs.Common.{◌≡◌, ℕ, List, Option, Some, None, true, refl}
+use Rattle.std.proofs.Common.{ℕ, List, Option, Some, None, true, refl}
 use Rattle.std.specs.Prelude.{IsSome}
 use Rattle.std.specs.Arc.{arc_value}
 use Rattle.ts_config.specs.declared.setup.Setup.{Setup}

@@ -1,5 +1,5 @@
 -- The row of groups in which recorded transactions run, before the first turn.
-use Rattle.std.specs.Prelude.{◌≡◌, ℕ, List, All, length}
+use Rattle.std.specs.Prelude.{◌≡◌, List, All, length}
 use Rattle.ts_config.specs.declared.setup.Setup.{Setup}
 use Rattle.ts_record.specs.Grammar.{TxnPieces}
 use Rattle.ts_replay.specs.Recorded.{AreTagsOf, FitInRow, HasLinesOnly, RecordedGroup, RecordedTag}

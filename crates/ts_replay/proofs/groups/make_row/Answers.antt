@@ -1,4 +1,4 @@
-use Rattle.std.proofs.Common.{◌≡◌, ◌+◌, false, refl, subst}
+use Rattle.std.proofs.Common.{◌+◌, false, refl, subst}
 use Rattle.std.specs.Arc.{arc_value}
 use Rattle.ts_replay.specs.Recorded.{IsTagOf}
 use Rattle.ts_replay.proofs.Rows.{row_more}
