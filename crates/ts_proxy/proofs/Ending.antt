@@ -1,20 +1,19 @@
 -- From what a task came to, to the status of the program.
-use Rattle.std.specs.Prelude.{⊤, IsSomeAnd}
-use Rattle.std.proofs.Common.{◌∷◌, ◌≡◌, ℕ, nat_le, Bool, true, false, List, [], length, Option, Some, None, inl, inr, ◌⊎◌, refl, sym, subst, ◌∙◌, arith, if◌then◌else◌}
+use Rattle.std.specs.Prelude.{⊤}
+use Rattle.std.proofs.Common.{◌∷◌, ◌≡◌, ℕ, nat_le, Bool, true, false, List, [], length, Option, Some, None, inl, inr, refl, sym, subst, arith, if◌then◌else◌}
 use Rattle.std.proofs.lemmas.List.{append-nil}
 use Rattle.ts_proxy.specs.declared.answer.Answer.{Answer}
 use Rattle.ts_proxy.specs.declared.answer.Answer.TheVariants as a
 use Rattle.ts_config.specs.declared.setup.TransformLine.{TransformLine}
 use Rattle.ts_config.specs.declared.setup.TransformLine.TheVariants as t
 use Rattle.ts_config.specs.Value.{Reading, Good, Bad, config_of}
-use Rattle.ts_link.specs.Counts.{Rose}
 use Rattle.ts_link.specs.Seen.{ShelfSeen, SinkSeen}
 use Rattle.ts_journal.specs.Log.{Log}
 use Rattle.ts_proxy.specs.Took.{TookNothing}
-use Rattle.ts_proxy.specs.Words.{Command, Transform, Replay, Task, config_name, input_name}
+use Rattle.ts_proxy.specs.Words.{Command, Transform, Replay, Task}
 use Rattle.ts_proxy.specs.Outcome.{Outcome, Usage, BadLine, Missing, Long, Text, Report, most_config, most_append, most_input, opened, understood, line_filled, filled, outcome_of, performed, worked}
 use Rattle.ts_proxy.specs.Answers.{HasText, RefusesRecording, IsCausedBy, ComesAt, OnQuiet, TookAt}
-use Rattle.ts_proxy.specs.Performed.{AreJournalsAt, AreJournalsOf, IsPerformed, LeavesJournals, LeavesJournalsAt}
+use Rattle.ts_proxy.specs.Performed.{IsPerformed, LeavesJournals, LeavesJournalsAt}
 use Rattle.ts_proxy.specs.Ends.{IsQuiet, IsStatus, IsStatusOf, JournalsAt, usage, done, bad_line, bad_recording, cannot_read, cannot_write, out_of_memory, too_long, status_of, Completes, EndsAt, HasCause, TakesAt}
 use Rattle.ts_proxy.specs.Lines.{IsAnswerOf, SaysLine, LineTold, line_of}
 

@@ -1,5 +1,4 @@
 -- From the parts of a task's work to what the task came to.
-use Rattle.std.specs.Prelude.{⊤, Err}
 use Rattle.std.proofs.Common.{◌≡◌, ℕ, ◌+◌, Bool, true, List, [], ◌∷◌, All, map, Some, inl, inr, refl, sym, subst}
 use Rattle.std.proofs.lemmas.List.{append-nil}
 use Rattle.std.proofs.lemmas.List.Elements.{All-nil, All-cons}
@@ -12,8 +11,8 @@ use Rattle.ts_link.specs.Seen.{ShelfSeen, SinkSeen}
 use Rattle.ts_proxy.specs.declared.answer.Answer.{Answer}
 use Rattle.ts_proxy.specs.declared.answer.Answer.TheVariants as a
 use Rattle.ts_proxy.specs.declared.answer.NamedFile.{NamedFile}
-use Rattle.ts_proxy.specs.Answers.{ComesAt, HasText, IsCausedBy, IsOfReading, IsOfRunning, IsOfWork, IsReadBy, IsTextOf, OnCannotRead, OnQuiet, TookAt}
-use Rattle.ts_proxy.specs.Outcome.{Outcome, Text, Report, outcome_of, performed, worked}
+use Rattle.ts_proxy.specs.Answers.{ComesAt, IsCausedBy, IsOfReading, IsOfRunning, IsOfWork, IsReadBy, OnCannotRead, OnQuiet, TookAt}
+use Rattle.ts_proxy.specs.Outcome.{Outcome, outcome_of, performed, worked}
 use Rattle.ts_proxy.specs.Performed.{AreJournalsOf, IsPerformed, IsReplayOn, IsWorked, LeavesJournals, LeavesJournalsAt}
 use Rattle.ts_proxy.specs.Took.{TookAll, TookFront, TookNothing}
 use Rattle.ts_proxy.specs.Words.{Command, Transform, Replay, Task}

@@ -1,15 +1,13 @@
 -- A number of threads, as a word.
-use Rattle.std.proofs.Common.{◌≡◌, ◌≢◌, ◌≤◌, ◌<◌, ◌^◌, ℕ, ◌+◌, ◌*◌, Bool, true, false, List, [], ◌∷◌, length, get_or, Option, Some, None, Result, Ok, Err, arith, refl, sym, ap, subst, ◌∙◌, le-leb}
+use Rattle.std.proofs.Common.{◌≡◌, ◌≢◌, ◌≤◌, ◌<◌, ◌^◌, ℕ, ◌+◌, ◌*◌, Bool, true, false, List, [], ◌∷◌, length, get_or, Some, None, Result, Ok, Err, arith, refl, sym, ap, subst, ◌∙◌, le-leb}
 use Rattle.std.specs.Char.{digit_value, is_ascii_digit}
 use Rattle.std.specs.Int.{IsInRange}
 use Rattle.std.specs.Option.{option_and_then}
 use Rattle.std.specs.Prelude.{nat_le, if◌then◌else◌}
-use Rattle.std.specs.Result.{OkIff}
 use Rattle.std.specs.Str.{all_ascii_digits}
-use Rattle.std.specs.Str.Parse.{ParsesUnsigned, digits_value, digits_value_after}
+use Rattle.std.specs.Str.Parse.{ParsesUnsigned, digits_value}
 use Rattle.std.proofs.lemmas.Str.{digit_value_digit}
 use Rattle.std.proofs.lemmas.Str.Parse.{IsNumeralModel, numerals_by_value, tells_all_ascii_digits, parse_plain}
-use Rattle.std.proofs.lemmas.Grind.{common_steps}
 use Rattle.std.proofs.lemmas.Bool.Decides.{nat_tests}
 use Rattle.ts_config.proofs.Digits.{a_number, no_number, too_large, value_grows}
 use Rattle.ts_config.specs.Numerals.{has_no_leading_zero, number_of}
@@ -61,9 +59,9 @@ threads-read {E} word r n leads parsed is few =
     let fits : digits_value 10 word ≤ MOST_THREADS = omega (arith, read.1, few) in
     let number : number_of MOST_THREADS word ≡ Some (digits_value 10 word) = a_number MOST_THREADS word (no-zero word leads) read.0.0 fits in
     sym (
-      ap (option_and_then (λ m. if nat_le 1 m then Some m else None)) number
-      ∙ ap (λ t. if t then Some (digits_value 10 word) else None) (le-leb 1 (digits_value 10 word) (some-threads word leads))
-      ∙ ap Some (sym read.1)
+    ap (option_and_then (λ m. if nat_le 1 m then Some m else None)) number
+    ∙ ap (λ t. if t then Some (digits_value 10 word) else None) (le-leb 1 (digits_value 10 word) (some-threads word leads))
+    ∙ ap Some (sym read.1)
     )
 
 -- what was read is one or more

@@ -1,10 +1,9 @@
 -- The words of a command.
-use Rattle.std.proofs.Common.{◌≡◌, ◌≢◌, ◌≤◌, ◌<◌, ℕ, Bool, true, false, List, [], ◌∷◌, length, get_or, map, Option, Some, None, arith, refl, sym, ap, subst, ◌∙◌, codes, if◌then◌else◌}
+use Rattle.std.proofs.Common.{◌≡◌, ◌≤◌, ◌<◌, ℕ, true, false, List, [], ◌∷◌, length, get_or, map, Some, None, arith, refl, sym, ap, subst, ◌∙◌, codes, if◌then◌else◌}
 use Rattle.std.specs.Option.{option_map}
 use Rattle.std.specs.Str.{bytes_eq}
 use Rattle.std.specs.declared.string.String.{String}
-use Rattle.std.proofs.lemmas.Slice.Eq.{bytes_eq-Decides}
-use Rattle.ts_proxy.specs.Words.{Command, Transform, Replay, Task, asked, begins_transform, command_named, task_at, task_of, threads_asked}
+use Rattle.ts_proxy.specs.Words.{Transform, Replay, asked, begins_transform, task_at, task_of, threads_asked}
 
 -- a list of three
 pub map-three : {X Y : Type 0} (f : X → Y) (xs : List X) (a b c : X) (u v w : Y) → 3 ≤ length xs → length xs < 4

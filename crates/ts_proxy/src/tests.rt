@@ -59,7 +59,15 @@ fn left_by<R: Threads + Wait + Sync>(
     let mut err = MemSink::make(alloc, 7, vec![in alloc; sinks.untold]?);
     let said = strings(alloc, words)?;
     let gate = OpenGate::make();
-    let ended = run(rt, alloc, said.as_slice(), &mut shelf, &mut out, &mut err, &gate);
+    let ended = run(
+        rt,
+        alloc,
+        said.as_slice(),
+        &mut shelf,
+        &mut out,
+        &mut err,
+        &gate,
+    );
     let mut turns = Vec::new(alloc);
     for journal in ended.journals.as_slice() {
         if !journal.is_held() && journal.pending().is_empty() {
@@ -107,7 +115,11 @@ fn ends<R: Abort + AllocGlobal + Threads + Wait + Sync>(
 }
 
 // The line of a configuration that is refused, before a body is looked for.
-fn refuses<R: Abort + AllocGlobal + Threads + Wait + Sync>(rt: &R, config: &[u8], line: &[u8]) -> Result<(), Fail> {
+fn refuses<R: Abort + AllocGlobal + Threads + Wait + Sync>(
+    rt: &R,
+    config: &[u8],
+    line: &[u8],
+) -> Result<(), Fail> {
     let alloc = rt.alloc();
     let mut shelf = MemShelf::make(alloc);
     shelf.add("c", config)?;

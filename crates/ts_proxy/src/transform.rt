@@ -44,7 +44,12 @@ fn world_of(
 }
 
 // Writes a body through the lines, the first of which acts first.
-fn send_body<K: Sink>(alloc: Global, lines: &[TransformLine], body: Octets, out: &mut K) -> Performed
+fn send_body<K: Sink>(
+    alloc: Global,
+    lines: &[TransformLine],
+    body: Octets,
+    out: &mut K,
+) -> Performed
     ensures { IsWorked Transform lines.now body K.tells (K.seen out.old) (K.seen out.new)
         result.answer result.journals.items }
 {

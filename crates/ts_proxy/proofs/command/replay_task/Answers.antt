@@ -5,7 +5,7 @@ use Rattle.ts_proxy.proofs.command.replay_task.Goals.{in_default-via-then-words-
 
 pub returns-in_default-clause-task : goal.returns-in_default-clause-task
 returns-in_default-clause-task c = elim c.in_default.branch [
-    in_default-via-then-words-lt3 w ↦ search (rules, none_other)
+  | in_default-via-then-words-lt3 w ↦ search (rules, none_other)
   | in_default-via-else-words-lt3+else-words-lt4+then-words-lt5 w ↦ search (rules, none_other)
   | in_default-via-else-words-lt3+else-words-lt4+else-words-lt5+else-words-lt6 w ↦ search (rules, none_other)
-  ]
+]

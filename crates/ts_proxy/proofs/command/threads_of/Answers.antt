@@ -1,6 +1,4 @@
-use Rattle.std.proofs.Common.{arith, ap, sym, subst, ◌∙◌, ◌≡◌, length, get_or, true}
-use Rattle.std.specs.Char.{is_ascii_digit}
-use Rattle.ts_proxy.proofs.Threads.{Leads, leads, threads-read, threads-some, threads-unread}
+use Rattle.ts_proxy.proofs.Threads.{leads, threads-read, threads-some, threads-unread}
 use Rattle.ts_proxy.proofs.command.threads_of.Goals as goal
 
 pub returns-in-Ok-clause-number : goal.returns-in-Ok-clause-number

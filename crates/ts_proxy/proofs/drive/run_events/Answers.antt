@@ -1,4 +1,4 @@
-use Rattle.std.proofs.Common.{[], rules, ap, ◌∙◌}
+use Rattle.std.proofs.Common.{rules, ap, ◌∙◌}
 use Rattle.ts_proxy.specs.Driven.{to_come}
 use Rattle.ts_proxy.proofs.Staying.{drained, passes_then}
 use Rattle.ts_proxy.proofs.Serial.{serial_trans}

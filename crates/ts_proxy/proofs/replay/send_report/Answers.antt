@@ -1,4 +1,4 @@
-use Rattle.std.proofs.Common.{◌≡◌, List, ℕ, ap, sym, subst}
+use Rattle.std.proofs.Common.{subst}
 use Rattle.ts_proxy.specs.Took.{TookAll, TookFront}
 use Rattle.ts_proxy.proofs.Performing.{worked-lacking, worked-unwritten, worked-written}
 use Rattle.ts_proxy.proofs.replay.send_report.Goals as goal

@@ -1,5 +1,5 @@
 use Rattle.std.proofs.Common.{◌++◌, ◌∷◌, [], ap, subst, ◌∙◌}
-use Rattle.ts_proxy.specs.Took.{TookAll, TookFront, TookNothing}
+use Rattle.ts_proxy.specs.Took.{TookAll, TookFront}
 use Rattle.ts_proxy.proofs.Performing.{front-none, worked-driven, worked-stopped, worked-undriven}
 use Rattle.ts_proxy.proofs.transform.send_body.Goals as goal
 
