@@ -11,8 +11,8 @@ use Rattle.ts_thread.specs.Threads.{turns_of}
 
 -- what is not empty has one at least
 pub some_of : (b : Bool) (len count : ℕ) → b ≡ (len == 0) → b ≡ false → len ≡ count → 0 < count
-some_of b len zero is no same = let none : b ≡ (0 == 0) = subst (λ k. b ≡ (k == 0)) same is in absurd (cc)
-some_of b len (suc count) is no same = omega arith
+some_of b len zero is empty same = let none : b ≡ (0 == 0) = subst (λ k. b ≡ (k == 0)) same is in absurd (cc)
+some_of b len (suc count) is empty same = omega arith
 
 pub turns_few : (starts threads : ℕ) → starts ≤ MOST_TXNS → threads ≤ MOST_THREADS → turns_of starts threads BUDGET ≤ MOST_ALONE
 turns_few starts threads few most =

@@ -1,6 +1,6 @@
 -- A transaction that was started in the first turn of a fresh group fits the tag that says so.
 use Rattle.std.proofs.Common.{◌≡◌, ℕ, ◌+◌, ◌*◌, ◌≤◌, List, Bool, true, false, arith, refl, sym, ap, subst, ◌∙◌}
-use Rattle.std.specs.Arc.{arc_value}
+use Rattle.std.specs.Bool.{OnTrue}
 use Rattle.ts_config.specs.declared.setup.TransformLine.{TransformLine}
 use Rattle.ts_group.specs.declared.group.Group.{Group}
 use Rattle.ts_group.specs.declared.world.TheConstants.{MOST_SET}
@@ -20,6 +20,10 @@ use Rattle.ts_txn.specs.declared.txn.TxnTag.{TxnTag}
 use Rattle.ts_txn.proofs.Fitting.{fits_begun, fits_made}
 use Rattle.ts_txn_tests.specs.Begun.{HasBegunAs, IsSoundIn}
 use Rattle.ts_txn_tests.specs.declared.exchange.TheConstants.{FIRST_TURN, NUMBER}
+
+on_true : (b : Bool) (P : Type 0) → P → OnTrue b P
+on_true true P holds = holds
+on_true false P holds = tt
 
 few_set : (first begun started given turns : ℕ) → first ≡ 1 → begun ≡ first → started ≤ begun + MOST_SET → given ≡ started → turns ≡ FIRST_TURN → given ≤ 8192 * turns + 1
 few_set first begun started given turns a b c d e = omega (arith, a, b, c, d, e)
@@ -57,7 +61,7 @@ module _ {C O Q A R U : Type 0} (ct ot : Bool) (client : C → Look) (origin : O
           subst (IsTxnOf client origin tag) (sym left) (subst (λ b. IsTxnOf client origin (record tag { started = b }) started.world) (sym says) then),
           sound,
           at_rest (IsTxnOf client origin) fresh begun started given new begins grows turn gives (record tag { started = false }) fits few,
-          either tag.first (no_turns_before (IsTxnOf client origin) fresh begun started given new begins grows turn gives),
+          on_true tag.first (given.cx.log.base.turns ≡ 0) (no_turns_before (IsTxnOf client origin) fresh begun started given new begins grows turn gives),
         );
         started = says;
         turns = first_turn (IsTxnOf client origin) fresh begun started given new begins grows turn gives;

@@ -3,8 +3,8 @@ use Rattle.ts_proxy.specs.Took.{TookAll, TookFront, TookNothing}
 use Rattle.ts_proxy.proofs.Performing.{front-none, worked-driven, worked-stopped, worked-undriven}
 use Rattle.ts_proxy.proofs.transform.send_body.Goals as goal
 
-pub returns-in-Err : goal.returns-in-Err
-returns-in-Err g c =
+pub returns-in_default : goal.returns-in_default
+returns-in_default g c =
     rw c.without.ensures.answer
     (worked-stopped c.args.lines.now c.args.body g.K.Sink.tells _ _ _ (λ tells. front-none _ _) c.without.ensures.none)
 

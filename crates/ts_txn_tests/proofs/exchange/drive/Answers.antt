@@ -1,7 +1,7 @@
 -- The one group fits its tag and tells its number, and has ended then.
 use Rattle.std.specs.Prelude.{◌∷◌, [], ◌++◌}
 use Rattle.std.proofs.Common.{ap, ◌∙◌}
-use Rattle.ts_txn_tests.proofs.ByFinish.{can_ask, group_fits, group_tells}
+use Rattle.ts_txn_tests.proofs.ByFinish.{can_ask, group_fits, group_tells, last_ended}
 use Rattle.ts_txn_tests.proofs.exchange.drive.Goals as goal
 
 pub finish-requires-clause-fits : goal.finish-requires-clause-fits
@@ -11,3 +11,9 @@ finish-requires-clause-fits c = (c.args.tag ∷ [], can_ask (c.args.tag ∷ []),
 pub finish-requires-clause-tells : goal.finish-requires-clause-tells
 finish-requires-clause-tells c = group_tells c.args.tag c.args.group c.push.new.self.items
     (c.in_ok-push.ensures.items ∙ ap (λ xs. xs ++ (c.args.group ∷ [])) c.new-groups.ensures.items)
+
+pub returns : goal.returns
+returns c = record {
+  ended = last_ended c.args.tag c.args.group c.in-Some.group c.push.new.self.items c.finish.new.groups.items c.pop.new.self.items c.finish.result c.in_ok-finish.was
+      (c.in_ok-push.ensures.items ∙ ap (λ xs. xs ++ (c.args.group ∷ [])) c.new-groups.ensures.items) c.requires.begun c.finish.ensures.finishes c.in-Some.ensures.items;
+}
