@@ -86,6 +86,12 @@ module _ {W Q R T U : Type 0} (Fits : T → W → Type 0) (Sound : W → State �
     pub toys_start : (n : ℕ) (ts : List T) (gs : List (Group W Q R T U)) → ((t : T) → Tagged t → oa t ≡ false) → AreToys Fits Sound oa isf Tagged n ts gs → CanStart oa ts n
     toys_start n ts gs works are k low = tag_at oa Tagged ts k works are.tagged (let e = fit_count (λ u h. GroupFits Fits Sound oa isf u h) ts gs are.fits in let m = are.count_is in omega arith)
 
+    -- each toy has a tag
+    pub toys_tags : (n : ℕ) (ts : List T) (gs : List (Group W Q R T U)) → AreToys Fits Sound oa isf Tagged n ts gs → length ts ≡ n
+    toys_tags n ts gs are =
+        let e = fit_count (λ u h. GroupFits Fits Sound oa isf u h) ts gs are.fits in
+        let m = are.count_is in omega arith
+
     -- as many groups as toys were made fit the same tags
     pub toys_count : (n : ℕ) (ts : List T) (gs hs : List (Group W Q R T U)) → AreToys Fits Sound oa isf Tagged n ts gs → GroupsFit Fits Sound oa isf ts hs → length hs ≡ n
     toys_count n ts gs hs are fits =

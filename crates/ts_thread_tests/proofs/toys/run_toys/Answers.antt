@@ -1,13 +1,15 @@
 -- The laws of a bound hold wherever a thread may run; `toy` says them where this function runs.
-use Rattle.std.proofs.Common.{◌≡◌, ◌≤◌, ◌*◌, All, length, arith}
+use Rattle.std.proofs.Common.{◌≡◌, ◌≤◌, ◌*◌, ◌+◌, ◌<◌, All, length, sym, subst, arith}
 use Rattle.std.proofs.lemmas.Result.{IfOk-weaker}
 use Rattle.std.proofs.lemmas.Nat.{mul-le}
-use Rattle.ts_thread.specs.declared.TheConstants.{MOST_THREADS}
+use Rattle.ts_group.specs.declared.slot.TheConstants.{MOST_IN_TURN}
+use Rattle.ts_group_tests.specs.declared.toy.TheConstants.{MOST_WORK}
+use Rattle.ts_thread.specs.declared.TheConstants.{MOST_ALONE, MOST_THREADS}
 use Rattle.ts_thread.specs.Threads.{turns_of}
 use Rattle.ts_thread_tests.specs.declared.row.TheConstants.{BUDGET}
 use Rattle.ts_thread_tests.specs.declared.toys.TheConstants.{TOYS}
 use Rattle.ts_thread_tests.specs.ToyRows.{HasEnded}
-use Rattle.ts_thread_tests.proofs.ToyRows.{toys_start, toys_can_ask, toys_tell, toys_end, toys_count, all_ended}
+use Rattle.ts_thread_tests.proofs.ToyRows.{toys_start, toys_can_ask, toys_tell, toys_end, toys_tags, toys_count, all_ended}
 use Rattle.ts_thread_tests.proofs.Ends.{only_memory}
 use Rattle.ts_thread_tests.proofs.toys.run_toys.Goals as goal
 
@@ -53,5 +55,9 @@ pub returns-clause-lacks : goal.returns-clause-lacks
 returns-clause-lacks g c =
     let toy = g.met.W.Toy g.world.𝓛 g.world.𝓜 g.world.𝓡 ((λ s x. x), (λ x. x), (λ x. x), λ x. x) in
     let times : c.args.threads * (2 * BUDGET) ≤ MOST_THREADS * (2 * BUDGET) = mul-le c.args.threads (2 * BUDGET) MOST_THREADS (2 * BUDGET) c.requires.threads.1 (omega arith) in
+    let turns = turns_of TOYS c.args.threads BUDGET in
+    let tags = toys_tags g.W.Slotted.fits g.W.World.sound g.W.World.only_asked g.W.World.is_first (g.W.Toy.tagged c.args.todo) TOYS c.in_ok-groups.groups.tags.items _ c.in_ok-groups.ensures in
+    let low : turns + TOYS * (MOST_IN_TURN * turns + 1 + MOST_WORK) + 1 < MOST_ALONE = omega arith in
     only_memory c.run_whole.result (c.run_whole.ensures.spares
-    (toys_end g.W.Slotted.fits g.W.World.sound g.W.World.only_asked g.W.World.is_first g.W.World.left toy.little (turns_of TOYS c.args.threads BUDGET) _ ?))
+    (toys_end g.W.Slotted.fits g.W.World.sound g.W.World.only_asked g.W.World.is_first g.W.World.left toy.little turns c.in_ok-groups.groups.tags.items
+    (subst (λ n. turns + n * (MOST_IN_TURN * turns + 1 + MOST_WORK) + 1 < MOST_ALONE) (sym tags) low)))
