@@ -86,6 +86,12 @@ module _ {W Q R T U : Type 0} (Fits : T → W → Type 0) (Sound : W → State �
     pub toys_start : (n : ℕ) (ts : List T) (gs : List (Group W Q R T U)) → ((t : T) → Tagged t → oa t ≡ false) → AreToys Fits Sound oa isf Tagged n ts gs → CanStart oa ts n
     toys_start n ts gs works are k low = tag_at oa Tagged ts k works are.tagged (let e = fit_count (λ u h. GroupFits Fits Sound oa isf u h) ts gs are.fits in let m = are.count_is in omega arith)
 
+    -- each toy has a tag
+    toys_tags : (n : ℕ) (ts : List T) (gs : List (Group W Q R T U)) → AreToys Fits Sound oa isf Tagged n ts gs → length ts ≡ n
+    toys_tags n ts gs are =
+        let e = fit_count (λ u h. GroupFits Fits Sound oa isf u h) ts gs are.fits in
+        let m = are.count_is in omega arith
+
     -- as many groups as toys were made fit the same tags
     pub toys_count : (n : ℕ) (ts : List T) (gs hs : List (Group W Q R T U)) → AreToys Fits Sound oa isf Tagged n ts gs → GroupsFit Fits Sound oa isf ts hs → length hs ≡ n
     toys_count n ts gs hs are fits =
@@ -108,11 +114,11 @@ module _ {W Q R T U : Type 0} (Fits : T → W → Type 0) (Sound : W → State �
 
   module _ (Left : W → State → Option ℕ) (little : (t : T) (w : W) (s : State) (roles : List Named) → Fits t w → Sound w s roles → IsSome (Left w s) × (unwrap_or (Left w s) 0 ≤ MOST_WORK + s.next)) where
     -- worlds that tell little tell it
-    pub toys_tell : (ts : List T) → EachTells Q R U Fits Sound oa isf Left ts
+    toys_tell : (ts : List T) → EachTells Q R U Fits Sound oa isf Left ts
     toys_tell ts = all_of (λ t. (g : Group W Q R T U) → GroupFits Fits Sound oa isf t g → IsSome (Left g.world g.cx.log.state)) ts (λ t g fit. (little t g.world g.cx.log.state g.cx.roles fit.0 fit.1).0)
 
     -- and end soon
-    pub toys_end : (turns : ℕ) (ts : List T) → turns + length ts * (MOST_IN_TURN * turns + 1 + MOST_WORK) + 1 < MOST_ALONE → EndSoon Q R U Fits Sound oa isf Left MOST_ALONE turns ts
+    toys_end : (turns : ℕ) (ts : List T) → turns + length ts * (MOST_IN_TURN * turns + 1 + MOST_WORK) + 1 < MOST_ALONE → EndSoon Q R U Fits Sound oa isf Left MOST_ALONE turns ts
     toys_end turns ts low = record {
       most = MOST_IN_TURN * turns + 1 + MOST_WORK;
       each = all_of (λ t. (g : Group W Q R T U) → GroupFits Fits Sound oa isf t g → HasHadTurns turns g → unwrap_or (Left g.world g.cx.log.state) 0 ≤ MOST_IN_TURN * turns + 1 + MOST_WORK) ts
@@ -123,6 +129,15 @@ module _ {W Q R T U : Type 0} (Fits : T → W → Type 0) (Sound : W → State �
           omega arith);
       enough = low;
     }
+
+    -- a row of toys tells it
+    pub row_tells : (Tagged : T → Type 0) (n : ℕ) (ts : List T) (gs : List (Group W Q R T U)) → AreToys Fits Sound oa isf Tagged n ts gs → EachTells Q R U Fits Sound oa isf Left ts
+    row_tells Tagged n ts gs are = toys_tell ts
+
+    -- and ends soon, where so many toys do
+    pub row_ends : (Tagged : T → Type 0) (turns n : ℕ) (ts : List T) (gs : List (Group W Q R T U)) → AreToys Fits Sound oa isf Tagged n ts gs → turns + n * (MOST_IN_TURN * turns + 1 + MOST_WORK) + 1 < MOST_ALONE
+        → EndSoon Q R U Fits Sound oa isf Left MOST_ALONE turns ts
+    row_ends Tagged turns n ts gs are low = toys_end turns ts (subst (λ (m : ℕ). turns + m * (MOST_IN_TURN * turns + 1 + MOST_WORK) + 1 < MOST_ALONE) (sym (toys_tags Tagged n ts gs are)) low)
 
 -- worlds that ask nobody can ask whom they may
 pub toys_can_ask : {W Q R T : Type 0} (Fits : T → W → Type 0) (oa : T → Bool) (MayAsk : W → ℕ → Type 0) (Right : W → ℕ → Q → R → Type 0) (Answers : W → Q → R → Type 0) (ts : List T) → ((w : W) (k : ℕ) → MayAsk w k → ⊥)
