@@ -19,7 +19,7 @@ use Rattle.ts_txn.specs.declared.txn.Txn.{Txn}
 use Rattle.ts_txn.specs.declared.txn.TxnTag.{TxnTag}
 use Rattle.ts_txn.proofs.Fitting.{fits_begun, fits_made}
 use Rattle.ts_txn_tests.specs.Begun.{HasBegunAs, IsSoundIn}
-use Rattle.ts_txn_tests.specs.declared.exchange.TheConstants.{FIRST_TURN, NUMBER}
+use Rattle.ts_txn_tests.specs.declared.exchange.TheConstants.{FIRST_TURN}
 
 on_true : (b : Bool) (P : Type 0) → P → OnTrue b P
 on_true true P holds = holds
@@ -42,7 +42,7 @@ module _ {W Q R T U : Type 0} (Fits : T → W → Type 0) (fresh begun started g
   at_rest t fits few = (
     ap (λ (s : State). s.held) gives.state,
     few_set fresh.cx.log.state.next begun.cx.log.state.next started.cx.log.state.next given.cx.log.state.next given.cx.log.state.turns
-    (ap (λ (s : State). s.next) new.state) (ap (λ (s : State). s.next) begins.state) (few t fits) (ap (λ (s : State). s.next) gives.state) first_turn,
+        (ap (λ (s : State). s.next) new.state) (ap (λ (s : State). s.next) begins.state) (few t fits) (ap (λ (s : State). s.next) gives.state) first_turn,
     tt,
   )
 

@@ -1,12 +1,11 @@
 //! The proxy's own answers beside the lines of a configuration, and what a transaction tells of itself.
 
-use crate::exchange::{MemTxn, NUMBER, begin, drive, setup_of};
+use crate::exchange::{NUMBER, Told, run};
 use crate::lines::{FILE, STOCK};
-use crate::plan::{giving, link_of};
+use crate::plan::giving;
 use crate::row::{Row, Verdict, check, get};
 use crate::stated::{ABC, BAD_GATEWAY, BAD_REQUEST, GET, HEAD, HEAD_SENT, NOT_IMPLEMENTED};
 use std::test::Fail;
-use ts_group::Group;
 use ts_hooks::TxnEnd;
 use ts_wire::Mode;
 
@@ -67,19 +66,13 @@ fn no_line_acts_on_an_answer_of_the_proxys_own(rt: HostRuntime) -> Result<(), Fa
 
 #[test]
 fn a_transaction_tells_its_number_origin_and_end(rt: HostRuntime) -> Result<(), Fail> {
-    let alloc = rt.alloc();
-    let setup = setup_of(alloc, b"", b"")?;
-    let client = link_of(alloc, &giving(GET))?;
-    let origin = link_of(alloc, &giving(ABC))?;
-    let (group, tag): (Group<MemTxn>, _) = begin(alloc, setup, client, Some(origin))?;
-    assert_eq!(rt; group.world().number(), NUMBER);
-    assert_eq!(rt; group.world().end(), None);
-    let Some(link) = group.world().origin() else {
-        return Err("it holds its origin")?;
+    let ended = run(rt.alloc(), b"", b"", &giving(GET), Some(giving(ABC)))?;
+    let told = Told {
+        number: NUMBER,
+        is_dialed: true,
+        end: None,
     };
-    assert!(rt; link.written().is_empty());
-    let group = drive(alloc, group, tag)?;
-    assert_eq!(rt; group.world().end(), Some(TxnEnd::Whole));
-    assert_eq!(rt; group.world().number(), NUMBER);
+    assert_eq!(rt; ended.told, told);
+    assert_eq!(rt; ended.parts.end, Some(TxnEnd::Whole));
     Ok(())
 }

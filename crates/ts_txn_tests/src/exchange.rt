@@ -15,11 +15,12 @@ use std::snapshot::Snapshot;
 use std::sync::Arc;
 use ts_config::{PluginLine, Setup, TransformLine, read_config};
 use ts_group::Group;
+use ts_hooks::TxnEnd;
 use ts_journal::Journal;
 use ts_link::{Link, MemLink, Octets};
 use ts_stock::Stock;
-use ts_transform::Transform;
 use ts_thread::{ONLY_SEAT, finish};
+use ts_transform::Transform;
 use ts_txn::{MOST_PLUGINS, Txn, TxnParts, TxnTag};
 use ts_upstream::Upstream;
 
@@ -35,9 +36,18 @@ pub const FIRST_TURN: u64 = 1;
 // How many transform lines a transaction takes at most.
 const MOST_LINES: usize = 16;
 
-/// What is left of a transaction that was driven to its end.
+/// What a transaction tells of itself.
+#[derive(Clone, Copy, Debug, PartialEq, Eq)]
+pub struct Told {
+    pub number: u64,
+    pub is_dialed: bool,
+    pub end: Option<TxnEnd>,
+}
+
+/// What is left of a transaction that was driven to its end, and what it told before that.
 #[derive(Drop)]
 pub struct Ended {
+    pub told: Told,
     pub parts: TxnParts<MemLink, MemLink>,
     pub journal: Journal,
 }
@@ -117,6 +127,16 @@ pub fn begin<C: Link + Drop, O: Upstream<C> + Drop, P: Transform<Line = Transfor
     Ok((group, tag))
 }
 
+fn told_by<C: Link + Drop, O: Upstream<C> + Drop, P: Transform<Line = TransformLine> + Drop>(
+    txn: &Txn<C, O, P>,
+) -> Told {
+    Told {
+        number: txn.number(),
+        is_dialed: txn.origin().is_some(),
+        end: txn.end(),
+    }
+}
+
 /// Handles what is pending of a transaction, until nothing is.
 pub fn drive(
     alloc: Global,
@@ -150,9 +170,11 @@ pub fn exchange(
     ensures ended { IfOk result (λ e. IsSome e.parts.end ⊎ (GREATEST ≤ e.journal.state.next)) }
 {
     let (group, tag) = begin(alloc, setup, client, origin)?;
+    let told = told_by(group.world());
     let group = drive(alloc, group, tag)?;
     let (txn, journal) = group.into_parts();
     Ok(Ended {
+        told,
         parts: txn.into_parts(),
         journal,
     })

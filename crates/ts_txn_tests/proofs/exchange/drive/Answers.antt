@@ -5,8 +5,12 @@ use Rattle.ts_txn_tests.proofs.ByFinish.{can_ask, group_fits, group_tells, last_
 use Rattle.ts_txn_tests.proofs.exchange.drive.Goals as goal
 
 pub finish-requires-clause-fits : goal.finish-requires-clause-fits
-finish-requires-clause-fits c = (c.args.tag ∷ [], can_ask (c.args.tag ∷ []), group_fits c.args.tag c.args.group c.push.new.self.items
-    (c.in_ok-push.ensures.items ∙ ap (λ xs. xs ++ (c.args.group ∷ [])) c.new-groups.ensures.items) c.requires.begun.fits)
+finish-requires-clause-fits c = (
+  c.args.tag ∷ [],
+  can_ask (c.args.tag ∷ []),
+  group_fits c.args.tag c.args.group c.push.new.self.items
+      (c.in_ok-push.ensures.items ∙ ap (λ xs. xs ++ (c.args.group ∷ [])) c.new-groups.ensures.items) c.requires.begun.fits,
+)
 
 pub finish-requires-clause-tells : goal.finish-requires-clause-tells
 finish-requires-clause-tells c = group_tells c.args.tag c.args.group c.push.new.self.items
