@@ -1,5 +1,5 @@
 -- Rows of peers: that they can ask, and that they end.
-use Rattle.std.proofs.Common.{◌≡◌, ℕ, zero, suc, ◌+◌, ◌*◌, ◌<◌, ◌≤◌, List, [], ◌∷◌, ◌++◌, length, length-append, Bool, true, false, Some, refl, sym, ap, ◌∙◌, subst, All, Result, Ok, Err, arith}
+use Rattle.std.proofs.Common.{◌≡◌, ℕ, zero, suc, ◌+◌, ◌*◌, ◌^◌, ◌<◌, ◌≤◌, List, [], ◌∷◌, ◌++◌, length, length-append, Bool, true, false, Some, refl, sym, ap, ◌∙◌, subst, All, Result, Ok, Err, arith}
 use Rattle.std.specs.Prelude.{IsOkUnless}
 use Rattle.std.specs.Result.{IsErrOf}
 use mathlib.Core.Option.{some}
