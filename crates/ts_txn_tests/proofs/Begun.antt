@@ -1,5 +1,5 @@
 -- A transaction that was started in the first turn of a fresh group fits the tag that says so.
-use Rattle.std.proofs.Common.{◌≡◌, ℕ, ◌+◌, ◌*◌, ◌≤◌, List, Bool, true, false, arith, refl, sym, ap, subst, ◌∙◌}
+use Rattle.std.proofs.Common.{◌≡◌, ℕ, ◌+◌, ◌*◌, ◌≤◌, List, Bool, true, false, arith, sym, ap, subst, ◌∙◌}
 use Rattle.std.specs.Bool.{OnTrue}
 use Rattle.ts_config.specs.declared.setup.TransformLine.{TransformLine}
 use Rattle.ts_group.specs.declared.group.Group.{Group}
@@ -13,11 +13,10 @@ use Rattle.ts_group.specs.Slot.{IsAtRest}
 use Rattle.ts_journal.specs.State.{State}
 use Rattle.ts_link.specs.Link.{Look}
 use Rattle.ts_thread.specs.declared.ending.TheConstants.{ONLY_SEAT}
-use Rattle.ts_txn.specs.Making.{IsMadeOf, IsMadeOfIf}
 use Rattle.ts_txn.specs.World.{HasTxnBegun, IsTxnOf}
 use Rattle.ts_txn.specs.declared.txn.Txn.{Txn}
 use Rattle.ts_txn.specs.declared.txn.TxnTag.{TxnTag}
-use Rattle.ts_txn.proofs.Fitting.{fits_begun, fits_made}
+use Rattle.ts_txn.proofs.Fitting.{fits_begun}
 use Rattle.ts_txn_tests.specs.Begun.{HasBegunAs, IsSoundIn}
 use Rattle.ts_txn_tests.specs.declared.exchange.TheConstants.{FIRST_TURN}
 
