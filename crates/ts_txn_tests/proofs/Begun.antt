@@ -1,5 +1,5 @@
 -- A transaction that was started in the first turn of a fresh group fits the tag that says so.
-use Rattle.std.proofs.Common.{◌≡◌, ℕ, ◌+◌, ◌*◌, ◌≤◌, List, Bool, true, false, arith, refl, sym, ap, subst, ◌∙◌}
+use Rattle.std.proofs.Common.{◌≡◌, ℕ, ◌+◌, ◌*◌, ◌≤◌, List, Bool, true, false, arith, sym, ap, subst, ◌∙◌}
 use Rattle.std.specs.Bool.{OnTrue}
 use Rattle.ts_config.specs.declared.setup.TransformLine.{TransformLine}
 use Rattle.ts_group.specs.declared.group.Group.{Group}
@@ -13,26 +13,24 @@ use Rattle.ts_group.specs.Slot.{IsAtRest}
 use Rattle.ts_journal.specs.State.{State}
 use Rattle.ts_link.specs.Link.{Look}
 use Rattle.ts_thread.specs.declared.ending.TheConstants.{ONLY_SEAT}
-use Rattle.ts_txn.specs.Making.{IsMadeOf, IsMadeOfIf}
 use Rattle.ts_txn.specs.World.{HasTxnBegun, IsTxnOf}
 use Rattle.ts_txn.specs.declared.txn.Txn.{Txn}
 use Rattle.ts_txn.specs.declared.txn.TxnTag.{TxnTag}
-use Rattle.ts_txn.proofs.Fitting.{fits_begun, fits_made}
-use Rattle.ts_txn_tests.specs.Begun.{HasBegunAs, IsSoundIn}
-use Rattle.ts_txn_tests.specs.declared.exchange.TheConstants.{FIRST_TURN}
+use Rattle.ts_txn.proofs.Fitting.{fits_begun}
+use Rattle.ts_txn_tests.specs.Begun.{HasBegunAs, IsSoundIn, first_turn}
 
 on_true : (b : Bool) (P : Type 0) → P → OnTrue b P
 on_true true P holds = holds
 on_true false P holds = tt
 
-few_set : (first begun started given turns : ℕ) → first ≡ 1 → begun ≡ first → started ≤ begun + MOST_SET → given ≡ started → turns ≡ FIRST_TURN → given ≤ 8192 * turns + 1
+few_set : (first begun started given turns : ℕ) → first ≡ 1 → begun ≡ first → started ≤ begun + MOST_SET → given ≡ started → turns ≡ first_turn → given ≤ 8192 * turns + 1
 few_set first begun started given turns a b c d e = omega (arith, a, b, c, d, e)
 
-module _ {W Q R T U : Type 0} (Fits : T → W → Type 0) (fresh begun started given : Group W Q R T U) (new : IsFresh 0 fresh.cx) (begins : BeginsTurn fresh.cx begun.cx FIRST_TURN ONLY_SEAT 0)
+module _ {W Q R T U : Type 0} (Fits : T → W → Type 0) (fresh begun started given : Group W Q R T U) (new : IsFresh 0 fresh.cx) (begins : BeginsTurn fresh.cx begun.cx first_turn ONLY_SEAT 0)
     (grows : Grows begun.cx started.cx) (turn : StaysInTurn begun.cx.log.state started.cx.log.state) (gives : GivesTurn started.cx given.cx) where
   -- it has had one turn
-  pub first_turn : given.cx.log.state.turns ≡ FIRST_TURN
-  first_turn = ap (λ (s : State). s.turns) gives.state ∙ turn.turns ∙ ap (λ (s : State). s.turns) begins.state
+  pub one_turn : given.cx.log.state.turns ≡ first_turn
+  one_turn = ap (λ (s : State). s.turns) gives.state ∙ turn.turns ∙ ap (λ (s : State). s.turns) begins.state
 
   pub no_turns_before : given.cx.log.base.turns ≡ 0
   no_turns_before = ap (λ (s : State). s.turns) (gives.by.base ∙ grows.log.by.base ∙ begins.by.base ∙ new.base)
@@ -42,14 +40,14 @@ module _ {W Q R T U : Type 0} (Fits : T → W → Type 0) (fresh begun started g
   at_rest t fits few = (
     ap (λ (s : State). s.held) gives.state,
     few_set fresh.cx.log.state.next begun.cx.log.state.next started.cx.log.state.next given.cx.log.state.next given.cx.log.state.turns
-        (ap (λ (s : State). s.next) new.state) (ap (λ (s : State). s.next) begins.state) (few t fits) (ap (λ (s : State). s.next) gives.state) first_turn,
+        (ap (λ (s : State). s.next) new.state) (ap (λ (s : State). s.next) begins.state) (few t fits) (ap (λ (s : State). s.next) gives.state) one_turn,
     tt,
   )
 
 module _ {C O Q A R U : Type 0} (ct ot : Bool) (client : C → Look) (origin : O → Look) (paired : C → O → Type 0) (refuses : O → List ℕ → Type 0) (rest : Q → List ℕ → List ℕ)
     (whole : TransformLine → List ℕ → List ℕ) (tag : TxnTag C O) (t : Txn C O Q) (fresh begun started given : Group (Txn C O Q) A R (TxnTag C O) U) (made : IsTxnOf client origin (record tag { started = false }) t) where
   -- it fits its tag
-  pub begun_as : tag.started ≡ true → IsFresh 0 fresh.cx → fresh.world ≡ t → BeginsTurn fresh.cx begun.cx FIRST_TURN ONLY_SEAT 0 → begun.world ≡ fresh.world
+  pub begun_as : tag.started ≡ true → IsFresh 0 fresh.cx → fresh.world ≡ t → BeginsTurn fresh.cx begun.cx first_turn ONLY_SEAT 0 → begun.world ≡ fresh.world
       → Grows begun.cx started.cx → StaysInTurn begun.cx.log.state started.cx.log.state → HasTxnBegun begun.world started.world
       → SetsAtMost (IsTxnOf client origin) begun.world MOST_SET begun.cx started.cx → GivesTurn started.cx given.cx → given.world ≡ started.world
       → Holds (IsSoundIn ct ot client origin paired refuses rest whole) given → HasBegunAs ct ot client origin paired refuses rest whole tag given
@@ -64,5 +62,5 @@ module _ {C O Q A R U : Type 0} (ct ot : Bool) (client : C → Look) (origin : O
           on_true tag.first (given.cx.log.base.turns ≡ 0) (no_turns_before (IsTxnOf client origin) fresh begun started given new begins grows turn gives),
         );
         started = says;
-        turns = first_turn (IsTxnOf client origin) fresh begun started given new begins grows turn gives;
+        turns = one_turn (IsTxnOf client origin) fresh begun started given new begins grows turn gives;
       }

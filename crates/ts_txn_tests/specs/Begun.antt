@@ -11,7 +11,10 @@ use Rattle.ts_txn.specs.Making.{end_of}
 use Rattle.ts_txn.specs.World.{IsSoundTxn, IsTxnOf}
 use Rattle.ts_txn.specs.declared.txn.Txn.{Txn}
 use Rattle.ts_txn.specs.declared.txn.TxnTag.{TxnTag}
-use Rattle.ts_txn_tests.specs.declared.exchange.TheConstants.{FIRST_TURN}
+
+-- the turn in which a transaction is started
+abbrev pub first_turn : ℕ
+first_turn = 1
 
 -- any two links in memory belong together, and none refuses an upload
 abbrev pub any_pair : {L : Type 0} → L → L → Type 0
@@ -41,4 +44,4 @@ module _ {C O Q : Type 0} (ctells otells : Bool) (client : C → Look) (origin :
       (g : Group (Txn C O Q) A R (TxnTag C O) U) : Type 0 where
     pub fits : FitsTag tag g
     pub started : tag.started ≡ true
-    pub turns : g.cx.log.state.turns ≡ FIRST_TURN
+    pub turns : g.cx.log.state.turns ≡ first_turn
