@@ -43,24 +43,18 @@ covered_by : {P : Type 0} (step : BodyStep) (writes reads : Bool) (v : View) (u 
     → s.driven.running ≡ true → OnGoes step (IsBodyCovered v u s b.log.state.next)
 covered_by S.Goes writes reads v u s b tells must (inl (main, reader)) runs = inl (runs, record { writes = λ duty. main (tells.only duty); reads = λ duty. reader (must duty) })
 covered_by S.Goes writes reads v u s b tells must (inr spent) runs = inr spent
-covered_by S.Waits writes reads v u s b tells must roused runs = absurd roused
-covered_by (S.Finishes end) writes reads v u s b tells must roused runs = absurd roused
-covered_by (S.Closes end) writes reads v u s b tells must roused runs = absurd roused
 covered_by S.Lacks writes reads v u s b tells must roused runs = tt
+covered_by _ writes reads v u s b tells must roused runs = absurd roused
 
 covered_spent : {P : Type 0} (X : Type 0) (step : BodyStep) (v : View) (u : Option StageContinuation) (s : Relay P) (next : ℕ) → OnGoes step X → GREATEST ≤ next → OnGoes step (IsBodyCovered v u s next)
 covered_spent X S.Goes v u s next goes spent = inr spent
-covered_spent X S.Waits v u s next goes spent = absurd goes
-covered_spent X (S.Finishes end) v u s next goes spent = absurd goes
-covered_spent X (S.Closes end) v u s next goes spent = absurd goes
 covered_spent X S.Lacks v u s next goes spent = tt
+covered_spent X _ v u s next goes spent = absurd goes
 
 only_goes : (X : Type 0) (step : BodyStep) → OnGoes step X → OnGoes step ⊤
 only_goes X S.Goes goes = tt
-only_goes X S.Waits goes = absurd goes
-only_goes X (S.Finishes end) goes = absurd goes
-only_goes X (S.Closes end) goes = absurd goes
 only_goes X S.Lacks goes = tt
+only_goes X _ goes = absurd goes
 
 pub settles : {P : Type 0} (step : BodyStep) (writes : Bool) (v : View) (t u : Option StageContinuation) (r s : Relay P) (a b : Context) → IsOrderly a → TellsDuty writes v r.driven.chain
     → EndsRouse step writes t u r s a b → s ≡ record r { reader = s.reader } → SettlesBody step v t u r s a b
@@ -103,9 +97,7 @@ settles_after step result v t u r s a b settled h = record {
     as_goes : (step : BodyStep) → OnGoes result (IsBodyCovered v u s b.log.state.next) → WhileGoes step (OnGoes result (IsBodyCovered v u s b.log.state.next))
     as_goes S.Goes goes = goes
     as_goes S.Waits goes = goes
-    as_goes (S.Finishes end) goes = tt
-    as_goes (S.Closes end) goes = tt
-    as_goes S.Lacks goes = tt
+    as_goes _ goes = tt
 
 pub settles_none : {P : Type 0} (step : BodyStep) (v : View) (t : Option StageContinuation) (r : Relay P) (a : Context) → a.log.state.held ≡ true → SettledAs step step
     → ((X : Type 0) → WhileGoes step X) → SettlesAfter step step v t t r r a a
@@ -126,18 +118,14 @@ settled_leads setup refuses goes v S.Goes result settled lacks h = by_result res
   where
     by_result : (result : BodyStep) → OnGoes result ⊤ → LeadsBody setup refuses goes v result
     by_result S.Goes on = h
-    by_result S.Waits on = absurd on
-    by_result (S.Finishes end) on = absurd on
-    by_result (S.Closes end) on = absurd on
     by_result S.Lacks on = lacks h
+    by_result _ on = absurd on
 settled_leads setup refuses goes v S.Waits result settled lacks h = by_result result settled
   where
     by_result : (result : BodyStep) → OnGoes result ⊤ → LeadsBody setup refuses goes v result
     by_result S.Goes on = h
-    by_result S.Waits on = absurd on
-    by_result (S.Finishes end) on = absurd on
-    by_result (S.Closes end) on = absurd on
     by_result S.Lacks on = lacks h
+    by_result _ on = absurd on
 settled_leads setup refuses goes v (S.Finishes end) result settled lacks h = subst (LeadsBody setup refuses goes v) (sym settled) h
 settled_leads setup refuses goes v (S.Closes end) result settled lacks h = subst (LeadsBody setup refuses goes v) (sym settled) h
 settled_leads setup refuses goes v S.Lacks result settled lacks h = subst (LeadsBody setup refuses goes v) (sym settled) h
@@ -157,9 +145,7 @@ covered_after {P} step result v w t u r m s a b c later on is next settled after
     on_goes : (result : BodyStep) → OnGoes result (IsBodyCovered w u s next) → WhileGoes result (IsBodyCovered w u s next)
     on_goes S.Goes h = h
     on_goes S.Waits h = absurd h
-    on_goes (S.Finishes end) h = tt
-    on_goes (S.Closes end) h = tt
-    on_goes S.Lacks h = tt
+    on_goes _ h = tt
 
     none : (result step : BodyStep) → result ≡ step → ((X : Type 0) → WhileGoes step X) → WhileGoes result (IsBodyCovered w u s next)
     none result step same ends = subst (λ (x : BodyStep). WhileGoes x (IsBodyCovered w u s next)) (sym same) (ends _)
@@ -171,9 +157,7 @@ covered_after {P} step result v w t u r m s a b c later on is next settled after
         → WhileGoes result (IsBodyCovered w u s next)
     by_step S.Goes on settled after = on_goes result (after (runs on))
     by_step S.Waits on settled after = on_goes result (after (runs on))
-    by_step (S.Finishes end) on settled after = none result (S.Finishes end) settled (λ X. tt)
-    by_step (S.Closes end) on settled after = none result (S.Closes end) settled (λ X. tt)
-    by_step S.Lacks on settled after = none result S.Lacks settled (λ X. tt)
+    by_step step on settled after = none result step settled (λ X. tt)
 
 -- so they do behind the step, where it leads on or to the end of a body
 runs_after : {P : Type 0} (step result : BodyStep) (v : View) (t : Option StageContinuation) (r m s : Relay P) (a next : ℕ) (c : Context) → a ≤ c.log.state.next → c.log.state.next ≤ next
@@ -188,18 +172,12 @@ runs_after step result v t r m s a next c later after on same settled covered = 
     runs h = kept (runs_or v t r m a c.log.state.next later h covered)
 
     unless : (result : BodyStep) → RunsOr s next → UnlessLacking result (RunsOr s next)
-    unless S.Goes h = h
-    unless S.Waits h = h
-    unless (S.Finishes end) h = h
-    unless (S.Closes end) h = h
     unless S.Lacks h = tt
+    unless _ h = h
 
     by_step : (step : BodyStep) → DrivesOn step r.driven m.driven c → SettledAs step result → UnlessLacking result (RunsOr s next)
-    by_step S.Goes on settled = unless result (runs on)
-    by_step S.Waits on settled = unless result (runs on)
-    by_step (S.Finishes end) on settled = unless result (runs on)
-    by_step (S.Closes end) on settled = unless result (runs on)
     by_step S.Lacks on settled = subst (λ (x : BodyStep). UnlessLacking x (RunsOr s next)) (sym settled) tt
+    by_step _ on settled = unless result (runs on)
 
 pub handles_by : {P : Type 0} (role : ℕ) (event : Event) (step result : BodyStep) (v w : View) (t m u : Option StageContinuation) (r q s : Relay P) (a c b : Context) → IsOrderly a
     → ActsWithin 4 a c → DrivesOn step r.driven q.driven c
@@ -350,17 +328,13 @@ begins_covered {P} step result w u m s c next runs settled after = by_step step 
     on_goes : (result : BodyStep) → OnGoes result (IsBodyCovered w u s next) → WhileGoes result (IsBodyCovered w u s next)
     on_goes S.Goes h = h
     on_goes S.Waits h = absurd h
-    on_goes (S.Finishes end) h = tt
-    on_goes (S.Closes end) h = tt
-    on_goes S.Lacks h = tt
+    on_goes _ h = tt
 
     by_step : (step : BodyStep) → BeginsRunning step m.driven c → SettledAs step result → (RunsOr m c.log.state.next → WhileGoes step (OnGoes result (IsBodyCovered w u s next)))
         → WhileGoes result (IsBodyCovered w u s next)
     by_step S.Goes runs settled after = on_goes result (after runs)
-    by_step S.Waits runs settled after = absurd runs
-    by_step (S.Finishes end) runs settled after = absurd runs
-    by_step (S.Closes end) runs settled after = absurd runs
     by_step S.Lacks runs settled after = subst (λ (x : BodyStep). WhileGoes x (IsBodyCovered w u s next)) (sym settled) tt
+    by_step _ runs settled after = absurd runs
 
 -- so its stages run
 begins_runs : {P : Type 0} (step result : BodyStep) (m s : Relay P) (c : Context) (next : ℕ) → c.log.state.next ≤ next → s.driven ≡ m.driven → BeginsRunning step m.driven c → SettledAs step result
@@ -372,26 +346,19 @@ begins_runs step result m s c next later same runs settled = by_step step runs s
     kept (inr spent) = inr (omega (arith, spent, later))
 
     unless : (result : BodyStep) → RunsOr s next → UnlessLacking result (RunsOr s next)
-    unless S.Goes h = h
-    unless S.Waits h = h
-    unless (S.Finishes end) h = h
-    unless (S.Closes end) h = h
     unless S.Lacks h = tt
+    unless _ h = h
 
     by_step : (step : BodyStep) → BeginsRunning step m.driven c → SettledAs step result → UnlessLacking result (RunsOr s next)
     by_step S.Goes runs settled = unless result (kept runs)
-    by_step S.Waits runs settled = absurd runs
-    by_step (S.Finishes end) runs settled = absurd runs
-    by_step (S.Closes end) runs settled = absurd runs
     by_step S.Lacks runs settled = subst (λ (x : BodyStep). UnlessLacking x (RunsOr s next)) (sym settled) tt
+    by_step _ runs settled = absurd runs
 
 -- and it is passed on, unless memory lacked
 begins_goes : {P : Type 0} (step result : BodyStep) (m : Relay P) (c : Context) → BeginsRunning step m.driven c → SettledAs step result → OnGoes result ⊤
 begins_goes S.Goes result m c runs settled = settled
-begins_goes S.Waits result m c runs settled = absurd runs
-begins_goes (S.Finishes end) result m c runs settled = absurd runs
-begins_goes (S.Closes end) result m c runs settled = absurd runs
 begins_goes S.Lacks result m c runs settled = subst (λ (x : BodyStep). OnGoes x ⊤) (sym settled) tt
+begins_goes _ result m c runs settled = absurd runs
 
 pub begins_body : {P : Type 0} (step result : BodyStep) (w : View) (t u : Option StageContinuation) (m s : Relay P) (a c b : Context) → BeginsRelay step m a c → s.driven ≡ m.driven
     → SettlesAfter step result w t u m s c b → BeginsBody result w t u s a b

@@ -76,17 +76,13 @@ pub record IsCalm (step : BodyStep) : Type 0 where
   pub late : is_late step ≡ false
 
 pub calm_after : (f : Result ⊤ SetFault) (step : BodyStep) → step ≡ step_after f → IsCalm step
-calm_after (Ok x) step is = subst IsCalm (sym is) (record { client = refl; origin = refl; late = refl })
 calm_after (Err F.Spent) step is = subst IsCalm (sym is) (record { client = refl; origin = refl; late = refl })
-calm_after (Err F.NoMemory) step is = subst IsCalm (sym is) (record { client = refl; origin = refl; late = refl })
-calm_after (Err F.Dead) step is = subst IsCalm (sym is) (record { client = refl; origin = refl; late = refl })
+calm_after _ step is = subst IsCalm (sym is) (record { client = refl; origin = refl; late = refl })
 
 pub calm_goes : (X : Type 0) (step : BodyStep) → OnGoes step X → IsCalm step
 calm_goes X S.Goes goes = record { client = refl; origin = refl; late = refl }
-calm_goes X S.Waits goes = absurd goes
-calm_goes X (S.Finishes end) goes = absurd goes
-calm_goes X (S.Closes end) goes = absurd goes
 calm_goes X S.Lacks goes = record { client = refl; origin = refl; late = refl }
+calm_goes X _ goes = absurd goes
 
 pub calm_feeds : {P : Type 0} (step : BodyStep) (old new : Place) (before after : List ℕ) (c d : ChainState P) → FeedsTo step old new before after c d → IsCalm step
 calm_feeds S.Goes old new before after c d feeds = record { client = refl; origin = refl; late = refl }
@@ -142,11 +138,8 @@ holds_kept : {P : Type 0} (v w : View) (c d : ChainState P) → length w.origin.
 holds_kept v w c d inbox first h = record { held = omega (arith, inbox, h.held); front = omega (arith, first, h.front) }
 
 unless_lacking : (X : Type 0) (step : BodyStep) → X → UnlessLacking step X
-unless_lacking X S.Goes h = h
-unless_lacking X S.Waits h = h
-unless_lacking X (S.Finishes end) h = h
-unless_lacking X (S.Closes end) h = h
 unless_lacking X S.Lacks h = tt
+unless_lacking X _ h = h
 
 -- what is taken from the end of a chain leaves no more at its front
 taken_shorter : {P : Type 0} (from : List ℕ) (ss : List (Stage P)) (n : ℕ) (from' : List ℕ) (ss' : List (Stage P)) → Takes from ss n from' ss' → length from' ≤ length from
@@ -157,9 +150,7 @@ taken_shorter from (s ∷ ss) n from' (s' ∷ ss') takes = no_longer from from' 
 -- nor does the work of a stage
 steps_shorter : {P : Type 0} (rest : P → List ℕ → List ℕ) (from : List ℕ) (s : Stage P) (r : Pumped) (from' : List ℕ) (s' : Stage P) → Steps rest from s r from' s' → length from' ≤ length from
 steps_shorter rest from s (U.Moved n) from' s' steps = no_longer_drop n from from' steps.0
-steps_shorter rest from s U.Ended from' s' steps = no_longer from from' steps.0
-steps_shorter rest from s (U.Blocked n) from' s' steps = no_longer from from' steps.0
-steps_shorter rest from s U.Idle from' s' steps = no_longer from from' steps.0
+steps_shorter rest from s _ from' s' steps = no_longer from from' steps.0
 
 pumped_shorter : {P : Type 0} (rest : P → List ℕ → List ℕ) (from : List ℕ) (ss : List (Stage P)) (at : ℕ) (r : Pumped) (from' : List ℕ) (ss' : List (Stage P)) → StepsAt rest from ss at r from' ss'
     → length from' ≤ length from
@@ -175,9 +166,7 @@ once_shorter rest c d (inr (at, pumps)) = pumped_shorter rest c.first c.stages a
 -- a read brings no more than one piece, where nothing waited
 came_few : (p : Pulled) (most : ℕ) (more : List ℕ) → most ≤ MOST_PULLED → Came p most more → length more ≤ MOST_PULLED
 came_few (L.Some n) most more few came = omega (arith, few, came.0, came.2)
-came_few L.End most more few came = omega (arith, ap length came)
-came_few L.Again most more few came = omega (arith, ap length came)
-came_few L.Failed most more few came = omega (arith, ap length came)
+came_few _ most more few came = omega (arith, ap length came)
 
 read_few : (t : Bool) (v w : View) (p : Pulled) → v.origin.inbox ≡ [] → ReadsOrigin t v w p → length w.origin.inbox ≤ MOST_PULLED
 read_few t v w p none reads =
@@ -186,16 +175,12 @@ read_few t v w p none reads =
 
 went_shorter : (p : Pushed) (before after : List ℕ) → Went p before after → length after ≤ length before
 went_shorter (V.Some n) before after went = no_longer_drop n before after went.2
-went_shorter V.Nothing before after went = no_longer before after went.1
-went_shorter V.Again before after went = no_longer before after went.1
-went_shorter V.Failed before after went = no_longer before after went.1
-went_shorter V.NoMemory before after went = no_longer before after went.1
+went_shorter _ before after went = no_longer before after went.1
 
 -- what is fed comes to the front of the chain, which had room
 fed_first : {P : Type 0} (state : BodyState) (part : List ℕ) (c d : ChainState P) → GetsPart state part c d → length d.first ≤ length c.first + length part
-fed_first B.Unfinished part c d gets = omega (arith, ap (λ k. length k.first) gets, length-append c.first part)
-fed_first B.Ended part c d gets = omega (arith, ap (λ k. length k.first) gets, length-append c.first part)
 fed_first B.Bad part c d gets = omega (arith, ap (λ k. length k.first) gets)
+fed_first _ part c d gets = omega (arith, ap (λ k. length k.first) gets, length-append c.first part)
 
 fed_holds : {P : Type 0} (v w : View) (c d : ChainState P) (old new : Place) → MustRead c → FeedsBody old new v.origin.inbox w.origin.inbox c d → HoldsLittle v c → HoldsLittle w d
 fed_holds v w c d old new must fed h =
@@ -308,11 +293,8 @@ module _ {P : Type 0} (ct ot : Bool) (v w : View) (c d : ChainState P) (step : B
       by_first first h = record { held = read_few ot v w p none reads; front = omega (arith, first, h.front) }
 
       read_holds : (step : BodyStep) → UnlessLacking step (length d.first ≤ length c.first) → UnlessLacking step (HoldsLittle v c → HoldsLittle w d)
-      read_holds S.Goes first = by_first first
-      read_holds S.Waits first = by_first first
-      read_holds (S.Finishes end) first = by_first first
-      read_holds (S.Closes end) first = by_first first
       read_holds S.Lacks first = tt
+      read_holds _ first = by_first first
 
   minds_read : (p : Pulled) → is_origin_fault step ≡ pull_failed p → ol ≡ pull_again p → is_client_fault step ≡ false → cl ≡ false → MustRead c → v.origin.inbox ≡ [] → d ≡ c → ReadsOrigin ot v w p
       → MindsBody ct ot v w c d step cl ol
@@ -327,10 +309,8 @@ module _ {P : Type 0} (ct ot : Bool) (v w : View) (c d : ChainState P) (step : B
     where
       by_step : (step : BodyStep) → OnGoes step (d ≡ record c { given = true }) → UnlessLacking step (length d.first ≤ length c.first)
       by_step S.Goes goes = no_longer c.first d.first (ap (λ k. k.first) goes)
-      by_step S.Waits goes = absurd goes
-      by_step (S.Finishes end) goes = absurd goes
-      by_step (S.Closes end) goes = absurd goes
       by_step S.Lacks goes = tt
+      by_step _ goes = absurd goes
 
 -- ---- the steps of the writer, and of the reader
 
@@ -408,9 +388,7 @@ minds_settled {P} ct ot v w c d e step result cl ol settled chain h = subst (λ 
     by_step : (step : BodyStep) → SettledAs step result → MindsBody ct ot v w c d step cl ol → MindsBody ct ot v w c d result cl ol
     by_step S.Goes goes m = on S.Goes refl refl goes m.holds m
     by_step S.Waits goes m = on S.Waits refl refl goes m.holds m
-    by_step (S.Finishes end) same m = subst (λ x. MindsBody ct ot v w c d x cl ol) (sym same) m
-    by_step (S.Closes end) same m = subst (λ x. MindsBody ct ot v w c d x cl ol) (sym same) m
-    by_step S.Lacks same m = subst (λ x. MindsBody ct ot v w c d x cl ol) (sym same) m
+    by_step _ same m = subst (λ x. MindsBody ct ot v w c d x cl ol) (sym same) m
 
 -- ---- which events are set
 

@@ -27,11 +27,8 @@ use Rattle.ts_txn.specs.declared.finishing.BodyStep.TheVariants as S
 -- ---- nothing was done
 
 drives_still : {P : Type 0} (step : BodyStep) (d : DrivenChain P) (now : Context) → DrivesOn step d d now
-drives_still S.Goes d now = inl refl
-drives_still S.Waits d now = inl refl
-drives_still (S.Finishes end) d now = inl refl
-drives_still (S.Closes end) d now = inl refl
 drives_still S.Lacks d now = tt
+drives_still _ d now = inl refl
 
 pub chain_still : {P : Type 0} (step : BodyStep) (most : ℕ) (d : DrivenChain P) (a : Context) → a.log.state.held ≡ true → StepsChain step most d d a a
 chain_still step most d a turn = record {
@@ -50,8 +47,7 @@ chain_still step most d a turn = record {
 pub drives_after : {P : Type 0} (r : Result ⊤ SetFault) (d e : DrivenChain P) (before now : Context) → Loses r d e before now → DrivesOn (step_after r) d e now
 drives_after (Ok x) d e before now loses = inl loses.0
 drives_after (Err F.Spent) d e before now loses = inr loses.2
-drives_after (Err F.NoMemory) d e before now loses = tt
-drives_after (Err F.Dead) d e before now loses = tt
+drives_after _ d e before now loses = tt
 
 -- used-up numbers do not lack memory
 pub not_spent : {P : Type 0} (r : Result ⊤ SetFault) (d e : DrivenChain P) (a b : Context) (step : BodyStep) → step ≡ step_after r → Loses r d e a b → IsNotSpent step e
@@ -101,10 +97,7 @@ on_then d e f b c later (inr spent) next = inr (omega (arith, spent, later))
 drives_then : {P : Type 0} (step : BodyStep) (d e f : DrivenChain P) (b c : Context) → b.log.state.next ≤ c.log.state.next → DrivesOn S.Goes d e b → DrivesOn step e f c
     → DrivesOn step d f c
 drives_then S.Lacks d e f b c later on next = tt
-drives_then S.Goes d e f b c later on next = on_then d e f b c later on next
-drives_then S.Waits d e f b c later on next = on_then d e f b c later on next
-drives_then (S.Finishes end) d e f b c later on next = on_then d e f b c later on next
-drives_then (S.Closes end) d e f b c later on next = on_then d e f b c later on next
+drives_then _ d e f b c later on next = on_then d e f b c later on next
 
 pub chain_then : {P : Type 0} (step : BodyStep) (m n : ℕ) (d e f : DrivenChain P) (a b c : Context) → IsOrderly b → StepsChain S.Goes m d e a b → StepsChain step n e f b c → IsNotSpent step f
     → StepsChain step (m + n) d f a c

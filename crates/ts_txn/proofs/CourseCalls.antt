@@ -33,9 +33,8 @@ use Rattle.ts_txn.proofs.Duty.{no_lost_wake}
 
 -- no body is passed on
 abbrev pub PassesNoBody : {Q : Type 0} → Course Q → Type 0
-PassesNoBody (K.Phased p) = ⊤
 PassesNoBody (K.Relaying r) = ⊥
-PassesNoBody (K.Finishing end) = ⊤
+PassesNoBody _ = ⊤
 
 -- ---- its first continuation is made
 
@@ -82,14 +81,12 @@ module _ (Sound : State → List Named → Type 0) (now : Context) (role : ℕ) 
 
 module _ {Q : Type 0} (Sound : State → List Named → Type 0) (v : View) (main : Option StageContinuation) (now : Context) (role : ℕ) (event : Event) (c : IsCalled Sound now role event) where
   of_main : (course : Course Q) → PassesNoBody course → HasEventsOn v main course c.before.pending now.roles → IsOfStageIf c.before.pending now.roles MAIN main
-  of_main (K.Phased p) none has = has.0
   of_main (K.Relaying r) none has = absurd none
-  of_main (K.Finishing end) none has = has.0
+  of_main _ none has = has.0
 
   seats_main : (course : Course Q) → PassesNoBody course → course_seats main course ≡ main ∷ []
-  seats_main (K.Phased p) none = refl
   seats_main (K.Relaying r) none = absurd none
-  seats_main (K.Finishing end) none = refl
+  seats_main _ none = refl
 
   -- the event of the next step: the first continuation is left alone
   pub alone_called : (course : Course Q) → PassesNoBody course → IsCoveredOn v main course c.before.pending c.before.next now.roles → IsAlone (unroused main) now
@@ -108,9 +105,8 @@ module _ {Q : Type 0} (Sound : State → List Named → Type 0) (v : View) (main
   still_main : (course : Course Q) → PassesNoBody course
       → (IsOfStageIf c.before.pending now.roles MAIN main → IsOfStageIf now.log.state.pending now.roles MAIN main)
       → HasEventsOn v main course c.before.pending now.roles → HasEventsOn v main course now.log.state.pending now.roles
-  still_main (K.Phased p) none keeps (is, has) = (keeps is, has)
   still_main (K.Relaying r) none keeps has = absurd none
-  still_main (K.Finishing end) none keeps (is, has) = (keeps is, has)
+  still_main _ none keeps (is, has) = (keeps is, has)
 
   still_covered : (course : Course Q) → PassesNoBody course
       → (IsOfStageIf c.before.pending now.roles MAIN main → IsOfStageIf now.log.state.pending now.roles MAIN main)
@@ -177,20 +173,8 @@ never_roused roles (Some t) is roused =
 
 next_roused : (p : Phase) (main : Option StageContinuation) → Proceeds p → HasNextEvent p main → IsRousedIf main
 next_roused P.Fresh main goes has = absurd goes
-next_roused P.TxnStart main goes has = has
-next_roused P.ReadRequest main goes has = has
-next_roused (P.ReadRequestHdr q) main goes has = has
-next_roused (P.OsDns q) main goes has = has
-next_roused (P.SendRequestHdr q) main goes has = has
-next_roused (P.SendRequest q) main goes has = has
-next_roused (P.Upload q) main goes has = has
-next_roused (P.ReadResponse q) main goes has = has
-next_roused (P.ReadResponseHdr q h) main goes has = has
-next_roused (P.ResponseTransform q h) main goes has = has
-next_roused (P.SendResponseHdr a) main goes has = has
-next_roused (P.Sending a) main goes has = has
-next_roused (P.TxnClose end) main goes has = has
 next_roused (P.Ended end) main goes has = absurd goes
+next_roused _ main goes has = has
 
 -- so a transaction that was started has ended, or the event numbers are used up
 pub at_rest_on : {Q : Type 0} (v : View) (main : Option StageContinuation) (course : Course Q) (next : ℕ) (roles : List Named) → ProceedsOn course → IsCoveredOn v main course [] next roles → GREATEST ≤ next
@@ -205,17 +189,5 @@ at_rest_on {Q} v main course next roles goes h = by_event course goes h.covered
 -- whether it was started, and has not ended, as its phase tells
 pub proceeds_phase : (p : Phase) → is_fresh p ≡ false → end_of_phase p ≡ None → Proceeds p
 proceeds_phase P.Fresh started lasts = absurd (cc)
-proceeds_phase P.TxnStart started lasts = tt
-proceeds_phase P.ReadRequest started lasts = tt
-proceeds_phase (P.ReadRequestHdr q) started lasts = tt
-proceeds_phase (P.OsDns q) started lasts = tt
-proceeds_phase (P.SendRequestHdr q) started lasts = tt
-proceeds_phase (P.SendRequest q) started lasts = tt
-proceeds_phase (P.Upload q) started lasts = tt
-proceeds_phase (P.ReadResponse q) started lasts = tt
-proceeds_phase (P.ReadResponseHdr q h) started lasts = tt
-proceeds_phase (P.ResponseTransform q h) started lasts = tt
-proceeds_phase (P.SendResponseHdr a) started lasts = tt
-proceeds_phase (P.Sending a) started lasts = tt
-proceeds_phase (P.TxnClose end) started lasts = tt
 proceeds_phase (P.Ended end) started lasts = absurd (cc)
+proceeds_phase _ started lasts = tt

@@ -34,18 +34,12 @@ module _ (setup : Setup) (refuses : Type 0) {Q : Type 0} (rest : Q → List ℕ 
   -- a step of a body
   pub led_on : (r : Relay Q) (step : BodyStep) → LeadsBody setup refuses (RelaysBody setup refuses rest v r.driven.chain r.body) v step → CourseFact setup refuses rest v (course_after r step)
   led_on r S.Goes h = h
-  led_on r S.Waits h = h
-  led_on r (S.Finishes end) h = h
-  led_on r (S.Closes end) h = h
-  led_on r S.Lacks h = h
+  led_on r _ h = h
 
   -- and of its last writes
   pub led_last : (end : TxnEnd) (step : BodyStep) → LeadsBody setup refuses (IsFinishing setup refuses v end) v step → CourseFact setup refuses rest v (finish_after end step)
   led_last end S.Goes h = h
-  led_last end S.Waits h = h
-  led_last end (S.Finishes other) h = h
-  led_last end (S.Closes other) h = h
-  led_last end S.Lacks h = h
+  led_last end _ h = h
 
 -- wherever it is, it may end for want of memory
 course_lacks : (setup : Setup) (refuses : Type 0) {Q : Type 0} (rest : Q → List ℕ → List ℕ) (v : View) (course : Course Q) → CourseFact setup refuses rest v course → EndFact setup refuses v E.NoMemory
@@ -61,16 +55,13 @@ stays_on setup refuses rest v old new h (inr lacks) = subst (λ x. CourseFact se
 
 -- so it may where an event may have been set
 pub behind_led : {Q : Type 0} (next : Next) (led new : Course Q) → LedBehind next led new → StaysOnOrLacks led new
-behind_led N.Go led new h = h
-behind_led N.Wait led new h = h
 behind_led N.Done led new h = inl h
+behind_led _ led new h = h
 
 pub after_led : {Q : Type 0} (step : BodyStep) (led new : Course Q) → LedAfter step led new → StaysOnOrLacks led new
 after_led S.Goes led new h = inl h
 after_led S.Waits led new h = inl h
-after_led (S.Finishes end) led new h = h
-after_led (S.Closes end) led new h = h
-after_led S.Lacks led new h = h
+after_led _ led new h = h
 
 course_moved : (setup : Setup) (R T : Type 0) → (R → T) → (T → R) → {Q : Type 0} (rest : Q → List ℕ → List ℕ) (v : View) (course : Course Q)
     → CourseFact setup R rest v course → CourseFact setup T rest v course

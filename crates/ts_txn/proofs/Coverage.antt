@@ -18,56 +18,19 @@ covered_roused p main next goes roused = inl (by_phase p goes)
   where
     by_phase : (p : Phase) → Proceeds p → HasNextEvent p main
     by_phase P.Fresh goes = tt
-    by_phase P.TxnStart goes = roused
-    by_phase P.ReadRequest goes = roused
-    by_phase (P.ReadRequestHdr q) goes = roused
-    by_phase (P.OsDns q) goes = roused
-    by_phase (P.SendRequestHdr q) goes = roused
-    by_phase (P.SendRequest q) goes = roused
-    by_phase (P.Upload q) goes = roused
-    by_phase (P.ReadResponse q) goes = roused
-    by_phase (P.ReadResponseHdr q h) goes = roused
-    by_phase (P.ResponseTransform q h) goes = roused
-    by_phase (P.SendResponseHdr a) goes = roused
-    by_phase (P.Sending a) goes = roused
-    by_phase (P.TxnClose end) goes = roused
     by_phase (P.Ended end) goes = tt
+    by_phase _ goes = roused
 
 -- a phase that goes on asks nothing where it has a continuation
 pub idle_goes : (p : Phase) (main : Option StageContinuation) → Proceeds p → Idles p main
 idle_goes P.Fresh main goes = absurd goes
-idle_goes P.TxnStart main goes = tt
-idle_goes P.ReadRequest main goes = tt
-idle_goes (P.ReadRequestHdr q) main goes = tt
-idle_goes (P.OsDns q) main goes = tt
-idle_goes (P.SendRequestHdr q) main goes = tt
-idle_goes (P.SendRequest q) main goes = tt
-idle_goes (P.Upload q) main goes = tt
-idle_goes (P.ReadResponse q) main goes = tt
-idle_goes (P.ReadResponseHdr q h) main goes = tt
-idle_goes (P.ResponseTransform q h) main goes = tt
-idle_goes (P.SendResponseHdr a) main goes = tt
-idle_goes (P.Sending a) main goes = tt
-idle_goes (P.TxnClose end) main goes = tt
 idle_goes (P.Ended end) main goes = absurd goes
+idle_goes _ main goes = tt
 
 -- one that has ended has none
 ended_has : (p : Phase) → is_ended p ≡ true → (T : Phase → Type 0) → ((end : _) → T (P.Ended end)) → T p
 ended_has (P.Ended end) is T h = h end
-ended_has P.Fresh is T h = absurd (cc)
-ended_has P.TxnStart is T h = absurd (cc)
-ended_has P.ReadRequest is T h = absurd (cc)
-ended_has (P.ReadRequestHdr q) is T h = absurd (cc)
-ended_has (P.OsDns q) is T h = absurd (cc)
-ended_has (P.SendRequestHdr q) is T h = absurd (cc)
-ended_has (P.SendRequest q) is T h = absurd (cc)
-ended_has (P.Upload q) is T h = absurd (cc)
-ended_has (P.ReadResponse q) is T h = absurd (cc)
-ended_has (P.ReadResponseHdr q r) is T h = absurd (cc)
-ended_has (P.ResponseTransform q r) is T h = absurd (cc)
-ended_has (P.SendResponseHdr a) is T h = absurd (cc)
-ended_has (P.Sending a) is T h = absurd (cc)
-ended_has (P.TxnClose end) is T h = absurd (cc)
+ended_has _ is T h = absurd (cc)
 
 pub ended_idle : (p : Phase) (main : Option StageContinuation) → is_ended p ≡ true → main ≡ None → Idles p main
 ended_idle p main is none = ended_has p is (λ x. Idles x main) (λ end. none)
@@ -78,20 +41,7 @@ ended_covered p main next is = ended_has p is (λ x. HasNextEventOr x main next)
 -- one that was not started is in its first phase
 fresh_is : (p : Phase) → is_fresh p ≡ true → p ≡ P.Fresh
 fresh_is P.Fresh is = refl
-fresh_is P.TxnStart is = absurd (cc)
-fresh_is P.ReadRequest is = absurd (cc)
-fresh_is (P.ReadRequestHdr q) is = absurd (cc)
-fresh_is (P.OsDns q) is = absurd (cc)
-fresh_is (P.SendRequestHdr q) is = absurd (cc)
-fresh_is (P.SendRequest q) is = absurd (cc)
-fresh_is (P.Upload q) is = absurd (cc)
-fresh_is (P.ReadResponse q) is = absurd (cc)
-fresh_is (P.ReadResponseHdr q r) is = absurd (cc)
-fresh_is (P.ResponseTransform q r) is = absurd (cc)
-fresh_is (P.SendResponseHdr a) is = absurd (cc)
-fresh_is (P.Sending a) is = absurd (cc)
-fresh_is (P.TxnClose end) is = absurd (cc)
-fresh_is (P.Ended end) is = absurd (cc)
+fresh_is _ is = absurd (cc)
 
 pub fresh_on : {Q : Type 0} (course : Course Q) → is_fresh_on course ≡ true → course ≡ K.Phased P.Fresh
 fresh_on {Q} (K.Phased p) is = ap {B = Course Q} (λ x. K.Phased x) (fresh_is p is)

@@ -113,10 +113,8 @@ both_roused : (step : BodyStep) (writes reads : Bool) (u s : Option StageContinu
 both_roused S.Goes writes reads u s b c later (inl main) (inl reader) = inl (main, reader)
 both_roused S.Goes writes reads u s b c later (inl main) (inr spent) = inr spent
 both_roused S.Goes writes reads u s b c later (inr spent) next = inr (omega (arith, spent, later))
-both_roused S.Waits writes reads u s b c later main next = absurd next
-both_roused (S.Finishes end) writes reads u s b c later main next = absurd next
-both_roused (S.Closes end) writes reads u s b c later main next = absurd next
 both_roused S.Lacks writes reads u s b c later main next = tt
+both_roused _ writes reads u s b c later main next = absurd next
 
 pub rouses_both : (step : BodyStep) (writes reads : Bool) (t u r s : Option StageContinuation) (a b c : Context) → IsOrderly b → RousesOne S.Goes writes t u a b
     → RousesOne step reads r s b c → RousesBoth step writes reads t u r s a c

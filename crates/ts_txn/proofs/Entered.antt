@@ -137,10 +137,8 @@ module _ {P : Type 0} (a b c : Context) (t : StageContinuation) (grows : Grows a
   runs_on S.Goes d e f later (inl runs) (inl same) X gets = inl (same ∙ runs)
   runs_on S.Goes d e f later (inl runs) (inr spent) X gets = inr spent
   runs_on S.Goes d e f later (inr spent) on X gets = inr (omega (arith, spent, later))
-  runs_on S.Waits d e f later runs on X gets = absurd gets
-  runs_on (S.Finishes end) d e f later runs on X gets = absurd gets
-  runs_on (S.Closes end) d e f later runs on X gets = absurd gets
   runs_on S.Lacks d e f later runs on X gets = tt
+  runs_on _ d e f later runs on X gets = absurd gets
 
   -- and then its first step was made
   pub begins_all : (step : BodyStep) (d : DrivenChain P) (r : Relay P) (f : Context) → IsOrderly c → r.reader ≡ Some t → EndsInOrder d.chain.given d.chain.stages → BeginsChain S.Goes 1 d b c
@@ -270,10 +268,8 @@ module _ (setup : Setup) (refuses : Type 0) where
   leads_in : {P : Type 0} (rest : P → List ℕ → List ℕ) (v : View) (c d : ChainState P) (place : Place) (step : BodyStep)
       → OnGoes step (GetsStart (state_of place.phase) c d) → EntersBody setup refuses rest v c place → LeadsBody setup refuses (RelaysBody setup refuses rest v d place) v step
   leads_in rest v c d place S.Goes gets e = enters_all rest v c d place (state_of place.phase) refl gets e
-  leads_in rest v c d place S.Waits gets e = absurd gets
-  leads_in rest v c d place (S.Finishes end) gets e = absurd gets
-  leads_in rest v c d place (S.Closes end) gets e = absurd gets
   leads_in rest v c d place S.Lacks gets e = enters_any rest v c place e
+  leads_in rest v c d place _ gets e = absurd gets
 
   -- where the first steps lead
   pub enters_lead : {P : Type 0} (rest : P → List ℕ → List ℕ) (v : View) (c d : ChainState P) (place next : Place) (step : BodyStep) → next ≡ place

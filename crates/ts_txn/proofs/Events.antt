@@ -40,56 +40,20 @@ use Rattle.ts_txn.proofs.Sparing.{still_spares}
 
 module _ (v w : View) where
   leaves_in : (p : Phase) → LeavesOrigin v w → LeavesOriginIn p v w
-  leaves_in P.Fresh leaves = leaves
-  leaves_in P.TxnStart leaves = leaves
-  leaves_in P.ReadRequest leaves = leaves
-  leaves_in (P.ReadRequestHdr q) leaves = leaves
-  leaves_in (P.OsDns q) leaves = leaves
   leaves_in (P.SendRequestHdr q) leaves = tt
   leaves_in (P.SendRequest q) leaves = tt
   leaves_in (P.Upload q) leaves = tt
-  leaves_in (P.ReadResponse q) leaves = leaves
-  leaves_in (P.ReadResponseHdr q h) leaves = leaves
-  leaves_in (P.ResponseTransform q h) leaves = leaves
-  leaves_in (P.SendResponseHdr a) leaves = leaves
-  leaves_in (P.Sending a) leaves = leaves
-  leaves_in (P.TxnClose end) leaves = leaves
-  leaves_in (P.Ended end) leaves = leaves
+  leaves_in _ leaves = leaves
 
   spares_in : (p : Phase) → LeavesClient v w → LeavesClientIn p v w
-  spares_in P.Fresh spares = spares
-  spares_in P.TxnStart spares = spares
   spares_in P.ReadRequest spares = tt
-  spares_in (P.ReadRequestHdr q) spares = spares
-  spares_in (P.OsDns q) spares = spares
-  spares_in (P.SendRequestHdr q) spares = spares
-  spares_in (P.SendRequest q) spares = spares
   spares_in (P.Upload q) spares = tt
-  spares_in (P.ReadResponse q) spares = spares
-  spares_in (P.ReadResponseHdr q h) spares = spares
-  spares_in (P.ResponseTransform q h) spares = spares
-  spares_in (P.SendResponseHdr a) spares = spares
-  spares_in (P.Sending a) spares = spares
-  spares_in (P.TxnClose end) spares = spares
-  spares_in (P.Ended end) spares = spares
+  spares_in _ spares = spares
 
   -- nothing closes where a body begins
   begin_closes : {Q : Type 0} (p : Phase) (new : Course Q) → BeginsIn p v w → ClosesAs p new
-  begin_closes P.Fresh new begins = tt
-  begin_closes P.TxnStart new begins = tt
-  begin_closes P.ReadRequest new begins = tt
-  begin_closes (P.ReadRequestHdr q) new begins = tt
-  begin_closes (P.OsDns q) new begins = tt
-  begin_closes (P.SendRequestHdr q) new begins = tt
-  begin_closes (P.SendRequest q) new begins = tt
-  begin_closes (P.Upload q) new begins = tt
-  begin_closes (P.ReadResponse q) new begins = tt
-  begin_closes (P.ReadResponseHdr q h) new begins = tt
-  begin_closes (P.ResponseTransform q h) new begins = tt
-  begin_closes (P.SendResponseHdr a) new begins = tt
-  begin_closes (P.Sending a) new begins = tt
   begin_closes (P.TxnClose end) new begins = absurd begins
-  begin_closes (P.Ended end) new begins = tt
+  begin_closes _ new begins = tt
 
   -- a body begins
   pub leaves_begun : (p : Phase) → BeginsIn p v w → LeavesSides p v w
@@ -99,79 +63,27 @@ module _ (v w : View) where
   }
     where
       calls : (p : Phase) → BeginsIn p v w → QuietLinks v w
-      calls P.Fresh begins = absurd begins
-      calls P.TxnStart begins = absurd begins
-      calls P.ReadRequest begins = absurd begins
-      calls (P.ReadRequestHdr q) begins = absurd begins
-      calls (P.OsDns q) begins = absurd begins
-      calls (P.SendRequestHdr q) begins = absurd begins
-      calls (P.SendRequest q) begins = absurd begins
-      calls (P.Upload q) begins = absurd begins
-      calls (P.ReadResponse q) begins = absurd begins
-      calls (P.ReadResponseHdr q h) begins = absurd begins
       calls (P.ResponseTransform q h) begins = begins
-      calls (P.SendResponseHdr a) begins = absurd begins
-      calls (P.Sending a) begins = absurd begins
-      calls (P.TxnClose end) begins = absurd begins
-      calls (P.Ended end) begins = absurd begins
+      calls _ begins = absurd begins
 
 -- nor where nothing is done
 still_closes : (Q : Type 0) (p : Phase) → ClosesAs {Q = Q} p (K.Phased p)
-still_closes Q P.Fresh = tt
-still_closes Q P.TxnStart = tt
-still_closes Q P.ReadRequest = tt
-still_closes Q (P.ReadRequestHdr q) = tt
-still_closes Q (P.OsDns q) = tt
-still_closes Q (P.SendRequestHdr q) = tt
-still_closes Q (P.SendRequest q) = tt
-still_closes Q (P.Upload q) = tt
-still_closes Q (P.ReadResponse q) = tt
-still_closes Q (P.ReadResponseHdr q h) = tt
-still_closes Q (P.ResponseTransform q h) = tt
-still_closes Q (P.SendResponseHdr a) = tt
-still_closes Q (P.Sending a) = tt
 still_closes Q (P.TxnClose end) = inl refl
-still_closes Q (P.Ended end) = tt
+still_closes Q _ = tt
 
 -- a step leads to no phase of one that was not started
 proceeds_started : (p : Phase) → Proceeds p → is_fresh p ≡ false
 proceeds_started P.Fresh on = absurd on
-proceeds_started P.TxnStart on = refl
-proceeds_started P.ReadRequest on = refl
-proceeds_started (P.ReadRequestHdr q) on = refl
-proceeds_started (P.OsDns q) on = refl
-proceeds_started (P.SendRequestHdr q) on = refl
-proceeds_started (P.SendRequest q) on = refl
-proceeds_started (P.Upload q) on = refl
-proceeds_started (P.ReadResponse q) on = refl
-proceeds_started (P.ReadResponseHdr q h) on = refl
-proceeds_started (P.ResponseTransform q h) on = refl
-proceeds_started (P.SendResponseHdr a) on = refl
-proceeds_started (P.Sending a) on = refl
-proceeds_started (P.TxnClose end) on = refl
 proceeds_started (P.Ended end) on = absurd on
+proceeds_started _ on = refl
 
 ended_started : (p : Phase) → is_ended p ≡ true → is_fresh p ≡ false
 ended_started P.Fresh ended = cc
-ended_started P.TxnStart ended = refl
-ended_started P.ReadRequest ended = refl
-ended_started (P.ReadRequestHdr q) ended = refl
-ended_started (P.OsDns q) ended = refl
-ended_started (P.SendRequestHdr q) ended = refl
-ended_started (P.SendRequest q) ended = refl
-ended_started (P.Upload q) ended = refl
-ended_started (P.ReadResponse q) ended = refl
-ended_started (P.ReadResponseHdr q h) ended = refl
-ended_started (P.ResponseTransform q h) ended = refl
-ended_started (P.SendResponseHdr a) ended = refl
-ended_started (P.Sending a) ended = refl
-ended_started (P.TxnClose end) ended = refl
-ended_started (P.Ended end) ended = refl
+ended_started _ ended = refl
 
 steps_started : (next : Next) (p : Phase) → StepsTo next p → is_fresh p ≡ false
-steps_started N.Go p on = proceeds_started p on
-steps_started N.Wait p on = proceeds_started p on
 steps_started N.Done p ended = ended_started p ended
+steps_started _ p on = proceeds_started p on
 
 -- nor does its end for want of memory
 pub stays_started : {Q : Type 0} (led new : Course Q) → is_fresh_on led ≡ false → StaysOnOrLacks led new → is_fresh_on new ≡ false
@@ -222,11 +134,9 @@ module _ {C O Q : Type 0} (ct ot : Bool) (client : C → Look) (origin : O → L
   pub begin_led : (r : Relay Q) (step : BodyStep) (new : Course Q) → OnGoes step ⊤ → LedAfter step (course_after r step) new
       → (new ≡ K.Relaying r) ⊎ (new ≡ K.Phased (P.Ended E.NoMemory))
   begin_led r S.Goes new goes led = inl led
-  begin_led r S.Waits new goes led = absurd goes
-  begin_led r (S.Finishes end) new goes led = absurd goes
-  begin_led r (S.Closes end) new goes led = absurd goes
   begin_led r S.Lacks new goes (inl lacks) = inr lacks
   begin_led r S.Lacks new goes (inr lacks) = inr lacks
+  begin_led r _ new goes led = absurd goes
 
   -- a body was begun, or memory lacked for that
   pub takes_begin : (s t : Core C O) (p : Phase) (new : Course Q) (r : Relay Q) → BeginsIn p (view_of client origin s) (view_of client origin t)
@@ -354,10 +264,7 @@ body_started r S.Lacks new led = stays_started (K.Phased (P.Ended E.NoMemory)) n
 
 after_write : (Q : Type 0) (end : TxnEnd) (step : BodyStep) → is_fresh_on (finish_after {Q = Q} end step) ≡ false
 after_write Q end S.Goes = refl
-after_write Q end S.Waits = refl
-after_write Q end (S.Finishes other) = refl
-after_write Q end (S.Closes other) = refl
-after_write Q end S.Lacks = refl
+after_write Q end _ = refl
 
 module _ {C O Q : Type 0} (ct ot : Bool) (client : C → Look) (origin : O → Look) (paired : C → O → Type 0) (refuses : O → List ℕ → Type 0) (left : C → O → Option ℕ) where
   write_started : (s t : Core C O) (end : TxnEnd) (step : BodyStep) (new : Course Q) → WritesOr ct ot client origin paired refuses left s t end step new → is_fresh_on new ≡ false

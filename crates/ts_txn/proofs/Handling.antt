@@ -43,8 +43,7 @@ use Rattle.ts_txn.proofs.LoweringCourse.{lines_stay}
 -- one that was started and has not ended goes on
 goes_on : {Q : Type 0} (course : Course Q) → is_fresh_on course ≡ false → end_of course ≡ None → ProceedsOn course
 goes_on (K.Phased p) started lasts = proceeds_phase p started lasts
-goes_on (K.Relaying r) started lasts = tt
-goes_on (K.Finishing end) started lasts = tt
+goes_on _ started lasts = tt
 
 -- before it was started, nothing is pending but of its first continuation
 fresh_alone : {Q : Type 0} (v : View) (main : Option StageContinuation) (course : Course Q) (now : Context) → is_fresh_on course ≡ true → IsCoveredNow v main course now → IsAlone main now
@@ -60,8 +59,7 @@ fresh_alone {Q} v main course now fresh covered =
 -- at most one event is set behind the step of a phase
 pub after_one : (next : Next) → set_after next ≤ 1
 after_one N.Go = omega arith
-after_one N.Wait = omega arith
-after_one N.Done = omega arith
+after_one _ = omega arith
 
 -- little is held where a body goes on
 pub little_stay : {Q : Type 0} (v : View) (led new : Course Q) → HoldsLittleOn v led → StaysOnOrLacks led new → HoldsLittleOn v new
@@ -72,9 +70,7 @@ pub little_after : {Q : Type 0} (v w : View) (step : BodyStep) (r s : Relay Q) �
     → HoldsLittle v r.driven.chain → HoldsLittleOn w (course_after s step)
 little_after v w S.Goes r s holds little = holds little
 little_after v w S.Waits r s holds little = holds little
-little_after v w (S.Finishes end) r s holds little = tt
-little_after v w (S.Closes end) r s holds little = tt
-little_after v w S.Lacks r s holds little = tt
+little_after v w _ r s holds little = tt
 
 front_same : (first now most : ℕ) → now ≡ first → first < most → now < most
 front_same first now most same less = omega (arith, same, less)
@@ -86,16 +82,11 @@ pub little_begun : {Q : Type 0} (v : View) (step : BodyStep) (r s : Relay Q) →
     → HoldsLittle v r.driven.chain → HoldsLittleOn v (course_after s step)
 little_begun v S.Goes r s first little = little_first v r.driven.chain s.driven.chain first little
 little_begun v S.Waits r s first little = little_first v r.driven.chain s.driven.chain first little
-little_begun v (S.Finishes end) r s first little = tt
-little_begun v (S.Closes end) r s first little = tt
-little_begun v S.Lacks r s first little = tt
+little_begun v _ r s first little = tt
 
 pub little_last : (Q : Type 0) (v : View) (end : TxnEnd) (step : BodyStep) → HoldsLittleOn {Q = Q} v (finish_after end step)
 little_last Q v end S.Goes = tt
-little_last Q v end S.Waits = tt
-little_last Q v end (S.Finishes other) = tt
-little_last Q v end (S.Closes other) = tt
-little_last Q v end S.Lacks = tt
+little_last Q v end _ = tt
 
 module _ {C O Q : Type 0} (ct ot : Bool) (client : C → Look) (origin : O → Look) (paired : C → O → Type 0) (refuses : O → List ℕ → Type 0) (rest : Q → List ℕ → List ℕ)
     (whole : TransformLine → List ℕ → List ℕ) where

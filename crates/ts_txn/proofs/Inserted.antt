@@ -95,13 +95,11 @@ inserted_filter p n xs (y ∷ ys) (inr (zs, same, rest)) =
     (kept_both (p y) y n (filter p zs) (filter p ys) (inserted_filter p n zs ys rest))
 
 pub line_adds : (l : TransformLine) → AddsNoMore (whole_of l)
-line_adds t.Null n xs ys inserted = inserted
 line_adds (t.Append file text) n xs ys inserted = inserted_append n xs ys text inserted
-line_adds t.Bnull n xs ys inserted = inserted
 line_adds (t.Prepend text) n xs ys inserted = inserted_prepend n xs ys text inserted
 line_adds (t.Map from to) n xs ys inserted = inserted_map (λ b. if b == from then to else b) n xs ys inserted
 line_adds (t.Drop byte) n xs ys inserted = inserted_filter (λ b. not (b == byte)) n xs ys inserted
-line_adds (t.Delay ms) n xs ys inserted = inserted
+line_adds _ n xs ys inserted = inserted
 
 -- ---- a transform that was fed
 

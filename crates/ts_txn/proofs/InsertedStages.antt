@@ -63,13 +63,11 @@ filter_shorter p (x ∷ xs) = kept_shorter (p x) x xs (filter p xs) (filter_shor
 
 -- a line makes a body at most longer by its text
 line_within : (l : TransformLine) (xs : List ℕ) → length (whole_of l xs) ≤ length xs + line_length l
-line_within t.Null xs = omega arith
 line_within (t.Append file text) xs = omega (arith, length-append xs text)
-line_within t.Bnull xs = omega arith
 line_within (t.Prepend text) xs = omega (arith, length-append text xs)
 line_within (t.Map from to) xs = omega (arith, length-map xs (λ b. if b == from then to else b))
 line_within (t.Drop byte) xs = omega (arith, filter_shorter (λ b. not (b == byte)) xs)
-line_within (t.Delay ms) xs = omega arith
+line_within _ xs = omega arith
 
 -- What fresh transforms have left to do, with an error for each, is no more than their lines' texts at each boundary.
 pub fresh_work : {P : Type 0} (rest : P → List ℕ → List ℕ) (pause : P → ℕ) (line_pause : TransformLine → ℕ) (ls : List TransformLine) (ps : List P) → AreOfLines rest pause line_pause ls ps → (v : List ℕ) (most : ℕ)

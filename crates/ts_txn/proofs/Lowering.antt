@@ -108,9 +108,7 @@ least_came _ = 0
 
 came_some : (p : Pulled) (most : ℕ) (more : List ℕ) → Came p most more → least_came p ≤ length more
 came_some (L.Some n) most more (len, some, few) = omega (arith, len, some)
-came_some L.End most more none = omega arith
-came_some L.Again most more none = omega arith
-came_some L.Failed most more none = omega arith
+came_some _ most more none = omega arith
 
 pub read_comes : (c d : LinkSide) (p : Pulled) → SideReads true c d p → Comes c d (least_came p)
 read_comes c d p reads =
@@ -165,10 +163,7 @@ same_length before after same = omega (arith, ap length same)
 pub went_some : (p : Pushed) (before after : List ℕ) → Went p before after → length after + least_went p ≤ length before
 went_some (V.Some n) before after (some, within, rest) =
     let len : length after ≡ length before - n = ap length rest ∙ length-drop n before in omega (arith, some, within, len)
-went_some V.Nothing before after went = omega (arith, same_length before after went.1)
-went_some V.Again before after went = omega (arith, same_length before after went.1)
-went_some V.Failed before after went = omega (arith, same_length before after went.1)
-went_some V.NoMemory before after went = omega (arith, same_length before after went.1)
+went_some _ before after went = omega (arith, same_length before after went.1)
 
 pub write_hear : (setup : Setup) (c d : LinkSide) (p : Pushed) → SideWrites true c d p → to_hear setup d ≤ to_hear setup c
 write_hear setup c d p writes =

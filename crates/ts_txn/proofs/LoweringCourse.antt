@@ -88,18 +88,12 @@ module _ {Q : Type 0} (setup : Setup) (rest : Q → List ℕ → List ℕ) where
 
   course_after_left : (step : BodyStep) (r : Relay Q) (w : View) (upload : Option ℕ) → course_left setup rest upload w (course_after r step) ≡ left_after setup rest step w r
   course_after_left S.Goes r w upload = refl
-  course_after_left S.Waits r w upload = refl
-  course_after_left (S.Finishes end) r w upload = refl
-  course_after_left (S.Closes end) r w upload = refl
-  course_after_left S.Lacks r w upload = refl
+  course_after_left _ r w upload = refl
 
   after_ended : (step : BodyStep) (r : Relay Q) (w : View) (before mid now : List Pending) (m : Option ℕ) (more : ℕ) → Falls (number_left before m) more (number_left mid (left_after setup rest step w r))
       → length now ≤ length mid + more → Falls (number_left before m) 0 (number_left now (ended_left w))
   after_ended S.Goes r w before mid now m more paid few = paid_end before mid now m (agains_left w) (Some 0) _ more paid few
-  after_ended S.Waits r w before mid now m more paid few = paid_end before mid now m (agains_left w) (Some 0) _ more paid few
-  after_ended (S.Finishes end) r w before mid now m more paid few = paid_end before mid now m (agains_left w) (Some 0) _ more paid few
-  after_ended (S.Closes end) r w before mid now m more paid few = paid_end before mid now m (agains_left w) (Some 0) _ more paid few
-  after_ended S.Lacks r w before mid now m more paid few = paid_end before mid now m (agains_left w) (Some 0) _ more paid few
+  after_ended _ r w before mid now m more paid few = paid_end before mid now m (agains_left w) (Some 0) _ more paid few
 
   pub body_led : (step : BodyStep) (r : Relay Q) (result : Course Q) (w : View) (upload : Option ℕ) (before mid now : List Pending) (m : Option ℕ) → StaysOnOrLacks (course_after r step) result
       → Falls (number_left before m) (set_leaving step) (number_left mid (left_after setup rest step w r)) → length now ≤ length mid + set_leaving step
@@ -120,16 +114,11 @@ module _ {Q : Type 0} (setup : Setup) (rest : Q → List ℕ → List ℕ) where
   pub lines_after : (step : BodyStep) (r s : Relay Q) → WhileGoes step (StaysOfLines setup rest r s) → IsOfLines setup rest r.driven.chain → IsOfLinesOn setup rest (course_after s step)
   lines_after S.Goes r s lines of = lines of
   lines_after S.Waits r s lines of = lines of
-  lines_after (S.Finishes end) r s lines of = tt
-  lines_after (S.Closes end) r s lines of = tt
-  lines_after S.Lacks r s lines of = tt
+  lines_after _ r s lines of = tt
 
   pub lines_last : (end : TxnEnd) (step : BodyStep) → IsOfLinesOn setup rest (finish_after end step)
   lines_last end S.Goes = tt
-  lines_last end S.Waits = tt
-  lines_last end (S.Finishes other) = tt
-  lines_last end (S.Closes other) = tt
-  lines_last end S.Lacks = tt
+  lines_last end _ = tt
 
   -- ---- the body began
 
@@ -167,17 +156,12 @@ module _ {Q : Type 0} (setup : Setup) (rest : Q → List ℕ → List ℕ) where
 
   finish_after_left : (end : TxnEnd) (step : BodyStep) (w : View) (upload : Option ℕ) → course_left setup rest upload w (finish_after end step) ≡ rest_after step w
   finish_after_left end S.Goes w upload = refl
-  finish_after_left end S.Waits w upload = refl
-  finish_after_left end (S.Finishes other) w upload = refl
-  finish_after_left end (S.Closes other) w upload = refl
-  finish_after_left end S.Lacks w upload = refl
+  finish_after_left end _ w upload = refl
 
   rest_ended : (step : BodyStep) (m : Option ℕ) (w : View) → Fewer m (rest_after step w) → Fewer m (ended_left w)
-  rest_ended S.Goes m w fell = ended_if m (agains_left w) (λ x. 2 + (x + length w.client.outbox)) fell
-  rest_ended S.Waits m w fell = ended_if m (agains_left w) (λ x. 2 + (x + length w.client.outbox)) fell
-  rest_ended (S.Finishes end) m w fell = ended_if m (agains_left w) (λ x. 2 + (x + length w.client.outbox)) fell
   rest_ended (S.Closes end) m w fell = ended_if m (agains_left w) (λ x. 1) fell
   rest_ended S.Lacks m w fell = fell
+  rest_ended _ m w fell = ended_if m (agains_left w) (λ x. 2 + (x + length w.client.outbox)) fell
 
   pub finish_led : (end : TxnEnd) (step : BodyStep) (result : Course Q) (v w : View) (upload : Option ℕ) (before now : List Pending) → StaysOnOrLacks (finish_after end step) result
       → Fewer (finish_left v) (rest_after step w) → length now ≤ length before + 1
@@ -241,10 +225,9 @@ pub hears_same : {R T : Type 0} (asked : Asked R T) (m n : Option ℕ) → n ≡
 hears_same {R} {T} asked m n same = subst (λ (x : Option ℕ). TellFalls asked m x) (sym same) (by_answer asked m)
   where
     by_answer : (asked : Asked R T) (m : Option ℕ) → TellFalls asked m m
-    by_answer (Reply r) m = falls_same m
     by_answer (Missed seen q) None = tt
     by_answer (Missed seen q) (Some x) = tt
-    by_answer (NoMemory q) m = falls_same m
+    by_answer _ m = falls_same m
 
 pub asked_same : (m n : Option ℕ) → n ≡ m → Falls m 0 n
 asked_same m n same = subst (λ (x : Option ℕ). Falls m 0 x) (sym same) (falls_same m)

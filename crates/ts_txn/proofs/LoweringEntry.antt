@@ -241,9 +241,8 @@ module _ {B : Type 0} (setup : Setup) (rest : B → List ℕ → List ℕ) (v : 
   started state.Bad c d gets = absurd gets
 
   started_first : (state : BodyState) (c d : ChainState B) → GetsStart state c d → d.first ≡ c.first
-  started_first state.Unfinished c d gets = ap (λ (x : ChainState B). x.first) gets
-  started_first state.Ended c d gets = ap (λ (x : ChainState B). x.first) gets
   started_first state.Bad c d gets = absurd gets
+  started_first _ c d gets = ap (λ (x : ChainState B). x.first) gets
 
   pub begins_lower : (step : BodyStep) (state : BodyState) (r s : Relay B) (a b : Context) → OnGoes step (GetsStart state r.driven.chain s.driven.chain) → BeginsRelay step s a b → BeginsLower setup rest step v r s
   begins_lower S.Goes state r s a b gets begins =
@@ -271,14 +270,10 @@ module _ {B : Type 0} (setup : Setup) (rest : B → List ℕ → List ℕ) (v : 
   begins_settled S.Goes (S.Finishes end) r m s lower on settled is = absurd settled
   begins_settled S.Goes (S.Closes end) r m s lower on settled is = absurd settled
   begins_settled S.Goes S.Lacks r m s lower on settled is = lacks_begun r s
-  begins_settled S.Waits result r m s lower on settled is = absurd on
-  begins_settled (S.Finishes end) result r m s lower on settled is = absurd on
-  begins_settled (S.Closes end) result r m s lower on settled is = absurd on
   begins_settled S.Lacks result r m s lower on settled is = subst (λ (x : BodyStep). BeginsLower setup rest x v r s) (sym settled) (lacks_begun r s)
+  begins_settled _ result r m s lower on settled is = absurd on
 
   pub begun_goes : (step : BodyStep) (s : Relay B) (a b : Context) → BeginsRelay step s a b → OnGoes step ⊤
   begun_goes S.Goes s a b begins = tt
-  begun_goes S.Waits s a b begins = begins.chain.runs
-  begun_goes (S.Finishes end) s a b begins = begins.chain.runs
-  begun_goes (S.Closes end) s a b begins = begins.chain.runs
   begun_goes S.Lacks s a b begins = tt
+  begun_goes _ s a b begins = begins.chain.runs

@@ -28,14 +28,11 @@ less_trans a b c first second = omega (arith, first, second)
 
 spent_own : (s : State) (es : List Entry) → AllOwn es → IsLawful s es → GREATEST ≤ s.next → length (replay s es).pending ≤ length s.pending
 spent_own s [] own lawful spent = omega arith
-spent_own s (Took turn seat ∷ es) own lawful spent = absurd own.0
-spent_own s (Gave turn ∷ es) own lawful spent = absurd own.0
 spent_own s (Made key ∷ es) own lawful spent = spent_own (after s (Made key)) es own.1 lawful.1 spent
 spent_own s (Set number key event due series period ∷ es) own lawful spent =
     let is : number ≡ s.next = lawful.0.1 in
     let below : number < GREATEST = lawful.0.2 in
     absurd (omega (arith, is, below, spent))
-spent_own s (Handled number moment ∷ es) own lawful spent = absurd own.0
 spent_own s (Cancelled number ∷ es) own lawful spent =
     less_trans (length (replay (after s (Cancelled number)) es).pending) (length (without number s.pending)) (length s.pending)
     (spent_own (after s (Cancelled number)) es own.1 lawful.1 spent) (fewer_without number s.pending lawful.0.1 lawful.0.2)
@@ -43,6 +40,7 @@ spent_own s (Dropped number ∷ es) own lawful spent =
     less_trans (length (replay (after s (Dropped number)) es).pending) (length (without number s.pending)) (length s.pending)
     (spent_own (after s (Dropped number)) es own.1 lawful.1 spent) (fewer_without number s.pending lawful.0.1 lawful.0.2)
 spent_own s (Destroyed key ∷ es) own lawful spent = spent_own (after s (Destroyed key)) es own.1 lawful.1 spent
+spent_own s _ own lawful spent = absurd own.0
 
 pub spent_none : (a b : Context) → Grows a b → GREATEST ≤ a.log.state.next → length b.log.state.pending ≤ length a.log.state.pending
 spent_none a b grows spent =
@@ -94,6 +92,5 @@ none_more a b few = omega (arith, few)
 
 pub step_pays : (before now : List Pending) (next : Next) (m m' : Option ℕ) → StepFalls next m m' → length now ≤ length before + set_after next
     → Falls (number_left before m) 0 (number_left now m')
-step_pays before now N.Go m m' fell few = paid_fewer before now m m' 0 fell (one_paid (length now) (length before) few)
-step_pays before now N.Wait m m' fell few = paid_fewer before now m m' 0 fell (one_paid (length now) (length before) few)
 step_pays before now N.Done m m' kept few = paid_none before now m m' kept (none_more (length now) (length before) few)
+step_pays before now _ m m' fell few = paid_fewer before now m m' 0 fell (one_paid (length now) (length before) few)

@@ -28,64 +28,24 @@ not_more (Some x) None fell = absurd fell
 not_more (Some x) (Some x') fell = omega (arith, fell)
 
 falls_by : (n : Next) (m m' : Option ℕ) → Fewer m m' → StepFalls n m m'
-falls_by N.Go m m' fell = fell
-falls_by N.Wait m m' fell = fell
 falls_by N.Done m m' fell = not_more m m' fell
+falls_by _ m m' fell = fell
 
 module _ (setup : Setup) (w : View) (m u' : Option ℕ) where
   -- the close for the client's fault
   closes_by : (p : Phase) → ClosesForClientFault p → Fewer m (work_left setup u' w (P.TxnClose E.ClientFault)) → Fewer m (work_left setup u' w p)
   closes_by (P.TxnClose end) same fell = subst (λ x. Fewer m (work_left setup u' w (P.TxnClose x))) (sym same) fell
-  closes_by P.Fresh same fell = absurd same
-  closes_by P.TxnStart same fell = absurd same
-  closes_by P.ReadRequest same fell = absurd same
-  closes_by (P.ReadRequestHdr q) same fell = absurd same
-  closes_by (P.OsDns q) same fell = absurd same
-  closes_by (P.SendRequestHdr q) same fell = absurd same
-  closes_by (P.SendRequest q) same fell = absurd same
-  closes_by (P.Upload q) same fell = absurd same
-  closes_by (P.ReadResponse q) same fell = absurd same
-  closes_by (P.ReadResponseHdr q h) same fell = absurd same
-  closes_by (P.ResponseTransform q h) same fell = absurd same
-  closes_by (P.SendResponseHdr a) same fell = absurd same
-  closes_by (P.Sending a) same fell = absurd same
-  closes_by (P.Ended end) same fell = absurd same
+  closes_by _ same fell = absurd same
 
   -- an answer of the proxy's own, after the origin's fault
   answers_by : (p : Phase) → AnswersOriginFault p → ((a : OwnAnswer) → Fewer m (work_left setup u' w (P.SendResponseHdr a))) → Fewer m (work_left setup u' w p)
   answers_by (P.SendResponseHdr a) same fell = fell a
-  answers_by P.Fresh same fell = absurd same
-  answers_by P.TxnStart same fell = absurd same
-  answers_by P.ReadRequest same fell = absurd same
-  answers_by (P.ReadRequestHdr q) same fell = absurd same
-  answers_by (P.OsDns q) same fell = absurd same
-  answers_by (P.SendRequestHdr q) same fell = absurd same
-  answers_by (P.SendRequest q) same fell = absurd same
-  answers_by (P.Upload q) same fell = absurd same
-  answers_by (P.ReadResponse q) same fell = absurd same
-  answers_by (P.ReadResponseHdr q h) same fell = absurd same
-  answers_by (P.ResponseTransform q h) same fell = absurd same
-  answers_by (P.Sending a) same fell = absurd same
-  answers_by (P.TxnClose end) same fell = absurd same
-  answers_by (P.Ended end) same fell = absurd same
+  answers_by _ same fell = absurd same
 
   -- and after a refusal
   refuses_by : (p : Phase) → AnswersRefusal p → ((a : OwnAnswer) → Fewer m (work_left setup u' w (P.SendResponseHdr a))) → Fewer m (work_left setup u' w p)
   refuses_by (P.SendResponseHdr a) same fell = fell a
-  refuses_by P.Fresh same fell = absurd same
-  refuses_by P.TxnStart same fell = absurd same
-  refuses_by P.ReadRequest same fell = absurd same
-  refuses_by (P.ReadRequestHdr q) same fell = absurd same
-  refuses_by (P.OsDns q) same fell = absurd same
-  refuses_by (P.SendRequestHdr q) same fell = absurd same
-  refuses_by (P.SendRequest q) same fell = absurd same
-  refuses_by (P.Upload q) same fell = absurd same
-  refuses_by (P.ReadResponse q) same fell = absurd same
-  refuses_by (P.ReadResponseHdr q h) same fell = absurd same
-  refuses_by (P.ResponseTransform q h) same fell = absurd same
-  refuses_by (P.Sending a) same fell = absurd same
-  refuses_by (P.TxnClose end) same fell = absurd same
-  refuses_by (P.Ended end) same fell = absurd same
+  refuses_by _ same fell = absurd same
 
 module _ (setup : Setup) (refuses : List ℕ → Type 0) (v w : View) (u u' : Option ℕ) (q : Request) (s : Step) where
   leads_on : (answer : Uploaded) → MovesUpload true true refuses answer v w → LowersUpload answer u u' v w → UploadLeads answer q s → StepLowers setup (P.Upload q) u u' v w s

@@ -39,10 +39,7 @@ use Rattle.ts_txn.proofs.LoweringSteps.{stays_calm}
 -- at most one event is set where a body is left
 pub set_one : (step : BodyStep) → set_leaving step ≤ 1
 set_one S.Goes = omega arith
-set_one S.Waits = omega arith
-set_one (S.Finishes end) = omega arith
-set_one (S.Closes end) = omega arith
-set_one S.Lacks = omega arith
+set_one _ = omega arith
 
 four_and_one : (p q n m : ℕ) → q ≤ p + 2 → n ≤ q + 2 → m ≤ 1 → n + m ≤ p + events_paid
 four_and_one p q n m first second more = omega (arith, first, second, more)
@@ -54,10 +51,7 @@ module _ {P : Type 0} (setup : Setup) (rest : P → List ℕ → List ℕ) where
   -- which continuations are roused is not seen
   same_left : (step : BodyStep) (w : View) (m : Relay P) (reader : Option StageContinuation) → left_after setup rest step w (record m { reader = reader }) ≡ left_after setup rest step w m
   same_left S.Goes w m reader = refl
-  same_left S.Waits w m reader = refl
-  same_left (S.Finishes end) w m reader = refl
-  same_left (S.Closes end) w m reader = refl
-  same_left S.Lacks w m reader = refl
+  same_left _ w m reader = refl
 
   left_settled : (step : BodyStep) (w : View) (m s : Relay P) → s ≡ record m { reader = s.reader } → left_after setup rest step w s ≡ left_after setup rest step w m
   left_settled step w m s is = ap (λ (x : Relay P). left_after setup rest step w x) is ∙ same_left step w m s.reader
@@ -85,12 +79,10 @@ module _ {P : Type 0} (setup : Setup) (rest : P → List ℕ → List ℕ) where
   stays_paid : (result : BodyStep) → OnGoes result ⊤ → (v : View) (r : Relay P) (a b : Context) → length b.log.state.pending ≤ length a.log.state.pending
       → Falls (number_left a.log.state.pending (relay_left setup rest v r)) (set_leaving result) (number_left b.log.state.pending (left_after setup rest result v r))
   stays_paid S.Goes on v r a b none = paid_none a.log.state.pending b.log.state.pending (relay_left setup rest v r) (relay_left setup rest v r) (no_more_same (relay_left setup rest v r)) none
-  stays_paid S.Waits on v r a b none = absurd on
-  stays_paid (S.Finishes end) on v r a b none = absurd on
-  stays_paid (S.Closes end) on v r a b none = absurd on
   stays_paid S.Lacks on v r a b none = paid_fewer a.log.state.pending b.log.state.pending (relay_left setup rest v r) (ended_left v) 1
       (to_ended setup rest (errors_left r.driven) false v v r.driven.chain (stays_calm setup v v refl))
       (none_and_one (length a.log.state.pending) (length b.log.state.pending) 1 none (omega arith))
+  stays_paid _ on v r a b none = absurd on
 
 -- what holds while a body goes on holds where it is settled
 settled_lines : (step result : BodyStep) → SettledAs step result → (A B B' : Type 0) → (B → B') → WhileGoes step (A → B) → WhileGoes result (A → B')
@@ -111,16 +103,12 @@ settled_lines S.Lacks result settled A B B' on lines = subst (λ (x : BodyStep).
 before_lines : (A B C : Type 0) (step : BodyStep) → (A → B) → WhileGoes step (B → C) → WhileGoes step (A → C)
 before_lines A B C S.Goes first lines = λ h. lines (first h)
 before_lines A B C S.Waits first lines = λ h. lines (first h)
-before_lines A B C (S.Finishes end) first lines = tt
-before_lines A B C (S.Closes end) first lines = tt
-before_lines A B C S.Lacks first lines = tt
+before_lines A B C _ first lines = tt
 
 goes_lines : (A B : Type 0) (step : BodyStep) → OnGoes step ⊤ → (A → B) → WhileGoes step (A → B)
 goes_lines A B S.Goes on lines = lines
-goes_lines A B S.Waits on lines = absurd on
-goes_lines A B (S.Finishes end) on lines = absurd on
-goes_lines A B (S.Closes end) on lines = absurd on
 goes_lines A B S.Lacks on lines = tt
+goes_lines A B _ on lines = absurd on
 
 -- ---- an end made its step, and then both ends were roused that must work
 
@@ -273,10 +261,8 @@ module _ {P : Type 0} (ct ot : Bool) (setup : Setup) (rest : P → List ℕ → 
       by_step S.Goes (S.Finishes end) on settled covered did = absurd settled
       by_step S.Goes (S.Closes end) on settled covered did = absurd settled
       by_step S.Goes S.Lacks on settled covered did = ended_paid
-      by_step S.Waits result on settled covered did = absurd on
-      by_step (S.Finishes end) result on settled covered did = absurd on
-      by_step (S.Closes end) result on settled covered did = absurd on
       by_step S.Lacks result on settled covered did = subst (λ (x : BodyStep). Paid x) (sym settled) ended_paid
+      by_step _ result on settled covered did = absurd on
 
 -- ---- nobody works at the event
 
@@ -331,10 +317,8 @@ module _ {P : Type 0} (ct ot : Bool) (setup : Setup) (rest : P → List ℕ → 
       by_stage (inr none) = same_errors (errors_to_pass e.table.items) (errors_to_pass r.driven.table.items) (ap (λ (x : DrivenChain P). errors_to_pass x.table.items) (other none))
 
   goes_after : (answer : Result ⊤ SetFault) → OnGoes (step_after answer) ⊤
-  goes_after (Ok x) = tt
   goes_after (Err F.Spent) = tt
-  goes_after (Err F.NoMemory) = tt
-  goes_after (Err F.Dead) = tt
+  goes_after _ = tt
 
   chain_less : (l l' : ℕ) (c d : ChainState P) → l' ≡ left_to_do rest d [] → l ≡ left_to_do rest c [] → WorksOrStays rest c d → l' ≤ l
   chain_less l l' c d is was (inl same) = let left : left_to_do rest d [] ≡ left_to_do rest c [] = ap (λ (x : ChainState P). left_to_do rest x []) same in omega (arith, is, was, left)

@@ -191,10 +191,9 @@ module _ {P : Type 0} (ct ot : Bool) (must : Type 0) (setup : Setup) (rest : P �
     SameTable = (all_unroused s.driven.table.items ≡ all_unroused r.driven.table.items) × (s.driven.running ≡ true → r.driven.running ≡ true)
 
     lines_after : (answer : Result ⊤ SetFault) → StaysOfLines setup rest r s → WhileGoes (step_after answer) (StaysOfLines setup rest r s)
-    lines_after (Ok x) lines = lines
-    lines_after (Err F.Spent) lines = lines
     lines_after (Err F.NoMemory) lines = tt
     lines_after (Err F.Dead) lines = tt
+    lines_after _ lines = lines
 
     with_table : SameTable → (m : Option ℕ) → Fewer m (body_left setup rest (errors_left r.driven) w s.driven.chain) → Fewer m (relay_left setup rest w s)
     with_table same m fell = fewer_errors setup rest (errors_left s.driven) (errors_left r.driven) m w s.driven.chain
@@ -217,18 +216,16 @@ module _ {P : Type 0} (ct ot : Bool) (must : Type 0) (setup : Setup) (rest : P �
                 (λ x. end_room + (x + length w.client.outbox) + to_hear setup w.origin + pump_weight * (left_to_do rest s.driven.chain [] + errors_left r.driven) + to_end s.driven.chain.given) fell
 
         by_answer : (answer : Result ⊤ SetFault) → Fewer (relay_left setup rest v r) (left_after setup rest (step_after answer) w s)
-        by_answer (Ok x) = goes_on
-        by_answer (Err F.Spent) = goes_on
         by_answer (Err F.NoMemory) = lacks
         by_answer (Err F.Dead) = lacks
+        by_answer _ = goes_on
 
     -- ---- the body is fed
 
     given_first : (state : BodyState) (part : List ℕ) → state ≢ B.Bad → GetsPart state part r.driven.chain s.driven.chain
         → (s.driven.chain.first ≡ r.driven.chain.first ++ part) × (s.driven.chain.stages ≡ r.driven.chain.stages)
-    given_first B.Unfinished part good gets = (ap (λ (c : ChainState P). c.first) gets, ap (λ (c : ChainState P). c.stages) gets)
-    given_first B.Ended part good gets = (ap (λ (c : ChainState P). c.first) gets, ap (λ (c : ChainState P). c.stages) gets)
     given_first B.Bad part good gets = absurd (good refl)
+    given_first _ part good gets = (ap (λ (c : ChainState P). c.first) gets, ap (λ (c : ChainState P). c.stages) gets)
 
     unfinished_less : (piece : ℕ) (c d : Bool) → c ≡ false → d ≡ c → 0 < piece → to_end d + 1 ≤ to_end c + piece
     unfinished_less piece c d going same some = omega (arith, ap to_end same, some)
@@ -282,11 +279,9 @@ module _ {P : Type 0} (ct ot : Bool) (must : Type 0) (setup : Setup) (rest : P �
     closes_input S.Goes ends going reads same reader = lowers_by S.Goes v w r s a b reader (same_lines setup rest r.driven.chain s.driven.chain (ap (λ (c : ChainState P). c.stages) ends)) (λ told also of.
         with_table same (relay_left setup rest v r) (closes setup rest (errors_left r.driven) v w r.driven.chain s.driven.chain (read_calm v w r a L.End (also_told v w r a L.End also reads))
         (ap (λ (x : View). length x.client.outbox) reads.others) going ends))
-    closes_input S.Waits ends going reads same reader = absurd ends
-    closes_input (S.Finishes end) ends going reads same reader = absurd ends
-    closes_input (S.Closes end) ends going reads same reader = absurd ends
     closes_input S.Lacks ends going reads same reader = lowers_by S.Lacks v w r s a b reader tt (λ told also of.
         to_ended setup rest (errors_left r.driven) false v w r.driven.chain (read_calm v w r a L.End (also_told v w r a L.End also reads)))
+    closes_input _ ends going reads same reader = absurd ends
 
     -- what waits of the body was fed
     pub feeds_lower : (step : BodyStep) → FeedsTo step r.body s.body v.origin.inbox w.origin.inbox r.driven.chain s.driven.chain → DrainsOrigin v w → r.driven.chain.given ≡ false

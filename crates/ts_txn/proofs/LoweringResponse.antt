@@ -41,9 +41,7 @@ decimal_short n = let all : length (digits_onto 64 10 false n []) ≤ 64 + 0 = o
 
 framing_short : (f : ClientFraming) → length (framing_line f) ≤ 96
 framing_short (C.Sized n) = omega (arith, decimal_short n, length-append (codes "content-length: " ++ decimal n) crlf_bytes, length-append (codes "content-length: ") (decimal n))
-framing_short C.Chunked = omega arith
-framing_short C.Close = omega arith
-framing_short C.Nothing = omega arith
+framing_short _ = omega arith
 
 -- ---- the head that was read
 

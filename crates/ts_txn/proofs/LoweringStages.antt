@@ -63,11 +63,8 @@ module _ {P : Type 0} (rest : P → List ℕ → List ℕ) (c d : ChainState P) 
       (moved-some c.given c.first c.stages at n answers))
   pumped_works at Ended answers steps given =
       inr (one_less (left_to_do rest d []) (left_to_do rest c []) 1 (stepped-less rest c.given c.first c.stages at Ended d.first d.stages answers steps [] (nothing_more c.given)) (omega arith))
-  pumped_works at (Blocked w) answers steps given =
-      let same = stepped_rests rest (Blocked w) (λ s s' from from' h. (h.0, h.1)) c.first c.stages at d.first d.stages steps in
-      inl (chain_same c d same.0 same.1 given)
-  pumped_works at Idle answers steps given =
-      let same = stepped_rests rest Idle (λ s s' from from' h. (h.0, h.1)) c.first c.stages at d.first d.stages steps in
+  pumped_works at r answers steps given =
+      let same = stepped_rests rest r (λ s s' from from' h. (h.0, h.1)) c.first c.stages at d.first d.stages steps in
       inl (chain_same c d same.0 same.1 given)
 
   pub once_works : PumpsOnce rest c d → WorksOrStays
@@ -88,15 +85,8 @@ module _ {P : Type 0} (rest : P → List ℕ → List ℕ) (pause : P → ℕ) (
   acts_errors event acts true may is passes = gone_fewer ts us at (acts.closed is).1
   acts_errors Error acts false true is passes = less_one (errors_to_pass us) (errors_to_pass ts) (passed_less ts us at (acts.error_passed refl is) passes)
   acts_errors Error acts false false is passes = same_less (errors_to_pass us) (errors_to_pass ts) (passed_same ts us at (acts.error_passed refl is) passes)
-  acts_errors Immediate acts false may is passes = same_less (errors_to_pass us) (errors_to_pass ts) (errors_same ts us (acts.same (λ e. absurd (let wrong : Immediate ≡ Error = e in cc)) is))
-  acts_errors Timeout acts false may is passes = same_less (errors_to_pass us) (errors_to_pass ts) (errors_same ts us (acts.same (λ e. absurd (let wrong : Timeout ≡ Error = e in cc)) is))
-  acts_errors ReadReady acts false may is passes = same_less (errors_to_pass us) (errors_to_pass ts) (errors_same ts us (acts.same (λ e. absurd (let wrong : ReadReady ≡ Error = e in cc)) is))
-  acts_errors WriteReady acts false may is passes = same_less (errors_to_pass us) (errors_to_pass ts) (errors_same ts us (acts.same (λ e. absurd (let wrong : WriteReady ≡ Error = e in cc)) is))
-  acts_errors ReadComplete acts false may is passes = same_less (errors_to_pass us) (errors_to_pass ts) (errors_same ts us (acts.same (λ e. absurd (let wrong : ReadComplete ≡ Error = e in cc)) is))
-  acts_errors WriteComplete acts false may is passes = same_less (errors_to_pass us) (errors_to_pass ts) (errors_same ts us (acts.same (λ e. absurd (let wrong : WriteComplete ≡ Error = e in cc)) is))
-  acts_errors Eos acts false may is passes = same_less (errors_to_pass us) (errors_to_pass ts) (errors_same ts us (acts.same (λ e. absurd (let wrong : Eos ≡ Error = e in cc)) is))
-  acts_errors InactivityTimeout acts false may is passes = same_less (errors_to_pass us) (errors_to_pass ts) (errors_same ts us (acts.same (λ e. absurd (let wrong : InactivityTimeout ≡ Error = e in cc)) is))
-  acts_errors Hook acts false may is passes = same_less (errors_to_pass us) (errors_to_pass ts) (errors_same ts us (acts.same (λ e. absurd (let wrong : Hook ≡ Error = e in cc)) is))
+  acts_errors event acts false may is passes =
+      same_less (errors_to_pass us) (errors_to_pass ts) (errors_same ts us (acts.same (λ e. absurd (let wrong : event ≡ Error = e in cc)) is))
 
   pub errors_fall : (event : Event) → ActsAt rest pause at event c d ts vs us was now a b → errors_to_pass us ≤ errors_to_pass ts
   errors_fall event acts = acts_errors event acts (ended_at c.stages at) (may_pass_error_at ts at) refl refl

@@ -52,9 +52,7 @@ over_four r a b c d least = omega (arith, least)
 
 one_of : (f : OwnStatus → ℕ) (s : OwnStatus) → f s ≤ f O.BadRequest + f O.Forbidden + f O.NotImplemented + f O.BadGateway
 one_of f O.BadRequest = omega arith
-one_of f O.Forbidden = omega arith
-one_of f O.NotImplemented = omega arith
-one_of f O.BadGateway = omega arith
+one_of f _ = omega arith
 
 -- no answer of the proxy's own was queued yet
 abbrev pub IsEarly : Phase → Type 0

@@ -43,9 +43,7 @@ write_failed t s r p is writes kept =
 -- no more waits than one read brings behind what waited
 came_few : (p : Pulled) (most : ℕ) (more : List ℕ) → Came p most more → length more ≤ most
 came_few (L.Some n) most more (len, some, few) = omega (arith, len, few)
-came_few L.End most more none = let no : length more ≡ 0 = ap length none in omega (arith, no)
-came_few L.Again most more none = let no : length more ≡ 0 = ap length none in omega (arith, no)
-came_few L.Failed most more none = let no : length more ≡ 0 = ap length none in omega (arith, no)
+came_few _ most more none = let no : length more ≡ 0 = ap length none in omega (arith, no)
 
 pub few_pulled : (t : Bool) (c d : Look) (before after : List ℕ) (most : ℕ) (r : Result Pulled NoMemory) → IfOk r (λ p. PullsOn t c d before after p most)
     → IfOk r (λ p. length after ≤ length before + most)

@@ -28,9 +28,7 @@ use Rattle.ts_txn.proofs.OneSide.{stays, write_count, write_failed}
 
 own_piece : (status : OwnStatus) → IsPiece (own_body status)
 own_piece O.BadRequest = (omega arith, omega arith)
-own_piece O.Forbidden = (omega arith, omega arith)
-own_piece O.NotImplemented = (omega arith, omega arith)
-own_piece O.BadGateway = (omega arith, omega arith)
+own_piece _ = (omega arith, omega arith)
 
 abbrev pieces_of : Bool → OwnStatus → List (List ℕ)
 pieces_of true status = []

@@ -302,10 +302,9 @@ module _ (setup : Setup) (refuses : Type 0) where
 
   -- where a step leads at which a stage was roused, or could not be
   pub leads_after : (goes : Type 0) (v : View) (r : Result ⊤ SetFault) → goes → EndFact setup refuses v E.NoMemory → LeadsBody setup refuses goes v (step_after r)
-  leads_after goes v (Ok x) on lacks = on
-  leads_after goes v (Err F.Spent) on lacks = on
   leads_after goes v (Err F.NoMemory) on lacks = lacks
   leads_after goes v (Err F.Dead) on lacks = lacks
+  leads_after goes v _ on lacks = on
 
   pub frames_step : {P : Type 0} (rest : P → List ℕ → List ℕ) (v w : View) (c d : ChainState P) (place : Place) (piece : List ℕ) (n : ℕ) (r : Result ⊤ SetFault)
       (step : BodyStep) → step ≡ step_after r → FramesPiece piece v w → IsPiece piece → TakesAway rest n c d → piece ≡ take n (client_wait c)

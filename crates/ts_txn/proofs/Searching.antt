@@ -89,8 +89,7 @@ reads_on framing bytes body rest made left old new fed was goes is behind =
 
 is_unfinished : (s : BodyState) → (s ≡ B.Unfinished) ⊎ (s ≢ B.Unfinished)
 is_unfinished B.Unfinished = inl refl
-is_unfinished B.Ended = inr (λ e. absurd (cc))
-is_unfinished B.Bad = inr (λ e. absurd (cc))
+is_unfinished _ = inr (λ e. absurd (cc))
 
 -- a reader that stays unfinished before the end of the bytes has taken some
 pub reads_some : (rest left : List ℕ) (old new : Place) (fed : Fed) → TakesBytes old new rest fed → (state_of old.phase ≢ B.Unfinished → fed.state ≡ state_of old.phase)

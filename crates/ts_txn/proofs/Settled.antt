@@ -132,14 +132,6 @@ module _ (setup : Setup) (R S : Type 0) (to : R → S) (from : S → R) where
   finishing v end h = record { count = h.count; some = h.some; took = h.took; queues = queues_for v end h.queues }
 
   pub phase_fact : (v : View) (p : Phase) → PhaseFact setup R v p → PhaseFact setup S v p
-  phase_fact v P.Fresh h = h
-  phase_fact v P.TxnStart h = h
-  phase_fact v P.ReadRequest h = h
-  phase_fact v (P.ReadRequestHdr q) h = h
-  phase_fact v (P.OsDns q) h = h
-  phase_fact v (P.SendRequestHdr q) h = h
-  phase_fact v (P.SendRequest q) h = h
-  phase_fact v (P.Upload q) h = h
   phase_fact v (P.ReadResponse q) h = awaits v q h
   phase_fact v (P.ReadResponseHdr q r) h = relays v q r h
   phase_fact v (P.ResponseTransform q r) h = relays v q r h
@@ -147,3 +139,4 @@ module _ (setup : Setup) (R S : Type 0) (to : R → S) (from : S → R) where
   phase_fact v (P.Sending a) h = sends v a h
   phase_fact v (P.TxnClose end) h = end_fact v end h
   phase_fact v (P.Ended end) h = end_fact v end h
+  phase_fact v _ h = h

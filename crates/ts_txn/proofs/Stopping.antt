@@ -287,11 +287,9 @@ module _ (setup : Setup) (refuses : Type 0) where
     pub closes_lead : (d : ChainState P) (step : BodyStep) → ReadsOrigin t v w L.End → v.origin.inbox ≡ [] → (over : Bool) → EndsHere over place → over ≡ true
         → OnGoes step (d ≡ record c { given = true }) → LeadsBody setup refuses (RelaysBody setup refuses rest w d place) w step
     closes_lead d S.Goes reads none over here so gets = reads_closed d reads none over here so gets
-    closes_lead d S.Waits reads none over here so gets = absurd gets
-    closes_lead d (S.Finishes end) reads none over here so gets = absurd gets
-    closes_lead d (S.Closes end) reads none over here so gets = absurd gets
     closes_lead d S.Lacks reads none over here so gets =
         relays_lacks setup refuses rest w c place (reads_on setup refuses rest t v w L.End c place told going reads r)
+    closes_lead d _ reads none over here so gets = absurd gets
 
   -- memory lacked for a read
   pub unread_lacks : {P : Type 0} (rest : P → List ℕ → List ℕ) (v w : View) (c : ChainState P) (place : Place) → w ≡ v → RelaysBody setup refuses rest v c place

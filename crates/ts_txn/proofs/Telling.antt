@@ -26,14 +26,6 @@ some_number pending None told = cc
 some_number pending (Some n) told = refl
 
 some_upload : (upload : Option ℕ) (p : Phase) → IsSome upload → IsSome (upload_in upload p)
-some_upload upload P.Fresh told = told
-some_upload upload P.TxnStart told = told
-some_upload upload P.ReadRequest told = told
-some_upload upload (P.ReadRequestHdr q) told = told
-some_upload upload (P.OsDns q) told = told
-some_upload upload (P.SendRequestHdr q) told = told
-some_upload upload (P.SendRequest q) told = told
-some_upload upload (P.Upload q) told = told
 some_upload upload (P.ReadResponse q) told = refl
 some_upload upload (P.ReadResponseHdr q h) told = refl
 some_upload upload (P.ResponseTransform q h) told = refl
@@ -41,13 +33,13 @@ some_upload upload (P.SendResponseHdr a) told = refl
 some_upload upload (P.Sending a) told = refl
 some_upload upload (P.TxnClose end) told = refl
 some_upload upload (P.Ended end) told = refl
+some_upload upload _ told = told
 
 module _ {C O Q : Type 0} (client : C → Look) (origin : O → Look) (left : C → O → Option ℕ) (rest : Q → List ℕ → List ℕ) (core : Core C O) where
   some_course : (course : Course Q) → IsSome (agains_left (view_of client origin core)) → IsSome (upload_told left core.client.link core.origin)
       → IsSome (course_left (arc_value core.setup) rest (upload_told left core.client.link core.origin) (view_of client origin core) course)
   some_course (K.Phased p) agains uploads = some_told _ _ _ agains (some_upload _ p uploads)
-  some_course (K.Relaying r) agains uploads = some_told _ _ _ agains refl
-  some_course (K.Finishing end) agains uploads = some_told _ _ _ agains refl
+  some_course _ agains uploads = some_told _ _ _ agains refl
 
   -- where they tell how many Again answers and how much upload they have left
   pub tells : (course : Course Q) (pending : List Pending) → IsSome (agains_left (view_of client origin core)) → IsSome (upload_told left core.client.link core.origin)
