@@ -35,6 +35,7 @@ use Rattle.ts_txn.specs.declared.relay.Relay.{Relay}
 use Rattle.ts_txn.proofs.Chaining.{drives_after, grows_next}
 use Rattle.ts_txn.proofs.Duty.{stage_keeps}
 use Rattle.ts_txn.proofs.Relaying.{leads_after, relays_lacks}
+use Rattle.ts_txn.proofs.Settling.{only_goes, settled_has, while_on}
 
 -- ---- both ends are roused
 
@@ -50,11 +51,6 @@ covered_spent : {P : Type 0} (X : Type 0) (step : BodyStep) (v : View) (u : Opti
 covered_spent X S.Goes v u s next goes spent = inr spent
 covered_spent X S.Lacks v u s next goes spent = tt
 covered_spent X _ v u s next goes spent = absurd goes
-
-only_goes : (X : Type 0) (step : BodyStep) → OnGoes step X → OnGoes step ⊤
-only_goes X S.Goes goes = tt
-only_goes X S.Lacks goes = tt
-only_goes X _ goes = absurd goes
 
 pub settles : {P : Type 0} (step : BodyStep) (writes : Bool) (v : View) (t u : Option StageContinuation) (r s : Relay P) (a b : Context) → IsOrderly a → TellsDuty writes v r.driven.chain
     → EndsRouse step writes t u r s a b → s ≡ record r { reader = s.reader } → SettlesBody step v t u r s a b
@@ -114,21 +110,7 @@ settles_none step v t r a turn settled ends = record {
 -- where it leads
 pub settled_leads : (setup : Setup) (refuses goes : Type 0) (v : View) (step result : BodyStep) → SettledAs step result → (goes → EndFact setup refuses v E.NoMemory)
     → LeadsBody setup refuses goes v step → LeadsBody setup refuses goes v result
-settled_leads setup refuses goes v S.Goes result settled lacks h = by_result result settled
-  where
-    by_result : (result : BodyStep) → OnGoes result ⊤ → LeadsBody setup refuses goes v result
-    by_result S.Goes on = h
-    by_result S.Lacks on = lacks h
-    by_result _ on = absurd on
-settled_leads setup refuses goes v S.Waits result settled lacks h = by_result result settled
-  where
-    by_result : (result : BodyStep) → OnGoes result ⊤ → LeadsBody setup refuses goes v result
-    by_result S.Goes on = h
-    by_result S.Lacks on = lacks h
-    by_result _ on = absurd on
-settled_leads setup refuses goes v (S.Finishes end) result settled lacks h = subst (LeadsBody setup refuses goes v) (sym settled) h
-settled_leads setup refuses goes v (S.Closes end) result settled lacks h = subst (LeadsBody setup refuses goes v) (sym settled) h
-settled_leads setup refuses goes v S.Lacks result settled lacks h = subst (LeadsBody setup refuses goes v) (sym settled) h
+settled_leads setup refuses goes v step result settled lacks = settled_has (LeadsBody setup refuses goes v) (λ h. h) lacks step result settled
 
 -- ---- an event is handled
 
@@ -142,11 +124,6 @@ covered_after : {P : Type 0} (step result : BodyStep) (v w : View) (t u : Option
     → (next : ℕ) → SettledAs step result → (RunsOr m b → WhileGoes step (OnGoes result (IsBodyCovered w u s next))) → IsBodyCovered v t r a → WhileGoes result (IsBodyCovered w u s next)
 covered_after {P} step result v w t u r m s a b c later on is next settled after covered = by_step step on settled after
   where
-    on_goes : (result : BodyStep) → OnGoes result (IsBodyCovered w u s next) → WhileGoes result (IsBodyCovered w u s next)
-    on_goes S.Goes h = h
-    on_goes S.Waits h = absurd h
-    on_goes _ h = tt
-
     none : (result step : BodyStep) → result ≡ step → ((X : Type 0) → WhileGoes step X) → WhileGoes result (IsBodyCovered w u s next)
     none result step same ends = subst (λ (x : BodyStep). WhileGoes x (IsBodyCovered w u s next)) (sym same) (ends _)
 
@@ -155,14 +132,15 @@ covered_after {P} step result v w t u r m s a b c later on is next settled after
 
     by_step : (step : BodyStep) → DrivesOn step r.driven m.driven c → SettledAs step result → (RunsOr m b → WhileGoes step (OnGoes result (IsBodyCovered w u s next)))
         → WhileGoes result (IsBodyCovered w u s next)
-    by_step S.Goes on settled after = on_goes result (after (runs on))
-    by_step S.Waits on settled after = on_goes result (after (runs on))
+    by_step S.Goes on settled after = while_on (IsBodyCovered w u s next) result (after (runs on))
+    by_step S.Waits on settled after = while_on (IsBodyCovered w u s next) result (after (runs on))
     by_step step on settled after = none result step settled (λ X. tt)
 
 -- so they do behind the step, where it leads on or to the end of a body
 runs_after : {P : Type 0} (step result : BodyStep) (v : View) (t : Option StageContinuation) (r m s : Relay P) (a next : ℕ) (c : Context) → a ≤ c.log.state.next → c.log.state.next ≤ next
     → DrivesOn step r.driven m.driven c → s.driven ≡ m.driven → SettledAs step result → IsBodyCovered v t r a → UnlessLacking result (RunsOr s next)
-runs_after step result v t r m s a next c later after on same settled covered = by_step step on settled
+runs_after step result v t r m s a next c later after on same settled covered =
+    settled_has (λ x. UnlessLacking x (RunsOr s next)) (λ h. h) (λ h. tt) step result settled (by_step step on)
   where
     kept : RunsOr m c.log.state.next → RunsOr s next
     kept (inl runs) = inl (ap (λ d. d.running) same ∙ runs)
@@ -171,13 +149,9 @@ runs_after step result v t r m s a next c later after on same settled covered = 
     runs : (m.driven.running ≡ r.driven.running) ⊎ (GREATEST ≤ c.log.state.next) → RunsOr s next
     runs h = kept (runs_or v t r m a c.log.state.next later h covered)
 
-    unless : (result : BodyStep) → RunsOr s next → UnlessLacking result (RunsOr s next)
-    unless S.Lacks h = tt
-    unless _ h = h
-
-    by_step : (step : BodyStep) → DrivesOn step r.driven m.driven c → SettledAs step result → UnlessLacking result (RunsOr s next)
-    by_step S.Lacks on settled = subst (λ (x : BodyStep). UnlessLacking x (RunsOr s next)) (sym settled) tt
-    by_step _ on settled = unless result (runs on)
+    by_step : (step : BodyStep) → DrivesOn step r.driven m.driven c → UnlessLacking step (RunsOr s next)
+    by_step S.Lacks on = tt
+    by_step _ on = runs on
 
 pub handles_by : {P : Type 0} (role : ℕ) (event : Event) (step result : BodyStep) (v w : View) (t m u : Option StageContinuation) (r q s : Relay P) (a c b : Context) → IsOrderly a
     → ActsWithin 4 a c → DrivesOn step r.driven q.driven c
@@ -325,34 +299,26 @@ begins_covered : {P : Type 0} (step result : BodyStep) (w : View) (u : Option St
     → (RunsOr m c.log.state.next → WhileGoes step (OnGoes result (IsBodyCovered w u s next))) → WhileGoes result (IsBodyCovered w u s next)
 begins_covered {P} step result w u m s c next runs settled after = by_step step runs settled after
   where
-    on_goes : (result : BodyStep) → OnGoes result (IsBodyCovered w u s next) → WhileGoes result (IsBodyCovered w u s next)
-    on_goes S.Goes h = h
-    on_goes S.Waits h = absurd h
-    on_goes _ h = tt
-
     by_step : (step : BodyStep) → BeginsRunning step m.driven c → SettledAs step result → (RunsOr m c.log.state.next → WhileGoes step (OnGoes result (IsBodyCovered w u s next)))
         → WhileGoes result (IsBodyCovered w u s next)
-    by_step S.Goes runs settled after = on_goes result (after runs)
+    by_step S.Goes runs settled after = while_on (IsBodyCovered w u s next) result (after runs)
     by_step S.Lacks runs settled after = subst (λ (x : BodyStep). WhileGoes x (IsBodyCovered w u s next)) (sym settled) tt
     by_step _ runs settled after = absurd runs
 
 -- so its stages run
 begins_runs : {P : Type 0} (step result : BodyStep) (m s : Relay P) (c : Context) (next : ℕ) → c.log.state.next ≤ next → s.driven ≡ m.driven → BeginsRunning step m.driven c → SettledAs step result
     → UnlessLacking result (RunsOr s next)
-begins_runs step result m s c next later same runs settled = by_step step runs settled
+begins_runs step result m s c next later same runs settled =
+    settled_has (λ x. UnlessLacking x (RunsOr s next)) (λ h. h) (λ h. tt) step result settled (by_step step runs)
   where
     kept : (m.driven.running ≡ true) ⊎ (GREATEST ≤ c.log.state.next) → RunsOr s next
     kept (inl runs) = inl (ap (λ d. d.running) same ∙ runs)
     kept (inr spent) = inr (omega (arith, spent, later))
 
-    unless : (result : BodyStep) → RunsOr s next → UnlessLacking result (RunsOr s next)
-    unless S.Lacks h = tt
-    unless _ h = h
-
-    by_step : (step : BodyStep) → BeginsRunning step m.driven c → SettledAs step result → UnlessLacking result (RunsOr s next)
-    by_step S.Goes runs settled = unless result (kept runs)
-    by_step S.Lacks runs settled = subst (λ (x : BodyStep). UnlessLacking x (RunsOr s next)) (sym settled) tt
-    by_step _ runs settled = absurd runs
+    by_step : (step : BodyStep) → BeginsRunning step m.driven c → UnlessLacking step (RunsOr s next)
+    by_step S.Goes runs = kept runs
+    by_step S.Lacks runs = tt
+    by_step _ runs = absurd runs
 
 -- and it is passed on, unless memory lacked
 begins_goes : {P : Type 0} (step result : BodyStep) (m : Relay P) (c : Context) → BeginsRunning step m.driven c → SettledAs step result → OnGoes result ⊤

@@ -49,6 +49,7 @@ use Rattle.ts_txn.specs.declared.finishing.BodyStep.TheVariants as S
 use Rattle.ts_txn.specs.declared.parts.Sent.{Sent}
 use Rattle.ts_txn.specs.declared.relay.Relay.{Relay}
 use Rattle.ts_txn.specs.declared.relay.TheConstants.{FIRST, READER}
+use Rattle.ts_txn.proofs.Settling.{settled_has, unless_lacking}
 
 -- ---- a link that is not called
 
@@ -136,10 +137,6 @@ no_longer_drop n xs ys same = omega (arith, ap length same, length-drop n xs)
 
 holds_kept : {P : Type 0} (v w : View) (c d : ChainState P) → length w.origin.inbox ≤ length v.origin.inbox → length d.first ≤ length c.first → HoldsLittle v c → HoldsLittle w d
 holds_kept v w c d inbox first h = record { held = omega (arith, inbox, h.held); front = omega (arith, first, h.front) }
-
-unless_lacking : (X : Type 0) (step : BodyStep) → X → UnlessLacking step X
-unless_lacking X S.Lacks h = tt
-unless_lacking X _ h = h
 
 -- what is taken from the end of a chain leaves no more at its front
 taken_shorter : {P : Type 0} (from : List ℕ) (ss : List (Stage P)) (n : ℕ) (from' : List ℕ) (ss' : List (Stage P)) → Takes from ss n from' ss' → length from' ≤ length from
@@ -377,18 +374,10 @@ minds_as ct ot v w c d e step result cl ol client origin holds h = record {
 
 minds_settled : {P : Type 0} (ct ot : Bool) (v w : View) (c d e : ChainState P) (step result : BodyStep) (cl ol : Bool) → SettledAs step result → e ≡ d → MindsBody ct ot v w c d step cl ol
     → MindsBody ct ot v w c e result cl ol
-minds_settled {P} ct ot v w c d e step result cl ol settled chain h = subst (λ k. MindsBody ct ot v w c k result cl ol) (sym chain) (by_step step settled h)
-  where
-    on : (step : BodyStep) → is_client_fault step ≡ false → is_origin_fault step ≡ false → OnGoes result ⊤ → (HoldsLittle v c → HoldsLittle w d) → MindsBody ct ot v w c d step cl ol
-        → MindsBody ct ot v w c d result cl ol
-    on step no_client no_origin goes holds m =
-        let calm = calm_goes ⊤ result goes in
-        minds_as ct ot v w c d d step result cl ol (calm.client ∙ sym no_client) (calm.origin ∙ sym no_origin) (unless_lacking (HoldsLittle v c → HoldsLittle w d) result holds) m
-
-    by_step : (step : BodyStep) → SettledAs step result → MindsBody ct ot v w c d step cl ol → MindsBody ct ot v w c d result cl ol
-    by_step S.Goes goes m = on S.Goes refl refl goes m.holds m
-    by_step S.Waits goes m = on S.Waits refl refl goes m.holds m
-    by_step _ same m = subst (λ x. MindsBody ct ot v w c d x cl ol) (sym same) m
+minds_settled {P} ct ot v w c d e step result cl ol settled chain h =
+    subst (λ k. MindsBody ct ot v w c k result cl ol) (sym chain)
+    (settled_has (λ x. MindsBody ct ot v w c d x cl ol) (λ m. minds_as ct ot v w c d d S.Waits S.Goes cl ol refl refl m.holds m)
+    (λ m. minds_as ct ot v w c d d S.Goes S.Lacks cl ol refl refl tt m) step result settled h)
 
 -- ---- which events are set
 

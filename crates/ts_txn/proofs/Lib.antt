@@ -49,6 +49,7 @@ mod Saying
 mod Searching
 pub mod Seating
 pub mod Settled
+pub mod Settling
 mod Sites
 pub mod Sparing
 pub mod Stopping

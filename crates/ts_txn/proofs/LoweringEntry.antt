@@ -131,13 +131,7 @@ fresh_has_room setup rest pause line_pause F.Nothing p ps c of made = less_has_r
   where
     no_lines : (n : ℕ) → length {A = TransformLine} [] ≤ n
     no_lines n = omega arith
-fresh_has_room setup rest pause line_pause (F.Sized n) p ps c of made =
-    less_has_room setup rest pause line_pause (filter p setup.transforms.items) ps c (filter_less p setup.transforms.items) (filter_few p setup.transforms.items) of made
-fresh_has_room setup rest pause line_pause F.Chunked p ps c of made =
-    less_has_room setup rest pause line_pause (filter p setup.transforms.items) ps c (filter_less p setup.transforms.items) (filter_few p setup.transforms.items) of made
-fresh_has_room setup rest pause line_pause F.UntilClose p ps c of made =
-    less_has_room setup rest pause line_pause (filter p setup.transforms.items) ps c (filter_less p setup.transforms.items) (filter_few p setup.transforms.items) of made
-fresh_has_room setup rest pause line_pause F.Faulty p ps c of made =
+fresh_has_room setup rest pause line_pause _ p ps c of made =
     less_has_room setup rest pause line_pause (filter p setup.transforms.items) ps c (filter_less p setup.transforms.items) (filter_few p setup.transforms.items) of made
 
 pub parts_have_room : {P : Type 0} (setup : Setup) (rest : P → List ℕ → List ℕ) (pause : P → ℕ) (line_pause : TransformLine → ℕ) (q : RequestHead) (h : ResponseHead) (c : ChainState P)
@@ -266,10 +260,8 @@ module _ {B : Type 0} (setup : Setup) (rest : B → List ℕ → List ℕ) (v : 
   -- both ends are roused that must work
   pub begins_settled : (step result : BodyStep) (r m s : Relay B) → BeginsLower setup rest step v r m → OnGoes step ⊤ → SettledAs step result → s ≡ record m { reader = s.reader } → BeginsLower setup rest result v r s
   begins_settled S.Goes S.Goes r m s lower on settled is = subst (λ (x : Relay B). BeginsLower setup rest S.Goes v r x) (sym is) (record { lines = lower.lines; first = lower.first; falls = lower.falls })
-  begins_settled S.Goes S.Waits r m s lower on settled is = absurd settled
-  begins_settled S.Goes (S.Finishes end) r m s lower on settled is = absurd settled
-  begins_settled S.Goes (S.Closes end) r m s lower on settled is = absurd settled
   begins_settled S.Goes S.Lacks r m s lower on settled is = lacks_begun r s
+  begins_settled S.Goes _ r m s lower on settled is = absurd settled
   begins_settled S.Lacks result r m s lower on settled is = subst (λ (x : BodyStep). BeginsLower setup rest x v r s) (sym settled) (lacks_begun r s)
   begins_settled _ result r m s lower on settled is = absurd on
 

@@ -35,6 +35,7 @@ use Rattle.ts_txn.proofs.Lowering.{no_more_same}
 use Rattle.ts_txn.proofs.LoweringRelay.{ended_if, errors_fewer, loses_runs}
 use Rattle.ts_txn.proofs.LoweringStages.{StageDid, WorksOrStays, errors_fall, handled_lines, once_works, stage_did}
 use Rattle.ts_txn.proofs.LoweringSteps.{stays_calm}
+use Rattle.ts_txn.proofs.Settling.{goes_after, on_then, settled_has, settled_while, while_on, while_then}
 
 -- at most one event is set where a body is left
 pub set_one : (step : BodyStep) → set_leaving step ≤ 1
@@ -61,19 +62,7 @@ module _ {P : Type 0} (setup : Setup) (rest : P → List ℕ → List ℕ) where
   ended_less m w r fell = ended_if m (agains_left w) (λ x. body_work setup rest (errors_left r.driven) x w r.driven.chain) fell
 
   settled_less : (step result : BodyStep) → SettledAs step result → (m : Option ℕ) (w : View) (r : Relay P) → Fewer m (left_after setup rest step w r) → Fewer m (left_after setup rest result w r)
-  settled_less S.Goes S.Goes settled m w r fell = fell
-  settled_less S.Goes S.Waits settled m w r fell = absurd settled
-  settled_less S.Goes (S.Finishes end) settled m w r fell = absurd settled
-  settled_less S.Goes (S.Closes end) settled m w r fell = absurd settled
-  settled_less S.Goes S.Lacks settled m w r fell = ended_less m w r fell
-  settled_less S.Waits S.Goes settled m w r fell = fell
-  settled_less S.Waits S.Waits settled m w r fell = absurd settled
-  settled_less S.Waits (S.Finishes end) settled m w r fell = absurd settled
-  settled_less S.Waits (S.Closes end) settled m w r fell = absurd settled
-  settled_less S.Waits S.Lacks settled m w r fell = ended_less m w r fell
-  settled_less (S.Finishes end) result settled m w r fell = subst (λ (x : BodyStep). Fewer m (left_after setup rest x w r)) (sym settled) fell
-  settled_less (S.Closes end) result settled m w r fell = subst (λ (x : BodyStep). Fewer m (left_after setup rest x w r)) (sym settled) fell
-  settled_less S.Lacks result settled m w r fell = subst (λ (x : BodyStep). Fewer m (left_after setup rest x w r)) (sym settled) fell
+  settled_less step result settled m w r = settled_has (λ x. Fewer m (left_after setup rest x w r)) (λ h. h) (ended_less m w r) step result settled
 
   -- nothing was done, and no event was set
   stays_paid : (result : BodyStep) → OnGoes result ⊤ → (v : View) (r : Relay P) (a b : Context) → length b.log.state.pending ≤ length a.log.state.pending
@@ -83,32 +72,6 @@ module _ {P : Type 0} (setup : Setup) (rest : P → List ℕ → List ℕ) where
       (to_ended setup rest (errors_left r.driven) false v v r.driven.chain (stays_calm setup v v refl))
       (none_and_one (length a.log.state.pending) (length b.log.state.pending) 1 none (omega arith))
   stays_paid _ on v r a b none = absurd on
-
--- what holds while a body goes on holds where it is settled
-settled_lines : (step result : BodyStep) → SettledAs step result → (A B B' : Type 0) → (B → B') → WhileGoes step (A → B) → WhileGoes result (A → B')
-settled_lines S.Goes S.Goes settled A B B' on lines = λ h. on (lines h)
-settled_lines S.Goes S.Waits settled A B B' on lines = absurd settled
-settled_lines S.Goes (S.Finishes end) settled A B B' on lines = tt
-settled_lines S.Goes (S.Closes end) settled A B B' on lines = tt
-settled_lines S.Goes S.Lacks settled A B B' on lines = tt
-settled_lines S.Waits S.Goes settled A B B' on lines = λ h. on (lines h)
-settled_lines S.Waits S.Waits settled A B B' on lines = absurd settled
-settled_lines S.Waits (S.Finishes end) settled A B B' on lines = tt
-settled_lines S.Waits (S.Closes end) settled A B B' on lines = tt
-settled_lines S.Waits S.Lacks settled A B B' on lines = tt
-settled_lines (S.Finishes end) result settled A B B' on lines = subst (λ (x : BodyStep). WhileGoes x (A → B')) (sym settled) tt
-settled_lines (S.Closes end) result settled A B B' on lines = subst (λ (x : BodyStep). WhileGoes x (A → B')) (sym settled) tt
-settled_lines S.Lacks result settled A B B' on lines = subst (λ (x : BodyStep). WhileGoes x (A → B')) (sym settled) tt
-
-before_lines : (A B C : Type 0) (step : BodyStep) → (A → B) → WhileGoes step (B → C) → WhileGoes step (A → C)
-before_lines A B C S.Goes first lines = λ h. lines (first h)
-before_lines A B C S.Waits first lines = λ h. lines (first h)
-before_lines A B C _ first lines = tt
-
-goes_lines : (A B : Type 0) (step : BodyStep) → OnGoes step ⊤ → (A → B) → WhileGoes step (A → B)
-goes_lines A B S.Goes on lines = lines
-goes_lines A B S.Lacks on lines = tt
-goes_lines A B _ on lines = absurd on
 
 -- ---- an end made its step, and then both ends were roused that must work
 
@@ -120,8 +83,8 @@ module _ {P : Type 0} (ct ot : Bool) (must : Type 0) (setup : Setup) (rest : P �
       → LowersBody ct ot must setup rest step v w q m a c → SetsFew 2 a c → SettlesAfter step result w t u m s c b → s ≡ record m { reader = s.reader }
       → PaysBody ct ot setup rest result v w main r s a b
   end_pays same of_lines roused lowers few settles is = record {
-    lines = settled_lines step result settles.settled (IsOfLines setup rest r.driven.chain) (IsOfLines setup rest m.driven.chain) (IsOfLines setup rest s.driven.chain)
-        (subst (λ (x : Relay P). IsOfLines setup rest x.driven.chain) (sym is)) (before_lines (IsOfLines setup rest r.driven.chain) (IsOfLines setup rest q.driven.chain) (IsOfLines setup rest m.driven.chain) step of_lines lowers.lines);
+    lines = settled_while (StaysOfLines setup rest r s) step result settles.settled
+        (while_then (StaysOfLines setup rest q m) (StaysOfLines setup rest r s) step (λ lines of. subst (λ (x : Relay P). IsOfLines setup rest x.driven.chain) (sym is) (lines (of_lines of))) lowers.lines);
     pays = λ told also of covered. subst (λ (n : Option ℕ). Falls (number_left a.log.state.pending (relay_left setup rest v r)) (set_leaving result) (number_left b.log.state.pending n))
         (sym (left_settled setup rest result w m s is))
         (subst (λ (n : Option ℕ). Falls (number_left a.log.state.pending n) (set_leaving result) (number_left b.log.state.pending (left_after setup rest result w m))) same
@@ -175,10 +138,10 @@ module _ {P : Type 0} (ct ot : Bool) (setup : Setup) (rest : P → List ℕ → 
       → StageDid rest r.driven.chain m.driven.chain r.driven.table.items m.driven.table.items a c → ActsWithin 4 a c
       → SettlesAfter step result v main u m s c b → s ≡ record m { reader = s.reader } → PaysBody ct ot setup rest result v v main r s a b
   stage_pays on stays was given less fewer runs did acts settles is = record {
-    lines = settled_lines step result settles.settled (IsOfLines setup rest r.driven.chain) (IsOfLines setup rest m.driven.chain) (IsOfLines setup rest s.driven.chain)
-        (subst (λ (x : Relay P). IsOfLines setup rest x.driven.chain) (sym is)) (goes_lines (IsOfLines setup rest r.driven.chain) (IsOfLines setup rest m.driven.chain) step on stays);
+    lines = settled_while (StaysOfLines setup rest r s) step result settles.settled
+        (while_on (StaysOfLines setup rest r s) step (on_then (StaysOfLines setup rest r s) step on (λ of. subst (λ (x : Relay P). IsOfLines setup rest x.driven.chain) (sym is) (stays of))));
     pays = λ told also of covered. subst (λ (n : Option ℕ). Falls (number_left a.log.state.pending (relay_left setup rest v r)) (set_leaving result) (number_left b.log.state.pending n))
-        (sym (left_settled setup rest result v m s is)) (by_step step result on settles.settled covered did);
+        (sym (left_settled setup rest result v m s is)) (settled_has Paid (λ h. h) (λ h. ended_paid) step result settles.settled (by_step step on covered did));
   }
     where
       work : ℕ
@@ -254,15 +217,11 @@ module _ {P : Type 0} (ct ot : Bool) (setup : Setup) (rest : P → List ℕ → 
           (errors_fewer m.driven.running r.driven.running (errors_to_pass m.driven.table.items) (errors_to_pass r.driven.table.items) fewer runs))
           (spent_none a b (grows_trans acts.grows settles.adds.grows) spent)
 
-      by_step : (step result : BodyStep) → OnGoes step ⊤ → SettledAs step result → IsBodyCovered v main r a.log.state.next
-          → StageDid rest r.driven.chain m.driven.chain r.driven.table.items m.driven.table.items a c → Paid result
-      by_step S.Goes S.Goes on settled covered did = goes_paid covered did
-      by_step S.Goes S.Waits on settled covered did = absurd settled
-      by_step S.Goes (S.Finishes end) on settled covered did = absurd settled
-      by_step S.Goes (S.Closes end) on settled covered did = absurd settled
-      by_step S.Goes S.Lacks on settled covered did = ended_paid
-      by_step S.Lacks result on settled covered did = subst (λ (x : BodyStep). Paid x) (sym settled) ended_paid
-      by_step _ result on settled covered did = absurd on
+      by_step : (step : BodyStep) → OnGoes step ⊤ → IsBodyCovered v main r a.log.state.next
+          → StageDid rest r.driven.chain m.driven.chain r.driven.table.items m.driven.table.items a c → Paid step
+      by_step S.Goes on covered did = goes_paid covered did
+      by_step S.Lacks on covered did = ended_paid
+      by_step _ on covered did = absurd on
 
 -- ---- nobody works at the event
 
@@ -315,10 +274,6 @@ module _ {P : Type 0} (ct ot : Bool) (setup : Setup) (rest : P → List ℕ → 
           → errors_to_pass e.table.items ≤ errors_to_pass r.driven.table.items
       by_stage (inl (at, is, stage)) = errors_fall rest pause at r.driven.chain e.chain r.driven.table.items _ e.table.items r.driven.running e.running a c event (acts at is stage)
       by_stage (inr none) = same_errors (errors_to_pass e.table.items) (errors_to_pass r.driven.table.items) (ap (λ (x : DrivenChain P). errors_to_pass x.table.items) (other none))
-
-  goes_after : (answer : Result ⊤ SetFault) → OnGoes (step_after answer) ⊤
-  goes_after (Err F.Spent) = tt
-  goes_after _ = tt
 
   chain_less : (l l' : ℕ) (c d : ChainState P) → l' ≡ left_to_do rest d [] → l ≡ left_to_do rest c [] → WorksOrStays rest c d → l' ≤ l
   chain_less l l' c d is was (inl same) = let left : left_to_do rest d [] ≡ left_to_do rest c [] = ap (λ (x : ChainState P). left_to_do rest x []) same in omega (arith, is, was, left)
