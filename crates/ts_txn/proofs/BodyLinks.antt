@@ -1,5 +1,5 @@
 -- The steps of a body, and what they do with the two links: which counts rise, and which events are set when.
-use Rattle.std.proofs.Common.{◌≡◌, ℕ, zero, suc, ◌+◌, ◌<◌, ◌≤◌, ◌⊎◌, inl, inr, List, [], ◌∷◌, ◌++◌, Bool, true, false, Option, Some, None, Result, Ok, Err, length, length-append, append_assoc, drop, refl, sym, ap, subst, ◌∙◌, arith}
+use Rattle.std.proofs.Common.{◌≡◌, ℕ, zero, suc, ◌+◌, ◌<◌, ◌≤◌, ◌⊎◌, inl, inr, List, [], ◌∷◌, ◌++◌, Bool, true, false, Option, Some, None, Result, Err, length, length-append, append_assoc, drop, refl, sym, ap, subst, ◌∙◌, arith}
 use Rattle.std.proofs.lemmas.List.{append-nil, length-drop}
 use Rattle.std.specs.Prelude.{⊤}
 use Rattle.ts_hooks.specs.declared.txn_end.TxnEnd.{TxnEnd}
@@ -11,11 +11,11 @@ use Rattle.ts_group.specs.declared.action.Named.{Named}
 use Rattle.ts_group.specs.declared.action.SetFault.{SetFault}
 use Rattle.ts_group.specs.declared.action.SetFault.TheVariants as F
 use Rattle.ts_group.specs.Context.{Context, IsSame}
-use Rattle.ts_link.specs.Link.{Calls, Look, NoMore}
+use Rattle.ts_link.specs.Link.{Calls, Look}
 use Rattle.ts_transform.specs.Acting.{IsStage}
 use Rattle.ts_transform.specs.Cover.{IsRousing, MaySet}
 use Rattle.ts_transform.specs.Driven.{Acts, IsDrivenWhile, IsOfNoStage}
-use Rattle.ts_transform.specs.Driving.{AreNamed, IsNamedIf, IsOfStageIf, IsRousingOf, Keeps, KeepsOthers, SetsOnly, unroused, unroused_at, works_at}
+use Rattle.ts_transform.specs.Driving.{AreNamed, IsNamedIf, IsRousingOf, Keeps, KeepsOthers, SetsOnly, unroused, unroused_at, works_at}
 use Rattle.ts_transform.specs.Flow.{ChainState, MustRead, PumpsOnce, StepsAt, Takes, TakesAway}
 use Rattle.ts_transform.specs.Stage.{Steps}
 use Rattle.ts_transform.specs.declared.pump.Pumped.{Pumped}
@@ -24,8 +24,9 @@ use Rattle.ts_transform.specs.declared.pump.Stage.{Stage}
 use Rattle.ts_transform.specs.declared.continuation.StageContinuation.{StageContinuation}
 use Rattle.ts_transform.specs.declared.driven.DrivenChain.{DrivenChain}
 use Rattle.ts_transform.proofs.Along.{named_handled, stage_at}
+use Rattle.ts_transform.proofs.Joined.{named_of, named_unroused}
 use Rattle.ts_transform.proofs.Setting.{of_stages_named, only_none, only_same, only_trans, only_weaker}
-use Rattle.ts_vconn.specs.MoveAnswers.{Came, Went, pull_again, pull_failed, push_again, push_failed}
+use Rattle.ts_vconn.specs.MoveAnswers.{Went, pull_again, pull_failed, push_again, push_failed}
 use Rattle.ts_vconn.specs.declared.moves.Pulled.{Pulled}
 use Rattle.ts_vconn.specs.declared.moves.Pulled.TheVariants as L
 use Rattle.ts_vconn.specs.declared.moves.Pushed.{Pushed}
@@ -49,16 +50,14 @@ use Rattle.ts_txn.specs.declared.finishing.BodyStep.TheVariants as S
 use Rattle.ts_txn.specs.declared.parts.Sent.{Sent}
 use Rattle.ts_txn.specs.declared.relay.Relay.{Relay}
 use Rattle.ts_txn.specs.declared.relay.TheConstants.{FIRST, READER}
+use Rattle.ts_txn.proofs.Lowering.{no_more_same, same_length}
+use Rattle.ts_txn.proofs.OneSide.{came_few}
 use Rattle.ts_txn.proofs.Settling.{settled_has, unless_lacking}
 
 -- ---- a link that is not called
 
-no_more : (n : Option ℕ) → NoMore n n
-no_more None = tt
-no_more (Some n) = omega arith
-
 calls_none : (l m : Look) → m ≡ l → Calls l m false false
-calls_none l m same = subst (λ x. Calls l x false false) (sym same) (record { source = refl; name = refl; plan = refl; faults = refl; waits = refl; agains = no_more l.agains })
+calls_none l m same = subst (λ x. Calls l x false false) (sym same) (record { source = refl; name = refl; plan = refl; faults = refl; waits = refl; agains = no_more_same l.agains })
 
 calls_as : (l m : Look) (failed waited f g : Bool) → f ≡ failed → g ≡ waited → Calls l m failed waited → Calls l m f g
 calls_as l m failed waited f g failed_is waited_is calls = subst (λ x. Calls l m x g) (sym failed_is) (subst (λ x. Calls l m failed x) (sym waited_is) calls)
@@ -129,9 +128,6 @@ queued_wrote t v w p writes =
 
 -- ---- what is held
 
-no_longer : (xs ys : List ℕ) → ys ≡ xs → length ys ≤ length xs
-no_longer xs ys same = omega (arith, ap length same)
-
 no_longer_drop : (n : ℕ) (xs ys : List ℕ) → ys ≡ drop n xs → length ys ≤ length xs
 no_longer_drop n xs ys same = omega (arith, ap length same, length-drop n xs)
 
@@ -142,37 +138,33 @@ holds_kept v w c d inbox first h = record { held = omega (arith, inbox, h.held);
 taken_shorter : {P : Type 0} (from : List ℕ) (ss : List (Stage P)) (n : ℕ) (from' : List ℕ) (ss' : List (Stage P)) → Takes from ss n from' ss' → length from' ≤ length from
 taken_shorter from [] n from' ss' takes = no_longer_drop n from from' takes.0
 taken_shorter from (s ∷ ss) n from' [] takes = absurd takes
-taken_shorter from (s ∷ ss) n from' (s' ∷ ss') takes = no_longer from from' takes.0
+taken_shorter from (s ∷ ss) n from' (s' ∷ ss') takes = same_length from from' takes.0
 
 -- nor does the work of a stage
 steps_shorter : {P : Type 0} (rest : P → List ℕ → List ℕ) (from : List ℕ) (s : Stage P) (r : Pumped) (from' : List ℕ) (s' : Stage P) → Steps rest from s r from' s' → length from' ≤ length from
 steps_shorter rest from s (U.Moved n) from' s' steps = no_longer_drop n from from' steps.0
-steps_shorter rest from s _ from' s' steps = no_longer from from' steps.0
+steps_shorter rest from s _ from' s' steps = same_length from from' steps.0
 
 pumped_shorter : {P : Type 0} (rest : P → List ℕ → List ℕ) (from : List ℕ) (ss : List (Stage P)) (at : ℕ) (r : Pumped) (from' : List ℕ) (ss' : List (Stage P)) → StepsAt rest from ss at r from' ss'
     → length from' ≤ length from
 pumped_shorter rest from [] at r from' ss' steps = absurd steps
 pumped_shorter rest from (s ∷ ss) at r from' [] steps = absurd steps
 pumped_shorter rest from (s ∷ ss) zero r from' (s' ∷ ss') steps = steps_shorter rest from s r from' s' steps.0
-pumped_shorter rest from (s ∷ ss) (suc at) r from' (s' ∷ ss') steps = no_longer from from' steps.0
+pumped_shorter rest from (s ∷ ss) (suc at) r from' (s' ∷ ss') steps = same_length from from' steps.0
 
 once_shorter : {P : Type 0} (rest : P → List ℕ → List ℕ) (c d : ChainState P) → PumpsOnce rest c d → length d.first ≤ length c.first
-once_shorter rest c d (inl same) = no_longer c.first d.first (ap (λ k. k.first) same)
+once_shorter rest c d (inl same) = same_length c.first d.first (ap (λ k. k.first) same)
 once_shorter rest c d (inr (at, pumps)) = pumped_shorter rest c.first c.stages at pumps.pumped d.first d.stages pumps.steps
 
 -- a read brings no more than one piece, where nothing waited
-came_few : (p : Pulled) (most : ℕ) (more : List ℕ) → most ≤ MOST_PULLED → Came p most more → length more ≤ MOST_PULLED
-came_few (L.Some n) most more few came = omega (arith, few, came.0, came.2)
-came_few _ most more few came = omega (arith, ap length came)
-
 read_few : (t : Bool) (v w : View) (p : Pulled) → v.origin.inbox ≡ [] → ReadsOrigin t v w p → length w.origin.inbox ≤ MOST_PULLED
 read_few t v w p none reads =
-    let few = came_few p reads.origin.most reads.origin.pulls.more reads.origin.few reads.origin.pulls.pulls.came in
-    omega (arith, few, ap length (reads.origin.pulls.grows ∙ ap (λ (x : List ℕ). x ++ reads.origin.pulls.more) none))
+    let came = came_few p reads.origin.most reads.origin.pulls.more reads.origin.pulls.pulls.came in
+    omega (arith, came, reads.origin.few, ap length (reads.origin.pulls.grows ∙ ap (λ (x : List ℕ). x ++ reads.origin.pulls.more) none))
 
 went_shorter : (p : Pushed) (before after : List ℕ) → Went p before after → length after ≤ length before
 went_shorter (V.Some n) before after went = no_longer_drop n before after went.2
-went_shorter _ before after went = no_longer before after went.1
+went_shorter _ before after went = same_length before after went.1
 
 -- what is fed comes to the front of the chain, which had room
 fed_first : {P : Type 0} (state : BodyState) (part : List ℕ) (c d : ChainState P) → GetsPart state part c d → length d.first ≤ length c.first + length part
@@ -207,12 +199,12 @@ module _ {P : Type 0} (ct ot : Bool) (v w : View) (c d : ChainState P) (step : B
     unread = unread_same ct v.client w.client (ap (λ x. x.client) same);
     unwritten = unwritten_same ot v.origin w.origin (ap (λ x. x.origin) same);
     queued = queued_same ct v w (ap (λ x. x.sent) same) (ap (λ x. x.client) same);
-    queues = inl (no_longer v.client.outbox w.client.outbox (ap (λ x. x.client.outbox) same));
-    holds = unless_lacking (HoldsLittle v c → HoldsLittle w d) step (holds_kept v w c d (no_longer v.origin.inbox w.origin.inbox (ap (λ x. x.origin.inbox) same)) shorter);
+    queues = inl (same_length v.client.outbox w.client.outbox (ap (λ x. x.client.outbox) same));
+    holds = unless_lacking (HoldsLittle v c → HoldsLittle w d) step (holds_kept v w c d (same_length v.origin.inbox w.origin.inbox (ap (λ x. x.origin.inbox) same)) shorter);
   }
 
   minds_none : IsCalm step → cl ≡ false → ol ≡ false → w ≡ v → d ≡ c → MindsBody ct ot v w c d step cl ol
-  minds_none calm no_client no_origin same chain = still_minds calm no_client no_origin same (no_longer c.first d.first (ap (λ k. k.first) chain))
+  minds_none calm no_client no_origin same chain = still_minds calm no_client no_origin same (same_length c.first d.first (ap (λ k. k.first) chain))
 
   -- a text was queued for the client
   queued_minds : (text cuts : List ℕ) → IsCalm step → cl ≡ false → ol ≡ false → v.client.outbox ≡ [] → QueuesText text cuts v w → length d.first ≤ length c.first → MindsBody ct ot v w c d step cl ol
@@ -226,11 +218,11 @@ module _ {P : Type 0} (ct ot : Bool) (v w : View) (c d : ChainState P) (step : B
         unwritten = unwritten_same ot v.origin w.origin queued.origin;
         queued = queued_text ct text cuts v w queued;
         queues = inr none;
-        holds = unless_lacking (HoldsLittle v c → HoldsLittle w d) step (holds_kept v w c d (no_longer v.origin.inbox w.origin.inbox (ap (λ (s : LinkSide). s.inbox) queued.origin)) shorter);
+        holds = unless_lacking (HoldsLittle v c → HoldsLittle w d) step (holds_kept v w c d (same_length v.origin.inbox w.origin.inbox (ap (λ (s : LinkSide). s.inbox) queued.origin)) shorter);
       }
 
   minds_queued : (text cuts : List ℕ) → IsCalm step → cl ≡ false → ol ≡ false → v.client.outbox ≡ [] → d ≡ c → QueuesText text cuts v w → MindsBody ct ot v w c d step cl ol
-  minds_queued text cuts calm no_client no_origin none chain queued = queued_minds text cuts calm no_client no_origin none queued (no_longer c.first d.first (ap (λ k. k.first) chain))
+  minds_queued text cuts calm no_client no_origin none chain queued = queued_minds text cuts calm no_client no_origin none queued (same_length c.first d.first (ap (λ k. k.first) chain))
 
   -- that of a piece, which was taken from the chain
   minds_framed : (text cuts : List ℕ) (rest : P → List ℕ → List ℕ) (n : ℕ) → IsCalm step → cl ≡ false → ol ≡ false → v.client.outbox ≡ [] → TakesAway rest n c d → QueuesText text cuts v w
@@ -250,7 +242,7 @@ module _ {P : Type 0} (ct ot : Bool) (v w : View) (c d : ChainState P) (step : B
         unread = unread_same ct v.client w.client (ap (λ (x : View). x.client) drains);
         unwritten = record { writes = ap (λ (l : Look). l.writes) look; waits = ap (λ (x : View). x.origin.outbox) drains; taken = λ told. ap (λ (l : Look). l.taken) look };
         queued = queued_same ct v w (ap (λ (x : View). x.sent) drains) (ap (λ (x : View). x.client) drains);
-        queues = inl (no_longer v.client.outbox w.client.outbox (ap (λ (x : View). x.client.outbox) drains));
+        queues = inl (same_length v.client.outbox w.client.outbox (ap (λ (x : View). x.client.outbox) drains));
         holds = feeds_holds step v w c d old new must feeds;
       }
 
@@ -267,7 +259,7 @@ module _ {P : Type 0} (ct ot : Bool) (v w : View) (c d : ChainState P) (step : B
         queued = queued_wrote ct v w p writes;
         queues = inl (went_shorter p v.client.outbox w.client.outbox writes.client.pushes.went);
         holds = unless_lacking (HoldsLittle v c → HoldsLittle w d) step
-            (holds_kept v w c d (no_longer v.origin.inbox w.origin.inbox (ap (λ (s : LinkSide). s.inbox) origin)) (no_longer c.first d.first (ap (λ k. k.first) chain)));
+            (holds_kept v w c d (same_length v.origin.inbox w.origin.inbox (ap (λ (s : LinkSide). s.inbox) origin)) (same_length c.first d.first (ap (λ k. k.first) chain)));
       }
 
   -- the origin was read
@@ -282,7 +274,7 @@ module _ {P : Type 0} (ct ot : Bool) (v w : View) (c d : ChainState P) (step : B
         unread = unread_same ct v.client w.client client;
         unwritten = record { writes = reads.origin.pulls.pulls.once.writes; waits = reads.origin.outbox; taken = λ told. (reads.origin.pulls.pulls.told told).taken };
         queued = queued_same ct v w (ap (λ (x : View). x.sent) reads.others) client;
-        queues = inl (no_longer v.client.outbox w.client.outbox (ap (λ (s : LinkSide). s.outbox) client));
+        queues = inl (same_length v.client.outbox w.client.outbox (ap (λ (s : LinkSide). s.outbox) client));
         holds = read_holds step shorter;
       }
     where
@@ -296,7 +288,7 @@ module _ {P : Type 0} (ct ot : Bool) (v w : View) (c d : ChainState P) (step : B
   minds_read : (p : Pulled) → is_origin_fault step ≡ pull_failed p → ol ≡ pull_again p → is_client_fault step ≡ false → cl ≡ false → MustRead c → v.origin.inbox ≡ [] → d ≡ c → ReadsOrigin ot v w p
       → MindsBody ct ot v w c d step cl ol
   minds_read p failed again no_client ready must none chain reads =
-      read_minds p failed again no_client ready must none reads (unless_lacking (length d.first ≤ length c.first) step (no_longer c.first d.first (ap (λ k. k.first) chain)))
+      read_minds p failed again no_client ready must none reads (unless_lacking (length d.first ≤ length c.first) step (same_length c.first d.first (ap (λ k. k.first) chain)))
 
   -- and its end was met, up to which the body goes
   minds_ended : cl ≡ false → ol ≡ is_late step → MustRead c → v.origin.inbox ≡ [] → OnGoes step (d ≡ record c { given = true }) → ReadsOrigin ot v w L.End → MindsBody ct ot v w c d step cl ol
@@ -305,7 +297,7 @@ module _ {P : Type 0} (ct ot : Bool) (v w : View) (c d : ChainState P) (step : B
       read_minds L.End calm.origin (late ∙ calm.late) calm.client ready must none reads (by_step step goes)
     where
       by_step : (step : BodyStep) → OnGoes step (d ≡ record c { given = true }) → UnlessLacking step (length d.first ≤ length c.first)
-      by_step S.Goes goes = no_longer c.first d.first (ap (λ k. k.first) goes)
+      by_step S.Goes goes = same_length c.first d.first (ap (λ k. k.first) goes)
       by_step S.Lacks goes = tt
       by_step _ goes = absurd goes
 
@@ -418,11 +410,6 @@ in_time writes reads t r a c b moment keeps first of_main of_reader ends =
 no_pause : (b : Bool) → pause_if b 0 ≡ 0
 no_pause true = refl
 no_pause false = refl
-
--- an end whose event was handled has its role
-named_unroused : (roles : List Named) (role : ℕ) (t : Option StageContinuation) → IsNamedIf roles role t → IsNamedIf roles role (unroused t)
-named_unroused roles role None named = tt
-named_unroused roles role (Some t) named = named
 
 named_later : (a c : Context) (role : ℕ) (t u : Option StageContinuation) → Keeps a c → u ≡ t → IsNamedIf a.roles role t → IsNamedIf c.roles role u
 named_later a c role t u keeps same named = subst (λ roles. IsNamedIf roles role u) (sym keeps.roles) (subst (IsNamedIf a.roles role) (sym same) named)
@@ -569,10 +556,6 @@ body_in_time step t m s a c b begins same adds first ends runs of_main =
   where
     Such : Pending → Type 0
     Such p = IsOfRoleFrom FIRST b.roles p ⊎ IsOfEnd 0 0 a.moment b.roles p
-
-    named_of : (pending : List Pending) (roles : List Named) (role : ℕ) (u : Option StageContinuation) → IsOfStageIf pending roles role u → IsNamedIf roles role u
-    named_of pending roles role None h = tt
-    named_of pending roles role (Some u) h = h.named
 
     named_made : (u : Option StageContinuation) → IsNamedIf a.roles MAIN u → IsNamedIf c.roles MAIN u
     named_made None h = tt

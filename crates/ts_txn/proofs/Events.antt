@@ -10,13 +10,12 @@ use Rattle.ts_journal.specs.declared.entry.Pending.{Pending}
 use Rattle.ts_transform.specs.Driving.{ActsWithin, IsDueAfter, IsNamedIf, SetsOnly, unroused}
 use Rattle.ts_transform.specs.Seats.{AllSeated, HasKey}
 use Rattle.ts_transform.specs.declared.continuation.StageContinuation.{StageContinuation}
-use Rattle.ts_transform.proofs.Setting.{only_none}
 use Rattle.std.specs.Prelude.{⊤}
 use Rattle.ts_txn.specs.BodyLinks.{BeginsInTime}
 use Rattle.ts_txn.specs.Course.{course_after, finish_after}
 use Rattle.ts_txn.specs.Cover.{Proceeds, StepLeads, StepsTo, is_ended, is_fresh, is_fresh_on}
 use Rattle.ts_txn.specs.CourseCover.{IsCoveredNow, LedAfter, LedBehind, StaysOnOrLacks, set_leaving}
-use Rattle.ts_txn.specs.Driven.{BeginsIn, ClosesAs, DueTo, HandlesEvent, HandlesOn, HandlesStep, HandlesWrite, MindsCourse, TakesEvent, TakesOn, TakesStep, WritesOr, delay_of}
+use Rattle.ts_txn.specs.Driven.{BeginsIn, ClosesAs, DueTo, HandlesEvent, HandlesOn, MindsCourse, TakesEvent, TakesOn, TakesStep, WritesOr, delay_of}
 use Rattle.ts_txn.specs.Entering.{QuietLinks}
 use Rattle.ts_txn.specs.Steps.{LeavesClient, LeavesClientIn, LeavesOrigin, LeavesOriginIn, LeavesSides, MindsLinksIn, WaitsRightly}
 use Rattle.ts_txn.specs.Holding.{IfTold}
@@ -35,8 +34,6 @@ use Rattle.ts_txn.specs.declared.phase.Phase.TheVariants as P
 use Rattle.ts_txn.specs.declared.phase.Step.{Step}
 use Rattle.ts_txn.specs.declared.relay.Relay.{Relay}
 use Rattle.ts_txn.proofs.Coursing.{behind_led}
-use Rattle.ts_txn.proofs.Leaving.{still_leaves}
-use Rattle.ts_txn.proofs.Sparing.{still_spares}
 
 module _ (v w : View) where
   leaves_in : (p : Phase) → LeavesOrigin v w → LeavesOriginIn p v w
@@ -65,11 +62,6 @@ module _ (v w : View) where
       calls : (p : Phase) → BeginsIn p v w → QuietLinks v w
       calls (P.ResponseTransform q h) begins = begins
       calls _ begins = absurd begins
-
--- nor where nothing is done
-still_closes : (Q : Type 0) (p : Phase) → ClosesAs {Q = Q} p (K.Phased p)
-still_closes Q (P.TxnClose end) = inl refl
-still_closes Q _ = tt
 
 -- a step leads to no phase of one that was not started
 proceeds_started : (p : Phase) → Proceeds p → is_fresh p ≡ false
@@ -196,26 +188,6 @@ module _ {C O Q : Type 0} (ct ot : Bool) (client : C → Look) (origin : O → L
 
       lost : new ≡ K.Phased (P.Ended E.NoMemory) → DueTo main N.Go new a b
       lost lacks = subst (λ x. DueTo main N.Go x a b) (sym lacks) (none_due (subst (λ x. IsCoveredNow v u x b) lacks covered))
-
-  -- nothing was done in a phase
-  pub quiet_step : (main : Option StageContinuation) (t : Core C O) (p : Phase) (a : Context) → HandlesStep {Q = Q} ct ot client origin paired refuses left t t a a main p (K.Phased p)
-  quiet_step main t p a =
-      let v = view_of client origin t in
-      record {
-        next = N.Go;
-        takes = record {
-          minds = inr (inl (refl, refl));
-          waits = tt;
-          leaves = λ told also. record { origin = leaves_in v v p (still_leaves v v refl); client = spares_in v v p (still_spares v v refl) };
-          closes = still_closes Q p;
-          started = λ was. was;
-        };
-        due = only_none (IsDueAfter 0 a.moment) a;
-      }
-
-  -- nor while the last is written
-  pub quiet_write : (t : Core C O) (end : TxnEnd) (a : Context) → HandlesWrite {Q = Q} ct ot client origin paired refuses left t t a a end (K.Finishing end)
-  quiet_write t end a = record { step = S.Goes; takes = inl (refl, refl, refl); due = only_none (IsDueAfter 0 a.moment) a }
 
   -- in a phase, said of the first continuation before its event was handled
   due_before : (main u : Option StageContinuation) → u ≡ unroused main → (next : Next) (new : Course Q) (a b : Context) → DueTo u next new a b → DueTo main next new a b

@@ -157,7 +157,7 @@ abbrev pub least_went : Pushed → ℕ
 least_went (V.Some n) = 1
 least_went _ = 0
 
-same_length : (before after : List ℕ) → after ≡ before → length after ≤ length before
+pub same_length : (before after : List ℕ) → after ≡ before → length after ≤ length before
 same_length before after same = omega (arith, ap length same)
 
 pub went_some : (p : Pushed) (before after : List ℕ) → Went p before after → length after + least_went p ≤ length before

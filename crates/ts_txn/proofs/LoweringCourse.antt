@@ -1,6 +1,6 @@
 -- Wherever an event leads a transaction on its course, what is left to do pays for each event that is set, so that each event
 -- that is handled lowers its number.
-use Rattle.std.proofs.Common.{◌≡◌, ◌⊎◌, inl, inr, ℕ, ◌+◌, ◌≤◌, List, length, Bool, true, false, arith, refl, sym, ap, subst}
+use Rattle.std.proofs.Common.{zero-le, ◌≡◌, ◌⊎◌, inl, inr, ℕ, ◌+◌, ◌≤◌, List, length, Bool, true, false, arith, refl, sym, ap, subst}
 use Rattle.std.specs.Prelude.{◌&&◌, Option, Some, None}
 use Rattle.std.specs.Arc.{arc_value}
 use Rattle.ts_config.specs.declared.setup.Setup.{Setup}
@@ -10,12 +10,13 @@ use Rattle.ts_journal.specs.declared.entry.Pending.{Pending}
 use Rattle.ts_journal.specs.declared.entry.TheConstants.{GREATEST}
 use Rattle.ts_journal.specs.declared.entry.Event.{Event}
 use Rattle.ts_journal.specs.State.{State}
+use Rattle.ts_group.proofs.Keeps.{falls_refl}
 use Rattle.ts_group.specs.Answers.{Falls, TellFalls}
 use Rattle.ts_group.specs.Calls.{IsCalled}
 use Rattle.ts_group.specs.Context.{Context}
 use Rattle.ts_group.specs.declared.action.Named.{Named}
 use Rattle.ts_group.specs.declared.world.Asked.{Asked}
-use Rattle.ts_group.specs.declared.world.Asked.TheVariants.{Reply, Missed, NoMemory}
+use Rattle.ts_group.specs.declared.world.Asked.TheVariants.{Missed, NoMemory}
 use Rattle.ts_link.specs.Link.{Fewer, Look, NoMore}
 use Rattle.ts_wire.specs.declared.heads.ResponseHead.{ResponseHead}
 use Rattle.ts_txn.specs.Course.{course_after, finish_after}
@@ -25,7 +26,7 @@ use Rattle.ts_txn.specs.Duties.{IsBodyCovered, WhileGoes}
 use Rattle.ts_txn.specs.Holding.{IfTold}
 use Rattle.ts_txn.specs.Lowering.{StepFalls, agains_left, events_paid, if_told, number_left, phase_work, upload_in, work_left}
 use Rattle.ts_txn.specs.LoweringBody.{IsOfLines, StaysOfLines, ended_left, finish_left, left_after, rest_after, unbegun_left}
-use Rattle.ts_txn.specs.LoweringCourse.{IsOfLinesOn, PaysEvents, course_left, number_if, parts_left, transaction_left}
+use Rattle.ts_txn.specs.LoweringCourse.{IsOfLinesOn, course_left, number_if, parts_left, transaction_left}
 use Rattle.ts_txn.specs.View.{View, upload_told, view_of}
 use Rattle.ts_txn.specs.declared.course.Course.{Course}
 use Rattle.ts_txn.specs.declared.course.Course.TheVariants as K
@@ -40,7 +41,8 @@ use Rattle.ts_txn.specs.declared.phase.Request.{Request}
 use Rattle.ts_txn.specs.declared.phase.Step.{Step}
 use Rattle.ts_txn.specs.declared.relay.Relay.{Relay}
 use Rattle.ts_txn.proofs.CourseCalls.{spent_still}
-use Rattle.ts_txn.proofs.LoweringEvents.{handled_falls, paid_fewer, paid_none, paid_then, step_pays}
+use Rattle.ts_txn.proofs.LoweringEntry.{ended_no_more}
+use Rattle.ts_txn.proofs.LoweringEvents.{handled_falls, one_paid, paid_fewer, paid_none, paid_then, step_pays}
 use Rattle.ts_txn.proofs.LoweringPays.{set_one}
 use Rattle.ts_txn.proofs.LoweringRelay.{ended_if}
 
@@ -55,18 +57,8 @@ paid_end before mid now (Some x) (Some x') None f more paid few = absurd paid
 paid_end before mid now (Some x) (Some x') (Some y) f more paid few = omega (arith, paid, few)
 
 ended_step : (next : Next) (m m' upload : Option ℕ) (f : ℕ → ℕ → ℕ) → StepFalls next m (if_told m' upload f) → StepFalls next m (if_told m' (Some 0) (λ x y. 0))
-ended_step N.Go None m' upload f fell = tt
-ended_step N.Go (Some x) None upload f fell = absurd fell
-ended_step N.Go (Some x) (Some x') None f fell = absurd fell
-ended_step N.Go (Some x) (Some x') (Some y) f fell = omega (arith, fell)
-ended_step N.Wait None m' upload f fell = tt
-ended_step N.Wait (Some x) None upload f fell = absurd fell
-ended_step N.Wait (Some x) (Some x') None f fell = absurd fell
-ended_step N.Wait (Some x) (Some x') (Some y) f fell = omega (arith, fell)
-ended_step N.Done None m' upload f fell = tt
-ended_step N.Done (Some x) None upload f fell = absurd fell
-ended_step N.Done (Some x) (Some x') None f fell = absurd fell
-ended_step N.Done (Some x) (Some x') (Some y) f fell = omega arith
+ended_step N.Done m m' upload f kept = ended_no_more m m' upload f kept
+ended_step _ m m' upload f fell = ended_if m m' upload f fell
 
 fewer_then : (m n k : Option ℕ) → Fewer m n → NoMore n k → Fewer m k
 fewer_then None n k fell kept = tt
@@ -76,9 +68,6 @@ fewer_then (Some x) (Some y) (Some z) fell kept = omega (arith, fell, kept)
 
 plus_none : (a b k : ℕ) → a ≤ b + k → a + 0 ≤ b + k
 plus_none a b k few = omega (arith, few)
-
-one_paid : (a b : ℕ) → a ≤ b + 1 → a + 0 ≤ b + events_paid
-one_paid a b few = omega (arith, few)
 
 five_paid : (a b k : ℕ) → b ≤ a + 4 → k ≤ 1 → b + k ≤ a + events_paid
 five_paid a b k few one = omega (arith, few, one)
@@ -144,10 +133,7 @@ module _ {Q : Type 0} (setup : Setup) (rest : Q → List ℕ → List ℕ) where
 
       zero_more : (m m' : Option ℕ) (f : ℕ → ℕ) → m' ≡ m → NoMore (if_told m (Some 0) (λ x y. f x)) (if_told m' (Some 0) (λ x y. 0))
       zero_more None m' f same = tt
-      zero_more (Some x) m' f same = subst (λ (n : Option ℕ). NoMore (Some (f x)) (if_told n (Some 0) (λ x y. 0))) (sym same) (zero_least (f x))
-        where
-          zero_least : (n : ℕ) → 0 ≤ n
-          zero_least n = omega arith
+      zero_more (Some x) m' f same = subst (λ (n : Option ℕ). NoMore (Some (f x)) (if_told n (Some 0) (λ x y. 0))) (sym same) zero-le
 
       same_agains : (v w : View) → w.client.look.agains ≡ v.client.look.agains → w.origin.look.agains ≡ v.origin.look.agains → agains_left w ≡ agains_left v
       same_agains v w client origin = rw (client, origin) refl
@@ -159,9 +145,9 @@ module _ {Q : Type 0} (setup : Setup) (rest : Q → List ℕ → List ℕ) where
   finish_after_left end _ w upload = refl
 
   rest_ended : (step : BodyStep) (m : Option ℕ) (w : View) → Fewer m (rest_after step w) → Fewer m (ended_left w)
-  rest_ended (S.Closes end) m w fell = ended_if m (agains_left w) (λ x. 1) fell
+  rest_ended (S.Closes end) m w fell = ended_if m (agains_left w) (Some 0) (λ x y. 1) fell
   rest_ended S.Lacks m w fell = fell
-  rest_ended _ m w fell = ended_if m (agains_left w) (λ x. 2 + (x + length w.client.outbox)) fell
+  rest_ended _ m w fell = ended_if m (agains_left w) (Some 0) (λ x y. 2 + (x + length w.client.outbox)) fell
 
   pub finish_led : (end : TxnEnd) (step : BodyStep) (result : Course Q) (v w : View) (upload : Option ℕ) (before now : List Pending) → StaysOnOrLacks (finish_after end step) result
       → Fewer (finish_left v) (rest_after step w) → length now ≤ length before + 1
@@ -189,10 +175,6 @@ module _ {Q : Type 0} (setup : Setup) (rest : Q → List ℕ → List ℕ) where
 
 -- ---- in the group
 
-falls_same : (m : Option ℕ) → Falls m 0 m
-falls_same None = tt
-falls_same (Some x) = omega arith
-
 less_by_one : (m n : ℕ) → m + 1 ≡ n → m + 1 ≤ n
 less_by_one m n same = omega (arith, same)
 
@@ -200,7 +182,7 @@ module _ {C O Q : Type 0} (ct ot : Bool) (client : C → Look) (origin : O → L
   -- where nothing was done
   pub stays_on : (core : Core C O) (course : Course Q) (pending : List Pending)
       → IfTold ct ot (Falls (number_left pending (parts_left ct ot client origin left rest core course)) 0 (number_left pending (parts_left ct ot client origin left rest core course)))
-  stays_on core course pending told also = falls_same (number_left pending (parts_left ct ot client origin left rest core course))
+  stays_on core course pending told also = falls_refl (number_left pending (parts_left ct ot client origin left rest core course))
 
   if_both : (a b : Bool) (m n : Option ℕ) (k : ℕ) → (a ≡ true → b ≡ true → Falls m k n) → Falls (number_if (a && b) m) k (number_if (a && b) n)
   if_both true true m n k fell = fell refl refl
@@ -227,10 +209,10 @@ hears_same {R} {T} asked m n same = subst (λ (x : Option ℕ). TellFalls asked 
     by_answer : (asked : Asked R T) (m : Option ℕ) → TellFalls asked m m
     by_answer (Missed seen q) None = tt
     by_answer (Missed seen q) (Some x) = tt
-    by_answer _ m = falls_same m
+    by_answer _ m = falls_refl m
 
 pub asked_same : (m n : Option ℕ) → n ≡ m → Falls m 0 n
-asked_same m n same = subst (λ (x : Option ℕ). Falls m 0 x) (sym same) (falls_same m)
+asked_same m n same = subst (λ (x : Option ℕ). Falls m 0 x) (sym same) (falls_refl m)
 
 -- ---- the event of a role
 
@@ -242,8 +224,3 @@ covered_called Sound v main r now role event c covered = by_event covered.covere
     by_event : BodyHasEvents v main r c.before.pending now.roles ⊎ (GREATEST ≤ c.before.next) → IsBodyCovered v main r now.log.state.next
     by_event (inl has) = inl (has.runs, has.ends)
     by_event (inr spent) = inr (spent_still Sound now role event c covered.plain spent)
-
--- the same course, by an equation
-pub pays_as : {C O Q : Type 0} (ct ot : Bool) (client : C → Look) (origin : O → Look) (left : C → O → Option ℕ) (rest : Q → List ℕ → List ℕ) (s t : Core C O) (was course result : Course Q) (a b : Context)
-    → was ≡ course → PaysEvents ct ot client origin left rest s t course result a b → PaysEvents ct ot client origin left rest s t was result a b
-pays_as {Q = Q} ct ot client origin left rest s t was course result a b same pays = subst (λ (x : Course Q). PaysEvents ct ot client origin left rest s t x result a b) (sym same) pays

@@ -1,5 +1,6 @@
 -- The step with which a body begins to be passed on lowers what a transaction has left to do.
 use Rattle.std.proofs.Common.{◌≡◌, ℕ, ◌+◌, ◌*◌, ◌<◌, ◌≤◌, List, [], ◌∷◌, length, map, filter, Bool, true, false, cond, arith, refl, sym, ap, subst, ◌∙◌, length-append}
+use Rattle.std.proofs.Math.Nat.{le_of_eq, le_trans}
 use Rattle.std.specs.Prelude.{Option, Some, None, ⊤, if◌then◌else◌}
 use Rattle.std.proofs.lemmas.List.{length-map}
 use Rattle.ts_config.specs.declared.setup.Setup.{Setup}
@@ -66,9 +67,6 @@ filter_less : (p : TransformLine → Bool) (ls : List TransformLine) → IsLess 
 filter_less p [] = record { text = omega arith; passed = λ n. omega arith }
 filter_less p (l ∷ ls) = kept_less (p l) l ls (filter p ls) (filter_less p ls)
 
-within : (a b c : ℕ) → a ≤ b → b ≤ c → a ≤ c
-within a b c first second = omega (arith, first, second)
-
 two_more : (a b : ℕ) → a ≤ b → a + 2 ≤ b + 2
 two_more a b less = omega (arith, less)
 
@@ -85,9 +83,8 @@ module _ {P : Type 0} (setup : Setup) (rest : P → List ℕ → List ℕ) (paus
       let len : length c.stages ≡ length ps = ap length stages ∙ length-map ps fresh_stage in
       let left : left_to_do rest c [] ≡ passing rest (map fresh_stage ps) [] = ap (λ (d : ChainState P). left_to_do rest d []) made in
       let room : passing rest (map fresh_stage ps) [] + length ps ≤ passes ls (lines_length ls + 2) =
-      within (passing rest (map fresh_stage ps) [] + length ps) (passes ms (lines_length ms + 2)) (passes ls (lines_length ls + 2))
-      (fresh_work rest pause line_pause ms ps of [] (lines_length ms) (no_bytes (lines_length ms)))
-      (within (passes ms (lines_length ms + 2)) (passes ls (lines_length ms + 2)) (passes ls (lines_length ls + 2)) (less.passed (lines_length ms + 2))
+      le_trans (fresh_work rest pause line_pause ms ps of [] (lines_length ms) (no_bytes (lines_length ms)))
+      (le_trans (less.passed (lines_length ms + 2))
       (passes_less ls (lines_length ms + 2) (lines_length ls + 2) (two_more (lines_length ms) (lines_length ls) less.text))) in
       record {
         lines = record {
@@ -207,10 +204,11 @@ no_more_errors setup rest n n' v c d same fewer ends = by_told (agains_left v)
         less : (a l l' g g' : ℕ) → l' ≡ l → n' ≤ n → g' ≤ g → a + pump_weight * (l' + n') + g' ≤ a + pump_weight * (l + n) + g
         less a l l' g g' same fewer ends = omega (arith, same, fewer, ends)
 
-ended_no_more : (m m' : Option ℕ) (f : ℕ → ℕ) → NoMore m (if_told m' (Some 0) (λ x y. f x)) → NoMore m (if_told m' (Some 0) (λ x y. 0))
-ended_no_more None m' f kept = tt
-ended_no_more (Some x) None f kept = absurd kept
-ended_no_more (Some x) (Some x') f kept = omega arith
+pub ended_no_more : (m m' upload : Option ℕ) (f : ℕ → ℕ → ℕ) → NoMore m (if_told m' upload f) → NoMore m (if_told m' (Some 0) (λ x y. 0))
+ended_no_more None m' upload f kept = tt
+ended_no_more (Some x) None upload f kept = absurd kept
+ended_no_more (Some x) (Some x') None f kept = absurd kept
+ended_no_more (Some x) (Some x') (Some y) f kept = omega arith
 
 module _ {B : Type 0} (setup : Setup) (rest : B → List ℕ → List ℕ) (v : View) where
   -- memory lacked
@@ -218,15 +216,12 @@ module _ {B : Type 0} (setup : Setup) (rest : B → List ℕ → List ℕ) (v : 
   lacks_begun r s = record {
     lines = tt;
     first = tt;
-    falls = ended_no_more (unbegun_left setup rest v r) (agains_left v) (λ x. body_work setup rest (length r.driven.chain.stages) x v r.driven.chain) (no_more_same (unbegun_left setup rest v r));
+    falls = ended_no_more (unbegun_left setup rest v r) (agains_left v) (Some 0) (λ x y. body_work setup rest (length r.driven.chain.stages) x v r.driven.chain) (no_more_same (unbegun_left setup rest v r));
   }
 
   started : (state : BodyState) (c d : ChainState B) → GetsStart state c d → (d.stages ≡ c.stages) × (left_to_do rest d [] ≡ left_to_do rest c []) × (to_end d.given ≤ to_end c.given)
   started state.Unfinished c d gets =
-      (ap (λ (x : ChainState B). x.stages) gets, ap (λ (x : ChainState B). left_to_do rest x []) gets, same_end (to_end d.given) (to_end c.given) (ap (λ (x : ChainState B). to_end x.given) gets))
-    where
-      same_end : (m n : ℕ) → m ≡ n → m ≤ n
-      same_end m n same = omega (arith, same)
+      (ap (λ (x : ChainState B). x.stages) gets, ap (λ (x : ChainState B). left_to_do rest x []) gets, le_of_eq (ap (λ (x : ChainState B). to_end x.given) gets))
   started state.Ended c d gets =
       (ap (λ (x : ChainState B). x.stages) gets, ap (λ (x : ChainState B). left_to_do rest x []) gets, given_end (to_end d.given) (to_end c.given) (ap (λ (x : ChainState B). to_end x.given) gets))
     where

@@ -1,10 +1,11 @@
 -- What is left to do pays for the events that are set, so that each event that is handled lowers the number of a
 -- transaction.
 use Rattle.std.proofs.Common.{◌≡◌, ℕ, ◌+◌, ◌*◌, ◌<◌, ◌≤◌, List, [], ◌∷◌, length, arith, ap}
+use Rattle.std.proofs.Math.Nat.{le_trans}
 use Rattle.std.specs.Prelude.{Option, Some, None}
 use Rattle.ts_journal.specs.declared.entry.TheConstants.{GREATEST}
 use Rattle.ts_journal.specs.declared.entry.Entry.{Entry}
-use Rattle.ts_journal.specs.declared.entry.Entry.TheVariants.{Took, Gave, Made, Set, Handled, Cancelled, Dropped, Destroyed}
+use Rattle.ts_journal.specs.declared.entry.Entry.TheVariants.{Made, Set, Cancelled, Dropped, Destroyed}
 use Rattle.ts_journal.specs.declared.entry.Pending.{Pending}
 use Rattle.ts_journal.specs.State.{State, pending_at, without}
 use Rattle.ts_journal.specs.Machine.{IsLawful, after, replay}
@@ -23,9 +24,6 @@ use Rattle.ts_txn.specs.declared.phase.Next.TheVariants as N
 fewer_without : (n : ℕ) (ps : List Pending) (p : Pending) → pending_at n ps ≡ Some p → length (without n ps) ≤ length ps
 fewer_without n ps p there = omega (arith, length_without n ps p there)
 
-less_trans : (a b c : ℕ) → a ≤ b → b ≤ c → a ≤ c
-less_trans a b c first second = omega (arith, first, second)
-
 spent_own : (s : State) (es : List Entry) → AllOwn es → IsLawful s es → GREATEST ≤ s.next → length (replay s es).pending ≤ length s.pending
 spent_own s [] own lawful spent = omega arith
 spent_own s (Made key ∷ es) own lawful spent = spent_own (after s (Made key)) es own.1 lawful.1 spent
@@ -34,11 +32,9 @@ spent_own s (Set number key event due series period ∷ es) own lawful spent =
     let below : number < GREATEST = lawful.0.2 in
     absurd (omega (arith, is, below, spent))
 spent_own s (Cancelled number ∷ es) own lawful spent =
-    less_trans (length (replay (after s (Cancelled number)) es).pending) (length (without number s.pending)) (length s.pending)
-    (spent_own (after s (Cancelled number)) es own.1 lawful.1 spent) (fewer_without number s.pending lawful.0.1 lawful.0.2)
+    le_trans (spent_own (after s (Cancelled number)) es own.1 lawful.1 spent) (fewer_without number s.pending lawful.0.1 lawful.0.2)
 spent_own s (Dropped number ∷ es) own lawful spent =
-    less_trans (length (replay (after s (Dropped number)) es).pending) (length (without number s.pending)) (length s.pending)
-    (spent_own (after s (Dropped number)) es own.1 lawful.1 spent) (fewer_without number s.pending lawful.0.1 lawful.0.2)
+    le_trans (spent_own (after s (Dropped number)) es own.1 lawful.1 spent) (fewer_without number s.pending lawful.0.1 lawful.0.2)
 spent_own s (Destroyed key ∷ es) own lawful spent = spent_own (after s (Destroyed key)) es own.1 lawful.1 spent
 spent_own s _ own lawful spent = absurd own.0
 
@@ -84,7 +80,7 @@ handled_falls before after now (Some x) (Some x') handled paid = omega (arith, h
 
 -- ---- the step of a phase
 
-one_paid : (a b : ℕ) → a ≤ b + 1 → a + 0 ≤ b + events_paid
+pub one_paid : (a b : ℕ) → a ≤ b + 1 → a + 0 ≤ b + events_paid
 one_paid a b few = omega (arith, few)
 
 none_more : (a b : ℕ) → a ≤ b + 0 → a ≤ b

@@ -1,11 +1,11 @@
 -- An event that is handled while a body is passed on: what was done pays for each event that was set.
-use Rattle.std.proofs.Common.{◌≡◌, ◌⊎◌, inl, inr, ℕ, ◌+◌, ◌*◌, ◌≤◌, List, [], length, Bool, true, false, Result, Ok, Err, arith, refl, sym, ap, subst, ◌∙◌}
+use Rattle.std.proofs.Common.{◌≡◌, ◌⊎◌, inl, inr, ℕ, ◌+◌, ◌*◌, ◌≤◌, List, [], length, Bool, true, false, Result, arith, refl, sym, ap, subst, ◌∙◌}
+use Rattle.std.proofs.Math.Nat.{add-le-add, le_of_eq, le_refl}
 use Rattle.std.specs.Prelude.{Option, ⊤, if◌then◌else◌}
 use Rattle.ts_config.specs.declared.setup.Setup.{Setup}
 use Rattle.ts_journal.specs.declared.entry.TheConstants.{GREATEST}
 use Rattle.ts_journal.specs.declared.entry.Event.{Event}
 use Rattle.ts_group.specs.declared.action.SetFault.{SetFault}
-use Rattle.ts_group.specs.declared.action.SetFault.TheVariants as F
 use Rattle.ts_group.specs.Answers.{Falls}
 use Rattle.ts_group.specs.Context.{Context}
 use Rattle.ts_group.proofs.Grows.{grows_trans}
@@ -18,7 +18,7 @@ use Rattle.ts_transform.specs.Flow.{ChainState, MustRead, left_to_do}
 use Rattle.ts_transform.specs.Stage.{to_end}
 use Rattle.ts_transform.specs.declared.continuation.StageContinuation.{StageContinuation}
 use Rattle.ts_txn.specs.CourseCover.{set_leaving}
-use Rattle.ts_txn.specs.Duties.{AreBodyEndsRoused, IsBodyCovered, MustSend, SettledAs, SettlesAfter, WhileGoes}
+use Rattle.ts_txn.specs.Duties.{AreBodyEndsRoused, IsBodyCovered, MustSend, SettledAs, SettlesAfter}
 use Rattle.ts_txn.specs.Feeding.{OnGoes}
 use Rattle.ts_txn.specs.Relaying.{StepsChain, step_after}
 use Rattle.ts_txn.specs.declared.relay.TheConstants.{FIRST}
@@ -59,7 +59,7 @@ module _ {P : Type 0} (setup : Setup) (rest : P → List ℕ → List ℕ) where
 
   -- a body that goes on can also end for want of memory
   ended_less : (m : Option ℕ) (w : View) (r : Relay P) → Fewer m (relay_left setup rest w r) → Fewer m (ended_left w)
-  ended_less m w r fell = ended_if m (agains_left w) (λ x. body_work setup rest (errors_left r.driven) x w r.driven.chain) fell
+  ended_less m w r fell = ended_if m (agains_left w) (Some 0) (λ x y. body_work setup rest (errors_left r.driven) x w r.driven.chain) fell
 
   settled_less : (step result : BodyStep) → SettledAs step result → (m : Option ℕ) (w : View) (r : Relay P) → Fewer m (left_after setup rest step w r) → Fewer m (left_after setup rest result w r)
   settled_less step result settled m w r = settled_has (λ x. Fewer m (left_after setup rest x w r)) (λ h. h) (ended_less m w r) step result settled
@@ -207,14 +207,10 @@ module _ {P : Type 0} (ct ot : Bool) (setup : Setup) (rest : P → List ℕ → 
           (ap (λ (x : ChainState P). left_to_do rest x []) same) errors (counted r.driven.running (errors_to_pass r.driven.table.items) is_running) (at_most m.driven.running (errors_to_pass m.driven.table.items)))
           (quiet ends same none)
 
-      both_less : (l l' f f' : ℕ) → l' ≤ l → f' ≤ f → l' + f' ≤ l + f
-      both_less l l' f f' first second = omega (arith, first, second)
-
       goes_paid : IsBodyCovered v main r a.log.state.next → StageDid rest r.driven.chain m.driven.chain r.driven.table.items m.driven.table.items a c → Paid S.Goes
       goes_paid (inl (is_running, ends)) did = running_paid is_running ends did
       goes_paid (inr spent) did = rests_paid
-          (both_less (left_to_do rest r.driven.chain []) (left_to_do rest m.driven.chain []) (errors_left r.driven) (errors_left m.driven) less
-          (errors_fewer m.driven.running r.driven.running (errors_to_pass m.driven.table.items) (errors_to_pass r.driven.table.items) fewer runs))
+          (add-le-add less (errors_fewer m.driven.running r.driven.running (errors_to_pass m.driven.table.items) (errors_to_pass r.driven.table.items) fewer runs))
           (spent_none a b (grows_trans acts.grows settles.adds.grows) spent)
 
       by_step : (step : BodyStep) → OnGoes step ⊤ → IsBodyCovered v main r a.log.state.next
@@ -229,11 +225,8 @@ pub quiet_pays : {P : Type 0} (ct ot : Bool) (setup : Setup) (rest : P → List 
     → PaysBody ct ot setup rest S.Goes v v main r r a a
 quiet_pays ct ot setup rest v main r a = record {
   lines = λ of. of;
-  pays = λ told also of covered. paid_none a.log.state.pending a.log.state.pending (relay_left setup rest v r) (relay_left setup rest v r) (no_more_same (relay_left setup rest v r)) (no_more_len (length a.log.state.pending));
+  pays = λ told also of covered. paid_none a.log.state.pending a.log.state.pending (relay_left setup rest v r) (relay_left setup rest v r) (no_more_same (relay_left setup rest v r)) (le_refl (length a.log.state.pending));
 }
-  where
-    no_more_len : (n : ℕ) → n ≤ n
-    no_more_len n = omega arith
 
 -- ---- the first continuation, and the reader
 
@@ -267,13 +260,10 @@ module _ {P : Type 0} (ct ot : Bool) (setup : Setup) (rest : P → List ℕ → 
       → errors_to_pass e.table.items ≤ errors_to_pass r.driven.table.items
   driven_errors acts other = by_stage (stage_at role r.driven.chain r.driven.table.items)
     where
-      same_errors : (m n : ℕ) → m ≡ n → m ≤ n
-      same_errors m n same = omega (arith, same)
-
       by_stage : ((at : ℕ) × (role ≡ FIRST + at) × IsStage r.driven.chain r.driven.table.items at) ⊎ ((at : ℕ) → role ≡ FIRST + at → IsStage r.driven.chain r.driven.table.items at → ⊥)
           → errors_to_pass e.table.items ≤ errors_to_pass r.driven.table.items
       by_stage (inl (at, is, stage)) = errors_fall rest pause at r.driven.chain e.chain r.driven.table.items _ e.table.items r.driven.running e.running a c event (acts at is stage)
-      by_stage (inr none) = same_errors (errors_to_pass e.table.items) (errors_to_pass r.driven.table.items) (ap (λ (x : DrivenChain P). errors_to_pass x.table.items) (other none))
+      by_stage (inr none) = le_of_eq (ap (λ (x : DrivenChain P). errors_to_pass x.table.items) (other none))
 
   chain_less : (l l' : ℕ) (c d : ChainState P) → l' ≡ left_to_do rest d [] → l ≡ left_to_do rest c [] → WorksOrStays rest c d → l' ≤ l
   chain_less l l' c d is was (inl same) = let left : left_to_do rest d [] ≡ left_to_do rest c [] = ap (λ (x : ChainState P). left_to_do rest x []) same in omega (arith, is, was, left)

@@ -1,5 +1,6 @@
 -- Where each step of an end of a body leads, what a transaction has left to do is less; or the end had nothing to do.
 use Rattle.std.proofs.Common.{◌≡◌, ◌≢◌, ◌⊎◌, inl, inr, ℕ, ◌+◌, ◌*◌, ◌<◌, ◌≤◌, List, [], ◌∷◌, ◌++◌, length, Bool, true, false, Result, Ok, Err, arith, refl, sym, ap, subst, ◌∙◌, length-append}
+use Rattle.std.proofs.Math.Nat.{le_of_eq}
 use Rattle.std.proofs.lemmas.List.{append-nil}
 use Rattle.std.specs.Prelude.{Option, Some, None, ⊤, if◌then◌else◌}
 use Rattle.ts_config.specs.declared.setup.Setup.{Setup}
@@ -36,9 +37,9 @@ use Rattle.ts_txn.specs.LoweringBody.{IsIdle, IsOfLines, LowersBody, StaysOfLine
 use Rattle.ts_txn.specs.declared.finishing.BodyStep.{BodyStep}
 use Rattle.ts_txn.specs.declared.finishing.BodyStep.TheVariants as S
 use Rattle.ts_txn.specs.declared.relay.Relay.{Relay}
-use Rattle.ts_txn.proofs.Lowering.{comes_hear, least_came, least_went, none_fall, read_comes, still_hear, went_some}
+use Rattle.ts_txn.proofs.Lowering.{comes_hear, least_came, none_fall, read_comes, same_length, still_hear}
 use Rattle.ts_txn.proofs.LoweringBody.{closes, feeds_on, frames_end, frames_piece, queues_same, reads_on, to_close, to_ended, to_finish, writes_on}
-use Rattle.ts_txn.proofs.LoweringSteps.{Calm, client_calm, less_plus, origin_calm, same_len, stays_calm}
+use Rattle.ts_txn.proofs.LoweringSteps.{Calm, less_plus, origin_calm, sends_calm, stays_calm}
 
 -- ---- what is left does not depend on who is roused
 
@@ -48,9 +49,6 @@ errors_fewer true true e' e fewer runs = omega (arith, fewer)
 errors_fewer true false e' e fewer runs = absurd (let wrong : false ≡ true = runs refl in cc)
 errors_fewer false true e' e fewer runs = omega arith
 errors_fewer false false e' e fewer runs = omega arith
-
-same_errors : (m n : ℕ) → m ≡ n → m ≤ n
-same_errors m n same = omega (arith, same)
 
 -- fewer errors are less to do
 pub fewer_errors : {P : Type 0} (setup : Setup) (rest : P → List ℕ → List ℕ) (n n' : ℕ) (m : Option ℕ) (w : View) (d : ChainState P) → n ≤ n' → Fewer m (body_left setup rest n' w d) → Fewer m (body_left setup rest n w d)
@@ -69,10 +67,11 @@ loses_runs (Ok x) d e a b loses runs = sym loses.0 ∙ runs
 loses_runs (Err fault) d e a b loses runs = absurd (let wrong : false ≡ true = sym loses.0 ∙ runs in cc)
 
 -- what goes on can end at once
-pub ended_if : (m m' : Option ℕ) (f : ℕ → ℕ) → Fewer m (if_told m' (Some 0) (λ x y. f x)) → Fewer m (if_told m' (Some 0) (λ x y. 0))
-ended_if None m' f fell = tt
-ended_if (Some x) None f fell = absurd fell
-ended_if (Some x) (Some x') f fell = omega (arith, fell)
+pub ended_if : (m m' upload : Option ℕ) (f : ℕ → ℕ → ℕ) → Fewer m (if_told m' upload f) → Fewer m (if_told m' (Some 0) (λ x y. 0))
+ended_if None m' upload f fell = tt
+ended_if (Some x) None upload f fell = absurd fell
+ended_if (Some x) (Some x') None f fell = absurd fell
+ended_if (Some x) (Some x') (Some y) f fell = omega (arith, fell)
 
 -- ---- bytes were taken from a chain, or came to it
 
@@ -99,9 +98,9 @@ same_lines {P} setup rest c d same lines = record {
 queues_calm : (setup : Setup) (v w : View) → QueuesNothing v w → Calm setup false v w
 queues_calm setup v w queues = record {
   again = queues_same v w [] [] queues;
-  out = same_len setup v.client.outbox w.client.outbox (queues.adds.outbox ∙ append-nil v.client.outbox);
-  hear = still_hear setup v.origin w.origin (same_len setup v.origin.inbox w.origin.inbox (ap (λ (s : LinkSide). s.inbox) queues.origin))
-      (same_len setup v.origin.look.left w.origin.look.left (ap (λ (s : LinkSide). s.look.left) queues.origin));
+  out = same_length v.client.outbox w.client.outbox (queues.adds.outbox ∙ append-nil v.client.outbox);
+  hear = still_hear setup v.origin w.origin (same_length v.origin.inbox w.origin.inbox (ap (λ (s : LinkSide). s.inbox) queues.origin))
+      (same_length v.origin.look.left w.origin.look.left (ap (λ (s : LinkSide). s.look.left) queues.origin));
 }
 
 drains_again : (v w : View) → DrainsOrigin v w → AgainsFall false (agains_left v) (agains_left w)
@@ -118,10 +117,6 @@ module _ {P : Type 0} (ct ot : Bool) (must : Type 0) (setup : Setup) (rest : P �
 
   module _ (v w : View) (r : Relay P) (a : Context) where
     -- ---- one write to the client
-
-    write_calm : (p : Pushed) → WritesClient true v w p → Calm setup (push_again p) v w
-    write_calm p writes = client_calm setup (push_again p) v w w.client writes.others writes.client.pushes.calls.agains
-        (less_plus setup (length w.client.outbox) (length v.client.outbox) (least_went p) (went_some p v.client.outbox w.client.outbox writes.client.pushes.went))
 
     as_told : (p : Pushed) → ct ≡ true → WritesClient ct v w p → WritesClient true v w p
     as_told p told writes = subst (λ (b : Bool). WritesClient b v w p) told writes
@@ -143,11 +138,11 @@ module _ {P : Type 0} (ct ot : Bool) (must : Type 0) (setup : Setup) (rest : P �
 
     pub writes_closes : (p : Pushed) (end : TxnEnd) → WritesClient ct v w p → LowersBody ct ot must setup rest (S.Closes end) v w r r a a
     writes_closes p end writes = lowers_by (S.Closes end) v w r r a a refl tt (λ told also of.
-        to_close setup rest (errors_left r.driven) (push_again p) v w r.driven.chain (write_calm p (as_told p told writes)))
+        to_close setup rest (errors_left r.driven) (push_again p) v w r.driven.chain (sends_calm setup v w p (as_told p told writes)))
 
     pub writes_lacks : (p : Pushed) → WritesClient ct v w p → LowersBody ct ot must setup rest S.Lacks v w r r a a
     writes_lacks p writes = lowers_by S.Lacks v w r r a a refl tt (λ told also of.
-        to_ended setup rest (errors_left r.driven) (push_again p) v w r.driven.chain (write_calm p (as_told p told writes)))
+        to_ended setup rest (errors_left r.driven) (push_again p) v w r.driven.chain (sends_calm setup v w p (as_told p told writes)))
 
     -- ---- the end of the body is framed
 
@@ -198,7 +193,7 @@ module _ {P : Type 0} (ct ot : Bool) (must : Type 0) (setup : Setup) (rest : P �
     with_table : SameTable → (m : Option ℕ) → Fewer m (body_left setup rest (errors_left r.driven) w s.driven.chain) → Fewer m (relay_left setup rest w s)
     with_table same m fell = fewer_errors setup rest (errors_left s.driven) (errors_left r.driven) m w s.driven.chain
         (errors_fewer s.driven.running r.driven.running (errors_to_pass s.driven.table.items) (errors_to_pass r.driven.table.items)
-        (same_errors (errors_to_pass s.driven.table.items) (errors_to_pass r.driven.table.items) (errors_same r.driven.table.items s.driven.table.items same.0)) same.1) fell
+        (le_of_eq (errors_same r.driven.table.items s.driven.table.items same.0)) same.1) fell
 
     pub frames_after : (answer : Result ⊤ SetFault) (piece : List ℕ) → IsPiece piece → FramesPiece piece v w → TakesAway rest (length piece) r.driven.chain s.driven.chain → SameTable → s.reader ≡ r.reader
         → LowersBody ct ot must setup rest (step_after answer) v w r s a b
@@ -212,8 +207,8 @@ module _ {P : Type 0} (ct ot : Bool) (must : Type 0) (setup : Setup) (rest : P �
         lacks = ended_by (frames_piece setup rest (errors_left r.driven) v w r.driven.chain s.driven.chain piece is frames takes)
           where
             ended_by : Fewer (relay_left setup rest v r) (body_left setup rest (errors_left r.driven) w s.driven.chain) → Fewer (relay_left setup rest v r) (ended_left w)
-            ended_by fell = ended_if (relay_left setup rest v r) (agains_left w)
-                (λ x. end_room + (x + length w.client.outbox) + to_hear setup w.origin + pump_weight * (left_to_do rest s.driven.chain [] + errors_left r.driven) + to_end s.driven.chain.given) fell
+            ended_by fell = ended_if (relay_left setup rest v r) (agains_left w) (Some 0)
+                (λ x y. end_room + (x + length w.client.outbox) + to_hear setup w.origin + pump_weight * (left_to_do rest s.driven.chain [] + errors_left r.driven) + to_end s.driven.chain.given) fell
 
         by_answer : (answer : Result ⊤ SetFault) → Fewer (relay_left setup rest v r) (left_after setup rest (step_after answer) w s)
         by_answer (Err F.NoMemory) = lacks
@@ -254,9 +249,9 @@ module _ {P : Type 0} (ct ot : Bool) (must : Type 0) (setup : Setup) (rest : P �
     drains_calm : (piece : List ℕ) → DrainsOrigin v w → v.origin.inbox ≡ piece ++ w.origin.inbox → Calm setup false v w
     drains_calm piece drains taken = record {
       again = drains_again v w drains;
-      out = same_len setup v.client.outbox w.client.outbox (ap (λ (x : View). x.client.outbox) drains);
+      out = same_length v.client.outbox w.client.outbox (ap (λ (x : View). x.client.outbox) drains);
       hear = still_hear setup v.origin w.origin (behind_less (length v.origin.inbox) (length piece) (length w.origin.inbox) (ap length taken ∙ length-append piece w.origin.inbox))
-          (same_len setup v.origin.look.left w.origin.look.left (ap (λ (x : View). x.origin.look.left) drains));
+          (same_length v.origin.look.left w.origin.look.left (ap (λ (x : View). x.origin.look.left) drains));
     }
       where
         behind_less : (all piece behind : ℕ) → all ≡ piece + behind → behind ≤ all

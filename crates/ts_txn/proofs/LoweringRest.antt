@@ -13,9 +13,7 @@ use Rattle.ts_txn.specs.Moving.{WritesClient}
 use Rattle.ts_txn.specs.View.{View}
 use Rattle.ts_txn.specs.declared.finishing.BodyStep.TheVariants as S
 use Rattle.ts_txn.proofs.Lowering.{first_falls, least_went, one_if, told_fewer, went_some}
-
-more_next : (i l x x' out out' : ℕ) → x' + i ≤ x → out' + l ≤ out → 1 ≤ l + i → 2 + (x' + out') < 2 + (x + out)
-more_next i l x x' out out' again went some = omega (arith, again, went, some)
+use Rattle.ts_txn.proofs.LoweringSteps.{sent_next}
 
 last_next : (n a : ℕ) → n ≤ 1 → n < 2 + a
 last_next n a few = omega (arith, few)
@@ -27,7 +25,7 @@ module _ (v w : View) (p : Pushed) (writes : WritesClient true v w p) where
 
   rest_more : 1 ≤ least_went p + one_if (push_again p) → Fewer (finish_left v) (finish_left w)
   rest_more some = told_fewer (λ x y. 2 + (x + length v.client.outbox)) (λ x y. 2 + (x + length w.client.outbox)) (push_again p) 0 (agains_left v) (agains_left w) (Some 0) (Some 0) rest_again (omega arith)
-      (λ x x' y y' again upload. more_next (one_if (push_again p)) (least_went p) x x' (length v.client.outbox) (length w.client.outbox) again
+      (λ x x' y y' again upload. sent_next (one_if (push_again p)) (least_went p) x x' (length v.client.outbox) (length w.client.outbox) again
       (went_some p v.client.outbox w.client.outbox writes.client.pushes.went) some)
 
   rest_close : Fewer (finish_left v) (close_left w)

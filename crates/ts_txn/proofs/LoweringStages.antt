@@ -1,16 +1,17 @@
 -- An event of a stage: what the stage has done pays for the events that it set, and for those of the two ends of the body.
 use Rattle.std.proofs.Common.{◌≡◌, ◌⊎◌, inl, inr, ℕ, zero, suc, ◌+◌, ◌*◌, ◌≤◌, List, [], ◌∷◌, length, Bool, true, false, arith, refl, sym, ap, subst, ◌∙◌}
+use Rattle.std.proofs.Math.Nat.{le_of_eq}
 use Rattle.std.specs.Prelude.{Option}
 use Rattle.ts_group.specs.Context.{Context}
 use Rattle.ts_journal.specs.declared.entry.Event.{Event}
-use Rattle.ts_journal.specs.declared.entry.Event.TheVariants.{Immediate, Timeout, Error, ReadReady, WriteReady, ReadComplete, WriteComplete, Eos, InactivityTimeout, Hook}
+use Rattle.ts_journal.specs.declared.entry.Event.TheVariants.{Error}
 use Rattle.ts_transform.specs.Acting.{ActsAt, StillGives}
 use Rattle.ts_transform.specs.Driving.{errors_to_pass, may_pass_error_at}
 use Rattle.ts_transform.specs.Flow.{AnswersAt, ChainState, PumpsOnce, StepsAt, ended_at, left_to_do}
 use Rattle.ts_transform.specs.Stage.{Steps}
 use Rattle.ts_transform.specs.declared.continuation.StageContinuation.{StageContinuation}
 use Rattle.ts_transform.specs.declared.pump.Pumped.{Pumped}
-use Rattle.ts_transform.specs.declared.pump.Pumped.TheVariants.{Moved, Ended, Blocked, Idle}
+use Rattle.ts_transform.specs.declared.pump.Pumped.TheVariants.{Moved, Ended}
 use Rattle.ts_transform.specs.declared.pump.Stage.{Stage}
 use Rattle.ts_config.specs.declared.setup.Setup.{Setup}
 use Rattle.ts_transform.proofs.Acting.{nothing_more}
@@ -76,17 +77,13 @@ module _ {P : Type 0} (rest : P → List ℕ → List ℕ) (c d : ChainState P) 
 less_one : (m n : ℕ) → m + 1 ≡ n → m ≤ n
 less_one m n more = omega (arith, more)
 
-same_less : (m n : ℕ) → m ≡ n → m ≤ n
-same_less m n same = omega (arith, same)
-
 module _ {P : Type 0} (rest : P → List ℕ → List ℕ) (pause : P → ℕ) (at : ℕ) (c d : ChainState P) (ts vs us : List (Option StageContinuation)) (was now : Bool) (a b : Context) where
   acts_errors : (event : Event) → ActsAt rest pause at event c d ts vs us was now a b → (ended may : Bool) → ended_at c.stages at ≡ ended → may_pass_error_at ts at ≡ may
       → errors_to_pass us ≤ errors_to_pass ts
   acts_errors event acts true may is passes = gone_fewer ts us at (acts.closed is).1
   acts_errors Error acts false true is passes = less_one (errors_to_pass us) (errors_to_pass ts) (passed_less ts us at (acts.error_passed refl is) passes)
-  acts_errors Error acts false false is passes = same_less (errors_to_pass us) (errors_to_pass ts) (passed_same ts us at (acts.error_passed refl is) passes)
-  acts_errors event acts false may is passes =
-      same_less (errors_to_pass us) (errors_to_pass ts) (errors_same ts us (acts.same (λ e. absurd (let wrong : event ≡ Error = e in cc)) is))
+  acts_errors Error acts false false is passes = le_of_eq (passed_same ts us at (acts.error_passed refl is) passes)
+  acts_errors event acts false may is passes = le_of_eq (errors_same ts us (acts.same (λ e. absurd (let wrong : event ≡ Error = e in cc)) is))
 
   pub errors_fall : (event : Event) → ActsAt rest pause at event c d ts vs us was now a b → errors_to_pass us ≤ errors_to_pass ts
   errors_fall event acts = acts_errors event acts (ended_at c.stages at) (may_pass_error_at ts at) refl refl

@@ -1,5 +1,6 @@
 -- Each step up to the head lowers what a transaction has left to do.
-use Rattle.std.proofs.Common.{◌≡◌, ℕ, ◌+◌, ◌-◌, ◌*◌, ◌<◌, ◌≤◌, List, ◌++◌, length, Bool, true, false, arith, refl, sym, ap, subst, ◌∙◌, length-append}
+use Rattle.std.proofs.Common.{zero-le, ◌≡◌, ℕ, ◌+◌, ◌-◌, ◌*◌, ◌<◌, ◌≤◌, List, ◌++◌, length, Bool, true, false, arith, refl, sym, ap, subst, ◌∙◌, length-append}
+use Rattle.std.proofs.Math.Nat.{add-le-add, le_refl}
 use Rattle.std.specs.Prelude.{Option, Some, ⊤}
 use Rattle.ts_config.specs.declared.setup.Setup.{Setup}
 use Rattle.ts_hooks.specs.declared.txn_end.TxnEnd.{TxnEnd}
@@ -22,18 +23,16 @@ use Rattle.ts_txn.specs.declared.phase.Phase.{Phase}
 use Rattle.ts_txn.specs.declared.phase.Phase.TheVariants as P
 use Rattle.ts_txn.specs.declared.phase.Request.{Request}
 use Rattle.ts_txn.specs.declared.reading.Found.TheVariants as F
-use Rattle.ts_txn.proofs.Lowering.{comes_ask, comes_hear, first_falls, least_came, least_went, none_fall, none_left, none_rise, one_if, read_comes, second_falls, told_fewer, told_no_more, used_hear, went_some, write_hear}
+use Rattle.ts_txn.proofs.Lowering.{comes_ask, comes_hear, first_falls, least_came, least_went, none_fall, none_left, none_rise, one_if, read_comes, same_length, second_falls, told_fewer, told_no_more, used_hear, went_some, write_hear}
 
 -- ---- sums
 
-zero_least : (n : ℕ) → 0 ≤ n
-zero_least n = omega arith
-
-no_more : (n : ℕ) → n ≤ n
-no_more n = omega arith
-
 at_first : (a b c d : ℕ) → a ≤ b → a ≤ b + c + d
 at_first a b c d less = omega (arith, less)
+
+-- less waits for the client, or there was an Again
+pub sent_next : (i l x x' out out' : ℕ) → x' + i ≤ x → out' + l ≤ out → 1 ≤ l + i → 2 + (x' + out') < 2 + (x + out)
+sent_next i l x x' out out' again went some = omega (arith, again, went, some)
 
 -- a phase's part behind its rank
 over_one : (r a : ℕ) → 4 ≤ r → 4 + a ≤ r + a
@@ -83,10 +82,7 @@ module _ (setup : Setup) where
     above (P.ReadResponse q) early = over_one 8 (answer_work setup x y v) (omega arith)
     above (P.ReadResponseHdr q h) early = over_one 7 (answer_work setup x y v) (omega arith)
     above (P.ResponseTransform q h) early = over_one 6 (answer_work setup x y v) (omega arith)
-    above (P.SendResponseHdr a) early = absurd early
-    above (P.Sending a) early = absurd early
-    above (P.TxnClose end) early = absurd early
-    above (P.Ended end) early = absurd early
+    above _ early = absurd early
 
   -- ---- nothing rose
 
@@ -97,17 +93,17 @@ module _ (setup : Setup) where
 
   pub stays_calm : (v w : View) → w ≡ v → Calm false v w
   stays_calm v w same = subst (λ (x : View). Calm false v x) (sym same)
-      (record { again = none_fall (agains_left v); out = no_more (length v.client.outbox); hear = no_more (to_hear setup v.origin) })
+      (record { again = none_fall (agains_left v); out = le_refl (length v.client.outbox); hear = le_refl (to_hear setup v.origin) })
 
   pub client_calm : (b : Bool) (v w : View) (s : LinkSide) → w ≡ record v { client = s } → AgainsFall b v.client.look.agains s.look.agains
       → length s.outbox ≤ length v.client.outbox → Calm b v w
   client_calm b v w s same again out = subst (λ (x : View). Calm b v x) (sym same)
-      (record { again = first_falls b v.client.look.agains s.look.agains v.origin.look.agains again; out = out; hear = no_more (to_hear setup v.origin) })
+      (record { again = first_falls b v.client.look.agains s.look.agains v.origin.look.agains again; out = out; hear = le_refl (to_hear setup v.origin) })
 
   pub origin_calm : (b : Bool) (v w : View) (s : LinkSide) → w ≡ record v { origin = s } → AgainsFall b v.origin.look.agains s.look.agains
       → to_hear setup s ≤ to_hear setup v.origin → Calm b v w
   origin_calm b v w s same again hear = subst (λ (x : View). Calm b v x) (sym same)
-      (record { again = second_falls b v.client.look.agains v.origin.look.agains s.look.agains again; out = no_more (length v.client.outbox); hear = hear })
+      (record { again = second_falls b v.client.look.agains v.origin.look.agains s.look.agains again; out = le_refl (length v.client.outbox); hear = hear })
 
   -- ---- where a step leads that raised nothing
 
@@ -141,7 +137,7 @@ module _ (setup : Setup) where
     -- to the end
     pub to_end : (p : Phase) (end : TxnEnd) → NoMore (work_left setup u v p) (work_left setup u' w (P.Ended end))
     to_end p end = told_no_more (λ x y. phase_work setup x y v p) (λ x y. phase_work setup x y w (P.Ended end)) b k (agains_left v) (agains_left w) (upload_in u p) (Some 0) calm.again (none_left (upload_in u p) k)
-        (λ x x' y y' again upload. zero_least (phase_work setup x y v p))
+        (λ x x' y y' again upload. zero-le)
 
     -- from one phase that has only the answer before it to the next
     answer_next : (r s i x x' out out' room hear hear' : ℕ) → s < r → x' + i ≤ x → out' ≤ out → hear' ≤ hear → s + (x' + out' + room + hear') < r + (x + out + room + hear)
@@ -202,9 +198,6 @@ module _ (setup : Setup) where
 
   -- ---- the client's head is read
 
-  pub same_len : (xs ys : List ℕ) → ys ≡ xs → length ys ≤ length xs
-  same_len xs ys same = omega (arith, ap length same)
-
   long_less : (o o' n n' : ℕ) → o' + n' ≤ o + n → written_weight * (o' + n') ≤ written_weight * (o + n)
   long_less o o' n n' less = omega (arith, less)
 
@@ -221,16 +214,16 @@ module _ (setup : Setup) where
 
   module _ (v w : View) where
     unsent : w ≡ record v { client = w.client } → length w.origin.outbox ≤ length v.origin.outbox
-    unsent same = same_len v.origin.outbox w.origin.outbox (ap (λ (x : View). x.origin.outbox) same)
+    unsent same = same_length v.origin.outbox w.origin.outbox (ap (λ (x : View). x.origin.outbox) same)
 
     pub asks_calm : (p : Pulled) → HearsRequest true v w (F.Read p) → Calm (pull_again p) v w
     asks_calm p hears = client_calm (pull_again p) v w w.client hears.others hears.finds.1.pulls.pulls.calls.agains
-        (same_len v.client.outbox w.client.outbox hears.finds.1.outbox)
+        (same_length v.client.outbox w.client.outbox hears.finds.1.outbox)
 
     pub head_calm : (head : RequestHead) → HearsRequest true v w (F.Head head) → Calm false v w
     head_calm head hears = client_calm false v w w.client hears.others
         (subst (λ (s : LinkSide). AgainsFall false v.client.look.agains s.look.agains) (sym hears.finds.2) (none_fall v.client.look.agains))
-        (same_len v.client.outbox w.client.outbox (ap (λ (s : LinkSide). s.outbox) hears.finds.2))
+        (same_length v.client.outbox w.client.outbox (ap (λ (s : LinkSide). s.outbox) hears.finds.2))
 
   module _ (v w : View) (u u' : Option ℕ) (rose : Rose8 u u' 0) where
     -- some of it came, or there was an Again
@@ -255,17 +248,13 @@ module _ (setup : Setup) where
         let calm = head_calm v w head hears in
         let sends = unsent v w hears.others in
         let text = length (request_text setup q.head q.target q.host) in
-        let longer : length w.origin.outbox + text ≤ length v.origin.outbox + head_room setup = both_less (length v.origin.outbox) (length w.origin.outbox) (head_room setup) text sends fits in
+        let longer : length w.origin.outbox + text ≤ length v.origin.outbox + head_room setup = add-le-add sends fits in
         work_falls false 0 v w u u' calm rose P.ReadRequest (P.ReadRequestHdr q) rose (λ x x' y y' again upload.
         asked_next (one_if false) x x' (length v.client.outbox) (length w.client.outbox) (answer_room setup)
         (to_hear setup v.origin) (to_hear setup w.origin) y y'
         (written_weight * (length v.origin.outbox + head_room setup)) (written_weight * (length w.origin.outbox + text))
         (to_ask v.client) again upload calm.out calm.hear
         (long_less (length v.origin.outbox) (length w.origin.outbox) (head_room setup) text longer))
-      where
-        both_less : (o o' n n' : ℕ) → o' ≤ o → n' ≤ n → o' + n' ≤ o + n
-        both_less o o' n n' sends fits = omega (arith, sends, fits)
-
   -- ---- the request is written
 
   queue_next : (i x x' out out' room hear hear' y y' z z' : ℕ) → x' + i ≤ x → y' ≤ y + 8 * 0 → out' ≤ out → hear' ≤ hear → z' ≤ z
@@ -276,7 +265,7 @@ module _ (setup : Setup) where
       → Fewer (work_left setup u v (P.SendRequestHdr q)) (work_left setup u' w (P.SendRequest q))
   queued v w u u' q rose queues =
       let text = request_text setup q.head q.target q.host in
-      let calm : Calm false v w = origin_calm false v w (record v.origin { outbox = v.origin.outbox ++ text }) queues (none_fall v.origin.look.agains) (no_more (to_hear setup v.origin)) in
+      let calm : Calm false v w = origin_calm false v w (record v.origin { outbox = v.origin.outbox ++ text }) queues (none_fall v.origin.look.agains) (le_refl (to_hear setup v.origin)) in
       let len : length w.origin.outbox ≡ length v.origin.outbox + length text = ap (λ (x : View). length x.origin.outbox) queues ∙ length-append v.origin.outbox text in
       work_falls false 0 v w u u' calm rose (P.SendRequestHdr q) (P.SendRequest q) rose (λ x x' y y' again upload.
       queue_next (one_if false) x x' (length v.client.outbox) (length w.client.outbox) (answer_room setup)
@@ -343,7 +332,7 @@ module _ (setup : Setup) where
 
     head_used : (head : ResponseHead) → HearsResponse true v w (F.Head head) → to_hear setup w.origin + 1 ≤ to_hear setup v.origin
     head_used head hears = plus_one (to_hear setup w.origin) (to_hear setup v.origin)
-        (used_hear setup v.origin w.origin hears.finds.1 (same_len v.origin.look.left w.origin.look.left (ap (λ (s : LinkSide). s.look.left) hears.finds.2)))
+        (used_hear setup v.origin w.origin hears.finds.1 (same_length v.origin.look.left w.origin.look.left (ap (λ (s : LinkSide). s.look.left) hears.finds.2)))
       where
         plus_one : (a b : ℕ) → a < b → a + 1 ≤ b
         plus_one a b less = omega (arith, less)
@@ -377,12 +366,9 @@ module _ (setup : Setup) where
   own_queued : (i x x' out out' own : ℕ) → x' + i ≤ x → out' ≤ out + own → 2 + (x' + out') < 3 + (x + out) + own
   own_queued i x x' out out' own again more = omega (arith, again, more)
 
-  own_sent_next : (i l x x' out out' : ℕ) → x' + i ≤ x → out' + l ≤ out → 1 ≤ l + i → 2 + (x' + out') < 2 + (x + out)
-  own_sent_next i l x x' out out' again went some = omega (arith, again, went, some)
-
   sent_within : (to_head : Bool) (s : OwnStatus) → length (own_sent to_head s) ≤ length (own_body s)
-  sent_within true s = zero_least (length (own_body s))
-  sent_within false s = no_more (length (own_body s))
+  sent_within true s = zero-le
+  sent_within false s = le_refl (length (own_body s))
 
   pub own_text_queued : (v w : View) (u u' : Option ℕ) (a : OwnAnswer) → Rose8 u u' 0 → QueuesOwn (own_text setup a.status) (own_sent a.to_head a.status) v w
       → Fewer (work_left setup u v (P.SendResponseHdr a)) (work_left setup u' w (P.Sending a))
@@ -402,7 +388,7 @@ module _ (setup : Setup) where
       longer : (out out' both head body most : ℕ) → out' ≡ out + both → both ≡ head + body → body ≤ most → out' ≤ out + (head + most)
       longer out out' both head body most len parts within = omega (arith, len, parts, within)
 
-  module _ (v w : View) (u u' : Option ℕ) (rose : Rose8 u u' 0) (p : Pushed) (writes : WritesClient true v w p) where
+  module _ (v w : View) (p : Pushed) (writes : WritesClient true v w p) where
     sent_least : length w.client.outbox + least_went p ≤ length v.client.outbox
     sent_least = went_some p v.client.outbox w.client.outbox writes.client.pushes.went
 
@@ -411,6 +397,6 @@ module _ (setup : Setup) where
         (less_plus (length w.client.outbox) (length v.client.outbox) (least_went p) sent_least)
 
     -- some of it went, or there was an Again
-    pub sends_on : (a : OwnAnswer) → 1 ≤ least_went p + one_if (push_again p) → Fewer (work_left setup u v (P.Sending a)) (work_left setup u' w (P.Sending a))
-    sends_on a some = work_falls (push_again p) 0 v w u u' sends_calm rose (P.Sending a) (P.Sending a) (none_left (Some 0) 0) (λ x x' y y' again upload.
-        own_sent_next (one_if (push_again p)) (least_went p) x x' (length v.client.outbox) (length w.client.outbox) again sent_least some)
+    pub sends_on : (u u' : Option ℕ) → Rose8 u u' 0 → (a : OwnAnswer) → 1 ≤ least_went p + one_if (push_again p) → Fewer (work_left setup u v (P.Sending a)) (work_left setup u' w (P.Sending a))
+    sends_on u u' rose a some = work_falls (push_again p) 0 v w u u' sends_calm rose (P.Sending a) (P.Sending a) (none_left (Some 0) 0) (λ x x' y y' again upload.
+        sent_next (one_if (push_again p)) (least_went p) x x' (length v.client.outbox) (length w.client.outbox) again sent_least some)

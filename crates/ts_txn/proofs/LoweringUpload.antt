@@ -11,8 +11,8 @@ use Rattle.ts_txn.specs.Moving.{LowersUpload, MovesUpload}
 use Rattle.ts_txn.specs.Lowering.{agains_left, answer_room, if_told, phase_work, to_hear, work_left}
 use Rattle.ts_txn.specs.declared.phase.Phase.TheVariants as P
 use Rattle.ts_txn.specs.declared.phase.Request.{Request}
-use Rattle.ts_txn.proofs.Lowering.{one_if, replaced_within, still_hear}
-use Rattle.ts_txn.proofs.LoweringSteps.{Calm, same_len, work_falls}
+use Rattle.ts_txn.proofs.Lowering.{one_if, replaced_within, same_length, still_hear}
+use Rattle.ts_txn.proofs.LoweringSteps.{Calm, work_falls}
 
 -- what the upload has left fell, and no Again answer came
 told_lower : (f g : ℕ → ℕ → ℕ) (m m' n n' : Option ℕ) → NoMore m m' → Fewer n n'
@@ -38,10 +38,10 @@ again_next x x' out out' room hear hear' y y' again upload less heard = omega (a
 
 module _ (setup : Setup) (refuses : List ℕ → Type 0) (v w : View) (answer : Uploaded) (moves : MovesUpload true true refuses answer v w) where
   upload_out : length w.client.outbox ≤ length v.client.outbox
-  upload_out = same_len setup v.client.outbox w.client.outbox (ap (λ (x : View). x.client.outbox) moves.others)
+  upload_out = same_length v.client.outbox w.client.outbox (ap (λ (x : View). x.client.outbox) moves.others)
 
   upload_hear : to_hear setup w.origin ≤ to_hear setup v.origin
-  upload_hear = still_hear setup v.origin w.origin (same_len setup v.origin.inbox w.origin.inbox (ap (λ (s : LinkSide). s.inbox) moves.moves.others))
+  upload_hear = still_hear setup v.origin w.origin (same_length v.origin.inbox w.origin.inbox (ap (λ (s : LinkSide). s.inbox) moves.moves.others))
       (replaced_within v.origin.look.given v.origin.look.left w.origin.look.left (moves.moves.bytes refl refl).origin_left)
 
   -- an upload raises nothing

@@ -41,7 +41,7 @@ write_failed t s r p is writes kept =
     subst (λ (n : ℕ). Rose n r.look.faults) (sym writes.base) (failed s.base s.look.faults r.look.faults rose kept)
 
 -- no more waits than one read brings behind what waited
-came_few : (p : Pulled) (most : ℕ) (more : List ℕ) → Came p most more → length more ≤ most
+pub came_few : (p : Pulled) (most : ℕ) (more : List ℕ) → Came p most more → length more ≤ most
 came_few (L.Some n) most more (len, some, few) = omega (arith, len, few)
 came_few _ most more none = let no : length more ≡ 0 = ap length none in omega (arith, no)
 

@@ -19,9 +19,6 @@ compose_of_lines rest pause line_pause (l ∷ ls) (p ∷ ps) of z = ap (compose 
 abbrev pub Continues : {P : Type 0} → (P → List ℕ → List ℕ) → (P → ℕ) → (TransformLine → ℕ) → (TransformLine → Bool) → List TransformLine → List TransformLine → List P → Type 0
 Continues {P} rest pause line_pause f all left ps = (qs : List P) → AreOfLines rest pause line_pause (filter f left) qs → AreOfLines rest pause line_pause (filter f all) (ps ++ qs)
 
-pub part_first : {P : Type 0} (rest : P → List ℕ → List ℕ) (pause : P → ℕ) (line_pause : TransformLine → ℕ) (f : TransformLine → Bool) (all : List TransformLine) → Continues rest pause line_pause f all all []
-part_first rest pause line_pause f all qs of = of
-
 pub part_last : {P : Type 0} (rest : P → List ℕ → List ℕ) (pause : P → ℕ) (line_pause : TransformLine → ℕ) (f : TransformLine → Bool) (all left : List TransformLine) (ps : List P) → left ≡ [] → Continues rest pause line_pause f all left ps
     → AreOfLines rest pause line_pause (filter f all) ps
 part_last {P} rest pause line_pause f all left ps none before =

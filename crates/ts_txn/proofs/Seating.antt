@@ -1,9 +1,7 @@
 -- The first continuation of a transaction: whose events its calls set, and when these are due.
-use Rattle.std.proofs.Common.{◌≡◌, ℕ, List, true, Option, Some, None, Result, length, arith, sym, ap, subst, ◌∙◌}
+use Rattle.std.proofs.Common.{◌≡◌, ℕ, true, Option, Some, Result, length, arith, sym, ap, subst}
 use Rattle.ts_journal.specs.declared.entry.ContKey.{ContKey}
 use Rattle.ts_journal.specs.declared.entry.Event.{Event}
-use Rattle.ts_journal.specs.declared.entry.Pending.{Pending}
-use Rattle.ts_journal.specs.State.{pending_at}
 use Rattle.ts_group.specs.declared.action.Action.{Action}
 use Rattle.ts_group.specs.declared.action.SetFault.{SetFault}
 use Rattle.ts_group.specs.Acts.{Sets}
@@ -37,14 +35,6 @@ due_rests a after = only_none (IsDueAfter after a.moment) a
 -- so it is where something was destroyed then
 pub due_less : (a b c : Context) (after : ℕ) → SetsOnly (IsDueAfter after a.moment) a b → IsLess b.log.state c.log.state → SetsOnly (IsDueAfter after a.moment) a c
 due_less a b c after only less = λ n p none there. only n p none (less.from n p there)
-
--- so it is where a continuation was made first
-pub due_made : (a b c : Context) (after : ℕ) → Grows a b → SameEvents a.log.state b.log.state → SetsOnly (IsDueAfter after b.moment) b c → SetsOnly (IsDueAfter after a.moment) a c
-due_made a b c after grows same only = λ n p none there.
-    subst (λ (x : ℕ). IsDueAfter after x p) grows.moment (only n p (ap (λ (x : List Pending). pending_at n x) same.pending ∙ none) there)
-
-pub due_kept : (a b : Context) (after : ℕ) → SameEvents a.log.state b.log.state → SetsOnly (IsDueAfter after a.moment) a b
-due_kept a b after same = λ n p none there. absurd (let wrong : None ≡ Some p = sym none ∙ ap (λ (x : List Pending). pending_at n x) (sym same.pending) ∙ there in cc)
 
 pub main_rests : (a : Context) (slot : Option StageContinuation) → SetsOnly (IsOfMain slot) a a
 main_rests a slot = only_none (IsOfMain slot) a

@@ -1,5 +1,5 @@
 -- What holds of each step of a body, and of the answer that the step is settled as.
-use Rattle.std.proofs.Common.{Result, Ok, Err, sym, subst}
+use Rattle.std.proofs.Common.{Result, Err, sym, subst}
 use Rattle.std.specs.Prelude.{⊤}
 use Rattle.ts_group.specs.declared.action.SetFault.{SetFault}
 use Rattle.ts_group.specs.declared.action.SetFault.TheVariants as F

@@ -21,7 +21,7 @@ use Rattle.ts_txn.specs.Block.{BodySays, bad, body_lines, cut, framing_for, rela
 use Rattle.ts_txn.specs.View.{HasCount, LinkSide, View}
 use Rattle.ts_txn.specs.RelayMoves.{ReadsOrigin}
 use Rattle.ts_txn.specs.Facts as facts
-use Rattle.ts_txn.specs.Ends.{EndFact, HasText, IsFrontOf, IsFrontThrough, Relayed}
+use Rattle.ts_txn.specs.Ends.{EndFact, HasText, IsFrontThrough, Relayed}
 use Rattle.ts_txn.specs.Ends as ends
 use Rattle.ts_txn.specs.Feeding.{DrainsOrigin, EndsHere, FeedsBody, FeedsTo, GetsPart, OnGoes}
 use Rattle.ts_txn.specs.Finishing.{IsFinishing, LeadsBody, QueuesBlock}
