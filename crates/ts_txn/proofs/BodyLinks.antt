@@ -1,7 +1,8 @@
 -- The steps of a body, and what they do with the two links: which counts rise, and which events are set when.
-use Rattle.std.proofs.Common.{◌≡◌, ℕ, zero, suc, ◌+◌, ◌<◌, ◌≤◌, ◌⊎◌, inl, inr, List, [], ◌∷◌, ◌++◌, Bool, true, false, Option, Some, None, Result, Err, length, length-append, append_assoc, drop, refl, sym, ap, subst, ◌∙◌, arith}
+use Rattle.std.proofs.Common.{◌≡◌, ℕ, zero, suc, ◌+◌, ◌<◌, ◌≤◌, ◌⊎◌, inl, inr, List, [], ◌∷◌, ◌++◌, Bool, true, false, Option, Some, None, Result, Err, length, length-append, drop, refl, sym, ap, subst, ◌∙◌, arith}
 use Rattle.std.proofs.lemmas.List.{append-nil, length-drop}
 use Rattle.std.specs.Prelude.{⊤}
+use Rattle.std.proofs.lemmas.Bool.{false≢true}
 use Rattle.ts_hooks.specs.declared.txn_end.TxnEnd.{TxnEnd}
 use Rattle.ts_hooks.specs.declared.txn_end.TxnEnd.TheVariants as E
 use Rattle.ts_journal.specs.declared.entry.Event.{Event}
@@ -52,6 +53,7 @@ use Rattle.ts_txn.specs.declared.relay.Relay.{Relay}
 use Rattle.ts_txn.specs.declared.relay.TheConstants.{FIRST, READER}
 use Rattle.ts_txn.proofs.Lowering.{no_more_same, same_length}
 use Rattle.ts_txn.proofs.OneSide.{came_few}
+use Rattle.ts_txn.proofs.Relaying.{text_behind}
 use Rattle.ts_txn.proofs.Settling.{settled_has, unless_lacking}
 
 -- ---- a link that is not called
@@ -109,11 +111,7 @@ queued_text t text cuts v w queued = record {
   head = queued.adds.head;
   mode = queued.adds.mode;
   cuts = (cuts, sym queued.adds.cuts_are);
-  text = λ told. (
-    text,
-    append_assoc v.client.look.taken v.client.outbox text
-        ∙ sym (ap (λ (x : List ℕ). x ++ w.client.outbox) (ap (λ (s : LinkSide). s.look.taken) queued.client) ∙ ap (λ (x : List ℕ). v.client.look.taken ++ x) queued.adds.outbox),
-  );
+  text = λ told. (text, sym (text_behind text cuts (v.client.look.taken ++ v.client.outbox) v w queued refl));
 }
 
 queued_wrote : (t : Bool) (v w : View) (p : Pushed) → WritesClient t v w p → KeepsQueued t v w
@@ -477,7 +475,7 @@ named_others : (ts : List (Option StageContinuation)) (role : ℕ) (t : Option S
     → IsNamedIf b.roles role t
 named_others ts role None a b others named below h = tt
 named_others ts role (Some t) a b others named below h =
-    (others role (Some (record t { roused = false })) named (inl below) (record { named = h; event = λ roused. absurd (let wrong : false ≡ true = roused in cc) })).named
+    (others role (Some (record t { roused = false })) named (inl below) (record { named = h; event = λ roused. absurd (false≢true roused) })).named
 
 -- one of a stage, or of nobody
 pub links_stage : {P : Type 0} (ct ot : Bool) (rest : P → List ℕ → List ℕ) (pause : P → ℕ) (role : ℕ) (event : Event) (f : Result ⊤ SetFault) (v : View) (step result : BodyStep) (t : Option StageContinuation)
@@ -560,4 +558,4 @@ body_in_time step t m s a c b begins same adds first ends runs of_main =
     named_made : (u : Option StageContinuation) → IsNamedIf a.roles MAIN u → IsNamedIf c.roles MAIN u
     named_made None h = tt
     named_made (Some u) h =
-        (begins.chain.made MAIN (Some (record u { roused = false })) (record { named = h; event = λ roused. absurd (let wrong : false ≡ true = roused in cc) })).named
+        (begins.chain.made MAIN (Some (record u { roused = false })) (record { named = h; event = λ roused. absurd (false≢true roused) })).named

@@ -3,6 +3,7 @@
 use Rattle.std.proofs.Common.{◌≡◌, ◌≢◌, ◌≤◌, ◌⊎◌, inl, inr, ℕ, List, [], ◌∷◌, true, false, Option, Some, None, eqb, arith, refl, sym, ap, subst, ◌∙◌}
 use Rattle.std.specs.Prelude.{⊤}
 use Rattle.std.proofs.lemmas.Bool.Decides.{eqb_tells}
+use Rattle.std.proofs.lemmas.Bool.{true≢false}
 use Rattle.ts_journal.specs.declared.entry.TheConstants.{GREATEST}
 use Rattle.ts_journal.specs.declared.entry.Event.{Event}
 use Rattle.ts_journal.specs.declared.entry.Pending.{Pending}
@@ -43,7 +44,7 @@ pub alone_made : (t : StageContinuation) (a b : Context) → AllSeated a.log.sta
 alone_made t a b seated plain same named rests = record {
   seated = λ n p there. absurd (seated n p (ap (pending_at n) (sym same.pending) ∙ there));
   plain = subst AllPlain (sym same.pending) plain;
-  of_main = inl (record { named = named; event = λ roused. absurd (let wrong : true ≡ false = sym roused ∙ rests in cc) });
+  of_main = inl (record { named = named; event = λ roused. absurd (true≢false (sym roused ∙ rests)) });
 }
 
 -- ---- its group was asked

@@ -4,6 +4,7 @@ use Rattle.std.specs.Prelude.{⊤}
 use Rattle.std.proofs.lemmas.Bool.{OnTrue_from}
 use Rattle.std.proofs.lemmas.List.{append-nil}
 use Rattle.std.proofs.lemmas.List.Elements.{All-nil}
+use Rattle.std.proofs.lemmas.Bool.{false≢true, true≢false}
 use Rattle.ts_config.specs.declared.setup.Setup.{Setup}
 use Rattle.ts_config.specs.Bodies.{compose_lines}
 use Rattle.ts_hooks.specs.declared.txn_end.TxnEnd.TheVariants as E
@@ -104,7 +105,7 @@ module _ {P : Type 0} (d e : DrivenChain P) (a b : Context) (within : ActsWithin
 new_reader : (b : Context) (role : ℕ) (t : StageContinuation) → role_at t.key.index b.roles ≡ Some role → t.roused ≡ false → IsOfStageIf b.log.state.pending b.roles role (Some t)
 new_reader b role t named still = record {
   named = named;
-  event = λ roused. absurd (let wrong : true ≡ false = sym roused ∙ still in cc);
+  event = λ roused. absurd (true≢false (sym roused ∙ still));
 }
 
 module _ {P : Type 0} (a b c : Context) (t : StageContinuation) (grows : Grows a b) (turn : b.log.state.held ≡ true) (events : SameEvents a.log.state b.log.state)
@@ -166,7 +167,7 @@ begins_none r a b grows turn events keys fresh = record {
   chain = record {
     within = acts_then 0 2 2 (omega arith) (made_acts a b 0 grows turn events) (acts_none 2 b turn);
     made = λ role s h. made_if a b events keys role s h;
-    driven = λ runs. absurd (let wrong : false ≡ true = sym fresh.stopped ∙ runs in cc);
+    driven = λ runs. absurd (false≢true (sym fresh.stopped ∙ runs));
     runs = tt;
     seated = seated_as [] r.driven.table.items a b events.pending (λ key none. absurd none);
   };
@@ -227,12 +228,12 @@ module _ (setup : Setup) (refuses : Type 0) where
         place = place;
         reads = e.reads.reads;
         is_fed = e.reads.is_fed;
-        over = λ done. absurd (let wrong : false ≡ true = done in cc);
+        over = λ done. absurd (false≢true done);
         mode = e.sends.mode;
         text = e.sends.text;
         front = subst (λ (b : Bool). IsFrontThrough (body_lines setup e.q.head e.h) b e.read e.sends.body) e.going
             (front_by c.given (body_lines setup e.q.head e.h) e.read e.sends.body (flow rest c) e.sends.flows);
-        whole = λ fin. absurd (let wrong : false ≡ true = fin in cc);
+        whole = λ fin. absurd (false≢true fin);
       });
     };
     by = tt;
@@ -245,7 +246,7 @@ module _ (setup : Setup) (refuses : Type 0) where
     h = e.h;
     read = e.read;
     reads = e.reads;
-    gives_end = record { ended = λ given. absurd (let wrong : true ≡ false = sym given ∙ e.going in cc); goes_on = λ going. is };
+    gives_end = record { ended = λ given. absurd (true≢false (sym given ∙ e.going)); goes_on = λ going. is };
     sends = e.sends;
   })
   enters_all rest v c d place B.Ended is gets e = subst (λ (k : ChainState _). RelaysBody setup refuses rest v k place) (sym gets) (record {
@@ -253,14 +254,14 @@ module _ (setup : Setup) (refuses : Type 0) where
     h = e.h;
     read = e.read;
     reads = e.reads;
-    gives_end = record { ended = λ given. ends.told is; goes_on = λ going. absurd (let wrong : true ≡ false = going in cc) };
+    gives_end = record { ended = λ given. ends.told is; goes_on = λ going. absurd (true≢false going) };
     sends = record {
       count = e.sends.count;
       some = e.sends.some;
       mode = e.sends.mode;
       body = e.sends.body;
       text = e.sends.text;
-      flows = λ z last. e.sends.flows z (OnTrue_from c.given (z ≡ []) (λ given. absurd (let wrong : true ≡ false = sym given ∙ e.going in cc)));
+      flows = λ z last. e.sends.flows z (OnTrue_from c.given (z ≡ []) (λ given. absurd (true≢false (sym given ∙ e.going))));
     };
   })
   enters_all rest v c d place B.Bad is gets e = absurd gets

@@ -1,8 +1,7 @@
 -- What one event leads to: a step of its phase, a part of a body, one of the last writes, or nothing.
-use Rattle.std.proofs.Common.{◌≡◌, ◌⊎◌, inl, inr, ℕ, List, [], ◌∷◌, Bool, true, false, Option, Some, None, refl, sym, ap, subst, ◌∙◌}
+use Rattle.std.proofs.Common.{◌≡◌, ◌⊎◌, inl, inr, ℕ, List, [], ◌∷◌, Bool, true, false, Option, None, refl, sym, ap, subst, ◌∙◌}
 use Rattle.ts_hooks.specs.declared.txn_end.TxnEnd.{TxnEnd}
 use Rattle.ts_hooks.specs.declared.txn_end.TxnEnd.TheVariants as E
-use Rattle.ts_group.specs.declared.action.Named.{Named}
 use Rattle.ts_group.specs.Context.{Context}
 use Rattle.ts_group.specs.Entries.{Grows}
 use Rattle.ts_link.specs.Link.{Look}
@@ -20,6 +19,7 @@ use Rattle.ts_txn.specs.Entering.{QuietLinks}
 use Rattle.ts_txn.specs.Steps.{LeavesClient, LeavesClientIn, LeavesOrigin, LeavesOriginIn, LeavesSides, MindsLinksIn, WaitsRightly}
 use Rattle.ts_txn.specs.Holding.{IfTold}
 use Rattle.ts_txn.specs.View.{LinkSide, View, view_of}
+use Rattle.ts_transform.proofs.Joined.{named_unroused}
 use Rattle.ts_txn.specs.declared.course.Course.{Course}
 use Rattle.ts_txn.specs.declared.course.Course.TheVariants as K
 use Rattle.ts_txn.specs.declared.driver.TheConstants.{MAIN}
@@ -82,11 +82,6 @@ pub stays_started : {Q : Type 0} (led new : Course Q) → is_fresh_on led ≡ fa
 stays_started led new started (inl same) = ap is_fresh_on same ∙ started
 stays_started led new started (inr lacks) = ap is_fresh_on lacks
 
--- the first continuation keeps its role when its event is handled
-named_before : (roles : List Named) (main : Option StageContinuation) → IsNamedIf roles MAIN main → IsNamedIf roles MAIN (unroused main)
-named_before roles None named = named
-named_before roles (Some t) named = named
-
 module _ {C O Q : Type 0} (ct ot : Bool) (client : C → Look) (origin : O → Look) (paired : C → O → Type 0) (refuses : O → List ℕ → Type 0) (left : C → O → Option ℕ) where
   -- a step of a phase was made, and led to the phase that it answered, or to the end for want of memory
   pub takes_step : (s t : Core C O) (p : Phase) (new : Course Q) (made : Step) → StepLeads made → MindsLinksIn ct ot client origin refuses left s t p made
@@ -106,21 +101,8 @@ module _ {C O Q : Type 0} (ct ot : Bool) (client : C → Look) (origin : O → L
       by_lead (inr lacks) = inl lacks
 
       by_phase : (p : Phase) → MindsLinksIn ct ot client origin refuses left s t p made → ClosesAs p new
-      by_phase P.Fresh minds = tt
-      by_phase P.TxnStart minds = tt
-      by_phase P.ReadRequest minds = tt
-      by_phase (P.ReadRequestHdr q) minds = tt
-      by_phase (P.OsDns q) minds = tt
-      by_phase (P.SendRequestHdr q) minds = tt
-      by_phase (P.SendRequest q) minds = tt
-      by_phase (P.Upload q) minds = tt
-      by_phase (P.ReadResponse q) minds = tt
-      by_phase (P.ReadResponseHdr q h) minds = tt
-      by_phase (P.ResponseTransform q h) minds = tt
-      by_phase (P.SendResponseHdr a) minds = tt
-      by_phase (P.Sending a) minds = tt
       by_phase (P.TxnClose end) minds = inr (subst (λ (m : Step). LedBehind m.next (K.Phased m.phase) new) minds.1 led)
-      by_phase (P.Ended end) minds = tt
+      by_phase _ minds = tt
 
   -- where a body that begins leads: it is passed on, or memory lacked
   pub begin_led : (r : Relay Q) (step : BodyStep) (new : Course Q) → OnGoes step ⊤ → LedAfter step (course_after r step) new
@@ -171,9 +153,6 @@ module _ {C O Q : Type 0} (ct ot : Bool) (client : C → Look) (origin : O → L
   pub due_begin : (main : Option StageContinuation) (v : View) (u : Option StageContinuation) (a m b : Context) (step : BodyStep) (r : Relay Q) (new : Course Q) → OnGoes step ⊤
       → LedAfter step (course_after r step) new → Grows a m → BeginsInTime main r a m → ActsWithin (set_leaving step) m b → IsCoveredNow v u new b → DueTo main N.Go new a b
   due_begin main v u a m b S.Goes r new goes led first begins then covered = subst (λ x. DueTo main N.Go x a b) (sym led) (record { behind = m; first = first; begins = begins; then = then })
-  due_begin main v u a m b S.Waits r new goes led first begins then covered = absurd goes
-  due_begin main v u a m b (S.Finishes end) r new goes led first begins then covered = absurd goes
-  due_begin main v u a m b (S.Closes end) r new goes led first begins then covered = absurd goes
   due_begin main v u a m b S.Lacks r new goes led first begins then covered = lost (by_lead led)
     where
       by_lead : (new ≡ K.Phased (P.Ended E.NoMemory)) ⊎ (new ≡ K.Phased (P.Ended E.NoMemory)) → new ≡ K.Phased (P.Ended E.NoMemory)
@@ -188,6 +167,7 @@ module _ {C O Q : Type 0} (ct ot : Bool) (client : C → Look) (origin : O → L
 
       lost : new ≡ K.Phased (P.Ended E.NoMemory) → DueTo main N.Go new a b
       lost lacks = subst (λ x. DueTo main N.Go x a b) (sym lacks) (none_due (subst (λ x. IsCoveredNow v u x b) lacks covered))
+  due_begin main v u a m b _ r new goes led first begins then covered = absurd goes
 
   -- in a phase, said of the first continuation before its event was handled
   due_before : (main u : Option StageContinuation) → u ≡ unroused main → (next : Next) (new : Course Q) (a b : Context) → DueTo u next new a b → DueTo main next new a b
@@ -195,7 +175,7 @@ module _ {C O Q : Type 0} (ct ot : Bool) (client : C → Look) (origin : O → L
   due_before main u is next (K.Relaying r) a b due = record {
     behind = due.behind;
     first = due.first;
-    begins = λ runs named. due.begins runs (subst (IsNamedIf a.roles MAIN) (sym is) (named_before a.roles main named));
+    begins = λ runs named. due.begins runs (subst (IsNamedIf a.roles MAIN) (sym is) (named_unroused a.roles MAIN main named));
     then = due.then;
   }
   due_before main u is next (K.Finishing end) a b due = due

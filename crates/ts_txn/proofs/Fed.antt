@@ -3,6 +3,7 @@ use Rattle.std.proofs.Common.{◌≡◌, ◌≢◌, ℕ, ◌<◌, ◌≤◌, ◌
 use Rattle.std.specs.Prelude.{slice_range, ◌↔◌}
 use Rattle.httparse.proofs.RunLemmas.{length-slice_range}
 use Rattle.std.proofs.lemmas.List.{append-nil, length-take, take-append-drop, take-take}
+use Rattle.std.proofs.lemmas.Bool.{false≢true, true≢false}
 use Rattle.ts_transform.specs.Flow.{ChainState}
 use Rattle.ts_wire.specs.declared.body.BodyEnd.{BodyEnd}
 use Rattle.ts_wire.specs.declared.body.BodyEnd.TheVariants as N
@@ -63,19 +64,16 @@ unfinished framing fed read place state is =
 
 up_to_close : (framing : Framing) (fed read : List ℕ) → BodyOf framing fed read B.Unfinished → (IsCutShort framing fed read → N.Ended ≡ N.Cut) → framing ≡ G.UntilClose
 up_to_close G.UntilClose fed read body law = refl
-up_to_close G.Nothing fed read body law = absurd (let wrong : N.Ended ≡ N.Cut = law (body, λ e. (let no : G.Nothing ≡ G.UntilClose = e in cc)) in cc)
-up_to_close (G.Sized n) fed read body law = absurd (let wrong : N.Ended ≡ N.Cut = law (body, λ e. (let no : G.Sized n ≡ G.UntilClose = e in cc)) in cc)
-up_to_close G.Chunked fed read body law = absurd (let wrong : N.Ended ≡ N.Cut = law (body, λ e. (let no : G.Chunked ≡ G.UntilClose = e in cc)) in cc)
-up_to_close G.Faulty fed read body law = absurd (let wrong : N.Ended ≡ N.Cut = law (body, λ e. (let no : G.Faulty ≡ G.UntilClose = e in cc)) in cc)
+up_to_close other fed read body law = absurd (let wrong : N.Ended ≡ N.Cut = law (body, λ e. (let no : other ≡ G.UntilClose = e in cc)) in cc)
 
 pub ends_closed : (place : Place) → CutLaw N.Ended place → EndsHere true place
 ends_closed place law = record {
   closes = λ so framing fed read state is. up_to_close framing fed read (unfinished framing fed read place state is) (law framing fed read is).1;
-  cuts = λ no. absurd (let wrong : true ≡ false = no in cc);
+  cuts = λ no. absurd (true≢false no);
 }
 
 pub ends_cut : (place : Place) → CutLaw N.Cut place → EndsHere false place
 ends_cut place law = record {
-  closes = λ no. absurd (let wrong : false ≡ true = no in cc);
+  closes = λ no. absurd (false≢true no);
   cuts = λ so framing fed read state is. (law framing fed read is).0 refl;
 }

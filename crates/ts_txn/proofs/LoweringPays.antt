@@ -2,6 +2,7 @@
 use Rattle.std.proofs.Common.{◌≡◌, ◌⊎◌, inl, inr, ℕ, ◌+◌, ◌*◌, ◌≤◌, List, [], length, Bool, true, false, Result, arith, refl, sym, ap, subst, ◌∙◌}
 use Rattle.std.proofs.Math.Nat.{add-le-add, le_of_eq, le_refl}
 use Rattle.std.specs.Prelude.{Option, ⊤, if◌then◌else◌}
+use Rattle.std.proofs.lemmas.Bool.{false≢true}
 use Rattle.ts_config.specs.declared.setup.Setup.{Setup}
 use Rattle.ts_journal.specs.declared.entry.TheConstants.{GREATEST}
 use Rattle.ts_journal.specs.declared.entry.Event.{Event}
@@ -186,7 +187,7 @@ module _ {P : Type 0} (ct ot : Bool) (setup : Setup) (rest : P → List ℕ → 
       -- while the chain runs each of its errors counts
       counted : (b : Bool) (n : ℕ) → b ≡ true → (if b then n else 0) ≡ n
       counted true n runs = refl
-      counted false n runs = absurd (let wrong : false ≡ true = runs in cc)
+      counted false n runs = absurd (false≢true runs)
 
       at_most : (b : Bool) (n : ℕ) → (if b then n else 0) ≤ n
       at_most true n = omega arith

@@ -3,6 +3,7 @@ use Rattle.std.proofs.Common.{◌≡◌, ◌≢◌, ◌⊎◌, inl, inr, ℕ, �
 use Rattle.std.proofs.Math.Nat.{le_of_eq}
 use Rattle.std.proofs.lemmas.List.{append-nil}
 use Rattle.std.specs.Prelude.{Option, Some, None, ⊤, if◌then◌else◌}
+use Rattle.std.proofs.lemmas.Bool.{false≢true}
 use Rattle.ts_config.specs.declared.setup.Setup.{Setup}
 use Rattle.ts_group.specs.declared.action.SetFault.{SetFault}
 use Rattle.ts_group.specs.declared.action.SetFault.TheVariants as F
@@ -46,7 +47,7 @@ use Rattle.ts_txn.proofs.LoweringSteps.{Calm, less_plus, origin_calm, sends_calm
 -- a chain that runs only if it ran has no more of them
 pub errors_fewer : (b' b : Bool) (e' e : ℕ) → e' ≤ e → (b' ≡ true → b ≡ true) → (if b' then e' else 0) ≤ (if b then e else 0)
 errors_fewer true true e' e fewer runs = omega (arith, fewer)
-errors_fewer true false e' e fewer runs = absurd (let wrong : false ≡ true = runs refl in cc)
+errors_fewer true false e' e fewer runs = absurd (false≢true (runs refl))
 errors_fewer false true e' e fewer runs = omega arith
 errors_fewer false false e' e fewer runs = omega arith
 
@@ -64,7 +65,7 @@ fewer_errors setup rest n n' (Some x) w d less fell = by_told (agains_left w) fe
 
 pub loses_runs : {P : Type 0} (answer : Result ⊤ SetFault) (d e : DrivenChain P) (a b : Context) → Loses answer d e a b → e.running ≡ true → d.running ≡ true
 loses_runs (Ok x) d e a b loses runs = sym loses.0 ∙ runs
-loses_runs (Err fault) d e a b loses runs = absurd (let wrong : false ≡ true = sym loses.0 ∙ runs in cc)
+loses_runs (Err fault) d e a b loses runs = absurd (false≢true (sym loses.0 ∙ runs))
 
 -- what goes on can end at once
 pub ended_if : (m m' upload : Option ℕ) (f : ℕ → ℕ → ℕ) → Fewer m (if_told m' upload f) → Fewer m (if_told m' (Some 0) (λ x y. 0))

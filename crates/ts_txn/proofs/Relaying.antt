@@ -6,6 +6,7 @@ use Rattle.std.proofs.lemmas.Bool.{OnTrue_from}
 use Rattle.std.proofs.lemmas.List.{append-nil, map-append, take-append-drop, take_at}
 use Rattle.std.proofs.lemmas.List.Elements.{All-append, All-cons, All-nil}
 use Rattle.std.proofs.lemmas.Grind.{flat_map-append}
+use Rattle.std.proofs.lemmas.Bool.{false≢true, true≢false}
 use Rattle.ts_config.specs.declared.setup.Setup.{Setup}
 use Rattle.ts_config.specs.declared.setup.TransformLine.{TransformLine}
 use Rattle.ts_config.specs.Bodies.{compose_lines}
@@ -20,6 +21,7 @@ use Rattle.ts_vconn.specs.declared.moves.Pushed.TheVariants as V
 use Rattle.ts_wire.specs.declared.frames.Mode.{Mode}
 use Rattle.ts_wire.specs.declared.heads.ResponseHead.{ResponseHead}
 use Rattle.ts_wire.specs.Frames.{IsPiece, cut_body, end_of, frame_of, frames}
+use Rattle.ts_wire.specs.declared.body.BodyState.{BodyState}
 use Rattle.ts_wire.specs.declared.body.BodyState.TheVariants as B
 use Rattle.ts_wire.specs.Body.{BodyOf}
 use Rattle.ts_wire.specs.Place.{Place}
@@ -83,46 +85,44 @@ framed_more mode pieces piece =
 cut_more : (pieces : List (List ℕ)) (piece : List ℕ) → cut_body (pieces ++ piece ∷ []) ≡ cut_body pieces ++ piece
 cut_more pieces piece = flat_map-append (λ (p : List ℕ). p) pieces (piece ∷ []) ∙ ap (λ (x : List ℕ). cut_body pieces ++ x) (append-nil piece)
 
+-- what is queued for the client comes behind its text
+pub text_behind : (text cuts all : List ℕ) (v w : View) → QueuesText text cuts v w → v.client.look.taken ++ v.client.outbox ≡ all → w.client.look.taken ++ w.client.outbox ≡ all ++ text
+text_behind text cuts all v w queues is =
+    ap (λ (s : LinkSide). s.look.taken ++ w.client.outbox) queues.client
+    ∙ ap (λ (x : List ℕ). v.client.look.taken ++ x) queues.adds.outbox
+    ∙ sym (append_assoc v.client.look.taken v.client.outbox text)
+    ∙ ap (λ (x : List ℕ). x ++ text) is
+
 text_framed : (v w : View) (head body piece : List ℕ) → FramesPiece piece v w → IsPiece piece → HasText v.client v.sent head body false
     → HasText w.client w.sent head (body ++ piece) false
-text_framed v w head body piece f is h =
-    let taken : w.client.look.taken ≡ v.client.look.taken = ap (λ (s : LinkSide). s.look.taken) f.client in
-    record {
-      pieces = h.pieces ++ piece ∷ [];
-      each = All-append IsPiece h.pieces (piece ∷ []) h.each (All-cons IsPiece piece [] is (All-nil IsPiece));
-      text = ap (λ (x : List ℕ). x ++ w.client.outbox) taken
-          ∙ ap (λ (x : List ℕ). v.client.look.taken ++ x) f.adds.outbox
-          ∙ sym (append_assoc v.client.look.taken v.client.outbox (frame_of v.sent.mode piece))
-          ∙ ap (λ (x : List ℕ). x ++ frame_of v.sent.mode piece) h.text
-          ∙ append_assoc head (frames v.sent.mode h.pieces false) (frame_of v.sent.mode piece)
-          ∙ ap (λ (x : List ℕ). head ++ x) (framed_more v.sent.mode h.pieces piece)
-          ∙ ap (λ (m : Mode). head ++ frames m (h.pieces ++ piece ∷ []) false) (sym f.adds.mode);
-      head_is = f.adds.head ∙ h.head_is;
-      cuts = f.adds.cuts_are ∙ ap (λ (x : List ℕ). x ++ length piece ∷ []) h.cuts ∙ sym (map-append length h.pieces (piece ∷ []));
-      body_is = cut_more h.pieces piece ∙ ap (λ (x : List ℕ). x ++ piece) h.body_is;
-    }
+text_framed v w head body piece f is h = record {
+  pieces = h.pieces ++ piece ∷ [];
+  each = All-append IsPiece h.pieces (piece ∷ []) h.each (All-cons IsPiece piece [] is (All-nil IsPiece));
+  text = text_behind (frame_of v.sent.mode piece) (length piece ∷ []) (head ++ frames v.sent.mode h.pieces false) v w f h.text
+      ∙ append_assoc head (frames v.sent.mode h.pieces false) (frame_of v.sent.mode piece)
+      ∙ ap (λ (x : List ℕ). head ++ x) (framed_more v.sent.mode h.pieces piece)
+      ∙ ap (λ (m : Mode). head ++ frames m (h.pieces ++ piece ∷ []) false) (sym f.adds.mode);
+  head_is = f.adds.head ∙ h.head_is;
+  cuts = f.adds.cuts_are ∙ ap (λ (x : List ℕ). x ++ length piece ∷ []) h.cuts ∙ sym (map-append length h.pieces (piece ∷ []));
+  body_is = cut_more h.pieces piece ∙ ap (λ (x : List ℕ). x ++ piece) h.body_is;
+}
 
 -- its end is framed
 ended_more : (mode : Mode) (pieces : List (List ℕ)) → frames mode pieces false ++ end_of mode ≡ frames mode pieces true
 ended_more mode pieces = ap (λ (x : List ℕ). x ++ end_of mode) (append-nil (flat_map (frame_of mode) pieces))
 
 pub text_ended : (v w : View) (head body : List ℕ) → FramesEnd v w → HasText v.client v.sent head body false → HasText w.client w.sent head body true
-text_ended v w head body f h =
-    let taken : w.client.look.taken ≡ v.client.look.taken = ap (λ (s : LinkSide). s.look.taken) f.client in
-    record {
-      pieces = h.pieces;
-      each = h.each;
-      text = ap (λ (x : List ℕ). x ++ w.client.outbox) taken
-          ∙ ap (λ (x : List ℕ). v.client.look.taken ++ x) f.adds.outbox
-          ∙ sym (append_assoc v.client.look.taken v.client.outbox (end_of v.sent.mode))
-          ∙ ap (λ (x : List ℕ). x ++ end_of v.sent.mode) h.text
-          ∙ append_assoc head (frames v.sent.mode h.pieces false) (end_of v.sent.mode)
-          ∙ ap (λ (x : List ℕ). head ++ x) (ended_more v.sent.mode h.pieces)
-          ∙ ap (λ (m : Mode). head ++ frames m h.pieces true) (sym f.adds.mode);
-      head_is = f.adds.head ∙ h.head_is;
-      cuts = f.adds.cuts_are ∙ append-nil v.sent.cuts.items ∙ h.cuts;
-      body_is = h.body_is;
-    }
+text_ended v w head body f h = record {
+  pieces = h.pieces;
+  each = h.each;
+  text = text_behind (end_of v.sent.mode) [] (head ++ frames v.sent.mode h.pieces false) v w f h.text
+      ∙ append_assoc head (frames v.sent.mode h.pieces false) (end_of v.sent.mode)
+      ∙ ap (λ (x : List ℕ). head ++ x) (ended_more v.sent.mode h.pieces)
+      ∙ ap (λ (m : Mode). head ++ frames m h.pieces true) (sym f.adds.mode);
+  head_is = f.adds.head ∙ h.head_is;
+  cuts = f.adds.cuts_are ∙ append-nil v.sent.cuts.items ∙ h.cuts;
+  body_is = h.body_is;
+}
 
 -- a front of the first block of some bytes is a front of these
 pub front_of_block : (bytes block piece : List ℕ) (m : ℕ) → block ≡ take (length block) bytes → piece ≡ take m block → piece ≡ take (length piece) bytes
@@ -163,7 +163,7 @@ module _ (setup : Setup) (refuses : Type 0) where
     mode = r.sends.mode;
     text = r.sends.text;
     front = front_by c.given (body_lines setup r.q.head r.h) r.read r.sends.body (flow rest c) r.sends.flows;
-    whole = λ fin. absurd (let wrong : false ≡ true = fin in cc);
+    whole = λ fin. absurd (false≢true fin);
   }
 
   pub relays_any : {P : Type 0} (rest : P → List ℕ → List ℕ) (v : View) (c : ChainState P) (place : Place) → RelaysBody setup refuses rest v c place
@@ -296,7 +296,7 @@ module _ (setup : Setup) (refuses : Type 0) where
         h = r.h;
         read = r.read;
         reads = reads_side t (all_of v.client.look) r.q r.h v.dialed v.origin w.origin p place r.read told reads.origin r.reads;
-        gives_end = record { ended = λ given. absurd (let wrong : true ≡ false = sym given ∙ going in cc); goes_on = r.gives_end.goes_on };
+        gives_end = record { ended = λ given. absurd (true≢false (sym given ∙ going)); goes_on = r.gives_end.goes_on };
         sends = r.sends;
       })
 
@@ -316,24 +316,24 @@ module _ (setup : Setup) (refuses : Type 0) where
 
   -- ---- all of the body was given, and its end is framed
 
-  -- where the body is over, all bytes of the origin end with it
+  -- all bytes of the origin are a body in this state, where no more comes of one that is unfinished
+  pub body_of : (q : Request) (h : ResponseHead) (c : List ℕ) (dialed : Bool) (o : LinkSide) (place : Place) (read : List ℕ)
+      (r : ReadsBody setup refuses q h c dialed o place read) (state : BodyState) → state_of place.phase ≡ state → (state ≡ B.Unfinished → o.inbox ++ o.look.left ≡ [])
+      → BodyOf (framing_of q.head h) ((r.fed ++ o.inbox) ++ o.look.left) read state
+  body_of q h c dialed o place read r state is none =
+      subst (λ (x : List ℕ). BodyOf (framing_of q.head h) x read state) (sym (append_assoc r.fed o.inbox o.look.left))
+      (subst (BodyOf (framing_of q.head h) (r.fed ++ (o.inbox ++ o.look.left)) read) is
+      (place_body (framing_of q.head h) r.fed read place.held place.phase place.total r.is_fed.stands r.is_fed.counted r.is_fed.sound (o.inbox ++ o.look.left)
+      (λ goes. none (sym is ∙ goes))))
+
+  -- where the body is over, they end with it
   over_ends : (q : Request) (h : ResponseHead) (c : List ℕ) (dialed : Bool) (o : LinkSide) (place : Place) (read : List ℕ)
       (r : ReadsBody setup refuses q h c dialed o place read) → IsBodyOver (framing_of q.head h) o place
       → EndsWith (framing_of q.head h) ((r.fed ++ o.inbox) ++ o.look.left) read
   over_ends q h c dialed o place read r (ends.told state) =
-      inl (subst (λ (x : List ℕ). BodyOf (framing_of q.head h) x read B.Ended) (sym (append_assoc r.fed o.inbox o.look.left))
-      (subst (BodyOf (framing_of q.head h) (r.fed ++ (o.inbox ++ o.look.left)) read) state
-      (place_body (framing_of q.head h) r.fed read place.held place.phase place.total r.is_fed.stands r.is_fed.counted r.is_fed.sound (o.inbox ++ o.look.left)
-      (λ goes. absurd (let wrong : B.Ended ≡ B.Unfinished = sym state ∙ goes in cc)))))
+      inl (body_of q h c dialed o place read r B.Ended state (λ goes. absurd (let wrong : B.Ended ≡ B.Unfinished = goes in cc)))
   over_ends q h c dialed o place read r (ends.closed close state no_left no_held) =
-      let none : o.inbox ++ o.look.left ≡ [] = ap (λ (x : List ℕ). x ++ o.look.left) no_held ∙ no_left in
-      inr (
-        close,
-        subst (λ (x : List ℕ). BodyOf (framing_of q.head h) x read B.Unfinished) (sym (append_assoc r.fed o.inbox o.look.left))
-            (subst (BodyOf (framing_of q.head h) (r.fed ++ (o.inbox ++ o.look.left)) read) state
-            (place_body (framing_of q.head h) r.fed read place.held place.phase place.total r.is_fed.stands r.is_fed.counted r.is_fed.sound (o.inbox ++ o.look.left)
-            (λ goes. none))),
-      )
+      inr (close, body_of q h c dialed o place read r B.Unfinished state (λ goes. ap (λ (x : List ℕ). x ++ o.look.left) no_held ∙ no_left))
 
   -- the head is the final one in all that the origin gives
   all_final : (q : Request) (h : ResponseHead) (c : List ℕ) (dialed : Bool) (o : LinkSide) (place : Place) (read : List ℕ)

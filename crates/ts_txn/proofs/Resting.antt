@@ -25,21 +25,8 @@ use Rattle.ts_txn.proofs.Handling.{at_rest}
 
 -- one that has ended is in its last phase
 ended_phase : (p : Phase) (end : TxnEnd) → end_of_phase p ≡ Some end → p ≡ P.Ended end
-ended_phase P.Fresh end is = absurd (cc)
-ended_phase P.TxnStart end is = absurd (cc)
-ended_phase P.ReadRequest end is = absurd (cc)
-ended_phase (P.ReadRequestHdr q) end is = absurd (cc)
-ended_phase (P.OsDns q) end is = absurd (cc)
-ended_phase (P.SendRequestHdr q) end is = absurd (cc)
-ended_phase (P.SendRequest q) end is = absurd (cc)
-ended_phase (P.Upload q) end is = absurd (cc)
-ended_phase (P.ReadResponse q) end is = absurd (cc)
-ended_phase (P.ReadResponseHdr q r) end is = absurd (cc)
-ended_phase (P.ResponseTransform q r) end is = absurd (cc)
-ended_phase (P.SendResponseHdr a) end is = absurd (cc)
-ended_phase (P.Sending a) end is = absurd (cc)
-ended_phase (P.TxnClose last) end is = absurd (cc)
 ended_phase (P.Ended last) end is = let both : Some last ≡ Some end = is in let one : last ≡ end = cc in ap P.Ended one
+ended_phase _ end is = absurd (cc)
 
 ended_course : {Q : Type 0} (course : Course Q) (end : TxnEnd) → end_of course ≡ Some end → course ≡ K.Phased (P.Ended end)
 ended_course {Q} (K.Phased p) end is = ap {B = Course Q} (λ x. K.Phased x) (ended_phase p end is)

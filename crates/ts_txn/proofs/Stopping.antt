@@ -2,6 +2,7 @@
 use Rattle.std.proofs.Common.{◌≡◌, ◌≢◌, ℕ, List, [], ◌++◌, Bool, true, false, refl, sym, ap, subst, ◌∙◌, append_assoc}
 use Rattle.std.proofs.lemmas.Bool.{OnTrue_from}
 use Rattle.std.proofs.lemmas.List.{append-nil}
+use Rattle.std.proofs.lemmas.Bool.{false≢true, true≢false}
 use Rattle.ts_config.specs.declared.setup.Setup.{Setup}
 use Rattle.ts_config.specs.Bodies.{compose_lines}
 use Rattle.ts_hooks.specs.declared.txn_end.TxnEnd.{TxnEnd}
@@ -12,9 +13,8 @@ use Rattle.ts_vconn.specs.declared.moves.Pulled.TheVariants as L
 use Rattle.ts_wire.specs.declared.heads.ResponseHead.{ResponseHead}
 use Rattle.ts_wire.specs.declared.body.BodyState.{BodyState}
 use Rattle.ts_wire.specs.declared.body.BodyState.TheVariants as B
-use Rattle.ts_wire.specs.Body.{BodyOf, IsCutShort}
+use Rattle.ts_wire.specs.Body.{IsCutShort}
 use Rattle.ts_wire.specs.Place.{GoesOn, Place, state_of}
-use Rattle.ts_wire.proofs.PlaceBody.{place_body}
 use Rattle.ts_txn.specs.Relayed.{framing_of, mode_of}
 use Rattle.ts_txn.specs.Heads.{FinalHead}
 use Rattle.ts_txn.specs.Block.{BodySays, bad, body_lines, cut, framing_for, relayed_block, relayed_head, request_text}
@@ -30,7 +30,7 @@ use Rattle.ts_txn.specs.declared.finishing.BodyStep.{BodyStep}
 use Rattle.ts_txn.specs.declared.finishing.BodyStep.TheVariants as S
 use Rattle.ts_txn.specs.declared.phase.Request.{Request}
 use Rattle.ts_txn.proofs.OneSide.{read_failed}
-use Rattle.ts_txn.proofs.Relaying.{flow_given, front_by, reads_on, relayed_is, relays_lacks, relays_relayed}
+use Rattle.ts_txn.proofs.Relaying.{body_of, flow_given, front_by, reads_on, relayed_is, relays_lacks, relays_relayed}
 use Rattle.ts_txn.proofs.Responding.{served_as}
 use Rattle.ts_txn.proofs.Uploading.{took_request}
 
@@ -61,11 +61,11 @@ module _ (setup : Setup) (refuses : Type 0) where
     place = place;
     reads = s.reads.reads;
     is_fed = s.reads.is_fed;
-    over = λ done. absurd (let wrong : false ≡ true = done in cc);
+    over = λ done. absurd (false≢true done);
     mode = s.mode;
     text = s.text;
     front = s.front;
-    whole = λ fin. absurd (let wrong : false ≡ true = fin in cc);
+    whole = λ fin. absurd (false≢true fin);
   }
 
   -- with a block of that end, which has no body
@@ -83,7 +83,7 @@ module _ (setup : Setup) (refuses : Type 0) where
         mode = s.mode;
         sent = s.body;
         text = s.text;
-        whole = λ fin. absurd (let wrong : false ≡ true = fin in cc);
+        whole = λ fin. absurd (false≢true fin);
         relayed = stop_relayed v place s;
       }
 
@@ -120,7 +120,7 @@ module _ (setup : Setup) (refuses : Type 0) where
   flows_all : {P : Type 0} (rest : P → List ℕ → List ℕ) (v : View) (c : ChainState P) (place : Place) (r : RelaysBody setup refuses rest v c place) → c.given ≡ false
       → (z : List ℕ) → r.sends.body ++ flow rest c z ≡ compose_lines (body_lines setup r.q.head r.h) (r.read ++ z)
   flows_all rest v c place r going z =
-      r.sends.flows z (OnTrue_from c.given (z ≡ []) (λ given. absurd (let wrong : true ≡ false = sym given ∙ going in cc)))
+      r.sends.flows z (OnTrue_from c.given (z ≡ []) (λ given. absurd (true≢false (sym given ∙ going))))
 
   flows_fed : {P : Type 0} (rest : P → List ℕ → List ℕ) (v : View) (c : ChainState P) (place : Place) (r : RelaysBody setup refuses rest v c place) → c.given ≡ false
       → (part z : List ℕ) → r.sends.body ++ flow rest c (part ++ z) ≡ compose_lines (body_lines setup r.q.head r.h) ((r.read ++ part) ++ z)
@@ -136,12 +136,12 @@ module _ (setup : Setup) (refuses : Type 0) where
   gets_end : {P : Type 0} (q : Request) (h : ResponseHead) (o : LinkSide) (place : Place) (state : BodyState) (part : List ℕ) (c d : ChainState P) → state_of place.phase ≡ state
       → c.given ≡ false → GetsPart state part c d → state ≢ B.Bad → GivesEnd setup refuses q h o place d.given
   gets_end q h o place B.Unfinished part c d is going gets good = record {
-    ended = λ given. absurd (let wrong : true ≡ false = sym given ∙ ap (λ k. k.given) gets ∙ going in cc);
+    ended = λ given. absurd (true≢false (sym given ∙ ap (λ k. k.given) gets ∙ going));
     goes_on = λ still. is;
   }
   gets_end q h o place B.Ended part c d is going gets good = record {
     ended = λ given. ends.told is;
-    goes_on = λ still. absurd (let wrong : true ≡ false = sym (ap (λ k. k.given) gets) ∙ still in cc);
+    goes_on = λ still. absurd (true≢false (sym (ap (λ k. k.given) gets) ∙ still));
   }
   gets_end q h o place B.Bad part c d is going gets good = absurd (good refl)
 
@@ -190,16 +190,8 @@ module _ (setup : Setup) (refuses : Type 0) where
         count = r.sends.count;
         some = r.sends.some;
         took = facts.request r.q reads.served.goes reads.served.carries;
-        queues = stop_block x next stops E.OriginBad (bad (r.read ++ fed.part) (body_bad r.q r.h (all_of v.client.look) v.dialed o next (r.read ++ fed.part) reads is) refl);
+        queues = stop_block x next stops E.OriginBad (bad (r.read ++ fed.part) (body_of setup refuses r.q r.h (all_of v.client.look) v.dialed o next (r.read ++ fed.part) reads B.Bad is (λ goes. absurd (let wrong : B.Bad ≡ B.Unfinished = goes in cc))) refl);
       })
-    where
-      body_bad : (q : Request) (h : ResponseHead) (c : List ℕ) (dialed : Bool) (o : LinkSide) (place : Place) (read : List ℕ) (r : ReadsBody setup refuses q h c dialed o place read)
-          → state_of place.phase ≡ B.Bad → BodyOf (framing_of q.head h) ((r.fed ++ o.inbox) ++ o.look.left) read B.Bad
-      body_bad q h c dialed o place read r state =
-          subst (λ (x : List ℕ). BodyOf (framing_of q.head h) x read B.Bad) (sym (append_assoc r.fed o.inbox o.look.left))
-          (subst (BodyOf (framing_of q.head h) (r.fed ++ (o.inbox ++ o.look.left)) read) state
-          (place_body (framing_of q.head h) r.fed read place.held place.phase place.total r.is_fed.stands r.is_fed.counted r.is_fed.sound (o.inbox ++ o.look.left)
-          (λ goes. absurd (let wrong : B.Bad ≡ B.Unfinished = sym state ∙ goes in cc))))
 
   -- memory lacked for it
   feeds_lacks : {P : Type 0} (rest : P → List ℕ → List ℕ) (v w : View) (c : ChainState P) (place : Place) → DrainsOrigin v w → w.origin.inbox ≡ v.origin.inbox
@@ -272,7 +264,7 @@ module _ (setup : Setup) (refuses : Type 0) where
           reads = on.reads;
           gives_end = record {
             ended = λ given. ends.closed closes (on.gives_end.goes_on going) (reads.origin.pulls.pulls.ends told) (none_held reads none);
-            goes_on = λ still. absurd (let wrong : true ≡ false = still in cc);
+            goes_on = λ still. absurd (true≢false still);
           };
           sends = record {
             count = on.sends.count;

@@ -1,6 +1,7 @@
 use Rattle.std.proofs.Common.{◌≡◌, true, false, [], refl, sym, ap, subst, ◌∙◌}
 use Rattle.ts_transform.specs.Flow.{ChainState, IsFinished, flow}
 use Rattle.std.specs.Arc.{arc_value}
+use Rattle.std.proofs.lemmas.Bool.{false≢true}
 use Rattle.ts_txn.specs.View.{OriginRefuses, view_of}
 use Rattle.ts_hooks.specs.declared.txn_end.TxnEnd.TheVariants as E
 use Rattle.ts_txn.specs.declared.finishing.BodyStep.TheVariants as S
@@ -25,8 +26,8 @@ returns-clause-leads g c = λ told also.
 pub returns-then-not-has_given_all-clause-lowers : goal.returns-then-not-has_given_all-clause-lowers
 returns-then-not-has_given_all-clause-lowers g c = λ now.
     idles g.C.Link.tells g.O.Link.tells ((c.args.relay.now.driven.chain.given ≡ true) × IsFinished c.args.relay.now.driven.chain) (arc_value c.args.self.now.setup) g.P.Transform.rest (view_of g.C.Link.look g.O.Link.look c.args.self.now) c.args.relay.now now
-    (λ all. absurd (let wrong : false ≡ true = sym c.if-not-has_given_all.true ∙ c.has_given_all.ensures.only (ap (λ (k : ChainState _). k.given) c.chain.ensures ∙ all.0)
-    (subst (λ (k : ChainState _). IsFinished k) (sym c.chain.ensures) all.1) in cc))
+    (λ all. absurd (false≢true (sym c.if-not-has_given_all.true ∙ c.has_given_all.ensures.only (ap (λ (k : ChainState _). k.given) c.chain.ensures ∙ all.0)
+    (subst (λ (k : ChainState _). IsFinished k) (sym c.chain.ensures) all.1))))
 
 pub returns-in_default-clause-lowers : goal.returns-in_default-clause-lowers
 returns-in_default-clause-lowers g c = λ now. queues_lacks g.C.Link.tells g.O.Link.tells ((c.args.relay.now.driven.chain.given ≡ true) × IsFinished c.args.relay.now.driven.chain) (arc_value c.args.self.now.setup) g.P.Transform.rest (view_of g.C.Link.look g.O.Link.look c.args.self.now) (view_of g.C.Link.look g.O.Link.look c.end_body.new.self) c.args.relay.now now c.in_default.ensures.err

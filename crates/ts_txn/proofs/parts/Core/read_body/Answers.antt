@@ -1,5 +1,6 @@
-use Rattle.std.proofs.Common.{◌≡◌, true, false, sym, subst, ◌∙◌}
+use Rattle.std.proofs.Common.{true, false, sym, subst, ◌∙◌}
 use Rattle.std.specs.Arc.{arc_value}
+use Rattle.std.proofs.lemmas.Bool.{false≢true}
 use Rattle.ts_transform.specs.Flow.{ChainState, MustRead}
 use Rattle.ts_txn.specs.View.{view_of}
 use Rattle.ts_txn.proofs.Chaining.{chain_still}
@@ -12,4 +13,4 @@ returns-then-not-reads-clause-chain g c = chain_still _ 2 c.args.relay.now.drive
 pub returns-then-not-reads-clause-lowers : goal.returns-then-not-reads-clause-lowers
 returns-then-not-reads-clause-lowers g c =
     idles g.C.Link.tells g.O.Link.tells (MustRead c.args.relay.now.driven.chain) (arc_value c.args.self.now.setup) g.P.Transform.rest (view_of g.C.Link.look g.O.Link.look c.args.self.now) c.args.relay.now c.args.cx.now
-    (λ must. absurd (let wrong : false ≡ true = sym c.if-not-reads.true ∙ c.must_read-reads.ensures.1 (subst (λ (k : ChainState _). MustRead k) (sym c.chain.ensures) must) in cc))
+    (λ must. absurd (false≢true (sym c.if-not-reads.true ∙ c.must_read-reads.ensures.1 (subst (λ (k : ChainState _). MustRead k) (sym c.chain.ensures) must))))

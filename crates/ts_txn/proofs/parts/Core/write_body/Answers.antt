@@ -1,5 +1,6 @@
-use Rattle.std.proofs.Common.{◌≡◌, true, false, sym, ◌∙◌}
+use Rattle.std.proofs.Common.{true, false, sym, ◌∙◌}
 use Rattle.std.specs.Arc.{arc_value}
+use Rattle.std.proofs.lemmas.Bool.{false≢true}
 use Rattle.ts_hooks.specs.declared.txn_end.TxnEnd.TheVariants as E
 use Rattle.ts_vconn.specs.declared.moves.Pushed.TheVariants as V
 use Rattle.ts_txn.specs.Duties.{MustSend}
@@ -51,7 +52,7 @@ returns-in-Some-clause-lowers g c =
 
 pub returns-in-Nothing-clause-lowers : goal.returns-in-Nothing-clause-lowers
 returns-in-Nothing-clause-lowers g c =
-    lowering.writes_nothing g.C.Link.tells g.O.Link.tells (MustSend (view_of g.C.Link.look g.O.Link.look c.args.self.now) c.args.relay.now.driven.chain) (arc_value c.args.self.now.setup) g.P.Transform.rest (view_of g.C.Link.look g.O.Link.look c.args.self.now) (view_of g.C.Link.look g.O.Link.look c.write_client.new.self) c.args.relay.now c.args.cx.now c.in-Nothing.ensures.writes (λ none. absurd (let wrong : false ≡ true = sym c.if-is_empty.false ∙ c.is_empty.ensures.1 none in cc))
+    lowering.writes_nothing g.C.Link.tells g.O.Link.tells (MustSend (view_of g.C.Link.look g.O.Link.look c.args.self.now) c.args.relay.now.driven.chain) (arc_value c.args.self.now.setup) g.P.Transform.rest (view_of g.C.Link.look g.O.Link.look c.args.self.now) (view_of g.C.Link.look g.O.Link.look c.write_client.new.self) c.args.relay.now c.args.cx.now c.in-Nothing.ensures.writes (λ none. absurd (false≢true (sym c.if-is_empty.false ∙ c.is_empty.ensures.1 none)))
 
 pub returns-in-Again-clause-lowers : goal.returns-in-Again-clause-lowers
 returns-in-Again-clause-lowers g c =
