@@ -2,6 +2,7 @@ pub mod Always
 pub mod Asks
 pub mod BodyEvents
 pub mod BodyLinks
+pub mod BodyTimes
 pub mod Chaining
 pub mod CourseCalls
 pub mod CourseSeats

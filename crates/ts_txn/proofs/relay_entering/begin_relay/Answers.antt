@@ -3,7 +3,7 @@ use Rattle.ts_transform.specs.Flow.{EndsInOrder}
 use Rattle.ts_transform.proofs.Setting.{only_same}
 use Rattle.ts_txn.specs.Relaying.{IsOfRoleFrom}
 use Rattle.ts_txn.specs.declared.relay.TheConstants.{FIRST}
-use Rattle.ts_txn.proofs.BodyLinks.{begins_in_time, set_behind}
+use Rattle.ts_txn.proofs.BodyTimes.{begins_in_time, set_behind}
 use Rattle.ts_txn.proofs.Entered.{begins_all, begins_none, begins_unstarted}
 use Rattle.ts_txn.proofs.relay_entering.begin_relay.Goals as goal
 

@@ -2,7 +2,7 @@ use Rattle.std.proofs.Common.{◌≡◌, Some, sym, ap, ◌∙◌}
 use Rattle.ts_transform.specs.declared.loss.Loss.{Loss}
 use Rattle.ts_transform.specs.declared.loss.Loss.TheVariants as L
 use Rattle.ts_txn.proofs.Chaining.{goes_unspent, lost_unspent}
-use Rattle.ts_txn.proofs.BodyLinks.{starts_in_time}
+use Rattle.ts_txn.proofs.BodyTimes.{starts_in_time}
 use Rattle.ts_txn.proofs.Entered.{starts_lacks, starts_running, starts_spent}
 use Rattle.ts_txn.proofs.relay_entering.start_chain.Goals as goal
 

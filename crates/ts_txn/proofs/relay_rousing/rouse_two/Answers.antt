@@ -1,4 +1,4 @@
-use Rattle.ts_txn.proofs.BodyLinks.{ends_both, ends_first}
+use Rattle.ts_txn.proofs.BodyTimes.{ends_both, ends_first}
 use Rattle.ts_txn.proofs.Duty.{rouses_both, rouses_lacks}
 use Rattle.ts_txn.proofs.relay_rousing.rouse_two.Goals as goal
 

@@ -3,7 +3,7 @@ use Rattle.std.specs.Arc.{arc_value}
 use Rattle.ts_txn.specs.View.{OriginRefuses, view_of}
 use Rattle.ts_txn.proofs.BodyEvents.{begins_body, settled_as}
 use Rattle.ts_txn.proofs.LoweringEntry.{begins_settled, begun_goes}
-use Rattle.ts_txn.proofs.BodyLinks.{body_in_time}
+use Rattle.ts_txn.proofs.BodyTimes.{body_in_time}
 use Rattle.ts_txn.proofs.parts.Core.begin_body.Goals as goal
 
 pub returns-clause-leads : goal.returns-clause-leads

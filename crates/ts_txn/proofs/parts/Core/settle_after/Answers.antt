@@ -4,7 +4,7 @@ use Rattle.ts_txn.specs.BodyLinks.{OnlyOfEnds, is_late, pause_if}
 use Rattle.ts_txn.specs.Duties.{SettlesAfter}
 use Rattle.ts_txn.specs.declared.finishing.BodyStep.TheVariants as S
 use Rattle.ts_txn.proofs.BodyEvents.{settles_after, settles_none}
-use Rattle.ts_txn.proofs.BodyLinks.{ends_none}
+use Rattle.ts_txn.proofs.BodyTimes.{ends_none}
 use Rattle.ts_txn.proofs.parts.Core.settle_after.Goals as goal
 
 pub returns-in-Goes-clause-settles : goal.returns-in-Goes-clause-settles
