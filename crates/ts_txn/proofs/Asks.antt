@@ -62,8 +62,9 @@ has_more bytes head rest more h = record {
   keeps = h.keeps;
 }
 
-filled : (xs ys : List ℕ) → length xs < length ys → ys ≢ []
-filled xs ys less is = absurd (omega (arith, less, ap length is))
+-- a longer list has an element
+longer_some : (xs ys : List ℕ) → length xs < length ys → ys ≢ []
+longer_some xs ys less is = absurd (omega (arith, less, ap length is))
 
 -- a head was found in what the client gave
 record Heard (v : View) (head : RequestHead) : Type 0 where
@@ -78,7 +79,7 @@ heard_at v i head a has less = record {
   waits = record {
     count = a.count;
     quiet = quiet_as v.client (record v.client { inbox = i }) v.sent refl refl a.quiet;
-    some = λ is. filled i v.client.inbox less (sym a.held ∙ is);
+    some = λ is. longer_some i v.client.inbox less (sym a.held ∙ is);
   };
   untouched = a.untouched;
   rest = i ++ v.client.look.left;
@@ -142,16 +143,13 @@ no_request setup refuses v a some lacks =
     (no_head (some_front v.client.look.given v.client.look.left given)
     (subst (λ (g : List ℕ). LacksRequest (g ++ v.client.look.left)) (sym a.held) lacks) refl)
 
-some_of : (xs : List ℕ) → 0 < length xs → xs ≢ []
-some_of xs less is = absurd (omega (arith, less, ap length is))
-
 -- none can come
 pub never : (setup : Setup) (refuses : Type 0) (t : Bool) (v w : View) → Asking v → HearsRequest t v w F.Never
     → OwnReady setup refuses w (record { status = O.BadRequest; to_head = false; end = E.Whole })
 never setup refuses t v w a hears =
     subst (λ (x : View). OwnReady setup refuses x (record { status = O.BadRequest; to_head = false; end = E.Whole }))
     (sym (hears.others ∙ ap (λ (s : LinkSide). record v { client = s }) hears.finds.1))
-    (no_request setup refuses v a (some_of v.client.inbox (some_bytes v.client.inbox hears.finds.0)) (hears.finds.0 v.client.look.left))
+    (no_request setup refuses v a (longer_some [] v.client.inbox (some_bytes v.client.inbox hears.finds.0)) (hears.finds.0 v.client.look.left))
 
 -- the client has ended within a head
 pub ended_within : (setup : Setup) (refuses : Type 0) (t : Bool) (v w : View) → t ≡ true → Asking v → HearsRequest t v w (F.Read L.End) → w.client.inbox ≢ []

@@ -1,6 +1,7 @@
 -- The phase in which the origin's link moves an upload: where each answer leads.
 use Rattle.std.proofs.Common.{◌≡◌, ℕ, ◌≤◌, List, [], ◌++◌, Bool, true, arith, refl, sym, ap, subst, ◌∙◌, append_assoc, inl, length}
 use Rattle.std.proofs.lemmas.List.{append-nil}
+use Rattle.std.proofs.Math.Nat.{le_trans}
 use Rattle.ts_config.specs.declared.setup.Setup.{Setup}
 use Rattle.ts_hooks.specs.declared.txn_end.TxnEnd.TheVariants as E
 use Rattle.ts_link.specs.Counts.{Rose}
@@ -24,9 +25,6 @@ use Rattle.ts_txn.proofs.Asks.{client_fails, lacks_memory}
 use Rattle.ts_txn.proofs.Filled.{filled}
 use Rattle.ts_txn.proofs.Going.{faulty, gone_block, unanswered_any}
 
-within : (a b c : ℕ) → a ≤ b → b ≤ c → a ≤ c
-within a b c h k = omega (arith, h, k)
-
 none_held : (held : List ℕ) → held ≡ [] → length held ≤ head_limit
 none_held held none = let no : length held ≡ 0 = ap length none in omega (arith, no)
 
@@ -46,12 +44,12 @@ uploads_at setup v c l q h u keeps =
     record {
       unanswered = record {
         waits = record {
-          count = within v.client.base v.client.look.faults c.faults un.waits.count keeps.client.faults;
+          count = le_trans un.waits.count keeps.client.faults;
           quiet = quiet_as v.client (record v.client { look = c }) v.sent u.client_took refl un.waits.quiet;
           some = λ is. some_front v.client.look.given u.gave.0 un.waits.some (sym u.gave.1 ∙ is);
         };
         goes = subst (λ (x : List ℕ). Goes setup x q v.dialed) (sym u.client) un.goes;
-        count = within v.origin.base v.origin.look.faults l.faults un.count keeps.origin.faults;
+        count = le_trans un.count keeps.origin.faults;
         no_given = u.origin_gave ∙ un.no_given;
         no_held = un.no_held;
       };
