@@ -30,7 +30,7 @@ use Rattle.ts_txn.specs.declared.phase.Phase.{Phase}
 use Rattle.ts_txn.specs.declared.phase.Phase.TheVariants as P
 use Rattle.ts_txn.specs.declared.relay.Relay.{Relay}
 use Rattle.ts_txn.proofs.Chaining.{grows_next}
-use Rattle.ts_txn.proofs.Duty.{no_lost_wake}
+use Rattle.ts_txn.proofs.Duty.{no_lost_wake, none_pending}
 
 -- no body is passed on
 abbrev pub PassesNoBody : {Q : Type 0} → Course Q → Type 0
@@ -166,12 +166,6 @@ stands_begun step w t u s a b orderly h alone = record {
 
 -- ---- nothing is pending
 
-never_roused : (roles : List Named) (main : Option StageContinuation) → IsOfStageIf [] roles MAIN main → IsRousedIf main → ⊥
-never_roused roles None is roused = roused
-never_roused roles (Some t) is roused =
-    let event = is.event roused in
-    absurd (let wrong : ◌≡◌ {A = Option Pending} None (Some event.event) = event.there in cc)
-
 next_roused : (p : Phase) (main : Option StageContinuation) → Proceeds p → HasNextEvent p main → IsRousedIf main
 next_roused P.Fresh main goes has = absurd goes
 next_roused (P.Ended end) main goes has = absurd goes
@@ -183,9 +177,9 @@ at_rest_on {Q} v main course next roles goes h = by_event course goes h.covered
   where
     by_event : (course : Course Q) → ProceedsOn course → HasEventsOn v main course [] roles ⊎ (GREATEST ≤ next) → GREATEST ≤ next
     by_event course goes (inr spent) = spent
-    by_event (K.Phased p) goes (inl (is, has)) = absurd (never_roused roles main is (next_roused p main goes has))
+    by_event (K.Phased p) goes (inl (is, has)) = absurd (none_pending roles MAIN main is (next_roused p main goes has))
     by_event (K.Relaying r) goes (inl has) = absurd (no_lost_wake v main r roles (λ runs. has.joined) has.runs has.ends has.ordered)
-    by_event (K.Finishing end) goes (inl (is, roused)) = absurd (never_roused roles main is roused)
+    by_event (K.Finishing end) goes (inl (is, roused)) = absurd (none_pending roles MAIN main is roused)
 
 -- whether it was started, and has not ended, as its phase tells
 pub proceeds_phase : (p : Phase) → is_fresh p ≡ false → end_of_phase p ≡ None → Proceeds p

@@ -27,8 +27,7 @@ use Rattle.ts_txn.proofs.Always.{always}
 use Rattle.ts_txn.proofs.Asks.{lacks_memory}
 use Rattle.ts_txn.proofs.Finished.{finishing_any}
 use Rattle.ts_txn.proofs.Relaying.{relays_lacks}
-use Rattle.ts_txn.proofs.Duty.{relays_settled}
-use Rattle.ts_txn.proofs.Settled.{finishing, phase_fact}
+use Rattle.ts_txn.proofs.Settled.{entering, finishing, phase_fact, relaying}
 
 module _ (setup : Setup) (refuses : Type 0) {Q : Type 0} (rest : Q → List ℕ → List ℕ) (v : View) where
   -- a step of a body
@@ -66,7 +65,7 @@ after_led _ led new h = h
 course_moved : (setup : Setup) (R T : Type 0) → (R → T) → (T → R) → {Q : Type 0} (rest : Q → List ℕ → List ℕ) (v : View) (course : Course Q)
     → CourseFact setup R rest v course → CourseFact setup T rest v course
 course_moved setup R T to from rest v (K.Phased p) h = phase_fact setup R T to from v p h
-course_moved setup R T to from rest v (K.Relaying r) h = relays_settled setup R T from rest v r.driven.chain r.body h
+course_moved setup R T to from rest v (K.Relaying r) h = relaying setup R T from rest v r.driven.chain r.body h
 course_moved setup R T to from rest v (K.Finishing end) h = finishing setup R T to from v end h
 
 pub course_settled : {C O Q : Type 0} (client : C → Look) (origin : O → Look) (paired : C → O → Type 0) (refuses : O → List ℕ → Type 0) (rest : Q → List ℕ → List ℕ) (old new : Core C O)
@@ -83,29 +82,6 @@ course_settled client origin paired refuses rest old new course keeps h =
     (course_moved (arc_value old.setup) (OriginRefuses client refuses old) (OriginRefuses client refuses new) to from rest v course h)
 
 -- a body whose head is queued
-enters_moved : (setup : Setup) (R T : Type 0) → (T → R) → {Q : Type 0} (rest : Q → List ℕ → List ℕ) (v : View) (c : ChainState Q) (place : Place)
-    → EntersBody setup R rest v c place → EntersBody setup T rest v c place
-enters_moved setup R T from rest v c place h = record {
-  q = h.q;
-  h = h.h;
-  read = h.read;
-  reads = record {
-    served = record {
-      goes = h.reads.served.goes;
-      accepts = λ t. h.reads.served.accepts (from t);
-      count = h.reads.served.count;
-      carries = h.reads.served.carries;
-      no_waits = h.reads.served.no_waits;
-    };
-    good = h.reads.good;
-    fed = h.reads.fed;
-    reads = h.reads.reads;
-    is_fed = h.reads.is_fed;
-  };
-  going = h.going;
-  sends = record { count = h.sends.count; some = h.sends.some; mode = h.sends.mode; body = h.sends.body; text = h.sends.text; flows = h.sends.flows };
-}
-
 pub enters_settled : {C O Q : Type 0} (client : C → Look) (origin : O → Look) (paired : C → O → Type 0) (refuses : O → List ℕ → Type 0) (rest : Q → List ℕ → List ℕ) (old new : Core C O)
     (c : ChainState Q) (place : Place) → StepKeeps client origin paired refuses old new
     → EntersBody (arc_value old.setup) (OriginRefuses client refuses old) rest (view_of client origin new) c place
@@ -115,4 +91,4 @@ enters_settled client origin paired refuses rest old new c place keeps h =
     let from : OriginRefuses client refuses new → OriginRefuses client refuses old = λ r.
     keeps.refusal.before _ (subst (λ (c : List ℕ). refuses_if refuses new.origin c) keeps.client.source r) in
     subst (λ s. EntersBody (arc_value s) (OriginRefuses client refuses new) rest v c place) (sym keeps.setup)
-    (enters_moved (arc_value old.setup) (OriginRefuses client refuses old) (OriginRefuses client refuses new) from rest v c place h)
+    (entering (arc_value old.setup) (OriginRefuses client refuses old) (OriginRefuses client refuses new) from rest v c place h)

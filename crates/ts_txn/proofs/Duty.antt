@@ -51,38 +51,6 @@ stage_keeps setup refuses rest v c d place ts us a b gives r = record {
   };
 }
 
--- ---- what the origin refuses is said of another link
-
-pub relays_settled : {P : Type 0} (setup : Setup) (R T : Type 0) → (T → R) → (rest : P → List ℕ → List ℕ) (v : View) (c : ChainState P) (place : Place)
-    → RelaysBody setup R rest v c place → RelaysBody setup T rest v c place
-relays_settled setup R T from rest v c place r = record {
-  q = r.q;
-  h = r.h;
-  read = r.read;
-  reads = record {
-    served = record {
-      goes = r.reads.served.goes;
-      accepts = λ t. r.reads.served.accepts (from t);
-      count = r.reads.served.count;
-      carries = r.reads.served.carries;
-      no_waits = r.reads.served.no_waits;
-    };
-    good = r.reads.good;
-    fed = r.reads.fed;
-    reads = r.reads.reads;
-    is_fed = r.reads.is_fed;
-  };
-  gives_end = record { ended = r.gives_end.ended; goes_on = r.gives_end.goes_on };
-  sends = record {
-    count = r.sends.count;
-    some = r.sends.some;
-    mode = r.sends.mode;
-    body = r.sends.body;
-    text = r.sends.text;
-    flows = r.sends.flows;
-  };
-}
-
 -- ---- the ends are roused
 
 rouses_by : (r : Result ⊤ SetFault) (must : Bool) (Live : Type 0) (t u : Option StageContinuation) (a b : Context) → AddsEvents 1 Live r a b
@@ -147,7 +115,8 @@ rouses_lacks step writes reads t u r a b main = record {
 
 -- ---- no wake is lost
 
-none_pending : (roles : List Named) (role : ℕ) (t : Option StageContinuation) → IsOfStageIf [] roles role t → IsRousedIf t → ⊥
+-- nobody is roused where nothing is pending
+pub none_pending : (roles : List Named) (role : ℕ) (t : Option StageContinuation) → IsOfStageIf [] roles role t → IsRousedIf t → ⊥
 none_pending roles role None h roused = roused
 none_pending roles role (Some t) h roused =
     let e = h.event roused in

@@ -3,9 +3,12 @@ use Rattle.std.proofs.Common.{inl, inr, ℕ, List, Bool, true, false, Result, Ok
 use Rattle.ts_config.specs.declared.setup.Setup.{Setup}
 use Rattle.ts_hooks.specs.declared.txn_end.TxnEnd.{TxnEnd}
 use Rattle.ts_hooks.specs.declared.txn_end.TxnEnd.TheVariants as E
+use Rattle.ts_link.specs.Link.{all_of}
+use Rattle.ts_transform.specs.Flow.{ChainState}
 use Rattle.ts_wire.specs.Check.{check}
 use Rattle.ts_wire.specs.declared.heads.RequestHead.{RequestHead}
 use Rattle.ts_wire.specs.declared.heads.ResponseHead.{ResponseHead}
+use Rattle.ts_wire.specs.Place.{Place}
 use Rattle.ts_txn.specs.Block.{DenySays, DialSays, IsBlock, VerdictSays, asked, no_head, silent}
 use Rattle.ts_txn.specs.View.{LinkSide, View}
 use Rattle.ts_txn.specs.Facts.{Awaits, OwnCause, OwnReady, OwnSends, Relays, Served, decided, fault}
@@ -13,11 +16,44 @@ use Rattle.ts_txn.specs.Ends.{AnyEnd, EndFact, EndsBy, FaultText, HasBlock, Rela
 use Rattle.ts_txn.specs.Ends as ends
 use Rattle.ts_txn.specs.Finishing.{IsFinishing, QueuesBlock, QueuesFor}
 use Rattle.ts_txn.specs.Holding.{PhaseFact}
+use Rattle.ts_txn.specs.Relaying.{ReadsBody, RelaysBody}
+use Rattle.ts_txn.specs.Entering.{EntersBody}
 use Rattle.ts_txn.specs.declared.block.Block.{Block}
 use Rattle.ts_txn.specs.declared.phase.OwnAnswer.{OwnAnswer}
 use Rattle.ts_txn.specs.declared.phase.Phase.{Phase}
 use Rattle.ts_txn.specs.declared.phase.Phase.TheVariants as P
 use Rattle.ts_txn.specs.declared.phase.Request.{Request}
+
+module _ (setup : Setup) (R S : Type 0) (from : S → R) where
+  served : (c : List ℕ) (q : Request) (dialed : Bool) (o : LinkSide) → Served setup R c q dialed o → Served setup S c q dialed o
+  served c q dialed o h = record { goes = h.goes; accepts = λ s. h.accepts (from s); count = h.count; carries = h.carries; no_waits = h.no_waits }
+
+  -- ---- a body that is passed on
+
+  reads_body : (q : Request) (h : ResponseHead) (c : List ℕ) (dialed : Bool) (o : LinkSide) (place : Place) (read : List ℕ) → ReadsBody setup R q h c dialed o place read
+      → ReadsBody setup S q h c dialed o place read
+  reads_body q h c dialed o place read r = record { served = served c q dialed o r.served; good = r.good; fed = r.fed; reads = r.reads; is_fed = r.is_fed }
+
+  pub relaying : {P : Type 0} (rest : P → List ℕ → List ℕ) (v : View) (c : ChainState P) (place : Place) → RelaysBody setup R rest v c place → RelaysBody setup S rest v c place
+  relaying rest v c place r = record {
+    q = r.q;
+    h = r.h;
+    read = r.read;
+    reads = reads_body r.q r.h (all_of v.client.look) v.dialed v.origin place r.read r.reads;
+    gives_end = record { ended = r.gives_end.ended; goes_on = r.gives_end.goes_on };
+    sends = record { count = r.sends.count; some = r.sends.some; mode = r.sends.mode; body = r.sends.body; text = r.sends.text; flows = r.sends.flows };
+  }
+
+  -- its head is queued
+  pub entering : {P : Type 0} (rest : P → List ℕ → List ℕ) (v : View) (c : ChainState P) (place : Place) → EntersBody setup R rest v c place → EntersBody setup S rest v c place
+  entering rest v c place e = record {
+    q = e.q;
+    h = e.h;
+    read = e.read;
+    reads = reads_body e.q e.h (all_of v.client.look) v.dialed v.origin place e.read e.reads;
+    going = e.going;
+    sends = record { count = e.sends.count; some = e.sends.some; mode = e.sends.mode; body = e.sends.body; text = e.sends.text; flows = e.sends.flows };
+  }
 
 module _ (setup : Setup) (R S : Type 0) (to : R → S) (from : S → R) where
   -- ---- the block
@@ -42,18 +78,15 @@ module _ (setup : Setup) (R S : Type 0) (to : R → S) (from : S → R) where
 
   -- ---- the facts
 
-  served : (c : List ℕ) (q : Request) (dialed : Bool) (o : LinkSide) → Served setup R c q dialed o → Served setup S c q dialed o
-  served c q dialed o h = record { goes = h.goes; accepts = λ s. h.accepts (from s); count = h.count; carries = h.carries; no_waits = h.no_waits }
-
   cause : (c : List ℕ) (dialed : Bool) (o : LinkSide) (a : OwnAnswer) → OwnCause setup R c dialed o a → OwnCause setup S c dialed o a
   cause c dialed o a (decided request is whole took) = decided request (block dialed _ c _ is) whole took
   cause c dialed o a (fault q goes status to_head end failed lacks) = fault q goes status to_head end failed lacks
 
   awaits : (v : View) (q : Request) → Awaits setup R v q → Awaits setup S v q
-  awaits v q h = record { waits = h.waits; served = served _ q v.dialed v.origin h.served; passed = h.passed; held = h.held }
+  awaits v q h = record { waits = h.waits; served = served setup R S from _ q v.dialed v.origin h.served; passed = h.passed; held = h.held }
 
   relays : (v : View) (q : Request) (r : ResponseHead) → Relays setup R v q r → Relays setup S v q r
-  relays v q r h = record { waits = h.waits; served = served _ q v.dialed v.origin h.served; reads = h.reads; good = h.good; held = h.held }
+  relays v q r h = record { waits = h.waits; served = served setup R S from _ q v.dialed v.origin h.served; reads = h.reads; good = h.good; held = h.held }
 
   ready : (v : View) (a : OwnAnswer) → OwnReady setup R v a → OwnReady setup S v a
   ready v a h = record { waits = h.waits; cause = cause _ v.dialed v.origin a h.cause; took = h.took }
@@ -65,7 +98,7 @@ module _ (setup : Setup) (R S : Type 0) (to : R → S) (from : S → R) where
   relayed v done fin sent h = record {
     q = h.q;
     h = h.h;
-    served = served _ h.q v.dialed v.origin h.served;
+    served = served setup R S from _ h.q v.dialed v.origin h.served;
     good = h.good;
     fed = h.fed;
     read = h.read;
