@@ -1,7 +1,7 @@
 -- An event that is handled while a body is passed on: what was done pays for each event that was set.
 use Rattle.std.proofs.Common.{◌≡◌, ◌⊎◌, inl, inr, ℕ, ◌+◌, ◌*◌, ◌≤◌, List, [], length, Bool, true, false, Result, arith, refl, sym, ap, subst, ◌∙◌}
 use Rattle.std.proofs.Math.Nat.{add-le-add, le_of_eq, le_refl}
-use Rattle.std.specs.Prelude.{Option, ⊤, if◌then◌else◌}
+use Rattle.std.specs.Prelude.{Option, Some, ⊤, if◌then◌else◌}
 use Rattle.std.proofs.lemmas.Bool.{false≢true}
 use Rattle.ts_config.specs.declared.setup.Setup.{Setup}
 use Rattle.ts_journal.specs.declared.entry.TheConstants.{GREATEST}

@@ -24,7 +24,7 @@ use Rattle.ts_wire.specs.Frames.{IsPiece, cut_body, end_of, frame_of, frames}
 use Rattle.ts_wire.specs.declared.body.BodyState.{BodyState}
 use Rattle.ts_wire.specs.declared.body.BodyState.TheVariants as B
 use Rattle.ts_wire.specs.Body.{BodyOf}
-use Rattle.ts_wire.specs.Place.{Place}
+use Rattle.ts_wire.specs.Place.{Place, state_of}
 use Rattle.ts_wire.proofs.PlaceBody.{place_body}
 use Rattle.ts_txn.specs.Relayed.{framing_of}
 use Rattle.ts_txn.specs.Block.{BodySays, EndsWith, IsBlock, body_lines, ended, passed_on, relayed_block, relayed_head, request_text}
