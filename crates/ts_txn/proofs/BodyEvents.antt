@@ -31,7 +31,9 @@ use Rattle.ts_txn.specs.Entering.{BeginsRelay, BeginsRunning}
 use Rattle.ts_txn.specs.Duties.{BeginsBody, DoesOwnWork, EndsRouse, IsBodyCovered, IsBodyJoined, HandlesBody, RunsOr, SettledAs, SettlesAfter, SettlesBody, TellsDuty, UnlessLacking, WhileGoes, body_seats, relay_seats}
 use Rattle.ts_txn.specs.declared.finishing.BodyStep.{BodyStep}
 use Rattle.ts_txn.specs.declared.finishing.BodyStep.TheVariants as S
+use Rattle.ts_txn.specs.declared.driver.TheConstants.{MAIN}
 use Rattle.ts_txn.specs.declared.relay.Relay.{Relay}
+use Rattle.ts_txn.specs.declared.relay.TheConstants.{FIRST, READER}
 use Rattle.ts_txn.proofs.Chaining.{drives_after, grows_next}
 use Rattle.ts_txn.proofs.Duty.{stage_keeps}
 use Rattle.ts_txn.proofs.Relaying.{leads_after, relays_lacks}
@@ -61,8 +63,8 @@ settles step writes v t u r s a b orderly tells (reads, must, only, rouses) same
       joined = λ was runs.
           let before = was (sym (ap (λ d. d.running) driven) ∙ runs) in
           subst (λ d. IsJoined d.chain d.table.items u s.reader b.log.state.pending b.roles) (sym driven)
-          (joined_ends r.driven.chain r.driven.table.items t u r.reader s.reader a b rouses.adds.keeps (rouses.main 1) (rouses.reader 2)
-          (λ d. record { len = d.len; of_stages = kept_all a b rouses.adds.keeps 3 r.driven.table.items d.of_stages; cover = d.cover }) before);
+          (joined_ends r.driven.chain r.driven.table.items t u r.reader s.reader a b rouses.adds.keeps (rouses.main MAIN) (rouses.reader READER)
+          (λ d. record { len = d.len; of_stages = kept_all a b rouses.adds.keeps FIRST r.driven.table.items d.of_stages; cover = d.cover }) before);
       covered = by_run step (subst (λ d. TellsDuty writes v d.chain) (sym driven) tells) (λ duty. must (subst (λ d. MustRead d.chain) driven duty)) rouses.roused (λ runs. ap (λ d. d.running) driven ∙ runs);
       goes = only_goes _ step rouses.roused;
       later = grows_next a b orderly rouses.adds.grows;
@@ -177,16 +179,16 @@ no_work role v w same = record {
   others = λ not_main not_reader. same;
 }
 
-writer_work : (v w : View) → w.origin ≡ v.origin → DoesOwnWork 1 v w
+writer_work : (v w : View) → w.origin ≡ v.origin → DoesOwnWork MAIN v w
 writer_work v w origin = record {
   main = λ is. origin;
-  reader = λ is. absurd (let wrong : 1 ≡ 2 = is in omega (arith, wrong));
+  reader = λ is. absurd (let wrong : MAIN ≡ READER = is in omega (arith, wrong));
   others = λ not_main not_reader. absurd (not_main refl);
 }
 
-reader_work : (v w : View) → w.client ≡ v.client → w.sent ≡ v.sent → DoesOwnWork 2 v w
+reader_work : (v w : View) → w.client ≡ v.client → w.sent ≡ v.sent → DoesOwnWork READER v w
 reader_work v w client sent = record {
-  main = λ is. absurd (let wrong : 2 ≡ 1 = is in omega (arith, wrong));
+  main = λ is. absurd (let wrong : READER ≡ MAIN = is in omega (arith, wrong));
   reader = λ is. (client, sent);
   others = λ not_main not_reader. absurd (not_reader refl);
 }
@@ -233,13 +235,13 @@ chain_joined : {P : Type 0} (step : BodyStep) (n : ℕ) (t : Option StageContinu
     → IsBodyJoined t r a.log.state.pending a.roles → IsBodyJoined t q b.log.state.pending b.roles
 chain_joined step n t r q a b steps same was runs =
     subst (λ (x : Option StageContinuation). IsJoined q.driven.chain q.driven.table.items t x b.log.state.pending b.roles) (sym same)
-    (joined_driven r.driven.chain q.driven.chain r.driven.table.items q.driven.table.items t r.reader a b steps.adds.keeps (λ h. steps.driven 3 (λ on. h) runs) (was (steps.falls runs)))
+    (joined_driven r.driven.chain q.driven.chain r.driven.table.items q.driven.table.items t r.reader a b steps.adds.keeps (λ h. steps.driven FIRST (λ on. h) runs) (was (steps.falls runs)))
 
 pub handles_write : {P : Type 0} (event : Event) (step result : BodyStep) (v w : View) (t u : Option StageContinuation) (r q s : Relay P) (a c b : Context) → IsOrderly a
     → StepsChain step 1 r.driven q.driven a c → q ≡ record r { driven = q.driven } → s.driven ≡ q.driven → SettlesAfter step result w (unroused t) u q s c b
-    → w.origin ≡ v.origin → HandlesBody result 1 event v w t u r s a b
+    → w.origin ≡ v.origin → HandlesBody result MAIN event v w t u r s a b
 handles_write event step result v w t u r q s a c b orderly steps same kept after origin =
-    handles_by 1 event step result v w t (unroused t) u r q s a c b orderly (chain_acts step 1 r.driven q.driven a c (omega arith) steps) steps.on
+    handles_by MAIN event step result v w t (unroused t) u r q s a c b orderly (chain_acts step 1 r.driven q.driven a c (omega arith) steps) steps.on
     (λ before handled was. chain_joined step 1 (unroused t) r q a c steps (ap (λ x. x.reader) same)
     (λ runs. joined_writer r.driven.chain r.driven.table.items t r.reader before a.log.state.pending a.roles event handled (was runs)))
     (subst (λ (x : Option StageContinuation). KeepsSeated (body_seats t r) (unroused t ∷ x ∷ q.driven.table.items) a c) (sym (ap (λ x. x.reader) same))
@@ -249,9 +251,9 @@ handles_write event step result v w t u r q s a c b orderly steps same kept afte
 
 pub handles_read : {P : Type 0} (event : Event) (step result : BodyStep) (v w : View) (t u : Option StageContinuation) (r q s : Relay P) (a c b : Context) → IsOrderly a
     → StepsChain step 2 r.driven q.driven a c → q.reader ≡ unroused r.reader → s.driven ≡ q.driven → SettlesAfter step result w t u q s c b
-    → w.client ≡ v.client → w.sent ≡ v.sent → HandlesBody result 2 event v w t u r s a b
+    → w.client ≡ v.client → w.sent ≡ v.sent → HandlesBody result READER event v w t u r s a b
 handles_read event step result v w t u r q s a c b orderly steps same kept after client sent =
-    handles_by 2 event step result v w t t u r q s a c b orderly (chain_acts step 2 r.driven q.driven a c (omega arith) steps) steps.on
+    handles_by READER event step result v w t t u r q s a c b orderly (chain_acts step 2 r.driven q.driven a c (omega arith) steps) steps.on
     (λ before handled was. chain_joined step 2 t (record r { reader = unroused r.reader }) q a c steps same
     (λ runs. joined_reader r.driven.chain r.driven.table.items t r.reader before a.log.state.pending a.roles event handled (was runs)))
     (subst (λ (x : Option StageContinuation). KeepsSeated (body_seats t r) (t ∷ x ∷ q.driven.table.items) a c) (sym same)
@@ -261,8 +263,8 @@ handles_read event step result v w t u r q s a c b orderly steps same kept after
     steps.ordered kept after (reader_work v w client sent)
 
 pub handles_stage : {P : Type 0} (role : ℕ) (event : Event) (f : Result ⊤ SetFault) (step result : BodyStep) (v : View) (t u : Option StageContinuation) (r q s : Relay P) (a c b : Context)
-    → IsOrderly a → step ≡ step_after f → ActsWithin 4 a c → Loses f r.driven q.driven a c → KeepsOthers 3 r.driven.table.items a c → HandlesDriven 3 role event r.driven q.driven a c
-    → role ≢ 1 → role ≢ 2 → q.reader ≡ r.reader
+    → IsOrderly a → step ≡ step_after f → ActsWithin 4 a c → Loses f r.driven q.driven a c → KeepsOthers FIRST r.driven.table.items a c → HandlesDriven FIRST role event r.driven q.driven a c
+    → role ≢ MAIN → role ≢ READER → q.reader ≡ r.reader
     → KeepsSeated r.driven.table.items q.driven.table.items a c → (EndsInOrder r.driven.chain.given r.driven.chain.stages → EndsInOrder q.driven.chain.given q.driven.chain.stages)
     → s.driven ≡ q.driven → SettlesAfter step result v t u q s c b → HandlesBody result role event v v t u r s a b
 handles_stage role event f step result v t u r q s a c b orderly is acts loses others driven not_main not_reader same seated ordered kept after =
@@ -333,7 +335,7 @@ begins_body step result w t u m s a c b begins same after = record {
       (record { grows = after.adds.grows; turn = after.adds.keeps.turn; plain = after.adds.keeps.plain; few = after.adds.few });
   joined = λ seated. after.joined (λ runs. record {
     stages = begins.chain.driven runs;
-    of_writer = begins.chain.made 1 t seated;
+    of_writer = begins.chain.made MAIN t seated;
     of_reader = begins.of_reader;
   });
   covered = begins_covered step result w u m s c b.log.state.next begins.chain.runs after.settled after.covered;

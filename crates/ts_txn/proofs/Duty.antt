@@ -25,6 +25,7 @@ use Rattle.ts_txn.specs.Relaying.{GivesEnd, RelaysBody, step_after}
 use Rattle.ts_txn.specs.Duties.{AreBodyEndsRoused, IsBodyJoined, RousesBoth, RousesOne}
 use Rattle.ts_txn.specs.declared.finishing.BodyStep.{BodyStep}
 use Rattle.ts_txn.specs.declared.finishing.BodyStep.TheVariants as S
+use Rattle.ts_txn.specs.declared.driver.TheConstants.{MAIN}
 use Rattle.ts_txn.specs.declared.relay.Relay.{Relay}
 use Rattle.ts_txn.proofs.Chaining.{grows_next}
 
@@ -128,4 +129,4 @@ pub no_lost_wake : {P : Type 0} (v : View) (main : Option StageContinuation) (r 
 no_lost_wake v main r roles joined runs ends ordered =
     let all = all_carried r.driven.chain r.driven.table.items main r.reader roles (joined runs)
     (record { writes = λ some. ends.writes (inr (inl some)); reads = ends.reads }) ordered in
-    none_pending roles 1 main (joined runs).of_writer (ends.writes (inr (inr (all.1, all.0))))
+    none_pending roles MAIN main (joined runs).of_writer (ends.writes (inr (inr (all.1, all.0))))

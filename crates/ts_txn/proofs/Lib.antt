@@ -12,7 +12,6 @@ pub mod Duty
 pub mod Entered
 pub mod Events
 pub mod Fed
-pub mod Filled
 pub mod Finished
 pub mod Fitting
 pub mod Going

@@ -1,5 +1,5 @@
 -- The phase in which the origin's link moves an upload: where each answer leads.
-use Rattle.std.proofs.Common.{◌≡◌, ℕ, ◌≤◌, List, [], ◌++◌, Bool, true, arith, refl, sym, ap, subst, ◌∙◌, append_assoc, inl, length}
+use Rattle.std.proofs.Common.{◌≡◌, ℕ, ◌≤◌, List, [], ◌++◌, Bool, true, arith, refl, sym, ap, subst, ◌∙◌, append_assoc, inl, length, ◌≢◌, length-append}
 use Rattle.std.proofs.lemmas.List.{append-nil}
 use Rattle.std.proofs.Math.Nat.{le_trans}
 use Rattle.ts_config.specs.declared.setup.Setup.{Setup}
@@ -22,8 +22,21 @@ use Rattle.ts_txn.specs.declared.phase.OwnAnswer.{OwnAnswer}
 use Rattle.ts_txn.specs.declared.phase.Request.{Request}
 use Rattle.ts_txn.proofs.OneSide.{failed, quiet_as, some_front}
 use Rattle.ts_txn.proofs.Asks.{client_fails, lacks_memory}
-use Rattle.ts_txn.proofs.Filled.{filled}
+use Rattle.std.specs.Prelude.{codes, flat_map}
+use Rattle.ts_config.specs.declared.fields.Side.TheVariants as S
+use Rattle.ts_wire.specs.Check.{is_absolute}
+use Rattle.ts_wire.specs.Forward.{forwarded}
+use Rattle.ts_wire.specs.Printed.{missing_host_text, request_field_text, via_text}
+use Rattle.ts_txn.specs.Rules.{ruled}
 use Rattle.ts_txn.proofs.Going.{faulty, gone_block, unanswered_any}
+
+-- the head of a request that an origin gets is not empty: its last line is there
+pub filled : (setup : Setup) (q : Request) → request_text setup q.head q.target q.host ≢ []
+filled setup q e =
+    let fields = ruled S.Request setup.plugins.items (forwarded q.head.fields) in
+    let front = q.head.method ++ codes " " ++ q.target ++ codes " HTTP/1.1\r\n" ++ missing_host_text q.host fields
+    ++ flat_map (request_field_text (is_absolute q.head.target) q.host) fields ++ via_text q.head.minor in
+    absurd (omega (arith, length-append front (codes "connection: close\r\n\r\n"), ap length e))
 
 none_held : (held : List ℕ) → held ≡ [] → length held ≤ head_limit
 none_held held none = let no : length held ≡ 0 = ap length none in omega (arith, no)
