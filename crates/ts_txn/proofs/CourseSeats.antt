@@ -52,21 +52,19 @@ seated_next (Some t) u a b keeps same only = seated_set (Some t ∷ []) (u ∷ [
     move : (key : ContKey) → HasKey (Some t ∷ []) key → HasKey (u ∷ []) key
     move key = key_same (Some t ∷ []) (u ∷ []) key (ap (λ (x : Option StageContinuation). x ∷ []) same)
 
-pub roused_next : (t u : Option StageContinuation) (a b : Context) → IsOrderly a → Grows a b → KeepsStage a b t u → IsRousedIf u → HasRousedNext true t u a b
-roused_next t u a b orderly grows stage roused = record {
+next_set : (t u : Option StageContinuation) (a b : Context) → IsOrderly a → Grows a b → KeepsStage a b t u → IsRousedIf u ⊎ (GREATEST ≤ b.log.state.next) → HasRousedNext true t u a b
+next_set t u a b orderly grows stage set = record {
   kept = λ is. stage.of_stage MAIN;
-  roused = λ is. inl roused;
+  roused = λ is. set;
   lacks = λ wrong. absurd (cc);
   later = grows_next a b orderly grows;
 }
 
+pub roused_next : (t u : Option StageContinuation) (a b : Context) → IsOrderly a → Grows a b → KeepsStage a b t u → IsRousedIf u → HasRousedNext true t u a b
+roused_next t u a b orderly grows stage roused = next_set t u a b orderly grows stage (inl roused)
+
 pub spent_next : (t u : Option StageContinuation) (a b : Context) → IsOrderly a → Grows a b → KeepsStage a b t u → GREATEST ≤ b.log.state.next → HasRousedNext true t u a b
-spent_next t u a b orderly grows stage spent = record {
-  kept = λ is. stage.of_stage MAIN;
-  roused = λ is. inr spent;
-  lacks = λ wrong. absurd (cc);
-  later = grows_next a b orderly grows;
-}
+spent_next t u a b orderly grows stage spent = next_set t u a b orderly grows stage (inr spent)
 
 pub lacks_next : (t u : Option StageContinuation) (ts : List (Option StageContinuation)) (a m b : Context) → IsOrderly a → Grows a m → Clears ts m b → u ≡ None → HasRousedNext false t u a b
 lacks_next t u ts a m b orderly grows clears none = record {

@@ -134,22 +134,17 @@ comes_hear setup c d least comes =
 pub comes_ask : (c d : LinkSide) (least : ℕ) → Comes c d least → to_ask d + least ≤ to_ask c
 comes_ask c d least comes = omega (arith, comes.held, comes.left, comes.some)
 
--- some bytes were taken away in front of what came
-pub used_hear : (setup : Setup) (c d : LinkSide) → length d.inbox < length c.inbox → length d.look.left ≤ length c.look.left → to_hear setup d < to_hear setup c
-used_hear setup c d used left =
-    let ls = setup.transforms.items in
-    let total : length d.look.left + length d.inbox ≤ length c.look.left + length c.inbox = omega (arith, used, left) in
-    let passed : passes ls (length d.look.left + length d.inbox) ≤ passes ls (length c.look.left + length c.inbox) =
-    passes_less ls (length d.look.left + length d.inbox) (length c.look.left + length c.inbox) total in
-    omega (arith, passed, used, left)
-
-pub still_hear : (setup : Setup) (c d : LinkSide) → length d.inbox ≤ length c.inbox → length d.look.left ≤ length c.look.left → to_hear setup d ≤ to_hear setup c
-still_hear setup c d held left =
+-- so many bytes were taken away in front of what came
+pub used_hear : (setup : Setup) (c d : LinkSide) (used : ℕ) → length d.inbox + used ≤ length c.inbox → length d.look.left ≤ length c.look.left → to_hear setup d + used ≤ to_hear setup c
+used_hear setup c d used held left =
     let ls = setup.transforms.items in
     let total : length d.look.left + length d.inbox ≤ length c.look.left + length c.inbox = omega (arith, held, left) in
     let passed : passes ls (length d.look.left + length d.inbox) ≤ passes ls (length c.look.left + length c.inbox) =
     passes_less ls (length d.look.left + length d.inbox) (length c.look.left + length c.inbox) total in
     omega (arith, passed, held, left)
+
+pub still_hear : (setup : Setup) (c d : LinkSide) → length d.inbox ≤ length c.inbox → length d.look.left ≤ length c.look.left → to_hear setup d ≤ to_hear setup c
+still_hear setup c d held left = omega (arith, used_hear setup c d 0 (omega (arith, held)) left)
 
 -- ---- bytes that were written
 

@@ -23,7 +23,7 @@ use Rattle.ts_txn.specs.Lowering.{agains_left, end_room, if_told, passes, pump_w
 use Rattle.ts_txn.specs.LoweringBody.{IsOfLines, body_left, body_work, chain_work, close_left, ended_left, finish_left}
 use Rattle.ts_txn.proofs.Inserted.{inserted_append, inserted_behind, passing_more, stage_passes}
 use Rattle.ts_txn.proofs.Lowering.{comes_hear, least_came, least_went, none_fall, one_if, passes_less, read_comes, told_fewer, went_some}
-use Rattle.ts_txn.proofs.LoweringSteps.{Calm, client_calm, less_plus, origin_calm}
+use Rattle.ts_txn.proofs.LoweringSteps.{Calm, reads_calm, sends_calm}
 
 -- ---- sums
 
@@ -70,8 +70,7 @@ module _ {P : Type 0} (setup : Setup) (rest : P → List ℕ → List ℕ) (erro
         → Fewer (body_left setup rest errors v c) (body_left setup rest errors w c)
     reads_on p reads some =
         let came : to_hear setup w.origin + least_came p ≤ to_hear setup v.origin = comes_hear setup v.origin w.origin (least_came p) (read_comes v.origin w.origin p reads.origin) in
-        let calm = origin_calm setup (pull_again p) v w w.origin reads.others reads.origin.pulls.pulls.calls.agains
-        (less_plus setup (to_hear setup w.origin) (to_hear setup v.origin) (least_came p) came) in
+        let calm = reads_calm setup v w p reads.others reads.origin in
         body_falls (pull_again p) v w c c calm.again (λ x x' again.
         read_next end_room (one_if (pull_again p)) (least_came p) x x' (length v.client.outbox) (length w.client.outbox) (to_hear setup v.origin) (to_hear setup w.origin)
         (chain_work setup rest errors c) (to_end c.given) again calm.out came some)
@@ -81,8 +80,7 @@ module _ {P : Type 0} (setup : Setup) (rest : P → List ℕ → List ℕ) (erro
         → Fewer (body_left setup rest errors v c) (body_left setup rest errors w c)
     writes_on p writes some =
         let went : length w.client.outbox + least_went p ≤ length v.client.outbox = went_some p v.client.outbox w.client.outbox writes.client.pushes.went in
-        let calm = client_calm setup (push_again p) v w w.client writes.others writes.client.pushes.calls.agains
-        (less_plus setup (length w.client.outbox) (length v.client.outbox) (least_went p) went) in
+        let calm = sends_calm setup v w p writes in
         body_falls (push_again p) v w c c calm.again (λ x x' again.
         write_next end_room (one_if (push_again p)) (least_went p) x x' (length v.client.outbox) (length w.client.outbox) (to_hear setup v.origin) (to_hear setup w.origin)
         (chain_work setup rest errors c) (to_end c.given) again went calm.hear some)

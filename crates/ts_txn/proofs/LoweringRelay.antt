@@ -38,9 +38,9 @@ use Rattle.ts_txn.specs.LoweringBody.{IsIdle, IsOfLines, LowersBody, StaysOfLine
 use Rattle.ts_txn.specs.declared.finishing.BodyStep.{BodyStep}
 use Rattle.ts_txn.specs.declared.finishing.BodyStep.TheVariants as S
 use Rattle.ts_txn.specs.declared.relay.Relay.{Relay}
-use Rattle.ts_txn.proofs.Lowering.{comes_hear, least_came, none_fall, read_comes, same_length, still_hear}
+use Rattle.ts_txn.proofs.Lowering.{none_fall, same_length, still_hear}
 use Rattle.ts_txn.proofs.LoweringBody.{closes, feeds_on, frames_end, frames_piece, queues_same, reads_on, to_close, to_ended, to_finish, writes_on}
-use Rattle.ts_txn.proofs.LoweringSteps.{Calm, less_plus, origin_calm, sends_calm, stays_calm}
+use Rattle.ts_txn.proofs.LoweringSteps.{Calm, reads_calm, sends_calm, stays_calm}
 
 -- ---- what is left does not depend on who is roused
 
@@ -157,8 +157,7 @@ module _ {P : Type 0} (ct ot : Bool) (must : Type 0) (setup : Setup) (rest : P �
     -- ---- one read of the origin
 
     read_calm : (p : Pulled) → ReadsOrigin true v w p → Calm setup (pull_again p) v w
-    read_calm p reads = origin_calm setup (pull_again p) v w w.origin reads.others reads.origin.pulls.pulls.calls.agains
-        (less_plus setup (to_hear setup w.origin) (to_hear setup v.origin) (least_came p) (comes_hear setup v.origin w.origin (least_came p) (read_comes v.origin w.origin p reads.origin)))
+    read_calm p reads = reads_calm setup v w p reads.others reads.origin
 
     also_told : (p : Pulled) → ot ≡ true → ReadsOrigin ot v w p → ReadsOrigin true v w p
     also_told p also reads = subst (λ (b : Bool). ReadsOrigin b v w p) also reads

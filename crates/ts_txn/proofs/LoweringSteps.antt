@@ -14,7 +14,7 @@ use Rattle.ts_wire.specs.declared.heads.ResponseHead.{ResponseHead}
 use Rattle.ts_txn.specs.Block.{own_text, request_text}
 use Rattle.ts_txn.specs.Own.{own_body, own_sent}
 use Rattle.ts_txn.specs.View.{LinkSide, View}
-use Rattle.ts_txn.specs.Moving.{HearsRequest, HearsResponse, QueuesOwn, QueuesRequest, WritesClient, WritesOrigin}
+use Rattle.ts_txn.specs.Moving.{HearsRequest, HearsResponse, QueuesOwn, QueuesRequest, SideReads, WritesClient, WritesOrigin}
 use Rattle.ts_txn.specs.Lowering.{agains_left, answer_room, answer_work, chain_room, end_room, head_room, own_length, own_room, phase_work, pump_weight, to_ask, to_hear, upload_in, work_left, written_weight}
 use Rattle.ts_txn.specs.declared.own.OwnStatus.{OwnStatus}
 use Rattle.ts_txn.specs.declared.own.OwnStatus.TheVariants as O
@@ -325,14 +325,16 @@ module _ (setup : Setup) where
   hears_next i l x x' out out' room hear hear' again less heard some = omega (arith, again, less, heard, some)
 
   module _ (v w : View) where
+    pub reads_calm : (p : Pulled) → w ≡ record v { origin = w.origin } → SideReads true v.origin w.origin p → Calm (pull_again p) v w
+    reads_calm p others reads = origin_calm (pull_again p) v w w.origin others reads.pulls.pulls.calls.agains
+        (less_plus (to_hear setup w.origin) (to_hear setup v.origin) (least_came p) (comes_hear setup v.origin w.origin (least_came p) (read_comes v.origin w.origin p reads)))
+
     pub hears_calm : (p : Pulled) → HearsResponse true v w (F.Read p) → Calm (pull_again p) v w
-    hears_calm p hears = origin_calm (pull_again p) v w w.origin hears.others hears.finds.1.pulls.pulls.calls.agains
-        (less_plus (to_hear setup w.origin) (to_hear setup v.origin) (least_came p)
-        (comes_hear setup v.origin w.origin (least_came p) (read_comes v.origin w.origin p hears.finds.1)))
+    hears_calm p hears = reads_calm p hears.others hears.finds.1
 
     head_used : (head : ResponseHead) → HearsResponse true v w (F.Head head) → to_hear setup w.origin + 1 ≤ to_hear setup v.origin
-    head_used head hears = plus_one (to_hear setup w.origin) (to_hear setup v.origin)
-        (used_hear setup v.origin w.origin hears.finds.1 (same_length v.origin.look.left w.origin.look.left (ap (λ (s : LinkSide). s.look.left) hears.finds.2)))
+    head_used head hears = used_hear setup v.origin w.origin 1 (plus_one (length w.origin.inbox) (length v.origin.inbox) hears.finds.1)
+        (same_length v.origin.look.left w.origin.look.left (ap (λ (s : LinkSide). s.look.left) hears.finds.2))
       where
         plus_one : (a b : ℕ) → a < b → a + 1 ≤ b
         plus_one a b less = omega (arith, less)

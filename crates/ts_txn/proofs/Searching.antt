@@ -50,30 +50,30 @@ reads_all framing bytes body rest given made old taken state was gives is all =
     let says = gives framing was.fed body (drop taken rest) was.is_fed (λ e. drop_all taken rest (all e)) in
     subst (λ (b : List ℕ). BodyOf framing b made state) whole (subst (λ (m : List ℕ). BodyOf framing ((was.fed ++ take taken rest) ++ drop taken rest) m state) (sym is) says)
 
+-- so it is where the reader says in which state it is
+reads_as : (framing : Framing) (bytes body rest made : List ℕ) (old : Place) (fed : Fed) (state : BodyState) → HasFed framing bytes body rest old
+    → GivesBody old (take fed.taken rest) (slice_range rest fed.from fed.to) fed.state → made ≡ body ++ slice_range rest fed.from fed.to
+    → fed.state ≡ state → (state ≡ B.Unfinished → length rest ≤ fed.taken) → BodyOf framing bytes made state
+reads_as framing bytes body rest made old fed state was gives is so all =
+    subst (λ (s : BodyState). BodyOf framing bytes made s) so
+    (reads_all framing bytes body rest (slice_range rest fed.from fed.to) made old fed.taken fed.state was gives is (λ u. all (sym so ∙ u)))
+
 -- the body has ended, or is bad
 pub reads_ended : (framing : Framing) (bytes body rest made : List ℕ) (old : Place) (fed : Fed) → HasFed framing bytes body rest old
     → GivesBody old (take fed.taken rest) (slice_range rest fed.from fed.to) fed.state → made ≡ body ++ slice_range rest fed.from fed.to
     → fed.state ≡ B.Ended → BodyOf framing bytes made B.Ended
-reads_ended framing bytes body rest made old fed was gives is so =
-    subst (λ (s : BodyState). BodyOf framing bytes made s) so
-    (reads_all framing bytes body rest (slice_range rest fed.from fed.to) made old fed.taken fed.state was gives is
-    (λ u. let clash : B.Ended ≡ B.Unfinished = sym so ∙ u in absurd (cc)))
+reads_ended framing bytes body rest made old fed was gives is so = reads_as framing bytes body rest made old fed B.Ended was gives is so (λ u. absurd (cc))
 
 pub reads_bad : (framing : Framing) (bytes body rest made : List ℕ) (old : Place) (fed : Fed) → HasFed framing bytes body rest old
     → GivesBody old (take fed.taken rest) (slice_range rest fed.from fed.to) fed.state → made ≡ body ++ slice_range rest fed.from fed.to
     → fed.state ≡ B.Bad → BodyOf framing bytes made B.Bad
-reads_bad framing bytes body rest made old fed was gives is so =
-    subst (λ (s : BodyState). BodyOf framing bytes made s) so
-    (reads_all framing bytes body rest (slice_range rest fed.from fed.to) made old fed.taken fed.state was gives is
-    (λ u. let clash : B.Bad ≡ B.Unfinished = sym so ∙ u in absurd (cc)))
+reads_bad framing bytes body rest made old fed was gives is so = reads_as framing bytes body rest made old fed B.Bad was gives is so (λ u. absurd (cc))
 
 -- all bytes are read
 pub reads_to_end : (framing : Framing) (bytes body rest made : List ℕ) (old : Place) (fed : Fed) → HasFed framing bytes body rest old
     → GivesBody old (take fed.taken rest) (slice_range rest fed.from fed.to) fed.state → made ≡ body ++ slice_range rest fed.from fed.to
     → fed.state ≡ B.Unfinished → length rest ≤ fed.taken → BodyOf framing bytes made B.Unfinished
-reads_to_end framing bytes body rest made old fed was gives is so all =
-    subst (λ (s : BodyState). BodyOf framing bytes made s) so
-    (reads_all framing bytes body rest (slice_range rest fed.from fed.to) made old fed.taken fed.state was gives is (λ u. all))
+reads_to_end framing bytes body rest made old fed was gives is so all = reads_as framing bytes body rest made old fed B.Unfinished was gives is so (λ u. all)
 
 -- the reader goes on behind the piece
 pub reads_on : (framing : Framing) (bytes body rest made left : List ℕ) (old new : Place) (fed : Fed) → HasFed framing bytes body rest old

@@ -2,15 +2,21 @@
 use Rattle.std.proofs.Common.{◌≡◌, ℕ, ◌≤◌, List, [], ◌++◌, Bool, true, arith, refl, sym, ap, subst, ◌∙◌, append_assoc, inl, length, ◌≢◌, length-append}
 use Rattle.std.proofs.lemmas.List.{append-nil}
 use Rattle.std.proofs.Math.Nat.{le_trans}
+use Rattle.std.specs.Prelude.{codes, flat_map}
 use Rattle.ts_config.specs.declared.setup.Setup.{Setup}
+use Rattle.ts_config.specs.declared.fields.Side.TheVariants as S
 use Rattle.ts_hooks.specs.declared.txn_end.TxnEnd.TheVariants as E
 use Rattle.ts_link.specs.Counts.{Rose}
 use Rattle.ts_link.specs.Link.{Look, all_of}
 use Rattle.ts_upstream.specs.declared.upstream.Uploaded.{Uploaded}
 use Rattle.ts_upstream.specs.declared.upstream.Uploaded.TheVariants as U
 use Rattle.ts_upstream.specs.Uploads.{UploadKeeps, Uploads}
+use Rattle.ts_wire.specs.Check.{is_absolute}
+use Rattle.ts_wire.specs.Forward.{forwarded}
 use Rattle.ts_wire.specs.Limits.{head_limit}
+use Rattle.ts_wire.specs.Printed.{missing_host_text, request_field_text, via_text}
 use Rattle.ts_txn.specs.Relayed.{asks_head}
+use Rattle.ts_txn.specs.Rules.{ruled}
 use Rattle.ts_txn.specs.Block.{own_block, request_text}
 use Rattle.ts_txn.specs.View.{HasFailed, LinkSide, View}
 use Rattle.ts_txn.specs.Moving.{MovesUpload}
@@ -22,12 +28,6 @@ use Rattle.ts_txn.specs.declared.phase.OwnAnswer.{OwnAnswer}
 use Rattle.ts_txn.specs.declared.phase.Request.{Request}
 use Rattle.ts_txn.proofs.OneSide.{failed, quiet_as, some_front}
 use Rattle.ts_txn.proofs.Asks.{client_fails, lacks_memory}
-use Rattle.std.specs.Prelude.{codes, flat_map}
-use Rattle.ts_config.specs.declared.fields.Side.TheVariants as S
-use Rattle.ts_wire.specs.Check.{is_absolute}
-use Rattle.ts_wire.specs.Forward.{forwarded}
-use Rattle.ts_wire.specs.Printed.{missing_host_text, request_field_text, via_text}
-use Rattle.ts_txn.specs.Rules.{ruled}
 use Rattle.ts_txn.proofs.Going.{faulty, gone_block, unanswered_any}
 
 -- the head of a request that an origin gets is not empty: its last line is there
