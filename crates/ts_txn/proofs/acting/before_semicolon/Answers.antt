@@ -1,3 +1,4 @@
+-- Where a value has a semicolon, or else its length, is what std finds of its bytes.
 use Rattle.std.proofs.Common.{rules, tests, ◌∙◌}
 use Rattle.std.proofs.lemmas.Iterator.{YieldsList-from_slice}
 use Rattle.std.proofs.lemmas.Iterator.Search.{position_from_yields_List}

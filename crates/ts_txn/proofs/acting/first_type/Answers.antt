@@ -1,3 +1,4 @@
+-- The first Content-Type field is what std finds of the fields.
 use Rattle.std.proofs.Common.{rules, tests}
 use Rattle.std.specs.Prelude.{codes}
 use Rattle.std.proofs.lemmas.Iterator.{YieldsList-from_slice}

@@ -1,3 +1,4 @@
+-- The block of a request that was sent is that of the head that was found: it is passed on, or refused.
 use Rattle.std.proofs.Common.{subst}
 use Rattle.ts_txn.specs.Finding.{FindsFinal}
 use Rattle.ts_txn.proofs.Saying.{says_refused_head, says_passed_on}

@@ -1,3 +1,4 @@
+-- The block of all bytes is that of the check of their head: the request passed, or was refused.
 use Rattle.std.proofs.Common.{rules, ◌≡◌, true, ◌≢◌, ◌∙◌, [], ap, subst}
 use Rattle.ts_wire.specs.Check.{check, Says}
 use Rattle.ts_txn.specs.Finding.{FindsRequest}

@@ -1,3 +1,4 @@
+-- All bytes of both sides have at most one block.
 use Rattle.std.proofs.Common.{◌≡◌, true}
 use Rattle.ts_txn.proofs.OneBlock.{one_block}
 use Rattle.ts_txn.proofs.block.one_block.Goals as goal

@@ -1,3 +1,4 @@
+-- The block of a response that is passed on is that of its body: it is bad, it has ended, or it is cut.
 use Rattle.ts_txn.proofs.Saying.{says_bad, says_cut, says_ended}
 use Rattle.ts_txn.proofs.block.relayed.Goals as goal
 

@@ -1,3 +1,4 @@
+-- The block of a request that goes to an origin, whose link takes the upload.
 use Rattle.ts_txn.proofs.Saying.{says_taken_upload}
 use Rattle.ts_txn.proofs.block.sent.Goals as goal
 

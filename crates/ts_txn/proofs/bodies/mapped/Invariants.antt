@@ -1,3 +1,4 @@
+-- What was made is what the line makes of the bytes that were passed.
 use Rattle.std.proofs.Common.{◌≡◌, take}
 use Rattle.ts_config.specs.Bodies.{mapped}
 use Rattle.ts_txn.proofs.bodies.mapped.Given as goal

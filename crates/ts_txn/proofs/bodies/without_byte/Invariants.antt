@@ -1,3 +1,4 @@
+-- What was made is what the line leaves of the bytes that were passed.
 use Rattle.std.proofs.Common.{◌≡◌, take}
 use Rattle.ts_config.specs.Bodies.{without_byte}
 use Rattle.ts_txn.proofs.bodies.without_byte.Given as goal

@@ -1,3 +1,4 @@
+-- A body begins, or memory lacks for its head: where that leads, and that it pays for its events.
 use Rattle.std.specs.Arc.{arc_value}
 use Rattle.std.specs.Prelude.{◌∷◌, []}
 use Rattle.std.proofs.Common.{arith, refl, sym, ap, subst, ◌≤◌}

@@ -1,3 +1,4 @@
+-- One of the last writes: where it leads, and that it pays for its events.
 use Rattle.std.specs.Arc.{arc_value}
 use Rattle.std.proofs.Common.{arith, inr}
 use Rattle.ts_transform.proofs.Kept.{acts_none, acts_then}

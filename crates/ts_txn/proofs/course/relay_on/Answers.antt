@@ -1,3 +1,4 @@
+-- An event of a body: where it leads, and that it pays for its events.
 use Rattle.std.specs.Arc.{arc_value}
 use Rattle.std.proofs.Common.{arith, ◌≤◌}
 use Rattle.ts_transform.proofs.Kept.{acts_then}

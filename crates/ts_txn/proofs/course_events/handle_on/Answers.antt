@@ -1,3 +1,4 @@
+-- Where nobody works at an event the transaction stays sound, and else its first continuation is alone.
 use Rattle.std.proofs.Common.{sym, ◌∙◌}
 use Rattle.ts_txn.specs.declared.course.Course.TheVariants as K
 use Rattle.ts_txn.proofs.Events.{handles_phased}

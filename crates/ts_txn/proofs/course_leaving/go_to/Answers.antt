@@ -1,3 +1,4 @@
+-- The transaction is covered by the event of its next step, or has ended.
 use Rattle.ts_txn.proofs.CourseSeats.{lacks_alone, led_alone}
 use Rattle.ts_txn.proofs.course_leaving.go_to.Goals as goal
 

@@ -1,3 +1,4 @@
+-- A body that was left is closed, and the transaction is covered without it.
 use Rattle.std.proofs.Common.{arith, subst, sym}
 use Rattle.ts_transform.specs.Driving.{ActsWithin}
 use Rattle.ts_transform.proofs.Kept.{acts_lessens, acts_none, acts_then}

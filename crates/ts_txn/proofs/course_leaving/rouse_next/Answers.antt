@@ -1,3 +1,4 @@
+-- The next step has an event of the first continuation, or there was no memory for one.
 use Rattle.std.proofs.Common.{◌∷◌, [], arith, rules}
 use Rattle.ts_transform.specs.Driving.{HasLiveIf}
 use Rattle.ts_transform.proofs.Kept.{acts_adds, acts_then}

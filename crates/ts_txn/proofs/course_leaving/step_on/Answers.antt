@@ -1,3 +1,4 @@
+-- The transaction is covered behind the step of a phase.
 use Rattle.std.proofs.Common.{refl, subst, sym}
 use Rattle.ts_transform.specs.Driving.{ActsWithin}
 use Rattle.ts_transform.proofs.Kept.{acts_lessens}

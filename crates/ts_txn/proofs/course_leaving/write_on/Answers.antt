@@ -1,3 +1,4 @@
+-- The transaction is covered behind one of its last writes.
 use Rattle.std.proofs.Common.{refl}
 use Rattle.ts_hooks.specs.declared.txn_end.TxnEnd.TheVariants as E
 use Rattle.ts_txn.specs.declared.phase.Phase.TheVariants as P

@@ -1,3 +1,4 @@
+-- A transaction that was started is covered by its first event.
 use Rattle.std.specs.Prelude.{◌∷◌, []}
 use Rattle.std.proofs.Common.{arith, subst}
 use Rattle.ts_transform.specs.Seats.{AllSeated}

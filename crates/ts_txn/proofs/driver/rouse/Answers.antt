@@ -1,3 +1,4 @@
+-- No event was set where the continuation has one already, or is dead.
 use Rattle.std.proofs.Common.{subst}
 use Rattle.ts_transform.specs.Driving.{HasLiveIf}
 use Rattle.ts_transform.proofs.Kept.{adds_dead, adds_none}

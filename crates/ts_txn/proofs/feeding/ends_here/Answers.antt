@@ -1,3 +1,4 @@
+-- An unfinished body goes up to the close, or is cut, as its end says.
 use Rattle.ts_txn.proofs.Fed.{ends_closed, ends_cut}
 use Rattle.ts_txn.proofs.feeding.ends_here.Goals as goal
 

@@ -1,3 +1,4 @@
+-- Without an origin nothing was done to the chain.
 use Rattle.ts_txn.proofs.Chaining.{chain_still}
 use Rattle.ts_txn.proofs.feeding.feed_if.Goals as goal
 

@@ -1,3 +1,4 @@
+-- The reader was fed with a block: the body goes on, is over, or is bad.
 use Rattle.std.proofs.Common.{◌≡◌, refl, sym, ◌∙◌}
 use Rattle.ts_wire.specs.declared.body.BodyState.TheVariants as B
 use Rattle.ts_txn.proofs.Chaining.{chain_still}

@@ -1,3 +1,4 @@
+-- The chain got bytes: it is driven on, or tells why it is not.
 use Rattle.std.proofs.Common.{sym, subst}
 use Rattle.ts_txn.specs.Relaying.{StepsChain}
 use Rattle.ts_txn.proofs.Chaining.{chain_after, given_bytes, not_spent}

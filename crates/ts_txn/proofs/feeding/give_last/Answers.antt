@@ -1,3 +1,4 @@
+-- The chain got bytes, and then its end.
 use Rattle.ts_txn.proofs.Chaining.{chain_then}
 use Rattle.ts_txn.proofs.feeding.give_last.Goals as goal
 

@@ -1,3 +1,4 @@
+-- Nothing of a bad body came to the chain.
 use Rattle.ts_txn.proofs.Chaining.{chain_still}
 use Rattle.ts_txn.proofs.feeding.give_part.Goals as goal
 

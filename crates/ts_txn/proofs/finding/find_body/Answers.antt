@@ -1,3 +1,4 @@
+-- The body of the bytes, as the reader says of its last piece: it has ended, is bad, or is unfinished.
 use Rattle.std.proofs.Common.{arith}
 use Rattle.ts_txn.proofs.Searching.{reads_ended, reads_bad, reads_to_end}
 use Rattle.ts_txn.proofs.finding.find_body.Goals as goal

@@ -1,3 +1,4 @@
+-- A front of the bytes was fed, and the rest is left.
 use Rattle.std.proofs.Common.{length}
 use Rattle.ts_txn.specs.Reading.{HasFed}
 use Rattle.ts_txn.proofs.finding.find_body.Given as goal

@@ -1,3 +1,4 @@
+-- The search goes on behind an interim head, and ends at one that is not, or where there is none.
 use Rattle.std.proofs.Common.{sym}
 use Rattle.ts_txn.proofs.Searching.{passes, finds, lacks}
 use Rattle.ts_txn.proofs.finding.find_final.Goals as goal

@@ -1,3 +1,4 @@
+-- The search stands behind heads that are all interim.
 use Rattle.std.proofs.Common.{◌≤◌, ◌-◌, drop, length}
 use Rattle.ts_txn.specs.Heads.{PassesInterims}
 use Rattle.ts_txn.proofs.finding.find_final.Given as goal

@@ -1,3 +1,4 @@
+-- The reader and the stages are gone, with their events.
 use Rattle.std.proofs.Common.{refl}
 use Rattle.ts_transform.proofs.Seats.{clears_then}
 use Rattle.ts_txn.specs.Duties.{relay_seats}

@@ -1,3 +1,4 @@
+-- The continuation is gone, with its events.
 use Rattle.ts_transform.proofs.Seats.{clears_one}
 use Rattle.ts_txn.proofs.relay_closing.destroy_end.Goals as goal
 

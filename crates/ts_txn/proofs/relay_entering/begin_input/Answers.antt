@@ -1,3 +1,4 @@
+-- Where there is a body, nothing is done to the chain.
 use Rattle.ts_txn.proofs.Chaining.{chain_still}
 use Rattle.ts_txn.proofs.relay_entering.begin_input.Goals as goal
 

@@ -1,3 +1,4 @@
+-- The reader and the stages of a body are made, or what was made before memory lacked.
 use Rattle.std.proofs.Common.{refl, sym, ap, subst}
 use Rattle.ts_transform.specs.Flow.{EndsInOrder}
 use Rattle.ts_transform.proofs.Setting.{only_same}

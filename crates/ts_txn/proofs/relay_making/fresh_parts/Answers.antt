@@ -1,3 +1,4 @@
+-- A line that acts has a part of its own, and another has none.
 use Rattle.std.proofs.Common.{◌+◌, ◌∷◌, drop, ap, sym, subst, ◌∙◌}
 use Rattle.std.proofs.lemmas.List.{drop_all, drop_more}
 use Rattle.ts_txn.specs.Acting.{acts_on}

@@ -1,3 +1,4 @@
+-- The parts are those of the lines that were passed.
 use Rattle.std.proofs.Common.{drop}
 use Rattle.ts_txn.specs.Acting.{acts_on}
 use Rattle.ts_txn.proofs.Parting.{Continues}

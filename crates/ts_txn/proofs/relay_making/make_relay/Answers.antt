@@ -1,3 +1,4 @@
+-- What passes on a body is fresh: its chain is of the lines that act, and nothing was read.
 use Rattle.std.proofs.Common.{ap, subst, ◌∙◌}
 use Rattle.ts_transform.specs.Flow.{flow}
 use Rattle.ts_wire.specs.declared.framing.Framing.{Framing}

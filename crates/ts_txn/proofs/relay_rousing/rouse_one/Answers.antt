@@ -1,3 +1,4 @@
+-- The continuation is roused if it must work, or the numbers or the memory lacked.
 use Rattle.ts_txn.proofs.Duty.{rouses_one}
 use Rattle.ts_txn.proofs.relay_rousing.rouse_one.Goals as goal
 

@@ -1,3 +1,4 @@
+-- Both ends are roused that must work, each with its pause, or memory lacked for the first.
 use Rattle.ts_txn.proofs.BodyTimes.{ends_both, ends_first}
 use Rattle.ts_txn.proofs.Duty.{rouses_both, rouses_lacks}
 use Rattle.ts_txn.proofs.relay_rousing.rouse_two.Goals as goal

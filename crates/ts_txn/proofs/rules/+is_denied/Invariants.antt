@@ -1,3 +1,4 @@
+-- Each call has one line less to go.
 use Rattle.std.proofs.Common.{length}
 use Rattle.ts_txn.proofs.rules.+is_denied.Given as goal
 

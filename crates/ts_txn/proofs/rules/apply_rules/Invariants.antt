@@ -1,3 +1,4 @@
+-- The fields are those after the lines that were passed.
 use Rattle.std.proofs.Common.{◌≡◌, take, fold}
 use Rattle.ts_txn.specs.Rules.{after_line}
 use Rattle.ts_txn.proofs.rules.apply_rules.Given as goal

@@ -1,3 +1,4 @@
+-- The host is found at a site, or among those behind it.
 use Rattle.std.proofs.Common.{◌≡◌, ◌∙◌, ◌+◌, sym, arith}
 use Rattle.std.proofs.lemmas.Option.{slice_get_within}
 use Rattle.ts_txn.proofs.Sites.{is_next, is_behind, last_site}

@@ -1,3 +1,4 @@
+-- The host is none of the sites that were passed, which grow in number.
 use Rattle.std.proofs.Common.{◌≡◌, ◌-◌, drop, length}
 use Rattle.ts_txn.specs.Rules.{is_site}
 use Rattle.ts_txn.proofs.rules.is_site.Given as goal

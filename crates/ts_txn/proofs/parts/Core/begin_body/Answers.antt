@@ -1,3 +1,4 @@
+-- A body begins, and its ends are roused: where that leads, and that it lowers what is left to do.
 use Rattle.std.proofs.Common.{ap}
 use Rattle.std.specs.Arc.{arc_value}
 use Rattle.ts_txn.specs.View.{OriginRefuses, view_of}

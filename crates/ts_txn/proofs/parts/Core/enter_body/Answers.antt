@@ -1,3 +1,4 @@
+-- A body begins: where its first steps lead, and that they lower what is left to do.
 use Rattle.std.specs.Arc.{arc_value}
 use Rattle.ts_txn.specs.View.{OriginRefuses, view_of}
 use Rattle.ts_txn.proofs.Entered.{enters_lead}

@@ -1,3 +1,4 @@
+-- The reader was fed with what waits: where that leads, and that it lowers what is left to do.
 use Rattle.std.specs.Arc.{arc_value}
 use Rattle.ts_txn.specs.View.{OriginRefuses, view_of}
 use Rattle.ts_transform.specs.Flow.{MustRead}

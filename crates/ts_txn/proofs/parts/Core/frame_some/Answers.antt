@@ -1,3 +1,4 @@
+-- A piece was framed and taken from the chain, or there was no memory for it, or no piece.
 use Rattle.std.proofs.Common.{length, take, refl, sym, ap, subst, ◌∙◌}
 use Rattle.ts_transform.specs.Flow.{ChainState, client_wait}
 use Rattle.ts_txn.specs.Relaying.{StepsChain}

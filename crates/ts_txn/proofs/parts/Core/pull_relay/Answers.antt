@@ -1,3 +1,4 @@
+-- Each answer of a read of the origin: where it leads, and that it lowers what is left to do.
 use Rattle.std.proofs.Common.{arith, refl, subst}
 use Rattle.std.specs.Arc.{arc_value}
 use Rattle.ts_txn.specs.View.{OriginRefuses, view_of}

@@ -1,3 +1,4 @@
+-- The client's head is queued and the chain made, or there was no memory for them.
 use Rattle.std.proofs.Common.{refl, ap, subst, ◌∙◌}
 use Rattle.std.specs.Arc.{arc_value}
 use Rattle.ts_txn.specs.Block.{framing_for, relayed_head}

@@ -1,3 +1,4 @@
+-- An event of the reader: where it leads, which links it called, and that it pays for its events.
 use Rattle.std.proofs.Common.{refl, sym, ap, ◌∙◌}
 use Rattle.std.specs.Arc.{arc_value}
 use Rattle.ts_txn.specs.View.{OriginRefuses, view_of}

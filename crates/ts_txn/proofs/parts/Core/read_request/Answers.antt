@@ -1,3 +1,4 @@
+-- Each answer of the search for the request's head: where it leads, and that it lowers what is left to do.
 use Rattle.std.proofs.Common.{◌∙◌, ap, rules, subst, sym}
 use Rattle.std.specs.Arc.{arc_value}
 use Rattle.ts_wire.specs.Check.{check}

@@ -1,3 +1,4 @@
+-- Each answer of the search for the response's head: where it leads, and that it lowers what is left to do.
 use Rattle.std.proofs.Common.{refl, subst}
 use Rattle.std.specs.Arc.{arc_value}
 use Rattle.ts_txn.specs.View.{OriginRefuses, upload_told, view_of}

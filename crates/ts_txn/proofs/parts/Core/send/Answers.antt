@@ -1,3 +1,4 @@
+-- Each answer of a write of the proxy's own answer: where it leads.
 use Rattle.std.specs.Arc.{arc_value}
 use Rattle.ts_txn.specs.View.{OriginRefuses, view_of}
 use Rattle.ts_txn.proofs.Owns.{client_left, own_lost, sends_on, sent_whole}

@@ -1,3 +1,4 @@
+-- A write of the request's head that failed, or lacked memory: where it leads.
 use Rattle.std.specs.Arc.{arc_value}
 use Rattle.ts_vconn.specs.declared.moves.Pushed.TheVariants as V
 use Rattle.ts_txn.specs.View.{OriginRefuses, view_of}

@@ -1,3 +1,4 @@
+-- An answer of the proxy's own is queued, or there was no memory for it.
 use Rattle.std.proofs.Common.{◌∙◌, ap}
 use Rattle.std.specs.Arc.{arc_value}
 use Rattle.ts_txn.specs.Block.{own_text}

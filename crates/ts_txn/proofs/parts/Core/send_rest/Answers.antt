@@ -1,3 +1,4 @@
+-- Each answer of one of the last writes: where it leads.
 use Rattle.std.specs.Arc.{arc_value}
 use Rattle.ts_txn.specs.View.{OriginRefuses, view_of}
 use Rattle.ts_txn.proofs.Finished.{finish_lacks, finish_left, finished, finishing_on}

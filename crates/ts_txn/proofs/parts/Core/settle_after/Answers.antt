@@ -1,3 +1,4 @@
+-- Behind a step that goes on the ends of a body are roused, and behind another nothing is done.
 use Rattle.std.proofs.Common.{refl, sym, subst}
 use Rattle.ts_txn.specs.View.{view_of}
 use Rattle.ts_txn.specs.BodyLinks.{OnlyOfEnds, is_late, pause_if}

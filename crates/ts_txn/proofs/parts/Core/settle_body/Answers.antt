@@ -1,3 +1,4 @@
+-- Both ends of a body are roused that must work.
 use Rattle.ts_txn.specs.View.{view_of}
 use Rattle.ts_txn.proofs.BodyEvents.{settles}
 use Rattle.ts_txn.proofs.parts.Core.settle_body.Goals as goal

@@ -1,3 +1,4 @@
+-- An event of a stage: where it leads, which links it called, and that it pays for its events.
 use Rattle.std.proofs.Common.{refl, ap, subst}
 use Rattle.ts_transform.proofs.Carrying.{pumped_order}
 use Rattle.std.specs.Arc.{arc_value}

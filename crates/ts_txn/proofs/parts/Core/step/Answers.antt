@@ -1,3 +1,4 @@
+-- The step of each phase minds what its links answered, and lacks memory where a body was to begin.
 use Rattle.std.proofs.Common.{refl, sym, subst}
 use Rattle.std.specs.Arc.{arc_value}
 use Rattle.ts_txn.specs.Holding.{PhaseFact}

@@ -1,3 +1,4 @@
+-- Each answer of a move of the upload: where it leads, and that it lowers what is left to do.
 use Rattle.std.proofs.Common.{refl, ap}
 use Rattle.std.specs.Arc.{arc_value}
 use Rattle.ts_upstream.specs.declared.upstream.Uploaded.TheVariants as U

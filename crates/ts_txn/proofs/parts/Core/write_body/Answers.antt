@@ -1,3 +1,4 @@
+-- Each answer of a write of what waits: where it leads, and that it lowers what is left to do.
 use Rattle.std.proofs.Common.{true, false, sym, ◌∙◌}
 use Rattle.std.specs.Arc.{arc_value}
 use Rattle.std.proofs.lemmas.Bool.{false≢true}

@@ -1,3 +1,4 @@
+-- A transaction that has ended stands as its end says, and one at rest has ended.
 use Rattle.std.proofs.Common.{sym, ◌∙◌}
 use Rattle.ts_txn.proofs.Handling.{at_rest}
 use Rattle.ts_txn.proofs.Resting.{ended_so, rests_with_block}

@@ -1,3 +1,4 @@
+-- An event lowers the number of its transaction, and leads it on its course.
 use Rattle.ts_txn.proofs.Events.{takes_event}
 use Rattle.ts_txn.proofs.LoweringCourse.{transaction_falls}
 use Rattle.ts_txn.proofs.txn.TxnWorld.handle.Goals as goal

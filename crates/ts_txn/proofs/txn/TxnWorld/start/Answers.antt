@@ -1,3 +1,4 @@
+-- A transaction that was started is sound.
 use Rattle.std.proofs.Common.{refl, sym, ◌∙◌}
 use Rattle.ts_txn.proofs.Handling.{sound_begun}
 use Rattle.ts_txn.proofs.txn.TxnWorld.start.Goals as goal
