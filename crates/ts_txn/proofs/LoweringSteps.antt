@@ -255,6 +255,7 @@ module _ (setup : Setup) where
         (written_weight * (length v.origin.outbox + head_room setup)) (written_weight * (length w.origin.outbox + text))
         (to_ask v.client) again upload calm.out calm.hear
         (long_less (length v.origin.outbox) (length w.origin.outbox) (head_room setup) text longer))
+
   -- ---- the request is written
 
   queue_next : (i x x' out out' room hear hear' y y' z z' : ℕ) → x' + i ≤ x → y' ≤ y + 8 * 0 → out' ≤ out → hear' ≤ hear → z' ≤ z
