@@ -73,6 +73,7 @@ record Heard (v : View) (head : RequestHead) : Type 0 where
   rest : List ℕ
   reads : HasRequest (all_of v.client.look) head rest
 
+-- the bytes behind it are left
 heard_at : (v : View) (i : List ℕ) (head : RequestHead) → Asking v → HasRequest v.client.inbox head i → length i < length v.client.inbox
     → Heard (record v { client = record v.client { inbox = i } }) head
 heard_at v i head a has less = record {
@@ -193,6 +194,7 @@ gave_nothing setup refuses t v w told a hears none =
 pub asking_any : (setup : Setup) (refuses : Type 0) (v : View) → Asking v → AnyEnd setup refuses v
 asking_any setup refuses v a = record { took = facts.nothing a.untouched.no_taken a.untouched.no_waits; text = ends.quiet a.quiet }
 
+-- any of them may end for want of memory, or for the client's fault
 pub lacks_memory : (setup : Setup) (refuses : Type 0) (v : View) → AnyEnd setup refuses v → EndFact setup refuses v E.NoMemory
 lacks_memory setup refuses v any = record { any = any; by = tt }
 

@@ -49,11 +49,13 @@ covered_by S.Goes writes reads v u s b tells must (inr spent) runs = inr spent
 covered_by S.Lacks writes reads v u s b tells must roused runs = tt
 covered_by _ writes reads v u s b tells must roused runs = absurd roused
 
+-- used-up event numbers cover every duty
 covered_spent : {P : Type 0} (X : Type 0) (step : BodyStep) (v : View) (u : Option StageContinuation) (s : Relay P) (next : ℕ) → OnGoes step X → GREATEST ≤ next → OnGoes step (IsBodyCovered v u s next)
 covered_spent X S.Goes v u s next goes spent = inr spent
 covered_spent X S.Lacks v u s next goes spent = tt
 covered_spent X _ v u s next goes spent = absurd goes
 
+-- what is left once the two ends were roused that must work
 pub settles : {P : Type 0} (step : BodyStep) (writes : Bool) (v : View) (t u : Option StageContinuation) (r s : Relay P) (a b : Context) → IsOrderly a → TellsDuty writes v r.driven.chain
     → EndsRouse step writes t u r s a b → s ≡ record r { reader = s.reader } → SettlesBody step v t u r s a b
 settles step writes v t u r s a b orderly tells (reads, must, only, rouses) same =
@@ -122,6 +124,7 @@ runs_or v t r m a b later (inl same) (inl (runs, roused)) = inl (same ∙ runs)
 runs_or v t r m a b later (inr spent) covered = inr spent
 runs_or v t r m a b later (inl same) (inr spent) = inr (omega (arith, spent, later))
 
+-- each duty is covered behind the step and its settling
 covered_after : {P : Type 0} (step result : BodyStep) (v w : View) (t u : Option StageContinuation) (r m s : Relay P) (a b : ℕ) (c : Context) → a ≤ b → DrivesOn step r.driven m.driven c → c.log.state.next ≡ b
     → (next : ℕ) → SettledAs step result → (RunsOr m b → WhileGoes step (OnGoes result (IsBodyCovered w u s next))) → IsBodyCovered v t r a → WhileGoes result (IsBodyCovered w u s next)
 covered_after {P} step result v w t u r m s a b c later on is next settled after covered = by_step step on settled after
@@ -155,6 +158,7 @@ runs_after step result v t r m s a next c later after on same settled covered =
     by_step S.Lacks on = tt
     by_step _ on = runs on
 
+-- an event of a body, from the step at it and its settling
 pub handles_by : {P : Type 0} (role : ℕ) (event : Event) (step result : BodyStep) (v w : View) (t m u : Option StageContinuation) (r q s : Relay P) (a c b : Context) → IsOrderly a
     → ActsWithin 4 a c → DrivesOn step r.driven q.driven c
     → ((before : List Pending) → IsHandled before a.log.state.pending a.roles role event → IsBodyJoined t r before a.roles → IsBodyJoined m q c.log.state.pending c.roles)
@@ -237,6 +241,7 @@ chain_joined step n t r q a b steps same was runs =
     subst (λ (x : Option StageContinuation). IsJoined q.driven.chain q.driven.table.items t x b.log.state.pending b.roles) (sym same)
     (joined_driven r.driven.chain q.driven.chain r.driven.table.items q.driven.table.items t r.reader a b steps.adds.keeps (λ h. steps.driven FIRST (λ on. h) runs) (was (steps.falls runs)))
 
+-- one of the first continuation
 pub handles_write : {P : Type 0} (event : Event) (step result : BodyStep) (v w : View) (t u : Option StageContinuation) (r q s : Relay P) (a c b : Context) → IsOrderly a
     → StepsChain step 1 r.driven q.driven a c → q ≡ record r { driven = q.driven } → s.driven ≡ q.driven → SettlesAfter step result w (unroused t) u q s c b
     → w.origin ≡ v.origin → HandlesBody result MAIN event v w t u r s a b
@@ -249,6 +254,7 @@ handles_write event step result v w t u r q s a c b orderly steps same kept afte
     (stages_seated (unroused t) r.reader r.driven.table.items q.driven.table.items a c steps.seats.seated)))
     steps.ordered kept after (writer_work v w origin)
 
+-- one of the reader
 pub handles_read : {P : Type 0} (event : Event) (step result : BodyStep) (v w : View) (t u : Option StageContinuation) (r q s : Relay P) (a c b : Context) → IsOrderly a
     → StepsChain step 2 r.driven q.driven a c → q.reader ≡ unroused r.reader → s.driven ≡ q.driven → SettlesAfter step result w t u q s c b
     → w.client ≡ v.client → w.sent ≡ v.sent → HandlesBody result READER event v w t u r s a b
@@ -262,6 +268,7 @@ handles_read event step result v w t u r q s a c b orderly steps same kept after
     (stages_seated t (unroused r.reader) r.driven.table.items q.driven.table.items a c steps.seats.seated)))
     steps.ordered kept after (reader_work v w client sent)
 
+-- one of a stage, or of nobody
 pub handles_stage : {P : Type 0} (role : ℕ) (event : Event) (f : Result ⊤ SetFault) (step result : BodyStep) (v : View) (t u : Option StageContinuation) (r q s : Relay P) (a c b : Context)
     → IsOrderly a → step ≡ step_after f → ActsWithin 4 a c → Loses f r.driven q.driven a c → KeepsOthers FIRST r.driven.table.items a c → HandlesDriven FIRST role event r.driven q.driven a c
     → role ≢ MAIN → role ≢ READER → q.reader ≡ r.reader

@@ -54,9 +54,11 @@ use Rattle.ts_txn.proofs.Settling.{settled_has, unless_lacking}
 calls_none : (l m : Look) → m ≡ l → Calls l m false false
 calls_none l m same = subst (λ x. Calls l x false false) (sym same) (record { source = refl; name = refl; plan = refl; faults = refl; waits = refl; agains = no_more_same l.agains })
 
+-- the same calls under the names that a step gives them
 calls_as : (l m : Look) (failed waited f g : Bool) → f ≡ failed → g ≡ waited → Calls l m failed waited → Calls l m f g
 calls_as l m failed waited f g failed_is waited_is calls = subst (λ x. Calls l m x g) (sym failed_is) (subst (λ x. Calls l m failed x) (sym waited_is) calls)
 
+-- a side that is the same was neither read nor written
 unread_same : (t : Bool) (s u : LinkSide) → u ≡ s → IsUnread t s u
 unread_same t s u same = record { reads = ap (λ x. x.look.reads) same; held = ap (λ x. x.inbox) same; given = λ told. ap (λ x. x.look.given) same }
 
@@ -70,6 +72,7 @@ pub record IsCalm (step : BodyStep) : Type 0 where
   pub origin : is_origin_fault step ≡ false
   pub late : is_late step ≡ false
 
+-- a step that only sets an event is calm, and so is one that closes or feeds the chain
 pub calm_after : (f : Result ⊤ SetFault) (step : BodyStep) → step ≡ step_after f → IsCalm step
 calm_after (Err F.Spent) step is = subst IsCalm (sym is) (record { client = refl; origin = refl; late = refl })
 calm_after _ step is = subst IsCalm (sym is) (record { client = refl; origin = refl; late = refl })
@@ -91,6 +94,7 @@ calm_feeds S.Lacks old new before after c d feeds = record { client = refl; orig
 front_same : (xs ys : List ℕ) → ys ≡ xs → IsFrontOf xs ys
 front_same xs ys same = ([], append-nil xs ∙ sym same)
 
+-- it stays in front where nothing moved, where a text was queued, and where some was written
 queued_same : (t : Bool) (v w : View) → w.sent ≡ v.sent → w.client ≡ v.client → KeepsQueued t v w
 queued_same t v w sent client = record {
   head = ap (λ (x : Sent). x.head) sent;
@@ -122,6 +126,7 @@ queued_wrote t v w p writes =
 no_longer_drop : (n : ℕ) (xs ys : List ℕ) → ys ≡ drop n xs → length ys ≤ length xs
 no_longer_drop n xs ys same = omega (arith, ap length same, length-drop n xs)
 
+-- no more is held where neither the origin's bytes nor the chain's front grew
 holds_kept : {P : Type 0} (v w : View) (c d : ChainState P) → length w.origin.inbox ≤ length v.origin.inbox → length d.first ≤ length c.first → HoldsLittle v c → HoldsLittle w d
 holds_kept v w c d inbox first h = record { held = omega (arith, inbox, h.held); front = omega (arith, first, h.front) }
 
@@ -136,6 +141,7 @@ steps_shorter : {P : Type 0} (rest : P → List ℕ → List ℕ) (from : List �
 steps_shorter rest from s (U.Moved n) from' s' steps = no_longer_drop n from from' steps.0
 steps_shorter rest from s _ from' s' steps = same_length from from' steps.0
 
+-- nor that of one stage of a chain
 pumped_shorter : {P : Type 0} (rest : P → List ℕ → List ℕ) (from : List ℕ) (ss : List (Stage P)) (at : ℕ) (r : Pumped) (from' : List ℕ) (ss' : List (Stage P)) → StepsAt rest from ss at r from' ss'
     → length from' ≤ length from
 pumped_shorter rest from [] at r from' ss' steps = absurd steps
@@ -153,6 +159,7 @@ read_few t v w p none reads =
     let came = came_few p reads.origin.most reads.origin.pulls.more reads.origin.pulls.pulls.came in
     omega (arith, came, reads.origin.few, ap length (reads.origin.pulls.grows ∙ ap (λ (x : List ℕ). x ++ reads.origin.pulls.more) none))
 
+-- what a write leaves is no longer
 went_shorter : (p : Pushed) (before after : List ℕ) → Went p before after → length after ≤ length before
 went_shorter (V.Some n) before after went = no_longer_drop n before after went.2
 went_shorter _ before after went = same_length before after went.1
@@ -162,6 +169,7 @@ fed_first : {P : Type 0} (state : BodyState) (part : List ℕ) (c d : ChainState
 fed_first B.Bad part c d gets = omega (arith, ap (λ k. length k.first) gets)
 fed_first _ part c d gets = omega (arith, ap (λ k. length k.first) gets, length-append c.first part)
 
+-- feeding moves what is held to the chain's front, which had room
 fed_holds : {P : Type 0} (v w : View) (c d : ChainState P) (old new : Place) → MustRead c → FeedsBody old new v.origin.inbox w.origin.inbox c d → HoldsLittle v c → HoldsLittle w d
 fed_holds v w c d old new must fed h =
     let all : length v.origin.inbox ≡ length fed.piece + length w.origin.inbox = ap length fed.taken ∙ length-append fed.piece w.origin.inbox in
@@ -295,6 +303,7 @@ module _ {P : Type 0} (ct ot : Bool) (v w : View) (c d : ChainState P) (step : B
 -- ---- the steps of the writer, and of the reader
 
 module _ {P : Type 0} (ct ot : Bool) (v w : View) (c d : ChainState P) (step : BodyStep) where
+  -- each thing that the writer does
   pub writer_rests : IsCalm step → w ≡ v → d ≡ c → WritesLinks ct ot v w c d step
   writer_rests calm same chain = record { minds = minds_none ct ot v w c d step (is_late step) false calm calm.late refl same chain; origin = ap (λ (x : View). x.origin) same }
 
@@ -310,6 +319,7 @@ module _ {P : Type 0} (ct ot : Bool) (v w : View) (c d : ChainState P) (step : B
   writer_wrote p failed again no_origin chain writes =
       record { minds = minds_wrote ct ot v w c d step (is_late step) false p failed again no_origin refl chain writes; origin = ap (λ (x : View). x.origin) writes.others }
 
+  -- each thing that the reader does
   pub reader_rests : IsCalm step → w ≡ v → d ≡ c → ReadsLinks ct ot v w c d step
   reader_rests calm same chain = record {
     minds = minds_none ct ot v w c d step false (is_late step) calm refl calm.late same chain;
@@ -355,6 +365,7 @@ minds_as ct ot v w c d e step result cl ol client origin holds h = record {
   holds = holds;
 }
 
+-- so what a step minds is minded by what it is settled as
 minds_settled : {P : Type 0} (ct ot : Bool) (v w : View) (c d e : ChainState P) (step result : BodyStep) (cl ol : Bool) → SettledAs step result → e ≡ d → MindsBody ct ot v w c d step cl ol
     → MindsBody ct ot v w c e result cl ol
 minds_settled {P} ct ot v w c d e step result cl ol settled chain h =
@@ -428,6 +439,7 @@ sends_by ct end v w p step writes leads = record {
   others = writes.others;
 }
 
+-- each answer of the write
 pub sends_some : (ct : Bool) (end : TxnEnd) (v w : View) (n : ℕ) → WritesClient ct v w (V.Some n) → SendsRest ct end v w S.Goes
 sends_some ct end v w n writes = sends_by ct end v w (V.Some n) S.Goes writes writes.client.pushes.calls
 

@@ -52,6 +52,7 @@ seated_next (Some t) u a b keeps same only = seated_set (Some t ∷ []) (u ∷ [
     move : (key : ContKey) → HasKey (Some t ∷ []) key → HasKey (u ∷ []) key
     move key = key_same (Some t ∷ []) (u ∷ []) key (ap (λ (x : Option StageContinuation). x ∷ []) same)
 
+-- it is roused, or no number is left for its event
 next_set : (t u : Option StageContinuation) (a b : Context) → IsOrderly a → Grows a b → KeepsStage a b t u → IsRousedIf u ⊎ (GREATEST ≤ b.log.state.next) → HasRousedNext true t u a b
 next_set t u a b orderly grows stage set = record {
   kept = λ is. stage.of_stage MAIN;

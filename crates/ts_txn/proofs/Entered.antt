@@ -62,6 +62,7 @@ first_works : {P : Type 0} (c : ChainState P) (ps : List P) → c ≡ record { f
 first_works c ps is j work =
     fresh-first false [] ps j (subst (λ (k : ChainState _). HasWork k.given k.first k.stages (j + 1)) is work)
 
+-- what passes a body on is fresh where its chain was just made
 pub fresh_relay : {P : Type 0} (rest : P → List ℕ → List ℕ) (setup : Setup) (q : RequestHead) (h : ResponseHead) (d : DrivenChain P) (place : Place) (ps : List P) (framing : Framing)
     → (d.table.items ≡ []) × (d.running ≡ false) → d.chain ≡ record { first = []; stages = map fresh_stage ps; given = false } → ((z : List ℕ) → flow rest d.chain z ≡ compose rest ps z)
     → ((z : List ℕ) → compose rest ps z ≡ compose_lines (if_body framing (lines_for setup h)) z) → framing ≡ framing_of q h → IsFed framing [] [] place
@@ -90,6 +91,7 @@ begun_spent d now (inr (loss, stopped, is, cause)) lost =
 
 module _ {P : Type 0} (d e : DrivenChain P) (a b : Context) (within : ActsWithin 1 a b) (rest : BeginsBeside e.table.items a b) (driven : OnlyFirstWorks d.chain → IsDrivenWhile FIRST e b.log.state.pending b.roles)
     (first : OnlyFirstWorks d.chain) (begun : HasBegun e b) where
+  -- nothing was lost, or the event numbers were used up, or memory lacked
   pub starts_running : e.lost ≡ None → BeginsChain S.Goes 1 e a b
   starts_running none = record { within = within; made = rest.made.of_stage; driven = driven first; runs = inl (begun_none e b begun none); seated = rest.seated }
 
@@ -133,6 +135,7 @@ module _ {P : Type 0} (a b c : Context) (t : StageContinuation) (grows : Grows a
     ordered = ordered;
   }
 
+  -- the stages run on behind the first step
   runs_on : (step : BodyStep) (d e : DrivenChain P) (f : Context) → c.log.state.next ≤ f.log.state.next → BeginsRunning S.Goes d c → DrivesOn step d e f → (X : Type 0) → OnGoes step X
       → BeginsRunning step e f
   runs_on S.Goes d e f later (inl runs) (inl same) X gets = inl (same ∙ runs)
@@ -239,6 +242,7 @@ module _ (setup : Setup) (refuses : Type 0) where
     by = tt;
   }
 
+  -- the chain got nothing, or its end
   enters_all : {P : Type 0} (rest : P → List ℕ → List ℕ) (v : View) (c d : ChainState P) (place : Place) (state : BodyState) → state_of place.phase ≡ state
       → GetsStart state c d → EntersBody setup refuses rest v c place → RelaysBody setup refuses rest v d place
   enters_all rest v c d place B.Unfinished is gets e = subst (λ (k : ChainState _). RelaysBody setup refuses rest v k place) (sym gets) (record {

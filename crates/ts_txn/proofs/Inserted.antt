@@ -12,11 +12,13 @@ use Rattle.ts_txn.specs.Inserted.{AddsNoMore, AllAddNoMore, HasInserted}
 next_less : (k m n : ℕ) → k + 1 ≤ m → m ≤ n → k + 1 ≤ n
 next_less k m n less more = omega (arith, less, more)
 
+-- what has few has no more than many
 pub inserted_more : (m n : ℕ) (xs ys : List ℕ) → m ≤ n → HasInserted m xs ys → HasInserted n xs ys
 inserted_more m n xs [] more none = none
 inserted_more m n xs (y ∷ ys) more (inl (k, less, rest)) = inl (k, next_less k m n less more, rest)
 inserted_more m n xs (y ∷ ys) more (inr (zs, same, rest)) = inr (zs, same, inserted_more m n zs ys more rest)
 
+-- a list is itself with nothing put in
 pub inserted_none : (xs : List ℕ) → HasInserted 0 xs xs
 inserted_none [] = refl
 inserted_none (x ∷ xs) = inr (xs, refl, inserted_none xs)

@@ -22,10 +22,12 @@ abbrev pub one_if : Bool → ℕ
 one_if true = 1
 one_if false = 0
 
+-- an Again lowers their number by one
 agains_within : (b : Bool) (m n : ℕ) → AgainsFall b (Some m) (Some n) → n + one_if b ≤ m
 agains_within true m n falls = omega (arith, falls)
 agains_within false m n falls = omega (arith, falls)
 
+-- a number that is told stays told
 still_told : (b : Bool) (m : ℕ) → AgainsFall b (Some m) None → ⊥
 still_told true m falls = falls
 still_told false m falls = falls
@@ -67,6 +69,7 @@ second_falls b (Some x) (Some y) None falls = absurd (still_told b y falls)
 second_falls true (Some x) (Some y) (Some y') falls = omega (arith, falls)
 second_falls false (Some x) (Some y) (Some y') falls = omega (arith, falls)
 
+-- without a call no number falls or rises
 pub none_fall : (m : Option ℕ) → AgainsFall false m m
 none_fall None = tt
 none_fall (Some x) = omega arith
@@ -91,6 +94,7 @@ pub passes_less : (ls : List TransformLine) (m n : ℕ) → m ≤ n → passes l
 passes_less [] m n less = less
 passes_less (l ∷ ls) m n less = let rest : passes ls m ≤ passes ls n = passes_less ls m n less in omega (arith, less, rest)
 
+-- what may replace the bytes that are still to come is no longer
 pub replaced_within : (given before after : List ℕ) → MayReplace given before after → length after ≤ length before
 replaced_within [] before after replaced = replaced
 replaced_within (b ∷ bs) before after replaced = omega (arith, ap length replaced)
@@ -102,6 +106,7 @@ pub record Comes (c d : LinkSide) (least : ℕ) : Type 0 where
   pub held : length d.inbox ≡ length c.inbox + more
   pub left : length d.look.left + more ≤ length c.look.left
 
+-- how many bytes a read brings at least
 abbrev pub least_came : Pulled → ℕ
 least_came (L.Some n) = 1
 least_came _ = 0
@@ -110,6 +115,7 @@ came_some : (p : Pulled) (most : ℕ) (more : List ℕ) → Came p most more →
 came_some (L.Some n) most more (len, some, few) = omega (arith, len, some)
 came_some _ most more none = omega arith
 
+-- one read of a side
 pub read_comes : (c d : LinkSide) (p : Pulled) → SideReads true c d p → Comes c d (least_came p)
 read_comes c d p reads =
     let on = reads.pulls in
@@ -123,6 +129,7 @@ read_comes c d p reads =
       left = omega (arith, ahead, moved);
     }
 
+-- what it leaves to be heard, of the origin and of the client
 pub comes_hear : (setup : Setup) (c d : LinkSide) (least : ℕ) → Comes c d least → to_hear setup d + least ≤ to_hear setup c
 comes_hear setup c d least comes =
     let ls = setup.transforms.items in
@@ -148,6 +155,7 @@ still_hear setup c d held left = omega (arith, used_hear setup c d 0 (omega (ari
 
 -- ---- bytes that were written
 
+-- how many bytes a write takes at least
 abbrev pub least_went : Pushed → ℕ
 least_went (V.Some n) = 1
 least_went _ = 0
@@ -160,6 +168,7 @@ went_some (V.Some n) before after (some, within, rest) =
     let len : length after ≡ length before - n = ap length rest ∙ length-drop n before in omega (arith, some, within, len)
 went_some _ before after went = omega (arith, same_length before after went.1)
 
+-- a write leaves what is to be heard
 pub write_hear : (setup : Setup) (c d : LinkSide) (p : Pushed) → SideWrites true c d p → to_hear setup d ≤ to_hear setup c
 write_hear setup c d p writes =
     still_hear setup c d (same_length c.inbox d.inbox writes.inbox)

@@ -45,12 +45,14 @@ SomeCalm setup v w = (b : Bool) × Calm setup b v w
 same_side : (setup : Setup) (v w : View) → w ≡ v → SomeCalm setup v w
 same_side setup v w same = (false, stays_calm setup v w same)
 
+-- a call that left its side left all
 same_client : (v w : View) → w ≡ record v { client = w.client } → w.client ≡ v.client → w ≡ v
 same_client v w others same = subst (λ (s : LinkSide). w ≡ record v { client = s }) same others
 
 same_origin : (v w : View) → w ≡ record v { origin = w.origin } → w.origin ≡ v.origin → w ≡ v
 same_origin v w others same = subst (λ (s : LinkSide). w ≡ record v { origin = s }) same others
 
+-- whatever was found of a head, one count fell or none did
 request_calm : (setup : Setup) (v w : View) (found : Found RequestHead) → HearsRequest true v w found → SomeCalm setup v w
 request_calm setup v w (F.Head head) hears = (false, head_calm setup v w head hears)
 request_calm setup v w F.Never hears = same_side setup v w (same_client v w hears.others hears.finds.1)
@@ -63,6 +65,7 @@ response_calm setup v w F.Never hears = same_side setup v w (same_origin v w hea
 response_calm setup v w (F.Read p) hears = (pull_again p, hears_calm setup v w p hears)
 response_calm setup v w F.NoMemory hears = same_side setup v w (same_origin v w hears.others hears.finds)
 
+-- and the origin took nothing
 response_taken : (v w : View) (found : Found ResponseHead) → HearsResponse true v w found → w.origin.look.taken ≡ v.origin.look.taken
 response_taken v w (F.Head head) hears = ap (λ (s : LinkSide). s.look.taken) hears.finds.2
 response_taken v w F.Never hears = ap (λ (s : LinkSide). s.look.taken) hears.finds.1
@@ -75,6 +78,7 @@ module _ (ct ot : Bool) (setup : Setup) (v w : View) (u u' : Option ℕ) (rose :
   rose_client : (found : Found RequestHead) → HearsRequest true v w found → Rose8 u u' 0
   rose_client found hears = rose_none v w u u' (ap (λ (x : View). x.origin.look.taken) hears.others) rose
 
+  -- each answer of the client's link, and what the check says of a head
   pub asks_some : (n : ℕ) → HearsRequest ct v w (F.Read (L.Some n)) → IfTold ct ot (StepLowers setup P.ReadRequest u u' v w (record { phase = P.ReadRequest; next = N.Go }))
   asks_some n hears told also =
       let h = subst (λ (b : Bool). HearsRequest b v w (F.Read (L.Some n))) told hears in
@@ -118,6 +122,7 @@ module _ (ct ot : Bool) (setup : Setup) (v w : View) (u u' : Option ℕ) (rose :
   rose_origin : (found : Found ResponseHead) → HearsResponse true v w found → Rose8 u u' 0
   rose_origin found hears = rose_none v w u u' (response_taken v w found hears) rose
 
+  -- each answer of the origin's link, and what the head is
   pub hears_some : (q : Request) (n : ℕ) → HearsResponse ot v w (F.Read (L.Some n))
       → IfTold ct ot (StepLowers setup (P.ReadResponse q) u u' v w (record { phase = P.ReadResponse q; next = N.Go }))
   hears_some q n hears told also =
@@ -158,6 +163,7 @@ module _ (ct ot : Bool) (setup : Setup) (v w : View) (u u' : Option ℕ) (rose :
 
   -- ---- the request is written
 
+  -- each answer of the origin's link
   pub writes_some : (q : Request) (n : ℕ) → WritesOrigin ot v w (V.Some n)
       → IfTold ct ot (StepLowers setup (P.SendRequest q) u u' v w (record { phase = P.SendRequest q; next = N.Go }))
   writes_some q n writes told also =
@@ -187,6 +193,7 @@ module _ (ct ot : Bool) (setup : Setup) (v w : View) (u u' : Option ℕ) (rose :
   rose_sent : (p : Pushed) → WritesClient true v w p → Rose8 u u' 0
   rose_sent p writes = rose_none v w u u' (ap (λ (x : View). x.origin.look.taken) writes.others) rose
 
+  -- each answer of the client's link
   pub sends_some : (a : OwnAnswer) (n : ℕ) → WritesClient ct v w (V.Some n)
       → IfTold ct ot (StepLowers setup (P.Sending a) u u' v w (record { phase = P.Sending a; next = N.Go }))
   sends_some a n writes told also =

@@ -31,6 +31,7 @@ passes_sum : (ls : List TransformLine) (m n : ℕ) → passes ls (m + n) ≡ pas
 passes_sum [] m n = refl
 passes_sum (l ∷ ls) m n = let rest : passes ls (m + n) ≡ passes ls m + passes ls n = passes_sum ls m n in omega (arith, rest)
 
+-- bytes pass one boundary at least
 passes_least : (ls : List TransformLine) (n : ℕ) → n ≤ passes ls n
 passes_least [] n = omega arith
 passes_least (l ∷ ls) n = omega arith
@@ -48,6 +49,7 @@ queues_same v w text cuts queues =
     (subst (λ (s : LinkSide). AgainsFall false (agains_left v) (both s.look.agains v.origin.look.agains)) (sym queues.client) (none_fall (agains_left v)))
 
 module _ {P : Type 0} (setup : Setup) (rest : P → List ℕ → List ℕ) (errors : ℕ) where
+  -- where the sums fall, what is left of a body falls
   body_falls : (b : Bool) (v w : View) (c d : ChainState P) → AgainsFall b (agains_left v) (agains_left w)
       → ((x x' : ℕ) → x' + one_if b ≤ x → body_work setup rest errors x' w d < body_work setup rest errors x v c)
       → Fewer (body_left setup rest errors v c) (body_left setup rest errors w d)

@@ -60,6 +60,7 @@ ended_step : (next : Next) (m m' upload : Option ℕ) (f : ℕ → ℕ → ℕ) 
 ended_step N.Done m m' upload f kept = ended_no_more m m' upload f kept
 ended_step _ m m' upload f fell = ended_if m m' upload f fell
 
+-- fewer, and then no more, is fewer
 fewer_then : (m n k : Option ℕ) → Fewer m n → NoMore n k → Fewer m k
 fewer_then None n k fell kept = tt
 fewer_then (Some x) None k fell kept = absurd fell
@@ -79,6 +80,7 @@ module _ {Q : Type 0} (setup : Setup) (rest : Q → List ℕ → List ℕ) where
   course_after_left S.Goes r w upload = refl
   course_after_left _ r w upload = refl
 
+  -- so it is behind a step of a body
   after_ended : (step : BodyStep) (r : Relay Q) (w : View) (before mid now : List Pending) (m : Option ℕ) (more : ℕ) → Falls (number_left before m) more (number_left mid (left_after setup rest step w r))
       → length now ≤ length mid + more → Falls (number_left before m) 0 (number_left now (ended_left w))
   after_ended S.Goes r w before mid now m more paid few = paid_end before mid now m (agains_left w) (Some 0) _ more paid few
@@ -144,6 +146,7 @@ module _ {Q : Type 0} (setup : Setup) (rest : Q → List ℕ → List ℕ) where
   finish_after_left end S.Goes w upload = refl
   finish_after_left end _ w upload = refl
 
+  -- and behind one of the last writes
   rest_ended : (step : BodyStep) (m : Option ℕ) (w : View) → Fewer m (rest_after step w) → Fewer m (ended_left w)
   rest_ended (S.Closes end) m w fell = ended_if m (agains_left w) (Some 0) (λ x y. 1) fell
   rest_ended S.Lacks m w fell = fell

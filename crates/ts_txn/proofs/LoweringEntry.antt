@@ -106,6 +106,7 @@ module _ {P : Type 0} (setup : Setup) (rest : P → List ℕ → List ℕ) (paus
       room_sum : (left passed stages parts room : ℕ) → left ≡ passed → stages ≡ parts → passed + parts ≤ room → left + stages ≤ room
       room_sum left passed stages parts room same len fits = omega (arith, same, len, fits)
 
+-- no lines at all are less than any
 none_less : (ls : List TransformLine) → IsLess ls []
 none_less [] = record { text = omega arith; passed = λ n. omega arith }
 none_less (l ∷ ls) = let less = none_less ls in record {
@@ -131,6 +132,7 @@ fresh_has_room setup rest pause line_pause F.Nothing p ps c of made = less_has_r
 fresh_has_room setup rest pause line_pause _ p ps c of made =
     less_has_room setup rest pause line_pause (filter p setup.transforms.items) ps c (filter_less p setup.transforms.items) (filter_few p setup.transforms.items) of made
 
+-- so it is for the parts that were made for a response
 pub parts_have_room : {P : Type 0} (setup : Setup) (rest : P → List ℕ → List ℕ) (pause : P → ℕ) (line_pause : TransformLine → ℕ) (q : RequestHead) (h : ResponseHead) (c : ChainState P)
     → IsOfParts rest pause line_pause (body_lines setup q h) c → HasRoom setup rest c
 parts_have_room setup rest pause line_pause q h c of = fresh_has_room setup rest pause line_pause (framing_of q h) (acts_on h.status h.fields) of.parts c of.of_lines of.chain
@@ -141,6 +143,7 @@ end_within : (b : Bool) → to_end b ≤ 1
 end_within true = omega arith
 end_within false = omega arith
 
+-- the sum of the step
 enter_next : (i x x' out out' text own head chain work errors hear hear' given : ℕ) → x' + i ≤ x → out' ≡ out + text → text ≤ head → work + errors ≤ chain → hear' ≡ hear → given ≤ 1
     → end_room + (x' + out') + hear' + pump_weight * (work + errors) + given < 6 + (x + out + (own + (head + end_room) + pump_weight * chain) + hear)
 enter_next i x x' out out' text own head chain work errors hear hear' given again len fits room heard few = omega (arith, again, len, fits, room, heard, few)
@@ -189,6 +192,7 @@ errors_within (t ∷ ts) = let here = one_at_most (may_pass_error t) (errors_to_
     one_at_most true e n less = omega (arith, less)
     one_at_most false e n less = omega (arith, less)
 
+-- errors count while the chain runs
 counted_within : (b : Bool) (e n : ℕ) → (b ≡ true → e ≤ n) → (if b then e else 0) ≤ n
 counted_within true e n less = less refl
 counted_within false e n less = omega arith
@@ -204,6 +208,7 @@ no_more_errors setup rest n n' v c d same fewer ends = by_told (agains_left v)
         less : (a l l' g g' : ℕ) → l' ≡ l → n' ≤ n → g' ≤ g → a + pump_weight * (l' + n') + g' ≤ a + pump_weight * (l + n) + g
         less a l l' g g' same fewer ends = omega (arith, same, fewer, ends)
 
+-- what goes on can end at once, with no more left
 pub ended_no_more : (m m' upload : Option ℕ) (f : ℕ → ℕ → ℕ) → NoMore m (if_told m' upload f) → NoMore m (if_told m' (Some 0) (λ x y. 0))
 ended_no_more None m' upload f kept = tt
 ended_no_more (Some x) None upload f kept = absurd kept
@@ -219,6 +224,7 @@ module _ {B : Type 0} (setup : Setup) (rest : B → List ℕ → List ℕ) (v : 
     falls = ended_no_more (unbegun_left setup rest v r) (agains_left v) (Some 0) (λ x y. body_work setup rest (length r.driven.chain.stages) x v r.driven.chain) (no_more_same (unbegun_left setup rest v r));
   }
 
+  -- what the chain gets at its start gives it no more to do
   started : (state : BodyState) (c d : ChainState B) → GetsStart state c d → (d.stages ≡ c.stages) × (left_to_do rest d [] ≡ left_to_do rest c []) × (to_end d.given ≤ to_end c.given)
   started state.Unfinished c d gets =
       (ap (λ (x : ChainState B). x.stages) gets, ap (λ (x : ChainState B). left_to_do rest x []) gets, le_of_eq (ap (λ (x : ChainState B). to_end x.given) gets))
@@ -260,6 +266,7 @@ module _ {B : Type 0} (setup : Setup) (rest : B → List ℕ → List ℕ) (v : 
   begins_settled S.Lacks result r m s lower on settled is = subst (λ (x : BodyStep). BeginsLower setup rest x v r s) (sym settled) (lacks_begun r s)
   begins_settled _ result r m s lower on settled is = absurd on
 
+  -- a body that began goes on, or memory lacked
   pub begun_goes : (step : BodyStep) (s : Relay B) (a b : Context) → BeginsRelay step s a b → OnGoes step ⊤
   begun_goes S.Goes s a b begins = tt
   begun_goes S.Lacks s a b begins = tt

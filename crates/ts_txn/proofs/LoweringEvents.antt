@@ -24,6 +24,7 @@ use Rattle.ts_txn.specs.declared.phase.Next.TheVariants as N
 fewer_without : (n : ℕ) (ps : List Pending) (p : Pending) → pending_at n ps ≡ Some p → length (without n ps) ≤ length ps
 fewer_without n ps p there = omega (arith, length_without n ps p there)
 
+-- no entry of a handler's own sets one then
 spent_own : (s : State) (es : List Entry) → AllOwn es → IsLawful s es → GREATEST ≤ s.next → length (replay s es).pending ≤ length s.pending
 spent_own s [] own lawful spent = omega arith
 spent_own s (Made key ∷ es) own lawful spent = spent_own (after s (Made key)) es own.1 lawful.1 spent

@@ -30,6 +30,7 @@ use Rattle.ts_txn.specs.Lowering.{frame_room, head_room, line_room, plugin_lengt
 
 -- ---- lists
 
+-- a front is no longer
 pub front_within : (n : ℕ) (xs : List ℕ) → length (take n xs) ≤ length xs
 front_within n xs = omega (arith, length-take n xs)
 
@@ -65,10 +66,12 @@ record AddsLine (more : ℕ) (fs gs : List Field) : Type 0 where
   text : length (fields_text gs) ≤ length (fields_text fs) + more
   count : length gs ≤ length fs + 1
 
+-- a line is as long as its name and its value, and four bytes more
 one_line : (name : List ℕ) (f : Field) → f.name ≡ name → length (fields_text (f ∷ [])) ≡ length name + length f.value.bytes + 4
 one_line name f is =
     omega (arith, ap length is, length-append (field_text f) [], length-append (f.name ++ codes ": " ++ f.value.bytes) crlf_bytes, length-append (f.name ++ codes ": ") f.value.bytes, length-append f.name (codes ": "))
 
+-- a rule adds no more than it says, and a line of the other side adds nothing
 rule_adds : (rule : Rule) (fs : List Field) → AddsLine (rule_length rule) fs (apply_rule rule fs)
 rule_adds (Set name value) fs =
     let f : Field = record { name = name; value = value } in
@@ -109,6 +112,7 @@ ruled_adds side (l ∷ ls) fs =
 host_line : (host : List ℕ) → length (host_text host) ≡ length host + 8
 host_line host = omega (arith, length-append (codes "host: " ++ host) crlf_bytes, length-append (codes "host: ") host)
 
+-- a line of Host takes no more room than one of its own
 field_or_host : (b : Bool) (host : List ℕ) (f : Field) → length host ≤ head_limit → length (cond b (host_text host) (field_text f)) ≤ length (field_text f) + line_room
 field_or_host true host f fits = omega (arith, fits, host_line host)
 field_or_host false host f fits = omega arith
@@ -126,6 +130,7 @@ request_fields absolute host (f ∷ fs) fits =
       length-append (field_text f) (fields_text fs),
     )
 
+-- a Host line that was missing has one line's room
 missing_within : (b : Bool) (host : List ℕ) → length host ≤ head_limit → length (cond b [] (host_text host)) ≤ line_room
 missing_within true host fits = omega arith
 missing_within false host fits = omega (arith, fits, host_line host)
@@ -136,6 +141,7 @@ via_within false = omega arith
 
 -- ---- the head that was read
 
+-- blanks that are skipped or trimmed make nothing longer
 skip_shorter : (xs : List ℕ) → length (skip_ows xs) ≤ length xs
 skip_shorter [] = omega arith
 skip_shorter (b ∷ bs) = by_test (is_ows b) (skip_shorter bs)
@@ -153,6 +159,7 @@ trim_shorter xs =
 value_short : (f : grammar.Field) → length (trim_ows (trim_ows f.raw)) ≤ length (print_field f)
 value_short f = omega (arith, trim_shorter (trim_ows f.raw), trim_shorter f.raw, length-append (f.name ++ 58 ∷ f.raw) (print_end f.end), length-append f.name (58 ∷ f.raw))
 
+-- nor is the first value that is found, or none, longer than all the lines
 first_short : (p : Field → Bool) (fs : List grammar.Field) → length (value_or_empty (find p (map kept_field fs))) ≤ length (flat_map print_field fs)
 first_short p [] = omega arith
 first_short p (f ∷ fs) = by_test (p (kept_field f)) (first_short p fs)
@@ -181,6 +188,7 @@ parts_in a m t v e s =
       section = omega (arith, last, line, version, aim, first);
     }
 
+-- those of a request
 request_in : (h : grammar.RequestHead) → IsIn h.method h.target (print_section h.fields h.last) (length (print_request h))
 unfolding print_request
 request_in h = parts_in (print_blank h.blank) h.method h.target (print_version h.minor) (print_end h.line_end) (print_section h.fields h.last)
@@ -190,6 +198,7 @@ request_in h = parts_in (print_blank h.blank) h.method h.target (print_version h
 abbrev Parts : Type 0
 Parts = List ℕ × List ℕ
 
+-- answers that are the same have the same parts, and none is a refusal with parts
 err_ok : (status : ℕ) (p : Parts) → ◌≡◌ {A = Result Parts ℕ} (Err status) (Ok p) → ⊥
 err_ok status p same = cc
 
@@ -202,10 +211,12 @@ ok_parts p q same = cc
 some_parts : (p q : Parts) → ◌≡◌ {A = Option Parts} (Some p) (Some q) → p ≡ q
 some_parts p q same = cc
 
+-- what is not refused has the parts that were found
 unrefused : (r : Option ℕ) (p q : Parts) → unless_refused r q ≡ Ok p → q ≡ p
 unrefused None p q same = ok_parts q p same
 unrefused (Some status) p q same = absurd (err_ok status p same)
 
+-- so has what passes the check
 opened : (c w : Bool) (o : Option Parts) (fields : List Field) (p : Parts) → cond c (Err 501) (cond w (Err 400) (with_parts o fields)) ≡ Ok p → o ≡ Some p
 opened true w o fields p same = absurd (err_ok 501 p same)
 opened false true o fields p same = absurd (err_ok 400 p same)
@@ -220,6 +231,7 @@ record AreShort (limit : ℕ) (target host : List ℕ) : Type 0 where
 short_as : (limit : ℕ) (p q : Parts) → p ≡ q → AreShort limit p.0 p.1 → AreShort limit q.0 q.1
 short_as limit p q same short = subst (λ (x : Parts). AreShort limit x.0 x.1) same short
 
+-- an empty path is sent as one byte
 star_or_slash : (b : Bool) → length (cond b (codes "*") (codes "/")) ≤ 1
 star_or_slash true = omega arith
 star_or_slash false = omega arith
@@ -232,6 +244,7 @@ sent_short : (method xs : List ℕ) → length (sent_after method xs) ≤ length
 sent_short method [] = omega (arith, star_or_slash (bytes_eq method (codes "OPTIONS")))
 sent_short method (b ∷ bs) = with_slash (b == question_mark) b bs
 
+-- by the form of the target: an absolute one, a path, a star, or none of them
 by_absolute : (c : Bool) (limit : ℕ) (method xs : List ℕ) (p : Parts) → length xs ≤ limit
     → cond c None (Some (sent_after method (after_authority xs), authority xs)) ≡ Some p → AreShort limit p.0 p.1
 by_absolute true limit method xs p fits same = absurd (none_some p same)
@@ -253,6 +266,7 @@ by_form false false true limit method target first p fits also same =
     by_absolute ((length (authority xs) == 0) || list_any is_at_sign (authority xs)) limit method xs p (omega (arith, fits, length-drop scheme_len target)) same
 by_form false false false limit method target first p fits also same = absurd (none_some p same)
 
+-- so the target and the host of a head that passes the check are short
 checked_short : (limit : ℕ) (head : RequestHead) (target host : List ℕ) → length head.target ≤ limit → length (host_named head.fields) ≤ limit → check head ≡ Ok (target, host)
     → AreShort limit target host
 checked_short limit head target host fits also passes =
@@ -282,12 +296,14 @@ room_sum : (m t x f v sent fields lines more : ℕ) → m ≤ head_limit → t �
     → m + t + x + f + v + 33 ≤ frame_room + (field_limit + lines + 1) * line_room + more
 room_sum m t x f v sent fields lines more a b c d e g h = omega (arith, a, b, c, d, e, g, h)
 
+-- fewer lines ask for no more room
 times_less : (n m : ℕ) → n ≤ m → n * line_room ≤ m * line_room
 times_less n m less = omega (arith, less)
 
 ruled_room : (f text sent more count fields lines : ℕ) → f ≤ text + count * line_room → text ≤ sent + more → count ≤ fields + lines → f ≤ sent + more + (fields + lines) * line_room
 ruled_room f text sent more count fields lines a b c = omega (arith, a, b, times_less count (fields + lines) c)
 
+-- What the origin gets of a request that passed the check has room.
 pub request_fits : (setup : Setup) (bytes rest : List ℕ) (head : RequestHead) (target host : List ℕ) → HasRequest bytes head rest → check head ≡ Ok (target, host)
     → length (request_text setup head target host) ≤ head_room setup
 request_fits setup bytes rest head target host reads passes =

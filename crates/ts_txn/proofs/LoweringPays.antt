@@ -43,6 +43,7 @@ pub set_one : (step : BodyStep) → set_leaving step ≤ 1
 set_one S.Goes = omega arith
 set_one _ = omega arith
 
+-- two events of a step, two of the ends, and one where the body is left are paid
 four_and_one : (p q n m : ℕ) → q ≤ p + 2 → n ≤ q + 2 → m ≤ 1 → n + m ≤ p + events_paid
 four_and_one p q n m first second more = omega (arith, first, second, more)
 
@@ -134,6 +135,7 @@ stage_rests p p2 x out hear work work' given less none = omega (arith, less, non
 
 module _ {P : Type 0} (ct ot : Bool) (setup : Setup) (rest : P → List ℕ → List ℕ) (step result : BodyStep) (v : View) (main u : Option StageContinuation)
     (r m s : Relay P) (a c b : Context) where
+  -- `r` is the body before its event, `m` once a stage worked, and `s` once it is settled
   pub stage_pays : OnGoes step ⊤ → StaysOfLines setup rest r m → m ≡ record r { driven = m.driven } → m.driven.chain.given ≡ r.driven.chain.given
       → left_to_do rest m.driven.chain [] ≤ left_to_do rest r.driven.chain [] → errors_to_pass m.driven.table.items ≤ errors_to_pass r.driven.table.items → (m.driven.running ≡ true → r.driven.running ≡ true)
       → StageDid rest r.driven.chain m.driven.chain r.driven.table.items m.driven.table.items a c → ActsWithin 4 a c
@@ -257,6 +259,7 @@ module _ {P : Type 0} (ct ot : Bool) (setup : Setup) (rest : P → List ℕ → 
 
 module _ {P : Type 0} (ct ot : Bool) (setup : Setup) (rest : P → List ℕ → List ℕ) (pause : P → ℕ) (role : ℕ) (event : Event) (answer : Result ⊤ SetFault) (result : BodyStep) (v : View)
     (main u : Option StageContinuation) (r s : Relay P) (e : DrivenChain P) (a c b : Context) where
+  -- a stage's event, or one of nobody, passes on no more errors
   driven_errors : ((at : ℕ) → role ≡ FIRST + at → IsStage r.driven.chain r.driven.table.items at → Acts rest pause at event r.driven e a c) → (IsOfNoStage FIRST role r.driven → e ≡ r.driven)
       → errors_to_pass e.table.items ≤ errors_to_pass r.driven.table.items
   driven_errors acts other = by_stage (stage_at role r.driven.chain r.driven.table.items)
@@ -266,6 +269,7 @@ module _ {P : Type 0} (ct ot : Bool) (setup : Setup) (rest : P → List ℕ → 
       by_stage (inl (at, is, stage)) = errors_fall rest pause at r.driven.chain e.chain r.driven.table.items _ e.table.items r.driven.running e.running a c event (acts at is stage)
       by_stage (inr none) = le_of_eq (ap (λ (x : DrivenChain P). errors_to_pass x.table.items) (other none))
 
+  -- nor has the chain more to do
   chain_less : (l l' : ℕ) (c d : ChainState P) → l' ≡ left_to_do rest d [] → l ≡ left_to_do rest c [] → WorksOrStays rest c d → l' ≤ l
   chain_less l l' c d is was (inl same) = let left : left_to_do rest d [] ≡ left_to_do rest c [] = ap (λ (x : ChainState P). left_to_do rest x []) same in omega (arith, is, was, left)
   chain_less l l' c d is was (inr less) = omega (arith, is, was, less)

@@ -63,6 +63,7 @@ fewer_errors setup rest n n' (Some x) w d less fell = by_told (agains_left w) fe
         work_less : (x a b c : ℕ) → n ≤ n' → a + pump_weight * (b + n') + c < x → a + pump_weight * (b + n) + c < x
         work_less x a b c less fell = omega (arith, less, fell)
 
+-- a chain that runs behind a call ran before it
 pub loses_runs : {P : Type 0} (answer : Result ⊤ SetFault) (d e : DrivenChain P) (a b : Context) → Loses answer d e a b → e.running ≡ true → d.running ≡ true
 loses_runs (Ok x) d e a b loses runs = sym loses.0 ∙ runs
 loses_runs (Err fault) d e a b loses runs = absurd (false≢true (sym loses.0 ∙ runs))
@@ -108,6 +109,7 @@ drains_again : (v w : View) → DrainsOrigin v w → AgainsFall false (agains_le
 drains_again v w drains = subst (λ (x : View). AgainsFall false (agains_left v) (agains_left x)) (sym drains) (none_fall (agains_left v))
 
 module _ {P : Type 0} (ct ot : Bool) (must : Type 0) (setup : Setup) (rest : P → List ℕ → List ℕ) where
+  -- a step that leaves less lowers what is left
   pub lowers_by : (step : BodyStep) (v w : View) (r s : Relay P) (a b : Context) → s.reader ≡ r.reader → WhileGoes step (StaysOfLines setup rest r s)
       → (ct ≡ true → ot ≡ true → IsOfLines setup rest r.driven.chain → Fewer (relay_left setup rest v r) (left_after setup rest step w s)) → LowersBody ct ot must setup rest step v w r s a b
   lowers_by step v w r s a b reader lines fell = record { reader = reader; lines = lines; falls = λ told also of. inl (fell told also of) }
@@ -185,11 +187,13 @@ module _ {P : Type 0} (ct ot : Bool) (must : Type 0) (setup : Setup) (rest : P �
     abbrev pub SameTable : Type 0
     SameTable = (all_unroused s.driven.table.items ≡ all_unroused r.driven.table.items) × (s.driven.running ≡ true → r.driven.running ≡ true)
 
+    -- the chain is of the lines wherever a call leads
     lines_after : (answer : Result ⊤ SetFault) → StaysOfLines setup rest r s → WhileGoes (step_after answer) (StaysOfLines setup rest r s)
     lines_after (Err F.NoMemory) lines = tt
     lines_after (Err F.Dead) lines = tt
     lines_after _ lines = lines
 
+    -- no more errors count than did
     with_table : SameTable → (m : Option ℕ) → Fewer m (body_left setup rest (errors_left r.driven) w s.driven.chain) → Fewer m (relay_left setup rest w s)
     with_table same m fell = fewer_errors setup rest (errors_left s.driven) (errors_left r.driven) m w s.driven.chain
         (errors_fewer s.driven.running r.driven.running (errors_to_pass s.driven.table.items) (errors_to_pass r.driven.table.items)
@@ -222,6 +226,7 @@ module _ {P : Type 0} (ct ot : Bool) (must : Type 0) (setup : Setup) (rest : P �
     given_first B.Bad part good gets = absurd (good refl)
     given_first _ part good gets = (ap (λ (c : ChainState P). c.first) gets, ap (λ (c : ChainState P). c.stages) gets)
 
+    -- the end that comes with a part, or is still to come
     unfinished_less : (piece : ℕ) (c d : Bool) → c ≡ false → d ≡ c → 0 < piece → to_end d + 1 ≤ to_end c + piece
     unfinished_less piece c d going same some = omega (arith, ap to_end same, some)
 

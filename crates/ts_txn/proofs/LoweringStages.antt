@@ -30,6 +30,7 @@ stage_same {P} s s' part behind =
 stages_same : {P : Type 0} (s s' : Stage P) (ss ss' : List (Stage P)) → s' ≡ s → ss' ≡ ss → ◌≡◌ {A = List (Stage P)} (s' ∷ ss') (s ∷ ss)
 stages_same {P} s s' ss ss' one others = ap (λ (x : Stage P). x ∷ ss') one ∙ ap (λ (xs : List (Stage P)). s ∷ xs) others
 
+-- a step that leaves its stage leaves the chain
 stepped_rests : {P : Type 0} (rest : P → List ℕ → List ℕ) (r : Pumped) → ((s s' : Stage P) (from from' : List ℕ) → Steps rest from s r from' s' → (from' ≡ from) × (s' ≡ s))
     → (from : List ℕ) (ss : List (Stage P)) (at : ℕ) (from' : List ℕ) (ss' : List (Stage P)) → StepsAt rest from ss at r from' ss' → (from' ≡ from) × (ss' ≡ ss)
 stepped_rests rest r still from [] at from' ss' steps = absurd steps
@@ -51,6 +52,7 @@ chain_same {P} c d first stages given =
     ∙ ap (λ (ss : List (Stage P)). record { first = c.first; stages = ss; given = d.given }) stages
     ∙ ap (λ (g : Bool). record { first = c.first; stages = c.stages; given = g }) given
 
+-- what fell, fell by one at least
 one_less : (a b n : ℕ) → a + n ≡ b → 1 ≤ n → a + 1 ≤ b
 one_less a b n sum some = omega (arith, sum, some)
 
@@ -58,6 +60,7 @@ module _ {P : Type 0} (rest : P → List ℕ → List ℕ) (c d : ChainState P) 
   abbrev pub WorksOrStays : Type 0
   WorksOrStays = (d ≡ c) ⊎ (left_to_do rest d [] + 1 ≤ left_to_do rest c [])
 
+  -- each answer of a stage's work
   pumped_works : (at : ℕ) (r : Pumped) → AnswersAt c.given c.first c.stages at r → StepsAt rest c.first c.stages at r d.first d.stages → d.given ≡ c.given → WorksOrStays
   pumped_works at (Moved n) answers steps given =
       inr (one_less (left_to_do rest d []) (left_to_do rest c []) n (stepped-less rest c.given c.first c.stages at (Moved n) d.first d.stages answers steps [] (nothing_more c.given))

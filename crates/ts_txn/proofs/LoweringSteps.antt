@@ -62,10 +62,12 @@ IsEarly (P.Ended end) = ⊥
 IsEarly _ = ⊤
 
 module _ (setup : Setup) where
+  -- an answer of the proxy's own has room among all of them
   own_within : (s : OwnStatus) → own_length setup s ≤ answer_room setup
   own_within s = at_first (own_length setup s) (own_room setup) (head_room setup + end_room) (pump_weight * chain_room setup) (one_of (own_length setup) s)
 
   module _ (x y : ℕ) (v : View) where
+    -- what so many bytes that are to be written weigh, behind those that wait
     abbrev long : ℕ → ℕ
     long n = written_weight * (length v.origin.outbox + n)
 
@@ -91,6 +93,7 @@ module _ (setup : Setup) where
     pub out : length w.client.outbox ≤ length v.client.outbox
     pub hear : to_hear setup w.origin ≤ to_hear setup v.origin
 
+  -- where nothing moved, or a call moved one side
   pub stays_calm : (v w : View) → w ≡ v → Calm false v w
   stays_calm v w same = subst (λ (x : View). Calm false v x) (sym same)
       (record { again = none_fall (agains_left v); out = le_refl (length v.client.outbox); hear = le_refl (to_hear setup v.origin) })
@@ -108,6 +111,7 @@ module _ (setup : Setup) where
   -- ---- where a step leads that raised nothing
 
   module _ (b : Bool) (k : ℕ) (v w : View) (u u' : Option ℕ) (calm : Calm b v w) (rose : Rose8 u u' k) where
+    -- where the sums of two phases fall, what is left falls
     pub work_falls : (p p' : Phase) → Rose8 (upload_in u p) (upload_in u' p') k → ((x x' y y' : ℕ) → x' + one_if b ≤ x → y' ≤ y + 8 * k → phase_work setup x' y' w p' < phase_work setup x y v p)
         → Fewer (work_left setup u v p) (work_left setup u' w p')
     work_falls p p' risen falls = told_fewer (λ x y. phase_work setup x y v p) (λ x y. phase_work setup x y w p') b k (agains_left v) (agains_left w) (upload_in u p) (upload_in u' p') calm.again risen falls
@@ -146,6 +150,7 @@ module _ (setup : Setup) where
     upload_next : (r s i x x' out out' room hear hear' y : ℕ) → s < r → x' + i ≤ x → out' ≤ out → hear' ≤ hear → s + (x' + out' + room + hear') < r + (x + out + room + hear) + y
     upload_next r s i x x' out out' room hear hear' y ranks again less heard = omega (arith, ranks, again, less, heard)
 
+    -- the phases from the upload to the head that is passed on
     pub upload_done : (q : Request) → Fewer (work_left setup u v (P.Upload q)) (work_left setup u' w (P.ReadResponse q))
     upload_done q = work_falls (P.Upload q) (P.ReadResponse q) (none_left u k) (λ x x' y y' again upload.
         upload_next 9 8 (one_if b) x x' (length v.client.outbox) (length w.client.outbox) (answer_room setup) (to_hear setup v.origin) (to_hear setup w.origin) y
@@ -164,6 +169,7 @@ module _ (setup : Setup) where
   -- ---- the phases in which nothing moves
 
   module _ (v : View) (u : Option ℕ) where
+    -- where nothing moved, a phase with less ahead has less left
     same_less : (p p' : Phase) → Rose8 (upload_in u p) (upload_in u p') 0 → ((x x' y y' : ℕ) → x' + one_if false ≤ x → y' ≤ y + 8 * 0 → phase_work setup x' y' v p' < phase_work setup x y v p)
         → Fewer (work_left setup u v p) (work_left setup u v p')
     same_less p p' risen falls = work_falls false 0 v v u u (stays_calm v v refl) (none_rise u) p p' risen falls
@@ -176,6 +182,7 @@ module _ (setup : Setup) where
         → s + (x' + out + room + hear + y' + z) < r + (x + out + room + hear + y + z)
     text_next r s i x x' out room hear y y' z ranks again upload = omega (arith, ranks, again, upload)
 
+    -- the phases before the request is sent
     pub begins : Fewer (work_left setup u v P.Fresh) (work_left setup u v P.TxnStart)
     begins = same_less P.Fresh P.TxnStart (none_rise u) (λ x x' y y' again upload.
         ask_next 16 15 (one_if false) x x' (length v.client.outbox) (answer_room setup) (to_hear setup v.origin) y y'
@@ -213,9 +220,11 @@ module _ (setup : Setup) where
   asked_next i x x' out out' room hear hear' y y' z z' t again upload less heard long = omega (arith, again, upload, less, heard, long)
 
   module _ (v w : View) where
+    -- a read of the client leaves what waits for the origin
     unsent : w ≡ record v { client = w.client } → length w.origin.outbox ≤ length v.origin.outbox
     unsent same = same_length v.origin.outbox w.origin.outbox (ap (λ (x : View). x.origin.outbox) same)
 
+    -- nor does it raise anything, with or without a head
     pub asks_calm : (p : Pulled) → HearsRequest true v w (F.Read p) → Calm (pull_again p) v w
     asks_calm p hears = client_calm (pull_again p) v w w.client hears.others hears.finds.1.pulls.pulls.calls.agains
         (same_length v.client.outbox w.client.outbox hears.finds.1.outbox)
@@ -262,6 +271,7 @@ module _ (setup : Setup) where
       → 10 + (x' + out' + room + hear' + y' + z') < 11 + (x + out + room + hear + y + z)
   queue_next i x x' out out' room hear hear' y y' z z' again upload less heard long = omega (arith, again, upload, less, heard, long)
 
+  -- the head of the request is queued
   pub queued : (v w : View) (u u' : Option ℕ) (q : Request) → Rose8 u u' 0 → QueuesRequest (request_text setup q.head q.target q.host) v w
       → Fewer (work_left setup u v (P.SendRequestHdr q)) (work_left setup u' w (P.SendRequest q))
   queued v w u u' q rose queues =
@@ -291,10 +301,12 @@ module _ (setup : Setup) where
       let all : length new + length after ≡ length old + length before = sym (length-append new after) ∙ ap length same ∙ length-append old before in
       omega (arith, all, less)
 
+  -- what is less by some is no more
   pub less_plus : (a b n : ℕ) → a + n ≤ b → a ≤ b
   less_plus a b n less = omega (arith, less)
 
   module _ (v w : View) (u u' : Option ℕ) (rose : Rose8 u u' (taken_since v.origin.look w.origin.look)) (p : Pushed) (writes : WritesOrigin true v w p) where
+    -- a write to the origin raises nothing
     pub write_calm : Calm (push_again p) v w
     write_calm = origin_calm (push_again p) v w w.origin writes.others writes.origin.pushes.calls.agains (write_hear setup v.origin w.origin p writes.origin)
 
@@ -311,11 +323,13 @@ module _ (setup : Setup) where
         write_next (one_if (push_again p)) (least_went p) (taken_since v.origin.look w.origin.look) x x' (length v.client.outbox) (length w.client.outbox) (answer_room setup)
         (to_hear setup v.origin) (to_hear setup w.origin) y y' (length v.origin.outbox) (length w.origin.outbox) again upload write_calm.out write_calm.hear went_all went_least some)
 
+    -- all of it went, and the upload comes next
     pub written : (q : Request) → Fewer (work_left setup u v (P.SendRequest q)) (work_left setup u' w (P.Upload q))
     written q = work_falls (push_again p) (taken_since v.origin.look w.origin.look) v w u u' write_calm rose (P.SendRequest q) (P.Upload q) rose (λ x x' y y' again upload.
         written_next (one_if (push_again p)) (taken_since v.origin.look w.origin.look) x x' (length v.client.outbox) (length w.client.outbox) (answer_room setup)
         (to_hear setup v.origin) (to_hear setup w.origin) y y' (length v.origin.outbox) (length w.origin.outbox) again upload write_calm.out write_calm.hear went_all)
 
+    -- the origin's link failed, and an answer of the proxy's own comes next
     pub write_fails : (q : Request) (a : OwnAnswer) → Fewer (work_left setup u v (P.SendRequest q)) (work_left setup u' w (P.SendResponseHdr a))
     write_fails q a = to_own (push_again p) (taken_since v.origin.look w.origin.look) v w u u' write_calm rose (P.SendRequest q) a tt
 
@@ -326,6 +340,7 @@ module _ (setup : Setup) where
   hears_next i l x x' out out' room hear hear' again less heard some = omega (arith, again, less, heard, some)
 
   module _ (v w : View) where
+    -- a read of the origin raises nothing, whatever it found
     pub reads_calm : (p : Pulled) → w ≡ record v { origin = w.origin } → SideReads true v.origin w.origin p → Calm (pull_again p) v w
     reads_calm p others reads = origin_calm (pull_again p) v w w.origin others reads.pulls.pulls.calls.agains
         (less_plus (to_hear setup w.origin) (to_hear setup v.origin) (least_came p) (comes_hear setup v.origin w.origin (least_came p) (read_comes v.origin w.origin p reads)))
@@ -333,6 +348,7 @@ module _ (setup : Setup) where
     pub hears_calm : (p : Pulled) → HearsResponse true v w (F.Read p) → Calm (pull_again p) v w
     hears_calm p hears = reads_calm p hears.others hears.finds.1
 
+    -- a head that was found is taken away in front
     head_used : (head : ResponseHead) → HearsResponse true v w (F.Head head) → to_hear setup w.origin + 1 ≤ to_hear setup v.origin
     head_used head hears = used_hear setup v.origin w.origin 1 (plus_one (length w.origin.inbox) (length v.origin.inbox) hears.finds.1)
         (same_length v.origin.look.left w.origin.look.left (ap (λ (s : LinkSide). s.look.left) hears.finds.2))
@@ -346,6 +362,7 @@ module _ (setup : Setup) where
         (less_plus (to_hear setup w.origin) (to_hear setup v.origin) 1 (head_used head hears))
 
   module _ (v w : View) (u u' : Option ℕ) (rose : Rose8 u u' 0) where
+    -- some of it came, or there was an Again
     pub hears_on : (q : Request) (p : Pulled) → 1 ≤ least_came p + one_if (pull_again p) → HearsResponse true v w (F.Read p)
         → Fewer (work_left setup u v (P.ReadResponse q)) (work_left setup u' w (P.ReadResponse q))
     hears_on q p some hears =
@@ -369,10 +386,12 @@ module _ (setup : Setup) where
   own_queued : (i x x' out out' own : ℕ) → x' + i ≤ x → out' ≤ out + own → 2 + (x' + out') < 3 + (x + out) + own
   own_queued i x x' out out' own again more = omega (arith, again, more)
 
+  -- what is sent of an answer is no longer than its body
   sent_within : (to_head : Bool) (s : OwnStatus) → length (own_sent to_head s) ≤ length (own_body s)
   sent_within true s = zero-le
   sent_within false s = le_refl (length (own_body s))
 
+  -- it is queued whole
   pub own_text_queued : (v w : View) (u u' : Option ℕ) (a : OwnAnswer) → Rose8 u u' 0 → QueuesOwn (own_text setup a.status) (own_sent a.to_head a.status) v w
       → Fewer (work_left setup u v (P.SendResponseHdr a)) (work_left setup u' w (P.Sending a))
   own_text_queued v w u u' a rose queues =
@@ -395,6 +414,7 @@ module _ (setup : Setup) where
     sent_least : length w.client.outbox + least_went p ≤ length v.client.outbox
     sent_least = went_some p v.client.outbox w.client.outbox writes.client.pushes.went
 
+    -- a write to the client raises nothing
     pub sends_calm : Calm (push_again p) v w
     sends_calm = client_calm (push_again p) v w w.client writes.others writes.client.pushes.calls.agains
         (less_plus (length w.client.outbox) (length v.client.outbox) (least_went p) sent_least)

@@ -30,6 +30,7 @@ own_piece : (status : OwnStatus) → IsPiece (own_body status)
 own_piece O.BadRequest = (omega arith, omega arith)
 own_piece _ = (omega arith, omega arith)
 
+-- an answer to HEAD has no piece, and another its body
 abbrev pieces_of : Bool → OwnStatus → List (List ℕ)
 pieces_of true status = []
 pieces_of false status = own_body status ∷ []

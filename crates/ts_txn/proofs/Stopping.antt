@@ -50,6 +50,7 @@ module _ (setup : Setup) (refuses : Type 0) where
     text : HasText v.client v.sent (relayed_head setup q.head h) body false
     front : IsFrontThrough (body_lines setup q.head h) false read body
 
+  -- so much of the body was passed on
   stop_relayed : (v : View) (place : Place) (s : Stops v place) → Relayed setup refuses v false false s.body
   stop_relayed v place s = record {
     q = s.q;
@@ -127,12 +128,14 @@ module _ (setup : Setup) (refuses : Type 0) where
   flows_fed rest v c place r going part z =
       flows_all rest v c place r going (part ++ z) ∙ ap (compose_lines (body_lines setup r.q.head r.h)) (sym (append_assoc r.read part z))
 
+  -- the part comes to the front of what still flows
   gets_flow : {P : Type 0} (rest : P → List ℕ → List ℕ) (state : BodyState) (part : List ℕ) (c d : ChainState P) → GetsPart state part c d → state ≢ B.Bad
       → (z : List ℕ) → flow rest d z ≡ flow rest c (part ++ z)
   gets_flow rest B.Unfinished part c d gets good z = ap (λ k. flow rest k z) gets ∙ flow_given rest c part c.given z
   gets_flow rest B.Ended part c d gets good z = ap (λ k. flow rest k z) gets ∙ flow_given rest c part true z
   gets_flow rest B.Bad part c d gets good z = absurd (good refl)
 
+  -- the chain's input ends where the body does
   gets_end : {P : Type 0} (q : Request) (h : ResponseHead) (o : LinkSide) (place : Place) (state : BodyState) (part : List ℕ) (c d : ChainState P) → state_of place.phase ≡ state
       → c.given ≡ false → GetsPart state part c d → state ≢ B.Bad → GivesEnd setup refuses q h o place d.given
   gets_end q h o place B.Unfinished part c d is going gets good = record {
