@@ -16,7 +16,7 @@ use Rattle.ts_group.specs.Calls.{IsCalled}
 use Rattle.ts_group.specs.Context.{Context}
 use Rattle.ts_group.specs.declared.action.Named.{Named}
 use Rattle.ts_group.specs.declared.world.Asked.{Asked}
-use Rattle.ts_group.specs.declared.world.Asked.TheVariants.{Missed, NoMemory}
+use Rattle.ts_group.specs.declared.world.Asked.TheVariants.{Missed}
 use Rattle.ts_link.specs.Link.{Fewer, Look, NoMore}
 use Rattle.ts_wire.specs.declared.heads.ResponseHead.{ResponseHead}
 use Rattle.ts_txn.specs.Course.{course_after, finish_after}

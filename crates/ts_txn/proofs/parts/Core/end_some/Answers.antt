@@ -1,5 +1,5 @@
 -- The end of a body was framed, or there was no memory for it, or the chain has not given all.
-use Rattle.std.proofs.Common.{◌≡◌, true, false, [], refl, sym, ap, subst, ◌∙◌}
+use Rattle.std.proofs.Common.{◌≡◌, true, [], refl, sym, ap, subst, ◌∙◌}
 use Rattle.ts_transform.specs.Flow.{ChainState, IsFinished, flow}
 use Rattle.std.specs.Arc.{arc_value}
 use Rattle.std.proofs.lemmas.Bool.{false≢true}

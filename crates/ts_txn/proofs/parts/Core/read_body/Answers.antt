@@ -1,5 +1,5 @@
 -- The reader made a step: it was idle, or read or fed some of the body.
-use Rattle.std.proofs.Common.{true, false, sym, subst, ◌∙◌}
+use Rattle.std.proofs.Common.{sym, subst, ◌∙◌}
 use Rattle.std.specs.Arc.{arc_value}
 use Rattle.std.proofs.lemmas.Bool.{false≢true}
 use Rattle.ts_transform.specs.Flow.{ChainState, MustRead}

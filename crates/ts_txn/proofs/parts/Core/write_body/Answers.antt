@@ -1,5 +1,5 @@
 -- Each answer of a write of what waits: where it leads, and that it lowers what is left to do.
-use Rattle.std.proofs.Common.{true, false, sym, ◌∙◌}
+use Rattle.std.proofs.Common.{sym, ◌∙◌}
 use Rattle.std.specs.Arc.{arc_value}
 use Rattle.std.proofs.lemmas.Bool.{false≢true}
 use Rattle.ts_hooks.specs.declared.txn_end.TxnEnd.TheVariants as E
