@@ -112,7 +112,7 @@ settles_none step v t r a turn settled ends = record {
 }
 
 -- where it leads
-pub settled_leads : (setup : Setup) (refuses goes : Type 0) (v : View) (step result : BodyStep) → SettledAs step result → (goes → EndFact setup refuses v E.NoMemory)
+settled_leads : (setup : Setup) (refuses goes : Type 0) (v : View) (step result : BodyStep) → SettledAs step result → (goes → EndFact setup refuses v E.NoMemory)
     → LeadsBody setup refuses goes v step → LeadsBody setup refuses goes v result
 settled_leads setup refuses goes v step result settled lacks = settled_has (LeadsBody setup refuses goes v) (λ h. h) lacks step result settled
 
@@ -159,7 +159,7 @@ runs_after step result v t r m s a next c later after on same settled covered =
     by_step _ on = runs on
 
 -- an event of a body, from the step at it and its settling
-pub handles_by : {P : Type 0} (role : ℕ) (event : Event) (step result : BodyStep) (v w : View) (t m u : Option StageContinuation) (r q s : Relay P) (a c b : Context) → IsOrderly a
+handles_by : {P : Type 0} (role : ℕ) (event : Event) (step result : BodyStep) (v w : View) (t m u : Option StageContinuation) (r q s : Relay P) (a c b : Context) → IsOrderly a
     → ActsWithin 4 a c → DrivesOn step r.driven q.driven c
     → ((before : List Pending) → IsHandled before a.log.state.pending a.roles role event → IsBodyJoined t r before a.roles → IsBodyJoined m q c.log.state.pending c.roles)
     → KeepsSeated (body_seats t r) (body_seats m q) a c → (EndsInOrder r.driven.chain.given r.driven.chain.stages → EndsInOrder q.driven.chain.given q.driven.chain.stages)

@@ -77,12 +77,12 @@ pub calm_after : (f : Result ⊤ SetFault) (step : BodyStep) → step ≡ step_a
 calm_after (Err F.Spent) step is = subst IsCalm (sym is) (record { client = refl; origin = refl; late = refl })
 calm_after _ step is = subst IsCalm (sym is) (record { client = refl; origin = refl; late = refl })
 
-pub calm_goes : (X : Type 0) (step : BodyStep) → OnGoes step X → IsCalm step
+calm_goes : (X : Type 0) (step : BodyStep) → OnGoes step X → IsCalm step
 calm_goes X S.Goes goes = record { client = refl; origin = refl; late = refl }
 calm_goes X S.Lacks goes = record { client = refl; origin = refl; late = refl }
 calm_goes X _ goes = absurd goes
 
-pub calm_feeds : {P : Type 0} (step : BodyStep) (old new : Place) (before after : List ℕ) (c d : ChainState P) → FeedsTo step old new before after c d → IsCalm step
+calm_feeds : {P : Type 0} (step : BodyStep) (old new : Place) (before after : List ℕ) (c d : ChainState P) → FeedsTo step old new before after c d → IsCalm step
 calm_feeds S.Goes old new before after c d feeds = record { client = refl; origin = refl; late = refl }
 calm_feeds S.Waits old new before after c d feeds = absurd feeds
 calm_feeds (S.Finishes end) old new before after c d (fed, bad, is) = subst (λ e. IsCalm (S.Finishes e)) (sym is) (record { client = refl; origin = refl; late = refl })

@@ -131,7 +131,7 @@ chain_more step m n d e a b more h = record {
 
 -- ---- a stage ends only behind those before it
 
-pub given_order : {P : Type 0} (c d : ChainState P) → d.stages ≡ c.stages → (c.given ≡ true → d.given ≡ true) → EndsInOrder c.given c.stages → EndsInOrder d.given d.stages
+given_order : {P : Type 0} (c d : ChainState P) → d.stages ≡ c.stages → (c.given ≡ true → d.given ≡ true) → EndsInOrder c.given c.stages → EndsInOrder d.given d.stages
 given_order c d stages up ordered = subst (EndsInOrder d.given) (sym stages) (by_given c.given d.given up ordered)
   where
     by_given : (b x : Bool) → (b ≡ true → x ≡ true) → EndsInOrder b c.stages → EndsInOrder x c.stages

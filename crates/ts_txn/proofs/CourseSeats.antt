@@ -89,7 +89,7 @@ seated_destroyed t u v a m b h clears none = λ others seated n p there.
     (none_behind others p.key (seated_cleared others (u ∷ []) m b clears (h others seated) n p there))
 
 -- nothing is pending then
-pub gone_seated : (t u : Option StageContinuation) (a b : Context) → Clears (t ∷ []) a b → AllSeated a.log.state.pending (t ∷ []) → AllSeated b.log.state.pending (u ∷ [])
+gone_seated : (t u : Option StageContinuation) (a b : Context) → Clears (t ∷ []) a b → AllSeated a.log.state.pending (t ∷ []) → AllSeated b.log.state.pending (u ∷ [])
 gone_seated t u a b clears seated n p there = absurd (seated_cleared [] (t ∷ []) a b clears seated n p there)
 
 -- ---- where a transaction was led
@@ -154,7 +154,7 @@ left_main t r a b clears joined =
     (named_of a.log.state.pending a.roles READER r.reader joined.of_reader, of_stages_named a.log.state.pending a.roles FIRST r.driven.table.items joined.stages.of_stages)
     MAIN t (inl (omega arith)) (named_of a.log.state.pending a.roles MAIN t joined.of_writer)).of_stage joined.of_writer
 
-pub left_alone : {P : Type 0} (step : BodyStep) (v : View) (t : Option StageContinuation) (r : Relay P) (a b : Context) → Clears (relay_seats r) a b
+left_alone : {P : Type 0} (step : BodyStep) (v : View) (t : Option StageContinuation) (r : Relay P) (a b : Context) → Clears (relay_seats r) a b
     → (UnlessLacking step (RunsOr r a.log.state.next) → RunsOr r a.log.state.next) → StandsBehind step v t r a → IsAlone t b
 left_alone step v t r a b clears unless stands = record {
   seated = seated_cleared (t ∷ []) (relay_seats r) a b clears stands.seated;

@@ -217,7 +217,7 @@ module _ (setup : Setup) (refuses : Type 0) where
       }
 
   -- it may be dropped from then on
-  pub enters_any : {P : Type 0} (rest : P → List ℕ → List ℕ) (v : View) (c : ChainState P) (place : Place) → EntersBody setup refuses rest v c place → EndFact setup refuses v E.NoMemory
+  enters_any : {P : Type 0} (rest : P → List ℕ → List ℕ) (v : View) (c : ChainState P) (place : Place) → EntersBody setup refuses rest v c place → EndFact setup refuses v E.NoMemory
   enters_any rest v c place e = record {
     any = record {
       took = facts.request e.q e.reads.served.goes e.reads.served.carries;

@@ -53,7 +53,7 @@ module _ (v w : View) where
   begin_closes _ new begins = tt
 
   -- a body begins
-  pub leaves_begun : (p : Phase) → BeginsIn p v w → LeavesSides p v w
+  leaves_begun : (p : Phase) → BeginsIn p v w → LeavesSides p v w
   leaves_begun p begins = record {
     origin = leaves_in p (record { taken = ap (λ (s : LinkSide). s.look.taken) (calls p begins).origin; waits = ap (λ (s : LinkSide). s.outbox) (calls p begins).origin });
     client = spares_in p (record { given = ap (λ (l : Look). l.given) (calls p begins).client; held = (calls p begins).held });

@@ -13,17 +13,17 @@ next_less : (k m n : ℕ) → k + 1 ≤ m → m ≤ n → k + 1 ≤ n
 next_less k m n less more = omega (arith, less, more)
 
 -- what has few has no more than many
-pub inserted_more : (m n : ℕ) (xs ys : List ℕ) → m ≤ n → HasInserted m xs ys → HasInserted n xs ys
+inserted_more : (m n : ℕ) (xs ys : List ℕ) → m ≤ n → HasInserted m xs ys → HasInserted n xs ys
 inserted_more m n xs [] more none = none
 inserted_more m n xs (y ∷ ys) more (inl (k, less, rest)) = inl (k, next_less k m n less more, rest)
 inserted_more m n xs (y ∷ ys) more (inr (zs, same, rest)) = inr (zs, same, inserted_more m n zs ys more rest)
 
 -- a list is itself with nothing put in
-pub inserted_none : (xs : List ℕ) → HasInserted 0 xs xs
+inserted_none : (xs : List ℕ) → HasInserted 0 xs xs
 inserted_none [] = refl
 inserted_none (x ∷ xs) = inr (xs, refl, inserted_none xs)
 
-pub inserted_length : (n : ℕ) (xs ys : List ℕ) → HasInserted n xs ys → length ys ≤ length xs + n
+inserted_length : (n : ℕ) (xs ys : List ℕ) → HasInserted n xs ys → length ys ≤ length xs + n
 inserted_length n xs [] none = omega arith
 inserted_length n xs (y ∷ ys) (inl (m, less, rest)) = let shorter : length ys ≤ length xs + m = inserted_length m xs ys rest in omega (arith, less, shorter)
 inserted_length n xs (y ∷ ys) (inr (zs, same, rest)) = let shorter : length ys ≤ length zs + n = inserted_length n zs ys rest in omega (arith, ap length same, shorter)
@@ -34,12 +34,12 @@ inserted_append n xs [] ts none = subst (λ (zs : List ℕ). HasInserted n (zs +
 inserted_append n xs (y ∷ ys) ts (inl (m, less, rest)) = inl (m, less, inserted_append m xs ys ts rest)
 inserted_append n xs (y ∷ ys) ts (inr (zs, same, rest)) = inr (zs ++ ts, ap (λ (us : List ℕ). us ++ ts) same, inserted_append n zs ys ts rest)
 
-pub inserted_prepend : (n : ℕ) (xs ys ts : List ℕ) → HasInserted n xs ys → HasInserted n (ts ++ xs) (ts ++ ys)
+inserted_prepend : (n : ℕ) (xs ys ts : List ℕ) → HasInserted n xs ys → HasInserted n (ts ++ xs) (ts ++ ys)
 inserted_prepend n xs ys [] inserted = inserted
 inserted_prepend n xs ys (t ∷ ts) inserted = inr (ts ++ xs, refl, inserted_prepend n xs ys ts inserted)
 
 -- all of a list was put in
-pub inserted_all : (xs : List ℕ) → HasInserted (length xs) [] xs
+inserted_all : (xs : List ℕ) → HasInserted (length xs) [] xs
 inserted_all [] = refl
 inserted_all (x ∷ xs) = inl (length xs, omega arith, inserted_all xs)
 
@@ -66,7 +66,7 @@ inserted_rest n b xs ys (inr (zs, same, rest)) =
     let tail : xs ≡ zs = ap behind_first same in
     subst (λ (us : List ℕ). HasInserted n us ys) (sym tail) rest
 
-pub inserted_drop : (n : ℕ) (ts xs ys : List ℕ) → HasInserted n (ts ++ xs) (ts ++ ys) → HasInserted n xs ys
+inserted_drop : (n : ℕ) (ts xs ys : List ℕ) → HasInserted n (ts ++ xs) (ts ++ ys) → HasInserted n xs ys
 inserted_drop n [] xs ys inserted = inserted
 inserted_drop n (t ∷ ts) xs ys inserted = inserted_drop n ts xs ys (inserted_rest n t (ts ++ xs) (ts ++ ys) inserted)
 

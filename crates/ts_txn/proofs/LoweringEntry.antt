@@ -123,7 +123,7 @@ filter_few p (l ∷ ls) = kept_few (p l) (filter p ls) (filter_few p ls)
     kept_few false ms few = omega (arith, few)
 
 -- the chain of a response's body: of the lines that act, or of none where there is no body
-pub fresh_has_room : {P : Type 0} (setup : Setup) (rest : P → List ℕ → List ℕ) (pause : P → ℕ) (line_pause : TransformLine → ℕ) (framing : Framing) (p : TransformLine → Bool) (ps : List P) (c : ChainState P)
+fresh_has_room : {P : Type 0} (setup : Setup) (rest : P → List ℕ → List ℕ) (pause : P → ℕ) (line_pause : TransformLine → ℕ) (framing : Framing) (p : TransformLine → Bool) (ps : List P) (c : ChainState P)
     → AreOfLines rest pause line_pause (if_body framing (filter p setup.transforms.items)) ps → c ≡ record { first = []; stages = map fresh_stage ps; given = false } → HasRoom setup rest c
 fresh_has_room setup rest pause line_pause F.Nothing p ps c of made = less_has_room setup rest pause line_pause [] ps c (none_less setup.transforms.items) (no_lines (length setup.transforms.items)) of made
   where

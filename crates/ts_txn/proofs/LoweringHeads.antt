@@ -31,7 +31,7 @@ use Rattle.ts_txn.specs.Lowering.{frame_room, head_room, line_room, plugin_lengt
 -- ---- lists
 
 -- a front is no longer
-pub front_within : (n : ℕ) (xs : List ℕ) → length (take n xs) ≤ length xs
+front_within : (n : ℕ) (xs : List ℕ) → length (take n xs) ≤ length xs
 front_within n xs = omega (arith, length-take n xs)
 
 -- ---- lines of fields
@@ -117,7 +117,7 @@ field_or_host : (b : Bool) (host : List ℕ) (f : Field) → length host ≤ hea
 field_or_host true host f fits = omega (arith, fits, host_line host)
 field_or_host false host f fits = omega arith
 
-pub request_fields : (absolute : Bool) (host : List ℕ) (fs : List Field) → length host ≤ head_limit
+request_fields : (absolute : Bool) (host : List ℕ) (fs : List Field) → length host ≤ head_limit
     → length (flat_map (request_field_text absolute host) fs) ≤ length (fields_text fs) + length fs * line_room
 request_fields absolute host [] fits = omega arith
 request_fields absolute host (f ∷ fs) fits =

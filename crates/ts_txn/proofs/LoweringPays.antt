@@ -80,7 +80,7 @@ module _ {P : Type 0} (setup : Setup) (rest : P → List ℕ → List ℕ) where
 module _ {P : Type 0} (ct ot : Bool) (must : Type 0) (setup : Setup) (rest : P → List ℕ → List ℕ) (step result : BodyStep) (v w : View) (main t u : Option StageContinuation)
     (r q m s : Relay P) (a c b : Context) where
   -- `r` is the body before its event, `q` once that was handled, `m` after the step, and `s` once it is settled
-  pub end_pays : relay_left setup rest v q ≡ relay_left setup rest v r → (IsOfLines setup rest r.driven.chain → IsOfLines setup rest q.driven.chain)
+  end_pays : relay_left setup rest v q ≡ relay_left setup rest v r → (IsOfLines setup rest r.driven.chain → IsOfLines setup rest q.driven.chain)
       → ((must → ⊥) → AreBodyEndsRoused v main r → AreBodyEndsRoused v t q)
       → LowersBody ct ot must setup rest step v w q m a c → SetsFew 2 a c → SettlesAfter step result w t u m s c b → s ≡ record m { reader = s.reader }
       → PaysBody ct ot setup rest result v w main r s a b
@@ -136,7 +136,7 @@ stage_rests p p2 x out hear work work' given less none = omega (arith, less, non
 module _ {P : Type 0} (ct ot : Bool) (setup : Setup) (rest : P → List ℕ → List ℕ) (step result : BodyStep) (v : View) (main u : Option StageContinuation)
     (r m s : Relay P) (a c b : Context) where
   -- `r` is the body before its event, `m` once a stage worked, and `s` once it is settled
-  pub stage_pays : OnGoes step ⊤ → StaysOfLines setup rest r m → m ≡ record r { driven = m.driven } → m.driven.chain.given ≡ r.driven.chain.given
+  stage_pays : OnGoes step ⊤ → StaysOfLines setup rest r m → m ≡ record r { driven = m.driven } → m.driven.chain.given ≡ r.driven.chain.given
       → left_to_do rest m.driven.chain [] ≤ left_to_do rest r.driven.chain [] → errors_to_pass m.driven.table.items ≤ errors_to_pass r.driven.table.items → (m.driven.running ≡ true → r.driven.running ≡ true)
       → StageDid rest r.driven.chain m.driven.chain r.driven.table.items m.driven.table.items a c → ActsWithin 4 a c
       → SettlesAfter step result v main u m s c b → s ≡ record m { reader = s.reader } → PaysBody ct ot setup rest result v v main r s a b

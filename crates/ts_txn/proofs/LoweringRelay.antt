@@ -52,7 +52,7 @@ errors_fewer false true e' e fewer runs = omega arith
 errors_fewer false false e' e fewer runs = omega arith
 
 -- fewer errors are less to do
-pub fewer_errors : {P : Type 0} (setup : Setup) (rest : P → List ℕ → List ℕ) (n n' : ℕ) (m : Option ℕ) (w : View) (d : ChainState P) → n ≤ n' → Fewer m (body_left setup rest n' w d) → Fewer m (body_left setup rest n w d)
+fewer_errors : {P : Type 0} (setup : Setup) (rest : P → List ℕ → List ℕ) (n n' : ℕ) (m : Option ℕ) (w : View) (d : ChainState P) → n ≤ n' → Fewer m (body_left setup rest n' w d) → Fewer m (body_left setup rest n w d)
 fewer_errors setup rest n n' None w d less fell = tt
 fewer_errors setup rest n n' (Some x) w d less fell = by_told (agains_left w) fell
   where
@@ -83,7 +83,7 @@ taken_adds rest from (s ∷ ss) n from' [] takes all = tt
 taken_adds {P} rest from (s ∷ ss) n from' (s' ∷ ss') takes all =
     (subst (λ (p : Option P). AddsNoMore (rest_of rest p)) (sym takes.1) all.0, taken_adds rest s.after ss n s'.after ss' takes.2 all.1)
 
-pub taken_lines : {P : Type 0} (setup : Setup) (rest : P → List ℕ → List ℕ) (n : ℕ) (c d : ChainState P) → TakesAway rest n c d → IsOfLines setup rest c → IsOfLines setup rest d
+taken_lines : {P : Type 0} (setup : Setup) (rest : P → List ℕ → List ℕ) (n : ℕ) (c d : ChainState P) → TakesAway rest n c d → IsOfLines setup rest c → IsOfLines setup rest d
 taken_lines setup rest n c d takes lines = record {
   few = omega (arith, takes.len, lines.few);
   adds = taken_adds rest c.first c.stages n d.first d.stages takes.takes lines.adds;
@@ -110,7 +110,7 @@ drains_again v w drains = subst (λ (x : View). AgainsFall false (agains_left v)
 
 module _ {P : Type 0} (ct ot : Bool) (must : Type 0) (setup : Setup) (rest : P → List ℕ → List ℕ) where
   -- a step that leaves less lowers what is left
-  pub lowers_by : (step : BodyStep) (v w : View) (r s : Relay P) (a b : Context) → s.reader ≡ r.reader → WhileGoes step (StaysOfLines setup rest r s)
+  lowers_by : (step : BodyStep) (v w : View) (r s : Relay P) (a b : Context) → s.reader ≡ r.reader → WhileGoes step (StaysOfLines setup rest r s)
       → (ct ≡ true → ot ≡ true → IsOfLines setup rest r.driven.chain → Fewer (relay_left setup rest v r) (left_after setup rest step w s)) → LowersBody ct ot must setup rest step v w r s a b
   lowers_by step v w r s a b reader lines fell = record { reader = reader; lines = lines; falls = λ told also of. inl (fell told also of) }
 
@@ -242,7 +242,7 @@ module _ {P : Type 0} (ct ot : Bool) (must : Type 0) (setup : Setup) (rest : P �
     given_some B.Bad piece part good gets going progress = absurd (good refl)
 
     -- a part of it came to the chain
-    pub feeds_goes : (state : BodyState) (piece part : List ℕ) → DrainsOrigin v w → v.origin.inbox ≡ piece ++ w.origin.inbox → state ≢ B.Bad
+    feeds_goes : (state : BodyState) (piece part : List ℕ) → DrainsOrigin v w → v.origin.inbox ≡ piece ++ w.origin.inbox → state ≢ B.Bad
         → GetsPart state part r.driven.chain s.driven.chain → length part ≤ length piece → r.driven.chain.given ≡ false
         → (ct ≡ true → ot ≡ true → (0 < length piece) ⊎ (state ≢ B.Unfinished)) → SameTable → s.reader ≡ r.reader → LowersBody ct ot must setup rest S.Goes v w r s a b
     feeds_goes state piece part drains taken good gets within going progress same reader =
@@ -263,7 +263,7 @@ module _ {P : Type 0} (ct ot : Bool) (must : Type 0) (setup : Setup) (rest : P �
         behind_less all piece behind sum = omega (arith, sum)
 
     -- it is bad
-    pub feeds_finishes : (end : TxnEnd) (piece : List ℕ) → DrainsOrigin v w → v.origin.inbox ≡ piece ++ w.origin.inbox → s.reader ≡ r.reader → LowersBody ct ot must setup rest (S.Finishes end) v w r s a b
+    feeds_finishes : (end : TxnEnd) (piece : List ℕ) → DrainsOrigin v w → v.origin.inbox ≡ piece ++ w.origin.inbox → s.reader ≡ r.reader → LowersBody ct ot must setup rest (S.Finishes end) v w r s a b
     feeds_finishes end piece drains taken reader = lowers_by (S.Finishes end) v w r s a b reader tt (λ told also of.
         to_finish setup rest (errors_left r.driven) false v w r.driven.chain (drains_calm piece drains taken))
 

@@ -98,12 +98,12 @@ module _ (setup : Setup) where
   stays_calm v w same = subst (λ (x : View). Calm false v x) (sym same)
       (record { again = none_fall (agains_left v); out = le_refl (length v.client.outbox); hear = le_refl (to_hear setup v.origin) })
 
-  pub client_calm : (b : Bool) (v w : View) (s : LinkSide) → w ≡ record v { client = s } → AgainsFall b v.client.look.agains s.look.agains
+  client_calm : (b : Bool) (v w : View) (s : LinkSide) → w ≡ record v { client = s } → AgainsFall b v.client.look.agains s.look.agains
       → length s.outbox ≤ length v.client.outbox → Calm b v w
   client_calm b v w s same again out = subst (λ (x : View). Calm b v x) (sym same)
       (record { again = first_falls b v.client.look.agains s.look.agains v.origin.look.agains again; out = out; hear = le_refl (to_hear setup v.origin) })
 
-  pub origin_calm : (b : Bool) (v w : View) (s : LinkSide) → w ≡ record v { origin = s } → AgainsFall b v.origin.look.agains s.look.agains
+  origin_calm : (b : Bool) (v w : View) (s : LinkSide) → w ≡ record v { origin = s } → AgainsFall b v.origin.look.agains s.look.agains
       → to_hear setup s ≤ to_hear setup v.origin → Calm b v w
   origin_calm b v w s same again hear = subst (λ (x : View). Calm b v x) (sym same)
       (record { again = second_falls b v.client.look.agains v.origin.look.agains s.look.agains again; out = le_refl (length v.client.outbox); hear = hear })
@@ -302,7 +302,7 @@ module _ (setup : Setup) where
       omega (arith, all, less)
 
   -- what is less by some is no more
-  pub less_plus : (a b n : ℕ) → a + n ≤ b → a ≤ b
+  less_plus : (a b n : ℕ) → a + n ≤ b → a ≤ b
   less_plus a b n less = omega (arith, less)
 
   module _ (v w : View) (u u' : Option ℕ) (rose : Rose8 u u' (taken_since v.origin.look w.origin.look)) (p : Pushed) (writes : WritesOrigin true v w p) where

@@ -111,7 +111,7 @@ text_framed v w head body piece f is h = record {
 ended_more : (mode : Mode) (pieces : List (List ℕ)) → frames mode pieces false ++ end_of mode ≡ frames mode pieces true
 ended_more mode pieces = ap (λ (x : List ℕ). x ++ end_of mode) (append-nil (flat_map (frame_of mode) pieces))
 
-pub text_ended : (v w : View) (head body : List ℕ) → FramesEnd v w → HasText v.client v.sent head body false → HasText w.client w.sent head body true
+text_ended : (v w : View) (head body : List ℕ) → FramesEnd v w → HasText v.client v.sent head body false → HasText w.client w.sent head body true
 text_ended v w head body f h = record {
   pieces = h.pieces;
   each = h.each;
@@ -227,7 +227,7 @@ module _ (setup : Setup) (refuses : Type 0) where
       (subst (λ (o : LinkSide). ReadsBody setup refuses q h (all_of v.client.look) v.dialed o place read) (sym f.origin) r))
 
   -- a piece of what the chain gave
-  pub frames_on : {P : Type 0} (rest : P → List ℕ → List ℕ) (v w : View) (c d : ChainState P) (place : Place) (piece : List ℕ) (n : ℕ) → FramesPiece piece v w
+  frames_on : {P : Type 0} (rest : P → List ℕ → List ℕ) (v w : View) (c d : ChainState P) (place : Place) (piece : List ℕ) (n : ℕ) → FramesPiece piece v w
       → IsPiece piece → TakesAway rest n c d → piece ≡ take n (client_wait c) → RelaysBody setup refuses rest v c place → RelaysBody setup refuses rest w d place
   frames_on rest v w c d place piece n f is takes same r = record {
     q = r.q;

@@ -42,7 +42,7 @@ pub lacks : (bytes : List ℕ) (at : ℕ) (o : Option (ResponseHead × ℕ)) →
 lacks bytes at o passed found is = lacks_final bytes (drop at bytes) passed (subst (FindsResponse (drop at bytes)) is found)
 
 -- what was given with a piece is the body of all the bytes, where none follow it or the body goes no further
-pub reads_all : (framing : Framing) (bytes body rest given made : List ℕ) (old : Place) (taken : ℕ) (state : BodyState) → HasFed framing bytes body rest old
+reads_all : (framing : Framing) (bytes body rest given made : List ℕ) (old : Place) (taken : ℕ) (state : BodyState) → HasFed framing bytes body rest old
     → GivesBody old (take taken rest) given state → made ≡ body ++ given → (state ≡ B.Unfinished → length rest ≤ taken) → BodyOf framing bytes made state
 reads_all framing bytes body rest given made old taken state was gives is all =
     let whole : (was.fed ++ take taken rest) ++ drop taken rest ≡ bytes =

@@ -42,7 +42,7 @@ none_held : (held : List ℕ) → held ≡ [] → length held ≤ head_limit
 none_held held none = let no : length held ≡ 0 = ap length none in omega (arith, no)
 
 -- what the origin took is the request and the upload, where nothing waits for it
-pub took_is : (setup : Setup) (q : Request) (o : LinkSide) (h : CarriesRequest setup q o) → o.outbox ≡ [] → o.look.taken ≡ request_text setup q.head q.target q.host ++ h.upload
+took_is : (setup : Setup) (q : Request) (o : LinkSide) (h : CarriesRequest setup q o) → o.outbox ≡ [] → o.look.taken ≡ request_text setup q.head q.target q.host ++ h.upload
 took_is setup q o h none = sym (append-nil o.look.taken) ∙ ap (λ (x : List ℕ). o.look.taken ++ x) (sym none) ∙ h.text
 
 pub took_request : (setup : Setup) (q : Request) (o : LinkSide) → CarriesRequest setup q o → o.outbox ≡ [] → TookExactly (request_text setup q.head q.target q.host) o
