@@ -25,7 +25,7 @@ use Rattle.ts_txn.specs.declared.phase.Request.{Request}
 use Rattle.ts_txn.specs.declared.reading.Found.{Found}
 use Rattle.ts_txn.specs.declared.reading.Found.TheVariants as F
 use Rattle.ts_txn.proofs.LoweringHeads.{request_fits}
-use Rattle.ts_txn.proofs.LoweringSteps.{Calm, asked, asks_calm, asks_on, head_calm, heard_calm, hears_calm, hears_interim, hears_on, own_text_queued, queued, response_heard, sends_calm, sends_on, sent_close, stays_calm, to_close, to_end, to_own, write_calm, write_fails, writes_on, written}
+use Rattle.ts_txn.proofs.LoweringSteps.{Calm, asked, asks_calm, asks_on, client_told, head_calm, heard_calm, hears_calm, hears_interim, hears_on, own_text_queued, queued, response_heard, sends_calm, sends_on, sent_close, stays_calm, to_close, to_end, to_own, write_calm, write_fails, writes_on, written}
 
 -- ---- nothing was taken by the origin
 
@@ -197,25 +197,25 @@ module _ (ct ot : Bool) (setup : Setup) (v w : View) (u u' : Option ℕ) (rose :
   pub sends_some : (a : OwnAnswer) (n : ℕ) → WritesClient ct v w (V.Some n)
       → IfTold ct ot (StepLowers setup (P.Sending a) u u' v w (record { phase = P.Sending a; next = N.Go }))
   sends_some a n writes told also =
-      let h = subst (λ (b : Bool). WritesClient b v w (V.Some n)) told writes in
+      let h = client_told ct v w (V.Some n) told writes in
       sends_on setup v w (V.Some n) h u u' (rose_sent (V.Some n) h) a (omega arith)
 
   pub sends_wait : (a : OwnAnswer) → WritesClient ct v w V.Again
       → IfTold ct ot (StepLowers setup (P.Sending a) u u' v w (record { phase = P.Sending a; next = N.Wait }))
   sends_wait a writes told also =
-      let h = subst (λ (b : Bool). WritesClient b v w V.Again) told writes in
+      let h = client_told ct v w V.Again told writes in
       sends_on setup v w V.Again h u u' (rose_sent V.Again h) a (omega arith)
 
   pub sends_close : (a : OwnAnswer) (p : Pushed) (end : TxnEnd) → WritesClient ct v w p
       → IfTold ct ot (StepLowers setup (P.Sending a) u u' v w (record { phase = P.TxnClose end; next = N.Go }))
   sends_close a p end writes told also =
-      let h = subst (λ (b : Bool). WritesClient b v w p) told writes in
+      let h = client_told ct v w p told writes in
       sent_close setup (push_again p) 0 v w u u' (sends_calm setup v w p h) (rose_sent p h) a end
 
   pub sends_end : (a : OwnAnswer) (p : Pushed) (end : TxnEnd) → WritesClient ct v w p
       → IfTold ct ot (StepLowers setup (P.Sending a) u u' v w (record { phase = P.Ended end; next = N.Done }))
   sends_end a p end writes told also =
-      let h = subst (λ (b : Bool). WritesClient b v w p) told writes in
+      let h = client_told ct v w p told writes in
       to_end setup (push_again p) 0 v w u u' (sends_calm setup v w p h) (rose_sent p h) (P.Sending a) end
 
   -- ---- what is queued

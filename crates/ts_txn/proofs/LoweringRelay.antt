@@ -40,7 +40,7 @@ use Rattle.ts_txn.specs.declared.finishing.BodyStep.TheVariants as S
 use Rattle.ts_txn.specs.declared.relay.Relay.{Relay}
 use Rattle.ts_txn.proofs.Lowering.{none_fall, same_length, still_hear}
 use Rattle.ts_txn.proofs.LoweringBody.{closes, feeds_on, frames_end, frames_piece, queues_same, reads_on, to_close, to_ended, to_finish, writes_on}
-use Rattle.ts_txn.proofs.LoweringSteps.{Calm, reads_calm, sends_calm, stays_calm}
+use Rattle.ts_txn.proofs.LoweringSteps.{Calm, client_told, reads_calm, sends_calm, stays_calm}
 
 -- ---- what is left does not depend on who is roused
 
@@ -121,15 +121,12 @@ module _ {P : Type 0} (ct ot : Bool) (must : Type 0) (setup : Setup) (rest : P �
   module _ (v w : View) (r : Relay P) (a : Context) where
     -- ---- one write to the client
 
-    as_told : (p : Pushed) → ct ≡ true → WritesClient ct v w p → WritesClient true v w p
-    as_told p told writes = subst (λ (b : Bool). WritesClient b v w p) told writes
-
     same_relay : StaysOfLines setup rest r r
     same_relay of = of
 
     pub writes_goes : (n : ℕ) → WritesClient ct v w (V.Some n) → LowersBody ct ot must setup rest S.Goes v w r r a a
     writes_goes n writes = lowers_by S.Goes v w r r a a refl same_relay (λ told also of.
-        writes_on setup rest (errors_left r.driven) v w r.driven.chain (V.Some n) (as_told (V.Some n) told writes) (omega arith))
+        writes_on setup rest (errors_left r.driven) v w r.driven.chain (V.Some n) (client_told ct v w (V.Some n) told writes) (omega arith))
 
     -- something waits, so that one write was made
     pub writes_nothing : WritesClient ct v w V.Nothing → (v.client.outbox ≡ [] → ⊥) → LowersBody ct ot must setup rest S.Goes v w r r a a
@@ -137,15 +134,15 @@ module _ {P : Type 0} (ct ot : Bool) (must : Type 0) (setup : Setup) (rest : P �
 
     pub writes_waits : WritesClient ct v w V.Again → LowersBody ct ot must setup rest S.Waits v w r r a a
     writes_waits writes = lowers_by S.Waits v w r r a a refl same_relay (λ told also of.
-        writes_on setup rest (errors_left r.driven) v w r.driven.chain V.Again (as_told V.Again told writes) (omega arith))
+        writes_on setup rest (errors_left r.driven) v w r.driven.chain V.Again (client_told ct v w V.Again told writes) (omega arith))
 
     pub writes_closes : (p : Pushed) (end : TxnEnd) → WritesClient ct v w p → LowersBody ct ot must setup rest (S.Closes end) v w r r a a
     writes_closes p end writes = lowers_by (S.Closes end) v w r r a a refl tt (λ told also of.
-        to_close setup rest (errors_left r.driven) (push_again p) v w r.driven.chain (sends_calm setup v w p (as_told p told writes)))
+        to_close setup rest (errors_left r.driven) (push_again p) v w r.driven.chain (sends_calm setup v w p (client_told ct v w p told writes)))
 
     pub writes_lacks : (p : Pushed) → WritesClient ct v w p → LowersBody ct ot must setup rest S.Lacks v w r r a a
     writes_lacks p writes = lowers_by S.Lacks v w r r a a refl tt (λ told also of.
-        to_ended setup rest (errors_left r.driven) (push_again p) v w r.driven.chain (sends_calm setup v w p (as_told p told writes)))
+        to_ended setup rest (errors_left r.driven) (push_again p) v w r.driven.chain (sends_calm setup v w p (client_told ct v w p told writes)))
 
     -- ---- the end of the body is framed
 

@@ -1,5 +1,5 @@
 -- Each of the last writes of a transaction lowers what it has left to do.
-use Rattle.std.proofs.Common.{◌≡◌, ℕ, ◌+◌, ◌<◌, ◌≤◌, length, Bool, true, arith, sym, subst}
+use Rattle.std.proofs.Common.{ℕ, ◌+◌, ◌<◌, ◌≤◌, length, Bool, true, arith, sym, subst}
 use Rattle.std.specs.Prelude.{Some}
 use Rattle.ts_hooks.specs.declared.txn_end.TxnEnd.{TxnEnd}
 use Rattle.ts_link.specs.Link.{AgainsFall, Fewer}
@@ -13,7 +13,7 @@ use Rattle.ts_txn.specs.Moving.{WritesClient}
 use Rattle.ts_txn.specs.View.{View}
 use Rattle.ts_txn.specs.declared.finishing.BodyStep.TheVariants as S
 use Rattle.ts_txn.proofs.Lowering.{first_falls, least_went, one_if, told_fewer, went_some}
-use Rattle.ts_txn.proofs.LoweringSteps.{sent_next}
+use Rattle.ts_txn.proofs.LoweringSteps.{client_told, sent_next}
 
 last_next : (n a : ℕ) → n ≤ 1 → n < 2 + a
 last_next n a few = omega (arith, few)
@@ -37,17 +37,14 @@ module _ (v w : View) (p : Pushed) (writes : WritesClient true v w p) where
       (λ x x' y y' again upload. last_next 0 (x + length v.client.outbox) (omega arith))
 
 module _ (ct ot : Bool) (v w : View) where
-  as_told : (p : Pushed) → ct ≡ true → WritesClient ct v w p → WritesClient true v w p
-  as_told p told writes = subst (λ (b : Bool). WritesClient b v w p) told writes
-
   pub rest_goes : (n : ℕ) → WritesClient ct v w (V.Some n) → IfTold ct ot (Fewer (finish_left v) (rest_after S.Goes w))
-  rest_goes n writes told also = rest_more v w (V.Some n) (as_told (V.Some n) told writes) (omega arith)
+  rest_goes n writes told also = rest_more v w (V.Some n) (client_told ct v w (V.Some n) told writes) (omega arith)
 
   pub rest_waits : WritesClient ct v w V.Again → IfTold ct ot (Fewer (finish_left v) (rest_after S.Waits w))
-  rest_waits writes told also = rest_more v w V.Again (as_told V.Again told writes) (omega arith)
+  rest_waits writes told also = rest_more v w V.Again (client_told ct v w V.Again told writes) (omega arith)
 
   pub rest_closes : (p : Pushed) (end : TxnEnd) → WritesClient ct v w p → IfTold ct ot (Fewer (finish_left v) (rest_after (S.Closes end) w))
-  rest_closes p end writes told also = rest_close v w p (as_told p told writes)
+  rest_closes p end writes told also = rest_close v w p (client_told ct v w p told writes)
 
   pub rest_lacks : (p : Pushed) → WritesClient ct v w p → IfTold ct ot (Fewer (finish_left v) (rest_after S.Lacks w))
-  rest_lacks p writes told also = rest_end v w p (as_told p told writes)
+  rest_lacks p writes told also = rest_end v w p (client_told ct v w p told writes)

@@ -47,6 +47,10 @@ over_three r a b c least = omega (arith, least)
 over_four : (r a b c d : ℕ) → 4 ≤ r → 4 + a ≤ r + (a + b + c + d)
 over_four r a b c d least = omega (arith, least)
 
+-- a write to a client that tells its bytes
+pub client_told : (t : Bool) (v w : View) (p : Pushed) → t ≡ true → WritesClient t v w p → WritesClient true v w p
+client_told t v w p told writes = subst (λ (b : Bool). WritesClient b v w p) told writes
+
 -- ---- what the phases up to the answer have left
 
 one_of : (f : OwnStatus → ℕ) (s : OwnStatus) → f s ≤ f O.BadRequest + f O.Forbidden + f O.NotImplemented + f O.BadGateway
