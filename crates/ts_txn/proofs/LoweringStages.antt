@@ -39,7 +39,7 @@ still_some rest from s ss (suc at) r from' steps = steps
 stepped_rests : {P : Type 0} (rest : P → List ℕ → List ℕ) (r : Pumped) → ((s s' : Stage P) (from from' : List ℕ) → Steps rest from s r from' s' → (from' ≡ from) × (s' ≡ s))
     → (from : List ℕ) (ss : List (Stage P)) (at : ℕ) (from' : List ℕ) (ss' : List (Stage P)) → StepsAt rest from ss at r from' ss' → (from' ≡ from) × (ss' ≡ ss)
 stepped_rests rest r still from [] at from' ss' steps = absurd steps
-stepped_rests {P} rest r still from (s ∷ ss) at from' [] steps = absurd (still_some rest from s ss at r from' steps)
+stepped_rests rest r still from (s ∷ ss) at from' [] steps = absurd (still_some rest from s ss at r from' steps)
 stepped_rests rest r still from (s ∷ ss) zero from' (s' ∷ ss') steps =
     let one = still s s' from from' steps.0 in
     (one.0, stages_same s s' ss ss' one.1 steps.1)
@@ -141,6 +141,6 @@ handled_lines setup rest c d (inr (at, p)) of = pumped_lines setup rest at c d p
   where
     stepped_len : {P : Type 0} (rest : P → List ℕ → List ℕ) (r : Pumped) (from : List ℕ) (ss : List (Stage P)) (at : ℕ) (from' : List ℕ) (ss' : List (Stage P)) → StepsAt rest from ss at r from' ss' → length ss' ≡ length ss
     stepped_len rest r from [] at from' ss' steps = absurd steps
-    stepped_len {P} rest r from (s ∷ ss) at from' [] steps = absurd (still_some rest from s ss at r from' steps)
+    stepped_len rest r from (s ∷ ss) at from' [] steps = absurd (still_some rest from s ss at r from' steps)
     stepped_len {P} rest r from (s ∷ ss) zero from' (s' ∷ ss') steps = let same : length ss' ≡ length ss = ap length steps.1 in omega (arith, same)
     stepped_len rest r from (s ∷ ss) (suc at) from' (s' ∷ ss') steps = let behind : length ss' ≡ length ss = stepped_len rest r s.after ss at s'.after ss' steps.2 in omega (arith, behind)
