@@ -1,5 +1,6 @@
--- The duties of a transaction on its course, and the events that do them: while it goes on, each has an event of a
--- continuation that does it, so that no wake is lost (Developer's Guide, "Continuations" and "Actions and Events").
+-- The duties of a transaction on its course, and the events that do them: while it goes on, each has an event
+-- of a continuation that does it, so that no wake is lost (Developer's Guide, "Continuations" and "Actions
+-- and Events").
 use Rattle.std.specs.Prelude.{◌≡◌, ℕ, ◌≤◌, ◌⊎◌, List, [], ◌∷◌, Bool, true, false, Option, None, ⊤}
 use Rattle.ts_journal.specs.declared.entry.TheConstants.{GREATEST}
 use Rattle.ts_journal.specs.declared.entry.Pending.{Pending}
@@ -52,8 +53,8 @@ HasEventsOn v main (K.Phased p) pending roles = IsOfStageIf pending roles MAIN m
 HasEventsOn v main (K.Relaying r) pending roles = BodyHasEvents v main r pending roles
 HasEventsOn v main (K.Finishing end) pending roles = IsOfStageIf pending roles MAIN main × IsRousedIf main
 
--- Each pending event is plain, and one of its continuations; and each duty has its event, or none can be set, since the
--- numbers of its group are used up.
+-- Each pending event is plain, and one of its continuations; and each duty has its event, or none can be set,
+-- since the numbers of its group are used up.
 pub record IsCoveredOn {Q : Type 0} (v : View) (main : Option StageContinuation) (course : Course Q)
     (pending : List Pending) (next : ℕ) (roles : List Named) : Type 0 where
   pub seated : AllSeated pending (course_seats main course)
@@ -97,14 +98,18 @@ set_after next = 1
 
 -- used-up event numbers never end it, where its first continuation is live
 abbrev pub StaysWhereSpent : {Q : Type 0} → Course Q → Course Q → Option StageContinuation → Context → Type 0
-StaysWhereSpent {Q} led result main now = GREATEST ≤ now.log.state.next → HasLiveIf now.log.state.live main → result ≡ led
+StaysWhereSpent {Q} led result main now =
+    GREATEST ≤ now.log.state.next → HasLiveIf now.log.state.live main → result ≡ led
 
 -- nor do they where a body is left, whose continuations have their roles
-abbrev pub StaysWhereNamed : {Q : Type 0} → Course Q → Relay Q → Course Q → Option StageContinuation → Context → Type 0
-StaysWhereNamed led r result main now = IsNamedIf now.roles MAIN main → AreNamed now.roles READER (relay_seats r)
+abbrev pub StaysWhereNamed : {Q : Type 0} → Course Q → Relay Q → Course Q → Option StageContinuation
+    → Context → Type 0
+StaysWhereNamed led r result main now =
+    IsNamedIf now.roles MAIN main → AreNamed now.roles READER (relay_seats r)
     → StaysWhereSpent led result main now
 
--- Behind the step of a phase it is where that led, or has ended for want of memory where an event was to be set.
+-- Behind the step of a phase it is where that led, or has ended for want of memory where an event was to be
+-- set.
 abbrev pub LedBehind : {Q : Type 0} → Next → Course Q → Course Q → Type 0
 LedBehind N.Done led new = new ≡ led
 LedBehind next led new = StaysOnOrLacks led new
@@ -120,33 +125,33 @@ abbrev pub pause_of : BodyStep → ℕ
 pause_of S.Waits = RETRY
 pause_of step = 0
 
--- No continuation is there but the first: each pending event is plain, and of it; and it has its role, and an event where
--- it is roused, or the event numbers are used up.
+-- No continuation is there but the first: each pending event is plain, and of it; and it has its role, and an
+-- event where it is roused, or the event numbers are used up.
 pub record IsAlone (main : Option StageContinuation) (now : Context) : Type 0 where
   pub seated : AllSeated now.log.state.pending (main ∷ [])
   pub plain : AllPlain now.log.state.pending
   pub of_main : IsOfStageIf now.log.state.pending now.roles MAIN main ⊎ (GREATEST ≤ now.log.state.next)
 
--- The duties of a body behind a step: the continuations have their roles and their events, and where the step goes on each
--- duty has its event.
-pub record HasStepDone {Q : Type 0} (step : BodyStep) (v : View) (main : Option StageContinuation) (r : Relay Q)
-    (now : Context) : Type 0 where
+-- The duties of a body behind a step: the continuations have their roles and their events, and where the step
+-- goes on each duty has its event.
+pub record HasStepDone {Q : Type 0} (step : BodyStep) (v : View) (main : Option StageContinuation)
+    (r : Relay Q) (now : Context) : Type 0 where
   pub joined : IsBodyJoined main r now.log.state.pending now.roles
   pub covered : WhileGoes step (IsBodyCovered v main r now.log.state.next)
   pub runs : UnlessLacking step (RunsOr r now.log.state.next)
   pub ordered : EndsInOrder r.driven.chain.given r.driven.chain.stages
 
--- A body stands so behind a step: each pending event is plain, and of one of its continuations; and its duties are so, or
--- the event numbers are used up.
-pub record StandsBehind {Q : Type 0} (step : BodyStep) (v : View) (main : Option StageContinuation) (r : Relay Q)
-    (now : Context) : Type 0 where
+-- A body stands so behind a step: each pending event is plain, and of one of its continuations; and its
+-- duties are so, or the event numbers are used up.
+pub record StandsBehind {Q : Type 0} (step : BodyStep) (v : View) (main : Option StageContinuation)
+    (r : Relay Q) (now : Context) : Type 0 where
   pub seated : AllSeated now.log.state.pending (body_seats main r)
   pub plain : AllPlain now.log.state.pending
   pub body : HasStepDone step v main r now ⊎ (GREATEST ≤ now.log.state.next)
 
 -- A transaction whose first continuation was alone is covered where it was led, whatever its links show.
-abbrev pub CoversAlone : {Q : Type 0} → Option StageContinuation → Option StageContinuation → Course Q → Context
-    → Context → Type 0
+abbrev pub CoversAlone : {Q : Type 0} → Option StageContinuation → Option StageContinuation → Course Q
+    → Context → Context → Type 0
 CoversAlone t u result a b = IsAlone t a → (v : View) → IsCoveredNow v u result b
 
 -- So is one whose body stood so behind a step.
@@ -154,7 +159,8 @@ abbrev pub CoversLed : {Q : Type 0} → BodyStep → Relay Q → Option StageCon
     → Course Q → Context → Context → Type 0
 CoversLed step r t u result a b = (v : View) → StandsBehind step v t r a → IsCoveredNow v u result b
 
--- What is left of the first continuation where its next event was set, or could not be: whether there was memory for it.
+-- What is left of the first continuation where its next event was set, or could not be: whether there was
+-- memory for it.
 pub record HasRousedNext (has_memory : Bool) (t u : Option StageContinuation) (a b : Context) : Type 0 where
   pub kept : has_memory ≡ true → IsOfStageIf a.log.state.pending a.roles MAIN t
       → IsOfStageIf b.log.state.pending b.roles MAIN u

@@ -1,5 +1,6 @@
--- The duties of a transaction in a phase, and the event that does them: while it goes on, its first continuation has a
--- pending event, so that no wake is lost (Developer's Guide, "Continuations" and "Actions and Events").
+-- The duties of a transaction in a phase, and the event that does them: while it goes on, its first
+-- continuation has a pending event, so that no wake is lost (Developer's Guide, "Continuations" and "Actions
+-- and Events").
 use Rattle.std.specs.Prelude.{◌≡◌, ℕ, ◌≤◌, ◌⊎◌, Bool, true, false, Option, Some, None, ⊤}
 use Rattle.ts_journal.specs.declared.entry.TheConstants.{GREATEST}
 use Rattle.ts_journal.specs.declared.entry.Pending.{Pending}

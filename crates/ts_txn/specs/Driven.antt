@@ -1,5 +1,5 @@
--- What an event of a transaction leads to, by how far it is: in a phase it makes a step, while a body is passed on a part
--- of that, and then one of the last writes.
+-- What an event of a transaction leads to, by how far it is: in a phase it makes a step, while a body is
+-- passed on a part of that, and then one of the last writes.
 use Rattle.std.specs.Prelude.{◌≡◌, ◌⊎◌, ℕ, Bool, false, List, Option, ⊤}
 use Rattle.ts_group.specs.Context.{Context}
 use Rattle.ts_group.specs.Entries.{Grows}
@@ -47,7 +47,8 @@ ClosesAs (P.TxnClose end) new = (new ≡ K.Phased (P.TxnClose end)) ⊎ (new ≡
 ClosesAs _ new = ⊤
 
 -- Where a body begins, what is set is of one of its stages, or lets an end of it work at once.
-pub record BeginsOnTime {Q : Type 0} (main : Option StageContinuation) (r : Relay Q) (a b : Context) : Type 0 where
+pub record BeginsOnTime {Q : Type 0} (main : Option StageContinuation) (r : Relay Q)
+    (a b : Context) : Type 0 where
   pub behind : Context
   pub first : Grows a behind
   pub begins : BeginsInTime main r a behind
@@ -69,8 +70,8 @@ module _ {C O Q : Type 0} (ctells otells : Bool) (client : C → Look) (origin :
   MindsCourse old next (K.Relaying r) = BeginsIn old (view_of client origin s) (view_of client origin t)
   MindsCourse old next (K.Finishing end) = ⊥
 
-  -- In a phase nothing is done, or the links are minded, and it waits for nothing else; nothing but the request and its
-  -- upload is sent to the origin; and a transaction that was started stays so.
+  -- In a phase nothing is done, or the links are minded, and it waits for nothing else; nothing but the
+  -- request and its upload is sent to the origin; and a transaction that was started stays so.
   pub record TakesStep (old : Phase) (next : Next) (new : Course Q) : Type 0 where
     pub minds : (new ≡ K.Phased (P.Ended E.NoMemory)) ⊎ ((t ≡ s) × (new ≡ K.Phased old))
         ⊎ MindsCourse old next new
@@ -117,8 +118,8 @@ module _ {C O Q : Type 0} (ctells otells : Bool) (client : C → Look) (origin :
       pub takes : TakesStep old next new
       pub due : DueTo main next new a b
 
-    -- While a body is passed on, each end of it does its own work; and where it is left, the event of the next step is due
-    -- at once.
+    -- While a body is passed on, each end of it does its own work; and where it is left, the event of the
+    -- next step is due at once.
     pub record HandlesRelay (role : ℕ) (main : Option StageContinuation) (old : Relay Q)
         (new : Course Q) : Type 0 where
       pub step : BodyStep
@@ -128,8 +129,8 @@ module _ {C O Q : Type 0} (ctells otells : Bool) (client : C → Look) (origin :
       pub own : DoesOwnWork role (view_of client origin s) (view_of client origin t)
       pub first : Grows a behind
       pub then : ActsWithin (set_leaving step) behind b
-      pub links : HandlesLinks ctells otells (view_of client origin s) (view_of client origin t) main old after
-          step a behind
+      pub links : HandlesLinks ctells otells (view_of client origin s) (view_of client origin t) main old
+          after step a behind
       pub due : SetsOnly (IsDueAfter AT_ONCE behind.moment) behind b
 
     pub record HandlesWrite (end : TxnEnd) (new : Course Q) : Type 0 where

@@ -25,7 +25,7 @@ GetsPart B.Unfinished part c d = d ≡ record c { first = c.first ++ part }
 GetsPart B.Ended part c d = d ≡ record c { first = c.first ++ part; given = true }
 GetsPart B.Bad part c d = d ≡ c
 
--- A front of what waits was fed to the reader, and what of it is body came to the chain.
+-- A front of what waits was fed to the reader of bodies, and what of it is body came to the chain.
 pub record FeedsBody {P : Type 0} (old new : Place) (before after : List ℕ)
     (c d : ChainState P) : Type 0 where
   pub piece : List ℕ

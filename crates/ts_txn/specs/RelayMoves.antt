@@ -13,12 +13,6 @@ pub record ReadsOrigin (tells : Bool) (v w : View) (answer : Pulled) : Type 0 wh
   pub origin : SideReads tells v.origin w.origin answer
   pub others : w ≡ record v { origin = w.origin }
 
--- what was queued for the client is the same
-pub record IsSameSent (s t : Sent) : Type 0 where
-  pub head : t.head ≡ s.head
-  pub mode : t.mode ≡ s.mode
-  pub cuts : t.cuts.items ≡ s.cuts.items
-
 -- Behind what waits for the client comes this text, and this much more is known of what was queued.
 pub record AddsText (text cuts : List ℕ) (s t : Sent) (before after : List ℕ) : Type 0 where
   pub outbox : after ≡ before ++ text

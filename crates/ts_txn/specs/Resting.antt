@@ -1,5 +1,5 @@
--- What stands of a transaction that has ended, and of one whose group has nothing pending (Developer's Guide, "HTTP Hooks
--- and Transactions"; RFC 9112, section 8, on incomplete messages).
+-- What stands of a transaction that has ended, and of one whose group has nothing pending (Developer's Guide,
+-- "HTTP Hooks and Transactions"; RFC 9112, section 8, on incomplete messages).
 use Rattle.std.specs.Prelude.{◌≡◌, ℕ, ◌<◌, List, Bool, false, Some}
 use Rattle.std.specs.Arc.{arc_value}
 use Rattle.ts_config.specs.declared.setup.Setup.{Setup}
@@ -14,8 +14,8 @@ use Rattle.ts_txn.specs.Making.{end_of}
 use Rattle.ts_txn.specs.View.{HasFailed, OriginRefuses, View, view_of}
 use Rattle.ts_txn.specs.declared.txn.Txn.{Txn}
 
--- The client took what the block of all bytes of both links says: the whole answer, or its head and a front of a body that
--- was cut, or that broke its framing.
+-- The client took what the block of all bytes of both links says: the whole answer, or its head and a front
+-- of a body that was cut, or that broke its framing.
 pub data SendsBlock (setup : Setup) (refuses : Type 0) (v : View) : TxnEnd → Type 0 where
   whole : WholeEnd setup refuses v → SendsBlock setup refuses v E.Whole
   cut : ShortEnd setup refuses v E.OriginCut → SendsBlock setup refuses v E.OriginCut
@@ -31,11 +31,15 @@ module _ {C O Q : Type 0} (ctells otells : Bool) (client : C → Look) (origin :
   -- what holds of one that has ended so, where its links tell
   abbrev pub HasEndedSo : Txn C O Q → TxnEnd → Type 0
   HasEndedSo t end = IfTold ctells otells
-      (EndFact (arc_value t.core.setup) (OriginRefuses client refuses t.core) (view_of client origin t.core) end)
+      (EndFact (arc_value t.core.setup) (OriginRefuses client refuses t.core)
+      (view_of client origin t.core) end)
 
-  -- One that was started, whose links tell and have not failed, for which memory did not lack, and whose group has an
-  -- event number left: it has ended, and its client took what the block says.
+  -- One that was started, whose links tell and have not failed, for which memory did not lack, and whose
+  -- group has an event number left: it has ended, and its client took what the block says.
   abbrev pub RestsWithBlock : Txn C O Q → ℕ → Type 0
-  RestsWithBlock t next = is_fresh_on t.course ≡ false → next < GREATEST → NeverFailed (view_of client origin t.core)
-      → (end_of t.course ≡ Some E.NoMemory → ⊥) → IfTold ctells otells ((end : TxnEnd) × (end_of t.course ≡ Some end)
-      × SendsBlock (arc_value t.core.setup) (OriginRefuses client refuses t.core) (view_of client origin t.core) end)
+  RestsWithBlock t next =
+      is_fresh_on t.course ≡ false → next < GREATEST → NeverFailed (view_of client origin t.core)
+      → (end_of t.course ≡ Some E.NoMemory → ⊥)
+      → IfTold ctells otells ((end : TxnEnd) × (end_of t.course ≡ Some end)
+      × SendsBlock (arc_value t.core.setup) (OriginRefuses client refuses t.core)
+      (view_of client origin t.core) end)

@@ -79,8 +79,8 @@ pub record UploadsOnce (client origin : Bool) (refuses : List ℕ → Type 0) (q
 
 module _ {C O : Type 0} (ctells otells : Bool) (client : C → Look) (origin : O → Look)
     (refuses : O → List ℕ → Type 0) (left : C → O → Option ℕ) (t u : Core C O) where
-  -- a link's fault and a link that was not ready decide where a step leads; in an upload its answer does; and one that
-  -- closes ends so
+  -- a link's fault and a link that was not ready decide where a step leads; in an upload its answer does; and
+  -- one that closes ends so
   abbrev pub MindsLinksIn : Phase → Step → Type 0
   MindsLinksIn (P.Upload q) s = UploadsOnce ctells otells (refuses_if refuses t.origin) q
       (upload_told left t.client.link t.origin) (upload_told left u.client.link u.origin)

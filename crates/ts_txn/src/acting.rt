@@ -11,6 +11,7 @@ use ts_wire::{Field, is_named, trim, value_of};
 // The status of the responses that are transformed.
 const OK: u16 = 200;
 
+// How many bytes stand before the first `;`.
 fn before_semicolon(value: &[u8]) -> usize
     ensures value { result ≡ position_or_len is_semicolon value.now }
     ensures within { result ≤ length value.now }
@@ -18,6 +19,7 @@ fn before_semicolon(value: &[u8]) -> usize
     value.iter().position(|b| *b == b';').unwrap_or(value.len())
 }
 
+// The first Content-Type field.
 fn first_type(fields: &[Field]) -> Option<&Field>
     ensures { option_copied result ≡ find (is_named (codes "content-type")) fields.now }
 {
@@ -48,6 +50,7 @@ fn is_html(fields: &[Field]) -> bool
     media_type(fields).eq_ignore_ascii_case(b"text/html")
 }
 
+// Whether a field says that the body is coded, in another way than `identity`.
 fn is_coded(field: &Field) -> bool
     ensures { result ≡ is_coded field.now }
 {
@@ -67,6 +70,7 @@ fn is_open(status: u16, fields: &[Field]) -> bool
     status == OK && !has_coding(fields)
 }
 
+// Whether a line acts on HTML alone.
 fn wants_html(line: &TransformLine) -> bool
     ensures { result ≡ wants_html line.now }
 {
@@ -89,7 +93,7 @@ pub fn acts_on(status: u16, fields: &[Field], line: &TransformLine) -> bool
     is_open(status, fields) && (!wants_html(line) || is_html(fields))
 }
 
-/// Whether some line does.
+/// Whether some of these lines acts on such a response.
 pub fn is_acted_on(lines: &[TransformLine], status: u16, fields: &[Field]) -> bool
     ensures { result ≡ list_any (acts_on status fields.now) lines.now }
 {

@@ -10,7 +10,6 @@ ghost use Rattle.ts_txn.specs.Holding.{IfTold, PhaseHolds, HoldsAfter, StepKeeps
 use crate::block::own_text;
 use crate::parts::Core;
 use crate::phase::{Next, OwnAnswer, Phase, Step};
-use ts_hooks::TxnEnd;
 use ts_link::Link;
 use ts_upstream::Upstream;
 use ts_vconn::Pushed;
@@ -33,24 +32,14 @@ impl<C: Link, O: Upstream<C>> Core<C, O> {
             (view_of C.look O.look self.old) (view_of C.look O.look self.new) }
     {
         let Ok(head) = own_text(self.alloc, &self.setup, answer.status) else {
-            return Step {
-                phase: Phase::Ended {
-                    end: TxnEnd::NoMemory,
-                },
-                next: Next::Done,
-            };
+            return Step::LACKS;
         };
         match self.queue_own(head.bytes(), answer.status.sent(answer.to_head)) {
             Ok(()) => Step {
                 phase: Phase::Sending { answer },
                 next: Next::Go,
             },
-            Err(_) => Step {
-                phase: Phase::Ended {
-                    end: TxnEnd::NoMemory,
-                },
-                next: Next::Done,
-            },
+            Err(_) => Step::LACKS,
         }
     }
 
@@ -82,18 +71,8 @@ impl<C: Link, O: Upstream<C>> Core<C, O> {
                 phase: Phase::Sending { answer },
                 next: Next::Wait,
             },
-            Pushed::Failed => Step {
-                phase: Phase::TxnClose {
-                    end: TxnEnd::ClientFault,
-                },
-                next: Next::Go,
-            },
-            Pushed::NoMemory => Step {
-                phase: Phase::Ended {
-                    end: TxnEnd::NoMemory,
-                },
-                next: Next::Done,
-            },
+            Pushed::Failed => Step::CLIENT_FAILED,
+            Pushed::NoMemory => Step::LACKS,
         }
     }
 }

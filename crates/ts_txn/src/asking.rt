@@ -19,11 +19,22 @@ use ts_upstream::Upstream;
 use ts_vconn::Pulled;
 use ts_wire::{RequestHead, Verdict, check_request};
 
-/// The answer to what is no request.
-const NO_HEAD: OwnAnswer = OwnAnswer {
-    status: OwnStatus::BadRequest,
-    to_head: false,
-    end: TxnEnd::Whole,
+// The client gave what is no request: the 400 answer is next.
+const NO_HEAD: Step = Step {
+    phase: Phase::SendResponseHdr {
+        answer: OwnAnswer {
+            status: OwnStatus::BadRequest,
+            to_head: false,
+            end: TxnEnd::Whole,
+        },
+    },
+    next: Next::Go,
+};
+
+// The client gave nothing: the transaction closes without an answer.
+const SILENT: Step = Step {
+    phase: Phase::TxnClose { end: TxnEnd::Whole },
+    next: Next::Go,
 };
 
 /// What the check makes of a head that was read.
@@ -75,50 +86,26 @@ impl<C: Link, O: Upstream<C>> Core<C, O> {
                     phase: Phase::SendResponseHdr { answer },
                     next: Next::Go,
                 },
-                Err(_) => Step {
-                    phase: Phase::Ended {
-                        end: TxnEnd::NoMemory,
-                    },
-                    next: Next::Done,
-                },
+                Err(_) => Step::LACKS,
             },
-            Found::Never => Step {
-                phase: Phase::SendResponseHdr { answer: NO_HEAD },
-                next: Next::Go,
-            },
+            Found::Never => NO_HEAD,
             Found::Read(Pulled::Some(_)) => Step {
                 phase: Phase::ReadRequest,
                 next: Next::Go,
             },
             Found::Read(Pulled::End) => {
                 if self.client.inbox.is_empty() {
-                    Step {
-                        phase: Phase::TxnClose { end: TxnEnd::Whole },
-                        next: Next::Go,
-                    }
+                    SILENT
                 } else {
-                    Step {
-                        phase: Phase::SendResponseHdr { answer: NO_HEAD },
-                        next: Next::Go,
-                    }
+                    NO_HEAD
                 }
             }
             Found::Read(Pulled::Again) => Step {
                 phase: Phase::ReadRequest,
                 next: Next::Wait,
             },
-            Found::Read(Pulled::Failed) => Step {
-                phase: Phase::TxnClose {
-                    end: TxnEnd::ClientFault,
-                },
-                next: Next::Go,
-            },
-            Found::NoMemory => Step {
-                phase: Phase::Ended {
-                    end: TxnEnd::NoMemory,
-                },
-                next: Next::Done,
-            },
+            Found::Read(Pulled::Failed) => Step::CLIENT_FAILED,
+            Found::NoMemory => Step::LACKS,
         }
     }
 }

@@ -76,12 +76,7 @@ impl<C: Link, O: Upstream<C>> Core<C, O> {
                 phase: Phase::SendResponseHdr { answer: fault },
                 next: Next::Go,
             },
-            Found::NoMemory => Step {
-                phase: Phase::Ended {
-                    end: TxnEnd::NoMemory,
-                },
-                next: Next::Done,
-            },
+            Found::NoMemory => Step::LACKS,
         }
     }
 }

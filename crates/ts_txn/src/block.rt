@@ -51,6 +51,7 @@ pub(crate) fn request_text(
     origin_head(alloc, head, target.bytes(), host.bytes(), &fields)
 }
 
+/// The head of an answer of the proxy's own, after the header rules of responses.
 pub(crate) fn own_text(alloc: Global, setup: &Setup, status: OwnStatus) -> Result<Octets, NoMemory>
     ensures { IfOk result (λ text. text ≡ own_text setup.now status) }
 {
@@ -79,12 +80,14 @@ fn own_block(
     })
 }
 
+/// No bytes.
 fn nothing(alloc: Global) -> Octets
     ensures { result ≡ [] }
 {
     Octets::of_vec(Vec::new(alloc))
 }
 
+/// The block of a client that gave nothing.
 fn silent_block(alloc: Global) -> Block
     ensures { result ≡ silent_block }
 {
@@ -118,6 +121,7 @@ pub(crate) fn framing_for(
     )
 }
 
+/// The head that the client gets of a response that is passed on.
 pub(crate) fn relayed_head(
     alloc: Global,
     setup: &Setup,
@@ -209,6 +213,7 @@ fn short(
     })
 }
 
+/// Whether a body broke its framing.
 fn is_bad(state: BodyState) -> bool
     ensures bad { result ≡ true → state ≡ BodyState.Bad }
     ensures good { result ≡ false → state ≢ BodyState.Bad }

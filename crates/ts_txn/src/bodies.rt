@@ -9,7 +9,8 @@ use ts_config::TransformLine;
 use ts_link::NoMemory;
 use ts_wire::Field;
 
-fn joined(alloc: Global, front: &[u8], rest: &[u8]) -> Result<Vec<u8>, NoMemory>
+/// One text behind the other.
+pub fn joined(alloc: Global, front: &[u8], rest: &[u8]) -> Result<Vec<u8>, NoMemory>
     ensures { IfOk result (λ made. made.items ≡ front.now ++ rest.now) }
 {
     let mut made = Vec::from_slice(alloc, front)?;
@@ -17,6 +18,7 @@ fn joined(alloc: Global, front: &[u8], rest: &[u8]) -> Result<Vec<u8>, NoMemory>
     Ok(made)
 }
 
+// The body with each byte `from` as `to`.
 fn mapped(alloc: Global, from: u8, to: u8, body: &[u8]) -> Result<Vec<u8>, NoMemory>
     ensures { IfOk result (λ made. made.items ≡ mapped from to body.now) }
 {
@@ -27,6 +29,7 @@ fn mapped(alloc: Global, from: u8, to: u8, body: &[u8]) -> Result<Vec<u8>, NoMem
     Ok(made)
 }
 
+// The body without this byte.
 fn without_byte(alloc: Global, byte: u8, body: &[u8]) -> Result<Vec<u8>, NoMemory>
     ensures { IfOk result (λ made. made.items ≡ without_byte byte body.now) }
 {
@@ -39,6 +42,7 @@ fn without_byte(alloc: Global, byte: u8, body: &[u8]) -> Result<Vec<u8>, NoMemor
     Ok(made)
 }
 
+// What one line makes of a whole body.
 fn whole_of(alloc: Global, line: &TransformLine, body: Vec<u8>) -> Result<Vec<u8>, NoMemory>
     ensures { IfOk result (λ made. made.items ≡ whole_of line.now body.items) }
 {

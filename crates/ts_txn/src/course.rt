@@ -107,9 +107,7 @@ pub fn enter_on<C: Link, O: Upstream<C>, P: Transform<Line = TransformLine> + Dr
 {
     let Ok(made) = core.queue_relay(&request, &head) else {
         destroy_end(main, cx);
-        return Course::Phased(Phase::Ended {
-            end: TxnEnd::NoMemory,
-        });
+        return Course::Phased(Phase::LACKS);
     };
     let mut relay = made;
     cx.known();

@@ -44,15 +44,6 @@ fn rouse_next(after: u64, main: &mut Option<StageContinuation>, cx: &mut Cx) -> 
     false
 }
 
-// A transaction that has ended for want of memory.
-fn lacking<P>() -> Course<P>
-    ensures { result ≡ Course.Phased (Phase.Ended TxnEnd.NoMemory) }
-{
-    Course::Phased(Phase::Ended {
-        end: TxnEnd::NoMemory,
-    })
-}
-
 /// Sets the event of the next step of a transaction that passes no body on; where there is no memory for
 /// one, it ends.
 pub fn go_to<P: Drop>(
@@ -71,7 +62,7 @@ pub fn go_to<P: Drop>(
     if rouse_next(after, main, cx) {
         return course;
     }
-    lacking()
+    Course::Phased(Phase::LACKS)
 }
 
 /// Where a transaction is after a step of a body: one that is left is closed.
@@ -102,7 +93,7 @@ pub fn leave<P: Transform + Drop>(
         BodyStep::Lacks => {
             close_relay(relay, cx);
             destroy_end(main, cx);
-            lacking()
+            Course::Phased(Phase::LACKS)
         }
     }
 }
@@ -128,7 +119,7 @@ pub fn write_on<P: Drop>(
         BodyStep::Closes(end) => go_to(Course::Phased(Phase::TxnClose { end }), AT_ONCE, main, cx),
         BodyStep::Lacks => {
             destroy_end(main, cx);
-            lacking()
+            Course::Phased(Phase::LACKS)
         }
     }
 }

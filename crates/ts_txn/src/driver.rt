@@ -9,7 +9,6 @@ use crate::course::Course;
 use crate::course_leaving::{AT_ONCE, go_to};
 use crate::phase::Phase;
 use ts_group::{Cx, SetFault};
-use ts_hooks::TxnEnd;
 use ts_transform::{StageContinuation, make_end};
 
 /// The role of the first continuation of a transaction, the only one that it has up to the head.
@@ -18,7 +17,8 @@ pub const MAIN: u32 = 1;
 /// How long a step waits that found a link not ready, in milliseconds.
 pub const RETRY: u64 = 10;
 
-/// Sees that an event of the continuation is pending, so many milliseconds later where it has none yet.
+/// Sees that an event of the continuation is pending, so many milliseconds later where it has none yet. The
+/// answer is `Dead` where there is none, `Spent` once the event numbers are used up, or `NoMemory`.
 #[tactic(auto, using(crate::proofs::Seating::main_set, crate::proofs::Seating::main_rests, crate::proofs::Seating::due_set, crate::proofs::Seating::due_rests, ts_transform::proofs::Kept::adds_none, ts_transform::proofs::Kept::adds_dead, ts_transform::proofs::Kept::set_adds, ts_transform::proofs::Kept::set_event, ts_transform::proofs::Kept::works_soon, ts_transform::proofs::Kept::set_keeps, ts_transform::proofs::Kept::kept_if, ts_transform::proofs::Kept::roused_if))]
 pub fn rouse(main: &mut Option<StageContinuation>, after: u64, cx: &mut Cx) -> Result<(), SetFault>
     requires turn { cx.old.log.state.held ≡ true }
@@ -64,9 +64,7 @@ pub fn begin<P: Drop>(main: &mut Option<StageContinuation>, cx: &mut Cx) -> Cour
     ensures covered { CoversAlone main.old main.new result cx.old cx.new }
 {
     let Ok(made) = make_end(MAIN, cx) else {
-        return Course::Phased(Phase::Ended {
-            end: TxnEnd::NoMemory,
-        });
+        return Course::Phased(Phase::LACKS);
     };
     *main = Some(made);
     go_to(Course::Phased(Phase::TxnStart), AT_ONCE, main, cx)

@@ -78,7 +78,8 @@ fn give_part<P: Transform + Drop>(
     }
 }
 
-// Feeds the first block of what waits to the reader.
+// Feeds the first block of what waits to the reader of bodies, and gives the chain the part of it that is
+// body. A bad one ends the transaction.
 fn feed_some<P: Transform + Drop>(
     inbox: &mut Waiting,
     relay: &mut Relay<P>,
@@ -107,7 +108,7 @@ fn feed_some<P: Transform + Drop>(
     }
 }
 
-// The same of the origin's bytes; where there is no origin, it is as if memory lacked.
+// The same with the bytes that wait of the origin's; where there is no origin, it is as if memory lacked.
 fn feed_if<L: Link, P: Transform + Drop>(
     origin: &mut Option<Peer<L>>,
     relay: &mut Relay<P>,
@@ -165,7 +166,7 @@ impl<C: Link, O: Upstream<C>> Core<C, O> {
         holds_some(&self.origin)
     }
 
-    /// Feeds the reader with what waits of the origin's bytes.
+    /// Feeds the reader of bodies with the first block of what waits of the origin's bytes.
     pub fn feed_body<P: Transform + Drop>(&mut self, relay: &mut Relay<P>, cx: &mut Cx) -> BodyStep
         requires turn { cx.old.log.state.held ≡ true }
         requires goes_on { relay.old.driven.chain.given ≡ false }

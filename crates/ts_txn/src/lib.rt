@@ -48,6 +48,8 @@ pub use rules::{apply_rules, is_denied};
 pub use txn::{Txn, TxnTag};
 
 #[cfg(test)]
+mod test_texts;
+#[cfg(test)]
 mod tests;
 #[cfg(test)]
 mod txn_tests;

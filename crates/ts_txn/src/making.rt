@@ -32,25 +32,28 @@ pub const MOST_PLUGINS: u32 = 64;
 /// How many mutex groups there are at most, so that each of those plugins has one.
 pub const MOST_GROUPS: u32 = 4_096;
 
-/// What is left of a transaction: its links, what was queued for the client, how many faults the links had
-/// met when it was made, and how it ended, if it has.
+/// What is left of a transaction: its links, what was queued for the client, and how it ended.
 #[derive(Drop)]
 pub struct TxnParts<C, O> {
+    /// The number that it was made with.
     pub number: u64,
     pub client: C,
     pub origin: Option<O>,
-    /// The length of the client's head, 0 where none was queued.
+    /// The length of the client's head in bytes, 0 where none was queued.
     pub head: u64,
     /// How the client's body is written.
     pub mode: Mode,
+    /// How many faults the client's link had met when the transaction was made.
     pub client_faults: u64,
-    /// 0 without an origin.
+    /// The same of the origin's link, 0 without an origin.
     pub origin_faults: u64,
-    /// The lengths of the pieces of body that were framed.
+    /// The lengths of the pieces of body that were framed, in bytes.
     pub cuts: Vec<u32>,
+    /// How the transaction ended, if it has.
     pub end: Option<TxnEnd>,
 }
 
+// One side of a transaction, on which nothing waits.
 fn make_peer<L: Link + Drop>(alloc: Global, link: L) -> Result<Peer<L>, NoMemory>
     ensures { IfOk result (IsMadeOf L.look link) }
 {
@@ -64,6 +67,7 @@ fn make_peer<L: Link + Drop>(alloc: Global, link: L) -> Result<Peer<L>, NoMemory
     })
 }
 
+// The same of the origin's link, if there is one.
 fn make_peer_if<L: Link + Drop>(alloc: Global, link: Option<L>) -> Result<Option<Peer<L>>, NoMemory>
     ensures { IfOk result (IsMadeOfIf L.look link) }
 {
@@ -81,7 +85,8 @@ impl<C: Link + Drop, O: Upstream<C> + Drop, P: Transform<Line = TransformLine> +
     O,
     P,
 > {
-    /// A transaction between a client and an origin, which were not used. It was not started.
+    /// A transaction between a client and an origin, which were not used. It was not started. Its hook
+    /// plugins have the groups from `plugins_at` on.
     #[tactic(auto, using(crate::proofs::Made::sound))]
     pub fn make(
         alloc: Global,

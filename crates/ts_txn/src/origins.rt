@@ -67,12 +67,7 @@ impl<C: Link, O: Upstream<C>> Core<C, O> {
             (view_of C.look O.look self.now) (view_of C.look O.look self.now) }
     {
         let Ok(denied) = is_host_denied(self.alloc, &self.setup, &request) else {
-            return Step {
-                phase: Phase::Ended {
-                    end: TxnEnd::NoMemory,
-                },
-                next: Next::Done,
-            };
+            return Step::LACKS;
         };
         if denied {
             let answer = answer_to(&request, OwnStatus::Forbidden, TxnEnd::Whole);
@@ -111,24 +106,14 @@ impl<C: Link, O: Upstream<C>> Core<C, O> {
             (view_of C.look O.look self.old) (view_of C.look O.look self.new) }
     {
         let Ok(text) = head_for_origin(self.alloc, &self.setup, &request) else {
-            return Step {
-                phase: Phase::Ended {
-                    end: TxnEnd::NoMemory,
-                },
-                next: Next::Done,
-            };
+            return Step::LACKS;
         };
         match self.queue_request(text.bytes()) {
             Ok(()) => Step {
                 phase: Phase::SendRequest { request },
                 next: Next::Go,
             },
-            Err(_) => Step {
-                phase: Phase::Ended {
-                    end: TxnEnd::NoMemory,
-                },
-                next: Next::Done,
-            },
+            Err(_) => Step::LACKS,
         }
     }
 
@@ -168,12 +153,7 @@ impl<C: Link, O: Upstream<C>> Core<C, O> {
                     next: Next::Go,
                 }
             }
-            Pushed::NoMemory => Step {
-                phase: Phase::Ended {
-                    end: TxnEnd::NoMemory,
-                },
-                next: Next::Done,
-            },
+            Pushed::NoMemory => Step::LACKS,
         }
     }
 
@@ -207,12 +187,7 @@ impl<C: Link, O: Upstream<C>> Core<C, O> {
                 phase: Phase::Upload { request },
                 next: Next::Wait,
             },
-            Uploaded::ClientFailed => Step {
-                phase: Phase::TxnClose {
-                    end: TxnEnd::ClientFault,
-                },
-                next: Next::Go,
-            },
+            Uploaded::ClientFailed => Step::CLIENT_FAILED,
             Uploaded::OriginFailed => {
                 let answer = answer_to(&request, OwnStatus::BadGateway, TxnEnd::OriginFault);
                 Step {
@@ -227,12 +202,7 @@ impl<C: Link, O: Upstream<C>> Core<C, O> {
                     next: Next::Go,
                 }
             }
-            Uploaded::NoMemory => Step {
-                phase: Phase::Ended {
-                    end: TxnEnd::NoMemory,
-                },
-                next: Next::Done,
-            },
+            Uploaded::NoMemory => Step::LACKS,
         }
     }
 }

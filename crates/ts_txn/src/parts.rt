@@ -20,7 +20,7 @@ pub struct Peer<L> {
 }
 
 /// What was queued for the client: the length of its head, how its body is written, and the lengths of the
-/// pieces of body that were framed.
+/// pieces of body that were framed. Lengths are in bytes.
 #[derive(Drop)]
 pub struct Sent {
     pub head: u64,
@@ -32,6 +32,7 @@ pub struct Sent {
 #[derive(Drop)]
 pub struct Core<C, O> {
     pub alloc: Global,
+    /// The number that it was made with.
     pub number: u64,
     pub setup: Arc<Setup>,
     /// The group of the first plugin line; those of the others follow.

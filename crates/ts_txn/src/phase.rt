@@ -75,6 +75,13 @@ pub enum Phase {
     },
 }
 
+impl Phase {
+    /// The transaction has ended for want of memory.
+    pub const LACKS: Phase = Phase::Ended {
+        end: TxnEnd::NoMemory,
+    };
+}
+
 /// What the driver does after a step.
 #[derive(Clone, Copy, Debug, PartialEq, Eq)]
 pub enum Next {
@@ -91,4 +98,20 @@ pub enum Next {
 pub struct Step {
     pub phase: Phase,
     pub next: Next,
+}
+
+impl Step {
+    /// Memory lacked, and the transaction has ended for that.
+    pub const LACKS: Step = Step {
+        phase: Phase::LACKS,
+        next: Next::Done,
+    };
+
+    /// The client's link failed, and the transaction closes for that.
+    pub const CLIENT_FAILED: Step = Step {
+        phase: Phase::TxnClose {
+            end: TxnEnd::ClientFault,
+        },
+        next: Next::Go,
+    };
 }

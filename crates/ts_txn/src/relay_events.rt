@@ -22,8 +22,8 @@ use ts_transform::{StageContinuation, Transform, unrouse, works};
 use ts_upstream::Upstream;
 
 impl<C: Link, O: Upstream<C>> Core<C, O> {
-    /// Sees that an event of each end of a body is pending that must work, after these pauses where it has
-    /// none yet.
+    /// Sees that an event of each end of a body is pending that must work: of the first continuation and of
+    /// the reader after these pauses, in milliseconds, where it has none yet.
     pub fn settle_body<P: Transform + Drop>(
         &self,
         main: &mut Option<StageContinuation>,
@@ -42,7 +42,7 @@ impl<C: Link, O: Upstream<C>> Core<C, O> {
         rouse_ends(main, relay, writes, pauses, cx)
     }
 
-    // Sees to that after a step that goes on; one that found a link not ready makes these pauses.
+    // Sees to that after a step that goes on: at once, or after these pauses where it found a link not ready.
     fn settle_after<P: Transform + Drop>(
         &self,
         step: BodyStep,
@@ -67,7 +67,7 @@ impl<C: Link, O: Upstream<C>> Core<C, O> {
         }
     }
 
-    // Handles an event of the first continuation.
+    // Handles an event of the first continuation, which writes to the client.
     fn send_at<P: Transform + Drop>(
         &mut self,
         main: &mut Option<StageContinuation>,
@@ -97,7 +97,7 @@ impl<C: Link, O: Upstream<C>> Core<C, O> {
         self.settle_after(step, main, relay, (RETRY, 0), cx)
     }
 
-    // Handles an event of the reader.
+    // Handles an event of the reader, which reads from the origin.
     fn read_at<P: Transform + Drop>(
         &mut self,
         main: &mut Option<StageContinuation>,

@@ -59,7 +59,7 @@ fn body_parts<P: Transform<Line = TransformLine> + Drop>(
     )
 }
 
-// A reader of a body; of a faulty framing there is none, as if memory lacked.
+// The reader of bodies for a framing; for a faulty one there is none, as if memory lacked.
 fn reader_of(alloc: Global, framing: Framing) -> Result<BodyReader, NoMemory>
     ensures { IfOk result (IsFed framing [] []) }
 {

@@ -41,7 +41,7 @@ fn rouse_two(
 }
 
 /// Sees that an event of each end of a body is pending that must work: of the first continuation and of the
-/// reader after these pauses, where they have none yet.
+/// reader after these pauses, in milliseconds, where they have none yet.
 pub fn rouse_ends<P: Transform + Drop>(
     main: &mut Option<StageContinuation>,
     relay: &mut Relay<P>,

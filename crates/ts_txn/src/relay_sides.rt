@@ -4,7 +4,7 @@ ghost use Rattle.ts_wire.specs.Frames.{IsPiece, end_of, frame_of};
 ghost use Rattle.ts_vconn.specs.declared.moves.TheConstants.{MOST_PULLED};
 ghost use Rattle.ts_txn.specs.View.{GoesIf, is_dialed, side_if, view_of};
 ghost use Rattle.ts_txn.specs.Moving.{SideReads};
-ghost use Rattle.ts_txn.specs.RelayMoves.{AddsText, FramesEnd, FramesPiece, IsSameSent, QueuesHead, QueuesNothing, ReadsOrigin};
+ghost use Rattle.ts_txn.specs.RelayMoves.{AddsText, FramesEnd, FramesPiece, QueuesHead, QueuesNothing, ReadsOrigin};
 ghost use Rattle.ts_txn.specs.Holding.{StepKeeps};
 
 use crate::parts::{Core, Peer, Sent};
@@ -35,9 +35,8 @@ fn end_on(mode: Mode, out: &mut Waiting) -> Result<(), NoMemory>
 // Frames a piece of a body, and keeps its length.
 fn frame_sent(sent: &mut Sent, out: &mut Waiting, piece: &[u8]) -> Result<(), NoMemory>
     requires { IsPiece piece.now }
-    ensures ok { OnOk result
-        (AddsText (frame_of sent.old.mode piece.now) (length piece.now ∷ []) sent.old sent.new out.old
-        out.new) }
+    ensures ok { OnOk result (AddsText (frame_of sent.old.mode piece.now) (length piece.now ∷ [])
+        sent.old sent.new out.old out.new) }
     ensures err { OnErr result (AddsText [] [] sent.old sent.new out.old out.new) }
 {
     sent.cuts.reserve(1)?;
@@ -48,8 +47,8 @@ fn frame_sent(sent: &mut Sent, out: &mut Waiting, piece: &[u8]) -> Result<(), No
 
 // Makes one read of the origin's link; where there is no origin, it is as if memory lacked.
 fn pull_if<L: Link>(origin: &mut Option<Peer<L>>) -> Result<Pulled, NoMemory>
-    ensures moved { IfOk result (λ p. SideReads L.tells (side_if L.look origin.old) (side_if L.look
-        origin.new) p) }
+    ensures moved { IfOk result
+        (λ p. SideReads L.tells (side_if L.look origin.old) (side_if L.look origin.new) p) }
     ensures goes { GoesIf L.goes origin.old origin.new }
     ensures dialed { is_dialed origin.new ≡ is_dialed origin.old }
     ensures err { OnErr result (origin.new ≡ origin.old) }
@@ -92,8 +91,8 @@ impl<C: Link, O: Upstream<C>> Core<C, O> {
         requires { IsPiece piece.now }
         ensures ok { OnOk result
             (FramesPiece piece.now (view_of C.look O.look self.old) (view_of C.look O.look self.new)) }
-        ensures err { OnErr result (QueuesNothing (view_of C.look O.look self.old) (view_of C.look O.look
-            self.new)) }
+        ensures err { OnErr result
+            (QueuesNothing (view_of C.look O.look self.old) (view_of C.look O.look self.new)) }
         ensures keeps { StepKeeps C.look O.look O.paired O.refuses self.old self.new }
     {
         frame_sent(&mut self.sent, &mut self.client.outbox, piece)
@@ -101,10 +100,10 @@ impl<C: Link, O: Upstream<C>> Core<C, O> {
 
     /// Frames the end of the client's body: all of it, or nothing for want of memory.
     pub fn end_body(&mut self) -> Result<(), NoMemory>
-        ensures ok { OnOk result (FramesEnd (view_of C.look O.look self.old) (view_of C.look O.look
-            self.new)) }
-        ensures err { OnErr result (QueuesNothing (view_of C.look O.look self.old) (view_of C.look O.look
-            self.new)) }
+        ensures ok { OnOk result
+            (FramesEnd (view_of C.look O.look self.old) (view_of C.look O.look self.new)) }
+        ensures err { OnErr result
+            (QueuesNothing (view_of C.look O.look self.old) (view_of C.look O.look self.new)) }
         ensures keeps { StepKeeps C.look O.look O.paired O.refuses self.old self.new }
     {
         end_on(self.sent.mode, &mut self.client.outbox)

@@ -67,6 +67,8 @@ pub fn client_framing(
     }
 }
 
+// How a response without a body is framed: it keeps the length that it tells of another one, unless a line
+// would change that body.
 fn kept_length(acts: bool, status: u16, told: Option<u64>) -> ClientFraming
     ensures { result ≡ kept_length acts status told }
 {
@@ -82,6 +84,7 @@ fn kept_length(acts: bool, status: u16, told: Option<u64>) -> ClientFraming
     }
 }
 
+// How a body is framed whose length is not known before its end.
 fn open_framing(chunks: bool) -> ClientFraming
     ensures { result ≡ open_framing chunks }
 {

@@ -8,6 +8,7 @@ use ts_config::{PluginLine, Rule, Side, Sites};
 use ts_link::NoMemory;
 use ts_wire::{Field, Fields};
 
+// The fields after one rule.
 fn apply_rule(mut fields: Fields, rule: &Rule) -> Result<Fields, NoMemory>
     ensures { IfOk result (λ after. after ≡ apply_rule rule.now fields) }
 {
@@ -51,6 +52,7 @@ fn is_side(a: Side, b: Side) -> bool
     }
 }
 
+// The fields of one side's head after a line: only a header rule of that side changes them.
 fn after_line(side: Side, fields: Fields, line: &PluginLine) -> Result<Fields, NoMemory>
     ensures { IfOk result (λ after. after ≡ after_line side fields line.now) }
 {
@@ -83,7 +85,8 @@ fn is_same_site(site: &[u8], host: &[u8]) -> bool
     site.eq_ignore_ascii_case(host)
 }
 
-// No list in memory has more sites than a `usize` counts.
+// Whether the host is one of the sites but for letter case. No list in memory has more of them than a `usize`
+// counts.
 fn is_site(sites: &Sites, host: &[u8]) -> Result<bool, NoMemory>
     ensures { IfOk result (λ is. is ≡ is_site host.now sites.now) }
 {

@@ -1,11 +1,12 @@
 //! What a step calls on the sides of a transaction. Each call speaks of all of it, so that a step is one call
 //! and a choice by its answer.
-ghost use Rattle.std.specs.Prelude.{◌≡◌, ◌++◌, IfOk, OnOk, OnErr};
+ghost use Rattle.std.specs.Prelude.{◌≡◌, IfOk, OnOk, OnErr};
 ghost use Rattle.ts_txn.specs.View.{IsPaired, refuses_if, upload_told, view_of};
 ghost use Rattle.ts_txn.specs.Moving.{cuts_of, HearsRequest, HearsResponse, LowersUpload, MovesUpload, QueuesOwn, QueuesRequest, WritesClient, WritesOrigin};
 ghost use Rattle.ts_txn.specs.Holding.{StepKeeps};
 ghost use Rattle.ts_txn.specs.Lowering.{RaisesUpload};
 
+use crate::bodies::joined;
 use crate::parts::{Core, Sent};
 use crate::peers::{move_upload, push_origin, queue_if};
 use crate::reading::{Found, next_request, next_response_if};
@@ -28,15 +29,6 @@ fn cuts_of(alloc: Global, body: &[u8]) -> Result<Vec<u32>, NoMemory>
     };
     cuts.push(len)?;
     Ok(cuts)
-}
-
-/// One text behind the other.
-fn joined(alloc: Global, head: &[u8], body: &[u8]) -> Result<Vec<u8>, NoMemory>
-    ensures { IfOk result (λ text. text.items ≡ head.now ++ body.now) }
-{
-    let mut text = Vec::from_slice(alloc, head)?;
-    text.extend_from_slice(body)?;
-    Ok(text)
 }
 
 impl<C: Link, O: Upstream<C>> Core<C, O> {

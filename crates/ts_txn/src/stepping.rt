@@ -7,7 +7,6 @@ ghost use Rattle.ts_txn.specs.Holding.{IfTold, PhaseHolds, HoldsAfter, StepKeeps
 
 use crate::parts::Core;
 use crate::phase::{Next, Phase, Step};
-use ts_hooks::TxnEnd;
 use ts_link::Link;
 use ts_upstream::Upstream;
 
@@ -53,12 +52,7 @@ impl<C: Link, O: Upstream<C>> Core<C, O> {
                 phase: Phase::ResponseTransform { request, head },
                 next: Next::Go,
             },
-            Phase::ResponseTransform { .. } => Step {
-                phase: Phase::Ended {
-                    end: TxnEnd::NoMemory,
-                },
-                next: Next::Done,
-            },
+            Phase::ResponseTransform { .. } => Step::LACKS,
             Phase::SendResponseHdr { answer } => self.send_response_hdr(answer),
             Phase::Sending { answer } => self.send(answer),
             Phase::TxnClose { end } => Step {

@@ -1,4 +1,9 @@
 //! Blocks of exchanges that were worked out by hand.
+use crate::bodies::joined;
+use crate::test_texts::{
+    BAD_GATEWAY, BAD_REQUEST, FORBIDDEN, GET, GET_SENT, HEAD, HEAD_OF_BAD_GATEWAY,
+    HEAD_OF_BAD_REQUEST, HEAD_SENT, NOT_IMPLEMENTED,
+};
 use crate::{Block, block_of};
 use http_header::{HeaderName, HeaderValue};
 use std::alloc::Global;
@@ -8,27 +13,11 @@ use ts_config::{PluginLine, Rule, Setup, Side, Sites, TransformLine, read_config
 use ts_hooks::TxnEnd;
 use ts_link::Octets;
 
-const GET: &[u8] = b"GET / HTTP/1.1\r\nHost: a\r\n\r\n";
-
-const HEAD: &[u8] = b"HEAD / HTTP/1.1\r\nHost: a\r\n\r\n";
-
-// What the origin gets of both, but for the method.
-const SENT: &[u8] = b" / HTTP/1.1\r\nhost: a\r\nvia: 1.1 tsx\r\nconnection: close\r\n\r\n";
-
 // The head of a response whose body is sent in chunks.
 const CHUNKS: &[u8] =
     b"HTTP/1.1 200 OK\r\nvia: 1.1 tsx\r\ntransfer-encoding: chunked\r\nconnection: close\r\n\r\n";
 
 const RESPONSE: &[u8] = b"HTTP/1.1 200 OK\r\nContent-Length: 3\r\n\r\nabc";
-
-const GATEWAY: &[u8] =
-    b"HTTP/1.1 502 Bad Gateway\r\ncontent-type: text/plain\r\ncontent-length: 16\r\nconnection: close\r\n\r\n502 Bad Gateway\n";
-
-const BAD_REQUEST: &[u8] =
-    b"HTTP/1.1 400 Bad Request\r\ncontent-type: text/plain\r\ncontent-length: 16\r\nconnection: close\r\n\r\n400 Bad Request\n";
-
-const NOT_SERVED: &[u8] =
-    b"HTTP/1.1 501 Not Implemented\r\ncontent-type: text/plain\r\ncontent-length: 20\r\nconnection: close\r\n\r\n501 Not Implemented\n";
 
 // The setup of a configuration whose files hold `<hr>`.
 fn setup_of(alloc: Global, config: &[u8]) -> Result<Setup, Fail> {
@@ -54,14 +43,9 @@ fn answers(block: &Block, end: TxnEnd, text: &[u8]) -> bool {
     block.end == end && text.strip_prefix(head) == Some(body)
 }
 
-fn was_sent(block: &Block, method: &[u8]) -> bool {
-    block.request.bytes().strip_prefix(method) == Some(SENT)
-}
-
-fn text_of(alloc: Global, head: &[u8], body: &[u8]) -> Result<Vec<u8>, Fail> {
-    let mut text = Vec::from_slice(alloc, head)?;
-    text.extend_from_slice(body)?;
-    Ok(text)
+// Whether the origin gets this request.
+fn was_sent(block: &Block, request: &[u8]) -> bool {
+    block.request.bytes() == request
 }
 
 #[test]
@@ -86,8 +70,8 @@ fn a_body_goes_through_the_lines_that_act_on_it(rt: HostRuntime) -> Result<(), F
     ];
     for (config, origin, end, body) in rows {
         let block = exchange(alloc, config, GET, origin)?;
-        let text = text_of(alloc, CHUNKS, body)?;
-        assert!(rt; answers(&block, end, text.as_slice()) && was_sent(&block, b"GET"));
+        let text = joined(alloc, CHUNKS, body)?;
+        assert!(rt; answers(&block, end, text.as_slice()) && was_sent(&block, GET_SENT));
     }
     Ok(())
 }
@@ -144,12 +128,12 @@ fn answers_of_the_proxy_itself(rt: HostRuntime) -> Result<(), Fail> {
     let alloc = rt.alloc();
     let setup = setup_of(alloc, b"")?;
     let block = block_of(alloc, &setup, GET, false, false, b"")?;
-    assert!(rt; answers(&block, TxnEnd::Whole, GATEWAY) && block.request.bytes().is_empty());
+    assert!(rt; answers(&block, TxnEnd::Whole, BAD_GATEWAY) && was_sent(&block, b""));
     // An interim head and then the end; and a head that would end HTTP.
     let interim = exchange(alloc, b"", GET, b"HTTP/1.1 100 Continue\r\n\r\n")?;
     let switching = exchange(alloc, b"", GET, b"HTTP/1.1 101 Switching Protocols\r\n\r\n")?;
-    assert!(rt; answers(&interim, TxnEnd::Whole, GATEWAY) && was_sent(&interim, b"GET"));
-    assert!(rt; answers(&switching, TxnEnd::Whole, GATEWAY));
+    assert!(rt; answers(&interim, TxnEnd::Whole, BAD_GATEWAY) && was_sent(&interim, GET_SENT));
+    assert!(rt; answers(&switching, TxnEnd::Whole, BAD_GATEWAY));
     let silent = exchange(alloc, b"", b"", b"")?;
     assert!(rt; answers(&silent, TxnEnd::Whole, b""));
     Ok(())
@@ -164,10 +148,8 @@ fn a_denied_host_gets_no_request(rt: HostRuntime) -> Result<(), Fail> {
     let sites = Sites::of_vec(sites);
     setup.plugins.push(PluginLine::Deny { sites })?;
     let client = b"GET / HTTP/1.1\r\nHost: a.EXAMPLE:80\r\n\r\n";
-    let text =
-        b"HTTP/1.1 403 Forbidden\r\ncontent-type: text/plain\r\ncontent-length: 14\r\nconnection: close\r\n\r\n403 Forbidden\n";
     let block = block_of(alloc, &setup, client, true, false, RESPONSE)?;
-    assert!(rt; answers(&block, TxnEnd::Whole, text) && block.request.bytes().is_empty());
+    assert!(rt; answers(&block, TxnEnd::Whole, FORBIDDEN) && was_sent(&block, b""));
     Ok(())
 }
 
@@ -182,19 +164,19 @@ fn a_refused_request_never_reaches_the_origin(rt: HostRuntime) -> Result<(), Fai
             b"POST / HTTP/1.1\r\nHost: a\r\nContent-Length: x\r\n\r\n",
             BAD_REQUEST,
         ),
-        (b"CONNECT a:80 HTTP/1.1\r\nHost: a\r\n\r\n", NOT_SERVED),
+        (b"CONNECT a:80 HTTP/1.1\r\nHost: a\r\n\r\n", NOT_IMPLEMENTED),
         (
             b"POST / HTTP/1.1\r\nHost: a\r\nTransfer-Encoding: chunked\r\n\r\n",
-            NOT_SERVED,
+            NOT_IMPLEMENTED,
         ),
         (
             b"POST / HTTP/1.1\r\nHost: a\r\nContent-Length: 3\r\n\r\nabc",
-            NOT_SERVED,
+            NOT_IMPLEMENTED,
         ),
     ];
     for (client, text) in rows {
         let block = exchange(rt.alloc(), b"", client, RESPONSE)?;
-        assert!(rt; answers(&block, TxnEnd::Whole, text) && block.request.bytes().is_empty());
+        assert!(rt; answers(&block, TxnEnd::Whole, text) && was_sent(&block, b""));
     }
     Ok(())
 }
@@ -206,13 +188,9 @@ fn an_own_answer_to_head_has_no_body(rt: HostRuntime) -> Result<(), Fail> {
     let none = block_of(alloc, &setup, HEAD, false, false, b"")?;
     let refused = exchange(alloc, b"", b"HEAD / HTTP/1.1\r\n\r\n", RESPONSE)?;
     let ended = exchange(alloc, b"", HEAD, b"")?;
-    assert!(rt;
-        answers(&none, TxnEnd::Whole, GATEWAY.split_at(93).0) && none.request.bytes().is_empty()
-    );
-    assert!(rt; answers(&refused, TxnEnd::Whole, BAD_REQUEST.split_at(93).0));
-    assert!(rt;
-        answers(&ended, TxnEnd::Whole, GATEWAY.split_at(93).0) && was_sent(&ended, b"HEAD")
-    );
+    assert!(rt; answers(&none, TxnEnd::Whole, HEAD_OF_BAD_GATEWAY) && was_sent(&none, b""));
+    assert!(rt; answers(&refused, TxnEnd::Whole, HEAD_OF_BAD_REQUEST));
+    assert!(rt; answers(&ended, TxnEnd::Whole, HEAD_OF_BAD_GATEWAY) && was_sent(&ended, HEAD_SENT));
     assert!(rt;
         none.body.bytes().is_empty()
             && refused.body.bytes().is_empty()
@@ -225,7 +203,7 @@ fn an_own_answer_to_head_has_no_body(rt: HostRuntime) -> Result<(), Fail> {
 fn a_refused_upload_is_answered_by_400(rt: HostRuntime) -> Result<(), Fail> {
     let setup = setup_of(rt.alloc(), b"")?;
     let block = block_of(rt.alloc(), &setup, GET, true, true, RESPONSE)?;
-    assert!(rt; answers(&block, TxnEnd::Whole, BAD_REQUEST) && was_sent(&block, b"GET"));
+    assert!(rt; answers(&block, TxnEnd::Whole, BAD_REQUEST) && was_sent(&block, GET_SENT));
     Ok(())
 }
 

@@ -34,8 +34,8 @@ pub struct Txn<C, O, P> {
     pub(crate) course: Course<P>,
 }
 
-/// What a slot promises of the transaction in it. The setup and the links are for contracts alone, and take no
-/// memory.
+/// What a slot promises of the transaction in it. The setup and the links are for contracts alone, and take
+/// no memory.
 #[derive(Drop)]
 pub struct TxnTag<C, O> {
     pub number: u64,
@@ -54,6 +54,7 @@ pub struct TxnTag<C, O> {
     pub started: bool,
 }
 
+// Whether it was not started.
 fn is_fresh<P>(course: &Course<P>) -> bool
     ensures { result ≡ is_fresh_on course.now }
 {

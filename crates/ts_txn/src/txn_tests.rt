@@ -6,6 +6,7 @@ ghost use Rattle.ts_txn.specs.Entering.{ActsAsLines};
 ghost use Rattle.ts_txn.specs.Making.{ArePaired, HasFewLines, IsNewLink, IsNewLinkIf};
 ghost use Rattle.ts_txn.specs.World.{IsSoundTxnGroup};
 
+use crate::test_texts::GET;
 use crate::{Txn, TxnParts};
 use std::alloc::Global;
 use std::sync::Arc;
@@ -53,27 +54,6 @@ impl Transform for Passing {
 
 // More turns than any of the runs takes.
 const TURNS: u32 = 100_000;
-
-pub const GET: &[u8] = b"GET / HTTP/1.1\r\nHost: a\r\n\r\n";
-
-/// What the origin gets of it.
-pub const SENT: &[u8] = b"GET / HTTP/1.1\r\nhost: a\r\nvia: 1.1 tsx\r\nconnection: close\r\n\r\n";
-
-pub const BAD_REQUEST: &[u8] =
-    b"HTTP/1.1 400 Bad Request\r\ncontent-type: text/plain\r\ncontent-length: 16\r\nconnection: close\r\n\r\n400 Bad Request\n";
-
-pub const FORBIDDEN: &[u8] =
-    b"HTTP/1.1 403 Forbidden\r\ncontent-type: text/plain\r\ncontent-length: 14\r\nconnection: close\r\n\r\n403 Forbidden\n";
-
-pub const NOT_IMPLEMENTED: &[u8] =
-    b"HTTP/1.1 501 Not Implemented\r\ncontent-type: text/plain\r\ncontent-length: 20\r\nconnection: close\r\n\r\n501 Not Implemented\n";
-
-pub const BAD_GATEWAY: &[u8] =
-    b"HTTP/1.1 502 Bad Gateway\r\ncontent-type: text/plain\r\ncontent-length: 16\r\nconnection: close\r\n\r\n502 Bad Gateway\n";
-
-/// The same to a request for the head alone.
-pub const HEAD_OF_BAD_GATEWAY: &[u8] =
-    b"HTTP/1.1 502 Bad Gateway\r\ncontent-type: text/plain\r\ncontent-length: 16\r\nconnection: close\r\n\r\n";
 
 /// What a link in memory gives and does: how many reads bring one byte each, which read and which write
 /// fails, and which two writes wait. No call has the number 0.

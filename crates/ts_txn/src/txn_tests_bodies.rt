@@ -1,5 +1,6 @@
 //! Responses that are passed on to the client, where no line acts on them.
-use crate::txn_tests::{GET, SENT, dripping, giving, is_answered};
+use crate::test_texts::{GET, GET_SENT};
+use crate::txn_tests::{dripping, giving, is_answered};
 use std::alloc::Global;
 use std::test::Fail;
 use ts_hooks::TxnEnd;
@@ -7,8 +8,22 @@ use ts_hooks::TxnEnd;
 // Whether the client gets this text of an origin that gives its response at once, and of one that gives it
 // byte by byte.
 fn is_passed_on(alloc: Global, origin: &[u8], end: TxnEnd, text: &[u8]) -> Result<bool, Fail> {
-    let at_once = is_answered(alloc, giving(GET), Some(giving(origin)), end, text, SENT)?;
-    let one_by_one = is_answered(alloc, giving(GET), Some(dripping(origin)), end, text, SENT)?;
+    let at_once = is_answered(
+        alloc,
+        giving(GET),
+        Some(giving(origin)),
+        end,
+        text,
+        GET_SENT,
+    )?;
+    let one_by_one = is_answered(
+        alloc,
+        giving(GET),
+        Some(dripping(origin)),
+        end,
+        text,
+        GET_SENT,
+    )?;
     Ok(at_once && one_by_one)
 }
 
@@ -48,6 +63,6 @@ fn a_response_is_passed_on(rt: HostRuntime) -> Result<(), Fail> {
     let text =
         b"HTTP/1.1 200 OK\r\nvia: 1.1 tsx\r\ntransfer-encoding: chunked\r\nconnection: close\r\n\r\n5\r\nhello\r\n0\r\n\r\n";
     let end = TxnEnd::Whole;
-    assert!(rt; is_answered(alloc, giving(GET), Some(giving(open)), end, text, SENT)?);
+    assert!(rt; is_answered(alloc, giving(GET), Some(giving(open)), end, text, GET_SENT)?);
     Ok(())
 }

@@ -1,20 +1,13 @@
 //! Origins whose answer cannot be passed on, and clients that get the proxy's own instead.
-use crate::txn_tests::{
-    BAD_GATEWAY, GET, HEAD_OF_BAD_GATEWAY, Plan, SENT, SILENT, dripping, giving, is_answered,
-    is_left_at, waits_of,
-};
+use crate::test_texts::{BAD_GATEWAY, GET, GET_SENT, HEAD, HEAD_OF_BAD_GATEWAY, HEAD_SENT};
+use crate::txn_tests::{Plan, SILENT, dripping, giving, is_answered, is_left_at, waits_of};
 use std::alloc::Global;
 use std::test::Fail;
 use ts_hooks::TxnEnd;
 
-const HEAD: &[u8] = b"HEAD / HTTP/1.1\r\nHost: a\r\n\r\n";
-
-// What the origin gets of it.
-const HEAD_SENT: &[u8] = b"HEAD / HTTP/1.1\r\nhost: a\r\nvia: 1.1 tsx\r\nconnection: close\r\n\r\n";
-
 // Whether a request gets the 502 answer, and one for the head alone the same without its body.
 fn is_gateway_fault(alloc: Global, origin: Plan<'_>, end: TxnEnd) -> Result<bool, Fail> {
-    let get = is_answered(alloc, giving(GET), Some(origin), end, BAD_GATEWAY, SENT)?;
+    let get = is_answered(alloc, giving(GET), Some(origin), end, BAD_GATEWAY, GET_SENT)?;
     let head = is_answered(
         alloc,
         giving(HEAD),
@@ -51,7 +44,7 @@ fn an_origin_that_gives_no_answer_to_pass_on(rt: HostRuntime) -> Result<(), Fail
             Some(faulty),
             TxnEnd::Whole,
             BAD_GATEWAY,
-            SENT
+            GET_SENT
         )?
     );
     Ok(())

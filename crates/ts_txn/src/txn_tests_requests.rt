@@ -1,8 +1,8 @@
 //! Requests that the proxy answers by itself, and clients that give none.
-use crate::txn_tests::{
-    BAD_GATEWAY, BAD_REQUEST, FORBIDDEN, NOT_IMPLEMENTED, SILENT, giving, is_answered,
-    is_denied_for, is_refused,
+use crate::test_texts::{
+    BAD_GATEWAY, BAD_REQUEST, FORBIDDEN, HEAD_OF_BAD_REQUEST, NOT_IMPLEMENTED,
 };
+use crate::txn_tests::{SILENT, giving, is_answered, is_denied_for, is_refused};
 use std::test::Fail;
 use ts_hooks::TxnEnd;
 
@@ -29,8 +29,7 @@ fn a_request_that_fails_the_check_gets_its_answer(rt: HostRuntime) -> Result<(),
             b"POST / HTTP/1.1\r\nHost: a\r\nContent-Length: 3\r\n\r\nabc",
             NOT_IMPLEMENTED,
         ),
-        // The head alone.
-        (b"HEAD / HTTP/1.1\r\n\r\n", BAD_REQUEST.split_at(93).0),
+        (b"HEAD / HTTP/1.1\r\n\r\n", HEAD_OF_BAD_REQUEST),
     ];
     for (client, text) in rows {
         assert!(rt; is_refused(rt.alloc(), client, text)?);

@@ -4,7 +4,9 @@ use crate::exchange::{NUMBER, Told, run};
 use crate::lines::{FILE, STOCK};
 use crate::plan::giving;
 use crate::row::{Row, Verdict, check, get};
-use crate::stated::{ABC, BAD_GATEWAY, BAD_REQUEST, GET, HEAD, HEAD_SENT, NOT_IMPLEMENTED};
+use crate::stated::{
+    ABC, BAD_GATEWAY, BAD_REQUEST, GET, GET_SENT, HEAD, HEAD_SENT, NOT_IMPLEMENTED,
+};
 use std::test::Fail;
 use ts_hooks::TxnEnd;
 use ts_wire::Mode;
@@ -33,12 +35,7 @@ fn no_line_acts_on_an_answer_of_the_proxys_own(rt: HostRuntime) -> Result<(), Fa
             NOT_IMPLEMENTED,
             b"501 Not Implemented\n",
         ),
-        own(
-            GET,
-            b"GET / HTTP/1.1\r\nhost: a\r\nvia: 1.1 tsx\r\nconnection: close\r\n\r\n",
-            BAD_GATEWAY,
-            b"502 Bad Gateway\n",
-        ),
+        own(GET, GET_SENT, BAD_GATEWAY, b"502 Bad Gateway\n"),
         own(HEAD, HEAD_SENT, BAD_GATEWAY, b""),
         Row {
             origin: None,

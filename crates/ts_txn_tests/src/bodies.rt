@@ -4,28 +4,24 @@ use crate::lines::{STOCK, html};
 use crate::plan::{dripping_after, giving};
 use crate::refusal::Refusal;
 use crate::row::{Row, Verdict, check, check_between, chunked, get};
-use crate::stated::{ABC, BAD_GATEWAY, CHUNKED, GET, SIZED};
+use crate::stated::{ABC, ABC_FRONT, BAD_GATEWAY, CHUNKED, GET, IN_CHUNKS, SIZED, response};
 use std::alloc::Global;
 use std::test::Fail;
 use ts_hooks::TxnEnd;
 use ts_wire::Mode;
 
+// A response of HTML in chunks with an extension and a trailer.
 const CHUNKS: &[u8] =
     b"HTTP/1.1 200 OK\r\nContent-Type: text/html\r\nTransfer-Encoding: chunked\r\n\r\n3;x=1\r\nban\r\n3\r\nana\r\n0\r\nT: 1\r\n\r\n";
 
-// How much of them is the head.
+// How many bytes of it are its head.
 const CHUNKS_FRONT: u32 = 72;
-
-// How much of the response of three bytes is its head.
-const ABC_FRONT: usize = 38;
-
-const IN_CHUNKS: &[u8] = b"HTTP/1.1 200 OK\r\nTransfer-Encoding: chunked\r\n\r\n";
 
 #[test]
 fn a_body_that_is_cut_is_a_front(rt: HostRuntime) -> Result<(), Fail> {
     let alloc = rt.alloc();
-    assert_eq!(rt; ABC.split_at(ABC_FRONT).1, b"abc".as_slice());
-    for at in ABC_FRONT..ABC.len() {
+    assert_eq!(rt; ABC.split_at(ABC_FRONT as usize).1, b"abc".as_slice());
+    for at in ABC_FRONT as usize..ABC.len() {
         let (front, _) = ABC.split_at(at);
         let row = Row {
             end: TxnEnd::OriginCut,
@@ -46,7 +42,8 @@ fn a_body_that_is_cut_is_a_front(rt: HostRuntime) -> Result<(), Fail> {
     Ok(())
 }
 
-// Whether a client gets this body of such a front of the chunks, which come at once, and byte by byte after their head.
+// Whether a client gets this body of such a front of the chunks, which come at once, and byte by byte after
+// their head.
 fn check_cut(
     alloc: Global,
     lines: &[u8],
@@ -104,8 +101,7 @@ fn bad_row<'a>(lines: &'a [u8], origin: &'a [u8], body: &'a [u8]) -> Row<'a> {
 
 // Whether a client gets this body of a response in chunks that go wrong.
 fn check_bad(alloc: Global, chunks: &[u8], lines: &[u8], body: &[u8]) -> Result<Verdict, Refusal> {
-    let mut origin = Vec::from_slice(alloc, IN_CHUNKS)?;
-    origin.extend_from_slice(chunks)?;
+    let origin = response(alloc, IN_CHUNKS, chunks)?;
     check(alloc, &bad_row(lines, origin.as_slice(), body))
 }
 

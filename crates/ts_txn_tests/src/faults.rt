@@ -1,20 +1,21 @@
-//! Links that fail or leave: how the transaction ends, and that what was sent by then is a front of what is stated.
+//! Links that fail or leave: how the transaction ends, and that what was sent by then is a front of what is
+//! stated.
 
 use crate::exchange::{exchange, setup_of};
 use crate::lines::{HTML, HTML_FRONT, STOCK, html};
 use crate::plan::{Plan, dripping, dripping_after, giving, leaving, link_of};
 use crate::refusal::Refusal;
 use crate::row::{Row, Verdict, check_between, get, judge, judge_front, run_row};
-use crate::stated::{ABC, BAD_GATEWAY, GET, GET_SENT, SIZED};
+use crate::stated::{ABC, ABC_FRONT, BAD_GATEWAY, GET, GET_SENT, SIZED};
 use std::alloc::Global;
 use std::test::Fail;
 use ts_hooks::TxnEnd;
 use ts_wire::Mode;
 
-// The response of HTML up to the close.
-const ENDLESS: &[u8] = b"HTTP/1.1 200 OK\r\nContent-Type: text/html\r\n\r\nbanana";
+// A response of HTML up to the close.
+const ENDLESS_HTML: &[u8] = b"HTTP/1.1 200 OK\r\nContent-Type: text/html\r\n\r\nbanana";
 
-// How much of it is its head.
+// How many bytes of it are its head.
 const ENDLESS_FRONT: u32 = 44;
 
 // The answer where the origin fails before its head is whole.
@@ -28,7 +29,8 @@ fn gateway_fault(row: Row<'_>) -> Row<'_> {
     }
 }
 
-// Whether a client whose write of this number fails got a front of all before it, where each write takes one byte.
+// Whether a client whose write of this number fails got a front of all before it, where each write takes one
+// byte.
 fn check_failing(alloc: Global, row: &Row<'_>, write: u64) -> Result<Verdict, Refusal> {
     let client = Plan {
         fail_write: write,
@@ -99,8 +101,8 @@ fn a_client_that_fails_at_each_write_got_a_front(rt: HostRuntime) -> Result<(), 
     Ok(())
 }
 
-// Whether an origin whose read of this number fails is answered for by all that was framed, where it gives one byte a
-// read behind its head.
+// Whether an origin whose read of this number fails is answered for by all that was framed, where it gives
+// one byte a read behind its head.
 fn check_origin(
     alloc: Global,
     row: &Row<'_>,
@@ -135,7 +137,7 @@ fn an_origin_that_fails_in_its_body_gave_a_front(rt: HostRuntime) -> Result<(), 
         }
         // Of a body up to the close one more read brings its end.
         for read in 2..=8 {
-            let verdict = check_origin(alloc, &row, ENDLESS, ENDLESS_FRONT, read)?;
+            let verdict = check_origin(alloc, &row, ENDLESS_HTML, ENDLESS_FRONT, read)?;
             assert_eq!(rt;
                 verdict,
                 Verdict::AsStated,
@@ -204,11 +206,11 @@ fn a_client_that_fails_at_each_read_gets_nothing(rt: HostRuntime) -> Result<(), 
 fn a_client_that_fails_last_decides_the_end(rt: HostRuntime) -> Result<(), Fail> {
     let alloc = rt.alloc();
     let row = get(ABC, SIZED, Mode::Plain, b"abc");
-    let (front, _) = ABC.split_at(40);
+    let (front, _) = ABC.split_at(ABC.len() - 1);
     let cut = giving(front);
     let failing = Plan {
         fail_read: 3,
-        ..dripping_after(ABC, 38)
+        ..dripping_after(ABC, ABC_FRONT)
     };
     for origin in [cut, failing] {
         for write in 1..=SIZED.len() as u64 {

@@ -1,11 +1,12 @@
-//! How long a body is and how it is framed for the client: by its length, in chunks, up to the close, or not at all.
+//! How long a body is and how it is framed for the client: by its length, in chunks, up to the close, or not
+//! at all.
 
 use crate::row::{Row, Verdict, check, get, head};
-use crate::stated::{ABC, CHUNKED, GET, PLAIN, SIZED};
+use crate::stated::{ABC, CHUNKED, ENDLESS, GET, IN_CHUNKS, PLAIN, SIZED, response};
 use std::test::Fail;
 use ts_wire::Mode;
 
-// The front of the response of three bytes that is its head.
+// The head of the response of three bytes.
 const ABC_HEAD: &[u8] = b"HTTP/1.1 200 OK\r\nContent-Length: 3\r\n\r\n";
 
 // The client's head of a response in HTTP/1.0.
@@ -63,11 +64,7 @@ fn a_body_in_chunks_loses_its_extensions_and_trailers(rt: HostRuntime) -> Result
         (b"3\r\nabc\r\n0\r\nT: 1\r\nU: 2\r\n\r\nHTTP/1.1 ", b"abc"),
     ];
     for (place, (chunks, body)) in bodies.iter().enumerate() {
-        let mut origin = Vec::from_slice(
-            rt.alloc(),
-            b"HTTP/1.1 200 OK\r\nTransfer-Encoding: chunked\r\n\r\n",
-        )?;
-        origin.extend_from_slice(chunks)?;
+        let origin = response(rt.alloc(), IN_CHUNKS, chunks)?;
         let row = get(origin.as_slice(), CHUNKED, Mode::Chunked, body);
         assert_eq!(rt; check(rt.alloc(), &row)?, Verdict::AsStated, "row {place}");
     }
@@ -83,7 +80,7 @@ fn a_body_up_to_the_close_goes_in_chunks(rt: HostRuntime) -> Result<(), Fail> {
             Mode::Chunked,
             b"abc",
         ),
-        get(b"HTTP/1.1 200 OK\r\n\r\n", CHUNKED, Mode::Chunked, b""),
+        get(ENDLESS, CHUNKED, Mode::Chunked, b""),
         get(
             b"HTTP/1.0 200 OK\r\n\r\nabc",
             FROM_OLD,
@@ -169,11 +166,8 @@ fn a_response_to_head_has_no_body(rt: HostRuntime) -> Result<(), Fail> {
             lines: b"prepend.so <\n",
             ..head(ABC_HEAD, PLAIN)
         },
-        head(
-            b"HTTP/1.1 200 OK\r\nTransfer-Encoding: chunked\r\n\r\n",
-            PLAIN,
-        ),
-        head(b"HTTP/1.1 200 OK\r\n\r\n", PLAIN),
+        head(IN_CHUNKS, PLAIN),
+        head(ENDLESS, PLAIN),
         head(
             b"HTTP/1.1 204 No Content\r\nContent-Length: 5\r\n\r\n",
             b"HTTP/1.1 204 No Content\r\nvia: 1.1 tsx\r\nconnection: close\r\n\r\n",

@@ -4,12 +4,9 @@ use crate::lines::SIXTEEN;
 use crate::plan::{Plan, giving};
 use crate::refusal::Refusal;
 use crate::row::{Verdict, check_between, chunked};
-use crate::stated::GET;
+use crate::stated::{ENDLESS, GET, response};
 use std::alloc::Global;
 use std::test::Fail;
-
-// The head of a response up to the close.
-const FRONT: &[u8] = b"HTTP/1.1 200 OK\r\n\r\n";
 
 // More than a stage lets wait behind it.
 const PAST_A_BOUNDARY: usize = 65_537;
@@ -42,8 +39,8 @@ fn check_letters(
     check_between(alloc, &row, client, Some(origin))
 }
 
-// Whether a body of letters comes through these lines as it is, where the origin gives it in pieces of one length and the
-// client takes so many bytes a write.
+// Whether a body of letters comes through these lines as it is, where the origin gives it in pieces of one
+// length and the client takes so many bytes a write.
 fn check_long(
     alloc: Global,
     lines: &[u8],
@@ -52,8 +49,7 @@ fn check_long(
     take: usize,
 ) -> Result<Verdict, Refusal> {
     let body = letters(alloc, length)?;
-    let mut response = Vec::from_slice(alloc, FRONT)?;
-    response.extend_from_slice(body.as_slice())?;
+    let text = response(alloc, ENDLESS, body.as_slice())?;
     let client = Plan {
         take,
         ..giving(GET)
@@ -61,13 +57,13 @@ fn check_long(
     let origin = Plan {
         piece,
         pieces: length / piece.max(1) as usize,
-        ..giving(response.as_slice())
+        ..giving(text.as_slice())
     };
     check_letters(alloc, lines, body.as_slice(), &client, origin)
 }
 
-// Each byte takes some 20 events, and each event four entries of the journal, which keeps them all: a body of a MiB in
-// single bytes would take 80 million entries.
+// Each byte takes some 20 events, and each event four entries of the journal, which keeps them all: a body of
+// a MiB in single bytes would take 80 million entries.
 #[test]
 fn a_body_of_1_kib_byte_by_byte(rt: HostRuntime) -> Result<(), Fail> {
     let verdict = check_long(rt.alloc(), SIXTEEN, KIB, 1, usize::MAX)?;

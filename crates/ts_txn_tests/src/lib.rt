@@ -1,5 +1,5 @@
-//! Whole transactions with their bodies, between links in memory: what the client and the origin get of each, and how
-//! it ends.
+//! Whole transactions with their bodies, between links in memory: what the client and the origin get of each,
+//! and how it ends.
 #![tactic(auto)]
 
 #[cfg(test)]

@@ -1,5 +1,5 @@
-//! Exchanges of which an allocation may be refused: each is whole, or ends for want of memory with a front of what is
-//! stated.
+//! Exchanges of which an allocation may be refused: each is whole, or ends for want of memory with a front of
+//! what is stated.
 
 use crate::lines::html;
 use crate::plan::{dripping_after, giving};
@@ -27,9 +27,9 @@ fn check_spare(alloc: Global, row: &Row<'_>, gives: &[u8]) -> Result<Verdict, Re
     judge(alloc, row, &ended.parts)
 }
 
-// Run with each allocation refused in turn (`rt try --test --fail-alloc N`, N from 1 on), a call of an exchange answers
-// want of memory, or it comes out as stated or as a front. The three rows make some 230 allocations; with each of them
-// refused the test passed.
+// Run with each allocation refused in turn (`rt try --test --fail-alloc N`, N from 1 on), a call of an
+// exchange answers want of memory, or it comes out as stated or as a front. The three rows make some 230
+// allocations; with each of them refused the test passed.
 #[test]
 fn an_exchange_is_whole_or_a_front(rt: HostRuntime) -> Result<(), Fail> {
     let lines = b"drop.so n\nbnull_transform.so\nprepend.so <\nappend_transform.so f\nmap.so a o\n";

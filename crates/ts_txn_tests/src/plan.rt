@@ -10,8 +10,8 @@ use ts_link::{MemLink, Octets, Piece};
 // How many bytes a link takes a write that takes few.
 const FEW: usize = 16;
 
-/// What a link gives, how long its first piece is, if it is told, and how many pieces of one length follow; how many
-/// bytes a write takes at most, and which calls fail or wait. No call has the number 0.
+/// What a link gives, how long its first piece is, if it is told, and how many pieces of one length follow;
+/// how many bytes a write takes at most, and which calls fail or wait. No call has the number 0.
 #[derive(Clone, Copy)]
 pub struct Plan<'a> {
     pub gives: &'a [u8],

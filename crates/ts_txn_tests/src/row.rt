@@ -10,8 +10,8 @@ use ts_link::MemLink;
 use ts_txn::TxnParts;
 use ts_wire::Mode;
 
-/// An exchange through the lines of a configuration, and what is stated of it. Where it does not end whole, the client
-/// gets a front of the body.
+/// An exchange through the lines of a configuration, and what is stated of it. Where it does not end whole,
+/// the client gets a front of the body.
 #[derive(Clone, Copy)]
 pub struct Row<'a> {
     pub lines: &'a [u8],
@@ -165,20 +165,6 @@ pub fn run_row(
     run(alloc, row.lines, row.file, client, origin)
 }
 
-fn giving_if(gives: Option<&[u8]>) -> Option<Plan<'_>> {
-    match gives {
-        Some(gives) => Some(giving(gives)),
-        None => None,
-    }
-}
-
-fn dripping_if(gives: Option<&[u8]>) -> Option<Plan<'_>> {
-    match gives {
-        Some(gives) => Some(dripping(gives)),
-        None => None,
-    }
-}
-
 /// Whether a row comes out as stated between the links of these plans.
 pub fn check_between(
     alloc: Global,
@@ -190,12 +176,12 @@ pub fn check_between(
     judge(alloc, row, &ended.parts)
 }
 
-/// Whether a row comes out as stated, both where the links give and take all at once and where each call of them
-/// moves one byte.
+/// Whether a row comes out as stated, both where the links give and take all at once and where each call of
+/// them moves one byte.
 pub fn check(alloc: Global, row: &Row<'_>) -> Result<Verdict, Refusal> {
-    let at_once = check_between(alloc, row, &giving(row.request), giving_if(row.origin))?;
+    let at_once = check_between(alloc, row, &giving(row.request), row.origin.map(giving))?;
     if at_once != Verdict::AsStated {
         return Ok(at_once);
     }
-    check_between(alloc, row, &dripping(row.request), dripping_if(row.origin))
+    check_between(alloc, row, &dripping(row.request), row.origin.map(dripping))
 }

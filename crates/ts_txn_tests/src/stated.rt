@@ -1,15 +1,18 @@
-//! The texts that clients and origins get, as they are stated: heads, pieces of bodies, and the proxy's own answers.
+//! The texts that clients and origins get, as they are stated: heads, pieces of bodies, and the proxy's own
+//! answers.
 
 use crate::refusal::Refusal;
 use std::alloc::Global;
 use ts_wire::Mode;
 
+/// A request for a page.
 pub const GET: &[u8] = b"GET / HTTP/1.1\r\nHost: a\r\n\r\n";
 
 /// What the origin gets of it.
 pub const GET_SENT: &[u8] =
     b"GET / HTTP/1.1\r\nhost: a\r\nvia: 1.1 tsx\r\nconnection: close\r\n\r\n";
 
+/// A request for the head alone.
 pub const HEAD: &[u8] = b"HEAD / HTTP/1.1\r\nHost: a\r\n\r\n";
 
 /// What the origin gets of it.
@@ -18,6 +21,15 @@ pub const HEAD_SENT: &[u8] =
 
 /// A response of three bytes.
 pub const ABC: &[u8] = b"HTTP/1.1 200 OK\r\nContent-Length: 3\r\n\r\nabc";
+
+/// How many bytes of it are its head.
+pub const ABC_FRONT: u32 = 38;
+
+/// The head of a response in chunks.
+pub const IN_CHUNKS: &[u8] = b"HTTP/1.1 200 OK\r\nTransfer-Encoding: chunked\r\n\r\n";
+
+/// The head of a response up to the close.
+pub const ENDLESS: &[u8] = b"HTTP/1.1 200 OK\r\n\r\n";
 
 /// The client's head of a body in chunks.
 pub const CHUNKED: &[u8] =
@@ -46,7 +58,14 @@ pub const NOT_IMPLEMENTED: &[u8] =
 pub const BAD_GATEWAY: &[u8] =
     b"HTTP/1.1 502 Bad Gateway\r\ncontent-type: text/plain\r\ncontent-length: 16\r\nconnection: close\r\n\r\n";
 
-// How long a piece of a body is at most.
+/// A response of this head and this body.
+pub fn response(alloc: Global, head: &[u8], body: &[u8]) -> Result<Vec<u8>, Refusal> {
+    let mut text = Vec::from_slice(alloc, head)?;
+    text.extend_from_slice(body)?;
+    Ok(text)
+}
+
+// How many bytes a piece of a body has at most.
 const MOST_IN_PIECE: usize = 32_768;
 
 // Writes a piece of a body: in chunks as its size in hexadecimal and the bytes, each with the end of a line.
@@ -72,8 +91,8 @@ fn write_end(text: &mut Vec<u8>, mode: Mode) -> Result<(), Refusal> {
     Ok(())
 }
 
-/// What a client gets: the head, the pieces of a body of these lengths, and where they are the whole body and it has
-/// ended, its end. Nothing where a piece is empty, is too long, or goes past the body.
+/// What a client gets: the head, the pieces of a body of these lengths, and where they are the whole body and
+/// it has ended, its end. Nothing where a piece is empty, is too long, or goes past the body.
 pub fn text_of(
     alloc: Global,
     head: &[u8],

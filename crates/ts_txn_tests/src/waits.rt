@@ -26,6 +26,19 @@ fn waits_of(ended: &Ended) -> (u64, u64) {
     (ended.parts.client.waits(), origin)
 }
 
+// Whether a transaction came out as the row states, and its links waited so often.
+fn judge_waiting(
+    alloc: Global,
+    row: &Row<'_>,
+    ended: &Ended,
+    waits: (u64, u64),
+) -> Result<Verdict, Refusal> {
+    if waits_of(ended) != waits {
+        return Ok(Verdict::OtherWaits);
+    }
+    judge(alloc, row, &ended.parts)
+}
+
 // Whether a row comes out as stated where its links wait so often.
 fn check_waiting(
     alloc: Global,
@@ -35,10 +48,7 @@ fn check_waiting(
     waits: (u64, u64),
 ) -> Result<Verdict, Refusal> {
     let ended = run_row(alloc, row, client, Some(origin))?;
-    if waits_of(&ended) != waits {
-        return Ok(Verdict::OtherWaits);
-    }
-    judge(alloc, row, &ended.parts)
+    judge_waiting(alloc, row, &ended, waits)
 }
 
 // Whether a row comes out as stated where one link waits twice, and so makes two pauses.
@@ -50,13 +60,10 @@ fn check_pauses(
     waits: (u64, u64),
 ) -> Result<Verdict, Refusal> {
     let ended = run_row(alloc, row, client, origin)?;
-    if waits_of(&ended) != waits {
-        return Ok(Verdict::OtherWaits);
-    }
     if last_moment(ended.journal.entries()) != PAUSE * WAITS {
         return Ok(Verdict::OtherMoment);
     }
-    judge(alloc, row, &ended.parts)
+    judge_waiting(alloc, row, &ended, waits)
 }
 
 #[test]
@@ -67,7 +74,7 @@ fn a_client_that_waits_at_each_read(rt: HostRuntime) -> Result<(), Fail> {
             again_reads: (read, read + 1),
             ..dripping(GET)
         };
-        let verdict = check_pauses(rt.alloc(), &row, &client, Some(dripping(ABC)), (2, 0))?;
+        let verdict = check_pauses(rt.alloc(), &row, &client, Some(dripping(ABC)), (WAITS, 0))?;
         assert_eq!(rt; verdict, Verdict::AsStated, "read {read}");
     }
     Ok(())
@@ -81,7 +88,7 @@ fn an_origin_that_waits_at_each_write(rt: HostRuntime) -> Result<(), Fail> {
             again_writes: (write, write + 1),
             ..dripping(ABC)
         };
-        let verdict = check_pauses(rt.alloc(), &row, &dripping(GET), Some(origin), (0, 2))?;
+        let verdict = check_pauses(rt.alloc(), &row, &dripping(GET), Some(origin), (0, WAITS))?;
         assert_eq!(rt; verdict, Verdict::AsStated, "write {write}");
     }
     Ok(())
@@ -185,7 +192,7 @@ fn a_client_that_waits_at_its_first_writes(rt: HostRuntime) -> Result<(), Fail> 
         ..dripping(GET)
     };
     assert_eq!(rt;
-        check_pauses(rt.alloc(), &row, &client, None, (2, 0))?,
+        check_pauses(rt.alloc(), &row, &client, None, (WAITS, 0))?,
         Verdict::AsStated
     );
     Ok(())

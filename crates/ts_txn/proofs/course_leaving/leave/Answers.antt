@@ -1,12 +1,15 @@
 -- A body that was left is closed, and the transaction is covered without it.
-use Rattle.std.proofs.Common.{arith, subst, sym}
+use Rattle.std.proofs.Common.{arith, refl, subst, sym}
+use Rattle.ts_hooks.specs.declared.txn_end.TxnEnd.TheVariants as E
 use Rattle.ts_transform.specs.Driving.{ActsWithin}
 use Rattle.ts_transform.proofs.Kept.{acts_lessens, acts_none, acts_then}
 use Rattle.ts_transform.proofs.Seats.{cleared_acts}
 use Rattle.ts_txn.specs.Course.{course_after}
 use Rattle.ts_txn.specs.CourseCover.{StaysWhereNamed, set_leaving}
 use Rattle.ts_txn.specs.Duties.{RunsOr, relay_seats}
+use Rattle.ts_txn.specs.declared.course.Course.TheVariants as K
 use Rattle.ts_txn.specs.declared.finishing.BodyStep.TheVariants as S
+use Rattle.ts_txn.specs.declared.phase.Phase.TheVariants as P
 use Rattle.ts_txn.proofs.CourseSeats.{left_covers, left_spent, lost_covers, runs_closing, runs_finishing}
 use Rattle.ts_txn.proofs.course_leaving.leave.Goals as goal
 
@@ -59,5 +62,5 @@ returns-in-Lacks-clause-within g c =
 
 pub returns-in-Lacks-clause-covered : goal.returns-in-Lacks-clause-covered
 returns-in-Lacks-clause-covered g c =
-    lost_covers c.args.step c.args.relay c.lacking.result c.args.main.now c.destroy_end.new.slot c.args.cx.now c.close_relay-in-Lacks.new.cx c.destroy_end.new.cx c.lacking.ensures
+    lost_covers c.args.step c.args.relay (K.Phased (P.Ended E.NoMemory)) c.args.main.now c.destroy_end.new.slot c.args.cx.now c.close_relay-in-Lacks.new.cx c.destroy_end.new.cx refl
     c.close_relay-in-Lacks.ensures.clears c.destroy_end.ensures.clears c.destroy_end.ensures.none

@@ -1,6 +1,7 @@
 -- The transaction is covered behind one of its last writes.
 use Rattle.std.proofs.Common.{refl}
 use Rattle.ts_hooks.specs.declared.txn_end.TxnEnd.TheVariants as E
+use Rattle.ts_txn.specs.declared.course.Course.TheVariants as K
 use Rattle.ts_txn.specs.declared.phase.Phase.TheVariants as P
 use Rattle.ts_txn.proofs.CourseSeats.{ended_alone}
 use Rattle.ts_txn.proofs.course_leaving.write_on.Goals as goal
@@ -21,5 +22,5 @@ returns-in-Closes-clause-covered g c = c.go_to-in-Closes.ensures.covered tt
 -- Memory lacked.
 pub returns-in-Lacks-clause-covered : goal.returns-in-Lacks-clause-covered
 returns-in-Lacks-clause-covered g c =
-    ended_alone (P.Ended E.NoMemory) c.lacking.result c.args.main.now c.destroy_end.new.slot c.args.cx.now c.destroy_end.new.cx c.lacking.ensures refl c.destroy_end.ensures.clears
+    ended_alone (P.Ended E.NoMemory) (K.Phased (P.Ended E.NoMemory)) c.args.main.now c.destroy_end.new.slot c.args.cx.now c.destroy_end.new.cx refl refl c.destroy_end.ensures.clears
     c.destroy_end.ensures.none
