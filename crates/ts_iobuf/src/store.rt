@@ -8,8 +8,9 @@ ghost use Rattle.ts_iobuf.specs.Stored.{lent, stored};
 use std::alloc::Global;
 use ts_link::NoMemory;
 
-// How many bytes of room are lent at once.
-const ROOM: usize = 32_768;
+// How many bytes of room are lent at least, where memory does not lack, and at most.
+const LEAST_ROOM: usize = 4_096;
+const MOST_ROOM: usize = 32_768;
 
 // How many bytes of memory a store keeps that holds none: as many as a boundary of a chain and its room ever
 // need.
@@ -163,7 +164,16 @@ pub fn rewind(
     }
 }
 
-/// Tops the room behind the first `filled` bytes up to `ROOM`, or where memory lacks, leaves what there is.
+// How many bytes of room are lent next by a store of so many: they double from call to call, so that what is
+// short takes little memory, and what is long few reads.
+fn next_room(len: usize) -> usize
+    ensures { (LEAST_ROOM ≤ result) × (result ≤ MOST_ROOM) }
+{
+    len.saturating_mul(2).max(LEAST_ROOM).min(MOST_ROOM)
+}
+
+/// Tops the room behind the first `filled` bytes up to that of `next_room`, or where memory lacks, leaves what
+/// there is.
 pub fn make_room(store: &mut Vec<u8>, filled: usize) -> Result<(), NoMemory>
     requires { filled ≤ vec_len store.old }
     ensures ok { OnOk result (filled + 1 ≤ vec_len store.new) }
@@ -171,7 +181,7 @@ pub fn make_room(store: &mut Vec<u8>, filled: usize) -> Result<(), NoMemory>
     ensures err { OnErr result (store.new.items ≡ store.old.items) }
     ensures none { OnErr result (vec_len store.new ≡ filled) }
 {
-    let most = filled.saturating_add(ROOM);
+    let most = filled.saturating_add(next_room(store.len()));
     if store.len() >= most {
         return Ok(());
     }
