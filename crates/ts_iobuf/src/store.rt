@@ -10,6 +10,7 @@ use ts_link::NoMemory;
 
 // How many bytes of room are lent at least, where memory does not lack, and at most.
 const LEAST_ROOM: usize = 4_096;
+
 const MOST_ROOM: usize = 32_768;
 
 // How many bytes of memory a store keeps that holds none: as many as a boundary of a chain and its room ever
