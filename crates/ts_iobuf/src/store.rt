@@ -8,9 +8,10 @@ ghost use Rattle.ts_iobuf.specs.Stored.{lent, stored};
 use std::alloc::Global;
 use ts_link::NoMemory;
 
-// How many bytes of room are lent at least, where memory does not lack, and at most.
+// How many bytes of room are lent at first.
 const LEAST_ROOM: usize = 4_096;
 
+// How many are lent at once at most.
 const MOST_ROOM: usize = 32_768;
 
 // How many bytes of memory a store keeps that holds none: as many as a boundary of a chain and its room ever
