@@ -23,7 +23,7 @@ filled-command files (l ∷ ls) next h = line_filled-command files l _ (λ first
 task-command : (shelf : ShelfSeen) (task : Task) → outcome_of shelf (Some task) ≢ Usage
 task-command shelf task =
     let last : (lines : List TransformLine) → opened (shelf.file task.input) most_input task.input (worked task.command lines) ≢ Usage
-        = λ lines. grind arith in
+    = λ lines. grind arith in
     grind (arith, λ (ls : List TransformLine). filled-command shelf.file ls _ last)
 
 -- words that ask for a task are of a command
