@@ -66,6 +66,7 @@ fn end<E: Sink>(err: &mut E, performed: Performed, config: &str, input: &str) ->
 /// What it comes to is a function of what the words ask for and the files, the outcome, in which the number
 /// of threads does not stand. Each clause on content holds where the shelf tells its files and the sink tells
 /// what it took.
+#[tactic(auto, using(crate::proofs::Ending::asked_command, crate::proofs::Ending::takes_took))]
 pub fn run<S: Shelf, K: Sink, E: Sink, G: Gate + Sync, R: Threads + Wait + Sync>(
     rt: &R,
     alloc: Global,
@@ -116,6 +117,7 @@ pub fn run<S: Shelf, K: Sink, E: Sink, G: Gate + Sync, R: Threads + Wait + Sync>
 }
 
 /// Runs words that begin with `transform`, as `run` does. It starts no thread and waits for nothing.
+#[tactic(auto, using(crate::proofs::Ending::asked_command, crate::proofs::Ending::takes_took))]
 pub fn run_transform<S: Shelf, K: Sink, E: Sink>(
     alloc: Global,
     words: &[String],

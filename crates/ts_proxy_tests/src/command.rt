@@ -8,7 +8,7 @@ use ts_link::{Gate, MemShelf, MemSink, NoMemory, OpenGate};
 use ts_proxy::run;
 
 /// The words that replay the recording `r` under the configuration `c`, without a number of threads.
-pub const PLAIN: &[&str] = &["replay", "c", "r"];
+pub const REPLAY: &[&str] = &["replay", "c", "r"];
 
 /// The same on 1 thread.
 pub const ON_1: &[&str] = &["replay", "--threads", "1", "c", "r"];

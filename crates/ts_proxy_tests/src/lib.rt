@@ -3,6 +3,7 @@
 #![tactic(auto)]
 
 pub mod command;
+pub mod parts;
 pub mod recording;
 pub mod report;
 pub mod row;
@@ -10,3 +11,4 @@ pub mod seats;
 pub mod stated;
 #[cfg(test)]
 mod tests;
+pub mod verdict;

@@ -1,11 +1,9 @@
 //! Recordings as texts, in which each side of a transaction gives its bytes in pieces.
 
-use itoa::Buffer;
+use crate::parts::add_part;
 use std::alloc::Global;
 use ts_link::NoMemory;
-
-/// The most bytes of a piece.
-pub const MOST_PIECE: usize = 32_768;
+use ts_record::MOST_PIECE;
 
 /// A recorded transaction: what the client sends and what the origin gives, in pieces of at most so many
 /// bytes. A side that is empty has no piece.
@@ -25,21 +23,21 @@ pub fn at_once<'a>(client: &'a [u8], origin: &'a [u8]) -> Exchange<'a> {
     }
 }
 
+/// The same exchange in pieces of at most so many bytes.
+pub fn in_pieces(exchange: Exchange<'_>, piece: usize) -> Exchange<'_> {
+    Exchange { piece, ..exchange }
+}
+
 // Adds the pieces of a side.
 fn add_side(text: &mut Vec<u8>, side: &[u8], bytes: &[u8], piece: usize) -> Result<(), NoMemory> {
     for part in bytes.chunks(piece.max(1)) {
-        text.extend_from_slice(side)?;
-        let mut digits = Buffer::new();
-        text.extend_from_slice(digits.format(part.len()).as_bytes())?;
-        text.push(b'\n')?;
-        text.extend_from_slice(part)?;
-        text.push(b'\n')?;
+        add_part(text, side, part)?;
     }
     Ok(())
 }
 
-/// Adds a transaction to the text of a recording.
-pub fn add_txn(text: &mut Vec<u8>, exchange: &Exchange<'_>) -> Result<(), NoMemory> {
+// Adds a transaction to the text of a recording.
+fn add_txn(text: &mut Vec<u8>, exchange: &Exchange<'_>) -> Result<(), NoMemory> {
     text.extend_from_slice(b"txn\n")?;
     add_side(text, b"client ", exchange.client, exchange.piece)?;
     add_side(text, b"origin ", exchange.origin, exchange.piece)?;
@@ -47,31 +45,12 @@ pub fn add_txn(text: &mut Vec<u8>, exchange: &Exchange<'_>) -> Result<(), NoMemo
     Ok(())
 }
 
-/// The text of a recording before its first transaction.
-pub fn begin(alloc: Global) -> Result<Vec<u8>, NoMemory> {
-    Ok(Vec::from_slice(alloc, b"tsx-recording 1\n")?)
-}
-
-/// The text of a recording, behind whose last transaction nothing stands yet.
-pub fn end(mut text: Vec<u8>) -> Result<Vec<u8>, NoMemory> {
-    text.extend_from_slice(b"end\n")?;
-    Ok(text)
-}
-
 /// A recording of these transactions.
 pub fn recording_of(alloc: Global, exchanges: &[Exchange<'_>]) -> Result<Vec<u8>, NoMemory> {
-    let mut text = begin(alloc)?;
+    let mut text = Vec::from_slice(alloc, b"tsx-recording 1\n")?;
     for exchange in exchanges {
         add_txn(&mut text, exchange)?;
     }
-    end(text)
-}
-
-/// A recording of so many times this transaction.
-pub fn repeated(alloc: Global, exchange: &Exchange<'_>, times: usize) -> Result<Vec<u8>, NoMemory> {
-    let mut text = begin(alloc)?;
-    for _ in 0..times {
-        add_txn(&mut text, exchange)?;
-    }
-    end(text)
+    text.extend_from_slice(b"end\n")?;
+    Ok(text)
 }

@@ -1,6 +1,6 @@
 //! Reports as texts, made of what is stated of each transaction.
 
-use itoa::Buffer;
+use crate::parts::{add_number, add_part};
 use std::alloc::Global;
 use ts_link::NoMemory;
 
@@ -21,23 +21,8 @@ pub struct Stated<'a> {
     pub came: Came<'a>,
 }
 
-fn add_number(text: &mut Vec<u8>, word: &[u8], number: usize) -> Result<(), NoMemory> {
-    text.extend_from_slice(word)?;
-    let mut digits = Buffer::new();
-    text.extend_from_slice(digits.format(number).as_bytes())?;
-    text.push(b'\n')?;
-    Ok(())
-}
-
-fn add_part(text: &mut Vec<u8>, word: &[u8], part: &[u8]) -> Result<(), NoMemory> {
-    add_number(text, word, part.len())?;
-    text.extend_from_slice(part)?;
-    text.push(b'\n')?;
-    Ok(())
-}
-
-/// Adds what is stated of the transaction of this number.
-pub fn add_stated(text: &mut Vec<u8>, number: usize, stated: &Stated<'_>) -> Result<(), NoMemory> {
+// Adds what is stated of the transaction of this number.
+fn add_stated(text: &mut Vec<u8>, number: usize, stated: &Stated<'_>) -> Result<(), NoMemory> {
     add_number(text, b"txn ", number)?;
     add_part(text, b"request ", stated.request)?;
     let end: &[u8] = match stated.came {
@@ -53,29 +38,12 @@ pub fn add_stated(text: &mut Vec<u8>, number: usize, stated: &Stated<'_>) -> Res
     Ok(())
 }
 
-fn begin(alloc: Global) -> Result<Vec<u8>, NoMemory> {
-    Ok(Vec::from_slice(alloc, b"tsx-report 1\n")?)
-}
-
-fn end(mut text: Vec<u8>) -> Result<Vec<u8>, NoMemory> {
-    text.extend_from_slice(b"done\n")?;
-    Ok(text)
-}
-
 /// The report in which this is stated of the transactions, in their order.
 pub fn report_of(alloc: Global, all: &[Stated<'_>]) -> Result<Vec<u8>, NoMemory> {
-    let mut text = begin(alloc)?;
+    let mut text = Vec::from_slice(alloc, b"tsx-report 1\n")?;
     for (place, stated) in all.iter().enumerate() {
         add_stated(&mut text, place.saturating_add(1), stated)?;
     }
-    end(text)
-}
-
-/// The report in which this is stated of each of so many transactions.
-pub fn report_on(alloc: Global, stated: &Stated<'_>, times: usize) -> Result<Vec<u8>, NoMemory> {
-    let mut text = begin(alloc)?;
-    for place in 0..times {
-        add_stated(&mut text, place.saturating_add(1), stated)?;
-    }
-    end(text)
+    text.extend_from_slice(b"done\n")?;
+    Ok(text)
 }

@@ -1,9 +1,10 @@
 //! Rows: a recorded transaction under a configuration, and what is stated of it.
 
-use crate::command::{Left, ON_2, ON_8, PLAIN, replayed};
-use crate::recording::{Exchange, at_once, recording_of};
+use crate::command::{ON_2, ON_8, REPLAY, replayed};
+use crate::recording::{Exchange, at_once, in_pieces, recording_of};
 use crate::report::{Came, Stated, report_of};
-use crate::stated::{CHUNKED, GET, GET_SENT, OwnAnswer};
+use crate::stated::{GET, HEAD, HEAD_SENT, in_chunks, passed};
+use crate::verdict::{Verdict, done, judge};
 use std::alloc::Global;
 use std::sync::Wait;
 use std::thread::Threads;
@@ -17,81 +18,58 @@ pub struct Row<'a> {
     pub stated: Stated<'a>,
 }
 
-/// What came of a row: as it is stated, or the first that is other.
-#[derive(Clone, Copy, Debug, PartialEq, Eq)]
-pub enum Verdict {
-    AsStated,
-    OtherStatus,
-    OtherReport,
-    OtherLine,
-    OtherJournals,
-}
-
 /// A row of the request GET, which is passed on.
 pub fn get<'a>(config: &'a [u8], origin: &'a [u8], head: &'a [u8], came: Came<'a>) -> Row<'a> {
     Row {
         config,
         exchange: at_once(GET, origin),
-        stated: Stated {
-            request: GET_SENT,
-            head,
-            came,
-        },
+        stated: passed(head, came),
     }
 }
 
 /// A row of the request GET whose body comes whole, in chunks.
 pub fn chunked<'a>(config: &'a [u8], origin: &'a [u8], body: &'a [u8]) -> Row<'a> {
-    get(config, origin, CHUNKED, Came::Whole(body))
+    Row {
+        config,
+        exchange: at_once(GET, origin),
+        stated: in_chunks(body),
+    }
 }
 
-/// A row of a request that is not passed on, but answered by the proxy itself.
-pub fn answered<'a>(client: &'a [u8], origin: &'a [u8], answer: &OwnAnswer<'a>) -> Row<'a> {
+/// A row of the request HEAD, which is passed on, and to which no body comes.
+pub fn head<'a>(config: &'a [u8], origin: &'a [u8], head: &'a [u8]) -> Row<'a> {
     Row {
-        config: b"",
-        exchange: at_once(client, origin),
+        config,
+        exchange: at_once(HEAD, origin),
         stated: Stated {
-            request: b"",
-            head: answer.head,
-            came: Came::Whole(answer.body),
+            request: HEAD_SENT,
+            head,
+            came: Came::Whole(b""),
         },
     }
 }
 
 /// The row in which each side gives one byte a piece.
 pub fn dripping(row: Row<'_>) -> Row<'_> {
-    let Exchange { client, origin, .. } = row.exchange;
     Row {
-        exchange: Exchange {
-            client,
-            origin,
-            piece: 1,
-        },
+        exchange: in_pieces(row.exchange, 1),
         ..row
     }
 }
 
-/// Whether a replay of so many transactions was done, and wrote this report: nothing is said, and each
-/// transaction has a journal that is at rest.
-pub fn judge(left: &Left, report: &[u8], txns: usize) -> Verdict {
-    if left.status != 0 {
-        return Verdict::OtherStatus;
-    }
-    if left.out.written() != report {
-        return Verdict::OtherReport;
-    }
-    if !left.err.written().is_empty() {
-        return Verdict::OtherLine;
-    }
-    for journal in left.journals.as_slice() {
-        if journal.is_held() || !journal.pending().is_empty() {
-            return Verdict::OtherJournals;
-        }
-    }
-    if left.journals.len() != txns {
-        return Verdict::OtherJournals;
-    }
-    Verdict::AsStated
+/// Whether transactions come out as stated where these words replay them under a configuration.
+pub fn check_with<R: Threads + Wait + Sync>(
+    rt: &R,
+    alloc: Global,
+    words: &[&str],
+    config: &[u8],
+    exchanges: &[Exchange<'_>],
+    stated: &[Stated<'_>],
+) -> Result<Verdict, NoMemory> {
+    let recording = recording_of(alloc, exchanges)?;
+    let report = report_of(alloc, stated)?;
+    let left = replayed(rt, alloc, words, config, recording.as_slice())?;
+    Ok(judge(&left, &done(report.as_slice(), stated.len())))
 }
 
 /// Whether a row comes out as stated on 1, 2 and 8 threads.
@@ -100,11 +78,8 @@ pub fn check<R: Threads + Wait + Sync>(
     alloc: Global,
     row: &Row<'_>,
 ) -> Result<Verdict, NoMemory> {
-    let recording = recording_of(alloc, &[row.exchange])?;
-    let report = report_of(alloc, &[row.stated])?;
-    for words in [PLAIN, ON_2, ON_8] {
-        let left = replayed(rt, alloc, words, row.config, recording.as_slice())?;
-        let verdict = judge(&left, report.as_slice(), 1);
+    for words in [REPLAY, ON_2, ON_8] {
+        let verdict = check_with(rt, alloc, words, row.config, &[row.exchange], &[row.stated])?;
         if verdict != Verdict::AsStated {
             return Ok(verdict);
         }

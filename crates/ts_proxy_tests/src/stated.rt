@@ -1,4 +1,13 @@
-//! Texts that rows share: requests, responses, the heads that clients get, and the proxy's own answers.
+//! Texts that rows share (lines, requests, responses, the heads that clients get, the proxy's own answers),
+//! and what is stated with them of transactions.
+
+use crate::report::{Came, Stated};
+
+/// A line that puts a byte before a body.
+pub const LESS: &[u8] = b"prepend.so <";
+
+/// A line that puts the file `f` behind a page.
+pub const APPEND: &[u8] = b"append_transform.so f";
 
 /// A request for a page.
 pub const GET: &[u8] = b"GET / HTTP/1.1\r\nHost: a\r\n\r\n";
@@ -6,6 +15,9 @@ pub const GET: &[u8] = b"GET / HTTP/1.1\r\nHost: a\r\n\r\n";
 /// What the origin gets of it.
 pub const GET_SENT: &[u8] =
     b"GET / HTTP/1.1\r\nhost: a\r\nvia: 1.1 tsx\r\nconnection: close\r\n\r\n";
+
+/// A request without a host.
+pub const HOSTLESS: &[u8] = b"GET / HTTP/1.1\r\n\r\n";
 
 /// A request for the head of a page.
 pub const HEAD: &[u8] = b"HEAD / HTTP/1.1\r\nHost: a\r\n\r\n";
@@ -16,6 +28,12 @@ pub const HEAD_SENT: &[u8] =
 
 /// A response of three bytes.
 pub const ABC: &[u8] = b"HTTP/1.1 200 OK\r\nContent-Length: 3\r\n\r\nabc";
+
+/// The same, of which the last byte is missing.
+pub const CUT: &[u8] = b"HTTP/1.1 200 OK\r\nContent-Length: 3\r\n\r\nab";
+
+/// A response whose chunks are none.
+pub const BAD_CHUNKS: &[u8] = b"HTTP/1.1 200 OK\r\nTransfer-Encoding: chunked\r\n\r\nx";
 
 /// The client's head of a body in chunks.
 pub const CHUNKED: &[u8] =
@@ -68,3 +86,42 @@ pub const PAGE: &[u8] =
 /// The client's head of that, where a line acts on it.
 pub const PAGE_HEAD: &[u8] =
     b"HTTP/1.1 200 OK\r\ndate: Mon, 01 Jan 2024 00:00:00 GMT\r\ncontent-type: text/html; charset=utf-8\r\nvia: 1.1 tsx\r\ntransfer-encoding: chunked\r\nconnection: close\r\n\r\n";
+
+/// What is stated where the client gives nothing.
+pub const NOTHING: Stated<'static> = Stated {
+    request: b"",
+    head: b"",
+    came: Came::Whole(b""),
+};
+
+/// What is stated of the request GET, which is passed on.
+pub fn passed<'a>(head: &'a [u8], came: Came<'a>) -> Stated<'a> {
+    Stated {
+        request: GET_SENT,
+        head,
+        came,
+    }
+}
+
+/// What is stated of the request GET where its body comes whole, in chunks.
+pub fn in_chunks(body: &[u8]) -> Stated<'_> {
+    passed(CHUNKED, Came::Whole(body))
+}
+
+/// What is stated of the usual request where a line makes this body of the usual response.
+pub fn paged(body: &[u8]) -> Stated<'_> {
+    Stated {
+        request: USUAL_SENT,
+        head: PAGE_HEAD,
+        came: Came::Whole(body),
+    }
+}
+
+/// What is stated of a request that the proxy answers itself, without asking the origin.
+pub fn unasked<'a>(answer: &OwnAnswer<'a>) -> Stated<'a> {
+    Stated {
+        request: b"",
+        head: answer.head,
+        came: Came::Whole(answer.body),
+    }
+}

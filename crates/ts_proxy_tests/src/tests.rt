@@ -1,7 +1,8 @@
 //! Rows by subject, whose values come from the tables of heads, framings and answers, and from exchanges that
 //! were worked out by hand.
 
-use crate::row::{Row, Verdict, check};
+use crate::row::{Row, check};
+use crate::verdict::Verdict;
 use std::process::Abort;
 use std::sync::Wait;
 use std::test::Fail;

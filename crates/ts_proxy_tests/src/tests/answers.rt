@@ -2,16 +2,20 @@
 
 use super::check_all;
 use crate::recording::at_once;
-use crate::report::{Came, Stated};
-use crate::row::{Row, answered, dripping, get};
+use crate::report::Came;
+use crate::row::{Row, dripping, get, head};
 use crate::stated::{
-    ABC, BAD_GATEWAY, BAD_REQUEST, HEAD, HEAD_SENT, NOT_IMPLEMENTED, OwnAnswer, SIZED,
+    ABC, BAD_GATEWAY, BAD_REQUEST, HOSTLESS, NOT_IMPLEMENTED, NOTHING, OwnAnswer, SIZED, unasked,
 };
 use std::test::Fail;
 
 // A request that the proxy answers itself, without asking the origin.
 fn refused<'a>(client: &'a [u8], answer: &OwnAnswer<'a>) -> Row<'a> {
-    answered(client, ABC, answer)
+    Row {
+        config: b"",
+        exchange: at_once(client, ABC),
+        stated: unasked(answer),
+    }
 }
 
 // A request whose origin gives no response that can be passed on.
@@ -22,7 +26,7 @@ fn unanswered(origin: &[u8]) -> Row<'_> {
 #[test]
 fn requests_that_are_not_passed_on(rt: HostRuntime) -> Result<(), Fail> {
     let rows = [
-        refused(b"GET / HTTP/1.1\r\n\r\n", &BAD_REQUEST),
+        refused(HOSTLESS, &BAD_REQUEST),
         refused(
             b"GET / HTTP/1.1\r\nHost: a\r\nHost: b\r\n\r\n",
             &BAD_REQUEST,
@@ -53,11 +57,7 @@ fn a_client_that_gives_nothing(rt: HostRuntime) -> Result<(), Fail> {
     let nothing = Row {
         config: b"",
         exchange: at_once(b"", ABC),
-        stated: Stated {
-            request: b"",
-            head: b"",
-            came: Came::Whole(b""),
-        },
+        stated: NOTHING,
     };
     check_all(&rt, &[nothing])
 }
@@ -65,15 +65,6 @@ fn a_client_that_gives_nothing(rt: HostRuntime) -> Result<(), Fail> {
 // To HEAD the same head is sent without the body.
 #[test]
 fn origins_without_a_response(rt: HostRuntime) -> Result<(), Fail> {
-    let to_head = Row {
-        config: b"",
-        exchange: at_once(HEAD, b""),
-        stated: Stated {
-            request: HEAD_SENT,
-            head: BAD_GATEWAY.head,
-            came: Came::Whole(b""),
-        },
-    };
     let rows = [
         unanswered(b""),
         unanswered(b"\r\n"),
@@ -82,7 +73,7 @@ fn origins_without_a_response(rt: HostRuntime) -> Result<(), Fail> {
         unanswered(b"HTTP/1.1 100 Continue\r\n\r\n"),
         unanswered(b"HTTP/1.1 200 OK\r\nTransfer-Encoding: gzip, chunked\r\n\r\n0\r\n\r\n"),
         unanswered(b"HTTP/1.1 200 OK\r\nContent-Length: 3\r\nContent-Length: 4\r\n\r\nabc"),
-        to_head,
+        head(b"", b"", BAD_GATEWAY.head),
     ];
     check_all(&rt, &rows)
 }

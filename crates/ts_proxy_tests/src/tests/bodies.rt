@@ -1,14 +1,11 @@
 //! Bodies through the lines of a configuration.
 
 use super::check_all;
-use crate::command::{PLAIN, replayed};
+use crate::command::{REPLAY, replayed};
 use crate::recording::{at_once, recording_of};
-use crate::report::{Came, Stated};
 use crate::row::{Row, chunked, dripping};
-use crate::stated::{ABC, GET, PAGE, PAGE_HEAD, USUAL, USUAL_SENT};
+use crate::stated::{ABC, APPEND, GET, LESS, PAGE, USUAL, paged};
 use std::test::Fail;
-
-const LESS: &[u8] = b"prepend.so <";
 
 const AAAA: &[u8] = b"HTTP/1.1 200 OK\r\nContent-Length: 4\r\n\r\naaaa";
 
@@ -19,13 +16,9 @@ const IN_CHUNKS: &[u8] =
 // A usual exchange, with a footer behind each page.
 fn usual() -> Row<'static> {
     Row {
-        config: b"append_transform.so f",
+        config: APPEND,
         exchange: at_once(USUAL, PAGE),
-        stated: Stated {
-            request: USUAL_SENT,
-            head: PAGE_HEAD,
-            came: Came::Whole(b"<p>hello</p>\n<hr>"),
-        },
+        stated: paged(b"<p>hello</p>\n<hr>"),
     }
 }
 
@@ -53,7 +46,7 @@ fn bodies_pass_through_lines(rt: HostRuntime) -> Result<(), Fail> {
 fn a_report_byte_by_byte(rt: HostRuntime) -> Result<(), Fail> {
     let recording = recording_of(rt.alloc(), &[at_once(GET, ABC)])?;
     assert_eq!(rt; recording.len(), 120);
-    let left = replayed(&rt, rt.alloc(), PLAIN, LESS, recording.as_slice())?;
+    let left = replayed(&rt, rt.alloc(), REPLAY, LESS, recording.as_slice())?;
     let report: &[u8] = b"tsx-report 1\n\
 txn 1\n\
 request 60\nGET / HTTP/1.1\r\nhost: a\r\nvia: 1.1 tsx\r\nconnection: close\r\n\r\n\n\

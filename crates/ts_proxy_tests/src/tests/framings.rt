@@ -3,24 +3,12 @@
 use super::check_all;
 use crate::recording::at_once;
 use crate::report::{Came, Stated};
-use crate::row::{Row, chunked, dripping, get};
-use crate::stated::{ABC, CHUNKED, HEAD, HEAD_SENT, PLAIN, SIZED};
+use crate::row::{Row, chunked, dripping, get, head};
+use crate::stated::{ABC, APPEND, BAD_CHUNKS, CHUNKED, CUT, LESS, PLAIN, SIZED};
 use std::test::Fail;
 
-const LESS: &[u8] = b"prepend.so <";
-
-// A response to HEAD that has the head of three bytes.
-fn head<'a>(config: &'a [u8], got: &'a [u8]) -> Row<'a> {
-    Row {
-        config,
-        exchange: at_once(HEAD, b"HTTP/1.1 200 OK\r\nContent-Length: 3\r\n\r\n"),
-        stated: Stated {
-            request: HEAD_SENT,
-            head: got,
-            came: Came::Whole(b""),
-        },
-    }
-}
+// The head of a response of three bytes.
+const ABC_HEAD: &[u8] = b"HTTP/1.1 200 OK\r\nContent-Length: 3\r\n\r\n";
 
 // A request of HTTP/1.0, which gets no chunks.
 fn older<'a>(config: &'a [u8], got: &'a [u8], body: &'a [u8]) -> Row<'a> {
@@ -62,8 +50,8 @@ fn responses_without_a_body(rt: HostRuntime) -> Result<(), Fail> {
             b"HTTP/1.1 304 Not Modified\r\nvia: 1.1 tsx\r\ncontent-length: 5\r\nconnection: close\r\n\r\n",
             Came::Whole(b""),
         ),
-        head(b"", SIZED),
-        head(LESS, PLAIN),
+        head(b"", ABC_HEAD, SIZED),
+        head(LESS, ABC_HEAD, PLAIN),
     ];
     check_all(&rt, &rows)?;
     check_all(&rt, &rows.map(dripping))
@@ -86,7 +74,7 @@ fn responses_on_which_no_line_acts(rt: HostRuntime) -> Result<(), Fail> {
             Came::Whole(b"abc"),
         ),
         get(
-            b"append_transform.so f",
+            APPEND,
             b"HTTP/1.1 200 OK\r\nContent-Type: text/plain\r\nContent-Length: 3\r\n\r\nabc",
             b"HTTP/1.1 200 OK\r\ncontent-type: text/plain\r\nvia: 1.1 tsx\r\ncontent-length: 3\r\nconnection: close\r\n\r\n",
             Came::Whole(b"abc"),
@@ -127,18 +115,8 @@ fn fields_that_are_not_passed_on(rt: HostRuntime) -> Result<(), Fail> {
 #[test]
 fn bodies_that_are_not_whole(rt: HostRuntime) -> Result<(), Fail> {
     let rows = [
-        get(
-            LESS,
-            b"HTTP/1.1 200 OK\r\nContent-Length: 3\r\n\r\nab",
-            CHUNKED,
-            Came::Cut,
-        ),
-        get(
-            b"",
-            b"HTTP/1.1 200 OK\r\nContent-Length: 3\r\n\r\nab",
-            SIZED,
-            Came::Cut,
-        ),
+        get(LESS, CUT, CHUNKED, Came::Cut),
+        get(b"", CUT, SIZED, Came::Cut),
         get(
             b"",
             b"HTTP/1.1 200 OK\r\nTransfer-Encoding: chunked\r\n\r\n3\r\nabc",
@@ -151,12 +129,7 @@ fn bodies_that_are_not_whole(rt: HostRuntime) -> Result<(), Fail> {
             CHUNKED,
             Came::Bad,
         ),
-        get(
-            b"",
-            b"HTTP/1.1 200 OK\r\nTransfer-Encoding: chunked\r\n\r\nx",
-            CHUNKED,
-            Came::Bad,
-        ),
+        get(b"", BAD_CHUNKS, CHUNKED, Came::Bad),
         get(
             b"",
             b"HTTP/1.1 200 OK\r\nContent-Length: 3\r\n\r\nabcd",

@@ -1,16 +1,17 @@
 //! Of several faults the first in the order of the work decides: configuration, append files, recording, out.
 
-use crate::command::{ON_2, PLAIN, failing_sink, left_by, shelf_of};
+use crate::command::{ON_2, REPLAY, failing_sink, left_by, shelf_of};
 use crate::recording::{at_once, recording_of};
-use crate::report::{Came, Stated, report_of};
-use crate::stated::{ABC, CHUNKED, GET, GET_SENT};
+use crate::report::report_of;
+use crate::stated::{ABC, APPEND, GET, LESS, in_chunks};
+use crate::verdict::{Verdict, Wanted, judge, stopped};
 use std::process::Abort;
 use std::sync::Wait;
 use std::test::Fail;
 use std::thread::Threads;
 use ts_link::{MemShelf, OpenGate};
 
-// What is left of a command that came to no report: its status, and its line.
+// A command comes to no report over this shelf, but to this status, with this line.
 fn ends<R: Abort + AllocGlobal + Threads + Wait + Sync>(
     rt: &R,
     shelf: MemShelf,
@@ -19,10 +20,8 @@ fn ends<R: Abort + AllocGlobal + Threads + Wait + Sync>(
 ) -> Result<(), Fail> {
     let out = failing_sink(rt.alloc(), 1, 1)?;
     let left = left_by(rt, rt.alloc(), ON_2, shelf, out, &OpenGate::make())?;
-    assert_eq!(rt; left.status, status);
-    assert!(rt; left.out.written().is_empty());
-    assert_eq!(rt; left.err.written(), line);
-    assert!(rt; left.journals.is_empty());
+    let verdict = judge(&left, &stopped(status, line));
+    assert_eq!(rt; verdict, Verdict::AsStated, "status {status}");
     Ok(())
 }
 
@@ -36,15 +35,15 @@ fn the_first_fault_decides(rt: HostRuntime) -> Result<(), Fail> {
     faulty.add("c", b"append_transform.so f\nfoo.so\n")?;
     ends(&rt, faulty, 3, b"tsx: configuration line 2: plugin\n")?;
     let mut bare = MemShelf::make(alloc);
-    bare.add("c", b"append_transform.so f")?;
+    bare.add("c", APPEND)?;
     ends(&rt, bare, 5, b"tsx: cannot read f\n")?;
     let mut unrecorded = MemShelf::make(alloc);
-    unrecorded.add("c", b"append_transform.so f")?;
+    unrecorded.add("c", APPEND)?;
     unrecorded.add("f", b"<hr>")?;
     ends(&rt, unrecorded, 5, b"tsx: cannot read r\n")?;
-    let cut = shelf_of(alloc, b"append_transform.so f", b"tsx-recording 1\n")?;
+    let cut = shelf_of(alloc, APPEND, b"tsx-recording 1\n")?;
     ends(&rt, cut, 4, b"tsx: recording offset 16\n")?;
-    let whole = shelf_of(alloc, b"append_transform.so f", b"tsx-recording 1\nend\n")?;
+    let whole = shelf_of(alloc, APPEND, b"tsx-recording 1\nend\n")?;
     ends(&rt, whole, 6, b"tsx: cannot write\n")
 }
 
@@ -55,7 +54,7 @@ fn files_that_are_too_long(rt: HostRuntime) -> Result<(), Fail> {
     let long_config = shelf_of(alloc, text.as_slice(), b"")?;
     ends(&rt, long_config, 9, b"tsx: too long: c\n")?;
     let mut long_text = MemShelf::make(alloc);
-    long_text.add("c", b"append_transform.so f")?;
+    long_text.add("c", APPEND)?;
     long_text.add("f", text.as_slice())?;
     ends(&rt, long_text, 9, b"tsx: too long: f\n")
 }
@@ -70,8 +69,7 @@ fn reads_that_fail(rt: HostRuntime) -> Result<(), Fail> {
         b"tsx: cannot read r\n",
     ];
     for (place, line) in lines.iter().enumerate() {
-        let config = b"append_transform.so f";
-        let mut shelf = shelf_of(rt.alloc(), config, recording.as_slice())?;
+        let mut shelf = shelf_of(rt.alloc(), APPEND, recording.as_slice())?;
         shelf.fail_at(place as u64 + 1)?;
         ends(&rt, shelf, 5, line)?;
     }
@@ -83,22 +81,19 @@ fn reads_that_fail(rt: HostRuntime) -> Result<(), Fail> {
 fn writes_that_fail(rt: HostRuntime) -> Result<(), Fail> {
     let alloc = rt.alloc();
     let recording = recording_of(alloc, &[at_once(GET, ABC)])?;
-    let stated = Stated {
-        request: GET_SENT,
-        head: CHUNKED,
-        came: Came::Whole(b"<abc"),
-    };
-    let report = report_of(alloc, &[stated])?;
+    let report = report_of(alloc, &[in_chunks(b"<abc")])?;
     for call in 1..22 {
-        let shelf = shelf_of(alloc, b"prepend.so <", recording.as_slice())?;
+        let shelf = shelf_of(alloc, LESS, recording.as_slice())?;
         let out = failing_sink(alloc, 10, call)?;
-        let left = left_by(&rt, alloc, PLAIN, shelf, out, &OpenGate::make())?;
+        let left = left_by(&rt, alloc, REPLAY, shelf, out, &OpenGate::make())?;
         let front = left.out.written();
-        assert_eq!(rt; left.status, 6, "call {call}");
+        let wanted = Wanted {
+            out: front,
+            ..stopped(6, b"tsx: cannot write\n")
+        };
+        assert_eq!(rt; judge(&left, &wanted), Verdict::AsStated, "call {call}");
         assert_eq!(rt; front.len() as u64 + 10, 10 * call, "call {call}");
         assert!(rt; report.as_slice().starts_with(front), "call {call}");
-        assert_eq!(rt; left.err.written(), b"tsx: cannot write\n".as_slice());
-        assert!(rt; left.journals.is_empty());
     }
     Ok(())
 }

@@ -1,8 +1,9 @@
 //! Recordings that are refused, with the place behind the front that is right.
 
-use crate::command::{PLAIN, replayed};
-use crate::recording::{at_once, recording_of, repeated};
-use crate::stated::{ABC, GET};
+use crate::command::{REPLAY, replayed};
+use crate::recording::{at_once, recording_of};
+use crate::stated::{ABC, GET, LESS};
+use crate::verdict::{Verdict, judge, stopped};
 use std::process::Abort;
 use std::sync::Wait;
 use std::test::Fail;
@@ -14,12 +15,10 @@ fn refused<R: Abort + AllocGlobal + Threads + Wait + Sync>(
     text: &[u8],
     offset: usize,
 ) -> Result<(), Fail> {
-    let left = replayed(rt, rt.alloc(), PLAIN, b"prepend.so <", text)?;
+    let left = replayed(rt, rt.alloc(), REPLAY, LESS, text)?;
     let line = format!(in rt.alloc(); "tsx: recording offset {offset}\n")?;
-    assert_eq!(rt; left.status, 4, "offset {offset}");
-    assert!(rt; left.out.written().is_empty());
-    assert_eq!(rt; left.err.written(), line.as_bytes());
-    assert!(rt; left.journals.is_empty());
+    let wanted = stopped(4, line.as_bytes());
+    assert_eq!(rt; judge(&left, &wanted), Verdict::AsStated, "offset {offset}");
     Ok(())
 }
 
@@ -49,6 +48,7 @@ fn texts_that_are_no_recording(rt: HostRuntime) -> Result<(), Fail> {
 // The 4,001st transaction is one too many.
 #[test]
 fn too_many_transactions(rt: HostRuntime) -> Result<(), Fail> {
-    let text = repeated(rt.alloc(), &at_once(b"", b""), 4001)?;
+    let exchanges = vec![in rt.alloc(); at_once(b"", b""); 4001]?;
+    let text = recording_of(rt.alloc(), exchanges.as_slice())?;
     refused(&rt, text.as_slice(), 40_016)
 }

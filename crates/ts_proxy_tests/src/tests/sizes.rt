@@ -1,19 +1,18 @@
 //! Recordings as large as they may be: in transactions, in bytes, and in the pieces of one body.
 
-use crate::command::{Left, ON_1, ON_4, ON_64, left_by, replayed, shelf_of, wide_sink};
-use crate::recording::{Exchange, MOST_PIECE, at_once, recording_of, repeated};
-use crate::report::{Came, Stated, report_of, report_on};
-use crate::row::{Verdict, judge};
-use crate::stated::{ABC, CHUNKED, GET, GET_SENT};
+use crate::command::{Left, ON_1, ON_4, ON_64, left_by, shelf_of, wide_sink};
+use crate::recording::{at_once, in_pieces, recording_of};
+use crate::report::report_of;
+use crate::row::check_with;
+use crate::stated::{ABC, GET, LESS, in_chunks};
+use crate::verdict::{Verdict, done, judge, stopped};
 use std::alloc::Global;
 use std::process::Abort;
 use std::sync::Wait;
 use std::test::Fail;
 use std::thread::Threads;
 use ts_link::{NoMemory, OpenGate};
-
-// The most transactions of a recording.
-const MOST_TXNS: usize = 4_000;
+use ts_record::{MOST_PIECE, MOST_TXNS};
 
 // The most bytes of a recording.
 const MOST_RECORDING: usize = 67_108_864;
@@ -42,28 +41,21 @@ fn response_of(alloc: Global, body: &[u8]) -> Result<Vec<u8>, NoMemory> {
     Ok(text)
 }
 
-fn whole(body: &[u8]) -> Stated<'_> {
-    Stated {
-        request: GET_SENT,
-        head: CHUNKED,
-        came: Came::Whole(body),
-    }
-}
-
 // As many transactions as there may be, each with a body, on 1, 4 and 64 threads.
 #[test]
 fn most_transactions(rt: HostRuntime) -> Result<(), Fail> {
-    let recording = repeated(rt.alloc(), &at_once(GET, ABC), MOST_TXNS)?;
-    let report = report_on(rt.alloc(), &whole(b"<abc"), MOST_TXNS)?;
+    let alloc = rt.alloc();
+    let exchanges = vec![in alloc; at_once(GET, ABC); MOST_TXNS]?;
+    let stated = vec![in alloc; in_chunks(b"<abc"); MOST_TXNS]?;
     for words in [ON_1, ON_4, ON_64] {
-        let left = replayed(
+        let verdict = check_with(
             &rt,
-            rt.alloc(),
+            alloc,
             words,
-            b"prepend.so <",
-            recording.as_slice(),
+            LESS,
+            exchanges.as_slice(),
+            stated.as_slice(),
         )?;
-        let verdict = judge(&left, report.as_slice(), MOST_TXNS);
         assert_eq!(rt; verdict, Verdict::AsStated, "at {words:?}");
     }
     Ok(())
@@ -76,19 +68,14 @@ fn a_large_body(rt: HostRuntime) -> Result<(), Fail> {
     let alloc = rt.alloc();
     let body = letters(alloc, MIB)?;
     let response = response_of(alloc, body.as_slice())?;
-    let report = report_of(alloc, &[whole(body.as_slice())])?;
     let mut config = Vec::new(alloc);
     for _ in 0..16 {
         config.extend_from_slice(b"null_transform.so\n")?;
     }
     for piece in [MOST_PIECE, 1_000] {
-        let exchange = Exchange {
-            piece,
-            ..at_once(GET, response.as_slice())
-        };
-        let recording = recording_of(alloc, &[exchange])?;
-        let left = replayed(&rt, alloc, ON_4, config.as_slice(), recording.as_slice())?;
-        let verdict = judge(&left, report.as_slice(), 1);
+        let exchange = in_pieces(at_once(GET, response.as_slice()), piece);
+        let stated = in_chunks(body.as_slice());
+        let verdict = check_with(&rt, alloc, ON_4, config.as_slice(), &[exchange], &[stated])?;
         assert_eq!(rt; verdict, Verdict::AsStated, "pieces of {piece}");
     }
     Ok(())
@@ -126,13 +113,11 @@ fn most_bytes(rt: HostRuntime) -> Result<(), Fail> {
     let body = letters(alloc, EQUAL_BODY)?;
     let last = letters(alloc, LAST_BODY)?;
     let left = filled(&rt, alloc, body.as_slice(), last.as_slice())?;
-    let mut all = vec![in alloc; whole(body.as_slice()); EQUAL]?;
-    all.push(whole(last.as_slice()))?;
+    let mut all = vec![in alloc; in_chunks(body.as_slice()); EQUAL]?;
+    all.push(in_chunks(last.as_slice()))?;
     let report = report_of(alloc, all.as_slice())?;
-    assert_eq!(rt;
-        judge(&left, report.as_slice(), EQUAL + 1),
-        Verdict::AsStated
-    );
+    let wanted = done(report.as_slice(), EQUAL + 1);
+    assert_eq!(rt; judge(&left, &wanted), Verdict::AsStated);
     Ok(())
 }
 
@@ -143,8 +128,7 @@ fn one_byte_too_many(rt: HostRuntime) -> Result<(), Fail> {
     let body = letters(alloc, EQUAL_BODY)?;
     let last = letters(alloc, LAST_BODY + 1)?;
     let left = filled(&rt, alloc, body.as_slice(), last.as_slice())?;
-    assert_eq!(rt; left.status, 9);
-    assert!(rt; left.out.written().is_empty());
-    assert_eq!(rt; left.err.written(), b"tsx: too long: r\n".as_slice());
+    let wanted = stopped(9, b"tsx: too long: r\n");
+    assert_eq!(rt; judge(&left, &wanted), Verdict::AsStated);
     Ok(())
 }

@@ -1,7 +1,8 @@
 //! The words of `replay`: with and without a number of threads, and words that are of no command.
 
-use crate::command::replayed;
+use crate::command::{ON_1, ON_64, REPLAY, replayed};
 use crate::recording::recording_of;
+use crate::verdict::{Verdict, Wanted, done, judge, stopped};
 use std::process::Abort;
 use std::sync::Wait;
 use std::test::Fail;
@@ -10,57 +11,37 @@ use std::thread::Threads;
 const USAGE: &[u8] =
     b"tsx: usage: transform CONFIG BODY | replay [--threads N] CONFIG RECORDING | serve --listen L --origin A --config F [--threads N] [--connections N] | generate SEED COUNT SIZE\n";
 
-const EMPTY_REPORT: &[u8] = b"tsx-report 1\ndone\n";
-
-// These words come to this, over an empty recording.
+// These words leave this, over an empty recording.
 fn come_to<R: Abort + AllocGlobal + Threads + Wait + Sync>(
     rt: &R,
     words: &[&str],
-    status: u8,
-    out: &[u8],
-    err: &[u8],
+    wanted: &Wanted<'_>,
 ) -> Result<(), Fail> {
     let recording = recording_of(rt.alloc(), &[])?;
     let left = replayed(rt, rt.alloc(), words, b"", recording.as_slice())?;
-    assert_eq!(rt; left.status, status, "at {words:?}");
-    assert_eq!(rt; left.out.written(), out, "at {words:?}");
-    assert_eq!(rt; left.err.written(), err, "at {words:?}");
-    assert!(rt; left.journals.is_empty());
+    assert_eq!(rt; judge(&left, wanted), Verdict::AsStated, "at {words:?}");
     Ok(())
 }
 
 // A recording of no transaction leaves no journal, whatever the threads.
 #[test]
 fn words_of_the_command(rt: HostRuntime) -> Result<(), Fail> {
-    come_to(&rt, &["replay", "c", "r"], 0, EMPTY_REPORT, b"")?;
-    come_to(
-        &rt,
-        &["replay", "--threads", "1", "c", "r"],
-        0,
-        EMPTY_REPORT,
-        b"",
-    )?;
-    come_to(
-        &rt,
-        &["replay", "--threads", "64", "c", "r"],
-        0,
-        EMPTY_REPORT,
-        b"",
-    )
+    let wanted = done(b"tsx-report 1\ndone\n", 0);
+    come_to(&rt, REPLAY, &wanted)?;
+    come_to(&rt, ON_1, &wanted)?;
+    come_to(&rt, ON_64, &wanted)
 }
 
 // Two words behind `replay` are always names of files.
 #[test]
 fn names_that_begin_with_a_dash(rt: HostRuntime) -> Result<(), Fail> {
-    let config: &[u8] = b"tsx: cannot read --threads\n";
-    come_to(&rt, &["replay", "--threads", "2"], 5, b"", config)?;
-    come_to(&rt, &["replay", "c", "--threads"], 5, b"", config)?;
+    let wanted = stopped(5, b"tsx: cannot read --threads\n");
+    come_to(&rt, &["replay", "--threads", "2"], &wanted)?;
+    come_to(&rt, &["replay", "c", "--threads"], &wanted)?;
     come_to(
         &rt,
         &["replay", "--threads", "2", "--threads", "r"],
-        5,
-        b"",
-        config,
+        &wanted,
     )
 }
 
@@ -83,13 +64,8 @@ fn numbers_that_are_none(rt: HostRuntime) -> Result<(), Fail> {
         "18446744073709551617",
         "\u{0661}",
     ] {
-        come_to(
-            &rt,
-            &["replay", "--threads", number, "c", "r"],
-            2,
-            b"",
-            USAGE,
-        )?;
+        let words = ["replay", "--threads", number, "c", "r"];
+        come_to(&rt, &words, &stopped(2, USAGE))?;
     }
     Ok(())
 }
@@ -109,7 +85,7 @@ fn words_of_no_command(rt: HostRuntime) -> Result<(), Fail> {
         &["generate", "0", "1", "0"],
     ];
     for words in rows {
-        come_to(&rt, words, 2, b"", USAGE)?;
+        come_to(&rt, words, &stopped(2, USAGE))?;
     }
     Ok(())
 }
