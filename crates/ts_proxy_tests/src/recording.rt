@@ -3,7 +3,9 @@
 use crate::parts::add_part;
 use std::alloc::Global;
 use ts_link::NoMemory;
-use ts_record::MOST_PIECE;
+
+/// The most bytes of a piece of a recording.
+pub const MOST_PIECE: usize = 32_768;
 
 /// A recorded transaction: what the client sends and what the origin gives, in pieces of at most so many
 /// bytes. A side that is empty has no piece.

@@ -1,7 +1,7 @@
 //! Recordings as large as they may be: in transactions, in bytes, and in the pieces of one body.
 
 use crate::command::{Left, ON_1, ON_4, ON_64, left_by, shelf_of, wide_sink};
-use crate::recording::{at_once, in_pieces, recording_of};
+use crate::recording::{MOST_PIECE, at_once, in_pieces, recording_of};
 use crate::report::report_of;
 use crate::row::check_with;
 use crate::stated::{ABC, GET, LESS, in_chunks};
@@ -12,7 +12,9 @@ use std::sync::Wait;
 use std::test::Fail;
 use std::thread::Threads;
 use ts_link::{NoMemory, OpenGate};
-use ts_record::{MOST_PIECE, MOST_TXNS};
+
+// The most transactions of a recording.
+const MOST_TXNS: usize = 4_000;
 
 // The most bytes of a recording.
 const MOST_RECORDING: usize = 67_108_864;
