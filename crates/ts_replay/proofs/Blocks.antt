@@ -1,5 +1,4 @@
--- What every block of a transaction without hook plugins is like: how its request ends, and that only a whole answer has a
--- body.
+-- How the request of a transaction without hook plugins ends, and that only a whole answer of it has a body.
 use Rattle.std.proofs.Common.{◌≡◌, ◌≢◌, ◌⊎◌, ℕ, List, [], Bool, true, false, Result, Ok, Err, inl, inr, refl, sym, ap, subst}
 use Rattle.ts_config.specs.declared.fields.Side.TheVariants as S
 use Rattle.ts_config.specs.declared.setup.Setup.{Setup}
@@ -23,16 +22,19 @@ use Rattle.ts_replay.proofs.Blank.{sent_ends}
 abbrev pub EndsBlankIf : List ℕ → Type 0
 EndsBlankIf request = (request ≡ []) ⊎ EndsBlank request
 
+-- what every block is like
 pub record IsShaped (b : Block) : Type 0 where
   pub request : EndsBlankIf b.request
   pub short : b.end ≢ E.Whole → b.body ≡ []
 
+-- one that ended whole
 whole_shaped : (request : List ℕ) (b : Block) → EndsBlankIf request → b.request ≡ request → b.end ≡ E.Whole → IsShaped b
 whole_shaped request b ends is whole = record {
   request = subst EndsBlankIf (sym is) ends;
   short = λ other. absurd (other whole);
 }
 
+-- one with no body
 short_shaped : (request : List ℕ) (b : Block) → EndsBlankIf request → b.request ≡ request → b.body ≡ [] → IsShaped b
 short_shaped request b ends is none = record {
   request = subst EndsBlankIf (sym is) ends;
@@ -44,12 +46,15 @@ was_read : (c : List ℕ) (q : RequestHead) (rest : List ℕ) → HasRequest c q
 was_read c q rest has = record { parsed = has.parsed; good = has.begins.reads.0; keeps = has.keeps }
 
 module _ (setup : Setup) (plain : setup.plugins.items ≡ []) where
+  -- the request that an origin is sent ends with its only empty line
   request_ends : (q : RequestHead) (target host : List ℕ) → IsReadRequest q → check q ≡ Ok (target, host) → EndsBlank (request_text setup q target host)
   request_ends q target host read passes =
       sent_ends q.method target host (request_text setup q target host)
       (sends_one_request q target host (forwarded q.fields) (request_text setup q target host)
       (ap (λ lines. origin_text q.method (is_absolute q.target) q.minor target host (ruled S.Request lines (forwarded q.fields))) plain)
       read passes (forwards_unchanged q read))
+
+  -- ---- answer by answer
 
   own_shaped : (request : List ℕ) (status : OwnStatus) (to_head : Bool) (b : Block) → EndsBlankIf request → b ≡ own_block setup request status to_head → IsShaped b
   own_shaped request status to_head b ends is = whole_shaped request b ends (ap (λ (x : Block). x.request) is) (ap (λ (x : Block). x.end) is)

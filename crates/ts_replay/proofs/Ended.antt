@@ -16,10 +16,9 @@ use Rattle.ts_record.specs.Grammar.{TxnPieces}
 use Rattle.ts_record.specs.Links.{recorded_side}
 use Rattle.ts_record.proofs.Links.{side_bytes}
 use Rattle.ts_replay.specs.Exchanged.{IsRunBetween}
-use Rattle.ts_replay.specs.Recorded.{AreTagsOf, FitInRow, FitsIn, FitsTag, HasLinesOnly, IsSound, IsTagOf, RecordedGroup, RecordedTag, is_asked_only, is_first}
+use Rattle.ts_replay.specs.Recorded.{AreTagsOf, FitInRow, FitsIn, FitsTag, HasLinesOnly, IsSound, IsSoundWith, IsTagOf, RecordedGroup, RecordedTag, is_asked_only, is_first}
 use Rattle.ts_replay.specs.Replayed.{EachOf, HasRunAs}
 use Rattle.ts_replay.specs.Rows.{IsRowOf}
-use Rattle.ts_replay.proofs.Rows.{IsSoundWith}
 use Rattle.ts_thread.specs.declared.TheConstants.{MOST_ALONE}
 use Rattle.ts_thread.specs.Goings.{IsIdle}
 use Rattle.ts_thread.specs.Started.{IsFirst, WasStarted}

@@ -8,34 +8,25 @@ use Rattle.std.specs.List.{AllZip}
 use Rattle.std.proofs.lemmas.Bool.{OnTrue_from}
 use Rattle.std.proofs.lemmas.Slice.Zip.{AllZip-long}
 use Rattle.std.proofs.lemmas.List.Elements.{All-push}
-use Rattle.ts_config.specs.Bodies.{whole_of}
 use Rattle.ts_config.specs.declared.setup.Setup.{Setup}
 use Rattle.ts_group.specs.declared.action.Named.{Named}
 use Rattle.ts_group.specs.Context.{IsFresh}
 use Rattle.ts_group.specs.Slot.{IsAtRest}
 use Rattle.ts_journal.specs.State.{State}
-use Rattle.ts_journal.specs.declared.entry.Pending.{Pending}
 use Rattle.ts_link.specs.Link.{IsSure}
 use Rattle.ts_link.specs.MemLink.{LinkState, look_of}
 use Rattle.ts_record.specs.Grammar.{TxnPieces}
 use Rattle.ts_record.specs.Links.{recorded_side}
 use Rattle.ts_record.proofs.Links.{never_fails}
-use Rattle.ts_replay.specs.Recorded.{AreTagsOf, FitsIn, FitsTag, IsSound, IsTagOf, Recorded, RecordedGroup, RecordedTag, is_asked_only}
+use Rattle.ts_replay.specs.Recorded.{AreTagsOf, FitsIn, FitsTag, IsSound, IsSoundWith, IsTagOf, Recorded, RecordedGroup, RecordedTag, is_asked_only}
 use Rattle.ts_replay.specs.Rows.{IsRowOf}
-use Rattle.ts_stock.specs.Stock.{still_writes}
 use Rattle.ts_thread.specs.Started.{CanStart}
 use Rattle.ts_thread.specs.Tags.{CanAsk}
 use Rattle.ts_thread.specs.Threads.{HasHadTurns}
 use Rattle.ts_txn.specs.Making.{IsMadeOf, IsMadeOfIf}
-use Rattle.ts_txn.specs.World.{IsSoundTxn}
 use Rattle.ts_txn.proofs.Fitting.{fits_made}
 
 -- ---- a group as it is made
-
--- what is to hold of a transaction holds, where these events are pending
-abbrev pub IsSoundWith : Recorded → List Pending → ℕ → List Named → Type 0
-IsSoundWith t pending next roles =
-    IsSoundTxn true true look_of look_of (λ (c o : LinkState). ⊤) (λ (o : LinkState) (list : List ℕ). false ≡ true) still_writes whole_of t pending next roles
 
 -- a recorded side is sure
 sure_side : (pieces : List (List ℕ)) (made : LinkState) → made ≡ recorded_side pieces → IsSure (look_of made)

@@ -12,7 +12,6 @@ use Rattle.ts_link.specs.MemLink.{LinkState, look_of}
 use Rattle.ts_record.specs.Report.{IsReported}
 use Rattle.ts_record.specs.declared.report.Block.{Block as Shown}
 use Rattle.ts_stock.specs.Stock.{still_writes}
-use Rattle.ts_stock.specs.declared.stock.State.{State}
 use Rattle.ts_txn.specs.Block.{IsBlock}
 use Rattle.ts_txn.specs.Ends.{HasBlock, HasText, ShortEnd}
 use Rattle.ts_txn.specs.Making.{end_of, link_if}
@@ -23,10 +22,10 @@ use Rattle.ts_txn.specs.declared.block.Block.{Block}
 use Rattle.ts_txn.specs.declared.making.TxnParts.{TxnParts}
 use Rattle.ts_txn.specs.declared.parts.Peer.{Peer}
 use Rattle.ts_txn.specs.declared.parts.Sent.{Sent}
-use Rattle.ts_txn.specs.declared.txn.Txn.{Txn}
 use Rattle.ts_txn.proofs.Resting.{rests_with_block}
 use Rattle.ts_wire.specs.Frames.{cut_body, frames}
 use Rattle.ts_replay.specs.Exchanged.{GotBy, HasGot, HasTaken, IsLeftBetween, IsRunBetween, LeavesBlock}
+use Rattle.ts_replay.specs.Recorded.{Recorded}
 use Rattle.ts_replay.specs.Reports.{IsShownOf, shown}
 use Rattle.ts_replay.specs.Unframing.{IsFramed}
 use Rattle.ts_replay.proofs.Blocks.{block_shaped}
@@ -190,7 +189,7 @@ module _ (setup : Setup) (c o : List ℕ) (parts : TxnParts LinkState LinkState)
       let both = sym found.1 ∙ none in cc
 
 -- what is left of a transaction that was run between two sides
-pub left_between : (setup : Setup) (c o : List ℕ) (t : Txn LinkState LinkState State) (parts : TxnParts LinkState LinkState) → IsRunBetween setup c o t
+pub left_between : (setup : Setup) (c o : List ℕ) (t : Recorded) (parts : TxnParts LinkState LinkState) → IsRunBetween setup c o t
     → (parts.client ≡ t.core.client.link) × (parts.origin ≡ link_if t.core.origin)
     → (parts.head ≡ t.core.sent.head) × (parts.mode ≡ t.core.sent.mode) × (parts.cuts.items ≡ t.core.sent.cuts.items) → parts.end ≡ end_of t.course → IsLeftBetween setup c o parts
 left_between setup c o t parts run links sent ends = record { txn = t; run = run; links = links; sent = sent; end_is = ends }

@@ -1,3 +1,4 @@
+-- A group that was just made of two recorded sides fits its tag.
 use Rattle.std.proofs.Common.{◌≡◌, Some, false, true, ap, subst, ◌∙◌, rules}
 use Rattle.std.specs.Arc.{arc_value}
 use Rattle.ts_link.specs.MemLink.{look_of}

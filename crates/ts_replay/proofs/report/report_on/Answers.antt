@@ -1,9 +1,11 @@
+-- The report grows by the block of one group, and the journals by that group's.
 use Rattle.std.proofs.Common.{◌≡◌, ◌+◌, [], ◌∷◌, ◌++◌, refl, sym, ap, subst, ◌∙◌}
 use Rattle.std.specs.List.{concat}
 use Rattle.std.proofs.lemmas.List.{nil_from_length}
 use Rattle.ts_replay.specs.Exchanged.{IsRunBetween}
 use Rattle.ts_replay.specs.Recorded.{Recorded}
-use Rattle.ts_replay.proofs.Reporting.{ReportsBut, lawful_of, next_of, reports_all, reports_more, state_of}
+use Rattle.ts_replay.proofs.Ended.{run_between}
+use Rattle.ts_replay.proofs.Reporting.{ReportsBut, is_kept, next_of, reports_all, reports_more}
 use Rattle.ts_txn.specs.Making.{end_of}
 use Rattle.ts_replay.proofs.report.report_on.Goals as goal
 
@@ -12,7 +14,8 @@ told-requires c =
     let ran = c.requires.ran in
     let next = next_of ran.0 ran.1 c.args.groups.items c.groups.rest.items c.pop_front.new.self.items c.groups.number c.groups.report.items c.groups.journals.items c.in-Some.group
     (c.groups.invariant ran.0 ran.1 ran.3) c.in-Some.ensures.items in
-    record { run = (ran.0, concat next.txn.0, concat next.txn.1, subst (IsRunBetween ran.0 (concat next.txn.0) (concat next.txn.1)) (sym c.into_parts-txn.ensures.0) next.between) }
+    let between = run_between ran.0 (c.groups.number + 1) next.txn c.in-Some.group next.first in
+    record { run = (ran.0, concat next.txn.0, concat next.txn.1, subst (IsRunBetween ran.0 (concat next.txn.0) (concat next.txn.1)) (sym c.into_parts-txn.ensures.0) between) }
 
 pub groups-preserved : goal.groups-preserved
 groups-preserved c = λ setup txns each.
@@ -23,8 +26,7 @@ groups-preserved c = λ setup txns each.
     (λ client origin between. c.in_ok-block.ensures.shown setup client origin (subst (IsRunBetween setup client origin) (sym world) between))
     (ap (λ (t : Recorded). end_of t.course) (sym world) ∙ c.in_ok-block.ensures.ended)
     c.in_ok-block.ensures.reported
-    (lawful_of c.in-Some.group.cx.log c.into_parts-txn.result.1 c.entries.result.now log c.entries.ensures.entries c.entries.ensures.lawful)
-    (state_of c.in-Some.group.cx.log c.into_parts-txn.result.1 c.entries.result.now log c.entries.ensures.entries c.entries.ensures.state)
+    (is_kept c.in-Some.group.cx.log c.into_parts-txn.result.1 c.entries.result.now log c.entries.ensures.entries c.entries.ensures.lawful c.entries.ensures.state)
     c.in_ok-add_block.ensures
     (c.in_ok-push.ensures.items ∙ ap (λ j. c.groups.journals.items ++ j ∷ []) log)
 

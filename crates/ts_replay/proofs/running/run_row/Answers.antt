@@ -1,3 +1,4 @@
+-- A row of groups can be run by threads, and each of its transactions has run then.
 use Rattle.std.proofs.Common.{◌≡◌, ◌≤◌, length, ◌∙◌, arith}
 use Rattle.ts_record.specs.declared.recording.TheConstants.{MOST_TXNS}
 use Rattle.ts_replay.specs.declared.running.TheConstants.{BUDGET}
