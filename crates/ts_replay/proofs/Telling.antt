@@ -218,19 +218,11 @@ head_by : (parts : TxnParts LinkState LinkState) (b : Block) (end : TxnEnd) → 
 head_by parts b E.Whole got = got_head parts b b.body true got
 head_by parts b _ got = got_head parts b got.1.0 false got.1.1
 
-module _ (parts : TxnParts LinkState LinkState) (link : LinkState) (end : TxnEnd) (b : Block) (h : LeavesBlock parts link end b) where
-  -- the head stands within what the client took
-  pub head_within : parts.head ≤ length parts.client.taken
-  head_within =
-      let got = head_by parts b end h.got in
-      let long = ap length got.text ∙ length-append b.head got.behind in
-      omega (arith, long, got.length_is)
-
-  -- and is its front
-  pub head_front : take parts.head parts.client.taken ≡ b.head
-  head_front =
-      let got = head_by parts b end h.got in
-      ap (take parts.head) got.text ∙ take_at b.head got.behind parts.head (sym got.length_is)
+-- what it took begins with that head
+pub head_front : (parts : TxnParts LinkState LinkState) (link : LinkState) (end : TxnEnd) (b : Block) → LeavesBlock parts link end b → take parts.head parts.client.taken ≡ b.head
+head_front parts link end b h =
+    let got = head_by parts b end h.got in
+    ap (take parts.head) got.text ∙ take_at b.head got.behind parts.head (sym got.length_is)
 
 -- what was taken out of the frames is the body
 pub content_is : (parts : TxnParts LinkState LinkState) (link : LinkState) (end : TxnEnd) (b : Block) (behind content : List ℕ) → behind ≡ drop parts.head parts.client.taken → LeavesBlock parts link end b

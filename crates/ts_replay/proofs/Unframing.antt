@@ -1,10 +1,10 @@
 -- A body is taken out of its frames, piece by piece.
 use Rattle.std.proofs.Common.{◌≡◌, ℕ, ◌+◌, ◌<◌, ◌≤◌, true, List, [], ◌∷◌, ◌++◌, take, drop, length, get_or, refl, sym, ap, ◌∙◌, arith, append_assoc, length-append}
-use Rattle.std.proofs.lemmas.List.{append-nil, take_at, drop_at, take_all, length-drop, length-map, get_or-map, take_more, drop_more}
+use Rattle.std.proofs.lemmas.List.{append-nil, take_at, drop_at, length-drop, length-map, get_or-map, take_more, drop_more}
 use Rattle.std.proofs.lemmas.Grind.{flat_map-append}
 use Rattle.std.proofs.lemmas.List.Elements.{All-get_or}
 use Rattle.httparse.specs.Ascii.{crlf_bytes}
-use Rattle.ts_wire.specs.declared.frames.Mode.TheVariants.{Plain, Chunked}
+use Rattle.ts_wire.specs.declared.frames.Mode.TheVariants.{Chunked}
 use Rattle.ts_wire.specs.Frames.{IsPiece, hex, frame_of, frames, cut_body}
 use Rattle.ts_wire.specs.Limits.{piece_limit}
 use Rattle.ts_replay.specs.Unframing.{IsFramed}
@@ -73,7 +73,7 @@ module _ {n : ℕ} {bytes piece : List ℕ} {behind : List (List ℕ)} (h : HasC
 
 module _ (cuts bytes : List ℕ) (pieces : List (List ℕ)) (h : IsFramed Chunked cuts bytes pieces) where
   -- there is a cut for each piece
-  pub as_many : length pieces ≡ length cuts
+  as_many : length pieces ≡ length cuts
   as_many = sym (ap length h.cuts_are ∙ length-map pieces (λ p. length p))
 
   -- the next chunk of what is left
@@ -94,11 +94,3 @@ module _ (cuts bytes : List ℕ) (pieces : List (List ℕ)) (h : IsFramed Chunke
       let within : i < length pieces = omega (arith, as_many, lt) in
       ap (λ b. b ++ piece) is ∙ ap (λ p. cut_body (take i pieces) ++ p) (next ∙ sym (append-nil (get_or pieces i [])))
       ∙ sym (ap cut_body (take_more pieces i [] within) ∙ flat_map-append (λ p. p) (take i pieces) (get_or pieces i [] ∷ []))
-
-  -- and the body of all
-  pub body_all : (i : ℕ) (body : List ℕ) → length cuts ≤ i → body ≡ cut_body (take i pieces) → body ≡ cut_body pieces
-  body_all i body le is = is ∙ ap cut_body (take_all i pieces (omega (arith, as_many, le)))
-
--- plain frames are the body itself
-pub plain_body : (cuts bytes : List ℕ) (pieces : List (List ℕ)) → IsFramed Plain cuts bytes pieces → bytes ≡ cut_body pieces
-plain_body cuts bytes pieces h = h.bytes_are ∙ append-nil (cut_body pieces)
