@@ -3,11 +3,10 @@ use Rattle.std.proofs.Common.{◌≡◌, ◌≢◌, ◌⊎◌, ℕ, List, [], Bo
 use Rattle.ts_config.specs.declared.fields.Side.TheVariants as S
 use Rattle.ts_config.specs.declared.setup.Setup.{Setup}
 use Rattle.ts_hooks.specs.declared.txn_end.TxnEnd.TheVariants as E
-use Rattle.ts_txn.specs.Block.{AnswerSays, DenySays, DialSays, IsBlock, VerdictSays, asked, bad, cut, ended, lacking, no_head, own_block, passed_on, request_text, silent}
+use Rattle.ts_txn.specs.Block.{AnswerSays, DenySays, DialSays, IsBlock, VerdictSays, asked, bad, cut, ended, lacking, no_head, passed_on, request_text, silent}
 use Rattle.ts_txn.specs.Heads.{HasRequest}
 use Rattle.ts_txn.specs.Rules.{ruled}
 use Rattle.ts_txn.specs.declared.block.Block.{Block}
-use Rattle.ts_txn.specs.declared.own.OwnStatus.{OwnStatus}
 use Rattle.ts_wire.specs.Check.{check, is_absolute}
 use Rattle.ts_wire.specs.Forward.{forwarded}
 use Rattle.ts_wire.specs.OneHead.{IsReadRequest}
@@ -28,18 +27,12 @@ pub record IsShaped (b : Block) : Type 0 where
   pub short : b.end ≢ E.Whole → b.body ≡ []
 
 -- one that ended whole
-whole_shaped : (request : List ℕ) (b : Block) → EndsBlankIf request → b.request ≡ request → b.end ≡ E.Whole → IsShaped b
-whole_shaped request b ends is whole = record {
-  request = subst EndsBlankIf (sym is) ends;
-  short = λ other. absurd (other whole);
-}
+whole_shaped : (b made : Block) → b ≡ made → EndsBlankIf made.request → made.end ≡ E.Whole → IsShaped b
+whole_shaped b made is ends whole = subst IsShaped (sym is) (record { request = ends; short = λ other. absurd (other whole) })
 
 -- one with no body
-short_shaped : (request : List ℕ) (b : Block) → EndsBlankIf request → b.request ≡ request → b.body ≡ [] → IsShaped b
-short_shaped request b ends is none = record {
-  request = subst EndsBlankIf (sym is) ends;
-  short = λ other. none;
-}
+short_shaped : (b made : Block) → b ≡ made → EndsBlankIf made.request → made.body ≡ [] → IsShaped b
+short_shaped b made is ends none = subst IsShaped (sym is) (record { request = ends; short = λ other. none })
 
 -- every head that a transaction finds is kept of a head of the grammar
 was_read : (c : List ℕ) (q : RequestHead) (rest : List ℕ) → HasRequest c q rest → IsReadRequest q
@@ -54,35 +47,30 @@ module _ (setup : Setup) (plain : setup.plugins.items ≡ []) where
       (ap (λ lines. origin_text q.method (is_absolute q.target) q.minor target host (ruled S.Request lines (forwarded q.fields))) plain)
       read passes (forwards_unchanged q read))
 
-  -- ---- answer by answer
-
-  own_shaped : (request : List ℕ) (status : OwnStatus) (to_head : Bool) (b : Block) → EndsBlankIf request → b ≡ own_block setup request status to_head → IsShaped b
-  own_shaped request status to_head b ends is = whole_shaped request b ends (ap (λ (x : Block). x.request) is) (ap (λ (x : Block). x.end) is)
+  -- ---- case by case
 
   answer_shaped : (request : List ℕ) (q : RequestHead) (o : List ℕ) (b : Block) → EndsBlankIf request → AnswerSays setup request q o b → IsShaped b
-  answer_shaped request q o b ends (lacking l is) = own_shaped request _ _ b ends is
-  answer_shaped request q o b ends (passed_on h rest final good (ended body over is)) =
-      whole_shaped request b ends (ap (λ (x : Block). x.request) is) (ap (λ (x : Block). x.end) is)
-  answer_shaped request q o b ends (passed_on h rest final good (cut body short is)) =
-      short_shaped request b ends (ap (λ (x : Block). x.request) is) (ap (λ (x : Block). x.body) is)
-  answer_shaped request q o b ends (passed_on h rest final good (bad body wrong is)) =
-      short_shaped request b ends (ap (λ (x : Block). x.request) is) (ap (λ (x : Block). x.body) is)
+  answer_shaped request q o b ends (lacking l is) = whole_shaped b _ is ends refl
+  answer_shaped request q o b ends (passed_on h rest final good (ended body over is)) = whole_shaped b _ is ends refl
+  answer_shaped request q o b ends (passed_on h rest final good (cut body short is)) = short_shaped b _ is ends refl
+  answer_shaped request q o b ends (passed_on h rest final good (bad body wrong is)) = short_shaped b _ is ends refl
 
   module _ (dialed : Bool) (refuses : Type 0) (o : List ℕ) where
     dial_shaped : (d : Bool) (request : List ℕ) (q : RequestHead) (b : Block) → EndsBlankIf request → DialSays setup dialed refuses o d request q b → IsShaped b
-    dial_shaped false request q b ends is = own_shaped [] _ _ b (inl refl) is
-    dial_shaped true request q b ends (inl (r, is)) = own_shaped request _ _ b ends is
+    dial_shaped false request q b ends is = whole_shaped b _ is (inl refl) refl
+    dial_shaped true request q b ends (inl (r, is)) = whole_shaped b _ is ends refl
     dial_shaped true request q b ends (inr (free, says)) = answer_shaped request q o b ends says
 
     deny_shaped : (d : Bool) (request : List ℕ) (q : RequestHead) (b : Block) → EndsBlankIf request → DenySays setup dialed refuses o d request q b → IsShaped b
-    deny_shaped true request q b ends is = own_shaped [] _ _ b (inl refl) is
+    deny_shaped true request q b ends is = whole_shaped b _ is (inl refl) refl
     deny_shaped false request q b ends says = dial_shaped dialed request q b ends says
 
     verdict_shaped : (r : Result (List ℕ × List ℕ) ℕ) (q : RequestHead) (b : Block) → IsReadRequest q → check q ≡ r → VerdictSays setup dialed refuses o r q b → IsShaped b
-    verdict_shaped (Err status) q b read is says = own_shaped [] _ _ b (inl refl) says
+    verdict_shaped (Err status) q b read is says = whole_shaped b _ says (inl refl) refl
     verdict_shaped (Ok (target, host)) q b read is says = deny_shaped _ (request_text setup q target host) q b (inr (request_ends q target host read is)) says
 
+    -- every block
     pub block_shaped : (c : List ℕ) (b : Block) → IsBlock setup dialed refuses o c b → IsShaped b
-    block_shaped c b (silent e is) = whole_shaped [] b (inl refl) (ap (λ (x : Block). x.request) is) (ap (λ (x : Block). x.end) is)
-    block_shaped c b (no_head n l is) = whole_shaped [] b (inl refl) (ap (λ (x : Block). x.request) is) (ap (λ (x : Block). x.end) is)
+    block_shaped c b (silent e is) = whole_shaped b _ is (inl refl) refl
+    block_shaped c b (no_head n l is) = whole_shaped b _ is (inl refl) refl
     block_shaped c b (asked n q rest has says) = verdict_shaped _ q b (was_read c q rest has) refl says

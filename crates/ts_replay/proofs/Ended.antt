@@ -1,5 +1,5 @@
 -- What is known of each transaction of a row once the threads and the last turns are done.
-use Rattle.std.proofs.Common.{◌≡◌, ℕ, zero, suc, ◌+◌, ◌*◌, ◌<◌, ◌≤◌, List, [], ◌∷◌, length, true, false, Option, Some, None, All, refl, sym, ap, subst, ◌∙◌, inl, inr, arith}
+use Rattle.std.proofs.Common.{◌≡◌, ℕ, zero, suc, ◌+◌, ◌*◌, ◌<◌, ◌≤◌, List, [], ◌∷◌, length, true, false, Option, Some, None, All, refl, ap, subst, ◌∙◌, inl, inr, arith}
 use mathlib.Core.Option.{some}
 use lib.ListN.{get_elem?}
 use Rattle.std.specs.Prelude.{max}
@@ -32,7 +32,7 @@ use Rattle.ts_txn.proofs.Fitting.{fits_begun}
 
 -- ---- it was started
 
--- a state that follows another of a group that was made with no turn has had no fewer turns
+-- of a group that began with no turn, a state that follows another has had no fewer turns
 later_turns : (a b : ℕ) (s t : State) → a ≡ 0 → Follows (a, t) (b, s) → s.turns ≤ t.turns
 later_turns a b s t none (inl low) = absurd (omega (arith, none, low))
 later_turns a b s t none (inr (same, later)) = later.turns
@@ -56,7 +56,7 @@ goes_on tags k tag given now there first fits none was =
       turned = omega (arith, more, own);
     }
 
--- each that fits the tag at its place goes, where that tag is the first of its slot
+-- each that fits the tag at its place goes, where its slot had no other tenant
 abbrev AllGo : List RecordedTag → List RecordedGroup → Type 0
 AllGo tags groups =
     (k : ℕ) (tag : RecordedTag) (g : RecordedGroup) → get_elem? tags k ≡ some tag → get_elem? groups k ≡ some g → is_first tag ≡ true → FitsIn tag g → Goes tag g
@@ -79,51 +79,51 @@ at_below (y ∷ xs) (suc k) x at = let low = at_below xs k x at in omega arith
 
 -- ---- transaction by transaction
 
--- one that has run
-has_run : (setup : Setup) (number most : ℕ) (txn : TxnPieces) (tag : RecordedTag) (g : RecordedGroup) → HasLinesOnly setup → IsTagOf setup number txn false tag → FitsIn tag g → IsIdle g → HasHadTurns most g
-    → MOST_IN_TURN * most + 1 < GREATEST → Goes tag g → HasRunAs setup number txn g
-has_run setup number most txn tag g lines is fits idle few low goes = record {
-  lines = lines;
-  tag = record tag { started = true };
-  tag_is = record {
-    number_is = is.number_is;
-    setup_is = is.setup_is;
-    plugins_at = is.plugins_at;
-    client = is.client;
-    origin = is.origin;
-    sure = is.sure;
-    first = is.first;
-    started_is = refl;
-  };
-  fits = goes.fits;
-  sound = fits.1;
-  began = OnTrue_at is.first fits.3;
-  turned = goes.turned;
-  idle = idle;
-  given = fits.2.0;
-  numbers = let next = fits.2.1 in omega (arith, next, few, low);
-}
+module _ (setup : Setup) (most : ℕ) (lines : HasLinesOnly setup) (low : MOST_IN_TURN * most + 1 < GREATEST) where
+  -- one that has run
+  has_run : (number : ℕ) (txn : TxnPieces) (tag : RecordedTag) (g : RecordedGroup) → IsTagOf setup number txn false tag → FitsIn tag g → IsIdle g → HasHadTurns most g → Goes tag g
+      → HasRunAs setup number txn g
+  has_run number txn tag g is fits idle few goes = record {
+    lines = lines;
+    tag = record tag { started = true };
+    tag_is = record {
+      number_is = is.number_is;
+      setup_is = is.setup_is;
+      plugins_at = is.plugins_at;
+      client = is.client;
+      origin = is.origin;
+      sure = is.sure;
+      first = is.first;
+      started_is = refl;
+    };
+    fits = goes.fits;
+    sound = fits.1;
+    began = OnTrue_at is.first fits.3;
+    turned = goes.turned;
+    idle = idle;
+    given = fits.2.0;
+    numbers = let next = fits.2.1 in omega (arith, next, few, low);
+  }
 
--- and all of them
-each_ran : (setup : Setup) (from most : ℕ) (txns : List TxnPieces) (tags : List RecordedTag) (groups : List RecordedGroup) → HasLinesOnly setup → AreTagsOf setup from txns tags → FitInRow tags groups
-    → All IsIdle groups → All (HasHadTurns most) groups → MOST_IN_TURN * most + 1 < GREATEST
-    → AllGo tags groups → EachOf (HasRunAs setup) from txns groups
-each_ran setup from most [] [] [] lines are fit idle few low goes = tt
-each_ran setup from most [] [] (g ∷ gs) lines are fit idle few low goes = absurd fit
-each_ran setup from most [] (tag ∷ tags) gs lines are fit idle few low goes = absurd are
-each_ran setup from most (txn ∷ txns) [] gs lines are fit idle few low goes = absurd are
-each_ran setup from most (txn ∷ txns) (tag ∷ tags) [] lines are fit idle few low goes = absurd fit
-each_ran setup from most (txn ∷ txns) (tag ∷ tags) (g ∷ gs) lines are fit idle few low goes = (
-  has_run setup from most txn tag g lines are.0 fit.0 (All-head IsIdle g gs idle) (All-head (HasHadTurns most) g gs few) low (goes 0 tag g refl refl are.0.first fit.0),
-  each_ran setup (from + 1) most txns tags gs lines are.1 fit.1 (All-tail IsIdle g gs idle) (All-tail (HasHadTurns most) g gs few) low (λ k. goes (suc k)),
-)
+  -- and all of them
+  each_ran : (from : ℕ) (txns : List TxnPieces) (tags : List RecordedTag) (groups : List RecordedGroup) → AreTagsOf setup from txns tags → FitInRow tags groups → All IsIdle groups
+      → All (HasHadTurns most) groups → AllGo tags groups → EachOf (HasRunAs setup) from txns groups
+  each_ran from [] [] [] are fit idle few goes = tt
+  each_ran from [] [] (g ∷ gs) are fit idle few goes = absurd fit
+  each_ran from [] (tag ∷ tags) gs are fit idle few goes = absurd are
+  each_ran from (txn ∷ txns) [] gs are fit idle few goes = absurd are
+  each_ran from (txn ∷ txns) (tag ∷ tags) [] are fit idle few goes = absurd fit
+  each_ran from (txn ∷ txns) (tag ∷ tags) (g ∷ gs) are fit idle few goes = (
+    has_run from txn tag g are.0 fit.0 (All-head IsIdle g gs idle) (All-head (HasHadTurns most) g gs few) (goes 0 tag g refl refl are.0.first fit.0),
+    each_ran (from + 1) txns tags gs are.1 fit.1 (All-tail IsIdle g gs idle) (All-tail (HasHadTurns most) g gs few) (λ k. goes (suc k)),
+  )
 
 -- groups of a row that were run by threads and driven to their end
 pub row_ran : (setup : Setup) (txns : List TxnPieces) (tags : List RecordedTag) (given groups : List RecordedGroup) (starts threads budget : ℕ) → IsRowOf setup txns tags given → starts ≡ length given
     → MOST_IN_TURN * max (turns_of starts threads budget) MOST_ALONE + 1 < GREATEST
     → HaveEnded FitsTag IsSound is_asked_only is_first HasTxnBegun tags given starts threads budget groups → EachOf (HasRunAs setup) 1 txns groups
 row_ran setup txns tags given groups starts threads budget row all low ended =
-    each_ran setup 1 (max (turns_of starts threads budget) MOST_ALONE) txns tags groups row.lines row.tags_are ended.fits ended.idle ended.turns low goes
+    each_ran setup (max (turns_of starts threads budget) MOST_ALONE) row.lines low 1 txns tags groups row.tags_are ended.fits ended.idle ended.turns goes
   where
     goes : AllGo tags groups
     goes k tag g there at first fits =
@@ -133,14 +133,14 @@ row_ran setup txns tags given groups starts threads budget row all low ended =
 -- ---- what its block is made of
 
 -- an origin's side is dialed, and its source is that of the link that it was made of
-source_of : (x : Option (Peer LinkState)) (made : LinkState) → IsSameLinkIf look_of (Some made) x → (is_dialed x ≡ true) × ((side_if look_of x).look.source ≡ (look_of made).source)
-source_of None made same = absurd same
-source_of (Some p) made same = (refl, same.source)
+made_source : (x : Option (Peer LinkState)) (made : LinkState) → IsSameLinkIf look_of (Some made) x → (is_dialed x ≡ true) × ((side_if look_of x).look.source ≡ (look_of made).source)
+made_source None made same = absurd same
+made_source (Some p) made same = (refl, same.source)
 
 -- a transaction that has run did so between the bytes of its two sides
 pub run_between : (setup : Setup) (number : ℕ) (txn : TxnPieces) (g : RecordedGroup) → HasRunAs setup number txn g → IsRunBetween setup (concat txn.0) (concat txn.1) g.world
 run_between setup number txn g ran =
-    let of_origin = source_of g.world.core.origin (recorded_side txn.1) (subst (λ o. IsSameLinkIf look_of o g.world.core.origin) ran.tag_is.origin ran.fits.origin) in
+    let of_origin = made_source g.world.core.origin (recorded_side txn.1) (subst (λ o. IsSameLinkIf look_of o g.world.core.origin) ran.tag_is.origin ran.fits.origin) in
     record {
       setup_is = ran.fits.setup ∙ ran.tag_is.setup_is;
       no_plugins = ran.lines.no_plugins;

@@ -48,11 +48,15 @@ record AreLeftOf (client : LinkSide) (sent : Sent) (c o : List ℕ) (parts : Txn
   mode : parts.mode ≡ sent.mode
   cuts : parts.cuts.items ≡ sent.cuts.items
 
+-- the block of all that two sides give
+abbrev pub IsBlockOf : Setup → List ℕ → List ℕ → Block → Type 0
+IsBlockOf setup c o b = IsBlock setup true (false ≡ true) o c b
+
 -- the block that a transaction came to which left these parts and ended so
 pub record HasBlockAt (setup : Setup) (c o : List ℕ) (parts : TxnParts LinkState LinkState) (link : LinkState) (end : TxnEnd) : Type 0 where
   pub reported : IsReported end
   pub block : Block
-  pub is_block : IsBlock setup true (false ≡ true) o c block
+  pub is_block : IsBlockOf setup c o block
   pub leaves : LeavesBlock parts link end block
 
 -- where a body was cut or broke its framing, its block has none
@@ -64,10 +68,10 @@ got_short _ parts b sent other none got = (none, (sent, got))
 module _ (setup : Setup) (plain : setup.plugins.items ≡ []) (p : Peer LinkState) (client : LinkSide) (sent : Sent) (cs c o : List ℕ) (parts : TxnParts LinkState LinkState) (link : LinkState)
     (is : p.link ≡ link) (left : AreLeftOf client sent c o parts link) where
   -- the block of what its links gave or may still give is that of these bytes
-  same_block : (b : Block) → IsBlock setup true (false ≡ true) (all_of (look_of p.link)) (all_of client.look) b → IsBlock setup true (false ≡ true) o c b
+  same_block : (b : Block) → IsBlockOf setup (all_of client.look) (all_of (look_of p.link)) b → IsBlockOf setup c o b
   same_block b says =
-      subst (λ l. IsBlock setup true (false ≡ true) l c b) (ap (λ (l : LinkState). all_of (look_of l)) is ∙ left.answers)
-      (subst (λ l. IsBlock setup true (false ≡ true) (all_of (look_of p.link)) l b) (ap (λ (l : Look). all_of l) left.look ∙ left.gives) says)
+      subst (λ l. IsBlockOf setup c l b) (ap (λ (l : LinkState). all_of (look_of l)) is ∙ left.answers)
+      (subst (λ l. IsBlockOf setup l (all_of (look_of p.link)) b) (ap (λ (l : Look). all_of l) left.look ∙ left.gives) says)
 
   -- the client took the head, and so much of a body
   got_text : (b : Block) (body : List ℕ) (fin : Bool) → client.outbox ≡ [] → HasText client sent b.head body fin → HasGot parts b body fin
@@ -237,7 +241,7 @@ block_same request end head content b p q r s = λ i. record { request = p i; en
 
 -- the block that was cut out of the parts is the one that is shown
 module _ {X : Type 0} (setup : Setup) (c o : List ℕ) (b : Block) where
-  pub shows_if : (r : Result Shown X) → IsBlock setup true (false ≡ true) o c b → IfOk r (λ s. s ≡ shown b) → IfOk r (IsShownOf setup c o)
+  pub shows_if : (r : Result Shown X) → IsBlockOf setup c o b → IfOk r (λ s. s ≡ shown b) → IfOk r (IsShownOf setup c o)
   shows_if (Ok s) says is = record { block = b; is_block = says; shows = is }
   shows_if (Err e) says is = tt
 
