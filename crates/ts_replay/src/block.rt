@@ -1,4 +1,5 @@
 //! What a recorded transaction came to that has ended: its block, as the report shows it.
+
 ghost use Rattle.std.specs.Prelude.{◌≡◌, ◌≢◌, ◌++◌, ℕ, List, [], Some, IfOk};
 ghost use Rattle.ts_config.specs.declared.setup.Setup.{Setup as SetupOf};
 ghost use Rattle.ts_record.specs.Report.{IsReported};
