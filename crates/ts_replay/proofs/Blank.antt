@@ -1,5 +1,5 @@
 -- The only empty line of a printed request is the one that ends it (RFC 9112, section 2.1).
-use Rattle.std.proofs.Common.{◌≡◌, ◌≢◌, ◌⊎◌, Some, ⊎_elim, ℕ, zero, suc, ◌+◌, ◌<◌, ◌≤◌, List, [], ◌∷◌, ◌++◌, All, take, drop, get_or, length, inl, inr, refl, sym, ap, subst, ◌∙◌, arith, append_assoc, length-append, codes}
+use Rattle.std.proofs.Common.{◌≡◌, ◌≢◌, ◌⊎◌, Some, ⊎_elim, ℕ, zero, suc, ◌+◌, ◌<◌, ◌≤◌, List, [], ◌∷◌, ◌++◌, All, Bool, false, take, drop, get_or, length, inl, inr, refl, sym, ap, subst, ◌∙◌, arith, append_assoc, length-append, codes}
 use Rattle.std.specs.Prelude.{IsTrue}
 use Rattle.std.proofs.lemmas.Bool.{cases_lt}
 use Rattle.std.proofs.lemmas.List.{length-take, length-drop, take_at, drop_at, take-append-le, drop-append-le, append-nil}
@@ -14,11 +14,18 @@ use Rattle.memchr.proofs.lemmas.MatchLemmas.{OccursAt-part, OccursAt-from_part}
 use Rattle.ts_wire.specs.OneHead.{SendsRequest}
 use Rattle.ts_replay.specs.Exchanged.{EndsBlank, blank_end}
 
--- LINE BY LINE
+-- ---- line by line
 
--- no byte is a carriage return
+abbrev CR : ℕ
+CR = 13
+
+-- the byte is no carriage return
+abbrev IsOther : ℕ → Type 0
+IsOther b = b ≢ CR
+
+-- none of these is one
 abbrev NoReturn : List ℕ → Type 0
-NoReturn bytes = All (λ b. b ≢ 13) bytes
+NoReturn = All IsOther
 
 -- an empty line behind another line ends the text, wherever it stands
 abbrev BlankLast : List ℕ → Type 0
@@ -27,7 +34,7 @@ BlankLast text = (place : ℕ) → take 4 (drop place text) ≡ blank_end → pl
 -- the text begins with a line that is not empty, or is one empty line
 abbrev BeginsLine : List ℕ → Type 0
 BeginsLine [] = ⊥
-BeginsLine (b ∷ bytes) = (b ≢ 13) ⊎ (b ∷ bytes ≡ crlf_bytes)
+BeginsLine (b ∷ bytes) = IsOther b ⊎ (b ∷ bytes ≡ crlf_bytes)
 
 -- some lines of which the last alone is empty
 record AreLines (text : List ℕ) : Type 0 where
@@ -35,6 +42,7 @@ record AreLines (text : List ℕ) : Type 0 where
   begins : BeginsLine text
   ends : (text ≡ crlf_bytes) ⊎ ((front : List ℕ) × (text ≡ front ++ blank_end))
 
+-- the empty line alone
 last_line : AreLines crlf_bytes
 last_line = record {
   blank = λ place is.
@@ -46,29 +54,32 @@ last_line = record {
   ends = inl refl;
 }
 
-other_byte : (b : ℕ) (text : List ℕ) → b ≢ 13 → BlankLast text → BlankLast (b ∷ text)
+-- no empty line begins at a byte of a line
+other_byte : (b : ℕ) (text : List ℕ) → IsOther b → BlankLast text → BlankLast (b ∷ text)
 other_byte b text other last zero is = absurd (other (ap (λ l. get_or l 0 0) is))
 other_byte b text other last (suc place) is = let on = last place is in omega (arith, on)
 
 other_bytes : (bytes text : List ℕ) → NoReturn bytes → BlankLast text → BlankLast (bytes ++ text)
 other_bytes [] text none last = last
 other_bytes (b ∷ bytes) text none last =
-    other_byte b (bytes ++ text) (All-head (λ x. x ≢ 13) b bytes none) (other_bytes bytes text (All-tail (λ x. x ≢ 13) b bytes none) last)
+    other_byte b (bytes ++ text) (All-head IsOther b bytes none) (other_bytes bytes text (All-tail IsOther b bytes none) last)
 
-line_end : (text : List ℕ) → BeginsLine text → BlankLast text → BlankLast (13 ∷ 10 ∷ text)
+-- nor at the end of a line, unless the empty line that is last stands behind it
+line_end : (text : List ℕ) → BeginsLine text → BlankLast text → BlankLast (crlf_bytes ++ text)
 line_end [] begins last place is = absurd begins
 line_end (b ∷ bytes) begins last zero is =
     ⊎_elim
-    (λ (other : b ≢ 13). absurd (other (ap (λ l. get_or l 2 0) is)))
+    (λ (other : IsOther b). absurd (other (ap (λ l. get_or l 2 0) is)))
     (λ (one : b ∷ bytes ≡ crlf_bytes). let long = ap length one in omega (arith, long))
     begins
 line_end (b ∷ bytes) begins last (suc place) is =
     let on = other_byte 10 (b ∷ bytes) (λ wrong. absurd (omega (arith, wrong))) last place is in
     omega (arith, on)
 
+-- a line that is not empty begins one
 begins_line : (line text : List ℕ) → 0 < length line → NoReturn line → BeginsLine (line ++ text)
 begins_line [] text some none = absurd (omega (arith, some))
-begins_line (b ∷ bytes) text some none = inl (All-head (λ x. x ≢ 13) b bytes none)
+begins_line (b ∷ bytes) text some none = inl (All-head IsOther b bytes none)
 
 -- a line in front of lines ends with the empty line that they end with
 ends_blank : (line text : List ℕ) → AreLines text → (front : List ℕ) × (line ++ (crlf_bytes ++ text) ≡ front ++ blank_end)
@@ -89,29 +100,30 @@ one_more line text some none lines = record {
   ends = inr (ends_blank line text lines);
 }
 
--- THE LINES OF A HEAD
+-- ---- the lines of a head
 
-token_other : (b : ℕ) → IsTrue (is_token_byte b) → b ≢ 13
+-- bytes that pass a test which a carriage return fails
+pass_other : (test : ℕ → Bool) (bytes : List ℕ) → test CR ≡ false → All (λ b. IsTrue (test b)) bytes → NoReturn bytes
+pass_other test bytes fails pass = All-weaker (λ b. IsTrue (test b)) IsOther other bytes pass
+  where
+    other : (b : ℕ) → IsTrue (test b) → IsOther b
+    other b passes is = let wrong : IsTrue (test CR) = subst (λ x. IsTrue (test x)) is passes in absurd (cc)
+
+token_other : (bytes : List ℕ) → All (λ b. IsTrue (is_token_byte b)) bytes → NoReturn bytes
 unfolding is_token_byte
-token_other b pass is = let wrong : IsTrue (is_token_byte 13) = subst (λ x. IsTrue (is_token_byte x)) is pass in absurd (cc)
-
-uri_other : (b : ℕ) → IsTrue (is_uri_byte b) → b ≢ 13
-uri_other b pass is = let wrong : IsTrue (is_uri_byte 13) = subst (λ x. IsTrue (is_uri_byte x)) is pass in absurd (cc)
-
-value_other : (b : ℕ) → IsTrue (is_value_byte b) → b ≢ 13
-value_other b pass is = let wrong : IsTrue (is_value_byte 13) = subst (λ x. IsTrue (is_value_byte x)) is pass in absurd (cc)
+token_other bytes pass = pass_other is_token_byte bytes refl pass
 
 -- a field line, without its end
 abbrev field_line : grammar.Field → List ℕ
 field_line f = f.name ++ (colon ∷ f.raw)
 
+-- in it stands no carriage return
 field_other : (f : grammar.Field) → IsField f → NoReturn (field_line f)
 field_other f good =
-    All-append (λ b. b ≢ 13) f.name (colon ∷ f.raw)
-    (All-weaker (λ b. IsTrue (is_token_byte b)) (λ b. b ≢ 13) token_other f.name good.name.1)
-    (All-cons (λ b. b ≢ 13) colon f.raw (λ wrong. absurd (omega (arith, wrong)))
-    (All-weaker (λ b. IsTrue (is_value_byte b)) (λ b. b ≢ 13) value_other f.raw good.raw))
+    All-append IsOther f.name (colon ∷ f.raw) (token_other f.name good.name.1)
+    (All-cons IsOther colon f.raw (λ wrong. absurd (omega (arith, wrong))) (pass_other is_value_byte f.raw refl good.raw))
 
+-- fields are printed as the line of the first, its end and the others
 section_is : (f : grammar.Field) (fs : List grammar.Field) → f.end ≡ crlf
     → print_section (f ∷ fs) crlf ≡ field_line f ++ (crlf_bytes ++ print_section fs crlf)
 section_is f fs ends =
@@ -120,6 +132,7 @@ section_is f fs ends =
     ∙ append_assoc (field_line f ++ crlf_bytes) others crlf_bytes
     ∙ append_assoc (field_line f) crlf_bytes (others ++ crlf_bytes)
 
+-- so they are lines
 section_lines : (fields : List grammar.Field) → All IsField fields → All (λ f. f.end ≡ crlf) fields → AreLines (print_section fields crlf)
 section_lines [] good ends = last_line
 section_lines (f ∷ fs) good ends =
@@ -129,30 +142,31 @@ section_lines (f ∷ fs) good ends =
     (one_more (field_line f) (print_section fs crlf) some (field_other f here)
     (section_lines fs (All-tail IsField f fs good) (All-tail (λ g. g.end ≡ crlf) f fs ends)))
 
+-- the version
 version_other : (minor : ℕ) → NoReturn (print_version minor)
 version_other minor =
-    All-append (λ b. b ≢ 13) (codes "HTTP/1.") ((48 + minor) ∷ [])
-    (All-weaker (λ b. IsTrue (is_value_byte b)) (λ b. b ≢ 13) value_other (codes "HTTP/1.") (AllPass-from_test is_value_byte (codes "HTTP/1.") refl))
-    (All-cons (λ b. b ≢ 13) (48 + minor) [] (λ wrong. absurd (omega (arith, wrong))) (All-nil (λ b. b ≢ 13)))
+    All-append IsOther (codes "HTTP/1.") ((48 + minor) ∷ [])
+    (pass_other is_value_byte (codes "HTTP/1.") refl (AllPass-from_test is_value_byte (codes "HTTP/1.") refl))
+    (All-cons IsOther (48 + minor) [] (λ wrong. absurd (omega (arith, wrong))) (All-nil IsOther))
 
 -- the start line, without its end
 abbrev start_line : grammar.RequestHead → List ℕ
 start_line h = (h.method ++ (space ∷ h.target)) ++ (space ∷ print_version h.minor)
 
+-- in it stands no carriage return
 start_other : (h : grammar.RequestHead) → IsRequestHead h → NoReturn (start_line h)
 start_other h good =
-    All-append (λ b. b ≢ 13) (h.method ++ (space ∷ h.target)) (space ∷ print_version h.minor)
-    (All-append (λ b. b ≢ 13) h.method (space ∷ h.target)
-    (All-weaker (λ b. IsTrue (is_token_byte b)) (λ b. b ≢ 13) token_other h.method good.method.1)
-    (All-cons (λ b. b ≢ 13) space h.target (λ wrong. absurd (omega (arith, wrong)))
-    (All-weaker (λ b. IsTrue (is_uri_byte b)) (λ b. b ≢ 13) uri_other h.target good.target.1)))
-    (All-cons (λ b. b ≢ 13) space (print_version h.minor) (λ wrong. absurd (omega (arith, wrong))) (version_other h.minor))
+    All-append IsOther (h.method ++ (space ∷ h.target)) (space ∷ print_version h.minor)
+    (All-append IsOther h.method (space ∷ h.target) (token_other h.method good.method.1)
+    (All-cons IsOther space h.target (λ wrong. absurd (omega (arith, wrong))) (pass_other is_uri_byte h.target refl good.target.1)))
+    (All-cons IsOther space (print_version h.minor) (λ wrong. absurd (omega (arith, wrong))) (version_other h.minor))
 
 -- a head as it is printed with these empty lines in front of it and these line ends
 abbrev printed : grammar.RequestHead → List LineEnd → LineEnd → LineEnd → List ℕ
 printed h before start last =
     print_blank before ++ h.method ++ space ∷ h.target ++ space ∷ print_version h.minor ++ print_end start ++ print_section h.fields last
 
+-- with none in front and CR LF each time, it is its start line, the end of that and its fields
 request_is : (h : grammar.RequestHead) → h.blank ≡ [] → h.line_end ≡ crlf → h.last ≡ crlf
     → print_request h ≡ start_line h ++ (crlf_bytes ++ print_section h.fields crlf)
 unfolding print_request
@@ -182,12 +196,14 @@ sent_ends method target host text sends =
           omega (arith, at, long);
     })
 
--- THE FIRST HEAD
+-- ---- the first head
 
 module _ (bytes head behind : List ℕ) (is : bytes ≡ head ++ behind) (h : EndsBlank head) where
+  -- how long the head is
   head_length : length head ≡ length h.front + 4
   head_length = ap length h.text_is ∙ length-append h.front blank_end
 
+  -- its empty line stands in the bytes
   occurs_there : OccursAt bytes blank_end (length h.front)
   occurs_there =
       let split : bytes ≡ h.front ++ (blank_end ++ behind) = is ∙ ap (λ l. l ++ behind) h.text_is ∙ append_assoc h.front blank_end behind in

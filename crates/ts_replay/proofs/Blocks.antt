@@ -1,14 +1,12 @@
--- What every block of a transaction without hook plugins is like: how its request ends, and that only a whole answer has a
--- body.
+-- How the request of a transaction without hook plugins ends, and that only a whole answer of it has a body.
 use Rattle.std.proofs.Common.{◌≡◌, ◌≢◌, ◌⊎◌, ℕ, List, [], Bool, true, false, Result, Ok, Err, inl, inr, refl, sym, ap, subst}
 use Rattle.ts_config.specs.declared.fields.Side.TheVariants as S
 use Rattle.ts_config.specs.declared.setup.Setup.{Setup}
 use Rattle.ts_hooks.specs.declared.txn_end.TxnEnd.TheVariants as E
-use Rattle.ts_txn.specs.Block.{AnswerSays, DenySays, DialSays, IsBlock, VerdictSays, asked, bad, cut, ended, lacking, no_head, own_block, passed_on, request_text, silent}
+use Rattle.ts_txn.specs.Block.{AnswerSays, DenySays, DialSays, IsBlock, VerdictSays, asked, bad, cut, ended, lacking, no_head, passed_on, request_text, silent}
 use Rattle.ts_txn.specs.Heads.{HasRequest}
 use Rattle.ts_txn.specs.Rules.{ruled}
 use Rattle.ts_txn.specs.declared.block.Block.{Block}
-use Rattle.ts_txn.specs.declared.own.OwnStatus.{OwnStatus}
 use Rattle.ts_wire.specs.Check.{check, is_absolute}
 use Rattle.ts_wire.specs.Forward.{forwarded}
 use Rattle.ts_wire.specs.OneHead.{IsReadRequest}
@@ -23,27 +21,25 @@ use Rattle.ts_replay.proofs.Blank.{sent_ends}
 abbrev pub EndsBlankIf : List ℕ → Type 0
 EndsBlankIf request = (request ≡ []) ⊎ EndsBlank request
 
+-- what every block is like
 pub record IsShaped (b : Block) : Type 0 where
   pub request : EndsBlankIf b.request
   pub short : b.end ≢ E.Whole → b.body ≡ []
 
-whole_shaped : (request : List ℕ) (b : Block) → EndsBlankIf request → b.request ≡ request → b.end ≡ E.Whole → IsShaped b
-whole_shaped request b ends is whole = record {
-  request = subst EndsBlankIf (sym is) ends;
-  short = λ other. absurd (other whole);
-}
+-- one that ended whole
+whole_shaped : (b made : Block) → b ≡ made → EndsBlankIf made.request → made.end ≡ E.Whole → IsShaped b
+whole_shaped b made is ends whole = subst IsShaped (sym is) (record { request = ends; short = λ other. absurd (other whole) })
 
-short_shaped : (request : List ℕ) (b : Block) → EndsBlankIf request → b.request ≡ request → b.body ≡ [] → IsShaped b
-short_shaped request b ends is none = record {
-  request = subst EndsBlankIf (sym is) ends;
-  short = λ other. none;
-}
+-- one with no body
+short_shaped : (b made : Block) → b ≡ made → EndsBlankIf made.request → made.body ≡ [] → IsShaped b
+short_shaped b made is ends none = subst IsShaped (sym is) (record { request = ends; short = λ other. none })
 
 -- every head that a transaction finds is kept of a head of the grammar
 was_read : (c : List ℕ) (q : RequestHead) (rest : List ℕ) → HasRequest c q rest → IsReadRequest q
 was_read c q rest has = record { parsed = has.parsed; good = has.begins.reads.0; keeps = has.keeps }
 
 module _ (setup : Setup) (plain : setup.plugins.items ≡ []) where
+  -- the request that an origin is sent ends with its only empty line
   request_ends : (q : RequestHead) (target host : List ℕ) → IsReadRequest q → check q ≡ Ok (target, host) → EndsBlank (request_text setup q target host)
   request_ends q target host read passes =
       sent_ends q.method target host (request_text setup q target host)
@@ -51,33 +47,30 @@ module _ (setup : Setup) (plain : setup.plugins.items ≡ []) where
       (ap (λ lines. origin_text q.method (is_absolute q.target) q.minor target host (ruled S.Request lines (forwarded q.fields))) plain)
       read passes (forwards_unchanged q read))
 
-  own_shaped : (request : List ℕ) (status : OwnStatus) (to_head : Bool) (b : Block) → EndsBlankIf request → b ≡ own_block setup request status to_head → IsShaped b
-  own_shaped request status to_head b ends is = whole_shaped request b ends (ap (λ (x : Block). x.request) is) (ap (λ (x : Block). x.end) is)
+  -- ---- case by case
 
   answer_shaped : (request : List ℕ) (q : RequestHead) (o : List ℕ) (b : Block) → EndsBlankIf request → AnswerSays setup request q o b → IsShaped b
-  answer_shaped request q o b ends (lacking l is) = own_shaped request _ _ b ends is
-  answer_shaped request q o b ends (passed_on h rest final good (ended body over is)) =
-      whole_shaped request b ends (ap (λ (x : Block). x.request) is) (ap (λ (x : Block). x.end) is)
-  answer_shaped request q o b ends (passed_on h rest final good (cut body short is)) =
-      short_shaped request b ends (ap (λ (x : Block). x.request) is) (ap (λ (x : Block). x.body) is)
-  answer_shaped request q o b ends (passed_on h rest final good (bad body wrong is)) =
-      short_shaped request b ends (ap (λ (x : Block). x.request) is) (ap (λ (x : Block). x.body) is)
+  answer_shaped request q o b ends (lacking l is) = whole_shaped b _ is ends refl
+  answer_shaped request q o b ends (passed_on h rest final good (ended body over is)) = whole_shaped b _ is ends refl
+  answer_shaped request q o b ends (passed_on h rest final good (cut body short is)) = short_shaped b _ is ends refl
+  answer_shaped request q o b ends (passed_on h rest final good (bad body wrong is)) = short_shaped b _ is ends refl
 
   module _ (dialed : Bool) (refuses : Type 0) (o : List ℕ) where
     dial_shaped : (d : Bool) (request : List ℕ) (q : RequestHead) (b : Block) → EndsBlankIf request → DialSays setup dialed refuses o d request q b → IsShaped b
-    dial_shaped false request q b ends is = own_shaped [] _ _ b (inl refl) is
-    dial_shaped true request q b ends (inl (r, is)) = own_shaped request _ _ b ends is
+    dial_shaped false request q b ends is = whole_shaped b _ is (inl refl) refl
+    dial_shaped true request q b ends (inl (r, is)) = whole_shaped b _ is ends refl
     dial_shaped true request q b ends (inr (free, says)) = answer_shaped request q o b ends says
 
     deny_shaped : (d : Bool) (request : List ℕ) (q : RequestHead) (b : Block) → EndsBlankIf request → DenySays setup dialed refuses o d request q b → IsShaped b
-    deny_shaped true request q b ends is = own_shaped [] _ _ b (inl refl) is
+    deny_shaped true request q b ends is = whole_shaped b _ is (inl refl) refl
     deny_shaped false request q b ends says = dial_shaped dialed request q b ends says
 
     verdict_shaped : (r : Result (List ℕ × List ℕ) ℕ) (q : RequestHead) (b : Block) → IsReadRequest q → check q ≡ r → VerdictSays setup dialed refuses o r q b → IsShaped b
-    verdict_shaped (Err status) q b read is says = own_shaped [] _ _ b (inl refl) says
+    verdict_shaped (Err status) q b read is says = whole_shaped b _ says (inl refl) refl
     verdict_shaped (Ok (target, host)) q b read is says = deny_shaped _ (request_text setup q target host) q b (inr (request_ends q target host read is)) says
 
+    -- every block
     pub block_shaped : (c : List ℕ) (b : Block) → IsBlock setup dialed refuses o c b → IsShaped b
-    block_shaped c b (silent e is) = whole_shaped [] b (inl refl) (ap (λ (x : Block). x.request) is) (ap (λ (x : Block). x.end) is)
-    block_shaped c b (no_head n l is) = whole_shaped [] b (inl refl) (ap (λ (x : Block). x.request) is) (ap (λ (x : Block). x.end) is)
+    block_shaped c b (silent e is) = whole_shaped b _ is (inl refl) refl
+    block_shaped c b (no_head n l is) = whole_shaped b _ is (inl refl) refl
     block_shaped c b (asked n q rest has says) = verdict_shaped _ q b (was_read c q rest has) refl says

@@ -8,5 +8,4 @@ pub mod Reporting
 pub mod Rows
 pub mod SameLines
 pub mod Telling
-pub mod Tells
 pub mod Unframing

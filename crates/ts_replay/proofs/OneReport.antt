@@ -28,6 +28,7 @@ module _ (s t : Setup) (lines : s.transforms.items ≡ t.transforms.items) (plug
   blocks_one (txn ∷ txns) (a ∷ xs) [] h k = absurd k
   blocks_one (txn ∷ txns) (a ∷ xs) (b ∷ ys) h k = ap (λ l. a ∷ l) (blocks_one txns xs ys h.1 k.1) ∙ ap (λ x. x ∷ ys) (shown_one txn a b h.0 k.0)
 
+  -- so their report is one
   report_one : (txns : List TxnPieces) (a b : List ℕ) → IsReport s txns a → IsReport t txns b → a ≡ b
   report_one txns a b h k =
       h.text_is ∙ ap (λ bs. report_begin ++ blocks_text 1 bs ++ report_end) (blocks_one txns h.blocks k.blocks h.each k.each) ∙ sym k.text_is

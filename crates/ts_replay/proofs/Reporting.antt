@@ -11,7 +11,7 @@ use Rattle.ts_record.specs.Grammar.{TxnPieces}
 use Rattle.ts_record.specs.Report.{IsReported, block_text, blocks_text, report_begin, report_end}
 use Rattle.ts_record.specs.declared.report.Block.{Block}
 use Rattle.ts_replay.specs.Exchanged.{IsRunBetween}
-use Rattle.ts_replay.specs.Recorded.{RecordedGroup}
+use Rattle.ts_replay.specs.Recorded.{Recorded, RecordedGroup}
 use Rattle.ts_replay.specs.Replayed.{ComesTo, EachOf, HasRunAs, IsReplayOf, journal_of}
 use Rattle.ts_replay.specs.Reports.{IsShown, IsShownOf}
 use Rattle.ts_replay.specs.declared.report.Replayed.{Replayed}
@@ -44,10 +44,12 @@ module _ (Holds : ℕ → TxnPieces → RecordedGroup → Type 0) where
     pub first : Holds number txn g
     pub each : EachOf Holds (number + 1) others rest
 
+  -- where there is one
   first_of : (number : ℕ) (txns : List TxnPieces) (g : RecordedGroup) (rest : List RecordedGroup) → EachOf Holds number txns (g ∷ rest) → FirstOf number txns g rest
   first_of number [] g rest each = absurd each
   first_of number (t ∷ txns) g rest each = record { txn = t; others = txns; are = refl; first = each.0; each = each.1 }
 
+  -- without a group no transaction is left
   none_left : (number : ℕ) (txns : List TxnPieces) → EachOf Holds number txns [] → txns ≡ []
   none_left number [] each = refl
   none_left number (t ∷ txns) each = absurd each
@@ -68,63 +70,66 @@ pub record ReportsBut (setup : Setup) (txns : List TxnPieces) (groups rest : Lis
   pub text_is : text ≡ report_begin ++ blocks_text 1 blocks
   pub journals_are : journals ≡ map journal_of gone
 
--- the next one
-pub record NextOf (setup : Setup) (number : ℕ) (g : RecordedGroup) : Type 0 where
-  pub txn : TxnPieces
-  pub ran : HasRunAs setup number txn g
-  pub between : IsRunBetween setup (concat txn.0) (concat txn.1) g.world
+-- ---- one transaction more
 
-pub next_of : (setup : Setup) (txns : List TxnPieces) (groups left rest : List RecordedGroup) (number : ℕ) (text : List ℕ) (journals : List Log) (g : RecordedGroup)
-    → ReportsBut setup txns groups left number text journals → left ≡ g ∷ rest → NextOf setup (number + 1) g
-next_of setup txns groups left rest number text journals g before is =
-    let next = first_of (HasRunAs setup) (number + 1) before.left g rest (subst (λ gs. EachOf (HasRunAs setup) (number + 1) before.left gs) is before.to_come) in
-    record { txn = next.txn; ran = next.first; between = run_between setup (number + 1) next.txn g next.first }
-
--- what is known of a group whose transaction has a block
-pub replay_of : (setup : Setup) (number : ℕ) (txn : TxnPieces) (g : RecordedGroup) (b : Block) → HasRunAs setup number txn g → end_of g.world.course ≡ Some b.end → IsReported b.end
-    → IsLawful g.cx.log.base g.cx.log.entries → g.cx.log.state ≡ replay g.cx.log.base g.cx.log.entries → IsReplayOf setup number txn g
-replay_of setup number txn g b ran ends reported lawful state = record {
-  ran = ran;
-  ended = subst (λ e. IsSomeAnd e IsReported) (sym ends) reported;
-  final = record { lawful = lawful; state = state; given = ran.given; none = ran.idle };
-}
+-- the state of a journal is what its entries come to, which are lawful
+pub record IsKept (log : Log) : Type 0 where
+  pub lawful : IsLawful log.base log.entries
+  pub state : log.state ≡ replay log.base log.entries
 
 -- what is read of a journal is known of its group
-pub lawful_of : (j k : Log) (es : List Entry) → k ≡ j → es ≡ k.entries → IsLawful k.base es → IsLawful j.base j.entries
-lawful_of j k es same are lawful = subst (λ (l : Log). IsLawful l.base l.entries) same (subst (IsLawful k.base) are lawful)
+pub is_kept : (log read : Log) (es : List Entry) → read ≡ log → es ≡ read.entries → IsLawful read.base es → read.state ≡ replay read.base es → IsKept log
+is_kept log read es same are lawful state = subst IsKept same (record { lawful = subst (IsLawful read.base) are lawful; state = state ∙ ap (replay read.base) are })
 
-pub state_of : (j k : Log) (es : List Entry) → k ≡ j → es ≡ k.entries → k.state ≡ replay k.base es → j.state ≡ replay j.base j.entries
-state_of j k es same are state = subst (λ (l : Log). l.state ≡ replay l.base l.entries) same (state ∙ ap (replay k.base) are)
+-- the block tells how a transaction ended, and is the one of whatever two sides it ran between
+pub record TellsOf (setup : Setup) (t : Recorded) (b : Block) : Type 0 where
+  pub shown : (c o : List ℕ) → IsRunBetween setup c o t → IsShownOf setup c o b
+  pub ended : end_of t.course ≡ Some b.end
+  pub reported : IsReported b.end
 
--- one more was
-pub reports_more : (setup : Setup) (txns : List TxnPieces) (groups left rest : List RecordedGroup) (number next : ℕ) (text text' : List ℕ) (journals journals' : List Log) (g : RecordedGroup) (b : Block)
-    → ReportsBut setup txns groups left number text journals → left ≡ g ∷ rest → next ≡ number + 1
-    → ((c o : List ℕ) → IsRunBetween setup c o g.world → IsShownOf setup c o b) → end_of g.world.course ≡ Some b.end → IsReported b.end
-    → IsLawful g.cx.log.base g.cx.log.entries → g.cx.log.state ≡ replay g.cx.log.base g.cx.log.entries
-    → text' ≡ text ++ block_text next b → journals' ≡ journals ++ g.cx.log ∷ [] → ReportsBut setup txns groups rest next text' journals'
-reports_more setup txns groups left rest number next text text' journals journals' g b before is up says ends reported lawful state longer added =
-    let first = first_of (HasRunAs setup) (number + 1) before.left g rest (subst (λ gs. EachOf (HasRunAs setup) (number + 1) before.left gs) is before.to_come) in
-    let at : number + 1 ≡ 1 + length before.done = omega (arith, before.number_is) in
-    let at_block : next ≡ 1 + length before.blocks = omega (arith, before.number_is, before.blocks_are, up) in
-    let shown : IsShown setup first.txn b = says (concat first.txn.0) (concat first.txn.1) (run_between setup (number + 1) first.txn g first.first) in
-    record {
-      done = before.done ++ first.txn ∷ [];
-      left = first.others;
-      gone = before.gone ++ g ∷ [];
-      blocks = before.blocks ++ b ∷ [];
-      txns_are = before.txns_are ∙ ap (λ l. before.done ++ l) first.are ∙ sym (append_assoc before.done (first.txn ∷ []) first.others);
-      groups_are = before.groups_are ∙ ap (λ l. before.gone ++ l) is ∙ sym (append_assoc before.gone (g ∷ []) rest);
-      number_is = omega (arith, up, before.number_is, length-append before.done (first.txn ∷ []));
-      blocks_are = omega (arith, before.blocks_are, length-append before.blocks (b ∷ []), length-append before.done (first.txn ∷ []));
-      each = each_more (IsReplayOf setup) 1 (number + 1) before.done before.gone first.txn g at before.each (replay_of setup (number + 1) first.txn g b first.first ends reported lawful state);
-      to_come = subst (λ n. EachOf (HasRunAs setup) (n + 1) first.others rest) (sym up) first.each;
-      shows = zip_more (IsShown setup) before.done before.blocks first.txn b before.shows shown;
-      text_is = longer ∙ ap (λ l. l ++ block_text next b) before.text_is ∙ append_assoc report_begin (blocks_text 1 before.blocks) (block_text next b)
-          ∙ ap (λ l. report_begin ++ l) (sym (blocks_more 1 next before.blocks b at_block));
-      journals_are = added ∙ ap (λ l. l ++ g.cx.log ∷ []) before.journals_are ∙ sym (map-append journal_of before.gone (g ∷ []));
-    }
+-- what is known of a group whose transaction has a block
+replay_of : (setup : Setup) (number : ℕ) (txn : TxnPieces) (g : RecordedGroup) (b : Block) → HasRunAs setup number txn g → TellsOf setup g.world b → IsKept g.cx.log
+    → IsReplayOf setup number txn g
+replay_of setup number txn g b ran tells kept = record {
+  ran = ran;
+  ended = subst (λ e. IsSomeAnd e IsReported) (sym tells.ended) tells.reported;
+  final = record { lawful = kept.lawful; state = kept.state; given = ran.given; none = ran.idle };
+}
 
--- all were, and the last line stands behind
+module _ (setup : Setup) (txns : List TxnPieces) (groups left rest : List RecordedGroup) (number : ℕ) (text : List ℕ) (journals : List Log) (g : RecordedGroup)
+    (before : ReportsBut setup txns groups left number text journals) (is : left ≡ g ∷ rest) where
+  -- the next one has run
+  pub next_of : FirstOf (HasRunAs setup) (number + 1) before.left g rest
+  next_of = first_of (HasRunAs setup) (number + 1) before.left g rest (subst (λ gs. EachOf (HasRunAs setup) (number + 1) before.left gs) is before.to_come)
+
+  -- so it is reported on
+  pub reports_more : (next : ℕ) (text' : List ℕ) (journals' : List Log) (b : Block) → next ≡ number + 1 → TellsOf setup g.world b → IsKept g.cx.log
+      → text' ≡ text ++ block_text next b → journals' ≡ journals ++ g.cx.log ∷ [] → ReportsBut setup txns groups rest next text' journals'
+  reports_more next text' journals' b up tells kept longer added =
+      let first = next_of in
+      let at : number + 1 ≡ 1 + length before.done = omega (arith, before.number_is) in
+      let at_block : next ≡ 1 + length before.blocks = omega (arith, before.number_is, before.blocks_are, up) in
+      let shown : IsShown setup first.txn b = tells.shown (concat first.txn.0) (concat first.txn.1) (run_between setup (number + 1) first.txn g first.first) in
+      record {
+        done = before.done ++ first.txn ∷ [];
+        left = first.others;
+        gone = before.gone ++ g ∷ [];
+        blocks = before.blocks ++ b ∷ [];
+        txns_are = before.txns_are ∙ ap (λ l. before.done ++ l) first.are ∙ sym (append_assoc before.done (first.txn ∷ []) first.others);
+        groups_are = before.groups_are ∙ ap (λ l. before.gone ++ l) is ∙ sym (append_assoc before.gone (g ∷ []) rest);
+        number_is = omega (arith, up, before.number_is, length-append before.done (first.txn ∷ []));
+        blocks_are = omega (arith, before.blocks_are, length-append before.blocks (b ∷ []), length-append before.done (first.txn ∷ []));
+        each = each_more (IsReplayOf setup) 1 (number + 1) before.done before.gone first.txn g at before.each (replay_of setup (number + 1) first.txn g b first.first tells kept);
+        to_come = subst (λ n. EachOf (HasRunAs setup) (n + 1) first.others rest) (sym up) first.each;
+        shows = zip_more (IsShown setup) before.done before.blocks first.txn b before.shows shown;
+        text_is = longer ∙ ap (λ l. l ++ block_text next b) before.text_is ∙ append_assoc report_begin (blocks_text 1 before.blocks) (block_text next b)
+            ∙ ap (λ l. report_begin ++ l) (sym (blocks_more 1 next before.blocks b at_block));
+        journals_are = added ∙ ap (λ l. l ++ g.cx.log ∷ []) before.journals_are ∙ sym (map-append journal_of before.gone (g ∷ []));
+      }
+
+-- ---- all of them
+
+-- all were reported on, and the last line stands behind
 pub reports_all : (setup : Setup) (txns : List TxnPieces) (groups : List RecordedGroup) (number : ℕ) (text text' : List ℕ) (journals : List Log) (r : Replayed)
     → ReportsBut setup txns groups [] number text journals → text' ≡ text ++ report_end → r.report.items ≡ text' → r.journals.items ≡ journals → ComesTo setup txns groups r
 reports_all setup txns groups number text text' journals r all longer text_is journals_are =

@@ -1,14 +1,13 @@
 -- Rows of groups of recorded transactions grow, and can be run.
-use Rattle.std.proofs.Common.{◌≡◌, ℕ, zero, suc, ◌+◌, ◌<◌, List, [], ◌∷◌, ◌++◌, length, length-append, append_assoc, Bool, true, false, Some, refl, sym, ap, subst, ◌∙◌, arith}
+use Rattle.std.proofs.Common.{◌≡◌, ℕ, zero, suc, ◌+◌, ◌<◌, List, [], ◌∷◌, ◌++◌, length, length-append, append_assoc, false, Some, refl, sym, ap, subst, ◌∙◌, arith}
 use mathlib.Core.Option.{some}
 use lib.ListN.{get_elem?}
 use Rattle.std.specs.Prelude.{⊤}
 use Rattle.std.specs.Arc.{arc_value}
 use Rattle.std.specs.List.{AllZip}
-use Rattle.std.specs.Bool.{OnTrue}
+use Rattle.std.proofs.lemmas.Bool.{OnTrue_from}
 use Rattle.std.proofs.lemmas.Slice.Zip.{AllZip-long}
 use Rattle.std.proofs.lemmas.List.Elements.{All-push}
-use Rattle.ts_config.specs.Bodies.{whole_of}
 use Rattle.ts_config.specs.declared.setup.Setup.{Setup}
 use Rattle.ts_group.specs.declared.action.Named.{Named}
 use Rattle.ts_group.specs.Context.{IsFresh}
@@ -19,18 +18,17 @@ use Rattle.ts_link.specs.MemLink.{LinkState, look_of}
 use Rattle.ts_record.specs.Grammar.{TxnPieces}
 use Rattle.ts_record.specs.Links.{recorded_side}
 use Rattle.ts_record.proofs.Links.{never_fails}
-use Rattle.ts_replay.specs.Recorded.{AreTagsOf, FitsIn, FitsTag, IsSound, IsTagOf, Recorded, RecordedGroup, RecordedTag, is_asked_only}
+use Rattle.ts_replay.specs.Recorded.{AreTagsOf, FitsIn, FitsTag, IsSound, IsSoundWith, IsTagOf, Recorded, RecordedGroup, RecordedTag, is_asked_only}
 use Rattle.ts_replay.specs.Rows.{IsRowOf}
-use Rattle.ts_stock.specs.Stock.{still_writes}
 use Rattle.ts_thread.specs.Started.{CanStart}
 use Rattle.ts_thread.specs.Tags.{CanAsk}
 use Rattle.ts_thread.specs.Threads.{HasHadTurns}
 use Rattle.ts_txn.specs.Making.{IsMadeOf, IsMadeOfIf}
-use Rattle.ts_txn.specs.World.{IsSoundTxn}
 use Rattle.ts_txn.proofs.Fitting.{fits_made}
 
 -- ---- a group as it is made
 
+-- a recorded side is sure
 sure_side : (pieces : List (List ℕ)) (made : LinkState) → made ≡ recorded_side pieces → IsSure (look_of made)
 sure_side pieces made is = let never = never_fails pieces made is in record {
   fail_reads = never.fail_reads;
@@ -39,55 +37,51 @@ sure_side pieces made is = let never = never_fails pieces made is in record {
   again_writes = never.again_writes;
 }
 
--- a transaction that was just made of two recorded sides fits its tag
-pub fits_recorded : (setup : Setup) (number : ℕ) (txn : TxnPieces) (tag : RecordedTag) (t : Recorded) → IsTagOf setup number txn false tag
-    → t.core.number ≡ number → arc_value t.core.setup ≡ setup → t.core.plugins_at ≡ 0
-    → IsMadeOf look_of (recorded_side txn.0) t.core.client → IsMadeOfIf look_of (Some (recorded_side txn.1)) t.core.origin → FitsTag tag t
-fits_recorded setup number txn tag t is number_is setup_is plugins_at made made_origin =
-    fits_made look_of look_of tag t (number_is ∙ sym is.number_is) (setup_is ∙ sym is.setup_is) (plugins_at ∙ sym is.plugins_at)
-    (subst (λ l. IsMadeOf look_of l t.core.client) (sym is.client) made) (subst (λ o. IsMadeOfIf look_of o t.core.origin) (sym is.origin) made_origin)
-    (λ sure. (sure_side txn.0 tag.client.value is.client, λ l of_origin. sure_side txn.1 l (let same : Some l ≡ Some (recorded_side txn.1) = sym of_origin ∙ is.origin in cc)))
-    is.started_is
-
-on_true : (b : Bool) (P : Type 0) → P → OnTrue b P
-on_true true P h = h
-on_true false P h = tt
-
+-- a journal is at rest before its first turn
 at_first : (s : State) → s.held ≡ false → s.next ≡ 1 → IsAtRest false s
 at_first s given one = (given, omega (arith, one), tt)
 
--- its group, which has had no turn, fits it too
-pub fits_fresh : (tag : RecordedTag) (g : RecordedGroup) → FitsTag tag g.world → IsSound g.world g.cx.log.state g.cx.roles → IsFresh 0 g.cx → FitsIn tag g
+-- a group that has had no turn fits the tag that its transaction fits
+fits_fresh : (tag : RecordedTag) (g : RecordedGroup) → FitsTag tag g.world → IsSound g.world g.cx.log.state g.cx.roles → IsFresh 0 g.cx → FitsIn tag g
 fits_fresh tag g fits sound fresh = (
   fits,
   sound,
   at_first g.cx.log.state (ap (λ (s : State). s.held) fresh.state) (ap (λ (s : State). s.next) fresh.state),
-  on_true tag.first (g.cx.log.base.turns ≡ 0) (ap (λ (s : State). s.turns) fresh.base),
+  OnTrue_from tag.first (g.cx.log.base.turns ≡ 0) (λ first. ap (λ (s : State). s.turns) fresh.base),
 )
 
--- as one that was just made
-pub fits_group : (setup : Setup) (number : ℕ) (txn : TxnPieces) (tag : RecordedTag) (t : Recorded) (g : RecordedGroup) → IsTagOf setup number txn false tag
-    → t.core.number ≡ number → arc_value t.core.setup ≡ setup → t.core.plugins_at ≡ 0
-    → IsMadeOf look_of (recorded_side txn.0) t.core.client → IsMadeOfIf look_of (Some (recorded_side txn.1)) t.core.origin
-    → ((next : ℕ) (roles : List Named) → IsSoundTxn true true look_of look_of (λ (x y : LinkState). ⊤) (λ (l : LinkState) (list : List ℕ). false ≡ true) still_writes whole_of t [] next roles)
-    → g.world ≡ t → IsFresh 0 g.cx → FitsIn tag g
-fits_group setup number txn tag t g is number_is setup_is plugins_at made made_origin sound world fresh =
-    let none : g.cx.log.state.pending ≡ [] = ap (λ (s : State). s.pending) fresh.state in
-    fits_fresh tag g
-    (subst (FitsTag tag) (sym world) (fits_recorded setup number txn tag t is number_is setup_is plugins_at made made_origin))
-    (subst (λ w. IsSound w g.cx.log.state g.cx.roles) (sym world)
-    (subst (λ ps. IsSoundTxn true true look_of look_of (λ (x y : LinkState). ⊤) (λ (l : LinkState) (list : List ℕ). false ≡ true) still_writes whole_of t ps g.cx.log.state.next g.cx.roles) (sym none)
-    (sound g.cx.log.state.next g.cx.roles)))
-    fresh
+-- of a transaction that was just made of two recorded sides
+module _ (setup : Setup) (number : ℕ) (txn : TxnPieces) (tag : RecordedTag) (t : Recorded) (is : IsTagOf setup number txn false tag)
+    (number_is : t.core.number ≡ number) (setup_is : arc_value t.core.setup ≡ setup) (plugins_at : t.core.plugins_at ≡ 0)
+    (made : IsMadeOf look_of (recorded_side txn.0) t.core.client) (made_origin : IsMadeOfIf look_of (Some (recorded_side txn.1)) t.core.origin) where
+  -- it fits its tag
+  fits_recorded : FitsTag tag t
+  fits_recorded =
+      fits_made look_of look_of tag t (number_is ∙ sym is.number_is) (setup_is ∙ sym is.setup_is) (plugins_at ∙ sym is.plugins_at)
+      (subst (λ l. IsMadeOf look_of l t.core.client) (sym is.client) made) (subst (λ o. IsMadeOfIf look_of o t.core.origin) (sym is.origin) made_origin)
+      (λ sure. (sure_side txn.0 tag.client.value is.client, λ l of_origin. sure_side txn.1 l (let same : Some l ≡ Some (recorded_side txn.1) = sym of_origin ∙ is.origin in cc)))
+      is.started_is
+
+  -- and so does its group
+  pub fits_group : (g : RecordedGroup) → ((next : ℕ) (roles : List Named) → IsSoundWith t [] next roles) → g.world ≡ t → IsFresh 0 g.cx → FitsIn tag g
+  fits_group g sound world fresh =
+      let none : g.cx.log.state.pending ≡ [] = ap (λ (s : State). s.pending) fresh.state in
+      fits_fresh tag g
+      (subst (FitsTag tag) (sym world) fits_recorded)
+      (subst (λ w. IsSound w g.cx.log.state g.cx.roles) (sym world)
+      (subst (λ ps. IsSoundWith t ps g.cx.log.state.next g.cx.roles) (sym none) (sound g.cx.log.state.next g.cx.roles)))
+      fresh
 
 -- ---- a row grows
 
+-- two lists hold together with one more pair
 pub zip_more : {A B : Type 0} (R : A → B → Type 0) (xs : List A) (ys : List B) (x : A) (y : B) → AllZip R xs ys → R x y → AllZip R (xs ++ x ∷ []) (ys ++ y ∷ [])
 zip_more R [] [] x y all one = (one, tt)
 zip_more R [] (b ∷ ys) x y all one = absurd all
 zip_more R (a ∷ xs) [] x y all one = absurd all
 zip_more R (a ∷ xs) (b ∷ ys) x y all one = (all.0, zip_more R xs ys x y all.1 one)
 
+-- the tags of one transaction more
 tags_more : (setup : Setup) (from number : ℕ) (txns : List TxnPieces) (tags : List RecordedTag) (txn : TxnPieces) (tag : RecordedTag) → number ≡ from + length txns
     → AreTagsOf setup from txns tags → IsTagOf setup number txn false tag → AreTagsOf setup from (txns ++ txn ∷ []) (tags ++ tag ∷ [])
 tags_more setup from number [] [] txn tag at are is = (let here : number ≡ from = omega (arith, at) in subst (λ n. IsTagOf setup n txn false tag) here is, tt)
@@ -103,7 +97,7 @@ pub record RowBut (setup : Setup) (txns rest : List TxnPieces) (number : ℕ) (t
   pub number_is : number ≡ length done
   pub row : IsRowOf setup done tags groups
 
--- one more has
+-- one transaction more has
 pub row_more : (setup : Setup) (txns left rest : List TxnPieces) (txn : TxnPieces) (number next : ℕ) (tags us : List RecordedTag) (groups hs : List RecordedGroup) (tag : RecordedTag) (group : RecordedGroup)
     → RowBut setup txns left number tags groups → left ≡ txn ∷ rest → next ≡ number + 1 → us ≡ tags ++ tag ∷ [] → hs ≡ groups ++ group ∷ []
     → IsTagOf setup next txn false tag → FitsIn tag group → HasHadTurns 0 group → RowBut setup txns rest next us hs
@@ -125,11 +119,13 @@ row_more setup txns left rest txn number next tags us groups hs tag group but is
 
 -- ---- a row can be run
 
+-- a place of the tags has one, which is not only asked
 tag_at : (tags : List RecordedTag) (k : ℕ) → k < length tags → (t : RecordedTag) × (get_elem? tags k ≡ some t) × (is_asked_only t ≡ false)
 tag_at [] k low = absurd (omega arith)
 tag_at (t ∷ tags) zero low = (t, refl, refl)
 tag_at (t ∷ tags) (suc k) low = tag_at tags k (omega arith)
 
+-- each of the groups can be started
 pub row_starts : (setup : Setup) (txns : List TxnPieces) (tags : List RecordedTag) (groups : List RecordedGroup) (starts : ℕ) → IsRowOf setup txns tags groups → starts ≡ length groups
     → CanStart is_asked_only tags starts
 row_starts setup txns tags groups starts row all k low = tag_at tags k (omega (arith, AllZip-long FitsIn tags groups row.fit, all, low))

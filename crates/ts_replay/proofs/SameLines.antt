@@ -36,6 +36,8 @@ relayed_by request q h end body ls ps =
     }
 
 module _ (s t : Setup) (lines : s.transforms.items ≡ t.transforms.items) (plugins : s.plugins.items ≡ t.plugins.items) where
+  -- ---- part by part
+
   own_same : (request : List ℕ) (status : OwnStatus) (to_head : Bool) → own_block s request status to_head ≡ own_block t request status to_head
   own_same request status to_head =
       ap (λ (ps : List PluginLine). record { request = request; end = E.Whole; head = own_head status (ruled S.Response ps (own_field ∷ [])); mode = M.Plain; body = own_sent to_head status }) plugins
@@ -50,6 +52,8 @@ module _ (s t : Setup) (lines : s.transforms.items ≡ t.transforms.items) (plug
   request_same : (q : RequestHead) (target host : List ℕ) → request_text s q target host ≡ request_text t q target host
   request_same q target host =
       ap (λ ps. origin_text q.method (is_absolute q.target) q.minor target host (ruled S.Request ps (forwarded q.fields))) plugins
+
+  -- ---- case by case
 
   body_same : (request : List ℕ) (q : RequestHead) (h : ResponseHead) (rest : List ℕ) (b : Block) → BodySays s request q h rest b → BodySays t request q h rest b
   body_same request q h rest b (ended body ends is) =

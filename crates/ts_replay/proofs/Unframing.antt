@@ -1,15 +1,15 @@
 -- A body is taken out of its frames, piece by piece.
 use Rattle.std.proofs.Common.{◌≡◌, ℕ, ◌+◌, ◌<◌, ◌≤◌, true, List, [], ◌∷◌, ◌++◌, take, drop, length, get_or, refl, sym, ap, ◌∙◌, arith, append_assoc, length-append}
-use Rattle.std.proofs.lemmas.List.{append-nil, take_at, drop_at, take_all, length-drop, length-map, get_or-map, take_more, drop_more}
+use Rattle.std.proofs.lemmas.List.{append-nil, take_at, drop_at, length-drop, length-map, get_or-map, take_more, drop_more}
 use Rattle.std.proofs.lemmas.Grind.{flat_map-append}
 use Rattle.std.proofs.lemmas.List.Elements.{All-get_or}
 use Rattle.httparse.specs.Ascii.{crlf_bytes}
-use Rattle.ts_wire.specs.declared.frames.Mode.TheVariants.{Plain, Chunked}
+use Rattle.ts_wire.specs.declared.frames.Mode.TheVariants.{Chunked}
 use Rattle.ts_wire.specs.Frames.{IsPiece, hex, frame_of, frames, cut_body}
 use Rattle.ts_wire.specs.Limits.{piece_limit}
 use Rattle.ts_replay.specs.Unframing.{IsFramed}
 
--- THE FIRST CHUNK
+-- ---- the first chunk
 
 -- the chunk of a piece, and the chunks of those behind it
 chunk_first : (p : List ℕ) (ps : List (List ℕ))
@@ -28,11 +28,13 @@ pub record HasChunk (n : ℕ) (bytes piece : List ℕ) (behind : List (List ℕ)
   pub is : IsPiece piece
   pub bytes_are : bytes ≡ frames Chunked (piece ∷ behind) true
 
+-- the length is within the limit of pieces
 pub small_size : {n : ℕ} {bytes piece : List ℕ} {behind : List (List ℕ)} → HasChunk n bytes piece behind → n ≤ piece_limit
 small_size h = omega (arith, h.size, h.is.1)
 
 -- its line has so many digits
 module _ {n : ℕ} {bytes piece : List ℕ} {behind : List (List ℕ)} (h : HasChunk n bytes piece behind) (digits : ℕ) (are : digits ≡ length (hex n)) where
+  -- what stands behind its line
   behind_line : drop (digits + 2) bytes ≡ piece ++ (crlf_bytes ++ frames Chunked behind true)
   behind_line =
       let line : length (hex (length piece) ++ crlf_bytes) ≡ digits + 2 =
@@ -40,12 +42,14 @@ module _ {n : ℕ} {bytes piece : List ℕ} {behind : List (List ℕ)} (h : HasC
       ap (drop (digits + 2)) (h.bytes_are ∙ chunk_first piece behind)
       ∙ drop_at (hex (length piece) ++ crlf_bytes) (piece ++ (crlf_bytes ++ frames Chunked behind true)) (digits + 2) line
 
+  -- and how much that is
   behind_length : length (drop (digits + 2) bytes) ≡ n + 2 + length (frames Chunked behind true)
   behind_length =
       let all = ap length behind_line ∙ length-append piece (crlf_bytes ++ frames Chunked behind true) in
       let rest = length-append crlf_bytes (frames Chunked behind true) in
       omega (arith, all, rest, h.size)
 
+  -- so the line, the piece and the end of the piece stand in the bytes
   pub line_within : digits + 2 ≤ length bytes
   line_within = let left = length-drop (digits + 2) bytes in omega (arith, behind_length, left)
 
@@ -55,18 +59,21 @@ module _ {n : ℕ} {bytes piece : List ℕ} {behind : List (List ℕ)} (h : HasC
   pub end_within : 2 ≤ length (drop n (drop (digits + 2) bytes))
   end_within = let left = length-drop n (drop (digits + 2) bytes) in omega (arith, behind_length, left)
 
+  -- between line and end stands the piece
   pub piece_is : take n (drop (digits + 2) bytes) ≡ piece
   piece_is = ap (take n) behind_line ∙ take_at piece (crlf_bytes ++ frames Chunked behind true) n (sym h.size)
 
+  -- and behind the end the other chunks
   pub others_are : drop 2 (drop n (drop (digits + 2) bytes)) ≡ frames Chunked behind true
   others_are =
       ap (drop 2) (ap (drop n) behind_line ∙ drop_at piece (crlf_bytes ++ frames Chunked behind true) n (sym h.size))
       ∙ drop_at crlf_bytes (frames Chunked behind true) 2 refl
 
--- PIECE BY PIECE
+-- ---- piece by piece
 
 module _ (cuts bytes : List ℕ) (pieces : List (List ℕ)) (h : IsFramed Chunked cuts bytes pieces) where
-  pub as_many : length pieces ≡ length cuts
+  -- there is a cut for each piece
+  as_many : length pieces ≡ length cuts
   as_many = sym (ap length h.cuts_are ∙ length-map pieces (λ p. length p))
 
   -- the next chunk of what is left
@@ -87,11 +94,3 @@ module _ (cuts bytes : List ℕ) (pieces : List (List ℕ)) (h : IsFramed Chunke
       let within : i < length pieces = omega (arith, as_many, lt) in
       ap (λ b. b ++ piece) is ∙ ap (λ p. cut_body (take i pieces) ++ p) (next ∙ sym (append-nil (get_or pieces i [])))
       ∙ sym (ap cut_body (take_more pieces i [] within) ∙ flat_map-append (λ p. p) (take i pieces) (get_or pieces i [] ∷ []))
-
-  -- and the body of all
-  pub body_all : (i : ℕ) (body : List ℕ) → length cuts ≤ i → body ≡ cut_body (take i pieces) → body ≡ cut_body pieces
-  body_all i body le is = is ∙ ap cut_body (take_all i pieces (omega (arith, as_many, le)))
-
--- plain frames are the body itself
-pub plain_body : (cuts bytes : List ℕ) (pieces : List (List ℕ)) → IsFramed Plain cuts bytes pieces → bytes ≡ cut_body pieces
-plain_body cuts bytes pieces h = h.bytes_are ∙ append-nil (cut_body pieces)

@@ -1,28 +1,25 @@
 -- A recorded transaction that has ended, and what it left.
-use Rattle.std.specs.Prelude.{◌≡◌, ◌⊎◌, ℕ, ◌<◌, List, [], ◌++◌, length, map, All, ⊤, Bool, true, false, codes}
+use Rattle.std.specs.Prelude.{◌≡◌, ◌⊎◌, ℕ, ◌<◌, List, [], ◌++◌, length, map, All, Bool, true, false, codes}
 use Rattle.std.specs.Arc.{arc_value}
 use Rattle.memchr.specs.Find.{OccursAt}
-use Rattle.ts_config.specs.Bodies.{whole_of}
 use Rattle.ts_config.specs.declared.setup.Setup.{Setup}
 use Rattle.ts_group.specs.declared.action.Named.{Named}
 use Rattle.ts_hooks.specs.declared.txn_end.TxnEnd.{TxnEnd}
 use Rattle.ts_hooks.specs.declared.txn_end.TxnEnd.TheVariants as E
 use Rattle.ts_journal.specs.declared.entry.TheConstants.{GREATEST}
 use Rattle.ts_link.specs.MemLink.{LinkState, look_of}
-use Rattle.ts_stock.specs.Stock.{still_writes}
-use Rattle.ts_stock.specs.declared.stock.State.{State}
+use Rattle.ts_replay.specs.Recorded.{IsSoundWith, Recorded}
 use Rattle.ts_txn.specs.Cover.{is_fresh_on}
 use Rattle.ts_txn.specs.Making.{end_of, link_if}
 use Rattle.ts_txn.specs.View.{is_dialed, side_if}
-use Rattle.ts_txn.specs.World.{IsSoundTxn}
 use Rattle.ts_txn.specs.declared.block.Block.{Block}
 use Rattle.ts_txn.specs.declared.making.TxnParts.{TxnParts}
-use Rattle.ts_txn.specs.declared.txn.Txn.{Txn}
 use Rattle.ts_wire.specs.Frames.{IsPiece, cut_body, frames}
 
--- The transaction is one of this setup, which has no hook plugin, between two sides that give these bytes. It was
--- started, nothing of its group is pending, the group has an event number left, and what is to hold of it holds.
-pub record IsRunBetween (setup : Setup) (c o : List ℕ) (t : Txn LinkState LinkState State) : Type 0 where
+-- The transaction is one of this setup, which has no hook plugin, between two sides that give these bytes. It
+-- was started, nothing of its group is pending, the group has an event number left, and what is to hold of it
+-- holds.
+pub record IsRunBetween (setup : Setup) (c o : List ℕ) (t : Recorded) : Type 0 where
   pub setup_is : arc_value t.core.setup ≡ setup
   pub no_plugins : setup.plugins.items ≡ []
   pub gives : (look_of t.core.client.link).source ≡ c
@@ -32,12 +29,11 @@ pub record IsRunBetween (setup : Setup) (c o : List ℕ) (t : Txn LinkState Link
   pub next : ℕ
   pub left : next < GREATEST
   pub roles : List Named
-  pub sound : IsSoundTxn true true look_of look_of (λ (x y : LinkState). ⊤)
-      (λ (l : LinkState) (list : List ℕ). false ≡ true) still_writes whole_of t [] next roles
+  pub sound : IsSoundWith t [] next roles
 
 -- what is left of such a transaction
 pub record IsLeftBetween (setup : Setup) (c o : List ℕ) (parts : TxnParts LinkState LinkState) : Type 0 where
-  pub txn : Txn LinkState LinkState State
+  pub txn : Recorded
   pub run : IsRunBetween setup c o txn
   pub links : (parts.client ≡ txn.core.client.link) × (parts.origin ≡ link_if txn.core.origin)
   pub sent : (parts.head ≡ txn.core.sent.head) × (parts.mode ≡ txn.core.sent.mode)
@@ -61,8 +57,8 @@ pub record HasTaken (origin : LinkState) (b : Block) : Type 0 where
   pub nothing : b.request ≡ [] → upload ≡ []
   pub ends : (b.request ≡ []) ⊎ EndsBlank b.request
 
--- the client took the head of the block, and behind it this much of a body in pieces in their frames, with its end or
--- without
+-- the client took the head of the block, and behind it this much of a body in pieces in their frames, with its
+-- end or without
 pub record HasGot (parts : TxnParts LinkState LinkState) (b : Block) (sent : List ℕ) (fin : Bool)
     : Type 0 where
   pub pieces : List (List ℕ)

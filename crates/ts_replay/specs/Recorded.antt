@@ -6,6 +6,7 @@ use Rattle.ts_config.specs.declared.setup.Setup.{Setup}
 use Rattle.ts_group.specs.declared.action.Named.{Named}
 use Rattle.ts_group.specs.declared.group.Group.{Group}
 use Rattle.ts_journal.specs.State.{State}
+use Rattle.ts_journal.specs.declared.entry.Pending.{Pending}
 use Rattle.ts_link.specs.MemLink.{LinkState, look_of}
 use Rattle.ts_record.specs.Grammar.{TxnPieces}
 use Rattle.ts_record.specs.Links.{recorded_side}
@@ -56,11 +57,15 @@ AreTagsOf setup number (txn ∷ txns) (tag ∷ tags) =
 abbrev pub FitsTag : RecordedTag → Recorded → Type 0
 FitsTag = IsTxnOf look_of look_of
 
--- what is to hold of it holds
-abbrev pub IsSound : Recorded → State → List Named → Type 0
-IsSound t s roles =
+-- what is to hold of it holds, where these events are pending and this event number is next
+abbrev pub IsSoundWith : Recorded → List Pending → ℕ → List Named → Type 0
+IsSoundWith t pending next roles =
     IsSoundTxn true true look_of look_of (λ (c o : LinkState). ⊤)
-    (λ (o : LinkState) (list : List ℕ). false ≡ true) still_writes whole_of t s.pending s.next roles
+    (λ (o : LinkState) (list : List ℕ). false ≡ true) still_writes whole_of t pending next roles
+
+-- and in a journal's state
+abbrev pub IsSound : Recorded → State → List Named → Type 0
+IsSound t s roles = IsSoundWith t s.pending s.next roles
 
 -- it is never only asked
 abbrev pub is_asked_only : RecordedTag → Bool

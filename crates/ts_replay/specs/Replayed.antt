@@ -19,8 +19,8 @@ pub record IsFinal (j : Log) : Type 0 where
   pub given : j.state.held ≡ false
   pub none : j.state.pending ≡ []
 
--- The transaction of this number has run in its group, until nothing of it was pending: it is the one that its
--- tag names, which was started, and event numbers are left. The group began with no turn, and has had one.
+-- The transaction of this number has run in its group, until nothing of it was pending: it is the one that
+-- its tag names, which was started, and event numbers are left. The group began with no turn, and has had one.
 pub record HasRunAs (setup : Setup) (number : ℕ) (txn : TxnPieces) (group : RecordedGroup) : Type 0 where
   pub lines : HasLinesOnly setup
   pub tag : RecordedTag
@@ -52,7 +52,8 @@ abbrev pub journal_of : RecordedGroup → Log
 journal_of g = g.cx.log
 
 -- What transactions under a setup came to in these groups: each ran to its end in the group at its place,
--- numbered from 1, the journals are those of the groups, in order, and the report is that on the transactions.
+-- numbered from 1, the journals are those of the groups, in order, and the report is that on the
+-- transactions.
 pub record ComesTo (setup : Setup) (txns : List TxnPieces) (groups : List RecordedGroup)
     (r : Replayed) : Type 0 where
   pub each : EachOf (IsReplayOf setup) 1 txns groups

@@ -13,8 +13,8 @@ use Rattle.ts_txn.specs.declared.block.Block.{Block as TxnBlock}
 abbrev pub shown : TxnBlock → Block
 shown b = record { request = b.request; end = b.end; head = b.head; content = b.body }
 
--- What a report says of a transaction between two sides: the block of all that they give, each followed by its
--- end.
+-- What a report says of a transaction between two sides: the block of all that they give, each followed by
+-- its end.
 pub record IsShownOf (setup : Setup) (client origin : List ℕ) (b : Block) : Type 0 where
   pub block : TxnBlock
   pub is_block : IsBlock setup true (false ≡ true) origin client block

@@ -1,4 +1,5 @@
 //! What a recorded transaction came to that has ended: its block, as the report shows it.
+
 ghost use Rattle.std.specs.Prelude.{◌≡◌, ◌≢◌, ◌++◌, ℕ, List, [], Some, IfOk};
 ghost use Rattle.ts_config.specs.declared.setup.Setup.{Setup as SetupOf};
 ghost use Rattle.ts_record.specs.Report.{IsReported};
@@ -39,8 +40,8 @@ fn first_head(bytes: &[u8]) -> &[u8]
     }
 }
 
-// The head that the origin was sent. A recorded side moves no upload, but no clause of a transaction says so: the
-// request is cut at its empty line.
+// The head that the origin was sent. A recorded side moves no upload, but no clause of a transaction says so:
+// the request is cut at its empty line.
 fn request_of(alloc: Global, origin: &RecordedLink) -> Result<Octets, NoMemory>
     ensures { (b : TxnBlock) → HasTaken origin.now b → IfOk result (λ request. request ≡ b.request) }
 {
@@ -109,8 +110,8 @@ fn told_of(alloc: Global, parts: &RecordedParts) -> Result<Block, NoMemory>
     }
 }
 
-/// What a transaction came to that was started, and of whose group nothing is pending. Where memory lacked for
-/// the transaction, it is lacking here.
+/// What a transaction came to that was started, and of whose group nothing is pending. Where memory lacked
+/// for the transaction, it is lacking here.
 pub fn told(alloc: Global, txn: Recorded) -> Result<Block, NoMemory>
     requires run { (setup : SetupOf) × (c : List ℕ) × (o : List ℕ) × IsRunBetween setup c o txn }
     ensures shown { (setup : SetupOf) (c o : List ℕ) → IsRunBetween setup c o txn

@@ -1,4 +1,5 @@
 //! A body is taken out of its frames again.
+
 ghost use Rattle.std.specs.Prelude.{◌≡◌, ◌≤◌, List, ℕ, IfOk, length};
 ghost use Rattle.ts_wire.specs.Frames.{cut_body, hex};
 ghost use Rattle.ts_wire.specs.Limits.{piece_limit};

@@ -30,8 +30,8 @@ fn setup_of(alloc: Global, lines: Vec<TransformLine>) -> Result<Arc<Setup>, NoMe
     Ok(shared)
 }
 
-/// Runs recorded transactions under the lines, each in a mutex group of its own, on so many event threads that
-/// pass the gate, and drives them to their end.
+/// Runs recorded transactions under the lines, each in a mutex group of its own, on so many event threads
+/// that pass the gate, and drives them to their end.
 pub fn replay<G: Gate + Sync, R: Threads + Wait + Sync>(
     rt: &R,
     alloc: Global,

@@ -1,3 +1,4 @@
+-- The block that is cut out of the parts is the one that is shown.
 use Rattle.std.proofs.Common.{sym, ap, subst, ◌∙◌, drop, take}
 use Rattle.ts_replay.specs.Exchanged.{LeavesBlock}
 use Rattle.ts_replay.proofs.Telling.{block_same, content_is, framed_behind, head_front}

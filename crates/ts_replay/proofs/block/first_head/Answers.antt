@@ -1,3 +1,4 @@
+-- The first head ends with the first empty line.
 use Rattle.std.proofs.Common.{◌∙◌}
 use Rattle.ts_replay.proofs.Blank.{head_up_to, some_blank}
 use Rattle.ts_replay.proofs.block.first_head.Goals as goal

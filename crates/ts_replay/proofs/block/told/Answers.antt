@@ -1,3 +1,4 @@
+-- A transaction is told by the parts that are left of it.
 use Rattle.ts_replay.proofs.Telling.{left_between}
 use Rattle.ts_replay.proofs.block.told.Goals as goal
 

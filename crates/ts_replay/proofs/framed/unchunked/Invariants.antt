@@ -1,3 +1,4 @@
+-- So many pieces were taken out as cuts were passed.
 use Rattle.std.specs.Prelude.{◌≡◌, ℕ, List, true, take, drop}
 use Rattle.ts_wire.specs.declared.frames.Mode.TheVariants.{Chunked}
 use Rattle.ts_wire.specs.Frames.{cut_body, frames}

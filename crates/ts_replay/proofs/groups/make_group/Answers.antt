@@ -1,3 +1,4 @@
+-- A group that was just made of two recorded sides fits its tag.
 use Rattle.std.proofs.Common.{◌≡◌, Some, false, true, ap, subst, ◌∙◌, rules}
 use Rattle.std.specs.Arc.{arc_value}
 use Rattle.ts_link.specs.MemLink.{look_of}
@@ -18,7 +19,7 @@ returns-clause-fits c =
     let of_origin = ap (λ (s : TxnPieces). s.1) c.txn.view_is in
     let client : c.txn.inside.client.items ≡ c.args.txn.0 = cc in
     let origin : c.txn.inside.origin.items ≡ c.args.txn.1 = cc in
-    fits_group (arc_value c.args.setup) c.args.number c.args.txn tag t c.in_ok-group.group is made.named.0 (ap arc_value made.named.1) made.named.2
+    fits_group (arc_value c.args.setup) c.args.number c.args.txn tag t is made.named.0 (ap arc_value made.named.1) made.named.2
     (subst (λ l. IsMadeOf look_of l t.core.client) (c.in_ok-client.ensures.made ∙ ap recorded_side client) made.links.0)
     (subst (λ l. IsMadeOfIf look_of (Some l) t.core.origin) (c.in_ok-origin.ensures.made ∙ ap recorded_side origin) made.links.1)
-    made.sound c.in_ok-group.ensures.world c.in_ok-group.ensures.fresh
+    c.in_ok-group.group made.sound c.in_ok-group.ensures.world c.in_ok-group.ensures.fresh

@@ -1,3 +1,4 @@
+-- The row grows by the group of one transaction, with its tag.
 use Rattle.std.proofs.Common.{◌+◌, false, refl, subst}
 use Rattle.std.specs.Arc.{arc_value}
 use Rattle.ts_replay.specs.Recorded.{IsTagOf}

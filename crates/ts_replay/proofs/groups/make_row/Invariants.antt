@@ -1,3 +1,4 @@
+-- Each transaction that was passed has a group in the row.
 use Rattle.std.specs.Prelude.{length}
 use Rattle.std.specs.Arc.{arc_value}
 use Rattle.ts_replay.proofs.Rows.{RowBut}

@@ -1,3 +1,4 @@
+-- The replay of recorded transactions is what their groups come to.
 use Rattle.std.specs.Arc.{arc_value}
 use Rattle.ts_replay.proofs.replaying.replay.Goals as goal
 

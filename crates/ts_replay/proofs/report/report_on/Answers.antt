@@ -1,10 +1,10 @@
+-- The report grows by the block of one group, and the journals by that group's.
 use Rattle.std.proofs.Common.{◌≡◌, ◌+◌, [], ◌∷◌, ◌++◌, refl, sym, ap, subst, ◌∙◌}
 use Rattle.std.specs.List.{concat}
 use Rattle.std.proofs.lemmas.List.{nil_from_length}
 use Rattle.ts_replay.specs.Exchanged.{IsRunBetween}
-use Rattle.ts_replay.specs.Recorded.{Recorded}
-use Rattle.ts_replay.proofs.Reporting.{ReportsBut, lawful_of, next_of, reports_all, reports_more, state_of}
-use Rattle.ts_txn.specs.Making.{end_of}
+use Rattle.ts_replay.proofs.Ended.{run_between}
+use Rattle.ts_replay.proofs.Reporting.{ReportsBut, TellsOf, is_kept, next_of, reports_all, reports_more}
 use Rattle.ts_replay.proofs.report.report_on.Goals as goal
 
 pub told-requires : goal.told-requires
@@ -12,19 +12,18 @@ told-requires c =
     let ran = c.requires.ran in
     let next = next_of ran.0 ran.1 c.args.groups.items c.groups.rest.items c.pop_front.new.self.items c.groups.number c.groups.report.items c.groups.journals.items c.in-Some.group
     (c.groups.invariant ran.0 ran.1 ran.3) c.in-Some.ensures.items in
-    record { run = (ran.0, concat next.txn.0, concat next.txn.1, subst (IsRunBetween ran.0 (concat next.txn.0) (concat next.txn.1)) (sym c.into_parts-txn.ensures.0) next.between) }
+    let between = run_between ran.0 (c.groups.number + 1) next.txn c.in-Some.group next.first in
+    record { run = (ran.0, concat next.txn.0, concat next.txn.1, subst (IsRunBetween ran.0 (concat next.txn.0) (concat next.txn.1)) (sym c.into_parts-txn.ensures.0) between) }
 
 pub groups-preserved : goal.groups-preserved
 groups-preserved c = λ setup txns each.
     let world = c.into_parts-txn.ensures.0 in
     let log = c.into_parts-txn.ensures.1 in
-    reports_more setup txns c.args.groups.items c.groups.rest.items c.pop_front.new.self.items c.groups.number (c.groups.number + 1) c.groups.report.items c.add_block.new.out.items
-    c.groups.journals.items c.push.new.self.items c.in-Some.group c.in_ok-block.block (c.groups.invariant setup txns each) c.in-Some.ensures.items refl
-    (λ client origin between. c.in_ok-block.ensures.shown setup client origin (subst (IsRunBetween setup client origin) (sym world) between))
-    (ap (λ (t : Recorded). end_of t.course) (sym world) ∙ c.in_ok-block.ensures.ended)
-    c.in_ok-block.ensures.reported
-    (lawful_of c.in-Some.group.cx.log c.into_parts-txn.result.1 c.entries.result.now log c.entries.ensures.entries c.entries.ensures.lawful)
-    (state_of c.in-Some.group.cx.log c.into_parts-txn.result.1 c.entries.result.now log c.entries.ensures.entries c.entries.ensures.state)
+    let block = c.in_ok-block in
+    reports_more setup txns c.args.groups.items c.groups.rest.items c.pop_front.new.self.items c.groups.number c.groups.report.items c.groups.journals.items c.in-Some.group
+    (c.groups.invariant setup txns each) c.in-Some.ensures.items (c.groups.number + 1) c.add_block.new.out.items c.push.new.self.items block.block refl
+    (subst (λ t. TellsOf setup t block.block) world (record { shown = λ client origin. block.ensures.shown setup client origin; ended = block.ensures.ended; reported = block.ensures.reported }))
+    (is_kept c.in-Some.group.cx.log c.into_parts-txn.result.1 c.entries.result.now log c.entries.ensures.entries c.entries.ensures.lawful c.entries.ensures.state)
     c.in_ok-add_block.ensures
     (c.in_ok-push.ensures.items ∙ ap (λ j. c.groups.journals.items ++ j ∷ []) log)
 

@@ -1,3 +1,4 @@
+-- So many of the transactions were reported on as groups are gone.
 use Rattle.std.specs.Prelude.{List, length}
 use Rattle.ts_config.specs.declared.setup.Setup.{Setup}
 use Rattle.ts_record.specs.Grammar.{TxnPieces}
