@@ -61,8 +61,10 @@ abbrev pub left_in : {P Q R T U : Type 0} → (P → List ℕ → List ℕ) → 
 left_in rest g = left_of rest g.world + length g.cx.log.state.pending
 
 -- less is left to do in the group of a world of a chain, where what waits for the client counts as one event
-abbrev pub HasLessLeft : {P Q R T U : Type 0} → (P → List ℕ → List ℕ) → Group (ChainWorld P) Q R T U → Group (ChainWorld P) Q R T U → Type 0
-HasLessLeft rest old new = left_in rest new < left_in rest old + (if nat_lt 0 (length (for_client new.world)) then 1 else 0)
+abbrev pub HasLessLeft : {P Q R T U : Type 0} → (P → List ℕ → List ℕ) → Group (ChainWorld P) Q R T U
+    → Group (ChainWorld P) Q R T U → Type 0
+HasLessLeft rest old new =
+    left_in rest new < left_in rest old + (if nat_lt 0 (length (for_client new.world)) then 1 else 0)
 
 -- while a world of a chain runs, its last stage is roused where it is full, so that it goes on once its
 -- client has taken bytes
@@ -75,7 +77,8 @@ IsSoundAlone w = (pending : List Pending) → (roles : List Named) → AllPlain 
 
 -- a world that is sound stays so, if its last stage was woken where that was needed, and needs no waking then
 pub record StaysSound {P : Type 0} (v w : ChainWorld P) : Type 0 where
-  pub sound : (pending : List Pending) (roles : List Named) → IsWoken v → IsSound v pending roles → IsSound w pending roles
+  pub sound : (pending : List Pending) (roles : List Named) → IsWoken v → IsSound v pending roles
+      → IsSound w pending roles
   pub awake : IsWoken v → IsWoken w
 
 -- the world of a group is sound, and stays so while its client takes bytes

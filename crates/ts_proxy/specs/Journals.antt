@@ -56,7 +56,8 @@ abbrev pub HandlesFirst : ℕ → State → List Entry → Type 0
 HandlesFirst m s [] = ⊤
 HandlesFirst m s (Took turn seat ∷ es) = ⊤
 HandlesFirst m s (Gave turn ∷ es) = turn ≡ first_turn
-HandlesFirst m s (Handled number moment ∷ es) = IsNextDue m s number moment × HandlesFrom s.next moment (MOST_EVENTS - 1) es
+HandlesFirst m s (Handled number moment ∷ es) =
+    IsNextDue m s number moment × HandlesFrom s.next moment (MOST_EVENTS - 1) es
 HandlesFirst m s (e ∷ es) = HandlesFirst m (after s e) es
 
 -- The turns of one driver that nobody else drives beside, from a moment of it on: each has its seat and the

@@ -44,7 +44,8 @@ understood (Bad n k) next = BadLine n k
 
 -- goes on with a line, which if it is an append has the text of its file
 abbrev pub line_filled : (List ℕ → Option (List ℕ)) → TransformLine → (TransformLine → Outcome) → Outcome
-line_filled files (t.Append name text) next = opened (files name) most_append name (λ bytes. next (t.Append name bytes))
+line_filled files (t.Append name text) next =
+    opened (files name) most_append name (λ bytes. next (t.Append name bytes))
 line_filled files line next = next line
 
 -- goes on with lines in their order, each append with the text of its file

@@ -57,8 +57,8 @@ pub record HasTaken (origin : LinkState) (b : Block) : Type 0 where
   pub nothing : b.request ≡ [] → upload ≡ []
   pub ends : (b.request ≡ []) ⊎ EndsBlank b.request
 
--- the client took the head of the block, and behind it this much of a body in pieces in their frames, with its
--- end or without
+-- the client took the head of the block, and behind it this much of a body in pieces in their frames, with
+-- its end or without
 pub record HasGot (parts : TxnParts LinkState LinkState) (b : Block) (sent : List ℕ) (fin : Bool)
     : Type 0 where
   pub pieces : List (List ℕ)

@@ -20,7 +20,8 @@ pub record IsFinal (j : Log) : Type 0 where
   pub none : j.state.pending ≡ []
 
 -- The transaction of this number has run in its group, until nothing of it was pending: it is the one that
--- its tag names, which was started, and event numbers are left. The group began with no turn, and has had one.
+-- its tag names, which was started, and event numbers are left. The group began with no turn, and has had
+-- one.
 pub record HasRunAs (setup : Setup) (number : ℕ) (txn : TxnPieces) (group : RecordedGroup) : Type 0 where
   pub lines : HasLinesOnly setup
   pub tag : RecordedTag
