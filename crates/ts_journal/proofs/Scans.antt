@@ -6,6 +6,7 @@ use Rattle.std.specs.List.{remove, slice_get}
 use Rattle.std.proofs.lemmas.Option.{slice_get-get_or}
 use Rattle.std.specs.Prelude.{slice_set}
 use Rattle.std.proofs.lemmas.List.{set_split}
+use Rattle.ts_lists.proofs.Places.{take_more_before}
 use Rattle.ts_journal.specs.declared.entry.ContKey.{ContKey}
 use Rattle.ts_journal.specs.declared.entry.Pending.{Pending}
 use Rattle.ts_journal.specs.State.{pending_at, without, generation_at, without_index, with_key}
@@ -22,15 +23,12 @@ pub item_here : (n : ℕ) (ps : List Pending) (i : ℕ) (d : Pending) → i < le
 item_here n ps i d h e = slice_get-get_or ps i d h ∙ sym (pending_here n ps i d h e)
 
 -- one element more of the front
-more_front : {A : Type 0} (xs : List A) (i : ℕ) (d : A) (ys : List A) → i < length xs → take (i + 1) xs ++ ys ≡ take i xs ++ (get_or xs i d ∷ ys)
-more_front xs i d ys h = ap (λ zs. zs ++ ys) (take_more xs i d h) ∙ append_assoc (take i xs) (get_or xs i d ∷ []) ys
-
 pub without_past : (n : ℕ) (ps : List Pending) (i : ℕ) (d : Pending) → i < length ps → ((get_or ps i d).number ≡ n → ⊥) → take (i + 1) ps ++ without n (drop (i + 1) ps) ≡ take i ps ++ without n (drop i ps)
 without_past n ps i d h ne =
     let rest = without n (drop (i + 1) ps) in
     let p = get_or ps i d in
     let here : without n (drop i ps) ≡ p ∷ rest = ap (without n) (drop_more ps i d h) ∙ cond-false (eqb p.number n) (drop (i + 1) ps) (p ∷ rest) (ne_eqb _ _ ne) in
-    more_front ps i d rest h ∙ sym (ap (λ zs. take i ps ++ zs) here)
+    take_more_before ps i d rest h ∙ sym (ap (λ zs. take i ps ++ zs) here)
 
 pub without_here : (n : ℕ) (ps : List Pending) (i : ℕ) (d : Pending) → i < length ps → (get_or ps i d).number ≡ n → remove ps i ≡ take i ps ++ without n (drop i ps)
 without_here n ps i d h e =
@@ -52,7 +50,7 @@ index_past n ks i d h ne =
     let rest = without_index n (drop (i + 1) ks) in
     let k = get_or ks i d in
     let here : without_index n (drop i ks) ≡ k ∷ rest = ap (without_index n) (drop_more ks i d h) ∙ cond-false (eqb k.index n) (drop (i + 1) ks) (k ∷ rest) (ne_eqb _ _ ne) in
-    more_front ks i d rest h ∙ sym (ap (λ zs. take i ks ++ zs) here)
+    take_more_before ks i d rest h ∙ sym (ap (λ zs. take i ks ++ zs) here)
 
 pub index_here : (n : ℕ) (ks : List ContKey) (i : ℕ) (d : ContKey) → i < length ks → (get_or ks i d).index ≡ n → remove ks i ≡ take i ks ++ without_index n (drop i ks)
 index_here n ks i d h e =
@@ -67,7 +65,7 @@ put_past key ks i d h ne =
     let rest = with_key key (drop (i + 1) ks) in
     let k = get_or ks i d in
     let here : with_key key (drop i ks) ≡ k ∷ rest = ap (with_key key) (drop_more ks i d h) ∙ cond-false (eqb k.index key.index) (key ∷ drop (i + 1) ks) (k ∷ rest) (ne_eqb _ _ ne) in
-    more_front ks i d rest h ∙ sym (ap (λ zs. take i ks ++ zs) here)
+    take_more_before ks i d rest h ∙ sym (ap (λ zs. take i ks ++ zs) here)
 
 pub put_here : (key : ContKey) (ks : List ContKey) (i : ℕ) (d : ContKey) → i < length ks → (get_or ks i d).index ≡ key.index → slice_set ks i key ≡ take i ks ++ with_key key (drop i ks)
 put_here key ks i d h e =
