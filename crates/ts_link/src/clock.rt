@@ -1,6 +1,10 @@
 //! Clocks, which tell the moment in milliseconds.
 use std::sync::atomic::{AtomicU64, Ordering};
 
+/// How many milliseconds what was not to be had is tried again after: a link that waited, or a group that
+/// another seat held.
+pub const RETRY_AFTER: u64 = 10;
+
 /// Tells the moment, in milliseconds.
 pub trait Clock {
     /// The moment. Nothing is promised of it.

@@ -20,7 +20,7 @@ mod sink;
 #[cfg(test)]
 mod tests;
 
-pub use clock::{Clock, StepClock};
+pub use clock::{Clock, RETRY_AFTER, StepClock};
 pub use gate::{Gate, MeetGate, OpenGate};
 pub use link::{Got, Link, Put};
 pub use mem_link::MemLink;

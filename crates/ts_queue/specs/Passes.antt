@@ -29,7 +29,9 @@ pub record TakesTicket (old : View) (t : Ticket) (new : View) : Type 0 where
   pub once : IsOnce new.taken
   pub front : (rest : List Ticket) × Moment old (t ∷ rest)
 
--- A pass found the queue empty at one moment. If it has the whole share, it has taken exactly what was put.
+-- A pass found the queue empty. What tells something of what was put is `whole`: a pass that has the whole
+-- share has taken exactly that. `empty` says that there is a moment of a lawful queue without tickets that
+-- agrees with what the pass knows, and for a pass without the whole share there always is one.
 pub record FindsEmpty (known : View) : Type 0 where
   pub empty : Moment known []
   pub whole : known.share ≡ WHOLE_SHARE → Exactly known.put known.taken

@@ -16,7 +16,8 @@ use Rattle.ts_slot.specs.Lists.{total, Each, IsIn, same, traced, entries, withou
 use Rattle.ts_slot.specs.Views.{owns}
 use Rattle.ts_slot.specs.Rule.{free, taken, worn, ViewOk}
 use Rattle.ts_slot.specs.Steps.{Mine, emptied, bring, Fetched}
-use Rattle.ts_slot.proofs.Lists.{by_eq, same_one, same_none, total_set, total_at, each_map, each_in, each_without, in_traced, traced_without, traced_others}
+use Rattle.ts_lists.proofs.Cases.{by_eq}
+use Rattle.ts_slot.proofs.Lists.{same_one, same_none, total_set, total_at, each_map, each_in, each_without, in_traced, traced_without, traced_others}
 use Rattle.ts_slot.proofs.Kept.{Rule, kept_views}
 
 abbrev Homes : Type 0 → Type 0

@@ -9,6 +9,9 @@ use mathlib.Core.Option.{some, some-injective, some-ne-none}
 use lib.ListN.{get_elem?}
 use Rattle.atomic_table.specs.Table.{opening, Final, Seen}
 use Rattle.atomic_table.proofs.Lists.{at_map}
+use Rattle.std.proofs.lemmas.List.{get_or_default}
+use Rattle.ts_lists.proofs.Pairs.{zip_at_read}
+use Rattle.ts_lists.proofs.Places.{take_place}
 use Rattle.ts_slot.specs.declared.view.View.{View}
 use Rattle.ts_slot.specs.Lists.{total, Each, same, traced, entries}
 use Rattle.ts_slot.specs.Limits.{whole_share, last_turn}
@@ -23,21 +26,10 @@ word_zero zero k = refl
 word_zero (suc n) zero = refl
 word_zero (suc n) (suc k) = word_zero n k
 
-at_zip : {A B : Type 0} (P : A → B → Type 0) (xs : List A) (ys : List B) (d : B) (k : ℕ) → AllZip P xs ys → k < length xs → (x : A) × (get_elem? xs k ≡ some x) × (get_elem? ys k ≡ some (get_or ys k d)) × P x (get_or ys k d)
-at_zip P [] ys d k z low = absurd (omega arith)
-at_zip P (x ∷ xs) [] d k z low = absurd z
-at_zip P (x ∷ xs) (y ∷ ys) d zero z low = (x, refl, refl, z.0)
-at_zip P (x ∷ xs) (y ∷ ys) d (suc k) z low = at_zip P xs ys d k z.1 (omega arith)
-
 each_at : {A : Type 0} (P : A → Type 0) (xs : List A) (d : A) (k : ℕ) → Each P xs → k < length xs → P (get_or xs k d)
 each_at P [] d k e low = absurd (omega arith)
 each_at P (x ∷ xs) d zero e low = e.0
 each_at P (x ∷ xs) d (suc k) e low = each_at P xs d k e.1 (omega arith)
-
-get_or-default : {A : Type 0} (xs : List A) (k : ℕ) (d e : A) → k < length xs → get_or xs k d ≡ get_or xs k e
-get_or-default [] k d e low = absurd (omega arith)
-get_or-default (x ∷ xs) zero d e low = refl
-get_or-default (x ∷ xs) (suc k) d e low = get_or-default xs k d e (omega arith)
 
 one_number : (x : ℕ) → same 0 x + 0 + within 1 whole_share x ≤ 1
 one_number x = grind (arith, nat_tests)
@@ -73,7 +65,7 @@ module _ {X G T : Type 0} (fits : G → X → Type 0) (stamp : X → ℕ) (trace
         wide = length-replicate n 0 ∙ count ∙ long;
         deep = length-map (map Some values) some ∙ length-map values Some ∙ long;
         each_group = λ k low.
-            let z = at_zip fits tags values x k zip low in
+            let z = zip_at_read fits tags values x k zip low in
             let home : get_elem? (map some (map Some values)) k ≡ some (some (Some (get_or values k x))) = at_map some (map Some values) k (Some (get_or values k x)) (at_map Some values k (get_or values k x) z.2) in (
               free 0,
               (
@@ -97,7 +89,7 @@ module _ {X G T : Type 0} (fits : G → X → Type 0) (stamp : X → ℕ) (trace
         held = tt;
         missed = tt;
         known = firsts_known (replicate n 0) (λ k _. trace (get_or (x ∷ xs) k x)) 0 (x ∷ xs)
-            (λ d j low. ap trace (get_or-default (x ∷ xs) j d x low) ∙ ap (λ i. trace (get_or (x ∷ xs) i x)) (let e : j ≡ 0 + j = omega arith in e));
+            (λ d j low. ap trace (get_or_default (x ∷ xs) j d x low) ∙ ap (λ i. trace (get_or (x ∷ xs) i x)) (let e : j ≡ 0 + j = omega arith in e));
         blank = λ z. absurd (omega arith);
       }
 
@@ -169,12 +161,7 @@ module _ {X G T : Type 0} (fits : G → X → Type 0) (stamp : X → ℕ) (trace
 
 -- one value more of slots that all have one
 pub taken_more : {A : Type 0} (xs : List A) (l : List (Option A)) (k : ℕ) (x : A) → map Some xs ≡ take k l → get_elem? l k ≡ some (Some x) → map Some (xs ++ x ∷ []) ≡ take (k + 1) l
-taken_more xs l k x front there = map-append Some xs (x ∷ []) ∙ ap (λ ys. ys ++ Some x ∷ []) front ∙ sym (take_at l k (Some x) there)
-  where
-    take_at : {A : Type 0} (l : List A) (k : ℕ) (y : A) → get_elem? l k ≡ some y → take (k + 1) l ≡ take k l ++ y ∷ []
-    take_at [] k y at = absurd (some-ne-none y (sym at))
-    take_at (x ∷ l) zero y at = ap (λ z. z ∷ []) (some-injective x y at)
-    take_at (x ∷ l) (suc k) y at = ap (λ n. take n (x ∷ l)) (let e : suc k + 1 ≡ suc (k + 1) = omega arith in e) ∙ ap (λ ys. x ∷ ys) (take_at l k y at)
+taken_more xs l k x front there = map-append Some xs (x ∷ []) ∙ ap (λ ys. ys ++ Some x ∷ []) front ∙ sym (take_place l k (Some x) there)
 
 pub not_empty : {A : Type 0} (l : List (Option A)) (k : ℕ) (x : A) (y : Option A) → get_elem? l k ≡ some (Some x) → get_elem? l k ≡ some y → y ≡ None → ⊥
 not_empty l k x y a b is = let e : Some x ≡ y = some-injective (Some x) y (sym a ∙ b) in absurd (cc)

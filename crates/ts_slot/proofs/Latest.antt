@@ -4,7 +4,7 @@ use Rattle.std.specs.Prelude.{Option, Some, None}
 use Rattle.std.proofs.lemmas.Bool.{leb-true, leb-false, eq-eqb, cond-true}
 use Rattle.ts_slot.specs.Lists.{Each}
 use Rattle.ts_slot.specs.Views.{newer, latest}
-use Rattle.ts_slot.proofs.Lists.{split, by_eq}
+use Rattle.ts_lists.proofs.Cases.{split, by_eq}
 
 at_most : {A : Type 0} (a b : ℕ) (x y : A) → a ≤ b → cond (leb a b) x y ≡ x
 at_most a b x y le = split (leb a b) (λ t. cond t x y ≡ x) (λ _. refl) (λ e. let f = leb-false a b e in absurd (omega arith))

@@ -4,6 +4,7 @@ use Rattle.std.specs.Prelude.{Option, Some, None}
 use mathlib.Core.Option.{some, none, some-ne-none}
 use lib.ListN.{get_elem?}
 use Rattle.atomic_table.specs.Table.{step, rest as below}
+use Rattle.ts_lists.proofs.Places.{place_below}
 use Rattle.ts_slot.specs.declared.view.View.{View}
 use Rattle.ts_slot.specs.Lists.{IsIn, rest, without_group}
 use Rattle.ts_slot.specs.Views.{freed, worn_out, latest}
@@ -23,14 +24,9 @@ gives_up k t c es there = record {
 pub none_there : {X : Type 0} (k : ℕ) (y : Option X) (x : X) (cs ds es : List (ℕ × Option X)) → cs ≡ (k, None) ∷ ds → cs ≡ (k, y) ∷ es → y ≡ Some x → ⊥
 none_there {X} k y x cs ds es a b is = let e : None ≡ y = ap (λ (z : ℕ × Option X). z.1) (first_is (k, None) (k, y) ds es (sym a ∙ b)) in absurd (cc)
 
-pub at_low : {A : Type 0} (xs : List A) (k : ℕ) (x : A) → get_elem? xs k ≡ some x → k < length xs
-at_low [] k x at = absurd (some-ne-none x (sym at))
-at_low (y ∷ xs) zero x at = omega arith
-at_low (y ∷ xs) (suc k) x at = let r = at_low xs k x at in omega arith
-
 -- a group's number is below the number of tags where it has one
 pub fits_low : {X G : Type 0} (fits : G → X → Type 0) (tags : List G) (k : ℕ) (x : X) → FitsTag fits tags k x → k < length tags
-fits_low fits tags k x fit = at_low tags k fit.0 fit.1
+fits_low fits tags k x fit = place_below tags k fit.0 fit.1
 
 module _ {G T : Type 0} (k t : ℕ) (c : T) (v : View G T) where
   -- the seat after its slot of the group k came first

@@ -3,15 +3,8 @@ use Rattle.std.proofs.Common.{◌≡◌, ◌≢◌, ℕ, zero, suc, ◌+◌, ◌
 use Rattle.std.proofs.lemmas.Bool.{eqb-true, eqb-false, eq-eqb, ne_eqb, cond-true, cond-false}
 use mathlib.Core.Option.{some, some-ne-none, some-injective}
 use lib.ListN.{get_elem?}
+use Rattle.ts_lists.proofs.Cases.{split, by_eq}
 use Rattle.ts_slot.specs.Lists.{total, Each, IsIn, same, traced, without_group}
-
--- cases on a test, and on whether two numbers are equal
-pub split : (t : Bool) (P : Bool → Type 0) → (t ≡ true → P true) → (t ≡ false → P false) → P t
-split true P f g = f refl
-split false P f g = g refl
-
-pub by_eq : (a b : ℕ) (P : Bool → Type 0) → (a ≡ b → P true) → (a ≢ b → P false) → P (eqb a b)
-by_eq a b P f g = split (eqb a b) P (λ e. f (eqb-true a b e)) (λ e. g (eqb-false a b e))
 
 pub same_one : (a b : ℕ) → a ≡ b → same a b ≡ 1
 same_one a b e = cond-true (eqb a b) 1 0 (eq-eqb a b e)

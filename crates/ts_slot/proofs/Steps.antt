@@ -20,7 +20,8 @@ use Rattle.ts_slot.specs.Views.{owns, won, missed, freed, worn_out, Coherent}
 use Rattle.ts_slot.specs.Rule.{free, taken, worn, AtHome, ViewOk}
 use Rattle.ts_slot.specs.Steps.{Mine, Entered, Returned, WornOut, Looked}
 use Rattle.ts_slot.specs.Words.{FitsTag}
-use Rattle.ts_slot.proofs.Lists.{by_eq, same_one, total_set, total_at, total_two, each_map, each_without, traced_without, traced_others}
+use Rattle.ts_lists.proofs.Cases.{by_eq}
+use Rattle.ts_slot.proofs.Lists.{same_one, total_set, total_at, total_two, each_map, each_without, traced_without, traced_others}
 use Rattle.ts_slot.proofs.Kept.{Rule, Group, group_same, view_stays, after_known, kept_views, kept_word}
 
 pub or_even : (n m : ℕ) → n ≡ 2 * m → bit_or n 1 ≡ n + 1

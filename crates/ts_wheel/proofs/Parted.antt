@@ -7,16 +7,7 @@ use Rattle.ts_wheel.specs.Due.{added, after_due, next_moment}
 use Rattle.ts_wheel.specs.Rows.{Lap, all_at}
 use Rattle.ts_wheel.specs.Parts.{AreWithin, IsParted, all_tokens}
 use Rattle.ts_wheel.proofs.Added.{added-behind, added-before, All-added, All-after_due, All-all_at}
-use Rattle.ts_wheel.proofs.Spread.{All-right}
-
--- an answer that says what it leaves in each case
-pub either_way : {A E P Q : Type 0} (r : Result A E) → OnOk r P → OnErr r Q → P ⊎ Q
-either_way (Ok a) p q = inl p
-either_way (Err e) p q = inr q
-
-pub on_ok : {A E P Q : Type 0} (r : Result A E) → OnOk r P → (P → Q) → OnOk r Q
-on_ok (Ok a) p f = f p
-on_ok (Err e) p f = tt
+use Rattle.ts_lists.proofs.Elements.{all_rest}
 
 module _ {T : Type 0} where
   -- a list to which a token was added or not
@@ -125,10 +116,10 @@ module _ {T : Type 0} where
       record {
         started = same ∙ started;
         within = subst (λ (l : List (ℕ × T)). All W l) (sym put) (All-append W lap.tokens (all_at due ts) h.within (All-all_at W due ts (λ t. (omega arith, omega arith))));
-        left = All-right (λ (e : ℕ × T). start ≤ e.0) (all_at due ts) rest (subst (λ (l : List (ℕ × T)). All (λ (e : ℕ × T). start ≤ e.0) l) is h.left);
+        left = all_rest (λ (e : ℕ × T). start ≤ e.0) (all_at due ts) rest (subst (λ (l : List (ℕ × T)). All (λ (e : ℕ × T). start ≤ e.0) l) is h.left);
         moved = ap (λ zs. zs ++ rest) put ∙ append_assoc lap.tokens (all_at due ts) rest ∙ ap (λ zs. lap.tokens ++ zs) (sym is) ∙ h.moved;
         before = subst (λ (l : List (ℕ × T)). All B l) (sym put) (All-append B lap.tokens (all_at due ts)
-            (λ k d lt. All-right (λ (f : ℕ × T). (get_or lap.tokens k d).0 < f.0) (all_at due ts) rest (subst (λ (l : List (ℕ × T)). All (λ (f : ℕ × T). (get_or lap.tokens k d).0 < f.0) l) is (h.before k d lt)))
+            (λ k d lt. all_rest (λ (f : ℕ × T). (get_or lap.tokens k d).0 < f.0) (all_at due ts) rest (subst (λ (l : List (ℕ × T)). All (λ (f : ℕ × T). (get_or lap.tokens k d).0 < f.0) l) is (h.before k d lt)))
             (All-all_at B due ts (λ t. after)));
       }
 

@@ -4,6 +4,7 @@ use Rattle.std.proofs.lemmas.Bool.{cases_lt}
 use Rattle.std.proofs.lemmas.Bool.Decides.{nat_tests}
 use Rattle.std.proofs.lemmas.List.{append-nil, get_or_append_left}
 use Rattle.std.proofs.lemmas.List.Elements.{All-nil, All-append, All-head, All-tail, All-weaker}
+use Rattle.ts_lists.proofs.Elements.{all_rest}
 use Rattle.std.specs.declared.collections.VecDeque.{VecDeque}
 use Rattle.ts_wheel.specs.Due.{added, first_due, after_due, next_moment}
 use Rattle.ts_wheel.specs.Rows.{Lap, all_at, spread, AreEmptyBelow, HasToken}
@@ -89,10 +90,6 @@ module _ {T : Type 0} where
   none_between from [] a b = refl
   none_between from (e ∷ es) a b = absurd (let x : from ≤ e.0 = All-head (λ (f : ℕ × T). from ≤ f.0) e es a in let y : e.0 < from = All-head (λ (f : ℕ × T). f.0 < from) e es b in omega arith)
 
-  pub All-right : (P : ℕ × T → Type 0) (xs ys : List (ℕ × T)) → All P (xs ++ ys) → All P ys
-  All-right P [] ys h = h
-  All-right P (x ∷ xs) ys h = All-right P xs ys (All-tail P x (xs ++ ys) h)
-
   -- a row is put behind all tokens
   pub spread-put : (from : ℕ) (rows : List (Row T)) (k : ℕ) (r : Row T) → k < length rows → All (λ e. e.0 < from + k) (spread from rows)
       → spread from (set rows k r) ≡ spread from rows ++ all_at (from + k) r.items
@@ -102,11 +99,11 @@ module _ {T : Type 0} where
       let low : All (λ e. e.0 < from) (spread from (x ∷ xs)) = subst (λ (n : ℕ). All (λ (e : ℕ × T). e.0 < n) (spread from (x ∷ xs))) (sym here) all in
       let none : spread from (x ∷ xs) ≡ [] = none_between from (spread from (x ∷ xs)) (spread-from from (x ∷ xs)) low in
       let rest : spread (from + 1) xs ≡ [] = none_between (from + 1) (spread (from + 1) xs) (spread-from (from + 1) xs)
-      (All-weaker (λ (e : ℕ × T). e.0 < from) (λ (e : ℕ × T). e.0 < from + 1) (λ e h. omega arith) (spread (from + 1) xs) (All-right (λ (e : ℕ × T). e.0 < from) (all_at from x.items) (spread (from + 1) xs) low)) in
+      (All-weaker (λ (e : ℕ × T). e.0 < from) (λ (e : ℕ × T). e.0 < from + 1) (λ e h. omega arith) (spread (from + 1) xs) (all_rest (λ (e : ℕ × T). e.0 < from) (all_at from x.items) (spread (from + 1) xs) low)) in
       ap (λ zs. all_at from r.items ++ zs) rest ∙ append-nil (all_at from r.items) ∙ ap (λ (n : ℕ). all_at n r.items) here ∙ sym (ap (λ zs. zs ++ all_at (from + 0) r.items) none)
   spread-put from (x ∷ xs) (suc k) r h all =
       let here : from + 1 + k ≡ from + suc k = omega arith in
-      let low : All (λ e. e.0 < from + 1 + k) (spread (from + 1) xs) = subst (λ (n : ℕ). All (λ (e : ℕ × T). e.0 < n) (spread (from + 1) xs)) (sym here) (All-right (λ (e : ℕ × T). e.0 < from + suc k) (all_at from x.items) (spread (from + 1) xs) all) in
+      let low : All (λ e. e.0 < from + 1 + k) (spread (from + 1) xs) = subst (λ (n : ℕ). All (λ (e : ℕ × T). e.0 < n) (spread (from + 1) xs)) (sym here) (all_rest (λ (e : ℕ × T). e.0 < from + suc k) (all_at from x.items) (spread (from + 1) xs) all) in
       ap (λ zs. all_at from x.items ++ zs) (spread-put (from + 1) xs k r (omega arith) low ∙ ap (λ (n : ℕ). spread (from + 1) xs ++ all_at n r.items) here)
       ∙ sym (append_assoc (all_at from x.items) (spread (from + 1) xs) (all_at (from + suc k) r.items))
 
@@ -124,10 +121,6 @@ module _ {T : Type 0} where
       ap (λ (ts : List T). next_moment (all_at from ts ++ spread (from + 1) xs)) none
       ∙ first_moment-spread (from + 1) xs k (omega arith) (tail_empty k x xs empty) (λ d. full d)
       ∙ ap (λ (n : ℕ). Some n) here
-
-pub on_err : {A E : Type 0} {P : Type 0} (r : Result A E) → P → OnErr r P
-on_err (Ok a) p = tt
-on_err (Err e) p = p
 
 module _ {T : Type 0} where
   get_or-append_here : (rows : List (Row T)) (r d : Row T) → get_or (rows ++ r ∷ []) (length rows) d ≡ r

@@ -4,7 +4,7 @@ use Rattle.std.specs.Prelude.{Some}
 use Rattle.std.specs.Mem.Slots.{slots_items, slots_counts}
 use Rattle.ts_slot.proofs.slots.Slots.close.Goals as goal
 use Rattle.ts_slot.proofs.Ends.{ends, value_at, one_value}
-use Rattle.ts_slot.proofs.Leaves.{at_low}
+use Rattle.ts_lists.proofs.Places.{place_below}
 use Rattle.ts_slot.specs.Words.{IsLast}
 
 pub unload-requires-clause-each : goal.unload-requires-clause-each
@@ -21,7 +21,7 @@ pub returns-clause-values : goal.returns-clause-values
 returns-clause-values g c k x there =
     let slots = slots_items c.close_with-closed.result.slots in
     let stood = value_at c.unload.result.items slots k x c.unload.ensures there in
-    let low = at_low slots k (Some x) stood in
+    let low = place_below slots k (Some x) stood in
     let w = c.args.self.sized.1 in
     let n = c.args.self.named in
     let l = c.close_with-closed.ensures.counts.1 in
