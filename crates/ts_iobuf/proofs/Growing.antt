@@ -5,7 +5,7 @@ use Rattle.std.proofs.Math.Seq.{take-add}
 use Rattle.ts_iobuf.specs.declared.readers.Slot.{Slot}
 use Rattle.ts_iobuf.specs.Buffer.{Buffer, GrowsBy}
 use Rattle.ts_iobuf.specs.Stored.{stored}
-use Rattle.ts_iobuf.specs.View.{shown}
+use Rattle.ts_iobuf.specs.View.{buffer_of}
 use Rattle.ts_iobuf.specs.Places.{place_in, bytes_from, StandsWithin}
 use Rattle.ts_iobuf.proofs.Places.{all_by_recursion, place_at-all}
 
@@ -57,9 +57,9 @@ within_stored start filled store ss within places =
 -- a buffer into whose store more bytes were put right behind its own
 pub grows-put : (start filled room : ℕ) (readers : List Slot) (mark : ℕ) (store : List ℕ) (n : ℕ) (more store' : List ℕ)
     → start ≤ filled → filled + room ≤ length store → StandsWithin (filled - start) readers → n ≡ length store' → store' ≡ take filled store ++ more
-    → GrowsBy (shown start filled room readers mark store) (shown start n 0 readers mark store') more
+    → GrowsBy (buffer_of start filled room readers mark store) (buffer_of start n 0 readers mark store') more
 grows-put start filled room readers mark store n more store' order within places count is =
     let below : filled ≤ length store = omega arith in
-    grows (shown start filled room readers mark store) (shown start n 0 readers mark store') more
+    grows (buffer_of start filled room readers mark store) (buffer_of start n 0 readers mark store') more
     (ap (λ k. stored start k store') count ∙ stored-put start filled store more store' order below is) refl refl
     (within_stored start filled store readers below places)

@@ -3,7 +3,7 @@ use Rattle.std.proofs.Common.{◌≡◌, ℕ, zero, suc, ◌+◌, ◌-◌, ◌�
 use Rattle.ts_iobuf.specs.declared.readers.Slot.{Slot}
 use Rattle.ts_iobuf.specs.Buffer.{Buffer, one_block}
 use Rattle.ts_iobuf.specs.Lending.{written_over}
-use Rattle.ts_iobuf.specs.View.{shown}
+use Rattle.ts_iobuf.specs.View.{buffer_of}
 use Rattle.std.proofs.lemmas.List.{take-take, take_at, drop_at, drop-take, take-append-le, length-take-le}
 
 -- the list with w written over the part from f on, as a `Vec` of this length holds it
@@ -54,10 +54,10 @@ made start readers mark front room = record {
 }
 
 -- a buffer whose room was written has the room as it was left, and all else as it was
-pub shown-over : (start filled room : ℕ) (readers : List Slot) (mark : ℕ) (store w : List ℕ) → filled + room ≤ length store
-    → shown start filled room readers mark (over filled w store)
-    ≡ record (shown start filled room readers mark store) { room = written_over (take room (drop filled store)) w }
-shown-over start filled room readers mark store w within =
+pub buffer_of-over : (start filled room : ℕ) (readers : List Slot) (mark : ℕ) (store w : List ℕ) → filled + room ≤ length store
+    → buffer_of start filled room readers mark (over filled w store)
+    ≡ record (buffer_of start filled room readers mark store) { room = written_over (take room (drop filled store)) w }
+buffer_of-over start filled room readers mark store w within =
     let whole : List ℕ = take room (drop filled store) in
     let long : length whole ≡ room = length-take-le room (drop filled store) (omega (arith, length-drop filled store)) in
     let below : filled ≤ length store = omega arith in

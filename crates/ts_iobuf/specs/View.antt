@@ -7,8 +7,8 @@ use Rattle.ts_iobuf.specs.Stored.{lent, stored}
 use Rattle.ts_iobuf.specs.Places.{StandsWithin}
 
 -- the buffer whose bytes stand in the store from start to filled, with `room` bytes lent behind them
-abbrev pub shown : ℕ → ℕ → ℕ → List Slot → ℕ → List ℕ → Buffer
-shown start filled room readers mark store = record {
+abbrev pub buffer_of : ℕ → ℕ → ℕ → List Slot → ℕ → List ℕ → Buffer
+buffer_of start filled room readers mark store = record {
   bytes = stored start filled store;
   readers = readers;
   room = lent room filled store;
@@ -17,7 +17,7 @@ shown start filled room readers mark store = record {
 }
 
 abbrev pub seen : Inside → Buffer
-seen s = shown s.start s.filled s.room s.slots.items s.mark s.store.items
+seen s = buffer_of s.start s.filled s.room s.slots.items s.mark s.store.items
 
 pub record Fits (s : Inside) : Type 0 where
   pub start : s.start ≤ s.filled
