@@ -12,7 +12,8 @@ use Rattle.ts_queue.specs.declared.view.View.{View}
 use Rattle.ts_queue.specs.Tickets.{is_numbered, is_same_ticket}
 use Rattle.ts_queue.specs.Views.{spent, owned, kept_part, split_part}
 use Rattle.ts_queue.specs.Rule.{IsLawfulView, IsLawfulQueue}
-use Rattle.ts_queue.proofs.Sums.{sum_by-set_at, sum_by-zero_by, contains_at}
+use Rattle.ts_lists.proofs.Sums.{sum_by-set_at, sum_by-zero_by}
+use Rattle.ts_lists.proofs.Places.{place_contained}
 
 -- 1 where the test holds, and else 0
 abbrev pub one_if : Bool → ℕ
@@ -58,14 +59,6 @@ count_none p s (t ∷ ts) all =
     let rest : count_by (is_numbered p s) ts ≡ 0 = count_none p s ts (All-tail (λ (u : Ticket). u.putter ≡ p → u.serial ≡ s → ⊥) t ts all) in
     omega (arith, sum_by-cons (λ (u : Ticket). one_if (is_numbered p s u)) t ts)
 
-module _ {A : Type 0} (R : A → A → Type 0) where
-  -- each element and each later one of a list that has one more in front
-  pub all_pairs_tail : (x : A) (xs : List A) → AllPairs R (x ∷ xs) → AllPairs R xs
-  all_pairs_tail x xs h i j d lt in' = h (suc i) (suc j) d (omega arith) (omega arith)
-
-  pub all_pairs_head : (x : A) (xs : List A) → AllPairs R (x ∷ xs) → All (R x) xs
-  all_pairs_head x xs h k d in' = h 0 (suc k) d (omega arith) (omega arith)
-
 pub owned-spent : (x : ℕ) → owned x spent ≡ 0
 owned-spent x = grind (arith, nat_tests)
 
@@ -97,7 +90,7 @@ pub none_later : (items : List Ticket) (views : List View) (id : ℕ) (v : View)
 none_later items views id v h at alive s later =
     let F : View → ℕ = λ u. count_by (is_numbered v.number s) u.put in
     let others : List View = set views id spent in
-    let mine : IsLawfulView v = All-contains IsLawfulView views v h.each_view (contains_at views id v at) in
+    let mine : IsLawfulView v = All-contains IsLawfulView views v h.each_view (place_contained views id v at) in
     let own : 0 < count_by (λ n. n == v.number) v.names = mine.own alive in
     let apart : sum_by (owned v.number) others ≡ 0 = omega (arith, sum_by-set_at (owned v.number) views id v spent at, h.apart v.number, owned-spent v.number) in
     let rest : sum_by F others ≡ 0 = sum_by-zero_by IsLawfulView (owned v.number) F (count-unnamed v.number s) others (All-set IsLawfulView views id spent spent_lawful h.each_view) apart in

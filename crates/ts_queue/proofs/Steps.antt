@@ -15,12 +15,14 @@ use Rattle.ts_queue.specs.Tickets.{is_numbered, is_same_ticket, IsInOrder, Exact
 use Rattle.ts_queue.specs.Views.{spent, owned, putting, taking, kept_part, split_part, with_joined}
 use Rattle.ts_queue.specs.Rule.{IsLawfulView, IsLawfulQueue}
 use Rattle.ts_queue.specs.Passes.{TakesTicket, Looks}
-use Rattle.ts_queue.proofs.Sums.{sum_by-set_at, le-sum_by_at, two_le-sum_by, sum_by-zero_by, sum_by-le_by, contains_at}
-use Rattle.ts_queue.proofs.Counts.{one_if, numbered_cases, same-le-numbered, all_low, all_pairs_tail, all_pairs_head, owned-spent, owned-split, named-itself, spent_lawful, none_later}
+use Rattle.ts_lists.proofs.Sums.{sum_by-set_at, le-sum_by_at, two_le-sum_by, sum_by-zero_by, sum_by-le_by}
+use Rattle.ts_lists.proofs.Places.{place_contained}
+use Rattle.ts_lists.proofs.Elements.{all_pairs_head, all_pairs_tail}
+use Rattle.ts_queue.proofs.Counts.{one_if, numbered_cases, same-le-numbered, all_low, owned-spent, owned-split, named-itself, spent_lawful, none_later}
 
 -- the view that a lawful list has at a place is lawful
 view_at : (items : List Ticket) (views : List View) (id : ℕ) (v : View) → IsLawfulQueue items views → get_elem? views id ≡ some v → IsLawfulView v
-view_at items views id v h at = All-contains IsLawfulView views v h.each_view (contains_at views id v at)
+view_at items views id v h at = All-contains IsLawfulView views v h.each_view (place_contained views id v at)
 
 -- each ticket that a pass took comes before those of a list
 abbrev IsAhead : List Ticket → View → Type 0
@@ -88,7 +90,7 @@ put_kept items views id v t h at alive mine later =
           let all = h.balance f in
           omega (arith, sum_by-cons f t v.put, sum_by_push f items t);
       rising = all_pairs_push IsInOrder items t h.rising (λ k d in' same. let le : (get_or items k d).serial ≤ v.serial = low_items k d in' (sym same ∙ mine) in omega arith);
-      before = All-set (IsAhead (items ++ t ∷ [])) views id w (All-contains (IsAhead (items ++ t ∷ [])) views v ahead (contains_at views id v at)) ahead;
+      before = All-set (IsAhead (items ++ t ∷ [])) views id w (All-contains (IsAhead (items ++ t ∷ [])) views v ahead (place_contained views id v at)) ahead;
       each_view = All-set IsLawfulView views id w (put_view v t (view_at items views id v h at) alive mine later) h.each_view;
     }
 
@@ -112,7 +114,7 @@ take_kept items views id v t h at alive =
           omega (arith, sum_by-cons f t v.taken, sum_by-cons f t items);
       rising = all_pairs_tail IsInOrder t items h.rising;
       before =
-          let mine : IsAhead items v = All-contains (IsAhead items) views v ahead (contains_at views id v at) in
+          let mine : IsAhead items v = All-contains (IsAhead items) views v ahead (place_contained views id v at) in
           All-set (IsAhead items) views id w (All-cons (λ (x : Ticket). All (IsInOrder x) items) t v.taken (all_pairs_head IsInOrder t items h.rising) mine) ahead;
       each_view = All-set IsLawfulView views id w (record { own = ok.own; names = ok.names; last = ok.last; blank = λ none. absurd (omega arith) }) h.each_view;
     }
@@ -124,7 +126,7 @@ take_step id v alive t items views h at = (
   record {
     adds = refl;
     rises =
-        let mine : IsAhead (t ∷ items) v = All-contains (IsAhead (t ∷ items)) views v h.before (contains_at views id v at) in
+        let mine : IsAhead (t ∷ items) v = All-contains (IsAhead (t ∷ items)) views v h.before (place_contained views id v at) in
         λ j e in'. All-head (IsInOrder (get_or v.taken j e)) t items (mine j e in');
     once = λ p s.
         let f : Ticket → ℕ = λ u. one_if (is_numbered p s u) in
@@ -132,7 +134,7 @@ take_step id v alive t items views h at = (
         let taken : sum_by f v.taken ≤ sum_by (λ u. sum_by f u.taken) views = le-sum_by_at (λ (u : View). sum_by f u.taken) views id v at in
         let even = h.balance f in
         omega (arith, sum_by-cons f t v.taken, sum_by-cons f t items);
-    front = (items, record { views = views; there = contains_at views id v at; lawful = h });
+    front = (items, record { views = views; there = place_contained views id v at; lawful = h });
   },
 )
 
@@ -161,7 +163,7 @@ whole_taken views id v h at whole t =
 pub look : (id : ℕ) (v : View) → Learns IsLawfulQueue id v (Looks v)
 look id v items views h at none =
     let empty : IsLawfulQueue [] views = subst (λ (ts : List Ticket). IsLawfulQueue ts views) none h in
-    record { empty = record { views = views; there = contains_at views id v at; lawful = empty }; whole = whole_taken views id v empty at }
+    record { empty = record { views = views; there = place_contained views id v at; lawful = empty }; whole = whole_taken views id v empty at }
 
 pub split_step : (id : ℕ) (v : View) → 2 ≤ v.share → v.free_from < v.free_to → Forks IsLawfulQueue id v (kept_part v) (split_part v)
 split_step id v two free items views h at =
@@ -186,7 +188,7 @@ split_step id v two free items views h at =
           omega (arith, sum_by_push (λ (u : View). sum_by f u.put) vs r, sum_by_push (λ (u : View). sum_by f u.taken) vs r);
       rising = h.rising;
       before =
-          let mine : IsAhead items v = All-contains (IsAhead items) views v h.before (contains_at views id v at) in
+          let mine : IsAhead items v = All-contains (IsAhead items) views v h.before (place_contained views id v at) in
           All-push (IsAhead items) vs r (All-set (IsAhead items) views id l mine h.before) (λ k d h. absurd (omega arith));
       each_view = All-push IsLawfulView vs r (All-set IsLawfulView views id l kept h.each_view) split;
     }
@@ -240,8 +242,8 @@ join_step id v other w alive items views h at apart there =
           omega (arith, sum_by-append f w.put v.put, sum_by-append f w.taken v.taken);
       rising = h.rising;
       before =
-          let mine : IsAhead items v = All-contains (IsAhead items) views v h.before (contains_at views id v at) in
-          let theirs : IsAhead items w = All-contains (IsAhead items) views w h.before (contains_at views other w was) in
+          let mine : IsAhead items v = All-contains (IsAhead items) views v h.before (place_contained views id v at) in
+          let theirs : IsAhead items w = All-contains (IsAhead items) views w h.before (place_contained views other w was) in
           All-set (IsAhead items) vs other spent (λ k d h. absurd (omega arith))
           (All-set (IsAhead items) views id b (All-append (λ (t : Ticket). All (IsInOrder t) items) w.taken v.taken theirs mine) h.before);
       each_view =
