@@ -4,7 +4,7 @@ ghost use Rattle.std.specs.Prelude.{◌≡◌};
 ghost use Rattle.ts_hooks.specs.Hooks.{is_same};
 
 /// The places of a transaction at which plugins are asked, in the order in which it comes to them.
-#[derive(Clone, Copy, Debug, PartialEq, Eq)]
+#[derive(Clone, Copy, PartialEq, Eq)]
 pub enum Hook {
     /// The transaction begins.
     TxnStart,
@@ -33,7 +33,7 @@ impl Hook {
 }
 
 /// What a plugin says to the transaction that asked it.
-#[derive(Clone, Copy, Debug, PartialEq, Eq)]
+#[derive(Clone, Copy)]
 pub enum HookAnswer {
     /// The transaction goes on.
     Continue,

@@ -8,6 +8,3 @@ mod txn_end;
 pub use hook::{Hook, HookAnswer};
 pub use table::HookTable;
 pub use txn_end::TxnEnd;
-
-#[cfg(test)]
-mod tests;

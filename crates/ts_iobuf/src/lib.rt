@@ -5,8 +5,6 @@
 mod buffer;
 mod readers;
 mod store;
-#[cfg(test)]
-mod tests;
 mod waiting;
 
 pub use buffer::IoBuffer;

@@ -9,7 +9,7 @@ use ts_link::NoMemory;
 const LAST_GENERATION: u32 = u32::MAX;
 
 /// The name of a reader of one buffer: an index that was used in this generation.
-#[derive(Clone, Copy, Debug, PartialEq, Eq)]
+#[derive(Clone, Copy)]
 pub struct ReaderId {
     pub index: u32,
     pub generation: u32,
@@ -17,7 +17,7 @@ pub struct ReaderId {
 
 /// Where the reader of an index stands, counted from the first byte that was not dropped, if it is live. The
 /// generation is that of the index's last reader.
-#[derive(Clone, Copy, Debug, PartialEq, Eq)]
+#[derive(Clone, Copy)]
 pub struct Slot {
     pub generation: u32,
     pub place: Option<usize>,

@@ -95,7 +95,7 @@ pub enum Entry {
 }
 
 /// An event that was set and is not closed yet.
-#[derive(Clone, Copy, Debug, PartialEq, Eq)]
+#[derive(Clone, Copy)]
 pub struct Pending {
     pub number: u64,
     pub key: ContKey,
@@ -106,7 +106,7 @@ pub struct Pending {
 }
 
 /// The series of the event that was handled last: whose it is, the number that it began with, and its period.
-#[derive(Clone, Copy, Debug, PartialEq, Eq)]
+#[derive(Clone, Copy)]
 pub struct Latest {
     pub key: ContKey,
     pub series: u64,

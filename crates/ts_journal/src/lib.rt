@@ -8,8 +8,6 @@ mod journal;
 mod laws;
 mod slotted;
 mod tables;
-#[cfg(test)]
-mod tests;
 
 pub use entry::{ContKey, Counts, Entry, Event, GREATEST, Latest, MOST_KEYS, NoMemory, Pending};
 pub use journal::Journal;

@@ -17,8 +17,6 @@ mod piece;
 mod piece_input;
 mod shelf;
 mod sink;
-#[cfg(test)]
-mod tests;
 
 pub use clock::{Clock, RETRY_AFTER, StepClock};
 pub use gate::{Gate, MeetGate, OpenGate};

@@ -6,7 +6,7 @@ ghost use Rattle.ts_link.specs.Sink.{TakesSome, is_fault, is_lack, taken_of};
 
 /// What a sink answers to a write. `Took` has the number of bytes that were taken from the piece's
 /// front, at least 1.
-#[derive(Clone, Copy, Debug, PartialEq, Eq)]
+#[derive(Clone, Copy, PartialEq, Eq)]
 pub enum Wrote {
     Took(usize),
     Failed,

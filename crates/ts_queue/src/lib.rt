@@ -4,8 +4,6 @@
 
 mod queue;
 mod rule;
-#[cfg(test)]
-mod tests;
 mod ticket;
 mod view;
 

@@ -7,8 +7,6 @@ mod lends;
 mod rule;
 mod seat;
 mod slots;
-#[cfg(test)]
-mod tests;
 mod view;
 
 pub use seat::{Left, Missed, Seat, Turn};

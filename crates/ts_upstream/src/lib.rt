@@ -1,8 +1,6 @@
 //! The link to an origin, which moves the body that follows a client's request head by itself.
 #![tactic(auto)]
 
-#[cfg(test)]
-mod tests;
 mod upstream;
 
 pub use upstream::{Uploaded, Upstream};

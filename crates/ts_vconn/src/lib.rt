@@ -3,8 +3,6 @@
 #![tactic(auto)]
 
 mod moves;
-#[cfg(test)]
-mod tests;
 mod vconn;
 mod vio;
 

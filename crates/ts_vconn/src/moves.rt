@@ -10,7 +10,7 @@ use ts_link::{Got, Link, NoMemory, Put};
 pub const MOST_PULLED: usize = 32_768;
 
 /// What came of a read: the number of bytes that came, at least 1, or the link's own answer.
-#[derive(Clone, Copy, Debug, PartialEq, Eq)]
+#[derive(Clone, Copy, PartialEq, Eq)]
 pub enum Pulled {
     Some(usize),
     End,
@@ -20,7 +20,7 @@ pub enum Pulled {
 
 /// What came of a write: the number of bytes that were taken, at least 1; `Nothing` where there was none to
 /// write, and so no write was made; or the link's own answer.
-#[derive(Clone, Copy, Debug, PartialEq, Eq)]
+#[derive(Clone, Copy, PartialEq, Eq)]
 pub enum Pushed {
     Some(usize),
     Nothing,

@@ -11,7 +11,7 @@ use ts_journal::ContKey;
 
 /// How many bytes are to be moved, how many were, whose continuation hears of it, and which reader they are
 /// read by. (The Developer's Guide: `TSVIONBytesGet`, `TSVIONDoneGet`, `TSVIOContGet`, `TSVIOReaderGet`.)
-#[derive(Clone, Copy, Debug, PartialEq, Eq)]
+#[derive(Clone, Copy)]
 pub struct Vio {
     pub nbytes: u64,
     pub ndone: u64,

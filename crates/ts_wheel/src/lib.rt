@@ -6,8 +6,6 @@
 mod lap;
 mod laws;
 mod rows;
-#[cfg(test)]
-mod tests;
 mod wheel;
 
 pub use laws::{adds_in_order, takes_the_due};

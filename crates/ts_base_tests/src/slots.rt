@@ -1,18 +1,18 @@
 //! Groups that are entered, missed, left, split and joined, on one thread and on two.
 
-ghost use Rattle.std.specs.Prelude.{⊤, ◌≡◌, ℕ, ◌<◌, ◌≤◌, [], List, length, IfSome};
+ghost use Rattle.std.specs.Prelude.{⊤, ◌≡◌, ℕ, ◌<◌, ◌≤◌, [], List, length};
 ghost use Rattle.std.proofs.Math.Nat.{le_refl, le_trans};
 ghost use Rattle.ts_slot.specs.Limits.{whole_share};
 ghost use Rattle.ts_slot.specs.Views.{opener};
 ghost use Rattle.ts_slot.specs.Words.{tags_of, view, IsSeatOf};
 
-use crate::{Left, Missed, Seat, Slots, Slotted};
-use std::alloc::Global;
-use std::test::Fail;
+use crate::memory::MEMORY;
+use std::process::Abort;
 use std::thread::{Threads, join};
+use ts_slot::{Left, Missed, Seat, Slots, Slotted};
 
 // Its trace is the number itself, which never falls.
-#[derive(Drop, PartialEq, Eq, Debug)]
+#[derive(Drop)]
 struct Rising(u64);
 
 impl Slotted for Rising {
@@ -36,31 +36,25 @@ impl Slotted for Rising {
 }
 
 // Slots of one group.
-fn one_group(alloc: Global, number: u64) -> Option<(Slots<Rising>, Seat<Rising>)>
-    ensures seat { IfSome result (λ r. IsSeatOf r.0 r.1) }
-    ensures view { IfSome result (λ r. (ks : List (ℕ × ℕ × ℕ)) × (view r.1 ≡ opener (tags_of r.0) ks)) }
-    ensures count { IfSome result (λ r. length (tags_of r.0) ≡ 1) }
+fn one_group(rt: &(impl AllocGlobal + Abort), number: u64) -> (Slots<Rising>, Seat<Rising>)
+    ensures seat { IsSeatOf result.0 result.1 }
+    ensures view { (ks : List (ℕ × ℕ × ℕ)) × (view result.1 ≡ opener (tags_of result.0) ks) }
+    ensures count { length (tags_of result.0) ≡ 1 }
 {
-    let mut values = Vec::new(alloc);
-    let mut tags = Vec::new(alloc);
-    values.push(Rising(number)).ok()?;
-    tags.push(()).ok()?;
-    Slots::make(alloc, values, tags).ok()
+    let values = Vec::from_array(rt.alloc(), [Rising(number)]).expect(rt, MEMORY);
+    let tags = Vec::from_array(rt.alloc(), [()]).expect(rt, MEMORY);
+    Slots::make(rt.alloc(), values, tags).expect(rt, MEMORY)
 }
 
 // Slots of two groups.
-fn two_groups(alloc: Global) -> Option<(Slots<Rising>, Seat<Rising>)>
-    ensures seat { IfSome result (λ r. IsSeatOf r.0 r.1) }
-    ensures view { IfSome result (λ r. (ks : List (ℕ × ℕ × ℕ)) × (view r.1 ≡ opener (tags_of r.0) ks)) }
-    ensures count { IfSome result (λ r. length (tags_of r.0) ≡ 2) }
+fn two_groups(rt: &(impl AllocGlobal + Abort)) -> (Slots<Rising>, Seat<Rising>)
+    ensures seat { IsSeatOf result.0 result.1 }
+    ensures view { (ks : List (ℕ × ℕ × ℕ)) × (view result.1 ≡ opener (tags_of result.0) ks) }
+    ensures count { length (tags_of result.0) ≡ 2 }
 {
-    let mut values = Vec::new(alloc);
-    let mut tags = Vec::new(alloc);
-    values.push(Rising(5)).ok()?;
-    values.push(Rising(6)).ok()?;
-    tags.push(()).ok()?;
-    tags.push(()).ok()?;
-    Slots::make(alloc, values, tags).ok()
+    let values = Vec::from_array(rt.alloc(), [Rising(5), Rising(6)]).expect(rt, MEMORY);
+    let tags = Vec::from_array(rt.alloc(), [(), ()]).expect(rt, MEMORY);
+    Slots::make(rt.alloc(), values, tags).expect(rt, MEMORY)
 }
 
 // One turn of group 0, in which the number grows by `by` and is at least `least` then. Answers the turn and
@@ -83,12 +77,12 @@ fn raise(slots: &Slots<Rising>, seat: &mut Seat<Rising>, by: u64, least: u64) ->
 }
 
 // The number of group 0, after all seats were joined.
-fn close(alloc: Global, slots: Slots<Rising>, seat: Seat<Rising>) -> Option<u64>
+fn close(rt: &(impl AllocGlobal + Abort), slots: Slots<Rising>, seat: Seat<Rising>) -> Option<u64>
     requires seat { IsSeatOf slots seat × ((view seat).held ≡ []) }
     requires share { (view seat).share ≡ whole_share }
 {
-    let values = slots.close(alloc, seat).ok()?;
-    Some(values.first()?.0)
+    let values = slots.close(rt.alloc(), seat).expect(rt, MEMORY);
+    values.first().map(|value| value.0)
 }
 
 // What four tries to enter and leave one group answer: a turn, a miss by the seat that holds it, what became
@@ -115,14 +109,11 @@ fn enters_twice(slots: &Slots<Rising>, seat: &mut Seat<Rising>) -> Option<(u64, 
 }
 
 #[test]
-fn a_held_group_is_missed(rt: HostRuntime) -> Result<(), Fail> {
-    let Some((slots, mut seat)) = one_group(rt.alloc(), 5) else {
-        panic!(rt; "no memory")
-    };
+fn a_held_group_is_missed(rt: HostRuntime) {
+    let (slots, mut seat) = one_group(&rt, 5);
     let answers = enters_twice(&slots, &mut seat);
-    assert_eq!(rt; answers, Some((1, 1, Left::Freed, 2)));
-    assert_eq!(rt; (slots.groups(), seat.number()), (1, 0));
-    Ok(())
+    assert!(rt; answers == Some((1, 1, Left::Freed, 2)));
+    assert!(rt; slots.groups() == 1 && seat.number() == 0);
 }
 
 // One turn of each of two groups at a time, of which the group that was entered first is left first.
@@ -142,36 +133,31 @@ fn crosses(slots: &Slots<Rising>, seat: &mut Seat<Rising>) -> Option<(Left, Left
 }
 
 #[test]
-fn a_turn_of_two_groups_is_left_in_any_order(rt: HostRuntime) -> Result<(), Fail> {
-    let Some((slots, mut seat)) = two_groups(rt.alloc()) else {
-        panic!(rt; "no memory")
-    };
-    assert_eq!(rt;
-        crosses(&slots, &mut seat),
-        Some((Left::Freed, Left::Freed))
-    );
-    assert_eq!(rt; slots.groups(), 2);
-    Ok(())
+fn a_turn_of_two_groups_is_left_in_any_order(rt: HostRuntime) {
+    let (slots, mut seat) = two_groups(&rt);
+    let left = crosses(&slots, &mut seat);
+    assert!(rt; left == Some((Left::Freed, Left::Freed)));
+    assert!(rt; slots.groups() == 2);
 }
+
+// What the turns of two seats found, and the number at the end.
+type Found = ([Option<(u64, u64)>; 3], Option<u64>);
 
 // What two seats find of one group: the second has two turns and leaves 7, and then the first has one. With
 // the number at the end, after the second was joined.
-fn hands_over(alloc: Global) -> Option<([Option<(u64, u64)>; 3], u64)> {
-    let (slots, mut first) = one_group(alloc, 0)?;
+fn hands_over(rt: &(impl AllocGlobal + Abort)) -> Found {
+    let (slots, mut first) = one_group(rt, 0);
     let mut second = slots.split(&mut first);
     let one = raise(&slots, &mut second, 1, 0);
     let two = raise(&slots, &mut second, 0, 7);
     let three = raise(&slots, &mut first, 0, 0);
     slots.join(&mut first, second);
-    Some(([one, two, three], close(alloc, slots, first)?))
+    ([one, two, three], close(rt, slots, first))
 }
 
 // The same with the seats in threads of their own, which are joined before the first seat enters.
-fn hands_over_from_a_thread<R: Threads + Sync>(
-    rt: &R,
-    alloc: Global,
-) -> Option<([Option<(u64, u64)>; 3], u64)> {
-    let (slots, mut first) = one_group(alloc, 0)?;
+fn hands_over_from_a_thread(rt: &(impl AllocGlobal + Abort + Threads + Sync)) -> Found {
+    let (slots, mut first) = one_group(rt, 0);
     let mut second = slots.split(&mut first);
     let shared = &slots;
     let (theirs, mut first) = join(
@@ -193,13 +179,14 @@ fn hands_over_from_a_thread<R: Threads + Sync>(
     let (second, one, two) = theirs;
     slots.join(&mut first, second);
     let three = raise(&slots, &mut first, 0, 0);
-    Some(([one, two, three], close(alloc, slots, first)?))
+    ([one, two, three], close(rt, slots, first))
 }
 
 #[test]
-fn a_seat_finds_what_another_left(rt: HostRuntime) -> Result<(), Fail> {
+fn a_seat_finds_what_another_left(rt: HostRuntime) {
     let found = [Some((1, 0)), Some((2, 1)), Some((3, 7))];
-    assert_eq!(rt; hands_over(rt.alloc()), Some((found, 7)));
-    assert_eq!(rt; hands_over_from_a_thread(&rt, rt.alloc()), Some((found, 7)));
-    Ok(())
+    let (seen, number) = hands_over(&rt);
+    assert!(rt; seen == found && number == Some(7));
+    let (seen, number) = hands_over_from_a_thread(&rt);
+    assert!(rt; seen == found && number == Some(7));
 }

@@ -1,6 +1,6 @@
 use Rattle.std.proofs.Common.{ap, ◌∙◌}
 use Rattle.ts_queue.specs.declared.view.View.{View}
-use Rattle.ts_queue.proofs.tests.exchange.Goals as goal
+use Rattle.ts_base_tests.proofs.queues.exchange.Goals as goal
 
 -- the pass has the whole share, and found the queue empty
 pub returns-in-None-take-clause-all : goal.returns-in-None-take-clause-all

@@ -4,11 +4,11 @@ ghost use Rattle.std.specs.Prelude.{◌≡◌, ◌+◌, ◌<◌, ◌≤◌, OnOk
 ghost use Rattle.ts_queue.specs.Tickets.{Exactly};
 ghost use Rattle.ts_queue.specs.Passes.{pass_view, IsPassOf};
 
-use crate::{EventQueue, QueuePass, Ticket, Token, WHOLE_SHARE};
+use crate::memory::MEMORY;
 use std::sync::Wait;
-use std::test::Fail;
 use std::thread;
 use std::thread::Threads;
+use ts_queue::{EventQueue, QueuePass, Ticket, Token, WHOLE_SHARE};
 
 const PUTS: u64 = 100;
 
@@ -25,32 +25,30 @@ fn ticket(putter: u64, serial: u64, number: u64) -> Option<Ticket> {
 }
 
 #[test]
-fn tickets_come_in_the_order_of_puts(rt: HostRuntime) -> Result<(), Fail> {
-    let (queue, mut pass) = EventQueue::make(rt.alloc())?;
-    queue.put(&rt, &mut pass, token(1))?;
-    queue.put(&rt, &mut pass, token(2))?;
-    assert_eq!(rt; pass.serial(), 2);
-    assert_eq!(rt; queue.take(&rt, &mut pass), ticket(0, 1, 1));
-    assert_eq!(rt; queue.take(&rt, &mut pass), ticket(0, 2, 2));
-    assert_eq!(rt; pass.empties(), 0);
-    assert_eq!(rt; queue.take(&rt, &mut pass), None);
-    assert_eq!(rt; pass.empties(), 1);
-    Ok(())
+fn tickets_come_in_the_order_of_puts(rt: HostRuntime) {
+    let (queue, mut pass) = EventQueue::make(rt.alloc()).expect(&rt, MEMORY);
+    queue.put(&rt, &mut pass, token(1)).expect(&rt, MEMORY);
+    queue.put(&rt, &mut pass, token(2)).expect(&rt, MEMORY);
+    assert!(rt; pass.serial() == 2);
+    assert!(rt; queue.take(&rt, &mut pass) == ticket(0, 1, 1));
+    assert!(rt; queue.take(&rt, &mut pass) == ticket(0, 2, 2));
+    assert!(rt; pass.empties() == 0);
+    assert!(rt; queue.take(&rt, &mut pass).is_none());
+    assert!(rt; pass.empties() == 1);
 }
 
 #[test]
-fn passes_are_split_and_joined(rt: HostRuntime) -> Result<(), Fail> {
-    let (queue, mut first) = EventQueue::make(rt.alloc())?;
-    queue.put(&rt, &mut first, token(7))?;
-    let mut second = queue.split(&mut first)?;
-    assert_eq!(rt; second.serial(), 0);
-    queue.put(&rt, &mut second, token(8))?;
-    assert_eq!(rt; queue.take(&rt, &mut second), ticket(0, 1, 7));
+fn passes_are_split_and_joined(rt: HostRuntime) {
+    let (queue, mut first) = EventQueue::make(rt.alloc()).expect(&rt, MEMORY);
+    queue.put(&rt, &mut first, token(7)).expect(&rt, MEMORY);
+    let mut second = queue.split(&mut first).expect(&rt, MEMORY);
+    assert!(rt; second.serial() == 0);
+    queue.put(&rt, &mut second, token(8)).expect(&rt, MEMORY);
+    assert!(rt; queue.take(&rt, &mut second) == ticket(0, 1, 7));
     queue.join(&mut first, second);
-    assert_eq!(rt; first.serial(), 1);
-    assert_eq!(rt; queue.take(&rt, &mut first), ticket(1, 1, 8));
-    assert_eq!(rt; queue.take(&rt, &mut first), None);
-    Ok(())
+    assert!(rt; first.serial() == 1);
+    assert!(rt; queue.take(&rt, &mut first) == ticket(1, 1, 8));
+    assert!(rt; queue.take(&rt, &mut first).is_none());
 }
 
 // Puts tokens with the numbers from 1 on.
@@ -114,11 +112,9 @@ fn exchange<R: Threads + Wait + Sync>(
 }
 
 #[test]
-fn what_one_thread_puts_another_takes(rt: HostRuntime) -> Result<(), Fail> {
-    let (queue, mut putter) = EventQueue::make(rt.alloc())?;
-    let taker = queue.split(&mut putter)?;
+fn what_one_thread_puts_another_takes(rt: HostRuntime) {
+    let (queue, mut putter) = EventQueue::make(rt.alloc()).expect(&rt, MEMORY);
+    let taker = queue.split(&mut putter).expect(&rt, MEMORY);
     let (pass, sum) = exchange(&rt, &queue, putter, taker);
-    assert_eq!(rt; pass.serial(), 100);
-    assert_eq!(rt; sum, 5050);
-    Ok(())
+    assert!(rt; pass.serial() == 100 && sum == 5050);
 }

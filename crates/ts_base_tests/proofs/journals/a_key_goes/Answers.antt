@@ -3,7 +3,7 @@ use Rattle.std.proofs.Common.{◌≡◌, [], ◌∷◌, ◌++◌, ap, ◌∙◌,
 use Rattle.ts_journal.specs.declared.entry.Pending.{Pending}
 use Rattle.ts_journal.specs.declared.entry.Event.TheVariants.{Hook}
 use Rattle.ts_journal.specs.State.{State, pending_at}
-use Rattle.ts_journal.proofs.tests.a_key_goes.Goals as goal
+use Rattle.ts_base_tests.proofs.journals.a_key_goes.Goals as goal
 
 pub push-requires-3-clause-allowed : goal.push-requires-3-clause-allowed
 push-requires-3-clause-allowed g c =

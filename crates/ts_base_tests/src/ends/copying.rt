@@ -1,13 +1,12 @@
 //! One link copied to another of any type, over their contracts alone.
-ghost use Rattle.std.specs.Prelude.{◌≡◌, ◌++◌, [], true, IfOk};
+ghost use Rattle.std.specs.Prelude.{◌≡◌, ◌++◌, [], true};
 
-use crate::{MOST_PULLED, Pulled, Pushed, pull_waiting, push_waiting};
-use std::alloc::Global;
 use ts_iobuf::Waiting;
 use ts_link::{Link, NoMemory};
+use ts_vconn::{MOST_PULLED, Pulled, Pushed, pull_waiting, push_waiting};
 
 /// How a copy ended.
-#[derive(Clone, Copy, Debug, PartialEq, Eq)]
+#[derive(Clone, Copy, PartialEq, Eq)]
 pub enum End {
     /// All that the first link gave until its end was taken by the second.
     Whole,
@@ -28,12 +27,19 @@ pub struct Copying<I: Link + Drop, K: Link + Drop> {
     ghost end: { ended ≡ true → I.tells ≡ true → (I.look input).left ≡ [] },
 }
 
-/// What became of two links.
-#[derive(Drop)]
-pub struct Copied<I: Link + Drop, K: Link + Drop> {
-    pub input: I,
-    pub output: K,
-    pub end: End,
+/// Two links with which nothing was done, and nothing that waits between them.
+pub fn pair<I: Link + Drop, K: Link + Drop>(input: I, output: K, waiting: Waiting) -> Copying<I, K>
+    requires waiting { waiting ≡ [] }
+    requires input { I.tells ≡ true → (I.look input).given ≡ [] }
+    requires output { K.tells ≡ true → (K.look output).taken ≡ [] }
+    ensures { (result.input ≡ input) × (result.output ≡ output) }
+{
+    Copying {
+        input,
+        output,
+        waiting,
+        ended: false,
+    }
 }
 
 // One read, while there is something to read, and one write. `None` where it goes on.
@@ -56,44 +62,14 @@ fn turn<I: Link + Drop, K: Link + Drop>(both: &mut Copying<I, K>) -> Option<End>
 }
 
 /// Copies the first link to the second until its end, in at most so many turns.
-pub fn copy<I: Link + Drop, K: Link + Drop>(
-    alloc: Global,
-    input: I,
-    output: K,
-    turns: u64,
-) -> Result<Copied<I, K>, NoMemory>
-    requires input { I.tells ≡ true → (I.look input).given ≡ [] }
-    requires output { K.tells ≡ true → (K.look output).taken ≡ [] }
-    ensures whole { IfOk result (λ c. c.end ≡ End.Whole → I.tells ≡ true → K.tells ≡ true →
-        ((K.look c.output).taken ≡ (I.look c.input).given) × ((I.look c.input).left ≡ [])) }
+pub fn copy<I: Link + Drop, K: Link + Drop>(both: &mut Copying<I, K>, turns: u64) -> End
+    ensures whole { result ≡ End.Whole → I.tells ≡ true → K.tells ≡ true →
+        ((K.look both.new.output).taken ≡ (I.look both.new.input).given) × ((I.look both.new.input).left ≡ []) }
 {
-    let waiting = Waiting::new(alloc)?;
-    let mut both = Copying {
-        input,
-        output,
-        waiting,
-        ended: false,
-    };
     for _ in 0..turns {
-        if let Some(end) = turn(&mut both) {
-            let Copying {
-                input,
-                output,
-                waiting: _,
-                ended: _,
-            } = both;
-            return Ok(Copied { input, output, end });
+        if let Some(end) = turn(both) {
+            return end;
         }
     }
-    let Copying {
-        input,
-        output,
-        waiting: _,
-        ended: _,
-    } = both;
-    Ok(Copied {
-        input,
-        output,
-        end: End::Turns,
-    })
+    End::Turns
 }

@@ -1,0 +1,143 @@
+//! Two readers of one buffer, its blocks and its room; readers that come and go; and bytes that wait for one
+//! reader.
+ghost use Rattle.std.specs.Prelude.{IsTrue};
+ghost use Rattle.ts_iobuf.specs.Buffer.{is_reader};
+
+use crate::memory::{MEMORY, octets};
+use std::process::Abort;
+use ts_iobuf::{IoBuffer, ReaderId, Waiting};
+
+// What a reader can read, block by block, in one piece.
+fn readable(rt: &(impl AllocGlobal + Abort), buffer: &IoBuffer, reader: ReaderId) -> Vec<u8>
+    requires { IsTrue (is_reader buffer.now reader) }
+{
+    let mut all = Vec::new(rt.alloc());
+    for k in 0..usize::MAX {
+        match buffer.block(reader, k) {
+            Some(block) => all.extend_from_slice(block).expect(rt, MEMORY),
+            None => return all,
+        }
+    }
+    all
+}
+
+// What `copy_from` answers and adds.
+fn copied(
+    rt: &(impl AllocGlobal + Abort),
+    from: &IoBuffer,
+    reader: ReaderId,
+    most: usize,
+    offset: usize,
+) -> (usize, Vec<u8>)
+    requires { IsTrue (is_reader from.now reader) }
+{
+    let mut into = IoBuffer::new(rt.alloc()).expect(rt, MEMORY);
+    let own = into.reader().expect(rt, MEMORY);
+    let count = into
+        .copy_from(from, reader, most, offset)
+        .expect(rt, MEMORY);
+    (count, readable(rt, &into, own))
+}
+
+#[test]
+fn two_readers_stand_at_places_of_their_own(rt: HostRuntime) {
+    let mut buffer = IoBuffer::new(rt.alloc()).expect(&rt, MEMORY);
+    let r = buffer.reader().expect(&rt, MEMORY);
+    let s = buffer.reader().expect(&rt, MEMORY);
+    buffer.write(b"abc").expect(&rt, MEMORY);
+    let parts = [b"d".as_slice(), b"".as_slice(), b"ef".as_slice()];
+    buffer.write_parts(&parts).expect(&rt, MEMORY);
+    assert!(rt; buffer.is_reader(r) && buffer.is_reader(s));
+    assert!(rt; buffer.avail(r) >= 2);
+    buffer.consume(r, 2);
+    assert!(rt; buffer.avail(r) == 4 && buffer.avail(s) == 6);
+    assert!(rt; readable(&rt, &buffer, s).as_slice() == b"abcdef".as_slice());
+
+    let rows: [(usize, usize, &[u8]); 3] = [(3, 1, b"def"), (9, 2, b"ef"), (9, 7, b"")];
+    for (most, offset, bytes) in rows {
+        let (count, added) = copied(&rt, &buffer, r, most, offset);
+        assert!(rt; count == bytes.len() && added.as_slice() == bytes);
+    }
+
+    let room = buffer.space();
+    assert!(rt; !room.is_empty());
+    room[0] = b'h';
+    buffer.produce(1);
+    assert!(rt; buffer.avail(s) == 7);
+    let twin = buffer.clone_reader(r).expect(&rt, MEMORY);
+    assert!(rt; buffer.is_reader(twin));
+    assert!(rt; buffer.avail(twin) == 5);
+    let mut front = Vec::new(rt.alloc());
+    buffer.copy_out(twin, 4, &mut front).expect(&rt, MEMORY);
+    assert!(rt; front.as_slice() == b"cdef".as_slice());
+}
+
+#[test]
+fn the_index_of_a_freed_reader_is_used_again(rt: HostRuntime) {
+    let mut buffer = IoBuffer::new(rt.alloc()).expect(&rt, MEMORY);
+    let first = buffer.reader().expect(&rt, MEMORY);
+    let other = buffer.reader().expect(&rt, MEMORY);
+    buffer.write(b"ab").expect(&rt, MEMORY);
+    assert!(rt; buffer.is_reader(first));
+    buffer.free_reader(first);
+    assert!(rt; !buffer.is_reader(first) && buffer.is_reader(other));
+    let next = buffer.reader().expect(&rt, MEMORY);
+    assert!(rt; next.index == first.index && next.generation > first.generation);
+    assert!(rt; !buffer.is_reader(first) && buffer.is_reader(next));
+    assert!(rt; buffer.avail(next) == 2);
+}
+
+// A large buffer is read to its end twice; that its memory is given back is measured elsewhere.
+#[test]
+fn a_buffer_that_was_read_to_its_end_goes_on(rt: HostRuntime) {
+    let mut waiting = Waiting::new(rt.alloc()).expect(&rt, MEMORY);
+    let bytes = vec![in rt.alloc(); b'x'; 200_000].expect(&rt, MEMORY);
+    for _ in 0..2 {
+        waiting.write(bytes.as_slice()).expect(&rt, MEMORY);
+        let all = waiting.len();
+        assert!(rt; all == 200_000);
+        waiting.take(all);
+        assert!(rt; waiting.is_empty());
+    }
+}
+
+#[test]
+fn a_reader_is_ready_at_the_water_mark(rt: HostRuntime) {
+    let mut buffer = IoBuffer::new(rt.alloc()).expect(&rt, MEMORY);
+    let r = buffer.reader().expect(&rt, MEMORY);
+    assert!(rt; buffer.is_reader(r));
+    assert!(rt; buffer.water_mark() == 0 && !buffer.ready(r));
+    buffer.set_water_mark(3);
+    buffer.write(b"ab").expect(&rt, MEMORY);
+    assert!(rt; buffer.water_mark() == 3 && !buffer.ready(r));
+    buffer.write(b"c").expect(&rt, MEMORY);
+    assert!(rt; buffer.ready(r));
+    let stranger = ReaderId {
+        index: 0,
+        generation: 9,
+    };
+    assert!(rt; !buffer.is_reader(stranger));
+}
+
+#[test]
+fn a_body_is_taken_over(rt: HostRuntime) {
+    let mut buffer = IoBuffer::of_octets(rt.alloc(), octets(&rt, b"body")).expect(&rt, MEMORY);
+    let r = buffer.reader().expect(&rt, MEMORY);
+    buffer.write(b"!").expect(&rt, MEMORY);
+    assert!(rt; readable(&rt, &buffer, r).as_slice() == b"body!".as_slice());
+    let waiting = Waiting::of_octets(rt.alloc(), octets(&rt, b"body")).expect(&rt, MEMORY);
+    assert!(rt; waiting.block() == Some(b"body".as_slice()));
+}
+
+#[test]
+fn bytes_wait_in_order(rt: HostRuntime) {
+    let mut waiting = Waiting::new(rt.alloc()).expect(&rt, MEMORY);
+    assert!(rt; waiting.is_empty() && waiting.block().is_none());
+    waiting.write(b"abcd").expect(&rt, MEMORY);
+    assert!(rt; waiting.len() >= 2);
+    waiting.take(2);
+    let mut front = Vec::new(rt.alloc());
+    waiting.gather(1, &mut front).expect(&rt, MEMORY);
+    assert!(rt; front.as_slice() == b"c".as_slice());
+    assert!(rt; waiting.block() == Some(b"cd".as_slice()));
+}
