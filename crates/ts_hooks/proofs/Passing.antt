@@ -9,12 +9,16 @@ use Rattle.ts_hooks.specs.declared.hook.Hook.{Hook}
 
 -- a plugin of the hook that was not passed is the first of those that are left
 pub first_left : (hook : Hook) (plugins : List (Hook × ℕ)) (i : ℕ) (d : Hook × ℕ) → i < length plugins
-    → is_same (get_or plugins i d).0 hook ≡ true → slice_get (plugins_at hook (drop i plugins)) 0 ≡ Some (get_or plugins i d).1
+    → is_same (get_or plugins i d).0 hook ≡ true
+    → slice_get (plugins_at hook (drop i plugins)) 0 ≡ Some (get_or plugins i d).1
 first_left hook plugins i d within same =
     ap (λ ps. slice_get (plugins_at hook ps) 0) (drop-cons plugins i d within)
-    ∙ ap (λ b. slice_get (map (λ (p : Hook × ℕ). p.1) (cond b (get_or plugins i d ∷ filter (λ p. is_same p.0 hook) (drop (suc i) plugins)) (filter (λ p. is_same p.0 hook) (drop (suc i) plugins)))) 0) same
+    ∙ ap (λ b. slice_get (map (λ (p : Hook × ℕ). p.1)
+    (cond b (get_or plugins i d ∷ filter (λ p. is_same p.0 hook) (drop (suc i) plugins))
+    (filter (λ p. is_same p.0 hook) (drop (suc i) plugins)))) 0) same
 
 -- nothing is left once all were passed
-pub none_left : (hook : Hook) (plugins : List (Hook × ℕ)) (i left : ℕ) → length plugins ≤ i → left ≡ length (plugins_at hook (drop i plugins)) + left
+pub none_left : (hook : Hook) (plugins : List (Hook × ℕ)) (i left : ℕ) → length plugins ≤ i
+    → left ≡ length (plugins_at hook (drop i plugins)) + left
 none_left hook plugins i left past =
     sym (ap (λ ps. length (plugins_at hook ps) + left) (drop_of_length-le plugins past) ∙ zero-add left)

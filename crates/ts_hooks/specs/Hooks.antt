@@ -1,10 +1,12 @@
--- Which plugins a transaction asks at a hook, and in which order (Developer's Guide, "Hooks and Transactions").
+-- Which plugins a transaction asks at a hook, and in which order (Developer's Guide, "Hooks and
+-- Transactions").
 use Rattle.std.specs.Prelude.{◌≡◌, ℕ, ◌==◌, ◌+◌, Bool, List, [], ◌∷◌, ◌++◌, length, map, slice_get, Some, Result, Ok, Err}
 use Rattle.std.specs.List.{filter}
 use Rattle.ts_hooks.specs.declared.hook.Hook.{Hook}
 use Rattle.ts_hooks.specs.declared.hook.Hook.TheVariants as h
 
--- plugins with their hooks, in the order in which they were added: those of all transactions, and those of one
+-- plugins with their hooks, in the order in which they were added: those of all transactions, and those of
+-- one
 pub record HookPlugins : Type 0 where
   pub global : List (Hook × ℕ)
   pub txn : List (Hook × ℕ)

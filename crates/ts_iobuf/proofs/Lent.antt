@@ -9,7 +9,8 @@ use Rattle.std.proofs.lemmas.List.{take-take, take_at, drop_at, drop-take, take-
 -- the list with w written over the part from f on, as a `Vec` of this length holds it
 abbrev pub over : ℕ → List ℕ → List ℕ → List ℕ
 over f w items =
-    let written = take f items ++ (w ++ drop (length w) (drop f items)) in take (length items) (written ++ drop (length written) items)
+    let written = take f items ++ (w ++ drop (length w) (drop f items)) in take (length items)
+    (written ++ drop (length written) items)
 
 -- what stands before the part stays
 pub over-front : (f : ℕ) (w items : List ℕ) → f ≤ length items → take f (over f w items) ≡ take f items
@@ -18,9 +19,11 @@ over-front f w items within =
     let behind : List ℕ = drop (length written) items in
     take-take f (length items) (written ++ behind) within
     ∙ ap (take f) (append_assoc (take f items) (w ++ drop (length w) (drop f items)) behind)
-    ∙ take_at (take f items) ((w ++ drop (length w) (drop f items)) ++ behind) f (length-take-le f items within)
+    ∙ take_at (take f items) ((w ++ drop (length w) (drop f items)) ++ behind) f
+    (length-take-le f items within)
 
-same_front : (n : ℕ) (w rest : List ℕ) → take n (w ++ drop (length w) (take n rest)) ≡ take n (w ++ drop (length w) rest)
+same_front : (n : ℕ) (w rest : List ℕ)
+    → take n (w ++ drop (length w) (take n rest)) ≡ take n (w ++ drop (length w) rest)
 same_front zero w rest = refl
 same_front (suc n) [] rest = take-take (suc n) (suc n) rest (omega arith)
 same_front (suc n) (x ∷ w) [] = refl
@@ -33,7 +36,13 @@ over-room f n w items within =
     let part : List ℕ = w ++ drop (length w) (drop f items) in
     let behind : List ℕ = drop (length (take f items ++ part)) items in
     let all : f + (length items - f) ≡ length items = omega arith in
-    let long : n ≤ length part = omega (arith, length-append w (drop (length w) (drop f items)), length-drop (length w) (drop f items), length-drop f items) in
+    let long : n ≤ length part = omega (
+      arith,
+      length-append w (drop (length w) (drop f items)),
+      length-drop
+          (length w) (drop f items),
+      length-drop f items,
+    ) in
     let below : f ≤ length items = omega arith in
     ap (λ m. take n (drop f (take m ((take f items ++ part) ++ behind)))) (sym all)
     ∙ ap (take n) (drop-take f (length items - f) ((take f items ++ part) ++ behind))
@@ -54,13 +63,17 @@ made start readers mark front room = record {
 }
 
 -- a buffer whose room was written has the room as it was left, and all else as it was
-pub buffer_of-over : (start filled room : ℕ) (readers : List Slot) (mark : ℕ) (store w : List ℕ) → filled + room ≤ length store
+pub buffer_of-over : (start filled room : ℕ) (readers : List Slot) (mark : ℕ) (store w : List ℕ)
+    → filled + room ≤ length store
     → buffer_of start filled room readers mark (over filled w store)
-    ≡ record (buffer_of start filled room readers mark store) { room = written_over (take room (drop filled store)) w }
+    ≡ record (buffer_of start filled room readers mark store)
+    { room = written_over (take room (drop filled store)) w }
 buffer_of-over start filled room readers mark store w within =
     let whole : List ℕ = take room (drop filled store) in
-    let long : length whole ≡ room = length-take-le room (drop filled store) (omega (arith, length-drop filled store)) in
+    let long : length whole ≡ room = length-take-le room (drop filled store)
+    (omega (arith, length-drop filled store)) in
     let below : filled ≤ length store = omega arith in
-    ap (λ front. made start readers mark front (take room (drop filled (over filled w store)))) (over-front filled w store below)
+    ap (λ front. made start readers mark front (take room (drop filled (over filled w store))))
+    (over-front filled w store below)
     ∙ ap (made start readers mark (take filled store))
     (over-room filled room w store within ∙ ap (λ n. take n (w ++ drop (length w) whole)) (sym long))

@@ -8,7 +8,8 @@ use Rattle.ts_iobuf.specs.contracts.buffer.IoBuffer.{the_row}
 abbrev pub written_over : List ℕ → List ℕ → List ℕ
 written_over room w = take (length room) (w ++ drop (length w) room)
 
--- the buffer ends with the room as it was left, and all else as it was: `w` has the room's length, since a slice
+-- the buffer ends with the room as it was left, and all else as it was: `w` has the room's length, since a
+-- slice
 -- keeps its own
 abbrev pub LendsRoom : MutBor Buffer → MutBor (List ℕ) → Fml
 LendsRoom s r = Lends the_row (Array u8 0) s r (λ w. record s.now { room = written_over s.now.room w })

@@ -19,7 +19,8 @@ place_in slots r = place_at (slice_get slots r.index) r.generation
 
 -- the slots after a reader went n further
 abbrev pub moved : List Slot → ReaderId → ℕ → List Slot
-moved slots r n = slice_set slots r.index (record { generation = r.generation; place = Some (unwrap_or (place_in slots r) 0 + n) })
+moved slots r n = slice_set slots r.index (record
+    { generation = r.generation; place = Some (unwrap_or (place_in slots r) 0 + n) })
 
 abbrev pub least_of : Option ℕ → ℕ → ℕ
 least_of None most = most

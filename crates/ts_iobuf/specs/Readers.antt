@@ -1,5 +1,5 @@
 -- How the readers of a buffer come and go.
-use Rattle.std.specs.Prelude.{◌≡◌, ◌≢◌, ℕ, ◌<◌, ◌≤◌, ◌++◌, ◌∷◌, [], List, length, Option, Some, None, slice_get, slice_set}
+use Rattle.std.specs.Prelude.{◌≡◌, ◌≢◌, ℕ, ◌<◌, ◌≤◌, List, Option, Some, None, slice_get}
 use Rattle.ts_iobuf.specs.declared.readers.TheConstants.{LAST_GENERATION}
 use Rattle.ts_iobuf.specs.declared.readers.ReaderId.{ReaderId}
 use Rattle.ts_iobuf.specs.declared.readers.Slot.{Slot}
@@ -13,7 +13,8 @@ generation_of (Some s) = s.generation
 abbrev pub last_used : List Slot → ℕ → ℕ
 last_used slots i = generation_of (slice_get slots i)
 
--- The readers have one more, under a name that was not used. No index goes back to an earlier generation, so a name
+-- The readers have one more, under a name that was not used. No index goes back to an earlier generation, so
+-- a name
 -- is given once.
 pub record OpensReader (old new : List Slot) (r : ReaderId) : Type 0 where
   pub fresh : place_in old r ≡ None

@@ -1,5 +1,5 @@
 -- How the fields of a buffer are seen.
-use Rattle.std.specs.Prelude.{ℕ, ◌+◌, ◌-◌, ◌≤◌, List, take, drop, length}
+use Rattle.std.specs.Prelude.{ℕ, ◌+◌, ◌-◌, ◌≤◌, List, length}
 use Rattle.ts_iobuf.specs.declared.readers.Slot.{Slot}
 use Rattle.ts_iobuf.specs.declared.buffer.IoBuffer.TheInside.{Inside}
 use Rattle.ts_iobuf.specs.Buffer.{Buffer, one_block}

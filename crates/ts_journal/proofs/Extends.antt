@@ -12,9 +12,15 @@ pub same_trans : {a b c : Log} → IsSameLog a b → IsSameLog b c → IsSameLog
 same_trans p q = record { base = q.base ∙ p.base; entries = q.entries ∙ p.entries; state = q.state ∙ p.state }
 
 pub extends_none : (a b : Log) → IsSameLog a b → Extends a b []
-extends_none a b h = record { base = h.base; entries = h.entries ∙ sym (append-nil a.entries); lawful = tt; state = h.state }
+extends_none a b h = record {
+  base = h.base;
+  entries = h.entries ∙ sym (append-nil a.entries);
+  lawful = tt;
+  state = h.state;
+}
 
-pub extends_trans : {a b c : Log} {es fs : List Entry} → Extends a b es → Extends b c fs → Extends a c (es ++ fs)
+pub extends_trans : {a b c : Log} {es fs : List Entry} → Extends a b es → Extends b c fs
+    → Extends a c (es ++ fs)
 extends_trans {a} {b} {c} {es} {fs} p q = record {
   base = q.base ∙ p.base;
   entries = q.entries ∙ ap (λ xs. xs ++ fs) p.entries ∙ append_assoc a.entries es fs;
@@ -32,4 +38,9 @@ extends_after {a} {b} {c} {es} p q = record {
 }
 
 pub extends_before : {a b c : Log} {es : List Entry} → Extends a b es → IsSameLog b c → Extends a c es
-extends_before p q = record { base = q.base ∙ p.base; entries = q.entries ∙ p.entries; lawful = p.lawful; state = q.state ∙ p.state }
+extends_before p q = record {
+  base = q.base ∙ p.base;
+  entries = q.entries ∙ p.entries;
+  lawful = p.lawful;
+  state = q.state ∙ p.state;
+}

@@ -1,13 +1,13 @@
 -- No journal goes back, and what follows what follows a third follows that.
-use Rattle.std.proofs.Common.{◌≡◌, ℕ, ◌+◌, ◌<◌, ◌≤◌, ◌⊎◌, inl, inr, cond, eqb, List, [], ◌∷◌, ◌++◌, Some, None, refl, sym, ap, subst, ◌∙◌, arith}
+use Rattle.std.proofs.Common.{◌≡◌, ℕ, ◌+◌, ◌<◌, ◌≤◌, inl, inr, cond, eqb, List, [], ◌∷◌, ◌++◌, Some, None, refl, sym, ap, subst, ◌∙◌, arith}
 use Rattle.std.specs.Prelude.{unwrap_or}
-use Rattle.std.proofs.lemmas.Bool.{eq-eqb, ne_eqb, cond-true, cond-false}
+use Rattle.std.proofs.lemmas.Bool.{ne_eqb, cond-false}
 use Rattle.ts_journal.specs.declared.entry.ContKey.{ContKey}
 use Rattle.ts_journal.specs.declared.entry.Pending.{Pending}
 use Rattle.ts_journal.specs.declared.entry.Entry.{Entry}
 use Rattle.ts_journal.specs.declared.entry.Entry.TheVariants.{Took, Gave, Made, Set, Handled, Cancelled, Dropped, Destroyed}
 use Rattle.ts_journal.specs.State.{State, pending_at, without, generation_at, with_key, IsLive}
-use Rattle.ts_journal.specs.Machine.{Allowed, after, IsLawful, replay, IsValid}
+use Rattle.ts_journal.specs.Machine.{Allowed, after, replay, IsValid}
 use Rattle.ts_journal.specs.Log.{Log, Extends}
 use Rattle.ts_journal.specs.Later.{given_at, IsLater, NeverBack, Follows}
 use Rattle.ts_journal.proofs.Cases.{split, by_eq}
@@ -42,17 +42,20 @@ later_trans s t u a b = record {
 }
 
 -- an event that is set has another number than one that was closed
-pending_more : (n : ℕ) (ps : List Pending) (p : Pending) → (p.number ≡ n → ⊥) → pending_at n ps ≡ None → pending_at n (ps ++ p ∷ []) ≡ None
+pending_more : (n : ℕ) (ps : List Pending) (p : Pending) → (p.number ≡ n → ⊥) → pending_at n ps ≡ None
+    → pending_at n (ps ++ p ∷ []) ≡ None
 pending_more n [] p ne gone = cond-false (eqb p.number n) (Some p) None (ne_eqb p.number n ne)
 pending_more n (q ∷ ps) p ne gone =
-    split (eqb q.number n) (λ t. cond t (Some q) (pending_at n ps) ≡ None → cond t (Some q) (pending_at n (ps ++ p ∷ [])) ≡ None)
+    split (eqb q.number n) (λ t. cond t (Some q) (pending_at n ps) ≡ None → cond t (Some q)
+    (pending_at n (ps ++ p ∷ [])) ≡ None)
     (λ e some. absurd (cc)) (λ e some. pending_more n ps p ne some) gone
 
 -- an event that is closed makes no other one pending
 pending_less : (n m : ℕ) (ps : List Pending) → pending_at n ps ≡ None → pending_at n (without m ps) ≡ None
 pending_less n m [] gone = refl
 pending_less n m (q ∷ ps) gone =
-    split (eqb q.number n) (λ t. cond t (Some q) (pending_at n ps) ≡ None → eqb q.number n ≡ t → pending_at n (cond (eqb q.number m) ps (q ∷ without m ps)) ≡ None)
+    split (eqb q.number n) (λ t. cond t (Some q) (pending_at n ps) ≡ None → eqb q.number n ≡ t → pending_at n
+    (cond (eqb q.number m) ps (q ∷ without m ps)) ≡ None)
     (λ e some _. absurd (cc))
     (λ e none same.
     split (eqb q.number m) (λ t. pending_at n (cond t ps (q ∷ without m ps)) ≡ None)
@@ -61,8 +64,10 @@ pending_less n m (q ∷ ps) gone =
     gone refl
 
 -- an event that is closed, and what does not change then
-closes : (s t : State) (m : ℕ) → t.turns ≡ s.turns → t.next ≡ s.next → t.pending ≡ without m s.pending → t.live ≡ s.live → t.newest ≡ s.newest
-    → t.set_count ≡ s.set_count → s.handled_count ≤ t.handled_count → s.cancelled_count ≤ t.cancelled_count → s.dropped_count ≤ t.dropped_count → IsLater s t
+closes : (s t : State) (m : ℕ) → t.turns ≡ s.turns → t.next ≡ s.next → t.pending ≡ without m s.pending
+    → t.live ≡ s.live → t.newest ≡ s.newest
+    → t.set_count ≡ s.set_count → s.handled_count ≤ t.handled_count → s.cancelled_count ≤ t.cancelled_count
+    → s.dropped_count ≤ t.dropped_count → IsLater s t
 closes s t m turns next pending live newest set handled cancelled dropped = record {
   turns = omega arith;
   next = omega arith;
@@ -70,15 +75,20 @@ closes s t m turns next pending live newest set handled cancelled dropped = reco
   handled = handled;
   cancelled = cancelled;
   dropped = dropped;
-  given = λ i. subst (λ ks. unwrap_or (generation_at i s.newest) 0 ≤ unwrap_or (generation_at i ks) 0) (sym newest) (omega arith);
+  given = λ i. subst (λ ks. unwrap_or (generation_at i s.newest) 0 ≤ unwrap_or (generation_at i ks) 0)
+      (sym newest) (omega arith);
   closed = λ n below gone. ap (pending_at n) pending ∙ pending_less n m s.pending gone;
   dead = λ key past gone is. gone (subst (λ ks. IsLive ks key) live is);
 }
 
 -- a step, by what it changes
-steps : (s t : State) → s.turns ≤ t.turns → s.next ≤ t.next → s.set_count ≤ t.set_count → s.handled_count ≡ t.handled_count → s.cancelled_count ≡ t.cancelled_count → s.dropped_count ≡ t.dropped_count
-    → ((i : ℕ) → given_at i s ≤ given_at i t) → ((n : ℕ) → n < s.next → pending_at n s.pending ≡ None → pending_at n t.pending ≡ None)
-    → ((key : ContKey) → key.generation ≤ given_at key.index s → (IsLive s.live key → ⊥) → IsLive t.live key → ⊥) → IsLater s t
+steps : (s t : State) → s.turns ≤ t.turns → s.next ≤ t.next → s.set_count ≤ t.set_count
+    → s.handled_count ≡ t.handled_count → s.cancelled_count ≡ t.cancelled_count
+    → s.dropped_count ≡ t.dropped_count
+    → ((i : ℕ) → given_at i s ≤ given_at i t)
+    → ((n : ℕ) → n < s.next → pending_at n s.pending ≡ None → pending_at n t.pending ≡ None)
+    → ((key : ContKey) → key.generation ≤ given_at key.index s → (IsLive s.live key → ⊥) → IsLive t.live key →
+    ⊥) → IsLater s t
 steps s t turns next set handled cancelled dropped given closed dead = record {
   turns = turns;
   next = next;
@@ -92,38 +102,56 @@ steps s t turns next set handled cancelled dropped given closed dead = record {
 }
 
 -- the new key is the newest of its index
-made_given : (s : State) (key : ContKey) (i : ℕ) → key.generation ≡ given_at key.index s + 1 → unwrap_or (generation_at i s.newest) 0 ≤ unwrap_or (generation_at i (with_key key s.newest)) 0
+made_given : (s : State) (key : ContKey) (i : ℕ) → key.generation ≡ given_at key.index s + 1
+    → unwrap_or (generation_at i s.newest) 0 ≤ unwrap_or (generation_at i (with_key key s.newest)) 0
 made_given s key i next =
-    by_eq key.index i (λ t. generation_at i (with_key key s.newest) ≡ cond t (Some key.generation) (generation_at i s.newest) → unwrap_or (generation_at i s.newest) 0 ≤ unwrap_or (generation_at i (with_key key s.newest)) 0)
-    (λ e is. let g : unwrap_or (generation_at i (with_key key s.newest)) 0 ≡ key.generation = ap (λ o. unwrap_or o 0) is in let h : given_at key.index s ≡ given_at i s = ap (λ j. given_at j s) e in omega arith)
-    (λ f is. let g : unwrap_or (generation_at i (with_key key s.newest)) 0 ≡ unwrap_or (generation_at i s.newest) 0 = ap (λ o. unwrap_or o 0) is in omega arith)
+    by_eq key.index i (λ t. generation_at i (with_key key s.newest) ≡ cond t (Some key.generation)
+    (generation_at i s.newest) → unwrap_or (generation_at i s.newest) 0 ≤ unwrap_or
+    (generation_at i (with_key key s.newest)) 0)
+    (λ e is. let g : unwrap_or (generation_at i (with_key key s.newest)) 0 ≡ key.generation = ap
+    (λ o. unwrap_or o 0) is in let h : given_at key.index s ≡ given_at i s = ap (λ j. given_at j s) e in
+    omega arith)
+    (λ f is. let g : unwrap_or (generation_at i (with_key key s.newest)) 0 ≡ unwrap_or
+    (generation_at i s.newest) 0 = ap (λ o. unwrap_or o 0) is in omega arith)
     (generation_with i key s.newest)
 
 pub later_after : (s : State) (e : Entry) → IsValid s → Allowed s e → IsLater s (after s e)
 later_after s (Took turn seat) v a =
-    steps s (after s (Took turn seat)) (let t = a.1 in omega arith) (omega arith) (omega arith) refl refl refl (λ i. omega arith) (λ n below gone. gone) (λ k past gone live. gone live)
+    steps s (after s (Took turn seat)) (let t = a.1 in omega arith) (omega arith) (omega arith) refl refl refl
+    (λ i. omega arith) (λ n below gone. gone) (λ k past gone live. gone live)
 later_after s (Gave turn) v a =
-    steps s (after s (Gave turn)) (omega arith) (omega arith) (omega arith) refl refl refl (λ i. omega arith) (λ n below gone. gone) (λ k past gone live. gone live)
+    steps s (after s (Gave turn)) (omega arith) (omega arith) (omega arith) refl refl refl (λ i. omega arith)
+    (λ n below gone. gone) (λ k past gone live. gone live)
 later_after s (Set number key event due series period) v a =
-    steps s (after s (Set number key event due series period)) (omega arith) (omega arith) (omega arith) refl refl refl (λ i. omega arith)
-    (λ n below gone. pending_more n s.pending _ (λ e. let t = a.1 in omega arith) gone) (λ k past gone live. gone live)
-later_after s (Handled number moment) v a = closes s (after s (Handled number moment)) number refl refl refl refl refl refl (omega arith) (omega arith) (omega arith)
-later_after s (Cancelled number) v a = closes s (after s (Cancelled number)) number refl refl refl refl refl refl (omega arith) (omega arith) (omega arith)
-later_after s (Dropped number) v a = closes s (after s (Dropped number)) number refl refl refl refl refl refl (omega arith) (omega arith) (omega arith)
+    steps s (after s (Set number key event due series period)) (omega arith) (omega arith) (omega arith) refl
+    refl refl (λ i. omega arith)
+    (λ n below gone. pending_more n s.pending _ (λ e. let t = a.1 in omega arith) gone)
+    (λ k past gone live. gone live)
+later_after s (Handled number moment) v a = closes s (after s (Handled number moment)) number refl refl refl
+    refl refl refl (omega arith) (omega arith) (omega arith)
+later_after s (Cancelled number) v a = closes s (after s (Cancelled number)) number refl refl refl refl refl
+    refl (omega arith) (omega arith) (omega arith)
+later_after s (Dropped number) v a = closes s (after s (Dropped number)) number refl refl refl refl refl refl
+    (omega arith) (omega arith) (omega arith)
 later_after s (Destroyed key) v a =
-    steps s (after s (Destroyed key)) (omega arith) (omega arith) (omega arith) refl refl refl (λ i. omega arith) (λ n below gone. gone)
+    steps s (after s (Destroyed key)) (omega arith) (omega arith) (omega arith) refl refl refl
+    (λ i. omega arith) (λ n below gone. gone)
     (λ k past gone live. gone (live_before s.newest s.live key k v.newest live).0)
 later_after s (Made key) v (held, low, free, next, fits) =
-    steps s (after s (Made key)) (omega arith) (omega arith) (omega arith) refl refl refl (λ i. made_given s key i next) (λ n below gone. gone)
+    steps s (after s (Made key)) (omega arith) (omega arith) (omega arith) refl refl refl
+    (λ i. made_given s key i next) (λ n below gone. gone)
     (λ k past gone live. elim (made_before s.live key k free live) [
       | inl before ↦ gone before
-      | inr same ↦ let g : key.generation ≡ k.generation = ap (λ q. q.generation) same in let h : given_at key.index s ≡ given_at k.index s = ap (λ (q : ContKey). given_at q.index s) same in absurd (omega arith)
+      | inr same ↦ let g : key.generation ≡ k.generation = ap (λ q. q.generation) same in let h : given_at
+          key.index s ≡ given_at k.index s = ap (λ (q : ContKey). given_at q.index s) same in absurd
+          (omega arith)
     ])
 
 pub never_back_lem : NeverBack
 never_back_lem base [] v h = later_refl base
 never_back_lem base (e ∷ es) v (a, rest) =
-    later_trans base (after base e) (replay (after base e) es) (later_after base e v a) (never_back_lem (after base e) es (valid_after base e v a) rest)
+    later_trans base (after base e) (replay (after base e) es) (later_after base e v a)
+    (never_back_lem (after base e) es (valid_after base e v a) rest)
 
 pub follows_refl : (t : ℕ × State) → Follows t t
 follows_refl t = inr (refl, later_refl t.1)
@@ -138,8 +166,11 @@ follows_trans t u v a b = elim a [
 ]
 
 -- a journal that goes on follows
-pub extends_later : (old new : Log) (added : List Entry) → IsValid old.state → Extends old new added → IsLater old.state new.state
-extends_later old new added v e = subst (IsLater old.state) (sym e.state) (never_back_lem old.state added v e.lawful)
+pub extends_later : (old new : Log) (added : List Entry) → IsValid old.state → Extends old new added
+    → IsLater old.state new.state
+extends_later old new added v e = subst (IsLater old.state) (sym e.state)
+    (never_back_lem old.state added v e.lawful)
 
-pub extends_follows : (old new : Log) (added : List Entry) → IsValid old.state → Extends old new added → Follows (new.base.turns, new.state) (old.base.turns, old.state)
+pub extends_follows : (old new : Log) (added : List Entry) → IsValid old.state → Extends old new added
+    → Follows (new.base.turns, new.state) (old.base.turns, old.state)
 extends_follows old new added v e = inr (ap (λ s. s.turns) e.base, extends_later old new added v e)

@@ -8,7 +8,8 @@ pub replay-append : (s : State) (es fs : List Entry) → replay s (es ++ fs) ≡
 replay-append s [] fs = refl
 replay-append s (e ∷ es) fs = replay-append (after s e) es fs
 
-pub lawful_append : (s : State) (es fs : List Entry) → IsLawful s es → IsLawful (replay s es) fs → IsLawful s (es ++ fs)
+pub lawful_append : (s : State) (es fs : List Entry) → IsLawful s es → IsLawful (replay s es) fs
+    → IsLawful s (es ++ fs)
 lawful_append s [] fs h k = k
 lawful_append s (e ∷ es) fs (a, b) k = (a, lawful_append (after s e) es fs b k)
 
@@ -21,5 +22,6 @@ lawful_back s [] fs h = h
 lawful_back s (e ∷ es) fs (a, b) = lawful_back (after s e) es fs b
 
 -- one entry more
-pub lawful_push : (s : State) (es : List Entry) (e : Entry) → IsLawful s es → Allowed (replay s es) e → IsLawful s (es ++ e ∷ [])
+pub lawful_push : (s : State) (es : List Entry) (e : Entry) → IsLawful s es → Allowed (replay s es) e
+    → IsLawful s (es ++ e ∷ [])
 lawful_push s es e h a = lawful_append s es (e ∷ []) h (a, tt)

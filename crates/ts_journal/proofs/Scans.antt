@@ -1,6 +1,6 @@
 -- A loop that looks for an event or a key: what it passed is none of the front.
-use Rattle.std.proofs.Common.{◌≡◌, ℕ, ◌+◌, ◌<◌, suc, List, [], ◌∷◌, ◌++◌, Some, length, get_or, take, drop, eqb, sym, ap, ◌∙◌, append_assoc, arith}
-use Rattle.std.proofs.lemmas.List.{drop_more, take_more}
+use Rattle.std.proofs.Common.{◌≡◌, ℕ, ◌+◌, ◌<◌, suc, List, ◌∷◌, ◌++◌, Some, length, get_or, take, drop, eqb, sym, ap, ◌∙◌, arith}
+use Rattle.std.proofs.lemmas.List.{drop_more}
 use Rattle.std.proofs.lemmas.Bool.{cond-true, cond-false, eq-eqb, ne_eqb}
 use Rattle.std.specs.List.{remove, slice_get}
 use Rattle.std.proofs.lemmas.Option.{slice_get-get_or}
@@ -11,66 +11,91 @@ use Rattle.ts_journal.specs.declared.entry.ContKey.{ContKey}
 use Rattle.ts_journal.specs.declared.entry.Pending.{Pending}
 use Rattle.ts_journal.specs.State.{pending_at, without, generation_at, without_index, with_key}
 
-pub pending_past : (n : ℕ) (ps : List Pending) (i : ℕ) (d : Pending) → i < length ps → ((get_or ps i d).number ≡ n → ⊥) → pending_at n (drop (i + 1) ps) ≡ pending_at n (drop i ps)
+pub pending_past : (n : ℕ) (ps : List Pending) (i : ℕ) (d : Pending) → i < length ps
+    → ((get_or ps i d).number ≡ n → ⊥) → pending_at n (drop (i + 1) ps) ≡ pending_at n (drop i ps)
 pending_past n ps i d h ne =
-    sym (ap (pending_at n) (drop_more ps i d h) ∙ cond-false (eqb (get_or ps i d).number n) (Some (get_or ps i d)) (pending_at n (drop (i + 1) ps)) (ne_eqb _ _ ne))
+    sym (ap (pending_at n) (drop_more ps i d h) ∙ cond-false (eqb (get_or ps i d).number n)
+    (Some (get_or ps i d)) (pending_at n (drop (i + 1) ps)) (ne_eqb _ _ ne))
 
-pub pending_here : (n : ℕ) (ps : List Pending) (i : ℕ) (d : Pending) → i < length ps → (get_or ps i d).number ≡ n → pending_at n (drop i ps) ≡ Some (get_or ps i d)
+pub pending_here : (n : ℕ) (ps : List Pending) (i : ℕ) (d : Pending) → i < length ps
+    → (get_or ps i d).number ≡ n → pending_at n (drop i ps) ≡ Some (get_or ps i d)
 pending_here n ps i d h e =
-    ap (pending_at n) (drop_more ps i d h) ∙ cond-true (eqb (get_or ps i d).number n) (Some (get_or ps i d)) (pending_at n (drop (i + 1) ps)) (eq-eqb _ _ e)
+    ap (pending_at n) (drop_more ps i d h) ∙ cond-true (eqb (get_or ps i d).number n) (Some (get_or ps i d))
+    (pending_at n (drop (i + 1) ps)) (eq-eqb _ _ e)
 
-pub item_here : (n : ℕ) (ps : List Pending) (i : ℕ) (d : Pending) → i < length ps → (get_or ps i d).number ≡ n → slice_get ps i ≡ pending_at n (drop i ps)
+pub item_here : (n : ℕ) (ps : List Pending) (i : ℕ) (d : Pending) → i < length ps → (get_or ps i d).number ≡ n
+    → slice_get ps i ≡ pending_at n (drop i ps)
 item_here n ps i d h e = slice_get-get_or ps i d h ∙ sym (pending_here n ps i d h e)
 
 -- one element more of the front
-pub without_past : (n : ℕ) (ps : List Pending) (i : ℕ) (d : Pending) → i < length ps → ((get_or ps i d).number ≡ n → ⊥) → take (i + 1) ps ++ without n (drop (i + 1) ps) ≡ take i ps ++ without n (drop i ps)
+pub without_past : (n : ℕ) (ps : List Pending) (i : ℕ) (d : Pending) → i < length ps
+    → ((get_or ps i d).number ≡ n → ⊥) → take (i + 1) ps ++ without n (drop (i + 1) ps) ≡ take i ps ++ without
+    n (drop i ps)
 without_past n ps i d h ne =
     let rest = without n (drop (i + 1) ps) in
     let p = get_or ps i d in
-    let here : without n (drop i ps) ≡ p ∷ rest = ap (without n) (drop_more ps i d h) ∙ cond-false (eqb p.number n) (drop (i + 1) ps) (p ∷ rest) (ne_eqb _ _ ne) in
+    let here : without n (drop i ps) ≡ p ∷ rest = ap (without n) (drop_more ps i d h) ∙ cond-false
+    (eqb p.number n) (drop (i + 1) ps) (p ∷ rest) (ne_eqb _ _ ne) in
     take_more_before ps i d rest h ∙ sym (ap (λ zs. take i ps ++ zs) here)
 
-pub without_here : (n : ℕ) (ps : List Pending) (i : ℕ) (d : Pending) → i < length ps → (get_or ps i d).number ≡ n → remove ps i ≡ take i ps ++ without n (drop i ps)
+pub without_here : (n : ℕ) (ps : List Pending) (i : ℕ) (d : Pending) → i < length ps
+    → (get_or ps i d).number ≡ n → remove ps i ≡ take i ps ++ without n (drop i ps)
 without_here n ps i d h e =
     let p = get_or ps i d in
-    let here : without n (drop i ps) ≡ drop (i + 1) ps = ap (without n) (drop_more ps i d h) ∙ cond-true (eqb p.number n) (drop (i + 1) ps) (p ∷ without n (drop (i + 1) ps)) (eq-eqb _ _ e) in
+    let here : without n (drop i ps) ≡ drop (i + 1) ps = ap (without n) (drop_more ps i d h) ∙ cond-true
+    (eqb p.number n) (drop (i + 1) ps) (p ∷ without n (drop (i + 1) ps)) (eq-eqb _ _ e) in
     let j : suc i ≡ i + 1 = omega arith in
     ap (λ k. take i ps ++ drop k ps) j ∙ sym (ap (λ zs. take i ps ++ zs) here)
 
-pub generation_past : (n : ℕ) (ks : List ContKey) (i : ℕ) (d : ContKey) → i < length ks → ((get_or ks i d).index ≡ n → ⊥) → generation_at n (drop (i + 1) ks) ≡ generation_at n (drop i ks)
+pub generation_past : (n : ℕ) (ks : List ContKey) (i : ℕ) (d : ContKey) → i < length ks
+    → ((get_or ks i d).index ≡ n → ⊥) → generation_at n (drop (i + 1) ks) ≡ generation_at n (drop i ks)
 generation_past n ks i d h ne =
-    sym (ap (generation_at n) (drop_more ks i d h) ∙ cond-false (eqb (get_or ks i d).index n) (Some (get_or ks i d).generation) (generation_at n (drop (i + 1) ks)) (ne_eqb _ _ ne))
+    sym (ap (generation_at n) (drop_more ks i d h) ∙ cond-false (eqb (get_or ks i d).index n)
+    (Some (get_or ks i d).generation) (generation_at n (drop (i + 1) ks)) (ne_eqb _ _ ne))
 
-pub generation_here : (n : ℕ) (ks : List ContKey) (i : ℕ) (d : ContKey) → i < length ks → (get_or ks i d).index ≡ n → generation_at n (drop i ks) ≡ Some (get_or ks i d).generation
+pub generation_here : (n : ℕ) (ks : List ContKey) (i : ℕ) (d : ContKey) → i < length ks
+    → (get_or ks i d).index ≡ n → generation_at n (drop i ks) ≡ Some (get_or ks i d).generation
 generation_here n ks i d h e =
-    ap (generation_at n) (drop_more ks i d h) ∙ cond-true (eqb (get_or ks i d).index n) (Some (get_or ks i d).generation) (generation_at n (drop (i + 1) ks)) (eq-eqb _ _ e)
+    ap (generation_at n) (drop_more ks i d h) ∙ cond-true (eqb (get_or ks i d).index n)
+    (Some (get_or ks i d).generation) (generation_at n (drop (i + 1) ks)) (eq-eqb _ _ e)
 
-pub index_past : (n : ℕ) (ks : List ContKey) (i : ℕ) (d : ContKey) → i < length ks → ((get_or ks i d).index ≡ n → ⊥) → take (i + 1) ks ++ without_index n (drop (i + 1) ks) ≡ take i ks ++ without_index n (drop i ks)
+pub index_past : (n : ℕ) (ks : List ContKey) (i : ℕ) (d : ContKey) → i < length ks
+    → ((get_or ks i d).index ≡ n → ⊥) → take (i + 1) ks ++ without_index n (drop (i + 1) ks) ≡ take i ks ++
+    without_index n (drop i ks)
 index_past n ks i d h ne =
     let rest = without_index n (drop (i + 1) ks) in
     let k = get_or ks i d in
-    let here : without_index n (drop i ks) ≡ k ∷ rest = ap (without_index n) (drop_more ks i d h) ∙ cond-false (eqb k.index n) (drop (i + 1) ks) (k ∷ rest) (ne_eqb _ _ ne) in
+    let here : without_index n (drop i ks) ≡ k ∷ rest = ap (without_index n) (drop_more ks i d h) ∙ cond-false
+    (eqb k.index n) (drop (i + 1) ks) (k ∷ rest) (ne_eqb _ _ ne) in
     take_more_before ks i d rest h ∙ sym (ap (λ zs. take i ks ++ zs) here)
 
-pub index_here : (n : ℕ) (ks : List ContKey) (i : ℕ) (d : ContKey) → i < length ks → (get_or ks i d).index ≡ n → remove ks i ≡ take i ks ++ without_index n (drop i ks)
+pub index_here : (n : ℕ) (ks : List ContKey) (i : ℕ) (d : ContKey) → i < length ks → (get_or ks i d).index ≡ n
+    → remove ks i ≡ take i ks ++ without_index n (drop i ks)
 index_here n ks i d h e =
     let k = get_or ks i d in
-    let here : without_index n (drop i ks) ≡ drop (i + 1) ks = ap (without_index n) (drop_more ks i d h) ∙ cond-true (eqb k.index n) (drop (i + 1) ks) (k ∷ without_index n (drop (i + 1) ks)) (eq-eqb _ _ e) in
+    let here : without_index n (drop i ks) ≡ drop (i + 1) ks = ap (without_index n) (drop_more ks i d h) ∙
+    cond-true (eqb k.index n) (drop (i + 1) ks) (k ∷ without_index n (drop (i + 1) ks)) (eq-eqb _ _ e) in
     let j : suc i ≡ i + 1 = omega arith in
     ap (λ k. take i ks ++ drop k ks) j ∙ sym (ap (λ zs. take i ks ++ zs) here)
 
 -- the same for a key that is put at its place
-pub put_past : (key : ContKey) (ks : List ContKey) (i : ℕ) (d : ContKey) → i < length ks → ((get_or ks i d).index ≡ key.index → ⊥) → take (i + 1) ks ++ with_key key (drop (i + 1) ks) ≡ take i ks ++ with_key key (drop i ks)
+pub put_past : (key : ContKey) (ks : List ContKey) (i : ℕ) (d : ContKey) → i < length ks
+    → ((get_or ks i d).index ≡ key.index → ⊥)
+    → take (i + 1) ks ++ with_key key (drop (i + 1) ks) ≡ take i ks ++ with_key key (drop i ks)
 put_past key ks i d h ne =
     let rest = with_key key (drop (i + 1) ks) in
     let k = get_or ks i d in
-    let here : with_key key (drop i ks) ≡ k ∷ rest = ap (with_key key) (drop_more ks i d h) ∙ cond-false (eqb k.index key.index) (key ∷ drop (i + 1) ks) (k ∷ rest) (ne_eqb _ _ ne) in
+    let here : with_key key (drop i ks) ≡ k ∷ rest = ap (with_key key) (drop_more ks i d h) ∙ cond-false
+    (eqb k.index key.index) (key ∷ drop (i + 1) ks) (k ∷ rest) (ne_eqb _ _ ne) in
     take_more_before ks i d rest h ∙ sym (ap (λ zs. take i ks ++ zs) here)
 
-pub put_here : (key : ContKey) (ks : List ContKey) (i : ℕ) (d : ContKey) → i < length ks → (get_or ks i d).index ≡ key.index → slice_set ks i key ≡ take i ks ++ with_key key (drop i ks)
+pub put_here : (key : ContKey) (ks : List ContKey) (i : ℕ) (d : ContKey) → i < length ks
+    → (get_or ks i d).index ≡ key.index → slice_set ks i key ≡ take i ks ++ with_key key (drop i ks)
 put_here key ks i d h e =
     let k = get_or ks i d in
-    let here : with_key key (drop i ks) ≡ key ∷ drop (i + 1) ks = ap (with_key key) (drop_more ks i d h) ∙ cond-true (eqb k.index key.index) (key ∷ drop (i + 1) ks) (k ∷ with_key key (drop (i + 1) ks)) (eq-eqb _ _ e) in
+    let here : with_key key (drop i ks) ≡ key ∷ drop (i + 1) ks = ap (with_key key) (drop_more ks i d h) ∙
+    cond-true (eqb k.index key.index) (key ∷ drop (i + 1) ks) (k ∷ with_key key (drop (i + 1) ks))
+    (eq-eqb _ _ e) in
     let j : suc i ≡ i + 1 = omega arith in
     set_split ks i key h ∙ ap (λ m. take i ks ++ (key ∷ drop m ks)) j ∙ sym (ap (λ zs. take i ks ++ zs) here)
 

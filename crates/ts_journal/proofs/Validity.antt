@@ -13,27 +13,52 @@ use Rattle.ts_journal.proofs.Lawful.{replay-append, lawful_push}
 use Rattle.ts_journal.proofs.Events.{rises_push, rises_without, length_without, alive_less, alive_push, alive_more, alive_destroyed, begun_push, begun_without}
 
 -- what closes an event keeps the sum of the counts
-balance_closed : (s : State) (n : ℕ) (p : Pending) (handled cancelled dropped k : ℕ) → Balances s → pending_at n s.pending ≡ Some p → k + 1 ≡ length s.pending
-    → handled + cancelled + dropped ≡ s.handled_count + s.cancelled_count + s.dropped_count + 1 → s.set_count ≡ handled + cancelled + dropped + k
+balance_closed : (s : State) (n : ℕ) (p : Pending) (handled cancelled dropped k : ℕ) → Balances s
+    → pending_at n s.pending ≡ Some p → k + 1 ≡ length s.pending
+    → handled + cancelled + dropped ≡ s.handled_count + s.cancelled_count + s.dropped_count + 1
+    → s.set_count ≡ handled + cancelled + dropped + k
 balance_closed s n p handled cancelled dropped k b h l c = omega arith
 
 pub balance_after : (s : State) (e : Entry) → Balances s → Allowed s e → Balances (after s e)
 balance_after s (Took turn seat) b a = b
 balance_after s (Gave turn) b a = b
 balance_after s (Made key) b a = b
-balance_after s (Set number key event due series period) b a = let l = length_push s.pending (record { number = number; key = key; event = event; due = due; series = series; period = period }) in omega arith
-balance_after s (Handled number moment) b (held, p, there, due) = let l = length_without number s.pending p there in omega arith
-balance_after s (Cancelled number) b (held, p, there) = let l = length_without number s.pending p there in omega arith
-balance_after s (Dropped number) b (held, p, there) = let l = length_without number s.pending p there in omega arith
+balance_after s (Set number key event due series period) b a = let l = length_push s.pending
+    (record { number = number; key = key; event = event; due = due; series = series; period = period }) in
+    omega arith
+balance_after s (Handled number moment) b (held, p, there, due) = let l = length_without number s.pending p
+    there in omega arith
+balance_after s (Cancelled number) b (held, p, there) = let l = length_without number s.pending p there in
+    omega arith
+balance_after s (Dropped number) b (held, p, there) = let l = length_without number s.pending p there in omega
+    arith
 balance_after s (Destroyed key) b a = b
 
-series_before : (s : State) (key : ContKey) (series period number : ℕ) → MayBelong s (record { key = key; series = series; period = period }) number → series ≤ number
+series_before : (s : State) (key : ContKey) (series period number : ℕ)
+    → MayBelong s (record { key = key; series = series; period = period }) number → series ≤ number
 series_before s key series period number (inl e) = omega arith
 series_before s key series period number (inr (l, rest, more)) = omega arith
 
 pub valid_after : (s : State) (e : Entry) → IsValid s → Allowed s e → IsValid (after s e)
-valid_after s (Took turn seat) v a = record { rises = v.rises; alive = v.alive; newest = v.newest; begun = v.begun; counts = v.counts; few = v.few; fits = v.fits }
-valid_after s (Gave turn) v a = record { rises = v.rises; alive = v.alive; newest = v.newest; begun = v.begun; counts = v.counts; few = v.few; fits = v.fits }
+valid_after s (Took turn seat) v a = record {
+  rises = v.rises;
+  alive = v.alive;
+  newest = v.newest;
+  begun =
+      v.begun;
+  counts = v.counts;
+  few = v.few;
+  fits = v.fits;
+}
+valid_after s (Gave turn) v a = record {
+  rises = v.rises;
+  alive = v.alive;
+  newest = v.newest;
+  begun = v.begun;
+  counts = v.counts;
+  few = v.few;
+  fits = v.fits;
+}
 valid_after s (Made key) v (held, low, free, next, fits) = record {
   rises = v.rises;
   alive = alive_more s.live key s.pending v.alive;
@@ -44,7 +69,15 @@ valid_after s (Made key) v (held, low, free, next, fits) = record {
   fits = v.fits;
 }
 valid_after s (Set number key event due series period) v a =
-    let p : Pending = record { number = number; key = key; event = event; due = due; series = series; period = period } in
+    let p : Pending = record {
+      number = number;
+      key = key;
+      event = event;
+      due = due;
+      series = series;
+      period =
+          period;
+    } in
     record {
       rises = rises_push 0 s.pending s.next p a.1 v.rises;
       alive = alive_push s.live s.pending p v.alive a.3;
@@ -96,28 +129,60 @@ valid_replay s [] v h = v
 valid_replay s (e ∷ es) v (a, b) = valid_replay (after s e) es (valid_after s e v a) b
 
 pub valid_fresh : (turns : ℕ) → IsValid (fresh turns)
-valid_fresh turns = record { rises = omega arith; alive = tt; newest = tt; begun = tt; counts = refl; few = omega arith; fits = omega arith }
+valid_fresh turns = record {
+  rises = omega arith;
+  alive = tt;
+  newest = tt;
+  begun = tt;
+  counts = refl;
+  few =
+      omega arith;
+  fits = omega arith;
+}
 
 pub valid_fresh_with : (turns : ℕ) (key : ContKey) → key.index < MOST_KEYS → IsValid (fresh_with turns key)
-valid_fresh_with turns key low = record { rises = omega arith; alive = tt; newest = grind (arith); begun = tt; counts = refl; few = omega arith; fits = omega arith }
+valid_fresh_with turns key low = record {
+  rises = omega arith;
+  alive = tt;
+  newest = grind (arith);
+  begun = tt;
+  counts = refl;
+  few = omega arith;
+  fits = omega arith;
+}
 
 pub reached_fresh : (base s : State) (turns : ℕ) → base ≡ fresh turns → s ≡ fresh turns → IsReached base [] s
 reached_fresh base s turns b e =
     let v = valid_fresh turns in
-    record { lawful = tt; state = e ∙ sym b; valid_base = subst (λ x. IsValid x) (sym b) v; valid = subst (λ x. IsValid x) (sym e) v }
+    record {
+      lawful = tt;
+      state = e ∙ sym b;
+      valid_base = subst (λ x. IsValid x) (sym b) v;
+      valid = subst
+          (λ x. IsValid x) (sym e) v;
+    }
 
-pub reached_fresh_with : (base s : State) (turns : ℕ) (key : ContKey) → key.index < MOST_KEYS → base ≡ fresh_with turns key → s ≡ fresh_with turns key → IsReached base [] s
+pub reached_fresh_with : (base s : State) (turns : ℕ) (key : ContKey) → key.index < MOST_KEYS
+    → base ≡ fresh_with turns key → s ≡ fresh_with turns key → IsReached base [] s
 reached_fresh_with base s turns key low b e =
     let v = valid_fresh_with turns key low in
-    record { lawful = tt; state = e ∙ sym b; valid_base = subst (λ x. IsValid x) (sym b) v; valid = subst (λ x. IsValid x) (sym e) v }
+    record {
+      lawful = tt;
+      state = e ∙ sym b;
+      valid_base = subst (λ x. IsValid x) (sym b) v;
+      valid = subst
+          (λ x. IsValid x) (sym e) v;
+    }
 
 -- one entry more
-pub reached_push : (base : State) (es fs : List Entry) (e : Entry) (s t : State) → IsReached base es s → Allowed s e → fs ≡ es ++ e ∷ [] → t ≡ after s e → IsReached base fs t
+pub reached_push : (base : State) (es fs : List Entry) (e : Entry) (s t : State) → IsReached base es s
+    → Allowed s e → fs ≡ es ++ e ∷ [] → t ≡ after s e → IsReached base fs t
 reached_push base es fs e s t r a f g =
     let at_end : Allowed (replay base es) e = subst (λ x. Allowed x e) r.state a in
     record {
       lawful = subst (λ x. IsLawful base x) (sym f) (lawful_push base es e r.lawful at_end);
-      state = g ∙ ap (λ x. after x e) r.state ∙ sym (replay-append base es (e ∷ [])) ∙ ap (λ x. replay base x) (sym f);
+      state = g ∙ ap (λ x. after x e) r.state ∙ sym (replay-append base es (e ∷ [])) ∙ ap (λ x. replay base x)
+          (sym f);
       valid_base = r.valid_base;
       valid = subst (λ x. IsValid x) (sym g) (valid_after s e r.valid a);
     }

@@ -12,22 +12,26 @@ later_falls m n [] h = omega arith
 later_falls m n (k ∷ ns) h = grind (arith, later_falls m n ns h)
 
 -- and fewer, where the next one is a number of the list
-pub later_listed : (made : ℕ) (ns : List ℕ) → list_any (λ n. n == made + 1) ns ≡ true → later (made + 1) ns < later made ns
+pub later_listed : (made : ℕ) (ns : List ℕ) → list_any (λ n. n == made + 1) ns ≡ true
+    → later (made + 1) ns < later made ns
 later_listed made [] e = let none : ⊥ = cc in absurd none
 later_listed made (k ∷ ns) e =
     let fewer : later (made + 1) ns ≤ later made ns = later_falls made (made + 1) ns (omega arith) in
-    let rest : list_any (λ n. n == made + 1) ns ≡ true → later (made + 1) ns < later made ns = later_listed made ns in
+    let rest : list_any (λ n. n == made + 1) ns ≡ true
+    → later (made + 1) ns < later made ns = later_listed made ns in
     grind (arith, fewer, rest, e)
 
 pub waits_fall : (c : Numbered) → c.made ≤ greatest → waits_left (after_call c) ≤ waits_left c
 waits_fall c h = later_falls c.made (one_more c.made) c.again (omega arith)
 
-at_limit : (made : ℕ) (numbers : List ℕ) (b : Bool) → b ≡ (made == greatest) → cond b false (list_any (λ n. n == made + 1) numbers) ≡ true
+at_limit : (made : ℕ) (numbers : List ℕ) (b : Bool) → b ≡ (made == greatest)
+    → cond b false (list_any (λ n. n == made + 1) numbers) ≡ true
     → (made ≡ greatest → ⊥) × (list_any (λ n. n == made + 1) numbers ≡ true)
 at_limit made numbers true e h = let none : ⊥ = cc in absurd none
 at_limit made numbers false e h = (false-eqb made greatest e, h)
 
-pub waits_listed : (c : Numbered) → c.made ≤ greatest → is_listed c.made c.again ≡ true → waits_left (after_call c) < waits_left c
+pub waits_listed : (c : Numbered) → c.made ≤ greatest → is_listed c.made c.again ≡ true
+    → waits_left (after_call c) < waits_left c
 waits_listed c h e =
     let known = at_limit c.made c.again (c.made == greatest) refl e in
     let other : c.made ≡ greatest → ⊥ = known.0 in

@@ -5,7 +5,7 @@ use Rattle.std.proofs.lemmas.List.{append-nil}
 use Rattle.ts_link.specs.Counts.{Counted, greatest, one_more_if}
 use Rattle.ts_link.specs.Inputs.{Input, bytes_of, given_of, stalled_reads, next_answer, next_ahead}
 use Rattle.ts_link.specs.InputView.{IsSoundInput}
-use Rattle.ts_link.specs.Link.{AgainsFall, MayReplace, GivesMore, Calls, IsSure, IsSurePlan, NeverStalls, Reads, ReadsSurely}
+use Rattle.ts_link.specs.Link.{AgainsFall, MayReplace, IsSure, Reads}
 use Rattle.ts_link.specs.LinkAnswers.{FillsSome, count_got, got_failed, got_again}
 use Rattle.ts_link.specs.MemLink.{LinkState, look_of, read_by, ahead_by, read_answer, after_read}
 use Rattle.ts_link.specs.Numbered.{mishap_at, is_listed, after_call, waits_left}
@@ -23,7 +23,8 @@ same_replaces [] left = omega arith
 same_replaces (b ∷ bs) left = refl
 
 -- what was given goes on by what a read moved
-pub given_on : (i : Input) (ahead : List Piece) (more : List ℕ) → IsSoundInput i → bytes_of i.ahead ≡ more ++ bytes_of ahead
+pub given_on : (i : Input) (ahead : List Piece) (more : List ℕ) → IsSoundInput i
+    → bytes_of i.ahead ≡ more ++ bytes_of ahead
     → given_of (record i { ahead = ahead }) ≡ given_of i ++ more
 given_on i ahead more sound moved =
     let before : List ℕ = given_of i in
@@ -62,9 +63,12 @@ next_answers room [] = refl
 next_answers room (Bytes bs ∷ ps) = refl
 next_answers room (Stall k ∷ ps) = refl
 
-reads_by : (s : LinkState) (room : ℕ) (into : List ℕ) (m : Mishap) → m ≡ mishap_at s.reads → room ≡ length into → 0 < room
-    → s.reads.made ≤ greatest → s.faults ≤ greatest → s.waits ≤ greatest → (m ≡ Nothing → IsSoundInput s.input)
-    → take (count_got (read_by m room s.input.ahead)) into ≡ take (count_got (read_by m room s.input.ahead)) (bytes_of s.input.ahead)
+reads_by : (s : LinkState) (room : ℕ) (into : List ℕ) (m : Mishap) → m ≡ mishap_at s.reads
+    → room ≡ length into → 0 < room
+    → s.reads.made ≤ greatest → s.faults ≤ greatest → s.waits ≤ greatest
+    → (m ≡ Nothing → IsSoundInput s.input)
+    → take (count_got (read_by m room s.input.ahead)) into ≡ take (count_got (read_by m room s.input.ahead))
+    (bytes_of s.input.ahead)
     → Reads true (look_of s) (look_of (read_state s room m)) (read_by m room s.input.ahead) into
 reads_by s room into Fails e r some calls faults waits sound bytes = record {
   fills = tt;
@@ -78,11 +82,19 @@ reads_by s room into Fails e r some calls faults waits sound bytes = record {
     agains = omega (arith, waits_fall s.reads calls);
   };
   sure = λ h. let known : Fails ≡ Nothing = e ∙ sure_read s h in let none : ⊥ = cc in absurd none;
-  told = λ _. record { before = bytes_of s.input.ahead; replaced = same_replaces (given_of s.input) (bytes_of s.input.ahead); moved = refl; given = sym (append-nil (given_of s.input)); taken = refl };
+  told = λ _. record {
+    before = bytes_of s.input.ahead;
+    replaced = same_replaces (given_of s.input)
+        (bytes_of s.input.ahead);
+    moved = refl;
+    given = sym (append-nil (given_of s.input));
+    taken = refl;
+  };
   ends = λ _. tt;
 }
 reads_by s room into Waits e r some calls faults waits sound bytes =
-    let listed : is_listed s.reads.made s.reads.again ≡ true = waits_by (is_listed s.reads.made s.reads.fail) (is_listed s.reads.made s.reads.again) (sym e) in
+    let listed : is_listed s.reads.made s.reads.again ≡ true = waits_by (is_listed s.reads.made s.reads.fail)
+    (is_listed s.reads.made s.reads.again) (sym e) in
     record {
       fills = tt;
       once = record { reads = refl; writes = refl };
@@ -95,7 +107,14 @@ reads_by s room into Waits e r some calls faults waits sound bytes =
         agains = omega (arith, waits_listed s.reads calls listed);
       };
       sure = λ h. let known : Waits ≡ Nothing = e ∙ sure_read s h in let none : ⊥ = cc in absurd none;
-      told = λ _. record { before = bytes_of s.input.ahead; replaced = same_replaces (given_of s.input) (bytes_of s.input.ahead); moved = refl; given = sym (append-nil (given_of s.input)); taken = refl };
+      told = λ _. record {
+        before = bytes_of s.input.ahead;
+        replaced = same_replaces (given_of s.input)
+            (bytes_of s.input.ahead);
+        moved = refl;
+        given = sym (append-nil (given_of s.input));
+        taken = refl;
+      };
       ends = λ _. tt;
     }
 reads_by s room into Nothing e r some calls faults waits sound bytes =
@@ -129,13 +148,15 @@ reads_by s room into Nothing e r some calls faults waits sound bytes =
     }
 
 -- what a read of a link in memory shows
-pub reads_right : (s t : LinkState) (answer : Got) (into : List ℕ) (room : ℕ) → answer ≡ read_answer s room → t ≡ after_read s room answer
+pub reads_right : (s t : LinkState) (answer : Got) (into : List ℕ) (room : ℕ) → answer ≡ read_answer s room
+    → t ≡ after_read s room answer
     → room ≡ length into → 0 < room → s.reads.made ≤ greatest → s.faults ≤ greatest → s.waits ≤ greatest
     → (mishap_at s.reads ≡ Nothing → IsSoundInput s.input)
     → take (count_got answer) into ≡ take (count_got answer) (bytes_of s.input.ahead)
     → Reads true (look_of s) (look_of t) answer into
 reads_right s t answer into room a after r some calls faults waits sound bytes =
-    let same : take (count_got (read_answer s room)) into ≡ take (count_got (read_answer s room)) (bytes_of s.input.ahead) =
+    let same : take (count_got (read_answer s room)) into ≡ take (count_got (read_answer s room))
+    (bytes_of s.input.ahead) =
     subst (λ (g : Got). take (count_got g) into ≡ take (count_got g) (bytes_of s.input.ahead)) a bytes in
     let once = reads_by s room into (mishap_at s.reads) refl r some calls faults waits sound same in
     subst (λ (u : LinkState). Reads true (look_of s) (look_of u) answer into) (sym after)

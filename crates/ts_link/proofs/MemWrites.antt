@@ -31,7 +31,8 @@ at_most-le None n = omega arith
 at_most-le (Some k) n = omega arith
 
 -- it takes none of a piece only where it has left
-none_left : (m : Option ℕ) (n taken : ℕ) → 0 < n → at_most m n ≡ 0 → option_map (λ k. taken + k) m ≡ Some taken
+none_left : (m : Option ℕ) (n taken : ℕ) → 0 < n → at_most m n ≡ 0
+    → option_map (λ k. taken + k) m ≡ Some taken
 none_left None n taken h e = let no_way : ⊥ = omega arith in absurd no_way
 none_left (Some k) n taken h e = ap Some (omega arith)
 
@@ -63,7 +64,8 @@ took_by Fails n k h = let none : ⊥ = cc in absurd none
 took_by Waits n k h = let none : ⊥ = cc in absurd none
 
 -- what a write of a link in memory shows
-pub writes_right : (s : LinkState) (piece : List ℕ) (answer : Put) → 1 ≤ s.most → 0 < length piece → IsPut answer (write_answer s (length piece))
+pub writes_right : (s : LinkState) (piece : List ℕ) (answer : Put) → 1 ≤ s.most → 0 < length piece
+    → IsPut answer (write_answer s (length piece))
     → s.writes.made ≤ greatest → s.faults ≤ greatest → s.waits ≤ greatest
     → Writes true (look_of s) (look_of (after_write s piece answer)) answer piece
 writes_right s piece (P.Took n) most some h calls faults waits =
@@ -72,7 +74,8 @@ writes_right s piece (P.Took n) most some h calls faults waits =
     let is : n ≡ taken_of_piece s (length piece) = known.1 in
     let small : n ≤ length piece = omega (arith, at_most-le s.may_take (min s.most (length piece))) in
     let long : length (take n piece) ≡ n = length-take-le n piece small in
-    let may : IfSome s.may_take (λ k. n ≤ k) = subst (λ i. IfSome s.may_take (λ k. i ≤ k)) (sym is) (within_most s.may_take (min s.most (length piece))) in
+    let may : IfSome s.may_take (λ k. n ≤ k) = subst (λ i. IfSome s.may_take (λ k. i ≤ k)) (sym is)
+    (within_most s.may_take (min s.most (length piece))) in
     let stays = leave_stays s.may_take s.taken (take n piece) n long may in
     record {
       takes = (one, small);
@@ -96,7 +99,8 @@ writes_right s piece (P.Took n) most some h calls faults waits =
     }
 writes_right s piece P.Again most some h calls faults waits =
     let is : mishap_at s.writes ≡ Waits = again_by (mishap_at s.writes) (taken_of_piece s (length piece)) h in
-    let listed : is_listed s.writes.made s.writes.again ≡ true = waits_by (is_listed s.writes.made s.writes.fail) (is_listed s.writes.made s.writes.again) is in
+    let listed : is_listed s.writes.made s.writes.again ≡ true = waits_by
+    (is_listed s.writes.made s.writes.fail) (is_listed s.writes.made s.writes.again) is in
     record {
       takes = tt;
       once = record { reads = refl; writes = refl };
@@ -110,7 +114,13 @@ writes_right s piece P.Again most some h calls faults waits =
       };
       sure = λ h. let known : Waits ≡ Nothing = sym is ∙ sure_write s h in let none : ⊥ = cc in absurd none;
       lacks = tt;
-      told = λ _. record { taken = sym (append-nil s.taken); within = λ w. w; given = refl; left = same_replaces (given_of s.input) (bytes_of s.input.ahead) };
+      told = λ _. record {
+        taken = sym (append-nil s.taken);
+        within = λ w. w;
+        given = refl;
+        left =
+            same_replaces (given_of s.input) (bytes_of s.input.ahead);
+      };
     }
 writes_right s piece P.Failed most some h calls faults waits = record {
   takes = tt;
@@ -129,13 +139,32 @@ writes_right s piece P.Failed most some h calls faults waits = record {
         (failed_by (mishap_at s.writes) (taken_of_piece s (length piece)) h (sure_write s sure)),
   );
   lacks = tt;
-  told = λ _. record { taken = sym (append-nil s.taken); within = λ w. w; given = refl; left = same_replaces (given_of s.input) (bytes_of s.input.ahead) };
+  told = λ _. record {
+    taken = sym (append-nil s.taken);
+    within = λ w. w;
+    given = refl;
+    left = same_replaces
+        (given_of s.input) (bytes_of s.input.ahead);
+  };
 }
 writes_right s piece P.NoMemory most some h calls faults waits = record {
   takes = tt;
   once = record { reads = refl; writes = refl };
-  calls = record { source = refl; name = refl; plan = refl; faults = refl; waits = refl; agains = omega arith };
+  calls = record {
+    source = refl;
+    name = refl;
+    plan = refl;
+    faults = refl;
+    waits = refl;
+    agains = omega arith;
+  };
   sure = λ h. (refl, λ e. let none : ⊥ = cc in absurd none);
   lacks = refl;
-  told = λ _. record { taken = sym (append-nil s.taken); within = λ w. w; given = refl; left = same_replaces (given_of s.input) (bytes_of s.input.ahead) };
+  told = λ _. record {
+    taken = sym (append-nil s.taken);
+    within = λ w. w;
+    given = refl;
+    left = same_replaces
+        (given_of s.input) (bytes_of s.input.ahead);
+  };
 }

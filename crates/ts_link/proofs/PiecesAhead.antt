@@ -1,4 +1,5 @@
--- What holds of the pieces that are ahead of a link in memory: which bytes and stalls they have, and how a read moves on
+-- What holds of the pieces that are ahead of a link in memory: which bytes and stalls they have, and how a
+-- read moves on
 -- among them.
 use Rattle.std.proofs.Common.{get_or, leb-false, ◌≡◌, ℕ, zero, suc, ◌+◌, ◌-◌, ◌≤◌, ◌<◌, ◌++◌, min, List, [], ◌∷◌, length, take, drop, refl, sym, ap, subst, ◌∙◌, cond, false, append_assoc, arith}
 use Rattle.std.proofs.Math.Seq.{take-append_seam, drop-cons, take-nil, drop-nil}
@@ -37,15 +38,19 @@ no_stall-from_next (Bytes (b ∷ bs) ∷ ps) h = h
 no_stall-from_next (Stall k ∷ ps) h = absurd h
 
 -- a read that goes well takes the bytes that it answers from the front of what is ahead
-pub next_moves : (room : ℕ) (ps : List Piece) → bytes_of ps ≡ take (count_got (next_answer room ps)) (bytes_of ps) ++ bytes_of (next_ahead room ps)
+pub next_moves : (room : ℕ) (ps : List Piece)
+    → bytes_of ps ≡ take (count_got (next_answer room ps)) (bytes_of ps) ++ bytes_of (next_ahead room ps)
 next_moves room [] = refl
 next_moves room (Bytes bs ∷ ps) =
     let n : ℕ = min room (length bs) in
     let within : n ≤ length bs = omega arith in
-    let front : take n (bs ++ bytes_of ps) ≡ take room bs = take-append-le n bs (bytes_of ps) within ∙ take_min room bs in
-    let rest : bytes_of (from_next (Bytes (drop room bs) ∷ ps)) ≡ drop room bs ++ bytes_of ps = bytes-from_next (Bytes (drop room bs) ∷ ps) in
+    let front : take n (bs ++ bytes_of ps) ≡ take room bs = take-append-le n bs (bytes_of ps) within ∙
+    take_min room bs in
+    let rest : bytes_of (from_next (Bytes (drop room bs) ∷ ps)) ≡ drop room bs ++ bytes_of ps =
+    bytes-from_next (Bytes (drop room bs) ∷ ps) in
     let joined : take room bs ++ (drop room bs ++ bytes_of ps) ≡ bs ++ bytes_of ps =
-    sym (append_assoc (take room bs) (drop room bs) (bytes_of ps)) ∙ ap (λ xs. xs ++ bytes_of ps) (take-append-drop room bs) in
+    sym (append_assoc (take room bs) (drop room bs) (bytes_of ps)) ∙ ap (λ xs. xs ++ bytes_of ps)
+    (take-append-drop room bs) in
     rw (front, rest) (sym joined)
 next_moves room (Stall k ∷ ps) = sym (bytes-from_next (Stall (k - 1) ∷ ps))
 
@@ -63,14 +68,17 @@ next_fills room (Bytes (b ∷ bs) ∷ ps) h f = (omega arith, omega arith)
 next_fills room (Stall k ∷ ps) h f = tt
 
 -- a stall that it meets is shorter by a read
-pub next_stalls : (room : ℕ) (ps : List Piece) → IsFront ps → stalled_reads (next_ahead room ps) + cond (got_again (next_answer room ps)) 1 0 ≤ stalled_reads ps
+pub next_stalls : (room : ℕ) (ps : List Piece) → IsFront ps
+    → stalled_reads (next_ahead room ps) + cond (got_again (next_answer room ps)) 1 0 ≤ stalled_reads ps
 next_stalls room [] f = omega arith
 next_stalls room (Bytes bs ∷ ps) f =
-    let same : stalled_reads (from_next (Bytes (drop room bs) ∷ ps)) ≡ stalled_reads ps = stalls-from_next (Bytes (drop room bs) ∷ ps) in
+    let same : stalled_reads (from_next (Bytes (drop room bs) ∷ ps)) ≡ stalled_reads ps = stalls-from_next
+    (Bytes (drop room bs) ∷ ps) in
     omega arith
 next_stalls room (Stall zero ∷ ps) f = absurd f
 next_stalls room (Stall (suc k) ∷ ps) f =
-    let same : stalled_reads (from_next (Stall (suc k - 1) ∷ ps)) ≡ suc k - 1 + stalled_reads ps = stalls-from_next (Stall (suc k - 1) ∷ ps) in
+    let same : stalled_reads (from_next (Stall (suc k - 1) ∷ ps)) ≡ suc k - 1 + stalled_reads ps =
+    stalls-from_next (Stall (suc k - 1) ∷ ps) in
     omega arith
 
 -- it does not wait where there is no stall
@@ -96,11 +104,14 @@ no_stall-cut_up [] bytes = tt
 no_stall-cut_up (c ∷ cs) bytes = no_stall-cut_up cs (drop c bytes)
 
 -- a list that is given in pieces is sound
-pub sound_cut : (n : ℕ) (cuts : List ℕ) (at : ℕ) (bytes : List ℕ) → IsSoundInput (seen_cut n cuts (drop at bytes) bytes)
+pub sound_cut : (n : ℕ) (cuts : List ℕ) (at : ℕ) (bytes : List ℕ)
+    → IsSoundInput (seen_cut n cuts (drop at bytes) bytes)
 sound_cut n cuts at bytes =
     let pieces : List Piece = cut_up (n ∷ cuts) (drop at bytes) in
-    let left : bytes_of (from_next pieces) ≡ drop at bytes = bytes-from_next pieces ∙ bytes-cut_up (n ∷ cuts) (drop at bytes) in
-    let e : bytes ≡ take at bytes ++ bytes_of (from_next pieces) = rw left (sym (take-append-drop at bytes)) in
+    let left : bytes_of (from_next pieces) ≡ drop at bytes = bytes-from_next pieces ∙ bytes-cut_up (n ∷ cuts)
+    (drop at bytes) in
+    let e : bytes ≡ take at bytes ++ bytes_of (from_next pieces) = rw left (sym (take-append-drop at bytes))
+    in
     record {
       whole = rw (whole_by bytes (take at bytes) (bytes_of (from_next pieces)) e) (sym e);
       front = front-from_next pieces;
@@ -108,12 +119,18 @@ sound_cut n cuts at bytes =
     }
 
 -- pieces are what was passed of them and what is left
-pub bytes-begun : (n : ℕ) (ps : List Piece) → (before : List ℕ) × (bytes_of ps ≡ before ++ bytes_of (begun n ps))
+pub bytes-begun : (n : ℕ) (ps : List Piece)
+    → (before : List ℕ) × (bytes_of ps ≡ before ++ bytes_of (begun n ps))
 bytes-begun n [] = ([], refl)
-bytes-begun n (Bytes bs ∷ ps) = (take n bs, ap (λ xs. xs ++ bytes_of ps) (sym (take-append-drop n bs)) ∙ append_assoc (take n bs) (drop n bs) (bytes_of ps))
+bytes-begun n (Bytes bs ∷ ps) = (
+  take n bs,
+  ap (λ xs. xs ++ bytes_of ps) (sym (take-append-drop n bs)) ∙
+      append_assoc (take n bs) (drop n bs) (bytes_of ps),
+)
 bytes-begun n (Stall k ∷ ps) = ([], refl)
 
-pub bytes-drop : (i : ℕ) (ps : List Piece) → (before : List ℕ) × (bytes_of ps ≡ before ++ bytes_of (drop i ps))
+pub bytes-drop : (i : ℕ) (ps : List Piece)
+    → (before : List ℕ) × (bytes_of ps ≡ before ++ bytes_of (drop i ps))
 bytes-drop zero ps = ([], refl)
 bytes-drop (suc i) [] = ([], refl)
 bytes-drop (suc i) (Bytes bs ∷ ps) =
@@ -141,15 +158,19 @@ no_stall-begun n (Stall k ∷ ps) h = absurd h
 pub sound_pieces : (n next : ℕ) (ps : List Piece) → IsSoundInput (seen_pieces n next ps)
 sound_pieces n next ps =
     let rest : List Piece = begun n (drop next ps) in
-    let dropped : (before : List ℕ) × (bytes_of ps ≡ before ++ bytes_of (drop next ps)) = bytes-drop next ps in
-    let passed : (before : List ℕ) × (bytes_of (drop next ps) ≡ before ++ bytes_of rest) = bytes-begun n (drop next ps) in
+    let dropped : (before : List ℕ) × (bytes_of ps ≡ before ++ bytes_of (drop next ps)) = bytes-drop next ps
+    in
+    let passed : (before : List ℕ) × (bytes_of (drop next ps) ≡ before ++ bytes_of rest) = bytes-begun n
+    (drop next ps) in
     let before : List ℕ = dropped.0 ++ passed.0 in
     let e : bytes_of ps ≡ before ++ bytes_of (from_next rest) =
-    rw (bytes-from_next rest) (dropped.1 ∙ ap (λ xs. dropped.0 ++ xs) passed.1 ∙ sym (append_assoc dropped.0 passed.0 (bytes_of rest))) in
+    rw (bytes-from_next rest) (dropped.1 ∙ ap (λ xs. dropped.0 ++ xs) passed.1 ∙ sym
+    (append_assoc dropped.0 passed.0 (bytes_of rest))) in
     record {
       whole = rw (whole_by (bytes_of ps) before (bytes_of (from_next rest)) e) (sym e);
       front = front-from_next rest;
-      stalls = λ h. no_stall-from_next rest (no_stall-begun n (drop next ps) (no_stall-drop next ps (no_stall-stalls 0 ps h)));
+      stalls = λ h. no_stall-from_next rest (no_stall-begun n (drop next ps)
+          (no_stall-drop next ps (no_stall-stalls 0 ps h)));
     }
 
 -- the bytes of a piece that was begun are its next ones
@@ -167,10 +188,12 @@ front_stall (suc k) ps h = tt
 
 -- a piece that was not passed is in front
 pub front_begun : (n : ℕ) (p : Piece) (ps : List Piece) → is_passed p n ≡ false → IsFront (begun n (p ∷ ps))
-front_begun n (Bytes bs) ps h = front_bytes (drop n bs) ps (let less : n < length bs = leb-false (length bs) n h in omega (arith, length-drop n bs))
+front_begun n (Bytes bs) ps h = front_bytes (drop n bs) ps
+    (let less : n < length bs = leb-false (length bs) n h in omega (arith, length-drop n bs))
 front_begun n (Stall k) ps h = let less : n < k = leb-false k n h in front_stall (k - n) ps (omega arith)
 
-pub front_at : (ps : List Piece) (i n : ℕ) (p : Piece) → i < length ps → p ≡ get_or ps i p → is_passed p n ≡ false → IsFront (begun n (drop i ps))
+pub front_at : (ps : List Piece) (i n : ℕ) (p : Piece) → i < length ps → p ≡ get_or ps i p
+    → is_passed p n ≡ false → IsFront (begun n (drop i ps))
 front_at ps i n p h e passed =
     rw (drop-cons ps i p, ← e) (front_begun n p (drop (suc i) ps) passed)
 
@@ -192,7 +215,8 @@ pub front_cut-within : (n : ℕ) (rest : List ℕ) → length (front_cut n rest)
 front_cut-within zero rest = omega arith
 front_cut-within (suc n) rest = omega (arith, length-take (suc n) rest)
 
-pub take-front_cut : (k n : ℕ) (rest : List ℕ) → k ≤ length (front_cut n rest) → take k (front_cut n rest) ≡ take k rest
+pub take-front_cut : (k n : ℕ) (rest : List ℕ) → k ≤ length (front_cut n rest)
+    → take k (front_cut n rest) ≡ take k rest
 take-front_cut k zero rest h = refl
 take-front_cut k (suc n) rest h = take-take k (suc n) rest (omega (arith, length-take (suc n) rest))
 
@@ -202,7 +226,8 @@ pub next_first : (room : ℕ) (bs : List ℕ) (ps : List Piece) → 0 < length b
 next_first room [] ps h = let none : ⊥ = omega arith in absurd none
 next_first room (b ∷ bs) ps h = refl
 
-pub cut_moves : (n : ℕ) (cuts rest : List ℕ) (room k : ℕ) → (n ≡ 0 → cuts ≡ []) → 0 < length (front_cut n rest) → k ≡ min room (length (front_cut n rest))
+pub cut_moves : (n : ℕ) (cuts rest : List ℕ) (room k : ℕ) → (n ≡ 0 → cuts ≡ [])
+    → 0 < length (front_cut n rest) → k ≡ min room (length (front_cut n rest))
     → from_next (cut_up ((n - k) ∷ cuts) (drop k rest)) ≡ next_ahead room (from_next (cut_up (n ∷ cuts) rest))
 cut_moves zero cuts rest room k none h e =
     let left : 0 - k ≡ 0 = omega arith in
@@ -213,8 +238,10 @@ cut_moves (suc n) cuts rest room k none h e =
     let within : k ≤ suc n = omega (arith, length-take (suc n) rest) in
     let joined : k + (suc n - k) ≡ suc n = omega arith in
     let piece : take (suc n - k) (drop k rest) ≡ drop room front =
-    sym (drop-take k (suc n - k) rest) ∙ ap (λ i. drop k (take i rest)) joined ∙ ap (λ i. drop i front) e ∙ drop_min room front in
-    let behind : drop (suc n - k) (drop k rest) ≡ drop (suc n) rest = drop-drop (suc n - k) k rest ∙ ap (λ i. drop i rest) joined in
+    sym (drop-take k (suc n - k) rest) ∙ ap (λ i. drop k (take i rest)) joined ∙ ap (λ i. drop i front) e ∙
+    drop_min room front in
+    let behind : drop (suc n - k) (drop k rest) ≡ drop (suc n) rest = drop-drop (suc n - k) k rest ∙ ap
+    (λ i. drop i rest) joined in
     rw (piece, behind, next_first room front (cut_up cuts (drop (suc n) rest)) h) refl
 
 -- pieces of which none is left give nothing
@@ -222,20 +249,25 @@ pub begun_end : (n i : ℕ) (ps : List Piece) → length ps ≤ i → from_next 
 begun_end n i ps h = rw (drop_all i ps h) refl
 
 -- the bytes of the piece in front are in front of all that is ahead
-pub bytes_at : (ps : List Piece) (i n : ℕ) (p : Piece) (bs : List ℕ) (k : ℕ) → i < length ps → p ≡ get_or ps i p → p ≡ Bytes bs → k ≤ length (drop n bs)
+pub bytes_at : (ps : List Piece) (i n : ℕ) (p : Piece) (bs : List ℕ) (k : ℕ) → i < length ps
+    → p ≡ get_or ps i p → p ≡ Bytes bs → k ≤ length (drop n bs)
     → take k (bytes_of (from_next (begun n (drop i ps)))) ≡ take k (drop n bs)
 bytes_at ps i n p bs k h e is within =
-    let at : drop i ps ≡ Bytes bs ∷ drop (suc i) ps = drop-cons ps i p h ∙ ap (λ q. q ∷ drop (suc i) ps) (sym e ∙ is) in
-    rw (bytes-from_next (begun n (drop i ps)), at) (take-append-le k (drop n bs) (bytes_of (drop (suc i) ps)) within)
+    let at : drop i ps ≡ Bytes bs ∷ drop (suc i) ps = drop-cons ps i p h ∙ ap (λ q. q ∷ drop (suc i) ps)
+    (sym e ∙ is) in
+    rw (bytes-from_next (begun n (drop i ps)), at)
+    (take-append-le k (drop n bs) (bytes_of (drop (suc i) ps)) within)
 
 some_left : (k : ℕ) (ps : List Piece) → IsFront (Stall k ∷ ps) → 0 < k
 some_left zero ps f = absurd f
 some_left (suc k) ps f = omega arith
 
 -- of a stall in front some reads are left
-pub stall_at : (ps : List Piece) (i n : ℕ) (p : Piece) (k : ℕ) → i < length ps → p ≡ get_or ps i p → p ≡ Stall k → IsFront (begun n (drop i ps)) → n < k
+pub stall_at : (ps : List Piece) (i n : ℕ) (p : Piece) (k : ℕ) → i < length ps → p ≡ get_or ps i p
+    → p ≡ Stall k → IsFront (begun n (drop i ps)) → n < k
 stall_at ps i n p k h e is f =
-    let at : drop i ps ≡ Stall k ∷ drop (suc i) ps = drop-cons ps i p h ∙ ap (λ q. q ∷ drop (suc i) ps) (sym e ∙ is) in
+    let at : drop i ps ≡ Stall k ∷ drop (suc i) ps = drop-cons ps i p h ∙ ap (λ q. q ∷ drop (suc i) ps)
+    (sym e ∙ is) in
     let some : 0 < k - n = some_left (k - n) (drop (suc i) ps) (subst (λ qs. IsFront (begun n qs)) at f) in
     omega arith
 

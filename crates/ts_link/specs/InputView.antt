@@ -13,7 +13,8 @@ front_cut (suc n) bytes = take (suc n) bytes
 abbrev pub cut_ahead : ℕ → List ℕ → List ℕ → List Piece
 cut_ahead n cuts rest = from_next (cut_up (n ∷ cuts) rest)
 
--- a list of bytes of which the next n are in the piece that was begun, and the next ones in pieces of these lengths
+-- a list of bytes of which the next n are in the piece that was begun, and the next ones in pieces of these
+-- lengths
 abbrev pub seen_cut : ℕ → List ℕ → List ℕ → List ℕ → Input
 seen_cut n cuts rest bytes = record { source = bytes; stalls = []; ahead = cut_ahead n cuts rest }
 
@@ -49,7 +50,8 @@ HasNoStall [] = ⊤
 HasNoStall (Bytes bs ∷ ps) = HasNoStall ps
 HasNoStall (Stall k ∷ ps) = ⊥
 
--- what was given and what is ahead are the source, the first piece is not empty, and no stall comes from nowhere
+-- what was given and what is ahead are the source, the first piece is not empty, and no stall comes from
+-- nowhere
 pub record IsSoundInput (i : Input) : Type 0 where
   pub whole : given_of i ++ bytes_of i.ahead ≡ i.source
   pub front : IsFront i.ahead

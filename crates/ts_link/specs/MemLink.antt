@@ -21,7 +21,8 @@ abbrev pub input_of : MemInput → Input
 input_of (Cut i) = i
 input_of (Pieces i) = i
 
--- What it has to give, what it took, how much it takes a write and, where it leaves, how much before that; its reads and
+-- What it has to give, what it took, how much it takes a write and, where it leaves, how much before that;
+-- its reads and
 -- its writes by number; and the counts of its answers.
 pub record LinkState : Type 0 where
   pub input : Input

@@ -16,16 +16,19 @@ pub record ShelfState : Type 0 where
   pub faults : ℕ
   pub longs : ℕ
 
--- a shelf in memory fails exactly at the calls of its list and where it has no file of the name; a file that is
+-- a shelf in memory fails exactly at the calls of its list and where it has no file of the name; a file that
+-- is
 -- too long was seen whole
 abbrev pub ReadsAt : ShelfState → List ℕ → ℕ → Result Octets ShelfFault → Type 0
 ReadsAt old name most (Ok bytes) =
     (is_listed old.calls old.failing ≡ false) × (file_in old.files name ≡ Some bytes) × (length bytes ≤ most)
 ReadsAt old name most (Err Failed) = is_listed old.calls old.failing ≡ false → file_in old.files name ≡ None
 ReadsAt old name most (Err (TooLong seen)) =
-    (is_listed old.calls old.failing ≡ false) × IsSomeAnd (file_in old.files name) (λ bytes. (seen ≡ length bytes) × (most < length bytes))
+    (is_listed old.calls old.failing ≡ false) × IsSomeAnd (file_in old.files name)
+    (λ bytes. (seen ≡ length bytes) × (most < length bytes))
 ReadsAt old name most (Err NoMemory) =
-    (is_listed old.calls old.failing ≡ false) × IsSomeAnd (file_in old.files name) (λ bytes. length bytes ≤ most)
+    (is_listed old.calls old.failing ≡ false) × IsSomeAnd (file_in old.files name)
+    (λ bytes. length bytes ≤ most)
 
 -- the shelf after a read that was answered so
 abbrev pub after_shelf_read : ShelfState → Result Octets ShelfFault → ShelfState

@@ -6,7 +6,8 @@ use Rattle.ts_link.specs.Sink.{is_fault, is_lack, taken_of}
 use Rattle.ts_link.specs.declared.sink.Wrote.{Wrote}
 use Rattle.ts_link.specs.declared.sink.Wrote.TheVariants.{Took, Failed, NoMemory}
 
--- what a sink in memory took, how much it takes a call, the numbers of the calls that fail, the number of calls,
+-- what a sink in memory took, how much it takes a call, the numbers of the calls that fail, the number of
+-- calls,
 -- and the counts
 pub record SinkState : Type 0 where
   pub taken : List ℕ
@@ -18,7 +19,15 @@ pub record SinkState : Type 0 where
 
 -- a sink to which nothing was written
 abbrev pub fresh_sink : ℕ → List ℕ → SinkState
-fresh_sink most failing = record { taken = []; most = most; failing = failing; calls = 0; faults = 0; lacks = 0 }
+fresh_sink most failing = record {
+  taken = [];
+  most = most;
+  failing = failing;
+  calls = 0;
+  faults = 0;
+  lacks =
+      0;
+}
 
 -- a sink in memory fails exactly at the calls of its list, and takes what it can of a piece
 abbrev pub WritesAt : SinkState → List ℕ → Wrote → Type 0

@@ -18,7 +18,8 @@ KeepsLimit most (Ok bytes) = length bytes ≤ most
 KeepsLimit most (Err (TooLong seen)) = most < seen
 KeepsLimit most _ = ⊤
 
--- what a read answers of a file that is told: the whole file, or too long where it has as many bytes as were seen
+-- what a read answers of a file that is told: the whole file, or too long where it has as many bytes as were
+-- seen
 abbrev pub ReadsFile : Option (List ℕ) → ℕ → Result Octets ShelfFault → Type 0
 ReadsFile file most (Ok bytes) = file ≡ Some bytes
 ReadsFile file most (Err (TooLong seen)) = IsSomeAnd file (λ bytes. seen ≤ length bytes)

@@ -21,7 +21,8 @@ pass_view pass = pass.seat.me.view.client
 abbrev pub empties_of : QueuePass → ℕ
 empties_of pass = pass.empties
 
--- A pass took the ticket, which stood at the front of the queue at one moment. It never took it before, and each
+-- A pass took the ticket, which stood at the front of the queue at one moment. It never took it before, and
+-- each
 -- ticket of that putter that it took before has a lesser serial.
 pub record TakesTicket (old : View) (t : Ticket) (new : View) : Type 0 where
   pub adds : new ≡ taking t old

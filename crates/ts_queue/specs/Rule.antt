@@ -1,4 +1,5 @@
--- The rule of the queue: what holds between any two steps of the tickets in it, front to back, and of what all its
+-- The rule of the queue: what holds between any two steps of the tickets in it, front to back, and of what
+-- all its
 -- passes know.
 use Rattle.std.specs.Prelude.{◌≡◌, ℕ, ◌+◌, ◌==◌, ◌<◌, ◌≤◌, List, All, AllPairs, Contains, sum_by, count_by}
 use Rattle.ts_queue.specs.declared.TheConstants.{WHOLE_SHARE}
@@ -8,7 +9,8 @@ use Rattle.ts_queue.specs.Tickets.{is_numbered, IsInOrder}
 use Rattle.ts_queue.specs.Views.{spent, owned}
 
 -- What holds of one pass: its number is one of its names; each ticket that it put has one of its names and a
--- serial from 1 on; those under its own number have no serial above its last; and without a share nothing is left
+-- serial from 1 on; those under its own number have no serial above its last; and without a share nothing is
+-- left
 -- of it.
 pub record IsLawfulView (v : View) : Type 0 where
   pub own : 0 < v.share → 0 < count_by (λ n. n == v.number) v.names

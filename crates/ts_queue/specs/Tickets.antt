@@ -25,4 +25,5 @@ IsOnce tickets = (putter serial : ℕ) → count_by (is_numbered putter serial) 
 -- each ticket was taken as often as it was put, which is once or never
 abbrev pub Exactly : List Ticket → List Ticket → Type 0
 Exactly put taken =
-    (t : Ticket) → (count_by (is_same_ticket t) taken ≡ count_by (is_same_ticket t) put) × (count_by (is_same_ticket t) put ≤ 1)
+    (t : Ticket) → (count_by (is_same_ticket t) taken ≡ count_by (is_same_ticket t) put) ×
+    (count_by (is_same_ticket t) put ≤ 1)

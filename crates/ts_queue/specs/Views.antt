@@ -62,7 +62,8 @@ split_part v = record {
   taken = [];
 }
 
--- a pass to which another was joined: it has the shares of both, and what either put and took; its number, its
+-- a pass to which another was joined: it has the shares of both, and what either put and took; its number,
+-- its
 -- serial and its free numbers stay
 abbrev pub with_joined : View → View → View
 with_joined v w = record v {

@@ -1,6 +1,6 @@
 -- Sums, facts on each entry, and entries of one group.
-use Rattle.std.proofs.Common.{◌≡◌, ◌≢◌, ℕ, zero, suc, ◌+◌, ◌≤◌, Bool, true, false, cond, eqb, List, [], ◌∷◌, ◌++◌, length, set, refl, sym, ap, ◌∙◌, subst, inl, inr, arith}
-use Rattle.std.proofs.lemmas.Bool.{eqb-true, eqb-false, eq-eqb, ne_eqb, cond-true, cond-false}
+use Rattle.std.proofs.Common.{◌≡◌, ◌≢◌, ℕ, zero, suc, ◌+◌, ◌≤◌, cond, eqb, List, [], ◌∷◌, ◌++◌, length, set, refl, sym, ap, ◌∙◌, subst, inl, inr, arith}
+use Rattle.std.proofs.lemmas.Bool.{eq-eqb, ne_eqb, cond-true, cond-false}
 use mathlib.Core.Option.{some, some-ne-none, some-injective}
 use lib.ListN.{get_elem?}
 use Rattle.ts_lists.proofs.Cases.{split, by_eq}
@@ -13,7 +13,8 @@ pub same_none : (a b : ℕ) → a ≢ b → same a b ≡ 0
 same_none a b ne = cond-false (eqb a b) 1 0 (ne_eqb a b ne)
 
 module _ {A : Type 0} where
-  pub total_set : (f : A → ℕ) (xs : List A) (i : ℕ) (v w : A) → get_elem? xs i ≡ some v → total f (set xs i w) + f v ≡ total f xs + f w
+  pub total_set : (f : A → ℕ) (xs : List A) (i : ℕ) (v w : A) → get_elem? xs i ≡ some v
+      → total f (set xs i w) + f v ≡ total f xs + f w
   total_set f [] i v w e = absurd (some-ne-none v (sym e))
   total_set f (x ∷ xs) zero v w e = let p : f x ≡ f v = ap f (some-injective x v e) in omega arith
   total_set f (x ∷ xs) (suc i) v w e = let r = total_set f xs i v w e in omega arith
@@ -27,18 +28,23 @@ module _ {A : Type 0} where
   total_at f (x ∷ xs) zero v e = let p : f x ≡ f v = ap f (some-injective x v e) in omega arith
   total_at f (x ∷ xs) (suc i) v e = let r = total_at f xs i v e in omega arith
 
-  pub total_two : (f : A → ℕ) (xs : List A) (i j : ℕ) (v w : A) → i ≢ j → get_elem? xs i ≡ some v → get_elem? xs j ≡ some w → f v + f w ≤ total f xs
+  pub total_two : (f : A → ℕ) (xs : List A) (i j : ℕ) (v w : A) → i ≢ j → get_elem? xs i ≡ some v
+      → get_elem? xs j ≡ some w → f v + f w ≤ total f xs
   total_two f [] i j v w ne a b = absurd (some-ne-none v (sym a))
   total_two f (x ∷ xs) zero zero v w ne a b = absurd (ne refl)
-  total_two f (x ∷ xs) zero (suc j) v w ne a b = let p : f x ≡ f v = ap f (some-injective x v a) in let r = total_at f xs j w b in omega arith
-  total_two f (x ∷ xs) (suc i) zero v w ne a b = let p : f x ≡ f w = ap f (some-injective x w b) in let r = total_at f xs i v a in omega arith
-  total_two f (x ∷ xs) (suc i) (suc j) v w ne a b = let r = total_two f xs i j v w (λ e. ne (ap suc e)) a b in omega arith
+  total_two f (x ∷ xs) zero (suc j) v w ne a b = let p : f x ≡ f v = ap f (some-injective x v a) in let r =
+      total_at f xs j w b in omega arith
+  total_two f (x ∷ xs) (suc i) zero v w ne a b = let p : f x ≡ f w = ap f (some-injective x w b) in let r =
+      total_at f xs i v a in omega arith
+  total_two f (x ∷ xs) (suc i) (suc j) v w ne a b = let r = total_two f xs i j v w (λ e. ne (ap suc e)) a b in
+      omega arith
 
   pub each_map : (P Q : A → Type 0) (es : List A) → ((e : A) → P e → Q e) → Each P es → Each Q es
   each_map P Q [] f h = tt
   each_map P Q (e ∷ es) f h = (f e h.0, each_map P Q es f h.1)
 
-  pub each_both : (P Q R : A → Type 0) (es : List A) → ((e : A) → P e → Q e → R e) → Each P es → Each Q es → Each R es
+  pub each_both : (P Q R : A → Type 0) (es : List A) → ((e : A) → P e → Q e → R e) → Each P es → Each Q es
+      → Each R es
   each_both P Q R [] f h g = tt
   each_both P Q R (e ∷ es) f h g = (f e h.0 g.0, each_both P Q R es f h.1 g.1)
 
@@ -52,16 +58,19 @@ module _ {A : Type 0} where
 
 module _ {T : Type 0} where
   -- an entry of the list is of another group where none is of this one
-  pub each_apart : (P Q : ℕ × ℕ × T → Type 0) (k : ℕ) (es : List (ℕ × ℕ × T)) → traced k es ≡ 0 → ((e : ℕ × ℕ × T) → e.0 ≢ k → P e → Q e) → Each P es → Each Q es
+  pub each_apart : (P Q : ℕ × ℕ × T → Type 0) (k : ℕ) (es : List (ℕ × ℕ × T)) → traced k es ≡ 0
+      → ((e : ℕ × ℕ × T) → e.0 ≢ k → P e → Q e) → Each P es → Each Q es
   each_apart P Q k [] none f h = tt
   each_apart P Q k (e ∷ es) none f h = (
     f e (λ is. let one = same_one e.0 k is in absurd (omega arith)) h.0,
     each_apart P Q k es (omega arith) f h.1,
   )
 
-  pub each_without : (P : ℕ × ℕ × T → Type 0) (k : ℕ) (es : List (ℕ × ℕ × T)) → Each P es → Each P (without_group k es)
+  pub each_without : (P : ℕ × ℕ × T → Type 0) (k : ℕ) (es : List (ℕ × ℕ × T)) → Each P es
+      → Each P (without_group k es)
   each_without P k [] h = tt
-  each_without P k (e ∷ es) h = split (eqb e.0 k) (λ t. Each P (cond t es (e ∷ without_group k es))) (λ _. h.1) (λ _. (h.0, each_without P k es h.1))
+  each_without P k (e ∷ es) h = split (eqb e.0 k) (λ t. Each P (cond t es (e ∷ without_group k es)))
+      (λ _. h.1) (λ _. (h.0, each_without P k es h.1))
 
   pub in_traced : (k t : ℕ) (c : T) (es : List (ℕ × ℕ × T)) → IsIn (k, t, c) es → 1 ≤ traced k es
   in_traced k t c [] i = absurd i
@@ -70,10 +79,12 @@ module _ {T : Type 0} where
     | inr more ↦ let r = in_traced k t c es more in omega arith
   ]
 
-  pub traced_without : (k : ℕ) (es : List (ℕ × ℕ × T)) → 1 ≤ traced k es → traced k (without_group k es) + 1 ≡ traced k es
+  pub traced_without : (k : ℕ) (es : List (ℕ × ℕ × T)) → 1 ≤ traced k es
+      → traced k (without_group k es) + 1 ≡ traced k es
   traced_without k [] one = absurd (omega arith)
   traced_without k (e ∷ es) one =
-      by_eq e.0 k (λ t. 1 ≤ cond t 1 0 + traced k es → traced k (cond t es (e ∷ without_group k es)) + 1 ≡ cond t 1 0 + traced k es)
+      by_eq e.0 k (λ t. 1 ≤ cond t 1 0 + traced k es → traced k (cond t es (e ∷ without_group k es)) + 1 ≡
+      cond t 1 0 + traced k es)
       (λ is s. omega arith)
       (λ ne s. let r = traced_without k es (omega arith) in let z = same_none e.0 k ne in omega arith) one
 
@@ -84,17 +95,22 @@ module _ {T : Type 0} where
       (λ is. let z = same_none e.0 j (λ h. ne (sym h ∙ is)) in omega arith)
       (λ _. let r = traced_others k j es ne in omega arith)
 
-  pub in_without : (k : ℕ) (e : ℕ × ℕ × T) (es : List (ℕ × ℕ × T)) → e.0 ≢ k → IsIn e es → IsIn e (without_group k es)
+  pub in_without : (k : ℕ) (e : ℕ × ℕ × T) (es : List (ℕ × ℕ × T)) → e.0 ≢ k → IsIn e es
+      → IsIn e (without_group k es)
   in_without k e [] ne i = absurd i
   in_without k e (x ∷ es) ne i =
       by_eq x.0 k (λ t. IsIn e (cond t es (x ∷ without_group k es)))
-      (λ is. elim i [ inl here ↦ absurd (ne (ap (λ (y : ℕ × ℕ × T). y.0) (sym here) ∙ is)) | inr more ↦ more ])
+      (λ is. elim i [
+        | inl here ↦ absurd (ne (ap (λ (y : ℕ × ℕ × T). y.0) (sym here) ∙ is))
+        | inr more ↦ more
+      ])
       (λ _. elim i [ inl here ↦ inl here | inr more ↦ inr (in_without k e es ne more) ])
 
   pub without_top : (k t : ℕ) (c : T) (es : List (ℕ × ℕ × T)) → without_group k ((k, t, c) ∷ es) ≡ es
   without_top k t c es = cond-true (eqb k k) es ((k, t, c) ∷ without_group k es) (eq-eqb k k refl)
 
-  pub length_without : (k t : ℕ) (c : T) (es : List (ℕ × ℕ × T)) → IsIn (k, t, c) es → length (without_group k es) + 1 ≡ length es
+  pub length_without : (k t : ℕ) (c : T) (es : List (ℕ × ℕ × T)) → IsIn (k, t, c) es
+      → length (without_group k es) + 1 ≡ length es
   length_without k t c [] i = absurd i
   length_without k t c (e ∷ es) i =
       by_eq e.0 k (λ b. length (cond b es (e ∷ without_group k es)) + 1 ≡ suc (length es))

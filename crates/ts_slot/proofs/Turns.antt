@@ -6,7 +6,8 @@ use Rattle.ts_journal.specs.declared.slotted.Slotted.{Ghosts}
 use Rattle.ts_slot.specs.declared.seat.Turn.{Turn}
 use Rattle.ts_slot.specs.Limits.{last_turn}
 
-pub turn_same : {X G T : Type 0} {d : Ghosts X G T} (t u : Turn X G T d) → t.group ≡ u.group → t.number ≡ u.number → t.value ≡ u.value → t.found ≡ u.found → t ≡ u
+pub turn_same : {X G T : Type 0} {d : Ghosts X G T} (t u : Turn X G T d) → t.group ≡ u.group
+    → t.number ≡ u.number → t.value ≡ u.value → t.found ≡ u.found → t ≡ u
 turn_same {d = d} t u group number value found = λ i. record {
   group = group i;
   number = number i;

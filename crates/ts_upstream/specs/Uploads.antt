@@ -1,4 +1,5 @@
--- What an upload does to the two links that it is between: `c` and `c'` are the client's link before and after it, `o`
+-- What an upload does to the two links that it is between: `c` and `c'` are the client's link before and
+-- after it, `o`
 -- and `o'` the origin's.
 use Rattle.std.specs.Prelude.{◌≡◌, ℕ, ◌+◌, ◌-◌, ◌*◌, ◌≤◌, ◌++◌, ◌⊎◌, List, length, ⊤, Bool, true, false, Option, Some, None}
 use Rattle.ts_link.specs.Counts.{Rose}
@@ -25,12 +26,14 @@ UploadLacks U.NoMemory c c' o o' = (c' ≡ c) × (o' ≡ o)
 UploadLacks _ c c' o o' = ⊤
 
 -- Why an upload answers as it does. What the client's source is, is known only where its link tells.
-pub record UploadCauses (tells : Bool) (Refuses : List ℕ → Type 0) (answer : Uploaded) (c c' o o' : Look) : Type 0 where
+pub record UploadCauses (tells : Bool) (Refuses : List ℕ → Type 0) (answer : Uploaded) (c c' o o' : Look) :
+    Type 0 where
   pub refusal : tells ≡ true → UploadRefuses answer (Refuses c.source)
   pub counts : UploadCounts answer c c' o o'
   pub lacks : UploadLacks answer c c' o o'
 
--- What an upload leaves of the two links, where both tell. The client may have given more of the same list, and the
+-- What an upload leaves of the two links, where both tell. The client may have given more of the same list,
+-- and the
 -- origin may have taken more.
 pub record Uploads (c c' o o' : Look) : Type 0 where
   pub client : all_of c' ≡ all_of c
@@ -59,7 +62,8 @@ both (Some m) (Some n) = Some (m + n)
 both (Some m) None = None
 both None n = None
 
--- More lowers what the upload has left, and Again how many Again answers the two links have left; nothing raises either
+-- More lowers what the upload has left, and Again how many Again answers the two links have left; nothing
+-- raises either
 abbrev pub UploadFalls : Uploaded → Option ℕ → Option ℕ → Option ℕ → Option ℕ → Type 0
 UploadFalls U.More left left' agains agains' = Fewer left left' × NoMore agains agains'
 UploadFalls U.Again left left' agains agains' = NoMore left left' × Fewer agains agains'
@@ -74,9 +78,11 @@ abbrev pub upload_waits : Uploaded → Bool
 upload_waits U.Again = true
 upload_waits _ = false
 
--- between sure links, of which the origin never leaves, no fault is met, and nothing waits where neither stalls
+-- between sure links, of which the origin never leaves, no fault is met, and nothing waits where neither
+-- stalls
 pub record UploadsSurely (answer : Uploaded) (c c' o o' : Look) : Type 0 where
-  pub faults : NeverLeaves o → (upload_failed answer ≡ false) × (c'.faults ≡ c.faults) × (o'.faults ≡ o.faults)
+  pub faults : NeverLeaves o → (upload_failed answer ≡ false) × (c'.faults ≡ c.faults) ×
+      (o'.faults ≡ o.faults)
   pub waits : NeverStalls c → NeverStalls o → upload_waits answer ≡ false
 
 -- the number rose by at most 8 for each of n bytes, where it is told

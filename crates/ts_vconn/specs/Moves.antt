@@ -30,13 +30,15 @@ pub record ReadsFront (tells : Bool) (old new : Look) (answer : Got) (most : ℕ
   pub ends : tells ≡ true → EndsWell answer new.left
 
 -- the bytes of one read came into a buffer, behind those that were there
-pub record PullsInto (tells : Bool) (old new : Look) (before after : Buffer) (answer : Pulled) (most : ℕ) : Type 0 where
+pub record PullsInto (tells : Bool) (old new : Look) (before after : Buffer) (answer : Pulled) (most : ℕ) :
+    Type 0 where
   pub more : List ℕ
   pub grows : GrowsBy before after more
   pub pulls : Pulls tells old new answer most more
 
 -- the bytes of one read came behind those that wait
-pub record PullsOn (tells : Bool) (old new : Look) (before after : List ℕ) (answer : Pulled) (most : ℕ) : Type 0 where
+pub record PullsOn (tells : Bool) (old new : Look) (before after : List ℕ) (answer : Pulled) (most : ℕ) : Type
+    0 where
   pub more : List ℕ
   pub grows : after ≡ before ++ more
   pub pulls : Pulls tells old new answer most more

@@ -1,4 +1,5 @@
--- Tokens with their due moments. A wheel is the list of them in the order in which they come due: by due moment,
+-- Tokens with their due moments. A wheel is the list of them in the order in which they come due: by due
+-- moment,
 -- and those of one moment in the order of adding.
 use Rattle.std.specs.Prelude.{ℕ, nat_lt, nat_le, List, [], ◌∷◌, Option, Some, None, if◌then◌else◌}
 

@@ -32,7 +32,8 @@ module _ {T : Type 0} where
   abbrev pub GivesDue : ℕ → List (ℕ × T) → Option (ℕ × T) → Type 0
   GivesDue now es None = (first_due now (in_order es) ≡ None) × (after_due now (in_order es) ≡ in_order es)
   GivesDue now es (Some e) =
-      (first_due now (in_order es) ≡ Some e.1) × (after_due now (in_order es) ≡ in_order (without_first e.0 es))
+      (first_due now (in_order es) ≡ Some e.1) ×
+      (after_due now (in_order es) ≡ in_order (without_first e.0 es))
 
 -- whatever was added in whatever order: one token more, added last, stands where a wheel puts it
 abbrev pub AddsInOrder : Type 0 → Type 0
@@ -40,7 +41,8 @@ AddsInOrder T =
     (tokens : List (ℕ × T)) (due : ℕ) (token : T)
     → in_order (tokens ++ (due, token) ∷ []) ≡ added due token (in_order tokens)
 
--- whatever was added in whatever order: a wheel gives the due token with the least pair of due moment and order of
+-- whatever was added in whatever order: a wheel gives the due token with the least pair of due moment and
+-- order of
 -- adding, and keeps all the rest in order
 abbrev pub TakesTheDue : Type 0 → Type 0
 TakesTheDue T = (tokens : List (ℕ × T)) (now : ℕ) → GivesDue now tokens (due_of now tokens)

@@ -44,7 +44,8 @@ module _ {T : Type 0} where
 
   -- a token was added at the moment of a row, behind those that are due no later
   abbrev pub PushesAt : ℕ → T → List (VecDeque T Global) → List (VecDeque T Global) → Type 0
-  PushesAt place token old new = (start : ℕ) → spread start new ≡ added (start + place) token (spread start old)
+  PushesAt place token old new = (start : ℕ)
+      → spread start new ≡ added (start + place) token (spread start old)
 
   -- the first token was taken, which is due at the moment of a row
   abbrev pub PopsAt : ℕ → T → List (VecDeque T Global) → List (VecDeque T Global) → Type 0

@@ -7,7 +7,9 @@ use Rattle.ts_hooks.proofs.table.plugin_at.Goals as goal
 pub returns-then-left-eq0 : goal.returns-then-left-eq0
 returns-then-left-eq0 c =
     c.loop-at.invariant (Ok (get_or c.args.plugins.now c.loop-at.at-index (TxnStart, 0)).1)
-    (rw c.if-left-eq0.true (first_left c.args.hook c.args.plugins.now c.loop-at.at-index (TxnStart, 0) (omega arith) (sym c.is_same.ensures ∙ c.if-is_same.true)))
+    (rw c.if-left-eq0.true (first_left c.args.hook c.args.plugins.now c.loop-at.at-index (TxnStart, 0)
+    (omega arith) (sym c.is_same.ensures ∙ c.if-is_same.true)))
 
 pub returns : goal.returns
-returns c = c.loop-at.invariant (Err c.loop-at.left) (none_left c.args.hook c.args.plugins.now c.loop-at.at-index c.loop-at.left (omega arith))
+returns c = c.loop-at.invariant (Err c.loop-at.left)
+    (none_left c.args.hook c.args.plugins.now c.loop-at.at-index c.loop-at.left (omega arith))

@@ -5,4 +5,6 @@ use Rattle.ts_hooks.proofs.table.plugin_at.Given as goal
 
 -- what is found of the plugins that were not passed is what is to be found
 abbrev pub invariant-loop-at : goal.invariant-loop-at
-invariant-loop-at l = (answer : Result ℕ ℕ) → Finds (plugins_at l.hook (drop l.at-index l.plugins)) l.left answer → Finds (plugins_at l.hook l.plugins) l.place answer
+invariant-loop-at l = (answer : Result ℕ ℕ)
+    → Finds (plugins_at l.hook (drop l.at-index l.plugins)) l.left answer
+    → Finds (plugins_at l.hook l.plugins) l.place answer

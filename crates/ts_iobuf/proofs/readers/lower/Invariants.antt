@@ -4,4 +4,5 @@ use Rattle.ts_iobuf.specs.Places.{lowered}
 use Rattle.ts_iobuf.proofs.readers.lower.Given as goal
 
 abbrev pub invariant-loop-slot : goal.invariant-loop-slot
-invariant-loop-slot l = l.slots ≡ map (lowered l.by) (take l.slot-index l.initial.slots) ++ drop l.slot-index l.initial.slots
+invariant-loop-slot l = l.slots ≡ map (lowered l.by) (take l.slot-index l.initial.slots) ++ drop l.slot-index
+    l.initial.slots

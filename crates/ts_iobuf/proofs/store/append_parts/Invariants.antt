@@ -6,4 +6,5 @@ use Rattle.ts_iobuf.proofs.store.append_parts.Given as goal
 abbrev pub invariant-loop-part : goal.invariant-loop-part
 invariant-loop-part l =
     (vec_len l.store + length (flat_map (λ p. p.now) (drop l.part-index l.parts)) ≤ vec_capacity l.store)
-    × (l.store.items ++ flat_map (λ p. p.now) (drop l.part-index l.parts) ≡ l.initial.store.items ++ flat_map (λ p. p.now) l.parts)
+    × (l.store.items ++ flat_map (λ p. p.now) (drop l.part-index l.parts) ≡ l.initial.store.items ++ flat_map
+    (λ p. p.now) l.parts)

@@ -5,4 +5,5 @@ use Rattle.ts_iobuf.proofs.store.joined_len.Given as goal
 
 abbrev pub invariant-loop-part : goal.invariant-loop-part
 invariant-loop-part l =
-    l.total + length (flat_map (λ p. p.now) (drop l.part-index l.parts)) ≡ length (flat_map (λ p. p.now) l.parts)
+    l.total + length (flat_map (λ p. p.now) (drop l.part-index l.parts)) ≡ length
+    (flat_map (λ p. p.now) l.parts)

@@ -5,4 +5,5 @@ use Rattle.ts_link.proofs.mem_shelf.find.Given as goal
 
 abbrev pub invariant-loop-file : goal.invariant-loop-file
 invariant-loop-file l =
-    file_in (map (λ f. (f.name, f.bytes)) l.files) l.name ≡ file_in (map (λ f. (f.name, f.bytes)) (drop l.file-index l.files)) l.name
+    file_in (map (λ f. (f.name, f.bytes)) l.files) l.name ≡ file_in
+    (map (λ f. (f.name, f.bytes)) (drop l.file-index l.files)) l.name

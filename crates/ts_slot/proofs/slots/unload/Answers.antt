@@ -28,11 +28,17 @@ loop-k-preserved g c =
       within = omega arith;
       count = was.count ∙ sym took.others.2;
       items = took.others.0 ∙ was.items;
-      values = ap (λ xs. map Some xs) put.items ∙ taken_more c.loop-k.values.items (slots_items c.loop-k.closed.slots) k c.in-Some.value was.values took.value ∙ ap (λ l. take (k + 1) l) (sym took.others.0);
-      length = ap length put.items ∙ length-append c.loop-k.values.items (c.in-Some.value ∷ []) ∙ ap (λ n. n + 1) was.length;
+      values = ap (λ xs. map Some xs) put.items ∙ taken_more c.loop-k.values.items
+          (slots_items c.loop-k.closed.slots) k c.in-Some.value was.values took.value ∙ ap
+          (λ l. take (k + 1) l) (sym took.others.0);
+      length = ap length put.items ∙ length-append c.loop-k.values.items (c.in-Some.value ∷ []) ∙ ap
+          (λ n. n + 1) was.length;
       room = let r = was.room in let s = put.capacity in let o = took.others.2 in omega arith;
-      left = λ j after low. ap (λ l. slice_index_or l j false) took.others.1 ∙ get_or-set_other filled k j false false (λ e. absurd (omega arith)) ∙ was.left j (omega arith) (let o = took.others.2 in omega arith);
+      left = λ j after low. ap (λ l. slice_index_or l j false) took.others.1 ∙ get_or-set_other filled k j
+          false false (λ e. absurd (omega arith)) ∙ was.left j (omega arith)
+          (let o = took.others.2 in omega arith);
       gone = λ j before. ap (λ l. slice_index_or l j false) took.others.1 ∙ dite (ℕ_discrete j k)
-          (λ is. ap (λ i. slice_index_or (set filled k false) i false) is ∙ get_or-set_same filled k false false (let n = was.count in let d = counts.1 in omega arith))
+          (λ is. ap (λ i. slice_index_or (set filled k false) i false) is ∙ get_or-set_same filled k false
+          false (let n = was.count in let d = counts.1 in omega arith))
           (λ ne. get_or-set_other filled k j false false ne ∙ was.gone j (omega arith));
     }

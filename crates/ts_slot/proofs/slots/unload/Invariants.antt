@@ -12,7 +12,8 @@ invariant-loop-k g l = record {
   values : map Some l.values.items ≡ take l.k (slots_items l.closed.slots);
   length : length l.values.items ≡ l.k;
   room : slots_len l.closed.slots ≤ vec_capacity l.values;
-  left : (j : ℕ) → l.k ≤ j → j < slots_len l.closed.slots → slice_index_or (slots_filled l.closed.slots) j false ≡ true;
+  left : (j : ℕ) → l.k ≤ j → j < slots_len l.closed.slots
+      → slice_index_or (slots_filled l.closed.slots) j false ≡ true;
   gone : (j : ℕ) → j < l.k → slice_index_or (slots_filled l.closed.slots) j false ≡ false;
 }
 

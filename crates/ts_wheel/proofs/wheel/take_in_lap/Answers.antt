@@ -10,4 +10,5 @@ returns-clause-parted g c =
       | then-is_empty w ↦ rw (w.lap-is, w.later-is) w.turn.ensures.parted
       | else-is_empty w ↦ rw (w.lap-is, w.later-is, c.is_empty.ensures.same) c.requires
     ] in
-    taken_lap c.args.now c.if-is_empty.lap c.take_due.new.self c.if-is_empty.later parted c.take_due.ensures.start c.take_due.ensures.rest
+    taken_lap c.args.now c.if-is_empty.lap c.take_due.new.self c.if-is_empty.later parted
+    c.take_due.ensures.start c.take_due.ensures.rest

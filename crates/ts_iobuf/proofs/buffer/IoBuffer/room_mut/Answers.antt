@@ -12,12 +12,16 @@ returns c =
       (
         refl,
         λ w. rw (← c.self.view_is) (
-            let written = take s.filled s.store.items ++ (w ++ drop (length w) (drop s.filled s.store.items)) in
-            ap (λ n. buffer_of s.start s.filled s.room s.slots.items s.mark (take n (written ++ drop (length written) s.store.items))) len
-            ∙ buffer_of-over s.start s.filled s.room s.slots.items s.mark s.store.items w c.self.invariant.room),
+            let written = take s.filled s.store.items ++ (w ++ drop (length w) (drop s.filled s.store.items))
+            in
+            ap (λ n. buffer_of s.start s.filled s.room s.slots.items s.mark
+            (take n (written ++ drop (length written) s.store.items))) len
+            ∙ buffer_of-over s.start s.filled s.room s.slots.items s.mark s.store.items w
+            c.self.invariant.room),
       ),
       record {
         writes_back = tt;
-        room = c.slice_mut.ensures.value ∙ ap (λ n. take n (drop s.filled s.store.items)) count ∙ ap (λ b. b.room) c.self.view_is;
+        room = c.slice_mut.ensures.value ∙ ap (λ n. take n (drop s.filled s.store.items)) count ∙ ap
+            (λ b. b.room) c.self.view_is;
       },
     )

@@ -8,6 +8,10 @@ use Rattle.ts_journal.proofs.journal.Journal.push.Goals as goal
 
 pub invariant_of-self : goal.invariant_of-self
 invariant_of-self c =
-    let same : c.args.self.now.state ≡ state_in c.self.inside.tables = ap (λ v. v.state) (sym c.self.view_is) in
-    let allowed : Allowed (state_in c.self.inside.tables) c.args.entry = subst (λ (s : State). Allowed s c.args.entry) same c.requires.allowed in
-    reached_push (state_in c.self.inside.base) c.self.inside.entries.items c.push_reserved.new.self.items c.args.entry (state_in c.self.inside.tables) (state_in c.apply.new.self) c.self.invariant allowed c.push_reserved.ensures.items c.apply.ensures.state
+    let same : c.args.self.now.state ≡ state_in c.self.inside.tables = ap (λ v. v.state) (sym c.self.view_is)
+    in
+    let allowed : Allowed (state_in c.self.inside.tables) c.args.entry = subst
+    (λ (s : State). Allowed s c.args.entry) same c.requires.allowed in
+    reached_push (state_in c.self.inside.base) c.self.inside.entries.items c.push_reserved.new.self.items
+    c.args.entry (state_in c.self.inside.tables) (state_in c.apply.new.self) c.self.invariant allowed
+    c.push_reserved.ensures.items c.apply.ensures.state

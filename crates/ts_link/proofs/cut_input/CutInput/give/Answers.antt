@@ -18,6 +18,9 @@ returns-clause-bytes c =
     let rest : List ℕ = drop s.at s.bytes in
     let pieces : List Piece = cut_up (s.piece ∷ drop s.next s.cuts.items) rest in
     let left : bytes_of c.args.self.now.ahead ≡ rest =
-    ap (λ i. bytes_of i.ahead) (sym c.self.view_is) ∙ bytes-from_next pieces ∙ bytes-cut_up (s.piece ∷ drop s.next s.cuts.items) rest in
-    let given : take (count_got c.give_front.result) c.give_front.new.into ≡ take (count_got c.give_front.result) (drop s.at c.bytes.result.now) = c.give_front.ensures.bytes in
-    given ∙ ap (λ bs. take (count_got c.give_front.result) (drop s.at bs)) c.bytes.ensures ∙ ap (take (count_got c.give_front.result)) (sym left)
+    ap (λ i. bytes_of i.ahead) (sym c.self.view_is) ∙ bytes-from_next pieces ∙ bytes-cut_up
+    (s.piece ∷ drop s.next s.cuts.items) rest in
+    let given : take (count_got c.give_front.result) c.give_front.new.into ≡ take
+    (count_got c.give_front.result) (drop s.at c.bytes.result.now) = c.give_front.ensures.bytes in
+    given ∙ ap (λ bs. take (count_got c.give_front.result) (drop s.at bs)) c.bytes.ensures ∙ ap
+    (take (count_got c.give_front.result)) (sym left)

@@ -6,5 +6,6 @@ use Rattle.ts_link.proofs.mem_link.MemLinkLink.read.Goals as goal
 pub returns-clause-reads : goal.returns-clause-reads
 returns-clause-reads c =
     let e = c.read_once.ensures in
-    reads_right c.args.self.now c.read_once.new.link c.read_once.result c.read_once.new.into (length c.args.into.now) e.answer e.after
+    reads_right c.args.self.now c.read_once.new.link c.read_once.result c.read_once.new.into
+    (length c.args.into.now) e.answer e.after
     (omega arith) c.requires e.calls e.faults e.waits e.sound e.bytes

@@ -9,5 +9,7 @@ use Rattle.ts_link.proofs.mem_link.MemLinkLink.write.Goals as goal
 pub returns-clause-writes : goal.returns-clause-writes
 returns-clause-writes c =
     let e = c.write_once.ensures in
-    subst (λ (t : LinkState). Writes true (look_of c.args.self.now) (look_of t) c.write_once.result c.args.piece.now) (sym e.after)
-    (writes_right c.args.self.now c.args.piece.now c.write_once.result e.most c.requires e.answer e.calls e.faults e.waits)
+    subst (λ (t : LinkState). Writes true (look_of c.args.self.now) (look_of t) c.write_once.result
+    c.args.piece.now) (sym e.after)
+    (writes_right c.args.self.now c.args.piece.now c.write_once.result e.most c.requires e.answer e.calls
+    e.faults e.waits)

@@ -5,4 +5,5 @@ use Rattle.ts_link.proofs.PiecesAhead.{sound_pieces}
 use Rattle.ts_link.proofs.piece_input.PieceInput.give.Goals as goal
 
 pub returns-clause-sound : goal.returns-clause-sound
-returns-clause-sound c = subst IsSoundInput c.self.view_is (sound_pieces c.self.inside.passed c.self.inside.next c.self.inside.pieces.items)
+returns-clause-sound c = subst IsSoundInput c.self.view_is
+    (sound_pieces c.self.inside.passed c.self.inside.next c.self.inside.pieces.items)

@@ -5,4 +5,5 @@ use Rattle.ts_link.proofs.PiecesAhead.{sound_pieces}
 use Rattle.ts_link.proofs.piece_input.PieceInput.known.Goals as goal
 
 pub returns : goal.returns
-returns c = subst IsSoundInput c.self.view_is (sound_pieces c.self.inside.passed c.self.inside.next c.self.inside.pieces.items)
+returns c = subst IsSoundInput c.self.view_is (sound_pieces c.self.inside.passed c.self.inside.next
+    c.self.inside.pieces.items)

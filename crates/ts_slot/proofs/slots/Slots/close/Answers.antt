@@ -12,8 +12,10 @@ unload-requires-clause-each g c k low =
     let w = c.args.self.sized.1 in
     let n = c.args.self.named in
     let l = c.close_with-closed.ensures.counts.1 in
-    let e = ends g.V.Slotted.fits g.V.Slotted.stamp g.V.Slotted.trace g.V.Slotted.follows g.V.Slotted.follows_on c.args.self.table.shared.key.0.value.items
-    c.args.seat.place.id c.args.seat.place.me.0 (slots_items c.close_with-closed.result.words) (slots_items c.close_with-closed.result.slots) c.requires.share c.requires.idle
+    let e = ends g.V.Slotted.fits g.V.Slotted.stamp g.V.Slotted.trace g.V.Slotted.follows
+    g.V.Slotted.follows_on c.args.self.table.shared.key.0.value.items
+    c.args.seat.place.id c.args.seat.place.me.0 (slots_items c.close_with-closed.result.words)
+    (slots_items c.close_with-closed.result.slots) c.requires.share c.requires.idle
     c.close_with-closed.ensures.values.2 k (omega arith) in
     (e.value, e.there)
 
@@ -26,8 +28,11 @@ returns-clause-values g c k x there =
     let n = c.args.self.named in
     let l = c.close_with-closed.ensures.counts.1 in
     let count = (slots_counts c.close_with-closed.result.slots).0 in
-    let e = ends g.V.Slotted.fits g.V.Slotted.stamp g.V.Slotted.trace g.V.Slotted.follows g.V.Slotted.follows_on c.args.self.table.shared.key.0.value.items
-    c.args.seat.place.id c.args.seat.place.me.0 (slots_items c.close_with-closed.result.words) slots c.requires.share c.requires.idle
+    let e = ends g.V.Slotted.fits g.V.Slotted.stamp g.V.Slotted.trace g.V.Slotted.follows
+    g.V.Slotted.follows_on c.args.self.table.shared.key.0.value.items
+    c.args.seat.place.id c.args.seat.place.me.0 (slots_items c.close_with-closed.result.words) slots
+    c.requires.share c.requires.idle
     c.close_with-closed.ensures.values.2 k (omega arith) in
     let is : e.value ≡ x = one_value slots k e.value x e.there stood in
-    subst (IsLast {d = g.V.Slotted} c.args.self c.args.seat k) is (record { fit = e.fit; stamped = e.stamped; later = e.later })
+    subst (IsLast {d = g.V.Slotted} c.args.self c.args.seat k) is
+    (record { fit = e.fit; stamped = e.stamped; later = e.later })

@@ -13,18 +13,22 @@ join_seat-requires g c = (
   c.requires.seats.1.0,
   c.args.from.carries ∙ ap (λ l. emptied l) c.requires.idle,
   (let f = c.args.self.now.few.0 in let w = c.args.self.now.sized.0 in omega arith),
-  joins g.V.Slotted.fits g.V.Slotted.stamp g.V.Slotted.trace g.V.Slotted.follows c.args.self.now.table.shared.key.0.value.items
-      c.args.into.now.place.id c.args.into.now.place.me.0 c.args.from.place.id c.args.from.place.me.0 c.args.into.now.alive c.requires.idle,
+  joins g.V.Slotted.fits g.V.Slotted.stamp g.V.Slotted.trace g.V.Slotted.follows
+      c.args.self.now.table.shared.key.0.value.items
+      c.args.into.now.place.id c.args.into.now.place.me.0 c.args.from.place.id c.args.from.place.me.0
+      c.args.into.now.alive c.requires.idle,
 )
 
 pub load-requires : goal.load-requires
 load-requires g c = (
   c.join_seat.ensures.0 ∙ c.requires.seats.0.0,
   (let f = c.args.self.now.few.0 in let w = c.args.self.now.sized.0 in omega arith),
-  looks g.V.Slotted.fits g.V.Slotted.stamp g.V.Slotted.trace g.V.Slotted.follows c.args.self.now.table.shared.key.0.value.items
+  looks g.V.Slotted.fits g.V.Slotted.stamp g.V.Slotted.trace g.V.Slotted.follows
+      c.args.self.now.table.shared.key.0.value.items
       c.args.self.now.table.shared.table_id.slots c.join_seat.new.seat.id 0 c.join_seat.new.seat.me,
 )
 
 pub returns-clause-latest : goal.returns-clause-latest
 returns-clause-latest g c k =
-    ap (λ m. latest k m.0.known) (c.load.ensures.2.0 ∙ c.join_seat.ensures.2) ∙ latest_append k c.args.from.place.me.0.known c.args.into.now.place.me.0.known
+    ap (λ m. latest k m.0.known) (c.load.ensures.2.0 ∙ c.join_seat.ensures.2) ∙ latest_append k
+    c.args.from.place.me.0.known c.args.into.now.place.me.0.known

@@ -7,6 +7,7 @@ pub split_seat-place-requires : goal.split_seat-place-requires
 split_seat-place-requires g c = (
   c.requires.seat.0,
   (let f = c.args.self.now.few.0 in let w = c.args.self.now.sized.0 in omega arith),
-  splits g.V.Slotted.fits g.V.Slotted.stamp g.V.Slotted.trace g.V.Slotted.follows c.args.self.now.table.shared.key.0.value.items
+  splits g.V.Slotted.fits g.V.Slotted.stamp g.V.Slotted.trace g.V.Slotted.follows
+      c.args.self.now.table.shared.key.0.value.items
       c.args.seat.now.place.id c.args.seat.now.place.me.0 c.requires.share c.requires.free,
 )

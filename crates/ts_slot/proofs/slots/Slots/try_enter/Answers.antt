@@ -7,9 +7,12 @@ use Rattle.ts_slot.proofs.Steps.{enters, below_is}
 pub fetch_or-seen-requires : goal.fetch_or-seen-requires
 fetch_or-seen-requires g c = (
   c.requires.seat.0,
-  (let a = c.requires.group in let n = c.args.self.now.named in let w = c.args.self.now.sized.0 in omega arith),
-  enters g.V.Slotted.fits g.V.Slotted.stamp g.V.Slotted.trace g.V.Slotted.follows c.args.self.now.table.shared.key.0.value.items
-      c.args.self.now.table.shared.table_id.slots c.args.seat.now.place.id c.args.k c.args.seat.now.place.me c.requires.group c.args.seat.now.alive,
+  (let a = c.requires.group in let n = c.args.self.now.named in let w = c.args.self.now.sized.0 in omega
+      arith),
+  enters g.V.Slotted.fits g.V.Slotted.stamp g.V.Slotted.trace g.V.Slotted.follows
+      c.args.self.now.table.shared.key.0.value.items
+      c.args.self.now.table.shared.table_id.slots c.args.seat.now.place.id c.args.k c.args.seat.now.place.me
+      c.requires.group c.args.seat.now.alive,
 )
 
 pub exchange-taken-requires : goal.exchange-taken-requires
@@ -17,5 +20,11 @@ exchange-taken-requires g c =
     let e = c.fetch_or-seen.ensures in
     let odd = c.if-seen-eq1.false in
     let even : c.fetch_or-seen.result % 2 ≡ 0 = omega arith in
-    let won = e.2.0 even in
-    (e.0 ∙ c.requires.seat.0, (Some won.0, below_is c.fetch_or-seen.new.seat.me.1 c.args.seat.now.place.me.1 (c.args.k, Some won.0) (ap (λ m. m.1) won.6)))
+    let won = e.2.0 even in (
+      e.0 ∙ c.requires.seat.0,
+      (
+        Some won.0,
+        below_is c.fetch_or-seen.new.seat.me.1 c.args.seat.now.place.me.1
+            (c.args.k, Some won.0) (ap (λ m. m.1) won.6),
+      ),
+    )

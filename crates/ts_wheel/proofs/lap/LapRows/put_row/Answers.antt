@@ -11,5 +11,6 @@ invariant_of-self g c =
       len = c.put_at.ensures.length ∙ lap.len;
       fits = lap.fits;
       first_fits = omega arith;
-      empty = c.put_at.ensures.empty c.min-self-inside.result (omega arith) (λ k d lt. lap.empty k d (omega arith));
+      empty = c.put_at.ensures.empty c.min-self-inside.result (omega arith)
+          (λ k d lt. lap.empty k d (omega arith));
     }
