@@ -139,10 +139,11 @@ uri_byte_solid b uri = grind (arith, nat_tests)
 
 -- ---- the parts of a target
 
-abbrev Parts : Type 0
+-- a target and a host
+abbrev pub Parts : Type 0
 Parts = List ℕ × List ℕ
 
-some_parts : (p q : Parts) → Some p ≡ Some q → p ≡ q
+pub some_parts : (p q : Parts) → Some p ≡ Some q → p ≡ q
 some_parts p q same = ap (λ o. unwrap_or o p) same
 
 absolute_good : (method t first target host : List ℕ) → IsGoodTarget t → absolute_parts method (drop 7 t) ≡ Some (target, host)

@@ -73,6 +73,7 @@ pub hex_pass : (ds : List ℕ) → AllDigits 16 ds → AllPass is_ascii_hexdigit
 hex_pass [] all = All-nil (λ c. IsTrue (is_ascii_hexdigit c))
 hex_pass (c ∷ cs) all = All-cons (λ c. IsTrue (is_ascii_hexdigit c)) c cs (hexdigit c all.0) (hex_pass cs all.1)
 
+-- it has four digits at most
 pub length-hex : (n : ℕ) → n < 65536 → length (hex n) ≤ 4
 length-hex n fits = omega (arith, ap length (four_digits_are n fits), length-drop (leading_zeros n) (four_digits n))
 

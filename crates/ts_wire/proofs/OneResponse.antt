@@ -5,9 +5,8 @@ use Rattle.std.specs.Prelude.{codes, IsTrue}
 use Rattle.std.specs.Char.{is_ascii_digit}
 use Rattle.std.proofs.lemmas.List.Elements.{All-nil}
 use Rattle.http_header.proofs.TokenLemmas.{AllPass-from_test}
-use Rattle.std.proofs.lemmas.List.{drop-append-le}
 use Rattle.httparse.specs.Grammar.{is_value_byte, lf, IsField, ResponseHead, print_response}
-use Rattle.httparse.proofs.GrammarLemmas.{response_unique, ReadsResponse-append}
+use Rattle.httparse.proofs.GrammarLemmas.{response_unique}
 use Rattle.ts_wire.specs.declared.fields.Field.{Field}
 use Rattle.ts_wire.specs.declared.heads.ResponseHead as kept
 use Rattle.ts_wire.specs.Limits.{status_limit}
@@ -17,20 +16,6 @@ use Rattle.ts_wire.proofs.ResponseLemmas.{response_some}
 
 pub one_response : (bytes : List ℕ) (h k : ResponseHead) (r q : List ℕ) → BeginsWithResponse bytes h r → BeginsWithResponse bytes k q → (h ≡ k) × (r ≡ q)
 one_response bytes h k r q a b = response_unique bytes h k r q a.reads b.reads
-
-pub response_more : (bytes : List ℕ) (h : ResponseHead) (rest more : List ℕ) → BeginsWithResponse bytes h rest → BeginsWithResponse (bytes ++ more) h (rest ++ more)
-response_more bytes h rest more begins =
-    record { reads = ReadsResponse-append bytes h rest more begins.reads; short = begins.short; few = begins.few }
-
-pub response_of_more : (bytes : List ℕ) (head : kept.ResponseHead) (used : ℕ) (more : List ℕ) → IsResponseOf bytes head used → IsResponseOf (bytes ++ more) head used
-response_of_more bytes head used more is = record {
-  parsed = is.parsed;
-  begins = subst (BeginsWithResponse (bytes ++ more) is.parsed) (sym (drop-append-le used bytes more is.within)) (response_more bytes is.parsed (drop used bytes) more is.begins);
-  keeps = is.keeps;
-  len = is.len;
-  some = is.some;
-  within = omega (arith, is.within, length-append bytes more);
-}
 
 pub is_one_response : (bytes : List ℕ) (head : kept.ResponseHead) (used : ℕ) → IsResponseOf bytes head used → IsOneResponse bytes head used
 is_one_response bytes head used is h rest begins =
