@@ -1,9 +1,10 @@
 //! Messages made to be taken in two ways by two readers (request smuggling), and the one way in which they
 //! are taken here.
 
-use crate::Framing;
-use crate::tests::rows::{Asked, check_rows};
+use crate::answers::Asked;
+use crate::rows::check_rows;
 use std::test::Fail;
+use ts_wire::Framing;
 
 // A refusal is right wherever the RFC allows one. Where it is narrower than the RFC, the line says so.
 const REQUESTS: &str = r"

@@ -1,13 +1,15 @@
 //! Heads that are read, checked and sent on.
 
-use crate::tests::rows::{Asked, answer, check_rows, filled, with_lines};
-use crate::{
-    ClientFraming, Field, Fields, Read, client_head, plugin_host, read_request, read_response,
-};
+use crate::answers::Asked;
+use crate::rows::{check_bytes, check_rows, filled, with_lines};
 use http_header::{HeaderName, HeaderValue};
 use std::alloc::Global;
+use std::process::Abort;
 use std::test::Fail;
 use ts_link::NoMemory;
+use ts_wire::{
+    ClientFraming, Field, Fields, Read, client_head, plugin_host, read_request, read_response,
+};
 
 const CHECKED: &str = r"
 # the forms of a target, and its host (RFC 9112, section 3.2)
@@ -139,25 +141,31 @@ fn keeps_limits_of_heads(rt: HostRuntime) -> Result<(), Fail> {
     let alloc = rt.alloc();
     for (asked, count, end, want) in LINES {
         let text = with_lines(alloc, b"GET / HTTP/1.0\r\n", count, end)?;
-        let got = answer(alloc, asked, text.as_slice())?;
-        assert_eq!(rt; got.as_slice(), want);
+        check_bytes(&rt, alloc, asked, text.as_slice(), want)?;
     }
     for (asked, len, end, want) in LENGTHS {
         let text = filled(alloc, b"GET / HTTP/1.0\r\na:", end, len)?;
-        let got = answer(alloc, asked, text.as_slice())?;
-        assert_eq!(rt; got.as_slice(), want);
+        check_bytes(&rt, alloc, asked, text.as_slice(), want)?;
     }
     Ok(())
+}
+
+/// How many bytes the head of a response at the front has, or 0 where more bytes are awaited.
+fn head_len(alloc: Global, bytes: &[u8]) -> Result<Option<usize>, NoMemory> {
+    match read_response(alloc, bytes)? {
+        Read::Head { head: _, used } => Ok(Some(used)),
+        Read::More => Ok(Some(0)),
+        Read::Bad | Read::TooLong => Ok(None),
+    }
 }
 
 /// The shortest front of the bytes that is read as the head of a response, and how long that head is.
 fn first_head(alloc: Global, bytes: &[u8]) -> Result<Option<(usize, usize)>, NoMemory> {
     for n in 0..=bytes.len() {
-        match read_response(alloc, bytes.split_at(n).0)? {
-            Read::Head { head: _, used } => return Ok(Some((n, used))),
-            Read::More => {}
-            Read::Bad => return Ok(None),
-            Read::TooLong => return Ok(None),
+        match head_len(alloc, bytes.split_at(n).0)? {
+            Some(0) => {}
+            Some(used) => return Ok(Some((n, used))),
+            None => return Ok(None),
         }
     }
     Ok(None)
@@ -183,13 +191,18 @@ fn prints_an_answer_of_its_own(rt: HostRuntime) -> Result<(), Fail> {
         name: HeaderName::from_static("content-type"),
         value: HeaderValue::from_static("text/plain"),
     })?;
+    check_answer(&rt, rt.alloc(), &fields)?;
+    fields.remove_all(&HeaderName::from_static("content-type"));
+    assert_eq!(rt; fields.items().len(), 0);
+    Ok(())
+}
+
+fn check_answer(rt: &impl Abort, alloc: Global, fields: &Fields) -> Result<(), Fail> {
     let framing = ClientFraming::Sized(14);
-    let own = client_head(rt.alloc(), 403, b"Forbidden", &fields, None, framing)?;
+    let own = client_head(alloc, 403, b"Forbidden", fields, None, framing)?;
     let want: &[u8] =
         b"HTTP/1.1 403 Forbidden\r\ncontent-type: text/plain\r\ncontent-length: 14\r\nconnection: close\r\n\r\n";
     assert_eq!(rt; own.bytes(), want);
-    fields.remove_all(&HeaderName::from_static("content-type"));
-    assert_eq!(rt; fields.items().len(), 0);
     Ok(())
 }
 

@@ -1,5 +1,5 @@
 use Rattle.std.proofs.Common.{length}
-use Rattle.ts_wire.proofs.tests.rows.unescaped.Given as goal
+use Rattle.ts_wire_tests.proofs.rows.unescaped.Given as goal
 
 -- each turn takes a byte or more of what is left
 abbrev pub decreases-loop-rest : goal.decreases-loop-rest

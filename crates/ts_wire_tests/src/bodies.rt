@@ -1,8 +1,9 @@
 //! Bodies that are read, each in pieces of 1, of 2 and of all of its bytes.
 
-use crate::Framing;
-use crate::tests::rows::{Asked, answer, check_rows, filled, with_lines};
+use crate::answers::Asked;
+use crate::rows::{check_bytes, check_rows, filled, with_lines};
 use std::test::Fail;
+use ts_wire::Framing;
 
 const NOTHING: &str = r"
 x => ended
@@ -67,20 +68,16 @@ fn keeps_limits_of_chunks(rt: HostRuntime) -> Result<(), Fail> {
     let alloc = rt.alloc();
     let asked = Asked::Body(Framing::Chunked);
     for (len, want) in LINE_LENGTHS {
-        let mut text = filled(alloc, b"0;", b"\r\n", len)?;
-        text.extend_from_slice(b"\r\n")?;
-        let got = answer(alloc, asked, text.as_slice())?;
-        assert_eq!(rt; got.as_slice(), want);
+        let text = filled(alloc, b"0;", b"\r\n\r\n", len + 2)?;
+        check_bytes(&rt, alloc, asked, text.as_slice(), want)?;
     }
     for (len, want) in TRAILER_LENGTHS {
         let text = filled(alloc, b"0\r\na:", b"\r\n\r\n", len + 3)?;
-        let got = answer(alloc, asked, text.as_slice())?;
-        assert_eq!(rt; got.as_slice(), want);
+        check_bytes(&rt, alloc, asked, text.as_slice(), want)?;
     }
     for (count, end, want) in TRAILER_FIELDS {
         let text = with_lines(alloc, b"0\r\n", count, end)?;
-        let got = answer(alloc, asked, text.as_slice())?;
-        assert_eq!(rt; got.as_slice(), want);
+        check_bytes(&rt, alloc, asked, text.as_slice(), want)?;
     }
     Ok(())
 }
