@@ -16,16 +16,20 @@ unfolding print_request
 request_some h = ends_some _ h.fields h.last
 
 -- the head whose spans these are is the one that the bytes begin with
-pub request_found : (bytes front : List ℕ) (hs : List HeaderSpan) (spans : RequestSpans) (head : kept.RequestHead)
+pub request_found : (bytes front : List ℕ) (hs : List HeaderSpan) (spans : RequestSpans)
+    (head : kept.RequestHead)
     → front ≡ take head_limit bytes → length hs ≡ field_limit → IsRequestWithin front hs spans
-    → (h : RequestHead) → IsRequestAt front hs spans h → KeepsRequest h head → IsRequestOf bytes head spans.len
+    → (h : RequestHead) → IsRequestAt front hs spans h → KeepsRequest h head
+    → IsRequestOf bytes head spans.len
 request_found bytes front hs spans head is room within h at keeps =
     found bytes front hs spans.len spans.headers head is room
     within.section h at.reads at.len (request_some h) at.fields keeps
 
 -- the head's own bytes are as good as those with what follows
-pub request_at_own : (front text : List ℕ) (hs : List HeaderSpan) (spans : RequestSpans) → text ≡ take spans.len front
-    → IsRequestWithin front hs spans → (h : RequestHead) → IsRequestAt front hs spans h → IsRequestAt text hs spans h
+pub request_at_own : (front text : List ℕ) (hs : List HeaderSpan) (spans : RequestSpans)
+    → text ≡ take spans.len front
+    → IsRequestWithin front hs spans → (h : RequestHead) → IsRequestAt front hs spans h
+    → IsRequestAt text hs spans h
 request_at_own front text hs spans own within h at =
     let n = spans.len in
     subst (λ t. IsRequestAt t hs spans h) (sym own) (record {

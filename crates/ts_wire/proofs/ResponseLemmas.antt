@@ -16,16 +16,20 @@ unfolding print_response
 response_some h = ends_some _ h.fields h.last
 
 -- the head whose spans these are is the one that the bytes begin with
-pub response_found : (bytes front : List ℕ) (hs : List HeaderSpan) (spans : ResponseSpans) (head : kept.ResponseHead)
+pub response_found : (bytes front : List ℕ) (hs : List HeaderSpan) (spans : ResponseSpans)
+    (head : kept.ResponseHead)
     → front ≡ take head_limit bytes → length hs ≡ field_limit → IsResponseWithin front hs spans
-    → (h : ResponseHead) → IsResponseAt front hs spans h → KeepsResponse h head → IsResponseOf bytes head spans.len
+    → (h : ResponseHead) → IsResponseAt front hs spans h → KeepsResponse h head
+    → IsResponseOf bytes head spans.len
 response_found bytes front hs spans head is room within h at keeps =
     found bytes front hs spans.len spans.headers head is room
     within.section h at.reads at.len (response_some h) at.fields keeps
 
 -- the head's own bytes are as good as those with what follows
-pub response_at_own : (front text : List ℕ) (hs : List HeaderSpan) (spans : ResponseSpans) → text ≡ take spans.len front
-    → IsResponseWithin front hs spans → (h : ResponseHead) → IsResponseAt front hs spans h → IsResponseAt text hs spans h
+pub response_at_own : (front text : List ℕ) (hs : List HeaderSpan) (spans : ResponseSpans)
+    → text ≡ take spans.len front
+    → IsResponseWithin front hs spans → (h : ResponseHead) → IsResponseAt front hs spans h
+    → IsResponseAt text hs spans h
 response_at_own front text hs spans own within h at =
     let n = spans.len in
     subst (λ t. IsResponseAt t hs spans h) (sym own) (record {

@@ -42,7 +42,8 @@ pub record IsHeadOf {H K : Type 0} (Good : H → Type 0) (print : H → List ℕ
   pub within : used ≤ length bytes
 
 -- a head that the bytes begin with is kept as this one, and the rest follows it
-abbrev pub IsOneHead : {H K : Type 0} → (List ℕ → H → List ℕ → Type 0) → (H → K → Type 0) → List ℕ → K → ℕ → Type 0
+abbrev pub IsOneHead : {H K : Type 0} → (List ℕ → H → List ℕ → Type 0) → (H → K → Type 0) → List ℕ → K → ℕ
+    → Type 0
 IsOneHead {H = H} Begins Keeps bytes head used =
     (h : H) (rest : List ℕ) → Begins bytes h rest → Keeps h head × (rest ≡ drop used bytes)
 
@@ -58,7 +59,8 @@ pub record Awaits (HasNone MayBecome : List ℕ → Type 0) (bytes : List ℕ) :
 
 -- no prefix is a head within the limits, whatever follows: as many bytes as a head may have are there, or one
 -- field line more than a head may have is among them
-pub record IsTooLong (LacksHead : List ℕ → Type 0) (Exceeds : ℕ → List ℕ → Type 0) (bytes : List ℕ) : Type 0 where
+pub record IsTooLong (LacksHead : List ℕ → Type 0) (Exceeds : ℕ → List ℕ → Type 0)
+    (bytes : List ℕ) : Type 0 where
   pub lacks : (more : List ℕ) → LacksHead (bytes ++ more)
   pub why : (head_limit ≤ length bytes) ⊎ Exceeds field_limit (take head_limit bytes)
 

@@ -166,7 +166,7 @@ fn printed(
 
 /// The body by its bytes one at a time, if it is the same however they are cut.
 fn body(alloc: Global, bytes: &[u8], framing: Framing) -> Result<Octets, NoMemory> {
-    if framing == Framing::Faulty {
+    if let Framing::Faulty = framing {
         return Octets::copy_of(alloc, b"faulty");
     }
     let answer = body_by(alloc, bytes, framing, 1)?;
