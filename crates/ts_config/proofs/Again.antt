@@ -23,10 +23,12 @@ byte_again b small = by_kind (is_ascii_alphanumeric b)
     whole : 16 * (b / 16) + b % 16 ≡ b
     whole = omega arith
 
-    by_kind : (t : Bool) → byte_of (cond t (b ∷ []) (48 ∷ 120 ∷ hex_digit (b / 16) ∷ hex_digit (b % 16) ∷ [])) ≡ Some b
+    by_kind : (t : Bool) → byte_of (cond t (b ∷ []) (48 ∷ 120 ∷ hex_digit (b / 16) ∷ hex_digit (b % 16) ∷ []))
+        ≡ Some b
     by_kind true = refl
     by_kind false =
-        ap (λ o. option_and_then (λ h. option_map (λ l. 16 * h + l) (hex_value (hex_digit (b % 16)))) o) (hex_again (b / 16) (omega arith))
+        ap (λ o. option_and_then (λ h. option_map (λ l. 16 * h + l) (hex_value (hex_digit (b % 16)))) o)
+        (hex_again (b / 16) (omega arith))
         ∙ ap (λ o. option_map (λ l. 16 * (b / 16) + l) o) (hex_again (b % 16) (omega arith))
         ∙ ap (λ n. Some n) whole
 
@@ -49,5 +51,6 @@ decimal_leads (suc n) small = leads (decimal (suc n)) (first_decimal (suc n) (om
 pub number_again : (most n : ℕ) → n ≤ most → most < 2 ^ 64 → number_of most (decimal n) ≡ Some n
 number_again most n fits small =
     let numeral = decimal_is_IsNumeral n (omega arith) in
-    a_number most (decimal n) (decimal_leads n (omega arith)) (digits_ascii (decimal n) numeral.0.1) (omega (arith, numeral.1))
+    a_number most (decimal n) (decimal_leads n (omega arith)) (digits_ascii (decimal n) numeral.0.1)
+    (omega (arith, numeral.1))
     ∙ ap (λ m. Some m) numeral.1

@@ -15,21 +15,28 @@ use Rattle.std.proofs.lemmas.Bool.Decides.{nat_tests}
 -- what the words behind the name are
 abbrev pub Asks : TransformLine → PluginName → List (List ℕ) → Type 0
 Asks t.Null name words = (name ≡ n.Null) × (words ≡ [])
-Asks (t.Append file text) name words = (name ≡ n.Append) × (words ≡ file ∷ []) × (0 < length file) × (text ≡ [])
+Asks (t.Append file text) name words =
+    (name ≡ n.Append) × (words ≡ file ∷ []) × (0 < length file) × (text ≡ [])
 Asks t.Bnull name words = (name ≡ n.Bnull) × (words ≡ [])
 Asks (t.Prepend text) name words = (name ≡ n.Prepend) × (words ≡ text ∷ []) × (length text ≤ 16384)
-Asks (t.Map a b) name words = (name ≡ n.Map) × ((from to : List ℕ) × (words ≡ from ∷ to ∷ []) × (byte_of from ≡ Some a) × (byte_of to ≡ Some b))
-Asks (t.Drop b) name words = (name ≡ n.Drop) × ((byte : List ℕ) × (words ≡ byte ∷ []) × (byte_of byte ≡ Some b))
-Asks (t.Delay m) name words = (name ≡ n.Delay) × ((ms : List ℕ) × (words ≡ ms ∷ []) × (number_of 60000 ms ≡ Some m))
+Asks (t.Map a b) name words =
+    (name ≡ n.Map) × ((from to : List ℕ) × (words ≡ from ∷ to ∷ []) × (byte_of from ≡ Some a)
+    × (byte_of to ≡ Some b))
+Asks (t.Drop b) name words =
+    (name ≡ n.Drop) × ((byte : List ℕ) × (words ≡ byte ∷ []) × (byte_of byte ≡ Some b))
+Asks (t.Delay m) name words =
+    (name ≡ n.Delay) × ((ms : List ℕ) × (words ≡ ms ∷ []) × (number_of 60000 ms ≡ Some m))
 
 some_same : {A : Type 0} {x y : A} → Some x ≡ Some y → x ≡ y
 some_same e = cc
 
-pub mapped : {A B : Type 0} (f : A → B) (o : Option A) (y : B) → option_map f o ≡ Some y → (x : A) × (o ≡ Some x) × (f x ≡ y)
+pub mapped : {A B : Type 0} (f : A → B) (o : Option A) (y : B) → option_map f o ≡ Some y
+    → (x : A) × (o ≡ Some x) × (f x ≡ y)
 mapped f None y e = absurd (let wrong : None ≡ Some y = e in cc)
 mapped f (Some x) y e = (x, refl, some_same e)
 
-pub chained : {A B : Type 0} (f : A → Option B) (o : Option A) (y : B) → option_and_then f o ≡ Some y → (x : A) × (o ≡ Some x) × (f x ≡ Some y)
+pub chained : {A B : Type 0} (f : A → Option B) (o : Option A) (y : B) → option_and_then f o ≡ Some y
+    → (x : A) × (o ≡ Some x) × (f x ≡ Some y)
 chained f None y e = absurd (let wrong : None ≡ Some y = e in cc)
 chained f (Some x) y e = (x, refl, e)
 
@@ -37,10 +44,12 @@ pub chosen : {A : Type 0} (b : Bool) (x y : A) → cond b (Some x) None ≡ Some
 chosen true x y e = (refl, some_same e)
 chosen false x y e = absurd (let wrong : None ≡ Some y = e in cc)
 
-pub asked : (name : PluginName) (words : List (List ℕ)) (line : TransformLine) → transform_of name words ≡ Some line → Asks line name words
+pub asked : (name : PluginName) (words : List (List ℕ)) (line : TransformLine)
+    → transform_of name words ≡ Some line → Asks line name words
 asked n.Null [] line is = subst (λ l. Asks l n.Null []) (some_same is) (refl, refl)
 asked n.Bnull [] line is = subst (λ l. Asks l n.Bnull []) (some_same is) (refl, refl)
-asked n.Append ((b ∷ bs) ∷ []) line is = subst (λ l. Asks l n.Append ((b ∷ bs) ∷ [])) (some_same is) (refl, refl, omega arith, refl)
+asked n.Append ((b ∷ bs) ∷ []) line is =
+    subst (λ l. Asks l n.Append ((b ∷ bs) ∷ [])) (some_same is) (refl, refl, omega arith, refl)
 asked n.Prepend (text ∷ []) line is =
     let both = chosen (nat_le (length text) 16384) (t.Prepend text) line is in
     let fits : length text ≤ 16384 = grind (arith, nat_tests, both.0) in
@@ -59,25 +68,32 @@ asked name words line is = absurd (let wrong : None ≡ Some line = is in cc)
 
 -- a line that means a transform has a name, and the words that ask for it
 pub entry_asked : (words : List (List ℕ)) (line : TransformLine) → Ok (Transform line) ≡ line_entry words
-    → (name : PluginName) × (first : List ℕ) × (others : List (List ℕ)) × (words ≡ first ∷ others) × (name_of first ≡ Some name) × (transform_of name others ≡ Some line)
-entry_asked [] line is = absurd (let wrong : Ok (Transform line) ≡ Ok Empty = is in let inner : Transform line ≡ Empty = cc in cc)
+    → (name : PluginName) × (first : List ℕ) × (others : List (List ℕ)) × (words ≡ first ∷ others)
+    × (name_of first ≡ Some name) × (transform_of name others ≡ Some line)
+entry_asked [] line is =
+    absurd (let wrong : Ok (Transform line) ≡ Ok Empty = is in let inner : Transform line ≡ Empty = cc in cc)
 entry_asked (word ∷ others) line is = by_name (name_of word) refl is
   where
-    by_line : (name : PluginName) → name_of word ≡ Some name → (o : Option TransformLine) → transform_of name others ≡ o → Ok (Transform line) ≡ fitting o
-        → (name : PluginName) × (first : List ℕ) × (rest : List (List ℕ)) × (word ∷ others ≡ first ∷ rest) × (name_of first ≡ Some name) × (transform_of name rest ≡ Some line)
+    by_line : (name : PluginName) → name_of word ≡ Some name → (o : Option TransformLine)
+        → transform_of name others ≡ o → Ok (Transform line) ≡ fitting o
+        → (name : PluginName) × (first : List ℕ) × (rest : List (List ℕ)) × (word ∷ others ≡ first ∷ rest)
+        × (name_of first ≡ Some name) × (transform_of name rest ≡ Some line)
     by_line name found None none wrong = absurd (let e : Ok (Transform line) ≡ fitting None = wrong in cc)
     by_line name found (Some l) some same =
-        let inner : Transform line ≡ Transform l = let e : Ok (Transform line) ≡ Ok (Transform l) = same in cc in
+        let inner : Transform line ≡ Transform l = let e : Ok (Transform line) ≡ Ok (Transform l) = same in
+        cc in
         let equal : l ≡ line = cc in
         (name, word, others, refl, found, some ∙ ap (λ x. Some x) equal)
 
     by_name : (o : Option PluginName) → name_of word ≡ o → Ok (Transform line) ≡ named_entry o others
-        → (name : PluginName) × (first : List ℕ) × (rest : List (List ℕ)) × (word ∷ others ≡ first ∷ rest) × (name_of first ≡ Some name) × (transform_of name rest ≡ Some line)
+        → (name : PluginName) × (first : List ℕ) × (rest : List (List ℕ)) × (word ∷ others ≡ first ∷ rest)
+        × (name_of first ≡ Some name) × (transform_of name rest ≡ Some line)
     by_name None none wrong = absurd (let e : Ok (Transform line) ≡ named_entry None others = wrong in cc)
     by_name (Some name) some same = by_line name some (transform_of name others) refl same
 
 -- the text of a file is empty in it
-pub untexted-asked : (line : TransformLine) (name : PluginName) (words : List (List ℕ)) → Asks line name words → untexted line ≡ line
+pub untexted-asked : (line : TransformLine) (name : PluginName) (words : List (List ℕ)) → Asks line name words
+    → untexted line ≡ line
 untexted-asked t.Null name words asks = refl
 untexted-asked (t.Append file text) name words asks = ap (t.Append file) (sym asks.3)
 untexted-asked t.Bnull name words asks = refl

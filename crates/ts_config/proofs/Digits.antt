@@ -20,7 +20,8 @@ digit_range d is = grind (arith, nat_tests)
 -- one digit more
 pub digit_step : (word : List ℕ) (i v : ℕ) → i < length word → is_ascii_digit (get_or word i 0) ≡ true
     → (all_ascii_digits (drop i word) ≡ all_ascii_digits (drop (i + 1) word))
-    × (digits_value_after 10 v (drop i word) ≡ digits_value_after 10 (10 * v + (get_or word i 0 - 48)) (drop (i + 1) word))
+    × (digits_value_after 10 v (drop i word) ≡ digits_value_after 10 (10 * v + (get_or word i 0 - 48))
+    (drop (i + 1) word))
 digit_step word i v below is =
     let d : ℕ = get_or word i 0 in
     let cut : drop i word ≡ d ∷ drop (i + 1) word = rw add-one (drop-cons word i 0 below) in
@@ -30,7 +31,8 @@ digit_step word i v below is =
       ap (digits_value_after 10 v) cut ∙ ap (λ n. digits_value_after 10 n (drop (i + 1) word)) next,
     )
 
-pub not_digit : (word : List ℕ) (i : ℕ) → i < length word → is_ascii_digit (get_or word i 0) ≡ false → all_ascii_digits (drop i word) ≡ false
+pub not_digit : (word : List ℕ) (i : ℕ) → i < length word → is_ascii_digit (get_or word i 0) ≡ false
+    → all_ascii_digits (drop i word) ≡ false
 not_digit word i below is =
     let cut : drop i word ≡ get_or word i 0 ∷ drop (i + 1) word = rw add-one (drop-cons word i 0 below) in
     ap all_ascii_digits cut ∙ ap (λ b. b && all_ascii_digits (drop (i + 1) word)) is
@@ -41,6 +43,7 @@ no_number most word is = grind (arith, common_steps)
 pub too_large : (most : ℕ) (word : List ℕ) → most < digits_value 10 word → number_of most word ≡ None
 too_large most word is = grind (arith, common_steps)
 
-pub a_number : (most : ℕ) (word : List ℕ) → has_no_leading_zero word ≡ true → all_ascii_digits word ≡ true → digits_value 10 word ≤ most
+pub a_number : (most : ℕ) (word : List ℕ) → has_no_leading_zero word ≡ true → all_ascii_digits word ≡ true
+    → digits_value 10 word ≤ most
     → number_of most word ≡ Some (digits_value 10 word)
 a_number most word lead digits fits = grind (arith, common_steps)

@@ -30,17 +30,26 @@ plain_back w [] ends is = text-nil
 plain_back w (b ∷ bs) ends is = text-back w b bs (end_small b ends) is
 
 -- the word that a text of a line begins with, and the rest
-word_fine : (spelling w rest : List ℕ) → Spells spelling w → EndsWord rest → IsText (spelling ++ rest) → IsFine w × IsText rest
+word_fine : (spelling w rest : List ℕ) → Spells spelling w → EndsWord rest → IsText (spelling ++ rest)
+    → IsFine w × IsText rest
 word_fine spelling w rest (inl plain) ends is =
     let whole : IsText (w ++ rest) = subst (λ s. IsText (s ++ rest)) plain.1 is in
     (record { writable = inl plain.0; text = plain_front w rest ends whole }, plain_back w rest ends whole)
 word_fine spelling w rest (inr between) ends is =
-    let whole : IsText (34 ∷ (w ++ 34 ∷ rest)) = subst IsText (ap (λ s. s ++ rest) between.1 ∙ behind_quote w rest) is in
-    let inner : IsText (w ++ 34 ∷ rest) = text-tail 34 (w ++ 34 ∷ rest) (omega arith) whole in
-    (record { writable = inr between.0; text = text-front w 34 rest (omega arith) inner }, text-tail 34 rest (omega arith) (text-back w 34 rest (omega arith) inner))
+    let whole : IsText (34 ∷ (w ++ 34 ∷ rest)) =
+    subst IsText (ap (λ s. s ++ rest) between.1 ∙ behind_quote w rest) is in
+    let inner : IsText (w ++ 34 ∷ rest) = text-tail 34 (w ++ 34 ∷ rest) (omega arith) whole in (
+      record {
+        writable = inr between.0;
+        text = text-front w 34 rest (omega arith) inner;
+      },
+      text-tail 34 rest (omega arith) (text-back w 34 rest (omega arith) inner),
+    )
 
-pub words_fine : (words : List (List ℕ)) (line : List ℕ) → IsText line → IsWords line words → AllByRecursion IsFine words
+pub words_fine : (words : List (List ℕ)) (line : List ℕ) → IsText line → IsWords line words
+    → AllByRecursion IsFine words
 words_fine [] line text are = tt
 words_fine (w ∷ ws) line text (rest, (blanks, spelling, blank, spells, ends, is), others) =
-    let both = word_fine spelling w rest spells ends (behind blanks (spelling ++ rest) blank (subst IsText is text)) in
+    let both = word_fine spelling w rest spells ends
+    (behind blanks (spelling ++ rest) blank (subst IsText is text)) in
     (both.0, words_fine ws rest both.1 others)

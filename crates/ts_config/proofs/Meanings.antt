@@ -15,10 +15,12 @@ use Rattle.ts_config.specs.Reading.{is_text, Means, MeansByWords, transform_in, 
 use Rattle.ts_config.proofs.Asked.{asked, entry_asked, untexted-asked}
 
 -- a line in the grammar is text, and its words mean what it means
-pub in_words : (line : List ℕ) (e : Entry) → Means line (Ok e) → (is_text line ≡ true) × ((words : List (List ℕ)) × IsWords line words × (Ok e ≡ line_entry words))
+pub in_words : (line : List ℕ) (e : Entry) → Means line (Ok e)
+    → (is_text line ≡ true) × ((words : List (List ℕ)) × IsWords line words × (Ok e ≡ line_entry words))
 in_words line e means = by_text (is_text line) refl means
   where
-    by_words : MeansByWords line (Ok e) → (words : List (List ℕ)) × IsWords line words × (Ok e ≡ line_entry words)
+    by_words : MeansByWords line (Ok e) → (words : List (List ℕ)) × IsWords line words
+        × (Ok e ≡ line_entry words)
     by_words (inl found) = found
     by_words (inr quote) = absurd (let wrong : Ok e ≡ Err k.Quote = quote.1 in cc)
 
@@ -27,14 +29,16 @@ in_words line e means = by_text (is_text line) refl means
     by_text true text means = (text, by_words means)
     by_text false text wrong = absurd (let e' : Ok e ≡ Err k.Text = wrong in cc)
 
-untexted-entry : (line : List ℕ) (e : Entry) → Means line (Ok e) → map untexted (transform_in e) ≡ transform_in e
+untexted-entry : (line : List ℕ) (e : Entry) → Means line (Ok e)
+    → map untexted (transform_in e) ≡ transform_in e
 untexted-entry line Empty means = refl
 untexted-entry line (Transform l) means =
     let (text, words) = in_words line (Transform l) means in
     let (name, first, others, split, found, some) = entry_asked words.0 l words.2 in
     ap (λ x. x ∷ []) (untexted-asked l name others (asked name others l some))
 
-untexted-entries : (lines : List (List ℕ)) (es : List Entry) → AllZip (λ l m. Means l (Ok m)) lines es → map untexted (transforms_in es) ≡ transforms_in es
+untexted-entries : (lines : List (List ℕ)) (es : List Entry) → AllZip (λ l m. Means l (Ok m)) lines es
+    → map untexted (transforms_in es) ≡ transforms_in es
 untexted-entries [] [] each = refl
 untexted-entries [] (e ∷ es) each = absurd each
 untexted-entries (l ∷ ls) [] each = absurd each
@@ -44,9 +48,15 @@ untexted-entries (l ∷ ls) (e ∷ es) each =
     ∙ ap (λ ts. transform_in e ++ ts) (untexted-entries ls es each.1)
 
 -- what was read has no texts of files, and comes from text
-pub read-untexted : (bytes : List ℕ) (transforms : List TransformLine) → IsConfiguration bytes transforms → map untexted transforms ≡ transforms
+pub read-untexted : (bytes : List ℕ) (transforms : List TransformLine) → IsConfiguration bytes transforms
+    → map untexted transforms ≡ transforms
 read-untexted bytes transforms read =
-    ap (map untexted) read.transforms_are ∙ untexted-entries (config_lines bytes) read.es read.read.each ∙ sym read.transforms_are
+    ap (map untexted) read.transforms_are ∙ untexted-entries (config_lines bytes) read.es read.read.each
+    ∙ sym read.transforms_are
 
-pub read-come : (bytes : List ℕ) (transforms : List TransformLine) → IsConfiguration bytes transforms → ComeFromText transforms
-read-come bytes transforms read = record { bytes = bytes; read = subst (IsConfiguration bytes) (sym (read-untexted bytes transforms read)) read }
+pub read-come : (bytes : List ℕ) (transforms : List TransformLine) → IsConfiguration bytes transforms
+    → ComeFromText transforms
+read-come bytes transforms read = record {
+  bytes = bytes;
+  read = subst (IsConfiguration bytes) (sym (read-untexted bytes transforms read)) read;
+}

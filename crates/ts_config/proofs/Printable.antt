@@ -52,29 +52,37 @@ byte_small (x ∷ y ∷ []) b utf8 is = absurd (let wrong : None ≡ Some b = is
 byte_small (x ∷ y ∷ z ∷ []) b utf8 is = absurd (let wrong : None ≡ Some b = is in cc)
 byte_small (z ∷ x ∷ high ∷ low ∷ []) b utf8 is = by_prefix (z == 48 && x == 120) is
   where
-    number : option_and_then (λ h. option_map (λ l. 16 * h + l) (hex_value low)) (hex_value high) ≡ Some b → b < 256
+    number : option_and_then (λ h. option_map (λ l. 16 * h + l) (hex_value low)) (hex_value high) ≡ Some b
+        → b < 256
     number given =
-        let (h, first, inner) = chained (λ h. option_map (λ l. 16 * h + l) (hex_value low)) (hex_value high) b given in
+        let (h, first, inner) =
+        chained (λ h. option_map (λ l. 16 * h + l) (hex_value low)) (hex_value high) b given in
         let (l, second, whole) = mapped (λ l. 16 * h + l) (hex_value low) b inner in
         omega (arith, hex_small high h first, hex_small low l second, whole)
 
-    by_prefix : (p : Bool) → cond p (option_and_then (λ h. option_map (λ l. 16 * h + l) (hex_value low)) (hex_value high)) None ≡ Some b → b < 256
+    by_prefix : (p : Bool) → cond p (option_and_then (λ h. option_map (λ l. 16 * h + l) (hex_value low))
+        (hex_value high)) None ≡ Some b → b < 256
     by_prefix true given = number given
     by_prefix false given = absurd (let wrong : None ≡ Some b = given in cc)
 byte_small (a ∷ c ∷ d ∷ e ∷ f ∷ more) b utf8 is = absurd (let wrong : None ≡ Some b = is in cc)
 
 number_small : (most : ℕ) (word : List ℕ) (n : ℕ) → number_of most word ≡ Some n → n ≤ most
 number_small most word n is =
-    let parts = chosen ((has_no_leading_zero word && all_ascii_digits word) && nat_le (digits_value 10 word) most) (digits_value 10 word) n is in
-    let fits = both (has_no_leading_zero word && all_ascii_digits word) (nat_le (digits_value 10 word) most) parts.0 in
+    let parts = chosen ((has_no_leading_zero word && all_ascii_digits word) && nat_le
+    (digits_value 10 word) most) (digits_value 10 word) n is in
+    let fits = both (has_no_leading_zero word && all_ascii_digits word)
+    (nat_le (digits_value 10 word) most) parts.0 in
     let within : digits_value 10 word ≤ most = grind (arith, nat_tests, fits.1) in
     omega (arith, within, parts.1)
 
-asked_printable : (line : TransformLine) (name : PluginName) (words : List (List ℕ)) → Asks line name words → AllByRecursion IsFine words → IsPrintable line
+asked_printable : (line : TransformLine) (name : PluginName) (words : List (List ℕ)) → Asks line name words
+    → AllByRecursion IsFine words → IsPrintable line
 asked_printable t.Null name words asks fine = tt
-asked_printable (t.Append file text) name words asks fine = (asks.2, (subst (AllByRecursion IsFine) asks.1 fine).0)
+asked_printable (t.Append file text) name words asks fine =
+    (asks.2, (subst (AllByRecursion IsFine) asks.1 fine).0)
 asked_printable t.Bnull name words asks fine = tt
-asked_printable (t.Prepend text) name words asks fine = (asks.2, (subst (AllByRecursion IsFine) asks.1 fine).0)
+asked_printable (t.Prepend text) name words asks fine =
+    (asks.2, (subst (AllByRecursion IsFine) asks.1 fine).0)
 asked_printable (t.Map a b) name words (named, (from, to, are, first, second)) fine =
     let each = subst (AllByRecursion IsFine) are fine in
     let one : IsFine from = each.0 in
@@ -93,7 +101,8 @@ line_printable line l means =
     let fine = subst (AllByRecursion IsFine) split (words_fine found.0 line (text-from line text) found.1) in
     asked_printable l name others (asked name others l some) fine.1
 
-lines_printable : (lines : List (List ℕ)) (es : List Entry) → AllZip (λ l m. Means l (Ok m)) lines es → AllByRecursion IsPrintable (transforms_in es)
+lines_printable : (lines : List (List ℕ)) (es : List Entry) → AllZip (λ l m. Means l (Ok m)) lines es
+    → AllByRecursion IsPrintable (transforms_in es)
 lines_printable [] [] each = tt
 lines_printable [] (e ∷ es) each = absurd each
 lines_printable (l ∷ ls) [] each = absurd each
@@ -110,14 +119,16 @@ untexted_printable (t.Map a b) is = is
 untexted_printable (t.Drop b) is = is
 untexted_printable (t.Delay m) is = is
 
-all_untexted : (ls : List TransformLine) → AllByRecursion IsPrintable (map untexted ls) → AllByRecursion IsPrintable ls
+all_untexted : (ls : List TransformLine) → AllByRecursion IsPrintable (map untexted ls)
+    → AllByRecursion IsPrintable ls
 all_untexted [] are = tt
 all_untexted (l ∷ ls) are = (untexted_printable l are.0, all_untexted ls are.1)
 
 -- lines that come from text can be printed
 pub come_printable : (ls : List TransformLine) → ComeFromText ls → AllByRecursion IsPrintable ls
 come_printable ls from =
-    all_untexted ls (subst (AllByRecursion IsPrintable) (sym from.read.transforms_are) (lines_printable (config_lines from.bytes) from.read.es from.read.read.each))
+    all_untexted ls (subst (AllByRecursion IsPrintable) (sym from.read.transforms_are)
+    (lines_printable (config_lines from.bytes) from.read.es from.read.read.each))
 
 -- and the names of their files are text
 printable_named : (line : TransformLine) → IsPrintable line → HasFileName line

@@ -22,7 +22,8 @@ not_comment b is = either (is_blank b) (b == 35) is
     either false y h = h
 
 -- what holds of each
-pub each : {P Q : ℕ → Type 0} (xs : List ℕ) → ((x : ℕ) → P x → Q x) → AllByRecursion P xs → AllByRecursion Q xs
+pub each : {P Q : ℕ → Type 0} (xs : List ℕ) → ((x : ℕ) → P x → Q x) → AllByRecursion P xs
+    → AllByRecursion Q xs
 each [] f h = tt
 each (x ∷ xs) f h = (f x h.0, each xs f h.1)
 
@@ -30,7 +31,8 @@ pub plain_passes : (w : List ℕ) → AllByRecursion (λ b. is_end b ≡ false) 
 plain_passes w h = each {P = λ b. is_end b ≡ false} {Q = λ b. is_plain_byte b ≡ true} w (λ b is. ap not is) h
 
 pub quotable_passes : (w : List ℕ) → IsQuotable w → Passes is_quotable_byte w
-quotable_passes w h = each {P = λ b. (b == 34) ≡ false} {Q = λ b. is_quotable_byte b ≡ true} w (λ b is. ap not is) h
+quotable_passes w h =
+    each {P = λ b. (b == 34) ≡ false} {Q = λ b. is_quotable_byte b ≡ true} w (λ b is. ap not is) h
 
 pub EndsWord-stops : (rest : List ℕ) → EndsWord rest → Stops is_plain_byte rest
 EndsWord-stops [] h = tt
@@ -53,20 +55,27 @@ Spells-stops text w rest (inl plain) = subst (λ t. Stops is_blank (t ++ rest)) 
 Spells-stops text w rest (inr between) = subst (λ t. Stops is_blank (t ++ rest)) (sym between.1) refl
 
 -- the line behind its blanks
-pub behind_blanks : (line blanks more : List ℕ) → IsBlanks blanks → Stops is_blank more → line ≡ blanks ++ more → drop (prefix_len is_blank line) line ≡ more
-behind_blanks line blanks more are stops is = ap (λ xs. drop (prefix_len is_blank xs) xs) is ∙ cut_rest is_blank blanks more are stops
+pub behind_blanks : (line blanks more : List ℕ) → IsBlanks blanks → Stops is_blank more
+    → line ≡ blanks ++ more → drop (prefix_len is_blank line) line ≡ more
+behind_blanks line blanks more are stops is =
+    ap (λ xs. drop (prefix_len is_blank xs) xs) is ∙ cut_rest is_blank blanks more are stops
 
-pub behind_blanks-word : (line w rest : List ℕ) → (begins : BeginsWith line w rest) → drop (prefix_len is_blank line) line ≡ begins.1 ++ rest
-behind_blanks-word line w rest (blanks, text, are, spells, ends, is) = behind_blanks line blanks (text ++ rest) are (Spells-stops text w rest spells) is
+pub behind_blanks-word : (line w rest : List ℕ) → (begins : BeginsWith line w rest)
+    → drop (prefix_len is_blank line) line ≡ begins.1 ++ rest
+behind_blanks-word line w rest (blanks, text, are, spells, ends, is) =
+    behind_blanks line blanks (text ++ rest) are (Spells-stops text w rest spells) is
 
 front-plain : (w rest : List ℕ) → IsPlain w → EndsWord rest → front_of_text (w ++ rest) ≡ word w rest
 front-plain [] rest none ends = absurd none
 front-plain (b ∷ bs) rest is ends =
-    let front = cut_front is_plain_byte (b ∷ bs) rest (plain_passes (b ∷ bs) is.1) (EndsWord-stops rest ends) in
+    let front = cut_front is_plain_byte (b ∷ bs) rest (plain_passes (b ∷ bs) is.1)
+    (EndsWord-stops rest ends) in
     let back = cut_rest is_plain_byte (b ∷ bs) rest (plain_passes (b ∷ bs) is.1) (EndsWord-stops rest ends) in
     let n : ℕ = prefix_len is_plain_byte ((b ∷ bs) ++ rest) in
     let last : Front = word (take n ((b ∷ bs) ++ rest)) (drop n ((b ∷ bs) ++ rest)) in
-    let other : Front = quoted (take (prefix_len is_quotable_byte (bs ++ rest)) (bs ++ rest)) (drop (prefix_len is_quotable_byte (bs ++ rest)) (bs ++ rest)) in
+    let other : Front =
+    quoted (take (prefix_len is_quotable_byte (bs ++ rest)) (bs ++ rest))
+    (drop (prefix_len is_quotable_byte (bs ++ rest)) (bs ++ rest)) in
     ap (λ t. cond t nothing (cond (b == 34) other last)) (not_comment b is.1.0)
     ∙ ap (λ t. cond t other last) is.0
     ∙ ap (λ x. word x (drop n ((b ∷ bs) ++ rest))) front
@@ -76,7 +85,8 @@ front-closed : (w rest : List ℕ) → EndsWord rest → quote_closed w rest ≡
 front-closed w [] ends = refl
 front-closed w (b ∷ bs) ends = ap (λ t. cond t (word w (b ∷ bs)) unclosed) ends
 
-front-quoted : (w rest : List ℕ) → IsQuotable w → EndsWord rest → front_of_text (34 ∷ (w ++ 34 ∷ rest)) ≡ word w rest
+front-quoted : (w rest : List ℕ) → IsQuotable w → EndsWord rest
+    → front_of_text (34 ∷ (w ++ 34 ∷ rest)) ≡ word w rest
 front-quoted w rest is ends =
     let bs : List ℕ = w ++ 34 ∷ rest in
     let n : ℕ = prefix_len is_quotable_byte bs in
@@ -84,14 +94,18 @@ front-quoted w rest is ends =
     ∙ ap (quoted w) (cut_rest is_quotable_byte w (34 ∷ rest) (quotable_passes w is) refl)
     ∙ front-closed w rest ends
 
-front-spelled : (text w rest : List ℕ) → Spells text w → EndsWord rest → front_of_text (text ++ rest) ≡ word w rest
-front-spelled text w rest (inl plain) ends = ap (λ t. front_of_text (t ++ rest)) plain.1 ∙ front-plain w rest plain.0 ends
+front-spelled : (text w rest : List ℕ) → Spells text w → EndsWord rest
+    → front_of_text (text ++ rest) ≡ word w rest
+front-spelled text w rest (inl plain) ends =
+    ap (λ t. front_of_text (t ++ rest)) plain.1 ∙ front-plain w rest plain.0 ends
 front-spelled text w rest (inr between) ends =
-    ap (λ t. front_of_text (t ++ rest)) between.1 ∙ ap front_of_text (behind_quote w rest) ∙ front-quoted w rest between.0 ends
+    ap (λ t. front_of_text (t ++ rest)) between.1 ∙ ap front_of_text (behind_quote w rest)
+    ∙ front-quoted w rest between.0 ends
 
 pub front-word : (line w rest : List ℕ) → BeginsWith line w rest → front_of line ≡ word w rest
 front-word line w rest (blanks, text, are, spells, ends, is) =
-    ap front_of_text (behind_blanks line blanks (text ++ rest) are (Spells-stops text w rest spells) is) ∙ front-spelled text w rest spells ends
+    ap front_of_text (behind_blanks line blanks (text ++ rest) are (Spells-stops text w rest spells) is)
+    ∙ front-spelled text w rest spells ends
 
 front-end : (rest : List ℕ) → EndsLine rest → front_of_text rest ≡ nothing
 front-end [] ends = refl
@@ -102,9 +116,11 @@ front-nothing line (blanks, rest, are, ends, is) =
     ap front_of_text (behind_blanks line blanks rest are (EndsLine-stops rest ends) is) ∙ front-end rest ends
 
 -- so a line begins with one word at most
-pub one_word : (line w rest v behind : List ℕ) → BeginsWith line w rest → BeginsWith line v behind → (w ≡ v) × (rest ≡ behind)
+pub one_word : (line w rest v behind : List ℕ) → BeginsWith line w rest → BeginsWith line v behind
+    → (w ≡ v) × (rest ≡ behind)
 one_word line w rest v behind first second =
-    let same : word w rest ≡ word v behind = sym (front-word line w rest first) ∙ front-word line v behind second in (cc, cc)
+    let same : word w rest ≡ word v behind =
+    sym (front-word line w rest first) ∙ front-word line v behind second in (cc, cc)
 
 pub word_or_none : (line w rest : List ℕ) → HasNoWord line → BeginsWith line w rest → ⊥
 word_or_none line w rest none begins =

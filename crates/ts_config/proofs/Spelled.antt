@@ -12,7 +12,8 @@ none_of false y is = (refl, is)
 
 pub none_ends : (w : List ℕ) → list_any is_end w ≡ false → AllByRecursion (λ b. is_end b ≡ false) w
 none_ends [] is = tt
-none_ends (b ∷ bs) is = let parts = none_of (is_end b) (list_any is_end bs) is in (parts.0, none_ends bs parts.1)
+none_ends (b ∷ bs) is = let parts = none_of (is_end b) (list_any is_end bs) is in
+    (parts.0, none_ends bs parts.1)
 
 all_no_ends : (w : List ℕ) → AllByRecursion (λ b. is_end b ≡ false) w → list_any is_end w ≡ false
 all_no_ends [] are = refl
@@ -30,7 +31,8 @@ bare_plain [] (inr quotable) bare = let wrong : true ≡ false = bare in cc
 bare_plain (b ∷ bs) (inr quotable) bare = (quotable.0, none_ends (b ∷ bs) bare)
 
 quoted_quotable : (w : List ℕ) → IsPlain w ⊎ IsQuotable w → needs_quotes w ≡ true → IsQuotable w
-quoted_quotable w (inl plain) quotes = let wrong : true ≡ false = sym quotes ∙ plain_bare w plain in absurd (let w' = wrong in cc)
+quoted_quotable w (inl plain) quotes = let wrong : true ≡ false = sym quotes ∙ plain_bare w plain in
+    absurd (let w' = wrong in cc)
 quoted_quotable w (inr quotable) quotes = quotable
 
 -- a word is spelled as the grammar has it
@@ -49,23 +51,30 @@ words_end (w ∷ ws) = refl
 pub words_again : (ws : List (List ℕ)) → AllByRecursion IsFine ws → IsWords (spelled_words ws) ws
 words_again [] fine = ([], [], tt, tt, refl)
 words_again (w ∷ ws) fine =
-    let one : IsFine w = fine.0 in
-    (spelled_words ws, (32 ∷ [], spelled w, (refl, tt), spelled_spells w one.writable, words_end ws, refl), words_again ws fine.1)
+    let one : IsFine w = fine.0 in (
+      spelled_words ws,
+      (32 ∷ [], spelled w, (refl, tt), spelled_spells w one.writable, words_end ws, refl),
+      words_again ws fine.1,
+    )
 
 -- and behind a plain word that begins the line
-pub line_words_again : (name : List ℕ) (ws : List (List ℕ)) → IsPlain name → AllByRecursion IsFine ws → IsWords (name ++ spelled_words ws) (name ∷ ws)
-line_words_again name ws plain fine = (spelled_words ws, ([], name, tt, inl (plain, refl), words_end ws, refl), words_again ws fine)
+pub line_words_again : (name : List ℕ) (ws : List (List ℕ)) → IsPlain name → AllByRecursion IsFine ws
+    → IsWords (name ++ spelled_words ws) (name ∷ ws)
+line_words_again name ws plain fine =
+    (spelled_words ws, ([], name, tt, inl (plain, refl), words_end ws, refl), words_again ws fine)
 
 -- they are text
 spelled_text : (w : List ℕ) → IsText w → IsText (spelled w)
 spelled_text w is = by_need (needs_quotes w)
   where
     by_need : (q : Bool) → IsText (cond q (34 ∷ w ++ 34 ∷ []) w)
-    by_need true = text-cons 34 (w ++ 34 ∷ []) (omega arith) refl (text-append w (34 ∷ []) is (text-cons 34 [] (omega arith) refl text-nil))
+    by_need true = text-cons 34 (w ++ 34 ∷ []) (omega arith) refl
+        (text-append w (34 ∷ []) is (text-cons 34 [] (omega arith) refl text-nil))
     by_need false = is
 
 pub words_text : (ws : List (List ℕ)) → AllByRecursion IsFine ws → IsText (spelled_words ws)
 words_text [] fine = text-nil
 words_text (w ∷ ws) fine =
     let one : IsFine w = fine.0 in
-    text-cons 32 (spelled w ++ spelled_words ws) (omega arith) refl (text-append (spelled w) (spelled_words ws) (spelled_text w one.text) (words_text ws fine.1))
+    text-cons 32 (spelled w ++ spelled_words ws) (omega arith) refl
+    (text-append (spelled w) (spelled_words ws) (spelled_text w one.text) (words_text ws fine.1))

@@ -15,12 +15,14 @@ no_feed b is = grind (arith, nat_tests)
 no_return : (b : ℕ) → is_text_byte b ≡ true → (b == 13) ≡ false
 no_return b is = grind (arith, nat_tests)
 
-split_text : (text rest : List ℕ) → list_all is_text_byte text ≡ true → slice_split (λ b. b == 10) (text ++ 10 ∷ rest) ≡ text ∷ slice_split (λ b. b == 10) rest
+split_text : (text rest : List ℕ) → list_all is_text_byte text ≡ true
+    → slice_split (λ b. b == 10) (text ++ 10 ∷ rest) ≡ text ∷ slice_split (λ b. b == 10) rest
 split_text [] rest are = refl
 split_text (b ∷ bs) rest are =
     let parts = both (is_text_byte b) (list_all is_text_byte bs) are in
     let more : List (List ℕ) = slice_split (λ b. b == 10) (bs ++ 10 ∷ rest) in
-    ap (λ x. cond x ([] ∷ more) (onto_first b more)) (no_feed b parts.0) ∙ ap (onto_first b) (split_text bs rest parts.1)
+    ap (λ x. cond x ([] ∷ more) (onto_first b more)) (no_feed b parts.0)
+    ∙ ap (onto_first b) (split_text bs rest parts.1)
 
 no_return_at : (text : List ℕ) (i : ℕ) → list_all is_text_byte text ≡ true → (get_or text i 0 == 13) ≡ false
 no_return_at [] i are = refl
@@ -28,7 +30,8 @@ no_return_at (b ∷ bs) zero are = no_return b (both (is_text_byte b) (list_all 
 no_return_at (b ∷ bs) (suc i) are = no_return_at bs i (both (is_text_byte b) (list_all is_text_byte bs) are).1
 
 text_kept : (text : List ℕ) → list_all is_text_byte text ≡ true → strip_carriage_return text ≡ text
-text_kept text are = ap (λ x. cond x (take (length text - 1) text) text) (no_return_at text (length text - 1) are)
+text_kept text are = ap (λ x. cond x (take (length text - 1) text) text)
+    (no_return_at text (length text - 1) are)
 
 line_again : (text rest : List ℕ) → IsText text → config_lines (text ++ 10 ∷ rest) ≡ text ∷ config_lines rest
 line_again text rest is =
@@ -37,7 +40,8 @@ line_again text rest is =
     ∙ ap (map strip_carriage_return) (more_parts text (slice_split (λ b. b == 10) rest) next others some)
     ∙ ap (λ l. l ∷ config_lines rest) (text_kept text is.bytes)
 
-pub lines_again : {A : Type 0} (text_of : A → List ℕ) (xs : List A) → AllByRecursion (λ x. IsText (text_of x)) xs
+pub lines_again : {A : Type 0} (text_of : A → List ℕ) (xs : List A)
+    → AllByRecursion (λ x. IsText (text_of x)) xs
     → config_lines (flat_map (λ x. text_of x ++ 10 ∷ []) xs) ≡ map text_of xs
 lines_again text_of [] are = refl
 lines_again text_of (x ∷ xs) are =

@@ -38,14 +38,17 @@ module _ (line bs : List ℕ) (text : 34 ∷ bs ≡ drop (prefix_len is_blank li
   abbrev between : List ℕ
   between = take (prefix_len is_quotable_byte bs) bs
 
-  closed_begins : (q : ℕ) (rest : List ℕ) → q ∷ rest ≡ drop (prefix_len is_quotable_byte bs) bs → EndsWord rest → BeginsWith line (take (prefix_len is_quotable_byte bs) bs) rest
+  closed_begins : (q : ℕ) (rest : List ℕ) → q ∷ rest ≡ drop (prefix_len is_quotable_byte bs) bs
+      → EndsWord rest → BeginsWith line (take (prefix_len is_quotable_byte bs) bs) rest
   closed_begins q rest cut ends =
       let w : List ℕ = take (prefix_len is_quotable_byte bs) bs in
       let found = closed_word bs (q ∷ rest) cut w refl q rest refl in
-      spelled-found line (34 ∷ bs) text (34 ∷ w ++ 34 ∷ []) w rest (inr (found.0, refl)) ends (ap (λ xs. 34 ∷ xs) found.1 ∙ sym (behind_quote w rest))
+      spelled-found line (34 ∷ bs) text (34 ∷ w ++ 34 ∷ []) w rest (inr (found.0, refl)) ends
+      (ap (λ xs. 34 ∷ xs) found.1 ∙ sym (behind_quote w rest))
 
   -- a word between quotes
-  quoted_right : (behind : List ℕ) → behind ≡ drop (prefix_len is_quotable_byte bs) bs → IsFront line (quoted (take (prefix_len is_quotable_byte bs) bs) behind)
+  quoted_right : (behind : List ℕ) → behind ≡ drop (prefix_len is_quotable_byte bs) bs
+      → IsFront line (quoted (take (prefix_len is_quotable_byte bs) bs) behind)
   quoted_right [] cut = no_words line (34 ∷ bs) text bs refl (never_closed bs [] cut refl)
   quoted_right (q ∷ []) cut = closed_begins q [] cut tt
   quoted_right (q ∷ b ∷ rest) cut =
@@ -53,26 +56,36 @@ module _ (line bs : List ℕ) (text : 34 ∷ bs ≡ drop (prefix_len is_blank li
       by_test (is_end b) (λ t. IsFront line (cond t (word w (b ∷ rest)) unclosed))
       (λ ends. closed_begins q (b ∷ rest) cut ends)
       (λ within. no_words line (34 ∷ bs) text bs refl
-      (closed_within bs (q ∷ b ∷ rest) cut q (b ∷ rest) refl (λ ends. let wrong : false ≡ true = sym within ∙ ends in cc)))
+      (closed_within bs (q ∷ b ∷ rest) cut q (b ∷ rest) refl (λ ends. let wrong : false ≡ true =
+      sym within ∙ ends in cc)))
 
-front_right : (line text : List ℕ) → text ≡ drop (prefix_len is_blank line) line → IsFront line (front_of_text text)
+front_right : (line text : List ℕ) → text ≡ drop (prefix_len is_blank line) line
+    → IsFront line (front_of_text text)
 front_right line [] is = end-found line [] is tt
 front_right line (b ∷ bs) is =
-    let between : Front = quoted (take (prefix_len is_quotable_byte bs) bs) (drop (prefix_len is_quotable_byte bs) bs) in
-    let plain : Front = word (take (prefix_len is_plain_byte (b ∷ bs)) (b ∷ bs)) (drop (prefix_len is_plain_byte (b ∷ bs)) (b ∷ bs)) in
+    let between : Front =
+    quoted (take (prefix_len is_quotable_byte bs) bs) (drop (prefix_len is_quotable_byte bs) bs) in
+    let plain : Front =
+    word (take (prefix_len is_plain_byte (b ∷ bs)) (b ∷ bs))
+    (drop (prefix_len is_plain_byte (b ∷ bs)) (b ∷ bs)) in
     by_test (b == 35) (λ t. IsFront line (cond t nothing (cond (b == 34) between plain)))
     (λ comment. end-found line (b ∷ bs) is (eqb-true b 35 comment))
     (λ other. by_test (b == 34) (λ t. IsFront line (cond t between plain))
-    (λ quote. quoted_right line bs (ap (λ x. x ∷ bs) (sym (eqb-true b 34 quote)) ∙ is) (drop (prefix_len is_quotable_byte bs) bs) refl)
-    (λ no_quote. plain-found line (b ∷ bs) is b bs (take (prefix_len is_plain_byte (b ∷ bs)) (b ∷ bs)) (drop (prefix_len is_plain_byte (b ∷ bs)) (b ∷ bs)) refl
+    (λ quote. quoted_right line bs (ap (λ x. x ∷ bs) (sym (eqb-true b 34 quote))
+    ∙ is) (drop (prefix_len is_quotable_byte bs) bs) refl)
+    (λ no_quote. plain-found line (b ∷ bs) is b bs (take (prefix_len is_plain_byte (b ∷ bs)) (b ∷ bs))
+    (drop (prefix_len is_plain_byte (b ∷ bs)) (b ∷ bs)) refl
     (unequal b 34 no_quote) (unequal b 35 other) refl refl))
 
 -- the words are the line's
 words_right : (n : ℕ) (line : List ℕ) → length line < n → AreWords line (words_below n line)
 words_right zero line short = absurd (omega arith)
-words_right (suc n) line short = by_front (λ rest below. words_right n rest below) (front_of line) (front_right line (drop (prefix_len is_blank line) line) refl)
+words_right (suc n) line short =
+    by_front (λ rest below. words_right n rest below) (front_of line)
+    (front_right line (drop (prefix_len is_blank line) line) refl)
   where
-    more : (w rest : List ℕ) → BeginsWith line w rest → (found : Option (List (List ℕ))) → AreWords rest found → AreWords line (option_map (λ ws. w ∷ ws) found)
+    more : (w rest : List ℕ) → BeginsWith line w rest → (found : Option (List (List ℕ))) → AreWords rest found
+        → AreWords line (option_map (λ ws. w ∷ ws) found)
     more w rest begins (Some ws) are = (rest, begins, are)
     more w rest begins None unfit = none
       where
@@ -82,19 +95,24 @@ words_right (suc n) line short = by_front (λ rest below. words_right n rest bel
             let same = one_word line v behind w rest first begins in
             unfit vs (subst (λ r. IsWords r vs) same.1 are)
 
-    by_front : ((rest : List ℕ) → length rest < n → AreWords rest (words_below n rest)) → (front : Front) → IsFront line front → AreWords line (words_behind front (words_below n))
+    by_front : ((rest : List ℕ) → length rest < n → AreWords rest (words_below n rest)) → (front : Front)
+        → IsFront line front → AreWords line (words_behind front (words_below n))
     by_front shorter nothing is = is
-    by_front shorter (word w rest) is = more w rest is (words_below n rest) (shorter rest (omega (arith, rest_shorter line w rest is)))
+    by_front shorter (word w rest) is =
+        more w rest is (words_below n rest) (shorter rest (omega (arith, rest_shorter line w rest is)))
     by_front shorter unclosed is = is
 
 -- a line means its value
 meaning_right : (line : List ℕ) → Means line (meaning_of line)
 meaning_right line =
-    by_test (is_text line) (λ t. MatchBool t (MeansByWords line (cond t (meaning_of_words (words_in line)) (Err k.Text))) (cond t (meaning_of_words (words_in line)) (Err k.Text) ≡ Err k.Text))
+    by_test (is_text line) (λ t. MatchBool t (MeansByWords line
+    (cond t (meaning_of_words (words_in line)) (Err k.Text)))
+    (cond t (meaning_of_words (words_in line)) (Err k.Text) ≡ Err k.Text))
     (λ text. by_words (words_in line) (words_right (suc (length line)) line (omega arith)))
     (λ other. refl)
   where
-    by_words : (found : Option (List (List ℕ))) → AreWords line found → MeansByWords line (meaning_of_words found)
+    by_words : (found : Option (List (List ℕ))) → AreWords line found
+        → MeansByWords line (meaning_of_words found)
     by_words (Some words) are = inl (words, are, refl)
     by_words None unfit = inr (unfit, refl)
 
@@ -104,13 +122,18 @@ AreSo lines (Good ts) = (es : List Entry) × AreRead lines es × (ts ≡ transfo
 AreSo lines (Bad n kind) = IsFault lines n kind
 
 one_more : (es : List Entry) (e : Entry) → transforms_in (es ++ e ∷ []) ≡ transforms_in es ++ transform_in e
-one_more es e = transforms_in-append es (e ∷ []) ∙ ap (λ ts. transforms_in es ++ ts) (append-nil (transform_in e))
+one_more es e = transforms_in-append es (e ∷ []) ∙ ap (λ ts. transforms_in es ++ ts)
+    (append-nil (transform_in e))
 
-lines_right : (lines before : List (List ℕ)) (es : List Entry) (n : ℕ) → AreRead before es → n ≡ length before → AreSo (before ++ lines) (read_lines lines n (transforms_in es))
+lines_right : (lines before : List (List ℕ)) (es : List Entry) (n : ℕ) → AreRead before es → n ≡ length before
+    → AreSo (before ++ lines) (read_lines lines n (transforms_in es))
 lines_right [] before es n read is = (es, subst (λ ls. AreRead ls es) (sym (append-nil before)) read, refl)
-lines_right (line ∷ lines) before es n read is = by_meaning (λ first fs m fine number. lines_right lines first fs m fine number) (meaning_of line) (meaning_right line)
+lines_right (line ∷ lines) before es n read is =
+    by_meaning (λ first fs m fine number. lines_right lines first fs m fine number) (meaning_of line)
+    (meaning_right line)
   where
-    fault : (kind : ConfigKind) → Breaks (transforms_in es) line kind → IsFault (before ++ line ∷ lines) (n + 1) kind
+    fault : (kind : ConfigKind) → Breaks (transforms_in es) line kind
+        → IsFault (before ++ line ∷ lines) (n + 1) kind
     fault kind breaks = record {
       before = before;
       line = line;
@@ -122,27 +145,43 @@ lines_right (line ∷ lines) before es n read is = by_meaning (λ first fs m fin
       breaks = breaks;
     }
 
-    go_on : ((first : List (List ℕ)) (fs : List Entry) (m : ℕ) → AreRead first fs → m ≡ length first → AreSo (first ++ lines) (read_lines lines m (transforms_in fs)))
-        → (e : Entry) → Means line (Ok e) → length (transforms_in es ++ transform_in e) ≤ 16 → AreSo (before ++ line ∷ lines) (read_lines lines (n + 1) (transforms_in es ++ transform_in e))
+    go_on : ((first : List (List ℕ)) (fs : List Entry) (m : ℕ) → AreRead first fs → m ≡ length first
+        → AreSo (first ++ lines) (read_lines lines m (transforms_in fs)))
+        → (e : Entry) → Means line (Ok e) → length (transforms_in es ++ transform_in e) ≤ 16
+        → AreSo (before ++ line ∷ lines) (read_lines lines (n + 1) (transforms_in es ++ transform_in e))
     go_on others e means few =
-        let now : AreRead (before ++ line ∷ []) (es ++ e ∷ []) = record { each = each_more before es line e read.each means; few = omega (arith, few, ap length (one_more es e)) } in
-        let rest : AreSo ((before ++ line ∷ []) ++ lines) (read_lines lines (n + 1) (transforms_in (es ++ e ∷ []))) =
-        others (before ++ line ∷ []) (es ++ e ∷ []) (n + 1) now (omega (arith, is, length-append before (line ∷ []))) in
-        subst (λ ls. AreSo ls (read_lines lines (n + 1) (transforms_in es ++ transform_in e))) (append_assoc before (line ∷ []) lines)
-        (subst (λ ts. AreSo ((before ++ line ∷ []) ++ lines) (read_lines lines (n + 1) ts)) (one_more es e) rest)
+        let now : AreRead (before ++ line ∷ []) (es ++ e ∷ []) = record {
+          each = each_more before es line e read.each means;
+          few = omega (arith, few, ap length (one_more es e));
+        } in
+        let rest : AreSo ((before ++ line ∷ []) ++ lines)
+        (read_lines lines (n + 1) (transforms_in (es ++ e ∷ []))) =
+        others (before ++ line ∷ []) (es ++ e ∷ []) (n + 1) now
+        (omega (arith, is, length-append before (line ∷ []))) in
+        subst (λ ls. AreSo ls (read_lines lines (n + 1) (transforms_in es ++ transform_in e)))
+        (append_assoc before (line ∷ []) lines)
+        (subst (λ ts. AreSo ((before ++ line ∷ []) ++ lines) (read_lines lines (n + 1) ts))
+        (one_more es e) rest)
 
-    by_meaning : ((first : List (List ℕ)) (fs : List Entry) (m : ℕ) → AreRead first fs → m ≡ length first → AreSo (first ++ lines) (read_lines lines m (transforms_in fs)))
-        → (meaning : Result Entry ConfigKind) → Means line meaning → AreSo (before ++ line ∷ lines) (next_lines meaning (n + 1) (transforms_in es) (read_lines lines (n + 1)))
+    by_meaning : ((first : List (List ℕ)) (fs : List Entry) (m : ℕ) → AreRead first fs → m ≡ length first
+        → AreSo (first ++ lines) (read_lines lines m (transforms_in fs)))
+        → (meaning : Result Entry ConfigKind) → Means line meaning
+        → AreSo (before ++ line ∷ lines) (next_lines meaning (n + 1) (transforms_in es)
+        (read_lines lines (n + 1)))
     by_meaning others (Err kind) means = fault kind (inl means)
     by_meaning others (Ok e) means =
         by_test (nat_le (length (transforms_in es ++ transform_in e)) 16)
-        (λ t. AreSo (before ++ line ∷ lines) (cond t (read_lines lines (n + 1) (transforms_in es ++ transform_in e)) (Bad (n + 1) k.TooMany)))
-        (λ few. let fits : length (transforms_in es ++ transform_in e) ≤ 16 = grind (arith, nat_tests, few) in go_on others e means fits)
-        (λ many. let over : 16 < length (transforms_in es ++ transform_in e) = grind (arith, nat_tests, many) in fault k.TooMany (inr (e, means, over, refl)))
+        (λ t. AreSo (before ++ line ∷ lines) (cond t
+        (read_lines lines (n + 1) (transforms_in es ++ transform_in e)) (Bad (n + 1) k.TooMany)))
+        (λ few. let fits : length (transforms_in es ++ transform_in e) ≤ 16 = grind (arith, nat_tests, few) in
+        go_on others e means fits)
+        (λ many. let over : 16 < length (transforms_in es ++ transform_in e) =
+        grind (arith, nat_tests, many) in fault k.TooMany (inr (e, means, over, refl)))
 
 -- the function gives the reading
 config_right : (bytes : List ℕ) → IsReading bytes (config_of bytes)
-config_right bytes = by_reading (config_of bytes) (lines_right (config_lines bytes) [] [] 0 (record { each = tt; few = omega arith }) refl)
+config_right bytes = by_reading (config_of bytes)
+    (lines_right (config_lines bytes) [] [] 0 (record { each = tt; few = omega arith }) refl)
   where
     by_reading : (reading : Reading) → AreSo (config_lines bytes) reading → IsReading bytes reading
     by_reading (Good ts) so = record { es = so.0; read = so.1; transforms_are = so.2 }
@@ -151,16 +190,27 @@ config_right bytes = by_reading (config_of bytes) (lines_right (config_lines byt
 -- and there is no other
 same_reading : (bytes : List ℕ) (a b : Reading) → IsReading bytes a → IsReading bytes b → a ≡ b
 same_reading bytes (Good ts) (Good us) first second = ap Good (one_reading bytes ts us first second)
-same_reading bytes (Good ts) (Bad n kind) first second = absurd (read_or_fault (config_lines bytes) first.es n kind first.read second)
-same_reading bytes (Bad n kind) (Good ts) first second = absurd (read_or_fault (config_lines bytes) second.es n kind second.read first)
-same_reading bytes (Bad m a) (Bad n b) first second = let same = one_fault (config_lines bytes) m n a b first second in ap (λ x. Bad x a) same.0 ∙ ap (Bad n) same.1
+same_reading bytes (Good ts) (Bad n kind) first second =
+    absurd (read_or_fault (config_lines bytes) first.es n kind first.read second)
+same_reading bytes (Bad n kind) (Good ts) first second =
+    absurd (read_or_fault (config_lines bytes) second.es n kind second.read first)
+same_reading bytes (Bad m a) (Bad n b) first second =
+    let same = one_fault (config_lines bytes) m n a b first second in
+    ap (λ x. Bad x a) same.0 ∙ ap (Bad n) same.1
 
 pub reading_is : (bytes : List ℕ) (reading : Reading) → IsReading bytes reading ↔ (config_of bytes ≡ reading)
-reading_is bytes reading = ((λ is. same_reading bytes (config_of bytes) reading (config_right bytes) is), (λ is. subst (IsReading bytes) is (config_right bytes)))
+reading_is bytes reading = (
+  (λ is. same_reading bytes (config_of bytes) reading (config_right bytes) is),
+  (λ is. subst (IsReading bytes) is (config_right bytes)),
+)
 
-pub read_value : (bytes : List ℕ) (transforms : List TransformLine) → IsConfiguration bytes transforms → config_of bytes ≡ Good transforms
-read_value bytes transforms read = same_reading bytes (config_of bytes) (Good transforms) (config_right bytes) read
+pub read_value : (bytes : List ℕ) (transforms : List TransformLine) → IsConfiguration bytes transforms
+    → config_of bytes ≡ Good transforms
+read_value bytes transforms read =
+    same_reading bytes (config_of bytes) (Good transforms) (config_right bytes) read
 
-pub refusal_value : (bytes : List ℕ) (refusal : ConfigRefusal) → RefusesRightly (config_lines bytes) refusal → IsConfigRefusal (config_of bytes) refusal
-refusal_value bytes (c.Fault f) rightly = same_reading bytes (config_of bytes) (Bad f.line f.kind) (config_right bytes) rightly
+pub refusal_value : (bytes : List ℕ) (refusal : ConfigRefusal) → RefusesRightly (config_lines bytes) refusal
+    → IsConfigRefusal (config_of bytes) refusal
+refusal_value bytes (c.Fault f) rightly =
+    same_reading bytes (config_of bytes) (Bad f.line f.kind) (config_right bytes) rightly
 refusal_value bytes c.NoMemory rightly = tt

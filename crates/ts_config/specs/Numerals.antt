@@ -16,7 +16,8 @@ hex_value c =
 abbrev pub byte_of : List ℕ → Option ℕ
 byte_of (b ∷ []) = Some b
 byte_of (z ∷ x ∷ high ∷ low ∷ []) =
-    if z == digit_0 && x == letter_x then option_and_then (λ h. option_map (λ l. 16 * h + l) (hex_value low)) (hex_value high) else None
+    if z == digit_0 && x == letter_x then option_and_then (λ h. option_map (λ l. 16 * h + l) (hex_value low))
+    (hex_value high) else None
 byte_of other = None
 
 -- no zero stands before other digits
@@ -38,4 +39,5 @@ hex_digit d = if nat_lt d 10 then digit_0 + d else (letter_a - 10) + d
 -- a byte as it is printed: a letter or a digit as itself, and else by its number
 abbrev pub byte_word : ℕ → List ℕ
 byte_word b =
-    if is_ascii_alphanumeric b then b ∷ [] else digit_0 ∷ letter_x ∷ hex_digit (b / 16) ∷ hex_digit (b % 16) ∷ []
+    if is_ascii_alphanumeric b then b ∷ [] else digit_0 ∷ letter_x ∷ hex_digit (b / 16) ∷ hex_digit
+    (b % 16) ∷ []

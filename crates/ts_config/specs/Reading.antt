@@ -1,4 +1,5 @@
--- The grammar of a configuration: what each line means by itself, and what they mean together. (plugin.config and its
+-- The grammar of a configuration: what each line means by itself, and what they mean together. (plugin.config
+-- and its
 -- lines are the Developer's Guide's; the names, words and limits are this project's own.)
 use Rattle.std.specs.Prelude.{◌≡◌, ℕ, ◌==◌, ◌+◌, ◌<◌, ◌≤◌, ◌⊎◌, ◌&&◌, ◌||◌, not, Bool, nat_le, List, [], ◌∷◌, ◌++◌, length, map, Result, Ok, Err, MatchBool, ⊤}
 use Rattle.std.specs.List.{list_all, AllZip}
@@ -53,7 +54,8 @@ pub record AreRead (lines : List (List ℕ)) (es : List Entry) : Type 0 where
 abbrev pub Breaks : List TransformLine → List ℕ → ConfigKind → Type 0
 Breaks so_far line kind =
     Means line (Err kind)
-    ⊎ ((e : Entry) × Means line (Ok e) × (most_transforms < length (so_far ++ transform_in e)) × (kind ≡ k.TooMany))
+    ⊎ ((e : Entry) × Means line (Ok e) × (most_transforms < length (so_far ++ transform_in e))
+    × (kind ≡ k.TooMany))
 
 -- the n-th line, counted from 1, is the first that is not in the grammar, and this is the rule that it breaks
 pub record IsFault (lines : List (List ℕ)) (n : ℕ) (kind : ConfigKind) : Type 0 where

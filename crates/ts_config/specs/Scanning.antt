@@ -16,7 +16,8 @@ use Rattle.ts_config.specs.Words.{IsWords, BeginsWith, HasNoWord, IsQuotable, En
 -- a text behind a quote is this word, the second quote and the rest, or it is no such text
 abbrev pub IsQuoted : List ℕ → Next → Type 0
 IsQuoted text Nothing = ⊥
-IsQuoted text (Word word rest) = IsQuotable word.now × EndsWord rest.now × (text ≡ word.now ++ quote_mark ∷ rest.now)
+IsQuoted text (Word word rest) =
+    IsQuotable word.now × EndsWord rest.now × (text ≡ word.now ++ quote_mark ∷ rest.now)
 IsQuoted text Unclosed = (w rest : List ℕ) → IsQuotable w → EndsWord rest → text ≡ w ++ quote_mark ∷ rest → ⊥
 
 -- what a line begins with: no word, this word and the rest, or a quote that fits no word

@@ -37,7 +37,8 @@ transform_of n.Null [] = Some t.Null
 transform_of n.Append ((b ∷ bs) ∷ []) = Some (t.Append (b ∷ bs) [])
 transform_of n.Bnull [] = Some t.Bnull
 transform_of n.Prepend (text ∷ []) = if nat_le (length text) most_text then Some (t.Prepend text) else None
-transform_of n.Map (from ∷ to ∷ []) = option_and_then (λ a. option_map (λ b. t.Map a b) (byte_of to)) (byte_of from)
+transform_of n.Map (from ∷ to ∷ []) =
+    option_and_then (λ a. option_map (λ b. t.Map a b) (byte_of to)) (byte_of from)
 transform_of n.Drop (byte ∷ []) = option_map (λ b. t.Drop b) (byte_of byte)
 transform_of n.Delay (ms ∷ []) = option_map (λ m. t.Delay m) (number_of most_delay ms)
 transform_of name others = None

@@ -1,4 +1,5 @@
--- The reading of a configuration as a function of its bytes, for computing. The grammar is Reading.antt; that the two
+-- The reading of a configuration as a function of its bytes, for computing. The grammar is Reading.antt; that
+-- the two
 -- agree is a law (`one_reading`).
 use Rattle.std.specs.Prelude.{◌≡◌, ℕ, suc, zero, ◌==◌, ◌+◌, not, nat_le, Bool, List, [], ◌∷◌, ◌++◌, length, take, drop, Option, Some, None, Result, Ok, Err, ⊤, if◌then◌else◌}
 use Rattle.std.specs.List.{prefix_len}
@@ -44,8 +45,10 @@ abbrev pub front_of_text : List ℕ → Front
 front_of_text [] = nothing
 front_of_text (b ∷ bs) =
     if b == number_sign then nothing
-    else if b == quote_mark then quoted (take (prefix_len is_quotable_byte bs) bs) (drop (prefix_len is_quotable_byte bs) bs)
-    else word (take (prefix_len is_plain_byte (b ∷ bs)) (b ∷ bs)) (drop (prefix_len is_plain_byte (b ∷ bs)) (b ∷ bs))
+    else if b == quote_mark then quoted (take (prefix_len is_quotable_byte bs) bs)
+    (drop (prefix_len is_quotable_byte bs) bs)
+    else word (take (prefix_len is_plain_byte (b ∷ bs)) (b ∷ bs))
+    (drop (prefix_len is_plain_byte (b ∷ bs)) (b ∷ bs))
 
 -- what a line begins with
 abbrev pub front_of : List ℕ → Front
@@ -75,17 +78,20 @@ meaning_of_words None = Err k.Quote
 abbrev pub meaning_of : List ℕ → Result Entry ConfigKind
 meaning_of line = if is_text line then meaning_of_words (words_in line) else Err k.Text
 
--- the transform lines of a configuration, or the number of the first line that is not in the grammar, counted from 1,
+-- the transform lines of a configuration, or the number of the first line that is not in the grammar, counted
+-- from 1,
 -- and the first rule that it breaks
 pub data Reading : Type 0 where
   Good : List TransformLine → Reading
   Bad : ℕ → ConfigKind → Reading
 
 -- the reading that goes on behind a line with this meaning, which is the n-th, counted from 1
-abbrev pub next_lines : Result Entry ConfigKind → ℕ → List TransformLine → (List TransformLine → Reading) → Reading
+abbrev pub next_lines : Result Entry ConfigKind → ℕ → List TransformLine → (List TransformLine → Reading)
+    → Reading
 next_lines (Err kind) n so_far next = Bad n kind
 next_lines (Ok e) n so_far next =
-    if nat_le (length (so_far ++ transform_in e)) most_transforms then next (so_far ++ transform_in e) else Bad n k.TooMany
+    if nat_le (length (so_far ++ transform_in e)) most_transforms then next
+    (so_far ++ transform_in e) else Bad n k.TooMany
 
 -- the reading of lines behind n others, which have these transforms
 abbrev pub read_lines : List (List ℕ) → ℕ → List TransformLine → Reading

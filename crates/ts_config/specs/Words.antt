@@ -45,7 +45,8 @@ HasNoWord line = (blanks rest : List ℕ) × IsBlanks blanks × EndsLine rest ×
 -- the line begins with this word, and the rest follows
 abbrev pub BeginsWith : List ℕ → List ℕ → List ℕ → Type 0
 BeginsWith line w rest =
-    (blanks text : List ℕ) × IsBlanks blanks × Spells text w × EndsWord rest × (line ≡ blanks ++ (text ++ rest))
+    (blanks text : List ℕ) × IsBlanks blanks × Spells text w × EndsWord rest
+    × (line ≡ blanks ++ (text ++ rest))
 
 -- the line is these words, between blanks, and maybe a comment
 abbrev pub IsWords : List ℕ → List (List ℕ) → Type 0

@@ -7,7 +7,7 @@ use std::marker::Model;
 use ts_link::Octets;
 
 /// Which head a header rule changes.
-#[derive(Clone, Copy, Debug, PartialEq, Eq)]
+#[derive(Clone, Copy)]
 pub enum Side {
     Request,
     Response,

@@ -1,5 +1,5 @@
-//! The configuration: one line for each transform of the chain, as operators write it. Reading gives the value of the
-//! grammar or names the first faulty line, and printing gives lines that read the same.
+//! The configuration: one line for each transform of the chain, as operators write it. Reading gives the
+//! value of the grammar or names the first faulty line, and printing gives lines that read the same.
 #![tactic(auto)]
 
 mod fields;
@@ -17,6 +17,3 @@ pub use laws::one_reading;
 pub use print::print_config;
 pub use read::read_config;
 pub use setup::{ConfigFault, ConfigKind, ConfigRefusal, Setup, TransformLine};
-
-#[cfg(test)]
-mod tests;

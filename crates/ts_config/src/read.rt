@@ -22,7 +22,7 @@ use ts_link::NoMemory;
 const MOST_TRANSFORMS: usize = 16;
 
 /// Why a line was not read.
-#[derive(Clone, Copy, Debug, PartialEq, Eq)]
+#[derive(Clone, Copy)]
 pub enum LineRefusal {
     Kind(ConfigKind),
     NoMemory,
@@ -120,8 +120,8 @@ fn refusal_at(line: u64, refusal: LineRefusal) -> ConfigRefusal
     }
 }
 
-/// What the configuration means, with the texts of its files empty. A fault names the first line that is not in the
-/// grammar, counted from 1, and the first rule that it breaks, in the order of `ConfigKind`.
+/// What the configuration means, with the texts of its files empty. A fault names the first line that is not
+/// in the grammar, counted from 1, and the first rule that it breaks, in the order of `ConfigKind`.
 pub fn read_config(alloc: Global, bytes: &[u8]) -> Result<Setup, ConfigRefusal>
     ensures read { IfOk result (λ s. IsConfiguration bytes.now s.transforms.items) }
     ensures plugins { IfOk result (λ s. s.plugins.items ≡ []) }

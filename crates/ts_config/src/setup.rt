@@ -35,7 +35,7 @@ pub enum Entry {
 }
 
 /// The rules of a line, in the order in which they are tried.
-#[derive(Clone, Copy, Debug, PartialEq, Eq)]
+#[derive(Clone, Copy, Debug)]
 pub enum ConfigKind {
     /// The line is UTF-8, and has no byte below 32 but tabs, and no byte 127.
     Text,
@@ -50,7 +50,7 @@ pub enum ConfigKind {
 }
 
 /// The first faulty line, counted from 1, and the first rule that it breaks.
-#[derive(Clone, Copy, Debug, PartialEq, Eq)]
+#[derive(Clone, Copy, Debug)]
 pub struct ConfigFault {
     pub line: u64,
     pub kind: ConfigKind,

@@ -12,7 +12,7 @@ use std::alloc::Global;
 use ts_link::{NoMemory, Octets};
 
 /// The plugins that a line can name.
-#[derive(Clone, Copy, Debug, PartialEq, Eq)]
+#[derive(Clone, Copy)]
 pub enum PluginName {
     Null,
     Append,

@@ -16,10 +16,18 @@ pub fails_at_token : (Token Kind : List ℕ → Type 0) (bytes : List ℕ) (left
     → ((t : List ℕ) → Token t → (y : List ℕ) × Kind (t ++ y)) → ((z : List ℕ) → Kind z → Opens Token z)
     → BreaksOff Token bytes left → Fails Kind bytes left
 fails_at_token Token Kind bytes left goes opens r =
-    record { front = r.front; rest = r.rest; bytes_are = r.bytes_are; left_is = r.left_is; begun = begun r.begun.0 r.begun.1; stuck = stuck r.rest r.stuck }
+    record {
+      front = r.front;
+      rest = r.rest;
+      bytes_are = r.bytes_are;
+      left_is = r.left_is;
+      begun = begun r.begun.0 r.begun.1;
+      stuck = stuck r.rest r.stuck;
+    }
   where
     begun : (m : List ℕ) → Token (r.front ++ m) → (more : List ℕ) × Kind (r.front ++ more)
-    begun m t = let whole = goes (r.front ++ m) t in (m ++ whole.0, subst Kind (append_assoc r.front m whole.0) whole.1)
+    begun m t = let whole = goes (r.front ++ m) t in
+        (m ++ whole.0, subst Kind (append_assoc r.front m whole.0) whole.1)
 
     stuck : (rest : List ℕ) → Stuck (Opens Token) r.front rest → Stuck Kind r.front rest
     stuck [] h = λ k. h (opens r.front k)
@@ -34,10 +42,15 @@ fails_behind Kind Next t bytes left to back f = record {
   rest = f.rest;
   bytes_are = ap (λ x. t ++ x) f.bytes_are ∙ sym (append_assoc t f.front f.rest);
   left_is = f.left_is;
-  begun = (f.begun.0, subst Kind (sym (append_assoc t f.front f.begun.0)) (to (f.front ++ f.begun.0) f.begun.1));
+  begun = (
+    f.begun.0,
+    subst Kind (sym (append_assoc t f.front f.begun.0))
+        (to (f.front ++ f.begun.0) f.begun.1),
+  );
   stuck = stuck f.rest f.stuck;
 }
   where
     stuck : (rest : List ℕ) → Stuck Next f.front rest → Stuck Kind (t ++ f.front) rest
     stuck [] h = λ k. h (back f.front k)
-    stuck (b ∷ bs) h = λ more k. h more (back (f.front ++ b ∷ more) (subst Kind (append_assoc t f.front (b ∷ more)) k))
+    stuck (b ∷ bs) h =
+        λ more k. h more (back (f.front ++ b ∷ more) (subst Kind (append_assoc t f.front (b ∷ more)) k))

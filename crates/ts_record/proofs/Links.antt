@@ -18,7 +18,8 @@ side_stalls [] at = refl
 side_stalls (p ∷ ps) at = side_stalls ps (at + length p)
 
 -- one piece more was taken over
-pub piece_more : (given : List Piece) (piece : List ℕ) (rest : List (List ℕ)) → (given ++ Bytes piece ∷ []) ++ side_pieces rest ≡ given ++ side_pieces (piece ∷ rest)
+pub piece_more : (given : List Piece) (piece : List ℕ) (rest : List (List ℕ))
+    → (given ++ Bytes piece ∷ []) ++ side_pieces rest ≡ given ++ side_pieces (piece ∷ rest)
 piece_more given piece rest = append_assoc given (Bytes piece ∷ []) (side_pieces rest)
 
 module _ (pieces : List (List ℕ)) (l : LinkState) (is : l ≡ recorded_side pieces) where
@@ -36,7 +37,8 @@ module _ (pieces : List (List ℕ)) (l : LinkState) (is : l ≡ recorded_side pi
 
   pub new_side : bytes_of l.input.ahead ≡ bytes_of (side_pieces pieces) → IsNewSide (concat pieces) l
   new_side all =
-      let source : l.input.source ≡ bytes_of (side_pieces pieces) = ap (λ (s : LinkState). s.input.source) is in
+      let source : l.input.source ≡ bytes_of (side_pieces pieces) =
+      ap (λ (s : LinkState). s.input.source) is in
       let none : length l.input.source - length (bytes_of l.input.ahead) ≡ 0 =
       let long = ap length source in let ahead = ap length all in omega (arith, long, ahead) in
       record {

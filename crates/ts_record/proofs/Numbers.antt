@@ -15,7 +15,8 @@ pub own : IsNumeralModel (AllDigits 10) (digits_value 10)
 own = numerals_by_value (AllDigits 10) tells_digits
 
 -- digits before another byte are all the digits before it, where both are followed by a line feed
-pub same_digits : (ds es x y : List ℕ) → AllDigits 10 ds → AllDigits 10 es → ds ++ 10 ∷ x ≡ es ++ 10 ∷ y → (ds ≡ es) × (x ≡ y)
+pub same_digits : (ds es x y : List ℕ) → AllDigits 10 ds → AllDigits 10 es → ds ++ 10 ∷ x ≡ es ++ 10 ∷ y
+    → (ds ≡ es) × (x ≡ y)
 same_digits [] [] x y are also same = (refl, cc)
 same_digits [] (e ∷ es) x y are also same =
     let digit = digit_from_value e also.0 in let feed : 10 ≡ e = cc in absurd (omega arith)
@@ -25,13 +26,16 @@ same_digits (d ∷ ds) (e ∷ es) x y are also same =
     let first : d ≡ e = cc in let others : ds ++ 10 ∷ x ≡ es ++ 10 ∷ y = cc in
     let rest = same_digits ds es x y are.1 also.1 others in (cc (first, rest.0), rest.1)
 
-pub same_number : (m n : ℕ) (x y : List ℕ) → m < 2 ^ 64 → n < 2 ^ 64 → decimal m ++ 10 ∷ x ≡ decimal n ++ 10 ∷ y → (m ≡ n) × (x ≡ y)
+pub same_number : (m n : ℕ) (x y : List ℕ) → m < 2 ^ 64 → n < 2 ^ 64
+    → decimal m ++ 10 ∷ x ≡ decimal n ++ 10 ∷ y → (m ≡ n) × (x ≡ y)
 same_number m n x y small also same =
-    let rest = same_digits (decimal m) (decimal n) x y (digits_decimal own m small) (digits_decimal own n also) same in
+    let rest = same_digits (decimal m) (decimal n) x y (digits_decimal own m small)
+    (digits_decimal own n also) same in
     (decimal_injective m n small also rest.0, rest.1)
 
 -- digits that stand before any byte, and before a line feed, end there or go on with that byte
-pub longer_digits : (ds es x y : List ℕ) (b : ℕ) → AllDigits 10 ds → AllDigits 10 es → ds ++ 10 ∷ x ≡ es ++ b ∷ y
+pub longer_digits : (ds es x y : List ℕ) (b : ℕ) → AllDigits 10 ds → AllDigits 10 es
+    → ds ++ 10 ∷ x ≡ es ++ b ∷ y
     → ((b ≡ 10) × (ds ≡ es)) ⊎ ((more : List ℕ) × (ds ≡ es ++ b ∷ more))
 longer_digits [] [] x y b are also same = inl (cc, refl)
 longer_digits [] (e ∷ es) x y b are also same =
@@ -52,7 +56,8 @@ digit_among [] more b are = are.0
 digit_among (d ∷ ds) more b are = digit_among ds more b are.1
 
 -- the digits of a number from 1 to a piece's most bytes go on where the digits so far stop no digit
-pub goes_on : (n value b : ℕ) (ds more bs : List ℕ) → 0 < n → n ≤ MOST_PIECE → digits_value 10 ds ≡ value → (value ≡ 0 → ds ≡ [])
+pub goes_on : (n value b : ℕ) (ds more bs : List ℕ) → 0 < n → n ≤ MOST_PIECE → digits_value 10 ds ≡ value
+    → (value ≡ 0 → ds ≡ [])
     → decimal n ≡ ds ++ b ∷ more → DigitsStop value (b ∷ bs) → ⊥
 goes_on n value b ds more bs some within worth none is stop =
     either (stop digit)
@@ -64,7 +69,8 @@ goes_on n value b ds more bs some within worth none is stop =
     digit = digit_among ds more b (subst (AllDigits 10) is (digits_decimal own n small))
 
     split : take (length (ds ++ b ∷ [])) (decimal n) ≡ ds ++ b ∷ []
-    split = ap (take (length (ds ++ b ∷ []))) (is ∙ sym (append_assoc ds (b ∷ []) more)) ∙ take-append_seam (ds ++ b ∷ []) more
+    split = ap (take (length (ds ++ b ∷ []))) (is ∙ sym (append_assoc ds (b ∷ []) more))
+        ∙ take-append_seam (ds ++ b ∷ []) more
 
     front : digits_value 10 (ds ++ b ∷ []) ≤ n
     front =
@@ -76,7 +82,8 @@ goes_on n value b ds more bs some within worth none is stop =
     longer = omega (arith, front, digits_value_push 10 ds b, worth)
 
     first : value ≡ 0 → 0 < digit_value b
-    first nothing = let lead : get_or (decimal n) 0 0 ≡ b = ap (λ xs. get_or xs 0 0) (is ∙ ap (λ xs. xs ++ b ∷ more) (none nothing)) in
+    first nothing = let lead : get_or (decimal n) 0 0 ≡ b =
+        ap (λ xs. get_or xs 0 0) (is ∙ ap (λ xs. xs ++ b ∷ more) (none nothing)) in
         omega (arith, lead, first_decimal n some small, digit_value_digit b (digit_from_value b digit))
 
     either : ((with_digit value b ≡ 0) ⊎ (MOST_PIECE < with_digit value b)) → ⊥
@@ -84,11 +91,17 @@ goes_on n value b ds more bs some within worth none is stop =
     either (inr above) = omega (arith, longer)
 
 -- the digits before the rest, and their worth
-pub are_digits : (bytes rest : List ℕ) (value : ℕ) → (d : DigitsEnd bytes value rest) → AllDigits 10 d.digits × (digits_value 10 d.digits ≡ value)
+pub are_digits : (bytes rest : List ℕ) (value : ℕ) → (d : DigitsEnd bytes value rest)
+    → AllDigits 10 d.digits × (digits_value 10 d.digits ≡ value)
 are_digits bytes rest value d = cases value d.digits d.none d.number d.most
   where
-    cases : (v : ℕ) (ds : List ℕ) → (v ≡ 0 → ds ≡ []) → (0 < v → ds ≡ decimal v) → v ≤ MOST_PIECE → AllDigits 10 ds × (digits_value 10 ds ≡ v)
-    cases zero ds none number most = (subst (AllDigits 10) (sym (none refl)) tt, ap (digits_value 10) (none refl))
+    cases : (v : ℕ) (ds : List ℕ) → (v ≡ 0 → ds ≡ []) → (0 < v → ds ≡ decimal v) → v ≤ MOST_PIECE
+        → AllDigits 10 ds × (digits_value 10 ds ≡ v)
+    cases zero ds none number most =
+        (subst (AllDigits 10) (sym (none refl)) tt, ap (digits_value 10) (none refl))
     cases (suc v) ds none number most =
-        let is : ds ≡ decimal (suc v) = number (omega arith) in let small : suc v < 2 ^ 64 = omega arith in
-        (subst (AllDigits 10) (sym is) (digits_decimal own (suc v) small), ap (digits_value 10) is ∙ digits_value-decimal own (suc v) small)
+        let is : ds ≡ decimal (suc v) = number (omega arith) in let small : suc v < 2 ^ 64 = omega arith in (
+          subst (AllDigits 10) (sym is) (digits_decimal own (suc v) small),
+          ap (digits_value 10) is
+              ∙ digits_value-decimal own (suc v) small,
+        )

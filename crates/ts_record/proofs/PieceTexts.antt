@@ -34,7 +34,8 @@ abbrev filled : ℕ → List ℕ
 filled n = replicate n 97
 
 -- no number, or no line feed behind it
-pub number_refused : (bytes rest : List ℕ) (value : ℕ) → DigitsEnd bytes value rest → (value ≡ 0) ⊎ LacksFeed rest → BreaksOff IsPieceText bytes (length rest)
+pub number_refused : (bytes rest : List ℕ) (value : ℕ) → DigitsEnd bytes value rest
+    → (value ≡ 0) ⊎ LacksFeed rest → BreaksOff IsPieceText bytes (length rest)
 number_refused bytes rest value d none = record {
   front = d.digits;
   rest = rest;
@@ -44,8 +45,16 @@ number_refused bytes rest value d none = record {
   stuck = stuck rest d.ends none;
 }
   where
-    begun : (v : ℕ) (ds : List ℕ) → (v ≡ 0 → ds ≡ []) → (0 < v → ds ≡ decimal v) → v ≤ MOST_PIECE → (more : List ℕ) × IsPieceText (ds ++ more)
-    begun zero ds empty number most = (piece_before [] some_piece, (some_piece, (omega arith, omega arith), ap (λ t. t ++ piece_before [] some_piece) (empty refl)))
+    begun : (v : ℕ) (ds : List ℕ) → (v ≡ 0 → ds ≡ []) → (0 < v → ds ≡ decimal v) → v ≤ MOST_PIECE
+        → (more : List ℕ) × IsPieceText (ds ++ more)
+    begun zero ds empty number most = (
+      piece_before [] some_piece,
+      (
+        some_piece,
+        (omega arith, omega arith),
+        ap (λ t. t ++ piece_before [] some_piece) (empty refl),
+      ),
+    )
     begun (suc v) ds empty number most =
         let long : length (filled (suc v)) ≡ suc v = length-replicate {A = ℕ} (suc v) 97 in (
           10 ∷ (filled (suc v) ++ 10 ∷ []),
@@ -59,19 +68,27 @@ number_refused bytes rest value d none = record {
     digits : AllDigits 10 d.digits
     digits = (are_digits bytes rest value d).0
 
-    stuck : (xs : List ℕ) → DigitsStop value xs → (value ≡ 0) ⊎ LacksFeed xs → Stuck (Opens IsPieceText) d.digits xs
+    stuck : (xs : List ℕ) → DigitsStop value xs → (value ≡ 0) ⊎ LacksFeed xs
+        → Stuck (Opens IsPieceText) d.digits xs
     stuck [] ends why = λ opens.
         let b = begins d.digits opens in
-        let feed = digit_among (decimal (length b.piece)) (b.piece ++ 10 ∷ b.behind) 10 (subst (AllDigits 10) b.text digits) in absurd (omega arith)
+        let feed = digit_among (decimal (length b.piece)) (b.piece ++ 10 ∷ b.behind) 10
+        (subst (AllDigits 10) b.text digits) in absurd (omega arith)
     stuck (x ∷ xs) ends why = λ more opens. follows more (begins (d.digits ++ x ∷ more) opens)
       where
         follows : (more : List ℕ) → Begins (d.digits ++ x ∷ more) → ⊥
-        follows more b = either why (longer_digits (decimal (length b.piece)) d.digits (b.piece ++ 10 ∷ b.behind) more x (digits_decimal own (length b.piece) b.small) digits (sym b.text))
+        follows more b =
+            either why (longer_digits (decimal (length b.piece)) d.digits (b.piece ++ 10 ∷ b.behind) more x
+            (digits_decimal own (length b.piece) b.small) digits (sym b.text))
           where
             either : (value ≡ 0) ⊎ LacksFeed (x ∷ xs)
-                → ((x ≡ 10) × (decimal (length b.piece) ≡ d.digits)) ⊎ ((rest : List ℕ) × (decimal (length b.piece) ≡ d.digits ++ x ∷ rest)) → ⊥
-            either why (inr (tail, same)) = goes_on (length b.piece) value x d.digits tail xs b.is.0 b.is.1 (are_digits bytes rest value d).1 d.none same ends
-            either (inl nothing) (inl (feed, same)) = omega (arith, decimal_nonempty (length b.piece) b.small, ap length (same ∙ d.none nothing))
+                → ((x ≡ 10) × (decimal (length b.piece) ≡ d.digits))
+                ⊎ ((rest : List ℕ) × (decimal (length b.piece) ≡ d.digits ++ x ∷ rest)) → ⊥
+            either why (inr (tail, same)) =
+                goes_on (length b.piece) value x d.digits tail xs b.is.0 b.is.1
+                (are_digits bytes rest value d).1 d.none same ends
+            either (inl nothing) (inl (feed, same)) =
+                omega (arith, decimal_nonempty (length b.piece) b.small, ap length (same ∙ d.none nothing))
             either (inr lacks) (inl (feed, same)) = lacks xs (ap (λ y. y ∷ xs) feed)
 
 -- the number of a piece, and a line feed
@@ -80,29 +97,38 @@ pub record Numbered (bytes : List ℕ) (value : ℕ) (inside : List ℕ) : Type 
   pub most : value ≤ MOST_PIECE
   pub text : bytes ≡ decimal value ++ 10 ∷ inside
 
-pub numbered : (bytes rest inside : List ℕ) (value : ℕ) → DigitsEnd bytes value rest → 0 < value → rest ≡ 10 ∷ inside → Numbered bytes value inside
+pub numbered : (bytes rest inside : List ℕ) (value : ℕ) → DigitsEnd bytes value rest → 0 < value
+    → rest ≡ 10 ∷ inside → Numbered bytes value inside
 numbered bytes rest inside value d some feed = record {
   some = some;
   most = d.most;
   text = d.bytes_are ∙ ap (λ t. d.digits ++ t) feed ∙ ap (λ t. t ++ 10 ∷ inside) (d.number some);
 }
 
-same_begin : (value : ℕ) (inside bytes : List ℕ) → value ≤ MOST_PIECE → bytes ≡ decimal value ++ 10 ∷ inside → (b : Begins bytes)
+same_begin : (value : ℕ) (inside bytes : List ℕ) → value ≤ MOST_PIECE → bytes ≡ decimal value ++ 10 ∷ inside
+    → (b : Begins bytes)
     → (value ≡ length b.piece) × (inside ≡ b.piece ++ 10 ∷ b.behind)
-same_begin value inside bytes most text b = same_number value (length b.piece) inside (b.piece ++ 10 ∷ b.behind) (omega arith) b.small (sym text ∙ b.text)
+same_begin value inside bytes most text b =
+    same_number value (length b.piece) inside (b.piece ++ 10 ∷ b.behind) (omega arith) b.small (sym text
+    ∙ b.text)
 
 -- a text that was split at a place
 pub halves : (xs front back : List ℕ) (n : ℕ) → front ≡ take n xs → back ≡ drop n xs → xs ≡ front ++ back
-halves xs front back n first second = sym (take-append-drop n xs) ∙ ap (λ t. t ++ drop n xs) (sym first) ∙ ap (λ t. front ++ t) (sym second)
+halves xs front back n first second =
+    sym (take-append-drop n xs) ∙ ap (λ t. t ++ drop n xs) (sym first) ∙ ap (λ t. front ++ t) (sym second)
 
 -- the bytes end within the piece
-pub short_refused : (bytes inside : List ℕ) (value : ℕ) → Numbered bytes value inside → length inside < value → BreaksOff IsPieceText bytes 0
+pub short_refused : (bytes inside : List ℕ) (value : ℕ) → Numbered bytes value inside → length inside < value
+    → BreaksOff IsPieceText bytes 0
 short_refused bytes inside value n short = record {
   front = bytes;
   rest = [];
   bytes_are = sym (append-nil bytes);
   left_is = refl;
-  begun = (filled (value - length inside) ++ 10 ∷ [], (whole, (omega (arith, long), omega (arith, long)), same));
+  begun = (
+    filled (value - length inside) ++ 10 ∷ [],
+    (whole, (omega (arith, long), omega (arith, long)), same),
+  );
   stuck = λ opens. let b = begins bytes opens in let is = same_begin value inside bytes n.most n.text b in
       omega (arith, is.0, ap length is.1, length-append b.piece (10 ∷ b.behind));
 }
@@ -111,24 +137,40 @@ short_refused bytes inside value n short = record {
     whole = inside ++ filled (value - length inside)
 
     long : length whole ≡ value
-    long = omega (arith, length-append inside (filled (value - length inside)), length-replicate {A = ℕ} (value - length inside) 97)
+    long = omega (
+      arith,
+      length-append inside (filled (value - length inside)),
+      length-replicate {A = ℕ} (value - length inside) 97,
+    )
 
-    same : bytes ++ (filled (value - length inside) ++ 10 ∷ []) ≡ decimal (length whole) ++ 10 ∷ (whole ++ 10 ∷ [])
+    same : bytes ++ (filled (value - length inside) ++ 10 ∷ []) ≡ decimal (length whole)
+        ++ 10 ∷ (whole ++ 10 ∷ [])
     same =
         ap (λ t. t ++ (filled (value - length inside) ++ 10 ∷ [])) n.text
         ∙ append_assoc (decimal value) (10 ∷ inside) (filled (value - length inside) ++ 10 ∷ [])
-        ∙ ap (λ t. decimal value ++ 10 ∷ t) (sym (append_assoc inside (filled (value - length inside)) (10 ∷ [])))
+        ∙ ap (λ t. decimal value ++ 10 ∷ t) (sym (append_assoc inside (filled (value - length inside))
+        (10 ∷ [])))
         ∙ ap (λ l. decimal l ++ 10 ∷ (whole ++ 10 ∷ [])) (sym long)
 
 -- no line feed stands behind the piece
-pub feed_refused : (bytes inside piece rest : List ℕ) (value : ℕ) → Numbered bytes value inside → inside ≡ piece ++ rest → length piece ≡ value → LacksFeed rest
+pub feed_refused : (bytes inside piece rest : List ℕ) (value : ℕ) → Numbered bytes value inside
+    → inside ≡ piece ++ rest → length piece ≡ value → LacksFeed rest
     → BreaksOff IsPieceText bytes (length rest)
 feed_refused bytes inside piece rest value n split long lacks = record {
   front = front;
   rest = rest;
-  bytes_are = n.text ∙ ap (λ t. decimal value ++ 10 ∷ t) split ∙ sym (append_assoc (decimal value) (10 ∷ piece) rest);
+  bytes_are = n.text ∙ ap (λ t. decimal value ++ 10 ∷ t) split
+      ∙ sym (append_assoc (decimal value) (10 ∷ piece) rest);
   left_is = refl;
-  begun = (10 ∷ [], (piece, (omega arith, omega arith), append_assoc (decimal value) (10 ∷ piece) (10 ∷ []) ∙ ap (λ l. decimal l ++ 10 ∷ (piece ++ 10 ∷ [])) (sym long)));
+  begun = (
+    10 ∷ [],
+    (
+      piece,
+      (omega arith, omega arith),
+      append_assoc (decimal value) (10 ∷ piece) (10 ∷ [])
+          ∙ ap (λ l. decimal l ++ 10 ∷ (piece ++ 10 ∷ [])) (sym long),
+    ),
+  );
   stuck = stuck rest lacks;
 }
   where
@@ -136,10 +178,13 @@ feed_refused bytes inside piece rest value n split long lacks = record {
     front = decimal value ++ 10 ∷ piece
 
     stuck : (xs : List ℕ) → LacksFeed xs → Stuck (Opens IsPieceText) front xs
-    stuck [] lack = λ opens. let b = begins front opens in let is = same_begin value piece front n.most refl b in
+    stuck [] lack = λ opens. let b = begins front opens in
+        let is = same_begin value piece front n.most refl b in
         omega (arith, is.0, ap length is.1, length-append b.piece (10 ∷ b.behind))
     stuck (x ∷ xs) lack = λ more opens.
         let b = begins (front ++ x ∷ more) opens in
-        let is = same_begin value (piece ++ x ∷ more) (front ++ x ∷ more) n.most (append_assoc (decimal value) (10 ∷ piece) (x ∷ more)) b in
+        let is = same_begin value (piece ++ x ∷ more) (front ++ x ∷ more) n.most
+        (append_assoc (decimal value) (10 ∷ piece) (x ∷ more)) b in
         let rest = same_front piece b.piece (x ∷ more) (10 ∷ b.behind) (long ∙ is.0) is.1 in
-        let fed : (x ∷ more) ≡ (10 ∷ b.behind) = rest.1 in let feed : x ≡ 10 = cc in lack xs (ap (λ y. y ∷ xs) feed)
+        let fed : (x ∷ more) ≡ (10 ∷ b.behind) = rest.1 in let feed : x ≡ 10 = cc in
+        lack xs (ap (λ y. y ∷ xs) feed)

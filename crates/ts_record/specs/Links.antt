@@ -16,7 +16,8 @@ abbrev pub recorded_side : List (List ℕ) → LinkState
 recorded_side pieces =
     fresh_link (seen_pieces 0 0 (side_pieces pieces)) greatest None (no_calls [] []) (no_calls [] [])
 
--- No call of it failed or waited, and none will: none is to fail or to wait by its number, it waits nowhere in its
+-- No call of it failed or waited, and none will: none is to fail or to wait by its number, it waits nowhere
+-- in its
 -- source, and it never leaves.
 pub record NeverFails (l : LinkState) : Type 0 where
   pub fail_reads : l.reads.fail ≡ []

@@ -5,6 +5,10 @@ use Rattle.ts_record.specs.Keywords.{keyword_text}
 use Rattle.ts_record.specs.declared.keyword.Keyword.{Keyword}
 use Rattle.ts_record.specs.declared.keyword.Keyword.TheVariants as k
 
+-- what stood there still does, in front of what was printed: all of it, or a part where memory lacked
+abbrev pub KeepsFront : List ℕ → List ℕ → Type 0
+KeepsFront old new = (printed : List ℕ) × (new ≡ old ++ printed)
+
 -- an output went from old to new by a text that stands before whatever is printed next
 abbrev pub Prints : (List ℕ → List ℕ) → List ℕ → List ℕ → Type 0
 Prints text_before old new = (behind : List ℕ) → new ++ behind ≡ old ++ text_before behind

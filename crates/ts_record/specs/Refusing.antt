@@ -23,7 +23,8 @@ abbrev pub Stuck : (List ℕ → Type 0) → List ℕ → List ℕ → Type 0
 Stuck Kind front [] = Kind front → ⊥
 Stuck Kind front (b ∷ bs) = (more : List ℕ) → Kind (front ++ b ∷ more) → ⊥
 
--- the bytes do not begin with one of these tokens; so many of them stand behind the longest front that one begins
+-- the bytes do not begin with one of these tokens; so many of them stand behind the longest front that one
+-- begins
 -- with
 pub record BreaksOff (Token : List ℕ → Type 0) (bytes : List ℕ) (left : ℕ) : Type 0 where
   pub front : List ℕ
@@ -52,7 +53,8 @@ with_digit value digit = BASE * value + digit_value digit
 -- no digit follows that keeps the number above 0 and within the length of a piece
 abbrev pub DigitsStop : ℕ → List ℕ → Type 0
 DigitsStop value [] = ⊤
-DigitsStop value (b ∷ bs) = digit_value b < BASE → (with_digit value b ≡ 0) ⊎ (MOST_PIECE < with_digit value b)
+DigitsStop value (b ∷ bs) =
+    digit_value b < BASE → (with_digit value b ≡ 0) ⊎ (MOST_PIECE < with_digit value b)
 
 -- the digits at the front that the length of a piece can begin with, and the number that they stand for
 pub record DigitsEnd (bytes : List ℕ) (value : ℕ) (rest : List ℕ) : Type 0 where
@@ -105,7 +107,8 @@ StopsInside bytes p.NoMemory = ⊤
 abbrev pub EndRefused : ℕ → List ℕ → ℕ → Type 0
 EndRefused count bytes left =
     BreaksOff (OneOf (keywords_behind count)) bytes left
-    ⊎ ((behind : List ℕ) × (bytes ≡ keyword_text k.End ++ behind) × (0 < length behind) × (left ≡ length behind))
+    ⊎ ((behind : List ℕ) × (bytes ≡ keyword_text k.End ++ behind) × (0 < length behind)
+    × (left ≡ length behind))
 
 abbrev pub StopsEnd : ℕ → List ℕ → PartRefusal → Type 0
 StopsEnd count bytes (p.Left left) = EndRefused count bytes left

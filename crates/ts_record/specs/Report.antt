@@ -29,6 +29,15 @@ abbrev pub body_text : TxnEnd → List ℕ → List ℕ
 body_text e.Whole content = sized_text (codes "body ") content
 body_text other content = []
 
+-- the lines on its number, and on the head that the origin got
+abbrev pub request_lines : ℕ → List ℕ → List ℕ
+request_lines number request =
+    codes "txn " ++ decimal number ++ line_feed ∷ [] ++ sized_text (codes "request ") request
+
+-- the lines on its end, and on the head that the client got
+abbrev pub head_lines : TxnEnd → List ℕ → List ℕ
+head_lines end head = codes "end " ++ end_word end ++ line_feed ∷ [] ++ sized_text (codes "head ") head
+
 -- the lines on the transaction of this number
 abbrev pub block_text : ℕ → Block → List ℕ
 block_text number block =

@@ -1,10 +1,11 @@
-//! The words that the lines of a recording begin with: which stands at the front of bytes, and how much of one.
+//! The words that the lines of a recording begin with: which stands at the front of bytes, and how much of
+//! one.
 ghost use Rattle.std.specs.Prelude.{◌≡◌, ℕ, ◌<◌, ◌≤◌, ◌++◌, length, IfSome, IfNone};
 ghost use Rattle.ts_record.specs.Keywords.{keyword_text, common, most_common, LacksKeyword, LacksAll};
 ghost use Rattle.ts_record.specs.Refusing.{BreaksOff, OneOf};
 
 /// A word that a line begins with, together with the space or the line feed behind it.
-#[derive(Clone, Copy, Debug, PartialEq, Eq)]
+#[derive(Clone, Copy)]
 pub enum Keyword {
     /// The first line of a recording, with its version.
     Header,
@@ -73,8 +74,8 @@ fn most_common(bytes: &[u8], keywords: &[Keyword]) -> usize
     }
 }
 
-/// How many bytes are left behind the longest front that one of these keywords begins with, where none of them
-/// stands at the front.
+/// How many bytes are left behind the longest front that one of these keywords begins with, where none of
+/// them stands at the front.
 pub fn left_by(bytes: &[u8], keywords: &[Keyword]) -> usize
     requires some { 0 < length keywords.now }
     requires lacks { LacksAll bytes.now keywords.now }

@@ -1,5 +1,5 @@
-//! Recordings: the bytes that both sides of each transaction send, as a text that is read and printed; and the
-//! blocks of the report on them.
+//! Recordings: the bytes that both sides of each transaction send, as a text that is read and printed; and
+//! the blocks of the report on them.
 #![tactic(auto)]
 
 mod keyword;
@@ -16,6 +16,3 @@ pub use print::print_recording;
 pub use read::read_recording;
 pub use recording::{MOST_PIECE, MOST_TXNS, RecordedTxn, Recording, RecordingRefusal};
 pub use report::{Block, REPORT_BEGIN, REPORT_END, add_block, report_block};
-
-#[cfg(test)]
-mod tests;

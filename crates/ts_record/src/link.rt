@@ -12,8 +12,8 @@ use std::marker::Model;
 use ts_link::{Got, Link, MemLink, NoMemory, Octets, Piece, Put};
 use ts_upstream::{Uploaded, Upstream};
 
-/// One side of a recorded transaction: it gives the pieces of its side and then its end, and takes all that is
-/// written to it. No call of it fails or waits.
+/// One side of a recorded transaction: it gives the pieces of its side and then its end, and takes all that
+/// is written to it. No call of it fails or waits.
 #[derive(Drop)]
 pub struct RecordedLink {
     link: MemLink,
@@ -62,8 +62,8 @@ impl RecordedLink {
         self.link.written()
     }
 
-    /// What holds of every one: no call failed or waited, and what it gave and may still give are the bytes of its
-    /// side.
+    /// What holds of every one: no call failed or waited, and what it gave and may still give are the bytes
+    /// of its side.
     pub fn known(&self)
         ensures fails { NeverFails self.now }
         ensures whole { all_of (look_of self.now) ≡ (look_of self.now).source }

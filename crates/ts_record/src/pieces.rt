@@ -12,7 +12,7 @@ use std::alloc::{AllocFailed, Global};
 use ts_link::{NoMemory, Octets};
 
 /// Why a part of a recording was not read.
-#[derive(Clone, Copy, Debug, PartialEq, Eq)]
+#[derive(Clone, Copy)]
 pub enum PartRefusal {
     /// So many bytes are left behind the longest front that the part can begin with.
     Left(usize),

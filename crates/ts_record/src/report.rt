@@ -1,6 +1,7 @@
 //! The report on a recording: the text of what one transaction came to.
 ghost use Rattle.std.specs.Prelude.{◌≡◌, ◌++◌, IfOk, OnOk};
-ghost use Rattle.ts_record.specs.Report.{IsReported, end_word, sized_text, block_text};
+ghost use Rattle.ts_record.specs.Printing.{KeepsFront};
+ghost use Rattle.ts_record.specs.Report.{IsReported, end_word, sized_text, request_lines, head_lines, block_text};
 
 use itoa::Buffer;
 use std::alloc::Global;
@@ -40,7 +41,8 @@ fn end_word(end: TxnEnd) -> &'static [u8]
 
 // Prints a line with a name and a length, and then so many bytes and a line feed.
 fn print_sized(out: &mut Vec<u8>, name: &[u8], bytes: &[u8]) -> Result<(), NoMemory>
-    ensures { OnOk result (out.new.items ≡ out.old.items ++ sized_text name.now bytes.now) }
+    ensures text { OnOk result (out.new.items ≡ out.old.items ++ sized_text name.now bytes.now) }
+    ensures front { KeepsFront out.old.items out.new.items }
 {
     let mut number = Buffer::new();
     out.extend_from_slice(name)?;
@@ -51,21 +53,41 @@ fn print_sized(out: &mut Vec<u8>, name: &[u8], bytes: &[u8]) -> Result<(), NoMem
     Ok(())
 }
 
-/// Adds the lines on the transaction of this number, counted from 1, to a report. Only a whole answer has lines for
-/// its body.
-pub fn add_block(out: &mut Vec<u8>, number: u64, block: &Block) -> Result<(), NoMemory>
-    requires { IsReported block.now.end }
-    ensures { OnOk result (out.new.items ≡ out.old.items ++ block_text number block.now) }
+// Prints the lines on a transaction's number, and on the head that the origin got.
+fn print_request(out: &mut Vec<u8>, number: u64, request: &[u8]) -> Result<(), NoMemory>
+    ensures text { OnOk result (out.new.items ≡ out.old.items ++ request_lines number request.now) }
+    ensures front { KeepsFront out.old.items out.new.items }
 {
     let mut digits = Buffer::new();
     out.extend_from_slice(b"txn ")?;
     out.extend_from_slice(digits.format(number).as_bytes())?;
     out.push(b'\n')?;
-    print_sized(out, b"request ", block.request.bytes())?;
+    print_sized(out, b"request ", request)
+}
+
+// Prints the lines on its end, and on the head that the client got.
+fn print_head(out: &mut Vec<u8>, end: TxnEnd, head: &[u8]) -> Result<(), NoMemory>
+    requires { IsReported end }
+    ensures text { OnOk result (out.new.items ≡ out.old.items ++ head_lines end head.now) }
+    ensures front { KeepsFront out.old.items out.new.items }
+{
     out.extend_from_slice(b"end ")?;
-    out.extend_from_slice(end_word(block.end))?;
+    out.extend_from_slice(end_word(end))?;
     out.push(b'\n')?;
-    print_sized(out, b"head ", block.head.bytes())?;
+    print_sized(out, b"head ", head)
+}
+
+/// Adds the lines on the transaction of this number, counted from 1, to a report. Only a whole answer has
+/// lines for its body.
+pub fn add_block(out: &mut Vec<u8>, number: u64, block: &Block) -> Result<(), NoMemory>
+    requires { IsReported block.now.end }
+    ensures text { OnOk result (out.new.items ≡ out.old.items ++ block_text number block.now) }
+
+    // Where memory lacks, a part of them may stand behind what stood there.
+    ensures front { KeepsFront out.old.items out.new.items }
+{
+    print_request(out, number, block.request.bytes())?;
+    print_head(out, block.end, block.head.bytes())?;
     if block.end == TxnEnd::Whole {
         print_sized(out, b"body ", block.content.bytes())?;
     }

@@ -9,13 +9,15 @@ block_len = 64
 
 -- bit k is set exactly where the byte stands at place k of the block
 abbrev pub ArePlaces : (byte : ℕ) (block : List ℕ) (places : ℕ) → Type 0
-ArePlaces byte block places = (k : ℕ) → (bit_at places k ≡ 1) ↔ ((k < length block) × (slice_index block k ≡ byte))
+ArePlaces byte block places =
+    (k : ℕ) → (bit_at places k ≡ 1) ↔ ((k < length block) × (slice_index block k ≡ byte))
 
 -- the byte does not stand from `from` up to `until`
 abbrev pub IsFreeOf : (byte : ℕ) (input : List ℕ) (from until : ℕ) → Type 0
 IsFreeOf byte input from until = (k : ℕ) → from ≤ k → k < until → slice_index input k ≢ byte
 
--- up to `start` all is looked at: what comes before `done`, less the byte, is the filled front of the room, and from there
+-- up to `start` all is looked at: what comes before `done`, less the byte, is the filled front of the room,
+-- and from there
 -- on comes a run that stays and is not copied yet
 pub record IsUpTo (byte : ℕ) (input room : List ℕ) (done filled start : ℕ) : Type 0 where
   pub order : done ≤ start

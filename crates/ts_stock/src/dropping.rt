@@ -32,8 +32,8 @@ fn write_run(room: &mut [u8], filled: usize, run: &[u8]) -> usize
     end
 }
 
-// Fills the front of the room with the bytes of the input that are not `byte`, one after the other, without a branch.
-// Answers how many they are.
+// Fills the front of the room with the bytes of the input that are not `byte`, one after the other, without a
+// branch. Answers how many they are.
 #[inline(always)]
 fn drop_bytes(room: &mut [u8], input: &[u8], byte: u8) -> usize
     requires { length input.now ≤ length room.old }

@@ -1,5 +1,5 @@
-//! The stock transforms: the state of each line of the configuration, which takes a body in pieces and writes what the
-//! line makes of the whole.
+//! The stock transforms: the state of each line of the configuration, which takes a body in pieces and writes
+//! what the line makes of the whole.
 #![tactic(auto)]
 
 mod dropping;
@@ -9,6 +9,3 @@ mod places;
 mod stock;
 
 pub use stock::Stock;
-
-#[cfg(test)]
-mod tests;

@@ -6,8 +6,8 @@ ghost use Rattle.ts_iobuf.specs.Buffer.{GrowsBy};
 use ts_iobuf::IoBuffer;
 use ts_link::NoMemory;
 
-// Fills the front of the room with the front of the input, each byte `from` replaced by `to`. Answers how many bytes
-// these are.
+// Fills the front of the room with the front of the input, each byte `from` replaced by `to`. Answers how
+// many bytes these are.
 fn map_into(room: &mut [u8], input: &[u8], from: u8, to: u8) -> usize
     ensures count { result ≡ min (length room.old) (length input.now) }
     ensures bytes { take result room.new ≡ mapped from to (take result input.now) }

@@ -5,11 +5,14 @@ use Rattle.std.specs.List.{position, position_or_len}
 use Rattle.std.proofs.lemmas.Bool.{cases_lt, lt-ltb, le-ltb}
 use Rattle.std.proofs.lemmas.List.Sums.{prefix_len-le-length}
 
-pub position_or_len_unwrap : {X : Type 0} (p : X → Bool) (xs : List X) (r : Option ℕ) → r ≡ position p xs → unwrap_or r (length xs) ≡ position_or_len p xs
+pub position_or_len_unwrap : {X : Type 0} (p : X → Bool) (xs : List X) (r : Option ℕ) → r ≡ position p xs
+    → unwrap_or r (length xs) ≡ position_or_len p xs
 position_or_len_unwrap p xs r is =
     let n = position_or_len p xs in
     let within = prefix_len-le-length (λ x. not (p x)) xs in
     ap (λ o. unwrap_or o (length xs)) is
-    ∙ ⊎_elim (λ (lt : n < length xs). ap (λ t. unwrap_or (cond t (Some n) None) (length xs)) (lt-ltb n (length xs) lt))
-    (λ (ge : length xs ≤ n). let same : length xs ≡ n = omega arith in ap (λ t. unwrap_or (cond t (Some n) None) (length xs)) (le-ltb n (length xs) ge) ∙ same)
+    ∙ ⊎_elim (λ (lt : n < length xs). ap (λ t. unwrap_or (cond t (Some n) None) (length xs))
+    (lt-ltb n (length xs) lt))
+    (λ (ge : length xs ≤ n). let same : length xs ≡ n = omega arith in
+    ap (λ t. unwrap_or (cond t (Some n) None) (length xs)) (le-ltb n (length xs) ge) ∙ same)
     (cases_lt n (length xs))

@@ -28,7 +28,11 @@ unfolding line_of
 line_good n fits =
     let value = hex_value n fits in
     let len = length-hex n fits in
-    let line : IsChunkLine (line_of n) = record { digits = (value.0, omega arith, hex_pass (hex n) value.1); pad = All-nil _; extension = tt } in
+    let line : IsChunkLine (line_of n) = record {
+      digits = (value.0, omega arith, hex_pass (hex n) value.1);
+      pad = All-nil _;
+      extension = tt;
+    } in
     record { line = line; short = omega (arith, ap length (line_text n), length-append (hex n) crlf_bytes) }
 
 chunk_of : List ℕ → Chunk
@@ -36,13 +40,20 @@ chunk_of piece = record { line = line_of (length piece); content = piece }
 
 chunk_of_text : (piece : List ℕ) → chunk_text piece ≡ print_chunk (chunk_of piece)
 unfolding chunk_of
-chunk_of_text piece = sym (append_assoc (hex (length piece)) crlf_bytes (piece ++ crlf_bytes)) ∙ ap (λ l. l ++ (piece ++ crlf_bytes)) (sym (line_text (length piece)))
+chunk_of_text piece =
+    sym (append_assoc (hex (length piece)) crlf_bytes (piece ++ crlf_bytes))
+    ∙ ap (λ l. l ++ (piece ++ crlf_bytes)) (sym (line_text (length piece)))
 
 chunk_of_good : (piece : List ℕ) → IsPiece piece → IsChunk (chunk_of piece)
 unfolding chunk_of
-chunk_of_good piece is = record { line = line_good (length piece) (omega (arith, is.1)); size = line_size (length piece) (omega (arith, is.1)); some = is.0 }
+chunk_of_good piece is = record {
+  line = line_good (length piece) (omega (arith, is.1));
+  size = line_size (length piece) (omega (arith, is.1));
+  some = is.0;
+}
 
-chunks_text : (pieces : List (List ℕ)) → flat_map (frame_of Chunked) pieces ≡ print_chunks (map chunk_of pieces)
+chunks_text : (pieces : List (List ℕ)) → flat_map (frame_of Chunked) pieces
+    ≡ print_chunks (map chunk_of pieces)
 chunks_text [] = refl
 chunks_text (p ∷ ps) = λ i. chunk_of_text p i ++ chunks_text ps i
 
@@ -54,12 +65,14 @@ chunks_content (p ∷ ps) = ap (λ l. p ++ l) (chunks_content ps)
 chunks_good : (pieces : List (List ℕ)) → All IsPiece pieces → All IsChunk (map chunk_of pieces)
 chunks_good [] all = All-nil IsChunk
 chunks_good (p ∷ ps) all =
-    All-cons IsChunk (chunk_of p) (map chunk_of ps) (chunk_of_good p (All-head IsPiece p ps all)) (chunks_good ps (All-tail IsPiece p ps all))
+    All-cons IsChunk (chunk_of p) (map chunk_of ps) (chunk_of_good p (All-head IsPiece p ps all))
+    (chunks_good ps (All-tail IsPiece p ps all))
 
 pub reads_back : ReadsBack
 reads_back pieces all fits =
     let last = line_of 0 in
-    let end : codes "0\r\n\r\n" ≡ print_chunk_line last ++ crlf_bytes = sym (ap (λ l. l ++ crlf_bytes) (line_text 0) ∙ ap (λ d. d ++ crlf_bytes ++ crlf_bytes) hex_zero) in
+    let end : codes "0\r\n\r\n" ≡ print_chunk_line last ++ crlf_bytes =
+    sym (ap (λ l. l ++ crlf_bytes) (line_text 0) ∙ ap (λ d. d ++ crlf_bytes ++ crlf_bytes) hex_zero) in
     let trailer : InTrailer (frames Chunked pieces true) (cut_body pieces) crlf_bytes = record {
       line = last;
       good = line_good 0 (omega arith);
@@ -72,16 +85,35 @@ reads_back pieces all fits =
       };
       zero = line_size 0 (omega arith);
     } in
-    record { text = crlf_bytes; trailer = trailer; fields = []; last = crlf; rest = []; reads = (All-nil IsField, refl); few = omega arith; short = omega arith }
+    record {
+      text = crlf_bytes;
+      trailer = trailer;
+      fields = [];
+      last = crlf;
+      rest = [];
+      reads = (All-nil IsField, refl);
+      few = omega arith;
+      short = omega arith;
+    }
 
 -- the lengths of the pieces and the body that they join to give the pieces again
 pub cut-joined : (pieces : List (List ℕ)) → cut (map length pieces) (cut_body pieces) ≡ pieces
 cut-joined [] = refl
 cut-joined (p ∷ ps) =
-    λ i. take_at p (cut_body ps) (length p) refl i ∷ (ap (cut (map length ps)) (drop_at p (cut_body ps) (length p) refl) ∙ cut-joined ps) i
+    λ i. take_at p (cut_body ps) (length p) refl i ∷
+    (ap (cut (map length ps)) (drop_at p (cut_body ps) (length p) refl) ∙ cut-joined ps) i
 
 -- a piece that is sent in a frame is at most nine times as long
-pub length-frame_of : (mode : Mode) (piece : List ℕ) → IsPiece piece → length (frame_of mode piece) ≤ 9 * length piece
+pub length-frame_of : (mode : Mode) (piece : List ℕ) → IsPiece piece
+    → length (frame_of mode piece) ≤ 9 * length piece
 length-frame_of Plain piece is = omega arith
 length-frame_of Chunked piece is =
-    omega (arith, is.0, is.1, length-hex (length piece) (omega (arith, is.1)), length-append (hex (length piece)) (crlf_bytes ++ (piece ++ crlf_bytes)), length-append crlf_bytes (piece ++ crlf_bytes), length-append piece crlf_bytes)
+    omega (
+      arith,
+      is.0,
+      is.1,
+      length-hex (length piece) (omega (arith, is.1)),
+      length-append (hex (length piece)) (crlf_bytes ++ (piece ++ crlf_bytes)),
+      length-append crlf_bytes (piece ++ crlf_bytes),
+      length-append piece crlf_bytes,
+    )

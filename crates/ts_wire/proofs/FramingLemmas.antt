@@ -8,11 +8,15 @@ use Rattle.ts_wire.specs.declared.framing.TransferCoding.TheVariants as C
 use Rattle.ts_wire.specs.Framing.{is_length, is_length_of, is_chunked, content_length, transfer_coding, add_length, add_coding}
 
 -- after a first length, each member is held against it
-fold-add_length : (n : ℕ) (ms : List (List ℕ)) → fold add_length (L.Valid n) ms ≡ cond (list_all (is_length_of n) ms) (L.Valid n) L.Faulty
+fold-add_length : (n : ℕ) (ms : List (List ℕ)) → fold add_length (L.Valid n) ms
+    ≡ cond (list_all (is_length_of n) ms) (L.Valid n) L.Faulty
 fold-add_length n [] = refl
 fold-add_length n (m ∷ ms) = by_test (is_length_of n m) (fold-add_length n ms)
   where
-    by_test : (t : Bool) → fold add_length (L.Valid n) ms ≡ cond (list_all (is_length_of n) ms) (L.Valid n) L.Faulty → fold add_length (cond t (L.Valid n) L.Faulty) ms ≡ cond (t && list_all (is_length_of n) ms) (L.Valid n) L.Faulty
+    by_test : (t : Bool) → fold add_length (L.Valid n) ms
+        ≡ cond (list_all (is_length_of n) ms) (L.Valid n) L.Faulty
+        → fold add_length (cond t (L.Valid n) L.Faulty) ms
+        ≡ cond (t && list_all (is_length_of n) ms) (L.Valid n) L.Faulty
     by_test true later = later
     by_test false later = fold_stays add_length L.Faulty (λ _. refl) ms
 
@@ -20,7 +24,9 @@ pub content_length_is_fold : (ms : List (List ℕ)) → content_length ms ≡ fo
 content_length_is_fold [] = refl
 content_length_is_fold (m ∷ ms) = by_test (is_length m)
   where
-    by_test : (t : Bool) → cond (t && list_all (is_length_of (digits_value 10 m)) ms) (L.Valid (digits_value 10 m)) L.Faulty ≡ fold add_length (cond t (L.Valid (digits_value 10 m)) L.Faulty) ms
+    by_test : (t : Bool) → cond (t && list_all (is_length_of (digits_value 10 m)) ms)
+        (L.Valid (digits_value 10 m)) L.Faulty ≡ fold add_length
+        (cond t (L.Valid (digits_value 10 m)) L.Faulty) ms
     by_test true = sym (fold-add_length _ ms)
     by_test false = sym (fold_stays add_length L.Faulty (λ _. refl) ms)
 

@@ -19,20 +19,25 @@ use Rattle.ts_wire.specs.declared.fields.Field as kept
 use Rattle.ts_wire.specs.Heads.{field_of, kept_field, span_field, IsFieldAt}
 
 -- a front that is at most so long lies in the first n bytes
-pub cut_front : (n : ℕ) (bytes p rest : List ℕ) → bytes ≡ p ++ rest → length p ≤ n → take n bytes ≡ p ++ take (n - length p) rest
+pub cut_front : (n : ℕ) (bytes p rest : List ℕ) → bytes ≡ p ++ rest → length p ≤ n
+    → take n bytes ≡ p ++ take (n - length p) rest
 cut_front n bytes p rest is short =
     let same : n ≡ length p + (n - length p) = omega arith in
     ap (take n) is ∙ ap (λ k. take k (p ++ rest)) same ∙ take-append-add p rest (n - length p)
 
 -- what the first n bytes begin with, the bytes begin with
-pub in_front : (n : ℕ) (bytes front p rest : List ℕ) → front ≡ take n bytes → front ≡ p ++ rest → bytes ≡ p ++ drop (length p) bytes
+pub in_front : (n : ℕ) (bytes front p rest : List ℕ) → front ≡ take n bytes → front ≡ p ++ rest
+    → bytes ≡ p ++ drop (length p) bytes
 in_front n bytes front p rest is begins =
     let whole : bytes ≡ p ++ (rest ++ drop n bytes) =
-    sym (take-append-drop n bytes) ∙ ap (λ l. l ++ drop n bytes) (sym is ∙ begins) ∙ append_assoc p rest (drop n bytes) in
-    whole ∙ ap (λ l. p ++ l) (sym (ap (drop (length p)) whole ∙ drop_at p (rest ++ drop n bytes) (length p) refl))
+    sym (take-append-drop n bytes) ∙ ap (λ l. l ++ drop n bytes) (sym is ∙ begins)
+    ∙ append_assoc p rest (drop n bytes) in
+    whole ∙ ap (λ l. p ++ l) (sym (ap (drop (length p)) whole
+    ∙ drop_at p (rest ++ drop n bytes) (length p) refl))
 
 -- more bytes follow the front of n bytes
-pub front_and_more : (n : ℕ) (bytes front more : List ℕ) → front ≡ take n bytes → bytes ++ more ≡ front ++ (drop n bytes ++ more)
+pub front_and_more : (n : ℕ) (bytes front more : List ℕ) → front ≡ take n bytes
+    → bytes ++ more ≡ front ++ (drop n bytes ++ more)
 front_and_more n bytes front more is =
     ap (λ l. l ++ more) (sym (take-append-drop n bytes)) ∙ append_assoc (take n bytes) (drop n bytes) more
     ∙ ap (λ l. l ++ (drop n bytes ++ more)) (sym is)
@@ -49,23 +54,32 @@ no_field : Field
 no_field = record { name = []; raw = []; end = lf }
 
 length-slice_range-le : (bytes : List ℕ) (from to : ℕ) → length (slice_range bytes from to) ≤ length bytes
-length-slice_range-le bytes from to = omega (arith, length-take (to - from) (drop from bytes), length-drop from bytes)
+length-slice_range-le bytes from to =
+    omega (arith, length-take (to - from) (drop from bytes), length-drop from bytes)
 
 -- the spans that cover the fields of a head cover names and values
 pub fields_good : (buf : List ℕ) (hs : List HeaderSpan) (fs : List Field) (n : ℕ)
-    → map (header_bytes buf) hs ≡ map name_and_value fs → All IsField fs → n ≤ length buf → length buf ≤ head_limit
+    → map (header_bytes buf) hs ≡ map name_and_value fs → All IsField fs → n ≤ length buf
+    → length buf ≤ head_limit
     → All (IsHeaderWithin n) hs → All (IsFieldAt buf) hs
 fields_good buf hs fs n same good within short spans k d inside =
-    let len : length hs ≡ length fs = sym (length-map hs (header_bytes buf)) ∙ ap length same ∙ length-map fs name_and_value in
+    let len : length hs ≡ length fs =
+    sym (length-map hs (header_bytes buf)) ∙ ap length same ∙ length-map fs name_and_value in
     let h = get_or hs k d in
     let f = get_or fs k no_field in
     let here : header_bytes buf h ≡ name_and_value f =
-    sym (get_or-map (header_bytes buf) hs k d ([], []) inside) ∙ ap (λ l. get_or l k ([], [])) same ∙ get_or-map name_and_value fs k no_field ([], []) (omega arith) in
+    sym (get_or-map (header_bytes buf) hs k d ([], []) inside) ∙ ap (λ l. get_or l k ([], [])) same
+    ∙ get_or-map name_and_value fs k no_field ([], []) (omega arith) in
     let is : IsField f = good k no_field (omega arith) in
     let spot : IsHeaderWithin n h = spans k d inside in
     record {
       within = ((spot.0.0, omega arith), (spot.1.0, omega arith));
-      name = subst IsFieldName (sym (ap (λ p. p.0) here)) (name_from_token f.name is.name (omega (arith, ap length (ap (λ p. p.0) here), length-slice_range-le buf h.name.start h.name.end)));
+      name = subst IsFieldName (sym (ap (λ p. p.0) here))
+          (name_from_token f.name is.name (omega (
+            arith,
+            ap length (ap (λ p. p.0) here),
+            length-slice_range-le buf h.name.start h.name.end,
+          )));
       value = subst IsFieldValue (sym (ap (λ p. p.1) here)) (value_from_raw f is);
     }
 
@@ -77,12 +91,14 @@ pair_field p = field_of p.0 p.1
 pub fields_kept : (buf : List ℕ) (hs : List HeaderSpan) (fs : List Field)
     → map (header_bytes buf) hs ≡ map name_and_value fs → map (span_field buf) hs ≡ map kept_field fs
 fields_kept buf hs fs same =
-    sym (map-map pair_field (header_bytes buf) hs) ∙ ap (map pair_field) same ∙ map-map pair_field name_and_value fs
+    sym (map-map pair_field (header_bytes buf) hs) ∙ ap (map pair_field) same
+    ∙ map-map pair_field name_and_value fs
 
 pub few_fields : (hs : List HeaderSpan) (count : ℕ) (buf : List ℕ) (fs : List Field)
     → map (header_bytes buf) (take count hs) ≡ map name_and_value fs → length fs ≤ length hs
 few_fields hs count buf fs same =
-    let len : length (take count hs) ≡ length fs = sym (length-map (take count hs) (header_bytes buf)) ∙ ap length same ∙ length-map fs name_and_value in
+    let len : length (take count hs) ≡ length fs =
+    sym (length-map (take count hs) (header_bytes buf)) ∙ ap length same ∙ length-map fs name_and_value in
     omega (arith, length-take count hs)
 
 pub end_some : (last : LineEnd) → 0 < length (print_end last)
@@ -90,19 +106,29 @@ end_some crlf = omega arith
 end_some lf = omega arith
 
 -- what ends in a section is not empty
-pub ends_some : (start : List ℕ) (fields : List Field) (last : LineEnd) → 0 < length (start ++ print_section fields last)
+pub ends_some : (start : List ℕ) (fields : List Field) (last : LineEnd)
+    → 0 < length (start ++ print_section fields last)
 ends_some start fields last =
-    omega (arith, length-append start (print_section fields last), length-append (flat_map print_field fields) (print_end last), end_some last)
+    omega (
+      arith,
+      length-append start (print_section fields last),
+      length-append (flat_map print_field fields) (print_end last),
+      end_some last,
+    )
 
 -- what a span within the first n bytes covers, it covers in those alone
-pub span_front : (n : ℕ) (buf : List ℕ) (s : Span) → IsWithin n s → span_bytes (take n buf) s ≡ span_bytes buf s
+pub span_front : (n : ℕ) (buf : List ℕ) (s : Span) → IsWithin n s
+    → span_bytes (take n buf) s ≡ span_bytes buf s
 span_front n buf s within =
     let size = s.end - s.start in
     let front : take n buf ≡ take (s.start + (n - s.start)) buf = ap (λ k. take k buf) (omega arith) in
-    ap (λ l. take size (drop s.start l)) front ∙ ap (take size) (drop-take s.start (n - s.start) buf) ∙ take-take size (n - s.start) (drop s.start buf) (omega arith)
+    ap (λ l. take size (drop s.start l)) front ∙ ap (take size) (drop-take s.start (n - s.start) buf)
+    ∙ take-take size (n - s.start) (drop s.start buf) (omega arith)
 
-pub headers_front : (n : ℕ) (buf : List ℕ) (hs : List HeaderSpan) → All (IsHeaderWithin n) hs → map (header_bytes (take n buf)) hs ≡ map (header_bytes buf) hs
+pub headers_front : (n : ℕ) (buf : List ℕ) (hs : List HeaderSpan) → All (IsHeaderWithin n) hs
+    → map (header_bytes (take n buf)) hs ≡ map (header_bytes buf) hs
 headers_front n buf [] within = refl
 headers_front n buf (h ∷ hs) within =
     let here : IsHeaderWithin n h = All-head (IsHeaderWithin n) h hs within in
-    λ i. (span_front n buf h.name here.0 i, span_front n buf h.value here.1 i) ∷ headers_front n buf hs (All-tail (IsHeaderWithin n) h hs within) i
+    λ i. (span_front n buf h.name here.0 i, span_front n buf h.value here.1 i) ∷ headers_front n buf hs
+    (All-tail (IsHeaderWithin n) h hs within) i

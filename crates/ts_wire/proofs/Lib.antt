@@ -1,12 +1,13 @@
 mod BodyLemmas
 pub mod CheckLemmas
-mod CheckedRequest
+pub mod CheckedRequest
 mod CutLemmas
 mod ForwardLemmas
+mod FrontLemmas
 mod FramingLemmas
 mod HeadLemmas
 pub mod HeaderRules
-mod HexLemmas
+pub mod HexLemmas
 mod LineLemmas
 pub mod PlainFields
 pub mod Refusals

@@ -5,9 +5,8 @@ use Rattle.std.specs.Prelude.{codes, IsTrue}
 use Rattle.std.specs.Char.{is_ascii_digit}
 use Rattle.std.proofs.lemmas.List.Elements.{All-nil}
 use Rattle.http_header.proofs.TokenLemmas.{AllPass-from_test}
-use Rattle.std.proofs.lemmas.List.{drop-append-le}
 use Rattle.httparse.specs.Grammar.{is_value_byte, lf, IsField, ResponseHead, print_response}
-use Rattle.httparse.proofs.GrammarLemmas.{response_unique, ReadsResponse-append}
+use Rattle.httparse.proofs.GrammarLemmas.{response_unique}
 use Rattle.ts_wire.specs.declared.fields.Field.{Field}
 use Rattle.ts_wire.specs.declared.heads.ResponseHead as kept
 use Rattle.ts_wire.specs.Limits.{status_limit}
@@ -15,30 +14,19 @@ use Rattle.ts_wire.specs.Heads.{BeginsWithResponse, KeepsResponse, IsResponseOf,
 use Rattle.ts_wire.specs.OneHead.{IsReadResponse}
 use Rattle.ts_wire.proofs.ResponseLemmas.{response_some}
 
-pub one_response : (bytes : List ℕ) (h k : ResponseHead) (r q : List ℕ) → BeginsWithResponse bytes h r → BeginsWithResponse bytes k q → (h ≡ k) × (r ≡ q)
+pub one_response : (bytes : List ℕ) (h k : ResponseHead) (r q : List ℕ) → BeginsWithResponse bytes h r
+    → BeginsWithResponse bytes k q → (h ≡ k) × (r ≡ q)
 one_response bytes h k r q a b = response_unique bytes h k r q a.reads b.reads
 
-pub response_more : (bytes : List ℕ) (h : ResponseHead) (rest more : List ℕ) → BeginsWithResponse bytes h rest → BeginsWithResponse (bytes ++ more) h (rest ++ more)
-response_more bytes h rest more begins =
-    record { reads = ReadsResponse-append bytes h rest more begins.reads; short = begins.short; few = begins.few }
-
-pub response_of_more : (bytes : List ℕ) (head : kept.ResponseHead) (used : ℕ) (more : List ℕ) → IsResponseOf bytes head used → IsResponseOf (bytes ++ more) head used
-response_of_more bytes head used more is = record {
-  parsed = is.parsed;
-  begins = subst (BeginsWithResponse (bytes ++ more) is.parsed) (sym (drop-append-le used bytes more is.within)) (response_more bytes is.parsed (drop used bytes) more is.begins);
-  keeps = is.keeps;
-  len = is.len;
-  some = is.some;
-  within = omega (arith, is.within, length-append bytes more);
-}
-
-pub is_one_response : (bytes : List ℕ) (head : kept.ResponseHead) (used : ℕ) → IsResponseOf bytes head used → IsOneResponse bytes head used
+pub is_one_response : (bytes : List ℕ) (head : kept.ResponseHead) (used : ℕ) → IsResponseOf bytes head used
+    → IsOneResponse bytes head used
 is_one_response bytes head used is h rest begins =
     let same = one_response bytes is.parsed h (drop used bytes) rest is.begins begins in
     (subst (λ p. KeepsResponse p head) same.0 is.keeps, sym same.1)
 
 -- every head that is read is kept of a head of the grammar
-pub was_read : (bytes : List ℕ) (head : kept.ResponseHead) (used : ℕ) → IsResponseOf bytes head used → IsReadResponse head
+pub was_read : (bytes : List ℕ) (head : kept.ResponseHead) (used : ℕ) → IsResponseOf bytes head used
+    → IsReadResponse head
 was_read bytes head used is = record { parsed = is.parsed; good = is.begins.reads.0; keeps = is.keeps }
 
 -- the parts of a head, without the facts on its status and its version
@@ -53,7 +41,8 @@ made p digits version =
 pub one_kept : (h : ResponseHead) (a b : kept.ResponseHead) → KeepsResponse h a → KeepsResponse h b → a ≡ b
 one_kept h a b x y =
     subst (λ (p : Parts). (digits : p.0 ≤ status_limit) (version : p.2 ≤ 1) → a ≡ made p digits version) same
-    (λ digits version i. made parts (one_status a.digits digits i) (one_version a.version version i)) b.digits b.version
+    (λ digits version i. made parts (one_status a.digits digits i) (one_version a.version version i)) b.digits
+    b.version
   where
     parts : Parts
     parts = (a.status, a.reason, a.minor, a.fields)
@@ -62,7 +51,12 @@ one_kept h a b x y =
     others = (b.status, b.reason, b.minor, b.fields)
 
     same : parts ≡ others
-    same = λ i. ((x.status ∙ sym y.status) i, (x.reason ∙ sym y.reason) i, (x.minor ∙ sym y.minor) i, (x.fields ∙ sym y.fields) i)
+    same = λ i. (
+      (x.status ∙ sym y.status) i,
+      (x.reason ∙ sym y.reason) i,
+      (x.minor ∙ sym y.minor) i,
+      (x.fields ∙ sym y.fields) i,
+    )
 
     one_status : IsProp (a.status ≤ status_limit)
     one_status = le_prop
@@ -73,7 +67,15 @@ one_kept h a b x y =
 -- a head that may come where nothing is there yet
 abbrev short_head : ResponseHead
 short_head =
-    record { blank = []; minor = 1; digits = codes "200"; reason = None; line_end = lf; fields = []; last = lf }
+    record {
+      blank = [];
+      minor = 1;
+      digits = codes "200";
+      reason = None;
+      line_end = lf;
+      fields = [];
+      last = lf;
+    }
 
 short_begins : BeginsWithResponse (print_response short_head) short_head []
 unfolding print_response

@@ -1,4 +1,5 @@
--- The fields that are sent on leave it to the proxy to say that the connection closes, and where the body ends.
+-- The fields that are sent on leave it to the proxy to say that the connection closes, and where the body
+-- ends.
 use Rattle.std.proofs.Common.{◌≡◌, ℕ, Bool, true, false, ◌||◌, List, [], refl, sym, ap, subst, ◌∙◌}
 use Rattle.std.specs.Prelude.{All, codes, not}
 use Rattle.std.proofs.lemmas.Slice.Eq.{bytes_eq-Decides}
@@ -12,7 +13,8 @@ use Rattle.ts_wire.specs.OneHead.{IsPlainField, LeavesFraming, ForwardsUnchanged
 use Rattle.ts_wire.proofs.PlainFields.{IsOther, values_from_others, all_kept_plain}
 
 -- a field that is sent on does not have the name of one that ends at this hop
-passed_other : (name : List ℕ) → is_hop name ≡ true → (all : List Field) (f : Field) → is_forwarded all f ≡ true → IsOther name f
+passed_other : (name : List ℕ) → is_hop name ≡ true → (all : List Field) (f : Field)
+    → is_forwarded all f ≡ true → IsOther name f
 passed_other name hop all f passes = by_test (is_named name f) refl
   where
     by_test : (t : Bool) → is_named name f ≡ t → IsOther name f
@@ -22,10 +24,12 @@ passed_other name hop all f passes = by_test (is_named name f) refl
         let is : is_hop f.name ≡ true = ap is_hop same ∙ hop in
         absurd (let e : false ≡ true = sym (ap (λ t. not (t || is_option all f.name)) is) ∙ passes in cc)
 
-none_forwarded : (name : List ℕ) (fs : List Field) → is_hop name ≡ true → values_named name (forwarded fs) ≡ []
+none_forwarded : (name : List ℕ) (fs : List Field) → is_hop name ≡ true
+    → values_named name (forwarded fs) ≡ []
 none_forwarded name fs hop =
     values_from_others name (forwarded fs)
-    (All-weaker (λ f. is_forwarded fs f ≡ true) (IsOther name) (passed_other name hop fs) (forwarded fs) (filter_passes (is_forwarded fs) fs))
+    (All-weaker (λ f. is_forwarded fs f ≡ true) (IsOther name) (passed_other name hop fs) (forwarded fs)
+    (filter_passes (is_forwarded fs) fs))
 
 leaves_framing : (fs : List Field) → All IsPlainField fs → LeavesFraming (forwarded fs)
 leaves_framing fs plain = record {
@@ -37,10 +41,12 @@ leaves_framing fs plain = record {
 
 pub forwards_plainly : ForwardsPlainly
 forwards_plainly head read =
-    let plain = subst (All IsPlainField) (sym read.keeps.fields) (all_kept_plain read.parsed.fields read.good.fields) in
+    let plain = subst (All IsPlainField) (sym read.keeps.fields)
+    (all_kept_plain read.parsed.fields read.good.fields) in
     (subst (AllPass is_value_byte) (sym read.keeps.reason) read.good.reason, leaves_framing head.fields plain)
 
 pub forwards_unchanged : (head : RequestHead) → ForwardsUnchanged head
 forwards_unchanged head read =
-    let plain = subst (All IsPlainField) (sym read.keeps.fields) (all_kept_plain read.parsed.fields read.good.fields) in
+    let plain = subst (All IsPlainField) (sym read.keeps.fields)
+    (all_kept_plain read.parsed.fields read.good.fields) in
     record { leaves = leaves_framing head.fields plain; hosts = refl }

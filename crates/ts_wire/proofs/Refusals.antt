@@ -23,7 +23,8 @@ same_status s t same = cc
 not_passed : (p : Parts) (t : ℕ) → ◌≡◌ {A = Answer} (Ok p) (Err t) → ⊥
 not_passed p t same = cc
 
-by_body : (coding : TransferCoding) (length : ContentLength) (p : Parts) (t : ℕ) → unless_refused (refusal_by coding length) p ≡ Err t → IsRefusal t
+by_body : (coding : TransferCoding) (length : ContentLength) (p : Parts) (t : ℕ)
+    → unless_refused (refusal_by coding length) p ≡ Err t → IsRefusal t
 by_body C.Chunked length p t e = inr (same_status not_implemented t e)
 by_body C.Other length p t e = inr (same_status not_implemented t e)
 by_body C.Absent L.Absent p t e = absurd (not_passed p t e)
@@ -35,7 +36,8 @@ by_body C.Absent (L.Valid n) p t e = by_test (eqb n 0) e
     by_test false f = inr (same_status not_implemented t f)
 
 by_rows : (connect wrong : Bool) (parts : Option Parts) (fields : List Field) (t : ℕ)
-    → cond connect (Err not_implemented) (cond wrong (Err bad_request) (with_parts parts fields)) ≡ Err t → IsRefusal t
+    → cond connect (Err not_implemented) (cond wrong (Err bad_request) (with_parts parts fields)) ≡ Err t
+    → IsRefusal t
 by_rows true wrong parts fields t e = inr (same_status not_implemented t e)
 by_rows false true parts fields t e = inl (same_status bad_request t e)
 by_rows false false None fields t e = inl (same_status bad_request t e)
@@ -43,5 +45,6 @@ by_rows false false (Some p) fields t e = by_body (coding_named fields) (length_
 
 pub refuses_so : RefusesSo
 refuses_so head status e =
-    by_rows (bytes_eq head.method (codes "CONNECT")) (has_wrong_hosts head.minor (count_named (codes "host") head.fields))
+    by_rows (bytes_eq head.method (codes "CONNECT"))
+    (has_wrong_hosts head.minor (count_named (codes "host") head.fields))
     (target_parts head.method head.target (host_named head.fields)) head.fields status e

@@ -72,17 +72,22 @@ parts : {A : Type 0} (f : Field → List A) (a b c d : List Field)
     → flat_map f (a ++ (b ++ (c ++ d))) ≡ flat_map f a ++ (flat_map f b ++ (flat_map f c ++ flat_map f d))
 parts f a b c d =
     flat_map-append f a (b ++ (c ++ d))
-    ∙ ap (λ l. flat_map f a ++ l) (flat_map-append f b (c ++ d) ∙ ap (λ l. flat_map f b ++ l) (flat_map-append f c d))
+    ∙ ap (λ l. flat_map f a ++ l) (flat_map-append f b (c ++ d)
+    ∙ ap (λ l. flat_map f b ++ l) (flat_map-append f c d))
 
 section_text : (fs : List Field) (via : Option ℕ) (sent : ClientFraming)
     → fields_text fs ++ (via_line via ++ (framing_line sent ++ codes "connection: close\r\n\r\n"))
     ≡ flat_map print_field (map line_of (client_fields fs via sent)) ++ crlf_bytes
 section_text fs via sent =
     let close = codes "connection: close\r\n" in
-    let texts : fields_text fs ++ (fields_text (via_fields via) ++ (fields_text (framing_fields sent) ++ (close ++ crlf_bytes))) ≡ fields_text fs ++ (via_line via ++ (framing_line sent ++ (close ++ crlf_bytes))) =
+    let texts : fields_text fs ++ (fields_text (via_fields via)
+    ++ (fields_text (framing_fields sent) ++ (close ++ crlf_bytes))) ≡ fields_text fs
+    ++ (via_line via ++ (framing_line sent ++ (close ++ crlf_bytes))) =
     λ i. fields_text fs ++ (via_fields_text via i ++ (framing_fields_text sent i ++ (close ++ crlf_bytes))) in
-    sym texts ∙ regroup (fields_text fs) (fields_text (via_fields via)) (fields_text (framing_fields sent)) close crlf_bytes
-    ∙ ap (λ l. l ++ crlf_bytes) (sym (parts field_text fs (via_fields via) (framing_fields sent) (close_field ∷ [])) ∙ sym (lines_text (client_fields fs via sent)))
+    sym texts ∙ regroup (fields_text fs) (fields_text (via_fields via))
+    (fields_text (framing_fields sent)) close crlf_bytes
+    ∙ ap (λ l. l ++ crlf_bytes) (sym (parts field_text fs (via_fields via) (framing_fields sent)
+    (close_field ∷ [])) ∙ sym (lines_text (client_fields fs via sent)))
 
 -- the head of the grammar that is printed
 abbrev sent_response : ℕ → List ℕ → List Field → Option ℕ → ClientFraming → grammar.ResponseHead
@@ -97,14 +102,18 @@ sent_response status reason fs via sent = record {
 }
 
 -- a head as it is appended, and as the grammar prints it
-nine : (a b c d e f g h i : List ℕ) → a ++ b ++ c ++ d ++ e ++ f ++ g ++ h ++ i ≡ a ++ (b ++ (c ++ (d ++ (e ++ (f ++ (g ++ (h ++ i)))))))
+nine : (a b c d e f g h i : List ℕ) → a ++ b ++ c ++ d ++ e ++ f ++ g ++ h ++ i ≡ a
+    ++ (b ++ (c ++ (d ++ (e ++ (f ++ (g ++ (h ++ i)))))))
 nine a b c d e f g h i = simp append_assoc
 
 printed_is : (status : ℕ) (reason : List ℕ) (fs : List Field) (via : Option ℕ) (sent : ClientFraming)
     → client_text status reason fs via sent ≡ print_response (sent_response status reason fs via sent) ++ []
 printed_is status reason fs via sent =
-    nine (codes "HTTP/1.1 ") (status_text status) (codes " ") (reason_text reason) crlf_bytes (fields_text fs) (via_line via) (framing_line sent) (codes "connection: close\r\n\r\n")
-    ∙ ap (λ l. codes "HTTP/1.1 " ++ (status_text status ++ (codes " " ++ (reason_text reason ++ (crlf_bytes ++ l))))) (section_text fs via sent ∙ sym (append-nil _))
+    nine (codes "HTTP/1.1 ") (status_text status) (codes " ") (reason_text reason) crlf_bytes (fields_text fs)
+    (via_line via) (framing_line sent) (codes "connection: close\r\n\r\n")
+    ∙ ap (λ l. codes "HTTP/1.1 " ++ (status_text status
+    ++ (codes " " ++ (reason_text reason ++ (crlf_bytes ++ l))))) (section_text fs via sent
+    ∙ sym (append-nil _))
     ∙ sym (print_response-append (sent_response status reason fs via sent) [])
 
 -- ---- the status and the reason
@@ -122,7 +131,8 @@ status_digits status most =
     let b = 48 + status / 10 % 10 in
     let c = 48 + status % 10 in
     All-cons P a (b ∷ c ∷ []) (digit_passes (status / 100) (omega arith))
-    (All-cons P b (c ∷ []) (digit_passes (status / 10 % 10) (omega arith)) (All-cons P c [] (digit_passes (status % 10) (omega arith)) (All-nil P)))
+    (All-cons P b (c ∷ []) (digit_passes (status / 10 % 10) (omega arith))
+    (All-cons P c [] (digit_passes (status % 10) (omega arith)) (All-nil P)))
 
 status_value : (status : ℕ) → status ≤ status_limit → digits_value 10 (status_text status) ≡ status
 status_value status most =
@@ -145,7 +155,8 @@ digit_byte b small = grind (arith, nat_tests)
 
 digits_pass : (ds : List ℕ) → AllDigits 10 ds → AllPass is_ascii_digit ds
 digits_pass [] all = All-nil (λ b. IsTrue (is_ascii_digit b))
-digits_pass (d ∷ ds) all = All-cons (λ b. IsTrue (is_ascii_digit b)) d ds (digit_byte d all.0) (digits_pass ds all.1)
+digits_pass (d ∷ ds) all =
+    All-cons (λ b. IsTrue (is_ascii_digit b)) d ds (digit_byte d all.0) (digits_pass ds all.1)
 
 digits_test : (ds : List ℕ) → AllDigits 10 ds → list_all is_ascii_digit ds ≡ true
 digits_test [] all = refl
@@ -165,13 +176,16 @@ decimal_passes n most = digits_pass (decimal n) (decimal_is_IsNumeral n (omega a
 
 decimal_trimmed : (n : ℕ) → n ≤ body_limit → trim_ows (decimal n) ≡ decimal n
 decimal_trimmed n most =
-    trim_solid (decimal n) (All-weaker (λ b. IsTrue (is_ascii_digit b)) (λ b. IsTrue (is_solid b)) digit_solid (decimal n) (decimal_passes n most))
+    trim_solid (decimal n) (All-weaker (λ b. IsTrue (is_ascii_digit b)) (λ b. IsTrue (is_solid b)) digit_solid
+    (decimal n) (decimal_passes n most))
 
 -- the value that is read has one member
 decimal_members : (n : ℕ) → n ≤ body_limit → members (trim_ows (32 ∷ decimal n)) ≡ decimal n ∷ []
 decimal_members n most =
-    let none = All-weaker (λ b. IsTrue (is_ascii_digit b)) (λ b. is_comma b ≡ false) digit_no_comma (decimal n) (decimal_passes n most) in
-    ap members (trim_space (decimal n) ∙ decimal_trimmed n most) ∙ ap (map trim_ows) (slice_split_none is_comma (decimal n) none)
+    let none = All-weaker (λ b. IsTrue (is_ascii_digit b)) (λ b. is_comma b ≡ false) digit_no_comma
+    (decimal n) (decimal_passes n most) in
+    ap members (trim_space (decimal n) ∙ decimal_trimmed n most)
+    ∙ ap (map trim_ows) (slice_split_none is_comma (decimal n) none)
     ∙ ap (λ l. l ∷ []) (decimal_trimmed n most)
 
 -- which is that length
@@ -182,35 +196,42 @@ decimal_length n most =
     let all = digits_test (decimal n) is.0.1 in
     let small : digits_value 10 (decimal n) ≤ body_limit = omega (arith, is.1) in
     let fits = le-leb (digits_value 10 (decimal n)) body_limit small in
-    (λ i. cond ((some i && (all i && fits i)) && true) (L.Valid (digits_value 10 (decimal n))) L.Faulty) ∙ ap L.Valid is.1
+    (λ i. cond ((some i && (all i && fits i)) && true) (L.Valid (digits_value 10 (decimal n))) L.Faulty)
+    ∙ ap L.Valid is.1
 
 -- ---- their names and values
 
 via_all_plain : (via : Option ℕ) → All IsPlainField (via_fields via)
 via_all_plain None = All-nil IsPlainField
-via_all_plain (Some minor) = All-cons IsPlainField (via_field minor) [] (via_plain minor) (All-nil IsPlainField)
+via_all_plain (Some minor) =
+    All-cons IsPlainField (via_field minor) [] (via_plain minor) (All-nil IsPlainField)
 
 coding_plain : IsPlainField coding_field
 coding_plain =
-    plain_from coding_field (IsHeaderName-from_test (codes "transfer-encoding") refl) (AllPass-from_test is_value_byte (codes "chunked") refl)
+    plain_from coding_field (IsHeaderName-from_test (codes "transfer-encoding") refl)
+    (AllPass-from_test is_value_byte (codes "chunked") refl)
 
 length_plain : (n : ℕ) → n ≤ body_limit → IsPlainField (length_field n)
 length_plain n most =
     plain_from (length_field n) (IsHeaderName-from_test (codes "content-length") refl)
-    (All-weaker (λ b. IsTrue (is_ascii_digit b)) (λ b. IsTrue (is_value_byte b)) digit_valued (decimal n) (decimal_passes n most))
+    (All-weaker (λ b. IsTrue (is_ascii_digit b)) (λ b. IsTrue (is_value_byte b)) digit_valued (decimal n)
+    (decimal_passes n most))
 
 framing_all_plain : (sent : ClientFraming) → IsSendable sent → All IsPlainField (framing_fields sent)
 framing_all_plain Nothing sendable = All-nil IsPlainField
-framing_all_plain (Sized n) sendable = All-cons IsPlainField (length_field n) [] (length_plain n sendable) (All-nil IsPlainField)
+framing_all_plain (Sized n) sendable =
+    All-cons IsPlainField (length_field n) [] (length_plain n sendable) (All-nil IsPlainField)
 framing_all_plain Chunked sendable = All-cons IsPlainField coding_field [] coding_plain (All-nil IsPlainField)
 framing_all_plain Close sendable = All-nil IsPlainField
 
-client_all_plain : (fs : List Field) (via : Option ℕ) (sent : ClientFraming) → All IsPlainField fs → IsSendable sent → All IsPlainField (client_fields fs via sent)
+client_all_plain : (fs : List Field) (via : Option ℕ) (sent : ClientFraming) → All IsPlainField fs
+    → IsSendable sent → All IsPlainField (client_fields fs via sent)
 client_all_plain fs via sent plain sendable =
     let ends = close_field ∷ [] in
     All-append IsPlainField fs (via_fields via ++ (framing_fields sent ++ ends)) plain
     (All-append IsPlainField (via_fields via) (framing_fields sent ++ ends) (via_all_plain via)
-    (All-append IsPlainField (framing_fields sent) ends (framing_all_plain sent sendable) (All-cons IsPlainField close_field [] close_plain (All-nil IsPlainField))))
+    (All-append IsPlainField (framing_fields sent) ends (framing_all_plain sent sendable)
+    (All-cons IsPlainField close_field [] close_plain (All-nil IsPlainField))))
 
 -- a reader keeps the parts one by one
 abbrev kept : List Field → List Field
@@ -230,7 +251,8 @@ framing_connections (Sized n) = refl
 framing_connections Chunked = refl
 framing_connections Close = refl
 
-closes_once : (fs : List Field) (via : Option ℕ) (sent : ClientFraming) → LeavesFraming fs → values_named (codes "connection") (client_fields fs via sent) ≡ codes "close" ∷ []
+closes_once : (fs : List Field) (via : Option ℕ) (sent : ClientFraming) → LeavesFraming fs
+    → values_named (codes "connection") (client_fields fs via sent) ≡ codes "close" ∷ []
 closes_once fs via sent leaves =
     parts (value_in (codes "connection")) fs (via_fields via) (framing_fields sent) (close_field ∷ [])
     ∙ (λ i. leaves.connections i ++ (via_connections via i ++ (framing_connections sent i ++ close_value i)))
@@ -240,20 +262,23 @@ via_codings : (via : Option ℕ) → values_named (codes "transfer-encoding") (v
 via_codings None = refl
 via_codings (Some minor) = refl
 
-framing_codings : (sent : ClientFraming) → transfer_coding (values_named (codes "transfer-encoding") (framing_fields sent) ++ []) ≡ coding_said sent
+framing_codings : (sent : ClientFraming) → transfer_coding
+    (values_named (codes "transfer-encoding") (framing_fields sent) ++ []) ≡ coding_said sent
 unfolding trim_ows
 framing_codings Nothing = refl
 framing_codings (Sized n) = refl
 framing_codings Chunked = refl
 framing_codings Close = refl
 
-says_coding : (fs : List Field) (via : Option ℕ) (sent : ClientFraming) → LeavesFraming fs → IsSendable sent → coding_named (kept (client_fields fs via sent)) ≡ coding_said sent
+says_coding : (fs : List Field) (via : Option ℕ) (sent : ClientFraming) → LeavesFraming fs → IsSendable sent
+    → coding_named (kept (client_fields fs via sent)) ≡ coding_said sent
 says_coding fs via sent leaves sendable =
     let tail = values_named (codes "transfer-encoding") (framing_fields sent) ++ [] in
     let values : values_named (codes "transfer-encoding") (client_fields fs via sent) ≡ tail =
     parts (value_in (codes "transfer-encoding")) fs (via_fields via) (framing_fields sent) (close_field ∷ [])
     ∙ (λ i. leaves.codings i ++ (via_codings via i ++ tail)) in
-    ap transfer_coding (values_kept (codes "transfer-encoding") (client_fields fs via sent) (client_all_plain fs via sent leaves.plain sendable) ∙ values)
+    ap transfer_coding (values_kept (codes "transfer-encoding") (client_fields fs via sent)
+    (client_all_plain fs via sent leaves.plain sendable) ∙ values)
     ∙ framing_codings sent
 
 -- Content-Length
@@ -261,20 +286,26 @@ via_lengths : (via : Option ℕ) → members_named (codes "content-length") (kep
 via_lengths None = refl
 via_lengths (Some minor) = refl
 
-framing_lengths : (sent : ClientFraming) → IsSendable sent → content_length (members_named (codes "content-length") (kept (framing_fields sent)) ++ []) ≡ length_said sent
+framing_lengths : (sent : ClientFraming) → IsSendable sent
+    → content_length (members_named (codes "content-length") (kept (framing_fields sent)) ++ [])
+    ≡ length_said sent
 framing_lengths Nothing sendable = refl
 framing_lengths (Sized n) sendable =
     ap content_length (ap (λ l. (l ++ []) ++ []) (decimal_members n sendable)) ∙ decimal_length n sendable
 framing_lengths Chunked sendable = refl
 framing_lengths Close sendable = refl
 
-says_length : (fs : List Field) (via : Option ℕ) (sent : ClientFraming) → LeavesFraming fs → IsSendable sent → length_named (kept (client_fields fs via sent)) ≡ length_said sent
+says_length : (fs : List Field) (via : Option ℕ) (sent : ClientFraming) → LeavesFraming fs → IsSendable sent
+    → length_named (kept (client_fields fs via sent)) ≡ length_said sent
 says_length fs via sent leaves sendable =
     let name = codes "content-length" in
-    let own = members_from_others name (kept fs) (others_from_values name (kept fs) (values_kept name fs leaves.plain ∙ leaves.lengths)) in
+    let own = members_from_others name (kept fs) (others_from_values name (kept fs)
+    (values_kept name fs leaves.plain ∙ leaves.lengths)) in
     let tail = members_named name (kept (framing_fields sent)) ++ [] in
-    ap content_length (ap (members_named name) (kept_parts fs (via_fields via) (framing_fields sent) (close_field ∷ []))
-    ∙ parts (members_in name) (kept fs) (kept (via_fields via)) (kept (framing_fields sent)) (kept (close_field ∷ []))
+    ap content_length (ap (members_named name) (kept_parts fs (via_fields via) (framing_fields sent)
+    (close_field ∷ []))
+    ∙ parts (members_in name) (kept fs) (kept (via_fields via)) (kept (framing_fields sent))
+    (kept (close_field ∷ []))
     ∙ (λ i. own i ++ (via_lengths via i ++ tail)))
     ∙ framing_lengths sent sendable
 
@@ -286,11 +317,15 @@ framing_is (Sized n) = refl
 framing_is Chunked = refl
 framing_is Close = refl
 
-ends_as_said : (status : ℕ) (sent : ClientFraming) (fields : List Field) → length_named fields ≡ length_said sent → coding_named fields ≡ coding_said sent → EndsAsSaid status sent fields
+ends_as_said : (status : ℕ) (sent : ClientFraming) (fields : List Field)
+    → length_named fields ≡ length_said sent → coding_named fields ≡ coding_said sent
+    → EndsAsSaid status sent fields
 ends_as_said status sent fields says codes_ to_head =
-    ap (λ f. cond (has_no_body status to_head) F.Nothing f) ((λ i. framing_by 1 (codes_ i) (says i)) ∙ framing_is sent)
+    ap (λ f. cond (has_no_body status to_head) F.Nothing f) ((λ i. framing_by 1 (codes_ i) (says i))
+    ∙ framing_is sent)
 
-sends_response : (status : ℕ) (reason : List ℕ) (fs : List Field) (via : Option ℕ) (sent : ClientFraming) → status ≤ status_limit → AllPass is_value_byte reason
+sends_response : (status : ℕ) (reason : List ℕ) (fs : List Field) (via : Option ℕ) (sent : ClientFraming)
+    → status ≤ status_limit → AllPass is_value_byte reason
     → LeavesFraming fs → IsSendable sent → SendsResponse status sent (client_text status reason fs via sent)
 sends_response status reason fs via sent most passes leaves sendable =
     let text = client_text status reason fs via sent in
@@ -321,7 +356,9 @@ sends_response status reason fs via sent most passes leaves sendable =
     }
 
 -- what is printed for a client is one response
-pub sends_one_response : (status : ℕ) (reason : List ℕ) (fields : List Field) (via : Option ℕ) (sent : ClientFraming) → status ≤ status_limit → (text : List ℕ)
+pub sends_one_response : (status : ℕ) (reason : List ℕ) (fields : List Field) (via : Option ℕ)
+    (sent : ClientFraming) → status ≤ status_limit → (text : List ℕ)
     → text ≡ client_text status reason fields via sent → SendsOneResponse status reason fields sent text
 sends_one_response status reason fields via sent most text is passes leaves sendable =
-    subst (SendsResponse status sent) (sym is) (sends_response status reason fields via sent most passes leaves sendable)
+    subst (SendsResponse status sent) (sym is) (sends_response status reason fields via sent most passes
+    leaves sendable)

@@ -31,7 +31,8 @@ skipped_front : (w : List ℕ) → (e : List ℕ) × (w ≡ e ++ skip_ows w)
 skipped_front [] = ([], refl)
 skipped_front (b ∷ bs) = by_test (is_ows b) refl (skipped_front bs)
   where
-    by_test : (t : Bool) → is_ows b ≡ t → (e : List ℕ) × (bs ≡ e ++ skip_ows bs) → (e : List ℕ) × (b ∷ bs ≡ e ++ skip_ows (b ∷ bs))
+    by_test : (t : Bool) → is_ows b ≡ t → (e : List ℕ) × (bs ≡ e ++ skip_ows bs)
+        → (e : List ℕ) × (b ∷ bs ≡ e ++ skip_ows (b ∷ bs))
     by_test true blank later =
         (b ∷ later.0, ap (λ l. b ∷ l) (later.1 ∙ ap (λ l. later.0 ++ l) (sym (cond-true _ _ _ blank))))
     by_test false other later = ([], sym (cond-false _ _ _ other))
@@ -42,8 +43,10 @@ trim_twice v =
     let a = skip_ows v in
     let c = skip_ows (reverse a) in
     let front = skipped_front (reverse a) in
-    let whole : a ≡ reverse c ++ reverse front.0 = sym (reverse-reverse a) ∙ ap reverse front.1 ∙ reverse-append front.0 c in
-    let starts : Starts (reverse c) = starts_front (reverse c) (reverse front.0) (subst Starts whole (skipped_starts v)) in
+    let whole : a ≡ reverse c ++ reverse front.0 =
+    sym (reverse-reverse a) ∙ ap reverse front.1 ∙ reverse-append front.0 c in
+    let starts : Starts (reverse c) =
+    starts_front (reverse c) (reverse front.0) (subst Starts whole (skipped_starts v)) in
     ap (λ l. reverse (skip_ows (reverse l))) (starts_skip (reverse c) starts)
     ∙ ap (λ l. reverse (skip_ows l)) (reverse-reverse c)
     ∙ ap reverse (starts_skip c (skipped_starts (reverse a)))

@@ -7,7 +7,7 @@ use Rattle.httparse.specs.declared.spans.HeaderSpan.{HeaderSpan}
 use Rattle.httparse.specs.declared.spans.RequestSpans.{RequestSpans}
 use Rattle.httparse.specs.declared.spans.ResponseSpans.{ResponseSpans}
 use Rattle.httparse.specs.Grammar as grammar
-use Rattle.httparse.specs.Grammar.{field_value, print_request, ReadsRequest, HasNoRequest, MayBecomeRequest, print_response, ReadsResponse, HasNoResponse, MayBecomeResponse, status_code, reason_phrase}
+use Rattle.httparse.specs.Grammar.{field_value, IsRequestHead, print_request, HasNoRequest, MayBecomeRequest, IsResponseHead, print_response, HasNoResponse, MayBecomeResponse, status_code, reason_phrase}
 use Rattle.httparse.specs.Spans.{span_bytes, IsHeaderWithin, IsRequestAt, IsResponseAt, RequestExceeds, ResponseExceeds}
 use Rattle.ts_wire.specs.Limits.{head_limit, field_limit}
 use Rattle.ts_wire.specs.declared.fields.Field.{Field}
@@ -22,11 +22,55 @@ field_of name value = record { name = lowercase name; value = plain_value value 
 abbrev pub kept_field : grammar.Field → Field
 kept_field f = field_of f.name (field_value f)
 
--- the bytes begin with the request head h, which is within the limits, and rest follows
-pub record BeginsWithRequest (bytes : List ℕ) (h : grammar.RequestHead) (rest : List ℕ) : Type 0 where
-  pub reads : ReadsRequest bytes h rest
-  pub short : length (print_request h) ≤ head_limit
-  pub few : length h.fields ≤ field_limit
+-- ---- a kind of head, by what makes one good, how it is printed, and its field lines
+
+-- the bytes begin with the head h, which is within the limits, and rest follows
+pub record BeginsWith {H : Type 0} (Good : H → Type 0) (print : H → List ℕ) (lines : H → List grammar.Field)
+    (bytes : List ℕ) (h : H) (rest : List ℕ) : Type 0 where
+  pub reads : Good h × (bytes ≡ print h ++ rest)
+  pub short : length (print h) ≤ head_limit
+  pub few : length (lines h) ≤ field_limit
+
+-- the first bytes, so many, are a head within the limits, and this is what is kept of it
+pub record IsHeadOf {H K : Type 0} (Good : H → Type 0) (print : H → List ℕ) (lines : H → List grammar.Field)
+    (Keeps : H → K → Type 0) (bytes : List ℕ) (head : K) (used : ℕ) : Type 0 where
+  pub parsed : H
+  pub begins : BeginsWith Good print lines bytes parsed (drop used bytes)
+  pub keeps : Keeps parsed head
+  pub len : used ≡ length (print parsed)
+  pub some : 0 < used
+  pub within : used ≤ length bytes
+
+-- a head that the bytes begin with is kept as this one, and the rest follows it
+abbrev pub IsOneHead : {H K : Type 0} → (List ℕ → H → List ℕ → Type 0) → (H → K → Type 0) → List ℕ → K → ℕ
+    → Type 0
+IsOneHead {H = H} Begins Keeps bytes head used =
+    (h : H) (rest : List ℕ) → Begins bytes h rest → Keeps h head × (rest ≡ drop used bytes)
+
+-- no prefix is a head within the limits
+abbrev pub Lacks : {H : Type 0} → (List ℕ → H → List ℕ → Type 0) → List ℕ → Type 0
+Lacks {H = H} Begins bytes = (h : H) (rest : List ℕ) → Begins bytes h rest → ⊥
+
+-- no prefix is a head, and with more bytes one may come to be
+pub record Awaits (HasNone MayBecome : List ℕ → Type 0) (bytes : List ℕ) : Type 0 where
+  pub short : length bytes < head_limit
+  pub none : HasNone bytes
+  pub may : MayBecome bytes
+
+-- no prefix is a head within the limits, whatever follows: as many bytes as a head may have are there, or one
+-- field line more than a head may have is among them
+pub record IsTooLong (LacksHead : List ℕ → Type 0) (Exceeds : ℕ → List ℕ → Type 0)
+    (bytes : List ℕ) : Type 0 where
+  pub lacks : (more : List ℕ) → LacksHead (bytes ++ more)
+  pub why : (head_limit ≤ length bytes) ⊎ Exceeds field_limit (take head_limit bytes)
+
+-- ---- requests
+
+abbrev pub request_lines : grammar.RequestHead → List grammar.Field
+request_lines h = h.fields
+
+abbrev pub BeginsWithRequest : List ℕ → grammar.RequestHead → List ℕ → Type 0
+BeginsWithRequest = BeginsWith IsRequestHead print_request request_lines
 
 -- the head is what is kept of h
 pub record KeepsRequest (h : grammar.RequestHead) (head : RequestHead) : Type 0 where
@@ -35,42 +79,28 @@ pub record KeepsRequest (h : grammar.RequestHead) (head : RequestHead) : Type 0 
   pub minor : head.minor ≡ h.minor
   pub fields : head.fields ≡ map kept_field h.fields
 
--- the first bytes, so many, are a request head within the limits, and this is what is kept of it
-pub record IsRequestOf (bytes : List ℕ) (head : RequestHead) (used : ℕ) : Type 0 where
-  pub parsed : grammar.RequestHead
-  pub begins : BeginsWithRequest bytes parsed (drop used bytes)
-  pub keeps : KeepsRequest parsed head
-  pub len : used ≡ length (print_request parsed)
-  pub some : 0 < used
-  pub within : used ≤ length bytes
+abbrev pub IsRequestOf : List ℕ → RequestHead → ℕ → Type 0
+IsRequestOf = IsHeadOf IsRequestHead print_request request_lines KeepsRequest
 
--- a head that the bytes begin with is kept as this one, and the rest follows it
 abbrev pub IsOneRequest : List ℕ → RequestHead → ℕ → Type 0
-IsOneRequest bytes head used =
-    (h : grammar.RequestHead) (rest : List ℕ) → BeginsWithRequest bytes h rest
-    → KeepsRequest h head × (rest ≡ drop used bytes)
+IsOneRequest = IsOneHead BeginsWithRequest KeepsRequest
 
--- no prefix is a head within the limits
 abbrev pub LacksRequest : List ℕ → Type 0
-LacksRequest bytes = (h : grammar.RequestHead) (rest : List ℕ) → BeginsWithRequest bytes h rest → ⊥
+LacksRequest = Lacks BeginsWithRequest
 
--- no prefix is a head, and with more bytes one may come to be
-pub record AwaitsRequest (bytes : List ℕ) : Type 0 where
-  pub short : length bytes < head_limit
-  pub none : HasNoRequest bytes
-  pub may : MayBecomeRequest bytes
+abbrev pub AwaitsRequest : List ℕ → Type 0
+AwaitsRequest = Awaits HasNoRequest MayBecomeRequest
 
--- no prefix is a head within the limits, whatever follows: as many bytes as a head may have are there, or one
--- field line more than a head may have is among them
-pub record IsTooLongRequest (bytes : List ℕ) : Type 0 where
-  pub lacks : (more : List ℕ) → LacksRequest (bytes ++ more)
-  pub why : (head_limit ≤ length bytes) ⊎ RequestExceeds field_limit (take head_limit bytes)
+abbrev pub IsTooLongRequest : List ℕ → Type 0
+IsTooLongRequest = IsTooLong LacksRequest RequestExceeds
 
--- the bytes begin with the response head h, which is within the limits, and rest follows
-pub record BeginsWithResponse (bytes : List ℕ) (h : grammar.ResponseHead) (rest : List ℕ) : Type 0 where
-  pub reads : ReadsResponse bytes h rest
-  pub short : length (print_response h) ≤ head_limit
-  pub few : length h.fields ≤ field_limit
+-- ---- responses
+
+abbrev pub response_lines : grammar.ResponseHead → List grammar.Field
+response_lines h = h.fields
+
+abbrev pub BeginsWithResponse : List ℕ → grammar.ResponseHead → List ℕ → Type 0
+BeginsWithResponse = BeginsWith IsResponseHead print_response response_lines
 
 -- the head is what is kept of the response head h
 pub record KeepsResponse (h : grammar.ResponseHead) (head : ResponseHead) : Type 0 where
@@ -79,35 +109,22 @@ pub record KeepsResponse (h : grammar.ResponseHead) (head : ResponseHead) : Type
   pub minor : head.minor ≡ h.minor
   pub fields : head.fields ≡ map kept_field h.fields
 
--- the first bytes, so many, are a response head within the limits, and this is what is kept of it
-pub record IsResponseOf (bytes : List ℕ) (head : ResponseHead) (used : ℕ) : Type 0 where
-  pub parsed : grammar.ResponseHead
-  pub begins : BeginsWithResponse bytes parsed (drop used bytes)
-  pub keeps : KeepsResponse parsed head
-  pub len : used ≡ length (print_response parsed)
-  pub some : 0 < used
-  pub within : used ≤ length bytes
+abbrev pub IsResponseOf : List ℕ → ResponseHead → ℕ → Type 0
+IsResponseOf = IsHeadOf IsResponseHead print_response response_lines KeepsResponse
 
--- a response head that the bytes begin with is kept as this one, and the rest follows it
 abbrev pub IsOneResponse : List ℕ → ResponseHead → ℕ → Type 0
-IsOneResponse bytes head used =
-    (h : grammar.ResponseHead) (rest : List ℕ) → BeginsWithResponse bytes h rest
-    → KeepsResponse h head × (rest ≡ drop used bytes)
+IsOneResponse = IsOneHead BeginsWithResponse KeepsResponse
 
--- no prefix is a response head within the limits
 abbrev pub LacksResponse : List ℕ → Type 0
-LacksResponse bytes = (h : grammar.ResponseHead) (rest : List ℕ) → BeginsWithResponse bytes h rest → ⊥
+LacksResponse = Lacks BeginsWithResponse
 
--- no prefix is a response head, and with more bytes one may come to be
-pub record AwaitsResponse (bytes : List ℕ) : Type 0 where
-  pub short : length bytes < head_limit
-  pub none : HasNoResponse bytes
-  pub may : MayBecomeResponse bytes
+abbrev pub AwaitsResponse : List ℕ → Type 0
+AwaitsResponse = Awaits HasNoResponse MayBecomeResponse
 
--- no prefix is a response head within the limits, whatever follows, for one of the two causes
-pub record IsTooLongResponse (bytes : List ℕ) : Type 0 where
-  pub lacks : (more : List ℕ) → LacksResponse (bytes ++ more)
-  pub why : (head_limit ≤ length bytes) ⊎ ResponseExceeds field_limit (take head_limit bytes)
+abbrev pub IsTooLongResponse : List ℕ → Type 0
+IsTooLongResponse = IsTooLong LacksResponse ResponseExceeds
+
+-- ---- what the parser's spans cover
 
 -- what a header's spans cover, as it is kept
 abbrev pub span_field : List ℕ → HeaderSpan → Field

@@ -4,9 +4,9 @@ use Rattle.httparse.specs.Ascii.{carriage_return}
 use Rattle.httparse.specs.Grammar.{HasNoChunkLine, MayBecomeChunkLine, HasNoSection, MayBecomeSection}
 use Rattle.ts_wire.specs.declared.framing.Framing.{Framing}
 use Rattle.ts_wire.specs.declared.framing.Framing.TheVariants as F
-use Rattle.ts_wire.specs.declared.phases.Phase.{Phase}
-use Rattle.ts_wire.specs.declared.phases.Phase.TheVariants.{Counted, Open, Line, Content, Gap, GapEnd, Trailer, Ended, Bad}
-use Rattle.ts_wire.specs.declared.phases.Step.{Step}
+use Rattle.ts_wire.specs.declared.phases.BodyPhase.{BodyPhase}
+use Rattle.ts_wire.specs.declared.phases.BodyPhase.TheVariants.{Counted, Open, Line, Content, Gap, GapEnd, Trailer, Ended, Bad}
+use Rattle.ts_wire.specs.declared.phases.FrontStep.{FrontStep}
 use Rattle.ts_wire.specs.declared.body.BodyState.{BodyState}
 use Rattle.ts_wire.specs.declared.body.BodyState.TheVariants as S
 use Rattle.ts_wire.specs.declared.body.BodyReader.TheInside.{Inside}
@@ -15,13 +15,13 @@ use Rattle.ts_wire.specs.Limits.{body_limit, line_limit, trailer_limit, trailer_
 use Rattle.ts_wire.specs.Body.{line_feeds, AfterChunks, InChunk, InTrailer, IsEndedChunked, IsBadChunked, BodyOf}
 
 -- how far the body is
-abbrev pub state_of : Phase → BodyState
+abbrev pub state_of : BodyPhase → BodyState
 state_of Ended = S.Ended
 state_of Bad = S.Bad
 state_of _ = S.Unfinished
 
 -- the room that a phase may need, now or later
-abbrev pub room_of : Phase → ℕ
+abbrev pub room_of : BodyPhase → ℕ
 room_of (Counted left) = 0
 room_of Open = 0
 room_of Ended = 0
@@ -29,7 +29,7 @@ room_of Bad = 0
 room_of _ = trailer_limit
 
 -- the part of a body that a phase is in, as a number
-abbrev pub part_number : Phase → ℕ
+abbrev pub part_number : BodyPhase → ℕ
 part_number (Counted left) = 0
 part_number Open = 1
 part_number Line = 2
@@ -41,7 +41,7 @@ part_number Ended = 7
 part_number Bad = 8
 
 -- what of a chunk line or a trailer section was kept is not whole, and the body is not too long
-abbrev pub IsSoundPhase : Phase → List ℕ → ℕ → Type 0
+abbrev pub IsSoundPhase : BodyPhase → List ℕ → ℕ → Type 0
 IsSoundPhase (Counted left) held total = (0 < left) × (total + left < word_limit)
 IsSoundPhase Open held total = total ≤ body_limit
 IsSoundPhase Line held total = (length held < line_limit) × (total ≤ body_limit) × HasNoChunkLine held
@@ -52,7 +52,7 @@ IsSoundPhase Trailer held total = (length held < trailer_limit) × HasNoSection 
 IsSoundPhase _ held total = ⊤
 
 -- a reader that was fed these bytes has given this body and stands at this phase
-abbrev pub StandsIn : Framing → List ℕ → List ℕ → List ℕ → Phase → Type 0
+abbrev pub StandsIn : Framing → List ℕ → List ℕ → List ℕ → BodyPhase → Type 0
 StandsIn framing fed body held (Counted left) =
     (n : ℕ) × (framing ≡ F.Sized n) × (body ≡ fed) × (length fed + left ≡ n)
 StandsIn framing fed body held Open = (framing ≡ F.UntilClose) × (body ≡ fed)
@@ -75,14 +75,15 @@ StandsIn F.UntilClose fed body held Bad = (body_limit < length fed) × (body ≡
 StandsIn _ fed body held _ = ⊥
 
 -- whatever was fed before, the piece goes on with it and gives this part of the body
-abbrev pub GoesTo : Phase → List ℕ → ℕ → Phase → List ℕ → List ℕ → List ℕ → Type 0
+abbrev pub GoesTo : BodyPhase → List ℕ → ℕ → BodyPhase → List ℕ → List ℕ → List ℕ → Type 0
 GoesTo old held total new held' piece given =
     (framing : Framing) (fed body : List ℕ) → total ≡ length body → StandsIn framing fed body held old
     → StandsIn framing (fed ++ piece) (body ++ given) held' new
 
 -- one step of a reader: which front of the bytes it takes, which part of the body it gives, and where it then
 -- stands
-pub record StepsOn (old : Phase) (held : List ℕ) (total : ℕ) (bytes : List ℕ) (step : Step) (held' : List ℕ)
+pub record StepsOn (old : BodyPhase) (held : List ℕ) (total : ℕ) (bytes : List ℕ) (step : FrontStep)
+    (held' : List ℕ)
     : Type 0 where
   pub ordered : step.from ≤ step.to
   pub within : step.to ≤ step.taken
@@ -103,7 +104,7 @@ pub record StepsOn (old : Phase) (held : List ℕ) (total : ℕ) (bytes : List �
 -- what a contract sees of a reader: its phase, what it keeps of a chunk line or a trailer section, and how
 -- long the body is so far
 pub record Place : Type 0 where
-  pub phase : Phase
+  pub phase : BodyPhase
   pub held : List ℕ
   pub total : ℕ
 

@@ -5,13 +5,13 @@ ghost use Rattle.ts_wire.specs.Body.{IsCutShort, HasOneBody};
 ghost use Rattle.ts_wire.specs.Place.{room_of, state_of, IsSoundPhase, IsFed, TakesBytes, GoesOn, GivesBody};
 
 use crate::framing::Framing;
-use crate::phases::{MAX_TRAILER, Phase, next_step};
+use crate::phases::{BodyPhase, MAX_TRAILER, next_step};
 use std::alloc::Global;
 use std::marker::Model;
 use ts_link::NoMemory;
 
 /// How far a body is.
-#[derive(Clone, Copy, Debug, PartialEq, Eq)]
+#[derive(Clone, Copy)]
 pub enum BodyState {
     /// More of it may come.
     Unfinished,
@@ -22,7 +22,7 @@ pub enum BodyState {
 }
 
 /// How the bytes of a body ended.
-#[derive(Clone, Copy, Debug, PartialEq, Eq)]
+#[derive(Clone, Copy)]
 pub enum BodyEnd {
     /// With the body.
     Ended,
@@ -31,7 +31,7 @@ pub enum BodyEnd {
 }
 
 /// What a reader took of some bytes: the first `taken`, of which those from `from` to `to` are body.
-#[derive(Clone, Copy, Debug, PartialEq, Eq)]
+#[derive(Clone, Copy)]
 pub struct Fed {
     pub taken: usize,
     pub from: usize,
@@ -42,7 +42,7 @@ pub struct Fed {
 /// A reader of a body. A contract sees where it stands.
 #[derive(Drop)]
 pub struct BodyReader {
-    phase: Phase,
+    phase: BodyPhase,
     held: Vec<u8>,
     total: u64,
 }
@@ -57,18 +57,18 @@ impl Model for BodyReader {
     ghost invariant = { IsSoundInside };
 }
 
-fn state_of(phase: Phase) -> BodyState
+fn state_of(phase: BodyPhase) -> BodyState
     ensures { result ≡ state_of phase }
 {
     match phase {
-        Phase::Ended => BodyState::Ended,
-        Phase::Bad => BodyState::Bad,
+        BodyPhase::Ended => BodyState::Ended,
+        BodyPhase::Bad => BodyState::Bad,
         _ => BodyState::Unfinished,
     }
 }
 
 /// A reader that begins in this phase.
-fn begin(alloc: Global, phase: Phase, room: usize) -> Result<BodyReader, NoMemory>
+fn begin(alloc: Global, phase: BodyPhase, room: usize) -> Result<BodyReader, NoMemory>
     requires sound { IsSoundPhase phase [] 0 }
     requires room { room_of phase ≤ room }
     ensures { IfOk result (λ r. r ≡ record { phase = phase; held = []; total = 0 }) }
@@ -88,10 +88,10 @@ impl BodyReader {
         ensures { IfOk result (IsFed framing [] []) }
     {
         match framing {
-            Framing::Nothing | Framing::Sized(0) => begin(alloc, Phase::Ended, 0),
-            Framing::Sized(n) => begin(alloc, Phase::Counted(n), 0),
-            Framing::Chunked => begin(alloc, Phase::Line, MAX_TRAILER),
-            Framing::UntilClose => begin(alloc, Phase::Open, 0),
+            Framing::Nothing | Framing::Sized(0) => begin(alloc, BodyPhase::Ended, 0),
+            Framing::Sized(n) => begin(alloc, BodyPhase::Counted(n), 0),
+            Framing::Chunked => begin(alloc, BodyPhase::Line, MAX_TRAILER),
+            Framing::UntilClose => begin(alloc, BodyPhase::Open, 0),
             Framing::Faulty => unreachable!(),
         }
     }
@@ -139,8 +139,8 @@ impl BodyReader {
         ensures one_body { HasOneBody }
     {
         match self.phase {
-            Phase::Ended => BodyEnd::Ended,
-            Phase::Open => BodyEnd::Ended,
+            BodyPhase::Ended => BodyEnd::Ended,
+            BodyPhase::Open => BodyEnd::Ended,
             _ => BodyEnd::Cut,
         }
     }

@@ -15,7 +15,7 @@ use crate::values::{eq_ignore_case, is_comma, is_named, trim, value_of};
 pub const MAX_BODY: u64 = 9223372036854775807;
 
 /// Where the body of a message ends (RFC 9112, section 6.3).
-#[derive(Clone, Copy, Debug, PartialEq, Eq)]
+#[derive(Clone, Copy)]
 pub enum Framing {
     /// There is no body.
     Nothing,
@@ -30,7 +30,7 @@ pub enum Framing {
 }
 
 /// What the Content-Length fields of a message come to.
-#[derive(Clone, Copy, Debug, PartialEq, Eq)]
+#[derive(Clone, Copy)]
 pub enum ContentLength {
     /// There is none.
     Absent,
@@ -41,7 +41,7 @@ pub enum ContentLength {
 }
 
 /// What the Transfer-Encoding fields of a message come to.
-#[derive(Clone, Copy, Debug, PartialEq, Eq)]
+#[derive(Clone, Copy)]
 pub enum TransferCoding {
     /// There is none.
     Absent,

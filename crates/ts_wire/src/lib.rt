@@ -26,6 +26,3 @@ pub use heads::{MAX_FIELDS, MAX_HEAD, RequestHead, ResponseHead};
 pub use printed::{ClientFraming, client_head, origin_head};
 pub use reading::{Read, read_request, read_response};
 pub use values::{is_named, trim, value_of};
-
-#[cfg(test)]
-mod tests;

@@ -22,7 +22,7 @@ pub const MAX_TRAILER_LINES: usize = 65;
 
 /// Which part of a body comes next.
 #[derive(Clone, Copy)]
-pub enum Phase {
+pub enum BodyPhase {
     /// So many bytes of a body of a known length.
     Counted(u64),
     /// Bytes of a body up to the close.
@@ -46,18 +46,18 @@ pub enum Phase {
 /// What a reader does with a front of some bytes: it takes `taken` of them, those from `from` to `to` are
 /// body, and `phase` is next.
 #[derive(Clone, Copy)]
-pub struct Step {
-    pub phase: Phase,
+pub struct FrontStep {
+    pub phase: BodyPhase,
     pub taken: usize,
     pub from: usize,
     pub to: usize,
 }
 
 /// A front of the bytes that is all body.
-fn body_step(phase: Phase, n: usize) -> Step
+fn body_step(phase: BodyPhase, n: usize) -> FrontStep
     ensures { result ≡ record { phase = phase; taken = n; from = 0; to = n } }
 {
-    Step {
+    FrontStep {
         phase,
         taken: n,
         from: 0,
@@ -66,10 +66,10 @@ fn body_step(phase: Phase, n: usize) -> Step
 }
 
 /// A front of the bytes that is no body.
-fn frame_step(phase: Phase, n: usize) -> Step
+fn frame_step(phase: BodyPhase, n: usize) -> FrontStep
     ensures { result ≡ record { phase = phase; taken = n; from = 0; to = 0 } }
 {
-    Step {
+    FrontStep {
         phase,
         taken: n,
         from: 0,
@@ -89,96 +89,96 @@ fn part_of(left: u64, bytes: &[u8]) -> usize
     }
 }
 
-fn counted_step(left: u64, held: &[u8], total: u64, bytes: &[u8]) -> Step
-    requires { IsSoundPhase (Phase.Counted left) held.now total }
-    ensures { StepsOn (Phase.Counted left) held.now total bytes.now result held.now }
+fn counted_step(left: u64, held: &[u8], total: u64, bytes: &[u8]) -> FrontStep
+    requires { IsSoundPhase (BodyPhase.Counted left) held.now total }
+    ensures { StepsOn (BodyPhase.Counted left) held.now total bytes.now result held.now }
 {
     let n = part_of(left, bytes);
     let rest = left - n as u64;
     if rest == 0 {
-        return body_step(Phase::Ended, n);
+        return body_step(BodyPhase::Ended, n);
     }
-    body_step(Phase::Counted(rest), n)
+    body_step(BodyPhase::Counted(rest), n)
 }
 
-fn content_step(left: u64, held: &[u8], total: u64, bytes: &[u8]) -> Step
-    requires { IsSoundPhase (Phase.Content left) held.now total }
-    ensures { StepsOn (Phase.Content left) held.now total bytes.now result held.now }
+fn content_step(left: u64, held: &[u8], total: u64, bytes: &[u8]) -> FrontStep
+    requires { IsSoundPhase (BodyPhase.Content left) held.now total }
+    ensures { StepsOn (BodyPhase.Content left) held.now total bytes.now result held.now }
 {
     let n = part_of(left, bytes);
     let rest = left - n as u64;
     if rest == 0 {
-        return body_step(Phase::Gap, n);
+        return body_step(BodyPhase::Gap, n);
     }
-    body_step(Phase::Content(rest), n)
+    body_step(BodyPhase::Content(rest), n)
 }
 
-fn open_step(held: &[u8], total: u64, bytes: &[u8]) -> Step
-    requires { IsSoundPhase Phase.Open held.now total }
-    ensures { StepsOn Phase.Open held.now total bytes.now result held.now }
+fn open_step(held: &[u8], total: u64, bytes: &[u8]) -> FrontStep
+    requires { IsSoundPhase BodyPhase.Open held.now total }
+    ensures { StepsOn BodyPhase.Open held.now total bytes.now result held.now }
 {
     let n = part_of(MAX_BODY - total, bytes);
     if n == bytes.len() {
-        return body_step(Phase::Open, n);
+        return body_step(BodyPhase::Open, n);
     }
-    Step {
-        phase: Phase::Bad,
+    FrontStep {
+        phase: BodyPhase::Bad,
         taken: bytes.len(),
         from: 0,
         to: n,
     }
 }
 
-fn gap_step(held: &[u8], total: u64, bytes: &[u8]) -> Step
-    requires { IsSoundPhase Phase.Gap held.now total }
-    ensures { StepsOn Phase.Gap held.now total bytes.now result held.now }
+fn gap_step(held: &[u8], total: u64, bytes: &[u8]) -> FrontStep
+    requires { IsSoundPhase BodyPhase.Gap held.now total }
+    ensures { StepsOn BodyPhase.Gap held.now total bytes.now result held.now }
 {
     if bytes.is_empty() {
-        return frame_step(Phase::Gap, 0);
+        return frame_step(BodyPhase::Gap, 0);
     }
     if bytes[0] != b'\r' {
-        return frame_step(Phase::Bad, 1);
+        return frame_step(BodyPhase::Bad, 1);
     }
     if bytes.len() == 1 {
-        return frame_step(Phase::GapEnd, 1);
+        return frame_step(BodyPhase::GapEnd, 1);
     }
     if bytes[1] != b'\n' {
-        return frame_step(Phase::Bad, 2);
+        return frame_step(BodyPhase::Bad, 2);
     }
-    frame_step(Phase::Line, 2)
+    frame_step(BodyPhase::Line, 2)
 }
 
-fn gap_end_step(held: &[u8], total: u64, bytes: &[u8]) -> Step
-    requires { IsSoundPhase Phase.GapEnd held.now total }
-    ensures { StepsOn Phase.GapEnd held.now total bytes.now result held.now }
+fn gap_end_step(held: &[u8], total: u64, bytes: &[u8]) -> FrontStep
+    requires { IsSoundPhase BodyPhase.GapEnd held.now total }
+    ensures { StepsOn BodyPhase.GapEnd held.now total bytes.now result held.now }
 {
     if bytes.is_empty() {
-        return frame_step(Phase::GapEnd, 0);
+        return frame_step(BodyPhase::GapEnd, 0);
     }
     if bytes[0] != b'\n' {
-        return frame_step(Phase::Bad, 1);
+        return frame_step(BodyPhase::Bad, 1);
     }
-    frame_step(Phase::Line, 1)
+    frame_step(BodyPhase::Line, 1)
 }
 
 /// What a text is: which phase follows, and how many of its bytes belong to the line or the section.
 #[derive(Clone, Copy)]
 struct Judged {
-    phase: Phase,
+    phase: BodyPhase,
     len: usize,
 }
 
 /// What follows a chunk line of this size.
-fn phase_after(size: u64, total: u64) -> Phase
+fn phase_after(size: u64, total: u64) -> BodyPhase
     requires { total ≤ body_limit }
     ensures { result ≡ phase_after size total }
 {
     if size > MAX_BODY - total {
-        Phase::Bad
+        BodyPhase::Bad
     } else if size == 0 {
-        Phase::Trailer
+        BodyPhase::Trailer
     } else {
-        Phase::Content(size)
+        BodyPhase::Content(size)
     }
 }
 
@@ -196,18 +196,18 @@ fn judge_line(text: &[u8], total: u64) -> Judged
         Ok(Status::Partial) => {
             if text.len() < MAX_LINE {
                 Judged {
-                    phase: Phase::Line,
+                    phase: BodyPhase::Line,
                     len: text.len(),
                 }
             } else {
                 Judged {
-                    phase: Phase::Bad,
+                    phase: BodyPhase::Bad,
                     len: text.len(),
                 }
             }
         }
         Err(_) => Judged {
-            phase: Phase::Bad,
+            phase: BodyPhase::Bad,
             len: text.len(),
         },
     }
@@ -233,19 +233,19 @@ fn judge_trailer(text: &[u8]) -> Judged
     let mut headers = [EMPTY_HEADER_SPAN; MAX_FIELDS];
     match parse_headers(text, &mut headers) {
         Ok(Status::Complete((len, _))) => Judged {
-            phase: Phase::Ended,
+            phase: BodyPhase::Ended,
             len,
         },
         Ok(Status::Partial) => {
             // The reader itself refuses a 65th whole line, but its contract does not say so.
             if text.len() < MAX_TRAILER && line_feeds(text) < MAX_TRAILER_LINES {
                 Judged {
-                    phase: Phase::Trailer,
+                    phase: BodyPhase::Trailer,
                     len: text.len(),
                 }
             } else {
                 Judged {
-                    phase: Phase::Bad,
+                    phase: BodyPhase::Bad,
                     len: text.len(),
                 }
             }
@@ -253,31 +253,31 @@ fn judge_trailer(text: &[u8]) -> Judged
         // It is bad for one of two causes: more fields than there is room for, or a line that is none.
         Err(error) => match error {
             Error::TooManyHeaders => Judged {
-                phase: Phase::Bad,
+                phase: BodyPhase::Bad,
                 len: text.len(),
             },
             _ => Judged {
-                phase: Phase::Bad,
+                phase: BodyPhase::Bad,
                 len: text.len(),
             },
         },
     }
 }
 
-fn is_line(phase: Phase) -> bool
+fn is_line(phase: BodyPhase) -> bool
     ensures { result ≡ is_line phase }
 {
     match phase {
-        Phase::Line => true,
+        BodyPhase::Line => true,
         _ => false,
     }
 }
 
-fn is_trailer(phase: Phase) -> bool
+fn is_trailer(phase: BodyPhase) -> bool
     ensures { result ≡ is_trailer phase }
 {
     match phase {
-        Phase::Trailer => true,
+        BodyPhase::Trailer => true,
         _ => false,
     }
 }
@@ -315,10 +315,10 @@ fn forget_unless(wanted: bool, held: &mut Vec<u8>)
     }
 }
 
-fn line_step(held: &mut Vec<u8>, total: u64, bytes: &[u8]) -> Step
-    requires sound { IsSoundPhase Phase.Line held.old.items total }
+fn line_step(held: &mut Vec<u8>, total: u64, bytes: &[u8]) -> FrontStep
+    requires sound { IsSoundPhase BodyPhase.Line held.old.items total }
     requires room { trailer_limit ≤ vec_capacity held.old }
-    ensures steps { StepsOn Phase.Line held.old.items total bytes.now result held.new.items }
+    ensures steps { StepsOn BodyPhase.Line held.old.items total bytes.now result held.new.items }
     ensures room { vec_capacity held.old ≤ vec_capacity held.new }
 {
     let before = held.len();
@@ -334,11 +334,11 @@ fn line_step(held: &mut Vec<u8>, total: u64, bytes: &[u8]) -> Step
     frame_step(judged.phase, judged.len - before)
 }
 
-fn trailer_step(held: &mut Vec<u8>, total: u64, bytes: &[u8]) -> Step
-    requires sound { IsSoundPhase Phase.Trailer held.old.items total }
+fn trailer_step(held: &mut Vec<u8>, total: u64, bytes: &[u8]) -> FrontStep
+    requires sound { IsSoundPhase BodyPhase.Trailer held.old.items total }
     requires total { total < word_limit }
     requires room { trailer_limit ≤ vec_capacity held.old }
-    ensures steps { StepsOn Phase.Trailer held.old.items total bytes.now result held.new.items }
+    ensures steps { StepsOn BodyPhase.Trailer held.old.items total bytes.now result held.new.items }
     ensures room { vec_capacity held.old ≤ vec_capacity held.new }
 {
     let before = held.len();
@@ -355,7 +355,7 @@ fn trailer_step(held: &mut Vec<u8>, total: u64, bytes: &[u8]) -> Step
 }
 
 /// The step of a reader in this phase.
-pub(crate) fn next_step(phase: Phase, held: &mut Vec<u8>, total: u64, bytes: &[u8]) -> Step
+pub(crate) fn next_step(phase: BodyPhase, held: &mut Vec<u8>, total: u64, bytes: &[u8]) -> FrontStep
     requires sound { IsSoundPhase phase held.old.items total }
     requires total { total < word_limit }
     requires room { room_of phase ≤ vec_capacity held.old }
@@ -363,14 +363,14 @@ pub(crate) fn next_step(phase: Phase, held: &mut Vec<u8>, total: u64, bytes: &[u
     ensures room { vec_capacity held.old ≤ vec_capacity held.new }
 {
     match phase {
-        Phase::Counted(left) => counted_step(left, held.as_slice(), total, bytes),
-        Phase::Open => open_step(held.as_slice(), total, bytes),
-        Phase::Line => line_step(held, total, bytes),
-        Phase::Content(left) => content_step(left, held.as_slice(), total, bytes),
-        Phase::Gap => gap_step(held.as_slice(), total, bytes),
-        Phase::GapEnd => gap_end_step(held.as_slice(), total, bytes),
-        Phase::Trailer => trailer_step(held, total, bytes),
-        Phase::Ended => frame_step(Phase::Ended, 0),
-        Phase::Bad => frame_step(Phase::Bad, 0),
+        BodyPhase::Counted(left) => counted_step(left, held.as_slice(), total, bytes),
+        BodyPhase::Open => open_step(held.as_slice(), total, bytes),
+        BodyPhase::Line => line_step(held, total, bytes),
+        BodyPhase::Content(left) => content_step(left, held.as_slice(), total, bytes),
+        BodyPhase::Gap => gap_step(held.as_slice(), total, bytes),
+        BodyPhase::GapEnd => gap_end_step(held.as_slice(), total, bytes),
+        BodyPhase::Trailer => trailer_step(held, total, bytes),
+        BodyPhase::Ended => frame_step(BodyPhase::Ended, 0),
+        BodyPhase::Bad => frame_step(BodyPhase::Bad, 0),
     }
 }

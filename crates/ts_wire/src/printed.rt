@@ -22,7 +22,7 @@ const ASCII_END: u8 = 128;
 const HEAD_ROOM: usize = 512;
 
 /// What the head that the client gets says of the end of the body.
-#[derive(Clone, Copy, Debug, PartialEq, Eq)]
+#[derive(Clone, Copy)]
 pub enum ClientFraming {
     /// There is no body, or its length is not told.
     Nothing,

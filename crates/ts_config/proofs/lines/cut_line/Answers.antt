@@ -10,7 +10,9 @@ returns-in-Some-clause-lines c =
     let bytes : List ℕ = c.args.bytes.now in
     let end : ℕ = c.in-Some.end in
     let behind : List ℕ = take (length bytes - (end + 1)) (drop (end + 1) bytes) in
-    let rest : behind ≡ drop (end + 1) bytes = take_all (length bytes - (end + 1)) (drop (end + 1) bytes) (omega (arith, length-drop (end + 1) bytes)) in
+    let rest : behind ≡ drop (end + 1) bytes =
+    take_all (length bytes - (end + 1)) (drop (end + 1) bytes)
+    (omega (arith, length-drop (end + 1) bytes)) in
     first_line bytes (take end bytes) behind end (sym c.line_end.ensures.at ∙ c.in-Some.is) refl rest
     ∙ ap (λ (line : List ℕ). line ∷ config_lines behind) (sym c.less_return.ensures)
 

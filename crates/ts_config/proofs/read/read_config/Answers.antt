@@ -11,7 +11,8 @@ use Rattle.ts_config.proofs.read.read_config.Goals as goal
 
 pub loop-rest-init : goal.loop-rest-init
 loop-rest-init c = record {
-  read = subst (LinesRead c.args.bytes.now c.args.bytes.now 0) (sym c.new-transforms.ensures.items) (no_lines c.args.bytes.now);
+  read = subst (LinesRead c.args.bytes.now c.args.bytes.now 0) (sym c.new-transforms.ensures.items)
+      (no_lines c.args.bytes.now);
   few = omega (arith, ap length c.new-transforms.ensures.items);
   counted = omega arith;
 }
@@ -20,8 +21,10 @@ pub loop-rest-preserved : goal.loop-rest-preserved
 loop-rest-preserved c =
     let (e, means, is) = c.in-Ok.ensures.ok in
     record {
-      read = line_more c.args.bytes.now c.loop-rest.rest.now c.loop-rest.line_number c.loop-rest.transforms.items c.loop-rest.invariant.read
-          c.cut_line.result.0.now c.cut_line.result.1.now c.cut_line.ensures.lines e c.add_line.new.transforms.items means is c.in-Ok.ensures.few;
+      read = line_more c.args.bytes.now c.loop-rest.rest.now c.loop-rest.line_number
+          c.loop-rest.transforms.items c.loop-rest.invariant.read
+          c.cut_line.result.0.now c.cut_line.result.1.now c.cut_line.ensures.lines e
+          c.add_line.new.transforms.items means is c.in-Ok.ensures.few;
       few = c.in-Ok.ensures.few;
       counted = omega (arith, c.cut_line.ensures.shorter, c.loop-rest.invariant.counted);
     }
@@ -29,15 +32,19 @@ loop-rest-preserved c =
 pub returns-in-Err-clause-fault : goal.returns-in-Err-clause-fault
 returns-in-Err-clause-fault c =
     subst (RefusesRightly (config_lines c.args.bytes.now)) (sym c.refusal_at.ensures)
-    (refused_line c.args.bytes.now c.loop-rest.rest.now c.loop-rest.line_number c.loop-rest.transforms.items c.loop-rest.invariant.read
-    c.cut_line.result.0.now c.cut_line.result.1.now c.cut_line.ensures.lines c.in-Err.refusal c.in-Err.ensures.fault)
+    (refused_line c.args.bytes.now c.loop-rest.rest.now c.loop-rest.line_number c.loop-rest.transforms.items
+    c.loop-rest.invariant.read
+    c.cut_line.result.0.now c.cut_line.result.1.now c.cut_line.ensures.lines c.in-Err.refusal
+    c.in-Err.ensures.fault)
 
 pub returns-in-Err-clause-refusal : goal.returns-in-Err-clause-refusal
-returns-in-Err-clause-refusal c = refusal_value c.args.bytes.now c.refusal_at.result (returns-in-Err-clause-fault c)
+returns-in-Err-clause-refusal c =
+    refusal_value c.args.bytes.now c.refusal_at.result (returns-in-Err-clause-fault c)
 
 pub returns-clause-read : goal.returns-clause-read
 returns-clause-read c =
-    all_lines c.args.bytes.now c.loop-rest.rest.now c.loop-rest.line_number c.loop-rest.transforms.items c.loop-rest.invariant.read (grind (arith, nat_tests))
+    all_lines c.args.bytes.now c.loop-rest.rest.now c.loop-rest.line_number c.loop-rest.transforms.items
+    c.loop-rest.invariant.read (grind (arith, nat_tests))
 
 pub returns-clause-value : goal.returns-clause-value
 returns-clause-value c = read_value c.args.bytes.now c.loop-rest.transforms.items (returns-clause-read c)

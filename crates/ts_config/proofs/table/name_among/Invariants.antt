@@ -6,4 +6,6 @@ use Rattle.ts_config.proofs.table.name_among.Given as goal
 
 -- the word is none of the names that were passed
 abbrev pub invariant-loop-name : goal.invariant-loop-name
-invariant-loop-name l = find (λ n. bytes_eq (spelling n) l.word) l.names ≡ find (λ n. bytes_eq (spelling n) l.word) (drop l.name-index l.names)
+invariant-loop-name l =
+    find (λ n. bytes_eq (spelling n) l.word) l.names
+    ≡ find (λ n. bytes_eq (spelling n) l.word) (drop l.name-index l.names)

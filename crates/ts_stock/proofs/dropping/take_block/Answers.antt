@@ -6,4 +6,5 @@ pub take_runs-requires-clause-places : goal.take_runs-requires-clause-places
 take_runs-requires-clause-places c =
     let start = c.args.start in
     let whole : start + 64 - start ≡ 64 = omega arith in
-    subst (λ n. ArePlaces c.args.byte (take n (drop start c.args.input.now)) c.places_in-places.result) whole c.places_in-places.ensures
+    subst (λ n. ArePlaces c.args.byte (take n (drop start c.args.input.now)) c.places_in-places.result) whole
+    c.places_in-places.ensures

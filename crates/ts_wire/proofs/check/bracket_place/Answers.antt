@@ -6,4 +6,5 @@ use Rattle.ts_wire.proofs.check.bracket_place.Goals as goal
 
 pub returns-clause-value : goal.returns-clause-value
 returns-clause-value c =
-    position_from_yields_List is_bracket _ _ _ c.position.ensures.ran (YieldsList-from_slice c.args.host.now cc) (λ x b q k. search (rules, tests))
+    position_from_yields_List is_bracket _ _ _ c.position.ensures.ran
+    (YieldsList-from_slice c.args.host.now cc) (λ x b q k. search (rules, tests))

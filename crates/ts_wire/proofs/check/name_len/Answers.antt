@@ -8,4 +8,6 @@ use Rattle.ts_wire.proofs.check.name_len.Goals as goal
 pub returns-clause-value : goal.returns-clause-value
 returns-clause-value c =
     c.unwrap_or.ensures
-    ∙ position_or_len_unwrap is_colon c.args.host.now _ (position_from_yields_List is_colon _ _ _ c.position.ensures.ran (YieldsList-from_slice c.args.host.now cc) (λ x b q k. search (rules, tests)))
+    ∙ position_or_len_unwrap is_colon c.args.host.now _
+    (position_from_yields_List is_colon _ _ _ c.position.ensures.ran
+    (YieldsList-from_slice c.args.host.now cc) (λ x b q k. search (rules, tests)))

@@ -5,4 +5,5 @@ use Rattle.ts_wire.proofs.fields.remove_named.Goals as goal
 
 pub returns : goal.returns
 returns c =
-    filter_same _ (λ f. not (is_named c.args.name.now f)) _ (λ x b g k. search (rules, tests)) _ _ c.retain.ensures.filtered
+    filter_same _ (λ f. not (is_named c.args.name.now f)) _
+    (λ x b g k. search (rules, tests)) _ _ c.retain.ensures.filtered

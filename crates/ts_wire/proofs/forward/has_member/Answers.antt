@@ -11,6 +11,8 @@ use Rattle.ts_wire.proofs.forward.has_member.Goals as goal
 pub returns : goal.returns
 returns c =
     any_from_yields_List (λ p. str_eq_ignore_ascii_case (trim_ows p) c.args.name.now) _ _ _ c.any.ensures.ran
-    (YieldsList-from_slice_split _ is_comma c.args.value.now c.split.ensures.rest c.split.ensures.done c.split.ensures.closure (λ x b q k. search (rules, tests)))
+    (YieldsList-from_slice_split _ is_comma c.args.value.now c.split.ensures.rest c.split.ensures.done
+    c.split.ensures.closure (λ x b q k. search (rules, tests)))
     (λ x b q k. search (rules, tests))
-    ∙ sym (list_any-map (λ m. str_eq_ignore_ascii_case m c.args.name.now) trim_ows (slice_split is_comma c.args.value.now))
+    ∙ sym (list_any-map (λ m. str_eq_ignore_ascii_case m c.args.name.now) trim_ows
+    (slice_split is_comma c.args.value.now))

@@ -6,4 +6,5 @@ use Rattle.ts_wire.proofs.forward.is_option.Goals as goal
 
 pub returns : goal.returns
 returns c =
-    any_from_yields_List (names_option c.args.name.now) _ _ _ c.any.ensures.ran (YieldsList-from_slice c.args.fields.now cc) (λ x b q k. search (rules, tests))
+    any_from_yields_List (names_option c.args.name.now) _ _ _ c.any.ensures.ran
+    (YieldsList-from_slice c.args.fields.now cc) (λ x b q k. search (rules, tests))

@@ -10,4 +10,6 @@ use Rattle.ts_wire.proofs.framing.coding_of.Goals as goal
 pub returns : goal.returns
 returns c =
     let seen = take_all c.loop-field.field-index _ c.loop-field-test.false ∙ c.items-field-items.ensures in
-    c.loop-field.invariant ∙ ap (λ l. fold add_coding Absent (flat_map (value_in (codes "transfer-encoding")) l)) seen ∙ sym (transfer_coding_is_fold (values_named (codes "transfer-encoding") c.args.fields.now))
+    c.loop-field.invariant ∙ ap (λ l. fold add_coding Absent
+    (flat_map (value_in (codes "transfer-encoding")) l)) seen
+    ∙ sym (transfer_coding_is_fold (values_named (codes "transfer-encoding") c.args.fields.now))

@@ -6,4 +6,6 @@ use Rattle.ts_wire.specs.Framing.{add_coding}
 use Rattle.ts_wire.proofs.framing.coding_of.Given as goal
 
 abbrev pub invariant-loop-field : goal.invariant-loop-field
-invariant-loop-field l = l.coding ≡ fold add_coding Absent (flat_map (value_in (codes "transfer-encoding")) (take l.field-index l.field-items))
+invariant-loop-field l =
+    l.coding ≡ fold add_coding Absent (flat_map (value_in (codes "transfer-encoding"))
+    (take l.field-index l.field-items))

@@ -6,4 +6,6 @@ use Rattle.ts_wire.specs.Framing.{add_length}
 use Rattle.ts_wire.proofs.framing.length_of.Given as goal
 
 abbrev pub invariant-loop-field : goal.invariant-loop-field
-invariant-loop-field l = l.length ≡ fold add_length Absent (flat_map (members_in (codes "content-length")) (take l.field-index l.field-items))
+invariant-loop-field l =
+    l.length ≡ fold add_length Absent (flat_map (members_in (codes "content-length"))
+    (take l.field-index l.field-items))

@@ -4,8 +4,10 @@ use Rattle.ts_wire.proofs.phases.content_step.Goals as goal
 
 pub returns-then-rest-eq0 : goal.returns-then-rest-eq0
 returns-then-rest-eq0 c =
-    content_ends c.args.held.now c.args.bytes.now c.args.total c.args.left _ _ c.body_step.ensures c.requires c.part_of-n.ensures c.if-rest-eq0.true
+    content_ends c.args.held.now c.args.bytes.now c.args.total c.args.left _ _ c.body_step.ensures c.requires
+    c.part_of-n.ensures c.if-rest-eq0.true
 
 pub returns : goal.returns
 returns c =
-    content_stays c.args.held.now c.args.bytes.now c.args.total c.args.left _ _ _ c.body_step-2.ensures c.requires c.part_of-n.ensures refl c.if-rest-eq0.false
+    content_stays c.args.held.now c.args.bytes.now c.args.total c.args.left _ _ _ c.body_step-2.ensures
+    c.requires c.part_of-n.ensures refl c.if-rest-eq0.false

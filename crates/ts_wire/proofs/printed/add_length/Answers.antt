@@ -9,5 +9,7 @@ returns c =
     let name = codes "content-length: " in
     let digits = decimal c.args.n in
     c.in_ok-add-3.ensures
-    ∙ ap (λ l. l ++ crlf_bytes) (c.in_ok-add-2.ensures ∙ ap (λ l. c.add.new.out.items ++ l) (c.as_bytes.ensures.value ∙ c.in_ok-digits.ensures.ok) ∙ ap (λ l. l ++ digits) c.in_ok-add.ensures)
+    ∙ ap (λ l. l ++ crlf_bytes) (c.in_ok-add-2.ensures
+    ∙ ap (λ l. c.add.new.out.items ++ l) (c.as_bytes.ensures.value ∙ c.in_ok-digits.ensures.ok)
+    ∙ ap (λ l. l ++ digits) c.in_ok-add.ensures)
     ∙ append_assoc (out ++ name) digits crlf_bytes ∙ append_assoc out name (digits ++ crlf_bytes)

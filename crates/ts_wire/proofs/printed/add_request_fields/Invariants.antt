@@ -5,4 +5,5 @@ use Rattle.ts_wire.proofs.printed.add_request_fields.Given as goal
 
 abbrev pub invariant-loop-field : goal.invariant-loop-field
 invariant-loop-field l =
-    l.out.items ≡ l.initial.out.items ++ flat_map (request_field_text l.absolute l.host) (take l.field-index l.fields)
+    l.out.items ≡ l.initial.out.items ++ flat_map (request_field_text l.absolute l.host)
+    (take l.field-index l.fields)

@@ -7,7 +7,8 @@ use Rattle.ts_wire.proofs.printed.client_head.Goals as goal
 pub returns-clause-one_head : goal.returns-clause-one_head
 returns-clause-one_head c =
     IfOk-weaker _ _ (SendsOneResponse c.args.status c.args.reason.now c.args.fields.now c.args.framing)
-    (λ text is. sends_one_response c.args.status c.args.reason.now c.args.fields.now c.args.via c.args.framing c.requires.status text is) c.client_text.ensures
+    (λ text is. sends_one_response c.args.status c.args.reason.now c.args.fields.now c.args.via c.args.framing
+    c.requires.status text is) c.client_text.ensures
 
 pub returns-clause-forwards : goal.returns-clause-forwards
 returns-clause-forwards c = forwards_plainly

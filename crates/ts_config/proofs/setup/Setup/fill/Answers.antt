@@ -8,11 +8,15 @@ use Rattle.ts_config.proofs.setup.Setup.fill.Goals as goal
 
 pub returns-clause-lines : goal.returns-clause-lines
 returns-clause-lines c =
-    untexted-set c.args.self.now.transforms.items c.args.line c.index_mut.result.now (Append c.in-Append.file c.args.text)
+    untexted-set c.args.self.now.transforms.items c.args.line c.index_mut.result.now
+    (Append c.in-Append.file c.args.text)
     (ap untexted (sym c.in-Append.is ∙ c.index_mut.ensures.value))
 
 pub returns-clause-printable : goal.returns-clause-printable
-returns-clause-printable c = λ from. record { bytes = from.bytes; read = subst (IsConfiguration from.bytes) (sym (returns-clause-lines c)) from.read }
+returns-clause-printable c = λ from. record {
+  bytes = from.bytes;
+  read = subst (IsConfiguration from.bytes) (sym (returns-clause-lines c)) from.read;
+}
 
 pub returns-clause-names : goal.returns-clause-names
 returns-clause-names c = same_names c.args.self.now.transforms.items _ (returns-clause-lines c)

@@ -11,11 +11,14 @@ use Rattle.ts_record.proofs.link.RecordedLink.make.Goals as goal
 pub invariant_of-result : goal.invariant_of-result
 invariant_of-result c =
     let is : c.of_pieces.result ≡ recorded_side c.args.pieces.items =
-    c.of_pieces.ensures.made ∙ ap (λ ps. fresh_link (seen_pieces 0 0 ps) greatest None (no_calls [] []) (no_calls [] [])) c.in_ok-given.ensures in
+    c.of_pieces.ensures.made ∙ ap (λ ps. fresh_link (seen_pieces 0 0 ps) greatest None (no_calls [] [])
+    (no_calls [] [])) c.in_ok-given.ensures in
     never_fails c.args.pieces.items c.of_pieces.result is
 
 pub returns-clause-new : goal.returns-clause-new
 returns-clause-new c =
     let is : c.of_pieces.result ≡ recorded_side c.args.pieces.items =
-    c.of_pieces.ensures.made ∙ ap (λ ps. fresh_link (seen_pieces 0 0 ps) greatest None (no_calls [] []) (no_calls [] [])) c.in_ok-given.ensures in
-    new_side c.args.pieces.items c.of_pieces.result is (c.of_pieces.ensures.left ∙ ap (λ ps. bytes_of ps) c.in_ok-given.ensures)
+    c.of_pieces.ensures.made ∙ ap (λ ps. fresh_link (seen_pieces 0 0 ps) greatest None (no_calls [] [])
+    (no_calls [] [])) c.in_ok-given.ensures in
+    new_side c.args.pieces.items c.of_pieces.result is (c.of_pieces.ensures.left
+    ∙ ap (λ ps. bytes_of ps) c.in_ok-given.ensures)

@@ -8,7 +8,11 @@ pub returns-clause-goes_on : goal.returns-clause-goes_on
 returns-clause-goes_on c =
     let step = c.next_step-step.result in
     let bytes = c.args.bytes.now in
-    let now : Place = record { phase = step.phase; held = c.next_step-step.new.held.items; total = c.self.inside.total + (step.to - step.from) } in
+    let now : Place = record {
+      phase = step.phase;
+      held = c.next_step-step.new.held.items;
+      total = c.self.inside.total + (step.to - step.from);
+    } in
     subst (λ p. GoesOn p now (take step.taken bytes) (slice_range bytes step.from step.to)) c.self.view_is
     (goes_on (place_of c.self.inside) now bytes step c.next_step-step.ensures.steps refl refl)
 
@@ -16,4 +20,5 @@ pub returns-clause-body : goal.returns-clause-body
 returns-clause-body c =
     let step = c.next_step-step.result in
     let bytes = c.args.bytes.now in
-    gives_body c.args.self.now _ (take step.taken bytes) (slice_range bytes step.from step.to) _ c.state_of.ensures (returns-clause-goes_on c)
+    gives_body c.args.self.now _ (take step.taken bytes)
+    (slice_range bytes step.from step.to) _ c.state_of.ensures (returns-clause-goes_on c)

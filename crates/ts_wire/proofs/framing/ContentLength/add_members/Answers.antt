@@ -14,5 +14,7 @@ returns c =
     c.loop-part.invariant
     ∙ ap (fold add_length c.args.self) (sym (map-map trim_ows (λ p. p.now) c.loop-part.yielded)
     ∙ ap (map trim_ows) (YieldsList-end
-    (YieldsList-at c.into_iter-part-iterator.ensures.into_iter_gives (YieldsList-from_slice_split _ is_comma c.args.value.now s.rest s.done s.closure (λ x b q k. search (rules, tests))))
+    (YieldsList-at c.into_iter-part-iterator.ensures.into_iter_gives
+    (YieldsList-from_slice_split _ is_comma c.args.value.now s.rest s.done s.closure
+    (λ x b q k. search (rules, tests))))
     c.loop-part.yielded _ c.loop-part.yielded_by _ _ c.in-None.is c.next.ensures.steps).0)

@@ -1,0 +1,54 @@
+//! The two sides of a recorded transaction as links.
+use std::alloc::Global;
+use std::test::Fail;
+use ts_link::{Got, Link, NoMemory, Octets, Put};
+use ts_record::RecordedLink;
+use ts_upstream::{Uploaded, Upstream};
+
+/// A side of a recorded transaction that gives these two pieces.
+fn side(alloc: Global, first: &[u8], second: &[u8]) -> Result<RecordedLink, NoMemory> {
+    let mut pieces = Vec::new(alloc);
+    pieces.push(Octets::copy_of(alloc, first)?)?;
+    pieces.push(Octets::copy_of(alloc, second)?)?;
+    RecordedLink::make(alloc, pieces)
+}
+
+#[test]
+fn a_side_gives_its_pieces_and_then_its_end(rt: HostRuntime) -> Result<(), Fail> {
+    let mut side = side(rt.alloc(), b"ab", b"cde")?;
+    let mut room = [0u8; 2];
+    assert_eq!(rt; side.read(&mut room), Got::Bytes(2));
+    assert_eq!(rt; room, *b"ab");
+    assert_eq!(rt; side.read(&mut room), Got::Bytes(2));
+    assert_eq!(rt; room, *b"cd");
+    assert_eq!(rt; side.read(&mut room), Got::Bytes(1));
+    assert_eq!(rt; room, *b"ed");
+    assert_eq!(rt; side.read(&mut room), Got::End);
+    assert_eq!(rt; side.read(&mut room), Got::End);
+    assert_eq!(rt; side.faults(), 0);
+    side.known();
+    Ok(())
+}
+
+#[test]
+fn a_side_keeps_what_it_takes(rt: HostRuntime) -> Result<(), Fail> {
+    let mut side = side(rt.alloc(), b"", b"x")?;
+    assert!(rt; side.written().is_empty());
+    assert_eq!(rt; side.write(b"GET / "), Put::Took(6));
+    assert_eq!(rt; side.write(b"HTTP/1.1"), Put::Took(8));
+    assert_eq!(rt; side.written(), b"GET / HTTP/1.1".as_slice());
+    assert_eq!(rt; side.faults(), 0);
+    Ok(())
+}
+
+#[test]
+fn a_side_moves_no_upload(rt: HostRuntime) -> Result<(), Fail> {
+    let alloc = rt.alloc();
+    let mut client = side(alloc, b"GET / HTTP/1.1\r\n\r\n", b"upload")?;
+    let mut origin = side(alloc, b"", b"")?;
+    assert_eq!(rt; origin.upload(&mut client), Uploaded::Done);
+    assert!(rt; origin.written().is_empty());
+    let mut room = [0u8; 32];
+    assert_eq!(rt; client.read(&mut room), Got::Bytes(18));
+    Ok(())
+}

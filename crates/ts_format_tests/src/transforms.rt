@@ -1,0 +1,258 @@
+//! Rows of lines over short and long bodies, and what each line has written in time.
+ghost use Rattle.std.specs.Prelude.{◌≡◌, false, IfOk};
+
+use std::alloc::Global;
+use std::process::Abort;
+use std::test::Fail;
+use ts_config::{Setup, TransformLine, read_config};
+use ts_iobuf::{IoBuffer, ReaderId};
+use ts_link::{NoMemory, Octets};
+use ts_stock::Stock;
+use ts_transform::{Chain, Transform};
+
+/// The lines of a configuration, where each of their files holds the text.
+fn filled(alloc: Global, config: &[u8], text: &[u8]) -> Result<Setup, Fail> {
+    let mut setup = read_config(alloc, config)?;
+    fill_all(alloc, &mut setup, text)?;
+    Ok(setup)
+}
+
+fn fill_all(alloc: Global, setup: &mut Setup, text: &[u8]) -> Result<(), NoMemory> {
+    for k in 0..setup.transforms.len() {
+        let text = Octets::copy_of(alloc, text)?;
+        if let Some(TransformLine::Append { .. }) = setup.transforms.get(k) {
+            setup.fill(k, text);
+        }
+    }
+    Ok(())
+}
+
+/// The chain of these lines, to which nothing was given.
+fn chain_of(alloc: Global, lines: &[TransformLine]) -> Result<Chain<Stock>, NoMemory>
+    ensures { IfOk result (λ chain. chain.given ≡ false) }
+{
+    let mut parts = Vec::new(alloc);
+    for line in lines {
+        parts.push(Stock::fresh(alloc, line)?)?;
+    }
+    Chain::make(alloc, parts)
+}
+
+/// Lets each stage work once.
+fn pump_each(chain: &mut Chain<Stock>) -> Result<(), NoMemory> {
+    for stage in 0..chain.stages() {
+        if stage < chain.stages() {
+            chain.pump(stage)?;
+        }
+    }
+    Ok(())
+}
+
+/// Takes the first bytes that wait for the client.
+fn take_block(chain: &mut Chain<Stock>, out: &mut Vec<u8>) -> Result<(), NoMemory> {
+    if let Some(block) = chain.out_block() {
+        let count = block.len();
+        out.extend_from_slice(block)?;
+        chain.take(count);
+    }
+    Ok(())
+}
+
+/// All that the client gets.
+fn drained(alloc: Global, chain: &mut Chain<Stock>) -> Result<Vec<u8>, NoMemory> {
+    let mut out = Vec::new(alloc);
+    for _ in 0..1000 {
+        pump_each(chain)?;
+        take_block(chain, &mut out)?;
+        if chain.is_finished() {
+            break;
+        }
+    }
+    Ok(out)
+}
+
+/// What the lines make of a body.
+fn outcome(alloc: Global, lines: &[TransformLine], body: &[u8]) -> Result<Vec<u8>, NoMemory> {
+    let mut chain = chain_of(alloc, lines)?;
+    chain.give(body)?;
+    chain.give_end();
+    drained(alloc, &mut chain)
+}
+
+/// Holds what the lines of a configuration make of a body against the wanted bytes.
+fn check(
+    rt: &impl Abort,
+    alloc: Global,
+    config: &[u8],
+    body: &[u8],
+    want: &[u8],
+) -> Result<(), Fail> {
+    let setup = filled(alloc, config, b">")?;
+    check_lines(rt, alloc, setup.transforms.as_slice(), body, want)
+}
+
+fn check_lines(
+    rt: &impl Abort,
+    alloc: Global,
+    lines: &[TransformLine],
+    body: &[u8],
+    want: &[u8],
+) -> Result<(), Fail> {
+    let out = outcome(alloc, lines, body)?;
+    assert_eq!(rt; out.as_slice(), want);
+    Ok(())
+}
+
+/// Configurations whose files hold `>`, a body, and what is made of it.
+const ROWS: [(&[u8], &[u8], &[u8]); 15] = [
+    (
+        b"prepend.so <\nappend_transform.so g\nbnull_transform.so",
+        b"a",
+        b"<a>",
+    ),
+    (
+        b"append_transform.so g\nprepend.so <\nbnull_transform.so",
+        b"a",
+        b"<a>",
+    ),
+    (
+        b"prepend.so <\nappend_transform.so g\nbnull_transform.so\nmap.so > ]",
+        b"a",
+        b"<a]",
+    ),
+    (
+        b"map.so > ]\nprepend.so <\nappend_transform.so g\nbnull_transform.so",
+        b"a",
+        b"<a>",
+    ),
+    (b"null_transform.so\nappend_transform.so g", b"", b">"),
+    (b"prepend.so <", b"", b"<"),
+    (b"prepend.so \"\"", b"", b""),
+    (b"bnull_transform.so", b"", b""),
+    (b"", b"a", b"a"),
+    (b"drop.so q", b"qaqqbq", b"ab"),
+    (b"drop.so q", b"qq", b""),
+    (
+        b"drop.so q",
+        b"0123456789abcdefghijqq0123456789abcdefghijq",
+        b"0123456789abcdefghij0123456789abcdefghij",
+    ),
+    (b"map.so 0x0a 0x20", b"a\nb\n", b"a b "),
+    (b"delay.so 60000\nnull_transform.so", b"abc", b"abc"),
+    (b"map.so a b\nmap.so b c\ndrop.so c", b"abcd", b"d"),
+];
+
+/// How often a long body has a `q` in place of an `x`, and how many bytes it has.
+const LONG: [(u32, u32); 4] = [(1, 65_537), (3, 65_537), (63, 65_537), (64, 64)];
+
+#[test]
+fn chains_give_the_rows(rt: HostRuntime) -> Result<(), Fail> {
+    for (config, body, want) in ROWS {
+        check(&rt, rt.alloc(), config, body, want)?;
+    }
+    Ok(())
+}
+
+#[test]
+fn chains_give_long_bodies(rt: HostRuntime) -> Result<(), Fail> {
+    for (every, len) in LONG {
+        let body = long_body(rt.alloc(), every, len, b'q', b'x')?;
+        let mapped = long_body(rt.alloc(), every, len, b'q', b'y')?;
+        check(
+            &rt,
+            rt.alloc(),
+            b"map.so x y",
+            body.as_slice(),
+            mapped.as_slice(),
+        )?;
+        check(
+            &rt,
+            rt.alloc(),
+            b"bnull_transform.so",
+            body.as_slice(),
+            body.as_slice(),
+        )?;
+        let kept = without_each(rt.alloc(), every, len, b'x')?;
+        check(
+            &rt,
+            rt.alloc(),
+            b"drop.so q",
+            body.as_slice(),
+            kept.as_slice(),
+        )?;
+    }
+    Ok(())
+}
+
+/// A body of these many bytes, `at` at the multiples of `every` and else `other`.
+fn long_body(alloc: Global, every: u32, len: u32, at: u8, other: u8) -> Result<Vec<u8>, NoMemory> {
+    let mut body = Vec::new(alloc);
+    for i in 0..len {
+        body.push(if i.is_multiple_of(every) { at } else { other })?;
+    }
+    Ok(body)
+}
+
+/// As many bytes as that body has besides the multiples of `every`.
+fn without_each(alloc: Global, every: u32, len: u32, byte: u8) -> Result<Vec<u8>, NoMemory> {
+    let mut body = Vec::new(alloc);
+    for i in 0..len {
+        if !i.is_multiple_of(every) {
+            body.push(byte)?;
+        }
+    }
+    Ok(body)
+}
+
+/// Lines, what each has written once it was fed `a` and `b`, and once it was ended, and its pause in
+/// milliseconds.
+const IN_TIME: [(&[u8], &[u8], &[u8], u64); 7] = [
+    (b"null_transform.so", b"ab", b"ab", 0),
+    (b"append_transform.so g", b"ab", b"ab", 0),
+    (b"bnull_transform.so", b"", b"ab", 0),
+    (b"prepend.so <", b"<ab", b"<ab", 0),
+    (b"map.so b c", b"ac", b"ac", 0),
+    (b"drop.so a", b"b", b"b", 0),
+    (b"delay.so 7", b"ab", b"ab", 7),
+];
+
+#[test]
+fn writes_in_time(rt: HostRuntime) -> Result<(), Fail> {
+    for (config, fed, ended, pause) in IN_TIME {
+        let setup = read_config(rt.alloc(), config)?;
+        match setup.transforms.first() {
+            Some(line) => check_in_time(&rt, rt.alloc(), line, fed, ended, pause)?,
+            None => return Err(Fail::from("no line")),
+        }
+    }
+    Ok(())
+}
+
+fn check_in_time(
+    rt: &impl Abort,
+    alloc: Global,
+    line: &TransformLine,
+    fed: &[u8],
+    ended: &[u8],
+    pause: u64,
+) -> Result<(), Fail> {
+    let mut stock = Stock::fresh(alloc, line)?;
+    assert_eq!(rt; stock.pause(), pause);
+    let mut out = IoBuffer::new(alloc)?;
+    let reader = out.reader()?;
+    assert_eq!(rt; stock.feed(b"a", &mut out)?, 1);
+    assert_eq!(rt; stock.feed(b"b", &mut out)?, 1);
+    assert_eq!(rt; written(&out, reader), fed);
+    stock.end(&mut out)?;
+    assert_eq!(rt; written(&out, reader), ended);
+    Ok(())
+}
+
+/// The first block that waits for the reader.
+fn written(out: &IoBuffer, reader: ReaderId) -> &[u8] {
+    if out.is_reader(reader) {
+        out.block(reader, 0).unwrap_or(b"")
+    } else {
+        b""
+    }
+}

@@ -1,6 +1,0 @@
-use Rattle.std.proofs.Common.{length}
-use Rattle.ts_wire.proofs.tests.rows.unescaped.Given as goal
-
--- each turn takes a byte or more of what is left
-abbrev pub decreases-loop-rest : goal.decreases-loop-rest
-decreases-loop-rest l = length l.rest
