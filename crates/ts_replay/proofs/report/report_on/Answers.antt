@@ -24,7 +24,7 @@ groups-preserved c = λ setup txns each.
     (c.groups.invariant setup txns each) c.in-Some.ensures.items (c.groups.number + 1) c.add_block.new.out.items c.push.new.self.items block.block refl
     (subst (λ t. TellsOf setup t block.block) world (record { shown = λ client origin. block.ensures.shown setup client origin; ended = block.ensures.ended; reported = block.ensures.reported }))
     (is_kept c.in-Some.group.cx.log c.into_parts-txn.result.1 c.entries.result.now log c.entries.ensures.entries c.entries.ensures.lawful c.entries.ensures.state)
-    c.in_ok-add_block.ensures
+    c.in_ok-add_block.ensures.text
     (c.in_ok-push.ensures.items ∙ ap (λ j. c.groups.journals.items ++ j ∷ []) log)
 
 pub returns : goal.returns
