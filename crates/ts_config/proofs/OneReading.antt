@@ -2,6 +2,7 @@
 use Rattle.std.proofs.Common.{◌≡◌, ℕ, List, [], ◌∷◌, ◌++◌, length, Bool, true, false, Result, Ok, Err, inl, inr, ◌⊎◌, refl, ap, sym, ◌∙◌, subst, arith, length-append}
 use Rattle.std.specs.Prelude.{MatchBool}
 use Rattle.std.specs.List.{AllZip}
+use Rattle.ts_lists.proofs.Fronts.{two_cuts}
 use Rattle.ts_config.specs.declared.setup.TransformLine.{TransformLine}
 use Rattle.ts_config.specs.declared.setup.ConfigKind.{ConfigKind}
 use Rattle.ts_config.specs.declared.setup.ConfigKind.TheVariants as k
@@ -95,31 +96,6 @@ read_or_fault lines es n kind read fault =
           length-append (transforms_in fault.es) (transform_in f),
         )
 
--- two cuts of a list are the same, or one lies before the other
-cuts : (before : List (List ℕ)) (line : List ℕ) (after also_before : List (List ℕ)) (also : List ℕ)
-    (also_after : List (List ℕ)) → before ++ line ∷ after ≡ also_before ++ also ∷ also_after
-    → ((before ≡ also_before) × (line ≡ also)) ⊎ (((more : List (List ℕ))
-    × (also_before ≡ before ++ line ∷ more)) ⊎ ((more : List (List ℕ))
-    × (before ≡ also_before ++ also ∷ more)))
-cuts [] line after [] also also_after is = inl (refl, cc)
-cuts [] line after (b ∷ bs) also also_after is =
-    inr (inl (bs, let same : line ≡ b = cc in ap (λ x. x ∷ bs) (sym same)))
-cuts (b ∷ bs) line after [] also also_after is =
-    inr (inr (bs, let same : b ≡ also = cc in ap (λ x. x ∷ bs) same))
-cuts (b ∷ bs) line after (d ∷ ds) also also_after is =
-    let head : b ≡ d = cc in
-    let tail : bs ++ line ∷ after ≡ ds ++ also ∷ also_after = cc in
-    with_head head (cuts bs line after ds also also_after tail)
-  where
-    with_head : b ≡ d → ((bs ≡ ds) × (line ≡ also))
-        ⊎ (((more : List (List ℕ)) × (ds ≡ bs ++ line ∷ more))
-        ⊎ ((more : List (List ℕ)) × (bs ≡ ds ++ also ∷ more)))
-        → ((b ∷ bs ≡ d ∷ ds) × (line ≡ also)) ⊎ (((more : List (List ℕ)) × (d ∷ ds ≡ (b ∷ bs) ++ line ∷ more))
-        ⊎ ((more : List (List ℕ)) × (b ∷ bs ≡ (d ∷ ds) ++ also ∷ more)))
-    with_head head (inl (same, lines)) = inl (cc, lines)
-    with_head head (inr (inl (more, same))) = inr (inl (more, cc))
-    with_head head (inr (inr (more, same))) = inr (inr (more, cc))
-
 -- a fault among the first lines is one of these lines alone
 fault_before : (lines : List (List ℕ)) (n : ℕ) (kind : ConfigKind) (fault : IsFault lines n kind)
     (first more : List (List ℕ)) → first ≡ fault.before ++ fault.line ∷ more → IsFault first n kind
@@ -145,7 +121,7 @@ one_cause line ts a b (inr (e, means, many, too_many)) (inr (f, also, more, also
 pub one_fault : (lines : List (List ℕ)) (m n : ℕ) (a b : ConfigKind) → IsFault lines m a → IsFault lines n b
     → (m ≡ n) × (a ≡ b)
 one_fault lines m n a b first second =
-    by_place (cuts first.before first.line first.after second.before second.line second.after
+    by_place (two_cuts first.before first.line first.after second.before second.line second.after
     (sym first.lines_are ∙ second.lines_are))
   where
     by_place : ((first.before ≡ second.before) × (first.line ≡ second.line))

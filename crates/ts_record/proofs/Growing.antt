@@ -12,6 +12,7 @@ use Rattle.std.proofs.lemmas.Fmt.{decimal-digits_value}
 use Rattle.std.proofs.lemmas.Int.Digits.{digits_value_more, digits_more}
 use Rattle.std.proofs.lemmas.Str.{digit_value_digit}
 use Rattle.std.proofs.lemmas.Str.Parse.{digit_from_value}
+use Rattle.ts_lists.proofs.Elements.{each_push}
 use Rattle.ts_record.specs.Grammar.{TxnPieces, piece_before, pieces_before, inside_before, txns_text, IsRecordedPiece, IsTxn, KeepsLimits}
 use Rattle.ts_record.specs.Keywords.{keyword_text}
 use Rattle.ts_record.specs.Refusing.{txns_before, with_digit, DigitsStop, DigitsEnd}
@@ -19,11 +20,6 @@ use Rattle.ts_record.specs.declared.recording.TheConstants.{MOST_PIECE, MOST_TXN
 use Rattle.ts_record.specs.declared.keyword.Keyword.{Keyword}
 use Rattle.ts_record.specs.declared.keyword.Keyword.TheVariants as k
 use Rattle.ts_record.proofs.Numbers.{own}
-
-each_more : {A : Type 0} (P : A → Type 0) (xs : List A) (x : A) → AllByRecursion P xs → P x
-    → AllByRecursion P (xs ++ x ∷ [])
-each_more P [] x each is = (is, tt)
-each_more P (y ∷ ys) x each is = (each.0, each_more P ys x each.1 is)
 
 pieces_more : (side : Keyword) (behind p : List ℕ) (ps : List (List ℕ))
     → pieces_before side behind (ps ++ p ∷ []) ≡ pieces_before side
@@ -39,7 +35,7 @@ pub more_pieces : (side : Keyword) (bytes rest inside behind p : List ℕ) (ps n
     → new ≡ ps ++ p ∷ []
     → AllByRecursion IsRecordedPiece new × (bytes ≡ pieces_before side behind new)
 more_pieces side bytes rest inside behind p ps new each are opens text is push = (
-  subst (AllByRecursion IsRecordedPiece) (sym push) (each_more IsRecordedPiece ps p each is),
+  subst (AllByRecursion IsRecordedPiece) (sym push) (each_push IsRecordedPiece ps p each is),
   are ∙ ap (λ t. pieces_before side t ps) (opens ∙ ap (λ t. keyword_text side ++ t) text)
       ∙ sym (pieces_more side behind p ps) ∙ ap (pieces_before side behind) (sym push),
 )
@@ -58,7 +54,7 @@ pub more_txns : (bytes rest inside behind : List ℕ) (t : TxnPieces) (ts new : 
 more_txns bytes rest inside behind t ts new limits are few opens text is push = (
   record {
     few = omega (arith, ap length push, length-append ts (t ∷ []));
-    each = subst (AllByRecursion IsTxn) (sym push) (each_more IsTxn ts t limits.each is);
+    each = subst (AllByRecursion IsTxn) (sym push) (each_push IsTxn ts t limits.each is);
   },
   are ∙ ap (λ x. txns_before x ts) (opens ∙ ap (λ x. keyword_text k.Txn ++ x) text)
       ∙ sym (txns_more behind t ts) ∙ ap (txns_before behind) (sym push),

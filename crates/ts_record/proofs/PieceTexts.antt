@@ -5,12 +5,12 @@ use Rattle.std.specs.Str.Parse.{AllDigits}
 use Rattle.std.proofs.Math.ListN.{replicate}
 use Rattle.std.proofs.lemmas.List.{length-replicate, append-nil, take-append-drop}
 use Rattle.std.proofs.lemmas.Fmt.{digits_decimal, decimal_nonempty}
+use Rattle.ts_lists.proofs.Fronts.{same_fronts}
 use Rattle.ts_record.specs.Grammar.{piece_before, IsRecordedPiece}
 use Rattle.ts_record.specs.Refusing.{Opens, Stuck, BreaksOff, IsPieceText, LacksFeed, DigitsStop, DigitsEnd}
 use Rattle.ts_record.specs.declared.recording.TheConstants.{MOST_PIECE}
 use Rattle.ts_record.proofs.Numbers.{own, same_number, longer_digits, digit_among, goes_on, are_digits}
 use Rattle.ts_record.proofs.Places.{piece_behind, some_piece}
-use Rattle.ts_record.proofs.Same.{same_front}
 
 -- a text that begins with a piece behind its keyword
 record Begins (bytes : List ℕ) : Type 0 where
@@ -112,11 +112,6 @@ same_begin value inside bytes most text b =
     same_number value (length b.piece) inside (b.piece ++ 10 ∷ b.behind) (omega arith) b.small (sym text
     ∙ b.text)
 
--- a text that was split at a place
-pub halves : (xs front back : List ℕ) (n : ℕ) → front ≡ take n xs → back ≡ drop n xs → xs ≡ front ++ back
-halves xs front back n first second =
-    sym (take-append-drop n xs) ∙ ap (λ t. t ++ drop n xs) (sym first) ∙ ap (λ t. front ++ t) (sym second)
-
 -- the bytes end within the piece
 pub short_refused : (bytes inside : List ℕ) (value : ℕ) → Numbered bytes value inside → length inside < value
     → BreaksOff IsPieceText bytes 0
@@ -185,6 +180,6 @@ feed_refused bytes inside piece rest value n split long lacks = record {
         let b = begins (front ++ x ∷ more) opens in
         let is = same_begin value (piece ++ x ∷ more) (front ++ x ∷ more) n.most
         (append_assoc (decimal value) (10 ∷ piece) (x ∷ more)) b in
-        let rest = same_front piece b.piece (x ∷ more) (10 ∷ b.behind) (long ∙ is.0) is.1 in
+        let rest = same_fronts piece b.piece (x ∷ more) (10 ∷ b.behind) (long ∙ is.0) is.1 in
         let fed : (x ∷ more) ≡ (10 ∷ b.behind) = rest.1 in let feed : x ≡ 10 = cc in
         lack xs (ap (λ y. y ∷ xs) feed)

@@ -2,6 +2,7 @@
 use Rattle.std.proofs.Common.{◌≡◌, ℕ, List, [], ◌∷◌, ◌++◌, length, ap, sym, ◌∙◌, refl, arith, get_or}
 use Rattle.std.specs.List.{AllByRecursion}
 use Rattle.std.proofs.lemmas.List.{append_cancel_left}
+use Rattle.ts_lists.proofs.Fronts.{same_fronts}
 use Rattle.ts_record.specs.Grammar.{TxnPieces, piece_before, pieces_before, inside_before, txns_text, IsRecordedPiece, IsTxn, IsRecording}
 use Rattle.ts_record.specs.Keywords.{keyword_text, LacksKeyword}
 use Rattle.ts_record.specs.declared.keyword.Keyword.{Keyword}
@@ -29,21 +30,12 @@ pub end_not_txn : (x z : List ℕ) → keyword_text k.End ++ x ≡ keyword_text 
 end_not_txn x z = apart (keyword_text k.End ++ x) (keyword_text k.Txn ++ z) 0 101 116 refl refl
     (λ same. omega arith)
 
--- fronts of the same length of one text are the same
-pub same_front : (p q x y : List ℕ) → length p ≡ length q → p ++ x ≡ q ++ y → (p ≡ q) × (x ≡ y)
-same_front [] [] x y equal same = (refl, same)
-same_front [] (b ∷ q) x y equal same = absurd (omega arith)
-same_front (a ∷ p) [] x y equal same = absurd (omega arith)
-same_front (a ∷ p) (b ∷ q) x y equal same =
-    let first : a ≡ b = cc in let others : p ++ x ≡ q ++ y = cc in
-    let rest = same_front p q x y (omega arith) others in (cc (first, rest.0), rest.1)
-
 pub same_piece : (p q x y : List ℕ) → IsRecordedPiece p → IsRecordedPiece q
     → piece_before x p ≡ piece_before y q → (p ≡ q) × (x ≡ y)
 same_piece p q x y is also same =
     let number = same_number (length p) (length q) (p ++ 10 ∷ x) (q ++ 10 ∷ y) (omega arith)
     (omega arith) same in
-    let rest = same_front p q (10 ∷ x) (10 ∷ y) number.0 number.1 in
+    let rest = same_fronts p q (10 ∷ x) (10 ∷ y) number.0 number.1 in
     let fed : (10 ∷ x) ≡ (10 ∷ y) = rest.1 in (rest.0, cc)
 
 -- pieces before texts that do not go on with their keyword

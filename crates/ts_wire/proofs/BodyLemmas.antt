@@ -115,20 +115,3 @@ more_trailer fed body text t trailer =
           (sym (append_assoc pl text t));
       zero = trailer.zero;
     }
-
--- what was read of the bytes kept and new ones, if it is no longer than those kept, was there before
-pub was_there : (held piece p rest : List ℕ) → held ++ piece ≡ p ++ rest → length p ≤ length held
-    → held ≡ p ++ drop (length p) held
-was_there held piece p rest is short =
-    let n = length p in
-    let front : take n held ≡ p =
-    sym (take-append-le n held piece short) ∙ ap (take n) is ∙ take_at p rest n refl in
-    sym (take-append-drop n held) ∙ ap (λ l. l ++ drop n held) front
-
--- and if it is longer, it ends in the new ones
-pub ends_in : (held piece p rest : List ℕ) → held ++ piece ≡ p ++ rest → length held ≤ length p
-    → p ≡ held ++ take (length p - length held) piece
-ends_in held piece p rest is long =
-    let n : length p ≡ length held + (length p - length held) = omega arith in
-    sym (take_at p rest (length p) refl) ∙ ap (take (length p)) (sym is) ∙ ap (λ k. take k (held ++ piece)) n
-    ∙ take-append-add held piece (length p - length held)

@@ -1,12 +1,13 @@
 -- What the parser's answer on the first bytes says of all of them, for a head of either kind.
 use Rattle.std.proofs.Common.{◌≡◌, ℕ, ◌-◌, ◌<◌, ◌≤◌, List, [], ◌++◌, length, take, drop, sym, ap, subst, ◌∙◌, arith, inl, inr}
 use Rattle.std.proofs.lemmas.List.{take-append-le, take_all, append-nil, length-take, length-take-le, take_at, drop_at}
+use Rattle.ts_lists.proofs.Fronts.{front_of_front, take_past}
 use Rattle.httparse.specs.declared.spans.HeaderSpan.{HeaderSpan}
 use Rattle.httparse.specs.Grammar.{Field}
 use Rattle.httparse.specs.Spans.{AreFieldsAt, IsSectionWithin}
 use Rattle.ts_wire.specs.Limits.{head_limit, field_limit}
 use Rattle.ts_wire.specs.Heads.{BeginsWith, IsHeadOf, Lacks, Awaits, IsTooLong}
-use Rattle.ts_wire.proofs.HeadLemmas.{cut_front, in_front, front_and_more, few_fields}
+use Rattle.ts_wire.proofs.HeadLemmas.{front_and_more, few_fields}
 
 -- the head's own bytes hold the section that is in those with what follows
 pub section_own : (front text : List ℕ) (hs : List HeaderSpan) (len count : ℕ) → text ≡ take len front
@@ -56,7 +57,7 @@ module _ {H : Type 0} {Good : H → Type 0} {print : H → List ℕ} {lines : H 
       → AreFieldsAt front hs count (lines h)
       → Keeps h head → IsHeadOf Good print lines Keeps bytes head len
   found bytes front hs len count head is room within h reads len_is some fields keeps =
-      let begins = in_front head_limit bytes front (print h) (drop len front) is reads.1 in
+      let begins = front_of_front head_limit bytes front (print h) (drop len front) is reads.1 in
       let rest : bytes ≡ print h ++ drop len bytes =
       subst (λ n. bytes ≡ print h ++ drop n bytes) (sym len_is) begins in
       let short : length front ≤ head_limit = omega (arith, ap length is, length-take head_limit bytes) in
@@ -79,7 +80,7 @@ module _ {H : Type 0} {Good : H → Type 0} {print : H → List ℕ} {lines : H 
       → Lacks (BeginsWith Good print lines) bytes
   lacks_head bytes front is none h rest begins =
       none h (take (head_limit - length (print h)) rest)
-      (begins.reads.0, is ∙ cut_front head_limit bytes (print h) rest begins.reads.1 begins.short)
+      (begins.reads.0, is ∙ take_past head_limit bytes (print h) rest begins.reads.1 begins.short)
 
   -- where all the bytes of a head are there, what follows changes nothing
   pub full_of_none : {Exceeds : ℕ → List ℕ → Type 0} (bytes front : List ℕ) → front ≡ take head_limit bytes

@@ -18,23 +18,6 @@ use Rattle.ts_wire.specs.Limits.{head_limit}
 use Rattle.ts_wire.specs.declared.fields.Field as kept
 use Rattle.ts_wire.specs.Heads.{field_of, kept_field, span_field, IsFieldAt}
 
--- a front that is at most so long lies in the first n bytes
-pub cut_front : (n : ℕ) (bytes p rest : List ℕ) → bytes ≡ p ++ rest → length p ≤ n
-    → take n bytes ≡ p ++ take (n - length p) rest
-cut_front n bytes p rest is short =
-    let same : n ≡ length p + (n - length p) = omega arith in
-    ap (take n) is ∙ ap (λ k. take k (p ++ rest)) same ∙ take-append-add p rest (n - length p)
-
--- what the first n bytes begin with, the bytes begin with
-pub in_front : (n : ℕ) (bytes front p rest : List ℕ) → front ≡ take n bytes → front ≡ p ++ rest
-    → bytes ≡ p ++ drop (length p) bytes
-in_front n bytes front p rest is begins =
-    let whole : bytes ≡ p ++ (rest ++ drop n bytes) =
-    sym (take-append-drop n bytes) ∙ ap (λ l. l ++ drop n bytes) (sym is ∙ begins)
-    ∙ append_assoc p rest (drop n bytes) in
-    whole ∙ ap (λ l. p ++ l) (sym (ap (drop (length p)) whole
-    ∙ drop_at p (rest ++ drop n bytes) (length p) refl))
-
 -- more bytes follow the front of n bytes
 pub front_and_more : (n : ℕ) (bytes front more : List ℕ) → front ≡ take n bytes
     → bytes ++ more ≡ front ++ (drop n bytes ++ more)

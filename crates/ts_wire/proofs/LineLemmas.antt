@@ -2,6 +2,7 @@
 use Rattle.std.proofs.Common.{◌≡◌, ◌≢◌, ℕ, ◌-◌, ◌<◌, ◌≤◌, Bool, cond, eqb, List, [], ◌∷◌, ◌++◌, length, take, drop, refl, sym, ap, subst, ◌∙◌, ⊎_elim, arith, inl, inr, length-append}
 use Rattle.std.proofs.lemmas.List.{append-nil, length-take, take-take, take_all}
 use Rattle.std.proofs.lemmas.Bool.{cases_lt, cases_eq, lt-ltb, le-ltb, eq-eqb, ne_eqb}
+use Rattle.ts_lists.proofs.Fronts.{front_ends_in, front_was_there}
 use Rattle.httparse.specs.Grammar.{ChunkLine, print_chunk_line, HasNoChunkLine, MayBecomeChunkLine, MayBecomeSection}
 use Rattle.httparse.specs.Spans.{IsChunkLineAt}
 use Rattle.ts_wire.specs.declared.body.BodyState.TheVariants as S
@@ -12,7 +13,7 @@ use Rattle.ts_wire.specs.Limits.{body_limit, line_limit}
 use Rattle.ts_wire.specs.Body.{line_feeds, AfterChunks, InTrailer, IsBadChunked, no_line, long_line, long_body}
 use Rattle.ts_wire.specs.Judged.{IsLineOf, IsBadLine, never, full, large, JudgesLine, phase_after, is_line}
 use Rattle.ts_wire.specs.Place.{IsSoundPhase, StandsIn, GoesTo, StepsOn}
-use Rattle.ts_wire.proofs.BodyLemmas.{no_section_yet, section_may_begin, grow, was_there, ends_in}
+use Rattle.ts_wire.proofs.BodyLemmas.{no_section_yet, section_may_begin, grow}
 use Rattle.ts_wire.proofs.StepLemmas.{frame_steps}
 
 -- what the parser says of a whole line
@@ -79,7 +80,7 @@ front_new held bytes text p rest most t is long =
     let len : length t.piece ≤ length bytes = omega (arith, ap length t.piece_is, length-take most bytes) in
     let short : length t.piece ≤ most = omega (arith, ap length t.piece_is, length-take most bytes) in (
       omega arith,
-      ends_in held t.piece p rest (sym t.text_is ∙ is) (omega arith)
+      front_ends_in held t.piece p rest (sym t.text_is ∙ is) (omega arith)
           ∙ ap (λ l. held ++ l) (ap (take n) t.piece_is ∙ take-take n most bytes (omega arith)),
     )
 
@@ -92,7 +93,7 @@ line_long held bytes text most len size none t line =
     (λ (lt : length held < len). lt)
     (λ (ge : len ≤ length held). absurd (none line.line (drop (length p) held) (
       line.good.line,
-      was_there held t.piece p (drop len text) (sym t.text_is
+      front_was_there held t.piece p (drop len text) (sym t.text_is
           ∙ line.text_is) (omega (arith, ge, line.len_is)),
     )))
     (cases_lt (length held) len)

@@ -3,10 +3,10 @@ use Rattle.std.proofs.Common.{◌≡◌, ℕ, ◌+◌, ◌-◌, ◌<◌, ◌≤�
 use Rattle.std.specs.Prelude.{All}
 use Rattle.std.proofs.lemmas.List.{append-nil, take_all, take_at, drop_at}
 use Rattle.std.proofs.lemmas.List.Elements.{All-head, All-tail}
+use Rattle.ts_lists.proofs.Fronts.{same_fronts, take_past}
 use Rattle.httparse.specs.Ascii.{crlf_bytes}
 use Rattle.httparse.specs.Grammar.{ChunkLine, print_chunk_line, chunk_size, HasNoChunkLine, NeverHasChunkLine, MayBecomeChunkLine, Field, LineEnd, print_section, ReadsSection, HasNoSection, NeverHasSection, MayBecomeSection}
 use Rattle.httparse.proofs.ChunkLemmas.{chunk_line_unique}
-use Rattle.ts_wire.proofs.HeadLemmas.{cut_front}
 use Rattle.ts_wire.specs.declared.framing.Framing.TheVariants as F
 use Rattle.ts_wire.specs.declared.body.BodyState.{BodyState}
 use Rattle.ts_wire.specs.declared.body.BodyState.TheVariants.{Unfinished, Ended, Bad}
@@ -67,7 +67,7 @@ line_lacks tail rest l Bad good is (inl never) = never [] l rest (good.line, app
 line_lacks tail rest l Bad good is (inr (long, none)) =
     let p = print_chunk_line l in
     let front : take line_limit tail ≡ p ++ take (line_limit - length p) rest =
-    cut_front line_limit tail p rest is good.short in
+    take_past line_limit tail p rest is good.short in
     none l (take (line_limit - length p) rest) (good.line, front)
 
 lacks_one : (tail : List ℕ) (s t : BodyState) → LacksLine tail s → LacksLine tail t → s ≡ t
@@ -235,12 +235,6 @@ chunk_not_last c total rest tail more s good fits is (has l after line text last
 
 -- ---- the whole
 
-same_front : (a b x y : List ℕ) → length a ≡ length b → a ++ x ≡ b ++ y → (a ≡ b) × (x ≡ y)
-same_front a b x y len is = (
-  sym (take_at a x (length b) len) ∙ ap (take (length b)) is ∙ take_at b y (length b) refl,
-  sym (drop_at a x (length b) len) ∙ ap (drop (length b)) is ∙ drop_at b y (length b) refl,
-)
-
 -- two chunks that the same bytes begin with are the same, and so is what follows
 chunk_one : (c d : Chunk) (x y : List ℕ) → IsChunk c → IsChunk d → print_chunk c ++ x ≡ print_chunk d ++ y
     → (c.content ≡ d.content) × (x ≡ y)
@@ -252,7 +246,7 @@ chunk_one c d x y good good' is =
           ∙ chunk_text d y,
     ) in
     let len : length c.content ≡ length d.content = sym good.size ∙ ap chunk_size lines.0 ∙ good'.size in
-    let parts = same_front c.content d.content (crlf_bytes ++ x) (crlf_bytes ++ y) len lines.1 in
+    let parts = same_fronts c.content d.content (crlf_bytes ++ x) (crlf_bytes ++ y) len lines.1 in
     (parts.0, ap (drop 2) parts.1)
 
 chunks_one : (cs ds : List Chunk) (total : ℕ) (x y m n : List ℕ) (s t : BodyState) → All IsChunk cs

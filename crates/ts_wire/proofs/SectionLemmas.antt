@@ -4,10 +4,10 @@ use Rattle.std.specs.Prelude.{All, flat_map, IsTrue}
 use Rattle.std.proofs.lemmas.List.Elements.{All-head, All-tail}
 use Rattle.std.proofs.lemmas.List.Sums.{sum_by-cons}
 use Rattle.std.proofs.lemmas.Bool.{cases_eq, cases_lt, ne_eqb}
+use Rattle.ts_lists.proofs.Fronts.{front_ends_in, front_was_there}
 use Rattle.httparse.specs.Grammar.{is_token_byte, is_value_byte, AllPass, LineEnd, crlf, lf, print_end, Field, IsField, print_field, print_section}
 use Rattle.ts_wire.specs.Limits.{trailer_limit, trailer_lines}
 use Rattle.ts_wire.specs.Body.{line_feeds, LacksTrailer}
-use Rattle.ts_wire.proofs.BodyLemmas.{was_there, ends_in}
 use Rattle.ts_wire.proofs.TrailerLemmas.{line_feeds-append, end_has_one}
 
 -- bytes of a class without line feeds have none
@@ -68,9 +68,9 @@ lacks_more text rest full lacks fields last after reads few short =
     (λ (lines : trailer_lines ≤ line_feeds text).
     let front = section_front fields last reads.0 in
     let split : front.0 ++ 10 ∷ [] ≡ text ++ take (length p - length text) rest =
-    sym front.1 ∙ ends_in text rest p after reads.1 (omega (arith, longer)) in
+    sym front.1 ∙ front_ends_in text rest p after reads.1 (omega (arith, longer)) in
     let inside : front.0 ≡ text ++ drop (length text) front.0 =
-    was_there front.0 (10 ∷ []) text _ split (omega (
+    front_was_there front.0 (10 ∷ []) text _ split (omega (
       arith,
       ap length front.1,
       length-append front.0 (10 ∷ []),
@@ -87,6 +87,6 @@ lacks_more text rest full lacks fields last after reads few short =
     full)
     (λ (within : length p ≤ length text). lacks fields last (drop (length p) text) (
       reads.0,
-      was_there text rest p after reads.1 within,
+      front_was_there text rest p after reads.1 within,
     ) few short)
     (cases_lt (length text) (length p))

@@ -4,6 +4,7 @@ use Rattle.std.specs.Prelude.{flat_map}
 use Rattle.std.proofs.lemmas.List.{append-nil, length-take}
 use Rattle.std.proofs.lemmas.List.Sums.{sum_by-append}
 use Rattle.std.proofs.lemmas.Bool.{cases_lt}
+use Rattle.ts_lists.proofs.Fronts.{front_was_there}
 use Rattle.httparse.specs.Grammar.{LineEnd, crlf, lf, print_end, Field, print_field, print_section, HasNoSection, MayBecomeSection}
 use Rattle.httparse.specs.Spans.{SectionOverflows, SectionExceeds}
 use Rattle.ts_wire.specs.Limits.{trailer_limit, trailer_fields, trailer_lines}
@@ -14,7 +15,7 @@ use Rattle.ts_wire.specs.declared.phases.FrontStep.{FrontStep}
 use Rattle.ts_wire.specs.Body.{line_feeds, InTrailer, LacksTrailer, IsEndedChunked, IsBadChunked, no_trailer, long_trailer}
 use Rattle.ts_wire.specs.Judged.{IsTrailerOf, IsBadTrailer, never, long, JudgesTrailer, is_trailer}
 use Rattle.ts_wire.specs.Place.{IsSoundPhase, StandsIn, StepsOn}
-use Rattle.ts_wire.proofs.BodyLemmas.{more_trailer, was_there}
+use Rattle.ts_wire.proofs.BodyLemmas.{more_trailer}
 use Rattle.ts_wire.proofs.StepLemmas.{frame_steps}
 use Rattle.ts_wire.proofs.LineLemmas.{IsText, all_new, front_new}
 
@@ -76,7 +77,7 @@ trailer_long held bytes text most len none t trailer =
     (λ (lt : length held < len). lt)
     (λ (ge : len ≤ length held). absurd (none trailer.fields trailer.last (drop (length p) held) (
       trailer.reads.0,
-      was_there held t.piece p (drop len text) (sym t.text_is
+      front_was_there held t.piece p (drop len text) (sym t.text_is
           ∙ trailer.reads.1) (omega (arith, ge, trailer.len_is)),
     )))
     (cases_lt (length held) len)

@@ -1,5 +1,6 @@
 use Rattle.std.proofs.Common.{inl, inr, arith}
-use Rattle.ts_record.proofs.PieceTexts.{number_refused, numbered, short_refused, feed_refused, halves}
+use Rattle.ts_lists.proofs.Fronts.{front_and_rest}
+use Rattle.ts_record.proofs.PieceTexts.{number_refused, numbered, short_refused, feed_refused}
 use Rattle.ts_record.proofs.piece.read_piece.Goals as goal
 
 pub returns-then-length-eq0-clause-refused : goal.returns-then-length-eq0-clause-refused
@@ -25,5 +26,5 @@ returns-in-None-clause-refused c =
     c.read_length-length.result.0
     (numbered c.args.bytes.now c.read_length-length.result.1.now c.in-Some.rest.now
     c.read_length-length.result.0 c.read_length-length.ensures (omega arith) c.in-Some.ensures.some)
-    (halves c.in-Some.rest.now c.split_at.result.0.now c.split_at.result.1.now c.read_length-length.result.0
+    (front_and_rest c.in-Some.rest.now c.split_at.result.0.now c.split_at.result.1.now c.read_length-length.result.0
     c.split_at.ensures.front c.split_at.ensures.back) c.split_at.ensures.front_len c.in-None.ensures.none
