@@ -5,7 +5,7 @@ ghost use Rattle.ts_group.specs.Standing.{StandsAfter};
 ghost use Rattle.ts_slot.specs.Views.{Coherent};
 ghost use Rattle.ts_slot.specs.Words.{tags_of, view};
 ghost use Rattle.ts_thread.specs.Seats.{More};
-ghost use Rattle.ts_thread.specs.Started.{CanStart, IsFirst, AllStarted};
+ghost use Rattle.ts_thread.specs.Started.{CanStart, IsFirst, AllStarted, HasPut};
 ghost use Rattle.ts_thread.specs.Threads.{IsPair, IsOpening, HasOpened};
 ghost use Rattle.ts_thread.specs.Whole.{CanBeRun, HaveRun};
 
@@ -21,8 +21,9 @@ use ts_queue::{EventQueue, QueuePass};
 use ts_slot::{Seat, Slots};
 use ts_wheel::Wheel;
 
-/// Starts the first so many groups, each in a turn of its own, by a seat and a pass of their own, which are joined to these
-/// then.
+/// Starts the first so many groups, each in a turn of its own, by a seat and a pass of their own, which are
+/// joined to these then. The tokens of their first events stand in the queue. A pass whose serials are used up
+/// is answered as want of memory is.
 pub fn start_groups<W: World + Drop, R: Wait>(
     rt: &R,
     alloc: Global,
@@ -35,12 +36,13 @@ pub fn start_groups<W: World + Drop, R: Wait>(
     requires pair { IsPair slots.now queue.now seat.old pass.old }
     requires opening { IsOpening seat.old pass.old }
     requires tags { CanStart W.only_asked (tags_of slots.now) starts }
-    ensures pair { OnOk result (IsPair slots.now queue.now seat.new pass.new) }
-    ensures opened { OnOk result (HasOpened starts seat.new pass.new) }
-    ensures knows { OnOk result (More (view seat.old).known (view seat.new).known) }
+    ensures pair { IsPair slots.now queue.now seat.new pass.new }
+    ensures opened { HasOpened starts seat.new pass.new }
+    ensures knows { More (view seat.old).known (view seat.new).known }
     ensures later { OnOk result (Coherent (StandsAfter W.fits) (view seat.new).known) }
     ensures started { OnOk result (AllStarted W.Question W.Reply W.Trace W.fits
-        (IsFirst W.is_first (tags_of slots.now)) W.begun W.sound (view seat.new).known starts) }
+        (IsFirst W.is_first (tags_of slots.now)) W.begun W.sound (HasPut pass.new)
+        (view seat.new).known starts) }
 {
     let wheel = Wheel::new(alloc)?;
     let own_pass = queue.split(pass)?;
@@ -51,6 +53,7 @@ pub fn start_groups<W: World + Drop, R: Wait>(
         wheel,
     };
     let started = start_all(rt, slots, queue, &mut desk, starts);
+    let waits = desk.wheel.next_due();
     let Desk {
         seat: own_seat,
         pass: own_pass,
@@ -58,6 +61,9 @@ pub fn start_groups<W: World + Drop, R: Wait>(
     } = desk;
     slots.join(seat, own_seat);
     queue.join(pass, own_pass);
+    let None = waits else {
+        return Err(NoMemory);
+    };
     started
 }
 
