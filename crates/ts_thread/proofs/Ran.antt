@@ -1,5 +1,5 @@
 -- Runs of threads to their ends, and how those of several are joined.
-use Rattle.std.proofs.Common.{◌≡◌, ℕ, zero, suc, ◌-◌, ◌<◌, List, [], Bool, true, false, Option, Result, Ok, Err, sym, subst, arith}
+use Rattle.std.proofs.Common.{◌≡◌, ℕ, zero, suc, ◌-◌, ◌<◌, List, [], Bool, true, false, Option, Result, Ok, Err, subst, arith}
 use Rattle.std.specs.Prelude.{◌&&◌, IfOk, is_ok}
 use Rattle.std.specs.Bool.{OnTrue}
 use Rattle.ts_link.specs.declared.octets.NoMemory.{NoMemory}
@@ -47,7 +47,16 @@ module _ {W Q R T U : Type 0} {d : Ghosts (Group W Q R T U) T (Group W Q R T U)}
       absurd (omega arith)
   one_more_ran (suc (suc n)) more seat back one one' rest rest' pass back_pass p p' q q' split joins others ran =
       let count : suc (suc n) - 1 ≡ suc n = omega arith in (
-        one, one', rest, rest', p, p', q, q', split, ran,
+        one,
+        one',
+        rest,
+        rest',
+        p,
+        p',
+        q,
+        q',
+        split,
+        ran,
         subst (λ m. AllRanToEnd Fits Asking Answers Called Heard Left tags budget m rest q rest' q') count others,
         joins,
       )

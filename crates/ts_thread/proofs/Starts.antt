@@ -157,8 +157,8 @@ module _ {W T : Type 0} (Q R U : Type 0) (Fits : T → W → Type 0) (First : �
       ⊎_elim
       (λ (less : k < n). started_more xs ys k more (stays k) (all k less))
       (λ (past : n ≤ k).
-          let e : k ≡ n = omega arith in
-          subst (Started Q R U Fits First Begun Sound Has ys) (sym e) one)
+      let e : k ≡ n = omega arith in
+      subst (Started Q R U Fits First Begun Sound Has ys) (sym e) one)
       (cases_lt k n)
 
 -- what holds of each entry of a list holds of one that stands in it

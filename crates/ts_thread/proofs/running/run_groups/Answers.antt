@@ -55,13 +55,13 @@ returns-clause-ran g c = record {
   back_pass = c.run_threads-seat.result.1;
   started = subst
       (λ ts. AllStarted g.row.W-Question.Denot g.row.W-Reply.Denot g.row.W-Trace.Denot g.W.Slotted.fits (IsFirst g.W.World.is_first ts)
-          g.W.World.begun g.W.World.sound (HasPut c.start_groups.new.pass) (view c.start_groups.new.seat).known c.args.starts)
+      g.W.World.begun g.W.World.sound (HasPut c.start_groups.new.pass) (view c.start_groups.new.seat).known c.args.starts)
       c.in-Ok.ensures.tags c.in_ok-start_groups.ensures.started;
   ran =
       let ended : c.run_threads-seat.result.2 ≡ true = let is = c.if-not-ended.false in grind arith in
       subst
       (λ ts. AllRanToEnd g.W.Slotted.fits g.W.World.asking g.W.World.answers g.W.World.called g.W.World.heard g.W.World.left ts c.args.budget c.args.threads
-          c.start_groups.new.seat c.start_groups.new.pass c.run_threads-seat.result.0 c.run_threads-seat.result.1)
+      c.start_groups.new.seat c.start_groups.new.pass c.run_threads-seat.result.0 c.run_threads-seat.result.1)
       c.in-Ok.ensures.tags
       (where_true c.run_threads-seat.result.2 ended c.run_threads-seat.ensures.ran);
   stand = λ k x at. (c.in-Ok-close.ensures.values k x at).later;

@@ -28,5 +28,5 @@ returns-clause-started g c =
     c.args.starts
     (joined_more (view c.split-own_seat.new.seat) (view c.start_all-started.new.desk.seat) (view c.join.new.into) c.join.ensures.both)
     (λ k p has. joined_put _ (pass_view c.split.new.pass) (pass_view c.start_all-started.new.desk.pass) (pass_view c.join-2.new.into) c.join-2.ensures.both
-        (place_put GREATEST c.start_all-started.new.desk (none_waits c.start_all-started.new.desk.wheel (sym c.next_due-waits.ensures ∙ c.in-None.is)) k p has)))
+    (place_put GREATEST c.start_all-started.new.desk (none_waits c.start_all-started.new.desk.wheel (sym c.next_due-waits.ensures ∙ c.in-None.is)) k p has)))
     c.start_all-started.ensures.started

@@ -11,7 +11,7 @@ pub returns-in_err-start_one-clause-keeps : goal.returns-in_err-start_one-clause
 returns-in_err-start_one-clause-keeps g c =
     let low = c.starts-test.true in
     keeps_tokens c.args.desk.now c.starts.desk c.start_one.new.desk c.starts.k 1 c.args.starts (omega arith)
-        c.starts.invariant.1 c.start_one.ensures.keeps
+    c.starts.invariant.1 c.start_one.ensures.keeps
 
 pub starts-preserved : goal.starts-preserved
 starts-preserved g c =

@@ -34,15 +34,15 @@ returns-clause-ran g t c =
     let some = c.requires.ready.some in
     both_true c.join-one.result.1.2 c.join-one.result.0.2
     (one_more_ran g.W.Slotted.fits g.W.World.asking g.W.World.answers g.W.World.called g.W.World.heard g.W.World.left
-        (tags_of c.args.slots.now) c.args.budget c.args.threads (omega arith)
-        c.args.seat c.join.new.into _ c.join-one.result.0.0 _ c.join-one.result.1.0
-        c.args.pass c.join-2.new.into _ c.join-one.result.0.1 _ c.join-one.result.1.1
-        (record {
-          one_seat = c.split-other_seat.ensures.right;
-          rest_seat = c.split-other_seat.ensures.left;
-          one_part = c.in-Ok.ensures.split.1;
-          rest_part = c.in-Ok.ensures.kept;
-        })
-        (record { seats = c.join.ensures.both; passes = c.join-2.ensures.both }))
+    (tags_of c.args.slots.now) c.args.budget c.args.threads (omega arith)
+    c.args.seat c.join.new.into _ c.join-one.result.0.0 _ c.join-one.result.1.0
+    c.args.pass c.join-2.new.into _ c.join-one.result.0.1 _ c.join-one.result.1.1
+    (record {
+      one_seat = c.split-other_seat.ensures.right;
+      rest_seat = c.split-other_seat.ensures.left;
+      one_part = c.in-Ok.ensures.split.1;
+      rest_part = c.in-Ok.ensures.kept;
+    })
+    (record { seats = c.join.ensures.both; passes = c.join-2.ensures.both }))
     c.join-one.ensures.second.1
     c.join-one.ensures.first.1
