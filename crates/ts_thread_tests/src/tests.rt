@@ -1,15 +1,12 @@
 //! Rows of peers that are run and driven to their end, and single turns of a thread.
 
-ghost use Rattle.std.specs.Prelude.{◌<◌, ◌≤◌};
-ghost use Rattle.ts_thread.specs.declared.TheConstants.{MOST_THREADS};
+ghost use Rattle.std.specs.Prelude.{◌≤◌};
 
 use crate::row::{Tally, drive_row, first_seat, make_row, run_row, tally_of};
 use crate::toys::{ToyTally, run_tally};
 use crate::turns::{play, play_held, play_runs};
 use std::alloc::Global;
-use std::sync::Wait;
 use std::test::Fail;
-use std::thread::Threads;
 use ts_group_tests::burst::Burst;
 use ts_group_tests::heir::Heir;
 use ts_group_tests::steps::{Countdown, Steps};
@@ -79,25 +76,14 @@ fn a_worn_peer_is_not_asked(rt: HostRuntime) -> Result<(), Fail> {
     Ok(())
 }
 
-// What stands of a row at the end that so many threads ran.
-fn ran_by<R: Threads + Wait + Sync>(
-    rt: &R,
-    alloc: Global,
-    threads: u32,
-) -> Result<Tally, Unfinished>
-    requires { (0 < threads) × (threads ≤ MOST_THREADS) }
-{
-    let groups = run_row(rt, alloc, 3, threads, &OpenGate::make())?;
-    Ok(tally_of(&groups))
-}
-
 // The same, run by 1, 2, 8 and 64 threads.
 #[test]
 fn threads_run_a_row_to_its_end(rt: HostRuntime) -> Result<(), Fail> {
-    assert_eq!(rt; ran_by(&rt, rt.alloc(), 1)?, DONE);
-    assert_eq!(rt; ran_by(&rt, rt.alloc(), 2)?, DONE);
-    assert_eq!(rt; ran_by(&rt, rt.alloc(), 8)?, DONE);
-    assert_eq!(rt; ran_by(&rt, rt.alloc(), 64)?, DONE);
+    let gate = OpenGate::make();
+    assert_eq!(rt; tally_of(&run_row(&rt, rt.alloc(), 3, 1, &gate)?), DONE);
+    assert_eq!(rt; tally_of(&run_row(&rt, rt.alloc(), 3, 2, &gate)?), DONE);
+    assert_eq!(rt; tally_of(&run_row(&rt, rt.alloc(), 3, 8, &gate)?), DONE);
+    assert_eq!(rt; tally_of(&run_row(&rt, rt.alloc(), 3, 64, &gate)?), DONE);
     Ok(())
 }
 
