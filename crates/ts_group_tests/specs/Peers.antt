@@ -13,8 +13,8 @@ use Rattle.ts_group_tests.specs.declared.peer.TheConstants.{ASKED, MOST_TODO}
 abbrev pub PeerFits : Bool → Peer → Type 0
 PeerFits t w = t ≡ w.only_asked
 
--- At most one event is pending, a plain one, and none before the peer has a continuation. One that is whole, and not only
--- asked, has an event while steps are left.
+-- At most one event is pending, a plain one, and none before the peer has a continuation. One that is whole,
+-- and not only asked, has an event while steps are left.
 pub record PeerSound (w : Peer) (s : State) (roles : List Named) : Type 0 where
   pub plain : AllPlain s.pending
   pub one : length s.pending ≤ 1

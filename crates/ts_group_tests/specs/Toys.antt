@@ -1,5 +1,5 @@
--- What holds of the worlds that ask nobody, and what they tell. What each has to do is its tag's number in all; as long as
--- it is whole, an event is pending until all of that is done.
+-- What holds of the worlds that ask nobody, and what they tell. What each has to do is its tag's number in
+-- all; as long as it is whole, an event is pending until all of that is done.
 use Rattle.std.specs.Prelude.{◌≡◌, ℕ, ◌+◌, ◌*◌, ◌≤◌, Bool, true, Option, Some, None, IfSome, IsSome, length, unwrap_or, if◌then◌else◌}
 use Rattle.std.proofs.Common.{refl, sym, subst, arith}
 use Rattle.ts_journal.specs.State.{State, IsLive}
@@ -27,8 +27,8 @@ pub record StepsSound {P : Type 0} (steps : P → ℕ) (w : Steps P) (s : State)
 abbrev pub BurstFits : ℕ → Burst → Type 0
 BurstFits t w = w.done + w.bursts ≡ t
 
--- No event is periodic. A world that is whole has an event while bursts are left, and handled each event that it set,
--- but for those that are pending.
+-- No event is periodic. A world that is whole has an event while bursts are left, and handled each event that
+-- it set, but for those that are pending.
 pub record BurstSound (w : Burst) (s : State) : Type 0 where
   pub plain : AllPlain s.pending
   pub few : w.handled + length s.pending ≤ s.next

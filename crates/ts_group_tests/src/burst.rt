@@ -12,8 +12,8 @@ use ts_journal::{ContKey, Event, Slotted};
 /// How many calls a handler asks for.
 pub const CALLS: u32 = 65;
 
-/// A world whose handlers call the target 65 times each, as long as bursts are left. Its tag tells how many bursts it has
-/// in all.
+/// A world whose handlers call the target 65 times each, as long as bursts are left. Its tag tells how many
+/// bursts it has in all.
 #[derive(Drop)]
 pub struct Burst {
     pub target: Option<ContKey>,

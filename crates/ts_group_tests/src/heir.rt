@@ -7,8 +7,8 @@ ghost use Rattle.ts_group_tests.specs.Toys.{HeirFits, HeirSound, heir_left};
 use ts_group::{Asked, Cx, Want, World};
 use ts_journal::{ContKey, Event, Slotted};
 
-/// A world whose handler destroys its own continuation, and makes another with an event of its own as long as heirs are
-/// left. Its tag tells how many heirs there are in all.
+/// A world whose handler destroys its own continuation, and makes another with an event of its own as long as
+/// heirs are left. Its tag tells how many heirs there are in all.
 #[derive(Drop)]
 pub struct Heir {
     /// Whether it has plain events alone. Only then does it tell what is left.

@@ -21,8 +21,8 @@ pub const ASKED: u32 = 8;
 /// How many steps a peer has to do at most.
 pub const MOST_TODO: u32 = 1000;
 
-/// A world that has so many steps to do, each at an event of its own. For a step it asks another peer, where it is one
-/// that asks. A peer that is only asked adds one to a number.
+/// A world that has so many steps to do, each at an event of its own. For a step it asks another peer, where
+/// it is one that asks. A peer that is only asked adds one to a number.
 #[derive(Drop)]
 pub struct Peer {
     pub only_asked: bool,

@@ -197,7 +197,8 @@ fn a_group_asks_another(rt: HostRuntime) -> Result<(), Fail> {
     Ok(())
 }
 
-// The turns of a group that stands in a slot are recorded under the numbers that the slot gives, each with its seat.
+// The turns of a group that stands in a slot are recorded under the numbers that the slot gives, each with
+// its seat.
 #[test]
 fn turns_at_a_slot_are_recorded(rt: HostRuntime) -> Result<(), Fail> {
     let mut groups = Vec::new(rt.alloc());

@@ -1,10 +1,12 @@
 -- Seats and passes that are split among threads and joined again.
 use Rattle.std.proofs.Common.{◌≡◌, ℕ, zero, suc, ◌+◌, ◌-◌, ◌*◌, ◌≤◌, inl, inr, List, [], ◌∷◌, ◌++◌, length, length-append, sym, ap, ◌∙◌, subst, arith}
+use Rattle.ts_queue.specs.declared.ticket.Token.{Token}
 use Rattle.ts_queue.specs.declared.view.View.{View as Known}
 use Rattle.ts_queue.specs.Views.{kept_part, split_part, with_joined}
 use Rattle.ts_slot.specs.declared.view.View.{View}
 use Rattle.ts_slot.specs.Lists.{IsIn}
 use Rattle.ts_slot.specs.Views.{left_half, right_half, joined}
+use Rattle.ts_thread.specs.News.{HasTicket}
 use Rattle.ts_thread.specs.Seats.{More, KeepsSeat}
 
 -- one and all but one
@@ -18,6 +20,11 @@ one_and_rest (suc n) m h = let e : suc n - 1 ≡ n = omega arith in ap (λ k. m 
 in_append : {A : Type 0} (e : A) (xs ys : List A) → IsIn e ys → IsIn e (xs ++ ys)
 in_append e [] ys h = h
 in_append e (x ∷ xs) ys h = inr (in_append e xs ys h)
+
+in_front : {A : Type 0} (e : A) (xs ys : List A) → IsIn e xs → IsIn e (xs ++ ys)
+in_front e [] ys h = absurd h
+in_front e (y ∷ xs) ys (inl here) = inl here
+in_front e (y ∷ xs) ys (inr more) = inr (in_front e xs ys more)
 
 module _ {G T : Type 0} where
   -- a seat was split, each half kept what it had, and they were joined
@@ -41,11 +48,10 @@ module _ {G T : Type 0} where
   -- what the seat that was split off knows, the two know together
   pub joined_more : (u w x : View G T) → x ≡ joined u w → More w.known x.known
   joined_more u w x is = record { stays = λ e h. subst (IsIn e) (sym (ap (λ (y : View G T). y.known) is)) (in_front e w.known u.known h) }
-    where
-      in_front : {A : Type 0} (e : A) (xs ys : List A) → IsIn e xs → IsIn e (xs ++ ys)
-      in_front e [] ys h = absurd h
-      in_front e (y ∷ xs) ys (inl here) = inl here
-      in_front e (y ∷ xs) ys (inr more) = inr (in_front e xs ys more)
+
+-- what the pass that was split off put, the two have put together
+pub joined_put : (t : Token) (u w x : Known) → x ≡ with_joined u w → HasTicket t w.put → HasTicket t x.put
+joined_put t u w x is put = (put.0, subst (IsIn put.0) (sym (ap (λ (y : Known). y.put) is)) (in_front put.0 w.put u.put put.1), put.2)
 
 -- the same for the shares of a pass
 pub joined_share : (v w u x : Known) → 1 ≤ v.share → w.share ≡ (split_part v).share → u.share ≡ (kept_part v).share → x ≡ with_joined u w → x.share ≡ v.share

@@ -13,3 +13,4 @@ mod Telling
 mod Tokens
 mod Uses
 mod Worked
+pub mod Ran

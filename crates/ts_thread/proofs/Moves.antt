@@ -1,5 +1,5 @@
 -- How one group goes on: in a turn that it has, and over whole turns.
-use Rattle.std.proofs.Common.{◌≡◌, ◌⊎◌, ℕ, ◌+◌, ◌*◌, ◌<◌, ◌≤◌, max, Bool, true, false, cond, List, [], Option, Some, None, Result, Ok, Err, ◌++◌, inl, inr, refl, ap, sym, ◌∙◌, subst, arith}
+use Rattle.std.proofs.Common.{◌≡◌, ◌⊎◌, ℕ, ◌+◌, ◌*◌, ◌<◌, ◌≤◌, max, Bool, true, false, cond, List, [], Option, Some, None, Result, Ok, ◌++◌, inl, inr, refl, ap, sym, ◌∙◌, subst, arith}
 use Rattle.std.specs.Bool.{OnTrue}
 use Rattle.std.specs.Result.{IsErrOf}
 use Rattle.ts_journal.specs.declared.entry.ContKey.{ContKey}

@@ -1,5 +1,5 @@
 -- Groups that are started, from their first turns to the end.
-use Rattle.std.proofs.Common.{◌≡◌, ℕ, zero, suc, ◌+◌, ◌-◌, ◌*◌, ◌<◌, ◌≤◌, inl, inr, Bool, true, false, cond, eqb, List, [], ◌∷◌, length, All, refl, sym, ap, ◌∙◌, subst, ⊎_elim, arith}
+use Rattle.std.proofs.Common.{◌≡◌, ℕ, zero, suc, ◌+◌, ◌-◌, ◌*◌, ◌<◌, ◌≤◌, inl, inr, Bool, true, false, cond, eqb, List, [], ◌∷◌, Some, None, length, All, refl, sym, ap, ◌∙◌, subst, ⊎_elim, arith}
 use Rattle.std.specs.Bool.{OnTrue}
 use Rattle.std.specs.List.{AllZip}
 use Rattle.std.proofs.lemmas.Bool.{cases_lt}
@@ -7,24 +7,50 @@ use Rattle.std.proofs.lemmas.List.Elements.{All-nil, All-cons, All-head, All-tai
 use mathlib.Core.Option.{some}
 use lib.ListN.{get_elem?}
 use Rattle.ts_journal.specs.declared.slotted.Slotted.{Ghosts}
-use Rattle.ts_journal.specs.State.{State}
+use Rattle.ts_journal.specs.declared.entry.Pending.{Pending}
+use Rattle.ts_journal.specs.State.{State, pending_at}
 use Rattle.ts_journal.specs.Later.{IsLater}
 use Rattle.ts_group.specs.declared.action.Named.{Named}
 use Rattle.ts_group.specs.declared.group.Group.{Group}
 use Rattle.ts_group.specs.declared.slot.TheConstants.{MOST_IN_TURN}
 use Rattle.ts_group.specs.Due.{NoNews}
 use Rattle.ts_group.specs.Standing.{StandsAfter, follows_on}
+use Rattle.ts_queue.specs.declared.ticket.Token.{Token}
 use Rattle.ts_slot.specs.declared.seat.Turn.{Turn}
 use Rattle.ts_slot.specs.declared.view.View.{View}
 use Rattle.ts_slot.specs.Limits.{last_turn}
 use Rattle.ts_slot.specs.Lists.{Each, IsIn, same, entries}
 use Rattle.ts_slot.specs.Views.{Coherent, firsts, won, IsAfter}
+use Rattle.ts_wheel.specs.Due.{next_moment}
+use Rattle.ts_thread.specs.declared.desk.Desk.{Desk}
 use Rattle.ts_thread.specs.Entering.{IsEntered}
 use Rattle.ts_thread.specs.Held.{HasTurn, BeginsSame, StartsInTurn, FitsHere, WillFit}
+use Rattle.ts_thread.specs.News.{HasPlaceAt, KeepsPlaces}
 use Rattle.ts_thread.specs.Seats.{More, KeepsSeat, Leaves, KnowsTurn}
-use Rattle.ts_thread.specs.Started.{IsFirst, Starts, WasStarted, Started, AllStarted}
+use Rattle.ts_thread.specs.Started.{HasPut, IsFirst, Starts, WasStarted, Started, AllStarted}
 use Rattle.ts_thread.proofs.Groups.{keeps_same, turn_follows, has_gone}
 use Rattle.ts_thread.proofs.Seats.{keeps_trans, won_left}
+
+-- what has a place at a desk keeps it
+pub place_stays : {X G T : Type 0} {d : Ghosts X G T} (moment : ℕ) (old new : Desk X G T d) → KeepsPlaces old new
+    → (k : ℕ) (p : Pending) → HasPlaceAt moment old k p → HasPlaceAt moment new k p
+place_stays moment old new keeps k p has = elim has [
+  | inl waits ↦ inl (keeps.wheel _ waits)
+  | inr put ↦ inr (put.0, keeps.put _ put.1)
+]
+
+-- a wheel in which no token waits is empty
+pub none_waits : (wheel : List (ℕ × Token)) → next_moment wheel ≡ None → wheel ≡ []
+none_waits [] none = refl
+none_waits (e ∷ es) none = absurd (cc)
+
+-- where the wheel is empty, what has a place was put
+pub place_put : {X G T : Type 0} {d : Ghosts X G T} (moment : ℕ) (desk : Desk X G T d) → desk.wheel ≡ []
+    → (k : ℕ) (p : Pending) → HasPlaceAt moment desk k p → HasPut desk.pass k p
+place_put moment desk none k p has = elim has [
+  | inl waits ↦ absurd (subst (IsIn _) none waits)
+  | inr put ↦ put.1
+]
 
 -- one element stands at a place
 pub same_at : {A : Type 0} (xs : List A) (k : ℕ) (x y : A) → get_elem? xs k ≡ some x → get_elem? xs k ≡ some y → x ≡ y
@@ -64,11 +90,13 @@ module _ {W Q R T U : Type 0} (Fits : T → W → Type 0) (Sound : W → State �
       )
 
   -- a group was entered, started and left
-  pub starts_one : (k turn seat : ℕ) (found v g0 g1 g1' g2 left : Group W Q R T U) (old before entered new : View T (Group W Q R T U)) → FitsHere Fits Sound only_asked is_first tags k v → found ≡ v → g0 ≡ v
+  pub starts_one : (HasToken : ℕ → Pending → Type 0) (k turn seat : ℕ) (found v g0 g1 g1' g2 left : Group W Q R T U) (old before entered new : View T (Group W Q R T U)) → FitsHere Fits Sound only_asked is_first tags k v → found ≡ v → g0 ≡ v
       → HasTurn Fits g0 g1 turn seat → BeginsSame g0 g1 → g1' ≡ g1 → StartsInTurn Fits Sound Begun g1' g2 → v.cx.log.state.turns < turn → entered ≡ won k turn v before → Leaves entered new
-      → left.world ≡ g2.world → left.cx.log.base ≡ g2.cx.log.base → IsLater g2.cx.log.state left.cx.log.state → NoNews left.cx.news_from left.cx.log.state → KnowsTurn k turn left new.known
-      → Starts Fits (IsFirst is_first tags) Begun Sound k turn found g2 left new.known
-  starts_one k turn seat found v g0 g1 g1' g2 left old before entered new fit is_found is has same is1 starts young wins leaves stays base later told knows =
+      → left.world ≡ g2.world → left.cx.log.base ≡ g2.cx.log.base → IsLater g2.cx.log.state left.cx.log.state → NoNews left.cx.news_from left.cx.log.state
+      → ((n : ℕ) (p : Pending) → pending_at n left.cx.log.state.pending ≡ Some p → g2.cx.news_from ≤ n → HasToken k p)
+      → KnowsTurn k turn left new.known
+      → Starts Fits (IsFirst is_first tags) Begun Sound HasToken k turn found g2 left new.known
+  starts_one HasToken k turn seat found v g0 g1 g1' g2 left old before entered new fit is_found is has same is1 starts young wins leaves stays base later told tokens knows =
       let world : g1'.world ≡ found.world = ap (λ (x : Group W Q R T U). x.world) is1 ∙ same.world ∙ ap (λ (x : Group W Q R T U). x.world) is ∙ ap (λ (x : Group W Q R T U). x.world) (sym is_found) in
       let base0 : g2.cx.log.base ≡ v.cx.log.base = starts.goes.base ∙ ap (λ (x : Group W Q R T U). x.cx.log.base) is1 ∙ has.base ∙ ap (λ (x : Group W Q R T U). x.cx.log.base) is in
       let taken : HasTurn Fits found g1' turn seat = subst (λ (x : Group W Q R T U). HasTurn Fits x g1' turn seat) (is ∙ sym is_found) (subst (λ (x : Group W Q R T U). HasTurn Fits g0 x turn seat) (sym is1) has) in
@@ -85,12 +113,17 @@ module _ {W Q R T U : Type 0} (Fits : T → W → Type 0) (Sound : W → State �
         base = base;
         later = later;
         told = told;
+        tokens = λ n p there news. tokens n p there (let same = gone.news_from in omega arith);
         knows = knows;
       }
 
-module _ {W T : Type 0} (Q R U : Type 0) (Fits : T → W → Type 0) (First : ℕ → ℕ → Type 0) (Begun : W → W → Type 0) (Sound : W → State → List Named → Type 0) where
-  pub started_more : (xs ys : List (ℕ × ℕ × Group W Q R T U)) (k : ℕ) → More xs ys → Started Q R U Fits First Begun Sound xs k → Started Q R U Fits First Begun Sound ys k
-  started_more xs ys k more s = record {
+-- what is known of the groups that were started is known still, and their first events have their tokens still
+module _ {W T : Type 0} (Q R U : Type 0) (Fits : T → W → Type 0) (First : ℕ → ℕ → Type 0) (Begun : W → W → Type 0)
+    (Sound : W → State → List Named → Type 0) (Had Has : ℕ → Pending → Type 0) where
+  pub started_more : (xs ys : List (ℕ × ℕ × Group W Q R T U)) (k : ℕ) → More xs ys
+      → ((p : Pending) → Had k p → Has k p)
+      → Started Q R U Fits First Begun Sound Had xs k → Started Q R U Fits First Begun Sound Has ys k
+  started_more xs ys k more stays s = record {
     turn = s.turn;
     found = s.found;
     started = s.started;
@@ -106,16 +139,27 @@ module _ {W T : Type 0} (Q R U : Type 0) (Fits : T → W → Type 0) (First : �
       base = s.starts.base;
       later = s.starts.later;
       told = s.starts.told;
+      tokens = λ n p there news. stays p (s.starts.tokens n p there news);
       knows = λ low. more.stays (k, s.turn, s.left) (s.starts.knows low);
     };
   }
 
-  pub all_more : (xs ys : List (ℕ × ℕ × Group W Q R T U)) (n : ℕ) → More xs ys → AllStarted Q R U Fits First Begun Sound xs n → AllStarted Q R U Fits First Begun Sound ys n
-  all_more xs ys n more all k low = started_more xs ys k more (all k low)
+  pub all_more : (xs ys : List (ℕ × ℕ × Group W Q R T U)) (n : ℕ) → More xs ys
+      → ((k : ℕ) (p : Pending) → Had k p → Has k p)
+      → AllStarted Q R U Fits First Begun Sound Had xs n → AllStarted Q R U Fits First Begun Sound Has ys n
+  all_more xs ys n more stays all k low = started_more xs ys k more (stays k) (all k low)
 
-  pub one_more : (xs ys : List (ℕ × ℕ × Group W Q R T U)) (n : ℕ) → More xs ys → AllStarted Q R U Fits First Begun Sound xs n → Started Q R U Fits First Begun Sound ys n → AllStarted Q R U Fits First Begun Sound ys (n + 1)
-  one_more xs ys n more all one k low =
-      ⊎_elim (λ (less : k < n). started_more xs ys k more (all k less)) (λ (past : n ≤ k). let e : k ≡ n = omega arith in subst (Started Q R U Fits First Begun Sound ys) (sym e) one) (cases_lt k n)
+  pub one_more : (xs ys : List (ℕ × ℕ × Group W Q R T U)) (n : ℕ) → More xs ys
+      → ((k : ℕ) (p : Pending) → Had k p → Has k p)
+      → AllStarted Q R U Fits First Begun Sound Had xs n → Started Q R U Fits First Begun Sound Has ys n
+      → AllStarted Q R U Fits First Begun Sound Has ys (n + 1)
+  one_more xs ys n more stays all one k low =
+      ⊎_elim
+      (λ (less : k < n). started_more xs ys k more (stays k) (all k less))
+      (λ (past : n ≤ k).
+      let e : k ≡ n = omega arith in
+      subst (Started Q R U Fits First Begun Sound Has ys) (sym e) one)
+      (cases_lt k n)
 
 -- what holds of each entry of a list holds of one that stands in it
 each_in : {A : Type 0} (P : A → Type 0) (xs : List A) (x : A) → Each P xs → IsIn x xs → P x
@@ -147,9 +191,9 @@ given_known (y ∷ ys) i zero j x e at = let same : y ≡ x = cc in let place : 
 given_known (y ∷ ys) i (suc k) j x e at = inr (given_known ys (i + 1) k j x (omega arith) at)
 
 -- At the end, a group that was started follows what stood then, as far as it was known before.
-pub was_started : {W Q R T U : Type 0} (Fits : T → W → Type 0) (First : ℕ → ℕ → Type 0) (Begun : W → W → Type 0) (Sound : W → State → List Named → Type 0) (old known : List (ℕ × ℕ × Group W Q R T U)) (turns : List (ℕ × ℕ)) (k : ℕ) (given now : Group W Q R T U)
-    → entries k turns + 1 < last_turn → Started Q R U Fits First Begun Sound old k → Coherent (StandsAfter Fits) old → IsIn (k, 0, given) old → More old known → IsAfter (StandsAfter Fits) k (entries k turns + 1) now known → WasStarted Fits First Begun Sound k given now
-was_started {W} {Q} {R} {T} {U} Fits First Begun Sound old known turns k given now low s coherent first more after =
+pub was_started : {W Q R T U : Type 0} (Fits : T → W → Type 0) (First : ℕ → ℕ → Type 0) (Begun : W → W → Type 0) (Sound : W → State → List Named → Type 0) (Has : ℕ → Pending → Type 0) (old known : List (ℕ × ℕ × Group W Q R T U)) (turns : List (ℕ × ℕ)) (k : ℕ) (given now : Group W Q R T U)
+    → entries k turns + 1 < last_turn → Started Q R U Fits First Begun Sound Has old k → Coherent (StandsAfter Fits) old → IsIn (k, 0, given) old → More old known → IsAfter (StandsAfter Fits) k (entries k turns + 1) now known → WasStarted Fits First Begun Sound k given now
+was_started {W} {Q} {R} {T} {U} Fits First Begun Sound Has old known turns k given now low s coherent first more after =
     let found = each_in (λ (e : ℕ × ℕ × Group W Q R T U). e.0 ≡ k → (e.1 < entries k turns + 1) × StandsAfter Fits now e.2 × (e.1 + 1 ≡ entries k turns + 1 → now ≡ e.2)) known (k, s.turn - 1, s.found) after (more.stays (k, s.turn - 1, s.found) s.starts.stood) refl in
     let below = found.0 in
     let young : s.turn < last_turn = omega arith in

@@ -99,6 +99,13 @@ module _ {X G T : Type 0} {d : Ghosts X G T} where
   pub keeps_desk : (a b c : Desk X G T d) (m n k : ℕ) → m + n ≤ k → KeepsDesk a b m → KeepsDesk b c n → KeepsDesk a c k
   keeps_desk a b c m n k le p q = record { seat = keeps_trans (view a.seat) (view b.seat) (view c.seat) m n k le p.seat q.seat; share = q.share ∙ p.share }
 
+  pub keeps_tokens : (a b c : Desk X G T d) (m n k : ℕ) → m + n ≤ k → KeepsTokens a b m → KeepsTokens b c n
+      → KeepsTokens a c k
+  keeps_tokens a b c m n k le p q = record {
+    desk = keeps_desk a b c m n k le p.desk q.desk;
+    places = places_trans a b c p.places q.places;
+  }
+
   pub same_desk : (a b : Desk X G T d) (m : ℕ) → b.seat ≡ a.seat → (pass_view b.pass).share ≡ (pass_view a.pass).share → KeepsDesk a b m
   same_desk a b m seat share = record { seat = keeps_refl (view a.seat) (view b.seat) m (ap (λ s. view s) seat); share = share }
 

@@ -7,7 +7,7 @@ use Rattle.ts_journal.specs.Machine.{replay}
 use Rattle.ts_journal.specs.Log.{Log, Extends}
 use Rattle.ts_group.specs.Due.{IsDueFirst}
 use Rattle.ts_group.specs.Entries.{asking_entries}
-use Rattle.ts_thread.specs.declared.ending.TheConstants.{ONLY_SEAT}
+use Rattle.ts_group.specs.declared.alone.TheConstants.{ONLY_SEAT}
 
 -- these entries begin with the event that is due first, which is handled at the moment at which it is due
 pub record HandlesDue (s : State) (es : List Entry) : Type 0 where

@@ -16,3 +16,4 @@ pub mod Threads
 pub mod Tokens
 pub mod Turning
 pub mod Whole
+pub mod Ran

@@ -52,6 +52,10 @@ module _ {X G T : Type 0} {d : Ghosts X G T} where
       IsIn (p.due, record { group = k; number = p.number }) desk.wheel
       ⊎ ((p.due ≤ moment) × HasTicket (record { group = k; number = p.number }) (pass_view desk.pass).put)
 
+  -- the same, as a word of a desk at a moment
+  abbrev pub HasPlaceAt : ℕ → Desk X G T d → ℕ → Pending → Type 0
+  HasPlaceAt moment desk k p = HasPlace moment k p desk
+
   -- What stood in the wheel stands there, what was put was put, and nothing was taken from the queue.
   pub record KeepsPlaces (old new : Desk X G T d) : Type 0 where
     pub wheel : (e : ℕ × Token) → IsIn e old.wheel → IsIn e new.wheel

@@ -1,16 +1,20 @@
 -- What is known of the groups that were started, from their first turns to the end.
-use Rattle.std.specs.Prelude.{◌≡◌, ℕ, ◌-◌, ◌<◌, List, Bool, false}
+use Rattle.std.specs.Prelude.{◌≡◌, ℕ, ◌-◌, ◌<◌, ◌≤◌, List, Bool, Some, false}
 use Rattle.std.specs.Bool.{OnTrue}
 use mathlib.Core.Option.{some}
 use lib.ListN.{get_elem?}
-use Rattle.ts_journal.specs.State.{State}
+use Rattle.ts_journal.specs.declared.entry.Pending.{Pending}
+use Rattle.ts_journal.specs.State.{State, pending_at}
 use Rattle.ts_journal.specs.Later.{IsLater}
 use Rattle.ts_group.specs.declared.action.Named.{Named}
 use Rattle.ts_group.specs.declared.group.Group.{Group}
 use Rattle.ts_group.specs.Answers.{Holds}
 use Rattle.ts_group.specs.Due.{NoNews}
 use Rattle.ts_group.specs.Standing.{FollowsGroup, StandsAfter}
+use Rattle.ts_queue.specs.declared.queue.QueuePass.{QueuePass}
+use Rattle.ts_queue.specs.Passes.{pass_view}
 use Rattle.ts_slot.specs.Lists.{IsIn}
+use Rattle.ts_thread.specs.News.{HasTicket}
 use Rattle.ts_thread.specs.Seats.{KnowsTurn}
 
 -- each of the first so many groups has a tag whose worlds are not only asked
@@ -22,10 +26,15 @@ CanStart {T} only_asked tags starts =
 abbrev pub IsFirst : {T : Type 0} → (T → Bool) → List T → ℕ → ℕ → Type 0
 IsFirst {T} is_first tags k turns = (t : T) × (get_elem? tags k ≡ some t) × OnTrue (is_first t) (turns ≡ 0)
 
+-- the event of the group k has a token that a pass put
+abbrev pub HasPut : QueuePass → ℕ → Pending → Type 0
+HasPut pass k p = HasTicket (record { group = k; number = p.number }) (pass_view pass).put
+
 module _ {W Q R T U : Type 0} where
-  -- A seat started the group k in a turn, after which nothing is news in it, and knows what stood then.
+  -- A seat started the group k in a turn, after which nothing is news in it, and knows what stood then. Each
+  -- event that the turn made pending has its token.
   pub record Starts (Fits : T → W → Type 0) (First : ℕ → ℕ → Type 0) (Begun : W → W → Type 0)
-      (Sound : W → State → List Named → Type 0)
+      (Sound : W → State → List Named → Type 0) (HasToken : ℕ → Pending → Type 0)
       (k turn : ℕ) (found started left : Group W Q R T U)
       (known : List (ℕ × ℕ × Group W Q R T U)) : Type 0 where
     pub first : First k started.cx.log.base.turns
@@ -38,6 +47,8 @@ module _ {W Q R T U : Type 0} where
     pub base : left.cx.log.base ≡ started.cx.log.base
     pub later : IsLater started.cx.log.state left.cx.log.state
     pub told : NoNews left.cx.news_from left.cx.log.state
+    pub tokens : (n : ℕ) (p : Pending) → pending_at n left.cx.log.state.pending ≡ Some p
+        → found.cx.news_from ≤ n → HasToken k p
     pub knows : KnowsTurn k turn left known
 
   -- The group k follows one that was started in a turn, from one that the slot had after the group that was
@@ -64,16 +75,17 @@ module _ {W Q R T U : Type 0} where
 
 -- A seat started the group k in a turn that it had.
 pub record Started {W T : Type 0} (Q R U : Type 0) (Fits : T → W → Type 0) (First : ℕ → ℕ → Type 0)
-    (Begun : W → W → Type 0) (Sound : W → State → List Named → Type 0)
+    (Begun : W → W → Type 0) (Sound : W → State → List Named → Type 0) (HasToken : ℕ → Pending → Type 0)
     (known : List (ℕ × ℕ × Group W Q R T U)) (k : ℕ) : Type 0 where
   pub turn : ℕ
   pub found : Group W Q R T U
   pub started : Group W Q R T U
   pub left : Group W Q R T U
-  pub starts : Starts Fits First Begun Sound k turn found started left known
+  pub starts : Starts Fits First Begun Sound HasToken k turn found started left known
 
 -- a seat started each of the first so many groups
 abbrev pub AllStarted : {W T : Type 0} (Q R U : Type 0) → (T → W → Type 0) → (ℕ → ℕ → Type 0)
-    → (W → W → Type 0) → (W → State → List Named → Type 0) → List (ℕ × ℕ × Group W Q R T U) → ℕ → Type 0
-AllStarted Q R U Fits First Begun Sound known starts =
-    (k : ℕ) → k < starts → Started Q R U Fits First Begun Sound known k
+    → (W → W → Type 0) → (W → State → List Named → Type 0) → (ℕ → Pending → Type 0)
+    → List (ℕ × ℕ × Group W Q R T U) → ℕ → Type 0
+AllStarted Q R U Fits First Begun Sound HasToken known starts =
+    (k : ℕ) → k < starts → Started Q R U Fits First Begun Sound HasToken known k

@@ -65,9 +65,11 @@ module _ {X G T : Type 0} {d : Ghosts X G T} where
     pub few : length (view seat).turns ≤ turns
     pub splits : CanSplit MOST_THREADS seat pass
 
-  -- a seat and a pass that hold nothing, for so many threads
-  pub record CanRun (slots : Slots X G T) (queue : EventQueue) (threads : ℕ) (seat : Seat X G T d)
+  -- a seat and a pass that hold nothing, for so many threads, one at least, with the numbers from this one on
+  pub record CanRun (slots : Slots X G T) (queue : EventQueue) (number threads : ℕ) (seat : Seat X G T d)
       (pass : QueuePass) : Type 0 where
+    pub some : 0 < threads
+    pub most : number + threads ≤ MOST_THREADS
     pub pair : IsPair slots queue seat pass
     pub idle : (view seat).held ≡ []
     pub splits : CanSplit threads seat pass

@@ -9,11 +9,8 @@ ghost use Rattle.ts_thread.specs.Tags.{GroupFits, GroupsFit, FitAround, CanAsk};
 ghost use Rattle.ts_thread.specs.Goings.{HasTakenTurns, WorksOn, AllGoOn, HasTurns, ComesNext, came_of, IsWorn, WornAmong, work_left, row, Drives, DrivesAt, Finishes};
 
 use crate::did::Unfinished;
-use ts_group::{Asked, Group, Handling, World};
+use ts_group::{Asked, Group, Handling, TurnFault, World};
 use ts_link::NoMemory;
-
-/// The seat under which turns of groups are taken that nobody else has.
-pub const ONLY_SEAT: u64 = 0;
 
 /// How many turns a group has at most: the numbers of turns and of events end.
 pub const MOST_TURNS: u64 = u64::MAX - 1;
@@ -34,17 +31,17 @@ fn ask_one<W: World + Drop>(
     ensures worn { IsErrOf (came_of result) Unfinished.Worn →
         IsWorn W.fits W.sound W.only_asked W.is_first limit group.new }
 {
-    let turns = group.journal().turns();
-    if turns >= limit {
+    match group.begin_alone(limit, moment) {
+        Ok(()) => {}
         // As by a worn slot, whose word is the greatest.
-        return Asked::Missed {
-            seen: u64::MAX,
-            question,
-        };
+        Err(TurnFault::Worn) => {
+            return Asked::Missed {
+                seen: u64::MAX,
+                question,
+            };
+        }
+        Err(TurnFault::NoMemory) => return Asked::NoMemory(question),
     }
-    let Ok(()) = group.begin_turn(turns + 1, ONLY_SEAT, moment) else {
-        return Asked::NoMemory(question);
-    };
     group.known();
     match group.ask(question, moment) {
         Ok(reply) => {
@@ -148,7 +145,7 @@ fn came_of<Q, R>(asked: &Asked<Q, R>) -> Result<(), Unfinished>
 }
 
 // Handles an event of a group in the turn that it has, and asks the group that its handler wants to ask.
-fn serve<W: World + Drop>(
+fn handle_and_ask<W: World + Drop>(
     before: &mut [Group<W>],
     group: &mut Group<W>,
     after: &mut [Group<W>],
@@ -192,7 +189,7 @@ fn serve<W: World + Drop>(
 }
 
 // Handles an event of a group in a turn of its own.
-fn step<W: World + Drop>(
+fn turn_alone<W: World + Drop>(
     before: &mut [Group<W>],
     group: &mut Group<W>,
     after: &mut [Group<W>],
@@ -214,12 +211,12 @@ fn step<W: World + Drop>(
     ensures worn { WornAmong W.fits W.sound W.only_asked W.is_first limit result
         (row before.new group.new after.new) }
 {
-    let turns = group.journal().turns();
-    if turns >= limit {
-        return Err(Unfinished::Worn);
+    match group.begin_alone(limit, moment) {
+        Ok(()) => {}
+        Err(TurnFault::Worn) => return Err(Unfinished::Worn),
+        Err(TurnFault::NoMemory) => return Err(Unfinished::NoMemory),
     }
-    group.begin_turn(turns + 1, ONLY_SEAT, moment)?;
-    let answer = serve(before, group, after, number, moment, limit);
+    let answer = handle_and_ask(before, group, after, number, moment, limit);
     group.give_turn();
     answer
 }
@@ -239,7 +236,7 @@ fn drive<W: World + Drop>(
         before.old before.new group.old group.new after.old after.new result }
 {
     'events: while let Some((due, number)) = group.next_due() {
-        step(before, group, after, number, due, limit)?;
+        turn_alone(before, group, after, number, due, limit)?;
     }
     Ok(())
 }
@@ -275,7 +272,8 @@ fn drive_at<W: World + Drop>(
         × GroupsFit W.fits W.sound W.only_asked W.is_first tags groups.old }
     requires tells { All (Finite W.left) groups.old }
     requires limit { limit ≤ MOST_TURNS }
-    ensures { DrivesAt W.fits W.sound W.only_asked W.is_first W.left limit place groups.old groups.new result }
+    ensures { DrivesAt W.fits W.sound W.only_asked W.is_first W.left limit place
+        groups.old groups.new result }
 {
     let (before, rest) = groups.split_at_mut(place);
     drive_first(before, rest, limit)

@@ -18,9 +18,10 @@ mod turning;
 mod whole;
 
 pub use did::{Did, RunEnd, Unfinished};
-pub use ending::{MOST_TURNS, ONLY_SEAT, finish, finish_within};
+pub use ending::{MOST_TURNS, finish, finish_within};
 pub use running::{run_groups, start_groups};
 pub use thread::EventThread;
+pub use ts_group::ONLY_SEAT;
 pub use whole::run_whole;
 
 /// How many threads run groups at most.

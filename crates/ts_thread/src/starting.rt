@@ -1,9 +1,11 @@
 //! The first turn of each group, in which its world sets its first events.
 
 ghost use Rattle.std.specs.Prelude.{◌<◌, ◌+◌, length, OnOk};
+ghost use Rattle.ts_journal.specs.declared.entry.TheConstants.{GREATEST};
 ghost use Rattle.ts_slot.specs.Words.{tags_of, view, IsSeatOf};
-ghost use Rattle.ts_thread.specs.Desks.{IsDeskOf, KeepsDesk};
+ghost use Rattle.ts_thread.specs.Desks.{IsDeskOf, KeepsTokens};
 ghost use Rattle.ts_thread.specs.Entering.{IsEntered};
+ghost use Rattle.ts_thread.specs.News.{HasPlaceAt};
 ghost use Rattle.ts_thread.specs.Started.{CanStart, IsFirst, Started, AllStarted};
 
 use crate::desk::Desk;
@@ -31,7 +33,7 @@ fn enter_at<V: Slotted, R: Wait>(rt: &R, slots: &Slots<V>, seat: &mut Seat<V>, k
     unreachable!()
 }
 
-// Starts the group k in a turn of its own. All of its first events get their tokens in the queue.
+// Starts the group k in a turn of its own. All of its first events get their tokens.
 fn start_one<W: World + Drop, R: Wait>(
     rt: &R,
     slots: &Slots<Group<W>>,
@@ -42,9 +44,10 @@ fn start_one<W: World + Drop, R: Wait>(
     requires desk { IsDeskOf slots.now queue.now desk.old }
     requires tags { CanStart W.only_asked (tags_of slots.now) (k + 1) }
     ensures desk { IsDeskOf slots.now queue.now desk.new }
-    ensures keeps { KeepsDesk desk.old desk.new 1 }
+    ensures keeps { KeepsTokens desk.old desk.new 1 }
     ensures started { OnOk result (Started W.Question W.Reply W.Trace W.fits
-        (IsFirst W.is_first (tags_of slots.now)) W.begun W.sound (view desk.new.seat).known k) }
+        (IsFirst W.is_first (tags_of slots.now)) W.begun W.sound (HasPlaceAt GREATEST desk.new)
+        (view desk.new.seat).known k) }
 {
     let mut turn = enter_at(rt, slots, &mut desk.seat, k);
     let owner = desk.seat.number();
@@ -68,9 +71,10 @@ pub fn start_all<W: World + Drop, R: Wait>(
     requires desk { IsDeskOf slots.now queue.now desk.old }
     requires tags { CanStart W.only_asked (tags_of slots.now) starts }
     ensures desk { IsDeskOf slots.now queue.now desk.new }
-    ensures keeps { KeepsDesk desk.old desk.new starts }
+    ensures keeps { KeepsTokens desk.old desk.new starts }
     ensures started { OnOk result (AllStarted W.Question W.Reply W.Trace W.fits
-        (IsFirst W.is_first (tags_of slots.now)) W.begun W.sound (view desk.new.seat).known starts) }
+        (IsFirst W.is_first (tags_of slots.now)) W.begun W.sound (HasPlaceAt GREATEST desk.new)
+        (view desk.new.seat).known starts) }
 {
     'starts: for k in 0..starts {
         start_one(rt, slots, queue, desk, k)?;

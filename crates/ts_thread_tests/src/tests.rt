@@ -14,8 +14,8 @@ use ts_link::{MeetGate, NoMemory, OpenGate};
 use ts_queue::Token;
 use ts_thread::{Did, MOST_ALONE, RunEnd, Unfinished};
 
-// What stands of a row whose peers had three steps each: nothing pending, each that works whole, nothing to do, and the last
-// of them was asked for each step of the four that ask.
+// What stands of a row whose peers had three steps each: nothing pending, each that works whole, nothing to
+// do, and the last of them was asked for each step of the four that ask.
 const DONE: Tally = Tally {
     groups: 9,
     pending: 0,
@@ -42,8 +42,9 @@ fn driven(alloc: Global, limit: u64) -> Result<(Result<(), Unfinished>, Tally), 
     Ok((answer, tally_of(&groups)))
 }
 
-// Each peer that works was started in its first turn. It needs four more: one for each step, and a last one in which it
-// has nothing to do. With a limit of one turn none has another, and with four the first peer's last event stays pending.
+// Each peer that works was started in its first turn. It needs four more: one for each step, and a last one
+// in which it has nothing to do. With a limit of one turn none has another, and with four the first peer's
+// last event stays pending.
 #[test]
 fn a_worn_peer_has_no_more_turns(rt: HostRuntime) -> Result<(), Fail> {
     let mut stands = Tally {
@@ -60,8 +61,8 @@ fn a_worn_peer_has_no_more_turns(rt: HostRuntime) -> Result<(), Fail> {
     Ok(())
 }
 
-// With five turns each peer that works could end, but the one that is asked has none for the sixth question, the last of
-// the third peer. That peer waits to ask again, and is whole still.
+// With five turns each peer that works could end, but the one that is asked has none for the sixth question,
+// the last of the third peer. That peer waits to ask again, and is whole still.
 #[test]
 fn a_worn_peer_is_not_asked(rt: HostRuntime) -> Result<(), Fail> {
     let stands = Tally {
@@ -86,8 +87,8 @@ fn threads_run_a_row_to_its_end(rt: HostRuntime) -> Result<(), Fail> {
     Ok(())
 }
 
-// Two threads of which each waits for the other in its first handler: the first events of the two groups were handled
-// under different seats.
+// Two threads of which each waits for the other in its first handler: the first events of the two groups were
+// handled under different seats.
 #[test]
 fn two_handlers_run_beside_each_other(rt: HostRuntime) -> Result<(), Fail> {
     let gate = MeetGate::make(20_000_000);
@@ -104,7 +105,8 @@ fn two_handlers_run_beside_each_other(rt: HostRuntime) -> Result<(), Fail> {
     Ok(())
 }
 
-// What stands of a row of toy worlds that had three things to do each: nothing pending, each world whole, and all done.
+// What stands of a row of toy worlds that had three things to do each: nothing pending, each world whole, and
+// all done.
 const ENDED: ToyTally = ToyTally {
     groups: 8,
     pending: 0,
@@ -184,7 +186,8 @@ fn token(group: u32, number: u64) -> Token {
 
 const RAN: Did = Did::Ran { events: 1 };
 
-// A token of an event that was handled is stale, and one of no group is let go. Peers 0 and 1 have nothing to do.
+// A token of an event that was handled is stale, and one of no group is let go. Peers 0 and 1 have nothing to
+// do.
 #[test]
 fn a_token_is_used_once(rt: HostRuntime) -> Result<(), Fail> {
     let twice = play(
@@ -208,8 +211,8 @@ fn a_token_is_used_once(rt: HostRuntime) -> Result<(), Fail> {
     Ok(())
 }
 
-// Peer 1 does a step and sets its second event, which is due a millisecond later. Of its two tokens one is taken too
-// early.
+// Peer 1 does a step and sets its second event, which is due a millisecond later. Of its two tokens one is
+// taken too early.
 #[test]
 fn an_event_waits_until_it_is_due(rt: HostRuntime) -> Result<(), Fail> {
     let tokens = [token(0, 2), token(0, 1), token(1, 2)];
@@ -233,8 +236,8 @@ fn an_event_waits_until_it_is_due(rt: HostRuntime) -> Result<(), Fail> {
     Ok(())
 }
 
-// Another seat has the second turn of the token's group, and has left it before the thread's next turn; the token is due
-// again 10 milliseconds after the miss.
+// Another seat has the second turn of the token's group, and has left it before the thread's next turn; the
+// token is due again 10 milliseconds after the miss.
 #[test]
 fn a_token_is_put_back(rt: HostRuntime) -> Result<(), Fail> {
     let answers = play_held(&rt, rt.alloc(), 0, 0, [9, 10].as_slice())?;
@@ -243,8 +246,8 @@ fn a_token_is_put_back(rt: HostRuntime) -> Result<(), Fail> {
     Ok(())
 }
 
-// Another seat holds the group that is asked, and has left it before the next turn; the peer asks again 10 milliseconds
-// later.
+// Another seat holds the group that is asked, and has left it before the next turn; the peer asks again 10
+// milliseconds later.
 #[test]
 fn a_held_group_is_not_asked(rt: HostRuntime) -> Result<(), Fail> {
     let answers = play_held(&rt, rt.alloc(), 1, 8, [9, 10].as_slice())?;

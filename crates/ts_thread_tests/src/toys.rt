@@ -42,8 +42,8 @@ where
     Ok(Row { groups, tags })
 }
 
-/// Runs a row of toy worlds by so many threads, and drives it to its end: then no event is pending in any group, and
-/// each world has counted its work, in whatever order the threads took their turns.
+/// Runs a row of toy worlds by so many threads, and drives it to its end: then no event is pending in any
+/// group, and each world has counted its work, in whatever order the threads took their turns.
 pub fn run_toys<W: Toy + Drop + Send, G: Gate + Sync, R: Threads + Wait + Sync>(
     rt: &R,
     alloc: Global,

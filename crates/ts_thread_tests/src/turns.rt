@@ -98,8 +98,8 @@ fn take_turns<R: Wait>(
     Ok(answers)
 }
 
-/// What a thread answers in turns at these moments. The queue has these tokens behind those of the groups that were
-/// started.
+/// What a thread answers in turns at these moments. The queue has these tokens behind those of the groups
+/// that were started.
 pub fn play<R: Wait>(
     rt: &R,
     alloc: Global,
@@ -124,8 +124,8 @@ pub fn play<R: Wait>(
     take_turns(rt, alloc, &mut thread, moments)
 }
 
-/// What a thread answers in a turn at the moment 0, while another seat holds the group k, and then in turns at these
-/// moments. The first group is started.
+/// What a thread answers in a turn at the moment 0, while another seat holds the group k, and then in turns
+/// at these moments. The first group is started.
 #[tactic(auto, using(ts_group::specs::Standing::stands_itself))]
 pub fn play_held<R: Wait>(
     rt: &R,

@@ -1,4 +1,3 @@
-use Rattle.std.proofs.Common.{subst}
 use Rattle.ts_thread.specs.Goings.{Drives, row}
 use Rattle.ts_thread.proofs.Rows.{driving_begins, driving_ends, driving_row, driving_goes_on, driving_stops, fits_on, same_fault}
 use Rattle.ts_thread.proofs.ending.drive.Goals as goal
@@ -6,8 +5,8 @@ use Rattle.ts_thread.proofs.ending.drive.Goals as goal
 pub events-init : goal.events-init
 events-init g c = driving_begins g.W.Slotted.fits g.W.World.sound g.W.World.only_asked g.W.World.is_first g.W.World.left c.args.limit c.args.before.now c.args.group.now c.args.after.now c.requires.tells
 
-pub step-requires-clause-fits : goal.step-requires-clause-fits
-step-requires-clause-fits g c =
+pub turn_alone-requires-clause-fits : goal.turn_alone-requires-clause-fits
+turn_alone-requires-clause-fits g c =
     let fits = c.requires.fits in
     let was = c.events.invariant in
     let goes = driving_row g.W.Slotted.fits g.W.World.sound g.W.World.only_asked g.W.World.is_first g.W.World.left c.args.limit c.args.before.now c.events.before c.args.group.now c.events.group c.args.after.now c.events.after was in
@@ -15,17 +14,17 @@ step-requires-clause-fits g c =
 
 pub events-preserved : goal.events-preserved
 events-preserved g c =
-    let step = c.in_ok-step.ensures in
-    (driving_goes_on g.W.Slotted.fits g.W.World.sound g.W.World.only_asked g.W.World.is_first g.W.World.left c.args.limit c.args.before.now c.events.before c.step.new.before c.args.group.now c.events.group c.step.new.group c.args.after.now c.events.after c.step.new.after c.events.invariant step.before step.own step.after step.falls).0
+    let step = c.in_ok-turn_alone.ensures in
+    (driving_goes_on g.W.Slotted.fits g.W.World.sound g.W.World.only_asked g.W.World.is_first g.W.World.left c.args.limit c.args.before.now c.events.before c.turn_alone.new.before c.args.group.now c.events.group c.turn_alone.new.group c.args.after.now c.events.after c.turn_alone.new.after c.events.invariant step.before step.own step.after step.falls).0
 
 pub returns : goal.returns
 returns g c = driving_ends g.W.Slotted.fits g.W.World.sound g.W.World.only_asked g.W.World.is_first g.W.World.left c.args.limit c.args.before.now c.events.before c.args.group.now c.events.group c.args.after.now c.events.after c.events.invariant (c.next_due.ensures.none c.in_default.is)
 
-pub returns-in_err-step : goal.returns-in_err-step
-returns-in_err-step g c =
-    let step = c.in_err-step.ensures in
-    same_fault (Drives g.W.Slotted.fits g.W.World.sound g.W.World.only_asked g.W.World.is_first g.W.World.left c.args.limit c.args.before.now c.step.new.before c.args.group.now c.step.new.group c.args.after.now c.step.new.after) c.from_residual.result _ c.from_residual.ensures.1
-    (driving_stops g.W.Slotted.fits g.W.World.sound g.W.World.only_asked g.W.World.is_first g.W.World.left c.args.limit c.args.before.now c.events.before c.step.new.before c.args.group.now c.events.group c.step.new.group c.args.after.now c.events.after c.step.new.after _
+pub returns-in_err-turn_alone : goal.returns-in_err-turn_alone
+returns-in_err-turn_alone g c =
+    let step = c.in_err-turn_alone.ensures in
+    same_fault (Drives g.W.Slotted.fits g.W.World.sound g.W.World.only_asked g.W.World.is_first g.W.World.left c.args.limit c.args.before.now c.turn_alone.new.before c.args.group.now c.turn_alone.new.group c.args.after.now c.turn_alone.new.after) c.from_residual.result _ c.from_residual.ensures.1
+    (driving_stops g.W.Slotted.fits g.W.World.sound g.W.World.only_asked g.W.World.is_first g.W.World.left c.args.limit c.args.before.now c.events.before c.turn_alone.new.before c.args.group.now c.events.group c.turn_alone.new.group c.args.after.now c.events.after c.turn_alone.new.after _
     c.events.invariant
     step.before
     step.own

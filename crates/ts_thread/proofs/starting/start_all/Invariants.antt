@@ -1,9 +1,12 @@
+use Rattle.ts_journal.specs.declared.entry.TheConstants.{GREATEST}
 use Rattle.ts_slot.specs.Words.{tags_of, view}
-use Rattle.ts_thread.specs.Desks.{IsDeskOf, KeepsDesk}
+use Rattle.ts_thread.specs.Desks.{IsDeskOf, KeepsTokens}
+use Rattle.ts_thread.specs.News.{HasPlaceAt}
 use Rattle.ts_thread.specs.Started.{IsFirst, AllStarted}
 use Rattle.ts_thread.proofs.starting.start_all.Given as goal
 
 abbrev pub invariant-starts : goal.invariant-starts
 invariant-starts g l =
-    IsDeskOf l.slots l.queue l.desk × KeepsDesk l.initial.desk l.desk l.k
-    × AllStarted g.row.W-Question.Denot g.row.W-Reply.Denot g.row.W-Trace.Denot g.W.Slotted.fits (IsFirst g.W.World.is_first (tags_of l.slots)) g.W.World.begun g.W.World.sound (view l.desk.seat).known l.k
+    IsDeskOf l.slots l.queue l.desk × KeepsTokens l.initial.desk l.desk l.k
+    × AllStarted g.row.W-Question.Denot g.row.W-Reply.Denot g.row.W-Trace.Denot g.W.Slotted.fits (IsFirst g.W.World.is_first (tags_of l.slots)) g.W.World.begun g.W.World.sound
+    (HasPlaceAt GREATEST l.desk) (view l.desk.seat).known l.k

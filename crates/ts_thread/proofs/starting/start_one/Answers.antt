@@ -1,6 +1,8 @@
 use Rattle.std.proofs.Common.{refl, sym, ◌∙◌, ◌<◌, subst, arith}
+use Rattle.ts_journal.specs.declared.entry.TheConstants.{GREATEST}
 use Rattle.ts_slot.specs.Words.{tags_of, view}
 use Rattle.ts_thread.specs.Held.{HasTurn}
+use Rattle.ts_thread.specs.News.{HasPlaceAt}
 use Rattle.ts_thread.specs.Seats.{KnowsTurn}
 use Rattle.ts_thread.proofs.Groups.{ok_to}
 use Rattle.ts_thread.proofs.Starts.{entered_left, start_fits, starts_one}
@@ -22,8 +24,11 @@ leave-requires-clause-marks g c mark there =
 
 pub returns-in-Err-clause-keeps : goal.returns-in-Err-clause-keeps
 returns-in-Err-clause-keeps g c = record {
-  seat = entered_left (tags_of c.args.slots.now) c.args.k (view c.args.desk.now.seat) (view c.enter_at-turn.new.seat) (view c.leave.new.seat) c.enter_at-turn.result c.enter_at-turn.ensures.entered c.leave.ensures.leaves;
-  share = refl;
+  desk = record {
+    seat = entered_left (tags_of c.args.slots.now) c.args.k (view c.args.desk.now.seat) (view c.enter_at-turn.new.seat) (view c.leave.new.seat) c.enter_at-turn.result c.enter_at-turn.ensures.entered c.leave.ensures.leaves;
+    share = refl;
+  };
+  places = record { wheel = λ e there. there; put = λ t there. there; taken = refl };
 }
 
 pub end_turn-requires-clause-fits : goal.end_turn-requires-clause-fits
@@ -52,8 +57,15 @@ end_turn-requires-clause-fits g c =
 
 pub returns-clause-keeps : goal.returns-clause-keeps
 returns-clause-keeps g c = record {
-  seat = entered_left (tags_of c.args.slots.now) c.args.k (view c.args.desk.now.seat) (view c.enter_at-turn.new.seat) (view c.end_turn.new.desk.seat) c.enter_at-turn.result c.enter_at-turn.ensures.entered c.end_turn.ensures.leaves.seat;
-  share = c.end_turn.ensures.leaves.share;
+  desk = record {
+    seat = entered_left (tags_of c.args.slots.now) c.args.k (view c.args.desk.now.seat) (view c.enter_at-turn.new.seat) (view c.end_turn.new.desk.seat) c.enter_at-turn.result c.enter_at-turn.ensures.entered c.end_turn.ensures.leaves.seat;
+    share = c.end_turn.ensures.leaves.share;
+  };
+  places = record {
+    wheel = c.end_turn.ensures.leaves.places.wheel;
+    put = c.end_turn.ensures.leaves.places.put;
+    taken = c.end_turn.ensures.leaves.places.taken;
+  };
 }
 
 pub returns-clause-started : goal.returns-clause-started
@@ -66,7 +78,7 @@ returns-clause-started g c =
       found = c.enter_at-turn.result.found.value;
       started = c.start.new.group;
       left = ends.left;
-      starts = starts_one g.W.Slotted.fits g.W.World.sound g.W.World.only_asked g.W.World.is_first g.W.World.begun (tags_of c.args.slots.now) c.args.k c.enter_at-turn.result.number c.number-owner.result
+      starts = starts_one g.W.Slotted.fits g.W.World.sound g.W.World.only_asked g.W.World.is_first g.W.World.begun (tags_of c.args.slots.now) (HasPlaceAt GREATEST c.end_turn.new.desk) c.args.k c.enter_at-turn.result.number c.number-owner.result
           c.enter_at-turn.result.found.value
           c.enter_at-turn.result.value
           c.value.result.now
@@ -92,6 +104,7 @@ returns-clause-started g c =
           ends.as_now.base
           ends.as_now.later
           ends.told.none
+          (λ n p there news. subst (λ k. HasPlaceAt GREATEST c.end_turn.new.desk k p) entered.group (ends.told.each n p there news))
           (subst (λ k. KnowsTurn k c.enter_at-turn.result.number ends.left (view c.end_turn.new.desk.seat).known) entered.group ends.knows);
     })
     c.end_turn.ensures.ends

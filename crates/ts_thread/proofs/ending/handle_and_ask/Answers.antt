@@ -3,7 +3,7 @@ use Rattle.ts_thread.proofs.Rows.{all_refl, askable, answer_right, told_falls, w
 use Rattle.ts_group.specs.Answers.{LeavesLess}
 use Rattle.ts_thread.specs.Goings.{AllGoOn}
 use Rattle.ts_thread.proofs.Moves.{handled_works, told_works, same_works}
-use Rattle.ts_thread.proofs.ending.serve.Goals as goal
+use Rattle.ts_thread.proofs.ending.handle_and_ask.Goals as goal
 
 pub ask_among-asked-requires-clause-there : goal.ask_among-asked-requires-clause-there
 ask_among-asked-requires-clause-there g c =
