@@ -16,16 +16,19 @@ pub needed_held : (s : State) → s.held ≡ true → needed s ≡ length s.pend
 needed_held s h = ap (λ (b : Bool). length s.pending + length s.live + (if b then 1 else 0)) h
 
 pub needed_idle : (s : State) → s.held ≡ false → needed s + 1 ≡ length s.pending + length s.live + 1
-needed_idle s h = let e : needed s ≡ length s.pending + length s.live + 0 = ap (λ (b : Bool). length s.pending + length s.live + (if b then 1 else 0)) h in omega arith
+needed_idle s h = let e : needed s ≡ length s.pending + length s.live + 0 = ap
+    (λ (b : Bool). length s.pending + length s.live + (if b then 1 else 0)) h in omega arith
 
 pub needed_most : (s : State) → needed s ≤ length s.pending + length s.live + 1
 needed_most s = most s.held
   where
-    most : (b : Bool) → length s.pending + length s.live + (if b then 1 else 0) ≤ length s.pending + length s.live + 1
+    most : (b : Bool) → length s.pending + length s.live + (if b then 1 else 0) ≤ length s.pending + length
+        s.live + 1
     most true = omega arith
     most false = omega arith
 
-pub needed_closed : (s t : State) (n : ℕ) (p : Pending) → pending_at n s.pending ≡ Some p → s.held ≡ true → t.pending ≡ without n s.pending → t.live ≡ s.live → t.held ≡ true → needed t + 1 ≡ needed s
+pub needed_closed : (s t : State) (n : ℕ) (p : Pending) → pending_at n s.pending ≡ Some p → s.held ≡ true
+    → t.pending ≡ without n s.pending → t.live ≡ s.live → t.held ≡ true → needed t + 1 ≡ needed s
 needed_closed s t n p there h e l g =
     let a = needed_held s h in
     let b = needed_held t g in
@@ -34,7 +37,8 @@ needed_closed s t n p there h e l g =
     let f : length t.live ≡ length s.live = ap length l in
     omega arith
 
-pub needed_set : (s t : State) (p : Pending) → s.held ≡ true → t.pending ≡ s.pending ++ p ∷ [] → t.live ≡ s.live → t.held ≡ true → needed t ≡ needed s + 1
+pub needed_set : (s t : State) (p : Pending) → s.held ≡ true → t.pending ≡ s.pending ++ p ∷ []
+    → t.live ≡ s.live → t.held ≡ true → needed t ≡ needed s + 1
 needed_set s t p h e l g =
     let a = needed_held s h in
     let b = needed_held t g in
@@ -43,7 +47,8 @@ needed_set s t p h e l g =
     let f : length t.live ≡ length s.live = ap length l in
     omega arith
 
-pub needed_made : (s t : State) (k : ContKey) → s.held ≡ true → t.pending ≡ s.pending → t.live ≡ s.live ++ k ∷ [] → t.held ≡ true → needed t ≡ needed s + 1
+pub needed_made : (s t : State) (k : ContKey) → s.held ≡ true → t.pending ≡ s.pending
+    → t.live ≡ s.live ++ k ∷ [] → t.held ≡ true → needed t ≡ needed s + 1
 needed_made s t k h e l g =
     let a = needed_held s h in
     let b = needed_held t g in
@@ -52,7 +57,8 @@ needed_made s t k h e l g =
     let f : length t.live ≡ length (s.live ++ k ∷ []) = ap length l in
     omega arith
 
-pub needed_destroyed : (s t : State) (i g : ℕ) → generation_at i s.live ≡ Some g → s.held ≡ true → t.pending ≡ s.pending → t.live ≡ without_index i s.live → t.held ≡ true → needed t + 1 ≡ needed s
+pub needed_destroyed : (s t : State) (i g : ℕ) → generation_at i s.live ≡ Some g → s.held ≡ true
+    → t.pending ≡ s.pending → t.live ≡ without_index i s.live → t.held ≡ true → needed t + 1 ≡ needed s
 needed_destroyed s t i g there h e l held =
     let a = needed_held s h in
     let b = needed_held t held in
@@ -61,7 +67,8 @@ needed_destroyed s t i g there h e l held =
     let f : length t.live ≡ length (without_index i s.live) = ap length l in
     omega arith
 
-pub needed_same : (s t : State) → t.pending ≡ s.pending → t.live ≡ s.live → t.held ≡ s.held → needed t ≡ needed s
+pub needed_same : (s t : State) → t.pending ≡ s.pending → t.live ≡ s.live → t.held ≡ s.held
+    → needed t ≡ needed s
 needed_same s t e l h =
     let d : length t.pending ≡ length s.pending = ap length e in
     let f : length t.live ≡ length s.live = ap length l in
@@ -69,7 +76,8 @@ needed_same s t e l h =
     omega arith
 
 -- a turn is taken, and given back
-pub needed_took : (s t : State) → s.held ≡ false → t.pending ≡ s.pending → t.live ≡ s.live → t.held ≡ true → needed t ≡ needed s + 1
+pub needed_took : (s t : State) → s.held ≡ false → t.pending ≡ s.pending → t.live ≡ s.live → t.held ≡ true
+    → needed t ≡ needed s + 1
 needed_took s t h e l g =
     let a = needed_idle s h in
     let b = needed_held t g in
@@ -77,7 +85,8 @@ needed_took s t h e l g =
     let f : length t.live ≡ length s.live = ap length l in
     omega arith
 
-pub needed_gave : (s t : State) → s.held ≡ true → t.pending ≡ s.pending → t.live ≡ s.live → t.held ≡ false → needed t + 1 ≡ needed s
+pub needed_gave : (s t : State) → s.held ≡ true → t.pending ≡ s.pending → t.live ≡ s.live → t.held ≡ false
+    → needed t + 1 ≡ needed s
 needed_gave s t h e l g =
     let a = needed_held s h in
     let b = needed_idle t g in

@@ -20,7 +20,8 @@ marks_append (Dropped number ∷ es) fs = marks_append es fs
 marks_append (Destroyed key ∷ es) fs = marks_append es fs
 
 -- a mark of a journal that went on is an old one, or one of the entries that were added
-pub marks_more : (old new : Log) (added : List Entry) (mark : ℕ × ℕ) → Extends old new added → Contains (marks_of new.entries) mark
+pub marks_more : (old new : Log) (added : List Entry) (mark : ℕ × ℕ) → Extends old new added
+    → Contains (marks_of new.entries) mark
     → Contains (marks_of old.entries) mark ⊎ Contains (marks_of added) mark
 marks_more old new added mark by there =
     Contains-append_cases (marks_of old.entries) (marks_of added) mark

@@ -103,7 +103,8 @@ abbrev pub LeavesLess : {W Q R T U : Type 0} → (W → State → Option ℕ)
     → Group W Q R T U → ℕ → Group W Q R T U → Type 0
 LeavesLess Left old by new = Falls (Left old.world old.cx.log.state) by (Left new.world new.cx.log.state)
 
--- The group's world is finite: it tells what is left to it, the number that each event that it handles lowers.
+-- The group's world is finite: it tells what is left to it, the number that each event that it handles
+-- lowers.
 abbrev pub Finite : {W Q R T U : Type 0} → (W → State → Option ℕ) → Group W Q R T U → Type 0
 Finite Left g = IsSome (Left g.world g.cx.log.state)
 

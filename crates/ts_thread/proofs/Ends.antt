@@ -31,16 +31,20 @@ use Rattle.ts_thread.proofs.Groups.{keeps_same}
 use Rattle.ts_thread.proofs.Tokens.{one_if, All-added}
 
 -- a desk stays one of its tables when a token of one of the groups is added to its wheel
-pub desk_added : {X G T : Type 0} {d : Ghosts X G T} (slots : Slots X G T) (queue : EventQueue) (a b : Desk X G T d) (token : Token) (due : ℕ) → token.group < length (tags_of slots)
-    → IsSeatOf slots b.seat → b.pass ≡ a.pass → b.wheel ≡ added due token a.wheel → IsDeskOf slots queue a → IsDeskOf slots queue b
+pub desk_added : {X G T : Type 0} {d : Ghosts X G T} (slots : Slots X G T) (queue : EventQueue)
+    (a b : Desk X G T d) (token : Token) (due : ℕ) → token.group < length (tags_of slots)
+    → IsSeatOf slots b.seat → b.pass ≡ a.pass → b.wheel ≡ added due token a.wheel → IsDeskOf slots queue a
+        → IsDeskOf slots queue b
 desk_added slots queue a b token due names seat pass wheel was = record {
   seat = seat;
   pass = subst (λ p. IsPassOf queue p) (sym pass) was.pass;
-  wheel = subst (AllName (length (tags_of slots))) (sym wheel) (All-added (λ (e : ℕ × Token). e.1.group < length (tags_of slots)) due token a.wheel names was.wheel);
+  wheel = subst (AllName (length (tags_of slots))) (sym wheel)
+      (All-added (λ (e : ℕ × Token). e.1.group < length (tags_of slots)) due token a.wheel names was.wheel);
 }
 
 -- what a group has to have when its turn is given back
-pub record IsGivable {W Q R T U : Type 0} (Fits : T → W → Type 0) (found now : Group W Q R T U) (turn seat : ℕ) : Type 0 where
+pub record IsGivable {W Q R T U : Type 0} (Fits : T → W → Type 0) (found now : Group W Q R T U)
+    (turn seat : ℕ) : Type 0 where
   pub held : now.cx.log.state.held ≡ true
   pub number : now.cx.log.state.turns ≡ turn
   pub marks : marks_of now.cx.log.entries ≡ marks_of found.cx.log.entries ++ (turn, seat) ∷ []
@@ -50,13 +54,16 @@ pub record IsGivable {W Q R T U : Type 0} (Fits : T → W → Type 0) (found now
   pub tags : KeepsTags Fits found.world now.world
 
 module _ {W Q R T U : Type 0} where
-  given_held : (Fits : T → W → Type 0) (found a b : Group W Q R T U) (turn seat : ℕ) → IsGivable Fits found a turn seat → GivesBack a b → IsGivenBack Fits found b turn seat
+  given_held : (Fits : T → W → Type 0) (found a b : Group W Q R T U) (turn seat : ℕ)
+      → IsGivable Fits found a turn seat → GivesBack a b → IsGivenBack Fits found b turn seat
   given_held Fits found a b turn seat has gives = record {
     free = gives.free;
     stamp = inr (gives.number ∙ has.number);
     marks = λ mark there.
-        let was : Contains (marks_of found.cx.log.entries ++ (turn, seat) ∷ []) mark = subst (λ ms. Contains ms mark) (gives.marks ∙ has.marks) there in
-        ⊎_elim (λ (old : Contains (marks_of found.cx.log.entries) mark). inl old) (λ (one : Contains ((turn, seat) ∷ []) mark). inr (one_mark (turn, seat) mark one))
+        let was : Contains (marks_of found.cx.log.entries ++ (turn, seat) ∷ []) mark = subst
+            (λ ms. Contains ms mark) (gives.marks ∙ has.marks) there in
+        ⊎_elim (λ (old : Contains (marks_of found.cx.log.entries) mark). inl old)
+            (λ (one : Contains ((turn, seat) ∷ []) mark). inr (one_mark (turn, seat) mark one))
         (Contains-append_cases (marks_of found.cx.log.entries) ((turn, seat) ∷ []) mark was);
     later = later_trans found.cx.log.state a.cx.log.state b.cx.log.state has.later gives.later;
     base = gives.base ∙ has.base;
@@ -65,7 +72,8 @@ module _ {W Q R T U : Type 0} where
   }
 
   -- a turn stays one where nothing changes but the news
-  pub told_has : (Fits : T → W → Type 0) (found a b : Group W Q R T U) (turn seat : ℕ) → HasTurn Fits found a turn seat → OnlyNews a b → IsGivable Fits found b turn seat
+  pub told_has : (Fits : T → W → Type 0) (found a b : Group W Q R T U) (turn seat : ℕ)
+      → HasTurn Fits found a turn seat → OnlyNews a b → IsGivable Fits found b turn seat
   told_has Fits found a b turn seat has only = let same = only.cx in record {
     held = ap (λ (s : State). s.held) same.log.state ∙ has.held;
     number = ap (λ (s : State). s.turns) same.log.state ∙ has.number;
@@ -77,18 +85,28 @@ module _ {W Q R T U : Type 0} where
   }
 
   -- the news was told, and the turn given back
-  pub told_given : (Fits : T → W → Type 0) (found a a' b b' c : Group W Q R T U) (turn seat : ℕ) → HasTurn Fits found a turn seat → a' ≡ a → OnlyNews a' b → b' ≡ b → GivesBack b' c → IsGivenBack Fits found c turn seat
-  told_given Fits found a a' b b' c turn seat has e only f gives = given_held Fits found b c turn seat (told_has Fits found a' b turn seat (subst (λ x. HasTurn Fits found x turn seat) (sym e) has) only) (subst (λ x. GivesBack x c) f gives)
+  pub told_given : (Fits : T → W → Type 0) (found a a' b b' c : Group W Q R T U) (turn seat : ℕ)
+      → HasTurn Fits found a turn seat → a' ≡ a → OnlyNews a' b → b' ≡ b → GivesBack b' c
+      → IsGivenBack Fits found c turn seat
+  told_given Fits found a a' b b' c turn seat has e only f gives = given_held Fits found b c turn seat
+      (told_has Fits found a' b turn seat (subst (λ x. HasTurn Fits found x turn seat) (sym e) has) only)
+      (subst (λ x. GivesBack x c) f gives)
 
   module _ {d : Ghosts (Group W Q R T U) T (Group W Q R T U)} where
-    pub ends_turn : (k k' turn moment : ℕ) (a a' b b' c : Group W Q R T U) (old mid new : Desk (Group W Q R T U) T (Group W Q R T U) d) → k' ≡ k → a' ≡ a → IsSame (record a'.cx { news_from = b.cx.news_from }) b.cx → b.world ≡ a'.world → b' ≡ b → GivesBack b' c
-        → new.wheel ≡ mid.wheel → new.pass ≡ mid.pass → KnowsTurn k turn c (view new.seat).known → HasTold k' moment a' b old mid → EndsTurn k turn moment a old new
+    pub ends_turn : (k k' turn moment : ℕ) (a a' b b' c : Group W Q R T U)
+        (old mid new : Desk (Group W Q R T U) T (Group W Q R T U) d) → k' ≡ k → a' ≡ a
+        → IsSame (record a'.cx { news_from = b.cx.news_from }) b.cx → b.world ≡ a'.world → b' ≡ b
+        → GivesBack b' c
+        → new.wheel ≡ mid.wheel → new.pass ≡ mid.pass → KnowsTurn k turn c (view new.seat).known
+            → HasTold k' moment a' b old mid → EndsTurn k turn moment a old new
     ends_turn k k' turn moment a a' b b' c old mid new ke e same world f gives' wheel pass knows told =
         let gives : GivesBack b c = subst (λ x. GivesBack x c) f gives' in
         let pending : c.cx.log.state.pending ≡ b.cx.log.state.pending = gives.same.pending in
         let from = gives.news_from in
-        let state : b.cx.log.state ≡ a.cx.log.state = same.log.state ∙ ap (λ (x : Group W Q R T U). x.cx.log.state) e in
-        let told' : HasTold k moment a b old mid = subst (λ (x : ℕ × Group W Q R T U). HasTold x.0 moment x.1 b old mid) (λ i. (ke i, e i)) told in
+        let state : b.cx.log.state ≡ a.cx.log.state = same.log.state ∙ ap
+            (λ (x : Group W Q R T U). x.cx.log.state) e in
+        let told' : HasTold k moment a b old mid = subst
+            (λ (x : ℕ × Group W Q R T U). HasTold x.0 moment x.1 b old mid) (λ i. (ke i, e i)) told in
         record {
           left = c;
           as_now = record {
@@ -99,15 +117,19 @@ module _ {W Q R T U : Type 0} where
             base = gives.base ∙ same.log.base ∙ ap (λ (x : Group W Q R T U). x.cx.log.base) e;
           };
           told = record {
-            none = λ n p there. let low = told'.none n p (sym (ap (pending_at n) pending) ∙ there) in omega arith;
+            none = λ n p there. let low = told'.none n p (sym (ap (pending_at n) pending) ∙ there) in omega
+                arith;
             each = λ n p there low. placed p (told'.each n p (sym (ap (pending_at n) pending) ∙ there) low);
             once = λ t.
-                let news : is_news k a c t ≡ is_news k a b t = (λ i. is_between k a.cx.news_from (from i) (pending i) t) in
-                let places : places_of t new ≡ places_of t mid = (λ i. in_wheel t (wheel i) + in_tickets t (pass_view (pass i)).put) in
+                let news : is_news k a c t ≡ is_news k a b t =
+                    (λ i. is_between k a.cx.news_from (from i) (pending i) t) in
+                let places : places_of t new ≡ places_of t mid =
+                    (λ i. in_wheel t (wheel i) + in_tickets t (pass_view (pass i)).put) in
                 places ∙ told'.once t ∙ ap (λ (b : Bool). places_of t old + one_if b) (sym news);
             keeps = record {
               wheel = λ x there. subst (IsIn x) (sym wheel) (told'.keeps.wheel x there);
-              put = λ t there. subst (λ (p : QueuePass). HasTicket t (pass_view p).put) (sym pass) (told'.keeps.put t there);
+              put = λ t there. subst (λ (p : QueuePass). HasTicket t (pass_view p).put) (sym pass)
+                  (told'.keeps.put t there);
               taken = ap (λ (p : QueuePass). (pass_view p).taken) pass ∙ told'.keeps.taken;
             };
             empties = ap (λ p. empties_of p) pass ∙ told'.empties;
@@ -116,5 +138,8 @@ module _ {W Q R T U : Type 0} where
         }
       where
         placed : (p : Pending) → HasPlace moment k p mid → HasPlace moment k p new
-        placed p (inl there) = inl (subst (IsIn (p.due, record { group = k; number = p.number })) (sym wheel) there)
-        placed p (inr put) = inr (put.0, subst (λ (q : QueuePass). HasTicket (record { group = k; number = p.number }) (pass_view q).put) (sym pass) put.1)
+        placed p (inl there) = inl (subst (IsIn (p.due, record { group = k; number = p.number })) (sym wheel)
+            there)
+        placed p (inr put) = inr (put.0, subst
+            (λ (q : QueuePass). HasTicket (record { group = k; number = p.number }) (pass_view q).put)
+            (sym pass) put.1)

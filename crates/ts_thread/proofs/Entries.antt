@@ -38,14 +38,17 @@ own_handles s (Took turn seat ∷ es) own = absurd own.0
 own_handles s (Gave turn ∷ es) own = absurd own.0
 own_handles s (Handled number moment ∷ es) own = absurd own.0
 own_handles s (Made key ∷ es) own = own_handles (after s (Made key)) es own.1
-own_handles s (Set number key event due series period ∷ es) own = own_handles (after s (Set number key event due series period)) es own.1
+own_handles s (Set number key event due series period ∷ es) own = own_handles
+    (after s (Set number key event due series period)) es own.1
 own_handles s (Cancelled number ∷ es) own = own_handles (after s (Cancelled number)) es own.1
 own_handles s (Dropped number ∷ es) own = own_handles (after s (Dropped number)) es own.1
 own_handles s (Destroyed key ∷ es) own = own_handles (after s (Destroyed key)) es own.1
 
 renewal_marks : (p : Pending) (next moment : ℕ) → marks_of (renewal p next moment) ≡ []
 renewal_marks p next moment =
-    split (nat_lt 0 p.period && nat_lt next GREATEST) (λ t. marks_of (cond t (Set next p.key Timeout (moment_after moment p.period) p.series p.period ∷ []) []) ≡ [])
+    split (nat_lt 0 p.period && nat_lt next GREATEST)
+        (λ t. marks_of (cond t (Set next p.key Timeout (moment_after moment p.period) p.series p.period ∷ [])
+        []) ≡ [])
     (λ e. refl) (λ e. refl)
 
 -- no mark is added by entries that have none
@@ -56,16 +59,23 @@ no_marks es fs none = marks_append es fs ∙ ap (λ ms. marks_of es ++ ms) none 
     nil [] = refl
     nil (m ∷ ms) = ap (λ ns. m ∷ ns) (nil ms)
 
-run_marks : (s : State) (moment number : ℕ) (asked : List ℕ) (run : List Entry) → IsRun s moment number asked run → marks_of run ≡ []
+run_marks : (s : State) (moment number : ℕ) (asked : List ℕ) (run : List Entry)
+    → IsRun s moment number asked run → marks_of run ≡ []
 run_marks s moment number asked run r =
     let ren = renewal r.event s.next moment in
-    ap marks_of r.entries_are ∙ no_marks ren r.own (own_marks r.own r.all_own) ∙ renewal_marks r.event s.next moment
+    ap marks_of r.entries_are ∙ no_marks ren r.own (own_marks r.own r.all_own) ∙ renewal_marks r.event s.next
+        moment
 
-pub runs_marks : {W : Type 0} (Called : W → W → List ℕ → Type 0) (u v : W) (s : State) (moment number : ℕ) (queue : List ℕ) (k : ℕ) (es : List Entry) (left : List ℕ) → RunsFrom Called u v s moment number queue k es left → marks_of es ≡ []
+pub runs_marks : {W : Type 0} (Called : W → W → List ℕ → Type 0) (u v : W) (s : State) (moment number : ℕ)
+    (queue : List ℕ) (k : ℕ) (es : List Entry) (left : List ℕ)
+    → RunsFrom Called u v s moment number queue k es left → marks_of es ≡ []
 runs_marks Called u v s moment number queue zero es left h = absurd h
-runs_marks Called u v s moment number queue (suc zero) es left (asked, r, called, e) = run_marks s moment number asked es r
-runs_marks Called u v s moment number queue (suc (suc k)) es left (asked, run, rest, r, e, mid, called, next, behind, n, more) =
-    ap marks_of e ∙ no_marks run rest (runs_marks Called mid v (replay s run) moment next behind (suc k) rest left more) ∙ run_marks s moment number asked run r
+runs_marks Called u v s moment number queue (suc zero) es left (asked, r, called, e) = run_marks s moment
+    number asked es r
+runs_marks Called u v s moment number queue (suc (suc k)) es left
+    (asked, run, rest, r, e, mid, called, next, behind, n, more) =
+    ap marks_of e ∙ no_marks run rest (runs_marks Called mid v (replay s run) moment next behind (suc k) rest
+        left more) ∙ run_marks s moment number asked run r
 
 -- the first entry says that the event of the number was handled
 pub record HandlesFirst (s : State) (moment number : ℕ) (es : List Entry) : Type 0 where
@@ -74,15 +84,22 @@ pub record HandlesFirst (s : State) (moment number : ℕ) (es : List Entry) : Ty
   pub event : Pending
   pub there : pending_at number s.pending ≡ Some event
 
-run_first : (s : State) (moment number : ℕ) (asked : List ℕ) (run : List Entry) → IsRun s moment number asked run → HandlesFirst s moment number run
-run_first s moment number asked run r = record { rest = renewal r.event s.next moment ++ r.own; is = r.entries_are; event = r.event; there = r.there }
+run_first : (s : State) (moment number : ℕ) (asked : List ℕ) (run : List Entry)
+    → IsRun s moment number asked run → HandlesFirst s moment number run
+run_first s moment number asked run r = record
+    { rest = renewal r.event s.next moment ++ r.own; is = r.entries_are; event = r.event; there = r.there }
 
-pub runs_first : {W : Type 0} (Called : W → W → List ℕ → Type 0) (u v : W) (s : State) (moment number : ℕ) (queue : List ℕ) (k : ℕ) (es : List Entry) (left : List ℕ) → RunsFrom Called u v s moment number queue k es left → HandlesFirst s moment number es
+pub runs_first : {W : Type 0} (Called : W → W → List ℕ → Type 0) (u v : W) (s : State) (moment number : ℕ)
+    (queue : List ℕ) (k : ℕ) (es : List Entry) (left : List ℕ)
+    → RunsFrom Called u v s moment number queue k es left → HandlesFirst s moment number es
 runs_first Called u v s moment number queue zero es left h = absurd h
-runs_first Called u v s moment number queue (suc zero) es left (asked, r, called, e) = run_first s moment number asked es r
-runs_first Called u v s moment number queue (suc (suc k)) es left (asked, run, rest, r, e, mid, called, next, behind, n, more) =
+runs_first Called u v s moment number queue (suc zero) es left (asked, r, called, e) = run_first s moment
+    number asked es r
+runs_first Called u v s moment number queue (suc (suc k)) es left
+    (asked, run, rest, r, e, mid, called, next, behind, n, more) =
     let first = run_first s moment number asked run r in
-    record { rest = first.rest ++ rest; is = e ∙ ap (λ fs. fs ++ rest) first.is; event = first.event; there = first.there }
+    record { rest = first.rest ++ rest; is = e ∙ ap (λ fs. fs ++ rest) first.is; event = first.event; there =
+        first.there }
 
 -- after a first entry that handles an event, the event is not pending any more; it was due at the moment
 pub record IsHandled (s t : State) (moment number : ℕ) : Type 0 where
@@ -91,20 +108,24 @@ pub record IsHandled (s t : State) (moment number : ℕ) : Type 0 where
   pub due : event.due ≤ moment
   pub gone : pending_at number t.pending ≡ None
 
-pub is_handled : (s t : State) (moment number : ℕ) (es : List Entry) → IsValid s → IsLawful s es → t ≡ replay s es → HandlesFirst s moment number es → IsHandled s t moment number
+pub is_handled : (s t : State) (moment number : ℕ) (es : List Entry) → IsValid s → IsLawful s es
+    → t ≡ replay s es → HandlesFirst s moment number es → IsHandled s t moment number
 is_handled s t moment number es valid lawful is first =
     let lawful' : IsLawful s (Handled number moment ∷ first.rest) = subst (IsLawful s) first.is lawful in
     let may = lawful'.0 in
     let mid = after s (Handled number moment) in
-    let later : IsLater mid (replay mid first.rest) = never_back_lem mid first.rest (valid_after s (Handled number moment) valid may) lawful'.1 in
+    let later : IsLater mid (replay mid first.rest) = never_back_lem mid first.rest
+        (valid_after s (Handled number moment) valid may) lawful'.1 in
     let known = is_known s number first.event valid first.there in
     let below = known.below in
     let numbered = known.number in
-    let gone : pending_at number (without number s.pending) ≡ None = pending_gone number 0 s.pending s.next valid.rises in
+    let gone : pending_at number (without number s.pending) ≡ None = pending_gone number 0 s.pending s.next
+        valid.rises in
     let end : replay mid first.rest ≡ t = ap (replay s) (sym first.is) ∙ sym is in
     record {
       event = may.1;
       there = may.2;
       due = may.3;
-      gone = ap (λ (x : State). pending_at number x.pending) (sym end) ∙ later.closed number (omega arith) gone;
+      gone = ap (λ (x : State). pending_at number x.pending) (sym end) ∙ later.closed number (omega arith)
+          gone;
     }

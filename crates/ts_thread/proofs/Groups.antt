@@ -35,7 +35,9 @@ pub keeps_same : {T W : Type 0} (Fits : T → W → Type 0) (v w : W) → w ≡ 
 keeps_same Fits v w same tag = subst (Fits tag) (sym same)
 
 module _ {W Q R T U : Type 0} where
-  pub has_begun : (Fits : T → W → Type 0) (old new : Group W Q R T U) (turn seat moment : ℕ) → IsValid old.cx.log.state → BeginsTurn old.cx new.cx turn seat moment → KeepsRoles old.cx new.cx → new.world ≡ old.world → HasTurn Fits old new turn seat
+  pub has_begun : (Fits : T → W → Type 0) (old new : Group W Q R T U) (turn seat moment : ℕ)
+      → IsValid old.cx.log.state → BeginsTurn old.cx new.cx turn seat moment → KeepsRoles old.cx new.cx
+      → new.world ≡ old.world → HasTurn Fits old new turn seat
   has_begun Fits old new turn seat moment valid begins kept world = record {
     held = ap (λ (s : State). s.held) begins.state;
     number = ap (λ (s : State). s.turns) begins.state;
@@ -46,7 +48,8 @@ module _ {W Q R T U : Type 0} where
     tags = keeps_same Fits old.world new.world world;
   }
 
-  pub begins_same : {A E : Type 0} (r : Result A E) (old new : Group W Q R T U) (turn seat moment : ℕ) → OnOk r (BeginsTurn old.cx new.cx turn seat moment) → OnErr r (IsSame old.cx new.cx)
+  pub begins_same : {A E : Type 0} (r : Result A E) (old new : Group W Q R T U) (turn seat moment : ℕ)
+      → OnOk r (BeginsTurn old.cx new.cx turn seat moment) → OnErr r (IsSame old.cx new.cx)
       → KeepsRoles old.cx new.cx → new.world ≡ old.world → BeginsSame old new
   begins_same r old new turn seat moment ok err kept world =
       ⊎_elim
@@ -67,7 +70,9 @@ module _ {W Q R T U : Type 0} where
       (either_way r (BeginsTurn old.cx new.cx turn seat moment) (IsSame old.cx new.cx) ok err)
 
   -- a group in which no turn was begun
-  pub given_same : (Fits : T → W → Type 0) (old new : Group W Q R T U) (turn seat : ℕ) → old.cx.log.state.held ≡ false → IsSame old.cx new.cx → new.world ≡ old.world → IsGivenBack Fits old new turn seat × (new.cx.log.state ≡ old.cx.log.state)
+  pub given_same : (Fits : T → W → Type 0) (old new : Group W Q R T U) (turn seat : ℕ)
+      → old.cx.log.state.held ≡ false → IsSame old.cx new.cx → new.world ≡ old.world
+      → IsGivenBack Fits old new turn seat × (new.cx.log.state ≡ old.cx.log.state)
   given_same Fits old new turn seat free same world = (
     record {
       free = ap (λ (s : State). s.held) same.log.state ∙ free;
@@ -81,11 +86,13 @@ module _ {W Q R T U : Type 0} where
     same.log.state,
   )
 
-  pub gives_back : (old new : Group W Q R T U) → IsValid old.cx.log.state → GivesTurn old.cx new.cx → KeepsRoles old.cx new.cx → new.world ≡ old.world → GivesBack old new
+  pub gives_back : (old new : Group W Q R T U) → IsValid old.cx.log.state → GivesTurn old.cx new.cx
+      → KeepsRoles old.cx new.cx → new.world ≡ old.world → GivesBack old new
   gives_back old new valid gives kept world = record {
     free = ap (λ (s : State). s.held) gives.state;
     number = ap (λ (s : State). s.turns) gives.state;
-    marks = ap marks_of gives.by.entries ∙ no_marks old.cx.log.entries (Gave old.cx.log.state.turns ∷ []) refl;
+    marks = ap marks_of gives.by.entries ∙ no_marks old.cx.log.entries (Gave old.cx.log.state.turns ∷ [])
+        refl;
     later = extends_later old.cx.log new.cx.log (Gave old.cx.log.state.turns ∷ []) valid gives.by;
     base = gives.by.base;
     news_from = kept.news_from;
@@ -99,7 +106,8 @@ module _ {W Q R T U : Type 0} where
   }
 
   -- a turn that goes on
-  pub has_gone : (Fits : T → W → Type 0) (found a b : Group W Q R T U) (turn seat : ℕ) → HasTurn Fits found a turn seat → GoesInTurn Fits a b → HasTurn Fits found b turn seat
+  pub has_gone : (Fits : T → W → Type 0) (found a b : Group W Q R T U) (turn seat : ℕ)
+      → HasTurn Fits found a turn seat → GoesInTurn Fits a b → HasTurn Fits found b turn seat
   has_gone Fits found a b turn seat has goes = record {
     held = goes.turn.held;
     number = goes.turn.turns ∙ has.number;
@@ -111,20 +119,24 @@ module _ {W Q R T U : Type 0} where
   }
 
   -- a group in its turn follows what was found
-  pub turn_follows : (Fits : T → W → Type 0) (found now : Group W Q R T U) (turn seat : ℕ) → HasTurn Fits found now turn seat → FollowsGroup Fits now found
+  pub turn_follows : (Fits : T → W → Type 0) (found now : Group W Q R T U) (turn seat : ℕ)
+      → HasTurn Fits found now turn seat → FollowsGroup Fits now found
   turn_follows Fits found now turn seat has = record {
     journal = inr (ap (λ (s : State). s.turns) has.base, has.later);
     tags = λ same. has.tags;
   }
 
   -- a turn that is given back
-  pub given_back : (Fits : T → W → Type 0) (found a b : Group W Q R T U) (turn seat : ℕ) → HasTurn Fits found a turn seat → GivesBack a b → IsGivenBack Fits found b turn seat
+  pub given_back : (Fits : T → W → Type 0) (found a b : Group W Q R T U) (turn seat : ℕ)
+      → HasTurn Fits found a turn seat → GivesBack a b → IsGivenBack Fits found b turn seat
   given_back Fits found a b turn seat has gives = record {
     free = gives.free;
     stamp = inr (gives.number ∙ has.number);
     marks = λ mark there.
-        let was : Contains (marks_of found.cx.log.entries ++ (turn, seat) ∷ []) mark = subst (λ ms. Contains ms mark) (gives.marks ∙ has.marks) there in
-        ⊎_elim (λ (old : Contains (marks_of found.cx.log.entries) mark). inl old) (λ (one : Contains ((turn, seat) ∷ []) mark). inr (one_mark (turn, seat) mark one))
+        let was : Contains (marks_of found.cx.log.entries ++ (turn, seat) ∷ []) mark = subst
+            (λ ms. Contains ms mark) (gives.marks ∙ has.marks) there in
+        ⊎_elim (λ (old : Contains (marks_of found.cx.log.entries) mark). inl old)
+            (λ (one : Contains ((turn, seat) ∷ []) mark). inr (one_mark (turn, seat) mark one))
         (Contains-append_cases (marks_of found.cx.log.entries) ((turn, seat) ∷ []) mark was);
     later = later_trans found.cx.log.state a.cx.log.state b.cx.log.state has.later gives.later;
     base = gives.base ∙ has.base;

@@ -28,34 +28,44 @@ in_front e (y ∷ xs) ys (inr more) = inr (in_front e xs ys more)
 
 module _ {G T : Type 0} where
   -- a seat was split, each half kept what it had, and they were joined
-  pub joined_keeps : (v w u x : View G T) (l m n : ℕ) → 1 ≤ v.share → m + l ≤ n → KeepsSeat (right_half v) w m → KeepsSeat (left_half v) u l → x ≡ joined u w → KeepsSeat v x n
+  pub joined_keeps : (v w u x : View G T) (l m n : ℕ) → 1 ≤ v.share → m + l ≤ n → KeepsSeat (right_half v) w m
+      → KeepsSeat (left_half v) u l → x ≡ joined u w → KeepsSeat v x n
   joined_keeps v w u x l m n some le right left is = record {
-    share = let a = right.share in let b = left.share in let c : x.share ≡ u.share + w.share = ap (λ (y : View G T). y.share) is in omega arith;
+    share = let a = right.share in let b = left.share in let c : x.share ≡ u.share + w.share = ap
+        (λ (y : View G T). y.share) is in omega arith;
     names = ap (λ (y : View G T). y.names) is ∙ left.names;
     held = ap (λ (y : View G T). y.held) is ∙ left.held;
     turns = let a = right.turns in let b = left.turns in
-        let c : length x.turns ≡ length w.turns + length u.turns = ap (λ (y : View G T). length y.turns) is ∙ length-append w.turns u.turns in omega arith;
-    misses = let a = left.misses in let c : length x.misses ≡ length u.misses = ap (λ (y : View G T). length y.misses) is in omega arith;
-    known = record { stays = λ e h. subst (IsIn e) (sym (ap (λ (y : View G T). y.known) is)) (in_append e w.known u.known (left.known.stays e h)) };
+        let c : length x.turns ≡ length w.turns + length u.turns = ap (λ (y : View G T). length y.turns) is ∙
+            length-append w.turns u.turns in omega arith;
+    misses = let a = left.misses in let c : length x.misses ≡ length u.misses = ap
+        (λ (y : View G T). length y.misses) is in omega arith;
+    known = record { stays = λ e h. subst (IsIn e) (sym (ap (λ (y : View G T). y.known) is))
+        (in_append e w.known u.known (left.known.stays e h)) };
   }
 
   -- what the seat knew of which another was split off, the two know together
   pub joined_front : (v u w x : View G T) → u ≡ left_half v → x ≡ joined u w → More v.known x.known
   joined_front v u w x part is = record {
-    stays = λ e h. subst (IsIn e) (sym (ap (λ (y : View G T). y.known) is)) (in_append e w.known u.known (subst (IsIn e) (sym (ap (λ (y : View G T). y.known) part)) h));
+    stays = λ e h. subst (IsIn e) (sym (ap (λ (y : View G T). y.known) is))
+        (in_append e w.known u.known (subst (IsIn e) (sym (ap (λ (y : View G T). y.known) part)) h));
   }
 
   -- what the seat that was split off knows, the two know together
   pub joined_more : (u w x : View G T) → x ≡ joined u w → More w.known x.known
-  joined_more u w x is = record { stays = λ e h. subst (IsIn e) (sym (ap (λ (y : View G T). y.known) is)) (in_front e w.known u.known h) }
+  joined_more u w x is = record { stays = λ e h. subst (IsIn e) (sym (ap (λ (y : View G T). y.known) is))
+      (in_front e w.known u.known h) }
 
 -- what the pass that was split off put, the two have put together
 pub joined_put : (t : Token) (u w x : Known) → x ≡ with_joined u w → HasTicket t w.put → HasTicket t x.put
-joined_put t u w x is put = (put.0, subst (IsIn put.0) (sym (ap (λ (y : Known). y.put) is)) (in_front put.0 w.put u.put put.1), put.2)
+joined_put t u w x is put = (put.0, subst (IsIn put.0) (sym (ap (λ (y : Known). y.put) is))
+    (in_front put.0 w.put u.put put.1), put.2)
 
 -- the same for the shares of a pass
-pub joined_share : (v w u x : Known) → 1 ≤ v.share → w.share ≡ (split_part v).share → u.share ≡ (kept_part v).share → x ≡ with_joined u w → x.share ≡ v.share
-joined_share v w u x some right left is = let c : x.share ≡ u.share + w.share = ap (λ (y : Known). y.share) is in omega arith
+pub joined_share : (v w u x : Known) → 1 ≤ v.share → w.share ≡ (split_part v).share
+    → u.share ≡ (kept_part v).share → x ≡ with_joined u w → x.share ≡ v.share
+joined_share v w u x some right left is = let c : x.share ≡ u.share + w.share = ap (λ (y : Known). y.share) is
+    in omega arith
 
 pub le_of : (a b : ℕ) → a ≡ b → a ≤ b
 le_of a b e = omega arith

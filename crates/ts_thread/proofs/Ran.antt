@@ -27,7 +27,8 @@ where_true true is x = x
 where_true false is x = absurd (cc)
 
 -- a fact of an answer that is `Ok` is one of the answer's test
-pub on_ok : {A E B : Type 0} {P : A → Type 0} (r : Result A E) → ((a : A) → P a → B) → IfOk r P → OnTrue (is_ok r) B
+pub on_ok : {A E B : Type 0} {P : A → Type 0} (r : Result A E) → ((a : A) → P a → B) → IfOk r P
+    → OnTrue (is_ok r) B
 on_ok (Ok a) f p = f a p
 on_ok (Err e) f p = tt
 
@@ -36,8 +37,10 @@ module _ {W Q R T U : Type 0} {d : Ghosts (Group W Q R T U) T (Group W Q R T U)}
     (Answers : W → Q → R → Type 0) (Called : W → W → List ℕ → Type 0) (Heard : W → W → Asked Q R → Type 0)
     (Left : W → State → Option ℕ) (tags : List T) (budget : ℕ) where
   -- one thread more ran to its end
-  pub one_more_ran : (n : ℕ) → 1 < n → (seat back one one' rest rest' : Seat (Group W Q R T U) T (Group W Q R T U) d)
-      → (pass back_pass p p' q q' : QueuePass) → IsSplit seat one rest pass p q → IsJoined back one' rest' back_pass p' q'
+  pub one_more_ran : (n : ℕ) → 1 < n → (seat back one one' rest rest' : Seat (Group W Q R T U) T
+      (Group W Q R T U) d)
+      → (pass back_pass p p' q q' : QueuePass) → IsSplit seat one rest pass p q
+          → IsJoined back one' rest' back_pass p' q'
       → AllRanToEnd Fits Asking Answers Called Heard Left tags budget (n - 1) rest q rest' q'
       → RanToEnd Fits Asking Answers Called Heard Left tags budget one p one' p'
       → AllRanToEnd Fits Asking Answers Called Heard Left tags budget n seat pass back back_pass
@@ -45,7 +48,8 @@ module _ {W Q R T U : Type 0} {d : Ghosts (Group W Q R T U) T (Group W Q R T U)}
       absurd (omega arith)
   one_more_ran (suc zero) more seat back one one' rest rest' pass back_pass p p' q q' split joins others ran =
       absurd (omega arith)
-  one_more_ran (suc (suc n)) more seat back one one' rest rest' pass back_pass p p' q q' split joins others ran =
+  one_more_ran (suc (suc n)) more seat back one one' rest rest' pass back_pass p p' q q' split joins others
+      ran =
       let count : suc (suc n) - 1 ≡ suc n = omega arith in (
         one,
         one',
@@ -57,7 +61,8 @@ module _ {W Q R T U : Type 0} {d : Ghosts (Group W Q R T U) T (Group W Q R T U)}
         q',
         split,
         ran,
-        subst (λ m. AllRanToEnd Fits Asking Answers Called Heard Left tags budget m rest q rest' q') count others,
+        subst (λ m. AllRanToEnd Fits Asking Answers Called Heard Left tags budget m rest q rest' q') count
+            others,
         joins,
       )
 
@@ -67,7 +72,8 @@ module _ {W Q R T U : Type 0} {d : Ghosts (Group W Q R T U) T (Group W Q R T U)}
       → (seat back : Seat (Group W Q R T U) T (Group W Q R T U) d) → (pass back_pass : QueuePass)
       → (old.seat ≡ seat) × (old.pass ≡ pass) × (old.wheel ≡ []) → (new.seat ≡ back) × (new.pass ≡ back_pass)
       → IfOk result (HasRunTo Fits Asking Answers Called Heard Left own budget old new)
-      → OnTrue (is_ok result) (RanToEnd Fits Asking Answers Called Heard Left tags budget seat pass back back_pass)
+      → OnTrue (is_ok result) (RanToEnd Fits Asking Answers Called Heard Left tags budget seat pass back
+          back_pass)
   ran_alone own same result old new seat back pass back_pass begins ends =
       on_ok result (λ end ran. record {
         old = old;
@@ -75,5 +81,6 @@ module _ {W Q R T U : Type 0} {d : Ghosts (Group W Q R T U) T (Group W Q R T U)}
         end = end;
         begins = begins;
         ends = ends;
-        ran = subst (λ (ts : List T). HasRunTo Fits Asking Answers Called Heard Left ts budget old new end) same ran;
+        ran = subst (λ (ts : List T). HasRunTo Fits Asking Answers Called Heard Left ts budget old new end)
+            same ran;
       })

@@ -28,11 +28,13 @@ module _ {G T : Type 0} where
     names = ap (λ (u : View G T). u.names) e;
     held = ap (λ (u : View G T). u.held) e;
     turns = let h : length w.turns ≡ length v.turns = ap (λ (u : View G T). length u.turns) e in omega arith;
-    misses = let h : length w.misses ≡ length v.misses = ap (λ (u : View G T). length u.misses) e in omega arith;
+    misses = let h : length w.misses ≡ length v.misses = ap (λ (u : View G T). length u.misses) e in omega
+        arith;
     known = more_refl v.known w.known (ap (λ (u : View G T). u.known) e);
   }
 
-  pub keeps_trans : (v w u : View G T) (m n k : ℕ) → m + n ≤ k → KeepsSeat v w m → KeepsSeat w u n → KeepsSeat v u k
+  pub keeps_trans : (v w u : View G T) (m n k : ℕ) → m + n ≤ k → KeepsSeat v w m → KeepsSeat w u n
+      → KeepsSeat v u k
   keeps_trans v w u m n k le a b = record {
     share = b.share ∙ a.share;
     names = b.names ∙ a.names;
@@ -48,9 +50,12 @@ module _ {G T : Type 0} where
     share = leaves.share ∙ ap (λ (x : View G T). x.share) is;
     names = leaves.names ∙ ap (λ (x : View G T). x.names) is;
     held = leaves.held ∙ ap (λ (x : View G T). rest x.held) is;
-    turns = let h : length u.turns ≡ length ((k, t) ∷ v.turns) = ap (λ es. length es) leaves.turns ∙ ap (λ (x : View G T). length x.turns) is in omega arith;
-    misses = let h : length u.misses ≡ length v.misses = ap (λ es. length es) leaves.misses ∙ ap (λ (x : View G T). length x.misses) is in omega arith;
-    known = more_trans (more_one (k, t - 1, c) v.known w.known (ap (λ (x : View G T). x.known) is)) leaves.known;
+    turns = let h : length u.turns ≡ length ((k, t) ∷ v.turns) = ap (λ es. length es) leaves.turns ∙ ap
+        (λ (x : View G T). length x.turns) is in omega arith;
+    misses = let h : length u.misses ≡ length v.misses = ap (λ es. length es) leaves.misses ∙ ap
+        (λ (x : View G T). length x.misses) is in omega arith;
+    known = more_trans (more_one (k, t - 1, c) v.known w.known (ap (λ (x : View G T). x.known) is))
+        leaves.known;
   }
 
   pub missed_keeps : (v w : View G T) (k n m : ℕ) → w ≡ missed k n v → KeepsSeat v w m
@@ -59,7 +64,8 @@ module _ {G T : Type 0} where
     names = ap (λ (x : View G T). x.names) is;
     held = ap (λ (x : View G T). x.held) is;
     turns = let h : length w.turns ≡ length v.turns = ap (λ (x : View G T). length x.turns) is in omega arith;
-    misses = let h : length w.misses ≡ length ((k, n) ∷ v.misses) = ap (λ (x : View G T). length x.misses) is in omega arith;
+    misses = let h : length w.misses ≡ length ((k, n) ∷ v.misses) = ap (λ (x : View G T). length x.misses) is
+        in omega arith;
     known = more_refl v.known w.known (ap (λ (x : View G T). x.known) is);
   }
 
@@ -68,28 +74,37 @@ module _ {G T : Type 0} where
     share = b.share ∙ a.share;
     names = b.names ∙ a.names;
     held = b.held ∙ ap rest a.held;
-    turns = let x = a.turns in let y : length u.turns ≡ length w.turns = ap (λ es. length es) b.turns in omega arith;
-    misses = let x = a.misses in let y : length u.misses ≡ length w.misses = ap (λ es. length es) b.misses in omega arith;
+    turns = let x = a.turns in let y : length u.turns ≡ length w.turns = ap (λ es. length es) b.turns in omega
+        arith;
+    misses = let x = a.misses in let y : length u.misses ≡ length w.misses = ap (λ es. length es) b.misses in
+        omega arith;
     known = more_trans a.known b.known;
   }
 
   -- a group was won, and left after some turns more
-  pub won_closed : (v w u : View G T) (k t m n : ℕ) (c : T) → m + 1 ≤ n → w ≡ won k t c v → LeavesWon w u m → KeepsSeat v u n
+  pub won_closed : (v w u : View G T) (k t m n : ℕ) (c : T) → m + 1 ≤ n → w ≡ won k t c v → LeavesWon w u m
+      → KeepsSeat v u n
   won_closed v w u k t m n c le is closes = record {
     share = closes.share ∙ ap (λ (x : View G T). x.share) is;
     names = closes.names ∙ ap (λ (x : View G T). x.names) is;
     held = closes.held ∙ ap (λ (x : View G T). rest x.held) is;
-    turns = let a = closes.turns in let h : length w.turns ≡ length ((k, t) ∷ v.turns) = ap (λ (x : View G T). length x.turns) is in omega arith;
-    misses = let a = closes.misses in let h : length w.misses ≡ length v.misses = ap (λ (x : View G T). length x.misses) is in omega arith;
-    known = more_trans (more_one (k, t - 1, c) v.known w.known (ap (λ (x : View G T). x.known) is)) closes.known;
+    turns = let a = closes.turns in let h : length w.turns ≡ length ((k, t) ∷ v.turns) = ap
+        (λ (x : View G T). length x.turns) is in omega arith;
+    misses = let a = closes.misses in let h : length w.misses ≡ length v.misses = ap
+        (λ (x : View G T). length x.misses) is in omega arith;
+    known = more_trans (more_one (k, t - 1, c) v.known w.known (ap (λ (x : View G T). x.known) is))
+        closes.known;
   }
 
 module _ {X G T : Type 0} {d : Ghosts X G T} where
   pub same_number : (s t : Seat X G T d) → (view t).names ≡ (view s).names → t.number ≡ s.number
   same_number s t e = let h : t.number ∷ [] ≡ s.number ∷ [] = sym t.named.0 ∙ e ∙ s.named.0 in cc
 
-  pub left_seat : (turn : Turn X G T d) (v w : View G T) (r : Left) → IsTop v turn.group turn.number (d.trace turn.found.value)
-      → (r ≡ Freed → LeavesFree turn v w) → (r ≡ Worn → LeavesWorn turn v w) → GivesUp turn.group v.held w.held → Leaves v w × KnowsTurn turn.group turn.number (d.trace turn.value) w.known
+  pub left_seat : (turn : Turn X G T d) (v w : View G T) (r : Left)
+      → IsTop v turn.group turn.number (d.trace turn.found.value)
+      → (r ≡ Freed → LeavesFree turn v w) → (r ≡ Worn → LeavesWorn turn v w)
+          → GivesUp turn.group v.held w.held → Leaves v w × KnowsTurn turn.group turn.number
+          (d.trace turn.value) w.known
   left_seat turn v w Freed top freed worn up =
       let is = (freed refl).is in (
         record {
@@ -98,9 +113,11 @@ module _ {X G T : Type 0} {d : Ghosts X G T} where
           held = up.top turn.number (d.trace turn.found.value) top;
           turns = ap (λ (u : View G T). u.turns) is;
           misses = ap (λ (u : View G T). u.misses) is;
-          known = more_one (turn.group, turn.number, d.trace turn.value) v.known w.known (ap (λ (u : View G T). u.known) is);
+          known = more_one (turn.group, turn.number, d.trace turn.value) v.known w.known
+              (ap (λ (u : View G T). u.known) is);
         },
-        λ low. subst (IsIn (turn.group, turn.number, d.trace turn.value)) (sym (ap (λ (u : View G T). u.known) is)) (inl refl),
+        λ low. subst (IsIn (turn.group, turn.number, d.trace turn.value))
+            (sym (ap (λ (u : View G T). u.known) is)) (inl refl),
       )
   left_seat turn v w Worn top freed worn up =
       let is = (worn refl).is in

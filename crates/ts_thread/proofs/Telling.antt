@@ -33,33 +33,43 @@ some_is : {X : Type 0} (o : Option X) (x : X) → o ≡ Some x → is_some o ≡
 some_is o x e = ap is_some e
 
 -- a number is not pending, or has an event
-pending_or : (n : ℕ) (ps : List Pending) → (is_some (pending_at n ps) ≡ false) ⊎ ((p : Pending) × (pending_at n ps ≡ Some p))
+pending_or : (n : ℕ) (ps : List Pending)
+    → (is_some (pending_at n ps) ≡ false) ⊎ ((p : Pending) × (pending_at n ps ≡ Some p))
 pending_or n ps = either (pending_at n ps) refl
   where
-    either : (o : Option Pending) → pending_at n ps ≡ o → (is_some (pending_at n ps) ≡ false) ⊎ ((p : Pending) × (pending_at n ps ≡ Some p))
+    either : (o : Option Pending) → pending_at n ps ≡ o
+        → (is_some (pending_at n ps) ≡ false) ⊎ ((p : Pending) × (pending_at n ps ≡ Some p))
     either None e = inl (ap is_some e)
     either (Some p) e = inr (p, e)
 
--- of the tests whether a number stands between two, the one with the greater bound says more by that bound alone
+-- of the tests whether a number stands between two, the one with the greater bound says more by that bound
+-- alone
 between_at : (k from to n g m : ℕ) (b : Bool) → from ≤ to → to ≤ n → m ≡ n → b ≡ true
-    → one_if ((g == k) && (nat_le from m && (nat_lt m (n + 1) && b))) ≡ one_if ((g == k) && (nat_le from m && (nat_lt m to && b))) + one_if ((k == g) && (n == m))
+    → one_if ((g == k) && (nat_le from m && (nat_lt m (n + 1) && b))) ≡ one_if
+        ((g == k) && (nat_le from m && (nat_lt m to && b))) + one_if ((k == g) && (n == m))
 between_at k from to n g m b low high e is = grind (arith, nat_tests)
 
-between_other : (k from to n g m : ℕ) (b : Bool) → from ≤ to → to ≤ n → (m ≡ n → ⊥) → (m < to) ⊎ (n < m) ⊎ (b ≡ false)
-    → one_if ((g == k) && (nat_le from m && (nat_lt m (n + 1) && b))) ≡ one_if ((g == k) && (nat_le from m && (nat_lt m to && b))) + one_if ((k == g) && (n == m))
+between_other : (k from to n g m : ℕ) (b : Bool) → from ≤ to → to ≤ n → (m ≡ n → ⊥)
+    → (m < to) ⊎ (n < m) ⊎ (b ≡ false)
+    → one_if ((g == k) && (nat_le from m && (nat_lt m (n + 1) && b))) ≡ one_if
+        ((g == k) && (nat_le from m && (nat_lt m to && b))) + one_if ((k == g) && (n == m))
 between_other k from to n g m b low high e (inl below) = grind (arith, nat_tests)
 between_other k from to n g m b low high e (inr (inl above)) = grind (arith, nat_tests)
 between_other k from to n g m b low high e (inr (inr none)) = grind (arith, nat_tests)
 
 between_next : (k from to : ℕ) (s : State) (p : Pending) (t : Token) → from ≤ to → IsNews to s p
-    → one_if (is_between k from (p.number + 1) s.pending t) ≡ one_if (is_between k from to s.pending t) + one_if (is_same_token t (record { group = k; number = p.number }))
+    → one_if (is_between k from (p.number + 1) s.pending t) ≡ one_if (is_between k from to s.pending t) +
+        one_if (is_same_token t (record { group = k; number = p.number }))
 between_next k from to s p t low (there, high, least) =
     ⊎_elim
-    (λ (e : t.number ≡ p.number). between_at k from to p.number t.group t.number (is_some (pending_at t.number s.pending)) low high e
+    (λ (e : t.number ≡ p.number). between_at k from to p.number t.group t.number
+        (is_some (pending_at t.number s.pending)) low high e
     (some_is (pending_at t.number s.pending) p (ap (λ n. pending_at n s.pending) e ∙ there)))
-    (λ (n : t.number ≡ p.number → ⊥). between_other k from to p.number t.group t.number (is_some (pending_at t.number s.pending)) low high n
+    (λ (n : t.number ≡ p.number → ⊥). between_other k from to p.number t.group t.number
+        (is_some (pending_at t.number s.pending)) low high n
     (⊎_elim (λ (below : t.number < to). inl below) (λ (above : to ≤ t.number). inr (⊎_elim (λ none. inr none)
-    (λ (there' : (q : Pending) × (pending_at t.number s.pending ≡ Some q)). let le = least t.number there'.0 there'.1 above in inl (omega arith))
+    (λ (there' : (q : Pending) × (pending_at t.number s.pending ≡ Some q)). let le = least t.number there'.0
+        there'.1 above in inl (omega arith))
     (pending_or t.number s.pending))) (cases_lt t.number to)))
     (cases_eq t.number p.number)
 
@@ -67,14 +77,17 @@ ticket_stays : (t : Token) (u : Ticket) (us : List Ticket) → HasTicket t us �
 ticket_stays t u us (v, there, is) = (v, inr there, is)
 
 same_refl : (a : Context) → IsSame a a
-same_refl a = record { log = record { base = refl; entries = refl; state = refl }; roles = refl; moment = refl; running = refl; role = refl; news_from = refl; calls = refl }
+same_refl a = record { log = record { base = refl; entries = refl; state = refl }; roles = refl; moment =
+    refl; running = refl; role = refl; news_from = refl; calls = refl }
 
 none_between : (k from : ℕ) (ps : List Pending) (t : Token) → one_if (is_between k from from ps t) ≡ 0
 none_between k from ps t = grind (arith, nat_tests)
 
-same_next : (a b c : Context) → IsSame (record a { news_from = b.news_from }) b → IsSame (record b { news_from = c.news_from }) c → IsSame (record a { news_from = c.news_from }) c
+same_next : (a b c : Context) → IsSame (record a { news_from = b.news_from }) b
+    → IsSame (record b { news_from = c.news_from }) c → IsSame (record a { news_from = c.news_from }) c
 same_next a b c p q = record {
-  log = record { base = q.log.base ∙ p.log.base; entries = q.log.entries ∙ p.log.entries; state = q.log.state ∙ p.log.state };
+  log = record { base = q.log.base ∙ p.log.base; entries = q.log.entries ∙ p.log.entries; state = q.log.state
+      ∙ p.log.state };
   roles = q.roles ∙ p.roles;
   moment = q.moment ∙ p.moment;
   running = q.running ∙ p.running;
@@ -87,10 +100,12 @@ module _ {X G T : Type 0} {d : Ghosts X G T} where
   keeps_refl : (desk : Desk X G T d) → KeepsPlaces desk desk
   keeps_refl desk = record { wheel = λ e h. h; put = λ t h. h; taken = refl }
 
-  keeps_place : (a b : Desk X G T d) (token : Token) (due moment : ℕ) → Places token due moment a b → KeepsPlaces a b
+  keeps_place : (a b : Desk X G T d) (token : Token) (due moment : ℕ) → Places token due moment a b
+      → KeepsPlaces a b
   keeps_place a b token due moment (inl puts) = record {
     wheel = λ e h. subst (IsIn e) (sym puts.wheel) h;
-    put = λ t h. subst (λ (v : View). HasTicket t v.put) (sym puts.pass) (ticket_stays t (next_ticket (pass_view a.pass) token) (pass_view a.pass).put h);
+    put = λ t h. subst (λ (v : View). HasTicket t v.put) (sym puts.pass)
+        (ticket_stays t (next_ticket (pass_view a.pass) token) (pass_view a.pass).put h);
     taken = ap (λ (v : View). v.taken) puts.pass;
   }
   keeps_place a b token due moment (inr adds) = record {
@@ -100,10 +115,12 @@ module _ {X G T : Type 0} {d : Ghosts X G T} where
   }
 
   pub keeps_trans : (a b c : Desk X G T d) → KeepsPlaces a b → KeepsPlaces b c → KeepsPlaces a c
-  keeps_trans a b c h k = record { wheel = λ e x. k.wheel e (h.wheel e x); put = λ t x. k.put t (h.put t x); taken = k.taken ∙ h.taken }
+  keeps_trans a b c h k = record { wheel = λ e x. k.wheel e (h.wheel e x); put = λ t x. k.put t (h.put t x);
+      taken = k.taken ∙ h.taken }
 
   -- a token was added to the wheel
-  pub keeps_added : (a b : Desk X G T d) (token : Token) (due : ℕ) → b.wheel ≡ added due token a.wheel → b.pass ≡ a.pass → KeepsPlaces a b
+  pub keeps_added : (a b : Desk X G T d) (token : Token) (due : ℕ) → b.wheel ≡ added due token a.wheel
+      → b.pass ≡ a.pass → KeepsPlaces a b
   keeps_added a b token due wheel pass = record {
     wheel = λ e h. subst (IsIn e) (sym wheel) (in_added due token a.wheel e h);
     put = λ t h. subst (λ (p : QueuePass). HasTicket t (pass_view p).put) (sym pass) h;
@@ -118,31 +135,44 @@ module _ {X G T : Type 0} {d : Ghosts X G T} where
     taken = ap (λ (v : View). v.taken) same.pass ∙ keeps.taken;
   }
 
-  has_place : (a b : Desk X G T d) (moment k : ℕ) (p : Pending) → Places (record { group = k; number = p.number }) p.due moment a b → HasPlace moment k p b
+  has_place : (a b : Desk X G T d) (moment k : ℕ) (p : Pending)
+      → Places (record { group = k; number = p.number }) p.due moment a b → HasPlace moment k p b
   has_place a b moment k p (inl puts) =
-      inr (puts.is_due, subst (λ (v : View). HasTicket (record { group = k; number = p.number }) v.put) (sym puts.pass) (next_ticket (pass_view a.pass) (record { group = k; number = p.number }), inl refl, refl))
-  has_place a b moment k p (inr adds) = inl (subst (IsIn (p.due, record { group = k; number = p.number })) (sym adds.wheel) (is_added p.due (record { group = k; number = p.number }) a.wheel))
+      inr (puts.is_due, subst (λ (v : View). HasTicket (record { group = k; number = p.number }) v.put)
+          (sym puts.pass) (next_ticket (pass_view a.pass) (record { group = k; number = p.number }), inl refl,
+          refl))
+  has_place a b moment k p (inr adds) = inl (subst (IsIn (p.due, record { group = k; number = p.number }))
+      (sym adds.wheel) (is_added p.due (record { group = k; number = p.number }) a.wheel))
 
-  place_stays : (a b : Desk X G T d) (moment k : ℕ) (p : Pending) → KeepsPlaces a b → HasPlace moment k p a → HasPlace moment k p b
-  place_stays a b moment k p keeps (inl there) = inl (keeps.wheel (p.due, record { group = k; number = p.number }) there)
-  place_stays a b moment k p keeps (inr put) = inr (put.0, keeps.put (record { group = k; number = p.number }) put.1)
+  place_stays : (a b : Desk X G T d) (moment k : ℕ) (p : Pending) → KeepsPlaces a b → HasPlace moment k p a
+      → HasPlace moment k p b
+  place_stays a b moment k p keeps (inl there) = inl
+      (keeps.wheel (p.due, record { group = k; number = p.number }) there)
+  place_stays a b moment k p keeps (inr put) = inr
+      (put.0, keeps.put (record { group = k; number = p.number }) put.1)
 
-  count_place : (a b : Desk X G T d) (token : Token) (due moment : ℕ) (t : Token) → Places token due moment a b → places_of t b ≡ places_of t a + one_if (is_same_token t token)
+  count_place : (a b : Desk X G T d) (token : Token) (due moment : ℕ) (t : Token)
+      → Places token due moment a b → places_of t b ≡ places_of t a + one_if (is_same_token t token)
   count_place a b token due moment t (inl puts) =
       let w : in_wheel t b.wheel ≡ in_wheel t a.wheel = ap (in_wheel t) puts.wheel in
-      let p : in_tickets t (pass_view b.pass).put ≡ in_tickets t (next_ticket (pass_view a.pass) token ∷ (pass_view a.pass).put) = ap (λ (v : View). in_tickets t v.put) puts.pass in
+      let p : in_tickets t (pass_view b.pass).put ≡ in_tickets t
+          (next_ticket (pass_view a.pass) token ∷ (pass_view a.pass).put) = ap
+          (λ (v : View). in_tickets t v.put) puts.pass in
       let c = tickets-cons t (next_ticket (pass_view a.pass) token) (pass_view a.pass).put in omega arith
   count_place a b token due moment t (inr adds) =
       let w : in_wheel t b.wheel ≡ in_wheel t (added due token a.wheel) = ap (in_wheel t) adds.wheel in
-      let p : in_tickets t (pass_view b.pass).put ≡ in_tickets t (pass_view a.pass).put = ap (λ (v : View). in_tickets t v.put) adds.pass in
+      let p : in_tickets t (pass_view b.pass).put ≡ in_tickets t (pass_view a.pass).put = ap
+          (λ (v : View). in_tickets t v.put) adds.pass in
       let c = wheel-added t due token a.wheel in omega arith
 
-  share_place : (a b : Desk X G T d) (token : Token) (due moment : ℕ) → Places token due moment a b → SharesSame a b
+  share_place : (a b : Desk X G T d) (token : Token) (due moment : ℕ) → Places token due moment a b
+      → SharesSame a b
   share_place a b token due moment (inl puts) = ap (λ (v : View). v.share) puts.pass
   share_place a b token due moment (inr adds) = ap (λ (v : View). v.share) adds.pass
 
   -- a desk stays one of its tables when a token of one of the groups gets a place
-  pub desk_place : (slots : Slots X G T) (queue : EventQueue) (a b : Desk X G T d) (token : Token) (due moment : ℕ) → IsDeskOf slots queue a → token.group < length (tags_of slots)
+  pub desk_place : (slots : Slots X G T) (queue : EventQueue) (a b : Desk X G T d) (token : Token)
+      (due moment : ℕ) → IsDeskOf slots queue a → token.group < length (tags_of slots)
       → IsPassOf queue b.pass → b.seat ≡ a.seat → Places token due moment a b → IsDeskOf slots queue b
   desk_place slots queue a b token due moment was names pass seat (inl puts) = record {
     seat = subst (IsSeatOf slots) (sym seat) was.seat;
@@ -152,10 +182,12 @@ module _ {X G T : Type 0} {d : Ghosts X G T} where
   desk_place slots queue a b token due moment was names pass seat (inr adds) = record {
     seat = subst (IsSeatOf slots) (sym seat) was.seat;
     pass = pass;
-    wheel = subst (AllName (length (tags_of slots))) (sym adds.wheel) (All-added (λ (e : ℕ × Token). e.1.group < length (tags_of slots)) due token a.wheel names was.wheel);
+    wheel = subst (AllName (length (tags_of slots))) (sym adds.wheel)
+        (All-added (λ (e : ℕ × Token). e.1.group < length (tags_of slots)) due token a.wheel names was.wheel);
   }
 
-  pub desk_same : (slots : Slots X G T) (queue : EventQueue) (a b : Desk X G T d) → IsDeskOf slots queue a → IsPassOf queue b.pass → b.seat ≡ a.seat → SamePlaces a b → IsDeskOf slots queue b
+  pub desk_same : (slots : Slots X G T) (queue : EventQueue) (a b : Desk X G T d) → IsDeskOf slots queue a
+      → IsPassOf queue b.pass → b.seat ≡ a.seat → SamePlaces a b → IsDeskOf slots queue b
   desk_same slots queue a b was pass seat same = record {
     seat = subst (IsSeatOf slots) (sym seat) was.seat;
     pass = pass;
@@ -163,20 +195,24 @@ module _ {X G T : Type 0} {d : Ghosts X G T} where
   }
 
   -- So much of the news was told: that with numbers up to the one from which on the group has news.
-  pub record IsTelling {W Q R T' U : Type 0} (k moment : ℕ) (first now : Group W Q R T' U) (old new : Desk X G T d) : Type 0 where
+  pub record IsTelling {W Q R T' U : Type 0} (k moment : ℕ) (first now : Group W Q R T' U)
+      (old new : Desk X G T d) : Type 0 where
     pub same : IsSame (record first.cx { news_from = now.cx.news_from }) now.cx
     pub world : now.world ≡ first.world
     pub valid : IsValid now.cx.log.state
     pub from : first.cx.news_from ≤ now.cx.news_from
-    pub each : (n : ℕ) (p : Pending) → pending_at n now.cx.log.state.pending ≡ Some p → first.cx.news_from ≤ n → n < now.cx.news_from → HasPlace moment k p new
-    pub once : (t : Token) → places_of t new ≡ places_of t old + one_if (is_between k first.cx.news_from now.cx.news_from now.cx.log.state.pending t)
+    pub each : (n : ℕ) (p : Pending) → pending_at n now.cx.log.state.pending ≡ Some p → first.cx.news_from ≤ n
+        → n < now.cx.news_from → HasPlace moment k p new
+    pub once : (t : Token) → places_of t new ≡ places_of t old + one_if
+        (is_between k first.cx.news_from now.cx.news_from now.cx.log.state.pending t)
     pub keeps : KeepsPlaces old new
     pub seat : new.seat ≡ old.seat
     pub share : SharesSame old new
     pub empties : empties_of new.pass ≡ empties_of old.pass
 
   module _ {W Q R T' U : Type 0} (k moment : ℕ) where
-    pub telling_begins : (g : Group W Q R T' U) (desk : Desk X G T d) → IsValid g.cx.log.state → IsTelling k moment g g desk desk
+    pub telling_begins : (g : Group W Q R T' U) (desk : Desk X G T d) → IsValid g.cx.log.state
+        → IsTelling k moment g g desk desk
     telling_begins g desk valid = record {
       same = same_refl g.cx;
       world = refl;
@@ -191,17 +227,25 @@ module _ {X G T : Type 0} {d : Ghosts X G T} where
     }
 
     -- the group is the same but for its news, after one piece of it was asked for
-    pub telling_same : (first a b : Group W Q R T' U) (old desk : Desk X G T d) → IsTelling k moment first a old desk → IsSame (record a.cx { news_from = b.cx.news_from }) b.cx → b.world ≡ a.world
+    pub telling_same : (first a b : Group W Q R T' U) (old desk : Desk X G T d)
+        → IsTelling k moment first a old desk → IsSame (record a.cx { news_from = b.cx.news_from }) b.cx
+        → b.world ≡ a.world
         → IsSame (record first.cx { news_from = b.cx.news_from }) b.cx × (b.world ≡ first.world)
-    telling_same first a b old desk was same world = (same_next first.cx a.cx b.cx was.same same, world ∙ was.world)
+    telling_same first a b old desk was same world =
+        (same_next first.cx a.cx b.cx was.same same, world ∙ was.world)
 
-    pub telling_goes_on : (first a b : Group W Q R T' U) (old desk next : Desk X G T d) (number due : ℕ) → IsTelling k moment first a old desk → IsFirstNews a.cx number due
-        → b.cx.news_from ≡ number + 1 → IsSame (record a.cx { news_from = b.cx.news_from }) b.cx → b.world ≡ a.world → next.seat ≡ desk.seat → empties_of next.pass ≡ empties_of desk.pass
-        → Places (record { group = k; number = number }) due moment desk next → IsTelling k moment first b old next
-    telling_goes_on first a b old desk next number due was (p, news, number_is, due_is) from same world seat empties places =
+    pub telling_goes_on : (first a b : Group W Q R T' U) (old desk next : Desk X G T d) (number due : ℕ)
+        → IsTelling k moment first a old desk → IsFirstNews a.cx number due
+        → b.cx.news_from ≡ number + 1 → IsSame (record a.cx { news_from = b.cx.news_from }) b.cx
+            → b.world ≡ a.world → next.seat ≡ desk.seat → empties_of next.pass ≡ empties_of desk.pass
+        → Places (record { group = k; number = number }) due moment desk next
+            → IsTelling k moment first b old next
+    telling_goes_on first a b old desk next number due was (p, news, number_is, due_is) from same world seat
+        empties places =
         let state : b.cx.log.state ≡ a.cx.log.state = same.log.state in
         let places' : Places (record { group = k; number = p.number }) p.due moment desk next =
-        subst (λ (x : ℕ × ℕ). Places (record { group = k; number = x.0 }) x.1 moment desk next) (λ i. (sym number_is i, sym due_is i)) places in
+        subst (λ (x : ℕ × ℕ). Places (record { group = k; number = x.0 }) x.1 moment desk next)
+            (λ i. (sym number_is i, sym due_is i)) places in
         let keeps = keeps_place desk next (record { group = k; number = p.number }) p.due moment places' in
         let up = was.from in
         let high = news.1 in
@@ -212,40 +256,56 @@ module _ {X G T : Type 0} {d : Ghosts X G T} where
           valid = subst IsValid (sym state) was.valid;
           from = omega arith;
           each = λ n q there low below.
-              let there' : pending_at n a.cx.log.state.pending ≡ Some q = ap (λ (s : State). pending_at n s.pending) (sym state) ∙ there in
+              let there' : pending_at n a.cx.log.state.pending ≡ Some q = ap
+                  (λ (s : State). pending_at n s.pending) (sym state) ∙ there in
               ⊎_elim
-              (λ (old' : n < a.cx.news_from). place_stays desk next moment k q keeps (was.each n q there' low old'))
+              (λ (old' : n < a.cx.news_from). place_stays desk next moment k q keeps
+                  (was.each n q there' low old'))
               (λ (new' : a.cx.news_from ≤ n).
               let le = news.2 n q there' new' in
               let is : n ≡ p.number = omega arith in
-              let same' : p ≡ q = same_some p q (sym news.0 ∙ ap (λ m. pending_at m a.cx.log.state.pending) (sym is) ∙ there') in
-              subst (λ (x : Pending). HasPlace moment k x next) same' (has_place desk next moment k p places'))
+              let same' : p ≡ q = same_some p q
+                  (sym news.0 ∙ ap (λ m. pending_at m a.cx.log.state.pending) (sym is) ∙ there') in
+              subst (λ (x : Pending). HasPlace moment k x next) same'
+                  (has_place desk next moment k p places'))
               (cases_lt n a.cx.news_from);
           once = λ t.
               let one = was.once t in
-              let more = count_place desk next (record { group = k; number = p.number }) p.due moment t places' in
+              let more = count_place desk next (record { group = k; number = p.number }) p.due moment t
+                  places' in
               let next' = between_next k first.cx.news_from a.cx.news_from a.cx.log.state p t up news in
-              let is : one_if (is_between k first.cx.news_from b.cx.news_from b.cx.log.state.pending t) ≡ one_if (is_between k first.cx.news_from (p.number + 1) a.cx.log.state.pending t) =
+              let is : one_if (is_between k first.cx.news_from b.cx.news_from b.cx.log.state.pending t) ≡
+                  one_if (is_between k first.cx.news_from (p.number + 1) a.cx.log.state.pending t) =
               (λ i. one_if (is_between k first.cx.news_from (from' i) (state i).pending t)) in omega arith;
           keeps = keeps_trans old desk next was.keeps keeps;
           seat = seat ∙ was.seat;
           empties = empties ∙ was.empties;
-          share = share_place desk next (record { group = k; number = p.number }) p.due moment places' ∙ was.share;
+          share = share_place desk next (record { group = k; number = p.number }) p.due moment places' ∙
+              was.share;
         }
 
-    pub telling_ends : (first a b : Group W Q R T' U) (old desk : Desk X G T d) → IsTelling k moment first a old desk → NoNews a.cx.news_from a.cx.log.state → b.cx.news_from ≡ a.cx.news_from
+    pub telling_ends : (first a b : Group W Q R T' U) (old desk : Desk X G T d)
+        → IsTelling k moment first a old desk → NoNews a.cx.news_from a.cx.log.state
+        → b.cx.news_from ≡ a.cx.news_from
         → IsSame (record a.cx { news_from = b.cx.news_from }) b.cx → HasTold k moment first b old desk
     telling_ends first a b old desk was none still same =
         let state : b.cx.log.state ≡ a.cx.log.state = same.log.state in
         record {
-          none = λ n p there. let low = none n p (ap (λ (s : State). pending_at n s.pending) (sym state) ∙ there) in omega arith;
-          each = λ n p there low. let there' : pending_at n a.cx.log.state.pending ≡ Some p = ap (λ (s : State). pending_at n s.pending) (sym state) ∙ there in was.each n p there' low (none n p there');
-          once = λ t. was.once t ∙ ap (λ (x : ℕ × State). places_of t old + one_if (is_between k first.cx.news_from x.0 x.1.pending t)) (λ i. (sym still i, sym state i));
+          none = λ n p there. let low = none n p
+              (ap (λ (s : State). pending_at n s.pending) (sym state) ∙ there) in omega arith;
+          each = λ n p there low. let there' : pending_at n a.cx.log.state.pending ≡ Some p = ap
+              (λ (s : State). pending_at n s.pending) (sym state) ∙ there in was.each n p there' low
+              (none n p there');
+          once = λ t. was.once t ∙ ap (λ (x : ℕ × State). places_of t old + one_if
+              (is_between k first.cx.news_from x.0 x.1.pending t)) (λ i. (sym still i, sym state i));
           keeps = was.keeps;
           empties = was.empties;
         }
 
     -- there is less to tell after each piece
-    pub telling_less : (first a : Group W Q R T' U) (old desk : Desk X G T d) (number due : ℕ) → IsTelling k moment first a old desk → IsFirstNews a.cx number due → (a.cx.news_from ≤ number) × (number < a.cx.log.state.next)
+    pub telling_less : (first a : Group W Q R T' U) (old desk : Desk X G T d) (number due : ℕ)
+        → IsTelling k moment first a old desk → IsFirstNews a.cx number due
+        → (a.cx.news_from ≤ number) × (number < a.cx.log.state.next)
     telling_less first a old desk number due was (p, news, number_is, due_is) =
-        let known = is_known a.cx.log.state p.number p was.valid news.0 in let below = known.below in let high = news.1 in (omega arith, omega arith)
+        let known = is_known a.cx.log.state p.number p was.valid news.0 in let below = known.below in let high
+            = news.1 in (omega arith, omega arith)

@@ -3,6 +3,7 @@ use Rattle.std.proofs.Common.{◌≡◌, ℕ, zero, suc, ◌+◌, ◌*◌, ◌<�
 use Rattle.std.specs.Prelude.{Result, Ok, Err, IfOk, IfErr, IsErr, slice_get}
 use Rattle.std.specs.List.{Contains}
 use Rattle.std.specs.Bool.{OnTrue}
+use Rattle.ts_lists.proofs.Places.{got_place, place_got}
 use mathlib.Core.Option.{some}
 use lib.ListN.{get_elem?}
 use Rattle.ts_link.specs.declared.octets.NoMemory.{NoMemory}
@@ -41,28 +42,13 @@ use Rattle.ts_thread.specs.Tags.{GroupFits, CanAsk}
 use Rattle.ts_thread.specs.Turning.{Works}
 use Rattle.ts_thread.proofs.Entries.{own_marks, own_handles, runs_marks, runs_first, is_handled, no_marks}
 
--- the same element at the same place, as the slots say it and as std does
-pub to_slice : {A : Type 0} (xs : List A) (k : ℕ) (x : A) → get_elem? xs k ≡ some x → slice_get xs k ≡ Some x
-to_slice [] k x e = absurd (cc)
-to_slice (y ∷ ys) zero x e = let h : y ≡ x = cc in ap Some h
-to_slice (y ∷ ys) (suc k) x e = to_slice ys k x e
-
-pub from_slice : {A : Type 0} (xs : List A) (k : ℕ) (x : A) → slice_get xs k ≡ Some x → get_elem? xs k ≡ some x
-from_slice [] k x e = absurd (cc)
-from_slice (y ∷ ys) zero x e = let h : y ≡ x = cc in ap some h
-from_slice (y ∷ ys) (suc k) x e = from_slice ys k x e
-
-pub at_below : {A : Type 0} (xs : List A) (k : ℕ) (x : A) → get_elem? xs k ≡ some x → k < length xs
-at_below [] k x e = absurd (cc)
-at_below (y ∷ ys) zero x e = omega arith
-at_below (y ∷ ys) (suc k) x e = let h = at_below ys k x e in omega arith
-
 pub err_any : {A E : Type 0} (r : Result A E) (P : A → Type 0) → IsErr r → IfOk r P
 err_any (Ok a) P e = absurd (cc)
 err_any (Err a) P e = tt
 
 -- what was handled stays handled
-pub due_later : (a b c : State) (number moment : ℕ) → IsValid a → IsLater a b → IsLater b c → WasDue a b number moment → WasDue a c number moment
+pub due_later : (a b c : State) (number moment : ℕ) → IsValid a → IsLater a b → IsLater b c
+    → WasDue a b number moment → WasDue a c number moment
 due_later a b c number moment valid ab bc w =
     let known = is_known a number w.event valid w.there in
     let below = known.below in
@@ -70,20 +56,28 @@ due_later a b c number moment valid ab bc w =
     let up = ab.next in
     record { event = w.event; there = w.there; due = w.due; gone = bc.closed number (omega arith) w.gone }
 
-pub handled_later : (a b c : State) (number moment events : ℕ) → IsValid a → IsLater a b → IsLater b c → c.handled_count ≡ b.handled_count → HandledDue a b number moment events → HandledDue a c number moment events
+pub handled_later : (a b c : State) (number moment events : ℕ) → IsValid a → IsLater a b → IsLater b c
+    → c.handled_count ≡ b.handled_count → HandledDue a b number moment events
+    → HandledDue a c number moment events
 handled_later a b c number moment events valid ab bc same h =
-    record { was_due = due_later a b c number moment valid ab bc h.was_due; some = h.some; most = h.most; rise = same ∙ h.rise }
+    record { was_due = due_later a b c number moment valid ab bc h.was_due; some = h.some; most = h.most; rise
+        = same ∙ h.rise }
 
 -- something is pending
 not_none : (ps : List Pending) (number : ℕ) (p : Pending) → pending_at number ps ≡ Some p → ps ≡ [] → ⊥
-not_none ps number p there none = let h : pending_at number [] ≡ Some p = sym (ap (pending_at number) none) ∙ there in absurd (cc)
+not_none ps number p there none = let h : pending_at number [] ≡ Some p = sym (ap (pending_at number) none) ∙
+    there in absurd (cc)
 
 module _ {W Q R T U : Type 0} where
-  module _ (Called : W → W → List ℕ → Type 0) (Fits : T → W → Type 0) (old new : Group W Q R T U) (number moment events : ℕ) (valid : IsValid old.cx.log.state) (h : Handles Called old new number moment events) where
+  module _ (Called : W → W → List ℕ → Type 0) (Fits : T → W → Type 0) (old new : Group W Q R T U)
+      (number moment events : ℕ) (valid : IsValid old.cx.log.state)
+      (h : Handles Called old new number moment events) where
     pub handles_goes : KeepsTags Fits old.world new.world → GoesInTurn Fits old new
     handles_goes tags = record {
       turn = h.turn;
-      marks = ap marks_of h.by.entries ∙ no_marks old.cx.log.entries h.es (runs_marks Called old.world new.world old.cx.log.state moment number [] events h.es new.cx.calls h.runs);
+      marks = ap marks_of h.by.entries ∙ no_marks old.cx.log.entries h.es
+          (runs_marks Called old.world new.world old.cx.log.state moment number [] events h.es new.cx.calls
+          h.runs);
       later = extends_later old.cx.log new.cx.log h.es valid h.by;
       base = h.by.base;
       news_from = h.news_from;
@@ -92,28 +86,39 @@ module _ {W Q R T U : Type 0} where
 
     pub handles_due : HandledDue old.cx.log.state new.cx.log.state number moment events
     handles_due =
-        let x = is_handled old.cx.log.state new.cx.log.state moment number h.es valid h.by.lawful h.by.state (runs_first Called old.world new.world old.cx.log.state moment number [] events h.es new.cx.calls h.runs) in
-        record { was_due = record { event = x.event; there = x.there; due = x.due; gone = x.gone }; some = h.some; most = h.most; rise = h.rise }
+        let x = is_handled old.cx.log.state new.cx.log.state moment number h.es valid h.by.lawful h.by.state
+            (runs_first Called old.world new.world old.cx.log.state moment number [] events h.es new.cx.calls
+            h.runs) in
+        record { was_due = record { event = x.event; there = x.there; due = x.due; gone = x.gone }; some =
+            h.some; most = h.most; rise = h.rise }
 
-    pub handles_few : SetsAtMost Fits old.world (MOST_EVENTS * (MOST_SET + 1)) old.cx new.cx → SetsFewInTurn Fits old new
+    pub handles_few : SetsAtMost Fits old.world (MOST_EVENTS * (MOST_SET + 1)) old.cx new.cx
+        → SetsFewInTurn Fits old new
     handles_few few =
         let due = handles_due in
         record {
-          few = λ t fit. let f : new.cx.log.state.next ≤ old.cx.log.state.next + 6464 = few t fit in omega arith;
-          nothing = λ none. absurd (not_none old.cx.log.state.pending number due.was_due.event due.was_due.there none);
+          few = λ t fit. let f : new.cx.log.state.next ≤ old.cx.log.state.next + 6464 = few t fit in omega
+              arith;
+          nothing = λ none. absurd (not_none old.cx.log.state.pending number due.was_due.event
+              due.was_due.there none);
         }
 
-  pub grows_goes : (Fits : T → W → Type 0) (old new : Group W Q R T U) → IsValid old.cx.log.state → Grows old.cx new.cx → StaysInTurn old.cx.log.state new.cx.log.state → KeepsTags Fits old.world new.world → GoesInTurn Fits old new
+  pub grows_goes : (Fits : T → W → Type 0) (old new : Group W Q R T U) → IsValid old.cx.log.state
+      → Grows old.cx new.cx → StaysInTurn old.cx.log.state new.cx.log.state
+      → KeepsTags Fits old.world new.world → GoesInTurn Fits old new
   grows_goes Fits old new valid grows turn tags = record {
     turn = turn;
-    marks = ap marks_of grows.log.by.entries ∙ no_marks old.cx.log.entries grows.log.own (own_marks grows.log.own grows.log.all_own);
+    marks = ap marks_of grows.log.by.entries ∙ no_marks old.cx.log.entries grows.log.own
+        (own_marks grows.log.own grows.log.all_own);
     later = extends_later old.cx.log new.cx.log grows.log.own valid grows.log.by;
     base = grows.log.by.base;
     news_from = grows.news_from;
     tags = tags;
   }
 
-  pub question_goes : (Fits : T → W → Type 0) (old new : Group W Q R T U) (moment : ℕ) → IsValid old.cx.log.state → TakesQuestion old.cx new.cx moment → KeepsTags Fits old.world new.world → GoesInTurn Fits old new
+  pub question_goes : (Fits : T → W → Type 0) (old new : Group W Q R T U) (moment : ℕ)
+      → IsValid old.cx.log.state → TakesQuestion old.cx new.cx moment → KeepsTags Fits old.world new.world
+      → GoesInTurn Fits old new
   question_goes Fits old new moment valid q tags = record {
     turn = q.turn;
     marks = ap marks_of q.by.entries ∙ no_marks old.cx.log.entries _ (own_marks q.own q.all_own);
@@ -123,9 +128,11 @@ module _ {W Q R T U : Type 0} where
     tags = tags;
   }
 
-  pub same_goes : (Fits : T → W → Type 0) (old new : Group W Q R T U) → old.cx.log.state.held ≡ true → IsSameGroup old new → GoesInTurn Fits old new
+  pub same_goes : (Fits : T → W → Type 0) (old new : Group W Q R T U) → old.cx.log.state.held ≡ true
+      → IsSameGroup old new → GoesInTurn Fits old new
   same_goes Fits old new held same = record {
-    turn = record { held = ap (λ (s : State). s.held) same.cx.log.state ∙ held; turns = ap (λ (s : State). s.turns) same.cx.log.state };
+    turn = record { held = ap (λ (s : State). s.held) same.cx.log.state ∙ held; turns = ap
+        (λ (s : State). s.turns) same.cx.log.state };
     marks = ap marks_of same.cx.log.entries;
     later = subst (IsLater old.cx.log.state) (sym same.cx.log.state) (later_refl old.cx.log.state);
     base = same.cx.log.base;
@@ -133,7 +140,8 @@ module _ {W Q R T U : Type 0} where
     tags = λ t f. subst (Fits t) (sym same.world) f;
   }
 
-  pub goes_trans : (Fits : T → W → Type 0) (a b c : Group W Q R T U) → GoesInTurn Fits a b → GoesInTurn Fits b c → GoesInTurn Fits a c
+  pub goes_trans : (Fits : T → W → Type 0) (a b c : Group W Q R T U) → GoesInTurn Fits a b
+      → GoesInTurn Fits b c → GoesInTurn Fits a c
   goes_trans Fits a b c p q = record {
     turn = record { held = q.turn.held; turns = q.turn.turns ∙ p.turn.turns };
     marks = q.marks ∙ p.marks;
@@ -144,80 +152,116 @@ module _ {W Q R T U : Type 0} where
   }
 
   -- events were handled, and then the handler was told what came of its question
-  pub told_worked : {G S : Type 0} (Sound : W → State → List Named → Type 0) (Fits : T → W → Type 0) (Asking : W → State → List Named → ℕ → ℕ → Q → Type 0) (Answers : W → Q → R → Type 0) (Called : W → W → List ℕ → Type 0) (Heard : W → W → Asked Q R → Type 0) (Left : W → State → Option ℕ) (tags : List T) (a b c : Group W Q R T U) (number moment events : ℕ) (v u : View G S) (r : Result Did NoMemory) → IsValid a.cx.log.state → IsValid b.cx.log.state
-      → Handles Called a b number moment events → KeepsTags Fits a.world b.world → SetsAtMost Fits a.world (MOST_EVENTS * (MOST_SET + 1)) a.cx b.cx
-      → Grows b.cx c.cx → StaysInTurn b.cx.log.state c.cx.log.state → Holds Sound c → KeepsTags Fits b.world c.world → SetsAtMost Fits b.world MOST_SET b.cx c.cx
-      → RunsHandlers Fits Asking Answers Called Heard Left tags number moment a c v u r → IsWorked Sound Fits Asking Answers Called Heard Left tags number moment a c v u r
-  told_worked Sound Fits Asking Answers Called Heard Left tags a b c number moment events v u r va vb h keeps few grows turn sound tags2 few2 ran =
+  pub told_worked : {G S : Type 0} (Sound : W → State → List Named → Type 0) (Fits : T → W → Type 0)
+      (Asking : W → State → List Named → ℕ → ℕ → Q → Type 0) (Answers : W → Q → R → Type 0)
+      (Called : W → W → List ℕ → Type 0) (Heard : W → W → Asked Q R → Type 0) (Left : W → State → Option ℕ)
+      (tags : List T) (a b c : Group W Q R T U) (number moment events : ℕ) (v u : View G S)
+      (r : Result Did NoMemory) → IsValid a.cx.log.state → IsValid b.cx.log.state
+      → Handles Called a b number moment events → KeepsTags Fits a.world b.world
+          → SetsAtMost Fits a.world (MOST_EVENTS * (MOST_SET + 1)) a.cx b.cx
+      → Grows b.cx c.cx → StaysInTurn b.cx.log.state c.cx.log.state → Holds Sound c
+          → KeepsTags Fits b.world c.world → SetsAtMost Fits b.world MOST_SET b.cx c.cx
+      → RunsHandlers Fits Asking Answers Called Heard Left tags number moment a c v u r
+          → IsWorked Sound Fits Asking Answers Called Heard Left tags number moment a c v u r
+  told_worked Sound Fits Asking Answers Called Heard Left tags a b c number moment events v u r va vb h keeps
+      few grows turn sound tags2 few2 ran =
       let due = handles_due Called Fits a b number moment events va h in
       record {
-        goes = goes_trans Fits a b c (handles_goes Called Fits a b number moment events va h keeps) (grows_goes Fits b c vb grows turn tags2);
+        goes = goes_trans Fits a b c (handles_goes Called Fits a b number moment events va h keeps)
+            (grows_goes Fits b c vb grows turn tags2);
         sound = sound;
         few = record {
           few = λ t fit.
               let f : b.cx.log.state.next ≤ a.cx.log.state.next + 6464 = few t fit in
               let g : c.cx.log.state.next ≤ b.cx.log.state.next + 100 = few2 t (keeps t fit) in omega arith;
-          nothing = λ none. absurd (not_none a.cx.log.state.pending number due.was_due.event due.was_due.there none);
+          nothing = λ none. absurd (not_none a.cx.log.state.pending number due.was_due.event due.was_due.there
+              none);
         };
         ran = ran;
       }
 
   -- what was handled, after the handler was told
-  pub told_due : (Called : W → W → List ℕ → Type 0) (Fits : T → W → Type 0) (a b c : Group W Q R T U) (number moment events : ℕ) → IsValid a.cx.log.state → IsValid b.cx.log.state
-      → Handles Called a b number moment events → Grows b.cx c.cx → HandledDue a.cx.log.state c.cx.log.state number moment events
+  pub told_due : (Called : W → W → List ℕ → Type 0) (Fits : T → W → Type 0) (a b c : Group W Q R T U)
+      (number moment events : ℕ) → IsValid a.cx.log.state → IsValid b.cx.log.state
+      → Handles Called a b number moment events → Grows b.cx c.cx
+          → HandledDue a.cx.log.state c.cx.log.state number moment events
   told_due Called Fits a b c number moment events va vb h grows =
-      handled_later a.cx.log.state b.cx.log.state c.cx.log.state number moment events va (extends_later a.cx.log b.cx.log h.es va h.by) (extends_later b.cx.log c.cx.log grows.log.own vb grows.log.by)
-      (ap (λ (s : State). s.handled_count) grows.log.by.state ∙ own_handles b.cx.log.state grows.log.own grows.log.all_own)
+      handled_later a.cx.log.state b.cx.log.state c.cx.log.state number moment events va
+          (extends_later a.cx.log b.cx.log h.es va h.by)
+          (extends_later b.cx.log c.cx.log grows.log.own vb grows.log.by)
+      (ap (λ (s : State). s.handled_count) grows.log.by.state ∙ own_handles b.cx.log.state grows.log.own
+          grows.log.all_own)
       (handles_due Called Fits a b number moment events va h)
 
-pub asked_shown : {Q R : Type 0} (a c : State) (number moment events to : ℕ) (answer : Asked Q R) (r : Result Did NoMemory) → AnswersAsked events to answer r → HandledDue a c number moment events → IfOk r (IsShown a c number moment)
-asked_shown a c number moment events to (asked.Reply x) r is h = subst (λ (y : Result Did NoMemory). IfOk y (IsShown a c number moment)) (sym is) h
-asked_shown a c number moment events to (asked.Missed seen q) r is h = subst (λ (y : Result Did NoMemory). IfOk y (IsShown a c number moment)) (sym is) h.was_due
+pub asked_shown : {Q R : Type 0} (a c : State) (number moment events to : ℕ) (answer : Asked Q R)
+    (r : Result Did NoMemory) → AnswersAsked events to answer r → HandledDue a c number moment events
+    → IfOk r (IsShown a c number moment)
+asked_shown a c number moment events to (asked.Reply x) r is h = subst
+    (λ (y : Result Did NoMemory). IfOk y (IsShown a c number moment)) (sym is) h
+asked_shown a c number moment events to (asked.Missed seen q) r is h = subst
+    (λ (y : Result Did NoMemory). IfOk y (IsShown a c number moment)) (sym is) h.was_due
 asked_shown a c number moment events to (asked.NoMemory q) r is h = err_any r (IsShown a c number moment) is
 
 module _ {X G T : Type 0} {d : Ghosts X G T} where
-  pub asked_works : {Q R : Type 0} (token : Token) (a b : Desk X G T d) (events to : ℕ) (answer : Asked Q R) (r : Result Did NoMemory) → (to ≡ token.group → ⊥) → AnswersAsked events to answer r
-      → CameBy to (view a.seat) (view b.seat) answer → b.wheel ≡ a.wheel → b.pass ≡ a.pass → IfOk r (Works token a b)
+  pub asked_works : {Q R : Type 0} (token : Token) (a b : Desk X G T d) (events to : ℕ) (answer : Asked Q R)
+      (r : Result Did NoMemory) → (to ≡ token.group → ⊥) → AnswersAsked events to answer r
+      → CameBy to (view a.seat) (view b.seat) answer → b.wheel ≡ a.wheel → b.pass ≡ a.pass
+          → IfOk r (Works token a b)
   asked_works token a b events to (asked.Reply x) r other is came wheel pass =
-      let w : Works token a b (did.Ran events) = record { counted = inr (to, other, came); wheel = wheel; pass = pass } in
+      let w : Works token a b (did.Ran events) = record
+          { counted = inr (to, other, came); wheel = wheel; pass = pass } in
       subst (λ (y : Result Did NoMemory). IfOk y (Works token a b)) (sym is) w
   asked_works token a b events to (asked.Missed seen q) r other is came wheel pass =
-      let w : Works token a b (did.AskMissed to seen) = record { counted = (other, came); wheel = wheel; pass = pass } in
+      let w : Works token a b (did.AskMissed to seen) = record
+          { counted = (other, came); wheel = wheel; pass = pass } in
       subst (λ (y : Result Did NoMemory). IfOk y (Works token a b)) (sym is) w
-  asked_works token a b events to (asked.NoMemory q) r other is came wheel pass = err_any r (Works token a b) is
+  asked_works token a b events to (asked.NoMemory q) r other is came wheel pass = err_any r (Works token a b)
+      is
 
 -- the group that a world wants to ask can be asked, and what it gives is right
-pub record MayBeAsked {W Q R T : Type 0} (Fits : T → W → Type 0) (only_asked : T → Bool) (Right : W → ℕ → Q → R → Type 0) (Answers : W → Q → R → Type 0) (tags : List T) (own to : ℕ) (world : W) : Type 0 where
+pub record MayBeAsked {W Q R T : Type 0} (Fits : T → W → Type 0) (only_asked : T → Bool)
+    (Right : W → ℕ → Q → R → Type 0) (Answers : W → Q → R → Type 0) (tags : List T) (own to : ℕ) (world : W) :
+    Type 0 where
   pub other : to ≡ own → ⊥
   pub tag : T
   pub there : get_elem? tags to ≡ some tag
   pub asked : only_asked tag ≡ true
   pub right : (q : Q) (r : R) → GivesReply Fits Answers tags to q r → Right world to q r
 
-pub may_be_asked : {W Q R T : Type 0} (Fits : T → W → Type 0) (only_asked : T → Bool) (MayAsk : W → ℕ → Type 0) (Right : W → ℕ → Q → R → Type 0) (Answers : W → Q → R → Type 0) (tags : List T) (own to : ℕ) (t : T) (world : W)
-    → CanAsk Fits only_asked MayAsk Right Answers tags → get_elem? tags own ≡ some t → Fits t world → MayAsk world to → MayBeAsked Fits only_asked Right Answers tags own to world
+pub may_be_asked : {W Q R T : Type 0} (Fits : T → W → Type 0) (only_asked : T → Bool)
+    (MayAsk : W → ℕ → Type 0) (Right : W → ℕ → Q → R → Type 0) (Answers : W → Q → R → Type 0) (tags : List T)
+    (own to : ℕ) (t : T) (world : W)
+    → CanAsk Fits only_asked MayAsk Right Answers tags → get_elem? tags own ≡ some t → Fits t world
+        → MayAsk world to → MayBeAsked Fits only_asked Right Answers tags own to world
 may_be_asked Fits only_asked MayAsk Right Answers tags own to t world can at fit may =
-    let other = can.others own to t world (to_slice tags own t at) fit may in
+    let other = can.others own to t world (place_got tags own t at) fit may in
     record {
       other = λ e. other.0 (sym e);
       tag = other.1;
-      there = from_slice tags to other.1 other.2;
+      there = got_place tags to other.1 other.2;
       asked = other.3;
-      right = λ q r gives. can.replies own to t gives.0 world gives.1 q r (to_slice tags own t at) fit (to_slice tags to gives.0 gives.2) gives.3 gives.4;
+      right = λ q r gives. can.replies own to t gives.0 world gives.1 q r (place_got tags own t at) fit
+          (place_got tags to gives.0 gives.2) gives.3 gives.4;
     }
 
-pub answer_over : {Q R : Type 0} (A B : ℕ → Q → R → Type 0) (k : ℕ) (q : Q) (answer : Asked Q R) → IsAnswer A k q answer → ((r : R) → A k q r → B k q r) → IsAnswer B k q answer
+pub answer_over : {Q R : Type 0} (A B : ℕ → Q → R → Type 0) (k : ℕ) (q : Q) (answer : Asked Q R)
+    → IsAnswer A k q answer → ((r : R) → A k q r → B k q r) → IsAnswer B k q answer
 answer_over A B k q (asked.Reply r) h f = f r h
 answer_over A B k q (asked.Missed seen x) h f = h
 answer_over A B k q (asked.NoMemory x) h f = h
 
-module _ {W Q R T U : Type 0} (Fits : T → W → Type 0) (Sound : W → State → List Named → Type 0) (only_asked is_first : T → Bool) where
+module _ {W Q R T U : Type 0} (Fits : T → W → Type 0) (Sound : W → State → List Named → Type 0)
+    (only_asked is_first : T → Bool) where
   -- a group that is only asked can be asked in a turn
-  pub can_be_asked : (old new : Group W Q R T U) (turn seat : ℕ) (t : T) → HasTurn Fits old new turn seat → BeginsSame old new → GroupFits Fits Sound only_asked is_first t old → only_asked t ≡ true
-      → old.cx.log.state.turns < turn → turn ≤ last_turn → OnTrue (only_asked t) (IsLive new.cx.log.state.live own_key) → CanBeAsked new.cx.log.state
+  pub can_be_asked : (old new : Group W Q R T U) (turn seat : ℕ) (t : T) → HasTurn Fits old new turn seat
+      → BeginsSame old new → GroupFits Fits Sound only_asked is_first t old → only_asked t ≡ true
+      → old.cx.log.state.turns < turn → turn ≤ last_turn
+          → OnTrue (only_asked t) (IsLive new.cx.log.state.live own_key) → CanBeAsked new.cx.log.state
   can_be_asked old new turn seat t has same fit asked young low rests =
       let next = same.next in
-      let was : old.cx.log.state.next ≤ old.cx.log.state.turns + 1 = subst (λ (b : Bool). old.cx.log.state.next ≤ cond b (old.cx.log.state.turns + 1) (MOST_IN_TURN * old.cx.log.state.turns + 1)) asked fit.2.1 in
+      let was : old.cx.log.state.next ≤ old.cx.log.state.turns + 1 = subst
+          (λ (b : Bool). old.cx.log.state.next ≤ cond b (old.cx.log.state.turns + 1)
+          (MOST_IN_TURN * old.cx.log.state.turns + 1)) asked fit.2.1 in
       record {
         turn = has.held;
         live = subst (λ (b : Bool). OnTrue b (IsLive new.cx.log.state.live own_key)) asked rests;
@@ -225,13 +269,22 @@ module _ {W Q R T U : Type 0} (Fits : T → W → Type 0) (Sound : W → State �
       }
 
   -- whatever came of a question, the group goes on in its turn
-  pub asked_goes : (Answers : W → Q → R → Type 0) (r : Result R (NoMemory × Q)) (old new : Group W Q R T U) (question : Q) (moment : ℕ) → IsValid old.cx.log.state → old.cx.log.state.held ≡ true
-      → IfOk r (HasReplied Answers old new question moment) → IfErr r (λ e. (e.1 ≡ question) × IsSameGroup old new) → KeepsTags Fits old.world new.world → GoesInTurn Fits old new
-  asked_goes Answers (Ok reply) old new question moment valid held ok err tags = question_goes Fits old new moment valid ok.taken tags
-  asked_goes Answers (Err e) old new question moment valid held ok err tags = same_goes Fits old new held err.1
+  pub asked_goes : (Answers : W → Q → R → Type 0) (r : Result R (NoMemory × Q)) (old new : Group W Q R T U)
+      (question : Q) (moment : ℕ) → IsValid old.cx.log.state → old.cx.log.state.held ≡ true
+      → IfOk r (HasReplied Answers old new question moment)
+          → IfErr r (λ e. (e.1 ≡ question) × IsSameGroup old new) → KeepsTags Fits old.world new.world
+          → GoesInTurn Fits old new
+  asked_goes Answers (Ok reply) old new question moment valid held ok err tags = question_goes Fits old new
+      moment valid ok.taken tags
+  asked_goes Answers (Err e) old new question moment valid held ok err tags = same_goes Fits old new held
+      err.1
 
 -- which turns are recorded in a group that is given back, by what is known of the one that was found
-pub given_marks : {W Q R T U : Type 0} (Fits : T → W → Type 0) (found new old : Group W Q R T U) (turn turn' seat seat' : ℕ) → IsGivenBack Fits found new turn seat → found ≡ old → turn ≡ turn' → seat ≡ seat'
-    → (mark : ℕ × ℕ) → Contains (marks_of new.cx.log.entries) mark → Contains (marks_of old.cx.log.entries) mark ⊎ (mark ≡ (turn', seat'))
+pub given_marks : {W Q R T U : Type 0} (Fits : T → W → Type 0) (found new old : Group W Q R T U)
+    (turn turn' seat seat' : ℕ) → IsGivenBack Fits found new turn seat → found ≡ old → turn ≡ turn'
+    → seat ≡ seat'
+    → (mark : ℕ × ℕ) → Contains (marks_of new.cx.log.entries) mark
+        → Contains (marks_of old.cx.log.entries) mark ⊎ (mark ≡ (turn', seat'))
 given_marks {W} {Q} {R} {T} {U} Fits found new old turn turn' seat seat' given e f h mark there =
-    subst (λ (x : Group W Q R T U × ℕ × ℕ). Contains (marks_of x.0.cx.log.entries) mark ⊎ (mark ≡ (x.1, x.2))) (λ i. (e i, f i, h i)) (given.marks mark there)
+    subst (λ (x : Group W Q R T U × ℕ × ℕ). Contains (marks_of x.0.cx.log.entries) mark ⊎ (mark ≡ (x.1, x.2)))
+        (λ i. (e i, f i, h i)) (given.marks mark there)

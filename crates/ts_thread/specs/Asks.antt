@@ -19,7 +19,8 @@ abbrev pub IsOnlyAsked : {T : Type 0} → (T → Bool) → List T → ℕ → Ty
 IsOnlyAsked {T} only_asked tags k = (t : T) × (get_elem? tags k ≡ some t) × (only_asked t ≡ true)
 
 -- a world that fits the tag of the group k gives this reply to the question
-abbrev pub GivesReply : {W Q R T : Type 0} → (T → W → Type 0) → (W → Q → R → Type 0) → List T → ℕ → Q → R → Type 0
+abbrev pub GivesReply : {W Q R T : Type 0} → (T → W → Type 0) → (W → Q → R → Type 0) → List T → ℕ → Q → R
+    → Type 0
 GivesReply {W} {Q} {R} {T} Fits Answers tags k question reply =
     (t : T) × (w : W) × (get_elem? tags k ≡ some t) × Fits t w × Answers w question reply
 

@@ -25,9 +25,11 @@ pub record IsLaterGroup {W Q R T U : Type 0} (old new : Group W Q R T U) : Type 
   pub base : new.cx.log.base ≡ old.cx.log.base
   pub later : IsLater old.cx.log.state new.cx.log.state
 
--- What at most so many turns, of which none is held any more, leave of a group, where a drive gave this answer.
+-- What at most so many turns, of which none is held any more, leave of a group, where a drive gave this
+-- answer.
 pub record HasTakenTurns {W Q R T U : Type 0} (Fits : T → W → Type 0)
-    (Sound : W → State → List Named → Type 0) (only_asked is_first : T → Bool) (Left : W → State → Option ℕ) (limit : ℕ)
+    (Sound : W → State → List Named → Type 0) (only_asked is_first : T → Bool) (Left : W → State → Option ℕ)
+        (limit : ℕ)
     (result : Result (Unit {0}) Unfinished) (old new : Group W Q R T U) (turns : ℕ) : Type 0 where
   -- it fits each tag that it fitted
   pub fits : (t : T) → GroupFits Fits Sound only_asked is_first t old
@@ -104,7 +106,8 @@ ComesNext g number moment = IsDueFirst g.cx.log.state moment number
 abbrev pub row : {X : Type 0} → List X → X → List X → List X
 row before x after = before ++ x ∷ after
 
--- What a drive of one group leaves of it and of those before and after it: so many turns at most were taken of
+-- What a drive of one group leaves of it and of those before and after it: so many turns at most were taken
+-- of
 -- each, no more than the group had left to do and one, and where it came to its end, the group has that much
 -- less to do.
 pub record Drives {W Q R T U : Type 0} (Fits : T → W → Type 0) (Sound : W → State → List Named → Type 0)
@@ -133,9 +136,11 @@ pub record DrivesAt {W Q R T U : Type 0} (Fits : T → W → Type 0) (Sound : W 
   pub at_place : length before ≡ place
   pub old_is : old ≡ row before group after
   pub new_is : new ≡ row before' group' after'
-  pub drives : Drives Fits Sound only_asked is_first Left limit before before' group group' after after' result
+  pub drives : Drives Fits Sound only_asked is_first Left limit before before' group group' after after'
+      result
 
--- What a drive of all groups leaves of them: so many turns at most were taken of each, no more than was left to
+-- What a drive of all groups leaves of them: so many turns at most were taken of each, no more than was left
+-- to
 -- do in all and one. Where it came to its end, that much less is left to do in all, and no event is pending.
 pub record Finishes {W Q R T U : Type 0} (Fits : T → W → Type 0) (Sound : W → State → List Named → Type 0)
     (only_asked is_first : T → Bool) (Left : W → State → Option ℕ) (limit : ℕ)

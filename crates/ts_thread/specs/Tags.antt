@@ -8,7 +8,8 @@ use Rattle.ts_group.specs.declared.group.Group.{Group}
 use Rattle.ts_group.specs.Answers.{Holds}
 use Rattle.ts_group.specs.Slot.{IsAtRest}
 
--- A group fits a tag: its world does, what is to hold of it holds, it is at rest, and it was made with no turns where the
+-- A group fits a tag: its world does, what is to hold of it holds, it is at rest, and it was made with no
+-- turns where the
 -- tag asks for that.
 abbrev pub GroupFits : {W Q R T U : Type 0} → (T → W → Type 0) → (W → State → List Named → Type 0)
     → (T → Bool) → (T → Bool) → T → Group W Q R T U → Type 0
@@ -34,7 +35,8 @@ pub record FitAround {W Q R T U : Type 0} (Fits : T → W → Type 0) (Sound : W
   pub fits : Fits tag world
   pub fit_after : GroupsFit Fits Sound only_asked is_first last after
 
--- Of groups with these tags, each that a world may ask is another one of them and is only asked; and what it gives is
+-- Of groups with these tags, each that a world may ask is another one of them and is only asked; and what it
+-- gives is
 -- right for the world that asks.
 pub record CanAsk {W Q R T : Type 0} (Fits : T → W → Type 0) (only_asked : T → Bool) (MayAsk : W → ℕ → Type 0)
     (Right : W → ℕ → Q → R → Type 0) (Answers : W → Q → R → Type 0) (tags : List T) : Type 0 where

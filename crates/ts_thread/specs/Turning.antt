@@ -11,7 +11,7 @@ use Rattle.ts_queue.specs.declared.ticket.Token.{Token}
 use Rattle.ts_slot.specs.Views.{won, IsAfter}
 use Rattle.ts_slot.specs.Words.{view, Misses}
 use Rattle.ts_wheel.specs.Due.{added}
-use Rattle.ts_thread.specs.declared.TheConstants.{PUT_BACK}
+use Rattle.ts_link.specs.declared.clock.TheConstants.{RETRY_AFTER}
 use Rattle.ts_thread.specs.declared.desk.Desk.{Desk}
 use Rattle.ts_thread.specs.declared.did.Did.{Did}
 use Rattle.ts_thread.specs.declared.did.Did.TheVariants as did
@@ -41,7 +41,7 @@ module _ {X G T : Type 0} {d : Ghosts X G T} where
   pub record PutsBack (token : Token) (moment group seen : ℕ) (old new : Desk X G T d) : Type 0 where
     pub group_is : token.group ≡ group
     pub misses : Misses group seen (view old.seat) (view new.seat)
-    pub wheel : new.wheel ≡ added (moment_after moment PUT_BACK) token old.wheel
+    pub wheel : new.wheel ≡ added (moment_after moment RETRY_AFTER) token old.wheel
     pub pass : new.pass ≡ old.pass
 
   -- A token was taken, and memory lacked then: each other token has the place that it had.

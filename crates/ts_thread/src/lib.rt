@@ -30,8 +30,5 @@ pub const MOST_THREADS: u32 = 64;
 /// How many groups one turn of a thread enters at most: that of its token, and one that is asked.
 pub const MOST_ENTERED: u64 = 2;
 
-/// How many milliseconds after a miss a token is due again.
-pub const PUT_BACK: u64 = 10;
-
 /// How many turns a group has had at most after `run_whole`, if threads gave it no more.
 pub const MOST_ALONE: u64 = 1 << 50;

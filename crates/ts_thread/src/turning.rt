@@ -11,7 +11,6 @@ ghost use Rattle.ts_thread.specs.Shown.{IsShown};
 ghost use Rattle.ts_thread.specs.Tags.{CanAsk};
 ghost use Rattle.ts_thread.specs.Turning.{Works, EndsTurn, Serves, Uses, IsOfToken};
 
-use crate::PUT_BACK;
 use crate::asking::ask_other;
 use crate::desk::Desk;
 use crate::did::Did;
@@ -20,7 +19,7 @@ use crate::leaving::leave;
 use crate::news::tell_news;
 use std::sync::Wait;
 use ts_group::{Asked, Group, Handling, World};
-use ts_link::{Gate, NoMemory};
+use ts_link::{Gate, NoMemory, RETRY_AFTER};
 use ts_queue::{EventQueue, Token};
 use ts_slot::{Slots, Turn};
 
@@ -166,7 +165,7 @@ pub fn enter<W: World + Drop, G: Gate, R: Wait>(
 {
     match slots.try_enter(&mut desk.seat, token.group) {
         Err(missed) => {
-            desk.wheel.add(moment.saturating_add(PUT_BACK), token)?;
+            desk.wheel.add(moment.saturating_add(RETRY_AFTER), token)?;
             Ok(Did::PutBack {
                 group: token.group,
                 seen: missed.seen,

@@ -15,9 +15,12 @@ pub push-requires-2-clause-allowed : goal.push-requires-2-clause-allowed
 push-requires-2-clause-allowed c =
     let s : State = c.spare.new.journal.state in
     let e = c.push.ensures.state in
-    let p : Pending = record { number = c.next-number.result; key = own_key; event = Hook; due = c.args.moment; series = c.next-number.result; period = 0 } in
-    let set = has_set s c.push.new.self.state p c.known.ensures.valid c.next-number.ensures (ap (λ (x : State). x.pending) e) (ap (λ (x : State). x.next) e) (ap (λ (x : State). x.live) e) in
-    (ap (λ (x : State). x.held) e ∙ ap (λ (x : State). x.held) c.spare.ensures.same.state ∙ c.requires.can.turn, p, set.there, omega arith)
+    let p : Pending = record { number = c.next-number.result; key = own_key; event = Hook; due =
+        c.args.moment; series = c.next-number.result; period = 0 } in
+    let set = has_set s c.push.new.self.state p c.known.ensures.valid c.next-number.ensures
+        (ap (λ (x : State). x.pending) e) (ap (λ (x : State). x.next) e) (ap (λ (x : State). x.live) e) in
+    (ap (λ (x : State). x.held) e ∙ ap (λ (x : State). x.held) c.spare.ensures.same.state ∙
+        c.requires.can.turn, p, set.there, omega arith)
 
 pub returns-clause-ok : goal.returns-clause-ok
 returns-clause-ok c =
@@ -25,15 +28,21 @@ returns-clause-ok c =
     let e = c.push.ensures.state in
     let f = c.push-2.ensures.state in
     let g = c.spare.ensures.same.state in
-    let p : Pending = record { number = c.next-number.result; key = own_key; event = Hook; due = c.args.moment; series = c.next-number.result; period = 0 } in
-    let number : c.next-number.result ≡ c.args.journal.now.state.next = c.next-number.ensures ∙ ap (λ (x : State). x.next) g in
+    let p : Pending = record { number = c.next-number.result; key = own_key; event = Hook; due =
+        c.args.moment; series = c.next-number.result; period = 0 } in
+    let number : c.next-number.result ≡ c.args.journal.now.state.next = c.next-number.ensures ∙ ap
+        (λ (x : State). x.next) g in
     record {
-      by = extends_after c.spare.ensures.same (subst (λ n. Extends c.spare.new.journal c.push-2.new.self (asking_entries n c.args.moment)) number (extends_trans c.push.ensures.log c.push-2.ensures.log));
+      by = extends_after c.spare.ensures.same (subst
+          (λ n. Extends c.spare.new.journal c.push-2.new.self (asking_entries n c.args.moment)) number
+          (extends_trans c.push.ensures.log c.push-2.ensures.log));
       turn = record {
-        held = ap (λ (x : State). x.held) f ∙ ap (λ (x : State). x.held) e ∙ ap (λ (x : State). x.held) g ∙ c.requires.can.turn;
+        held = ap (λ (x : State). x.held) f ∙ ap (λ (x : State). x.held) e ∙ ap (λ (x : State). x.held) g ∙
+            c.requires.can.turn;
         turns = ap (λ (x : State). x.turns) f ∙ ap (λ (x : State). x.turns) e ∙ ap (λ (x : State). x.turns) g;
       };
-      pending = pending_asked s c.push.new.self.state c.push-2.new.self.state p c.args.moment c.known.ensures.valid c.next-number.ensures e f ∙ ap (λ (x : State). x.pending) g;
+      pending = pending_asked s c.push.new.self.state c.push-2.new.self.state p c.args.moment
+          c.known.ensures.valid c.next-number.ensures e f ∙ ap (λ (x : State). x.pending) g;
       next = ap (λ (x : State). x.next) f ∙ ap (λ (x : State). x.next) e ∙ ap (λ (x : State). x.next + 1) g;
       live = ap (λ (x : State). x.live) f ∙ ap (λ (x : State). x.live) e ∙ ap (λ (x : State). x.live) g;
     }

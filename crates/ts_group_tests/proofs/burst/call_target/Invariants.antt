@@ -5,4 +5,5 @@ use Rattle.ts_group_tests.specs.Sets.{SetsEvents}
 use Rattle.ts_group_tests.proofs.burst.call_target.Given as goal
 
 abbrev pub invariant-calls : goal.invariant-calls
-invariant-calls l = Grows l.initial.cx l.cx × SetsEvents l.all l._call l.initial.cx.log.state l.cx.log.state × (l.cx.log.state.held ≡ true)
+invariant-calls l = Grows l.initial.cx l.cx × SetsEvents l.all l._call l.initial.cx.log.state l.cx.log.state ×
+    (l.cx.log.state.held ≡ true)

@@ -17,7 +17,8 @@ pub starts-preserved : goal.starts-preserved
 starts-preserved g c =
     let one = c.start_one.ensures in (
       one.desk,
-      keeps_tokens c.args.desk.now c.starts.desk c.start_one.new.desk c.starts.k 1 (c.starts.k + 1) (omega arith)
+      keeps_tokens c.args.desk.now c.starts.desk c.start_one.new.desk c.starts.k 1 (c.starts.k + 1)
+          (omega arith)
           c.starts.invariant.1 one.keeps,
       one_more g.row.W-Question.Denot g.row.W-Reply.Denot g.row.W-Trace.Denot g.W.Slotted.fits
           (IsFirst g.W.World.is_first (tags_of c.args.slots.now)) g.W.World.begun g.W.World.sound

@@ -8,5 +8,6 @@ use Rattle.ts_thread.proofs.starting.start_all.Given as goal
 abbrev pub invariant-starts : goal.invariant-starts
 invariant-starts g l =
     IsDeskOf l.slots l.queue l.desk × KeepsTokens l.initial.desk l.desk l.k
-    × AllStarted g.row.W-Question.Denot g.row.W-Reply.Denot g.row.W-Trace.Denot g.W.Slotted.fits (IsFirst g.W.World.is_first (tags_of l.slots)) g.W.World.begun g.W.World.sound
+    × AllStarted g.row.W-Question.Denot g.row.W-Reply.Denot g.row.W-Trace.Denot g.W.Slotted.fits
+        (IsFirst g.W.World.is_first (tags_of l.slots)) g.W.World.begun g.W.World.sound
     (HasPlaceAt GREATEST l.desk) (view l.desk.seat).known l.k

@@ -23,8 +23,11 @@ returns-clause-replied g c =
       taken = record {
         own = grows.log.own;
         all_own = grows.log.all_own;
-        by = subst (λ (l : Log). Extends c.args.self.now.cx.log l (asking_entries s.next c.args.moment ++ grows.log.own)) (sym log) (extends_trans ok.by grows.log.by);
-        turn = stays_same (ap (λ (l : Log). l.state) log) (stays_trans ok.turn (grows_stays grows ok.turn.held));
+        by = subst (λ (l : Log). Extends c.args.self.now.cx.log l
+            (asking_entries s.next c.args.moment ++ grows.log.own)) (sym log)
+            (extends_trans ok.by grows.log.by);
+        turn = stays_same (ap (λ (l : Log). l.state) log)
+            (stays_trans ok.turn (grows_stays grows ok.turn.held));
         now = ap (λ (x : Context). x.moment) left ∙ grows.moment ∙ runs.at_moment;
         idle = ap (λ (x : Context). x.running) left;
         role = ap (λ (x : Context). x.role) left ∙ grows.role ∙ runs.role;
@@ -43,14 +46,18 @@ returns-clause-falls g c =
     let asked : IsAsked (g.W.World.sound w) now = record {
       before = s;
       sound = subst (λ rs. g.W.World.sound w s rs) (sym runs.roles) c.requires.sound;
-      now_is = subst (λ m. now.log.state ≡ replay s (asking_entries s.next m)) (sym runs.at_moment) ok.by.state;
+      now_is = subst (λ m. now.log.state ≡ replay s (asking_entries s.next m)) (sym runs.at_moment)
+          ok.by.state;
       earlier = c.args.self.now.cx.log.entries;
-      entered = subst (λ m. now.log.entries ≡ c.args.self.now.cx.log.entries ++ asking_entries s.next m) (sym runs.at_moment) ok.by.entries;
+      entered = subst (λ m. now.log.entries ≡ c.args.self.now.cx.log.entries ++ asking_entries s.next m)
+          (sym runs.at_moment) ok.by.entries;
       running = runs.running;
       orderly = c.known.ensures;
       pending = ok.pending;
       next = ok.next;
       live = ok.live;
     } in
-    let log : c.asked-reply.new.cx.log ≡ c.leave.new.self.log = ap (λ (x : Context). x.log) (sym c.leave.ensures) in
-    subst (λ (l : Log). Falls (g.W.World.left w s) 0 (g.W.World.left c.asked-reply.new.self l.state)) log (c.asked-reply.ensures.falls asked)
+    let log : c.asked-reply.new.cx.log ≡ c.leave.new.self.log = ap (λ (x : Context). x.log)
+        (sym c.leave.ensures) in
+    subst (λ (l : Log). Falls (g.W.World.left w s) 0 (g.W.World.left c.asked-reply.new.self l.state)) log
+        (c.asked-reply.ensures.falls asked)

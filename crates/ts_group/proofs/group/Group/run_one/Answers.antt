@@ -32,11 +32,15 @@ returns-clause-run g c =
         are_calls = subst (λ m. AreCalls m grows.log.asked grows.log.own) runs.moment grows.log.are_calls;
         entries_are = refl;
       };
-      by = subst (λ (l : Log). Extends c.args.self.now.cx.log l ((Handled c.args.event.number moment ∷ renewal c.args.event s.next moment) ++ grows.log.own)) (sym log)
+      by = subst (λ (l : Log). Extends c.args.self.now.cx.log l
+          ((Handled c.args.event.number moment ∷ renewal c.args.event s.next moment) ++ grows.log.own))
+          (sym log)
           (extends_trans enters.by grows.log.by);
-      calls = ap (λ (x : Context). x.calls) left ∙ grows.log.calls ∙ ap (λ ns. ns ++ grows.log.asked) runs.calls;
+      calls = ap (λ (x : Context). x.calls) left ∙ grows.log.calls ∙ ap (λ ns. ns ++ grows.log.asked)
+          runs.calls;
       called = c.handle-want.ensures.called grows.log.asked grows.log.calls;
-      turn = stays_same (ap (λ (l : Log). l.state) log) (stays_trans enters.turn (grows_stays grows enters.turn.held));
+      turn = stays_same (ap (λ (l : Log). l.state) log)
+          (stays_trans enters.turn (grows_stays grows enters.turn.held));
       moment = ap (λ (x : Context). x.moment) left ∙ grows.moment ∙ runs.moment;
       idle = ap (λ (x : Context). x.running) left;
       news_from = ap (λ (x : Context). x.news_from) left ∙ grows.news_from ∙ runs.news_from;
@@ -57,7 +61,8 @@ returns-clause-falls g c =
       there = c.requires.ready.there;
       known = c.requires.ready.known;
       due = subst (λ m. c.args.event.due ≤ m) (sym runs.moment) c.requires.ready.due;
-      now_is = subst (λ m. now.log.state ≡ replay s (Handled c.args.event.number m ∷ renewal c.args.event s.next m)) (sym runs.moment) enters.by.state;
+      now_is = subst (λ m. now.log.state ≡ replay s
+          (Handled c.args.event.number m ∷ renewal c.args.event s.next m)) (sym runs.moment) enters.by.state;
       event_is = refl;
       role_is = ap (role_at c.args.event.key.index) runs.roles ∙ c.enter_event-role.ensures.role;
       running = runs.running;
@@ -66,4 +71,5 @@ returns-clause-falls g c =
     } in
     let left : c.leave.new.self ≡ record c.handle-want.new.cx { running = None } = c.leave.ensures in
     let log : c.handle-want.new.cx.log ≡ c.leave.new.self.log = ap (λ (x : Context). x.log) (sym left) in
-    subst (λ (l : Log). Falls (g.W.World.left w s) 1 (g.W.World.left c.handle-want.new.self l.state)) log (c.handle-want.ensures.falls called)
+    subst (λ (l : Log). Falls (g.W.World.left w s) 1 (g.W.World.left c.handle-want.new.self l.state)) log
+        (c.handle-want.ensures.falls called)
