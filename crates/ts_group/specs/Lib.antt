@@ -3,6 +3,7 @@ pub mod Context
 pub mod Entries
 pub mod Changes
 pub mod Acts
+pub mod Alone
 pub mod Calls
 pub mod Due
 pub mod Answers

@@ -4,6 +4,7 @@
 #![tactic(auto)]
 
 mod action;
+mod alone;
 mod calls;
 mod cx;
 mod due;
@@ -17,6 +18,7 @@ mod turns;
 mod world;
 
 pub use action::{Action, Cancel, Destroy, MakeFault, Named, SetFault};
+pub use alone::{ONLY_SEAT, TurnFault};
 pub use cx::Cx;
 pub use group::{Group, MOST_EVENTS};
 pub use keys::OWN_KEY;

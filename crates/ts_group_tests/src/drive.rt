@@ -6,7 +6,7 @@ ghost use Rattle.ts_group.specs.Calls.{TakesQuestion};
 ghost use Rattle.ts_group.specs.Answers.{Holds, IsSameGroup, KeepsTags};
 ghost use Rattle.ts_group_tests.specs.Driven.{IsDone, MatchDriven, AwaitsInTurn, LeftAsking, GoesOnTold, HearsReply, HearsNone};
 
-use ts_group::{Asked, Group, Handling, World};
+use ts_group::{Asked, Group, Handling, TurnFault, World};
 use ts_link::NoMemory;
 
 /// How a group stands after it was driven.
@@ -37,10 +37,11 @@ where
     ensures tells { IsSome (W.left group.new.world group.new.cx.log.state) }
 {
     'driving: while let Some((due, number)) = group.next_due() {
-        let Some(turn) = group.journal().turns().checked_add(1) else {
-            return Ok(Driven::Worn);
-        };
-        group.begin_turn(turn, 0, due)?;
+        match group.begin_alone(u64::MAX, due) {
+            Ok(()) => {}
+            Err(TurnFault::Worn) => return Ok(Driven::Worn),
+            Err(TurnFault::NoMemory) => return Err(NoMemory),
+        }
         match group.handle(number, due) {
             Ok(Handling::Handled { .. }) => group.give_turn(),
             Ok(Handling::Asks { .. }) => {
