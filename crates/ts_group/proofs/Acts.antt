@@ -32,7 +32,7 @@ cancels_one a b series n found by closed held = record {
 pub makes_one : (a b : Log) (rs qs : List Named) (r : Named) → IsLive b.state.live r.key
     → generation_at r.key.index a.state.live ≡ None → keys_of rs ≡ a.state.live
     → Extends a b (Made r.key ∷ []) → b.state.live ≡ a.state.live ++ r.key ∷ [] → qs ≡ rs ++ r ∷ []
-        → SameEvents a.state b.state → b.state.held ≡ true
+    → SameEvents a.state b.state → b.state.held ≡ true
     → ((i : ℕ) → i < r.key.index → CanUse a.state i → ⊥) → Makes a b rs qs (Ok r.key) r.role
 makes_one a b rs qs r live free keys by more roles events held least = record {
   made = (by, roles);
@@ -55,9 +55,9 @@ can_use s key is = let next = is.next in let fits = is.fits in (key.index, is.in
 pub destroys_one : (a b : Log) (rs qs : List Named) (key : ContKey) → IsValid a.state
     → IsLive a.state.live key
     → Extends a b (drops (numbers_of key a.state.pending) ++ Destroyed key ∷ [])
-        → b.state.pending ≡ others_of key a.state.pending → b.state.next ≡ a.state.next
+    → b.state.pending ≡ others_of key a.state.pending → b.state.next ≡ a.state.next
     → b.state.live ≡ without_index key.index a.state.live → b.state.held ≡ true
-        → qs ≡ without_role key.index rs → Destroys a b rs qs destroy.Gone key
+    → qs ≡ without_role key.index rs → Destroys a b rs qs destroy.Gone key
 destroys_one a b rs qs key v alive by pending next live held roles = record {
   gone = λ e. (roles, by);
   live = λ e. alive;

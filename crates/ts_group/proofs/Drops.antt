@@ -53,7 +53,7 @@ dropping_more start a b key n ns d e x s room v =
     let ps : b.state.pending ≡ without n a.state.pending = ap (λ (t : State). t.pending) s in
     let rest : numbers_of key b.state.pending ≡ ns = ap (numbers_of key) ps ∙ f.rest in
     let l : length b.state.pending + 1 ≡ length a.state.pending = ap (λ qs. length qs + 1) ps ∙ length_without
-        n a.state.pending f.event f.there in
+    n a.state.pending f.event f.there in
     record {
       dropped = d.dropped ++ n ∷ [];
       numbers = d.numbers ∙ ap (λ ms. d.dropped ++ ms) (e ∙ ap (λ ms. n ∷ ms) (sym rest)) ∙ sym
@@ -72,7 +72,7 @@ pub dropping_all : (start now : Log) (key : ContKey) → Dropping start now key
     → numbers_of key now.state.pending ≡ [] → Drops start now key
 dropping_all start now key d e =
     let all : d.dropped ≡ numbers_of key start.state.pending = sym
-        (d.numbers ∙ ap (λ ms. d.dropped ++ ms) e ∙ append-nil d.dropped) in
+    (d.numbers ∙ ap (λ ms. d.dropped ++ ms) e ∙ append-nil d.dropped) in
     record {
       by = subst (λ ns. Extends start now (drops ns)) all d.by;
       none = e;

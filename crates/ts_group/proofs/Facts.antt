@@ -51,7 +51,7 @@ pub has_set : (a b : State) (p : Pending) → IsValid a → p.number ≡ a.next 
     → b.next ≡ a.next + 1 → b.live ≡ a.live → HasSet a b p
 has_set a b p v n e m l =
     let none : pending_at p.number a.pending ≡ None = pending_above p.number 0 a.pending a.next v.rises
-        (omega arith) in
+    (omega arith) in
     record {
       number = n;
       there = ap (pending_at p.number) e ∙ pending_added p.number a.pending p refl none;
@@ -78,14 +78,20 @@ stay_by old new f moment (n ∷ ns) (a, b) = (f moment n a, stay_by old new f mo
 
 pub stay_same : (a b : State) → b.pending ≡ a.pending → a.next ≤ b.next → CallsStay a b
 stay_same a b e l = record {
-  stay = stay_by a b (λ moment n c. record { below = let x = c.below in omega arith; ready = λ p h. c.ready p
-      (ap (pending_at n) (sym e) ∙ h) });
+  stay = stay_by a b (λ moment n c. record {
+    below = let x = c.below in omega arith;
+    ready = λ p h. c.ready p
+        (ap (pending_at n) (sym e) ∙ h);
+  });
 }
 
 pub stay_less : (a b : State) → IsLess a b → CallsStay a b
 stay_less a b l = record {
-  stay = stay_by a b (λ moment n c. record { below = let x = c.below in let e = l.next in omega arith; ready =
-      λ p h. c.ready p (l.from n p h) });
+  stay = stay_by a b (λ moment n c. record {
+    below = let x = c.below in let e = l.next in omega arith;
+    ready =
+        λ p h. c.ready p (l.from n p h);
+  });
 }
 
 pub stay_set : (a b : State) (p : Pending) → HasSet a b p → CallsStay a b
@@ -100,8 +106,11 @@ stay_set a b p s = record {
 
 pub stay_handled : (a b : State) (p : Pending) → a.next ≤ b.next → HasHandled a b p → CallsStay a b
 stay_handled a b p l s = record {
-  stay = stay_by a b (λ moment n c. record { below = let x = c.below in omega arith; ready = λ q h. c.ready q
-      (s.from n q c.below h) });
+  stay = stay_by a b (λ moment n c. record {
+    below = let x = c.below in omega arith;
+    ready = λ q h. c.ready q
+        (s.from n q c.below h);
+  });
 }
 
 pub calls_more : (s : State) (moment n : ℕ) (ns : List ℕ) → AllCalls s moment ns → IsCall s moment n
@@ -113,8 +122,11 @@ pub is_call : (s : State) (moment n : ℕ) (q : Pending) → pending_at n s.pend
     → q.period ≡ 0 → n < s.next → IsCall s moment n
 is_call s moment n q there due plain below = record {
   below = below;
-  ready = λ p h. let same : q ≡ p = cc in (subst (λ v. v.due ≤ moment) same due, subst (λ v. v.period ≡ 0)
-      same plain);
+  ready = λ p h. let same : q ≡ p = cc in (
+    subst (λ v. v.due ≤ moment) same due,
+    subst (λ v. v.period ≡ 0)
+        same plain,
+  );
 }
 
 -- One event less.
@@ -184,7 +196,7 @@ handled_plain a b p moment v there e =
 pub handled_again : (a m b : State) (p : Pending) (moment : ℕ) (r : Pending) → (0 < p.period) → IsValid a
     → IsValid m → pending_at p.number a.pending ≡ Some p → r.number ≡ a.next
     → m ≡ after a (Handled p.number moment) → b ≡ after m (Set r.number r.key r.event r.due r.series r.period)
-        → HasHandled a b p
+    → HasHandled a b p
 handled_again a m b p moment r again v w there n e f =
     let h = handled_plain a m p moment v there e in
     let ps : b.pending ≡ m.pending ++ r ∷ [] = ap (λ s. s.pending) f in
@@ -197,7 +209,7 @@ handled_again a m b p moment r again v w there n e f =
     let below = (is_known a p.number p v there).below in
     let other : p.number ≡ r.number → ⊥ = λ q. omega arith in
     let not_plain : AllPlain a.pending → ⊥ = λ q. let z = plain_at p.number a.pending p q there in omega arith
-        in
+    in
     record {
       gone = s.others p.number other ∙ h.gone;
       from = λ k q lt x. let ne : k ≡ r.number
@@ -225,7 +237,7 @@ without_last n [] p e h = by_eq p.number n (λ t. cond t [] (p ∷ []) ≡ []) (
     (λ f. absurd (f (sym e)))
 without_last n (q ∷ ps) p e h =
     split (eqb q.number n) (λ t. cond t (Some q) (pending_at n ps) ≡ None → cond t (ps ++ p ∷ [])
-        (q ∷ without n (ps ++ p ∷ [])) ≡ q ∷ ps)
+    (q ∷ without n (ps ++ p ∷ [])) ≡ q ∷ ps)
     (λ t x. absurd (cc)) (λ t x. ap (λ rs. q ∷ rs) (without_last n ps p e x)) h
 
 pub pending_asked : (a m b : State) (p : Pending) (moment : ℕ) → IsValid a → p.number ≡ a.next
@@ -233,6 +245,6 @@ pub pending_asked : (a m b : State) (p : Pending) (moment : ℕ) → IsValid a �
     → b.pending ≡ a.pending
 pending_asked a m b p moment v n e f =
     let none : pending_at p.number a.pending ≡ None = pending_above p.number 0 a.pending a.next v.rises
-        (omega arith) in
+    (omega arith) in
     ap (λ s. s.pending) f ∙ ap (λ s. without p.number s.pending) e ∙ without_last p.number a.pending p refl
-        none
+    none

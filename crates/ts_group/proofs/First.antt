@@ -32,13 +32,13 @@ pub from_past : (low : ℕ) (ps : List Pending) (i : ℕ) (d : Pending) → i < 
     → (get_or ps i d).number < low → first_from low (drop (i + 1) ps) ≡ first_from low (drop i ps)
 from_past low ps i d h l =
     sym (ap (first_from low) (drop_more ps i d h) ∙ cond-false (leb low (get_or ps i d).number)
-        (Some (get_or ps i d)) (first_from low (drop (i + 1) ps)) (lt-leb _ _ l))
+    (Some (get_or ps i d)) (first_from low (drop (i + 1) ps)) (lt-leb _ _ l))
 
 pub from_here : (low : ℕ) (ps : List Pending) (i : ℕ) (d : Pending) → i < length ps
     → low ≤ (get_or ps i d).number → first_from low (drop i ps) ≡ Some (get_or ps i d)
 from_here low ps i d h l =
     ap (first_from low) (drop_more ps i d h) ∙ cond-true (leb low (get_or ps i d).number)
-        (Some (get_or ps i d)) (first_from low (drop (i + 1) ps)) (le-leb _ _ l)
+    (Some (get_or ps i d)) (first_from low (drop (i + 1) ps)) (le-leb _ _ l)
 
 -- what is known of the one that is first among events with numbers from the bound on
 record IsSoonest (low : ℕ) (ps : List Pending) (b r : Pending) : Type 0 where
@@ -63,21 +63,35 @@ by_le a b h = elim (cases_lt a b) [ inl l ↦ inl l | inr g ↦ inr (omega arith
 is_sooner : (b p : Pending) → b.number < p.number → IsSooner b p (sooner (Some b) p)
 is_sooner b p l =
     split (leb b.due p.due) (λ t. IsSooner b p (cond t b p))
-    (λ e. record { among = inl refl; before_best = inr (refl, omega arith); before_this = elim
-        (by_le b.due p.due (leb-true b.due p.due e)) [ inl x ↦ inl x | inr x ↦ inr (x, omega arith) ] })
-    (λ e. record { among = inr refl; before_best = inl (leb-false b.due p.due e); before_this = inr
-        (refl, omega arith) })
+    (λ e. record {
+      among = inl refl;
+      before_best = inr (refl, omega arith);
+      before_this = elim
+          (by_le b.due p.due (leb-true b.due p.due e)) [ inl x ↦ inl x | inr x ↦ inr (x, omega arith) ];
+    })
+    (λ e. record {
+      among = inr refl;
+      before_best = inl (leb-false b.due p.due e);
+      before_this = inr
+          (refl, omega arith);
+    })
 
 soonest_is : (b : Pending) (low : ℕ) (ps : List Pending) (high : ℕ) → Rises low ps high → b.number < low
     → (r : Pending) × (soonest (Some b) ps ≡ Some r) × IsSoonest low ps b r
-soonest_is b low [] high rises l = (b, refl, record
-    { among = inl refl; before_best = inr (refl, omega arith); before_all = λ n p h. absurd (cc) })
+soonest_is b low [] high rises l = (
+  b,
+  refl,
+  record
+      { among = inl refl; before_best = inr (refl, omega arith); before_all = λ n p h. absurd (cc) },
+)
 soonest_is b low (q ∷ ps) high (a, rest) l =
     let s = is_sooner b q (omega arith) in
     let c = sooner (Some b) q in
-    let below : c.number < q.number + 1 = elim s.among
-        [ inl e ↦ let m = ap (λ (v : Pending). v.number) e in omega arith | inr e ↦ let m = ap
-        (λ (v : Pending). v.number) e in omega arith ] in
+    let below : c.number < q.number + 1 = elim s.among [
+      | inl e ↦ let m = ap (λ (v : Pending). v.number) e in omega arith
+      | inr e ↦ let m = ap
+          (λ (v : Pending). v.number) e in omega arith
+    ] in
     let r = soonest_is c (q.number + 1) ps high rest below in
     let k = r.2 in (
       r.0,
@@ -94,7 +108,7 @@ soonest_is b low (q ∷ ps) high (a, rest) l =
         before_all = λ n p h.
             by_eq q.number n (λ t. cond t (Some q) (pending_at n ps) ≡ Some p → IsBefore r.0 p)
             (λ e x. let same : q ≡ p = cc in subst (λ v. IsBefore r.0 v) same
-                (before_trans r.0 c q k.before_best s.before_this))
+            (before_trans r.0 c q k.before_best s.before_this))
             (λ f x. k.before_all n p x) h;
       },
     )
@@ -106,7 +120,7 @@ soonest_is b low (q ∷ ps) high (a, rest) l =
     later : (r : Pending) → pending_at r.number ps ≡ Some r → pending_at r.number (q ∷ ps) ≡ Some r
     later r h =
         let ne : q.number ≡ r.number → ⊥ = λ e. let none : pending_at r.number ps ≡ None = pending_below
-            r.number (q.number + 1) ps high rest (omega arith) in cc in
+        r.number (q.number + 1) ps high rest (omega arith) in cc in
         cond-false (eqb q.number r.number) (Some q) (pending_at r.number ps) (ne_eqb q.number r.number ne) ∙ h
 
 pub first_if : (s : State) (o : Option Pending) → IsValid s → o ≡ soonest None s.pending
@@ -125,9 +139,9 @@ first_if s o v e = all s.pending refl o e
               (eq-eqb q.number r.0.number (ap (λ (v : Pending). v.number) (sym e))) ∙ ap Some (sym e)
           | inr h ↦
               let ne : q.number ≡ r.0.number → ⊥ = λ e. let none : pending_at r.0.number ps ≡ None =
-                  pending_below r.0.number (q.number + 1) ps s.next rises.1 (omega arith) in cc in
+              pending_below r.0.number (q.number + 1) ps s.next rises.1 (omega arith) in cc in
               cond-false (eqb q.number r.0.number) (Some q) (pending_at r.0.number ps)
-                  (ne_eqb q.number r.0.number ne) ∙ h
+              (ne_eqb q.number r.0.number ne) ∙ h
         ] in
         let first : IsFirstDue s r.0 = (
           ap (pending_at r.0.number) e ∙ here,
@@ -196,7 +210,7 @@ pub news_if : (s : State) (low : ℕ) (o : Option Pending) → IsValid s → o �
     → (o ≡ None → NoNews low s) × IfSome o (λ p. IsNews low s p × (p.number < GREATEST))
 news_if s low o v e =
     let k : IsFrom low s.pending o = subst (λ x. IsFrom low s.pending x) (sym e)
-        (from_is low 0 s.pending s.next v.rises) in (
+    (from_is low 0 s.pending s.next v.rises) in (
       k.none,
       if_some o (λ r h.
           let f = k.found r h in

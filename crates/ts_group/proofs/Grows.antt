@@ -32,22 +32,41 @@ log_one a b e h o = record { own = e ∷ []; by = h; all_own = (o, tt) }
 pub calls_before : (moment : ℕ) (ns : List ℕ) (es fs : List Entry) → AreCalls moment ns fs
     → AreCalls moment ns (es ++ fs)
 calls_before moment [] es fs h = tt
-calls_before moment (n ∷ ns) es fs (before, after, key, event, e, rest) =
-    (es ++ before, after, key, event, ap (λ xs. es ++ xs) e ∙ sym
-        (append_assoc es before (Set n key event moment n 0 ∷ after)), rest)
+calls_before moment (n ∷ ns) es fs (before, after, key, event, e, rest) = (
+  es ++ before,
+  after,
+  key,
+  event,
+  ap (λ xs. es ++ xs) e ∙ sym
+      (append_assoc es before (Set n key event moment n 0 ∷ after)),
+  rest,
+)
 
 pub calls_append : (moment : ℕ) (ns ms : List ℕ) (es fs : List Entry) → AreCalls moment ns es
     → AreCalls moment ms fs → AreCalls moment (ns ++ ms) (es ++ fs)
 calls_append moment [] ms es fs h k = calls_before moment ms es fs k
-calls_append moment (n ∷ ns) ms es fs (before, after, key, event, e, rest) k =
-    (before, after ++ fs, key, event, ap (λ xs. xs ++ fs) e ∙ append_assoc before
-        (Set n key event moment n 0 ∷ after) fs, calls_append moment ns ms after fs rest k)
+calls_append moment (n ∷ ns) ms es fs (before, after, key, event, e, rest) k = (
+  before,
+  after ++ fs,
+  key,
+  event,
+  ap (λ xs. xs ++ fs) e ∙ append_assoc before
+      (Set n key event moment n 0 ∷ after) fs,
+  calls_append moment ns ms after fs rest k,
+)
 
 -- the same context goes on by nothing
 pub grows_same : (a b : Context) → IsSame a b → Grows a b
 grows_same a b h = record {
-  log = record { own = []; by = extends_none a.log b.log h.log; all_own = tt; asked = []; calls = h.calls ∙
-      sym (append-nil a.calls); are_calls = tt };
+  log = record {
+    own = [];
+    by = extends_none a.log b.log h.log;
+    all_own = tt;
+    asked = [];
+    calls = h.calls ∙
+        sym (append-nil a.calls);
+    are_calls = tt;
+  };
   moment = h.moment;
   running = h.running;
   role = h.role;
@@ -55,15 +74,30 @@ grows_same a b h = record {
 }
 
 pub grows_refl : (a : Context) → Grows a a
-grows_refl a = grows_same a a (record { log = record { base = refl; entries = refl; state = refl }; roles =
-    refl; moment = refl; running = refl; role = refl; news_from = refl; calls = refl })
+grows_refl a = grows_same a a (record {
+  log = record { base = refl; entries = refl; state = refl };
+  roles =
+      refl;
+  moment = refl;
+  running = refl;
+  role = refl;
+  news_from = refl;
+  calls = refl;
+})
 
 -- a journal that goes on by own entries, with no direct call
 pub grows_log : (a b : Context) → GrowsLog a.log b.log → b.calls ≡ a.calls → b.moment ≡ a.moment
     → b.running ≡ a.running → b.role ≡ a.role → b.news_from ≡ a.news_from → Grows a b
 grows_log a b h c m k r t = record {
-  log = record { own = h.own; by = h.by; all_own = h.all_own; asked = []; calls = c ∙ sym
-      (append-nil a.calls); are_calls = tt };
+  log = record {
+    own = h.own;
+    by = h.by;
+    all_own = h.all_own;
+    asked = [];
+    calls = c ∙ sym
+        (append-nil a.calls);
+    are_calls = tt;
+  };
   moment = m;
   running = k;
   role = r;
@@ -75,8 +109,15 @@ pub grows_call : (a b : Context) (n : ℕ) (key : ContKey) (event : Event)
     → Extends a.log b.log (Set n key event a.moment n 0 ∷ []) → b.calls ≡ a.calls ++ n ∷ []
     → b.moment ≡ a.moment → b.running ≡ a.running → b.role ≡ a.role → b.news_from ≡ a.news_from → Grows a b
 grows_call a b n key event h c m k r t = record {
-  log = record { own = Set n key event a.moment n 0 ∷ []; by = h; all_own = (refl, tt); asked = n ∷ []; calls
-      = c; are_calls = ([], [], key, event, refl, tt) };
+  log = record {
+    own = Set n key event a.moment n 0 ∷ [];
+    by = h;
+    all_own = (refl, tt);
+    asked = n ∷ [];
+    calls
+        = c;
+    are_calls = ([], [], key, event, refl, tt);
+  };
   moment = m;
   running = k;
   role = r;
@@ -110,8 +151,8 @@ pub waits_call : (s t : State) (moment n k : ℕ) (ns ms : List ℕ) (p : Pendin
     → n < t.next → AllCalls s moment (drop k ns) → AllCalls t moment (drop k ms)
 waits_call s t moment n k ns ms p stay e le there due plain below h =
     subst (λ qs. AllCalls t moment qs) (sym (ap (drop k) e ∙ drop-append-le k ns (n ∷ []) le))
-        (calls_more t moment n (drop k ns) (stay.stay moment (drop k ns) h)
-        (is_call t moment n p there due plain below))
+    (calls_more t moment n (drop k ns) (stay.stay moment (drop k ns) h)
+    (is_call t moment n p there due plain below))
 
 pub waits_same : (s t : State) (moment k : ℕ) (ns ms : List ℕ) → CallsStay s t → ms ≡ ns
     → AllCalls s moment (drop k ns) → AllCalls t moment (drop k ms)

@@ -18,9 +18,11 @@ replies_refl A = λ group question reply. (λ h. h, λ h. h)
 
 pub replies_trans : {Q R : Type 0} (A B C : ℕ → Q → R → Type 0) → SameReplies A B → SameReplies B C
     → SameReplies A C
-replies_trans A B C p q = λ group question reply.
-    (λ h. (q group question reply).0 ((p group question reply).0 h), λ h. (p group question reply).1
-    ((q group question reply).1 h))
+replies_trans A B C p q = λ group question reply. (
+  λ h. (q group question reply).0 ((p group question reply).0 h),
+  λ h. (p group question reply).1
+      ((q group question reply).1 h),
+)
 
 pub groups_refl : (A : ℕ → Type 0) → SameGroups A A
 groups_refl A = λ group. (λ h. h, λ h. h)
@@ -35,13 +37,17 @@ sets_trans fits v w m n k a b c tags p q le = λ t h. let x = p t h in let y = q
 
 pub promises_refl : {T W Q R : Type 0} (Fits : T → W → Type 0) (Right : W → ℕ → Q → R → Type 0)
     (MayAsk : W → ℕ → Type 0) (w : W) → KeepsPromises Fits Right MayAsk w w
-promises_refl Fits Right MayAsk w = record { tags = λ t h. h; replies = replies_refl (Right w); groups =
-    groups_refl (MayAsk w) }
+promises_refl Fits Right MayAsk w = record {
+  tags = λ t h. h;
+  replies = replies_refl (Right w);
+  groups =
+      groups_refl (MayAsk w);
+}
 
 pub promises_trans : {T W Q R : Type 0} (Fits : T → W → Type 0) (Right : W → ℕ → Q → R → Type 0)
     (MayAsk : W → ℕ → Type 0) (u v w : W)
     → KeepsPromises Fits Right MayAsk u v → KeepsPromises Fits Right MayAsk v w
-        → KeepsPromises Fits Right MayAsk u w
+    → KeepsPromises Fits Right MayAsk u w
 promises_trans Fits Right MayAsk u v w p q = record {
   tags = λ t h. q.tags t (p.tags t h);
   replies = replies_trans (Right u) (Right v) (Right w) p.replies q.replies;

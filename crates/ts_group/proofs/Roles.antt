@@ -20,14 +20,14 @@ pub keys_without : (i : ℕ) (rs : List Named) → keys_of (without_role i rs) �
 keys_without i [] = refl
 keys_without i (r ∷ rs) =
     split (eqb r.key.index i) (λ t. keys_of (cond t rs (r ∷ without_role i rs)) ≡ cond t (keys_of rs)
-        (r.key ∷ without_index i (keys_of rs)))
+    (r.key ∷ without_index i (keys_of rs)))
     (λ e. refl) (λ e. ap (λ ks. r.key ∷ ks) (keys_without i rs))
 
 pub role_none : (i : ℕ) (rs : List Named) → generation_at i (keys_of rs) ≡ None → role_at i rs ≡ None
 role_none i [] h = refl
 role_none i (r ∷ rs) h =
     split (eqb r.key.index i) (λ t. cond t (Some r.key.generation) (generation_at i (keys_of rs)) ≡ None →
-        cond t (Some r.role) (role_at i rs) ≡ None)
+    cond t (Some r.role) (role_at i rs) ≡ None)
     (λ e x. absurd (cc)) (λ e x. role_none i rs x) h
 
 pub role_there : (i : ℕ) (rs : List Named) (g : ℕ) → generation_at i (keys_of rs) ≡ Some g
@@ -35,7 +35,7 @@ pub role_there : (i : ℕ) (rs : List Named) (g : ℕ) → generation_at i (keys
 role_there i [] g h = absurd (cc)
 role_there i (r ∷ rs) g h =
     split (eqb r.key.index i) (λ t. cond t (Some r.key.generation) (generation_at i (keys_of rs)) ≡ Some g →
-        (role : ℕ) × (cond t (Some r.role) (role_at i rs) ≡ Some role))
+    (role : ℕ) × (cond t (Some r.role) (role_at i rs) ≡ Some role))
     (λ e x. (r.role, refl)) (λ e x. role_there i rs g x) h
 
 role_pushed : (rs : List Named) (r : Named) → role_at r.key.index rs ≡ None
@@ -47,7 +47,7 @@ role_pushed rs r h = at r.key.index rs refl h
     at i [] e x = cond-true (eqb r.key.index i) (Some r.role) None (eq-eqb r.key.index i e)
     at i (q ∷ qs) e x =
         split (eqb q.key.index i) (λ t. cond t (Some q.role) (role_at i qs) ≡ None → cond t (Some q.role)
-            (role_at i (qs ++ r ∷ [])) ≡ Some r.role)
+        (role_at i (qs ++ r ∷ [])) ≡ Some r.role)
         (λ f y. absurd (cc)) (λ f y. at i qs e y) x
 
 role_other : (i : ℕ) (rs : List Named) (r : Named) → (i ≡ r.key.index → ⊥)
@@ -56,25 +56,25 @@ role_other i [] r ne = cond-false (eqb r.key.index i) (Some r.role) None
     (ne_eqb r.key.index i (λ e. ne (sym e)))
 role_other i (q ∷ rs) r ne =
     split (eqb q.key.index i) (λ t. cond t (Some q.role) (role_at i (rs ++ r ∷ [])) ≡ cond t (Some q.role)
-        (role_at i rs)) (λ e. refl) (λ e. role_other i rs r ne)
+    (role_at i rs)) (λ e. refl) (λ e. role_other i rs r ne)
 
 role_stays : (i : ℕ) (rs qs : List Named) (role : ℕ) → role_at i rs ≡ Some role
     → role_at i (rs ++ qs) ≡ Some role
 role_stays i [] qs role h = absurd (cc)
 role_stays i (q ∷ rs) qs role h =
     split (eqb q.key.index i) (λ t. cond t (Some q.role) (role_at i rs) ≡ Some role → cond t (Some q.role)
-        (role_at i (rs ++ qs)) ≡ Some role)
+    (role_at i (rs ++ qs)) ≡ Some role)
     (λ e x. x) (λ e x. role_stays i rs qs role x) h
 
 role_left : (i j : ℕ) (rs : List Named) → (i ≡ j → ⊥) → role_at i (without_role j rs) ≡ role_at i rs
 role_left i j [] ne = refl
 role_left i j (r ∷ rs) ne =
     by_eq r.key.index j (λ t. role_at i (cond t rs (r ∷ without_role j rs)) ≡ cond (eqb r.key.index i)
-        (Some r.role) (role_at i rs))
+    (Some r.role) (role_at i rs))
     (λ e. let other : r.key.index ≡ i → ⊥ = λ h. ne (sym h ∙ e) in sym
-        (cond-false (eqb r.key.index i) (Some r.role) (role_at i rs) (ne_eqb r.key.index i other)))
+    (cond-false (eqb r.key.index i) (Some r.role) (role_at i rs) (ne_eqb r.key.index i other)))
     (λ f. split (eqb r.key.index i) (λ t. cond t (Some r.role) (role_at i (without_role j rs)) ≡ cond t
-        (Some r.role) (role_at i rs)) (λ e. refl) (λ e. role_left i j rs ne))
+    (Some r.role) (role_at i rs)) (λ e. refl) (λ e. role_left i j rs ne))
 
 pub keeps_none : (a b : State) (rs qs : List Named) → b ≡ a → qs ≡ rs → KeepsKeys a b rs qs
 keeps_none a b rs qs e f = record {
@@ -95,7 +95,7 @@ pub has_made : (a b : State) (rs qs : List Named) (r : Named) → IsLive b.live 
     → HasMade a b rs qs r.key r.role
 has_made a b rs qs r live free keys e =
     let none : role_at r.key.index rs ≡ None = role_none r.key.index rs
-        (ap (generation_at r.key.index) keys ∙ free) in
+    (ap (generation_at r.key.index) keys ∙ free) in
     record {
       live = live;
       named = ap (role_at r.key.index) e ∙ role_pushed rs r none;

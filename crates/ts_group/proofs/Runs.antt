@@ -26,8 +26,12 @@ record SameTurn (s t : State) : Type 0 where
   handled : t.handled_count ≡ s.handled_count
 
 same_turn : (s t u : State) → SameTurn s t → SameTurn t u → SameTurn s u
-same_turn s t u p q = record { held = q.held ∙ p.held; turns = q.turns ∙ p.turns; handled = q.handled ∙
-    p.handled }
+same_turn s t u p q = record {
+  held = q.held ∙ p.held;
+  turns = q.turns ∙ p.turns;
+  handled = q.handled ∙
+      p.handled;
+}
 
 own_step : (s : State) (e : Entry) → IsOwn e → SameTurn s (after s e)
 own_step s (Took turn seat) o = absurd o
@@ -61,17 +65,20 @@ pub stays_trans : {s t u : State} → StaysInTurn s t → StaysInTurn t u → St
 stays_trans p q = record { held = q.held; turns = q.turns ∙ p.turns }
 
 pub stays_same : {s t u : State} → u ≡ t → StaysInTurn s t → StaysInTurn s u
-stays_same e p = record { held = ap (λ (x : State). x.held) e ∙ p.held; turns = ap (λ (x : State). x.turns) e
-    ∙ p.turns }
+stays_same e p = record {
+  held = ap (λ (x : State). x.held) e ∙ p.held;
+  turns = ap (λ (x : State). x.turns) e
+      ∙ p.turns;
+}
 
 -- the next occurrence of a periodic event leaves the turn as it was
 renewal_turn : (s : State) (p : Pending) (next moment : ℕ) → SameTurn s (replay s (renewal p next moment))
 renewal_turn s p next moment =
     split (nat_lt 0 p.period && nat_lt next GREATEST)
-        (λ t. SameTurn s (replay s (cond t (Set next p.key Timeout (moment_after moment p.period) p.series
-        p.period ∷ []) [])))
+    (λ t. SameTurn s (replay s (cond t (Set next p.key Timeout (moment_after moment p.period) p.series
+    p.period ∷ []) [])))
     (λ e. record { held = refl; turns = refl; handled = refl })
-        (λ e. record { held = refl; turns = refl; handled = refl })
+    (λ e. record { held = refl; turns = refl; handled = refl })
 
 -- an event that is handled leaves the turn, and raises the count by one
 record OneMore (s t : State) : Type 0 where
@@ -105,8 +112,8 @@ runs_rise Called u v s moment number queue (suc (suc k)) es left
     let a = (run_turn s moment number asked run r).handled in
     let b = runs_rise Called mid v (replay s run) moment next behind (suc k) rest left more in
     let f : (replay s es).handled_count ≡ (replay (replay s run) rest).handled_count = ap
-        (λ fs. (replay s fs).handled_count) e ∙ ap (λ (t : State). t.handled_count) (replay-append s run rest)
-        in
+    (λ fs. (replay s fs).handled_count) e ∙ ap (λ (t : State). t.handled_count) (replay-append s run rest)
+    in
     omega arith
 
 -- one event more at the end
@@ -114,14 +121,25 @@ pub runs_more : {W : Type 0} (Called : W → W → List ℕ → Type 0) (u v w :
     (queue : List ℕ) (k : ℕ) (es : List Entry) (left : List ℕ) (next : ℕ) (behind asked : List ℕ)
     (run : List Entry)
     → RunsFrom Called u v s moment number queue k es left
-        → next_in (replay s es).pending left ≡ Some (next, behind) → IsRun (replay s es) moment next asked run
-        → Called v w asked
+    → next_in (replay s es).pending left ≡ Some (next, behind) → IsRun (replay s es) moment next asked run
+    → Called v w asked
     → RunsFrom Called u w s moment number queue (suc k) (es ++ run) (behind ++ asked)
 runs_more Called u v w s moment number queue zero es left next behind asked run h n r d = absurd h
 runs_more Called u v w s moment number queue (suc zero) es left next behind asked run (first, f, called, e) n
-    r d =
-    (first, es, run, f, refl, v, called, next, behind, subst
-        (λ q. next_in (replay s es).pending q ≡ Some (next, behind)) e n, (asked, r, d, refl))
+    r d = (
+      first,
+      es,
+      run,
+      f,
+      refl,
+      v,
+      called,
+      next,
+      behind,
+      subst
+          (λ q. next_in (replay s es).pending q ≡ Some (next, behind)) e n,
+      (asked, r, d, refl),
+    )
 runs_more Called u v w s moment number queue (suc (suc k)) es left next behind asked run
     (first, one, rest, f, e, mid, called, next2, behind2, n2, more) n r d =
     let same : replay s es ≡ replay (replay s one) rest = ap (replay s) e ∙ replay-append s one rest in (
@@ -154,12 +172,12 @@ pub record HasRunAll {W Q R T U : Type 0} (Called : W → W → List ℕ → Typ
 
 -- nothing was handled yet, and the first event is the next
 pub record BeginsRun {W Q R T U : Type 0} (start now : Group W Q R T U) (first events number : ℕ) : Type 0
-    where
-  pub none : events ≡ 0
-  pub log : now.cx.log ≡ start.cx.log
-  pub calls : now.cx.calls ≡ []
-  pub is_first : number ≡ first
-  pub world : now.world ≡ start.world
+  where
+    pub none : events ≡ 0
+    pub log : now.cx.log ≡ start.cx.log
+    pub calls : now.cx.calls ≡ []
+    pub is_first : number ≡ first
+    pub world : now.world ≡ start.world
 
 -- so many events were handled, and a direct call that waits is the next
 pub record GoesOnRun {W Q R T U : Type 0} (Called : W → W → List ℕ → Type 0) (start now : Group W Q R T U)
@@ -183,40 +201,52 @@ pub record InRun {W Q R T U : Type 0} (Called : W → W → List ℕ → Type 0)
 pub begin_run : {W Q R T U : Type 0} (Called : W → W → List ℕ → Type 0) (start now : Group W Q R T U)
     (moment : ℕ) (event : Pending)
     → now.cx ≡ record start.cx { calls = []; moment = moment } → now.world ≡ start.world
-        → start.cx.log.state.held ≡ true → IsReady start.cx.log moment event
+    → start.cx.log.state.held ≡ true → IsReady start.cx.log moment event
     → InRun Called start now moment event.number 0 event
 begin_run Called start now moment event e w h r =
     let log : now.cx.log ≡ start.cx.log = ap (λ (c : Context). c.log) e in
     record {
-      turn = record { held = ap (λ (l : Log). l.state.held) log ∙ h; turns = ap (λ (l : Log). l.state.turns)
-          log };
+      turn = record {
+        held = ap (λ (l : Log). l.state.held) log ∙ h;
+        turns = ap (λ (l : Log). l.state.turns)
+            log;
+      };
       at_moment = ap (λ (c : Context). c.moment) e;
       news_from = ap (λ (c : Context). c.news_from) e;
       ready = subst (λ l. IsReady l moment event) (sym log) r;
-      so_far = inl (record { none = refl; log = log; calls = ap (λ (c : Context). c.calls) e; is_first = refl;
-          world = w });
+      so_far = inl (record {
+        none = refl;
+        log = log;
+        calls = ap (λ (c : Context). c.calls) e;
+        is_first = refl;
+        world = w;
+      });
     }
 
 pub ran_more : {W Q R T U : Type 0} (Called : W → W → List ℕ → Type 0) (start a b : Group W Q R T U)
     (moment first events : ℕ) (event : Pending)
     → InRun Called start a moment first events event → HasRun Called a b event.number
-        → HasRunAll Called start b moment first (events + 1)
+    → HasRunAll Called start b moment first (events + 1)
 ran_more Called start a b moment first events event i r =
     let is_run : IsRun a.cx.log.state moment event.number r.asked r.run = subst
-        (λ m. IsRun a.cx.log.state m event.number r.asked r.run) i.at_moment r.is_run in
+    (λ m. IsRun a.cx.log.state m event.number r.asked r.run) i.at_moment r.is_run in
     elim i.so_far [
       | inl z ↦
           let k : 1 ≡ events + 1 = omega (arith, z.none) in
           let first_run : IsRun start.cx.log.state moment first r.asked r.run =
           subst (λ n. IsRun start.cx.log.state moment n r.asked r.run) z.is_first
-              (subst (λ (l : Log). IsRun l.state moment event.number r.asked r.run) z.log is_run) in
+          (subst (λ (l : Log). IsRun l.state moment event.number r.asked r.run) z.log is_run) in
           record {
             es = r.run;
             by = subst (λ l. Extends l b.cx.log r.run) z.log r.by;
             runs = subst (λ n. RunsFrom Called start.world b.world start.cx.log.state moment first [] n r.run
-                b.cx.calls) k
-                (r.asked, first_run, subst (λ x. Called x b.world r.asked) z.world r.called, r.calls ∙ ap
-                    (λ ns. ns ++ r.asked) z.calls);
+                b.cx.calls) k (
+                  r.asked,
+                  first_run,
+                  subst (λ x. Called x b.world r.asked) z.world r.called,
+                  r.calls ∙ ap
+                      (λ ns. ns ++ r.asked) z.calls,
+                );
             turn = stays_trans i.turn r.turn;
             at_moment = r.moment ∙ i.at_moment;
             idle = r.idle;
@@ -226,19 +256,19 @@ ran_more Called start a b moment first events event i r =
           let k : suc events ≡ events + 1 = omega arith in
           let state : a.cx.log.state ≡ replay start.cx.log.state z.es = z.by.state in
           let next : next_in (replay start.cx.log.state z.es).pending z.left ≡ Some (event.number, a.cx.calls)
-              =
+          =
           subst (λ (t : State). next_in t.pending z.left ≡ Some (event.number, a.cx.calls)) state z.next in
           let run : IsRun (replay start.cx.log.state z.es) moment event.number r.asked r.run = subst
-              (λ (t : State). IsRun t moment event.number r.asked r.run) state is_run in
+          (λ (t : State). IsRun t moment event.number r.asked r.run) state is_run in
           let all = runs_more Called start.world a.world b.world start.cx.log.state moment first [] events
-              z.es z.left event.number a.cx.calls r.asked r.run z.runs next run r.called in
+          z.es z.left event.number a.cx.calls r.asked r.run z.runs next run r.called in
           record {
             es = z.es ++ r.run;
             by = extends_trans z.by r.by;
             runs = subst (λ n. RunsFrom Called start.world b.world start.cx.log.state moment first [] n
                 (z.es ++ r.run) b.cx.calls) k
                 (subst (λ q. RunsFrom Called start.world b.world start.cx.log.state moment first []
-                    (suc events) (z.es ++ r.run) q) (sym r.calls) all);
+                (suc events) (z.es ++ r.run) q) (sym r.calls) all);
             turn = stays_trans i.turn r.turn;
             at_moment = r.moment ∙ i.at_moment;
             idle = r.idle;
@@ -249,7 +279,7 @@ ran_more Called start a b moment first events event i r =
 pub handles : {W Q R T U : Type 0} (Called : W → W → List ℕ → Type 0) (start now : Group W Q R T U)
     (moment first events : ℕ)
     → HasRunAll Called start now moment first events → 1 ≤ events → events ≤ MOST_EVENTS
-        → Handles Called start now first moment events
+    → Handles Called start now first moment events
 handles Called start now moment first events r some most = record {
   some = some;
   most = most;
@@ -259,7 +289,7 @@ handles Called start now moment first events r some most = record {
   turn = r.turn;
   rise = ap (λ (t : State). t.handled_count) r.by.state
       ∙ runs_rise Called start.world now.world start.cx.log.state moment first [] events r.es now.cx.calls
-          r.runs;
+      r.runs;
   now = r.at_moment;
   idle = r.idle;
   news_from = r.news_from;
@@ -269,9 +299,9 @@ handles Called start now moment first events r some most = record {
 pub run_next : {W Q R T U : Type 0} (Called : W → W → List ℕ → Type 0) (start a b : Group W Q R T U)
     (moment first events : ℕ) (event : Pending)
     → HasRunAll Called start a moment first events → b.world ≡ a.world
-        → IsSame (record a.cx { calls = b.cx.calls }) b.cx
+    → IsSame (record a.cx { calls = b.cx.calls }) b.cx
     → next_in a.cx.log.state.pending a.cx.calls ≡ Some (event.number, b.cx.calls)
-        → IsReady b.cx.log b.cx.moment event
+    → IsReady b.cx.log b.cx.moment event
     → InRun Called start b moment first events event
 run_next Called start a b moment first events event r w s n ready =
     let m : b.cx.moment ≡ moment = s.moment ∙ r.at_moment in
@@ -294,21 +324,21 @@ run_next Called start a b moment first events event r w s n ready =
 pub handles_none : {W Q R T U : Type 0} (Called : W → W → List ℕ → Type 0) (start a b : Group W Q R T U)
     (moment first events : ℕ)
     → HasRunAll Called start a moment first events → 1 ≤ events → events ≤ MOST_EVENTS → b.world ≡ a.world
-        → IsSame (record a.cx { calls = b.cx.calls }) b.cx
+    → IsSame (record a.cx { calls = b.cx.calls }) b.cx
     → b.cx.calls ≡ a.cx.calls → next_in a.cx.log.state.pending a.cx.calls ≡ None
     → Handles Called start b first moment events ×
-        (events < MOST_EVENTS → next_in b.cx.log.state.pending b.cx.calls ≡ None)
+    (events < MOST_EVENTS → next_in b.cx.log.state.pending b.cx.calls ≡ None)
 handles_none Called start a b moment first events r some most w s same none =
     let none_left : next_in b.cx.log.state.pending b.cx.calls ≡ None =
     ap (λ (t : State). next_in t.pending b.cx.calls) s.log.state ∙ ap (λ q. next_in a.cx.log.state.pending q)
-        same ∙ none in
+    same ∙ none in
     let all : HasRunAll Called start b moment first events = record {
       es = r.es;
       by = extends_before r.by s.log;
       runs = subst (λ v. RunsFrom Called start.world v start.cx.log.state moment first [] events r.es
           b.cx.calls) (sym w)
           (subst (λ q. RunsFrom Called start.world a.world start.cx.log.state moment first [] events r.es q)
-              (sym same) r.runs);
+          (sym same) r.runs);
       turn = stays_same s.log.state r.turn;
       at_moment = s.moment ∙ r.at_moment;
       idle = s.running ∙ r.idle;

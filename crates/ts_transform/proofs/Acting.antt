@@ -9,7 +9,7 @@ use Rattle.ts_group.specs.Context.{Context}
 use Rattle.ts_transform.specs.declared.continuation.StageContinuation.{StageContinuation}
 use Rattle.ts_transform.specs.declared.pump.Pumped.{Pumped}
 use Rattle.ts_transform.specs.Stage.{done_by}
-use Rattle.ts_transform.specs.Flow.{ChainState, AnswersAt, StepsAt, MayPump, ended_at, flow, left_to_do}
+use Rattle.ts_transform.specs.Flow.{ChainState, AnswersAt, StepsAt, MayPump, MustWork, ended_at, flow, left_to_do}
 use Rattle.ts_transform.specs.Driving.{IsClosed, IsDestroyed, IsToldBefore, KeepsOthers, KeepsStages, Lessens, OnlyTellsBefore, SetsFew, all_unroused, changed, error_passed, gone, may_pass_error_at, unroused_at, works_at}
 use Rattle.ts_transform.specs.Cover.{OnlySets}
 use Rattle.ts_transform.specs.Acting.{ActsAt, HasNothingToDo, IsStage, Pays, PaysErrors, Pumps, StillGives, TellsBefore, step_weight}
@@ -68,6 +68,7 @@ pub acts_gone : {P : Type 0} (rest : P → List ℕ → List ℕ) (pause : P →
 acts_gone rest pause at event c ts us a b ended closed is lessens = record {
   own = inl refl;
   idle = λ rests. refl;
+  still = λ rests. refl;
   only = may_none pause c c ts at event a b lessens.none;
   closed = λ e. (closed, is, refl);
   ended = λ now goes. absurd (goes_not goes);
@@ -87,10 +88,11 @@ acts_gone rest pause at event c ts us a b ended closed is lessens = record {
 -- a stage that works
 pub acts_works : {P T : Type 0} (rest : P → List ℕ → List ℕ) (pause : P → ℕ) (at : ℕ) (event : Event) (c d : ChainState P) (ts us : List (Option StageContinuation)) (r : Result T SetFault) (a b : Context)
     → works_at event ≡ true → ended_at c.stages at ≡ false → Pumps rest at c d a b → OnlySets pause c d ts at event a b → OnOk r (TellsBefore pause at c d ts us b.log.state.pending) → KeepsStages a b ts us
-    → ActsAt rest pause at event c d ts ts us true (is_ok r) a b
-acts_works rest pause at event c d ts us r a b works goes pumps only tells stages = record {
+    → ((MustWork c at → ⊥) → (is_ok r ≡ true) × (d ≡ c) × (b ≡ a)) → ActsAt rest pause at event c d ts ts us true (is_ok r) a b
+acts_works rest pause at event c d ts us r a b works goes pumps only tells stages quiet = record {
   own = pumps.own;
   idle = λ rests. absurd (works_not rests);
+  still = λ rests. (quiet rests).1;
   only = only;
   closed = λ ended. absurd (ends_not ended);
   ended = λ now goes end. (ok_then r now tells).ended goes end;
@@ -116,7 +118,8 @@ acts_works rest pause at event c d ts us r a b works goes pumps only tells stage
     nothing : HasNothingToDo event c ts at → is_ok r ≡ true
     nothing (inl ended) = absurd (ends_not ended)
     nothing (inr (inl complete)) = absurd (works_not (ap works_at complete))
-    nothing (inr (inr (e, passed))) = absurd (no_error e)
+    nothing (inr (inr (inl (e, passed)))) = absurd (no_error e)
+    nothing (inr (inr (inr (w, rests)))) = (quiet rests).0
 
 -- a stage that gets an error
 pub acts_passes : {P T : Type 0} (rest : P → List ℕ → List ℕ) (pause : P → ℕ) (at : ℕ) (event : Event) (c : ChainState P) (ts us : List (Option StageContinuation)) (r : Result T SetFault) (a b : Context)
@@ -125,6 +128,7 @@ pub acts_passes : {P T : Type 0} (rest : P → List ℕ → List ℕ) (pause : P
 acts_passes rest pause at event c ts us r a b is goes passed told only quiet = record {
   own = inl refl;
   idle = λ rests. refl;
+  still = λ rests. refl;
   only = may_pass pause c c ts at event a b is only;
   closed = λ ended. absurd (ends_not ended);
   ended = λ now goes end. absurd (ends_not end);
@@ -144,7 +148,8 @@ acts_passes rest pause at event c ts us r a b is goes passed told only quiet = r
     nothing : HasNothingToDo event c ts at → is_ok r ≡ true
     nothing (inl ended) = absurd (ends_not ended)
     nothing (inr (inl complete)) = absurd (let wrong : Error ≡ WriteComplete = sym is ∙ complete in cc)
-    nothing (inr (inr (e, none))) = (quiet none).0
+    nothing (inr (inr (inl (e, none)))) = (quiet none).0
+    nothing (inr (inr (inr (works, rests)))) = absurd (let wrong : false ≡ true = sym (ap works_at is) ∙ works in cc)
 
 -- a stage at the end of its output
 pub acts_rests : {P : Type 0} (rest : P → List ℕ → List ℕ) (pause : P → ℕ) (at : ℕ) (event : Event) (c : ChainState P) (ts : List (Option StageContinuation)) (a : Context)
@@ -152,6 +157,7 @@ pub acts_rests : {P : Type 0} (rest : P → List ℕ → List ℕ) (pause : P �
 acts_rests rest pause at event c ts a other goes = record {
   own = inl refl;
   idle = λ rests. refl;
+  still = λ rests. refl;
   only = may_set_none pause c c ts at event a;
   closed = λ ended. absurd (ends_not ended);
   ended = λ now goes end. absurd (ends_not end);
@@ -178,6 +184,7 @@ pub acts_handled : {P : Type 0} (rest : P → List ℕ → List ℕ) (pause : P 
 acts_handled rest pause at event c d ts vs us was now a b is same h = record {
   own = h.own;
   idle = h.idle;
+  still = h.still;
   only = subst (λ xs. OnlySets pause c d xs at event a b) is h.only;
   closed = λ ended. (closed ended, (h.closed ended).1 ∙ gone_unroused (works_at event) ts vs at is, (h.closed ended).2);
   ended = h.ended;
@@ -199,7 +206,8 @@ acts_handled rest pause at event c d ts vs us was now a b is same h = record {
     nothing_as : HasNothingToDo event c ts at → HasNothingToDo event c vs at
     nothing_as (inl ended) = inl ended
     nothing_as (inr (inl complete)) = inr (inl complete)
-    nothing_as (inr (inr (e, none))) = inr (inr (e, may_pass_same ts vs at same ∙ none))
+    nothing_as (inr (inr (inl (e, none)))) = inr (inr (inl (e, may_pass_same ts vs at same ∙ none)))
+    nothing_as (inr (inr (inr quiet))) = inr (inr (inr quiet))
 
 -- and where something may have been lost before
 pub acts_run : {P : Type 0} (rest : P → List ℕ → List ℕ) (pause : P → ℕ) (at : ℕ) (event : Event) (c d : ChainState P) (ts vs us : List (Option StageContinuation)) (ok was now : Bool) (a b : Context)
@@ -207,6 +215,7 @@ pub acts_run : {P : Type 0} (rest : P → List ℕ → List ℕ) (pause : P → 
 acts_run rest pause at event c d ts vs us ok was now a b then as_was h = record {
   own = h.own;
   idle = h.idle;
+  still = h.still;
   only = h.only;
   closed = h.closed;
   ended = λ runs. h.ended (then runs);

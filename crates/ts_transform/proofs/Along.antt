@@ -6,12 +6,12 @@ use Rattle.ts_journal.specs.declared.entry.Pending.{Pending}
 use Rattle.ts_group.specs.declared.action.Named.{Named}
 use Rattle.ts_group.specs.Context.{Context, IsSame}
 use Rattle.ts_transform.specs.Flow.{ChainState, MustRead, MustWrite}
-use Rattle.ts_transform.specs.Driving.{AreNamed, IsNamedIf, IsRousingOf, Keeps, SetsOnly, changed, unroused, unroused_at, unroused_for, works_at}
+use Rattle.ts_transform.specs.Driving.{AreNamed, IsNamedIf, IsRousedIf, IsRousingOf, Keeps, SetsOnly, changed, unroused, unroused_at, unroused_for, works_at}
 use Rattle.ts_transform.specs.Cover.{IsRousing, MaySet}
 use Rattle.ts_transform.specs.Acting.{HasNothingToDo, IsStage}
 use Rattle.ts_transform.specs.Driven.{Acts, IsOfNoStage}
 use Rattle.ts_transform.specs.Carrying.{AreEndsRoused, LacksMemory, StaysLinked}
-use Rattle.ts_transform.specs.Along.{AreNamedAlong, DoesDuty, HasNothingAlong, IsForDuty, MaySetAlong, ReadsOnce, RousesAnEnd, SetsForDuty, WorksAlong, WritesOnce}
+use Rattle.ts_transform.specs.Along.{AreNamedAlong, DoesDuty, EndRests, HasNothingAlong, IsForDuty, LeavesDuties, MaySetAlong, ReadsOnce, RousesAnEnd, SetsForDuty, WorksAlong, WritesOnce}
 use Rattle.ts_link.specs.Link.{Look}
 use Rattle.ts_transform.specs.declared.continuation.StageContinuation.{StageContinuation}
 use Rattle.ts_transform.specs.declared.link_world.LinkWorld.{LinkWorld}
@@ -101,31 +101,50 @@ along_stage {P} {I} {K} rest pause role event v w a b acts other named = by_stag
         only_weaker (MaySet pause FIRST v.driven.chain w.driven.chain (unroused_at event v.driven.table.items at) at event a.moment a.roles) Such a b (λ p h. inr (at, is, h)) ((acts at is stage).only FIRST (named_handled (works_at event) a.roles FIRST at v.driven.table.items named.stages))
     by_stage (inr none) = only_same Such a b (ap (λ s. s.pending) (other none).log.state)
 
--- an end has nothing to do at an event at which it does not work
-pub sure_end : {I K P : Type 0} (role : ℕ) (event : Event) (v w : LinkWorld I K P) → role < 3 → (works_at event ≡ false → w ≡ v) → HasNothingAlong role event v
-    → (w.driven.running ≡ v.driven.running) × (w.driven.chain ≡ v.driven.chain) × (w.writer ≡ v.writer) × (w.reader ≡ v.reader)
-sure_end role event v w below same (inl (end, quiet)) = let e = same quiet in (ap (λ x. x.driven.running) e, ap (λ x. x.driven.chain) e, ap (λ x. x.writer) e, ap (λ x. x.reader) e)
-sure_end role event v w below same (inr (at, is, stage, nothing)) = let k : role ≡ 3 + at = is in absurd (omega (arith, below, k))
+-- an end that has nothing to do leaves each duty
+pub sure_writer : {I K P : Type 0} (role : ℕ) (event : Event) (v w : LinkWorld I K P) → role ≡ WRITER
+    → (EndRests event (MustWrite v.driven.chain) → LeavesDuties v w) → HasNothingAlong role event v → LeavesDuties v w
+sure_writer role event v w is leaves (inl (end, rests)) = leaves rests
+sure_writer role event v w is leaves (inr (inl (end, rests))) = let k : role ≡ 2 = end in absurd (omega (arith, is, k))
+sure_writer role event v w is leaves (inr (inr (at, place, stage, nothing))) =
+    let k : role ≡ 3 + at = place in absurd (omega (arith, is, k))
 
--- nor has a stage
-pub sure_stage : {P I K : Type 0} (rest : P → List ℕ → List ℕ) (pause : P → ℕ) (role : ℕ) (event : Event) (v w : LinkWorld I K P) (a b : Context) → (role ≡ WRITER → ⊥) → (role ≡ READER → ⊥)
-    → ((at : ℕ) → role ≡ FIRST + at → IsStage v.driven.chain v.driven.table.items at → Acts rest pause at event v.driven w.driven a b) → w.writer ≡ v.writer → w.reader ≡ v.reader → HasNothingAlong role event v
-    → (w.driven.running ≡ v.driven.running) × (w.driven.chain ≡ v.driven.chain) × (w.writer ≡ v.writer) × (w.reader ≡ v.reader)
-sure_stage rest pause role event v w a b not_writer not_reader acts writer reader (inl (inl is, quiet)) = absurd (not_writer is)
-sure_stage rest pause role event v w a b not_writer not_reader acts writer reader (inl (inr is, quiet)) = absurd (not_reader is)
-sure_stage rest pause role event v w a b not_writer not_reader acts writer reader (inr (at, is, stage, nothing)) =
-    let h = acts at is stage in (h.sure nothing, still h nothing, writer, reader)
+pub sure_reader : {I K P : Type 0} (role : ℕ) (event : Event) (v w : LinkWorld I K P) → role ≡ READER
+    → (EndRests event (MustRead v.driven.chain) → LeavesDuties v w) → HasNothingAlong role event v → LeavesDuties v w
+sure_reader role event v w is leaves (inl (end, rests)) = let k : role ≡ 1 = end in absurd (omega (arith, is, k))
+sure_reader role event v w is leaves (inr (inl (end, rests))) = leaves rests
+sure_reader role event v w is leaves (inr (inr (at, place, stage, nothing))) =
+    let k : role ≡ 3 + at = place in absurd (omega (arith, is, k))
+
+-- so does a stage
+pub sure_stage : {P I K : Type 0} (rest : P → List ℕ → List ℕ) (pause : P → ℕ) (role : ℕ) (event : Event)
+    (v w : LinkWorld I K P) (a b : Context) → (role ≡ WRITER → ⊥) → (role ≡ READER → ⊥)
+    → ((at : ℕ) → role ≡ FIRST + at → IsStage v.driven.chain v.driven.table.items at
+    → Acts rest pause at event v.driven w.driven a b) → w.writer ≡ v.writer → w.reader ≡ v.reader
+    → HasNothingAlong role event v → LeavesDuties v w
+sure_stage rest pause role event v w a b not_writer not_reader acts writer reader (inl (is, rests)) = absurd (not_writer is)
+sure_stage rest pause role event v w a b not_writer not_reader acts writer reader (inr (inl (is, rests))) = absurd (not_reader is)
+sure_stage rest pause role event v w a b not_writer not_reader acts writer reader (inr (inr (at, is, stage, nothing))) =
+    let h = acts at is stage in
+    record { running = h.sure nothing; chain = still h nothing; writer = λ must. writer; reader = λ must. reader }
   where
     still : Acts rest pause at event v.driven w.driven a b → HasNothingToDo event v.driven.chain v.driven.table.items at → w.driven.chain ≡ v.driven.chain
     still h (inl ended) = (h.closed ended).2
     still h (inr (inl complete)) = h.idle (ap works_at complete)
-    still h (inr (inr (e, none))) = h.idle (ap works_at e)
+    still h (inr (inr (inl (e, none)))) = h.idle (ap works_at e)
+    still h (inr (inr (inr (works, rests)))) = h.still rests
 
 -- The ends were roused behind a handler: where nothing had to be done, nothing is.
 pub step_sure : {I K P : Type 0} (u v w : LinkWorld I K P) (m b : Context) → AreEndsRoused u.driven.chain u.writer u.reader
     → ((v.driven.running ≡ false) ⊎ AreEndsRoused v.driven.chain v.writer v.reader → (w ≡ v) × (b ≡ m))
-    → (v.driven.running ≡ u.driven.running) × (v.driven.chain ≡ u.driven.chain) × (v.writer ≡ u.writer) × (v.reader ≡ u.reader) → w.driven.running ≡ u.driven.running
-step_sure u v w m b ends idle (running, chain, writer, reader) = ap (λ x. x.driven.running) (idle (inr (ends_moved u v chain writer reader ends))).0 ∙ running
+    → LeavesDuties u v → w.driven.running ≡ u.driven.running
+step_sure u v w m b ends idle leaves =
+    let chain = leaves.chain in
+    let still : AreEndsRoused v.driven.chain v.writer v.reader = record {
+      writes = λ must. let m = subst MustWrite chain must in subst IsRousedIf (sym (leaves.writer m)) (ends.writes m);
+      reads = λ must. let m = subst MustRead chain must in subst IsRousedIf (sym (leaves.reader m)) (ends.reads m);
+    } in
+    ap (λ x. x.driven.running) (idle (inr still)).0 ∙ leaves.running
 
 -- And what both set is what may be set.
 pub step_only : {I K P : Type 0} (rest : P → List ℕ → List ℕ) (pause : P → ℕ) (input : I → Look) (output : K → Look) (role : ℕ) (event : Event) (u v w : LinkWorld I K P) (a m b : Context) → AreEndsRoused u.driven.chain u.writer u.reader → AreNamedAlong u a.roles

@@ -60,7 +60,7 @@ pub moves_none : {P : Type 0} (rest : P → List ℕ → List ℕ) (it ot : Bool
 moves_none rest it ot i o c was lacks = moves_wait rest it ot i o o c was lacks (λ tells. sym (append-nil o.taken)) (omega arith)
 
 -- a read brings no more than was asked for
-came_few : (answer : Pulled) (most : ℕ) (more : List ℕ) → Came answer most more → length more ≤ most
+pub came_few : (answer : Pulled) (most : ℕ) (more : List ℕ) → Came answer most more → length more ≤ most
 came_few (U.Some n) most more (len, some, few) = omega (arith, len, few)
 came_few U.End most more none = let l : length more ≡ 0 = ap length none in omega (arith, l)
 came_few U.Again most more none = let l : length more ≡ 0 = ap length none in omega (arith, l)
@@ -135,7 +135,7 @@ moves_aborted rest it ot i j o p c d e was lacks why is counts = record {
 }
 
 -- what is taken from the client's boundary is not before the first stage, but for a chain with no stages
-takes_first : {P : Type 0} (from : List ℕ) (ss : List (Stage P)) (n : ℕ) (from' : List ℕ) (ss' : List (Stage P)) → Takes from ss n from' ss' → length from' ≤ length from
+pub takes_first : {P : Type 0} (from : List ℕ) (ss : List (Stage P)) (n : ℕ) (from' : List ℕ) (ss' : List (Stage P)) → Takes from ss n from' ss' → length from' ≤ length from
 takes_first from [] n from' ss' takes = let l : length from' ≡ length (drop n from) = ap length takes.0 in omega (arith, l, length-drop n from)
 takes_first from (s ∷ ss) n from' [] takes = absurd takes
 takes_first from (s ∷ ss) n from' (s' ∷ ss') (same, part, takes) = let l : length from' ≡ length from = ap length same in omega (arith, l)
@@ -173,7 +173,7 @@ moves_taken rest it ot i o p c d piece n was takes within front taken count = re
     same = ap (take n) front ∙ take-take n (length piece) (client_wait c) within
 
 -- a pump takes what waits before the first stage away, or leaves it
-steps_first : {P : Type 0} (rest : P → List ℕ → List ℕ) (from : List ℕ) (ss : List (Stage P)) (at : ℕ) (r : Pumped) (from' : List ℕ) (ss' : List (Stage P)) → StepsAt rest from ss at r from' ss' → length from' ≤ length from
+pub steps_first : {P : Type 0} (rest : P → List ℕ → List ℕ) (from : List ℕ) (ss : List (Stage P)) (at : ℕ) (r : Pumped) (from' : List ℕ) (ss' : List (Stage P)) → StepsAt rest from ss at r from' ss' → length from' ≤ length from
 steps_first rest from [] at r from' ss' h = absurd (none at h)
   where
     none : (at : ℕ) → StepsAt rest from [] at r from' ss' → ⊥
@@ -230,7 +230,7 @@ steps_order rest up from (s ∷ ss) (suc at) r from' (s' ∷ ss') answers (befor
   subst (λ b. EndsInOrder b ss') (ap (λ p. is_none p) (sym part)) (steps_order rest (has_ended s) s.after ss at r s'.after ss' answers steps others),
 )
 
-pumped_first : {P : Type 0} (rest : P → List ℕ → List ℕ) (c d : ChainState P) → PumpsOnce rest c d → length d.first ≤ length c.first
+pub pumped_first : {P : Type 0} (rest : P → List ℕ → List ℕ) (c d : ChainState P) → PumpsOnce rest c d → length d.first ≤ length c.first
 pumped_first rest c d (inl same) = let l : length d.first ≡ length c.first = ap (λ x. length x.first) same in omega (arith, l)
 pumped_first rest c d (inr (at, h)) = steps_first rest c.first c.stages at h.pumped d.first d.stages h.steps
 

@@ -9,7 +9,7 @@ use Rattle.ts_transform.specs.declared.continuation.StageContinuation.{StageCont
 use Rattle.ts_transform.specs.declared.pump.Stage.{Stage}
 use Rattle.ts_transform.specs.declared.pump.Pumped.{Pumped}
 use Rattle.ts_transform.specs.declared.pump.Pumped.TheVariants.{Moved, Ended, Blocked, Idle}
-use Rattle.ts_transform.specs.Stage.{has_ended, has_work, AnswersIf, AnswersWork}
+use Rattle.ts_transform.specs.Stage.{HasDuty, has_ended, has_work, AnswersIf, AnswersWork}
 use Rattle.ts_transform.specs.Flow.{ChainState, HasWork, MustPump, AnswersAt, StepsAt, ended_at, last_ended, last_wait}
 use Rattle.ts_transform.specs.Driving.{AreOfStages, IsRoused, HasEventIf, Keeps}
 use Rattle.ts_transform.specs.Cover.{Cover, CoverBut, IsRoundRoused, IsDriven, IsDrivenBut, IsDrivenFor, IsAwake}
@@ -30,6 +30,40 @@ pub moved-some : {P : Type 0} (up : Bool) (from : List ℕ) (ss : List (Stage P)
 moved-some up from [] at n h = absurd h
 moved-some up from (s ∷ ss) zero n h = moved-if (has_work (has_ended s) up from) from s.after n h
 moved-some up from (s ∷ ss) (suc at) n h = moved-some (has_ended s) s.after ss at n h
+
+-- and only one that must work does so, or ends
+abbrev pub DoesWork : Pumped → Type 0
+DoesWork (Moved n) = Unit {0}
+DoesWork Ended = Unit {0}
+DoesWork (Blocked w) = ⊥
+DoesWork Idle = ⊥
+
+full-not : (n : ℕ) → nat_le 65536 n ≡ false → n < 65536
+full-not n room = by_test (leb_tells 65536 n)
+  where
+    by_test : ((nat_le 65536 n ≡ true) × (65536 ≤ n)) ⊎ ((nat_le 65536 n ≡ false) × (n < 65536)) → n < 65536
+    by_test (inl (full, long)) = absurd (let wrong : true ≡ false = sym full ∙ room in cc)
+    by_test (inr (e, below)) = below
+
+does-room : (full : Bool) (from after : List ℕ) (r : Pumped) → DoesWork r → AnswersWork full from after r → full ≡ false
+does-room false from after r does h = refl
+does-room true from after (Moved n) does h = absurd (let wrong : Moved n ≡ Blocked (length after) = h in cc)
+does-room true from after Ended does h = absurd (let wrong : Ended ≡ Blocked (length after) = h in cc)
+does-room true from after (Blocked w) does h = absurd does
+does-room true from after Idle does h = absurd does
+
+does-if : (works : Bool) (from after : List ℕ) (r : Pumped) → DoesWork r → AnswersIf works from after r → HasDuty works after
+does-if true from after r does h = (refl, full-not (length after) (does-room (nat_le 65536 (length after)) from after r does h))
+does-if false from after (Moved n) does h = absurd (let wrong : Moved n ≡ Idle = h in cc)
+does-if false from after Ended does h = absurd (let wrong : Ended ≡ Idle = h in cc)
+does-if false from after (Blocked w) does h = absurd does
+does-if false from after Idle does h = absurd does
+
+pub does-must : {P : Type 0} (up : Bool) (from : List ℕ) (ss : List (Stage P)) (at : ℕ) (r : Pumped) → DoesWork r
+    → AnswersAt up from ss at r → MustPump up from ss at
+does-must up from [] at r does h = h
+does-must up from (s ∷ ss) zero r does h = does-if (has_work (has_ended s) up from) from s.after r does h
+does-must up from (s ∷ ss) (suc at) r does h = does-must (has_ended s) s.after ss at r does h
 
 -- a stage that rests had no work, or no room after it
 abbrev pub IsResting : Pumped → Type 0
@@ -145,15 +179,6 @@ rested first c d ts at r pending roles rests answers same h = subst (λ x. IsDri
 pub driven_kept : {P : Type 0} (first : ℕ) (a b : Context) (c : ChainState P) (ts : List (Option StageContinuation)) → Keeps a b
     → IsDriven first c ts a.log.state.pending a.roles → IsDriven first c ts b.log.state.pending b.roles
 driven_kept first a b c ts keeps h = record { len = h.len; of_stages = kept_all a b keeps first ts h.of_stages; cover = h.cover }
-
--- what follows from what stands where a call answered Ok
-pub on_ok : {T E A B : Type 0} (r : Result T E) → OnOk r A → (A → B) → OnOk r B
-on_ok (Ok x) a f = f a
-on_ok (Err e) a f = tt
-
-pub any_ok : {T E B : Type 0} (r : Result T E) → B → OnOk r B
-any_ok (Ok x) b = b
-any_ok (Err e) b = tt
 
 -- what holds before the handler of a stage works, holds but for that stage
 pub driven_but : {P : Type 0} (b : Bool) (first at : ℕ) (c : ChainState P) (ts : List (Option StageContinuation)) (pending : List Pending) (roles : List Named)

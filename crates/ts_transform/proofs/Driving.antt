@@ -19,18 +19,15 @@ use Rattle.ts_transform.specs.World.{GoesOnWith}
 use Rattle.ts_transform.specs.declared.world.ChainWorld.{ChainWorld}
 use Rattle.ts_transform.proofs.Acting.{acts_run, nothing_more}
 use Rattle.ts_transform.proofs.Kept.{cause_weaker}
+use Rattle.ts_lists.proofs.Fronts.{taken_table}
 use Rattle.ts_transform.proofs.Taking.{takes-len, takes-others}
-
--- What holds of continuations that were lent holds of the table that they are in.
-pub in_table : {A : Type 0} (Q : List A → Type 0) (n : ℕ) (us xs : List A) → length us ≡ n → Q us → Q (take n (us ++ drop (length us) xs))
-in_table Q n us xs len q = subst (λ m. Q (take m (us ++ drop (length us) xs))) len (subst Q (sym (take-append_seam us (drop (length us) xs))) q)
 
 -- a stage acted, whose place its role tells
 pub acts_in : {P : Type 0} (rest : P → List ℕ → List ℕ) (pause : P → ℕ) (place at : ℕ) (event : Event) (c d : ChainState P) (ts xs us : List (Option StageContinuation)) (n : ℕ) (ok was now : Bool) (a b : Context)
     → place ≡ at → ts ≡ xs → n ≡ length ts → (now ≡ true → ok ≡ true) → (ok ≡ true → now ≡ was) → ActsAt rest pause place event c d ts (unroused_at event ts place) us true ok a b
     → ActsAt rest pause at event c d xs (unroused_at event xs at) (take n (us ++ drop (length us) xs)) was now a b
 acts_in rest pause place at event c d ts xs us n ok was now a b here same len then as_was h =
-    in_table (λ vs. ActsAt rest pause at event c d xs (unroused_at event xs at) vs was now a b) n us xs (h.len ∙ sym len)
+    taken_table (λ vs. ActsAt rest pause at event c d xs (unroused_at event xs at) vs was now a b) n us xs (h.len ∙ sym len)
     (subst (λ vs. ActsAt rest pause at event c d vs (unroused_at event vs at) us was now a b) same
     (subst (λ j. ActsAt rest pause j event c d ts (unroused_at event ts j) us was now a b) here
     (acts_run rest pause place event c d ts (unroused_at event ts place) us ok was now a b then as_was h)))

@@ -3,6 +3,7 @@ use Rattle.std.proofs.Common.{◌≡◌, ℕ, List, [], ◌∷◌, ◌++◌, tru
 use Rattle.std.proofs.lemmas.List.{take-append-drop, append-nil}
 use Rattle.ts_transform.specs.declared.pump.Stage.{Stage}
 use Rattle.ts_transform.specs.Flow.{ChainState, flow, flow_from, compose, fresh_stage, last_wait, last_ended, closed, aborted, passing, left_to_do}
+use Rattle.ts_lists.proofs.Fronts.{cut_before}
 use Rattle.ts_transform.proofs.Boundaries.{flow_from-finished}
 
 -- stages that got nothing yet compose their parts
@@ -10,14 +11,10 @@ pub flow_from-fresh : {P : Type 0} (rest : P → List ℕ → List ℕ) (ps : Li
 flow_from-fresh rest [] v = refl
 flow_from-fresh rest (p ∷ ps) v = flow_from-fresh rest ps (rest p v)
 
--- the first n bytes, and those behind them
-append-split : (n : ℕ) (xs ys : List ℕ) → xs ++ ys ≡ take n xs ++ (drop n xs ++ ys)
-append-split n xs ys = ap (λ l. l ++ ys) (sym (take-append-drop n xs)) ∙ append_assoc (take n xs) (drop n xs) ys
-
 -- the client of a chain with no stages takes the first n bytes
 pub flow_from-taken : {P : Type 0} (rest : P → List ℕ → List ℕ) (ss : List (Stage P)) (first first' : List ℕ) (n : ℕ) → length ss ≡ 0 → first' ≡ drop n first
     → (x : List ℕ) → flow_from rest ss (first ++ x) ≡ take n (last_wait first ss) ++ flow_from rest ss (first' ++ x)
-flow_from-taken rest [] first first' n none is x = append-split n first x ∙ ap (λ l. take n first ++ (l ++ x)) (sym is)
+flow_from-taken rest [] first first' n none is x = cut_before n first x ∙ ap (λ l. take n first ++ (l ++ x)) (sym is)
 flow_from-taken rest (s ∷ ss) first first' n none is x = absurd (omega arith)
 
 -- nothing comes out of a finished chain

@@ -32,7 +32,8 @@ use Rattle.ts_transform.proofs.Kept.{cause_weaker, keeps_refl, kept_if}
 use Rattle.ts_transform.proofs.Setting.{of_stages_named}
 use Rattle.ts_transform.proofs.Covering.{driven_kept}
 use Rattle.ts_transform.proofs.Starting.{made_if}
-use Rattle.ts_transform.proofs.Taking.{aborted_driven, ended-rests, full-else, none-roused, some-long}
+use Rattle.ts_lists.proofs.Sizes.{empty_unless, longer_not_empty}
+use Rattle.ts_transform.proofs.Taking.{aborted_driven, ended-rests, full-else, none-roused}
 
 -- the stages went on, and the ends stayed as they were
 pub joined_driven : {P : Type 0} (c d : ChainState P) (ts us : List (Option StageContinuation)) (w r : Option StageContinuation) (a b : Context) → Keeps a b
@@ -198,13 +199,9 @@ pub end_loses : {P Live : Type 0} (d e : DrivenChain P) (fault : SetFault) (now 
 end_loses d e fault now stopped lost cause = inr (fault, stopped, lost, cause)
 
 -- nobody is roused where nothing is pending
-none_of : (roles : List Named) (role : ℕ) (t : Option StageContinuation) → IsOfStageIf [] roles role t → IsRousedIf t → ⊥
+pub none_of : (roles : List Named) (role : ℕ) (t : Option StageContinuation) → IsOfStageIf [] roles role t → IsRousedIf t → ⊥
 none_of roles role None h roused = roused
 none_of roles role (Some t) h roused = let e : HasEvent [] t.key = h.event roused in let wrong : None ≡ Some e.event = e.there in cc
-
-no_bytes : (l : List ℕ) → (l ≢ [] → ⊥) → l ≡ []
-no_bytes [] some = refl
-no_bytes (b ∷ bs) some = absurd (some (λ is. let wrong : ◌≡◌ {A = List ℕ} (b ∷ bs) [] = is in cc))
 
 -- where more may come the last stage has not ended
 goes_on : {P : Type 0} (up : Bool) (ss : List (Stage P)) → up ≡ false → EndsInOrder up ss → last_ended up ss ≡ false
@@ -221,7 +218,7 @@ pub all_carried : {P : Type 0} (c : ChainState P) (ts : List (Option StageContin
 all_carried {P} c ts w r roles h ends ordered = ((ended-rests c.given c.first c.stages (inl given) rests wait, wait), given)
   where
     wait : client_wait c ≡ []
-    wait = no_bytes (client_wait c) (λ some. none_of roles 1 w h.of_writer (ends.writes some))
+    wait = empty_unless (client_wait c) (λ some. none_of roles 1 w h.of_writer (ends.writes some))
 
     rests : (j : ℕ) → MustPump c.given c.first c.stages j → ⊥
     rests j must = none-roused roles 3 ts j h.stages.of_stages (h.stages.cover j must)
@@ -230,7 +227,7 @@ all_carried {P} c ts w r roles h ends ordered = ((ended-rests c.given c.first c.
     by_end true is = is
     by_end false is =
         let long : 65536 ≤ length c.first = full-else (length c.first) (λ short. none_of roles 2 r h.of_reader (ends.reads (is, short))) in
-        absurd (let wrong : false ≡ true = sym (goes_on c.given c.stages is ordered) ∙ ended-rests c.given c.first c.stages (inr (some-long c.first long)) rests wait in cc)
+        absurd (let wrong : false ≡ true = sym (goes_on c.given c.stages is ordered) ∙ ended-rests c.given c.first c.stages (inr (longer_not_empty 65535 c.first long)) rests wait in cc)
 
     given : c.given ≡ true
     given = by_end c.given refl

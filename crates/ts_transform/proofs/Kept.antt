@@ -75,7 +75,7 @@ pub adds_lacks : {Live : Type 0} (a : Context) (n : ℕ) → a.log.state.held �
 adds_lacks a n turn = record { grows = grows_refl a; keeps = keeps_refl a turn; few = few_refl a n; cause = tt }
 
 -- at most so many events were set, so at most more
-few_more : {a b : Context} (m n : ℕ) → m ≤ n → SetsFew m a b → SetsFew n a b
+pub few_more : {a b : Context} (m n : ℕ) → m ≤ n → SetsFew m a b → SetsFew n a b
 few_more m n more h = record { next = omega (arith, more, h.next); pending = omega (arith, more, h.pending) }
 
 pub adds_more : {T Live : Type 0} {a b : Context} (m n : ℕ) (r : Result T SetFault) → m ≤ n → AddsEvents m Live r a b → AddsEvents n Live r a b

@@ -10,14 +10,6 @@ use Rattle.ts_transform.specs.Stage.{passed, rest_of, has_ended, has_work, Answe
 use Rattle.ts_transform.specs.Flow.{flow_from, passing, AnswersAt, StepsAt}
 use Rattle.ts_transform.proofs.Boundaries.{rest_of-ended}
 
--- the front of the front of a list
-pub take-front : (n m k : ℕ) (from input : List ℕ) → input ≡ take m (take k from) → n ≤ length input → take n input ≡ take n from
-take-front n m k from input is within =
-    let long : n ≤ length (take m (take k from)) = subst (λ l. n ≤ length l) is within in
-    let below : n ≤ m = omega (arith, length-take m (take k from)) in
-    let few : n ≤ k = omega (arith, length-take m (take k from), length-take k from) in
-    ap (take n) is ∙ take-take n m (take k from) below ∙ take-take n k from few
-
 -- only a stage with a transform works that is full or not, ends where nothing waits before it, and moves at most what waits
 work-ended : (full : Bool) (from after : List ℕ) → AnswersWork full from after Ended → from ≡ []
 work-ended true from after h = absurd (let wrong : Ended ≡ Blocked (length after) = h in cc)

@@ -15,7 +15,7 @@ use Rattle.ts_group.specs.Entries.{Grows}
 use Rattle.ts_group.proofs.Grows.{grows_refl}
 use Rattle.ts_transform.proofs.Kept.{few_refl}
 use Rattle.ts_transform.specs.declared.continuation.StageContinuation.{StageContinuation}
-use Rattle.ts_transform.specs.Driving.{AreOfStages, IsNamedIf, AreNamed, IsRousedIf, Keeps, Lessens, RousesAt, SetsOnly, IsWorkOf, IsRousingOf, all_unroused, unroused, error_passed, changed}
+use Rattle.ts_transform.specs.Driving.{AreOfStages, IsNamedIf, AreNamed, IsRousedIf, Keeps, Lessens, RousesAt, SetsOnly, IsWorkOf, IsWorkOfIf, IsRousingOf, all_unroused, unroused, error_passed, changed}
 
 -- nothing was set
 pub only_same : (Such : Pending → Type 0) (a b : Context) → b.log.state.pending ≡ a.log.state.pending → SetsOnly Such a b
@@ -69,6 +69,19 @@ pub slot_rousing : (roles : List Named) (role pause moment : ℕ) (slot : Option
     → SetsOnly (IsWorkOf t.key pause moment) a b → IsNamedIf roles role slot → SetsOnly (IsRousingOf role pause moment roles) a b
 slot_rousing roles role pause moment slot t a b is only named =
     only_weaker (IsWorkOf t.key pause moment) (IsRousingOf role pause moment roles) a b (λ p work. rousing_of roles role pause moment t p (subst (IsNamedIf roles role) is named) work) only
+
+-- one was roused, whatever its role
+pub work_of : (pause moment : ℕ) (slot : Option StageContinuation) (t : StageContinuation) (a b : Context) → slot ≡ Some t
+    → SetsOnly (IsWorkOf t.key pause moment) a b → SetsOnly (IsWorkOfIf slot pause moment) a b
+work_of pause moment slot t a b is only = subst (λ s. SetsOnly (IsWorkOfIf s pause moment) a b) (sym is) only
+
+-- so the continuation of its role was
+pub work_rousing : (roles : List Named) (pause moment : ℕ) (slot : Option StageContinuation) (a b : Context)
+    → SetsOnly (IsWorkOfIf slot pause moment) a b → (role : ℕ) → IsNamedIf roles role slot
+    → SetsOnly (IsRousingOf role pause moment roles) a b
+work_rousing roles pause moment None a b only role named =
+    only_weaker (IsWorkOfIf None pause moment) (IsRousingOf role pause moment roles) a b (λ p none. absurd none) only
+work_rousing roles pause moment (Some t) a b only role named = slot_rousing roles role pause moment (Some t) t a b refl only named
 
 -- the first of a table was roused, or another
 pub front_rouses : (pause at : ℕ) (t : Option StageContinuation) (ts all : List (Option StageContinuation)) (a b : Context) → all ≡ t ∷ ts → at ≡ 0 → (IsRousedIf t → b ≡ a)

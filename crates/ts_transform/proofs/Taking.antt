@@ -13,6 +13,8 @@ use Rattle.ts_transform.specs.Driving.{HasEvent, AreOfStages, IsRoused}
 use Rattle.ts_transform.specs.Cover.{IsAwake, IsDriven}
 use Rattle.ts_transform.specs.World.{IsCovered}
 use Rattle.ts_transform.proofs.Boundaries.{rest_of-ended}
+use Rattle.ts_lists.proofs.Cases.{split}
+use Rattle.ts_lists.proofs.Sizes.{longer_not_empty}
 use Rattle.ts_transform.proofs.Starting.{fresh-first}
 
 -- a world that is made is sound
@@ -192,24 +194,17 @@ full-else n not_short = by_room (leb_tells 65536 n)
     by_room (inl (t, long)) = long
     by_room (inr (t, short)) = absurd (not_short short)
 
-pub some-long : (l : List ℕ) → 65536 ≤ length l → l ≢ []
-some-long l long is = let none : length l ≡ 0 = ap length is in omega (arith, long, none)
-
-either : {X : Type 0} (b : Bool) → (b ≡ true → X) → (b ≡ false → X) → X
-either true f g = f refl
-either false f g = g refl
-
 -- Nothing comes out of stages none of which must work, where nothing waits for the client.
 flow_from-rests : {P : Type 0} (rest : P → List ℕ → List ℕ) (up : Bool) (from : List ℕ) (ss : List (Stage P)) (v : List ℕ)
     → (up ≡ true) ⊎ (from ≢ []) → ((j : ℕ) → MustPump up from ss j → ⊥) → last_wait from ss ≡ [] → (up ≡ true → v ≡ from) → flow_from rest ss v ≡ []
 flow_from-rests rest up from [] v (inl ended) rests none same = same ended ∙ none
 flow_from-rests rest up from [] v (inr some) rests none same = absurd (some none)
 flow_from-rests rest up from (s ∷ ss) v input rests none same =
-    either (has_ended s)
+    split (has_ended s) (λ b. flow_from rest (s ∷ ss) v ≡ [])
     (λ ended. flow_from-rests rest (has_ended s) s.after ss (passed rest s v) (inl ended) (λ j must. rests (suc j) must) none
     (λ _. ap (λ l. s.after ++ l) (rest_of-ended rest s.part v ended) ∙ append-nil s.after))
     (λ goes. flow_from-rests rest (has_ended s) s.after ss (passed rest s v)
-    (inr (some-long s.after (full-else (length s.after) (λ short. rests 0 (gets-work (has_ended s) up from goes input, short)))))
+    (inr (longer_not_empty 65535 s.after (full-else (length s.after) (λ short. rests 0 (gets-work (has_ended s) up from goes input, short)))))
     (λ j must. rests (suc j) must) none (λ ended. absurd (let wrong : false ≡ true = sym goes ∙ ended in cc)))
 
 -- and the last of them has ended
@@ -218,10 +213,10 @@ pub ended-rests : {P : Type 0} (up : Bool) (from : List ℕ) (ss : List (Stage P
 ended-rests up from [] (inl ended) rests none = ended
 ended-rests up from [] (inr some) rests none = absurd (some none)
 ended-rests up from (s ∷ ss) input rests none =
-    either (has_ended s)
+    split (has_ended s) (λ b. last_ended up (s ∷ ss) ≡ true)
     (λ ended. ended-rests (has_ended s) s.after ss (inl ended) (λ j must. rests (suc j) must) none)
     (λ goes. ended-rests (has_ended s) s.after ss
-    (inr (some-long s.after (full-else (length s.after) (λ short. rests 0 (gets-work (has_ended s) up from goes input, short)))))
+    (inr (longer_not_empty 65535 s.after (full-else (length s.after) (λ short. rests 0 (gets-work (has_ended s) up from goes input, short)))))
     (λ j must. rests (suc j) must) none)
 
 -- So a world that runs has given all once nothing is pending and nothing waits for its client.

@@ -6,7 +6,7 @@ use Rattle.ts_journal.specs.declared.entry.Event.TheVariants.{Error, WriteComple
 use Rattle.ts_journal.specs.declared.entry.Pending.{Pending}
 use Rattle.ts_group.specs.declared.action.SetFault.{SetFault}
 use Rattle.ts_group.specs.Context.{Context}
-use Rattle.ts_transform.specs.Flow.{ChainState, MayPump, PumpsOnce, ended_at, flow, left_to_do}
+use Rattle.ts_transform.specs.Flow.{ChainState, MayPump, MustWork, PumpsOnce, ended_at, flow, left_to_do}
 use Rattle.ts_transform.specs.Driving.{IsCause, IsClosed, IsHandled, IsToldBefore, Keeps, SetsFew, all_unroused, changed, error_passed, errors_to_pass, gone, may_pass_error_at, works_at}
 use Rattle.ts_transform.specs.Cover.{AreAllLive, CallsBefore, IsDriven, IsDrivenFor, OnlySets}
 use Rattle.ts_transform.specs.Seats.{KeepsSeated}
@@ -18,10 +18,12 @@ pub record IsStage {P : Type 0} (c : ChainState P) (ts : List (Option StageConti
   pub within : at < length ts
   pub len : length ts ≡ length c.stages
 
--- the stage at a place had ended, or its event is one at which it has nothing to do
+-- the stage at a place had ended, or its event is one at which it has nothing to do: it is told that its output has ended,
+-- or of an error after another, or it need not work
 abbrev pub HasNothingToDo : {P : Type 0} → Event → ChainState P → List (Option StageContinuation) → ℕ → Type 0
 HasNothingToDo event c ts at = (ended_at c.stages at ≡ true) ⊎ (event ≡ WriteComplete)
     ⊎ ((event ≡ Error) × (may_pass_error_at ts at ≡ false))
+    ⊎ ((works_at event ≡ true) × (MustWork c at → ⊥))
 
 -- each thing that is left to do counts as so many events, which is more than are set where it is done
 abbrev pub step_weight : ℕ
@@ -35,6 +37,7 @@ pub record ActsAt {P : Type 0} (rest : P → List ℕ → List ℕ) (pause : P �
   -- of the stages only its own works, by one pump, and only at an event for that
   pub own : MayPump rest at c d
   pub idle : works_at event ≡ false → d ≡ c
+  pub still : (MustWork c at → ⊥) → d ≡ c
   pub only : OnlySets pause c d vs at event a b
   -- where it had ended, its continuation is destroyed, and nothing else is done
   pub closed : ended_at c.stages at ≡ true → IsClosed a b ts at × (us ≡ changed gone ts at) × (d ≡ c)

@@ -65,17 +65,28 @@ DoesDuty input output role event v w = works_at event ≡ true
     → (role ≡ WRITER → MustWrite v.driven.chain → WritesOnce output v w)
     × (role ≡ READER → MustRead v.driven.chain → ReadsOnce input v w)
 
--- An end handles an event: it does its duty where it works at it, and else nothing.
-pub record HandlesEnd {I K P : Type 0} (event : Event) (Duty : Type 0) (v w : LinkWorld I K P)
-    (a b : Context) : Type 0 where
-  pub does : works_at event ≡ true → Duty
-  pub sure : works_at event ≡ false → (w ≡ v) × (b ≡ a)
+-- nothing was lost, the chain is as it was, and so is each end that must work
+pub record LeavesDuties {I K P : Type 0} (v w : LinkWorld I K P) : Type 0 where
+  pub running : w.driven.running ≡ v.driven.running
+  pub chain : w.driven.chain ≡ v.driven.chain
+  pub writer : MustWrite v.driven.chain → w.writer ≡ v.writer
+  pub reader : MustRead v.driven.chain → w.reader ≡ v.reader
 
--- An event of a role is one at which there is nothing to do: an end does not work at it, or the stage of that role has
--- nothing to do.
+-- An end has nothing to do at an event: it does not work at it, or it need not work.
+abbrev pub EndRests : Event → Type 0 → Type 0
+EndRests event Must = (works_at event ≡ false) ⊎ (Must → ⊥)
+
+-- An end handles an event: it does its duty, where it has one and works at the event, and else nothing.
+pub record HandlesEnd {I K P : Type 0} (event : Event) (Must Done : Type 0) (v w : LinkWorld I K P)
+    (a b : Context) : Type 0 where
+  pub does : works_at event ≡ true → Must → Done
+  pub rests : EndRests event Must → LeavesDuties v w
+
+-- An event of a role is one at which there is nothing to do: its end, or the stage of that role, has nothing to do.
 abbrev pub HasNothingAlong : {I K P : Type 0} → ℕ → Event → LinkWorld I K P → Type 0
 HasNothingAlong role event w =
-    (((role ≡ WRITER) ⊎ (role ≡ READER)) × (works_at event ≡ false))
+    ((role ≡ WRITER) × EndRests event (MustWrite w.driven.chain))
+    ⊎ ((role ≡ READER) × EndRests event (MustRead w.driven.chain))
     ⊎ ((at : ℕ) × (role ≡ FIRST + at) × IsStage w.driven.chain w.driven.table.items at
     × HasNothingToDo event w.driven.chain w.driven.table.items at)
 
@@ -91,8 +102,7 @@ pub record WorksAlong {I K P : Type 0} (rest : P → List ℕ → List ℕ) (pau
   pub started : w.writer ≡ None → v.writer ≡ None
   pub only : AreNamedAlong v a.roles → SetsOnly
       (MaySetAlong pause role event v.driven.chain w.driven.chain v.driven.table.items a.moment a.roles) a b
-  pub sure : HasNothingAlong role event v → (w.driven.running ≡ v.driven.running)
-      × (w.driven.chain ≡ v.driven.chain) × (w.writer ≡ v.writer) × (w.reader ≡ v.reader)
+  pub sure : HasNothingAlong role event v → LeavesDuties v w
 
 -- The stage at a place acted, and then the ends were roused: what it did stays so, but that its chain is aborted where
 -- memory lacked.

@@ -220,6 +220,11 @@ pub record IsWorkOf (key : ContKey) (pause moment : ℕ) (p : Pending) : Type 0 
   pub works : works_at p.event ≡ true
   pub due : IsDueAfter pause moment p
 
+-- the same of a continuation, if there is one
+abbrev pub IsWorkOfIf : Option StageContinuation → ℕ → ℕ → Pending → Type 0
+IsWorkOfIf None pause moment p = ⊥
+IsWorkOfIf (Some t) pause moment p = IsWorkOf t.key pause moment p
+
 -- the same of the continuation of a role
 pub record IsRousingOf (role pause moment : ℕ) (roles : List Named) (p : Pending) : Type 0 where
   pub role_is : role_at p.key.index roles ≡ Some role

@@ -2,7 +2,7 @@
 use Rattle.std.specs.Prelude.{◌≡◌, ◌≢◌, ℕ, zero, suc, ◌+◌, ◌++◌, List, [], ◌∷◌, Bool, true, false, ⊤, length, drop, take, map, Option, Some, None, ◌<◌, ◌⊎◌}
 use Rattle.ts_transform.specs.declared.pump.Stage.{Stage}
 use Rattle.ts_transform.specs.declared.pump.Pumped.{Pumped}
-use Rattle.ts_transform.specs.Stage.{MOST_WAITING, passed, has_ended, has_work, Answers, Steps, to_end}
+use Rattle.ts_transform.specs.Stage.{MOST_WAITING, HasDuty, passed, has_ended, has_work, Answers, Steps, to_end}
 
 -- what still comes after the stages, if v is what still comes before them
 abbrev pub flow_from : {P : Type 0} → (P → List ℕ → List ℕ) → List (Stage P) → List ℕ → List ℕ
@@ -101,7 +101,7 @@ HasWork up from (s ∷ ss) (suc at) = HasWork (has_ended s) s.after ss at
 -- the stage at a place must work: it has work, and there is room after it
 abbrev pub MustPump : {P : Type 0} → Bool → List ℕ → List (Stage P) → ℕ → Type 0
 MustPump up from [] at = ⊥
-MustPump up from (s ∷ ss) zero = (has_work (has_ended s) up from ≡ true) × (length s.after < MOST_WAITING)
+MustPump up from (s ∷ ss) zero = HasDuty (has_work (has_ended s) up from) s.after
 MustPump up from (s ∷ ss) (suc at) = MustPump (has_ended s) s.after ss at
 
 -- the stage of a chain at a place must work

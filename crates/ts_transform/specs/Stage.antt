@@ -1,5 +1,5 @@
 -- One stage of a chain: a transform, until it has ended, and the bytes that wait after it.
-use Rattle.std.specs.Prelude.{◌≡◌, ℕ, ◌≤◌, ◌++◌, List, [], ◌∷◌, Bool, true, false, nat_le, length, drop, take, Option, Some, None, is_none, ⊤}
+use Rattle.std.specs.Prelude.{◌≡◌, ℕ, ◌<◌, ◌≤◌, ◌++◌, List, [], ◌∷◌, Bool, true, false, nat_le, length, drop, take, Option, Some, None, is_none, ⊤}
 use Rattle.ts_transform.specs.Law.{Adds}
 use Rattle.ts_transform.specs.declared.pump.Stage.{Stage}
 use Rattle.ts_transform.specs.declared.pump.Pumped.{Pumped}
@@ -28,6 +28,10 @@ has_work false false (b ∷ bs) = true
 -- a stage takes no input where as many bytes wait after it
 abbrev pub MOST_WAITING : ℕ
 MOST_WAITING = 65536
+
+-- a stage must work, by whether it has work: there is room after it too
+abbrev pub HasDuty : Bool → List ℕ → Type 0
+HasDuty works after = (works ≡ true) × (length after < MOST_WAITING)
 
 -- a stage takes at most so many bytes at once
 abbrev pub MOST_FED : ℕ

@@ -1,17 +1,19 @@
 //! The continuations of stages, and how one is roused.
-ghost use Rattle.std.specs.Prelude.{[], ◌∷◌, ◌≡◌, ℕ, ◌<◌, ◌⊎◌, true, is_ok, Some, OnOk};
+ghost use Rattle.std.specs.Prelude.{[], ◌∷◌, ◌≡◌, ◌<◌, ◌⊎◌, true, is_ok, Err, OnOk};
+ghost use Rattle.ts_journal.specs.declared.entry.TheConstants.{GREATEST};
+ghost use Rattle.ts_group.specs.declared.action.SetFault.TheVariants.{NoMemory};
 ghost use Rattle.ts_journal.specs.declared.entry.Event.TheVariants.{WriteReady};
 ghost use Rattle.ts_journal.specs.State.{IsLive};
 ghost use Rattle.ts_transform.specs.Seats.{KeepsSeated};
 ghost use Rattle.ts_transform.specs.declared.continuation.Rouser.TheVariants as Rouser;
-ghost use Rattle.ts_transform.specs.Driving.{works_at, AddsEvents, HasEvent, HasKind, HasLiveIf, IsRousedIf, IsRousingOf, IsNamedIf, IsToldIf, IsWorkOf, KeepsStage, SetsOnly};
+ghost use Rattle.ts_transform.specs.Driving.{works_at, AddsEvents, HasEvent, HasKind, HasLiveIf, IsRousedIf, IsToldIf, IsWorkOf, IsWorkOfIf, KeepsStage, SetsOnly};
 
 use ts_group::{Action, Cx, SetFault};
 use ts_journal::{ContKey, Event};
 
 /// The continuation of a stage: whether an event of it is pending at which the stage works, and whether it
 /// has passed an error on.
-#[derive(Clone, Copy, Debug, PartialEq, Eq)]
+#[derive(Clone, Copy)]
 pub struct StageContinuation {
     pub key: ContKey,
     pub roused: bool,
@@ -20,7 +22,7 @@ pub struct StageContinuation {
 
 /// Who rouses a stage: the stage itself or its upstream, which reenables its output, or its downstream,
 /// which calls it once there is room.
-#[derive(Clone, Copy, Debug, PartialEq, Eq)]
+#[derive(Clone, Copy)]
 pub enum Rouser {
     Upstream,
     Downstream,
@@ -45,6 +47,7 @@ fn set_event(key: ContKey, rouser: Rouser, pause: u64, cx: &mut Cx) -> Result<Ac
     ensures event { OnOk result (HasEvent cx.new.log.state.pending key) }
     ensures called { rouser ≡ Rouser.Downstream → pause ≡ 0
         → OnOk result (HasKind cx.new.log.state.pending key WriteReady) }
+    ensures unspent { result ≡ Err NoMemory → cx.old.log.state.next < GREATEST }
 {
     if pause > 0 {
         return cx.schedule(key, pause);
@@ -67,12 +70,12 @@ pub fn rouse(
     ensures adds { AddsEvents 1 (HasLiveIf cx.new.log.state.live slot.new) result cx.old cx.new }
     ensures stage { KeepsStage cx.old cx.new slot.old slot.new }
     ensures rests { IsRousedIf slot.old → (slot.new ≡ slot.old) × (cx.new ≡ cx.old) × (is_ok result ≡ true) }
-    ensures only { (role : ℕ) → IsNamedIf cx.old.roles role slot.old
-        → SetsOnly (IsRousingOf role pause cx.old.moment cx.old.roles) cx.old cx.new }
+    ensures only { SetsOnly (IsWorkOfIf slot.old pause cx.old.moment) cx.old cx.new }
     ensures roused { OnOk result (IsRousedIf slot.new) }
     ensures seated { KeepsSeated (slot.old ∷ []) (slot.new ∷ []) cx.old cx.new }
     ensures called { rouser ≡ Rouser.Downstream → pause ≡ 0
         → OnOk result (IsRousedIf slot.old ⊎ IsToldIf cx.new.log.state.pending WriteReady slot.new) }
+    ensures unspent { result ≡ Err NoMemory → cx.old.log.state.next < GREATEST }
 {
     let Some(continuation) = slot else {
         return Err(SetFault::Dead);

@@ -111,6 +111,8 @@ fn work<P: Transform + Drop>(
     ensures driven { OnOk result (Covers true at chain.old chain.new table.old table.new cx.old cx.new) }
     ensures tells { OnOk result
         (TellsBefore P.pause at chain.old chain.new table.old table.new cx.new.log.state.pending) }
+    ensures rests { (MustWork chain.old at → ⊥)
+        → (is_ok result ≡ true) × (chain.new ≡ chain.old) × (cx.new ≡ cx.old) }
 {
     let Ok(pumped) = chain.pump(at) else {
         return Err(SetFault::NoMemory);

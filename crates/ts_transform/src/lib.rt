@@ -9,21 +9,15 @@ mod ends;
 mod handler;
 mod link_drive;
 mod link_ends;
-#[cfg(test)]
-mod link_tests;
 mod link_world;
 mod loss;
 mod pump;
 mod rousing;
 mod stages;
 mod start;
-#[cfg(test)]
-mod tests;
 mod transform;
 mod wake;
 mod world;
-#[cfg(test)]
-mod world_tests;
 
 pub use chain::Chain;
 pub use continuation::{Rouser, StageContinuation, works};

@@ -5,11 +5,8 @@ ghost use Rattle.ts_transform.specs.Carrying.{CarriesTo, IsCarriedGroup, IsDrive
 
 use crate::link_world::LinkWorld;
 use crate::transform::Transform;
-use ts_group::{Group, Handling};
+use ts_group::{Group, Handling, TurnFault};
 use ts_link::Link;
-
-// The seat of whoever drives a group that nobody else owns.
-const SEAT: u64 = 0;
 
 /// Why a chain is driven no further.
 #[derive(Clone, Copy, Debug, PartialEq, Eq)]
@@ -39,11 +36,10 @@ fn take_turn<I: Link + Drop, K: Link + Drop, P: Transform + Drop>(
         × (group.old.cx.log.state.handled_count < group.new.cx.log.state.handled_count)) }
     ensures fault { IfErr result (λ fault. IsDriveCause fault group.old.cx group.new.cx) }
 {
-    let Some(turn) = group.journal().turns().checked_add(1) else {
-        return Err(DriveFault::Spent);
-    };
-    if let Err(_) = group.begin_turn(turn, SEAT, moment) {
-        return Err(DriveFault::NoMemory);
+    match group.begin_alone(u64::MAX, moment) {
+        Ok(()) => {}
+        Err(TurnFault::Worn) => return Err(DriveFault::Spent),
+        Err(TurnFault::NoMemory) => return Err(DriveFault::NoMemory),
     }
     let handled = group.handle(number, moment);
     group.give_turn();

@@ -191,6 +191,7 @@ impl<I: Link + Drop, K: Link + Drop, P: Transform + Drop> LinkWorld<I, K, P> {
             → RetriesRead self.old self.new cx.old cx.new }
         ensures output { self.new.output ≡ self.old.output }
         ensures does { MustRead self.old.driven.chain → ReadsOnce I.look self.old self.new }
+        ensures rests { (MustRead self.old.driven.chain → ⊥) → self.new ≡ self.old }
     {
         if self.driven.chain.is_given() {
             return;
@@ -225,6 +226,7 @@ impl<I: Link + Drop, K: Link + Drop, P: Transform + Drop> LinkWorld<I, K, P> {
             → RetriesWrite self.old self.new cx.old cx.new }
         ensures input { self.new.input ≡ self.old.input }
         ensures does { MustWrite self.old.driven.chain → WritesOnce K.look self.old self.new }
+        ensures rests { (MustWrite self.old.driven.chain → ⊥) → self.new ≡ self.old }
     {
         let Some(block) = self.driven.chain.out_block() else {
             return;
@@ -252,9 +254,8 @@ impl<I: Link + Drop, K: Link + Drop, P: Transform + Drop> LinkWorld<I, K, P> {
         ensures retries { IsNamedIf cx.old.roles WRITER self.old.writer → OutputWaits K.look self.old self.new
             → RetriesWrite self.old self.new cx.old cx.new }
         ensures input { self.new.input ≡ self.old.input }
-        ensures duties { HandlesEnd event
-            (MustWrite self.old.driven.chain → WritesOnce K.look self.old self.new)
-            self.old self.new cx.old cx.new }
+        ensures duties { HandlesEnd event (MustWrite self.old.driven.chain)
+            (WritesOnce K.look self.old self.new) self.old self.new cx.old cx.new }
     {
         if works(event) {
             unrouse(&mut self.writer);
@@ -272,9 +273,8 @@ impl<I: Link + Drop, K: Link + Drop, P: Transform + Drop> LinkWorld<I, K, P> {
         ensures retries { IsNamedIf cx.old.roles READER self.old.reader → InputWaits I.look self.old self.new
             → RetriesRead self.old self.new cx.old cx.new }
         ensures output { self.new.output ≡ self.old.output }
-        ensures duties { HandlesEnd event
-            (MustRead self.old.driven.chain → ReadsOnce I.look self.old self.new)
-            self.old self.new cx.old cx.new }
+        ensures duties { HandlesEnd event (MustRead self.old.driven.chain)
+            (ReadsOnce I.look self.old self.new) self.old self.new cx.old cx.new }
     {
         if works(event) {
             unrouse(&mut self.reader);

@@ -5,7 +5,7 @@ ghost use Rattle.ts_transform.specs.Loss.{loss_of, making_loss};
 use ts_group::{MakeFault, SetFault};
 
 /// Why a driven chain is lost.
-#[derive(Clone, Copy, Debug, PartialEq, Eq)]
+#[derive(Clone, Copy, PartialEq, Eq)]
 pub enum Loss {
     NoMemory,
     /// No index is left for a continuation.

@@ -2,8 +2,8 @@
 ghost use Rattle.std.specs.Prelude.{◌≡◌, ℕ, ◌+◌, ◌<◌, ◌≤◌, ◌++◌, List, [], length, take, false, IfOk, OnOk, OnErr};
 ghost use Rattle.std.specs.Bool.{OnTrue};
 ghost use Rattle.ts_transform.specs.Law.{Adds};
-ghost use Rattle.ts_transform.specs.Stage.{has_ended, has_work, Answers, AnswersIf, Runs, Steps, IfRests, done_by};
-ghost use Rattle.ts_transform.specs.Flow.{flow_from, passing, AnswersAt, StepsAt};
+ghost use Rattle.ts_transform.specs.Stage.{has_ended, has_work, Answers, AnswersIf, HasDuty, Runs, Steps, IfRests, done_by};
+ghost use Rattle.ts_transform.specs.Flow.{flow_from, passing, AnswersAt, MustPump, StepsAt};
 
 use crate::transform::Transform;
 use ts_iobuf::Waiting;
@@ -11,7 +11,7 @@ use ts_link::NoMemory;
 
 /// What a pump of a stage did: it moved bytes, ended the stage, found too many bytes waiting after it, or
 /// found no work.
-#[derive(Clone, Copy, Debug, PartialEq, Eq)]
+#[derive(Clone, Copy, PartialEq, Eq)]
 pub enum Pumped {
     Moved(usize),
     Ended,
@@ -73,6 +73,7 @@ fn pump_part<P: Transform>(
 ) -> Result<Pumped, NoMemory>
     ensures answer { IfOk result (AnswersIf (has_work false up_ended from.old) from.old after.old) }
     ensures runs { IfOk result (λ r. Runs P.rest from.old part.old after.old r from.new part.new after.new) }
+    ensures works { OnErr result (HasDuty (has_work false up_ended from.old) after.old) }
     ensures err { OnErr result ((from.new ≡ from.old) × (part.new ≡ part.old) × (after.new ≡ after.old)) }
 {
     let waiting = after.len();
@@ -105,6 +106,7 @@ pub fn pump_stage<P: Transform + Drop>(
     ensures answer { IfOk result (Answers up_ended from.old stage.old) }
     ensures steps { IfOk result (λ r. Steps P.rest from.old stage.old r from.new stage.new) }
     ensures rests { IfOk result (λ r. IfRests r ((from.new ≡ from.old) × (stage.new ≡ stage.old))) }
+    ensures works { OnErr result (HasDuty (has_work (has_ended stage.old) up_ended from.old) stage.old.after) }
     ensures err { OnErr result ((from.new ≡ from.old) × (stage.new ≡ stage.old)) }
 {
     let Some(mut part) = stage.part.take() else {
@@ -130,6 +132,7 @@ fn run_at<P: Transform + Drop>(
     ensures answer { IfOk result (AnswersAt up_ended from.old stages.old at) }
     ensures steps { IfOk result (λ r. StepsAt P.rest from.old stages.old at r from.new stages.new) }
     ensures rests { IfOk result (λ r. IfRests r ((from.new ≡ from.old) × (stages.new ≡ stages.old))) }
+    ensures works { OnErr result (MustPump up_ended from.old stages.old at) }
     ensures err { OnErr result ((from.new ≡ from.old) × (stages.new ≡ stages.old)) }
 {
     let Some((first, others)) = stages.split_first_mut() else {
@@ -158,6 +161,7 @@ pub fn pump_at<P: Transform + Drop>(
     ensures rests { IfOk result (λ r. IfRests r ((from.new ≡ from.old) × (stages.new ≡ stages.old))) }
     ensures falls { IfOk result (λ r. (x : List ℕ) → OnTrue up_ended (x ≡ []) →
         passing P.rest stages.new (from.new ++ x) + done_by r ≡ passing P.rest stages.old (from.old ++ x)) }
+    ensures works { OnErr result (MustPump up_ended from.old stages.old at) }
     ensures err { OnErr result ((from.new ≡ from.old) × (stages.new ≡ stages.old)) }
 {
     run_at(up_ended, from, stages, at)

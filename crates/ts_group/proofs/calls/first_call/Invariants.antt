@@ -7,5 +7,5 @@ use Rattle.ts_group.proofs.calls.first_call.Given as goal
 abbrev pub invariant-loop-place : goal.invariant-loop-place
 invariant-loop-place l =
     (next_in l.journal.state.pending (drop l.place l.calls) ≡ next_in l.journal.state.pending
-        (drop l.from l.calls))
+    (drop l.from l.calls))
     × AllCalls l.journal.state l.moment (drop l.place l.calls)

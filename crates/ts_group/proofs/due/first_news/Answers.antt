@@ -8,16 +8,16 @@ pub returns-clause-none : goal.returns-clause-none
 returns-clause-none c =
     let items = c.pending-event-items.result.now in
     let all : drop c.loop-event.event-index items ≡ [] = drop_all c.loop-event.event-index items (omega arith)
-        in
+    in
     let is : None ≡ first_from c.args.from c.args.journal.now.state.pending = ap (first_from c.args.from)
-        (sym all) ∙ c.loop-event.invariant ∙ ap (first_from c.args.from) c.pending-event-items.ensures in
+    (sym all) ∙ c.loop-event.invariant ∙ ap (first_from c.args.from) c.pending-event-items.ensures in
     (news_if c.args.journal.now.state c.args.from None c.known.ensures.valid is).0
 
 pub returns-then-event-from-clause-news : goal.returns-then-event-from-clause-news
 returns-then-event-from-clause-news c =
     let items = c.pending-event-items.result.now in
     let e = from_here c.args.from items c.loop-event.event-index _ c.loop-event-test.true c.if-event-from.true
-        in
+    in
     let is = sym e ∙ c.loop-event.invariant ∙ ap (first_from c.args.from) c.pending-event-items.ensures in
     (news_if c.args.journal.now.state c.args.from (Some _) c.known.ensures.valid is).1.0
 
@@ -25,6 +25,6 @@ pub returns-then-event-from-clause-below : goal.returns-then-event-from-clause-b
 returns-then-event-from-clause-below c =
     let items = c.pending-event-items.result.now in
     let e = from_here c.args.from items c.loop-event.event-index _ c.loop-event-test.true c.if-event-from.true
-        in
+    in
     let is = sym e ∙ c.loop-event.invariant ∙ ap (first_from c.args.from) c.pending-event-items.ensures in
     (news_if c.args.journal.now.state c.args.from (Some _) c.known.ensures.valid is).1.1

@@ -8,7 +8,7 @@ pub returns-clause-set : goal.returns-clause-set
 returns-clause-set c =
     let e = c.push.ensures.state in
     has_set c.args.journal.now.state c.push.new.self.state c.args.event c.known.ensures.valid
-        c.requires.can.number
+    c.requires.can.number
     (ap (λ (s : State). s.pending) e) (ap (λ (s : State). s.next) e) (ap (λ (s : State). s.live) e)
 
 pub returns-clause-stay : goal.returns-clause-stay

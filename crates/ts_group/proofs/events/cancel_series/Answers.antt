@@ -12,9 +12,9 @@ pub push-requires-clause-allowed : goal.push-requires-clause-allowed
 push-requires-clause-allowed c =
     let s : State = c.args.journal.now.state in
     let found : first_in_series c.args.series s.pending ≡ Some c.in-Some.number = ap
-        (first_in_series c.args.series) (sym c.pending.ensures) ∙ sym c.in-Some.ensures in
+    (first_in_series c.args.series) (sym c.pending.ensures) ∙ sym c.in-Some.ensures in
     let there = number_there c.args.series s.pending 0 s.next c.in-Some.number c.known.ensures.valid.rises
-        found in
+    found in
     (c.requires.turn, there.0, there.1)
 
 pub returns-in-Some-clause-cancels : goal.returns-in-Some-clause-cancels
@@ -23,13 +23,13 @@ returns-in-Some-clause-cancels c =
     let t : State = c.push.new.self.state in
     let e = c.push.ensures.state in
     let found : first_in_series c.args.series s.pending ≡ Some c.in-Some.number = ap
-        (first_in_series c.args.series) (sym c.pending.ensures) ∙ sym c.in-Some.ensures in
+    (first_in_series c.args.series) (sym c.pending.ensures) ∙ sym c.in-Some.ensures in
     let there = number_there c.args.series s.pending 0 s.next c.in-Some.number c.known.ensures.valid.rises
-        found in
+    found in
     let closed = has_closed s t c.in-Some.number there.0 c.known.ensures.valid there.1
-        (ap (λ (x : State). x.pending) e) (ap (λ (x : State). x.next) e) (ap (λ (x : State). x.live) e) in
+    (ap (λ (x : State). x.pending) e) (ap (λ (x : State). x.next) e) (ap (λ (x : State). x.live) e) in
     cancels_one c.args.journal.now c.push.new.self c.args.series c.in-Some.number found c.push.ensures.log
-        closed (ap (λ (x : State). x.held) e ∙ c.requires.turn)
+    closed (ap (λ (x : State). x.held) e ∙ c.requires.turn)
 
 pub returns-in-Some-clause-stay : goal.returns-in-Some-clause-stay
 returns-in-Some-clause-stay c = stay_less c.args.journal.now.state c.push.new.self.state
@@ -41,12 +41,12 @@ returns-in-Some-clause-room c =
     let t : State = c.push.new.self.state in
     let e = c.push.ensures.state in
     let found : first_in_series c.args.series s.pending ≡ Some c.in-Some.number = ap
-        (first_in_series c.args.series) (sym c.pending.ensures) ∙ sym c.in-Some.ensures in
+    (first_in_series c.args.series) (sym c.pending.ensures) ∙ sym c.in-Some.ensures in
     let there = number_there c.args.series s.pending 0 s.next c.in-Some.number c.known.ensures.valid.rises
-        found in
+    found in
     let n : needed t + 1 ≡ needed s = needed_closed s t c.in-Some.number there.0 there.1 c.requires.turn
-        (ap (λ (x : State). x.pending) e) (ap (λ (x : State). x.live) e)
-        (ap (λ (x : State). x.held) e ∙ c.requires.turn) in
+    (ap (λ (x : State). x.pending) e) (ap (λ (x : State). x.live) e)
+    (ap (λ (x : State). x.held) e ∙ c.requires.turn) in
     let room = c.requires.room in
     let left = c.push.ensures.room in
     omega arith

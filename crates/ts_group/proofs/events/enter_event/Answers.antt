@@ -21,14 +21,21 @@ returns-then-renewed-lt-GREATEST-clause-enters c =
     let e = c.push.ensures.state in
     let f = c.push-then-renewed-lt-GREATEST.ensures.state in
     let next : c.next-renewed.result ≡ s.next = c.next-renewed.ensures ∙ ap (λ (x : State). x.next) e in
-    let r : Pending = record { number = c.next-renewed.result; key = c.args.event.key; event = Timeout; due =
-        c.saturating_add.result; series = c.args.event.series; period = c.args.event.period } in
+    let r : Pending = record {
+      number = c.next-renewed.result;
+      key = c.args.event.key;
+      event = Timeout;
+      due =
+          c.saturating_add.result;
+      series = c.args.event.series;
+      period = c.args.event.period;
+    } in
     let again : 0 < c.args.event.period = c.if-event-gt0.true in
     let w : IsValid m = subst (λ (x : State). IsValid x) (sym e)
     (valid_after s (Handled c.args.event.number c.args.moment) c.known.ensures.valid
-        (c.requires.turn, c.args.event, c.requires.ready.there, c.requires.ready.due)) in
+    (c.requires.turn, c.args.event, c.requires.ready.there, c.requires.ready.due)) in
     let has : HasHandled s t c.args.event = handled_again s m t c.args.event c.args.moment r again
-        c.known.ensures.valid w c.requires.ready.there next e f in
+    c.known.ensures.valid w c.requires.ready.there next e f in
     record {
       by = grind (arith, common_steps);
       turn = record {
@@ -43,7 +50,7 @@ pub returns-then-renewed-lt-GREATEST-clause-stay : goal.returns-then-renewed-lt-
 returns-then-renewed-lt-GREATEST-clause-stay c =
     let h = returns-then-renewed-lt-GREATEST-clause-enters c in
     stay_handled c.args.journal.now.state c.push-then-renewed-lt-GREATEST.new.self.state c.args.event h.rose
-        h.has
+    h.has
 
 pub returns-then-renewed-lt-GREATEST-clause-room : goal.returns-then-renewed-lt-GREATEST-clause-room
 returns-then-renewed-lt-GREATEST-clause-room c =
@@ -52,14 +59,21 @@ returns-then-renewed-lt-GREATEST-clause-room c =
     let t : State = c.push-then-renewed-lt-GREATEST.new.self.state in
     let e = c.push.ensures.state in
     let f = c.push-then-renewed-lt-GREATEST.ensures.state in
-    let r : Pending = record { number = c.next-renewed.result; key = c.args.event.key; event = Timeout; due =
-        c.saturating_add.result; series = c.args.event.series; period = c.args.event.period } in
+    let r : Pending = record {
+      number = c.next-renewed.result;
+      key = c.args.event.key;
+      event = Timeout;
+      due =
+          c.saturating_add.result;
+      series = c.args.event.series;
+      period = c.args.event.period;
+    } in
     let held : m.held ≡ true = ap (λ (x : State). x.held) e ∙ c.requires.turn in
     let a : needed m + 1 ≡ needed s = needed_closed s m c.args.event.number c.args.event
-        c.requires.ready.there c.requires.turn (ap (λ (x : State). x.pending) e)
-        (ap (λ (x : State). x.live) e) held in
+    c.requires.ready.there c.requires.turn (ap (λ (x : State). x.pending) e)
+    (ap (λ (x : State). x.live) e) held in
     let b : needed t ≡ needed m + 1 = needed_set m t r held (ap (λ (x : State). x.pending) f)
-        (ap (λ (x : State). x.live) f) (ap (λ (x : State). x.held) f ∙ held) in
+    (ap (λ (x : State). x.live) f) (ap (λ (x : State). x.held) f ∙ held) in
     let again : 0 < c.args.event.period = c.if-event-gt0.true in
     let room = c.push.ensures.room in
     let left = c.push-then-renewed-lt-GREATEST.ensures.room in
@@ -70,8 +84,11 @@ returns-else-event-gt0-clause-enters c =
     let e = c.push.ensures.state in
     record {
       by = search rules;
-      turn = record { held = ap (λ (x : State). x.held) e ∙ c.requires.turn; turns = ap
-          (λ (x : State). x.turns) e };
+      turn = record {
+        held = ap (λ (x : State). x.held) e ∙ c.requires.turn;
+        turns = ap
+            (λ (x : State). x.turns) e;
+      };
       has = handled_plain c.args.journal.now.state c.push.new.self.state c.args.event c.args.moment
           c.known.ensures.valid c.requires.ready.there e;
       rose = let a = ap (λ (x : State). x.next) e in omega arith;
@@ -88,8 +105,8 @@ returns-else-event-gt0-clause-room c =
     let m : State = c.push.new.self.state in
     let e = c.push.ensures.state in
     let a : needed m + 1 ≡ needed s = needed_closed s m c.args.event.number c.args.event
-        c.requires.ready.there c.requires.turn (ap (λ (x : State). x.pending) e)
-        (ap (λ (x : State). x.live) e) (ap (λ (x : State). x.held) e ∙ c.requires.turn) in
+    c.requires.ready.there c.requires.turn (ap (λ (x : State). x.pending) e)
+    (ap (λ (x : State). x.live) e) (ap (λ (x : State). x.held) e ∙ c.requires.turn) in
     let room = c.push.ensures.room in
     let enough = c.requires.room in
     omega arith

@@ -15,12 +15,23 @@ pub push-requires-2-clause-allowed : goal.push-requires-2-clause-allowed
 push-requires-2-clause-allowed c =
     let s : State = c.spare.new.journal.state in
     let e = c.push.ensures.state in
-    let p : Pending = record { number = c.next-number.result; key = own_key; event = Hook; due =
-        c.args.moment; series = c.next-number.result; period = 0 } in
+    let p : Pending = record {
+      number = c.next-number.result;
+      key = own_key;
+      event = Hook;
+      due =
+          c.args.moment;
+      series = c.next-number.result;
+      period = 0;
+    } in
     let set = has_set s c.push.new.self.state p c.known.ensures.valid c.next-number.ensures
-        (ap (λ (x : State). x.pending) e) (ap (λ (x : State). x.next) e) (ap (λ (x : State). x.live) e) in
-    (ap (λ (x : State). x.held) e ∙ ap (λ (x : State). x.held) c.spare.ensures.same.state ∙
-        c.requires.can.turn, p, set.there, omega arith)
+    (ap (λ (x : State). x.pending) e) (ap (λ (x : State). x.next) e) (ap (λ (x : State). x.live) e) in (
+      ap (λ (x : State). x.held) e ∙ ap (λ (x : State). x.held) c.spare.ensures.same.state ∙
+          c.requires.can.turn,
+      p,
+      set.there,
+      omega arith,
+    )
 
 pub returns-clause-ok : goal.returns-clause-ok
 returns-clause-ok c =
@@ -28,10 +39,17 @@ returns-clause-ok c =
     let e = c.push.ensures.state in
     let f = c.push-2.ensures.state in
     let g = c.spare.ensures.same.state in
-    let p : Pending = record { number = c.next-number.result; key = own_key; event = Hook; due =
-        c.args.moment; series = c.next-number.result; period = 0 } in
+    let p : Pending = record {
+      number = c.next-number.result;
+      key = own_key;
+      event = Hook;
+      due =
+          c.args.moment;
+      series = c.next-number.result;
+      period = 0;
+    } in
     let number : c.next-number.result ≡ c.args.journal.now.state.next = c.next-number.ensures ∙ ap
-        (λ (x : State). x.next) g in
+    (λ (x : State). x.next) g in
     record {
       by = extends_after c.spare.ensures.same (subst
           (λ n. Extends c.spare.new.journal c.push-2.new.self (asking_entries n c.args.moment)) number

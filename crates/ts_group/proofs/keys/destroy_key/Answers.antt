@@ -20,9 +20,9 @@ returns-clause-destroys c =
     let next = ap (λ (x : State). x.next) e ∙ d.next in
     let live = ap (λ (x : State). x.live) e ∙ ap (without_index c.args.key.index) d.live in
     destroys_one c.args.journal.now c.push.new.self c.args.roles.now.items c.remove_role.new.roles.items
-        c.args.key c.known.ensures.valid
+    c.args.key c.known.ensures.valid
     (c.is_live.ensures.0 c.if-not-is_live.false) (extends_trans d.by c.push.ensures.log) pending next live
-        (ap (λ (x : State). x.held) e ∙ d.held) c.remove_role.ensures
+    (ap (λ (x : State). x.held) e ∙ d.held) c.remove_role.ensures
 
 pub returns-clause-stay : goal.returns-clause-stay
 returns-clause-stay c = stay_less c.args.journal.now.state c.push.new.self.state
@@ -44,10 +44,10 @@ returns-clause-kept c =
     let e = c.push.ensures.state in
     let live : IsLive s.live c.args.key = c.is_live.ensures.0 c.if-not-is_live.false in
     let there : generation_at c.args.key.index m.live ≡ Some c.args.key.generation = ap
-        (generation_at c.args.key.index) c.drop_events.ensures.drops.live ∙ live in
+    (generation_at c.args.key.index) c.drop_events.ensures.drops.live ∙ live in
     let n : needed t + 1 ≡ needed m = needed_destroyed m t c.args.key.index c.args.key.generation there
-        c.drop_events.ensures.drops.held (ap (λ (x : State). x.pending) e) (ap (λ (x : State). x.live) e)
-        (ap (λ (x : State). x.held) e ∙ c.drop_events.ensures.drops.held) in
+    c.drop_events.ensures.drops.held (ap (λ (x : State). x.pending) e) (ap (λ (x : State). x.live) e)
+    (ap (λ (x : State). x.held) e ∙ c.drop_events.ensures.drops.held) in
     let a = needed_held m c.drop_events.ensures.drops.held in
     let b = needed_held s c.requires.turn in
     let l : length m.live ≡ length s.live = ap length c.drop_events.ensures.drops.live in
@@ -58,5 +58,5 @@ returns-clause-kept c =
       room = omega arith;
       keys = ap keys_of c.remove_role.ensures ∙ keys_without c.args.key.index c.args.roles.now.items
           ∙ ap (without_index c.args.key.index) (c.requires.kept.keys ∙ sym c.drop_events.ensures.drops.live)
-              ∙ ap (λ (x : State). x.live) (sym e);
+          ∙ ap (λ (x : State). x.live) (sym e);
     }

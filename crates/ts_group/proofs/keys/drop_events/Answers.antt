@@ -9,7 +9,7 @@ push-requires-clause-allowed c =
     let s : State = c.loop-number.journal.state in
     let found = c.in-Some.ensures.found in
     let first : numbers_of c.args.key s.pending ≡ c.in-Some.number ∷ found.0 = ap (numbers_of c.args.key)
-        (sym c.pending.ensures) ∙ found.1 in
+    (sym c.pending.ensures) ∙ found.1 in
     let f = first_there s c.args.key c.in-Some.number found.0 c.loop-number.invariant.valid first in
     (c.loop-number.invariant.held, f.event, f.there)
 
@@ -18,10 +18,10 @@ loop-number-preserved c =
     let s : State = c.loop-number.journal.state in
     let found = c.in-Some.ensures.found in
     let first : numbers_of c.args.key s.pending ≡ c.in-Some.number ∷ found.0 = ap (numbers_of c.args.key)
-        (sym c.pending.ensures) ∙ found.1 in
+    (sym c.pending.ensures) ∙ found.1 in
     dropping_more c.args.journal.now c.loop-number.journal c.push.new.self c.args.key c.in-Some.number found.0
-        c.loop-number.invariant first c.push.ensures.log c.push.ensures.state c.push.ensures.room
-        c.known-in-Some.ensures.valid
+    c.loop-number.invariant first c.push.ensures.log c.push.ensures.state c.push.ensures.room
+    c.known-in-Some.ensures.valid
 
 pub returns-clause-drops : goal.returns-clause-drops
 returns-clause-drops c =

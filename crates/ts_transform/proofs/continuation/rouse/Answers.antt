@@ -1,18 +1,20 @@
 use Rattle.std.proofs.Common.{[], ◌∷◌, true, arith, refl, subst}
 use Rattle.ts_transform.specs.Driving.{HasLiveIf}
 use Rattle.ts_transform.proofs.Kept.{adds_dead, adds_err, adds_none}
-use Rattle.ts_transform.proofs.Setting.{slot_rousing}
+use Rattle.ts_transform.proofs.Setting.{work_of}
 use Rattle.ts_transform.specs.Seats.{KeepsSeated}
 use Rattle.ts_transform.proofs.Seating.{seated_slot}
 use Rattle.ts_transform.proofs.continuation.rouse.Goals as goal
 
 pub returns-in_err-set_event-clause-only : goal.returns-in_err-set_event-clause-only
-returns-in_err-set_event-clause-only c = λ role.
-    slot_rousing c.args.cx.now.roles role c.args.pause c.args.cx.now.moment c.args.slot.now c.in-Some.continuation c.args.cx.now c.set_event.new.cx c.in-Some.is c.set_event.ensures.only
+returns-in_err-set_event-clause-only c =
+    work_of c.args.pause c.args.cx.now.moment c.args.slot.now c.in-Some.continuation c.args.cx.now c.set_event.new.cx
+    c.in-Some.is c.set_event.ensures.only
 
 pub returns-clause-only : goal.returns-clause-only
-returns-clause-only c = λ role.
-    slot_rousing c.args.cx.now.roles role c.args.pause c.args.cx.now.moment c.args.slot.now c.in-Some.continuation c.args.cx.now c.set_event.new.cx c.in-Some.is c.set_event.ensures.only
+returns-clause-only c =
+    work_of c.args.pause c.args.cx.now.moment c.args.slot.now c.in-Some.continuation c.args.cx.now c.set_event.new.cx
+    c.in-Some.is c.set_event.ensures.only
 
 pub returns-in_default-clause-adds : goal.returns-in_default-clause-adds
 returns-in_default-clause-adds c = adds_dead c.args.cx.now 1 c.requires.turn (λ live. subst (HasLiveIf c.args.cx.now.log.state.live) c.in_default.is live)

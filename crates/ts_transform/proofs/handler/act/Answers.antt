@@ -3,10 +3,12 @@ use Rattle.ts_transform.specs.Acting.{Covers}
 use Rattle.ts_transform.specs.Driving.{AreLive, works_at}
 use Rattle.ts_transform.proofs.Acting.{acts_gone, acts_passes, acts_rests, acts_works, pays_errors, pays_none, pays_pumps}
 use Rattle.ts_transform.proofs.Closing.{closed_driven, others_kept}
-use Rattle.ts_transform.proofs.Covering.{driven_but, driven_quiet, driven_kept, any_ok, on_ok}
+use Rattle.ts_transform.proofs.Covering.{driven_but, driven_quiet, driven_kept}
 use Rattle.ts_transform.proofs.Living.{all_live, live_passed, live_worked, may_pump_goes}
 use Rattle.ts_transform.proofs.Kept.{acts_adds, acts_lessens, acts_none, err_weaker}
 use Rattle.ts_transform.proofs.PassedErrors.{passed_driven}
+use Rattle.ts_lists.proofs.Results.{on_ok_any}
+use Rattle.std.proofs.lemmas.Result.{on_ok_weaker}
 use Rattle.ts_transform.proofs.handler.act.Goals as goal
 
 -- A stage had ended: its continuation is destroyed.
@@ -35,7 +37,7 @@ returns-then-works-clause-within g c = acts_adds 4 4 c.work.result c.args.cx.now
 pub returns-then-works-clause-acts : goal.returns-then-works-clause-acts
 returns-then-works-clause-acts g c =
     acts_works g.P.Transform.rest g.P.Transform.pause c.args.at c.args.event c.args.chain.now c.work.new.chain c.args.table.now c.work.new.table c.work.result c.args.cx.now c.work.new.cx
-    (sym c.works.ensures ∙ c.if-works.true) (sym c.has_ended.ensures ∙ c.if-has_ended.false) c.work.ensures.pumps (c.work.ensures.only c.args.event) c.work.ensures.tells c.work.ensures.stages
+    (sym c.works.ensures ∙ c.if-works.true) (sym c.has_ended.ensures ∙ c.if-has_ended.false) c.work.ensures.pumps (c.work.ensures.only c.args.event) c.work.ensures.tells c.work.ensures.stages c.work.ensures.rests
 
 pub returns-then-works-clause-pays : goal.returns-then-works-clause-pays
 returns-then-works-clause-pays g c =
@@ -43,8 +45,9 @@ returns-then-works-clause-pays g c =
 
 pub returns-then-works-clause-driven : goal.returns-then-works-clause-driven
 returns-then-works-clause-driven g c =
-    on_ok c.work.result c.work.ensures.driven
+    on_ok_weaker c.work.result
     (λ driven. subst (λ b. Covers b c.args.at c.args.chain.now c.work.new.chain c.args.table.now c.work.new.table c.args.cx.now c.work.new.cx) (sym c.if-works.true ∙ c.works.ensures) driven)
+    c.work.ensures.driven
 
 pub returns-then-works-clause-others : goal.returns-then-works-clause-others
 returns-then-works-clause-others g c = λ first. others_kept first c.args.table.now c.args.cx.now c.work.new.cx c.work.ensures.adds.keeps
@@ -66,7 +69,7 @@ pub returns-in-Error-clause-driven : goal.returns-in-Error-clause-driven
 returns-in-Error-clause-driven g c =
     let old = c.args.cx.now in
     let new = c.pass_error.new.cx in
-    any_ok c.pass_error.result
+    on_ok_any c.pass_error.result
     (λ first driven. passed_driven first c.args.chain.now c.args.table.now c.pass_error.new.table c.args.at new.log.state.pending new.roles c.pass_error.ensures.table.0
     (driven_kept first old new c.args.chain.now c.args.table.now c.pass_error.ensures.adds.keeps
     (driven_quiet (works_at c.args.event) first c.args.at c.args.chain.now c.args.table.now old.log.state.pending old.roles (ap works_at c.in-Error.is) driven)))

@@ -2,12 +2,12 @@ use Rattle.std.proofs.Common.{◌<◌, refl, subst, sym, ◌∙◌}
 use Rattle.std.specs.Prelude.{is_ok}
 use Rattle.ts_transform.specs.Driving.{works_at}
 use Rattle.ts_transform.proofs.Acting.{acts_handled, others_handled, pays_handled}
-use Rattle.ts_transform.proofs.Covering.{on_ok}
 use Rattle.ts_transform.proofs.Handled.{begun_for}
 use Rattle.ts_transform.proofs.Kept.{err_weaker}
 use Rattle.ts_transform.proofs.Seating.{key_same, seated_as, seated_then}
 use Rattle.ts_transform.proofs.Living.{all_live, live_found}
 use Rattle.ts_transform.proofs.Told.{same_length}
+use Rattle.std.proofs.lemmas.Result.{on_ok_weaker}
 use Rattle.ts_transform.proofs.handler.handle_at.Goals as goal
 
 pub act-requires : goal.act-requires
@@ -31,9 +31,10 @@ returns-clause-pays g c =
 pub returns-clause-driven : goal.returns-clause-driven
 returns-clause-driven g c =
     let now = c.args.cx.now in
-    on_ok c.act.result c.act.ensures.driven
+    on_ok_weaker c.act.result
     (λ driven first before handled was. driven first (rw c.unrouse_for.ensures.table (begun_for first c.args.chain.now c.args.table.now before now.log.state.pending now.roles c.args.at _ c.args.event
     (works_at c.args.event) handled refl refl was)))
+    c.act.ensures.driven
 
 pub returns-clause-others : goal.returns-clause-others
 returns-clause-others g c = λ first.

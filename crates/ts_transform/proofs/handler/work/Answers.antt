@@ -4,10 +4,12 @@ use Rattle.ts_transform.specs.Flow.{AnswersAt, StepsAt}
 use Rattle.ts_transform.specs.Acting.{step_weight}
 use Rattle.ts_transform.proofs.Acting.{pumps, pumps_none, tells_rest}
 use Rattle.ts_transform.proofs.Called.{called_kept}
-use Rattle.ts_transform.proofs.Covering.{moved-some, worked, rested, driven_kept, on_ok, any_ok, IsResting}
+use Rattle.ts_transform.proofs.Covering.{DoesWork, does-must, moved-some, worked, rested, driven_kept, IsResting}
 use Rattle.ts_transform.proofs.Kept.{adds_err, adds_lacks, adds_more, adds_none, adds_then, adds_weaker, stages_kept, stages_trans}
 use Rattle.ts_transform.proofs.MaySet.{may_rouse, may_set_none, may_tell}
 use Rattle.ts_transform.proofs.Told.{moved_goes}
+use Rattle.ts_lists.proofs.Results.{on_ok_any}
+use Rattle.std.proofs.lemmas.Result.{on_ok_weaker}
 use Rattle.ts_transform.proofs.handler.work.Goals as goal
 
 -- A stage moved a piece, which pays for the events that follow it.
@@ -30,21 +32,23 @@ returns-in-Moved-clause-only g c = λ event.
 
 pub returns-in-Moved-clause-driven : goal.returns-in-Moved-clause-driven
 returns-in-Moved-clause-driven g c =
-    on_ok c.rouse_round.result c.rouse_round.ensures.round
+    on_ok_weaker c.rouse_round.result
     (λ round first. worked g.P.Transform.rest first c.args.cx.now c.rouse_round.new.cx c.args.chain.now c.pump.new.self c.args.table.now c.rouse_round.new.table c.args.at c.in-Ok.pumped
     c.in-Ok.ensures.steps c.in-Ok.ensures.kept.0 c.in-Ok.ensures.kept.1 c.rouse_round.ensures.stages.len (c.rouse_round.ensures.stages.of_stages first) c.rouse_round.ensures.stages.still round)
+    c.rouse_round.ensures.round
 
 -- It has not ended by it.
 pub returns-in-Moved-clause-tells : goal.returns-in-Moved-clause-tells
 returns-in-Moved-clause-tells g c =
     let old = c.args.chain.now in
     let new = c.pump.new.self in
-    on_ok c.rouse_round.result c.rouse_round.ensures.called
+    on_ok_weaker c.rouse_round.result
     (λ called. record {
       ended = λ goes ended. absurd (let wrong : false ≡ true = sym goes ∙ sym (moved_goes g.P.Transform.rest old.first old.stages c.args.at c.in-Moved.field-0 new.first new.stages
           (subst (λ r. StepsAt g.P.Transform.rest old.first old.stages c.args.at r new.first new.stages) c.in-Moved.is c.in-Ok.ensures.steps)) ∙ ended in cc);
       ready = λ did. called;
     })
+    c.rouse_round.ensures.called
 
 -- A stage ended, and those round it could not all be roused.
 pub returns-in_err-rouse_round-in-Ended-clause-adds :
@@ -98,7 +102,7 @@ pub returns-in_ok-rouse_round-in-Ended-clause-driven :
     goal.returns-in_ok-rouse_round-in-Ended-clause-driven
 returns-in_ok-rouse_round-in-Ended-clause-driven g c =
     let round = c.rouse_round-in-Ended in
-    any_ok c.tell_before.result
+    on_ok_any c.tell_before.result
     (λ first driven. driven_kept first round.new.cx c.tell_before.new.cx c.pump.new.self round.new.table c.tell_before.ensures.adds.keeps
     (worked g.P.Transform.rest first c.args.cx.now round.new.cx c.args.chain.now c.pump.new.self c.args.table.now round.new.table c.args.at c.in-Ok.pumped
     c.in-Ok.ensures.steps c.in-Ok.ensures.kept.0 c.in-Ok.ensures.kept.1 round.ensures.stages.len (round.ensures.stages.of_stages first)
@@ -109,12 +113,13 @@ pub returns-in_ok-rouse_round-in-Ended-clause-tells :
 returns-in_ok-rouse_round-in-Ended-clause-tells g c =
     let before = c.rouse_round-in-Ended.new.cx in
     let table = c.rouse_round-in-Ended.new.table in
-    on_ok c.tell_before.result c.tell_before.ensures.told
+    on_ok_weaker c.tell_before.result
     (λ told. record {
       ended = λ goes ended. told;
       ready = λ did j above pauses must. called_kept before c.tell_before.new.cx c.args.table.now c.args.table.now table table j refl refl c.tell_before.ensures.adds.keeps
           (c.in_ok-rouse_round-in-Ended.ensures.called j above pauses must);
     })
+    c.tell_before.ensures.told
 
 -- Memory lacked.
 pub returns-in_default-clause-adds : goal.returns-in_default-clause-adds
@@ -160,3 +165,30 @@ pub returns-in-Idle-clause-tells : goal.returns-in-Idle-clause-tells
 returns-in-Idle-clause-tells g c =
     tells_rest g.P.Transform.pause c.args.at c.args.chain.now c.pump.new.self c.args.table.now c.args.table.now c.args.cx.now.log.state.pending
     (subst (λ r. IfRests r (c.pump.new.self ≡ c.args.chain.now)) c.in-Idle.is c.in-Ok.ensures.rests)
+
+-- A stage that need not work rests.
+pub returns-in_default-clause-rests : goal.returns-in_default-clause-rests
+returns-in_default-clause-rests g c = λ none. absurd (none c.in_default.ensures.works)
+
+pub returns-in-Moved-clause-rests : goal.returns-in-Moved-clause-rests
+returns-in-Moved-clause-rests g c = λ none.
+    let old = c.args.chain.now in
+    absurd (none (does-must old.given old.first old.stages c.args.at c.in-Ok.pumped (subst DoesWork (sym c.in-Moved.is) tt) c.in-Ok.ensures.answer))
+
+pub returns-in_err-rouse_round-in-Ended-clause-rests : goal.returns-in_err-rouse_round-in-Ended-clause-rests
+returns-in_err-rouse_round-in-Ended-clause-rests g c = λ none.
+    let old = c.args.chain.now in
+    absurd (none (does-must old.given old.first old.stages c.args.at c.in-Ok.pumped (subst DoesWork (sym c.in-Ended.is) tt) c.in-Ok.ensures.answer))
+
+pub returns-in_ok-rouse_round-in-Ended-clause-rests : goal.returns-in_ok-rouse_round-in-Ended-clause-rests
+returns-in_ok-rouse_round-in-Ended-clause-rests g c = λ none.
+    let old = c.args.chain.now in
+    absurd (none (does-must old.given old.first old.stages c.args.at c.in-Ok.pumped (subst DoesWork (sym c.in-Ended.is) tt) c.in-Ok.ensures.answer))
+
+pub returns-in-Blocked-clause-rests : goal.returns-in-Blocked-clause-rests
+returns-in-Blocked-clause-rests g c = λ none.
+    (refl, subst (λ r. IfRests r (c.pump.new.self ≡ c.args.chain.now)) c.in-Blocked.is c.in-Ok.ensures.rests, refl)
+
+pub returns-in-Idle-clause-rests : goal.returns-in-Idle-clause-rests
+returns-in-Idle-clause-rests g c = λ none.
+    (refl, subst (λ r. IfRests r (c.pump.new.self ≡ c.args.chain.now)) c.in-Idle.is c.in-Ok.ensures.rests, refl)

@@ -1,16 +1,19 @@
-use Rattle.std.proofs.Common.{ap, arith, refl, sym, subst, ◌∙◌}
+-- A turn of its own handles an event, or nothing, and what it moves is what its handlers move.
+use Rattle.std.proofs.Common.{◌+◌, arith, refl, sym, subst, ◌∙◌}
 use Rattle.ts_transform.specs.Carrying.{CarriesTo}
 use Rattle.ts_transform.proofs.Runs.{handle_carries, handled_nothing, to_refl}
 use Rattle.ts_transform.proofs.link_drive.take_turn.Goals as goal
 
 -- No turn was made.
-pub returns-in_default-clause-carries : goal.returns-in_default-clause-carries
-returns-in_default-clause-carries g c =
-    let was = c.args.group.now.world in to_refl g.P.Transform.rest g.I.Link.tells g.K.Link.tells g.I.Link.look g.K.Link.look was was refl
+pub returns-in-Err-Worn-clause-carries : goal.returns-in-Err-Worn-clause-carries
+returns-in-Err-Worn-clause-carries g c =
+    to_refl g.P.Transform.rest g.I.Link.tells g.K.Link.tells g.I.Link.look g.K.Link.look c.args.group.now.world
+    c.begin_alone.new.self.world c.begin_alone.ensures.world
 
-pub returns-in-Err-clause-carries : goal.returns-in-Err-clause-carries
-returns-in-Err-clause-carries g c =
-    to_refl g.P.Transform.rest g.I.Link.tells g.K.Link.tells g.I.Link.look g.K.Link.look c.args.group.now.world c.begin_turn.new.self.world c.begin_turn.ensures.world
+pub returns-in-Err-NoMemory-clause-carries : goal.returns-in-Err-NoMemory-clause-carries
+returns-in-Err-NoMemory-clause-carries g c =
+    to_refl g.P.Transform.rest g.I.Link.tells g.K.Link.tells g.I.Link.look g.K.Link.look c.args.group.now.world
+    c.begin_alone.new.self.world c.begin_alone.ensures.world
 
 -- The event was handled.
 pub returns-in-Ok-Handled-clause-carries : goal.returns-in-Ok-Handled-clause-carries
@@ -19,17 +22,21 @@ returns-in-Ok-Handled-clause-carries g c =
     let was = c.args.group.now.world in
     let handled = c.handle-handled.new.self in
     subst (λ w. CarriesTo rest g.I.Link.tells g.K.Link.tells g.I.Link.look g.K.Link.look was w) (sym c.give_turn.ensures.world)
-    (subst (λ w. CarriesTo rest g.I.Link.tells g.K.Link.tells g.I.Link.look g.K.Link.look w handled.world) c.begin_turn.ensures.world
-    (handle_carries rest g.I.Link.tells g.K.Link.tells g.I.Link.look g.K.Link.look c.begin_turn.new.self handled c.args.number c.args.moment c.in-Ok-Handled.field-0 c.in-Ok-Handled.ensures-1.gives))
+    (subst (λ w. CarriesTo rest g.I.Link.tells g.K.Link.tells g.I.Link.look g.K.Link.look w handled.world)
+    c.begin_alone.ensures.world
+    (handle_carries rest g.I.Link.tells g.K.Link.tells g.I.Link.look g.K.Link.look c.begin_alone.new.self handled
+    c.args.number c.args.moment c.in-Ok-Handled.field-0 c.in-Ok-Handled.ensures-1.gives))
 
 -- Memory lacked for the next event of its series.
-pub returns-in-Err-handled-clause-carries : goal.returns-in-Err-handled-clause-carries
-returns-in-Err-handled-clause-carries g c =
-    to_refl g.P.Transform.rest g.I.Link.tells g.K.Link.tells g.I.Link.look g.K.Link.look c.args.group.now.world c.give_turn.new.self.world
-    (c.give_turn.ensures.world ∙ c.in-Err-handled.ensures.err.same.world ∙ c.begin_turn.ensures.world)
+pub returns-in-Err-clause-carries : goal.returns-in-Err-clause-carries
+returns-in-Err-clause-carries g c =
+    to_refl g.P.Transform.rest g.I.Link.tells g.K.Link.tells g.I.Link.look g.K.Link.look c.args.group.now.world
+    c.give_turn.new.self.world
+    (c.give_turn.ensures.world ∙ c.in-Err.ensures.err.same.world ∙ c.begin_alone.ensures.world)
 
--- Memory lacked in the turn.
-pub returns-in-Err-handled-clause-fault : goal.returns-in-Err-handled-clause-fault
-returns-in-Err-handled-clause-fault g c =
-    handled_nothing c.args.group.now.cx c.begin_turn.new.self.cx c.handle-handled.new.self.cx c.give_turn.new.self.cx c.in-Some.turn _ c.args.moment c.in_default-begin_turn.ensures.begins
-    c.in-Err-handled.ensures.err.same.cx c.give_turn.ensures.gives (omega (arith, c.in-Some.ensures, c.turns.ensures, ap (λ l. l.state.turns) c.journal.ensures))
+-- So nothing was handled in the turn.
+pub returns-in-Err-clause-fault : goal.returns-in-Err-clause-fault
+returns-in-Err-clause-fault g c =
+    handled_nothing c.args.group.now.cx c.begin_alone.new.self.cx c.handle-handled.new.self.cx c.give_turn.new.self.cx
+    (c.args.group.now.cx.log.state.turns + 1) _ c.args.moment c.in-Ok.ensures.begins c.in-Err.ensures.err.same.cx
+    c.give_turn.ensures.gives (omega arith)

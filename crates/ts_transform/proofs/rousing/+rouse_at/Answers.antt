@@ -1,6 +1,6 @@
 use Rattle.ts_transform.proofs.Kept.{adds_weaker, stages_behind, stages_front}
 use Rattle.ts_transform.proofs.Living.{live_behind, live_front}
-use Rattle.ts_transform.proofs.Setting.{front_rouses, rest_rouses}
+use Rattle.ts_transform.proofs.Setting.{front_rouses, rest_rouses, work_rousing}
 use Rattle.ts_transform.proofs.rousing.+rouse_at.Goals as goal
 
 pub returns-then-at-eq0-clause-stages : goal.returns-then-at-eq0-clause-stages
@@ -10,7 +10,7 @@ returns-then-at-eq0-clause-stages t c =
 pub returns-then-at-eq0-clause-rouses : goal.returns-then-at-eq0-clause-rouses
 returns-then-at-eq0-clause-rouses t c =
     front_rouses c.args.pause c.args.at c.in-Some.first.now c.in-Some.others.now c.args.table.now c.args.cx.now c.rouse.new.cx c.in-Some.ensures.cases.0 c.if-at-eq0.true (λ roused. (c.rouse.ensures.rests roused).1)
-    c.rouse.ensures.only
+    (work_rousing c.args.cx.now.roles c.args.pause c.args.cx.now.moment c.in-Some.first.now c.args.cx.now c.rouse.new.cx c.rouse.ensures.only)
 
 pub returns-else-at-eq0-clause-rouses : goal.returns-else-at-eq0-clause-rouses
 returns-else-at-eq0-clause-rouses t c =

@@ -9,12 +9,12 @@ use Rattle.ts_transform.specs.Cover.{AreAllLive, IsDriven}
 use Rattle.ts_transform.specs.Loss.{IsCauseOf}
 use Rattle.ts_transform.specs.Driving.{AreOfStages, BeginsBeside, EachIsLive, Keeps, all_unroused}
 use Rattle.ts_transform.specs.Seats.{KeepsSeated}
-use Rattle.ts_transform.proofs.Driving.{in_table}
 use Rattle.ts_transform.proofs.Kept.{kept_if}
 use Rattle.ts_transform.proofs.Living.{all_live, cause_alive, made_live}
 use Rattle.ts_transform.proofs.MaySet.{begin_only}
 use Rattle.ts_transform.proofs.Seating.{seated_as, seated_then}
 use Rattle.ts_transform.proofs.Starting.{begun, made_if}
+use Rattle.ts_lists.proofs.Fronts.{taken_table}
 use Rattle.ts_transform.proofs.start.begin.Goals as goal
 
 pub returns-in-Ok-clause-only : goal.returns-in-Ok-clause-only
@@ -34,7 +34,7 @@ returns-in-Ok-clause-driven g c = λ fresh.
     let made = c.make_all.new.cx in
     let table = c.make_all.new.table in
     let roused = c.rouse_if_ready in
-    in_table (λ us. IsDriven c.args.first c.args.chain.now us roused.new.cx.log.state.pending roused.new.cx.roles) table.len roused.new.table table.items
+    taken_table (λ us. IsDriven c.args.first c.args.chain.now us roused.new.cx.log.state.pending roused.new.cx.roles) table.len roused.new.table table.items
     (roused.ensures.stages.len ∙ ap length c.deref_mut.ensures.value ∙ sym table.ok.0)
     (begun c.args.first roused.new.cx c.args.chain.now roused.new.table (roused.ensures.stages.len ∙ ap length c.deref_mut.ensures.value ∙ c.in_default.ensures.ok.0 ∙ c.stages.ensures)
     (roused.ensures.stages.of_stages c.args.first (subst (AreOfStages made.log.state.pending made.roles c.args.first) (sym c.deref_mut.ensures.value) c.in_default.ensures.ok.1))
@@ -50,7 +50,7 @@ pub returns-in-Ok-clause-live : goal.returns-in-Ok-clause-live
 returns-in-Ok-clause-live g c =
     let table = c.make_all.new.table in
     let roused = c.rouse_if_ready in
-    in_table (λ us. AreAllLive c.args.chain.now us roused.new.cx) table.len roused.new.table table.items (roused.ensures.stages.len ∙ ap length c.deref_mut.ensures.value ∙ sym table.ok.0)
+    taken_table (λ us. AreAllLive c.args.chain.now us roused.new.cx) table.len roused.new.table table.items (roused.ensures.stages.len ∙ ap length c.deref_mut.ensures.value ∙ sym table.ok.0)
     (made_alive c.args.chain.now c.deref_mut.result.now table.items roused.new.table c.make_all.new.cx roused.new.cx _ c.deref_mut.ensures.value c.in_default.ensures.ok.0 c.stages.ensures c.in_default.ensures.ok.2
     roused.ensures.adds.keeps.live roused.ensures.stages.same)
 
@@ -81,14 +81,14 @@ pub returns-in-Ok-clause-rest : goal.returns-in-Ok-clause-rest
 returns-in-Ok-clause-rest g c =
     let table = c.make_all.new.table in
     let roused = c.rouse_if_ready in
-    in_table (λ us. BeginsBeside us c.args.cx.now roused.new.cx) table.len roused.new.table table.items (roused.ensures.stages.len ∙ ap length c.deref_mut.ensures.value ∙ sym table.ok.0)
+    taken_table (λ us. BeginsBeside us c.args.cx.now roused.new.cx) table.len roused.new.table table.items (roused.ensures.stages.len ∙ ap length c.deref_mut.ensures.value ∙ sym table.ok.0)
     (begins_then c.deref_mut.result.now roused.new.table c.args.cx.now c.make_all.new.cx roused.new.cx c.make_all.ensures.events c.make_all.ensures.keys roused.ensures.adds.keeps roused.ensures.stages.seated)
 
 pub returns-in-Err-rouse_if_ready-clause-rest : goal.returns-in-Err-rouse_if_ready-clause-rest
 returns-in-Err-rouse_if_ready-clause-rest g c =
     let table = c.make_all.new.table in
     let roused = c.rouse_if_ready in
-    in_table (λ us. BeginsBeside us c.args.cx.now roused.new.cx) table.len roused.new.table table.items (roused.ensures.stages.len ∙ ap length c.deref_mut.ensures.value ∙ sym table.ok.0)
+    taken_table (λ us. BeginsBeside us c.args.cx.now roused.new.cx) table.len roused.new.table table.items (roused.ensures.stages.len ∙ ap length c.deref_mut.ensures.value ∙ sym table.ok.0)
     (begins_then c.deref_mut.result.now roused.new.table c.args.cx.now c.make_all.new.cx roused.new.cx c.make_all.ensures.events c.make_all.ensures.keys roused.ensures.adds.keeps roused.ensures.stages.seated)
 
 pub returns-in-Err-clause-rest : goal.returns-in-Err-clause-rest

@@ -58,6 +58,6 @@ returns-clause-falls g c =
       live = ok.live;
     } in
     let log : c.asked-reply.new.cx.log ≡ c.leave.new.self.log = ap (λ (x : Context). x.log)
-        (sym c.leave.ensures) in
+    (sym c.leave.ensures) in
     subst (λ (l : Log). Falls (g.W.World.left w s) 0 (g.W.World.left c.asked-reply.new.self l.state)) log
-        (c.asked-reply.ensures.falls asked)
+    (c.asked-reply.ensures.falls asked)

@@ -10,7 +10,7 @@ returns-clause-sound g c = λ h.
     let roles = c.args.self.now.cx.roles in
     let t : State = c.give_turn.new.self.log.state in
     let now = subst (λ (x : State). g.W.World.sound w x roles) (sym c.give_turn.ensures.gives.state)
-        (g.met.W.World.sound_given w s s.turns roles h) in
+    (g.met.W.World.sound_given w s s.turns roles h) in
     subst (λ rs. g.W.World.sound w t rs) (sym c.give_turn.ensures.kept.roles) now
 
 pub returns-clause-left : goal.returns-clause-left
@@ -18,4 +18,4 @@ returns-clause-left g c =
     let w = c.args.self.now.world in
     let s : State = c.args.self.now.cx.log.state in
     ap (λ (x : State). g.W.World.left w x) c.give_turn.ensures.gives.state ∙ g.met.W.World.left_given w s
-        s.turns
+    s.turns

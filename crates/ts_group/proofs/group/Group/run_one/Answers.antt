@@ -72,4 +72,4 @@ returns-clause-falls g c =
     let left : c.leave.new.self ≡ record c.handle-want.new.cx { running = None } = c.leave.ensures in
     let log : c.handle-want.new.cx.log ≡ c.leave.new.self.log = ap (λ (x : Context). x.log) (sym left) in
     subst (λ (l : Log). Falls (g.W.World.left w s) 1 (g.W.World.left c.handle-want.new.self l.state)) log
-        (c.handle-want.ensures.falls called)
+    (c.handle-want.ensures.falls called)

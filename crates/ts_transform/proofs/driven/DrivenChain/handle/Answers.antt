@@ -4,9 +4,10 @@ use Rattle.ts_transform.specs.Acting.{KeepsLive, Pays, StillGives}
 use Rattle.ts_transform.specs.Driving.{IsCause, KeepsOthers}
 use Rattle.ts_transform.specs.Cover.{AreAllLive}
 use Rattle.ts_transform.proofs.Acting.{still_gives}
-use Rattle.ts_transform.proofs.Driving.{acts_in, in_table}
+use Rattle.ts_transform.proofs.Driving.{acts_in}
 use Rattle.ts_transform.proofs.Handled.{begun_other}
 use Rattle.ts_transform.proofs.Kept.{acts_none}
+use Rattle.ts_lists.proofs.Fronts.{taken_table}
 use Rattle.ts_transform.proofs.driven.DrivenChain.handle.Goals as goal
 
 -- The role is that of no stage.
@@ -35,7 +36,7 @@ pub returns-in-Ok-clause-gives : goal.returns-in-Ok-clause-gives
 returns-in-Ok-clause-gives g c =
     let self = c.args.self.now in
     let acted = c.handle_at in
-    in_table (λ us. StillGives g.P.Transform.rest self.chain acted.new.chain self.table.items us c.args.cx.now acted.new.cx) self.table.len acted.new.table self.table.items
+    taken_table (λ us. StillGives g.P.Transform.rest self.chain acted.new.chain self.table.items us c.args.cx.now acted.new.cx) self.table.len acted.new.table self.table.items
     (acted.ensures.acts.len ∙ ap length c.deref_mut.ensures.value ∙ sym self.table.ok.0)
     (still_gives g.P.Transform.rest c.in-Some.at self.chain acted.new.chain self.table.items acted.new.table c.args.cx.now acted.new.cx c.in-Some.ensures.1 acted.ensures.acts.own
     (acted.ensures.acts.len ∙ ap length c.deref_mut.ensures.value)
@@ -55,7 +56,7 @@ pub returns-in-Err-clause-gives : goal.returns-in-Err-clause-gives
 returns-in-Err-clause-gives g c =
     let self = c.args.self.now in
     let acted = c.handle_at in
-    in_table (λ us. StillGives g.P.Transform.rest self.chain acted.new.chain self.table.items us c.args.cx.now acted.new.cx) self.table.len acted.new.table self.table.items
+    taken_table (λ us. StillGives g.P.Transform.rest self.chain acted.new.chain self.table.items us c.args.cx.now acted.new.cx) self.table.len acted.new.table self.table.items
     (acted.ensures.acts.len ∙ ap length c.deref_mut.ensures.value ∙ sym self.table.ok.0)
     (still_gives g.P.Transform.rest c.in-Some.at self.chain acted.new.chain self.table.items acted.new.table c.args.cx.now acted.new.cx c.in-Some.ensures.1 acted.ensures.acts.own
     (acted.ensures.acts.len ∙ ap length c.deref_mut.ensures.value)
@@ -79,10 +80,10 @@ returns-in-Ok-clause-rest g c =
     let acted = c.handle_at in
     let cx = c.args.cx.now in
     record {
-      seated = in_table (λ us. KeepsSeated self.table.items us cx acted.new.cx) self.table.len acted.new.table self.table.items (acted.ensures.acts.len ∙ ap length c.deref_mut.ensures.value ∙ sym self.table.ok.0)
+      seated = taken_table (λ us. KeepsSeated self.table.items us cx acted.new.cx) self.table.len acted.new.table self.table.items (acted.ensures.acts.len ∙ ap length c.deref_mut.ensures.value ∙ sym self.table.ok.0)
           (subst (λ ts. KeepsSeated ts acted.new.table cx acted.new.cx) c.deref_mut.ensures.value acted.ensures.live.seated);
       others = subst (λ ts. KeepsOthers c.args.first ts cx acted.new.cx) c.deref_mut.ensures.value (acted.ensures.others c.args.first);
-      live = in_table (λ us. KeepsLive self.chain acted.new.chain self.table.items us cx acted.new.cx) self.table.len acted.new.table self.table.items
+      live = taken_table (λ us. KeepsLive self.chain acted.new.chain self.table.items us cx acted.new.cx) self.table.len acted.new.table self.table.items
           (acted.ensures.acts.len ∙ ap length c.deref_mut.ensures.value ∙ sym self.table.ok.0)
           (subst (λ ts. KeepsLive self.chain acted.new.chain ts acted.new.table cx acted.new.cx) c.deref_mut.ensures.value acted.ensures.live.live);
     }
@@ -93,10 +94,10 @@ returns-in-Err-clause-rest g c =
     let acted = c.handle_at in
     let cx = c.args.cx.now in
     record {
-      seated = in_table (λ us. KeepsSeated self.table.items us cx acted.new.cx) self.table.len acted.new.table self.table.items (acted.ensures.acts.len ∙ ap length c.deref_mut.ensures.value ∙ sym self.table.ok.0)
+      seated = taken_table (λ us. KeepsSeated self.table.items us cx acted.new.cx) self.table.len acted.new.table self.table.items (acted.ensures.acts.len ∙ ap length c.deref_mut.ensures.value ∙ sym self.table.ok.0)
           (subst (λ ts. KeepsSeated ts acted.new.table cx acted.new.cx) c.deref_mut.ensures.value acted.ensures.live.seated);
       others = subst (λ ts. KeepsOthers c.args.first ts cx acted.new.cx) c.deref_mut.ensures.value (acted.ensures.others c.args.first);
-      live = in_table (λ us. KeepsLive self.chain acted.new.chain self.table.items us cx acted.new.cx) self.table.len acted.new.table self.table.items
+      live = taken_table (λ us. KeepsLive self.chain acted.new.chain self.table.items us cx acted.new.cx) self.table.len acted.new.table self.table.items
           (acted.ensures.acts.len ∙ ap length c.deref_mut.ensures.value ∙ sym self.table.ok.0)
           (subst (λ ts. KeepsLive self.chain acted.new.chain ts acted.new.table cx acted.new.cx) c.deref_mut.ensures.value acted.ensures.live.live);
     }

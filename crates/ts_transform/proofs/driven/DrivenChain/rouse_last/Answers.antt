@@ -2,7 +2,7 @@ use Rattle.std.proofs.Common.{Err, Some, ◌≡◌, ap, sym, subst, length, arit
 use Rattle.ts_transform.specs.Cover.{IsDriven}
 use Rattle.ts_transform.specs.Driving.{IsRoused, KeepsStages, all_unroused}
 use Rattle.ts_transform.specs.Flow.{MustWork}
-use Rattle.ts_transform.proofs.Driving.{drained, in_table}
+use Rattle.ts_transform.proofs.Driving.{drained}
 use Rattle.ts_transform.proofs.Kept.{adds_none, adds_ok, adds_weaker, stages_same}
 use Rattle.ts_transform.proofs.Living.{all_live}
 use Rattle.std.proofs.Common.{ℕ, List, Option, ◌++◌, refl, take, drop}
@@ -11,6 +11,7 @@ use Rattle.ts_transform.specs.declared.continuation.StageContinuation.{StageCont
 use Rattle.ts_transform.specs.declared.driven.DrivenChain.{DrivenChain}
 use Rattle.ts_transform.specs.Driven.{SameSeats}
 use Rattle.ts_transform.specs.Seats.{KeepsSeated}
+use Rattle.ts_lists.proofs.Fronts.{taken_table}
 use Rattle.ts_transform.proofs.driven.DrivenChain.rouse_last.Goals as goal
 
 pub returns-in_default-clause-driven : goal.returns-in_default-clause-driven
@@ -27,7 +28,7 @@ pub returns-in-Ok-clause-driven : goal.returns-in-Ok-clause-driven
 returns-in-Ok-clause-driven g c = λ first n chain takes given was runs.
     let self = c.args.self.now in
     let now = c.rouse_if_ready.new.cx in
-    in_table (λ us. IsDriven first self.chain us now.log.state.pending now.roles) self.table.len c.rouse_if_ready.new.table self.table.items
+    taken_table (λ us. IsDriven first self.chain us now.log.state.pending now.roles) self.table.len c.rouse_if_ready.new.table self.table.items
     (c.rouse_if_ready.ensures.stages.len ∙ ap length c.deref_mut.ensures.value ∙ sym self.table.ok.0)
     (drained first n chain self.chain self.table.items c.rouse_if_ready.new.table c.args.cx.now now takes given
     (subst (λ ts. KeepsStages c.args.cx.now now ts c.rouse_if_ready.new.table) c.deref_mut.ensures.value c.rouse_if_ready.ensures.stages)
@@ -53,7 +54,7 @@ returns-in-Err-clause-loses g c =
 same_seats : {P : Type 0} (d : DrivenChain P) (us vs : List (Option StageContinuation)) (n : ℕ) (a b : Context) → vs ≡ d.table.items → length us ≡ n → KeepsStages a b vs us
     → (all_unroused (take n (us ++ drop (length us) d.table.items)) ≡ all_unroused d.table.items) × KeepsSeated d.table.items (take n (us ++ drop (length us) d.table.items)) a b
 same_seats d us vs n a b value len h =
-    in_table (λ xs. (all_unroused xs ≡ all_unroused d.table.items) × KeepsSeated d.table.items xs a b) n us d.table.items len
+    taken_table (λ xs. (all_unroused xs ≡ all_unroused d.table.items) × KeepsSeated d.table.items xs a b) n us d.table.items len
     (h.same ∙ ap all_unroused value, subst (λ ts. KeepsSeated ts us a b) value h.seated)
 
 pub returns-in-Ok-clause-same : goal.returns-in-Ok-clause-same

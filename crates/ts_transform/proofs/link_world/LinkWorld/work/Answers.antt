@@ -1,9 +1,10 @@
-use Rattle.std.proofs.Common.{◌≡◌, ◌+◌, arith, inr, refl, ap}
+use Rattle.std.proofs.Common.{◌≡◌, ◌+◌, arith, inr, refl, ap, subst}
+use Rattle.ts_transform.specs.Driving.{IsHandled}
 use Rattle.ts_transform.proofs.Carrying.{moves_stage}
 use Rattle.ts_transform.proofs.Joined.{joined_stage, linked_stage, lose_weaker, runs_before}
 use Rattle.ts_transform.proofs.Driving.{may_lose}
 use Rattle.ts_transform.proofs.Kept.{acts_none, acts_then}
-use Rattle.ts_transform.proofs.Along.{along_duty, along_stage, sure_end, sure_stage}
+use Rattle.ts_transform.proofs.Along.{along_duty, along_stage, sure_reader, sure_stage, sure_writer}
 use Rattle.ts_transform.proofs.link_world.LinkWorld.work.Goals as goal
 
 pub returns-else-role-eq-READER-clause-moves : goal.returns-else-role-eq-READER-clause-moves
@@ -57,7 +58,7 @@ returns-then-role-eq-WRITER-clause-course g c =
       live = inr (course.keeps, course.live);
       started = course.started;
       only = λ named. along_duty g.P.Transform.pause c.args.role c.args.event self.driven.chain acted.new.self.driven.chain self.driven.table.items c.args.cx.now acted.new.cx (acted.ensures.duty.only named);
-      sure = sure_end c.args.role c.args.event self acted.new.self (omega (arith, is)) (λ quiet. (acted.ensures.duties.sure quiet).0);
+      sure = sure_writer c.args.role c.args.event self acted.new.self is acted.ensures.duties.rests;
     }
 
 pub returns-then-role-eq-WRITER-clause-within : goal.returns-then-role-eq-WRITER-clause-within
@@ -77,7 +78,7 @@ returns-then-role-eq-READER-clause-course g c =
       live = inr (course.keeps, course.live);
       started = course.started;
       only = λ named. along_duty g.P.Transform.pause c.args.role c.args.event self.driven.chain acted.new.self.driven.chain self.driven.table.items c.args.cx.now acted.new.cx (acted.ensures.duty.only named);
-      sure = sure_end c.args.role c.args.event self acted.new.self (omega (arith, is)) (λ quiet. (acted.ensures.duties.sure quiet).0);
+      sure = sure_reader c.args.role c.args.event self acted.new.self is acted.ensures.duties.rests;
     }
 
 pub returns-then-role-eq-READER-clause-within : goal.returns-then-role-eq-READER-clause-within
@@ -94,3 +95,9 @@ returns-then-role-eq-READER-clause-other g c = λ nobody. absurd (nobody.no_read
 pub returns-else-role-eq-READER-clause-other : goal.returns-else-role-eq-READER-clause-other
 returns-else-role-eq-READER-clause-other g c = λ nobody.
     let other = c.handle-told.ensures.other nobody.no_stage in (ap (λ d. record c.args.self.now { driven = d }) other.0, other.1)
+
+pub returns-then-role-eq-READER-clause-joined : goal.returns-then-role-eq-READER-clause-joined
+returns-then-role-eq-READER-clause-joined g c = λ before handled was.
+    let cx = c.args.cx.now in
+    c.read_at.ensures.joined before
+    (subst (λ r. IsHandled before cx.log.state.pending cx.roles r c.args.event) c.if-role-eq-READER.true handled) was

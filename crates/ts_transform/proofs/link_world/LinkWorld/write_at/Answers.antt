@@ -1,4 +1,6 @@
-use Rattle.std.proofs.Common.{◌≡◌, true, false, refl, ap, sym, subst, ◌∙◌}
+use Rattle.std.proofs.Common.{◌≡◌, inl, inr, true, false, refl, ap, sym, subst, ◌∙◌}
+use Rattle.ts_transform.specs.Flow.{MustWrite}
+use Rattle.ts_transform.specs.Along.{EndRests, LeavesDuties}
 use Rattle.ts_transform.specs.Carrying.{AreLinked, IsJoined}
 use Rattle.ts_transform.specs.Driving.{IsNamedIf, unroused}
 use Rattle.ts_transform.proofs.Carrying.{moves_none}
@@ -64,13 +66,21 @@ returns-else-works-clause-duty g c = duty_none g.P.Transform.pause c.args.self.n
 
 -- It does its duty where it works, and else nothing.
 pub returns-then-works-clause-duties : goal.returns-then-works-clause-duties
-returns-then-works-clause-duties g c = record {
-  does = λ works. c.write.ensures.does;
-  sure = λ quiet. absurd (let wrong : true ≡ false = sym c.if-works.true ∙ c.works.ensures ∙ quiet in cc);
-}
+returns-then-works-clause-duties g c = record { does = λ works. c.write.ensures.does; rests = leaves }
+  where
+    leaves : EndRests c.args.event (MustWrite c.args.self.now.driven.chain) → LeavesDuties c.args.self.now c.write.new.self
+    leaves (inl quiet) = absurd (let wrong : true ≡ false = sym c.if-works.true ∙ c.works.ensures ∙ quiet in cc)
+    leaves (inr rests) =
+        let same = c.write.ensures.rests rests in
+        record {
+          running = ap (λ x. x.driven.running) same;
+          chain = ap (λ x. x.driven.chain) same;
+          writer = λ must. absurd (rests must);
+          reader = λ must. ap (λ x. x.reader) same;
+        }
 
 pub returns-else-works-clause-duties : goal.returns-else-works-clause-duties
 returns-else-works-clause-duties g c = record {
   does = λ works. absurd (let wrong : false ≡ true = sym c.if-works.false ∙ c.works.ensures ∙ works in cc);
-  sure = λ quiet. (refl, refl);
+  rests = λ quiet. record { running = refl; chain = refl; writer = λ must. refl; reader = λ must. refl };
 }

@@ -1,6 +1,0 @@
--- The turn goes on.
-use Rattle.std.specs.Prelude.{◌≡◌, true}
-use Rattle.ts_transform.proofs.world_tests.runs_through.Given as goal
-
-abbrev pub invariant-events : goal.invariant-events
-invariant-events l = record { turn : l.cx.log.state.held ≡ true }
