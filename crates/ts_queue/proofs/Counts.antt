@@ -8,7 +8,7 @@ use Rattle.std.proofs.lemmas.Bool.Decides.{nat_tests}
 use mathlib.Core.Option.{some}
 use lib.ListN.{get_elem?}
 use Rattle.ts_queue.specs.declared.ticket.Ticket.{Ticket}
-use Rattle.ts_queue.specs.declared.view.View.{View}
+use Rattle.ts_queue.specs.declared.view.PassView.{PassView}
 use Rattle.ts_queue.specs.Tickets.{is_numbered, is_same_ticket}
 use Rattle.ts_queue.specs.Views.{spent, owned, kept_part, split_part}
 use Rattle.ts_queue.specs.Rule.{IsLawfulView, IsLawfulQueue}
@@ -73,7 +73,7 @@ pub owned-spent : (x : ℕ) → owned x spent ≡ 0
 owned-spent x = grind (arith, nat_tests)
 
 -- a number that was free goes to the pass that is split off
-pub owned-split : (x : ℕ) (v : View) → v.free_from < v.free_to
+pub owned-split : (x : ℕ) (v : PassView) → v.free_from < v.free_to
     → owned x (kept_part v) + owned x (split_part v) ≡ owned x v
 owned-split x v free = grind (arith, nat_tests)
 
@@ -89,7 +89,7 @@ spent_lawful = record {
 }
 
 -- a pass that does not have a number as a name put no ticket under it
-pub count-unnamed : (p s : ℕ) (v : View) → IsLawfulView v → owned p v ≡ 0
+pub count-unnamed : (p s : ℕ) (v : PassView) → IsLawfulView v → owned p v ≡ 0
     → count_by (is_numbered p s) v.put ≡ 0
 count-unnamed p s v ok none = count_none p s v.put (λ k d in' e _.
     let name : 0 < count_by (λ n. n == (get_or v.put k d).putter) v.names = (ok.names k d in').0 in
@@ -98,12 +98,13 @@ count-unnamed p s v ok none = count_none p s v.put (λ k d in' e _.
     omega arith)
 
 -- no pass put a ticket under this pass's number with a serial above its last
-pub none_later : (items : List Ticket) (views : List View) (id : ℕ) (v : View) → IsLawfulQueue items views
+pub none_later : (items : List Ticket) (views : List PassView) (id : ℕ) (v : PassView)
+    → IsLawfulQueue items views
     → get_elem? views id ≡ some v → 0 < v.share → (s : ℕ) → v.serial < s
     → sum_by (λ u. count_by (is_numbered v.number s) u.put) views ≡ 0
 none_later items views id v h at alive s later =
-    let F : View → ℕ = λ u. count_by (is_numbered v.number s) u.put in
-    let others : List View = set views id spent in
+    let F : PassView → ℕ = λ u. count_by (is_numbered v.number s) u.put in
+    let others : List PassView = set views id spent in
     let mine : IsLawfulView v = All-contains IsLawfulView views v h.each_view (place_contained views id v at)
     in
     let own : 0 < count_by (λ n. n == v.number) v.names = mine.own alive in

@@ -10,7 +10,7 @@ use Rattle.crossbeam_queue.specs.Fifo.{Pushes, Pops, Learns, Forks, Merges}
 use Rattle.crossbeam_queue.proofs.Lists.{set_else}
 use Rattle.ts_queue.specs.declared.TheConstants.{WHOLE_SHARE}
 use Rattle.ts_queue.specs.declared.ticket.Ticket.{Ticket}
-use Rattle.ts_queue.specs.declared.view.View.{View}
+use Rattle.ts_queue.specs.declared.view.PassView.{PassView}
 use Rattle.ts_queue.specs.Tickets.{is_numbered, is_same_ticket, IsInOrder, Exactly}
 use Rattle.ts_queue.specs.Views.{spent, owned, putting, taking, kept_part, split_part, with_joined}
 use Rattle.ts_queue.specs.Rule.{IsLawfulView, IsLawfulQueue}
@@ -21,16 +21,16 @@ use Rattle.ts_lists.proofs.Elements.{all_pairs_head, all_pairs_tail}
 use Rattle.ts_queue.proofs.Counts.{one_if, numbered_cases, same-le-numbered, all_low, owned-spent, owned-split, named-itself, spent_lawful, none_later}
 
 -- the view that a lawful list has at a place is lawful
-view_at : (items : List Ticket) (views : List View) (id : ℕ) (v : View) → IsLawfulQueue items views
+view_at : (items : List Ticket) (views : List PassView) (id : ℕ) (v : PassView) → IsLawfulQueue items views
     → get_elem? views id ≡ some v → IsLawfulView v
 view_at items views id v h at = All-contains IsLawfulView views v h.each_view (place_contained views id v at)
 
 -- each ticket that a pass took comes before those of a list
-abbrev IsAhead : List Ticket → View → Type 0
+abbrev IsAhead : List Ticket → PassView → Type 0
 IsAhead items v = All (λ t. All (IsInOrder t) items) v.taken
 
 -- no ticket in the queue, and none that was taken, is under this pass's number and above its last serial
-none_left : (items : List Ticket) (views : List View) (id : ℕ) (v : View) → IsLawfulQueue items views
+none_left : (items : List Ticket) (views : List PassView) (id : ℕ) (v : PassView) → IsLawfulQueue items views
     → get_elem? views id ≡ some v → 0 < v.share → (s : ℕ) → v.serial < s
     → sum_by (λ u. count_by (is_numbered v.number s) u.taken) views + count_by (is_numbered v.number s) items
     ≡ 0
@@ -38,7 +38,8 @@ none_left items views id v h at alive s later =
     sym (h.balance (λ t. one_if (is_numbered v.number s t))) ∙ none_later items views id v h at alive s later
 
 -- a pass that put its next ticket is lawful
-put_view : (v : View) (t : Ticket) → IsLawfulView v → 0 < v.share → t.putter ≡ v.number → v.serial < t.serial
+put_view : (v : PassView) (t : Ticket) → IsLawfulView v → 0 < v.share → t.putter ≡ v.number
+    → v.serial < t.serial
     → IsLawfulView (putting t v)
 put_view v t ok alive mine later = record {
   own = ok.own;
@@ -58,12 +59,12 @@ put_view v t ok alive mine later = record {
 }
 
 -- no serial is put twice when a pass puts its next ticket
-put_once : (items : List Ticket) (views : List View) (id : ℕ) (v : View) (t : Ticket)
+put_once : (items : List Ticket) (views : List PassView) (id : ℕ) (v : PassView) (t : Ticket)
     → IsLawfulQueue items views → get_elem? views id ≡ some v → 0 < v.share → t.putter ≡ v.number
     → v.serial < t.serial
     → (p s : ℕ) → sum_by (λ u. count_by (is_numbered p s) u.put) (set views id (putting t v)) ≤ 1
 put_once items views id v t h at alive mine later p s =
-    let F : View → ℕ = λ u. count_by (is_numbered p s) u.put in
+    let F : PassView → ℕ = λ u. count_by (is_numbered p s) u.put in
     let all : sum_by F views ≤ 1 = h.once p s in
     let more : count_by (is_numbered p s) (t ∷ v.put) ≡ one_if (is_numbered p s t) + count_by
     (is_numbered p s) v.put = sum_by-cons (λ (u : Ticket). one_if (is_numbered p s u)) t v.put in
@@ -81,31 +82,32 @@ put_once items views id v t h at alive mine later p s =
     (λ (no : one_if (is_numbered p s t) ≡ 0). omega arith)
     (numbered_cases p s t)
 
-put_kept : (items : List Ticket) (views : List View) (id : ℕ) (v : View) (t : Ticket)
+put_kept : (items : List Ticket) (views : List PassView) (id : ℕ) (v : PassView) (t : Ticket)
     → IsLawfulQueue items views → get_elem? views id ≡ some v → 0 < v.share → t.putter ≡ v.number
     → v.serial < t.serial
     → IsLawfulQueue (items ++ t ∷ []) (set views id (putting t v))
 put_kept items views id v t h at alive mine later =
-    let w : View = putting t v in
+    let w : PassView = putting t v in
     let low_items : All (λ u. u.putter ≡ v.number → u.serial ≤ v.serial) items = all_low v.number v.serial
     items (λ s lt. let none = none_left items views id v h at alive s lt in omega arith) in
     let ahead : All (IsAhead (items ++ t ∷ [])) views = λ k d in' j e in''.
     let low : All (λ x. x.putter ≡ v.number → x.serial ≤ v.serial) (get_or views k d).taken = all_low v.number
     v.serial (get_or views k d).taken (λ s lt.
     let none = none_left items views id v h at alive s lt in
-    let le = get_or-le-sum_by (λ (u : View). count_by (is_numbered v.number s) u.taken) views k d in' in
+    let le = get_or-le-sum_by (λ (u : PassView). count_by (is_numbered v.number s) u.taken) views k d in' in
     omega arith) in
     let x : Ticket = get_or (get_or views k d).taken j e in
     All-push (IsInOrder x) items t (h.before k d in' j e in'')
     (λ same. let le : x.serial ≤ v.serial = low j e in'' (sym same ∙ mine) in omega arith) in
     record {
-      shares = let one = sum_by-set_at (λ (u : View). u.share) views id v w at in let all = h.shares in omega
+      shares = let one = sum_by-set_at (λ (u : PassView). u.share) views id v w at in let all = h.shares in
+          omega
           arith;
       apart = λ x. let one = sum_by-set_at (owned x) views id v w at in let all = h.apart x in omega arith;
       once = put_once items views id v t h at alive mine later;
       balance = λ f.
-          let puts = sum_by-set_at (λ (u : View). sum_by f u.put) views id v w at in
-          let takes = sum_by-set_at (λ (u : View). sum_by f u.taken) views id v w at in
+          let puts = sum_by-set_at (λ (u : PassView). sum_by f u.put) views id v w at in
+          let takes = sum_by-set_at (λ (u : PassView). sum_by f u.taken) views id v w at in
           let all = h.balance f in
           omega (arith, sum_by-cons f t v.put, sum_by_push f items t);
       rising = all_pairs_push IsInOrder items t h.rising
@@ -117,28 +119,31 @@ put_kept items views id v t h at alive mine later =
           (put_view v t (view_at items views id v h at) alive mine later) h.each_view;
     }
 
-pub put_step : (n id : ℕ) (v : View) (t : Ticket) → 0 < v.share → t.putter ≡ v.number → v.serial < t.serial
+pub put_step : (n id : ℕ) (v : PassView) (t : Ticket) → 0 < v.share → t.putter ≡ v.number
+    → v.serial < t.serial
     → Pushes IsLawfulQueue n id v t (λ w. w ≡ putting t v)
 put_step n id v t alive mine later items views room h at =
     (putting t v, put_kept items views id v t h at alive mine later, refl)
 
-take_kept : (items : List Ticket) (views : List View) (id : ℕ) (v : View) (t : Ticket)
+take_kept : (items : List Ticket) (views : List PassView) (id : ℕ) (v : PassView) (t : Ticket)
     → IsLawfulQueue (t ∷ items) views → get_elem? views id ≡ some v → 0 < v.share
     → IsLawfulQueue items (set views id (taking t v))
 take_kept items views id v t h at alive =
-    let w : View = taking t v in
+    let w : PassView = taking t v in
     let ok : IsLawfulView v = view_at (t ∷ items) views id v h at in
     let ahead : All (IsAhead items) views = λ k d in' j e in''. All-tail
     (IsInOrder (get_or (get_or views k d).taken j e)) t items (h.before k d in' j e in'') in
     record {
-      shares = let one = sum_by-set_at (λ (u : View). u.share) views id v w at in let all = h.shares in omega
+      shares = let one = sum_by-set_at (λ (u : PassView). u.share) views id v w at in let all = h.shares in
+          omega
           arith;
       apart = λ x. let one = sum_by-set_at (owned x) views id v w at in let all = h.apart x in omega arith;
-      once = λ p s. let one = sum_by-set_at (λ (u : View). count_by (is_numbered p s) u.put) views id v w at
+      once = λ p s. let one = sum_by-set_at (λ (u : PassView). count_by (is_numbered p s) u.put) views id v w
+          at
           in let all = h.once p s in omega arith;
       balance = λ f.
-          let puts = sum_by-set_at (λ (u : View). sum_by f u.put) views id v w at in
-          let takes = sum_by-set_at (λ (u : View). sum_by f u.taken) views id v w at in
+          let puts = sum_by-set_at (λ (u : PassView). sum_by f u.put) views id v w at in
+          let takes = sum_by-set_at (λ (u : PassView). sum_by f u.taken) views id v w at in
           let all = h.balance f in
           omega (arith, sum_by-cons f t v.taken, sum_by-cons f t items);
       rising = all_pairs_tail IsInOrder t items h.rising;
@@ -152,7 +157,7 @@ take_kept items views id v t h at alive =
           h.each_view;
     }
 
-pub take_step : (id : ℕ) (v : View) → 0 < v.share → Pops IsLawfulQueue id v (TakesTicket v)
+pub take_step : (id : ℕ) (v : PassView) → 0 < v.share → Pops IsLawfulQueue id v (TakesTicket v)
 take_step id v alive t items views h at = (
   taking t v,
   take_kept items views id v t h at alive,
@@ -166,7 +171,7 @@ take_step id v alive t items views h at = (
         let f : Ticket → ℕ = λ u. one_if (is_numbered p s u) in
         let all : sum_by (λ u. sum_by f u.put) views ≤ 1 = h.once p s in
         let taken : sum_by f v.taken ≤ sum_by (λ u. sum_by f u.taken) views = le-sum_by_at
-        (λ (u : View). sum_by f u.taken) views id v at in
+        (λ (u : PassView). sum_by f u.taken) views id v at in
         let even = h.balance f in
         omega (arith, sum_by-cons f t v.taken, sum_by-cons f t items);
     front = (items, record { views = views; there = place_contained views id v at; lawful = h });
@@ -174,35 +179,37 @@ take_step id v alive t items views h at = (
 )
 
 -- of views that are lawful and have no share, nothing is counted
-nothing_left : (G : View → ℕ) (views : List View) → G spent ≡ 0 → All IsLawfulView views
+nothing_left : (G : PassView → ℕ) (views : List PassView) → G spent ≡ 0 → All IsLawfulView views
     → sum_by (λ u. u.share) views ≡ 0 → sum_by G views ≡ 0
-nothing_left G views none ok shares = sum_by-zero_by IsLawfulView (λ (u : View). u.share) G
+nothing_left G views none ok shares = sum_by-zero_by IsLawfulView (λ (u : PassView). u.share) G
     (λ u fine zero_share. ap G (fine.blank zero_share) ∙ none) views ok shares
 
 -- where the queue is empty, a pass with the whole share took exactly what was put
-whole_taken : (views : List View) (id : ℕ) (v : View) → IsLawfulQueue [] views → get_elem? views id ≡ some v
+whole_taken : (views : List PassView) (id : ℕ) (v : PassView) → IsLawfulQueue [] views
+    → get_elem? views id ≡ some v
     → v.share ≡ WHOLE_SHARE → Exactly v.put v.taken
 whole_taken views id v h at whole t =
     let f : Ticket → ℕ = λ u. one_if (is_same_ticket t u) in
     let g : Ticket → ℕ = λ u. one_if (is_numbered t.putter t.serial u) in
-    let others : List View = set views id spent in
+    let others : List PassView = set views id spent in
     let fine : All IsLawfulView others = All-set IsLawfulView views id spent spent_lawful h.each_view in
-    let shares : sum_by (λ u. u.share) others ≡ 0 = let one = sum_by-set_at (λ (u : View). u.share) views id v
+    let shares : sum_by (λ u. u.share) others ≡ 0 = let one = sum_by-set_at (λ (u : PassView). u.share) views
+        id v
     spent at in let all = h.shares in omega arith in
     let puts : sum_by (λ u. sum_by f u.put) others ≡ 0 = nothing_left (λ u. sum_by f u.put) others refl fine
     shares in
     let takes : sum_by (λ u. sum_by f u.taken) others ≡ 0 = nothing_left (λ u. sum_by f u.taken) others refl
     fine shares in
-    let put_here = sum_by-set_at (λ (u : View). sum_by f u.put) views id v spent at in
-    let took_here = sum_by-set_at (λ (u : View). sum_by f u.taken) views id v spent at in
+    let put_here = sum_by-set_at (λ (u : PassView). sum_by f u.put) views id v spent at in
+    let took_here = sum_by-set_at (λ (u : PassView). sum_by f u.taken) views id v spent at in
     let even = h.balance f in
     let once : sum_by (λ u. sum_by g u.put) views ≤ 1 = h.once t.putter t.serial in
     let mine : sum_by g v.put ≤ sum_by (λ u. sum_by g u.put) views = le-sum_by_at
-    (λ (u : View). sum_by g u.put) views id v at in
+    (λ (u : PassView). sum_by g u.put) views id v at in
     let less : sum_by f v.put ≤ sum_by g v.put = sum_by-le_by f g (same-le-numbered t) v.put in
     (omega arith, omega arith)
 
-pub look : (id : ℕ) (v : View) → Learns IsLawfulQueue id v (Looks v)
+pub look : (id : ℕ) (v : PassView) → Learns IsLawfulQueue id v (Looks v)
 look id v items views h at none =
     let empty : IsLawfulQueue [] views = subst (λ (ts : List Ticket). IsLawfulQueue ts views) none h in
     record {
@@ -211,12 +218,12 @@ look id v items views h at none =
           whole_taken views id v empty at;
     }
 
-pub split_step : (id : ℕ) (v : View) → 2 ≤ v.share → v.free_from < v.free_to
+pub split_step : (id : ℕ) (v : PassView) → 2 ≤ v.share → v.free_from < v.free_to
     → Forks IsLawfulQueue id v (kept_part v) (split_part v)
 split_step id v two free items views h at =
-    let l : View = kept_part v in
-    let r : View = split_part v in
-    let vs : List View = set views id l in
+    let l : PassView = kept_part v in
+    let r : PassView = split_part v in
+    let vs : List PassView = set views id l in
     let ok : IsLawfulView v = view_at items views id v h at in
     let kept : IsLawfulView l = record {
       own = λ some_share. ok.own (omega arith);
@@ -233,24 +240,25 @@ split_step id v two free items views h at =
       blank = λ none. absurd (omega arith);
     } in
     record {
-      shares = let one = sum_by-set_at (λ (u : View). u.share) views id v l at in let all = h.shares in omega
-          (arith, sum_by_push (λ (u : View). u.share) vs r);
+      shares = let one = sum_by-set_at (λ (u : PassView). u.share) views id v l at in let all = h.shares in
+          omega
+          (arith, sum_by_push (λ (u : PassView). u.share) vs r);
       apart = λ x. let one = sum_by-set_at (owned x) views id v l at in let all = h.apart x in omega
           (arith, sum_by_push (owned x) vs r, owned-split x v free);
       once = λ p s.
-          let F : View → ℕ = λ u. count_by (is_numbered p s) u.put in
+          let F : PassView → ℕ = λ u. count_by (is_numbered p s) u.put in
           let one = sum_by-set_at F views id v l at in
           let all : sum_by F views ≤ 1 = h.once p s in
           omega (arith, sum_by_push F vs r);
       balance = λ f.
-          let puts = sum_by-set_at (λ (u : View). sum_by f u.put) views id v l at in
-          let takes = sum_by-set_at (λ (u : View). sum_by f u.taken) views id v l at in
+          let puts = sum_by-set_at (λ (u : PassView). sum_by f u.put) views id v l at in
+          let takes = sum_by-set_at (λ (u : PassView). sum_by f u.taken) views id v l at in
           let all = h.balance f in
           omega (
             arith,
-            sum_by_push (λ (u : View). sum_by f u.put) vs r,
+            sum_by_push (λ (u : PassView). sum_by f u.put) vs r,
             sum_by_push
-                (λ (u : View). sum_by f u.taken) vs r,
+                (λ (u : PassView). sum_by f u.taken) vs r,
           );
       rising = h.rising;
       before =
@@ -262,7 +270,7 @@ split_step id v two free items views h at =
     }
 
 -- a pass to which another was joined is lawful
-joined_view : (items : List Ticket) (views : List View) (id : ℕ) (v : View) (other : ℕ) (w : View)
+joined_view : (items : List Ticket) (views : List PassView) (id : ℕ) (v : PassView) (other : ℕ) (w : PassView)
     → IsLawfulQueue items views → get_elem? views id ≡ some v → get_elem? views other ≡ some w
     → (id ≡ other → ⊥) → 0 < v.share → IsLawfulView (with_joined v w)
 joined_view items views id v other w h at was apart alive =
@@ -293,13 +301,13 @@ joined_view items views id v other w h at was apart alive =
       blank = λ none. absurd (omega arith);
     }
 
-pub join_step : (id : ℕ) (v : View) (other : ℕ) (w : View) → 0 < v.share
+pub join_step : (id : ℕ) (v : PassView) (other : ℕ) (w : PassView) → 0 < v.share
     → Merges IsLawfulQueue id v other w (with_joined v w) spent
 join_step id v other w alive items views h at apart there =
-    let b : View = with_joined v w in
-    let vs : List View = set views id b in
+    let b : PassView = with_joined v w in
+    let vs : List PassView = set views id b in
     let was : get_elem? views other ≡ some w = sym (set_else views id other b apart) ∙ there in
-    let sums : (G : View → ℕ) → (sum_by G vs + G v ≡ sum_by G views + G b) ×
+    let sums : (G : PassView → ℕ) → (sum_by G vs + G v ≡ sum_by G views + G b) ×
     (sum_by G (set vs other spent) + G w ≡ sum_by G vs + G spent) = λ G.
     (sum_by-set_at G views id v b at, sum_by-set_at G vs other w spent there) in
     record {

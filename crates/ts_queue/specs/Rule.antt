@@ -4,7 +4,7 @@
 use Rattle.std.specs.Prelude.{◌≡◌, ℕ, ◌+◌, ◌==◌, ◌<◌, ◌≤◌, List, All, AllPairs, Contains, sum_by, count_by}
 use Rattle.ts_queue.specs.declared.TheConstants.{WHOLE_SHARE}
 use Rattle.ts_queue.specs.declared.ticket.Ticket.{Ticket}
-use Rattle.ts_queue.specs.declared.view.View.{View}
+use Rattle.ts_queue.specs.declared.view.PassView.{PassView}
 use Rattle.ts_queue.specs.Tickets.{is_numbered, IsInOrder}
 use Rattle.ts_queue.specs.Views.{spent, owned}
 
@@ -12,13 +12,13 @@ use Rattle.ts_queue.specs.Views.{spent, owned}
 -- serial from 1 on; those under its own number have no serial above its last; and without a share nothing is
 -- left
 -- of it.
-pub record IsLawfulView (v : View) : Type 0 where
+pub record IsLawfulView (v : PassView) : Type 0 where
   pub own : 0 < v.share → 0 < count_by (λ n. n == v.number) v.names
   pub names : All (λ t. (0 < count_by (λ n. n == t.putter) v.names) × (0 < t.serial)) v.put
   pub last : All (λ t. t.putter ≡ v.number → t.serial ≤ v.serial) v.put
   pub blank : v.share ≡ 0 → v ≡ spent
 
-pub record IsLawfulQueue (items : List Ticket) (views : List View) : Type 0 where
+pub record IsLawfulQueue (items : List Ticket) (views : List PassView) : Type 0 where
   -- the shares of all passes make up the whole
   pub shares : sum_by (λ v. v.share) views ≡ WHOLE_SHARE
   -- no number is had twice
@@ -35,7 +35,7 @@ pub record IsLawfulQueue (items : List Ticket) (views : List View) : Type 0 wher
   pub each_view : All IsLawfulView views
 
 -- At one moment the queue held these tickets, and one of its passes knew this.
-pub record Moment (known : View) (items : List Ticket) : Type 0 where
-  pub views : List View
+pub record Moment (known : PassView) (items : List Ticket) : Type 0 where
+  pub views : List PassView
   pub there : Contains views known
   pub lawful : IsLawfulQueue items views

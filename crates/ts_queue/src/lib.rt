@@ -9,7 +9,7 @@ mod view;
 
 pub use queue::{EventQueue, QueuePass};
 pub use ticket::{Ticket, Token};
-pub use view::View;
+pub use view::PassView;
 
 /// How many parts the share of a queue has. A pass with all of them is the only one that is left.
 pub const WHOLE_SHARE: u64 = 4_294_967_296;

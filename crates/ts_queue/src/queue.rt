@@ -6,7 +6,7 @@ ghost use Rattle.ts_queue.specs.declared.TheConstants.{WHOLE_SHARE};
 use crate::WHOLE_SHARE;
 use crate::rule::{EachTicketOnce, JoinStep, PutStep, SplitStep, TakeStep};
 use crate::ticket::{Ticket, Token};
-use crate::view::View;
+use crate::view::PassView;
 use crossbeam_queue::{RuledSegQueue, SegPass};
 use std::alloc::Global;
 use std::sync::Wait;
@@ -14,13 +14,13 @@ use ts_link::NoMemory;
 
 /// A queue of tickets that many threads share by reference.
 pub struct EventQueue {
-    line: RuledSegQueue<Ticket, View, EachTicketOnce>,
+    line: RuledSegQueue<Ticket, PassView, EachTicketOnce>,
 }
 
 /// What one thread has of a queue. A pass that is dropped takes its share with it: join it to another instead.
 #[derive(Drop)]
 pub struct QueuePass {
-    seat: SegPass<Ticket, View>,
+    seat: SegPass<Ticket, PassView>,
     number: u64,
     serial: u64,
     free_from: u64,

@@ -1,13 +1,13 @@
 //! The rule that each step on the queue keeps, and what each kind of step tells.
 
 use crate::ticket::Ticket;
-use crate::view::View;
+use crate::view::PassView;
 use crossbeam_queue::protocol::{Join, Lesson, Outcome, Protocol, Split};
 
 /// Each ticket is put once, and then stands in the queue or was taken once, in the order of its putter.
 pub struct EachTicketOnce;
 
-impl Protocol<Ticket, View> for EachTicketOnce {
+impl Protocol<Ticket, PassView> for EachTicketOnce {
     ghost use Rattle.ts_queue.specs.Views.{first_view};
     ghost use Rattle.ts_queue.specs.Rule.{IsLawfulQueue};
 
@@ -19,7 +19,7 @@ impl Protocol<Ticket, View> for EachTicketOnce {
 /// A ticket is put at the back.
 pub struct PutStep;
 
-impl Outcome<Ticket, View> for PutStep {
+impl Outcome<Ticket, PassView> for PutStep {
     ghost use Rattle.std.specs.Prelude.{◌≡◌};
     ghost use Rattle.ts_queue.specs.Views.{putting};
 
@@ -29,13 +29,13 @@ impl Outcome<Ticket, View> for PutStep {
 /// The ticket at the front is taken, or the queue is found empty.
 pub struct TakeStep;
 
-impl Outcome<Ticket, View> for TakeStep {
+impl Outcome<Ticket, PassView> for TakeStep {
     ghost use Rattle.ts_queue.specs.Passes.{TakesTicket};
 
     ghost then = { TakesTicket };
 }
 
-impl Lesson<Ticket, View> for TakeStep {
+impl Lesson<Ticket, PassView> for TakeStep {
     ghost use Rattle.ts_queue.specs.Passes.{Looks};
 
     ghost fact = { Looks };
@@ -44,7 +44,7 @@ impl Lesson<Ticket, View> for TakeStep {
 /// A pass is split off another.
 pub struct SplitStep;
 
-impl Split<View> for SplitStep {
+impl Split<PassView> for SplitStep {
     ghost use Rattle.ts_queue.specs.Views.{kept_part, split_part};
 
     ghost left = { kept_part };
@@ -55,7 +55,7 @@ impl Split<View> for SplitStep {
 /// A pass is joined to another.
 pub struct JoinStep;
 
-impl Join<View> for JoinStep {
+impl Join<PassView> for JoinStep {
     ghost use Rattle.ts_queue.specs.Views.{with_joined, spent};
 
     ghost both = { with_joined };

@@ -4,7 +4,7 @@ use crate::ticket::Ticket;
 use std::collections::LinkedList;
 
 /// What a pass knows, as clauses see it. No value of it is made.
-pub struct View {
+pub struct PassView {
     /// How many parts of the queue's share the pass has. One with none was joined to another.
     pub share: u64,
     /// The number of the pass, which no other pass of the queue has or had.

@@ -11,7 +11,7 @@ use mathlib.Core.Option as maybe
 use lib.ListN.{get_elem?}
 use Rattle.atomic_table.specs.Table.{State, Act, Valid, step, keeps, takes, gives, chain, carried_after, homes_after, Allows}
 use Rattle.atomic_table.proofs.Lists.{at_set, set_here, set_else}
-use Rattle.ts_slot.specs.declared.view.View.{View}
+use Rattle.ts_slot.specs.declared.view.SeatView.{SeatView}
 use Rattle.ts_slot.specs.Lists.{total, Each, IsIn, same, traced, entries, without_group}
 use Rattle.ts_slot.specs.Views.{owns}
 use Rattle.ts_slot.specs.Rule.{free, taken, worn, ViewOk}
@@ -142,16 +142,16 @@ in_one {T} k t t' c c' (e ∷ es) i j once = elim i [
 
 module _ {X G T : Type 0} (fits : G → X → Type 0) (stamp : X → ℕ) (trace : X → T) (follows : T → T → Type 0)
     (tags : List G) where
-  abbrev R : State (Option X) (View G T) → Type 0
+  abbrev R : State (Option X) (SeatView G T) → Type 0
   R = Rule fits stamp trace follows tags
 
   -- a group is held at most once
-  held_once : (s : State (Option X) (View G T)) (K : R s) (id j : ℕ) (v : View G T)
+  held_once : (s : State (Option X) (SeatView G T)) (K : R s) (id j : ℕ) (v : SeatView G T)
       → get_elem? s.views id ≡ some v → j < length tags → traced j v.held ≤ 1
   held_once s K id j v at low = go (K.each_group j low)
     where
       all : traced j v.held ≤ total (λ u. traced j u.held) s.views
-      all = total_at (λ (u : View G T). traced j u.held) s.views id v at
+      all = total_at (λ (u : SeatView G T). traced j u.held) s.views id v at
 
       go : Rattle.ts_slot.proofs.Kept.Group fits stamp trace follows tags j (slice_index s.words j)
           (total (λ u. traced j u.held) s.views) (total (λ u. entries j u.turns) s.views)
@@ -164,8 +164,8 @@ module _ {X G T : Type 0} (fits : G → X → Type 0) (stamp : X → ℕ) (trace
       → (t : ℕ) (c : T) → IsIn (k, t, c) me.0.held
       → Allows R slots id me k (λ n. n) (Fetched (step slots k 0 0 none) me)
   fetches slots id k me alive carried t c there s K deep at small =
-      let v : View G T = me.0 in
-      let w : View G T = record v { held = (k, t, c) ∷ without_group k v.held } in
+      let v : SeatView G T = me.0 in
+      let w : SeatView G T = record v { held = (k, t, c) ∷ without_group k v.held } in
       let ok : ViewOk tags s.words K.history v = K.each_view id v at in
       let low : Each (λ e. e.0 < length tags) v.held = each_map _ _ v.held
       (λ e h. let a = h.0 in let b = K.wide in in_range s.words e.0 e.1 (length tags) (omega arith) a)
@@ -193,12 +193,13 @@ module _ {X G T : Type 0} (fits : G → X → Type 0) (stamp : X → ℕ) (trace
       let homes = homes_after s.homes (emptied v.held) (bring k v.held) in
       let kept : R (record { words = s.words; homes = homes; views = set s.views id w }) =
       kept_views fits stamp trace follows tags s K homes (set s.views id w) b.long
-      (λ j idle. b.others j (let a = total_at (λ (u : View G T). traced j u.held) s.views id v at in omega
+      (λ j idle. b.others j (let a = total_at (λ (u : SeatView G T). traced j u.held) s.views id v at in omega
       arith))
-      (λ j. let a = total_set (λ (u : View G T). traced j u.held) s.views id v w at in let h = held j in omega
+      (λ j. let a = total_set (λ (u : SeatView G T). traced j u.held) s.views id v w at in let h = held j in
+          omega
       arith)
-      (λ j. let a = total_set (λ (u : View G T). entries j u.turns) s.views id v w at in omega arith)
-      (let a = total_set (λ (u : View G T). u.share) s.views id v w at in omega arith)
+      (λ j. let a = total_set (λ (u : SeatView G T). entries j u.turns) s.views id v w at in omega arith)
+      (let a = total_set (λ (u : SeatView G T). u.share) s.views id v w at in omega arith)
       (λ x. let a = total_set (owns x) s.views id v w at in let c' = K.apart x in omega arith)
       (λ j u e. ⊎_elim
       (λ (y : (j ≡ id) × (w ≡ u)). subst (ViewOk tags s.words K.history) y.1 w_ok)

@@ -12,7 +12,7 @@ use Rattle.atomic_table.proofs.Lists.{at_map}
 use Rattle.std.proofs.lemmas.List.{get_or_default}
 use Rattle.ts_lists.proofs.Pairs.{zip_at_read}
 use Rattle.ts_lists.proofs.Places.{take_place}
-use Rattle.ts_slot.specs.declared.view.View.{View}
+use Rattle.ts_slot.specs.declared.view.SeatView.{SeatView}
 use Rattle.ts_slot.specs.Lists.{total, Each, same, traced, entries}
 use Rattle.ts_slot.specs.Limits.{whole_share, last_turn}
 use Rattle.ts_slot.specs.Views.{firsts, opener, nobody, within, IsAfter}
@@ -115,14 +115,15 @@ module _ {X G T : Type 0} (fits : G → X → Type 0) (stamp : X → ℕ) (trace
           blank = λ z. absurd (omega arith);
         }
 
-        one : (id : ℕ) (v : View G T) → get_elem? (opener tags (firsts trace 0 (x ∷ xs)) ∷ []) id ≡ some v
+        one : (id : ℕ) (v : SeatView G T) → get_elem? (opener tags (firsts trace 0 (x ∷ xs)) ∷ []) id ≡ some v
             → ViewOk tags (replicate n 0) (λ k _. trace (get_or (x ∷ xs) k x)) v
         one zero v e = subst (ViewOk tags (replicate n 0) (λ k _. trace (get_or (x ∷ xs) k x)))
             (some-injective _ _ e) ok
         one (suc id) v e = absurd (some-ne-none v (sym e))
 
     -- the same, of the lists that `make` has by then
-    pub opens_with : (tags tags' : List G) (values values' : List X) (words : List ℕ) (places : List (Option X))
+    pub opens_with : (tags tags' : List G) (values values' : List X) (words : List ℕ)
+        (places : List (Option X))
         (n : ℕ) → tags' ≡ tags → values' ≡ values → words ≡ replicate n 0 → places ≡ map Some values
         → n ≡ length values → 0 < length values → AllZip fits tags values → Each (λ x. stamp x ≡ 0) values
         → ((a : T) → follows a a)
@@ -140,7 +141,7 @@ module _ {X G T : Type 0} (fits : G → X → Type 0) (stamp : X → ℕ) (trace
         (opens tags values n count some_value zip young itself))))
 
     -- A seat with the whole share knows how each group ended.
-    pub record Ended (tags : List G) (v : View G T) (k : ℕ) (slots : List (Option X)) : Type 0 where
+    pub record Ended (tags : List G) (v : SeatView G T) (k : ℕ) (slots : List (Option X)) : Type 0 where
       pub value : X
       pub there : get_elem? slots k ≡ some (Some value)
       pub fit : FitsTag fits tags k value
@@ -148,25 +149,26 @@ module _ {X G T : Type 0} (fits : G → X → Type 0) (stamp : X → ℕ) (trace
       pub later : IsAfter follows k (entries k v.turns + 1) (trace value) v.known
 
     pub ends : (on : (a b c : T) → follows a b → follows b c → follows a c) (tags : List G) (id : ℕ)
-        (v : View G T) (words : List ℕ) (slots : List (Option X)) → v.share ≡ whole_share → v.held ≡ []
+        (v : SeatView G T) (words : List ℕ) (slots : List (Option X)) → v.share ≡ whole_share → v.held ≡ []
         → Final (Seen (Rule fits stamp trace follows tags) id v) words slots → (k : ℕ) → k < length tags
         → Ended tags v k slots
     ends on tags id v words slots whole idle (s, (K, at), words_are, count, homes) k low = go
         (K.each_group k low)
       where
-        nobody_else : (j : ℕ) (u : View G T) → j ≢ id → get_elem? s.views j ≡ some u → u ≡ nobody
+        nobody_else : (j : ℕ) (u : SeatView G T) → j ≢ id → get_elem? s.views j ≡ some u → u ≡ nobody
         nobody_else j u ne there = (K.each_view j u there).blank
-            (let two = total_two (λ (y : View G T). y.share) s.views id j v u (λ e. ne (sym e)) at there in let
+            (let two = total_two (λ (y : SeatView G T). y.share) s.views id j v u (λ e. ne (sym e)) at there
+                in let
             all = K.shares in omega arith)
 
         held : total (λ u. traced k u.held) s.views ≡ 0
-        held = total_only (λ (u : View G T). traced k u.held) s.views id v at
-            (λ j u ne there. ap (λ (y : View G T). traced k y.held) (nobody_else j u ne there)) ∙ ap
+        held = total_only (λ (u : SeatView G T). traced k u.held) s.views id v at
+            (λ j u ne there. ap (λ (y : SeatView G T). traced k y.held) (nobody_else j u ne there)) ∙ ap
             (λ (l : List (ℕ × ℕ × T)). traced k l) idle
 
         counted : total (λ u. entries k u.turns) s.views ≡ entries k v.turns
-        counted = total_only (λ (u : View G T). entries k u.turns) s.views id v at
-            (λ j u ne there. ap (λ (y : View G T). entries k y.turns) (nobody_else j u ne there))
+        counted = total_only (λ (u : SeatView G T). entries k u.turns) s.views id v at
+            (λ j u ne there. ap (λ (y : SeatView G T). entries k y.turns) (nobody_else j u ne there))
 
         ok : ViewOk tags s.words K.history v
         ok = K.each_view id v at
@@ -183,7 +185,8 @@ module _ {X G T : Type 0} (fits : G → X → Type 0) (stamp : X → ℕ) (trace
               (trace x)
               (λ m reached. let c = counted in (
                 omega arith,
-                subst (λ y. follows y (K.history k m)) (sym is) (K.each_turn k m n (omega arith) (omega arith)),
+                subst (λ y. follows y (K.history k m)) (sym is)
+                    (K.each_turn k m n (omega arith) (omega arith)),
                 λ next. is ∙ ap (K.history k) (let e : n ≡ m = omega arith in e),
               )) ok;
         }

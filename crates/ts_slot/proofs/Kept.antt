@@ -10,7 +10,7 @@ use native.Mathlib.Decide.{ℕ_discrete}
 use lib.ListN.{get_elem?}
 use Rattle.atomic_table.specs.Table.{State}
 use Rattle.atomic_table.proofs.Lists.{at_set}
-use Rattle.ts_slot.specs.declared.view.View.{View}
+use Rattle.ts_slot.specs.declared.view.SeatView.{SeatView}
 use Rattle.ts_slot.specs.Lists.{total, traced, entries}
 use Rattle.ts_slot.specs.Limits.{last_turn}
 use Rattle.ts_slot.specs.Views.{owns, IsAfter}
@@ -28,7 +28,7 @@ word_rises words k n j low le =
 
 module _ {X G T : Type 0} (fits : G → X → Type 0) (stamp : X → ℕ) (trace : X → T) (follows : T → T → Type 0)
     (tags : List G) where
-  abbrev pub Rule : State (Option X) (View G T) → Type 0
+  abbrev pub Rule : State (Option X) (SeatView G T) → Type 0
   Rule = Kept fits stamp trace follows tags
 
   abbrev pub Group : ℕ → ℕ → ℕ → ℕ → maybe.Option (maybe.Option (Option X)) → (ℕ → T) → Type 0
@@ -63,13 +63,15 @@ module _ {X G T : Type 0} (fits : G → X → Type 0) (stamp : X → ℕ) (trace
           omega arith,
           t ∙ c,
           x,
-          record { tag = at.tag; tag_is = at.tag_is; home_is = same b ∙ at.home_is; fit = at.fit; old = at.old },
+          record { tag = at.tag; tag_is = at.tag_is; home_is = same b ∙ at.home_is; fit = at.fit; old = at.old
+              },
           subst (λ y. follows (trace x) y) (sym (past (last_turn - 1))) after,
         ),
       )
 
   -- what a seat knows stays so where it does not hold the group whose word rises
-  pub view_stays : (words : List ℕ) (k n : ℕ) (history history' : ℕ → ℕ → T) (v : View G T) → k < length words
+  pub view_stays : (words : List ℕ) (k n : ℕ) (history history' : ℕ → ℕ → T) (v : SeatView G T)
+      → k < length words
       → slice_index words k ≤ n
       → ((j m : ℕ) → 2 * m ≤ slice_index words j → history' j m ≡ history j m) → traced k v.held ≡ 0
       → ViewOk tags words history v → ViewOk tags (set words k n) history' v
@@ -94,7 +96,7 @@ module _ {X G T : Type 0} (fits : G → X → Type 0) (stamp : X → ℕ) (trace
   }
 
   -- what comes after each turn of a group comes after what a seat knows of it
-  pub after_known : (words : List ℕ) (history : ℕ → ℕ → T) (v : View G T) (k number : ℕ) (c : T)
+  pub after_known : (words : List ℕ) (history : ℕ → ℕ → T) (v : SeatView G T) (k number : ℕ) (c : T)
       → ((m : ℕ) → 2 * m ≤ slice_index words k → (m < number) × follows c (history k m) ×
       (m + 1 ≡ number → c ≡ history k m))
       → ViewOk tags words history v → IsAfter follows k number c v.known
@@ -107,15 +109,15 @@ module _ {X G T : Type 0} (fits : G → X → Type 0) (stamp : X → ℕ) (trace
       ok.known
 
   -- the views and the slots change, and no word does
-  pub kept_views : (s : State (Option X) (View G T)) (K : Rule s) (homes : List (maybe.Option (Option X)))
-      (views : List (View G T))
+  pub kept_views : (s : State (Option X) (SeatView G T)) (K : Rule s) (homes : List (maybe.Option (Option X)))
+      (views : List (SeatView G T))
       → length homes ≡ length s.homes
       → ((j : ℕ) → total (λ v. traced j v.held) s.views ≡ 0 → get_elem? homes j ≡ get_elem? s.homes j)
       → ((j : ℕ) → total (λ v. traced j v.held) views ≡ total (λ v. traced j v.held) s.views)
       → ((j : ℕ) → total (λ v. entries j v.turns) views ≡ total (λ v. entries j v.turns) s.views)
       → total (λ v. v.share) views ≡ total (λ v. v.share) s.views
       → ((x : ℕ) → total (owns x) views ≤ 1)
-      → ((id : ℕ) (v : View G T) → get_elem? views id ≡ some v → ViewOk tags s.words K.history v)
+      → ((id : ℕ) (v : SeatView G T) → get_elem? views id ≡ some v → ViewOk tags s.words K.history v)
       → Rule (record { words = s.words; homes = homes; views = views })
   kept_views s K homes views deep same held turns shares apart each = record {
     history = K.history;
@@ -131,15 +133,15 @@ module _ {X G T : Type 0} (fits : G → X → Type 0) (stamp : X → ℕ) (trace
 
   -- The word of one group rises in a step of one seat, which no other seat holds; the group is as it may be
   -- again.
-  pub kept_word : (s : State (Option X) (View G T)) (K : Rule s) (homes : List (maybe.Option (Option X)))
-      (history : ℕ → ℕ → T) (k n id : ℕ) (v w : View G T)
+  pub kept_word : (s : State (Option X) (SeatView G T)) (K : Rule s) (homes : List (maybe.Option (Option X)))
+      (history : ℕ → ℕ → T) (k n id : ℕ) (v w : SeatView G T)
       → k < length tags → slice_index s.words k ≤ n → get_elem? s.views id ≡ some v
       → length homes ≡ length s.homes → ((j : ℕ) → j ≢ k → get_elem? homes j ≡ get_elem? s.homes j)
       → ((j m : ℕ) → 2 * m ≤ slice_index s.words j → history j m ≡ K.history j m)
       → ((j m : ℕ) → j ≢ k → history j m ≡ K.history j m)
       → ((j : ℕ) → j ≢ k → (traced j w.held ≡ traced j v.held) × (entries j w.turns ≡ entries j v.turns))
       → (w.share ≡ v.share) × ((x : ℕ) → owns x w ≡ owns x v)
-      → ((j : ℕ) (u : View G T) → j ≢ id → get_elem? s.views j ≡ some u → traced k u.held ≡ 0)
+      → ((j : ℕ) (u : SeatView G T) → j ≢ id → get_elem? s.views j ≡ some u → traced k u.held ≡ 0)
       → Group k n (total (λ u. traced k u.held) (set s.views id w))
       (total (λ u. entries k u.turns) (set s.views id w)) (get_elem? homes k) (history k)
       → ViewOk tags (set s.words k n) history w
@@ -159,18 +161,19 @@ module _ {X G T : Type 0} (fits : G → X → Type 0) (stamp : X → ℕ) (trace
             (sym (get_or-set_same s.words k n 0 wide')) group))
             (λ ne.
             let o = others j ne in
-            let a = total_set (λ (u : View G T). traced j u.held) s.views id v w at in
-            let b = total_set (λ (u : View G T). entries j u.turns) s.views id v w at in
-            let a' : total (λ (u : View G T). traced j u.held) (set s.views id w) ≡ total
-            (λ (u : View G T). traced j u.held) s.views = let p = o.0 in omega arith in
-            let b' : total (λ (u : View G T). entries j u.turns) (set s.views id w) ≡ total
-            (λ (u : View G T). entries j u.turns) s.views = let p = o.1 in omega arith in
+            let a = total_set (λ (u : SeatView G T). traced j u.held) s.views id v w at in
+            let b = total_set (λ (u : SeatView G T). entries j u.turns) s.views id v w at in
+            let a' : total (λ (u : SeatView G T). traced j u.held) (set s.views id w) ≡ total
+            (λ (u : SeatView G T). traced j u.held) s.views = let p = o.0 in omega arith in
+            let b' : total (λ (u : SeatView G T). entries j u.turns) (set s.views id w) ≡ total
+            (λ (u : SeatView G T). entries j u.turns) s.views = let p = o.1 in omega arith in
             group_same j (slice_index s.words j) _ _ _ _ _ _ _ (K.history j) (history j)
             (get_or-set_other s.words k j n 0 ne) a' b' (λ _. there j ne) (λ m. apart_past j m ne)
             (K.each_group j in_range));
         each_view = λ j u e. ⊎_elim
             (λ (x : (j ≡ id) × (w ≡ u)). subst (ViewOk tags (set s.words k n) history) x.1 ok)
-            (λ (x : (j ≢ id) × (get_elem? s.views j ≡ some u)). view_stays s.words k n K.history history u wide'
+            (λ (x : (j ≢ id) × (get_elem? s.views j ≡ some u)). view_stays s.words k n K.history history u
+                wide'
             le past (alone j u x.0 x.1) (K.each_view j u x.1))
             (at_set s.views id j w u e);
         each_turn = λ j l m up reached. dite (ℕ_discrete j k)
@@ -179,12 +182,15 @@ module _ {X G T : Type 0} (fits : G → X → Type 0) (stamp : X → ℕ) (trace
             (set s.words k n) k = subst (λ i. 2 * m ≤ slice_index (set s.words k n) i) is reached in omega
             arith)))
             (λ ne.
-            let r : 2 * m ≤ slice_index s.words j = let e = get_or-set_other s.words k j n 0 ne in omega arith in
+            let r : 2 * m ≤ slice_index s.words j = let e = get_or-set_other s.words k j n 0 ne in omega arith
+                in
             subst (λ y. follows y (history j l)) (sym (apart_past j m ne))
             (subst (λ y. follows (K.history j m) y) (sym (apart_past j l ne)) (K.each_turn j l m up r)));
-        shares = let a = total_set (λ (u : View G T). u.share) s.views id v w at in let b = own.0 in let c =
+        shares = let a = total_set (λ (u : SeatView G T). u.share) s.views id v w at in let b = own.0 in let c
+            =
             K.shares in omega arith;
-        apart = λ x. let a = total_set (owns x) s.views id v w at in let b = own.1 x in let c = K.apart x in omega
+        apart = λ x. let a = total_set (owns x) s.views id v w at in let b = own.1 x in let c = K.apart x in
+            omega
             arith;
       }
     where

@@ -4,7 +4,7 @@ use Rattle.std.specs.Prelude.{Option, Some, None}
 use mathlib.Core.Option.{none}
 use Rattle.atomic_table.specs.Table.{step, rest as below}
 use Rattle.ts_lists.proofs.Places.{place_below}
-use Rattle.ts_slot.specs.declared.view.View.{View}
+use Rattle.ts_slot.specs.declared.view.SeatView.{SeatView}
 use Rattle.ts_slot.specs.Lists.{IsIn, rest, without_group}
 use Rattle.ts_slot.specs.Views.{freed, worn_out, latest}
 use Rattle.ts_slot.specs.Steps.{Mine, emptied, Returned, WornOut}
@@ -31,15 +31,15 @@ pub fits_low : {X G : Type 0} (fits : G → X → Type 0) (tags : List G) (k : �
     → k < length tags
 fits_low fits tags k x fit = place_below tags k fit.0 fit.1
 
-module _ {G T : Type 0} (k t : ℕ) (c : T) (v : View G T) where
+module _ {G T : Type 0} (k t : ℕ) (c : T) (v : SeatView G T) where
   -- the seat after its slot of the group k came first
-  abbrev pub fetched : View G T
+  abbrev pub fetched : SeatView G T
   fetched = record v { held = (k, t, c) ∷ without_group k v.held }
 
   without_fetched : without_group k fetched.held ≡ without_group k v.held
   without_fetched = without_top k t c (without_group k v.held)
 
-module _ {X G T : Type 0} (k t : ℕ) (c : T) (v : View G T) where
+module _ {X G T : Type 0} (k t : ℕ) (c : T) (v : SeatView G T) where
   -- the slots of its other groups
   abbrev pub others : List (ℕ × Option X)
   others = emptied (without_group k v.held)
@@ -78,7 +78,8 @@ module _ {X G T : Type 0} (k t : ℕ) (c : T) (v : View G T) where
   freed_end trace x slots l m n found first put = freed_after trace x slots m n found (puts x l m first put)
 
 -- what holds of a seat holds again
-module _ {X G T : Type 0} (n : Mine X G T) (w : View G T) (cs : List (ℕ × Option X)) (is : n ≡ (w, cs)) where
+module _ {X G T : Type 0} (n : Mine X G T) (w : SeatView G T) (cs : List (ℕ × Option X)) (is : n ≡ (w, cs))
+    where
   pub names_are : n.0.names ≡ w.names
   names_are = ap (λ (m : Mine X G T). m.0.names) is
 

@@ -13,7 +13,7 @@ use native.Mathlib.Decide.{ℕ_discrete}
 use lib.ListN.{get_elem?}
 use Rattle.atomic_table.specs.Table.{State, Act, Valid, step, keeps, takes, gives, stepped, carried_after, Allows, rest as below}
 use Rattle.atomic_table.proofs.Lists.{at_set, set_here, set_else, set_again}
-use Rattle.ts_slot.specs.declared.view.View.{View}
+use Rattle.ts_slot.specs.declared.view.SeatView.{SeatView}
 use Rattle.ts_slot.specs.Lists.{total, Each, rest, same, traced, entries, without_group}
 use Rattle.ts_slot.specs.Limits.{last_turn}
 use Rattle.ts_slot.specs.Views.{owns, won, missed, freed, worn_out, Coherent}
@@ -72,20 +72,22 @@ value_is {X} k x x' cs ds e = let s : Some x ≡ Some x' = ap (λ (y : ℕ × Op
 
 module _ {X G T : Type 0} (fits : G → X → Type 0) (stamp : X → ℕ) (trace : X → T) (follows : T → T → Type 0)
     (tags : List G) where
-  abbrev R : State (Option X) (View G T) → Type 0
+  abbrev R : State (Option X) (SeatView G T) → Type 0
   R = Rule fits stamp trace follows tags
 
   abbrev Grp : ℕ → ℕ → ℕ → ℕ → maybe.Option (maybe.Option (Option X)) → (ℕ → T) → Type 0
   Grp = Group fits stamp trace follows tags
 
   -- while no view holds the group
-  none_holds : (k : ℕ) (views : List (View G T)) (j : ℕ) (u : View G T)
+  none_holds : (k : ℕ) (views : List (SeatView G T)) (j : ℕ) (u : SeatView G T)
       → total (λ v. traced k v.held) views ≡ 0 → get_elem? views j ≡ some u → traced k u.held ≡ 0
-  none_holds k views j u idle at = let a = total_at (λ (v : View G T). traced k v.held) views j u at in omega
+  none_holds k views j u idle at = let a = total_at (λ (v : SeatView G T). traced k v.held) views j u at in
+      omega
       arith
 
   -- the step that finds the word even
-  wins : (slots id k n : ℕ) (me : Mine X G T) (s : State (Option X) (View G T)) (K : R s) → k < length tags
+  wins : (slots id k n : ℕ) (me : Mine X G T) (s : State (Option X) (SeatView G T)) (K : R s)
+      → k < length tags
       → 0 < me.0.share → get_elem? s.views id ≡ some me.0 → slice_index s.words k < 18446744073709551616
       → slice_index s.words k ≡ 2 * n → total (λ v. traced k v.held) s.views ≡ 0
       → total (λ v. entries k v.turns) s.views ≡ n
@@ -98,7 +100,7 @@ module _ {X G T : Type 0} (fits : G → X → Type 0) (stamp : X → ℕ) (trace
       let half : slice_index s.words k / 2 ≡ n = omega arith in
       let or : bit_or (slice_index s.words k) 1 ≡ slice_index s.words k + 1 = or_even (slice_index s.words k)
       n even in
-      let w : View G T = won k (slice_index s.words k / 2 + 1) (trace x) me.0 in
+      let w : SeatView G T = won k (slice_index s.words k / 2 + 1) (trace x) me.0 in
       let ok : ViewOk tags s.words K.history me.0 = K.each_view id me.0 at in
       let wide : k < length s.words = let e = K.wide in omega arith in
       let mine : traced k me.0.held ≡ 0 = none_holds k s.views id me.0 idle at in
@@ -116,8 +118,8 @@ module _ {X G T : Type 0} (fits : G → X → Type 0) (stamp : X → ℕ) (trace
         known = (((omega arith), found), stays.known);
         blank = λ zero_share. absurd (omega arith);
       } in
-      let h = total_set (λ (u : View G T). traced k u.held) s.views id me.0 w at in
-      let t = total_set (λ (u : View G T). entries k u.turns) s.views id me.0 w at in
+      let h = total_set (λ (u : SeatView G T). traced k u.held) s.views id me.0 w at in
+      let t = total_set (λ (u : SeatView G T). entries k u.turns) s.views id me.0 w at in
       let one = same_one k k refl in (
         kept_word fits stamp trace follows tags s K (set s.homes k none) K.history k
             (bit_or (slice_index s.words k) 1) id me.0 w low (omega arith) at
@@ -152,7 +154,7 @@ module _ {X G T : Type 0} (fits : G → X → Type 0) (stamp : X → ℕ) (trace
       )
 
   -- the step that finds the word odd
-  is_missed : (slots id k n : ℕ) (me : Mine X G T) (s : State (Option X) (View G T)) (K : R s)
+  is_missed : (slots id k n : ℕ) (me : Mine X G T) (s : State (Option X) (SeatView G T)) (K : R s)
       → k < length tags → get_elem? s.views id ≡ some me.0 → 0 < me.0.share
       → slice_index s.words k ≡ 2 * n + 1
       → R (stepped s k (bit_or (slice_index s.words k) 1) id me.1 (missed k (slice_index s.words k) me.0)
@@ -160,7 +162,7 @@ module _ {X G T : Type 0} (fits : G → X → Type 0) (stamp : X → ℕ) (trace
       × Entered fits stamp trace follows (step slots k 1 0 none) me (slice_index s.words k)
       (missed k (slice_index s.words k) me.0, carried_after me.1 keeps)
   is_missed slots id k n me s K low at alive odd =
-      let w : View G T = missed k (slice_index s.words k) me.0 in
+      let w : SeatView G T = missed k (slice_index s.words k) me.0 in
       let ok : ViewOk tags s.words K.history me.0 = K.each_view id me.0 at in
       let miss_ok : ViewOk tags s.words K.history w = record {
         about = ok.about;
@@ -174,9 +176,9 @@ module _ {X G T : Type 0} (fits : G → X → Type 0) (stamp : X → ℕ) (trace
       sym (ap (set s.words k) (or_odd (slice_index s.words k) n odd) ∙ set-get_or s.words k 0) in
       let kept : R (record { words = s.words; homes = s.homes; views = set s.views id w }) =
       kept_views fits stamp trace follows tags s K s.homes (set s.views id w) refl (λ j _. refl)
-      (λ j. let a = total_set (λ (u : View G T). traced j u.held) s.views id me.0 w at in omega arith)
-      (λ j. let a = total_set (λ (u : View G T). entries j u.turns) s.views id me.0 w at in omega arith)
-      (let a = total_set (λ (u : View G T). u.share) s.views id me.0 w at in omega arith)
+      (λ j. let a = total_set (λ (u : SeatView G T). traced j u.held) s.views id me.0 w at in omega arith)
+      (λ j. let a = total_set (λ (u : SeatView G T). entries j u.turns) s.views id me.0 w at in omega arith)
+      (let a = total_set (λ (u : SeatView G T). u.share) s.views id me.0 w at in omega arith)
       (λ x. let a = total_set (owns x) s.views id me.0 w at in let b = K.apart x in omega arith)
       (λ j u e. ⊎_elim
       (λ (y : (j ≡ id) × (w ≡ u)). subst (ViewOk tags s.words K.history) y.1 miss_ok)
@@ -199,7 +201,7 @@ module _ {X G T : Type 0} (fits : G → X → Type 0) (stamp : X → ℕ) (trace
     where
       go : Grp k (slice_index s.words k) (total (λ v. traced k v.held) s.views)
           (total (λ v. entries k v.turns) s.views) (get_elem? s.homes k) (K.history k)
-          → (w : View G T) × (a : Act (Option X)) × Valid s.homes me.1 a × R
+          → (w : SeatView G T) × (a : Act (Option X)) × Valid s.homes me.1 a × R
           (stepped s k (bit_or (slice_index s.words k) 1) id me.1 w a)
           × Entered fits stamp trace follows (step slots k 1 0 none) me (slice_index s.words k)
           (w, carried_after me.1 a)
@@ -214,7 +216,8 @@ module _ {X G T : Type 0} (fits : G → X → Type 0) (stamp : X → ℕ) (trace
           (missed k (slice_index s.words k) me.0, keeps, tt, r.0, r.1)
 
   -- the word and the count of a group whose turn t a seat holds
-  record Turning (s : State (Option X) (View G T)) (history : ℕ → ℕ → T) (k t : ℕ) (c : T) (v : View G T) :
+  record Turning (s : State (Option X) (SeatView G T)) (history : ℕ → ℕ → T) (k t : ℕ) (c : T)
+      (v : SeatView G T) :
       Type 0 where
     word : slice_index s.words k + 1 ≡ 2 * t
     held : total (λ u. traced k u.held) s.views ≡ 1
@@ -222,7 +225,8 @@ module _ {X G T : Type 0} (fits : G → X → Type 0) (stamp : X → ℕ) (trace
     mine : traced k v.held ≡ 1
     found : c ≡ history k (t - 1)
 
-  turning : (s : State (Option X) (View G T)) (K : R s) (id k t : ℕ) (c : T) (v : View G T) → k < length tags
+  turning : (s : State (Option X) (SeatView G T)) (K : R s) (id k t : ℕ) (c : T) (v : SeatView G T)
+      → k < length tags
       → get_elem? s.views id ≡ some v
       → v.held ≡ (k, t, c) ∷ rest v.held → Turning s K.history k t c v
   turning s K id k t c v low at top = go (K.each_group k low)
@@ -231,7 +235,7 @@ module _ {X G T : Type 0} (fits : G → X → Type 0) (stamp : X → ℕ) (trace
       mine = let e = ap (λ (l : List (ℕ × ℕ × T)). traced k l) top in let o = same_one k k refl in omega arith
 
       all : traced k v.held ≤ total (λ u. traced k u.held) s.views
-      all = total_at (λ (u : View G T). traced k u.held) s.views id v at
+      all = total_at (λ (u : SeatView G T). traced k u.held) s.views id v at
 
       first : (slice_index s.words k + 1 ≡ 2 * t) × (c ≡ K.history k (t - 1))
       first = (subst (λ l. Each (λ (e : ℕ × ℕ × T). (slice_index s.words e.0 + 1 ≡ 2 * e.1) ×
@@ -246,7 +250,8 @@ module _ {X G T : Type 0} (fits : G → X → Type 0) (stamp : X → ℕ) (trace
       go (worn, (odd, idle, turns, x, home, after)) = absurd (let a = all in let b = mine in omega arith)
 
   -- A value goes home: the group whose turn t this seat holds is free or worn.
-  goes_home : (s : State (Option X) (View G T)) (K : R s) (id k t n : ℕ) (c : T) (v w : View G T) (x : X)
+  goes_home : (s : State (Option X) (SeatView G T)) (K : R s) (id k t n : ℕ) (c : T) (v w : SeatView G T)
+      (x : X)
       (history : ℕ → ℕ → T)
       → k < length tags → get_elem? s.views id ≡ some v → Turning s K.history k t c v
       → (w.held ≡ without_group k v.held) × (w.turns ≡ v.turns) × (w.share ≡ v.share) ×
@@ -263,8 +268,8 @@ module _ {X G T : Type 0} (fits : G → X → Type 0) (stamp : X → ℕ) (trace
         views = set s.views id w;
       })
   goes_home s K id k t n c v w x history low at now part le past apart_past group ok turns =
-      let h = total_set (λ (u : View G T). traced k u.held) s.views id v w at in
-      let e = total_set (λ (u : View G T). entries k u.turns) s.views id v w at in
+      let h = total_set (λ (u : SeatView G T). traced k u.held) s.views id v w at in
+      let e = total_set (λ (u : SeatView G T). entries k u.turns) s.views id v w at in
       let w_held : traced k w.held ≡ traced k (without_group k v.held) = ap
       (λ (l : List (ℕ × ℕ × T)). traced k l) part.0 in
       let w_turns : entries k w.turns ≡ entries k v.turns = ap (λ l. entries k l) part.1 in
@@ -278,7 +283,7 @@ module _ {X G T : Type 0} (fits : G → X → Type 0) (stamp : X → ℕ) (trace
             (λ l. entries j l) part.1,
       ))
       (part.2, part.3)
-      (λ j u ne there. let two = total_two (λ (y : View G T). traced k y.held) s.views id j v u
+      (λ j u ne there. let two = total_two (λ (y : SeatView G T). traced k y.held) s.views id j v u
       (λ is. ne (sym is)) at there in omega arith)
       (group_same fits stamp trace follows tags k n n 0 _ t _ (some (some (Some x)))
       (get_elem? (set s.homes k (some (Some x))) k) (history k) (history k) refl (omega arith)
@@ -287,7 +292,7 @@ module _ {X G T : Type 0} (fits : G → X → Type 0) (stamp : X → ℕ) (trace
       ok turns
 
   -- what the seat knows still, without the group
-  lets_go : (words : List ℕ) (k n : ℕ) (history history' : ℕ → ℕ → T) (v : View G T) → k < length words
+  lets_go : (words : List ℕ) (k n : ℕ) (history history' : ℕ → ℕ → T) (v : SeatView G T) → k < length words
       → slice_index words k ≤ n
       → ((j m : ℕ) → 2 * m ≤ slice_index words j → history' j m ≡ history j m) → traced k v.held ≡ 1
       → 0 < v.share
@@ -305,7 +310,8 @@ module _ {X G T : Type 0} (fits : G → X → Type 0) (stamp : X → ℕ) (trace
       })
 
   module _ (itself : (a : T) → follows a a) (on : (a b c : T) → follows a b → follows b c → follows a c) where
-    frees_at : (slots id k t : ℕ) (c : T) (x : X) (v : View G T) (cs : List (ℕ × Option X)) → k < length tags
+    frees_at : (slots id k t : ℕ) (c : T) (x : X) (v : SeatView G T) (cs : List (ℕ × Option X))
+        → k < length tags
         → 0 < v.share
         → v.held ≡ (k, t, c) ∷ rest v.held → FitsTag fits tags k x → stamp x ≤ t → follows (trace x) c
         → t < last_turn
@@ -378,7 +384,8 @@ module _ {X G T : Type 0} (fits : G → X → Type 0) (stamp : X → ℕ) (trace
               )),
         )
 
-    pub frees : (slots id k t : ℕ) (c : T) (x : X) (v : View G T) (cs : List (ℕ × Option X)) (me : Mine X G T)
+    pub frees : (slots id k t : ℕ) (c : T) (x : X) (v : SeatView G T) (cs : List (ℕ × Option X))
+        (me : Mine X G T)
         → me ≡ (v, (k, Some x) ∷ cs) → k < length tags → 0 < v.share
         → v.held ≡ (k, t, c) ∷ rest v.held → FitsTag fits tags k x → stamp x ≤ t → follows (trace x) c
         → t < last_turn
@@ -389,7 +396,8 @@ module _ {X G T : Type 0} (fits : G → X → Type 0) (stamp : X → ℕ) (trace
         (Returned trace (step slots k 1 0 none) m)) (sym is)
         (frees_at slots id k t c x v cs low alive top fit old later young)
 
-  wears_at : (slots id k t : ℕ) (c : T) (x : X) (v : View G T) (cs : List (ℕ × Option X)) → k < length tags
+  wears_at : (slots id k t : ℕ) (c : T) (x : X) (v : SeatView G T) (cs : List (ℕ × Option X))
+      → k < length tags
       → 0 < v.share
       → v.held ≡ (k, t, c) ∷ rest v.held → FitsTag fits tags k x → stamp x ≤ t → follows (trace x) c
       → t ≡ last_turn
@@ -432,7 +440,8 @@ module _ {X G T : Type 0} (fits : G → X → Type 0) (stamp : X → ℕ) (trace
         refl,
       )
 
-  pub wears : (slots id k t : ℕ) (c : T) (x : X) (v : View G T) (cs : List (ℕ × Option X)) (me : Mine X G T)
+  pub wears : (slots id k t : ℕ) (c : T) (x : X) (v : SeatView G T) (cs : List (ℕ × Option X))
+      (me : Mine X G T)
       → me ≡ (v, (k, Some x) ∷ cs) → k < length tags → 0 < v.share
       → v.held ≡ (k, t, c) ∷ rest v.held → FitsTag fits tags k x → stamp x ≤ t → follows (trace x) c
       → t ≡ last_turn

@@ -4,7 +4,7 @@ use mathlib.Core.Option.{some}
 use mathlib.Core.Option as maybe
 use lib.ListN.{get_elem?}
 use Rattle.atomic_table.specs.Table.{State}
-use Rattle.ts_slot.specs.declared.view.View.{View}
+use Rattle.ts_slot.specs.declared.view.SeatView.{SeatView}
 use Rattle.ts_slot.specs.Lists.{total, Each, entries, traced}
 use Rattle.ts_slot.specs.Limits.{whole_share, last_turn, worn_word}
 use Rattle.ts_slot.specs.Views.{owns, nobody}
@@ -19,7 +19,7 @@ pub data Phase : Type 0 where
 -- odd and is no more than the word; a turn that it saw finished is, and its trace is that of the history. One
 -- that is spent has nothing.
 pub record ViewOk {G T : Type 0}
-    (tags : List G) (words : List ℕ) (history : ℕ → ℕ → T) (v : View G T) : Type 0 where
+    (tags : List G) (words : List ℕ) (history : ℕ → ℕ → T) (v : SeatView G T) : Type 0 where
   pub about : 0 < v.share → v.tags ≡ tags
   pub held : Each (λ e. (slice_index words e.0 + 1 ≡ 2 * e.1) × (e.2 ≡ history e.0 (e.1 - 1))) v.held
   pub missed : Each (λ e. (e.1 % 2 ≡ 1) × (e.1 ≤ slice_index words e.0)) v.misses
@@ -53,14 +53,15 @@ module _ {X G T : Type 0}
   -- The rule. There is a history: the trace that stood after each turn of each group. Each group is free,
   -- held or worn; what each seat knows is so; the trace after a later turn follows that after an earlier
   -- one; the shares add up; and no number is a seat's own or free twice.
-  pub record Kept (s : State (Option X) (View G T)) : Type 0 where
+  pub record Kept (s : State (Option X) (SeatView G T)) : Type 0 where
     pub history : ℕ → ℕ → T
     pub wide : length s.words ≡ length tags
     pub deep : length s.homes ≡ length tags
     pub each_group : (k : ℕ) → k < length tags
         → GroupOk k (slice_index s.words k) (total (λ v. traced k v.held) s.views)
         (total (λ v. entries k v.turns) s.views) (get_elem? s.homes k) (history k)
-    pub each_view : (id : ℕ) (v : View G T) → get_elem? s.views id ≡ some v → ViewOk tags s.words history v
+    pub each_view : (id : ℕ) (v : SeatView G T) → get_elem? s.views id ≡ some v
+        → ViewOk tags s.words history v
     pub each_turn : (k n m : ℕ) → n ≤ m → 2 * m ≤ slice_index s.words k → follows (history k m) (history k n)
     pub shares : total (λ v. v.share) s.views ≡ whole_share
     pub apart : (x : ℕ) → total (owns x) s.views ≤ 1

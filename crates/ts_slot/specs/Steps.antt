@@ -3,7 +3,7 @@ use Rattle.std.specs.Prelude.{◌≡◌, ℕ, ◌+◌, ◌*◌, ◌/◌, ◌%◌
 use mathlib.Core.Option.{some}
 use lib.ListN.{get_elem?}
 use Rattle.atomic_table.specs.Table.{Me, Step, Act, keeps, takes, gives, chain, rest as below}
-use Rattle.ts_slot.specs.declared.view.View.{View}
+use Rattle.ts_slot.specs.declared.view.SeatView.{SeatView}
 use Rattle.ts_slot.specs.Lists.{Each, IsIn, rest, traced, without_group}
 use Rattle.ts_slot.specs.Views.{won, missed, freed, worn_out, Coherent, IsAfter}
 
@@ -20,7 +20,7 @@ bring k (h ∷ hs) = cond (eqb h.0 k) keeps
 
 -- a seat's view, and the slots that it carries
 abbrev pub Mine : Type 0 → Type 0 → Type 0 → Type 0
-Mine X G T = Me (Option X) (View G T)
+Mine X G T = Me (Option X) (SeatView G T)
 
 module _ {X G T : Type 0} where
   -- An even word gives the group, which the seat did not hold, and its value, whose trace comes after all

@@ -1,6 +1,6 @@
 -- What a seat knows of the slots, and how each step changes it.
 use Rattle.std.specs.Prelude.{◌≡◌, ℕ, ◌+◌, ◌-◌, ◌≤◌, ◌<◌, cond, eqb, ltb, leb, List, [], ◌∷◌, ◌++◌, Option, Some, None}
-use Rattle.ts_slot.specs.declared.view.View.{View}
+use Rattle.ts_slot.specs.declared.view.SeatView.{SeatView}
 use Rattle.ts_slot.specs.Lists.{total, Each, same, without_group}
 use Rattle.ts_slot.specs.Limits.{whole_share}
 
@@ -15,7 +15,7 @@ firsts trace k (x ∷ xs) = (k, 0, trace x) ∷ firsts trace (k + 1) xs
 
 module _ {G T : Type 0} where
   -- the first seat: it has the whole share, the number 0 and all other numbers
-  abbrev pub opener : List G → List (ℕ × ℕ × T) → View G T
+  abbrev pub opener : List G → List (ℕ × ℕ × T) → SeatView G T
   opener gs ks = record {
     tags = gs;
     share = whole_share;
@@ -29,7 +29,7 @@ module _ {G T : Type 0} where
   }
 
   -- a seat that was joined to another is spent
-  abbrev pub nobody : View G T
+  abbrev pub nobody : SeatView G T
   nobody = record {
     tags = [];
     share = 0;
@@ -43,11 +43,11 @@ module _ {G T : Type 0} where
   }
 
   -- how often the seat has the number x, as its own or free
-  abbrev pub owns : ℕ → View G T → ℕ
+  abbrev pub owns : ℕ → SeatView G T → ℕ
   owns x v = total (λ y. same y x) v.names + within v.free_from v.free_to x
 
   -- the group k was won for its turn t, where the trace c was found
-  abbrev pub won : ℕ → ℕ → T → View G T → View G T
+  abbrev pub won : ℕ → ℕ → T → SeatView G T → SeatView G T
   won k t c v = record v {
     held = (k, t, c) ∷ v.held;
     turns = (k, t) ∷ v.turns;
@@ -55,22 +55,22 @@ module _ {G T : Type 0} where
   }
 
   -- the group k was held by another: its word was n
-  abbrev pub missed : ℕ → ℕ → View G T → View G T
+  abbrev pub missed : ℕ → ℕ → SeatView G T → SeatView G T
   missed k n v = record v { misses = (k, n) ∷ v.misses }
 
   -- the group k was left after its turn t, with the trace c
-  abbrev pub freed : ℕ → ℕ → T → View G T → View G T
+  abbrev pub freed : ℕ → ℕ → T → SeatView G T → SeatView G T
   freed k t c v = record v { held = without_group k v.held; known = (k, t, c) ∷ v.known }
 
   -- the group k was left after its last turn
-  abbrev pub worn_out : ℕ → View G T → View G T
+  abbrev pub worn_out : ℕ → SeatView G T → SeatView G T
   worn_out k v = record v { held = without_group k v.held }
 
   -- a seat that was split: what stays, and what the new one has
-  abbrev pub left_half : View G T → View G T
+  abbrev pub left_half : SeatView G T → SeatView G T
   left_half v = record v { share = v.share - 1; free_from = v.free_from + 1 }
 
-  abbrev pub right_half : View G T → View G T
+  abbrev pub right_half : SeatView G T → SeatView G T
   right_half v = record {
     tags = v.tags;
     share = 1;
@@ -84,7 +84,7 @@ module _ {G T : Type 0} where
   }
 
   -- the second seat is joined to the first
-  abbrev pub joined : View G T → View G T → View G T
+  abbrev pub joined : SeatView G T → SeatView G T → SeatView G T
   joined v w = record v { share = v.share + w.share; turns = w.turns ++ v.turns; known = w.known ++ v.known }
 
 -- of the traces that are known of one group, that after the later turn follows the other, and one turn has

@@ -4,7 +4,7 @@ use Rattle.std.specs.List.{Contains}
 use mathlib.Core.Option.{some}
 use lib.ListN.{get_elem?}
 use Rattle.ts_journal.specs.declared.slotted.Slotted.{Ghosts}
-use Rattle.ts_slot.specs.declared.view.View.{View}
+use Rattle.ts_slot.specs.declared.view.SeatView.{SeatView}
 use Rattle.ts_slot.specs.declared.seat.Seat.{Seat}
 use Rattle.ts_slot.specs.declared.seat.Turn.{Turn}
 use Rattle.ts_slot.specs.declared.slots.Slots.{Slots}
@@ -28,22 +28,22 @@ pub record GivesUp {T : Type 0} (k : ℕ) (old new : List (ℕ × ℕ × T)) : T
 
 module _ {G T : Type 0} where
   -- the seat does not hold the group k
-  abbrev pub HoldsNot : View G T → ℕ → Type 0
+  abbrev pub HoldsNot : SeatView G T → ℕ → Type 0
   HoldsNot v k = traced k v.held ≡ 0
 
   -- the group k was won last, for this turn, and this trace was found
-  abbrev pub IsTop : View G T → ℕ → ℕ → T → Type 0
+  abbrev pub IsTop : SeatView G T → ℕ → ℕ → T → Type 0
   IsTop v k turn c = v.held ≡ (k, turn, c) ∷ rest v.held
 
   -- the seat was told that the group's word is odd, which counts as a miss; it is no less than what the seat
   -- knows
-  pub record Misses (k seen : ℕ) (old new : View G T) : Type 0 where
+  pub record Misses (k seen : ℕ) (old new : SeatView G T) : Type 0 where
     pub odd : seen % 2 ≡ 1
     pub is : new ≡ missed k seen old
     pub behind : Each (λ e. e.0 ≡ k → 2 * e.1 ≤ seen) old.known
 
 module _ {X G T : Type 0} {d : Ghosts X G T} where
-  abbrev pub view : Seat X G T d → View G T
+  abbrev pub view : Seat X G T d → SeatView G T
   view seat = seat.place.me.0
 
   abbrev pub IsSeatOf : Slots X G T → Seat X G T d → Type 0
@@ -51,7 +51,7 @@ module _ {X G T : Type 0} {d : Ghosts X G T} where
       (seat.place.table_id ≡ slots.table.shared.table_id) × ((view seat).tags ≡ tags_of slots)
 
   -- the seat got this turn, and has not left it
-  abbrev pub IsHeld : View G T → Turn X G T d → Type 0
+  abbrev pub IsHeld : SeatView G T → Turn X G T d → Type 0
   IsHeld v turn = IsIn (turn.group, turn.number, d.trace turn.found.value) v.held
 
   -- a turn may leave its value: it fits the tag, its stamp is as found or this turn's number, and its trace
@@ -67,13 +67,13 @@ module _ {X G T : Type 0} {d : Ghosts X G T} where
       → Contains (d.marks turn.found.value) mark ⊎ (mark ≡ (turn.number, seat))
 
   -- the group is free after this turn, and the seat knows it so
-  pub record LeavesFree (turn : Turn X G T d) (old new : View G T) : Type 0 where
+  pub record LeavesFree (turn : Turn X G T d) (old new : SeatView G T) : Type 0 where
     pub number : turn.number < last_turn
     pub is : new ≡ freed turn.group turn.number (d.trace turn.value) old
     pub knows : latest turn.group new.known ≡ Some (turn.number, d.trace turn.value)
 
   -- the turn was the last one that a group can have, and nobody enters it again
-  pub record LeavesWorn (turn : Turn X G T d) (old new : View G T) : Type 0 where
+  pub record LeavesWorn (turn : Turn X G T d) (old new : SeatView G T) : Type 0 where
     pub number : turn.number ≡ last_turn
     pub is : new ≡ worn_out turn.group old
 

@@ -12,4 +12,4 @@ mod view;
 pub use seat::{Left, Missed, Seat, Turn};
 pub use slots::Slots;
 pub use ts_journal::{NoMemory, Slotted};
-pub use view::View;
+pub use view::SeatView;

@@ -4,7 +4,7 @@ ghost use Rattle.ts_slot.specs.Rule.{Kept};
 ghost use Rattle.ts_slot.specs.Steps.{Entered, Returned, WornOut, Fetched, Looked};
 ghost use Rattle.ts_slot.specs.Views.{opener, nobody, firsts, left_half, right_half, joined};
 
-use crate::view::View;
+use crate::view::SeatView;
 use atomic_table::{Join, Play, Split, TableRule};
 use std::marker::PhantomData;
 use std::snapshot::Snapshot;
@@ -18,7 +18,7 @@ pub struct Law<V> {
     of: PhantomData<V>,
 }
 
-impl<V: Slotted> TableRule<Option<V>, View<V::Tag, V::Trace>, Key<V>> for Law<V> {
+impl<V: Slotted> TableRule<Option<V>, SeatView<V::Tag, V::Trace>, Key<V>> for Law<V> {
     ghost holds = { λ key. Kept V.fits V.stamp V.trace V.follows key.0.value.items };
 
     ghost first = { λ key. opener key.0.value.items (firsts V.trace 0 key.1.value.items) };
@@ -29,7 +29,7 @@ pub struct Enter<V> {
     of: PhantomData<V>,
 }
 
-impl<V: Slotted> Play<Option<V>, View<V::Tag, V::Trace>> for Enter<V> {
+impl<V: Slotted> Play<Option<V>, SeatView<V::Tag, V::Trace>> for Enter<V> {
     ghost then = { Entered V.fits V.stamp V.trace V.follows };
 }
 
@@ -38,7 +38,7 @@ pub struct Free<V> {
     of: PhantomData<V>,
 }
 
-impl<V: Slotted> Play<Option<V>, View<V::Tag, V::Trace>> for Free<V> {
+impl<V: Slotted> Play<Option<V>, SeatView<V::Tag, V::Trace>> for Free<V> {
     ghost then = { Returned V.trace };
 }
 
@@ -47,7 +47,7 @@ pub struct Wear<V> {
     of: PhantomData<V>,
 }
 
-impl<V: Slotted> Play<Option<V>, View<V::Tag, V::Trace>> for Wear<V> {
+impl<V: Slotted> Play<Option<V>, SeatView<V::Tag, V::Trace>> for Wear<V> {
     ghost then = { WornOut };
 }
 
@@ -56,7 +56,7 @@ pub struct Fetch<V> {
     of: PhantomData<V>,
 }
 
-impl<V: Slotted> Play<Option<V>, View<V::Tag, V::Trace>> for Fetch<V> {
+impl<V: Slotted> Play<Option<V>, SeatView<V::Tag, V::Trace>> for Fetch<V> {
     ghost then = { Fetched };
 }
 
@@ -65,14 +65,14 @@ pub struct Look<V> {
     of: PhantomData<V>,
 }
 
-impl<V: Slotted> Play<Option<V>, View<V::Tag, V::Trace>> for Look<V> {
+impl<V: Slotted> Play<Option<V>, SeatView<V::Tag, V::Trace>> for Look<V> {
     ghost then = { Looked V.follows };
 }
 
 /// A seat is split.
 pub struct Cut;
 
-impl<G, T> Split<View<G, T>> for Cut {
+impl<G, T> Split<SeatView<G, T>> for Cut {
     ghost left = { left_half };
 
     ghost right = { right_half };
@@ -81,7 +81,7 @@ impl<G, T> Split<View<G, T>> for Cut {
 /// A seat is joined to another.
 pub struct Glue;
 
-impl<G, T> Join<View<G, T>> for Glue {
+impl<G, T> Join<SeatView<G, T>> for Glue {
     ghost both = { joined };
 
     ghost spent = { nobody };

@@ -4,7 +4,7 @@ ghost use Rattle.std.specs.Prelude.{◌≡◌, ◌<◌, ◌≤◌, [], ◌∷◌
 ghost use Rattle.ts_slot.specs.Limits.{whole_share, last_turn};
 ghost use Rattle.ts_slot.specs.Steps.{emptied};
 
-use crate::view::View;
+use crate::view::SeatView;
 use std::snapshot::Snapshot;
 use ts_journal::Slotted;
 
@@ -27,7 +27,7 @@ pub enum Left {
 /// A caller's token on the slots: what it knows of them, and the groups that it holds.
 #[derive(Drop)]
 pub struct Seat<V: Slotted> {
-    pub(crate) place: atomic_table::Seat<Option<V>, View<V::Tag, V::Trace>>,
+    pub(crate) place: atomic_table::Seat<Option<V>, SeatView<V::Tag, V::Trace>>,
     pub(crate) number: u64,
     // the least free number
     pub(crate) next: u64,

@@ -7,7 +7,7 @@ ghost use Rattle.ts_slot.specs.Lists.{HasValue};
 
 use crate::rule::{Cut, Enter, Fetch, Free, Glue, Key, Law, Look, Wear};
 use crate::seat::{Left, Missed, Seat, Turn};
-use crate::view::View;
+use crate::view::SeatView;
 use atomic_table::{Closed, Table};
 use std::alloc::{AllocError, Global};
 use std::snapshot::Snapshot;
@@ -20,7 +20,7 @@ const LAST_TURN: u64 = 1 << 63;
 /// while it is held.
 #[derive(Drop)]
 pub struct Slots<V: Slotted> {
-    table: Table<Option<V>, View<V::Tag, V::Trace>, Key<V>, Law<V>, Global>,
+    table: Table<Option<V>, SeatView<V::Tag, V::Trace>, Key<V>, Law<V>, Global>,
     groups: u32,
     ghost sized: { (table.shared.table_id.words ≡ groups) × (table.shared.table_id.slots ≡ groups) },
     ghost named: { groups ≡ length table.shared.key.0.value.items },

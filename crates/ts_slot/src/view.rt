@@ -4,7 +4,7 @@ use std::collections::LinkedList;
 
 /// What a seat knows. No value of it is made. Contracts see the arrays as lists of any length; a list of a
 /// type parameter is a `LinkedList`, since such an array has no known size.
-pub struct View<G, T> {
+pub struct SeatView<G, T> {
     /// The tags of all groups.
     pub tags: LinkedList<G>,
     /// How many of the 2^32 parts of the right to close the slots the seat has. With none it is spent.

@@ -14,7 +14,7 @@ use Rattle.ts_thread.specs.declared.TheConstants.{MOST_ALONE}
 use Rattle.ts_thread.specs.declared.did.Unfinished.{Unfinished}
 use Rattle.ts_thread.specs.Tags.{GroupFits, GroupsFit}
 use Rattle.ts_group.specs.Answers.{Finite, KeepsTags}
-use Rattle.ts_thread.specs.Goings.{IsLaterGroup, HasTakenTurns, AllGoOn, IsIdle, HasTurns, work_left}
+use Rattle.ts_thread.specs.Goings.{IsLaterGroup, HasTakenTurns, AllGoOn, IsIdle, HasTurns, left_in_all}
 use Rattle.ts_thread.specs.Started.{IsFirst, WasStarted}
 use Rattle.ts_thread.specs.Threads.{HasHadTurns, turns_of}
 use Rattle.ts_thread.specs.Whole.{EachTells, EndSoon, HaveRun, HaveEnded}
@@ -41,20 +41,21 @@ module _ {W Q R T U : Type 0} (Fits : T → W → Type 0) (Sound : W → State �
     pub turns_enough : (limit turns : ℕ) (ts : List T) (gs : List (Group W Q R T U))
         → EndSoon Q R U Fits Sound oa isf Left limit turns ts → GroupsFit Fits Sound oa isf ts gs
         → All (HasHadTurns turns) gs
-        → All (HasTurns limit (sum_by (work_left Left) gs)) gs
+        → All (HasTurns limit (sum_by (left_in_all Left) gs)) gs
     turns_enough limit turns ts gs ends fit few =
-        let little : All (λ g. HasHadTurns turns g → work_left Left g ≤ ends.most) gs =
+        let little : All (λ g. HasHadTurns turns g → left_in_all Left g ≤ ends.most) gs =
         zip_across (λ t g. GroupFits Fits Sound oa isf t g)
-            (λ t. (g : Group W Q R T U) → GroupFits Fits Sound oa isf t g → HasHadTurns turns g → work_left
-            Left g ≤ ends.most) (λ g. HasHadTurns turns g → work_left Left g ≤ ends.most) ts gs
+            (λ t. (g : Group W Q R T U) → GroupFits Fits Sound oa isf t g → HasHadTurns turns g → left_in_all
+            Left g ≤ ends.most) (λ g. HasHadTurns turns g → left_in_all Left g ≤ ends.most) ts gs
         (λ t g each fits. each g fits) ends.each fit in
-        let all : All (λ g. work_left Left g ≤ ends.most) gs = λ k d low. little k d low (few k d low) in
-        let sum : sum_by (work_left Left) gs ≤ length gs * ends.most = sum_by-le (work_left Left) ends.most gs
+        let all : All (λ g. left_in_all Left g ≤ ends.most) gs = λ k d low. little k d low (few k d low) in
+        let sum : sum_by (left_in_all Left) gs ≤ length gs * ends.most = sum_by-le (left_in_all Left)
+            ends.most gs
             all in
         let count : length gs ≡ length ts = fit_count (λ t g. GroupFits Fits Sound oa isf t g) ts gs fit in
         let same : length gs * ends.most ≡ length ts * ends.most = ap (λ (n : ℕ). n * ends.most) count in
         let enough : turns + length ts * ends.most + 1 < limit = ends.enough in
-        All-weaker (HasHadTurns turns) (HasTurns limit (sum_by (work_left Left) gs)) (λ g h. omega arith) gs
+        All-weaker (HasHadTurns turns) (HasTurns limit (sum_by (left_in_all Left) gs)) (λ g h. omega arith) gs
             few
 
   -- a group that follows another, follows it still when it went on

@@ -1,9 +1,9 @@
 -- Seats and passes that are split among threads and joined again.
 use Rattle.std.proofs.Common.{◌≡◌, ℕ, zero, suc, ◌+◌, ◌-◌, ◌*◌, ◌≤◌, inl, inr, List, [], ◌∷◌, ◌++◌, length, length-append, sym, ap, ◌∙◌, subst, arith}
 use Rattle.ts_queue.specs.declared.ticket.Token.{Token}
-use Rattle.ts_queue.specs.declared.view.View.{View as Known}
+use Rattle.ts_queue.specs.declared.view.PassView.{PassView as Known}
 use Rattle.ts_queue.specs.Views.{kept_part, split_part, with_joined}
-use Rattle.ts_slot.specs.declared.view.View.{View}
+use Rattle.ts_slot.specs.declared.view.SeatView.{SeatView}
 use Rattle.ts_slot.specs.Lists.{IsIn}
 use Rattle.ts_slot.specs.Views.{left_half, right_half, joined}
 use Rattle.ts_thread.specs.News.{HasTicket}
@@ -28,32 +28,34 @@ in_front e (y ∷ xs) ys (inr more) = inr (in_front e xs ys more)
 
 module _ {G T : Type 0} where
   -- a seat was split, each half kept what it had, and they were joined
-  pub joined_keeps : (v w u x : View G T) (l m n : ℕ) → 1 ≤ v.share → m + l ≤ n → KeepsSeat (right_half v) w m
+  pub joined_keeps : (v w u x : SeatView G T) (l m n : ℕ) → 1 ≤ v.share → m + l ≤ n
+      → KeepsSeat (right_half v) w m
       → KeepsSeat (left_half v) u l → x ≡ joined u w → KeepsSeat v x n
   joined_keeps v w u x l m n some le right left is = record {
     share = let a = right.share in let b = left.share in let c : x.share ≡ u.share + w.share = ap
-        (λ (y : View G T). y.share) is in omega arith;
-    names = ap (λ (y : View G T). y.names) is ∙ left.names;
-    held = ap (λ (y : View G T). y.held) is ∙ left.held;
+        (λ (y : SeatView G T). y.share) is in omega arith;
+    names = ap (λ (y : SeatView G T). y.names) is ∙ left.names;
+    held = ap (λ (y : SeatView G T). y.held) is ∙ left.held;
     turns = let a = right.turns in let b = left.turns in
-        let c : length x.turns ≡ length w.turns + length u.turns = ap (λ (y : View G T). length y.turns) is ∙
+        let c : length x.turns ≡ length w.turns + length u.turns = ap (λ (y : SeatView G T). length y.turns)
+            is ∙
             length-append w.turns u.turns in omega arith;
     misses = let a = left.misses in let c : length x.misses ≡ length u.misses = ap
-        (λ (y : View G T). length y.misses) is in omega arith;
-    known = record { stays = λ e h. subst (IsIn e) (sym (ap (λ (y : View G T). y.known) is))
+        (λ (y : SeatView G T). length y.misses) is in omega arith;
+    known = record { stays = λ e h. subst (IsIn e) (sym (ap (λ (y : SeatView G T). y.known) is))
         (in_append e w.known u.known (left.known.stays e h)) };
   }
 
   -- what the seat knew of which another was split off, the two know together
-  pub joined_front : (v u w x : View G T) → u ≡ left_half v → x ≡ joined u w → More v.known x.known
+  pub joined_front : (v u w x : SeatView G T) → u ≡ left_half v → x ≡ joined u w → More v.known x.known
   joined_front v u w x part is = record {
-    stays = λ e h. subst (IsIn e) (sym (ap (λ (y : View G T). y.known) is))
-        (in_append e w.known u.known (subst (IsIn e) (sym (ap (λ (y : View G T). y.known) part)) h));
+    stays = λ e h. subst (IsIn e) (sym (ap (λ (y : SeatView G T). y.known) is))
+        (in_append e w.known u.known (subst (IsIn e) (sym (ap (λ (y : SeatView G T). y.known) part)) h));
   }
 
   -- what the seat that was split off knows, the two know together
-  pub joined_more : (u w x : View G T) → x ≡ joined u w → More w.known x.known
-  joined_more u w x is = record { stays = λ e h. subst (IsIn e) (sym (ap (λ (y : View G T). y.known) is))
+  pub joined_more : (u w x : SeatView G T) → x ≡ joined u w → More w.known x.known
+  joined_more u w x is = record { stays = λ e h. subst (IsIn e) (sym (ap (λ (y : SeatView G T). y.known) is))
       (in_front e w.known u.known h) }
 
 -- what the pass that was split off put, the two have put together

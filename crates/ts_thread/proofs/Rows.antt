@@ -16,7 +16,7 @@ use Rattle.ts_group.specs.Answers.{Finite, Falls, LeavesLess, TellFalls, IsAnswe
 use Rattle.ts_thread.specs.declared.did.Unfinished.{Unfinished}
 use Rattle.ts_thread.specs.declared.did.Unfinished.TheVariants as unfinished
 use Rattle.ts_thread.specs.Tags.{GroupFits, GroupsFit, FitAround, CanAsk}
-use Rattle.ts_thread.specs.Goings.{HasTakenTurns, AllGoOn, HasTurns, IsIdle, WornAmong, came_of, row, work_left, Drives, DrivesAt, Finishes}
+use Rattle.ts_thread.specs.Goings.{HasTakenTurns, AllGoOn, HasTurns, IsIdle, WornAmong, came_of, row, left_in_all, Drives, DrivesAt, Finishes}
 use Rattle.ts_thread.proofs.Moves.{goes_refl, goes_trans, goes_well}
 
 pub get_below : {X : Type 0} (xs : List X) (k : ℕ) (x : X) → slice_get xs k ≡ Some x → k ≤ length xs
@@ -255,10 +255,10 @@ module _ {W Q R T U : Type 0} (Fits : T → W → Type 0) (Sound : W → State �
   -- where each group has turns enough for all that is left to do, none is worn
   pub finish_spares : (gs hs : List (Group W Q R T U)) (result : Result (Unit {0}) Unfinished)
       → Finishes Fits Sound oa isf Left limit gs hs result
-      → All (HasTurns limit (sum_by (work_left Left) gs)) gs → IsErrOf result unfinished.Worn → ⊥
+      → All (HasTurns limit (sum_by (left_in_all Left) gs)) gs → IsErrOf result unfinished.Worn → ⊥
   finish_spares gs hs result ends all is =
       let worn = ends.worn is in
-      let young = young_on result gs hs ends.turns (sum_by (work_left Left) gs) ends.goes ends.within all in
+      let young = young_on result gs hs ends.turns (sum_by (left_in_all Left) gs) ends.goes ends.within all in
       let low : worn.1.cx.log.state.turns < limit = subst
           (λ (h : Group W Q R T U). h.cx.log.state.turns < limit) worn.3 (young worn.0 worn.1 worn.2) in
       let high : limit ≤ worn.1.cx.log.state.turns = worn.4.0 in
@@ -271,7 +271,7 @@ module _ {W Q R T U : Type 0} (Fits : T → W → Type 0) (Sound : W → State �
     pub first : AllGoOn Fits Sound oa isf Left limit (Ok tt) before before' turns
     pub own : HasTakenTurns Fits Sound oa isf Left limit (Ok tt) old new turns
     pub last : AllGoOn Fits Sound oa isf Left limit (Ok tt) after after' turns
-    pub less : work_left Left new + turns ≤ work_left Left old
+    pub less : left_in_all Left new + turns ≤ left_in_all Left old
     pub tells : Finite Left new
 
   pub driving_begins : (before : List (Group W Q R T U)) (g : Group W Q R T U)
@@ -296,10 +296,10 @@ module _ {W Q R T U : Type 0} (Fits : T → W → Type 0) (Sound : W → State �
       → AllGoOn Fits Sound oa isf Left limit (Ok tt) b1 b2 1
           → HasTakenTurns Fits Sound oa isf Left limit (Ok tt) g1 g2 1
           → AllGoOn Fits Sound oa isf Left limit (Ok tt) a1 a2 1 → LeavesLess Left g1 1 g2
-      → IsDriving b0 b2 g0 g2 a0 a2 × (work_left Left g2 < work_left Left g1)
+      → IsDriving b0 b2 g0 g2 a0 a2 × (left_in_all Left g2 < left_in_all Left g1)
   driving_goes_on b0 b1 b2 g0 g1 g2 a0 a1 a2 h b g a falls =
       let left = left_falls (Left g1.world g1.cx.log.state) (Left g2.world g2.cx.log.state) 1 h.tells falls in
-      let less : work_left Left g2 + 1 ≤ work_left Left g1 = left.1 in
+      let less : left_in_all Left g2 + 1 ≤ left_in_all Left g1 = left.1 in
       let was = h.less in (
         record {
           turns = h.turns + 1;
@@ -357,7 +357,8 @@ module _ {W Q R T U : Type 0} (Fits : T → W → Type 0) (Sound : W → State �
 
   -- no more is left to do, and worlds go on to tell it
   left_on : (gs hs : List (Group W Q R T U)) (n : ℕ) → AllGoOn Fits Sound oa isf Left limit (Ok tt) gs hs n
-      → All (Finite Left) gs → (sum_by (work_left Left) hs ≤ sum_by (work_left Left) gs) × All (Finite Left)
+      → All (Finite Left) gs → (sum_by (left_in_all Left) hs ≤ sum_by (left_in_all Left) gs) × All
+          (Finite Left)
       hs
   left_on [] [] n a tells = (omega arith, All-nil (Finite Left))
   left_on [] (h ∷ hs) n a tells = absurd a
@@ -365,10 +366,10 @@ module _ {W Q R T U : Type 0} (Fits : T → W → Type 0) (Sound : W → State �
   left_on (g ∷ gs) (h ∷ hs) n a tells =
       let one = left_falls (Left g.world g.cx.log.state) (Left h.world h.cx.log.state) 0
           (All-head (Finite Left) g gs tells) (a.0.falls (λ is. never_worn is)) in
-      let less : work_left Left h + 0 ≤ work_left Left g = one.1 in
+      let less : left_in_all Left h + 0 ≤ left_in_all Left g = one.1 in
       let rest = left_on gs hs n a.1 (All-tail (Finite Left) g gs tells) in
-      let rest_less : sum_by (work_left Left) hs ≤ sum_by (work_left Left) gs = rest.0 in (
-        omega (arith, sum_by-cons (work_left Left) g gs, sum_by-cons (work_left Left) h hs),
+      let rest_less : sum_by (left_in_all Left) hs ≤ sum_by (left_in_all Left) gs = rest.0 in (
+        omega (arith, sum_by-cons (left_in_all Left) g gs, sum_by-cons (left_in_all Left) h hs),
         All-cons (Finite Left) h hs one.0 rest.1,
       )
 
@@ -385,7 +386,7 @@ module _ {W Q R T U : Type 0} (Fits : T → W → Type 0) (Sound : W → State �
   pub record IsFinishing (old new : List (Group W Q R T U)) (place : ℕ) : Type 0 where
     pub turns : ℕ
     pub goes : AllGoOn Fits Sound oa isf Left limit (Ok tt) old new turns
-    pub less : sum_by (work_left Left) new + turns ≤ sum_by (work_left Left) old
+    pub less : sum_by (left_in_all Left) new + turns ≤ sum_by (left_in_all Left) old
     pub tells : All (Finite Left) new
     pub idle : All IsIdle (take place new)
 
@@ -410,9 +411,9 @@ module _ {W Q R T U : Type 0} (Fits : T → W → Type 0) (Sound : W → State �
       let last = left_on rest rest' drives.turns drives.last tells_rest in
       let own = left_falls (Left g.world g.cx.log.state) (Left h.world h.cx.log.state) 0 tells_g
           (drives.own.falls (λ is. never_worn is)) in
-      let first_less : sum_by (work_left Left) front' ≤ sum_by (work_left Left) front = first.0 in
-      let last_less : sum_by (work_left Left) rest' ≤ sum_by (work_left Left) rest = last.0 in
-      let own_less : work_left Left h + drives.turns ≤ work_left Left g = drives.less in
+      let first_less : sum_by (left_in_all Left) front' ≤ sum_by (left_in_all Left) front = first.0 in
+      let last_less : sum_by (left_in_all Left) rest' ≤ sum_by (left_in_all Left) rest = last.0 in
+      let own_less : left_in_all Left h + drives.turns ≤ left_in_all Left g = drives.less in
       let before = was.less in
       let idle_front : All IsIdle front = subst (λ (gs : List (Group W Q R T U)). All IsIdle gs)
           (take_front front (g ∷ rest) place len) was.idle in
@@ -423,8 +424,10 @@ module _ {W Q R T U : Type 0} (Fits : T → W → Type 0) (Sound : W → State �
             was.turns drives.turns was.goes
             (all_row Fits Sound oa isf Left limit front front' rest rest' g h drives.turns drives.first
                 drives.own drives.last);
-        less = omega (arith, sum_by-append (work_left Left) front (g ∷ rest), sum_by-append (work_left Left)
-            front' (h ∷ rest'), sum_by-cons (work_left Left) g rest, sum_by-cons (work_left Left) h rest');
+        less = omega (arith, sum_by-append (left_in_all Left) front (g ∷ rest), sum_by-append
+            (left_in_all Left)
+            front' (h ∷ rest'), sum_by-cons (left_in_all Left) g rest, sum_by-cons (left_in_all Left) h
+                rest');
         tells = All-append (Finite Left) front' (h ∷ rest') first.1
             (All-cons (Finite Left) h rest' own.0 last.1);
         idle = subst (λ (gs : List (Group W Q R T U)). All IsIdle gs)
@@ -434,9 +437,9 @@ module _ {W Q R T U : Type 0} (Fits : T → W → Type 0) (Sound : W → State �
       }
 
   left-le-sum : (front : List (Group W Q R T U)) (g : Group W Q R T U) (rest : List (Group W Q R T U))
-      → work_left Left g ≤ sum_by (work_left Left) (front ++ g ∷ rest)
-  left-le-sum front g rest = omega (arith, sum_by-append (work_left Left) front (g ∷ rest), sum_by-cons
-      (work_left Left) g rest)
+      → left_in_all Left g ≤ sum_by (left_in_all Left) (front ++ g ∷ rest)
+  left-le-sum front g rest = omega (arith, sum_by-append (left_in_all Left) front (g ∷ rest), sum_by-cons
+      (left_in_all Left) g rest)
 
   pub finishing_next : (old new next : List (Group W Q R T U)) (place : ℕ) → IsFinishing old new place
       → DrivesAt Fits Sound oa isf Left limit place new next (Ok tt) → IsFinishing old next (place + 1)
@@ -451,8 +454,8 @@ module _ {W Q R T U : Type 0} (Fits : T → W → Type 0) (Sound : W → State �
   finishing_stops old new next place e was at =
       let row_goes = all_row Fits Sound oa isf Left limit at.before at.before' at.after at.after' at.group
           at.group' at.drives.turns at.drives.first at.drives.own at.drives.last in
-      let left : work_left Left at.group ≤ sum_by (work_left Left) new = subst
-          (λ (gs : List (Group W Q R T U)). work_left Left at.group ≤ sum_by (work_left Left) gs)
+      let left : left_in_all Left at.group ≤ sum_by (left_in_all Left) new = subst
+          (λ (gs : List (Group W Q R T U)). left_in_all Left at.group ≤ sum_by (left_in_all Left) gs)
           (sym at.old_is) (left-le-sum at.before at.group at.after) in
       record {
         turns = was.turns + at.drives.turns;

@@ -18,7 +18,7 @@ use Rattle.ts_group.specs.Due.{NoNews}
 use Rattle.ts_group.specs.Standing.{StandsAfter, follows_on}
 use Rattle.ts_queue.specs.declared.ticket.Token.{Token}
 use Rattle.ts_slot.specs.declared.seat.Turn.{Turn}
-use Rattle.ts_slot.specs.declared.view.View.{View}
+use Rattle.ts_slot.specs.declared.view.SeatView.{SeatView}
 use Rattle.ts_slot.specs.Limits.{last_turn}
 use Rattle.ts_slot.specs.Lists.{Each, IsIn, same, entries}
 use Rattle.ts_slot.specs.Views.{Coherent, firsts, won, IsAfter}
@@ -55,7 +55,7 @@ place_put moment desk none k p has = elim has [
 ]
 
 -- a group was entered, and left
-pub entered_left : {X G T : Type 0} {d : Ghosts X G T} (tags : List G) (k : ℕ) (old new u : View G T)
+pub entered_left : {X G T : Type 0} {d : Ghosts X G T} (tags : List G) (k : ℕ) (old new u : SeatView G T)
     (turn : Turn X G T d) → IsEntered tags k old new turn → Leaves new u → KeepsSeat old u 1
 entered_left {d = d} tags k old new u turn entered leaves =
     keeps_trans old entered.before u 0 1 1 (omega arith) entered.misses
@@ -104,7 +104,7 @@ module _ {W Q R T U : Type 0} (Fits : T → W → Type 0) (Sound : W → State �
 
   -- a group was entered, started and left
   pub starts_one : (HasToken : ℕ → Pending → Type 0) (k turn seat : ℕ)
-      (found v g0 g1 g1' g2 left : Group W Q R T U) (old before entered new : View T (Group W Q R T U))
+      (found v g0 g1 g1' g2 left : Group W Q R T U) (old before entered new : SeatView T (Group W Q R T U))
       → FitsHere Fits Sound only_asked is_first tags k v → found ≡ v → g0 ≡ v
       → HasTurn Fits g0 g1 turn seat → BeginsSame g0 g1 → g1' ≡ g1 → StartsInTurn Fits Sound Begun g1' g2
           → v.cx.log.state.turns < turn → entered ≡ won k turn v before → Leaves entered new
@@ -126,7 +126,7 @@ module _ {W Q R T U : Type 0} (Fits : T → W → Type 0) (Sound : W → State �
           (subst (λ (x : Group W Q R T U). HasTurn Fits g0 x turn seat) (sym is1) has) in
       let gone : HasTurn Fits found g2 turn seat = has_gone Fits found g1' g2 turn seat taken starts.goes in
       let there : IsIn (k, turn - 1, v) entered.known = subst (IsIn (k, turn - 1, v))
-          (sym (ap (λ (x : View T (Group W Q R T U)). x.known) wins)) (inl refl) in
+          (sym (ap (λ (x : SeatView T (Group W Q R T U)). x.known) wins)) (inl refl) in
       record {
         first = (fit.0, fit.1, subst (λ (s : State). OnTrue (is_first fit.0) (s.turns ≡ 0)) (sym base0)
             fit.2.3);

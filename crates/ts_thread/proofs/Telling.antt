@@ -15,7 +15,7 @@ use Rattle.ts_queue.specs.declared.queue.EventQueue.{EventQueue}
 use Rattle.ts_queue.specs.declared.queue.QueuePass.{QueuePass}
 use Rattle.ts_queue.specs.declared.ticket.Token.{Token}
 use Rattle.ts_queue.specs.declared.ticket.Ticket.{Ticket}
-use Rattle.ts_queue.specs.declared.view.View.{View}
+use Rattle.ts_queue.specs.declared.view.PassView.{PassView}
 use Rattle.ts_queue.specs.Tickets.{is_same_token}
 use Rattle.ts_queue.specs.Views.{next_ticket}
 use Rattle.ts_queue.specs.Passes.{IsPassOf, pass_view, empties_of}
@@ -104,14 +104,14 @@ module _ {X G T : Type 0} {d : Ghosts X G T} where
       → KeepsPlaces a b
   keeps_place a b token due moment (inl puts) = record {
     wheel = λ e h. subst (IsIn e) (sym puts.wheel) h;
-    put = λ t h. subst (λ (v : View). HasTicket t v.put) (sym puts.pass)
+    put = λ t h. subst (λ (v : PassView). HasTicket t v.put) (sym puts.pass)
         (ticket_stays t (next_ticket (pass_view a.pass) token) (pass_view a.pass).put h);
-    taken = ap (λ (v : View). v.taken) puts.pass;
+    taken = ap (λ (v : PassView). v.taken) puts.pass;
   }
   keeps_place a b token due moment (inr adds) = record {
     wheel = λ e h. subst (IsIn e) (sym adds.wheel) (in_added due token a.wheel e h);
-    put = λ t h. subst (λ (v : View). HasTicket t v.put) (sym adds.pass) h;
-    taken = ap (λ (v : View). v.taken) adds.pass;
+    put = λ t h. subst (λ (v : PassView). HasTicket t v.put) (sym adds.pass) h;
+    taken = ap (λ (v : PassView). v.taken) adds.pass;
   }
 
   pub keeps_trans : (a b c : Desk X G T d) → KeepsPlaces a b → KeepsPlaces b c → KeepsPlaces a c
@@ -131,14 +131,14 @@ module _ {X G T : Type 0} {d : Ghosts X G T} where
   pub keeps_same : (a b c : Desk X G T d) → KeepsPlaces a b → SamePlaces b c → KeepsPlaces a c
   keeps_same a b c keeps same = record {
     wheel = λ e h. subst (IsIn e) (sym same.wheel) (keeps.wheel e h);
-    put = λ t h. subst (λ (v : View). HasTicket t v.put) (sym same.pass) (keeps.put t h);
-    taken = ap (λ (v : View). v.taken) same.pass ∙ keeps.taken;
+    put = λ t h. subst (λ (v : PassView). HasTicket t v.put) (sym same.pass) (keeps.put t h);
+    taken = ap (λ (v : PassView). v.taken) same.pass ∙ keeps.taken;
   }
 
   has_place : (a b : Desk X G T d) (moment k : ℕ) (p : Pending)
       → Places (record { group = k; number = p.number }) p.due moment a b → HasPlace moment k p b
   has_place a b moment k p (inl puts) =
-      inr (puts.is_due, subst (λ (v : View). HasTicket (record { group = k; number = p.number }) v.put)
+      inr (puts.is_due, subst (λ (v : PassView). HasTicket (record { group = k; number = p.number }) v.put)
           (sym puts.pass) (next_ticket (pass_view a.pass) (record { group = k; number = p.number }), inl refl,
           refl))
   has_place a b moment k p (inr adds) = inl (subst (IsIn (p.due, record { group = k; number = p.number }))
@@ -157,18 +157,18 @@ module _ {X G T : Type 0} {d : Ghosts X G T} where
       let w : in_wheel t b.wheel ≡ in_wheel t a.wheel = ap (in_wheel t) puts.wheel in
       let p : in_tickets t (pass_view b.pass).put ≡ in_tickets t
           (next_ticket (pass_view a.pass) token ∷ (pass_view a.pass).put) = ap
-          (λ (v : View). in_tickets t v.put) puts.pass in
+          (λ (v : PassView). in_tickets t v.put) puts.pass in
       let c = tickets-cons t (next_ticket (pass_view a.pass) token) (pass_view a.pass).put in omega arith
   count_place a b token due moment t (inr adds) =
       let w : in_wheel t b.wheel ≡ in_wheel t (added due token a.wheel) = ap (in_wheel t) adds.wheel in
       let p : in_tickets t (pass_view b.pass).put ≡ in_tickets t (pass_view a.pass).put = ap
-          (λ (v : View). in_tickets t v.put) adds.pass in
+          (λ (v : PassView). in_tickets t v.put) adds.pass in
       let c = wheel-added t due token a.wheel in omega arith
 
   share_place : (a b : Desk X G T d) (token : Token) (due moment : ℕ) → Places token due moment a b
       → SharesSame a b
-  share_place a b token due moment (inl puts) = ap (λ (v : View). v.share) puts.pass
-  share_place a b token due moment (inr adds) = ap (λ (v : View). v.share) adds.pass
+  share_place a b token due moment (inl puts) = ap (λ (v : PassView). v.share) puts.pass
+  share_place a b token due moment (inr adds) = ap (λ (v : PassView). v.share) adds.pass
 
   -- a desk stays one of its tables when a token of one of the groups gets a place
   pub desk_place : (slots : Slots X G T) (queue : EventQueue) (a b : Desk X G T d) (token : Token)

@@ -4,7 +4,7 @@ use Rattle.std.proofs.lemmas.List.Elements.{All-nil, All-cons, All-head, All-tai
 use Rattle.std.proofs.lemmas.List.Sums.{sum_by-cons}
 use Rattle.ts_queue.specs.declared.ticket.Token.{Token}
 use Rattle.ts_queue.specs.declared.ticket.Ticket.{Ticket}
-use Rattle.ts_queue.specs.declared.view.View.{View}
+use Rattle.ts_queue.specs.declared.view.PassView.{PassView}
 use Rattle.ts_queue.specs.Tickets.{is_same_token}
 use Rattle.ts_queue.specs.Passes.{TakesTicket}
 use Rattle.ts_slot.specs.Lists.{IsIn}
@@ -26,16 +26,16 @@ first_named groups now (e ∷ es) t all h = by_test (leb e.0 now) h
         (All-head (λ (x : ℕ × Token). x.1.group < groups) e es all)
     by_test false same = absurd (cc)
 
-pub lets_go_none : (groups : ℕ) (v : View) → LetsGo groups v v
+pub lets_go_none : (groups : ℕ) (v : PassView) → LetsGo groups v v
 lets_go_none groups v = record { gone = []; foreign = All-nil (λ (t : Ticket). groups ≤ t.token.group); is =
     refl }
 
-pub lets_go_one : (groups : ℕ) (u v w : View) (t : Ticket) → LetsGo groups u v → TakesTicket v t w
+pub lets_go_one : (groups : ℕ) (u v w : PassView) (t : Ticket) → LetsGo groups u v → TakesTicket v t w
     → groups ≤ t.token.group → LetsGo groups u w
 lets_go_one groups u v w t was takes foreign = record {
   gone = t ∷ was.gone;
   foreign = All-cons (λ (x : Ticket). groups ≤ x.token.group) t was.gone foreign was.foreign;
-  is = takes.adds ∙ ap (λ (x : View). record x { taken = t ∷ x.taken }) was.is;
+  is = takes.adds ∙ ap (λ (x : PassView). record x { taken = t ∷ x.taken }) was.is;
 }
 
 -- 1 where the test holds, and else 0

@@ -12,11 +12,11 @@ use Rattle.ts_group.specs.declared.world.Asked.{Asked}
 use Rattle.ts_group.specs.Standing.{StandsAfter}
 use Rattle.ts_queue.specs.declared.queue.EventQueue.{EventQueue}
 use Rattle.ts_queue.specs.declared.ticket.Token.{Token}
-use Rattle.ts_queue.specs.declared.view.View.{View as Known}
+use Rattle.ts_queue.specs.declared.view.PassView.{PassView as Known}
 use Rattle.ts_queue.specs.Passes.{IsPassOf, pass_view, empties_of}
 use Rattle.ts_slot.specs.declared.slots.Slots.{Slots}
 use Rattle.ts_slot.specs.declared.seat.Seat.{Seat}
-use Rattle.ts_slot.specs.declared.view.View.{View}
+use Rattle.ts_slot.specs.declared.view.SeatView.{SeatView}
 use Rattle.ts_slot.specs.Views.{won, missed, IsAfter}
 use Rattle.ts_slot.specs.Words.{tags_of, view, IsSeatOf}
 use Rattle.ts_wheel.specs.Due.{first_due, after_due, next_moment}
@@ -269,9 +269,9 @@ module _ {W Q R T U : Type 0} {d : Ghosts (Group W Q R T U) T (Group W Q R T U)}
       let entered : view enters.entered.seat ≡ won token.group enters.turn enters.found (view old.seat) =
           enters.wins ∙ ap (won token.group enters.turn enters.found) seat in
       let turns : length (view enters.entered.seat).turns ≡ suc (length (view old.seat).turns) = ap
-          (λ (v : View T (Group W Q R T U)). length v.turns) entered in
+          (λ (v : SeatView T (Group W Q R T U)). length v.turns) entered in
       let misses : length (view enters.entered.seat).misses ≡ length (view old.seat).misses = ap
-          (λ (v : View T (Group W Q R T U)). length v.misses) entered in
+          (λ (v : SeatView T (Group W Q R T U)). length v.misses) entered in
       let works = works_counts token enters.entered serves.worked answer serves.works in
       let turns' : length (view new.seat).turns ≡ length (view serves.worked.seat).turns = ap
           (λ es. length es) serves.leaves.turns in
@@ -302,9 +302,11 @@ module _ {W Q R T U : Type 0} {d : Ghosts (Group W Q R T U) T (Group W Q R T U)}
       let same : empties_of new.pass ≡ empties_of old.pass = ap (λ p. empties_of p) put.pass ∙ h.gets.empties
           in
       let turns : length (view new.seat).turns ≡ length (view old.seat).turns = ap
-          (λ (v : View T (Group W Q R T U)). length v.turns) (put.misses.is ∙ ap (missed group seen) seat) in
+          (λ (v : SeatView T (Group W Q R T U)). length v.turns) (put.misses.is ∙ ap (missed group seen) seat)
+              in
       let misses : length (view new.seat).misses ≡ suc (length (view old.seat).misses) = ap
-          (λ (v : View T (Group W Q R T U)). length v.misses) (put.misses.is ∙ ap (missed group seen) seat) in
+          (λ (v : SeatView T (Group W Q R T U)). length v.misses)
+              (put.misses.is ∙ ap (missed group seen) seat) in
       (omega arith, inl (omega arith))
   did_counts moment old new (did.AskMissed group seen) h = one_counts moment old new h.taken h.token
       (did.AskMissed group seen) h.gets h.uses

@@ -29,7 +29,7 @@ use Rattle.ts_group.specs.Answers.{Holds, KeepsTags, SetsAtMost, IsAnswer, IsSam
 use Rattle.ts_group.specs.Slot.{marks_of}
 use Rattle.ts_queue.specs.declared.ticket.Token.{Token}
 use Rattle.ts_slot.specs.Limits.{last_turn}
-use Rattle.ts_slot.specs.declared.view.View.{View}
+use Rattle.ts_slot.specs.declared.view.SeatView.{SeatView}
 use Rattle.ts_slot.specs.Words.{view}
 use Rattle.ts_thread.specs.declared.desk.Desk.{Desk}
 use Rattle.ts_thread.specs.declared.did.Did.{Did}
@@ -155,7 +155,7 @@ module _ {W Q R T U : Type 0} where
   pub told_worked : {G S : Type 0} (Sound : W → State → List Named → Type 0) (Fits : T → W → Type 0)
       (Asking : W → State → List Named → ℕ → ℕ → Q → Type 0) (Answers : W → Q → R → Type 0)
       (Called : W → W → List ℕ → Type 0) (Heard : W → W → Asked Q R → Type 0) (Left : W → State → Option ℕ)
-      (tags : List T) (a b c : Group W Q R T U) (number moment events : ℕ) (v u : View G S)
+      (tags : List T) (a b c : Group W Q R T U) (number moment events : ℕ) (v u : SeatView G S)
       (r : Result Did NoMemory) → IsValid a.cx.log.state → IsValid b.cx.log.state
       → Handles Called a b number moment events → KeepsTags Fits a.world b.world
           → SetsAtMost Fits a.world (MOST_EVENTS * (MOST_SET + 1)) a.cx b.cx

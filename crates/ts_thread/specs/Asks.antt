@@ -8,7 +8,7 @@ use Rattle.ts_group.specs.declared.action.Named.{Named}
 use Rattle.ts_group.specs.declared.group.Group.{Group}
 use Rattle.ts_group.specs.declared.world.Asked.{Asked}
 use Rattle.ts_group.specs.declared.world.Asked.TheVariants as asked
-use Rattle.ts_slot.specs.declared.view.View.{View}
+use Rattle.ts_slot.specs.declared.view.SeatView.{SeatView}
 use Rattle.ts_thread.specs.declared.did.Did.{Did}
 use Rattle.ts_thread.specs.declared.did.Did.TheVariants as did
 use Rattle.ts_thread.specs.Seats.{CountsTurn, CountsMiss}
@@ -25,7 +25,7 @@ GivesReply {W} {Q} {R} {T} Fits Answers tags k question reply =
     (t : T) × (w : W) × (get_elem? tags k ≡ some t) × Fits t w × Answers w question reply
 
 -- what a seat counts that asked the group k: a turn of it, or a miss
-abbrev pub CameBy : {Q R G T : Type 0} → ℕ → View G T → View G T → Asked Q R → Type 0
+abbrev pub CameBy : {Q R G T : Type 0} → ℕ → SeatView G T → SeatView G T → Asked Q R → Type 0
 CameBy k old new (asked.Reply r) = CountsTurn k old new
 CameBy k old new (asked.Missed seen q) = CountsMiss k seen old new
 CameBy k old new (asked.NoMemory q) = CountsTurn k old new

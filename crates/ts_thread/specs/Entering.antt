@@ -2,18 +2,18 @@
 use Rattle.std.specs.Prelude.{◌≡◌, ℕ, ◌<◌, List}
 use Rattle.ts_journal.specs.declared.slotted.Slotted.{Ghosts}
 use Rattle.ts_slot.specs.declared.seat.Turn.{Turn}
-use Rattle.ts_slot.specs.declared.view.View.{View}
+use Rattle.ts_slot.specs.declared.view.SeatView.{SeatView}
 use Rattle.ts_slot.specs.Views.{won}
 use Rattle.ts_slot.specs.Words.{FitsTag}
 use Rattle.ts_thread.specs.Seats.{KeepsSeat}
 
 -- The group k was won, maybe after it was missed, and its value was found as the tag wants it, with an
 -- earlier stamp.
-pub record IsEntered {X G T : Type 0} {d : Ghosts X G T} (tags : List G) (k : ℕ) (old new : View G T)
+pub record IsEntered {X G T : Type 0} {d : Ghosts X G T} (tags : List G) (k : ℕ) (old new : SeatView G T)
     (turn : Turn X G T d) : Type 0 where
   pub group : turn.group ≡ k
   pub found : turn.found.value ≡ turn.value
-  pub before : View G T
+  pub before : SeatView G T
   pub misses : KeepsSeat old before 0
   pub wins : new ≡ won k turn.number (d.trace turn.value) before
   pub fits : FitsTag d.fits tags k turn.value

@@ -61,8 +61,8 @@ pub record WorksOn {W Q R T U : Type 0} (Fits : T → W → Type 0) (Sound : W �
   pub falls : (IsErrOf result unfinished.Worn → ⊥) → LeavesLess Left old 0 new
 
 -- what is left to do to a group, 0 where its world does not tell it
-abbrev pub work_left : {W Q R T U : Type 0} → (W → State → Option ℕ) → Group W Q R T U → ℕ
-work_left Left g = unwrap_or (Left g.world g.cx.log.state) 0
+abbrev pub left_in_all : {W Q R T U : Type 0} → (W → State → Option ℕ) → Group W Q R T U → ℕ
+left_in_all Left g = unwrap_or (Left g.world g.cx.log.state) 0
 
 -- no event of the group is pending
 abbrev pub IsIdle : {W Q R T U : Type 0} → Group W Q R T U → Type 0
@@ -115,11 +115,11 @@ pub record Drives {W Q R T U : Type 0} (Fits : T → W → Type 0) (Sound : W �
     (before before' : List (Group W Q R T U)) (old new : Group W Q R T U)
     (after after' : List (Group W Q R T U)) (result : Result (Unit {0}) Unfinished) : Type 0 where
   pub turns : ℕ
-  pub within : turns ≤ work_left Left old + 1
+  pub within : turns ≤ left_in_all Left old + 1
   pub first : AllGoOn Fits Sound only_asked is_first Left limit result before before' turns
   pub own : HasTakenTurns Fits Sound only_asked is_first Left limit result old new turns
   pub last : AllGoOn Fits Sound only_asked is_first Left limit result after after' turns
-  pub less : OnOk result (work_left Left new + turns ≤ work_left Left old)
+  pub less : OnOk result (left_in_all Left new + turns ≤ left_in_all Left old)
   pub idle : OnOk result (IsIdle new)
   pub worn : WornAmong Fits Sound only_asked is_first limit result (row before' new after')
 
@@ -146,8 +146,8 @@ pub record Finishes {W Q R T U : Type 0} (Fits : T → W → Type 0) (Sound : W 
     (only_asked is_first : T → Bool) (Left : W → State → Option ℕ) (limit : ℕ)
     (old new : List (Group W Q R T U)) (result : Result (Unit {0}) Unfinished) : Type 0 where
   pub turns : ℕ
-  pub within : turns ≤ sum_by (work_left Left) old + 1
+  pub within : turns ≤ sum_by (left_in_all Left) old + 1
   pub goes : AllGoOn Fits Sound only_asked is_first Left limit result old new turns
-  pub less : OnOk result (sum_by (work_left Left) new + turns ≤ sum_by (work_left Left) old)
+  pub less : OnOk result (sum_by (left_in_all Left) new + turns ≤ sum_by (left_in_all Left) old)
   pub idle : OnOk result (All IsIdle new)
   pub worn : WornAmong Fits Sound only_asked is_first limit result new

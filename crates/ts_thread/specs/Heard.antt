@@ -7,7 +7,7 @@ use Rattle.ts_group.specs.declared.group.Group.{Group}
 use Rattle.ts_group.specs.declared.world.Asked.{Asked}
 use Rattle.ts_group.specs.Answers.{AwaitsReply, Hears, IsAnswer, IsSameGroup}
 use Rattle.ts_group.specs.Calls.{Handles}
-use Rattle.ts_slot.specs.declared.view.View.{View}
+use Rattle.ts_slot.specs.declared.view.SeatView.{SeatView}
 use Rattle.ts_thread.specs.declared.did.Did.{Did}
 use Rattle.ts_thread.specs.declared.did.Did.TheVariants as did
 use Rattle.ts_thread.specs.Asks.{AnswersAsked, CameBy, GivesReply}
@@ -15,13 +15,13 @@ use Rattle.ts_thread.specs.Seats.{CountsSame}
 
 module _ {W Q R T U G S : Type 0} where
   -- no event was handled, and the seat asked nobody
-  pub record NoneRan (old new : Group W Q R T U) (before after : View G S) : Type 0 where
+  pub record NoneRan (old new : Group W Q R T U) (before after : SeatView G S) : Type 0 where
     pub same : IsSameGroup old new
     pub counts : CountsSame before after
 
   -- So many events were handled, the first under this number, and none of their handlers asked.
   pub record AllRan (Called : W → W → List ℕ → Type 0) (number moment : ℕ) (old new : Group W Q R T U)
-      (before after : View G S) (result : Result Did NoMemory) : Type 0 where
+      (before after : SeatView G S) (result : Result Did NoMemory) : Type 0 where
     pub events : ℕ
     pub handles : Handles Called old new number moment events
     pub counts : CountsSame before after
@@ -32,7 +32,7 @@ module _ {W Q R T U G S : Type 0} where
   pub record WasTold (Fits : T → W → Type 0) (Asking : W → State → List Named → ℕ → ℕ → Q → Type 0)
       (Answers : W → Q → R → Type 0) (Called : W → W → List ℕ → Type 0) (Heard : W → W → Asked Q R → Type 0)
       (Left : W → State → Option ℕ) (tags : List T)
-      (number moment : ℕ) (old new : Group W Q R T U) (before after : View G S)
+      (number moment : ℕ) (old new : Group W Q R T U) (before after : SeatView G S)
       (result : Result Did NoMemory) : Type 0 where
     pub events : ℕ
     pub asking : Group W Q R T U
@@ -49,7 +49,7 @@ module _ {W Q R T U G S : Type 0} where
   abbrev pub RunsHandlers : (T → W → Type 0) → (W → State → List Named → ℕ → ℕ → Q → Type 0)
       → (W → Q → R → Type 0) → (W → W → List ℕ → Type 0) → (W → W → Asked Q R → Type 0)
       → (W → State → Option ℕ) → List T → ℕ → ℕ → Group W Q R T U → Group W Q R T U
-      → View G S → View G S → Result Did NoMemory → Type 0
+      → SeatView G S → SeatView G S → Result Did NoMemory → Type 0
   RunsHandlers Fits Asking Answers Called Heard Left tags number moment old new before after result =
       NoneRan old new before after
       ⊎ AllRan Called number moment old new before after result

@@ -15,7 +15,7 @@ use Rattle.ts_group.specs.declared.world.Asked.{Asked}
 use Rattle.ts_group.specs.Answers.{Holds, KeepsTags, SetsAtMost}
 use Rattle.ts_group.specs.Changes.{StaysInTurn, SameEvents}
 use Rattle.ts_group.specs.Slot.{marks_of}
-use Rattle.ts_slot.specs.declared.view.View.{View}
+use Rattle.ts_slot.specs.declared.view.SeatView.{SeatView}
 use Rattle.ts_thread.specs.declared.did.Did.{Did}
 use Rattle.ts_thread.specs.Heard.{RunsHandlers}
 use Rattle.ts_thread.specs.Tags.{GroupFits}
@@ -103,7 +103,7 @@ module _ {W Q R T U : Type 0} where
       (Fits : T → W → Type 0) (Asking : W → State → List Named → ℕ → ℕ → Q → Type 0)
       (Answers : W → Q → R → Type 0) (Called : W → W → List ℕ → Type 0) (Heard : W → W → Asked Q R → Type 0)
       (Left : W → State → Option ℕ) (tags : List T)
-      (number moment : ℕ) (old new : Group W Q R T U) (before after : View G S)
+      (number moment : ℕ) (old new : Group W Q R T U) (before after : SeatView G S)
       (result : Result Did NoMemory) : Type 0 where
     pub goes : GoesInTurn Fits old new
     pub sound : Holds Sound new

@@ -51,8 +51,8 @@ module _ {W Q R T U : Type 0} {d : Ghosts (Group W Q R T U) T (Group W Q R T U)}
       × Turns made old mid moment × StaysIdle (length tags) moment mid new × (new.wheel ≡ [])
 
   -- After fewer turns than the budget memory lacked in one.
-  abbrev pub HasFailed : ℕ → Desk (Group W Q R T U) T (Group W Q R T U) d
+  abbrev pub HasLacked : ℕ → Desk (Group W Q R T U) T (Group W Q R T U) d
       → Desk (Group W Q R T U) T (Group W Q R T U) d → Type 0
-  HasFailed budget old new =
+  HasLacked budget old new =
       (made : ℕ) × (made < budget) × (mid : Desk (Group W Q R T U) T (Group W Q R T U) d) × (moment : ℕ)
       × Turns made old mid moment × LosesOne (length tags) moment mid new

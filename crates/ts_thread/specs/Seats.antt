@@ -1,6 +1,6 @@
 -- What calls leave of what a seat knows.
 use Rattle.std.specs.Prelude.{◌≡◌, ℕ, ◌+◌, ◌<◌, ◌≤◌, List, ◌∷◌, length}
-use Rattle.ts_slot.specs.declared.view.View.{View}
+use Rattle.ts_slot.specs.declared.view.SeatView.{SeatView}
 use Rattle.ts_slot.specs.Limits.{last_turn}
 use Rattle.ts_slot.specs.Lists.{IsIn, rest}
 
@@ -15,7 +15,7 @@ KnowsTurn k turn trace known = turn < last_turn → IsIn (k, turn, trace) known
 module _ {G T : Type 0} where
   -- A seat has its share, its names and the groups that it held, got at most so many turns more, and forgot
   -- nothing.
-  pub record KeepsSeat (old new : View G T) (most : ℕ) : Type 0 where
+  pub record KeepsSeat (old new : SeatView G T) (most : ℕ) : Type 0 where
     pub share : new.share ≡ old.share
     pub names : new.names ≡ old.names
     pub held : new.held ≡ old.held
@@ -24,7 +24,7 @@ module _ {G T : Type 0} where
     pub known : More old.known new.known
 
   -- the same, but for the group that the seat won last, which it left
-  pub record LeavesWon (old new : View G T) (most : ℕ) : Type 0 where
+  pub record LeavesWon (old new : SeatView G T) (most : ℕ) : Type 0 where
     pub share : new.share ≡ old.share
     pub names : new.names ≡ old.names
     pub held : new.held ≡ rest old.held
@@ -33,7 +33,7 @@ module _ {G T : Type 0} where
     pub known : More old.known new.known
 
   -- a seat left the group that it won last, and counts what it counted
-  pub record Leaves (old new : View G T) : Type 0 where
+  pub record Leaves (old new : SeatView G T) : Type 0 where
     pub share : new.share ≡ old.share
     pub names : new.names ≡ old.names
     pub held : new.held ≡ rest old.held
@@ -42,17 +42,17 @@ module _ {G T : Type 0} where
     pub known : More old.known new.known
 
   -- a seat counts the turns and the misses that it counted
-  pub record CountsSame (old new : View G T) : Type 0 where
+  pub record CountsSame (old new : SeatView G T) : Type 0 where
     pub turns : new.turns ≡ old.turns
     pub misses : new.misses ≡ old.misses
 
   -- a seat counts one turn more, of the group k
-  pub record CountsTurn (k : ℕ) (old new : View G T) : Type 0 where
+  pub record CountsTurn (k : ℕ) (old new : SeatView G T) : Type 0 where
     pub turn : ℕ
     pub turns : new.turns ≡ (k, turn) ∷ old.turns
     pub misses : new.misses ≡ old.misses
 
   -- a seat counts one miss more, of the group k, whose word it saw
-  pub record CountsMiss (k seen : ℕ) (old new : View G T) : Type 0 where
+  pub record CountsMiss (k seen : ℕ) (old new : SeatView G T) : Type 0 where
     pub turns : new.turns ≡ old.turns
     pub misses : new.misses ≡ (k, seen) ∷ old.misses

@@ -3,7 +3,7 @@ use Rattle.std.specs.Prelude.{◌≡◌, ◌≢◌, ℕ, ◌+◌, ◌<◌, ◌�
 use Rattle.ts_journal.specs.declared.entry.Pending.{Pending}
 use Rattle.ts_journal.specs.State.{State, pending_at}
 use Rattle.ts_group.specs.declared.group.TheConstants.{MOST_EVENTS}
-use Rattle.ts_slot.specs.declared.view.View.{View}
+use Rattle.ts_slot.specs.declared.view.SeatView.{SeatView}
 use Rattle.ts_queue.specs.declared.ticket.Token.{Token}
 use Rattle.ts_wheel.specs.Due.{added}
 use Rattle.ts_thread.specs.declared.did.Did.{Did}
@@ -48,7 +48,7 @@ IsShown found left number moment did.Idle = ⊥
 
 -- What the seat counts beside the turn of the group k: a turn of another group that was asked, a miss of it,
 -- or nothing.
-abbrev pub IsCounted : {G T : Type 0} → ℕ → View G T → View G T → Did → Type 0
+abbrev pub IsCounted : {G T : Type 0} → ℕ → SeatView G T → SeatView G T → Did → Type 0
 IsCounted k old new (did.Ran events) = CountsSame old new ⊎ ((to : ℕ) × (to ≢ k) × CountsTurn to old new)
 IsCounted k old new (did.PutBack group seen) = ⊥
 IsCounted k old new (did.AskMissed group seen) = (group ≢ k) × CountsMiss group seen old new

@@ -6,7 +6,7 @@ use Rattle.ts_link.specs.Counts.{Rose}
 use Rattle.ts_queue.specs.declared.queue.QueuePass.{QueuePass}
 use Rattle.ts_queue.specs.declared.ticket.Token.{Token}
 use Rattle.ts_queue.specs.declared.ticket.Ticket.{Ticket}
-use Rattle.ts_queue.specs.declared.view.View.{View}
+use Rattle.ts_queue.specs.declared.view.PassView.{PassView}
 use Rattle.ts_queue.specs.Views.{putting_next}
 use Rattle.ts_queue.specs.Passes.{pass_view, empties_of, TakesTicket, FindsEmpty}
 use Rattle.ts_wheel.specs.Due.{added, first_due, after_due}
@@ -17,15 +17,15 @@ abbrev pub AllName : ℕ → List (ℕ × Token) → Type 0
 AllName groups wheel = All (λ e. e.1.group < groups) wheel
 
 -- a pass took tickets whose tokens name none of so many groups, and let them go
-pub record LetsGo (groups : ℕ) (old new : View) : Type 0 where
+pub record LetsGo (groups : ℕ) (old new : PassView) : Type 0 where
   pub gone : List Ticket
   pub foreign : All (λ t. groups ≤ t.token.group) gone
   pub is : new ≡ record old { taken = gone ++ old.taken }
 
 -- a pass took the next ticket whose token names one of so many groups, which is this token
-pub record TakesNext (groups : ℕ) (old new : View) (token : Token) : Type 0 where
+pub record TakesNext (groups : ℕ) (old new : PassView) (token : Token) : Type 0 where
   pub names : token.group < groups
-  pub before : View
+  pub before : PassView
   pub lets_go : LetsGo groups old before
   pub ticket : Ticket
   pub is : ticket.token ≡ token

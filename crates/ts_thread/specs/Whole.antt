@@ -8,7 +8,7 @@ use Rattle.ts_group.specs.Standing.{FollowsGroup}
 use Rattle.ts_slot.specs.Limits.{most_groups}
 use Rattle.ts_thread.specs.declared.TheConstants.{MOST_ALONE}
 use Rattle.ts_group.specs.Answers.{Finite}
-use Rattle.ts_thread.specs.Goings.{IsIdle, work_left}
+use Rattle.ts_thread.specs.Goings.{IsIdle, left_in_all}
 use Rattle.ts_thread.specs.Started.{IsFirst, WereStarted}
 use Rattle.ts_thread.specs.Tags.{GroupFits, GroupsFit, CanAsk}
 use Rattle.ts_thread.specs.Threads.{IsPlan, HasHadTurns, turns_of}
@@ -50,7 +50,7 @@ pub record EndSoon {W T : Type 0} (Q R U : Type 0) (Fits : T → W → Type 0)
     (limit turns : ℕ) (tags : List T) : Type 0 where
   pub most : ℕ
   pub each : All (λ t. (g : Group W Q R T U) → GroupFits Fits Sound only_asked is_first t g
-      → HasHadTurns turns g → work_left Left g ≤ most) tags
+      → HasHadTurns turns g → left_in_all Left g ≤ most) tags
   pub enough : turns + length tags * most + 1 < limit
 
 -- Groups that have ended: each follows the group that was given at its place and fits its tag, no event is

@@ -6,7 +6,7 @@ ghost use Rattle.std.specs.Result.{IsErrOf};
 ghost use Rattle.ts_group.specs.declared.group.Group.{Group as GroupOf};
 ghost use Rattle.ts_group.specs.Answers.{Finite, Holds, IsAnswer, LeavesLess};
 ghost use Rattle.ts_thread.specs.Tags.{GroupFits, GroupsFit, FitAround, CanAsk};
-ghost use Rattle.ts_thread.specs.Goings.{HasTakenTurns, WorksOn, AllGoOn, HasTurns, ComesNext, came_of, IsWorn, WornAmong, work_left, row, Drives, DrivesAt, Finishes};
+ghost use Rattle.ts_thread.specs.Goings.{HasTakenTurns, WorksOn, AllGoOn, HasTurns, ComesNext, came_of, IsWorn, WornAmong, left_in_all, row, Drives, DrivesAt, Finishes};
 
 use crate::did::Unfinished;
 use ts_group::{Asked, Group, Handling, TurnFault, World};
@@ -309,7 +309,7 @@ pub fn finish_within<W: World + Drop>(
     requires limit { limit ≤ MOST_TURNS }
     ensures finishes { Finishes W.fits W.sound W.only_asked W.is_first W.left limit
         groups.old.items groups.new.items result }
-    ensures spares { All (HasTurns limit (sum_by (work_left W.left) groups.old.items)) groups.old.items
+    ensures spares { All (HasTurns limit (sum_by (left_in_all W.left) groups.old.items)) groups.old.items
         → IsErrOf result Unfinished.Worn → ⊥ }
 {
     finish_all(groups.as_mut_slice(), limit)
@@ -322,7 +322,7 @@ pub fn finish<W: World + Drop>(groups: &mut Vec<Group<W>>) -> Result<(), Unfinis
     requires tells { All (Finite W.left) groups.old.items }
     ensures finishes { Finishes W.fits W.sound W.only_asked W.is_first W.left MOST_TURNS
         groups.old.items groups.new.items result }
-    ensures spares { All (HasTurns MOST_TURNS (sum_by (work_left W.left) groups.old.items)) groups.old.items
+    ensures spares { All (HasTurns MOST_TURNS (sum_by (left_in_all W.left) groups.old.items)) groups.old.items
         → IsErrOf result Unfinished.Worn → ⊥ }
 {
     finish_within(groups, MOST_TURNS)

@@ -4,7 +4,7 @@ ghost use Rattle.std.specs.Prelude.{◌≡◌, ◌*◌, [], length, IfOk, OnErr}
 ghost use Rattle.ts_slot.specs.Words.{tags_of, view};
 ghost use Rattle.ts_thread.specs.declared.TheConstants.{MOST_ENTERED};
 ghost use Rattle.ts_thread.specs.Desks.{IsDeskOf, KeepsDesk};
-ghost use Rattle.ts_thread.specs.Runs.{HasRunTo, HasFailed};
+ghost use Rattle.ts_thread.specs.Runs.{HasRunTo, HasLacked};
 ghost use Rattle.ts_thread.specs.Tags.{CanAsk};
 ghost use Rattle.ts_thread.specs.Turning.{IsDid, LosesOne};
 
@@ -58,7 +58,7 @@ pub fn run_desk<W: World + Drop, G: Gate, R: Wait>(
     ensures keeps { KeepsDesk desk.old desk.new (MOST_ENTERED * budget) }
     ensures ran { IfOk result (HasRunTo W.fits W.asking W.answers W.called W.heard W.left
         (tags_of slots.now) budget desk.old desk.new) }
-    ensures err { OnErr result (HasFailed W.fits W.asking W.answers W.called W.heard W.left
+    ensures err { OnErr result (HasLacked W.fits W.asking W.answers W.called W.heard W.left
         (tags_of slots.now) budget desk.old desk.new) }
 {
     let mut moment = 0;

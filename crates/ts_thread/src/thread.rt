@@ -37,7 +37,7 @@ impl<'a, W: World + Drop, G: Gate> EventThread<'a, W, G> {
     ghost use Rattle.ts_slot.specs.Words.{tags_of, IsSeatOf};
     ghost use Rattle.ts_thread.specs.declared.TheConstants.{MOST_ENTERED};
     ghost use Rattle.ts_thread.specs.Desks.{KeepsDesk};
-    ghost use Rattle.ts_thread.specs.Runs.{HasRunTo, HasFailed};
+    ghost use Rattle.ts_thread.specs.Runs.{HasRunTo, HasLacked};
     ghost use Rattle.ts_thread.specs.Tags.{CanAsk};
     ghost use Rattle.ts_thread.specs.Turning.{IsDid, LosesOne};
 
@@ -100,7 +100,7 @@ impl<'a, W: World + Drop, G: Gate> EventThread<'a, W, G> {
         ensures keeps { KeepsDesk self.old.desk self.new.desk (MOST_ENTERED * budget) }
         ensures ran { IfOk result (HasRunTo W.fits W.asking W.answers W.called W.heard W.left
             (tags_of self.old.slots.now) budget self.old.desk self.new.desk) }
-        ensures err { OnErr result (HasFailed W.fits W.asking W.answers W.called W.heard W.left
+        ensures err { OnErr result (HasLacked W.fits W.asking W.answers W.called W.heard W.left
             (tags_of self.old.slots.now) budget self.old.desk self.new.desk) }
     {
         run_desk(

@@ -107,7 +107,7 @@ pub fn end_turn<W: World + Drop, R: Wait>(
 }
 
 // The turn of a token's group that the seat won last, until it is left, at want of memory too.
-fn serve<W: World + Drop, G: Gate, R: Wait>(
+fn handle_entered<W: World + Drop, G: Gate, R: Wait>(
     rt: &R,
     slots: &Slots<Group<W>>,
     queue: &EventQueue,
@@ -171,6 +171,6 @@ pub fn enter<W: World + Drop, G: Gate, R: Wait>(
                 seen: missed.seen,
             })
         }
-        Ok(turn) => serve(rt, slots, queue, gate, thread, desk, token, turn, moment),
+        Ok(turn) => handle_entered(rt, slots, queue, gate, thread, desk, token, turn, moment),
     }
 }

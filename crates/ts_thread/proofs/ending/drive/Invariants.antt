@@ -1,4 +1,4 @@
-use Rattle.ts_thread.specs.Goings.{work_left}
+use Rattle.ts_thread.specs.Goings.{left_in_all}
 use Rattle.ts_thread.proofs.Rows.{IsDriving}
 use Rattle.ts_thread.proofs.ending.drive.Given as goal
 
@@ -7,4 +7,4 @@ invariant-events g l = IsDriving g.W.Slotted.fits g.W.World.sound g.W.World.only
     g.W.World.left l.limit l.initial.before l.before l.initial.group l.group l.initial.after l.after
 
 abbrev pub decreases-events : goal.decreases-events
-decreases-events g l = work_left g.W.World.left l.group
+decreases-events g l = left_in_all g.W.World.left l.group

@@ -1,5 +1,5 @@
 use Rattle.std.proofs.Common.{subst, ap, ◌∙◌, ◌+◌, ◌*◌, ◌-◌, arith}
-use Rattle.ts_queue.specs.declared.view.View.{View as Known}
+use Rattle.ts_queue.specs.declared.view.PassView.{PassView as Known}
 use Rattle.ts_queue.specs.Passes.{pass_view}
 use Rattle.ts_slot.specs.Words.{tags_of, view}
 use Rattle.ts_thread.specs.Seats.{KeepsSeat}

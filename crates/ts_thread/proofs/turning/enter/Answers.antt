@@ -33,13 +33,15 @@ returns-in_ok-add-in-Err-clause-keeps g c =
 pub returns-in-Ok-clause-keeps : goal.returns-in-Ok-clause-keeps
 returns-in-Ok-clause-keeps g c = record {
   desk = record {
-    seat = won_closed (view c.args.desk.now.seat) (view c.try_enter.new.seat) (view c.serve.new.desk.seat)
+    seat = won_closed (view c.args.desk.now.seat) (view c.try_enter.new.seat)
+        (view c.handle_entered.new.desk.seat)
         c.args.token.group c.in-Ok.turn.number 1 2 c.in-Ok.turn.value (omega arith) c.in-Ok.ensures.won
-        c.serve.ensures.closes.seat;
-    share = c.serve.ensures.closes.share;
+        c.handle_entered.ensures.closes.seat;
+    share = c.handle_entered.ensures.closes.share;
   };
-  places = record { wheel = c.serve.ensures.closes.places.wheel; put = c.serve.ensures.closes.places.put;
-      taken = c.serve.ensures.closes.places.taken };
+  places = record { wheel = c.handle_entered.ensures.closes.places.wheel; put =
+      c.handle_entered.ensures.closes.places.put;
+      taken = c.handle_entered.ensures.closes.places.taken };
 }
 
 pub returns-in-Ok-clause-uses : goal.returns-in-Ok-clause-uses
@@ -49,13 +51,15 @@ returns-in-Ok-clause-uses g c =
         (Group g.row.W.Denot g.row.W-Question.Denot g.row.W-Reply.Denot g.row.W-Tag.Denot g.row.W-Trace.Denot)
         _ = record { seat = c.try_enter.new.seat; pass = c.args.desk.now.pass; wheel = c.args.desk.now.wheel }
         in
-    ok_all c.serve.result (Serves g.W.Slotted.fits g.W.World.asking g.W.World.answers g.W.World.called
+    ok_all c.handle_entered.result (Serves g.W.Slotted.fits g.W.World.asking g.W.World.answers
+        g.W.World.called
         g.W.World.heard g.W.World.left (tags_of c.args.slots.now) c.args.token c.args.moment
-        c.in-Ok.turn.number c.in-Ok.turn.found.value entered c.serve.new.desk)
+        c.in-Ok.turn.number c.in-Ok.turn.found.value entered c.handle_entered.new.desk)
         (Uses g.W.Slotted.fits g.W.World.asking g.W.World.answers g.W.World.called g.W.World.heard
-        g.W.World.left (tags_of c.args.slots.now) c.args.token c.args.moment c.args.desk.now c.serve.new.desk)
+        g.W.World.left (tags_of c.args.slots.now) c.args.token c.args.moment c.args.desk.now
+            c.handle_entered.new.desk)
     (uses_of g.W.Slotted.fits g.W.World.asking g.W.World.answers g.W.World.called g.W.World.heard
         g.W.World.left (tags_of c.args.slots.now) c.args.token c.args.moment c.in-Ok.turn.number
-        c.in-Ok.turn.found.value c.in-Ok.turn.value c.args.desk.now entered c.serve.new.desk
+        c.in-Ok.turn.found.value c.in-Ok.turn.value c.args.desk.now entered c.handle_entered.new.desk
         c.in-Ok.ensures.turn.1 c.in-Ok.ensures.later c.in-Ok.ensures.won refl refl)
-    c.serve.ensures.serves
+    c.handle_entered.ensures.serves

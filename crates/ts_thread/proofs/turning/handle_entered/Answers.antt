@@ -3,7 +3,7 @@ use Rattle.ts_slot.specs.Words.{tags_of}
 use Rattle.ts_thread.specs.Held.{HasTurn}
 use Rattle.ts_thread.proofs.Uses.{closes_desk, serve_ends}
 use Rattle.ts_thread.proofs.Worked.{given_marks}
-use Rattle.ts_thread.proofs.turning.serve.Goals as goal
+use Rattle.ts_thread.proofs.turning.handle_entered.Goals as goal
 
 pub leave-requires-clause-marks : goal.leave-requires-clause-marks
 leave-requires-clause-marks g c mark there =
