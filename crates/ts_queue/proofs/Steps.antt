@@ -194,7 +194,7 @@ whole_taken views id v h at whole t =
     let others : List PassView = set views id spent in
     let fine : All IsLawfulView others = All-set IsLawfulView views id spent spent_lawful h.each_view in
     let shares : sum_by (λ u. u.share) others ≡ 0 = let one = sum_by-set_at (λ (u : PassView). u.share) views
-        id v
+    id v
     spent at in let all = h.shares in omega arith in
     let puts : sum_by (λ u. sum_by f u.put) others ≡ 0 = nothing_left (λ u. sum_by f u.put) others refl fine
     shares in

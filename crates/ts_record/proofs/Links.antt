@@ -4,7 +4,7 @@ use Rattle.std.specs.List.{concat}
 use Rattle.ts_link.specs.Inputs.{bytes_of, stalls_from}
 use Rattle.ts_link.specs.declared.piece.Piece.{Piece}
 use Rattle.ts_link.specs.declared.piece.Piece.TheVariants.{Bytes}
-use Rattle.ts_link.specs.MemLink.{LinkState, look_of}
+use Rattle.ts_link.specs.MemLink.{LinkState}
 use Rattle.ts_record.specs.Links.{IsNewSide, NeverFails, recorded_side, side_pieces}
 
 -- their bytes
