@@ -17,20 +17,20 @@ use Rattle.ts_transform.specs.declared.continuation.StageContinuation.{StageCont
 use Rattle.ts_transform.specs.Driving.{IsOfStageIf, IsRousedIf, unroused, works_at}
 use Rattle.ts_transform.specs.Seats.{AllSeated, HasKey}
 use Rattle.ts_transform.proofs.Handled.{handled_by, quiet_if, stays_if, unroused_if}
-use Rattle.ts_txn.specs.Cover.{HasNextEvent, Proceeds, is_fresh}
-use Rattle.ts_txn.specs.CourseCover.{BodyHasEvents, HasEventsOn, HasStepDone, IsAlone, IsCoveredNow, IsCoveredOn, ProceedsOn, StandsBehind, course_seats}
-use Rattle.ts_txn.specs.Duties.{BeginsBody, HandlesBody, body_seats}
+use Rattle.ts_txn.specs.CourseCover.{HasNextEvent, BodyHasEvents, HasEventsOn, HasStepDone, IsAlone, IsCoveredNow, IsCoveredOn, ProceedsOn, StandsBehind, course_seats}
+use Rattle.ts_phases.specs.Cover.{Proceeds, is_fresh}
+use Rattle.ts_relay.specs.Duties.{BeginsBody, HandlesBody, body_seats}
 use Rattle.ts_txn.specs.Making.{end_of_phase}
-use Rattle.ts_txn.specs.View.{View}
+use Rattle.ts_phases.specs.View.{View}
 use Rattle.ts_txn.specs.declared.course.Course.{Course}
 use Rattle.ts_txn.specs.declared.course.Course.TheVariants as K
-use Rattle.ts_txn.specs.declared.driver.TheConstants.{MAIN}
-use Rattle.ts_txn.specs.declared.finishing.BodyStep.{BodyStep}
-use Rattle.ts_txn.specs.declared.phase.Phase.{Phase}
-use Rattle.ts_txn.specs.declared.phase.Phase.TheVariants as P
-use Rattle.ts_txn.specs.declared.relay.Relay.{Relay}
-use Rattle.ts_txn.proofs.Chaining.{grows_next}
-use Rattle.ts_txn.proofs.Duty.{no_lost_wake, none_pending}
+use Rattle.ts_relay.specs.declared.relay.TheConstants.{MAIN}
+use Rattle.ts_relay.specs.declared.last_writes.BodyStep.{BodyStep}
+use Rattle.ts_phases.specs.declared.phase.Phase.{Phase}
+use Rattle.ts_phases.specs.declared.phase.Phase.TheVariants as P
+use Rattle.ts_relay.specs.declared.relay.Relay.{Relay}
+use Rattle.ts_relay.proofs.Chaining.{grows_next}
+use Rattle.ts_relay.proofs.Duty.{no_lost_wake, none_pending}
 
 -- no body is passed on
 abbrev pub PassesNoBody : {Q : Type 0} → Course Q → Type 0

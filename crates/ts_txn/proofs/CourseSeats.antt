@@ -17,20 +17,19 @@ use Rattle.ts_transform.proofs.Joined.{named_of}
 use Rattle.ts_transform.proofs.Seating.{key_same, seated_set}
 use Rattle.ts_transform.proofs.Seats.{seated_cleared}
 use Rattle.ts_transform.proofs.Setting.{of_stages_named}
-use Rattle.ts_txn.specs.Cover.{HasNextEvent, HasNextEventOr, IsOfMain, is_ended}
-use Rattle.ts_txn.specs.CourseCover.{CoversAlone, CoversLed, GoesAlone, HasRousedNext, HasStepDone, IsAlone, IsCoveredNow, StandsBehind, StaysWhereNamed, StaysWhereSpent}
-use Rattle.ts_txn.specs.Duties.{RunsOr, UnlessLacking, relay_seats}
-use Rattle.ts_txn.specs.View.{View}
+use Rattle.ts_txn.specs.CourseCover.{HasNextEvent, HasNextEventOr, IsOfMain, CoversAlone, CoversLed, GoesAlone, HasRousedNext, HasStepDone, IsAlone, IsCoveredNow, StandsBehind, StaysWhereNamed, StaysWhereSpent}
+use Rattle.ts_phases.specs.Cover.{is_ended}
+use Rattle.ts_relay.specs.Duties.{RunsOr, UnlessLacking, relay_seats}
+use Rattle.ts_phases.specs.View.{View}
 use Rattle.ts_txn.specs.declared.course.Course.{Course}
 use Rattle.ts_txn.specs.declared.course.Course.TheVariants as K
-use Rattle.ts_txn.specs.declared.driver.TheConstants.{MAIN}
-use Rattle.ts_txn.specs.declared.finishing.BodyStep.{BodyStep}
-use Rattle.ts_txn.specs.declared.finishing.BodyStep.TheVariants as S
-use Rattle.ts_txn.specs.declared.phase.Phase.{Phase}
-use Rattle.ts_txn.specs.declared.phase.Phase.TheVariants as P
-use Rattle.ts_txn.specs.declared.relay.Relay.{Relay}
-use Rattle.ts_txn.specs.declared.relay.TheConstants.{FIRST, READER}
-use Rattle.ts_txn.proofs.Chaining.{grows_next}
+use Rattle.ts_relay.specs.declared.relay.TheConstants.{MAIN, FIRST, READER}
+use Rattle.ts_relay.specs.declared.last_writes.BodyStep.{BodyStep}
+use Rattle.ts_relay.specs.declared.last_writes.BodyStep.TheVariants as S
+use Rattle.ts_phases.specs.declared.phase.Phase.{Phase}
+use Rattle.ts_phases.specs.declared.phase.Phase.TheVariants as P
+use Rattle.ts_relay.specs.declared.relay.Relay.{Relay}
+use Rattle.ts_relay.proofs.Chaining.{grows_next}
 use Rattle.ts_txn.proofs.Coverage.{covered_roused, ended_covered, ended_idle, idle_goes}
 
 -- ---- the first continuation is roused

@@ -7,27 +7,27 @@ use Rattle.ts_hooks.specs.declared.txn_end.TxnEnd.TheVariants as E
 use Rattle.ts_link.specs.Link.{Look}
 use Rattle.ts_transform.specs.Flow.{ChainState}
 use Rattle.ts_wire.specs.Place.{Place}
-use Rattle.ts_txn.specs.Entering.{EntersBody}
-use Rattle.ts_txn.specs.View.{OriginRefuses, View, refuses_if, view_of}
+use Rattle.ts_relay.specs.Entering.{EntersBody}
+use Rattle.ts_phases.specs.View.{OriginRefuses, View, refuses_if, view_of}
 use Rattle.ts_txn.specs.Course.{CourseFact, course_after, finish_after}
 use Rattle.ts_txn.specs.CourseCover.{LedAfter, LedBehind, StaysOnOrLacks}
-use Rattle.ts_txn.specs.Ends.{EndFact}
-use Rattle.ts_txn.specs.Finishing.{IsFinishing, LeadsBody}
-use Rattle.ts_txn.specs.Holding.{StepKeeps}
-use Rattle.ts_txn.specs.Relaying.{RelaysBody}
+use Rattle.ts_phases.specs.Ends.{EndFact}
+use Rattle.ts_relay.specs.Finishing.{IsFinishing, LeadsBody}
+use Rattle.ts_phases.specs.Holding.{StepKeeps}
+use Rattle.ts_relay.specs.Relaying.{RelaysBody}
 use Rattle.ts_txn.specs.declared.course.Course.{Course}
 use Rattle.ts_txn.specs.declared.course.Course.TheVariants as K
-use Rattle.ts_txn.specs.declared.finishing.BodyStep.{BodyStep}
-use Rattle.ts_txn.specs.declared.finishing.BodyStep.TheVariants as S
-use Rattle.ts_txn.specs.declared.parts.Core.{Core}
-use Rattle.ts_txn.specs.declared.phase.Next.{Next}
-use Rattle.ts_txn.specs.declared.phase.Next.TheVariants as N
-use Rattle.ts_txn.specs.declared.relay.Relay.{Relay}
-use Rattle.ts_txn.proofs.Always.{always}
-use Rattle.ts_txn.proofs.Asks.{lacks_memory}
-use Rattle.ts_txn.proofs.Finished.{finishing_any}
-use Rattle.ts_txn.proofs.Relaying.{relays_lacks}
-use Rattle.ts_txn.proofs.Settled.{entering, finishing, phase_fact, relaying}
+use Rattle.ts_relay.specs.declared.last_writes.BodyStep.{BodyStep}
+use Rattle.ts_relay.specs.declared.last_writes.BodyStep.TheVariants as S
+use Rattle.ts_phases.specs.declared.parts.Core.{Core}
+use Rattle.ts_phases.specs.declared.phase.Next.{Next}
+use Rattle.ts_phases.specs.declared.phase.Next.TheVariants as N
+use Rattle.ts_relay.specs.declared.relay.Relay.{Relay}
+use Rattle.ts_phases.proofs.Always.{always}
+use Rattle.ts_phases.proofs.Asks.{lacks_memory}
+use Rattle.ts_relay.proofs.Finished.{finishing_any}
+use Rattle.ts_relay.proofs.Relaying.{relays_lacks}
+use Rattle.ts_relay.proofs.Settled.{entering, finishing, phase_fact, relaying}
 
 module _ (setup : Setup) (refuses : Type 0) {Q : Type 0} (rest : Q → List ℕ → List ℕ) (v : View) where
   -- a step of a body

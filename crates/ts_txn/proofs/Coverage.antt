@@ -5,12 +5,12 @@ use Rattle.ts_group.specs.declared.action.SetFault.{SetFault}
 use Rattle.ts_group.specs.declared.action.SetFault.TheVariants as F
 use Rattle.ts_transform.specs.Driving.{IsRousedIf}
 use Rattle.ts_transform.specs.declared.continuation.StageContinuation.{StageContinuation}
-use Rattle.ts_txn.specs.Cover.{Proceeds, Idles, HasNextEvent, HasNextEventOr, is_ended, is_fresh, is_fresh_on}
-use Rattle.ts_txn.specs.CourseCover.{IdlesOn}
+use Rattle.ts_phases.specs.Cover.{Proceeds, is_ended, is_fresh}
+use Rattle.ts_txn.specs.CourseCover.{Idles, HasNextEvent, HasNextEventOr, is_fresh_on, IdlesOn}
 use Rattle.ts_txn.specs.declared.course.Course.{Course}
 use Rattle.ts_txn.specs.declared.course.Course.TheVariants as K
-use Rattle.ts_txn.specs.declared.phase.Phase.{Phase}
-use Rattle.ts_txn.specs.declared.phase.Phase.TheVariants as P
+use Rattle.ts_phases.specs.declared.phase.Phase.{Phase}
+use Rattle.ts_phases.specs.declared.phase.Phase.TheVariants as P
 
 -- its continuation was roused
 pub covered_roused : (p : Phase) (main : Option StageContinuation) (next : ℕ) → Proceeds p → IsRousedIf main → HasNextEventOr p main next

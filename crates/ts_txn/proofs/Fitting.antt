@@ -4,14 +4,14 @@ use Rattle.std.proofs.Common.{◌≡◌, ℕ, List, Bool, true, false, Option, S
 use Rattle.std.specs.Arc.{arc_value}
 use Rattle.std.specs.Prelude.{IsSomeAnd, ⊤}
 use Rattle.ts_link.specs.Link.{IsSure, IsSurePlan, Look}
-use Rattle.ts_txn.specs.Cover.{is_fresh_on}
+use Rattle.ts_txn.specs.CourseCover.{is_fresh_on}
 use Rattle.ts_txn.specs.Driven.{TakesEvent}
-use Rattle.ts_txn.specs.Holding.{IsSameLink, StepKeeps}
+use Rattle.ts_phases.specs.Holding.{IsSameLink, StepKeeps}
 use Rattle.ts_txn.specs.Making.{IsMadeOf, IsMadeOfIf}
-use Rattle.ts_txn.specs.View.{is_dialed, side_if}
+use Rattle.ts_phases.specs.View.{is_dialed, side_if}
 use Rattle.ts_txn.specs.World.{HasTxnBegun, IsSameLinkIf, IsSureIf, IsTxnOf}
-use Rattle.ts_txn.specs.declared.parts.Core.{Core}
-use Rattle.ts_txn.specs.declared.parts.Peer.{Peer}
+use Rattle.ts_phases.specs.declared.parts.Core.{Core}
+use Rattle.ts_phases.specs.declared.parts.Peer.{Peer}
 use Rattle.ts_txn.specs.declared.txn.Txn.{Txn}
 use Rattle.ts_txn.specs.declared.txn.TxnTag.{TxnTag}
 use Rattle.ts_txn.proofs.Events.{event_started}

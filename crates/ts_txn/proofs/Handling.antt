@@ -14,26 +14,26 @@ use Rattle.ts_group.specs.Context.{Context}
 use Rattle.ts_link.specs.Link.{Look}
 use Rattle.ts_transform.specs.Driving.{IsOfStageIf, unroused, works_at}
 use Rattle.ts_transform.specs.declared.continuation.StageContinuation.{StageContinuation}
-use Rattle.ts_txn.specs.BodyLinks.{HoldsLittle}
+use Rattle.ts_relay.specs.BodyLinks.{HoldsLittle}
 use Rattle.ts_txn.specs.Course.{CourseFact, CourseHolds, course_after, finish_after}
 use Rattle.ts_txn.specs.LoweringCourse.{IsOfLinesOn}
-use Rattle.ts_txn.specs.CourseCover.{CoversAlone, HasEventsOn, IsAlone, IsCoveredNow, IsCoveredOn, ProceedsOn, StaysOnOrLacks, set_after}
-use Rattle.ts_txn.specs.Cover.{is_fresh_on}
-use Rattle.ts_txn.specs.Duties.{UnlessLacking, WhileGoes}
-use Rattle.ts_txn.specs.Holding.{IfTold, StepKeeps}
+use Rattle.ts_txn.specs.CourseCover.{CoversAlone, HasEventsOn, IsAlone, IsCoveredNow, IsCoveredOn, ProceedsOn, StaysOnOrLacks, is_fresh_on}
+use Rattle.ts_phases.specs.Cover.{set_after}
+use Rattle.ts_relay.specs.Duties.{UnlessLacking, WhileGoes}
+use Rattle.ts_phases.specs.Holding.{IfTold, StepKeeps}
 use Rattle.ts_txn.specs.Making.{end_of}
-use Rattle.ts_txn.specs.View.{OriginRefuses, View, view_of}
+use Rattle.ts_phases.specs.View.{OriginRefuses, View, view_of}
 use Rattle.ts_txn.specs.World.{HoldsLittleOn, HoldsOn, IsSoundNow, IsSoundOn, IsSoundTxn}
 use Rattle.ts_txn.specs.declared.course.Course.{Course}
 use Rattle.ts_txn.specs.declared.course.Course.TheVariants as K
-use Rattle.ts_txn.specs.declared.driver.TheConstants.{MAIN}
-use Rattle.ts_txn.specs.declared.finishing.BodyStep.{BodyStep}
-use Rattle.ts_txn.specs.declared.finishing.BodyStep.TheVariants as S
-use Rattle.ts_txn.specs.declared.parts.Core.{Core}
-use Rattle.ts_txn.specs.declared.phase.Next.{Next}
-use Rattle.ts_txn.specs.declared.phase.Next.TheVariants as N
-use Rattle.ts_txn.specs.declared.phase.Phase.TheVariants as P
-use Rattle.ts_txn.specs.declared.relay.Relay.{Relay}
+use Rattle.ts_relay.specs.declared.relay.TheConstants.{MAIN}
+use Rattle.ts_relay.specs.declared.last_writes.BodyStep.{BodyStep}
+use Rattle.ts_relay.specs.declared.last_writes.BodyStep.TheVariants as S
+use Rattle.ts_phases.specs.declared.parts.Core.{Core}
+use Rattle.ts_phases.specs.declared.phase.Next.{Next}
+use Rattle.ts_phases.specs.declared.phase.Next.TheVariants as N
+use Rattle.ts_phases.specs.declared.phase.Phase.TheVariants as P
+use Rattle.ts_relay.specs.declared.relay.Relay.{Relay}
 use Rattle.ts_txn.specs.declared.txn.Txn.{Txn}
 use Rattle.ts_txn.proofs.CourseCalls.{PassesNoBody, alone_called, at_rest_on, later_covered, on_other, on_quiet, proceeds_phase}
 use Rattle.ts_txn.proofs.Coursing.{course_settled, stays_on}

@@ -21,30 +21,31 @@ use Rattle.ts_link.specs.Link.{Fewer, Look, NoMore}
 use Rattle.ts_wire.specs.declared.heads.ResponseHead.{ResponseHead}
 use Rattle.ts_txn.specs.Course.{course_after, finish_after}
 use Rattle.ts_transform.specs.declared.continuation.StageContinuation.{StageContinuation}
-use Rattle.ts_txn.specs.CourseCover.{BodyHasEvents, IsCoveredOn, StaysOnOrLacks, set_after, set_leaving}
-use Rattle.ts_txn.specs.Duties.{IsBodyCovered, WhileGoes}
-use Rattle.ts_txn.specs.Holding.{IfTold}
-use Rattle.ts_txn.specs.Lowering.{StepFalls, agains_left, events_paid, if_told, number_left, phase_work, upload_in, work_left}
-use Rattle.ts_txn.specs.LoweringBody.{IsOfLines, StaysOfLines, ended_left, finish_left, left_after, rest_after, unbegun_left}
+use Rattle.ts_txn.specs.CourseCover.{BodyHasEvents, IsCoveredOn, StaysOnOrLacks}
+use Rattle.ts_phases.specs.Cover.{set_after}
+use Rattle.ts_relay.specs.Duties.{set_leaving, IsBodyCovered, WhileGoes}
+use Rattle.ts_phases.specs.Holding.{IfTold}
+use Rattle.ts_phases.specs.Lowering.{StepFalls, agains_left, events_paid, if_told, number_left, phase_work, upload_in, work_left}
+use Rattle.ts_relay.specs.LoweringBody.{IsOfLines, StaysOfLines, ended_left, finish_left, left_after, rest_after, unbegun_left}
 use Rattle.ts_txn.specs.LoweringCourse.{IsOfLinesOn, course_left, number_if, parts_left, transaction_left}
-use Rattle.ts_txn.specs.View.{View, upload_told, view_of}
+use Rattle.ts_phases.specs.View.{View, upload_told, view_of}
 use Rattle.ts_txn.specs.declared.course.Course.{Course}
 use Rattle.ts_txn.specs.declared.course.Course.TheVariants as K
-use Rattle.ts_txn.specs.declared.finishing.BodyStep.{BodyStep}
-use Rattle.ts_txn.specs.declared.finishing.BodyStep.TheVariants as S
-use Rattle.ts_txn.specs.declared.parts.Core.{Core}
-use Rattle.ts_txn.specs.declared.phase.Next.{Next}
-use Rattle.ts_txn.specs.declared.phase.Next.TheVariants as N
-use Rattle.ts_txn.specs.declared.phase.Phase.{Phase}
-use Rattle.ts_txn.specs.declared.phase.Phase.TheVariants as P
-use Rattle.ts_txn.specs.declared.phase.Request.{Request}
-use Rattle.ts_txn.specs.declared.phase.Step.{Step}
-use Rattle.ts_txn.specs.declared.relay.Relay.{Relay}
+use Rattle.ts_relay.specs.declared.last_writes.BodyStep.{BodyStep}
+use Rattle.ts_relay.specs.declared.last_writes.BodyStep.TheVariants as S
+use Rattle.ts_phases.specs.declared.parts.Core.{Core}
+use Rattle.ts_phases.specs.declared.phase.Next.{Next}
+use Rattle.ts_phases.specs.declared.phase.Next.TheVariants as N
+use Rattle.ts_phases.specs.declared.phase.Phase.{Phase}
+use Rattle.ts_phases.specs.declared.phase.Phase.TheVariants as P
+use Rattle.ts_phases.specs.declared.phase.Request.{Request}
+use Rattle.ts_phases.specs.declared.phase.Step.{Step}
+use Rattle.ts_relay.specs.declared.relay.Relay.{Relay}
 use Rattle.ts_txn.proofs.CourseCalls.{spent_still}
-use Rattle.ts_txn.proofs.LoweringEntry.{ended_no_more}
-use Rattle.ts_txn.proofs.LoweringEvents.{handled_falls, one_paid, paid_fewer, paid_none, paid_then, step_pays}
-use Rattle.ts_txn.proofs.LoweringPays.{set_one}
-use Rattle.ts_txn.proofs.LoweringRelay.{ended_if}
+use Rattle.ts_relay.proofs.LoweringEntry.{ended_no_more}
+use Rattle.ts_relay.proofs.LoweringEvents.{handled_falls, one_paid, paid_fewer, paid_none, paid_then, step_pays}
+use Rattle.ts_relay.proofs.LoweringPays.{set_one}
+use Rattle.ts_relay.proofs.LoweringRelay.{ended_if}
 
 -- ---- it can also end at once
 

@@ -9,14 +9,14 @@ use Rattle.ts_journal.specs.State.{State}
 use Rattle.ts_link.specs.Link.{Look}
 use Rattle.ts_wire.specs.declared.frames.Mode.TheVariants as M
 use Rattle.ts_config.specs.declared.setup.TransformLine.{TransformLine}
-use Rattle.ts_txn.specs.Entering.{ActsAsLines}
-use Rattle.ts_txn.specs.Facts.{Asking, Untouched}
+use Rattle.ts_relay.specs.Entering.{ActsAsLines}
+use Rattle.ts_phases.specs.Facts.{Asking, Untouched}
 use Rattle.ts_txn.specs.Making.{ArePaired, IsMadeOf, IsMadeOfIf, IsNewLink, IsNewLinkIf}
-use Rattle.ts_txn.specs.View.{PairIf, side, side_if, view_of}
+use Rattle.ts_phases.specs.View.{PairIf, side, side_if, view_of}
 use Rattle.ts_txn.specs.World.{IsSoundOn, IsSoundTxn, IsSoundTxnGroup}
 use Rattle.ts_txn.specs.declared.course.Course.TheVariants as K
-use Rattle.ts_txn.specs.declared.parts.Peer.{Peer}
-use Rattle.ts_txn.specs.declared.phase.Phase.TheVariants as P
+use Rattle.ts_phases.specs.declared.parts.Peer.{Peer}
+use Rattle.ts_phases.specs.declared.phase.Phase.TheVariants as P
 use Rattle.ts_txn.specs.declared.txn.Txn.{Txn}
 
 module _ {L : Type 0} (look : L → Look) where

@@ -10,16 +10,16 @@ use Rattle.ts_journal.specs.declared.entry.TheConstants.{GREATEST}
 use Rattle.ts_group.specs.declared.action.Named.{Named}
 use Rattle.ts_link.specs.Link.{Look}
 use Rattle.ts_txn.specs.Course.{CourseHolds}
-use Rattle.ts_txn.specs.Ends.{EndFact}
+use Rattle.ts_phases.specs.Ends.{EndFact}
 use Rattle.ts_txn.specs.Making.{end_of, end_of_phase}
 use Rattle.ts_txn.specs.Resting.{HasEndedSo, NeverFailed, RestsWithBlock, SendsBlock}
 use Rattle.ts_txn.specs.Resting as rest
-use Rattle.ts_txn.specs.View.{OriginRefuses, View, view_of}
+use Rattle.ts_phases.specs.View.{OriginRefuses, View, view_of}
 use Rattle.ts_txn.specs.World.{IsSoundTxn}
 use Rattle.ts_txn.specs.declared.course.Course.{Course}
 use Rattle.ts_txn.specs.declared.course.Course.TheVariants as K
-use Rattle.ts_txn.specs.declared.phase.Phase.{Phase}
-use Rattle.ts_txn.specs.declared.phase.Phase.TheVariants as P
+use Rattle.ts_phases.specs.declared.phase.Phase.{Phase}
+use Rattle.ts_phases.specs.declared.phase.Phase.TheVariants as P
 use Rattle.ts_txn.specs.declared.txn.Txn.{Txn}
 use Rattle.ts_txn.proofs.Handling.{at_rest}
 

@@ -12,7 +12,7 @@ use Rattle.ts_transform.specs.Driving.{ActsWithin, IsDueAfter, SetsOnly}
 use Rattle.ts_transform.proofs.Setting.{only_none, set_only}
 use Rattle.ts_transform.proofs.Kept.{soon_later}
 use Rattle.ts_transform.specs.declared.continuation.StageContinuation.{StageContinuation}
-use Rattle.ts_txn.specs.Cover.{IsOfMain}
+use Rattle.ts_txn.specs.CourseCover.{IsOfMain}
 
 -- ---- the continuation is roused
 
@@ -38,13 +38,3 @@ due_less a b c after only less = λ n p none there. only n p none (less.from n p
 
 pub main_rests : (a : Context) (slot : Option StageContinuation) → SetsOnly (IsOfMain slot) a a
 main_rests a slot = only_none (IsOfMain slot) a
-
--- ---- it is made
-
-pub made_acts : (a b : Context) (n : ℕ) → Grows a b → b.log.state.held ≡ true → SameEvents a.log.state b.log.state → ActsWithin n a b
-made_acts a b n grows turn events = record {
-  grows = grows;
-  turn = turn;
-  plain = λ plain. subst AllPlain (sym events.pending) plain;
-  few = record { next = omega (arith, events.next); pending = omega (arith, ap length events.pending) };
-}

@@ -6,15 +6,15 @@ use Rattle.ts_journal.specs.declared.entry.Pending.{Pending}
 use Rattle.ts_link.specs.Link.{Look}
 use Rattle.ts_link.specs.MemLink.{LinkState, look_of}
 use Rattle.ts_upstream.specs.Uploads.{both}
-use Rattle.ts_txn.specs.Lowering.{agains_left, if_told, number_left, upload_in}
+use Rattle.ts_phases.specs.Lowering.{agains_left, if_told, number_left, upload_in}
 use Rattle.ts_txn.specs.LoweringCourse.{course_left, transaction_left}
-use Rattle.ts_txn.specs.View.{side_if, upload_told, view_of}
+use Rattle.ts_phases.specs.View.{side_if, upload_told, view_of}
 use Rattle.ts_txn.specs.declared.course.Course.{Course}
 use Rattle.ts_txn.specs.declared.course.Course.TheVariants as K
-use Rattle.ts_txn.specs.declared.parts.Core.{Core}
-use Rattle.ts_txn.specs.declared.parts.Peer.{Peer}
-use Rattle.ts_txn.specs.declared.phase.Phase.{Phase}
-use Rattle.ts_txn.specs.declared.phase.Phase.TheVariants as P
+use Rattle.ts_phases.specs.declared.parts.Core.{Core}
+use Rattle.ts_phases.specs.declared.parts.Peer.{Peer}
+use Rattle.ts_phases.specs.declared.phase.Phase.{Phase}
+use Rattle.ts_phases.specs.declared.phase.Phase.TheVariants as P
 
 some_told : (again upload : Option ℕ) (f : ℕ → ℕ → ℕ) → IsSome again → IsSome upload → IsSome (if_told again upload f)
 some_told None upload f told also = cc

@@ -6,17 +6,17 @@ use Rattle.ts_config.specs.declared.setup.Setup.{Setup}
 use Rattle.ts_hooks.specs.declared.txn_end.TxnEnd.{TxnEnd}
 use Rattle.ts_hooks.specs.declared.txn_end.TxnEnd.TheVariants as E
 use Rattle.ts_link.specs.Link.{Look}
-use Rattle.ts_txn.specs.View.{OriginRefuses, View, view_of}
-use Rattle.ts_txn.specs.Finishing.{IsFinishing}
-use Rattle.ts_txn.specs.Relaying.{RelaysBody}
-use Rattle.ts_txn.specs.Holding.{IfTold, PhaseFact}
-use Rattle.ts_txn.specs.declared.finishing.BodyStep.{BodyStep}
-use Rattle.ts_txn.specs.declared.finishing.BodyStep.TheVariants as S
+use Rattle.ts_phases.specs.View.{OriginRefuses, View, view_of}
+use Rattle.ts_relay.specs.Finishing.{IsFinishing}
+use Rattle.ts_relay.specs.Relaying.{RelaysBody}
+use Rattle.ts_phases.specs.Holding.{IfTold, PhaseFact}
+use Rattle.ts_relay.specs.declared.last_writes.BodyStep.{BodyStep}
+use Rattle.ts_relay.specs.declared.last_writes.BodyStep.TheVariants as S
 use Rattle.ts_txn.specs.declared.course.Course.{Course}
 use Rattle.ts_txn.specs.declared.course.Course.TheVariants as K
-use Rattle.ts_txn.specs.declared.parts.Core.{Core}
-use Rattle.ts_txn.specs.declared.phase.Phase.TheVariants as P
-use Rattle.ts_txn.specs.declared.relay.Relay.{Relay}
+use Rattle.ts_phases.specs.declared.parts.Core.{Core}
+use Rattle.ts_phases.specs.declared.phase.Phase.TheVariants as P
+use Rattle.ts_relay.specs.declared.relay.Relay.{Relay}
 
 -- where a transaction is after a step of a body
 abbrev pub course_after : {Q : Type 0} → Relay Q → BodyStep → Course Q

@@ -8,27 +8,27 @@ use Rattle.ts_hooks.specs.declared.txn_end.TxnEnd.TheVariants as E
 use Rattle.ts_link.specs.Link.{Look}
 use Rattle.ts_transform.specs.Driving.{ActsWithin, IsDueAfter, SetsOnly}
 use Rattle.ts_transform.specs.declared.continuation.StageContinuation.{StageContinuation}
-use Rattle.ts_txn.specs.BodyLinks.{BeginsInTime, HandlesLinks, MindsBody, SendsRest}
+use Rattle.ts_relay.specs.BodyLinks.{BeginsInTime, HandlesLinks, MindsBody, SendsRest}
 use Rattle.ts_txn.specs.Course.{course_after, finish_after}
-use Rattle.ts_txn.specs.Cover.{is_fresh, is_fresh_on}
-use Rattle.ts_txn.specs.CourseCover.{LedAfter, StaysOnOrLacks, pause_of, set_leaving}
-use Rattle.ts_txn.specs.Duties.{DoesOwnWork}
-use Rattle.ts_txn.specs.Entering.{QuietLinks}
-use Rattle.ts_txn.specs.Holding.{IfTold, StepKeeps}
-use Rattle.ts_txn.specs.Steps.{LeavesSides, MindsLinksIn, WaitsRightly}
-use Rattle.ts_txn.specs.View.{View, view_of}
+use Rattle.ts_phases.specs.Cover.{is_fresh}
+use Rattle.ts_txn.specs.CourseCover.{is_fresh_on, LedAfter, StaysOnOrLacks, pause_of}
+use Rattle.ts_relay.specs.Duties.{set_leaving, DoesOwnWork}
+use Rattle.ts_relay.specs.Entering.{QuietLinks}
+use Rattle.ts_phases.specs.Holding.{IfTold, StepKeeps}
+use Rattle.ts_phases.specs.Steps.{LeavesSides, MindsLinksIn, WaitsRightly}
+use Rattle.ts_phases.specs.View.{View, view_of}
 use Rattle.ts_txn.specs.declared.course.Course.{Course}
 use Rattle.ts_txn.specs.declared.course.Course.TheVariants as K
-use Rattle.ts_txn.specs.declared.course_leaving.TheConstants.{AT_ONCE}
-use Rattle.ts_txn.specs.declared.driver.TheConstants.{RETRY}
-use Rattle.ts_txn.specs.declared.finishing.BodyStep.{BodyStep}
-use Rattle.ts_txn.specs.declared.finishing.BodyStep.TheVariants as S
-use Rattle.ts_txn.specs.declared.parts.Core.{Core}
-use Rattle.ts_txn.specs.declared.phase.Next.{Next}
-use Rattle.ts_txn.specs.declared.phase.Next.TheVariants as N
-use Rattle.ts_txn.specs.declared.phase.Phase.{Phase}
-use Rattle.ts_txn.specs.declared.phase.Phase.TheVariants as P
-use Rattle.ts_txn.specs.declared.relay.Relay.{Relay}
+use Rattle.ts_txn.specs.declared.course_leads.TheConstants.{AT_ONCE}
+use Rattle.ts_relay.specs.declared.relay.TheConstants.{RETRY}
+use Rattle.ts_relay.specs.declared.last_writes.BodyStep.{BodyStep}
+use Rattle.ts_relay.specs.declared.last_writes.BodyStep.TheVariants as S
+use Rattle.ts_phases.specs.declared.parts.Core.{Core}
+use Rattle.ts_phases.specs.declared.phase.Next.{Next}
+use Rattle.ts_phases.specs.declared.phase.Next.TheVariants as N
+use Rattle.ts_phases.specs.declared.phase.Phase.{Phase}
+use Rattle.ts_phases.specs.declared.phase.Phase.TheVariants as P
+use Rattle.ts_relay.specs.declared.relay.Relay.{Relay}
 
 -- how long after a step the next one is made, in milliseconds
 abbrev pub delay_of : Next → ℕ

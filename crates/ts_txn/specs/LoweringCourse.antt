@@ -6,13 +6,13 @@ use Rattle.ts_group.specs.Answers.{Falls}
 use Rattle.ts_group.specs.Context.{Context}
 use Rattle.ts_journal.specs.declared.entry.Pending.{Pending}
 use Rattle.ts_link.specs.Link.{Look}
-use Rattle.ts_txn.specs.Holding.{IfTold}
-use Rattle.ts_txn.specs.Lowering.{number_left, work_left}
-use Rattle.ts_txn.specs.LoweringBody.{IsOfLines, finish_left, relay_left}
-use Rattle.ts_txn.specs.View.{View, upload_told, view_of}
+use Rattle.ts_phases.specs.Holding.{IfTold}
+use Rattle.ts_phases.specs.Lowering.{number_left, work_left}
+use Rattle.ts_relay.specs.LoweringBody.{IsOfLines, finish_left, relay_left}
+use Rattle.ts_phases.specs.View.{View, upload_told, view_of}
 use Rattle.ts_txn.specs.declared.course.Course.{Course}
 use Rattle.ts_txn.specs.declared.course.Course.TheVariants as K
-use Rattle.ts_txn.specs.declared.parts.Core.{Core}
+use Rattle.ts_phases.specs.declared.parts.Core.{Core}
 
 module _ {Q : Type 0} (setup : Setup) (rest : Q → List ℕ → List ℕ) where
   -- what is left to do, by how far the transaction is

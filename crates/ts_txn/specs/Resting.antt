@@ -7,11 +7,11 @@ use Rattle.ts_hooks.specs.declared.txn_end.TxnEnd.{TxnEnd}
 use Rattle.ts_hooks.specs.declared.txn_end.TxnEnd.TheVariants as E
 use Rattle.ts_journal.specs.declared.entry.TheConstants.{GREATEST}
 use Rattle.ts_link.specs.Link.{Look}
-use Rattle.ts_txn.specs.Cover.{is_fresh_on}
-use Rattle.ts_txn.specs.Ends.{EndFact, ShortEnd, WholeEnd}
-use Rattle.ts_txn.specs.Holding.{IfTold}
+use Rattle.ts_txn.specs.CourseCover.{is_fresh_on}
+use Rattle.ts_phases.specs.Ends.{EndFact, ShortEnd, WholeEnd}
+use Rattle.ts_phases.specs.Holding.{IfTold}
 use Rattle.ts_txn.specs.Making.{end_of}
-use Rattle.ts_txn.specs.View.{HasFailed, OriginRefuses, View, view_of}
+use Rattle.ts_phases.specs.View.{HasFailed, OriginRefuses, View, view_of}
 use Rattle.ts_txn.specs.declared.txn.Txn.{Txn}
 
 -- The client took what the block of all bytes of both links says: the whole answer, or its head and a front

@@ -8,19 +8,18 @@ use Rattle.ts_group.specs.declared.action.Named.{Named}
 use Rattle.ts_group.specs.declared.group.Group.{Group}
 use Rattle.ts_link.specs.Link.{IsSure, Look}
 use Rattle.ts_transform.specs.declared.continuation.StageContinuation.{StageContinuation}
-use Rattle.ts_txn.specs.BodyLinks.{HoldsLittle}
+use Rattle.ts_relay.specs.BodyLinks.{HoldsLittle}
 use Rattle.ts_txn.specs.Course.{CourseHolds}
-use Rattle.ts_txn.specs.CourseCover.{IsCoveredOn, StaysOnOrLacks}
-use Rattle.ts_txn.specs.Entering.{ActsAsLines}
-use Rattle.ts_txn.specs.Holding.{IfTold, IsSameLink}
+use Rattle.ts_txn.specs.CourseCover.{IsCoveredOn, StaysOnOrLacks, is_fresh_on}
+use Rattle.ts_relay.specs.Entering.{ActsAsLines}
+use Rattle.ts_phases.specs.Holding.{IfTold, IsSameLink}
 use Rattle.ts_txn.specs.LoweringCourse.{IsOfLinesOn}
-use Rattle.ts_txn.specs.View.{IsPaired, View, view_of}
-use Rattle.ts_txn.specs.Cover.{is_fresh_on}
+use Rattle.ts_phases.specs.View.{IsPaired, View, view_of}
 use Rattle.ts_txn.specs.declared.course.Course.{Course}
 use Rattle.ts_txn.specs.declared.course.Course.TheVariants as K
-use Rattle.ts_txn.specs.declared.parts.Core.{Core}
-use Rattle.ts_txn.specs.declared.parts.Peer.{Peer}
-use Rattle.ts_txn.specs.declared.phase.Phase.TheVariants as P
+use Rattle.ts_phases.specs.declared.parts.Core.{Core}
+use Rattle.ts_phases.specs.declared.parts.Peer.{Peer}
+use Rattle.ts_phases.specs.declared.phase.Phase.TheVariants as P
 use Rattle.ts_txn.specs.declared.txn.Txn.{Txn}
 use Rattle.ts_txn.specs.declared.txn.TxnTag.{TxnTag}
 

@@ -5,14 +5,18 @@ ghost use Rattle.ts_transform.specs.Driving.{ActsWithin};
 ghost use Rattle.ts_txn.specs.CourseCover.{IsAlone};
 ghost use Rattle.ts_txn.specs.Driven.{HandlesEvent};
 ghost use Rattle.ts_txn.specs.LoweringCourse.{PaysEvents};
-ghost use Rattle.ts_txn.specs.declared.driver.TheConstants.{MAIN};
+ghost use Rattle.ts_relay.specs.declared.relay.TheConstants.{MAIN};
 ghost use Rattle.ts_txn.specs.World.{HoldsOn, IsSoundNow, IsSoundOn, most_set};
 
-use crate::course_leaving::{leave, write_on};
-use crate::parts::Core;
-use crate::phase::{Phase, Request};
-use crate::relay::Relay;
-use crate::relay_closing::destroy_end;
+use ts_relay::begin_body;
+use ts_relay::handle_body;
+use ts_relay::queue_relay;
+use ts_relay::send_rest;
+use crate::course_leads::{leave, write_on};
+use ts_phases::Core;
+use ts_phases::{Phase, Request};
+use ts_relay::Relay;
+use ts_relay::destroy_end;
 use ts_config::TransformLine;
 use ts_group::Cx;
 use ts_hooks::TxnEnd;
@@ -56,7 +60,7 @@ pub fn relay_on<C: Link, O: Upstream<C>, P: Transform<Line = TransformLine> + Dr
         core.old core.new (Course.Relaying relay) result cx.old cx.new }
 {
     let mut relay = relay;
-    let step = core.handle_body(main, &mut relay, role, event, cx);
+    let step = handle_body(core, main, &mut relay, role, event, cx);
     leave(relay, step, main, cx)
 }
 
@@ -79,7 +83,7 @@ pub fn finish_on<C: Link, O: Upstream<C>, P: Transform<Line = TransformLine> + D
     ensures pays { PaysEvents C.tells O.tells C.look O.look O.upload_left P.rest
         core.old core.new (Course.Finishing end) result cx.old cx.new }
 {
-    let step = core.send_rest(end);
+    let step = send_rest(core, end);
     write_on(end, step, main, cx)
 }
 
@@ -105,12 +109,12 @@ pub fn enter_on<C: Link, O: Upstream<C>, P: Transform<Line = TransformLine> + Dr
     ensures pays { PaysEvents C.tells O.tells C.look O.look O.upload_left P.rest
         core.old core.new (Course.Phased (Phase.ResponseTransform request head)) result cx.old cx.new }
 {
-    let Ok(made) = core.queue_relay(&request, &head) else {
+    let Ok(made) = queue_relay(core, &request, &head) else {
         destroy_end(main, cx);
         return Course::Phased(Phase::LACKS);
     };
     let mut relay = made;
     cx.known();
-    let step = core.begin_body(main, &mut relay, cx);
+    let step = begin_body(core, main, &mut relay, cx);
     leave(relay, step, main, cx)
 }

@@ -8,10 +8,10 @@ ghost use Rattle.ts_txn.specs.LoweringCourse.{PaysEvents};
 ghost use Rattle.ts_txn.specs.World.{HoldsOn, IsSoundNow, IsSoundOn, most_set};
 
 use crate::course::{Course, enter_on, finish_on, relay_on};
-use crate::course_leaving::step_on;
-use crate::driver::MAIN;
-use crate::parts::Core;
-use crate::phase::Phase;
+use crate::course_leads::step_on;
+use ts_relay::MAIN;
+use ts_phases::Core;
+use ts_phases::Phase;
 use ts_config::TransformLine;
 use ts_group::Cx;
 use ts_journal::Event;

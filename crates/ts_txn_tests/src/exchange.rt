@@ -4,7 +4,7 @@ ghost use Rattle.ts_config.specs.Bodies.{whole_of};
 ghost use Rattle.ts_journal.specs.declared.entry.TheConstants.{GREATEST};
 ghost use Rattle.ts_link.specs.MemLink.{look_of};
 ghost use Rattle.ts_stock.specs.Stock.{still_writes};
-ghost use Rattle.ts_txn.specs.Entering.{ActsAsLines};
+ghost use Rattle.ts_relay.specs.Entering.{ActsAsLines};
 ghost use Rattle.ts_txn.specs.Making.{ArePaired, HasFewLines, IsNewLink, IsNewLinkIf};
 ghost use Rattle.ts_txn_tests.specs.Begun.{HasBegunAs, HasEndedOr, any_pair, no_refusal};
 

@@ -6,28 +6,28 @@ use Rattle.ts_hooks.specs.declared.txn_end.TxnEnd.TheVariants as E
 use Rattle.ts_transform.proofs.Kept.{acts_none, acts_then}
 use Rattle.ts_transform.proofs.Seats.{cleared_acts}
 use Rattle.ts_txn.specs.Course.{course_after}
-use Rattle.ts_txn.specs.CourseCover.{set_leaving}
+use Rattle.ts_relay.specs.Duties.{set_leaving}
 use Rattle.ts_link.specs.Link.{Look, NoMore}
-use Rattle.ts_txn.specs.LoweringBody.{IsOfLines, left_after, unbegun_left}
-use Rattle.ts_txn.specs.View.{LinkSide, OriginRefuses, upload_told, view_of}
+use Rattle.ts_relay.specs.LoweringBody.{IsOfLines, left_after, unbegun_left}
+use Rattle.ts_phases.specs.View.{LinkSide, OriginRefuses, upload_told, view_of}
 use Rattle.ts_txn.specs.World.{most_set}
 use Rattle.ts_txn.specs.declared.course.Course.TheVariants as K
-use Rattle.ts_txn.specs.declared.phase.Phase.TheVariants as P
-use Rattle.ts_txn.specs.declared.phase.Next.TheVariants as N
+use Rattle.ts_phases.specs.declared.phase.Phase.TheVariants as P
+use Rattle.ts_phases.specs.declared.phase.Next.TheVariants as N
 use Rattle.ts_txn.proofs.CourseCalls.{stands_begun}
 use Rattle.ts_txn.proofs.CourseSeats.{ended_alone}
 use Rattle.ts_txn.proofs.Coursing.{after_led, course_settled, enters_settled, led_on, stays_on}
 use Rattle.ts_txn.proofs.Events.{begin_led, due_begin, takes_begin, takes_lost}
 use Rattle.ts_txn.proofs.Handling.{little_begun, little_stay, sound_here}
 use Rattle.ts_txn.proofs.LoweringCourse.{begun_led, lines_after, lines_stay, not_begun}
-use Rattle.ts_txn.proofs.LoweringPays.{set_one}
+use Rattle.ts_relay.proofs.LoweringPays.{set_one}
 use Rattle.ts_txn.proofs.course.enter_on.Goals as goal
 
 -- Memory lacked for the head.
 pub returns-in_default-clause-sound : goal.returns-in_default-clause-sound
 returns-in_default-clause-sound g c =
     let core = c.args.core.now in
-    let new = c.queue_relay.new.self in
+    let new = c.queue_relay.new.core in
     sound_here g.C.Link.tells g.O.Link.tells g.C.Link.look g.O.Link.look g.O.Upstream.paired g.O.Upstream.refuses g.P.Transform.rest g.P.Transform.whole core new
     (K.Phased (P.ResponseTransform c.args.request c.args.head)) (K.Phased (P.Ended E.NoMemory)) c.destroy_end.new.slot c.destroy_end.new.cx c.requires.stands c.queue_relay.ensures.keeps
     (λ told also. course_settled g.C.Link.look g.O.Link.look g.O.Upstream.paired g.O.Upstream.refuses g.P.Transform.rest core new (K.Phased (P.Ended E.NoMemory)) c.queue_relay.ensures.keeps
@@ -41,13 +41,13 @@ returns-in_default-clause-within g c =
 
 pub begin_body-step-requires-clause-fact : goal.begin_body-step-requires-clause-fact
 begin_body-step-requires-clause-fact g c = λ told also.
-    enters_settled g.C.Link.look g.O.Link.look g.O.Upstream.paired g.O.Upstream.refuses g.P.Transform.rest c.args.core.now c.queue_relay.new.self c.in-Ok.made.driven.chain c.in-Ok.made.body
+    enters_settled g.C.Link.look g.O.Link.look g.O.Upstream.paired g.O.Upstream.refuses g.P.Transform.rest c.args.core.now c.queue_relay.new.core c.in-Ok.made.driven.chain c.in-Ok.made.body
     c.queue_relay.ensures.keeps (c.in-Ok.ensures.ok told also)
 
 pub returns-in_default-clause-handles : goal.returns-in_default-clause-handles
 returns-in_default-clause-handles g c =
     let core = c.args.core.now in
-    let new = c.queue_relay.new.self in
+    let new = c.queue_relay.new.core in
     record {
       keeps = c.queue_relay.ensures.keeps;
       handles = record {
@@ -61,7 +61,7 @@ returns-in_default-clause-handles g c =
 pub returns-clause-sound : goal.returns-clause-sound
 returns-clause-sound g c =
     let core = c.args.core.now in
-    let new = c.queue_relay.new.self in
+    let new = c.queue_relay.new.core in
     let relay = c.begin_body-step.new.relay in
     let step = c.begin_body-step.result in
     let v = view_of g.C.Link.look g.O.Link.look new in
@@ -87,7 +87,7 @@ returns-clause-within g c =
 pub returns-clause-handles : goal.returns-clause-handles
 returns-clause-handles g c =
     let core = c.args.core.now in
-    let new = c.queue_relay.new.self in
+    let new = c.queue_relay.new.core in
     let relay = c.begin_body-step.new.relay in
     let v = view_of g.C.Link.look g.O.Link.look new in
     let led = begin_led g.C.Link.tells g.O.Link.tells g.C.Link.look g.O.Link.look g.O.Upstream.paired g.O.Upstream.refuses g.O.Upstream.upload_left relay c.begin_body-step.result c.leave.result
@@ -110,7 +110,7 @@ returns-clause-handles g c =
 pub returns-in_default-clause-pays : goal.returns-in_default-clause-pays
 returns-in_default-clause-pays g c = λ told also.
     let core = c.args.core.now in
-    let new = c.queue_relay.new.self in
+    let new = c.queue_relay.new.core in
     let few = c.destroy_end.ensures.clears.lessens.few.pending in
     not_begun (arc_value core.setup) g.P.Transform.rest c.args.request c.args.head (view_of g.C.Link.look g.O.Link.look core) (view_of g.C.Link.look g.O.Link.look new)
     (upload_told g.O.Upstream.upload_left core.client.link core.origin) (upload_told g.O.Upstream.upload_left new.client.link new.origin) c.args.cx.now.log.state.pending
@@ -120,7 +120,7 @@ returns-in_default-clause-pays g c = λ told also.
 pub returns-clause-pays : goal.returns-clause-pays
 returns-clause-pays g c = λ told also.
     let core = c.args.core.now in
-    let new = c.queue_relay.new.self in
+    let new = c.queue_relay.new.core in
     let made = c.in-Ok.made in
     let relay = c.begin_body-step.new.relay in
     let step = c.begin_body-step.result in

@@ -3,22 +3,22 @@ use Rattle.std.specs.Arc.{arc_value}
 use Rattle.std.proofs.Common.{arith, ◌≤◌}
 use Rattle.ts_transform.proofs.Kept.{acts_then}
 use Rattle.ts_txn.specs.Course.{course_after}
-use Rattle.ts_txn.specs.CourseCover.{set_leaving}
-use Rattle.ts_txn.specs.LoweringBody.{relay_left}
-use Rattle.ts_txn.specs.View.{OriginRefuses, upload_told, view_of}
+use Rattle.ts_relay.specs.Duties.{set_leaving}
+use Rattle.ts_relay.specs.LoweringBody.{relay_left}
+use Rattle.ts_phases.specs.View.{OriginRefuses, upload_told, view_of}
 use Rattle.ts_txn.specs.World.{most_set}
 use Rattle.ts_txn.specs.declared.course.Course.TheVariants as K
 use Rattle.ts_txn.proofs.CourseCalls.{stands_handled}
 use Rattle.ts_txn.proofs.Coursing.{after_led, led_on}
 use Rattle.ts_txn.proofs.Handling.{little_after, sound_led}
 use Rattle.ts_txn.proofs.LoweringCourse.{body_led, covered_called, lines_after}
-use Rattle.ts_txn.proofs.LoweringPays.{set_one}
+use Rattle.ts_relay.proofs.LoweringPays.{set_one}
 use Rattle.ts_txn.proofs.course.relay_on.Goals as goal
 
 pub returns-clause-sound : goal.returns-clause-sound
 returns-clause-sound g c =
     let core = c.args.core.now in
-    let new = c.handle_body-step.new.self in
+    let new = c.handle_body-step.new.core in
     let relay = c.handle_body-step.new.relay in
     let step = c.handle_body-step.result in
     let main = c.handle_body-step.new.main in
@@ -58,7 +58,7 @@ returns-clause-handles g c = record {
 pub returns-clause-pays : goal.returns-clause-pays
 returns-clause-pays g c = λ told also.
     let core = c.args.core.now in
-    let new = c.handle_body-step.new.self in
+    let new = c.handle_body-step.new.core in
     let relay = c.handle_body-step.new.relay in
     let v = view_of g.C.Link.look g.O.Link.look core in
     let w = view_of g.C.Link.look g.O.Link.look new in

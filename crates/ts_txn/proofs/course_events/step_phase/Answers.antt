@@ -2,8 +2,8 @@
 use Rattle.std.specs.Arc.{arc_value}
 use Rattle.std.proofs.Common.{arith, ◌≤◌}
 use Rattle.ts_transform.proofs.Kept.{acts_none, acts_then}
-use Rattle.ts_txn.specs.CourseCover.{set_after}
-use Rattle.ts_txn.specs.View.{upload_told, view_of}
+use Rattle.ts_phases.specs.Cover.{set_after}
+use Rattle.ts_phases.specs.View.{upload_told, view_of}
 use Rattle.ts_txn.specs.World.{most_set}
 use Rattle.ts_txn.specs.declared.course.Course.TheVariants as K
 use Rattle.ts_txn.proofs.Coursing.{behind_led}

@@ -1,0 +1,8 @@
+pub mod BodyLinks
+pub mod Duties
+pub mod Entering
+pub mod Feeding
+pub mod Finishing
+pub mod Inserted
+pub mod LoweringBody
+pub mod Relaying
