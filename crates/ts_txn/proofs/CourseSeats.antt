@@ -23,6 +23,9 @@ use Rattle.ts_relay.specs.Duties.{RunsOr, UnlessLacking, relay_seats}
 use Rattle.ts_phases.specs.View.{View}
 use Rattle.ts_txn.specs.declared.course.Course.{Course}
 use Rattle.ts_txn.specs.declared.course.Course.TheVariants as K
+use Rattle.ts_txn.specs.declared.course_leads.Lead.{Lead}
+use Rattle.ts_txn.specs.declared.course_leads.Lead.TheVariants as L
+use Rattle.ts_txn.specs.Course.{course_led}
 use Rattle.ts_relay.specs.declared.relay.TheConstants.{MAIN, FIRST, READER}
 use Rattle.ts_relay.specs.declared.last_writes.BodyStep.{BodyStep}
 use Rattle.ts_relay.specs.declared.last_writes.BodyStep.TheVariants as S
@@ -118,6 +121,12 @@ module _ {Q : Type 0} (v : View) (u : Option StageContinuation) (b : Context) (s
     idles = ended_idle p u is none;
     covered = with_main p u b (subst (IsOfStageIf b.log.state.pending b.roles MAIN) (sym none) tt) (ended_covered p u b.log.state.next is);
   }
+
+-- one that was led on goes on alone
+pub goes_led : {Q : Type 0} (lead : Lead) → GoesAlone {Q = Q} (course_led lead)
+goes_led L.TxnStart = tt
+goes_led (L.Finishing end) = tt
+goes_led (L.TxnClose end) = tt
 
 -- where its next event was set, or no number was left for one
 pub led_alone : {Q : Type 0} (course : Course Q) (t u : Option StageContinuation) (a b : Context) → HasRousedNext true t u a b → KeepsSeated (t ∷ []) (u ∷ []) a b → ActsWithin 1 a b

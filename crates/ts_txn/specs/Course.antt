@@ -14,9 +14,17 @@ use Rattle.ts_relay.specs.declared.last_writes.BodyStep.{BodyStep}
 use Rattle.ts_relay.specs.declared.last_writes.BodyStep.TheVariants as S
 use Rattle.ts_txn.specs.declared.course.Course.{Course}
 use Rattle.ts_txn.specs.declared.course.Course.TheVariants as K
+use Rattle.ts_txn.specs.declared.course_leads.Lead.{Lead}
+use Rattle.ts_txn.specs.declared.course_leads.Lead.TheVariants as L
 use Rattle.ts_phases.specs.declared.parts.Core.{Core}
 use Rattle.ts_phases.specs.declared.phase.Phase.TheVariants as P
 use Rattle.ts_relay.specs.declared.relay.Relay.{Relay}
+
+-- how far a transaction is that was led so
+abbrev pub course_led : {Q : Type 0} → Lead → Course Q
+course_led L.TxnStart = K.Phased P.TxnStart
+course_led (L.Finishing end) = K.Finishing end
+course_led (L.TxnClose end) = K.Phased (P.TxnClose end)
 
 -- where a transaction is after a step of a body
 abbrev pub course_after : {Q : Type 0} → Relay Q → BodyStep → Course Q

@@ -6,7 +6,7 @@ ghost use Rattle.ts_txn.specs.CourseCover.{IsOfMain, CoversAlone, SetsOneOrNone,
 
 use crate::course::Course;
 use ts_relay::MAIN;
-use crate::course_leads::{AT_ONCE, go_to};
+use crate::course_leads::{AT_ONCE, Lead, go_to};
 use ts_phases::Phase;
 use ts_group::{Cx, SetFault};
 use ts_transform::{StageContinuation, make_end};
@@ -61,5 +61,5 @@ pub fn begin<P: Drop>(main: &mut Option<StageContinuation>, cx: &mut Cx) -> Cour
         return Course::Phased(Phase::LACKS);
     };
     *main = Some(made);
-    go_to(Course::Phased(Phase::TxnStart), AT_ONCE, main, cx)
+    go_to(Lead::TxnStart, AT_ONCE, main, cx)
 }

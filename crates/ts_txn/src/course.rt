@@ -12,7 +12,7 @@ use ts_relay::begin_body;
 use ts_relay::handle_body;
 use ts_relay::queue_relay;
 use ts_relay::send_rest;
-use crate::course_leads::{leave, write_on};
+use crate::course_leads::{leave_body, after_write};
 use ts_phases::Core;
 use ts_phases::{Phase, Request};
 use ts_relay::Relay;
@@ -38,7 +38,7 @@ pub enum Course<P> {
 }
 
 /// Handles an event of a role while a body is passed on, and answers where the transaction is then.
-pub fn relay_on<C: Link, O: Upstream<C>, P: Transform<Line = TransformLine> + Drop>(
+pub fn relay_body<C: Link, O: Upstream<C>, P: Transform<Line = TransformLine> + Drop>(
     core: &mut Core<C, O>,
     main: &mut Option<StageContinuation>,
     relay: Relay<P>,
@@ -61,11 +61,11 @@ pub fn relay_on<C: Link, O: Upstream<C>, P: Transform<Line = TransformLine> + Dr
 {
     let mut relay = relay;
     let step = handle_body(core, main, &mut relay, role, event, cx);
-    leave(relay, step, main, cx)
+    leave_body(relay, step, main, cx)
 }
 
 /// Writes once of what was queued last, and answers where the transaction is then.
-pub fn finish_on<C: Link, O: Upstream<C>, P: Transform<Line = TransformLine> + Drop>(
+pub fn write_rest<C: Link, O: Upstream<C>, P: Transform<Line = TransformLine> + Drop>(
     core: &mut Core<C, O>,
     main: &mut Option<StageContinuation>,
     end: TxnEnd,
@@ -84,12 +84,12 @@ pub fn finish_on<C: Link, O: Upstream<C>, P: Transform<Line = TransformLine> + D
         core.old core.new (Course.Finishing end) result cx.old cx.new }
 {
     let step = send_rest(core, end);
-    write_on(end, step, main, cx)
+    after_write(end, step, main, cx)
 }
 
 /// Queues the client's head of a response that is passed on, and begins its body; it answers where the
 /// transaction is then.
-pub fn enter_on<C: Link, O: Upstream<C>, P: Transform<Line = TransformLine> + Drop>(
+pub fn enter_body<C: Link, O: Upstream<C>, P: Transform<Line = TransformLine> + Drop>(
     core: &mut Core<C, O>,
     main: &mut Option<StageContinuation>,
     request: Request,
@@ -116,5 +116,5 @@ pub fn enter_on<C: Link, O: Upstream<C>, P: Transform<Line = TransformLine> + Dr
     let mut relay = made;
     cx.known();
     let step = begin_body(core, main, &mut relay, cx);
-    leave(relay, step, main, cx)
+    leave_body(relay, step, main, cx)
 }

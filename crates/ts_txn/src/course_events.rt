@@ -7,8 +7,8 @@ ghost use Rattle.ts_txn.specs.Driven.{HandlesEvent};
 ghost use Rattle.ts_txn.specs.LoweringCourse.{PaysEvents};
 ghost use Rattle.ts_txn.specs.World.{HoldsOn, IsSoundNow, IsSoundOn, most_set};
 
-use crate::course::{Course, enter_on, finish_on, relay_on};
-use crate::course_leads::step_on;
+use crate::course::{Course, enter_body, write_rest, relay_body};
+use crate::course_leads::after_step;
 use ts_relay::MAIN;
 use ts_phases::Core;
 use ts_phases::Phase;
@@ -18,9 +18,10 @@ use ts_journal::Event;
 use ts_link::Link;
 use ts_transform::{StageContinuation, Transform, unrouse, works};
 use ts_upstream::Upstream;
+use std::mem::{forget, replace};
 
 // Makes the step of a phase at which no body begins, and answers where the transaction is then.
-fn step_phase<C: Link, O: Upstream<C>, P: Transform<Line = TransformLine> + Drop>(
+fn make_step<C: Link, O: Upstream<C>, P: Transform<Line = TransformLine> + Drop>(
     core: &mut Core<C, O>,
     main: &mut Option<StageContinuation>,
     phase: Phase,
@@ -39,11 +40,11 @@ fn step_phase<C: Link, O: Upstream<C>, P: Transform<Line = TransformLine> + Drop
         core.old core.new (Course.Phased phase) result cx.old cx.new }
 {
     let step = core.step(phase);
-    step_on(step, main, cx)
+    after_step(step, main, cx)
 }
 
 // Makes the step of a phase, and answers where the transaction is then: at one phase its body begins.
-fn phase_on<C: Link, O: Upstream<C>, P: Transform<Line = TransformLine> + Drop>(
+fn advance_phase<C: Link, O: Upstream<C>, P: Transform<Line = TransformLine> + Drop>(
     core: &mut Core<C, O>,
     main: &mut Option<StageContinuation>,
     phase: Phase,
@@ -62,15 +63,15 @@ fn phase_on<C: Link, O: Upstream<C>, P: Transform<Line = TransformLine> + Drop>(
         core.old core.new (Course.Phased phase) result cx.old cx.new }
 {
     match phase {
-        Phase::ResponseTransform { request, head } => enter_on(core, main, request, head, cx),
-        phase => step_phase(core, main, phase, cx),
+        Phase::ResponseTransform { request, head } => enter_body(core, main, request, head, cx),
+        phase => make_step(core, main, phase, cx),
     }
 }
 
 /// Handles an event of a role, and answers where the transaction is then: while a body is passed on each
 /// role does its part, and else the first continuation makes the next step.
 #[tactic(auto, using(ts_group::proofs::Keeps::falls_refl))]
-pub fn handle_on<C: Link, O: Upstream<C>, P: Transform<Line = TransformLine> + Drop>(
+pub fn handle_event<C: Link, O: Upstream<C>, P: Transform<Line = TransformLine> + Drop>(
     core: &mut Core<C, O>,
     main: &mut Option<StageContinuation>,
     course: Course<P>,
@@ -92,7 +93,7 @@ pub fn handle_on<C: Link, O: Upstream<C>, P: Transform<Line = TransformLine> + D
         core.old core.new course result cx.old cx.new }
 {
     match course {
-        Course::Relaying(relay) => relay_on(core, main, relay, role, event, cx),
+        Course::Relaying(relay) => relay_body(core, main, relay, role, event, cx),
         Course::Phased(phase) => {
             if role != MAIN {
                 return Course::Phased(phase);
@@ -101,7 +102,7 @@ pub fn handle_on<C: Link, O: Upstream<C>, P: Transform<Line = TransformLine> + D
                 return Course::Phased(phase);
             }
             unrouse(main);
-            phase_on(core, main, phase, cx)
+            advance_phase(core, main, phase, cx)
         }
         Course::Finishing { end } => {
             if role != MAIN {
@@ -111,20 +112,13 @@ pub fn handle_on<C: Link, O: Upstream<C>, P: Transform<Line = TransformLine> + D
                 return Course::Finishing { end };
             }
             unrouse(main);
-            finish_on(core, main, end, cx)
+            write_rest(core, main, end, cx)
         }
     }
 }
 
-// Takes the course out, and leaves another in its place.
-fn take<P: Drop>(course: &mut Course<P>) -> Course<P>
-    ensures { result ≡ course.old }
-{
-    std::mem::replace(course, Course::Phased(Phase::Fresh))
-}
-
 /// Handles an event of a role, in place.
-pub fn drive_on<C: Link, O: Upstream<C>, P: Transform<Line = TransformLine> + Drop>(
+pub fn advance<C: Link, O: Upstream<C>, P: Transform<Line = TransformLine> + Drop>(
     core: &mut Core<C, O>,
     main: &mut Option<StageContinuation>,
     course: &mut Course<P>,
@@ -145,6 +139,8 @@ pub fn drive_on<C: Link, O: Upstream<C>, P: Transform<Line = TransformLine> + Dr
     ensures pays { PaysEvents C.tells O.tells C.look O.look O.upload_left P.rest
         core.old core.new course.old course.new cx.old cx.new }
 {
-    let was = take(course);
-    *course = handle_on(core, main, was, role, event, cx);
+    let was = replace(course, Course::Phased(Phase::Fresh));
+    let is = handle_event(core, main, was, role, event, cx);
+    // What stood there in the meantime owns nothing.
+    forget(replace(course, is));
 }

@@ -3,9 +3,9 @@ ghost use Rattle.std.specs.Prelude.{◌≡◌, ◌≤◌, ◌∷◌, [], true};
 ghost use Rattle.ts_journal.specs.declared.entry.TheConstants.{GREATEST};
 ghost use Rattle.ts_transform.specs.Driving.{ActsWithin, HasLiveIf, IsDueAfter, SetsOnly};
 ghost use Rattle.ts_transform.specs.Seats.{KeepsSeated};
-ghost use Rattle.ts_txn.specs.Course.{course_after, finish_after};
-ghost use Rattle.ts_phases.specs.Cover.{StepLeads, set_after};
-ghost use Rattle.ts_txn.specs.CourseCover.{CoversAlone, CoversLed, GoesAlone, HasRousedNext, LedAfter, LedBehind, SetsOneOrNone, StaysOnOrLacks, StaysWhereNamed, StaysWhereSpent, pause_of};
+ghost use Rattle.ts_txn.specs.Course.{course_after, course_led, finish_after};
+ghost use Rattle.ts_phases.specs.Cover.{Proceeds, StepLeads, set_after};
+ghost use Rattle.ts_txn.specs.CourseCover.{CoversAlone, CoversLed, HasRousedNext, LedAfter, LedBehind, SetsOneOrNone, StaysOnOrLacks, StaysWhereNamed, StaysWhereSpent, pause_of};
 ghost use Rattle.ts_relay.specs.Duties.{set_leaving};
 ghost use Rattle.ts_txn.specs.Driven.{delay_of};
 
@@ -46,29 +46,70 @@ fn rouse_next(after: u64, main: &mut Option<StageContinuation>, cx: &mut Cx) -> 
     false
 }
 
-/// Sets the event of the next step of a transaction that passes no body on; where there is no memory for
-/// one, it ends.
-pub fn go_to<P: Drop>(
-    course: Course<P>,
+/// Where a transaction is led that keeps neither a head nor a body.
+#[derive(Clone, Copy)]
+pub enum Lead {
+    TxnStart,
+    /// All that the client gets was queued.
+    Finishing(TxnEnd),
+    TxnClose(TxnEnd),
+}
+
+// How far a transaction is that was led so.
+fn course_led<P>(lead: Lead) -> Course<P>
+    ensures { result ≡ course_led lead }
+{
+    match lead {
+        Lead::TxnStart => Course::Phased(Phase::TxnStart),
+        Lead::Finishing(end) => Course::Finishing { end },
+        Lead::TxnClose(end) => Course::Phased(Phase::TxnClose { end }),
+    }
+}
+
+/// Leads a transaction on, and sets the event of its next step; where there is no memory for one, it
+/// ends.
+pub fn go_to<P>(
+    lead: Lead,
     after: u64,
     main: &mut Option<StageContinuation>,
     cx: &mut Cx,
 ) -> Course<P>
     requires turn { cx.old.log.state.held ≡ true }
-    ensures course { StaysOnOrLacks course result }
+    ensures course { StaysOnOrLacks (course_led lead) result }
     ensures within { SetsOneOrNone cx.old cx.new }
     ensures due { SetsOnly (IsDueAfter after cx.old.moment) cx.old cx.new }
-    ensures spent { StaysWhereSpent course result main.old cx.old }
-    ensures covered { GoesAlone course → CoversAlone main.old main.new result cx.old cx.new }
+    ensures spent { StaysWhereSpent (course_led lead) result main.old cx.old }
+    ensures covered { CoversAlone main.old main.new result cx.old cx.new }
 {
     if rouse_next(after, main, cx) {
-        return course;
+        return course_led(lead);
+    }
+    Course::Phased(Phase::LACKS)
+}
+
+// Leaves a transaction in its phase, and sets the event of its next step; where there is no memory for one,
+// it ends.
+fn stay_in<P>(
+    phase: Phase,
+    after: u64,
+    main: &mut Option<StageContinuation>,
+    cx: &mut Cx,
+) -> Course<P>
+    requires turn { cx.old.log.state.held ≡ true }
+    ensures course { StaysOnOrLacks (Course.Phased phase) result }
+    ensures within { SetsOneOrNone cx.old cx.new }
+    ensures due { SetsOnly (IsDueAfter after cx.old.moment) cx.old cx.new }
+    ensures spent { StaysWhereSpent (Course.Phased phase) result main.old cx.old }
+    ensures covered { Proceeds phase → CoversAlone main.old main.new result cx.old cx.new }
+{
+    if rouse_next(after, main, cx) {
+        return Course::Phased(phase);
     }
     Course::Phased(Phase::LACKS)
 }
 
 /// Where a transaction is after a step of a body: one that is left is closed.
-pub fn leave<P: Transform + Drop>(
+pub fn leave_body<P: Transform + Drop>(
     relay: Relay<P>,
     step: BodyStep,
     main: &mut Option<StageContinuation>,
@@ -86,11 +127,11 @@ pub fn leave<P: Transform + Drop>(
         BodyStep::Waits => Course::Relaying(relay),
         BodyStep::Finishes(end) => {
             close_relay(relay, cx);
-            go_to(Course::Finishing { end }, AT_ONCE, main, cx)
+            go_to(Lead::Finishing(end), AT_ONCE, main, cx)
         }
         BodyStep::Closes(end) => {
             close_relay(relay, cx);
-            go_to(Course::Phased(Phase::TxnClose { end }), AT_ONCE, main, cx)
+            go_to(Lead::TxnClose(end), AT_ONCE, main, cx)
         }
         BodyStep::Lacks => {
             close_relay(relay, cx);
@@ -101,7 +142,7 @@ pub fn leave<P: Transform + Drop>(
 }
 
 /// Where a transaction is after a step of its last writes.
-pub fn write_on<P: Drop>(
+pub fn after_write<P: Drop>(
     end: TxnEnd,
     step: BodyStep,
     main: &mut Option<StageContinuation>,
@@ -115,10 +156,10 @@ pub fn write_on<P: Drop>(
     ensures covered { CoversAlone main.old main.new result cx.old cx.new }
 {
     match step {
-        BodyStep::Goes => go_to(Course::Finishing { end }, AT_ONCE, main, cx),
-        BodyStep::Waits => go_to(Course::Finishing { end }, RETRY, main, cx),
-        BodyStep::Finishes(end) => go_to(Course::Finishing { end }, AT_ONCE, main, cx),
-        BodyStep::Closes(end) => go_to(Course::Phased(Phase::TxnClose { end }), AT_ONCE, main, cx),
+        BodyStep::Goes => go_to(Lead::Finishing(end), AT_ONCE, main, cx),
+        BodyStep::Waits => go_to(Lead::Finishing(end), RETRY, main, cx),
+        BodyStep::Finishes(end) => go_to(Lead::Finishing(end), AT_ONCE, main, cx),
+        BodyStep::Closes(end) => go_to(Lead::TxnClose(end), AT_ONCE, main, cx),
         BodyStep::Lacks => {
             destroy_end(main, cx);
             Course::Phased(Phase::LACKS)
@@ -127,7 +168,7 @@ pub fn write_on<P: Drop>(
 }
 
 /// Where a transaction is after the step of a phase.
-pub fn step_on<P: Drop>(step: Step, main: &mut Option<StageContinuation>, cx: &mut Cx) -> Course<P>
+pub fn after_step<P: Drop>(step: Step, main: &mut Option<StageContinuation>, cx: &mut Cx) -> Course<P>
     requires turn { cx.old.log.state.held ≡ true }
     ensures course { LedBehind step.next (Course.Phased step.phase) result }
     ensures within { ActsWithin (set_after step.next) cx.old cx.new }
@@ -137,8 +178,8 @@ pub fn step_on<P: Drop>(step: Step, main: &mut Option<StageContinuation>, cx: &m
 {
     let Step { phase, next } = step;
     match next {
-        Next::Go => go_to(Course::Phased(phase), AT_ONCE, main, cx),
-        Next::Wait => go_to(Course::Phased(phase), RETRY, main, cx),
+        Next::Go => stay_in(phase, AT_ONCE, main, cx),
+        Next::Wait => stay_in(phase, RETRY, main, cx),
         Next::Done => {
             destroy_end(main, cx);
             Course::Phased(phase)

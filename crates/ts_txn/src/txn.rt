@@ -11,7 +11,7 @@ ghost use Rattle.ts_txn.specs.LoweringCourse.{transaction_left};
 ghost use Rattle.ts_txn.specs.World.{IsTxnOf, HasTxnBegun, IsSoundTxn, most_set};
 
 use crate::course::Course;
-use crate::course_events::drive_on;
+use crate::course_events::advance;
 use crate::course_leads::AT_ONCE;
 use crate::continuation::begin;
 use ts_phases::Core;
@@ -159,7 +159,7 @@ impl<C: Link + Drop, O: Upstream<C> + Drop, P: Transform<Line = TransformLine> +
             (transaction_left C.tells O.tells C.look O.look O.upload_left P.rest
             self.new.core self.new.course cx.new.log.state.pending) }
     {
-        drive_on(
+        advance(
             &mut self.core,
             &mut self.main,
             &mut self.course,

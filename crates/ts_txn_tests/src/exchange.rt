@@ -188,7 +188,8 @@ pub fn run(
     client: &Plan<'_>,
     origin: Option<Plan<'_>>,
 ) -> Result<Ended, Refusal> {
+    let client = link_of(alloc, client)?;
+    let origin = origin_of(alloc, origin)?;
     let setup = setup_of(alloc, lines, file)?;
-    let (client, origin) = (link_of(alloc, client)?, origin_of(alloc, origin)?);
     exchange(alloc, setup, client, origin)
 }

@@ -1,12 +1,13 @@
 //! Links that fail or leave: how the transaction ends, and that what was sent by then is a front of what is
 //! stated.
 
-use crate::exchange::{exchange, setup_of};
+use crate::answers::own;
+use crate::exchange::{Ended, exchange, setup_of};
 use crate::lines::{HTML, HTML_FRONT, STOCK, html};
-use crate::plan::{Plan, dripping, dripping_after, giving, leaving, link_of};
+use crate::plan::{Plan, dripping, dripping_after, giving, leaving, origin_of};
 use crate::refusal::Refusal;
 use crate::row::{Row, Verdict, check_between, get, judge, judge_front, run_row};
-use crate::stated::{ABC, ABC_FRONT, BAD_GATEWAY, GET, GET_SENT, SIZED};
+use crate::stated::{ABC, ABC_FRONT, BAD_GATEWAY, GET, GET_SENT, HEAD, HEAD_SENT, SIZED};
 use std::alloc::Global;
 use std::test::Fail;
 use ts_hooks::TxnEnd;
@@ -29,6 +30,11 @@ fn gateway_fault(row: Row<'_>) -> Row<'_> {
     }
 }
 
+// An origin that gives these bytes, as many as the head of the response of HTML has at once.
+fn html_dripping(gives: &[u8]) -> Plan<'_> {
+    dripping_after(gives, HTML_FRONT)
+}
+
 // Whether a client whose write of this number fails got a front of all before it, where each write takes one
 // byte.
 fn check_failing(alloc: Global, row: &Row<'_>, write: u64) -> Result<Verdict, Refusal> {
@@ -45,12 +51,19 @@ fn check_failing(alloc: Global, row: &Row<'_>, write: u64) -> Result<Verdict, Re
     judge_front(alloc, row, TxnEnd::ClientFault, &ended.parts)
 }
 
-// Whether a client that leaves when it has taken so many bytes got a front of them.
-fn check_leaving(alloc: Global, row: &Row<'_>, at: usize) -> Result<Verdict, Refusal> {
+// What comes of a row whose client leaves when it has taken so many bytes, and whose origin gives its body byte
+// by byte.
+fn run_leaving(alloc: Global, row: &Row<'_>, at: usize) -> Result<Ended, Refusal> {
+    let client = leaving(alloc, row.request, at)?;
+    let plan = row.origin.map(html_dripping);
+    let origin = origin_of(alloc, plan)?;
     let setup = setup_of(alloc, row.lines, row.file)?;
-    let client = leaving(alloc, GET, at)?;
-    let origin = link_of(alloc, &dripping_after(HTML, HTML_FRONT))?;
-    let ended = exchange(alloc, setup, client, Some(origin))?;
+    exchange(alloc, setup, client, origin)
+}
+
+// Whether such a client got a front of what is stated of so many bytes.
+fn check_leaving(alloc: Global, row: &Row<'_>, at: usize) -> Result<Verdict, Refusal> {
+    let ended = run_leaving(alloc, row, at)?;
     if ended.parts.client.written().len() != at {
         return Ok(Verdict::OtherText);
     }
@@ -64,6 +77,22 @@ fn a_client_that_leaves_in_its_head_got_a_front(rt: HostRuntime) -> Result<(), F
     for at in 0..row.head.len() {
         let verdict = check_leaving(alloc, &row, at)?;
         assert_eq!(rt; verdict, Verdict::AsStated, "at {at}");
+    }
+    Ok(())
+}
+
+#[test]
+fn a_client_that_leaves_in_an_answer_of_the_proxys_own_got_a_front(
+    rt: HostRuntime,
+) -> Result<(), Fail> {
+    let page = own(GET, b"", BAD_GATEWAY, b"502 Bad Gateway\n");
+    let head = own(HEAD, b"", BAD_GATEWAY, b"");
+    for row in [page, head] {
+        let row = Row { origin: None, ..row };
+        for at in 0..row.head.len() + row.body.len() {
+            let verdict = check_leaving(rt.alloc(), &row, at)?;
+            assert_eq!(rt; verdict, Verdict::AsStated, "at {at}");
+        }
     }
     Ok(())
 }
@@ -159,6 +188,18 @@ fn an_origin_that_fails_in_its_head_is_answered_for(rt: HostRuntime) -> Result<(
         };
         let verdict = check_between(alloc, &row, &giving(GET), Some(origin))?;
         assert_eq!(rt; verdict, Verdict::AsStated, "read {read}");
+    }
+    let head = Row {
+        end: TxnEnd::OriginFault,
+        ..own(HEAD, HEAD_SENT, BAD_GATEWAY, b"")
+    };
+    for read in [1, 2, 17] {
+        let origin = Plan {
+            fail_read: read,
+            ..dripping(b"HTTP/1.1 200 OK\r\n")
+        };
+        let verdict = check_between(alloc, &head, &giving(HEAD), Some(origin))?;
+        assert_eq!(rt; verdict, Verdict::AsStated, "HEAD, read {read}");
     }
     Ok(())
 }

@@ -1,12 +1,13 @@
 //! Links that make their caller wait: the same texts, and a pause of 10 milliseconds for each such answer.
 
+use crate::answers::own;
 use crate::exchange::Ended;
 use crate::journals::{last_made, last_moment, least_gap};
 use crate::lines::{HTML, HTML_FRONT, STOCK, html};
-use crate::plan::{Plan, dripping, dripping_after};
+use crate::plan::{Plan, dripping, dripping_after, giving};
 use crate::refusal::Refusal;
 use crate::row::{Row, Verdict, get, judge, run_row};
-use crate::stated::{ABC, BAD_GATEWAY, GET, GET_SENT, SIZED};
+use crate::stated::{ABC, BAD_GATEWAY, GET, GET_SENT, HEAD, SIZED};
 use std::alloc::Global;
 use std::test::Fail;
 use ts_wire::Mode;
@@ -182,19 +183,19 @@ fn a_link_that_waits_is_left_alone_for_ten_milliseconds(rt: HostRuntime) -> Resu
 
 #[test]
 fn a_client_that_waits_at_its_first_writes(rt: HostRuntime) -> Result<(), Fail> {
-    let row = Row {
-        origin: None,
-        sent: b"",
-        ..get(b"", BAD_GATEWAY, Mode::Plain, b"502 Bad Gateway\n")
-    };
-    let client = Plan {
-        again_writes: (1, 2),
-        ..dripping(GET)
-    };
-    assert_eq!(rt;
-        check_pauses(rt.alloc(), &row, &client, None, (WAITS, 0))?,
-        Verdict::AsStated
-    );
+    let page = own(GET, b"", BAD_GATEWAY, b"502 Bad Gateway\n");
+    let head = own(HEAD, b"", BAD_GATEWAY, b"");
+    for row in [page, head] {
+        let row = Row { origin: None, ..row };
+        for plan in [dripping(row.request), giving(row.request)] {
+            let client = Plan {
+                again_writes: (1, 2),
+                ..plan
+            };
+            let verdict = check_pauses(rt.alloc(), &row, &client, None, (WAITS, 0))?;
+            assert_eq!(rt; verdict, Verdict::AsStated);
+        }
+    }
     Ok(())
 }
 

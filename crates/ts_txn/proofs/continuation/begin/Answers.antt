@@ -13,6 +13,6 @@ returns-clause-within g c =
 
 pub returns-clause-covered : goal.returns-clause-covered
 returns-clause-covered g c = λ alone v.
-    c.go_to.ensures.covered tt
+    c.go_to.ensures.covered
     (alone_made c.in-Ok.made c.args.cx.now c.make_end.new.cx (subst (λ m. AllSeated c.args.cx.now.log.state.pending (m ∷ [])) c.requires.none alone.seated) alone.plain
     c.make_end.ensures.events c.in-Ok.ensures.named.0 c.in-Ok.ensures.named.1) v

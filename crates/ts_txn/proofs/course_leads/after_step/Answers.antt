@@ -5,21 +5,21 @@ use Rattle.ts_transform.proofs.Kept.{acts_lessens}
 use Rattle.ts_phases.specs.Cover.{StepsTo, set_after}
 use Rattle.ts_txn.specs.declared.course.Course.TheVariants as K
 use Rattle.ts_txn.proofs.CourseSeats.{ended_alone}
-use Rattle.ts_txn.proofs.course_leads.step_on.Goals as goal
+use Rattle.ts_txn.proofs.course_leads.after_step.Goals as goal
 
 -- The next step is made at once.
 pub returns-in-Go-clause-within : goal.returns-in-Go-clause-within
-returns-in-Go-clause-within g c = subst (λ n. ActsWithin (set_after n) c.args.cx.now c.go_to.new.cx) (sym c.in-Go.is) c.go_to.ensures.within
+returns-in-Go-clause-within g c = subst (λ n. ActsWithin (set_after n) c.args.cx.now c.stay_in.new.cx) (sym c.in-Go.is) c.stay_in.ensures.within
 
 pub returns-in-Go-clause-covered : goal.returns-in-Go-clause-covered
-returns-in-Go-clause-covered g c = λ leads. c.go_to.ensures.covered (subst (λ n. StepsTo n c.args.step.phase) c.in-Go.is leads)
+returns-in-Go-clause-covered g c = λ leads. c.stay_in.ensures.covered (subst (λ n. StepsTo n c.args.step.phase) c.in-Go.is leads)
 
 -- Or it waits.
 pub returns-in-Wait-clause-within : goal.returns-in-Wait-clause-within
-returns-in-Wait-clause-within g c = subst (λ n. ActsWithin (set_after n) c.args.cx.now c.go_to-in-Wait.new.cx) (sym c.in-Wait.is) c.go_to-in-Wait.ensures.within
+returns-in-Wait-clause-within g c = subst (λ n. ActsWithin (set_after n) c.args.cx.now c.stay_in-in-Wait.new.cx) (sym c.in-Wait.is) c.stay_in-in-Wait.ensures.within
 
 pub returns-in-Wait-clause-covered : goal.returns-in-Wait-clause-covered
-returns-in-Wait-clause-covered g c = λ leads. c.go_to-in-Wait.ensures.covered (subst (λ n. StepsTo n c.args.step.phase) c.in-Wait.is leads)
+returns-in-Wait-clause-covered g c = λ leads. c.stay_in-in-Wait.ensures.covered (subst (λ n. StepsTo n c.args.step.phase) c.in-Wait.is leads)
 
 -- It has ended.
 pub returns-in-Done-clause-within : goal.returns-in-Done-clause-within

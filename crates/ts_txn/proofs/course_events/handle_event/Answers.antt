@@ -3,7 +3,7 @@ use Rattle.std.proofs.Common.{sym, ◌∙◌}
 use Rattle.ts_txn.specs.declared.course.Course.TheVariants as K
 use Rattle.ts_txn.proofs.Events.{handles_phased}
 use Rattle.ts_txn.proofs.Handling.{alone_then, sound_other, sound_quiet}
-use Rattle.ts_txn.proofs.course_events.handle_on.Goals as goal
+use Rattle.ts_txn.proofs.course_events.handle_event.Goals as goal
 
 -- In a phase: an event of another continuation, one at which nobody works, and that of the next step.
 pub returns-then-role-ne-MAIN-clause-sound : goal.returns-then-role-ne-MAIN-clause-sound
@@ -16,15 +16,15 @@ returns-then-not-works-clause-sound g c =
     sound_quiet g.C.Link.tells g.O.Link.tells g.C.Link.look g.O.Link.look g.O.Upstream.paired g.O.Upstream.refuses g.P.Transform.rest g.P.Transform.whole c.args.core.now c.args.main.now c.args.course
     (K.Phased c.in-Phased.phase) c.in-Phased.is tt c.args.cx.now c.args.role c.args.event c.requires.called (sym c.works.ensures ∙ c.if-not-works.true)
 
-pub phase_on-requires-clause-alone : goal.phase_on-requires-clause-alone
-phase_on-requires-clause-alone g c =
+pub advance_phase-requires-clause-alone : goal.advance_phase-requires-clause-alone
+advance_phase-requires-clause-alone g c =
     alone_then g.C.Link.tells g.O.Link.tells g.C.Link.look g.O.Link.look g.O.Upstream.paired g.O.Upstream.refuses g.P.Transform.rest g.P.Transform.whole c.args.core.now c.args.main.now c.args.course
     (K.Phased c.in-Phased.phase) c.in-Phased.is tt c.args.cx.now c.args.role c.args.event c.requires.called c.unrouse.new.slot c.unrouse.ensures
 
 pub returns-else-not-works-clause-handles : goal.returns-else-not-works-clause-handles
 returns-else-not-works-clause-handles g c =
-    handles_phased g.C.Link.tells g.O.Link.tells g.C.Link.look g.O.Link.look g.O.Upstream.paired g.O.Upstream.refuses g.O.Upstream.upload_left c.args.core.now c.phase_on.new.core c.args.cx.now
-    c.phase_on.new.cx c.args.role c.args.main.now c.unrouse.new.slot c.unrouse.ensures c.args.course c.in-Phased.phase c.in-Phased.is c.phase_on.result c.phase_on.ensures.handles
+    handles_phased g.C.Link.tells g.O.Link.tells g.C.Link.look g.O.Link.look g.O.Upstream.paired g.O.Upstream.refuses g.O.Upstream.upload_left c.args.core.now c.advance_phase.new.core c.args.cx.now
+    c.advance_phase.new.cx c.args.role c.args.main.now c.unrouse.new.slot c.unrouse.ensures c.args.course c.in-Phased.phase c.in-Phased.is c.advance_phase.result c.advance_phase.ensures.handles
 
 -- The same while the last is written.
 pub returns-then-role-ne-MAIN-2-clause-sound : goal.returns-then-role-ne-MAIN-2-clause-sound
@@ -37,7 +37,7 @@ returns-then-not-works-2-clause-sound g c =
     sound_quiet g.C.Link.tells g.O.Link.tells g.C.Link.look g.O.Link.look g.O.Upstream.paired g.O.Upstream.refuses g.P.Transform.rest g.P.Transform.whole c.args.core.now c.args.main.now c.args.course
     (K.Finishing c.in-Finishing.end) c.in-Finishing.is tt c.args.cx.now c.args.role c.args.event c.requires.called (sym c.works-in-Finishing.ensures ∙ c.if-not-works-2.true)
 
-pub finish_on-requires-clause-alone : goal.finish_on-requires-clause-alone
-finish_on-requires-clause-alone g c =
+pub write_rest-requires-clause-alone : goal.write_rest-requires-clause-alone
+write_rest-requires-clause-alone g c =
     alone_then g.C.Link.tells g.O.Link.tells g.C.Link.look g.O.Link.look g.O.Upstream.paired g.O.Upstream.refuses g.P.Transform.rest g.P.Transform.whole c.args.core.now c.args.main.now c.args.course
     (K.Finishing c.in-Finishing.end) c.in-Finishing.is tt c.args.cx.now c.args.role c.args.event c.requires.called c.unrouse-in-Finishing.new.slot c.unrouse-in-Finishing.ensures

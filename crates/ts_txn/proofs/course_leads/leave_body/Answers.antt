@@ -11,7 +11,7 @@ use Rattle.ts_txn.specs.declared.course.Course.TheVariants as K
 use Rattle.ts_relay.specs.declared.last_writes.BodyStep.TheVariants as S
 use Rattle.ts_phases.specs.declared.phase.Phase.TheVariants as P
 use Rattle.ts_txn.proofs.CourseSeats.{left_covers, left_spent, lost_covers, runs_closing, runs_finishing}
-use Rattle.ts_txn.proofs.course_leads.leave.Goals as goal
+use Rattle.ts_txn.proofs.course_leads.leave_body.Goals as goal
 
 -- The body is passed on.
 pub returns-in-Goes-clause-within : goal.returns-in-Goes-clause-within
@@ -29,7 +29,7 @@ returns-in-Finishes-clause-within g c =
 pub returns-in-Finishes-clause-covered : goal.returns-in-Finishes-clause-covered
 returns-in-Finishes-clause-covered g c =
     left_covers c.args.step c.args.relay c.go_to.result c.args.main.now c.go_to.new.main c.args.cx.now c.close_relay.new.cx c.go_to.new.cx
-    (runs_finishing c.args.step c.in-Finishes.end (RunsOr c.args.relay c.args.cx.now.log.state.next) c.in-Finishes.is) c.close_relay.ensures.clears (c.go_to.ensures.covered tt)
+    (runs_finishing c.args.step c.in-Finishes.end (RunsOr c.args.relay c.args.cx.now.log.state.next) c.in-Finishes.is) c.close_relay.ensures.clears c.go_to.ensures.covered
 
 pub returns-in-Finishes-clause-spent : goal.returns-in-Finishes-clause-spent
 returns-in-Finishes-clause-spent g c =
@@ -45,7 +45,7 @@ returns-in-Closes-clause-within g c =
 pub returns-in-Closes-clause-covered : goal.returns-in-Closes-clause-covered
 returns-in-Closes-clause-covered g c =
     left_covers c.args.step c.args.relay c.go_to-in-Closes.result c.args.main.now c.go_to-in-Closes.new.main c.args.cx.now c.close_relay-in-Closes.new.cx c.go_to-in-Closes.new.cx
-    (runs_closing c.args.step c.in-Closes.end (RunsOr c.args.relay c.args.cx.now.log.state.next) c.in-Closes.is) c.close_relay-in-Closes.ensures.clears (c.go_to-in-Closes.ensures.covered tt)
+    (runs_closing c.args.step c.in-Closes.end (RunsOr c.args.relay c.args.cx.now.log.state.next) c.in-Closes.is) c.close_relay-in-Closes.ensures.clears c.go_to-in-Closes.ensures.covered
 
 pub returns-in-Closes-clause-spent : goal.returns-in-Closes-clause-spent
 returns-in-Closes-clause-spent g c =

@@ -21,7 +21,7 @@ use Rattle.ts_txn.proofs.Events.{begin_led, due_begin, takes_begin, takes_lost}
 use Rattle.ts_txn.proofs.Handling.{little_begun, little_stay, sound_here}
 use Rattle.ts_txn.proofs.LoweringCourse.{begun_led, lines_after, lines_stay, not_begun}
 use Rattle.ts_relay.proofs.LoweringPays.{set_one}
-use Rattle.ts_txn.proofs.course.enter_on.Goals as goal
+use Rattle.ts_txn.proofs.course.enter_body.Goals as goal
 
 -- Memory lacked for the head.
 pub returns-in_default-clause-sound : goal.returns-in_default-clause-sound
@@ -66,23 +66,23 @@ returns-clause-sound g c =
     let step = c.begin_body-step.result in
     let v = view_of g.C.Link.look g.O.Link.look new in
     sound_here g.C.Link.tells g.O.Link.tells g.C.Link.look g.O.Link.look g.O.Upstream.paired g.O.Upstream.refuses g.P.Transform.rest g.P.Transform.whole core new
-    (K.Phased (P.ResponseTransform c.args.request c.args.head)) c.leave.result c.leave.new.main c.leave.new.cx c.requires.stands c.queue_relay.ensures.keeps
-    (λ told also. stays_on (arc_value new.setup) (OriginRefuses g.C.Link.look g.O.Upstream.refuses new) g.P.Transform.rest v (course_after relay step) c.leave.result
-    (led_on (arc_value new.setup) (OriginRefuses g.C.Link.look g.O.Upstream.refuses new) g.P.Transform.rest v relay step (c.begin_body-step.ensures.leads told also)) (after_led step (course_after relay step) c.leave.result c.leave.ensures.course))
-    (lines_stay (arc_value new.setup) g.P.Transform.rest (course_after relay step) c.leave.result
+    (K.Phased (P.ResponseTransform c.args.request c.args.head)) c.leave_body.result c.leave_body.new.main c.leave_body.new.cx c.requires.stands c.queue_relay.ensures.keeps
+    (λ told also. stays_on (arc_value new.setup) (OriginRefuses g.C.Link.look g.O.Upstream.refuses new) g.P.Transform.rest v (course_after relay step) c.leave_body.result
+    (led_on (arc_value new.setup) (OriginRefuses g.C.Link.look g.O.Upstream.refuses new) g.P.Transform.rest v relay step (c.begin_body-step.ensures.leads told also)) (after_led step (course_after relay step) c.leave_body.result c.leave_body.ensures.course))
+    (lines_stay (arc_value new.setup) g.P.Transform.rest (course_after relay step) c.leave_body.result
     (lines_after (arc_value new.setup) g.P.Transform.rest step c.in-Ok.made relay c.begin_body-step.ensures.lowers.lines
-    (subst (λ x. IsOfLines (arc_value x) g.P.Transform.rest c.in-Ok.made.driven.chain) (sym c.queue_relay.ensures.keeps.setup) c.in-Ok.ensures.lowers.lines)) (after_led step (course_after relay step) c.leave.result c.leave.ensures.course))
-    (λ told also. little_stay v (course_after relay step) c.leave.result
+    (subst (λ x. IsOfLines (arc_value x) g.P.Transform.rest c.in-Ok.made.driven.chain) (sym c.queue_relay.ensures.keeps.setup) c.in-Ok.ensures.lowers.lines)) (after_led step (course_after relay step) c.leave_body.result c.leave_body.ensures.course))
+    (λ told also. little_stay v (course_after relay step) c.leave_body.result
     (little_begun v step c.in-Ok.made relay c.begin_body-step.ensures.lowers.first (c.in-Ok.ensures.lowers.little told also))
-    (after_led step (course_after relay step) c.leave.result c.leave.ensures.course))
-    (c.leave.ensures.covered v
+    (after_led step (course_after relay step) c.leave_body.result c.leave_body.ensures.course))
+    (c.leave_body.ensures.covered v
     (stands_begun step v c.args.main.now c.begin_body-step.new.main relay c.args.cx.now c.begin_body-step.new.cx c.known.ensures c.begin_body-step.ensures.begins c.requires.alone))
 
 pub returns-clause-within : goal.returns-clause-within
 returns-clause-within g c =
     let step = c.begin_body-step.result in
     let few : set_leaving step ≤ 1 = set_one step in
-    acts_then 4 (set_leaving step) most_set (omega (arith, few)) c.begin_body-step.ensures.begins.acts c.leave.ensures.within
+    acts_then 4 (set_leaving step) most_set (omega (arith, few)) c.begin_body-step.ensures.begins.acts c.leave_body.ensures.within
 
 pub returns-clause-handles : goal.returns-clause-handles
 returns-clause-handles g c =
@@ -90,18 +90,18 @@ returns-clause-handles g c =
     let new = c.queue_relay.new.core in
     let relay = c.begin_body-step.new.relay in
     let v = view_of g.C.Link.look g.O.Link.look new in
-    let led = begin_led g.C.Link.tells g.O.Link.tells g.C.Link.look g.O.Link.look g.O.Upstream.paired g.O.Upstream.refuses g.O.Upstream.upload_left relay c.begin_body-step.result c.leave.result
-    c.begin_body-step.ensures.begins.goes c.leave.ensures.course in
+    let led = begin_led g.C.Link.tells g.O.Link.tells g.C.Link.look g.O.Link.look g.O.Upstream.paired g.O.Upstream.refuses g.O.Upstream.upload_left relay c.begin_body-step.result c.leave_body.result
+    c.begin_body-step.ensures.begins.goes c.leave_body.ensures.course in
     record {
       keeps = c.queue_relay.ensures.keeps;
       handles = record {
         next = N.Go;
         takes = takes_begin g.C.Link.tells g.O.Link.tells g.C.Link.look g.O.Link.look g.O.Upstream.paired g.O.Upstream.refuses g.O.Upstream.upload_left core new
-            (P.ResponseTransform c.args.request c.args.head) c.leave.result relay c.queue_relay.ensures.quiet led;
-        due = due_begin g.C.Link.tells g.O.Link.tells g.C.Link.look g.O.Link.look g.O.Upstream.paired g.O.Upstream.refuses g.O.Upstream.upload_left c.args.main.now v c.leave.new.main c.args.cx.now
-            c.begin_body-step.new.cx c.leave.new.cx c.begin_body-step.result relay c.leave.result c.begin_body-step.ensures.begins.goes c.leave.ensures.course
-            c.begin_body-step.ensures.begins.acts.grows c.begin_body-step.ensures.due c.leave.ensures.within
-            (c.leave.ensures.covered v
+            (P.ResponseTransform c.args.request c.args.head) c.leave_body.result relay c.queue_relay.ensures.quiet led;
+        due = due_begin g.C.Link.tells g.O.Link.tells g.C.Link.look g.O.Link.look g.O.Upstream.paired g.O.Upstream.refuses g.O.Upstream.upload_left c.args.main.now v c.leave_body.new.main c.args.cx.now
+            c.begin_body-step.new.cx c.leave_body.new.cx c.begin_body-step.result relay c.leave_body.result c.begin_body-step.ensures.begins.goes c.leave_body.ensures.course
+            c.begin_body-step.ensures.begins.acts.grows c.begin_body-step.ensures.due c.leave_body.ensures.within
+            (c.leave_body.ensures.covered v
             (stands_begun c.begin_body-step.result v c.args.main.now c.begin_body-step.new.main relay c.args.cx.now c.begin_body-step.new.cx c.known.ensures c.begin_body-step.ensures.begins
             c.requires.alone));
       };
@@ -127,7 +127,7 @@ returns-clause-pays g c = λ told also.
     let w = view_of g.C.Link.look g.O.Link.look new in
     let kept = subst (λ x. NoMore (unbegun_left (arc_value x) g.P.Transform.rest w made) (left_after (arc_value x) g.P.Transform.rest step w relay)) c.queue_relay.ensures.keeps.setup
     c.begin_body-step.ensures.lowers.falls in
-    begun_led (arc_value core.setup) g.P.Transform.rest c.args.request c.args.head step made relay c.leave.result (view_of g.C.Link.look g.O.Link.look core) w
+    begun_led (arc_value core.setup) g.P.Transform.rest c.args.request c.args.head step made relay c.leave_body.result (view_of g.C.Link.look g.O.Link.look core) w
     (upload_told g.O.Upstream.upload_left core.client.link core.origin) (upload_told g.O.Upstream.upload_left new.client.link new.origin) c.args.cx.now.log.state.pending
-    c.begin_body-step.new.cx.log.state.pending c.leave.new.cx.log.state.pending (c.in-Ok.ensures.lowers.falls told also) kept c.begin_body-step.ensures.begins.acts.few.pending
-    (after_led step (course_after relay step) c.leave.result c.leave.ensures.course) c.leave.ensures.within.few.pending
+    c.begin_body-step.new.cx.log.state.pending c.leave_body.new.cx.log.state.pending (c.in-Ok.ensures.lowers.falls told also) kept c.begin_body-step.ensures.begins.acts.few.pending
+    (after_led step (course_after relay step) c.leave_body.result c.leave_body.ensures.course) c.leave_body.ensures.within.few.pending
