@@ -56,8 +56,10 @@ module _ (v w : View) where
   -- a body begins
   leaves_begun : (p : Phase) → BeginsIn p v w → LeavesSides p v w
   leaves_begun p begins = record {
-    origin = leaves_in p (record { taken = ap (λ (s : LinkSide). s.look.taken) (calls p begins).origin; waits = ap (λ (s : LinkSide). s.outbox) (calls p begins).origin });
-    client = spares_in p (record { given = ap (λ (l : Look). l.given) (calls p begins).client; held = (calls p begins).held });
+    origin = leaves_in p (record { taken = ap (λ (s : LinkSide). s.look.taken) (calls p begins).origin; waits
+        = ap (λ (s : LinkSide). s.outbox) (calls p begins).origin });
+    client = spares_in p (record { given = ap (λ (l : Look). l.given) (calls p begins).client; held =
+        (calls p begins).held });
   }
     where
       calls : (p : Phase) → BeginsIn p v w → QuietLinks v w
@@ -79,34 +81,44 @@ steps_started N.Done p ended = ended_started p ended
 steps_started _ p on = proceeds_started p on
 
 -- nor does its end for want of memory
-pub stays_started : {Q : Type 0} (led new : Course Q) → is_fresh_on led ≡ false → StaysOnOrLacks led new → is_fresh_on new ≡ false
+pub stays_started : {Q : Type 0} (led new : Course Q) → is_fresh_on led ≡ false → StaysOnOrLacks led new
+    → is_fresh_on new ≡ false
 stays_started led new started (inl same) = ap is_fresh_on same ∙ started
 stays_started led new started (inr lacks) = ap is_fresh_on lacks
 
-module _ {C O Q : Type 0} (ct ot : Bool) (client : C → Look) (origin : O → Look) (paired : C → O → Type 0) (refuses : O → List ℕ → Type 0) (left : C → O → Option ℕ) where
+module _ {C O Q : Type 0} (ct ot : Bool) (client : C → Look) (origin : O → Look) (paired : C → O → Type 0)
+    (refuses : O → List ℕ → Type 0) (left : C → O → Option ℕ) where
   -- a step of a phase was made, and led to the phase that it answered, or to the end for want of memory
-  pub takes_step : (s t : Core C O) (p : Phase) (new : Course Q) (made : Step) → StepLeads made → MindsLinksIn ct ot client origin refuses left s t p made
-      → WaitsRightly made.next (view_of client origin s) (view_of client origin t) → IfTold ct ot (LeavesSides p (view_of client origin s) (view_of client origin t))
-      → LedBehind made.next (K.Phased made.phase) new → TakesStep ct ot client origin paired refuses left s t p made.next new
+  pub takes_step : (s t : Core C O) (p : Phase) (new : Course Q) (made : Step) → StepLeads made
+      → MindsLinksIn ct ot client origin refuses left s t p made
+      → WaitsRightly made.next (view_of client origin s) (view_of client origin t)
+          → IfTold ct ot (LeavesSides p (view_of client origin s) (view_of client origin t))
+      → LedBehind made.next (K.Phased made.phase) new
+          → TakesStep ct ot client origin paired refuses left s t p made.next new
   takes_step s t p new made leads minds waits leaves led = record {
     minds = by_lead (behind_led made.next (K.Phased made.phase) new led);
     waits = waits;
     leaves = leaves;
     closes = by_phase p minds;
-    started = λ was. stays_started (K.Phased made.phase) new (steps_started made.next made.phase leads) (behind_led made.next (K.Phased made.phase) new led);
+    started = λ was. stays_started (K.Phased made.phase) new (steps_started made.next made.phase leads)
+        (behind_led made.next (K.Phased made.phase) new led);
   }
     where
       by_lead : StaysOnOrLacks (K.Phased made.phase) new
-          → (new ≡ K.Phased (P.Ended E.NoMemory)) ⊎ ((t ≡ s) × (new ≡ K.Phased p)) ⊎ MindsCourse ct ot client origin paired refuses left s t p made.next new
-      by_lead (inl same) = inr (inr (subst (MindsCourse ct ot client origin paired refuses left s t p made.next) (sym same) minds))
+          → (new ≡ K.Phased (P.Ended E.NoMemory)) ⊎ ((t ≡ s) × (new ≡ K.Phased p)) ⊎ MindsCourse ct ot client
+              origin paired refuses left s t p made.next new
+      by_lead (inl same) = inr (inr (subst (MindsCourse ct ot client origin paired refuses left s t p
+          made.next) (sym same) minds))
       by_lead (inr lacks) = inl lacks
 
       by_phase : (p : Phase) → MindsLinksIn ct ot client origin refuses left s t p made → ClosesAs p new
-      by_phase (P.TxnClose end) minds = inr (subst (λ (m : Step). LedBehind m.next (K.Phased m.phase) new) minds.1 led)
+      by_phase (P.TxnClose end) minds = inr (subst (λ (m : Step). LedBehind m.next (K.Phased m.phase) new)
+          minds.1 led)
       by_phase _ minds = tt
 
   -- where a body that begins leads: it is passed on, or memory lacked
-  pub begin_led : (r : Relay Q) (step : BodyStep) (new : Course Q) → OnGoes step ⊤ → LedAfter step (course_after r step) new
+  pub begin_led : (r : Relay Q) (step : BodyStep) (new : Course Q) → OnGoes step ⊤
+      → LedAfter step (course_after r step) new
       → (new ≡ K.Relaying r) ⊎ (new ≡ K.Phased (P.Ended E.NoMemory))
   begin_led r S.Goes new goes led = inl led
   begin_led r S.Lacks new goes (inl lacks) = inr lacks
@@ -114,8 +126,10 @@ module _ {C O Q : Type 0} (ct ot : Bool) (client : C → Look) (origin : O → L
   begin_led r _ new goes led = absurd goes
 
   -- a body was begun, or memory lacked for that
-  pub takes_begin : (s t : Core C O) (p : Phase) (new : Course Q) (r : Relay Q) → BeginsIn p (view_of client origin s) (view_of client origin t)
-      → (new ≡ K.Relaying r) ⊎ (new ≡ K.Phased (P.Ended E.NoMemory)) → TakesStep ct ot client origin paired refuses left s t p N.Go new
+  pub takes_begin : (s t : Core C O) (p : Phase) (new : Course Q) (r : Relay Q)
+      → BeginsIn p (view_of client origin s) (view_of client origin t)
+      → (new ≡ K.Relaying r) ⊎ (new ≡ K.Phased (P.Ended E.NoMemory))
+          → TakesStep ct ot client origin paired refuses left s t p N.Go new
   takes_begin s t p new r begins led = record {
     minds = by_lead led;
     waits = tt;
@@ -125,8 +139,10 @@ module _ {C O Q : Type 0} (ct ot : Bool) (client : C → Look) (origin : O → L
   }
     where
       by_lead : (new ≡ K.Relaying r) ⊎ (new ≡ K.Phased (P.Ended E.NoMemory))
-          → (new ≡ K.Phased (P.Ended E.NoMemory)) ⊎ ((t ≡ s) × (new ≡ K.Phased p)) ⊎ MindsCourse ct ot client origin paired refuses left s t p N.Go new
-      by_lead (inl same) = inr (inr (subst (MindsCourse ct ot client origin paired refuses left s t p N.Go) (sym same) begins))
+          → (new ≡ K.Phased (P.Ended E.NoMemory)) ⊎ ((t ≡ s) × (new ≡ K.Phased p)) ⊎ MindsCourse ct ot client
+              origin paired refuses left s t p N.Go new
+      by_lead (inl same) = inr (inr (subst (MindsCourse ct ot client origin paired refuses left s t p N.Go)
+          (sym same) begins))
       by_lead (inr lacks) = inl lacks
 
       by_start : (new ≡ K.Relaying r) ⊎ (new ≡ K.Phased (P.Ended E.NoMemory)) → is_fresh_on new ≡ false
@@ -134,63 +150,81 @@ module _ {C O Q : Type 0} (ct ot : Bool) (client : C → Look) (origin : O → L
       by_start (inr lacks) = ap is_fresh_on lacks
 
   -- memory lacked for its head
-  pub takes_lost : (s t : Core C O) (p : Phase) → BeginsIn p (view_of client origin s) (view_of client origin t)
+  pub takes_lost : (s t : Core C O) (p : Phase)
+      → BeginsIn p (view_of client origin s) (view_of client origin t)
       → TakesStep {Q = Q} ct ot client origin paired refuses left s t p N.Go (K.Phased (P.Ended E.NoMemory))
   takes_lost s t p begins = record {
     minds = inl refl;
     waits = tt;
     leaves = λ told also. leaves_begun (view_of client origin s) (view_of client origin t) p begins;
-    closes = begin_closes (view_of client origin s) (view_of client origin t) p (K.Phased (P.Ended E.NoMemory)) begins;
+    closes = begin_closes (view_of client origin s) (view_of client origin t) p
+        (K.Phased (P.Ended E.NoMemory)) begins;
     started = λ was. refl;
   }
 
   -- the event of the next step is due then
-  pub due_step : (main : Option StageContinuation) (a b : Context) (next : Next) (p : Phase) (new : Course Q) → StaysOnOrLacks (K.Phased p) new
+  pub due_step : (main : Option StageContinuation) (a b : Context) (next : Next) (p : Phase) (new : Course Q)
+      → StaysOnOrLacks (K.Phased p) new
       → SetsOnly (IsDueAfter (delay_of next) a.moment) a b → DueTo main next new a b
   due_step main a b next p new (inl same) due = subst (λ x. DueTo main next x a b) (sym same) due
   due_step main a b next p new (inr lacks) due = subst (λ x. DueTo main next x a b) (sym lacks) due
 
   -- where a body was begun, or nothing is pending any more
-  pub due_begin : (main : Option StageContinuation) (v : View) (u : Option StageContinuation) (a m b : Context) (step : BodyStep) (r : Relay Q) (new : Course Q) → OnGoes step ⊤
-      → LedAfter step (course_after r step) new → Grows a m → BeginsInTime main r a m → ActsWithin (set_leaving step) m b → IsCoveredNow v u new b → DueTo main N.Go new a b
-  due_begin main v u a m b S.Goes r new goes led first begins then covered = subst (λ x. DueTo main N.Go x a b) (sym led) (record { behind = m; first = first; begins = begins; then = then })
+  pub due_begin : (main : Option StageContinuation) (v : View) (u : Option StageContinuation)
+      (a m b : Context) (step : BodyStep) (r : Relay Q) (new : Course Q) → OnGoes step ⊤
+      → LedAfter step (course_after r step) new → Grows a m → BeginsInTime main r a m
+          → ActsWithin (set_leaving step) m b → IsCoveredNow v u new b → DueTo main N.Go new a b
+  due_begin main v u a m b S.Goes r new goes led first begins then covered = subst
+      (λ x. DueTo main N.Go x a b) (sym led) (record
+      { behind = m; first = first; begins = begins; then = then })
   due_begin main v u a m b S.Lacks r new goes led first begins then covered = lost (by_lead led)
     where
-      by_lead : (new ≡ K.Phased (P.Ended E.NoMemory)) ⊎ (new ≡ K.Phased (P.Ended E.NoMemory)) → new ≡ K.Phased (P.Ended E.NoMemory)
+      by_lead : (new ≡ K.Phased (P.Ended E.NoMemory)) ⊎ (new ≡ K.Phased (P.Ended E.NoMemory))
+          → new ≡ K.Phased (P.Ended E.NoMemory)
       by_lead (inl lacks) = lacks
       by_lead (inr lacks) = lacks
 
       unseated : (p : Pending) → HasKey (None ∷ []) p.key → ⊥
       unseated p has = has
 
-      none_due : IsCoveredNow {Q = Q} v u (K.Phased (P.Ended E.NoMemory)) b → DueTo {Q = Q} main N.Go (K.Phased (P.Ended E.NoMemory)) a b
-      none_due h n p none there = absurd (unseated p (subst (λ x. AllSeated b.log.state.pending (x ∷ [])) h.idles h.seated n p there))
+      none_due : IsCoveredNow {Q = Q} v u (K.Phased (P.Ended E.NoMemory)) b
+          → DueTo {Q = Q} main N.Go (K.Phased (P.Ended E.NoMemory)) a b
+      none_due h n p none there = absurd (unseated p
+          (subst (λ x. AllSeated b.log.state.pending (x ∷ [])) h.idles h.seated n p there))
 
       lost : new ≡ K.Phased (P.Ended E.NoMemory) → DueTo main N.Go new a b
-      lost lacks = subst (λ x. DueTo main N.Go x a b) (sym lacks) (none_due (subst (λ x. IsCoveredNow v u x b) lacks covered))
+      lost lacks = subst (λ x. DueTo main N.Go x a b) (sym lacks)
+          (none_due (subst (λ x. IsCoveredNow v u x b) lacks covered))
   due_begin main v u a m b _ r new goes led first begins then covered = absurd goes
 
   -- in a phase, said of the first continuation before its event was handled
-  due_before : (main u : Option StageContinuation) → u ≡ unroused main → (next : Next) (new : Course Q) (a b : Context) → DueTo u next new a b → DueTo main next new a b
+  due_before : (main u : Option StageContinuation) → u ≡ unroused main
+      → (next : Next) (new : Course Q) (a b : Context) → DueTo u next new a b → DueTo main next new a b
   due_before main u is next (K.Phased p) a b due = due
   due_before main u is next (K.Relaying r) a b due = record {
     behind = due.behind;
     first = due.first;
-    begins = λ runs named. due.begins runs (subst (IsNamedIf a.roles MAIN) (sym is) (named_unroused a.roles MAIN main named));
+    begins = λ runs named. due.begins runs (subst (IsNamedIf a.roles MAIN) (sym is)
+        (named_unroused a.roles MAIN main named));
     then = due.then;
   }
   due_before main u is next (K.Finishing end) a b due = due
 
-  pub handles_phased : (s t : Core C O) (a b : Context) (role : ℕ) (main u : Option StageContinuation) → u ≡ unroused main → (course : Course Q) (p : Phase) → course ≡ K.Phased p → (new : Course Q)
-      → HandlesEvent ct ot client origin paired refuses left s t a b MAIN u (K.Phased p) new → HandlesEvent ct ot client origin paired refuses left s t a b role main course new
+  pub handles_phased : (s t : Core C O) (a b : Context) (role : ℕ) (main u : Option StageContinuation)
+      → u ≡ unroused main → (course : Course Q) (p : Phase) → course ≡ K.Phased p → (new : Course Q)
+      → HandlesEvent ct ot client origin paired refuses left s t a b MAIN u (K.Phased p) new
+          → HandlesEvent ct ot client origin paired refuses left s t a b role main course new
   handles_phased s t a b role main u quiet course p is new h =
-      subst (λ x. HandlesEvent ct ot client origin paired refuses left s t a b role main x new) (sym is) (record {
+      subst (λ x. HandlesEvent ct ot client origin paired refuses left s t a b role main x new) (sym is)
+          (record {
         keeps = h.keeps;
-        handles = record { next = h.handles.next; takes = h.handles.takes; due = due_before main u quiet h.handles.next new a b h.handles.due };
+        handles = record { next = h.handles.next; takes = h.handles.takes; due = due_before main u quiet
+            h.handles.next new a b h.handles.due };
       })
 
   -- where an event leads, without the moments of those that are set
-  takes_on : (s t : Core C O) (a b : Context) (role : ℕ) (main : Option StageContinuation) (old new : Course Q) → HandlesOn ct ot client origin paired refuses left s t a b role main old new
+  takes_on : (s t : Core C O) (a b : Context) (role : ℕ) (main : Option StageContinuation)
+      (old new : Course Q) → HandlesOn ct ot client origin paired refuses left s t a b role main old new
       → TakesOn ct ot client origin paired refuses left s t old new
   takes_on s t a b role main (K.Phased p) new h = (h.next, h.takes)
   takes_on s t a b role main (K.Relaying r) new h = record {
@@ -203,31 +237,42 @@ module _ {C O Q : Type 0} (ct ot : Bool) (client : C → Look) (origin : O → L
   }
   takes_on s t a b role main (K.Finishing end) new h = (h.step, h.takes)
 
-  pub takes_event : (s t : Core C O) (a b : Context) (role : ℕ) (main : Option StageContinuation) (old new : Course Q) → HandlesEvent ct ot client origin paired refuses left s t a b role main old new
+  pub takes_event : (s t : Core C O) (a b : Context) (role : ℕ) (main : Option StageContinuation)
+      (old new : Course Q) → HandlesEvent ct ot client origin paired refuses left s t a b role main old new
       → TakesEvent ct ot client origin paired refuses left s t old new
-  takes_event s t a b role main old new h = record { keeps = h.keeps; takes = takes_on s t a b role main old new h.handles }
+  takes_event s t a b role main old new h = record
+      { keeps = h.keeps; takes = takes_on s t a b role main old new h.handles }
 
 -- an event leaves a transaction started that was
-body_started : {Q : Type 0} (r : Relay Q) (step : BodyStep) (new : Course Q) → LedAfter step (course_after r step) new → is_fresh_on new ≡ false
+body_started : {Q : Type 0} (r : Relay Q) (step : BodyStep) (new : Course Q)
+    → LedAfter step (course_after r step) new → is_fresh_on new ≡ false
 body_started r S.Goes new led = ap is_fresh_on led
 body_started r S.Waits new led = ap is_fresh_on led
 body_started r (S.Finishes end) new led = stays_started (K.Finishing end) new refl led
 body_started r (S.Closes end) new led = stays_started (K.Phased (P.TxnClose end)) new refl led
 body_started r S.Lacks new led = stays_started (K.Phased (P.Ended E.NoMemory)) new refl led
 
-after_write : (Q : Type 0) (end : TxnEnd) (step : BodyStep) → is_fresh_on (finish_after {Q = Q} end step) ≡ false
+after_write : (Q : Type 0) (end : TxnEnd) (step : BodyStep)
+    → is_fresh_on (finish_after {Q = Q} end step) ≡ false
 after_write Q end S.Goes = refl
 after_write Q end _ = refl
 
-module _ {C O Q : Type 0} (ct ot : Bool) (client : C → Look) (origin : O → Look) (paired : C → O → Type 0) (refuses : O → List ℕ → Type 0) (left : C → O → Option ℕ) where
-  write_started : (s t : Core C O) (end : TxnEnd) (step : BodyStep) (new : Course Q) → WritesOr ct ot client origin paired refuses left s t end step new → is_fresh_on new ≡ false
+module _ {C O Q : Type 0} (ct ot : Bool) (client : C → Look) (origin : O → Look) (paired : C → O → Type 0)
+    (refuses : O → List ℕ → Type 0) (left : C → O → Option ℕ) where
+  write_started : (s t : Core C O) (end : TxnEnd) (step : BodyStep) (new : Course Q)
+      → WritesOr ct ot client origin paired refuses left s t end step new → is_fresh_on new ≡ false
   write_started s t end step new (inl none) = ap is_fresh_on none.2
-  write_started s t end step new (inr takes) = stays_started (finish_after end step) new (after_write Q end step) takes.led
+  write_started s t end step new (inr takes) = stays_started (finish_after end step) new
+      (after_write Q end step) takes.led
 
-  takes_started : (s t : Core C O) (old new : Course Q) → TakesOn ct ot client origin paired refuses left s t old new → is_fresh_on old ≡ false → is_fresh_on new ≡ false
+  takes_started : (s t : Core C O) (old new : Course Q)
+      → TakesOn ct ot client origin paired refuses left s t old new → is_fresh_on old ≡ false
+      → is_fresh_on new ≡ false
   takes_started s t (K.Phased p) new h was = h.1.started was
   takes_started s t (K.Relaying r) new h was = body_started h.after h.step new h.led
   takes_started s t (K.Finishing end) new h was = write_started s t end h.0 new h.1
 
-  pub event_started : (s t : Core C O) (old new : Course Q) → TakesEvent ct ot client origin paired refuses left s t old new → is_fresh_on old ≡ false → is_fresh_on new ≡ false
+  pub event_started : (s t : Core C O) (old new : Course Q)
+      → TakesEvent ct ot client origin paired refuses left s t old new → is_fresh_on old ≡ false
+      → is_fresh_on new ≡ false
   event_started s t old new h was = takes_started s t old new h.takes was

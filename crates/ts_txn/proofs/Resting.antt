@@ -25,16 +25,19 @@ use Rattle.ts_txn.proofs.Handling.{at_rest}
 
 -- one that has ended is in its last phase
 ended_phase : (p : Phase) (end : TxnEnd) → end_of_phase p ≡ Some end → p ≡ P.Ended end
-ended_phase (P.Ended last) end is = let both : Some last ≡ Some end = is in let one : last ≡ end = cc in ap P.Ended one
+ended_phase (P.Ended last) end is = let both : Some last ≡ Some end = is in let one : last ≡ end = cc in ap
+    P.Ended one
 ended_phase _ end is = absurd (cc)
 
-ended_course : {Q : Type 0} (course : Course Q) (end : TxnEnd) → end_of course ≡ Some end → course ≡ K.Phased (P.Ended end)
+ended_course : {Q : Type 0} (course : Course Q) (end : TxnEnd) → end_of course ≡ Some end
+    → course ≡ K.Phased (P.Ended end)
 ended_course {Q} (K.Phased p) end is = ap {B = Course Q} (λ x. K.Phased x) (ended_phase p end is)
 ended_course (K.Relaying r) end is = absurd (cc)
 ended_course (K.Finishing last) end is = absurd (cc)
 
 -- where no link failed and memory did not lack, the client took what the block says
-sends_block : (setup : Setup) (refuses : Type 0) (v : View) (end : TxnEnd) → NeverFailed v → end ≢ E.NoMemory → EndFact setup refuses v end → SendsBlock setup refuses v end
+sends_block : (setup : Setup) (refuses : Type 0) (v : View) (end : TxnEnd) → NeverFailed v → end ≢ E.NoMemory
+    → EndFact setup refuses v end → SendsBlock setup refuses v end
 sends_block setup refuses v E.Whole never has fact = rest.SendsBlock.whole fact.by
 sends_block setup refuses v E.OriginCut never has fact = rest.SendsBlock.cut fact.by
 sends_block setup refuses v E.OriginBad never has fact = rest.SendsBlock.bad fact.by
@@ -42,13 +45,19 @@ sends_block setup refuses v E.OriginFault never has fact = absurd (never.origin 
 sends_block setup refuses v E.ClientFault never has fact = absurd (never.client fact.by)
 sends_block setup refuses v E.NoMemory never has fact = absurd (has refl)
 
-module _ {C O Q : Type 0} (ct ot : Bool) (client : C → Look) (origin : O → Look) (paired : C → O → Type 0) (refuses : O → List ℕ → Type 0) (rest : Q → List ℕ → List ℕ)
+module _ {C O Q : Type 0} (ct ot : Bool) (client : C → Look) (origin : O → Look) (paired : C → O → Type 0)
+    (refuses : O → List ℕ → Type 0) (rest : Q → List ℕ → List ℕ)
     (whole : TransformLine → List ℕ → List ℕ) (t : Txn C O Q) where
-  pub ended_so : (pending : List Pending) (next : ℕ) (roles : List Named) (end : TxnEnd) → end_of t.course ≡ Some end → IsSoundTxn ct ot client origin paired refuses rest whole t pending next roles
+  pub ended_so : (pending : List Pending) (next : ℕ) (roles : List Named) (end : TxnEnd)
+      → end_of t.course ≡ Some end → IsSoundTxn ct ot client origin paired refuses rest whole t pending next
+      roles
       → HasEndedSo ct ot client origin refuses t end
-  ended_so pending next roles end is sound = subst (CourseHolds ct ot client origin refuses rest t.core) (ended_course t.course end is) sound.stands.holds
+  ended_so pending next roles end is sound = subst (CourseHolds ct ot client origin refuses rest t.core)
+      (ended_course t.course end is) sound.stands.holds
 
-  pub rests_with_block : (next : ℕ) (roles : List Named) → IsSoundTxn ct ot client origin paired refuses rest whole t [] next roles → RestsWithBlock ct ot client origin refuses t next
+  pub rests_with_block : (next : ℕ) (roles : List Named)
+      → IsSoundTxn ct ot client origin paired refuses rest whole t [] next roles
+      → RestsWithBlock ct ot client origin refuses t next
   rests_with_block next roles sound started few never memory told also = by_end (end_of t.course) refl
     where
       v : View
@@ -56,5 +65,9 @@ module _ {C O Q : Type 0} (ct ot : Bool) (client : C → Look) (origin : O → L
 
       by_end : (o : Option TxnEnd) → end_of t.course ≡ o → (end : TxnEnd) × (end_of t.course ≡ Some end)
           × SendsBlock (arc_value t.core.setup) (OriginRefuses client refuses t.core) v end
-      by_end None none = absurd (let spent : GREATEST ≤ next = at_rest ct ot client origin paired refuses rest whole t next roles started none sound in omega (arith, spent, few))
-      by_end (Some end) is = (end, is, sends_block (arc_value t.core.setup) (OriginRefuses client refuses t.core) v end never (λ (lacks : end ≡ E.NoMemory). memory (is ∙ ap Some lacks)) (ended_so [] next roles end is sound told also))
+      by_end None none = absurd (let spent : GREATEST ≤ next = at_rest ct ot client origin paired refuses rest
+          whole t next roles started none sound in omega (arith, spent, few))
+      by_end (Some end) is = (end, is, sends_block (arc_value t.core.setup)
+          (OriginRefuses client refuses t.core) v end never
+          (λ (lacks : end ≡ E.NoMemory). memory (is ∙ ap Some lacks))
+          (ended_so [] next roles end is sound told also))

@@ -38,7 +38,7 @@ pub enum Course<P> {
 }
 
 /// Handles an event of a role while a body is passed on, and answers where the transaction is then.
-pub fn relay_body<C: Link, O: Upstream<C>, P: Transform<Line = TransformLine> + Drop>(
+pub fn relay_event<C: Link, O: Upstream<C>, P: Transform<Line = TransformLine> + Drop>(
     core: &mut Core<C, O>,
     main: &mut Option<StageContinuation>,
     relay: Relay<P>,
@@ -89,7 +89,7 @@ pub fn write_rest<C: Link, O: Upstream<C>, P: Transform<Line = TransformLine> + 
 
 /// Queues the client's head of a response that is passed on, and begins its body; it answers where the
 /// transaction is then.
-pub fn enter_body<C: Link, O: Upstream<C>, P: Transform<Line = TransformLine> + Drop>(
+pub fn begin_relay<C: Link, O: Upstream<C>, P: Transform<Line = TransformLine> + Drop>(
     core: &mut Core<C, O>,
     main: &mut Option<StageContinuation>,
     request: Request,

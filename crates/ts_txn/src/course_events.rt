@@ -7,7 +7,7 @@ ghost use Rattle.ts_txn.specs.Driven.{HandlesEvent};
 ghost use Rattle.ts_txn.specs.LoweringCourse.{PaysEvents};
 ghost use Rattle.ts_txn.specs.World.{HoldsOn, IsSoundNow, IsSoundOn, most_set};
 
-use crate::course::{Course, enter_body, write_rest, relay_body};
+use crate::course::{Course, begin_relay, write_rest, relay_event};
 use crate::course_leads::after_step;
 use ts_relay::MAIN;
 use ts_phases::Core;
@@ -63,7 +63,7 @@ fn advance_phase<C: Link, O: Upstream<C>, P: Transform<Line = TransformLine> + D
         core.old core.new (Course.Phased phase) result cx.old cx.new }
 {
     match phase {
-        Phase::ResponseTransform { request, head } => enter_body(core, main, request, head, cx),
+        Phase::ResponseTransform { request, head } => begin_relay(core, main, request, head, cx),
         phase => make_step(core, main, phase, cx),
     }
 }
@@ -93,7 +93,7 @@ pub fn handle_event<C: Link, O: Upstream<C>, P: Transform<Line = TransformLine> 
         core.old core.new course result cx.old cx.new }
 {
     match course {
-        Course::Relaying(relay) => relay_body(core, main, relay, role, event, cx),
+        Course::Relaying(relay) => relay_event(core, main, relay, role, event, cx),
         Course::Phased(phase) => {
             if role != MAIN {
                 return Course::Phased(phase);

@@ -37,7 +37,9 @@ pub const MOST_GROUPS: u32 = 4_096;
 pub struct TxnParts<C, O> {
     /// The number that it was made with.
     pub number: u64,
+    /// The client's link.
     pub client: C,
+    /// The origin's link, if there is one.
     pub origin: Option<O>,
     /// The length of the client's head in bytes, 0 where none was queued.
     pub head: u64,
@@ -215,7 +217,7 @@ impl<C: Link + Drop, O: Upstream<C> + Drop, P: Transform<Line = TransformLine> +
     }
 }
 
-// How a transaction has ended, if it has.
+// How a transaction has ended, if it has: only in its last phase.
 fn end_of<P>(course: &Course<P>) -> Option<TxnEnd>
     ensures { result ≡ end_of course.now }
 {

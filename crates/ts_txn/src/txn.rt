@@ -37,7 +37,9 @@ pub struct Txn<C, O, P> {
 /// no memory.
 #[derive(Drop)]
 pub struct TxnTag<C, O> {
+    /// The number that it was made with.
     pub number: u64,
+    /// What it was configured with.
     pub setup: Snapshot<Setup>,
     /// The group of the first plugin line.
     pub plugins_at: u32,

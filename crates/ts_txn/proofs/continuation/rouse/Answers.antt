@@ -5,7 +5,8 @@ use Rattle.ts_transform.proofs.Kept.{adds_dead, adds_none}
 use Rattle.ts_txn.proofs.continuation.rouse.Goals as goal
 
 pub returns-in_default-clause-adds : goal.returns-in_default-clause-adds
-returns-in_default-clause-adds c = adds_dead c.args.cx.now 1 c.requires.turn (λ live. subst (HasLiveIf c.args.cx.now.log.state.live) c.in_default.is live)
+returns-in_default-clause-adds c = adds_dead c.args.cx.now 1 c.requires.turn
+    (λ live. subst (HasLiveIf c.args.cx.now.log.state.live) c.in_default.is live)
 
 pub returns-then-continuation-clause-adds : goal.returns-then-continuation-clause-adds
 returns-then-continuation-clause-adds c = adds_none c.args.cx.now 1 c.requires.turn

@@ -16,16 +16,20 @@ returns-clause-sound g c =
     let core = c.args.core.now in
     let new = c.send_rest-step.new.core in
     let v = view_of g.C.Link.look g.O.Link.look new in
-    sound_led g.C.Link.tells g.O.Link.tells g.C.Link.look g.O.Link.look g.O.Upstream.paired g.O.Upstream.refuses g.P.Transform.rest g.P.Transform.whole core new (K.Finishing c.args.end)
-    (finish_after c.args.end c.send_rest-step.result) c.after_write.result c.after_write.new.main c.after_write.new.cx c.requires.stands c.send_rest-step.ensures.keeps
-    (λ told also. led_last (arc_value core.setup) (OriginRefuses g.C.Link.look g.O.Upstream.refuses core) g.P.Transform.rest v c.args.end c.send_rest-step.result
+    sound_led g.C.Link.tells g.O.Link.tells g.C.Link.look g.O.Link.look g.O.Upstream.paired
+        g.O.Upstream.refuses g.P.Transform.rest g.P.Transform.whole core new (K.Finishing c.args.end)
+    (finish_after c.args.end c.send_rest-step.result) c.after_write.result c.after_write.new.main
+        c.after_write.new.cx c.requires.stands c.send_rest-step.ensures.keeps
+    (λ told also. led_last (arc_value core.setup) (OriginRefuses g.C.Link.look g.O.Upstream.refuses core)
+        g.P.Transform.rest v c.args.end c.send_rest-step.result
     (c.send_rest-step.ensures.leads told also))
     (lines_last (arc_value core.setup) g.P.Transform.rest c.args.end c.send_rest-step.result)
     (λ told also. little_last _ v c.args.end c.send_rest-step.result) c.after_write.ensures.course
     (c.after_write.ensures.covered c.requires.alone v)
 
 pub returns-clause-within : goal.returns-clause-within
-returns-clause-within g c = acts_then 0 1 most_set (omega arith) (acts_none 0 c.args.cx.now c.requires.turn) c.after_write.ensures.within
+returns-clause-within g c = acts_then 0 1 most_set (omega arith) (acts_none 0 c.args.cx.now c.requires.turn)
+    c.after_write.ensures.within
 
 pub returns-clause-handles : goal.returns-clause-handles
 returns-clause-handles g c = record {
@@ -41,6 +45,9 @@ pub returns-clause-pays : goal.returns-clause-pays
 returns-clause-pays g c = λ told also.
     let core = c.args.core.now in
     let new = c.send_rest-step.new.core in
-    finish_led (arc_value core.setup) g.P.Transform.rest c.args.end c.send_rest-step.result c.after_write.result (view_of g.C.Link.look g.O.Link.look core)
-    (view_of g.C.Link.look g.O.Link.look new) (upload_told g.O.Upstream.upload_left new.client.link new.origin) c.args.cx.now.log.state.pending c.after_write.new.cx.log.state.pending
-    c.after_write.ensures.course (c.send_rest-step.ensures.falls told also) c.after_write.ensures.within.few.pending
+    finish_led (arc_value core.setup) g.P.Transform.rest c.args.end c.send_rest-step.result
+        c.after_write.result (view_of g.C.Link.look g.O.Link.look core)
+    (view_of g.C.Link.look g.O.Link.look new) (upload_told g.O.Upstream.upload_left new.client.link
+        new.origin) c.args.cx.now.log.state.pending c.after_write.new.cx.log.state.pending
+    c.after_write.ensures.course (c.send_rest-step.ensures.falls told also)
+        c.after_write.ensures.within.few.pending

@@ -16,25 +16,37 @@ pub returns-clause-sound : goal.returns-clause-sound
 returns-clause-sound g c =
     let core = c.args.core.now in
     let new = c.step-step.new.self in
-    sound_led g.C.Link.tells g.O.Link.tells g.C.Link.look g.O.Link.look g.O.Upstream.paired g.O.Upstream.refuses g.P.Transform.rest g.P.Transform.whole core new (K.Phased c.args.phase)
-    (K.Phased c.step-step.result.phase) c.after_step.result c.after_step.new.main c.after_step.new.cx c.requires.stands c.step-step.ensures.keeps c.step-step.ensures.fact tt (λ told also. tt) (behind_led c.step-step.result.next (K.Phased c.step-step.result.phase) c.after_step.result c.after_step.ensures.course)
-    (c.after_step.ensures.covered c.step-step.ensures.leads c.requires.alone (view_of g.C.Link.look g.O.Link.look new))
+    sound_led g.C.Link.tells g.O.Link.tells g.C.Link.look g.O.Link.look g.O.Upstream.paired
+        g.O.Upstream.refuses g.P.Transform.rest g.P.Transform.whole core new (K.Phased c.args.phase)
+    (K.Phased c.step-step.result.phase) c.after_step.result c.after_step.new.main c.after_step.new.cx
+        c.requires.stands c.step-step.ensures.keeps c.step-step.ensures.fact tt (λ told also. tt)
+        (behind_led c.step-step.result.next (K.Phased c.step-step.result.phase) c.after_step.result
+        c.after_step.ensures.course)
+    (c.after_step.ensures.covered c.step-step.ensures.leads c.requires.alone
+        (view_of g.C.Link.look g.O.Link.look new))
 
 pub returns-clause-within : goal.returns-clause-within
 returns-clause-within g c =
     let next = c.step-step.result.next in
     let few : set_after next ≤ 1 = after_one next in
-    acts_then 0 (set_after next) most_set (omega (arith, few)) (acts_none 0 c.args.cx.now c.requires.turn) c.after_step.ensures.within
+    acts_then 0 (set_after next) most_set (omega (arith, few)) (acts_none 0 c.args.cx.now c.requires.turn)
+        c.after_step.ensures.within
 
 pub returns-clause-handles : goal.returns-clause-handles
 returns-clause-handles g c = record {
   keeps = c.step-step.ensures.keeps;
   handles = record {
     next = c.step-step.result.next;
-    takes = takes_step g.C.Link.tells g.O.Link.tells g.C.Link.look g.O.Link.look g.O.Upstream.paired g.O.Upstream.refuses g.O.Upstream.upload_left c.args.core.now c.step-step.new.self c.args.phase
-        c.after_step.result c.step-step.result c.step-step.ensures.leads c.step-step.ensures.minds c.step-step.ensures.waits c.step-step.ensures.leaves c.after_step.ensures.course;
-    due = due_step g.C.Link.tells g.O.Link.tells g.C.Link.look g.O.Link.look g.O.Upstream.paired g.O.Upstream.refuses g.O.Upstream.upload_left c.args.main.now c.args.cx.now c.after_step.new.cx c.step-step.result.next
-        c.step-step.result.phase c.after_step.result (behind_led c.step-step.result.next (K.Phased c.step-step.result.phase) c.after_step.result c.after_step.ensures.course) c.after_step.ensures.due;
+    takes = takes_step g.C.Link.tells g.O.Link.tells g.C.Link.look g.O.Link.look g.O.Upstream.paired
+        g.O.Upstream.refuses g.O.Upstream.upload_left c.args.core.now c.step-step.new.self c.args.phase
+        c.after_step.result c.step-step.result c.step-step.ensures.leads c.step-step.ensures.minds
+            c.step-step.ensures.waits c.step-step.ensures.leaves c.after_step.ensures.course;
+    due = due_step g.C.Link.tells g.O.Link.tells g.C.Link.look g.O.Link.look g.O.Upstream.paired
+        g.O.Upstream.refuses g.O.Upstream.upload_left c.args.main.now c.args.cx.now c.after_step.new.cx
+        c.step-step.result.next
+        c.step-step.result.phase c.after_step.result
+            (behind_led c.step-step.result.next (K.Phased c.step-step.result.phase) c.after_step.result
+            c.after_step.ensures.course) c.after_step.ensures.due;
   };
 }
 
@@ -42,6 +54,11 @@ pub returns-clause-pays : goal.returns-clause-pays
 returns-clause-pays g c = λ told also.
     let core = c.args.core.now in
     let new = c.step-step.new.self in
-    phase_led (arc_value core.setup) g.P.Transform.rest c.args.phase c.step-step.result c.after_step.result (view_of g.C.Link.look g.O.Link.look core)
-    (view_of g.C.Link.look g.O.Link.look new) (upload_told g.O.Upstream.upload_left core.client.link core.origin) (upload_told g.O.Upstream.upload_left new.client.link new.origin)
-    c.args.cx.now.log.state.pending c.after_step.new.cx.log.state.pending (behind_led c.step-step.result.next (K.Phased c.step-step.result.phase) c.after_step.result c.after_step.ensures.course) (c.step-step.ensures.falls told also) c.after_step.ensures.within.few.pending
+    phase_led (arc_value core.setup) g.P.Transform.rest c.args.phase c.step-step.result c.after_step.result
+        (view_of g.C.Link.look g.O.Link.look core)
+    (view_of g.C.Link.look g.O.Link.look new) (upload_told g.O.Upstream.upload_left core.client.link
+        core.origin) (upload_told g.O.Upstream.upload_left new.client.link new.origin)
+    c.args.cx.now.log.state.pending c.after_step.new.cx.log.state.pending
+        (behind_led c.step-step.result.next (K.Phased c.step-step.result.phase) c.after_step.result
+        c.after_step.ensures.course) (c.step-step.ensures.falls told also)
+        c.after_step.ensures.within.few.pending

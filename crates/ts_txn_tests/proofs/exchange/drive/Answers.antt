@@ -9,7 +9,8 @@ finish-requires-clause-fits c = (
   c.args.tag ∷ [],
   can_ask (c.args.tag ∷ []),
   group_fits c.args.tag c.args.group c.push.new.self.items
-      (c.in_ok-push.ensures.items ∙ ap (λ xs. xs ++ (c.args.group ∷ [])) c.new-groups.ensures.items) c.requires.begun.fits,
+      (c.in_ok-push.ensures.items ∙ ap (λ xs. xs ++ (c.args.group ∷ [])) c.new-groups.ensures.items)
+          c.requires.begun.fits,
 )
 
 pub finish-requires-clause-tells : goal.finish-requires-clause-tells
@@ -18,6 +19,8 @@ finish-requires-clause-tells c = group_tells c.args.tag c.args.group c.push.new.
 
 pub returns : goal.returns
 returns c = record {
-  ended = last_ended c.args.tag c.args.group c.in-Some.group c.push.new.self.items c.finish.new.groups.items c.pop.new.self.items c.finish.result c.in_ok-finish.was
-      (c.in_ok-push.ensures.items ∙ ap (λ xs. xs ++ (c.args.group ∷ [])) c.new-groups.ensures.items) c.requires.begun c.finish.ensures.finishes c.in-Some.ensures.items;
+  ended = last_ended c.args.tag c.args.group c.in-Some.group c.push.new.self.items c.finish.new.groups.items
+      c.pop.new.self.items c.finish.result c.in_ok-finish.was
+      (c.in_ok-push.ensures.items ∙ ap (λ xs. xs ++ (c.args.group ∷ [])) c.new-groups.ensures.items)
+          c.requires.begun c.finish.ensures.finishes c.in-Some.ensures.items;
 }

@@ -13,7 +13,7 @@ use Rattle.ts_txn.proofs.Coursing.{after_led, led_on}
 use Rattle.ts_txn.proofs.Handling.{little_after, sound_led}
 use Rattle.ts_txn.proofs.LoweringCourse.{body_led, covered_called, lines_after}
 use Rattle.ts_relay.proofs.LoweringPays.{set_one}
-use Rattle.ts_txn.proofs.course.relay_body.Goals as goal
+use Rattle.ts_txn.proofs.course.relay_event.Goals as goal
 
 pub returns-clause-sound : goal.returns-clause-sound
 returns-clause-sound g c =
@@ -24,20 +24,27 @@ returns-clause-sound g c =
     let main = c.handle_body-step.new.main in
     let v = view_of g.C.Link.look g.O.Link.look core in
     let w = view_of g.C.Link.look g.O.Link.look new in
-    sound_led g.C.Link.tells g.O.Link.tells g.C.Link.look g.O.Link.look g.O.Upstream.paired g.O.Upstream.refuses g.P.Transform.rest g.P.Transform.whole core new (K.Relaying c.args.relay)
-    (course_after relay step) c.leave_body.result c.leave_body.new.main c.leave_body.new.cx c.requires.called.sound.stands c.handle_body-step.ensures.keeps
-    (λ told also. led_on (arc_value core.setup) (OriginRefuses g.C.Link.look g.O.Upstream.refuses core) g.P.Transform.rest w relay step (c.handle_body-step.ensures.leads told also))
-    (lines_after (arc_value core.setup) g.P.Transform.rest step c.args.relay relay c.handle_body-step.ensures.pays.lines c.requires.called.sound.stands.lines)
-    (λ told also. little_after v w step c.args.relay relay c.handle_body-step.ensures.links.minds.holds (c.requires.called.sound.stands.little told also))
+    sound_led g.C.Link.tells g.O.Link.tells g.C.Link.look g.O.Link.look g.O.Upstream.paired
+        g.O.Upstream.refuses g.P.Transform.rest g.P.Transform.whole core new (K.Relaying c.args.relay)
+    (course_after relay step) c.leave_body.result c.leave_body.new.main c.leave_body.new.cx
+        c.requires.called.sound.stands c.handle_body-step.ensures.keeps
+    (λ told also. led_on (arc_value core.setup) (OriginRefuses g.C.Link.look g.O.Upstream.refuses core)
+        g.P.Transform.rest w relay step (c.handle_body-step.ensures.leads told also))
+    (lines_after (arc_value core.setup) g.P.Transform.rest step c.args.relay relay
+        c.handle_body-step.ensures.pays.lines c.requires.called.sound.stands.lines)
+    (λ told also. little_after v w step c.args.relay relay c.handle_body-step.ensures.links.minds.holds
+        (c.requires.called.sound.stands.little told also))
     (after_led step (course_after relay step) c.leave_body.result c.leave_body.ensures.course)
-    (c.leave_body.ensures.covered w (stands_handled _ v c.args.main.now c.args.cx.now c.args.role c.args.event c.requires.called step w main c.args.relay relay c.handle_body-step.new.cx
+    (c.leave_body.ensures.covered w (stands_handled _ v c.args.main.now c.args.cx.now c.args.role c.args.event
+        c.requires.called step w main c.args.relay relay c.handle_body-step.new.cx
     c.requires.called.sound.covered c.handle_body-step.ensures.handles))
 
 pub returns-clause-within : goal.returns-clause-within
 returns-clause-within g c =
     let step = c.handle_body-step.result in
     let few : set_leaving step ≤ 1 = set_one step in
-    acts_then 6 (set_leaving step) most_set (omega (arith, few)) c.handle_body-step.ensures.handles.acts c.leave_body.ensures.within
+    acts_then 6 (set_leaving step) most_set (omega (arith, few)) c.handle_body-step.ensures.handles.acts
+        c.leave_body.ensures.within
 
 pub returns-clause-handles : goal.returns-clause-handles
 returns-clause-handles g c = record {
@@ -62,9 +69,14 @@ returns-clause-pays g c = λ told also.
     let relay = c.handle_body-step.new.relay in
     let v = view_of g.C.Link.look g.O.Link.look core in
     let w = view_of g.C.Link.look g.O.Link.look new in
-    body_led (arc_value core.setup) g.P.Transform.rest c.handle_body-step.result relay c.leave_body.result w (upload_told g.O.Upstream.upload_left new.client.link new.origin)
-    c.args.cx.now.log.state.pending c.handle_body-step.new.cx.log.state.pending c.leave_body.new.cx.log.state.pending (relay_left (arc_value core.setup) g.P.Transform.rest v c.args.relay)
-    (after_led c.handle_body-step.result (course_after relay c.handle_body-step.result) c.leave_body.result c.leave_body.ensures.course)
+    body_led (arc_value core.setup) g.P.Transform.rest c.handle_body-step.result relay c.leave_body.result w
+        (upload_told g.O.Upstream.upload_left new.client.link new.origin)
+    c.args.cx.now.log.state.pending c.handle_body-step.new.cx.log.state.pending
+        c.leave_body.new.cx.log.state.pending (relay_left (arc_value core.setup) g.P.Transform.rest v
+        c.args.relay)
+    (after_led c.handle_body-step.result (course_after relay c.handle_body-step.result) c.leave_body.result
+        c.leave_body.ensures.course)
     (c.handle_body-step.ensures.pays.pays told also c.requires.called.sound.stands.lines
-    (covered_called _ v c.args.main.now c.args.relay c.args.cx.now c.args.role c.args.event c.requires.called c.requires.called.sound.covered))
+    (covered_called _ v c.args.main.now c.args.relay c.args.cx.now c.args.role c.args.event c.requires.called
+        c.requires.called.sound.covered))
     c.leave_body.ensures.within.few.pending
