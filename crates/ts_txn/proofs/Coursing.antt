@@ -4,7 +4,8 @@ use Rattle.std.specs.Arc.{arc_value}
 use Rattle.ts_config.specs.declared.setup.Setup.{Setup}
 use Rattle.ts_hooks.specs.declared.txn_end.TxnEnd.{TxnEnd}
 use Rattle.ts_hooks.specs.declared.txn_end.TxnEnd.TheVariants as E
-use Rattle.ts_link.specs.Link.{Look}
+use Rattle.ts_link.specs.declared.link.Link as link
+use Rattle.ts_upstream.specs.declared.upstream.Upstream as upstream
 use Rattle.ts_transform.specs.Flow.{ChainState}
 use Rattle.ts_wire.specs.Place.{Place}
 use Rattle.ts_relay.specs.Entering.{EntersBody}
@@ -81,36 +82,34 @@ course_moved setup R T to from rest v (K.Relaying r) h = relaying setup R T from
     h
 course_moved setup R T to from rest v (K.Finishing end) h = finishing setup R T to from v end h
 
-pub course_settled : {C O Q : Type 0} (client : C → Look) (origin : O → Look) (paired : C → O → Type 0)
-    (refuses : O → List ℕ → Type 0) (rest : Q → List ℕ → List ℕ) (old new : Core C O)
-    (course : Course Q) → StepKeeps client origin paired refuses old new
-    → CourseFact (arc_value old.setup) (OriginRefuses client refuses old) rest (view_of client origin new)
+pub course_settled : {C O Q : Type 0} (client : link.Ghosts C) (origin : link.Ghosts O) (both : upstream.Ghosts O C) (rest : Q → List ℕ → List ℕ) (old new : Core C O)
+    (course : Course Q) → StepKeeps client origin both old new
+    → CourseFact (arc_value old.setup) (OriginRefuses client both old) rest (view_of client origin new)
         course
-    → CourseFact (arc_value new.setup) (OriginRefuses client refuses new) rest (view_of client origin new)
+    → CourseFact (arc_value new.setup) (OriginRefuses client both new) rest (view_of client origin new)
         course
-course_settled client origin paired refuses rest old new course keeps h =
+course_settled client origin both rest old new course keeps h =
     let v = view_of client origin new in
-    let to : OriginRefuses client refuses old → OriginRefuses client refuses new = λ r.
-    subst (λ (c : List ℕ). refuses_if refuses new.origin c) (sym keeps.client.source)
+    let to : OriginRefuses client both old → OriginRefuses client both new = λ r.
+    subst (λ (c : List ℕ). refuses_if both.refuses new.origin c) (sym keeps.client.source)
         (keeps.refusal.still _ r) in
-    let from : OriginRefuses client refuses new → OriginRefuses client refuses old = λ r.
-    keeps.refusal.before _ (subst (λ (c : List ℕ). refuses_if refuses new.origin c) keeps.client.source r) in
-    subst (λ s. CourseFact (arc_value s) (OriginRefuses client refuses new) rest v course) (sym keeps.setup)
-    (course_moved (arc_value old.setup) (OriginRefuses client refuses old) (OriginRefuses client refuses new)
+    let from : OriginRefuses client both new → OriginRefuses client both old = λ r.
+    keeps.refusal.before _ (subst (λ (c : List ℕ). refuses_if both.refuses new.origin c) keeps.client.source r) in
+    subst (λ s. CourseFact (arc_value s) (OriginRefuses client both new) rest v course) (sym keeps.setup)
+    (course_moved (arc_value old.setup) (OriginRefuses client both old) (OriginRefuses client both new)
         to from rest v course h)
 
 -- a body whose head is queued
-pub enters_settled : {C O Q : Type 0} (client : C → Look) (origin : O → Look) (paired : C → O → Type 0)
-    (refuses : O → List ℕ → Type 0) (rest : Q → List ℕ → List ℕ) (old new : Core C O)
-    (c : ChainState Q) (place : Place) → StepKeeps client origin paired refuses old new
-    → EntersBody (arc_value old.setup) (OriginRefuses client refuses old) rest (view_of client origin new) c
+pub enters_settled : {C O Q : Type 0} (client : link.Ghosts C) (origin : link.Ghosts O) (both : upstream.Ghosts O C) (rest : Q → List ℕ → List ℕ) (old new : Core C O)
+    (c : ChainState Q) (place : Place) → StepKeeps client origin both old new
+    → EntersBody (arc_value old.setup) (OriginRefuses client both old) rest (view_of client origin new) c
         place
-    → EntersBody (arc_value new.setup) (OriginRefuses client refuses new) rest (view_of client origin new) c
+    → EntersBody (arc_value new.setup) (OriginRefuses client both new) rest (view_of client origin new) c
         place
-enters_settled client origin paired refuses rest old new c place keeps h =
+enters_settled client origin both rest old new c place keeps h =
     let v = view_of client origin new in
-    let from : OriginRefuses client refuses new → OriginRefuses client refuses old = λ r.
-    keeps.refusal.before _ (subst (λ (c : List ℕ). refuses_if refuses new.origin c) keeps.client.source r) in
-    subst (λ s. EntersBody (arc_value s) (OriginRefuses client refuses new) rest v c place) (sym keeps.setup)
-    (entering (arc_value old.setup) (OriginRefuses client refuses old) (OriginRefuses client refuses new) from
+    let from : OriginRefuses client both new → OriginRefuses client both old = λ r.
+    keeps.refusal.before _ (subst (λ (c : List ℕ). refuses_if both.refuses new.origin c) keeps.client.source r) in
+    subst (λ s. EntersBody (arc_value s) (OriginRefuses client both new) rest v c place) (sym keeps.setup)
+    (entering (arc_value old.setup) (OriginRefuses client both old) (OriginRefuses client both new) from
         rest v c place h)

@@ -4,7 +4,8 @@ use Rattle.ts_hooks.specs.declared.txn_end.TxnEnd.{TxnEnd}
 use Rattle.ts_hooks.specs.declared.txn_end.TxnEnd.TheVariants as E
 use Rattle.ts_group.specs.Context.{Context}
 use Rattle.ts_group.specs.Entries.{Grows}
-use Rattle.ts_link.specs.Link.{Look}
+use Rattle.ts_link.specs.declared.link.Link as link
+use Rattle.ts_upstream.specs.declared.upstream.Upstream as upstream
 use Rattle.ts_journal.specs.declared.entry.Pending.{Pending}
 use Rattle.ts_transform.specs.Driving.{ActsWithin, IsDueAfter, IsNamedIf, SetsOnly, unroused}
 use Rattle.ts_transform.specs.Seats.{AllSeated, HasKey}
@@ -86,15 +87,14 @@ pub stays_started : {Q : Type 0} (led new : Course Q) → is_fresh_on led ≡ fa
 stays_started led new started (inl same) = ap is_fresh_on same ∙ started
 stays_started led new started (inr lacks) = ap is_fresh_on lacks
 
-module _ {C O Q : Type 0} (ct ot : Bool) (client : C → Look) (origin : O → Look) (paired : C → O → Type 0)
-    (refuses : O → List ℕ → Type 0) (left : C → O → Option ℕ) where
+module _ {C O Q : Type 0} (client : link.Ghosts C) (origin : link.Ghosts O) (both : upstream.Ghosts O C) where
   -- a step of a phase was made, and led to the phase that it answered, or to the end for want of memory
   pub takes_step : (s t : Core C O) (p : Phase) (new : Course Q) (made : Step) → StepLeads made
-      → MindsLinksIn ct ot client origin refuses left s t p made
+      → MindsLinksIn client origin both s t p made
       → WaitsRightly made.next (view_of client origin s) (view_of client origin t)
-          → IfTold ct ot (LeavesSides p (view_of client origin s) (view_of client origin t))
+          → IfTold client.tells origin.tells (LeavesSides p (view_of client origin s) (view_of client origin t))
       → LedBehind made.next (K.Phased made.phase) new
-          → TakesStep ct ot client origin paired refuses left s t p made.next new
+          → TakesStep client origin both s t p made.next new
   takes_step s t p new made leads minds waits leaves led = record {
     minds = by_lead (behind_led made.next (K.Phased made.phase) new led);
     waits = waits;
@@ -105,13 +105,12 @@ module _ {C O Q : Type 0} (ct ot : Bool) (client : C → Look) (origin : O → L
   }
     where
       by_lead : StaysOnOrLacks (K.Phased made.phase) new
-          → (new ≡ K.Phased (P.Ended E.NoMemory)) ⊎ ((t ≡ s) × (new ≡ K.Phased p)) ⊎ MindsCourse ct ot client
-              origin paired refuses left s t p made.next new
-      by_lead (inl same) = inr (inr (subst (MindsCourse ct ot client origin paired refuses left s t p
+          → (new ≡ K.Phased (P.Ended E.NoMemory)) ⊎ ((t ≡ s) × (new ≡ K.Phased p)) ⊎ MindsCourse client origin both s t p made.next new
+      by_lead (inl same) = inr (inr (subst (MindsCourse client origin both s t p
           made.next) (sym same) minds))
       by_lead (inr lacks) = inl lacks
 
-      by_phase : (p : Phase) → MindsLinksIn ct ot client origin refuses left s t p made → ClosesAs p new
+      by_phase : (p : Phase) → MindsLinksIn client origin both s t p made → ClosesAs p new
       by_phase (P.TxnClose end) minds = inr (subst (λ (m : Step). LedBehind m.next (K.Phased m.phase) new)
           minds.1 led)
       by_phase _ minds = tt
@@ -129,7 +128,7 @@ module _ {C O Q : Type 0} (ct ot : Bool) (client : C → Look) (origin : O → L
   pub takes_begin : (s t : Core C O) (p : Phase) (new : Course Q) (r : Relay Q)
       → BeginsIn p (view_of client origin s) (view_of client origin t)
       → (new ≡ K.Relaying r) ⊎ (new ≡ K.Phased (P.Ended E.NoMemory))
-          → TakesStep ct ot client origin paired refuses left s t p N.Go new
+          → TakesStep client origin both s t p N.Go new
   takes_begin s t p new r begins led = record {
     minds = by_lead led;
     waits = tt;
@@ -139,9 +138,8 @@ module _ {C O Q : Type 0} (ct ot : Bool) (client : C → Look) (origin : O → L
   }
     where
       by_lead : (new ≡ K.Relaying r) ⊎ (new ≡ K.Phased (P.Ended E.NoMemory))
-          → (new ≡ K.Phased (P.Ended E.NoMemory)) ⊎ ((t ≡ s) × (new ≡ K.Phased p)) ⊎ MindsCourse ct ot client
-              origin paired refuses left s t p N.Go new
-      by_lead (inl same) = inr (inr (subst (MindsCourse ct ot client origin paired refuses left s t p N.Go)
+          → (new ≡ K.Phased (P.Ended E.NoMemory)) ⊎ ((t ≡ s) × (new ≡ K.Phased p)) ⊎ MindsCourse client origin both s t p N.Go new
+      by_lead (inl same) = inr (inr (subst (MindsCourse client origin both s t p N.Go)
           (sym same) begins))
       by_lead (inr lacks) = inl lacks
 
@@ -152,7 +150,7 @@ module _ {C O Q : Type 0} (ct ot : Bool) (client : C → Look) (origin : O → L
   -- memory lacked for its head
   pub takes_lost : (s t : Core C O) (p : Phase)
       → BeginsIn p (view_of client origin s) (view_of client origin t)
-      → TakesStep {Q = Q} ct ot client origin paired refuses left s t p N.Go (K.Phased (P.Ended E.NoMemory))
+      → TakesStep {Q = Q} client origin both s t p N.Go (K.Phased (P.Ended E.NoMemory))
   takes_lost s t p begins = record {
     minds = inl refl;
     waits = tt;
@@ -212,10 +210,10 @@ module _ {C O Q : Type 0} (ct ot : Bool) (client : C → Look) (origin : O → L
 
   pub handles_phased : (s t : Core C O) (a b : Context) (role : ℕ) (main u : Option StageContinuation)
       → u ≡ unroused main → (course : Course Q) (p : Phase) → course ≡ K.Phased p → (new : Course Q)
-      → HandlesEvent ct ot client origin paired refuses left s t a b MAIN u (K.Phased p) new
-          → HandlesEvent ct ot client origin paired refuses left s t a b role main course new
+      → HandlesEvent client origin both s t a b MAIN u (K.Phased p) new
+          → HandlesEvent client origin both s t a b role main course new
   handles_phased s t a b role main u quiet course p is new h =
-      subst (λ x. HandlesEvent ct ot client origin paired refuses left s t a b role main x new) (sym is)
+      subst (λ x. HandlesEvent client origin both s t a b role main x new) (sym is)
           (record {
         keeps = h.keeps;
         handles = record { next = h.handles.next; takes = h.handles.takes; due = due_before main u quiet
@@ -224,8 +222,8 @@ module _ {C O Q : Type 0} (ct ot : Bool) (client : C → Look) (origin : O → L
 
   -- where an event leads, without the moments of those that are set
   takes_on : (s t : Core C O) (a b : Context) (role : ℕ) (main : Option StageContinuation)
-      (old new : Course Q) → HandlesOn ct ot client origin paired refuses left s t a b role main old new
-      → TakesOn ct ot client origin paired refuses left s t old new
+      (old new : Course Q) → HandlesOn client origin both s t a b role main old new
+      → TakesOn client origin both s t old new
   takes_on s t a b role main (K.Phased p) new h = (h.next, h.takes)
   takes_on s t a b role main (K.Relaying r) new h = record {
     step = h.step;
@@ -238,8 +236,8 @@ module _ {C O Q : Type 0} (ct ot : Bool) (client : C → Look) (origin : O → L
   takes_on s t a b role main (K.Finishing end) new h = (h.step, h.takes)
 
   pub takes_event : (s t : Core C O) (a b : Context) (role : ℕ) (main : Option StageContinuation)
-      (old new : Course Q) → HandlesEvent ct ot client origin paired refuses left s t a b role main old new
-      → TakesEvent ct ot client origin paired refuses left s t old new
+      (old new : Course Q) → HandlesEvent client origin both s t a b role main old new
+      → TakesEvent client origin both s t old new
   takes_event s t a b role main old new h = record
       { keeps = h.keeps; takes = takes_on s t a b role main old new h.handles }
 
@@ -257,22 +255,21 @@ after_write : (Q : Type 0) (end : TxnEnd) (step : BodyStep)
 after_write Q end S.Goes = refl
 after_write Q end _ = refl
 
-module _ {C O Q : Type 0} (ct ot : Bool) (client : C → Look) (origin : O → Look) (paired : C → O → Type 0)
-    (refuses : O → List ℕ → Type 0) (left : C → O → Option ℕ) where
+module _ {C O Q : Type 0} (client : link.Ghosts C) (origin : link.Ghosts O) (both : upstream.Ghosts O C) where
   write_started : (s t : Core C O) (end : TxnEnd) (step : BodyStep) (new : Course Q)
-      → WritesOr ct ot client origin paired refuses left s t end step new → is_fresh_on new ≡ false
+      → WritesOr client origin both s t end step new → is_fresh_on new ≡ false
   write_started s t end step new (inl none) = ap is_fresh_on none.2
   write_started s t end step new (inr takes) = stays_started (finish_after end step) new
       (after_write Q end step) takes.led
 
   takes_started : (s t : Core C O) (old new : Course Q)
-      → TakesOn ct ot client origin paired refuses left s t old new → is_fresh_on old ≡ false
+      → TakesOn client origin both s t old new → is_fresh_on old ≡ false
       → is_fresh_on new ≡ false
   takes_started s t (K.Phased p) new h was = h.1.started was
   takes_started s t (K.Relaying r) new h was = body_started h.after h.step new h.led
   takes_started s t (K.Finishing end) new h was = write_started s t end h.0 new h.1
 
   pub event_started : (s t : Core C O) (old new : Course Q)
-      → TakesEvent ct ot client origin paired refuses left s t old new → is_fresh_on old ≡ false
+      → TakesEvent client origin both s t old new → is_fresh_on old ≡ false
       → is_fresh_on new ≡ false
   event_started s t old new h was = takes_started s t old new h.takes was

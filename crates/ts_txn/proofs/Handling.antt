@@ -11,7 +11,9 @@ use Rattle.ts_journal.specs.declared.entry.TheConstants.{GREATEST}
 use Rattle.ts_group.specs.declared.action.Named.{Named}
 use Rattle.ts_group.specs.Calls.{IsAsked, IsCalled}
 use Rattle.ts_group.specs.Context.{Context}
-use Rattle.ts_link.specs.Link.{Look}
+use Rattle.ts_link.specs.declared.link.Link as link
+use Rattle.ts_upstream.specs.declared.upstream.Upstream as upstream
+use Rattle.ts_transform.specs.declared.transform.Transform as transform
 use Rattle.ts_transform.specs.Driving.{IsOfStageIf, unroused, works_at}
 use Rattle.ts_transform.specs.declared.continuation.StageContinuation.{StageContinuation}
 use Rattle.ts_relay.specs.BodyLinks.{HoldsLittle}
@@ -98,35 +100,34 @@ pub little_last : (Q : Type 0) (v : View) (end : TxnEnd) (step : BodyStep)
 little_last Q v end S.Goes = tt
 little_last Q v end _ = tt
 
-module _ {C O Q : Type 0} (ct ot : Bool) (client : C → Look) (origin : O → Look) (paired : C → O → Type 0)
-    (refuses : O → List ℕ → Type 0) (rest : Q → List ℕ → List ℕ)
-    (whole : TransformLine → List ℕ → List ℕ) where
+module _ {C O Q : Type 0} (client : link.Ghosts C) (origin : link.Ghosts O) (both : upstream.Ghosts O C)
+    (stage : transform.Ghosts Q TransformLine) where
   -- with nothing pending it has ended, or the numbers are used up
   pub at_rest : (t : Txn C O Q) (next : ℕ) (roles : List Named) → is_fresh_on t.course ≡ false
       → end_of t.course ≡ None
-      → IsSoundTxn ct ot client origin paired refuses rest whole t [] next roles → GREATEST ≤ next
+      → IsSoundTxn client origin both stage t [] next roles → GREATEST ≤ next
   at_rest t next roles started lasts h = at_rest_on (view_of client origin t.core) t.main t.course next roles
       (goes_on t.course started lasts) h.covered
 
   -- it was started
   pub sound_begun : (t u : Txn C O Q) (a b : Context)
-      → IsSoundTxn ct ot client origin paired refuses rest whole t a.log.state.pending a.log.state.next
+      → IsSoundTxn client origin both stage t a.log.state.pending a.log.state.next
       a.roles → u.core ≡ t.core
       → is_fresh_on t.course ≡ true → StaysOnOrLacks (K.Phased P.TxnStart) u.course
           → CoversAlone t.main u.main u.course a b
-      → IsSoundTxn ct ot client origin paired refuses rest whole u b.log.state.pending b.log.state.next
+      → IsSoundTxn client origin both stage u b.log.state.pending b.log.state.next
           b.roles
   sound_begun t u a b h same fresh led covers =
-      let was : CourseHolds ct ot client origin refuses rest t.core (K.Phased P.Fresh) = subst
-          (CourseHolds ct ot client origin refuses rest t.core) (fresh_on t.course fresh) h.stands.holds in
-      subst (λ k. IsSoundNow ct ot client origin paired refuses rest whole k u.main u.course b) (sym same)
+      let was : CourseHolds client origin both stage t.core (K.Phased P.Fresh) = subst
+          (CourseHolds client origin both stage t.core) (fresh_on t.course fresh) h.stands.holds in
+      subst (λ k. IsSoundNow client origin both stage k u.main u.course b) (sym same)
           (record {
         stands = record {
-          holds = λ told also. stays_on (arc_value t.core.setup) (OriginRefuses client refuses t.core) rest
+          holds = λ told also. stays_on (arc_value t.core.setup) (OriginRefuses client both t.core) stage.rest
               (view_of client origin t.core) (K.Phased P.TxnStart) u.course (was told also) led;
           pair = h.stands.pair;
           acts = h.stands.acts;
-          lines = lines_stay (arc_value t.core.setup) rest (K.Phased P.TxnStart) u.course tt led;
+          lines = lines_stay (arc_value t.core.setup) stage.rest (K.Phased P.TxnStart) u.course tt led;
           little = λ told also. little_stay (view_of client origin t.core) (K.Phased P.TxnStart) u.course tt
               led;
         };
@@ -136,12 +137,12 @@ module _ {C O Q : Type 0} (ct ot : Bool) (client : C → Look) (origin : O → L
 
   -- its group was asked, of which it knows nothing
   pub sound_asked : (t : Txn C O Q) (now : Context)
-      → IsAsked (λ s roles. IsSoundTxn ct ot client origin paired refuses rest whole t s.pending s.next roles)
+      → IsAsked (λ s roles. IsSoundTxn client origin both stage t s.pending s.next roles)
       now
-      → IsSoundTxn ct ot client origin paired refuses rest whole t now.log.state.pending now.log.state.next
+      → IsSoundTxn client origin both stage t now.log.state.pending now.log.state.next
           now.roles
   sound_asked t now asked =
-      subst (λ ps. IsSoundOn ct ot client origin paired refuses rest whole t.core t.main t.course ps
+      subst (λ ps. IsSoundOn client origin both stage t.core t.main t.course ps
           now.log.state.next now.roles) (sym asked.pending) (record {
         stands = asked.sound.stands;
         covered = later_covered (view_of client origin t.core) t.main t.course asked.before.pending
@@ -150,10 +151,10 @@ module _ {C O Q : Type 0} (ct ot : Bool) (client : C → Look) (origin : O → L
 
   module _ (core : Core C O) (main : Option StageContinuation) (was course : Course Q) (same : was ≡ course)
       (none : PassesNoBody course) (now : Context) (role : ℕ) (event : Event)
-      (c : IsCalled (λ s roles. IsSoundOn ct ot client origin paired refuses rest whole core main was
+      (c : IsCalled (λ s roles. IsSoundOn client origin both stage core main was
           s.pending s.next roles) now role event) where
-    stood : HoldsOn ct ot client origin paired refuses rest whole core course
-    stood = subst (λ x. HoldsOn ct ot client origin paired refuses rest whole core x) same c.sound.stands
+    stood : HoldsOn client origin both stage core course
+    stood = subst (λ x. HoldsOn client origin both stage core x) same c.sound.stands
 
     was_covered : IsCoveredOn (view_of client origin core) main course c.before.pending c.before.next
         now.roles
@@ -161,14 +162,14 @@ module _ {C O Q : Type 0} (ct ot : Bool) (client : C → Look) (origin : O → L
         now.roles) same c.sound.covered
 
     -- an event of another continuation, where no body is passed on
-    pub sound_other : (role ≡ MAIN → ⊥) → IsSoundNow ct ot client origin paired refuses rest whole core main
+    pub sound_other : (role ≡ MAIN → ⊥) → IsSoundNow client origin both stage core main
         course now
     sound_other other = record { stands = stood; covered = on_other _ (view_of client origin core) main now
         role event c course none other was_covered }
 
     -- one at which it does not work
     pub sound_quiet : works_at event ≡ false
-        → IsSoundNow ct ot client origin paired refuses rest whole core main course now
+        → IsSoundNow client origin both stage core main course now
     sound_quiet rests = record { stands = stood; covered = on_quiet _ (view_of client origin core) main now
         role event c course none rests was_covered }
 
@@ -179,30 +180,30 @@ module _ {C O Q : Type 0} (ct ot : Bool) (client : C → Look) (origin : O → L
 
   -- it was led on
   pub sound_here : (s t : Core C O) (old new : Course Q) (u : Option StageContinuation) (b : Context)
-      → HoldsOn ct ot client origin paired refuses rest whole s old
-      → StepKeeps client origin paired refuses s t → CourseHolds ct ot client origin refuses rest t new
-          → IsOfLinesOn (arc_value t.setup) rest new
-      → IfTold ct ot (HoldsLittleOn (view_of client origin t) new)
+      → HoldsOn client origin both stage s old
+      → StepKeeps client origin both s t → CourseHolds client origin both stage t new
+          → IsOfLinesOn (arc_value t.setup) stage.rest new
+      → IfTold client.tells origin.tells (HoldsLittleOn (view_of client origin t) new)
           → IsCoveredNow (view_of client origin t) u new b
-          → IsSoundNow ct ot client origin paired refuses rest whole t u new b
+          → IsSoundNow client origin both stage t u new b
   sound_here s t old new u b stands keeps holds lines little covered =
       record { stands = record { holds = holds; pair = keeps.pair stands.pair; acts = stands.acts; lines =
           lines; little = little }; covered = covered }
 
   -- by a step, whose facts speak of what the origin's link refused before it
   pub sound_led : (s t : Core C O) (old led new : Course Q) (u : Option StageContinuation) (b : Context)
-      → HoldsOn ct ot client origin paired refuses rest whole s old
-      → StepKeeps client origin paired refuses s t
-          → IfTold ct ot (CourseFact (arc_value s.setup) (OriginRefuses client refuses s) rest
+      → HoldsOn client origin both stage s old
+      → StepKeeps client origin both s t
+          → IfTold client.tells origin.tells (CourseFact (arc_value s.setup) (OriginRefuses client both s) stage.rest
           (view_of client origin t) led)
-      → IsOfLinesOn (arc_value s.setup) rest led → IfTold ct ot (HoldsLittleOn (view_of client origin t) led)
+      → IsOfLinesOn (arc_value s.setup) stage.rest led → IfTold client.tells origin.tells (HoldsLittleOn (view_of client origin t) led)
           → StaysOnOrLacks led new → IsCoveredNow (view_of client origin t) u new b
-      → IsSoundNow ct ot client origin paired refuses rest whole t u new b
+      → IsSoundNow client origin both stage t u new b
   sound_led s t old led new u b stands keeps fact lines little stays covered =
       sound_here s t old new u b stands keeps
-      (λ told also. course_settled client origin paired refuses rest s t new keeps
-      (stays_on (arc_value s.setup) (OriginRefuses client refuses s) rest (view_of client origin t) led new
+      (λ told also. course_settled client origin both stage.rest s t new keeps
+      (stays_on (arc_value s.setup) (OriginRefuses client both s) stage.rest (view_of client origin t) led new
           (fact told also) stays))
-      (subst (λ x. IsOfLinesOn (arc_value x) rest new) (sym keeps.setup)
-          (lines_stay (arc_value s.setup) rest led new lines stays))
+      (subst (λ x. IsOfLinesOn (arc_value x) stage.rest new) (sym keeps.setup)
+          (lines_stay (arc_value s.setup) stage.rest led new lines stays))
       (λ told also. little_stay (view_of client origin t) led new (little told also) stays) covered

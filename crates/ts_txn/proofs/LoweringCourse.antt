@@ -19,6 +19,10 @@ use Rattle.ts_group.specs.declared.action.Named.{Named}
 use Rattle.ts_group.specs.declared.world.Asked.{Asked}
 use Rattle.ts_group.specs.declared.world.Asked.TheVariants.{Missed}
 use Rattle.ts_link.specs.Link.{Fewer, Look, NoMore}
+use Rattle.ts_config.specs.declared.setup.TransformLine.{TransformLine}
+use Rattle.ts_link.specs.declared.link.Link as link
+use Rattle.ts_upstream.specs.declared.upstream.Upstream as upstream
+use Rattle.ts_transform.specs.declared.transform.Transform as transform
 use Rattle.ts_wire.specs.declared.heads.ResponseHead.{ResponseHead}
 use Rattle.ts_txn.specs.Course.{course_after, finish_after}
 use Rattle.ts_transform.specs.declared.continuation.StageContinuation.{StageContinuation}
@@ -29,7 +33,7 @@ use Rattle.ts_phases.specs.Holding.{IfTold}
 use Rattle.ts_phases.specs.Lowering.{StepFalls, agains_left, events_paid, if_told, number_left, phase_work, upload_in, work_left}
 use Rattle.ts_relay.specs.LoweringBody.{IsOfLines, StaysOfLines, ended_left, finish_left, left_after, rest_after, unbegun_left}
 use Rattle.ts_txn.specs.LoweringCourse.{IsOfLinesOn, course_left, number_if, parts_left, transaction_left}
-use Rattle.ts_phases.specs.View.{View, upload_told, view_of}
+use Rattle.ts_phases.specs.View.{View, upload_of, view_of}
 use Rattle.ts_txn.specs.declared.course.Course.{Course}
 use Rattle.ts_txn.specs.declared.course.Course.TheVariants as K
 use Rattle.ts_relay.specs.declared.last_writes.BodyStep.{BodyStep}
@@ -227,14 +231,14 @@ module _ {Q : Type 0} (setup : Setup) (rest : Q → List ℕ → List ℕ) where
 less_by_one : (m n : ℕ) → m + 1 ≡ n → m + 1 ≤ n
 less_by_one m n same = omega (arith, same)
 
-module _ {C O Q : Type 0} (ct ot : Bool) (client : C → Look) (origin : O → Look) (left : C → O → Option ℕ)
-    (rest : Q → List ℕ → List ℕ) where
+module _ {C O Q : Type 0} (client : link.Ghosts C) (origin : link.Ghosts O) (both : upstream.Ghosts O C)
+    (stage : transform.Ghosts Q TransformLine) where
   -- where nothing was done
   pub stays_on : (core : Core C O) (course : Course Q) (pending : List Pending)
-      → IfTold ct ot (Falls (number_left pending (parts_left ct ot client origin left rest core course)) 0
-          (number_left pending (parts_left ct ot client origin left rest core course)))
+      → IfTold client.tells origin.tells (Falls (number_left pending (parts_left client origin both stage core course)) 0
+          (number_left pending (parts_left client origin both stage core course)))
   stays_on core course pending told also = falls_refl
-      (number_left pending (parts_left ct ot client origin left rest core course))
+      (number_left pending (parts_left client origin both stage core course))
 
   if_both : (a b : Bool) (m n : Option ℕ) (k : ℕ) → (a ≡ true → b ≡ true → Falls m k n)
       → Falls (number_if (a && b) m) k (number_if (a && b) n)
@@ -245,20 +249,20 @@ module _ {C O Q : Type 0} (ct ot : Bool) (client : C → Look) (origin : O → L
   -- the event that was handled is pending no more: each event lowers the number of the transaction
   pub transaction_falls : (old new : Core C O) (course result : Course Q) (before after now : List Pending)
       → new.setup ≡ old.setup → length after + 1 ≡ length before
-      → IfTold ct ot (Falls (number_left after (parts_left ct ot client origin left rest old course)) 0
-      (number_left now (course_left (arc_value old.setup) rest (upload_told left new.client.link new.origin)
+      → IfTold client.tells origin.tells (Falls (number_left after (parts_left client origin both stage old course)) 0
+      (number_left now (course_left (arc_value old.setup) stage.rest (upload_of both new)
           (view_of client origin new) result)))
-      → Falls (transaction_left ct ot client origin left rest old course before) 1
-          (transaction_left ct ot client origin left rest new result now)
+      → Falls (transaction_left client origin both stage old course before) 1
+          (transaction_left client origin both stage new result now)
   transaction_falls old new course result before after now setup handled paid =
-      subst (λ (s : Setup). Falls (transaction_left ct ot client origin left rest old course before) 1
-      (number_if (ct && ot) (number_left now (course_left s rest (upload_told left new.client.link new.origin)
+      subst (λ (s : Setup). Falls (transaction_left client origin both stage old course before) 1
+      (number_if (client.tells && origin.tells) (number_left now (course_left s stage.rest (upload_of both new)
           (view_of client origin new) result)))) (sym (ap arc_value setup))
-      (if_both ct ot (number_left before (parts_left ct ot client origin left rest old course))
-      (number_left now (course_left (arc_value old.setup) rest (upload_told left new.client.link new.origin)
+      (if_both client.tells origin.tells (number_left before (parts_left client origin both stage old course))
+      (number_left now (course_left (arc_value old.setup) stage.rest (upload_of both new)
           (view_of client origin new) result)) 1
-      (λ told also. handled_falls before after now (parts_left ct ot client origin left rest old course)
-      (course_left (arc_value old.setup) rest (upload_told left new.client.link new.origin)
+      (λ told also. handled_falls before after now (parts_left client origin both stage old course)
+      (course_left (arc_value old.setup) stage.rest (upload_of both new)
           (view_of client origin new) result) (less_by_one (length after) (length before) handled)
           (paid told also)))
 

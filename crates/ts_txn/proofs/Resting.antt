@@ -8,7 +8,9 @@ use Rattle.ts_hooks.specs.declared.txn_end.TxnEnd.TheVariants as E
 use Rattle.ts_journal.specs.declared.entry.Pending.{Pending}
 use Rattle.ts_journal.specs.declared.entry.TheConstants.{GREATEST}
 use Rattle.ts_group.specs.declared.action.Named.{Named}
-use Rattle.ts_link.specs.Link.{Look}
+use Rattle.ts_link.specs.declared.link.Link as link
+use Rattle.ts_upstream.specs.declared.upstream.Upstream as upstream
+use Rattle.ts_transform.specs.declared.transform.Transform as transform
 use Rattle.ts_txn.specs.Course.{CourseHolds}
 use Rattle.ts_phases.specs.Ends.{EndFact}
 use Rattle.ts_txn.specs.Making.{end_of, end_of_phase}
@@ -45,29 +47,27 @@ sends_block setup refuses v E.OriginFault never has fact = absurd (never.origin 
 sends_block setup refuses v E.ClientFault never has fact = absurd (never.client fact.by)
 sends_block setup refuses v E.NoMemory never has fact = absurd (has refl)
 
-module _ {C O Q : Type 0} (ct ot : Bool) (client : C → Look) (origin : O → Look) (paired : C → O → Type 0)
-    (refuses : O → List ℕ → Type 0) (rest : Q → List ℕ → List ℕ)
-    (whole : TransformLine → List ℕ → List ℕ) (t : Txn C O Q) where
+module _ {C O Q : Type 0} (client : link.Ghosts C) (origin : link.Ghosts O) (both : upstream.Ghosts O C)
+    (stage : transform.Ghosts Q TransformLine) (t : Txn C O Q) where
   pub ended_so : (pending : List Pending) (next : ℕ) (roles : List Named) (end : TxnEnd)
-      → end_of t.course ≡ Some end → IsSoundTxn ct ot client origin paired refuses rest whole t pending next
+      → end_of t.course ≡ Some end → IsSoundTxn client origin both stage t pending next
       roles
-      → HasEndedSo ct ot client origin refuses t end
-  ended_so pending next roles end is sound = subst (CourseHolds ct ot client origin refuses rest t.core)
+      → HasEndedSo client origin both t end
+  ended_so pending next roles end is sound = subst (CourseHolds client origin both stage t.core)
       (ended_course t.course end is) sound.stands.holds
 
   pub rests_with_block : (next : ℕ) (roles : List Named)
-      → IsSoundTxn ct ot client origin paired refuses rest whole t [] next roles
-      → RestsWithBlock ct ot client origin refuses t next
+      → IsSoundTxn client origin both stage t [] next roles
+      → RestsWithBlock client origin both t next
   rests_with_block next roles sound started few never memory told also = by_end (end_of t.course) refl
     where
       v : View
       v = view_of client origin t.core
 
       by_end : (o : Option TxnEnd) → end_of t.course ≡ o → (end : TxnEnd) × (end_of t.course ≡ Some end)
-          × SendsBlock (arc_value t.core.setup) (OriginRefuses client refuses t.core) v end
-      by_end None none = absurd (let spent : GREATEST ≤ next = at_rest ct ot client origin paired refuses rest
-          whole t next roles started none sound in omega (arith, spent, few))
+          × SendsBlock (arc_value t.core.setup) (OriginRefuses client both t.core) v end
+      by_end None none = absurd (let spent : GREATEST ≤ next = at_rest client origin both stage t next roles started none sound in omega (arith, spent, few))
       by_end (Some end) is = (end, is, sends_block (arc_value t.core.setup)
-          (OriginRefuses client refuses t.core) v end never
+          (OriginRefuses client both t.core) v end never
           (λ (lacks : end ≡ E.NoMemory). memory (is ∙ ap Some lacks))
           (ended_so [] next roles end is sound told also))

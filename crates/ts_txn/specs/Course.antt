@@ -5,7 +5,10 @@ use Rattle.std.specs.Arc.{arc_value}
 use Rattle.ts_config.specs.declared.setup.Setup.{Setup}
 use Rattle.ts_hooks.specs.declared.txn_end.TxnEnd.{TxnEnd}
 use Rattle.ts_hooks.specs.declared.txn_end.TxnEnd.TheVariants as E
-use Rattle.ts_link.specs.Link.{Look}
+use Rattle.ts_config.specs.declared.setup.TransformLine.{TransformLine}
+use Rattle.ts_link.specs.declared.link.Link as link
+use Rattle.ts_upstream.specs.declared.upstream.Upstream as upstream
+use Rattle.ts_transform.specs.declared.transform.Transform as transform
 use Rattle.ts_phases.specs.View.{OriginRefuses, View, view_of}
 use Rattle.ts_relay.specs.Finishing.{IsFinishing}
 use Rattle.ts_relay.specs.Relaying.{RelaysBody}
@@ -48,9 +51,9 @@ module _ (setup : Setup) (refuses : Type 0) {Q : Type 0} (rest : Q → List ℕ 
   CourseFact v (K.Relaying r) = RelaysBody setup refuses rest v r.driven.chain r.body
   CourseFact v (K.Finishing end) = IsFinishing setup refuses v end
 
-module _ {C O Q : Type 0} (ctells otells : Bool) (client : C → Look) (origin : O → Look)
-    (refuses : O → List ℕ → Type 0) (rest : Q → List ℕ → List ℕ) where
+module _ {C O Q : Type 0} (client : link.Ghosts C) (origin : link.Ghosts O) (both : upstream.Ghosts O C)
+    (stage : transform.Ghosts Q TransformLine) where
   -- what holds of a transaction on its course
   abbrev pub CourseHolds : Core C O → Course Q → Type 0
-  CourseHolds t course = IfTold ctells otells
-      (CourseFact (arc_value t.setup) (OriginRefuses client refuses t) rest (view_of client origin t) course)
+  CourseHolds t course = IfTold client.tells origin.tells (CourseFact (arc_value t.setup)
+      (OriginRefuses client both t) stage.rest (view_of client origin t) course)

@@ -2,7 +2,7 @@
 ghost use Rattle.std.specs.Prelude.{◌≡◌, ◌≢◌, ◌<◌, true, false, None, OnOk, Err};
 ghost use Rattle.ts_journal.specs.declared.entry.TheConstants.{GREATEST};
 ghost use Rattle.ts_transform.specs.Driving.{AddsEvents, HasLiveIf, IsDueAfter, IsRousedIf, KeepsStage, SetsOnly};
-ghost use Rattle.ts_txn.specs.CourseCover.{IsOfMain, CoversAlone, SetsOneOrNone, StaysOnOrLacks};
+ghost use Rattle.ts_txn.specs.CourseCover.{is_fresh_on, IsOfMain, CoversAlone, SetsOneOrNone, StaysOnOrLacks};
 
 use crate::course::Course;
 use ts_relay::MAIN;
@@ -13,7 +13,7 @@ use ts_transform::{StageContinuation, make_end};
 
 /// Sees that an event of the continuation is pending, so many milliseconds later where it has none yet. The
 /// answer is `Dead` where there is none, `Spent` once the event numbers are used up, or `NoMemory`.
-#[tactic(auto, using(crate::proofs::Seating::main_set, crate::proofs::Seating::main_rests, crate::proofs::Seating::due_set, crate::proofs::Seating::due_rests, ts_transform::proofs::Kept::adds_none, ts_transform::proofs::Kept::adds_dead, ts_transform::proofs::Kept::set_adds, ts_transform::proofs::Kept::set_event, ts_transform::proofs::Kept::works_soon, ts_transform::proofs::Kept::set_keeps, ts_transform::proofs::Kept::kept_if, ts_transform::proofs::Kept::roused_if))]
+#[tactic(auto, using(ts_transform::proofs::Kept::set_event, ts_transform::proofs::Kept::works_soon, ts_transform::proofs::Kept::kept_if, ts_transform::proofs::Kept::roused_if))]
 pub fn rouse(main: &mut Option<StageContinuation>, after: u64, cx: &mut Cx) -> Result<(), SetFault>
     requires turn { cx.old.log.state.held ≡ true }
     ensures adds { AddsEvents 1 (HasLiveIf cx.new.log.state.live main.new) result cx.old cx.new }
@@ -49,10 +49,12 @@ pub fn is_spent(fault: &SetFault) -> bool
 
 /// Makes the continuation of a transaction that was not started, and sets its first event; it answers where
 /// the transaction is then.
+#[tactic(auto, using(crate::proofs::Events::stays_started))]
 pub fn begin<P: Drop>(main: &mut Option<StageContinuation>, cx: &mut Cx) -> Course<P>
     requires turn { cx.old.log.state.held ≡ true }
     requires none { main.old ≡ None }
     ensures course { StaysOnOrLacks (Course.Phased Phase.TxnStart) result }
+    ensures started { is_fresh_on result ≡ false }
     ensures within { SetsOneOrNone cx.old cx.new }
     ensures due { SetsOnly (IsDueAfter AT_ONCE cx.old.moment) cx.old cx.new }
     ensures covered { CoversAlone main.old main.new result cx.old cx.new }

@@ -48,15 +48,15 @@ pub fn relay_event<C: Link, O: Upstream<C>, P: Transform<Line = TransformLine> +
 ) -> Course<P>
     requires turn { cx.old.log.state.held ≡ true }
     requires called { IsCalled
-        (λ s roles. IsSoundOn C.tells O.tells C.look O.look O.paired O.refuses P.rest P.whole
+        (λ s roles. IsSoundOn C.Link O.Link O.Upstream.own P.Transform
         core.old main.old (Course.Relaying relay) s.pending s.next roles)
         cx.old role event }
-    ensures sound { IsSoundNow C.tells O.tells C.look O.look O.paired O.refuses P.rest P.whole
+    ensures sound { IsSoundNow C.Link O.Link O.Upstream.own P.Transform
         core.new main.new result cx.new }
     ensures within { ActsWithin most_set cx.old cx.new }
-    ensures handles { HandlesEvent C.tells O.tells C.look O.look O.paired O.refuses O.upload_left
+    ensures handles { HandlesEvent C.Link O.Link O.Upstream.own
         core.old core.new cx.old cx.new role main.old (Course.Relaying relay) result }
-    ensures pays { PaysEvents C.tells O.tells C.look O.look O.upload_left P.rest
+    ensures pays { PaysEvents C.Link O.Link O.Upstream.own P.Transform
         core.old core.new (Course.Relaying relay) result cx.old cx.new }
 {
     let mut relay = relay;
@@ -72,15 +72,15 @@ pub fn write_rest<C: Link, O: Upstream<C>, P: Transform<Line = TransformLine> + 
     cx: &mut Cx,
 ) -> Course<P>
     requires turn { cx.old.log.state.held ≡ true }
-    requires stands { HoldsOn C.tells O.tells C.look O.look O.paired O.refuses P.rest P.whole
+    requires stands { HoldsOn C.Link O.Link O.Upstream.own P.Transform
         core.old (Course.Finishing end) }
     requires alone { IsAlone main.old cx.old }
-    ensures sound { IsSoundNow C.tells O.tells C.look O.look O.paired O.refuses P.rest P.whole
+    ensures sound { IsSoundNow C.Link O.Link O.Upstream.own P.Transform
         core.new main.new result cx.new }
     ensures within { ActsWithin most_set cx.old cx.new }
-    ensures handles { HandlesEvent C.tells O.tells C.look O.look O.paired O.refuses O.upload_left
+    ensures handles { HandlesEvent C.Link O.Link O.Upstream.own
         core.old core.new cx.old cx.new MAIN main.old (Course.Finishing end) result }
-    ensures pays { PaysEvents C.tells O.tells C.look O.look O.upload_left P.rest
+    ensures pays { PaysEvents C.Link O.Link O.Upstream.own P.Transform
         core.old core.new (Course.Finishing end) result cx.old cx.new }
 {
     let step = send_rest(core, end);
@@ -97,16 +97,16 @@ pub fn begin_relay<C: Link, O: Upstream<C>, P: Transform<Line = TransformLine> +
     cx: &mut Cx,
 ) -> Course<P>
     requires turn { cx.old.log.state.held ≡ true }
-    requires stands { HoldsOn C.tells O.tells C.look O.look O.paired O.refuses P.rest P.whole
+    requires stands { HoldsOn C.Link O.Link O.Upstream.own P.Transform
         core.old (Course.Phased (Phase.ResponseTransform request head)) }
     requires alone { IsAlone main.old cx.old }
-    ensures sound { IsSoundNow C.tells O.tells C.look O.look O.paired O.refuses P.rest P.whole
+    ensures sound { IsSoundNow C.Link O.Link O.Upstream.own P.Transform
         core.new main.new result cx.new }
     ensures within { ActsWithin most_set cx.old cx.new }
-    ensures handles { HandlesEvent C.tells O.tells C.look O.look O.paired O.refuses O.upload_left
+    ensures handles { HandlesEvent C.Link O.Link O.Upstream.own
         core.old core.new cx.old cx.new MAIN main.old (Course.Phased (Phase.ResponseTransform request head))
         result }
-    ensures pays { PaysEvents C.tells O.tells C.look O.look O.upload_left P.rest
+    ensures pays { PaysEvents C.Link O.Link O.Upstream.own P.Transform
         core.old core.new (Course.Phased (Phase.ResponseTransform request head)) result cx.old cx.new }
 {
     let Ok(made) = queue_relay(core, &request, &head) else {

@@ -28,15 +28,15 @@ fn make_step<C: Link, O: Upstream<C>, P: Transform<Line = TransformLine> + Drop>
     cx: &mut Cx,
 ) -> Course<P>
     requires turn { cx.old.log.state.held ≡ true }
-    requires stands { HoldsOn C.tells O.tells C.look O.look O.paired O.refuses P.rest P.whole
+    requires stands { HoldsOn C.Link O.Link O.Upstream.own P.Transform
         core.old (Course.Phased phase) }
     requires alone { IsAlone main.old cx.old }
-    ensures sound { IsSoundNow C.tells O.tells C.look O.look O.paired O.refuses P.rest P.whole
+    ensures sound { IsSoundNow C.Link O.Link O.Upstream.own P.Transform
         core.new main.new result cx.new }
     ensures within { ActsWithin most_set cx.old cx.new }
-    ensures handles { HandlesEvent C.tells O.tells C.look O.look O.paired O.refuses O.upload_left
+    ensures handles { HandlesEvent C.Link O.Link O.Upstream.own
         core.old core.new cx.old cx.new MAIN main.old (Course.Phased phase) result }
-    ensures pays { PaysEvents C.tells O.tells C.look O.look O.upload_left P.rest
+    ensures pays { PaysEvents C.Link O.Link O.Upstream.own P.Transform
         core.old core.new (Course.Phased phase) result cx.old cx.new }
 {
     let step = core.step(phase);
@@ -51,15 +51,15 @@ fn advance_phase<C: Link, O: Upstream<C>, P: Transform<Line = TransformLine> + D
     cx: &mut Cx,
 ) -> Course<P>
     requires turn { cx.old.log.state.held ≡ true }
-    requires stands { HoldsOn C.tells O.tells C.look O.look O.paired O.refuses P.rest P.whole
+    requires stands { HoldsOn C.Link O.Link O.Upstream.own P.Transform
         core.old (Course.Phased phase) }
     requires alone { IsAlone main.old cx.old }
-    ensures sound { IsSoundNow C.tells O.tells C.look O.look O.paired O.refuses P.rest P.whole
+    ensures sound { IsSoundNow C.Link O.Link O.Upstream.own P.Transform
         core.new main.new result cx.new }
     ensures within { ActsWithin most_set cx.old cx.new }
-    ensures handles { HandlesEvent C.tells O.tells C.look O.look O.paired O.refuses O.upload_left
+    ensures handles { HandlesEvent C.Link O.Link O.Upstream.own
         core.old core.new cx.old cx.new MAIN main.old (Course.Phased phase) result }
-    ensures pays { PaysEvents C.tells O.tells C.look O.look O.upload_left P.rest
+    ensures pays { PaysEvents C.Link O.Link O.Upstream.own P.Transform
         core.old core.new (Course.Phased phase) result cx.old cx.new }
 {
     match phase {
@@ -81,15 +81,15 @@ pub fn handle_event<C: Link, O: Upstream<C>, P: Transform<Line = TransformLine> 
 ) -> Course<P>
     requires turn { cx.old.log.state.held ≡ true }
     requires called { IsCalled
-        (λ s roles. IsSoundOn C.tells O.tells C.look O.look O.paired O.refuses P.rest P.whole
+        (λ s roles. IsSoundOn C.Link O.Link O.Upstream.own P.Transform
         core.old main.old course s.pending s.next roles)
         cx.old role event }
-    ensures sound { IsSoundNow C.tells O.tells C.look O.look O.paired O.refuses P.rest P.whole
+    ensures sound { IsSoundNow C.Link O.Link O.Upstream.own P.Transform
         core.new main.new result cx.new }
     ensures within { ActsWithin most_set cx.old cx.new }
-    ensures handles { HandlesEvent C.tells O.tells C.look O.look O.paired O.refuses O.upload_left
+    ensures handles { HandlesEvent C.Link O.Link O.Upstream.own
         core.old core.new cx.old cx.new role main.old course result }
-    ensures pays { PaysEvents C.tells O.tells C.look O.look O.upload_left P.rest
+    ensures pays { PaysEvents C.Link O.Link O.Upstream.own P.Transform
         core.old core.new course result cx.old cx.new }
 {
     match course {
@@ -128,15 +128,15 @@ pub fn advance<C: Link, O: Upstream<C>, P: Transform<Line = TransformLine> + Dro
 )
     requires turn { cx.old.log.state.held ≡ true }
     requires called { IsCalled
-        (λ s roles. IsSoundOn C.tells O.tells C.look O.look O.paired O.refuses P.rest P.whole
+        (λ s roles. IsSoundOn C.Link O.Link O.Upstream.own P.Transform
         core.old main.old course.old s.pending s.next roles)
         cx.old role event }
-    ensures sound { IsSoundNow C.tells O.tells C.look O.look O.paired O.refuses P.rest P.whole
+    ensures sound { IsSoundNow C.Link O.Link O.Upstream.own P.Transform
         core.new main.new course.new cx.new }
     ensures within { ActsWithin most_set cx.old cx.new }
-    ensures handles { HandlesEvent C.tells O.tells C.look O.look O.paired O.refuses O.upload_left
+    ensures handles { HandlesEvent C.Link O.Link O.Upstream.own
         core.old core.new cx.old cx.new role main.old course.old course.new }
-    ensures pays { PaysEvents C.tells O.tells C.look O.look O.upload_left P.rest
+    ensures pays { PaysEvents C.Link O.Link O.Upstream.own P.Transform
         core.old core.new course.old course.new cx.old cx.new }
 {
     let was = replace(course, Course::Phased(Phase::Fresh));

@@ -108,7 +108,7 @@ impl<C: Link + Drop, O: Upstream<C> + Drop, P: Transform<Line = TransformLine> +
         ensures links { IfOk result (λ t. IsMadeOf C.look client t.core.client
             × IsMadeOfIf O.look origin t.core.origin) }
         ensures sound { IfOk result (λ t. (next : ℕ) (roles : List Named) →
-            IsSoundTxn C.tells O.tells C.look O.look O.paired O.refuses P.rest P.whole t [] next roles) }
+            IsSoundTxn C.Link O.Link O.Upstream.own P.Transform t [] next roles) }
     {
         let client = make_peer(alloc, client)?;
         let origin = make_peer_if(alloc, origin)?;
@@ -137,18 +137,18 @@ impl<C: Link + Drop, O: Upstream<C> + Drop, P: Transform<Line = TransformLine> +
     pub fn end(&self) -> Option<TxnEnd>
         ensures end { result ≡ end_of self.now.course }
         ensures rests { result ≡ None → is_fresh_on self.now.course ≡ false → (next : ℕ) (roles : List Named)
-            → IsSoundTxn C.tells O.tells C.look O.look O.paired O.refuses P.rest P.whole
+            → IsSoundTxn C.Link O.Link O.Upstream.own P.Transform
             self.now [] next roles
             → GREATEST ≤ next }
         ensures law { (end : TxnEnd) → result ≡ Some end
             → (pending : List Pending) (next : ℕ) (roles : List Named)
-            → IsSoundTxn C.tells O.tells C.look O.look O.paired O.refuses P.rest P.whole
+            → IsSoundTxn C.Link O.Link O.Upstream.own P.Transform
             self.now pending next roles
-            → HasEndedSo C.tells O.tells C.look O.look O.refuses self.now end }
+            → HasEndedSo C.Link O.Link O.Upstream.own self.now end }
         ensures block { (next : ℕ) (roles : List Named)
-            → IsSoundTxn C.tells O.tells C.look O.look O.paired O.refuses P.rest P.whole
+            → IsSoundTxn C.Link O.Link O.Upstream.own P.Transform
             self.now [] next roles
-            → RestsWithBlock C.tells O.tells C.look O.look O.refuses self.now next }
+            → RestsWithBlock C.Link O.Link O.Upstream.own self.now next }
     {
         end_of(&self.course)
     }

@@ -9,7 +9,7 @@ use Rattle.ts_txn.specs.Course.{course_after}
 use Rattle.ts_relay.specs.Duties.{set_leaving}
 use Rattle.ts_link.specs.Link.{Look, NoMore}
 use Rattle.ts_relay.specs.LoweringBody.{IsOfLines, left_after, unbegun_left}
-use Rattle.ts_phases.specs.View.{LinkSide, OriginRefuses, upload_told, view_of}
+use Rattle.ts_phases.specs.View.{LinkSide, OriginRefuses, upload_of, view_of}
 use Rattle.ts_txn.specs.World.{most_set}
 use Rattle.ts_txn.specs.declared.course.Course.TheVariants as K
 use Rattle.ts_phases.specs.declared.phase.Phase.TheVariants as P
@@ -28,16 +28,14 @@ pub returns-in_default-clause-sound : goal.returns-in_default-clause-sound
 returns-in_default-clause-sound g c =
     let core = c.args.core.now in
     let new = c.queue_relay.new.core in
-    sound_here g.C.Link.tells g.O.Link.tells g.C.Link.look g.O.Link.look g.O.Upstream.paired
-        g.O.Upstream.refuses g.P.Transform.rest g.P.Transform.whole core new
+    sound_here g.C.Link g.O.Link g.O.Upstream g.P.Transform core new
     (K.Phased (P.ResponseTransform c.args.request c.args.head)) (K.Phased (P.Ended E.NoMemory))
         c.destroy_end.new.slot c.destroy_end.new.cx c.requires.stands c.queue_relay.ensures.keeps
-    (λ told also. course_settled g.C.Link.look g.O.Link.look g.O.Upstream.paired g.O.Upstream.refuses
-        g.P.Transform.rest core new (K.Phased (P.Ended E.NoMemory)) c.queue_relay.ensures.keeps
+    (λ told also. course_settled g.C.Link g.O.Link g.O.Upstream g.P.Transform.rest core new (K.Phased (P.Ended E.NoMemory)) c.queue_relay.ensures.keeps
     (c.in_default.ensures.err told also)) tt (λ told also. tt)
     (ended_alone (P.Ended E.NoMemory) (K.Phased (P.Ended E.NoMemory)) c.args.main.now c.destroy_end.new.slot
         c.args.cx.now c.destroy_end.new.cx refl refl c.destroy_end.ensures.clears
-    c.destroy_end.ensures.none c.requires.alone (view_of g.C.Link.look g.O.Link.look new))
+    c.destroy_end.ensures.none c.requires.alone (view_of g.C.Link g.O.Link new))
 
 pub returns-in_default-clause-within : goal.returns-in_default-clause-within
 returns-in_default-clause-within g c =
@@ -46,7 +44,7 @@ returns-in_default-clause-within g c =
 
 pub begin_body-step-requires-clause-fact : goal.begin_body-step-requires-clause-fact
 begin_body-step-requires-clause-fact g c = λ told also.
-    enters_settled g.C.Link.look g.O.Link.look g.O.Upstream.paired g.O.Upstream.refuses g.P.Transform.rest
+    enters_settled g.C.Link g.O.Link g.O.Upstream g.P.Transform.rest
         c.args.core.now c.queue_relay.new.core c.in-Ok.made.driven.chain c.in-Ok.made.body
     c.queue_relay.ensures.keeps (c.in-Ok.ensures.ok told also)
 
@@ -58,8 +56,7 @@ returns-in_default-clause-handles g c =
       keeps = c.queue_relay.ensures.keeps;
       handles = record {
         next = N.Go;
-        takes = takes_lost g.C.Link.tells g.O.Link.tells g.C.Link.look g.O.Link.look g.O.Upstream.paired
-            g.O.Upstream.refuses g.O.Upstream.upload_left core new
+        takes = takes_lost g.C.Link g.O.Link g.O.Upstream core new
             (P.ResponseTransform c.args.request c.args.head) c.queue_relay.ensures.quiet;
         due = λ n p none there. absurd (c.destroy_end.ensures.clears.lessens.none n p none there);
       };
@@ -71,14 +68,13 @@ returns-clause-sound g c =
     let new = c.queue_relay.new.core in
     let relay = c.begin_body-step.new.relay in
     let step = c.begin_body-step.result in
-    let v = view_of g.C.Link.look g.O.Link.look new in
-    sound_here g.C.Link.tells g.O.Link.tells g.C.Link.look g.O.Link.look g.O.Upstream.paired
-        g.O.Upstream.refuses g.P.Transform.rest g.P.Transform.whole core new
+    let v = view_of g.C.Link g.O.Link new in
+    sound_here g.C.Link g.O.Link g.O.Upstream g.P.Transform core new
     (K.Phased (P.ResponseTransform c.args.request c.args.head)) c.leave_body.result c.leave_body.new.main
         c.leave_body.new.cx c.requires.stands c.queue_relay.ensures.keeps
-    (λ told also. stays_on (arc_value new.setup) (OriginRefuses g.C.Link.look g.O.Upstream.refuses new)
+    (λ told also. stays_on (arc_value new.setup) (OriginRefuses g.C.Link g.O.Upstream new)
         g.P.Transform.rest v (course_after relay step) c.leave_body.result
-    (led_on (arc_value new.setup) (OriginRefuses g.C.Link.look g.O.Upstream.refuses new) g.P.Transform.rest v
+    (led_on (arc_value new.setup) (OriginRefuses g.C.Link g.O.Upstream new) g.P.Transform.rest v
         relay step (c.begin_body-step.ensures.leads told also))
         (after_led step (course_after relay step) c.leave_body.result c.leave_body.ensures.course))
     (lines_stay (arc_value new.setup) g.P.Transform.rest (course_after relay step) c.leave_body.result
@@ -107,20 +103,17 @@ returns-clause-handles g c =
     let core = c.args.core.now in
     let new = c.queue_relay.new.core in
     let relay = c.begin_body-step.new.relay in
-    let v = view_of g.C.Link.look g.O.Link.look new in
-    let led = begin_led g.C.Link.tells g.O.Link.tells g.C.Link.look g.O.Link.look g.O.Upstream.paired
-        g.O.Upstream.refuses g.O.Upstream.upload_left relay c.begin_body-step.result c.leave_body.result
+    let v = view_of g.C.Link g.O.Link new in
+    let led = begin_led g.C.Link g.O.Link g.O.Upstream relay c.begin_body-step.result c.leave_body.result
     c.begin_body-step.ensures.begins.goes c.leave_body.ensures.course in
     record {
       keeps = c.queue_relay.ensures.keeps;
       handles = record {
         next = N.Go;
-        takes = takes_begin g.C.Link.tells g.O.Link.tells g.C.Link.look g.O.Link.look g.O.Upstream.paired
-            g.O.Upstream.refuses g.O.Upstream.upload_left core new
+        takes = takes_begin g.C.Link g.O.Link g.O.Upstream core new
             (P.ResponseTransform c.args.request c.args.head) c.leave_body.result relay
                 c.queue_relay.ensures.quiet led;
-        due = due_begin g.C.Link.tells g.O.Link.tells g.C.Link.look g.O.Link.look g.O.Upstream.paired
-            g.O.Upstream.refuses g.O.Upstream.upload_left c.args.main.now v c.leave_body.new.main
+        due = due_begin g.C.Link g.O.Link g.O.Upstream c.args.main.now v c.leave_body.new.main
             c.args.cx.now
             c.begin_body-step.new.cx c.leave_body.new.cx c.begin_body-step.result relay c.leave_body.result
                 c.begin_body-step.ensures.begins.goes c.leave_body.ensures.course
@@ -139,9 +132,9 @@ returns-in_default-clause-pays g c = λ told also.
     let new = c.queue_relay.new.core in
     let few = c.destroy_end.ensures.clears.lessens.few.pending in
     not_begun (arc_value core.setup) g.P.Transform.rest c.args.request c.args.head
-        (view_of g.C.Link.look g.O.Link.look core) (view_of g.C.Link.look g.O.Link.look new)
-    (upload_told g.O.Upstream.upload_left core.client.link core.origin)
-        (upload_told g.O.Upstream.upload_left new.client.link new.origin) c.args.cx.now.log.state.pending
+        (view_of g.C.Link g.O.Link core) (view_of g.C.Link g.O.Link new)
+    (upload_of g.O.Upstream core)
+        (upload_of g.O.Upstream new) c.args.cx.now.log.state.pending
     c.destroy_end.new.cx.log.state.pending (ap (λ (l : Look). l.agains) c.queue_relay.ensures.quiet.client)
         (ap (λ (s : LinkSide). s.look.agains) c.queue_relay.ensures.quiet.origin)
     (omega (arith, few))
@@ -153,14 +146,14 @@ returns-clause-pays g c = λ told also.
     let made = c.in-Ok.made in
     let relay = c.begin_body-step.new.relay in
     let step = c.begin_body-step.result in
-    let w = view_of g.C.Link.look g.O.Link.look new in
+    let w = view_of g.C.Link g.O.Link new in
     let kept = subst (λ x. NoMore (unbegun_left (arc_value x) g.P.Transform.rest w made)
         (left_after (arc_value x) g.P.Transform.rest step w relay)) c.queue_relay.ensures.keeps.setup
     c.begin_body-step.ensures.lowers.falls in
     begun_led (arc_value core.setup) g.P.Transform.rest c.args.request c.args.head step made relay
-        c.leave_body.result (view_of g.C.Link.look g.O.Link.look core) w
-    (upload_told g.O.Upstream.upload_left core.client.link core.origin)
-        (upload_told g.O.Upstream.upload_left new.client.link new.origin) c.args.cx.now.log.state.pending
+        c.leave_body.result (view_of g.C.Link g.O.Link core) w
+    (upload_of g.O.Upstream core)
+        (upload_of g.O.Upstream new) c.args.cx.now.log.state.pending
     c.begin_body-step.new.cx.log.state.pending c.leave_body.new.cx.log.state.pending
         (c.in-Ok.ensures.lowers.falls told also) kept c.begin_body-step.ensures.begins.acts.few.pending
     (after_led step (course_after relay step) c.leave_body.result c.leave_body.ensures.course)

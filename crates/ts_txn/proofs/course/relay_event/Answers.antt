@@ -5,7 +5,7 @@ use Rattle.ts_transform.proofs.Kept.{acts_then}
 use Rattle.ts_txn.specs.Course.{course_after}
 use Rattle.ts_relay.specs.Duties.{set_leaving}
 use Rattle.ts_relay.specs.LoweringBody.{relay_left}
-use Rattle.ts_phases.specs.View.{OriginRefuses, upload_told, view_of}
+use Rattle.ts_phases.specs.View.{OriginRefuses, upload_of, view_of}
 use Rattle.ts_txn.specs.World.{most_set}
 use Rattle.ts_txn.specs.declared.course.Course.TheVariants as K
 use Rattle.ts_txn.proofs.CourseCalls.{stands_handled}
@@ -22,42 +22,41 @@ returns-clause-sound g c =
     let relay = c.handle_body-step.new.relay in
     let step = c.handle_body-step.result in
     let main = c.handle_body-step.new.main in
-    let v = view_of g.C.Link.look g.O.Link.look core in
-    let w = view_of g.C.Link.look g.O.Link.look new in
-    sound_led g.C.Link.tells g.O.Link.tells g.C.Link.look g.O.Link.look g.O.Upstream.paired
-        g.O.Upstream.refuses g.P.Transform.rest g.P.Transform.whole core new (K.Relaying c.args.relay)
+    let v = view_of g.C.Link g.O.Link core in
+    let w = view_of g.C.Link g.O.Link new in
+    sound_led g.C.Link g.O.Link g.O.Upstream g.P.Transform core new (K.Relaying c.args.relay)
     (course_after relay step) c.leave_body.result c.leave_body.new.main c.leave_body.new.cx
-        c.requires.called.sound.stands c.handle_body-step.ensures.keeps
-    (λ told also. led_on (arc_value core.setup) (OriginRefuses g.C.Link.look g.O.Upstream.refuses core)
+        c.requires.called.sound.stands c.handle_body-step.ensures.handles.keeps
+    (λ told also. led_on (arc_value core.setup) (OriginRefuses g.C.Link g.O.Upstream core)
         g.P.Transform.rest w relay step (c.handle_body-step.ensures.leads told also))
     (lines_after (arc_value core.setup) g.P.Transform.rest step c.args.relay relay
         c.handle_body-step.ensures.pays.lines c.requires.called.sound.stands.lines)
-    (λ told also. little_after v w step c.args.relay relay c.handle_body-step.ensures.links.minds.holds
+    (λ told also. little_after v w step c.args.relay relay c.handle_body-step.ensures.handles.links.minds.holds
         (c.requires.called.sound.stands.little told also))
     (after_led step (course_after relay step) c.leave_body.result c.leave_body.ensures.course)
     (c.leave_body.ensures.covered w (stands_handled _ v c.args.main.now c.args.cx.now c.args.role c.args.event
         c.requires.called step w main c.args.relay relay c.handle_body-step.new.cx
-    c.requires.called.sound.covered c.handle_body-step.ensures.handles))
+    c.requires.called.sound.covered c.handle_body-step.ensures.handles.body))
 
 pub returns-clause-within : goal.returns-clause-within
 returns-clause-within g c =
     let step = c.handle_body-step.result in
     let few : set_leaving step ≤ 1 = set_one step in
-    acts_then 6 (set_leaving step) most_set (omega (arith, few)) c.handle_body-step.ensures.handles.acts
+    acts_then 6 (set_leaving step) most_set (omega (arith, few)) c.handle_body-step.ensures.handles.body.acts
         c.leave_body.ensures.within
 
 pub returns-clause-handles : goal.returns-clause-handles
 returns-clause-handles g c = record {
-  keeps = c.handle_body-step.ensures.keeps;
+  keeps = c.handle_body-step.ensures.handles.keeps;
   handles = record {
     step = c.handle_body-step.result;
     after = c.handle_body-step.new.relay;
     led = c.leave_body.ensures.course;
     behind = c.handle_body-step.new.cx;
-    own = c.handle_body-step.ensures.handles.own;
-    first = c.handle_body-step.ensures.handles.acts.grows;
+    own = c.handle_body-step.ensures.handles.body.own;
+    first = c.handle_body-step.ensures.handles.body.acts.grows;
     then = c.leave_body.ensures.within;
-    links = c.handle_body-step.ensures.links;
+    links = c.handle_body-step.ensures.handles.links;
     due = c.leave_body.ensures.due;
   };
 }
@@ -67,10 +66,10 @@ returns-clause-pays g c = λ told also.
     let core = c.args.core.now in
     let new = c.handle_body-step.new.core in
     let relay = c.handle_body-step.new.relay in
-    let v = view_of g.C.Link.look g.O.Link.look core in
-    let w = view_of g.C.Link.look g.O.Link.look new in
+    let v = view_of g.C.Link g.O.Link core in
+    let w = view_of g.C.Link g.O.Link new in
     body_led (arc_value core.setup) g.P.Transform.rest c.handle_body-step.result relay c.leave_body.result w
-        (upload_told g.O.Upstream.upload_left new.client.link new.origin)
+        (upload_of g.O.Upstream new)
     c.args.cx.now.log.state.pending c.handle_body-step.new.cx.log.state.pending
         c.leave_body.new.cx.log.state.pending (relay_left (arc_value core.setup) g.P.Transform.rest v
         c.args.relay)

@@ -3,7 +3,7 @@ use Rattle.std.specs.Arc.{arc_value}
 use Rattle.std.proofs.Common.{arith, inr}
 use Rattle.ts_transform.proofs.Kept.{acts_none, acts_then}
 use Rattle.ts_txn.specs.Course.{finish_after}
-use Rattle.ts_phases.specs.View.{OriginRefuses, upload_told, view_of}
+use Rattle.ts_phases.specs.View.{OriginRefuses, upload_of, view_of}
 use Rattle.ts_txn.specs.World.{most_set}
 use Rattle.ts_txn.specs.declared.course.Course.TheVariants as K
 use Rattle.ts_txn.proofs.Coursing.{led_last}
@@ -15,12 +15,11 @@ pub returns-clause-sound : goal.returns-clause-sound
 returns-clause-sound g c =
     let core = c.args.core.now in
     let new = c.send_rest-step.new.core in
-    let v = view_of g.C.Link.look g.O.Link.look new in
-    sound_led g.C.Link.tells g.O.Link.tells g.C.Link.look g.O.Link.look g.O.Upstream.paired
-        g.O.Upstream.refuses g.P.Transform.rest g.P.Transform.whole core new (K.Finishing c.args.end)
+    let v = view_of g.C.Link g.O.Link new in
+    sound_led g.C.Link g.O.Link g.O.Upstream g.P.Transform core new (K.Finishing c.args.end)
     (finish_after c.args.end c.send_rest-step.result) c.after_write.result c.after_write.new.main
         c.after_write.new.cx c.requires.stands c.send_rest-step.ensures.keeps
-    (λ told also. led_last (arc_value core.setup) (OriginRefuses g.C.Link.look g.O.Upstream.refuses core)
+    (λ told also. led_last (arc_value core.setup) (OriginRefuses g.C.Link g.O.Upstream core)
         g.P.Transform.rest v c.args.end c.send_rest-step.result
     (c.send_rest-step.ensures.leads told also))
     (lines_last (arc_value core.setup) g.P.Transform.rest c.args.end c.send_rest-step.result)
@@ -46,8 +45,7 @@ returns-clause-pays g c = λ told also.
     let core = c.args.core.now in
     let new = c.send_rest-step.new.core in
     finish_led (arc_value core.setup) g.P.Transform.rest c.args.end c.send_rest-step.result
-        c.after_write.result (view_of g.C.Link.look g.O.Link.look core)
-    (view_of g.C.Link.look g.O.Link.look new) (upload_told g.O.Upstream.upload_left new.client.link
-        new.origin) c.args.cx.now.log.state.pending c.after_write.new.cx.log.state.pending
+        c.after_write.result (view_of g.C.Link g.O.Link core)
+    (view_of g.C.Link g.O.Link new) (upload_of g.O.Upstream new) c.args.cx.now.log.state.pending c.after_write.new.cx.log.state.pending
     c.after_write.ensures.course (c.send_rest-step.ensures.falls told also)
         c.after_write.ensures.within.few.pending

@@ -3,7 +3,7 @@ use Rattle.std.specs.Arc.{arc_value}
 use Rattle.std.proofs.Common.{arith, ◌≤◌}
 use Rattle.ts_transform.proofs.Kept.{acts_none, acts_then}
 use Rattle.ts_phases.specs.Cover.{set_after}
-use Rattle.ts_phases.specs.View.{upload_told, view_of}
+use Rattle.ts_phases.specs.View.{upload_of, view_of}
 use Rattle.ts_txn.specs.World.{most_set}
 use Rattle.ts_txn.specs.declared.course.Course.TheVariants as K
 use Rattle.ts_txn.proofs.Coursing.{behind_led}
@@ -16,14 +16,13 @@ pub returns-clause-sound : goal.returns-clause-sound
 returns-clause-sound g c =
     let core = c.args.core.now in
     let new = c.step-step.new.self in
-    sound_led g.C.Link.tells g.O.Link.tells g.C.Link.look g.O.Link.look g.O.Upstream.paired
-        g.O.Upstream.refuses g.P.Transform.rest g.P.Transform.whole core new (K.Phased c.args.phase)
+    sound_led g.C.Link g.O.Link g.O.Upstream g.P.Transform core new (K.Phased c.args.phase)
     (K.Phased c.step-step.result.phase) c.after_step.result c.after_step.new.main c.after_step.new.cx
         c.requires.stands c.step-step.ensures.keeps c.step-step.ensures.fact tt (λ told also. tt)
         (behind_led c.step-step.result.next (K.Phased c.step-step.result.phase) c.after_step.result
         c.after_step.ensures.course)
     (c.after_step.ensures.covered c.step-step.ensures.leads c.requires.alone
-        (view_of g.C.Link.look g.O.Link.look new))
+        (view_of g.C.Link g.O.Link new))
 
 pub returns-clause-within : goal.returns-clause-within
 returns-clause-within g c =
@@ -37,12 +36,10 @@ returns-clause-handles g c = record {
   keeps = c.step-step.ensures.keeps;
   handles = record {
     next = c.step-step.result.next;
-    takes = takes_step g.C.Link.tells g.O.Link.tells g.C.Link.look g.O.Link.look g.O.Upstream.paired
-        g.O.Upstream.refuses g.O.Upstream.upload_left c.args.core.now c.step-step.new.self c.args.phase
+    takes = takes_step g.C.Link g.O.Link g.O.Upstream c.args.core.now c.step-step.new.self c.args.phase
         c.after_step.result c.step-step.result c.step-step.ensures.leads c.step-step.ensures.minds
             c.step-step.ensures.waits c.step-step.ensures.leaves c.after_step.ensures.course;
-    due = due_step g.C.Link.tells g.O.Link.tells g.C.Link.look g.O.Link.look g.O.Upstream.paired
-        g.O.Upstream.refuses g.O.Upstream.upload_left c.args.main.now c.args.cx.now c.after_step.new.cx
+    due = due_step g.C.Link g.O.Link g.O.Upstream c.args.main.now c.args.cx.now c.after_step.new.cx
         c.step-step.result.next
         c.step-step.result.phase c.after_step.result
             (behind_led c.step-step.result.next (K.Phased c.step-step.result.phase) c.after_step.result
@@ -55,9 +52,8 @@ returns-clause-pays g c = λ told also.
     let core = c.args.core.now in
     let new = c.step-step.new.self in
     phase_led (arc_value core.setup) g.P.Transform.rest c.args.phase c.step-step.result c.after_step.result
-        (view_of g.C.Link.look g.O.Link.look core)
-    (view_of g.C.Link.look g.O.Link.look new) (upload_told g.O.Upstream.upload_left core.client.link
-        core.origin) (upload_told g.O.Upstream.upload_left new.client.link new.origin)
+        (view_of g.C.Link g.O.Link core)
+    (view_of g.C.Link g.O.Link new) (upload_of g.O.Upstream core) (upload_of g.O.Upstream new)
     c.args.cx.now.log.state.pending c.after_step.new.cx.log.state.pending
         (behind_led c.step-step.result.next (K.Phased c.step-step.result.phase) c.after_step.result
         c.after_step.ensures.course) (c.step-step.ensures.falls told also)

@@ -5,8 +5,7 @@ use Rattle.ts_txn.proofs.txn.TxnWorld.start.Goals as goal
 
 pub returns-clause-sound : goal.returns-clause-sound
 returns-clause-sound g c =
-    sound_begun g.C.Link.tells g.O.Link.tells g.C.Link.look g.O.Link.look g.O.Upstream.paired
-        g.O.Upstream.refuses g.P.Transform.rest g.P.Transform.whole c.args.self.now
+    sound_begun g.C.Link g.O.Link g.O.Upstream g.P.Transform c.args.self.now
     (record { core = c.args.self.now.core; main = c.begin.new.main; course = c.begin.result }) c.args.cx.now
         c.begin.new.cx c.requires.sound refl
     (sym c.is_fresh.ensures ∙ c.if-not-is_fresh.false) c.begin.ensures.course c.begin.ensures.covered
