@@ -11,13 +11,15 @@ use Rattle.ts_config.specs.declared.fields.Rule.TheVariants.{Set, Add, Remove}
 use Rattle.ts_config.specs.declared.fields.PluginLine.{PluginLine}
 use Rattle.ts_config.specs.declared.fields.PluginLine.TheVariants.{Deny, Header}
 use Rattle.ts_journal.specs.declared.entry.Pending.{Pending}
-use Rattle.ts_link.specs.Link.{Fewer, Look, NoMore}
+use Rattle.ts_link.specs.Link.{Fewer, NoMore}
+use Rattle.ts_link.specs.declared.link.Link as link
+use Rattle.ts_upstream.specs.declared.upstream.Upstream as upstream
 use Rattle.ts_upstream.specs.Uploads.{Rose8, both, taken_since}
 use Rattle.ts_wire.specs.Limits.{field_limit, head_limit}
 use Rattle.ts_block.specs.Block.{own_text, request_text}
 use Rattle.ts_block.specs.Own.{own_body}
 use Rattle.ts_phases.specs.Holding.{IfTold}
-use Rattle.ts_phases.specs.View.{LinkSide, View, side_if, upload_told, view_of}
+use Rattle.ts_phases.specs.View.{LinkSide, View, side_if, upload_of, view_of}
 use Rattle.ts_block.specs.declared.own_answer.OwnStatus.{OwnStatus}
 use Rattle.ts_block.specs.declared.own_answer.OwnStatus.TheVariants as O
 use Rattle.ts_phases.specs.declared.parts.Core.{Core}
@@ -202,16 +204,14 @@ abbrev pub StepLowers : Setup → Phase → Option ℕ → Option ℕ → View �
 StepLowers setup p upload upload_then v w s =
     StepFalls s.next (work_left setup upload v p) (work_left setup upload_then w s.phase)
 
-module _ {C O : Type 0} (ctells otells : Bool) (client : C → Look) (origin : O → Look)
-    (left : C → O → Option ℕ) where
+module _ {C O : Type 0} (client : link.Ghosts C) (origin : link.Ghosts O) (pair : upstream.Ghosts O C) where
   -- the step of a phase lowers what is left, where both links tell
   abbrev pub StepFallsFrom : Core C O → Core C O → Phase → Step → Type 0
-  StepFallsFrom t u p s = IfTold ctells otells (StepLowers (arc_value t.setup) p
-      (upload_told left t.client.link t.origin) (upload_told left u.client.link u.origin)
+  StepFallsFrom t u p s = IfTold client.tells origin.tells (StepLowers (arc_value t.setup) p
+      (upload_of pair t) (upload_of pair u)
       (view_of client origin t) (view_of client origin u) s)
 
 -- calls that upload nothing raise what the upload has left by at most 8 for each byte that the origin took
-abbrev pub RaisesUpload : {C O : Type 0} → (O → Look) → (C → O → Option ℕ) → Core C O → Core C O → Type 0
-RaisesUpload origin left t u = Rose8
-    (upload_told left t.client.link t.origin) (upload_told left u.client.link u.origin)
-    (taken_since (side_if origin t.origin).look (side_if origin u.origin).look)
+abbrev pub RaisesUpload : {C O : Type 0} → link.Ghosts O → upstream.Ghosts O C → Core C O → Core C O → Type 0
+RaisesUpload origin pair t u = Rose8 (upload_of pair t) (upload_of pair u)
+    (taken_since (side_if origin.look t.origin).look (side_if origin.look u.origin).look)

@@ -4,11 +4,12 @@
 use Rattle.std.specs.Prelude.{◌≡◌, ◌<◌, ◌⊎◌, ⊤, Bool, List, ℕ, Option}
 use Rattle.ts_hooks.specs.declared.txn_end.TxnEnd.TheVariants as E
 use Rattle.ts_link.specs.Counts.{Rose}
-use Rattle.ts_link.specs.Link.{Look}
+use Rattle.ts_link.specs.declared.link.Link as link
+use Rattle.ts_upstream.specs.declared.upstream.Upstream as upstream
 use Rattle.ts_upstream.specs.declared.upstream.Uploaded.{Uploaded}
 use Rattle.ts_upstream.specs.declared.upstream.Uploaded.TheVariants as U
 use Rattle.ts_phases.specs.Moving.{LowersUpload, MovesUpload}
-use Rattle.ts_phases.specs.View.{View, refuses_if, upload_told, view_of}
+use Rattle.ts_phases.specs.View.{View, refuses_if, upload_of, view_of}
 use Rattle.ts_phases.specs.declared.parts.Core.{Core}
 use Rattle.ts_phases.specs.declared.phase.Request.{Request}
 use Rattle.ts_block.specs.declared.own_answer.OwnStatus.TheVariants as O
@@ -77,13 +78,13 @@ pub record UploadsOnce (client origin : Bool) (refuses : List ℕ → Type 0) (q
   pub lowers : LowersUpload answer left left_then v w
   pub leads : UploadLeads answer q s
 
-module _ {C O : Type 0} (ctells otells : Bool) (client : C → Look) (origin : O → Look)
-    (refuses : O → List ℕ → Type 0) (left : C → O → Option ℕ) (t u : Core C O) where
+module _ {C O : Type 0} (client : link.Ghosts C) (origin : link.Ghosts O) (pair : upstream.Ghosts O C)
+    (t u : Core C O) where
   -- a link's fault and a link that was not ready decide where a step leads; in an upload its answer does; and
   -- one that closes ends so
   abbrev pub MindsLinksIn : Phase → Step → Type 0
-  MindsLinksIn (P.Upload q) s = UploadsOnce ctells otells (refuses_if refuses t.origin) q
-      (upload_told left t.client.link t.origin) (upload_told left u.client.link u.origin)
+  MindsLinksIn (P.Upload q) s = UploadsOnce client.tells origin.tells (refuses_if pair.refuses t.origin) q
+      (upload_of pair t) (upload_of pair u)
       (view_of client origin t) (view_of client origin u) s
   MindsLinksIn (P.TxnClose end) s = MindsLinks (view_of client origin t) (view_of client origin u) s
       × (s ≡ record { phase = P.Ended end; next = N.Done })

@@ -4,6 +4,8 @@
 use Rattle.std.specs.Prelude.{ℕ, ◌≤◌, List, [], Bool, true, false, Option, Some, None, ⊤}
 use Rattle.ts_link.specs.Counts.{Rose}
 use Rattle.ts_link.specs.Link.{Look}
+use Rattle.ts_link.specs.declared.link.Link as link
+use Rattle.ts_upstream.specs.declared.upstream.Upstream as upstream
 use Rattle.ts_phases.specs.declared.parts.Peer.{Peer}
 use Rattle.ts_phases.specs.declared.parts.Sent.{Sent}
 use Rattle.ts_phases.specs.declared.parts.Core.{Core}
@@ -86,18 +88,22 @@ module _ {L : Type 0} where
   PairIf paired c (Some p) = paired c p.link
 
 module _ {C O : Type 0} where
-  abbrev pub view_of : (C → Look) → (O → Look) → Core C O → View
+  abbrev pub view_of : link.Ghosts C → link.Ghosts O → Core C O → View
   view_of client origin t = record {
-    client = side client t.client;
+    client = side client.look t.client;
     dialed = is_dialed t.origin;
-    origin = side_if origin t.origin;
+    origin = side_if origin.look t.origin;
     sent = t.sent;
   }
 
   -- the origin's link refuses the upload of this client
-  abbrev pub OriginRefuses : (C → Look) → (O → List ℕ → Type 0) → Core C O → Type 0
-  OriginRefuses client refuses t = refuses_if refuses t.origin (client t.client.link).source
+  abbrev pub OriginRefuses : link.Ghosts C → upstream.Ghosts O C → Core C O → Type 0
+  OriginRefuses client pair t = refuses_if pair.refuses t.origin (client.look t.client.link).source
 
   -- the two links belong together
-  abbrev pub IsPaired : (C → O → Type 0) → Core C O → Type 0
-  IsPaired paired t = PairIf paired t.client.link t.origin
+  abbrev pub IsPaired : upstream.Ghosts O C → Core C O → Type 0
+  IsPaired pair t = PairIf pair.paired t.client.link t.origin
+
+  -- how much upload the two links have left
+  abbrev pub upload_of : upstream.Ghosts O C → Core C O → Option ℕ
+  upload_of pair t = upload_told pair.upload_left t.client.link t.origin

@@ -63,9 +63,9 @@ impl<C: Link, O: Upstream<C>> Core<C, O> {
     /// Makes one read of the origin's link, behind what came before.
     pub fn read_origin(&mut self) -> Result<Pulled, NoMemory>
         ensures reads { IfOk result
-            (λ p. ReadsOrigin O.tells (view_of C.look O.look self.old) (view_of C.look O.look self.new) p) }
-        ensures err { OnErr result (view_of C.look O.look self.new ≡ view_of C.look O.look self.old) }
-        ensures keeps { StepKeeps C.look O.look O.paired O.refuses self.old self.new }
+            (λ p. ReadsOrigin O.tells (view_of C.Link O.Link self.old) (view_of C.Link O.Link self.new) p) }
+        ensures err { OnErr result (view_of C.Link O.Link self.new ≡ view_of C.Link O.Link self.old) }
+        ensures keeps { StepKeeps C.Link O.Link O.Upstream.own self.old self.new }
     {
         pull_if(&mut self.origin)
     }
@@ -73,9 +73,9 @@ impl<C: Link, O: Upstream<C>> Core<C, O> {
     /// Queues the head of a response for the client, whose body is framed in this way.
     pub fn queue_head(&mut self, head: &[u8], mode: Mode) -> Result<(), NoMemory>
         ensures ok { OnOk result
-            (QueuesHead head.now mode (view_of C.look O.look self.old) (view_of C.look O.look self.new)) }
-        ensures err { OnErr result (view_of C.look O.look self.new ≡ view_of C.look O.look self.old) }
-        ensures keeps { StepKeeps C.look O.look O.paired O.refuses self.old self.new }
+            (QueuesHead head.now mode (view_of C.Link O.Link self.old) (view_of C.Link O.Link self.new)) }
+        ensures err { OnErr result (view_of C.Link O.Link self.new ≡ view_of C.Link O.Link self.old) }
+        ensures keeps { StepKeeps C.Link O.Link O.Upstream.own self.old self.new }
     {
         self.client.outbox.write(head)?;
         self.sent = Sent {
@@ -90,10 +90,10 @@ impl<C: Link, O: Upstream<C>> Core<C, O> {
     pub fn frame_body(&mut self, piece: &[u8]) -> Result<(), NoMemory>
         requires { IsPiece piece.now }
         ensures ok { OnOk result
-            (FramesPiece piece.now (view_of C.look O.look self.old) (view_of C.look O.look self.new)) }
+            (FramesPiece piece.now (view_of C.Link O.Link self.old) (view_of C.Link O.Link self.new)) }
         ensures err { OnErr result
-            (QueuesNothing (view_of C.look O.look self.old) (view_of C.look O.look self.new)) }
-        ensures keeps { StepKeeps C.look O.look O.paired O.refuses self.old self.new }
+            (QueuesNothing (view_of C.Link O.Link self.old) (view_of C.Link O.Link self.new)) }
+        ensures keeps { StepKeeps C.Link O.Link O.Upstream.own self.old self.new }
     {
         frame_sent(&mut self.sent, &mut self.client.outbox, piece)
     }
@@ -101,10 +101,10 @@ impl<C: Link, O: Upstream<C>> Core<C, O> {
     /// Frames the end of the client's body: all of it, or nothing for want of memory.
     pub fn end_body(&mut self) -> Result<(), NoMemory>
         ensures ok { OnOk result
-            (FramesEnd (view_of C.look O.look self.old) (view_of C.look O.look self.new)) }
+            (FramesEnd (view_of C.Link O.Link self.old) (view_of C.Link O.Link self.new)) }
         ensures err { OnErr result
-            (QueuesNothing (view_of C.look O.look self.old) (view_of C.look O.look self.new)) }
-        ensures keeps { StepKeeps C.look O.look O.paired O.refuses self.old self.new }
+            (QueuesNothing (view_of C.Link O.Link self.old) (view_of C.Link O.Link self.new)) }
+        ensures keeps { StepKeeps C.Link O.Link O.Upstream.own self.old self.new }
     {
         end_on(self.sent.mode, &mut self.client.outbox)
     }

@@ -18,18 +18,18 @@ impl<C: Link, O: Upstream<C>> Core<C, O> {
     /// Queues an answer of the proxy's own.
     #[tactic(auto, using(crate::proofs::Sparing::still_spares, crate::proofs::Sparing::queued_spares, crate::proofs::Leaving::still_leaves, crate::proofs::Leaving::queued_leaves, crate::proofs::Minding::stood, crate::proofs::Minding::queued_own, crate::proofs::LoweringAnswers::stands_end))]
     pub fn send_response_hdr(&mut self, answer: OwnAnswer) -> Step
-        requires fact { PhaseHolds C.tells O.tells C.look O.look O.refuses self.old
+        requires fact { PhaseHolds C.Link O.Link O.Upstream.own self.old
             (Phase.SendResponseHdr answer) }
         ensures leads { StepLeads result }
-        ensures fact { HoldsAfter C.tells O.tells C.look O.look O.refuses self.old self.new result }
-        ensures minds { MindsLinks (view_of C.look O.look self.old) (view_of C.look O.look self.new) result }
+        ensures fact { HoldsAfter C.Link O.Link O.Upstream.own self.old self.new result }
+        ensures minds { MindsLinks (view_of C.Link O.Link self.old) (view_of C.Link O.Link self.new) result }
         ensures leaves { IfTold C.tells O.tells (LeavesSides (Phase.SendResponseHdr answer)
-            (view_of C.look O.look self.old) (view_of C.look O.look self.new)) }
-        ensures falls { StepFallsFrom C.tells O.tells C.look O.look O.upload_left self.old self.new
+            (view_of C.Link O.Link self.old) (view_of C.Link O.Link self.new)) }
+        ensures falls { StepFallsFrom C.Link O.Link O.Upstream.own self.old self.new
             (Phase.SendResponseHdr answer) result }
-        ensures keeps { StepKeeps C.look O.look O.paired O.refuses self.old self.new }
+        ensures keeps { StepKeeps C.Link O.Link O.Upstream.own self.old self.new }
         ensures waits { WaitsRightly result.next
-            (view_of C.look O.look self.old) (view_of C.look O.look self.new) }
+            (view_of C.Link O.Link self.old) (view_of C.Link O.Link self.new) }
     {
         let Ok(head) = own_text(self.alloc, &self.setup, answer.status) else {
             return Step::LACKS;
@@ -46,17 +46,17 @@ impl<C: Link, O: Upstream<C>> Core<C, O> {
     /// Writes once of what was queued.
     #[tactic(auto, using(crate::proofs::Sparing::wrote_spares, crate::proofs::Waiting::client_waits, crate::proofs::Leaving::wrote_leaves, crate::proofs::Minding::wrote_client, crate::proofs::Minding::client_left, crate::proofs::Minding::full_client, crate::proofs::LoweringAnswers::sends_some, crate::proofs::LoweringAnswers::sends_wait, crate::proofs::LoweringAnswers::sends_close, crate::proofs::LoweringAnswers::sends_end))]
     pub fn send(&mut self, answer: OwnAnswer) -> Step
-        requires fact { PhaseHolds C.tells O.tells C.look O.look O.refuses self.old (Phase.Sending answer) }
+        requires fact { PhaseHolds C.Link O.Link O.Upstream.own self.old (Phase.Sending answer) }
         ensures leads { StepLeads result }
-        ensures fact { HoldsAfter C.tells O.tells C.look O.look O.refuses self.old self.new result }
-        ensures minds { MindsLinks (view_of C.look O.look self.old) (view_of C.look O.look self.new) result }
+        ensures fact { HoldsAfter C.Link O.Link O.Upstream.own self.old self.new result }
+        ensures minds { MindsLinks (view_of C.Link O.Link self.old) (view_of C.Link O.Link self.new) result }
         ensures leaves { IfTold C.tells O.tells (LeavesSides (Phase.Sending answer)
-            (view_of C.look O.look self.old) (view_of C.look O.look self.new)) }
-        ensures falls { StepFallsFrom C.tells O.tells C.look O.look O.upload_left self.old self.new
+            (view_of C.Link O.Link self.old) (view_of C.Link O.Link self.new)) }
+        ensures falls { StepFallsFrom C.Link O.Link O.Upstream.own self.old self.new
             (Phase.Sending answer) result }
-        ensures keeps { StepKeeps C.look O.look O.paired O.refuses self.old self.new }
+        ensures keeps { StepKeeps C.Link O.Link O.Upstream.own self.old self.new }
         ensures waits { WaitsRightly result.next
-            (view_of C.look O.look self.old) (view_of C.look O.look self.new) }
+            (view_of C.Link O.Link self.old) (view_of C.Link O.Link self.new) }
     {
         match self.write_client() {
             Pushed::Some(_) => Step {

@@ -64,17 +64,17 @@ impl<C: Link, O: Upstream<C>> Core<C, O> {
     /// Looks for the request's head in what the client gave, and checks it, or reads on.
     #[tactic(auto, using(crate::proofs::Waiting::asked_waits, crate::proofs::Leaving::asked_leaves, crate::proofs::Minding::heard_request, crate::proofs::Minding::lost_client, crate::proofs::Minding::late_client, crate::proofs::LoweringAnswers::asks_some, crate::proofs::LoweringAnswers::asks_wait, crate::proofs::LoweringAnswers::asks_own, crate::proofs::LoweringAnswers::asks_close, crate::proofs::LoweringAnswers::asks_end))]
     pub fn read_request(&mut self) -> Step
-        requires fact { PhaseHolds C.tells O.tells C.look O.look O.refuses self.old Phase.ReadRequest }
+        requires fact { PhaseHolds C.Link O.Link O.Upstream.own self.old Phase.ReadRequest }
         ensures leads { StepLeads result }
-        ensures fact { HoldsAfter C.tells O.tells C.look O.look O.refuses self.old self.new result }
-        ensures minds { MindsLinks (view_of C.look O.look self.old) (view_of C.look O.look self.new) result }
+        ensures fact { HoldsAfter C.Link O.Link O.Upstream.own self.old self.new result }
+        ensures minds { MindsLinks (view_of C.Link O.Link self.old) (view_of C.Link O.Link self.new) result }
         ensures leaves { IfTold C.tells O.tells
-            (LeavesOrigin (view_of C.look O.look self.old) (view_of C.look O.look self.new)) }
-        ensures falls { StepFallsFrom C.tells O.tells C.look O.look O.upload_left self.old self.new
+            (LeavesOrigin (view_of C.Link O.Link self.old) (view_of C.Link O.Link self.new)) }
+        ensures falls { StepFallsFrom C.Link O.Link O.Upstream.own self.old self.new
             Phase.ReadRequest result }
-        ensures keeps { StepKeeps C.look O.look O.paired O.refuses self.old self.new }
+        ensures keeps { StepKeeps C.Link O.Link O.Upstream.own self.old self.new }
         ensures waits { WaitsRightly result.next
-            (view_of C.look O.look self.old) (view_of C.look O.look self.new) }
+            (view_of C.Link O.Link self.old) (view_of C.Link O.Link self.new) }
     {
         match self.hear_request() {
             Found::Head(head) => match check(self.alloc, head) {

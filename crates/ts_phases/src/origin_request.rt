@@ -5,7 +5,7 @@ ghost use Rattle.ts_wire.specs.Check.{plugin_host};
 ghost use Rattle.ts_block.specs.Rules.{is_denied};
 ghost use Rattle.ts_block.specs.Relayed.{asks_head};
 ghost use Rattle.ts_block.specs.Block.{request_text};
-ghost use Rattle.ts_phases.specs.View.{IsPaired, refuses_if, upload_told, view_of};
+ghost use Rattle.ts_phases.specs.View.{IsPaired, refuses_if, upload_of, view_of};
 ghost use Rattle.ts_phases.specs.Steps.{LeavesClient, MindsLinks, UploadsOnce, WaitsRightly};
 ghost use Rattle.ts_phases.specs.Lowering.{StepFallsFrom};
 ghost use Rattle.ts_phases.specs.Cover.{StepLeads};
@@ -58,13 +58,13 @@ impl<C: Link, O: Upstream<C>> Core<C, O> {
     /// Denies the request, or finds that it has no origin.
     #[tactic(auto, using(crate::proofs::Going::denied, crate::proofs::Going::not_dialed, crate::proofs::Going::allowed, crate::proofs::Going::checked_any, crate::proofs::Asks::lacks_memory, crate::proofs::LoweringStands::still_end, crate::proofs::LoweringStands::denied_lowers, crate::proofs::LoweringStands::allowed_lowers))]
     pub fn os_dns(&self, request: Request) -> Step
-        requires fact { PhaseHolds C.tells O.tells C.look O.look O.refuses self.now (Phase.OsDns request) }
+        requires fact { PhaseHolds C.Link O.Link O.Upstream.own self.now (Phase.OsDns request) }
         ensures leads { StepLeads result }
-        ensures fact { HoldsAfter C.tells O.tells C.look O.look O.refuses self.now self.now result }
-        ensures falls { StepFallsFrom C.tells O.tells C.look O.look O.upload_left self.now self.now
+        ensures fact { HoldsAfter C.Link O.Link O.Upstream.own self.now self.now result }
+        ensures falls { StepFallsFrom C.Link O.Link O.Upstream.own self.now self.now
             (Phase.OsDns request) result }
         ensures waits { WaitsRightly result.next
-            (view_of C.look O.look self.now) (view_of C.look O.look self.now) }
+            (view_of C.Link O.Link self.now) (view_of C.Link O.Link self.now) }
     {
         let Ok(denied) = is_host_denied(self.alloc, &self.setup, &request) else {
             return Step::LACKS;
@@ -92,18 +92,18 @@ impl<C: Link, O: Upstream<C>> Core<C, O> {
     /// Queues the request's head for the origin.
     #[tactic(auto, using(crate::proofs::Sparing::still_spares, crate::proofs::Sparing::asked_spares, crate::proofs::Minding::stood, crate::proofs::Minding::queued_request, crate::proofs::Going::queued, crate::proofs::Going::allowed_any, crate::proofs::Asks::lacks_memory, crate::proofs::LoweringAnswers::queues_request, crate::proofs::LoweringAnswers::stands_end))]
     pub fn send_request_hdr(&mut self, request: Request) -> Step
-        requires fact { PhaseHolds C.tells O.tells C.look O.look O.refuses self.old
+        requires fact { PhaseHolds C.Link O.Link O.Upstream.own self.old
             (Phase.SendRequestHdr request) }
         ensures leads { StepLeads result }
-        ensures fact { HoldsAfter C.tells O.tells C.look O.look O.refuses self.old self.new result }
-        ensures minds { MindsLinks (view_of C.look O.look self.old) (view_of C.look O.look self.new) result }
+        ensures fact { HoldsAfter C.Link O.Link O.Upstream.own self.old self.new result }
+        ensures minds { MindsLinks (view_of C.Link O.Link self.old) (view_of C.Link O.Link self.new) result }
         ensures spares { IfTold C.tells O.tells
-            (LeavesClient (view_of C.look O.look self.old) (view_of C.look O.look self.new)) }
-        ensures falls { StepFallsFrom C.tells O.tells C.look O.look O.upload_left self.old self.new
+            (LeavesClient (view_of C.Link O.Link self.old) (view_of C.Link O.Link self.new)) }
+        ensures falls { StepFallsFrom C.Link O.Link O.Upstream.own self.old self.new
             (Phase.SendRequestHdr request) result }
-        ensures keeps { StepKeeps C.look O.look O.paired O.refuses self.old self.new }
+        ensures keeps { StepKeeps C.Link O.Link O.Upstream.own self.old self.new }
         ensures waits { WaitsRightly result.next
-            (view_of C.look O.look self.old) (view_of C.look O.look self.new) }
+            (view_of C.Link O.Link self.old) (view_of C.Link O.Link self.new) }
     {
         let Ok(text) = head_for_origin(self.alloc, &self.setup, &request) else {
             return Step::LACKS;
@@ -120,18 +120,18 @@ impl<C: Link, O: Upstream<C>> Core<C, O> {
     /// Writes once of the request's head.
     #[tactic(auto, using(crate::proofs::Sparing::sent_spares, crate::proofs::Waiting::origin_waits, crate::proofs::Minding::wrote_origin, crate::proofs::Minding::origin_left, crate::proofs::Minding::full_origin, crate::proofs::Going::writes_on, crate::proofs::Going::written, crate::proofs::Going::write_fault, crate::proofs::Going::sends_any, crate::proofs::Asks::lacks_memory, crate::proofs::LoweringAnswers::writes_some, crate::proofs::LoweringAnswers::writes_wait, crate::proofs::LoweringAnswers::writes_all, crate::proofs::LoweringAnswers::writes_own, crate::proofs::LoweringAnswers::writes_end))]
     pub fn send_request(&mut self, request: Request) -> Step
-        requires fact { PhaseHolds C.tells O.tells C.look O.look O.refuses self.old
+        requires fact { PhaseHolds C.Link O.Link O.Upstream.own self.old
             (Phase.SendRequest request) }
         ensures leads { StepLeads result }
-        ensures fact { HoldsAfter C.tells O.tells C.look O.look O.refuses self.old self.new result }
-        ensures minds { MindsLinks (view_of C.look O.look self.old) (view_of C.look O.look self.new) result }
+        ensures fact { HoldsAfter C.Link O.Link O.Upstream.own self.old self.new result }
+        ensures minds { MindsLinks (view_of C.Link O.Link self.old) (view_of C.Link O.Link self.new) result }
         ensures spares { IfTold C.tells O.tells
-            (LeavesClient (view_of C.look O.look self.old) (view_of C.look O.look self.new)) }
-        ensures falls { StepFallsFrom C.tells O.tells C.look O.look O.upload_left self.old self.new
+            (LeavesClient (view_of C.Link O.Link self.old) (view_of C.Link O.Link self.new)) }
+        ensures falls { StepFallsFrom C.Link O.Link O.Upstream.own self.old self.new
             (Phase.SendRequest request) result }
-        ensures keeps { StepKeeps C.look O.look O.paired O.refuses self.old self.new }
+        ensures keeps { StepKeeps C.Link O.Link O.Upstream.own self.old self.new }
         ensures waits { WaitsRightly result.next
-            (view_of C.look O.look self.old) (view_of C.look O.look self.new) }
+            (view_of C.Link O.Link self.old) (view_of C.Link O.Link self.new) }
     {
         match self.write_origin() {
             Pushed::Some(_) => Step {
@@ -160,19 +160,19 @@ impl<C: Link, O: Upstream<C>> Core<C, O> {
     /// Moves some of the upload that follows the request's head.
     #[tactic(auto, using(crate::proofs::Waiting::upload_waits, crate::proofs::LoweringLeads::uploads_lower))]
     pub fn upload_some(&mut self, request: Request) -> Step
-        requires fact { PhaseHolds C.tells O.tells C.look O.look O.refuses self.old (Phase.Upload request) }
-        requires pair { IsPaired O.paired self.old }
+        requires fact { PhaseHolds C.Link O.Link O.Upstream.own self.old (Phase.Upload request) }
+        requires pair { IsPaired O.Upstream.own self.old }
         ensures leads { StepLeads result }
-        ensures fact { HoldsAfter C.tells O.tells C.look O.look O.refuses self.old self.new result }
+        ensures fact { HoldsAfter C.Link O.Link O.Upstream.own self.old self.new result }
         ensures uploads { UploadsOnce C.tells O.tells (refuses_if O.refuses self.old.origin) request
-            (upload_told O.upload_left self.old.client.link self.old.origin)
-            (upload_told O.upload_left self.new.client.link self.new.origin)
-            (view_of C.look O.look self.old) (view_of C.look O.look self.new) result }
-        ensures falls { StepFallsFrom C.tells O.tells C.look O.look O.upload_left self.old self.new
+            (upload_of O.Upstream.own self.old)
+            (upload_of O.Upstream.own self.new)
+            (view_of C.Link O.Link self.old) (view_of C.Link O.Link self.new) result }
+        ensures falls { StepFallsFrom C.Link O.Link O.Upstream.own self.old self.new
             (Phase.Upload request) result }
-        ensures keeps { StepKeeps C.look O.look O.paired O.refuses self.old self.new }
+        ensures keeps { StepKeeps C.Link O.Link O.Upstream.own self.old self.new }
         ensures waits { WaitsRightly result.next
-            (view_of C.look O.look self.old) (view_of C.look O.look self.new) }
+            (view_of C.Link O.Link self.old) (view_of C.Link O.Link self.new) }
     {
         match self.upload() {
             Uploaded::Done => Step {

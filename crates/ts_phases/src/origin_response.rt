@@ -22,18 +22,18 @@ impl<C: Link, O: Upstream<C>> Core<C, O> {
     /// dropped.
     #[tactic(auto, using(crate::proofs::Sparing::held_spares, crate::proofs::Waiting::heard_waits, crate::proofs::Leaving::heard_leaves, crate::proofs::Minding::heard_response, crate::proofs::Minding::lost_origin, crate::proofs::Minding::late_origin, crate::proofs::LoweringAnswers::hears_wait, crate::proofs::LoweringAnswers::hears_dropped, crate::proofs::LoweringAnswers::hears_own, crate::proofs::LoweringAnswers::hears_end))]
     pub fn read_response(&mut self, request: Request) -> Step
-        requires fact { PhaseHolds C.tells O.tells C.look O.look O.refuses self.old
+        requires fact { PhaseHolds C.Link O.Link O.Upstream.own self.old
             (Phase.ReadResponse request) }
         ensures leads { StepLeads result }
-        ensures fact { HoldsAfter C.tells O.tells C.look O.look O.refuses self.old self.new result }
-        ensures minds { MindsLinks (view_of C.look O.look self.old) (view_of C.look O.look self.new) result }
+        ensures fact { HoldsAfter C.Link O.Link O.Upstream.own self.old self.new result }
+        ensures minds { MindsLinks (view_of C.Link O.Link self.old) (view_of C.Link O.Link self.new) result }
         ensures leaves { IfTold C.tells O.tells (LeavesSides (Phase.ReadResponse request)
-            (view_of C.look O.look self.old) (view_of C.look O.look self.new)) }
-        ensures falls { StepFallsFrom C.tells O.tells C.look O.look O.upload_left self.old self.new
+            (view_of C.Link O.Link self.old) (view_of C.Link O.Link self.new)) }
+        ensures falls { StepFallsFrom C.Link O.Link O.Upstream.own self.old self.new
             (Phase.ReadResponse request) result }
-        ensures keeps { StepKeeps C.look O.look O.paired O.refuses self.old self.new }
+        ensures keeps { StepKeeps C.Link O.Link O.Upstream.own self.old self.new }
         ensures waits { WaitsRightly result.next
-            (view_of C.look O.look self.old) (view_of C.look O.look self.new) }
+            (view_of C.Link O.Link self.old) (view_of C.Link O.Link self.new) }
     {
         let bad = answer_to(&request, OwnStatus::BadGateway, TxnEnd::Whole);
         let fault = answer_to(&request, OwnStatus::BadGateway, TxnEnd::OriginFault);

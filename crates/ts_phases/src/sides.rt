@@ -1,7 +1,7 @@
 //! What a step calls on the sides of a transaction. Each call speaks of all of it, so that a step is one call
 //! and a choice by its answer.
 ghost use Rattle.std.specs.Prelude.{◌≡◌, IfOk, OnOk, OnErr};
-ghost use Rattle.ts_phases.specs.View.{IsPaired, refuses_if, upload_told, view_of};
+ghost use Rattle.ts_phases.specs.View.{IsPaired, refuses_if, upload_of, view_of};
 ghost use Rattle.ts_phases.specs.Moving.{cuts_of, HearsRequest, HearsResponse, LowersUpload, MovesUpload, QueuesOwn, QueuesRequest, WritesClient, WritesOrigin};
 ghost use Rattle.ts_phases.specs.Holding.{StepKeeps};
 ghost use Rattle.ts_phases.specs.Lowering.{RaisesUpload};
@@ -35,9 +35,9 @@ impl<C: Link, O: Upstream<C>> Core<C, O> {
     /// Takes the head of a request from the front of what the client gave, or reads on.
     pub fn hear_request(&mut self) -> Found<RequestHead>
         ensures hears { HearsRequest C.tells
-            (view_of C.look O.look self.old) (view_of C.look O.look self.new) result }
-        ensures rises { RaisesUpload O.look O.upload_left self.old self.new }
-        ensures keeps { StepKeeps C.look O.look O.paired O.refuses self.old self.new }
+            (view_of C.Link O.Link self.old) (view_of C.Link O.Link self.new) result }
+        ensures rises { RaisesUpload O.Link O.Upstream.own self.old self.new }
+        ensures keeps { StepKeeps C.Link O.Link O.Upstream.own self.old self.new }
     {
         next_request(self.alloc, &mut self.client)
     }
@@ -45,9 +45,9 @@ impl<C: Link, O: Upstream<C>> Core<C, O> {
     /// Takes the head of a response from the front of what the origin gave, or reads on.
     pub fn hear_response(&mut self) -> Found<ResponseHead>
         ensures hears { HearsResponse O.tells
-            (view_of C.look O.look self.old) (view_of C.look O.look self.new) result }
-        ensures rises { RaisesUpload O.look O.upload_left self.old self.new }
-        ensures keeps { StepKeeps C.look O.look O.paired O.refuses self.old self.new }
+            (view_of C.Link O.Link self.old) (view_of C.Link O.Link self.new) result }
+        ensures rises { RaisesUpload O.Link O.Upstream.own self.old self.new }
+        ensures keeps { StepKeeps C.Link O.Link O.Upstream.own self.old self.new }
     {
         next_response_if(self.alloc, &mut self.origin)
     }
@@ -55,9 +55,9 @@ impl<C: Link, O: Upstream<C>> Core<C, O> {
     /// Makes one write of what waits for the client.
     pub fn write_client(&mut self) -> Pushed
         ensures writes { WritesClient C.tells
-            (view_of C.look O.look self.old) (view_of C.look O.look self.new) result }
-        ensures rises { RaisesUpload O.look O.upload_left self.old self.new }
-        ensures keeps { StepKeeps C.look O.look O.paired O.refuses self.old self.new }
+            (view_of C.Link O.Link self.old) (view_of C.Link O.Link self.new) result }
+        ensures rises { RaisesUpload O.Link O.Upstream.own self.old self.new }
+        ensures keeps { StepKeeps C.Link O.Link O.Upstream.own self.old self.new }
     {
         self.client.push()
     }
@@ -65,22 +65,22 @@ impl<C: Link, O: Upstream<C>> Core<C, O> {
     /// Makes one write of what waits for the origin.
     pub fn write_origin(&mut self) -> Pushed
         ensures writes { WritesOrigin O.tells
-            (view_of C.look O.look self.old) (view_of C.look O.look self.new) result }
-        ensures rises { RaisesUpload O.look O.upload_left self.old self.new }
-        ensures keeps { StepKeeps C.look O.look O.paired O.refuses self.old self.new }
+            (view_of C.Link O.Link self.old) (view_of C.Link O.Link self.new) result }
+        ensures rises { RaisesUpload O.Link O.Upstream.own self.old self.new }
+        ensures keeps { StepKeeps C.Link O.Link O.Upstream.own self.old self.new }
     {
         push_origin(&mut self.origin)
     }
 
     /// Moves some of the upload that follows the request.
     pub fn upload(&mut self) -> Uploaded
-        requires pair { IsPaired O.paired self.old }
+        requires pair { IsPaired O.Upstream.own self.old }
         ensures moves { MovesUpload C.tells O.tells (refuses_if O.refuses self.old.origin) result
-            (view_of C.look O.look self.old) (view_of C.look O.look self.new) }
-        ensures lowers { LowersUpload result (upload_told O.upload_left self.old.client.link self.old.origin)
-            (upload_told O.upload_left self.new.client.link self.new.origin)
-            (view_of C.look O.look self.old) (view_of C.look O.look self.new) }
-        ensures keeps { StepKeeps C.look O.look O.paired O.refuses self.old self.new }
+            (view_of C.Link O.Link self.old) (view_of C.Link O.Link self.new) }
+        ensures lowers { LowersUpload result (upload_of O.Upstream.own self.old)
+            (upload_of O.Upstream.own self.new)
+            (view_of C.Link O.Link self.old) (view_of C.Link O.Link self.new) }
+        ensures keeps { StepKeeps C.Link O.Link O.Upstream.own self.old self.new }
     {
         move_upload(&mut self.client.link, &mut self.origin)
     }
@@ -88,10 +88,10 @@ impl<C: Link, O: Upstream<C>> Core<C, O> {
     /// Queues the head of the request for the origin.
     pub fn queue_request(&mut self, text: &[u8]) -> Result<(), NoMemory>
         ensures ok { OnOk result
-            (QueuesRequest text.now (view_of C.look O.look self.old) (view_of C.look O.look self.new)) }
-        ensures err { OnErr result (view_of C.look O.look self.new ≡ view_of C.look O.look self.old) }
-        ensures rises { RaisesUpload O.look O.upload_left self.old self.new }
-        ensures keeps { StepKeeps C.look O.look O.paired O.refuses self.old self.new }
+            (QueuesRequest text.now (view_of C.Link O.Link self.old) (view_of C.Link O.Link self.new)) }
+        ensures err { OnErr result (view_of C.Link O.Link self.new ≡ view_of C.Link O.Link self.old) }
+        ensures rises { RaisesUpload O.Link O.Upstream.own self.old self.new }
+        ensures keeps { StepKeeps C.Link O.Link O.Upstream.own self.old self.new }
     {
         queue_if(&mut self.origin, text)
     }
@@ -99,10 +99,10 @@ impl<C: Link, O: Upstream<C>> Core<C, O> {
     /// Queues an answer of the proxy's own for the client: all of it, or none where memory lacks.
     pub fn queue_own(&mut self, head: &[u8], body: &[u8]) -> Result<(), NoMemory>
         ensures ok { OnOk result
-            (QueuesOwn head.now body.now (view_of C.look O.look self.old) (view_of C.look O.look self.new)) }
-        ensures err { OnErr result (view_of C.look O.look self.new ≡ view_of C.look O.look self.old) }
-        ensures rises { RaisesUpload O.look O.upload_left self.old self.new }
-        ensures keeps { StepKeeps C.look O.look O.paired O.refuses self.old self.new }
+            (QueuesOwn head.now body.now (view_of C.Link O.Link self.old) (view_of C.Link O.Link self.new)) }
+        ensures err { OnErr result (view_of C.Link O.Link self.new ≡ view_of C.Link O.Link self.old) }
+        ensures rises { RaisesUpload O.Link O.Upstream.own self.old self.new }
+        ensures keeps { StepKeeps C.Link O.Link O.Upstream.own self.old self.new }
     {
         let cuts = cuts_of(self.alloc, body)?;
         let text = joined(self.alloc, head, body)?;

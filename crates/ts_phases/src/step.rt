@@ -15,19 +15,19 @@ impl<C: Link, O: Upstream<C>> Core<C, O> {
     /// continuations; here, where there are none to make it of, it could but end for want of memory.
     #[tactic(auto, using(crate::proofs::Sparing::still_spares, crate::proofs::Leaving::still_leaves, crate::proofs::Minding::stood, crate::proofs::LoweringStands::fresh_lowers, crate::proofs::LoweringStands::start_lowers, crate::proofs::LoweringStands::checked_lowers, crate::proofs::LoweringStands::heard_lowers, crate::proofs::LoweringStands::still_end))]
     pub fn step(&mut self, phase: Phase) -> Step
-        requires stands { PhaseHolds C.tells O.tells C.look O.look O.refuses self.old phase
-            × IsPaired O.paired self.old }
+        requires stands { PhaseHolds C.Link O.Link O.Upstream.own self.old phase
+            × IsPaired O.Upstream.own self.old }
         ensures leads { StepLeads result }
-        ensures fact { HoldsAfter C.tells O.tells C.look O.look O.refuses self.old self.new result }
-        ensures minds { MindsLinksIn C.tells O.tells C.look O.look O.refuses O.upload_left
+        ensures fact { HoldsAfter C.Link O.Link O.Upstream.own self.old self.new result }
+        ensures minds { MindsLinksIn C.Link O.Link O.Upstream.own
             self.old self.new phase result }
         ensures leaves { IfTold C.tells O.tells
-            (LeavesSides phase (view_of C.look O.look self.old) (view_of C.look O.look self.new)) }
-        ensures falls { StepFallsFrom C.tells O.tells C.look O.look O.upload_left self.old self.new
+            (LeavesSides phase (view_of C.Link O.Link self.old) (view_of C.Link O.Link self.new)) }
+        ensures falls { StepFallsFrom C.Link O.Link O.Upstream.own self.old self.new
             phase result }
-        ensures keeps { StepKeeps C.look O.look O.paired O.refuses self.old self.new }
+        ensures keeps { StepKeeps C.Link O.Link O.Upstream.own self.old self.new }
         ensures waits { WaitsRightly result.next
-            (view_of C.look O.look self.old) (view_of C.look O.look self.new) }
+            (view_of C.Link O.Link self.old) (view_of C.Link O.Link self.new) }
     {
         match phase {
             Phase::Fresh => Step {

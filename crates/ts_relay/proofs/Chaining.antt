@@ -30,7 +30,8 @@ drives_still : {P : Type 0} (step : BodyStep) (d : DrivenChain P) (now : Context
 drives_still S.Lacks d now = tt
 drives_still _ d now = inl refl
 
-pub chain_still : {P : Type 0} (step : BodyStep) (most : ℕ) (d : DrivenChain P) (a : Context) → a.log.state.held ≡ true → StepsChain step most d d a a
+pub chain_still : {P : Type 0} (step : BodyStep) (most : ℕ) (d : DrivenChain P) (a : Context)
+    → a.log.state.held ≡ true → StepsChain step most d d a a
 chain_still step most d a turn = record {
   adds = record { grows = grows_refl a; keeps = keeps_refl a turn; few = few_refl a most };
   driven = λ first h. h;
@@ -44,33 +45,44 @@ chain_still step most d a turn = record {
 
 -- ---- a stage was roused, or could not be
 
-pub drives_after : {P : Type 0} (r : Result ⊤ SetFault) (d e : DrivenChain P) (before now : Context) → Loses r d e before now → DrivesOn (step_after r) d e now
+pub drives_after : {P : Type 0} (r : Result ⊤ SetFault) (d e : DrivenChain P) (before now : Context)
+    → Loses r d e before now → DrivesOn (step_after r) d e now
 drives_after (Ok x) d e before now loses = inl loses.0
 drives_after (Err F.Spent) d e before now loses = inr loses.2
 drives_after _ d e before now loses = tt
 
 -- used-up numbers do not lack memory
-pub not_spent : {P : Type 0} (r : Result ⊤ SetFault) (d e : DrivenChain P) (a b : Context) (step : BodyStep) → step ≡ step_after r → Loses r d e a b → IsNotSpent step e
-not_spent (Ok x) d e a b step is loses lacks spent = absurd (let wrong : S.Goes ≡ S.Lacks = sym is ∙ lacks in cc)
-not_spent (Err F.Spent) d e a b step is loses lacks spent = absurd (let wrong : S.Goes ≡ S.Lacks = sym is ∙ lacks in cc)
-not_spent (Err F.NoMemory) d e a b step is loses lacks spent = absurd (let wrong : ◌≡◌ {A = Option Loss} (Some L.NoMemory) (Some L.Spent) = sym loses.1 ∙ spent in cc)
-not_spent (Err F.Dead) d e a b step is loses lacks spent = absurd (let wrong : ◌≡◌ {A = Option Loss} (Some L.Dead) (Some L.Spent) = sym loses.1 ∙ spent in cc)
+pub not_spent : {P : Type 0} (r : Result ⊤ SetFault) (d e : DrivenChain P) (a b : Context) (step : BodyStep)
+    → step ≡ step_after r → Loses r d e a b → IsNotSpent step e
+not_spent (Ok x) d e a b step is loses lacks spent = absurd (let wrong : S.Goes ≡ S.Lacks = sym is
+    ∙ lacks in cc)
+not_spent (Err F.Spent) d e a b step is loses lacks spent = absurd (let wrong : S.Goes ≡ S.Lacks = sym is
+    ∙ lacks in cc)
+not_spent (Err F.NoMemory) d e a b step is loses lacks spent = absurd (let wrong : ◌≡◌ {A = Option Loss}
+    (Some L.NoMemory) (Some L.Spent) = sym loses.1 ∙ spent in cc)
+not_spent (Err F.Dead) d e a b step is loses lacks spent = absurd (let wrong : ◌≡◌ {A = Option Loss}
+    (Some L.Dead) (Some L.Spent) = sym loses.1 ∙ spent in cc)
 
 pub goes_unspent : {P : Type 0} (e : DrivenChain P) → IsNotSpent S.Goes e
 goes_unspent e lacks spent = let wrong : S.Goes ≡ S.Lacks = lacks in cc
 
-pub lost_unspent : {P : Type 0} (loss : Loss) (e : DrivenChain P) → e.lost ≡ Some loss → (loss ≡ L.Spent → ⊥) → IsNotSpent S.Lacks e
+pub lost_unspent : {P : Type 0} (loss : Loss) (e : DrivenChain P) → e.lost ≡ Some loss → (loss ≡ L.Spent → ⊥)
+    → IsNotSpent S.Lacks e
 lost_unspent loss e lost other lacks spent =
     let both : ◌≡◌ {A = Option Loss} (Some loss) (Some L.Spent) = sym lost ∙ spent in
     other (let same : loss ≡ L.Spent = cc in same)
 
 -- whatever rouses a stage is of one
-of_rouses : {P : Type 0} (pause : P → ℕ) (c : ChainState P) (ts : List (Option StageContinuation)) (a b : Context) → OnlyRouses pause c ts a b → OnlyOfStages ts a b
+of_rouses : {P : Type 0} (pause : P → ℕ) (c : ChainState P) (ts : List (Option StageContinuation))
+    (a b : Context) → OnlyRouses pause c ts a b → OnlyOfStages ts a b
 of_rouses pause c ts a b only first named =
-    only_weaker (IsRousing pause first c ts a.moment a.roles) (IsOfRoleFrom first a.roles) a b (λ p h. record { place = h.at; role_is = h.of_stage.role_is }) (only first named)
+    only_weaker (IsRousing pause first c ts a.moment a.roles) (IsOfRoleFrom first a.roles) a b
+    (λ p h. record { place = h.at; role_is = h.of_stage.role_is }) (only first named)
 
-pub chain_after : {P Live : Type 0} (most : ℕ) (r : Result ⊤ SetFault) (d e : DrivenChain P) (a b : Context) → AddsEvents most Live r a b → StaysDriven d e a b → Loses r d e a b
-    → SameSeats d e a b → (pause : P → ℕ) → OnlyRouses pause e.chain d.table.items a b → (EndsInOrder d.chain.given d.chain.stages → EndsInOrder e.chain.given e.chain.stages)
+pub chain_after : {P Live : Type 0} (most : ℕ) (r : Result ⊤ SetFault) (d e : DrivenChain P) (a b : Context)
+    → AddsEvents most Live r a b → StaysDriven d e a b → Loses r d e a b
+    → SameSeats d e a b → (pause : P → ℕ) → OnlyRouses pause e.chain d.table.items a b
+    → (EndsInOrder d.chain.given d.chain.stages → EndsInOrder e.chain.given e.chain.stages)
     → StepsChain (step_after r) most d e a b
 chain_after most r d e a b adds driven loses seats pause only ordered = record {
   adds = record { grows = adds.grows; keeps = adds.keeps; few = adds.few };
@@ -88,36 +100,58 @@ chain_after most r d e a b adds driven loses seats pause only ordered = record {
 pub grows_next : (a b : Context) → IsOrderly a → Grows a b → a.log.state.next ≤ b.log.state.next
 grows_next a b orderly grows = (extends_later a.log b.log grows.log.own orderly.valid grows.log.by).next
 
-on_then : {P : Type 0} (d e f : DrivenChain P) (b c : Context) → b.log.state.next ≤ c.log.state.next → (e.running ≡ d.running) ⊎ (GREATEST ≤ b.log.state.next)
-    → (f.running ≡ e.running) ⊎ (GREATEST ≤ c.log.state.next) → (f.running ≡ d.running) ⊎ (GREATEST ≤ c.log.state.next)
+on_then : {P : Type 0} (d e f : DrivenChain P) (b c : Context) → b.log.state.next ≤ c.log.state.next
+    → (e.running ≡ d.running) ⊎ (GREATEST ≤ b.log.state.next)
+    → (f.running ≡ e.running) ⊎ (GREATEST ≤ c.log.state.next) → (f.running ≡ d.running)
+    ⊎ (GREATEST ≤ c.log.state.next)
 on_then d e f b c later (inl on) (inl next) = inl (next ∙ on)
 on_then d e f b c later (inl on) (inr spent) = inr spent
 on_then d e f b c later (inr spent) next = inr (omega (arith, spent, later))
 
-drives_then : {P : Type 0} (step : BodyStep) (d e f : DrivenChain P) (b c : Context) → b.log.state.next ≤ c.log.state.next → DrivesOn S.Goes d e b → DrivesOn step e f c
+drives_then : {P : Type 0} (step : BodyStep) (d e f : DrivenChain P) (b c : Context)
+    → b.log.state.next ≤ c.log.state.next → DrivesOn S.Goes d e b → DrivesOn step e f c
     → DrivesOn step d f c
 drives_then S.Lacks d e f b c later on next = tt
 drives_then _ d e f b c later on next = on_then d e f b c later on next
 
-pub chain_then : {P : Type 0} (step : BodyStep) (m n : ℕ) (d e f : DrivenChain P) (a b c : Context) → IsOrderly b → StepsChain S.Goes m d e a b → StepsChain step n e f b c → IsNotSpent step f
+pub chain_then : {P : Type 0} (step : BodyStep) (m n : ℕ) (d e f : DrivenChain P) (a b c : Context)
+    → IsOrderly b → StepsChain S.Goes m d e a b → StepsChain step n e f b c → IsNotSpent step f
     → StepsChain step (m + n) d f a c
 chain_then step m n d e f a b c orderly h k unspent = record {
-  adds = record { grows = grows_trans h.adds.grows k.adds.grows; keeps = keeps_trans h.adds.keeps k.adds.keeps; few = few_trans m n h.adds.few k.adds.few };
+  adds = record {
+    grows = grows_trans h.adds.grows k.adds.grows;
+    keeps = keeps_trans h.adds.keeps
+        k.adds.keeps;
+    few = few_trans m n h.adds.few k.adds.few;
+  };
   driven = λ first was. k.driven first (h.driven first was);
   on = drives_then step d e f b c (grows_next b c orderly k.adds.grows) h.on k.on;
   spent = λ lacks spent. absurd (unspent lacks spent);
   falls = λ runs. h.falls (k.falls runs);
-  seats = record { same = k.seats.same ∙ h.seats.same; seated = λ others was. k.seats.seated others (h.seats.seated others was) };
+  seats = record {
+    same = k.seats.same ∙ h.seats.same;
+    seated = λ others was. k.seats.seated others
+        (h.seats.seated others was);
+  };
   only = λ first named. only_trans (IsOfRoleFrom first a.roles) a b c (h.only first named) k.adds.keeps
-      (subst (λ roles. SetsOnly (IsOfRoleFrom first roles) b c) h.adds.keeps.roles (k.only first (named_kept first a b d.table.items e.table.items h.adds.keeps h.seats.same named)));
+      (subst (λ roles. SetsOnly (IsOfRoleFrom first roles) b c) h.adds.keeps.roles
+      (k.only first (named_kept first a b d.table.items e.table.items h.adds.keeps h.seats.same named)));
   ordered = λ was. k.ordered (h.ordered was);
 }
 
 few_more : (m n : ℕ) (a b : Context) → m ≤ n → SetsFew m a b → SetsFew n a b
-few_more m n a b more few = record { next = omega (arith, more, few.next); pending = omega (arith, more, few.pending) }
+few_more m n a b more few = record {
+  next = omega (arith, more, few.next);
+  pending = omega (
+    arith,
+    more,
+    few.pending,
+  );
+}
 
 -- fewer events are no more
-pub chain_more : {P : Type 0} (step : BodyStep) (m n : ℕ) (d e : DrivenChain P) (a b : Context) → m ≤ n → StepsChain step m d e a b → StepsChain step n d e a b
+pub chain_more : {P : Type 0} (step : BodyStep) (m n : ℕ) (d e : DrivenChain P) (a b : Context) → m ≤ n
+    → StepsChain step m d e a b → StepsChain step n d e a b
 chain_more step m n d e a b more h = record {
   adds = record { grows = h.adds.grows; keeps = h.adds.keeps; few = few_more m n a b more h.adds.few };
   driven = h.driven;
@@ -131,25 +165,36 @@ chain_more step m n d e a b more h = record {
 
 -- ---- a stage ends only behind those before it
 
-given_order : {P : Type 0} (c d : ChainState P) → d.stages ≡ c.stages → (c.given ≡ true → d.given ≡ true) → EndsInOrder c.given c.stages → EndsInOrder d.given d.stages
-given_order c d stages up ordered = subst (EndsInOrder d.given) (sym stages) (by_given c.given d.given up ordered)
+given_order : {P : Type 0} (c d : ChainState P) → d.stages ≡ c.stages → (c.given ≡ true → d.given ≡ true)
+    → EndsInOrder c.given c.stages → EndsInOrder d.given d.stages
+given_order c d stages up ordered = subst (EndsInOrder d.given) (sym stages) (by_given c.given d.given up
+    ordered)
   where
     by_given : (b x : Bool) → (b ≡ true → x ≡ true) → EndsInOrder b c.stages → EndsInOrder x c.stages
     by_given false x up h = order_any x c.stages h
     by_given true x up h = subst (λ (y : Bool). EndsInOrder y c.stages) (sym (up refl)) h
 
-pub taken_order : {P : Type 0} (rest : P → List ℕ → List ℕ) (n : ℕ) (c d : ChainState P) → TakesAway rest n c d → EndsInOrder c.given c.stages → EndsInOrder d.given d.stages
-taken_order rest n c d takes ordered = subst (λ (b : Bool). EndsInOrder b d.stages) (sym takes.given) (takes_order c.given c.first c.stages n d.first d.stages takes.takes ordered)
+pub taken_order : {P : Type 0} (rest : P → List ℕ → List ℕ) (n : ℕ) (c d : ChainState P)
+    → TakesAway rest n c d → EndsInOrder c.given c.stages → EndsInOrder d.given d.stages
+taken_order rest n c d takes ordered = subst (λ (b : Bool). EndsInOrder b d.stages) (sym takes.given)
+    (takes_order c.given c.first c.stages n d.first d.stages takes.takes ordered)
 
 -- where bytes came to the chain, or its end
-pub given_end : {P : Type 0} (c d : ChainState P) → d ≡ record c { given = true } → EndsInOrder c.given c.stages → EndsInOrder d.given d.stages
-given_end c d is = given_order c d (ap (λ (k : ChainState _). k.stages) is) (λ up. ap (λ (k : ChainState _). k.given) is)
+pub given_end : {P : Type 0} (c d : ChainState P) → d ≡ record c { given = true }
+    → EndsInOrder c.given c.stages → EndsInOrder d.given d.stages
+given_end c d is = given_order c d (ap (λ (k : ChainState _). k.stages) is) (λ up. ap (λ (k : ChainState _).
+    k.given) is)
 
-same_order : {P : Type 0} (c d : ChainState P) → d.stages ≡ c.stages → d.given ≡ c.given → EndsInOrder c.given c.stages → EndsInOrder d.given d.stages
+same_order : {P : Type 0} (c d : ChainState P) → d.stages ≡ c.stages → d.given ≡ c.given
+    → EndsInOrder c.given c.stages → EndsInOrder d.given d.stages
 same_order c d stages same = given_order c d stages (λ up. same ∙ up)
 
-pub given_bytes : {P : Type 0} (rest : P → List ℕ → List ℕ) (r : Result ⊤ SetFault) (part : List ℕ) (c d : ChainState P) → Gives r rest part c d → EndsInOrder c.given c.stages
+pub given_bytes : {P : Type 0} (rest : P → List ℕ → List ℕ) (r : Result ⊤ SetFault) (part : List ℕ)
+    (c d : ChainState P) → Gives r rest part c d → EndsInOrder c.given c.stages
     → EndsInOrder d.given d.stages
-given_bytes rest (Ok x) part c d gives = same_order c d (ap (λ (k : ChainState _). k.stages) gives.chain) (ap (λ (k : ChainState _). k.given) gives.chain)
-given_bytes rest (Err fault) part c d (inl gives) = same_order c d (ap (λ (k : ChainState _). k.stages) gives.chain) (ap (λ (k : ChainState _). k.given) gives.chain)
-given_bytes rest (Err fault) part c d (inr (lacks, same)) = same_order c d (ap (λ (k : ChainState _). k.stages) same) (ap (λ (k : ChainState _). k.given) same)
+given_bytes rest (Ok x) part c d gives = same_order c d (ap (λ (k : ChainState _). k.stages) gives.chain)
+    (ap (λ (k : ChainState _). k.given) gives.chain)
+given_bytes rest (Err fault) part c d (inl gives) = same_order c d (ap (λ (k : ChainState _). k.stages)
+    gives.chain) (ap (λ (k : ChainState _). k.given) gives.chain)
+given_bytes rest (Err fault) part c d (inr (lacks, same)) = same_order c d
+    (ap (λ (k : ChainState _). k.stages) same) (ap (λ (k : ChainState _). k.given) same)

@@ -1,4 +1,5 @@
--- The duties of a body: what a stage's event keeps, who is roused, and that none is left where nothing is pending.
+-- The duties of a body: what a stage's event keeps, who is roused, and that none is left where nothing is
+-- pending.
 use Rattle.std.proofs.Common.{◌≡◌, ℕ, ◌≤◌, ◌⊎◌, inl, inr, List, [], ◌∷◌, ◌++◌, Bool, true, false, Option, Some, None, Result, Ok, Err, refl, sym, ap, subst, ◌∙◌, arith}
 use Rattle.std.specs.Prelude.{OnOk, ⊤}
 use Rattle.std.specs.Bool.{OnTrue}
@@ -32,14 +33,17 @@ use Rattle.ts_relay.proofs.Chaining.{grows_next}
 -- ---- a stage's event
 
 -- what was sent, and what the chain still gives, is as it was
-pub stage_keeps : {P : Type 0} (setup : Setup) (refuses : Type 0) (rest : P → List ℕ → List ℕ) (v : View) (c d : ChainState P) (place : Place)
-    (ts us : List (Option StageContinuation)) (a b : Context) → StillGives rest c d ts us a b → RelaysBody setup refuses rest v c place → RelaysBody setup refuses rest v d place
+pub stage_keeps : {P : Type 0} (setup : Setup) (refuses : Type 0) (rest : P → List ℕ → List ℕ) (v : View)
+    (c d : ChainState P) (place : Place)
+    (ts us : List (Option StageContinuation)) (a b : Context) → StillGives rest c d ts us a b
+    → RelaysBody setup refuses rest v c place → RelaysBody setup refuses rest v d place
 stage_keeps setup refuses rest v c d place ts us a b gives r = record {
   q = r.q;
   h = r.h;
   read = r.read;
   reads = r.reads;
-  gives_end = subst (λ (g : Bool). GivesEnd setup refuses r.q r.h v.origin place g) (sym gives.given) r.gives_end;
+  gives_end = subst (λ (g : Bool). GivesEnd setup refuses r.q r.h v.origin place g) (sym gives.given)
+      r.gives_end;
   sends = record {
     count = r.sends.count;
     some = r.sends.some;
@@ -54,8 +58,10 @@ stage_keeps setup refuses rest v c d place ts us a b gives r = record {
 
 -- ---- the ends are roused
 
-rouses_by : (r : Result ⊤ SetFault) (must : Bool) (Live : Type 0) (t u : Option StageContinuation) (a b : Context) → AddsEvents 1 Live r a b
-    → (must ≡ true → OnOk r (IsRousedIf u)) → OnGoes (step_after r) ((must ≡ true → IsRousedIf u) ⊎ (GREATEST ≤ b.log.state.next))
+rouses_by : (r : Result ⊤ SetFault) (must : Bool) (Live : Type 0) (t u : Option StageContinuation)
+    (a b : Context) → AddsEvents 1 Live r a b
+    → (must ≡ true → OnOk r (IsRousedIf u)) → OnGoes (step_after r) ((must ≡ true → IsRousedIf u)
+    ⊎ (GREATEST ≤ b.log.state.next))
 rouses_by (Ok x) must Live t u a b adds roused = inl roused
 rouses_by (Err F.Spent) must Live t u a b adds roused = inr adds.cause
 rouses_by (Err F.NoMemory) must Live t u a b adds roused = tt
@@ -66,26 +72,34 @@ rests_by : {X Y : Type 0} (must : Bool) → ((must ≡ false) ⊎ X → Y) → (
 rests_by true rests roused = rests (inr (roused refl))
 rests_by false rests roused = rests (inl refl)
 
-pub rouses_one : (r : Result ⊤ SetFault) (must : Bool) (Live : Type 0) (t u : Option StageContinuation) (a b : Context) (step : BodyStep) → step ≡ step_after r
-    → AddsEvents 1 Live r a b → KeepsStage a b t u → KeepsSeated (t ∷ []) (u ∷ []) a b → (must ≡ true → OnOk r (IsRousedIf u)) → ((must ≡ false) ⊎ IsRousedIf t → b ≡ a) → RousesOne step must t u a b
+pub rouses_one : (r : Result ⊤ SetFault) (must : Bool) (Live : Type 0) (t u : Option StageContinuation)
+    (a b : Context) (step : BodyStep) → step ≡ step_after r
+    → AddsEvents 1 Live r a b → KeepsStage a b t u → KeepsSeated (t ∷ []) (u ∷ []) a b
+    → (must ≡ true → OnOk r (IsRousedIf u)) → ((must ≡ false) ⊎ IsRousedIf t → b ≡ a)
+    → RousesOne step must t u a b
 rouses_one r must Live t u a b step is adds stage seated roused rests = record {
   adds = record { grows = adds.grows; keeps = adds.keeps; few = adds.few };
   stage = stage;
   seated = seated;
-  roused = subst (λ (s : BodyStep). OnGoes s ((must ≡ true → IsRousedIf u) ⊎ (GREATEST ≤ b.log.state.next))) (sym is) (rouses_by r must Live t u a b adds roused);
+  roused = subst (λ (s : BodyStep). OnGoes s ((must ≡ true → IsRousedIf u) ⊎ (GREATEST ≤ b.log.state.next)))
+      (sym is) (rouses_by r must Live t u a b adds roused);
   rests = rests_by must rests;
 }
 
-both_roused : (step : BodyStep) (writes reads : Bool) (u s : Option StageContinuation) (b c : Context) → b.log.state.next ≤ c.log.state.next
-    → (writes ≡ true → IsRousedIf u) ⊎ (GREATEST ≤ b.log.state.next) → OnGoes step ((reads ≡ true → IsRousedIf s) ⊎ (GREATEST ≤ c.log.state.next))
-    → OnGoes step (((writes ≡ true → IsRousedIf u) × (reads ≡ true → IsRousedIf s)) ⊎ (GREATEST ≤ c.log.state.next))
+both_roused : (step : BodyStep) (writes reads : Bool) (u s : Option StageContinuation) (b c : Context)
+    → b.log.state.next ≤ c.log.state.next
+    → (writes ≡ true → IsRousedIf u) ⊎ (GREATEST ≤ b.log.state.next)
+    → OnGoes step ((reads ≡ true → IsRousedIf s) ⊎ (GREATEST ≤ c.log.state.next))
+    → OnGoes step (((writes ≡ true → IsRousedIf u) × (reads ≡ true → IsRousedIf s))
+    ⊎ (GREATEST ≤ c.log.state.next))
 both_roused S.Goes writes reads u s b c later (inl main) (inl reader) = inl (main, reader)
 both_roused S.Goes writes reads u s b c later (inl main) (inr spent) = inr spent
 both_roused S.Goes writes reads u s b c later (inr spent) next = inr (omega (arith, spent, later))
 both_roused S.Lacks writes reads u s b c later main next = tt
 both_roused _ writes reads u s b c later main next = absurd next
 
-pub rouses_both : (step : BodyStep) (writes reads : Bool) (t u r s : Option StageContinuation) (a b c : Context) → IsOrderly b → RousesOne S.Goes writes t u a b
+pub rouses_both : (step : BodyStep) (writes reads : Bool) (t u r s : Option StageContinuation)
+    (a b c : Context) → IsOrderly b → RousesOne S.Goes writes t u a b
     → RousesOne step reads r s b c → RousesBoth step writes reads t u r s a c
 rouses_both step writes reads t u r s a b c orderly main reader = record {
   adds = record {
@@ -96,16 +110,29 @@ rouses_both step writes reads t u r s a b c orderly main reader = record {
   main = λ role h. kept_if b c reader.adds.keeps role u (main.stage.of_stage role h);
   reader = λ role h. reader.stage.of_stage role (kept_if a b main.adds.keeps role r h);
   same = (main.stage.same, reader.stage.same);
-  seated = λ ts. seated_then (t ∷ r ∷ ts) (u ∷ r ∷ ts) (u ∷ s ∷ ts) a b c (seated_front t u (r ∷ ts) a b main.seated)
+  seated = λ ts. seated_then (t ∷ r ∷ ts) (u ∷ r ∷ ts) (u ∷ s ∷ ts) a b c (seated_front t u (r ∷ ts) a b
+      main.seated)
       (seated_behind u (r ∷ ts) (s ∷ ts) b c (seated_front r s ts b c reader.seated));
-  roused = both_roused step writes reads u s b c (grows_next b c orderly reader.adds.grows) main.roused reader.roused;
+  roused = both_roused step writes reads u s b c (grows_next b c orderly reader.adds.grows) main.roused
+      reader.roused;
   rests = λ of_main of_reader. reader.rests of_reader ∙ main.rests of_main;
 }
 
 -- memory lacked for the first
-pub rouses_lacks : (step : BodyStep) (writes reads : Bool) (t u r : Option StageContinuation) (a b : Context) → RousesOne step writes t u a b → RousesBoth S.Lacks writes reads t u r r a b
+pub rouses_lacks : (step : BodyStep) (writes reads : Bool) (t u r : Option StageContinuation) (a b : Context)
+    → RousesOne step writes t u a b → RousesBoth S.Lacks writes reads t u r r a b
 rouses_lacks step writes reads t u r a b main = record {
-  adds = record { grows = main.adds.grows; keeps = main.adds.keeps; few = record { next = omega (arith, main.adds.few.next); pending = omega (arith, main.adds.few.pending) } };
+  adds = record {
+    grows = main.adds.grows;
+    keeps = main.adds.keeps;
+    few = record {
+      next = omega (
+        arith,
+        main.adds.few.next,
+      );
+      pending = omega (arith, main.adds.few.pending);
+    };
+  };
   main = main.stage.of_stage;
   reader = λ role h. kept_if a b main.adds.keeps role r h;
   same = (main.stage.same, refl);
@@ -117,14 +144,17 @@ rouses_lacks step writes reads t u r a b main = record {
 -- ---- no wake is lost
 
 -- nobody is roused where nothing is pending
-pub none_pending : (roles : List Named) (role : ℕ) (t : Option StageContinuation) → IsOfStageIf [] roles role t → IsRousedIf t → ⊥
+pub none_pending : (roles : List Named) (role : ℕ) (t : Option StageContinuation) → IsOfStageIf [] roles role
+    t → IsRousedIf t → ⊥
 none_pending roles role None h roused = roused
 none_pending roles role (Some t) h roused =
     let e = h.event roused in
     absurd (let wrong : ◌≡◌ {A = Option Pending} None (Some e.event) = e.there in cc)
 
--- with nothing pending no body is passed on: its chain would have given all, and the first continuation would be roused
-pub no_lost_wake : {P : Type 0} (v : View) (main : Option StageContinuation) (r : Relay P) (roles : List Named) → IsBodyJoined main r [] roles → r.driven.running ≡ true
+-- with nothing pending no body is passed on: its chain would have given all, and the first continuation would
+-- be roused
+pub no_lost_wake : {P : Type 0} (v : View) (main : Option StageContinuation) (r : Relay P)
+    (roles : List Named) → IsBodyJoined main r [] roles → r.driven.running ≡ true
     → AreBodyEndsRoused v main r → EndsInOrder r.driven.chain.given r.driven.chain.stages → ⊥
 no_lost_wake v main r roles joined runs ends ordered =
     let all = all_carried r.driven.chain r.driven.table.items main r.reader roles (joined runs)

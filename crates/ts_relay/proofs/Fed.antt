@@ -18,28 +18,43 @@ use Rattle.ts_wire.proofs.PlaceBody.{place_body}
 use Rattle.ts_relay.specs.Feeding.{EndsHere, FeedsBody, GetsPart}
 
 -- what a reader took of the first block is a front of all that waits
-block_taken : (before after block : List ℕ) (n : ℕ) → block ≡ take (length block) before → n ≤ length block → after ≡ drop n before → before ≡ take n block ++ after
+block_taken : (before after block : List ℕ) (n : ℕ) → block ≡ take (length block) before → n ≤ length block
+    → after ≡ drop n before → before ≡ take n block ++ after
 block_taken before after block n front within left =
     sym (take-append-drop n before)
-    ∙ ap (λ (x : List ℕ). x ++ drop n before) (sym (ap (take n) front ∙ take-take n (length block) before within))
+    ∙ ap (λ (x : List ℕ). x ++ drop n before) (sym (ap (take n) front ∙ take-take n (length block) before
+    within))
     ∙ ap (λ (x : List ℕ). take n block ++ x) (sym left)
 
 -- no more of it is body
-part_within : (block : List ℕ) (from to n : ℕ) → from ≤ to → to ≤ n → n ≤ length block → length (slice_range block from to) ≤ length (take n block)
+part_within : (block : List ℕ) (from to n : ℕ) → from ≤ to → to ≤ n → n ≤ length block
+    → length (slice_range block from to) ≤ length (take n block)
 part_within block from to n ordered within taken =
-    omega (arith, ordered, within, taken, length-slice_range block from to ordered (omega (arith, within, taken)), length-take n block)
+    omega (
+      arith,
+      ordered,
+      within,
+      taken,
+      length-slice_range block from to ordered
+          (omega (arith, within, taken)),
+      length-take n block,
+    )
 
 -- some of a block is used, until the body is over
-takes_some : (old new : Place) (block : List ℕ) (fed : wire.Fed) → 0 < length block → TakesBytes old new block fed → state_of old.phase ≡ B.Unfinished
+takes_some : (old new : Place) (block : List ℕ) (fed : wire.Fed) → 0 < length block → TakesBytes old new block
+    fed → state_of old.phase ≡ B.Unfinished
     → (0 < length (take fed.taken block)) ⊎ (state_of new.phase ≢ B.Unfinished)
 takes_some old new block fed some takes is = by_progress (takes.progress some is)
   where
-    by_progress : (0 < fed.taken) ⊎ (fed.state ≢ B.Unfinished) → (0 < length (take fed.taken block)) ⊎ (state_of new.phase ≢ B.Unfinished)
+    by_progress : (0 < fed.taken) ⊎ (fed.state ≢ B.Unfinished) → (0 < length (take fed.taken block))
+        ⊎ (state_of new.phase ≢ B.Unfinished)
     by_progress (inl taken) = inl (omega (arith, taken, takes.taken, length-take fed.taken block))
     by_progress (inr over) = inr (λ e. over (takes.state ∙ e))
 
-pub feeds_by : {P : Type 0} (old new : Place) (before after block : List ℕ) (fed : wire.Fed) (c d : ChainState P) → 0 < length block → block ≡ take (length block) before
-    → TakesBytes old new block fed → GoesOn old new (take fed.taken block) (slice_range block fed.from fed.to) → after ≡ drop fed.taken before
+pub feeds_by : {P : Type 0} (old new : Place) (before after block : List ℕ) (fed : wire.Fed) (c d : ChainState
+    P) → 0 < length block → block ≡ take (length block) before
+    → TakesBytes old new block fed → GoesOn old new (take fed.taken block) (slice_range block fed.from fed.to)
+    → after ≡ drop fed.taken before
     → GetsPart fed.state (slice_range block fed.from fed.to) c d → FeedsBody old new before after c d
 feeds_by old new before after block fed c d some front takes goes left gets = record {
   piece = take fed.taken block;
@@ -54,21 +69,27 @@ feeds_by old new before after block fed c d some front takes goes left gets = re
 -- ---- whether a body ends with its bytes
 
 abbrev CutLaw : BodyEnd → Place → Type 0
-CutLaw end place = (framing : Framing) (fed read : List ℕ) → IsFed framing fed read place → ((end ≡ N.Cut) ↔ IsCutShort framing fed read)
+CutLaw end place = (framing : Framing) (fed read : List ℕ) → IsFed framing fed read place
+    → ((end ≡ N.Cut) ↔ IsCutShort framing fed read)
 
-unfinished : (framing : Framing) (fed read : List ℕ) (place : Place) → state_of place.phase ≡ B.Unfinished → IsFed framing fed read place → BodyOf framing fed read B.Unfinished
+unfinished : (framing : Framing) (fed read : List ℕ) (place : Place) → state_of place.phase ≡ B.Unfinished
+    → IsFed framing fed read place → BodyOf framing fed read B.Unfinished
 unfinished framing fed read place state is =
     subst (BodyOf framing fed read) state
     (subst (λ (f : List ℕ). BodyOf framing f read (state_of place.phase)) (append-nil fed)
-    (place_body framing fed read place.held place.phase place.total is.stands is.counted is.sound [] (λ goes. refl)))
+    (place_body framing fed read place.held place.phase place.total is.stands is.counted is.sound []
+    (λ goes. refl)))
 
-up_to_close : (framing : Framing) (fed read : List ℕ) → BodyOf framing fed read B.Unfinished → (IsCutShort framing fed read → N.Ended ≡ N.Cut) → framing ≡ G.UntilClose
+up_to_close : (framing : Framing) (fed read : List ℕ) → BodyOf framing fed read B.Unfinished
+    → (IsCutShort framing fed read → N.Ended ≡ N.Cut) → framing ≡ G.UntilClose
 up_to_close G.UntilClose fed read body law = refl
-up_to_close other fed read body law = absurd (let wrong : N.Ended ≡ N.Cut = law (body, λ e. (let no : other ≡ G.UntilClose = e in cc)) in cc)
+up_to_close other fed read body law = absurd (let wrong : N.Ended ≡ N.Cut = law
+    (body, λ e. (let no : other ≡ G.UntilClose = e in cc)) in cc)
 
 pub ends_closed : (place : Place) → CutLaw N.Ended place → EndsHere true place
 ends_closed place law = record {
-  closes = λ so framing fed read state is. up_to_close framing fed read (unfinished framing fed read place state is) (law framing fed read is).1;
+  closes = λ so framing fed read state is. up_to_close framing fed read (unfinished framing fed read place
+      state is) (law framing fed read is).1;
   cuts = λ no. absurd (true≢false no);
 }
 

@@ -33,8 +33,10 @@ module _ (setup : Setup) (refuses : Type 0) where
 
   -- ---- a write of what was queued
 
-  relayed_side : (t : Bool) (v : View) (s : LinkSide) (p : Pushed) (done fin : Bool) (sent : List ℕ) → t ≡ true → SideWrites t v.client s p
-      → all_of s.look ≡ all_of v.client.look → Relayed setup refuses v done fin sent → Relayed setup refuses (record v { client = s }) done fin sent
+  relayed_side : (t : Bool) (v : View) (s : LinkSide) (p : Pushed) (done fin : Bool) (sent : List ℕ)
+      → t ≡ true → SideWrites t v.client s p
+      → all_of s.look ≡ all_of v.client.look → Relayed setup refuses v done fin sent
+      → Relayed setup refuses (record v { client = s }) done fin sent
   relayed_side t v s p done fin sent told writes all h = record {
     q = h.q;
     h = h.h;
@@ -52,11 +54,14 @@ module _ (setup : Setup) (refuses : Type 0) where
     whole = h.whole;
   }
 
-  block_side : (t : Bool) (v : View) (s : LinkSide) (p : Pushed) (end : TxnEnd) (fin : Bool) → t ≡ true → SideWrites t v.client s p
-      → all_of s.look ≡ all_of v.client.look → QueuesBlock setup refuses v end fin → QueuesBlock setup refuses (record v { client = s }) end fin
+  block_side : (t : Bool) (v : View) (s : LinkSide) (p : Pushed) (end : TxnEnd) (fin : Bool) → t ≡ true
+      → SideWrites t v.client s p
+      → all_of s.look ≡ all_of v.client.look → QueuesBlock setup refuses v end fin → QueuesBlock setup refuses
+      (record v { client = s }) end fin
   block_side t v s p end fin told writes all h = record {
     block = h.block;
-    is_block = subst (λ (c : List ℕ). IsBlock setup v.dialed refuses (all_of v.origin.look) c h.block) (sym all) h.is_block;
+    is_block = subst (λ (c : List ℕ). IsBlock setup v.dialed refuses (all_of v.origin.look) c h.block)
+        (sym all) h.is_block;
     ends = h.ends;
     took = h.took;
     mode = h.mode;
@@ -66,17 +71,26 @@ module _ (setup : Setup) (refuses : Type 0) where
     relayed = relayed_side t v s p fin fin h.sent told writes all h.relayed;
   }
 
-  queues_side : (t : Bool) (v : View) (s : LinkSide) (p : Pushed) (end : TxnEnd) → t ≡ true → SideWrites t v.client s p
-      → all_of s.look ≡ all_of v.client.look → QueuesFor setup refuses v end → QueuesFor setup refuses (record v { client = s }) end
+  queues_side : (t : Bool) (v : View) (s : LinkSide) (p : Pushed) (end : TxnEnd) → t ≡ true
+      → SideWrites t v.client s p
+      → all_of s.look ≡ all_of v.client.look → QueuesFor setup refuses v end → QueuesFor setup refuses
+      (record v { client = s }) end
   queues_side t v s p E.Whole told writes all q = block_side t v s p E.Whole true told writes all q
   queues_side t v s p E.OriginCut told writes all q = block_side t v s p E.OriginCut false told writes all q
   queues_side t v s p E.OriginBad told writes all q = block_side t v s p E.OriginBad false told writes all q
   queues_side t v s p E.OriginFault told writes all q =
-      record { failed = q.failed; done = q.done; sent = q.sent; relayed = relayed_side t v s p q.done false q.sent told writes all q.relayed }
+      record {
+        failed = q.failed;
+        done = q.done;
+        sent = q.sent;
+        relayed = relayed_side t v s p q.done false
+            q.sent told writes all q.relayed;
+      }
   queues_side t v s p E.ClientFault told writes all q = q
   queues_side t v s p E.NoMemory told writes all q = q
 
-  finishing_side : (t : Bool) (v : View) (s : LinkSide) (p : Pushed) (end : TxnEnd) → t ≡ true → SideWrites t v.client s p → IsFinishing setup refuses v end
+  finishing_side : (t : Bool) (v : View) (s : LinkSide) (p : Pushed) (end : TxnEnd) → t ≡ true
+      → SideWrites t v.client s p → IsFinishing setup refuses v end
       → IsFinishing setup refuses (record v { client = s }) end
   finishing_side t v s p end told writes h =
       let takes = writes.pushes.told told in
@@ -88,14 +102,17 @@ module _ (setup : Setup) (refuses : Type 0) where
         queues = queues_side t v s p end told writes all h.queues;
       }
 
-  pub finishing_on : (t : Bool) (v w : View) (p : Pushed) (end : TxnEnd) → t ≡ true → IsFinishing setup refuses v end → WritesClient t v w p
+  pub finishing_on : (t : Bool) (v w : View) (p : Pushed) (end : TxnEnd) → t ≡ true
+      → IsFinishing setup refuses v end → WritesClient t v w p
       → IsFinishing setup refuses w end
   finishing_on t v w p end told h writes =
-      subst (λ (x : View). IsFinishing setup refuses x end) (sym writes.others) (finishing_side t v w.client p end told writes.client h)
+      subst (λ (x : View). IsFinishing setup refuses x end) (sym writes.others) (finishing_side t v w.client p
+      end told writes.client h)
 
   -- ---- all of it was written
 
-  ends_by : (v : View) (end : TxnEnd) → v.client.outbox ≡ [] → QueuesFor setup refuses v end → EndsBy setup refuses v end
+  ends_by : (v : View) (end : TxnEnd) → v.client.outbox ≡ [] → QueuesFor setup refuses v end
+      → EndsBy setup refuses v end
   ends_by v E.Whole none q = record {
     block = q.block;
     has = record { is_block = q.is_block; ends = q.ends; took = q.took; no_waits = none; mode = q.mode };
@@ -115,23 +132,43 @@ module _ (setup : Setup) (refuses : Type 0) where
     text = q.text;
     relayed = q.relayed;
   }
-  ends_by v E.OriginFault none q = record { failed = q.failed; no_waits = none; text = ends.cut_off q.done q.sent q.relayed }
+  ends_by v E.OriginFault none q = record {
+    failed = q.failed;
+    no_waits = none;
+    text = ends.cut_off q.done
+        q.sent q.relayed;
+  }
   ends_by v E.ClientFault none q = absurd q
   ends_by v E.NoMemory none q = tt
 
-  pub finished : (t : Bool) (v w : View) (end : TxnEnd) → t ≡ true → IsFinishing setup refuses v end → WritesClient t v w V.Nothing
+  pub finished : (t : Bool) (v w : View) (end : TxnEnd) → t ≡ true → IsFinishing setup refuses v end
+      → WritesClient t v w V.Nothing
       → EndFact setup refuses w end
   finished t v w end told h writes =
       let on = finishing_on t v w V.Nothing end told h writes in
-      record { any = finishing_any w end on; by = ends_by w end (writes.client.pushes.went.1 ∙ writes.client.pushes.went.0) on.queues }
+      record {
+        any = finishing_any w end on;
+        by = ends_by w end (writes.client.pushes.went.1
+            ∙ writes.client.pushes.went.0) on.queues;
+      }
 
   -- the client's link failed
-  pub finish_left : (t : Bool) (v w : View) (end : TxnEnd) → t ≡ true → IsFinishing setup refuses v end → WritesClient t v w V.Failed
+  pub finish_failed : (t : Bool) (v w : View) (end : TxnEnd) → t ≡ true → IsFinishing setup refuses v end
+      → WritesClient t v w V.Failed
       → EndFact setup refuses w E.ClientFault
-  finish_left t v w end told h writes =
-      record { any = finishing_any w end (finishing_on t v w V.Failed end told h writes); by = write_failed t v.client w.client V.Failed refl writes.client h.count }
+  finish_failed t v w end told h writes =
+      record {
+        any = finishing_any w end (finishing_on t v w V.Failed end told h writes);
+        by = write_failed t
+            v.client w.client V.Failed refl writes.client h.count;
+      }
 
   -- memory lacked
-  pub finish_lacks : (t : Bool) (v w : View) (end : TxnEnd) → t ≡ true → IsFinishing setup refuses v end → WritesClient t v w V.NoMemory
+  pub finish_lacks : (t : Bool) (v w : View) (end : TxnEnd) → t ≡ true → IsFinishing setup refuses v end
+      → WritesClient t v w V.NoMemory
       → EndFact setup refuses w E.NoMemory
-  finish_lacks t v w end told h writes = record { any = finishing_any w end (finishing_on t v w V.NoMemory end told h writes); by = tt }
+  finish_lacks t v w end told h writes = record {
+    any = finishing_any w end (finishing_on t v w V.NoMemory end
+        told h writes);
+    by = tt;
+  }

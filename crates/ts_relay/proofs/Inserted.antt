@@ -25,14 +25,21 @@ inserted_none (x ∷ xs) = inr (xs, refl, inserted_none xs)
 
 inserted_length : (n : ℕ) (xs ys : List ℕ) → HasInserted n xs ys → length ys ≤ length xs + n
 inserted_length n xs [] none = omega arith
-inserted_length n xs (y ∷ ys) (inl (m, less, rest)) = let shorter : length ys ≤ length xs + m = inserted_length m xs ys rest in omega (arith, less, shorter)
-inserted_length n xs (y ∷ ys) (inr (zs, same, rest)) = let shorter : length ys ≤ length zs + n = inserted_length n zs ys rest in omega (arith, ap length same, shorter)
+inserted_length n xs (y ∷ ys) (inl (m, less, rest)) = let shorter : length ys ≤ length xs + m =
+    inserted_length m xs ys rest in omega (arith, less, shorter)
+inserted_length n xs (y ∷ ys) (inr (zs, same, rest)) = let shorter : length ys ≤ length zs + n =
+    inserted_length n zs ys rest in omega (arith, ap length same, shorter)
 
 -- behind, and in front
 pub inserted_append : (n : ℕ) (xs ys ts : List ℕ) → HasInserted n xs ys → HasInserted n (xs ++ ts) (ys ++ ts)
-inserted_append n xs [] ts none = subst (λ (zs : List ℕ). HasInserted n (zs ++ ts) ts) (sym none) (inserted_more 0 n ts ts (omega arith) (inserted_none ts))
+inserted_append n xs [] ts none = subst (λ (zs : List ℕ). HasInserted n (zs ++ ts) ts) (sym none)
+    (inserted_more 0 n ts ts (omega arith) (inserted_none ts))
 inserted_append n xs (y ∷ ys) ts (inl (m, less, rest)) = inl (m, less, inserted_append m xs ys ts rest)
-inserted_append n xs (y ∷ ys) ts (inr (zs, same, rest)) = inr (zs ++ ts, ap (λ (us : List ℕ). us ++ ts) same, inserted_append n zs ys ts rest)
+inserted_append n xs (y ∷ ys) ts (inr (zs, same, rest)) = inr (
+  zs ++ ts,
+  ap (λ (us : List ℕ). us ++ ts) same,
+  inserted_append n zs ys ts rest,
+)
 
 inserted_prepend : (n : ℕ) (xs ys ts : List ℕ) → HasInserted n xs ys → HasInserted n (ts ++ xs) (ts ++ ys)
 inserted_prepend n xs ys [] inserted = inserted
@@ -55,43 +62,59 @@ behind_first (x ∷ xs) = xs
 
 inserted_behind_first : (n b : ℕ) (xs ys : List ℕ) → HasInserted n (b ∷ xs) ys → HasInserted (n + 1) xs ys
 inserted_behind_first n b xs [] none = absurd (let wrong : ◌≡◌ {A = List ℕ} (b ∷ xs) [] = none in cc)
-inserted_behind_first n b xs (y ∷ ys) (inl (m, less, rest)) = inl (m + 1, omega (arith, less), inserted_behind_first m b xs ys rest)
+inserted_behind_first n b xs (y ∷ ys) (inl (m, less, rest)) = inl (
+  m + 1,
+  omega (arith, less),
+  inserted_behind_first m b xs ys rest,
+)
 inserted_behind_first n b xs (y ∷ ys) (inr (zs, same, rest)) =
     let tail : xs ≡ zs = ap behind_first same in
     inl (n, omega arith, subst (λ (us : List ℕ). HasInserted n us ys) (sym tail) rest)
 
 inserted_rest : (n b : ℕ) (xs ys : List ℕ) → HasInserted n (b ∷ xs) (b ∷ ys) → HasInserted n xs ys
-inserted_rest n b xs ys (inl (m, less, rest)) = inserted_more (m + 1) n xs ys less (inserted_behind_first m b xs ys rest)
+inserted_rest n b xs ys (inl (m, less, rest)) = inserted_more (m + 1) n xs ys less (inserted_behind_first m b
+    xs ys rest)
 inserted_rest n b xs ys (inr (zs, same, rest)) =
     let tail : xs ≡ zs = ap behind_first same in
     subst (λ (us : List ℕ). HasInserted n us ys) (sym tail) rest
 
 inserted_drop : (n : ℕ) (ts xs ys : List ℕ) → HasInserted n (ts ++ xs) (ts ++ ys) → HasInserted n xs ys
 inserted_drop n [] xs ys inserted = inserted
-inserted_drop n (t ∷ ts) xs ys inserted = inserted_drop n ts xs ys (inserted_rest n t (ts ++ xs) (ts ++ ys) inserted)
+inserted_drop n (t ∷ ts) xs ys inserted = inserted_drop n ts xs ys (inserted_rest n t (ts ++ xs) (ts ++ ys)
+    inserted)
 
 -- ---- the transform lines
 
-inserted_map : (f : ℕ → ℕ) (n : ℕ) (xs ys : List ℕ) → HasInserted n xs ys → HasInserted n (map f xs) (map f ys)
+inserted_map : (f : ℕ → ℕ) (n : ℕ) (xs ys : List ℕ) → HasInserted n xs ys → HasInserted n (map f xs)
+    (map f ys)
 inserted_map f n xs [] none = ap (map f) none
 inserted_map f n xs (y ∷ ys) (inl (m, less, rest)) = inl (m, less, inserted_map f m xs ys rest)
-inserted_map f n xs (y ∷ ys) (inr (zs, same, rest)) = inr (map f zs, ap (map f) same, inserted_map f n zs ys rest)
+inserted_map f n xs (y ∷ ys) (inr (zs, same, rest)) = inr (
+  map f zs,
+  ap (map f) same,
+  inserted_map f n zs ys
+      rest,
+)
 
 less_one : (m n : ℕ) → m + 1 ≤ n → m ≤ n
 less_one m n less = omega (arith, less)
 
 -- a byte that was put in is kept or not
-kept_in : (b : Bool) (y m n : ℕ) (xs ys : List ℕ) → m + 1 ≤ n → HasInserted m xs ys → HasInserted n xs (cond b (y ∷ ys) ys)
+kept_in : (b : Bool) (y m n : ℕ) (xs ys : List ℕ) → m + 1 ≤ n → HasInserted m xs ys
+    → HasInserted n xs (cond b (y ∷ ys) ys)
 kept_in true y m n xs ys less rest = inl (m, less, rest)
 kept_in false y m n xs ys less rest = inserted_more m n xs ys (less_one m n less) rest
 
-kept_both : (b : Bool) (y n : ℕ) (xs ys : List ℕ) → HasInserted n xs ys → HasInserted n (cond b (y ∷ xs) xs) (cond b (y ∷ ys) ys)
+kept_both : (b : Bool) (y n : ℕ) (xs ys : List ℕ) → HasInserted n xs ys → HasInserted n (cond b (y ∷ xs) xs)
+    (cond b (y ∷ ys) ys)
 kept_both true y n xs ys rest = inr (xs, refl, rest)
 kept_both false y n xs ys rest = rest
 
-inserted_filter : (p : ℕ → Bool) (n : ℕ) (xs ys : List ℕ) → HasInserted n xs ys → HasInserted n (filter p xs) (filter p ys)
+inserted_filter : (p : ℕ → Bool) (n : ℕ) (xs ys : List ℕ) → HasInserted n xs ys → HasInserted n (filter p xs)
+    (filter p ys)
 inserted_filter p n xs [] none = ap (filter p) none
-inserted_filter p n xs (y ∷ ys) (inl (m, less, rest)) = kept_in (p y) y m n (filter p xs) (filter p ys) less (inserted_filter p m xs ys rest)
+inserted_filter p n xs (y ∷ ys) (inl (m, less, rest)) = kept_in (p y) y m n (filter p xs) (filter p ys) less
+    (inserted_filter p m xs ys rest)
 inserted_filter p n xs (y ∷ ys) (inr (zs, same, rest)) =
     subst (λ (us : List ℕ). HasInserted n (filter p us) (filter p (y ∷ ys))) (sym same)
     (kept_both (p y) y n (filter p zs) (filter p ys) (inserted_filter p n zs ys rest))
@@ -106,16 +129,21 @@ line_adds _ n xs ys inserted = inserted
 -- ---- a transform that was fed
 
 -- one that took some bytes still adds no more
-pub fed_adds : (rest rest' : List ℕ → List ℕ) (c more : List ℕ) → AddsNoMore rest → ((z : List ℕ) → rest (c ++ z) ≡ more ++ rest' z) → AddsNoMore rest'
+pub fed_adds : (rest rest' : List ℕ → List ℕ) (c more : List ℕ) → AddsNoMore rest
+    → ((z : List ℕ) → rest (c ++ z) ≡ more ++ rest' z) → AddsNoMore rest'
 fed_adds rest rest' c more adds law n xs ys inserted =
-    let fed : HasInserted n (rest (c ++ xs)) (rest (c ++ ys)) = adds n (c ++ xs) (c ++ ys) (inserted_prepend n xs ys c inserted) in
+    let fed : HasInserted n (rest (c ++ xs)) (rest (c ++ ys)) = adds n (c ++ xs) (c ++ ys) (inserted_prepend n
+    xs ys c inserted) in
     inserted_drop n more (rest' xs) (rest' ys)
-    (subst (λ (us : List ℕ). HasInserted n us (more ++ rest' ys)) (law xs) (subst (λ (us : List ℕ). HasInserted n (rest (c ++ xs)) us) (law ys) fed))
+    (subst (λ (us : List ℕ). HasInserted n us (more ++ rest' ys)) (law xs)
+    (subst (λ (us : List ℕ). HasInserted n (rest (c ++ xs)) us) (law ys) fed))
 
 -- and so does one that is the same
-pub same_adds : (rest rest' : List ℕ → List ℕ) → ((z : List ℕ) → rest' z ≡ rest z) → AddsNoMore rest → AddsNoMore rest'
+pub same_adds : (rest rest' : List ℕ → List ℕ) → ((z : List ℕ) → rest' z ≡ rest z) → AddsNoMore rest
+    → AddsNoMore rest'
 same_adds rest rest' same adds n xs ys inserted =
-    subst (λ (us : List ℕ). HasInserted n us (rest' ys)) (sym (same xs)) (subst (λ (us : List ℕ). HasInserted n (rest xs) us) (sym (same ys)) (adds n xs ys inserted))
+    subst (λ (us : List ℕ). HasInserted n us (rest' ys)) (sym (same xs)) (subst (λ (us : List ℕ). HasInserted
+    n (rest xs) us) (sym (same ys)) (adds n xs ys inserted))
 
 -- ---- what is put in before a chain passes each boundary
 
@@ -124,7 +152,8 @@ abbrev pub stage_passes : {P : Type 0} → List (Stage P) → ℕ → ℕ
 stage_passes [] bytes = bytes
 stage_passes (s ∷ ss) bytes = bytes + stage_passes ss bytes
 
-pub passing_more : {P : Type 0} (rest : P → List ℕ → List ℕ) (ss : List (Stage P)) → AllAddNoMore rest ss → (n : ℕ) (xs ys : List ℕ) → HasInserted n xs ys
+pub passing_more : {P : Type 0} (rest : P → List ℕ → List ℕ) (ss : List (Stage P)) → AllAddNoMore rest ss
+    → (n : ℕ) (xs ys : List ℕ) → HasInserted n xs ys
     → passing rest ss ys ≤ passing rest ss xs + stage_passes ss n
 passing_more rest [] all n xs ys inserted = inserted_length n xs ys inserted
 passing_more rest (s ∷ ss) all n xs ys inserted =

@@ -19,4 +19,5 @@ pub mod Parting
 pub mod Relaying
 pub mod Settled
 pub mod Settling
+pub mod StepsOwed
 pub mod Stopping

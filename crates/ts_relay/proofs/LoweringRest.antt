@@ -20,31 +20,42 @@ last_next n a few = omega (arith, few)
 
 module _ (v w : View) (p : Pushed) (writes : WritesClient true v w p) where
   rest_again : AgainsFall (push_again p) (agains_left v) (agains_left w)
-  rest_again = subst (λ (x : View). AgainsFall (push_again p) (agains_left v) (agains_left x)) (sym writes.others)
-      (first_falls (push_again p) v.client.look.agains w.client.look.agains v.origin.look.agains writes.client.pushes.calls.agains)
+  rest_again = subst (λ (x : View). AgainsFall (push_again p) (agains_left v) (agains_left x))
+      (sym writes.others)
+      (first_falls (push_again p) v.client.look.agains w.client.look.agains v.origin.look.agains
+      writes.client.pushes.calls.agains)
 
   rest_more : 1 ≤ least_went p + one_if (push_again p) → Fewer (finish_left v) (finish_left w)
-  rest_more some = told_fewer (λ x y. 2 + (x + length v.client.outbox)) (λ x y. 2 + (x + length w.client.outbox)) (push_again p) 0 (agains_left v) (agains_left w) (Some 0) (Some 0) rest_again (omega arith)
-      (λ x x' y y' again upload. sent_next (one_if (push_again p)) (least_went p) x x' (length v.client.outbox) (length w.client.outbox) again
+  rest_more some = told_fewer (λ x y. 2 + (x + length v.client.outbox))
+      (λ x y. 2 + (x + length w.client.outbox)) (push_again p) 0 (agains_left v) (agains_left w) (Some 0)
+      (Some 0) rest_again (omega arith)
+      (λ x x' y y' again upload. sent_next (one_if (push_again p)) (least_went p) x x'
+      (length v.client.outbox) (length w.client.outbox) again
       (went_some p v.client.outbox w.client.outbox writes.client.pushes.went) some)
 
   rest_close : Fewer (finish_left v) (close_left w)
-  rest_close = told_fewer (λ x y. 2 + (x + length v.client.outbox)) (λ x y. 1) (push_again p) 0 (agains_left v) (agains_left w) (Some 0) (Some 0) rest_again (omega arith)
+  rest_close = told_fewer (λ x y. 2 + (x + length v.client.outbox)) (λ x y. 1) (push_again p) 0
+      (agains_left v) (agains_left w) (Some 0) (Some 0) rest_again (omega arith)
       (λ x x' y y' again upload. last_next 1 (x + length v.client.outbox) (omega arith))
 
   rest_end : Fewer (finish_left v) (ended_left w)
-  rest_end = told_fewer (λ x y. 2 + (x + length v.client.outbox)) (λ x y. 0) (push_again p) 0 (agains_left v) (agains_left w) (Some 0) (Some 0) rest_again (omega arith)
+  rest_end = told_fewer (λ x y. 2 + (x + length v.client.outbox)) (λ x y. 0) (push_again p) 0 (agains_left v)
+      (agains_left w) (Some 0) (Some 0) rest_again (omega arith)
       (λ x x' y y' again upload. last_next 0 (x + length v.client.outbox) (omega arith))
 
 module _ (ct ot : Bool) (v w : View) where
-  pub rest_goes : (n : ℕ) → WritesClient ct v w (V.Some n) → IfTold ct ot (Fewer (finish_left v) (rest_after S.Goes w))
-  rest_goes n writes told also = rest_more v w (V.Some n) (client_told ct v w (V.Some n) told writes) (omega arith)
+  pub rest_goes : (n : ℕ) → WritesClient ct v w (V.Some n)
+      → IfTold ct ot (Fewer (finish_left v) (rest_after S.Goes w))
+  rest_goes n writes told also = rest_more v w (V.Some n) (client_told ct v w (V.Some n) told writes)
+      (omega arith)
 
   pub rest_waits : WritesClient ct v w V.Again → IfTold ct ot (Fewer (finish_left v) (rest_after S.Waits w))
   rest_waits writes told also = rest_more v w V.Again (client_told ct v w V.Again told writes) (omega arith)
 
-  pub rest_closes : (p : Pushed) (end : TxnEnd) → WritesClient ct v w p → IfTold ct ot (Fewer (finish_left v) (rest_after (S.Closes end) w))
+  pub rest_closes : (p : Pushed) (end : TxnEnd) → WritesClient ct v w p
+      → IfTold ct ot (Fewer (finish_left v) (rest_after (S.Closes end) w))
   rest_closes p end writes told also = rest_close v w p (client_told ct v w p told writes)
 
-  pub rest_lacks : (p : Pushed) → WritesClient ct v w p → IfTold ct ot (Fewer (finish_left v) (rest_after S.Lacks w))
+  pub rest_lacks : (p : Pushed) → WritesClient ct v w p
+      → IfTold ct ot (Fewer (finish_left v) (rest_after S.Lacks w))
   rest_lacks p writes told also = rest_end v w p (client_told ct v w p told writes)

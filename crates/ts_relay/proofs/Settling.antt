@@ -38,8 +38,10 @@ pub goes_after : (answer : Result ⊤ SetFault) → OnGoes (step_after answer) �
 goes_after (Err F.Spent) = tt
 goes_after _ = tt
 
--- what holds of a step holds of what it is settled as, if it holds of a body that goes on and of one that lacks memory
-pub settled_has : (T : BodyStep → Type 0) → (T S.Waits → T S.Goes) → (T S.Goes → T S.Lacks) → (step result : BodyStep) → SettledAs step result → T step → T result
+-- what holds of a step holds of what it is settled as, if it holds of a body that goes on and of one that
+-- lacks memory
+pub settled_has : (T : BodyStep → Type 0) → (T S.Waits → T S.Goes) → (T S.Goes → T S.Lacks)
+    → (step result : BodyStep) → SettledAs step result → T step → T result
 settled_has T goes lacks S.Goes S.Goes settled h = h
 settled_has T goes lacks S.Goes S.Lacks settled h = lacks h
 settled_has T goes lacks S.Goes _ settled h = absurd settled
@@ -48,5 +50,6 @@ settled_has T goes lacks S.Waits S.Lacks settled h = lacks (goes h)
 settled_has T goes lacks S.Waits _ settled h = absurd settled
 settled_has T goes lacks _ result settled h = subst T (sym settled) h
 
-pub settled_while : (X : Type 0) (step result : BodyStep) → SettledAs step result → WhileGoes step X → WhileGoes result X
+pub settled_while : (X : Type 0) (step result : BodyStep) → SettledAs step result → WhileGoes step X
+    → WhileGoes result X
 settled_while X = settled_has (λ x. WhileGoes x X) (λ h. h) (λ h. tt)

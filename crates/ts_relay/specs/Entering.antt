@@ -8,13 +8,16 @@ use Rattle.ts_config.specs.Bodies.{compose_lines, whole_of}
 use Rattle.ts_hooks.specs.declared.txn_end.TxnEnd.TheVariants as E
 use Rattle.ts_journal.specs.declared.entry.TheConstants.{GREATEST}
 use Rattle.ts_group.specs.Context.{Context}
-use Rattle.ts_link.specs.Link.{Look, all_of}
+use Rattle.ts_link.specs.Link.{all_of}
+use Rattle.ts_link.specs.declared.link.Link as link
+use Rattle.ts_upstream.specs.declared.upstream.Upstream as upstream
 use Rattle.ts_transform.specs.Flow.{ChainState, EndsInOrder, OnlyFirstWorks, flow}
 use Rattle.ts_transform.specs.Driving.{ActsWithin, IsOfStageIf}
 use Rattle.ts_transform.specs.Driven.{IsDrivenWhile}
 use Rattle.ts_transform.specs.Seats.{KeepsSeated}
 use Rattle.ts_transform.specs.declared.continuation.StageContinuation.{StageContinuation}
 use Rattle.ts_transform.specs.declared.driven.DrivenChain.{DrivenChain}
+use Rattle.ts_transform.specs.declared.transform.Transform as transform
 use Rattle.ts_wire.specs.declared.heads.RequestHead.{RequestHead}
 use Rattle.ts_wire.specs.declared.heads.ResponseHead.{ResponseHead}
 use Rattle.ts_wire.specs.declared.body.BodyState.{BodyState}
@@ -101,29 +104,28 @@ pub record BeginsRelay {P : Type 0} (step : BodyStep) (r : Relay P) (a b : Conte
   pub seated : KeepsSeated [] (relay_seats r) a b
   pub ordered : EndsInOrder r.driven.chain.given r.driven.chain.stages
 
-module _ {C O : Type 0} (ctells otells : Bool) (client : C → Look) (origin : O → Look)
-    (refuses : O → List ℕ → Type 0) where
+module _ {C O : Type 0} (client : link.Ghosts C) (origin : link.Ghosts O) (both : upstream.Ghosts O C) where
   -- the head of the response that is passed on is known
   abbrev pub HeadHolds : Core C O → Request → ResponseHead → Type 0
-  HeadHolds t q h = IfTold ctells otells
-      (Relays (arc_value t.setup) (OriginRefuses client refuses t) (view_of client origin t) q h)
+  HeadHolds t q h = IfTold client.tells origin.tells
+      (Relays (arc_value t.setup) (OriginRefuses client both t) (view_of client origin t) q h)
 
   -- memory lacked
   abbrev pub LacksAfter : Core C O → Core C O → Type 0
-  LacksAfter old new = IfTold ctells otells
-      (EndFact (arc_value old.setup) (OriginRefuses client refuses old) (view_of client origin new)
+  LacksAfter old new = IfTold client.tells origin.tells
+      (EndFact (arc_value old.setup) (OriginRefuses client both old) (view_of client origin new)
       E.NoMemory)
 
-module _ {C O P : Type 0} (ctells otells : Bool) (client : C → Look) (origin : O → Look)
-    (refuses : O → List ℕ → Type 0) (rest : P → List ℕ → List ℕ) where
+module _ {C O P L : Type 0} (client : link.Ghosts C) (origin : link.Ghosts O) (both : upstream.Ghosts O C)
+    (stage : transform.Ghosts P L) where
   -- the client's head is queued
   abbrev pub EnterHolds : Core C O → Relay P → Type 0
-  EnterHolds t r = IfTold ctells otells
-      (EntersBody (arc_value t.setup) (OriginRefuses client refuses t) rest (view_of client origin t)
+  EnterHolds t r = IfTold client.tells origin.tells
+      (EntersBody (arc_value t.setup) (OriginRefuses client both t) stage.rest (view_of client origin t)
       r.driven.chain r.body)
 
   -- What the origin refuses is what it refused before.
   abbrev pub EntersAfter : Core C O → Core C O → Relay P → Type 0
-  EntersAfter old new r = IfTold ctells otells
-      (EntersBody (arc_value old.setup) (OriginRefuses client refuses old) rest (view_of client origin new)
-      r.driven.chain r.body)
+  EntersAfter old new r = IfTold client.tells origin.tells
+      (EntersBody (arc_value old.setup) (OriginRefuses client both old) stage.rest
+      (view_of client origin new) r.driven.chain r.body)

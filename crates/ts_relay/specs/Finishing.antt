@@ -5,7 +5,9 @@ use Rattle.std.specs.Arc.{arc_value}
 use Rattle.ts_config.specs.declared.setup.Setup.{Setup}
 use Rattle.ts_hooks.specs.declared.txn_end.TxnEnd.{TxnEnd}
 use Rattle.ts_hooks.specs.declared.txn_end.TxnEnd.TheVariants as E
-use Rattle.ts_link.specs.Link.{Look, all_of}
+use Rattle.ts_link.specs.Link.{all_of}
+use Rattle.ts_link.specs.declared.link.Link as link
+use Rattle.ts_upstream.specs.declared.upstream.Upstream as upstream
 use Rattle.ts_block.specs.Block.{IsBlock}
 use Rattle.ts_phases.specs.View.{HasCount, HasFailed, OriginRefuses, View, view_of}
 use Rattle.ts_phases.specs.Facts.{HasTook, TookExactly}
@@ -59,16 +61,15 @@ module _ (setup : Setup) (refuses : Type 0) where
   LeadsBody goes v (S.Closes end) = EndFact setup refuses v end
   LeadsBody goes v S.Lacks = EndFact setup refuses v E.NoMemory
 
-module _ {C O : Type 0} (ctells otells : Bool) (client : C → Look) (origin : O → Look)
-    (refuses : O → List ℕ → Type 0) where
+module _ {C O : Type 0} (client : link.Ghosts C) (origin : link.Ghosts O) (both : upstream.Ghosts O C) where
   -- the same of a transaction whose links tell
   abbrev pub FinishHolds : Core C O → TxnEnd → Type 0
-  FinishHolds t end = IfTold ctells otells
-      (IsFinishing (arc_value t.setup) (OriginRefuses client refuses t) (view_of client origin t) end)
+  FinishHolds t end = IfTold client.tells origin.tells
+      (IsFinishing (arc_value t.setup) (OriginRefuses client both t) (view_of client origin t) end)
 
   -- What the origin refuses is what it refused before.
   abbrev pub FinishLeads : Core C O → Core C O → TxnEnd → BodyStep → Type 0
-  FinishLeads old new end step = IfTold ctells otells
-      (LeadsBody (arc_value old.setup) (OriginRefuses client refuses old)
-      (IsFinishing (arc_value old.setup) (OriginRefuses client refuses old) (view_of client origin new) end)
+  FinishLeads old new end step = IfTold client.tells origin.tells
+      (LeadsBody (arc_value old.setup) (OriginRefuses client both old)
+      (IsFinishing (arc_value old.setup) (OriginRefuses client both old) (view_of client origin new) end)
       (view_of client origin new) step)

@@ -6,6 +6,7 @@ use Rattle.ts_config.specs.declared.setup.TransformLine.{TransformLine}
 use Rattle.ts_transform.specs.Flow.{ChainState, fresh_stage}
 use Rattle.ts_transform.specs.Stage.{rest_of}
 use Rattle.ts_transform.specs.declared.pump.Stage.{Stage}
+use Rattle.ts_transform.specs.declared.transform.Transform as transform
 
 -- the second list is the first, with at most n bytes put in
 abbrev pub HasInserted : ℕ → List ℕ → List ℕ → Type 0
@@ -23,17 +24,16 @@ AllAddNoMore rest [] = ⊤
 AllAddNoMore rest (s ∷ ss) = AddsNoMore (rest_of rest s.part) × AllAddNoMore rest ss
 
 -- each transform makes of what it gets what its line makes of a whole body, and pauses as its line says
-abbrev pub AreOfLines : {P : Type 0} → (P → List ℕ → List ℕ) → (P → ℕ) → (TransformLine → ℕ)
-    → List TransformLine → List P → Type 0
-AreOfLines rest pause line_pause [] [] = ⊤
-AreOfLines rest pause line_pause [] (p ∷ ps) = ⊥
-AreOfLines rest pause line_pause (l ∷ ls) [] = ⊥
-AreOfLines rest pause line_pause (l ∷ ls) (p ∷ ps) = ((z : List ℕ) → rest p z ≡ whole_of l z)
-    × (pause p ≡ line_pause l) × AreOfLines rest pause line_pause ls ps
+abbrev pub AreOfLines : {P : Type 0} → transform.Ghosts P TransformLine → List TransformLine → List P → Type 0
+AreOfLines stage [] [] = ⊤
+AreOfLines stage [] (p ∷ ps) = ⊥
+AreOfLines stage (l ∷ ls) [] = ⊥
+AreOfLines stage (l ∷ ls) (p ∷ ps) = ((z : List ℕ) → stage.rest p z ≡ whole_of l z)
+    × (stage.pause p ≡ stage.line_pause l) × AreOfLines stage ls ps
 
 -- a chain of fresh transforms of these lines, which got nothing yet
-pub record IsOfParts {P : Type 0} (rest : P → List ℕ → List ℕ) (pause : P → ℕ)
-    (line_pause : TransformLine → ℕ) (lines : List TransformLine) (c : ChainState P) : Type 0 where
+pub record IsOfParts {P : Type 0} (stage : transform.Ghosts P TransformLine) (lines : List TransformLine)
+    (c : ChainState P) : Type 0 where
   pub parts : List P
-  pub of_lines : AreOfLines rest pause line_pause lines parts
+  pub of_lines : AreOfLines stage lines parts
   pub chain : c ≡ record { first = []; stages = map fresh_stage parts; given = false }

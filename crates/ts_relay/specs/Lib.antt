@@ -6,3 +6,4 @@ pub mod Finishing
 pub mod Inserted
 pub mod LoweringBody
 pub mod Relaying
+pub mod StepsOwed

@@ -13,13 +13,16 @@ use Rattle.ts_group.specs.Context.{Context, role_at}
 use Rattle.ts_group.specs.Entries.{Grows}
 use Rattle.ts_config.specs.declared.setup.Setup.{Setup}
 use Rattle.ts_config.specs.Bodies.{compose_lines}
-use Rattle.ts_link.specs.Link.{Look, all_of}
+use Rattle.ts_link.specs.Link.{all_of}
+use Rattle.ts_link.specs.declared.link.Link as link
+use Rattle.ts_upstream.specs.declared.upstream.Upstream as upstream
 use Rattle.ts_transform.specs.Flow.{ChainState, EndsInOrder, flow}
 use Rattle.ts_transform.specs.Driving.{AreNamed, Keeps, SetsFew, SetsOnly}
 use Rattle.ts_transform.specs.Driven.{SameSeats, StaysDriven}
 use Rattle.ts_transform.specs.declared.continuation.StageContinuation.{StageContinuation}
 use Rattle.ts_transform.specs.declared.driven.DrivenChain.{DrivenChain}
-use Rattle.ts_transform.specs.declared.loss.Loss.TheVariants as L
+use Rattle.ts_transform.specs.declared.loss.Loss.TheVariants as loss
+use Rattle.ts_transform.specs.declared.transform.Transform as transform
 use Rattle.ts_wire.specs.declared.heads.ResponseHead.{ResponseHead}
 use Rattle.ts_wire.specs.declared.body.BodyState.TheVariants as B
 use Rattle.ts_wire.specs.Place.{Place, IsFed, state_of}
@@ -106,7 +109,7 @@ OnlyOfStages ts a b = (first : ℕ) → AreNamed a.roles first ts → SetsOnly (
 
 -- memory lacked, and it is not that the event numbers are used up, which ends nothing
 abbrev pub IsNotSpent : {P : Type 0} → BodyStep → DrivenChain P → Type 0
-IsNotSpent step e = step ≡ S.Lacks → e.lost ≡ Some L.Spent → ⊥
+IsNotSpent step e = step ≡ S.Lacks → e.lost ≡ Some loss.Spent → ⊥
 
 -- how many events are set at most where a stage is roused, and where a part of a body comes to the chain,
 -- and its end
@@ -122,24 +125,24 @@ pub record StepsChain {P : Type 0} (step : BodyStep) (most : ℕ) (d e : DrivenC
   pub adds : AddsSome most old new
   pub driven : StaysDriven d e old new
   pub on : DrivesOn step d e new
-  pub spent : step ≡ S.Lacks → e.lost ≡ Some L.Spent → e.lost ≡ d.lost
+  pub spent : step ≡ S.Lacks → e.lost ≡ Some loss.Spent → e.lost ≡ d.lost
   pub falls : e.running ≡ true → d.running ≡ true
   pub seats : SameSeats d e old new
   pub only : OnlyOfStages d.table.items old new
   pub ordered : EndsInOrder d.chain.given d.chain.stages → EndsInOrder e.chain.given e.chain.stages
 
-module _ {C O P : Type 0} (ctells otells : Bool) (client : C → Look) (origin : O → Look)
-    (refuses : O → List ℕ → Type 0) (rest : P → List ℕ → List ℕ) where
+module _ {C O P L : Type 0} (client : link.Ghosts C) (origin : link.Ghosts O) (both : upstream.Ghosts O C)
+    (stage : transform.Ghosts P L) where
   -- the fact of a transaction whose links tell
   abbrev pub RelayHolds : Core C O → Relay P → Type 0
-  RelayHolds t r = IfTold ctells otells
-      (RelaysBody (arc_value t.setup) (OriginRefuses client refuses t) rest (view_of client origin t)
+  RelayHolds t r = IfTold client.tells origin.tells
+      (RelaysBody (arc_value t.setup) (OriginRefuses client both t) stage.rest (view_of client origin t)
       r.driven.chain r.body)
 
   -- What the origin refuses is what it refused before.
   abbrev pub RelayLeads : Core C O → Core C O → Relay P → BodyStep → Type 0
-  RelayLeads old new r step = IfTold ctells otells
-      (LeadsBody (arc_value old.setup) (OriginRefuses client refuses old)
-      (RelaysBody (arc_value old.setup) (OriginRefuses client refuses old) rest (view_of client origin new)
-      r.driven.chain r.body)
+  RelayLeads old new r step = IfTold client.tells origin.tells
+      (LeadsBody (arc_value old.setup) (OriginRefuses client both old)
+      (RelaysBody (arc_value old.setup) (OriginRefuses client both old) stage.rest
+      (view_of client origin new) r.driven.chain r.body)
       (view_of client origin new) step)

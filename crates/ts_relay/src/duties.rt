@@ -3,16 +3,19 @@ ghost use Rattle.std.specs.Prelude.{◌≡◌, true, false};
 ghost use Rattle.ts_phases.specs.View.{view_of};
 ghost use Rattle.ts_relay.specs.Duties.{TellsDuty};
 
-use ts_phases::Core;
 use crate::relay::Relay;
 use ts_link::Link;
+use ts_phases::Core;
 use ts_transform::Transform;
 use ts_upstream::Upstream;
 
 /// Whether the first continuation must work: something waits for the client, or the chain gave something,
 /// or has given all.
-pub fn must_send<C: Link, O: Upstream<C>, P: Transform + Drop>(core: &Core<C, O>, relay: &Relay<P>) -> bool
-    ensures { TellsDuty result (view_of C.look O.look core.now) relay.now.driven.chain }
+pub fn must_send<C: Link, O: Upstream<C>, P: Transform + Drop>(
+    core: &Core<C, O>,
+    relay: &Relay<P>,
+) -> bool
+    ensures { TellsDuty result (view_of C.Link O.Link core.now) relay.now.driven.chain }
 {
     if !core.client.outbox.is_empty() {
         return true;

@@ -7,21 +7,20 @@ ghost use Rattle.ts_relay.specs.Feeding.{OnGoes};
 ghost use Rattle.ts_transform.specs.Driving.{SetsOnly};
 ghost use Rattle.ts_relay.specs.Relaying.{IsNotSpent, IsOfRoleFrom, RelayLeads, StepsChain, set_by_stage};
 ghost use Rattle.ts_relay.specs.Entering.{ActsAsLines, BeginsChain, BeginsRelay, EnterHolds, EntersAfter, GetsStart, HeadHolds, IsUnbegun, LacksAfter, QuietLinks};
-ghost use Rattle.ts_relay.specs.LoweringBody.{BeginsLower, LowersEntering};
+ghost use Rattle.ts_relay.specs.LoweringBody.{BeginsLower};
+ghost use Rattle.ts_relay.specs.StepsOwed.{EntryLowers};
 ghost use Rattle.ts_phases.specs.Holding.{StepKeeps};
 ghost use Rattle.ts_phases.specs.View.{view_of};
 
-use ts_block::{framing_for, relayed_head};
 use crate::feed::close_input;
 use crate::last_writes::BodyStep;
-use ts_phases::Core;
-use ts_phases::Request;
-use crate::relay::{FIRST, READER, Relay};
 use crate::making::make_relay;
-use ts_block::mode_of;
+use crate::relay::{FIRST, READER, Relay};
+use ts_block::{framing_for, mode_of, relayed_head};
 use ts_config::TransformLine;
 use ts_group::Cx;
 use ts_link::{Link, NoMemory};
+use ts_phases::{Core, Request};
 use ts_transform::{DrivenChain, Loss, Transform, make_end};
 use ts_upstream::Upstream;
 use ts_wire::{BodyState, ResponseHead};
@@ -94,24 +93,24 @@ pub fn queue_relay<C: Link, O: Upstream<C>, P: Transform<Line = TransformLine> +
     head: &ResponseHead,
 ) -> Result<Relay<P>, NoMemory>
     requires acts { ActsAsLines P.whole }
-    requires fact { HeadHolds C.tells O.tells C.look O.look O.refuses core.old request.now head.now }
+    requires fact { HeadHolds C.Link O.Link O.Upstream.own core.old request.now head.now }
     ensures ok { IfOk result
-        (λ r. EntersAfter C.tells O.tells C.look O.look O.refuses P.rest core.old core.new r) }
-    ensures err { OnErr result (LacksAfter C.tells O.tells C.look O.look O.refuses core.old core.new) }
+        (λ r. EntersAfter C.Link O.Link O.Upstream.own P.Transform core.old core.new r) }
+    ensures err { OnErr result (LacksAfter C.Link O.Link O.Upstream.own core.old core.new) }
     ensures fresh { IfOk result (λ r. IsUnbegun r
         × (r.driven.chain.given ≡ false) × OnlyFirstWorks r.driven.chain) }
-    ensures quiet { QuietLinks (view_of C.look O.look core.old) (view_of C.look O.look core.new) }
-    ensures lowers { IfOk result (LowersEntering C.tells O.tells (arc_value core.old.setup) P.rest
-        request.now head.now (view_of C.look O.look core.old) (view_of C.look O.look core.new)) }
-    ensures keeps { StepKeeps C.look O.look O.paired O.refuses core.old core.new }
+    ensures quiet { QuietLinks (view_of C.Link O.Link core.old) (view_of C.Link O.Link core.new) }
+    ensures lowers { IfOk result (EntryLowers C.Link O.Link P.Transform core.old core.new request.now
+        head.now) }
+    ensures keeps { StepKeeps C.Link O.Link O.Upstream.own core.old core.new }
 {
-    let Ok(made) = make_relay(core.alloc, core: &Core<C, O>.setup, &request.head, head) else {
+    let Ok(made) = make_relay(core.alloc, &core.setup, &request.head, head) else {
         return Err(NoMemory);
     };
-    let Ok(text) = relayed_head(core.alloc, core: &Core<C, O>.setup, &request.head, head) else {
+    let Ok(text) = relayed_head(core.alloc, &core.setup, &request.head, head) else {
         return Err(NoMemory);
     };
-    let mode = mode_of(framing_for(core: &Core<C, O>.setup, &request.head, head));
+    let mode = mode_of(framing_for(&core.setup, &request.head, head));
     match core.queue_head(text.bytes(), mode) {
         Ok(()) => Ok(made),
         Err(_) => Err(NoMemory),
@@ -119,16 +118,20 @@ pub fn queue_relay<C: Link, O: Upstream<C>, P: Transform<Line = TransformLine> +
 }
 
 /// Makes the continuations of a body whose head is queued.
-pub fn enter_body<C: Link, O: Upstream<C>, P: Transform + Drop>(core: &Core<C, O>, relay: &mut Relay<P>, cx: &mut Cx) -> BodyStep
+pub fn enter_body<C: Link, O: Upstream<C>, P: Transform + Drop>(
+    core: &Core<C, O>,
+    relay: &mut Relay<P>,
+    cx: &mut Cx,
+) -> BodyStep
     requires turn { cx.old.log.state.held ≡ true }
     requires fresh { IsUnbegun relay.old }
     requires goes_on { (relay.old.driven.chain.given ≡ false)
         × OnlyFirstWorks relay.old.driven.chain }
-    requires fact { EnterHolds C.tells O.tells C.look O.look O.refuses P.rest core.now relay.old }
-    ensures leads { RelayLeads C.tells O.tells C.look O.look O.refuses P.rest core.now core.now
+    requires fact { EnterHolds C.Link O.Link O.Upstream.own P.Transform core.now relay.old }
+    ensures leads { RelayLeads C.Link O.Link O.Upstream.own P.Transform core.now core.now
         relay.new result }
     ensures begins { BeginsRelay result relay.new cx.old cx.new }
-    ensures lowers { BeginsLower (arc_value core.now.setup) P.rest result (view_of C.look O.look core.now)
+    ensures lowers { BeginsLower (arc_value core.now.setup) P.rest result (view_of C.Link O.Link core.now)
         relay.old relay.new }
     ensures due { relay.new.driven.running ≡ true
         → SetsOnly (IsOfRoleFrom FIRST cx.new.roles) cx.old cx.new }

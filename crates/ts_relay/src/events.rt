@@ -1,27 +1,26 @@
 //! The events of the continuations while a body is passed on: a step, and then both ends are roused.
 ghost use Rattle.std.specs.Prelude.{◌≡◌, ◌≢◌, true, false};
 ghost use Rattle.std.specs.Arc.{arc_value};
-ghost use Rattle.ts_relay.specs.LoweringBody.{BeginsLower, PaysBody};
+ghost use Rattle.ts_relay.specs.LoweringBody.{BeginsLower};
 ghost use Rattle.ts_phases.specs.View.{view_of};
 ghost use Rattle.ts_relay.specs.Relaying.{RelayHolds, RelayLeads};
 ghost use Rattle.ts_transform.specs.Flow.{OnlyFirstWorks};
-ghost use Rattle.ts_relay.specs.BodyLinks.{BeginsInTime, HandlesLinks, OnlyOfEnds, is_late, pause_if};
+ghost use Rattle.ts_relay.specs.BodyLinks.{BeginsInTime, OnlyOfEnds, is_late, pause_if};
 ghost use Rattle.ts_relay.specs.Entering.{EnterHolds, IsUnbegun};
-ghost use Rattle.ts_relay.specs.Duties.{BeginsBody, HandlesBody, SettlesAfter, SettlesBody};
-ghost use Rattle.ts_phases.specs.Holding.{StepKeeps};
+ghost use Rattle.ts_relay.specs.Duties.{BeginsBody, SettlesAfter, SettlesBody};
+ghost use Rattle.ts_relay.specs.StepsOwed.{BodyHandles, EventPays};
 
-use crate::duties::must_send;
 use crate::client_end::write_body;
-use crate::origin_end::read_body;
+use crate::duties::must_send;
 use crate::entry::enter_body;
-use crate::relay::{MAIN, RETRY};
 use crate::last_writes::BodyStep;
-use ts_phases::Core;
-use crate::relay::{FIRST, READER, Relay, step_after};
+use crate::origin_end::read_body;
+use crate::relay::{FIRST, MAIN, READER, RETRY, Relay, step_after};
 use crate::wakes::rouse_ends;
 use ts_group::Cx;
 use ts_journal::Event;
 use ts_link::Link;
+use ts_phases::Core;
 use ts_transform::{StageContinuation, Transform, unrouse, works};
 use ts_upstream::Upstream;
 
@@ -35,7 +34,7 @@ pub fn settle_body<C: Link, O: Upstream<C>, P: Transform + Drop>(
     cx: &mut Cx,
 ) -> BodyStep
     requires turn { cx.old.log.state.held ≡ true }
-    ensures settles { SettlesBody result (view_of C.look O.look core.now) main.old main.new
+    ensures settles { SettlesBody result (view_of C.Link O.Link core.now) main.old main.new
         relay.old relay.new cx.old cx.new }
     ensures due { OnlyOfEnds pauses.0 pauses.1 main.old relay.old.reader cx.old cx.new }
     ensures relay { relay.new ≡ record relay.old { reader = relay.new.reader } }
@@ -55,7 +54,7 @@ fn settle_after<C: Link, O: Upstream<C>, P: Transform + Drop>(
     cx: &mut Cx,
 ) -> BodyStep
     requires turn { cx.old.log.state.held ≡ true }
-    ensures settles { SettlesAfter step result (view_of C.look O.look core.now) main.old main.new
+    ensures settles { SettlesAfter step result (view_of C.Link O.Link core.now) main.old main.new
         relay.old relay.new cx.old cx.new }
     ensures due { OnlyOfEnds (pause_if (is_late step) pauses.0) (pause_if (is_late step) pauses.1)
         main.old relay.old.reader cx.old cx.new }
@@ -79,16 +78,12 @@ fn send_at<C: Link, O: Upstream<C>, P: Transform + Drop>(
     cx: &mut Cx,
 ) -> BodyStep
     requires turn { cx.old.log.state.held ≡ true }
-    requires fact { RelayHolds C.tells O.tells C.look O.look O.refuses P.rest core.old relay.old }
-    ensures leads { RelayLeads C.tells O.tells C.look O.look O.refuses P.rest core.old core.new
+    requires fact { RelayHolds C.Link O.Link O.Upstream.own P.Transform core.old relay.old }
+    ensures leads { RelayLeads C.Link O.Link O.Upstream.own P.Transform core.old core.new
         relay.new result }
-    ensures keeps { StepKeeps C.look O.look O.paired O.refuses core.old core.new }
-    ensures handles { HandlesBody result MAIN event (view_of C.look O.look core.old)
-        (view_of C.look O.look core.new) main.old main.new relay.old relay.new cx.old cx.new }
-    ensures links { HandlesLinks C.tells O.tells (view_of C.look O.look core.old)
-        (view_of C.look O.look core.new) main.old relay.old relay.new result cx.old cx.new }
-    ensures pays { PaysBody C.tells O.tells (arc_value core.old.setup) P.rest result
-        (view_of C.look O.look core.old) (view_of C.look O.look core.new)
+    ensures handles { BodyHandles C.Link O.Link O.Upstream.own core.old core.new MAIN event result
+        main.old main.new relay.old relay.new cx.old cx.new }
+    ensures pays { EventPays C.Link O.Link P.Transform core.old core.new result
         main.old relay.old relay.new cx.old cx.new }
 {
     if !works(event) {
@@ -109,16 +104,12 @@ fn read_at<C: Link, O: Upstream<C>, P: Transform + Drop>(
     cx: &mut Cx,
 ) -> BodyStep
     requires turn { cx.old.log.state.held ≡ true }
-    requires fact { RelayHolds C.tells O.tells C.look O.look O.refuses P.rest core.old relay.old }
-    ensures leads { RelayLeads C.tells O.tells C.look O.look O.refuses P.rest core.old core.new
+    requires fact { RelayHolds C.Link O.Link O.Upstream.own P.Transform core.old relay.old }
+    ensures leads { RelayLeads C.Link O.Link O.Upstream.own P.Transform core.old core.new
         relay.new result }
-    ensures keeps { StepKeeps C.look O.look O.paired O.refuses core.old core.new }
-    ensures handles { HandlesBody result READER event (view_of C.look O.look core.old)
-        (view_of C.look O.look core.new) main.old main.new relay.old relay.new cx.old cx.new }
-    ensures links { HandlesLinks C.tells O.tells (view_of C.look O.look core.old)
-        (view_of C.look O.look core.new) main.old relay.old relay.new result cx.old cx.new }
-    ensures pays { PaysBody C.tells O.tells (arc_value core.old.setup) P.rest result
-        (view_of C.look O.look core.old) (view_of C.look O.look core.new)
+    ensures handles { BodyHandles C.Link O.Link O.Upstream.own core.old core.new READER event result
+        main.old main.new relay.old relay.new cx.old cx.new }
+    ensures pays { EventPays C.Link O.Link P.Transform core.old core.new result
         main.old relay.old relay.new cx.old cx.new }
 {
     if !works(event) {
@@ -140,16 +131,13 @@ fn stage_at<C: Link, O: Upstream<C>, P: Transform + Drop>(
     cx: &mut Cx,
 ) -> BodyStep
     requires turn { cx.old.log.state.held ≡ true }
-    requires fact { RelayHolds C.tells O.tells C.look O.look O.refuses P.rest core.now relay.old }
+    requires fact { RelayHolds C.Link O.Link O.Upstream.own P.Transform core.now relay.old }
     requires role { (role ≢ MAIN) × (role ≢ READER) }
-    ensures leads { RelayLeads C.tells O.tells C.look O.look O.refuses P.rest core.now core.now
+    ensures leads { RelayLeads C.Link O.Link O.Upstream.own P.Transform core.now core.now
         relay.new result }
-    ensures handles { HandlesBody result role event (view_of C.look O.look core.now)
-        (view_of C.look O.look core.now) main.old main.new relay.old relay.new cx.old cx.new }
-    ensures links { HandlesLinks C.tells O.tells (view_of C.look O.look core.now)
-        (view_of C.look O.look core.now) main.old relay.old relay.new result cx.old cx.new }
-    ensures pays { PaysBody C.tells O.tells (arc_value core.now.setup) P.rest result
-        (view_of C.look O.look core.now) (view_of C.look O.look core.now)
+    ensures handles { BodyHandles C.Link O.Link O.Upstream.own core.now core.now role event result
+        main.old main.new relay.old relay.new cx.old cx.new }
+    ensures pays { EventPays C.Link O.Link P.Transform core.now core.now result
         main.old relay.old relay.new cx.old cx.new }
 {
     cx.known();
@@ -167,16 +155,12 @@ pub fn handle_body<C: Link, O: Upstream<C>, P: Transform + Drop>(
     cx: &mut Cx,
 ) -> BodyStep
     requires turn { cx.old.log.state.held ≡ true }
-    requires fact { RelayHolds C.tells O.tells C.look O.look O.refuses P.rest core.old relay.old }
-    ensures leads { RelayLeads C.tells O.tells C.look O.look O.refuses P.rest core.old core.new
+    requires fact { RelayHolds C.Link O.Link O.Upstream.own P.Transform core.old relay.old }
+    ensures leads { RelayLeads C.Link O.Link O.Upstream.own P.Transform core.old core.new
         relay.new result }
-    ensures keeps { StepKeeps C.look O.look O.paired O.refuses core.old core.new }
-    ensures handles { HandlesBody result role event (view_of C.look O.look core.old)
-        (view_of C.look O.look core.new) main.old main.new relay.old relay.new cx.old cx.new }
-    ensures links { HandlesLinks C.tells O.tells (view_of C.look O.look core.old)
-        (view_of C.look O.look core.new) main.old relay.old relay.new result cx.old cx.new }
-    ensures pays { PaysBody C.tells O.tells (arc_value core.old.setup) P.rest result
-        (view_of C.look O.look core.old) (view_of C.look O.look core.new)
+    ensures handles { BodyHandles C.Link O.Link O.Upstream.own core.old core.new role event result
+        main.old main.new relay.old relay.new cx.old cx.new }
+    ensures pays { EventPays C.Link O.Link P.Transform core.old core.new result
         main.old relay.old relay.new cx.old cx.new }
 {
     if role == MAIN {
@@ -199,12 +183,12 @@ pub fn begin_body<C: Link, O: Upstream<C>, P: Transform + Drop>(
     requires fresh { IsUnbegun relay.old }
     requires goes_on { (relay.old.driven.chain.given ≡ false)
         × OnlyFirstWorks relay.old.driven.chain }
-    requires fact { EnterHolds C.tells O.tells C.look O.look O.refuses P.rest core.now relay.old }
-    ensures leads { RelayLeads C.tells O.tells C.look O.look O.refuses P.rest core.now core.now
+    requires fact { EnterHolds C.Link O.Link O.Upstream.own P.Transform core.now relay.old }
+    ensures leads { RelayLeads C.Link O.Link O.Upstream.own P.Transform core.now core.now
         relay.new result }
-    ensures begins { BeginsBody result (view_of C.look O.look core.now) main.old main.new relay.new
+    ensures begins { BeginsBody result (view_of C.Link O.Link core.now) main.old main.new relay.new
         cx.old cx.new }
-    ensures lowers { BeginsLower (arc_value core.now.setup) P.rest result (view_of C.look O.look core.now)
+    ensures lowers { BeginsLower (arc_value core.now.setup) P.rest result (view_of C.Link O.Link core.now)
         relay.old relay.new }
     ensures due { BeginsInTime main.old relay.new cx.old cx.new }
 {

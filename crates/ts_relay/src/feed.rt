@@ -7,12 +7,12 @@ ghost use Rattle.ts_phases.specs.Holding.{StepKeeps};
 ghost use Rattle.ts_wire.specs.declared.body.BodyState.TheVariants.{Bad};
 
 use crate::last_writes::BodyStep;
-use ts_phases::{Core, Peer};
 use crate::relay::{Relay, step_after};
 use ts_group::Cx;
 use ts_hooks::TxnEnd;
 use ts_iobuf::Waiting;
 use ts_link::Link;
+use ts_phases::{Core, Peer};
 use ts_transform::{DrivenChain, Transform};
 use ts_upstream::Upstream;
 use ts_wire::{BodyEnd, BodyReader, BodyState};
@@ -159,23 +159,27 @@ pub fn ends_here(body: &BodyReader) -> bool
 
 /// Whether bytes of the origin wait.
 pub fn holds_body<C: Link, O: Upstream<C>>(core: &Core<C, O>) -> bool
-    ensures none { result ≡ false → (view_of C.look O.look core.now).origin.inbox ≡ [] }
-    ensures some { result ≡ true → (view_of C.look O.look core.now).origin.inbox ≢ [] }
+    ensures none { result ≡ false → (view_of C.Link O.Link core.now).origin.inbox ≡ [] }
+    ensures some { result ≡ true → (view_of C.Link O.Link core.now).origin.inbox ≢ [] }
 {
-    holds_some(core: &Core<C, O>.origin)
+    holds_some(&core.origin)
 }
 
 /// Feeds the reader of bodies with the first block of what waits of the origin's bytes.
-pub fn feed_body<C: Link, O: Upstream<C>, P: Transform + Drop>(core: &mut Core<C, O>, relay: &mut Relay<P>, cx: &mut Cx) -> BodyStep
+pub fn feed_body<C: Link, O: Upstream<C>, P: Transform + Drop>(
+    core: &mut Core<C, O>,
+    relay: &mut Relay<P>,
+    cx: &mut Cx,
+) -> BodyStep
     requires turn { cx.old.log.state.held ≡ true }
     requires goes_on { relay.old.driven.chain.given ≡ false }
     ensures feeds { FeedsTo result relay.old.body relay.new.body
-        (view_of C.look O.look core.old).origin.inbox (view_of C.look O.look core.new).origin.inbox
+        (view_of C.Link O.Link core.old).origin.inbox (view_of C.Link O.Link core.new).origin.inbox
         relay.old.driven.chain relay.new.driven.chain }
-    ensures others { DrainsOrigin (view_of C.look O.look core.old) (view_of C.look O.look core.new) }
-    ensures keeps { StepKeeps C.look O.look O.paired O.refuses core.old core.new }
+    ensures others { DrainsOrigin (view_of C.Link O.Link core.old) (view_of C.Link O.Link core.new) }
+    ensures keeps { StepKeeps C.Link O.Link O.Upstream.own core.old core.new }
     ensures chain { StepsChain result set_by_part relay.old.driven relay.new.driven cx.old cx.new }
     ensures reader { relay.new.reader ≡ relay.old.reader }
 {
-    feed_if(core: &mut Core<C, O>.origin, relay, cx)
+    feed_if(&mut core.origin, relay, cx)
 }

@@ -1,14 +1,13 @@
 //! The last writes of a transaction that passed a body on: all that the client gets was queued.
 ghost use Rattle.ts_relay.specs.BodyLinks.{SendsRest};
 ghost use Rattle.ts_relay.specs.Finishing.{FinishHolds, FinishLeads};
-ghost use Rattle.ts_link.specs.Link.{Fewer};
-ghost use Rattle.ts_relay.specs.LoweringBody.{finish_left, rest_after};
-ghost use Rattle.ts_phases.specs.Holding.{IfTold, StepKeeps};
+ghost use Rattle.ts_relay.specs.StepsOwed.{RestLowers};
+ghost use Rattle.ts_phases.specs.Holding.{StepKeeps};
 ghost use Rattle.ts_phases.specs.View.{view_of};
 
-use ts_phases::Core;
 use ts_hooks::TxnEnd;
 use ts_link::Link;
+use ts_phases::Core;
 use ts_upstream::Upstream;
 use ts_vconn::Pushed;
 
@@ -28,15 +27,13 @@ pub enum BodyStep {
 }
 
 /// Writes once of what was queued, behind which nothing is queued any more.
-#[tactic(auto, using(crate::proofs::BodyLinks::sends_some, crate::proofs::BodyLinks::sends_all, crate::proofs::BodyLinks::sends_late, crate::proofs::BodyLinks::sends_left, crate::proofs::BodyLinks::sends_lacks, crate::proofs::LoweringRest::rest_goes, crate::proofs::LoweringRest::rest_waits, crate::proofs::LoweringRest::rest_closes, crate::proofs::LoweringRest::rest_lacks))]
 pub fn send_rest<C: Link, O: Upstream<C>>(core: &mut Core<C, O>, end: TxnEnd) -> BodyStep
-    requires fact { FinishHolds C.tells O.tells C.look O.look O.refuses core.old end }
-    ensures leads { FinishLeads C.tells O.tells C.look O.look O.refuses core.old core.new end result }
-    ensures keeps { StepKeeps C.look O.look O.paired O.refuses core.old core.new }
-    ensures falls { IfTold C.tells O.tells (Fewer (finish_left (view_of C.look O.look core.old))
-        (rest_after result (view_of C.look O.look core.new))) }
+    requires fact { FinishHolds C.Link O.Link O.Upstream.own core.old end }
+    ensures leads { FinishLeads C.Link O.Link O.Upstream.own core.old core.new end result }
+    ensures keeps { StepKeeps C.Link O.Link O.Upstream.own core.old core.new }
+    ensures falls { RestLowers C.Link O.Link core.old core.new result }
     ensures links { SendsRest C.tells end
-        (view_of C.look O.look core.old) (view_of C.look O.look core.new) result }
+        (view_of C.Link O.Link core.old) (view_of C.Link O.Link core.new) result }
 {
     match core.write_client() {
         Pushed::Some(_) => BodyStep::Goes,

@@ -1,4 +1,4 @@
-//! The body of a response that is passed on: read from the origin, through a chain of transforms, framed for the client.
+//! The body of a response that is passed on: read of the origin, transformed, and framed for the client.
 #![tactic(auto)]
 
 mod client_end;

@@ -7,10 +7,9 @@ ghost use Rattle.ts_block.specs.Block.{body_lines, lines_for};
 ghost use Rattle.ts_relay.specs.Entering.{ActsAsLines, IsFreshRelay};
 ghost use Rattle.ts_relay.specs.Inserted.{AreOfLines, IsOfParts};
 
-use ts_block::acts_on;
 use crate::relay::Relay;
-use ts_block::framing_between;
 use std::alloc::Global;
+use ts_block::{acts_on, framing_between};
 use ts_config::{Setup, TransformLine};
 use ts_link::NoMemory;
 use ts_transform::{Chain, DrivenChain, Transform};
@@ -25,7 +24,7 @@ fn fresh_parts<P: Transform<Line = TransformLine> + Drop>(
 ) -> Result<Vec<P>, NoMemory>
     requires { ActsAsLines P.whole }
     ensures { IfOk result
-        (λ parts. AreOfLines P.rest P.pause P.line_pause (acting lines.now status fields.now) parts.items) }
+        (λ parts. AreOfLines P.Transform (acting lines.now status fields.now) parts.items) }
 {
     let mut parts = Vec::new(alloc);
     for line in lines {
@@ -45,7 +44,7 @@ fn body_parts<P: Transform<Line = TransformLine> + Drop>(
 ) -> Result<Vec<P>, NoMemory>
     requires { ActsAsLines P.whole }
     ensures { IfOk result
-        (λ parts. AreOfLines P.rest P.pause P.line_pause (if_body framing (lines_for setup.now head.now))
+        (λ parts. AreOfLines P.Transform (if_body framing (lines_for setup.now head.now))
         parts.items) }
 {
     if let Framing::Nothing = framing {
@@ -78,7 +77,7 @@ pub fn make_relay<P: Transform<Line = TransformLine> + Drop>(
 ) -> Result<Relay<P>, NoMemory>
     requires { ActsAsLines P.whole }
     ensures fresh { IfOk result (IsFreshRelay P.rest setup.now request.now head.now) }
-    ensures parts { IfOk result (λ r. IsOfParts P.rest P.pause P.line_pause
+    ensures parts { IfOk result (λ r. IsOfParts P.Transform
         (body_lines setup.now request.now head.now) r.driven.chain) }
 {
     let framing = framing_between(request, head);

@@ -5,4 +5,5 @@ use Rattle.ts_relay.proofs.Parting.{Continues}
 use Rattle.ts_relay.proofs.making.fresh_parts.Given as goal
 
 abbrev pub invariant-loop-line : goal.invariant-loop-line
-invariant-loop-line g l = Continues g.P.Transform.rest g.P.Transform.pause g.P.Transform.line_pause (acts_on l.status l.fields) l.lines (drop l.line-index l.lines) l.parts.items
+invariant-loop-line g l = Continues g.P.Transform (acts_on l.status l.fields) l.lines (drop l.line-index
+    l.lines) l.parts.items

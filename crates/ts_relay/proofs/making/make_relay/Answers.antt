@@ -11,16 +11,19 @@ use Rattle.ts_relay.proofs.making.make_relay.Goals as goal
 
 pub returns-clause-fresh : goal.returns-clause-fresh
 returns-clause-fresh g c =
-    fresh_relay g.P.Transform.rest c.args.setup.now c.args.request.now c.args.head.now c.make-2.result c.in_ok-body.body c.in_ok-parts.parts.items c.framing_between-framing.result
+    fresh_relay g.P.Transform.rest c.args.setup.now c.args.request.now c.args.head.now c.make-2.result
+    c.in_ok-body.body c.in_ok-parts.parts.items c.framing_between-framing.result
     (c.make-2.ensures.fresh.0, c.make-2.ensures.fresh.1) (c.make-2.ensures.chain ∙ c.in_ok-chain.ensures.made)
     (λ z. ap (λ k. flow g.P.Transform.rest k z) c.make-2.ensures.chain ∙ c.in_ok-chain.ensures.flow z)
-    (compose_of_lines g.P.Transform.rest g.P.Transform.pause g.P.Transform.line_pause (if_body c.framing_between-framing.result (lines_for c.args.setup.now c.args.head.now)) c.in_ok-parts.parts.items c.in_ok-parts.ensures)
+    (compose_of_lines g.P.Transform (if_body c.framing_between-framing.result (lines_for c.args.setup.now
+    c.args.head.now)) c.in_ok-parts.parts.items c.in_ok-parts.ensures)
     c.framing_between-framing.ensures c.in_ok-body.ensures
 
 pub returns-clause-parts : goal.returns-clause-parts
 returns-clause-parts g c = record {
   parts = c.in_ok-parts.parts.items;
-  of_lines = subst (λ (f : Framing). AreOfLines g.P.Transform.rest g.P.Transform.pause g.P.Transform.line_pause (if_body f (lines_for c.args.setup.now c.args.head.now)) c.in_ok-parts.parts.items)
+  of_lines = subst (λ (f : Framing). AreOfLines g.P.Transform (if_body f (lines_for c.args.setup.now
+      c.args.head.now)) c.in_ok-parts.parts.items)
       c.framing_between-framing.ensures c.in_ok-parts.ensures;
   chain = c.make-2.ensures.chain ∙ c.in_ok-chain.ensures.made;
 }

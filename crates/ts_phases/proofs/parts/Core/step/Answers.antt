@@ -17,30 +17,30 @@ use Rattle.ts_phases.proofs.parts.Core.step.Goals as goal
 pub returns-in-ResponseTransform-clause-fact : goal.returns-in-ResponseTransform-clause-fact
 returns-in-ResponseTransform-clause-fact g c = λ told also.
     let setup = arc_value c.args.self.now.setup in
-    let refuses = OriginRefuses g.C.Link.look g.O.Upstream.refuses c.args.self.now in
-    let v = view_of g.C.Link.look g.O.Link.look c.args.self.now in
+    let refuses = OriginRefuses g.C.Link g.O.Upstream c.args.self.now in
+    let v = view_of g.C.Link g.O.Link c.args.self.now in
     lacks_memory setup refuses v
     (relays_any setup refuses v _ _ (subst (λ (p : Phase). PhaseFact setup refuses v p) c.in-ResponseTransform.is (c.requires.stands.0 told also)))
 
 pub returns-in-TxnClose-clause-fact : goal.returns-in-TxnClose-clause-fact
 returns-in-TxnClose-clause-fact g c = λ told also.
     let setup = arc_value c.args.self.now.setup in
-    let refuses = OriginRefuses g.C.Link.look g.O.Upstream.refuses c.args.self.now in
-    let v = view_of g.C.Link.look g.O.Link.look c.args.self.now in
+    let refuses = OriginRefuses g.C.Link g.O.Upstream c.args.self.now in
+    let v = view_of g.C.Link g.O.Link c.args.self.now in
     subst (λ (p : Phase). PhaseFact setup refuses v p) c.in-TxnClose.is (c.requires.stands.0 told also)
 
 -- one that closes ends so
 pub returns-in-TxnClose-clause-minds : goal.returns-in-TxnClose-clause-minds
 returns-in-TxnClose-clause-minds g c =
     let core = c.args.self.now in
-    let v = view_of g.C.Link.look g.O.Link.look core in
+    let v = view_of g.C.Link g.O.Link core in
     let made : Step = record { phase = P.Ended c.in-TxnClose.end; next = N.Done } in
-    subst (λ (p : Phase). MindsLinksIn g.C.Link.tells g.O.Link.tells g.C.Link.look g.O.Link.look g.O.Upstream.refuses g.O.Upstream.upload_left core core p made) (sym c.in-TxnClose.is)
+    subst (λ (p : Phase). MindsLinksIn g.C.Link g.O.Link g.O.Upstream core core p made) (sym c.in-TxnClose.is)
     (stood v v made refl, refl)
 
 pub returns-clause-fact : goal.returns-clause-fact
 returns-clause-fact g c = λ told also.
     let setup = arc_value c.args.self.now.setup in
-    let refuses = OriginRefuses g.C.Link.look g.O.Upstream.refuses c.args.self.now in
-    let v = view_of g.C.Link.look g.O.Link.look c.args.self.now in
+    let refuses = OriginRefuses g.C.Link g.O.Upstream c.args.self.now in
+    let v = view_of g.C.Link g.O.Link c.args.self.now in
     subst (λ (p : Phase). PhaseFact setup refuses v p) c.in-Ended.is (c.requires.stands.0 told also)
