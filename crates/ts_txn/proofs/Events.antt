@@ -57,10 +57,14 @@ module _ (v w : View) where
   -- a body begins
   leaves_begun : (p : Phase) → BeginsIn p v w → LeavesSides p v w
   leaves_begun p begins = record {
-    origin = leaves_in p (record { taken = ap (λ (s : LinkSide). s.look.taken) (calls p begins).origin; waits
-        = ap (λ (s : LinkSide). s.outbox) (calls p begins).origin });
-    client = spares_in p (record { given = ap (λ (l : Look). l.given) (calls p begins).client; held =
-        (calls p begins).held });
+    origin = leaves_in p (record {
+      taken = ap (λ (s : LinkSide). s.look.taken) (calls p begins).origin;
+      waits = ap (λ (s : LinkSide). s.outbox) (calls p begins).origin;
+    });
+    client = spares_in p (record {
+      given = ap (λ (l : Look). l.given) (calls p begins).client;
+      held = (calls p begins).held;
+    });
   }
     where
       calls : (p : Phase) → BeginsIn p v w → QuietLinks v w
@@ -92,7 +96,8 @@ module _ {C O Q : Type 0} (client : link.Ghosts C) (origin : link.Ghosts O) (bot
   pub takes_step : (s t : Core C O) (p : Phase) (new : Course Q) (made : Step) → StepLeads made
       → MindsLinksIn client origin both s t p made
       → WaitsRightly made.next (view_of client origin s) (view_of client origin t)
-          → IfTold client.tells origin.tells (LeavesSides p (view_of client origin s) (view_of client origin t))
+          → IfTold client.tells origin.tells (LeavesSides p (view_of client origin s)
+              (view_of client origin t))
       → LedBehind made.next (K.Phased made.phase) new
           → TakesStep client origin both s t p made.next new
   takes_step s t p new made leads minds waits leaves led = record {
@@ -105,7 +110,8 @@ module _ {C O Q : Type 0} (client : link.Ghosts C) (origin : link.Ghosts O) (bot
   }
     where
       by_lead : StaysOnOrLacks (K.Phased made.phase) new
-          → (new ≡ K.Phased (P.Ended E.NoMemory)) ⊎ ((t ≡ s) × (new ≡ K.Phased p)) ⊎ MindsCourse client origin both s t p made.next new
+          → (new ≡ K.Phased (P.Ended E.NoMemory)) ⊎ ((t ≡ s) × (new ≡ K.Phased p)) ⊎ MindsCourse client origin
+              both s t p made.next new
       by_lead (inl same) = inr (inr (subst (MindsCourse client origin both s t p
           made.next) (sym same) minds))
       by_lead (inr lacks) = inl lacks
@@ -138,7 +144,8 @@ module _ {C O Q : Type 0} (client : link.Ghosts C) (origin : link.Ghosts O) (bot
   }
     where
       by_lead : (new ≡ K.Relaying r) ⊎ (new ≡ K.Phased (P.Ended E.NoMemory))
-          → (new ≡ K.Phased (P.Ended E.NoMemory)) ⊎ ((t ≡ s) × (new ≡ K.Phased p)) ⊎ MindsCourse client origin both s t p N.Go new
+          → (new ≡ K.Phased (P.Ended E.NoMemory)) ⊎ ((t ≡ s) × (new ≡ K.Phased p)) ⊎ MindsCourse client origin
+              both s t p N.Go new
       by_lead (inl same) = inr (inr (subst (MindsCourse client origin both s t p N.Go)
           (sym same) begins))
       by_lead (inr lacks) = inl lacks

@@ -133,7 +133,8 @@ module _ {C O : Type 0} (client : link.Ghosts C) (origin : link.Ghosts O) (both 
     setup = ap (λ s. arc_value s) keeps.setup ∙ h.setup;
     plugins_at = keeps.plugins_at ∙ h.plugins_at;
     client = same_then _ _ _ h.client keeps.client;
-    origin = same_on origin.look tag.origin.value t.core.origin u.core.origin keeps.dialed keeps.origin h.origin;
+    origin = same_on origin.look tag.origin.value t.core.origin u.core.origin keeps.dialed keeps.origin
+        h.origin;
     sure = λ is. (
       still_sure _ _ keeps.client (h.sure is).0,
       sure_on origin.look t.core.origin u.core.origin keeps.dialed keeps.origin (h.sure is).1,

@@ -194,9 +194,11 @@ module _ {C O Q : Type 0} (client : link.Ghosts C) (origin : link.Ghosts O) (bot
   pub sound_led : (s t : Core C O) (old led new : Course Q) (u : Option StageContinuation) (b : Context)
       → HoldsOn client origin both stage s old
       → StepKeeps client origin both s t
-          → IfTold client.tells origin.tells (CourseFact (arc_value s.setup) (OriginRefuses client both s) stage.rest
+          → IfTold client.tells origin.tells (CourseFact (arc_value s.setup) (OriginRefuses client both s)
+              stage.rest
           (view_of client origin t) led)
-      → IsOfLinesOn (arc_value s.setup) stage.rest led → IfTold client.tells origin.tells (HoldsLittleOn (view_of client origin t) led)
+      → IsOfLinesOn (arc_value s.setup) stage.rest led
+          → IfTold client.tells origin.tells (HoldsLittleOn (view_of client origin t) led)
           → StaysOnOrLacks led new → IsCoveredNow (view_of client origin t) u new b
       → IsSoundNow client origin both stage t u new b
   sound_led s t old led new u b stands keeps fact lines little stays covered =

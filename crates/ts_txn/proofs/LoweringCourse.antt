@@ -235,7 +235,8 @@ module _ {C O Q : Type 0} (client : link.Ghosts C) (origin : link.Ghosts O) (bot
     (stage : transform.Ghosts Q TransformLine) where
   -- where nothing was done
   pub stays_on : (core : Core C O) (course : Course Q) (pending : List Pending)
-      → IfTold client.tells origin.tells (Falls (number_left pending (parts_left client origin both stage core course)) 0
+      → IfTold client.tells origin.tells (Falls
+          (number_left pending (parts_left client origin both stage core course)) 0
           (number_left pending (parts_left client origin both stage core course)))
   stays_on core course pending told also = falls_refl
       (number_left pending (parts_left client origin both stage core course))
@@ -249,14 +250,16 @@ module _ {C O Q : Type 0} (client : link.Ghosts C) (origin : link.Ghosts O) (bot
   -- the event that was handled is pending no more: each event lowers the number of the transaction
   pub transaction_falls : (old new : Core C O) (course result : Course Q) (before after now : List Pending)
       → new.setup ≡ old.setup → length after + 1 ≡ length before
-      → IfTold client.tells origin.tells (Falls (number_left after (parts_left client origin both stage old course)) 0
+      → IfTold client.tells origin.tells (Falls
+          (number_left after (parts_left client origin both stage old course)) 0
       (number_left now (course_left (arc_value old.setup) stage.rest (upload_of both new)
           (view_of client origin new) result)))
       → Falls (transaction_left client origin both stage old course before) 1
           (transaction_left client origin both stage new result now)
   transaction_falls old new course result before after now setup handled paid =
       subst (λ (s : Setup). Falls (transaction_left client origin both stage old course before) 1
-      (number_if (client.tells && origin.tells) (number_left now (course_left s stage.rest (upload_of both new)
+      (number_if (client.tells && origin.tells)
+          (number_left now (course_left s stage.rest (upload_of both new)
           (view_of client origin new) result)))) (sym (ap arc_value setup))
       (if_both client.tells origin.tells (number_left before (parts_left client origin both stage old course))
       (number_left now (course_left (arc_value old.setup) stage.rest (upload_of both new)

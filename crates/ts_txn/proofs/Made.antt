@@ -47,9 +47,12 @@ module _ {L : Type 0} (look : L → Look) where
   untouched_if (Some l) None made unused = absurd made
   untouched_if (Some l) (Some p) made unused = untouched l p made unused
 
-module _ {C O Q : Type 0} (client : link.Ghosts C) (origin : link.Ghosts O) (c : C) (o : Option O) (t : Txn C O Q)
-    (of_client : IsMadeOf client.look c t.core.client) (of_origin : IsMadeOfIf origin.look o t.core.origin) where
-  asking : IsNewLink (client.look c) → IsNewLinkIf origin.look o → t.core.sent.head ≡ 0 → t.core.sent.mode ≡ M.Plain
+module _ {C O Q : Type 0} (client : link.Ghosts C) (origin : link.Ghosts O) (c : C) (o : Option O)
+    (t : Txn C O Q)
+    (of_client : IsMadeOf client.look c t.core.client) (of_origin : IsMadeOfIf origin.look o t.core.origin)
+        where
+  asking : IsNewLink (client.look c) → IsNewLinkIf origin.look o → t.core.sent.head ≡ 0
+      → t.core.sent.mode ≡ M.Plain
       → t.core.sent.cuts.items ≡ [] → Asking (view_of client origin t.core)
   asking unused unused_origin head mode cuts =
       let u = untouched client.look c t.core.client of_client unused in
@@ -61,7 +64,8 @@ module _ {C O Q : Type 0} (client : link.Ghosts C) (origin : link.Ghosts O) (c :
         held = u.no_given ∙ sym u.no_held;
       }
 
-  paired_if : (paired : C → O → Type 0) (o : Option O) (x : Option (Peer O)) → IsMadeOfIf origin.look o x → ArePaired paired c o → PairIf paired t.core.client.link x
+  paired_if : (paired : C → O → Type 0) (o : Option O) (x : Option (Peer O)) → IsMadeOfIf origin.look o x
+      → ArePaired paired c o → PairIf paired t.core.client.link x
   paired_if paired None None made pair = tt
   paired_if paired None (Some p) made pair = absurd made
   paired_if paired (Some l) None made pair = absurd made
@@ -69,7 +73,8 @@ module _ {C O Q : Type 0} (client : link.Ghosts C) (origin : link.Ghosts O) (c :
       subst (λ (k : O). paired t.core.client.link k) (sym made.link_is)
           (subst (λ (d : C). paired d l) (sym of_client.link_is) pair)
 
-  pub sound : (both : upstream.Ghosts O C) (stage : transform.Ghosts Q TransformLine) (next : ℕ) (roles : List Named)
+  pub sound : (both : upstream.Ghosts O C) (stage : transform.Ghosts Q TransformLine) (next : ℕ)
+      (roles : List Named)
       → (client.tells ≡ true → IsNewLink (client.look c)) → (origin.tells ≡ true → IsNewLinkIf origin.look o)
       → ArePaired both.paired c o
           → ActsAsLines stage.whole
@@ -103,7 +108,8 @@ any_paired c None = tt
 any_paired c (Some l) = tt
 
 -- so is a group that was made of it
-pub sound_in_group : {C O Q A R T U : Type 0} (client : link.Ghosts C) (origin : link.Ghosts O) (both : upstream.Ghosts O C)
+pub sound_in_group : {C O Q A R T U : Type 0} (client : link.Ghosts C) (origin : link.Ghosts O)
+    (both : upstream.Ghosts O C)
     (stage : transform.Ghosts Q TransformLine) (t : Txn C O Q)
         (g : Group (Txn C O Q) A R T U) (turns : ℕ)
     → ((next : ℕ) (roles : List Named) → IsSoundTxn client origin both stage t []

@@ -13,7 +13,6 @@ use ts_transform::{StageContinuation, make_end};
 
 /// Sees that an event of the continuation is pending, so many milliseconds later where it has none yet. The
 /// answer is `Dead` where there is none, `Spent` once the event numbers are used up, or `NoMemory`.
-#[tactic(auto, using(ts_transform::proofs::Kept::set_event, ts_transform::proofs::Kept::works_soon, ts_transform::proofs::Kept::kept_if, ts_transform::proofs::Kept::roused_if))]
 pub fn rouse(main: &mut Option<StageContinuation>, after: u64, cx: &mut Cx) -> Result<(), SetFault>
     requires turn { cx.old.log.state.held ≡ true }
     ensures adds { AddsEvents 1 (HasLiveIf cx.new.log.state.live main.new) result cx.old cx.new }

@@ -31,7 +31,8 @@ returns-in_default-clause-sound g c =
     sound_here g.C.Link g.O.Link g.O.Upstream g.P.Transform core new
     (K.Phased (P.ResponseTransform c.args.request c.args.head)) (K.Phased (P.Ended E.NoMemory))
         c.destroy_end.new.slot c.destroy_end.new.cx c.requires.stands c.queue_relay.ensures.keeps
-    (λ told also. course_settled g.C.Link g.O.Link g.O.Upstream g.P.Transform.rest core new (K.Phased (P.Ended E.NoMemory)) c.queue_relay.ensures.keeps
+    (λ told also. course_settled g.C.Link g.O.Link g.O.Upstream g.P.Transform.rest core new
+        (K.Phased (P.Ended E.NoMemory)) c.queue_relay.ensures.keeps
     (c.in_default.ensures.err told also)) tt (λ told also. tt)
     (ended_alone (P.Ended E.NoMemory) (K.Phased (P.Ended E.NoMemory)) c.args.main.now c.destroy_end.new.slot
         c.args.cx.now c.destroy_end.new.cx refl refl c.destroy_end.ensures.clears

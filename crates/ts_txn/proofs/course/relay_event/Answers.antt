@@ -31,7 +31,8 @@ returns-clause-sound g c =
         g.P.Transform.rest w relay step (c.handle_body-step.ensures.leads told also))
     (lines_after (arc_value core.setup) g.P.Transform.rest step c.args.relay relay
         c.handle_body-step.ensures.pays.lines c.requires.called.sound.stands.lines)
-    (λ told also. little_after v w step c.args.relay relay c.handle_body-step.ensures.handles.links.minds.holds
+    (λ told also. little_after v w step c.args.relay relay
+        c.handle_body-step.ensures.handles.links.minds.holds
         (c.requires.called.sound.stands.little told also))
     (after_led step (course_after relay step) c.leave_body.result c.leave_body.ensures.course)
     (c.leave_body.ensures.covered w (stands_handled _ v c.args.main.now c.args.cx.now c.args.role c.args.event

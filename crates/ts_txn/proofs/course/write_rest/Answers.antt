@@ -46,6 +46,7 @@ returns-clause-pays g c = λ told also.
     let new = c.send_rest-step.new.core in
     finish_led (arc_value core.setup) g.P.Transform.rest c.args.end c.send_rest-step.result
         c.after_write.result (view_of g.C.Link g.O.Link core)
-    (view_of g.C.Link g.O.Link new) (upload_of g.O.Upstream new) c.args.cx.now.log.state.pending c.after_write.new.cx.log.state.pending
+    (view_of g.C.Link g.O.Link new) (upload_of g.O.Upstream new) c.args.cx.now.log.state.pending
+        c.after_write.new.cx.log.state.pending
     c.after_write.ensures.course (c.send_rest-step.ensures.falls told also)
         c.after_write.ensures.within.few.pending

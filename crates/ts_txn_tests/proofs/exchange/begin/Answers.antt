@@ -12,8 +12,7 @@ use Rattle.ts_txn_tests.proofs.exchange.begin.Goals as goal
 pub start-requires-clause-sound : goal.start-requires-clause-sound
 start-requires-clause-sound g c =
     c.begin_turn.ensures.sound
-    (sound_in_group g.C.Link.tells g.O.Link.tells g.C.Link.look g.O.Link.look g.O.Upstream.paired
-        g.O.Upstream.refuses g.P.Transform.rest g.P.Transform.whole c.in_ok-txn.txn c.in_ok-group.group 0
+    (sound_in_group g.C.Link g.O.Link g.O.Upstream g.P.Transform c.in_ok-txn.txn c.in_ok-group.group 0
         c.in_ok-txn.ensures.sound
     c.in_ok-group.ensures.world c.in_ok-group.ensures.fresh)
 
@@ -30,8 +29,7 @@ returns g c =
       started = true;
     } in
     record {
-      begun = begun_as g.C.Link.tells g.O.Link.tells g.C.Link.look g.O.Link.look g.O.Upstream.paired
-          g.O.Upstream.refuses g.P.Transform.rest g.P.Transform.whole tag c.in_ok-txn.txn c.in_ok-group.group
+      begun = begun_as g.C.Link g.O.Link g.O.Upstream g.P.Transform tag c.in_ok-txn.txn c.in_ok-group.group
           c.begin_turn.new.self c.start.new.self c.give_turn.new.self
           (fits_made g.C.Link.look g.O.Link.look (record tag { started = false }) c.in_ok-txn.txn
               c.in_ok-txn.ensures.named.0

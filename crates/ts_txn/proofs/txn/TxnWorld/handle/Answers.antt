@@ -12,6 +12,7 @@ returns-clause-takes g c =
 -- the event that was handled is pending no more, and those that were set are paid
 pub returns-clause-lowers : goal.returns-clause-lowers
 returns-clause-lowers g c = λ call.
-    transaction_falls g.C.Link g.O.Link g.O.Upstream g.P.Transform c.args.self.now.core c.advance.new.core c.args.self.now.course c.advance.new.course
+    transaction_falls g.C.Link g.O.Link g.O.Upstream g.P.Transform c.args.self.now.core c.advance.new.core
+        c.args.self.now.course c.advance.new.course
     call.before.pending c.args.cx.now.log.state.pending c.advance.new.cx.log.state.pending
         c.advance.ensures.handles.keeps.setup (call.has.fewer call.sound.covered.plain) c.advance.ensures.pays
