@@ -19,7 +19,7 @@ use Rattle.ts_relay.specs.Duties.{set_leaving}
 use Rattle.ts_txn.specs.Driven.{BeginsIn, ClosesAs, DueTo, HandlesEvent, HandlesOn, MindsCourse, TakesEvent, TakesOn, TakesStep, WritesOr, delay_of}
 use Rattle.ts_relay.specs.Entering.{QuietLinks}
 use Rattle.ts_phases.specs.Steps.{LeavesClient, LeavesClientIn, LeavesOrigin, LeavesOriginIn, LeavesSides, MindsLinksIn, WaitsRightly}
-use Rattle.ts_phases.specs.Holding.{IfTold}
+use Rattle.ts_phases.specs.Holding.{IfTold, StepKeeps}
 use Rattle.ts_phases.specs.View.{LinkSide, View, view_of}
 use Rattle.ts_transform.proofs.Joined.{named_unroused}
 use Rattle.ts_txn.specs.declared.course.Course.{Course}
@@ -35,7 +35,9 @@ use Rattle.ts_phases.specs.declared.phase.Phase.{Phase}
 use Rattle.ts_phases.specs.declared.phase.Phase.TheVariants as P
 use Rattle.ts_phases.specs.declared.phase.Step.{Step}
 use Rattle.ts_relay.specs.declared.relay.Relay.{Relay}
+use Rattle.ts_txn.proofs.CourseCalls.{PassesNoBody}
 use Rattle.ts_txn.proofs.Coursing.{behind_led}
+use Rattle.ts_txn.proofs.Seating.{due_rests}
 
 module _ (v w : View) where
   leaves_in : (p : Phase) → LeavesOrigin v w → LeavesOriginIn p v w
@@ -214,6 +216,60 @@ module _ {C O Q : Type 0} (client : link.Ghosts C) (origin : link.Ghosts O) (bot
     then = due.then;
   }
   due_before main u is next (K.Finishing end) a b due = due
+
+  -- nobody works at it, and nothing is done
+  same_core : (s : Core C O) → StepKeeps client origin both s s
+  same_core s = record {
+    number = refl;
+    setup = refl;
+    plugins_at = refl;
+    client = record { source = refl; name = refl; plan = refl };
+    origin = record { source = refl; name = refl; plan = refl };
+    client_base = refl;
+    origin_base = refl;
+    dialed = refl;
+    pair = λ h. h;
+    refusal = record { still = λ c h. h; before = λ c h. h };
+  }
+
+  closes_same : (p : Phase) → ClosesAs {Q = Q} p (K.Phased p)
+  closes_same (P.TxnClose end) = inl refl
+  closes_same _ = tt
+
+  idle_on : (s : Core C O) (a : Context) (role : ℕ) (main : Option StageContinuation) (course : Course Q)
+      → PassesNoBody course → HandlesOn client origin both s s a a role main course course
+  idle_on s a role main (K.Phased p) none = record {
+    next = N.Go;
+    takes = record {
+      minds = inr (inl (refl, refl));
+      waits = tt;
+      leaves = λ told also. record {
+        origin = leaves_in _ _ p (record { taken = refl; waits = refl });
+        client = spares_in _ _ p (record { given = refl; held = refl });
+      };
+      closes = closes_same p;
+      started = λ was. was;
+    };
+    due = due_rests a 0;
+  }
+  idle_on s a role main (K.Relaying r) none = absurd none
+  idle_on s a role main (K.Finishing end) none =
+      record { step = S.Goes; takes = inl (refl, refl, refl); due = due_rests a 0 }
+
+  pub idle : (s : Core C O) (a : Context) (role : ℕ) (main : Option StageContinuation) (was course : Course Q)
+      → was ≡ course → PassesNoBody course → HandlesEvent client origin both s s a a role main was course
+  idle s a role main was course same none =
+      subst (λ x. HandlesEvent client origin both s s a a role main x course) (sym same)
+      (record { keeps = same_core s; handles = idle_on s a role main course none })
+
+  -- one of the last writes, said of the first continuation before its event was handled
+  pub handles_finishing : (s t : Core C O) (a b : Context) (role : ℕ) (main u : Option StageContinuation)
+      (course : Course Q) (end : TxnEnd) → course ≡ K.Finishing end → (new : Course Q)
+      → HandlesEvent client origin both s t a b MAIN u (K.Finishing end) new
+      → HandlesEvent client origin both s t a b role main course new
+  handles_finishing s t a b role main u course end is new h =
+      subst (λ x. HandlesEvent client origin both s t a b role main x new) (sym is)
+      (record { keeps = h.keeps; handles = h.handles })
 
   pub handles_phased : (s t : Core C O) (a b : Context) (role : ℕ) (main u : Option StageContinuation)
       → u ≡ unroused main → (course : Course Q) (p : Phase) → course ≡ K.Phased p → (new : Course Q)

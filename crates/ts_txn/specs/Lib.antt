@@ -1,6 +1,7 @@
 pub mod Course
 pub mod CourseCover
 pub mod Driven
+pub mod EventsOwed
 pub mod LoweringCourse
 pub mod Making
 pub mod Resting

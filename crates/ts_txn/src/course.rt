@@ -1,12 +1,11 @@
 //! How far a transaction is, and where an event leads it from there.
 ghost use Rattle.std.specs.Prelude.{◌≡◌, true};
 ghost use Rattle.ts_group.specs.Calls.{IsCalled};
-ghost use Rattle.ts_transform.specs.Driving.{ActsWithin};
 ghost use Rattle.ts_txn.specs.CourseCover.{IsAlone};
-ghost use Rattle.ts_txn.specs.Driven.{HandlesEvent};
+ghost use Rattle.ts_txn.specs.EventsOwed.{EventOwes};
 ghost use Rattle.ts_txn.specs.LoweringCourse.{PaysEvents};
 ghost use Rattle.ts_relay.specs.declared.relay.TheConstants.{MAIN};
-ghost use Rattle.ts_txn.specs.World.{HoldsOn, IsSoundNow, IsSoundOn, most_set};
+ghost use Rattle.ts_txn.specs.World.{HoldsOn, IsSoundOn};
 
 use ts_relay::begin_body;
 use ts_relay::handle_body;
@@ -51,11 +50,8 @@ pub fn relay_event<C: Link, O: Upstream<C>, P: Transform<Line = TransformLine> +
         (λ s roles. IsSoundOn C.Link O.Link O.Upstream.own P.Transform
         core.old main.old (Course.Relaying relay) s.pending s.next roles)
         cx.old role event }
-    ensures sound { IsSoundNow C.Link O.Link O.Upstream.own P.Transform
-        core.new main.new result cx.new }
-    ensures within { ActsWithin most_set cx.old cx.new }
-    ensures handles { HandlesEvent C.Link O.Link O.Upstream.own
-        core.old core.new cx.old cx.new role main.old (Course.Relaying relay) result }
+    ensures owes { EventOwes C.Link O.Link O.Upstream.own P.Transform core.old core.new cx.old cx.new
+        role main.old main.new (Course.Relaying relay) result }
     ensures pays { PaysEvents C.Link O.Link O.Upstream.own P.Transform
         core.old core.new (Course.Relaying relay) result cx.old cx.new }
 {
@@ -75,11 +71,8 @@ pub fn write_rest<C: Link, O: Upstream<C>, P: Transform<Line = TransformLine> + 
     requires stands { HoldsOn C.Link O.Link O.Upstream.own P.Transform
         core.old (Course.Finishing end) }
     requires alone { IsAlone main.old cx.old }
-    ensures sound { IsSoundNow C.Link O.Link O.Upstream.own P.Transform
-        core.new main.new result cx.new }
-    ensures within { ActsWithin most_set cx.old cx.new }
-    ensures handles { HandlesEvent C.Link O.Link O.Upstream.own
-        core.old core.new cx.old cx.new MAIN main.old (Course.Finishing end) result }
+    ensures owes { EventOwes C.Link O.Link O.Upstream.own P.Transform core.old core.new cx.old cx.new
+        MAIN main.old main.new (Course.Finishing end) result }
     ensures pays { PaysEvents C.Link O.Link O.Upstream.own P.Transform
         core.old core.new (Course.Finishing end) result cx.old cx.new }
 {
@@ -100,12 +93,8 @@ pub fn begin_relay<C: Link, O: Upstream<C>, P: Transform<Line = TransformLine> +
     requires stands { HoldsOn C.Link O.Link O.Upstream.own P.Transform
         core.old (Course.Phased (Phase.ResponseTransform request head)) }
     requires alone { IsAlone main.old cx.old }
-    ensures sound { IsSoundNow C.Link O.Link O.Upstream.own P.Transform
-        core.new main.new result cx.new }
-    ensures within { ActsWithin most_set cx.old cx.new }
-    ensures handles { HandlesEvent C.Link O.Link O.Upstream.own
-        core.old core.new cx.old cx.new MAIN main.old (Course.Phased (Phase.ResponseTransform request head))
-        result }
+    ensures owes { EventOwes C.Link O.Link O.Upstream.own P.Transform core.old core.new cx.old cx.new
+        MAIN main.old main.new (Course.Phased (Phase.ResponseTransform request head)) result }
     ensures pays { PaysEvents C.Link O.Link O.Upstream.own P.Transform
         core.old core.new (Course.Phased (Phase.ResponseTransform request head)) result cx.old cx.new }
 {

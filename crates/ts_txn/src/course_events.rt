@@ -1,11 +1,10 @@
 //! Where an event leads a transaction, wherever it is on its course.
 ghost use Rattle.std.specs.Prelude.{◌≡◌, true};
 ghost use Rattle.ts_group.specs.Calls.{IsCalled};
-ghost use Rattle.ts_transform.specs.Driving.{ActsWithin};
 ghost use Rattle.ts_txn.specs.CourseCover.{IsAlone};
-ghost use Rattle.ts_txn.specs.Driven.{HandlesEvent};
+ghost use Rattle.ts_txn.specs.EventsOwed.{EventOwes};
 ghost use Rattle.ts_txn.specs.LoweringCourse.{PaysEvents};
-ghost use Rattle.ts_txn.specs.World.{HoldsOn, IsSoundNow, IsSoundOn, most_set};
+ghost use Rattle.ts_txn.specs.World.{HoldsOn, IsSoundOn};
 
 use crate::course::{Course, begin_relay, write_rest, relay_event};
 use crate::course_leads::after_step;
@@ -31,11 +30,8 @@ fn make_step<C: Link, O: Upstream<C>, P: Transform<Line = TransformLine> + Drop>
     requires stands { HoldsOn C.Link O.Link O.Upstream.own P.Transform
         core.old (Course.Phased phase) }
     requires alone { IsAlone main.old cx.old }
-    ensures sound { IsSoundNow C.Link O.Link O.Upstream.own P.Transform
-        core.new main.new result cx.new }
-    ensures within { ActsWithin most_set cx.old cx.new }
-    ensures handles { HandlesEvent C.Link O.Link O.Upstream.own
-        core.old core.new cx.old cx.new MAIN main.old (Course.Phased phase) result }
+    ensures owes { EventOwes C.Link O.Link O.Upstream.own P.Transform core.old core.new cx.old cx.new
+        MAIN main.old main.new (Course.Phased phase) result }
     ensures pays { PaysEvents C.Link O.Link O.Upstream.own P.Transform
         core.old core.new (Course.Phased phase) result cx.old cx.new }
 {
@@ -54,11 +50,8 @@ fn advance_phase<C: Link, O: Upstream<C>, P: Transform<Line = TransformLine> + D
     requires stands { HoldsOn C.Link O.Link O.Upstream.own P.Transform
         core.old (Course.Phased phase) }
     requires alone { IsAlone main.old cx.old }
-    ensures sound { IsSoundNow C.Link O.Link O.Upstream.own P.Transform
-        core.new main.new result cx.new }
-    ensures within { ActsWithin most_set cx.old cx.new }
-    ensures handles { HandlesEvent C.Link O.Link O.Upstream.own
-        core.old core.new cx.old cx.new MAIN main.old (Course.Phased phase) result }
+    ensures owes { EventOwes C.Link O.Link O.Upstream.own P.Transform core.old core.new cx.old cx.new
+        MAIN main.old main.new (Course.Phased phase) result }
     ensures pays { PaysEvents C.Link O.Link O.Upstream.own P.Transform
         core.old core.new (Course.Phased phase) result cx.old cx.new }
 {
@@ -84,11 +77,8 @@ pub fn handle_event<C: Link, O: Upstream<C>, P: Transform<Line = TransformLine> 
         (λ s roles. IsSoundOn C.Link O.Link O.Upstream.own P.Transform
         core.old main.old course s.pending s.next roles)
         cx.old role event }
-    ensures sound { IsSoundNow C.Link O.Link O.Upstream.own P.Transform
-        core.new main.new result cx.new }
-    ensures within { ActsWithin most_set cx.old cx.new }
-    ensures handles { HandlesEvent C.Link O.Link O.Upstream.own
-        core.old core.new cx.old cx.new role main.old course result }
+    ensures owes { EventOwes C.Link O.Link O.Upstream.own P.Transform core.old core.new cx.old cx.new
+        role main.old main.new course result }
     ensures pays { PaysEvents C.Link O.Link O.Upstream.own P.Transform
         core.old core.new course result cx.old cx.new }
 {
@@ -131,11 +121,8 @@ pub fn advance<C: Link, O: Upstream<C>, P: Transform<Line = TransformLine> + Dro
         (λ s roles. IsSoundOn C.Link O.Link O.Upstream.own P.Transform
         core.old main.old course.old s.pending s.next roles)
         cx.old role event }
-    ensures sound { IsSoundNow C.Link O.Link O.Upstream.own P.Transform
-        core.new main.new course.new cx.new }
-    ensures within { ActsWithin most_set cx.old cx.new }
-    ensures handles { HandlesEvent C.Link O.Link O.Upstream.own
-        core.old core.new cx.old cx.new role main.old course.old course.new }
+    ensures owes { EventOwes C.Link O.Link O.Upstream.own P.Transform core.old core.new cx.old cx.new
+        role main.old main.new course.old course.new }
     ensures pays { PaysEvents C.Link O.Link O.Upstream.own P.Transform
         core.old core.new course.old course.new cx.old cx.new }
 {

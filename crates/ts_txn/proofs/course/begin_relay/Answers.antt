@@ -24,24 +24,37 @@ use Rattle.ts_relay.proofs.LoweringPays.{set_one}
 use Rattle.ts_txn.proofs.course.begin_relay.Goals as goal
 
 -- Memory lacked for the head.
-pub returns-in_default-clause-sound : goal.returns-in_default-clause-sound
-returns-in_default-clause-sound g c =
-    let core = c.args.core.now in
-    let new = c.queue_relay.new.core in
-    sound_here g.C.Link g.O.Link g.O.Upstream g.P.Transform core new
-    (K.Phased (P.ResponseTransform c.args.request c.args.head)) (K.Phased (P.Ended E.NoMemory))
-        c.destroy_end.new.slot c.destroy_end.new.cx c.requires.stands c.queue_relay.ensures.keeps
-    (λ told also. course_settled g.C.Link g.O.Link g.O.Upstream g.P.Transform.rest core new
-        (K.Phased (P.Ended E.NoMemory)) c.queue_relay.ensures.keeps
-    (c.in_default.ensures.err told also)) tt (λ told also. tt)
-    (ended_alone (P.Ended E.NoMemory) (K.Phased (P.Ended E.NoMemory)) c.args.main.now c.destroy_end.new.slot
-        c.args.cx.now c.destroy_end.new.cx refl refl c.destroy_end.ensures.clears
-    c.destroy_end.ensures.none c.requires.alone (view_of g.C.Link g.O.Link new))
-
-pub returns-in_default-clause-within : goal.returns-in_default-clause-within
-returns-in_default-clause-within g c =
-    acts_then 0 0 most_set (omega arith) (acts_none 0 c.args.cx.now c.requires.turn)
-        (cleared_acts (c.args.main.now ∷ []) c.args.cx.now c.destroy_end.new.cx c.destroy_end.ensures.clears)
+pub returns-in_default-clause-owes : goal.returns-in_default-clause-owes
+returns-in_default-clause-owes g c = record {
+  sound =
+      let core = c.args.core.now in
+      let new = c.queue_relay.new.core in
+      sound_here g.C.Link g.O.Link g.O.Upstream g.P.Transform core new
+      (K.Phased (P.ResponseTransform c.args.request c.args.head)) (K.Phased (P.Ended E.NoMemory))
+          c.destroy_end.new.slot c.destroy_end.new.cx c.requires.stands c.queue_relay.ensures.keeps
+      (λ told also. course_settled g.C.Link g.O.Link g.O.Upstream g.P.Transform.rest core new
+          (K.Phased (P.Ended E.NoMemory)) c.queue_relay.ensures.keeps
+      (c.in_default.ensures.err told also)) tt (λ told also. tt)
+      (ended_alone (P.Ended E.NoMemory) (K.Phased (P.Ended E.NoMemory)) c.args.main.now c.destroy_end.new.slot
+          c.args.cx.now c.destroy_end.new.cx refl refl c.destroy_end.ensures.clears
+      c.destroy_end.ensures.none c.requires.alone (view_of g.C.Link g.O.Link new));
+  within =
+      acts_then 0 0 most_set (omega arith) (acts_none 0 c.args.cx.now c.requires.turn)
+          (cleared_acts (c.args.main.now ∷ []) c.args.cx.now c.destroy_end.new.cx
+              c.destroy_end.ensures.clears);
+  handles =
+      let core = c.args.core.now in
+      let new = c.queue_relay.new.core in
+      record {
+        keeps = c.queue_relay.ensures.keeps;
+        handles = record {
+          next = N.Go;
+          takes = takes_lost g.C.Link g.O.Link g.O.Upstream core new
+              (P.ResponseTransform c.args.request c.args.head) c.queue_relay.ensures.quiet;
+          due = λ n p none there. absurd (c.destroy_end.ensures.clears.lessens.none n p none there);
+        };
+      };
+}
 
 pub begin_body-step-requires-clause-fact : goal.begin_body-step-requires-clause-fact
 begin_body-step-requires-clause-fact g c = λ told also.
@@ -49,83 +62,67 @@ begin_body-step-requires-clause-fact g c = λ told also.
         c.args.core.now c.queue_relay.new.core c.in-Ok.made.driven.chain c.in-Ok.made.body
     c.queue_relay.ensures.keeps (c.in-Ok.ensures.ok told also)
 
-pub returns-in_default-clause-handles : goal.returns-in_default-clause-handles
-returns-in_default-clause-handles g c =
-    let core = c.args.core.now in
-    let new = c.queue_relay.new.core in
-    record {
-      keeps = c.queue_relay.ensures.keeps;
-      handles = record {
-        next = N.Go;
-        takes = takes_lost g.C.Link g.O.Link g.O.Upstream core new
-            (P.ResponseTransform c.args.request c.args.head) c.queue_relay.ensures.quiet;
-        due = λ n p none there. absurd (c.destroy_end.ensures.clears.lessens.none n p none there);
+pub returns-clause-owes : goal.returns-clause-owes
+returns-clause-owes g c = record {
+  sound =
+      let core = c.args.core.now in
+      let new = c.queue_relay.new.core in
+      let relay = c.begin_body-step.new.relay in
+      let step = c.begin_body-step.result in
+      let v = view_of g.C.Link g.O.Link new in
+      sound_here g.C.Link g.O.Link g.O.Upstream g.P.Transform core new
+      (K.Phased (P.ResponseTransform c.args.request c.args.head)) c.leave_body.result c.leave_body.new.main
+          c.leave_body.new.cx c.requires.stands c.queue_relay.ensures.keeps
+      (λ told also. stays_on (arc_value new.setup) (OriginRefuses g.C.Link g.O.Upstream new)
+          g.P.Transform.rest v (course_after relay step) c.leave_body.result
+      (led_on (arc_value new.setup) (OriginRefuses g.C.Link g.O.Upstream new) g.P.Transform.rest v
+          relay step (c.begin_body-step.ensures.leads told also))
+          (after_led step (course_after relay step) c.leave_body.result c.leave_body.ensures.course))
+      (lines_stay (arc_value new.setup) g.P.Transform.rest (course_after relay step) c.leave_body.result
+      (lines_after (arc_value new.setup) g.P.Transform.rest step c.in-Ok.made relay
+          c.begin_body-step.ensures.lowers.lines
+      (subst (λ x. IsOfLines (arc_value x) g.P.Transform.rest c.in-Ok.made.driven.chain)
+          (sym c.queue_relay.ensures.keeps.setup) c.in-Ok.ensures.lowers.lines))
+          (after_led step (course_after relay step) c.leave_body.result c.leave_body.ensures.course))
+      (λ told also. little_stay v (course_after relay step) c.leave_body.result
+      (little_begun v step c.in-Ok.made relay c.begin_body-step.ensures.lowers.first
+          (c.in-Ok.ensures.lowers.little told also))
+      (after_led step (course_after relay step) c.leave_body.result c.leave_body.ensures.course))
+      (c.leave_body.ensures.covered v
+      (stands_begun step v c.args.main.now c.begin_body-step.new.main relay c.args.cx.now
+          c.begin_body-step.new.cx c.known.ensures c.begin_body-step.ensures.begins c.requires.alone));
+  within =
+      let step = c.begin_body-step.result in
+      let few : set_leaving step ≤ 1 = set_one step in
+      acts_then 4 (set_leaving step) most_set (omega (arith, few)) c.begin_body-step.ensures.begins.acts
+          c.leave_body.ensures.within;
+  handles =
+      let core = c.args.core.now in
+      let new = c.queue_relay.new.core in
+      let relay = c.begin_body-step.new.relay in
+      let v = view_of g.C.Link g.O.Link new in
+      let led = begin_led g.C.Link g.O.Link g.O.Upstream relay c.begin_body-step.result c.leave_body.result
+      c.begin_body-step.ensures.begins.goes c.leave_body.ensures.course in
+      record {
+        keeps = c.queue_relay.ensures.keeps;
+        handles = record {
+          next = N.Go;
+          takes = takes_begin g.C.Link g.O.Link g.O.Upstream core new
+              (P.ResponseTransform c.args.request c.args.head) c.leave_body.result relay
+                  c.queue_relay.ensures.quiet led;
+          due = due_begin g.C.Link g.O.Link g.O.Upstream c.args.main.now v c.leave_body.new.main
+              c.args.cx.now
+              c.begin_body-step.new.cx c.leave_body.new.cx c.begin_body-step.result relay c.leave_body.result
+                  c.begin_body-step.ensures.begins.goes c.leave_body.ensures.course
+              c.begin_body-step.ensures.begins.acts.grows c.begin_body-step.ensures.due
+                  c.leave_body.ensures.within
+              (c.leave_body.ensures.covered v
+              (stands_begun c.begin_body-step.result v c.args.main.now c.begin_body-step.new.main relay
+                  c.args.cx.now c.begin_body-step.new.cx c.known.ensures c.begin_body-step.ensures.begins
+              c.requires.alone));
+        };
       };
-    }
-
-pub returns-clause-sound : goal.returns-clause-sound
-returns-clause-sound g c =
-    let core = c.args.core.now in
-    let new = c.queue_relay.new.core in
-    let relay = c.begin_body-step.new.relay in
-    let step = c.begin_body-step.result in
-    let v = view_of g.C.Link g.O.Link new in
-    sound_here g.C.Link g.O.Link g.O.Upstream g.P.Transform core new
-    (K.Phased (P.ResponseTransform c.args.request c.args.head)) c.leave_body.result c.leave_body.new.main
-        c.leave_body.new.cx c.requires.stands c.queue_relay.ensures.keeps
-    (λ told also. stays_on (arc_value new.setup) (OriginRefuses g.C.Link g.O.Upstream new)
-        g.P.Transform.rest v (course_after relay step) c.leave_body.result
-    (led_on (arc_value new.setup) (OriginRefuses g.C.Link g.O.Upstream new) g.P.Transform.rest v
-        relay step (c.begin_body-step.ensures.leads told also))
-        (after_led step (course_after relay step) c.leave_body.result c.leave_body.ensures.course))
-    (lines_stay (arc_value new.setup) g.P.Transform.rest (course_after relay step) c.leave_body.result
-    (lines_after (arc_value new.setup) g.P.Transform.rest step c.in-Ok.made relay
-        c.begin_body-step.ensures.lowers.lines
-    (subst (λ x. IsOfLines (arc_value x) g.P.Transform.rest c.in-Ok.made.driven.chain)
-        (sym c.queue_relay.ensures.keeps.setup) c.in-Ok.ensures.lowers.lines))
-        (after_led step (course_after relay step) c.leave_body.result c.leave_body.ensures.course))
-    (λ told also. little_stay v (course_after relay step) c.leave_body.result
-    (little_begun v step c.in-Ok.made relay c.begin_body-step.ensures.lowers.first
-        (c.in-Ok.ensures.lowers.little told also))
-    (after_led step (course_after relay step) c.leave_body.result c.leave_body.ensures.course))
-    (c.leave_body.ensures.covered v
-    (stands_begun step v c.args.main.now c.begin_body-step.new.main relay c.args.cx.now
-        c.begin_body-step.new.cx c.known.ensures c.begin_body-step.ensures.begins c.requires.alone))
-
-pub returns-clause-within : goal.returns-clause-within
-returns-clause-within g c =
-    let step = c.begin_body-step.result in
-    let few : set_leaving step ≤ 1 = set_one step in
-    acts_then 4 (set_leaving step) most_set (omega (arith, few)) c.begin_body-step.ensures.begins.acts
-        c.leave_body.ensures.within
-
-pub returns-clause-handles : goal.returns-clause-handles
-returns-clause-handles g c =
-    let core = c.args.core.now in
-    let new = c.queue_relay.new.core in
-    let relay = c.begin_body-step.new.relay in
-    let v = view_of g.C.Link g.O.Link new in
-    let led = begin_led g.C.Link g.O.Link g.O.Upstream relay c.begin_body-step.result c.leave_body.result
-    c.begin_body-step.ensures.begins.goes c.leave_body.ensures.course in
-    record {
-      keeps = c.queue_relay.ensures.keeps;
-      handles = record {
-        next = N.Go;
-        takes = takes_begin g.C.Link g.O.Link g.O.Upstream core new
-            (P.ResponseTransform c.args.request c.args.head) c.leave_body.result relay
-                c.queue_relay.ensures.quiet led;
-        due = due_begin g.C.Link g.O.Link g.O.Upstream c.args.main.now v c.leave_body.new.main
-            c.args.cx.now
-            c.begin_body-step.new.cx c.leave_body.new.cx c.begin_body-step.result relay c.leave_body.result
-                c.begin_body-step.ensures.begins.goes c.leave_body.ensures.course
-            c.begin_body-step.ensures.begins.acts.grows c.begin_body-step.ensures.due
-                c.leave_body.ensures.within
-            (c.leave_body.ensures.covered v
-            (stands_begun c.begin_body-step.result v c.args.main.now c.begin_body-step.new.main relay
-                c.args.cx.now c.begin_body-step.new.cx c.known.ensures c.begin_body-step.ensures.begins
-            c.requires.alone));
-      };
-    }
+}
 
 pub returns-in_default-clause-pays : goal.returns-in_default-clause-pays
 returns-in_default-clause-pays g c = λ told also.
