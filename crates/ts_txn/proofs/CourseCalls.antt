@@ -107,7 +107,7 @@ module _ {Q : Type 0} (Sound : State → List Named → Type 0) (v : View) (main
   alone_called course none covered = record {
     seated = unroused_seats main now.log.state.pending
         (still_seated Sound now role event c covered.plain (main ∷ [])
-            (subst (AllSeated c.before.pending) (seats_main course none) covered.seated));
+        (subst (AllSeated c.before.pending) (seats_main course none) covered.seated));
     plain = c.has.plain covered.plain;
     of_main = by_event covered.covered;
   }
@@ -121,15 +121,15 @@ module _ {Q : Type 0} (Sound : State → List Named → Type 0) (v : View) (main
   -- another event, at which nothing is done
   still_main : (course : Course Q) → PassesNoBody course
       → (IsOfStageIf c.before.pending now.roles MAIN main → IsOfStageIf now.log.state.pending now.roles MAIN
-          main)
+      main)
       → HasEventsOn v main course c.before.pending now.roles
-          → HasEventsOn v main course now.log.state.pending now.roles
+      → HasEventsOn v main course now.log.state.pending now.roles
   still_main (K.Relaying r) none keeps has = absurd none
   still_main _ none keeps (is, has) = (keeps is, has)
 
   still_covered : (course : Course Q) → PassesNoBody course
       → (IsOfStageIf c.before.pending now.roles MAIN main → IsOfStageIf now.log.state.pending now.roles MAIN
-          main)
+      main)
       → IsCoveredOn v main course c.before.pending c.before.next now.roles → IsCoveredNow v main course now
   still_covered course none keeps covered = record {
     seated = still_seated Sound now role event c covered.plain (course_seats main course) covered.seated;
@@ -148,14 +148,14 @@ module _ {Q : Type 0} (Sound : State → List Named → Type 0) (v : View) (main
       → IsCoveredOn v main course c.before.pending c.before.next now.roles → IsCoveredNow v main course now
   on_quiet course none rests covered =
       still_covered course none (quiet_if c.before.pending now.log.state.pending now.roles MAIN role event
-          main (handled_by Sound now role event c) rests) covered
+      main (handled_by Sound now role event c) rests) covered
 
   -- one of another continuation
   pub on_other : (course : Course Q) → PassesNoBody course → (role ≡ MAIN → ⊥)
       → IsCoveredOn v main course c.before.pending c.before.next now.roles → IsCoveredNow v main course now
   on_other course none other covered =
       still_covered course none (stays_if c.before.pending now.log.state.pending now.roles MAIN role event
-          main (handled_by Sound now role event c) (λ is. other (sym is))) covered
+      main (handled_by Sound now role event c) (λ is. other (sym is))) covered
 
   -- an event of a body that is passed on
   pub stands_handled : (step : BodyStep) (w : View) (u : Option StageContinuation) (r s : Relay Q)
@@ -176,8 +176,11 @@ module _ {Q : Type 0} (Sound : State → List Named → Type 0) (v : View) (main
         runs = h.runs (inl (has.runs, has.ends));
         ordered = h.ordered has.ordered;
       })
-      by_event (inr spent) = inr (omega (arith, spent_still Sound now role event c covered.plain spent,
-          grows_next now b c.orderly h.acts.grows))
+      by_event (inr spent) = inr (omega (
+        arith,
+        spent_still Sound now role event c covered.plain spent,
+        grows_next now b c.orderly h.acts.grows,
+      ))
 
 -- ---- a body begins
 
@@ -191,8 +194,13 @@ stands_begun step w t u s a b orderly h alone = record {
   where
     by_main : IsOfStageIf a.log.state.pending a.roles MAIN t ⊎ (GREATEST ≤ a.log.state.next)
         → HasStepDone step w u s b ⊎ (GREATEST ≤ b.log.state.next)
-    by_main (inl is) = inl (record { joined = h.joined is; covered = h.covered; runs = h.runs; ordered =
-        h.ordered })
+    by_main (inl is) = inl (record {
+      joined = h.joined is;
+      covered = h.covered;
+      runs = h.runs;
+      ordered =
+          h.ordered;
+    })
     by_main (inr spent) = inr (omega (arith, spent, grows_next a b orderly h.acts.grows))
 
 -- ---- nothing is pending

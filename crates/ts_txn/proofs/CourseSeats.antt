@@ -122,13 +122,17 @@ module _ {Q : Type 0} (v : View) (u : Option StageContinuation) (b : Context)
   goes_covered : (course : Course Q) → GoesAlone course
       → (IsOfStageIf b.log.state.pending b.roles MAIN u × IsRousedIf u) ⊎ (GREATEST ≤ b.log.state.next)
       → IsCoveredNow v u course b
-  goes_covered (K.Phased p) goes has = record { seated = seated; plain = plain; idles = idle_goes p u goes;
-      covered = by_event has }
+  goes_covered (K.Phased p) goes has = record {
+    seated = seated;
+    plain = plain;
+    idles = idle_goes p u goes;
+    covered = by_event has;
+  }
     where
       by_event : (IsOfStageIf b.log.state.pending b.roles MAIN u × IsRousedIf u) ⊎
           (GREATEST ≤ b.log.state.next)
           → (IsOfStageIf b.log.state.pending b.roles MAIN u × HasNextEvent p u) ⊎
-              (GREATEST ≤ b.log.state.next)
+          (GREATEST ≤ b.log.state.next)
       by_event (inl (is, roused)) = with_main p u b is (covered_roused p u b.log.state.next goes roused)
       by_event (inr spent) = inr spent
   goes_covered (K.Relaying r) goes has = absurd goes
@@ -157,7 +161,7 @@ pub led_alone : {Q : Type 0} (course : Course Q) (t u : Option StageContinuation
     → GoesAlone course → CoversAlone t u course a b
 led_alone course t u a b next seated acts goes alone v =
     goes_covered v u b (seated [] alone.seated) (acts.plain alone.plain) course goes
-        (by_event (next.roused refl) alone.of_main)
+    (by_event (next.roused refl) alone.of_main)
   where
     by_event : IsRousedIf u ⊎ (GREATEST ≤ b.log.state.next)
         → IsOfStageIf a.log.state.pending a.roles MAIN t ⊎ (GREATEST ≤ a.log.state.next)
@@ -172,8 +176,8 @@ pub lacks_alone : {Q : Type 0} (result : Course Q) (t u : Option StageContinuati
     → KeepsSeated (t ∷ []) (u ∷ []) a b → ActsWithin 1 a b → CoversAlone t u result a b
 lacks_alone result t u a b is next seated acts alone v =
     subst (λ x. IsCoveredNow v u x b) (sym is)
-        (ended_by v u b (seated [] alone.seated) (acts.plain alone.plain) (P.Ended E.NoMemory) refl
-        (next.lacks refl))
+    (ended_by v u b (seated [] alone.seated) (acts.plain alone.plain) (P.Ended E.NoMemory) refl
+    (next.lacks refl))
 
 -- where it ended, and its continuation was destroyed
 pub ended_alone : {Q : Type 0} (p : Phase) (result : Course Q) (t u : Option StageContinuation)
@@ -181,7 +185,7 @@ pub ended_alone : {Q : Type 0} (p : Phase) (result : Course Q) (t u : Option Sta
     → CoversAlone t u result a b
 ended_alone p result t u a b same is clears none alone v =
     subst (λ x. IsCoveredNow v u x b) (sym same)
-        (ended_by v u b (gone_seated t u a b clears alone.seated) (clears.less.plain alone.plain) p is none)
+    (ended_by v u b (gone_seated t u a b clears alone.seated) (clears.less.plain alone.plain) p is none)
 
 -- ---- a body is left
 
@@ -191,16 +195,18 @@ left_main : {P : Type 0} (t : Option StageContinuation) (r : Relay P) (a b : Con
     a.roles
     → IsOfStageIf b.log.state.pending b.roles MAIN t
 left_main t r a b clears joined =
-    (clears.others READER
-    (named_of a.log.state.pending a.roles READER r.reader joined.of_reader, of_stages_named
-        a.log.state.pending a.roles FIRST r.driven.table.items joined.stages.of_stages)
+    (clears.others READER (
+      named_of a.log.state.pending a.roles READER r.reader joined.of_reader,
+      of_stages_named
+          a.log.state.pending a.roles FIRST r.driven.table.items joined.stages.of_stages,
+    )
     MAIN t (inl (omega arith)) (named_of a.log.state.pending a.roles MAIN t joined.of_writer)).of_stage
-        joined.of_writer
+    joined.of_writer
 
 left_alone : {P : Type 0} (step : BodyStep) (v : View) (t : Option StageContinuation) (r : Relay P)
     (a b : Context) → Clears (relay_seats r) a b
     → (UnlessLacking step (RunsOr r a.log.state.next) → RunsOr r a.log.state.next) → StandsBehind step v t r a
-        → IsAlone t b
+    → IsAlone t b
 left_alone step v t r a b clears unless stands = record {
   seated = seated_cleared (t ∷ []) (relay_seats r) a b clears stands.seated;
   plain = clears.less.plain stands.plain;
@@ -232,7 +238,7 @@ runs_closing step end X is h = subst (λ (s : BodyStep). UnlessLacking s X) is h
 pub left_covers : {Q : Type 0} (step : BodyStep) (r : Relay Q) (result : Course Q)
     (t u : Option StageContinuation) (a m b : Context)
     → (UnlessLacking step (RunsOr r a.log.state.next) → RunsOr r a.log.state.next)
-        → Clears (relay_seats r) a m → CoversAlone t u result m b → CoversLed step r t u result a b
+    → Clears (relay_seats r) a m → CoversAlone t u result m b → CoversLed step r t u result a b
 left_covers step r result t u a m b unless clears covers v stands = covers
     (left_alone step v t r a m clears unless stands) v
 
@@ -243,7 +249,7 @@ pub lost_covers : {Q : Type 0} (step : BodyStep) (r : Relay Q) (result : Course 
 lost_covers step r result t u a m b is clears gone none v stands =
     subst (λ x. IsCoveredNow v u x b) (sym is)
     (ended_by v u b (gone_seated t u m b gone (seated_cleared (t ∷ []) (relay_seats r) a m clears
-        stands.seated)) (gone.less.plain (clears.less.plain stands.plain)) (P.Ended E.NoMemory) refl none)
+    stands.seated)) (gone.less.plain (clears.less.plain stands.plain)) (P.Ended E.NoMemory) refl none)
 
 -- used-up numbers do not end it there
 pub left_spent : {Q : Type 0} (led : Course Q) (r : Relay Q) (result : Course Q)
@@ -252,4 +258,4 @@ pub left_spent : {Q : Type 0} (led : Course Q) (r : Relay Q) (result : Course Q)
     → StaysWhereNamed led r result t a
 left_spent led r result t a b clears stays named all spent live =
     stays (subst (λ (n : ℕ). GREATEST ≤ n) (sym clears.less.next) spent)
-        ((clears.others READER all MAIN t (inl (omega arith)) named).live live)
+    ((clears.others READER all MAIN t (inl (omega arith)) named).live live)

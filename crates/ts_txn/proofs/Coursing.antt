@@ -86,34 +86,34 @@ pub course_settled : {C O Q : Type 0} (client : link.Ghosts C) (origin : link.Gh
     (both : upstream.Ghosts O C) (rest : Q → List ℕ → List ℕ) (old new : Core C O)
     (course : Course Q) → StepKeeps client origin both old new
     → CourseFact (arc_value old.setup) (OriginRefuses client both old) rest (view_of client origin new)
-        course
+    course
     → CourseFact (arc_value new.setup) (OriginRefuses client both new) rest (view_of client origin new)
-        course
+    course
 course_settled client origin both rest old new course keeps h =
     let v = view_of client origin new in
     let to : OriginRefuses client both old → OriginRefuses client both new = λ r.
     subst (λ (c : List ℕ). refuses_if both.refuses new.origin c) (sym keeps.client.source)
-        (keeps.refusal.still _ r) in
+    (keeps.refusal.still _ r) in
     let from : OriginRefuses client both new → OriginRefuses client both old = λ r.
     keeps.refusal.before _ (subst (λ (c : List ℕ). refuses_if both.refuses new.origin c) keeps.client.source
-        r) in
+    r) in
     subst (λ s. CourseFact (arc_value s) (OriginRefuses client both new) rest v course) (sym keeps.setup)
     (course_moved (arc_value old.setup) (OriginRefuses client both old) (OriginRefuses client both new)
-        to from rest v course h)
+    to from rest v course h)
 
 -- a body whose head is queued
 pub enters_settled : {C O Q : Type 0} (client : link.Ghosts C) (origin : link.Ghosts O)
     (both : upstream.Ghosts O C) (rest : Q → List ℕ → List ℕ) (old new : Core C O)
     (c : ChainState Q) (place : Place) → StepKeeps client origin both old new
     → EntersBody (arc_value old.setup) (OriginRefuses client both old) rest (view_of client origin new) c
-        place
+    place
     → EntersBody (arc_value new.setup) (OriginRefuses client both new) rest (view_of client origin new) c
-        place
+    place
 enters_settled client origin both rest old new c place keeps h =
     let v = view_of client origin new in
     let from : OriginRefuses client both new → OriginRefuses client both old = λ r.
     keeps.refusal.before _ (subst (λ (c : List ℕ). refuses_if both.refuses new.origin c) keeps.client.source
-        r) in
+    r) in
     subst (λ s. EntersBody (arc_value s) (OriginRefuses client both new) rest v c place) (sym keeps.setup)
     (entering (arc_value old.setup) (OriginRefuses client both old) (OriginRefuses client both new) from
-        rest v c place h)
+    rest v c place h)

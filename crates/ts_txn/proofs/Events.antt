@@ -98,10 +98,10 @@ module _ {C O Q : Type 0} (client : link.Ghosts C) (origin : link.Ghosts O) (bot
   pub takes_step : (s t : Core C O) (p : Phase) (new : Course Q) (made : Step) → StepLeads made
       → MindsLinksIn client origin both s t p made
       → WaitsRightly made.next (view_of client origin s) (view_of client origin t)
-          → IfTold client.tells origin.tells (LeavesSides p (view_of client origin s)
-              (view_of client origin t))
+      → IfTold client.tells origin.tells (LeavesSides p (view_of client origin s)
+      (view_of client origin t))
       → LedBehind made.next (K.Phased made.phase) new
-          → TakesStep client origin both s t p made.next new
+      → TakesStep client origin both s t p made.next new
   takes_step s t p new made leads minds waits leaves led = record {
     minds = by_lead (behind_led made.next (K.Phased made.phase) new led);
     waits = waits;
@@ -113,7 +113,7 @@ module _ {C O Q : Type 0} (client : link.Ghosts C) (origin : link.Ghosts O) (bot
     where
       by_lead : StaysOnOrLacks (K.Phased made.phase) new
           → (new ≡ K.Phased (P.Ended E.NoMemory)) ⊎ ((t ≡ s) × (new ≡ K.Phased p)) ⊎ MindsCourse client origin
-              both s t p made.next new
+          both s t p made.next new
       by_lead (inl same) = inr (inr (subst (MindsCourse client origin both s t p
           made.next) (sym same) minds))
       by_lead (inr lacks) = inl lacks
@@ -136,7 +136,7 @@ module _ {C O Q : Type 0} (client : link.Ghosts C) (origin : link.Ghosts O) (bot
   pub takes_begin : (s t : Core C O) (p : Phase) (new : Course Q) (r : Relay Q)
       → BeginsIn p (view_of client origin s) (view_of client origin t)
       → (new ≡ K.Relaying r) ⊎ (new ≡ K.Phased (P.Ended E.NoMemory))
-          → TakesStep client origin both s t p N.Go new
+      → TakesStep client origin both s t p N.Go new
   takes_begin s t p new r begins led = record {
     minds = by_lead led;
     waits = tt;
@@ -147,7 +147,7 @@ module _ {C O Q : Type 0} (client : link.Ghosts C) (origin : link.Ghosts O) (bot
     where
       by_lead : (new ≡ K.Relaying r) ⊎ (new ≡ K.Phased (P.Ended E.NoMemory))
           → (new ≡ K.Phased (P.Ended E.NoMemory)) ⊎ ((t ≡ s) × (new ≡ K.Phased p)) ⊎ MindsCourse client origin
-              both s t p N.Go new
+          both s t p N.Go new
       by_lead (inl same) = inr (inr (subst (MindsCourse client origin both s t p N.Go)
           (sym same) begins))
       by_lead (inr lacks) = inl lacks
@@ -180,7 +180,7 @@ module _ {C O Q : Type 0} (client : link.Ghosts C) (origin : link.Ghosts O) (bot
   pub due_begin : (main : Option StageContinuation) (v : View) (u : Option StageContinuation)
       (a m b : Context) (step : BodyStep) (r : Relay Q) (new : Course Q) → OnGoes step ⊤
       → LedAfter step (course_after r step) new → Grows a m → BeginsInTime main r a m
-          → ActsWithin (set_leaving step) m b → IsCoveredNow v u new b → DueTo main N.Go new a b
+      → ActsWithin (set_leaving step) m b → IsCoveredNow v u new b → DueTo main N.Go new a b
   due_begin main v u a m b S.Goes r new goes led first begins then covered = subst
       (λ x. DueTo main N.Go x a b) (sym led) (record
       { behind = m; first = first; begins = begins; then = then })
@@ -274,13 +274,17 @@ module _ {C O Q : Type 0} (client : link.Ghosts C) (origin : link.Ghosts O) (bot
   pub handles_phased : (s t : Core C O) (a b : Context) (role : ℕ) (main u : Option StageContinuation)
       → u ≡ unroused main → (course : Course Q) (p : Phase) → course ≡ K.Phased p → (new : Course Q)
       → HandlesEvent client origin both s t a b MAIN u (K.Phased p) new
-          → HandlesEvent client origin both s t a b role main course new
+      → HandlesEvent client origin both s t a b role main course new
   handles_phased s t a b role main u quiet course p is new h =
       subst (λ x. HandlesEvent client origin both s t a b role main x new) (sym is)
-          (record {
+      (record {
         keeps = h.keeps;
-        handles = record { next = h.handles.next; takes = h.handles.takes; due = due_before main u quiet
-            h.handles.next new a b h.handles.due };
+        handles = record {
+          next = h.handles.next;
+          takes = h.handles.takes;
+          due = due_before main u quiet
+              h.handles.next new a b h.handles.due;
+        };
       })
 
   -- where an event leads, without the moments of those that are set

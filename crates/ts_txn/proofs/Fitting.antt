@@ -73,8 +73,8 @@ module _ {C O : Type 0} (client : C → Look) (origin : O → Look) where
       → arc_value t.core.setup ≡ tag.setup.value → t.core.plugins_at ≡ tag.plugins_at
       → IsMadeOf client tag.client.value t.core.client → IsMadeOfIf origin tag.origin.value t.core.origin
       → (tag.sure ≡ true → IsSure (client tag.client.value) ×
-          ((l : O) → tag.origin.value ≡ Some l → IsSure (origin l))) → tag.started ≡ false → IsTxnOf client
-          origin tag t
+      ((l : O) → tag.origin.value ≡ Some l → IsSure (origin l))) → tag.started ≡ false → IsTxnOf client
+      origin tag t
   fits_made tag t number setup plugins of_client of_origin sure started = record {
     number = number;
     setup = setup;

@@ -53,7 +53,7 @@ fresh_alone : {Q : Type 0} (v : View) (main : Option StageContinuation) (course 
     → is_fresh_on course ≡ true → IsCoveredNow v main course now → IsAlone main now
 fresh_alone {Q} v main course now fresh covered =
     let h : IsCoveredNow {Q = Q} v main (K.Phased P.Fresh) now = subst (λ x. IsCoveredNow v main x now)
-        (fresh_on course fresh) covered in
+    (fresh_on course fresh) covered in
     record { seated = h.seated; plain = h.plain; of_main = by_event h.covered }
   where
     by_event : HasEventsOn {Q = Q} v main (K.Phased P.Fresh) now.log.state.pending now.roles ⊎
@@ -85,8 +85,11 @@ front_same first now most same less = omega (arith, same, less)
 
 little_first : {P : Type 0} (v : View) (c d : ChainState P) → d.first ≡ c.first → HoldsLittle v c
     → HoldsLittle v d
-little_first v c d same little = record { held = little.held; front = front_same (length c.first)
-    (length d.first) (MOST_WAITING + MOST_PULLED) (ap length same) little.front }
+little_first v c d same little = record {
+  held = little.held;
+  front = front_same (length c.first)
+      (length d.first) (MOST_WAITING + MOST_PULLED) (ap length same) little.front;
+}
 
 pub little_begun : {Q : Type 0} (v : View) (step : BodyStep) (r s : Relay Q)
     → WhileGoes step (s.driven.chain.first ≡ r.driven.chain.first)
@@ -114,14 +117,14 @@ module _ {C O Q : Type 0} (client : link.Ghosts C) (origin : link.Ghosts O) (bot
       → IsSoundTxn client origin both stage t a.log.state.pending a.log.state.next
       a.roles → u.core ≡ t.core
       → is_fresh_on t.course ≡ true → StaysOnOrLacks (K.Phased P.TxnStart) u.course
-          → CoversAlone t.main u.main u.course a b
+      → CoversAlone t.main u.main u.course a b
       → IsSoundTxn client origin both stage u b.log.state.pending b.log.state.next
-          b.roles
+      b.roles
   sound_begun t u a b h same fresh led covers =
       let was : CourseHolds client origin both stage t.core (K.Phased P.Fresh) = subst
-          (CourseHolds client origin both stage t.core) (fresh_on t.course fresh) h.stands.holds in
+      (CourseHolds client origin both stage t.core) (fresh_on t.course fresh) h.stands.holds in
       subst (λ k. IsSoundNow client origin both stage k u.main u.course b) (sym same)
-          (record {
+      (record {
         stands = record {
           holds = λ told also. stays_on (arc_value t.core.setup) (OriginRefuses client both t.core) stage.rest
               (view_of client origin t.core) (K.Phased P.TxnStart) u.course (was told also) led;
@@ -140,10 +143,10 @@ module _ {C O Q : Type 0} (client : link.Ghosts C) (origin : link.Ghosts O) (bot
       → IsAsked (λ s roles. IsSoundTxn client origin both stage t s.pending s.next roles)
       now
       → IsSoundTxn client origin both stage t now.log.state.pending now.log.state.next
-          now.roles
+      now.roles
   sound_asked t now asked =
       subst (λ ps. IsSoundOn client origin both stage t.core t.main t.course ps
-          now.log.state.next now.roles) (sym asked.pending) (record {
+      now.log.state.next now.roles) (sym asked.pending) (record {
         stands = asked.sound.stands;
         covered = later_covered (view_of client origin t.core) t.main t.course asked.before.pending
             asked.before.next now.log.state.next now.roles (omega (arith, asked.next)) asked.sound.covered;
@@ -152,7 +155,7 @@ module _ {C O Q : Type 0} (client : link.Ghosts C) (origin : link.Ghosts O) (bot
   module _ (core : Core C O) (main : Option StageContinuation) (was course : Course Q) (same : was ≡ course)
       (none : PassesNoBody course) (now : Context) (role : ℕ) (event : Event)
       (c : IsCalled (λ s roles. IsSoundOn client origin both stage core main was
-          s.pending s.next roles) now role event) where
+      s.pending s.next roles) now role event) where
     stood : HoldsOn client origin both stage core course
     stood = subst (λ x. HoldsOn client origin both stage core x) same c.sound.stands
 
@@ -164,14 +167,20 @@ module _ {C O Q : Type 0} (client : link.Ghosts C) (origin : link.Ghosts O) (bot
     -- an event of another continuation, where no body is passed on
     pub sound_other : (role ≡ MAIN → ⊥) → IsSoundNow client origin both stage core main
         course now
-    sound_other other = record { stands = stood; covered = on_other _ (view_of client origin core) main now
-        role event c course none other was_covered }
+    sound_other other = record {
+      stands = stood;
+      covered = on_other _ (view_of client origin core) main now
+          role event c course none other was_covered;
+    }
 
     -- one at which it does not work
     pub sound_quiet : works_at event ≡ false
         → IsSoundNow client origin both stage core main course now
-    sound_quiet rests = record { stands = stood; covered = on_quiet _ (view_of client origin core) main now
-        role event c course none rests was_covered }
+    sound_quiet rests = record {
+      stands = stood;
+      covered = on_quiet _ (view_of client origin core) main now
+          role event c course none rests was_covered;
+    }
 
     -- one at which the first continuation makes the next step
     pub alone_then : (t : Option StageContinuation) → t ≡ unroused main → IsAlone t now
@@ -182,30 +191,39 @@ module _ {C O Q : Type 0} (client : link.Ghosts C) (origin : link.Ghosts O) (bot
   pub sound_here : (s t : Core C O) (old new : Course Q) (u : Option StageContinuation) (b : Context)
       → HoldsOn client origin both stage s old
       → StepKeeps client origin both s t → CourseHolds client origin both stage t new
-          → IsOfLinesOn (arc_value t.setup) stage.rest new
+      → IsOfLinesOn (arc_value t.setup) stage.rest new
       → IfTold client.tells origin.tells (HoldsLittleOn (view_of client origin t) new)
-          → IsCoveredNow (view_of client origin t) u new b
-          → IsSoundNow client origin both stage t u new b
+      → IsCoveredNow (view_of client origin t) u new b
+      → IsSoundNow client origin both stage t u new b
   sound_here s t old new u b stands keeps holds lines little covered =
-      record { stands = record { holds = holds; pair = keeps.pair stands.pair; acts = stands.acts; lines =
-          lines; little = little }; covered = covered }
+      record {
+        stands = record {
+          holds = holds;
+          pair = keeps.pair stands.pair;
+          acts = stands.acts;
+          lines =
+              lines;
+          little = little;
+        };
+        covered = covered;
+      }
 
   -- by a step, whose facts speak of what the origin's link refused before it
   pub sound_led : (s t : Core C O) (old led new : Course Q) (u : Option StageContinuation) (b : Context)
       → HoldsOn client origin both stage s old
       → StepKeeps client origin both s t
-          → IfTold client.tells origin.tells (CourseFact (arc_value s.setup) (OriginRefuses client both s)
-              stage.rest
-          (view_of client origin t) led)
+      → IfTold client.tells origin.tells (CourseFact (arc_value s.setup) (OriginRefuses client both s)
+      stage.rest
+      (view_of client origin t) led)
       → IsOfLinesOn (arc_value s.setup) stage.rest led
-          → IfTold client.tells origin.tells (HoldsLittleOn (view_of client origin t) led)
-          → StaysOnOrLacks led new → IsCoveredNow (view_of client origin t) u new b
+      → IfTold client.tells origin.tells (HoldsLittleOn (view_of client origin t) led)
+      → StaysOnOrLacks led new → IsCoveredNow (view_of client origin t) u new b
       → IsSoundNow client origin both stage t u new b
   sound_led s t old led new u b stands keeps fact lines little stays covered =
       sound_here s t old new u b stands keeps
       (λ told also. course_settled client origin both stage.rest s t new keeps
       (stays_on (arc_value s.setup) (OriginRefuses client both s) stage.rest (view_of client origin t) led new
-          (fact told also) stays))
+      (fact told also) stays))
       (subst (λ x. IsOfLinesOn (arc_value x) stage.rest new) (sym keeps.setup)
-          (lines_stay (arc_value s.setup) stage.rest led new lines stays))
+      (lines_stay (arc_value s.setup) stage.rest led new lines stays))
       (λ told also. little_stay (view_of client origin t) led new (little told also) stays) covered

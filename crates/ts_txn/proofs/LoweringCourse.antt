@@ -58,7 +58,7 @@ use Rattle.ts_relay.proofs.LoweringRelay.{ended_if}
 paid_end : (before mid now : List Pending) (m m' upload : Option ℕ) (f : ℕ → ℕ → ℕ) (more : ℕ)
     → Falls (number_left before m) more (number_left mid (if_told m' upload f))
     → length now ≤ length mid + more → Falls (number_left before m) 0
-        (number_left now (if_told m' (Some 0) (λ x y. 0)))
+    (number_left now (if_told m' (Some 0) (λ x y. 0)))
 paid_end before mid now None m' upload f more paid few = tt
 paid_end before mid now (Some x) None upload f more paid few = absurd paid
 paid_end before mid now (Some x) (Some x') None f more paid few = absurd paid
@@ -102,18 +102,18 @@ module _ {Q : Type 0} (setup : Setup) (rest : Q → List ℕ → List ℕ) where
   pub body_led : (step : BodyStep) (r : Relay Q) (result : Course Q) (w : View) (upload : Option ℕ)
       (before mid now : List Pending) (m : Option ℕ) → StaysOnOrLacks (course_after r step) result
       → Falls (number_left before m) (set_leaving step) (number_left mid (left_after setup rest step w r))
-          → length now ≤ length mid + set_leaving step
+      → length now ≤ length mid + set_leaving step
       → Falls (number_left before m) 0 (number_left now (course_left setup rest upload w result))
   body_led step r result w upload before mid now m (inl same) paid few =
       subst (λ (c : Course Q). Falls (number_left before m) 0
-          (number_left now (course_left setup rest upload w c))) (sym same)
+      (number_left now (course_left setup rest upload w c))) (sym same)
       (subst (λ (n : Option ℕ). Falls (number_left before m) 0 (number_left now n))
-          (sym (course_after_left step r w upload))
+      (sym (course_after_left step r w upload))
       (paid_then before mid now m (left_after setup rest step w r) (set_leaving step) 0 paid
-          (plus_none (length now) (length mid) (set_leaving step) few)))
+      (plus_none (length now) (length mid) (set_leaving step) few)))
   body_led step r result w upload before mid now m (inr lacks) paid few =
       subst (λ (c : Course Q). Falls (number_left before m) 0
-          (number_left now (course_left setup rest upload w c))) (sym lacks)
+      (number_left now (course_left setup rest upload w c))) (sym lacks)
       (after_ended step r w before mid now m (set_leaving step) paid few)
 
   -- the chain stays one of the configuration's
@@ -137,18 +137,18 @@ module _ {Q : Type 0} (setup : Setup) (rest : Q → List ℕ → List ℕ) where
   pub begun_led : (q : Request) (h : ResponseHead) (step : BodyStep) (r s : Relay Q) (result : Course Q)
       (v w : View) (upload upload_then : Option ℕ) (before mid now : List Pending)
       → Fewer (work_left setup upload v (P.ResponseTransform q h)) (unbegun_left setup rest w r)
-          → NoMore (unbegun_left setup rest w r) (left_after setup rest step w s)
+      → NoMore (unbegun_left setup rest w r) (left_after setup rest step w s)
       → length mid ≤ length before + 4 → StaysOnOrLacks (course_after s step) result
-          → length now ≤ length mid + set_leaving step
+      → length now ≤ length mid + set_leaving step
       → Falls (number_left before (work_left setup upload v (P.ResponseTransform q h))) 0
-          (number_left now (course_left setup rest upload_then w result))
+      (number_left now (course_left setup rest upload_then w result))
   begun_led q h step r s result v w upload upload_then before mid now fell kept few led behind =
       body_led step s result w upload_then before mid now (work_left setup upload v (P.ResponseTransform q h))
-          led
+      led
       (paid_fewer before mid (work_left setup upload v (P.ResponseTransform q h))
-          (left_after setup rest step w s) (set_leaving step)
+      (left_after setup rest step w s) (set_leaving step)
       (fewer_then (work_left setup upload v (P.ResponseTransform q h)) (unbegun_left setup rest w r)
-          (left_after setup rest step w s) fell kept)
+      (left_after setup rest step w s) fell kept)
       (five_paid (length before) (length mid) (set_leaving step) few (set_one step))) behind
 
   -- memory lacked for its head
@@ -156,10 +156,10 @@ module _ {Q : Type 0} (setup : Setup) (rest : Q → List ℕ → List ℕ) where
       (before now : List Pending) → w.client.look.agains ≡ v.client.look.agains
       → w.origin.look.agains ≡ v.origin.look.agains → length now ≤ length before
       → Falls (number_left before (work_left setup upload v (P.ResponseTransform q h))) 0
-          (number_left now (course_left setup rest upload_then w (K.Phased (P.Ended E.NoMemory))))
+      (number_left now (course_left setup rest upload_then w (K.Phased (P.Ended E.NoMemory))))
   not_begun q h v w upload upload_then before now client origin none =
       paid_none before now (work_left setup upload v (P.ResponseTransform q h)) (ended_left w)
-          (zero_more (agains_left v) (agains_left w) (phase_work_of v) (same_agains v w client origin)) none
+      (zero_more (agains_left v) (agains_left w) (phase_work_of v) (same_agains v w client origin)) none
     where
       phase_work_of : View → ℕ → ℕ
       phase_work_of v x = phase_work setup x 0 v (P.ResponseTransform q h)
@@ -192,39 +192,39 @@ module _ {Q : Type 0} (setup : Setup) (rest : Q → List ℕ → List ℕ) where
       (before now : List Pending) → StaysOnOrLacks (finish_after end step) result
       → Fewer (finish_left v) (rest_after step w) → length now ≤ length before + 1
       → Falls (number_left before (finish_left v)) 0
-          (number_left now (course_left setup rest upload w result))
+      (number_left now (course_left setup rest upload w result))
   finish_led end step result v w upload before now (inl same) fell few =
       subst (λ (c : Course Q). Falls (number_left before (finish_left v)) 0
-          (number_left now (course_left setup rest upload w c))) (sym same)
+      (number_left now (course_left setup rest upload w c))) (sym same)
       (subst (λ (n : Option ℕ). Falls (number_left before (finish_left v)) 0 (number_left now n))
-          (sym (finish_after_left end step w upload))
+      (sym (finish_after_left end step w upload))
       (paid_fewer before now (finish_left v) (rest_after step w) 0 fell
-          (one_paid (length now) (length before) few)))
+      (one_paid (length now) (length before) few)))
   finish_led end step result v w upload before now (inr lacks) fell few =
       subst (λ (c : Course Q). Falls (number_left before (finish_left v)) 0
-          (number_left now (course_left setup rest upload w c))) (sym lacks)
+      (number_left now (course_left setup rest upload w c))) (sym lacks)
       (paid_fewer before now (finish_left v) (ended_left w) 0 (rest_ended step (finish_left v) w fell)
-          (one_paid (length now) (length before) few))
+      (one_paid (length now) (length before) few))
 
   -- ---- the step of a phase
 
   pub phase_led : (p : Phase) (step : Step) (result : Course Q) (v w : View) (upload upload_then : Option ℕ)
       (before now : List Pending) → StaysOnOrLacks (K.Phased step.phase) result
       → StepFalls step.next (work_left setup upload v p) (work_left setup upload_then w step.phase)
-          → length now ≤ length before + set_after step.next
+      → length now ≤ length before + set_after step.next
       → Falls (number_left before (work_left setup upload v p)) 0
-          (number_left now (course_left setup rest upload_then w result))
+      (number_left now (course_left setup rest upload_then w result))
   phase_led p step result v w upload upload_then before now (inl same) fell few =
       subst (λ (c : Course Q). Falls (number_left before (work_left setup upload v p)) 0
-          (number_left now (course_left setup rest upload_then w c))) (sym same)
+      (number_left now (course_left setup rest upload_then w c))) (sym same)
       (step_pays before now step.next (work_left setup upload v p) (work_left setup upload_then w step.phase)
-          fell few)
+      fell few)
   phase_led p step result v w upload upload_then before now (inr lacks) fell few =
       subst (λ (c : Course Q). Falls (number_left before (work_left setup upload v p)) 0
-          (number_left now (course_left setup rest upload_then w c))) (sym lacks)
+      (number_left now (course_left setup rest upload_then w c))) (sym lacks)
       (step_pays before now step.next (work_left setup upload v p) (ended_left w)
       (ended_step step.next (work_left setup upload v p) (agains_left w) (upload_in upload_then step.phase)
-          (λ x y. phase_work setup x y w step.phase) fell) few)
+      (λ x y. phase_work setup x y w step.phase) fell) few)
 
 -- ---- in the group
 
@@ -236,8 +236,8 @@ module _ {C O Q : Type 0} (client : link.Ghosts C) (origin : link.Ghosts O) (bot
   -- where nothing was done
   pub stays_on : (core : Core C O) (course : Course Q) (pending : List Pending)
       → IfTold client.tells origin.tells (Falls
-          (number_left pending (parts_left client origin both stage core course)) 0
-          (number_left pending (parts_left client origin both stage core course)))
+      (number_left pending (parts_left client origin both stage core course)) 0
+      (number_left pending (parts_left client origin both stage core course)))
   stays_on core course pending told also = falls_refl
       (number_left pending (parts_left client origin both stage core course))
 
@@ -251,23 +251,23 @@ module _ {C O Q : Type 0} (client : link.Ghosts C) (origin : link.Ghosts O) (bot
   pub transaction_falls : (old new : Core C O) (course result : Course Q) (before after now : List Pending)
       → new.setup ≡ old.setup → length after + 1 ≡ length before
       → IfTold client.tells origin.tells (Falls
-          (number_left after (parts_left client origin both stage old course)) 0
+      (number_left after (parts_left client origin both stage old course)) 0
       (number_left now (course_left (arc_value old.setup) stage.rest (upload_of both new)
-          (view_of client origin new) result)))
+      (view_of client origin new) result)))
       → Falls (transaction_left client origin both stage old course before) 1
-          (transaction_left client origin both stage new result now)
+      (transaction_left client origin both stage new result now)
   transaction_falls old new course result before after now setup handled paid =
       subst (λ (s : Setup). Falls (transaction_left client origin both stage old course before) 1
       (number_if (client.tells && origin.tells)
-          (number_left now (course_left s stage.rest (upload_of both new)
-          (view_of client origin new) result)))) (sym (ap arc_value setup))
+      (number_left now (course_left s stage.rest (upload_of both new)
+      (view_of client origin new) result)))) (sym (ap arc_value setup))
       (if_both client.tells origin.tells (number_left before (parts_left client origin both stage old course))
       (number_left now (course_left (arc_value old.setup) stage.rest (upload_of both new)
-          (view_of client origin new) result)) 1
+      (view_of client origin new) result)) 1
       (λ told also. handled_falls before after now (parts_left client origin both stage old course)
       (course_left (arc_value old.setup) stage.rest (upload_of both new)
-          (view_of client origin new) result) (less_by_one (length after) (length before) handled)
-          (paid told also)))
+      (view_of client origin new) result) (less_by_one (length after) (length before) handled)
+      (paid told also)))
 
 -- where nothing was done
 pub hears_same : {R T : Type 0} (asked : Asked R T) (m n : Option ℕ) → n ≡ m → TellFalls asked m n
@@ -288,7 +288,7 @@ asked_same m n same = subst (λ (x : Option ℕ). Falls m 0 x) (sym same) (falls
 pub covered_called : {Q : Type 0} (Sound : State → List Named → Type 0) (v : View)
     (main : Option StageContinuation) (r : Relay Q) (now : Context) (role : ℕ) (event : Event)
     (c : IsCalled Sound now role event) → IsCoveredOn v main (K.Relaying r) c.before.pending c.before.next
-        now.roles → IsBodyCovered v main r now.log.state.next
+    now.roles → IsBodyCovered v main r now.log.state.next
 covered_called Sound v main r now role event c covered = by_event covered.covered
   where
     by_event : BodyHasEvents v main r c.before.pending now.roles ⊎ (GREATEST ≤ c.before.next)

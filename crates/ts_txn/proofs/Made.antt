@@ -41,8 +41,13 @@ module _ {L : Type 0} (look : L → Look) where
 
   untouched_if : (o : Option L) (x : Option (Peer L)) → IsMadeOfIf look o x → IsNewLinkIf look o
       → Untouched (side_if look x)
-  untouched_if None None made unused = record { count = omega arith; no_taken = refl; no_waits = refl;
-      no_given = refl; no_held = refl }
+  untouched_if None None made unused = record {
+    count = omega arith;
+    no_taken = refl;
+    no_waits = refl;
+    no_given = refl;
+    no_held = refl;
+  }
   untouched_if None (Some p) made unused = absurd made
   untouched_if (Some l) None made unused = absurd made
   untouched_if (Some l) (Some p) made unused = untouched l p made unused
@@ -50,57 +55,64 @@ module _ {L : Type 0} (look : L → Look) where
 module _ {C O Q : Type 0} (client : link.Ghosts C) (origin : link.Ghosts O) (c : C) (o : Option O)
     (t : Txn C O Q)
     (of_client : IsMadeOf client.look c t.core.client) (of_origin : IsMadeOfIf origin.look o t.core.origin)
-        where
-  asking : IsNewLink (client.look c) → IsNewLinkIf origin.look o → t.core.sent.head ≡ 0
-      → t.core.sent.mode ≡ M.Plain
-      → t.core.sent.cuts.items ≡ [] → Asking (view_of client origin t.core)
-  asking unused unused_origin head mode cuts =
-      let u = untouched client.look c t.core.client of_client unused in
-      record {
-        count = u.count;
-        quiet = record { no_taken = u.no_taken; no_waits = u.no_waits; no_head = head; plain = mode; no_cuts =
-            cuts };
-        untouched = untouched_if origin.look o t.core.origin of_origin unused_origin;
-        held = u.no_given ∙ sym u.no_held;
-      }
+  where
+    asking : IsNewLink (client.look c) → IsNewLinkIf origin.look o → t.core.sent.head ≡ 0
+        → t.core.sent.mode ≡ M.Plain
+        → t.core.sent.cuts.items ≡ [] → Asking (view_of client origin t.core)
+    asking unused unused_origin head mode cuts =
+        let u = untouched client.look c t.core.client of_client unused in
+        record {
+          count = u.count;
+          quiet = record {
+            no_taken = u.no_taken;
+            no_waits = u.no_waits;
+            no_head = head;
+            plain = mode;
+            no_cuts =
+                cuts;
+          };
+          untouched = untouched_if origin.look o t.core.origin of_origin unused_origin;
+          held = u.no_given ∙ sym u.no_held;
+        }
 
-  paired_if : (paired : C → O → Type 0) (o : Option O) (x : Option (Peer O)) → IsMadeOfIf origin.look o x
-      → ArePaired paired c o → PairIf paired t.core.client.link x
-  paired_if paired None None made pair = tt
-  paired_if paired None (Some p) made pair = absurd made
-  paired_if paired (Some l) None made pair = absurd made
-  paired_if paired (Some l) (Some p) made pair =
-      subst (λ (k : O). paired t.core.client.link k) (sym made.link_is)
-          (subst (λ (d : C). paired d l) (sym of_client.link_is) pair)
+    paired_if : (paired : C → O → Type 0) (o : Option O) (x : Option (Peer O)) → IsMadeOfIf origin.look o x
+        → ArePaired paired c o → PairIf paired t.core.client.link x
+    paired_if paired None None made pair = tt
+    paired_if paired None (Some p) made pair = absurd made
+    paired_if paired (Some l) None made pair = absurd made
+    paired_if paired (Some l) (Some p) made pair =
+        subst (λ (k : O). paired t.core.client.link k) (sym made.link_is)
+        (subst (λ (d : C). paired d l) (sym of_client.link_is) pair)
 
-  pub sound : (both : upstream.Ghosts O C) (stage : transform.Ghosts Q TransformLine) (next : ℕ)
-      (roles : List Named)
-      → (client.tells ≡ true → IsNewLink (client.look c)) → (origin.tells ≡ true → IsNewLinkIf origin.look o)
-      → ArePaired both.paired c o
-          → ActsAsLines stage.whole
-      → t.course ≡ K.Phased P.Fresh → t.main ≡ None → t.core.sent.head ≡ 0 → t.core.sent.mode ≡ M.Plain
-          → t.core.sent.cuts.items ≡ []
-      → IsSoundTxn client origin both stage t [] next roles
-  sound both stage next roles unused unused_origin pair acts fresh none head mode
-      cuts =
-      subst (λ k. IsSoundOn client origin both stage t.core t.main k [] next
-          roles) (sym fresh)
-      (subst (λ m. IsSoundOn client origin both stage t.core m (K.Phased P.Fresh)
-          [] next roles) (sym none) (record {
-        stands = record {
-          holds = λ told also. asking (unused told) (unused_origin also) head mode cuts;
-          pair = paired_if both.paired o t.core.origin of_origin pair;
-          acts = acts;
-          lines = tt;
-          little = λ told also. tt;
-        };
-        covered = record {
-          seated = λ n p there. let wrong : ◌≡◌ {A = Option Pending} None (Some p) = there in absurd (cc);
-          plain = tt;
-          idles = refl;
-          covered = inl (tt, tt);
-        };
-      }))
+    pub sound : (both : upstream.Ghosts O C) (stage : transform.Ghosts Q TransformLine) (next : ℕ)
+        (roles : List Named)
+        → (client.tells ≡ true → IsNewLink (client.look c))
+        → (origin.tells ≡ true → IsNewLinkIf origin.look o)
+        → ArePaired both.paired c o
+        → ActsAsLines stage.whole
+        → t.course ≡ K.Phased P.Fresh → t.main ≡ None → t.core.sent.head ≡ 0 → t.core.sent.mode ≡ M.Plain
+        → t.core.sent.cuts.items ≡ []
+        → IsSoundTxn client origin both stage t [] next roles
+    sound both stage next roles unused unused_origin pair acts fresh none head mode
+        cuts =
+        subst (λ k. IsSoundOn client origin both stage t.core t.main k [] next
+        roles) (sym fresh)
+        (subst (λ m. IsSoundOn client origin both stage t.core m (K.Phased P.Fresh)
+        [] next roles) (sym none) (record {
+          stands = record {
+            holds = λ told also. asking (unused told) (unused_origin also) head mode cuts;
+            pair = paired_if both.paired o t.core.origin of_origin pair;
+            acts = acts;
+            lines = tt;
+            little = λ told also. tt;
+          };
+          covered = record {
+            seated = λ n p there. let wrong : ◌≡◌ {A = Option Pending} None (Some p) = there in absurd (cc);
+            plain = tt;
+            idles = refl;
+            covered = inl (tt, tt);
+          };
+        }))
 
 -- links of which any two belong together do
 pub any_paired : {C O : Type 0} (c : C) (o : Option O) → ArePaired (λ x y. ⊤) c o
@@ -111,13 +123,13 @@ any_paired c (Some l) = tt
 pub sound_in_group : {C O Q A R T U : Type 0} (client : link.Ghosts C) (origin : link.Ghosts O)
     (both : upstream.Ghosts O C)
     (stage : transform.Ghosts Q TransformLine) (t : Txn C O Q)
-        (g : Group (Txn C O Q) A R T U) (turns : ℕ)
+    (g : Group (Txn C O Q) A R T U) (turns : ℕ)
     → ((next : ℕ) (roles : List Named) → IsSoundTxn client origin both stage t []
-        next roles)
+    next roles)
     → g.world ≡ t → IsFresh turns g.cx → IsSoundTxnGroup client origin both stage
-        g
+    g
 sound_in_group client origin both stage t g turns sound world fresh =
     subst (λ w. IsSoundTxn client origin both stage w g.cx.log.state.pending
-        g.cx.log.state.next g.cx.roles) (sym world)
+    g.cx.log.state.next g.cx.roles) (sym world)
     (subst (λ (s : State). IsSoundTxn client origin both stage t s.pending s.next
-        g.cx.roles) (sym fresh.state) (sound _ g.cx.roles))
+    g.cx.roles) (sym fresh.state) (sound _ g.cx.roles))

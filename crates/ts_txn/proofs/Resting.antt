@@ -68,7 +68,11 @@ module _ {C O Q : Type 0} (client : link.Ghosts C) (origin : link.Ghosts O) (bot
           × SendsBlock (arc_value t.core.setup) (OriginRefuses client both t.core) v end
       by_end None none = absurd (let spent : GREATEST ≤ next = at_rest client origin both stage t next roles
           started none sound in omega (arith, spent, few))
-      by_end (Some end) is = (end, is, sends_block (arc_value t.core.setup)
-          (OriginRefuses client both t.core) v end never
-          (λ (lacks : end ≡ E.NoMemory). memory (is ∙ ap Some lacks))
-          (ended_so [] next roles end is sound told also))
+      by_end (Some end) is = (
+        end,
+        is,
+        sends_block (arc_value t.core.setup)
+            (OriginRefuses client both t.core) v end never
+            (λ (lacks : end ≡ E.NoMemory). memory (is ∙ ap Some lacks))
+            (ended_so [] next roles end is sound told also),
+      )

@@ -39,7 +39,7 @@ pub main_set : (a b : Context) (r : Result Action SetFault) (slot : Option Stage
     → Sets a.log b.log r t.key event due 0 → SetsOnly (IsOfMain slot) a b
 main_set a b r slot t event due is sets =
     subst (λ (s : Option StageContinuation). SetsOnly (IsOfMain s) a b) (sym is)
-        (set_only a b r t.key event due (IsOfMain (Some t)) sets (λ p key e d. key))
+    (set_only a b r t.key event due (IsOfMain (Some t)) sets (λ p key e d. key))
 
 -- due after its time
 pub due_set : (a b : Context) (r : Result Action SetFault) (key : ContKey) (event : Event) (after : ℕ)
@@ -47,7 +47,7 @@ pub due_set : (a b : Context) (r : Result Action SetFault) (key : ContKey) (even
 due_set a b r key event after sets =
     let later = soon_later a.moment after in
     set_only a b r key event (moment_after a.moment after) (IsDueAfter after a.moment) sets
-        (λ p key event due. (omega (arith, due, later.0), omega (arith, due, later.1)))
+    (λ p key event due. (omega (arith, due, later.0), omega (arith, due, later.1)))
 
 pub due_rests : (a : Context) (after : ℕ) → SetsOnly (IsDueAfter after a.moment) a a
 due_rests a after = only_none (IsDueAfter after a.moment) a

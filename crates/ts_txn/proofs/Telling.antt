@@ -57,7 +57,7 @@ module _ {C O Q : Type 0} (client : link.Ghosts C) (origin : link.Ghosts O) (pai
       → IsSome (transaction_left client origin pair stage core course pending)
   tells course pending told also agains uploads =
       some_if client.tells origin.tells _ told also
-          (some_number pending _ (some_course course agains uploads))
+      (some_number pending _ (some_course course agains uploads))
 
 -- links in memory do
 mem_agains : (c : LinkState) (o : Option (Peer LinkState))
@@ -86,7 +86,7 @@ module _ {Q : Type 0} (client origin : link.Ghosts LinkState) (pair : upstream.G
   mem_tells core course pending =
       tells client origin pair stage core course pending memory.told memory.also
       (subst (λ look. IsSome (both (look core.client.link).agains
-          (side_if origin.look core.origin).look.agains))
+      (side_if origin.look core.origin).look.agains))
       (sym memory.client_look)
       (subst (λ look. IsSome (both (look_of core.client.link).agains (side_if look core.origin).look.agains))
       (sym memory.origin_look) (mem_agains core.client.link core.origin)))

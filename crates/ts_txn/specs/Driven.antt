@@ -76,7 +76,8 @@ module _ {C O Q : Type 0} (client : link.Ghosts C) (origin : link.Ghosts O) (bot
     pub minds : (new ≡ K.Phased (P.Ended E.NoMemory)) ⊎ ((t ≡ s) × (new ≡ K.Phased old))
         ⊎ MindsCourse old next new
     pub waits : WaitsRightly next (view_of client origin s) (view_of client origin t)
-    pub leaves : IfTold client.tells origin.tells (LeavesSides old (view_of client origin s) (view_of client origin t))
+    pub leaves : IfTold client.tells origin.tells
+        (LeavesSides old (view_of client origin s) (view_of client origin t))
     pub closes : ClosesAs old new
     pub started : is_fresh old ≡ false → is_fresh_on new ≡ false
 
@@ -87,8 +88,8 @@ module _ {C O Q : Type 0} (client : link.Ghosts C) (origin : link.Ghosts O) (bot
     pub led : LedAfter step (course_after after step) new
     pub client_late : Bool
     pub origin_late : Bool
-    pub minds : MindsBody client.tells origin.tells (view_of client origin s) (view_of client origin t) old.driven.chain
-        after.driven.chain step client_late origin_late
+    pub minds : MindsBody client.tells origin.tells (view_of client origin s) (view_of client origin t)
+        old.driven.chain after.driven.chain step client_late origin_late
 
   -- one of the last writes is made
   pub record TakesWrite (end : TxnEnd) (step : BodyStep) (new : Course Q) : Type 0 where
@@ -129,8 +130,8 @@ module _ {C O Q : Type 0} (client : link.Ghosts C) (origin : link.Ghosts O) (bot
       pub own : DoesOwnWork role (view_of client origin s) (view_of client origin t)
       pub first : Grows a behind
       pub then : ActsWithin (set_leaving step) behind b
-      pub links : HandlesLinks client.tells origin.tells (view_of client origin s) (view_of client origin t) main old
-          after step a behind
+      pub links : HandlesLinks client.tells origin.tells (view_of client origin s) (view_of client origin t)
+          main old after step a behind
       pub due : SetsOnly (IsDueAfter AT_ONCE behind.moment) behind b
 
     pub record HandlesWrite (end : TxnEnd) (new : Course Q) : Type 0 where

@@ -5,10 +5,10 @@ ghost use Rattle.ts_transform.specs.Driving.{AddsEvents, HasLiveIf, IsDueAfter, 
 ghost use Rattle.ts_txn.specs.CourseCover.{is_fresh_on, IsOfMain, CoversAlone, SetsOneOrNone, StaysOnOrLacks};
 
 use crate::course::Course;
-use ts_relay::MAIN;
 use crate::course_leads::{AT_ONCE, Lead, go_to};
-use ts_phases::Phase;
 use ts_group::{Cx, SetFault};
+use ts_phases::Phase;
+use ts_relay::MAIN;
 use ts_transform::{StageContinuation, make_end};
 
 /// Sees that an event of the continuation is pending, so many milliseconds later where it has none yet. The

@@ -6,18 +6,17 @@ ghost use Rattle.ts_txn.specs.EventsOwed.{EventOwes};
 ghost use Rattle.ts_txn.specs.LoweringCourse.{PaysEvents};
 ghost use Rattle.ts_txn.specs.World.{HoldsOn, IsSoundOn};
 
-use crate::course::{Course, begin_relay, write_rest, relay_event};
+use crate::course::{Course, begin_relay, relay_event, write_rest};
 use crate::course_leads::after_step;
-use ts_relay::MAIN;
-use ts_phases::Core;
-use ts_phases::Phase;
+use std::mem::{forget, replace};
 use ts_config::TransformLine;
 use ts_group::Cx;
 use ts_journal::Event;
 use ts_link::Link;
+use ts_phases::{Core, Phase};
+use ts_relay::MAIN;
 use ts_transform::{StageContinuation, Transform, unrouse, works};
 use ts_upstream::Upstream;
-use std::mem::{forget, replace};
 
 // Makes the step of a phase at which no body begins, and answers where the transaction is then.
 fn make_step<C: Link, O: Upstream<C>, P: Transform<Line = TransformLine> + Drop>(

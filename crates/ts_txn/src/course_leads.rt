@@ -9,15 +9,12 @@ ghost use Rattle.ts_txn.specs.CourseCover.{CoversAlone, CoversLed, HasRousedNext
 ghost use Rattle.ts_relay.specs.Duties.{set_leaving};
 ghost use Rattle.ts_txn.specs.Driven.{delay_of};
 
-use crate::course::Course;
-use ts_relay::RETRY;
 use crate::continuation::{is_spent, rouse};
-use ts_relay::BodyStep;
-use ts_phases::{Next, Phase, Step};
-use ts_relay::Relay;
-use ts_relay::{close_relay, destroy_end};
+use crate::course::Course;
 use ts_group::Cx;
 use ts_hooks::TxnEnd;
+use ts_phases::{Next, Phase, Step};
+use ts_relay::{BodyStep, RETRY, Relay, close_relay, destroy_end};
 use ts_transform::{StageContinuation, Transform};
 
 /// How long it is until a step that is made at once, in milliseconds.
@@ -168,7 +165,11 @@ pub fn after_write<P: Drop>(
 }
 
 /// Where a transaction is after the step of a phase.
-pub fn after_step<P: Drop>(step: Step, main: &mut Option<StageContinuation>, cx: &mut Cx) -> Course<P>
+pub fn after_step<P: Drop>(
+    step: Step,
+    main: &mut Option<StageContinuation>,
+    cx: &mut Cx,
+) -> Course<P>
     requires turn { cx.old.log.state.held ≡ true }
     ensures course { LedBehind step.next (Course.Phased step.phase) result }
     ensures within { ActsWithin (set_after step.next) cx.old cx.new }

@@ -9,7 +9,9 @@ mod course_leads;
 mod making;
 mod txn;
 
-pub use ts_relay::MAIN;
 pub use making::{MOST_GROUPS, MOST_PLUGINS, TxnParts};
-pub use ts_block::{Block, OwnStatus, acts_on, apply_rules, block_of, client_framing, is_denied, one_block};
+pub use ts_block::{
+    Block, OwnStatus, acts_on, apply_rules, block_of, client_framing, is_denied, one_block,
+};
+pub use ts_relay::MAIN;
 pub use txn::{Txn, TxnTag};

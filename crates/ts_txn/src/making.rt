@@ -13,8 +13,6 @@ ghost use Rattle.ts_txn.specs.Resting.{HasEndedSo, RestsWithBlock};
 ghost use Rattle.ts_txn.specs.World.{IsSoundTxn};
 
 use crate::course::Course;
-use ts_phases::{Core, Peer, Sent};
-use ts_phases::Phase;
 use crate::txn::Txn;
 use std::alloc::Global;
 use std::sync::Arc;
@@ -22,6 +20,7 @@ use ts_config::{Setup, TransformLine};
 use ts_hooks::TxnEnd;
 use ts_iobuf::Waiting;
 use ts_link::{Link, NoMemory};
+use ts_phases::{Core, Peer, Phase, Sent};
 use ts_transform::Transform;
 use ts_upstream::Upstream;
 use ts_wire::Mode;

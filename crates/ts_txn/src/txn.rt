@@ -10,17 +10,16 @@ ghost use Rattle.ts_txn.specs.Driven.{HandlesEvent, TakesEvent};
 ghost use Rattle.ts_txn.specs.LoweringCourse.{transaction_left};
 ghost use Rattle.ts_txn.specs.World.{IsTxnOf, HasTxnBegun, IsSoundTxn, most_set};
 
+use crate::continuation::begin;
 use crate::course::Course;
 use crate::course_events::advance;
 use crate::course_leads::AT_ONCE;
-use crate::continuation::begin;
-use ts_phases::Core;
-use ts_phases::Phase;
 use std::snapshot::Snapshot;
 use ts_config::{Setup, TransformLine};
 use ts_group::{Asked, Cx, Want, World};
 use ts_journal::{Event, Slotted};
 use ts_link::Link;
+use ts_phases::{Core, Phase};
 use ts_transform::{StageContinuation, Transform};
 use ts_upstream::Upstream;
 
@@ -115,11 +114,12 @@ impl<C: Link + Drop, O: Upstream<C> + Drop, P: Transform<Line = TransformLine> +
     ghost begun = { λ old new. HasTxnBegun old new };
 
     // A handler leads the same transaction on, or does nothing.
-    ghost called = { λ old new asked. TakesEvent C.Link O.Link O.Upstream.own old.core new.core old.course new.course };
+    ghost called = { λ old new asked. TakesEvent C.Link O.Link O.Upstream.own
+        old.core new.core old.course new.course };
 
     ghost heard = { λ old new asked. new ≡ old };
 
-    #[tactic(auto, using(ts_transform::proofs::Kept::acts_none, crate::proofs::Seating::due_rests, crate::proofs::Coverage::fresh_none, crate::proofs::Fitting::fits_start))]
+    #[tactic(auto, using(crate::proofs::Fitting::fits_start))]
     fn start(&mut self, cx: &mut Cx)
         requires turn { cx.old.log.state.held ≡ true }
         requires sound { IsSoundTxn C.Link O.Link O.Upstream.own P.Transform
@@ -182,7 +182,7 @@ impl<C: Link + Drop, O: Upstream<C> + Drop, P: Transform<Line = TransformLine> +
             × (self.new ≡ self.old) }
     {}
 
-    #[tactic(auto, using(ts_group::proofs::Grows::grows, crate::proofs::Handling::sound_asked, crate::proofs::LoweringCourse::asked_same))]
+    #[tactic(auto, using(crate::proofs::Handling::sound_asked, crate::proofs::LoweringCourse::asked_same))]
     fn asked(&mut self, _question: (), _cx: &mut Cx) {}
 
     ghost sound_taken = { λ t s turn seat roles h. h };

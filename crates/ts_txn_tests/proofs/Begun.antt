@@ -32,7 +32,7 @@ few_set first begun started given turns a b c d e = omega (arith, a, b, c, d, e)
 module _ {W Q R T U : Type 0} (Fits : T → W → Type 0) (fresh begun started given : Group W Q R T U)
     (new : IsFresh 0 fresh.cx) (begins : BeginsTurn fresh.cx begun.cx first_turn ONLY_SEAT 0)
     (grows : Grows begun.cx started.cx) (turn : StaysInTurn begun.cx.log.state started.cx.log.state)
-        (gives : GivesTurn started.cx given.cx) where
+    (gives : GivesTurn started.cx given.cx) where
   -- it has had one turn
   pub one_turn : given.cx.log.state.turns ≡ first_turn
   one_turn = ap (λ (s : State). s.turns) gives.state ∙ turn.turns ∙ ap (λ (s : State). s.turns) begins.state
@@ -49,39 +49,39 @@ module _ {W Q R T U : Type 0} (Fits : T → W → Type 0) (fresh begun started g
     few_set fresh.cx.log.state.next begun.cx.log.state.next started.cx.log.state.next given.cx.log.state.next
         given.cx.log.state.turns
         (ap (λ (s : State). s.next) new.state) (ap (λ (s : State). s.next) begins.state) (few t fits)
-            (ap (λ (s : State). s.next) gives.state) one_turn,
+        (ap (λ (s : State). s.next) gives.state) one_turn,
     tt,
   )
 
 module _ {C O Q A R U : Type 0} (client : link.Ghosts C) (origin : link.Ghosts O) (both : upstream.Ghosts O C)
     (stage : transform.Ghosts Q TransformLine) (tag : TxnTag C O) (t : Txn C O Q)
-        (fresh begun started given : Group (Txn C O Q) A R (TxnTag C O) U)
-        (made : IsTxnOf client.look origin.look (record tag { started = false }) t) where
+    (fresh begun started given : Group (Txn C O Q) A R (TxnTag C O) U)
+    (made : IsTxnOf client.look origin.look (record tag { started = false }) t) where
   -- it fits its tag
   pub begun_as : tag.started ≡ true → IsFresh 0 fresh.cx → fresh.world ≡ t
       → BeginsTurn fresh.cx begun.cx first_turn ONLY_SEAT 0 → begun.world ≡ fresh.world
       → Grows begun.cx started.cx → StaysInTurn begun.cx.log.state started.cx.log.state
-          → HasTxnBegun begun.world started.world
+      → HasTxnBegun begun.world started.world
       → SetsAtMost (IsTxnOf client.look origin.look) begun.world MOST_SET begun.cx started.cx
-          → GivesTurn started.cx given.cx → given.world ≡ started.world
+      → GivesTurn started.cx given.cx → given.world ≡ started.world
       → Holds (IsSoundIn client origin both stage) given
-          → HasBegunAs client origin both stage tag given
+      → HasBegunAs client origin both stage tag given
   begun_as says new is begins same grows turn first few gives left sound =
       let fits : IsTxnOf client.look origin.look (record tag { started = false }) begun.world = subst
-          (IsTxnOf client.look origin.look (record tag { started = false })) (sym (same ∙ is)) made in
+      (IsTxnOf client.look origin.look (record tag { started = false })) (sym (same ∙ is)) made in
       let then : IsTxnOf client.look origin.look (record tag { started = true }) started.world = fits_begun
-          client.look origin.look (record tag { started = false }) begun.world started.world first fits in
+      client.look origin.look (record tag { started = false }) begun.world started.world first fits in
       record {
         fits = (
           subst (IsTxnOf client.look origin.look tag) (sym left)
               (subst (λ b. IsTxnOf client.look origin.look (record tag { started = b }) started.world)
-                  (sym says) then),
+              (sym says) then),
           sound,
           at_rest (IsTxnOf client.look origin.look) fresh begun started given new begins grows turn gives
               (record tag { started = false }) fits few,
           on_true tag.first (given.cx.log.base.turns ≡ 0)
               (no_turns_before (IsTxnOf client.look origin.look) fresh begun started given new begins grows
-                  turn gives),
+              turn gives),
         );
         started = says;
         turns = one_turn (IsTxnOf client.look origin.look) fresh begun started given new begins grows turn

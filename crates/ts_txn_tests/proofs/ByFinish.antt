@@ -107,7 +107,7 @@ module _ {C O Q : Type 0} (client : link.Ghosts C) (origin : link.Ghosts O) (bot
       → Ends gs hs result → hs ≡ front ++ (h ∷ []) → HasEndedOr h
   last_ended tag g h gs hs front result ok one begun finishes last =
       let here : Ends (g ∷ []) hs (Ok tt) =
-          subst (λ r. Ends (g ∷ []) hs r) ok (subst (λ xs. Ends xs hs result) one finishes) in
+      subst (λ r. Ends (g ∷ []) hs r) ok (subst (λ xs. Ends xs hs result) one finishes) in
       let all : (k : TxnGroup) × (hs ≡ k ∷ []) × HasEndedOr k =
-          all_ended tag g hs here.turns begun here.goes here.idle in
+      all_ended tag g hs here.turns begun here.goes here.idle in
       subst HasEndedOr (last_of h all.0 front (sym all.1 ∙ last)) all.2

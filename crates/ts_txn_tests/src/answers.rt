@@ -22,7 +22,11 @@ pub fn own<'a>(request: &'a [u8], sent: &'a [u8], head: &'a [u8], body: &'a [u8]
 }
 
 // The answer to a page whose origin gives none to pass on, and the same to a request for the head alone.
-fn bad_gateways<'a>(origin: Option<&'a [u8]>, get_sent: &'a [u8], head_sent: &'a [u8]) -> [Row<'a>; 2] {
+fn bad_gateways<'a>(
+    origin: Option<&'a [u8]>,
+    get_sent: &'a [u8],
+    head_sent: &'a [u8],
+) -> [Row<'a>; 2] {
     let page = own(GET, get_sent, BAD_GATEWAY, b"502 Bad Gateway\n");
     let head = own(HEAD, head_sent, BAD_GATEWAY, b"");
     [Row { origin, ..page }, Row { origin, ..head }]
@@ -86,7 +90,11 @@ fn an_origin_that_gives_no_answer_to_pass_on(rt: HostRuntime) -> Result<(), Fail
     ];
     for (place, origin) in origins.iter().enumerate() {
         for row in bad_gateways(Some(origin), GET_SENT, HEAD_SENT) {
-            assert_eq!(rt; check(rt.alloc(), &row)?, Verdict::AsStated, "origin {place}");
+            assert_eq!(rt;
+                check(rt.alloc(), &row)?,
+                Verdict::AsStated,
+                "origin {place}"
+            );
         }
     }
     // An interim head alone, and a body of no known coding, which a response to HEAD has not.

@@ -51,8 +51,8 @@ fn check_failing(alloc: Global, row: &Row<'_>, write: u64) -> Result<Verdict, Re
     judge_front(alloc, row, TxnEnd::ClientFault, &ended.parts)
 }
 
-// What comes of a row whose client leaves when it has taken so many bytes, and whose origin gives its body byte
-// by byte.
+// What comes of a row whose client leaves when it has taken so many bytes, and whose origin gives its body
+// byte by byte.
 fn run_leaving(alloc: Global, row: &Row<'_>, at: usize) -> Result<Ended, Refusal> {
     let client = leaving(alloc, row.request, at)?;
     let plan = row.origin.map(html_dripping);
@@ -88,7 +88,10 @@ fn a_client_that_leaves_in_an_answer_of_the_proxys_own_got_a_front(
     let page = own(GET, b"", BAD_GATEWAY, b"502 Bad Gateway\n");
     let head = own(HEAD, b"", BAD_GATEWAY, b"");
     for row in [page, head] {
-        let row = Row { origin: None, ..row };
+        let row = Row {
+            origin: None,
+            ..row
+        };
         for at in 0..row.head.len() + row.body.len() {
             let verdict = check_leaving(rt.alloc(), &row, at)?;
             assert_eq!(rt; verdict, Verdict::AsStated, "at {at}");

@@ -1,10 +1,10 @@
 //! How long a body is and how it is framed for the client: by its length, in chunks, up to the close, or not
 //! at all.
 
-use crate::row::{Row, Verdict, check, get, head};
 use crate::exchange::run;
 use crate::plan::giving;
 use crate::refusal::Refusal;
+use crate::row::{Row, Verdict, check, get, head};
 use crate::stated::{
     ABC, BAD_GATEWAY, CHUNKED, ENDLESS, ENDLESS_OLD, FROM_OLD, GET, IN_CHUNKS, PLAIN, SIZED,
     response,

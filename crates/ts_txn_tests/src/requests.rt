@@ -54,7 +54,11 @@ fn a_request_that_is_not_served_is_answered_by_501(rt: HostRuntime) -> Result<()
     ];
     for (place, request) in requests.iter().enumerate() {
         let row = refused(request, NOT_IMPLEMENTED, b"501 Not Implemented\n");
-        assert_eq!(rt; check(rt.alloc(), &row)?, Verdict::AsStated, "request {place}");
+        assert_eq!(rt;
+            check(rt.alloc(), &row)?,
+            Verdict::AsStated,
+            "request {place}"
+        );
     }
     Ok(())
 }

@@ -186,7 +186,10 @@ fn a_client_that_waits_at_its_first_writes(rt: HostRuntime) -> Result<(), Fail> 
     let page = own(GET, b"", BAD_GATEWAY, b"502 Bad Gateway\n");
     let head = own(HEAD, b"", BAD_GATEWAY, b"");
     for row in [page, head] {
-        let row = Row { origin: None, ..row };
+        let row = Row {
+            origin: None,
+            ..row
+        };
         for plan in [dripping(row.request), giving(row.request)] {
             let client = Plan {
                 again_writes: (1, 2),

@@ -19,9 +19,9 @@ returns-clause-owes g c = record {
       let v = view_of g.C.Link g.O.Link new in
       sound_led g.C.Link g.O.Link g.O.Upstream g.P.Transform core new (K.Finishing c.args.end)
       (finish_after c.args.end c.send_rest-step.result) c.after_write.result c.after_write.new.main
-          c.after_write.new.cx c.requires.stands c.send_rest-step.ensures.keeps
+      c.after_write.new.cx c.requires.stands c.send_rest-step.ensures.keeps
       (λ told also. led_last (arc_value core.setup) (OriginRefuses g.C.Link g.O.Upstream core)
-          g.P.Transform.rest v c.args.end c.send_rest-step.result
+      g.P.Transform.rest v c.args.end c.send_rest-step.result
       (c.send_rest-step.ensures.leads told also))
       (lines_last (arc_value core.setup) g.P.Transform.rest c.args.end c.send_rest-step.result)
       (λ told also. little_last _ v c.args.end c.send_rest-step.result) c.after_write.ensures.course
@@ -44,8 +44,8 @@ returns-clause-pays g c = λ told also.
     let core = c.args.core.now in
     let new = c.send_rest-step.new.core in
     finish_led (arc_value core.setup) g.P.Transform.rest c.args.end c.send_rest-step.result
-        c.after_write.result (view_of g.C.Link g.O.Link core)
+    c.after_write.result (view_of g.C.Link g.O.Link core)
     (view_of g.C.Link g.O.Link new) (upload_of g.O.Upstream new) c.args.cx.now.log.state.pending
-        c.after_write.new.cx.log.state.pending
+    c.after_write.new.cx.log.state.pending
     c.after_write.ensures.course (c.send_rest-step.ensures.falls told also)
-        c.after_write.ensures.within.few.pending
+    c.after_write.ensures.within.few.pending

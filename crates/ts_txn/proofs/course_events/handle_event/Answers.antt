@@ -12,7 +12,7 @@ use Rattle.ts_txn.proofs.course_events.handle_event.Goals as goal
 pub returns-in-Relaying-clause-owes : goal.returns-in-Relaying-clause-owes
 returns-in-Relaying-clause-owes g c =
     subst (λ x. EventOwes g.C.Link g.O.Link g.O.Upstream g.P.Transform c.args.core.now c.relay_event.new.core
-        c.args.cx.now
+    c.args.cx.now
     c.relay_event.new.cx c.args.role c.args.main.now c.relay_event.new.main x c.relay_event.result)
     (sym c.in-Relaying.is) c.relay_event.ensures.owes
 

@@ -33,6 +33,6 @@ returns-in-Done-clause-within g c = acts_lessens (set_after c.args.step.next) c.
 pub returns-in-Done-clause-covered : goal.returns-in-Done-clause-covered
 returns-in-Done-clause-covered g c = λ leads.
     ended_alone c.args.step.phase (K.Phased c.args.step.phase) c.args.main.now c.destroy_end.new.slot
-        c.args.cx.now c.destroy_end.new.cx refl
+    c.args.cx.now c.destroy_end.new.cx refl
     (subst (λ n. StepsTo n c.args.step.phase) c.in-Done.is leads) c.destroy_end.ensures.clears
-        c.destroy_end.ensures.none
+    c.destroy_end.ensures.none

@@ -23,5 +23,5 @@ returns-in-Closes-clause-covered g c = c.go_to-in-Closes.ensures.covered
 pub returns-in-Lacks-clause-covered : goal.returns-in-Lacks-clause-covered
 returns-in-Lacks-clause-covered g c =
     ended_alone (P.Ended E.NoMemory) (K.Phased (P.Ended E.NoMemory)) c.args.main.now c.destroy_end.new.slot
-        c.args.cx.now c.destroy_end.new.cx refl refl c.destroy_end.ensures.clears
+    c.args.cx.now c.destroy_end.new.cx refl refl c.destroy_end.ensures.clears
     c.destroy_end.ensures.none

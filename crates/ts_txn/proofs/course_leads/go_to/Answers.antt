@@ -13,13 +13,13 @@ returns-then-rouse_next-clause-covered g c =
     subst (λ x. CoversAlone c.args.main.now c.rouse_next.new.main x c.args.cx.now c.rouse_next.new.cx)
     (sym c.course_led.ensures)
     (led_alone (course_led c.args.lead) c.args.main.now c.rouse_next.new.main c.args.cx.now
-        c.rouse_next.new.cx
+    c.rouse_next.new.cx
     c.if-rouse_next.ensures.rouses c.rouse_next.ensures.seated c.rouse_next.ensures.within
-        (goes_led c.args.lead))
+    (goes_led c.args.lead))
 
 -- There was no memory for the event.
 pub returns-clause-covered : goal.returns-clause-covered
 returns-clause-covered g c =
     lacks_alone (K.Phased (P.Ended E.NoMemory)) c.args.main.now c.rouse_next.new.main c.args.cx.now
     c.rouse_next.new.cx refl c.if-rouse_next.ensures.rouses c.rouse_next.ensures.seated
-        c.rouse_next.ensures.within
+    c.rouse_next.ensures.within

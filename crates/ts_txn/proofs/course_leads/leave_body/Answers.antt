@@ -25,43 +25,43 @@ pub returns-in-Finishes-clause-within : goal.returns-in-Finishes-clause-within
 returns-in-Finishes-clause-within g c =
     subst (λ s. ActsWithin (set_leaving s) c.args.cx.now c.go_to.new.cx) (sym c.in-Finishes.is)
     (acts_then 0 1 1 (omega arith) (cleared_acts (relay_seats c.args.relay) c.args.cx.now c.close_relay.new.cx
-        c.close_relay.ensures.clears) c.go_to.ensures.within)
+    c.close_relay.ensures.clears) c.go_to.ensures.within)
 
 pub returns-in-Finishes-clause-covered : goal.returns-in-Finishes-clause-covered
 returns-in-Finishes-clause-covered g c =
     left_covers c.args.step c.args.relay c.go_to.result c.args.main.now c.go_to.new.main c.args.cx.now
-        c.close_relay.new.cx c.go_to.new.cx
+    c.close_relay.new.cx c.go_to.new.cx
     (runs_finishing c.args.step c.in-Finishes.end (RunsOr c.args.relay c.args.cx.now.log.state.next)
-        c.in-Finishes.is) c.close_relay.ensures.clears c.go_to.ensures.covered
+    c.in-Finishes.is) c.close_relay.ensures.clears c.go_to.ensures.covered
 
 pub returns-in-Finishes-clause-spent : goal.returns-in-Finishes-clause-spent
 returns-in-Finishes-clause-spent g c =
     subst (λ s. StaysWhereNamed (course_after c.args.relay s) c.args.relay c.go_to.result c.args.main.now
-        c.args.cx.now) (sym c.in-Finishes.is)
+    c.args.cx.now) (sym c.in-Finishes.is)
     (left_spent (course_after c.args.relay (S.Finishes c.in-Finishes.end)) c.args.relay c.go_to.result
-        c.args.main.now c.args.cx.now c.close_relay.new.cx c.close_relay.ensures.clears c.go_to.ensures.spent)
+    c.args.main.now c.args.cx.now c.close_relay.new.cx c.close_relay.ensures.clears c.go_to.ensures.spent)
 
 -- The transaction closes.
 pub returns-in-Closes-clause-within : goal.returns-in-Closes-clause-within
 returns-in-Closes-clause-within g c =
     subst (λ s. ActsWithin (set_leaving s) c.args.cx.now c.go_to-in-Closes.new.cx) (sym c.in-Closes.is)
     (acts_then 0 1 1 (omega arith) (cleared_acts (relay_seats c.args.relay) c.args.cx.now
-        c.close_relay-in-Closes.new.cx c.close_relay-in-Closes.ensures.clears)
-        c.go_to-in-Closes.ensures.within)
+    c.close_relay-in-Closes.new.cx c.close_relay-in-Closes.ensures.clears)
+    c.go_to-in-Closes.ensures.within)
 
 pub returns-in-Closes-clause-covered : goal.returns-in-Closes-clause-covered
 returns-in-Closes-clause-covered g c =
     left_covers c.args.step c.args.relay c.go_to-in-Closes.result c.args.main.now c.go_to-in-Closes.new.main
-        c.args.cx.now c.close_relay-in-Closes.new.cx c.go_to-in-Closes.new.cx
+    c.args.cx.now c.close_relay-in-Closes.new.cx c.go_to-in-Closes.new.cx
     (runs_closing c.args.step c.in-Closes.end (RunsOr c.args.relay c.args.cx.now.log.state.next)
-        c.in-Closes.is) c.close_relay-in-Closes.ensures.clears c.go_to-in-Closes.ensures.covered
+    c.in-Closes.is) c.close_relay-in-Closes.ensures.clears c.go_to-in-Closes.ensures.covered
 
 pub returns-in-Closes-clause-spent : goal.returns-in-Closes-clause-spent
 returns-in-Closes-clause-spent g c =
     subst (λ s. StaysWhereNamed (course_after c.args.relay s) c.args.relay c.go_to-in-Closes.result
-        c.args.main.now c.args.cx.now) (sym c.in-Closes.is)
+    c.args.main.now c.args.cx.now) (sym c.in-Closes.is)
     (left_spent (course_after c.args.relay (S.Closes c.in-Closes.end)) c.args.relay c.go_to-in-Closes.result
-        c.args.main.now c.args.cx.now c.close_relay-in-Closes.new.cx
+    c.args.main.now c.args.cx.now c.close_relay-in-Closes.new.cx
     c.close_relay-in-Closes.ensures.clears c.go_to-in-Closes.ensures.spent)
 
 -- Memory lacked, and all was destroyed.
@@ -69,12 +69,12 @@ pub returns-in-Lacks-clause-within : goal.returns-in-Lacks-clause-within
 returns-in-Lacks-clause-within g c =
     acts_then 0 (set_leaving c.args.step) (set_leaving c.args.step) (omega arith)
     (cleared_acts (relay_seats c.args.relay) c.args.cx.now c.close_relay-in-Lacks.new.cx
-        c.close_relay-in-Lacks.ensures.clears)
+    c.close_relay-in-Lacks.ensures.clears)
     (acts_lessens (set_leaving c.args.step) c.close_relay-in-Lacks.new.cx c.destroy_end.new.cx
-        c.destroy_end.ensures.clears.lessens)
+    c.destroy_end.ensures.clears.lessens)
 
 pub returns-in-Lacks-clause-covered : goal.returns-in-Lacks-clause-covered
 returns-in-Lacks-clause-covered g c =
     lost_covers c.args.step c.args.relay (K.Phased (P.Ended E.NoMemory)) c.args.main.now
-        c.destroy_end.new.slot c.args.cx.now c.close_relay-in-Lacks.new.cx c.destroy_end.new.cx refl
+    c.destroy_end.new.slot c.args.cx.now c.close_relay-in-Lacks.new.cx c.destroy_end.new.cx refl
     c.close_relay-in-Lacks.ensures.clears c.destroy_end.ensures.clears c.destroy_end.ensures.none

@@ -16,4 +16,4 @@ pub returns-clause-covered : goal.returns-clause-covered
 returns-clause-covered g c = λ proceeds.
     lacks_alone (K.Phased (P.Ended E.NoMemory)) c.args.main.now c.rouse_next.new.main c.args.cx.now
     c.rouse_next.new.cx refl c.if-rouse_next.ensures.rouses c.rouse_next.ensures.seated
-        c.rouse_next.ensures.within
+    c.rouse_next.ensures.within

@@ -10,7 +10,7 @@ finish-requires-clause-fits g c = (
   can_ask g.C.Link g.O.Link g.O.Upstream g.P.Transform (c.args.tag ∷ []),
   group_fits g.C.Link g.O.Link g.O.Upstream g.P.Transform c.args.tag c.args.group c.push.new.self.items
       (c.in_ok-push.ensures.items ∙ ap (λ xs. xs ++ (c.args.group ∷ [])) c.new-groups.ensures.items)
-          c.requires.begun.fits,
+      c.requires.begun.fits,
 )
 
 pub finish-requires-clause-tells : goal.finish-requires-clause-tells
@@ -25,5 +25,5 @@ returns g c = record {
       c.push.new.self.items c.finish.new.groups.items
       c.pop.new.self.items c.finish.result c.in_ok-finish.was
       (c.in_ok-push.ensures.items ∙ ap (λ xs. xs ++ (c.args.group ∷ [])) c.new-groups.ensures.items)
-          c.requires.begun c.finish.ensures.finishes c.in-Some.ensures.items;
+      c.requires.begun c.finish.ensures.finishes c.in-Some.ensures.items;
 }
