@@ -33,22 +33,6 @@ main_roused a b action slot t soon due is sets roles =
       same = refl;
     })
 
--- an event of it was set, or none
-pub main_set : (a b : Context) (r : Result Action SetFault) (slot : Option StageContinuation)
-    (t : StageContinuation) (event : Event) (due : ℕ) → slot ≡ Some t
-    → Sets a.log b.log r t.key event due 0 → SetsOnly (IsOfMain slot) a b
-main_set a b r slot t event due is sets =
-    subst (λ (s : Option StageContinuation). SetsOnly (IsOfMain s) a b) (sym is)
-    (set_only a b r t.key event due (IsOfMain (Some t)) sets (λ p key e d. key))
-
--- due after its time
-pub due_set : (a b : Context) (r : Result Action SetFault) (key : ContKey) (event : Event) (after : ℕ)
-    → Sets a.log b.log r key event (moment_after a.moment after) 0 → SetsOnly (IsDueAfter after a.moment) a b
-due_set a b r key event after sets =
-    let later = soon_later a.moment after in
-    set_only a b r key event (moment_after a.moment after) (IsDueAfter after a.moment) sets
-    (λ p key event due. (omega (arith, due, later.0), omega (arith, due, later.1)))
-
 pub due_rests : (a : Context) (after : ℕ) → SetsOnly (IsDueAfter after a.moment) a a
 due_rests a after = only_none (IsDueAfter after a.moment) a
 
@@ -56,6 +40,3 @@ due_rests a after = only_none (IsDueAfter after a.moment) a
 pub due_less : (a b c : Context) (after : ℕ) → SetsOnly (IsDueAfter after a.moment) a b
     → IsLess b.log.state c.log.state → SetsOnly (IsDueAfter after a.moment) a c
 due_less a b c after only less = λ n p none there. only n p none (less.from n p there)
-
-pub main_rests : (a : Context) (slot : Option StageContinuation) → SetsOnly (IsOfMain slot) a a
-main_rests a slot = only_none (IsOfMain slot) a

@@ -1,15 +1,16 @@
 //! The proxy's own answers beside the lines of a configuration, and what a transaction tells of itself.
 
-use crate::exchange::{NUMBER, Told, run, setup_of};
+use crate::exchange::{NUMBER, Told, run};
 use crate::lines::{FILE, STOCK};
 use crate::plan::giving;
-use crate::row::{Row, Verdict, check, get, judge_block};
+use crate::refusal::Refusal;
+use crate::row::{Row, Verdict, check, check_block, get};
 use crate::stated::{
     ABC, BAD_GATEWAY, BAD_REQUEST, GET, GET_SENT, HEAD, HEAD_SENT, NOT_IMPLEMENTED,
 };
+use std::alloc::Global;
 use std::test::Fail;
 use ts_hooks::TxnEnd;
-use ts_txn::block_of;
 use ts_wire::Mode;
 
 /// A client that is answered without an origin's response: the origin gives nothing.
@@ -112,22 +113,27 @@ fn an_origin_that_gives_no_answer_to_pass_on(rt: HostRuntime) -> Result<(), Fail
 // Links in memory refuse no upload, so it is the block alone that tells of one.
 #[test]
 fn an_upload_that_is_refused_is_answered_by_400(rt: HostRuntime) -> Result<(), Fail> {
-    let setup = setup_of(rt.alloc(), b"", b"")?;
-    let block = block_of(rt.alloc(), &setup, GET, true, true, ABC)?;
-    let row = own(GET, GET_SENT, BAD_REQUEST, b"400 Bad Request\n");
-    assert_eq!(rt; judge_block(&row, &block), Verdict::AsStated);
+    let row = Row {
+        origin: Some(ABC),
+        ..own(GET, GET_SENT, BAD_REQUEST, b"400 Bad Request\n")
+    };
+    assert_eq!(rt; check_block(rt.alloc(), true, &row)?, Verdict::AsStated);
     Ok(())
+}
+
+// What a transaction tells before its end, and how it ends.
+fn told_of(alloc: Global) -> Result<(Told, Option<TxnEnd>), Refusal> {
+    let ended = run(alloc, b"", b"", &giving(GET), Some(giving(ABC)))?;
+    Ok((ended.told, ended.parts.end))
 }
 
 #[test]
 fn a_transaction_tells_its_number_origin_and_end(rt: HostRuntime) -> Result<(), Fail> {
-    let ended = run(rt.alloc(), b"", b"", &giving(GET), Some(giving(ABC)))?;
     let told = Told {
         number: NUMBER,
         is_dialed: true,
         end: None,
     };
-    assert_eq!(rt; ended.told, told);
-    assert_eq!(rt; ended.parts.end, Some(TxnEnd::Whole));
+    assert_eq!(rt; told_of(rt.alloc())?, (told, Some(TxnEnd::Whole)));
     Ok(())
 }

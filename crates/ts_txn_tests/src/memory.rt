@@ -10,6 +10,8 @@ use crate::stated::{ABC, BAD_GATEWAY, GET, GET_SENT, SIZED};
 use std::alloc::Global;
 use std::test::Fail;
 use ts_hooks::TxnEnd;
+use ts_link::MemLink;
+use ts_txn::TxnParts;
 use ts_wire::Mode;
 
 // The response of HTML in chunks, and how much of it is its head.
@@ -18,18 +20,27 @@ const CHUNKS: &[u8] =
 
 const FRONT: u32 = 72;
 
-// Whether an exchange comes out as stated, or lacks memory and gives a front.
-fn check_spare(alloc: Global, row: &Row<'_>, gives: &[u8]) -> Result<Verdict, Refusal> {
-    let origin = dripping_after(gives, FRONT);
-    let ended = run_row(alloc, row, &giving(GET), Some(origin))?;
-    if ended.parts.end != Some(TxnEnd::NoMemory) {
-        return judge(alloc, row, &ended.parts);
+// Whether a transaction came out as stated, or lacked memory and gave a front.
+fn judge_spare(
+    alloc: Global,
+    row: &Row<'_>,
+    parts: &TxnParts<MemLink, MemLink>,
+) -> Result<Verdict, Refusal> {
+    if parts.end != Some(TxnEnd::NoMemory) {
+        return judge(alloc, row, parts);
     }
-    let front = judge_front(alloc, row, TxnEnd::NoMemory, &ended.parts)?;
+    let front = judge_front(alloc, row, TxnEnd::NoMemory, parts)?;
     Ok(match front {
         Verdict::AsStated => Verdict::Lacks,
         other => other,
     })
+}
+
+// The same of an exchange whose origin gives this.
+fn check_spare(alloc: Global, row: &Row<'_>, gives: &[u8]) -> Result<Verdict, Refusal> {
+    let origin = dripping_after(gives, FRONT);
+    let ended = run_row(alloc, row, &giving(GET), Some(origin))?;
+    judge_spare(alloc, row, &ended.parts)
 }
 
 // What comes of an exchange, and of the same again where memory lacked.

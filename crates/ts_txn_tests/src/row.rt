@@ -144,8 +144,8 @@ fn judge_length(row: &Row<'_>, cuts: &[u32]) -> Verdict {
     Verdict::AsStated
 }
 
-/// Whether a block is as the row states. That of an exchange that does not end whole has no body.
-pub fn judge_block(row: &Row<'_>, block: &Block) -> Verdict {
+// Whether a block is as the row states. That of an exchange that does not end whole has no body.
+fn judge_block(row: &Row<'_>, block: &Block) -> Verdict {
     let body: &[u8] = match row.end {
         TxnEnd::Whole => row.body,
         _ => b"",
@@ -158,17 +158,23 @@ pub fn judge_block(row: &Row<'_>, block: &Block) -> Verdict {
     Verdict::OtherBlock
 }
 
-/// Whether the block of all bytes that the links of a row give is as it states, with this setup.
-pub fn check_block_of(alloc: Global, setup: &Setup, row: &Row<'_>) -> Result<Verdict, Refusal> {
+/// Whether the block of all bytes that the links of a row give is as it states, with this setup, where the
+/// origin takes the upload or refuses it.
+pub fn check_block_of(
+    alloc: Global,
+    setup: &Setup,
+    refuses: bool,
+    row: &Row<'_>,
+) -> Result<Verdict, Refusal> {
     let (dialed, gives) = (row.origin.is_some(), row.origin.unwrap_or(b""));
-    let block = block_of(alloc, setup, row.request, dialed, false, gives)?;
+    let block = block_of(alloc, setup, row.request, dialed, refuses, gives)?;
     Ok(judge_block(row, &block))
 }
 
 /// The same with the setup of its lines.
-pub fn check_block(alloc: Global, row: &Row<'_>) -> Result<Verdict, Refusal> {
+pub fn check_block(alloc: Global, refuses: bool, row: &Row<'_>) -> Result<Verdict, Refusal> {
     let setup = setup_of(alloc, row.lines, row.file)?;
-    check_block_of(alloc, &setup, row)
+    check_block_of(alloc, &setup, refuses, row)
 }
 
 /// Whether a transaction ended so, and its client got a front of what the row states.
@@ -211,9 +217,21 @@ pub fn check_between(
     judge(alloc, row, &ended.parts)
 }
 
+/// Whether a row ends so between the links of these plans, and its client gets a front of what is stated.
+pub fn check_front(
+    alloc: Global,
+    row: &Row<'_>,
+    end: TxnEnd,
+    client: &Plan<'_>,
+    origin: Option<Plan<'_>>,
+) -> Result<Verdict, Refusal> {
+    let ended = run_row(alloc, row, client, origin)?;
+    judge_front(alloc, row, end, &ended.parts)
+}
+
 /// Whether a row comes out as stated where the links give and take all at once, and its block is so.
 pub fn check_at_once(alloc: Global, row: &Row<'_>) -> Result<Verdict, Refusal> {
-    let block = check_block(alloc, row)?;
+    let block = check_block(alloc, false, row)?;
     if block != Verdict::AsStated {
         return Ok(block);
     }

@@ -51,7 +51,7 @@ fn check_both(
     row: &Row<'_>,
 ) -> Result<Verdict, Refusal> {
     let setup = ruled(alloc, row, first, second)?;
-    let block = check_block_of(alloc, &setup, row)?;
+    let block = check_block_of(alloc, &setup, false, row)?;
     if block != Verdict::AsStated {
         return Ok(block);
     }

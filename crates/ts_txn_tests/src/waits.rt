@@ -10,6 +10,7 @@ use crate::row::{Row, Verdict, get, judge, run_row};
 use crate::stated::{ABC, BAD_GATEWAY, GET, GET_SENT, HEAD, SIZED};
 use std::alloc::Global;
 use std::test::Fail;
+use ts_journal::Entry;
 use ts_wire::Mode;
 
 // How long a link that was not ready is left alone, in milliseconds.
@@ -40,6 +41,19 @@ fn judge_waiting(
     judge(alloc, row, &ended.parts)
 }
 
+// The same, where one link waited twice and so made two pauses.
+fn judge_pauses(
+    alloc: Global,
+    row: &Row<'_>,
+    ended: &Ended,
+    waits: (u64, u64),
+) -> Result<Verdict, Refusal> {
+    if last_moment(ended.journal.entries()) != PAUSE * WAITS {
+        return Ok(Verdict::OtherMoment);
+    }
+    judge_waiting(alloc, row, ended, waits)
+}
+
 // Whether a row comes out as stated where its links wait so often.
 fn check_waiting(
     alloc: Global,
@@ -61,10 +75,7 @@ fn check_pauses(
     waits: (u64, u64),
 ) -> Result<Verdict, Refusal> {
     let ended = run_row(alloc, row, client, origin)?;
-    if last_moment(ended.journal.entries()) != PAUSE * WAITS {
-        return Ok(Verdict::OtherMoment);
-    }
-    judge_waiting(alloc, row, &ended, waits)
+    judge_pauses(alloc, row, &ended, waits)
 }
 
 #[test]
@@ -205,21 +216,34 @@ fn a_client_that_waits_at_its_first_writes(rt: HostRuntime) -> Result<(), Fail> 
 // How long the stage of a line that pauses does nothing between two of its events, in milliseconds.
 const DELAY: u64 = 5;
 
-#[test]
-fn a_stage_pauses_between_its_events(rt: HostRuntime) -> Result<(), Fail> {
-    let alloc = rt.alloc();
-    let row = html(b"delay.so 5\n", b"banana");
-    let origin = dripping_after(HTML, HTML_FRONT);
-    let ended = run_row(alloc, &row, &dripping_after(GET, 0), Some(origin))?;
-    assert_eq!(rt; judge(alloc, &row, &ended.parts)?, Verdict::AsStated);
-    let entries = ended.journal.entries();
-    // The one stage is made last.
+// Whether the continuation that was made last, that of the one stage, paused so long between its events.
+fn pauses(entries: &[Entry]) -> bool {
     let Some(stage) = last_made(entries) else {
-        return Err("a continuation is made")?;
+        return false;
     };
     let (gap, count) = least_gap(entries, stage);
-    assert!(rt; count >= 2);
-    assert!(rt; gap >= Some(DELAY), "{gap:?}");
-    assert_eq!(rt; last_moment(entries) % DELAY, 0);
+    count >= 2 && gap >= Some(DELAY) && last_moment(entries) % DELAY == 0
+}
+
+// Whether a row comes out as stated, and its one stage paused.
+fn check_stage(
+    alloc: Global,
+    row: &Row<'_>,
+    client: &Plan<'_>,
+    origin: Plan<'_>,
+) -> Result<Verdict, Refusal> {
+    let ended = run_row(alloc, row, client, Some(origin))?;
+    if pauses(ended.journal.entries()) {
+        return judge(alloc, row, &ended.parts);
+    }
+    Ok(Verdict::OtherMoment)
+}
+
+#[test]
+fn a_stage_pauses_between_its_events(rt: HostRuntime) -> Result<(), Fail> {
+    let row = html(b"delay.so 5\n", b"banana");
+    let origin = dripping_after(HTML, HTML_FRONT);
+    let verdict = check_stage(rt.alloc(), &row, &dripping_after(GET, 0), origin)?;
+    assert_eq!(rt; verdict, Verdict::AsStated);
     Ok(())
 }
