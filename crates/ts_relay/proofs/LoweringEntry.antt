@@ -77,7 +77,7 @@ no_bytes n = omega arith
 
 -- so what their fresh transforms have left to do has room
 module _ {P : Type 0} (setup : Setup) (stage : transform.Ghosts P TransformLine) (ms : List TransformLine)
-(ps : List P) (c : ChainState P) where
+    (ps : List P) (c : ChainState P) where
   less_has_room : IsLess setup.transforms.items ms → length ms ≤ length setup.transforms.items
       → AreOfLines stage ms ps
       → c ≡ record { first = []; stages = map fresh_stage ps; given = false } → HasChainRoom setup stage.rest
@@ -87,18 +87,18 @@ module _ {P : Type 0} (setup : Setup) (stage : transform.Ghosts P TransformLine)
       let stages : c.stages ≡ map fresh_stage ps = ap (λ (d : ChainState P). d.stages) made in
       let len : length c.stages ≡ length ps = ap length stages ∙ length-map ps fresh_stage in
       let left : left_to_do stage.rest c [] ≡ passing stage.rest (map fresh_stage ps) [] =
-          ap (λ (d : ChainState P). left_to_do stage.rest d []) made in
+      ap (λ (d : ChainState P). left_to_do stage.rest d []) made in
       let room : passing stage.rest (map fresh_stage ps) [] + length ps ≤ passes ls (lines_length ls + 2) =
       le_trans (fresh_work stage ms ps of [] (lines_length ms) (no_bytes (lines_length ms)))
       (le_trans (less.passed (lines_length ms + 2))
       (passes_less ls (lines_length ms + 2) (lines_length ls + 2) (two_more (lines_length ms)
-          (lines_length ls) less.text))) in
+      (lines_length ls) less.text))) in
       record {
         lines = record {
           few = few_stages (length c.stages) (length ps) (length ms) (length ls) len (same_count ms ps of)
               few;
           adds = subst (λ (ss : List (Stage P)). AllAddNoMore stage.rest ss) (sym stages) (fresh_adds stage ms
-                ps of);
+              ps of);
         };
         room = room_sum (left_to_do stage.rest c []) (passing stage.rest (map fresh_stage ps) [])
             (length c.stages) (length ps) (passes ls (lines_length ls + 2)) left len room;
@@ -179,16 +179,16 @@ pub enters : {B : Type 0} (setup : Setup) (rest : B → List ℕ → List ℕ) (
 enters setup rest errors v w u q h mode c bytes behind reads queues room =
     let text = relayed_head setup q.head h in
     let len : length w.client.outbox ≡ length v.client.outbox + length text = ap (λ (s : LinkSide). length
-          s.outbox) queues.client ∙ length-append v.client.outbox text in
+    s.outbox) queues.client ∙ length-append v.client.outbox text in
     let again : AgainsFall false (agains_left v) (agains_left w) =
     subst (λ (s : LinkSide). AgainsFall false (agains_left v) (both w.client.look.agains s.look.agains))
     (sym queues.origin)
     (subst (λ (s : LinkSide). AgainsFall false (agains_left v) (both s.look.agains v.origin.look.agains))
-      (sym queues.client) (none_fall (agains_left v))) in
+    (sym queues.client) (none_fall (agains_left v))) in
     told_fewer (λ x y. phase_work setup x y v (P.ResponseTransform q h)) (λ x y. body_work setup rest errors x
-      w c) false 0 (agains_left v) (agains_left w) (Some 0) (Some 0) again (none_left (Some 0) 0)
+    w c) false 0 (agains_left v) (agains_left w) (Some 0) (Some 0) again (none_left (Some 0) 0)
     (λ x x' y y' falls upload. enter_next (one_if false) x x' (length v.client.outbox)
-      (length w.client.outbox) (length text) (own_room setup) (head_room setup) (chain_room setup)
+    (length w.client.outbox) (length text) (own_room setup) (head_room setup) (chain_room setup)
     (left_to_do rest c []) errors (to_hear setup v.origin) (to_hear setup w.origin) (to_end c.given) falls len
     (response_fits setup bytes behind q.head h reads) room (ap (to_hear setup) queues.origin)
     (end_within c.given))
@@ -264,19 +264,23 @@ module _ {B : Type 0} (setup : Setup) (rest : B → List ℕ → List ℕ) (v : 
     lines = tt;
     first = tt;
     falls = ended_no_more (unbegun_left setup rest v r) (agains_left v) (Some 0) (λ x y. body_work setup rest
-          (length r.driven.chain.stages) x v r.driven.chain) (no_more_same (unbegun_left setup rest v r));
+        (length r.driven.chain.stages) x v r.driven.chain) (no_more_same (unbegun_left setup rest v r));
   }
 
   -- what the chain gets at its start gives it no more to do
   started : (state : BodyState) (c d : ChainState B) → GetsStart state c d
       → (d.stages ≡ c.stages) × (left_to_do rest d [] ≡ left_to_do rest c []) × (to_end d.given ≤ to_end
-        c.given)
-  started state.Unfinished c d gets =
-      (ap (λ (x : ChainState B). x.stages) gets, ap (λ (x : ChainState B). left_to_do rest x []) gets,
-        le_of_eq (ap (λ (x : ChainState B). to_end x.given) gets))
-  started state.Ended c d gets =
-      (ap (λ (x : ChainState B). x.stages) gets, ap (λ (x : ChainState B). left_to_do rest x []) gets,
-        given_end (to_end d.given) (to_end c.given) (ap (λ (x : ChainState B). to_end x.given) gets))
+      c.given)
+  started state.Unfinished c d gets = (
+    ap (λ (x : ChainState B). x.stages) gets,
+    ap (λ (x : ChainState B). left_to_do rest x []) gets,
+    le_of_eq (ap (λ (x : ChainState B). to_end x.given) gets),
+  )
+  started state.Ended c d gets = (
+    ap (λ (x : ChainState B). x.stages) gets,
+    ap (λ (x : ChainState B). left_to_do rest x []) gets,
+    given_end (to_end d.given) (to_end c.given) (ap (λ (x : ChainState B). to_end x.given) gets),
+  )
     where
       given_end : (m n : ℕ) → m ≡ 0 → m ≤ n
       given_end m n none = omega (arith, none)
@@ -297,7 +301,7 @@ module _ {B : Type 0} (setup : Setup) (rest : B → List ℕ → List ℕ) (v : 
         falls = no_more_errors setup rest (length r.driven.chain.stages) (errors_left s.driven) v
             r.driven.chain s.driven.chain is.1
             (counted_within s.driven.running (errors_to_pass s.driven.table.items)
-              (length r.driven.chain.stages) (λ runs.
+            (length r.driven.chain.stages) (λ runs.
             few_errors (errors_to_pass s.driven.table.items) (length s.driven.table.items)
             (length s.driven.chain.stages) (length r.driven.chain.stages) (errors_within s.driven.table.items)
             (begins.chain.driven runs).len (ap length is.0))) is.2;
@@ -315,11 +319,11 @@ module _ {B : Type 0} (setup : Setup) (rest : B → List ℕ → List ℕ) (v : 
       → OnGoes step ⊤ → SettledAs step result → s ≡ record m { reader = s.reader }
       → BeginsLower setup rest result v r s
   begins_settled S.Goes S.Goes r m s lower on settled is = subst (λ (x : Relay B). BeginsLower setup rest
-        S.Goes v r x) (sym is) (record { lines = lower.lines; first = lower.first; falls = lower.falls })
+      S.Goes v r x) (sym is) (record { lines = lower.lines; first = lower.first; falls = lower.falls })
   begins_settled S.Goes S.Lacks r m s lower on settled is = lacks_begun r s
   begins_settled S.Goes _ r m s lower on settled is = absurd settled
   begins_settled S.Lacks result r m s lower on settled is = subst (λ (x : BodyStep). BeginsLower setup rest x
-        v r s) (sym settled) (lacks_begun r s)
+      v r s) (sym settled) (lacks_begun r s)
   begins_settled _ result r m s lower on settled is = absurd on
 
   -- a body that began goes on, or memory lacked

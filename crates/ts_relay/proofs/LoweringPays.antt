@@ -65,7 +65,7 @@ module _ {P : Type 0} (setup : Setup) (rest : P → List ℕ → List ℕ) where
   ended_less : (m : Option ℕ) (w : View) (r : Relay P) → Fewer m (relay_left setup rest w r)
       → Fewer m (ended_left w)
   ended_less m w r fell = ended_if m (agains_left w) (Some 0) (λ x y. body_work setup rest
-        (errors_left r.driven) x w r.driven.chain) fell
+      (errors_left r.driven) x w r.driven.chain) fell
 
   settled_less : (step result : BodyStep) → SettledAs step result → (m : Option ℕ) (w : View) (r : Relay P)
       → Fewer m (left_after setup rest step w r) → Fewer m (left_after setup rest result w r)
@@ -78,9 +78,9 @@ module _ {P : Type 0} (setup : Setup) (rest : P → List ℕ → List ℕ) where
       → Falls (number_left a.log.state.pending (relay_left setup rest v r)) (set_leaving result)
       (number_left b.log.state.pending (left_after setup rest result v r))
   stays_paid S.Goes on v r a b none = paid_none a.log.state.pending b.log.state.pending (relay_left setup rest
-        v r) (relay_left setup rest v r) (no_more_same (relay_left setup rest v r)) none
+      v r) (relay_left setup rest v r) (no_more_same (relay_left setup rest v r)) none
   stays_paid S.Lacks on v r a b none = paid_fewer a.log.state.pending b.log.state.pending (relay_left setup
-        rest v r) (ended_left v) 1
+      rest v r) (ended_left v) 1
       (to_ended setup rest (errors_left r.driven) false v v r.driven.chain (stays_calm setup v v refl))
       (none_and_one (length a.log.state.pending) (length b.log.state.pending) 1 none (omega arith))
   stays_paid _ on v r a b none = absurd on
@@ -88,12 +88,12 @@ module _ {P : Type 0} (setup : Setup) (rest : P → List ℕ → List ℕ) where
 -- ---- an end made its step, and then both ends were roused that must work
 
 module _ {P : Type 0} (ct ot : Bool) (must : Type 0) (setup : Setup) (rest : P → List ℕ → List ℕ)
-(step result : BodyStep) (v w : View) (main t u : Option StageContinuation)
+    (step result : BodyStep) (v w : View) (main t u : Option StageContinuation)
     (r q m s : Relay P) (a c b : Context) where
   -- `r` is the body before its event, `q` once that was handled, `m` after the step, and `s` once it is
   -- settled
   end_pays : relay_left setup rest v q ≡ relay_left setup rest v r → (IsOfLines setup rest r.driven.chain
-        → IsOfLines setup rest q.driven.chain)
+      → IsOfLines setup rest q.driven.chain)
       → ((must → ⊥) → AreBodyEndsRoused v main r → AreBodyEndsRoused v t q)
       → LowersBody ct ot must setup rest step v w q m a c → SetsFew 2 a c → SettlesAfter step result w t u m s
       c b → s ≡ record m { reader = s.reader }
@@ -101,13 +101,13 @@ module _ {P : Type 0} (ct ot : Bool) (must : Type 0) (setup : Setup) (rest : P �
   end_pays same of_lines roused lowers few settles is = record {
     lines = settled_while (StaysOfLines setup rest r s) step result settles.settled
         (while_then (StaysOfLines setup rest q m) (StaysOfLines setup rest r s) step
-          (λ lines of. subst (λ (x : Relay P). IsOfLines setup rest x.driven.chain) (sym is)
-            (lines (of_lines of))) lowers.lines);
+        (λ lines of. subst (λ (x : Relay P). IsOfLines setup rest x.driven.chain) (sym is)
+        (lines (of_lines of))) lowers.lines);
     pays = λ told also of covered. subst (λ (n : Option ℕ). Falls (number_left a.log.state.pending
-            (relay_left setup rest v r)) (set_leaving result) (number_left b.log.state.pending n))
+        (relay_left setup rest v r)) (set_leaving result) (number_left b.log.state.pending n))
         (sym (left_settled setup rest result w m s is))
         (subst (λ (n : Option ℕ). Falls (number_left a.log.state.pending n) (set_leaving result)
-            (number_left b.log.state.pending (left_after setup rest result w m))) same
+        (number_left b.log.state.pending (left_after setup rest result w m))) same
         (by_step covered (lowers.falls told also (of_lines of))));
   }
     where
@@ -120,36 +120,36 @@ module _ {P : Type 0} (ct ot : Bool) (must : Type 0) (setup : Setup) (rest : P �
           → length b.log.state.pending ≤ length a.log.state.pending
       quiet (inl (runs, ends)) idle =
           let ends_now = subst (λ (x : View). AreBodyEndsRoused x t m) (sym idle.view)
-              (subst (λ (x : Relay P). AreBodyEndsRoused v t x) (sym idle.relay) (roused idle.free ends)) in
+          (subst (λ (x : Relay P). AreBodyEndsRoused v t x) (sym idle.relay) (roused idle.free ends)) in
           let same_now : b ≡ a = settles.rests ends_now ∙ idle.quiet in
           omega (arith, ap (λ (x : Context). length x.log.state.pending) same_now)
       quiet (inr spent) idle =
           let first : length c.log.state.pending ≡ length a.log.state.pending = ap (λ (x : Context). length
-                x.log.state.pending) idle.quiet in
+          x.log.state.pending) idle.quiet in
           let behind : length b.log.state.pending ≤ length c.log.state.pending =
           spent_none c b settles.adds.grows (subst (λ (x : Context). GREATEST ≤ x.log.state.next)
-            (sym idle.quiet) spent) in
+          (sym idle.quiet) spent) in
           omega (arith, first, behind)
 
       on_goes : (step : BodyStep) → step ≡ S.Goes → SettledAs step result → OnGoes result ⊤
       on_goes step is settled = subst (λ (x : BodyStep). SettledAs x result) is settled
 
       by_step : IsBodyCovered v main r a.log.state.next → Fewer (relay_left setup rest v q) (left_after setup
-            rest step w m) ⊎ HasNoDuty must step v w q m a c → goal
+          rest step w m) ⊎ HasNoDuty must step v w q m a c → goal
       by_step covered (inl fell) = paid_fewer a.log.state.pending b.log.state.pending (relay_left setup rest v
-            q) (left_after setup rest result w m) (set_leaving result)
+          q) (left_after setup rest result w m) (set_leaving result)
           (settled_less setup rest step result settles.settled (relay_left setup rest v q) w m fell)
           (four_and_one (length a.log.state.pending) (length c.log.state.pending) (length b.log.state.pending)
-            (set_leaving result) few.pending settles.adds.few.pending (set_one result))
+          (set_leaving result) few.pending settles.adds.few.pending (set_one result))
       by_step covered (inr idle) =
           subst (λ (x : View). Falls (number_left a.log.state.pending (relay_left setup rest v q))
-            (set_leaving result) (number_left b.log.state.pending (left_after setup rest result x m)))
+          (set_leaving result) (number_left b.log.state.pending (left_after setup rest result x m)))
           (sym idle.view)
           (subst (λ (x : Relay P). Falls (number_left a.log.state.pending (relay_left setup rest v q))
-              (set_leaving result) (number_left b.log.state.pending (left_after setup rest result v x)))
-            (sym idle.relay)
+          (set_leaving result) (number_left b.log.state.pending (left_after setup rest result v x)))
+          (sym idle.relay)
           (stays_paid setup rest result (on_goes step idle.goes settles.settled) v q a b (quiet covered
-              idle)))
+          idle)))
 
 -- ---- a stage did something, or nothing, and then both ends were roused that must work
 
@@ -157,8 +157,13 @@ stage_less : (p p1 p2 x out hear work work' given more : ℕ) → work' + 1 ≤ 
     → more ≤ 1
     → events_paid * (end_room + (x + out) + hear + pump_weight * work' + given) + p2 + more ≤ events_paid *
     (end_room + (x + out) + hear + pump_weight * work + given) + p
-stage_less p p1 p2 x out hear work work' given more less few after few_more = omega (arith, less, few, after,
-      few_more)
+stage_less p p1 p2 x out hear work work' given more less few after few_more = omega (
+  arith,
+  less,
+  few,
+  after,
+  few_more,
+)
 
 stage_ended : (p p1 p2 x out hear work given : ℕ) → p1 ≤ p + 4 → p2 ≤ p1 + 2 → events_paid * 0 + p2 + 1
     ≤ events_paid * (end_room + (x + out) + hear + work + given) + p
@@ -170,7 +175,7 @@ stage_rests : (p p2 x out hear work work' given : ℕ) → work' ≤ work → p2
 stage_rests p p2 x out hear work work' given less none = omega (arith, less, none)
 
 module _ {P : Type 0} (ct ot : Bool) (setup : Setup) (rest : P → List ℕ → List ℕ) (step result : BodyStep)
-(v : View) (main u : Option StageContinuation)
+    (v : View) (main u : Option StageContinuation)
     (r m s : Relay P) (a c b : Context) where
   -- `r` is the body before its event, `m` once a stage worked, and `s` once it is settled
   stage_pays : OnGoes step ⊤ → StaysOfLines setup rest r m → m ≡ record r { driven = m.driven }
@@ -185,11 +190,11 @@ module _ {P : Type 0} (ct ot : Bool) (setup : Setup) (rest : P → List ℕ → 
   stage_pays on stays was given less fewer runs did acts settles is = record {
     lines = settled_while (StaysOfLines setup rest r s) step result settles.settled
         (while_on (StaysOfLines setup rest r s) step (on_then (StaysOfLines setup rest r s) step on
-            (λ of. subst (λ (x : Relay P). IsOfLines setup rest x.driven.chain) (sym is) (stays of))));
+        (λ of. subst (λ (x : Relay P). IsOfLines setup rest x.driven.chain) (sym is) (stays of))));
     pays = λ told also of covered. subst (λ (n : Option ℕ). Falls (number_left a.log.state.pending
-            (relay_left setup rest v r)) (set_leaving result) (number_left b.log.state.pending n))
+        (relay_left setup rest v r)) (set_leaving result) (number_left b.log.state.pending n))
         (sym (left_settled setup rest result v m s is)) (settled_has Paid (λ h. h) (λ h. ended_paid) step
-          result settles.settled (by_step step on covered did));
+        result settles.settled (by_step step on covered did));
   }
     where
       work : ℕ
@@ -204,19 +209,19 @@ module _ {P : Type 0} (ct ot : Bool) (setup : Setup) (rest : P → List ℕ → 
 
       less_paid : work' + 1 ≤ work → Paid S.Goes
       less_paid less = paid_sum a.log.state.pending b.log.state.pending (agains_left v) (λ x. body_work setup
-            rest (errors_left r.driven) x v r.driven.chain)
+          rest (errors_left r.driven) x v r.driven.chain)
           (λ x. body_work setup rest (errors_left m.driven) x v m.driven.chain) 0 (λ x.
           subst (λ (g : Bool). events_paid * (end_room + (x + length v.client.outbox) + to_hear setup v.origin
-              + pump_weight * work' + to_end g) + length b.log.state.pending + 0
+          + pump_weight * work' + to_end g) + length b.log.state.pending + 0
           ≤ events_paid * body_work setup rest (errors_left r.driven) x v r.driven.chain + length
           a.log.state.pending) (sym given)
           (stage_less (length a.log.state.pending) (length c.log.state.pending) (length b.log.state.pending) x
-            (length v.client.outbox) (to_hear setup v.origin) work work' (to_end r.driven.chain.given) 0
+          (length v.client.outbox) (to_hear setup v.origin) work work' (to_end r.driven.chain.given) 0
           less acts.few.pending settles.adds.few.pending (omega arith)))
 
       ended_paid : Paid S.Lacks
       ended_paid = paid_sum a.log.state.pending b.log.state.pending (agains_left v) (λ x. body_work setup rest
-            (errors_left r.driven) x v r.driven.chain) (λ x. 0) 1 (λ x.
+          (errors_left r.driven) x v r.driven.chain) (λ x. 0) 1 (λ x.
           stage_ended (length a.log.state.pending) (length c.log.state.pending) (length b.log.state.pending) x
           (length v.client.outbox) (to_hear setup v.origin) (pump_weight * work)
           (to_end r.driven.chain.given) acts.few.pending settles.adds.few.pending)
@@ -224,14 +229,14 @@ module _ {P : Type 0} (ct ot : Bool) (setup : Setup) (rest : P → List ℕ → 
       -- no event was set, and there is no more to do
       rests_paid : work' ≤ work → length b.log.state.pending ≤ length a.log.state.pending → Paid S.Goes
       rests_paid few none = paid_sum a.log.state.pending b.log.state.pending (agains_left v) (λ x. body_work
-            setup rest (errors_left r.driven) x v r.driven.chain)
+          setup rest (errors_left r.driven) x v r.driven.chain)
           (λ x. body_work setup rest (errors_left m.driven) x v m.driven.chain) 0 (λ x.
           subst (λ (g : Bool). events_paid * (end_room + (x + length v.client.outbox) + to_hear setup v.origin
-              + pump_weight * work' + to_end g) + length b.log.state.pending + 0
+          + pump_weight * work' + to_end g) + length b.log.state.pending + 0
           ≤ events_paid * body_work setup rest (errors_left r.driven) x v r.driven.chain + length
           a.log.state.pending) (sym given)
           (stage_rests (length a.log.state.pending) (length b.log.state.pending) x (length v.client.outbox)
-            (to_hear setup v.origin) work work' (to_end r.driven.chain.given) few none))
+          (to_hear setup v.origin) work work' (to_end r.driven.chain.given) few none))
 
       -- the chain is as it was, so that nobody is roused
       quiet : AreBodyEndsRoused v main r → m.driven.chain ≡ r.driven.chain → length c.log.state.pending
@@ -263,17 +268,17 @@ module _ {P : Type 0} (ct ot : Bool) (setup : Setup) (rest : P → List ℕ → 
           m.driven.chain r.driven.table.items m.driven.table.items a c → Paid S.Goes
       running_paid is_running ends (inl done) = less_paid
           (less_sum (left_to_do rest r.driven.chain []) (left_to_do rest m.driven.chain []) (errors_to_pass
-              r.driven.table.items) (errors_to_pass m.driven.table.items) (errors_left r.driven)
-            (errors_left m.driven)
+          r.driven.table.items) (errors_to_pass m.driven.table.items) (errors_left r.driven)
+          (errors_left m.driven)
           done (counted r.driven.running (errors_to_pass r.driven.table.items) is_running)
           (at_most m.driven.running (errors_to_pass m.driven.table.items)))
       running_paid is_running ends (inr (same, errors, none)) = rests_paid
           (same_sum (left_to_do rest r.driven.chain []) (left_to_do rest m.driven.chain []) (errors_to_pass
-              r.driven.table.items) (errors_to_pass m.driven.table.items) (errors_left r.driven)
-            (errors_left m.driven)
+          r.driven.table.items) (errors_to_pass m.driven.table.items) (errors_left r.driven)
+          (errors_left m.driven)
           (ap (λ (x : ChainState P). left_to_do rest x []) same) errors (counted r.driven.running
-            (errors_to_pass r.driven.table.items) is_running) (at_most m.driven.running (errors_to_pass
-              m.driven.table.items)))
+          (errors_to_pass r.driven.table.items) is_running) (at_most m.driven.running (errors_to_pass
+          m.driven.table.items)))
           (quiet ends same none)
 
       goes_paid : IsBodyCovered v main r a.log.state.next → StageDid rest r.driven.chain m.driven.chain
@@ -281,7 +286,7 @@ module _ {P : Type 0} (ct ot : Bool) (setup : Setup) (rest : P → List ℕ → 
       goes_paid (inl (is_running, ends)) did = running_paid is_running ends did
       goes_paid (inr spent) did = rests_paid
           (add-le-add less (errors_fewer m.driven.running r.driven.running (errors_to_pass
-                m.driven.table.items) (errors_to_pass r.driven.table.items) fewer runs))
+          m.driven.table.items) (errors_to_pass r.driven.table.items) fewer runs))
           (spent_none a b (grows_trans acts.grows settles.adds.grows) spent)
 
       by_step : (step : BodyStep) → OnGoes step ⊤ → IsBodyCovered v main r a.log.state.next
@@ -306,7 +311,7 @@ quiet_pays ct ot setup rest v main r a = record {
 -- ---- the first continuation, and the reader
 
 module _ {P : Type 0} (ct ot : Bool) (setup : Setup) (rest : P → List ℕ → List ℕ) (step result : BodyStep)
-(v w : View) (main t u : Option StageContinuation)
+    (v w : View) (main t u : Option StageContinuation)
     (r q m s : Relay P) (a c b : Context) where
   -- what was not to be sent needs nobody
   pub send_pays : t ≡ unroused main → StepsChain step 1 r.driven m.driven a c
@@ -329,7 +334,7 @@ module _ {P : Type 0} (ct ot : Bool) (setup : Setup) (rest : P → List ℕ → 
   read_pays is same_main chain lowers settles same =
       end_pays ct ot (MustRead q.driven.chain) setup rest step result v w main t u r q m s a c b
       (ap (λ (x : Relay P). relay_left setup rest v x) is) (λ of. subst (λ (x : Relay P). IsOfLines setup rest
-          x.driven.chain) (sym is) of)
+      x.driven.chain) (sym is) of)
       (λ free ends. record {
         writes = λ must. subst (λ (x : Option StageContinuation). IsRousedIf x) (sym same_main)
             (ends.writes (subst (λ (x : Relay P). MustSend v x.driven.chain) is must));
@@ -339,16 +344,16 @@ module _ {P : Type 0} (ct ot : Bool) (setup : Setup) (rest : P → List ℕ → 
 -- ---- a stage
 
 module _ {P : Type 0} (ct ot : Bool) (setup : Setup) (rest : P → List ℕ → List ℕ) (pause : P → ℕ) (role : ℕ)
-(event : Event) (answer : Result ⊤ SetFault) (result : BodyStep) (v : View)
+    (event : Event) (answer : Result ⊤ SetFault) (result : BodyStep) (v : View)
     (main u : Option StageContinuation) (r s : Relay P) (e : DrivenChain P) (a c b : Context) where
   -- a stage's event, or one of nobody, passes on no more errors
   driven_errors : ((at : ℕ) → role ≡ FIRST + at → IsStage r.driven.chain r.driven.table.items at → Acts rest
-        pause at event r.driven e a c) → (IsOfNoStage FIRST role r.driven → e ≡ r.driven)
+      pause at event r.driven e a c) → (IsOfNoStage FIRST role r.driven → e ≡ r.driven)
       → errors_to_pass e.table.items ≤ errors_to_pass r.driven.table.items
   driven_errors acts other = by_stage (stage_at role r.driven.chain r.driven.table.items)
     where
       by_stage : ((at : ℕ) × (role ≡ FIRST + at) × IsStage r.driven.chain r.driven.table.items at) ⊎ ((at : ℕ)
-            → role ≡ FIRST + at → IsStage r.driven.chain r.driven.table.items at → ⊥)
+          → role ≡ FIRST + at → IsStage r.driven.chain r.driven.table.items at → ⊥)
           → errors_to_pass e.table.items ≤ errors_to_pass r.driven.table.items
       by_stage (inl (at, is, stage)) = errors_fall rest pause at r.driven.chain e.chain r.driven.table.items _
           e.table.items r.driven.running e.running a c event (acts at is stage)
@@ -362,7 +367,7 @@ module _ {P : Type 0} (ct ot : Bool) (setup : Setup) (rest : P → List ℕ → 
   chain_less l l' c d is was (inr less) = omega (arith, is, was, less)
 
   pub role_pays : ((at : ℕ) → role ≡ FIRST + at → IsStage r.driven.chain r.driven.table.items at → Acts rest
-        pause at event r.driven e a c) → (IsOfNoStage FIRST role r.driven → e ≡ r.driven)
+      pause at event r.driven e a c) → (IsOfNoStage FIRST role r.driven → e ≡ r.driven)
       → StillGives rest r.driven.chain e.chain r.driven.table.items e.table.items a c → ActsWithin 4 a c
       → Loses answer r.driven e a c
       → SettlesAfter (step_after answer) result v main u (record r { driven = e }) s c b
@@ -372,7 +377,7 @@ module _ {P : Type 0} (ct ot : Bool) (setup : Setup) (rest : P → List ℕ → 
       stage_pays ct ot setup rest (step_after answer) result v main u r (record r { driven = e }) s a c b
       (goes_after answer) (handled_lines setup rest r.driven.chain e.chain gives.once) refl gives.given
       (chain_less (left_to_do rest r.driven.chain []) (left_to_do rest e.chain []) r.driven.chain e.chain
-        refl refl (once_works rest r.driven.chain e.chain gives.once)) (driven_errors acts other)
+      refl refl (once_works rest r.driven.chain e.chain gives.once)) (driven_errors acts other)
       (loses_runs answer r.driven e a c loses)
       (stage_did rest r.driven.chain e.chain r.driven.table.items e.table.items a c gives (driven_errors acts
-          other)) within settles same
+      other)) within settles same

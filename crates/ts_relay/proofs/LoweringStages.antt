@@ -27,12 +27,12 @@ use Rattle.ts_relay.proofs.InsertedStages.{pumped_lines}
 stage_same : {P : Type 0} (s s' : Stage P) → s'.part ≡ s.part → s'.after ≡ s.after → s' ≡ s
 stage_same {P} s s' part behind =
     ap (λ (p : Option P). record { part = p; after = s'.after }) part ∙ ap (λ (xs : List ℕ).
-      record { part = s.part; after = xs }) behind
+    record { part = s.part; after = xs }) behind
 
 stages_same : {P : Type 0} (s s' : Stage P) (ss ss' : List (Stage P)) → s' ≡ s → ss' ≡ ss
     → ◌≡◌ {A = List (Stage P)} (s' ∷ ss') (s ∷ ss)
 stages_same {P} s s' ss ss' one others = ap (λ (x : Stage P). x ∷ ss') one ∙ ap (λ (xs : List (Stage P)). s
-      ∷ xs) others
+    ∷ xs) others
 
 -- a step drops no stage
 still_some : {P : Type 0} (rest : P → List ℕ → List ℕ) (from : List ℕ) (s : Stage P) (ss : List (Stage P))
@@ -47,7 +47,7 @@ stepped_rests : {P : Type 0} (rest : P → List ℕ → List ℕ) (r : Pumped)
     → StepsAt rest from ss at r from' ss' → (from' ≡ from) × (ss' ≡ ss)
 stepped_rests rest r still from [] at from' ss' steps = absurd steps
 stepped_rests rest r still from (s ∷ ss) at from' [] steps = absurd (still_some rest from s ss at r from'
-      steps)
+    steps)
 stepped_rests rest r still from (s ∷ ss) zero from' (s' ∷ ss') steps =
     let one = still s s' from from' steps.0 in
     (one.0, stages_same s s' ss ss' one.1 steps.1)
@@ -75,14 +75,14 @@ module _ {P : Type 0} (rest : P → List ℕ → List ℕ) (c d : ChainState P) 
       → StepsAt rest c.first c.stages at r d.first d.stages → d.given ≡ c.given → WorksOrStays
   pumped_works at (Moved n) answers steps given =
       inr (one_less (left_to_do rest d []) (left_to_do rest c []) n (stepped-less rest c.given c.first
-          c.stages at (Moved n) d.first d.stages answers steps [] (nothing_more c.given))
+      c.stages at (Moved n) d.first d.stages answers steps [] (nothing_more c.given))
       (moved-some c.given c.first c.stages at n answers))
   pumped_works at Ended answers steps given =
       inr (one_less (left_to_do rest d []) (left_to_do rest c []) 1 (stepped-less rest c.given c.first
-          c.stages at Ended d.first d.stages answers steps [] (nothing_more c.given)) (omega arith))
+      c.stages at Ended d.first d.stages answers steps [] (nothing_more c.given)) (omega arith))
   pumped_works at r answers steps given =
       let same = stepped_rests rest r (λ s s' from from' h. (h.0, h.1)) c.first c.stages at d.first d.stages
-          steps in
+      steps in
       inl (chain_same c d same.0 same.1 given)
 
   pub once_works : PumpsOnce rest c d → WorksOrStays
@@ -95,7 +95,7 @@ less_one : (m n : ℕ) → m + 1 ≡ n → m ≤ n
 less_one m n more = omega (arith, more)
 
 module _ {P : Type 0} (rest : P → List ℕ → List ℕ) (pause : P → ℕ) (at : ℕ) (c d : ChainState P)
-(ts vs us : List (Option StageContinuation)) (was now : Bool) (a b : Context) where
+    (ts vs us : List (Option StageContinuation)) (was now : Bool) (a b : Context) where
   acts_errors : (event : Event) → ActsAt rest pause at event c d ts vs us was now a b → (ended may : Bool)
       → ended_at c.stages at ≡ ended → may_pass_error_at ts at ≡ may
       → errors_to_pass us ≤ errors_to_pass ts
@@ -103,9 +103,9 @@ module _ {P : Type 0} (rest : P → List ℕ → List ℕ) (pause : P → ℕ) (
   acts_errors Error acts false true is passes = less_one (errors_to_pass us) (errors_to_pass ts)
       (passed_less ts us at (acts.error_passed refl is) passes)
   acts_errors Error acts false false is passes = le_of_eq (passed_same ts us at (acts.error_passed refl is)
-        passes)
+      passes)
   acts_errors event acts false may is passes = le_of_eq (errors_same ts us
-        (acts.same (λ e. absurd (let wrong : event ≡ Error = e in cc)) is))
+      (acts.same (λ e. absurd (let wrong : event ≡ Error = e in cc)) is))
 
   pub errors_fall : (event : Event) → ActsAt rest pause at event c d ts vs us was now a b
       → errors_to_pass us ≤ errors_to_pass ts
@@ -132,12 +132,12 @@ still_sum l l' e e' p p' same fewer pays = by_errors (le_split e' e fewer)
     by_errors (inr h) = inr (same, h, omega (arith, same, h, pays))
 
 module _ {P : Type 0} (rest : P → List ℕ → List ℕ) (c d : ChainState P)
-(ts us : List (Option StageContinuation)) (a b : Context) where
+    (ts us : List (Option StageContinuation)) (a b : Context) where
   -- the chain has less to do, with the errors that may be passed on; or nothing changed that an end could see
   abbrev pub StageDid : Type 0
   StageDid = (left_to_do rest d [] + errors_to_pass us + 1 ≤ left_to_do rest c [] + errors_to_pass ts)
       ⊎ ((d ≡ c) × (errors_to_pass us ≡ errors_to_pass ts) × (length b.log.state.pending ≤ length
-          a.log.state.pending))
+      a.log.state.pending))
 
   more_done : (l l' e e' : ℕ) → l' + 1 ≤ l → e' ≤ e → l' + e' + 1 ≤ l + e
   more_done l l' e e' less fewer = omega (arith, less, fewer)
@@ -146,17 +146,17 @@ module _ {P : Type 0} (rest : P → List ℕ → List ℕ) (c d : ChainState P)
   stage_did gives fewer = by_work (once_works rest c d gives.once)
     where
       by_still : d ≡ c → (left_to_do rest d [] + errors_to_pass us + 1 ≤ left_to_do rest c [] + errors_to_pass
-            ts)
+          ts)
           ⊎ ((left_to_do rest d [] ≡ left_to_do rest c []) × (errors_to_pass us ≡ errors_to_pass ts)
-            × (length b.log.state.pending ≤ length a.log.state.pending)) → StageDid
+          × (length b.log.state.pending ≤ length a.log.state.pending)) → StageDid
       by_still same (inl less) = inl less
       by_still same (inr still) = inr (same, still.1, still.2)
 
       by_work : WorksOrStays rest c d → StageDid
       by_work (inr less) = inl (more_done (left_to_do rest c []) (left_to_do rest d []) (errors_to_pass ts)
-            (errors_to_pass us) less fewer)
+          (errors_to_pass us) less fewer)
       by_work (inl same) = by_still same (still_sum (left_to_do rest c []) (left_to_do rest d [])
-            (errors_to_pass ts) (errors_to_pass us) (length a.log.state.pending) (length b.log.state.pending)
+          (errors_to_pass ts) (errors_to_pass us) (length a.log.state.pending) (length b.log.state.pending)
           (ap (λ (x : ChainState P). left_to_do rest x []) same) fewer (gives.pays [] (nothing_more c.given)))
 
 -- ---- the chain stays one of the configuration's
@@ -166,7 +166,7 @@ pub handled_lines : {P : Type 0} (setup : Setup) (rest : P → List ℕ → List
 handled_lines {P} setup rest c d (inl same) of = subst (λ (x : ChainState P). IsOfLines setup rest x)
     (sym same) of
 handled_lines setup rest c d (inr (at, p)) of = pumped_lines setup rest at c d p (stepped_len rest p.pumped
-      c.first c.stages at d.first d.stages p.steps) of
+    c.first c.stages at d.first d.stages p.steps) of
   where
     stepped_len : {P : Type 0} (rest : P → List ℕ → List ℕ) (r : Pumped) (from : List ℕ) (ss : List (Stage P))
         (at : ℕ) (from' : List ℕ) (ss' : List (Stage P)) → StepsAt rest from ss at r from' ss'

@@ -32,7 +32,7 @@ part_last {P} stage f all left ps none before =
     (before [] (subst (λ (ls : List TransformLine). AreOfLines stage (filter f ls) []) (sym none) tt))
 
 module _ {P : Type 0} (stage : transform.Ghosts P TransformLine) (whole : TransformLine → List ℕ → List ℕ)
-(f : TransformLine → Bool) (all : List TransformLine)
+    (f : TransformLine → Bool) (all : List TransformLine)
     (left more : List TransformLine) (l : TransformLine) (is : left ≡ l ∷ more) (ps : List P)
     (before : Continues stage f all left ps) where
   -- a line that acts has a part of its own
@@ -41,11 +41,11 @@ module _ {P : Type 0} (stage : transform.Ghosts P TransformLine) (whole : Transf
       → Continues stage f all more (ps ++ p ∷ [])
   part_more acts does p fresh paused qs of =
       let front : AreOfLines stage (cond true (l ∷ filter f more) (filter f more)) (p ∷ qs) =
-          (λ z. fresh z ∙ acts l z, paused, of) in
+      (λ z. fresh z ∙ acts l z, paused, of) in
       let also : AreOfLines stage (filter f left) (p ∷ qs) =
       subst (λ (ls : List TransformLine). AreOfLines stage (filter f ls) (p ∷ qs)) (sym is)
       (subst (λ (b : Bool). AreOfLines stage (cond b (l ∷ filter f more) (filter f more)) (p ∷ qs)) (sym does)
-        front) in
+      front) in
       subst (λ (xs : List P). AreOfLines stage (filter f all) xs) (sym (append_assoc ps (p ∷ []) qs))
       (before (p ∷ qs) also)
 

@@ -109,7 +109,7 @@ module _ (setup : Setup) (refuses : Type 0) where
 
   -- of the origin's bytes a front was used
   drained : (q : Request) (h : ResponseHead) (c : List ℕ) (dialed : Bool) (o : LinkSide) (i piece part : List
-        ℕ) (place next : Place) (read : List ℕ)
+      ℕ) (place next : Place) (read : List ℕ)
       → o.inbox ≡ piece ++ i → GoesOn place next piece part → ReadsBody setup refuses q h c dialed o place
       read
       → ReadsBody setup refuses q h c dialed (record o { inbox = i }) next (read ++ part)
@@ -118,7 +118,7 @@ module _ (setup : Setup) (refuses : Type 0) where
     good = r.good;
     fed = r.fed ++ piece;
     reads = subst (λ (x : List ℕ). FinalHead o.look.given h x) (ap (λ (x : List ℕ). r.fed ++ x) taken
-          ∙ sym (append_assoc r.fed piece i)) r.reads;
+        ∙ sym (append_assoc r.fed piece i)) r.reads;
     is_fed = goes (framing_of q.head h) r.fed read r.is_fed;
   }
 
@@ -133,14 +133,14 @@ module _ (setup : Setup) (refuses : Type 0) where
   flows_fed : {P : Type 0} (rest : P → List ℕ → List ℕ) (v : View) (c : ChainState P) (place : Place)
       (r : RelaysBody setup refuses rest v c place) → c.given ≡ false
       → (part z : List ℕ) → r.sends.body ++ flow rest c (part ++ z) ≡ compose_lines (body_lines setup r.q.head
-        r.h) ((r.read ++ part) ++ z)
+      r.h) ((r.read ++ part) ++ z)
   flows_fed rest v c place r going part z =
       flows_all rest v c place r going (part ++ z) ∙ ap (compose_lines (body_lines setup r.q.head r.h))
       (sym (append_assoc r.read part z))
 
   -- the part comes to the front of what still flows
   gets_flow : {P : Type 0} (rest : P → List ℕ → List ℕ) (state : BodyState) (part : List ℕ) (c d : ChainState
-        P) → GetsPart state part c d → state ≢ B.Bad
+      P) → GetsPart state part c d → state ≢ B.Bad
       → (z : List ℕ) → flow rest d z ≡ flow rest c (part ++ z)
   gets_flow rest B.Unfinished part c d gets good z = ap (λ k. flow rest k z) gets ∙ flow_given rest c part
       c.given z
@@ -182,7 +182,7 @@ module _ (setup : Setup) (refuses : Type 0) where
           body = r.sends.body;
           text = r.sends.text;
           flows = λ z last. ap (λ (x : List ℕ). r.sends.body ++ x) (gets_flow rest (state_of next.phase)
-                fed.part c d fed.gets good z)
+              fed.part c d fed.gets good z)
               ∙ flows_fed rest v c place r going fed.part z;
         };
       })
@@ -197,7 +197,7 @@ module _ (setup : Setup) (refuses : Type 0) where
       (let o : LinkSide = record v.origin { inbox = w.origin.inbox } in
       let x : View = record v { origin = o } in
       let reads = drained r.q r.h (all_of v.client.look) v.dialed v.origin w.origin.inbox fed.piece fed.part
-          place next r.read fed.taken fed.goes r.reads in
+      place next r.read fed.taken fed.goes r.reads in
       let stops : Stops x next = record {
         q = r.q;
         h = r.h;
@@ -215,8 +215,8 @@ module _ (setup : Setup) (refuses : Type 0) where
         some = r.sends.some;
         took = facts.request r.q reads.served.goes reads.served.carries;
         queues = stop_block x next stops E.OriginBad (bad (r.read ++ fed.part) (body_of setup refuses r.q r.h
-                (all_of v.client.look) v.dialed o next (r.read ++ fed.part) reads B.Bad is (λ goes. absurd
-                  (let wrong : B.Bad ≡ B.Unfinished = goes in cc))) refl);
+            (all_of v.client.look) v.dialed o next (r.read ++ fed.part) reads B.Bad is (λ goes. absurd
+            (let wrong : B.Bad ≡ B.Unfinished = goes in cc))) refl);
       })
 
   -- memory lacked for it
@@ -238,14 +238,14 @@ module _ (setup : Setup) (refuses : Type 0) where
   feeds_lead rest v w c d place next S.Waits going drains feeds r = absurd feeds
   feeds_lead rest v w c d place next (S.Finishes end) going drains (fed, state, is) r =
       subst (IsFinishing setup refuses w) (sym is) (feeds_bad rest v w c d place next going drains fed state
-        r)
+      r)
   feeds_lead rest v w c d place next (S.Closes end) going drains feeds r = absurd feeds
   feeds_lead rest v w c d place next S.Lacks going drains same r = feeds_lacks rest v w c place drains same r
 
   -- ---- the origin is read
 
   module _ {P : Type 0} (rest : P → List ℕ → List ℕ) (t : Bool) (v w : View) (c : ChainState P)
-  (place : Place) (told : t ≡ true) (going : c.given ≡ false)
+      (place : Place) (told : t ≡ true) (going : c.given ≡ false)
       (r : RelaysBody setup refuses rest v c place) where
     -- its link failed
     pub reads_failed : ReadsOrigin t v w L.Failed → IsFinishing setup refuses w E.OriginFault
@@ -273,7 +273,7 @@ module _ (setup : Setup) (refuses : Type 0) where
     reads_cut reads none over here short_of =
         let on = reads_on setup refuses rest t v w L.End c place told going reads r in
         let short = here.cuts short_of (framing_of on.q.head on.h) on.reads.fed on.read (on.gives_end.goes_on
-              going) on.reads.is_fed in
+        going) on.reads.is_fed in
         let all : (on.reads.fed ++ w.origin.inbox) ++ w.origin.look.left ≡ on.reads.fed =
         ap (λ (l : List ℕ). (on.reads.fed ++ w.origin.inbox) ++ l) (reads.origin.pulls.pulls.ends told)
         ∙ append-nil (on.reads.fed ++ w.origin.inbox)
@@ -284,7 +284,7 @@ module _ (setup : Setup) (refuses : Type 0) where
           took = facts.request on.q on.reads.served.goes on.reads.served.carries;
           queues = stop_block w place (stops_of rest w c place going on) E.OriginCut
               (cut on.read (subst (λ (x : List ℕ). IsCutShort (framing_of on.q.head on.h) x on.read) (sym all)
-                  short) refl);
+              short) refl);
         }
 
     -- the body goes up to its end
@@ -294,7 +294,7 @@ module _ (setup : Setup) (refuses : Type 0) where
     reads_closed d reads none over here so same =
         let on = reads_on setup refuses rest t v w L.End c place told going reads r in
         let closes = here.closes so (framing_of on.q.head on.h) on.reads.fed on.read (on.gives_end.goes_on
-              going) on.reads.is_fed in
+        going) on.reads.is_fed in
         subst (λ (k : ChainState P). RelaysBody setup refuses rest w k place) (sym same)
         (record {
           q = on.q;
@@ -303,7 +303,7 @@ module _ (setup : Setup) (refuses : Type 0) where
           reads = on.reads;
           gives_end = record {
             ended = λ given. ends.closed closes (on.gives_end.goes_on going) (reads.origin.pulls.pulls.ends
-                  told) (none_held reads none);
+                told) (none_held reads none);
             goes_on = λ still. absurd (true≢false still);
           };
           sends = record {
@@ -319,11 +319,11 @@ module _ (setup : Setup) (refuses : Type 0) where
     pub closes_lead : (d : ChainState P) (step : BodyStep) → ReadsOrigin t v w L.End → v.origin.inbox ≡ []
         → (over : Bool) → EndsHere over place → over ≡ true
         → OnGoes step (d ≡ record c { given = true }) → LeadsBody setup refuses (RelaysBody setup refuses rest
-          w d place) w step
+        w d place) w step
     closes_lead d S.Goes reads none over here so gets = reads_closed d reads none over here so gets
     closes_lead d S.Lacks reads none over here so gets =
         relays_lacks setup refuses rest w c place (reads_on setup refuses rest t v w L.End c place told going
-          reads r)
+        reads r)
     closes_lead d _ reads none over here so gets = absurd gets
 
   -- memory lacked for a read

@@ -51,8 +51,8 @@ module _ {C O P : Type 0} (client : link.Ghosts C) (origin : link.Ghosts O) (bot
 module _ {C O P L : Type 0} (client : link.Ghosts C) (origin : link.Ghosts O) (stage : transform.Ghosts P L)
     (old new : Core C O) where
   -- the step of an end of a body lowers what is left, unless it had nothing to do
-  abbrev pub StepLowers : Type 0 → BodyStep → Relay P → Relay P → Context → Context → Type 0
-  StepLowers must step r s a b = LowersBody client.tells origin.tells must (arc_value old.setup) stage.rest
+  abbrev pub EndLowers : Type 0 → BodyStep → Relay P → Relay P → Context → Context → Type 0
+  EndLowers must step r s a b = LowersBody client.tells origin.tells must (arc_value old.setup) stage.rest
       step (view_of client origin old) (view_of client origin new) r s a b
 
   -- an event pays for the events that it sets

@@ -5,7 +5,7 @@ ghost use Rattle.ts_transform.specs.Flow.{IsFinished, flow};
 ghost use Rattle.ts_wire.specs.Frames.{IsPiece};
 ghost use Rattle.ts_relay.specs.Duties.{MustSend};
 ghost use Rattle.ts_phases.specs.View.{view_of};
-ghost use Rattle.ts_relay.specs.StepsOwed.{StepLowers, WriterSteps};
+ghost use Rattle.ts_relay.specs.StepsOwed.{EndLowers, WriterSteps};
 ghost use Rattle.ts_relay.specs.Relaying.{RelayHolds, RelayLeads};
 
 use crate::last_writes::BodyStep;
@@ -49,7 +49,7 @@ fn end_some<C: Link, O: Upstream<C>, P: Transform + Drop>(
         relay.now result }
     ensures steps { (now : Context) → now.log.state.held ≡ true → WriterSteps C.Link O.Link O.Upstream.own
         core.old core.new result relay.now relay.now now now }
-    ensures lowers { (now : Context) → StepLowers C.Link O.Link P.Transform core.old core.new
+    ensures lowers { (now : Context) → EndLowers C.Link O.Link P.Transform core.old core.new
         ((relay.now.driven.chain.given ≡ true) × IsFinished relay.now.driven.chain)
         result relay.now relay.now now now }
 {
@@ -75,7 +75,7 @@ fn frame_some<C: Link, O: Upstream<C>, P: Transform + Drop>(
         relay.new result }
     ensures steps { WriterSteps C.Link O.Link O.Upstream.own core.old core.new result
         relay.old relay.new cx.old cx.new }
-    ensures lowers { StepLowers C.Link O.Link P.Transform core.old core.new
+    ensures lowers { EndLowers C.Link O.Link P.Transform core.old core.new
         (MustSend (view_of C.Link O.Link core.old) relay.old.driven.chain)
         result relay.old relay.new cx.old cx.new }
 {
@@ -103,7 +103,7 @@ pub fn write_body<C: Link, O: Upstream<C>, P: Transform + Drop>(
         relay.new result }
     ensures steps { WriterSteps C.Link O.Link O.Upstream.own core.old core.new result
         relay.old relay.new cx.old cx.new }
-    ensures lowers { StepLowers C.Link O.Link P.Transform core.old core.new
+    ensures lowers { EndLowers C.Link O.Link P.Transform core.old core.new
         (MustSend (view_of C.Link O.Link core.old) relay.old.driven.chain)
         result relay.old relay.new cx.old cx.new }
 {

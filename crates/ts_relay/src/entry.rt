@@ -61,8 +61,8 @@ fn begin_input<P: Transform + Drop>(relay: &mut Relay<P>, cx: &mut Cx) -> BodySt
     }
 }
 
-/// Makes the continuations of a body: that of its reader, and one for each stage.
-pub fn begin_relay<P: Transform + Drop>(relay: &mut Relay<P>, cx: &mut Cx) -> BodyStep
+// Makes the continuations of a body: that of its reader, and one for each stage.
+fn begin_relay<P: Transform + Drop>(relay: &mut Relay<P>, cx: &mut Cx) -> BodyStep
     requires turn { cx.old.log.state.held ≡ true }
     requires fresh { IsUnbegun relay.old }
     requires goes_on { relay.old.driven.chain.given ≡ false }

@@ -24,9 +24,9 @@ use ts_phases::Core;
 use ts_transform::{StageContinuation, Transform, unrouse, works};
 use ts_upstream::Upstream;
 
-/// Sees that an event of each end of a body is pending that must work: of the first continuation and of
-/// the reader after these pauses, in milliseconds, where it has none yet.
-pub fn settle_body<C: Link, O: Upstream<C>, P: Transform + Drop>(
+// Sees that an event of each end of a body is pending that must work: of the first continuation and of
+// the reader after these pauses, in milliseconds, where it has none yet.
+fn settle_body<C: Link, O: Upstream<C>, P: Transform + Drop>(
     core: &Core<C, O>,
     main: &mut Option<StageContinuation>,
     relay: &mut Relay<P>,

@@ -12,7 +12,7 @@ use ts_upstream::Upstream;
 use ts_vconn::Pushed;
 
 /// Where a step of a body leads.
-#[derive(Clone, Copy, Debug, PartialEq, Eq)]
+#[derive(Clone, Copy)]
 pub enum BodyStep {
     /// The next step of its kind is made as it is due.
     Goes,

@@ -1,7 +1,7 @@
 //! The steps that read a body from the origin: one read, or what waits is fed to the reader of bodies.
 ghost use Rattle.std.specs.Prelude.{◌≡◌, [], true, false};
 ghost use Rattle.ts_transform.specs.Flow.{MustRead};
-ghost use Rattle.ts_relay.specs.StepsOwed.{ReaderSteps, StepLowers};
+ghost use Rattle.ts_relay.specs.StepsOwed.{ReaderSteps, EndLowers};
 ghost use Rattle.ts_phases.specs.View.{view_of};
 ghost use Rattle.ts_relay.specs.Relaying.{RelayHolds, RelayLeads};
 
@@ -29,7 +29,7 @@ fn feed_relay<C: Link, O: Upstream<C>, P: Transform + Drop>(
         relay.new result }
     ensures steps { ReaderSteps C.Link O.Link O.Upstream.own core.old core.new result
         relay.old relay.new cx.old cx.new }
-    ensures lowers { StepLowers C.Link O.Link P.Transform core.old core.new
+    ensures lowers { EndLowers C.Link O.Link P.Transform core.old core.new
         (MustRead relay.old.driven.chain) result relay.old relay.new cx.old cx.new }
 {
     feed_body(core, relay, cx)
@@ -49,7 +49,7 @@ fn pull_relay<C: Link, O: Upstream<C>, P: Transform + Drop>(
         relay.new result }
     ensures steps { ReaderSteps C.Link O.Link O.Upstream.own core.old core.new result
         relay.old relay.new cx.old cx.new }
-    ensures lowers { StepLowers C.Link O.Link P.Transform core.old core.new
+    ensures lowers { EndLowers C.Link O.Link P.Transform core.old core.new
         (MustRead relay.old.driven.chain) result relay.old relay.new cx.old cx.new }
 {
     let pulled = match core.read_origin() {
@@ -82,7 +82,7 @@ pub fn read_body<C: Link, O: Upstream<C>, P: Transform + Drop>(
         relay.new result }
     ensures steps { ReaderSteps C.Link O.Link O.Upstream.own core.old core.new result
         relay.old relay.new cx.old cx.new }
-    ensures lowers { StepLowers C.Link O.Link P.Transform core.old core.new
+    ensures lowers { EndLowers C.Link O.Link P.Transform core.old core.new
         (MustRead relay.old.driven.chain) result relay.old relay.new cx.old cx.new }
 {
     let reads = relay.driven.chain().must_read();

@@ -34,8 +34,8 @@ returns-clause-leads g c = λ told also.
 pub returns-then-not-has_given_all-clause-lowers : goal.returns-then-not-has_given_all-clause-lowers
 returns-then-not-has_given_all-clause-lowers g c = λ now.
     idles g.C.Link.tells g.O.Link.tells ((c.args.relay.now.driven.chain.given ≡ true) × IsFinished
-    c.args.relay.now.driven.chain) (arc_value c.args.core.now.setup) g.P.Transform.rest (view_of g.C.Link
-    g.O.Link c.args.core.now) c.args.relay.now now
+    c.args.relay.now.driven.chain) (arc_value c.args.core.now.setup) g.P.Transform.rest
+    (view_of g.C.Link g.O.Link c.args.core.now) c.args.relay.now now
     (λ all. absurd (false≢true (sym c.if-not-has_given_all.true ∙ c.has_given_all.ensures.only
     (ap (λ (k : ChainState _). k.given) c.chain.ensures ∙ all.0)
     (subst (λ (k : ChainState _). IsFinished k) (sym c.chain.ensures) all.1))))

@@ -49,8 +49,9 @@ returns-in_default-clause-lowers g c =
 pub returns-in_default-frame_body-clause-lowers : goal.returns-in_default-frame_body-clause-lowers
 returns-in_default-frame_body-clause-lowers g c =
     queues_lacks g.C.Link.tells g.O.Link.tells (MustSend (view_of g.C.Link g.O.Link c.args.core.now)
-    c.args.relay.now.driven.chain) (arc_value c.args.core.now.setup) g.P.Transform.rest (view_of g.C.Link
-    g.O.Link c.args.core.now) (view_of g.C.Link g.O.Link c.frame_body.new.self) c.args.relay.now
+    c.args.relay.now.driven.chain) (arc_value c.args.core.now.setup) g.P.Transform.rest
+    (view_of g.C.Link g.O.Link c.args.core.now) (view_of g.C.Link g.O.Link c.frame_body.new.self)
+    c.args.relay.now
     c.args.cx.now c.in_default-frame_body.ensures.err
 
 pub returns-clause-lowers : goal.returns-clause-lowers
@@ -61,8 +62,9 @@ returns-clause-lowers g c =
     c.args.relay.now (record c.args.relay.now { driven = c.take.new.self }) c.args.cx.now c.take.new.cx)
     (sym c.step_after.ensures)
     (frames_after g.C.Link.tells g.O.Link.tells (MustSend (view_of g.C.Link g.O.Link c.args.core.now)
-    c.args.relay.now.driven.chain) (arc_value c.args.core.now.setup) g.P.Transform.rest (view_of g.C.Link
-    g.O.Link c.args.core.now) (view_of g.C.Link g.O.Link c.frame_body.new.self) c.args.relay.now
+    c.args.relay.now.driven.chain) (arc_value c.args.core.now.setup) g.P.Transform.rest
+    (view_of g.C.Link g.O.Link c.args.core.now) (view_of g.C.Link g.O.Link c.frame_body.new.self)
+    c.args.relay.now
     (record c.args.relay.now { driven = c.take.new.self }) c.args.cx.now c.take.new.cx c.take.result _
     c.piece_of-piece.ensures.piece c.in-Ok.ensures.ok c.take.ensures.takes (
       c.take.ensures.same.same,

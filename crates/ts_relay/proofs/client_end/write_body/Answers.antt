@@ -46,14 +46,16 @@ returns-in-NoMemory-clause-leads g c = λ told also.
 pub returns-in-Some-clause-lowers : goal.returns-in-Some-clause-lowers
 returns-in-Some-clause-lowers g c =
     lowering.writes_goes g.C.Link.tells g.O.Link.tells (MustSend (view_of g.C.Link g.O.Link c.args.core.now)
-    c.args.relay.now.driven.chain) (arc_value c.args.core.now.setup) g.P.Transform.rest (view_of g.C.Link
-    g.O.Link c.args.core.now) (view_of g.C.Link g.O.Link c.write_client.new.self) c.args.relay.now
+    c.args.relay.now.driven.chain) (arc_value c.args.core.now.setup) g.P.Transform.rest
+    (view_of g.C.Link g.O.Link c.args.core.now) (view_of g.C.Link g.O.Link c.write_client.new.self)
+    c.args.relay.now
     c.args.cx.now _ c.in-Some.ensures.writes
 
 pub returns-in-Nothing-clause-lowers : goal.returns-in-Nothing-clause-lowers
 returns-in-Nothing-clause-lowers g c =
-    lowering.writes_nothing g.C.Link.tells g.O.Link.tells (MustSend (view_of g.C.Link g.O.Link
-    c.args.core.now) c.args.relay.now.driven.chain) (arc_value c.args.core.now.setup) g.P.Transform.rest
+    lowering.writes_nothing g.C.Link.tells g.O.Link.tells
+    (MustSend (view_of g.C.Link g.O.Link c.args.core.now) c.args.relay.now.driven.chain)
+    (arc_value c.args.core.now.setup) g.P.Transform.rest
     (view_of g.C.Link g.O.Link c.args.core.now) (view_of g.C.Link g.O.Link c.write_client.new.self)
     c.args.relay.now c.args.cx.now c.in-Nothing.ensures.writes (λ none. absurd
     (false≢true (sym c.if-is_empty.false ∙ c.is_empty.ensures.1 none)))
@@ -61,22 +63,25 @@ returns-in-Nothing-clause-lowers g c =
 pub returns-in-Again-clause-lowers : goal.returns-in-Again-clause-lowers
 returns-in-Again-clause-lowers g c =
     lowering.writes_waits g.C.Link.tells g.O.Link.tells (MustSend (view_of g.C.Link g.O.Link c.args.core.now)
-    c.args.relay.now.driven.chain) (arc_value c.args.core.now.setup) g.P.Transform.rest (view_of g.C.Link
-    g.O.Link c.args.core.now) (view_of g.C.Link g.O.Link c.write_client.new.self) c.args.relay.now
+    c.args.relay.now.driven.chain) (arc_value c.args.core.now.setup) g.P.Transform.rest
+    (view_of g.C.Link g.O.Link c.args.core.now) (view_of g.C.Link g.O.Link c.write_client.new.self)
+    c.args.relay.now
     c.args.cx.now c.in-Again.ensures.writes
 
 pub returns-in-Failed-clause-lowers : goal.returns-in-Failed-clause-lowers
 returns-in-Failed-clause-lowers g c =
     lowering.writes_closes g.C.Link.tells g.O.Link.tells (MustSend (view_of g.C.Link g.O.Link c.args.core.now)
-    c.args.relay.now.driven.chain) (arc_value c.args.core.now.setup) g.P.Transform.rest (view_of g.C.Link
-    g.O.Link c.args.core.now) (view_of g.C.Link g.O.Link c.write_client.new.self) c.args.relay.now
+    c.args.relay.now.driven.chain) (arc_value c.args.core.now.setup) g.P.Transform.rest
+    (view_of g.C.Link g.O.Link c.args.core.now) (view_of g.C.Link g.O.Link c.write_client.new.self)
+    c.args.relay.now
     c.args.cx.now V.Failed E.ClientFault c.in-Failed.ensures.writes
 
 pub returns-in-NoMemory-clause-lowers : goal.returns-in-NoMemory-clause-lowers
 returns-in-NoMemory-clause-lowers g c =
     lowering.writes_lacks g.C.Link.tells g.O.Link.tells (MustSend (view_of g.C.Link g.O.Link c.args.core.now)
-    c.args.relay.now.driven.chain) (arc_value c.args.core.now.setup) g.P.Transform.rest (view_of g.C.Link
-    g.O.Link c.args.core.now) (view_of g.C.Link g.O.Link c.write_client.new.self) c.args.relay.now
+    c.args.relay.now.driven.chain) (arc_value c.args.core.now.setup) g.P.Transform.rest
+    (view_of g.C.Link g.O.Link c.args.core.now) (view_of g.C.Link g.O.Link c.write_client.new.self)
+    c.args.relay.now
     c.args.cx.now V.NoMemory c.in-NoMemory.ensures.writes
 
 pub returns-in-Some-clause-steps : goal.returns-in-Some-clause-steps

@@ -16,7 +16,8 @@ returns-clause-leads g c = λ told also.
 
 pub returns-clause-lowers : goal.returns-clause-lowers
 returns-clause-lowers g c =
-    begins_lower (arc_value c.args.core.now.setup) g.P.Transform.rest (view_of g.C.Link g.O.Link
-    c.args.core.now) c.begin_relay.result _ c.args.relay.now c.begin_relay.new.relay c.args.cx.now
+    begins_lower (arc_value c.args.core.now.setup) g.P.Transform.rest
+    (view_of g.C.Link g.O.Link c.args.core.now) c.begin_relay.result _ c.args.relay.now
+    c.begin_relay.new.relay c.args.cx.now
     c.begin_relay.new.cx
     c.begin_relay.ensures.gets c.begin_relay.ensures.begins

@@ -49,8 +49,8 @@ pub returns-in-Ok-queue_head-clause-lowers : goal.returns-in-Ok-queue_head-claus
 returns-in-Ok-queue_head-clause-lowers g c =
     let q = c.args.request.now in
     let h = c.args.head.now in
-    queues_lower g.C.Link.tells g.O.Link.tells (arc_value c.args.core.now.setup) (OriginRefuses g.C.Link
-    g.O.Upstream c.args.core.now) g.P.Transform.rest
+    queues_lower g.C.Link.tells g.O.Link.tells (arc_value c.args.core.now.setup)
+    (OriginRefuses g.C.Link g.O.Upstream c.args.core.now) g.P.Transform.rest
     (view_of g.C.Link g.O.Link c.args.core.now) (view_of g.C.Link g.O.Link c.queue_head.new.self) q h
     c.bytes.result.now c.mode_of-mode.result c.in-Ok.made c.requires.fact
     (ap (λ d. d.first) c.in-Ok.ensures.parts.chain)

@@ -26,12 +26,14 @@ returns-clause-begins g c =
 
 pub returns-clause-lowers : goal.returns-clause-lowers
 returns-clause-lowers g c =
-    begins_settled (arc_value c.args.core.now.setup) g.P.Transform.rest (view_of g.C.Link g.O.Link
-    c.args.core.now) c.enter_body-step.result c.settle_after.result c.args.relay.now
+    begins_settled (arc_value c.args.core.now.setup) g.P.Transform.rest
+    (view_of g.C.Link g.O.Link c.args.core.now) c.enter_body-step.result c.settle_after.result
+    c.args.relay.now
     c.enter_body-step.new.relay
     c.settle_after.new.relay c.enter_body-step.ensures.lowers
-    (begun_goes (arc_value c.args.core.now.setup) g.P.Transform.rest (view_of g.C.Link g.O.Link
-    c.args.core.now) c.enter_body-step.result c.enter_body-step.new.relay c.args.cx.now
+    (begun_goes (arc_value c.args.core.now.setup) g.P.Transform.rest
+    (view_of g.C.Link g.O.Link c.args.core.now) c.enter_body-step.result c.enter_body-step.new.relay
+    c.args.cx.now
     c.enter_body-step.new.cx c.enter_body-step.ensures.begins)
     c.settle_after.ensures.settles.settled c.settle_after.ensures.relay
 

@@ -49,8 +49,9 @@ pub returns-clause-handles : goal.returns-clause-handles
 returns-clause-handles g c = record {
   keeps = c.read_body-step.ensures.steps.keeps;
   body =
-      handles_read c.args.event c.read_body-step.result c.settle_after.result (view_of g.C.Link g.O.Link
-      c.args.core.now) (view_of g.C.Link g.O.Link c.read_body-step.new.core) c.args.main.now
+      handles_read c.args.event c.read_body-step.result c.settle_after.result
+      (view_of g.C.Link g.O.Link c.args.core.now) (view_of g.C.Link g.O.Link c.read_body-step.new.core)
+      c.args.main.now
       c.settle_after.new.main
       c.args.relay.now c.read_body-step.new.relay c.settle_after.new.relay c.args.cx.now
       c.read_body-step.new.cx c.settle_after.new.cx c.known.ensures c.read_body-step.ensures.steps.chain
@@ -58,8 +59,8 @@ returns-clause-handles g c = record {
       (ap (λ x. x.driven) c.settle_after.ensures.relay) c.settle_after.ensures.settles
       c.read_body-step.ensures.steps.links.client c.read_body-step.ensures.steps.links.sent;
   links =
-      links_read g.C.Link.tells g.O.Link.tells (view_of g.C.Link g.O.Link c.args.core.now) (view_of g.C.Link
-      g.O.Link c.read_body-step.new.core) c.read_body-step.result c.settle_after.result
+      links_read g.C.Link.tells g.O.Link.tells (view_of g.C.Link g.O.Link c.args.core.now)
+      (view_of g.C.Link g.O.Link c.read_body-step.new.core) c.read_body-step.result c.settle_after.result
       c.args.main.now c.args.relay.now c.read_body-step.new.relay c.settle_after.new.relay c.args.cx.now
       c.read_body-step.new.cx c.settle_after.new.cx c.read_body-step.ensures.steps.links
       c.settle_after.ensures.settles.settled

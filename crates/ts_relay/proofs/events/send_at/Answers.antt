@@ -49,20 +49,22 @@ pub returns-clause-handles : goal.returns-clause-handles
 returns-clause-handles g c = record {
   keeps = c.write_body-step.ensures.steps.keeps;
   body =
-      handles_write c.args.event c.write_body-step.result c.settle_after.result (view_of g.C.Link g.O.Link
-      c.args.core.now) (view_of g.C.Link g.O.Link c.write_body-step.new.core) c.args.main.now
+      handles_write c.args.event c.write_body-step.result c.settle_after.result
+      (view_of g.C.Link g.O.Link c.args.core.now) (view_of g.C.Link g.O.Link c.write_body-step.new.core)
+      c.args.main.now
       c.settle_after.new.main
       c.args.relay.now c.write_body-step.new.relay c.settle_after.new.relay c.args.cx.now
       c.write_body-step.new.cx c.settle_after.new.cx c.known.ensures c.write_body-step.ensures.steps.chain
       c.write_body-step.ensures.steps.relay (ap (λ x. x.driven) c.settle_after.ensures.relay)
-      (subst (λ x. SettlesAfter c.write_body-step.result c.settle_after.result (view_of g.C.Link g.O.Link
-      c.write_body-step.new.core) x c.settle_after.new.main c.write_body-step.new.relay
+      (subst (λ x. SettlesAfter c.write_body-step.result c.settle_after.result
+      (view_of g.C.Link g.O.Link c.write_body-step.new.core) x c.settle_after.new.main
+      c.write_body-step.new.relay
       c.settle_after.new.relay c.write_body-step.new.cx c.settle_after.new.cx) c.unrouse.ensures
       c.settle_after.ensures.settles)
       c.write_body-step.ensures.steps.links.origin;
   links =
-      links_write g.C.Link.tells g.O.Link.tells (view_of g.C.Link g.O.Link c.args.core.now) (view_of g.C.Link
-      g.O.Link c.write_body-step.new.core) c.write_body-step.result c.settle_after.result
+      links_write g.C.Link.tells g.O.Link.tells (view_of g.C.Link g.O.Link c.args.core.now)
+      (view_of g.C.Link g.O.Link c.write_body-step.new.core) c.write_body-step.result c.settle_after.result
       c.args.main.now c.unrouse.new.slot c.args.relay.now c.write_body-step.new.relay c.settle_after.new.relay
       c.args.cx.now c.write_body-step.new.cx c.settle_after.new.cx c.write_body-step.ensures.steps.links
       c.settle_after.ensures.settles.settled

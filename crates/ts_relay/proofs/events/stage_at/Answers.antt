@@ -27,8 +27,8 @@ returns-clause-leads g c = λ told also.
 pub returns-clause-pays : goal.returns-clause-pays
 returns-clause-pays g c =
     role_pays g.C.Link.tells g.O.Link.tells (arc_value c.args.core.now.setup) g.P.Transform.rest
-    g.P.Transform.pause c.args.role c.args.event c.handle.result c.settle_after.result (view_of g.C.Link
-    g.O.Link c.args.core.now) c.args.main.now c.settle_after.new.main
+    g.P.Transform.pause c.args.role c.args.event c.handle.result c.settle_after.result
+    (view_of g.C.Link g.O.Link c.args.core.now) c.args.main.now c.settle_after.new.main
     c.args.relay.now c.settle_after.new.relay c.handle.new.self c.args.cx.now c.handle.new.cx
     c.settle_after.new.cx c.handle.ensures.acts (λ none. (c.handle.ensures.other none).0)
     c.handle.ensures.gives c.handle.ensures.within c.handle.ensures.loses

@@ -43,8 +43,8 @@ returns-in-Failed-clause-leads g c = λ told also.
     g.P.Transform.rest g.O.Link.tells
     (view_of g.C.Link g.O.Link c.args.core.now) (view_of g.C.Link g.O.Link c.read_origin.new.self)
     c.args.relay.now.driven.chain c.args.relay.now.body also c.requires.goes_on.0 (c.requires.fact told also)
-    (subst (λ p. ReadsOrigin g.O.Link.tells (view_of g.C.Link g.O.Link c.args.core.now) (view_of g.C.Link
-    g.O.Link c.read_origin.new.self) p) c.in-Failed.is c.in-Ok.ensures.reads)
+    (subst (λ p. ReadsOrigin g.O.Link.tells (view_of g.C.Link g.O.Link c.args.core.now)
+    (view_of g.C.Link g.O.Link c.read_origin.new.self) p) c.in-Failed.is c.in-Ok.ensures.reads)
 
 pub returns-then-not-ends_here-clause-leads : goal.returns-then-not-ends_here-clause-leads
 returns-then-not-ends_here-clause-leads g c = λ told also.
@@ -52,8 +52,8 @@ returns-then-not-ends_here-clause-leads g c = λ told also.
     g.P.Transform.rest g.O.Link.tells
     (view_of g.C.Link g.O.Link c.args.core.now) (view_of g.C.Link g.O.Link c.read_origin.new.self)
     c.args.relay.now.driven.chain c.args.relay.now.body also c.requires.goes_on.0 (c.requires.fact told also)
-    (subst (λ p. ReadsOrigin g.O.Link.tells (view_of g.C.Link g.O.Link c.args.core.now) (view_of g.C.Link
-    g.O.Link c.read_origin.new.self) p) c.in-End.is c.in-Ok.ensures.reads) c.requires.empty
+    (subst (λ p. ReadsOrigin g.O.Link.tells (view_of g.C.Link g.O.Link c.args.core.now)
+    (view_of g.C.Link g.O.Link c.read_origin.new.self) p) c.in-End.is c.in-Ok.ensures.reads) c.requires.empty
     c.ends_here.result c.ends_here.ensures c.if-not-ends_here.true
 
 pub returns-else-not-ends_here-clause-leads : goal.returns-else-not-ends_here-clause-leads
@@ -78,32 +78,32 @@ returns-in-Some-clause-lowers g c =
     reads_goes g.C.Link.tells g.O.Link.tells (MustRead c.args.relay.now.driven.chain)
     (arc_value c.args.core.now.setup) g.P.Transform.rest (view_of g.C.Link g.O.Link c.args.core.now)
     (view_of g.C.Link g.O.Link c.read_origin.new.self) c.args.relay.now c.args.cx.now _
-    (subst (λ p. ReadsOrigin g.O.Link.tells (view_of g.C.Link g.O.Link c.args.core.now) (view_of g.C.Link
-    g.O.Link c.read_origin.new.self) p) c.in-Some.is c.in-Ok.ensures.reads)
+    (subst (λ p. ReadsOrigin g.O.Link.tells (view_of g.C.Link g.O.Link c.args.core.now)
+    (view_of g.C.Link g.O.Link c.read_origin.new.self) p) c.in-Some.is c.in-Ok.ensures.reads)
 
 pub returns-in-Again-clause-lowers : goal.returns-in-Again-clause-lowers
 returns-in-Again-clause-lowers g c =
     reads_waits g.C.Link.tells g.O.Link.tells (MustRead c.args.relay.now.driven.chain)
     (arc_value c.args.core.now.setup) g.P.Transform.rest (view_of g.C.Link g.O.Link c.args.core.now)
     (view_of g.C.Link g.O.Link c.read_origin.new.self) c.args.relay.now c.args.cx.now
-    (subst (λ p. ReadsOrigin g.O.Link.tells (view_of g.C.Link g.O.Link c.args.core.now) (view_of g.C.Link
-    g.O.Link c.read_origin.new.self) p) c.in-Again.is c.in-Ok.ensures.reads)
+    (subst (λ p. ReadsOrigin g.O.Link.tells (view_of g.C.Link g.O.Link c.args.core.now)
+    (view_of g.C.Link g.O.Link c.read_origin.new.self) p) c.in-Again.is c.in-Ok.ensures.reads)
 
 pub returns-in-Failed-clause-lowers : goal.returns-in-Failed-clause-lowers
 returns-in-Failed-clause-lowers g c =
     reads_finishes g.C.Link.tells g.O.Link.tells (MustRead c.args.relay.now.driven.chain)
     (arc_value c.args.core.now.setup) g.P.Transform.rest (view_of g.C.Link g.O.Link c.args.core.now)
     (view_of g.C.Link g.O.Link c.read_origin.new.self) c.args.relay.now c.args.cx.now L.Failed E.OriginFault
-    (subst (λ p. ReadsOrigin g.O.Link.tells (view_of g.C.Link g.O.Link c.args.core.now) (view_of g.C.Link
-    g.O.Link c.read_origin.new.self) p) c.in-Failed.is c.in-Ok.ensures.reads)
+    (subst (λ p. ReadsOrigin g.O.Link.tells (view_of g.C.Link g.O.Link c.args.core.now)
+    (view_of g.C.Link g.O.Link c.read_origin.new.self) p) c.in-Failed.is c.in-Ok.ensures.reads)
 
 pub returns-then-not-ends_here-clause-lowers : goal.returns-then-not-ends_here-clause-lowers
 returns-then-not-ends_here-clause-lowers g c =
     reads_finishes g.C.Link.tells g.O.Link.tells (MustRead c.args.relay.now.driven.chain)
     (arc_value c.args.core.now.setup) g.P.Transform.rest (view_of g.C.Link g.O.Link c.args.core.now)
     (view_of g.C.Link g.O.Link c.read_origin.new.self) c.args.relay.now c.args.cx.now L.End E.OriginCut
-    (subst (λ p. ReadsOrigin g.O.Link.tells (view_of g.C.Link g.O.Link c.args.core.now) (view_of g.C.Link
-    g.O.Link c.read_origin.new.self) p) c.in-End.is c.in-Ok.ensures.reads)
+    (subst (λ p. ReadsOrigin g.O.Link.tells (view_of g.C.Link g.O.Link c.args.core.now)
+    (view_of g.C.Link g.O.Link c.read_origin.new.self) p) c.in-End.is c.in-Ok.ensures.reads)
 
 pub returns-else-not-ends_here-clause-lowers : goal.returns-else-not-ends_here-clause-lowers
 returns-else-not-ends_here-clause-lowers g c =
@@ -112,8 +112,9 @@ returns-else-not-ends_here-clause-lowers g c =
     (view_of g.C.Link g.O.Link c.read_origin.new.self) c.args.relay.now
     (record c.args.relay.now { driven = c.close_input.new.driven }) c.args.cx.now c.close_input.new.cx
     c.close_input.result
-    c.close_input.ensures.gets c.requires.goes_on.0 (subst (λ p. ReadsOrigin g.O.Link.tells (view_of g.C.Link
-    g.O.Link c.args.core.now) (view_of g.C.Link g.O.Link c.read_origin.new.self) p) c.in-End.is
+    c.close_input.ensures.gets c.requires.goes_on.0 (subst (λ p. ReadsOrigin g.O.Link.tells
+    (view_of g.C.Link g.O.Link c.args.core.now) (view_of g.C.Link g.O.Link c.read_origin.new.self) p)
+    c.in-End.is
     c.in-Ok.ensures.reads) (c.close_input.ensures.chain.seats.same, c.close_input.ensures.chain.falls) refl
 
 pub returns-in-Err-clause-steps : goal.returns-in-Err-clause-steps
