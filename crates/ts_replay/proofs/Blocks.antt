@@ -3,10 +3,10 @@ use Rattle.std.proofs.Common.{◌≡◌, ◌≢◌, ◌⊎◌, ℕ, List, [], Bo
 use Rattle.ts_config.specs.declared.fields.Side.TheVariants as S
 use Rattle.ts_config.specs.declared.setup.Setup.{Setup}
 use Rattle.ts_hooks.specs.declared.txn_end.TxnEnd.TheVariants as E
-use Rattle.ts_txn.specs.Block.{AnswerSays, DenySays, DialSays, IsBlock, VerdictSays, asked, bad, cut, ended, lacking, no_head, passed_on, request_text, silent}
-use Rattle.ts_txn.specs.Heads.{HasRequest}
-use Rattle.ts_txn.specs.Rules.{ruled}
-use Rattle.ts_txn.specs.declared.block.Block.{Block}
+use Rattle.ts_block.specs.Block.{AnswerSays, DenySays, DialSays, IsBlock, VerdictSays, asked, bad, cut, ended, lacking, no_head, passed_on, request_text, silent}
+use Rattle.ts_block.specs.Heads.{HasRequest}
+use Rattle.ts_block.specs.Rules.{ruled}
+use Rattle.ts_block.specs.declared.block.Block.{Block}
 use Rattle.ts_wire.specs.Check.{check, is_absolute}
 use Rattle.ts_wire.specs.Forward.{forwarded}
 use Rattle.ts_wire.specs.OneHead.{IsReadRequest}

@@ -25,9 +25,9 @@ use Rattle.ts_thread.specs.Started.{IsFirst, WasStarted}
 use Rattle.ts_thread.specs.Threads.{HasHadTurns, turns_of}
 use Rattle.ts_thread.specs.Whole.{HaveEnded}
 use Rattle.ts_thread.proofs.Known.{end_fits, found_fits}
-use Rattle.ts_txn.specs.View.{is_dialed, side_if}
+use Rattle.ts_phases.specs.View.{is_dialed, side_if}
 use Rattle.ts_txn.specs.World.{HasTxnBegun, IsSameLinkIf}
-use Rattle.ts_txn.specs.declared.parts.Peer.{Peer}
+use Rattle.ts_phases.specs.declared.parts.Peer.{Peer}
 use Rattle.ts_txn.proofs.Fitting.{fits_begun}
 
 -- ---- it was started

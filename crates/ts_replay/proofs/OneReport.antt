@@ -6,7 +6,7 @@ use Rattle.ts_record.specs.Grammar.{TxnPieces}
 use Rattle.ts_record.specs.Report.{blocks_text, report_begin, report_end}
 use Rattle.ts_record.specs.declared.report.Block.{Block}
 use Rattle.ts_record.proofs.Same.{one_recording}
-use Rattle.ts_txn.proofs.OneBlock.{one_block}
+use Rattle.ts_block.proofs.OneBlock.{one_block}
 use Rattle.ts_replay.specs.Reports.{HasOneReport, IsReport, IsShown, shown}
 use Rattle.ts_replay.proofs.SameLines.{block_same}
 

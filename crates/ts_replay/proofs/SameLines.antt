@@ -8,14 +8,14 @@ use Rattle.ts_config.specs.declared.setup.Setup.{Setup}
 use Rattle.ts_config.specs.declared.setup.TransformLine.{TransformLine}
 use Rattle.ts_hooks.specs.declared.txn_end.TxnEnd.{TxnEnd}
 use Rattle.ts_hooks.specs.declared.txn_end.TxnEnd.TheVariants as E
-use Rattle.ts_txn.specs.Acting.{acting, acts_on}
-use Rattle.ts_txn.specs.Block.{AnswerSays, BodySays, DenySays, DialSays, IsBlock, VerdictSays, asked, bad, body_lines, cut, ended, lacking, no_head, own_block, passed_on, relayed_block, request_text, silent}
-use Rattle.ts_txn.specs.Own.{own_field, own_head, own_sent}
-use Rattle.ts_txn.specs.Relayed.{client_framing, framing_of, if_body, length_told, mode_of, reads_chunks}
-use Rattle.ts_txn.specs.Rules.{is_denied, ruled}
-use Rattle.ts_txn.specs.declared.block.Block.{Block}
-use Rattle.ts_txn.specs.declared.own.OwnStatus.{OwnStatus}
-use Rattle.ts_txn.specs.declared.own.OwnStatus.TheVariants as O
+use Rattle.ts_block.specs.Acting.{acting, acts_on}
+use Rattle.ts_block.specs.Block.{AnswerSays, BodySays, DenySays, DialSays, IsBlock, VerdictSays, asked, bad, body_lines, cut, ended, lacking, no_head, own_block, passed_on, relayed_block, request_text, silent}
+use Rattle.ts_block.specs.Own.{own_field, own_head, own_sent}
+use Rattle.ts_block.specs.Relayed.{client_framing, framing_of, if_body, length_told, mode_of, reads_chunks}
+use Rattle.ts_block.specs.Rules.{is_denied, ruled}
+use Rattle.ts_block.specs.declared.block.Block.{Block}
+use Rattle.ts_block.specs.declared.own_answer.OwnStatus.{OwnStatus}
+use Rattle.ts_block.specs.declared.own_answer.OwnStatus.TheVariants as O
 use Rattle.ts_wire.specs.Check.{check, is_absolute, plugin_host}
 use Rattle.ts_wire.specs.Forward.{forwarded}
 use Rattle.ts_wire.specs.Printed.{client_text, origin_text}

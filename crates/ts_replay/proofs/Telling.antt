@@ -12,16 +12,16 @@ use Rattle.ts_link.specs.MemLink.{LinkState, look_of}
 use Rattle.ts_record.specs.Report.{IsReported}
 use Rattle.ts_record.specs.declared.report.Block.{Block as Shown}
 use Rattle.ts_stock.specs.Stock.{still_writes}
-use Rattle.ts_txn.specs.Block.{IsBlock}
-use Rattle.ts_txn.specs.Ends.{HasBlock, HasText, ShortEnd}
+use Rattle.ts_block.specs.Block.{IsBlock}
+use Rattle.ts_phases.specs.Ends.{HasBlock, HasText, ShortEnd}
 use Rattle.ts_txn.specs.Making.{end_of, link_if}
 use Rattle.ts_txn.specs.Resting.{NeverFailed, SendsBlock}
 use Rattle.ts_txn.specs.Resting as rest
-use Rattle.ts_txn.specs.View.{HasFailed, LinkSide, View, is_dialed, refuses_if, side, side_if}
-use Rattle.ts_txn.specs.declared.block.Block.{Block}
+use Rattle.ts_phases.specs.View.{HasFailed, LinkSide, View, is_dialed, refuses_if, side, side_if}
+use Rattle.ts_block.specs.declared.block.Block.{Block}
 use Rattle.ts_txn.specs.declared.making.TxnParts.{TxnParts}
-use Rattle.ts_txn.specs.declared.parts.Peer.{Peer}
-use Rattle.ts_txn.specs.declared.parts.Sent.{Sent}
+use Rattle.ts_phases.specs.declared.parts.Peer.{Peer}
+use Rattle.ts_phases.specs.declared.parts.Sent.{Sent}
 use Rattle.ts_txn.proofs.Resting.{rests_with_block}
 use Rattle.ts_wire.specs.Frames.{cut_body, frames}
 use Rattle.ts_replay.specs.Exchanged.{GotBy, HasGot, HasTaken, IsLeftBetween, IsRunBetween, LeavesBlock}

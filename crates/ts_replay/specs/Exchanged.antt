@@ -9,10 +9,10 @@ use Rattle.ts_hooks.specs.declared.txn_end.TxnEnd.TheVariants as E
 use Rattle.ts_journal.specs.declared.entry.TheConstants.{GREATEST}
 use Rattle.ts_link.specs.MemLink.{LinkState, look_of}
 use Rattle.ts_replay.specs.Recorded.{IsSoundWith, Recorded}
-use Rattle.ts_txn.specs.Cover.{is_fresh_on}
+use Rattle.ts_txn.specs.CourseCover.{is_fresh_on}
 use Rattle.ts_txn.specs.Making.{end_of, link_if}
-use Rattle.ts_txn.specs.View.{is_dialed, side_if}
-use Rattle.ts_txn.specs.declared.block.Block.{Block}
+use Rattle.ts_phases.specs.View.{is_dialed, side_if}
+use Rattle.ts_block.specs.declared.block.Block.{Block}
 use Rattle.ts_txn.specs.declared.making.TxnParts.{TxnParts}
 use Rattle.ts_wire.specs.Frames.{IsPiece, cut_body, frames}
 

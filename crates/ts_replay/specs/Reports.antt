@@ -6,8 +6,8 @@ use Rattle.ts_config.specs.declared.setup.TransformLine.{TransformLine}
 use Rattle.ts_record.specs.Grammar.{TxnPieces, IsRecording}
 use Rattle.ts_record.specs.Report.{report_text}
 use Rattle.ts_record.specs.declared.report.Block.{Block}
-use Rattle.ts_txn.specs.Block.{IsBlock}
-use Rattle.ts_txn.specs.declared.block.Block.{Block as TxnBlock}
+use Rattle.ts_block.specs.Block.{IsBlock}
+use Rattle.ts_block.specs.declared.block.Block.{Block as TxnBlock}
 
 -- a block as a report shows it
 abbrev pub shown : TxnBlock → Block

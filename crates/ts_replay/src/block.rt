@@ -7,7 +7,7 @@ ghost use Rattle.ts_replay.specs.Exchanged.{EndsBlank, HasTaken, IsLeftBetween, 
 ghost use Rattle.ts_replay.specs.Reports.{IsShownOf, shown};
 ghost use Rattle.ts_replay.specs.Unframing.{IsFramed};
 ghost use Rattle.ts_txn.specs.Making.{end_of};
-ghost use Rattle.ts_txn.specs.declared.block.Block.{Block as TxnBlock};
+ghost use Rattle.ts_block.specs.declared.block.Block.{Block as TxnBlock};
 ghost use Rattle.ts_wire.specs.Frames.{cut_body};
 
 use crate::framed::unframed;

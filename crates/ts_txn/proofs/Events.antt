@@ -4,36 +4,40 @@ use Rattle.ts_hooks.specs.declared.txn_end.TxnEnd.{TxnEnd}
 use Rattle.ts_hooks.specs.declared.txn_end.TxnEnd.TheVariants as E
 use Rattle.ts_group.specs.Context.{Context}
 use Rattle.ts_group.specs.Entries.{Grows}
-use Rattle.ts_link.specs.Link.{Look}
+use Rattle.ts_link.specs.declared.link.Link as link
+use Rattle.ts_upstream.specs.declared.upstream.Upstream as upstream
 use Rattle.ts_journal.specs.declared.entry.Pending.{Pending}
 use Rattle.ts_transform.specs.Driving.{ActsWithin, IsDueAfter, IsNamedIf, SetsOnly, unroused}
 use Rattle.ts_transform.specs.Seats.{AllSeated, HasKey}
 use Rattle.ts_transform.specs.declared.continuation.StageContinuation.{StageContinuation}
 use Rattle.std.specs.Prelude.{⊤}
-use Rattle.ts_txn.specs.BodyLinks.{BeginsInTime}
+use Rattle.ts_relay.specs.BodyLinks.{BeginsInTime}
 use Rattle.ts_txn.specs.Course.{course_after, finish_after}
-use Rattle.ts_txn.specs.Cover.{Proceeds, StepLeads, StepsTo, is_ended, is_fresh, is_fresh_on}
-use Rattle.ts_txn.specs.CourseCover.{IsCoveredNow, LedAfter, LedBehind, StaysOnOrLacks, set_leaving}
+use Rattle.ts_phases.specs.Cover.{Proceeds, StepLeads, StepsTo, is_ended, is_fresh}
+use Rattle.ts_txn.specs.CourseCover.{is_fresh_on, IsCoveredNow, LedAfter, LedBehind, StaysOnOrLacks}
+use Rattle.ts_relay.specs.Duties.{set_leaving}
 use Rattle.ts_txn.specs.Driven.{BeginsIn, ClosesAs, DueTo, HandlesEvent, HandlesOn, MindsCourse, TakesEvent, TakesOn, TakesStep, WritesOr, delay_of}
-use Rattle.ts_txn.specs.Entering.{QuietLinks}
-use Rattle.ts_txn.specs.Steps.{LeavesClient, LeavesClientIn, LeavesOrigin, LeavesOriginIn, LeavesSides, MindsLinksIn, WaitsRightly}
-use Rattle.ts_txn.specs.Holding.{IfTold}
-use Rattle.ts_txn.specs.View.{LinkSide, View, view_of}
+use Rattle.ts_relay.specs.Entering.{QuietLinks}
+use Rattle.ts_phases.specs.Steps.{LeavesClient, LeavesClientIn, LeavesOrigin, LeavesOriginIn, LeavesSides, MindsLinksIn, WaitsRightly}
+use Rattle.ts_phases.specs.Holding.{IfTold, StepKeeps}
+use Rattle.ts_phases.specs.View.{LinkSide, View, view_of}
 use Rattle.ts_transform.proofs.Joined.{named_unroused}
 use Rattle.ts_txn.specs.declared.course.Course.{Course}
 use Rattle.ts_txn.specs.declared.course.Course.TheVariants as K
-use Rattle.ts_txn.specs.declared.driver.TheConstants.{MAIN}
-use Rattle.ts_txn.specs.Feeding.{OnGoes}
-use Rattle.ts_txn.specs.declared.finishing.BodyStep.{BodyStep}
-use Rattle.ts_txn.specs.declared.finishing.BodyStep.TheVariants as S
-use Rattle.ts_txn.specs.declared.parts.Core.{Core}
-use Rattle.ts_txn.specs.declared.phase.Next.{Next}
-use Rattle.ts_txn.specs.declared.phase.Next.TheVariants as N
-use Rattle.ts_txn.specs.declared.phase.Phase.{Phase}
-use Rattle.ts_txn.specs.declared.phase.Phase.TheVariants as P
-use Rattle.ts_txn.specs.declared.phase.Step.{Step}
-use Rattle.ts_txn.specs.declared.relay.Relay.{Relay}
+use Rattle.ts_relay.specs.declared.relay.TheConstants.{MAIN}
+use Rattle.ts_relay.specs.Feeding.{OnGoes}
+use Rattle.ts_relay.specs.declared.last_writes.BodyStep.{BodyStep}
+use Rattle.ts_relay.specs.declared.last_writes.BodyStep.TheVariants as S
+use Rattle.ts_phases.specs.declared.parts.Core.{Core}
+use Rattle.ts_phases.specs.declared.phase.Next.{Next}
+use Rattle.ts_phases.specs.declared.phase.Next.TheVariants as N
+use Rattle.ts_phases.specs.declared.phase.Phase.{Phase}
+use Rattle.ts_phases.specs.declared.phase.Phase.TheVariants as P
+use Rattle.ts_phases.specs.declared.phase.Step.{Step}
+use Rattle.ts_relay.specs.declared.relay.Relay.{Relay}
+use Rattle.ts_txn.proofs.CourseCalls.{PassesNoBody}
 use Rattle.ts_txn.proofs.Coursing.{behind_led}
+use Rattle.ts_txn.proofs.Seating.{due_rests}
 
 module _ (v w : View) where
   leaves_in : (p : Phase) → LeavesOrigin v w → LeavesOriginIn p v w
@@ -55,8 +59,14 @@ module _ (v w : View) where
   -- a body begins
   leaves_begun : (p : Phase) → BeginsIn p v w → LeavesSides p v w
   leaves_begun p begins = record {
-    origin = leaves_in p (record { taken = ap (λ (s : LinkSide). s.look.taken) (calls p begins).origin; waits = ap (λ (s : LinkSide). s.outbox) (calls p begins).origin });
-    client = spares_in p (record { given = ap (λ (l : Look). l.given) (calls p begins).client; held = (calls p begins).held });
+    origin = leaves_in p (record {
+      taken = ap (λ (s : LinkSide). s.look.taken) (calls p begins).origin;
+      waits = ap (λ (s : LinkSide). s.outbox) (calls p begins).origin;
+    });
+    client = spares_in p (record {
+      given = ap (λ (l : Look). l.given) (calls p begins).client;
+      held = (calls p begins).held;
+    });
   }
     where
       calls : (p : Phase) → BeginsIn p v w → QuietLinks v w
@@ -78,34 +88,44 @@ steps_started N.Done p ended = ended_started p ended
 steps_started _ p on = proceeds_started p on
 
 -- nor does its end for want of memory
-pub stays_started : {Q : Type 0} (led new : Course Q) → is_fresh_on led ≡ false → StaysOnOrLacks led new → is_fresh_on new ≡ false
+pub stays_started : {Q : Type 0} (led new : Course Q) → is_fresh_on led ≡ false → StaysOnOrLacks led new
+    → is_fresh_on new ≡ false
 stays_started led new started (inl same) = ap is_fresh_on same ∙ started
 stays_started led new started (inr lacks) = ap is_fresh_on lacks
 
-module _ {C O Q : Type 0} (ct ot : Bool) (client : C → Look) (origin : O → Look) (paired : C → O → Type 0) (refuses : O → List ℕ → Type 0) (left : C → O → Option ℕ) where
+module _ {C O Q : Type 0} (client : link.Ghosts C) (origin : link.Ghosts O) (both : upstream.Ghosts O C) where
   -- a step of a phase was made, and led to the phase that it answered, or to the end for want of memory
-  pub takes_step : (s t : Core C O) (p : Phase) (new : Course Q) (made : Step) → StepLeads made → MindsLinksIn ct ot client origin refuses left s t p made
-      → WaitsRightly made.next (view_of client origin s) (view_of client origin t) → IfTold ct ot (LeavesSides p (view_of client origin s) (view_of client origin t))
-      → LedBehind made.next (K.Phased made.phase) new → TakesStep ct ot client origin paired refuses left s t p made.next new
+  pub takes_step : (s t : Core C O) (p : Phase) (new : Course Q) (made : Step) → StepLeads made
+      → MindsLinksIn client origin both s t p made
+      → WaitsRightly made.next (view_of client origin s) (view_of client origin t)
+      → IfTold client.tells origin.tells (LeavesSides p (view_of client origin s)
+      (view_of client origin t))
+      → LedBehind made.next (K.Phased made.phase) new
+      → TakesStep client origin both s t p made.next new
   takes_step s t p new made leads minds waits leaves led = record {
     minds = by_lead (behind_led made.next (K.Phased made.phase) new led);
     waits = waits;
     leaves = leaves;
     closes = by_phase p minds;
-    started = λ was. stays_started (K.Phased made.phase) new (steps_started made.next made.phase leads) (behind_led made.next (K.Phased made.phase) new led);
+    started = λ was. stays_started (K.Phased made.phase) new (steps_started made.next made.phase leads)
+        (behind_led made.next (K.Phased made.phase) new led);
   }
     where
       by_lead : StaysOnOrLacks (K.Phased made.phase) new
-          → (new ≡ K.Phased (P.Ended E.NoMemory)) ⊎ ((t ≡ s) × (new ≡ K.Phased p)) ⊎ MindsCourse ct ot client origin paired refuses left s t p made.next new
-      by_lead (inl same) = inr (inr (subst (MindsCourse ct ot client origin paired refuses left s t p made.next) (sym same) minds))
+          → (new ≡ K.Phased (P.Ended E.NoMemory)) ⊎ ((t ≡ s) × (new ≡ K.Phased p)) ⊎ MindsCourse client origin
+          both s t p made.next new
+      by_lead (inl same) = inr (inr (subst (MindsCourse client origin both s t p
+          made.next) (sym same) minds))
       by_lead (inr lacks) = inl lacks
 
-      by_phase : (p : Phase) → MindsLinksIn ct ot client origin refuses left s t p made → ClosesAs p new
-      by_phase (P.TxnClose end) minds = inr (subst (λ (m : Step). LedBehind m.next (K.Phased m.phase) new) minds.1 led)
+      by_phase : (p : Phase) → MindsLinksIn client origin both s t p made → ClosesAs p new
+      by_phase (P.TxnClose end) minds = inr (subst (λ (m : Step). LedBehind m.next (K.Phased m.phase) new)
+          minds.1 led)
       by_phase _ minds = tt
 
   -- where a body that begins leads: it is passed on, or memory lacked
-  pub begin_led : (r : Relay Q) (step : BodyStep) (new : Course Q) → OnGoes step ⊤ → LedAfter step (course_after r step) new
+  pub begin_led : (r : Relay Q) (step : BodyStep) (new : Course Q) → OnGoes step ⊤
+      → LedAfter step (course_after r step) new
       → (new ≡ K.Relaying r) ⊎ (new ≡ K.Phased (P.Ended E.NoMemory))
   begin_led r S.Goes new goes led = inl led
   begin_led r S.Lacks new goes (inl lacks) = inr lacks
@@ -113,8 +133,10 @@ module _ {C O Q : Type 0} (ct ot : Bool) (client : C → Look) (origin : O → L
   begin_led r _ new goes led = absurd goes
 
   -- a body was begun, or memory lacked for that
-  pub takes_begin : (s t : Core C O) (p : Phase) (new : Course Q) (r : Relay Q) → BeginsIn p (view_of client origin s) (view_of client origin t)
-      → (new ≡ K.Relaying r) ⊎ (new ≡ K.Phased (P.Ended E.NoMemory)) → TakesStep ct ot client origin paired refuses left s t p N.Go new
+  pub takes_begin : (s t : Core C O) (p : Phase) (new : Course Q) (r : Relay Q)
+      → BeginsIn p (view_of client origin s) (view_of client origin t)
+      → (new ≡ K.Relaying r) ⊎ (new ≡ K.Phased (P.Ended E.NoMemory))
+      → TakesStep client origin both s t p N.Go new
   takes_begin s t p new r begins led = record {
     minds = by_lead led;
     waits = tt;
@@ -124,8 +146,10 @@ module _ {C O Q : Type 0} (ct ot : Bool) (client : C → Look) (origin : O → L
   }
     where
       by_lead : (new ≡ K.Relaying r) ⊎ (new ≡ K.Phased (P.Ended E.NoMemory))
-          → (new ≡ K.Phased (P.Ended E.NoMemory)) ⊎ ((t ≡ s) × (new ≡ K.Phased p)) ⊎ MindsCourse ct ot client origin paired refuses left s t p N.Go new
-      by_lead (inl same) = inr (inr (subst (MindsCourse ct ot client origin paired refuses left s t p N.Go) (sym same) begins))
+          → (new ≡ K.Phased (P.Ended E.NoMemory)) ⊎ ((t ≡ s) × (new ≡ K.Phased p)) ⊎ MindsCourse client origin
+          both s t p N.Go new
+      by_lead (inl same) = inr (inr (subst (MindsCourse client origin both s t p N.Go)
+          (sym same) begins))
       by_lead (inr lacks) = inl lacks
 
       by_start : (new ≡ K.Relaying r) ⊎ (new ≡ K.Phased (P.Ended E.NoMemory)) → is_fresh_on new ≡ false
@@ -133,64 +157,140 @@ module _ {C O Q : Type 0} (ct ot : Bool) (client : C → Look) (origin : O → L
       by_start (inr lacks) = ap is_fresh_on lacks
 
   -- memory lacked for its head
-  pub takes_lost : (s t : Core C O) (p : Phase) → BeginsIn p (view_of client origin s) (view_of client origin t)
-      → TakesStep {Q = Q} ct ot client origin paired refuses left s t p N.Go (K.Phased (P.Ended E.NoMemory))
+  pub takes_lost : (s t : Core C O) (p : Phase)
+      → BeginsIn p (view_of client origin s) (view_of client origin t)
+      → TakesStep {Q = Q} client origin both s t p N.Go (K.Phased (P.Ended E.NoMemory))
   takes_lost s t p begins = record {
     minds = inl refl;
     waits = tt;
     leaves = λ told also. leaves_begun (view_of client origin s) (view_of client origin t) p begins;
-    closes = begin_closes (view_of client origin s) (view_of client origin t) p (K.Phased (P.Ended E.NoMemory)) begins;
+    closes = begin_closes (view_of client origin s) (view_of client origin t) p
+        (K.Phased (P.Ended E.NoMemory)) begins;
     started = λ was. refl;
   }
 
   -- the event of the next step is due then
-  pub due_step : (main : Option StageContinuation) (a b : Context) (next : Next) (p : Phase) (new : Course Q) → StaysOnOrLacks (K.Phased p) new
+  pub due_step : (main : Option StageContinuation) (a b : Context) (next : Next) (p : Phase) (new : Course Q)
+      → StaysOnOrLacks (K.Phased p) new
       → SetsOnly (IsDueAfter (delay_of next) a.moment) a b → DueTo main next new a b
   due_step main a b next p new (inl same) due = subst (λ x. DueTo main next x a b) (sym same) due
   due_step main a b next p new (inr lacks) due = subst (λ x. DueTo main next x a b) (sym lacks) due
 
   -- where a body was begun, or nothing is pending any more
-  pub due_begin : (main : Option StageContinuation) (v : View) (u : Option StageContinuation) (a m b : Context) (step : BodyStep) (r : Relay Q) (new : Course Q) → OnGoes step ⊤
-      → LedAfter step (course_after r step) new → Grows a m → BeginsInTime main r a m → ActsWithin (set_leaving step) m b → IsCoveredNow v u new b → DueTo main N.Go new a b
-  due_begin main v u a m b S.Goes r new goes led first begins then covered = subst (λ x. DueTo main N.Go x a b) (sym led) (record { behind = m; first = first; begins = begins; then = then })
+  pub due_begin : (main : Option StageContinuation) (v : View) (u : Option StageContinuation)
+      (a m b : Context) (step : BodyStep) (r : Relay Q) (new : Course Q) → OnGoes step ⊤
+      → LedAfter step (course_after r step) new → Grows a m → BeginsInTime main r a m
+      → ActsWithin (set_leaving step) m b → IsCoveredNow v u new b → DueTo main N.Go new a b
+  due_begin main v u a m b S.Goes r new goes led first begins then covered = subst
+      (λ x. DueTo main N.Go x a b) (sym led) (record
+      { behind = m; first = first; begins = begins; then = then })
   due_begin main v u a m b S.Lacks r new goes led first begins then covered = lost (by_lead led)
     where
-      by_lead : (new ≡ K.Phased (P.Ended E.NoMemory)) ⊎ (new ≡ K.Phased (P.Ended E.NoMemory)) → new ≡ K.Phased (P.Ended E.NoMemory)
+      by_lead : (new ≡ K.Phased (P.Ended E.NoMemory)) ⊎ (new ≡ K.Phased (P.Ended E.NoMemory))
+          → new ≡ K.Phased (P.Ended E.NoMemory)
       by_lead (inl lacks) = lacks
       by_lead (inr lacks) = lacks
 
       unseated : (p : Pending) → HasKey (None ∷ []) p.key → ⊥
       unseated p has = has
 
-      none_due : IsCoveredNow {Q = Q} v u (K.Phased (P.Ended E.NoMemory)) b → DueTo {Q = Q} main N.Go (K.Phased (P.Ended E.NoMemory)) a b
-      none_due h n p none there = absurd (unseated p (subst (λ x. AllSeated b.log.state.pending (x ∷ [])) h.idles h.seated n p there))
+      none_due : IsCoveredNow {Q = Q} v u (K.Phased (P.Ended E.NoMemory)) b
+          → DueTo {Q = Q} main N.Go (K.Phased (P.Ended E.NoMemory)) a b
+      none_due h n p none there = absurd (unseated p
+          (subst (λ x. AllSeated b.log.state.pending (x ∷ [])) h.idles h.seated n p there))
 
       lost : new ≡ K.Phased (P.Ended E.NoMemory) → DueTo main N.Go new a b
-      lost lacks = subst (λ x. DueTo main N.Go x a b) (sym lacks) (none_due (subst (λ x. IsCoveredNow v u x b) lacks covered))
+      lost lacks = subst (λ x. DueTo main N.Go x a b) (sym lacks)
+          (none_due (subst (λ x. IsCoveredNow v u x b) lacks covered))
   due_begin main v u a m b _ r new goes led first begins then covered = absurd goes
 
   -- in a phase, said of the first continuation before its event was handled
-  due_before : (main u : Option StageContinuation) → u ≡ unroused main → (next : Next) (new : Course Q) (a b : Context) → DueTo u next new a b → DueTo main next new a b
+  due_before : (main u : Option StageContinuation) → u ≡ unroused main
+      → (next : Next) (new : Course Q) (a b : Context) → DueTo u next new a b → DueTo main next new a b
   due_before main u is next (K.Phased p) a b due = due
   due_before main u is next (K.Relaying r) a b due = record {
     behind = due.behind;
     first = due.first;
-    begins = λ runs named. due.begins runs (subst (IsNamedIf a.roles MAIN) (sym is) (named_unroused a.roles MAIN main named));
+    begins = λ runs named. due.begins runs (subst (IsNamedIf a.roles MAIN) (sym is)
+        (named_unroused a.roles MAIN main named));
     then = due.then;
   }
   due_before main u is next (K.Finishing end) a b due = due
 
-  pub handles_phased : (s t : Core C O) (a b : Context) (role : ℕ) (main u : Option StageContinuation) → u ≡ unroused main → (course : Course Q) (p : Phase) → course ≡ K.Phased p → (new : Course Q)
-      → HandlesEvent ct ot client origin paired refuses left s t a b MAIN u (K.Phased p) new → HandlesEvent ct ot client origin paired refuses left s t a b role main course new
+  -- nobody works at it, and nothing is done
+  same_core : (s : Core C O) → StepKeeps client origin both s s
+  same_core s = record {
+    number = refl;
+    setup = refl;
+    plugins_at = refl;
+    client = record { source = refl; name = refl; plan = refl };
+    origin = record { source = refl; name = refl; plan = refl };
+    client_base = refl;
+    origin_base = refl;
+    dialed = refl;
+    pair = λ h. h;
+    refusal = record { still = λ c h. h; before = λ c h. h };
+  }
+
+  closes_same : (p : Phase) → ClosesAs {Q = Q} p (K.Phased p)
+  closes_same (P.TxnClose end) = inl refl
+  closes_same _ = tt
+
+  idle_on : (s : Core C O) (a : Context) (role : ℕ) (main : Option StageContinuation) (course : Course Q)
+      → PassesNoBody course → HandlesOn client origin both s s a a role main course course
+  idle_on s a role main (K.Phased p) none = record {
+    next = N.Go;
+    takes = record {
+      minds = inr (inl (refl, refl));
+      waits = tt;
+      leaves = λ told also. record {
+        origin = leaves_in _ _ p (record { taken = refl; waits = refl });
+        client = spares_in _ _ p (record { given = refl; held = refl });
+      };
+      closes = closes_same p;
+      started = λ was. was;
+    };
+    due = due_rests a 0;
+  }
+  idle_on s a role main (K.Relaying r) none = absurd none
+  idle_on s a role main (K.Finishing end) none =
+      record { step = S.Goes; takes = inl (refl, refl, refl); due = due_rests a 0 }
+
+  pub idle : (s : Core C O) (a : Context) (role : ℕ) (main : Option StageContinuation) (was course : Course Q)
+      → was ≡ course → PassesNoBody course → HandlesEvent client origin both s s a a role main was course
+  idle s a role main was course same none =
+      subst (λ x. HandlesEvent client origin both s s a a role main x course) (sym same)
+      (record { keeps = same_core s; handles = idle_on s a role main course none })
+
+  -- one of the last writes, said of the first continuation before its event was handled
+  pub handles_finishing : (s t : Core C O) (a b : Context) (role : ℕ) (main u : Option StageContinuation)
+      (course : Course Q) (end : TxnEnd) → course ≡ K.Finishing end → (new : Course Q)
+      → HandlesEvent client origin both s t a b MAIN u (K.Finishing end) new
+      → HandlesEvent client origin both s t a b role main course new
+  handles_finishing s t a b role main u course end is new h =
+      subst (λ x. HandlesEvent client origin both s t a b role main x new) (sym is)
+      (record { keeps = h.keeps; handles = h.handles })
+
+  pub handles_phased : (s t : Core C O) (a b : Context) (role : ℕ) (main u : Option StageContinuation)
+      → u ≡ unroused main → (course : Course Q) (p : Phase) → course ≡ K.Phased p → (new : Course Q)
+      → HandlesEvent client origin both s t a b MAIN u (K.Phased p) new
+      → HandlesEvent client origin both s t a b role main course new
   handles_phased s t a b role main u quiet course p is new h =
-      subst (λ x. HandlesEvent ct ot client origin paired refuses left s t a b role main x new) (sym is) (record {
+      subst (λ x. HandlesEvent client origin both s t a b role main x new) (sym is)
+      (record {
         keeps = h.keeps;
-        handles = record { next = h.handles.next; takes = h.handles.takes; due = due_before main u quiet h.handles.next new a b h.handles.due };
+        handles = record {
+          next = h.handles.next;
+          takes = h.handles.takes;
+          due = due_before main u quiet
+              h.handles.next new a b h.handles.due;
+        };
       })
 
   -- where an event leads, without the moments of those that are set
-  takes_on : (s t : Core C O) (a b : Context) (role : ℕ) (main : Option StageContinuation) (old new : Course Q) → HandlesOn ct ot client origin paired refuses left s t a b role main old new
-      → TakesOn ct ot client origin paired refuses left s t old new
+  takes_on : (s t : Core C O) (a b : Context) (role : ℕ) (main : Option StageContinuation)
+      (old new : Course Q) → HandlesOn client origin both s t a b role main old new
+      → TakesOn client origin both s t old new
   takes_on s t a b role main (K.Phased p) new h = (h.next, h.takes)
   takes_on s t a b role main (K.Relaying r) new h = record {
     step = h.step;
@@ -202,31 +302,41 @@ module _ {C O Q : Type 0} (ct ot : Bool) (client : C → Look) (origin : O → L
   }
   takes_on s t a b role main (K.Finishing end) new h = (h.step, h.takes)
 
-  pub takes_event : (s t : Core C O) (a b : Context) (role : ℕ) (main : Option StageContinuation) (old new : Course Q) → HandlesEvent ct ot client origin paired refuses left s t a b role main old new
-      → TakesEvent ct ot client origin paired refuses left s t old new
-  takes_event s t a b role main old new h = record { keeps = h.keeps; takes = takes_on s t a b role main old new h.handles }
+  pub takes_event : (s t : Core C O) (a b : Context) (role : ℕ) (main : Option StageContinuation)
+      (old new : Course Q) → HandlesEvent client origin both s t a b role main old new
+      → TakesEvent client origin both s t old new
+  takes_event s t a b role main old new h = record
+      { keeps = h.keeps; takes = takes_on s t a b role main old new h.handles }
 
 -- an event leaves a transaction started that was
-body_started : {Q : Type 0} (r : Relay Q) (step : BodyStep) (new : Course Q) → LedAfter step (course_after r step) new → is_fresh_on new ≡ false
+body_started : {Q : Type 0} (r : Relay Q) (step : BodyStep) (new : Course Q)
+    → LedAfter step (course_after r step) new → is_fresh_on new ≡ false
 body_started r S.Goes new led = ap is_fresh_on led
 body_started r S.Waits new led = ap is_fresh_on led
 body_started r (S.Finishes end) new led = stays_started (K.Finishing end) new refl led
 body_started r (S.Closes end) new led = stays_started (K.Phased (P.TxnClose end)) new refl led
 body_started r S.Lacks new led = stays_started (K.Phased (P.Ended E.NoMemory)) new refl led
 
-after_write : (Q : Type 0) (end : TxnEnd) (step : BodyStep) → is_fresh_on (finish_after {Q = Q} end step) ≡ false
+after_write : (Q : Type 0) (end : TxnEnd) (step : BodyStep)
+    → is_fresh_on (finish_after {Q = Q} end step) ≡ false
 after_write Q end S.Goes = refl
 after_write Q end _ = refl
 
-module _ {C O Q : Type 0} (ct ot : Bool) (client : C → Look) (origin : O → Look) (paired : C → O → Type 0) (refuses : O → List ℕ → Type 0) (left : C → O → Option ℕ) where
-  write_started : (s t : Core C O) (end : TxnEnd) (step : BodyStep) (new : Course Q) → WritesOr ct ot client origin paired refuses left s t end step new → is_fresh_on new ≡ false
+module _ {C O Q : Type 0} (client : link.Ghosts C) (origin : link.Ghosts O) (both : upstream.Ghosts O C) where
+  write_started : (s t : Core C O) (end : TxnEnd) (step : BodyStep) (new : Course Q)
+      → WritesOr client origin both s t end step new → is_fresh_on new ≡ false
   write_started s t end step new (inl none) = ap is_fresh_on none.2
-  write_started s t end step new (inr takes) = stays_started (finish_after end step) new (after_write Q end step) takes.led
+  write_started s t end step new (inr takes) = stays_started (finish_after end step) new
+      (after_write Q end step) takes.led
 
-  takes_started : (s t : Core C O) (old new : Course Q) → TakesOn ct ot client origin paired refuses left s t old new → is_fresh_on old ≡ false → is_fresh_on new ≡ false
+  takes_started : (s t : Core C O) (old new : Course Q)
+      → TakesOn client origin both s t old new → is_fresh_on old ≡ false
+      → is_fresh_on new ≡ false
   takes_started s t (K.Phased p) new h was = h.1.started was
   takes_started s t (K.Relaying r) new h was = body_started h.after h.step new h.led
   takes_started s t (K.Finishing end) new h was = write_started s t end h.0 new h.1
 
-  pub event_started : (s t : Core C O) (old new : Course Q) → TakesEvent ct ot client origin paired refuses left s t old new → is_fresh_on old ≡ false → is_fresh_on new ≡ false
+  pub event_started : (s t : Core C O) (old new : Course Q)
+      → TakesEvent client origin both s t old new → is_fresh_on old ≡ false
+      → is_fresh_on new ≡ false
   event_started s t old new h was = takes_started s t old new h.takes was

@@ -1,17 +1,20 @@
--- A transaction keeps the tags that it fits, since each step leaves it and its links what they are, and one that was started
+-- A transaction keeps the tags that it fits, since each step leaves it and its links what they are, and one
+-- that was started
 -- stays so.
 use Rattle.std.proofs.Common.{◌≡◌, ℕ, List, Bool, true, false, Option, Some, None, refl, sym, ap, subst, ◌∙◌}
 use Rattle.std.specs.Arc.{arc_value}
-use Rattle.std.specs.Prelude.{IsSomeAnd, ⊤}
+use Rattle.std.specs.Prelude.{IsSomeAnd}
 use Rattle.ts_link.specs.Link.{IsSure, IsSurePlan, Look}
-use Rattle.ts_txn.specs.Cover.{is_fresh_on}
+use Rattle.ts_link.specs.declared.link.Link as link
+use Rattle.ts_upstream.specs.declared.upstream.Upstream as upstream
+use Rattle.ts_txn.specs.CourseCover.{is_fresh_on}
 use Rattle.ts_txn.specs.Driven.{TakesEvent}
-use Rattle.ts_txn.specs.Holding.{IsSameLink, StepKeeps}
+use Rattle.ts_phases.specs.Holding.{IsSameLink, StepKeeps}
 use Rattle.ts_txn.specs.Making.{IsMadeOf, IsMadeOfIf}
-use Rattle.ts_txn.specs.View.{is_dialed, side_if}
+use Rattle.ts_phases.specs.View.{is_dialed, side_if}
 use Rattle.ts_txn.specs.World.{HasTxnBegun, IsSameLinkIf, IsSureIf, IsTxnOf}
-use Rattle.ts_txn.specs.declared.parts.Core.{Core}
-use Rattle.ts_txn.specs.declared.parts.Peer.{Peer}
+use Rattle.ts_phases.specs.declared.parts.Core.{Core}
+use Rattle.ts_phases.specs.declared.parts.Peer.{Peer}
 use Rattle.ts_txn.specs.declared.txn.Txn.{Txn}
 use Rattle.ts_txn.specs.declared.txn.TxnTag.{TxnTag}
 use Rattle.ts_txn.proofs.Events.{event_started}
@@ -25,7 +28,8 @@ same_then : (l m n : Look) → IsSameLink l m → IsSameLink m n → IsSameLink 
 same_then l m n h k = record { source = k.source ∙ h.source; name = k.name ∙ h.name; plan = k.plan ∙ h.plan }
 
 module _ {L : Type 0} (look : L → Look) where
-  same_on : (o : Option L) (x y : Option (Peer L)) → is_dialed y ≡ is_dialed x → IsSameLink (side_if look x).look (side_if look y).look → IsSameLinkIf look o x → IsSameLinkIf look o y
+  same_on : (o : Option L) (x y : Option (Peer L)) → is_dialed y ≡ is_dialed x
+      → IsSameLink (side_if look x).look (side_if look y).look → IsSameLinkIf look o x → IsSameLinkIf look o y
   same_on None None None dialed same h = h
   same_on None None (Some q) dialed same h = cc
   same_on None (Some p) y dialed same h = absurd h
@@ -33,7 +37,8 @@ module _ {L : Type 0} (look : L → Look) where
   same_on (Some l) (Some p) None dialed same h = cc
   same_on (Some l) (Some p) (Some q) dialed same h = same_then (look l) (look p.link) (look q.link) h same
 
-  sure_on : (x y : Option (Peer L)) → is_dialed y ≡ is_dialed x → IsSameLink (side_if look x).look (side_if look y).look → IsSureIf look x → IsSureIf look y
+  sure_on : (x y : Option (Peer L)) → is_dialed y ≡ is_dialed x
+      → IsSameLink (side_if look x).look (side_if look y).look → IsSureIf look x → IsSureIf look y
   sure_on None None dialed same sure = sure
   sure_on None (Some q) dialed same sure = cc
   sure_on (Some p) None dialed same sure = tt
@@ -53,7 +58,8 @@ module _ {L : Type 0} (look : L → Look) where
   same_made_if (Some l) None made = absurd made
   same_made_if (Some l) (Some p) made = same_made l p made
 
-  sure_made : (o : Option L) (x : Option (Peer L)) → IsMadeOfIf look o x → ((l : L) → o ≡ Some l → IsSure (look l)) → IsSureIf look x
+  sure_made : (o : Option L) (x : Option (Peer L)) → IsMadeOfIf look o x
+      → ((l : L) → o ≡ Some l → IsSure (look l)) → IsSureIf look x
   sure_made None None made sure = tt
   sure_made None (Some p) made sure = absurd made
   sure_made (Some l) None made sure = absurd made
@@ -63,9 +69,12 @@ module _ {L : Type 0} (look : L → Look) where
 
 module _ {C O : Type 0} (client : C → Look) (origin : O → Look) where
   -- one that was just made of the links of a tag fits it
-  pub fits_made : {Q : Type 0} (tag : TxnTag C O) (t : Txn C O Q) → t.core.number ≡ tag.number → arc_value t.core.setup ≡ tag.setup.value → t.core.plugins_at ≡ tag.plugins_at
+  pub fits_made : {Q : Type 0} (tag : TxnTag C O) (t : Txn C O Q) → t.core.number ≡ tag.number
+      → arc_value t.core.setup ≡ tag.setup.value → t.core.plugins_at ≡ tag.plugins_at
       → IsMadeOf client tag.client.value t.core.client → IsMadeOfIf origin tag.origin.value t.core.origin
-      → (tag.sure ≡ true → IsSure (client tag.client.value) × ((l : O) → tag.origin.value ≡ Some l → IsSure (origin l))) → tag.started ≡ false → IsTxnOf client origin tag t
+      → (tag.sure ≡ true → IsSure (client tag.client.value) ×
+      ((l : O) → tag.origin.value ≡ Some l → IsSure (origin l))) → tag.started ≡ false → IsTxnOf client
+      origin tag t
   fits_made tag t number setup plugins of_client of_origin sure started = record {
     number = number;
     setup = setup;
@@ -79,45 +88,63 @@ module _ {C O : Type 0} (client : C → Look) (origin : O → Look) where
     started = λ is. cc;
   }
 
-module _ {C O : Type 0} (client : C → Look) (origin : O → Look) (paired : C → O → Type 0) (refuses : O → List ℕ → Type 0) where
-  same_core : (t : Core C O) → StepKeeps client origin paired refuses t t
-  same_core t = record {
-    number = refl;
-    setup = refl;
-    plugins_at = refl;
-    client = record { source = refl; name = refl; plan = refl };
-    origin = record { source = refl; name = refl; plan = refl };
-    client_base = refl;
-    origin_base = refl;
-    dialed = refl;
-    pair = λ h. h;
-    refusal = record { still = λ c h. h; before = λ c h. h };
+  -- one whose core is the same fits the same tags, where it stays started
+  fits_core : {Q : Type 0} (tag : TxnTag C O) (t u : Txn C O Q) → u.core ≡ t.core
+      → (is_fresh_on t.course ≡ false → is_fresh_on u.course ≡ false) → IsTxnOf client origin tag t
+      → IsTxnOf client origin tag u
+  fits_core tag t u same started h = record {
+    number = subst (λ (k : Core C O). k.number ≡ tag.number) (sym same) h.number;
+    setup = subst (λ (k : Core C O). arc_value k.setup ≡ tag.setup.value) (sym same) h.setup;
+    plugins_at = subst (λ (k : Core C O). k.plugins_at ≡ tag.plugins_at) (sym same) h.plugins_at;
+    client = subst (λ (k : Core C O). IsSameLink (client tag.client.value) (client k.client.link)) (sym same)
+        h.client;
+    origin = subst (λ (k : Core C O). IsSameLinkIf origin tag.origin.value k.origin) (sym same) h.origin;
+    sure = λ is. subst (λ (k : Core C O). IsSure (client k.client.link) × IsSureIf origin k.origin) (sym same)
+        (h.sure is);
+    started = λ is. started (h.started is);
   }
 
-  pub fits_on : {Q : Type 0} (tag : TxnTag C O) (t u : Txn C O Q) → StepKeeps client origin paired refuses t.core u.core → (is_fresh_on t.course ≡ false → is_fresh_on u.course ≡ false)
+  -- the start leaves the tags
+  pub fits_start : {Q : Type 0} (tag : TxnTag C O) (t u : Txn C O Q) → HasTxnBegun t u
       → IsTxnOf client origin tag t → IsTxnOf client origin tag u
+  fits_start tag t u begun h = fits_core tag t u begun.core (λ was. begun.started) h
+
+  -- and it fits the tag that says that it was started, too
+  pub fits_begun : {Q : Type 0} (tag : TxnTag C O) (t u : Txn C O Q) → HasTxnBegun t u
+      → IsTxnOf client origin tag t → IsTxnOf client origin (record tag { started = true }) u
+  fits_begun tag t u begun h =
+      let k : IsTxnOf client origin tag u = fits_start tag t u begun h in
+      record {
+        number = k.number;
+        setup = k.setup;
+        plugins_at = k.plugins_at;
+        client = k.client;
+        origin = k.origin;
+        sure = k.sure;
+        started = λ is. begun.started;
+      }
+
+module _ {C O : Type 0} (client : link.Ghosts C) (origin : link.Ghosts O) (both : upstream.Ghosts O C) where
+  fits_on : {Q : Type 0} (tag : TxnTag C O) (t u : Txn C O Q) → StepKeeps client origin both t.core u.core
+      → (is_fresh_on t.course ≡ false → is_fresh_on u.course ≡ false)
+      → IsTxnOf client.look origin.look tag t → IsTxnOf client.look origin.look tag u
   fits_on tag t u keeps started h = record {
     number = keeps.number ∙ h.number;
     setup = ap (λ s. arc_value s) keeps.setup ∙ h.setup;
     plugins_at = keeps.plugins_at ∙ h.plugins_at;
     client = same_then _ _ _ h.client keeps.client;
-    origin = same_on origin tag.origin.value t.core.origin u.core.origin keeps.dialed keeps.origin h.origin;
-    sure = λ is. (still_sure _ _ keeps.client (h.sure is).0, sure_on origin t.core.origin u.core.origin keeps.dialed keeps.origin (h.sure is).1);
+    origin = same_on origin.look tag.origin.value t.core.origin u.core.origin keeps.dialed keeps.origin
+        h.origin;
+    sure = λ is. (
+      still_sure _ _ keeps.client (h.sure is).0,
+      sure_on origin.look t.core.origin u.core.origin keeps.dialed keeps.origin (h.sure is).1,
+    );
     started = λ is. started (h.started is);
   }
 
   -- an event leaves the tags
-  pub fits_event : {Q : Type 0} (ct ot : Bool) (left : C → O → Option ℕ) (tag : TxnTag C O) (t u : Txn C O Q) → TakesEvent ct ot client origin paired refuses left t.core u.core t.course u.course
-      → IsTxnOf client origin tag t → IsTxnOf client origin tag u
-  fits_event ct ot left tag t u takes h = fits_on tag t u takes.keeps (event_started ct ot client origin paired refuses left t.core u.core t.course u.course takes) h
-
-  -- so does the start
-  pub fits_start : {Q : Type 0} (tag : TxnTag C O) (t u : Txn C O Q) → HasTxnBegun t u → IsTxnOf client origin tag t → IsTxnOf client origin tag u
-  fits_start tag t u begun h = fits_on tag t u (subst (λ k. StepKeeps client origin paired refuses t.core k) (sym begun.core) (same_core t.core)) (λ was. begun.started) h
-
-module _ {C O : Type 0} (client : C → Look) (origin : O → Look) where
-  -- it fits the tag that says that it was started, too
-  pub fits_begun : {Q : Type 0} (tag : TxnTag C O) (t u : Txn C O Q) → HasTxnBegun t u → IsTxnOf client origin tag t → IsTxnOf client origin (record tag { started = true }) u
-  fits_begun tag t u begun h =
-      let k : IsTxnOf client origin tag u = fits_start client origin (λ c o. ⊤) (λ o list. ⊥) tag t u begun h in
-      record { number = k.number; setup = k.setup; plugins_at = k.plugins_at; client = k.client; origin = k.origin; sure = k.sure; started = λ is. begun.started }
+  pub fits_event : {Q : Type 0} (tag : TxnTag C O) (t u : Txn C O Q)
+      → TakesEvent client origin both t.core u.core t.course u.course → IsTxnOf client.look origin.look tag t
+      → IsTxnOf client.look origin.look tag u
+  fits_event tag t u takes h =
+      fits_on tag t u takes.keeps (event_started client origin both t.core u.core t.course u.course takes) h

@@ -11,29 +11,31 @@ use Rattle.ts_journal.specs.declared.entry.TheConstants.{GREATEST}
 use Rattle.ts_group.specs.declared.action.Named.{Named}
 use Rattle.ts_group.specs.Calls.{IsAsked, IsCalled}
 use Rattle.ts_group.specs.Context.{Context}
-use Rattle.ts_link.specs.Link.{Look}
+use Rattle.ts_link.specs.declared.link.Link as link
+use Rattle.ts_upstream.specs.declared.upstream.Upstream as upstream
+use Rattle.ts_transform.specs.declared.transform.Transform as transform
 use Rattle.ts_transform.specs.Driving.{IsOfStageIf, unroused, works_at}
 use Rattle.ts_transform.specs.declared.continuation.StageContinuation.{StageContinuation}
-use Rattle.ts_txn.specs.BodyLinks.{HoldsLittle}
+use Rattle.ts_relay.specs.BodyLinks.{HoldsLittle}
 use Rattle.ts_txn.specs.Course.{CourseFact, CourseHolds, course_after, finish_after}
 use Rattle.ts_txn.specs.LoweringCourse.{IsOfLinesOn}
-use Rattle.ts_txn.specs.CourseCover.{CoversAlone, HasEventsOn, IsAlone, IsCoveredNow, IsCoveredOn, ProceedsOn, StaysOnOrLacks, set_after}
-use Rattle.ts_txn.specs.Cover.{is_fresh_on}
-use Rattle.ts_txn.specs.Duties.{UnlessLacking, WhileGoes}
-use Rattle.ts_txn.specs.Holding.{IfTold, StepKeeps}
+use Rattle.ts_txn.specs.CourseCover.{CoversAlone, HasEventsOn, IsAlone, IsCoveredNow, IsCoveredOn, ProceedsOn, StaysOnOrLacks, is_fresh_on}
+use Rattle.ts_phases.specs.Cover.{set_after}
+use Rattle.ts_relay.specs.Duties.{UnlessLacking, WhileGoes}
+use Rattle.ts_phases.specs.Holding.{IfTold, StepKeeps}
 use Rattle.ts_txn.specs.Making.{end_of}
-use Rattle.ts_txn.specs.View.{OriginRefuses, View, view_of}
+use Rattle.ts_phases.specs.View.{OriginRefuses, View, view_of}
 use Rattle.ts_txn.specs.World.{HoldsLittleOn, HoldsOn, IsSoundNow, IsSoundOn, IsSoundTxn}
 use Rattle.ts_txn.specs.declared.course.Course.{Course}
 use Rattle.ts_txn.specs.declared.course.Course.TheVariants as K
-use Rattle.ts_txn.specs.declared.driver.TheConstants.{MAIN}
-use Rattle.ts_txn.specs.declared.finishing.BodyStep.{BodyStep}
-use Rattle.ts_txn.specs.declared.finishing.BodyStep.TheVariants as S
-use Rattle.ts_txn.specs.declared.parts.Core.{Core}
-use Rattle.ts_txn.specs.declared.phase.Next.{Next}
-use Rattle.ts_txn.specs.declared.phase.Next.TheVariants as N
-use Rattle.ts_txn.specs.declared.phase.Phase.TheVariants as P
-use Rattle.ts_txn.specs.declared.relay.Relay.{Relay}
+use Rattle.ts_relay.specs.declared.relay.TheConstants.{MAIN}
+use Rattle.ts_relay.specs.declared.last_writes.BodyStep.{BodyStep}
+use Rattle.ts_relay.specs.declared.last_writes.BodyStep.TheVariants as S
+use Rattle.ts_phases.specs.declared.parts.Core.{Core}
+use Rattle.ts_phases.specs.declared.phase.Next.{Next}
+use Rattle.ts_phases.specs.declared.phase.Next.TheVariants as N
+use Rattle.ts_phases.specs.declared.phase.Phase.TheVariants as P
+use Rattle.ts_relay.specs.declared.relay.Relay.{Relay}
 use Rattle.ts_txn.specs.declared.txn.Txn.{Txn}
 use Rattle.ts_txn.proofs.CourseCalls.{PassesNoBody, alone_called, at_rest_on, later_covered, on_other, on_quiet, proceeds_phase}
 use Rattle.ts_txn.proofs.Coursing.{course_settled, stays_on}
@@ -41,17 +43,21 @@ use Rattle.ts_txn.proofs.Coverage.{fresh_on}
 use Rattle.ts_txn.proofs.LoweringCourse.{lines_stay}
 
 -- one that was started and has not ended goes on
-goes_on : {Q : Type 0} (course : Course Q) → is_fresh_on course ≡ false → end_of course ≡ None → ProceedsOn course
+goes_on : {Q : Type 0} (course : Course Q) → is_fresh_on course ≡ false → end_of course ≡ None
+    → ProceedsOn course
 goes_on (K.Phased p) started lasts = proceeds_phase p started lasts
 goes_on _ started lasts = tt
 
 -- before it was started, nothing is pending but of its first continuation
-fresh_alone : {Q : Type 0} (v : View) (main : Option StageContinuation) (course : Course Q) (now : Context) → is_fresh_on course ≡ true → IsCoveredNow v main course now → IsAlone main now
+fresh_alone : {Q : Type 0} (v : View) (main : Option StageContinuation) (course : Course Q) (now : Context)
+    → is_fresh_on course ≡ true → IsCoveredNow v main course now → IsAlone main now
 fresh_alone {Q} v main course now fresh covered =
-    let h : IsCoveredNow {Q = Q} v main (K.Phased P.Fresh) now = subst (λ x. IsCoveredNow v main x now) (fresh_on course fresh) covered in
+    let h : IsCoveredNow {Q = Q} v main (K.Phased P.Fresh) now = subst (λ x. IsCoveredNow v main x now)
+    (fresh_on course fresh) covered in
     record { seated = h.seated; plain = h.plain; of_main = by_event h.covered }
   where
-    by_event : HasEventsOn {Q = Q} v main (K.Phased P.Fresh) now.log.state.pending now.roles ⊎ (GREATEST ≤ now.log.state.next)
+    by_event : HasEventsOn {Q = Q} v main (K.Phased P.Fresh) now.log.state.pending now.roles ⊎
+        (GREATEST ≤ now.log.state.next)
         → IsOfStageIf now.log.state.pending now.roles MAIN main ⊎ (GREATEST ≤ now.log.state.next)
     by_event (inl has) = inl has.0
     by_event (inr spent) = inr spent
@@ -62,11 +68,13 @@ after_one N.Go = omega arith
 after_one _ = omega arith
 
 -- little is held where a body goes on
-pub little_stay : {Q : Type 0} (v : View) (led new : Course Q) → HoldsLittleOn v led → StaysOnOrLacks led new → HoldsLittleOn v new
+pub little_stay : {Q : Type 0} (v : View) (led new : Course Q) → HoldsLittleOn v led → StaysOnOrLacks led new
+    → HoldsLittleOn v new
 little_stay v led new little (inl same) = subst (λ x. HoldsLittleOn v x) (sym same) little
 little_stay v led new little (inr lacks) = subst (λ x. HoldsLittleOn v x) (sym lacks) tt
 
-pub little_after : {Q : Type 0} (v w : View) (step : BodyStep) (r s : Relay Q) → UnlessLacking step (HoldsLittle v r.driven.chain → HoldsLittle w s.driven.chain)
+pub little_after : {Q : Type 0} (v w : View) (step : BodyStep) (r s : Relay Q)
+    → UnlessLacking step (HoldsLittle v r.driven.chain → HoldsLittle w s.driven.chain)
     → HoldsLittle v r.driven.chain → HoldsLittleOn w (course_after s step)
 little_after v w S.Goes r s holds little = holds little
 little_after v w S.Waits r s holds little = holds little
@@ -75,87 +83,147 @@ little_after v w _ r s holds little = tt
 front_same : (first now most : ℕ) → now ≡ first → first < most → now < most
 front_same first now most same less = omega (arith, same, less)
 
-little_first : {P : Type 0} (v : View) (c d : ChainState P) → d.first ≡ c.first → HoldsLittle v c → HoldsLittle v d
-little_first v c d same little = record { held = little.held; front = front_same (length c.first) (length d.first) (MOST_WAITING + MOST_PULLED) (ap length same) little.front }
+little_first : {P : Type 0} (v : View) (c d : ChainState P) → d.first ≡ c.first → HoldsLittle v c
+    → HoldsLittle v d
+little_first v c d same little = record {
+  held = little.held;
+  front = front_same (length c.first)
+      (length d.first) (MOST_WAITING + MOST_PULLED) (ap length same) little.front;
+}
 
-pub little_begun : {Q : Type 0} (v : View) (step : BodyStep) (r s : Relay Q) → WhileGoes step (s.driven.chain.first ≡ r.driven.chain.first)
+pub little_begun : {Q : Type 0} (v : View) (step : BodyStep) (r s : Relay Q)
+    → WhileGoes step (s.driven.chain.first ≡ r.driven.chain.first)
     → HoldsLittle v r.driven.chain → HoldsLittleOn v (course_after s step)
 little_begun v S.Goes r s first little = little_first v r.driven.chain s.driven.chain first little
 little_begun v S.Waits r s first little = little_first v r.driven.chain s.driven.chain first little
 little_begun v _ r s first little = tt
 
-pub little_last : (Q : Type 0) (v : View) (end : TxnEnd) (step : BodyStep) → HoldsLittleOn {Q = Q} v (finish_after end step)
+pub little_last : (Q : Type 0) (v : View) (end : TxnEnd) (step : BodyStep)
+    → HoldsLittleOn {Q = Q} v (finish_after end step)
 little_last Q v end S.Goes = tt
 little_last Q v end _ = tt
 
-module _ {C O Q : Type 0} (ct ot : Bool) (client : C → Look) (origin : O → Look) (paired : C → O → Type 0) (refuses : O → List ℕ → Type 0) (rest : Q → List ℕ → List ℕ)
-    (whole : TransformLine → List ℕ → List ℕ) where
+module _ {C O Q : Type 0} (client : link.Ghosts C) (origin : link.Ghosts O) (both : upstream.Ghosts O C)
+    (stage : transform.Ghosts Q TransformLine) where
   -- with nothing pending it has ended, or the numbers are used up
-  pub at_rest : (t : Txn C O Q) (next : ℕ) (roles : List Named) → is_fresh_on t.course ≡ false → end_of t.course ≡ None
-      → IsSoundTxn ct ot client origin paired refuses rest whole t [] next roles → GREATEST ≤ next
-  at_rest t next roles started lasts h = at_rest_on (view_of client origin t.core) t.main t.course next roles (goes_on t.course started lasts) h.covered
+  pub at_rest : (t : Txn C O Q) (next : ℕ) (roles : List Named) → is_fresh_on t.course ≡ false
+      → end_of t.course ≡ None
+      → IsSoundTxn client origin both stage t [] next roles → GREATEST ≤ next
+  at_rest t next roles started lasts h = at_rest_on (view_of client origin t.core) t.main t.course next roles
+      (goes_on t.course started lasts) h.covered
 
   -- it was started
-  pub sound_begun : (t u : Txn C O Q) (a b : Context) → IsSoundTxn ct ot client origin paired refuses rest whole t a.log.state.pending a.log.state.next a.roles → u.core ≡ t.core
-      → is_fresh_on t.course ≡ true → StaysOnOrLacks (K.Phased P.TxnStart) u.course → CoversAlone t.main u.main u.course a b
-      → IsSoundTxn ct ot client origin paired refuses rest whole u b.log.state.pending b.log.state.next b.roles
+  pub sound_begun : (t u : Txn C O Q) (a b : Context)
+      → IsSoundTxn client origin both stage t a.log.state.pending a.log.state.next
+      a.roles → u.core ≡ t.core
+      → is_fresh_on t.course ≡ true → StaysOnOrLacks (K.Phased P.TxnStart) u.course
+      → CoversAlone t.main u.main u.course a b
+      → IsSoundTxn client origin both stage u b.log.state.pending b.log.state.next
+      b.roles
   sound_begun t u a b h same fresh led covers =
-      let was : CourseHolds ct ot client origin refuses rest t.core (K.Phased P.Fresh) = subst (CourseHolds ct ot client origin refuses rest t.core) (fresh_on t.course fresh) h.stands.holds in
-      subst (λ k. IsSoundNow ct ot client origin paired refuses rest whole k u.main u.course b) (sym same) (record {
+      let was : CourseHolds client origin both stage t.core (K.Phased P.Fresh) = subst
+      (CourseHolds client origin both stage t.core) (fresh_on t.course fresh) h.stands.holds in
+      subst (λ k. IsSoundNow client origin both stage k u.main u.course b) (sym same)
+      (record {
         stands = record {
-          holds = λ told also. stays_on (arc_value t.core.setup) (OriginRefuses client refuses t.core) rest (view_of client origin t.core) (K.Phased P.TxnStart) u.course (was told also) led;
+          holds = λ told also. stays_on (arc_value t.core.setup) (OriginRefuses client both t.core) stage.rest
+              (view_of client origin t.core) (K.Phased P.TxnStart) u.course (was told also) led;
           pair = h.stands.pair;
           acts = h.stands.acts;
-          lines = lines_stay (arc_value t.core.setup) rest (K.Phased P.TxnStart) u.course tt led;
-          little = λ told also. little_stay (view_of client origin t.core) (K.Phased P.TxnStart) u.course tt led;
+          lines = lines_stay (arc_value t.core.setup) stage.rest (K.Phased P.TxnStart) u.course tt led;
+          little = λ told also. little_stay (view_of client origin t.core) (K.Phased P.TxnStart) u.course tt
+              led;
         };
-        covered = covers (fresh_alone (view_of client origin t.core) t.main t.course a fresh h.covered) (view_of client origin t.core);
+        covered = covers (fresh_alone (view_of client origin t.core) t.main t.course a fresh h.covered)
+            (view_of client origin t.core);
       })
 
   -- its group was asked, of which it knows nothing
-  pub sound_asked : (t : Txn C O Q) (now : Context) → IsAsked (λ s roles. IsSoundTxn ct ot client origin paired refuses rest whole t s.pending s.next roles) now
-      → IsSoundTxn ct ot client origin paired refuses rest whole t now.log.state.pending now.log.state.next now.roles
+  pub sound_asked : (t : Txn C O Q) (now : Context)
+      → IsAsked (λ s roles. IsSoundTxn client origin both stage t s.pending s.next roles)
+      now
+      → IsSoundTxn client origin both stage t now.log.state.pending now.log.state.next
+      now.roles
   sound_asked t now asked =
-      subst (λ ps. IsSoundOn ct ot client origin paired refuses rest whole t.core t.main t.course ps now.log.state.next now.roles) (sym asked.pending) (record {
+      subst (λ ps. IsSoundOn client origin both stage t.core t.main t.course ps
+      now.log.state.next now.roles) (sym asked.pending) (record {
         stands = asked.sound.stands;
-        covered = later_covered (view_of client origin t.core) t.main t.course asked.before.pending asked.before.next now.log.state.next now.roles (omega (arith, asked.next)) asked.sound.covered;
+        covered = later_covered (view_of client origin t.core) t.main t.course asked.before.pending
+            asked.before.next now.log.state.next now.roles (omega (arith, asked.next)) asked.sound.covered;
       })
 
-  module _ (core : Core C O) (main : Option StageContinuation) (was course : Course Q) (same : was ≡ course) (none : PassesNoBody course) (now : Context) (role : ℕ) (event : Event)
-      (c : IsCalled (λ s roles. IsSoundOn ct ot client origin paired refuses rest whole core main was s.pending s.next roles) now role event) where
-    stood : HoldsOn ct ot client origin paired refuses rest whole core course
-    stood = subst (λ x. HoldsOn ct ot client origin paired refuses rest whole core x) same c.sound.stands
+  module _ (core : Core C O) (main : Option StageContinuation) (was course : Course Q) (same : was ≡ course)
+      (none : PassesNoBody course) (now : Context) (role : ℕ) (event : Event)
+      (c : IsCalled (λ s roles. IsSoundOn client origin both stage core main was
+      s.pending s.next roles) now role event) where
+    stood : HoldsOn client origin both stage core course
+    stood = subst (λ x. HoldsOn client origin both stage core x) same c.sound.stands
 
-    was_covered : IsCoveredOn (view_of client origin core) main course c.before.pending c.before.next now.roles
-    was_covered = subst (λ x. IsCoveredOn (view_of client origin core) main x c.before.pending c.before.next now.roles) same c.sound.covered
+    was_covered : IsCoveredOn (view_of client origin core) main course c.before.pending c.before.next
+        now.roles
+    was_covered = subst (λ x. IsCoveredOn (view_of client origin core) main x c.before.pending c.before.next
+        now.roles) same c.sound.covered
 
     -- an event of another continuation, where no body is passed on
-    pub sound_other : (role ≡ MAIN → ⊥) → IsSoundNow ct ot client origin paired refuses rest whole core main course now
-    sound_other other = record { stands = stood; covered = on_other _ (view_of client origin core) main now role event c course none other was_covered }
+    pub sound_other : (role ≡ MAIN → ⊥) → IsSoundNow client origin both stage core main
+        course now
+    sound_other other = record {
+      stands = stood;
+      covered = on_other _ (view_of client origin core) main now
+          role event c course none other was_covered;
+    }
 
     -- one at which it does not work
-    pub sound_quiet : works_at event ≡ false → IsSoundNow ct ot client origin paired refuses rest whole core main course now
-    sound_quiet rests = record { stands = stood; covered = on_quiet _ (view_of client origin core) main now role event c course none rests was_covered }
+    pub sound_quiet : works_at event ≡ false
+        → IsSoundNow client origin both stage core main course now
+    sound_quiet rests = record {
+      stands = stood;
+      covered = on_quiet _ (view_of client origin core) main now
+          role event c course none rests was_covered;
+    }
 
     -- one at which the first continuation makes the next step
     pub alone_then : (t : Option StageContinuation) → t ≡ unroused main → IsAlone t now
-    alone_then t is = subst (λ s. IsAlone s now) (sym is) (alone_called _ (view_of client origin core) main now role event c course none was_covered)
+    alone_then t is = subst (λ s. IsAlone s now) (sym is)
+        (alone_called _ (view_of client origin core) main now role event c course none was_covered)
 
   -- it was led on
-  pub sound_here : (s t : Core C O) (old new : Course Q) (u : Option StageContinuation) (b : Context) → HoldsOn ct ot client origin paired refuses rest whole s old
-      → StepKeeps client origin paired refuses s t → CourseHolds ct ot client origin refuses rest t new → IsOfLinesOn (arc_value t.setup) rest new
-      → IfTold ct ot (HoldsLittleOn (view_of client origin t) new) → IsCoveredNow (view_of client origin t) u new b → IsSoundNow ct ot client origin paired refuses rest whole t u new b
+  pub sound_here : (s t : Core C O) (old new : Course Q) (u : Option StageContinuation) (b : Context)
+      → HoldsOn client origin both stage s old
+      → StepKeeps client origin both s t → CourseHolds client origin both stage t new
+      → IsOfLinesOn (arc_value t.setup) stage.rest new
+      → IfTold client.tells origin.tells (HoldsLittleOn (view_of client origin t) new)
+      → IsCoveredNow (view_of client origin t) u new b
+      → IsSoundNow client origin both stage t u new b
   sound_here s t old new u b stands keeps holds lines little covered =
-      record { stands = record { holds = holds; pair = keeps.pair stands.pair; acts = stands.acts; lines = lines; little = little }; covered = covered }
+      record {
+        stands = record {
+          holds = holds;
+          pair = keeps.pair stands.pair;
+          acts = stands.acts;
+          lines =
+              lines;
+          little = little;
+        };
+        covered = covered;
+      }
 
   -- by a step, whose facts speak of what the origin's link refused before it
-  pub sound_led : (s t : Core C O) (old led new : Course Q) (u : Option StageContinuation) (b : Context) → HoldsOn ct ot client origin paired refuses rest whole s old
-      → StepKeeps client origin paired refuses s t → IfTold ct ot (CourseFact (arc_value s.setup) (OriginRefuses client refuses s) rest (view_of client origin t) led)
-      → IsOfLinesOn (arc_value s.setup) rest led → IfTold ct ot (HoldsLittleOn (view_of client origin t) led) → StaysOnOrLacks led new → IsCoveredNow (view_of client origin t) u new b
-      → IsSoundNow ct ot client origin paired refuses rest whole t u new b
+  pub sound_led : (s t : Core C O) (old led new : Course Q) (u : Option StageContinuation) (b : Context)
+      → HoldsOn client origin both stage s old
+      → StepKeeps client origin both s t
+      → IfTold client.tells origin.tells (CourseFact (arc_value s.setup) (OriginRefuses client both s)
+      stage.rest
+      (view_of client origin t) led)
+      → IsOfLinesOn (arc_value s.setup) stage.rest led
+      → IfTold client.tells origin.tells (HoldsLittleOn (view_of client origin t) led)
+      → StaysOnOrLacks led new → IsCoveredNow (view_of client origin t) u new b
+      → IsSoundNow client origin both stage t u new b
   sound_led s t old led new u b stands keeps fact lines little stays covered =
       sound_here s t old new u b stands keeps
-      (λ told also. course_settled client origin paired refuses rest s t new keeps
-      (stays_on (arc_value s.setup) (OriginRefuses client refuses s) rest (view_of client origin t) led new (fact told also) stays))
-      (subst (λ x. IsOfLinesOn (arc_value x) rest new) (sym keeps.setup) (lines_stay (arc_value s.setup) rest led new lines stays))
+      (λ told also. course_settled client origin both stage.rest s t new keeps
+      (stays_on (arc_value s.setup) (OriginRefuses client both s) stage.rest (view_of client origin t) led new
+      (fact told also) stays))
+      (subst (λ x. IsOfLinesOn (arc_value x) stage.rest new) (sym keeps.setup)
+      (lines_stay (arc_value s.setup) stage.rest led new lines stays))
       (λ told also. little_stay (view_of client origin t) led new (little told also) stays) covered

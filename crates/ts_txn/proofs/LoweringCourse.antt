@@ -1,4 +1,5 @@
--- Wherever an event leads a transaction on its course, what is left to do pays for each event that is set, so that each event
+-- Wherever an event leads a transaction on its course, what is left to do pays for each event that is set, so
+-- that each event
 -- that is handled lowers its number.
 use Rattle.std.proofs.Common.{zero-le, ◌≡◌, ◌⊎◌, inl, inr, ℕ, ◌+◌, ◌≤◌, List, length, Bool, true, false, arith, refl, sym, ap, subst}
 use Rattle.std.specs.Prelude.{◌&&◌, Option, Some, None}
@@ -18,45 +19,53 @@ use Rattle.ts_group.specs.declared.action.Named.{Named}
 use Rattle.ts_group.specs.declared.world.Asked.{Asked}
 use Rattle.ts_group.specs.declared.world.Asked.TheVariants.{Missed}
 use Rattle.ts_link.specs.Link.{Fewer, Look, NoMore}
+use Rattle.ts_config.specs.declared.setup.TransformLine.{TransformLine}
+use Rattle.ts_link.specs.declared.link.Link as link
+use Rattle.ts_upstream.specs.declared.upstream.Upstream as upstream
+use Rattle.ts_transform.specs.declared.transform.Transform as transform
 use Rattle.ts_wire.specs.declared.heads.ResponseHead.{ResponseHead}
 use Rattle.ts_txn.specs.Course.{course_after, finish_after}
 use Rattle.ts_transform.specs.declared.continuation.StageContinuation.{StageContinuation}
-use Rattle.ts_txn.specs.CourseCover.{BodyHasEvents, IsCoveredOn, StaysOnOrLacks, set_after, set_leaving}
-use Rattle.ts_txn.specs.Duties.{IsBodyCovered, WhileGoes}
-use Rattle.ts_txn.specs.Holding.{IfTold}
-use Rattle.ts_txn.specs.Lowering.{StepFalls, agains_left, events_paid, if_told, number_left, phase_work, upload_in, work_left}
-use Rattle.ts_txn.specs.LoweringBody.{IsOfLines, StaysOfLines, ended_left, finish_left, left_after, rest_after, unbegun_left}
+use Rattle.ts_txn.specs.CourseCover.{BodyHasEvents, IsCoveredOn, StaysOnOrLacks}
+use Rattle.ts_phases.specs.Cover.{set_after}
+use Rattle.ts_relay.specs.Duties.{set_leaving, IsBodyCovered, WhileGoes}
+use Rattle.ts_phases.specs.Holding.{IfTold}
+use Rattle.ts_phases.specs.Lowering.{StepFalls, agains_left, events_paid, if_told, number_left, phase_work, upload_in, work_left}
+use Rattle.ts_relay.specs.LoweringBody.{IsOfLines, StaysOfLines, ended_left, finish_left, left_after, rest_after, unbegun_left}
 use Rattle.ts_txn.specs.LoweringCourse.{IsOfLinesOn, course_left, number_if, parts_left, transaction_left}
-use Rattle.ts_txn.specs.View.{View, upload_told, view_of}
+use Rattle.ts_phases.specs.View.{View, upload_of, view_of}
 use Rattle.ts_txn.specs.declared.course.Course.{Course}
 use Rattle.ts_txn.specs.declared.course.Course.TheVariants as K
-use Rattle.ts_txn.specs.declared.finishing.BodyStep.{BodyStep}
-use Rattle.ts_txn.specs.declared.finishing.BodyStep.TheVariants as S
-use Rattle.ts_txn.specs.declared.parts.Core.{Core}
-use Rattle.ts_txn.specs.declared.phase.Next.{Next}
-use Rattle.ts_txn.specs.declared.phase.Next.TheVariants as N
-use Rattle.ts_txn.specs.declared.phase.Phase.{Phase}
-use Rattle.ts_txn.specs.declared.phase.Phase.TheVariants as P
-use Rattle.ts_txn.specs.declared.phase.Request.{Request}
-use Rattle.ts_txn.specs.declared.phase.Step.{Step}
-use Rattle.ts_txn.specs.declared.relay.Relay.{Relay}
+use Rattle.ts_relay.specs.declared.last_writes.BodyStep.{BodyStep}
+use Rattle.ts_relay.specs.declared.last_writes.BodyStep.TheVariants as S
+use Rattle.ts_phases.specs.declared.parts.Core.{Core}
+use Rattle.ts_phases.specs.declared.phase.Next.{Next}
+use Rattle.ts_phases.specs.declared.phase.Next.TheVariants as N
+use Rattle.ts_phases.specs.declared.phase.Phase.{Phase}
+use Rattle.ts_phases.specs.declared.phase.Phase.TheVariants as P
+use Rattle.ts_phases.specs.declared.phase.Request.{Request}
+use Rattle.ts_phases.specs.declared.phase.Step.{Step}
+use Rattle.ts_relay.specs.declared.relay.Relay.{Relay}
 use Rattle.ts_txn.proofs.CourseCalls.{spent_still}
-use Rattle.ts_txn.proofs.LoweringEntry.{ended_no_more}
-use Rattle.ts_txn.proofs.LoweringEvents.{handled_falls, one_paid, paid_fewer, paid_none, paid_then, step_pays}
-use Rattle.ts_txn.proofs.LoweringPays.{set_one}
-use Rattle.ts_txn.proofs.LoweringRelay.{ended_if}
+use Rattle.ts_relay.proofs.LoweringEntry.{ended_no_more}
+use Rattle.ts_relay.proofs.LoweringEvents.{handled_falls, one_paid, paid_fewer, paid_none, paid_then, step_pays}
+use Rattle.ts_relay.proofs.LoweringPays.{set_one}
+use Rattle.ts_relay.proofs.LoweringRelay.{ended_if}
 
 -- ---- it can also end at once
 
 -- from wherever a step led
-paid_end : (before mid now : List Pending) (m m' upload : Option ℕ) (f : ℕ → ℕ → ℕ) (more : ℕ) → Falls (number_left before m) more (number_left mid (if_told m' upload f))
-    → length now ≤ length mid + more → Falls (number_left before m) 0 (number_left now (if_told m' (Some 0) (λ x y. 0)))
+paid_end : (before mid now : List Pending) (m m' upload : Option ℕ) (f : ℕ → ℕ → ℕ) (more : ℕ)
+    → Falls (number_left before m) more (number_left mid (if_told m' upload f))
+    → length now ≤ length mid + more → Falls (number_left before m) 0
+    (number_left now (if_told m' (Some 0) (λ x y. 0)))
 paid_end before mid now None m' upload f more paid few = tt
 paid_end before mid now (Some x) None upload f more paid few = absurd paid
 paid_end before mid now (Some x) (Some x') None f more paid few = absurd paid
 paid_end before mid now (Some x) (Some x') (Some y) f more paid few = omega (arith, paid, few)
 
-ended_step : (next : Next) (m m' upload : Option ℕ) (f : ℕ → ℕ → ℕ) → StepFalls next m (if_told m' upload f) → StepFalls next m (if_told m' (Some 0) (λ x y. 0))
+ended_step : (next : Next) (m m' upload : Option ℕ) (f : ℕ → ℕ → ℕ) → StepFalls next m (if_told m' upload f)
+    → StepFalls next m (if_told m' (Some 0) (λ x y. 0))
 ended_step N.Done m m' upload f kept = ended_no_more m m' upload f kept
 ended_step _ m m' upload f fell = ended_if m m' upload f fell
 
@@ -76,33 +85,45 @@ five_paid a b k few one = omega (arith, few, one)
 module _ {Q : Type 0} (setup : Setup) (rest : Q → List ℕ → List ℕ) where
   -- ---- a step of a body, and where it leads
 
-  course_after_left : (step : BodyStep) (r : Relay Q) (w : View) (upload : Option ℕ) → course_left setup rest upload w (course_after r step) ≡ left_after setup rest step w r
+  course_after_left : (step : BodyStep) (r : Relay Q) (w : View) (upload : Option ℕ)
+      → course_left setup rest upload w (course_after r step) ≡ left_after setup rest step w r
   course_after_left S.Goes r w upload = refl
   course_after_left _ r w upload = refl
 
   -- so it is behind a step of a body
-  after_ended : (step : BodyStep) (r : Relay Q) (w : View) (before mid now : List Pending) (m : Option ℕ) (more : ℕ) → Falls (number_left before m) more (number_left mid (left_after setup rest step w r))
+  after_ended : (step : BodyStep) (r : Relay Q) (w : View) (before mid now : List Pending) (m : Option ℕ)
+      (more : ℕ) → Falls (number_left before m) more (number_left mid (left_after setup rest step w r))
       → length now ≤ length mid + more → Falls (number_left before m) 0 (number_left now (ended_left w))
-  after_ended S.Goes r w before mid now m more paid few = paid_end before mid now m (agains_left w) (Some 0) _ more paid few
-  after_ended _ r w before mid now m more paid few = paid_end before mid now m (agains_left w) (Some 0) _ more paid few
+  after_ended S.Goes r w before mid now m more paid few = paid_end before mid now m (agains_left w) (Some 0) _
+      more paid few
+  after_ended _ r w before mid now m more paid few = paid_end before mid now m (agains_left w) (Some 0) _ more
+      paid few
 
-  pub body_led : (step : BodyStep) (r : Relay Q) (result : Course Q) (w : View) (upload : Option ℕ) (before mid now : List Pending) (m : Option ℕ) → StaysOnOrLacks (course_after r step) result
-      → Falls (number_left before m) (set_leaving step) (number_left mid (left_after setup rest step w r)) → length now ≤ length mid + set_leaving step
+  pub body_led : (step : BodyStep) (r : Relay Q) (result : Course Q) (w : View) (upload : Option ℕ)
+      (before mid now : List Pending) (m : Option ℕ) → StaysOnOrLacks (course_after r step) result
+      → Falls (number_left before m) (set_leaving step) (number_left mid (left_after setup rest step w r))
+      → length now ≤ length mid + set_leaving step
       → Falls (number_left before m) 0 (number_left now (course_left setup rest upload w result))
   body_led step r result w upload before mid now m (inl same) paid few =
-      subst (λ (c : Course Q). Falls (number_left before m) 0 (number_left now (course_left setup rest upload w c))) (sym same)
-      (subst (λ (n : Option ℕ). Falls (number_left before m) 0 (number_left now n)) (sym (course_after_left step r w upload))
-      (paid_then before mid now m (left_after setup rest step w r) (set_leaving step) 0 paid (plus_none (length now) (length mid) (set_leaving step) few)))
+      subst (λ (c : Course Q). Falls (number_left before m) 0
+      (number_left now (course_left setup rest upload w c))) (sym same)
+      (subst (λ (n : Option ℕ). Falls (number_left before m) 0 (number_left now n))
+      (sym (course_after_left step r w upload))
+      (paid_then before mid now m (left_after setup rest step w r) (set_leaving step) 0 paid
+      (plus_none (length now) (length mid) (set_leaving step) few)))
   body_led step r result w upload before mid now m (inr lacks) paid few =
-      subst (λ (c : Course Q). Falls (number_left before m) 0 (number_left now (course_left setup rest upload w c))) (sym lacks)
+      subst (λ (c : Course Q). Falls (number_left before m) 0
+      (number_left now (course_left setup rest upload w c))) (sym lacks)
       (after_ended step r w before mid now m (set_leaving step) paid few)
 
   -- the chain stays one of the configuration's
-  pub lines_stay : (led result : Course Q) → IsOfLinesOn setup rest led → StaysOnOrLacks led result → IsOfLinesOn setup rest result
+  pub lines_stay : (led result : Course Q) → IsOfLinesOn setup rest led → StaysOnOrLacks led result
+      → IsOfLinesOn setup rest result
   lines_stay led result lines (inl same) = subst (λ (c : Course Q). IsOfLinesOn setup rest c) (sym same) lines
   lines_stay led result lines (inr lacks) = subst (λ (c : Course Q). IsOfLinesOn setup rest c) (sym lacks) tt
 
-  pub lines_after : (step : BodyStep) (r s : Relay Q) → WhileGoes step (StaysOfLines setup rest r s) → IsOfLines setup rest r.driven.chain → IsOfLinesOn setup rest (course_after s step)
+  pub lines_after : (step : BodyStep) (r s : Relay Q) → WhileGoes step (StaysOfLines setup rest r s)
+      → IsOfLines setup rest r.driven.chain → IsOfLinesOn setup rest (course_after s step)
   lines_after S.Goes r s lines of = lines of
   lines_after S.Waits r s lines of = lines of
   lines_after _ r s lines of = tt
@@ -113,101 +134,145 @@ module _ {Q : Type 0} (setup : Setup) (rest : Q → List ℕ → List ℕ) where
 
   -- ---- the body began
 
-  pub begun_led : (q : Request) (h : ResponseHead) (step : BodyStep) (r s : Relay Q) (result : Course Q) (v w : View) (upload upload_then : Option ℕ) (before mid now : List Pending)
-      → Fewer (work_left setup upload v (P.ResponseTransform q h)) (unbegun_left setup rest w r) → NoMore (unbegun_left setup rest w r) (left_after setup rest step w s)
-      → length mid ≤ length before + 4 → StaysOnOrLacks (course_after s step) result → length now ≤ length mid + set_leaving step
-      → Falls (number_left before (work_left setup upload v (P.ResponseTransform q h))) 0 (number_left now (course_left setup rest upload_then w result))
+  pub begun_led : (q : Request) (h : ResponseHead) (step : BodyStep) (r s : Relay Q) (result : Course Q)
+      (v w : View) (upload upload_then : Option ℕ) (before mid now : List Pending)
+      → Fewer (work_left setup upload v (P.ResponseTransform q h)) (unbegun_left setup rest w r)
+      → NoMore (unbegun_left setup rest w r) (left_after setup rest step w s)
+      → length mid ≤ length before + 4 → StaysOnOrLacks (course_after s step) result
+      → length now ≤ length mid + set_leaving step
+      → Falls (number_left before (work_left setup upload v (P.ResponseTransform q h))) 0
+      (number_left now (course_left setup rest upload_then w result))
   begun_led q h step r s result v w upload upload_then before mid now fell kept few led behind =
-      body_led step s result w upload_then before mid now (work_left setup upload v (P.ResponseTransform q h)) led
-      (paid_fewer before mid (work_left setup upload v (P.ResponseTransform q h)) (left_after setup rest step w s) (set_leaving step)
-      (fewer_then (work_left setup upload v (P.ResponseTransform q h)) (unbegun_left setup rest w r) (left_after setup rest step w s) fell kept)
+      body_led step s result w upload_then before mid now (work_left setup upload v (P.ResponseTransform q h))
+      led
+      (paid_fewer before mid (work_left setup upload v (P.ResponseTransform q h))
+      (left_after setup rest step w s) (set_leaving step)
+      (fewer_then (work_left setup upload v (P.ResponseTransform q h)) (unbegun_left setup rest w r)
+      (left_after setup rest step w s) fell kept)
       (five_paid (length before) (length mid) (set_leaving step) few (set_one step))) behind
 
   -- memory lacked for its head
-  pub not_begun : (q : Request) (h : ResponseHead) (v w : View) (upload upload_then : Option ℕ) (before now : List Pending) → w.client.look.agains ≡ v.client.look.agains
+  pub not_begun : (q : Request) (h : ResponseHead) (v w : View) (upload upload_then : Option ℕ)
+      (before now : List Pending) → w.client.look.agains ≡ v.client.look.agains
       → w.origin.look.agains ≡ v.origin.look.agains → length now ≤ length before
-      → Falls (number_left before (work_left setup upload v (P.ResponseTransform q h))) 0 (number_left now (course_left setup rest upload_then w (K.Phased (P.Ended E.NoMemory))))
+      → Falls (number_left before (work_left setup upload v (P.ResponseTransform q h))) 0
+      (number_left now (course_left setup rest upload_then w (K.Phased (P.Ended E.NoMemory))))
   not_begun q h v w upload upload_then before now client origin none =
-      paid_none before now (work_left setup upload v (P.ResponseTransform q h)) (ended_left w) (zero_more (agains_left v) (agains_left w) (phase_work_of v) (same_agains v w client origin)) none
+      paid_none before now (work_left setup upload v (P.ResponseTransform q h)) (ended_left w)
+      (zero_more (agains_left v) (agains_left w) (phase_work_of v) (same_agains v w client origin)) none
     where
       phase_work_of : View → ℕ → ℕ
       phase_work_of v x = phase_work setup x 0 v (P.ResponseTransform q h)
 
-      zero_more : (m m' : Option ℕ) (f : ℕ → ℕ) → m' ≡ m → NoMore (if_told m (Some 0) (λ x y. f x)) (if_told m' (Some 0) (λ x y. 0))
+      zero_more : (m m' : Option ℕ) (f : ℕ → ℕ) → m' ≡ m
+          → NoMore (if_told m (Some 0) (λ x y. f x)) (if_told m' (Some 0) (λ x y. 0))
       zero_more None m' f same = tt
-      zero_more (Some x) m' f same = subst (λ (n : Option ℕ). NoMore (Some (f x)) (if_told n (Some 0) (λ x y. 0))) (sym same) zero-le
+      zero_more (Some x) m' f same = subst (λ (n : Option ℕ). NoMore (Some (f x))
+          (if_told n (Some 0) (λ x y. 0))) (sym same) zero-le
 
-      same_agains : (v w : View) → w.client.look.agains ≡ v.client.look.agains → w.origin.look.agains ≡ v.origin.look.agains → agains_left w ≡ agains_left v
+      same_agains : (v w : View) → w.client.look.agains ≡ v.client.look.agains
+          → w.origin.look.agains ≡ v.origin.look.agains → agains_left w ≡ agains_left v
       same_agains v w client origin = rw (client, origin) refl
 
   -- ---- one of the last writes
 
-  finish_after_left : (end : TxnEnd) (step : BodyStep) (w : View) (upload : Option ℕ) → course_left setup rest upload w (finish_after end step) ≡ rest_after step w
+  finish_after_left : (end : TxnEnd) (step : BodyStep) (w : View) (upload : Option ℕ)
+      → course_left setup rest upload w (finish_after end step) ≡ rest_after step w
   finish_after_left end S.Goes w upload = refl
   finish_after_left end _ w upload = refl
 
   -- and behind one of the last writes
-  rest_ended : (step : BodyStep) (m : Option ℕ) (w : View) → Fewer m (rest_after step w) → Fewer m (ended_left w)
+  rest_ended : (step : BodyStep) (m : Option ℕ) (w : View) → Fewer m (rest_after step w)
+      → Fewer m (ended_left w)
   rest_ended (S.Closes end) m w fell = ended_if m (agains_left w) (Some 0) (λ x y. 1) fell
   rest_ended S.Lacks m w fell = fell
   rest_ended _ m w fell = ended_if m (agains_left w) (Some 0) (λ x y. 2 + (x + length w.client.outbox)) fell
 
-  pub finish_led : (end : TxnEnd) (step : BodyStep) (result : Course Q) (v w : View) (upload : Option ℕ) (before now : List Pending) → StaysOnOrLacks (finish_after end step) result
+  pub finish_led : (end : TxnEnd) (step : BodyStep) (result : Course Q) (v w : View) (upload : Option ℕ)
+      (before now : List Pending) → StaysOnOrLacks (finish_after end step) result
       → Fewer (finish_left v) (rest_after step w) → length now ≤ length before + 1
-      → Falls (number_left before (finish_left v)) 0 (number_left now (course_left setup rest upload w result))
+      → Falls (number_left before (finish_left v)) 0
+      (number_left now (course_left setup rest upload w result))
   finish_led end step result v w upload before now (inl same) fell few =
-      subst (λ (c : Course Q). Falls (number_left before (finish_left v)) 0 (number_left now (course_left setup rest upload w c))) (sym same)
-      (subst (λ (n : Option ℕ). Falls (number_left before (finish_left v)) 0 (number_left now n)) (sym (finish_after_left end step w upload))
-      (paid_fewer before now (finish_left v) (rest_after step w) 0 fell (one_paid (length now) (length before) few)))
+      subst (λ (c : Course Q). Falls (number_left before (finish_left v)) 0
+      (number_left now (course_left setup rest upload w c))) (sym same)
+      (subst (λ (n : Option ℕ). Falls (number_left before (finish_left v)) 0 (number_left now n))
+      (sym (finish_after_left end step w upload))
+      (paid_fewer before now (finish_left v) (rest_after step w) 0 fell
+      (one_paid (length now) (length before) few)))
   finish_led end step result v w upload before now (inr lacks) fell few =
-      subst (λ (c : Course Q). Falls (number_left before (finish_left v)) 0 (number_left now (course_left setup rest upload w c))) (sym lacks)
-      (paid_fewer before now (finish_left v) (ended_left w) 0 (rest_ended step (finish_left v) w fell) (one_paid (length now) (length before) few))
+      subst (λ (c : Course Q). Falls (number_left before (finish_left v)) 0
+      (number_left now (course_left setup rest upload w c))) (sym lacks)
+      (paid_fewer before now (finish_left v) (ended_left w) 0 (rest_ended step (finish_left v) w fell)
+      (one_paid (length now) (length before) few))
 
   -- ---- the step of a phase
 
-  pub phase_led : (p : Phase) (step : Step) (result : Course Q) (v w : View) (upload upload_then : Option ℕ) (before now : List Pending) → StaysOnOrLacks (K.Phased step.phase) result
-      → StepFalls step.next (work_left setup upload v p) (work_left setup upload_then w step.phase) → length now ≤ length before + set_after step.next
-      → Falls (number_left before (work_left setup upload v p)) 0 (number_left now (course_left setup rest upload_then w result))
+  pub phase_led : (p : Phase) (step : Step) (result : Course Q) (v w : View) (upload upload_then : Option ℕ)
+      (before now : List Pending) → StaysOnOrLacks (K.Phased step.phase) result
+      → StepFalls step.next (work_left setup upload v p) (work_left setup upload_then w step.phase)
+      → length now ≤ length before + set_after step.next
+      → Falls (number_left before (work_left setup upload v p)) 0
+      (number_left now (course_left setup rest upload_then w result))
   phase_led p step result v w upload upload_then before now (inl same) fell few =
-      subst (λ (c : Course Q). Falls (number_left before (work_left setup upload v p)) 0 (number_left now (course_left setup rest upload_then w c))) (sym same)
-      (step_pays before now step.next (work_left setup upload v p) (work_left setup upload_then w step.phase) fell few)
+      subst (λ (c : Course Q). Falls (number_left before (work_left setup upload v p)) 0
+      (number_left now (course_left setup rest upload_then w c))) (sym same)
+      (step_pays before now step.next (work_left setup upload v p) (work_left setup upload_then w step.phase)
+      fell few)
   phase_led p step result v w upload upload_then before now (inr lacks) fell few =
-      subst (λ (c : Course Q). Falls (number_left before (work_left setup upload v p)) 0 (number_left now (course_left setup rest upload_then w c))) (sym lacks)
+      subst (λ (c : Course Q). Falls (number_left before (work_left setup upload v p)) 0
+      (number_left now (course_left setup rest upload_then w c))) (sym lacks)
       (step_pays before now step.next (work_left setup upload v p) (ended_left w)
-      (ended_step step.next (work_left setup upload v p) (agains_left w) (upload_in upload_then step.phase) (λ x y. phase_work setup x y w step.phase) fell) few)
+      (ended_step step.next (work_left setup upload v p) (agains_left w) (upload_in upload_then step.phase)
+      (λ x y. phase_work setup x y w step.phase) fell) few)
 
 -- ---- in the group
 
 less_by_one : (m n : ℕ) → m + 1 ≡ n → m + 1 ≤ n
 less_by_one m n same = omega (arith, same)
 
-module _ {C O Q : Type 0} (ct ot : Bool) (client : C → Look) (origin : O → Look) (left : C → O → Option ℕ) (rest : Q → List ℕ → List ℕ) where
+module _ {C O Q : Type 0} (client : link.Ghosts C) (origin : link.Ghosts O) (both : upstream.Ghosts O C)
+    (stage : transform.Ghosts Q TransformLine) where
   -- where nothing was done
   pub stays_on : (core : Core C O) (course : Course Q) (pending : List Pending)
-      → IfTold ct ot (Falls (number_left pending (parts_left ct ot client origin left rest core course)) 0 (number_left pending (parts_left ct ot client origin left rest core course)))
-  stays_on core course pending told also = falls_refl (number_left pending (parts_left ct ot client origin left rest core course))
+      → IfTold client.tells origin.tells (Falls
+      (number_left pending (parts_left client origin both stage core course)) 0
+      (number_left pending (parts_left client origin both stage core course)))
+  stays_on core course pending told also = falls_refl
+      (number_left pending (parts_left client origin both stage core course))
 
-  if_both : (a b : Bool) (m n : Option ℕ) (k : ℕ) → (a ≡ true → b ≡ true → Falls m k n) → Falls (number_if (a && b) m) k (number_if (a && b) n)
+  if_both : (a b : Bool) (m n : Option ℕ) (k : ℕ) → (a ≡ true → b ≡ true → Falls m k n)
+      → Falls (number_if (a && b) m) k (number_if (a && b) n)
   if_both true true m n k fell = fell refl refl
   if_both true false m n k fell = tt
   if_both false b m n k fell = tt
 
   -- the event that was handled is pending no more: each event lowers the number of the transaction
-  pub transaction_falls : (old new : Core C O) (course result : Course Q) (before after now : List Pending) → new.setup ≡ old.setup → length after + 1 ≡ length before
-      → IfTold ct ot (Falls (number_left after (parts_left ct ot client origin left rest old course)) 0
-      (number_left now (course_left (arc_value old.setup) rest (upload_told left new.client.link new.origin) (view_of client origin new) result)))
-      → Falls (transaction_left ct ot client origin left rest old course before) 1 (transaction_left ct ot client origin left rest new result now)
+  pub transaction_falls : (old new : Core C O) (course result : Course Q) (before after now : List Pending)
+      → new.setup ≡ old.setup → length after + 1 ≡ length before
+      → IfTold client.tells origin.tells (Falls
+      (number_left after (parts_left client origin both stage old course)) 0
+      (number_left now (course_left (arc_value old.setup) stage.rest (upload_of both new)
+      (view_of client origin new) result)))
+      → Falls (transaction_left client origin both stage old course before) 1
+      (transaction_left client origin both stage new result now)
   transaction_falls old new course result before after now setup handled paid =
-      subst (λ (s : Setup). Falls (transaction_left ct ot client origin left rest old course before) 1
-      (number_if (ct && ot) (number_left now (course_left s rest (upload_told left new.client.link new.origin) (view_of client origin new) result)))) (sym (ap arc_value setup))
-      (if_both ct ot (number_left before (parts_left ct ot client origin left rest old course))
-      (number_left now (course_left (arc_value old.setup) rest (upload_told left new.client.link new.origin) (view_of client origin new) result)) 1
-      (λ told also. handled_falls before after now (parts_left ct ot client origin left rest old course)
-      (course_left (arc_value old.setup) rest (upload_told left new.client.link new.origin) (view_of client origin new) result) (less_by_one (length after) (length before) handled) (paid told also)))
+      subst (λ (s : Setup). Falls (transaction_left client origin both stage old course before) 1
+      (number_if (client.tells && origin.tells)
+      (number_left now (course_left s stage.rest (upload_of both new)
+      (view_of client origin new) result)))) (sym (ap arc_value setup))
+      (if_both client.tells origin.tells (number_left before (parts_left client origin both stage old course))
+      (number_left now (course_left (arc_value old.setup) stage.rest (upload_of both new)
+      (view_of client origin new) result)) 1
+      (λ told also. handled_falls before after now (parts_left client origin both stage old course)
+      (course_left (arc_value old.setup) stage.rest (upload_of both new)
+      (view_of client origin new) result) (less_by_one (length after) (length before) handled)
+      (paid told also)))
 
 -- where nothing was done
 pub hears_same : {R T : Type 0} (asked : Asked R T) (m n : Option ℕ) → n ≡ m → TellFalls asked m n
-hears_same {R} {T} asked m n same = subst (λ (x : Option ℕ). TellFalls asked m x) (sym same) (by_answer asked m)
+hears_same {R} {T} asked m n same = subst (λ (x : Option ℕ). TellFalls asked m x) (sym same)
+    (by_answer asked m)
   where
     by_answer : (asked : Asked R T) (m : Option ℕ) → TellFalls asked m m
     by_answer (Missed seen q) None = tt
@@ -220,10 +285,13 @@ asked_same m n same = subst (λ (x : Option ℕ). Falls m 0 x) (sym same) (falls
 -- ---- the event of a role
 
 -- who must work in a body is covered once its event was handled
-pub covered_called : {Q : Type 0} (Sound : State → List Named → Type 0) (v : View) (main : Option StageContinuation) (r : Relay Q) (now : Context) (role : ℕ) (event : Event)
-    (c : IsCalled Sound now role event) → IsCoveredOn v main (K.Relaying r) c.before.pending c.before.next now.roles → IsBodyCovered v main r now.log.state.next
+pub covered_called : {Q : Type 0} (Sound : State → List Named → Type 0) (v : View)
+    (main : Option StageContinuation) (r : Relay Q) (now : Context) (role : ℕ) (event : Event)
+    (c : IsCalled Sound now role event) → IsCoveredOn v main (K.Relaying r) c.before.pending c.before.next
+    now.roles → IsBodyCovered v main r now.log.state.next
 covered_called Sound v main r now role event c covered = by_event covered.covered
   where
-    by_event : BodyHasEvents v main r c.before.pending now.roles ⊎ (GREATEST ≤ c.before.next) → IsBodyCovered v main r now.log.state.next
+    by_event : BodyHasEvents v main r c.before.pending now.roles ⊎ (GREATEST ≤ c.before.next)
+        → IsBodyCovered v main r now.log.state.next
     by_event (inl has) = inl (has.runs, has.ends)
     by_event (inr spent) = inr (spent_still Sound now role event c covered.plain spent)

@@ -8,33 +8,38 @@ use Rattle.ts_hooks.specs.declared.txn_end.TxnEnd.TheVariants as E
 use Rattle.ts_journal.specs.declared.entry.Pending.{Pending}
 use Rattle.ts_journal.specs.declared.entry.TheConstants.{GREATEST}
 use Rattle.ts_group.specs.declared.action.Named.{Named}
-use Rattle.ts_link.specs.Link.{Look}
+use Rattle.ts_link.specs.declared.link.Link as link
+use Rattle.ts_upstream.specs.declared.upstream.Upstream as upstream
+use Rattle.ts_transform.specs.declared.transform.Transform as transform
 use Rattle.ts_txn.specs.Course.{CourseHolds}
-use Rattle.ts_txn.specs.Ends.{EndFact}
+use Rattle.ts_phases.specs.Ends.{EndFact}
 use Rattle.ts_txn.specs.Making.{end_of, end_of_phase}
 use Rattle.ts_txn.specs.Resting.{HasEndedSo, NeverFailed, RestsWithBlock, SendsBlock}
 use Rattle.ts_txn.specs.Resting as rest
-use Rattle.ts_txn.specs.View.{OriginRefuses, View, view_of}
+use Rattle.ts_phases.specs.View.{OriginRefuses, View, view_of}
 use Rattle.ts_txn.specs.World.{IsSoundTxn}
 use Rattle.ts_txn.specs.declared.course.Course.{Course}
 use Rattle.ts_txn.specs.declared.course.Course.TheVariants as K
-use Rattle.ts_txn.specs.declared.phase.Phase.{Phase}
-use Rattle.ts_txn.specs.declared.phase.Phase.TheVariants as P
+use Rattle.ts_phases.specs.declared.phase.Phase.{Phase}
+use Rattle.ts_phases.specs.declared.phase.Phase.TheVariants as P
 use Rattle.ts_txn.specs.declared.txn.Txn.{Txn}
 use Rattle.ts_txn.proofs.Handling.{at_rest}
 
 -- one that has ended is in its last phase
 ended_phase : (p : Phase) (end : TxnEnd) → end_of_phase p ≡ Some end → p ≡ P.Ended end
-ended_phase (P.Ended last) end is = let both : Some last ≡ Some end = is in let one : last ≡ end = cc in ap P.Ended one
+ended_phase (P.Ended last) end is = let both : Some last ≡ Some end = is in let one : last ≡ end = cc in ap
+    P.Ended one
 ended_phase _ end is = absurd (cc)
 
-ended_course : {Q : Type 0} (course : Course Q) (end : TxnEnd) → end_of course ≡ Some end → course ≡ K.Phased (P.Ended end)
+ended_course : {Q : Type 0} (course : Course Q) (end : TxnEnd) → end_of course ≡ Some end
+    → course ≡ K.Phased (P.Ended end)
 ended_course {Q} (K.Phased p) end is = ap {B = Course Q} (λ x. K.Phased x) (ended_phase p end is)
 ended_course (K.Relaying r) end is = absurd (cc)
 ended_course (K.Finishing last) end is = absurd (cc)
 
 -- where no link failed and memory did not lack, the client took what the block says
-sends_block : (setup : Setup) (refuses : Type 0) (v : View) (end : TxnEnd) → NeverFailed v → end ≢ E.NoMemory → EndFact setup refuses v end → SendsBlock setup refuses v end
+sends_block : (setup : Setup) (refuses : Type 0) (v : View) (end : TxnEnd) → NeverFailed v → end ≢ E.NoMemory
+    → EndFact setup refuses v end → SendsBlock setup refuses v end
 sends_block setup refuses v E.Whole never has fact = rest.SendsBlock.whole fact.by
 sends_block setup refuses v E.OriginCut never has fact = rest.SendsBlock.cut fact.by
 sends_block setup refuses v E.OriginBad never has fact = rest.SendsBlock.bad fact.by
@@ -42,19 +47,32 @@ sends_block setup refuses v E.OriginFault never has fact = absurd (never.origin 
 sends_block setup refuses v E.ClientFault never has fact = absurd (never.client fact.by)
 sends_block setup refuses v E.NoMemory never has fact = absurd (has refl)
 
-module _ {C O Q : Type 0} (ct ot : Bool) (client : C → Look) (origin : O → Look) (paired : C → O → Type 0) (refuses : O → List ℕ → Type 0) (rest : Q → List ℕ → List ℕ)
-    (whole : TransformLine → List ℕ → List ℕ) (t : Txn C O Q) where
-  pub ended_so : (pending : List Pending) (next : ℕ) (roles : List Named) (end : TxnEnd) → end_of t.course ≡ Some end → IsSoundTxn ct ot client origin paired refuses rest whole t pending next roles
-      → HasEndedSo ct ot client origin refuses t end
-  ended_so pending next roles end is sound = subst (CourseHolds ct ot client origin refuses rest t.core) (ended_course t.course end is) sound.stands.holds
+module _ {C O Q : Type 0} (client : link.Ghosts C) (origin : link.Ghosts O) (both : upstream.Ghosts O C)
+    (stage : transform.Ghosts Q TransformLine) (t : Txn C O Q) where
+  pub ended_so : (pending : List Pending) (next : ℕ) (roles : List Named) (end : TxnEnd)
+      → end_of t.course ≡ Some end → IsSoundTxn client origin both stage t pending next
+      roles
+      → HasEndedSo client origin both t end
+  ended_so pending next roles end is sound = subst (CourseHolds client origin both stage t.core)
+      (ended_course t.course end is) sound.stands.holds
 
-  pub rests_with_block : (next : ℕ) (roles : List Named) → IsSoundTxn ct ot client origin paired refuses rest whole t [] next roles → RestsWithBlock ct ot client origin refuses t next
+  pub rests_with_block : (next : ℕ) (roles : List Named)
+      → IsSoundTxn client origin both stage t [] next roles
+      → RestsWithBlock client origin both t next
   rests_with_block next roles sound started few never memory told also = by_end (end_of t.course) refl
     where
       v : View
       v = view_of client origin t.core
 
       by_end : (o : Option TxnEnd) → end_of t.course ≡ o → (end : TxnEnd) × (end_of t.course ≡ Some end)
-          × SendsBlock (arc_value t.core.setup) (OriginRefuses client refuses t.core) v end
-      by_end None none = absurd (let spent : GREATEST ≤ next = at_rest ct ot client origin paired refuses rest whole t next roles started none sound in omega (arith, spent, few))
-      by_end (Some end) is = (end, is, sends_block (arc_value t.core.setup) (OriginRefuses client refuses t.core) v end never (λ (lacks : end ≡ E.NoMemory). memory (is ∙ ap Some lacks)) (ended_so [] next roles end is sound told also))
+          × SendsBlock (arc_value t.core.setup) (OriginRefuses client both t.core) v end
+      by_end None none = absurd (let spent : GREATEST ≤ next = at_rest client origin both stage t next roles
+          started none sound in omega (arith, spent, few))
+      by_end (Some end) is = (
+        end,
+        is,
+        sends_block (arc_value t.core.setup)
+            (OriginRefuses client both t.core) v end never
+            (λ (lacks : end ≡ E.NoMemory). memory (is ∙ ap Some lacks))
+            (ended_so [] next roles end is sound told also),
+      )

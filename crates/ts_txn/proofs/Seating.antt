@@ -1,50 +1,42 @@
 -- The first continuation of a transaction: whose events its calls set, and when these are due.
-use Rattle.std.proofs.Common.{◌≡◌, ℕ, true, Option, Some, Result, length, arith, sym, ap, subst}
+use Rattle.std.proofs.Common.{◌≡◌, if◌then◌else◌, ℕ, Bool, true, Option, Some, Result, Ok, arith, refl, sym, subst}
 use Rattle.ts_journal.specs.declared.entry.ContKey.{ContKey}
 use Rattle.ts_journal.specs.declared.entry.Event.{Event}
+use Rattle.ts_journal.specs.declared.entry.Event.TheVariants.{Immediate, Timeout}
 use Rattle.ts_group.specs.declared.action.Action.{Action}
 use Rattle.ts_group.specs.declared.action.SetFault.{SetFault}
 use Rattle.ts_group.specs.Acts.{Sets}
 use Rattle.ts_group.specs.Changes.{IsLess, SameEvents}
 use Rattle.ts_group.specs.Context.{AllPlain, Context, moment_after}
 use Rattle.ts_group.specs.Entries.{Grows}
-use Rattle.ts_transform.specs.Driving.{ActsWithin, IsDueAfter, SetsOnly}
+use Rattle.ts_transform.specs.Driving.{IsDueAfter, KeepsStage, SetsOnly}
 use Rattle.ts_transform.proofs.Setting.{only_none, set_only}
-use Rattle.ts_transform.proofs.Kept.{soon_later}
+use Rattle.ts_transform.proofs.Kept.{roused_if, set_event, set_keeps, soon_later, works_soon}
 use Rattle.ts_transform.specs.declared.continuation.StageContinuation.{StageContinuation}
-use Rattle.ts_txn.specs.Cover.{IsOfMain}
+use Rattle.ts_txn.specs.CourseCover.{IsOfMain}
 
 -- ---- the continuation is roused
 
--- an event of it was set, or none
-pub main_set : (a b : Context) (r : Result Action SetFault) (slot : Option StageContinuation) (t : StageContinuation) (event : Event) (due : ℕ) → slot ≡ Some t
-    → Sets a.log b.log r t.key event due 0 → SetsOnly (IsOfMain slot) a b
-main_set a b r slot t event due is sets =
-    subst (λ (s : Option StageContinuation). SetsOnly (IsOfMain s) a b) (sym is) (set_only a b r t.key event due (IsOfMain (Some t)) sets (λ p key e d. key))
-
--- due after its time
-pub due_set : (a b : Context) (r : Result Action SetFault) (key : ContKey) (event : Event) (after : ℕ)
-    → Sets a.log b.log r key event (moment_after a.moment after) 0 → SetsOnly (IsDueAfter after a.moment) a b
-due_set a b r key event after sets =
-    let later = soon_later a.moment after in
-    set_only a b r key event (moment_after a.moment after) (IsDueAfter after a.moment) sets (λ p key event due. (omega (arith, due, later.0), omega (arith, due, later.1)))
+-- its event was set: it keeps its role, and is roused
+pub main_roused : (a b : Context) (action : Action) (slot : Option StageContinuation) (t : StageContinuation)
+    (soon : Bool) (due : ℕ) → slot ≡ Some t
+    → Sets a.log b.log (Ok action) t.key (if soon then Immediate else Timeout) due 0 → b.roles ≡ a.roles
+    → KeepsStage a b slot (Some (record t { roused = true }))
+main_roused a b action slot t soon due is sets roles =
+    subst (λ (s : Option StageContinuation). KeepsStage a b s (Some (record t { roused = true }))) (sym is)
+    (record {
+      of_stage = λ role.
+          roused_if a b (set_keeps a b (Ok action) t.key (if soon then Immediate else Timeout) due sets roles)
+          role t (set_event a b (Ok action) t.key (if soon then Immediate else Timeout) due sets
+          (works_soon soon));
+      still = λ roused. refl;
+      same = refl;
+    })
 
 pub due_rests : (a : Context) (after : ℕ) → SetsOnly (IsDueAfter after a.moment) a a
 due_rests a after = only_none (IsDueAfter after a.moment) a
 
 -- so it is where something was destroyed then
-pub due_less : (a b c : Context) (after : ℕ) → SetsOnly (IsDueAfter after a.moment) a b → IsLess b.log.state c.log.state → SetsOnly (IsDueAfter after a.moment) a c
+pub due_less : (a b c : Context) (after : ℕ) → SetsOnly (IsDueAfter after a.moment) a b
+    → IsLess b.log.state c.log.state → SetsOnly (IsDueAfter after a.moment) a c
 due_less a b c after only less = λ n p none there. only n p none (less.from n p there)
-
-pub main_rests : (a : Context) (slot : Option StageContinuation) → SetsOnly (IsOfMain slot) a a
-main_rests a slot = only_none (IsOfMain slot) a
-
--- ---- it is made
-
-pub made_acts : (a b : Context) (n : ℕ) → Grows a b → b.log.state.held ≡ true → SameEvents a.log.state b.log.state → ActsWithin n a b
-made_acts a b n grows turn events = record {
-  grows = grows;
-  turn = turn;
-  plain = λ plain. subst AllPlain (sym events.pending) plain;
-  few = record { next = omega (arith, events.next); pending = omega (arith, ap length events.pending) };
-}

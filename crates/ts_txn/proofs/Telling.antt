@@ -1,22 +1,25 @@
 -- A transaction tells its number where its links tell theirs, as links in memory do.
-use Rattle.std.proofs.Common.{ℕ, List, true, Option, Some, None, refl}
+use Rattle.std.proofs.Common.{◌≡◌, ◌&&◌, ℕ, List, Bool, true, false, Option, Some, None, refl, sym, subst}
 use Rattle.std.specs.Prelude.{IsSome}
-use Rattle.std.specs.Arc.{arc_value}
+use Rattle.ts_config.specs.declared.setup.TransformLine.{TransformLine}
 use Rattle.ts_journal.specs.declared.entry.Pending.{Pending}
-use Rattle.ts_link.specs.Link.{Look}
+use Rattle.ts_link.specs.declared.link.Link as link
+use Rattle.ts_upstream.specs.declared.upstream.Upstream as upstream
+use Rattle.ts_transform.specs.declared.transform.Transform as transform
 use Rattle.ts_link.specs.MemLink.{LinkState, look_of}
 use Rattle.ts_upstream.specs.Uploads.{both}
-use Rattle.ts_txn.specs.Lowering.{agains_left, if_told, number_left, upload_in}
-use Rattle.ts_txn.specs.LoweringCourse.{course_left, transaction_left}
-use Rattle.ts_txn.specs.View.{side_if, upload_told, view_of}
+use Rattle.ts_phases.specs.Lowering.{agains_left, if_told, number_left, upload_in}
+use Rattle.ts_txn.specs.LoweringCourse.{number_if, parts_left, transaction_left}
+use Rattle.ts_phases.specs.View.{side_if, upload_of, upload_told, view_of}
 use Rattle.ts_txn.specs.declared.course.Course.{Course}
 use Rattle.ts_txn.specs.declared.course.Course.TheVariants as K
-use Rattle.ts_txn.specs.declared.parts.Core.{Core}
-use Rattle.ts_txn.specs.declared.parts.Peer.{Peer}
-use Rattle.ts_txn.specs.declared.phase.Phase.{Phase}
-use Rattle.ts_txn.specs.declared.phase.Phase.TheVariants as P
+use Rattle.ts_phases.specs.declared.parts.Core.{Core}
+use Rattle.ts_phases.specs.declared.parts.Peer.{Peer}
+use Rattle.ts_phases.specs.declared.phase.Phase.{Phase}
+use Rattle.ts_phases.specs.declared.phase.Phase.TheVariants as P
 
-some_told : (again upload : Option ℕ) (f : ℕ → ℕ → ℕ) → IsSome again → IsSome upload → IsSome (if_told again upload f)
+some_told : (again upload : Option ℕ) (f : ℕ → ℕ → ℕ) → IsSome again → IsSome upload
+    → IsSome (if_told again upload f)
 some_told None upload f told also = cc
 some_told (Some n) None f told also = cc
 some_told (Some n) (Some m) f told also = refl
@@ -35,19 +38,30 @@ some_upload upload (P.TxnClose end) told = refl
 some_upload upload (P.Ended end) told = refl
 some_upload upload _ told = told
 
-module _ {C O Q : Type 0} (client : C → Look) (origin : O → Look) (left : C → O → Option ℕ) (rest : Q → List ℕ → List ℕ) (core : Core C O) where
-  some_course : (course : Course Q) → IsSome (agains_left (view_of client origin core)) → IsSome (upload_told left core.client.link core.origin)
-      → IsSome (course_left (arc_value core.setup) rest (upload_told left core.client.link core.origin) (view_of client origin core) course)
+-- the number of a transaction is told where both links tell
+some_if : (a b : Bool) (m : Option ℕ) → a ≡ true → b ≡ true → IsSome m → IsSome (number_if (a && b) m)
+some_if true true m told also some = some
+some_if true false m told also some = cc
+some_if false b m told also some = cc
+
+module _ {C O Q : Type 0} (client : link.Ghosts C) (origin : link.Ghosts O) (pair : upstream.Ghosts O C)
+    (stage : transform.Ghosts Q TransformLine) (core : Core C O) where
+  some_course : (course : Course Q) → IsSome (agains_left (view_of client origin core))
+      → IsSome (upload_of pair core) → IsSome (parts_left client origin pair stage core course)
   some_course (K.Phased p) agains uploads = some_told _ _ _ agains (some_upload _ p uploads)
   some_course _ agains uploads = some_told _ _ _ agains refl
 
   -- where they tell how many Again answers and how much upload they have left
-  pub tells : (course : Course Q) (pending : List Pending) → IsSome (agains_left (view_of client origin core)) → IsSome (upload_told left core.client.link core.origin)
-      → IsSome (transaction_left true true client origin left rest core course pending)
-  tells course pending agains uploads = some_number pending _ (some_course course agains uploads)
+  pub tells : (course : Course Q) (pending : List Pending) → client.tells ≡ true → origin.tells ≡ true
+      → IsSome (agains_left (view_of client origin core)) → IsSome (upload_of pair core)
+      → IsSome (transaction_left client origin pair stage core course pending)
+  tells course pending told also agains uploads =
+      some_if client.tells origin.tells _ told also
+      (some_number pending _ (some_course course agains uploads))
 
 -- links in memory do
-mem_agains : (c : LinkState) (o : Option (Peer LinkState)) → IsSome (both (look_of c).agains (side_if look_of o).look.agains)
+mem_agains : (c : LinkState) (o : Option (Peer LinkState))
+    → IsSome (both (look_of c).agains (side_if look_of o).look.agains)
 mem_agains c None = refl
 mem_agains c (Some p) = refl
 
@@ -55,7 +69,26 @@ mem_uploads : (c : LinkState) (o : Option (Peer LinkState)) → IsSome (upload_t
 mem_uploads c None = refl
 mem_uploads c (Some p) = refl
 
-pub mem_tells : {Q : Type 0} (rest : Q → List ℕ → List ℕ) (core : Core LinkState LinkState) (course : Course Q) (pending : List Pending)
-    → IsSome (transaction_left true true look_of look_of (λ x y. Some 0) rest core course pending)
-mem_tells rest core course pending =
-    tells look_of look_of (λ x y. Some 0) rest core course pending (mem_agains core.client.link core.origin) (mem_uploads core.client.link core.origin)
+-- What a transaction counts on of two links in memory: they tell what they hold, and no upload is left of
+-- them.
+pub record AreInMemory (client origin : link.Ghosts LinkState) (pair : upstream.Ghosts LinkState LinkState)
+    : Type 0 where
+  pub told : client.tells ≡ true
+  pub also : origin.tells ≡ true
+  pub client_look : client.look ≡ look_of
+  pub origin_look : origin.look ≡ look_of
+  pub uploads : pair.upload_left ≡ (λ x y. Some 0)
+
+module _ {Q : Type 0} (client origin : link.Ghosts LinkState) (pair : upstream.Ghosts LinkState LinkState)
+    (stage : transform.Ghosts Q TransformLine) (memory : AreInMemory client origin pair) where
+  pub mem_tells : (core : Core LinkState LinkState) (course : Course Q) (pending : List Pending)
+      → IsSome (transaction_left client origin pair stage core course pending)
+  mem_tells core course pending =
+      tells client origin pair stage core course pending memory.told memory.also
+      (subst (λ look. IsSome (both (look core.client.link).agains
+      (side_if origin.look core.origin).look.agains))
+      (sym memory.client_look)
+      (subst (λ look. IsSome (both (look_of core.client.link).agains (side_if look core.origin).look.agains))
+      (sym memory.origin_look) (mem_agains core.client.link core.origin)))
+      (subst (λ left. IsSome (upload_told left core.client.link core.origin)) (sym memory.uploads)
+      (mem_uploads core.client.link core.origin))

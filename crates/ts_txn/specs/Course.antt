@@ -5,18 +5,29 @@ use Rattle.std.specs.Arc.{arc_value}
 use Rattle.ts_config.specs.declared.setup.Setup.{Setup}
 use Rattle.ts_hooks.specs.declared.txn_end.TxnEnd.{TxnEnd}
 use Rattle.ts_hooks.specs.declared.txn_end.TxnEnd.TheVariants as E
-use Rattle.ts_link.specs.Link.{Look}
-use Rattle.ts_txn.specs.View.{OriginRefuses, View, view_of}
-use Rattle.ts_txn.specs.Finishing.{IsFinishing}
-use Rattle.ts_txn.specs.Relaying.{RelaysBody}
-use Rattle.ts_txn.specs.Holding.{IfTold, PhaseFact}
-use Rattle.ts_txn.specs.declared.finishing.BodyStep.{BodyStep}
-use Rattle.ts_txn.specs.declared.finishing.BodyStep.TheVariants as S
+use Rattle.ts_config.specs.declared.setup.TransformLine.{TransformLine}
+use Rattle.ts_link.specs.declared.link.Link as link
+use Rattle.ts_upstream.specs.declared.upstream.Upstream as upstream
+use Rattle.ts_transform.specs.declared.transform.Transform as transform
+use Rattle.ts_phases.specs.View.{OriginRefuses, View, view_of}
+use Rattle.ts_relay.specs.Finishing.{IsFinishing}
+use Rattle.ts_relay.specs.Relaying.{RelaysBody}
+use Rattle.ts_phases.specs.Holding.{IfTold, PhaseFact}
+use Rattle.ts_relay.specs.declared.last_writes.BodyStep.{BodyStep}
+use Rattle.ts_relay.specs.declared.last_writes.BodyStep.TheVariants as S
 use Rattle.ts_txn.specs.declared.course.Course.{Course}
 use Rattle.ts_txn.specs.declared.course.Course.TheVariants as K
-use Rattle.ts_txn.specs.declared.parts.Core.{Core}
-use Rattle.ts_txn.specs.declared.phase.Phase.TheVariants as P
-use Rattle.ts_txn.specs.declared.relay.Relay.{Relay}
+use Rattle.ts_txn.specs.declared.course_leads.Lead.{Lead}
+use Rattle.ts_txn.specs.declared.course_leads.Lead.TheVariants as L
+use Rattle.ts_phases.specs.declared.parts.Core.{Core}
+use Rattle.ts_phases.specs.declared.phase.Phase.TheVariants as P
+use Rattle.ts_relay.specs.declared.relay.Relay.{Relay}
+
+-- how far a transaction is that was led so
+abbrev pub course_led : {Q : Type 0} → Lead → Course Q
+course_led L.TxnStart = K.Phased P.TxnStart
+course_led (L.Finishing end) = K.Finishing end
+course_led (L.TxnClose end) = K.Phased (P.TxnClose end)
 
 -- where a transaction is after a step of a body
 abbrev pub course_after : {Q : Type 0} → Relay Q → BodyStep → Course Q
@@ -40,9 +51,9 @@ module _ (setup : Setup) (refuses : Type 0) {Q : Type 0} (rest : Q → List ℕ 
   CourseFact v (K.Relaying r) = RelaysBody setup refuses rest v r.driven.chain r.body
   CourseFact v (K.Finishing end) = IsFinishing setup refuses v end
 
-module _ {C O Q : Type 0} (ctells otells : Bool) (client : C → Look) (origin : O → Look)
-    (refuses : O → List ℕ → Type 0) (rest : Q → List ℕ → List ℕ) where
+module _ {C O Q : Type 0} (client : link.Ghosts C) (origin : link.Ghosts O) (both : upstream.Ghosts O C)
+    (stage : transform.Ghosts Q TransformLine) where
   -- what holds of a transaction on its course
   abbrev pub CourseHolds : Core C O → Course Q → Type 0
-  CourseHolds t course = IfTold ctells otells
-      (CourseFact (arc_value t.setup) (OriginRefuses client refuses t) rest (view_of client origin t) course)
+  CourseHolds t course = IfTold client.tells origin.tells (CourseFact (arc_value t.setup)
+      (OriginRefuses client both t) stage.rest (view_of client origin t) course)

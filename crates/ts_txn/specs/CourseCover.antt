@@ -12,19 +12,46 @@ use Rattle.ts_transform.specs.Driving.{ActsWithin, AreNamed, HasLiveIf, IsNamedI
 use Rattle.ts_transform.specs.Flow.{EndsInOrder}
 use Rattle.ts_transform.specs.Seats.{AllSeated}
 use Rattle.ts_transform.specs.declared.continuation.StageContinuation.{StageContinuation}
-use Rattle.ts_txn.specs.Cover.{HasNextEvent, Idles, Proceeds}
-use Rattle.ts_txn.specs.Duties.{AreBodyEndsRoused, IsBodyCovered, IsBodyJoined, RunsOr, UnlessLacking, WhileGoes, body_seats, relay_seats}
-use Rattle.ts_txn.specs.View.{View}
+use Rattle.ts_phases.specs.Cover.{Proceeds, is_fresh}
+use Rattle.ts_relay.specs.Duties.{AreBodyEndsRoused, IsBodyCovered, IsBodyJoined, RunsOr, UnlessLacking, WhileGoes, body_seats, relay_seats}
+use Rattle.ts_phases.specs.View.{View}
 use Rattle.ts_txn.specs.declared.course.Course.{Course}
 use Rattle.ts_txn.specs.declared.course.Course.TheVariants as K
-use Rattle.ts_txn.specs.declared.driver.TheConstants.{MAIN, RETRY}
-use Rattle.ts_txn.specs.declared.finishing.BodyStep.{BodyStep}
-use Rattle.ts_txn.specs.declared.finishing.BodyStep.TheVariants as S
-use Rattle.ts_txn.specs.declared.phase.Next.{Next}
-use Rattle.ts_txn.specs.declared.phase.Next.TheVariants as N
-use Rattle.ts_txn.specs.declared.phase.Phase.TheVariants as P
-use Rattle.ts_txn.specs.declared.relay.Relay.{Relay}
-use Rattle.ts_txn.specs.declared.relay.TheConstants.{READER}
+use Rattle.ts_relay.specs.declared.relay.TheConstants.{MAIN, RETRY, READER}
+use Rattle.ts_relay.specs.declared.last_writes.BodyStep.{BodyStep}
+use Rattle.ts_relay.specs.declared.last_writes.BodyStep.TheVariants as S
+use Rattle.ts_phases.specs.declared.phase.Next.{Next}
+use Rattle.ts_phases.specs.declared.phase.Next.TheVariants as N
+use Rattle.ts_phases.specs.declared.phase.Phase.{Phase}
+use Rattle.ts_phases.specs.declared.phase.Phase.TheVariants as P
+use Rattle.ts_relay.specs.declared.relay.Relay.{Relay}
+
+-- a transaction was not started
+abbrev pub is_fresh_on : {Q : Type 0} → Course Q → Bool
+is_fresh_on (K.Phased p) = is_fresh p
+is_fresh_on (K.Relaying r) = false
+is_fresh_on (K.Finishing end) = false
+
+-- an event of the continuation
+abbrev pub IsOfMain : Option StageContinuation → Pending → Type 0
+IsOfMain None p = ⊥
+IsOfMain (Some t) p = p.key ≡ t.key
+
+-- before it was started, and once it has ended, a transaction has no continuation, and so nothing is pending
+abbrev pub Idles : Phase → Option StageContinuation → Type 0
+Idles P.Fresh main = main ≡ None
+Idles (P.Ended end) main = main ≡ None
+Idles _ main = ⊤
+
+-- while it goes on, its next step has an event
+abbrev pub HasNextEvent : Phase → Option StageContinuation → Type 0
+HasNextEvent P.Fresh main = ⊤
+HasNextEvent (P.Ended end) main = ⊤
+HasNextEvent _ main = IsRousedIf main
+
+-- or no event can be set, since the numbers of its group are used up
+abbrev pub HasNextEventOr : Phase → Option StageContinuation → ℕ → Type 0
+HasNextEventOr phase main next = HasNextEvent phase main ⊎ (GREATEST ≤ next)
 
 -- the continuations of a transaction
 abbrev pub course_seats : {Q : Type 0} → Option StageContinuation → Course Q → List (Option StageContinuation)
@@ -85,16 +112,6 @@ StaysOnOrLacks {Q} old new = (new ≡ old) ⊎ (new ≡ K.Phased (P.Ended E.NoMe
 -- a handler's calls set one event, or none
 abbrev pub SetsOneOrNone : Context → Context → Type 0
 SetsOneOrNone a b = ActsWithin 1 a b
-
--- how many events are set at most where a body is left, and behind the step of a phase
-abbrev pub set_leaving : BodyStep → ℕ
-set_leaving S.Goes = 0
-set_leaving S.Waits = 0
-set_leaving step = 1
-
-abbrev pub set_after : Next → ℕ
-set_after N.Done = 0
-set_after next = 1
 
 -- used-up event numbers never end it, where its first continuation is live
 abbrev pub StaysWhereSpent : {Q : Type 0} → Course Q → Course Q → Option StageContinuation → Context → Type 0

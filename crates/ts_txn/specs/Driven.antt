@@ -5,30 +5,31 @@ use Rattle.ts_group.specs.Context.{Context}
 use Rattle.ts_group.specs.Entries.{Grows}
 use Rattle.ts_hooks.specs.declared.txn_end.TxnEnd.{TxnEnd}
 use Rattle.ts_hooks.specs.declared.txn_end.TxnEnd.TheVariants as E
-use Rattle.ts_link.specs.Link.{Look}
+use Rattle.ts_link.specs.declared.link.Link as link
+use Rattle.ts_upstream.specs.declared.upstream.Upstream as upstream
 use Rattle.ts_transform.specs.Driving.{ActsWithin, IsDueAfter, SetsOnly}
 use Rattle.ts_transform.specs.declared.continuation.StageContinuation.{StageContinuation}
-use Rattle.ts_txn.specs.BodyLinks.{BeginsInTime, HandlesLinks, MindsBody, SendsRest}
+use Rattle.ts_relay.specs.BodyLinks.{BeginsInTime, HandlesLinks, MindsBody, SendsRest}
 use Rattle.ts_txn.specs.Course.{course_after, finish_after}
-use Rattle.ts_txn.specs.Cover.{is_fresh, is_fresh_on}
-use Rattle.ts_txn.specs.CourseCover.{LedAfter, StaysOnOrLacks, pause_of, set_leaving}
-use Rattle.ts_txn.specs.Duties.{DoesOwnWork}
-use Rattle.ts_txn.specs.Entering.{QuietLinks}
-use Rattle.ts_txn.specs.Holding.{IfTold, StepKeeps}
-use Rattle.ts_txn.specs.Steps.{LeavesSides, MindsLinksIn, WaitsRightly}
-use Rattle.ts_txn.specs.View.{View, view_of}
+use Rattle.ts_phases.specs.Cover.{is_fresh}
+use Rattle.ts_txn.specs.CourseCover.{is_fresh_on, LedAfter, StaysOnOrLacks, pause_of}
+use Rattle.ts_relay.specs.Duties.{set_leaving, DoesOwnWork}
+use Rattle.ts_relay.specs.Entering.{QuietLinks}
+use Rattle.ts_phases.specs.Holding.{IfTold, StepKeeps}
+use Rattle.ts_phases.specs.Steps.{LeavesSides, MindsLinksIn, WaitsRightly}
+use Rattle.ts_phases.specs.View.{View, view_of}
 use Rattle.ts_txn.specs.declared.course.Course.{Course}
 use Rattle.ts_txn.specs.declared.course.Course.TheVariants as K
-use Rattle.ts_txn.specs.declared.course_leaving.TheConstants.{AT_ONCE}
-use Rattle.ts_txn.specs.declared.driver.TheConstants.{RETRY}
-use Rattle.ts_txn.specs.declared.finishing.BodyStep.{BodyStep}
-use Rattle.ts_txn.specs.declared.finishing.BodyStep.TheVariants as S
-use Rattle.ts_txn.specs.declared.parts.Core.{Core}
-use Rattle.ts_txn.specs.declared.phase.Next.{Next}
-use Rattle.ts_txn.specs.declared.phase.Next.TheVariants as N
-use Rattle.ts_txn.specs.declared.phase.Phase.{Phase}
-use Rattle.ts_txn.specs.declared.phase.Phase.TheVariants as P
-use Rattle.ts_txn.specs.declared.relay.Relay.{Relay}
+use Rattle.ts_txn.specs.declared.course_leads.TheConstants.{AT_ONCE}
+use Rattle.ts_relay.specs.declared.relay.TheConstants.{RETRY}
+use Rattle.ts_relay.specs.declared.last_writes.BodyStep.{BodyStep}
+use Rattle.ts_relay.specs.declared.last_writes.BodyStep.TheVariants as S
+use Rattle.ts_phases.specs.declared.parts.Core.{Core}
+use Rattle.ts_phases.specs.declared.phase.Next.{Next}
+use Rattle.ts_phases.specs.declared.phase.Next.TheVariants as N
+use Rattle.ts_phases.specs.declared.phase.Phase.{Phase}
+use Rattle.ts_phases.specs.declared.phase.Phase.TheVariants as P
+use Rattle.ts_relay.specs.declared.relay.Relay.{Relay}
 
 -- how long after a step the next one is made, in milliseconds
 abbrev pub delay_of : Next → ℕ
@@ -60,13 +61,12 @@ DueTo main next (K.Phased p) a b = SetsOnly (IsDueAfter (delay_of next) a.moment
 DueTo main next (K.Relaying r) a b = BeginsOnTime main r a b
 DueTo main next (K.Finishing end) a b = ⊥
 
-module _ {C O Q : Type 0} (ctells otells : Bool) (client : C → Look) (origin : O → Look)
-    (paired : C → O → Type 0) (refuses : O → List ℕ → Type 0) (left : C → O → Option ℕ)
+module _ {C O Q : Type 0} (client : link.Ghosts C) (origin : link.Ghosts O) (both : upstream.Ghosts O C)
     (s t : Core C O) where
   -- where the step of a phase leads: the faults and the waits of the links are minded
   abbrev pub MindsCourse : Phase → Next → Course Q → Type 0
   MindsCourse old next (K.Phased new) =
-      MindsLinksIn ctells otells client origin refuses left s t old (record { phase = new; next = next })
+      MindsLinksIn client origin both s t old (record { phase = new; next = next })
   MindsCourse old next (K.Relaying r) = BeginsIn old (view_of client origin s) (view_of client origin t)
   MindsCourse old next (K.Finishing end) = ⊥
 
@@ -76,7 +76,8 @@ module _ {C O Q : Type 0} (ctells otells : Bool) (client : C → Look) (origin :
     pub minds : (new ≡ K.Phased (P.Ended E.NoMemory)) ⊎ ((t ≡ s) × (new ≡ K.Phased old))
         ⊎ MindsCourse old next new
     pub waits : WaitsRightly next (view_of client origin s) (view_of client origin t)
-    pub leaves : IfTold ctells otells (LeavesSides old (view_of client origin s) (view_of client origin t))
+    pub leaves : IfTold client.tells origin.tells
+        (LeavesSides old (view_of client origin s) (view_of client origin t))
     pub closes : ClosesAs old new
     pub started : is_fresh old ≡ false → is_fresh_on new ≡ false
 
@@ -87,13 +88,13 @@ module _ {C O Q : Type 0} (ctells otells : Bool) (client : C → Look) (origin :
     pub led : LedAfter step (course_after after step) new
     pub client_late : Bool
     pub origin_late : Bool
-    pub minds : MindsBody ctells otells (view_of client origin s) (view_of client origin t) old.driven.chain
-        after.driven.chain step client_late origin_late
+    pub minds : MindsBody client.tells origin.tells (view_of client origin s) (view_of client origin t)
+        old.driven.chain after.driven.chain step client_late origin_late
 
   -- one of the last writes is made
   pub record TakesWrite (end : TxnEnd) (step : BodyStep) (new : Course Q) : Type 0 where
     pub led : StaysOnOrLacks (finish_after end step) new
-    pub rest : SendsRest ctells end (view_of client origin s) (view_of client origin t) step
+    pub rest : SendsRest client.tells end (view_of client origin s) (view_of client origin t) step
 
   -- it is, or nothing is done
   abbrev pub WritesOr : TxnEnd → BodyStep → Course Q → Type 0
@@ -108,7 +109,7 @@ module _ {C O Q : Type 0} (ctells otells : Bool) (client : C → Look) (origin :
 
   -- it stays the same transaction, of the same links
   pub record TakesEvent (old new : Course Q) : Type 0 where
-    pub keeps : StepKeeps client origin paired refuses s t
+    pub keeps : StepKeeps client origin both s t
     pub takes : TakesOn old new
 
   module _ (a b : Context) where
@@ -129,8 +130,8 @@ module _ {C O Q : Type 0} (ctells otells : Bool) (client : C → Look) (origin :
       pub own : DoesOwnWork role (view_of client origin s) (view_of client origin t)
       pub first : Grows a behind
       pub then : ActsWithin (set_leaving step) behind b
-      pub links : HandlesLinks ctells otells (view_of client origin s) (view_of client origin t) main old
-          after step a behind
+      pub links : HandlesLinks client.tells origin.tells (view_of client origin s) (view_of client origin t)
+          main old after step a behind
       pub due : SetsOnly (IsDueAfter AT_ONCE behind.moment) behind b
 
     pub record HandlesWrite (end : TxnEnd) (new : Course Q) : Type 0 where
@@ -145,5 +146,5 @@ module _ {C O Q : Type 0} (ctells otells : Bool) (client : C → Look) (origin :
     HandlesOn role main (K.Finishing end) new = HandlesWrite end new
 
     pub record HandlesEvent (role : ℕ) (main : Option StageContinuation) (old new : Course Q) : Type 0 where
-      pub keeps : StepKeeps client origin paired refuses s t
+      pub keeps : StepKeeps client origin both s t
       pub handles : HandlesOn role main old new

@@ -5,14 +5,17 @@ use Rattle.ts_config.specs.declared.setup.Setup.{Setup}
 use Rattle.ts_group.specs.Answers.{Falls}
 use Rattle.ts_group.specs.Context.{Context}
 use Rattle.ts_journal.specs.declared.entry.Pending.{Pending}
-use Rattle.ts_link.specs.Link.{Look}
-use Rattle.ts_txn.specs.Holding.{IfTold}
-use Rattle.ts_txn.specs.Lowering.{number_left, work_left}
-use Rattle.ts_txn.specs.LoweringBody.{IsOfLines, finish_left, relay_left}
-use Rattle.ts_txn.specs.View.{View, upload_told, view_of}
+use Rattle.ts_config.specs.declared.setup.TransformLine.{TransformLine}
+use Rattle.ts_link.specs.declared.link.Link as link
+use Rattle.ts_upstream.specs.declared.upstream.Upstream as upstream
+use Rattle.ts_transform.specs.declared.transform.Transform as transform
+use Rattle.ts_phases.specs.Holding.{IfTold}
+use Rattle.ts_phases.specs.Lowering.{number_left, work_left}
+use Rattle.ts_relay.specs.LoweringBody.{IsOfLines, finish_left, relay_left}
+use Rattle.ts_phases.specs.View.{View, upload_of, view_of}
 use Rattle.ts_txn.specs.declared.course.Course.{Course}
 use Rattle.ts_txn.specs.declared.course.Course.TheVariants as K
-use Rattle.ts_txn.specs.declared.parts.Core.{Core}
+use Rattle.ts_phases.specs.declared.parts.Core.{Core}
 
 module _ {Q : Type 0} (setup : Setup) (rest : Q → List ℕ → List ℕ) where
   -- what is left to do, by how far the transaction is
@@ -32,21 +35,20 @@ abbrev pub number_if : Bool → Option ℕ → Option ℕ
 number_if true n = n
 number_if false n = None
 
-module _ {C O Q : Type 0} (ctells otells : Bool) (client : C → Look) (origin : O → Look)
-    (left : C → O → Option ℕ) (rest : Q → List ℕ → List ℕ) where
+module _ {C O Q : Type 0} (client : link.Ghosts C) (origin : link.Ghosts O) (both : upstream.Ghosts O C)
+    (stage : transform.Ghosts Q TransformLine) where
   -- what the parts of a transaction have left to do
   abbrev pub parts_left : Core C O → Course Q → Option ℕ
-  parts_left core course = course_left (arc_value core.setup) rest
-      (upload_told left core.client.link core.origin) (view_of client origin core) course
+  parts_left core course =
+      course_left (arc_value core.setup) stage.rest (upload_of both core) (view_of client origin core) course
 
   -- The number of a transaction in its group: it has one where both links tell.
   abbrev pub transaction_left : Core C O → Course Q → List Pending → Option ℕ
   transaction_left core course pending =
-      number_if (ctells && otells) (number_left pending (parts_left core course))
+      number_if (client.tells && origin.tells) (number_left pending (parts_left core course))
 
   -- no event that is set raises it
   abbrev pub PaysEvents : Core C O → Core C O → Course Q → Course Q → Context → Context → Type 0
-  PaysEvents old new before after a b = IfTold ctells otells
+  PaysEvents old new before after a b = IfTold client.tells origin.tells
       (Falls (number_left a.log.state.pending (parts_left old before)) 0 (number_left b.log.state.pending
-      (course_left (arc_value old.setup) rest (upload_told left new.client.link new.origin)
-      (view_of client origin new) after)))
+      (course_left (arc_value old.setup) stage.rest (upload_of both new) (view_of client origin new) after)))

@@ -5,11 +5,11 @@ use Rattle.ts_config.specs.declared.setup.Setup.{Setup}
 use Rattle.ts_hooks.specs.declared.txn_end.TxnEnd.{TxnEnd}
 use Rattle.ts_link.specs.Link.{Look}
 use Rattle.ts_txn.specs.declared.making.TheConstants.{MOST_GROUPS, MOST_PLUGINS}
-use Rattle.ts_txn.specs.declared.parts.Peer.{Peer}
+use Rattle.ts_phases.specs.declared.parts.Peer.{Peer}
 use Rattle.ts_txn.specs.declared.course.Course.{Course}
 use Rattle.ts_txn.specs.declared.course.Course.TheVariants as K
-use Rattle.ts_txn.specs.declared.phase.Phase.{Phase}
-use Rattle.ts_txn.specs.declared.phase.Phase.TheVariants as P
+use Rattle.ts_phases.specs.declared.phase.Phase.{Phase}
+use Rattle.ts_phases.specs.declared.phase.Phase.TheVariants as P
 
 -- A setup has so few transform lines and hook plugin lines that a transaction takes it, and each of these
 -- plugins has a group, from this one on.

@@ -6,12 +6,13 @@ use Rattle.ts_config.specs.declared.setup.Setup.{Setup}
 use Rattle.ts_hooks.specs.declared.txn_end.TxnEnd.{TxnEnd}
 use Rattle.ts_hooks.specs.declared.txn_end.TxnEnd.TheVariants as E
 use Rattle.ts_journal.specs.declared.entry.TheConstants.{GREATEST}
-use Rattle.ts_link.specs.Link.{Look}
-use Rattle.ts_txn.specs.Cover.{is_fresh_on}
-use Rattle.ts_txn.specs.Ends.{EndFact, ShortEnd, WholeEnd}
-use Rattle.ts_txn.specs.Holding.{IfTold}
+use Rattle.ts_link.specs.declared.link.Link as link
+use Rattle.ts_upstream.specs.declared.upstream.Upstream as upstream
+use Rattle.ts_txn.specs.CourseCover.{is_fresh_on}
+use Rattle.ts_phases.specs.Ends.{EndFact, ShortEnd, WholeEnd}
+use Rattle.ts_phases.specs.Holding.{IfTold}
 use Rattle.ts_txn.specs.Making.{end_of}
-use Rattle.ts_txn.specs.View.{HasFailed, OriginRefuses, View, view_of}
+use Rattle.ts_phases.specs.View.{HasFailed, OriginRefuses, View, view_of}
 use Rattle.ts_txn.specs.declared.txn.Txn.{Txn}
 
 -- The client took what the block of all bytes of both links says: the whole answer, or its head and a front
@@ -26,12 +27,11 @@ pub record NeverFailed (v : View) : Type 0 where
   pub client : HasFailed v.client → ⊥
   pub origin : HasFailed v.origin → ⊥
 
-module _ {C O Q : Type 0} (ctells otells : Bool) (client : C → Look) (origin : O → Look)
-    (refuses : O → List ℕ → Type 0) where
+module _ {C O Q : Type 0} (client : link.Ghosts C) (origin : link.Ghosts O) (both : upstream.Ghosts O C) where
   -- what holds of one that has ended so, where its links tell
   abbrev pub HasEndedSo : Txn C O Q → TxnEnd → Type 0
-  HasEndedSo t end = IfTold ctells otells
-      (EndFact (arc_value t.core.setup) (OriginRefuses client refuses t.core)
+  HasEndedSo t end = IfTold client.tells origin.tells
+      (EndFact (arc_value t.core.setup) (OriginRefuses client both t.core)
       (view_of client origin t.core) end)
 
   -- One that was started, whose links tell and have not failed, for which memory did not lack, and whose
@@ -40,6 +40,6 @@ module _ {C O Q : Type 0} (ctells otells : Bool) (client : C → Look) (origin :
   RestsWithBlock t next =
       is_fresh_on t.course ≡ false → next < GREATEST → NeverFailed (view_of client origin t.core)
       → (end_of t.course ≡ Some E.NoMemory → ⊥)
-      → IfTold ctells otells ((end : TxnEnd) × (end_of t.course ≡ Some end)
-      × SendsBlock (arc_value t.core.setup) (OriginRefuses client refuses t.core)
+      → IfTold client.tells origin.tells ((end : TxnEnd) × (end_of t.course ≡ Some end)
+      × SendsBlock (arc_value t.core.setup) (OriginRefuses client both t.core)
       (view_of client origin t.core) end)

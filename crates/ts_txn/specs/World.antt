@@ -7,20 +7,22 @@ use Rattle.ts_group.specs.Context.{Context}
 use Rattle.ts_group.specs.declared.action.Named.{Named}
 use Rattle.ts_group.specs.declared.group.Group.{Group}
 use Rattle.ts_link.specs.Link.{IsSure, Look}
+use Rattle.ts_link.specs.declared.link.Link as link
+use Rattle.ts_upstream.specs.declared.upstream.Upstream as upstream
+use Rattle.ts_transform.specs.declared.transform.Transform as transform
 use Rattle.ts_transform.specs.declared.continuation.StageContinuation.{StageContinuation}
-use Rattle.ts_txn.specs.BodyLinks.{HoldsLittle}
+use Rattle.ts_relay.specs.BodyLinks.{HoldsLittle}
 use Rattle.ts_txn.specs.Course.{CourseHolds}
-use Rattle.ts_txn.specs.CourseCover.{IsCoveredOn, StaysOnOrLacks}
-use Rattle.ts_txn.specs.Entering.{ActsAsLines}
-use Rattle.ts_txn.specs.Holding.{IfTold, IsSameLink}
+use Rattle.ts_txn.specs.CourseCover.{IsCoveredOn, StaysOnOrLacks, is_fresh_on}
+use Rattle.ts_relay.specs.Entering.{ActsAsLines}
+use Rattle.ts_phases.specs.Holding.{IfTold, IsSameLink}
 use Rattle.ts_txn.specs.LoweringCourse.{IsOfLinesOn}
-use Rattle.ts_txn.specs.View.{IsPaired, View, view_of}
-use Rattle.ts_txn.specs.Cover.{is_fresh_on}
+use Rattle.ts_phases.specs.View.{IsPaired, View, view_of}
 use Rattle.ts_txn.specs.declared.course.Course.{Course}
 use Rattle.ts_txn.specs.declared.course.Course.TheVariants as K
-use Rattle.ts_txn.specs.declared.parts.Core.{Core}
-use Rattle.ts_txn.specs.declared.parts.Peer.{Peer}
-use Rattle.ts_txn.specs.declared.phase.Phase.TheVariants as P
+use Rattle.ts_phases.specs.declared.parts.Core.{Core}
+use Rattle.ts_phases.specs.declared.parts.Peer.{Peer}
+use Rattle.ts_phases.specs.declared.phase.Phase.TheVariants as P
 use Rattle.ts_txn.specs.declared.txn.Txn.{Txn}
 use Rattle.ts_txn.specs.declared.txn.TxnTag.{TxnTag}
 
@@ -34,18 +36,17 @@ HoldsLittleOn v (K.Phased p) = ⊤
 HoldsLittleOn v (K.Relaying r) = HoldsLittle v r.driven.chain
 HoldsLittleOn v (K.Finishing end) = ⊤
 
-module _ {C O Q : Type 0} (ctells otells : Bool) (client : C → Look) (origin : O → Look)
-    (paired : C → O → Type 0) (refuses : O → List ℕ → Type 0) (rest : Q → List ℕ → List ℕ)
-    (whole : TransformLine → List ℕ → List ℕ) where
+module _ {C O Q : Type 0} (client : link.Ghosts C) (origin : link.Ghosts O) (both : upstream.Ghosts O C)
+    (stage : transform.Ghosts Q TransformLine) where
   -- What its step may count on: it is where it is with right where its links tell, they belong together, the
   -- transforms do what the lines say, and a body that is passed on goes through such, with little of it held
   -- before them.
   pub record HoldsOn (core : Core C O) (course : Course Q) : Type 0 where
-    pub holds : CourseHolds ctells otells client origin refuses rest core course
-    pub pair : IsPaired paired core
-    pub acts : ActsAsLines whole
-    pub lines : IsOfLinesOn (arc_value core.setup) rest course
-    pub little : IfTold ctells otells (HoldsLittleOn (view_of client origin core) course)
+    pub holds : CourseHolds client origin both stage core course
+    pub pair : IsPaired both core
+    pub acts : ActsAsLines stage.whole
+    pub lines : IsOfLinesOn (arc_value core.setup) stage.rest course
+    pub little : IfTold client.tells origin.tells (HoldsLittleOn (view_of client origin core) course)
 
   -- so it stands, and each of its duties has an event
   pub record IsSoundOn (core : Core C O) (main : Option StageContinuation) (course : Course Q)

@@ -1,23 +1,20 @@
 //! How far a transaction is, and where an event leads it from there.
 ghost use Rattle.std.specs.Prelude.{◌≡◌, true};
 ghost use Rattle.ts_group.specs.Calls.{IsCalled};
-ghost use Rattle.ts_transform.specs.Driving.{ActsWithin};
 ghost use Rattle.ts_txn.specs.CourseCover.{IsAlone};
-ghost use Rattle.ts_txn.specs.Driven.{HandlesEvent};
+ghost use Rattle.ts_txn.specs.EventsOwed.{EventOwes};
 ghost use Rattle.ts_txn.specs.LoweringCourse.{PaysEvents};
-ghost use Rattle.ts_txn.specs.declared.driver.TheConstants.{MAIN};
-ghost use Rattle.ts_txn.specs.World.{HoldsOn, IsSoundNow, IsSoundOn, most_set};
+ghost use Rattle.ts_relay.specs.declared.relay.TheConstants.{MAIN};
+ghost use Rattle.ts_txn.specs.World.{HoldsOn, IsSoundOn};
 
-use crate::course_leaving::{leave, write_on};
-use crate::parts::Core;
-use crate::phase::{Phase, Request};
-use crate::relay::Relay;
-use crate::relay_closing::destroy_end;
+use crate::course_leads::{after_write, leave_body};
 use ts_config::TransformLine;
 use ts_group::Cx;
 use ts_hooks::TxnEnd;
 use ts_journal::Event;
 use ts_link::Link;
+use ts_phases::{Core, Phase, Request};
+use ts_relay::{Relay, begin_body, destroy_end, handle_body, queue_relay, send_rest};
 use ts_transform::{StageContinuation, Transform};
 use ts_upstream::Upstream;
 use ts_wire::ResponseHead;
@@ -34,7 +31,7 @@ pub enum Course<P> {
 }
 
 /// Handles an event of a role while a body is passed on, and answers where the transaction is then.
-pub fn relay_on<C: Link, O: Upstream<C>, P: Transform<Line = TransformLine> + Drop>(
+pub fn relay_event<C: Link, O: Upstream<C>, P: Transform<Line = TransformLine> + Drop>(
     core: &mut Core<C, O>,
     main: &mut Option<StageContinuation>,
     relay: Relay<P>,
@@ -44,48 +41,42 @@ pub fn relay_on<C: Link, O: Upstream<C>, P: Transform<Line = TransformLine> + Dr
 ) -> Course<P>
     requires turn { cx.old.log.state.held ≡ true }
     requires called { IsCalled
-        (λ s roles. IsSoundOn C.tells O.tells C.look O.look O.paired O.refuses P.rest P.whole
+        (λ s roles. IsSoundOn C.Link O.Link O.Upstream.own P.Transform
         core.old main.old (Course.Relaying relay) s.pending s.next roles)
         cx.old role event }
-    ensures sound { IsSoundNow C.tells O.tells C.look O.look O.paired O.refuses P.rest P.whole
-        core.new main.new result cx.new }
-    ensures within { ActsWithin most_set cx.old cx.new }
-    ensures handles { HandlesEvent C.tells O.tells C.look O.look O.paired O.refuses O.upload_left
-        core.old core.new cx.old cx.new role main.old (Course.Relaying relay) result }
-    ensures pays { PaysEvents C.tells O.tells C.look O.look O.upload_left P.rest
+    ensures owes { EventOwes C.Link O.Link O.Upstream.own P.Transform core.old core.new cx.old cx.new
+        role main.old main.new (Course.Relaying relay) result }
+    ensures pays { PaysEvents C.Link O.Link O.Upstream.own P.Transform
         core.old core.new (Course.Relaying relay) result cx.old cx.new }
 {
     let mut relay = relay;
-    let step = core.handle_body(main, &mut relay, role, event, cx);
-    leave(relay, step, main, cx)
+    let step = handle_body(core, main, &mut relay, role, event, cx);
+    leave_body(relay, step, main, cx)
 }
 
 /// Writes once of what was queued last, and answers where the transaction is then.
-pub fn finish_on<C: Link, O: Upstream<C>, P: Transform<Line = TransformLine> + Drop>(
+pub fn write_rest<C: Link, O: Upstream<C>, P: Transform<Line = TransformLine> + Drop>(
     core: &mut Core<C, O>,
     main: &mut Option<StageContinuation>,
     end: TxnEnd,
     cx: &mut Cx,
 ) -> Course<P>
     requires turn { cx.old.log.state.held ≡ true }
-    requires stands { HoldsOn C.tells O.tells C.look O.look O.paired O.refuses P.rest P.whole
+    requires stands { HoldsOn C.Link O.Link O.Upstream.own P.Transform
         core.old (Course.Finishing end) }
     requires alone { IsAlone main.old cx.old }
-    ensures sound { IsSoundNow C.tells O.tells C.look O.look O.paired O.refuses P.rest P.whole
-        core.new main.new result cx.new }
-    ensures within { ActsWithin most_set cx.old cx.new }
-    ensures handles { HandlesEvent C.tells O.tells C.look O.look O.paired O.refuses O.upload_left
-        core.old core.new cx.old cx.new MAIN main.old (Course.Finishing end) result }
-    ensures pays { PaysEvents C.tells O.tells C.look O.look O.upload_left P.rest
+    ensures owes { EventOwes C.Link O.Link O.Upstream.own P.Transform core.old core.new cx.old cx.new
+        MAIN main.old main.new (Course.Finishing end) result }
+    ensures pays { PaysEvents C.Link O.Link O.Upstream.own P.Transform
         core.old core.new (Course.Finishing end) result cx.old cx.new }
 {
-    let step = core.send_rest(end);
-    write_on(end, step, main, cx)
+    let step = send_rest(core, end);
+    after_write(end, step, main, cx)
 }
 
 /// Queues the client's head of a response that is passed on, and begins its body; it answers where the
 /// transaction is then.
-pub fn enter_on<C: Link, O: Upstream<C>, P: Transform<Line = TransformLine> + Drop>(
+pub fn begin_relay<C: Link, O: Upstream<C>, P: Transform<Line = TransformLine> + Drop>(
     core: &mut Core<C, O>,
     main: &mut Option<StageContinuation>,
     request: Request,
@@ -93,24 +84,20 @@ pub fn enter_on<C: Link, O: Upstream<C>, P: Transform<Line = TransformLine> + Dr
     cx: &mut Cx,
 ) -> Course<P>
     requires turn { cx.old.log.state.held ≡ true }
-    requires stands { HoldsOn C.tells O.tells C.look O.look O.paired O.refuses P.rest P.whole
+    requires stands { HoldsOn C.Link O.Link O.Upstream.own P.Transform
         core.old (Course.Phased (Phase.ResponseTransform request head)) }
     requires alone { IsAlone main.old cx.old }
-    ensures sound { IsSoundNow C.tells O.tells C.look O.look O.paired O.refuses P.rest P.whole
-        core.new main.new result cx.new }
-    ensures within { ActsWithin most_set cx.old cx.new }
-    ensures handles { HandlesEvent C.tells O.tells C.look O.look O.paired O.refuses O.upload_left
-        core.old core.new cx.old cx.new MAIN main.old (Course.Phased (Phase.ResponseTransform request head))
-        result }
-    ensures pays { PaysEvents C.tells O.tells C.look O.look O.upload_left P.rest
+    ensures owes { EventOwes C.Link O.Link O.Upstream.own P.Transform core.old core.new cx.old cx.new
+        MAIN main.old main.new (Course.Phased (Phase.ResponseTransform request head)) result }
+    ensures pays { PaysEvents C.Link O.Link O.Upstream.own P.Transform
         core.old core.new (Course.Phased (Phase.ResponseTransform request head)) result cx.old cx.new }
 {
-    let Ok(made) = core.queue_relay(&request, &head) else {
+    let Ok(made) = queue_relay(core, &request, &head) else {
         destroy_end(main, cx);
         return Course::Phased(Phase::LACKS);
     };
     let mut relay = made;
     cx.known();
-    let step = core.begin_body(main, &mut relay, cx);
-    leave(relay, step, main, cx)
+    let step = begin_body(core, main, &mut relay, cx);
+    leave_body(relay, step, main, cx)
 }

@@ -1,76 +1,69 @@
 //! Where an event leads a transaction, wherever it is on its course.
 ghost use Rattle.std.specs.Prelude.{◌≡◌, true};
 ghost use Rattle.ts_group.specs.Calls.{IsCalled};
-ghost use Rattle.ts_transform.specs.Driving.{ActsWithin};
 ghost use Rattle.ts_txn.specs.CourseCover.{IsAlone};
-ghost use Rattle.ts_txn.specs.Driven.{HandlesEvent};
+ghost use Rattle.ts_txn.specs.EventsOwed.{EventOwes};
 ghost use Rattle.ts_txn.specs.LoweringCourse.{PaysEvents};
-ghost use Rattle.ts_txn.specs.World.{HoldsOn, IsSoundNow, IsSoundOn, most_set};
+ghost use Rattle.ts_txn.specs.World.{HoldsOn, IsSoundOn};
 
-use crate::course::{Course, enter_on, finish_on, relay_on};
-use crate::course_leaving::step_on;
-use crate::driver::MAIN;
-use crate::parts::Core;
-use crate::phase::Phase;
+use crate::course::{Course, begin_relay, relay_event, write_rest};
+use crate::course_leads::after_step;
+use std::mem::{forget, replace};
 use ts_config::TransformLine;
 use ts_group::Cx;
 use ts_journal::Event;
 use ts_link::Link;
+use ts_phases::{Core, Phase};
+use ts_relay::MAIN;
 use ts_transform::{StageContinuation, Transform, unrouse, works};
 use ts_upstream::Upstream;
 
 // Makes the step of a phase at which no body begins, and answers where the transaction is then.
-fn step_phase<C: Link, O: Upstream<C>, P: Transform<Line = TransformLine> + Drop>(
+fn make_step<C: Link, O: Upstream<C>, P: Transform<Line = TransformLine> + Drop>(
     core: &mut Core<C, O>,
     main: &mut Option<StageContinuation>,
     phase: Phase,
     cx: &mut Cx,
 ) -> Course<P>
     requires turn { cx.old.log.state.held ≡ true }
-    requires stands { HoldsOn C.tells O.tells C.look O.look O.paired O.refuses P.rest P.whole
+    requires stands { HoldsOn C.Link O.Link O.Upstream.own P.Transform
         core.old (Course.Phased phase) }
     requires alone { IsAlone main.old cx.old }
-    ensures sound { IsSoundNow C.tells O.tells C.look O.look O.paired O.refuses P.rest P.whole
-        core.new main.new result cx.new }
-    ensures within { ActsWithin most_set cx.old cx.new }
-    ensures handles { HandlesEvent C.tells O.tells C.look O.look O.paired O.refuses O.upload_left
-        core.old core.new cx.old cx.new MAIN main.old (Course.Phased phase) result }
-    ensures pays { PaysEvents C.tells O.tells C.look O.look O.upload_left P.rest
+    ensures owes { EventOwes C.Link O.Link O.Upstream.own P.Transform core.old core.new cx.old cx.new
+        MAIN main.old main.new (Course.Phased phase) result }
+    ensures pays { PaysEvents C.Link O.Link O.Upstream.own P.Transform
         core.old core.new (Course.Phased phase) result cx.old cx.new }
 {
     let step = core.step(phase);
-    step_on(step, main, cx)
+    after_step(step, main, cx)
 }
 
 // Makes the step of a phase, and answers where the transaction is then: at one phase its body begins.
-fn phase_on<C: Link, O: Upstream<C>, P: Transform<Line = TransformLine> + Drop>(
+fn advance_phase<C: Link, O: Upstream<C>, P: Transform<Line = TransformLine> + Drop>(
     core: &mut Core<C, O>,
     main: &mut Option<StageContinuation>,
     phase: Phase,
     cx: &mut Cx,
 ) -> Course<P>
     requires turn { cx.old.log.state.held ≡ true }
-    requires stands { HoldsOn C.tells O.tells C.look O.look O.paired O.refuses P.rest P.whole
+    requires stands { HoldsOn C.Link O.Link O.Upstream.own P.Transform
         core.old (Course.Phased phase) }
     requires alone { IsAlone main.old cx.old }
-    ensures sound { IsSoundNow C.tells O.tells C.look O.look O.paired O.refuses P.rest P.whole
-        core.new main.new result cx.new }
-    ensures within { ActsWithin most_set cx.old cx.new }
-    ensures handles { HandlesEvent C.tells O.tells C.look O.look O.paired O.refuses O.upload_left
-        core.old core.new cx.old cx.new MAIN main.old (Course.Phased phase) result }
-    ensures pays { PaysEvents C.tells O.tells C.look O.look O.upload_left P.rest
+    ensures owes { EventOwes C.Link O.Link O.Upstream.own P.Transform core.old core.new cx.old cx.new
+        MAIN main.old main.new (Course.Phased phase) result }
+    ensures pays { PaysEvents C.Link O.Link O.Upstream.own P.Transform
         core.old core.new (Course.Phased phase) result cx.old cx.new }
 {
     match phase {
-        Phase::ResponseTransform { request, head } => enter_on(core, main, request, head, cx),
-        phase => step_phase(core, main, phase, cx),
+        Phase::ResponseTransform { request, head } => begin_relay(core, main, request, head, cx),
+        phase => make_step(core, main, phase, cx),
     }
 }
 
 /// Handles an event of a role, and answers where the transaction is then: while a body is passed on each
 /// role does its part, and else the first continuation makes the next step.
 #[tactic(auto, using(ts_group::proofs::Keeps::falls_refl))]
-pub fn handle_on<C: Link, O: Upstream<C>, P: Transform<Line = TransformLine> + Drop>(
+pub fn handle_event<C: Link, O: Upstream<C>, P: Transform<Line = TransformLine> + Drop>(
     core: &mut Core<C, O>,
     main: &mut Option<StageContinuation>,
     course: Course<P>,
@@ -80,19 +73,16 @@ pub fn handle_on<C: Link, O: Upstream<C>, P: Transform<Line = TransformLine> + D
 ) -> Course<P>
     requires turn { cx.old.log.state.held ≡ true }
     requires called { IsCalled
-        (λ s roles. IsSoundOn C.tells O.tells C.look O.look O.paired O.refuses P.rest P.whole
+        (λ s roles. IsSoundOn C.Link O.Link O.Upstream.own P.Transform
         core.old main.old course s.pending s.next roles)
         cx.old role event }
-    ensures sound { IsSoundNow C.tells O.tells C.look O.look O.paired O.refuses P.rest P.whole
-        core.new main.new result cx.new }
-    ensures within { ActsWithin most_set cx.old cx.new }
-    ensures handles { HandlesEvent C.tells O.tells C.look O.look O.paired O.refuses O.upload_left
-        core.old core.new cx.old cx.new role main.old course result }
-    ensures pays { PaysEvents C.tells O.tells C.look O.look O.upload_left P.rest
+    ensures owes { EventOwes C.Link O.Link O.Upstream.own P.Transform core.old core.new cx.old cx.new
+        role main.old main.new course result }
+    ensures pays { PaysEvents C.Link O.Link O.Upstream.own P.Transform
         core.old core.new course result cx.old cx.new }
 {
     match course {
-        Course::Relaying(relay) => relay_on(core, main, relay, role, event, cx),
+        Course::Relaying(relay) => relay_event(core, main, relay, role, event, cx),
         Course::Phased(phase) => {
             if role != MAIN {
                 return Course::Phased(phase);
@@ -101,7 +91,7 @@ pub fn handle_on<C: Link, O: Upstream<C>, P: Transform<Line = TransformLine> + D
                 return Course::Phased(phase);
             }
             unrouse(main);
-            phase_on(core, main, phase, cx)
+            advance_phase(core, main, phase, cx)
         }
         Course::Finishing { end } => {
             if role != MAIN {
@@ -111,20 +101,13 @@ pub fn handle_on<C: Link, O: Upstream<C>, P: Transform<Line = TransformLine> + D
                 return Course::Finishing { end };
             }
             unrouse(main);
-            finish_on(core, main, end, cx)
+            write_rest(core, main, end, cx)
         }
     }
 }
 
-// Takes the course out, and leaves another in its place.
-fn take<P: Drop>(course: &mut Course<P>) -> Course<P>
-    ensures { result ≡ course.old }
-{
-    std::mem::replace(course, Course::Phased(Phase::Fresh))
-}
-
 /// Handles an event of a role, in place.
-pub fn drive_on<C: Link, O: Upstream<C>, P: Transform<Line = TransformLine> + Drop>(
+pub fn advance<C: Link, O: Upstream<C>, P: Transform<Line = TransformLine> + Drop>(
     core: &mut Core<C, O>,
     main: &mut Option<StageContinuation>,
     course: &mut Course<P>,
@@ -134,17 +117,16 @@ pub fn drive_on<C: Link, O: Upstream<C>, P: Transform<Line = TransformLine> + Dr
 )
     requires turn { cx.old.log.state.held ≡ true }
     requires called { IsCalled
-        (λ s roles. IsSoundOn C.tells O.tells C.look O.look O.paired O.refuses P.rest P.whole
+        (λ s roles. IsSoundOn C.Link O.Link O.Upstream.own P.Transform
         core.old main.old course.old s.pending s.next roles)
         cx.old role event }
-    ensures sound { IsSoundNow C.tells O.tells C.look O.look O.paired O.refuses P.rest P.whole
-        core.new main.new course.new cx.new }
-    ensures within { ActsWithin most_set cx.old cx.new }
-    ensures handles { HandlesEvent C.tells O.tells C.look O.look O.paired O.refuses O.upload_left
-        core.old core.new cx.old cx.new role main.old course.old course.new }
-    ensures pays { PaysEvents C.tells O.tells C.look O.look O.upload_left P.rest
+    ensures owes { EventOwes C.Link O.Link O.Upstream.own P.Transform core.old core.new cx.old cx.new
+        role main.old main.new course.old course.new }
+    ensures pays { PaysEvents C.Link O.Link O.Upstream.own P.Transform
         core.old core.new course.old course.new cx.old cx.new }
 {
-    let was = take(course);
-    *course = handle_on(core, main, was, role, event, cx);
+    let was = replace(course, Course::Phased(Phase::Fresh));
+    let is = handle_event(core, main, was, role, event, cx);
+    // What stood there in the meantime owns nothing.
+    forget(replace(course, is));
 }

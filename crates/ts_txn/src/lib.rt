@@ -2,60 +2,16 @@
 //! block.
 #![tactic(auto)]
 
-mod acting;
-mod answering;
-mod asking;
-mod awaiting;
-mod block;
-mod bodies;
+mod continuation;
 mod course;
 mod course_events;
-mod course_leaving;
-mod driver;
-mod feeding;
-mod finding;
-mod finishing;
+mod course_leads;
 mod making;
-mod origins;
-mod own;
-mod parts;
-mod peers;
-mod phase;
-mod reading;
-mod relay;
-mod relay_closing;
-mod relay_duties;
-mod relay_entering;
-mod relay_events;
-mod relay_making;
-mod relay_reading;
-mod relay_rousing;
-mod relay_sides;
-mod relay_writing;
-mod relayed;
-mod rules;
-mod sides;
-mod stepping;
 mod txn;
 
-pub use acting::acts_on;
-pub use block::{Block, block_of, one_block};
-pub use driver::MAIN;
 pub use making::{MOST_GROUPS, MOST_PLUGINS, TxnParts};
-pub use own::OwnStatus;
-pub use relayed::client_framing;
-pub use rules::{apply_rules, is_denied};
+pub use ts_block::{
+    Block, OwnStatus, acts_on, apply_rules, block_of, client_framing, is_denied, one_block,
+};
+pub use ts_relay::MAIN;
 pub use txn::{Txn, TxnTag};
-
-#[cfg(test)]
-mod test_texts;
-#[cfg(test)]
-mod tests;
-#[cfg(test)]
-mod txn_tests;
-#[cfg(test)]
-mod txn_tests_bodies;
-#[cfg(test)]
-mod txn_tests_origins;
-#[cfg(test)]
-mod txn_tests_requests;

@@ -6,15 +6,13 @@ ghost use Rattle.ts_group.specs.declared.action.Named.{Named};
 ghost use Rattle.ts_hooks.specs.declared.txn_end.TxnEnd.{TxnEnd};
 ghost use Rattle.ts_journal.specs.declared.entry.Pending.{Pending};
 ghost use Rattle.ts_journal.specs.declared.entry.TheConstants.{GREATEST};
-ghost use Rattle.ts_txn.specs.Cover.{is_fresh_on};
-ghost use Rattle.ts_txn.specs.Entering.{ActsAsLines};
+ghost use Rattle.ts_txn.specs.CourseCover.{is_fresh_on};
+ghost use Rattle.ts_relay.specs.Entering.{ActsAsLines};
 ghost use Rattle.ts_txn.specs.Making.{ArePaired, HasFewLines, IsMadeOf, IsMadeOfIf, IsNewLink, IsNewLinkIf, base_if, end_of, end_of_phase, link_if};
 ghost use Rattle.ts_txn.specs.Resting.{HasEndedSo, RestsWithBlock};
 ghost use Rattle.ts_txn.specs.World.{IsSoundTxn};
 
 use crate::course::Course;
-use crate::parts::{Core, Peer, Sent};
-use crate::phase::Phase;
 use crate::txn::Txn;
 use std::alloc::Global;
 use std::sync::Arc;
@@ -22,6 +20,7 @@ use ts_config::{Setup, TransformLine};
 use ts_hooks::TxnEnd;
 use ts_iobuf::Waiting;
 use ts_link::{Link, NoMemory};
+use ts_phases::{Core, Peer, Phase, Sent};
 use ts_transform::Transform;
 use ts_upstream::Upstream;
 use ts_wire::Mode;
@@ -37,7 +36,9 @@ pub const MOST_GROUPS: u32 = 4_096;
 pub struct TxnParts<C, O> {
     /// The number that it was made with.
     pub number: u64,
+    /// The client's link.
     pub client: C,
+    /// The origin's link, if there is one.
     pub origin: Option<O>,
     /// The length of the client's head in bytes, 0 where none was queued.
     pub head: u64,
@@ -106,7 +107,7 @@ impl<C: Link + Drop, O: Upstream<C> + Drop, P: Transform<Line = TransformLine> +
         ensures links { IfOk result (λ t. IsMadeOf C.look client t.core.client
             × IsMadeOfIf O.look origin t.core.origin) }
         ensures sound { IfOk result (λ t. (next : ℕ) (roles : List Named) →
-            IsSoundTxn C.tells O.tells C.look O.look O.paired O.refuses P.rest P.whole t [] next roles) }
+            IsSoundTxn C.Link O.Link O.Upstream.own P.Transform t [] next roles) }
     {
         let client = make_peer(alloc, client)?;
         let origin = make_peer_if(alloc, origin)?;
@@ -135,18 +136,18 @@ impl<C: Link + Drop, O: Upstream<C> + Drop, P: Transform<Line = TransformLine> +
     pub fn end(&self) -> Option<TxnEnd>
         ensures end { result ≡ end_of self.now.course }
         ensures rests { result ≡ None → is_fresh_on self.now.course ≡ false → (next : ℕ) (roles : List Named)
-            → IsSoundTxn C.tells O.tells C.look O.look O.paired O.refuses P.rest P.whole
+            → IsSoundTxn C.Link O.Link O.Upstream.own P.Transform
             self.now [] next roles
             → GREATEST ≤ next }
         ensures law { (end : TxnEnd) → result ≡ Some end
             → (pending : List Pending) (next : ℕ) (roles : List Named)
-            → IsSoundTxn C.tells O.tells C.look O.look O.paired O.refuses P.rest P.whole
+            → IsSoundTxn C.Link O.Link O.Upstream.own P.Transform
             self.now pending next roles
-            → HasEndedSo C.tells O.tells C.look O.look O.refuses self.now end }
+            → HasEndedSo C.Link O.Link O.Upstream.own self.now end }
         ensures block { (next : ℕ) (roles : List Named)
-            → IsSoundTxn C.tells O.tells C.look O.look O.paired O.refuses P.rest P.whole
+            → IsSoundTxn C.Link O.Link O.Upstream.own P.Transform
             self.now [] next roles
-            → RestsWithBlock C.tells O.tells C.look O.look O.refuses self.now next }
+            → RestsWithBlock C.Link O.Link O.Upstream.own self.now next }
     {
         end_of(&self.course)
     }
@@ -215,7 +216,7 @@ impl<C: Link + Drop, O: Upstream<C> + Drop, P: Transform<Line = TransformLine> +
     }
 }
 
-// How a transaction has ended, if it has.
+// How a transaction has ended, if it has: only in its last phase.
 fn end_of<P>(course: &Course<P>) -> Option<TxnEnd>
     ensures { result ≡ end_of course.now }
 {

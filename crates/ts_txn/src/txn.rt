@@ -5,23 +5,21 @@ ghost use Rattle.ts_group.specs.Answers.{Falls};
 ghost use Rattle.ts_group.specs.Calls.{IsCalled};
 ghost use Rattle.ts_group.specs.Entries.{Grows};
 ghost use Rattle.ts_transform.specs.Driving.{ActsWithin, IsDueAfter, SetsOnly};
-ghost use Rattle.ts_txn.specs.Cover.{is_fresh_on};
-ghost use Rattle.ts_txn.specs.CourseCover.{SetsOneOrNone};
+ghost use Rattle.ts_txn.specs.CourseCover.{is_fresh_on, SetsOneOrNone};
 ghost use Rattle.ts_txn.specs.Driven.{HandlesEvent, TakesEvent};
 ghost use Rattle.ts_txn.specs.LoweringCourse.{transaction_left};
 ghost use Rattle.ts_txn.specs.World.{IsTxnOf, HasTxnBegun, IsSoundTxn, most_set};
 
+use crate::continuation::begin;
 use crate::course::Course;
-use crate::course_events::drive_on;
-use crate::course_leaving::AT_ONCE;
-use crate::driver::begin;
-use crate::parts::Core;
-use crate::phase::Phase;
+use crate::course_events::advance;
+use crate::course_leads::AT_ONCE;
 use std::snapshot::Snapshot;
 use ts_config::{Setup, TransformLine};
 use ts_group::{Asked, Cx, Want, World};
 use ts_journal::{Event, Slotted};
 use ts_link::Link;
+use ts_phases::{Core, Phase};
 use ts_transform::{StageContinuation, Transform};
 use ts_upstream::Upstream;
 
@@ -38,7 +36,9 @@ pub struct Txn<C, O, P> {
 /// no memory.
 #[derive(Drop)]
 pub struct TxnTag<C, O> {
+    /// The number that it was made with.
     pub number: u64,
+    /// What it was configured with.
     pub setup: Snapshot<Setup>,
     /// The group of the first plugin line.
     pub plugins_at: u32,
@@ -85,7 +85,6 @@ impl<C: Link + Drop, O: Upstream<C> + Drop, P: Transform<Line = TransformLine> +
     ghost follows_on = { λ t u v a b. tt };
 }
 
-#[tactic(auto, using(ts_group::proofs::Grows::grows, ts_group::proofs::Grows::grows_refl, ts_transform::proofs::Kept::acts_none, crate::proofs::Handling::sound_begun, crate::proofs::Handling::sound_asked, crate::proofs::Seating::due_rests, crate::proofs::Coverage::fresh_none, crate::proofs::Fitting::fits_event, crate::proofs::Fitting::fits_start, crate::proofs::Events::stays_started, crate::proofs::LoweringCourse::hears_same, crate::proofs::LoweringCourse::asked_same))]
 impl<C: Link + Drop, O: Upstream<C> + Drop, P: Transform<Line = TransformLine> + Drop> World
     for Txn<C, O, P> {
     type Question = ();
@@ -93,10 +92,10 @@ impl<C: Link + Drop, O: Upstream<C> + Drop, P: Transform<Line = TransformLine> +
     type Reply = ();
 
     ghost sound = { λ t s roles.
-        IsSoundTxn C.tells O.tells C.look O.look O.paired O.refuses P.rest P.whole t s.pending s.next roles };
+        IsSoundTxn C.Link O.Link O.Upstream.own P.Transform t s.pending s.next roles };
 
     ghost asking = { λ t s roles role group question.
-        IsSoundTxn C.tells O.tells C.look O.look O.paired O.refuses P.rest P.whole t s.pending s.next roles };
+        IsSoundTxn C.Link O.Link O.Upstream.own P.Transform t s.pending s.next roles };
 
     ghost right = { λ t group question reply. ⊤ };
 
@@ -105,7 +104,7 @@ impl<C: Link + Drop, O: Upstream<C> + Drop, P: Transform<Line = TransformLine> +
     ghost answers = { λ t question reply. ⊤ };
 
     // Where both links tell, each event that is handled lowers it.
-    ghost left = { λ t s. transaction_left C.tells O.tells C.look O.look O.upload_left P.rest
+    ghost left = { λ t s. transaction_left C.Link O.Link O.Upstream.own P.Transform
         t.core t.course s.pending };
 
     ghost only_asked = { λ tag. false };
@@ -115,16 +114,17 @@ impl<C: Link + Drop, O: Upstream<C> + Drop, P: Transform<Line = TransformLine> +
     ghost begun = { λ old new. HasTxnBegun old new };
 
     // A handler leads the same transaction on, or does nothing.
-    ghost called = { λ old new asked. TakesEvent C.tells O.tells C.look O.look O.paired O.refuses
-        O.upload_left old.core new.core old.course new.course };
+    ghost called = { λ old new asked. TakesEvent C.Link O.Link O.Upstream.own
+        old.core new.core old.course new.course };
 
     ghost heard = { λ old new asked. new ≡ old };
 
+    #[tactic(auto, using(crate::proofs::Fitting::fits_start))]
     fn start(&mut self, cx: &mut Cx)
         requires turn { cx.old.log.state.held ≡ true }
-        requires sound { IsSoundTxn C.tells O.tells C.look O.look O.paired O.refuses P.rest P.whole
+        requires sound { IsSoundTxn C.Link O.Link O.Upstream.own P.Transform
             self.old cx.old.log.state.pending cx.old.log.state.next cx.old.roles }
-        ensures sound { IsSoundTxn C.tells O.tells C.look O.look O.paired O.refuses P.rest P.whole
+        ensures sound { IsSoundTxn C.Link O.Link O.Upstream.own P.Transform
             self.new cx.new.log.state.pending cx.new.log.state.next cx.new.roles }
         ensures within { SetsOneOrNone cx.old cx.new }
         ensures begun { HasTxnBegun self.old self.new }
@@ -137,30 +137,31 @@ impl<C: Link + Drop, O: Upstream<C> + Drop, P: Transform<Line = TransformLine> +
         self.course = begin(&mut self.main, cx);
     }
 
+    #[tactic(auto, using(crate::proofs::Fitting::fits_event))]
     fn handle(&mut self, role: u32, event: Event, cx: &mut Cx) -> Want<()>
         requires turn { cx.old.log.state.held ≡ true }
         requires called { IsCalled
-            (λ s roles. IsSoundTxn C.tells O.tells C.look O.look O.paired O.refuses P.rest P.whole
+            (λ s roles. IsSoundTxn C.Link O.Link O.Upstream.own P.Transform
             self.old s.pending s.next roles)
             cx.old role event }
-        ensures sound { IsSoundTxn C.tells O.tells C.look O.look O.paired O.refuses P.rest P.whole
+        ensures sound { IsSoundTxn C.Link O.Link O.Upstream.own P.Transform
             self.new cx.new.log.state.pending cx.new.log.state.next cx.new.roles }
         ensures nothing { result ≡ Want.Nothing }
         ensures within { ActsWithin most_set cx.old cx.new }
-        ensures handles { HandlesEvent C.tells O.tells C.look O.look O.paired O.refuses O.upload_left
+        ensures handles { HandlesEvent C.Link O.Link O.Upstream.own
             self.old.core self.new.core cx.old cx.new role self.old.main self.old.course self.new.course }
-        ensures takes { TakesEvent C.tells O.tells C.look O.look O.paired O.refuses O.upload_left
+        ensures takes { TakesEvent C.Link O.Link O.Upstream.own
             self.old.core self.new.core self.old.course self.new.course }
         ensures lowers { (c : IsCalled
-            (λ s roles. IsSoundTxn C.tells O.tells C.look O.look O.paired O.refuses P.rest P.whole
+            (λ s roles. IsSoundTxn C.Link O.Link O.Upstream.own P.Transform
             self.old s.pending s.next roles)
             cx.old role event) → Falls
-            (transaction_left C.tells O.tells C.look O.look O.upload_left P.rest
+            (transaction_left C.Link O.Link O.Upstream.own P.Transform
             self.old.core self.old.course c.before.pending) 1
-            (transaction_left C.tells O.tells C.look O.look O.upload_left P.rest
+            (transaction_left C.Link O.Link O.Upstream.own P.Transform
             self.new.core self.new.course cx.new.log.state.pending) }
     {
-        drive_on(
+        advance(
             &mut self.core,
             &mut self.main,
             &mut self.course,
@@ -171,15 +172,17 @@ impl<C: Link + Drop, O: Upstream<C> + Drop, P: Transform<Line = TransformLine> +
         Want::Nothing
     }
 
+    #[tactic(auto, using(ts_group::proofs::Grows::grows_refl, crate::proofs::LoweringCourse::hears_same))]
     fn told(&mut self, _role: u32, _asked: Asked<(), ()>, _cx: &mut Cx)
         requires turn { _cx.old.log.state.held ≡ true }
-        requires sound { IsSoundTxn C.tells O.tells C.look O.look O.paired O.refuses P.rest P.whole
+        requires sound { IsSoundTxn C.Link O.Link O.Upstream.own P.Transform
             self.old _cx.old.log.state.pending _cx.old.log.state.next _cx.old.roles }
         ensures grows { Grows _cx.old _cx.new }
         ensures same { (_cx.new.log.state ≡ _cx.old.log.state) × (_cx.new.roles ≡ _cx.old.roles)
             × (self.new ≡ self.old) }
     {}
 
+    #[tactic(auto, using(crate::proofs::Handling::sound_asked, crate::proofs::LoweringCourse::asked_same))]
     fn asked(&mut self, _question: (), _cx: &mut Cx) {}
 
     ghost sound_taken = { λ t s turn seat roles h. h };

@@ -11,7 +11,9 @@ use Rattle.ts_group.specs.Context.{IsFresh}
 use Rattle.ts_group.specs.Entries.{Grows}
 use Rattle.ts_group.specs.Slot.{IsAtRest}
 use Rattle.ts_journal.specs.State.{State}
-use Rattle.ts_link.specs.Link.{Look}
+use Rattle.ts_link.specs.declared.link.Link as link
+use Rattle.ts_upstream.specs.declared.upstream.Upstream as upstream
+use Rattle.ts_transform.specs.declared.transform.Transform as transform
 use Rattle.ts_thread.specs.declared.ending.TheConstants.{ONLY_SEAT}
 use Rattle.ts_txn.specs.World.{HasTxnBegun, IsTxnOf}
 use Rattle.ts_txn.specs.declared.txn.Txn.{Txn}
@@ -23,44 +25,65 @@ on_true : (b : Bool) (P : Type 0) → P → OnTrue b P
 on_true true P holds = holds
 on_true false P holds = tt
 
-few_set : (first begun started given turns : ℕ) → first ≡ 1 → begun ≡ first → started ≤ begun + MOST_SET → given ≡ started → turns ≡ first_turn → given ≤ 8192 * turns + 1
+few_set : (first begun started given turns : ℕ) → first ≡ 1 → begun ≡ first → started ≤ begun + MOST_SET
+    → given ≡ started → turns ≡ first_turn → given ≤ 8192 * turns + 1
 few_set first begun started given turns a b c d e = omega (arith, a, b, c, d, e)
 
-module _ {W Q R T U : Type 0} (Fits : T → W → Type 0) (fresh begun started given : Group W Q R T U) (new : IsFresh 0 fresh.cx) (begins : BeginsTurn fresh.cx begun.cx first_turn ONLY_SEAT 0)
-    (grows : Grows begun.cx started.cx) (turn : StaysInTurn begun.cx.log.state started.cx.log.state) (gives : GivesTurn started.cx given.cx) where
+module _ {W Q R T U : Type 0} (Fits : T → W → Type 0) (fresh begun started given : Group W Q R T U)
+    (new : IsFresh 0 fresh.cx) (begins : BeginsTurn fresh.cx begun.cx first_turn ONLY_SEAT 0)
+    (grows : Grows begun.cx started.cx) (turn : StaysInTurn begun.cx.log.state started.cx.log.state)
+    (gives : GivesTurn started.cx given.cx) where
   -- it has had one turn
   pub one_turn : given.cx.log.state.turns ≡ first_turn
   one_turn = ap (λ (s : State). s.turns) gives.state ∙ turn.turns ∙ ap (λ (s : State). s.turns) begins.state
 
   pub no_turns_before : given.cx.log.base.turns ≡ 0
-  no_turns_before = ap (λ (s : State). s.turns) (gives.by.base ∙ grows.log.by.base ∙ begins.by.base ∙ new.base)
+  no_turns_before = ap (λ (s : State). s.turns)
+      (gives.by.base ∙ grows.log.by.base ∙ begins.by.base ∙ new.base)
 
   -- no turn is held, and few events were set
-  pub at_rest : (t : T) → Fits t begun.world → SetsAtMost Fits begun.world MOST_SET begun.cx started.cx → IsAtRest false given.cx.log.state
+  pub at_rest : (t : T) → Fits t begun.world → SetsAtMost Fits begun.world MOST_SET begun.cx started.cx
+      → IsAtRest false given.cx.log.state
   at_rest t fits few = (
     ap (λ (s : State). s.held) gives.state,
-    few_set fresh.cx.log.state.next begun.cx.log.state.next started.cx.log.state.next given.cx.log.state.next given.cx.log.state.turns
-        (ap (λ (s : State). s.next) new.state) (ap (λ (s : State). s.next) begins.state) (few t fits) (ap (λ (s : State). s.next) gives.state) one_turn,
+    few_set fresh.cx.log.state.next begun.cx.log.state.next started.cx.log.state.next given.cx.log.state.next
+        given.cx.log.state.turns
+        (ap (λ (s : State). s.next) new.state) (ap (λ (s : State). s.next) begins.state) (few t fits)
+        (ap (λ (s : State). s.next) gives.state) one_turn,
     tt,
   )
 
-module _ {C O Q A R U : Type 0} (ct ot : Bool) (client : C → Look) (origin : O → Look) (paired : C → O → Type 0) (refuses : O → List ℕ → Type 0) (rest : Q → List ℕ → List ℕ)
-    (whole : TransformLine → List ℕ → List ℕ) (tag : TxnTag C O) (t : Txn C O Q) (fresh begun started given : Group (Txn C O Q) A R (TxnTag C O) U) (made : IsTxnOf client origin (record tag { started = false }) t) where
+module _ {C O Q A R U : Type 0} (client : link.Ghosts C) (origin : link.Ghosts O) (both : upstream.Ghosts O C)
+    (stage : transform.Ghosts Q TransformLine) (tag : TxnTag C O) (t : Txn C O Q)
+    (fresh begun started given : Group (Txn C O Q) A R (TxnTag C O) U)
+    (made : IsTxnOf client.look origin.look (record tag { started = false }) t) where
   -- it fits its tag
-  pub begun_as : tag.started ≡ true → IsFresh 0 fresh.cx → fresh.world ≡ t → BeginsTurn fresh.cx begun.cx first_turn ONLY_SEAT 0 → begun.world ≡ fresh.world
-      → Grows begun.cx started.cx → StaysInTurn begun.cx.log.state started.cx.log.state → HasTxnBegun begun.world started.world
-      → SetsAtMost (IsTxnOf client origin) begun.world MOST_SET begun.cx started.cx → GivesTurn started.cx given.cx → given.world ≡ started.world
-      → Holds (IsSoundIn ct ot client origin paired refuses rest whole) given → HasBegunAs ct ot client origin paired refuses rest whole tag given
+  pub begun_as : tag.started ≡ true → IsFresh 0 fresh.cx → fresh.world ≡ t
+      → BeginsTurn fresh.cx begun.cx first_turn ONLY_SEAT 0 → begun.world ≡ fresh.world
+      → Grows begun.cx started.cx → StaysInTurn begun.cx.log.state started.cx.log.state
+      → HasTxnBegun begun.world started.world
+      → SetsAtMost (IsTxnOf client.look origin.look) begun.world MOST_SET begun.cx started.cx
+      → GivesTurn started.cx given.cx → given.world ≡ started.world
+      → Holds (IsSoundIn client origin both stage) given
+      → HasBegunAs client origin both stage tag given
   begun_as says new is begins same grows turn first few gives left sound =
-      let fits : IsTxnOf client origin (record tag { started = false }) begun.world = subst (IsTxnOf client origin (record tag { started = false })) (sym (same ∙ is)) made in
-      let then : IsTxnOf client origin (record tag { started = true }) started.world = fits_begun client origin (record tag { started = false }) begun.world started.world first fits in
+      let fits : IsTxnOf client.look origin.look (record tag { started = false }) begun.world = subst
+      (IsTxnOf client.look origin.look (record tag { started = false })) (sym (same ∙ is)) made in
+      let then : IsTxnOf client.look origin.look (record tag { started = true }) started.world = fits_begun
+      client.look origin.look (record tag { started = false }) begun.world started.world first fits in
       record {
         fits = (
-          subst (IsTxnOf client origin tag) (sym left) (subst (λ b. IsTxnOf client origin (record tag { started = b }) started.world) (sym says) then),
+          subst (IsTxnOf client.look origin.look tag) (sym left)
+              (subst (λ b. IsTxnOf client.look origin.look (record tag { started = b }) started.world)
+              (sym says) then),
           sound,
-          at_rest (IsTxnOf client origin) fresh begun started given new begins grows turn gives (record tag { started = false }) fits few,
-          on_true tag.first (given.cx.log.base.turns ≡ 0) (no_turns_before (IsTxnOf client origin) fresh begun started given new begins grows turn gives),
+          at_rest (IsTxnOf client.look origin.look) fresh begun started given new begins grows turn gives
+              (record tag { started = false }) fits few,
+          on_true tag.first (given.cx.log.base.turns ≡ 0)
+              (no_turns_before (IsTxnOf client.look origin.look) fresh begun started given new begins grows
+              turn gives),
         );
         started = says;
-        turns = one_turn (IsTxnOf client origin) fresh begun started given new begins grows turn gives;
+        turns = one_turn (IsTxnOf client.look origin.look) fresh begun started given new begins grows turn
+            gives;
       }

@@ -3,21 +3,34 @@
 use crate::exchange::{NUMBER, Told, run};
 use crate::lines::{FILE, STOCK};
 use crate::plan::giving;
-use crate::row::{Row, Verdict, check, get};
+use crate::refusal::Refusal;
+use crate::row::{Row, Verdict, check, check_block, get};
 use crate::stated::{
     ABC, BAD_GATEWAY, BAD_REQUEST, GET, GET_SENT, HEAD, HEAD_SENT, NOT_IMPLEMENTED,
 };
+use std::alloc::Global;
 use std::test::Fail;
 use ts_hooks::TxnEnd;
 use ts_wire::Mode;
 
-// A client that is answered without an origin's response: the origin gives nothing.
-fn own<'a>(request: &'a [u8], sent: &'a [u8], head: &'a [u8], body: &'a [u8]) -> Row<'a> {
+/// A client that is answered without an origin's response: the origin gives nothing.
+pub fn own<'a>(request: &'a [u8], sent: &'a [u8], head: &'a [u8], body: &'a [u8]) -> Row<'a> {
     Row {
         request,
         sent,
         ..get(b"", head, Mode::Plain, body)
     }
+}
+
+// The answer to a page whose origin gives none to pass on, and the same to a request for the head alone.
+fn bad_gateways<'a>(
+    origin: Option<&'a [u8]>,
+    get_sent: &'a [u8],
+    head_sent: &'a [u8],
+) -> [Row<'a>; 2] {
+    let page = own(GET, get_sent, BAD_GATEWAY, b"502 Bad Gateway\n");
+    let head = own(HEAD, head_sent, BAD_GATEWAY, b"");
+    [Row { origin, ..page }, Row { origin, ..head }]
 }
 
 #[test]
@@ -41,6 +54,10 @@ fn no_line_acts_on_an_answer_of_the_proxys_own(rt: HostRuntime) -> Result<(), Fa
             origin: None,
             ..own(GET, b"", BAD_GATEWAY, b"502 Bad Gateway\n")
         },
+        Row {
+            origin: None,
+            ..own(HEAD, b"", BAD_GATEWAY, b"")
+        },
         // A client that ends before its first byte gets nothing.
         own(b"", b"", b"", b""),
     ];
@@ -62,14 +79,61 @@ fn no_line_acts_on_an_answer_of_the_proxys_own(rt: HostRuntime) -> Result<(), Fa
 }
 
 #[test]
+fn an_origin_that_gives_no_answer_to_pass_on(rt: HostRuntime) -> Result<(), Fail> {
+    let origins: [&[u8]; 7] = [
+        b"",
+        b"HTTP/1.1 200 OK\r\nContent-Le",
+        b"HTTP/1.1 100 Continue\r\n\r\nHTTP/1.1 103 Early Hints\r\n\r\n",
+        b"HTTP/1.1 100 Continue\r\n\r\nHTTP/1.1 200 OK\r\n",
+        b"HTTP/1.1 101 Switching Protocols\r\n\r\n",
+        b"HTTP/1.1 099 Low\r\n\r\n",
+        b"abc\r\n\r\n",
+    ];
+    for (place, origin) in origins.iter().enumerate() {
+        for row in bad_gateways(Some(origin), GET_SENT, HEAD_SENT) {
+            assert_eq!(rt;
+                check(rt.alloc(), &row)?,
+                Verdict::AsStated,
+                "origin {place}"
+            );
+        }
+    }
+    // An interim head alone, and a body of no known coding, which a response to HEAD has not.
+    let faulty: [&[u8]; 2] = [
+        b"HTTP/1.1 100 Continue\r\n\r\n",
+        b"HTTP/1.1 200 OK\r\nTransfer-Encoding: gzip\r\n\r\n",
+    ];
+    for origin in faulty {
+        let [row, _] = bad_gateways(Some(origin), GET_SENT, HEAD_SENT);
+        assert_eq!(rt; check(rt.alloc(), &row)?, Verdict::AsStated);
+    }
+    Ok(())
+}
+
+// Links in memory refuse no upload, so it is the block alone that tells of one.
+#[test]
+fn an_upload_that_is_refused_is_answered_by_400(rt: HostRuntime) -> Result<(), Fail> {
+    let row = Row {
+        origin: Some(ABC),
+        ..own(GET, GET_SENT, BAD_REQUEST, b"400 Bad Request\n")
+    };
+    assert_eq!(rt; check_block(rt.alloc(), true, &row)?, Verdict::AsStated);
+    Ok(())
+}
+
+// What a transaction tells before its end, and how it ends.
+fn told_of(alloc: Global) -> Result<(Told, Option<TxnEnd>), Refusal> {
+    let ended = run(alloc, b"", b"", &giving(GET), Some(giving(ABC)))?;
+    Ok((ended.told, ended.parts.end))
+}
+
+#[test]
 fn a_transaction_tells_its_number_origin_and_end(rt: HostRuntime) -> Result<(), Fail> {
-    let ended = run(rt.alloc(), b"", b"", &giving(GET), Some(giving(ABC)))?;
     let told = Told {
         number: NUMBER,
         is_dialed: true,
         end: None,
     };
-    assert_eq!(rt; ended.told, told);
-    assert_eq!(rt; ended.parts.end, Some(TxnEnd::Whole));
+    assert_eq!(rt; told_of(rt.alloc())?, (told, Some(TxnEnd::Whole)));
     Ok(())
 }

@@ -1,9 +1,9 @@
 //! Bodies that are cut or bad: the client gets a front, without an end.
 
 use crate::lines::{STOCK, html};
-use crate::plan::{dripping_after, giving};
+use crate::plan::{dripping, dripping_after, giving};
 use crate::refusal::Refusal;
-use crate::row::{Row, Verdict, check, check_between, chunked, get};
+use crate::row::{Row, Verdict, check, check_at_once, check_between, chunked, get};
 use crate::stated::{ABC, ABC_FRONT, BAD_GATEWAY, CHUNKED, GET, IN_CHUNKS, SIZED, response};
 use std::alloc::Global;
 use std::test::Fail;
@@ -39,6 +39,26 @@ fn a_body_that_is_cut_is_a_front(rt: HostRuntime) -> Result<(), Fail> {
             "with a line, at {at}"
         );
     }
+    Ok(())
+}
+
+// All that came of it is passed on, where the client takes it at once and no line holds it back.
+#[test]
+fn a_front_of_a_body_of_a_stated_length_is_passed_on(rt: HostRuntime) -> Result<(), Fail> {
+    let gives = b"HTTP/1.1 200 OK\r\nContent-Length: 5\r\n\r\nhel";
+    let row = Row {
+        end: TxnEnd::OriginCut,
+        least: 3,
+        ..get(
+            gives,
+            b"HTTP/1.1 200 OK\r\nvia: 1.1 tsx\r\ncontent-length: 5\r\nconnection: close\r\n\r\n",
+            Mode::Plain,
+            b"hel",
+        )
+    };
+    assert_eq!(rt; check_at_once(rt.alloc(), &row)?, Verdict::AsStated);
+    let verdict = check_between(rt.alloc(), &row, &giving(GET), Some(dripping(gives)))?;
+    assert_eq!(rt; verdict, Verdict::AsStated);
     Ok(())
 }
 
@@ -126,6 +146,8 @@ fn bad_chunks_end_a_body_at_a_front(rt: HostRuntime) -> Result<(), Fail> {
         let held = check_bad(rt.alloc(), chunks, b"bnull_transform.so\n", b"")?;
         assert_eq!(rt; held, Verdict::AsStated, "held back, row {place}");
     }
+    let lined = check_bad(rt.alloc(), b"3\r\nabcX", b"prepend.so <", b"<abc")?;
+    assert_eq!(rt; lined, Verdict::AsStated);
     Ok(())
 }
 

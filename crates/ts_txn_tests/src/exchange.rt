@@ -1,12 +1,10 @@
 //! A transaction in a group of its own, driven to its end.
 ghost use Rattle.std.specs.Prelude.{◌≡◌, ◌⊎◌, ◌≤◌, true, IfOk, IsSome};
-ghost use Rattle.ts_config.specs.Bodies.{whole_of};
 ghost use Rattle.ts_journal.specs.declared.entry.TheConstants.{GREATEST};
 ghost use Rattle.ts_link.specs.MemLink.{look_of};
-ghost use Rattle.ts_stock.specs.Stock.{still_writes};
-ghost use Rattle.ts_txn.specs.Entering.{ActsAsLines};
+ghost use Rattle.ts_relay.specs.Entering.{ActsAsLines};
 ghost use Rattle.ts_txn.specs.Making.{ArePaired, HasFewLines, IsNewLink, IsNewLinkIf};
-ghost use Rattle.ts_txn_tests.specs.Begun.{HasBegunAs, HasEndedOr, any_pair, no_refusal};
+ghost use Rattle.ts_txn_tests.specs.Begun.{AlwaysTells, HasBegunAs, HasEndedOr};
 
 use crate::plan::{Plan, link_of, origin_of};
 use crate::refusal::Refusal;
@@ -26,6 +24,9 @@ use ts_upstream::Upstream;
 
 /// A transaction between links in memory, with the stock transforms.
 pub type MemTxn = Txn<MemLink, MemLink, Stock>;
+
+/// What is promised of one.
+pub type MemTag = TxnTag<MemLink, MemLink>;
 
 /// The number of each transaction here.
 pub const NUMBER: u64 = 7;
@@ -105,8 +106,7 @@ pub fn begin<C: Link + Drop, O: Upstream<C> + Drop, P: Transform<Line = Transfor
     requires client { C.tells ≡ true → IsNewLink (C.look client) }
     requires origin { O.tells ≡ true → IsNewLinkIf O.look origin }
     requires pair { ArePaired O.paired client origin }
-    ensures begun { IfOk result (λ r. HasBegunAs C.tells O.tells C.look O.look O.paired O.refuses
-        P.rest P.whole r.1 r.0) }
+    ensures begun { IfOk result (λ r. HasBegunAs C.Link O.Link O.Upstream.own P.Transform r.1 r.0) }
 {
     let tag = TxnTag {
         number: NUMBER,
@@ -137,14 +137,14 @@ fn told_by<C: Link + Drop, O: Upstream<C> + Drop, P: Transform<Line = TransformL
     }
 }
 
-/// Handles what is pending of a transaction, until nothing is.
-pub fn drive(
+/// Handles what is pending of a transaction whose links tell, until nothing is.
+pub fn drive<C: Link + Drop, O: Upstream<C> + Drop, P: Transform<Line = TransformLine> + Drop>(
     alloc: Global,
-    group: Group<MemTxn>,
-    tag: TxnTag<MemLink, MemLink>,
-) -> Result<Group<MemTxn>, Refusal>
-    requires begun { HasBegunAs true true look_of look_of any_pair no_refusal still_writes whole_of
-        tag group }
+    group: Group<Txn<C, O, P>>,
+    tag: TxnTag<C, O>,
+) -> Result<Group<Txn<C, O, P>>, Refusal>
+    requires begun { HasBegunAs C.Link O.Link O.Upstream.own P.Transform tag group }
+    requires tells { AlwaysTells C.Link O.Link O.Upstream.own P.Transform }
     ensures ended { IfOk result HasEndedOr }
 {
     let mut groups = Vec::new(alloc);
@@ -169,7 +169,7 @@ pub fn exchange(
     requires origin { IsNewLinkIf look_of origin }
     ensures ended { IfOk result (λ e. IsSome e.parts.end ⊎ (GREATEST ≤ e.journal.state.next)) }
 {
-    let (group, tag) = begin(alloc, setup, client, origin)?;
+    let (group, tag): (Group<MemTxn>, MemTag) = begin(alloc, setup, client, origin)?;
     let told = told_by(group.world());
     let group = drive(alloc, group, tag)?;
     let (txn, journal) = group.into_parts();
@@ -188,7 +188,8 @@ pub fn run(
     client: &Plan<'_>,
     origin: Option<Plan<'_>>,
 ) -> Result<Ended, Refusal> {
+    let client = link_of(alloc, client)?;
+    let origin = origin_of(alloc, origin)?;
     let setup = setup_of(alloc, lines, file)?;
-    let (client, origin) = (link_of(alloc, client)?, origin_of(alloc, origin)?);
     exchange(alloc, setup, client, origin)
 }

@@ -1,15 +1,18 @@
 //! Links that fail or leave: how the transaction ends, and that what was sent by then is a front of what is
 //! stated.
 
-use crate::exchange::{exchange, setup_of};
+use crate::answers::own;
+use crate::exchange::{Ended, exchange, setup_of};
 use crate::lines::{HTML, HTML_FRONT, STOCK, html};
-use crate::plan::{Plan, dripping, dripping_after, giving, leaving, link_of};
+use crate::plan::{Plan, dripping, dripping_after, giving, leaving, origin_of};
 use crate::refusal::Refusal;
-use crate::row::{Row, Verdict, check_between, get, judge, judge_front, run_row};
-use crate::stated::{ABC, ABC_FRONT, BAD_GATEWAY, GET, GET_SENT, SIZED};
+use crate::row::{Row, Verdict, check_between, check_front, get, judge, judge_front, run_row};
+use crate::stated::{ABC, ABC_FRONT, BAD_GATEWAY, GET, GET_SENT, HEAD, HEAD_SENT, SIZED};
 use std::alloc::Global;
 use std::test::Fail;
 use ts_hooks::TxnEnd;
+use ts_link::MemLink;
+use ts_txn::TxnParts;
 use ts_wire::Mode;
 
 // A response of HTML up to the close.
@@ -29,6 +32,24 @@ fn gateway_fault(row: Row<'_>) -> Row<'_> {
     }
 }
 
+// An origin that gives these bytes, as many as the head of the response of HTML has at once.
+fn html_dripping(gives: &[u8]) -> Plan<'_> {
+    dripping_after(gives, HTML_FRONT)
+}
+
+// Whether a client that failed or left got a front of so many bytes.
+fn judge_fault(
+    alloc: Global,
+    row: &Row<'_>,
+    written: u64,
+    parts: &TxnParts<MemLink, MemLink>,
+) -> Result<Verdict, Refusal> {
+    if parts.client.written().len() as u64 != written {
+        return Ok(Verdict::OtherText);
+    }
+    judge_front(alloc, row, TxnEnd::ClientFault, parts)
+}
+
 // Whether a client whose write of this number fails got a front of all before it, where each write takes one
 // byte.
 fn check_failing(alloc: Global, row: &Row<'_>, write: u64) -> Result<Verdict, Refusal> {
@@ -39,22 +60,31 @@ fn check_failing(alloc: Global, row: &Row<'_>, write: u64) -> Result<Verdict, Re
     };
     let origin = dripping_after(HTML, HTML_FRONT);
     let ended = run_row(alloc, row, &client, Some(origin))?;
-    if ended.parts.client.written().len() as u64 + 1 != write {
-        return Ok(Verdict::OtherText);
-    }
-    judge_front(alloc, row, TxnEnd::ClientFault, &ended.parts)
+    judge_fault(alloc, row, write.saturating_sub(1), &ended.parts)
 }
 
-// Whether a client that leaves when it has taken so many bytes got a front of them.
-fn check_leaving(alloc: Global, row: &Row<'_>, at: usize) -> Result<Verdict, Refusal> {
+// What comes of a row whose client leaves when it has taken so many bytes, and whose origin gives its body
+// byte by byte.
+fn run_leaving(alloc: Global, row: &Row<'_>, at: usize) -> Result<Ended, Refusal> {
+    let client = leaving(alloc, row.request, at)?;
+    let plan = row.origin.map(html_dripping);
+    let origin = origin_of(alloc, plan)?;
     let setup = setup_of(alloc, row.lines, row.file)?;
-    let client = leaving(alloc, GET, at)?;
-    let origin = link_of(alloc, &dripping_after(HTML, HTML_FRONT))?;
-    let ended = exchange(alloc, setup, client, Some(origin))?;
-    if ended.parts.client.written().len() != at {
-        return Ok(Verdict::OtherText);
-    }
-    judge_front(alloc, row, TxnEnd::ClientFault, &ended.parts)
+    exchange(alloc, setup, client, origin)
+}
+
+// Whether such a client got a front of what is stated of so many bytes.
+fn check_leaving(alloc: Global, row: &Row<'_>, at: usize) -> Result<Verdict, Refusal> {
+    let ended = run_leaving(alloc, row, at)?;
+    judge_fault(alloc, row, at as u64, &ended.parts)
+}
+
+// What a client gets of a row, whose origin gives its body byte by byte, and how much that is.
+fn check_length(alloc: Global, row: &Row<'_>) -> Result<(Verdict, usize), Refusal> {
+    let origin = row.origin.map(html_dripping);
+    let ended = run_row(alloc, row, &giving(GET), origin)?;
+    let verdict = judge(alloc, row, &ended.parts)?;
+    Ok((verdict, ended.parts.client.written().len()))
 }
 
 #[test]
@@ -69,18 +99,32 @@ fn a_client_that_leaves_in_its_head_got_a_front(rt: HostRuntime) -> Result<(), F
 }
 
 #[test]
+fn a_client_that_leaves_in_an_answer_of_the_proxys_own_got_a_front(
+    rt: HostRuntime,
+) -> Result<(), Fail> {
+    let page = own(GET, b"", BAD_GATEWAY, b"502 Bad Gateway\n");
+    let head = own(HEAD, b"", BAD_GATEWAY, b"");
+    for row in [page, head] {
+        let row = Row {
+            origin: None,
+            ..row
+        };
+        for at in 0..row.head.len() + row.body.len() {
+            let verdict = check_leaving(rt.alloc(), &row, at)?;
+            assert_eq!(rt; verdict, Verdict::AsStated, "at {at}");
+        }
+    }
+    Ok(())
+}
+
+#[test]
 fn a_client_that_leaves_in_its_body_got_a_front(rt: HostRuntime) -> Result<(), Fail> {
     let alloc = rt.alloc();
     for (place, (lines, body)) in STOCK.iter().enumerate() {
         let row = html(lines, body);
-        let origin = dripping_after(HTML, HTML_FRONT);
-        let whole = run_row(alloc, &row, &giving(GET), Some(origin))?;
-        assert_eq!(rt;
-            judge(alloc, &row, &whole.parts)?,
-            Verdict::AsStated,
-            "line {place}"
-        );
-        for at in row.head.len()..whole.parts.client.written().len() {
+        let (whole, length) = check_length(alloc, &row)?;
+        assert_eq!(rt; whole, Verdict::AsStated, "line {place}");
+        for at in row.head.len()..length {
             let verdict = check_leaving(alloc, &row, at)?;
             assert_eq!(rt; verdict, Verdict::AsStated, "line {place}, at {at}");
         }
@@ -160,6 +204,18 @@ fn an_origin_that_fails_in_its_head_is_answered_for(rt: HostRuntime) -> Result<(
         let verdict = check_between(alloc, &row, &giving(GET), Some(origin))?;
         assert_eq!(rt; verdict, Verdict::AsStated, "read {read}");
     }
+    let head = Row {
+        end: TxnEnd::OriginFault,
+        ..own(HEAD, HEAD_SENT, BAD_GATEWAY, b"")
+    };
+    for read in [1, 2, 17] {
+        let origin = Plan {
+            fail_read: read,
+            ..dripping(b"HTTP/1.1 200 OK\r\n")
+        };
+        let verdict = check_between(alloc, &head, &giving(HEAD), Some(origin))?;
+        assert_eq!(rt; verdict, Verdict::AsStated, "HEAD, read {read}");
+    }
     Ok(())
 }
 
@@ -219,8 +275,7 @@ fn a_client_that_fails_last_decides_the_end(rt: HostRuntime) -> Result<(), Fail>
                 take: 1,
                 ..giving(GET)
             };
-            let ended = run_row(alloc, &row, &client, Some(origin))?;
-            let verdict = judge_front(alloc, &row, TxnEnd::ClientFault, &ended.parts)?;
+            let verdict = check_front(alloc, &row, TxnEnd::ClientFault, &client, Some(origin))?;
             assert_eq!(rt; verdict, Verdict::AsStated, "write {write}");
         }
     }

@@ -1,17 +1,20 @@
 //! How long a body is and how it is framed for the client: by its length, in chunks, up to the close, or not
 //! at all.
 
+use crate::exchange::run;
+use crate::plan::giving;
+use crate::refusal::Refusal;
 use crate::row::{Row, Verdict, check, get, head};
-use crate::stated::{ABC, CHUNKED, ENDLESS, GET, IN_CHUNKS, PLAIN, SIZED, response};
+use crate::stated::{
+    ABC, BAD_GATEWAY, CHUNKED, ENDLESS, ENDLESS_OLD, FROM_OLD, GET, IN_CHUNKS, PLAIN, SIZED,
+    response,
+};
+use std::alloc::Global;
 use std::test::Fail;
 use ts_wire::Mode;
 
 // The head of the response of three bytes.
 const ABC_HEAD: &[u8] = b"HTTP/1.1 200 OK\r\nContent-Length: 3\r\n\r\n";
-
-// The client's head of a response in HTTP/1.0.
-const FROM_OLD: &[u8] =
-    b"HTTP/1.1 200 OK\r\nvia: 1.0 tsx\r\ntransfer-encoding: chunked\r\nconnection: close\r\n\r\n";
 
 #[test]
 fn a_body_of_a_stated_length_keeps_it(rt: HostRuntime) -> Result<(), Fail> {
@@ -81,16 +84,25 @@ fn a_body_up_to_the_close_goes_in_chunks(rt: HostRuntime) -> Result<(), Fail> {
             b"abc",
         ),
         get(ENDLESS, CHUNKED, Mode::Chunked, b""),
-        get(
-            b"HTTP/1.0 200 OK\r\n\r\nabc",
-            FROM_OLD,
-            Mode::Chunked,
-            b"abc",
-        ),
+        get(ENDLESS_OLD, FROM_OLD, Mode::Chunked, b"abc"),
     ];
     for (place, row) in rows.iter().enumerate() {
         assert_eq!(rt; check(rt.alloc(), row)?, Verdict::AsStated, "row {place}");
     }
+    Ok(())
+}
+
+// Whether a client gets this text of an origin that gives its response at once.
+fn is_sent(alloc: Global, origin: &[u8], text: &[u8]) -> Result<bool, Refusal> {
+    let ended = run(alloc, b"", b"", &giving(GET), Some(giving(origin)))?;
+    Ok(ended.parts.client.written() == text)
+}
+
+#[test]
+fn a_piece_that_is_read_is_one_chunk(rt: HostRuntime) -> Result<(), Fail> {
+    let text =
+        b"HTTP/1.1 200 OK\r\nvia: 1.1 tsx\r\ntransfer-encoding: chunked\r\nconnection: close\r\n\r\n5\r\nhello\r\n0\r\n\r\n";
+    assert!(rt; is_sent(rt.alloc(), b"HTTP/1.1 200 OK\r\n\r\nhello", text)?);
     Ok(())
 }
 
@@ -133,6 +145,12 @@ fn a_response_without_a_body_has_none(rt: HostRuntime) -> Result<(), Fail> {
         b"HTTP/1.1 304 Not Modified\r\nvia: 1.1 tsx\r\ncontent-length: 5\r\nconnection: close\r\n\r\n";
     let rows = [
         get(no_content, no_content_head, Mode::Plain, b""),
+        get(
+            b"HTTP/1.1 204 No Content\r\n\r\n",
+            no_content_head,
+            Mode::Plain,
+            b"",
+        ),
         get(
             b"HTTP/1.1 204 No Content\r\nContent-Length: 5\r\n\r\nabcde",
             no_content_head,
@@ -184,6 +202,6 @@ fn the_heads_have_their_stated_lengths(rt: HostRuntime) -> Result<(), Fail> {
     assert_eq!(rt; CHUNKED.len(), 80);
     assert_eq!(rt; SIZED.len(), 71);
     assert_eq!(rt; PLAIN.len(), 52);
-    assert_eq!(rt; (GET.len(), ABC.len()), (27, 41));
+    assert_eq!(rt; (GET.len(), ABC.len(), BAD_GATEWAY.len()), (27, 41, 93));
     Ok(())
 }

@@ -25,6 +25,8 @@ mod plan;
 #[cfg(test)]
 mod refusal;
 #[cfg(test)]
+mod requests;
+#[cfg(test)]
 mod row;
 #[cfg(test)]
 mod rules;

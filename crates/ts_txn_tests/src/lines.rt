@@ -141,6 +141,7 @@ const BROWSER: Row<'static> = Row {
     head: b"HTTP/1.1 200 OK\r\ndate: Mon, 01 Jan 2024 00:00:00 GMT\r\ncontent-type: text/html; charset=utf-8\r\nvia: 1.1 tsx\r\ntransfer-encoding: chunked\r\nconnection: close\r\n\r\n",
     mode: Mode::Chunked,
     body: b"<p>hello</p>\n<hr>",
+    least: 0,
     end: TxnEnd::Whole,
 };
 

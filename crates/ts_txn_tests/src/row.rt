@@ -1,13 +1,14 @@
 //! Rows: a request, what the origin gives, and what is stated of both ends.
 
-use crate::exchange::{Ended, NUMBER, run};
+use crate::exchange::{Ended, NUMBER, run, setup_of};
 use crate::plan::{Plan, dripping, giving};
 use crate::refusal::Refusal;
 use crate::stated::{CHUNKED, GET, GET_SENT, HEAD, HEAD_SENT, text_of};
 use std::alloc::Global;
+use ts_config::Setup;
 use ts_hooks::TxnEnd;
 use ts_link::MemLink;
-use ts_txn::TxnParts;
+use ts_txn::{Block, TxnParts, block_of};
 use ts_wire::Mode;
 
 /// An exchange through the lines of a configuration, and what is stated of it. Where it does not end whole,
@@ -25,6 +26,8 @@ pub struct Row<'a> {
     pub head: &'a [u8],
     pub mode: Mode,
     pub body: &'a [u8],
+    /// How many bytes of the body the client gets at least, where it does not end whole.
+    pub least: usize,
     pub end: TxnEnd,
 }
 
@@ -40,6 +43,10 @@ pub enum Verdict {
     OtherNumber,
     OtherWaits,
     OtherMoment,
+    /// The block of all bytes is other.
+    OtherBlock,
+    /// It ended for want of memory, with a front of what is stated.
+    Lacks,
 }
 
 /// A response to GET that is passed on whole, with nothing configured.
@@ -53,6 +60,7 @@ pub fn get<'a>(origin: &'a [u8], head: &'a [u8], mode: Mode, body: &'a [u8]) -> 
         head,
         mode,
         body,
+        least: 0,
         end: TxnEnd::Whole,
     }
 }
@@ -117,23 +125,56 @@ pub fn judge(
     if parts.client.written() != text.as_slice() {
         return Ok(Verdict::OtherText);
     }
-    Ok(if whole {
-        judge_whole(row, parts)
-    } else {
-        Verdict::AsStated
-    })
+    Ok(judge_length(row, parts.cuts.as_slice()))
 }
 
-// Whether the pieces of a body are all of it.
-fn judge_whole(row: &Row<'_>, parts: &TxnParts<MemLink, MemLink>) -> Verdict {
+// Whether the pieces of a body are all that the client gets at least: of one that ends whole all of it.
+fn judge_length(row: &Row<'_>, cuts: &[u32]) -> Verdict {
     let mut sum: u64 = 0;
-    for cut in parts.cuts.as_slice() {
+    for cut in cuts {
         sum = sum.saturating_add(u64::from(*cut));
     }
-    if sum != row.body.len() as u64 {
+    let least = match row.end {
+        TxnEnd::Whole => row.body.len(),
+        _ => row.least,
+    };
+    if sum < least as u64 {
         return Verdict::OtherPieces;
     }
     Verdict::AsStated
+}
+
+// Whether a block is as the row states. That of an exchange that does not end whole has no body.
+fn judge_block(row: &Row<'_>, block: &Block) -> Verdict {
+    let body: &[u8] = match row.end {
+        TxnEnd::Whole => row.body,
+        _ => b"",
+    };
+    let ends = block.end == row.end && block.request.bytes() == row.sent;
+    let answers = block.head.bytes() == row.head && block.mode == row.mode;
+    if ends && answers && block.body.bytes() == body {
+        return Verdict::AsStated;
+    }
+    Verdict::OtherBlock
+}
+
+/// Whether the block of all bytes that the links of a row give is as it states, with this setup, where the
+/// origin takes the upload or refuses it.
+pub fn check_block_of(
+    alloc: Global,
+    setup: &Setup,
+    refuses: bool,
+    row: &Row<'_>,
+) -> Result<Verdict, Refusal> {
+    let (dialed, gives) = (row.origin.is_some(), row.origin.unwrap_or(b""));
+    let block = block_of(alloc, setup, row.request, dialed, refuses, gives)?;
+    Ok(judge_block(row, &block))
+}
+
+/// The same with the setup of its lines.
+pub fn check_block(alloc: Global, refuses: bool, row: &Row<'_>) -> Result<Verdict, Refusal> {
+    let setup = setup_of(alloc, row.lines, row.file)?;
+    check_block_of(alloc, &setup, refuses, row)
 }
 
 /// Whether a transaction ended so, and its client got a front of what the row states.
@@ -176,10 +217,31 @@ pub fn check_between(
     judge(alloc, row, &ended.parts)
 }
 
+/// Whether a row ends so between the links of these plans, and its client gets a front of what is stated.
+pub fn check_front(
+    alloc: Global,
+    row: &Row<'_>,
+    end: TxnEnd,
+    client: &Plan<'_>,
+    origin: Option<Plan<'_>>,
+) -> Result<Verdict, Refusal> {
+    let ended = run_row(alloc, row, client, origin)?;
+    judge_front(alloc, row, end, &ended.parts)
+}
+
+/// Whether a row comes out as stated where the links give and take all at once, and its block is so.
+pub fn check_at_once(alloc: Global, row: &Row<'_>) -> Result<Verdict, Refusal> {
+    let block = check_block(alloc, false, row)?;
+    if block != Verdict::AsStated {
+        return Ok(block);
+    }
+    check_between(alloc, row, &giving(row.request), row.origin.map(giving))
+}
+
 /// Whether a row comes out as stated, both where the links give and take all at once and where each call of
-/// them moves one byte.
+/// them moves one byte, and its block is so.
 pub fn check(alloc: Global, row: &Row<'_>) -> Result<Verdict, Refusal> {
-    let at_once = check_between(alloc, row, &giving(row.request), row.origin.map(giving))?;
+    let at_once = check_at_once(alloc, row)?;
     if at_once != Verdict::AsStated {
         return Ok(at_once);
     }

@@ -1,28 +1,66 @@
 //! Hook plugin lines: rules for the fields of heads, and hosts that are denied.
 
+ghost use Rattle.std.specs.Prelude.{IfOk};
+ghost use Rattle.ts_txn.specs.Making.{HasFewLines};
+
 use crate::exchange::{exchange, setup_of, with_plugins};
 use crate::lines::FILE;
-use crate::plan::{giving, link_of};
+use crate::plan::{giving, link_of, origin_of};
 use crate::refusal::Refusal;
-use crate::row::{Row, Verdict, get, judge};
+use crate::row::{Row, Verdict, check_block_of, get, judge};
 use crate::stated::{ABC, FORBIDDEN, SIZED};
 use http_header::{HeaderName, HeaderValue};
 use std::alloc::Global;
 use std::test::Fail;
-use ts_config::{PluginLine, Rule, Side, Sites};
+use ts_config::{PluginLine, Rule, Setup, Side, Sites};
 use ts_link::Octets;
 use ts_wire::Mode;
 
-// Whether a row comes out as stated with this plugin line.
-fn check_ruled(alloc: Global, plugin: PluginLine, row: &Row<'_>) -> Result<Verdict, Refusal> {
+// The setup of a row with one more plugin line or two.
+fn ruled(
+    alloc: Global,
+    row: &Row<'_>,
+    first: PluginLine,
+    second: Option<PluginLine>,
+) -> Result<Setup, Refusal>
+    ensures { IfOk result (λ s. HasFewLines s 0) }
+{
     let mut plugins = Vec::new(alloc);
-    plugins.push(plugin)?;
-    let setup = with_plugins(setup_of(alloc, row.lines, row.file)?, plugins)?;
+    plugins.push(first)?;
+    if let Some(second) = second {
+        plugins.push(second)?;
+    }
+    with_plugins(setup_of(alloc, row.lines, row.file)?, plugins)
+}
+
+// Whether a row comes out as stated with this setup, where the links give and take all at once.
+fn check_set(alloc: Global, setup: Setup, row: &Row<'_>) -> Result<Verdict, Refusal>
+    requires { HasFewLines setup 0 }
+{
     let client = link_of(alloc, &giving(row.request))?;
-    let gives = row.origin.unwrap_or(b"");
-    let origin = link_of(alloc, &giving(gives))?;
-    let ended = exchange(alloc, setup, client, Some(origin))?;
+    let origin = origin_of(alloc, row.origin.map(giving))?;
+    let ended = exchange(alloc, setup, client, origin)?;
     judge(alloc, row, &ended.parts)
+}
+
+// Whether a row comes out as stated with these plugin lines, and its block is so.
+fn check_both(
+    alloc: Global,
+    first: PluginLine,
+    second: Option<PluginLine>,
+    row: &Row<'_>,
+) -> Result<Verdict, Refusal> {
+    let setup = ruled(alloc, row, first, second)?;
+    let block = check_block_of(alloc, &setup, false, row)?;
+    if block != Verdict::AsStated {
+        return Ok(block);
+    }
+    check_set(alloc, setup, row)
+}
+
+// The same with one plugin line.
+fn check_ruled(alloc: Global, plugin: PluginLine, row: &Row<'_>) -> Result<Verdict, Refusal> {
+    check_both(alloc, plugin, None, row)
 }
 
 // `header.so SIDE set content-type VALUE`.
@@ -32,6 +70,17 @@ fn sets_type(side: Side, value: HeaderValue) -> PluginLine {
         rule: Rule::Set {
             name: HeaderName::from_static("content-type"),
             value,
+        },
+    }
+}
+
+// `header.so request add x-a 1`.
+fn adds_field() -> PluginLine {
+    PluginLine::Header {
+        side: Side::Request,
+        rule: Rule::Add {
+            name: HeaderName::from_static("x-a"),
+            value: HeaderValue::from_static("1"),
         },
     }
 }
@@ -79,6 +128,35 @@ fn a_rule_of_the_response_side_changes_each_head(rt: HostRuntime) -> Result<(), 
             sets_type(Side::Response, HeaderValue::from_static("x")),
             row,
         )?;
+        assert_eq!(rt; verdict, Verdict::AsStated, "row {place}");
+    }
+    Ok(())
+}
+
+// Two lines, each of which changes one side.
+#[test]
+fn header_rules_change_one_side(rt: HostRuntime) -> Result<(), Fail> {
+    let rows = [
+        get(
+            ABC,
+            b"HTTP/1.1 200 OK\r\ncontent-type: x\r\nvia: 1.1 tsx\r\ncontent-length: 3\r\nconnection: close\r\n\r\n",
+            Mode::Plain,
+            b"abc",
+        ),
+        get(
+            b"",
+            b"HTTP/1.1 502 Bad Gateway\r\ncontent-type: x\r\ncontent-length: 16\r\nconnection: close\r\n\r\n",
+            Mode::Plain,
+            b"502 Bad Gateway\n",
+        ),
+    ];
+    for (place, row) in rows.iter().enumerate() {
+        let row = Row {
+            sent: b"GET / HTTP/1.1\r\nhost: a\r\nx-a: 1\r\nvia: 1.1 tsx\r\nconnection: close\r\n\r\n",
+            ..*row
+        };
+        let set = sets_type(Side::Response, HeaderValue::from_static("x"));
+        let verdict = check_both(rt.alloc(), adds_field(), Some(set), &row)?;
         assert_eq!(rt; verdict, Verdict::AsStated, "row {place}");
     }
     Ok(())
@@ -140,30 +218,39 @@ fn a_rule_does_not_change_which_lines_act(rt: HostRuntime) -> Result<(), Fail> {
     Ok(())
 }
 
+// A line that denies this site.
+fn denies(alloc: Global, site: &[u8]) -> Result<PluginLine, Refusal> {
+    let mut sites = Vec::new(alloc);
+    sites.push(Octets::copy_of(alloc, site)?)?;
+    Ok(PluginLine::Deny {
+        sites: Sites::of_vec(sites),
+    })
+}
+
+// Whether a row comes out as stated where this site is denied.
+fn check_denied(alloc: Global, site: &[u8], row: &Row<'_>) -> Result<Verdict, Refusal> {
+    let deny = denies(alloc, site)?;
+    check_ruled(alloc, deny, row)
+}
+
 #[test]
 fn a_denied_host_gets_nothing_of_an_origin(rt: HostRuntime) -> Result<(), Fail> {
-    let alloc = rt.alloc();
-    let rows = [
-        (
-            "A",
-            Row {
-                sent: b"",
-                ..get(ABC, FORBIDDEN, Mode::Plain, b"403 Forbidden\n")
-            },
-        ),
-        ("b", get(ABC, SIZED, Mode::Plain, b"abc")),
+    let denied = Row {
+        sent: b"",
+        ..get(ABC, FORBIDDEN, Mode::Plain, b"403 Forbidden\n")
+    };
+    let other = Row {
+        request: b"GET / HTTP/1.1\r\nHost: a.EXAMPLE:80\r\n\r\n",
+        ..denied
+    };
+    let rows: [(&[u8], Row<'_>); 3] = [
+        (b"A", denied),
+        (b"A.example", other),
+        (b"b", get(ABC, SIZED, Mode::Plain, b"abc")),
     ];
-    for (site, row) in rows {
-        let mut sites = Vec::new(alloc);
-        sites.push(Octets::copy_of(alloc, site.as_bytes())?)?;
-        let deny = PluginLine::Deny {
-            sites: Sites::of_vec(sites),
-        };
-        assert_eq!(rt;
-            check_ruled(alloc, deny, &row)?,
-            Verdict::AsStated,
-            "{site}"
-        );
+    for (place, (site, row)) in rows.iter().enumerate() {
+        let verdict = check_denied(rt.alloc(), site, row)?;
+        assert_eq!(rt; verdict, Verdict::AsStated, "row {place}");
     }
     Ok(())
 }

@@ -31,6 +31,16 @@ pub const IN_CHUNKS: &[u8] = b"HTTP/1.1 200 OK\r\nTransfer-Encoding: chunked\r\n
 /// The head of a response up to the close.
 pub const ENDLESS: &[u8] = b"HTTP/1.1 200 OK\r\n\r\n";
 
+/// A response of three bytes up to the close in HTTP/1.0.
+pub const ENDLESS_OLD: &[u8] = b"HTTP/1.0 200 OK\r\n\r\nabc";
+
+/// The client's head of a response in HTTP/1.0, whose body goes in chunks.
+pub const FROM_OLD: &[u8] =
+    b"HTTP/1.1 200 OK\r\nvia: 1.0 tsx\r\ntransfer-encoding: chunked\r\nconnection: close\r\n\r\n";
+
+/// The same, whose body goes up to the close.
+pub const PLAIN_OLD: &[u8] = b"HTTP/1.1 200 OK\r\nvia: 1.0 tsx\r\nconnection: close\r\n\r\n";
+
 /// The client's head of a body in chunks.
 pub const CHUNKED: &[u8] =
     b"HTTP/1.1 200 OK\r\nvia: 1.1 tsx\r\ntransfer-encoding: chunked\r\nconnection: close\r\n\r\n";

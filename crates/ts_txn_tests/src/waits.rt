@@ -1,14 +1,16 @@
 //! Links that make their caller wait: the same texts, and a pause of 10 milliseconds for each such answer.
 
+use crate::answers::own;
 use crate::exchange::Ended;
 use crate::journals::{last_made, last_moment, least_gap};
 use crate::lines::{HTML, HTML_FRONT, STOCK, html};
-use crate::plan::{Plan, dripping, dripping_after};
+use crate::plan::{Plan, dripping, dripping_after, giving};
 use crate::refusal::Refusal;
 use crate::row::{Row, Verdict, get, judge, run_row};
-use crate::stated::{ABC, BAD_GATEWAY, GET, GET_SENT, SIZED};
+use crate::stated::{ABC, BAD_GATEWAY, GET, GET_SENT, HEAD, SIZED};
 use std::alloc::Global;
 use std::test::Fail;
+use ts_journal::Entry;
 use ts_wire::Mode;
 
 // How long a link that was not ready is left alone, in milliseconds.
@@ -39,6 +41,19 @@ fn judge_waiting(
     judge(alloc, row, &ended.parts)
 }
 
+// The same, where one link waited twice and so made two pauses.
+fn judge_pauses(
+    alloc: Global,
+    row: &Row<'_>,
+    ended: &Ended,
+    waits: (u64, u64),
+) -> Result<Verdict, Refusal> {
+    if last_moment(ended.journal.entries()) != PAUSE * WAITS {
+        return Ok(Verdict::OtherMoment);
+    }
+    judge_waiting(alloc, row, ended, waits)
+}
+
 // Whether a row comes out as stated where its links wait so often.
 fn check_waiting(
     alloc: Global,
@@ -60,10 +75,7 @@ fn check_pauses(
     waits: (u64, u64),
 ) -> Result<Verdict, Refusal> {
     let ended = run_row(alloc, row, client, origin)?;
-    if last_moment(ended.journal.entries()) != PAUSE * WAITS {
-        return Ok(Verdict::OtherMoment);
-    }
-    judge_waiting(alloc, row, &ended, waits)
+    judge_pauses(alloc, row, &ended, waits)
 }
 
 #[test]
@@ -182,40 +194,56 @@ fn a_link_that_waits_is_left_alone_for_ten_milliseconds(rt: HostRuntime) -> Resu
 
 #[test]
 fn a_client_that_waits_at_its_first_writes(rt: HostRuntime) -> Result<(), Fail> {
-    let row = Row {
-        origin: None,
-        sent: b"",
-        ..get(b"", BAD_GATEWAY, Mode::Plain, b"502 Bad Gateway\n")
-    };
-    let client = Plan {
-        again_writes: (1, 2),
-        ..dripping(GET)
-    };
-    assert_eq!(rt;
-        check_pauses(rt.alloc(), &row, &client, None, (WAITS, 0))?,
-        Verdict::AsStated
-    );
+    let page = own(GET, b"", BAD_GATEWAY, b"502 Bad Gateway\n");
+    let head = own(HEAD, b"", BAD_GATEWAY, b"");
+    for row in [page, head] {
+        let row = Row {
+            origin: None,
+            ..row
+        };
+        for plan in [dripping(row.request), giving(row.request)] {
+            let client = Plan {
+                again_writes: (1, 2),
+                ..plan
+            };
+            let verdict = check_pauses(rt.alloc(), &row, &client, None, (WAITS, 0))?;
+            assert_eq!(rt; verdict, Verdict::AsStated);
+        }
+    }
     Ok(())
 }
 
 // How long the stage of a line that pauses does nothing between two of its events, in milliseconds.
 const DELAY: u64 = 5;
 
-#[test]
-fn a_stage_pauses_between_its_events(rt: HostRuntime) -> Result<(), Fail> {
-    let alloc = rt.alloc();
-    let row = html(b"delay.so 5\n", b"banana");
-    let origin = dripping_after(HTML, HTML_FRONT);
-    let ended = run_row(alloc, &row, &dripping_after(GET, 0), Some(origin))?;
-    assert_eq!(rt; judge(alloc, &row, &ended.parts)?, Verdict::AsStated);
-    let entries = ended.journal.entries();
-    // The one stage is made last.
+// Whether the continuation that was made last, that of the one stage, paused so long between its events.
+fn pauses(entries: &[Entry]) -> bool {
     let Some(stage) = last_made(entries) else {
-        return Err("a continuation is made")?;
+        return false;
     };
     let (gap, count) = least_gap(entries, stage);
-    assert!(rt; count >= 2);
-    assert!(rt; gap >= Some(DELAY), "{gap:?}");
-    assert_eq!(rt; last_moment(entries) % DELAY, 0);
+    count >= 2 && gap >= Some(DELAY) && last_moment(entries) % DELAY == 0
+}
+
+// Whether a row comes out as stated, and its one stage paused.
+fn check_stage(
+    alloc: Global,
+    row: &Row<'_>,
+    client: &Plan<'_>,
+    origin: Plan<'_>,
+) -> Result<Verdict, Refusal> {
+    let ended = run_row(alloc, row, client, Some(origin))?;
+    if pauses(ended.journal.entries()) {
+        return judge(alloc, row, &ended.parts);
+    }
+    Ok(Verdict::OtherMoment)
+}
+
+#[test]
+fn a_stage_pauses_between_its_events(rt: HostRuntime) -> Result<(), Fail> {
+    let row = html(b"delay.so 5\n", b"banana");
+    let origin = dripping_after(HTML, HTML_FRONT);
+    let verdict = check_stage(rt.alloc(), &row, &dripping_after(GET, 0), origin)?;
+    assert_eq!(rt; verdict, Verdict::AsStated);
     Ok(())
 }

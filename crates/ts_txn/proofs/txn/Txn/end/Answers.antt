@@ -6,14 +6,14 @@ use Rattle.ts_txn.proofs.txn.Txn.end.Goals as goal
 
 pub returns-clause-rests : goal.returns-clause-rests
 returns-clause-rests g c = λ none started next roles sound.
-    at_rest g.C.Link.tells g.O.Link.tells g.C.Link.look g.O.Link.look g.O.Upstream.paired g.O.Upstream.refuses g.P.Transform.rest g.P.Transform.whole c.args.self.now next roles started
+    at_rest g.C.Link g.O.Link g.O.Upstream g.P.Transform c.args.self.now next roles started
     (sym c.end_of.ensures ∙ none) sound
 
 pub returns-clause-law : goal.returns-clause-law
 returns-clause-law g c = λ end is pending next roles sound.
-    ended_so g.C.Link.tells g.O.Link.tells g.C.Link.look g.O.Link.look g.O.Upstream.paired g.O.Upstream.refuses g.P.Transform.rest g.P.Transform.whole c.args.self.now pending next roles end
+    ended_so g.C.Link g.O.Link g.O.Upstream g.P.Transform c.args.self.now pending next roles end
     (sym c.end_of.ensures ∙ is) sound
 
 pub returns-clause-block : goal.returns-clause-block
 returns-clause-block g c = λ next roles sound.
-    rests_with_block g.C.Link.tells g.O.Link.tells g.C.Link.look g.O.Link.look g.O.Upstream.paired g.O.Upstream.refuses g.P.Transform.rest g.P.Transform.whole c.args.self.now next roles sound
+    rests_with_block g.C.Link g.O.Link g.O.Upstream g.P.Transform c.args.self.now next roles sound

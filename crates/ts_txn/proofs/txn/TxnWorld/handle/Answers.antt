@@ -5,11 +5,15 @@ use Rattle.ts_txn.proofs.txn.TxnWorld.handle.Goals as goal
 
 pub returns-clause-takes : goal.returns-clause-takes
 returns-clause-takes g c =
-    takes_event g.C.Link.tells g.O.Link.tells g.C.Link.look g.O.Link.look g.O.Upstream.paired g.O.Upstream.refuses g.O.Upstream.upload_left c.args.self.now.core c.drive_on.new.core c.args.cx.now
-    c.drive_on.new.cx c.args.role c.args.self.now.main c.args.self.now.course c.drive_on.new.course c.drive_on.ensures.handles
+    takes_event g.C.Link g.O.Link g.O.Upstream c.args.self.now.core c.advance.new.core c.args.cx.now
+    c.advance.new.cx c.args.role c.args.self.now.main c.args.self.now.course c.advance.new.course
+    c.advance.ensures.owes.handles
 
 -- the event that was handled is pending no more, and those that were set are paid
 pub returns-clause-lowers : goal.returns-clause-lowers
 returns-clause-lowers g c = λ call.
-    transaction_falls g.C.Link.tells g.O.Link.tells g.C.Link.look g.O.Link.look g.O.Upstream.upload_left g.P.Transform.rest c.args.self.now.core c.drive_on.new.core c.args.self.now.course c.drive_on.new.course
-    call.before.pending c.args.cx.now.log.state.pending c.drive_on.new.cx.log.state.pending c.drive_on.ensures.handles.keeps.setup (call.has.fewer call.sound.covered.plain) c.drive_on.ensures.pays
+    transaction_falls g.C.Link g.O.Link g.O.Upstream g.P.Transform c.args.self.now.core c.advance.new.core
+    c.args.self.now.course c.advance.new.course
+    call.before.pending c.args.cx.now.log.state.pending c.advance.new.cx.log.state.pending
+    c.advance.ensures.owes.handles.keeps.setup (call.has.fewer call.sound.covered.plain)
+    c.advance.ensures.pays

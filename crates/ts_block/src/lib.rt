@@ -1,0 +1,18 @@
+//! What a transaction makes of all that its two links give: its block.
+#![tactic(auto)]
+
+mod block;
+mod bodies;
+mod content;
+mod framing;
+mod heads;
+mod own_answer;
+mod rules;
+
+pub use block::{Block, block_of, framing_for, is_good, one_block, own_text, relayed_head, request_text};
+pub use bodies::joined;
+pub use content::acts_on;
+pub use framing::{asks_head, client_framing, framing_between, mode_of};
+pub use heads::is_interim;
+pub use own_answer::OwnStatus;
+pub use rules::{apply_rules, is_denied};

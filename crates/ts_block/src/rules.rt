@@ -1,0 +1,129 @@
+//! What the hook plugin lines of a configuration do: deny lists refuse hosts, header rules change fields.
+ghost use Rattle.std.specs.Prelude.{◌≡◌, drop, IfOk};
+ghost use Rattle.std.specs.List.{list_any};
+ghost use Rattle.std.specs.Str.{str_eq_ignore_ascii_case};
+ghost use Rattle.ts_block.specs.Rules.{apply_rule, after_line, ruled, is_side, is_site, denies, is_denied};
+
+use ts_config::{PluginLine, Rule, Side, Sites};
+use ts_link::NoMemory;
+use ts_wire::{Field, Fields};
+
+// The fields after one rule.
+fn apply_rule(mut fields: Fields, rule: &Rule) -> Result<Fields, NoMemory>
+    ensures { IfOk result (λ after. after ≡ apply_rule rule.now fields) }
+{
+    match rule {
+        Rule::Set { name, value } => {
+            let field = Field {
+                name: name.clone()?,
+                value: value.clone()?,
+            };
+            fields.remove_all(name);
+            fields.push(field)?;
+            Ok(fields)
+        }
+        Rule::Add { name, value } => {
+            let field = Field {
+                name: name.clone()?,
+                value: value.clone()?,
+            };
+            fields.push(field)?;
+            Ok(fields)
+        }
+        Rule::Remove { name } => {
+            fields.remove_all(name);
+            Ok(fields)
+        }
+    }
+}
+
+fn is_side(a: Side, b: Side) -> bool
+    ensures { result ≡ is_side a b }
+{
+    match a {
+        Side::Request => match b {
+            Side::Request => true,
+            Side::Response => false,
+        },
+        Side::Response => match b {
+            Side::Request => false,
+            Side::Response => true,
+        },
+    }
+}
+
+// The fields of one side's head after a line: only a header rule of that side changes them.
+fn after_line(side: Side, fields: Fields, line: &PluginLine) -> Result<Fields, NoMemory>
+    ensures { IfOk result (λ after. after ≡ after_line side fields line.now) }
+{
+    match line {
+        PluginLine::Header { side: ruled, rule } => {
+            if is_side(side, *ruled) {
+                apply_rule(fields, rule)
+            } else {
+                Ok(fields)
+            }
+        }
+        PluginLine::Deny { .. } => Ok(fields),
+    }
+}
+
+/// The fields of one side's head after all header rules of that side, in the order of their lines.
+pub fn apply_rules(side: Side, lines: &[PluginLine], fields: Fields) -> Result<Fields, NoMemory>
+    ensures { IfOk result (λ after. after ≡ ruled side lines.now fields) }
+{
+    let mut changed = fields;
+    for line in lines {
+        changed = after_line(side, changed, line)?;
+    }
+    Ok(changed)
+}
+
+fn is_same_site(site: &[u8], host: &[u8]) -> bool
+    ensures { result ≡ str_eq_ignore_ascii_case site.now host.now }
+{
+    site.eq_ignore_ascii_case(host)
+}
+
+// Whether the host is one of the sites but for letter case. No list in memory has more of them than a `usize`
+// counts.
+fn is_site(sites: &Sites, host: &[u8]) -> Result<bool, NoMemory>
+    ensures { IfOk result (λ is. is ≡ is_site host.now sites.now) }
+{
+    let mut k: usize = 0;
+    while let Some(site) = sites.site(k) {
+        if is_same_site(site, host) {
+            return Ok(true);
+        }
+        let Some(next) = k.checked_add(1) else {
+            return Err(NoMemory);
+        };
+        k = next;
+    }
+    Ok(false)
+}
+
+fn denies(line: &PluginLine, host: &[u8]) -> Result<bool, NoMemory>
+    ensures { IfOk result (λ does. does ≡ denies host.now line.now) }
+{
+    match line {
+        PluginLine::Deny { sites } => is_site(sites, host),
+        PluginLine::Header { .. } => Ok(false),
+    }
+}
+
+/// Whether some deny line denies the host, which is in the form that plugins see.
+pub fn is_denied(lines: &[PluginLine], host: &[u8]) -> Result<bool, NoMemory>
+    ensures { IfOk result (λ is. is ≡ is_denied lines.now host.now) }
+{
+    match lines {
+        [] => Ok(false),
+        [line, rest @ ..] => {
+            if denies(line, host)? {
+                Ok(true)
+            } else {
+                is_denied(rest, host)
+            }
+        }
+    }
+}

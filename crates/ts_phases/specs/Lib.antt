@@ -1,0 +1,11 @@
+pub mod Checking
+pub mod Cover
+pub mod Ends
+pub mod Facts
+pub mod Fronts
+pub mod Holding
+pub mod Lowering
+pub mod Moving
+pub mod RelayMoves
+pub mod Steps
+pub mod View

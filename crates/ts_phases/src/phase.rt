@@ -1,0 +1,117 @@
+//! The phases of a transaction, and what a step of one answers.
+
+use ts_block::OwnStatus;
+use ts_hooks::TxnEnd;
+use ts_link::Octets;
+use ts_wire::{RequestHead, ResponseHead};
+
+/// A request that passed the check: its head, the target that the origin gets, and the host.
+#[derive(Drop)]
+pub struct Request {
+    pub head: RequestHead,
+    pub target: Octets,
+    pub host: Octets,
+}
+
+/// An answer of the proxy's own: its status, whether it goes without its body, as to a HEAD request, and how
+/// the transaction ends once it is sent.
+#[derive(Clone, Copy, Debug, PartialEq, Eq)]
+pub struct OwnAnswer {
+    pub status: OwnStatus,
+    pub to_head: bool,
+    pub end: TxnEnd,
+}
+
+/// Where a transaction stands. The phases that have the name of a hook are those at which its plugins are
+/// asked.
+#[derive(Drop)]
+pub enum Phase {
+    /// It was not started.
+    Fresh,
+    TxnStart,
+    /// The client's request head is read, and checked.
+    ReadRequest,
+    ReadRequestHdr {
+        request: Request,
+    },
+    OsDns {
+        request: Request,
+    },
+    SendRequestHdr {
+        request: Request,
+    },
+    /// The request head is written to the origin.
+    SendRequest {
+        request: Request,
+    },
+    /// The origin's link moves the upload that follows the head.
+    Upload {
+        request: Request,
+    },
+    /// The origin's response head is read.
+    ReadResponse {
+        request: Request,
+    },
+    ReadResponseHdr {
+        request: Request,
+        head: ResponseHead,
+    },
+    ResponseTransform {
+        request: Request,
+        head: ResponseHead,
+    },
+    SendResponseHdr {
+        answer: OwnAnswer,
+    },
+    /// What was queued is written to the client.
+    Sending {
+        answer: OwnAnswer,
+    },
+    TxnClose {
+        end: TxnEnd,
+    },
+    Ended {
+        end: TxnEnd,
+    },
+}
+
+impl Phase {
+    /// The transaction has ended for want of memory.
+    pub const LACKS: Phase = Phase::Ended {
+        end: TxnEnd::NoMemory,
+    };
+}
+
+/// What the driver does after a step.
+#[derive(Clone, Copy, Debug, PartialEq, Eq)]
+pub enum Next {
+    /// The next step is made at once.
+    Go,
+    /// A link was not ready: the next step is made 10 milliseconds later.
+    Wait,
+    /// The transaction has ended.
+    Done,
+}
+
+/// What a step answers: where the transaction stands then, and what comes next.
+#[derive(Drop)]
+pub struct Step {
+    pub phase: Phase,
+    pub next: Next,
+}
+
+impl Step {
+    /// Memory lacked, and the transaction has ended for that.
+    pub const LACKS: Step = Step {
+        phase: Phase::LACKS,
+        next: Next::Done,
+    };
+
+    /// The client's link failed, and the transaction closes for that.
+    pub const CLIENT_FAILED: Step = Step {
+        phase: Phase::TxnClose {
+            end: TxnEnd::ClientFault,
+        },
+        next: Next::Go,
+    };
+}

@@ -1,0 +1,141 @@
+-- What a transaction that passes a body on has left to do: what is left to read passes a chain, which pays
+-- for what its stages set; and what is framed is written.
+use Rattle.std.specs.Prelude.{◌≡◌, ◌≤◌, ◌⊎◌, ℕ, ◌+◌, ◌*◌, List, [], length, Bool, Option, Some, if◌then◌else◌}
+use Rattle.ts_config.specs.declared.setup.Setup.{Setup}
+use Rattle.ts_group.specs.Answers.{Falls}
+use Rattle.ts_group.specs.Context.{Context}
+use Rattle.ts_link.specs.Link.{Fewer, NoMore}
+use Rattle.ts_transform.specs.Driving.{errors_to_pass}
+use Rattle.ts_transform.specs.Flow.{ChainState, left_to_do}
+use Rattle.ts_transform.specs.Stage.{to_end}
+use Rattle.ts_transform.specs.declared.continuation.StageContinuation.{StageContinuation}
+use Rattle.ts_transform.specs.declared.driven.DrivenChain.{DrivenChain}
+use Rattle.ts_relay.specs.BodyLinks.{HoldsLittle}
+use Rattle.ts_relay.specs.Duties.{set_leaving, IsBodyCovered, WhileGoes}
+use Rattle.ts_phases.specs.Holding.{IfTold}
+use Rattle.ts_relay.specs.Inserted.{AllAddNoMore}
+use Rattle.ts_phases.specs.Lowering.{agains_left, chain_room, end_room, if_told, number_left, pump_weight, to_hear, work_left}
+use Rattle.ts_phases.specs.View.{View}
+use Rattle.ts_relay.specs.declared.last_writes.BodyStep.{BodyStep}
+use Rattle.ts_relay.specs.declared.last_writes.BodyStep.TheVariants as S
+use Rattle.ts_phases.specs.declared.phase.Phase.TheVariants as phase
+use Rattle.ts_phases.specs.declared.phase.Request.{Request}
+use Rattle.ts_relay.specs.declared.relay.Relay.{Relay}
+use Rattle.ts_wire.specs.declared.heads.ResponseHead.{ResponseHead}
+
+-- A chain of the configuration's: it has no more stages than that has transform lines, and each of them adds
+-- no more.
+pub record IsOfLines {P : Type 0} (setup : Setup) (rest : P → List ℕ → List ℕ)
+    (c : ChainState P) : Type 0 where
+  pub few : length c.stages ≤ length setup.transforms.items
+  pub adds : AllAddNoMore rest c.stages
+
+module _ {P : Type 0} (setup : Setup) (rest : P → List ℕ → List ℕ) (errors : ℕ) where
+  -- what the chain has left to do, if it gets nothing more and may pass so many errors on
+  abbrev pub chain_work : ChainState P → ℕ
+  chain_work c = pump_weight * (left_to_do rest c [] + errors)
+
+  abbrev pub body_work : ℕ → View → ChainState P → ℕ
+  body_work again v c = end_room + (again + length v.client.outbox) + to_hear setup v.origin + chain_work c
+      + to_end c.given
+
+  -- what is left while a body is passed on, if the links tell how many Again answers are left
+  abbrev pub body_left : View → ChainState P → Option ℕ
+  body_left v c = if_told (agains_left v) (Some 0) (λ again upload. body_work again v c)
+
+-- and once all that the client gets was queued
+abbrev pub finish_left : View → Option ℕ
+finish_left v = if_told (agains_left v) (Some 0) (λ again upload. 2 + (again + length v.client.outbox))
+
+-- at the close, and at the end
+abbrev pub close_left : View → Option ℕ
+close_left v = if_told (agains_left v) (Some 0) (λ again upload. 1)
+
+abbrev pub ended_left : View → Option ℕ
+ended_left v = if_told (agains_left v) (Some 0) (λ again upload. 0)
+
+-- how many errors its stages may pass on: none, once it runs no more, since no event can be set then
+abbrev pub errors_left : {P : Type 0} → DrivenChain P → ℕ
+errors_left d = if d.running then errors_to_pass d.table.items else 0
+
+module _ {P : Type 0} (setup : Setup) (rest : P → List ℕ → List ℕ) where
+  abbrev pub relay_left : View → Relay P → Option ℕ
+  relay_left v r = body_left setup rest (errors_left r.driven) v r.driven.chain
+
+  -- before its stages have continuations each of them may pass an error on
+  abbrev pub unbegun_left : View → Relay P → Option ℕ
+  unbegun_left v r = body_left setup rest (length r.driven.chain.stages) v r.driven.chain
+
+  -- what is left where a step leads
+  abbrev pub left_after : BodyStep → View → Relay P → Option ℕ
+  left_after S.Goes v r = relay_left v r
+  left_after S.Waits v r = relay_left v r
+  left_after (S.Finishes end) v r = finish_left v
+  left_after (S.Closes end) v r = close_left v
+  left_after S.Lacks v r = ended_left v
+
+  -- of the chain's stages each still adds no more
+  abbrev pub StaysOfLines : Relay P → Relay P → Type 0
+  StaysOfLines r s = IsOfLines setup rest r.driven.chain → IsOfLines setup rest s.driven.chain
+
+-- A chain of fresh transforms: what it has left to do, with an error for each stage, has room in what was
+-- left before.
+pub record HasChainRoom {P : Type 0} (setup : Setup) (rest : P → List ℕ → List ℕ)
+    (c : ChainState P) : Type 0 where
+  pub lines : IsOfLines setup rest c
+  pub room : left_to_do rest c [] + length c.stages ≤ chain_room setup
+
+-- The head of a response was queued whose body is passed on: where both links tell, little of the body is
+-- held, and what is left is less.
+pub record LowersEntering {P : Type 0} (ctells otells : Bool) (setup : Setup) (rest : P → List ℕ → List ℕ)
+    (q : Request) (h : ResponseHead) (v w : View) (r : Relay P) : Type 0 where
+  pub lines : IsOfLines setup rest r.driven.chain
+  pub little : IfTold ctells otells (HoldsLittle w r.driven.chain)
+  pub falls : IfTold ctells otells
+      (Fewer (work_left setup (Some 0) v (phase.ResponseTransform q h)) (unbegun_left setup rest w r))
+
+-- Its continuations were made: the front of the chain is as it was, and what is left did not rise.
+pub record BeginsLower {P : Type 0} (setup : Setup) (rest : P → List ℕ → List ℕ) (step : BodyStep) (v : View)
+    (r s : Relay P) : Type 0 where
+  pub lines : WhileGoes step (StaysOfLines setup rest r s)
+  pub first : WhileGoes step (s.driven.chain.first ≡ r.driven.chain.first)
+  pub falls : NoMore (unbegun_left setup rest v r) (left_after setup rest step v s)
+
+-- an end had nothing to do, and nothing changed
+pub record HasNoDuty {P : Type 0} (must : Type 0) (step : BodyStep) (v w : View) (r s : Relay P)
+    (a b : Context) : Type 0 where
+  pub free : must → ⊥
+  pub goes : step ≡ S.Goes
+  pub view : w ≡ v
+  pub relay : s ≡ r
+  pub quiet : b ≡ a
+
+-- The step of an end of a body lowers what is left, where both links tell, or the end had nothing to do.
+-- Whether the reader is roused stays.
+pub record LowersBody {P : Type 0} (ctells otells : Bool) (must : Type 0) (setup : Setup)
+    (rest : P → List ℕ → List ℕ) (step : BodyStep) (v w : View) (r s : Relay P)
+    (a b : Context) : Type 0 where
+  pub reader : s.reader ≡ r.reader
+  pub lines : WhileGoes step (StaysOfLines setup rest r s)
+  pub falls : IfTold ctells otells (IsOfLines setup rest r.driven.chain →
+      Fewer (relay_left setup rest v r) (left_after setup rest step w s) ⊎ HasNoDuty must step v w r s a b)
+
+-- what is left where one of the last writes leads
+abbrev pub rest_after : BodyStep → View → Option ℕ
+rest_after S.Goes v = finish_left v
+rest_after S.Waits v = finish_left v
+rest_after (S.Finishes end) v = finish_left v
+rest_after (S.Closes end) v = close_left v
+rest_after S.Lacks v = ended_left v
+
+-- An event that was handled while a body is passed on raised the number of its transaction by none of the
+-- events that it set, where both links tell; and where the body is left, it pays for the event that is set
+-- then.
+pub record PaysBody {P : Type 0} (ctells otells : Bool) (setup : Setup) (rest : P → List ℕ → List ℕ)
+    (step : BodyStep) (v w : View) (main : Option StageContinuation) (r s : Relay P)
+    (a b : Context) : Type 0 where
+  pub lines : WhileGoes step (StaysOfLines setup rest r s)
+  pub pays : IfTold ctells otells (IsOfLines setup rest r.driven.chain →
+      IsBodyCovered v main r a.log.state.next →
+      Falls (number_left a.log.state.pending (relay_left setup rest v r)) (set_leaving step)
+      (number_left b.log.state.pending (left_after setup rest step w s)))

@@ -1,0 +1,43 @@
+//! A body that is passed on: its chain, where its reader stands, and the continuation that reads.
+ghost use Rattle.std.specs.Prelude.{◌≡◌};
+ghost use Rattle.ts_relay.specs.Relaying.{step_after};
+
+use crate::last_writes::BodyStep;
+use ts_group::SetFault;
+use ts_transform::{DrivenChain, StageContinuation};
+use ts_wire::BodyReader;
+
+/// The role of the first continuation of a transaction, the only one that it has up to the head.
+pub const MAIN: u32 = 1;
+
+/// The role of the continuation that reads a body.
+pub const READER: u32 = 2;
+
+/// The role of the first stage of the chain that a body goes through; those of the others follow.
+pub const FIRST: u32 = 3;
+
+/// How long a step waits that found a link not ready, in milliseconds.
+pub const RETRY: u64 = 10;
+
+/// A body that is passed on.
+#[derive(Drop)]
+pub struct Relay<P> {
+    /// The chain of the lines that act on it.
+    pub driven: DrivenChain<P>,
+    /// Where the reader of the origin's framing stands.
+    pub body: BodyReader,
+    /// The continuation that reads on.
+    pub reader: Option<StageContinuation>,
+}
+
+/// Where a step leads at which an event was set, or could not be.
+pub fn step_after(set: Result<(), SetFault>) -> BodyStep
+    ensures { result ≡ step_after set }
+{
+    match set {
+        Ok(()) => BodyStep::Goes,
+        Err(SetFault::Spent) => BodyStep::Goes,
+        Err(SetFault::NoMemory) => BodyStep::Lacks,
+        Err(SetFault::Dead) => BodyStep::Lacks,
+    }
+}

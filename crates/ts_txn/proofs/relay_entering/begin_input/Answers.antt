@@ -1,9 +1,0 @@
--- Where there is a body, nothing is done to the chain.
-use Rattle.ts_txn.proofs.Chaining.{chain_still}
-use Rattle.ts_txn.proofs.relay_entering.begin_input.Goals as goal
-
-pub returns-in-Unfinished-clause-chain : goal.returns-in-Unfinished-clause-chain
-returns-in-Unfinished-clause-chain g c = chain_still _ 1 c.args.relay.now.driven c.args.cx.now c.requires.turn
-
-pub returns-in-Bad-clause-chain : goal.returns-in-Bad-clause-chain
-returns-in-Bad-clause-chain g c = chain_still _ 1 c.args.relay.now.driven c.args.cx.now c.requires.turn

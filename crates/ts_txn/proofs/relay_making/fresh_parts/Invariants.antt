@@ -1,8 +1,0 @@
--- The parts are those of the lines that were passed.
-use Rattle.std.proofs.Common.{drop}
-use Rattle.ts_txn.specs.Acting.{acts_on}
-use Rattle.ts_txn.proofs.Parting.{Continues}
-use Rattle.ts_txn.proofs.relay_making.fresh_parts.Given as goal
-
-abbrev pub invariant-loop-line : goal.invariant-loop-line
-invariant-loop-line g l = Continues g.P.Transform.rest g.P.Transform.pause g.P.Transform.line_pause (acts_on l.status l.fields) l.lines (drop l.line-index l.lines) l.parts.items

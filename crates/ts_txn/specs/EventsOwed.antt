@@ -1,0 +1,24 @@
+-- What an event of a role owes of the transaction that it is handled of.
+use Rattle.std.specs.Prelude.{ℕ, Option}
+use Rattle.ts_config.specs.declared.setup.TransformLine.{TransformLine}
+use Rattle.ts_group.specs.Context.{Context}
+use Rattle.ts_link.specs.declared.link.Link as link
+use Rattle.ts_phases.specs.declared.parts.Core.{Core}
+use Rattle.ts_transform.specs.Driving.{ActsWithin}
+use Rattle.ts_transform.specs.declared.continuation.StageContinuation.{StageContinuation}
+use Rattle.ts_transform.specs.declared.transform.Transform as transform
+use Rattle.ts_txn.specs.Driven.{HandlesEvent}
+use Rattle.ts_txn.specs.World.{IsSoundNow, most_set}
+use Rattle.ts_txn.specs.declared.course.Course.{Course}
+use Rattle.ts_upstream.specs.declared.upstream.Upstream as upstream
+
+-- The transaction stands sound then, few events are set, and it was led on as the event says.
+pub record EventOwes {C O Q : Type 0} (client : link.Ghosts C) (origin : link.Ghosts O)
+    (both : upstream.Ghosts O C) (stage : transform.Ghosts Q TransformLine) (s t : Core C O) (a b : Context)
+    (role : ℕ) (main u : Option StageContinuation) (old new : Course Q) : Type 0 where
+  -- its facts hold, and each of its duties has an event
+  pub sound : IsSoundNow client origin both stage t u new b
+  -- at most seven events were set
+  pub within : ActsWithin most_set a b
+  -- where the event led, and when the events that it set are due
+  pub handles : HandlesEvent client origin both s t a b role main old new
