@@ -5,7 +5,6 @@ use Rattle.std.specs.Arc.{arc_value}
 use Rattle.std.proofs.lemmas.Bool.{false≢true}
 use Rattle.ts_phases.specs.View.{OriginRefuses, view_of}
 use Rattle.ts_hooks.specs.declared.txn_end.TxnEnd.TheVariants as E
-use Rattle.ts_relay.specs.declared.last_writes.BodyStep.TheVariants as S
 use Rattle.ts_relay.proofs.BodyLinks.{writer_queued, writer_rests}
 use Rattle.ts_relay.proofs.LoweringRelay.{idles, lowers_whole, queues_lacks}
 use Rattle.ts_relay.proofs.Relaying.{ends_whole, frames_lacks}
