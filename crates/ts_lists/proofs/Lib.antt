@@ -1,0 +1,11 @@
+pub mod Places
+pub mod Fronts
+pub mod Elements
+pub mod Pairs
+pub mod Gets
+pub mod Anys
+pub mod Sizes
+pub mod Sums
+pub mod Cases
+pub mod Results
+pub mod Digits
