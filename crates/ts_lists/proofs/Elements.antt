@@ -25,21 +25,26 @@ module _ {A : Type 0} where
   all_of_any P (x ∷ xs) any = All-cons P x xs (any x) (all_of_any P xs any)
 
   -- what holds of what stands at each place holds of each element, and the other way round
-  pub all_from_places : (P : A → Type 0) (xs : List A) → ((k : ℕ) (x : A) → get_elem? xs k ≡ some x → P x) → All P xs
+  pub all_from_places : (P : A → Type 0) (xs : List A) → ((k : ℕ) (x : A) → get_elem? xs k ≡ some x → P x)
+      → All P xs
   all_from_places P [] at = All-nil P
-  all_from_places P (x ∷ xs) at = All-cons P x xs (at 0 x refl) (all_from_places P xs (λ k y is. at (suc k) y is))
+  all_from_places P (x ∷ xs) at =
+      All-cons P x xs (at 0 x refl) (all_from_places P xs (λ k y is. at (suc k) y is))
 
-  pub all_at_place : (P : A → Type 0) (xs : List A) (k : ℕ) → All P xs → k < length xs → (x : A) × (get_elem? xs k ≡ some x) × P x
+  pub all_at_place : (P : A → Type 0) (xs : List A) (k : ℕ) → All P xs → k < length xs → (x : A)
+      × (get_elem? xs k ≡ some x) × P x
   all_at_place P [] k all below = absurd (omega arith)
   all_at_place P (x ∷ xs) zero all below = (x, refl, All-head P x xs all)
   all_at_place P (x ∷ xs) (suc k) all below = all_at_place P xs k (All-tail P x xs all) (omega arith)
 
   -- the same by recursion on the list: one element more, a weaker fact, a front and a rest
-  pub each_push : (P : A → Type 0) (xs : List A) (x : A) → AllByRecursion P xs → P x → AllByRecursion P (xs ++ x ∷ [])
+  pub each_push : (P : A → Type 0) (xs : List A) (x : A) → AllByRecursion P xs → P x
+      → AllByRecursion P (xs ++ x ∷ [])
   each_push P [] x each is = (is, tt)
   each_push P (y ∷ ys) x each is = (each.0, each_push P ys x each.1 is)
 
-  pub each_weaker : (P Q : A → Type 0) (xs : List A) → ((x : A) → P x → Q x) → AllByRecursion P xs → AllByRecursion Q xs
+  pub each_weaker : (P Q : A → Type 0) (xs : List A) → ((x : A) → P x → Q x) → AllByRecursion P xs
+      → AllByRecursion Q xs
   each_weaker P Q [] weaker each = tt
   each_weaker P Q (x ∷ xs) weaker each = (weaker x each.0, each_weaker P Q xs weaker each.1)
 

@@ -1,5 +1,6 @@
 -- What a slice's `get` gives of lists that are joined.
-use Rattle.std.proofs.Common.{◌≡◌, ℕ, zero, suc, ◌-◌, ◌<◌, ◌≤◌, List, [], ◌∷◌, ◌++◌, length, Some, refl, ap, ◌∙◌, arith}
+use Rattle.std.proofs.Common.{◌≡◌, ℕ, zero, suc, ◌-◌, ◌<◌, ◌≤◌, List, [], ◌∷◌, ◌++◌, length, Some, refl, ap}
+use Rattle.std.proofs.Common.{◌∙◌, arith}
 use Rattle.std.specs.List.{slice_get}
 
 module _ {A : Type 0} where
@@ -24,5 +25,6 @@ module _ {A : Type 0} where
   get_rest (x ∷ xs) ys zero long = absurd (omega arith)
   get_rest (x ∷ xs) ys (suc k) long = get_rest xs ys k (omega arith)
 
-  pub get_middle : (xs : List A) (x : A) (ys : List A) (k : ℕ) → length xs ≡ k → slice_get (xs ++ x ∷ ys) k ≡ Some x
+  pub get_middle : (xs : List A) (x : A) (ys : List A) (k : ℕ) → length xs ≡ k
+      → slice_get (xs ++ x ∷ ys) k ≡ Some x
   get_middle xs x ys k long = get_rest xs (x ∷ ys) k long

@@ -1,5 +1,6 @@
 -- Two lists side by side: a relation of the elements at each place.
-use Rattle.std.proofs.Common.{◌≡◌, ℕ, zero, suc, ◌<◌, List, [], ◌∷◌, length, All, get_or, refl, sym, ◌∙◌, subst, arith}
+use Rattle.std.proofs.Common.{◌≡◌, ℕ, zero, suc, ◌<◌, List, [], ◌∷◌, length, All, get_or, refl, sym, ◌∙◌}
+use Rattle.std.proofs.Common.{subst, arith}
 use Rattle.std.specs.List.{AllZip}
 use Rattle.std.proofs.lemmas.List.Elements.{All-nil, All-cons, All-head, All-tail}
 use mathlib.Core.Option.{some, some-ne-none, some-injective}
@@ -34,16 +35,19 @@ module _ {A B : Type 0} (R : A → B → Type 0) where
 
   -- the same where for each element of the second list there is one of the first
   pub zip_from_found : (xs : List A) (ys : List B) → length ys ≡ length xs
-      → ((k : ℕ) (y : B) → get_elem? ys k ≡ some y → (x : A) × (get_elem? xs k ≡ some x) × R x y) → AllZip R xs ys
+      → ((k : ℕ) (y : B) → get_elem? ys k ≡ some y → (x : A) × (get_elem? xs k ≡ some x) × R x y)
+      → AllZip R xs ys
   zip_from_found xs ys long found = zip_from_places xs ys long
       (λ k x y at also. let here = found k y also in
       subst (λ z. R z y) (some-injective here.0 x (sym here.1 ∙ at)) here.2)
 
   -- what the first list's fact and the relation give of the second list
-  pub zip_across : (P : A → Type 0) (Q : B → Type 0) (xs : List A) (ys : List B) → ((x : A) (y : B) → P x → R x y → Q y)
+  pub zip_across : (P : A → Type 0) (Q : B → Type 0) (xs : List A) (ys : List B)
+      → ((x : A) (y : B) → P x → R x y → Q y)
       → All P xs → AllZip R xs ys → All Q ys
   zip_across P Q [] [] over all zip = All-nil Q
   zip_across P Q [] (y ∷ ys) over all zip = absurd zip
   zip_across P Q (x ∷ xs) [] over all zip = absurd zip
   zip_across P Q (x ∷ xs) (y ∷ ys) over all zip =
-      All-cons Q y ys (over x y (All-head P x xs all) zip.0) (zip_across P Q xs ys over (All-tail P x xs all) zip.1)
+      All-cons Q y ys (over x y (All-head P x xs all) zip.0)
+      (zip_across P Q xs ys over (All-tail P x xs all) zip.1)

@@ -1,5 +1,6 @@
 -- Places of a list: what stands at a place, and that it stands below the length.
-use Rattle.std.proofs.Common.{◌≡◌, ℕ, zero, suc, ◌+◌, ◌<◌, List, [], ◌∷◌, ◌++◌, length, Some, take, get_or, ap, sym, ◌∙◌, subst, arith}
+use Rattle.std.proofs.Common.{◌≡◌, ℕ, zero, suc, ◌+◌, ◌<◌, List, [], ◌∷◌, ◌++◌, length, Some, take, get_or}
+use Rattle.std.proofs.Common.{ap, sym, ◌∙◌, subst, arith}
 use Rattle.std.proofs.lemmas.List.{take_more, append_assoc}
 use mathlib.Core.Option.{some, some-ne-none, some-injective}
 use Rattle.std.specs.List.{Contains, slice_get}
@@ -23,7 +24,8 @@ module _ {A : Type 0} where
   place_read (y ∷ ys) (suc k) x d at = place_read ys k x d at
 
   -- one element more than the first k is what stands at k
-  pub take_place : (xs : List A) (k : ℕ) (x : A) → get_elem? xs k ≡ some x → take (k + 1) xs ≡ take k xs ++ x ∷ []
+  pub take_place : (xs : List A) (k : ℕ) (x : A) → get_elem? xs k ≡ some x
+      → take (k + 1) xs ≡ take k xs ++ x ∷ []
   take_place xs k x at =
       subst (λ y. take (k + 1) xs ≡ take k xs ++ y ∷ []) (place_read xs k x x at)
       (take_more xs k x (place_below xs k x at))

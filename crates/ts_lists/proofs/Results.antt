@@ -23,6 +23,7 @@ module _ {A E : Type 0} where
   on_err_any (Err e) p = p
 
   -- a result that is this error
-  pub by_error : (P : Result A E → Type 0) (r : Result A E) (e : E) → IsErrAnd r (λ x. x ≡ e) → P (Err e) → P r
+  pub by_error : (P : Result A E → Type 0) (r : Result A E) (e : E) → IsErrAnd r (λ x. x ≡ e) → P (Err e)
+      → P r
   by_error P (Ok a) e is p = absurd is
   by_error P (Err x) e is p = subst (λ y. P (Err y)) (sym is) p

@@ -1,5 +1,6 @@
 -- Lengths of lists, and which lists are not empty.
-use Rattle.std.proofs.Common.{◌≡◌, ◌≢◌, ℕ, ◌<◌, ◌≤◌, Bool, true, false, cond, List, [], ◌∷◌, ◌++◌, length, ap, refl, arith}
+use Rattle.std.proofs.Common.{◌≡◌, ◌≢◌, ℕ, ◌<◌, ◌≤◌, Bool, true, false, cond, List, [], ◌∷◌, ◌++◌, length}
+use Rattle.std.proofs.Common.{ap, refl, arith}
 use Rattle.std.specs.List.{filter}
 
 module _ {A : Type 0} where
@@ -15,10 +16,12 @@ module _ {A : Type 0} where
   -- a list that is not not empty is empty
   pub empty_unless : (xs : List A) → (xs ≢ [] → ⊥) → xs ≡ []
   empty_unless [] never = refl
-  empty_unless (x ∷ xs) never = absurd (never (λ is. absurd (let wrong : ◌≡◌ {A = List A} (x ∷ xs) [] = is in cc)))
+  empty_unless (x ∷ xs) never =
+      absurd (never (λ is. absurd (let wrong : ◌≡◌ {A = List A} (x ∷ xs) [] = is in cc)))
 
   -- one list or the other
-  pub chosen_within : (test : Bool) (xs ys : List A) (n : ℕ) → length xs ≤ n → length ys ≤ n → length (cond test xs ys) ≤ n
+  pub chosen_within : (test : Bool) (xs ys : List A) (n : ℕ) → length xs ≤ n → length ys ≤ n
+      → length (cond test xs ys) ≤ n
   chosen_within true xs ys n left right = left
   chosen_within false xs ys n left right = right
 
@@ -27,6 +30,7 @@ module _ {A : Type 0} where
   filter_within p [] = omega arith
   filter_within p (x ∷ xs) = kept (p x) (filter_within p xs)
     where
-      kept : (test : Bool) → length (filter p xs) ≤ length xs → length (cond test (x ∷ filter p xs) (filter p xs)) ≤ length (x ∷ xs)
+      kept : (test : Bool) → length (filter p xs) ≤ length xs
+          → length (cond test (x ∷ filter p xs) (filter p xs)) ≤ length (x ∷ xs)
       kept true less = omega arith
       kept false less = omega arith

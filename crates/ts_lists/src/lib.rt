@@ -1,2 +1,2 @@
-//! Lemmas on lists that several crates cite: fronts and rests, places, facts on each element, lists side by side.
+//! Lemmas on lists, options and results that several crates cite: fronts, places, elements, lists side by side.
 #![tactic(auto)]
