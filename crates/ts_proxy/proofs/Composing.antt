@@ -6,12 +6,14 @@ use Rattle.ts_config.specs.declared.setup.TransformLine.{TransformLine}
 use Rattle.ts_config.specs.Bodies.{whole_of, compose_lines}
 use Rattle.ts_stock.specs.Stock.{still_writes}
 
-compose-push : (ps : List State) (p : State) (z : List ℕ) → compose still_writes (ps ++ p ∷ []) z ≡ still_writes p (compose still_writes ps z)
+compose-push : (ps : List State) (p : State) (z : List ℕ)
+    → compose still_writes (ps ++ p ∷ []) z ≡ still_writes p (compose still_writes ps z)
 compose-push [] p z = refl
 compose-push (q ∷ ps) p z = compose-push ps p (still_writes q z)
 
 -- one line more
-pub composing-more : (ps : List State) (p : State) (all left rest : List TransformLine) (l : TransformLine) → left ≡ l ∷ rest
+pub composing-more : (ps : List State) (p : State) (all left rest : List TransformLine) (l : TransformLine)
+    → left ≡ l ∷ rest
     → ((w : List ℕ) → still_writes p w ≡ whole_of l w)
     → ((z : List ℕ) → compose_lines left (compose still_writes ps z) ≡ compose_lines all z)
     → (z : List ℕ) → compose_lines rest (compose still_writes (ps ++ p ∷ []) z) ≡ compose_lines all z

@@ -8,7 +8,8 @@ use Rattle.ts_link.specs.declared.shelf.ShelfFault.TheVariants as fault
 use Rattle.ts_proxy.specs.declared.answer.NamedFile.{NamedFile}
 use Rattle.ts_proxy.specs.declared.answer.Answer.{Answer}
 use Rattle.ts_proxy.specs.declared.answer.Answer.TheVariants as a
-use Rattle.ts_proxy.specs.Answers.{file_name, answer_of, ComesAt, IsOfWriting, OnCannotRead, IsReadBy, HasText}
+use Rattle.ts_proxy.specs.Answers.{file_name, answer_of, ComesAt, IsOfWriting, OnCannotRead, IsReadBy}
+use Rattle.ts_proxy.specs.Answers.{HasOutput}
 use Rattle.ts_link.specs.Seen.{ShelfSeen, SinkSeen}
 use Rattle.ts_proxy.specs.Outcome.{Outcome, most_input, opened, set_up, performed, worked, Long, Text}
 use Rattle.ts_proxy.specs.declared.answer.NamedFile.TheVariants as file
@@ -16,26 +17,34 @@ use Rattle.ts_config.specs.declared.setup.TransformLine.{TransformLine}
 use Rattle.ts_proxy.specs.Words.{Command}
 
 -- a file that was read
-pub opened-read : (o : Option (List ℕ)) (most : ℕ) (name bytes : List ℕ) (next : List ℕ → Outcome) → o ≡ Some bytes → length bytes ≤ most
+pub opened-read : (o : Option (List ℕ)) (most : ℕ) (name bytes : List ℕ) (next : List ℕ → Outcome)
+    → o ≡ Some bytes → length bytes ≤ most
     → opened o most name next ≡ next bytes
 opened-read o most name bytes next is within =
-    ap (λ f. opened f most name next) is ∙ ap (λ b. if b then next bytes else Long name) (le-leb (length bytes) most within)
+    ap (λ f. opened f most name next) is ∙ ap (λ b. if b then next bytes else Long name)
+    (le-leb (length bytes) most within)
 
 -- a file of which more than the limit was seen
-opened-long : (o : Option (List ℕ)) (most seen : ℕ) (name : List ℕ) (next : List ℕ → Outcome) → most < seen → IsSomeAnd o (λ bytes. seen ≤ length bytes)
+opened-long : (o : Option (List ℕ)) (most seen : ℕ) (name : List ℕ) (next : List ℕ → Outcome) → most < seen
+    → IsSomeAnd o (λ bytes. seen ≤ length bytes)
     → opened o most name next ≡ Long name
 opened-long None most seen name next over has = absurd has
-opened-long (Some bytes) most seen name next over has = ap (λ b. if b then next bytes else Long name) (lt-leb (length bytes) most (omega (arith, over, has)))
+opened-long (Some bytes) most seen name next over has = ap (λ b. if b then next bytes else Long name)
+    (lt-leb (length bytes) most (omega (arith, over, has)))
 
 -- a read that was refused
-pub refused-comes : (config input name : List ℕ) (most : ℕ) (o : Option (List ℕ)) (f : ShelfFault) (named : NamedFile) (next : List ℕ → Outcome)
-    → file_name config input named ≡ name → KeepsLimit most (Err f) → ReadsFile o most (Err f) → ComesAt config input (answer_of f named) (opened o most name next)
+pub refused-comes : (config input name : List ℕ) (most : ℕ) (o : Option (List ℕ)) (f : ShelfFault)
+    (named : NamedFile) (next : List ℕ → Outcome)
+    → file_name config input named ≡ name → KeepsLimit most (Err f) → ReadsFile o most (Err f)
+    → ComesAt config input (answer_of f named) (opened o most name next)
 refused-comes config input name most o fault.Failed named next is limit told = tt
-refused-comes config input name most o (fault.TooLong seen) named next is limit told = opened-long o most seen name next limit told ∙ ap Long (sym is)
+refused-comes config input name most o (fault.TooLong seen) named next is limit told = opened-long o most seen
+    name next limit told ∙ ap Long (sym is)
 refused-comes config input name most o fault.NoMemory named next is limit told = tt
 
 -- an answer of the part that writes comes where there is a text to write
-pub writing-comes : (config input text : List ℕ) (answer : Answer) (old new : SinkSeen) → IsOfWriting answer old new → ComesAt config input answer (Text text)
+pub writing-comes : (config input text : List ℕ) (answer : Answer) (old new : SinkSeen)
+    → IsOfWriting answer old new → ComesAt config input answer (Text text)
 writing-comes config input text a.Done old new h = tt
 writing-comes config input text a.Usage old new h = absurd h
 writing-comes config input text (a.BadLine b) old new h = absurd h
@@ -46,26 +55,34 @@ writing-comes config input text a.OutOfMemory old new h = tt
 writing-comes config input text (a.TooLong n) old new h = absurd h
 
 -- a command whose files were read does its part
-pub performed-read : (command : Command) (files files' : List ℕ → Option (List ℕ)) (config input bytes : List ℕ) (lines : List TransformLine)
-    → ((next : List TransformLine → Outcome) → set_up files config next ≡ next lines) → files' ≡ files → files' input ≡ Some bytes → length bytes ≤ most_input
+pub performed-read : (command : Command) (files files' : List ℕ → Option (List ℕ))
+    (config input bytes : List ℕ) (lines : List TransformLine)
+    → ((next : List TransformLine → Outcome) → set_up files config next ≡ next lines) → files' ≡ files
+    → files' input ≡ Some bytes → length bytes ≤ most_input
     → performed command files config input ≡ worked command lines bytes
 performed-read command files files' config input bytes lines read same is within =
     read (λ ls. opened (files input) most_input input (worked command ls))
-    ∙ opened-read (files input) most_input input bytes (worked command lines) (ap (λ f. f input) (sym same) ∙ is) within
+    ∙ opened-read (files input) most_input input bytes (worked command lines)
+    (ap (λ f. f input) (sym same) ∙ is) within
 
 -- a command whose input could not be read
-pub performed-refused : (command : Command) (files files' : List ℕ → Option (List ℕ)) (config input : List ℕ) (lines : List TransformLine) (f : ShelfFault)
-    → ((next : List TransformLine → Outcome) → set_up files config next ≡ next lines) → files' ≡ files → KeepsLimit most_input (Err f)
-    → ReadsFile (files' input) most_input (Err f) → ComesAt config input (answer_of f file.Input) (performed command files config input)
+pub performed-refused : (command : Command) (files files' : List ℕ → Option (List ℕ)) (config input : List ℕ)
+    (lines : List TransformLine) (f : ShelfFault)
+    → ((next : List TransformLine → Outcome) → set_up files config next ≡ next lines) → files' ≡ files
+    → KeepsLimit most_input (Err f)
+    → ReadsFile (files' input) most_input (Err f)
+    → ComesAt config input (answer_of f file.Input) (performed command files config input)
 performed-refused command files files' config input lines f read same limit told =
-    let next : List TransformLine → Outcome = λ ls. opened (files input) most_input input (worked command ls) in
+    let next : List TransformLine → Outcome = λ ls. opened (files input) most_input input (worked command ls)
+    in
     subst (λ o. ComesAt config input (answer_of f file.Input) o) (sym (read next))
     (refused-comes config input input most_input (files input) f file.Input (worked command lines) refl limit
     (subst (λ g. ReadsFile (g input) most_input (Err f)) same told))
 
 -- a command whose input could not be read had come to it
 pub input-refused : (shelf : ShelfSeen) (config : List ℕ) (lines : List TransformLine) (f : ShelfFault)
-    → ((next : List TransformLine → Outcome) → set_up shelf.file config next ≡ next lines) → OnCannotRead (answer_of f file.Input) (IsReadBy shelf config)
-input-refused shelf config lines fault.Failed read = subst HasText (sym (read (λ ls. Text []))) tt
+    → ((next : List TransformLine → Outcome) → set_up shelf.file config next ≡ next lines)
+    → OnCannotRead (answer_of f file.Input) (IsReadBy shelf config)
+input-refused shelf config lines fault.Failed read = subst HasOutput (sym (read (λ ls. Text []))) tt
 input-refused shelf config lines (fault.TooLong seen) read = tt
 input-refused shelf config lines fault.NoMemory read = tt

@@ -29,10 +29,10 @@ answer_of (fault.TooLong seen) f = a.TooLong f
 answer_of fault.NoMemory f = a.OutOfMemory
 
 -- an outcome has a text to write
-abbrev pub HasText : Outcome → Type 0
-HasText (Text t) = ⊤
-HasText (Report lines bytes) = HasRecording bytes
-HasText _ = ⊥
+abbrev pub HasOutput : Outcome → Type 0
+HasOutput (Text t) = ⊤
+HasOutput (Report lines bytes) = HasRecording bytes
+HasOutput _ = ⊥
 
 -- its text
 abbrev pub IsTextOf : Outcome → List ℕ → Type 0
@@ -47,11 +47,11 @@ RefusesRecording _ offset = ⊥
 
 -- at which outcome an answer comes; a failed read and want of memory may come at any
 abbrev pub ComesAt : List ℕ → List ℕ → Answer → Outcome → Type 0
-ComesAt config input a.Done o = HasText o
+ComesAt config input a.Done o = HasOutput o
 ComesAt config input a.Usage o = o ≡ Usage
 ComesAt config input (a.BadLine f) o = o ≡ BadLine f.line f.kind
 ComesAt config input (a.BadRecording offset) o = RefusesRecording o offset
-ComesAt config input a.CannotWrite o = HasText o
+ComesAt config input a.CannotWrite o = HasOutput o
 ComesAt config input (a.TooLong f) o = o ≡ Long (file_name config input f)
 ComesAt config input _ o = ⊤
 
@@ -67,26 +67,26 @@ IsNamedBy line _ = ⊥
 
 -- the work on these lines comes to a file: a line names it, and the files of all lines before that one are
 -- there within their limit
-pub record ComesTo (files : List ℕ → Option (List ℕ)) (lines : List TransformLine) (f : NamedFile)
+pub record ReachesFile (files : List ℕ → Option (List ℕ)) (lines : List TransformLine) (f : NamedFile)
     : Type 0 where
   pub before : List TransformLine
   pub line : TransformLine
   pub after : List TransformLine
   pub stands : lines ≡ before ++ line ∷ after
   pub names : IsNamedBy line f
-  pub read : HasText (filled files before (λ ls. Text []))
+  pub read : HasOutput (filled files before (λ ls. Text []))
 
 -- the configuration is there within its limit and has no faulty line, and the work on its lines comes to a
 -- file
 abbrev pub IsReadFor : (List ℕ → Option (List ℕ)) → List ℕ → NamedFile → Type 0
 IsReadFor files config f = IsSomeAnd (files config) (λ bytes. (length bytes ≤ most_config)
-    × (lines : List TransformLine) × (config_of bytes ≡ Good lines) × ComesTo files lines f)
+    × (lines : List TransformLine) × (config_of bytes ≡ Good lines) × ReachesFile files lines f)
 
 -- the file whose read failed is one that the work comes to: the configuration; a file that one of its lines
 -- names; and the input, once all the others were read
 abbrev pub IsReadBy : ShelfSeen → List ℕ → NamedFile → Type 0
 IsReadBy shelf config file.Config = ⊤
-IsReadBy shelf config file.Input = HasText (set_up shelf.file config (λ lines. Text []))
+IsReadBy shelf config file.Input = HasOutput (set_up shelf.file config (λ lines. Text []))
 IsReadBy shelf config (file.Appended name) = IsReadFor shelf.file config (file.Appended name)
 
 -- what is said of the file of a failed read

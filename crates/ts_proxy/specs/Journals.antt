@@ -17,8 +17,8 @@ abbrev pub only_seat : ℕ
 only_seat = 0
 
 -- the turn in which the work begins
-abbrev pub first_turn : ℕ
-first_turn = 1
+abbrev pub opening_turn : ℕ
+opening_turn = 1
 
 -- the moment at which the work begins
 abbrev pub first_moment : ℕ
@@ -55,7 +55,7 @@ HandlesFrom low now most (_ ∷ es) = HandlesFrom low now most es
 abbrev pub HandlesFirst : ℕ → State → List Entry → Type 0
 HandlesFirst m s [] = ⊤
 HandlesFirst m s (Took turn seat ∷ es) = ⊤
-HandlesFirst m s (Gave turn ∷ es) = turn ≡ first_turn
+HandlesFirst m s (Gave turn ∷ es) = turn ≡ opening_turn
 HandlesFirst m s (Handled number moment ∷ es) =
     IsNextDue m s number moment × HandlesFrom s.next moment (MOST_EVENTS - 1) es
 HandlesFirst m s (e ∷ es) = HandlesFirst m (after s e) es

@@ -1,9 +1,9 @@
 pub mod Answers
-pub mod Driven
 pub mod Ends
 pub mod Journals
 pub mod Lines
 pub mod Outcome
 pub mod Performed
+pub mod Sending
 pub mod Took
 pub mod Words

@@ -56,7 +56,8 @@ filled files (l ∷ ls) next = line_filled files l (λ first. filled files ls (�
 -- a configuration is read and understood, and the files of its lines are read
 abbrev pub set_up : (List ℕ → Option (List ℕ)) → List ℕ → (List TransformLine → Outcome) → Outcome
 set_up files config next =
-    opened (files config) most_config config (λ bytes. understood (config_of bytes) (λ ls. filled files ls next))
+    opened (files config) most_config config
+    (λ bytes. understood (config_of bytes) (λ ls. filled files ls next))
 
 -- what a command makes of the lines and its input: `transform` passes a body through the lines, and `replay`
 -- runs a recording under them

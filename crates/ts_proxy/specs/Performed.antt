@@ -43,7 +43,7 @@ LeavesJournalsAt _ o js = ⊤
 
 -- What the part of a command that comes after reading answers and leaves, of these lines and this input: it
 -- comes at their outcome, and out took what it is to take. A failed write was one of out.
-pub record IsWorked (command : Command) (lines : List TransformLine) (input : List ℕ) (out_tells : Bool)
+pub record IsCarriedOut (command : Command) (lines : List TransformLine) (input : List ℕ) (out_tells : Bool)
     (out out' : SinkSeen) (answer : Answer) (js : List Log) : Type 0 where
   pub comes : (config name : List ℕ) → ComesAt config name answer (worked command lines input)
   pub took : out_tells ≡ true → TookAt answer out out' (worked command lines input)

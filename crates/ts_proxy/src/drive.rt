@@ -4,10 +4,10 @@ ghost use Rattle.std.specs.Prelude.{◌≡◌, ◌+◌, ◌≤◌, [], length, t
 ghost use Rattle.ts_link.specs.Counts.{Counted};
 ghost use Rattle.ts_transform.specs.World.{IsSoundGroup};
 ghost use Rattle.ts_proxy.specs.Journals.{moment_of, first_moment, HandlesWithin, GoesOnTo, IsUnused, EndsSerially};
-ghost use Rattle.ts_proxy.specs.Driven.{WroteAll, Passes, OnDone, AddsJournal, StaysSound, IsDueNext, is_failed};
-ghost use Rattle.ts_proxy.specs.Driven.{left_of, to_come, for_client, HasLessLeft, IsSoundAlone, IsReadyForClient, IsBetweenTurns};
+ghost use Rattle.ts_proxy.specs.Sending.{WroteAll, Passes, OnDone, AddsJournal, StaysSound, IsDueNext, is_failed};
+ghost use Rattle.ts_proxy.specs.Sending.{left_of, to_come, for_client, HasLessLeft, IsSoundAlone, IsReadyForClient, IsBetweenTurns};
 
-use crate::writing::Driven;
+use crate::writing::SendEnd;
 use std::alloc::Global;
 use ts_group::{Group, Handling};
 use ts_journal::Journal;
@@ -18,7 +18,7 @@ use ts_transform::{ChainWorld, Transform};
 const SEAT: u64 = 0;
 
 // Writes what waits for the client.
-fn drain<P: Transform + Drop, K: Sink>(world: &mut ChainWorld<P>, out: &mut K) -> Driven
+fn drain<P: Transform + Drop, K: Sink>(world: &mut ChainWorld<P>, out: &mut K) -> SendEnd
     ensures told { K.tells ≡ true →
         Passes (K.seen out.old) (K.seen out.new) (to_come P.rest world.old) (to_come P.rest world.new) }
     ensures faults { Counted (is_failed result) (K.seen out.old).faults (K.seen out.new).faults }
@@ -30,11 +30,11 @@ fn drain<P: Transform + Drop, K: Sink>(world: &mut ChainWorld<P>, out: &mut K) -
     while let Some(block) = world.chain().out_block() {
         match out.write(block) {
             Wrote::Took(count) => world.take(count),
-            Wrote::Failed => return Driven::Failed,
-            Wrote::NoMemory => return Driven::NoMemory,
+            Wrote::Failed => return SendEnd::Failed,
+            Wrote::NoMemory => return SendEnd::NoMemory,
         }
     }
-    Driven::Done
+    SendEnd::Done
 }
 
 // Handles the event that is due next, under its number, and sees that the last stage goes on once bytes were
@@ -113,7 +113,10 @@ fn start<P: Transform + Drop>(group: &mut Group<ChainWorld<P>>) -> Result<(), No
 // Handles events until none is pending, each in a turn of its own and the one that is due first before the
 // others, and writes between the turns. The moment moves on to the next due one where nothing is due.
 #[tactic(auto, using(crate::proofs::Serial::serial_trans))]
-fn run_events<P: Transform + Drop, K: Sink>(group: &mut Group<ChainWorld<P>>, out: &mut K) -> Driven
+fn run_events<P: Transform + Drop, K: Sink>(
+    group: &mut Group<ChainWorld<P>>,
+    out: &mut K,
+) -> SendEnd
     requires between { IsBetweenTurns group.old }
     requires fresh { moment_of group.old.cx.log ≡ first_moment }
     ensures told { K.tells ≡ true →
@@ -127,18 +130,18 @@ fn run_events<P: Transform + Drop, K: Sink>(group: &mut Group<ChainWorld<P>>, ou
     'driving: while let Some((due, number)) = group.next_due() {
         moment = due.max(moment);
         let Ok(()) = drive_turn(group, number, moment) else {
-            return Driven::NoMemory;
+            return SendEnd::NoMemory;
         };
         match drain(group.world_mut(), out) {
-            Driven::Done => {}
-            Driven::Failed => return Driven::Failed,
-            Driven::NoMemory => return Driven::NoMemory,
+            SendEnd::Done => {}
+            SendEnd::Failed => return SendEnd::Failed,
+            SendEnd::NoMemory => return SendEnd::NoMemory,
         }
     }
     if group.world().is_running() {
-        Driven::Done
+        SendEnd::Done
     } else {
-        Driven::NoMemory
+        SendEnd::NoMemory
     }
 }
 
@@ -147,7 +150,7 @@ fn run_events<P: Transform + Drop, K: Sink>(group: &mut Group<ChainWorld<P>>, ou
 fn drive_group<P: Transform + Drop, K: Sink>(
     group: &mut Group<ChainWorld<P>>,
     out: &mut K,
-) -> Driven
+) -> SendEnd
     requires unused { IsUnused group.old.cx.log }
     requires sound { IsSoundGroup group.old }
     ensures told { K.tells ≡ true →
@@ -156,12 +159,12 @@ fn drive_group<P: Transform + Drop, K: Sink>(
     ensures ends { OnDone result (EndsSerially group.old.cx.log group.new.cx.log) }
 {
     let Ok(()) = start(group) else {
-        return Driven::NoMemory;
+        return SendEnd::NoMemory;
     };
     match drain(group.world_mut(), out) {
-        Driven::Done => run_events(group, out),
-        Driven::Failed => Driven::Failed,
-        Driven::NoMemory => Driven::NoMemory,
+        SendEnd::Done => run_events(group, out),
+        SendEnd::Failed => SendEnd::Failed,
+        SendEnd::NoMemory => SendEnd::NoMemory,
     }
 }
 
@@ -172,23 +175,23 @@ pub fn drive<P: Transform + Drop, K: Sink>(
     world: ChainWorld<P>,
     out: &mut K,
     journals: &mut Vec<Journal>,
-) -> Driven
+) -> SendEnd
     requires sound { IsSoundAlone world }
     ensures told { K.tells ≡ true → WroteAll result (K.seen out.old) (K.seen out.new) (to_come P.rest world) }
     ensures faults { Counted (is_failed result) (K.seen out.old).faults (K.seen out.new).faults }
     ensures journals { AddsJournal result journals.old.items journals.new.items }
 {
     let Ok(()) = journals.reserve(1) else {
-        return Driven::NoMemory;
+        return SendEnd::NoMemory;
     };
     let Ok(mut group) = Group::make(alloc, world, 0) else {
-        return Driven::NoMemory;
+        return SendEnd::NoMemory;
     };
     let driven = drive_group(&mut group, out);
-    let Driven::Done = driven else {
+    let SendEnd::Done = driven else {
         return driven;
     };
     let (_, journal) = group.into_parts();
     journals.push_reserved(journal);
-    Driven::Done
+    SendEnd::Done
 }

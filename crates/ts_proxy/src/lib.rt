@@ -8,10 +8,8 @@ mod drive;
 mod reading;
 mod replay;
 mod telling;
-#[cfg(test)]
-mod tests;
 mod top;
 mod transform;
 mod writing;
 
-pub use top::{Ended, run, run_transform};
+pub use top::{Ended, end_without_words, run, run_transform};

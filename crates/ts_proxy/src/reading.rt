@@ -9,7 +9,7 @@ ghost use Rattle.ts_config.specs.declared.setup.TransformLine.TheVariants as t;
 ghost use Rattle.ts_proxy.specs.declared.answer.NamedFile.TheVariants as named;
 ghost use Rattle.ts_proxy.specs.Outcome.{Outcome, most_append, opened, line_filled, filled, performed, set_up, worked};
 ghost use Rattle.ts_proxy.specs.Words.{Command};
-ghost use Rattle.ts_proxy.specs.Answers.{Leads, IsOfReading, IsUnfailed, OnCannotRead, IsNamedBy, ComesTo, IsReadBy};
+ghost use Rattle.ts_proxy.specs.Answers.{Leads, IsOfReading, IsUnfailed, OnCannotRead, IsNamedBy, ReachesFile, IsReadBy};
 
 use crate::answer::{Answer, NamedFile, refused};
 use std::alloc::Global;
@@ -89,7 +89,7 @@ fn fill_lines<S: Shelf>(
     ensures told { S.tells ≡ true → (config input : List ℕ) (next : List TransformLine → Outcome) →
         Leads config input result (filled (S.seen shelf.old).file lines.items next) (λ ls. next ls.items) }
     ensures named { S.tells ≡ true →
-        IfErr result (λ a. OnCannotRead a (ComesTo (S.seen shelf.old).file lines.items)) }
+        IfErr result (λ a. OnCannotRead a (ReachesFile (S.seen shelf.old).file lines.items)) }
     ensures count { IfOk result (λ ls. length ls.items ≡ length lines.items) }
     ensures files { S.tells ≡ true → (S.seen shelf.new).file ≡ (S.seen shelf.old).file }
     ensures same { OnOk result (IsUnfailed (S.seen shelf.old) (S.seen shelf.new)) }

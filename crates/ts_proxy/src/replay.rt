@@ -4,7 +4,7 @@ ghost use Rattle.std.specs.Prelude.{◌<◌, ◌≤◌, ℕ, List, length, IfErr
 ghost use Rattle.ts_config.specs.Bytes.{most_transforms};
 ghost use Rattle.ts_config.specs.declared.setup.TransformLine.{TransformLine};
 ghost use Rattle.ts_proxy.specs.Answers.{IsOfRunning};
-ghost use Rattle.ts_proxy.specs.Performed.{IsPerformed, IsReplayOn, IsWorked};
+ghost use Rattle.ts_proxy.specs.Performed.{IsPerformed, IsReplayOn, IsCarriedOut};
 ghost use Rattle.ts_proxy.specs.Words.{Replay, task_at};
 ghost use Rattle.ts_record.specs.Grammar.{IsRecording};
 ghost use Rattle.ts_thread.specs.declared.TheConstants.{MOST_THREADS};
@@ -12,7 +12,7 @@ ghost use Rattle.ts_thread.specs.declared.TheConstants.{MOST_THREADS};
 use crate::answer::{Answer, Performed};
 use crate::command::ReplayTask;
 use crate::reading::{Files, read_files};
-use crate::writing::{Driven, write_all};
+use crate::writing::{SendEnd, write_all};
 use std::alloc::Global;
 use std::sync::Wait;
 use std::thread::Threads;
@@ -62,22 +62,22 @@ fn run_txns<G: Gate + Sync, R: Threads + Wait + Sync>(
 // Writes the report of a replay.
 fn send_report<K: Sink>(alloc: Global, replayed: Replayed, out: &mut K) -> Performed
     ensures { (lines : List TransformLine) (bytes : List ℕ) → IsReplayOn lines bytes replayed →
-        IsWorked Replay lines bytes K.tells (K.seen out.old) (K.seen out.new)
+        IsCarriedOut Replay lines bytes K.tells (K.seen out.old) (K.seen out.new)
         result.answer result.journals.items }
 {
     match write_all(out, replayed.report.as_slice()) {
-        Driven::Done => Performed {
+        SendEnd::Done => Performed {
             answer: Answer::Done,
             journals: replayed.journals,
         },
-        Driven::Failed => Performed::without(alloc, Answer::CannotWrite),
-        Driven::NoMemory => Performed::without(alloc, Answer::OutOfMemory),
+        SendEnd::Failed => Performed::without(alloc, Answer::CannotWrite),
+        SendEnd::NoMemory => Performed::without(alloc, Answer::OutOfMemory),
     }
 }
 
 /// Runs a recording under the lines of a configuration, both of which the shelf has under these names, on so
 /// many event threads, which pass the gate, and writes the report.
-pub fn replay<S: Shelf, K: Sink, G: Gate + Sync, R: Threads + Wait + Sync>(
+pub fn perform_replay<S: Shelf, K: Sink, G: Gate + Sync, R: Threads + Wait + Sync>(
     rt: &R,
     alloc: Global,
     task: &ReplayTask<'_>,

@@ -5,7 +5,7 @@ ghost use Rattle.ts_proxy.specs.Lines.{kind_text, line_of, LineTold};
 ghost use Rattle.ts_proxy.specs.Answers.{file_name};
 
 use crate::answer::{Answer, NamedFile};
-use crate::writing::{Driven, write_all};
+use crate::writing::{SendEnd, write_all};
 use itoa::Buffer;
 use ts_config::ConfigKind;
 use ts_link::Sink;
@@ -58,9 +58,9 @@ fn tell<E: Sink>(err: &mut E, parts: &[&[u8]])
 {
     for part in parts {
         match write_all(err, part) {
-            Driven::Done => {}
-            Driven::Failed => return,
-            Driven::NoMemory => return,
+            SendEnd::Done => {}
+            SendEnd::Failed => return,
+            SendEnd::NoMemory => return,
         }
     }
 }

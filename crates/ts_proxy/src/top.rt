@@ -1,18 +1,19 @@
 //! The top call: it runs the command that the program's words name, and answers the status.
-ghost use Rattle.std.specs.Prelude.{◌≡◌, true};
-ghost use Rattle.ts_proxy.specs.Answers.{HasText};
-ghost use Rattle.ts_proxy.specs.Ends.{status_of, Completes, HasCause, IsStatusOf, JournalsAt, IsQuiet, TakesAt};
+ghost use Rattle.std.specs.Prelude.{◌≡◌, [], true, None};
+ghost use Rattle.ts_proxy.specs.Answers.{HasOutput};
+ghost use Rattle.ts_proxy.specs.Ends.{status_of, out_of_memory, Completes, HasCause, IsStatusOf, JournalsAt, IsQuiet, TakesAt};
 ghost use Rattle.ts_proxy.specs.Lines.{IsAnswerOf, SaysLine, line_of, LineTold};
 ghost use Rattle.ts_proxy.specs.Outcome.{outcome_of};
 ghost use Rattle.ts_proxy.specs.Took.{TookNothing};
 ghost use Rattle.ts_proxy.specs.Words.{asked, begins_transform, word_bytes};
 ghost use Rattle.ts_proxy.specs.declared.answer.Answer.{Answer};
+ghost use Rattle.ts_proxy.specs.declared.answer.Answer.TheVariants.{OutOfMemory};
 
 use crate::answer::{Answer, Performed};
 use crate::command::{begins_transform, replay_task, transform_task};
-use crate::replay::replay;
+use crate::replay::perform_replay;
 use crate::telling::say;
-use crate::transform::transform;
+use crate::transform::perform_transform;
 use std::alloc::Global;
 use std::sync::Wait;
 use std::thread::Threads;
@@ -59,6 +60,15 @@ fn end<E: Sink>(err: &mut E, performed: Performed, config: &str, input: &str) ->
     }
 }
 
+/// Says that memory lacked for the words after the program's name, and ends with that status.
+pub fn end_without_words<E: Sink>(alloc: Global, err: &mut E) -> Ended
+    ensures status { result.status ≡ out_of_memory }
+    ensures journals { result.journals.items ≡ [] }
+    ensures told { SaysLine E.tells (E.seen err.old) (E.seen err.new) None result.status OutOfMemory }
+{
+    end(err, Performed::without(alloc, Answer::OutOfMemory), "", "")
+}
+
 /// Runs the command that the words name, which are those after the program's name: it reads from the shelf,
 /// writes to `out`, and says on `err` in one line why it did not end with status 0. Where it runs event
 /// threads, they pass the gate.
@@ -86,7 +96,7 @@ pub fn run<S: Shelf, K: Sink, E: Sink, G: Gate + Sync, R: Threads + Wait + Sync>
         (S.seen shelf.old) (S.seen shelf.new) (K.seen out.old) (K.seen out.new) }
 
     // Where there is a text and neither failed, the job is done, unless memory lacked.
-    ensures completes { S.tells ≡ true → HasText (outcome_of (S.seen shelf.old) (asked words.now)) →
+    ensures completes { S.tells ≡ true → HasOutput (outcome_of (S.seen shelf.old) (asked words.now)) →
         Completes result.status (S.seen shelf.old) (S.seen shelf.new) (K.seen out.old) (K.seen out.new) }
 
     // What out took: with status 0 the whole text, else a front of it, and nothing where there is none.
@@ -112,7 +122,7 @@ pub fn run<S: Shelf, K: Sink, E: Sink, G: Gate + Sync, R: Threads + Wait + Sync>
     let Some(task) = replay_task(words) else {
         return end(err, Performed::without(alloc, Answer::Usage), "", "");
     };
-    let performed = replay(rt, alloc, &task, shelf, out, gate);
+    let performed = perform_replay(rt, alloc, &task, shelf, out, gate);
     end(err, performed, task.config, task.recording)
 }
 
@@ -130,7 +140,7 @@ pub fn run_transform<S: Shelf, K: Sink, E: Sink>(
     ensures status { IsStatusOf S.tells (S.seen shelf.old) (asked words.now) result.status }
     ensures cause { HasCause result.status
         (S.seen shelf.old) (S.seen shelf.new) (K.seen out.old) (K.seen out.new) }
-    ensures completes { S.tells ≡ true → HasText (outcome_of (S.seen shelf.old) (asked words.now)) →
+    ensures completes { S.tells ≡ true → HasOutput (outcome_of (S.seen shelf.old) (asked words.now)) →
         Completes result.status (S.seen shelf.old) (S.seen shelf.new) (K.seen out.old) (K.seen out.new) }
     ensures takes { S.tells ≡ true → K.tells ≡ true →
         TakesAt (outcome_of (S.seen shelf.old) (asked words.now)) result.status
@@ -144,6 +154,6 @@ pub fn run_transform<S: Shelf, K: Sink, E: Sink>(
     let Some(task) = transform_task(words) else {
         return end(err, Performed::without(alloc, Answer::Usage), "", "");
     };
-    let performed = transform(alloc, &task, shelf, out);
+    let performed = perform_transform(alloc, &task, shelf, out);
     end(err, performed, task.config, task.body)
 }

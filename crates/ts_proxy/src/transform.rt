@@ -3,15 +3,15 @@ ghost use Rattle.std.specs.Prelude.{◌≡◌, List, ℕ, IfOk};
 ghost use Rattle.ts_transform.specs.Flow.{compose};
 ghost use Rattle.ts_config.specs.Bodies.{compose_lines};
 ghost use Rattle.ts_stock.specs.Stock.{still_writes};
-ghost use Rattle.ts_proxy.specs.Driven.{IsSoundAlone, to_come};
-ghost use Rattle.ts_proxy.specs.Performed.{IsPerformed, IsWorked};
+ghost use Rattle.ts_proxy.specs.Sending.{IsSoundAlone, to_come};
+ghost use Rattle.ts_proxy.specs.Performed.{IsPerformed, IsCarriedOut};
 ghost use Rattle.ts_proxy.specs.Words.{Transform, task_at};
 
 use crate::answer::{Answer, Performed};
 use crate::command::TransformTask;
 use crate::drive::drive;
 use crate::reading::{Files, read_files};
-use crate::writing::Driven;
+use crate::writing::SendEnd;
 use std::alloc::Global;
 use ts_config::TransformLine;
 use ts_link::{NoMemory, Octets, Shelf, Sink};
@@ -50,7 +50,7 @@ fn send_body<K: Sink>(
     body: Octets,
     out: &mut K,
 ) -> Performed
-    ensures { IsWorked Transform lines.now body K.tells (K.seen out.old) (K.seen out.new)
+    ensures { IsCarriedOut Transform lines.now body K.tells (K.seen out.old) (K.seen out.new)
         result.answer result.journals.items }
 {
     let Ok(world) = world_of(alloc, lines, body) else {
@@ -58,15 +58,15 @@ fn send_body<K: Sink>(
     };
     let mut journals = Vec::new(alloc);
     match drive(alloc, world, out, &mut journals) {
-        Driven::Done => Performed {
+        SendEnd::Done => Performed {
             answer: Answer::Done,
             journals,
         },
-        Driven::Failed => Performed {
+        SendEnd::Failed => Performed {
             answer: Answer::CannotWrite,
             journals,
         },
-        Driven::NoMemory => Performed {
+        SendEnd::NoMemory => Performed {
             answer: Answer::OutOfMemory,
             journals,
         },
@@ -74,7 +74,7 @@ fn send_body<K: Sink>(
 }
 
 /// Writes a body through the lines of a configuration, both of which the shelf has under these names.
-pub fn transform<S: Shelf, K: Sink>(
+pub fn perform_transform<S: Shelf, K: Sink>(
     alloc: Global,
     task: &TransformTask<'_>,
     shelf: &mut S,

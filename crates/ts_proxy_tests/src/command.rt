@@ -7,6 +7,13 @@ use ts_journal::Journal;
 use ts_link::{Gate, MemShelf, MemSink, NoMemory, OpenGate};
 use ts_proxy::run;
 
+/// The words that pass the body `b` through the configuration `c`.
+pub const TRANSFORM: &[&str] = &["transform", "c", "b"];
+
+/// How the program says that words are of no command.
+pub const USAGE: &[u8] =
+    b"tsx: usage: transform CONFIG BODY | replay [--threads N] CONFIG RECORDING | serve --listen L --origin A --config F [--threads N] [--connections N] | generate SEED COUNT SIZE\n";
+
 /// The words that replay the recording `r` under the configuration `c`, without a number of threads.
 pub const REPLAY: &[&str] = &["replay", "c", "r"];
 
@@ -58,15 +65,28 @@ pub fn left_by<R: Threads + Wait + Sync, G: Gate + Sync>(
     rt: &R,
     alloc: Global,
     words: &[&str],
+    shelf: MemShelf,
+    out: MemSink,
+    gate: &G,
+) -> Result<Left, NoMemory> {
+    let err = MemSink::make(alloc, 7, Vec::new(alloc));
+    left_in(rt, alloc, words, shelf, out, err, gate)
+}
+
+/// The same, with what is said going into this sink.
+pub fn left_in<R: Threads + Wait + Sync, G: Gate + Sync>(
+    rt: &R,
+    alloc: Global,
+    words: &[&str],
     mut shelf: MemShelf,
     mut out: MemSink,
+    mut err: MemSink,
     gate: &G,
 ) -> Result<Left, NoMemory> {
     let mut said = Vec::new(alloc);
     for word in words {
         said.push(String::from_str(alloc, word)?)?;
     }
-    let mut err = MemSink::make(alloc, 7, Vec::new(alloc));
     let ended = run(
         rt,
         alloc,

@@ -1,10 +1,10 @@
 //! Rows: a recorded transaction under a configuration, and what is stated of it.
 
 use crate::command::{ON_2, ON_8, REPLAY, replayed};
+use crate::comparison::{Comparison, compare, done};
 use crate::recording::{Exchange, at_once, in_pieces, recording_of};
 use crate::report::{Came, Stated, report_of};
 use crate::stated::{GET, HEAD, HEAD_SENT, in_chunks, passed};
-use crate::verdict::{Verdict, done, judge};
 use std::alloc::Global;
 use std::sync::Wait;
 use std::thread::Threads;
@@ -65,11 +65,11 @@ pub fn check_with<R: Threads + Wait + Sync>(
     config: &[u8],
     exchanges: &[Exchange<'_>],
     stated: &[Stated<'_>],
-) -> Result<Verdict, NoMemory> {
+) -> Result<Comparison, NoMemory> {
     let recording = recording_of(alloc, exchanges)?;
     let report = report_of(alloc, stated)?;
     let left = replayed(rt, alloc, words, config, recording.as_slice())?;
-    Ok(judge(&left, &done(report.as_slice(), stated.len())))
+    Ok(compare(&left, &done(report.as_slice(), stated.len())))
 }
 
 /// Whether a row comes out as stated on 1, 2 and 8 threads.
@@ -77,12 +77,12 @@ pub fn check<R: Threads + Wait + Sync>(
     rt: &R,
     alloc: Global,
     row: &Row<'_>,
-) -> Result<Verdict, NoMemory> {
+) -> Result<Comparison, NoMemory> {
     for words in [REPLAY, ON_2, ON_8] {
-        let verdict = check_with(rt, alloc, words, row.config, &[row.exchange], &[row.stated])?;
-        if verdict != Verdict::AsStated {
-            return Ok(verdict);
+        let found = check_with(rt, alloc, words, row.config, &[row.exchange], &[row.stated])?;
+        if found != Comparison::AsStated {
+            return Ok(found);
         }
     }
-    Ok(Verdict::AsStated)
+    Ok(Comparison::AsStated)
 }

@@ -1,8 +1,8 @@
 //! Rows by subject, whose values come from the tables of heads, framings and answers, and from exchanges that
 //! were worked out by hand.
 
+use crate::comparison::Comparison;
 use crate::row::{Row, check};
-use crate::verdict::Verdict;
 use std::process::Abort;
 use std::sync::Wait;
 use std::test::Fail;
@@ -15,6 +15,7 @@ mod orders;
 mod refusals;
 mod sizes;
 mod threads;
+mod transforms;
 mod words;
 
 // Each of these rows comes out as stated.
@@ -23,8 +24,8 @@ fn check_all<R: Abort + AllocGlobal + Threads + Wait + Sync>(
     rows: &[Row<'_>],
 ) -> Result<(), Fail> {
     for (place, row) in rows.iter().enumerate() {
-        let verdict = check(rt, rt.alloc(), row)?;
-        assert_eq!(rt; verdict, Verdict::AsStated, "row {place}");
+        let found = check(rt, rt.alloc(), row)?;
+        assert_eq!(rt; found, Comparison::AsStated, "row {place}");
     }
     Ok(())
 }

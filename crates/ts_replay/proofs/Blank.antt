@@ -1,14 +1,19 @@
 -- The only empty line of a printed request is the one that ends it (RFC 9112, section 2.1).
-use Rattle.std.proofs.Common.{◌≡◌, ◌≢◌, ◌⊎◌, Some, ⊎_elim, ℕ, zero, suc, ◌+◌, ◌<◌, ◌≤◌, List, [], ◌∷◌, ◌++◌, All, Bool, false, take, drop, get_or, length, inl, inr, refl, sym, ap, subst, ◌∙◌, arith, append_assoc, length-append, codes}
+use Rattle.std.proofs.Common.{◌≡◌, ◌≢◌, ◌⊎◌, Some, ⊎_elim, ℕ, zero, suc, ◌+◌, ◌<◌, ◌≤◌, List, [], ◌∷◌, ◌++◌}
+use Rattle.std.proofs.Common.{All, Bool, false, take, drop, get_or, length, inl, inr, refl, sym, ap, subst}
+use Rattle.std.proofs.Common.{◌∙◌, arith, append_assoc, length-append, codes}
 use Rattle.std.specs.Prelude.{IsTrue}
 use Rattle.std.proofs.lemmas.Bool.{cases_lt}
-use Rattle.std.proofs.lemmas.List.{length-take, length-drop, take_at, drop_at, take-append-le, drop-append-le, append-nil}
+use Rattle.std.proofs.lemmas.List.{length-take, length-drop, take_at, drop_at, take-append-le, drop-append-le}
+use Rattle.std.proofs.lemmas.List.{append-nil}
 use Rattle.std.proofs.lemmas.List.Elements.{All-append, All-cons, All-head, All-nil, All-tail, All-weaker}
 use Rattle.std.specs.List.{flat_map}
 use Rattle.http_header.proofs.TokenLemmas.{AllPass-from_test}
 use Rattle.httparse.specs.Ascii.{colon, crlf_bytes, space}
 use Rattle.httparse.specs.Grammar as grammar
-use Rattle.httparse.specs.Grammar.{IsField, IsRequestHead, LineEnd, crlf, is_token_byte, is_uri_byte, is_value_byte, print_blank, print_end, print_field, print_request, print_section, print_version}
+use Rattle.httparse.specs.Grammar.{IsField, IsRequestHead, LineEnd, crlf, is_token_byte, is_uri_byte}
+use Rattle.httparse.specs.Grammar.{is_value_byte, print_blank, print_end, print_field, print_request}
+use Rattle.httparse.specs.Grammar.{print_section, print_version}
 use Rattle.memchr.specs.Find.{IsFirst, Nowhere, OccursAt}
 use Rattle.memchr.proofs.lemmas.MatchLemmas.{OccursAt-part, OccursAt-from_part}
 use Rattle.ts_wire.specs.OneHead.{SendsRequest}
@@ -62,7 +67,8 @@ other_byte b text other last (suc place) is = let on = last place is in omega (a
 other_bytes : (bytes text : List ℕ) → NoReturn bytes → BlankLast text → BlankLast (bytes ++ text)
 other_bytes [] text none last = last
 other_bytes (b ∷ bytes) text none last =
-    other_byte b (bytes ++ text) (All-head IsOther b bytes none) (other_bytes bytes text (All-tail IsOther b bytes none) last)
+    other_byte b (bytes ++ text) (All-head IsOther b bytes none)
+    (other_bytes bytes text (All-tail IsOther b bytes none) last)
 
 -- nor at the end of a line, unless the empty line that is last stands behind it
 line_end : (text : List ℕ) → BeginsLine text → BlankLast text → BlankLast (crlf_bytes ++ text)
@@ -82,7 +88,8 @@ begins_line [] text some none = absurd (omega (arith, some))
 begins_line (b ∷ bytes) text some none = inl (All-head IsOther b bytes none)
 
 -- a line in front of lines ends with the empty line that they end with
-ends_blank : (line text : List ℕ) → AreLines text → (front : List ℕ) × (line ++ (crlf_bytes ++ text) ≡ front ++ blank_end)
+ends_blank : (line text : List ℕ) → AreLines text
+    → (front : List ℕ) × (line ++ (crlf_bytes ++ text) ≡ front ++ blank_end)
 ends_blank line text lines =
     ⊎_elim
     (λ (one : text ≡ crlf_bytes). (line, ap (λ l. line ++ (crlf_bytes ++ l)) one))
@@ -93,7 +100,8 @@ ends_blank line text lines =
     lines.ends
 
 -- and they are lines
-one_more : (line text : List ℕ) → 0 < length line → NoReturn line → AreLines text → AreLines (line ++ (crlf_bytes ++ text))
+one_more : (line text : List ℕ) → 0 < length line → NoReturn line → AreLines text
+    → AreLines (line ++ (crlf_bytes ++ text))
 one_more line text some none lines = record {
   blank = other_bytes line (crlf_bytes ++ text) none (line_end text lines.begins lines.blank);
   begins = begins_line line (crlf_bytes ++ text) some none;
@@ -103,7 +111,8 @@ one_more line text some none lines = record {
 -- ---- the lines of a head
 
 -- bytes that pass a test which a carriage return fails
-pass_other : (test : ℕ → Bool) (bytes : List ℕ) → test CR ≡ false → All (λ b. IsTrue (test b)) bytes → NoReturn bytes
+pass_other : (test : ℕ → Bool) (bytes : List ℕ) → test CR ≡ false → All (λ b. IsTrue (test b)) bytes
+    → NoReturn bytes
 pass_other test bytes fails pass = All-weaker (λ b. IsTrue (test b)) IsOther other bytes pass
   where
     other : (b : ℕ) → IsTrue (test b) → IsOther b
@@ -121,7 +130,8 @@ field_line f = f.name ++ (colon ∷ f.raw)
 field_other : (f : grammar.Field) → IsField f → NoReturn (field_line f)
 field_other f good =
     All-append IsOther f.name (colon ∷ f.raw) (token_other f.name good.name.1)
-    (All-cons IsOther colon f.raw (λ wrong. absurd (omega (arith, wrong))) (pass_other is_value_byte f.raw refl good.raw))
+    (All-cons IsOther colon f.raw (λ wrong. absurd (omega (arith, wrong)))
+    (pass_other is_value_byte f.raw refl good.raw))
 
 -- fields are printed as the line of the first, its end and the others
 section_is : (f : grammar.Field) (fs : List grammar.Field) → f.end ≡ crlf
@@ -133,11 +143,13 @@ section_is f fs ends =
     ∙ append_assoc (field_line f) crlf_bytes (others ++ crlf_bytes)
 
 -- so they are lines
-section_lines : (fields : List grammar.Field) → All IsField fields → All (λ f. f.end ≡ crlf) fields → AreLines (print_section fields crlf)
+section_lines : (fields : List grammar.Field) → All IsField fields → All (λ f. f.end ≡ crlf) fields
+    → AreLines (print_section fields crlf)
 section_lines [] good ends = last_line
 section_lines (f ∷ fs) good ends =
     let here = All-head IsField f fs good in
-    let some : 0 < length (field_line f) = let long = length-append f.name (colon ∷ f.raw) in omega (arith, long, here.name.0) in
+    let some : 0 < length (field_line f) = let long = length-append f.name (colon ∷ f.raw)
+    in omega (arith, long, here.name.0) in
     subst AreLines (sym (section_is f fs (All-head (λ g. g.end ≡ crlf) f fs ends)))
     (one_more (field_line f) (print_section fs crlf) some (field_other f here)
     (section_lines fs (All-tail IsField f fs good) (All-tail (λ g. g.end ≡ crlf) f fs ends)))
@@ -158,20 +170,24 @@ start_other : (h : grammar.RequestHead) → IsRequestHead h → NoReturn (start_
 start_other h good =
     All-append IsOther (h.method ++ (space ∷ h.target)) (space ∷ print_version h.minor)
     (All-append IsOther h.method (space ∷ h.target) (token_other h.method good.method.1)
-    (All-cons IsOther space h.target (λ wrong. absurd (omega (arith, wrong))) (pass_other is_uri_byte h.target refl good.target.1)))
-    (All-cons IsOther space (print_version h.minor) (λ wrong. absurd (omega (arith, wrong))) (version_other h.minor))
+    (All-cons IsOther space h.target (λ wrong. absurd (omega (arith, wrong)))
+    (pass_other is_uri_byte h.target refl good.target.1)))
+    (All-cons IsOther space (print_version h.minor) (λ wrong. absurd (omega (arith, wrong)))
+    (version_other h.minor))
 
 -- a head as it is printed with these empty lines in front of it and these line ends
 abbrev printed : grammar.RequestHead → List LineEnd → LineEnd → LineEnd → List ℕ
 printed h before start last =
-    print_blank before ++ h.method ++ space ∷ h.target ++ space ∷ print_version h.minor ++ print_end start ++ print_section h.fields last
+    print_blank before ++ h.method ++ space ∷ h.target ++ space ∷ print_version h.minor ++ print_end start ++
+    print_section h.fields last
 
 -- with none in front and CR LF each time, it is its start line, the end of that and its fields
 request_is : (h : grammar.RequestHead) → h.blank ≡ [] → h.line_end ≡ crlf → h.last ≡ crlf
     → print_request h ≡ start_line h ++ (crlf_bytes ++ print_section h.fields crlf)
 unfolding print_request
 request_is h before start last =
-    (λ i. printed h (before i) (start i) (last i)) ∙ append_assoc (start_line h) crlf_bytes (print_section h.fields crlf)
+    (λ i. printed h (before i) (start i) (last i)) ∙ append_assoc (start_line h) crlf_bytes
+    (print_section h.fields crlf)
 
 -- a request that is sent ends with its only empty line
 pub sent_ends : (method target host text : List ℕ) → SendsRequest method target host text → EndsBlank text
@@ -184,14 +200,16 @@ sent_ends method target host text sends =
     let front = length-append h.method (space ∷ h.target) in
     omega (arith, long, front, good.method.0) in
     let is : text ≡ start_line h ++ (crlf_bytes ++ print_section h.fields crlf) =
-    sends.one.whole.1 ∙ append-nil (print_request h) ∙ request_is h sends.lines.none_before sends.lines.start_line sends.lines.last_line in
+    sends.one.whole.1 ∙ append-nil (print_request h) ∙ request_is h sends.lines.none_before
+    sends.lines.start_line sends.lines.last_line in
     let lines = one_more (start_line h) (print_section h.fields crlf) some (start_other h good) section in
     let ends = ends_blank (start_line h) (print_section h.fields crlf) section in
     subst EndsBlank (sym is) (record {
       front = ends.0;
       text_is = ends.1;
       once = λ place occurs.
-          let at = lines.blank place (OccursAt-part (start_line h ++ (crlf_bytes ++ print_section h.fields crlf)) blank_end place occurs) in
+          let at = lines.blank place (OccursAt-part (start_line h ++
+          (crlf_bytes ++ print_section h.fields crlf)) blank_end place occurs) in
           let long = ap length ends.1 ∙ length-append ends.0 blank_end in
           omega (arith, at, long);
     })
@@ -206,7 +224,8 @@ module _ (bytes head behind : List ℕ) (is : bytes ≡ head ++ behind) (h : End
   -- its empty line stands in the bytes
   occurs_there : OccursAt bytes blank_end (length h.front)
   occurs_there =
-      let split : bytes ≡ h.front ++ (blank_end ++ behind) = is ∙ ap (λ l. l ++ behind) h.text_is ∙ append_assoc h.front blank_end behind in
+      let split : bytes ≡ h.front ++ (blank_end ++ behind) = is ∙ ap (λ l. l ++ behind) h.text_is ∙
+      append_assoc h.front blank_end behind in
       let long = ap length is ∙ length-append head behind in
       OccursAt-from_part bytes blank_end (length h.front) (omega (arith, long, head_length))
       (ap (λ l. take 4 (drop (length h.front) l)) split
@@ -214,15 +233,18 @@ module _ (bytes head behind : List ℕ) (is : bytes ≡ head ++ behind) (h : End
       ∙ take_at blank_end behind 4 refl)
 
   -- the place of the first empty line
-  only_place : (place : ℕ) → IsFirst (OccursAt bytes blank_end) 0 (length bytes + 1) (Some place) → place ≡ length h.front
+  only_place : (place : ℕ) → IsFirst (OccursAt bytes blank_end) 0 (length bytes + 1) (Some place)
+      → place ≡ length h.front
   only_place place first =
       let low : place ≤ length h.front =
       ⊎_elim
-      (λ (before : length h.front < place). absurd (first.0.before (length h.front) (omega arith) before occurs_there))
+      (λ (before : length h.front < place). absurd (first.0.before (length h.front) (omega arith) before
+      occurs_there))
       (λ (up : place ≤ length h.front). up)
       (cases_lt (length h.front) place) in
       let within : place ≤ length head = omega (arith, low, head_length) in
-      let room : 4 ≤ length (drop place head) = let left = length-drop place head in omega (arith, left, low, head_length) in
+      let room : 4 ≤ length (drop place head) = let left = length-drop place head
+      in omega (arith, left, low, head_length) in
       h.once place (OccursAt-from_part head blank_end place (omega (arith, low, head_length))
       (sym (take-append-le 4 (drop place head) behind room)
       ∙ ap (take 4) (sym (drop-append-le place head behind within))
@@ -230,11 +252,13 @@ module _ (bytes head behind : List ℕ) (is : bytes ≡ head ++ behind) (h : End
       ∙ OccursAt-part bytes blank_end place first.1))
 
   -- the head stands up to its end
-  pub head_up_to : (place : ℕ) → IsFirst (OccursAt bytes blank_end) 0 (length bytes + 1) (Some place) → take (place + 4) bytes ≡ head
+  pub head_up_to : (place : ℕ) → IsFirst (OccursAt bytes blank_end) 0 (length bytes + 1) (Some place)
+      → take (place + 4) bytes ≡ head
   head_up_to place first =
       let at = only_place place first in
       ap (take (place + 4)) is ∙ take_at head behind (place + 4) (omega (arith, at, head_length))
 
   -- there is one
   pub some_blank : Nowhere (OccursAt bytes blank_end) 0 (length bytes + 1) → ⊥
-  some_blank none = none (length h.front) (omega arith) (let fits = occurs_there.fits in omega (arith, fits)) occurs_there
+  some_blank none = none (length h.front) (omega arith) (let fits = occurs_there.fits in omega (arith, fits))
+      occurs_there

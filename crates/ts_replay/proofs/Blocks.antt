@@ -1,9 +1,11 @@
 -- How the request of a transaction without hook plugins ends, and that only a whole answer of it has a body.
-use Rattle.std.proofs.Common.{◌≡◌, ◌≢◌, ◌⊎◌, ℕ, List, [], Bool, true, false, Result, Ok, Err, inl, inr, refl, sym, ap, subst}
+use Rattle.std.proofs.Common.{◌≡◌, ◌≢◌, ◌⊎◌, ℕ, List, [], Bool, true, false, Result, Ok, Err, inl, inr, refl}
+use Rattle.std.proofs.Common.{sym, ap, subst}
 use Rattle.ts_config.specs.declared.fields.Side.TheVariants as S
 use Rattle.ts_config.specs.declared.setup.Setup.{Setup}
 use Rattle.ts_hooks.specs.declared.txn_end.TxnEnd.TheVariants as E
-use Rattle.ts_block.specs.Block.{AnswerSays, DenySays, DialSays, IsBlock, VerdictSays, asked, bad, cut, ended, lacking, no_head, passed_on, request_text, silent}
+use Rattle.ts_block.specs.Block.{AnswerSays, DenySays, DialSays, IsBlock, VerdictSays, asked, bad, cut, ended}
+use Rattle.ts_block.specs.Block.{lacking, no_head, passed_on, request_text, silent}
 use Rattle.ts_block.specs.Heads.{HasRequest}
 use Rattle.ts_block.specs.Rules.{ruled}
 use Rattle.ts_block.specs.declared.block.Block.{Block}
@@ -28,7 +30,8 @@ pub record IsShaped (b : Block) : Type 0 where
 
 -- one that ended whole
 whole_shaped : (b made : Block) → b ≡ made → EndsBlankIf made.request → made.end ≡ E.Whole → IsShaped b
-whole_shaped b made is ends whole = subst IsShaped (sym is) (record { request = ends; short = λ other. absurd (other whole) })
+whole_shaped b made is ends whole = subst IsShaped (sym is)
+    (record { request = ends; short = λ other. absurd (other whole) })
 
 -- one with no body
 short_shaped : (b made : Block) → b ≡ made → EndsBlankIf made.request → made.body ≡ [] → IsShaped b
@@ -40,34 +43,44 @@ was_read c q rest has = record { parsed = has.parsed; good = has.begins.reads.0;
 
 module _ (setup : Setup) (plain : setup.plugins.items ≡ []) where
   -- the request that an origin is sent ends with its only empty line
-  request_ends : (q : RequestHead) (target host : List ℕ) → IsReadRequest q → check q ≡ Ok (target, host) → EndsBlank (request_text setup q target host)
+  request_ends : (q : RequestHead) (target host : List ℕ) → IsReadRequest q → check q ≡ Ok (target, host)
+      → EndsBlank (request_text setup q target host)
   request_ends q target host read passes =
       sent_ends q.method target host (request_text setup q target host)
       (sends_one_request q target host (forwarded q.fields) (request_text setup q target host)
-      (ap (λ lines. origin_text q.method (is_absolute q.target) q.minor target host (ruled S.Request lines (forwarded q.fields))) plain)
+      (ap (λ lines. origin_text q.method (is_absolute q.target) q.minor target host
+      (ruled S.Request lines (forwarded q.fields))) plain)
       read passes (forwards_unchanged q read))
 
   -- ---- case by case
 
-  answer_shaped : (request : List ℕ) (q : RequestHead) (o : List ℕ) (b : Block) → EndsBlankIf request → AnswerSays setup request q o b → IsShaped b
+  answer_shaped : (request : List ℕ) (q : RequestHead) (o : List ℕ) (b : Block) → EndsBlankIf request
+      → AnswerSays setup request q o b → IsShaped b
   answer_shaped request q o b ends (lacking l is) = whole_shaped b _ is ends refl
-  answer_shaped request q o b ends (passed_on h rest final good (ended body over is)) = whole_shaped b _ is ends refl
-  answer_shaped request q o b ends (passed_on h rest final good (cut body short is)) = short_shaped b _ is ends refl
-  answer_shaped request q o b ends (passed_on h rest final good (bad body wrong is)) = short_shaped b _ is ends refl
+  answer_shaped request q o b ends (passed_on h rest final good (ended body over is)) = whole_shaped b _ is
+      ends refl
+  answer_shaped request q o b ends (passed_on h rest final good (cut body short is)) = short_shaped b _ is
+      ends refl
+  answer_shaped request q o b ends (passed_on h rest final good (bad body wrong is)) = short_shaped b _ is
+      ends refl
 
   module _ (dialed : Bool) (refuses : Type 0) (o : List ℕ) where
-    dial_shaped : (d : Bool) (request : List ℕ) (q : RequestHead) (b : Block) → EndsBlankIf request → DialSays setup dialed refuses o d request q b → IsShaped b
+    dial_shaped : (d : Bool) (request : List ℕ) (q : RequestHead) (b : Block) → EndsBlankIf request
+        → DialSays setup dialed refuses o d request q b → IsShaped b
     dial_shaped false request q b ends is = whole_shaped b _ is (inl refl) refl
     dial_shaped true request q b ends (inl (r, is)) = whole_shaped b _ is ends refl
     dial_shaped true request q b ends (inr (free, says)) = answer_shaped request q o b ends says
 
-    deny_shaped : (d : Bool) (request : List ℕ) (q : RequestHead) (b : Block) → EndsBlankIf request → DenySays setup dialed refuses o d request q b → IsShaped b
+    deny_shaped : (d : Bool) (request : List ℕ) (q : RequestHead) (b : Block) → EndsBlankIf request
+        → DenySays setup dialed refuses o d request q b → IsShaped b
     deny_shaped true request q b ends is = whole_shaped b _ is (inl refl) refl
     deny_shaped false request q b ends says = dial_shaped dialed request q b ends says
 
-    verdict_shaped : (r : Result (List ℕ × List ℕ) ℕ) (q : RequestHead) (b : Block) → IsReadRequest q → check q ≡ r → VerdictSays setup dialed refuses o r q b → IsShaped b
+    verdict_shaped : (r : Result (List ℕ × List ℕ) ℕ) (q : RequestHead) (b : Block) → IsReadRequest q
+        → check q ≡ r → VerdictSays setup dialed refuses o r q b → IsShaped b
     verdict_shaped (Err status) q b read is says = whole_shaped b _ says (inl refl) refl
-    verdict_shaped (Ok (target, host)) q b read is says = deny_shaped _ (request_text setup q target host) q b (inr (request_ends q target host read is)) says
+    verdict_shaped (Ok (target, host)) q b read is says = deny_shaped _ (request_text setup q target host) q b
+        (inr (request_ends q target host read is)) says
 
     -- every block
     pub block_shaped : (c : List ℕ) (b : Block) → IsBlock setup dialed refuses o c b → IsShaped b

@@ -1,10 +1,13 @@
 -- What is known of each transaction of a row once the threads and the last turns are done.
-use Rattle.std.proofs.Common.{◌≡◌, ℕ, zero, suc, ◌+◌, ◌*◌, ◌<◌, ◌≤◌, List, [], ◌∷◌, length, true, false, Option, Some, None, All, refl, ap, subst, ◌∙◌, inl, inr, arith}
+use Rattle.std.proofs.Common.{◌≡◌, ℕ, zero, suc, ◌+◌, ◌*◌, ◌<◌, ◌≤◌, List, [], ◌∷◌, length, true, false}
+use Rattle.std.proofs.Common.{Option, Some, None, All, refl, ap, subst, ◌∙◌, inl, inr, arith}
 use mathlib.Core.Option.{some}
 use lib.ListN.{get_elem?}
 use Rattle.std.specs.Prelude.{max}
 use Rattle.std.specs.List.{AllZip, concat}
 use Rattle.std.proofs.lemmas.Bool.{OnTrue_at}
+use Rattle.ts_lists.proofs.Pairs.{zip_at_place}
+use Rattle.ts_lists.proofs.Places.{place_below}
 use Rattle.std.proofs.lemmas.List.Elements.{All-head, All-tail}
 use Rattle.ts_config.specs.declared.setup.Setup.{Setup}
 use Rattle.ts_group.specs.declared.slot.TheConstants.{MOST_IN_TURN}
@@ -16,8 +19,10 @@ use Rattle.ts_record.specs.Grammar.{TxnPieces}
 use Rattle.ts_record.specs.Links.{recorded_side}
 use Rattle.ts_record.proofs.Links.{side_bytes}
 use Rattle.ts_replay.specs.Exchanged.{IsRunBetween}
-use Rattle.ts_replay.specs.Recorded.{AreTagsOf, FitInRow, FitsIn, FitsTag, HasLinesOnly, IsSound, IsSoundWith, IsTagOf, RecordedGroup, RecordedTag, is_asked_only, is_first}
-use Rattle.ts_replay.specs.Replayed.{EachOf, HasRunAs}
+use Rattle.ts_replay.specs.Recorded.{FitInRow, FitsIn, IsOfTag, HasLinesOnly, IsSoundRecorded, IsSoundWith}
+use Rattle.ts_replay.specs.Recorded.{IsTagOf, RecordedGroup, RecordedTag, IsNewTagOf, is_asked_only, is_first}
+use Rattle.ts_replay.specs.Numbered.{EachOf}
+use Rattle.ts_replay.specs.Replayed.{HasRunAs}
 use Rattle.ts_replay.specs.Rows.{IsRowOf}
 use Rattle.ts_thread.specs.declared.TheConstants.{MOST_ALONE}
 use Rattle.ts_thread.specs.Goings.{IsIdle}
@@ -39,19 +44,24 @@ later_turns a b s t none (inr (same, later)) = later.turns
 
 -- once it was started it fits its tag, which says so, and it has had a turn
 record Goes (tag : RecordedTag) (g : RecordedGroup) : Type 0 where
-  fits : FitsTag (record tag { started = true }) g.world
+  fits : IsOfTag (record tag { started = true }) g.world
   turned : 0 < g.cx.log.state.turns
 
 -- so does what follows a group that was started
-goes_on : (tags : List RecordedTag) (k : ℕ) (tag : RecordedTag) (given now : RecordedGroup) → get_elem? tags k ≡ some tag → is_first tag ≡ true → FitsTag tag given.world
-    → now.cx.log.base.turns ≡ 0 → WasStarted FitsTag (IsFirst is_first tags) HasTxnBegun IsSound k given now → Goes tag now
+goes_on : (tags : List RecordedTag) (k : ℕ) (tag : RecordedTag) (given now : RecordedGroup)
+    → get_elem? tags k ≡ some tag → is_first tag ≡ true → IsOfTag tag given.world
+    → now.cx.log.base.turns ≡ 0
+    → WasStarted IsOfTag (IsFirst is_first tags) HasTxnBegun IsSoundRecorded k given now → Goes tag now
 goes_on tags k tag given now there first fits none was =
     let begun = was.started in
-    let found : FitsTag tag was.found.world = found_fits FitsTag is_first HasTxnBegun IsSound tags k given now tag there first was tag fits in
-    let more = later_turns now.cx.log.base.turns begun.cx.log.base.turns begun.cx.log.state now.cx.log.state none was.follows.journal in
+    let found : IsOfTag tag was.found.world = found_fits IsOfTag is_first HasTxnBegun IsSoundRecorded tags k
+    given now tag there first was tag fits in
+    let more = later_turns now.cx.log.base.turns begun.cx.log.base.turns begun.cx.log.state now.cx.log.state
+    none was.follows.journal in
     let own = was.turned in
     record {
-      fits = end_fits FitsTag is_first HasTxnBegun IsSound tags k given now tag there first was none (record tag { started = true })
+      fits = end_fits IsOfTag is_first HasTxnBegun IsSoundRecorded tags k given now tag there first was none
+          (record tag { started = true })
           (fits_begun look_of look_of tag was.found.world begun.world was.begun found);
       turned = omega (arith, more, own);
     }
@@ -59,92 +69,91 @@ goes_on tags k tag given now there first fits none was =
 -- each that fits the tag at its place goes, where its slot had no other tenant
 abbrev AllGo : List RecordedTag → List RecordedGroup → Type 0
 AllGo tags groups =
-    (k : ℕ) (tag : RecordedTag) (g : RecordedGroup) → get_elem? tags k ≡ some tag → get_elem? groups k ≡ some g → is_first tag ≡ true → FitsIn tag g → Goes tag g
-
--- ---- the elements of lists at the same places
-
--- the partner of an element
-zip_left : {A B : Type 0} (R : A → B → Type 0) (xs : List A) (ys : List B) (k : ℕ) (x : A) → AllZip R xs ys → get_elem? xs k ≡ some x → (y : B) × (get_elem? ys k ≡ some y) × R x y
-zip_left R [] [] k x all at = absurd (cc)
-zip_left R [] (y ∷ ys) k x all at = absurd all
-zip_left R (z ∷ xs) [] k x all at = absurd all
-zip_left R (z ∷ xs) (y ∷ ys) zero x all at = let same : z ≡ x = cc in (y, refl, subst (λ v. R v y) same all.0)
-zip_left R (z ∷ xs) (y ∷ ys) (suc k) x all at = zip_left R xs ys k x all.1 at
-
--- the place of an element is one of the list
-at_below : {X : Type 0} (xs : List X) (k : ℕ) (x : X) → get_elem? xs k ≡ some x → k < length xs
-at_below [] k x at = absurd (cc)
-at_below (y ∷ xs) zero x at = omega arith
-at_below (y ∷ xs) (suc k) x at = let low = at_below xs k x at in omega arith
+    (k : ℕ) (tag : RecordedTag) (g : RecordedGroup) → get_elem? tags k ≡ some tag → get_elem? groups k ≡ some
+    g → is_first tag ≡ true → FitsIn tag g → Goes tag g
 
 -- ---- transaction by transaction
 
-module _ (setup : Setup) (most : ℕ) (lines : HasLinesOnly setup) (low : MOST_IN_TURN * most + 1 < GREATEST) where
-  -- one that has run
-  has_run : (number : ℕ) (txn : TxnPieces) (tag : RecordedTag) (g : RecordedGroup) → IsTagOf setup number txn false tag → FitsIn tag g → IsIdle g → HasHadTurns most g → Goes tag g
-      → HasRunAs setup number txn g
-  has_run number txn tag g is fits idle few goes = record {
-    lines = lines;
-    tag = record tag { started = true };
-    tag_is = record {
-      number_is = is.number_is;
-      setup_is = is.setup_is;
-      plugins_at = is.plugins_at;
-      client = is.client;
-      origin = is.origin;
-      sure = is.sure;
-      first = is.first;
-      started_is = refl;
-    };
-    fits = goes.fits;
-    sound = fits.1;
-    began = OnTrue_at is.first fits.3;
-    turned = goes.turned;
-    idle = idle;
-    given = fits.2.0;
-    numbers = let next = fits.2.1 in omega (arith, next, few, low);
-  }
+module _ (setup : Setup) (most : ℕ) (lines : HasLinesOnly setup) (low : MOST_IN_TURN * most + 1 < GREATEST)
+  where
+    -- one that has run
+    has_run : (number : ℕ) (txn : TxnPieces) (tag : RecordedTag) (g : RecordedGroup)
+        → IsTagOf setup number txn false tag → FitsIn tag g → IsIdle g → HasHadTurns most g → Goes tag g
+        → HasRunAs setup number txn g
+    has_run number txn tag g is fits idle few goes = record {
+      lines = lines;
+      tag = record tag { started = true };
+      tag_is = record {
+        number_is = is.number_is;
+        setup_is = is.setup_is;
+        plugins_at = is.plugins_at;
+        client = is.client;
+        origin = is.origin;
+        sure = is.sure;
+        first = is.first;
+        started_is = refl;
+      };
+      fits = goes.fits;
+      sound = fits.1;
+      began = OnTrue_at is.first fits.3;
+      turned = goes.turned;
+      idle = idle;
+      given = fits.2.0;
+      numbers = let next = fits.2.1 in omega (arith, next, few, low);
+    }
 
-  -- and all of them
-  each_ran : (from : ℕ) (txns : List TxnPieces) (tags : List RecordedTag) (groups : List RecordedGroup) → AreTagsOf setup from txns tags → FitInRow tags groups → All IsIdle groups
-      → All (HasHadTurns most) groups → AllGo tags groups → EachOf (HasRunAs setup) from txns groups
-  each_ran from [] [] [] are fit idle few goes = tt
-  each_ran from [] [] (g ∷ gs) are fit idle few goes = absurd fit
-  each_ran from [] (tag ∷ tags) gs are fit idle few goes = absurd are
-  each_ran from (txn ∷ txns) [] gs are fit idle few goes = absurd are
-  each_ran from (txn ∷ txns) (tag ∷ tags) [] are fit idle few goes = absurd fit
-  each_ran from (txn ∷ txns) (tag ∷ tags) (g ∷ gs) are fit idle few goes = (
-    has_run from txn tag g are.0 fit.0 (All-head IsIdle g gs idle) (All-head (HasHadTurns most) g gs few) (goes 0 tag g refl refl are.0.first fit.0),
-    each_ran (from + 1) txns tags gs are.1 fit.1 (All-tail IsIdle g gs idle) (All-tail (HasHadTurns most) g gs few) (λ k. goes (suc k)),
-  )
+    -- and all of them
+    each_ran : (from : ℕ) (txns : List TxnPieces) (tags : List RecordedTag) (groups : List RecordedGroup)
+        → EachOf (IsNewTagOf setup) from txns tags → FitInRow tags groups → All IsIdle groups
+        → All (HasHadTurns most) groups → AllGo tags groups → EachOf (HasRunAs setup) from txns groups
+    each_ran from [] [] [] are fit idle few goes = tt
+    each_ran from [] [] (g ∷ gs) are fit idle few goes = absurd fit
+    each_ran from [] (tag ∷ tags) gs are fit idle few goes = absurd are
+    each_ran from (txn ∷ txns) [] gs are fit idle few goes = absurd are
+    each_ran from (txn ∷ txns) (tag ∷ tags) [] are fit idle few goes = absurd fit
+    each_ran from (txn ∷ txns) (tag ∷ tags) (g ∷ gs) are fit idle few goes = (
+      has_run from txn tag g are.0 fit.0 (All-head IsIdle g gs idle) (All-head (HasHadTurns most) g gs few)
+          (goes 0 tag g refl refl are.0.first fit.0),
+      each_ran (from + 1) txns tags gs are.1 fit.1 (All-tail IsIdle g gs idle)
+          (All-tail (HasHadTurns most) g gs few) (λ k. goes (suc k)),
+    )
 
 -- groups of a row that were run by threads and driven to their end
-pub row_ran : (setup : Setup) (txns : List TxnPieces) (tags : List RecordedTag) (given groups : List RecordedGroup) (starts threads budget : ℕ) → IsRowOf setup txns tags given → starts ≡ length given
+pub row_ran : (setup : Setup) (txns : List TxnPieces) (tags : List RecordedTag)
+    (given groups : List RecordedGroup) (starts threads budget : ℕ) → IsRowOf setup txns tags given → starts ≡
+    length given
     → MOST_IN_TURN * max (turns_of starts threads budget) MOST_ALONE + 1 < GREATEST
-    → HaveEnded FitsTag IsSound is_asked_only is_first HasTxnBegun tags given starts threads budget groups → EachOf (HasRunAs setup) 1 txns groups
+    → HaveEnded IsOfTag IsSoundRecorded is_asked_only is_first HasTxnBegun tags given starts threads budget
+    groups → EachOf (HasRunAs setup) 1 txns groups
 row_ran setup txns tags given groups starts threads budget row all low ended =
-    each_ran setup (max (turns_of starts threads budget) MOST_ALONE) row.lines low 1 txns tags groups row.tags_are ended.fits ended.idle ended.turns goes
+    each_ran setup (max (turns_of starts threads budget) MOST_ALONE) row.lines low 1 txns tags groups
+    row.tags_are ended.fits ended.idle ended.turns goes
   where
     goes : AllGo tags groups
     goes k tag g there at first fits =
-        let (h, before, fitted) = zip_left FitsIn tags given k tag row.fit there in
-        goes_on tags k tag h g there first fitted.0 (OnTrue_at first fits.3) (ended.started k h g (omega (arith, all, at_below given k h before)) before at)
+        let (h, before, fitted) = zip_at_place FitsIn tags given k tag row.fit there in
+        goes_on tags k tag h g there first fitted.0 (OnTrue_at first fits.3)
+        (ended.started k h g (omega (arith, all, place_below given k h before)) before at)
 
 -- ---- what its block is made of
 
 -- an origin's side is dialed, and its source is that of the link that it was made of
-made_source : (x : Option (Peer LinkState)) (made : LinkState) → IsSameLinkIf look_of (Some made) x → (is_dialed x ≡ true) × ((side_if look_of x).look.source ≡ (look_of made).source)
+made_source : (x : Option (Peer LinkState)) (made : LinkState) → IsSameLinkIf look_of (Some made) x
+    → (is_dialed x ≡ true) × ((side_if look_of x).look.source ≡ (look_of made).source)
 made_source None made same = absurd same
 made_source (Some p) made same = (refl, same.source)
 
 -- a transaction that has run did so between the bytes of its two sides
-pub run_between : (setup : Setup) (number : ℕ) (txn : TxnPieces) (g : RecordedGroup) → HasRunAs setup number txn g → IsRunBetween setup (concat txn.0) (concat txn.1) g.world
+pub run_between : (setup : Setup) (number : ℕ) (txn : TxnPieces) (g : RecordedGroup)
+    → HasRunAs setup number txn g → IsRunBetween setup (concat txn.0) (concat txn.1) g.world
 run_between setup number txn g ran =
-    let of_origin = made_source g.world.core.origin (recorded_side txn.1) (subst (λ o. IsSameLinkIf look_of o g.world.core.origin) ran.tag_is.origin ran.fits.origin) in
+    let of_origin = made_source g.world.core.origin (recorded_side txn.1)
+    (subst (λ o. IsSameLinkIf look_of o g.world.core.origin) ran.tag_is.origin ran.fits.origin) in
     record {
       setup_is = ran.fits.setup ∙ ran.tag_is.setup_is;
       no_plugins = ran.lines.no_plugins;
-      gives = ran.fits.client.source ∙ ap (λ (l : LinkState). (look_of l).source) ran.tag_is.client ∙ side_bytes txn.0;
+      gives = ran.fits.client.source ∙ ap (λ (l : LinkState). (look_of l).source) ran.tag_is.client ∙
+          side_bytes txn.0;
       dialed = of_origin.0;
       answers = of_origin.1 ∙ side_bytes txn.1;
       started = ran.fits.started ran.tag_is.started_is;

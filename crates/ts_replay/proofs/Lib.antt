@@ -2,6 +2,7 @@ pub mod Blank
 pub mod Blocks
 pub mod Ended
 pub mod HexLengths
+pub mod Numbered
 pub mod OneReport
 pub mod Plans
 pub mod Reporting

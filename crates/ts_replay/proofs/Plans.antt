@@ -15,9 +15,11 @@ some_of b len zero is empty same = let none : b ≡ (0 == 0) = subst (λ k. b �
 some_of b len (suc count) is empty same = omega arith
 
 -- threads within their limit give no more turns than one thread alone does
-pub turns_few : (starts threads : ℕ) → starts ≤ MOST_TXNS → threads ≤ MOST_THREADS → turns_of starts threads BUDGET ≤ MOST_ALONE
+pub turns_few : (starts threads : ℕ) → starts ≤ MOST_TXNS → threads ≤ MOST_THREADS
+    → turns_of starts threads BUDGET ≤ MOST_ALONE
 turns_few starts threads few most =
-    let times : threads * (2 * BUDGET) ≤ MOST_THREADS * (2 * BUDGET) = mul-le threads (2 * BUDGET) MOST_THREADS (2 * BUDGET) most (omega arith) in
+    let times : threads * (2 * BUDGET) ≤ MOST_THREADS * (2 * BUDGET) = mul-le threads (2 * BUDGET)
+    MOST_THREADS (2 * BUDGET) most (omega arith) in
     omega (arith, times, few)
 
 -- a group at rest that has had no more has event numbers left

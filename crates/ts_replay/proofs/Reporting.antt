@@ -1,5 +1,6 @@
 -- A report grows block by block, and the journals with it.
-use Rattle.std.proofs.Common.{◌≡◌, ℕ, ◌+◌, List, [], ◌∷◌, ◌++◌, length, length-append, append_assoc, map, Some, refl, sym, ap, subst, ◌∙◌, arith}
+use Rattle.std.proofs.Common.{◌≡◌, ℕ, ◌+◌, List, [], ◌∷◌, ◌++◌, length, length-append, append_assoc, map}
+use Rattle.std.proofs.Common.{Some, refl, sym, ap, subst, ◌∙◌, arith}
 use Rattle.std.specs.Prelude.{IsSomeAnd}
 use Rattle.std.specs.List.{AllZip, concat}
 use Rattle.std.proofs.lemmas.List.{append-nil, map-append}
@@ -12,50 +13,28 @@ use Rattle.ts_record.specs.Report.{IsReported, block_text, blocks_text, report_b
 use Rattle.ts_record.specs.declared.report.Block.{Block}
 use Rattle.ts_replay.specs.Exchanged.{IsRunBetween}
 use Rattle.ts_replay.specs.Recorded.{Recorded, RecordedGroup}
-use Rattle.ts_replay.specs.Replayed.{ComesTo, EachOf, HasRunAs, IsReplayOf, journal_of}
-use Rattle.ts_replay.specs.Reports.{IsShown, IsShownOf}
+use Rattle.ts_replay.specs.Numbered.{EachOf}
+use Rattle.ts_replay.specs.Replayed.{ComesTo, HasRunAs, IsReplayOf, journal_of}
+use Rattle.ts_replay.specs.Reports.{IsTxnShown, IsShownOf}
 use Rattle.ts_replay.specs.declared.report.Replayed.{Replayed}
 use Rattle.ts_replay.proofs.Ended.{run_between}
-use Rattle.ts_replay.proofs.Rows.{zip_more}
+use Rattle.ts_replay.proofs.Numbered.{FirstOf, each_more, first_of, none_left}
+use Rattle.std.proofs.lemmas.Slice.Zip.{all_zipped_more}
 use Rattle.ts_txn.specs.Making.{end_of}
 
 -- the lines on one transaction more
-blocks_more : (k n : ℕ) (bs : List Block) (b : Block) → n ≡ k + length bs → blocks_text k (bs ++ b ∷ []) ≡ blocks_text k bs ++ block_text n b
-blocks_more k n [] b is = let first : n ≡ k = omega (arith, is) in append-nil (block_text k b) ∙ ap (λ m. block_text m b) (sym first)
+blocks_more : (k n : ℕ) (bs : List Block) (b : Block) → n ≡ k + length bs
+    → blocks_text k (bs ++ b ∷ []) ≡ blocks_text k bs ++ block_text n b
+blocks_more k n [] b is = let first : n ≡ k = omega (arith, is) in append-nil (block_text k b) ∙ ap
+    (λ m. block_text m b) (sym first)
 blocks_more k n (a ∷ bs) b is =
     let next : n ≡ (k + 1) + length bs = omega (arith, is) in
-    ap (λ l. block_text k a ++ l) (blocks_more (k + 1) n bs b next) ∙ sym (append_assoc (block_text k a) (blocks_text (k + 1) bs) (block_text n b))
-
-module _ (Holds : ℕ → TxnPieces → RecordedGroup → Type 0) where
-  -- one transaction more has its group
-  each_more : (from number : ℕ) (txns : List TxnPieces) (groups : List RecordedGroup) (txn : TxnPieces) (g : RecordedGroup) → number ≡ from + length txns → EachOf Holds from txns groups → Holds number txn g
-      → EachOf Holds from (txns ++ txn ∷ []) (groups ++ g ∷ [])
-  each_more from number [] [] txn g is each one = (let here : number ≡ from = omega (arith, is) in subst (λ n. Holds n txn g) here one, tt)
-  each_more from number [] (h ∷ groups) txn g is each one = absurd each
-  each_more from number (t ∷ txns) [] txn g is each one = absurd each
-  each_more from number (t ∷ txns) (h ∷ groups) txn g is each one =
-      (each.0, each_more (from + 1) number txns groups txn g (let later : number ≡ from + 1 + length txns = omega (arith, is) in later) each.1 one)
-
-  -- the first of these groups has its transaction
-  pub record FirstOf (number : ℕ) (txns : List TxnPieces) (g : RecordedGroup) (rest : List RecordedGroup) : Type 0 where
-    pub txn : TxnPieces
-    pub others : List TxnPieces
-    pub are : txns ≡ txn ∷ others
-    pub first : Holds number txn g
-    pub each : EachOf Holds (number + 1) others rest
-
-  -- where there is one
-  first_of : (number : ℕ) (txns : List TxnPieces) (g : RecordedGroup) (rest : List RecordedGroup) → EachOf Holds number txns (g ∷ rest) → FirstOf number txns g rest
-  first_of number [] g rest each = absurd each
-  first_of number (t ∷ txns) g rest each = record { txn = t; others = txns; are = refl; first = each.0; each = each.1 }
-
-  -- without a group no transaction is left
-  none_left : (number : ℕ) (txns : List TxnPieces) → EachOf Holds number txns [] → txns ≡ []
-  none_left number [] each = refl
-  none_left number (t ∷ txns) each = absurd each
+    ap (λ l. block_text k a ++ l) (blocks_more (k + 1) n bs b next) ∙ sym
+    (append_assoc (block_text k a) (blocks_text (k + 1) bs) (block_text n b))
 
 -- so many of the transactions were reported on, and their journals are there
-pub record ReportsBut (setup : Setup) (txns : List TxnPieces) (groups rest : List RecordedGroup) (number : ℕ) (text : List ℕ) (journals : List Log) : Type 0 where
+pub record ReportsBut (setup : Setup) (txns : List TxnPieces) (groups rest : List RecordedGroup) (number : ℕ)
+    (text : List ℕ) (journals : List Log) : Type 0 where
   pub done : List TxnPieces
   pub left : List TxnPieces
   pub gone : List RecordedGroup
@@ -66,7 +45,7 @@ pub record ReportsBut (setup : Setup) (txns : List TxnPieces) (groups rest : Lis
   pub blocks_are : length blocks ≡ length done
   pub each : EachOf (IsReplayOf setup) 1 done gone
   pub to_come : EachOf (HasRunAs setup) (number + 1) left rest
-  pub shows : AllZip (IsShown setup) done blocks
+  pub shows : AllZip (IsTxnShown setup) done blocks
   pub text_is : text ≡ report_begin ++ blocks_text 1 blocks
   pub journals_are : journals ≡ map journal_of gone
 
@@ -78,8 +57,10 @@ pub record IsKept (log : Log) : Type 0 where
   pub state : log.state ≡ replay log.base log.entries
 
 -- what is read of a journal is known of its group
-pub is_kept : (log read : Log) (es : List Entry) → read ≡ log → es ≡ read.entries → IsLawful read.base es → read.state ≡ replay read.base es → IsKept log
-is_kept log read es same are lawful state = subst IsKept same (record { lawful = subst (IsLawful read.base) are lawful; state = state ∙ ap (replay read.base) are })
+pub is_kept : (log read : Log) (es : List Entry) → read ≡ log → es ≡ read.entries → IsLawful read.base es
+    → read.state ≡ replay read.base es → IsKept log
+is_kept log read es same are lawful state = subst IsKept same
+    (record { lawful = subst (IsLawful read.base) are lawful; state = state ∙ ap (replay read.base) are })
 
 -- the block tells how a transaction ended, and is the one of whatever two sides it ran between
 pub record TellsOf (setup : Setup) (t : Recorded) (b : Block) : Type 0 where
@@ -88,7 +69,8 @@ pub record TellsOf (setup : Setup) (t : Recorded) (b : Block) : Type 0 where
   pub reported : IsReported b.end
 
 -- what is known of a group whose transaction has a block
-replay_of : (setup : Setup) (number : ℕ) (txn : TxnPieces) (g : RecordedGroup) (b : Block) → HasRunAs setup number txn g → TellsOf setup g.world b → IsKept g.cx.log
+replay_of : (setup : Setup) (number : ℕ) (txn : TxnPieces) (g : RecordedGroup) (b : Block)
+    → HasRunAs setup number txn g → TellsOf setup g.world b → IsKept g.cx.log
     → IsReplayOf setup number txn g
 replay_of setup number txn g b ran tells kept = record {
   ran = ran;
@@ -96,52 +78,74 @@ replay_of setup number txn g b ran tells kept = record {
   final = record { lawful = kept.lawful; state = kept.state; given = ran.given; none = ran.idle };
 }
 
-module _ (setup : Setup) (txns : List TxnPieces) (groups left rest : List RecordedGroup) (number : ℕ) (text : List ℕ) (journals : List Log) (g : RecordedGroup)
+module _ (setup : Setup) (txns : List TxnPieces) (groups left rest : List RecordedGroup) (number : ℕ)
+    (text : List ℕ) (journals : List Log) (g : RecordedGroup)
     (before : ReportsBut setup txns groups left number text journals) (is : left ≡ g ∷ rest) where
   -- the next one has run
   pub next_of : FirstOf (HasRunAs setup) (number + 1) before.left g rest
-  next_of = first_of (HasRunAs setup) (number + 1) before.left g rest (subst (λ gs. EachOf (HasRunAs setup) (number + 1) before.left gs) is before.to_come)
+  next_of = first_of (HasRunAs setup) (number + 1) before.left g rest
+      (subst (λ gs. EachOf (HasRunAs setup) (number + 1) before.left gs) is before.to_come)
 
   -- so it is reported on
-  pub reports_more : (next : ℕ) (text' : List ℕ) (journals' : List Log) (b : Block) → next ≡ number + 1 → TellsOf setup g.world b → IsKept g.cx.log
-      → text' ≡ text ++ block_text next b → journals' ≡ journals ++ g.cx.log ∷ [] → ReportsBut setup txns groups rest next text' journals'
+  pub reports_more : (next : ℕ) (text' : List ℕ) (journals' : List Log) (b : Block) → next ≡ number + 1
+      → TellsOf setup g.world b → IsKept g.cx.log
+      → text' ≡ text ++ block_text next b → journals' ≡ journals ++ g.cx.log ∷ []
+      → ReportsBut setup txns groups rest next text' journals'
   reports_more next text' journals' b up tells kept longer added =
       let first = next_of in
       let at : number + 1 ≡ 1 + length before.done = omega (arith, before.number_is) in
-      let at_block : next ≡ 1 + length before.blocks = omega (arith, before.number_is, before.blocks_are, up) in
-      let shown : IsShown setup first.txn b = tells.shown (concat first.txn.0) (concat first.txn.1) (run_between setup (number + 1) first.txn g first.first) in
+      let at_block : next ≡ 1 + length before.blocks = omega (arith, before.number_is, before.blocks_are, up)
+      in
+      let shown : IsTxnShown setup first.txn b = tells.shown (concat first.txn.0) (concat first.txn.1)
+      (run_between setup (number + 1) first.txn g first.first) in
       record {
         done = before.done ++ first.txn ∷ [];
         left = first.others;
         gone = before.gone ++ g ∷ [];
         blocks = before.blocks ++ b ∷ [];
-        txns_are = before.txns_are ∙ ap (λ l. before.done ++ l) first.are ∙ sym (append_assoc before.done (first.txn ∷ []) first.others);
-        groups_are = before.groups_are ∙ ap (λ l. before.gone ++ l) is ∙ sym (append_assoc before.gone (g ∷ []) rest);
+        txns_are = before.txns_are ∙ ap (λ l. before.done ++ l) first.are ∙ sym
+            (append_assoc before.done (first.txn ∷ []) first.others);
+        groups_are = before.groups_are ∙ ap (λ l. before.gone ++ l) is ∙ sym
+            (append_assoc before.gone (g ∷ []) rest);
         number_is = omega (arith, up, before.number_is, length-append before.done (first.txn ∷ []));
-        blocks_are = omega (arith, before.blocks_are, length-append before.blocks (b ∷ []), length-append before.done (first.txn ∷ []));
-        each = each_more (IsReplayOf setup) 1 (number + 1) before.done before.gone first.txn g at before.each (replay_of setup (number + 1) first.txn g b first.first tells kept);
+        blocks_are = omega (
+          arith,
+          before.blocks_are,
+          length-append before.blocks (b ∷ []),
+          length-append
+              before.done (first.txn ∷ []),
+        );
+        each = each_more (IsReplayOf setup) 1 (number + 1) before.done before.gone first.txn g at before.each
+            (replay_of setup (number + 1) first.txn g b first.first tells kept);
         to_come = subst (λ n. EachOf (HasRunAs setup) (n + 1) first.others rest) (sym up) first.each;
-        shows = zip_more (IsShown setup) before.done before.blocks first.txn b before.shows shown;
-        text_is = longer ∙ ap (λ l. l ++ block_text next b) before.text_is ∙ append_assoc report_begin (blocks_text 1 before.blocks) (block_text next b)
+        shows = all_zipped_more (IsTxnShown setup) before.done before.blocks first.txn b before.shows shown;
+        text_is = longer ∙ ap (λ l. l ++ block_text next b) before.text_is ∙ append_assoc report_begin
+            (blocks_text 1 before.blocks) (block_text next b)
             ∙ ap (λ l. report_begin ++ l) (sym (blocks_more 1 next before.blocks b at_block));
-        journals_are = added ∙ ap (λ l. l ++ g.cx.log ∷ []) before.journals_are ∙ sym (map-append journal_of before.gone (g ∷ []));
+        journals_are = added ∙ ap (λ l. l ++ g.cx.log ∷ []) before.journals_are ∙ sym
+            (map-append journal_of before.gone (g ∷ []));
       }
 
 -- ---- all of them
 
 -- all were reported on, and the last line stands behind
-pub reports_all : (setup : Setup) (txns : List TxnPieces) (groups : List RecordedGroup) (number : ℕ) (text text' : List ℕ) (journals : List Log) (r : Replayed)
-    → ReportsBut setup txns groups [] number text journals → text' ≡ text ++ report_end → r.report.items ≡ text' → r.journals.items ≡ journals → ComesTo setup txns groups r
+pub reports_all : (setup : Setup) (txns : List TxnPieces) (groups : List RecordedGroup) (number : ℕ)
+    (text text' : List ℕ) (journals : List Log) (r : Replayed)
+    → ReportsBut setup txns groups [] number text journals → text' ≡ text ++ report_end
+    → r.report.items ≡ text' → r.journals.items ≡ journals → ComesTo setup txns groups r
 reports_all setup txns groups number text text' journals r all longer text_is journals_are =
     let none = none_left (HasRunAs setup) (number + 1) all.left all.to_come in
-    let txns_done : all.done ≡ txns = sym (append-nil all.done) ∙ ap (λ l. all.done ++ l) (sym none) ∙ sym all.txns_are in
+    let txns_done : all.done ≡ txns = sym (append-nil all.done) ∙ ap (λ l. all.done ++ l) (sym none) ∙ sym
+    all.txns_are in
     let groups_gone : all.gone ≡ groups = sym (append-nil all.gone) ∙ sym all.groups_are in
     record {
-      each = subst (λ ts. EachOf (IsReplayOf setup) 1 ts groups) txns_done (subst (λ gs. EachOf (IsReplayOf setup) 1 all.done gs) groups_gone all.each);
+      each = subst (λ ts. EachOf (IsReplayOf setup) 1 ts groups) txns_done
+          (subst (λ gs. EachOf (IsReplayOf setup) 1 all.done gs) groups_gone all.each);
       journals = journals_are ∙ all.journals_are ∙ ap (map journal_of) groups_gone;
       report = record {
         blocks = all.blocks;
-        each = subst (λ ts. AllZip (IsShown setup) ts all.blocks) txns_done all.shows;
-        text_is = text_is ∙ longer ∙ ap (λ l. l ++ report_end) all.text_is ∙ append_assoc report_begin (blocks_text 1 all.blocks) report_end;
+        each = subst (λ ts. AllZip (IsTxnShown setup) ts all.blocks) txns_done all.shows;
+        text_is = text_is ∙ longer ∙ ap (λ l. l ++ report_end) all.text_is ∙ append_assoc report_begin
+            (blocks_text 1 all.blocks) report_end;
       };
     }

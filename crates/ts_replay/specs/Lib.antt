@@ -1,4 +1,5 @@
 pub mod Exchanged
+pub mod Numbered
 pub mod Recorded
 pub mod Replayed
 pub mod Reports

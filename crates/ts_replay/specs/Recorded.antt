@@ -45,17 +45,13 @@ pub record IsTagOf (setup : Setup) (number : ℕ) (txn : TxnPieces) (started : B
   pub first : tag.first ≡ true
   pub started_is : tag.started ≡ started
 
--- tags of these transactions, in order, none of which was started; the first has this number
-abbrev pub AreTagsOf : Setup → ℕ → List TxnPieces → List RecordedTag → Type 0
-AreTagsOf setup number [] [] = ⊤
-AreTagsOf setup number [] (tag ∷ tags) = ⊥
-AreTagsOf setup number (txn ∷ txns) [] = ⊥
-AreTagsOf setup number (txn ∷ txns) (tag ∷ tags) =
-    IsTagOf setup number txn false tag × AreTagsOf setup (number + 1) txns tags
+-- and it was not started
+abbrev pub IsNewTagOf : Setup → ℕ → TxnPieces → RecordedTag → Type 0
+IsNewTagOf setup number txn tag = IsTagOf setup number txn false tag
 
 -- the transaction is the one that the tag names
-abbrev pub FitsTag : RecordedTag → Recorded → Type 0
-FitsTag = IsTxnOf look_of look_of
+abbrev pub IsOfTag : RecordedTag → Recorded → Type 0
+IsOfTag = IsTxnOf look_of look_of
 
 -- what is to hold of it holds, where these events are pending and this event number is next
 abbrev pub IsSoundWith : Recorded → List Pending → ℕ → List Named → Type 0
@@ -64,8 +60,8 @@ IsSoundWith t pending next roles =
     (λ (o : LinkState) (list : List ℕ). false ≡ true) still_writes whole_of t pending next roles
 
 -- and in a journal's state
-abbrev pub IsSound : Recorded → State → List Named → Type 0
-IsSound t s roles = IsSoundWith t s.pending s.next roles
+abbrev pub IsSoundRecorded : Recorded → State → List Named → Type 0
+IsSoundRecorded t s roles = IsSoundWith t s.pending s.next roles
 
 -- it is never only asked
 abbrev pub is_asked_only : RecordedTag → Bool
@@ -76,8 +72,8 @@ is_first tag = tag.first
 
 -- its group fits the tag
 abbrev pub FitsIn : RecordedTag → RecordedGroup → Type 0
-FitsIn = GroupFits FitsTag IsSound is_asked_only is_first
+FitsIn = GroupFits IsOfTag IsSoundRecorded is_asked_only is_first
 
 -- groups fit tags, each the tag at its place
 abbrev pub FitInRow : List RecordedTag → List RecordedGroup → Type 0
-FitInRow = GroupsFit FitsTag IsSound is_asked_only is_first
+FitInRow = GroupsFit IsOfTag IsSoundRecorded is_asked_only is_first

@@ -7,7 +7,8 @@ use Rattle.ts_journal.specs.Machine.{IsLawful, replay}
 use Rattle.ts_journal.specs.declared.entry.TheConstants.{GREATEST}
 use Rattle.ts_record.specs.Grammar.{TxnPieces}
 use Rattle.ts_record.specs.Report.{IsReported}
-use Rattle.ts_replay.specs.Recorded.{FitsTag, HasLinesOnly, IsSound, IsTagOf, RecordedGroup, RecordedTag}
+use Rattle.ts_replay.specs.Numbered.{EachOf}
+use Rattle.ts_replay.specs.Recorded.{IsOfTag, HasLinesOnly, IsSoundRecorded, IsTagOf, RecordedGroup, RecordedTag}
 use Rattle.ts_replay.specs.Reports.{IsReport, IsSetupOf}
 use Rattle.ts_replay.specs.declared.report.Replayed.{Replayed}
 use Rattle.ts_txn.specs.Making.{end_of}
@@ -26,8 +27,8 @@ pub record HasRunAs (setup : Setup) (number : ℕ) (txn : TxnPieces) (group : Re
   pub lines : HasLinesOnly setup
   pub tag : RecordedTag
   pub tag_is : IsTagOf setup number txn true tag
-  pub fits : FitsTag tag group.world
-  pub sound : IsSound group.world group.cx.log.state group.cx.roles
+  pub fits : IsOfTag tag group.world
+  pub sound : IsSoundRecorded group.world group.cx.log.state group.cx.roles
   pub began : group.cx.log.base.turns ≡ 0
   pub turned : 0 < group.cx.log.state.turns
   pub idle : group.cx.log.state.pending ≡ []
@@ -39,14 +40,6 @@ pub record IsReplayOf (setup : Setup) (number : ℕ) (txn : TxnPieces) (group : 
   pub ran : HasRunAs setup number txn group
   pub ended : IsSomeAnd (end_of group.world.course) IsReported
   pub final : IsFinal group.cx.log
-
--- a group for each of these transactions, in their order, of which this holds; the first has this number
-abbrev pub EachOf : (ℕ → TxnPieces → RecordedGroup → Type 0) → ℕ → List TxnPieces → List RecordedGroup
-    → Type 0
-EachOf Holds number [] [] = ⊤
-EachOf Holds number [] (g ∷ gs) = ⊥
-EachOf Holds number (t ∷ ts) [] = ⊥
-EachOf Holds number (t ∷ ts) (g ∷ gs) = Holds number t g × EachOf Holds (number + 1) ts gs
 
 -- what happened in a group
 abbrev pub journal_of : RecordedGroup → Log

@@ -10,24 +10,24 @@ use Rattle.ts_block.specs.Block.{IsBlock}
 use Rattle.ts_block.specs.declared.block.Block.{Block as TxnBlock}
 
 -- a block as a report shows it
-abbrev pub shown : TxnBlock → Block
-shown b = record { request = b.request; end = b.end; head = b.head; content = b.body }
+abbrev pub in_report : TxnBlock → Block
+in_report b = record { request = b.request; end = b.end; head = b.head; content = b.body }
 
 -- What a report says of a transaction between two sides: the block of all that they give, each followed by
 -- its end.
 pub record IsShownOf (setup : Setup) (client origin : List ℕ) (b : Block) : Type 0 where
   pub block : TxnBlock
   pub is_block : IsBlock setup true (false ≡ true) origin client block
-  pub shows : b ≡ shown block
+  pub shows : b ≡ in_report block
 
 -- and of a recorded transaction
-abbrev pub IsShown : Setup → TxnPieces → Block → Type 0
-IsShown setup txn b = IsShownOf setup (concat txn.0) (concat txn.1) b
+abbrev pub IsTxnShown : Setup → TxnPieces → Block → Type 0
+IsTxnShown setup txn b = IsShownOf setup (concat txn.0) (concat txn.1) b
 
 -- THE REPORT on transactions under a setup
 pub record IsReport (setup : Setup) (txns : List TxnPieces) (text : List ℕ) : Type 0 where
   pub blocks : List Block
-  pub each : AllZip (IsShown setup) txns blocks
+  pub each : AllZip (IsTxnShown setup) txns blocks
   pub text_is : text ≡ report_text blocks
 
 -- a setup of these lines, with no hook plugin

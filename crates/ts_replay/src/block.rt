@@ -4,7 +4,7 @@ ghost use Rattle.std.specs.Prelude.{◌≡◌, ◌≢◌, ◌++◌, ℕ, List, [
 ghost use Rattle.ts_config.specs.declared.setup.Setup.{Setup as SetupOf};
 ghost use Rattle.ts_record.specs.Report.{IsReported};
 ghost use Rattle.ts_replay.specs.Exchanged.{EndsBlank, HasTaken, IsLeftBetween, IsRunBetween, LeavesBlock};
-ghost use Rattle.ts_replay.specs.Reports.{IsShownOf, shown};
+ghost use Rattle.ts_replay.specs.Reports.{IsShownOf, in_report};
 ghost use Rattle.ts_replay.specs.Unframing.{IsFramed};
 ghost use Rattle.ts_txn.specs.Making.{end_of};
 ghost use Rattle.ts_block.specs.declared.block.Block.{Block as TxnBlock};
@@ -76,7 +76,7 @@ fn block_of(
     end: TxnEnd,
 ) -> Result<Block, NoMemory>
     requires block { (b : TxnBlock) × LeavesBlock parts.now origin.now end b }
-    ensures { (b : TxnBlock) → LeavesBlock parts.now origin.now end b → IfOk result (λ s. s ≡ shown b) }
+    ensures { (b : TxnBlock) → LeavesBlock parts.now origin.now end b → IfOk result (λ s. s ≡ in_report b) }
 {
     let request = request_of(alloc, origin)?;
     let (head, framed) = parts.client.written().split_at(parts.head as usize);
@@ -91,7 +91,7 @@ fn block_of(
 }
 
 // What a transaction came to that left these parts.
-fn told_of(alloc: Global, parts: &RecordedParts) -> Result<Block, NoMemory>
+fn block_left(alloc: Global, parts: &RecordedParts) -> Result<Block, NoMemory>
     requires left { (setup : SetupOf) × (c : List ℕ) × (o : List ℕ) × IsLeftBetween setup c o parts.now }
     ensures shown { (setup : SetupOf) (c o : List ℕ) → IsLeftBetween setup c o parts.now
         → IfOk result (IsShownOf setup c o) }
@@ -112,7 +112,7 @@ fn told_of(alloc: Global, parts: &RecordedParts) -> Result<Block, NoMemory>
 
 /// What a transaction came to that was started, and of whose group nothing is pending. Where memory lacked
 /// for the transaction, it is lacking here.
-pub fn told(alloc: Global, txn: Recorded) -> Result<Block, NoMemory>
+pub fn block_after(alloc: Global, txn: Recorded) -> Result<Block, NoMemory>
     requires run { (setup : SetupOf) × (c : List ℕ) × (o : List ℕ) × IsRunBetween setup c o txn }
     ensures shown { (setup : SetupOf) (c o : List ℕ) → IsRunBetween setup c o txn
         → IfOk result (IsShownOf setup c o) }
@@ -120,5 +120,5 @@ pub fn told(alloc: Global, txn: Recorded) -> Result<Block, NoMemory>
     ensures reported { IfOk result (λ b. IsReported b.end) }
 {
     let parts = txn.into_parts();
-    told_of(alloc, &parts)
+    block_left(alloc, &parts)
 }

@@ -22,7 +22,7 @@ pub type RecordedTag = TxnTag<RecordedLink, RecordedLink>;
 
 /// Groups in their order, each with the tag of its slot.
 #[derive(Drop)]
-pub struct Row {
+pub struct GroupRow {
     pub groups: Vec<Group<Recorded>>,
     pub tags: Vec<RecordedTag>,
 }
@@ -59,7 +59,11 @@ fn make_group(
 }
 
 /// The groups of these transactions, numbered from 1, all under one setup.
-pub fn make_row(alloc: Global, setup: &Arc<Setup>, txns: Vec<RecordedTxn>) -> Result<Row, NoMemory>
+pub fn make_row(
+    alloc: Global,
+    setup: &Arc<Setup>,
+    txns: Vec<RecordedTxn>,
+) -> Result<GroupRow, NoMemory>
     requires lines { HasLinesOnly (arc_value setup.now) }
     requires count { length txns.items ≤ MOST_TXNS }
     ensures { IfOk result (λ row. IsRowOf (arc_value setup.now) txns.items row.tags.items row.groups.items) }
@@ -74,5 +78,5 @@ pub fn make_row(alloc: Global, setup: &Arc<Setup>, txns: Vec<RecordedTxn>) -> Re
         groups.push(group)?;
         tags.push(tag)?;
     }
-    Ok(Row { groups, tags })
+    Ok(GroupRow { groups, tags })
 }

@@ -3,9 +3,10 @@
 ghost use Rattle.std.specs.Prelude.{◌≤◌, IfOk, List, length};
 ghost use Rattle.ts_config.specs.declared.setup.Setup.{Setup};
 ghost use Rattle.ts_record.specs.Grammar.{TxnPieces};
-ghost use Rattle.ts_replay.specs.Replayed.{ComesTo, EachOf, HasRunAs};
+ghost use Rattle.ts_replay.specs.Numbered.{EachOf};
+ghost use Rattle.ts_replay.specs.Replayed.{ComesTo, HasRunAs};
 
-use crate::block::{Recorded, told};
+use crate::block::{Recorded, block_after};
 use std::alloc::Global;
 use std::collections::VecDeque;
 use ts_group::Group;
@@ -35,7 +36,7 @@ pub fn report_on(alloc: Global, groups: Vec<Group<Recorded>>) -> Result<Replayed
         number += 1;
         let (txn, journal) = group.into_parts();
         journal.entries();
-        let block = told(alloc, txn)?;
+        let block = block_after(alloc, txn)?;
         add_block(&mut report, number, &block)?;
         journals.push(journal)?;
     }

@@ -3,12 +3,13 @@
 ghost use Rattle.std.specs.Prelude.{◌<◌, ◌≤◌, IfOk, List, length};
 ghost use Rattle.ts_config.specs.declared.setup.Setup.{Setup};
 ghost use Rattle.ts_record.specs.Grammar.{TxnPieces};
-ghost use Rattle.ts_replay.specs.Replayed.{EachOf, HasRunAs};
+ghost use Rattle.ts_replay.specs.Numbered.{EachOf};
+ghost use Rattle.ts_replay.specs.Replayed.{HasRunAs};
 ghost use Rattle.ts_replay.specs.Rows.{IsRowOf};
 
 use crate::block::Recorded;
 use crate::fault::ReplayFault;
-use crate::groups::Row;
+use crate::groups::GroupRow;
 use std::alloc::Global;
 use std::sync::Wait;
 use std::thread::Threads;
@@ -24,7 +25,7 @@ pub const BUDGET: u64 = 1_000_000;
 pub fn run_row<G: Gate + Sync, R: Threads + Wait + Sync>(
     rt: &R,
     alloc: Global,
-    row: Row,
+    row: GroupRow,
     threads: u32,
     gate: &G,
 ) -> Result<Vec<Group<Recorded>>, ReplayFault>
@@ -34,7 +35,7 @@ pub fn run_row<G: Gate + Sync, R: Threads + Wait + Sync>(
     ensures { (setup : Setup) (txns : List TxnPieces) → IsRowOf setup txns row.tags.items row.groups.items →
         IfOk result (λ gs. EachOf (HasRunAs setup) 1 txns gs.items) }
 {
-    let Row { groups, tags } = row;
+    let GroupRow { groups, tags } = row;
     if groups.is_empty() {
         return Ok(groups);
     }

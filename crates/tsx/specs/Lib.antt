@@ -1,1 +1,3 @@
+pub mod CommandLine
+pub mod Handed
 pub mod Whole

@@ -1,32 +1,33 @@
-//! A shelf over the files of the system.
-ghost use Rattle.std.specs.Prelude.{◌≡◌, ◌⊎◌, false, None};
+//! A shelf over files that are opened by their names.
+ghost use Rattle.std.specs.Prelude.{◌≡◌, ◌⊎◌};
 ghost use Rattle.ts_link.specs.declared.shelf.ShelfFault.TheVariants.{Failed, NoMemory};
-ghost use Rattle.tsx.specs.Whole.{KeepsMost};
+ghost use Rattle.tsx.specs.Whole.{IsAllOf, KeepsMost};
 
 use crate::count::raised;
+use crate::opener::Opener;
 use std::alloc::{AllocError, Global};
 use std::fs::OpenFile;
+use std::io;
 use std::io::{ErrorKind, Read};
-use std::rt::Files;
-use std::{fs, io};
 use ts_link::{Octets, Shelf, ShelfFault};
 
-/// It tells nothing of its files.
+/// It tells of its files what its opener tells.
 #[derive(Drop)]
-pub struct FileShelf<'a, R> {
-    rt: &'a R,
+pub struct FileShelf<O> {
+    opener: O,
     faults: u64,
     longs: u64,
 }
 
-impl<'a, R: Files> FileShelf<'a, R> {
-    /// A shelf over this system's files, with counts of zero.
-    pub fn new(rt: &'a R) -> FileShelf<'a, R>
+impl<O: Opener> FileShelf<O> {
+    /// A shelf over the files of this opener, with counts of zero.
+    pub fn new(opener: O) -> FileShelf<O>
+        ensures opener { result.opener ≡ opener }
         ensures faults { result.faults ≡ 0 }
         ensures longs { result.longs ≡ 0 }
     {
         FileShelf {
-            rt,
+            opener,
             faults: 0,
             longs: 0,
         }
@@ -54,14 +55,15 @@ fn reserve_for<F: OpenFile>(file: &F, bytes: &mut Vec<u8>, most: u64) -> Result<
     }
 }
 
-// The whole file of a name, of at most `most` bytes. Of a longer one a byte more is read.
-fn read_whole<R: Files>(rt: &R, alloc: Global, name: &str, most: u64) -> Result<Vec<u8>, ShelfFault>
-    ensures { KeepsMost most result }
+// All that a file has, if it has at most `most` bytes. Of a longer one a byte more is read.
+fn read_most<F: Read + OpenFile + Drop>(
+    alloc: Global,
+    file: F,
+    most: u64,
+) -> Result<Vec<u8>, ShelfFault>
+    ensures limit { KeepsMost most result }
+    ensures whole { IsAllOf (F.remaining file) result }
 {
-    let file = match fs::open(rt, name) {
-        Ok(file) => file,
-        Err(e) => return Err(fault_of(&e)),
-    };
     let mut bytes = Vec::new(alloc);
     if reserve_for(&file, &mut bytes, most).is_err() {
         return Err(ShelfFault::NoMemory);
@@ -76,13 +78,17 @@ fn read_whole<R: Files>(rt: &R, alloc: Global, name: &str, most: u64) -> Result<
     Ok(bytes)
 }
 
-impl<'a, R: Files> Shelf for FileShelf<'a, R> {
-    ghost tells = { false };
+impl<O: Opener> Shelf for FileShelf<O> {
+    ghost tells = { O.tells };
 
-    ghost seen = { λ s. record { file = λ name. None; faults = s.faults; longs = s.longs } };
+    ghost seen = { λ s. record { file = O.files s.opener; faults = s.faults; longs = s.longs } };
 
     fn read(&mut self, alloc: Global, name: &str, most: u64) -> Result<Octets, ShelfFault> {
-        match read_whole(self.rt, alloc, name, most) {
+        let read = match self.opener.open(name) {
+            Ok(file) => read_most(alloc, file, most),
+            Err(e) => Err(fault_of(&e)),
+        };
+        match read {
             Ok(bytes) => Ok(Octets::of_vec(bytes)),
             Err(ShelfFault::Failed) => {
                 self.faults = raised(self.faults);

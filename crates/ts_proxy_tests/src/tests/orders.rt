@@ -1,10 +1,10 @@
 //! Of several faults the first in the order of the work decides: configuration, append files, recording, out.
 
 use crate::command::{ON_2, REPLAY, failing_sink, left_by, shelf_of};
+use crate::comparison::{Comparison, Wanted, compare, stopped};
 use crate::recording::{at_once, recording_of};
 use crate::report::report_of;
 use crate::stated::{ABC, APPEND, GET, LESS, in_chunks};
-use crate::verdict::{Verdict, Wanted, judge, stopped};
 use std::process::Abort;
 use std::sync::Wait;
 use std::test::Fail;
@@ -20,8 +20,8 @@ fn ends<R: Abort + AllocGlobal + Threads + Wait + Sync>(
 ) -> Result<(), Fail> {
     let out = failing_sink(rt.alloc(), 1, 1)?;
     let left = left_by(rt, rt.alloc(), ON_2, shelf, out, &OpenGate::make())?;
-    let verdict = judge(&left, &stopped(status, line));
-    assert_eq!(rt; verdict, Verdict::AsStated, "status {status}");
+    let found = compare(&left, &stopped(status, line));
+    assert_eq!(rt; found, Comparison::AsStated, "status {status}");
     Ok(())
 }
 
@@ -91,7 +91,11 @@ fn writes_that_fail(rt: HostRuntime) -> Result<(), Fail> {
             out: front,
             ..stopped(6, b"tsx: cannot write\n")
         };
-        assert_eq!(rt; judge(&left, &wanted), Verdict::AsStated, "call {call}");
+        assert_eq!(rt;
+            compare(&left, &wanted),
+            Comparison::AsStated,
+            "call {call}"
+        );
         assert_eq!(rt; front.len() as u64 + 10, 10 * call, "call {call}");
         assert!(rt; report.as_slice().starts_with(front), "call {call}");
     }

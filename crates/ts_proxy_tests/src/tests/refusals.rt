@@ -1,9 +1,9 @@
 //! Recordings that are refused, with the place behind the front that is right.
 
 use crate::command::{REPLAY, replayed};
+use crate::comparison::{Comparison, compare, stopped};
 use crate::recording::{at_once, recording_of};
 use crate::stated::{ABC, GET, LESS};
-use crate::verdict::{Verdict, judge, stopped};
 use std::process::Abort;
 use std::sync::Wait;
 use std::test::Fail;
@@ -18,7 +18,11 @@ fn refused<R: Abort + AllocGlobal + Threads + Wait + Sync>(
     let left = replayed(rt, rt.alloc(), REPLAY, LESS, text)?;
     let line = format!(in rt.alloc(); "tsx: recording offset {offset}\n")?;
     let wanted = stopped(4, line.as_bytes());
-    assert_eq!(rt; judge(&left, &wanted), Verdict::AsStated, "offset {offset}");
+    assert_eq!(rt;
+        compare(&left, &wanted),
+        Comparison::AsStated,
+        "offset {offset}"
+    );
     Ok(())
 }
 

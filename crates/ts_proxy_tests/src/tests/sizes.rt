@@ -1,11 +1,11 @@
 //! Recordings as large as they may be: in transactions, in bytes, and in the pieces of one body.
 
 use crate::command::{Left, ON_1, ON_4, ON_64, left_by, shelf_of, wide_sink};
+use crate::comparison::{Comparison, compare, done, stopped};
 use crate::recording::{MOST_PIECE, at_once, in_pieces, recording_of};
 use crate::report::report_of;
 use crate::row::check_with;
 use crate::stated::{ABC, GET, LESS, in_chunks};
-use crate::verdict::{Verdict, done, judge, stopped};
 use std::alloc::Global;
 use std::process::Abort;
 use std::sync::Wait;
@@ -50,7 +50,7 @@ fn most_transactions(rt: HostRuntime) -> Result<(), Fail> {
     let exchanges = vec![in alloc; at_once(GET, ABC); MOST_TXNS]?;
     let stated = vec![in alloc; in_chunks(b"<abc"); MOST_TXNS]?;
     for words in [ON_1, ON_4, ON_64] {
-        let verdict = check_with(
+        let found = check_with(
             &rt,
             alloc,
             words,
@@ -58,7 +58,7 @@ fn most_transactions(rt: HostRuntime) -> Result<(), Fail> {
             exchanges.as_slice(),
             stated.as_slice(),
         )?;
-        assert_eq!(rt; verdict, Verdict::AsStated, "at {words:?}");
+        assert_eq!(rt; found, Comparison::AsStated, "at {words:?}");
     }
     Ok(())
 }
@@ -77,8 +77,8 @@ fn a_large_body(rt: HostRuntime) -> Result<(), Fail> {
     for piece in [MOST_PIECE, 1_000] {
         let exchange = in_pieces(at_once(GET, response.as_slice()), piece);
         let stated = in_chunks(body.as_slice());
-        let verdict = check_with(&rt, alloc, ON_4, config.as_slice(), &[exchange], &[stated])?;
-        assert_eq!(rt; verdict, Verdict::AsStated, "pieces of {piece}");
+        let found = check_with(&rt, alloc, ON_4, config.as_slice(), &[exchange], &[stated])?;
+        assert_eq!(rt; found, Comparison::AsStated, "pieces of {piece}");
     }
     Ok(())
 }
@@ -119,7 +119,7 @@ fn most_bytes(rt: HostRuntime) -> Result<(), Fail> {
     all.push(in_chunks(last.as_slice()))?;
     let report = report_of(alloc, all.as_slice())?;
     let wanted = done(report.as_slice(), EQUAL + 1);
-    assert_eq!(rt; judge(&left, &wanted), Verdict::AsStated);
+    assert_eq!(rt; compare(&left, &wanted), Comparison::AsStated);
     Ok(())
 }
 
@@ -131,6 +131,6 @@ fn one_byte_too_many(rt: HostRuntime) -> Result<(), Fail> {
     let last = letters(alloc, LAST_BODY + 1)?;
     let left = filled(&rt, alloc, body.as_slice(), last.as_slice())?;
     let wanted = stopped(9, b"tsx: too long: r\n");
-    assert_eq!(rt; judge(&left, &wanted), Verdict::AsStated);
+    assert_eq!(rt; compare(&left, &wanted), Comparison::AsStated);
     Ok(())
 }

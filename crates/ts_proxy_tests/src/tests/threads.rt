@@ -4,6 +4,7 @@
 use crate::command::{
     ON_1, ON_2, ON_4, ON_8, ON_64, REPLAY, left_by, replayed, shelf_of, wide_sink,
 };
+use crate::comparison::{Comparison, compare, done};
 use crate::recording::{Exchange, at_once, in_pieces, recording_of};
 use crate::report::{Came, Stated, report_of};
 use crate::row::check_with;
@@ -12,7 +13,6 @@ use crate::stated::{
     ABC, BAD_CHUNKS, BAD_GATEWAY, BAD_REQUEST, CHUNKED, CUT, GET, HOSTLESS, LESS, NOTHING, PAGE,
     USUAL, in_chunks, paged, passed, unasked,
 };
-use crate::verdict::{Verdict, done, judge};
 use std::test::Fail;
 use ts_link::MeetGate;
 
@@ -51,8 +51,8 @@ fn of_mixed() -> [Stated<'static>; 8] {
 #[test]
 fn threads_change_nothing(rt: HostRuntime) -> Result<(), Fail> {
     for words in [REPLAY, ON_1, ON_2, ON_4, ON_8, ON_64] {
-        let verdict = check_with(&rt, rt.alloc(), words, DELAYED, &mixed(), &of_mixed())?;
-        assert_eq!(rt; verdict, Verdict::AsStated, "at {words:?}");
+        let found = check_with(&rt, rt.alloc(), words, DELAYED, &mixed(), &of_mixed())?;
+        assert_eq!(rt; found, Comparison::AsStated, "at {words:?}");
     }
     Ok(())
 }
@@ -61,8 +61,8 @@ fn threads_change_nothing(rt: HostRuntime) -> Result<(), Fail> {
 #[test]
 fn fifty_runs(rt: HostRuntime) -> Result<(), Fail> {
     for run in 0..50 {
-        let verdict = check_with(&rt, rt.alloc(), ON_4, DELAYED, &mixed(), &of_mixed())?;
-        assert_eq!(rt; verdict, Verdict::AsStated, "run {run}");
+        let found = check_with(&rt, rt.alloc(), ON_4, DELAYED, &mixed(), &of_mixed())?;
+        assert_eq!(rt; found, Comparison::AsStated, "run {run}");
     }
     Ok(())
 }
@@ -79,7 +79,7 @@ fn two_transactions_run_beside_each_other(rt: HostRuntime) -> Result<(), Fail> {
     let left = left_by(&rt, alloc, ON_2, shelf, wide_sink(alloc), &gate)?;
     assert!(rt; gate.met());
     let wanted = done(report.as_slice(), 2);
-    assert_eq!(rt; judge(&left, &wanted), Verdict::AsStated);
+    assert_eq!(rt; compare(&left, &wanted), Comparison::AsStated);
     let [one, other] = left.journals.as_slice() else {
         return Err("there are two journals")?;
     };

@@ -1,15 +1,12 @@
 //! The words of `replay`: with and without a number of threads, and words that are of no command.
 
-use crate::command::{ON_1, ON_64, REPLAY, replayed};
+use crate::command::{ON_1, ON_64, REPLAY, USAGE, replayed};
+use crate::comparison::{Comparison, Wanted, compare, done, stopped};
 use crate::recording::recording_of;
-use crate::verdict::{Verdict, Wanted, done, judge, stopped};
 use std::process::Abort;
 use std::sync::Wait;
 use std::test::Fail;
 use std::thread::Threads;
-
-const USAGE: &[u8] =
-    b"tsx: usage: transform CONFIG BODY | replay [--threads N] CONFIG RECORDING | serve --listen L --origin A --config F [--threads N] [--connections N] | generate SEED COUNT SIZE\n";
 
 // These words leave this, over an empty recording.
 fn come_to<R: Abort + AllocGlobal + Threads + Wait + Sync>(
@@ -19,7 +16,11 @@ fn come_to<R: Abort + AllocGlobal + Threads + Wait + Sync>(
 ) -> Result<(), Fail> {
     let recording = recording_of(rt.alloc(), &[])?;
     let left = replayed(rt, rt.alloc(), words, b"", recording.as_slice())?;
-    assert_eq!(rt; judge(&left, wanted), Verdict::AsStated, "at {words:?}");
+    assert_eq!(rt;
+        compare(&left, wanted),
+        Comparison::AsStated,
+        "at {words:?}"
+    );
     Ok(())
 }
 

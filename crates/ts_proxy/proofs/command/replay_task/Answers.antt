@@ -1,7 +1,9 @@
 use Rattle.std.proofs.Common.{rules}
 use Rattle.ts_proxy.proofs.Words.{none_other}
 use Rattle.ts_proxy.proofs.command.replay_task.Goals as goal
-use Rattle.ts_proxy.proofs.command.replay_task.Goals.{in_default-via-then-words-lt3, in_default-via-else-words-lt3+else-words-lt4+then-words-lt5, in_default-via-else-words-lt3+else-words-lt4+else-words-lt5+else-words-lt6}
+use Rattle.ts_proxy.proofs.command.replay_task.Goals.{in_default-via-then-words-lt3}
+use Rattle.ts_proxy.proofs.command.replay_task.Goals.{in_default-via-else-words-lt3+else-words-lt4+then-words-lt5}
+use Rattle.ts_proxy.proofs.command.replay_task.Goals.{in_default-via-else-words-lt3+else-words-lt4+else-words-lt5+else-words-lt6}
 
 pub returns-in_default-clause-task : goal.returns-in_default-clause-task
 returns-in_default-clause-task c = elim c.in_default.branch [

@@ -1,7 +1,7 @@
 use Rattle.std.proofs.Common.{◌≡◌, ◌-◌, [], rules, length, length-drop, arith, ap, subst, ◌∙◌}
 use Rattle.ts_transform.specs.Flow.{client_wait}
 use Rattle.ts_transform.specs.Driving.{errors_to_pass}
-use Rattle.ts_proxy.specs.Driven.{for_client}
+use Rattle.ts_proxy.specs.Sending.{for_client}
 use Rattle.ts_proxy.proofs.Staying.{IsFront, passes_taken, stays_taken}
 use Rattle.ts_proxy.proofs.drive.drain.Goals as goal
 
@@ -13,12 +13,23 @@ loop-block-preserved g c =
     let block = subst (λ d. IsFront c.in-Some.block.now (client_wait d)) c.chain.ensures c.in-Some.ensures in
     let takes = c.take.ensures.takes in
     record {
-      passes = λ tells. passes_taken _ _ _ _ _ _ (for_client before) c.in-Some.block.now c.in-Took.count (c.loop-block.invariant.passes tells)
+      passes = λ tells. passes_taken _ _ _ _ _ _ (for_client before) c.in-Some.block.now c.in-Took.count
+          (c.loop-block.invariant.passes tells)
           (c.in-Took.ensures.taken tells) block.2 c.in-Took.ensures.count.1 (takes.flow []);
       faults = search rules;
       falls =
           let less : length (for_client after) ≡ length (for_client before) - c.in-Took.count =
           ap length takes.wait ∙ length-drop c.in-Took.count (for_client before) in
-          omega (arith, c.loop-block.invariant.falls, takes.falls [], ap errors_to_pass c.take.ensures.kept.table, less, c.in-Took.ensures.count.1, block.1);
-      stays = stays_taken from before after c.loop-block.invariant.stays c.take.ensures.sound c.take.ensures.awake c.take.ensures.kept.running;
+          omega (
+            arith,
+            c.loop-block.invariant.falls,
+            takes.falls [],
+            ap errors_to_pass
+                c.take.ensures.kept.table,
+            less,
+            c.in-Took.ensures.count.1,
+            block.1,
+          );
+      stays = stays_taken from before after c.loop-block.invariant.stays c.take.ensures.sound
+          c.take.ensures.awake c.take.ensures.kept.running;
     }

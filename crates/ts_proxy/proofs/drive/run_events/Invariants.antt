@@ -1,17 +1,19 @@
 use Rattle.std.proofs.Common.{◌≡◌, [], true, false}
 use Rattle.ts_transform.specs.World.{IsSound}
-use Rattle.ts_proxy.specs.Driven.{Passes, for_client, left_in, to_come}
+use Rattle.ts_proxy.specs.Sending.{Passes, for_client, left_in, to_come}
 use Rattle.ts_proxy.specs.Journals.{moment_of, GoesOnSerially}
 use Rattle.ts_proxy.proofs.drive.run_events.Given as goal
 
--- what was taken and what still flows is what flowed, nothing failed, the journal went on by turns of the serial
+-- what was taken and what still flows is what flowed, nothing failed, the journal went on by turns of the
+-- serial
 -- driver, which is at their moment, and nothing waits for the client between two turns
 abbrev pub invariant-driving : goal.invariant-driving
 invariant-driving g l =
     let world = l.group.world in
     record {
       passes : g.K.Sink.tells ≡ true
-          → Passes (g.K.Sink.seen l.initial.out) (g.K.Sink.seen l.out) (to_come g.P.Transform.rest l.initial.group.world) (to_come g.P.Transform.rest world);
+          → Passes (g.K.Sink.seen l.initial.out) (g.K.Sink.seen l.out)
+          (to_come g.P.Transform.rest l.initial.group.world) (to_come g.P.Transform.rest world);
       faults : (g.K.Sink.seen l.out).faults ≡ (g.K.Sink.seen l.initial.out).faults;
       idle : l.group.cx.log.state.held ≡ false;
       moment : moment_of l.group.cx.log ≡ l.moment;

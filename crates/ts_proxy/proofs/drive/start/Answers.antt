@@ -1,6 +1,6 @@
 use Rattle.std.proofs.Common.{◌≡◌, ◌+◌, inr, ap, arith, rules, ◌∙◌}
 use Rattle.ts_group.proofs.Grows.{grows_trans}
-use Rattle.ts_proxy.specs.Journals.{first_turn}
+use Rattle.ts_proxy.specs.Journals.{opening_turn}
 use Rattle.ts_proxy.proofs.Serial.{moment_extends, within_grows, moment_grows, serial_turn}
 use Rattle.ts_proxy.proofs.drive.start.Goals as goal
 
@@ -10,10 +10,14 @@ returns-in-Ok-clause-serial g c =
     let after = c.wake-woken.new.group.cx in
     let grows = grows_trans c.start.ensures.grows c.wake-woken.ensures.keeps.grows in
     let next : c.in-Some.turn ≡ c.args.group.now.cx.log.state.turns + 1 = search rules in
-    let given : after.log.state.turns ≡ first_turn =
-    c.wake-woken.ensures.keeps.turns ∙ c.start.ensures.turn.turns ∙ ap (λ s. s.turns) c.in_ok-begin_turn.ensures.begins.state ∙ omega (arith, next, c.requires.unused.none) in
+    let given : after.log.state.turns ≡ opening_turn =
+    c.wake-woken.ensures.keeps.turns ∙ c.start.ensures.turn.turns ∙ ap (λ s. s.turns)
+    c.in_ok-begin_turn.ensures.begins.state ∙ omega (arith, next, c.requires.unused.none) in
     record {
-      on = serial_turn c.args.group.now.cx.log before.log after.log c.give_turn.new.self.cx.log c.in-Some.turn after.log.state.turns next
-          c.in_ok-begin_turn.ensures.begins.by (within_grows before after grows) (inr given) c.give_turn.ensures.gives.by;
-      now = moment_extends c.give_turn.ensures.gives.by ∙ moment_grows before after grows ∙ moment_extends c.in_ok-begin_turn.ensures.begins.by ∙ c.requires.unused.fresh;
+      on = serial_turn c.args.group.now.cx.log before.log after.log c.give_turn.new.self.cx.log c.in-Some.turn
+          after.log.state.turns next
+          c.in_ok-begin_turn.ensures.begins.by (within_grows before after grows) (inr given)
+          c.give_turn.ensures.gives.by;
+      now = moment_extends c.give_turn.ensures.gives.by ∙ moment_grows before after grows ∙ moment_extends
+          c.in_ok-begin_turn.ensures.begins.by ∙ c.requires.unused.fresh;
     }

@@ -11,6 +11,9 @@ returns-in-Err-clause-told g c = λ tells config body next.
     let read = (g.S.Shelf.seen c.args.shelf.now).file in
     let named : c.in-Ok.name.now ≡ c.args.file = c.in-Ok.ensures.cases.0 ∙ c.bytes.ensures in
     let told : ReadsFile (read c.args.file) most_append (Err c.in-Err.fault) =
-    subst (λ (n : List ℕ). ReadsFile (read n) most_append (Err c.in-Err.fault)) named (c.in-Err.ensures.told tells) in
+    subst (λ (n : List ℕ). ReadsFile (read n) most_append (Err c.in-Err.fault)) named
+    (c.in-Err.ensures.told tells) in
     rw c.refused.ensures
-    (refused-comes config body c.args.file most_append (read c.args.file) c.in-Err.fault (file.Appended c.args.file) (λ bytes. next (t.Append c.args.file bytes)) refl c.in-Err.ensures.limit told)
+    (refused-comes config body c.args.file most_append (read c.args.file) c.in-Err.fault
+    (file.Appended c.args.file) (λ bytes. next (t.Append c.args.file bytes)) refl c.in-Err.ensures.limit
+    told)

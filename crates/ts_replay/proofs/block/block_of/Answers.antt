@@ -9,15 +9,20 @@ content_of-requires c = record {
   framed = λ whole.
       let parts = c.args.parts.now in
       let b = c.requires.block.0 in
-      let h = subst (λ e. LeavesBlock parts c.args.origin.now e b) whole c.requires.block.1 in
-      (h.got.pieces, framed_behind parts c.args.origin.now b c.split_at.result.1.now (c.split_at.ensures.back ∙ ap (drop parts.head) c.written.ensures) h);
+      let h = subst (λ e. LeavesBlock parts c.args.origin.now e b) whole c.requires.block.1 in (
+        h.got.pieces,
+        framed_behind parts c.args.origin.now b c.split_at.result.1.now
+            (c.split_at.ensures.back ∙ ap (drop parts.head) c.written.ensures) h,
+      );
 }
 
 pub returns : goal.returns
 returns c = λ b h.
     let parts = c.args.parts.now in
     let behind = c.split_at.ensures.back ∙ ap (drop parts.head) c.written.ensures in
-    block_same c.in_ok-request.request c.args.end c.in_ok-head.head c.in_ok-content.content b (c.in_ok-request.ensures b h.taken) (sym h.end_is)
-    (c.in_ok-head.ensures ∙ c.split_at.ensures.front ∙ ap (take parts.head) c.written.ensures ∙ head_front parts c.args.origin.now c.args.end b h)
+    block_same c.in_ok-request.request c.args.end c.in_ok-head.head c.in_ok-content.content b
+    (c.in_ok-request.ensures b h.taken) (sym h.end_is)
+    (c.in_ok-head.ensures ∙ c.split_at.ensures.front ∙ ap (take parts.head) c.written.ensures ∙ head_front
+    parts c.args.origin.now c.args.end b h)
     (content_is parts c.args.origin.now c.args.end b c.split_at.result.1.now c.in_ok-content.content behind h
     c.in_ok-content.ensures.whole c.in_ok-content.ensures.short)

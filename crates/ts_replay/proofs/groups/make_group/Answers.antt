@@ -13,13 +13,26 @@ pub returns-clause-fits : goal.returns-clause-fits
 returns-clause-fits c =
     let made = c.in_ok-txn.ensures in
     let t = c.in_ok-txn.txn in
-    let tag : RecordedTag = record { number = c.args.number; setup = c.of.result; plugins_at = 0; client = c.of-2.result; origin = c.of-3.result; sure = true; first = true; started = false } in
+    let tag : RecordedTag = record {
+      number = c.args.number;
+      setup = c.of.result;
+      plugins_at = 0;
+      client =
+          c.of-2.result;
+      origin = c.of-3.result;
+      sure = true;
+      first = true;
+      started = false;
+    } in
     let is : IsTagOf (arc_value c.args.setup) c.args.number c.args.txn false tag = search rules in
     let of_client = ap (λ (s : TxnPieces). s.0) c.txn.view_is in
     let of_origin = ap (λ (s : TxnPieces). s.1) c.txn.view_is in
     let client : c.txn.inside.client.items ≡ c.args.txn.0 = cc in
     let origin : c.txn.inside.origin.items ≡ c.args.txn.1 = cc in
-    fits_group (arc_value c.args.setup) c.args.number c.args.txn tag t is made.named.0 (ap arc_value made.named.1) made.named.2
-    (subst (λ l. IsMadeOf look_of l t.core.client) (c.in_ok-client.ensures.made ∙ ap recorded_side client) made.links.0)
-    (subst (λ l. IsMadeOfIf look_of (Some l) t.core.origin) (c.in_ok-origin.ensures.made ∙ ap recorded_side origin) made.links.1)
+    fits_group (arc_value c.args.setup) c.args.number c.args.txn tag t is made.named.0
+    (ap arc_value made.named.1) made.named.2
+    (subst (λ l. IsMadeOf look_of l t.core.client) (c.in_ok-client.ensures.made ∙ ap recorded_side client)
+    made.links.0)
+    (subst (λ l. IsMadeOfIf look_of (Some l) t.core.origin)
+    (c.in_ok-origin.ensures.made ∙ ap recorded_side origin) made.links.1)
     c.in_ok-group.group made.sound c.in_ok-group.ensures.world c.in_ok-group.ensures.fresh

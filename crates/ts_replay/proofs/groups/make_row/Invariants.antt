@@ -6,7 +6,8 @@ use Rattle.ts_replay.proofs.groups.make_row.Given as goal
 
 -- all transactions but those that are left have a group
 abbrev pub invariant-txns : goal.invariant-txns
-invariant-txns l = RowBut (arc_value l.setup) l.fn.txns.items l.rest.items l.number l.tags.items l.groups.items
+invariant-txns l = RowBut (arc_value l.setup) l.fn.txns.items l.rest.items l.number l.tags.items
+    l.groups.items
 
 abbrev pub decreases-txns : goal.decreases-txns
 decreases-txns l = length l.rest.items

@@ -4,7 +4,13 @@ use Rattle.ts_replay.proofs.replaying.replay.Goals as goal
 
 pub report_on-requires : goal.report_on-requires
 report_on-requires g c = record {
-  ran = (arc_value c.in_ok-setup.setup, c.args.txns.items, c.requires.txns, c.in_ok-groups.ensures (arc_value c.in_ok-setup.setup) c.args.txns.items c.in_ok-row.ensures);
+  ran = (
+    arc_value c.in_ok-setup.setup,
+    c.args.txns.items,
+    c.requires.txns,
+    c.in_ok-groups.ensures
+        (arc_value c.in_ok-setup.setup) c.args.txns.items c.in_ok-row.ensures,
+  );
 }
 
 pub returns : goal.returns
@@ -12,5 +18,6 @@ returns g c = record {
   setup = arc_value c.in_ok-setup.setup;
   lines_are = c.in_ok-setup.ensures;
   groups = c.in_ok-groups.groups.items;
-  comes = c.in_ok-replayed.ensures (arc_value c.in_ok-setup.setup) c.args.txns.items (c.in_ok-groups.ensures (arc_value c.in_ok-setup.setup) c.args.txns.items c.in_ok-row.ensures);
+  comes = c.in_ok-replayed.ensures (arc_value c.in_ok-setup.setup) c.args.txns.items
+      (c.in_ok-groups.ensures (arc_value c.in_ok-setup.setup) c.args.txns.items c.in_ok-row.ensures);
 }

@@ -7,29 +7,48 @@ use Rattle.ts_replay.proofs.Ended.{run_between}
 use Rattle.ts_replay.proofs.Reporting.{ReportsBut, TellsOf, is_kept, next_of, reports_all, reports_more}
 use Rattle.ts_replay.proofs.report.report_on.Goals as goal
 
-pub told-requires : goal.told-requires
-told-requires c =
+pub block_after-requires : goal.block_after-requires
+block_after-requires c =
     let ran = c.requires.ran in
-    let next = next_of ran.0 ran.1 c.args.groups.items c.groups.rest.items c.pop_front.new.self.items c.groups.number c.groups.report.items c.groups.journals.items c.in-Some.group
+    let next = next_of ran.0 ran.1 c.args.groups.items c.groups.rest.items c.pop_front.new.self.items
+    c.groups.number c.groups.report.items c.groups.journals.items c.in-Some.group
     (c.groups.invariant ran.0 ran.1 ran.3) c.in-Some.ensures.items in
     let between = run_between ran.0 (c.groups.number + 1) next.txn c.in-Some.group next.first in
-    record { run = (ran.0, concat next.txn.0, concat next.txn.1, subst (IsRunBetween ran.0 (concat next.txn.0) (concat next.txn.1)) (sym c.into_parts-txn.ensures.0) between) }
+    record {
+      run = (
+        ran.0,
+        concat next.txn.0,
+        concat next.txn.1,
+        subst (IsRunBetween ran.0 (concat next.txn.0) (concat next.txn.1)) (sym c.into_parts-txn.ensures.0)
+            between,
+      );
+    }
 
 pub groups-preserved : goal.groups-preserved
 groups-preserved c = λ setup txns each.
     let world = c.into_parts-txn.ensures.0 in
     let log = c.into_parts-txn.ensures.1 in
     let block = c.in_ok-block in
-    reports_more setup txns c.args.groups.items c.groups.rest.items c.pop_front.new.self.items c.groups.number c.groups.report.items c.groups.journals.items c.in-Some.group
-    (c.groups.invariant setup txns each) c.in-Some.ensures.items (c.groups.number + 1) c.add_block.new.out.items c.push.new.self.items block.block refl
-    (subst (λ t. TellsOf setup t block.block) world (record { shown = λ client origin. block.ensures.shown setup client origin; ended = block.ensures.ended; reported = block.ensures.reported }))
-    (is_kept c.in-Some.group.cx.log c.into_parts-txn.result.1 c.entries.result.now log c.entries.ensures.entries c.entries.ensures.lawful c.entries.ensures.state)
-    c.in_ok-add_block.ensures.text
+    reports_more setup txns c.args.groups.items c.groups.rest.items c.pop_front.new.self.items c.groups.number
+    c.groups.report.items c.groups.journals.items c.in-Some.group
+    (c.groups.invariant setup txns each) c.in-Some.ensures.items (c.groups.number + 1)
+    c.add_block.new.out.items c.push.new.self.items block.block refl
+    (subst (λ t. TellsOf setup t block.block) world (record {
+      shown = λ client origin. block.ensures.shown setup client origin;
+      ended = block.ensures.ended;
+      reported = block.ensures.reported;
+    }))
+    (is_kept c.in-Some.group.cx.log c.into_parts-txn.result.1 c.entries.result.now log
+    c.entries.ensures.entries c.entries.ensures.lawful c.entries.ensures.state)
+    c.in_ok-add_block.ensures
     (c.in_ok-push.ensures.items ∙ ap (λ j. c.groups.journals.items ++ j ∷ []) log)
 
 pub returns : goal.returns
 returns c = λ setup txns each.
-    let none : c.groups.rest.items ≡ [] = nil_from_length c.groups.rest.items (sym c.groups.rest.ok.0 ∙ c.in_default.ensures.cases.0) in
-    reports_all setup txns c.args.groups.items c.groups.number c.groups.report.items c.extend_from_slice.new.self.items c.groups.journals.items _
-    (subst (λ gs. ReportsBut setup txns c.args.groups.items gs c.groups.number c.groups.report.items c.groups.journals.items) none (c.groups.invariant setup txns each))
+    let none : c.groups.rest.items ≡ [] = nil_from_length c.groups.rest.items
+    (sym c.groups.rest.ok.0 ∙ c.in_default.ensures.cases.0) in
+    reports_all setup txns c.args.groups.items c.groups.number c.groups.report.items
+    c.extend_from_slice.new.self.items c.groups.journals.items _
+    (subst (λ gs. ReportsBut setup txns c.args.groups.items gs c.groups.number c.groups.report.items
+    c.groups.journals.items) none (c.groups.invariant setup txns each))
     c.in_ok-extend_from_slice.ensures.items refl refl

@@ -2,7 +2,8 @@
 use Rattle.std.specs.Prelude.{List, length}
 use Rattle.ts_config.specs.declared.setup.Setup.{Setup}
 use Rattle.ts_record.specs.Grammar.{TxnPieces}
-use Rattle.ts_replay.specs.Replayed.{EachOf, HasRunAs}
+use Rattle.ts_replay.specs.Numbered.{EachOf}
+use Rattle.ts_replay.specs.Replayed.{HasRunAs}
 use Rattle.ts_replay.proofs.Reporting.{ReportsBut}
 use Rattle.ts_replay.proofs.report.report_on.Given as goal
 

@@ -12,15 +12,19 @@ use Rattle.ts_replay.proofs.running.run_row.Goals as goal
 pub run_whole-requires-clause-run : goal.run_whole-requires-clause-run
 run_whole-requires-clause-run g c κs within =
     let row = c.requires.row.3 in
-    let all : c.len-starts.result ≡ length c.args.row.groups.items = c.len-starts.ensures ∙ c.args.row.groups.ok.0 in
-    let few : c.len-starts.result ≤ MOST_TXNS = (let n = row.count in let most = c.requires.row.2 in omega (arith, all, n, most)) in
+    let all : c.len-starts.result ≡ length c.args.row.groups.items = c.len-starts.ensures ∙
+    c.args.row.groups.ok.0 in
+    let few : c.len-starts.result ≤ MOST_TXNS = (let n = row.count in let most = c.requires.row.2
+    in omega (arith, all, n, most)) in
     let turns = turns_few c.len-starts.result c.args.threads few c.requires.threads.1 in record {
-      some = some_of c.is_empty.result _ (length c.args.row.groups.items) c.is_empty.ensures c.if-is_empty.false c.args.row.groups.ok.0;
+      some = some_of c.is_empty.result _ (length c.args.row.groups.items) c.is_empty.ensures
+          c.if-is_empty.false c.args.row.groups.ok.0;
       few = omega (arith, all, few);
       fits = row.fit;
       new = row.new;
       plan = record {
-        tagged = row_starts c.requires.row.0 c.requires.row.1 c.args.row.tags.items c.args.row.groups.items c.len-starts.result row all;
+        tagged = row_starts c.requires.row.0 c.requires.row.1 c.args.row.tags.items c.args.row.groups.items
+            c.len-starts.result row all;
         some = c.requires.threads.0;
         most = c.requires.threads.1;
         turns = omega (arith, turns);
@@ -29,11 +33,16 @@ run_whole-requires-clause-run g c κs within =
     }
 
 pub run_whole-requires-clause-tells : goal.run_whole-requires-clause-tells
-run_whole-requires-clause-tells g c κs within = λ k d low h fits. mem_tells still_writes h.world.core h.world.course h.cx.log.state.pending
+run_whole-requires-clause-tells g c κs within = λ k d low h fits. mem_tells still_writes h.world.core
+    h.world.course h.cx.log.state.pending
 
 pub returns-in-Ok : goal.returns-in-Ok
 returns-in-Ok g c = λ setup txns row.
-    let all : c.len-starts.result ≡ length c.args.row.groups.items = c.len-starts.ensures ∙ c.args.row.groups.ok.0 in
-    let few : c.len-starts.result ≤ MOST_TXNS = (let n = c.requires.row.3.count in let most = c.requires.row.2 in omega (arith, all, n, most)) in
-    row_ran setup txns c.args.row.tags.items c.args.row.groups.items c.in-Ok.groups.items c.len-starts.result c.args.threads BUDGET row all
-    (numbers_left _ (turns_few c.len-starts.result c.args.threads few c.requires.threads.1)) c.in-Ok.ensures.ended
+    let all : c.len-starts.result ≡ length c.args.row.groups.items = c.len-starts.ensures ∙
+    c.args.row.groups.ok.0 in
+    let few : c.len-starts.result ≤ MOST_TXNS = (let n = c.requires.row.3.count in let most = c.requires.row.2
+    in omega (arith, all, n, most)) in
+    row_ran setup txns c.args.row.tags.items c.args.row.groups.items c.in-Ok.groups.items c.len-starts.result
+    c.args.threads BUDGET row all
+    (numbers_left _ (turns_few c.len-starts.result c.args.threads few c.requires.threads.1))
+    c.in-Ok.ensures.ended

@@ -11,17 +11,17 @@ pub struct Wanted<'a> {
     pub journals: usize,
 }
 
-/// What a command is to leave that writes this report on so many transactions.
-pub fn done(report: &[u8], txns: usize) -> Wanted<'_> {
+/// What a command is to leave that writes this text, with so many journals.
+pub fn done(text: &[u8], journals: usize) -> Wanted<'_> {
     Wanted {
         status: 0,
-        out: report,
+        out: text,
         err: b"",
-        journals: txns,
+        journals,
     }
 }
 
-/// What a command is to leave that comes to no report: its status, and its line.
+/// What a command is to leave that writes nothing: its status, and its line.
 pub fn stopped(status: u8, line: &[u8]) -> Wanted<'_> {
     Wanted {
         status,
@@ -33,32 +33,32 @@ pub fn stopped(status: u8, line: &[u8]) -> Wanted<'_> {
 
 /// What came of a command or a row: as it is stated, or the first that is other.
 #[derive(Clone, Copy, Debug, PartialEq, Eq)]
-pub enum Verdict {
+pub enum Comparison {
     AsStated,
     OtherStatus,
-    OtherReport,
+    OtherText,
     OtherLine,
     OtherJournals,
 }
 
 /// Whether a command left what it is to leave, with each journal at rest.
-pub fn judge(left: &Left, wanted: &Wanted<'_>) -> Verdict {
+pub fn compare(left: &Left, wanted: &Wanted<'_>) -> Comparison {
     if left.status != wanted.status {
-        return Verdict::OtherStatus;
+        return Comparison::OtherStatus;
     }
     if left.out.written() != wanted.out {
-        return Verdict::OtherReport;
+        return Comparison::OtherText;
     }
     if left.err.written() != wanted.err {
-        return Verdict::OtherLine;
+        return Comparison::OtherLine;
     }
     for journal in left.journals.as_slice() {
         if journal.is_held() || !journal.pending().is_empty() {
-            return Verdict::OtherJournals;
+            return Comparison::OtherJournals;
         }
     }
     if left.journals.len() != wanted.journals {
-        return Verdict::OtherJournals;
+        return Comparison::OtherJournals;
     }
-    Verdict::AsStated
+    Comparison::AsStated
 }

@@ -13,28 +13,28 @@ use Rattle.ts_transform.specs.Driving.{errors_to_pass}
 use Rattle.ts_transform.specs.Acting.{step_weight}
 use Rattle.ts_transform.specs.Cover.{IsAwake}
 use Rattle.ts_transform.specs.World.{IsSound, IsSoundGroup}
-use Rattle.ts_proxy.specs.declared.writing.Driven.{Driven}
-use Rattle.ts_proxy.specs.declared.writing.Driven.TheVariants.{Done, Failed, NoMemory}
+use Rattle.ts_proxy.specs.declared.writing.SendEnd.{SendEnd}
+use Rattle.ts_proxy.specs.declared.writing.SendEnd.TheVariants.{Done, Failed, NoMemory}
 use Rattle.ts_proxy.specs.Journals.{IsNextDue, IsOfDriver, moment_of}
 use Rattle.ts_proxy.specs.Took.{TookAll, TookFront}
 
 -- the sink failed
-abbrev pub is_failed : Driven → Bool
+abbrev pub is_failed : SendEnd → Bool
 is_failed Failed = true
 is_failed _ = false
 
 -- memory lacked
-abbrev pub is_no_memory : Driven → Bool
+abbrev pub is_no_memory : SendEnd → Bool
 is_no_memory NoMemory = true
 is_no_memory _ = false
 
 -- what holds where all was done
-abbrev pub OnDone : Driven → Type 0 → Type 0
+abbrev pub OnDone : SendEnd → Type 0 → Type 0
 OnDone Done P = P
 OnDone _ P = ⊤
 
 -- all of the text was taken, or a front of it
-abbrev pub WroteAll : Driven → SinkSeen → SinkSeen → List ℕ → Type 0
+abbrev pub WroteAll : SendEnd → SinkSeen → SinkSeen → List ℕ → Type 0
 WroteAll Done old new text = TookAll old new text
 WroteAll _ old new text = TookFront old new text
 
@@ -104,6 +104,6 @@ pub record IsDueNext (log : Log) (number moment : ℕ) : Type 0 where
   pub next : IsNextDue (moment_of log) log.state number moment
 
 -- where all was done the journal of its driver was added, and else none
-abbrev pub AddsJournal : Driven → List Log → List Log → Type 0
+abbrev pub AddsJournal : SendEnd → List Log → List Log → Type 0
 AddsJournal Done old new = (j : Log) × (new ≡ old ++ j ∷ []) × IsOfDriver j
 AddsJournal _ old new = new ≡ old

@@ -1,0 +1,18 @@
+-- How the program ends whose words could be had or not.
+use Rattle.std.specs.Prelude.{◌≡◌, ℕ, ◌⊎◌, Bool, Option, None, Result, Ok, Err}
+use Rattle.std.specs.declared.string.String.{String}
+use Rattle.std.specs.declared.vec.Vec.{Vec}
+use Rattle.ts_link.specs.Seen.{ShelfSeen}
+use Rattle.ts_proxy.specs.Ends.{IsStatusOf, out_of_memory, usage}
+use Rattle.ts_proxy.specs.Words.{Task, asked}
+
+-- the task of the words; none where they could not be had
+abbrev pub task_of : {Y Z F : Type 0} → Result (Vec (String Y) Z) F → Option Task
+task_of (Ok words) = asked words.items
+task_of (Err fault) = None
+
+-- the status is one that the task of the words may end with; where they could not be had, memory was lacking,
+-- or they are of no command
+abbrev pub EndsAs : {Y Z F : Type 0} → Bool → ShelfSeen → Result (Vec (String Y) Z) F → ℕ → Type 0
+EndsAs tells shelf (Ok words) n = IsStatusOf tells shelf (asked words.items) n
+EndsAs tells shelf (Err fault) n = (n ≡ out_of_memory) ⊎ (n ≡ usage)

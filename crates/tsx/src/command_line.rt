@@ -1,0 +1,52 @@
+//! The words after the program's name, and the command that they are of.
+ghost use Rattle.std.specs.Prelude.{◌≡◌, true};
+ghost use Rattle.ts_proxy.specs.Ends.{HasCause, TakesAt};
+ghost use Rattle.ts_proxy.specs.Lines.{IsAnswerOf, SaysLine};
+ghost use Rattle.ts_proxy.specs.Outcome.{outcome_of};
+ghost use Rattle.ts_proxy.specs.declared.answer.Answer.{Answer};
+ghost use Rattle.tsx.specs.CommandLine.{EndsAs, task_of};
+
+use std::alloc::Global;
+use std::env::Env;
+use std::io::ErrorKind;
+use std::sync::Wait;
+use std::thread::Threads;
+use std::{env, io};
+use ts_link::{Gate, Shelf, Sink};
+use ts_proxy::{end_without_words, run};
+
+/// The words after the program's name, each of them text.
+pub fn program_words<R: Env + AllocGlobal>(rt: &R) -> io::Result<Vec<String>> {
+    let mut words = Vec::new(rt.alloc());
+    for word in env::args(rt)?.skip(1) {
+        words.push(word)?;
+    }
+    Ok(words)
+}
+
+/// Runs the command that the words after the program's name are of, and answers the program's status, as
+/// `run` does. Words that are no text are of no command; where memory lacked for them, it lacks here.
+pub fn run_words<S: Shelf, K: Sink, E: Sink, G: Gate + Sync, R: Threads + Wait + Sync>(
+    rt: &R,
+    alloc: Global,
+    words: io::Result<Vec<String>>,
+    shelf: &mut S,
+    out: &mut K,
+    err: &mut E,
+    gate: &G,
+) -> u8
+    ensures status { EndsAs S.tells (S.seen shelf.old) words result }
+    ensures cause { HasCause result
+        (S.seen shelf.old) (S.seen shelf.new) (K.seen out.old) (K.seen out.new) }
+    ensures takes { S.tells ≡ true → K.tells ≡ true →
+        TakesAt (outcome_of (S.seen shelf.old) (task_of words)) result (K.seen out.old) (K.seen out.new) }
+    ensures line { (answer : Answer) × IsAnswerOf S.tells (S.seen shelf.old) (task_of words) answer
+        × SaysLine E.tells (E.seen err.old) (E.seen err.new) (task_of words) result answer }
+{
+    let words = match words {
+        Ok(words) => words,
+        Err(e) if e.kind() == ErrorKind::OutOfMemory => return end_without_words(alloc, err).status,
+        Err(_) => Vec::new(alloc),
+    };
+    run(rt, alloc, words.as_slice(), shelf, out, err, gate).status
+}
