@@ -4,6 +4,7 @@ use Rattle.std.proofs.Common.{◌≡◌, ◌≢◌, ℕ, ◌<◌, List, [], ◌+
 use Rattle.std.proofs.Common.{refl, sym, ap, subst, ◌∙◌}
 use Rattle.std.proofs.lemmas.List.{append-nil}
 use Rattle.std.proofs.lemmas.List.Elements.{All-nil}
+use Rattle.ts_lists.proofs.Sizes.{front_not_empty}
 use Rattle.httparse.proofs.GrammarLemmas.{ReadsRequest-append}
 use Rattle.ts_config.specs.declared.setup.Setup.{Setup}
 use Rattle.ts_hooks.specs.declared.txn_end.TxnEnd.TheVariants as E
@@ -33,7 +34,7 @@ use Rattle.ts_phases.specs.declared.client_request.Checked.TheVariants as C
 use Rattle.ts_phases.specs.declared.phase.OwnAnswer.{OwnAnswer}
 use Rattle.ts_phases.specs.declared.phase.Request.{Request}
 use Rattle.ts_phases.specs.declared.head_reader.Found.TheVariants as F
-use Rattle.ts_phases.proofs.OneSide.{quiet_as, read_count, read_failed, some_front}
+use Rattle.ts_phases.proofs.OneSide.{quiet_as, read_count, read_failed}
 
 -- ---- a read
 
@@ -118,7 +119,7 @@ passed t v w head q a hears (is, passes) =
       waits = h.waits;
       untouched = h.untouched;
       knows = record {
-        some = some_front w.client.look.given w.client.look.left h.waits.some;
+        some = front_not_empty w.client.look.given w.client.look.left h.waits.some;
         rest = h.rest;
         reads = subst (λ (x : RequestHead). HasRequest (all_of w.client.look) x h.rest) (sym is) h.reads;
         passes = ap check is ∙ passes;
@@ -154,7 +155,7 @@ refused setup refuses t v w head a asks hears (status, verdict, is) =
       end =
           E.Whole;
     }) h.waits h.untouched refl
-    (asked (some_front w.client.look.given w.client.look.left h.waits.some) head h.rest h.reads
+    (asked (front_not_empty w.client.look.given w.client.look.left h.waits.some) head h.rest h.reads
     (subst (λ (r : Result (List ℕ × List ℕ) ℕ). VerdictSays setup w.dialed refuses (all_of w.origin.look) r
     head (own_block setup [] (own_refusal status) (asks_head head)))
     (sym verdict) refl)))
@@ -168,7 +169,7 @@ no_request setup refuses v a some lacks =
     let given : v.client.look.given ≢ [] = λ is. some (sym a.held ∙ is) in
     untouched_own setup refuses v (record { status = O.BadRequest; to_head = false; end = E.Whole })
     (record { count = a.count; quiet = a.quiet; some = given }) a.untouched refl
-    (no_head (some_front v.client.look.given v.client.look.left given)
+    (no_head (front_not_empty v.client.look.given v.client.look.left given)
     (subst (λ (g : List ℕ). LacksRequest (g ++ v.client.look.left)) (sym a.held) lacks) refl)
 
 -- none can come

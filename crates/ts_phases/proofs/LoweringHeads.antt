@@ -29,7 +29,8 @@ use Rattle.ts_wire.specs.Heads.{kept_field}
 use Rattle.ts_wire.specs.Limits.{field_limit, head_limit, scheme_len}
 use Rattle.ts_wire.specs.Printed.{field_text, fields_text, host_text, missing_host_text, request_field_text}
 use Rattle.ts_wire.specs.Printed.{via_text}
-use Rattle.ts_wire.proofs.Sizes.{length-forwarded_request}
+use Rattle.ts_wire.proofs.CheckedRequest.{Parts, passed, some_parts}
+use Rattle.ts_wire.proofs.Sizes.{length-forwarded_request, skip_shorter, trim_shorter}
 use Rattle.ts_block.specs.Block.{request_text}
 use Rattle.ts_block.specs.Heads.{HasRequest}
 use Rattle.ts_block.specs.Rules.{after_line, apply_rule, is_side, ruled, without_name}
@@ -189,27 +190,6 @@ via_within false = omega arith
 
 -- ---- the head that was read
 
--- blanks that are skipped or trimmed make nothing longer
-skip_shorter : (xs : List ℕ) → length (skip_ows xs) ≤ length xs
-skip_shorter [] = omega arith
-skip_shorter (b ∷ bs) = by_test (is_ows b) (skip_shorter bs)
-  where
-    by_test : (t : Bool) → length (skip_ows bs) ≤ length bs → length (cond t (skip_ows bs) (b ∷ bs)) ≤ length
-        (b ∷ bs)
-    by_test true later = omega (arith, later)
-    by_test false later = omega arith
-
-trim_shorter : (xs : List ℕ) → length (trim_ows xs) ≤ length xs
-unfolding trim_ows
-trim_shorter xs =
-    omega (
-      arith,
-      skip_shorter xs,
-      skip_shorter (reverse (skip_ows xs)),
-      length-reverse (skip_ows xs),
-      length-reverse (skip_ows (reverse (skip_ows xs))),
-    )
-
 -- the value of a field as it is kept is no longer than its line
 value_short : (f : grammar.Field) → length (trim_ows (trim_ows f.raw)) ≤ length (print_field f)
 value_short f = omega (
@@ -266,35 +246,9 @@ request_in h = parts_in (print_blank h.blank) h.method h.target (print_version h
 
 -- ---- what the check gives of it
 
-abbrev Parts : Type 0
-Parts = List ℕ × List ℕ
-
--- answers that are the same have the same parts, and none is a refusal with parts
-err_ok : (status : ℕ) (p : Parts) → ◌≡◌ {A = Result Parts ℕ} (Err status) (Ok p) → ⊥
-err_ok status p same = cc
-
+-- none is none with parts
 none_some : (p : Parts) → ◌≡◌ {A = Option Parts} None (Some p) → ⊥
 none_some p same = cc
-
-ok_parts : (p q : Parts) → ◌≡◌ {A = Result Parts ℕ} (Ok p) (Ok q) → p ≡ q
-ok_parts p q same = cc
-
-some_parts : (p q : Parts) → ◌≡◌ {A = Option Parts} (Some p) (Some q) → p ≡ q
-some_parts p q same = cc
-
--- what is not refused has the parts that were found
-unrefused : (r : Option ℕ) (p q : Parts) → unless_refused r q ≡ Ok p → q ≡ p
-unrefused None p q same = ok_parts q p same
-unrefused (Some status) p q same = absurd (err_ok status p same)
-
--- so has what passes the check
-opened : (c w : Bool) (o : Option Parts) (fields : List Field) (p : Parts)
-    → cond c (Err 501) (cond w (Err 400) (with_parts o fields)) ≡ Ok p → o ≡ Some p
-opened true w o fields p same = absurd (err_ok 501 p same)
-opened false true o fields p same = absurd (err_ok 400 p same)
-opened false false None fields p same = absurd (err_ok 400 p same)
-opened false false (Some q) fields p same = ap Some (unrefused
-    (refusal_by (coding_named fields) (length_named fields)) p q same)
 
 -- the target is at most one byte longer than that of the head, and the host no longer than its target or its
 -- first Host field
@@ -362,9 +316,7 @@ checked_short limit head target host fits also passes =
     by_form (begins_with_slash head.target) (bytes_eq head.target (codes "*") && bytes_eq head.method
     (codes "OPTIONS")) (is_absolute head.target) limit head.method head.target
     (host_named head.fields) (target, host) fits also
-    (opened (bytes_eq head.method (codes "CONNECT")) (has_wrong_hosts head.minor
-    (count_named (codes "host") head.fields))
-    (target_parts head.method head.target (host_named head.fields)) head.fields (target, host) passes)
+    (passed head target host passes).parts
 
 -- ---- the head that the origin gets
 

@@ -4,6 +4,7 @@ use Rattle.std.proofs.Common.{◌∷◌, ◌++◌, length, sym, subst, arith, le
 use Rattle.std.specs.Prelude.{Option, Some, None, ◌==◌, codes, decimal}
 use Rattle.std.specs.Fmt.{digit_glyph, digits, digits_onto}
 use Rattle.std.specs.List.{list_all}
+use Rattle.ts_lists.proofs.Sizes.{chosen_within}
 use Rattle.httparse.specs.Ascii.{crlf_bytes}
 use Rattle.httparse.specs.Grammar as grammar
 use Rattle.httparse.specs.Grammar.{print_blank, print_end, print_reason, print_response, print_section}
@@ -27,16 +28,12 @@ use Rattle.ts_phases.proofs.LoweringHeads.{ruled_adds, via_within}
 
 -- ---- a number in decimal has at most 64 digits
 
-cond_short : (b : Bool) (xs ys : List ℕ) (n : ℕ) → length xs ≤ n → length ys ≤ n → length (cond b xs ys) ≤ n
-cond_short true xs ys n first second = first
-cond_short false xs ys n first second = second
-
 onto_short : (k n : ℕ) (acc : List ℕ) → length (digits_onto k 10 false n acc) ≤ k + length acc
 onto_short zero n acc = omega arith
 onto_short (suc k) n acc =
     let more = digit_glyph false (n % 10) ∷ acc in
     let rest : length (digits_onto k 10 false (n / 10) more) ≤ k + length more = onto_short k (n / 10) more in
-    cond_short (n / 10 == 0) more (digits_onto k 10 false (n / 10) more) (suc k + length acc) (omega arith)
+    chosen_within (n / 10 == 0) more (digits_onto k 10 false (n / 10) more) (suc k + length acc) (omega arith)
     (omega (arith, rest))
 
 decimal_short : (n : ℕ) → length (decimal n) ≤ 64

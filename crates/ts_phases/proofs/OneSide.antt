@@ -69,10 +69,6 @@ pub stays : (given before after : List ℕ) → given ≢ [] → MayReplace give
 stays [] before after some replaced = absurd (some refl)
 stays (b ∷ bs) before after some replaced = replaced
 
-pub some_front : (xs ys : List ℕ) → xs ≢ [] → xs ++ ys ≢ []
-some_front [] ys some is = some refl
-some_front (x ∷ xs) ys some is = absurd (let wrong : ◌≡◌ {A = List ℕ} (x ∷ (xs ++ ys)) [] = is in cc)
-
 pub quiet_as : (c d : LinkSide) (s : Sent) → d.look.taken ≡ c.look.taken → d.outbox ≡ c.outbox → Quiet c s
     → Quiet d s
 quiet_as c d s taken waits q = record {

@@ -4,6 +4,7 @@ use Rattle.std.proofs.Common.{append_assoc, inl, length, ◌≢◌, length-appen
 use Rattle.std.proofs.lemmas.List.{append-nil}
 use Rattle.std.proofs.Math.Nat.{le_trans}
 use Rattle.std.specs.Prelude.{codes, flat_map}
+use Rattle.ts_lists.proofs.Sizes.{front_not_empty}
 use Rattle.ts_config.specs.declared.setup.Setup.{Setup}
 use Rattle.ts_config.specs.declared.fields.Side.TheVariants as S
 use Rattle.ts_hooks.specs.declared.txn_end.TxnEnd.TheVariants as E
@@ -27,7 +28,7 @@ use Rattle.ts_phases.specs.Ends.{AnyEnd, EndFact}
 use Rattle.ts_block.specs.declared.own_answer.OwnStatus.TheVariants as O
 use Rattle.ts_phases.specs.declared.phase.OwnAnswer.{OwnAnswer}
 use Rattle.ts_phases.specs.declared.phase.Request.{Request}
-use Rattle.ts_phases.proofs.OneSide.{failed, quiet_as, some_front}
+use Rattle.ts_phases.proofs.OneSide.{failed, quiet_as}
 use Rattle.ts_phases.proofs.Asks.{client_fails, lacks_memory}
 use Rattle.ts_phases.proofs.Going.{faulty, gone_block, unanswered_any}
 
@@ -75,7 +76,7 @@ uploads_at setup v c l q h u keeps =
         waits = record {
           count = le_trans un.waits.count keeps.client.faults;
           quiet = quiet_as v.client (record v.client { look = c }) v.sent u.client_took refl un.waits.quiet;
-          some = λ is. some_front v.client.look.given u.gave.0 un.waits.some (sym u.gave.1 ∙ is);
+          some = λ is. front_not_empty v.client.look.given u.gave.0 un.waits.some (sym u.gave.1 ∙ is);
         };
         goes = subst (λ (x : List ℕ). Goes setup x q v.dialed) (sym u.client) un.goes;
         count = le_trans un.count keeps.origin.faults;

@@ -1,6 +1,7 @@
 -- A reader of bodies that is fed with what waits, and whether a body ends with its bytes.
 use Rattle.std.proofs.Common.{◌≡◌, ◌≢◌, ℕ, ◌<◌, ◌≤◌, ◌⊎◌, inl, inr, arith, List, [], ◌++◌, length, take, drop, true, false, refl, sym, ap, subst, ◌∙◌}
 use Rattle.std.specs.Prelude.{slice_range, ◌↔◌}
+use Rattle.ts_lists.proofs.Fronts.{front_then_rest}
 use Rattle.httparse.proofs.RunLemmas.{length-slice_range}
 use Rattle.std.proofs.lemmas.List.{append-nil, length-take, take-append-drop, take-take}
 use Rattle.std.proofs.lemmas.Bool.{false≢true, true≢false}
@@ -16,15 +17,6 @@ use Rattle.ts_wire.specs.Body.{BodyOf, IsCutShort}
 use Rattle.ts_wire.specs.Place.{GoesOn, IsFed, Place, TakesBytes, state_of}
 use Rattle.ts_wire.proofs.PlaceBody.{place_body}
 use Rattle.ts_relay.specs.Feeding.{EndsHere, FeedsBody, GetsPart}
-
--- what a reader took of the first block is a front of all that waits
-block_taken : (before after block : List ℕ) (n : ℕ) → block ≡ take (length block) before → n ≤ length block
-    → after ≡ drop n before → before ≡ take n block ++ after
-block_taken before after block n front within left =
-    sym (take-append-drop n before)
-    ∙ ap (λ (x : List ℕ). x ++ drop n before) (sym (ap (take n) front ∙ take-take n (length block) before
-    within))
-    ∙ ap (λ (x : List ℕ). take n block ++ x) (sym left)
 
 -- no more of it is body
 part_within : (block : List ℕ) (from to n : ℕ) → from ≤ to → to ≤ n → n ≤ length block
@@ -60,7 +52,7 @@ feeds_by old new before after block fed c d some front takes goes left gets = re
   piece = take fed.taken block;
   part = slice_range block fed.from fed.to;
   within = part_within block fed.from fed.to fed.taken takes.ordered takes.within takes.taken;
-  taken = block_taken before after block fed.taken front takes.taken left;
+  taken = front_then_rest before after block fed.taken front takes.taken left;
   progress = takes_some old new block fed some takes;
   goes = goes;
   gets = subst (λ (s : BodyState). GetsPart s (slice_range block fed.from fed.to) c d) takes.state gets;

@@ -2,6 +2,7 @@
 use Rattle.std.proofs.Common.{◌≡◌, ℕ, zero, suc, ◌+◌, ◌≤◌, List, [], ◌∷◌, length, map, filter, take, Bool, true, false, cond, arith, refl, sym, subst, length-append}
 use Rattle.std.specs.Prelude.{◌==◌, not, Option, None, if◌then◌else◌}
 use Rattle.std.proofs.lemmas.List.{length-map}
+use Rattle.ts_lists.proofs.Sizes.{filter_within}
 use Rattle.ts_config.specs.Bodies.{whole_of}
 use Rattle.ts_config.specs.declared.setup.Setup.{Setup}
 use Rattle.ts_config.specs.declared.setup.TransformLine.{TransformLine}
@@ -72,21 +73,12 @@ fresh_adds stage (l ∷ ls) (p ∷ ps) of = (
       stage ls ps of.2,
 )
 
-kept_shorter : (b : Bool) (x : ℕ) (xs ys : List ℕ) → length ys ≤ length xs → length (cond b (x ∷ ys) ys)
-    ≤ length (x ∷ xs)
-kept_shorter true x xs ys less = omega (arith, less)
-kept_shorter false x xs ys less = omega (arith, less)
-
-filter_shorter : (p : ℕ → Bool) (xs : List ℕ) → length (filter p xs) ≤ length xs
-filter_shorter p [] = omega arith
-filter_shorter p (x ∷ xs) = kept_shorter (p x) x xs (filter p xs) (filter_shorter p xs)
-
 -- a line makes a body at most longer by its text
 line_within : (l : TransformLine) (xs : List ℕ) → length (whole_of l xs) ≤ length xs + line_length l
 line_within (t.Append file text) xs = omega (arith, length-append xs text)
 line_within (t.Prepend text) xs = omega (arith, length-append text xs)
 line_within (t.Map from to) xs = omega (arith, length-map xs (λ b. if b == from then to else b))
-line_within (t.Drop byte) xs = omega (arith, filter_shorter (λ b. not (b == byte)) xs)
+line_within (t.Drop byte) xs = omega (arith, filter_within (λ b. not (b == byte)) xs)
 line_within _ xs = omega arith
 
 -- What fresh transforms have left to do, with an error for each, is no more than their lines' texts at each

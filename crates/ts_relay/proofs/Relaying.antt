@@ -135,17 +135,6 @@ text_ended v w head body f h = record {
   body_is = h.body_is;
 }
 
--- a front of the first block of some bytes is a front of these
-pub front_of_block : (bytes block piece : List ℕ) (m : ℕ) → block ≡ take (length block) bytes
-    → piece ≡ take m block → piece ≡ take (length piece) bytes
-front_of_block bytes block piece m front part =
-    let whole : bytes ≡ piece ++ (drop m block ++ drop (length block) bytes) =
-    sym (take-append-drop (length block) bytes) ∙ ap (λ (x : List ℕ). x ++ drop (length block) bytes)
-    (sym front ∙ sym (take-append-drop m block) ∙ ap (λ (x : List ℕ). x ++ drop m block) (sym part))
-    ∙ append_assoc piece (drop m block) (drop (length block) bytes) in
-    sym (ap (take (length piece)) whole ∙ take_at piece (drop m block ++ drop (length block) bytes)
-    (length piece) refl)
-
 -- ---- what the chain still gives
 
 -- bytes that came to a chain stand in front of what still comes

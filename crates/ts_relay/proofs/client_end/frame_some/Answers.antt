@@ -1,5 +1,6 @@
 -- A piece was framed and taken from the chain, or there was no memory for it, or no piece.
 use Rattle.std.proofs.Common.{[], length, take, refl, sym, ap, subst, ◌∙◌}
+use Rattle.ts_lists.proofs.Fronts.{take_of_front}
 use Rattle.ts_transform.specs.Flow.{ChainState, client_wait}
 use Rattle.ts_relay.specs.Relaying.{StepsChain}
 use Rattle.std.specs.Arc.{arc_value}
@@ -8,7 +9,7 @@ use Rattle.ts_relay.specs.Duties.{MustSend}
 use Rattle.ts_relay.specs.LoweringBody.{LowersBody}
 use Rattle.ts_relay.proofs.BodyLinks.{calm_after, writer_framed, writer_queued}
 use Rattle.ts_relay.proofs.LoweringRelay.{frames_after, loses_runs, must_weaker, queues_lacks, rest_to_send}
-use Rattle.ts_relay.proofs.Relaying.{frames_lacks, frames_step, front_of_block}
+use Rattle.ts_relay.proofs.Relaying.{frames_lacks, frames_step}
 use Rattle.ts_relay.proofs.Chaining.{chain_after, taken_order}
 use Rattle.ts_relay.proofs.StepsOwed.{writer_still}
 use Rattle.ts_relay.proofs.client_end.frame_some.Goals as goal
@@ -30,7 +31,7 @@ returns-clause-leads g c = λ told also.
     c.take.new.self.chain c.args.relay.now.body c.piece_of-piece.result.now _ c.take.result
     c.step_after.result c.step_after.ensures c.in-Ok.ensures.ok c.piece_of-piece.ensures.piece
     c.take.ensures.takes
-    (front_of_block (client_wait c.args.relay.now.driven.chain) c.in-Some.block.now
+    (take_of_front (client_wait c.args.relay.now.driven.chain) c.in-Some.block.now
     c.piece_of-piece.result.now _ (c.in-Some.ensures.2 ∙ ap (λ (k : ChainState _). take
     (length c.in-Some.block.now) (client_wait k)) c.chain.ensures) c.piece_of-piece.ensures.front)
     (c.requires.fact told also)
