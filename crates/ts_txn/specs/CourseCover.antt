@@ -1,7 +1,7 @@
 -- The duties of a transaction on its course, and the events that do them: while it goes on, each has an event
 -- of a continuation that does it, so that no wake is lost (Developer's Guide, "Continuations" and "Actions
 -- and Events").
-use Rattle.std.specs.Prelude.{◌≡◌, ℕ, ◌≤◌, ◌⊎◌, List, [], ◌∷◌, Bool, true, false, Option, None, ⊤}
+use Rattle.std.specs.Prelude.{◌≡◌, ℕ, ◌≤◌, ◌⊎◌, List, [], ◌∷◌, Bool, true, false, Option, Some, None, ⊤}
 use Rattle.ts_journal.specs.declared.entry.TheConstants.{GREATEST}
 use Rattle.ts_journal.specs.declared.entry.Pending.{Pending}
 use Rattle.ts_group.specs.declared.action.Named.{Named}
