@@ -69,13 +69,14 @@ pub fn rouse(
     requires turn { cx.old.log.state.held ≡ true }
     ensures adds { AddsEvents 1 (HasLiveIf cx.new.log.state.live slot.new) result cx.old cx.new }
     ensures stage { KeepsStage cx.old cx.new slot.old slot.new }
-    ensures rests { IsRousedIf slot.old → (slot.new ≡ slot.old) × (cx.new ≡ cx.old) × (is_ok result ≡ true) }
+    ensures rests { IsRousedIf slot.old
+        → (slot.new ≡ slot.old) × (cx.new ≡ cx.old) × (is_ok result ≡ true) }
     ensures only { SetsOnly (IsWorkOfIf slot.old pause cx.old.moment) cx.old cx.new }
-    ensures roused { OnOk result (IsRousedIf slot.new) }
+    ensures roused { OnOk result (IsRousedIf slot.new)
+        × (result ≡ Err NoMemory → cx.old.log.state.next < GREATEST) }
     ensures seated { KeepsSeated (slot.old ∷ []) (slot.new ∷ []) cx.old cx.new }
     ensures called { rouser ≡ Rouser.Downstream → pause ≡ 0
         → OnOk result (IsRousedIf slot.old ⊎ IsToldIf cx.new.log.state.pending WriteReady slot.new) }
-    ensures unspent { result ≡ Err NoMemory → cx.old.log.state.next < GREATEST }
 {
     let Some(continuation) = slot else {
         return Err(SetFault::Dead);

@@ -10,14 +10,19 @@ returns-then-not-mark_error_passed-clause-adds c = adds_none c.args.cx.now 1 c.r
 
 pub returns-clause-only : goal.returns-clause-only
 returns-clause-only c = λ first named.
-    c.tell_before.ensures.only first (named_marked c.args.cx.now.roles first c.args.at c.args.table.now c.mark_error_passed.new.table c.mark_error_passed.ensures.table named)
+    c.tell_before.ensures.only first (named_marked c.args.cx.now.roles first c.args.at c.args.table.now
+    c.mark_error_passed.new.table c.mark_error_passed.ensures.table named)
 
 -- It is of the stage before.
 pub returns-then-not-mark_error_passed-clause-table : goal.returns-then-not-mark_error_passed-clause-table
 returns-then-not-mark_error_passed-clause-table c =
     let table = c.args.table.now in
-    let marked = c.mark_error_passed.new.table in
-    (c.mark_error_passed.ensures.table, seated_as table marked c.args.cx.now c.args.cx.now refl (λ k has. subst (λ us. HasKey us k) (sym c.mark_error_passed.ensures.table) (key_passed table c.args.at k has)))
+    let marked = c.mark_error_passed.new.table in (
+      c.mark_error_passed.ensures.table,
+      seated_as table marked c.args.cx.now c.args.cx.now refl
+          (λ k has. subst (λ us. HasKey us k) (sym c.mark_error_passed.ensures.table)
+          (key_passed table c.args.at k has)),
+    )
 
 pub returns-clause-table : goal.returns-clause-table
 returns-clause-table c =
@@ -25,5 +30,7 @@ returns-clause-table c =
     let marked = c.mark_error_passed.new.table in (
       c.mark_error_passed.ensures.table,
       seated_then table marked marked c.args.cx.now c.args.cx.now c.tell_before.new.cx
-          (seated_as table marked c.args.cx.now c.args.cx.now refl (λ k has. subst (λ us. HasKey us k) (sym c.mark_error_passed.ensures.table) (key_passed table c.args.at k has))) c.tell_before.ensures.seated,
+          (seated_as table marked c.args.cx.now c.args.cx.now refl
+          (λ k has. subst (λ us. HasKey us k) (sym c.mark_error_passed.ensures.table)
+          (key_passed table c.args.at k has))) c.tell_before.ensures.seated,
     )
