@@ -6,7 +6,10 @@ use Rattle.ts_journal.specs.declared.entry.ContKey.{ContKey}
 use Rattle.ts_journal.specs.declared.entry.Pending.{Pending}
 use Rattle.ts_journal.specs.State.{same_key}
 use Rattle.ts_group.specs.declared.action.Named.{Named}
-use Rattle.ts_group.specs.Context.{Context, IsSame, role_at}
+use Rattle.ts_group.specs.declared.action.Destroy.{Destroy}
+use Rattle.ts_group.specs.declared.action.Destroy.TheVariants as D
+use Rattle.ts_group.specs.Context.{Context, role_at}
+use Rattle.ts_group.specs.Acts.{Destroys}
 use Rattle.ts_group.specs.Changes.{HasLost}
 use Rattle.ts_transform.specs.declared.continuation.StageContinuation.{StageContinuation}
 use Rattle.ts_transform.specs.declared.pump.Stage.{Stage}
@@ -109,12 +112,12 @@ gone_at pending roles role zero (t ∷ ts) (here, others) = (tt, others)
 gone_at pending roles role (suc at) (t ∷ ts) (here, others) =
     (here, gone_at pending roles (role + 1) at ts others)
 
-pub closed_dead : (a b : Context) (role at : ℕ) (ts : List (Option StageContinuation)) → IsSame a b
-    → AreOfStages a.log.state.pending a.roles role ts
+pub closed_dead : (a b : Context) (role at : ℕ) (ts : List (Option StageContinuation))
+    → b.log.state ≡ a.log.state → b.roles ≡ a.roles → AreOfStages a.log.state.pending a.roles role ts
     → AreOfStages b.log.state.pending b.roles role (changed gone ts at)
-closed_dead a b role at ts same s =
-    subst (λ rs. AreOfStages b.log.state.pending rs role (changed gone ts at)) (sym same.roles)
-    (subst (λ st. AreOfStages st.pending a.roles role (changed gone ts at)) (sym same.log.state)
+closed_dead a b role at ts state roles s =
+    subst (λ rs. AreOfStages b.log.state.pending rs role (changed gone ts at)) (sym roles)
+    (subst (λ st. AreOfStages st.pending a.roles role (changed gone ts at)) (sym state)
     (gone_at a.log.state.pending a.roles role at ts s))
 
 -- a continuation of a role outside those of the stages keeps its role and its event
@@ -145,11 +148,30 @@ others_lost first at ts t a b is lost role u named outside s =
     not_within (inl below) e within = omega (arith, below, e)
     not_within (inr above) e within = omega (arith, above, e, within)
 
-pub others_same : (first : ℕ) (ts : List (Option StageContinuation)) (a b : Context) → IsSame a b
-    → KeepsOthers first ts a b
-others_same first ts a b same role u named outside s =
-    subst (λ rs. IsOfStageIf b.log.state.pending rs role u) (sym same.roles)
-    (subst (λ st. IsOfStageIf st.pending a.roles role u) (sym same.log.state) s)
+pub others_same : (first : ℕ) (ts : List (Option StageContinuation)) (a b : Context)
+    → b.log.state ≡ a.log.state → b.roles ≡ a.roles → KeepsOthers first ts a b
+others_same first ts a b state roles role u named outside s =
+    subst (λ rs. IsOfStageIf b.log.state.pending rs role u) (sym roles)
+    (subst (λ st. IsOfStageIf st.pending a.roles role u) (sym state) s)
+
+-- so it is whether there was a continuation to be destroyed or not
+pub closed_any : (a b : Context) (d : Destroy) (first at : ℕ) (ts us : List (Option StageContinuation))
+    (t : StageContinuation) → slice_get ts at ≡ Some (Some t) → us ≡ changed gone ts at
+    → Destroys a.log b.log a.roles b.roles d t.key → AreOfStages a.log.state.pending a.roles first ts
+    → AreOfStages b.log.state.pending b.roles first us
+closed_any a b D.Gone first at ts us t there is h s =
+    subst (AreOfStages b.log.state.pending b.roles first) (sym is)
+    (closed_gone a b first at ts t there (h.lost refl) s)
+closed_any a b D.Dead first at ts us t there is h s =
+    subst (AreOfStages b.log.state.pending b.roles first) (sym is)
+    (closed_dead a b first at ts (h.dead refl).1.state (h.dead refl).2 s)
+
+pub others_any : (a b : Context) (d : Destroy) (first at : ℕ) (ts : List (Option StageContinuation))
+    (t : StageContinuation) → slice_get ts at ≡ Some (Some t)
+    → Destroys a.log b.log a.roles b.roles d t.key → KeepsOthers first ts a b
+others_any a b D.Gone first at ts t there h = others_lost first at ts t a b there (h.lost refl)
+others_any a b D.Dead first at ts t there h =
+    others_same first ts a b (h.dead refl).1.state (h.dead refl).2
 
 pub others_kept : (first : ℕ) (ts : List (Option StageContinuation)) (a b : Context) → Keeps a b
     → KeepsOthers first ts a b

@@ -141,10 +141,9 @@ must-far {P = P} rest up from (s ∷ ss) zero r from' (s' ∷ ss') (step, same) 
     behind [] h = h
     behind (u ∷ us) h = h
 must-far rest up from (s ∷ ss) (suc zero) r from' (s' ∷ ss') steps zero a b c must = absurd (c (omega arith))
-must-far rest up from (s ∷ ss) (suc (suc at)) r from' (s' ∷ ss') (before, part, steps) zero a b c (work, room)
-    =
+must-far rest up from (s ∷ ss) (suc (suc at)) r from' (s' ∷ ss') (same, part, steps) zero a b c (work, room) =
     let after : s'.after ≡ s.after = front-same rest s.after ss at r s'.after ss' steps in (
-      ap (λ l. has_work (has_ended s) up l) (sym before) ∙ ap (λ p. has_work (is_none p) up from') (sym part) ∙
+      ap (λ l. has_work (has_ended s) up l) (sym same) ∙ ap (λ p. has_work (is_none p) up from') (sym part) ∙
           work,
       subst (λ l. length l < 65536) after room,
     )

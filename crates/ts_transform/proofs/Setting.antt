@@ -1,5 +1,5 @@
 -- Which events the calls of a handler set.
-use Rattle.std.proofs.Common.{◌≡◌, ◌≢◌, ◌+◌, ◌-◌, ◌⊎◌, inl, inr, ℕ, zero, suc, List, [], ◌∷◌, true, false, Option, Some, None, Result, Ok, Err, ◌<◌, length, get_or, eqb, arith, refl, sym, ap, subst, ◌∙◌}
+use Rattle.std.proofs.Common.{◌≡◌, ◌≢◌, ◌+◌, ◌-◌, ◌⊎◌, inl, inr, ℕ, zero, suc, List, [], ◌∷◌, true, false, Option, Some, None, Result, Ok, Err, ◌<◌, ◌≤◌, length, get_or, eqb, arith, refl, sym, ap, subst, ◌∙◌}
 use Rattle.std.proofs.lemmas.Bool.Decides.{eqb_tells}
 use Rattle.ts_journal.specs.declared.entry.ContKey.{ContKey}
 use Rattle.ts_journal.specs.declared.entry.Event.{Event}
@@ -8,14 +8,14 @@ use Rattle.ts_journal.specs.State.{pending_at}
 use Rattle.ts_group.specs.declared.action.Action.{Action}
 use Rattle.ts_group.specs.declared.action.Named.{Named}
 use Rattle.ts_group.specs.declared.action.SetFault.{SetFault}
-use Rattle.ts_group.specs.Context.{Context, role_at}
+use Rattle.ts_group.specs.Context.{Context, moment_after, role_at}
 use Rattle.ts_group.specs.Acts.{Sets}
 use Rattle.ts_group.specs.Changes.{IsLess}
 use Rattle.ts_group.specs.Entries.{Grows}
 use Rattle.ts_group.proofs.Grows.{grows_refl}
 use Rattle.ts_transform.proofs.Kept.{few_refl}
 use Rattle.ts_transform.specs.declared.continuation.StageContinuation.{StageContinuation}
-use Rattle.ts_transform.specs.Driving.{AreOfStages, IsNamedIf, AreNamed, IsRousedIf, Keeps, Lessens, RousesAt, SetsOnly, IsWorkOf, IsWorkOfIf, IsRousingOf, all_unroused, unroused, error_passed, changed}
+use Rattle.ts_transform.specs.Driving.{works_at, AreOfStages, IsNamedIf, AreNamed, IsRousedIf, Keeps, Lessens, RousesAt, SetsOnly, IsWorkOf, IsWorkOfIf, IsRousingOf, all_unroused, unroused, error_passed, changed}
 
 -- nothing was set
 pub only_same : (Such : Pending → Type 0) (a b : Context) → b.log.state.pending ≡ a.log.state.pending
@@ -71,6 +71,22 @@ set_only a b (Ok x) key event due Such h such n p none some = by_number (eqb_tel
         such p (ap (λ q. q.key) same) (ap (λ q. q.event) same) (ap (λ q. q.due) same)
     by_number (inr (t, other)) = absurd (let wrong : None ≡ Some p = sym none ∙ sym (h.others n other) ∙ some
         in cc)
+
+-- an event was set at which a stage works, in time
+pub set_work : {event : Event} {due : ℕ} (a b : Context) (r : Result Action SetFault) (key : ContKey)
+    (pause : ℕ) → Sets a.log b.log r key event due 0 → works_at event ≡ true
+    → (moment_after a.moment pause ≤ due) × (due ≤ a.moment + pause)
+    → SetsOnly (IsWorkOf key pause a.moment) a b
+set_work {event = event} {due = due} a b r key pause h works soon =
+    set_only a b r key event due (IsWorkOf key pause a.moment) h
+    (λ p of_key is when. record {
+      of_key = of_key;
+      works = ap works_at is ∙ works;
+      due = (
+        subst (λ d. moment_after a.moment pause ≤ d) (sym when) soon.0,
+        subst (λ d. d ≤ a.moment + pause) (sym when) soon.1,
+      );
+    })
 
 -- nothing is set where a continuation is destroyed
 pub lessens_less : (a b : Context) → Grows a b → b.log.state.held ≡ true → IsLess a.log.state b.log.state

@@ -148,7 +148,7 @@ fn tell_before(
 }
 
 // Passes an error on from the stage at a place, where that has passed none on, to the stage before it.
-#[tactic(auto, using(crate::proofs::Kept::few_refl, crate::proofs::Setting::only_none, crate::proofs::PassedErrors::passed_less, crate::proofs::PassedErrors::passed_same))]
+#[tactic(auto, using(crate::proofs::PassedErrors::passed_less, crate::proofs::PassedErrors::passed_same))]
 fn pass_error(
     table: &mut [Option<StageContinuation>],
     at: usize,
@@ -172,7 +172,6 @@ fn pass_error(
 }
 
 // Destroys the continuation of the stage at a place.
-#[tactic(auto, using(crate::proofs::Closing::closed_gone, crate::proofs::Closing::closed_dead, crate::proofs::Closing::others_lost, crate::proofs::Closing::others_same, crate::proofs::PassedErrors::gone_pays))]
 fn destroy_at(table: &mut [Option<StageContinuation>], at: usize, cx: &mut Cx)
     requires turn { cx.old.log.state.held ≡ true }
     requires at { at < length table.old }

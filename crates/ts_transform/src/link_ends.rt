@@ -43,8 +43,8 @@ pub fn unrouse(slot: &mut Option<StageContinuation>)
 }
 
 /// Sees that an event of it is pending, if it must work: after so many milliseconds, where it has none yet.
-/// It refuses with `Dead` where there is none or it is not live, with `Spent` where the event numbers are used
-/// up, and with `NoMemory`, and sets nothing then.
+/// It refuses with `Dead` where there is none or it is not live, with `Spent` where the event numbers are
+/// used up, and with `NoMemory`, and sets nothing then.
 pub fn rouse_end(
     slot: &mut Option<StageContinuation>,
     must: bool,

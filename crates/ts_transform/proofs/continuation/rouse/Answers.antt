@@ -1,7 +1,7 @@
 use Rattle.std.proofs.Common.{[], ◌∷◌, true, arith, refl, subst}
-use Rattle.ts_transform.specs.Driving.{HasLiveIf}
+use Rattle.ts_transform.specs.Driving.{HasLiveIf, IsWorkOfIf}
 use Rattle.ts_transform.proofs.Kept.{adds_dead, adds_err, adds_none}
-use Rattle.ts_transform.proofs.Setting.{work_of}
+use Rattle.ts_transform.proofs.Setting.{only_none, work_of}
 use Rattle.ts_transform.specs.Seats.{KeepsSeated}
 use Rattle.ts_transform.proofs.Seating.{seated_slot}
 use Rattle.ts_transform.proofs.continuation.rouse.Goals as goal
@@ -17,6 +17,14 @@ returns-clause-only c =
     work_of c.args.pause c.args.cx.now.moment c.args.slot.now c.in-Some.continuation c.args.cx.now
     c.set_event.new.cx
     c.in-Some.is c.set_event.ensures.only
+
+pub returns-in_default-clause-only : goal.returns-in_default-clause-only
+returns-in_default-clause-only c = only_none
+    (IsWorkOfIf c.args.slot.now c.args.pause c.args.cx.now.moment) c.args.cx.now
+
+pub returns-then-continuation-clause-only : goal.returns-then-continuation-clause-only
+returns-then-continuation-clause-only c = only_none
+    (IsWorkOfIf c.args.slot.now c.args.pause c.args.cx.now.moment) c.args.cx.now
 
 pub returns-in_default-clause-adds : goal.returns-in_default-clause-adds
 returns-in_default-clause-adds c = adds_dead c.args.cx.now 1 c.requires.turn

@@ -129,12 +129,13 @@ returns-then-works-clause-live g c =
     record {
       seated = worked.ensures.stages.seated;
       live = live_worked g.P.Transform.rest c.args.at c.args.chain.now worked.new.chain c.args.table.now
-          worked.new.table c.args.cx.now worked.new.cx worked.ensures.pumps.own worked.ensures.adds.keeps
+          worked.new.table c.args.cx.now worked.new.cx worked.ensures.works.pumps.own
+          worked.ensures.adds.keeps
           same;
       cause = err_weaker worked.result worked.new.cx
           (all_live c.args.chain.now worked.new.chain c.args.table.now worked.new.table c.args.cx.now
           worked.new.cx keys same (may_pump_goes g.P.Transform.rest c.args.at c.args.chain.now
-          worked.new.chain worked.ensures.pumps.own))
+          worked.new.chain worked.ensures.works.pumps.own))
           worked.ensures.adds.cause;
     }
 

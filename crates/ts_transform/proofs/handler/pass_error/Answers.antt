@@ -1,12 +1,21 @@
 use Rattle.std.proofs.Common.{refl, sym, subst}
+use Rattle.ts_journal.specs.declared.entry.Event.TheVariants.{Error}
+use Rattle.ts_transform.specs.Driving.{IsTellingBefore}
 use Rattle.ts_transform.specs.Seats.{HasKey}
 use Rattle.ts_transform.proofs.Seating.{key_passed, seated_as, seated_then}
-use Rattle.ts_transform.proofs.Kept.{adds_none}
-use Rattle.ts_transform.proofs.Setting.{named_marked}
+use Rattle.ts_transform.proofs.Kept.{adds_none, few_refl}
+use Rattle.ts_transform.proofs.Setting.{named_marked, only_none}
 use Rattle.ts_transform.proofs.handler.pass_error.Goals as goal
 
 pub returns-then-not-mark_error_passed-clause-adds : goal.returns-then-not-mark_error_passed-clause-adds
 returns-then-not-mark_error_passed-clause-adds c = adds_none c.args.cx.now 1 c.requires.turn
+
+pub returns-then-not-mark_error_passed-clause-only : goal.returns-then-not-mark_error_passed-clause-only
+returns-then-not-mark_error_passed-clause-only c = λ first named. only_none
+    (IsTellingBefore Error first c.args.at c.args.cx.now.roles) c.args.cx.now
+
+pub returns-then-not-mark_error_passed-clause-quiet : goal.returns-then-not-mark_error_passed-clause-quiet
+returns-then-not-mark_error_passed-clause-quiet c = λ passed. (refl, few_refl c.args.cx.now 0)
 
 pub returns-clause-only : goal.returns-clause-only
 returns-clause-only c = λ first named.

@@ -21,7 +21,8 @@ returns-in-Moved-clause-works g c = record {
   pumps =
       let old = c.args.chain.now in
       let did : done_by c.in-Ok.pumped ≡ c.in-Moved.field-0 = ap done_by c.in-Moved.is in
-      let some : 1 ≤ c.in-Moved.field-0 = moved-some old.given old.first old.stages c.args.at c.in-Moved.field-0
+      let some : 1 ≤ c.in-Moved.field-0 = moved-some old.given old.first old.stages c.args.at
+      c.in-Moved.field-0
       (subst (AnswersAt old.given old.first old.stages c.args.at) c.in-Moved.is c.in-Ok.ensures.answer) in
       let paid : length c.rouse_round.new.cx.log.state.pending ≤ length c.args.cx.now.log.state.pending +
       step_weight * done_by c.in-Ok.pumped = omega
@@ -78,7 +79,8 @@ returns-in_err-rouse_round-in-Ended-clause-works g c = record {
   pumps =
       let did : done_by c.in-Ok.pumped ≡ 1 = ap done_by c.in-Ended.is in
       let round = c.rouse_round-in-Ended in
-      let paid : length round.new.cx.log.state.pending ≤ length c.args.cx.now.log.state.pending + step_weight *
+      let paid : length round.new.cx.log.state.pending ≤ length c.args.cx.now.log.state.pending + step_weight
+      *
       done_by c.in-Ok.pumped = omega (arith, did, round.ensures.adds.few.pending) in
       pumps g.P.Transform.rest c.args.at c.args.chain.now c.pump.new.self c.in-Ok.pumped c.args.cx.now
       round.new.cx c.in-Ok.ensures.answer c.in-Ok.ensures.steps c.in-Ok.ensures.kept.0
@@ -190,8 +192,12 @@ returns-in-Blocked-clause-works g c = record {
   pumps =
       pumps_none g.P.Transform.rest c.args.at c.args.chain.now c.pump.new.self c.args.cx.now
       (subst (λ r. IfRests r (c.pump.new.self ≡ c.args.chain.now)) c.in-Blocked.is c.in-Ok.ensures.rests);
-  rests = λ none.
-      (refl, subst (λ r. IfRests r (c.pump.new.self ≡ c.args.chain.now)) c.in-Blocked.is c.in-Ok.ensures.rests, refl);
+  rests = λ none. (
+    refl,
+    subst (λ r. IfRests r (c.pump.new.self ≡ c.args.chain.now)) c.in-Blocked.is
+        c.in-Ok.ensures.rests,
+    refl,
+  );
 }
 
 pub returns-in-Blocked-clause-only : goal.returns-in-Blocked-clause-only
@@ -219,8 +225,11 @@ returns-in-Idle-clause-works g c = record {
   pumps =
       pumps_none g.P.Transform.rest c.args.at c.args.chain.now c.pump.new.self c.args.cx.now
       (subst (λ r. IfRests r (c.pump.new.self ≡ c.args.chain.now)) c.in-Idle.is c.in-Ok.ensures.rests);
-  rests = λ none.
-      (refl, subst (λ r. IfRests r (c.pump.new.self ≡ c.args.chain.now)) c.in-Idle.is c.in-Ok.ensures.rests, refl);
+  rests = λ none. (
+    refl,
+    subst (λ r. IfRests r (c.pump.new.self ≡ c.args.chain.now)) c.in-Idle.is c.in-Ok.ensures.rests,
+    refl,
+  );
 }
 
 pub returns-in-Idle-clause-only : goal.returns-in-Idle-clause-only
