@@ -11,4 +11,5 @@ pub quoted_step : (mark done piece z : List ℕ) (begins : Bool) (at : ℕ) → 
 quoted_step mark done piece z begins at within =
     let byte = get_or piece at 0 in
     ap (λ t. done ++ quoted mark begins (t ++ z)) (drop_more piece at 0 within)
-    ∙ sym (append_assoc done (quoted_byte mark begins byte) (quoted mark (byte == 10) (drop (at + 1) piece ++ z)))
+    ∙ sym (append_assoc done (quoted_byte mark begins byte)
+    (quoted mark (byte == 10) (drop (at + 1) piece ++ z)))

@@ -1,4 +1,5 @@
--- What quoting makes of a body: each of its lines behind a mark. A line ends with a line feed, which the last may lack.
+-- What quoting makes of a body: each of its lines behind a mark. A line ends with a line feed, which the last
+-- may lack.
 use Rattle.std.specs.Prelude.{ℕ, ◌==◌, ◌++◌, List, [], ◌∷◌, Bool, true, false}
 
 -- what becomes of one byte, by whether it begins a line

@@ -7,33 +7,43 @@ use Rattle.ts_lists.proofs.Fronts.{cut_before}
 use Rattle.ts_transform.proofs.Boundaries.{flow_from-finished}
 
 -- stages that got nothing yet compose their parts
-pub flow_from-fresh : {P : Type 0} (rest : P → List ℕ → List ℕ) (ps : List P) (v : List ℕ) → flow_from rest (map fresh_stage ps) v ≡ compose rest ps v
+pub flow_from-fresh : {P : Type 0} (rest : P → List ℕ → List ℕ) (ps : List P) (v : List ℕ)
+    → flow_from rest (map fresh_stage ps) v ≡ compose rest ps v
 flow_from-fresh rest [] v = refl
 flow_from-fresh rest (p ∷ ps) v = flow_from-fresh rest ps (rest p v)
 
 -- the client of a chain with no stages takes the first n bytes
-pub flow_from-taken : {P : Type 0} (rest : P → List ℕ → List ℕ) (ss : List (Stage P)) (first first' : List ℕ) (n : ℕ) → length ss ≡ 0 → first' ≡ drop n first
-    → (x : List ℕ) → flow_from rest ss (first ++ x) ≡ take n (last_wait first ss) ++ flow_from rest ss (first' ++ x)
-flow_from-taken rest [] first first' n none is x = cut_before n first x ∙ ap (λ l. take n first ++ (l ++ x)) (sym is)
+pub flow_from-taken : {P : Type 0} (rest : P → List ℕ → List ℕ) (ss : List (Stage P)) (first first' : List ℕ)
+    (n : ℕ) → length ss ≡ 0 → first' ≡ drop n first
+    → (x : List ℕ) → flow_from rest ss (first ++ x) ≡ take n (last_wait first ss) ++ flow_from rest ss
+    (first' ++ x)
+flow_from-taken rest [] first first' n none is x = cut_before n first x ∙ ap (λ l. take n first ++ (l ++ x))
+    (sym is)
 flow_from-taken rest (s ∷ ss) first first' n none is x = absurd (omega arith)
 
 -- nothing comes out of a finished chain
-pub flow-finished : {P : Type 0} (rest : P → List ℕ → List ℕ) (c : ChainState P) → last_ended c.given c.stages ≡ true → last_wait c.first c.stages ≡ []
+pub flow-finished : {P : Type 0} (rest : P → List ℕ → List ℕ) (c : ChainState P)
+    → last_ended c.given c.stages ≡ true → last_wait c.first c.stages ≡ []
     → flow rest c [] ≡ []
 flow-finished rest c ended none =
     flow_from-finished rest c.stages c.given c.first (c.first ++ []) ended none (λ _. append-nil c.first)
 
 -- nothing comes out of a chain that was aborted, and it has nothing left to do
-flow_from-closed : {P : Type 0} (rest : P → List ℕ → List ℕ) (ss : List (Stage P)) → flow_from rest (map closed ss) [] ≡ []
+flow_from-closed : {P : Type 0} (rest : P → List ℕ → List ℕ) (ss : List (Stage P))
+    → flow_from rest (map closed ss) [] ≡ []
 flow_from-closed rest [] = refl
 flow_from-closed rest (s ∷ ss) = flow_from-closed rest ss
 
-passing-closed : {P : Type 0} (rest : P → List ℕ → List ℕ) (ss : List (Stage P)) → passing rest (map closed ss) [] ≡ 0
+passing-closed : {P : Type 0} (rest : P → List ℕ → List ℕ) (ss : List (Stage P))
+    → passing rest (map closed ss) [] ≡ 0
 passing-closed rest [] = refl
-passing-closed rest (s ∷ ss) = let behind : passing rest (map closed ss) [] ≡ 0 = passing-closed rest ss in omega (arith, behind)
+passing-closed rest (s ∷ ss) = let behind : passing rest (map closed ss) [] ≡ 0 = passing-closed rest ss in
+    omega (arith, behind)
 
-pub flow_aborted : {P : Type 0} (rest : P → List ℕ → List ℕ) (c d : ChainState P) → d ≡ aborted c → flow rest d [] ≡ []
+pub flow_aborted : {P : Type 0} (rest : P → List ℕ → List ℕ) (c d : ChainState P) → d ≡ aborted c
+    → flow rest d [] ≡ []
 flow_aborted rest c d is = ap (λ x. flow rest x []) is ∙ flow_from-closed rest c.stages
 
-pub left_aborted : {P : Type 0} (rest : P → List ℕ → List ℕ) (c d : ChainState P) → d ≡ aborted c → left_to_do rest d [] ≡ 0
+pub left_aborted : {P : Type 0} (rest : P → List ℕ → List ℕ) (c d : ChainState P) → d ≡ aborted c
+    → left_to_do rest d [] ≡ 0
 left_aborted rest c d is = ap (λ x. left_to_do rest x []) is ∙ passing-closed rest c.stages

@@ -1,4 +1,5 @@
--- What was lost is told as it is: the number of the next event never falls, so numbers that are used up stay so.
+-- What was lost is told as it is: the number of the next event never falls, so numbers that are used up stay
+-- so.
 use Rattle.std.proofs.Common.{◌≡◌, ◌≤◌, inl, inr, ℕ, List, [], ◌∷◌, Option, Some, None, arith, sym, ap, ◌∙◌}
 use Rattle.std.specs.Prelude.{⊤}
 use Rattle.ts_journal.specs.declared.entry.Entry.{Entry}
@@ -50,27 +51,37 @@ pub grows_next : (a b : Context) → Grows a b → a.log.state.next ≤ b.log.st
 grows_next a b grows = next_rises a.log.state b.log.state grows.log.own grows.log.by.state
 
 -- what a handler of a world is called with
-pub carried_to : {I K P : Type 0} (w : LinkWorld I K P) (now : Context) (role : ℕ) (event : Event) (c : IsCalled (λ s roles. IsCarried w s.pending s.next roles) now role event)
+pub carried_to : {I K P : Type 0} (w : LinkWorld I K P) (now : Context) (role : ℕ) (event : Event)
+    (c : IsCalled (λ s roles. IsCarried w s.pending s.next roles) now role event)
     → IsCarriedTo role event w c.before.pending c.before.next now
 carried_to w now role event c = record {
   carried = c.sound;
   handled = handled_by (λ s roles. IsCarried w s.pending s.next roles) now role event c;
-  next_rises = next_rises c.before now.log.state (Handled c.handled.number now.moment ∷ renewal c.handled c.before.next now.moment) c.now_is;
+  next_rises = next_rises c.before now.log.state
+      (Handled c.handled.number now.moment ∷ renewal c.handled c.before.next now.moment) c.now_is;
 }
 
--- Where it is told that the numbers are used up, they are: so it was before, or an event could not be set for this cause.
-pub told_then : {P Live : Type 0} (d e : DrivenChain P) (n : ℕ) (now : Context) → MayLose Live d e now → n ≤ now.log.state.next → (d.lost ≡ Some L.Spent → GREATEST ≤ n) → e.lost ≡ Some L.Spent → GREATEST ≤ now.log.state.next
-told_then d e n now (inl (same, lost)) rises told spent = let used : GREATEST ≤ n = told (sym lost ∙ spent) in omega (arith, used, rises)
-told_then {P} {Live} d e n now (inr (fault, stopped, lost, cause)) rises told spent = by_fault fault cause (sym lost ∙ spent)
+-- Where it is told that the numbers are used up, they are: so it was before, or an event could not be set for
+-- this cause.
+pub told_then : {P Live : Type 0} (d e : DrivenChain P) (n : ℕ) (now : Context) → MayLose Live d e now
+    → n ≤ now.log.state.next → (d.lost ≡ Some L.Spent → GREATEST ≤ n) → e.lost ≡ Some L.Spent
+    → GREATEST ≤ now.log.state.next
+told_then d e n now (inl (same, lost)) rises told spent = let used : GREATEST ≤ n = told (sym lost ∙ spent) in
+    omega (arith, used, rises)
+told_then {P} {Live} d e n now (inr (fault, stopped, lost, cause)) rises told spent = by_fault fault cause
+    (sym lost ∙ spent)
   where
-    by_fault : (f : SetFault) → IsCause Live f now → Some (loss_of f) ≡ Some L.Spent → GREATEST ≤ now.log.state.next
+    by_fault : (f : SetFault) → IsCause Live f now → Some (loss_of f) ≡ Some L.Spent
+        → GREATEST ≤ now.log.state.next
     by_fault F.Spent why is = why
     by_fault F.NoMemory why is = absurd (let wrong : Some L.NoMemory ≡ Some L.Spent = is in cc)
     by_fault F.Dead why is = absurd (let wrong : Some L.Dead ≡ Some L.Spent = is in cc)
 
 -- So it is where a world begins.
-pub told_begun : {I K P : Type 0} (w : LinkWorld I K P) (now : Context) → HasBegunAlong w now → w.driven.lost ≡ Some L.Spent → GREATEST ≤ now.log.state.next
-told_begun w now (inl (runs, none, live)) spent = absurd (let wrong : ◌≡◌ {A = Option Loss} None (Some L.Spent) = sym none ∙ spent in cc)
+pub told_begun : {I K P : Type 0} (w : LinkWorld I K P) (now : Context) → HasBegunAlong w now
+    → w.driven.lost ≡ Some L.Spent → GREATEST ≤ now.log.state.next
+told_begun w now (inl (runs, none, live)) spent = absurd
+    (let wrong : ◌≡◌ {A = Option Loss} None (Some L.Spent) = sym none ∙ spent in cc)
 told_begun w now (inr (loss, stopped, lost, cause)) spent = by_loss loss cause (sym lost ∙ spent)
   where
     by_loss : (l : Loss) → IsCauseOf ⊤ l now → Some l ≡ Some L.Spent → GREATEST ≤ now.log.state.next

@@ -17,7 +17,8 @@ use Rattle.ts_transform.specs.Cover.{IsRousing, MaySet, OnlyRouses, OnlySets}
 use Rattle.ts_transform.proofs.Setting.{only_none, only_trans, only_weaker, named_kept, stages_named}
 
 -- the stage at a place is roused since it must work and was not roused
-pub rousing_ready : {P : Type 0} (pause : P → ℕ) (c : ChainState P) (ts : List (Option StageContinuation)) (at after : ℕ) (a b : Context) → MustWork c at → after ≡ pause_at pause c.stages at
+pub rousing_ready : {P : Type 0} (pause : P → ℕ) (c : ChainState P) (ts : List (Option StageContinuation))
+    (at after : ℕ) (a b : Context) → MustWork c at → after ≡ pause_at pause c.stages at
     → RousesAt at after ts a b → OnlyRouses pause c ts a b
 rousing_ready pause c ts at after a b must is (rests, only) first named n p none some = record {
   at = at;
@@ -27,32 +28,41 @@ rousing_ready pause c ts at after a b must is (rests, only) first named n p none
 }
 
 -- no stage is roused
-pub none_roused : {P : Type 0} (pause : P → ℕ) (c : ChainState P) (ts : List (Option StageContinuation)) (a : Context) → OnlyRouses pause c ts a a
+pub none_roused : {P : Type 0} (pause : P → ℕ) (c : ChainState P) (ts : List (Option StageContinuation))
+    (a : Context) → OnlyRouses pause c ts a a
 none_roused pause c ts a first named = only_none (IsRousing pause first c ts a.moment a.roles) a
 
 -- whoever is not roused later was not roused before
-still_rousing : {P : Type 0} (pause : P → ℕ) (first : ℕ) (c : ChainState P) (ts us : List (Option StageContinuation)) (moment : ℕ) (roles : List Named) (p : Pending)
-    → ((j : ℕ) → IsRoused ts j → IsRoused us j) → IsRousing pause first c us moment roles p → IsRousing pause first c ts moment roles p
-still_rousing pause first c ts us moment roles p still h = record { at = h.at; rests = λ roused. h.rests (still h.at roused); must = h.must; of_stage = h.of_stage }
+still_rousing : {P : Type 0} (pause : P → ℕ) (first : ℕ) (c : ChainState P)
+    (ts us : List (Option StageContinuation)) (moment : ℕ) (roles : List Named) (p : Pending)
+    → ((j : ℕ) → IsRoused ts j → IsRoused us j) → IsRousing pause first c us moment roles p
+    → IsRousing pause first c ts moment roles p
+still_rousing pause first c ts us moment roles p still h = record
+    { at = h.at; rests = λ roused. h.rests (still h.at roused); must = h.must; of_stage = h.of_stage }
 
 -- one stage after another is roused
-pub rousing_trans : {P : Type 0} (pause : P → ℕ) (ch : ChainState P) (a b c : Context) (ts us : List (Option StageContinuation)) → Keeps a b → b.moment ≡ a.moment → KeepsStages a b ts us
+pub rousing_trans : {P : Type 0} (pause : P → ℕ) (ch : ChainState P) (a b c : Context)
+    (ts us : List (Option StageContinuation)) → Keeps a b → b.moment ≡ a.moment → KeepsStages a b ts us
     → OnlyRouses pause ch ts a b → Keeps b c → OnlyRouses pause ch us b c → OnlyRouses pause ch ts a c
 rousing_trans pause ch a b c ts us keeps moment stages one second two first named =
     only_trans (IsRousing pause first ch ts a.moment a.roles) a b c (one first named) second
-    (only_weaker (IsRousing pause first ch us a.moment a.roles) (IsRousing pause first ch ts a.moment a.roles) b c (λ p. still_rousing pause first ch ts us a.moment a.roles p stages.still)
+    (only_weaker (IsRousing pause first ch us a.moment a.roles) (IsRousing pause first ch ts a.moment a.roles)
+    b c (λ p. still_rousing pause first ch ts us a.moment a.roles p stages.still)
     (subst (λ m. SetsOnly (IsRousing pause first ch us m a.roles) b c) moment
     (subst (λ roles. SetsOnly (IsRousing pause first ch us b.moment roles) b c) keeps.roles
     (two first (named_kept first a b ts us keeps stages.same named)))))
 
 -- the stages round one were roused
-pub may_rouse : {P : Type 0} (pause : P → ℕ) (old new : ChainState P) (ts : List (Option StageContinuation)) (at : ℕ) (event : Event) (a b : Context)
+pub may_rouse : {P : Type 0} (pause : P → ℕ) (old new : ChainState P) (ts : List (Option StageContinuation))
+    (at : ℕ) (event : Event) (a b : Context)
     → OnlyRouses pause new ts a b → OnlySets pause old new ts at event a b
 may_rouse pause old new ts at event a b only first named =
-    only_weaker (IsRousing pause first new ts a.moment a.roles) (MaySet pause first old new ts at event a.moment a.roles) a b (λ p h. inl h) (only first named)
+    only_weaker (IsRousing pause first new ts a.moment a.roles)
+    (MaySet pause first old new ts at event a.moment a.roles) a b (λ p h. inl h) (only first named)
 
 -- a stage that answers that it has ended had not ended before, and has then
-goes_before : {P : Type 0} (up : Bool) (from : List ℕ) (ss : List (Stage P)) (at : ℕ) → AnswersAt up from ss at Ended → ended_at ss at ≡ false
+goes_before : {P : Type 0} (up : Bool) (from : List ℕ) (ss : List (Stage P)) (at : ℕ)
+    → AnswersAt up from ss at Ended → ended_at ss at ≡ false
 goes_before up from [] at h = absurd h
 goes_before {P} up from (s ∷ ss) zero h = by_end (has_ended s) h
   where
@@ -61,7 +71,8 @@ goes_before {P} up from (s ∷ ss) zero h = by_end (has_ended s) h
     by_end false work = refl
 goes_before up from (s ∷ ss) (suc at) h = goes_before (has_ended s) s.after ss at h
 
-ended_then : {P : Type 0} (rest : P → List ℕ → List ℕ) (from : List ℕ) (ss : List (Stage P)) (at : ℕ) (from' : List ℕ) (ss' : List (Stage P))
+ended_then : {P : Type 0} (rest : P → List ℕ → List ℕ) (from : List ℕ) (ss : List (Stage P)) (at : ℕ)
+    (from' : List ℕ) (ss' : List (Stage P))
     → StepsAt rest from ss at Ended from' ss' → ended_at ss' at ≡ true
 ended_then rest from [] at from' ss' h = absurd h
 ended_then rest from (s ∷ ss) at from' [] h = absurd h
@@ -69,38 +80,59 @@ ended_then rest from (s ∷ ss) zero from' (s' ∷ ss') h = ap is_none h.0.1
 ended_then rest from (s ∷ ss) (suc at) from' (s' ∷ ss') h = ended_then rest s.after ss at s'.after ss' h.2
 
 -- and the stage before it was told so
-pub may_tell : {P : Type 0} (pause : P → ℕ) (rest : P → List ℕ → List ℕ) (old new : ChainState P) (ts us : List (Option StageContinuation)) (at : ℕ) (event : Event) (pumped : Pumped) (a b c : Context) → pumped ≡ Ended
-    → AnswersAt old.given old.first old.stages at pumped → StepsAt rest old.first old.stages at pumped new.first new.stages → Keeps a b → KeepsStages a b ts us → OnlyRouses pause new ts a b
+pub may_tell : {P : Type 0} (pause : P → ℕ) (rest : P → List ℕ → List ℕ) (old new : ChainState P)
+    (ts us : List (Option StageContinuation)) (at : ℕ) (event : Event) (pumped : Pumped) (a b c : Context)
+    → pumped ≡ Ended
+    → AnswersAt old.given old.first old.stages at pumped
+    → StepsAt rest old.first old.stages at pumped new.first new.stages → Keeps a b → KeepsStages a b ts us
+    → OnlyRouses pause new ts a b
     → Keeps b c → OnlyTellsBefore WriteComplete at us b c → OnlySets pause old new ts at event a c
-may_tell pause rest old new ts us at event pumped a b c is answers steps keeps stages rousing second telling first named =
-    only_trans (MaySet pause first old new ts at event a.moment a.roles) a b c (may_rouse pause old new ts at event a b rousing first named) second
-    (only_weaker (IsTellingBefore WriteComplete first at a.roles) (MaySet pause first old new ts at event a.moment a.roles) b c (λ p h. inr (inl (h, goes, ended)))
-    (subst (λ roles. SetsOnly (IsTellingBefore WriteComplete first at roles) b c) keeps.roles (telling first (named_kept first a b ts us keeps stages.same named))))
+may_tell pause rest old new ts us at event pumped a b c is answers steps keeps stages rousing second telling
+    first named =
+    only_trans (MaySet pause first old new ts at event a.moment a.roles) a b c
+    (may_rouse pause old new ts at event a b rousing first named) second
+    (only_weaker (IsTellingBefore WriteComplete first at a.roles)
+    (MaySet pause first old new ts at event a.moment a.roles) b c (λ p h. inr (inl (h, goes, ended)))
+    (subst (λ roles. SetsOnly (IsTellingBefore WriteComplete first at roles) b c) keeps.roles
+    (telling first (named_kept first a b ts us keeps stages.same named))))
   where
     goes : ended_at old.stages at ≡ false
-    goes = goes_before old.given old.first old.stages at (subst (AnswersAt old.given old.first old.stages at) is answers)
+    goes = goes_before old.given old.first old.stages at
+        (subst (AnswersAt old.given old.first old.stages at) is answers)
 
     ended : ended_at new.stages at ≡ true
-    ended = ended_then rest old.first old.stages at new.first new.stages (subst (λ r. StepsAt rest old.first old.stages at r new.first new.stages) is steps)
+    ended = ended_then rest old.first old.stages at new.first new.stages
+        (subst (λ r. StepsAt rest old.first old.stages at r new.first new.stages) is steps)
 
 -- or an error was passed on to it
-pub may_pass : {P : Type 0} (pause : P → ℕ) (old new : ChainState P) (ts : List (Option StageContinuation)) (at : ℕ) (event : Event) (a b : Context) → event ≡ Error
+pub may_pass : {P : Type 0} (pause : P → ℕ) (old new : ChainState P) (ts : List (Option StageContinuation))
+    (at : ℕ) (event : Event) (a b : Context) → event ≡ Error
     → OnlyTellsBefore Error at ts a b → OnlySets pause old new ts at event a b
 may_pass pause old new ts at event a b is only first named =
-    only_weaker (IsTellingBefore Error first at a.roles) (MaySet pause first old new ts at event a.moment a.roles) a b (λ p h. inr (inr (h, is))) (only first named)
+    only_weaker (IsTellingBefore Error first at a.roles)
+    (MaySet pause first old new ts at event a.moment a.roles) a b (λ p h. inr (inr (h, is)))
+    (only first named)
 
 -- nothing is set where a stage that had ended is destroyed, or rests
-pub may_none : {P : Type 0} (pause : P → ℕ) (old new : ChainState P) (ts : List (Option StageContinuation)) (at : ℕ) (event : Event) (a b : Context)
+pub may_none : {P : Type 0} (pause : P → ℕ) (old new : ChainState P) (ts : List (Option StageContinuation))
+    (at : ℕ) (event : Event) (a b : Context)
     → SetsOnly (λ p. ⊥) a b → OnlySets pause old new ts at event a b
-may_none pause old new ts at event a b only first named = only_weaker (λ p. ⊥) (MaySet pause first old new ts at event a.moment a.roles) a b (λ p no. absurd no) only
+may_none pause old new ts at event a b only first named = only_weaker (λ p. ⊥)
+    (MaySet pause first old new ts at event a.moment a.roles) a b (λ p no. absurd no) only
 
-pub may_set_none : {P : Type 0} (pause : P → ℕ) (old new : ChainState P) (ts : List (Option StageContinuation)) (at : ℕ) (event : Event) (a : Context) → OnlySets pause old new ts at event a a
+pub may_set_none : {P : Type 0} (pause : P → ℕ) (old new : ChainState P)
+    (ts : List (Option StageContinuation)) (at : ℕ) (event : Event) (a : Context)
+    → OnlySets pause old new ts at event a a
 may_set_none pause old new ts at event a = may_none pause old new ts at event a a (only_none (λ p. ⊥) a)
 
 -- what is set when the stages begin, where none was roused
-pub begin_only : {P : Type 0} (pause : P → ℕ) (first : ℕ) (ch : ChainState P) (ts : List (Option StageContinuation)) (a b c : Context) → b.log.state.pending ≡ a.log.state.pending → b.moment ≡ a.moment → Keeps b c
-    → AreOfStages b.log.state.pending b.roles first ts → OnlyRouses pause ch ts b c → SetsOnly (IsRousing pause first ch [] a.moment c.roles) a c
+pub begin_only : {P : Type 0} (pause : P → ℕ) (first : ℕ) (ch : ChainState P)
+    (ts : List (Option StageContinuation)) (a b c : Context) → b.log.state.pending ≡ a.log.state.pending
+    → b.moment ≡ a.moment → Keeps b c
+    → AreOfStages b.log.state.pending b.roles first ts → OnlyRouses pause ch ts b c
+    → SetsOnly (IsRousing pause first ch [] a.moment c.roles) a c
 begin_only pause first ch ts a b c same moment keeps of_stages only n p none some =
-    subst (λ roles. IsRousing pause first ch [] a.moment roles p) (sym keeps.roles) (subst (λ m. IsRousing pause first ch [] m b.roles p) moment
+    subst (λ roles. IsRousing pause first ch [] a.moment roles p) (sym keeps.roles)
+    (subst (λ m. IsRousing pause first ch [] m b.roles p) moment
     (still_rousing pause first ch [] ts b.moment b.roles p (λ j roused. absurd roused)
     (only first (stages_named first b ts of_stages) n p (ap (pending_at n) same ∙ none) some)))

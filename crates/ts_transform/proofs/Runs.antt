@@ -22,7 +22,8 @@ use Rattle.ts_transform.specs.declared.link_drive.DriveFault.{DriveFault}
 use Rattle.ts_transform.specs.declared.link_drive.DriveFault.TheVariants as D
 use Rattle.ts_transform.proofs.Carrying.{carries_one, carries_refl, carries_trans}
 
-pub to_refl : {I K P : Type 0} (rest : P → List ℕ → List ℕ) (it ot : Bool) (input : I → Look) (output : K → Look) (v w : LinkWorld I K P) → w ≡ v → CarriesTo rest it ot input output v w
+pub to_refl : {I K P : Type 0} (rest : P → List ℕ → List ℕ) (it ot : Bool) (input : I → Look)
+    (output : K → Look) (v w : LinkWorld I K P) → w ≡ v → CarriesTo rest it ot input output v w
 to_refl rest it ot input output v w same =
     subst (λ x. CarriesTo rest it ot input output v x) (sym same) (record {
       on = carries_refl rest it ot (input v.input) (output v.output) v.driven.chain v.aborted;
@@ -38,73 +39,106 @@ rose_then a b c rose more = omega (arith, rose, more)
 then_rose : (a b c : ℕ) → a ≤ b → Rose b c → Rose a c
 then_rose a b c more rose = omega (arith, rose, more)
 
-pub to_trans : {I K P : Type 0} (rest : P → List ℕ → List ℕ) (it ot : Bool) (input : I → Look) (output : K → Look) (u v w : LinkWorld I K P) → CarriesTo rest it ot input output u v → CarriesTo rest it ot input output v w
+pub to_trans : {I K P : Type 0} (rest : P → List ℕ → List ℕ) (it ot : Bool) (input : I → Look)
+    (output : K → Look) (u v w : LinkWorld I K P) → CarriesTo rest it ot input output u v
+    → CarriesTo rest it ot input output v w
     → CarriesTo rest it ot input output u w
 to_trans rest it ot input output u v w h k = record {
-  on = carries_trans rest it ot (input u.input) (input v.input) (input w.input) (output u.output) (output v.output) (output w.output) u.driven.chain v.driven.chain w.driven.chain u.aborted v.aborted w.aborted h.on k.on;
+  on = carries_trans rest it ot (input u.input) (input v.input) (input w.input) (output u.output)
+      (output v.output) (output w.output) u.driven.chain v.driven.chain w.driven.chain u.aborted v.aborted
+      w.aborted h.on k.on;
   aborts = λ goes stops. by_middle v.aborted refl goes stops;
   rests = λ stopped. k.rests (ap (λ x. x.driven.running) (h.rests stopped) ∙ stopped) ∙ h.rests stopped;
   falls = λ runs down. by_run v.driven.running refl runs down;
 }
   where
-    by_run : (b : Bool) → v.driven.running ≡ b → u.driven.running ≡ true → w.driven.running ≡ false → (fault : SetFault) × (w.driven.lost ≡ Some (loss_of fault))
+    by_run : (b : Bool) → v.driven.running ≡ b → u.driven.running ≡ true → w.driven.running ≡ false
+        → (fault : SetFault) × (w.driven.lost ≡ Some (loss_of fault))
     by_run true is runs down = k.falls is down
-    by_run false is runs down = let told = h.falls runs is in (told.0, ap (λ x. x.driven.lost) (k.rests is) ∙ told.1)
+    by_run false is runs down = let told = h.falls runs is in
+        (told.0, ap (λ x. x.driven.lost) (k.rests is) ∙ told.1)
 
     Why : Type 0
-    Why = LacksMemory w ⊎ Rose (input u.input).faults (input w.input).faults ⊎ Rose (output u.output).faults (output w.output).faults
+    Why = LacksMemory w ⊎ Rose (input u.input).faults (input w.input).faults ⊎ Rose (output u.output).faults
+        (output w.output).faults
 
-    first : LacksMemory v ⊎ Rose (input u.input).faults (input v.input).faults ⊎ Rose (output u.output).faults (output v.output).faults → Why
+    first : LacksMemory v ⊎ Rose (input u.input).faults (input v.input).faults ⊎ Rose (output u.output).faults
+        (output v.output).faults → Why
     first (inl lacks) = inl (subst LacksMemory (sym (k.rests lacks.0)) lacks)
-    first (inr (inl rose)) = inr (inl (rose_then (input u.input).faults (input v.input).faults (input w.input).faults rose k.on.counts.0))
-    first (inr (inr rose)) = inr (inr (rose_then (output u.output).faults (output v.output).faults (output w.output).faults rose k.on.counts.1))
+    first (inr (inl rose)) = inr (inl (rose_then (input u.input).faults (input v.input).faults
+        (input w.input).faults rose k.on.counts.0))
+    first (inr (inr rose)) = inr (inr (rose_then (output u.output).faults (output v.output).faults
+        (output w.output).faults rose k.on.counts.1))
 
-    second : LacksMemory w ⊎ Rose (input v.input).faults (input w.input).faults ⊎ Rose (output v.output).faults (output w.output).faults → Why
+    second : LacksMemory w ⊎ Rose (input v.input).faults (input w.input).faults ⊎ Rose
+        (output v.output).faults (output w.output).faults → Why
     second (inl lacks) = inl lacks
-    second (inr (inl rose)) = inr (inl (then_rose (input u.input).faults (input v.input).faults (input w.input).faults h.on.counts.0 rose))
-    second (inr (inr rose)) = inr (inr (then_rose (output u.output).faults (output v.output).faults (output w.output).faults h.on.counts.1 rose))
+    second (inr (inl rose)) = inr (inl (then_rose (input u.input).faults (input v.input).faults
+        (input w.input).faults h.on.counts.0 rose))
+    second (inr (inr rose)) = inr (inr (then_rose (output u.output).faults (output v.output).faults
+        (output w.output).faults h.on.counts.1 rose))
 
     by_middle : (b : Bool) → v.aborted ≡ b → u.aborted ≡ false → w.aborted ≡ true → Why
     by_middle true is goes stops = first (h.aborts goes is)
     by_middle false is goes stops = second (k.aborts is stops)
 
-to_one : {I K P : Type 0} (rest : P → List ℕ → List ℕ) (it ot : Bool) (input : I → Look) (output : K → Look) (v w : LinkWorld I K P) → HasStepped rest it ot input output v w → CarriesTo rest it ot input output v w
+to_one : {I K P : Type 0} (rest : P → List ℕ → List ℕ) (it ot : Bool) (input : I → Look) (output : K → Look)
+    (v w : LinkWorld I K P) → HasStepped rest it ot input output v w → CarriesTo rest it ot input output v w
 to_one rest it ot input output v w h = record {
-  on = carries_one rest it ot (input v.input) (input w.input) (output v.output) (output w.output) v.driven.chain w.driven.chain v.aborted w.aborted (LacksMemory w) h.steps;
+  on = carries_one rest it ot (input v.input) (input w.input) (output v.output) (output w.output)
+      v.driven.chain w.driven.chain v.aborted w.aborted (LacksMemory w) h.steps;
   aborts = h.steps.aborts;
   rests = h.rests;
   falls = h.falls;
 }
 
 -- the handlers that ran one after the other
-runs_carry : {I K P : Type 0} (rest : P → List ℕ → List ℕ) (it ot : Bool) (input : I → Look) (output : K → Look) (v w : LinkWorld I K P) (s : State) (moment number : ℕ) (queue : List ℕ) (k : ℕ) (es : List Entry) (left : List ℕ)
-    → RunsFrom (λ x y asked. HasStepped rest it ot input output x y) v w s moment number queue k es left → CarriesTo rest it ot input output v w
+runs_carry : {I K P : Type 0} (rest : P → List ℕ → List ℕ) (it ot : Bool) (input : I → Look)
+    (output : K → Look) (v w : LinkWorld I K P) (s : State) (moment number : ℕ) (queue : List ℕ) (k : ℕ)
+    (es : List Entry) (left : List ℕ)
+    → RunsFrom (λ x y asked. HasStepped rest it ot input output x y) v w s moment number queue k es left
+    → CarriesTo rest it ot input output v w
 runs_carry rest it ot input output v w s moment number queue zero es left h = absurd h
-runs_carry rest it ot input output v w s moment number queue (suc zero) es left (asked, run, step, is) = to_one rest it ot input output v w step
-runs_carry rest it ot input output v w s moment number queue (suc (suc k)) es left (asked, run, others, is_run, is, mid, step, next, behind, found, runs) =
-    to_trans rest it ot input output v mid w (to_one rest it ot input output v mid step) (runs_carry rest it ot input output mid w _ moment next behind (suc k) others left runs)
+runs_carry rest it ot input output v w s moment number queue (suc zero) es left (asked, run, step, is) =
+    to_one rest it ot input output v w step
+runs_carry rest it ot input output v w s moment number queue (suc (suc k)) es left
+    (asked, run, others, is_run, is, mid, step, next, behind, found, runs) =
+    to_trans rest it ot input output v mid w (to_one rest it ot input output v mid step)
+    (runs_carry rest it ot input output mid w _ moment next behind (suc k) others left runs)
 
 -- so do those of a call of the group
-pub handle_carries : {I K P Q R T U : Type 0} (rest : P → List ℕ → List ℕ) (it ot : Bool) (input : I → Look) (output : K → Look) (old new : Group (LinkWorld I K P) Q R T U) (number moment : ℕ) (handling : Handling Q)
-    → HandleGives (λ x y asked. HasStepped rest it ot input output x y) old new number moment handling → CarriesTo rest it ot input output old.world new.world
-handle_carries rest it ot input output old new number moment (H.Handled events) gives = runs_carry rest it ot input output old.world new.world _ moment number [] events gives.0.es _ gives.0.runs
-handle_carries rest it ot input output old new number moment (H.Asks events group question) gives = runs_carry rest it ot input output old.world new.world _ moment number [] events gives.es _ gives.runs
-handle_carries rest it ot input output old new number moment H.NotPending gives = to_refl rest it ot input output old.world new.world gives.1.world
-handle_carries rest it ot input output old new number moment (H.NotDue due) gives = to_refl rest it ot input output old.world new.world gives.4.world
+pub handle_carries : {I K P Q R T U : Type 0} (rest : P → List ℕ → List ℕ) (it ot : Bool) (input : I → Look)
+    (output : K → Look) (old new : Group (LinkWorld I K P) Q R T U) (number moment : ℕ)
+    (handling : Handling Q)
+    → HandleGives (λ x y asked. HasStepped rest it ot input output x y) old new number moment handling
+    → CarriesTo rest it ot input output old.world new.world
+handle_carries rest it ot input output old new number moment (H.Handled events) gives = runs_carry rest it ot
+    input output old.world new.world _ moment number [] events gives.0.es _ gives.0.runs
+handle_carries rest it ot input output old new number moment (H.Asks events group question) gives = runs_carry
+    rest it ot input output old.world new.world _ moment number [] events gives.es _ gives.runs
+handle_carries rest it ot input output old new number moment H.NotPending gives = to_refl rest it ot input
+    output old.world new.world gives.1.world
+handle_carries rest it ot input output old new number moment (H.NotDue due) gives = to_refl rest it ot input
+    output old.world new.world gives.4.world
 
 -- a world that asks nobody is sound after each call of the group
-pub sound_then : {Q : Type 0} {A : Type 0} (handling : Handling Q) (Asking : ℕ → Q → Type 0) → ((group : ℕ) (question : Q) → Asking group question → ⊥) → MatchHandling handling A Asking → A
+pub sound_then : {Q : Type 0} {A : Type 0} (handling : Handling Q) (Asking : ℕ → Q → Type 0)
+    → ((group : ℕ) (question : Q) → Asking group question → ⊥) → MatchHandling handling A Asking → A
 sound_then (H.Handled events) Asking never h = h
 sound_then (H.Asks events group question) Asking never h = absurd (never group question h)
 sound_then H.NotPending Asking never h = h
 sound_then (H.NotDue due) Asking never h = h
 
 -- So several steps that nothing ended have aborted the chain only where a link failed.
-pub not_aborted : {I K P : Type 0} (rest : P → List ℕ → List ℕ) (it ot : Bool) (input : I → Look) (output : K → Look) (v w : LinkWorld I K P) → CarriesTo rest it ot input output v w → w.driven.running ≡ true → v.aborted ≡ false
-    → (Rose (input v.input).faults (input w.input).faults → ⊥) → (Rose (output v.output).faults (output w.output).faults → ⊥) → w.aborted ≡ false
+pub not_aborted : {I K P : Type 0} (rest : P → List ℕ → List ℕ) (it ot : Bool) (input : I → Look)
+    (output : K → Look) (v w : LinkWorld I K P) → CarriesTo rest it ot input output v w
+    → w.driven.running ≡ true → v.aborted ≡ false
+    → (Rose (input v.input).faults (input w.input).faults → ⊥)
+    → (Rose (output v.output).faults (output w.output).faults → ⊥) → w.aborted ≡ false
 not_aborted rest it ot input output v w h runs goes reads writes = by_now w.aborted refl
   where
-    never : LacksMemory w ⊎ Rose (input v.input).faults (input w.input).faults ⊎ Rose (output v.output).faults (output w.output).faults → ⊥
+    never : LacksMemory w ⊎ Rose (input v.input).faults (input w.input).faults ⊎ Rose (output v.output).faults
+        (output w.output).faults → ⊥
     never (inl lacks) = let wrong : true ≡ false = sym runs ∙ lacks.0 in cc
     never (inr (inl rose)) = reads rose
     never (inr (inr rose)) = writes rose
@@ -114,37 +148,55 @@ not_aborted rest it ot input output v w h runs goes reads writes = by_now w.abor
     by_now true is = absurd (never (h.aborts goes is))
 
 -- the event that is due first is pending, and due where its moment has come
-pub due_there : (s t : State) (due number : ℕ) → IsDueFirst s due number → t.pending ≡ s.pending → pending_at number t.pending ≡ None → ⊥
+pub due_there : (s t : State) (due number : ℕ) → IsDueFirst s due number → t.pending ≡ s.pending
+    → pending_at number t.pending ≡ None → ⊥
 due_there s t due number (p, first, is_due, is_number) same none =
-    let wrong : None ≡ Some p = sym none ∙ ap (pending_at number) same ∙ ap (λ n. pending_at n s.pending) (sym is_number) ∙ first.0 in cc
+    let wrong : None ≡ Some p = sym none ∙ ap (pending_at number) same ∙ ap (λ n. pending_at n s.pending)
+    (sym is_number) ∙ first.0 in cc
 
-pub due_now : (s t : State) (due number moment later : ℕ) (q : Pending) → IsDueFirst s due number → t.pending ≡ s.pending → due ≤ moment → moment < later → pending_at number t.pending ≡ Some q → q.due ≡ later → ⊥
+pub due_now : (s t : State) (due number moment later : ℕ) (q : Pending) → IsDueFirst s due number
+    → t.pending ≡ s.pending → due ≤ moment → moment < later → pending_at number t.pending ≡ Some q
+    → q.due ≡ later → ⊥
 due_now s t due number moment later q (p, first, is_due, is_number) same now after there is_later =
-    let both : Some q ≡ Some p = sym there ∙ ap (pending_at number) same ∙ ap (λ n. pending_at n s.pending) (sym is_number) ∙ first.0 in
+    let both : Some q ≡ Some p = sym there ∙ ap (pending_at number) same ∙ ap (λ n. pending_at n s.pending)
+    (sym is_number) ∙ first.0 in
     let one : q ≡ p = cc in
     let at : q.due ≡ due = ap (λ x. x.due) one ∙ is_due in
     omega (arith, now, after, at, is_later)
 
 -- a turn was begun and given back, and nothing was entered between
-pub handled_nothing : (a m h b : Context) (turn seat moment : ℕ) → BeginsTurn a m turn seat moment → IsSame m h → GivesTurn h b → a.log.state.turns < turn → HandledNothing a b
+pub handled_nothing : (a m h b : Context) (turn seat moment : ℕ) → BeginsTurn a m turn seat moment
+    → IsSame m h → GivesTurn h b → a.log.state.turns < turn → HandledNothing a b
 handled_nothing a m h b turn seat moment begins same gives later =
     let kept : h.log.state.turns ≡ turn = ap (λ s. s.turns) same.log.state ∙ ap (λ s. s.turns) begins.state in
     let given : b.log.state.turns ≡ turn = ap (λ s. s.turns) gives.state ∙ kept in
     record {
       earlier = a.log.entries;
       seat = seat;
-      entries = gives.by.entries ∙ ap (λ es. es ++ Gave h.log.state.turns ∷ []) (same.log.entries ∙ begins.by.entries) ∙ append_assoc a.log.entries (Took turn seat ∷ []) (Gave h.log.state.turns ∷ [])
-          ∙ ap (λ n. a.log.entries ++ Took turn seat ∷ Gave n ∷ []) kept ∙ ap (λ n. a.log.entries ++ Took n seat ∷ Gave n ∷ []) (sym given);
+      entries = gives.by.entries ∙ ap (λ es. es ++ Gave h.log.state.turns ∷ [])
+          (same.log.entries ∙ begins.by.entries) ∙ append_assoc a.log.entries (Took turn seat ∷ [])
+          (Gave h.log.state.turns ∷ [])
+          ∙ ap (λ n. a.log.entries ++ Took turn seat ∷ Gave n ∷ []) kept ∙ ap
+          (λ n. a.log.entries ++ Took n seat ∷ Gave n ∷ []) (sym given);
       made = omega (arith, later, given);
     }
 
 -- a later turn could not be made
-drive_cause_later : (fault : DriveFault) (a m b : Context) → a.log.state.turns ≤ m.log.state.turns → IsDriveCause fault m b → IsDriveCause fault a b
+drive_cause_later : (fault : DriveFault) (a m b : Context) → a.log.state.turns ≤ m.log.state.turns
+    → IsDriveCause fault m b → IsDriveCause fault a b
 drive_cause_later D.Spent a m b later cause = cause
 drive_cause_later D.NoMemory a m b later cause = cause
-drive_cause_later D.NoMemoryInTurn a m b later cause = record { earlier = cause.earlier; seat = cause.seat; entries = cause.entries; made = omega (arith, later, cause.made) }
+drive_cause_later D.NoMemoryInTurn a m b later cause = record {
+  earlier = cause.earlier;
+  seat = cause.seat;
+  entries = cause.entries;
+  made = omega
+      (arith, later, cause.made);
+}
 
-pub drive_cause_then : {T : Type 0} (r : Result T DriveFault) (fault : DriveFault) (a m b : Context) → IsErrAnd r (λ e. e ≡ fault) → a.log.state.turns ≤ m.log.state.turns → IsDriveCause fault m b
+pub drive_cause_then : {T : Type 0} (r : Result T DriveFault) (fault : DriveFault) (a m b : Context)
+    → IsErrAnd r (λ e. e ≡ fault) → a.log.state.turns ≤ m.log.state.turns → IsDriveCause fault m b
     → IfErr r (λ f. IsDriveCause f a b)
 drive_cause_then (Ok x) fault a m b is later cause = tt
-drive_cause_then (Err e) fault a m b is later cause = subst (λ f. IsDriveCause f a b) (sym is) (drive_cause_later fault a m b later cause)
+drive_cause_then (Err e) fault a m b is later cause = subst (λ f. IsDriveCause f a b) (sym is)
+    (drive_cause_later fault a m b later cause)

@@ -21,15 +21,16 @@ use Rattle.ts_transform.specs.declared.continuation.StageContinuation.{StageCont
 use Rattle.ts_transform.specs.declared.link_world.LinkWorld.{LinkWorld}
 use Rattle.ts_transform.specs.declared.driven.DrivenChain.{DrivenChain}
 use Rattle.ts_vconn.specs.declared.moves.TheConstants.{MOST_PULLED}
-use Rattle.ts_transform.specs.declared.link_world.TheConstants.{FIRST, READER, RETRY, WRITER}
+use Rattle.ts_transform.specs.declared.link_world.TheConstants.{FIRST, READER, WRITER}
+use Rattle.ts_link.specs.declared.clock.TheConstants.{RETRY_AFTER}
 use Rattle.ts_transform.specs.declared.link_drive.DriveFault.{DriveFault}
 use Rattle.ts_transform.specs.declared.link_drive.DriveFault.TheVariants as D
 use Rattle.ts_transform.specs.declared.loss.Loss.{Loss}
 use Rattle.ts_transform.specs.declared.loss.Loss.TheVariants.{NoMemory, Spent}
 use Rattle.ts_transform.specs.Loss.{IsCauseOf, loss_of}
 
--- The input gave some bytes and the output took some, and what the chain still gives is that much further on: for
--- whatever still comes before its end was given, and for nothing from then on.
+-- The input gave some bytes and the output took some, and what the chain still gives is that much further on:
+-- for whatever still comes before its end was given, and for nothing from then on.
 pub record Carries {P : Type 0} (rest : P → List ℕ → List ℕ) (in_tells out_tells : Bool) (i j o p : Look)
     (c d : ChainState P) : Type 0 where
   pub gave : List ℕ
@@ -40,9 +41,9 @@ pub record Carries {P : Type 0} (rest : P → List ℕ → List ℕ) (in_tells o
   -- once its end was given nothing comes, and it stays given
   pub closed : c.given ≡ true → (gave ≡ []) × (d.given ≡ true)
 
--- What a step moves, unless the chain was aborted: that is only for a fault of a link or for want of memory. Its end is
--- given only where the input has ended, which is read no more then. Before the first stage fewer bytes wait than fill it
--- up and one read more brings.
+-- What a step moves, unless the chain was aborted: that is only for a fault of a link or for want of memory.
+-- Its end is given only where the input has ended, which is read no more then. Before the first stage fewer
+-- bytes wait than fill it up and one read more brings.
 pub record MovesOn {P : Type 0} (rest : P → List ℕ → List ℕ) (in_tells out_tells : Bool) (i j o p : Look)
     (c d : ChainState P) (was now : Bool) (lacks : Type 0) : Type 0 where
   pub carries : now ≡ false → Carries rest in_tells out_tells i j o p c d
@@ -86,7 +87,8 @@ abbrev pub FallsTold : {I K P : Type 0} → LinkWorld I K P → LinkWorld I K P 
 FallsTold v w = v.driven.running ≡ true → w.driven.running ≡ false
     → (fault : SetFault) × (w.driven.lost ≡ Some (loss_of fault))
 
--- So does a handler; where something was lost before, nothing is done, and where memory lacks the chain is aborted.
+-- So does a handler; where something was lost before, nothing is done, and where memory lacks the chain is
+-- aborted.
 pub record HasStepped {I K P : Type 0} (rest : P → List ℕ → List ℕ) (in_tells out_tells : Bool)
     (input : I → Look) (output : K → Look) (v w : LinkWorld I K P) : Type 0 where
   pub steps : StepsAlong rest in_tells out_tells input output v w
@@ -94,8 +96,8 @@ pub record HasStepped {I K P : Type 0} (rest : P → List ℕ → List ℕ) (in_
   pub falls : FallsTold v w
   pub stops : v.driven.running ≡ true → LacksMemory w → w.aborted ≡ true
 
--- The stages have the roles from the first on, and the writer and the reader have theirs: each that is roused has an
--- event, and so has each stage that must work.
+-- The stages have the roles from the first on, and the writer and the reader have theirs: each that is roused
+-- has an event, and so has each stage that must work.
 pub record IsJoined {P : Type 0} (c : ChainState P) (ts : List (Option StageContinuation))
     (writer reader : Option StageContinuation) (pending : List Pending) (roles : List Named) : Type 0 where
   pub stages : IsDriven FIRST c ts pending roles
@@ -125,9 +127,9 @@ pub record AreEndsRoused {P : Type 0} (c : ChainState P)
   pub writes : MustWrite c → IsRousedIf writer
   pub reads : MustRead c → IsRousedIf reader
 
--- What holds of a chain between two links: once it was started, while no event was lost, each duty has an event of a
--- continuation that does it. Before the first stage fewer bytes wait than fill it up and one read more brings. Where it
--- tells that the numbers of events are used up, they are, and the next is the last.
+-- What holds of a chain between two links: once it was started, while no event was lost, each duty has an
+-- event of a continuation that does it. Before the first stage fewer bytes wait than fill it up and one read
+-- more brings. Where it tells that the numbers of events are used up, they are, and the next is the last.
 pub record IsCarried {I K P : Type 0} (w : LinkWorld I K P) (pending : List Pending) (next : ℕ)
     (roles : List Named) : Type 0 where
   pub joined : IsJoinedWhile w pending roles
@@ -139,7 +141,8 @@ pub record IsCarried {I K P : Type 0} (w : LinkWorld I K P) (pending : List Pend
   pub told : w.driven.lost ≡ Some Spent → GREATEST ≤ next
 
 -- it holds before an event of a role is handled, with what is pending then, and the number of the next event
-pub record IsCarriedTo {I K P : Type 0} (role : ℕ) (event : Event) (w : LinkWorld I K P) (before : List Pending)
+pub record IsCarriedTo {I K P : Type 0} (role : ℕ) (event : Event) (w : LinkWorld I K P)
+    (before : List Pending)
     (next : ℕ) (now : Context) : Type 0 where
   pub carried : IsCarried w before next now.roles
   pub handled : IsHandled before now.log.state.pending now.roles role event
@@ -148,7 +151,8 @@ pub record IsCarriedTo {I K P : Type 0} (role : ℕ) (event : Event) (w : LinkWo
 -- it holds again where an event of a role is handled
 abbrev pub HandlesCarried : {I K P : Type 0} → ℕ → Event → LinkWorld I K P → LinkWorld I K P → Context
     → Context → Type 0
-HandlesCarried role event v w a b = (before : List Pending) (next : ℕ) → IsCarriedTo role event v before next a
+HandlesCarried role event v w a b = (before : List Pending) (next : ℕ)
+    → IsCarriedTo role event v before next a
     → IsCarried w b.log.state.pending b.log.state.next b.roles
 
 -- what holds of its group
@@ -161,9 +165,11 @@ pub record IsOfNobody {I K P : Type 0} (role : ℕ) (w : LinkWorld I K P) : Type
   pub no_reader : role ≢ READER
   pub no_stage : IsOfNoStage FIRST role w.driven
 
--- an event of a role is that of nobody, where both ends are roused that must work; or something was lost before
+-- an event of a role is that of nobody, where both ends are roused that must work; or something was lost
+-- before
 abbrev pub HasNoDuty : {I K P : Type 0} → ℕ → LinkWorld I K P → Type 0
-HasNoDuty role w = (w.driven.running ≡ false) ⊎ (IsOfNobody role w × AreEndsRoused w.driven.chain w.writer w.reader)
+HasNoDuty role w = (w.driven.running ≡ false) ⊎
+    (IsOfNobody role w × AreEndsRoused w.driven.chain w.writer w.reader)
 
 -- the continuations of stages and of both ends are live
 pub record AreLiveAlong {P : Type 0} (d : DrivenChain P) (t u : Option StageContinuation)
@@ -176,8 +182,8 @@ pub record AreLiveAlong {P : Type 0} (d : DrivenChain P) (t u : Option StageCont
 abbrev pub AreLinked : {I K P : Type 0} → LinkWorld I K P → Context → Type 0
 AreLinked w now = AreLiveAlong w.driven w.writer w.reader now
 
--- it runs from now on, and the continuations of its stages and of both ends are live; or it is lost for a cause, but for
--- no dead continuation, since each was just made
+-- it runs from now on, and the continuations of its stages and of both ends are live; or it is lost for a
+-- cause, but for no dead continuation, since each was just made
 abbrev pub HasBegunAlong : {I K P : Type 0} → LinkWorld I K P → Context → Type 0
 HasBegunAlong w now =
     ((w.driven.running ≡ true) × (w.driven.lost ≡ None) × AreLinked w now)
@@ -200,7 +206,8 @@ pub record KeepsCourse {I K P : Type 0} (v w : LinkWorld I K P) (a b : Context) 
   pub live : AreLinked v a → AreLinked w b
   pub started : w.writer ≡ None → v.writer ≡ None
 
--- An end is roused after so many milliseconds, if it must work and was not roused before, and else nothing is done.
+-- An end is roused after so many milliseconds, if it must work and was not roused before, and else nothing is
+-- done.
 pub record RousesEnd {I K P : Type 0} (slot : Option StageContinuation) (must : Bool) (role after : ℕ)
     (v w : LinkWorld I K P) (a b : Context) : Type 0 where
   pub only : IsNamedIf a.roles role slot → SetsOnly (IsRousingOf role after a.moment a.roles) a b
@@ -215,10 +222,10 @@ OutputWaits output v w = (output w.output).waits ≢ (output v.output).waits
 
 -- at most one event is set, which rouses the continuation of a role after 10 milliseconds
 abbrev pub RetriesOnce : ℕ → Context → Context → Type 0
-RetriesOnce role a b = SetsOnly (IsRousingOf role RETRY a.moment a.roles) a b × SetsFew 1 a b
+RetriesOnce role a b = SetsOnly (IsRousingOf role RETRY_AFTER a.moment a.roles) a b × SetsFew 1 a b
 
--- So the chain is as it was; of its ends only the one that found its link not ready changed; that is roused after 10
--- milliseconds, unless this was lost, and nothing else is set.
+-- So the chain is as it was; of its ends only the one that found its link not ready changed; that is roused
+-- after 10 milliseconds, unless this was lost, and nothing else is set.
 pub record RetriesRead {I K P : Type 0} (v w : LinkWorld I K P) (a b : Context) : Type 0 where
   pub chain : MustWrite w.driven.chain → MustWrite v.driven.chain
   pub writer : w.writer ≡ v.writer
@@ -231,7 +238,8 @@ pub record RetriesWrite {I K P : Type 0} (v w : LinkWorld I K P) (a b : Context)
   pub roused : w.driven.running ≡ true → IsRousedIf w.writer
   pub only : RetriesOnce WRITER a b
 
--- The chain and the links are as they were; and where it had not begun, it runs from then on, or tells why it was lost.
+-- The chain and the links are as they were; and where it had not begun, it runs from then on, or tells why it
+-- was lost.
 pub record HasLinkBegun {I K P : Type 0} (v w : LinkWorld I K P) : Type 0 where
   pub chain : w.driven.chain ≡ v.driven.chain
   pub input : w.input ≡ v.input
@@ -254,14 +262,16 @@ KeepsReader v w = w.reader ≡ v.reader
 abbrev pub KeepsWriter : {I K P : Type 0} → LinkWorld I K P → LinkWorld I K P → Type 0
 KeepsWriter v w = w.writer ≡ v.writer
 
--- What several steps of a world between two links move: the chain is aborted only where memory lacked or a link failed,
--- and nothing is done once something was lost, which is told.
+-- What several steps of a world between two links move: the chain is aborted only where memory lacked or a
+-- link failed, and nothing is done once something was lost, which is told.
 pub record CarriesTo {I K P : Type 0} (rest : P → List ℕ → List ℕ) (in_tells out_tells : Bool)
     (input : I → Look) (output : K → Look) (v w : LinkWorld I K P) : Type 0 where
-  pub on : CarriesOn rest in_tells out_tells (input v.input) (input w.input) (output v.output) (output w.output)
+  pub on : CarriesOn rest in_tells out_tells (input v.input) (input w.input) (output v.output)
+      (output w.output)
       v.driven.chain w.driven.chain v.aborted w.aborted
   pub aborts : v.aborted ≡ false → w.aborted ≡ true → LacksMemory w
-      ⊎ Rose (input v.input).faults (input w.input).faults ⊎ Rose (output v.output).faults (output w.output).faults
+      ⊎ Rose (input v.input).faults (input w.input).faults ⊎ Rose (output v.output).faults
+      (output w.output).faults
   pub rests : v.driven.running ≡ false → w ≡ v
   pub falls : FallsTold v w
 
@@ -290,8 +300,8 @@ pub record HandledNothing (old new : Context) : Type 0 where
   pub entries : new.log.entries ≡ earlier ++ Took new.log.state.turns seat ∷ Gave new.log.state.turns ∷ []
   pub made : old.log.state.turns < new.log.state.turns
 
--- Why it is driven no further: no number of a turn is left; or memory lacked for a turn, though a number was left; or it
--- lacked in the last turn, in which then nothing was handled.
+-- Why it is driven no further: no number of a turn is left; or memory lacked for a turn, though a number was
+-- left; or it lacked in the last turn, in which then nothing was handled.
 abbrev pub IsDriveCause : DriveFault → Context → Context → Type 0
 IsDriveCause D.Spent old new = GREATEST ≤ new.log.state.turns
 IsDriveCause D.NoMemory old new = new.log.state.turns < GREATEST

@@ -31,7 +31,8 @@ abbrev pub CallsBefore : {P : Type 0} → (P → ℕ) → ChainState P → List 
 CallsBefore pause c before ts pending at = (j : ℕ) → j + 1 ≡ at → pause_at pause c.stages j ≡ 0 → MustWork c j
     → IsCalledUnless before pending ts j
 
--- An event that rouses a stage: one at which it works, after its pause. The stage must work, and was not roused before.
+-- An event that rouses a stage: one at which it works, after its pause. The stage must work, and was not
+-- roused before.
 pub record IsRousing {P : Type 0} (pause : P → ℕ) (first : ℕ) (c : ChainState P)
     (ts : List (Option StageContinuation)) (moment : ℕ) (roles : List Named) (p : Pending) : Type 0 where
   pub at : ℕ
@@ -45,8 +46,8 @@ abbrev pub OnlyRouses : {P : Type 0} → (P → ℕ) → ChainState P → List (
 OnlyRouses pause c ts a b = (first : ℕ) → AreNamed a.roles first ts
     → SetsOnly (IsRousing pause first c ts a.moment a.roles) a b
 
--- An event that the stage at a place may set when it handled one: it rouses a stage that must work; it tells the stage
--- before that it has ended; or it passes an error on to that.
+-- An event that the stage at a place may set when it handled one: it rouses a stage that must work; it tells
+-- the stage before that it has ended; or it passes an error on to that.
 abbrev pub MaySet : {P : Type 0} → (P → ℕ) → ℕ → ChainState P → ChainState P → List (Option StageContinuation)
     → ℕ → Event → ℕ → List Named → Pending → Type 0
 MaySet pause first old new ts at event moment roles p =
@@ -61,8 +62,8 @@ abbrev pub OnlySets : {P : Type 0} → (P → ℕ) → ChainState P → ChainSta
 OnlySets pause old new ts at event a b = (first : ℕ) → AreNamed a.roles first ts
     → SetsOnly (MaySet pause first old new ts at event a.moment a.roles) a b
 
--- The continuations of a chain's stages have the roles from the first on, each that is roused has an event, and each
--- stage that must work is roused.
+-- The continuations of a chain's stages have the roles from the first on, each that is roused has an event,
+-- and each stage that must work is roused.
 pub record IsDriven {P : Type 0} (first : ℕ) (c : ChainState P) (ts : List (Option StageContinuation))
     (pending : List Pending) (roles : List Named) : Type 0 where
   pub len : length ts ≡ length c.stages
@@ -88,7 +89,8 @@ abbrev pub IsDrivenFor : {P : Type 0} → Bool → ℕ → ℕ → ChainState P 
 IsDrivenFor true first at c ts pending roles = IsDrivenBut first at c ts pending roles
 IsDrivenFor false first at c ts pending roles = IsDriven first c ts pending roles
 
--- the last stage is roused where it has not ended and is full, so that it goes on once its client has taken bytes
+-- the last stage is roused where it has not ended and is full, so that it goes on once its client has taken
+-- bytes
 abbrev pub IsAwake : {P : Type 0} → ChainState P → List (Option StageContinuation) → Type 0
 IsAwake c ts = (j : ℕ) → j + 1 ≡ length c.stages → ended_at c.stages j ≡ false → MOST_WAITING ≤ length
     (client_wait c) → IsRoused ts j

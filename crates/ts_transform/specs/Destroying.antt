@@ -11,7 +11,8 @@ use Rattle.ts_transform.specs.declared.continuation.StageContinuation.{StageCont
 -- A continuation keeps its role, its event, and its life.
 pub record KeepsOwn (role : ℕ) (t : Option StageContinuation) (a b : Context) : Type 0 where
   pub named : IsNamedIf b.roles role t
-  pub of_stage : IsOfStageIf a.log.state.pending a.roles role t → IsOfStageIf b.log.state.pending b.roles role t
+  pub of_stage : IsOfStageIf a.log.state.pending a.roles role t
+      → IsOfStageIf b.log.state.pending b.roles role t
   pub live : HasLiveIf a.log.state.live t → HasLiveIf b.log.state.live t
 
 -- So does each of a role outside those of the stages, which have the roles from the first on.
@@ -19,8 +20,8 @@ abbrev pub KeepsOutside : ℕ → List (Option StageContinuation) → Context �
 KeepsOutside first ts a b = AreNamed a.roles first ts → (role : ℕ) (t : Option StageContinuation)
     → (role < first) ⊎ (first + length ts ≤ role) → IsNamedIf a.roles role t → KeepsOwn role t a b
 
--- The continuations were destroyed: nothing was set, of what was pending all is left but their events, and all others keep
--- what they have.
+-- The continuations were destroyed: nothing was set, of what was pending all is left but their events, and
+-- all others keep what they have.
 pub record Clears (ts : List (Option StageContinuation)) (a b : Context) : Type 0 where
   pub lessens : Lessens a b
   pub less : IsLess a.log.state b.log.state

@@ -48,11 +48,13 @@ IsOfNoStage first role d = (at : ℕ) → role ≡ first + at → IsStage d.chai
 abbrev pub HasAllLive : {P : Type 0} → DrivenChain P → Context → Type 0
 HasAllLive d now = AreAllLive d.chain d.table.items now
 
--- it is lost exactly where an event could not be set, and tells why: of a dead continuation only where one was found dead
+-- it is lost exactly where an event could not be set, and tells why: of a dead continuation only where one
+-- was found dead
 abbrev pub Loses : {P T : Type 0} → Result T SetFault → DrivenChain P → DrivenChain P → Context → Context
     → Type 0
 Loses (Ok x) d e a b = (e.running ≡ d.running) × (e.lost ≡ d.lost)
-Loses (Err fault) d e a b = (e.running ≡ false) × (e.lost ≡ Some (loss_of fault)) × IsCause (HasAllLive d a) fault b
+Loses (Err fault) d e a b = (e.running ≡ false) × (e.lost ≡ Some (loss_of fault)) × IsCause (HasAllLive d a)
+    fault b
 
 -- it goes on as it did, or is lost for a cause, where continuations ought to be live
 abbrev pub MayLose : {P : Type 0} → Type 0 → DrivenChain P → DrivenChain P → Context → Type 0
@@ -60,15 +62,15 @@ MayLose Live d e now =
     ((e.running ≡ d.running) × (e.lost ≡ d.lost))
     ⊎ ((fault : SetFault) × (e.running ≡ false) × (e.lost ≡ Some (loss_of fault)) × IsCause Live fault now)
 
--- it runs from now on, and its continuations are live; or it is lost for a cause, but for no dead continuation, since
--- each was just made
+-- it runs from now on, and its continuations are live; or it is lost for a cause, but for no dead
+-- continuation, since each was just made
 abbrev pub HasBegun : {P : Type 0} → DrivenChain P → Context → Type 0
 HasBegun d now =
     ((d.running ≡ true) × (d.lost ≡ None) × HasAllLive d now)
     ⊎ ((loss : Loss) × (d.running ≡ false) × (d.lost ≡ Some loss) × IsCauseOf ⊤ loss now)
 
--- What a handler leaves of those who were not called: continuations of other roles keep their events, whoever was live
--- stays so while the chain goes on, and whatever is set is of a stage's continuation.
+-- What a handler leaves of those who were not called: continuations of other roles keep their events, whoever
+-- was live stays so while the chain goes on, and whatever is set is of a stage's continuation.
 pub record KeepsRest {P : Type 0} (first : ℕ) (d e : DrivenChain P) (a b : Context) : Type 0 where
   pub others : KeepsOthers first d.table.items a b
   pub live : KeepsLive d.chain e.chain d.table.items e.table.items a b

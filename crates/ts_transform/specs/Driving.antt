@@ -1,6 +1,6 @@
--- Which continuation drives which stage, and that one that is roused has a pending event at which its stage works. (The
--- Developer's Guide, "Writing a Transformation Plugin": a transformation's handler works at the events of its
--- VConnection, and passes errors on.)
+-- Which continuation drives which stage, and that one that is roused has a pending event at which its stage
+-- works. (The Developer's Guide, "Writing a Transformation Plugin": a transformation's handler works at the
+-- events of its VConnection, and passes errors on.)
 use Rattle.std.specs.Prelude.{◌≡◌, ◌≢◌, ℕ, zero, suc, ◌+◌, ◌≤◌, ◌<◌, List, [], ◌∷◌, length, Bool, true, false, Option, Some, None, Result, IfErr, map, slice_get, not, if◌then◌else◌, ◌⊎◌, ⊤}
 use Rattle.ts_journal.specs.declared.entry.ContKey.{ContKey}
 use Rattle.ts_journal.specs.declared.entry.Event.{Event}
@@ -180,7 +180,8 @@ unroused_for false ts at = ts
 abbrev pub unroused_at : Event → List (Option StageContinuation) → ℕ → List (Option StageContinuation)
 unroused_at event ts at = unroused_for (works_at event) ts at
 
--- What was pending is so, under the same roles; no event that was added is periodic; and the same continuations are live.
+-- What was pending is so, under the same roles; no event that was added is periodic; and the same
+-- continuations are live.
 pub record Keeps (old new : Context) : Type 0 where
   pub pending : (n : ℕ) (p : Pending) → pending_at n old.log.state.pending ≡ Some p
       → pending_at n new.log.state.pending ≡ Some p
@@ -243,7 +244,8 @@ pub record IsTelling (event : Event) (role : ℕ) (roles : List Named) (p : Pend
   pub event_is : p.event ≡ event
   pub role_is : role_at p.key.index roles ≡ Some role
 
--- the continuation of the stage before a place is told of an event, where the stages have the roles from the first on
+-- the continuation of the stage before a place is told of an event, where the stages have the roles from the
+-- first on
 pub record IsTellingBefore (event : Event) (first at : ℕ) (roles : List Named) (p : Pending) : Type 0 where
   pub place : ℕ
   pub before : place + 1 ≡ at
@@ -274,15 +276,15 @@ abbrev pub HasEventIf : List Pending → Option ContKey → Type 0
 HasEventIf pending None = ⊤
 HasEventIf pending (Some key) = HasEvent pending key
 
--- Why an event was not set: the continuations are not live that ought to be, or the event numbers are used up in the
--- context that was left. Want of memory has no cause here.
+-- Why an event was not set: the continuations are not live that ought to be, or the event numbers are used up
+-- in the context that was left. Want of memory has no cause here.
 abbrev pub IsCause : Type 0 → SetFault → Context → Type 0
 IsCause Live F.NoMemory now = ⊤
 IsCause Live F.Dead now = Live → ⊥
 IsCause Live F.Spent now = GREATEST ≤ now.log.state.next
 
--- What calls leave that set at most so many events, for continuations that ought to be live: all else goes on. Where one
--- could not be set, they say why.
+-- What calls leave that set at most so many events, for continuations that ought to be live: all else goes
+-- on. Where one could not be set, they say why.
 pub record AddsEvents {T : Type 0} (most : ℕ) (Live : Type 0) (result : Result T SetFault)
     (old new : Context) : Type 0 where
   pub grows : Grows old new
@@ -311,7 +313,8 @@ KeepsOthers first ts a b = (role : ℕ) (t : Option StageContinuation) → AreNa
     → (role < first) ⊎ (first + length ts ≤ role)
     → IsOfStageIf a.log.state.pending a.roles role t → IsOfStageIf b.log.state.pending b.roles role t
 
--- A continuation was marked as roused, for which an event of this key has then to be set; none where it was roused before.
+-- A continuation was marked as roused, for which an event of this key has then to be set; none where it was
+-- roused before.
 abbrev pub IsMarked : Option ContKey → Option StageContinuation → Option StageContinuation → Type 0
 IsMarked key t u = (a b : Context) → Keeps a b → HasEventIf b.log.state.pending key → (role : ℕ)
     → IsOfStageIf a.log.state.pending a.roles role t → IsOfStageIf b.log.state.pending b.roles role u
@@ -328,8 +331,8 @@ pub record KeepsMade (a b : Context) : Type 0 where
       → IsOfStageIf b.log.state.pending b.roles role t
   pub live : (key : ContKey) → IsLive a.log.state.live key → IsLive b.log.state.live key
 
--- What a start leaves, which makes these continuations: whoever was made before stays, and whatever was set is of one of
--- these.
+-- What a start leaves, which makes these continuations: whoever was made before stays, and whatever was set
+-- is of one of these.
 pub record BeginsBeside (ts : List (Option StageContinuation)) (a b : Context) : Type 0 where
   pub made : KeepsMade a b
   pub seated : KeepsSeated [] ts a b

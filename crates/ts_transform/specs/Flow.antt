@@ -1,4 +1,5 @@
--- A chain, and the flow through it: one expression for all that it still gives, whatever stands where on the way.
+-- A chain, and the flow through it: one expression for all that it still gives, whatever stands where on the
+-- way.
 use Rattle.std.specs.Prelude.{◌≡◌, ◌≢◌, ℕ, zero, suc, ◌+◌, ◌++◌, List, [], ◌∷◌, Bool, true, false, ⊤, length, drop, take, map, Option, Some, None, ◌<◌, ◌⊎◌}
 use Rattle.ts_transform.specs.declared.pump.Stage.{Stage}
 use Rattle.ts_transform.specs.declared.pump.Pumped.{Pumped}
@@ -9,8 +10,8 @@ abbrev pub flow_from : {P : Type 0} → (P → List ℕ → List ℕ) → List (
 flow_from rest [] v = v
 flow_from rest (s ∷ ss) v = flow_from rest ss (passed rest s v)
 
--- what a contract sees of a chain: the bytes before the first stage, each stage with the bytes after it, and whether
--- the end was given
+-- what a contract sees of a chain: the bytes before the first stage, each stage with the bytes after it, and
+-- whether the end was given
 pub record ChainState (P : Type 0) : Type 0 where
   pub first : List ℕ
   pub stages : List (Stage P)
@@ -75,7 +76,8 @@ Takes from (s ∷ ss) n from' [] = ⊥
 Takes from (s ∷ ss) n from' (s' ∷ ss') =
     (from' ≡ from) × (s'.part ≡ s.part) × Takes s.after ss n s'.after ss'
 
--- the bytes that still pass the boundaries, if v is what still comes to the first, and the stages that have not ended
+-- the bytes that still pass the boundaries, if v is what still comes to the first, and the stages that have
+-- not ended
 abbrev pub passing : {P : Type 0} → (P → List ℕ → List ℕ) → List (Stage P) → List ℕ → ℕ
 passing rest [] v = length v
 passing rest (s ∷ ss) v = length v + to_end (has_ended s) + passing rest ss (passed rest s v)

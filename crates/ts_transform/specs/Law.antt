@@ -1,5 +1,5 @@
--- The law of a transform: a call that takes bytes loses and changes nothing of what is still to come, whatever
--- follows them.
+-- The law of a transform: a call that takes bytes loses and changes nothing of what is still to come,
+-- whatever follows them.
 use Rattle.std.specs.Prelude.{◌≡◌, ℕ, ◌++◌, List}
 use Rattle.ts_iobuf.specs.Buffer.{Buffer, GrowsBy, appended}
 

@@ -19,8 +19,8 @@ abbrev pub making_loss : MakeFault → Loss
 making_loss M.NoMemory = L.NoMemory
 making_loss M.TableFull = L.TableFull
 
--- Why it was lost: the continuations are not live that ought to be; or, in the context that was left, no index can be
--- used, or the event numbers are used up. Want of memory has no cause here.
+-- Why it was lost: the continuations are not live that ought to be; or, in the context that was left, no
+-- index can be used, or the event numbers are used up. Want of memory has no cause here.
 abbrev pub IsCauseOf : Type 0 → Loss → Context → Type 0
 IsCauseOf Live L.NoMemory now = ⊤
 IsCauseOf Live L.TableFull now = (i : ℕ) → i < MOST_KEYS → CanUse now.log.state i → ⊥

@@ -15,8 +15,9 @@ use Rattle.ts_transform.specs.declared.continuation.StageContinuation.{StageCont
 use Rattle.ts_transform.specs.declared.world.ChainWorld.{ChainWorld}
 use Rattle.ts_transform.specs.declared.world.TheConstants.{FIRST}
 
--- What holds of a world of one chain: its body was given whole, no event is periodic, and once it runs, while nothing
--- was lost, each stage that must work has an event. Before it was started only the first stage has work.
+-- What holds of a world of one chain: its body was given whole, no event is periodic, and once it runs, while
+-- nothing was lost, each stage that must work has an event. Before it was started only the first stage has
+-- work.
 pub record IsCovered {P : Type 0} (c : ChainState P) (ts : List (Option StageContinuation)) (running : Bool)
     (pending : List Pending) (roles : List Named) : Type 0 where
   pub given : c.given ≡ true
@@ -32,14 +33,16 @@ IsSound w pending roles = IsCovered w.driven.chain w.driven.table.items w.driven
 abbrev pub IsSoundGroup : {P Q R T U : Type 0} → Group (ChainWorld P) Q R T U → Type 0
 IsSoundGroup g = IsSound g.world g.cx.log.state.pending g.cx.roles
 
--- The body goes on through the chain: at most one stage worked, what still comes out stays, and what is left to do pays for
--- each event that is set.
+-- The body goes on through the chain: at most one stage worked, what still comes out stays, and what is left
+-- to do pays for each event that is set.
 pub record GoesOnWith {P : Type 0} (rest : P → List ℕ → List ℕ) (v w : ChainWorld P)
     (a b : Context) : Type 0 where
   pub once : PumpsOnce rest v.driven.chain w.driven.chain
   pub flow : flow rest w.driven.chain [] ≡ flow rest v.driven.chain []
-  pub pays : step_weight * (left_to_do rest w.driven.chain [] + errors_to_pass w.driven.table.items) + length b.log.state.pending
-      ≤ step_weight * (left_to_do rest v.driven.chain [] + errors_to_pass v.driven.table.items) + length a.log.state.pending
+  pub pays : step_weight * (left_to_do rest w.driven.chain [] + errors_to_pass w.driven.table.items) + length
+      b.log.state.pending
+      ≤ step_weight * (left_to_do rest v.driven.chain [] + errors_to_pass v.driven.table.items) + length
+      a.log.state.pending
 
 -- A wake leaves the chain and the turn; of the continuations only who is roused may change.
 pub record WakeKeeps {P : Type 0} (v w : ChainWorld P) (a b : Context) : Type 0 where
@@ -50,8 +53,8 @@ pub record WakeKeeps {P : Type 0} (v w : ChainWorld P) (a b : Context) : Type 0 
   pub same : all_unroused w.driven.table.items ≡ all_unroused v.driven.table.items
   pub errors : errors_to_pass w.driven.table.items ≡ errors_to_pass v.driven.table.items
 
--- At most one event is set: one of the last stage, at which that works, due after its pause; and none where fewer than
--- so many bytes wait for the client, or the last stage has ended or was roused.
+-- At most one event is set: one of the last stage, at which that works, due after its pause; and none where
+-- fewer than so many bytes wait for the client, or the last stage has ended or was roused.
 pub record Wakes {P : Type 0} (pause : P → ℕ) (c : ChainState P) (ts : List (Option StageContinuation))
     (a b : Context) : Type 0 where
   pub few : length b.log.state.pending ≤ length a.log.state.pending + 1

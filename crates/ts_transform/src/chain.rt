@@ -102,10 +102,11 @@ impl<P: Transform + Drop> Chain<P> {
         waiting_at(&self.first, self.stages.as_slice(), boundary)
     }
 
-    /// Lets a stage work. It is `Idle` where it has ended, or where nothing waits before it and more may come; else
-    /// `Blocked` where 65,536 bytes or more wait after it; else it ends where nothing waits before it; else it takes
-    /// at most 32,768 bytes. Only its own stage and the boundaries beside it change, and the flow stays: for whatever
-    /// still comes before the end was given, and for nothing afterwards. Memory lacks only where the stage must work.
+    /// Lets a stage work. It is `Idle` where it has ended, or where nothing waits before it and more may
+    /// come; else `Blocked` where 65,536 bytes or more wait after it; else it ends where nothing waits before
+    /// it; else it takes at most 32,768 bytes. Only its own stage and the boundaries beside it change, and
+    /// the flow stays: for whatever still comes before the end was given, and for nothing afterwards. Memory
+    /// lacks only where the stage must work.
     pub fn pump(&mut self, stage: usize) -> Result<Pumped, NoMemory>
         requires { stage < length self.old.stages }
         ensures answer { IfOk result (AnswersAt self.old.given self.old.first self.old.stages stage) }
@@ -117,8 +118,7 @@ impl<P: Transform + Drop> Chain<P> {
         ensures falls { IfOk result (λ r. (z : List ℕ) → OnTrue self.old.given (z ≡ [])
             → left_to_do P.rest self.new z + done_by r ≡ left_to_do P.rest self.old z) }
         ensures kept { (self.new.given ≡ self.old.given) × (length self.new.stages ≡ length self.old.stages) }
-        ensures works { OnErr result (MustWork self.old stage) }
-        ensures err { OnErr result (self.new ≡ self.old) }
+        ensures err { OnErr result (MustWork self.old stage × (self.new ≡ self.old)) }
     {
         pump_at(self.given, &mut self.first, &mut self.stages, stage)
     }

@@ -39,7 +39,7 @@ pub fn works(event: Event) -> bool
 }
 
 // Sets an event at which the stage works: after its pause, and if it has none, at once.
-#[tactic(auto, using(crate::proofs::Kept::set_adds, crate::proofs::Kept::set_event, crate::proofs::Kept::works_soon, crate::proofs::Kept::set_kind, crate::proofs::Kept::soon_now, crate::proofs::Kept::soon_later))]
+#[tactic(auto, using(crate::proofs::Kept::set_adds, crate::proofs::Kept::set_kind))]
 fn set_event(key: ContKey, rouser: Rouser, pause: u64, cx: &mut Cx) -> Result<Action, SetFault>
     requires turn { cx.old.log.state.held ≡ true }
     ensures adds { AddsEvents 1 (IsLive cx.new.log.state.live key) result cx.old cx.new }
@@ -59,7 +59,7 @@ fn set_event(key: ContKey, rouser: Rouser, pause: u64, cx: &mut Cx) -> Result<Ac
 }
 
 /// Sees that an event of the continuation is pending at which its stage works.
-#[tactic(auto, using(crate::proofs::Kept::kept_if, crate::proofs::Kept::roused_if, crate::proofs::Setting::only_none))]
+#[tactic(auto, using(crate::proofs::Kept::kept_if, crate::proofs::Kept::roused_if))]
 pub fn rouse(
     slot: &mut Option<StageContinuation>,
     rouser: Rouser,
@@ -69,13 +69,14 @@ pub fn rouse(
     requires turn { cx.old.log.state.held ≡ true }
     ensures adds { AddsEvents 1 (HasLiveIf cx.new.log.state.live slot.new) result cx.old cx.new }
     ensures stage { KeepsStage cx.old cx.new slot.old slot.new }
-    ensures rests { IsRousedIf slot.old → (slot.new ≡ slot.old) × (cx.new ≡ cx.old) × (is_ok result ≡ true) }
+    ensures rests { IsRousedIf slot.old
+        → (slot.new ≡ slot.old) × (cx.new ≡ cx.old) × (is_ok result ≡ true) }
     ensures only { SetsOnly (IsWorkOfIf slot.old pause cx.old.moment) cx.old cx.new }
-    ensures roused { OnOk result (IsRousedIf slot.new) }
+    ensures roused { OnOk result (IsRousedIf slot.new)
+        × (result ≡ Err NoMemory → cx.old.log.state.next < GREATEST) }
     ensures seated { KeepsSeated (slot.old ∷ []) (slot.new ∷ []) cx.old cx.new }
     ensures called { rouser ≡ Rouser.Downstream → pause ≡ 0
         → OnOk result (IsRousedIf slot.old ⊎ IsToldIf cx.new.log.state.pending WriteReady slot.new) }
-    ensures unspent { result ≡ Err NoMemory → cx.old.log.state.next < GREATEST }
 {
     let Some(continuation) = slot else {
         return Err(SetFault::Dead);

@@ -1,5 +1,5 @@
-//! The handler of a stage: it moves a piece, reenables its output, and calls its upstream once there is room (the
-//! Developer's Guide, "Writing a Transformation Plugin").
+//! The handler of a stage: it moves a piece, reenables its output, and calls its upstream once there is room
+//! (the Developer's Guide, "Writing a Transformation Plugin").
 ghost use Rattle.std.specs.Prelude.{◌≡◌, ◌≢◌, ℕ, ◌+◌, ◌*◌, ◌<◌, ◌≤◌, List, length, slice_get, true, false, is_ok, IfErr, OnOk};
 ghost use Rattle.std.specs.Bool.{OnTrue};
 ghost use Rattle.ts_journal.specs.declared.entry.Event.{Event};
@@ -10,7 +10,7 @@ ghost use Rattle.ts_transform.specs.Flow.{MustWork, ended_at, pause_at};
 ghost use Rattle.ts_transform.specs.Driving.{ActsWithin, AddsEvents, AreLive, AreOfStages, IsCalledUnless, IsCause, IsClosed, IsHandled, IsRoused, IsTellingBefore, IsToldBefore, KeepsOthers, KeepsStages, Lessens, SetsFew, SetsOnly, OnlyTellsBefore, changed, error_passed, errors_to_pass, gone, may_pass_error_at, unroused_at, works_at};
 ghost use Rattle.ts_transform.specs.Cover.{AreAllLive, CallsBefore, IsDriven, IsDrivenBut, IsDrivenFor, IsRoundRoused, OnlyRouses, OnlySets};
 ghost use Rattle.ts_transform.specs.Seats.{KeepsSeated};
-ghost use Rattle.ts_transform.specs.Acting.{ActsAt, Covers, CoversHandled, IsStage, LivesOn, Pays, PaysErrors, Pumps, TellsBefore};
+ghost use Rattle.ts_transform.specs.Acting.{ActsAt, Covers, CoversHandled, IsStage, LivesOn, Pays, PaysErrors, TellsBefore, WorksAt};
 
 use crate::chain::Chain;
 use crate::continuation::{Rouser, StageContinuation, works};
@@ -106,13 +106,11 @@ fn work<P: Transform + Drop>(
     requires stage { IsStage chain.old table.old at }
     ensures adds { AddsEvents 4 (AreAllLive chain.new table.new cx.new) result cx.old cx.new }
     ensures stages { KeepsStages cx.old cx.new table.old table.new }
-    ensures pumps { Pumps P.rest at chain.old chain.new cx.old cx.new }
+    ensures works { WorksAt P.rest at result chain.old chain.new cx.old cx.new }
     ensures only { (event : Event) → OnlySets P.pause chain.old chain.new table.old at event cx.old cx.new }
     ensures driven { OnOk result (Covers true at chain.old chain.new table.old table.new cx.old cx.new) }
     ensures tells { OnOk result
         (TellsBefore P.pause at chain.old chain.new table.old table.new cx.new.log.state.pending) }
-    ensures rests { (MustWork chain.old at → ⊥)
-        → (is_ok result ≡ true) × (chain.new ≡ chain.old) × (cx.new ≡ cx.old) }
 {
     let Ok(pumped) = chain.pump(at) else {
         return Err(SetFault::NoMemory);
@@ -150,7 +148,7 @@ fn tell_before(
 }
 
 // Passes an error on from the stage at a place, where that has passed none on, to the stage before it.
-#[tactic(auto, using(crate::proofs::Kept::few_refl, crate::proofs::Setting::only_none, crate::proofs::PassedErrors::passed_less, crate::proofs::PassedErrors::passed_same))]
+#[tactic(auto, using(crate::proofs::PassedErrors::passed_less, crate::proofs::PassedErrors::passed_same))]
 fn pass_error(
     table: &mut [Option<StageContinuation>],
     at: usize,
@@ -174,7 +172,6 @@ fn pass_error(
 }
 
 // Destroys the continuation of the stage at a place.
-#[tactic(auto, using(crate::proofs::Closing::closed_gone, crate::proofs::Closing::closed_dead, crate::proofs::Closing::others_lost, crate::proofs::Closing::others_same, crate::proofs::PassedErrors::gone_pays))]
 fn destroy_at(table: &mut [Option<StageContinuation>], at: usize, cx: &mut Cx)
     requires turn { cx.old.log.state.held ≡ true }
     requires at { at < length table.old }

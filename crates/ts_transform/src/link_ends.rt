@@ -42,9 +42,9 @@ pub fn unrouse(slot: &mut Option<StageContinuation>)
     }
 }
 
-/// Sees that an event of it is pending, if it must work: after so many milliseconds, where it has none yet. It
-/// refuses with `Dead` where there is none or it is not live, with `Spent` where the event numbers are used up,
-/// and with `NoMemory`, and sets nothing then.
+/// Sees that an event of it is pending, if it must work: after so many milliseconds, where it has none yet.
+/// It refuses with `Dead` where there is none or it is not live, with `Spent` where the event numbers are
+/// used up, and with `NoMemory`, and sets nothing then.
 pub fn rouse_end(
     slot: &mut Option<StageContinuation>,
     must: bool,
@@ -56,12 +56,12 @@ pub fn rouse_end(
     ensures stage { KeepsStage cx.old cx.new slot.old slot.new }
     ensures only { (role : ℕ) → IsNamedIf cx.old.roles role slot.old
         → SetsOnly (IsRousingOf role after cx.old.moment cx.old.roles) cx.old cx.new }
-    ensures work { SetsOnly (IsWorkOfIf slot.old after cx.old.moment) cx.old cx.new }
+    ensures work { SetsOnly (IsWorkOfIf slot.old after cx.old.moment) cx.old cx.new
+        × (result ≡ Err NoMemory → cx.old.log.state.next < GREATEST) }
     ensures rests { (must ≡ false) ⊎ IsRousedIf slot.old
         → (slot.new ≡ slot.old) × (cx.new ≡ cx.old) × (is_ok result ≡ true) }
     ensures roused { must ≡ true → OnOk result (IsRousedIf slot.new) }
     ensures seated { KeepsSeated (slot.old ∷ []) (slot.new ∷ []) cx.old cx.new }
-    ensures unspent { result ≡ Err NoMemory → cx.old.log.state.next < GREATEST }
 {
     if !must {
         return Ok(());

@@ -1,4 +1,5 @@
-//! A chain between two links, as a world of a mutex group: it reads its body from one and writes to the other.
+//! A chain between two links, as a world of a mutex group: it reads its body from one and writes to the
+//! other.
 ghost use Rattle.std.specs.Prelude.{◌≡◌, ◌⊎◌, ℕ, List, [], map, true, false, refl, ⊤, Some, None, IfOk};
 ghost use Rattle.ts_journal.specs.declared.entry.Pending.{Pending};
 ghost use Rattle.ts_group.specs.declared.action.Named.{Named};
@@ -22,11 +23,8 @@ use crate::transform::Transform;
 use std::alloc::Global;
 use ts_group::{Asked, Cx, Want, World};
 use ts_journal::{Event, Slotted};
-use ts_link::{Link, NoMemory, Put};
+use ts_link::{Link, NoMemory, Put, RETRY_AFTER};
 use ts_vconn::Pulled;
-
-/// How long a step waits that found a link not ready, in milliseconds.
-pub const RETRY: u64 = 10;
 
 /// The role of the writer.
 pub const WRITER: u32 = 1;
@@ -189,9 +187,9 @@ impl<I: Link + Drop, K: Link + Drop, P: Transform + Drop> LinkWorld<I, K, P> {
         ensures duty { SetsForDuty P.pause self.old self.new cx.old cx.new }
         ensures retries { IsNamedIf cx.old.roles READER self.old.reader → InputWaits I.look self.old self.new
             → RetriesRead self.old self.new cx.old cx.new }
-        ensures output { self.new.output ≡ self.old.output }
+        ensures leaves { (self.new.output ≡ self.old.output)
+            × ((MustRead self.old.driven.chain → ⊥) → self.new ≡ self.old) }
         ensures does { MustRead self.old.driven.chain → ReadsOnce I.look self.old self.new }
-        ensures rests { (MustRead self.old.driven.chain → ⊥) → self.new ≡ self.old }
     {
         if self.driven.chain.is_given() {
             return;
@@ -206,7 +204,7 @@ impl<I: Link + Drop, K: Link + Drop, P: Transform + Drop> LinkWorld<I, K, P> {
             Ok(Pulled::End) => {
                 let _told = self.driven.give_end(cx);
             }
-            Ok(Pulled::Again) => self.rouse_reader(true, RETRY, cx),
+            Ok(Pulled::Again) => self.rouse_reader(true, RETRY_AFTER, cx),
             Ok(Pulled::Failed) => self.abort(),
             Err(_) => {
                 self.driven.running = false;
@@ -224,9 +222,9 @@ impl<I: Link + Drop, K: Link + Drop, P: Transform + Drop> LinkWorld<I, K, P> {
         ensures duty { SetsForDuty P.pause self.old self.new cx.old cx.new }
         ensures retries { IsNamedIf cx.old.roles WRITER self.old.writer → OutputWaits K.look self.old self.new
             → RetriesWrite self.old self.new cx.old cx.new }
-        ensures input { self.new.input ≡ self.old.input }
+        ensures leaves { (self.new.input ≡ self.old.input)
+            × ((MustWrite self.old.driven.chain → ⊥) → self.new ≡ self.old) }
         ensures does { MustWrite self.old.driven.chain → WritesOnce K.look self.old self.new }
-        ensures rests { (MustWrite self.old.driven.chain → ⊥) → self.new ≡ self.old }
     {
         let Some(block) = self.driven.chain.out_block() else {
             return;
@@ -235,7 +233,7 @@ impl<I: Link + Drop, K: Link + Drop, P: Transform + Drop> LinkWorld<I, K, P> {
             Put::Took(count) => {
                 let _told = self.driven.take(count, cx);
             }
-            Put::Again => self.rouse_writer(true, RETRY, cx),
+            Put::Again => self.rouse_writer(true, RETRY_AFTER, cx),
             Put::Failed => self.abort(),
             Put::NoMemory => {
                 self.driven.running = false;

@@ -106,7 +106,8 @@ pub fn pump_stage<P: Transform + Drop>(
     ensures answer { IfOk result (Answers up_ended from.old stage.old) }
     ensures steps { IfOk result (λ r. Steps P.rest from.old stage.old r from.new stage.new) }
     ensures rests { IfOk result (λ r. IfRests r ((from.new ≡ from.old) × (stage.new ≡ stage.old))) }
-    ensures works { OnErr result (HasDuty (has_work (has_ended stage.old) up_ended from.old) stage.old.after) }
+    ensures works { OnErr result
+        (HasDuty (has_work (has_ended stage.old) up_ended from.old) stage.old.after) }
     ensures err { OnErr result ((from.new ≡ from.old) × (stage.new ≡ stage.old)) }
 {
     let Some(mut part) = stage.part.take() else {

@@ -1,4 +1,5 @@
-//! The continuations of a chain's stages, in the order of the stages, and how those at a place are roused and told.
+//! The continuations of a chain's stages, in the order of the stages, and how those at a place are roused
+//! and told.
 ghost use Rattle.std.specs.Prelude.{◌≡◌, ◌≢◌, ℕ, ◌+◌, ◌<◌, length, slice_get, Some, None, true, OnOk, IfOk, IfErr, IfSome};
 ghost use Rattle.ts_group.specs.declared.action.SetFault.TheVariants.{Dead};
 ghost use Rattle.ts_journal.specs.declared.entry.Event.TheVariants.{WriteReady};

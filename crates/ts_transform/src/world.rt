@@ -179,7 +179,7 @@ impl<P: Transform + Drop> Slotted for ChainWorld<P> {
     ghost follows_on = { λ t u v a b. tt };
 }
 
-#[tactic(auto, using(ts_group::proofs::Grows::grows, ts_group::proofs::Grows::grows_refl, crate::proofs::Driving::may_lose, crate::proofs::Driving::goes_on_with))]
+#[tactic(auto, using(ts_group::proofs::Grows::grows, ts_group::proofs::Grows::grows_refl))]
 impl<P: Transform + Drop> World for ChainWorld<P> {
     type Question = ();
 

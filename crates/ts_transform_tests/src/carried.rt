@@ -12,6 +12,7 @@ const PLACES: u32 = MOST_KEYS - 1;
 
 // One null stage, and three of them.
 const ONE: &[&[u8]] = &[b""];
+
 const THREE: &[&[u8]] = &[b"", b"", b""];
 
 // What came of a run: how it ended, how many bytes were written, and whether they are the front of the body.

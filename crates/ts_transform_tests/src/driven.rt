@@ -93,7 +93,8 @@ fn passes(
     takes(driven, text, cx)
 }
 
-// Starts a chain of two tails, feeds and drains it, and answers whether it ran all the time and gave its body.
+// Starts a chain of two tails, feeds and drains it, and answers whether it ran all the time and gave its
+// body.
 fn runs_by_hand(driven: &mut DrivenChain<Tail>, cx: &mut Cx) -> Result<bool, Fail>
     requires turn { cx.old.log.state.held ≡ true }
 {

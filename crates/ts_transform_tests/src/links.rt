@@ -87,9 +87,7 @@ fn input_of(alloc: Global, plan: &Plan, body: Octets) -> Result<MemLink, Fail> {
     let again = vec![in alloc; plan.again_read; 1]?;
     let none = Vec::new(alloc);
     let never = Vec::new(alloc);
-    Ok(MemLink::make(
-        alloc, body, cuts, 1, fails, none, again, never,
-    ))
+    Ok(MemLink::make(alloc, body, cuts, 1, fails, none, again, never))
 }
 
 // The output of a plan.
@@ -101,9 +99,7 @@ fn output_of(alloc: Global, plan: &Plan) -> Result<MemLink, Fail> {
     let none = Vec::new(alloc);
     let never = Vec::new(alloc);
     let take = plan.take.max(1);
-    Ok(MemLink::make(
-        alloc, empty, whole, take, none, fails, never, again,
-    ))
+    Ok(MemLink::make(alloc, empty, whole, take, none, fails, never, again))
 }
 
 /// The chain of these parts between the links of a plan, which had no turn here yet.

@@ -1,4 +1,5 @@
--- What was written, and what is still to be written of the bytes from here on, is what becomes of the whole piece.
+-- What was written, and what is still to be written of the bytes from here on, is what becomes of the whole
+-- piece.
 use Rattle.std.specs.Prelude.{◌≡◌, ℕ, ◌++◌, List, drop}
 use Rattle.ts_quote.specs.Quoting.{quoted}
 use Rattle.ts_quote.proofs.quote.quote_into.Given as goal

@@ -10,8 +10,13 @@ returns-then-at-eq0-clause-adds c = adds_none c.args.cx.now 1 c.requires.turn
 pub returns-clause-only : goal.returns-clause-only
 returns-clause-only c = λ first named.
     let roles = c.args.cx.now.roles in
-    only_weaker (IsTelling c.args.event (first + (c.args.at - 1)) roles) (IsTellingBefore c.args.event first c.args.at roles) c.args.cx.now c.tell.new.cx
-    (λ p telling. record { place = c.args.at - 1; before = omega (arith, c.if-at-eq0.false); telling = telling })
+    only_weaker (IsTelling c.args.event (first + (c.args.at - 1)) roles)
+    (IsTellingBefore c.args.event first c.args.at roles) c.args.cx.now c.tell.new.cx
+    (λ p telling. record {
+      place = c.args.at - 1;
+      before = omega (arith, c.if-at-eq0.false);
+      telling = telling;
+    })
     (c.tell.ensures.only first named)
 
 pub returns-then-at-eq0-clause-seated : goal.returns-then-at-eq0-clause-seated

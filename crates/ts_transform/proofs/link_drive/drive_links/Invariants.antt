@@ -7,7 +7,8 @@ abbrev pub invariant-turns : goal.invariant-turns
 invariant-turns g l = record {
   idle : l.group.cx.log.state.held ≡ false;
   carried : IsCarriedGroup l.group;
-  carries : CarriesTo g.P.Transform.rest g.I.Link.tells g.K.Link.tells g.I.Link.look g.K.Link.look l.initial.group.world l.group.world;
+  carries : CarriesTo g.P.Transform.rest g.I.Link.tells g.K.Link.tells g.I.Link.look g.K.Link.look
+      l.initial.group.world l.group.world;
   made : l.group.cx.log.state.turns ≡ l.initial.group.cx.log.state.turns + l.made;
   handled : l.initial.group.cx.log.state.handled_count + l.made ≤ l.group.cx.log.state.handled_count;
 }

@@ -8,5 +8,12 @@ returns-then-not-must-clause-adds c = adds_none c.args.cx.now 1 c.requires.turn
 
 pub returns-clause-only : goal.returns-clause-only
 returns-clause-only c =
-    work_rousing c.args.cx.now.roles c.args.after c.args.cx.now.moment c.args.slot.now c.args.cx.now c.rouse.new.cx
+    work_rousing c.args.cx.now.roles c.args.after c.args.cx.now.moment c.args.slot.now c.args.cx.now
+    c.rouse.new.cx
     c.rouse.ensures.only
+
+pub returns-clause-work : goal.returns-clause-work
+returns-clause-work c = (c.rouse.ensures.only, c.rouse.ensures.roused.1)
+
+pub returns-clause-roused : goal.returns-clause-roused
+returns-clause-roused c = λ must. c.rouse.ensures.roused.0

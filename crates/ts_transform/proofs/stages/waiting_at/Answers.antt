@@ -9,5 +9,6 @@ returns-else-boundary-eq0 g c =
     let number : suc (c.args.boundary - 1) ≡ c.args.boundary = omega (arith, c.if-boundary-eq0.false) in
     let below : c.args.boundary - 1 < length c.args.stages.now = omega (arith, c.if-boundary-eq0.false) in
     c.len-else-boundary-eq0.ensures
-    ∙ ap length (sym (wait_at-place c.args.first.now c.args.stages.now (c.args.boundary - 1) c.index-stages-boundary.result below))
+    ∙ ap length (sym (wait_at-place c.args.first.now c.args.stages.now (c.args.boundary - 1)
+    c.index-stages-boundary.result below))
     ∙ ap (λ k. length (wait_at c.args.first.now c.args.stages.now k)) number

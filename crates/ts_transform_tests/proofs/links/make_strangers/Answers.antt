@@ -12,5 +12,6 @@ strangers-preserved g c =
     record {
       turn = c.make.ensures.makes.turn;
       carried = carried_made cx now world c.make.ensures.makes.events c.make.ensures.makes.keys
-          (subst (λ x. IsCarried world x.log.state.pending x.log.state.next x.roles) (sym c.cx.ensures.value) c.strangers.invariant.carried);
+          (subst (λ x. IsCarried world x.log.state.pending x.log.state.next x.roles) (sym c.cx.ensures.value)
+          c.strangers.invariant.carried);
     }

@@ -11,5 +11,7 @@ returns-clause-sound c =
     let cx = c.cx.result.now in
     let now = c.call.new.self in
     c.give_turn.ensures.sound
-    (sound_kept cx now world.driven.chain world.driven.table.items world.driven.running (set_keeps cx now _ _ _ _ c.call.ensures.sets c.call.ensures.roles)
-    (subst (λ x. IsSound world x.log.state.pending x.roles) (sym c.cx.ensures.value) c.in_ok-begin_turn.ensures.sound))
+    (sound_kept cx now world.driven.chain world.driven.table.items world.driven.running
+    (set_keeps cx now _ _ _ _ c.call.ensures.sets c.call.ensures.roles)
+    (subst (λ x. IsSound world x.log.state.pending x.roles) (sym c.cx.ensures.value)
+    c.in_ok-begin_turn.ensures.sound))

@@ -12,4 +12,5 @@ returns-clause-flow g c = λ z.
     ∙ flow_from-fresh rest c.args.parts.items z
 
 pub returns-clause-ordered : goal.returns-clause-ordered
-returns-clause-ordered g c = subst (EndsInOrder false) (sym c.in_ok-stages.ensures) (order_fresh false c.args.parts.items)
+returns-clause-ordered g c = subst (EndsInOrder false) (sym c.in_ok-stages.ensures)
+    (order_fresh false c.args.parts.items)

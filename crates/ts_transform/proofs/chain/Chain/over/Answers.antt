@@ -14,4 +14,5 @@ returns-clause-flow g c =
     ∙ flow_from-fresh rest c.args.parts.items c.args.body
 
 pub returns-clause-ordered : goal.returns-clause-ordered
-returns-clause-ordered g c = subst (EndsInOrder true) (sym c.in_ok-stages.ensures) (order_fresh true c.args.parts.items)
+returns-clause-ordered g c = subst (EndsInOrder true) (sym c.in_ok-stages.ensures)
+    (order_fresh true c.args.parts.items)

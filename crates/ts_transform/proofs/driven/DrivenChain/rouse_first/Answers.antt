@@ -17,10 +17,12 @@ pub returns-in-Ok-clause-driven : goal.returns-in-Ok-clause-driven
 returns-in-Ok-clause-driven g c = λ first chain same was runs.
     let self = c.args.self.now in
     let now = c.rouse_if_ready.new.cx in
-    taken_table (λ us. IsDriven first self.chain us now.log.state.pending now.roles) self.table.len c.rouse_if_ready.new.table self.table.items
+    taken_table (λ us. IsDriven first self.chain us now.log.state.pending now.roles) self.table.len
+    c.rouse_if_ready.new.table self.table.items
     (c.rouse_if_ready.ensures.stages.len ∙ ap length c.deref_mut.ensures.value ∙ sym self.table.ok.0)
     (fed first chain self.chain self.table.items c.rouse_if_ready.new.table c.args.cx.now now same
-    (subst (λ ts. KeepsStages c.args.cx.now now ts c.rouse_if_ready.new.table) c.deref_mut.ensures.value c.rouse_if_ready.ensures.stages) c.in-Ok.ensures.ready (was runs))
+    (subst (λ ts. KeepsStages c.args.cx.now now ts c.rouse_if_ready.new.table) c.deref_mut.ensures.value
+    c.rouse_if_ready.ensures.stages) c.in-Ok.ensures.ready (was runs))
 
 pub returns-in-Ok-clause-adds : goal.returns-in-Ok-clause-adds
 returns-in-Ok-clause-adds g c = adds_ok 1 tt tt c.in-Ok.ensures.adds
@@ -30,25 +32,36 @@ returns-in-Err-clause-adds g c =
     let self = c.args.self.now in
     let roused = c.rouse_if_ready in
     adds_weaker 1 (Err c.in-Err.fault)
-    (all_live self.chain self.chain self.table.items roused.new.table c.args.cx.now roused.new.cx roused.ensures.adds.keeps.live (roused.ensures.stages.same ∙ ap all_unroused c.deref_mut.ensures.value) (λ j going. going))
+    (all_live self.chain self.chain self.table.items roused.new.table c.args.cx.now roused.new.cx
+    roused.ensures.adds.keeps.live (roused.ensures.stages.same ∙ ap all_unroused
+    c.deref_mut.ensures.value) (λ j going. going))
     c.in-Err.ensures.adds
 
 pub returns-in-Err-clause-loses : goal.returns-in-Err-clause-loses
 returns-in-Err-clause-loses g c =
-    let adds = returns-in-Err-clause-adds g c in (ap (λ d. d.running) c.lose.ensures, ap (λ d. d.lost) c.lose.ensures ∙ ap Some c.of_set.ensures, adds.cause)
+    let adds = returns-in-Err-clause-adds g c in (
+      ap (λ d. d.running) c.lose.ensures,
+      ap (λ d. d.lost) c.lose.ensures ∙ ap Some c.of_set.ensures,
+      adds.cause,
+    )
 
 -- Whatever is set is of one of its continuations.
-same_seats : {P : Type 0} (d : DrivenChain P) (us vs : List (Option StageContinuation)) (n : ℕ) (a b : Context) → vs ≡ d.table.items → length us ≡ n → KeepsStages a b vs us
-    → (all_unroused (take n (us ++ drop (length us) d.table.items)) ≡ all_unroused d.table.items) × KeepsSeated d.table.items (take n (us ++ drop (length us) d.table.items)) a b
+same_seats : {P : Type 0} (d : DrivenChain P) (us vs : List (Option StageContinuation)) (n : ℕ)
+    (a b : Context) → vs ≡ d.table.items → length us ≡ n → KeepsStages a b vs us
+    → (all_unroused (take n (us ++ drop (length us) d.table.items)) ≡ all_unroused d.table.items) ×
+    KeepsSeated d.table.items (take n (us ++ drop (length us) d.table.items)) a b
 same_seats d us vs n a b value len h =
-    taken_table (λ xs. (all_unroused xs ≡ all_unroused d.table.items) × KeepsSeated d.table.items xs a b) n us d.table.items len
+    taken_table (λ xs. (all_unroused xs ≡ all_unroused d.table.items) × KeepsSeated d.table.items xs a b) n us
+    d.table.items len
     (h.same ∙ ap all_unroused value, subst (λ ts. KeepsSeated ts us a b) value h.seated)
 
 pub returns-in-Ok-clause-same : goal.returns-in-Ok-clause-same
 returns-in-Ok-clause-same g c =
     let self = c.args.self.now in
     let roused = c.rouse_if_ready in
-    let seats = same_seats self roused.new.table c.deref_mut.result.now self.table.len c.args.cx.now roused.new.cx c.deref_mut.ensures.value (roused.ensures.stages.len ∙ ap length c.deref_mut.ensures.value ∙ sym self.table.ok.0)
+    let seats = same_seats self roused.new.table c.deref_mut.result.now self.table.len c.args.cx.now
+    roused.new.cx c.deref_mut.ensures.value
+    (roused.ensures.stages.len ∙ ap length c.deref_mut.ensures.value ∙ sym self.table.ok.0)
     roused.ensures.stages in
     record { same = seats.0; seated = seats.1 }
 
@@ -56,6 +69,9 @@ pub returns-in-Err-clause-same : goal.returns-in-Err-clause-same
 returns-in-Err-clause-same g c =
     let self = c.args.self.now in
     let roused = c.rouse_if_ready in
-    let seats = same_seats self roused.new.table c.deref_mut.result.now self.table.len c.args.cx.now roused.new.cx c.deref_mut.ensures.value (roused.ensures.stages.len ∙ ap length c.deref_mut.ensures.value ∙ sym self.table.ok.0)
+    let seats = same_seats self roused.new.table c.deref_mut.result.now self.table.len c.args.cx.now
+    roused.new.cx c.deref_mut.ensures.value
+    (roused.ensures.stages.len ∙ ap length c.deref_mut.ensures.value ∙ sym self.table.ok.0)
     roused.ensures.stages in
-    subst (λ d. SameSeats self d c.args.cx.now roused.new.cx) (sym c.lose.ensures) (record { same = seats.0; seated = seats.1 })
+    subst (λ d. SameSeats self d c.args.cx.now roused.new.cx) (sym c.lose.ensures)
+    (record { same = seats.0; seated = seats.1 })

@@ -13,7 +13,8 @@ use Rattle.ts_transform.proofs.Living.{live_stages}
 use Rattle.ts_transform.proofs.Kept.{acts_adds, keeps_refl}
 use Rattle.ts_transform.specs.Driving.{SetsOnly}
 use Rattle.ts_transform.specs.Along.{IsForDuty}
-use Rattle.ts_transform.specs.declared.link_world.TheConstants.{FIRST, RETRY}
+use Rattle.ts_transform.specs.declared.link_world.TheConstants.{FIRST}
+use Rattle.ts_link.specs.declared.clock.TheConstants.{RETRY_AFTER}
 use Rattle.ts_transform.proofs.Along.{duty_end, duty_none, duty_stage, rouses_reader}
 use Rattle.ts_transform.proofs.link_world.LinkWorld.read.Goals as goal
 
@@ -21,13 +22,15 @@ use Rattle.ts_transform.proofs.link_world.LinkWorld.read.Goals as goal
 pub returns-then-is_given-clause-moves : goal.returns-then-is_given-clause-moves
 returns-then-is_given-clause-moves g c =
     let self = c.args.self.now in
-    moves_none g.P.Transform.rest g.I.Link.tells g.K.Link.tells (g.I.Link.look self.input) (g.K.Link.look self.output) self.driven.chain self.aborted ⊥
+    moves_none g.P.Transform.rest g.I.Link.tells g.K.Link.tells (g.I.Link.look self.input)
+    (g.K.Link.look self.output) self.driven.chain self.aborted ⊥
 
 -- There is no room.
 pub returns-then-not-has_room-clause-moves : goal.returns-then-not-has_room-clause-moves
 returns-then-not-has_room-clause-moves g c =
     let self = c.args.self.now in
-    moves_none g.P.Transform.rest g.I.Link.tells g.K.Link.tells (g.I.Link.look self.input) (g.K.Link.look self.output) self.driven.chain self.aborted ⊥
+    moves_none g.P.Transform.rest g.I.Link.tells g.K.Link.tells (g.I.Link.look self.input)
+    (g.K.Link.look self.output) self.driven.chain self.aborted ⊥
 
 -- Bytes came.
 pub returns-in-Ok-Some-clause-moves : goal.returns-in-Ok-Some-clause-moves
@@ -37,18 +40,25 @@ returns-in-Ok-Some-clause-moves g c =
     let must : MustRead self.driven.chain = (sym c.is_given.ensures ∙ c.if-is_given.false, room) in
     let pulled = c.pull.new.self in
     let kept = c.in-Ok-Some.ensures.kept in
-    subst (λ x. MovesOn g.P.Transform.rest g.I.Link.tells g.K.Link.tells (g.I.Link.look self.input) (g.I.Link.look c.pull.new.link) (g.K.Link.look self.output) (g.K.Link.look self.output) self.driven.chain x
+    subst (λ x. MovesOn g.P.Transform.rest g.I.Link.tells g.K.Link.tells (g.I.Link.look self.input)
+    (g.I.Link.look c.pull.new.link) (g.K.Link.look self.output) (g.K.Link.look self.output)
+    self.driven.chain x
     self.aborted self.aborted ⊥) (sym c.rouse_first-told.ensures.chain)
-    (moves_pull g.P.Transform.rest g.I.Link.tells g.K.Link.tells (g.I.Link.look self.input) (g.I.Link.look c.pull.new.link) (g.K.Link.look self.output) self.driven.chain pulled c.in-Ok-Some.field-0 self.aborted
-    c.in-Ok-Some.ensures.pulled kept.0 must.0 must.1 (λ given. absurd (let wrong : false ≡ true = sym must.0 ∙ sym kept.1 ∙ given in cc)))
+    (moves_pull g.P.Transform.rest g.I.Link.tells g.K.Link.tells (g.I.Link.look self.input)
+    (g.I.Link.look c.pull.new.link) (g.K.Link.look self.output) self.driven.chain pulled
+    c.in-Ok-Some.field-0 self.aborted
+    c.in-Ok-Some.ensures.pulled kept.0 must.0 must.1
+    (λ given. absurd (let wrong : false ≡ true = sym must.0 ∙ sym kept.1 ∙ given in cc)))
 
 pub returns-in-Ok-Some-clause-joined : goal.returns-in-Ok-Some-clause-joined
 returns-in-Ok-Some-clause-joined g c = λ was runs.
     let self = c.args.self.now in
     let rouse = c.rouse_first-told in
-    joined_driven self.driven.chain rouse.new.self.chain self.driven.table.items rouse.new.self.table.items self.writer self.reader c.args.cx.now rouse.new.cx rouse.ensures.adds.keeps
+    joined_driven self.driven.chain rouse.new.self.chain self.driven.table.items rouse.new.self.table.items
+    self.writer self.reader c.args.cx.now rouse.new.cx rouse.ensures.adds.keeps
     (λ h. rouse.ensures.driven 3 self.driven.chain (sym c.in-Ok-Some.ensures.kept.0) (λ r. h) runs)
-    (was (runs_before rouse.result (record self.driven { chain = c.pull.new.self }) rouse.new.self c.args.cx.now rouse.new.cx rouse.ensures.loses runs))
+    (was (runs_before rouse.result (record self.driven { chain = c.pull.new.self }) rouse.new.self
+    c.args.cx.now rouse.new.cx rouse.ensures.loses runs))
 
 -- The end came.
 pub returns-in-Ok-End-clause-moves : goal.returns-in-Ok-End-clause-moves
@@ -57,11 +67,16 @@ returns-in-Ok-End-clause-moves g c =
     let room : length self.driven.chain.first < MOST_WAITING = search rules in
     let must : MustRead self.driven.chain = (sym c.is_given.ensures ∙ c.if-is_given.false, room) in
     let pulled = c.pull.new.self in
-    subst (λ x. MovesOn g.P.Transform.rest g.I.Link.tells g.K.Link.tells (g.I.Link.look self.input) (g.I.Link.look c.pull.new.link) (g.K.Link.look self.output) (g.K.Link.look self.output) self.driven.chain x
+    subst (λ x. MovesOn g.P.Transform.rest g.I.Link.tells g.K.Link.tells (g.I.Link.look self.input)
+    (g.I.Link.look c.pull.new.link) (g.K.Link.look self.output) (g.K.Link.look self.output)
+    self.driven.chain x
     self.aborted self.aborted ⊥) (sym c.give_end-told.ensures.chain)
-    (moves_pull g.P.Transform.rest g.I.Link.tells g.K.Link.tells (g.I.Link.look self.input) (g.I.Link.look c.pull.new.link) (g.K.Link.look self.output) self.driven.chain (record pulled { given = true }) c.in-Ok-End.field-0
+    (moves_pull g.P.Transform.rest g.I.Link.tells g.K.Link.tells (g.I.Link.look self.input)
+    (g.I.Link.look c.pull.new.link) (g.K.Link.look self.output) self.driven.chain
+    (record pulled { given = true }) c.in-Ok-End.field-0
     self.aborted c.in-Ok-End.ensures.pulled c.in-Ok-End.ensures.kept.0 must.0 must.1
-    (λ given tells. subst (λ a. EndsPull a (g.I.Link.look c.pull.new.link).left) c.in-Ok-End.field-0-is (c.in-Ok-End.ensures.pulled.pulls.ends tells)))
+    (λ given tells. subst (λ a. EndsPull a (g.I.Link.look c.pull.new.link).left) c.in-Ok-End.field-0-is
+    (c.in-Ok-End.ensures.pulled.pulls.ends tells)))
 
 -- The input made its caller wait.
 pub returns-in-Ok-Again-clause-moves : goal.returns-in-Ok-Again-clause-moves
@@ -72,10 +87,16 @@ returns-in-Ok-Again-clause-moves g c =
     let same = c.rouse_reader.ensures.same in
     let now = c.rouse_reader.new.self in
     let kept = c.in-Ok-Again.ensures.kept in
-    moves_as g.P.Transform.rest g.I.Link.tells g.K.Link.tells (g.I.Link.look self.input) (g.I.Link.look c.pull.new.link) (g.I.Link.look now.input) (g.K.Link.look self.output) (g.K.Link.look self.output)
-    (g.K.Link.look now.output) self.driven.chain c.pull.new.self now.driven.chain self.aborted self.aborted now.aborted ⊥ (ap g.I.Link.look same.input) (ap g.K.Link.look same.output) same.chain same.aborted
-    (moves_pull g.P.Transform.rest g.I.Link.tells g.K.Link.tells (g.I.Link.look self.input) (g.I.Link.look c.pull.new.link) (g.K.Link.look self.output) self.driven.chain c.pull.new.self c.in-Ok-Again.field-0 self.aborted
-    c.in-Ok-Again.ensures.pulled kept.0 must.0 must.1 (λ given. absurd (let wrong : false ≡ true = sym must.0 ∙ sym kept.1 ∙ given in cc)))
+    moves_as g.P.Transform.rest g.I.Link.tells g.K.Link.tells (g.I.Link.look self.input)
+    (g.I.Link.look c.pull.new.link) (g.I.Link.look now.input) (g.K.Link.look self.output)
+    (g.K.Link.look self.output)
+    (g.K.Link.look now.output) self.driven.chain c.pull.new.self now.driven.chain self.aborted self.aborted
+    now.aborted ⊥ (ap g.I.Link.look same.input) (ap g.K.Link.look same.output) same.chain same.aborted
+    (moves_pull g.P.Transform.rest g.I.Link.tells g.K.Link.tells (g.I.Link.look self.input)
+    (g.I.Link.look c.pull.new.link) (g.K.Link.look self.output) self.driven.chain c.pull.new.self
+    c.in-Ok-Again.field-0 self.aborted
+    c.in-Ok-Again.ensures.pulled kept.0 must.0 must.1
+    (λ given. absurd (let wrong : false ≡ true = sym must.0 ∙ sym kept.1 ∙ given in cc)))
 
 pub returns-in-Ok-Again-clause-retries : goal.returns-in-Ok-Again-clause-retries
 returns-in-Ok-Again-clause-retries g c = λ named waited.
@@ -83,9 +104,12 @@ returns-in-Ok-Again-clause-retries g c = λ named waited.
     let same = c.rouse_reader.ensures.same in
     let kept = c.in-Ok-Again.ensures.kept in
     let first : c.pull.new.self.first ≡ self.driven.chain.first =
-    pulled_none g.I.Link.tells (g.I.Link.look self.input) (g.I.Link.look c.pull.new.link) self.driven.chain.first c.pull.new.self.first c.in-Ok-Again.field-0 MOST_PULLED c.in-Ok-Again.field-0-is c.in-Ok-Again.ensures.pulled in
+    pulled_none g.I.Link.tells (g.I.Link.look self.input) (g.I.Link.look c.pull.new.link)
+    self.driven.chain.first c.pull.new.self.first c.in-Ok-Again.field-0 MOST_PULLED
+    c.in-Ok-Again.field-0-is c.in-Ok-Again.ensures.pulled in
     let wait : client_wait c.rouse_reader.new.self.driven.chain ≡ client_wait self.driven.chain =
-    ap (λ x. client_wait x) same.chain ∙ ap (λ l. last_wait l c.pull.new.self.stages) first ∙ ap (λ ss. last_wait self.driven.chain.first ss) kept.0 in
+    ap (λ x. client_wait x) same.chain ∙ ap (λ l. last_wait l c.pull.new.self.stages) first ∙ ap
+    (λ ss. last_wait self.driven.chain.first ss) kept.0 in
     record {
       chain = λ some none. some (wait ∙ none);
       writer = c.rouse_reader.ensures.kept;
@@ -100,11 +124,16 @@ returns-in-Ok-Failed-clause-moves g c =
     let now = c.abort.new.self in
     let old = g.I.Link.look self.input in
     let pulled = g.I.Link.look c.pull.new.link in
-    moves_as g.P.Transform.rest g.I.Link.tells g.K.Link.tells old pulled (g.I.Link.look now.input) (g.K.Link.look self.output) (g.K.Link.look self.output)
-    (g.K.Link.look now.output) self.driven.chain now.driven.chain now.driven.chain self.aborted true now.aborted ⊥ (ap g.I.Link.look c.abort.ensures.links.0) (ap g.K.Link.look c.abort.ensures.links.1) refl
+    moves_as g.P.Transform.rest g.I.Link.tells g.K.Link.tells old pulled (g.I.Link.look now.input)
+    (g.K.Link.look self.output) (g.K.Link.look self.output)
+    (g.K.Link.look now.output) self.driven.chain now.driven.chain now.driven.chain self.aborted true
+    now.aborted ⊥ (ap g.I.Link.look c.abort.ensures.links.0) (ap g.K.Link.look c.abort.ensures.links.1)
+    refl
     c.abort.ensures.aborted
-    (moves_aborted g.P.Transform.rest g.I.Link.tells g.K.Link.tells old pulled (g.K.Link.look self.output) (g.K.Link.look self.output) self.driven.chain c.pull.new.self
-    now.driven.chain self.aborted ⊥ (inr (inl (subst (λ a. Counted (pull_failed a) old.faults pulled.faults) c.in-Ok-Failed.field-0-is c.in-Ok-Failed.ensures.pulled.pulls.calls.faults))) c.abort.ensures.chain
+    (moves_aborted g.P.Transform.rest g.I.Link.tells g.K.Link.tells old pulled (g.K.Link.look self.output)
+    (g.K.Link.look self.output) self.driven.chain c.pull.new.self
+    now.driven.chain self.aborted ⊥ (inr (inl (subst (λ a. Counted (pull_failed a) old.faults pulled.faults)
+    c.in-Ok-Failed.field-0-is c.in-Ok-Failed.ensures.pulled.pulls.calls.faults))) c.abort.ensures.chain
     (counted_grows _ old.faults pulled.faults c.in-Ok-Failed.ensures.pulled.pulls.calls.faults, omega arith))
 
 pub returns-in-Ok-Failed-clause-joined : goal.returns-in-Ok-Failed-clause-joined
@@ -112,10 +141,13 @@ returns-in-Ok-Failed-clause-joined g c = λ was runs.
     let self = c.args.self.now in
     let now = c.abort.new.self in
     let cx = c.args.cx.now in
-    joined_as now.driven.chain now.driven.chain self.driven.table.items now.driven.table.items self.writer now.writer self.reader now.reader cx.log.state.pending cx.roles refl c.abort.ensures.course.table
+    joined_as now.driven.chain now.driven.chain self.driven.table.items now.driven.table.items self.writer
+    now.writer self.reader now.reader cx.log.state.pending cx.roles refl c.abort.ensures.course.table
     c.abort.ensures.ends.0 c.abort.ensures.ends.1
-    (joined_aborted self.driven.chain now.driven.chain self.driven.table.items self.writer self.reader cx.log.state.pending cx.roles
-    (c.abort.ensures.chain ∙ aborted_same self.driven.chain c.pull.new.self c.in-Ok-Failed.ensures.kept.0) (was (sym c.abort.ensures.course.running ∙ runs)))
+    (joined_aborted self.driven.chain now.driven.chain self.driven.table.items self.writer self.reader
+    cx.log.state.pending cx.roles
+    (c.abort.ensures.chain ∙ aborted_same self.driven.chain c.pull.new.self c.in-Ok-Failed.ensures.kept.0)
+    (was (sym c.abort.ensures.course.running ∙ runs)))
 
 -- Memory lacked.
 pub returns-in-Err-clause-moves : goal.returns-in-Err-clause-moves
@@ -123,7 +155,8 @@ returns-in-Err-clause-moves g c =
     let self = c.args.self.now in
     let out = g.K.Link.look self.output in
     let input = g.I.Link.look self.input in
-    moves_as g.P.Transform.rest g.I.Link.tells g.K.Link.tells input input (g.I.Link.look c.pull.new.link) out out out self.driven.chain self.driven.chain c.pull.new.self self.aborted self.aborted self.aborted ⊥
+    moves_as g.P.Transform.rest g.I.Link.tells g.K.Link.tells input input (g.I.Link.look c.pull.new.link) out
+    out out self.driven.chain self.driven.chain c.pull.new.self self.aborted self.aborted self.aborted ⊥
     (ap g.I.Link.look c.in-Err.ensures.err.1) refl c.in-Err.ensures.err.0 refl
     (moves_none g.P.Transform.rest g.I.Link.tells g.K.Link.tells input out self.driven.chain self.aborted ⊥)
 
@@ -140,8 +173,10 @@ returns-in-Ok-Some-clause-course g c =
     let rouse = c.rouse_first-told in
     let pulled = c.pull.new.self in
     let cx = c.args.cx.now in
-    course_driven self (record self { input = c.pull.new.link; driven = rouse.new.self }) pulled cx rouse.new.cx rouse.result refl refl c.in-Ok-Some.ensures.kept.0
-    (ap (λ x. x.stages) rouse.ensures.chain) rouse.ensures.adds.keeps rouse.ensures.same.same rouse.ensures.loses
+    course_driven self (record self { input = c.pull.new.link; driven = rouse.new.self }) pulled cx
+    rouse.new.cx rouse.result refl refl c.in-Ok-Some.ensures.kept.0
+    (ap (λ x. x.stages) rouse.ensures.chain) rouse.ensures.adds.keeps rouse.ensures.same.same
+    rouse.ensures.loses
 
 pub returns-in-Ok-End-clause-course : goal.returns-in-Ok-End-clause-course
 returns-in-Ok-End-clause-course g c =
@@ -149,7 +184,8 @@ returns-in-Ok-End-clause-course g c =
     let end = c.give_end-told in
     let pulled = c.pull.new.self in
     let cx = c.args.cx.now in
-    course_driven self (record self { input = c.pull.new.link; driven = end.new.self }) pulled cx end.new.cx end.result refl refl c.in-Ok-End.ensures.kept.0
+    course_driven self (record self { input = c.pull.new.link; driven = end.new.self }) pulled cx end.new.cx
+    end.result refl refl c.in-Ok-End.ensures.kept.0
     (ap (λ x. x.stages) end.ensures.chain) end.ensures.adds.keeps end.ensures.same.same end.ensures.loses
 
 pub returns-in-Ok-Again-clause-course : goal.returns-in-Ok-Again-clause-course
@@ -160,7 +196,9 @@ returns-in-Ok-Again-clause-course g c =
     let after = record self { input = c.pull.new.link; driven = record self.driven { chain = pulled } } in
     let course = c.rouse_reader.ensures.course in
     let found : AreLinked self cx → AreLinked after cx =
-    linked_kept self.driven after.driven self.writer self.writer self.reader self.reader cx cx refl (live_stages self.driven.chain pulled self.driven.table.items cx c.in-Ok-Again.ensures.kept.0) refl refl in
+    linked_kept self.driven after.driven self.writer self.writer self.reader self.reader cx cx refl
+    (live_stages self.driven.chain pulled self.driven.table.items cx c.in-Ok-Again.ensures.kept.0) refl
+    refl in
     record {
       loses = lose_weaker self.driven c.rouse_reader.new.self.driven c.rouse_reader.new.cx found course.loses;
       keeps = course.keeps;
@@ -170,7 +208,9 @@ returns-in-Ok-Again-clause-course g c =
 
 pub returns-in-Ok-Failed-clause-course : goal.returns-in-Ok-Failed-clause-course
 returns-in-Ok-Failed-clause-course g c =
-    course_aborted c.args.self.now c.abort.new.self c.pull.new.self c.args.cx.now c.requires.turn c.abort.ensures.chain c.abort.ensures.course.table c.abort.ensures.course.running c.abort.ensures.course.lost
+    course_aborted c.args.self.now c.abort.new.self c.pull.new.self c.args.cx.now c.requires.turn
+    c.abort.ensures.chain c.abort.ensures.course.table c.abort.ensures.course.running
+    c.abort.ensures.course.lost
     c.abort.ensures.ends.0 c.abort.ensures.ends.1
 
 pub returns-in-Err-clause-course : goal.returns-in-Err-clause-course
@@ -182,16 +222,19 @@ returns-in-Err-clause-course g c =
       loses = inr (F.NoMemory, refl, refl, tt);
       keeps = keeps_refl cx c.requires.turn;
       live = linked_kept self.driven stopped self.writer self.writer self.reader self.reader cx cx refl
-          (live_stages self.driven.chain c.pull.new.self self.driven.table.items cx (ap (λ x. x.stages) c.in-Err.ensures.err.0)) refl refl;
+          (live_stages self.driven.chain c.pull.new.self self.driven.table.items cx
+          (ap (λ x. x.stages) c.in-Err.ensures.err.0)) refl refl;
       started = λ none. none;
     }
 
 -- At most one event is set, for a duty.
 pub returns-then-is_given-clause-duty : goal.returns-then-is_given-clause-duty
-returns-then-is_given-clause-duty g c = duty_none g.P.Transform.pause c.args.self.now c.args.self.now c.args.cx.now c.requires.turn
+returns-then-is_given-clause-duty g c = duty_none g.P.Transform.pause c.args.self.now c.args.self.now
+    c.args.cx.now c.requires.turn
 
 pub returns-then-not-has_room-clause-duty : goal.returns-then-not-has_room-clause-duty
-returns-then-not-has_room-clause-duty g c = duty_none g.P.Transform.pause c.args.self.now c.args.self.now c.args.cx.now c.requires.turn
+returns-then-not-has_room-clause-duty g c = duty_none g.P.Transform.pause c.args.self.now c.args.self.now
+    c.args.cx.now c.requires.turn
 
 pub returns-in-Ok-Some-clause-duty : goal.returns-in-Ok-Some-clause-duty
 returns-in-Ok-Some-clause-duty g c =
@@ -200,8 +243,10 @@ returns-in-Ok-Some-clause-duty g c =
     let cx = c.args.cx.now in
     record {
       within = acts_adds 1 1 rouse.result cx rouse.new.cx (omega arith) rouse.ensures.adds;
-      only = λ named. subst (λ x. SetsOnly (IsForDuty g.P.Transform.pause x self.driven.table.items cx.moment cx.roles) cx rouse.new.cx) (sym rouse.ensures.chain)
-          (duty_stage g.P.Transform.pause c.pull.new.self self.driven.table.items cx rouse.new.cx (rouse.ensures.only FIRST named.stages));
+      only = λ named. subst (λ x. SetsOnly (IsForDuty g.P.Transform.pause x self.driven.table.items cx.moment
+          cx.roles) cx rouse.new.cx) (sym rouse.ensures.chain)
+          (duty_stage g.P.Transform.pause c.pull.new.self self.driven.table.items cx rouse.new.cx
+          (rouse.ensures.only FIRST named.stages));
     }
 
 pub returns-in-Ok-End-clause-duty : goal.returns-in-Ok-End-clause-duty
@@ -211,7 +256,8 @@ returns-in-Ok-End-clause-duty g c =
     let cx = c.args.cx.now in
     record {
       within = acts_adds 1 1 end.result cx end.new.cx (omega arith) end.ensures.adds;
-      only = λ named. duty_stage g.P.Transform.pause end.new.self.chain self.driven.table.items cx end.new.cx (end.ensures.only FIRST named.stages);
+      only = λ named. duty_stage g.P.Transform.pause end.new.self.chain self.driven.table.items cx end.new.cx
+          (end.ensures.only FIRST named.stages);
     }
 
 pub returns-in-Ok-Again-clause-duty : goal.returns-in-Ok-Again-clause-duty
@@ -223,28 +269,44 @@ returns-in-Ok-Again-clause-duty g c =
     let goes : self.driven.chain.given ≡ false = sym c.is_given.ensures ∙ c.if-is_given.false in
     let kept = c.in-Ok-Again.ensures.kept in
     let first : c.pull.new.self.first ≡ self.driven.chain.first =
-    pulled_none g.I.Link.tells (g.I.Link.look self.input) (g.I.Link.look c.pull.new.link) self.driven.chain.first c.pull.new.self.first c.in-Ok-Again.field-0 MOST_PULLED c.in-Ok-Again.field-0-is c.in-Ok-Again.ensures.pulled in
-    let must : MustRead c.pull.new.self = (kept.1 ∙ goes, subst (λ l. length l < MOST_WAITING) (sym first) room) in
+    pulled_none g.I.Link.tells (g.I.Link.look self.input) (g.I.Link.look c.pull.new.link)
+    self.driven.chain.first c.pull.new.self.first c.in-Ok-Again.field-0 MOST_PULLED
+    c.in-Ok-Again.field-0-is c.in-Ok-Again.ensures.pulled in
+    let must : MustRead c.pull.new.self = (
+      kept.1 ∙ goes,
+      subst (λ l. length l < MOST_WAITING) (sym first)
+          room,
+    ) in
     record {
       within = rouse.ensures.within;
-      only = λ named. duty_end g.P.Transform.pause rouse.new.self.driven.chain c.args.self.now.driven.table.items cx rouse.new.cx
-          (rouses_reader rouse.new.self.driven.chain RETRY cx rouse.new.cx (inr refl) (inl (subst MustRead (sym rouse.ensures.same.chain) must)) (rouse.ensures.rouses.only named.reader));
+      only = λ named. duty_end g.P.Transform.pause rouse.new.self.driven.chain
+          c.args.self.now.driven.table.items cx rouse.new.cx
+          (rouses_reader rouse.new.self.driven.chain RETRY_AFTER cx rouse.new.cx (inr refl)
+          (inl (subst MustRead (sym rouse.ensures.same.chain) must))
+          (rouse.ensures.rouses.only named.reader));
     }
 
 pub returns-in-Ok-Failed-clause-duty : goal.returns-in-Ok-Failed-clause-duty
-returns-in-Ok-Failed-clause-duty g c = duty_none g.P.Transform.pause c.args.self.now c.abort.new.self c.args.cx.now c.requires.turn
+returns-in-Ok-Failed-clause-duty g c = duty_none g.P.Transform.pause c.args.self.now c.abort.new.self
+    c.args.cx.now c.requires.turn
 
 pub returns-in-Err-clause-duty : goal.returns-in-Err-clause-duty
 returns-in-Err-clause-duty g c =
     let self = c.args.self.now in
-    duty_none g.P.Transform.pause self (record self { input = c.pull.new.link; driven = record self.driven { chain = c.pull.new.self; running = false; lost = Some L.NoMemory } }) c.args.cx.now c.requires.turn
+    duty_none g.P.Transform.pause self (record self {
+      input = c.pull.new.link;
+      driven = record self.driven
+          { chain = c.pull.new.self; running = false; lost = Some L.NoMemory };
+    }) c.args.cx.now c.requires.turn
 
 -- It reads once where it must.
 pub returns-then-is_given-clause-does : goal.returns-then-is_given-clause-does
-returns-then-is_given-clause-does g c = λ must. absurd (let wrong : false ≡ true = sym must.0 ∙ sym c.is_given.ensures ∙ c.if-is_given.true in cc)
+returns-then-is_given-clause-does g c = λ must. absurd
+    (let wrong : false ≡ true = sym must.0 ∙ sym c.is_given.ensures ∙ c.if-is_given.true in cc)
 
 pub returns-then-not-has_room-clause-does : goal.returns-then-not-has_room-clause-does
-returns-then-not-has_room-clause-does g c = λ must. absurd (let wrong : false ≡ true = sym c.if-not-has_room.true ∙ c.has_room.ensures.1 must.1 in cc)
+returns-then-not-has_room-clause-does g c = λ must. absurd
+    (let wrong : false ≡ true = sym c.if-not-has_room.true ∙ c.has_room.ensures.1 must.1 in cc)
 
 pub returns-in-Ok-Some-clause-does : goal.returns-in-Ok-Some-clause-does
 returns-in-Ok-Some-clause-does g c = λ must. inl c.in-Ok-Some.ensures.pulled.pulls.once.reads
@@ -253,10 +315,14 @@ pub returns-in-Ok-End-clause-does : goal.returns-in-Ok-End-clause-does
 returns-in-Ok-End-clause-does g c = λ must. inl c.in-Ok-End.ensures.pulled.pulls.once.reads
 
 pub returns-in-Ok-Again-clause-does : goal.returns-in-Ok-Again-clause-does
-returns-in-Ok-Again-clause-does g c = λ must. inl (ap (λ x. (g.I.Link.look x).reads) c.rouse_reader.ensures.same.input ∙ c.in-Ok-Again.ensures.pulled.pulls.once.reads)
+returns-in-Ok-Again-clause-does g c = λ must. inl
+    (ap (λ x. (g.I.Link.look x).reads) c.rouse_reader.ensures.same.input ∙
+    c.in-Ok-Again.ensures.pulled.pulls.once.reads)
 
 pub returns-in-Ok-Failed-clause-does : goal.returns-in-Ok-Failed-clause-does
-returns-in-Ok-Failed-clause-does g c = λ must. inl (ap (λ x. (g.I.Link.look x).reads) c.abort.ensures.links.0 ∙ c.in-Ok-Failed.ensures.pulled.pulls.once.reads)
+returns-in-Ok-Failed-clause-does g c = λ must. inl
+    (ap (λ x. (g.I.Link.look x).reads) c.abort.ensures.links.0 ∙
+    c.in-Ok-Failed.ensures.pulled.pulls.once.reads)
 
 pub returns-in-Err-clause-does : goal.returns-in-Err-clause-does
 returns-in-Err-clause-does g c = λ must. inr (refl, refl)

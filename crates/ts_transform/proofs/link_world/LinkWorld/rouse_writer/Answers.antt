@@ -12,19 +12,23 @@ returns-in-Ok-clause-joined g c = λ was runs.
     let now = c.rouse_end.new.cx in
     let keeps = c.rouse_end.ensures.adds.keeps in
     let stage = c.rouse_end.ensures.stage in
-    joined_ends self.driven.chain self.driven.table.items self.writer c.rouse_end.new.slot self.reader self.reader c.args.cx.now now keeps
-    (stage.of_stage 1) (kept_if c.args.cx.now now keeps 2 self.reader) (driven_kept 3 c.args.cx.now now self.driven.chain self.driven.table.items keeps) (was runs)
+    joined_ends self.driven.chain self.driven.table.items self.writer c.rouse_end.new.slot self.reader
+    self.reader c.args.cx.now now keeps
+    (stage.of_stage 1) (kept_if c.args.cx.now now keeps 2 self.reader)
+    (driven_kept 3 c.args.cx.now now self.driven.chain self.driven.table.items keeps) (was runs)
 
 pub returns-in-Ok-clause-rouses : goal.returns-in-Ok-clause-rouses
 returns-in-Ok-clause-rouses g c = record {
   only = c.rouse_end.ensures.only 1;
-  rests = λ quiet. let h = c.rouse_end.ensures.rests quiet in (ap (λ x. record c.args.self.now { writer = x }) h.0, h.1);
+  rests = λ quiet. let h = c.rouse_end.ensures.rests quiet in
+      (ap (λ x. record c.args.self.now { writer = x }) h.0, h.1);
 }
 
 pub returns-in-Err-clause-rouses : goal.returns-in-Err-clause-rouses
 returns-in-Err-clause-rouses g c = record {
   only = c.rouse_end.ensures.only 1;
-  rests = λ quiet. absurd (let wrong : false ≡ true = ap is_ok (sym c.in-Err.is) ∙ (c.rouse_end.ensures.rests quiet).2 in cc);
+  rests = λ quiet. absurd (let wrong : false ≡ true = ap is_ok (sym c.in-Err.is) ∙
+      (c.rouse_end.ensures.rests quiet).2 in cc);
 }
 
 pub returns-in-Ok-clause-course : goal.returns-in-Ok-clause-course
@@ -34,9 +38,13 @@ returns-in-Ok-clause-course g c =
     record {
       loses = inl (refl, refl);
       keeps = c.rouse_end.ensures.adds.keeps;
-      live = linked_kept self.driven self.driven self.writer c.rouse_end.new.slot self.reader self.reader c.args.cx.now c.rouse_end.new.cx keys
-          (all_live self.driven.chain self.driven.chain self.driven.table.items self.driven.table.items c.args.cx.now c.rouse_end.new.cx keys refl (λ j going. going)) c.rouse_end.ensures.stage.same refl;
-      started = λ none. none_same c.args.self.now.writer c.rouse_end.new.slot c.rouse_end.ensures.stage.same none;
+      live = linked_kept self.driven self.driven self.writer c.rouse_end.new.slot self.reader self.reader
+          c.args.cx.now c.rouse_end.new.cx keys
+          (all_live self.driven.chain self.driven.chain self.driven.table.items self.driven.table.items
+          c.args.cx.now c.rouse_end.new.cx keys refl (λ j going. going)) c.rouse_end.ensures.stage.same
+          refl;
+      started = λ none. none_same c.args.self.now.writer c.rouse_end.new.slot c.rouse_end.ensures.stage.same
+          none;
     }
 
 pub returns-in-Err-clause-course : goal.returns-in-Err-clause-course
@@ -47,8 +55,14 @@ returns-in-Err-clause-course g c =
     record {
       keeps = c.rouse_end.ensures.adds.keeps;
       loses = end_loses self.driven lost c.in-Err.fault c.rouse_end.new.cx refl (ap Some c.of_set.ensures)
-          (cause_weaker c.in-Err.fault c.rouse_end.new.cx (λ all. end_live self.writer c.rouse_end.new.slot c.args.cx.now c.rouse_end.new.cx keys c.rouse_end.ensures.stage.same all.writer) c.in-Err.ensures.adds.cause);
-      live = linked_kept self.driven lost self.writer c.rouse_end.new.slot self.reader self.reader c.args.cx.now c.rouse_end.new.cx keys
-          (all_live self.driven.chain self.driven.chain self.driven.table.items self.driven.table.items c.args.cx.now c.rouse_end.new.cx keys refl (λ j going. going)) c.rouse_end.ensures.stage.same refl;
-      started = λ none. none_same c.args.self.now.writer c.rouse_end.new.slot c.rouse_end.ensures.stage.same none;
+          (cause_weaker c.in-Err.fault c.rouse_end.new.cx
+          (λ all. end_live self.writer c.rouse_end.new.slot c.args.cx.now c.rouse_end.new.cx keys
+          c.rouse_end.ensures.stage.same all.writer) c.in-Err.ensures.adds.cause);
+      live = linked_kept self.driven lost self.writer c.rouse_end.new.slot self.reader self.reader
+          c.args.cx.now c.rouse_end.new.cx keys
+          (all_live self.driven.chain self.driven.chain self.driven.table.items self.driven.table.items
+          c.args.cx.now c.rouse_end.new.cx keys refl (λ j going. going)) c.rouse_end.ensures.stage.same
+          refl;
+      started = λ none. none_same c.args.self.now.writer c.rouse_end.new.slot c.rouse_end.ensures.stage.same
+          none;
     }
