@@ -45,7 +45,7 @@ use Rattle.ts_relay.specs.Finishing.{LeadsBody}
 use Rattle.ts_phases.specs.RelayMoves.{QueuesHead}
 use Rattle.ts_relay.specs.Relaying.{DrivesOn, ReadsBody, RelaysBody, StepsChain}
 use Rattle.ts_relay.specs.Duties.{relay_seats}
-use Rattle.ts_relay.specs.Entering.{BeginsChain, BeginsRelay, BeginsRunning, EntersBody, GetsStart, IsFreshRelay, IsUnbegun, QuietLinks}
+use Rattle.ts_relay.specs.Entering.{BeginsChain, BeginsRelay, BeginsRunning, EntersBody, GetsStart, IsFreshRelay, IsUnbegun, CallsNeither}
 use Rattle.ts_relay.specs.declared.last_writes.BodyStep.{BodyStep}
 use Rattle.ts_relay.specs.declared.last_writes.BodyStep.TheVariants as S
 use Rattle.ts_phases.specs.declared.phase.Request.{Request}
@@ -376,7 +376,7 @@ module _ (setup : Setup) (refuses : Type 0) where
       (record { any = relays_any setup refuses v q h f; by = tt })
 
 -- no call was made
-pub quiet_none : (v w : View) → w ≡ v → QuietLinks v w
+pub quiet_none : (v w : View) → w ≡ v → CallsNeither v w
 quiet_none v w same = record {
   client = ap (λ (x : View). x.client.look) same;
   held = ap (λ (x : View).
@@ -384,7 +384,7 @@ quiet_none v w same = record {
   origin = ap (λ (x : View). x.origin) same;
 }
 
-pub quiet_head : (text : List ℕ) (mode : Mode) (v w : View) → QueuesHead text mode v w → QuietLinks v w
+pub quiet_head : (text : List ℕ) (mode : Mode) (v w : View) → QueuesHead text mode v w → CallsNeither v w
 quiet_head text mode v w queued = record {
   client = ap (λ (s : LinkSide). s.look) queued.client;
   held = ap (λ (s : LinkSide). s.inbox) queued.client;

@@ -70,7 +70,7 @@ module _ (setup : Setup) (refuses : Type 0) where
     pub sends : SendsBody setup refuses q h rest v.client v.sent c read
 
 -- no call was made on either link, and what they gave is kept
-pub record QuietLinks (v w : View) : Type 0 where
+pub record CallsNeither (v w : View) : Type 0 where
   pub client : w.client.look ≡ v.client.look
   pub held : w.client.inbox ≡ v.client.inbox
   pub origin : w.origin ≡ v.origin

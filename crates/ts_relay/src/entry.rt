@@ -6,7 +6,7 @@ ghost use Rattle.ts_wire.specs.Place.{state_of};
 ghost use Rattle.ts_relay.specs.Feeding.{OnGoes};
 ghost use Rattle.ts_transform.specs.Driving.{SetsOnly};
 ghost use Rattle.ts_relay.specs.Relaying.{IsNotSpent, IsOfRoleFrom, RelayLeads, StepsChain, set_by_stage};
-ghost use Rattle.ts_relay.specs.Entering.{ActsAsLines, BeginsChain, BeginsRelay, EnterHolds, EntersAfter, GetsStart, HeadHolds, IsUnbegun, LacksAfter, QuietLinks};
+ghost use Rattle.ts_relay.specs.Entering.{ActsAsLines, BeginsChain, BeginsRelay, EnterHolds, EntersAfter, GetsStart, HeadHolds, IsUnbegun, LacksAfter, CallsNeither};
 ghost use Rattle.ts_relay.specs.LoweringBody.{BeginsLower};
 ghost use Rattle.ts_relay.specs.StepsOwed.{EntryLowers};
 ghost use Rattle.ts_phases.specs.Holding.{StepKeeps};
@@ -99,7 +99,7 @@ pub fn queue_relay<C: Link, O: Upstream<C>, P: Transform<Line = TransformLine> +
     ensures err { OnErr result (LacksAfter C.Link O.Link O.Upstream.own core.old core.new) }
     ensures fresh { IfOk result (λ r. IsUnbegun r
         × (r.driven.chain.given ≡ false) × OnlyFirstWorks r.driven.chain) }
-    ensures quiet { QuietLinks (view_of C.Link O.Link core.old) (view_of C.Link O.Link core.new) }
+    ensures quiet { CallsNeither (view_of C.Link O.Link core.old) (view_of C.Link O.Link core.new) }
     ensures lowers { IfOk result (EntryLowers C.Link O.Link P.Transform core.old core.new request.now
         head.now) }
     ensures keeps { StepKeeps C.Link O.Link O.Upstream.own core.old core.new }

@@ -18,7 +18,7 @@ use Rattle.ts_phases.specs.Cover.{Proceeds, StepLeads, StepsTo, is_ended, is_fre
 use Rattle.ts_txn.specs.CourseCover.{is_fresh_on, IsCoveredNow, LedAfter, LedBehind, StaysOnOrLacks}
 use Rattle.ts_relay.specs.Duties.{set_leaving}
 use Rattle.ts_txn.specs.Driven.{BeginsIn, ClosesAs, DueTo, HandlesEvent, HandlesOn, MindsCourse, TakesEvent, TakesOn, TakesStep, WritesOr, delay_of}
-use Rattle.ts_relay.specs.Entering.{QuietLinks}
+use Rattle.ts_relay.specs.Entering.{CallsNeither}
 use Rattle.ts_phases.specs.Steps.{LeavesClient, LeavesClientIn, LeavesOrigin, LeavesOriginIn, LeavesSides, MindsLinksIn, WaitsRightly}
 use Rattle.ts_phases.specs.Holding.{IfTold, StepKeeps}
 use Rattle.ts_phases.specs.View.{LinkSide, View, view_of}
@@ -70,7 +70,7 @@ module _ (v w : View) where
     });
   }
     where
-      calls : (p : Phase) → BeginsIn p v w → QuietLinks v w
+      calls : (p : Phase) → BeginsIn p v w → CallsNeither v w
       calls (P.ResponseTransform q h) begins = begins
       calls _ begins = absurd begins
 

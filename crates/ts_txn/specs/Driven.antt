@@ -14,7 +14,7 @@ use Rattle.ts_txn.specs.Course.{course_after, finish_after}
 use Rattle.ts_phases.specs.Cover.{is_fresh}
 use Rattle.ts_txn.specs.CourseCover.{is_fresh_on, LedAfter, StaysOnOrLacks, pause_of}
 use Rattle.ts_relay.specs.Duties.{set_leaving, DoesOwnWork}
-use Rattle.ts_relay.specs.Entering.{QuietLinks}
+use Rattle.ts_relay.specs.Entering.{CallsNeither}
 use Rattle.ts_phases.specs.Holding.{IfTold, StepKeeps}
 use Rattle.ts_phases.specs.Steps.{LeavesSides, MindsLinksIn, WaitsRightly}
 use Rattle.ts_phases.specs.View.{View, view_of}
@@ -39,7 +39,7 @@ delay_of N.Done = 0
 
 -- a body begins to be passed on in one phase alone, and no call is made on a link then
 abbrev pub BeginsIn : Phase → View → View → Type 0
-BeginsIn (P.ResponseTransform q h) v w = QuietLinks v w
+BeginsIn (P.ResponseTransform q h) v w = CallsNeither v w
 BeginsIn _ v w = ⊥
 
 -- a transaction that closes ends so, and nothing else comes of it
