@@ -34,7 +34,7 @@ use Rattle.ts_phases.specs.declared.phase.Step.{Step}
 use Rattle.ts_phases.proofs.Leaving.{asked_leaves, heard_leaves, queued_leaves, still_leaves, wrote_leaves}
 use Rattle.ts_phases.proofs.Minding.{client_left, found_again, found_failed, full_client, full_origin}
 use Rattle.ts_phases.proofs.Minding.{heard_request, heard_response, late_client, late_origin, lost_client}
-use Rattle.ts_phases.proofs.Minding.{lost_origin, origin_left, queued_own, queued_request, stood}
+use Rattle.ts_phases.proofs.Minding.{lost_origin, origin_left, queued_own, queued_request}
 use Rattle.ts_phases.proofs.Minding.{wrote_client, wrote_origin}
 use Rattle.ts_phases.proofs.Sparing.{asked_spares, held_spares, queued_spares, sent_spares, still_spares}
 use Rattle.ts_phases.proofs.Sparing.{wrote_spares}

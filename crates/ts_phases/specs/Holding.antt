@@ -1,5 +1,5 @@
 -- What holds of a transaction by its phase, where its links tell, and what a step keeps.
-use Rattle.std.specs.Prelude.{◌≡◌, List, ℕ, Bool, true}
+use Rattle.std.specs.Prelude.{◌≡◌, Bool, true}
 use Rattle.std.specs.Arc.{arc_value}
 use Rattle.ts_config.specs.declared.setup.Setup.{Setup}
 use Rattle.ts_link.specs.Link.{Look}

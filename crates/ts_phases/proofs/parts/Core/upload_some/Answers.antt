@@ -1,7 +1,6 @@
 -- Each answer of a move of the upload: where it leads, what it owes, and that less is left to do.
-use Rattle.std.proofs.Common.{refl, ap}
+use Rattle.std.proofs.Common.{refl}
 use Rattle.ts_upstream.specs.declared.upstream.Uploaded.TheVariants as U
-use Rattle.ts_phases.specs.declared.phase.OwnAnswer.{OwnAnswer}
 use Rattle.std.specs.Arc.{arc_value}
 use Rattle.ts_hooks.specs.declared.txn_end.TxnEnd.TheVariants as E
 use Rattle.ts_phases.specs.declared.phase.Next.TheVariants as N
