@@ -4,7 +4,7 @@ use Rattle.std.specs.Prelude.{nat_le}
 use Rattle.std.specs.Option.{option_map, option_and_then}
 use Rattle.ts_config.specs.declared.setup.TransformLine.{TransformLine}
 use Rattle.ts_config.specs.declared.setup.TransformLine.TheVariants as t
-use Rattle.ts_config.specs.declared.setup.Entry.TheVariants.{Empty, Transform}
+use Rattle.ts_config.specs.declared.setup.LineMeaning.TheVariants.{Empty, Transform}
 use Rattle.ts_config.specs.declared.table.PluginName.{PluginName}
 use Rattle.ts_config.specs.declared.table.PluginName.TheVariants as n
 use Rattle.ts_config.specs.Numerals.{byte_of, number_of}

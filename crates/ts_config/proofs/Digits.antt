@@ -8,14 +8,12 @@ use Rattle.std.proofs.Math.Seq.{drop-cons}
 use Rattle.std.proofs.lemmas.Str.{digit_value_digit}
 use Rattle.std.proofs.lemmas.Grind.{common_steps}
 use Rattle.std.proofs.lemmas.Bool.Decides.{nat_tests}
+use Rattle.ts_lists.proofs.Digits.{digit_range}
 use Rattle.ts_config.specs.Numerals.{number_of, has_no_leading_zero}
 
 pub value_grows : (v : ℕ) (ds : List ℕ) → v ≤ digits_value_after 10 v ds
 value_grows v [] = omega arith
 value_grows v (d ∷ ds) = omega (arith, value_grows (v * 10 + digit_value d) ds)
-
-digit_range : (d : ℕ) → is_ascii_digit d ≡ true → IsInRange 48 57 d
-digit_range d is = grind (arith, nat_tests)
 
 -- one digit more
 pub digit_step : (word : List ℕ) (i v : ℕ) → i < length word → is_ascii_digit (get_or word i 0) ≡ true

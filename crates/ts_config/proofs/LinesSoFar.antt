@@ -2,7 +2,7 @@
 use Rattle.std.proofs.Common.{◌≡◌, ℕ, ◌+◌, ◌≤◌, List, [], ◌∷◌, ◌++◌, length, Ok, refl, ap, sym, ◌∙◌, subst, arith, append_assoc, append-nil, length-append}
 use Rattle.std.specs.List.{AllZip}
 use Rattle.ts_config.specs.declared.setup.TransformLine.{TransformLine}
-use Rattle.ts_config.specs.declared.setup.Entry.{Entry}
+use Rattle.ts_config.specs.declared.setup.LineMeaning.{LineMeaning}
 use Rattle.ts_config.specs.declared.setup.ConfigKind.{ConfigKind}
 use Rattle.ts_config.specs.Lines.{config_lines}
 use Rattle.ts_config.specs.Reading.{Means, transform_in, transforms_in, AreRead, Breaks, IsFault, RefusesRightly, IsConfiguration}
@@ -13,20 +13,20 @@ use Rattle.ts_config.specs.declared.read.LineRefusal.TheVariants as r
 -- the lines before the rest are so many, and mean these transforms
 pub record LinesRead (bytes rest : List ℕ) (number : ℕ) (transforms : List TransformLine) : Type 0 where
   pub before : List (List ℕ)
-  pub es : List Entry
+  pub es : List LineMeaning
   pub lines_are : config_lines bytes ≡ before ++ config_lines rest
   pub number_is : number ≡ length before
   pub fine : AreRead before es
   pub transforms_are : transforms ≡ transforms_in es
 
-pub transforms_in-append : (es fs : List Entry) → transforms_in (es ++ fs) ≡ transforms_in es
+pub transforms_in-append : (es fs : List LineMeaning) → transforms_in (es ++ fs) ≡ transforms_in es
     ++ transforms_in fs
 transforms_in-append [] fs = refl
 transforms_in-append (e ∷ es) fs =
     ap (λ ls. transform_in e ++ ls) (transforms_in-append es fs)
     ∙ sym (append_assoc (transform_in e) (transforms_in es) (transforms_in fs))
 
-pub each_more : (lines : List (List ℕ)) (es : List Entry) (line : List ℕ) (e : Entry)
+pub each_more : (lines : List (List ℕ)) (es : List LineMeaning) (line : List ℕ) (e : LineMeaning)
     → AllZip (λ l m. Means l (Ok m)) lines es → Means line (Ok e)
     → AllZip (λ l m. Means l (Ok m)) (lines ++ line ∷ []) (es ++ e ∷ [])
 each_more [] [] line e each means = (means, tt)
@@ -50,7 +50,7 @@ module _ (bytes rest : List ℕ) (number : ℕ) (transforms : List TransformLine
   lines_with : config_lines bytes ≡ read.before ++ line ∷ config_lines behind
   lines_with = read.lines_are ∙ ap (λ ls. read.before ++ ls) cut
 
-  pub line_more : (e : Entry) (now : List TransformLine) → Means line (Ok e)
+  pub line_more : (e : LineMeaning) (now : List TransformLine) → Means line (Ok e)
       → now ≡ transforms ++ transform_in e → length now ≤ 16
       → LinesRead bytes behind (number + 1) now
   line_more e now means is few =

@@ -5,8 +5,8 @@ use Rattle.std.specs.List.{AllZip}
 use Rattle.std.proofs.lemmas.List.{map-append}
 use Rattle.ts_config.specs.declared.setup.TransformLine.{TransformLine}
 use Rattle.ts_config.specs.declared.setup.ConfigKind.TheVariants as k
-use Rattle.ts_config.specs.declared.setup.Entry.{Entry}
-use Rattle.ts_config.specs.declared.setup.Entry.TheVariants.{Empty, Transform}
+use Rattle.ts_config.specs.declared.setup.LineMeaning.{LineMeaning}
+use Rattle.ts_config.specs.declared.setup.LineMeaning.TheVariants.{Empty, Transform}
 use Rattle.ts_config.specs.Lines.{config_lines}
 use Rattle.ts_config.specs.Setup.{untexted}
 use Rattle.ts_config.specs.Words.{IsWords}
@@ -15,7 +15,7 @@ use Rattle.ts_config.specs.Reading.{is_text, Means, MeansByWords, transform_in, 
 use Rattle.ts_config.proofs.Asked.{asked, entry_asked, untexted-asked}
 
 -- a line in the grammar is text, and its words mean what it means
-pub in_words : (line : List ℕ) (e : Entry) → Means line (Ok e)
+pub in_words : (line : List ℕ) (e : LineMeaning) → Means line (Ok e)
     → (is_text line ≡ true) × ((words : List (List ℕ)) × IsWords line words × (Ok e ≡ line_entry words))
 in_words line e means = by_text (is_text line) refl means
   where
@@ -29,7 +29,7 @@ in_words line e means = by_text (is_text line) refl means
     by_text true text means = (text, by_words means)
     by_text false text wrong = absurd (let e' : Ok e ≡ Err k.Text = wrong in cc)
 
-untexted-entry : (line : List ℕ) (e : Entry) → Means line (Ok e)
+untexted-entry : (line : List ℕ) (e : LineMeaning) → Means line (Ok e)
     → map untexted (transform_in e) ≡ transform_in e
 untexted-entry line Empty means = refl
 untexted-entry line (Transform l) means =
@@ -37,7 +37,7 @@ untexted-entry line (Transform l) means =
     let (name, first, others, split, found, some) = entry_asked words.0 l words.2 in
     ap (λ x. x ∷ []) (untexted-asked l name others (asked name others l some))
 
-untexted-entries : (lines : List (List ℕ)) (es : List Entry) → AllZip (λ l m. Means l (Ok m)) lines es
+untexted-entries : (lines : List (List ℕ)) (es : List LineMeaning) → AllZip (λ l m. Means l (Ok m)) lines es
     → map untexted (transforms_in es) ≡ transforms_in es
 untexted-entries [] [] each = refl
 untexted-entries [] (e ∷ es) each = absurd each

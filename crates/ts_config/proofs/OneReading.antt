@@ -6,14 +6,14 @@ use Rattle.ts_lists.proofs.Fronts.{two_cuts}
 use Rattle.ts_config.specs.declared.setup.TransformLine.{TransformLine}
 use Rattle.ts_config.specs.declared.setup.ConfigKind.{ConfigKind}
 use Rattle.ts_config.specs.declared.setup.ConfigKind.TheVariants as k
-use Rattle.ts_config.specs.declared.setup.Entry.{Entry}
+use Rattle.ts_config.specs.declared.setup.LineMeaning.{LineMeaning}
 use Rattle.ts_config.specs.Lines.{config_lines}
 use Rattle.ts_config.specs.Table.{line_entry}
 use Rattle.ts_config.specs.Reading.{is_text, Means, MeansByWords, transform_in, transforms_in, AreRead, Breaks, IsFault, IsConfiguration}
 use Rattle.ts_config.proofs.Scan.{one_words}
 use Rattle.ts_config.proofs.LinesSoFar.{transforms_in-append}
 
-by_words_once : (line : List ℕ) (a b : Result Entry ConfigKind) → MeansByWords line a → MeansByWords line b
+by_words_once : (line : List ℕ) (a b : Result LineMeaning ConfigKind) → MeansByWords line a → MeansByWords line b
     → a ≡ b
 by_words_once line a b (inl (vs, are, is)) (inl (ws, too, also)) =
     is ∙ ap line_entry (one_words vs ws line are too) ∙ sym also
@@ -22,7 +22,7 @@ by_words_once line a b (inr (none, quote)) (inl (ws, are, is)) = absurd (none ws
 by_words_once line a b (inr (none, quote)) (inr (too, also)) = quote ∙ sym also
 
 -- a line means one thing
-pub means_once : (line : List ℕ) (a b : Result Entry ConfigKind) → Means line a → Means line b → a ≡ b
+pub means_once : (line : List ℕ) (a b : Result LineMeaning ConfigKind) → Means line a → Means line b → a ≡ b
 means_once line a b first second = by_text (is_text line) first second
   where
     by_text : (t : Bool) → MatchBool t (MeansByWords line a) (a ≡ Err k.Text)
@@ -30,14 +30,14 @@ means_once line a b first second = by_text (is_text line) first second
     by_text true x y = by_words_once line a b x y
     by_text false x y = x ∙ sym y
 
-one_entry : (line : List ℕ) (e f : Entry) → Means line (Ok e) → Means line (Ok f) → e ≡ f
+one_entry : (line : List ℕ) (e f : LineMeaning) → Means line (Ok e) → Means line (Ok f) → e ≡ f
 one_entry line e f first second = let same : Ok e ≡ Ok f = means_once line (Ok e) (Ok f) first second in cc
 
-not_both : (line : List ℕ) (e : Entry) (kind : ConfigKind) → Means line (Ok e) → Means line (Err kind) → ⊥
+not_both : (line : List ℕ) (e : LineMeaning) (kind : ConfigKind) → Means line (Ok e) → Means line (Err kind) → ⊥
 not_both line e kind fine faulty =
     let same : Ok e ≡ Err kind = means_once line (Ok e) (Err kind) fine faulty in cc
 
-each_once : (lines : List (List ℕ)) (es fs : List Entry) → AllZip (λ l m. Means l (Ok m)) lines es
+each_once : (lines : List (List ℕ)) (es fs : List LineMeaning) → AllZip (λ l m. Means l (Ok m)) lines es
     → AllZip (λ l m. Means l (Ok m)) lines fs → es ≡ fs
 each_once [] [] [] a b = refl
 each_once [] [] (f ∷ fs) a b = absurd b
@@ -54,9 +54,9 @@ one_reading bytes ts us a b =
     ∙ sym b.transforms_are
 
 -- the entries of lines, cut at a line
-cut_entries : (before : List (List ℕ)) (line : List ℕ) (after : List (List ℕ)) (es : List Entry)
+cut_entries : (before : List (List ℕ)) (line : List ℕ) (after : List (List ℕ)) (es : List LineMeaning)
     → AllZip (λ l m. Means l (Ok m)) (before ++ line ∷ after) es
-    → (fs : List Entry) × (e : Entry) × (gs : List Entry) × (es ≡ fs ++ e ∷ gs)
+    → (fs : List LineMeaning) × (e : LineMeaning) × (gs : List LineMeaning) × (es ≡ fs ++ e ∷ gs)
     × AllZip (λ l m. Means l (Ok m)) before fs × Means line (Ok e)
 cut_entries [] line after [] each = absurd each
 cut_entries [] line after (e ∷ es) each = ([], e, es, refl, tt, each.0)
@@ -66,7 +66,7 @@ cut_entries (l ∷ ls) line after (e ∷ es) each =
     (e ∷ fs, f, gs, ap (λ xs. e ∷ xs) is, (each.0, fine), means)
 
 -- no lines are read and have a fault
-pub read_or_fault : (lines : List (List ℕ)) (es : List Entry) (n : ℕ) (kind : ConfigKind) → AreRead lines es
+pub read_or_fault : (lines : List (List ℕ)) (es : List LineMeaning) (n : ℕ) (kind : ConfigKind) → AreRead lines es
     → IsFault lines n kind → ⊥
 read_or_fault lines es n kind read fault =
     let (fs, e, gs, is, fine, means) =
@@ -75,7 +75,7 @@ read_or_fault lines es n kind read fault =
     let same : fs ≡ fault.es = each_once fault.before fs fault.es fine fault.fine.each in
     by_cause fs e gs is same means fault.breaks
   where
-    by_cause : (fs : List Entry) (e : Entry) (gs : List Entry) → es ≡ fs ++ e ∷ gs → fs ≡ fault.es
+    by_cause : (fs : List LineMeaning) (e : LineMeaning) (gs : List LineMeaning) → es ≡ fs ++ e ∷ gs → fs ≡ fault.es
         → Means fault.line (Ok e) → Breaks (transforms_in fault.es) fault.line kind → ⊥
     by_cause fs e gs is same means (inl faulty) = not_both fault.line e kind means faulty
     by_cause fs e gs is same means (inr (f, also, many, too_many)) =

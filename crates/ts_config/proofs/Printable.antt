@@ -12,8 +12,8 @@ use Rattle.std.proofs.lemmas.Bool.{cases_lt}
 use Rattle.std.proofs.lemmas.Bool.Decides.{nat_tests}
 use Rattle.ts_config.specs.declared.setup.TransformLine.{TransformLine}
 use Rattle.ts_config.specs.declared.setup.TransformLine.TheVariants as t
-use Rattle.ts_config.specs.declared.setup.Entry.{Entry}
-use Rattle.ts_config.specs.declared.setup.Entry.TheVariants.{Empty, Transform}
+use Rattle.ts_config.specs.declared.setup.LineMeaning.{LineMeaning}
+use Rattle.ts_config.specs.declared.setup.LineMeaning.TheVariants.{Empty, Transform}
 use Rattle.ts_config.specs.declared.table.PluginName.{PluginName}
 use Rattle.ts_config.specs.Lines.{config_lines}
 use Rattle.ts_config.specs.Numerals.{hex_value, byte_of, number_of, has_no_leading_zero}
@@ -101,7 +101,7 @@ line_printable line l means =
     let fine = subst (AllByRecursion IsFine) split (words_fine found.0 line (text-from line text) found.1) in
     asked_printable l name others (asked name others l some) fine.1
 
-lines_printable : (lines : List (List ℕ)) (es : List Entry) → AllZip (λ l m. Means l (Ok m)) lines es
+lines_printable : (lines : List (List ℕ)) (es : List LineMeaning) → AllZip (λ l m. Means l (Ok m)) lines es
     → AllByRecursion IsPrintable (transforms_in es)
 lines_printable [] [] each = tt
 lines_printable [] (e ∷ es) each = absurd each

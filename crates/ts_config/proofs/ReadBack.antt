@@ -13,8 +13,8 @@ use Rattle.std.proofs.lemmas.Bool.Decides.{nat_tests}
 use Rattle.ts_config.specs.declared.setup.TransformLine.{TransformLine}
 use Rattle.ts_config.specs.declared.setup.TransformLine.TheVariants as t
 use Rattle.ts_config.specs.declared.setup.ConfigKind.TheVariants as k
-use Rattle.ts_config.specs.declared.setup.Entry.{Entry}
-use Rattle.ts_config.specs.declared.setup.Entry.TheVariants.{Transform}
+use Rattle.ts_config.specs.declared.setup.LineMeaning.{LineMeaning}
+use Rattle.ts_config.specs.declared.setup.LineMeaning.TheVariants.{Transform}
 use Rattle.ts_config.specs.declared.table.PluginName.{PluginName}
 use Rattle.ts_config.specs.declared.table.PluginName.TheVariants as n
 use Rattle.ts_config.specs.Numerals.{byte_of, byte_word, hex_digit}
@@ -167,7 +167,7 @@ line_is_text : (l : TransformLine) → IsPrintable l → IsText (line_text l)
 line_is_text l is = text-append (spelling (line_name l)) (spelled_words (line_arguments l))
     (name_text (line_name l)) (words_text (line_arguments l) (arguments_fine l is))
 
-abbrev meaning : TransformLine → Entry
+abbrev meaning : TransformLine → LineMeaning
 meaning l = Transform (untexted l)
 
 line_means : (l : TransformLine) → IsPrintable l → Means (line_text l) (Ok (meaning l))

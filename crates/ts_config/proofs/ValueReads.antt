@@ -4,12 +4,13 @@ use Rattle.std.specs.Prelude.{◌==◌, nat_le, MatchBool}
 use Rattle.std.specs.List.{prefix_len}
 use Rattle.std.specs.Option.{option_map}
 use Rattle.std.proofs.lemmas.Bool.Decides.{nat_tests}
+use Rattle.ts_lists.proofs.Cases.{split}
 use Rattle.ts_config.specs.declared.setup.TransformLine.{TransformLine}
 use Rattle.ts_config.specs.declared.setup.ConfigKind.{ConfigKind}
 use Rattle.ts_config.specs.declared.setup.ConfigKind.TheVariants as k
 use Rattle.ts_config.specs.declared.setup.ConfigRefusal.{ConfigRefusal}
 use Rattle.ts_config.specs.declared.setup.ConfigRefusal.TheVariants as c
-use Rattle.ts_config.specs.declared.setup.Entry.{Entry}
+use Rattle.ts_config.specs.declared.setup.LineMeaning.{LineMeaning}
 use Rattle.ts_config.specs.Lines.{config_lines}
 use Rattle.ts_config.specs.Words.{is_blank, is_end, EndsWord, HasNoWord, BeginsWith, IsWords}
 use Rattle.ts_config.specs.Reading.{is_text, Means, MeansByWords, transform_in, transforms_in, AreRead, Breaks, IsFault, IsConfiguration, RefusesRightly}
@@ -26,10 +27,6 @@ abbrev IsFront : List ℕ → Front → Type 0
 IsFront line nothing = HasNoWord line
 IsFront line (word w rest) = BeginsWith line w rest
 IsFront line unclosed = (words : List (List ℕ)) → ¬ IsWords line words
-
-by_test : (b : Bool) (P : Bool → Type 0) → (b ≡ true → P true) → (b ≡ false → P false) → P b
-by_test true P if_true if_false = if_true refl
-by_test false P if_true if_false = if_false refl
 
 unequal : (a b : ℕ) → (a == b) ≡ false → a ≢ b
 unequal a b is same = grind (arith, nat_tests, is)
@@ -53,7 +50,7 @@ module _ (line bs : List ℕ) (text : 34 ∷ bs ≡ drop (prefix_len is_blank li
   quoted_right (q ∷ []) cut = closed_begins q [] cut tt
   quoted_right (q ∷ b ∷ rest) cut =
       let w : List ℕ = take (prefix_len is_quotable_byte bs) bs in
-      by_test (is_end b) (λ t. IsFront line (cond t (word w (b ∷ rest)) unclosed))
+      split (is_end b) (λ t. IsFront line (cond t (word w (b ∷ rest)) unclosed))
       (λ ends. closed_begins q (b ∷ rest) cut ends)
       (λ within. no_words line (34 ∷ bs) text bs refl
       (closed_within bs (q ∷ b ∷ rest) cut q (b ∷ rest) refl (λ ends. let wrong : false ≡ true =
@@ -68,9 +65,9 @@ front_right line (b ∷ bs) is =
     let plain : Front =
     word (take (prefix_len is_plain_byte (b ∷ bs)) (b ∷ bs))
     (drop (prefix_len is_plain_byte (b ∷ bs)) (b ∷ bs)) in
-    by_test (b == 35) (λ t. IsFront line (cond t nothing (cond (b == 34) between plain)))
+    split (b == 35) (λ t. IsFront line (cond t nothing (cond (b == 34) between plain)))
     (λ comment. end-found line (b ∷ bs) is (eqb-true b 35 comment))
-    (λ other. by_test (b == 34) (λ t. IsFront line (cond t between plain))
+    (λ other. split (b == 34) (λ t. IsFront line (cond t between plain))
     (λ quote. quoted_right line bs (ap (λ x. x ∷ bs) (sym (eqb-true b 34 quote))
     ∙ is) (drop (prefix_len is_quotable_byte bs) bs) refl)
     (λ no_quote. plain-found line (b ∷ bs) is b bs (take (prefix_len is_plain_byte (b ∷ bs)) (b ∷ bs))
@@ -105,7 +102,7 @@ words_right (suc n) line short =
 -- a line means its value
 meaning_right : (line : List ℕ) → Means line (meaning_of line)
 meaning_right line =
-    by_test (is_text line) (λ t. MatchBool t (MeansByWords line
+    split (is_text line) (λ t. MatchBool t (MeansByWords line
     (cond t (meaning_of_words (words_in line)) (Err k.Text)))
     (cond t (meaning_of_words (words_in line)) (Err k.Text) ≡ Err k.Text))
     (λ text. by_words (words_in line) (words_right (suc (length line)) line (omega arith)))
@@ -118,14 +115,14 @@ meaning_right line =
 
 -- lines behind those that were read
 abbrev AreSo : List (List ℕ) → Reading → Type 0
-AreSo lines (Good ts) = (es : List Entry) × AreRead lines es × (ts ≡ transforms_in es)
+AreSo lines (Good ts) = (es : List LineMeaning) × AreRead lines es × (ts ≡ transforms_in es)
 AreSo lines (Bad n kind) = IsFault lines n kind
 
-one_more : (es : List Entry) (e : Entry) → transforms_in (es ++ e ∷ []) ≡ transforms_in es ++ transform_in e
+one_more : (es : List LineMeaning) (e : LineMeaning) → transforms_in (es ++ e ∷ []) ≡ transforms_in es ++ transform_in e
 one_more es e = transforms_in-append es (e ∷ []) ∙ ap (λ ts. transforms_in es ++ ts)
     (append-nil (transform_in e))
 
-lines_right : (lines before : List (List ℕ)) (es : List Entry) (n : ℕ) → AreRead before es → n ≡ length before
+lines_right : (lines before : List (List ℕ)) (es : List LineMeaning) (n : ℕ) → AreRead before es → n ≡ length before
     → AreSo (before ++ lines) (read_lines lines n (transforms_in es))
 lines_right [] before es n read is = (es, subst (λ ls. AreRead ls es) (sym (append-nil before)) read, refl)
 lines_right (line ∷ lines) before es n read is =
@@ -145,9 +142,9 @@ lines_right (line ∷ lines) before es n read is =
       breaks = breaks;
     }
 
-    go_on : ((first : List (List ℕ)) (fs : List Entry) (m : ℕ) → AreRead first fs → m ≡ length first
+    go_on : ((first : List (List ℕ)) (fs : List LineMeaning) (m : ℕ) → AreRead first fs → m ≡ length first
         → AreSo (first ++ lines) (read_lines lines m (transforms_in fs)))
-        → (e : Entry) → Means line (Ok e) → length (transforms_in es ++ transform_in e) ≤ 16
+        → (e : LineMeaning) → Means line (Ok e) → length (transforms_in es ++ transform_in e) ≤ 16
         → AreSo (before ++ line ∷ lines) (read_lines lines (n + 1) (transforms_in es ++ transform_in e))
     go_on others e means few =
         let now : AreRead (before ++ line ∷ []) (es ++ e ∷ []) = record {
@@ -163,14 +160,14 @@ lines_right (line ∷ lines) before es n read is =
         (subst (λ ts. AreSo ((before ++ line ∷ []) ++ lines) (read_lines lines (n + 1) ts))
         (one_more es e) rest)
 
-    by_meaning : ((first : List (List ℕ)) (fs : List Entry) (m : ℕ) → AreRead first fs → m ≡ length first
+    by_meaning : ((first : List (List ℕ)) (fs : List LineMeaning) (m : ℕ) → AreRead first fs → m ≡ length first
         → AreSo (first ++ lines) (read_lines lines m (transforms_in fs)))
-        → (meaning : Result Entry ConfigKind) → Means line meaning
+        → (meaning : Result LineMeaning ConfigKind) → Means line meaning
         → AreSo (before ++ line ∷ lines) (next_lines meaning (n + 1) (transforms_in es)
         (read_lines lines (n + 1)))
     by_meaning others (Err kind) means = fault kind (inl means)
     by_meaning others (Ok e) means =
-        by_test (nat_le (length (transforms_in es ++ transform_in e)) 16)
+        split (nat_le (length (transforms_in es ++ transform_in e)) 16)
         (λ t. AreSo (before ++ line ∷ lines) (cond t
         (read_lines lines (n + 1) (transforms_in es ++ transform_in e)) (Bad (n + 1) k.TooMany)))
         (λ few. let fits : length (transforms_in es ++ transform_in e) ≤ 16 = grind (arith, nat_tests, few) in

@@ -7,8 +7,8 @@ use Rattle.std.specs.Str.{is_utf8}
 use Rattle.ts_config.specs.declared.setup.TransformLine.{TransformLine}
 use Rattle.ts_config.specs.declared.setup.ConfigKind.{ConfigKind}
 use Rattle.ts_config.specs.declared.setup.ConfigKind.TheVariants as k
-use Rattle.ts_config.specs.declared.setup.Entry.{Entry}
-use Rattle.ts_config.specs.declared.setup.Entry.TheVariants.{Empty, Transform}
+use Rattle.ts_config.specs.declared.setup.LineMeaning.{LineMeaning}
+use Rattle.ts_config.specs.declared.setup.LineMeaning.TheVariants.{Empty, Transform}
 use Rattle.ts_config.specs.declared.setup.ConfigRefusal.{ConfigRefusal}
 use Rattle.ts_config.specs.declared.setup.ConfigRefusal.TheVariants as c
 use Rattle.ts_config.specs.Bytes.{delete, most_transforms, space, tab}
@@ -26,27 +26,27 @@ abbrev pub is_text : List ℕ → Bool
 is_text line = is_utf8 line && list_all is_text_byte line
 
 -- what a line of text means by its words; where it has none because a quote does not fit, it breaks that rule
-abbrev pub MeansByWords : List ℕ → Result Entry ConfigKind → Type 0
+abbrev pub MeansByWords : List ℕ → Result LineMeaning ConfigKind → Type 0
 MeansByWords line meaning =
     ((words : List (List ℕ)) × IsWords line words × (meaning ≡ line_entry words))
     ⊎ (((words : List (List ℕ)) → ¬ IsWords line words) × (meaning ≡ Err k.Quote))
 
 -- what a line means by itself, or the first rule that it breaks
-abbrev pub Means : List ℕ → Result Entry ConfigKind → Type 0
+abbrev pub Means : List ℕ → Result LineMeaning ConfigKind → Type 0
 Means line meaning = MatchBool (is_text line) (MeansByWords line meaning) (meaning ≡ Err k.Text)
 
 -- the transform that a line asks for, if it does
-abbrev pub transform_in : Entry → List TransformLine
+abbrev pub transform_in : LineMeaning → List TransformLine
 transform_in Empty = []
 transform_in (Transform t) = t ∷ []
 
 -- those of all lines, in their order
-abbrev pub transforms_in : List Entry → List TransformLine
+abbrev pub transforms_in : List LineMeaning → List TransformLine
 transforms_in [] = []
 transforms_in (e ∷ es) = transform_in e ++ transforms_in es
 
 -- each line is in the grammar, the lines mean these, and there are not too many transforms
-pub record AreRead (lines : List (List ℕ)) (es : List Entry) : Type 0 where
+pub record AreRead (lines : List (List ℕ)) (es : List LineMeaning) : Type 0 where
   pub each : AllZip (λ line e. Means line (Ok e)) lines es
   pub few : length (transforms_in es) ≤ most_transforms
 
@@ -54,7 +54,7 @@ pub record AreRead (lines : List (List ℕ)) (es : List Entry) : Type 0 where
 abbrev pub Breaks : List TransformLine → List ℕ → ConfigKind → Type 0
 Breaks so_far line kind =
     Means line (Err kind)
-    ⊎ ((e : Entry) × Means line (Ok e) × (most_transforms < length (so_far ++ transform_in e))
+    ⊎ ((e : LineMeaning) × Means line (Ok e) × (most_transforms < length (so_far ++ transform_in e))
     × (kind ≡ k.TooMany))
 
 -- the n-th line, counted from 1, is the first that is not in the grammar, and this is the rule that it breaks
@@ -62,7 +62,7 @@ pub record IsFault (lines : List (List ℕ)) (n : ℕ) (kind : ConfigKind) : Typ
   pub before : List (List ℕ)
   pub line : List ℕ
   pub after : List (List ℕ)
-  pub es : List Entry
+  pub es : List LineMeaning
   pub lines_are : lines ≡ before ++ line ∷ after
   pub number : n ≡ length before + 1
   pub fine : AreRead before es
@@ -75,7 +75,7 @@ RefusesRightly lines (c.Fault f) = IsFault lines f.line f.kind
 
 -- the bytes are a configuration, and these are its transform lines
 pub record IsConfiguration (bytes : List ℕ) (transforms : List TransformLine) : Type 0 where
-  pub es : List Entry
+  pub es : List LineMeaning
   pub read : AreRead (config_lines bytes) es
   pub transforms_are : transforms ≡ transforms_in es
 

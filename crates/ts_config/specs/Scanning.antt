@@ -3,7 +3,7 @@ use Rattle.std.specs.Prelude.{◌≡◌, ℕ, List, ◌∷◌, ◌++◌, Option,
 use Rattle.ts_config.specs.declared.setup.ConfigKind.{ConfigKind}
 use Rattle.ts_config.specs.declared.setup.ConfigRefusal.{ConfigRefusal}
 use Rattle.ts_config.specs.declared.setup.ConfigRefusal.TheVariants as c
-use Rattle.ts_config.specs.declared.setup.Entry.{Entry}
+use Rattle.ts_config.specs.declared.setup.LineMeaning.{LineMeaning}
 use Rattle.ts_config.specs.declared.setup.TransformLine.{TransformLine}
 use Rattle.ts_config.specs.declared.read.LineRefusal.{LineRefusal}
 use Rattle.ts_config.specs.declared.read.LineRefusal.TheVariants as r
@@ -42,7 +42,7 @@ AnswersAsRead (Ok x) read = read ≡ Ok x
 AnswersAsRead (Err e) read = Refuses e read
 
 -- the line means what was answered, unless memory lacked
-abbrev pub MeansUnlessMemory : List ℕ → Result Entry LineRefusal → Type 0
+abbrev pub MeansUnlessMemory : List ℕ → Result LineMeaning LineRefusal → Type 0
 MeansUnlessMemory line (Ok e) = Means line (Ok e)
 MeansUnlessMemory line (Err r.NoMemory) = ⊤
 MeansUnlessMemory line (Err (r.Kind kind)) = Means line (Err kind)

@@ -6,8 +6,8 @@ use Rattle.ts_config.specs.declared.setup.TransformLine.{TransformLine}
 use Rattle.ts_config.specs.declared.setup.TransformLine.TheVariants as t
 use Rattle.ts_config.specs.declared.setup.ConfigKind.{ConfigKind}
 use Rattle.ts_config.specs.declared.setup.ConfigKind.TheVariants as k
-use Rattle.ts_config.specs.declared.setup.Entry.{Entry}
-use Rattle.ts_config.specs.declared.setup.Entry.TheVariants.{Empty, Transform}
+use Rattle.ts_config.specs.declared.setup.LineMeaning.{LineMeaning}
+use Rattle.ts_config.specs.declared.setup.LineMeaning.TheVariants.{Empty, Transform}
 use Rattle.ts_config.specs.declared.table.PluginName.{PluginName}
 use Rattle.ts_config.specs.declared.table.PluginName.TheVariants as n
 use Rattle.ts_config.specs.Bytes.{most_delay, most_text}
@@ -44,16 +44,16 @@ transform_of n.Delay (ms ∷ []) = option_map (λ m. t.Delay m) (number_of most_
 transform_of name others = None
 
 -- the line that a name and its words ask for, or that they do not fit
-abbrev pub fitting : Option TransformLine → Result Entry ConfigKind
+abbrev pub fitting : Option TransformLine → Result LineMeaning ConfigKind
 fitting (Some line) = Ok (Transform line)
 fitting None = Err k.Arguments
 
 -- what a line with this name and these words behind it means
-abbrev pub named_entry : Option PluginName → List (List ℕ) → Result Entry ConfigKind
+abbrev pub named_entry : Option PluginName → List (List ℕ) → Result LineMeaning ConfigKind
 named_entry (Some name) words = fitting (transform_of name words)
 named_entry None words = Err k.Plugin
 
 -- what the words of a line mean, or the first rule that they break; a line without a word means nothing
-abbrev pub line_entry : List (List ℕ) → Result Entry ConfigKind
+abbrev pub line_entry : List (List ℕ) → Result LineMeaning ConfigKind
 line_entry [] = Ok Empty
 line_entry (word ∷ words) = named_entry (name_of word) words

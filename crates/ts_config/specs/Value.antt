@@ -7,7 +7,7 @@ use Rattle.std.specs.Option.{option_map}
 use Rattle.ts_config.specs.declared.setup.TransformLine.{TransformLine}
 use Rattle.ts_config.specs.declared.setup.ConfigKind.{ConfigKind}
 use Rattle.ts_config.specs.declared.setup.ConfigKind.TheVariants as k
-use Rattle.ts_config.specs.declared.setup.Entry.{Entry}
+use Rattle.ts_config.specs.declared.setup.LineMeaning.{LineMeaning}
 use Rattle.ts_config.specs.declared.setup.ConfigRefusal.{ConfigRefusal}
 use Rattle.ts_config.specs.declared.setup.ConfigRefusal.TheVariants as c
 use Rattle.ts_config.specs.Bytes.{most_transforms, number_sign, quote_mark}
@@ -70,12 +70,12 @@ abbrev pub words_in : List ℕ → Option (List (List ℕ))
 words_in line = words_below (suc (length line)) line
 
 -- what these words mean, or that a quote does not fit
-abbrev pub meaning_of_words : Option (List (List ℕ)) → Result Entry ConfigKind
+abbrev pub meaning_of_words : Option (List (List ℕ)) → Result LineMeaning ConfigKind
 meaning_of_words (Some words) = line_entry words
 meaning_of_words None = Err k.Quote
 
 -- what a line means by itself, or the first rule that it breaks
-abbrev pub meaning_of : List ℕ → Result Entry ConfigKind
+abbrev pub meaning_of : List ℕ → Result LineMeaning ConfigKind
 meaning_of line = if is_text line then meaning_of_words (words_in line) else Err k.Text
 
 -- the transform lines of a configuration, or the number of the first line that is not in the grammar, counted
@@ -86,7 +86,7 @@ pub data Reading : Type 0 where
   Bad : ℕ → ConfigKind → Reading
 
 -- the reading that goes on behind a line with this meaning, which is the n-th, counted from 1
-abbrev pub next_lines : Result Entry ConfigKind → ℕ → List TransformLine → (List TransformLine → Reading)
+abbrev pub next_lines : Result LineMeaning ConfigKind → ℕ → List TransformLine → (List TransformLine → Reading)
     → Reading
 next_lines (Err kind) n so_far next = Bad n kind
 next_lines (Ok e) n so_far next =

@@ -2,7 +2,7 @@
 ghost use Rattle.std.specs.Prelude.{◌≡◌, ℕ, ◌≤◌, ◌++◌, ◌<◌, List, [], length, map, Result, Ok, OnOk, IfOk, IfErr, All};
 ghost use Rattle.std.specs.List.{list_all};
 ghost use Rattle.std.specs.Str.{is_utf8};
-ghost use Rattle.ts_config.specs.declared.setup.Entry.{Entry};
+ghost use Rattle.ts_config.specs.declared.setup.LineMeaning.{LineMeaning};
 ghost use Rattle.ts_config.specs.Bytes.{most_transforms};
 ghost use Rattle.ts_config.specs.Lines.{config_lines};
 ghost use Rattle.ts_config.specs.Reading.{is_text_byte, is_text, Means, transform_in, Breaks, RefusesRightly, IsConfiguration, ComeFromText};
@@ -12,7 +12,7 @@ ghost use Rattle.ts_config.specs.Scanning.{MeansUnlessMemory, BreaksUnlessMemory
 ghost use Rattle.ts_config.specs.declared.read.LineRefusal.TheVariants as r;
 
 use crate::lines::cut_line;
-use crate::setup::{ConfigFault, ConfigKind, ConfigRefusal, Entry, Setup, TransformLine};
+use crate::setup::{ConfigFault, ConfigKind, ConfigRefusal, LineMeaning, Setup, TransformLine};
 use crate::table::entry_of;
 use crate::words::words_of;
 use std::alloc::{AllocFailed, Global};
@@ -75,7 +75,7 @@ fn is_text(line: &[u8]) -> bool
 }
 
 // What a line means by itself, or the first rule that it breaks.
-fn line_meaning(alloc: Global, line: &[u8]) -> Result<Entry, LineRefusal>
+fn line_meaning(alloc: Global, line: &[u8]) -> Result<LineMeaning, LineRefusal>
     ensures { MeansUnlessMemory line.now result }
 {
     if !is_text(line) {
@@ -94,14 +94,14 @@ fn add_line(
     line: &[u8],
 ) -> Result<(), LineRefusal>
     requires { length transforms.old.items ≤ most_transforms }
-    ensures ok { OnOk result ((e : Entry) × Means line.now (Ok e)
+    ensures ok { OnOk result ((e : LineMeaning) × Means line.now (Ok e)
         × (transforms.new.items ≡ transforms.old.items ++ transform_in e)) }
     ensures few { OnOk result (length transforms.new.items ≤ most_transforms) }
     ensures fault { IfErr result (BreaksUnlessMemory transforms.old.items line.now) }
 {
     match line_meaning(alloc, line)? {
-        Entry::Empty => Ok(()),
-        Entry::Transform(transform) => {
+        LineMeaning::Empty => Ok(()),
+        LineMeaning::Transform(transform) => {
             if transforms.len() >= MOST_TRANSFORMS {
                 return Err(LineRefusal::Kind(ConfigKind::TooMany));
             }

@@ -28,7 +28,7 @@ pub enum TransformLine {
 
 /// What a line of the configuration means.
 #[derive(Drop)]
-pub enum Entry {
+pub enum LineMeaning {
     /// A line without a word.
     Empty,
     Transform(TransformLine),

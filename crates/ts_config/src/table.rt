@@ -7,7 +7,7 @@ ghost use Rattle.ts_config.specs.declared.table.PluginName.TheVariants as n;
 
 use crate::numerals::{byte_of, number_of};
 use crate::read::LineRefusal;
-use crate::setup::{ConfigKind, Entry, TransformLine};
+use crate::setup::{ConfigKind, LineMeaning, TransformLine};
 use std::alloc::Global;
 use ts_link::{NoMemory, Octets};
 
@@ -169,17 +169,17 @@ fn transform_of(
 }
 
 /// What the words of a line mean, or the first rule that they break.
-pub fn entry_of(alloc: Global, words: &[&[u8]]) -> Result<Entry, LineRefusal>
+pub fn entry_of(alloc: Global, words: &[&[u8]]) -> Result<LineMeaning, LineRefusal>
     ensures { AnswersAsRead result (line_entry (map (λ w. w.now) words.now)) }
 {
     let [first, others @ ..] = words else {
-        return Ok(Entry::Empty);
+        return Ok(LineMeaning::Empty);
     };
     let Some(name) = name_of(first) else {
         return Err(LineRefusal::Kind(ConfigKind::Plugin));
     };
     match transform_of(alloc, name, others)? {
-        Some(line) => Ok(Entry::Transform(line)),
+        Some(line) => Ok(LineMeaning::Transform(line)),
         None => Err(LineRefusal::Kind(ConfigKind::Arguments)),
     }
 }

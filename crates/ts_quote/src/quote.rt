@@ -2,7 +2,7 @@
 ghost use Rattle.std.specs.Prelude.{◌≡◌, ℕ, ◌<◌, ◌≤◌, ◌++◌, List, [], length, take, true, IfOk, OnOk, OnErr};
 ghost use Rattle.ts_iobuf.specs.Buffer.{GrowsBy};
 ghost use Rattle.ts_transform.specs.Law.{Feeds};
-ghost use Rattle.ts_quote.specs.Quoting.{quoted, quoted_byte};
+ghost use Rattle.ts_quote.specs.Quoting.{marked, marked_byte};
 
 use std::alloc::Global;
 use ts_iobuf::IoBuffer;
@@ -29,7 +29,7 @@ pub struct Quote {
 
 // Writes a byte behind a text, and the mark before it, if the byte begins a line.
 fn write_byte(text: &mut Vec<u8>, mark: &[u8], begins: bool, byte: u8) -> Result<(), NoMemory>
-    ensures { OnOk result (text.new.items ≡ text.old.items ++ quoted_byte mark.now begins byte) }
+    ensures { OnOk result (text.new.items ≡ text.old.items ++ marked_byte mark.now begins byte) }
 {
     if begins {
         text.extend_from_slice(mark)?;
@@ -40,8 +40,8 @@ fn write_byte(text: &mut Vec<u8>, mark: &[u8], begins: bool, byte: u8) -> Result
 
 // Writes what becomes of a piece behind a text, and answers whether the next byte begins a line.
 fn quote_into(text: &mut Vec<u8>, mark: &[u8], begins: bool, piece: &[u8]) -> Result<bool, NoMemory>
-    ensures { IfOk result (λ next. (z : List ℕ) → text.old.items ++ quoted mark.now begins (piece.now ++ z)
-        ≡ text.new.items ++ quoted mark.now next z) }
+    ensures { IfOk result (λ next. (z : List ℕ) → text.old.items ++ marked mark.now begins (piece.now ++ z)
+        ≡ text.new.items ++ marked mark.now next z) }
 {
     let mut next = begins;
     for i in 0..piece.len() {
@@ -56,10 +56,10 @@ impl Transform for Quote {
     type Line = QuoteLine;
 
     // What is written of the bytes that still come, by whether the first of them begins a line.
-    ghost rest = { λ quote z. quoted quote.mark quote.begins z };
+    ghost rest = { λ quote z. marked quote.mark quote.begins z };
 
     // The first byte of a body begins a line.
-    ghost whole = { λ line z. quoted line.mark true z };
+    ghost whole = { λ line z. marked line.mark true z };
 
     ghost pause = { λ quote. 0 };
 

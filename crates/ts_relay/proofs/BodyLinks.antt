@@ -37,7 +37,8 @@ use Rattle.ts_relay.specs.Feeding.{DrainsOrigin, FeedsBody, FeedsTo, GetsPart, O
 use Rattle.ts_relay.specs.Relaying.{AddsSome, StepsChain, step_after}
 use Rattle.ts_relay.specs.Duties.{SettledAs, UnlessLacking}
 use Rattle.ts_relay.specs.BodyLinks.{HandlesLinks, HoldsLittle, KeepsQueued, IsUnread, IsUnwritten, MindsBody, OnlyOfBody, OnlyOfEnds, RestLeads, ReadsLinks, SendsRest, WritesLinks, is_client_fault, is_late, is_origin_fault, pause_if}
-use Rattle.ts_relay.specs.declared.relay.TheConstants.{MAIN, RETRY, FIRST, READER}
+use Rattle.ts_link.specs.declared.clock.TheConstants.{RETRY_AFTER}
+use Rattle.ts_relay.specs.declared.relay.TheConstants.{MAIN, FIRST, READER}
 use Rattle.ts_relay.specs.declared.last_writes.BodyStep.{BodyStep}
 use Rattle.ts_relay.specs.declared.last_writes.BodyStep.TheVariants as S
 use Rattle.ts_phases.specs.declared.parts.Sent.{Sent}
@@ -528,15 +529,15 @@ pub links_write : {P : Type 0} (ct ot : Bool) (v w : View) (step result : BodySt
     → WritesLinks ct ot v w r.driven.chain q.driven.chain step → SettledAs step result → s.driven ≡ q.driven
     → StepsChain step 1 r.driven q.driven a c → q ≡ record r { driven = q.driven } → m ≡ unroused t
     → AddsSome 2 c b
-    → OnlyOfEnds (pause_if (is_late step) RETRY) (pause_if (is_late step) 0) m q.reader c b
+    → OnlyOfEnds (pause_if (is_late step) RETRY_AFTER) (pause_if (is_late step) 0) m q.reader c b
     → HandlesLinks ct ot v w t r s result a b
 links_write ct ot v w step result t m r q s a c b links settled kept steps same handled adds ends = record {
   client_late = is_late step;
   origin_late = false;
   minds = minds_settled ct ot v w r.driven.chain q.driven.chain s.driven.chain step result (is_late step)
       false settled (ap (λ e. e.chain) kept) links.minds;
-  due = λ named. subst (λ n. OnlyOfBody (pause_if (is_late step) RETRY) n a b) (no_pause (is_late step))
-      (in_time (pause_if (is_late step) RETRY) (pause_if (is_late step) 0) m q.reader a c b
+  due = λ named. subst (λ n. OnlyOfBody (pause_if (is_late step) RETRY_AFTER) n a b) (no_pause (is_late step))
+      (in_time (pause_if (is_late step) RETRY_AFTER) (pause_if (is_late step) 0) m q.reader a c b
       steps.adds.grows.moment adds.keeps (steps.only FIRST named.stages)
       (named_later a c MAIN (unroused t) m steps.adds.keeps handled (named_unroused a.roles MAIN t
       named.of_main))
@@ -549,15 +550,15 @@ pub links_read : {P : Type 0} (ct ot : Bool) (v w : View) (step result : BodySte
     (t : Option StageContinuation) (r q s : Relay P) (a c b : Context)
     → ReadsLinks ct ot v w r.driven.chain q.driven.chain step → SettledAs step result → s.driven ≡ q.driven
     → StepsChain step 2 r.driven q.driven a c → q.reader ≡ unroused r.reader → AddsSome 2 c b
-    → OnlyOfEnds (pause_if (is_late step) 0) (pause_if (is_late step) RETRY) t q.reader c b
+    → OnlyOfEnds (pause_if (is_late step) 0) (pause_if (is_late step) RETRY_AFTER) t q.reader c b
     → HandlesLinks ct ot v w t r s result a b
 links_read ct ot v w step result t r q s a c b links settled kept steps handled adds ends = record {
   client_late = false;
   origin_late = is_late step;
   minds = minds_settled ct ot v w r.driven.chain q.driven.chain s.driven.chain step result false
       (is_late step) settled (ap (λ e. e.chain) kept) links.minds;
-  due = λ named. subst (λ n. OnlyOfBody n (pause_if (is_late step) RETRY) a b) (no_pause (is_late step))
-      (in_time (pause_if (is_late step) 0) (pause_if (is_late step) RETRY) t q.reader a c b
+  due = λ named. subst (λ n. OnlyOfBody n (pause_if (is_late step) RETRY_AFTER) a b) (no_pause (is_late step))
+      (in_time (pause_if (is_late step) 0) (pause_if (is_late step) RETRY_AFTER) t q.reader a c b
       steps.adds.grows.moment adds.keeps (steps.only FIRST named.stages)
       (named_later a c MAIN t t steps.adds.keeps refl named.of_main)
       (named_later a c READER (unroused r.reader) q.reader steps.adds.keeps handled (named_unroused a.roles

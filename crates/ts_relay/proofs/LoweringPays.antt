@@ -23,7 +23,7 @@ use Rattle.ts_relay.specs.Feeding.{OnGoes}
 use Rattle.ts_relay.specs.Relaying.{StepsChain, step_after}
 use Rattle.ts_relay.specs.declared.relay.TheConstants.{FIRST}
 use Rattle.ts_phases.specs.Lowering.{agains_left, end_room, events_paid, number_left, pump_weight, to_hear}
-use Rattle.ts_relay.specs.LoweringBody.{HasNoDuty, IsOfLines, LowersBody, PaysBody, StaysOfLines, body_work, ended_left, errors_left, left_after, relay_left}
+use Rattle.ts_relay.specs.LoweringBody.{HasNothingDue, IsOfLines, LowersBody, PaysBody, StaysOfLines, body_work, ended_left, errors_left, left_after, relay_left}
 use Rattle.ts_phases.specs.View.{View}
 use Rattle.ts_relay.specs.declared.last_writes.BodyStep.{BodyStep}
 use Rattle.ts_relay.specs.declared.last_writes.BodyStep.TheVariants as S
@@ -116,7 +116,7 @@ module _ {P : Type 0} (ct ot : Bool) (must : Type 0) (setup : Setup) (rest : P �
           (number_left b.log.state.pending (left_after setup rest result w m))
 
       -- where nothing was done, nobody is roused
-      quiet : IsBodyCovered v main r a.log.state.next → HasNoDuty must step v w q m a c
+      quiet : IsBodyCovered v main r a.log.state.next → HasNothingDue must step v w q m a c
           → length b.log.state.pending ≤ length a.log.state.pending
       quiet (inl (runs, ends)) idle =
           let ends_now = subst (λ (x : View). AreBodyEndsRoused x t m) (sym idle.view)
@@ -135,7 +135,7 @@ module _ {P : Type 0} (ct ot : Bool) (must : Type 0) (setup : Setup) (rest : P �
       on_goes step is settled = subst (λ (x : BodyStep). SettledAs x result) is settled
 
       by_step : IsBodyCovered v main r a.log.state.next → Fewer (relay_left setup rest v q) (left_after setup
-          rest step w m) ⊎ HasNoDuty must step v w q m a c → goal
+          rest step w m) ⊎ HasNothingDue must step v w q m a c → goal
       by_step covered (inl fell) = paid_fewer a.log.state.pending b.log.state.pending (relay_left setup rest v
           q) (left_after setup rest result w m) (set_leaving result)
           (settled_less setup rest step result settles.settled (relay_left setup rest v q) w m fell)

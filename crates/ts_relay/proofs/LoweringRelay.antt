@@ -35,7 +35,7 @@ use Rattle.ts_relay.specs.Duties.{MustSend, WhileGoes}
 use Rattle.ts_relay.specs.Feeding.{DrainsOrigin, FeedsTo, GetsPart, OnGoes}
 use Rattle.ts_relay.specs.Inserted.{AddsNoMore, AllAddNoMore}
 use Rattle.ts_phases.specs.Lowering.{agains_left, end_room, if_told, pump_weight, to_hear}
-use Rattle.ts_relay.specs.LoweringBody.{HasNoDuty, IsOfLines, LowersBody, StaysOfLines, body_left, body_work, ended_left, errors_left, left_after, relay_left}
+use Rattle.ts_relay.specs.LoweringBody.{HasNothingDue, IsOfLines, LowersBody, StaysOfLines, body_left, body_work, ended_left, errors_left, left_after, relay_left}
 use Rattle.ts_relay.specs.declared.last_writes.BodyStep.{BodyStep}
 use Rattle.ts_relay.specs.declared.last_writes.BodyStep.TheVariants as S
 use Rattle.ts_relay.specs.declared.relay.Relay.{Relay}
@@ -395,8 +395,8 @@ must_weaker ct ot must also setup rest step v w r s a b leads lowers = record {
   falls = λ told other of. by_idle (lowers.falls told other of);
 }
   where
-    by_idle : Fewer (relay_left setup rest v r) (left_after setup rest step w s) ⊎ HasNoDuty also step v w r s
-        a b → Fewer (relay_left setup rest v r) (left_after setup rest step w s) ⊎ HasNoDuty must step v w r s
+    by_idle : Fewer (relay_left setup rest v r) (left_after setup rest step w s) ⊎ HasNothingDue also step v w r s
+        a b → Fewer (relay_left setup rest v r) (left_after setup rest step w s) ⊎ HasNothingDue must step v w r s
         a b
     by_idle (inl fell) = inl fell
     by_idle (inr idle) = inr (record {

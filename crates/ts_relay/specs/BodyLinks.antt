@@ -18,7 +18,8 @@ use Rattle.ts_relay.specs.Duties.{UnlessLacking}
 use Rattle.ts_phases.specs.Ends.{IsFrontOf}
 use Rattle.ts_relay.specs.Relaying.{IsOfRoleFrom}
 use Rattle.ts_phases.specs.View.{LinkSide, View}
-use Rattle.ts_relay.specs.declared.relay.TheConstants.{MAIN, RETRY, FIRST, READER}
+use Rattle.ts_link.specs.declared.clock.TheConstants.{RETRY_AFTER}
+use Rattle.ts_relay.specs.declared.relay.TheConstants.{MAIN, FIRST, READER}
 use Rattle.ts_relay.specs.declared.last_writes.BodyStep.{BodyStep}
 use Rattle.ts_relay.specs.declared.last_writes.BodyStep.TheVariants as S
 use Rattle.ts_relay.specs.declared.relay.Relay.{Relay}
@@ -127,7 +128,7 @@ pub record HandlesLinks {P : Type 0} (ctells otells : Bool) (v w : View) (main :
   pub origin_late : Bool
   pub minds : MindsBody ctells otells v w r.driven.chain s.driven.chain step client_late origin_late
   pub due : AreBodyNamed a.roles main r
-      → OnlyOfBody (pause_if client_late RETRY) (pause_if origin_late RETRY) a b
+      → OnlyOfBody (pause_if client_late RETRY_AFTER) (pause_if origin_late RETRY_AFTER) a b
 
 -- While the stages of a body run that begins, what it sets is of one of them, or lets an end of the body
 -- work at once.

@@ -102,7 +102,7 @@ pub record BeginsLower {P : Type 0} (setup : Setup) (rest : P → List ℕ → L
   pub falls : NoMore (unbegun_left setup rest v r) (left_after setup rest step v s)
 
 -- an end had nothing to do, and nothing changed
-pub record HasNoDuty {P : Type 0} (must : Type 0) (step : BodyStep) (v w : View) (r s : Relay P)
+pub record HasNothingDue {P : Type 0} (must : Type 0) (step : BodyStep) (v w : View) (r s : Relay P)
     (a b : Context) : Type 0 where
   pub free : must → ⊥
   pub goes : step ≡ S.Goes
@@ -118,7 +118,7 @@ pub record LowersBody {P : Type 0} (ctells otells : Bool) (must : Type 0) (setup
   pub reader : s.reader ≡ r.reader
   pub lines : WhileGoes step (StaysOfLines setup rest r s)
   pub falls : IfTold ctells otells (IsOfLines setup rest r.driven.chain →
-      Fewer (relay_left setup rest v r) (left_after setup rest step w s) ⊎ HasNoDuty must step v w r s a b)
+      Fewer (relay_left setup rest v r) (left_after setup rest step w s) ⊎ HasNothingDue must step v w r s a b)
 
 -- what is left where one of the last writes leads
 abbrev pub rest_after : BodyStep → View → Option ℕ

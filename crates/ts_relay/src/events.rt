@@ -15,11 +15,11 @@ use crate::duties::must_send;
 use crate::entry::enter_body;
 use crate::last_writes::BodyStep;
 use crate::origin_end::read_body;
-use crate::relay::{FIRST, MAIN, READER, RETRY, Relay, step_after};
+use crate::relay::{FIRST, MAIN, READER, Relay, step_after};
 use crate::wakes::rouse_ends;
 use ts_group::Cx;
 use ts_journal::Event;
-use ts_link::Link;
+use ts_link::{Link, RETRY_AFTER};
 use ts_phases::Core;
 use ts_transform::{StageContinuation, Transform, unrouse, works};
 use ts_upstream::Upstream;
@@ -92,7 +92,7 @@ fn send_at<C: Link, O: Upstream<C>, P: Transform + Drop>(
     unrouse(main);
     cx.known();
     let step = write_body(core, relay, cx);
-    settle_after(core, step, main, relay, (RETRY, 0), cx)
+    settle_after(core, step, main, relay, (RETRY_AFTER, 0), cx)
 }
 
 // Handles an event of the reader, which reads from the origin.
@@ -118,7 +118,7 @@ fn read_at<C: Link, O: Upstream<C>, P: Transform + Drop>(
     unrouse(&mut relay.reader);
     cx.known();
     let step = read_body(core, relay, cx);
-    settle_after(core, step, main, relay, (0, RETRY), cx)
+    settle_after(core, step, main, relay, (0, RETRY_AFTER), cx)
 }
 
 // Handles an event of a stage, or of nobody.

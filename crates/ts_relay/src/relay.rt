@@ -16,9 +16,6 @@ pub const READER: u32 = 2;
 /// The role of the first stage of the chain that a body goes through; those of the others follow.
 pub const FIRST: u32 = 3;
 
-/// How long a step waits that found a link not ready, in milliseconds.
-pub const RETRY: u64 = 10;
-
 /// A body that is passed on.
 #[derive(Drop)]
 pub struct Relay<P> {

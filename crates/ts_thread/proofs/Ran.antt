@@ -12,7 +12,7 @@ use Rattle.ts_queue.specs.declared.queue.QueuePass.{QueuePass}
 use Rattle.ts_slot.specs.declared.seat.Seat.{Seat}
 use Rattle.ts_thread.specs.declared.desk.Desk.{Desk}
 use Rattle.ts_thread.specs.declared.did.RunEnd.{RunEnd}
-use Rattle.ts_thread.specs.Ran.{IsSplit, IsJoined, RanToEnd, AllRanToEnd}
+use Rattle.ts_thread.specs.Ran.{IsSplit, IsRejoined, RanToEnd, AllRanToEnd}
 use Rattle.ts_thread.specs.Runs.{HasRunTo}
 
 -- what each of two answers brings, both together bring
@@ -40,7 +40,7 @@ module _ {W Q R T U : Type 0} {d : Ghosts (Group W Q R T U) T (Group W Q R T U)}
   pub one_more_ran : (n : ℕ) → 1 < n → (seat back one one' rest rest' : Seat (Group W Q R T U) T
       (Group W Q R T U) d)
       → (pass back_pass p p' q q' : QueuePass) → IsSplit seat one rest pass p q
-          → IsJoined back one' rest' back_pass p' q'
+          → IsRejoined back one' rest' back_pass p' q'
       → AllRanToEnd Fits Asking Answers Called Heard Left tags budget (n - 1) rest q rest' q'
       → RanToEnd Fits Asking Answers Called Heard Left tags budget one p one' p'
       → AllRanToEnd Fits Asking Answers Called Heard Left tags budget n seat pass back back_pass

@@ -30,7 +30,7 @@ module _ {X G T : Type 0} {d : Ghosts X G T} where
     pub rest_part : pass_view rest_pass ≡ kept_part (pass_view pass)
 
   -- the one part and the rest were joined
-  pub record IsJoined (seat one rest : Seat X G T d) (pass one_pass rest_pass : QueuePass) : Type 0 where
+  pub record IsRejoined (seat one rest : Seat X G T d) (pass one_pass rest_pass : QueuePass) : Type 0 where
     pub seats : view seat ≡ joined (view rest) (view one)
     pub passes : pass_view pass ≡ with_joined (pass_view rest_pass) (pass_view one_pass)
 
@@ -58,7 +58,7 @@ module _ {W Q R T U : Type 0} {d : Ghosts (Group W Q R T U) T (Group W Q R T U)}
   AllRanToEnd (suc (suc n)) seat pass back back_pass =
       (one one' rest rest' : Seat (Group W Q R T U) T (Group W Q R T U) d) × (p p' q q' : QueuePass)
       × IsSplit seat one rest pass p q × RanToEnd one p one' p' × AllRanToEnd (suc n) rest q rest' q'
-      × IsJoined back one' rest' back_pass p' q'
+      × IsRejoined back one' rest' back_pass p' q'
 
   -- where the answer says that memory lacked in none of so many threads, each ran to its end
   abbrev pub TellsRuns : ℕ → Seat (Group W Q R T U) T (Group W Q R T U) d → QueuePass

@@ -17,7 +17,8 @@ use Rattle.ts_relay.specs.Duties.{AreBodyEndsRoused, IsBodyCovered, IsBodyJoined
 use Rattle.ts_phases.specs.View.{View}
 use Rattle.ts_txn.specs.declared.course.Course.{Course}
 use Rattle.ts_txn.specs.declared.course.Course.TheVariants as K
-use Rattle.ts_relay.specs.declared.relay.TheConstants.{MAIN, RETRY, READER}
+use Rattle.ts_link.specs.declared.clock.TheConstants.{RETRY_AFTER}
+use Rattle.ts_relay.specs.declared.relay.TheConstants.{MAIN, READER}
 use Rattle.ts_relay.specs.declared.last_writes.BodyStep.{BodyStep}
 use Rattle.ts_relay.specs.declared.last_writes.BodyStep.TheVariants as S
 use Rattle.ts_phases.specs.declared.phase.Next.{Next}
@@ -139,7 +140,7 @@ LedAfter step led new = StaysOnOrLacks led new
 
 -- how long after a step of the last writes the next one is made, in milliseconds
 abbrev pub pause_of : BodyStep → ℕ
-pause_of S.Waits = RETRY
+pause_of S.Waits = RETRY_AFTER
 pause_of step = 0
 
 -- No continuation is there but the first: each pending event is plain, and of it; and it has its role, and an

@@ -21,7 +21,7 @@ use Rattle.ts_phases.specs.View.{View, view_of}
 use Rattle.ts_txn.specs.declared.course.Course.{Course}
 use Rattle.ts_txn.specs.declared.course.Course.TheVariants as K
 use Rattle.ts_txn.specs.declared.course_leads.TheConstants.{AT_ONCE}
-use Rattle.ts_relay.specs.declared.relay.TheConstants.{RETRY}
+use Rattle.ts_link.specs.declared.clock.TheConstants.{RETRY_AFTER}
 use Rattle.ts_relay.specs.declared.last_writes.BodyStep.{BodyStep}
 use Rattle.ts_relay.specs.declared.last_writes.BodyStep.TheVariants as S
 use Rattle.ts_phases.specs.declared.parts.Core.{Core}
@@ -34,7 +34,7 @@ use Rattle.ts_relay.specs.declared.relay.Relay.{Relay}
 -- how long after a step the next one is made, in milliseconds
 abbrev pub delay_of : Next → ℕ
 delay_of N.Go = 0
-delay_of N.Wait = RETRY
+delay_of N.Wait = RETRY_AFTER
 delay_of N.Done = 0
 
 -- a body begins to be passed on in one phase alone, and no call is made on a link then

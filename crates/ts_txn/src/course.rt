@@ -76,7 +76,7 @@ pub fn write_rest<C: Link, O: Upstream<C>, P: Transform<Line = TransformLine> + 
 
 /// Queues the client's head of a response that is passed on, and begins its body; it answers where the
 /// transaction is then.
-pub fn begin_relay<C: Link, O: Upstream<C>, P: Transform<Line = TransformLine> + Drop>(
+pub fn enter_relay<C: Link, O: Upstream<C>, P: Transform<Line = TransformLine> + Drop>(
     core: &mut Core<C, O>,
     main: &mut Option<StageContinuation>,
     request: Request,

@@ -6,7 +6,7 @@ ghost use Rattle.ts_txn.specs.EventsOwed.{EventOwes};
 ghost use Rattle.ts_txn.specs.LoweringCourse.{PaysEvents};
 ghost use Rattle.ts_txn.specs.World.{HoldsOn, IsSoundOn};
 
-use crate::course::{Course, begin_relay, relay_event, write_rest};
+use crate::course::{Course, enter_relay, relay_event, write_rest};
 use crate::course_leads::after_step;
 use std::mem::{forget, replace};
 use ts_config::TransformLine;
@@ -55,7 +55,7 @@ fn advance_phase<C: Link, O: Upstream<C>, P: Transform<Line = TransformLine> + D
         core.old core.new (Course.Phased phase) result cx.old cx.new }
 {
     match phase {
-        Phase::ResponseTransform { request, head } => begin_relay(core, main, request, head, cx),
+        Phase::ResponseTransform { request, head } => enter_relay(core, main, request, head, cx),
         phase => make_step(core, main, phase, cx),
     }
 }

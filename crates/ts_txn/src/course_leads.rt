@@ -14,7 +14,8 @@ use crate::course::Course;
 use ts_group::Cx;
 use ts_hooks::TxnEnd;
 use ts_phases::{Next, Phase, Step};
-use ts_relay::{BodyStep, RETRY, Relay, close_relay, destroy_end};
+use ts_relay::{BodyStep, Relay, close_relay, destroy_end};
+use ts_link::RETRY_AFTER;
 use ts_transform::{StageContinuation, Transform};
 
 /// How long it is until a step that is made at once, in milliseconds.
@@ -154,7 +155,7 @@ pub fn after_write<P: Drop>(
 {
     match step {
         BodyStep::Goes => go_to(Lead::Finishing(end), AT_ONCE, main, cx),
-        BodyStep::Waits => go_to(Lead::Finishing(end), RETRY, main, cx),
+        BodyStep::Waits => go_to(Lead::Finishing(end), RETRY_AFTER, main, cx),
         BodyStep::Finishes(end) => go_to(Lead::Finishing(end), AT_ONCE, main, cx),
         BodyStep::Closes(end) => go_to(Lead::TxnClose(end), AT_ONCE, main, cx),
         BodyStep::Lacks => {
@@ -180,7 +181,7 @@ pub fn after_step<P: Drop>(
     let Step { phase, next } = step;
     match next {
         Next::Go => stay_in(phase, AT_ONCE, main, cx),
-        Next::Wait => stay_in(phase, RETRY, main, cx),
+        Next::Wait => stay_in(phase, RETRY_AFTER, main, cx),
         Next::Done => {
             destroy_end(main, cx);
             Course::Phased(phase)

@@ -6,7 +6,7 @@ use Rattle.httparse.specs.declared.spans.HeaderSpan.{HeaderSpan}
 use Rattle.httparse.specs.Grammar.{Field}
 use Rattle.httparse.specs.Spans.{AreFieldsAt, IsSectionWithin}
 use Rattle.ts_wire.specs.Limits.{head_limit, field_limit}
-use Rattle.ts_wire.specs.Heads.{BeginsWith, IsHeadOf, Lacks, Awaits, IsTooLong}
+use Rattle.ts_wire.specs.Heads.{BeginsWith, IsHeadOf, LacksHead, Awaits, IsTooLong}
 use Rattle.ts_wire.proofs.HeadLemmas.{front_and_more, few_fields}
 
 -- the head's own bytes hold the section that is in those with what follows
@@ -77,7 +77,7 @@ module _ {H : Type 0} {Good : H → Type 0} {print : H → List ℕ} {lines : H 
       }
 
   pub lacks_head : (bytes front : List ℕ) → front ≡ take head_limit bytes → HasNone Good print front
-      → Lacks (BeginsWith Good print lines) bytes
+      → LacksHead (BeginsWith Good print lines) bytes
   lacks_head bytes front is none h rest begins =
       none h (take (head_limit - length (print h)) rest)
       (begins.reads.0, is ∙ take_past head_limit bytes (print h) rest begins.reads.1 begins.short)
@@ -85,7 +85,7 @@ module _ {H : Type 0} {Good : H → Type 0} {print : H → List ℕ} {lines : H 
   -- where all the bytes of a head are there, what follows changes nothing
   pub full_of_none : {Exceeds : ℕ → List ℕ → Type 0} (bytes front : List ℕ) → front ≡ take head_limit bytes
       → head_limit ≤ length bytes → HasNone Good print front
-      → IsTooLong (Lacks (BeginsWith Good print lines)) Exceeds bytes
+      → IsTooLong (LacksHead (BeginsWith Good print lines)) Exceeds bytes
   full_of_none bytes front is full none = record {
     lacks = λ more. lacks_head (bytes ++ more) front (is
         ∙ sym (take-append-le head_limit bytes more full)) none;
@@ -96,7 +96,7 @@ module _ {H : Type 0} {Good : H → Type 0} {print : H → List ℕ} {lines : H 
   pub overflows : (bytes front : List ℕ) → front ≡ take head_limit bytes
       → ((more : List ℕ) (h : H) (rest : List ℕ) → Reads Good print (front ++ more) h rest
       → field_limit < length (lines h)) → (more : List ℕ)
-      → Lacks (BeginsWith Good print lines) (bytes ++ more)
+      → LacksHead (BeginsWith Good print lines) (bytes ++ more)
   overflows bytes front is over more h rest begins =
       let many = over (drop head_limit bytes ++ more) h rest
       (begins.reads.0, sym (front_and_more head_limit bytes front more is) ∙ begins.reads.1) in
@@ -105,15 +105,15 @@ module _ {H : Type 0} {Good : H → Type 0} {print : H → List ℕ} {lines : H 
   pub too_many : {Exceeds : ℕ → List ℕ → Type 0} (bytes front : List ℕ) → front ≡ take head_limit bytes
       → ((more : List ℕ) (h : H) (rest : List ℕ) → Reads Good print (front ++ more) h rest
       → field_limit < length (lines h))
-      → Exceeds field_limit front → IsTooLong (Lacks (BeginsWith Good print lines)) Exceeds bytes
+      → Exceeds field_limit front → IsTooLong (LacksHead (BeginsWith Good print lines)) Exceeds bytes
   too_many {Exceeds = Exceeds} bytes front is over exceeds =
       record { lacks = overflows bytes front is over; why = inr (subst (Exceeds field_limit) is exceeds) }
 
   -- what is lacking whatever follows is lacking now
-  pub lacks_now : (bytes : List ℕ) → ((more : List ℕ) → Lacks (BeginsWith Good print lines) (bytes ++ more))
-      → Lacks (BeginsWith Good print lines) bytes
-  lacks_now bytes lacks = subst (Lacks (BeginsWith Good print lines)) (append-nil bytes) (lacks [])
+  pub lacks_now : (bytes : List ℕ) → ((more : List ℕ) → LacksHead (BeginsWith Good print lines) (bytes ++ more))
+      → LacksHead (BeginsWith Good print lines) bytes
+  lacks_now bytes lacks = subst (LacksHead (BeginsWith Good print lines)) (append-nil bytes) (lacks [])
 
   pub never_lacks : (bytes : List ℕ) → ((more : List ℕ) → HasNone Good print (bytes ++ more))
-      → Lacks (BeginsWith Good print lines) bytes
+      → LacksHead (BeginsWith Good print lines) bytes
   never_lacks bytes never h rest begins = never [] h rest (begins.reads.0, append-nil bytes ∙ begins.reads.1)

@@ -48,8 +48,8 @@ IsOneHead {H = H} Begins Keeps bytes head used =
     (h : H) (rest : List ℕ) → Begins bytes h rest → Keeps h head × (rest ≡ drop used bytes)
 
 -- no prefix is a head within the limits
-abbrev pub Lacks : {H : Type 0} → (List ℕ → H → List ℕ → Type 0) → List ℕ → Type 0
-Lacks {H = H} Begins bytes = (h : H) (rest : List ℕ) → Begins bytes h rest → ⊥
+abbrev pub LacksHead : {H : Type 0} → (List ℕ → H → List ℕ → Type 0) → List ℕ → Type 0
+LacksHead {H = H} Begins bytes = (h : H) (rest : List ℕ) → Begins bytes h rest → ⊥
 
 -- no prefix is a head, and with more bytes one may come to be
 pub record Awaits (HasNone MayBecome : List ℕ → Type 0) (bytes : List ℕ) : Type 0 where
@@ -66,11 +66,11 @@ pub record IsTooLong (LacksHead : List ℕ → Type 0) (Exceeds : ℕ → List �
 
 -- ---- requests
 
-abbrev pub request_lines : grammar.RequestHead → List grammar.Field
-request_lines h = h.fields
+abbrev pub request_fields : grammar.RequestHead → List grammar.Field
+request_fields h = h.fields
 
 abbrev pub BeginsWithRequest : List ℕ → grammar.RequestHead → List ℕ → Type 0
-BeginsWithRequest = BeginsWith IsRequestHead print_request request_lines
+BeginsWithRequest = BeginsWith IsRequestHead print_request request_fields
 
 -- the head is what is kept of h
 pub record KeepsRequest (h : grammar.RequestHead) (head : RequestHead) : Type 0 where
@@ -80,13 +80,13 @@ pub record KeepsRequest (h : grammar.RequestHead) (head : RequestHead) : Type 0 
   pub fields : head.fields ≡ map kept_field h.fields
 
 abbrev pub IsRequestOf : List ℕ → RequestHead → ℕ → Type 0
-IsRequestOf = IsHeadOf IsRequestHead print_request request_lines KeepsRequest
+IsRequestOf = IsHeadOf IsRequestHead print_request request_fields KeepsRequest
 
 abbrev pub IsOneRequest : List ℕ → RequestHead → ℕ → Type 0
 IsOneRequest = IsOneHead BeginsWithRequest KeepsRequest
 
 abbrev pub LacksRequest : List ℕ → Type 0
-LacksRequest = Lacks BeginsWithRequest
+LacksRequest = LacksHead BeginsWithRequest
 
 abbrev pub AwaitsRequest : List ℕ → Type 0
 AwaitsRequest = Awaits HasNoRequest MayBecomeRequest
@@ -96,11 +96,11 @@ IsTooLongRequest = IsTooLong LacksRequest RequestExceeds
 
 -- ---- responses
 
-abbrev pub response_lines : grammar.ResponseHead → List grammar.Field
-response_lines h = h.fields
+abbrev pub response_fields : grammar.ResponseHead → List grammar.Field
+response_fields h = h.fields
 
 abbrev pub BeginsWithResponse : List ℕ → grammar.ResponseHead → List ℕ → Type 0
-BeginsWithResponse = BeginsWith IsResponseHead print_response response_lines
+BeginsWithResponse = BeginsWith IsResponseHead print_response response_fields
 
 -- the head is what is kept of the response head h
 pub record KeepsResponse (h : grammar.ResponseHead) (head : ResponseHead) : Type 0 where
@@ -110,13 +110,13 @@ pub record KeepsResponse (h : grammar.ResponseHead) (head : ResponseHead) : Type
   pub fields : head.fields ≡ map kept_field h.fields
 
 abbrev pub IsResponseOf : List ℕ → ResponseHead → ℕ → Type 0
-IsResponseOf = IsHeadOf IsResponseHead print_response response_lines KeepsResponse
+IsResponseOf = IsHeadOf IsResponseHead print_response response_fields KeepsResponse
 
 abbrev pub IsOneResponse : List ℕ → ResponseHead → ℕ → Type 0
 IsOneResponse = IsOneHead BeginsWithResponse KeepsResponse
 
 abbrev pub LacksResponse : List ℕ → Type 0
-LacksResponse = Lacks BeginsWithResponse
+LacksResponse = LacksHead BeginsWithResponse
 
 abbrev pub AwaitsResponse : List ℕ → Type 0
 AwaitsResponse = Awaits HasNoResponse MayBecomeResponse

@@ -11,7 +11,7 @@ use ts_link::NoMemory;
 pub const MAX_PIECE: usize = 32768;
 
 /// How a body is sent.
-#[derive(Clone, Copy)]
+#[derive(Clone, Copy, PartialEq, Eq)]
 pub enum Mode {
     /// As it is.
     Plain,

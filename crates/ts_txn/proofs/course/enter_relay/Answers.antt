@@ -21,7 +21,7 @@ use Rattle.ts_txn.proofs.Events.{begin_led, due_begin, takes_begin, takes_lost}
 use Rattle.ts_txn.proofs.Handling.{little_begun, little_stay, sound_here}
 use Rattle.ts_txn.proofs.LoweringCourse.{begun_led, lines_after, lines_stay, not_begun}
 use Rattle.ts_relay.proofs.LoweringPays.{set_one}
-use Rattle.ts_txn.proofs.course.begin_relay.Goals as goal
+use Rattle.ts_txn.proofs.course.enter_relay.Goals as goal
 
 -- Memory lacked for the head.
 pub returns-in_default-clause-owes : goal.returns-in_default-clause-owes
