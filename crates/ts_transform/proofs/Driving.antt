@@ -1,7 +1,6 @@
 -- What is left of a driven chain when one of its stages acted, when bytes came to it, and when bytes were
 -- taken from it.
 use Rattle.std.proofs.Common.{◌≡◌, ◌≢◌, ◌+◌, ◌++◌, ◌⊎◌, inl, inr, ℕ, zero, suc, List, [], ◌∷◌, Bool, true, false, length, take, drop, eqb, Option, Result, Ok, Err, sym, ap, subst, ◌∙◌}
-use Rattle.std.proofs.Math.Seq.{take-append_seam}
 use Rattle.std.proofs.lemmas.Bool.Decides.{eqb_tells}
 use Rattle.ts_journal.specs.declared.entry.Event.{Event}
 use Rattle.ts_group.specs.declared.action.SetFault.{SetFault}

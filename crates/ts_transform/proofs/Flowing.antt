@@ -1,6 +1,6 @@
 -- What flows through a chain as it is made, and as its client takes bytes.
-use Rattle.std.proofs.Common.{◌≡◌, ℕ, List, [], ◌∷◌, ◌++◌, true, length, take, drop, map, arith, refl, sym, ap, ◌∙◌, append_assoc}
-use Rattle.std.proofs.lemmas.List.{take-append-drop, append-nil}
+use Rattle.std.proofs.Common.{◌≡◌, ℕ, List, [], ◌∷◌, ◌++◌, true, length, take, drop, map, arith, refl, sym, ap, ◌∙◌}
+use Rattle.std.proofs.lemmas.List.{append-nil}
 use Rattle.ts_transform.specs.declared.pump.Stage.{Stage}
 use Rattle.ts_transform.specs.Flow.{ChainState, flow, flow_from, compose, fresh_stage, last_wait, last_ended, closed, aborted, passing, left_to_do}
 use Rattle.ts_lists.proofs.Fronts.{cut_before}

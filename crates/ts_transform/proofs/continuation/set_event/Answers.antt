@@ -1,6 +1,6 @@
 -- The event that is set is one at which its stage works, in time: after its pause, and at once if it has
 -- none.
-use Rattle.std.proofs.Common.{◌≡◌, ◌==◌, arith, refl, subst, sym, true}
+use Rattle.std.proofs.Common.{◌≡◌, ◌==◌, arith, refl, subst, true}
 use Rattle.ts_transform.specs.Driving.{IsWorkOf, SetsOnly}
 use Rattle.ts_transform.proofs.Kept.{set_event, soon_later, soon_now, works_soon}
 use Rattle.ts_transform.proofs.Setting.{set_work}

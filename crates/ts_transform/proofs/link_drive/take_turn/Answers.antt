@@ -1,5 +1,5 @@
 -- A turn of its own handles an event, or nothing, and what it moves is what its handlers move.
-use Rattle.std.proofs.Common.{◌+◌, arith, refl, sym, subst, ◌∙◌}
+use Rattle.std.proofs.Common.{◌+◌, arith, sym, subst, ◌∙◌}
 use Rattle.ts_transform.specs.Carrying.{CarriesTo}
 use Rattle.ts_transform.proofs.Runs.{handle_carries, handled_nothing, to_refl}
 use Rattle.ts_transform.proofs.link_drive.take_turn.Goals as goal
