@@ -86,6 +86,7 @@ pub record HandlesEnd {I K P : Type 0} (event : Event) (Must Done : Type 0) (v w
     (a b : Context) : Type 0 where
   pub does : works_at event ≡ true → Must → Done
   pub rests : EndRests event Must → LeavesDuties v w
+  pub sure : works_at event ≡ false → (w ≡ v) × (b ≡ a)
 
 -- An event of a role is one at which there is nothing to do: its end, or the stage of that role, has nothing
 -- to do.

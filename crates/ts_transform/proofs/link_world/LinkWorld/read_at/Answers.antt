@@ -2,7 +2,7 @@ use Rattle.std.proofs.Common.{◌≡◌, inl, inr, true, false, refl, ap, sym, s
 use Rattle.ts_transform.specs.Flow.{MustRead}
 use Rattle.ts_transform.specs.Along.{EndRests, LeavesDuties}
 use Rattle.ts_transform.specs.Carrying.{AreLinked, IsJoined}
-use Rattle.ts_transform.specs.Driving.{IsNamedIf, unroused}
+use Rattle.ts_transform.specs.Driving.{IsNamedIf, unroused, works_at}
 use Rattle.ts_transform.proofs.Carrying.{moves_none}
 use Rattle.ts_transform.proofs.Joined.{course_same, joined_quiet, linked_kept, lose_weaker, joined_reader, named_unroused}
 use Rattle.ts_transform.proofs.Along.{duty_none}
@@ -79,12 +79,18 @@ returns-else-works-clause-duty g c = duty_none g.P.Transform.pause c.args.self.n
 
 -- It does its duty where it works, and else nothing.
 pub returns-then-works-clause-duties : goal.returns-then-works-clause-duties
-returns-then-works-clause-duties g c = record { does = λ works. c.read.ensures.does; rests = leaves }
+returns-then-works-clause-duties g c = record {
+  does = λ works. c.read.ensures.does;
+  rests = leaves;
+  sure = λ quiet. absurd (works_still quiet);
+}
   where
+    works_still : works_at c.args.event ≡ false → ⊥
+    works_still quiet = let wrong : true ≡ false = sym c.if-works.true ∙ c.works.ensures ∙ quiet in cc
+
     leaves : EndRests c.args.event (MustRead c.args.self.now.driven.chain)
         → LeavesDuties c.args.self.now c.read.new.self
-    leaves (inl quiet) = absurd (let wrong : true ≡ false = sym c.if-works.true ∙ c.works.ensures ∙ quiet in
-        cc)
+    leaves (inl quiet) = absurd (works_still quiet)
     leaves (inr rests) =
         let same = c.read.ensures.leaves.1 rests in
         record {
@@ -98,6 +104,7 @@ pub returns-else-works-clause-duties : goal.returns-else-works-clause-duties
 returns-else-works-clause-duties g c = record {
   does = λ works. absurd (let wrong : false ≡ true = sym c.if-works.false ∙ c.works.ensures ∙ works in cc);
   rests = λ quiet. record { running = refl; chain = refl; writer = λ must. refl; reader = λ must. refl };
+  sure = λ quiet. (refl, refl);
 }
 
 -- The other link is not touched.
