@@ -1,13 +1,11 @@
 -- A word of digits, read from the left.
 use Rattle.std.proofs.Common.{◌≡◌, ℕ, ◌+◌, ◌-◌, ◌*◌, ◌<◌, ◌≤◌, List, [], ◌∷◌, length, drop, get_or, true, false, ◌&&◌, Some, None, ap, ◌∙◌, arith, add-one}
 use Rattle.std.specs.Char.{is_ascii_digit, digit_value}
-use Rattle.std.specs.Int.{IsInRange}
 use Rattle.std.specs.Str.{all_ascii_digits}
 use Rattle.std.specs.Str.Parse.{digits_value, digits_value_after}
 use Rattle.std.proofs.Math.Seq.{drop-cons}
 use Rattle.std.proofs.lemmas.Str.{digit_value_digit}
 use Rattle.std.proofs.lemmas.Grind.{common_steps}
-use Rattle.std.proofs.lemmas.Bool.Decides.{nat_tests}
 use Rattle.ts_lists.proofs.Digits.{digit_range}
 use Rattle.ts_config.specs.Numerals.{number_of, has_no_leading_zero}
 
