@@ -14,7 +14,9 @@ use Rattle.ts_wire.proofs.OneBody.{one_body}
 use Rattle.ts_block.specs.Rules.{is_denied}
 use Rattle.ts_block.specs.Relayed.{framing_of}
 use Rattle.ts_block.specs.Heads.{FinalHead, is_refused_status}
-use Rattle.ts_block.specs.Block.{LacksAnswer, no_final, bad_status, faulty, IsGood, EndsWith, relayed_block, request_text, body_lines, BodySays, ended, cut, bad, AnswerSays, lacking, passed_on, DialSays, DenySays, VerdictSays, IsBlock, silent, no_head, asked}
+use Rattle.ts_block.specs.Block.{LacksAnswer, no_final, bad_status, faulty, IsGood, EndsWith, relayed_block}
+use Rattle.ts_block.specs.Block.{request_text, body_lines, BodySays, ended, cut, bad, AnswerSays, lacking}
+use Rattle.ts_block.specs.Block.{passed_on, DialSays, DenySays, VerdictSays, IsBlock, silent, no_head, asked}
 use Rattle.ts_block.specs.declared.block.Block.{Block}
 use Rattle.ts_block.proofs.OneHead.{one_request, one_final, true_not_false}
 
@@ -46,27 +48,35 @@ ends_bad f bytes x y (inr (is, a)) b = unfinished_bad (one_body f bytes x y B.Un
 cut_bad : (f : Framing) (bytes x y : List ℕ) → IsCutShort f bytes x → BodyOf f bytes y B.Bad → ⊥
 cut_bad f bytes x y (a, other) b = unfinished_bad (one_body f bytes x y B.Unfinished B.Bad a b).1
 
-body_one : (setup : Setup) (request : List ℕ) (q : RequestHead) (h : ResponseHead) (rest : List ℕ) (a b : Block)
+body_one : (setup : Setup) (request : List ℕ) (q : RequestHead) (h : ResponseHead) (rest : List ℕ)
+    (a b : Block)
     → BodySays setup request q h rest a → BodySays setup request q h rest b → a ≡ b
 body_one setup request q h rest a b (ended x e is) (ended y f be) =
-    is ∙ ap (λ z. relayed_block setup request q h E.Whole (compose_lines (body_lines setup q h) z)) (ends_one (framing_of q h) rest x y e f) ∙ sym be
-body_one setup request q h rest a b (ended x e is) (cut y f be) = absurd (ends_cut (framing_of q h) rest x y e f)
-body_one setup request q h rest a b (ended x e is) (bad y f be) = absurd (ends_bad (framing_of q h) rest x y e f)
-body_one setup request q h rest a b (cut x e is) (ended y f be) = absurd (ends_cut (framing_of q h) rest y x f e)
+    is ∙ ap (λ z. relayed_block setup request q h E.Whole (compose_lines (body_lines setup q h) z))
+    (ends_one (framing_of q h) rest x y e f) ∙ sym be
+body_one setup request q h rest a b (ended x e is) (cut y f be) =
+    absurd (ends_cut (framing_of q h) rest x y e f)
+body_one setup request q h rest a b (ended x e is) (bad y f be) =
+    absurd (ends_bad (framing_of q h) rest x y e f)
+body_one setup request q h rest a b (cut x e is) (ended y f be) =
+    absurd (ends_cut (framing_of q h) rest y x f e)
 body_one setup request q h rest a b (cut x e is) (cut y f be) = is ∙ sym be
 body_one setup request q h rest a b (cut x e is) (bad y f be) = absurd (cut_bad (framing_of q h) rest x y e f)
-body_one setup request q h rest a b (bad x e is) (ended y f be) = absurd (ends_bad (framing_of q h) rest y x f e)
+body_one setup request q h rest a b (bad x e is) (ended y f be) =
+    absurd (ends_bad (framing_of q h) rest y x f e)
 body_one setup request q h rest a b (bad x e is) (cut y f be) = absurd (cut_bad (framing_of q h) rest y x f e)
 body_one setup request q h rest a b (bad x e is) (bad y f be) = is ∙ sym be
 
 -- ---- which answer is made
 
 -- a head that can be passed on is an answer
-lacks_good : (q : RequestHead) (o : List ℕ) (h : ResponseHead) (rest : List ℕ) → LacksAnswer q o → FinalHead o h rest → IsGood q h → ⊥
+lacks_good : (q : RequestHead) (o : List ℕ) (h : ResponseHead) (rest : List ℕ) → LacksAnswer q o
+    → FinalHead o h rest → IsGood q h → ⊥
 lacks_good q o h rest (no_final lacks) final good = lacks h rest final
 lacks_good q o h rest (bad_status k s other is) final good =
     let same = one_final o k h s rest other final in
-    true_not_false (is_refused_status h.status) (subst (λ (x : ResponseHead). is_refused_status x.status ≡ true) same.0 is) good.status
+    true_not_false (is_refused_status h.status) (subst (λ (x : ResponseHead). is_refused_status
+    x.status ≡ true) same.0 is) good.status
 lacks_good q o h rest (faulty k s other is) final good =
     let same = one_final o k h s rest other final in
     good.framing (subst (λ (x : ResponseHead). framing_of q x ≡ F.Faulty) same.0 is)
@@ -74,12 +84,15 @@ lacks_good q o h rest (faulty k s other is) final good =
 answer_one : (setup : Setup) (request : List ℕ) (q : RequestHead) (o : List ℕ) (a b : Block)
     → AnswerSays setup request q o a → AnswerSays setup request q o b → a ≡ b
 answer_one setup request q o a b (lacking l is) (lacking m be) = is ∙ sym be
-answer_one setup request q o a b (lacking l is) (passed_on h rest final good body) = absurd (lacks_good q o h rest l final good)
-answer_one setup request q o a b (passed_on h rest final good body) (lacking l is) = absurd (lacks_good q o h rest l final good)
+answer_one setup request q o a b (lacking l is) (passed_on h rest final good body) =
+    absurd (lacks_good q o h rest l final good)
+answer_one setup request q o a b (passed_on h rest final good body) (lacking l is) =
+    absurd (lacks_good q o h rest l final good)
 answer_one setup request q o a b (passed_on h rest final good body) (passed_on k s other fine text) =
     let same = one_final o k h s rest other final in
     body_one setup request q h rest a b body
-    (subst (λ (x : List ℕ). BodySays setup request q h x b) same.1 (subst (λ (x : ResponseHead). BodySays setup request q x s b) same.0 text))
+    (subst (λ (x : List ℕ). BodySays setup request q h x b) same.1
+    (subst (λ (x : ResponseHead). BodySays setup request q x s b) same.0 text))
 
 module _ (setup : Setup) (dialed : Bool) (refuses : Type 0) (o : List ℕ) where
   dial_one : (d : Bool) (request : List ℕ) (q : RequestHead) (a b : Block)
@@ -101,7 +114,8 @@ module _ (setup : Setup) (dialed : Bool) (refuses : Type 0) (o : List ℕ) where
   verdict_one (Ok (target, host)) q a b x y =
       deny_one (is_denied setup.plugins.items (plugin_host host)) (request_text setup q target host) q a b x y
 
-  pub one_block : (c : List ℕ) (a b : Block) → IsBlock setup dialed refuses o c a → IsBlock setup dialed refuses o c b → a ≡ b
+  pub one_block : (c : List ℕ) (a b : Block) → IsBlock setup dialed refuses o c a
+      → IsBlock setup dialed refuses o c b → a ≡ b
   one_block c a b (silent e is) (silent f be) = is ∙ sym be
   one_block c a b (silent e is) (no_head n l be) = absurd (n e)
   one_block c a b (silent e is) (asked n q r has says) = absurd (n e)
@@ -112,4 +126,5 @@ module _ (setup : Setup) (dialed : Bool) (refuses : Type 0) (o : List ℕ) where
   one_block c a b (asked n q r has says) (no_head m l be) = absurd (l has.parsed r has.begins)
   one_block c a b (asked n q r has x) (asked m p s had y) =
       let same = one_request c p q s r had has in
-      verdict_one (check q) q a b x (subst (λ (t : RequestHead). VerdictSays setup dialed refuses o (check t) t b) same.0 y)
+      verdict_one (check q) q a b x (subst (λ (t : RequestHead). VerdictSays setup dialed refuses o (check t)
+      t b) same.0 y)

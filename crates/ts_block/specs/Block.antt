@@ -23,7 +23,8 @@ use Rattle.ts_block.specs.Rules.{ruled, is_denied}
 use Rattle.std.specs.List.{list_any}
 use Rattle.ts_block.specs.Acting.{acting, acts_on}
 use Rattle.ts_block.specs.Own.{own_refusal, own_head, own_field, own_sent}
-use Rattle.ts_block.specs.Relayed.{asks_head, reads_chunks, framing_of, length_told, client_framing, mode_of, if_body}
+use Rattle.ts_block.specs.Relayed.{asks_head, reads_chunks, framing_of, length_told, client_framing, mode_of}
+use Rattle.ts_block.specs.Relayed.{if_body}
 use Rattle.ts_block.specs.Heads.{HasRequest, FinalHead, LacksFinal, is_refused_status}
 use Rattle.ts_block.specs.declared.own_answer.OwnStatus.{OwnStatus}
 use Rattle.ts_block.specs.declared.own_answer.OwnStatus.TheVariants as O

@@ -1,5 +1,6 @@
 -- How the body of a response that is passed on is framed for the client (RFC 9112, section 6).
-use Rattle.std.specs.Prelude.{ℕ, ◌==◌, Bool, true, false, ◌||◌, List, [], Option, Some, None, if◌then◌else◌, bytes_eq, codes}
+use Rattle.std.specs.Prelude.{ℕ, ◌==◌, Bool, true, false, ◌||◌, List, [], Option, Some, None, if◌then◌else◌}
+use Rattle.std.specs.Prelude.{bytes_eq, codes}
 use Rattle.ts_config.specs.declared.setup.TransformLine.{TransformLine}
 use Rattle.ts_wire.specs.Limits.{no_content}
 use Rattle.ts_wire.specs.declared.heads.RequestHead.{RequestHead}

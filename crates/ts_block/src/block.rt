@@ -5,15 +5,17 @@ ghost use Rattle.ts_config.specs.Bodies.{compose_lines};
 ghost use Rattle.ts_block.specs.Heads.{is_refused_status};
 ghost use Rattle.ts_block.specs.Relayed.{asks_head, framing_of, if_body};
 ghost use Rattle.ts_block.specs.Finding.{IsOver, IsCut};
-ghost use Rattle.ts_block.specs.Block.{IsGood, request_text, own_text, own_block, silent_block, lines_for, body_lines, framing_for, relayed_head, relayed_block, BodySays, AnswerSays, DialSays, VerdictSays, IsBlock, HasOneBlock};
+ghost use Rattle.ts_block.specs.Block.{IsGood, request_text, own_text, own_block, silent_block, lines_for};
+ghost use Rattle.ts_block.specs.Block.{body_lines, framing_for, relayed_head, relayed_block, BodySays};
+ghost use Rattle.ts_block.specs.Block.{AnswerSays, DialSays, VerdictSays, IsBlock, HasOneBlock};
 
-use crate::content::is_acted_on;
 use crate::bodies::compose;
-use crate::heads::{find_body, find_final, find_request, is_refused_status};
-use crate::own_answer::{OwnStatus, own_fields};
+use crate::content::is_acted_on;
 use crate::framing::{
     asks_head, client_framing, framing_between, length_told, mode_of, reads_chunks,
 };
+use crate::heads::{find_body, find_final, find_request, is_refused_status};
+use crate::own_answer::{OwnStatus, own_fields};
 use crate::rules::{apply_rules, is_denied};
 use std::alloc::Global;
 use ts_config::{Setup, Side};
@@ -101,11 +103,7 @@ fn silent_block(alloc: Global) -> Block
 }
 
 /// How the body of a response is framed for the client.
-pub fn framing_for(
-    setup: &Setup,
-    request: &RequestHead,
-    head: &ResponseHead,
-) -> ClientFraming
+pub fn framing_for(setup: &Setup, request: &RequestHead, head: &ResponseHead) -> ClientFraming
     ensures { result ≡ framing_for setup.now request.now head.now }
 {
     client_framing(
@@ -244,7 +242,7 @@ fn is_over(framing: Framing, state: BodyState) -> bool
 }
 
 /// The block whose answer is the origin's, by the body.
-#[tactic(auto, using(crate::proofs::Saying::says_bad, crate::proofs::Saying::says_cut, crate::proofs::Saying::says_ended))]
+#[tactic(auto, using(crate::proofs::Saying::body_says))]
 fn relayed(
     alloc: Global,
     setup: &Setup,
@@ -308,7 +306,7 @@ fn lacking(
 }
 
 /// The block of a request that was sent, by the origin's head.
-#[tactic(auto, using(crate::proofs::Saying::says_none, crate::proofs::Saying::says_refused_head, crate::proofs::Saying::says_passed_on))]
+#[tactic(auto, using(crate::proofs::Saying::answer_says))]
 fn answered(
     alloc: Global,
     setup: &Setup,
@@ -408,7 +406,7 @@ fn passed(
 
 /// The block of all bytes that the client and the origin give, each followed by its end. `dialed` says
 /// whether there is an origin, and `refuses` whether its link refuses the upload of this client.
-#[tactic(auto, using(crate::proofs::Saying::says_no_head, crate::proofs::Saying::says_refused, crate::proofs::Saying::says_passed))]
+#[tactic(auto, using(crate::proofs::Saying::head_says))]
 pub fn block_of(
     alloc: Global,
     setup: &Setup,

@@ -58,7 +58,7 @@ fn whole_of(alloc: Global, line: &TransformLine, body: Vec<u8>) -> Result<Vec<u8
 }
 
 /// What the lines that act on a response make of its whole body, the first line acting first.
-pub fn compose(
+pub(crate) fn compose(
     alloc: Global,
     lines: &[TransformLine],
     status: u16,

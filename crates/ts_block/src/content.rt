@@ -3,7 +3,8 @@ ghost use Rattle.std.specs.Prelude.{◌≡◌, ◌≤◌, length, codes};
 ghost use Rattle.std.specs.List.{find, list_any, position_or_len};
 ghost use Rattle.std.specs.Option.{option_copied};
 ghost use Rattle.ts_wire.specs.FieldList.{is_named, first_value};
-ghost use Rattle.ts_block.specs.Acting.{is_semicolon, media_type, is_html, is_coded, is_open, wants_html, acts_on};
+ghost use Rattle.ts_block.specs.Acting.{is_semicolon, media_type, is_html, is_coded, is_open, wants_html};
+ghost use Rattle.ts_block.specs.Acting.{acts_on};
 
 use ts_config::TransformLine;
 use ts_wire::{Field, is_named, trim, value_of};
@@ -94,7 +95,7 @@ pub fn acts_on(status: u16, fields: &[Field], line: &TransformLine) -> bool
 }
 
 /// Whether some of these lines acts on such a response.
-pub fn is_acted_on(lines: &[TransformLine], status: u16, fields: &[Field]) -> bool
+pub(crate) fn is_acted_on(lines: &[TransformLine], status: u16, fields: &[Field]) -> bool
     ensures { result ≡ list_any (acts_on status fields.now) lines.now }
 {
     lines.iter().any(|line| acts_on(status, fields, line))

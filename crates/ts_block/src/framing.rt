@@ -1,6 +1,7 @@
 //! How the body of a response that is passed on is framed for the client.
 ghost use Rattle.std.specs.Prelude.{◌≡◌};
-ghost use Rattle.ts_block.specs.Relayed.{asks_head, reads_chunks, framing_of, length_told, client_framing, kept_length, open_framing, mode_of};
+ghost use Rattle.ts_block.specs.Relayed.{asks_head, reads_chunks, framing_of, length_told, client_framing};
+ghost use Rattle.ts_block.specs.Relayed.{kept_length, open_framing, mode_of};
 
 use ts_wire::{
     ClientFraming, ContentLength, Fields, Framing, Mode, RequestHead, ResponseHead, TransferCoding,
@@ -18,7 +19,7 @@ pub fn asks_head(head: &RequestHead) -> bool
 }
 
 /// Whether the client reads chunks: it spoke HTTP/1.1.
-pub fn reads_chunks(head: &RequestHead) -> bool
+pub(crate) fn reads_chunks(head: &RequestHead) -> bool
     ensures { result ≡ reads_chunks head.now }
 {
     head.minor == 1
@@ -32,7 +33,7 @@ pub fn framing_between(request: &RequestHead, head: &ResponseHead) -> Framing
 }
 
 /// The valid length of a head without a transfer coding.
-pub fn length_told(fields: &Fields) -> Option<u64>
+pub(crate) fn length_told(fields: &Fields) -> Option<u64>
     ensures { result ≡ length_told fields.now }
 {
     match (coding_of(fields), length_of(fields)) {

@@ -25,14 +25,14 @@ pub fn is_interim(status: u16) -> bool
 }
 
 /// Whether no answer can be made of a response for its status.
-pub fn is_refused_status(status: u16) -> bool
+pub(crate) fn is_refused_status(status: u16) -> bool
     ensures { result ≡ is_refused_status status }
 {
     status == SWITCHING || status < FIRST_INTERIM
 }
 
 /// The head of a request at the front of the bytes.
-pub fn find_request(alloc: Global, bytes: &[u8]) -> Result<Option<RequestHead>, NoMemory>
+pub(crate) fn find_request(alloc: Global, bytes: &[u8]) -> Result<Option<RequestHead>, NoMemory>
     ensures { IfOk result (FindsRequest bytes.now) }
 {
     match read_request(alloc, bytes)? {
@@ -61,7 +61,10 @@ fn find_response(
 }
 
 /// The first head of a response that is not interim, and where it ends.
-pub fn find_final(alloc: Global, bytes: &[u8]) -> Result<Option<(ResponseHead, usize)>, NoMemory>
+pub(crate) fn find_final(
+    alloc: Global,
+    bytes: &[u8],
+) -> Result<Option<(ResponseHead, usize)>, NoMemory>
     ensures { IfOk result (FindsFinal bytes.now) }
 {
     let mut at = 0;
@@ -76,8 +79,8 @@ pub fn find_final(alloc: Global, bytes: &[u8]) -> Result<Option<(ResponseHead, u
 }
 
 /// The body of the bytes, and how far it is.
-#[tactic(auto, using(crate::proofs::Searching::reads_ended, crate::proofs::Searching::reads_bad, crate::proofs::Searching::reads_to_end, crate::proofs::Searching::reads_on, crate::proofs::Searching::reads_some))]
-pub fn find_body(
+#[tactic(auto, using(crate::proofs::Searching::body_reads))]
+pub(crate) fn find_body(
     alloc: Global,
     framing: Framing,
     bytes: &[u8],

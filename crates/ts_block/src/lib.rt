@@ -9,7 +9,9 @@ mod heads;
 mod own_answer;
 mod rules;
 
-pub use block::{Block, block_of, framing_for, is_good, one_block, own_text, relayed_head, request_text};
+pub use block::{
+    Block, block_of, framing_for, is_good, one_block, own_text, relayed_head, request_text,
+};
 pub use bodies::joined;
 pub use content::acts_on;
 pub use framing::{asks_head, client_framing, framing_between, mode_of};

@@ -1,7 +1,8 @@
 //! The answers that the proxy makes itself.
 ghost use Rattle.std.specs.Prelude.{◌≡◌, ◌≤◌, [], ◌∷◌, IfOk};
 ghost use Rattle.ts_wire.specs.Limits.{status_limit};
-ghost use Rattle.ts_block.specs.Own.{code_of, own_refusal, own_reason, own_body, own_sent, own_field, own_head};
+ghost use Rattle.ts_block.specs.Own.{code_of, own_refusal, own_reason, own_body, own_sent, own_field};
+ghost use Rattle.ts_block.specs.Own.{own_head};
 
 use http_header::{HeaderName, HeaderValue};
 use std::alloc::Global;
@@ -9,7 +10,7 @@ use ts_link::{NoMemory, Octets};
 use ts_wire::{ClientFraming, Field, Fields, NOT_IMPLEMENTED, client_head};
 
 /// The statuses with which the proxy answers itself (RFC 9110, sections 15.5 and 15.6).
-#[derive(Clone, Copy, Debug, PartialEq, Eq)]
+#[derive(Clone, Copy)]
 pub enum OwnStatus {
     /// 400: the request is none, or names no host or two.
     BadRequest,
@@ -34,7 +35,7 @@ impl OwnStatus {
     }
 
     /// The number of the status.
-    pub fn code(self) -> u16
+    pub(crate) fn code(self) -> u16
         ensures value { result ≡ code_of self }
         ensures digits { result ≤ status_limit }
     {
@@ -47,7 +48,7 @@ impl OwnStatus {
     }
 
     /// What the status means, as the head says it.
-    pub fn reason(self) -> &'static [u8]
+    pub(crate) fn reason(self) -> &'static [u8]
         ensures { result.now ≡ own_reason self }
     {
         match self {
@@ -59,7 +60,7 @@ impl OwnStatus {
     }
 
     /// The body of the answer: the status, a space, the reason, LF.
-    pub fn body(self) -> &'static [u8]
+    pub(crate) fn body(self) -> &'static [u8]
         ensures { result.now ≡ own_body self }
     {
         match self {
@@ -78,7 +79,7 @@ impl OwnStatus {
     }
 
     /// The head of the answer, with these fields.
-    pub fn head(self, alloc: Global, fields: &Fields) -> Result<Octets, NoMemory>
+    pub(crate) fn head(self, alloc: Global, fields: &Fields) -> Result<Octets, NoMemory>
         ensures { IfOk result (λ text. text ≡ own_head self fields.now) }
     {
         let framing = ClientFraming::Sized(self.body().len() as u64);
@@ -87,7 +88,7 @@ impl OwnStatus {
 }
 
 /// The fields of such an answer, before the header rules.
-pub fn own_fields(alloc: Global) -> Result<Fields, NoMemory>
+pub(crate) fn own_fields(alloc: Global) -> Result<Fields, NoMemory>
     ensures { IfOk result (λ fields. fields ≡ own_field ∷ []) }
 {
     let name = HeaderName::from_static("content-type");

@@ -1,4 +1,5 @@
--- What holds in every phase: so a transaction may end for want of memory, or for its client's fault, at any time.
+-- What holds in every phase: so a transaction may end for want of memory, or for its client's fault, at any
+-- time.
 use Rattle.ts_config.specs.declared.setup.Setup.{Setup}
 use Rattle.ts_phases.specs.View.{View}
 use Rattle.ts_phases.specs.Ends.{AnyEnd}

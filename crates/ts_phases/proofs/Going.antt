@@ -14,7 +14,8 @@ use Rattle.ts_block.specs.Relayed.{asks_head}
 use Rattle.ts_block.specs.Block.{DenySays, DialSays, IsBlock, VerdictSays, asked, own_block, request_text}
 use Rattle.ts_phases.specs.View.{HasFailed, LinkSide, View}
 use Rattle.ts_phases.specs.Moving.{QueuesRequest, SideWrites, WritesOrigin}
-use Rattle.ts_phases.specs.Facts.{IsAllowed, CarriesRequest, PassesCheck, Goes, IsUnanswered, Knows, OwnReady, SendingRequest, Uploading, fault}
+use Rattle.ts_phases.specs.Facts.{IsAllowed, CarriesRequest, PassesCheck, Goes, IsUnanswered, Knows, OwnReady}
+use Rattle.ts_phases.specs.Facts.{SendingRequest, Uploading, fault}
 use Rattle.ts_phases.specs.Facts as facts
 use Rattle.ts_phases.specs.Ends.{AnyEnd}
 use Rattle.ts_phases.specs.Ends as ends
@@ -30,63 +31,112 @@ use Rattle.ts_phases.proofs.Asks.{untouched_own}
 
 module _ (setup : Setup) (dialed : Bool) (refuses : Type 0) (o c : List ℕ) (q : Request) (b : Block) where
   -- by the deny lines
-  known_block : Knows c q → DenySays setup dialed refuses o (is_denied setup.plugins.items (plugin_host q.host)) (request_text setup q.head q.target q.host) q.head b
+  known_block : Knows c q → DenySays setup dialed refuses o (is_denied setup.plugins.items
+      (plugin_host q.host)) (request_text setup q.head q.target q.host) q.head b
       → IsBlock setup dialed refuses o c b
   known_block knows says =
       asked knows.some q.head knows.rest knows.reads
-      (subst (λ (r : Result (List ℕ × List ℕ) ℕ). VerdictSays setup dialed refuses o r q.head b) (sym knows.passes) says)
+      (subst (λ (r : Result (List ℕ × List ℕ) ℕ). VerdictSays setup dialed refuses o r q.head b)
+      (sym knows.passes) says)
 
   -- by the origin
-  pub gone_block : Goes setup c q dialed → DialSays setup dialed refuses o true (request_text setup q.head q.target q.host) q.head b → IsBlock setup dialed refuses o c b
+  pub gone_block : Goes setup c q dialed → DialSays setup dialed refuses o true
+      (request_text setup q.head q.target q.host) q.head b → IsBlock setup dialed refuses o c b
   gone_block goes says =
       known_block goes.knows
-      (subst (λ (d : Bool). DenySays setup dialed refuses o d (request_text setup q.head q.target q.host) q.head b) (sym goes.allowed)
-      (subst (λ (d : Bool). DialSays setup dialed refuses o d (request_text setup q.head q.target q.host) q.head b) (sym goes.has_origin) says))
+      (subst (λ (d : Bool). DenySays setup dialed refuses o d (request_text setup q.head q.target q.host)
+      q.head b) (sym goes.allowed)
+      (subst (λ (d : Bool). DialSays setup dialed refuses o d (request_text setup q.head q.target q.host)
+      q.head b) (sym goes.has_origin) says))
 
-  denied_block : Knows c q → is_denied setup.plugins.items (plugin_host q.host) ≡ true → b ≡ own_block setup [] O.Forbidden (asks_head q.head)
+  denied_block : Knows c q → is_denied setup.plugins.items (plugin_host q.host) ≡ true
+      → b ≡ own_block setup [] O.Forbidden (asks_head q.head)
       → IsBlock setup dialed refuses o c b
   denied_block knows denied is =
       known_block knows
-      (subst (λ (d : Bool). DenySays setup dialed refuses o d (request_text setup q.head q.target q.host) q.head b) (sym denied) is)
+      (subst (λ (d : Bool). DenySays setup dialed refuses o d (request_text setup q.head q.target q.host)
+      q.head b) (sym denied) is)
 
-  no_origin_block : Knows c q → is_denied setup.plugins.items (plugin_host q.host) ≡ false → dialed ≡ false → b ≡ own_block setup [] O.BadGateway (asks_head q.head)
+  no_origin_block : Knows c q → is_denied setup.plugins.items (plugin_host q.host) ≡ false → dialed ≡ false
+      → b ≡ own_block setup [] O.BadGateway (asks_head q.head)
       → IsBlock setup dialed refuses o c b
   no_origin_block knows allowed none is =
       known_block knows
-      (subst (λ (d : Bool). DenySays setup dialed refuses o d (request_text setup q.head q.target q.host) q.head b) (sym allowed)
-      (subst (λ (d : Bool). DialSays setup dialed refuses o d (request_text setup q.head q.target q.host) q.head b) (sym none) is))
+      (subst (λ (d : Bool). DenySays setup dialed refuses o d (request_text setup q.head q.target q.host)
+      q.head b) (sym allowed)
+      (subst (λ (d : Bool). DialSays setup dialed refuses o d (request_text setup q.head q.target q.host)
+      q.head b) (sym none) is))
 
 -- ---- denied, without an origin, or on to it
 
-pub denied : (setup : Setup) (refuses : Type 0) (v : View) (q : Request) (a : OwnAnswer) (is : Bool) → PassesCheck v q → is ≡ is_denied setup.plugins.items (plugin_host q.host) → is ≡ true
-    → a ≡ record { status = O.Forbidden; to_head = asks_head q.head; end = E.Whole } → OwnReady setup refuses v a
+pub denied : (setup : Setup) (refuses : Type 0) (v : View) (q : Request) (a : OwnAnswer) (is : Bool)
+    → PassesCheck v q → is ≡ is_denied setup.plugins.items (plugin_host q.host) → is ≡ true
+    → a ≡ record { status = O.Forbidden; to_head = asks_head q.head; end = E.Whole }
+    → OwnReady setup refuses v a
 denied setup refuses v q a is h says so same =
     subst (λ (x : OwnAnswer). OwnReady setup refuses v x) (sym same)
-    (untouched_own setup refuses v (record { status = O.Forbidden; to_head = asks_head q.head; end = E.Whole }) h.waits h.untouched refl
-    (denied_block setup v.dialed refuses (all_of v.origin.look) (all_of v.client.look) q (own_block setup [] O.Forbidden (asks_head q.head)) h.knows (sym says ∙ so) refl))
+    (untouched_own setup refuses v (record {
+      status = O.Forbidden;
+      to_head = asks_head q.head;
+      end =
+          E.Whole;
+    }) h.waits h.untouched refl
+    (denied_block setup v.dialed refuses (all_of v.origin.look) (all_of v.client.look) q
+    (own_block setup [] O.Forbidden (asks_head q.head)) h.knows (sym says ∙ so) refl))
 
-pub not_dialed : (setup : Setup) (refuses : Type 0) (v : View) (q : Request) (a : OwnAnswer) (is : Bool) → PassesCheck v q → is ≡ is_denied setup.plugins.items (plugin_host q.host) → is ≡ false
-    → v.dialed ≡ false → a ≡ record { status = O.BadGateway; to_head = asks_head q.head; end = E.Whole } → OwnReady setup refuses v a
+pub not_dialed : (setup : Setup) (refuses : Type 0) (v : View) (q : Request) (a : OwnAnswer) (is : Bool)
+    → PassesCheck v q → is ≡ is_denied setup.plugins.items (plugin_host q.host) → is ≡ false
+    → v.dialed ≡ false → a ≡ record { status = O.BadGateway; to_head = asks_head q.head; end = E.Whole }
+    → OwnReady setup refuses v a
 not_dialed setup refuses v q a is h says allowed none same =
     subst (λ (x : OwnAnswer). OwnReady setup refuses v x) (sym same)
-    (untouched_own setup refuses v (record { status = O.BadGateway; to_head = asks_head q.head; end = E.Whole }) h.waits h.untouched refl
-    (no_origin_block setup v.dialed refuses (all_of v.origin.look) (all_of v.client.look) q (own_block setup [] O.BadGateway (asks_head q.head)) h.knows (sym says ∙ allowed) none refl))
+    (untouched_own setup refuses v (record {
+      status = O.BadGateway;
+      to_head = asks_head q.head;
+      end =
+          E.Whole;
+    }) h.waits h.untouched refl
+    (no_origin_block setup v.dialed refuses (all_of v.origin.look) (all_of v.client.look) q
+    (own_block setup [] O.BadGateway (asks_head q.head)) h.knows (sym says ∙ allowed) none refl))
 
-pub allowed : (setup : Setup) (v : View) (q : Request) (is : Bool) → PassesCheck v q → is ≡ is_denied setup.plugins.items (plugin_host q.host) → is ≡ false
+pub allowed : (setup : Setup) (v : View) (q : Request) (is : Bool) → PassesCheck v q
+    → is ≡ is_denied setup.plugins.items (plugin_host q.host) → is ≡ false
     → v.dialed ≡ true → IsAllowed setup v q
 allowed setup v q is h says free dialed =
-    record { waits = h.waits; untouched = h.untouched; goes = record { knows = h.knows; allowed = sym says ∙ free; has_origin = dialed } }
+    record {
+      waits = h.waits;
+      untouched = h.untouched;
+      goes =
+          record { knows = h.knows; allowed = sym says ∙ free; has_origin = dialed };
+    }
 
-pub checked_any : (setup : Setup) (refuses : Type 0) (v : View) (q : Request) → PassesCheck v q → AnyEnd setup refuses v
-checked_any setup refuses v q h = record { took = facts.nothing h.untouched.no_taken h.untouched.no_waits; text = ends.quiet h.waits.quiet }
+pub checked_any : (setup : Setup) (refuses : Type 0) (v : View) (q : Request) → PassesCheck v q
+    → AnyEnd setup refuses v
+checked_any setup refuses v q h = record {
+  took = facts.nothing h.untouched.no_taken h.untouched.no_waits;
+  text = ends.quiet h.waits.quiet;
+}
 
 -- ---- the head is queued
 
-pub allowed_any : (setup : Setup) (refuses : Type 0) (v : View) (q : Request) → IsAllowed setup v q → AnyEnd setup refuses v
-allowed_any setup refuses v q h = record { took = facts.nothing h.untouched.no_taken h.untouched.no_waits; text = ends.quiet h.waits.quiet }
+pub allowed_any : (setup : Setup) (refuses : Type 0) (v : View) (q : Request) → IsAllowed setup v q
+    → AnyEnd setup refuses v
+allowed_any setup refuses v q h = record {
+  took = facts.nothing h.untouched.no_taken h.untouched.no_waits;
+  text = ends.quiet h.waits.quiet;
+}
+
+-- where nothing was queued, neither
+pub allowed_still : (setup : Setup) (refuses : Type 0) (v w : View) (q : Request) → IsAllowed setup v q
+    → w ≡ v → AnyEnd setup refuses w
+allowed_still setup refuses v w q h same =
+    subst (λ (x : View). AnyEnd setup refuses x) (sym same) (allowed_any setup refuses v q h)
 
 queued_at : (setup : Setup) (v : View) (q : Request) → IsAllowed setup v q
-    → SendingRequest setup (record v { origin = record v.origin { outbox = v.origin.outbox ++ request_text setup q.head q.target q.host } }) q
+    → SendingRequest setup (record v {
+      origin = record v.origin
+          { outbox = v.origin.outbox ++ request_text setup q.head q.target q.host };
+    }) q
 queued_at setup v q h =
     let text = request_text setup q.head q.target q.host in
     record {
@@ -97,17 +147,22 @@ queued_at setup v q h =
         no_given = h.untouched.no_given;
         no_held = h.untouched.no_held;
       };
-      text = ap (λ (x : List ℕ). x ++ (v.origin.outbox ++ text)) h.untouched.no_taken ∙ ap (λ (x : List ℕ). x ++ text) h.untouched.no_waits;
+      text = ap (λ (x : List ℕ). x ++ (v.origin.outbox ++ text)) h.untouched.no_taken
+          ∙ ap (λ (x : List ℕ). x ++ text) h.untouched.no_waits;
     }
 
-pub queued : (setup : Setup) (v w : View) (q : Request) (text : List ℕ) → IsAllowed setup v q → text ≡ request_text setup q.head q.target q.host → QueuesRequest text v w
+pub queued : (setup : Setup) (v w : View) (q : Request) (text : List ℕ) → IsAllowed setup v q
+    → text ≡ request_text setup q.head q.target q.host → QueuesRequest text v w
     → SendingRequest setup w q
 queued setup v w q text h is queues =
-    subst (λ (x : View). SendingRequest setup x q) (sym (queues ∙ ap (λ (t : List ℕ). record v { origin = record v.origin { outbox = v.origin.outbox ++ t } }) is)) (queued_at setup v q h)
+    subst (λ (x : View). SendingRequest setup x q) (sym (queues
+    ∙ ap (λ (t : List ℕ). record v { origin = record v.origin { outbox = v.origin.outbox ++ t } }) is))
+    (queued_at setup v q h)
 
 -- ---- the head is written
 
-writes_at : (setup : Setup) (t : Bool) (v : View) (s : LinkSide) (p : Pushed) (q : Request) → t ≡ true → SendingRequest setup v q → SideWrites t v.origin s p
+writes_at : (setup : Setup) (t : Bool) (v : View) (s : LinkSide) (p : Pushed) (q : Request) → t ≡ true
+    → SendingRequest setup v q → SideWrites t v.origin s p
     → SendingRequest setup (record v { origin = s }) q
 writes_at setup t v s p q told h writes =
     let takes = writes.pushes.told told in
@@ -122,31 +177,54 @@ writes_at setup t v s p q told h writes =
       text = writes.pushes.text told ∙ h.text;
     }
 
-pub writes_on : (setup : Setup) (t : Bool) (v w : View) (p : Pushed) (q : Request) → t ≡ true → SendingRequest setup v q → WritesOrigin t v w p → SendingRequest setup w q
-writes_on setup t v w p q told h writes = subst (λ (x : View). SendingRequest setup x q) (sym writes.others) (writes_at setup t v w.origin p q told h writes.origin)
+pub writes_on : (setup : Setup) (t : Bool) (v w : View) (p : Pushed) (q : Request) → t ≡ true
+    → SendingRequest setup v q → WritesOrigin t v w p → SendingRequest setup w q
+writes_on setup t v w p q told h writes = subst (λ (x : View). SendingRequest setup x q) (sym writes.others)
+    (writes_at setup t v w.origin p q told h writes.origin)
 
 -- what the origin took, with what waits for it, is the head alone
-head_alone : (setup : Setup) (v : View) (q : Request) → SendingRequest setup v q → CarriesRequest setup q v.origin
-head_alone setup v q h = record { upload = []; text = h.text ∙ sym (append-nil (request_text setup q.head q.target q.host)); behind = λ some. refl }
+head_alone : (setup : Setup) (v : View) (q : Request) → SendingRequest setup v q
+    → CarriesRequest setup q v.origin
+head_alone setup v q h = record {
+  upload = [];
+  text = h.text
+      ∙ sym (append-nil (request_text setup q.head q.target q.host));
+  behind = λ some. refl;
+}
 
 -- all of it was
-pub written : (setup : Setup) (t : Bool) (v w : View) (q : Request) → t ≡ true → SendingRequest setup v q → WritesOrigin t v w V.Nothing → Uploading setup w q
+pub written : (setup : Setup) (t : Bool) (v w : View) (q : Request) → t ≡ true → SendingRequest setup v q
+    → WritesOrigin t v w V.Nothing → Uploading setup w q
 written setup t v w q told h writes =
     let now = writes_on setup t v w V.Nothing q told h writes in
-    record { unanswered = now.unanswered; carries = head_alone setup w q now; no_waits = writes.origin.pushes.went.1 ∙ writes.origin.pushes.went.0 }
+    record {
+      unanswered = now.unanswered;
+      carries = head_alone setup w q now;
+      no_waits =
+          writes.origin.pushes.went.1 ∙ writes.origin.pushes.went.0;
+    }
 
-pub unanswered_any : (setup : Setup) (refuses : Type 0) (v : View) (q : Request) → IsUnanswered setup v q → CarriesRequest setup q v.origin → AnyEnd setup refuses v
-unanswered_any setup refuses v q h carries = record { took = facts.request q h.goes carries; text = ends.quiet h.waits.quiet }
+pub unanswered_any : (setup : Setup) (refuses : Type 0) (v : View) (q : Request) → IsUnanswered setup v q
+    → CarriesRequest setup q v.origin → AnyEnd setup refuses v
+unanswered_any setup refuses v q h carries = record {
+  took = facts.request q h.goes carries;
+  text =
+      ends.quiet h.waits.quiet;
+}
 
-pub sends_any : (setup : Setup) (refuses : Type 0) (v : View) (q : Request) → SendingRequest setup v q → AnyEnd setup refuses v
+pub sends_any : (setup : Setup) (refuses : Type 0) (v : View) (q : Request) → SendingRequest setup v q
+    → AnyEnd setup refuses v
 sends_any setup refuses v q h = unanswered_any setup refuses v q h.unanswered (head_alone setup v q h)
 
 no_final : (given : List ℕ) → given ≡ [] → LacksFinal given
-no_final given is = subst LacksFinal (sym is) (lacks_final [] [] (record { interims = []; after = refl }) lacks_nil)
+no_final given is = subst LacksFinal (sym is) (lacks_final [] [] (record { interims = []; after = refl })
+    lacks_nil)
 
 -- the origin's link failed
-pub faulty : (setup : Setup) (refuses : Type 0) (v : View) (q : Request) (a : OwnAnswer) → IsUnanswered setup v q → CarriesRequest setup q v.origin → HasFailed v.origin
-    → a ≡ record { status = O.BadGateway; to_head = asks_head q.head; end = E.OriginFault } → OwnReady setup refuses v a
+pub faulty : (setup : Setup) (refuses : Type 0) (v : View) (q : Request) (a : OwnAnswer)
+    → IsUnanswered setup v q → CarriesRequest setup q v.origin → HasFailed v.origin
+    → a ≡ record { status = O.BadGateway; to_head = asks_head q.head; end = E.OriginFault }
+    → OwnReady setup refuses v a
 faulty setup refuses v q a h carries failed same =
     subst (λ (x : OwnAnswer). OwnReady setup refuses v x) (sym same)
     (record {
@@ -155,8 +233,11 @@ faulty setup refuses v q a h carries failed same =
       took = facts.request q h.goes carries;
     })
 
-pub write_fault : (setup : Setup) (refuses : Type 0) (t : Bool) (v w : View) (q : Request) (a : OwnAnswer) → t ≡ true → SendingRequest setup v q → WritesOrigin t v w V.Failed
-    → a ≡ record { status = O.BadGateway; to_head = asks_head q.head; end = E.OriginFault } → OwnReady setup refuses w a
+pub write_fault : (setup : Setup) (refuses : Type 0) (t : Bool) (v w : View) (q : Request) (a : OwnAnswer)
+    → t ≡ true → SendingRequest setup v q → WritesOrigin t v w V.Failed
+    → a ≡ record { status = O.BadGateway; to_head = asks_head q.head; end = E.OriginFault }
+    → OwnReady setup refuses w a
 write_fault setup refuses t v w q a told h writes same =
     let now = writes_on setup t v w V.Failed q told h writes in
-    faulty setup refuses w q a now.unanswered (head_alone setup w q now) (write_failed t v.origin w.origin V.Failed refl writes.origin h.unanswered.count) same
+    faulty setup refuses w q a now.unanswered (head_alone setup w q now)
+    (write_failed t v.origin w.origin V.Failed refl writes.origin h.unanswered.count) same

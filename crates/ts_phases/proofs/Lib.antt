@@ -12,6 +12,7 @@ pub mod LoweringSteps
 pub mod LoweringUpload
 pub mod Minding
 pub mod OneSide
+pub mod Owed
 pub mod Owns
 pub mod Responding
 pub mod Sparing

@@ -1,5 +1,6 @@
 -- What one call on a side of a transaction lowers of what is left.
-use Rattle.std.proofs.Common.{◌≡◌, ℕ, ◌+◌, ◌-◌, ◌*◌, ◌<◌, ◌≤◌, List, [], ◌∷◌, length, Bool, true, false, arith, refl, ap, ◌∙◌, length-append}
+use Rattle.std.proofs.Common.{◌≡◌, ℕ, ◌+◌, ◌-◌, ◌*◌, ◌<◌, ◌≤◌, List, [], ◌∷◌, length, Bool, true, false}
+use Rattle.std.proofs.Common.{arith, refl, ap, ◌∙◌, length-append}
 use Rattle.std.specs.Prelude.{Option, Some, None}
 use Rattle.std.proofs.lemmas.List.{length-drop}
 use Rattle.ts_config.specs.declared.setup.Setup.{Setup}
@@ -33,22 +34,28 @@ still_told true m falls = falls
 still_told false m falls = falls
 
 -- what falls wherever it is told, is fewer
-pub told_fewer : (f g : ℕ → ℕ → ℕ) (b : Bool) (k : ℕ) (m m' n n' : Option ℕ) → AgainsFall b m m' → Rose8 n n' k
-    → ((x x' y y' : ℕ) → x' + one_if b ≤ x → y' ≤ y + 8 * k → g x' y' < f x y) → Fewer (if_told m n f) (if_told m' n' g)
+pub told_fewer : (f g : ℕ → ℕ → ℕ) (b : Bool) (k : ℕ) (m m' n n' : Option ℕ) → AgainsFall b m m'
+    → Rose8 n n' k
+    → ((x x' y y' : ℕ) → x' + one_if b ≤ x → y' ≤ y + 8 * k → g x' y' < f x y)
+    → Fewer (if_told m n f) (if_told m' n' g)
 told_fewer f g b k None m' n n' falls rose less = tt
 told_fewer f g b k (Some x) m' None n' falls rose less = tt
 told_fewer f g b k (Some x) None (Some y) n' falls rose less = absurd (still_told b x falls)
 told_fewer f g b k (Some x) (Some x') (Some y) None falls rose less = absurd rose
-told_fewer f g b k (Some x) (Some x') (Some y) (Some y') falls rose less = less x x' y y' (agains_within b x x' falls) rose
+told_fewer f g b k (Some x) (Some x') (Some y) (Some y') falls rose less =
+    less x x' y y' (agains_within b x x' falls) rose
 
 -- and what does not rise, is not more
-pub told_no_more : (f g : ℕ → ℕ → ℕ) (b : Bool) (k : ℕ) (m m' n n' : Option ℕ) → AgainsFall b m m' → Rose8 n n' k
-    → ((x x' y y' : ℕ) → x' + one_if b ≤ x → y' ≤ y + 8 * k → g x' y' ≤ f x y) → NoMore (if_told m n f) (if_told m' n' g)
+pub told_no_more : (f g : ℕ → ℕ → ℕ) (b : Bool) (k : ℕ) (m m' n n' : Option ℕ) → AgainsFall b m m'
+    → Rose8 n n' k
+    → ((x x' y y' : ℕ) → x' + one_if b ≤ x → y' ≤ y + 8 * k → g x' y' ≤ f x y)
+    → NoMore (if_told m n f) (if_told m' n' g)
 told_no_more f g b k None m' n n' falls rose less = tt
 told_no_more f g b k (Some x) m' None n' falls rose less = tt
 told_no_more f g b k (Some x) None (Some y) n' falls rose less = absurd (still_told b x falls)
 told_no_more f g b k (Some x) (Some x') (Some y) None falls rose less = absurd rose
-told_no_more f g b k (Some x) (Some x') (Some y) (Some y') falls rose less = less x x' y y' (agains_within b x x' falls) rose
+told_no_more f g b k (Some x) (Some x') (Some y) (Some y') falls rose less =
+    less x x' y y' (agains_within b x x' falls) rose
 
 -- the Again answers of one side lower those of both
 pub first_falls : (b : Bool) (m m' n : Option ℕ) → AgainsFall b m m' → AgainsFall b (both m n) (both m' n)
@@ -92,10 +99,12 @@ none_left (Some y) k = omega arith
 
 pub passes_less : (ls : List TransformLine) (m n : ℕ) → m ≤ n → passes ls m ≤ passes ls n
 passes_less [] m n less = less
-passes_less (l ∷ ls) m n less = let rest : passes ls m ≤ passes ls n = passes_less ls m n less in omega (arith, less, rest)
+passes_less (l ∷ ls) m n less = let rest : passes ls m ≤ passes ls n =
+    passes_less ls m n less in omega (arith, less, rest)
 
 -- what may replace the bytes that are still to come is no longer
-pub replaced_within : (given before after : List ℕ) → MayReplace given before after → length after ≤ length before
+pub replaced_within : (given before after : List ℕ) → MayReplace given before after
+    → length after ≤ length before
 replaced_within [] before after replaced = replaced
 replaced_within (b ∷ bs) before after replaced = omega (arith, ap length replaced)
 
@@ -120,8 +129,10 @@ pub read_comes : (c d : LinkSide) (p : Pulled) → SideReads true c d p → Come
 read_comes c d p reads =
     let on = reads.pulls in
     let gives = on.pulls.told refl in
-    let ahead : length gives.before ≤ length c.look.left = replaced_within c.look.given c.look.left gives.before gives.replaced in
-    let moved : length gives.before ≡ length on.more + length d.look.left = ap length gives.moved ∙ length-append on.more d.look.left in
+    let ahead : length gives.before ≤ length c.look.left = replaced_within c.look.given c.look.left
+    gives.before gives.replaced in
+    let moved : length gives.before ≡ length on.more + length d.look.left =
+    ap length gives.moved ∙ length-append on.more d.look.left in
     record {
       more = length on.more;
       some = came_some p reads.most on.more on.pulls.came;
@@ -130,11 +141,14 @@ read_comes c d p reads =
     }
 
 -- what it leaves to be heard, of the origin and of the client
-pub comes_hear : (setup : Setup) (c d : LinkSide) (least : ℕ) → Comes c d least → to_hear setup d + least ≤ to_hear setup c
+pub comes_hear : (setup : Setup) (c d : LinkSide) (least : ℕ) → Comes c d least
+    → to_hear setup d + least ≤ to_hear setup c
 comes_hear setup c d least comes =
     let ls = setup.transforms.items in
-    let total : length d.look.left + length d.inbox ≤ length c.look.left + length c.inbox = omega (arith, comes.held, comes.left) in
-    let passed : passes ls (length d.look.left + length d.inbox) ≤ passes ls (length c.look.left + length c.inbox) =
+    let total : length d.look.left + length d.inbox ≤ length c.look.left + length c.inbox =
+    omega (arith, comes.held, comes.left) in
+    let passed : passes ls (length d.look.left + length d.inbox) ≤ passes ls
+    (length c.look.left + length c.inbox) =
     passes_less ls (length d.look.left + length d.inbox) (length c.look.left + length c.inbox) total in
     omega (arith, passed, comes.held, comes.left, comes.some)
 
@@ -142,15 +156,19 @@ pub comes_ask : (c d : LinkSide) (least : ℕ) → Comes c d least → to_ask d 
 comes_ask c d least comes = omega (arith, comes.held, comes.left, comes.some)
 
 -- so many bytes were taken away in front of what came
-pub used_hear : (setup : Setup) (c d : LinkSide) (used : ℕ) → length d.inbox + used ≤ length c.inbox → length d.look.left ≤ length c.look.left → to_hear setup d + used ≤ to_hear setup c
+pub used_hear : (setup : Setup) (c d : LinkSide) (used : ℕ) → length d.inbox + used ≤ length c.inbox
+    → length d.look.left ≤ length c.look.left → to_hear setup d + used ≤ to_hear setup c
 used_hear setup c d used held left =
     let ls = setup.transforms.items in
-    let total : length d.look.left + length d.inbox ≤ length c.look.left + length c.inbox = omega (arith, held, left) in
-    let passed : passes ls (length d.look.left + length d.inbox) ≤ passes ls (length c.look.left + length c.inbox) =
+    let total : length d.look.left + length d.inbox ≤ length c.look.left + length c.inbox =
+    omega (arith, held, left) in
+    let passed : passes ls (length d.look.left + length d.inbox) ≤ passes ls
+    (length c.look.left + length c.inbox) =
     passes_less ls (length d.look.left + length d.inbox) (length c.look.left + length c.inbox) total in
     omega (arith, passed, held, left)
 
-pub still_hear : (setup : Setup) (c d : LinkSide) → length d.inbox ≤ length c.inbox → length d.look.left ≤ length c.look.left → to_hear setup d ≤ to_hear setup c
+pub still_hear : (setup : Setup) (c d : LinkSide) → length d.inbox ≤ length c.inbox
+    → length d.look.left ≤ length c.look.left → to_hear setup d ≤ to_hear setup c
 still_hear setup c d held left = omega (arith, used_hear setup c d 0 (omega (arith, held)) left)
 
 -- ---- bytes that were written
@@ -163,13 +181,16 @@ least_went _ = 0
 pub same_length : (before after : List ℕ) → after ≡ before → length after ≤ length before
 same_length before after same = omega (arith, ap length same)
 
-pub went_some : (p : Pushed) (before after : List ℕ) → Went p before after → length after + least_went p ≤ length before
+pub went_some : (p : Pushed) (before after : List ℕ) → Went p before after
+    → length after + least_went p ≤ length before
 went_some (V.Some n) before after (some, within, rest) =
-    let len : length after ≡ length before - n = ap length rest ∙ length-drop n before in omega (arith, some, within, len)
+    let len : length after ≡ length before - n = ap length rest ∙ length-drop n before in
+    omega (arith, some, within, len)
 went_some _ before after went = omega (arith, same_length before after went.1)
 
 -- a write leaves what is to be heard
-pub write_hear : (setup : Setup) (c d : LinkSide) (p : Pushed) → SideWrites true c d p → to_hear setup d ≤ to_hear setup c
+pub write_hear : (setup : Setup) (c d : LinkSide) (p : Pushed) → SideWrites true c d p
+    → to_hear setup d ≤ to_hear setup c
 write_hear setup c d p writes =
     still_hear setup c d (same_length c.inbox d.inbox writes.inbox)
     (replaced_within c.look.given c.look.left d.look.left (writes.pushes.told refl).left)

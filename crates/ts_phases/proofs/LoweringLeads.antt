@@ -9,7 +9,8 @@ use Rattle.ts_upstream.specs.declared.upstream.Uploaded.TheVariants as U
 use Rattle.ts_phases.specs.Holding.{IfTold}
 use Rattle.ts_phases.specs.View.{View}
 use Rattle.ts_phases.specs.Moving.{LowersUpload, MovesUpload}
-use Rattle.ts_phases.specs.Steps.{AnswersOriginFault, AnswersRefusal, ClosesForClientFault, UploadLeads, UploadsOnce}
+use Rattle.ts_phases.specs.Steps.{AnswersOriginFault, AnswersRefusal, ClosesForClientFault, UploadLeads}
+use Rattle.ts_phases.specs.Steps.{UploadsOnce}
 use Rattle.ts_phases.specs.Lowering.{StepFalls, StepLowers, work_left}
 use Rattle.ts_phases.specs.declared.phase.Next.{Next}
 use Rattle.ts_phases.specs.declared.phase.Next.TheVariants as N
@@ -33,43 +34,66 @@ falls_by _ m m' fell = fell
 
 module _ (setup : Setup) (w : View) (m u' : Option ℕ) where
   -- the close for the client's fault
-  closes_by : (p : Phase) → ClosesForClientFault p → Fewer m (work_left setup u' w (P.TxnClose E.ClientFault)) → Fewer m (work_left setup u' w p)
-  closes_by (P.TxnClose end) same fell = subst (λ x. Fewer m (work_left setup u' w (P.TxnClose x))) (sym same) fell
+  closes_by : (p : Phase) → ClosesForClientFault p → Fewer m (work_left setup u' w (P.TxnClose E.ClientFault))
+      → Fewer m (work_left setup u' w p)
+  closes_by (P.TxnClose end) same fell = subst (λ x. Fewer m (work_left setup u' w (P.TxnClose x))) (sym same)
+      fell
   closes_by _ same fell = absurd same
 
   -- an answer of the proxy's own, after the origin's fault
-  answers_by : (p : Phase) → AnswersOriginFault p → ((a : OwnAnswer) → Fewer m (work_left setup u' w (P.SendResponseHdr a))) → Fewer m (work_left setup u' w p)
+  answers_by : (p : Phase) → AnswersOriginFault p → ((a : OwnAnswer)
+      → Fewer m (work_left setup u' w (P.SendResponseHdr a))) → Fewer m (work_left setup u' w p)
   answers_by (P.SendResponseHdr a) same fell = fell a
   answers_by _ same fell = absurd same
 
   -- and after a refusal
-  refuses_by : (p : Phase) → AnswersRefusal p → ((a : OwnAnswer) → Fewer m (work_left setup u' w (P.SendResponseHdr a))) → Fewer m (work_left setup u' w p)
+  refuses_by : (p : Phase) → AnswersRefusal p → ((a : OwnAnswer)
+      → Fewer m (work_left setup u' w (P.SendResponseHdr a))) → Fewer m (work_left setup u' w p)
   refuses_by (P.SendResponseHdr a) same fell = fell a
   refuses_by _ same fell = absurd same
 
-module _ (setup : Setup) (refuses : List ℕ → Type 0) (v w : View) (u u' : Option ℕ) (q : Request) (s : Step) where
-  leads_on : (answer : Uploaded) → MovesUpload true true refuses answer v w → LowersUpload answer u u' v w → UploadLeads answer q s → StepLowers setup (P.Upload q) u u' v w s
-  leads_on U.Done moves lowers leads = subst (λ (x : Step). StepLowers setup (P.Upload q) u u' v w x) (sym leads)
-      (upload_done setup false 0 v w u u' (upload_calm setup refuses v w U.Done moves false lowers.1) (not_risen u u' lowers.0) q)
-  leads_on U.More moves lowers leads = subst (λ (x : Step). StepLowers setup (P.Upload q) u u' v w x) (sym leads) (uploads_more setup refuses v w u u' q moves lowers)
-  leads_on U.Again moves lowers leads = subst (λ (x : Step). StepLowers setup (P.Upload q) u u' v w x) (sym leads) (uploads_again setup refuses v w u u' q moves lowers)
-  leads_on U.ClientFailed moves lowers leads = falls_by s.next (work_left setup u v (P.Upload q)) (work_left setup u' w s.phase)
-      (closes_by setup w (work_left setup u v (P.Upload q)) u' s.phase leads
-      (to_close setup false 0 v w u u' (upload_calm setup refuses v w U.ClientFailed moves false lowers.1) (not_risen u u' lowers.0) (P.Upload q) E.ClientFault tt))
-  leads_on U.OriginFailed moves lowers leads = falls_by s.next (work_left setup u v (P.Upload q)) (work_left setup u' w s.phase)
-      (answers_by setup w (work_left setup u v (P.Upload q)) u' s.phase leads
-      (λ a. to_own setup false 0 v w u u' (upload_calm setup refuses v w U.OriginFailed moves false lowers.1) (not_risen u u' lowers.0) (P.Upload q) a tt))
-  leads_on U.Refused moves lowers leads = falls_by s.next (work_left setup u v (P.Upload q)) (work_left setup u' w s.phase)
-      (refuses_by setup w (work_left setup u v (P.Upload q)) u' s.phase leads
-      (λ a. to_own setup false 0 v w u u' (upload_calm setup refuses v w U.Refused moves false lowers.1) (not_risen u u' lowers.0) (P.Upload q) a tt))
-  leads_on U.NoMemory moves lowers leads = subst (λ (x : Step). StepLowers setup (P.Upload q) u u' v w x) (sym leads)
-      (to_end setup false 0 v w u u' (upload_calm setup refuses v w U.NoMemory moves false lowers.1) (not_risen u u' lowers.0) (P.Upload q) E.NoMemory)
+module _ (setup : Setup) (refuses : List ℕ → Type 0) (v w : View) (u u' : Option ℕ) (q : Request) (s : Step)
+  where
+    leads_on : (answer : Uploaded) → MovesUpload true true refuses answer v w → LowersUpload answer u u' v w
+        → UploadLeads answer q s → StepLowers setup (P.Upload q) u u' v w s
+    leads_on U.Done moves lowers leads = subst (λ (x : Step). StepLowers setup (P.Upload q) u u' v w x)
+        (sym leads)
+        (upload_done setup false 0 v w u u' (upload_calm setup refuses v w U.Done moves false lowers.1)
+        (not_risen u u' lowers.0) q)
+    leads_on U.More moves lowers leads = subst (λ (x : Step). StepLowers setup (P.Upload q) u u' v w x)
+        (sym leads) (uploads_more setup refuses v w u u' q moves lowers)
+    leads_on U.Again moves lowers leads = subst (λ (x : Step). StepLowers setup (P.Upload q) u u' v w x)
+        (sym leads) (uploads_again setup refuses v w u u' q moves lowers)
+    leads_on U.ClientFailed moves lowers leads = falls_by s.next (work_left setup u v (P.Upload q))
+        (work_left setup u' w s.phase)
+        (closes_by setup w (work_left setup u v (P.Upload q)) u' s.phase leads
+        (to_close setup false 0 v w u u' (upload_calm setup refuses v w U.ClientFailed moves false lowers.1)
+        (not_risen u u' lowers.0) (P.Upload q) E.ClientFault tt))
+    leads_on U.OriginFailed moves lowers leads = falls_by s.next (work_left setup u v (P.Upload q))
+        (work_left setup u' w s.phase)
+        (answers_by setup w (work_left setup u v (P.Upload q)) u' s.phase leads
+        (λ a. to_own setup false 0 v w u u'
+        (upload_calm setup refuses v w U.OriginFailed moves false lowers.1)
+        (not_risen u u' lowers.0) (P.Upload q) a tt))
+    leads_on U.Refused moves lowers leads = falls_by s.next (work_left setup u v (P.Upload q))
+        (work_left setup u' w s.phase)
+        (refuses_by setup w (work_left setup u v (P.Upload q)) u' s.phase leads
+        (λ a. to_own setup false 0 v w u u'
+        (upload_calm setup refuses v w U.Refused moves false lowers.1)
+        (not_risen u u' lowers.0) (P.Upload q) a tt))
+    leads_on U.NoMemory moves lowers leads = subst (λ (x : Step). StepLowers setup (P.Upload q) u u' v w x)
+        (sym leads)
+        (to_end setup false 0 v w u u' (upload_calm setup refuses v w U.NoMemory moves false lowers.1)
+        (not_risen u u' lowers.0) (P.Upload q) E.NoMemory)
 
-  -- one upload, wherever its answer leads
-  pub uploads_by : (ct ot : Bool) (answer : Uploaded) → MovesUpload ct ot refuses answer v w → LowersUpload answer u u' v w → UploadLeads answer q s
-      → IfTold ct ot (StepLowers setup (P.Upload q) u u' v w s)
-  uploads_by ct ot answer moves lowers leads told also =
-      leads_on answer (subst (λ (b : Bool). MovesUpload true b refuses answer v w) also (subst (λ (b : Bool). MovesUpload b ot refuses answer v w) told moves)) lowers leads
+    -- one upload, wherever its answer leads
+    pub uploads_by : (ct ot : Bool) (answer : Uploaded) → MovesUpload ct ot refuses answer v w
+        → LowersUpload answer u u' v w → UploadLeads answer q s
+        → IfTold ct ot (StepLowers setup (P.Upload q) u u' v w s)
+    uploads_by ct ot answer moves lowers leads told also =
+        leads_on answer (subst (λ (b : Bool). MovesUpload true b refuses answer v w) also
+        (subst (λ (b : Bool). MovesUpload b ot refuses answer v w) told moves)) lowers leads
 
-  pub uploads_lower : (ct ot : Bool) → UploadsOnce ct ot refuses q u u' v w s → IfTold ct ot (StepLowers setup (P.Upload q) u u' v w s)
-  uploads_lower ct ot once = uploads_by ct ot once.answer once.moves once.lowers once.leads
+    pub uploads_lower : (ct ot : Bool) → UploadsOnce ct ot refuses q u u' v w s
+        → IfTold ct ot (StepLowers setup (P.Upload q) u u' v w s)
+    uploads_lower ct ot once = uploads_by ct ot once.answer once.moves once.lowers once.leads

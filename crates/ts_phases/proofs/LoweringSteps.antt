@@ -1,5 +1,6 @@
 -- Each step up to the head lowers what a transaction has left to do.
-use Rattle.std.proofs.Common.{zero-le, ◌≡◌, ℕ, ◌+◌, ◌-◌, ◌*◌, ◌<◌, ◌≤◌, List, ◌++◌, length, Bool, true, false, arith, refl, sym, ap, subst, ◌∙◌, length-append}
+use Rattle.std.proofs.Common.{zero-le, ◌≡◌, ℕ, ◌+◌, ◌-◌, ◌*◌, ◌<◌, ◌≤◌, List, ◌++◌, length, Bool, true, false}
+use Rattle.std.proofs.Common.{arith, refl, sym, ap, subst, ◌∙◌, length-append}
 use Rattle.std.proofs.Math.Nat.{add-le-add, le_refl}
 use Rattle.std.specs.Prelude.{Option, Some, ⊤}
 use Rattle.ts_config.specs.declared.setup.Setup.{Setup}
@@ -14,8 +15,11 @@ use Rattle.ts_wire.specs.declared.heads.ResponseHead.{ResponseHead}
 use Rattle.ts_block.specs.Block.{own_text, request_text}
 use Rattle.ts_block.specs.Own.{own_body, own_sent}
 use Rattle.ts_phases.specs.View.{LinkSide, View}
-use Rattle.ts_phases.specs.Moving.{HearsRequest, HearsResponse, QueuesOwn, QueuesRequest, SideReads, WritesClient, WritesOrigin}
-use Rattle.ts_phases.specs.Lowering.{agains_left, answer_room, answer_work, chain_room, end_room, head_room, own_length, own_room, phase_work, pump_weight, to_ask, to_hear, upload_in, work_left, written_weight}
+use Rattle.ts_phases.specs.Moving.{SeeksRequest, SeeksResponse, QueuesOwn, QueuesRequest, SideReads}
+use Rattle.ts_phases.specs.Moving.{WritesClient, WritesOrigin}
+use Rattle.ts_phases.specs.Lowering.{agains_left, answer_room, answer_work, chain_room, end_room, head_room}
+use Rattle.ts_phases.specs.Lowering.{own_length, own_room, phase_work, pump_weight, to_ask, to_hear}
+use Rattle.ts_phases.specs.Lowering.{upload_in, work_left, written_weight}
 use Rattle.ts_block.specs.declared.own_answer.OwnStatus.{OwnStatus}
 use Rattle.ts_block.specs.declared.own_answer.OwnStatus.TheVariants as O
 use Rattle.ts_phases.specs.declared.phase.OwnAnswer.{OwnAnswer}
@@ -23,7 +27,9 @@ use Rattle.ts_phases.specs.declared.phase.Phase.{Phase}
 use Rattle.ts_phases.specs.declared.phase.Phase.TheVariants as P
 use Rattle.ts_phases.specs.declared.phase.Request.{Request}
 use Rattle.ts_phases.specs.declared.head_reader.Found.TheVariants as F
-use Rattle.ts_phases.proofs.Lowering.{comes_ask, comes_hear, first_falls, least_came, least_went, none_fall, none_left, none_rise, one_if, read_comes, same_length, second_falls, told_fewer, told_no_more, used_hear, went_some, write_hear}
+use Rattle.ts_phases.proofs.Lowering.{comes_ask, comes_hear, first_falls, least_came, least_went, none_fall}
+use Rattle.ts_phases.proofs.Lowering.{none_left, none_rise, one_if, read_comes, same_length, second_falls}
+use Rattle.ts_phases.proofs.Lowering.{told_fewer, told_no_more, used_hear, went_some, write_hear}
 
 -- ---- sums
 
@@ -31,7 +37,8 @@ at_first : (a b c d : ℕ) → a ≤ b → a ≤ b + c + d
 at_first a b c d less = omega (arith, less)
 
 -- less waits for the client, or there was an Again
-pub sent_next : (i l x x' out out' : ℕ) → x' + i ≤ x → out' + l ≤ out → 1 ≤ l + i → 2 + (x' + out') < 2 + (x + out)
+pub sent_next : (i l x x' out out' : ℕ) → x' + i ≤ x → out' + l ≤ out → 1 ≤ l + i
+    → 2 + (x' + out') < 2 + (x + out)
 sent_next i l x x' out out' again went some = omega (arith, again, went, some)
 
 -- a phase's part behind its rank
@@ -48,12 +55,14 @@ over_four : (r a b c d : ℕ) → 4 ≤ r → 4 + a ≤ r + (a + b + c + d)
 over_four r a b c d least = omega (arith, least)
 
 -- a write to a client that tells its bytes
-pub client_told : (t : Bool) (v w : View) (p : Pushed) → t ≡ true → WritesClient t v w p → WritesClient true v w p
+pub client_told : (t : Bool) (v w : View) (p : Pushed) → t ≡ true → WritesClient t v w p
+    → WritesClient true v w p
 client_told t v w p told writes = subst (λ (b : Bool). WritesClient b v w p) told writes
 
 -- ---- what the phases up to the answer have left
 
-one_of : (f : OwnStatus → ℕ) (s : OwnStatus) → f s ≤ f O.BadRequest + f O.Forbidden + f O.NotImplemented + f O.BadGateway
+one_of : (f : OwnStatus → ℕ) (s : OwnStatus) → f s ≤ f O.BadRequest + f O.Forbidden + f O.NotImplemented + f
+    O.BadGateway
 one_of f O.BadRequest = omega arith
 one_of f _ = omega arith
 
@@ -68,7 +77,8 @@ IsEarly _ = ⊤
 module _ (setup : Setup) where
   -- an answer of the proxy's own has room among all of them
   own_within : (s : OwnStatus) → own_length setup s ≤ answer_room setup
-  own_within s = at_first (own_length setup s) (own_room setup) (head_room setup + end_room) (pump_weight * chain_room setup) (one_of (own_length setup) s)
+  own_within s = at_first (own_length setup s) (own_room setup) (head_room setup + end_room)
+      (pump_weight * chain_room setup) (one_of (own_length setup) s)
 
   module _ (x y : ℕ) (v : View) where
     -- what so many bytes that are to be written weigh, behind those that wait
@@ -77,12 +87,18 @@ module _ (setup : Setup) where
 
     -- all of them have the answer before them
     above : (p : Phase) → IsEarly p → 4 + answer_work setup x y v ≤ phase_work setup x y v p
-    above P.Fresh early = over_four 16 (answer_work setup x y v) y (long (head_room setup)) (to_ask v.client) (omega arith)
-    above P.TxnStart early = over_four 15 (answer_work setup x y v) y (long (head_room setup)) (to_ask v.client) (omega arith)
-    above P.ReadRequest early = over_four 14 (answer_work setup x y v) y (long (head_room setup)) (to_ask v.client) (omega arith)
-    above (P.ReadRequestHdr q) early = over_three 13 (answer_work setup x y v) y (long (length (request_text setup q.head q.target q.host))) (omega arith)
-    above (P.OsDns q) early = over_three 12 (answer_work setup x y v) y (long (length (request_text setup q.head q.target q.host))) (omega arith)
-    above (P.SendRequestHdr q) early = over_three 11 (answer_work setup x y v) y (long (length (request_text setup q.head q.target q.host))) (omega arith)
+    above P.Fresh early = over_four 16 (answer_work setup x y v) y (long (head_room setup)) (to_ask v.client)
+        (omega arith)
+    above P.TxnStart early = over_four 15 (answer_work setup x y v) y (long (head_room setup))
+        (to_ask v.client) (omega arith)
+    above P.ReadRequest early = over_four 14 (answer_work setup x y v) y (long (head_room setup))
+        (to_ask v.client) (omega arith)
+    above (P.ReadRequestHdr q) early = over_three 13 (answer_work setup x y v) y
+        (long (length (request_text setup q.head q.target q.host))) (omega arith)
+    above (P.OsDns q) early = over_three 12 (answer_work setup x y v) y
+        (long (length (request_text setup q.head q.target q.host))) (omega arith)
+    above (P.SendRequestHdr q) early = over_three 11 (answer_work setup x y v) y
+        (long (length (request_text setup q.head q.target q.host))) (omega arith)
     above (P.SendRequest q) early = over_three 10 (answer_work setup x y v) y (long 0) (omega arith)
     above (P.Upload q) early = over_two 9 (answer_work setup x y v) y (omega arith)
     above (P.ReadResponse q) early = over_one 8 (answer_work setup x y v) (omega arith)
@@ -100,33 +116,58 @@ module _ (setup : Setup) where
   -- where nothing moved, or a call moved one side
   pub stays_calm : (v w : View) → w ≡ v → Calm false v w
   stays_calm v w same = subst (λ (x : View). Calm false v x) (sym same)
-      (record { again = none_fall (agains_left v); out = le_refl (length v.client.outbox); hear = le_refl (to_hear setup v.origin) })
+      (record {
+        again = none_fall (agains_left v);
+        out = le_refl (length v.client.outbox);
+        hear =
+            le_refl (to_hear setup v.origin);
+      })
 
-  client_calm : (b : Bool) (v w : View) (s : LinkSide) → w ≡ record v { client = s } → AgainsFall b v.client.look.agains s.look.agains
+  client_calm : (b : Bool) (v w : View) (s : LinkSide) → w ≡ record v { client = s }
+      → AgainsFall b v.client.look.agains s.look.agains
       → length s.outbox ≤ length v.client.outbox → Calm b v w
   client_calm b v w s same again out = subst (λ (x : View). Calm b v x) (sym same)
-      (record { again = first_falls b v.client.look.agains s.look.agains v.origin.look.agains again; out = out; hear = le_refl (to_hear setup v.origin) })
+      (record {
+        again = first_falls b v.client.look.agains s.look.agains v.origin.look.agains again;
+        out =
+            out;
+        hear = le_refl (to_hear setup v.origin);
+      })
 
-  origin_calm : (b : Bool) (v w : View) (s : LinkSide) → w ≡ record v { origin = s } → AgainsFall b v.origin.look.agains s.look.agains
+  origin_calm : (b : Bool) (v w : View) (s : LinkSide) → w ≡ record v { origin = s }
+      → AgainsFall b v.origin.look.agains s.look.agains
       → to_hear setup s ≤ to_hear setup v.origin → Calm b v w
   origin_calm b v w s same again hear = subst (λ (x : View). Calm b v x) (sym same)
-      (record { again = second_falls b v.client.look.agains v.origin.look.agains s.look.agains again; out = le_refl (length v.client.outbox); hear = hear })
+      (record {
+        again = second_falls b v.client.look.agains v.origin.look.agains s.look.agains again;
+        out =
+            le_refl (length v.client.outbox);
+        hear = hear;
+      })
 
   -- ---- where a step leads that raised nothing
 
   module _ (b : Bool) (k : ℕ) (v w : View) (u u' : Option ℕ) (calm : Calm b v w) (rose : Rose8 u u' k) where
     -- where the sums of two phases fall, what is left falls
-    pub work_falls : (p p' : Phase) → Rose8 (upload_in u p) (upload_in u' p') k → ((x x' y y' : ℕ) → x' + one_if b ≤ x → y' ≤ y + 8 * k → phase_work setup x' y' w p' < phase_work setup x y v p)
+    pub work_falls : (p p' : Phase) → Rose8 (upload_in u p) (upload_in u' p') k
+        → ((x x' y y' : ℕ) → x' + one_if b ≤ x → y' ≤ y + 8 * k
+        → phase_work setup x' y' w p' < phase_work setup x y v p)
         → Fewer (work_left setup u v p) (work_left setup u' w p')
-    work_falls p p' risen falls = told_fewer (λ x y. phase_work setup x y v p) (λ x y. phase_work setup x y w p') b k (agains_left v) (agains_left w) (upload_in u p) (upload_in u' p') calm.again risen falls
+    work_falls p p' risen falls = told_fewer (λ x y. phase_work setup x y v p)
+        (λ x y. phase_work setup x y w p') b k (agains_left v) (agains_left w) (upload_in u p)
+        (upload_in u' p') calm.again risen falls
 
     -- to an answer of the proxy's own
-    own_next : (i x x' out out' room hear own all : ℕ) → x' + i ≤ x → out' ≤ out → own ≤ room → 4 + (x + out + room + hear) ≤ all → 3 + (x' + out') + own < all
+    own_next : (i x x' out out' room hear own all : ℕ) → x' + i ≤ x → out' ≤ out → own ≤ room
+        → 4 + (x + out + room + hear) ≤ all → 3 + (x' + out') + own < all
     own_next i x x' out out' room hear own all again less fits least = omega (arith, again, less, fits, least)
 
-    pub to_own : (p : Phase) (a : OwnAnswer) → IsEarly p → Fewer (work_left setup u v p) (work_left setup u' w (P.SendResponseHdr a))
-    to_own p a early = work_falls p (P.SendResponseHdr a) (none_left (upload_in u p) k) (λ x x' y y' again upload.
-        own_next (one_if b) x x' (length v.client.outbox) (length w.client.outbox) (answer_room setup) (to_hear setup v.origin) (own_length setup a.status)
+    pub to_own : (p : Phase) (a : OwnAnswer) → IsEarly p → Fewer (work_left setup u v p)
+        (work_left setup u' w (P.SendResponseHdr a))
+    to_own p a early = work_falls p (P.SendResponseHdr a) (none_left (upload_in u p) k)
+        (λ x x' y y' again upload.
+        own_next (one_if b) x x' (length v.client.outbox) (length w.client.outbox) (answer_room setup)
+        (to_hear setup v.origin) (own_length setup a.status)
         (phase_work setup x y v p) again calm.out (own_within a.status) (above x y v p early))
 
     -- to the close
@@ -136,47 +177,70 @@ module _ (setup : Setup) where
     close_sent : (a : ℕ) → 1 < 2 + a
     close_sent a = omega arith
 
-    pub to_close : (p : Phase) (end : TxnEnd) → IsEarly p → Fewer (work_left setup u v p) (work_left setup u' w (P.TxnClose end))
-    to_close p end early = work_falls p (P.TxnClose end) (none_left (upload_in u p) k) (λ x x' y y' again upload. close_next (answer_work setup x y v) (phase_work setup x y v p) (above x y v p early))
+    pub to_close : (p : Phase) (end : TxnEnd) → IsEarly p → Fewer (work_left setup u v p)
+        (work_left setup u' w (P.TxnClose end))
+    to_close p end early = work_falls p (P.TxnClose end) (none_left (upload_in u p) k)
+        (λ x x' y y' again upload. close_next (answer_work setup x y v) (phase_work setup x y v p)
+        (above x y v p early))
 
-    pub sent_close : (a : OwnAnswer) (end : TxnEnd) → Fewer (work_left setup u v (P.Sending a)) (work_left setup u' w (P.TxnClose end))
-    sent_close a end = work_falls (P.Sending a) (P.TxnClose end) (none_left (Some 0) k) (λ x x' y y' again upload. close_sent (x + length v.client.outbox))
+    pub sent_close : (a : OwnAnswer) (end : TxnEnd) → Fewer (work_left setup u v (P.Sending a))
+        (work_left setup u' w (P.TxnClose end))
+    sent_close a end = work_falls (P.Sending a) (P.TxnClose end) (none_left (Some 0) k)
+        (λ x x' y y' again upload. close_sent (x + length v.client.outbox))
 
     -- to the end
-    pub to_end : (p : Phase) (end : TxnEnd) → NoMore (work_left setup u v p) (work_left setup u' w (P.Ended end))
-    to_end p end = told_no_more (λ x y. phase_work setup x y v p) (λ x y. phase_work setup x y w (P.Ended end)) b k (agains_left v) (agains_left w) (upload_in u p) (Some 0) calm.again (none_left (upload_in u p) k)
+    pub to_end : (p : Phase) (end : TxnEnd) → NoMore (work_left setup u v p)
+        (work_left setup u' w (P.Ended end))
+    to_end p end = told_no_more (λ x y. phase_work setup x y v p)
+        (λ x y. phase_work setup x y w (P.Ended end)) b k (agains_left v) (agains_left w) (upload_in u p)
+        (Some 0) calm.again (none_left (upload_in u p) k)
         (λ x x' y y' again upload. zero-le)
 
     -- from one phase that has only the answer before it to the next
-    answer_next : (r s i x x' out out' room hear hear' : ℕ) → s < r → x' + i ≤ x → out' ≤ out → hear' ≤ hear → s + (x' + out' + room + hear') < r + (x + out + room + hear)
-    answer_next r s i x x' out out' room hear hear' ranks again less heard = omega (arith, ranks, again, less, heard)
+    answer_next : (r s i x x' out out' room hear hear' : ℕ) → s < r → x' + i ≤ x → out' ≤ out → hear' ≤ hear
+        → s + (x' + out' + room + hear') < r + (x + out + room + hear)
+    answer_next r s i x x' out out' room hear hear' ranks again less heard =
+        omega (arith, ranks, again, less, heard)
 
-    upload_next : (r s i x x' out out' room hear hear' y : ℕ) → s < r → x' + i ≤ x → out' ≤ out → hear' ≤ hear → s + (x' + out' + room + hear') < r + (x + out + room + hear) + y
-    upload_next r s i x x' out out' room hear hear' y ranks again less heard = omega (arith, ranks, again, less, heard)
+    upload_next : (r s i x x' out out' room hear hear' y : ℕ) → s < r → x' + i ≤ x → out' ≤ out → hear' ≤ hear
+        → s + (x' + out' + room + hear') < r + (x + out + room + hear) + y
+    upload_next r s i x x' out out' room hear hear' y ranks again less heard =
+        omega (arith, ranks, again, less, heard)
 
     -- the phases from the upload to the head that is passed on
-    pub upload_done : (q : Request) → Fewer (work_left setup u v (P.Upload q)) (work_left setup u' w (P.ReadResponse q))
+    pub upload_done : (q : Request) → Fewer (work_left setup u v (P.Upload q))
+        (work_left setup u' w (P.ReadResponse q))
     upload_done q = work_falls (P.Upload q) (P.ReadResponse q) (none_left u k) (λ x x' y y' again upload.
-        upload_next 9 8 (one_if b) x x' (length v.client.outbox) (length w.client.outbox) (answer_room setup) (to_hear setup v.origin) (to_hear setup w.origin) y
+        upload_next 9 8 (one_if b) x x' (length v.client.outbox) (length w.client.outbox) (answer_room setup)
+        (to_hear setup v.origin) (to_hear setup w.origin) y
         (omega arith) again calm.out calm.hear)
 
-    pub response_heard : (q : Request) (h : ResponseHead) → Fewer (work_left setup u v (P.ReadResponse q)) (work_left setup u' w (P.ReadResponseHdr q h))
-    response_heard q h = work_falls (P.ReadResponse q) (P.ReadResponseHdr q h) (none_left (Some 0) k) (λ x x' y y' again upload.
-        answer_next 8 7 (one_if b) x x' (length v.client.outbox) (length w.client.outbox) (answer_room setup) (to_hear setup v.origin) (to_hear setup w.origin)
+    pub response_heard : (q : Request) (h : ResponseHead) → Fewer (work_left setup u v (P.ReadResponse q))
+        (work_left setup u' w (P.ReadResponseHdr q h))
+    response_heard q h = work_falls (P.ReadResponse q) (P.ReadResponseHdr q h) (none_left (Some 0) k)
+        (λ x x' y y' again upload.
+        answer_next 8 7 (one_if b) x x' (length v.client.outbox) (length w.client.outbox) (answer_room setup)
+        (to_hear setup v.origin) (to_hear setup w.origin)
         (omega arith) again calm.out calm.hear)
 
-    pub response_passed : (q : Request) (h : ResponseHead) → Fewer (work_left setup u v (P.ReadResponseHdr q h)) (work_left setup u' w (P.ResponseTransform q h))
-    response_passed q h = work_falls (P.ReadResponseHdr q h) (P.ResponseTransform q h) (none_left (Some 0) k) (λ x x' y y' again upload.
-        answer_next 7 6 (one_if b) x x' (length v.client.outbox) (length w.client.outbox) (answer_room setup) (to_hear setup v.origin) (to_hear setup w.origin)
+    pub response_passed : (q : Request) (h : ResponseHead) → Fewer
+        (work_left setup u v (P.ReadResponseHdr q h)) (work_left setup u' w (P.ResponseTransform q h))
+    response_passed q h = work_falls (P.ReadResponseHdr q h) (P.ResponseTransform q h) (none_left (Some 0) k)
+        (λ x x' y y' again upload.
+        answer_next 7 6 (one_if b) x x' (length v.client.outbox) (length w.client.outbox) (answer_room setup)
+        (to_hear setup v.origin) (to_hear setup w.origin)
         (omega arith) again calm.out calm.hear)
 
   -- ---- the phases in which nothing moves
 
   module _ (v : View) (u : Option ℕ) where
     -- where nothing moved, a phase with less ahead has less left
-    same_less : (p p' : Phase) → Rose8 (upload_in u p) (upload_in u p') 0 → ((x x' y y' : ℕ) → x' + one_if false ≤ x → y' ≤ y + 8 * 0 → phase_work setup x' y' v p' < phase_work setup x y v p)
+    same_less : (p p' : Phase) → Rose8 (upload_in u p) (upload_in u p') 0
+        → ((x x' y y' : ℕ) → x' + one_if false ≤ x → y' ≤ y + 8 * 0
+        → phase_work setup x' y' v p' < phase_work setup x y v p)
         → Fewer (work_left setup u v p) (work_left setup u v p')
-    same_less p p' risen falls = work_falls false 0 v v u u (stays_calm v v refl) (none_rise u) p p' risen falls
+    same_less p p' risen falls = work_falls false 0 v v u u (stays_calm v v refl) (none_rise u) p p' risen
+        falls
 
     ask_next : (r s i x x' out room hear y y' z t : ℕ) → s < r → x' + i ≤ x → y' ≤ y + 8 * 0
         → s + (x' + out + room + hear + y' + z + t) < r + (x + out + room + hear + y + z + t)
@@ -189,23 +253,33 @@ module _ (setup : Setup) where
     -- the phases before the request is sent
     pub begins : Fewer (work_left setup u v P.Fresh) (work_left setup u v P.TxnStart)
     begins = same_less P.Fresh P.TxnStart (none_rise u) (λ x x' y y' again upload.
-        ask_next 16 15 (one_if false) x x' (length v.client.outbox) (answer_room setup) (to_hear setup v.origin) y y'
-        (written_weight * (length v.origin.outbox + head_room setup)) (to_ask v.client) (omega arith) again upload)
+        ask_next 16 15 (one_if false) x x' (length v.client.outbox) (answer_room setup)
+        (to_hear setup v.origin) y y'
+        (written_weight * (length v.origin.outbox + head_room setup)) (to_ask v.client) (omega arith) again
+        upload)
 
     pub started : Fewer (work_left setup u v P.TxnStart) (work_left setup u v P.ReadRequest)
     started = same_less P.TxnStart P.ReadRequest (none_rise u) (λ x x' y y' again upload.
-        ask_next 15 14 (one_if false) x x' (length v.client.outbox) (answer_room setup) (to_hear setup v.origin) y y'
-        (written_weight * (length v.origin.outbox + head_room setup)) (to_ask v.client) (omega arith) again upload)
+        ask_next 15 14 (one_if false) x x' (length v.client.outbox) (answer_room setup)
+        (to_hear setup v.origin) y y'
+        (written_weight * (length v.origin.outbox + head_room setup)) (to_ask v.client) (omega arith) again
+        upload)
 
-    pub request_read : (q : Request) → Fewer (work_left setup u v (P.ReadRequestHdr q)) (work_left setup u v (P.OsDns q))
+    pub request_read : (q : Request) → Fewer (work_left setup u v (P.ReadRequestHdr q))
+        (work_left setup u v (P.OsDns q))
     request_read q = same_less (P.ReadRequestHdr q) (P.OsDns q) (none_rise u) (λ x x' y y' again upload.
-        text_next 13 12 (one_if false) x x' (length v.client.outbox) (answer_room setup) (to_hear setup v.origin) y y'
-        (written_weight * (length v.origin.outbox + length (request_text setup q.head q.target q.host))) (omega arith) again upload)
+        text_next 13 12 (one_if false) x x' (length v.client.outbox) (answer_room setup)
+        (to_hear setup v.origin) y y'
+        (written_weight * (length v.origin.outbox + length (request_text setup q.head q.target q.host)))
+        (omega arith) again upload)
 
-    pub request_goes : (q : Request) → Fewer (work_left setup u v (P.OsDns q)) (work_left setup u v (P.SendRequestHdr q))
+    pub request_goes : (q : Request) → Fewer (work_left setup u v (P.OsDns q))
+        (work_left setup u v (P.SendRequestHdr q))
     request_goes q = same_less (P.OsDns q) (P.SendRequestHdr q) (none_rise u) (λ x x' y y' again upload.
-        text_next 12 11 (one_if false) x x' (length v.client.outbox) (answer_room setup) (to_hear setup v.origin) y y'
-        (written_weight * (length v.origin.outbox + length (request_text setup q.head q.target q.host))) (omega arith) again upload)
+        text_next 12 11 (one_if false) x x' (length v.client.outbox) (answer_room setup)
+        (to_hear setup v.origin) y y'
+        (written_weight * (length v.origin.outbox + length (request_text setup q.head q.target q.host)))
+        (omega arith) again upload)
 
   -- ---- the client's head is read
 
@@ -215,13 +289,17 @@ module _ (setup : Setup) where
   plus_same : (o o' n : ℕ) → o' ≤ o → o' + n ≤ o + n
   plus_same o o' n less = omega (arith, less)
 
-  asks_again : (i l x x' out out' room hear hear' y y' z z' t t' : ℕ) → x' + i ≤ x → y' ≤ y + 8 * 0 → out' ≤ out → hear' ≤ hear → z' ≤ z → t' + l ≤ t → 1 ≤ l + i
+  asks_again : (i l x x' out out' room hear hear' y y' z z' t t' : ℕ) → x' + i ≤ x → y' ≤ y + 8 * 0
+      → out' ≤ out → hear' ≤ hear → z' ≤ z → t' + l ≤ t → 1 ≤ l + i
       → 14 + (x' + out' + room + hear' + y' + z' + t') < 14 + (x + out + room + hear + y + z + t)
-  asks_again i l x x' out out' room hear hear' y y' z z' t t' again upload less heard long read some = omega (arith, again, upload, less, heard, long, read, some)
+  asks_again i l x x' out out' room hear hear' y y' z z' t t' again upload less heard long read some =
+      omega (arith, again, upload, less, heard, long, read, some)
 
-  asked_next : (i x x' out out' room hear hear' y y' z z' t : ℕ) → x' + i ≤ x → y' ≤ y + 8 * 0 → out' ≤ out → hear' ≤ hear → z' ≤ z
+  asked_next : (i x x' out out' room hear hear' y y' z z' t : ℕ) → x' + i ≤ x → y' ≤ y + 8 * 0 → out' ≤ out
+      → hear' ≤ hear → z' ≤ z
       → 13 + (x' + out' + room + hear' + y' + z') < 14 + (x + out + room + hear + y + z + t)
-  asked_next i x x' out out' room hear hear' y y' z z' t again upload less heard long = omega (arith, again, upload, less, heard, long)
+  asked_next i x x' out out' room hear hear' y y' z z' t again upload less heard long =
+      omega (arith, again, upload, less, heard, long)
 
   module _ (v w : View) where
     -- a read of the client leaves what waits for the origin
@@ -229,165 +307,217 @@ module _ (setup : Setup) where
     unsent same = same_length v.origin.outbox w.origin.outbox (ap (λ (x : View). x.origin.outbox) same)
 
     -- nor does it raise anything, with or without a head
-    pub asks_calm : (p : Pulled) → HearsRequest true v w (F.Read p) → Calm (pull_again p) v w
-    asks_calm p hears = client_calm (pull_again p) v w w.client hears.others hears.finds.1.pulls.pulls.calls.agains
+    pub asks_calm : (p : Pulled) → SeeksRequest true v w (F.Read p) → Calm (pull_again p) v w
+    asks_calm p hears = client_calm (pull_again p) v w w.client hears.others
+        hears.finds.1.pulls.pulls.calls.agains
         (same_length v.client.outbox w.client.outbox hears.finds.1.outbox)
 
-    pub head_calm : (head : RequestHead) → HearsRequest true v w (F.Head head) → Calm false v w
+    pub head_calm : (head : RequestHead) → SeeksRequest true v w (F.Head head) → Calm false v w
     head_calm head hears = client_calm false v w w.client hears.others
-        (subst (λ (s : LinkSide). AgainsFall false v.client.look.agains s.look.agains) (sym hears.finds.2) (none_fall v.client.look.agains))
+        (subst (λ (s : LinkSide). AgainsFall false v.client.look.agains s.look.agains) (sym hears.finds.2)
+        (none_fall v.client.look.agains))
         (same_length v.client.outbox w.client.outbox (ap (λ (s : LinkSide). s.outbox) hears.finds.2))
 
   module _ (v w : View) (u u' : Option ℕ) (rose : Rose8 u u' 0) where
     -- some of it came, or there was an Again
-    pub asks_on : (p : Pulled) → 1 ≤ least_came p + one_if (pull_again p) → HearsRequest true v w (F.Read p)
+    pub asks_on : (p : Pulled) → 1 ≤ least_came p + one_if (pull_again p) → SeeksRequest true v w (F.Read p)
         → Fewer (work_left setup u v P.ReadRequest) (work_left setup u' w P.ReadRequest)
     asks_on p some hears =
         let calm = asks_calm v w p hears in
-        let come = comes_ask v.client w.client (least_came p) (read_comes v.client w.client p hears.finds.1) in
+        let come = comes_ask v.client w.client (least_came p) (read_comes v.client w.client p hears.finds.1)
+        in
         let sends = unsent v w hears.others in
-        work_falls (pull_again p) 0 v w u u' calm rose P.ReadRequest P.ReadRequest rose (λ x x' y y' again upload.
-        asks_again (one_if (pull_again p)) (least_came p) x x' (length v.client.outbox) (length w.client.outbox) (answer_room setup)
+        work_falls (pull_again p) 0 v w u u' calm rose P.ReadRequest P.ReadRequest rose
+        (λ x x' y y' again upload.
+        asks_again (one_if (pull_again p)) (least_came p) x x' (length v.client.outbox)
+        (length w.client.outbox) (answer_room setup)
         (to_hear setup v.origin) (to_hear setup w.origin) y y'
-        (written_weight * (length v.origin.outbox + head_room setup)) (written_weight * (length w.origin.outbox + head_room setup))
+        (written_weight * (length v.origin.outbox + head_room setup))
+        (written_weight * (length w.origin.outbox + head_room setup))
         (to_ask v.client) (to_ask w.client) again upload calm.out calm.hear
-        (long_less (length v.origin.outbox) (length w.origin.outbox) (head_room setup) (head_room setup) (plus_same (length v.origin.outbox) (length w.origin.outbox) (head_room setup) sends))
+        (long_less (length v.origin.outbox) (length w.origin.outbox) (head_room setup) (head_room setup)
+        (plus_same (length v.origin.outbox) (length w.origin.outbox) (head_room setup) sends))
         come some)
 
     -- a head that passes the check was found, and what the origin gets of it is no longer than a head may be
-    pub asked : (head : RequestHead) (q : Request) → length (request_text setup q.head q.target q.host) ≤ head_room setup → HearsRequest true v w (F.Head head)
+    pub asked : (head : RequestHead) (q : Request) → length (request_text setup q.head q.target q.host)
+        ≤ head_room setup → SeeksRequest true v w (F.Head head)
         → Fewer (work_left setup u v P.ReadRequest) (work_left setup u' w (P.ReadRequestHdr q))
     asked head q fits hears =
         let calm = head_calm v w head hears in
         let sends = unsent v w hears.others in
         let text = length (request_text setup q.head q.target q.host) in
-        let longer : length w.origin.outbox + text ≤ length v.origin.outbox + head_room setup = add-le-add sends fits in
-        work_falls false 0 v w u u' calm rose P.ReadRequest (P.ReadRequestHdr q) rose (λ x x' y y' again upload.
+        let longer : length w.origin.outbox + text ≤ length v.origin.outbox + head_room setup =
+        add-le-add sends fits in
+        work_falls false 0 v w u u' calm rose P.ReadRequest (P.ReadRequestHdr q) rose
+        (λ x x' y y' again upload.
         asked_next (one_if false) x x' (length v.client.outbox) (length w.client.outbox) (answer_room setup)
         (to_hear setup v.origin) (to_hear setup w.origin) y y'
-        (written_weight * (length v.origin.outbox + head_room setup)) (written_weight * (length w.origin.outbox + text))
+        (written_weight * (length v.origin.outbox + head_room setup))
+        (written_weight * (length w.origin.outbox + text))
         (to_ask v.client) again upload calm.out calm.hear
         (long_less (length v.origin.outbox) (length w.origin.outbox) (head_room setup) text longer))
 
   -- ---- the request is written
 
-  queue_next : (i x x' out out' room hear hear' y y' z z' : ℕ) → x' + i ≤ x → y' ≤ y + 8 * 0 → out' ≤ out → hear' ≤ hear → z' ≤ z
+  queue_next : (i x x' out out' room hear hear' y y' z z' : ℕ) → x' + i ≤ x → y' ≤ y + 8 * 0 → out' ≤ out
+      → hear' ≤ hear → z' ≤ z
       → 10 + (x' + out' + room + hear' + y' + z') < 11 + (x + out + room + hear + y + z)
-  queue_next i x x' out out' room hear hear' y y' z z' again upload less heard long = omega (arith, again, upload, less, heard, long)
+  queue_next i x x' out out' room hear hear' y y' z z' again upload less heard long =
+      omega (arith, again, upload, less, heard, long)
 
   -- the head of the request is queued
-  pub queued : (v w : View) (u u' : Option ℕ) (q : Request) → Rose8 u u' 0 → QueuesRequest (request_text setup q.head q.target q.host) v w
+  pub queued : (v w : View) (u u' : Option ℕ) (q : Request) → Rose8 u u' 0
+      → QueuesRequest (request_text setup q.head q.target q.host) v w
       → Fewer (work_left setup u v (P.SendRequestHdr q)) (work_left setup u' w (P.SendRequest q))
   queued v w u u' q rose queues =
       let text = request_text setup q.head q.target q.host in
-      let calm : Calm false v w = origin_calm false v w (record v.origin { outbox = v.origin.outbox ++ text }) queues (none_fall v.origin.look.agains) (le_refl (to_hear setup v.origin)) in
-      let len : length w.origin.outbox ≡ length v.origin.outbox + length text = ap (λ (x : View). length x.origin.outbox) queues ∙ length-append v.origin.outbox text in
-      work_falls false 0 v w u u' calm rose (P.SendRequestHdr q) (P.SendRequest q) rose (λ x x' y y' again upload.
+      let calm : Calm false v w = origin_calm false v w (record v.origin { outbox = v.origin.outbox ++ text })
+      queues (none_fall v.origin.look.agains) (le_refl (to_hear setup v.origin)) in
+      let len : length w.origin.outbox ≡ length v.origin.outbox + length text =
+      ap (λ (x : View). length x.origin.outbox) queues ∙ length-append v.origin.outbox text in
+      work_falls false 0 v w u u' calm rose (P.SendRequestHdr q) (P.SendRequest q) rose
+      (λ x x' y y' again upload.
       queue_next (one_if false) x x' (length v.client.outbox) (length w.client.outbox) (answer_room setup)
       (to_hear setup v.origin) (to_hear setup w.origin) y y'
-      (written_weight * (length v.origin.outbox + length text)) (written_weight * (length w.origin.outbox + 0)) again upload calm.out calm.hear
-      (long_less (length v.origin.outbox) (length w.origin.outbox) (length text) 0 (end_less (length v.origin.outbox) (length w.origin.outbox) (length text) len)))
+      (written_weight * (length v.origin.outbox + length text))
+      (written_weight * (length w.origin.outbox + 0)) again upload calm.out calm.hear
+      (long_less (length v.origin.outbox) (length w.origin.outbox) (length text) 0
+      (end_less (length v.origin.outbox) (length w.origin.outbox) (length text) len)))
     where
       end_less : (o o' n : ℕ) → o' ≡ o + n → o' + 0 ≤ o + n
       end_less o o' n len = omega (arith, len)
 
-  write_next : (i l k x x' out out' room hear hear' y y' o o' : ℕ) → x' + i ≤ x → y' ≤ y + 8 * k → out' ≤ out → hear' ≤ hear → o' + k ≡ o → o' + l ≤ o → 1 ≤ l + i
-      → 10 + (x' + out' + room + hear' + y' + written_weight * (o' + 0)) < 10 + (x + out + room + hear + y + written_weight * (o + 0))
-  write_next i l k x x' out out' room hear hear' y y' o o' again upload less heard went wrote some = omega (arith, again, upload, less, heard, went, wrote, some)
+  write_next : (i l k x x' out out' room hear hear' y y' o o' : ℕ) → x' + i ≤ x → y' ≤ y + 8 * k → out' ≤ out
+      → hear' ≤ hear → o' + k ≡ o → o' + l ≤ o → 1 ≤ l + i
+      → 10 + (x' + out' + room + hear' + y' + written_weight * (o' + 0)) < 10
+      + (x + out + room + hear + y + written_weight * (o + 0))
+  write_next i l k x x' out out' room hear hear' y y' o o' again upload less heard went wrote some =
+      omega (arith, again, upload, less, heard, went, wrote, some)
 
-  written_next : (i k x x' out out' room hear hear' y y' o o' : ℕ) → x' + i ≤ x → y' ≤ y + 8 * k → out' ≤ out → hear' ≤ hear → o' + k ≡ o
+  written_next : (i k x x' out out' room hear hear' y y' o o' : ℕ) → x' + i ≤ x → y' ≤ y + 8 * k → out' ≤ out
+      → hear' ≤ hear → o' + k ≡ o
       → 9 + (x' + out' + room + hear') + y' < 10 + (x + out + room + hear + y + written_weight * (o + 0))
-  written_next i k x x' out out' room hear hear' y y' o o' again upload less heard went = omega (arith, again, upload, less, heard, went)
+  written_next i k x x' out out' room hear hear' y y' o o' again upload less heard went =
+      omega (arith, again, upload, less, heard, went)
 
   -- what went is what the link took
-  went_taken : (old new before after : List ℕ) → new ++ after ≡ old ++ before → length after ≤ length before → length after + (length new - length old) ≡ length before
+  went_taken : (old new before after : List ℕ) → new ++ after ≡ old ++ before → length after ≤ length before
+      → length after + (length new - length old) ≡ length before
   went_taken old new before after same less =
-      let all : length new + length after ≡ length old + length before = sym (length-append new after) ∙ ap length same ∙ length-append old before in
+      let all : length new + length after ≡ length old + length before =
+      sym (length-append new after) ∙ ap length same ∙ length-append old before in
       omega (arith, all, less)
 
   -- what is less by some is no more
   less_plus : (a b n : ℕ) → a + n ≤ b → a ≤ b
   less_plus a b n less = omega (arith, less)
 
-  module _ (v w : View) (u u' : Option ℕ) (rose : Rose8 u u' (taken_since v.origin.look w.origin.look)) (p : Pushed) (writes : WritesOrigin true v w p) where
+  module _ (v w : View) (u u' : Option ℕ) (rose : Rose8 u u' (taken_since v.origin.look w.origin.look))
+      (p : Pushed) (writes : WritesOrigin true v w p) where
     -- a write to the origin raises nothing
     pub write_calm : Calm (push_again p) v w
-    write_calm = origin_calm (push_again p) v w w.origin writes.others writes.origin.pushes.calls.agains (write_hear setup v.origin w.origin p writes.origin)
+    write_calm = origin_calm (push_again p) v w w.origin writes.others writes.origin.pushes.calls.agains
+        (write_hear setup v.origin w.origin p writes.origin)
 
     went_least : length w.origin.outbox + least_went p ≤ length v.origin.outbox
     went_least = went_some p v.origin.outbox w.origin.outbox writes.origin.pushes.went
 
     went_all : length w.origin.outbox + taken_since v.origin.look w.origin.look ≡ length v.origin.outbox
-    went_all = went_taken v.origin.look.taken w.origin.look.taken v.origin.outbox w.origin.outbox (writes.origin.pushes.text refl)
+    went_all = went_taken v.origin.look.taken w.origin.look.taken v.origin.outbox w.origin.outbox
+        (writes.origin.pushes.text refl)
         (less_plus (length w.origin.outbox) (length v.origin.outbox) (least_went p) went_least)
 
     -- some of it went, or there was an Again
-    pub writes_on : (q : Request) → 1 ≤ least_went p + one_if (push_again p) → Fewer (work_left setup u v (P.SendRequest q)) (work_left setup u' w (P.SendRequest q))
-    writes_on q some = work_falls (push_again p) (taken_since v.origin.look w.origin.look) v w u u' write_calm rose (P.SendRequest q) (P.SendRequest q) rose (λ x x' y y' again upload.
-        write_next (one_if (push_again p)) (least_went p) (taken_since v.origin.look w.origin.look) x x' (length v.client.outbox) (length w.client.outbox) (answer_room setup)
-        (to_hear setup v.origin) (to_hear setup w.origin) y y' (length v.origin.outbox) (length w.origin.outbox) again upload write_calm.out write_calm.hear went_all went_least some)
+    pub writes_on : (q : Request) → 1 ≤ least_went p + one_if (push_again p)
+        → Fewer (work_left setup u v (P.SendRequest q)) (work_left setup u' w (P.SendRequest q))
+    writes_on q some = work_falls (push_again p) (taken_since v.origin.look w.origin.look) v w u u' write_calm
+        rose (P.SendRequest q) (P.SendRequest q) rose (λ x x' y y' again upload.
+        write_next (one_if (push_again p)) (least_went p) (taken_since v.origin.look w.origin.look) x x'
+        (length v.client.outbox) (length w.client.outbox) (answer_room setup)
+        (to_hear setup v.origin) (to_hear setup w.origin) y y' (length v.origin.outbox)
+        (length w.origin.outbox) again upload write_calm.out write_calm.hear went_all went_least some)
 
     -- all of it went, and the upload comes next
-    pub written : (q : Request) → Fewer (work_left setup u v (P.SendRequest q)) (work_left setup u' w (P.Upload q))
-    written q = work_falls (push_again p) (taken_since v.origin.look w.origin.look) v w u u' write_calm rose (P.SendRequest q) (P.Upload q) rose (λ x x' y y' again upload.
-        written_next (one_if (push_again p)) (taken_since v.origin.look w.origin.look) x x' (length v.client.outbox) (length w.client.outbox) (answer_room setup)
-        (to_hear setup v.origin) (to_hear setup w.origin) y y' (length v.origin.outbox) (length w.origin.outbox) again upload write_calm.out write_calm.hear went_all)
+    pub written : (q : Request) → Fewer (work_left setup u v (P.SendRequest q))
+        (work_left setup u' w (P.Upload q))
+    written q = work_falls (push_again p) (taken_since v.origin.look w.origin.look) v w u u' write_calm rose
+        (P.SendRequest q) (P.Upload q) rose (λ x x' y y' again upload.
+        written_next (one_if (push_again p)) (taken_since v.origin.look w.origin.look) x x'
+        (length v.client.outbox) (length w.client.outbox) (answer_room setup)
+        (to_hear setup v.origin) (to_hear setup w.origin) y y' (length v.origin.outbox)
+        (length w.origin.outbox) again upload write_calm.out write_calm.hear went_all)
 
     -- the origin's link failed, and an answer of the proxy's own comes next
-    pub write_fails : (q : Request) (a : OwnAnswer) → Fewer (work_left setup u v (P.SendRequest q)) (work_left setup u' w (P.SendResponseHdr a))
-    write_fails q a = to_own (push_again p) (taken_since v.origin.look w.origin.look) v w u u' write_calm rose (P.SendRequest q) a tt
+    pub write_fails : (q : Request) (a : OwnAnswer) → Fewer (work_left setup u v (P.SendRequest q))
+        (work_left setup u' w (P.SendResponseHdr a))
+    write_fails q a = to_own (push_again p) (taken_since v.origin.look w.origin.look) v w u u' write_calm rose
+        (P.SendRequest q) a tt
 
   -- ---- the origin's head is read
 
-  hears_next : (i l x x' out out' room hear hear' : ℕ) → x' + i ≤ x → out' ≤ out → hear' + l ≤ hear → 1 ≤ l + i
+  hears_next : (i l x x' out out' room hear hear' : ℕ) → x' + i ≤ x → out' ≤ out → hear' + l ≤ hear
+      → 1 ≤ l + i
       → 8 + (x' + out' + room + hear') < 8 + (x + out + room + hear)
   hears_next i l x x' out out' room hear hear' again less heard some = omega (arith, again, less, heard, some)
 
   module _ (v w : View) where
     -- a read of the origin raises nothing, whatever it found
-    pub reads_calm : (p : Pulled) → w ≡ record v { origin = w.origin } → SideReads true v.origin w.origin p → Calm (pull_again p) v w
+    pub reads_calm : (p : Pulled) → w ≡ record v { origin = w.origin } → SideReads true v.origin w.origin p
+        → Calm (pull_again p) v w
     reads_calm p others reads = origin_calm (pull_again p) v w w.origin others reads.pulls.pulls.calls.agains
-        (less_plus (to_hear setup w.origin) (to_hear setup v.origin) (least_came p) (comes_hear setup v.origin w.origin (least_came p) (read_comes v.origin w.origin p reads)))
+        (less_plus (to_hear setup w.origin) (to_hear setup v.origin) (least_came p)
+        (comes_hear setup v.origin w.origin (least_came p) (read_comes v.origin w.origin p reads)))
 
-    pub hears_calm : (p : Pulled) → HearsResponse true v w (F.Read p) → Calm (pull_again p) v w
+    pub hears_calm : (p : Pulled) → SeeksResponse true v w (F.Read p) → Calm (pull_again p) v w
     hears_calm p hears = reads_calm p hears.others hears.finds.1
 
     -- a head that was found is taken away in front
-    head_used : (head : ResponseHead) → HearsResponse true v w (F.Head head) → to_hear setup w.origin + 1 ≤ to_hear setup v.origin
-    head_used head hears = used_hear setup v.origin w.origin 1 (plus_one (length w.origin.inbox) (length v.origin.inbox) hears.finds.1)
+    head_used : (head : ResponseHead) → SeeksResponse true v w (F.Head head)
+        → to_hear setup w.origin + 1 ≤ to_hear setup v.origin
+    head_used head hears = used_hear setup v.origin w.origin 1
+        (plus_one (length w.origin.inbox) (length v.origin.inbox) hears.finds.1)
         (same_length v.origin.look.left w.origin.look.left (ap (λ (s : LinkSide). s.look.left) hears.finds.2))
       where
         plus_one : (a b : ℕ) → a < b → a + 1 ≤ b
         plus_one a b less = omega (arith, less)
 
-    pub heard_calm : (head : ResponseHead) → HearsResponse true v w (F.Head head) → Calm false v w
+    pub heard_calm : (head : ResponseHead) → SeeksResponse true v w (F.Head head) → Calm false v w
     heard_calm head hears = origin_calm false v w w.origin hears.others
-        (subst (λ (s : LinkSide). AgainsFall false v.origin.look.agains s.look.agains) (sym hears.finds.2) (none_fall v.origin.look.agains))
+        (subst (λ (s : LinkSide). AgainsFall false v.origin.look.agains s.look.agains) (sym hears.finds.2)
+        (none_fall v.origin.look.agains))
         (less_plus (to_hear setup w.origin) (to_hear setup v.origin) 1 (head_used head hears))
 
   module _ (v w : View) (u u' : Option ℕ) (rose : Rose8 u u' 0) where
     -- some of it came, or there was an Again
-    pub hears_on : (q : Request) (p : Pulled) → 1 ≤ least_came p + one_if (pull_again p) → HearsResponse true v w (F.Read p)
+    pub hears_on : (q : Request) (p : Pulled) → 1 ≤ least_came p + one_if (pull_again p)
+        → SeeksResponse true v w (F.Read p)
         → Fewer (work_left setup u v (P.ReadResponse q)) (work_left setup u' w (P.ReadResponse q))
     hears_on q p some hears =
         let calm = hears_calm v w p hears in
-        work_falls (pull_again p) 0 v w u u' calm rose (P.ReadResponse q) (P.ReadResponse q) (none_left (Some 0) 0) (λ x x' y y' again upload.
-        hears_next (one_if (pull_again p)) (least_came p) x x' (length v.client.outbox) (length w.client.outbox) (answer_room setup)
+        work_falls (pull_again p) 0 v w u u' calm rose (P.ReadResponse q) (P.ReadResponse q)
+        (none_left (Some 0) 0) (λ x x' y y' again upload.
+        hears_next (one_if (pull_again p)) (least_came p) x x' (length v.client.outbox)
+        (length w.client.outbox) (answer_room setup)
         (to_hear setup v.origin) (to_hear setup w.origin) again calm.out
-        (comes_hear setup v.origin w.origin (least_came p) (read_comes v.origin w.origin p hears.finds.1)) some)
+        (comes_hear setup v.origin w.origin (least_came p) (read_comes v.origin w.origin p hears.finds.1))
+        some)
 
     -- an interim head was dropped
-    pub hears_interim : (q : Request) (head : ResponseHead) → HearsResponse true v w (F.Head head)
+    pub hears_interim : (q : Request) (head : ResponseHead) → SeeksResponse true v w (F.Head head)
         → Fewer (work_left setup u v (P.ReadResponse q)) (work_left setup u' w (P.ReadResponse q))
     hears_interim q head hears =
         let calm = heard_calm v w head hears in
-        work_falls false 0 v w u u' calm rose (P.ReadResponse q) (P.ReadResponse q) (none_left (Some 0) 0) (λ x x' y y' again upload.
+        work_falls false 0 v w u u' calm rose (P.ReadResponse q) (P.ReadResponse q) (none_left (Some 0) 0)
+        (λ x x' y y' again upload.
         hears_next (one_if false) 1 x x' (length v.client.outbox) (length w.client.outbox) (answer_room setup)
-        (to_hear setup v.origin) (to_hear setup w.origin) again calm.out (head_used v w head hears) (omega arith))
+        (to_hear setup v.origin) (to_hear setup w.origin) again calm.out (head_used v w head hears)
+        (omega arith))
 
   -- ---- an answer of the proxy's own
 
-  own_queued : (i x x' out out' own : ℕ) → x' + i ≤ x → out' ≤ out + own → 2 + (x' + out') < 3 + (x + out) + own
+  own_queued : (i x x' out out' own : ℕ) → x' + i ≤ x → out' ≤ out + own
+      → 2 + (x' + out') < 3 + (x + out) + own
   own_queued i x x' out out' own again more = omega (arith, again, more)
 
   -- what is sent of an answer is no longer than its body
@@ -396,7 +526,8 @@ module _ (setup : Setup) where
   sent_within false s = le_refl (length (own_body s))
 
   -- it is queued whole
-  pub own_text_queued : (v w : View) (u u' : Option ℕ) (a : OwnAnswer) → Rose8 u u' 0 → QueuesOwn (own_text setup a.status) (own_sent a.to_head a.status) v w
+  pub own_text_queued : (v w : View) (u u' : Option ℕ) (a : OwnAnswer) → Rose8 u u' 0
+      → QueuesOwn (own_text setup a.status) (own_sent a.to_head a.status) v w
       → Fewer (work_left setup u v (P.SendResponseHdr a)) (work_left setup u' w (P.Sending a))
   own_text_queued v w u u' a rose queues =
       let head = own_text setup a.status in
@@ -404,14 +535,21 @@ module _ (setup : Setup) where
       let len : length w.client.outbox ≡ length v.client.outbox + length (head ++ body) =
       ap (λ (s : LinkSide). length s.outbox) queues.client ∙ length-append v.client.outbox (head ++ body) in
       let again : AgainsFall false (agains_left v) (agains_left w) =
-      subst (λ (s : LinkSide). AgainsFall false (agains_left v) (both w.client.look.agains s.look.agains)) (sym queues.origin)
-      (subst (λ (s : LinkSide). AgainsFall false (agains_left v) (both s.look.agains v.origin.look.agains)) (sym queues.client) (none_fall (agains_left v))) in
-      told_fewer (λ x y. phase_work setup x y v (P.SendResponseHdr a)) (λ x y. phase_work setup x y w (P.Sending a)) false 0 (agains_left v) (agains_left w) (Some 0) (Some 0) again (none_left (Some 0) 0)
-      (λ x x' y y' falls upload. own_queued (one_if false) x x' (length v.client.outbox) (length w.client.outbox) (own_length setup a.status) falls
-      (longer (length v.client.outbox) (length w.client.outbox) (length (head ++ body)) (length head) (length body) (length (own_body a.status))
+      subst (λ (s : LinkSide). AgainsFall false (agains_left v) (both w.client.look.agains s.look.agains))
+      (sym queues.origin)
+      (subst (λ (s : LinkSide). AgainsFall false (agains_left v) (both s.look.agains v.origin.look.agains))
+      (sym queues.client) (none_fall (agains_left v))) in
+      told_fewer (λ x y. phase_work setup x y v (P.SendResponseHdr a))
+      (λ x y. phase_work setup x y w (P.Sending a)) false 0 (agains_left v) (agains_left w) (Some 0)
+      (Some 0) again (none_left (Some 0) 0)
+      (λ x x' y y' falls upload. own_queued (one_if false) x x' (length v.client.outbox)
+      (length w.client.outbox) (own_length setup a.status) falls
+      (longer (length v.client.outbox) (length w.client.outbox) (length (head ++ body)) (length head)
+      (length body) (length (own_body a.status))
       len (length-append head body) (sent_within a.to_head a.status)))
     where
-      longer : (out out' both head body most : ℕ) → out' ≡ out + both → both ≡ head + body → body ≤ most → out' ≤ out + (head + most)
+      longer : (out out' both head body most : ℕ) → out' ≡ out + both → both ≡ head + body → body ≤ most
+          → out' ≤ out + (head + most)
       longer out out' both head body most len parts within = omega (arith, len, parts, within)
 
   module _ (v w : View) (p : Pushed) (writes : WritesClient true v w p) where
@@ -424,6 +562,10 @@ module _ (setup : Setup) where
         (less_plus (length w.client.outbox) (length v.client.outbox) (least_went p) sent_least)
 
     -- some of it went, or there was an Again
-    pub sends_on : (u u' : Option ℕ) → Rose8 u u' 0 → (a : OwnAnswer) → 1 ≤ least_went p + one_if (push_again p) → Fewer (work_left setup u v (P.Sending a)) (work_left setup u' w (P.Sending a))
-    sends_on u u' rose a some = work_falls (push_again p) 0 v w u u' sends_calm rose (P.Sending a) (P.Sending a) (none_left (Some 0) 0) (λ x x' y y' again upload.
-        sent_next (one_if (push_again p)) (least_went p) x x' (length v.client.outbox) (length w.client.outbox) again sent_least some)
+    pub sends_on : (u u' : Option ℕ) → Rose8 u u' 0 → (a : OwnAnswer)
+        → 1 ≤ least_went p + one_if (push_again p) → Fewer (work_left setup u v (P.Sending a))
+        (work_left setup u' w (P.Sending a))
+    sends_on u u' rose a some = work_falls (push_again p) 0 v w u u' sends_calm rose (P.Sending a)
+        (P.Sending a) (none_left (Some 0) 0) (λ x x' y y' again upload.
+        sent_next (one_if (push_again p)) (least_went p) x x' (length v.client.outbox)
+        (length w.client.outbox) again sent_least some)

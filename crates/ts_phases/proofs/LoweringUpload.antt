@@ -30,19 +30,25 @@ not_risen (Some y) (Some y') kept = omega (arith, kept)
 
 more_next : (x x' out out' room hear hear' y y' : ℕ) → x' ≤ x → y' < y → out' ≤ out → hear' ≤ hear
     → 9 + (x' + out' + room + hear') + y' < 9 + (x + out + room + hear) + y
-more_next x x' out out' room hear hear' y y' again upload less heard = omega (arith, again, upload, less, heard)
+more_next x x' out out' room hear hear' y y' again upload less heard =
+    omega (arith, again, upload, less, heard)
 
-again_next : (x x' out out' room hear hear' y y' : ℕ) → x' + one_if true ≤ x → y' ≤ y + 8 * 0 → out' ≤ out → hear' ≤ hear
+again_next : (x x' out out' room hear hear' y y' : ℕ) → x' + one_if true ≤ x → y' ≤ y + 8 * 0 → out' ≤ out
+    → hear' ≤ hear
     → 9 + (x' + out' + room + hear') + y' < 9 + (x + out + room + hear) + y
-again_next x x' out out' room hear hear' y y' again upload less heard = omega (arith, again, upload, less, heard)
+again_next x x' out out' room hear hear' y y' again upload less heard =
+    omega (arith, again, upload, less, heard)
 
-module _ (setup : Setup) (refuses : List ℕ → Type 0) (v w : View) (answer : Uploaded) (moves : MovesUpload true true refuses answer v w) where
+module _ (setup : Setup) (refuses : List ℕ → Type 0) (v w : View) (answer : Uploaded)
+    (moves : MovesUpload true true refuses answer v w) where
   upload_out : length w.client.outbox ≤ length v.client.outbox
   upload_out = same_length v.client.outbox w.client.outbox (ap (λ (x : View). x.client.outbox) moves.others)
 
   upload_hear : to_hear setup w.origin ≤ to_hear setup v.origin
-  upload_hear = still_hear setup v.origin w.origin (same_length v.origin.inbox w.origin.inbox (ap (λ (s : LinkSide). s.inbox) moves.moves.others))
-      (replaced_within v.origin.look.given v.origin.look.left w.origin.look.left (moves.moves.bytes refl refl).origin_left)
+  upload_hear = still_hear setup v.origin w.origin (same_length v.origin.inbox w.origin.inbox
+      (ap (λ (s : LinkSide). s.inbox) moves.moves.others))
+      (replaced_within v.origin.look.given v.origin.look.left w.origin.look.left
+      (moves.moves.bytes refl refl).origin_left)
 
   -- an upload raises nothing
   pub upload_calm : (b : Bool) → AgainsFall b (agains_left v) (agains_left w) → Calm setup b v w
@@ -51,16 +57,20 @@ module _ (setup : Setup) (refuses : List ℕ → Type 0) (v w : View) (answer : 
 module _ (setup : Setup) (refuses : List ℕ → Type 0) (v w : View) (u u' : Option ℕ) (q : Request) where
   pub uploads_more : MovesUpload true true refuses U.More v w → LowersUpload U.More u u' v w
       → Fewer (work_left setup u v (P.Upload q)) (work_left setup u' w (P.Upload q))
-  uploads_more moves lowers = told_lower (λ x y. phase_work setup x y v (P.Upload q)) (λ x y. phase_work setup x y w (P.Upload q)) (agains_left v) (agains_left w) u u' lowers.1 lowers.0
-      (λ x x' y y' again upload. more_next x x' (length v.client.outbox) (length w.client.outbox) (answer_room setup) (to_hear setup v.origin) (to_hear setup w.origin) y y' again upload
+  uploads_more moves lowers = told_lower (λ x y. phase_work setup x y v (P.Upload q))
+      (λ x y. phase_work setup x y w (P.Upload q)) (agains_left v) (agains_left w) u u' lowers.1 lowers.0
+      (λ x x' y y' again upload. more_next x x' (length v.client.outbox) (length w.client.outbox)
+      (answer_room setup) (to_hear setup v.origin) (to_hear setup w.origin) y y' again upload
       (upload_out setup refuses v w U.More moves) (upload_hear setup refuses v w U.More moves))
 
   pub uploads_again : MovesUpload true true refuses U.Again v w → LowersUpload U.Again u u' v w
       → Fewer (work_left setup u v (P.Upload q)) (work_left setup u' w (P.Upload q))
   uploads_again moves lowers =
       let calm = upload_calm setup refuses v w U.Again moves true lowers.1 in
-      work_falls setup true 0 v w u u' calm (not_risen u u' lowers.0) (P.Upload q) (P.Upload q) (not_risen u u' lowers.0) (λ x x' y y' again upload.
-      again_next x x' (length v.client.outbox) (length w.client.outbox) (answer_room setup) (to_hear setup v.origin) (to_hear setup w.origin) y y' again upload calm.out calm.hear)
+      work_falls setup true 0 v w u u' calm (not_risen u u' lowers.0) (P.Upload q) (P.Upload q)
+      (not_risen u u' lowers.0) (λ x x' y y' again upload.
+      again_next x x' (length v.client.outbox) (length w.client.outbox) (answer_room setup)
+      (to_hear setup v.origin) (to_hear setup w.origin) y y' again upload calm.out calm.hear)
 
 -- want of memory without an origin leaves what is left
 pub none_stays : (agains : Option ℕ) → UploadFalls U.NoMemory (Some 0) (Some 0) agains agains

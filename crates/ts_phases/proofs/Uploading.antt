@@ -1,5 +1,6 @@
 -- The phase in which the origin's link moves an upload: where each answer leads.
-use Rattle.std.proofs.Common.{◌≡◌, ℕ, ◌≤◌, List, [], ◌++◌, Bool, true, arith, refl, sym, ap, subst, ◌∙◌, append_assoc, inl, length, ◌≢◌, length-append}
+use Rattle.std.proofs.Common.{◌≡◌, ℕ, ◌≤◌, List, [], ◌++◌, Bool, true, arith, refl, sym, ap, subst, ◌∙◌}
+use Rattle.std.proofs.Common.{append_assoc, inl, length, ◌≢◌, length-append}
 use Rattle.std.proofs.lemmas.List.{append-nil}
 use Rattle.std.proofs.Math.Nat.{le_trans}
 use Rattle.std.specs.Prelude.{codes, flat_map}
@@ -34,7 +35,8 @@ use Rattle.ts_phases.proofs.Going.{faulty, gone_block, unanswered_any}
 pub filled : (setup : Setup) (q : Request) → request_text setup q.head q.target q.host ≢ []
 filled setup q e =
     let fields = ruled S.Request setup.plugins.items (forwarded q.head.fields) in
-    let front = q.head.method ++ codes " " ++ q.target ++ codes " HTTP/1.1\r\n" ++ missing_host_text q.host fields
+    let front = q.head.method ++ codes " " ++ q.target ++ codes " HTTP/1.1\r\n"
+    ++ missing_host_text q.host fields
     ++ flat_map (request_field_text (is_absolute q.head.target) q.host) fields ++ via_text q.head.minor in
     absurd (omega (arith, length-append front (codes "connection: close\r\n\r\n"), ap length e))
 
@@ -42,14 +44,28 @@ none_held : (held : List ℕ) → held ≡ [] → length held ≤ head_limit
 none_held held none = let no : length held ≡ 0 = ap length none in omega (arith, no)
 
 -- what the origin took is the request and the upload, where nothing waits for it
-took_is : (setup : Setup) (q : Request) (o : LinkSide) (h : CarriesRequest setup q o) → o.outbox ≡ [] → o.look.taken ≡ request_text setup q.head q.target q.host ++ h.upload
-took_is setup q o h none = sym (append-nil o.look.taken) ∙ ap (λ (x : List ℕ). o.look.taken ++ x) (sym none) ∙ h.text
+took_is : (setup : Setup) (q : Request) (o : LinkSide) (h : CarriesRequest setup q o) → o.outbox ≡ []
+    → o.look.taken ≡ request_text setup q.head q.target q.host ++ h.upload
+took_is setup q o h none = sym (append-nil o.look.taken) ∙ ap (λ (x : List ℕ). o.look.taken ++ x) (sym none)
+    ∙ h.text
 
-pub took_request : (setup : Setup) (q : Request) (o : LinkSide) → CarriesRequest setup q o → o.outbox ≡ [] → TookExactly (request_text setup q.head q.target q.host) o
-took_request setup q o h none = record { upload = h.upload; text = took_is setup q o h none; nothing = λ is. absurd (filled setup q is); no_waits = none }
+pub took_request : (setup : Setup) (q : Request) (o : LinkSide) → CarriesRequest setup q o → o.outbox ≡ []
+    → TookExactly (request_text setup q.head q.target q.host) o
+took_request setup q o h none = record {
+  upload = h.upload;
+  text = took_is setup q o h none;
+  nothing =
+      λ is. absurd (filled setup q is);
+  no_waits = none;
+}
 
-uploads_at : (setup : Setup) (v : View) (c l : Look) (q : Request) → Uploading setup v q → Uploads v.client.look c v.origin.look l → UploadKeeps v.client.look c v.origin.look l
-    → Uploading setup (record v { client = record v.client { look = c }; origin = record v.origin { look = l } }) q
+uploads_at : (setup : Setup) (v : View) (c l : Look) (q : Request) → Uploading setup v q
+    → Uploads v.client.look c v.origin.look l → UploadKeeps v.client.look c v.origin.look l
+    → Uploading setup (record v {
+      client = record v.client { look = c };
+      origin =
+          record v.origin { look = l };
+    }) q
 uploads_at setup v c l q h u keeps =
     let text = request_text setup q.head q.target q.host in
     let before = took_is setup q v.origin h.carries h.no_waits in
@@ -68,7 +84,8 @@ uploads_at setup v c l q h u keeps =
       };
       carries = record {
         upload = h.carries.upload ++ u.origin_took.0;
-        text = ap (λ (x : List ℕ). l.taken ++ x) h.no_waits ∙ append-nil l.taken ∙ u.origin_took.1 ∙ ap (λ (x : List ℕ). x ++ u.origin_took.0) before
+        text = ap (λ (x : List ℕ). l.taken ++ x) h.no_waits ∙ append-nil l.taken ∙ u.origin_took.1
+            ∙ ap (λ (x : List ℕ). x ++ u.origin_took.0) before
             ∙ append_assoc text h.carries.upload u.origin_took.0;
         behind = λ some. absurd (some h.no_waits);
       };
@@ -80,8 +97,13 @@ module _ (setup : Setup) (ct ot : Bool) (refuses : List ℕ → Type 0) (v w : V
   -- some of it was moved
   pub uploads_on : (answer : Uploaded) → MovesUpload ct ot refuses answer v w → Uploading setup w q
   uploads_on answer m =
-      let all = m.others ∙ ap (λ (s : LinkSide). record v { client = record v.client { look = w.client.look }; origin = s }) m.moves.others in
-      subst (λ (x : View). Uploading setup x q) (sym all) (uploads_at setup v w.client.look w.origin.look q h (m.moves.bytes client origin) m.moves.keeps)
+      let all = m.others ∙ ap (λ (s : LinkSide). record v {
+        client =
+            record v.client { look = w.client.look };
+        origin = s;
+      }) m.moves.others in
+      subst (λ (x : View). Uploading setup x q) (sym all) (uploads_at setup v w.client.look w.origin.look q h
+      (m.moves.bytes client origin) m.moves.keeps)
 
   -- all of it was
   pub uploaded : MovesUpload ct ot refuses U.Done v w → Awaits setup (refuses v.client.look.source) w q
@@ -89,13 +111,21 @@ module _ (setup : Setup) (ct ot : Bool) (refuses : List ℕ → Type 0) (v w : V
       let now = uploads_on U.Done m in
       record {
         waits = now.unanswered.waits;
-        served = record { goes = now.unanswered.goes; accepts = m.moves.causes.refusal client; count = now.unanswered.count; carries = now.carries; no_waits = now.no_waits };
+        served = record {
+          goes = now.unanswered.goes;
+          accepts = m.moves.causes.refusal client;
+          count =
+              now.unanswered.count;
+          carries = now.carries;
+          no_waits = now.no_waits;
+        };
         passed = record { interims = []; after = now.unanswered.no_given ∙ sym now.unanswered.no_held };
         held = none_held w.origin.inbox now.unanswered.no_held;
       }
 
   -- it is refused
-  pub upload_refused : (a : OwnAnswer) → MovesUpload ct ot refuses U.Refused v w → a ≡ record { status = O.BadRequest; to_head = asks_head q.head; end = E.Whole }
+  pub upload_refused : (a : OwnAnswer) → MovesUpload ct ot refuses U.Refused v w
+      → a ≡ record { status = O.BadRequest; to_head = asks_head q.head; end = E.Whole }
       → OwnReady setup (refuses v.client.look.source) w a
   upload_refused a m same =
       let now = uploads_on U.Refused m in
@@ -104,32 +134,39 @@ module _ (setup : Setup) (ct ot : Bool) (refuses : List ℕ → Type 0) (v w : V
       (record {
         waits = now.unanswered.waits;
         cause = decided text
-            (gone_block setup w.dialed (refuses v.client.look.source) (all_of w.origin.look) (all_of w.client.look) q (own_block setup text O.BadRequest (asks_head q.head))
+            (gone_block setup w.dialed (refuses v.client.look.source) (all_of w.origin.look)
+            (all_of w.client.look) q (own_block setup text O.BadRequest (asks_head q.head))
             now.unanswered.goes (inl (m.moves.causes.refusal client, refl)))
             refl (took_request setup q w.origin now.carries now.no_waits);
         took = facts.request q now.unanswered.goes now.carries;
       })
 
-  upload_any : (answer : Uploaded) → MovesUpload ct ot refuses answer v w → AnyEnd setup (refuses v.client.look.source) w
+  upload_any : (answer : Uploaded) → MovesUpload ct ot refuses answer v w
+      → AnyEnd setup (refuses v.client.look.source) w
   upload_any answer m =
       let now = uploads_on answer m in
       unanswered_any setup (refuses v.client.look.source) w q now.unanswered now.carries
 
   -- the client's link failed
-  pub upload_client_fault : MovesUpload ct ot refuses U.ClientFailed v w → EndFact setup (refuses v.client.look.source) w E.ClientFault
+  pub upload_client_fault : MovesUpload ct ot refuses U.ClientFailed v w
+      → EndFact setup (refuses v.client.look.source) w E.ClientFault
   upload_client_fault m =
-      let rose : Rose v.client.base w.client.look.faults = failed v.client.base v.client.look.faults w.client.look.faults m.moves.causes.counts h.unanswered.waits.count in
+      let rose : Rose v.client.base w.client.look.faults = failed v.client.base v.client.look.faults
+      w.client.look.faults m.moves.causes.counts h.unanswered.waits.count in
       client_fails setup (refuses v.client.look.source) w (upload_any U.ClientFailed m)
       (subst (λ (x : View). HasFailed x.client) (sym m.others) rose)
 
   -- the origin's link failed
   pub upload_origin_fault : (a : OwnAnswer) → MovesUpload ct ot refuses U.OriginFailed v w
-      → a ≡ record { status = O.BadGateway; to_head = asks_head q.head; end = E.OriginFault } → OwnReady setup (refuses v.client.look.source) w a
+      → a ≡ record { status = O.BadGateway; to_head = asks_head q.head; end = E.OriginFault }
+      → OwnReady setup (refuses v.client.look.source) w a
   upload_origin_fault a m same =
-      let rose : Rose v.origin.base w.origin.look.faults = failed v.origin.base v.origin.look.faults w.origin.look.faults m.moves.causes.counts h.unanswered.count in
+      let rose : Rose v.origin.base w.origin.look.faults = failed v.origin.base v.origin.look.faults
+      w.origin.look.faults m.moves.causes.counts h.unanswered.count in
       let now = uploads_on U.OriginFailed m in
       faulty setup (refuses v.client.look.source) w q a now.unanswered now.carries
       (subst (λ (s : LinkSide). HasFailed s) (sym m.moves.others) rose) same
 
-  pub upload_lacks : MovesUpload ct ot refuses U.NoMemory v w → EndFact setup (refuses v.client.look.source) w E.NoMemory
+  pub upload_lacks : MovesUpload ct ot refuses U.NoMemory v w
+      → EndFact setup (refuses v.client.look.source) w E.NoMemory
   upload_lacks m = lacks_memory setup (refuses v.client.look.source) w (upload_any U.NoMemory m)

@@ -4,16 +4,16 @@ use Rattle.ts_upstream.specs.declared.upstream.Uploaded.TheVariants as U
 use Rattle.ts_vconn.specs.declared.moves.Pulled.TheVariants as L
 use Rattle.ts_vconn.specs.declared.moves.Pushed.TheVariants as V
 use Rattle.ts_phases.specs.View.{View}
-use Rattle.ts_phases.specs.Moving.{HearsRequest, HearsResponse, MovesUpload, WritesClient, WritesOrigin}
+use Rattle.ts_phases.specs.Moving.{SeeksRequest, SeeksResponse, MovesUpload, WritesClient, WritesOrigin}
 use Rattle.ts_phases.specs.Steps.{WaitsRightly}
 use Rattle.ts_phases.specs.declared.phase.Next.TheVariants as N
 use Rattle.ts_phases.specs.declared.head_reader.Found.TheVariants as F
 
 module _ (t : Bool) (v w : View) where
-  pub asked_waits : HearsRequest t v w (F.Read L.Again) → WaitsRightly N.Wait v w
+  pub asked_waits : SeeksRequest t v w (F.Read L.Again) → WaitsRightly N.Wait v w
   asked_waits hears = inl hears.finds.1.pulls.pulls.calls.waits
 
-  pub heard_waits : HearsResponse t v w (F.Read L.Again) → WaitsRightly N.Wait v w
+  pub heard_waits : SeeksResponse t v w (F.Read L.Again) → WaitsRightly N.Wait v w
   heard_waits hears = inr hears.finds.1.pulls.pulls.calls.waits
 
   pub client_waits : WritesClient t v w V.Again → WaitsRightly N.Wait v w
@@ -23,5 +23,6 @@ module _ (t : Bool) (v w : View) where
   origin_waits writes = inr writes.origin.pushes.calls.waits
 
 -- an upload says it as it stands
-pub upload_waits : (ct ot : Bool) (refuses : List ℕ → Type 0) (v w : View) → MovesUpload ct ot refuses U.Again v w → WaitsRightly N.Wait v w
+pub upload_waits : (ct ot : Bool) (refuses : List ℕ → Type 0) (v w : View)
+    → MovesUpload ct ot refuses U.Again v w → WaitsRightly N.Wait v w
 upload_waits ct ot refuses v w moved = moved.moves.causes.counts

@@ -1,5 +1,5 @@
 -- What holds of a transaction by its phase, where its links tell, and what a step keeps.
-use Rattle.std.specs.Prelude.{◌≡◌, List, ℕ, Bool, true}
+use Rattle.std.specs.Prelude.{◌≡◌, Bool, true}
 use Rattle.std.specs.Arc.{arc_value}
 use Rattle.ts_config.specs.declared.setup.Setup.{Setup}
 use Rattle.ts_link.specs.Link.{Look}
@@ -7,7 +7,8 @@ use Rattle.ts_link.specs.declared.link.Link as link
 use Rattle.ts_upstream.specs.declared.upstream.Upstream as upstream
 use Rattle.ts_upstream.specs.Uploads.{SameRefusal}
 use Rattle.ts_phases.specs.View.{IsPaired, OriginRefuses, View, is_dialed, refuses_if, side_if, view_of}
-use Rattle.ts_phases.specs.Facts.{IsAllowed, Asking, Awaits, PassesCheck, OwnReady, OwnSends, Relays, SendingRequest, Uploading}
+use Rattle.ts_phases.specs.Facts.{IsAllowed, Asking, Awaits, PassesCheck, OwnReady, OwnSends, Relays}
+use Rattle.ts_phases.specs.Facts.{SendingRequest, Uploading}
 use Rattle.ts_phases.specs.Ends.{EndFact}
 use Rattle.ts_phases.specs.declared.parts.Core.{Core}
 use Rattle.ts_phases.specs.declared.phase.Phase.{Phase}
@@ -60,7 +61,8 @@ pub record StepKeeps {C O : Type 0} (client_link : link.Ghosts C) (origin_link :
   pub setup : new.setup ≡ old.setup
   pub plugins_at : new.plugins_at ≡ old.plugins_at
   pub client : IsSameLink (client_link.look old.client.link) (client_link.look new.client.link)
-  pub origin : IsSameLink (side_if origin_link.look old.origin).look (side_if origin_link.look new.origin).look
+  pub origin : IsSameLink (side_if origin_link.look old.origin).look
+      (side_if origin_link.look new.origin).look
   pub client_base : new.client.base ≡ old.client.base
   pub origin_base : (side_if origin_link.look new.origin).base ≡ (side_if origin_link.look old.origin).base
   pub dialed : is_dialed new.origin ≡ is_dialed old.origin

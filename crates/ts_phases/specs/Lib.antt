@@ -6,6 +6,7 @@ pub mod Fronts
 pub mod Holding
 pub mod Lowering
 pub mod Moving
+pub mod Owed
 pub mod RelayMoves
 pub mod Steps
 pub mod View

@@ -66,35 +66,28 @@ QueuesOn look text old new =
     (is_dialed new ≡ is_dialed old) × GoesIf (λ k l. l ≡ k) old new
     × (side_if look new ≡ record (side_if look old) { outbox = (side_if look old).outbox ++ text })
 
--- What came of looking for a head at the front of what a link gave: a head is taken away from that; none can
--- come; or none is there yet, and one read was made, to no more than the most that a head is long.
-abbrev pub SeeksRequest : Bool → LinkSide → LinkSide → Found RequestHead → Type 0
-SeeksRequest tells old new (F.Head head) =
-    HasRequest old.inbox head new.inbox × (length new.inbox < length old.inbox)
+-- What came of looking for a head at the front of what a link gave, which bytes have or lack as is said here:
+-- a head is taken away from there; none can come; or none is there yet, and one read was made, to no more
+-- than
+-- the most that a head is long.
+abbrev pub Seeks : {H : Type 0} → (List ℕ → H → List ℕ → Type 0) → (List ℕ → Type 0)
+    → Bool → LinkSide → LinkSide → Found H → Type 0
+Seeks has lacks tells old new (F.Head head) =
+    has old.inbox head new.inbox × (length new.inbox < length old.inbox)
     × (new ≡ record old { inbox = new.inbox })
-SeeksRequest tells old new F.Never =
-    ((more : List ℕ) → LacksRequest (old.inbox ++ more)) × (new ≡ old)
-SeeksRequest tells old new (F.Read answer) =
-    LacksRequest old.inbox × SideReads tells old new answer × (length new.inbox ≤ head_limit)
-SeeksRequest tells old new F.NoMemory = new ≡ old
+Seeks has lacks tells old new F.Never = ((more : List ℕ) → lacks (old.inbox ++ more)) × (new ≡ old)
+Seeks has lacks tells old new (F.Read answer) =
+    lacks old.inbox × SideReads tells old new answer × (length new.inbox ≤ head_limit)
+Seeks has lacks tells old new F.NoMemory = new ≡ old
 
-abbrev pub SeeksResponse : Bool → LinkSide → LinkSide → Found ResponseHead → Type 0
-SeeksResponse tells old new (F.Head head) =
-    HasResponse old.inbox head new.inbox × (length new.inbox < length old.inbox)
-    × (new ≡ record old { inbox = new.inbox })
-SeeksResponse tells old new F.Never =
-    ((more : List ℕ) → LacksResponse (old.inbox ++ more)) × (new ≡ old)
-SeeksResponse tells old new (F.Read answer) =
-    LacksResponse old.inbox × SideReads tells old new answer × (length new.inbox ≤ head_limit)
-SeeksResponse tells old new F.NoMemory = new ≡ old
-
--- the same of a transaction's two sides
-pub record HearsRequest (tells : Bool) (v w : View) (found : Found RequestHead) : Type 0 where
-  pub finds : SeeksRequest tells v.client w.client found
+-- the head of a request was looked for on the client's side of a transaction, that of a response on the
+-- origin's
+pub record SeeksRequest (tells : Bool) (v w : View) (found : Found RequestHead) : Type 0 where
+  pub finds : Seeks HasRequest LacksRequest tells v.client w.client found
   pub others : w ≡ record v { client = w.client }
 
-pub record HearsResponse (tells : Bool) (v w : View) (found : Found ResponseHead) : Type 0 where
-  pub finds : SeeksResponse tells v.origin w.origin found
+pub record SeeksResponse (tells : Bool) (v w : View) (found : Found ResponseHead) : Type 0 where
+  pub finds : Seeks HasResponse LacksResponse tells v.origin w.origin found
   pub others : w ≡ record v { origin = w.origin }
 
 -- the head of a request was queued for the origin

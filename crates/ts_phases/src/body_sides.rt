@@ -4,7 +4,8 @@ ghost use Rattle.ts_wire.specs.Frames.{IsPiece, end_of, frame_of};
 ghost use Rattle.ts_vconn.specs.declared.moves.TheConstants.{MOST_PULLED};
 ghost use Rattle.ts_phases.specs.View.{GoesIf, is_dialed, side_if, view_of};
 ghost use Rattle.ts_phases.specs.Moving.{SideReads};
-ghost use Rattle.ts_phases.specs.RelayMoves.{AddsText, FramesEnd, FramesPiece, QueuesHead, QueuesNothing, ReadsOrigin};
+ghost use Rattle.ts_phases.specs.RelayMoves.{AddsText, FramesEnd, FramesPiece, QueuesHead, QueuesNothing};
+ghost use Rattle.ts_phases.specs.RelayMoves.{ReadsOrigin};
 ghost use Rattle.ts_phases.specs.Holding.{StepKeeps};
 
 use crate::parts::{Core, Peer, Sent};

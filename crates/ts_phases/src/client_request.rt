@@ -1,18 +1,16 @@
 //! The phase in which the client's request head is read and checked.
 ghost use Rattle.std.specs.Prelude.{◌≡◌, IfOk};
 ghost use Rattle.ts_phases.specs.Lowering.{StepFallsFrom};
+ghost use Rattle.ts_phases.specs.Owed.{StepOwes};
 ghost use Rattle.ts_phases.specs.Cover.{StepLeads};
-ghost use Rattle.ts_phases.specs.Holding.{IfTold, PhaseHolds, HoldsAfter, StepKeeps};
-ghost use Rattle.ts_phases.specs.Steps.{LeavesOrigin, MindsLinks, WaitsRightly};
-ghost use Rattle.ts_phases.specs.View.{view_of};
+ghost use Rattle.ts_phases.specs.Holding.{PhaseHolds, HoldsAfter};
 ghost use Rattle.ts_phases.specs.Checking.{IsCheckedAs};
 
-use ts_block::OwnStatus;
+use crate::head_reader::Found;
 use crate::parts::Core;
 use crate::phase::{Next, OwnAnswer, Phase, Request, Step};
-use crate::head_reader::Found;
-use ts_block::asks_head;
 use std::alloc::Global;
+use ts_block::{OwnStatus, asks_head};
 use ts_hooks::TxnEnd;
 use ts_link::{Link, NoMemory};
 use ts_upstream::Upstream;
@@ -62,21 +60,16 @@ fn check(alloc: Global, head: RequestHead) -> Result<Checked, NoMemory>
 
 impl<C: Link, O: Upstream<C>> Core<C, O> {
     /// Looks for the request's head in what the client gave, and checks it, or reads on.
-    #[tactic(auto, using(crate::proofs::Waiting::asked_waits, crate::proofs::Leaving::asked_leaves, crate::proofs::Minding::heard_request, crate::proofs::Minding::lost_client, crate::proofs::Minding::late_client, crate::proofs::LoweringAnswers::asks_some, crate::proofs::LoweringAnswers::asks_wait, crate::proofs::LoweringAnswers::asks_own, crate::proofs::LoweringAnswers::asks_close, crate::proofs::LoweringAnswers::asks_end))]
-    pub fn read_request(&mut self) -> Step
+    pub(crate) fn read_request(&mut self) -> Step
         requires fact { PhaseHolds C.Link O.Link O.Upstream.own self.old Phase.ReadRequest }
         ensures leads { StepLeads result }
         ensures fact { HoldsAfter C.Link O.Link O.Upstream.own self.old self.new result }
-        ensures minds { MindsLinks (view_of C.Link O.Link self.old) (view_of C.Link O.Link self.new) result }
-        ensures leaves { IfTold C.tells O.tells
-            (LeavesOrigin (view_of C.Link O.Link self.old) (view_of C.Link O.Link self.new)) }
+        ensures owes { StepOwes C.Link O.Link O.Upstream.own self.old self.new
+            Phase.ReadRequest result }
         ensures falls { StepFallsFrom C.Link O.Link O.Upstream.own self.old self.new
             Phase.ReadRequest result }
-        ensures keeps { StepKeeps C.Link O.Link O.Upstream.own self.old self.new }
-        ensures waits { WaitsRightly result.next
-            (view_of C.Link O.Link self.old) (view_of C.Link O.Link self.new) }
     {
-        match self.hear_request() {
+        match self.seek_request() {
             Found::Head(head) => match check(self.alloc, head) {
                 Ok(Checked::Pass(request)) => Step {
                     phase: Phase::ReadRequestHdr { request },

@@ -1,8 +1,10 @@
 //! Looks for a head at the front of what a link gave, and reads on where none is there yet.
 ghost use Rattle.std.specs.Prelude.{◌≡◌, ◌≢◌, ◌<◌, [], ◌++◌, List, ℕ, length, IfOk};
+ghost use Rattle.ts_wire.specs.Heads.{LacksRequest, LacksResponse};
+ghost use Rattle.ts_block.specs.Heads.{HasRequest, HasResponse};
 ghost use Rattle.ts_phases.specs.View.{GoesIf, side, side_if};
-ghost use Rattle.ts_phases.specs.Moving.{SeeksRequest, SeeksResponse};
-ghost use Rattle.ts_phases.specs.Fronts.{HasFrontRequest, HasFrontResponse, FindsRead};
+ghost use Rattle.ts_phases.specs.Moving.{Seeks};
+ghost use Rattle.ts_phases.specs.Fronts.{HasFront, FindsRead};
 
 use crate::parts::Peer;
 use std::alloc::Global;
@@ -26,7 +28,7 @@ pub enum Found<H> {
 
 /// What stands at the front of the bytes that wait.
 fn front_request(alloc: Global, inbox: &Waiting) -> Result<Read<RequestHead>, NoMemory>
-    ensures { IfOk result (HasFrontRequest inbox.now) }
+    ensures { IfOk result (HasFront HasRequest LacksRequest inbox.now) }
 {
     let mut bytes = Vec::new(alloc);
     inbox.gather(inbox.len(), &mut bytes)?;
@@ -36,7 +38,7 @@ fn front_request(alloc: Global, inbox: &Waiting) -> Result<Read<RequestHead>, No
 
 /// The same of a response.
 fn front_response(alloc: Global, inbox: &Waiting) -> Result<Read<ResponseHead>, NoMemory>
-    ensures { IfOk result (HasFrontResponse inbox.now) }
+    ensures { IfOk result (HasFront HasResponse LacksResponse inbox.now) }
 {
     let mut bytes = Vec::new(alloc);
     inbox.gather(inbox.len(), &mut bytes)?;
@@ -58,8 +60,9 @@ fn read_on<L: Link, H>(peer: &mut Peer<L>) -> Found<H>
 }
 
 /// Takes the head of a request from the front of what the link gave, or reads on.
-pub fn next_request<L: Link>(alloc: Global, peer: &mut Peer<L>) -> Found<RequestHead>
-    ensures found { SeeksRequest L.tells (side L.look peer.old) (side L.look peer.new) result }
+pub(crate) fn seek_request<L: Link>(alloc: Global, peer: &mut Peer<L>) -> Found<RequestHead>
+    ensures found { Seeks HasRequest LacksRequest L.tells
+        (side L.look peer.old) (side L.look peer.new) result }
     ensures goes { L.goes peer.old.link peer.new.link }
 {
     let Ok(front) = front_request(alloc, &peer.inbox) else {
@@ -77,8 +80,9 @@ pub fn next_request<L: Link>(alloc: Global, peer: &mut Peer<L>) -> Found<Request
 }
 
 /// Takes the head of a response from the front of what the link gave, or reads on.
-fn next_response<L: Link>(alloc: Global, peer: &mut Peer<L>) -> Found<ResponseHead>
-    ensures found { SeeksResponse L.tells (side L.look peer.old) (side L.look peer.new) result }
+fn seek_response<L: Link>(alloc: Global, peer: &mut Peer<L>) -> Found<ResponseHead>
+    ensures found { Seeks HasResponse LacksResponse L.tells
+        (side L.look peer.old) (side L.look peer.new) result }
     ensures goes { L.goes peer.old.link peer.new.link }
 {
     let Ok(front) = front_response(alloc, &peer.inbox) else {
@@ -96,12 +100,16 @@ fn next_response<L: Link>(alloc: Global, peer: &mut Peer<L>) -> Found<ResponseHe
 }
 
 /// The same for the origin's link; where there is no origin, it is as if memory lacked.
-pub fn next_response_if<L: Link>(alloc: Global, origin: &mut Option<Peer<L>>) -> Found<ResponseHead>
-    ensures found { SeeksResponse L.tells (side_if L.look origin.old) (side_if L.look origin.new) result }
+pub(crate) fn seek_response_if<L: Link>(
+    alloc: Global,
+    origin: &mut Option<Peer<L>>,
+) -> Found<ResponseHead>
+    ensures found { Seeks HasResponse LacksResponse L.tells
+        (side_if L.look origin.old) (side_if L.look origin.new) result }
     ensures goes { GoesIf L.goes origin.old origin.new }
 {
     match origin {
-        Some(peer) => next_response(alloc, peer),
+        Some(peer) => seek_response(alloc, peer),
         None => Found::NoMemory,
     }
 }

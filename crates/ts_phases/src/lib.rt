@@ -1,4 +1,4 @@
-//! The phases of a transaction up to the head of its answer: what it reads and writes at its two sides, step by step.
+//! The phases of a transaction up to the head of its answer: what each reads and writes at its two sides.
 #![tactic(auto)]
 
 mod body_sides;

@@ -5,19 +5,16 @@ ghost use Rattle.ts_wire.specs.Check.{plugin_host};
 ghost use Rattle.ts_block.specs.Rules.{is_denied};
 ghost use Rattle.ts_block.specs.Relayed.{asks_head};
 ghost use Rattle.ts_block.specs.Block.{request_text};
-ghost use Rattle.ts_phases.specs.View.{IsPaired, refuses_if, upload_of, view_of};
-ghost use Rattle.ts_phases.specs.Steps.{LeavesClient, MindsLinks, UploadsOnce, WaitsRightly};
+ghost use Rattle.ts_phases.specs.View.{IsPaired};
 ghost use Rattle.ts_phases.specs.Lowering.{StepFallsFrom};
+ghost use Rattle.ts_phases.specs.Owed.{StepOwes};
 ghost use Rattle.ts_phases.specs.Cover.{StepLeads};
-ghost use Rattle.ts_phases.specs.Holding.{IfTold, PhaseHolds, HoldsAfter, StepKeeps};
+ghost use Rattle.ts_phases.specs.Holding.{PhaseHolds, HoldsAfter};
 
-use ts_block::request_text;
-use ts_block::OwnStatus;
 use crate::parts::Core;
 use crate::phase::{Next, OwnAnswer, Phase, Request, Step};
-use ts_block::asks_head;
-use ts_block::is_denied;
 use std::alloc::Global;
+use ts_block::{OwnStatus, asks_head, is_denied, request_text};
 use ts_config::Setup;
 use ts_hooks::TxnEnd;
 use ts_link::{Link, NoMemory, Octets};
@@ -44,7 +41,7 @@ fn head_for_origin(alloc: Global, setup: &Setup, request: &Request) -> Result<Oc
 }
 
 /// The answer of this status to a request, and the end after it.
-pub fn answer_to(request: &Request, status: OwnStatus, end: TxnEnd) -> OwnAnswer
+pub(crate) fn answer_to(request: &Request, status: OwnStatus, end: TxnEnd) -> OwnAnswer
     ensures { result ≡ record { status = status; to_head = asks_head request.now.head; end = end } }
 {
     OwnAnswer {
@@ -56,15 +53,14 @@ pub fn answer_to(request: &Request, status: OwnStatus, end: TxnEnd) -> OwnAnswer
 
 impl<C: Link, O: Upstream<C>> Core<C, O> {
     /// Denies the request, or finds that it has no origin.
-    #[tactic(auto, using(crate::proofs::Going::denied, crate::proofs::Going::not_dialed, crate::proofs::Going::allowed, crate::proofs::Going::checked_any, crate::proofs::Asks::lacks_memory, crate::proofs::LoweringStands::still_end, crate::proofs::LoweringStands::denied_lowers, crate::proofs::LoweringStands::allowed_lowers))]
-    pub fn os_dns(&self, request: Request) -> Step
+    pub(crate) fn os_dns(&self, request: Request) -> Step
         requires fact { PhaseHolds C.Link O.Link O.Upstream.own self.now (Phase.OsDns request) }
         ensures leads { StepLeads result }
         ensures fact { HoldsAfter C.Link O.Link O.Upstream.own self.now self.now result }
+        ensures owes { StepOwes C.Link O.Link O.Upstream.own self.now self.now
+            (Phase.OsDns request) result }
         ensures falls { StepFallsFrom C.Link O.Link O.Upstream.own self.now self.now
             (Phase.OsDns request) result }
-        ensures waits { WaitsRightly result.next
-            (view_of C.Link O.Link self.now) (view_of C.Link O.Link self.now) }
     {
         let Ok(denied) = is_host_denied(self.alloc, &self.setup, &request) else {
             return Step::LACKS;
@@ -90,20 +86,15 @@ impl<C: Link, O: Upstream<C>> Core<C, O> {
     }
 
     /// Queues the request's head for the origin.
-    #[tactic(auto, using(crate::proofs::Sparing::still_spares, crate::proofs::Sparing::asked_spares, crate::proofs::Minding::stood, crate::proofs::Minding::queued_request, crate::proofs::Going::queued, crate::proofs::Going::allowed_any, crate::proofs::Asks::lacks_memory, crate::proofs::LoweringAnswers::queues_request, crate::proofs::LoweringAnswers::stands_end))]
-    pub fn send_request_hdr(&mut self, request: Request) -> Step
+    pub(crate) fn send_request_hdr(&mut self, request: Request) -> Step
         requires fact { PhaseHolds C.Link O.Link O.Upstream.own self.old
             (Phase.SendRequestHdr request) }
         ensures leads { StepLeads result }
         ensures fact { HoldsAfter C.Link O.Link O.Upstream.own self.old self.new result }
-        ensures minds { MindsLinks (view_of C.Link O.Link self.old) (view_of C.Link O.Link self.new) result }
-        ensures spares { IfTold C.tells O.tells
-            (LeavesClient (view_of C.Link O.Link self.old) (view_of C.Link O.Link self.new)) }
+        ensures owes { StepOwes C.Link O.Link O.Upstream.own self.old self.new
+            (Phase.SendRequestHdr request) result }
         ensures falls { StepFallsFrom C.Link O.Link O.Upstream.own self.old self.new
             (Phase.SendRequestHdr request) result }
-        ensures keeps { StepKeeps C.Link O.Link O.Upstream.own self.old self.new }
-        ensures waits { WaitsRightly result.next
-            (view_of C.Link O.Link self.old) (view_of C.Link O.Link self.new) }
     {
         let Ok(text) = head_for_origin(self.alloc, &self.setup, &request) else {
             return Step::LACKS;
@@ -118,20 +109,15 @@ impl<C: Link, O: Upstream<C>> Core<C, O> {
     }
 
     /// Writes once of the request's head.
-    #[tactic(auto, using(crate::proofs::Sparing::sent_spares, crate::proofs::Waiting::origin_waits, crate::proofs::Minding::wrote_origin, crate::proofs::Minding::origin_left, crate::proofs::Minding::full_origin, crate::proofs::Going::writes_on, crate::proofs::Going::written, crate::proofs::Going::write_fault, crate::proofs::Going::sends_any, crate::proofs::Asks::lacks_memory, crate::proofs::LoweringAnswers::writes_some, crate::proofs::LoweringAnswers::writes_wait, crate::proofs::LoweringAnswers::writes_all, crate::proofs::LoweringAnswers::writes_own, crate::proofs::LoweringAnswers::writes_end))]
-    pub fn send_request(&mut self, request: Request) -> Step
+    pub(crate) fn send_request(&mut self, request: Request) -> Step
         requires fact { PhaseHolds C.Link O.Link O.Upstream.own self.old
             (Phase.SendRequest request) }
         ensures leads { StepLeads result }
         ensures fact { HoldsAfter C.Link O.Link O.Upstream.own self.old self.new result }
-        ensures minds { MindsLinks (view_of C.Link O.Link self.old) (view_of C.Link O.Link self.new) result }
-        ensures spares { IfTold C.tells O.tells
-            (LeavesClient (view_of C.Link O.Link self.old) (view_of C.Link O.Link self.new)) }
+        ensures owes { StepOwes C.Link O.Link O.Upstream.own self.old self.new
+            (Phase.SendRequest request) result }
         ensures falls { StepFallsFrom C.Link O.Link O.Upstream.own self.old self.new
             (Phase.SendRequest request) result }
-        ensures keeps { StepKeeps C.Link O.Link O.Upstream.own self.old self.new }
-        ensures waits { WaitsRightly result.next
-            (view_of C.Link O.Link self.old) (view_of C.Link O.Link self.new) }
     {
         match self.write_origin() {
             Pushed::Some(_) => Step {
@@ -158,21 +144,15 @@ impl<C: Link, O: Upstream<C>> Core<C, O> {
     }
 
     /// Moves some of the upload that follows the request's head.
-    #[tactic(auto, using(crate::proofs::Waiting::upload_waits, crate::proofs::LoweringLeads::uploads_lower))]
-    pub fn upload_some(&mut self, request: Request) -> Step
+    pub(crate) fn upload_some(&mut self, request: Request) -> Step
         requires fact { PhaseHolds C.Link O.Link O.Upstream.own self.old (Phase.Upload request) }
         requires pair { IsPaired O.Upstream.own self.old }
         ensures leads { StepLeads result }
         ensures fact { HoldsAfter C.Link O.Link O.Upstream.own self.old self.new result }
-        ensures uploads { UploadsOnce C.tells O.tells (refuses_if O.refuses self.old.origin) request
-            (upload_of O.Upstream.own self.old)
-            (upload_of O.Upstream.own self.new)
-            (view_of C.Link O.Link self.old) (view_of C.Link O.Link self.new) result }
+        ensures owes { StepOwes C.Link O.Link O.Upstream.own self.old self.new
+            (Phase.Upload request) result }
         ensures falls { StepFallsFrom C.Link O.Link O.Upstream.own self.old self.new
             (Phase.Upload request) result }
-        ensures keeps { StepKeeps C.Link O.Link O.Upstream.own self.old self.new }
-        ensures waits { WaitsRightly result.next
-            (view_of C.Link O.Link self.old) (view_of C.Link O.Link self.new) }
     {
         match self.upload() {
             Uploaded::Done => Step {

@@ -13,7 +13,7 @@ use ts_vconn::{Pulled, Pushed, pull_waiting, push_waiting};
 impl<L: Link> Peer<L> {
     /// Makes one read of the link, of at most so many bytes.
     #[tactic(auto, using(crate::proofs::OneSide::few_pulled))]
-    pub fn pull(&mut self, most: usize) -> Result<Pulled, NoMemory>
+    pub(crate) fn pull(&mut self, most: usize) -> Result<Pulled, NoMemory>
         requires { (1 ≤ most) × (most ≤ MOST_PULLED) }
         ensures moved { IfOk result
             (λ p. SideReads L.tells (side L.look self.old) (side L.look self.new) p) }
@@ -25,7 +25,7 @@ impl<L: Link> Peer<L> {
     }
 
     /// Makes one write of what waits for the link.
-    pub fn push(&mut self) -> Pushed
+    pub(crate) fn push(&mut self) -> Pushed
         ensures moved { SideWrites L.tells (side L.look self.old) (side L.look self.new) result }
         ensures goes { L.goes self.old.link self.new.link }
     {
@@ -34,7 +34,7 @@ impl<L: Link> Peer<L> {
 }
 
 /// Makes one write of what waits for the origin's link: nothing, where there is no origin.
-pub fn push_origin<L: Link>(origin: &mut Option<Peer<L>>) -> Pushed
+pub(crate) fn push_origin<L: Link>(origin: &mut Option<Peer<L>>) -> Pushed
     ensures moved { SideWrites L.tells (side_if L.look origin.old) (side_if L.look origin.new) result }
     ensures goes { GoesIf L.goes origin.old origin.new }
 {
@@ -46,7 +46,7 @@ pub fn push_origin<L: Link>(origin: &mut Option<Peer<L>>) -> Pushed
 
 /// Moves some of the upload of a request; where there is no origin, it is as if memory lacked.
 #[tactic(auto, using(crate::proofs::LoweringUpload::none_stays))]
-pub fn move_upload<C: Link, O: Upstream<C>>(
+pub(crate) fn move_upload<C: Link, O: Upstream<C>>(
     client: &mut C,
     origin: &mut Option<Peer<O>>,
 ) -> Uploaded
@@ -68,7 +68,7 @@ pub fn move_upload<C: Link, O: Upstream<C>>(
 }
 
 /// Queues a text for the origin's link; where there is no origin, it is as if memory lacked.
-pub fn queue_if<L: Link>(origin: &mut Option<Peer<L>>, text: &[u8]) -> Result<(), NoMemory>
+pub(crate) fn queue_if<L: Link>(origin: &mut Option<Peer<L>>, text: &[u8]) -> Result<(), NoMemory>
     ensures ok { OnOk result (QueuesOn L.look text.now origin.old origin.new) }
     ensures err { OnErr result (origin.new ≡ origin.old) }
 {

@@ -15,7 +15,7 @@ pub struct Request {
 
 /// An answer of the proxy's own: its status, whether it goes without its body, as to a HEAD request, and how
 /// the transaction ends once it is sent.
-#[derive(Clone, Copy, Debug, PartialEq, Eq)]
+#[derive(Clone, Copy)]
 pub struct OwnAnswer {
     pub status: OwnStatus,
     pub to_head: bool,
@@ -83,7 +83,7 @@ impl Phase {
 }
 
 /// What the driver does after a step.
-#[derive(Clone, Copy, Debug, PartialEq, Eq)]
+#[derive(Clone, Copy)]
 pub enum Next {
     /// The next step is made at once.
     Go,

@@ -2,15 +2,16 @@
 //! and a choice by its answer.
 ghost use Rattle.std.specs.Prelude.{◌≡◌, IfOk, OnOk, OnErr};
 ghost use Rattle.ts_phases.specs.View.{IsPaired, refuses_if, upload_of, view_of};
-ghost use Rattle.ts_phases.specs.Moving.{cuts_of, HearsRequest, HearsResponse, LowersUpload, MovesUpload, QueuesOwn, QueuesRequest, WritesClient, WritesOrigin};
+ghost use Rattle.ts_phases.specs.Moving.{cuts_of, SeeksRequest, SeeksResponse, LowersUpload, MovesUpload};
+ghost use Rattle.ts_phases.specs.Moving.{QueuesOwn, QueuesRequest, WritesClient, WritesOrigin};
 ghost use Rattle.ts_phases.specs.Holding.{StepKeeps};
 ghost use Rattle.ts_phases.specs.Lowering.{RaisesUpload};
 
-use ts_block::joined;
+use crate::head_reader::{Found, seek_request, seek_response_if};
 use crate::parts::{Core, Sent};
 use crate::peers::{move_upload, push_origin, queue_if};
-use crate::head_reader::{Found, next_request, next_response_if};
 use std::alloc::Global;
+use ts_block::joined;
 use ts_link::{Link, NoMemory};
 use ts_upstream::{Uploaded, Upstream};
 use ts_vconn::Pushed;
@@ -33,23 +34,23 @@ fn cuts_of(alloc: Global, body: &[u8]) -> Result<Vec<u32>, NoMemory>
 
 impl<C: Link, O: Upstream<C>> Core<C, O> {
     /// Takes the head of a request from the front of what the client gave, or reads on.
-    pub fn hear_request(&mut self) -> Found<RequestHead>
-        ensures hears { HearsRequest C.tells
+    pub(crate) fn seek_request(&mut self) -> Found<RequestHead>
+        ensures seeks { SeeksRequest C.tells
             (view_of C.Link O.Link self.old) (view_of C.Link O.Link self.new) result }
         ensures rises { RaisesUpload O.Link O.Upstream.own self.old self.new }
         ensures keeps { StepKeeps C.Link O.Link O.Upstream.own self.old self.new }
     {
-        next_request(self.alloc, &mut self.client)
+        seek_request(self.alloc, &mut self.client)
     }
 
     /// Takes the head of a response from the front of what the origin gave, or reads on.
-    pub fn hear_response(&mut self) -> Found<ResponseHead>
-        ensures hears { HearsResponse O.tells
+    pub(crate) fn seek_response(&mut self) -> Found<ResponseHead>
+        ensures seeks { SeeksResponse O.tells
             (view_of C.Link O.Link self.old) (view_of C.Link O.Link self.new) result }
         ensures rises { RaisesUpload O.Link O.Upstream.own self.old self.new }
         ensures keeps { StepKeeps C.Link O.Link O.Upstream.own self.old self.new }
     {
-        next_response_if(self.alloc, &mut self.origin)
+        seek_response_if(self.alloc, &mut self.origin)
     }
 
     /// Makes one write of what waits for the client.
@@ -63,7 +64,7 @@ impl<C: Link, O: Upstream<C>> Core<C, O> {
     }
 
     /// Makes one write of what waits for the origin.
-    pub fn write_origin(&mut self) -> Pushed
+    pub(crate) fn write_origin(&mut self) -> Pushed
         ensures writes { WritesOrigin O.tells
             (view_of C.Link O.Link self.old) (view_of C.Link O.Link self.new) result }
         ensures rises { RaisesUpload O.Link O.Upstream.own self.old self.new }
@@ -73,7 +74,7 @@ impl<C: Link, O: Upstream<C>> Core<C, O> {
     }
 
     /// Moves some of the upload that follows the request.
-    pub fn upload(&mut self) -> Uploaded
+    pub(crate) fn upload(&mut self) -> Uploaded
         requires pair { IsPaired O.Upstream.own self.old }
         ensures moves { MovesUpload C.tells O.tells (refuses_if O.refuses self.old.origin) result
             (view_of C.Link O.Link self.old) (view_of C.Link O.Link self.new) }
@@ -86,7 +87,7 @@ impl<C: Link, O: Upstream<C>> Core<C, O> {
     }
 
     /// Queues the head of the request for the origin.
-    pub fn queue_request(&mut self, text: &[u8]) -> Result<(), NoMemory>
+    pub(crate) fn queue_request(&mut self, text: &[u8]) -> Result<(), NoMemory>
         ensures ok { OnOk result
             (QueuesRequest text.now (view_of C.Link O.Link self.old) (view_of C.Link O.Link self.new)) }
         ensures err { OnErr result (view_of C.Link O.Link self.new ≡ view_of C.Link O.Link self.old) }
@@ -97,7 +98,7 @@ impl<C: Link, O: Upstream<C>> Core<C, O> {
     }
 
     /// Queues an answer of the proxy's own for the client: all of it, or none where memory lacks.
-    pub fn queue_own(&mut self, head: &[u8], body: &[u8]) -> Result<(), NoMemory>
+    pub(crate) fn queue_own(&mut self, head: &[u8], body: &[u8]) -> Result<(), NoMemory>
         ensures ok { OnOk result
             (QueuesOwn head.now body.now (view_of C.Link O.Link self.old) (view_of C.Link O.Link self.new)) }
         ensures err { OnErr result (view_of C.Link O.Link self.new ≡ view_of C.Link O.Link self.old) }

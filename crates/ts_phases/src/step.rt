@@ -1,9 +1,9 @@
 //! One step of a transaction, by its phase.
-ghost use Rattle.ts_phases.specs.View.{IsPaired, view_of};
-ghost use Rattle.ts_phases.specs.Steps.{LeavesSides, MindsLinksIn, WaitsRightly};
+ghost use Rattle.ts_phases.specs.View.{IsPaired};
 ghost use Rattle.ts_phases.specs.Cover.{StepLeads};
 ghost use Rattle.ts_phases.specs.Lowering.{StepFallsFrom};
-ghost use Rattle.ts_phases.specs.Holding.{IfTold, PhaseHolds, HoldsAfter, StepKeeps};
+ghost use Rattle.ts_phases.specs.Owed.{StepOwes};
+ghost use Rattle.ts_phases.specs.Holding.{PhaseHolds, HoldsAfter};
 
 use crate::parts::Core;
 use crate::phase::{Next, Phase, Step};
@@ -13,21 +13,15 @@ use ts_upstream::Upstream;
 impl<C: Link, O: Upstream<C>> Core<C, O> {
     /// The next step of a phase. At the one where a body begins, `enter_on` takes its place, since that makes
     /// continuations; here, where there are none to make it of, it could but end for want of memory.
-    #[tactic(auto, using(crate::proofs::Sparing::still_spares, crate::proofs::Leaving::still_leaves, crate::proofs::Minding::stood, crate::proofs::LoweringStands::fresh_lowers, crate::proofs::LoweringStands::start_lowers, crate::proofs::LoweringStands::checked_lowers, crate::proofs::LoweringStands::heard_lowers, crate::proofs::LoweringStands::still_end))]
     pub fn step(&mut self, phase: Phase) -> Step
         requires stands { PhaseHolds C.Link O.Link O.Upstream.own self.old phase
             × IsPaired O.Upstream.own self.old }
         ensures leads { StepLeads result }
         ensures fact { HoldsAfter C.Link O.Link O.Upstream.own self.old self.new result }
-        ensures minds { MindsLinksIn C.Link O.Link O.Upstream.own
-            self.old self.new phase result }
-        ensures leaves { IfTold C.tells O.tells
-            (LeavesSides phase (view_of C.Link O.Link self.old) (view_of C.Link O.Link self.new)) }
+        ensures owes { StepOwes C.Link O.Link O.Upstream.own self.old self.new
+            phase result }
         ensures falls { StepFallsFrom C.Link O.Link O.Upstream.own self.old self.new
             phase result }
-        ensures keeps { StepKeeps C.Link O.Link O.Upstream.own self.old self.new }
-        ensures waits { WaitsRightly result.next
-            (view_of C.Link O.Link self.old) (view_of C.Link O.Link self.new) }
     {
         match phase {
             Phase::Fresh => Step {

@@ -9,4 +9,6 @@ use Rattle.ts_block.proofs.content.before_semicolon.Goals as goal
 pub returns-clause-value : goal.returns-clause-value
 returns-clause-value c =
     c.unwrap_or.ensures
-    ∙ position_or_len_unwrap is_semicolon c.args.value.now _ (position_from_yields_List is_semicolon _ _ _ c.position.ensures.ran (YieldsList-from_slice c.args.value.now cc) (λ x b q k. search (rules, tests)))
+    ∙ position_or_len_unwrap is_semicolon c.args.value.now _
+    (position_from_yields_List is_semicolon _ _ _ c.position.ensures.ran
+    (YieldsList-from_slice c.args.value.now cc) (λ x b q k. search (rules, tests)))

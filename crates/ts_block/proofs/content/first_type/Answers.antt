@@ -8,4 +8,5 @@ use Rattle.ts_block.proofs.content.first_type.Goals as goal
 
 pub returns : goal.returns
 returns c =
-    find_from_yields_List (is_named (codes "content-type")) _ _ _ c.find.ensures.ran (YieldsList-from_slice c.args.fields.now cc) (λ x b q k. search (rules, tests))
+    find_from_yields_List (is_named (codes "content-type")) _ _ _ c.find.ensures.ran
+    (YieldsList-from_slice c.args.fields.now cc) (λ x b q k. search (rules, tests))

@@ -7,4 +7,5 @@ use Rattle.ts_block.proofs.content.has_coding.Goals as goal
 
 pub returns : goal.returns
 returns c =
-    any_from_yields_List is_coded _ _ _ c.any.ensures.ran (YieldsList-from_slice c.args.fields.now cc) (λ x b q k. search (rules, tests))
+    any_from_yields_List is_coded _ _ _ c.any.ensures.ran (YieldsList-from_slice c.args.fields.now cc)
+    (λ x b q k. search (rules, tests))

@@ -7,4 +7,5 @@ use Rattle.ts_block.proofs.content.is_acted_on.Goals as goal
 
 pub returns : goal.returns
 returns c =
-    any_from_yields_List (acts_on c.args.status c.args.fields.now) _ _ _ c.any.ensures.ran (YieldsList-from_slice c.args.lines.now cc) (λ x b q k. search (rules, tests))
+    any_from_yields_List (acts_on c.args.status c.args.fields.now) _ _ _ c.any.ensures.ran
+    (YieldsList-from_slice c.args.lines.now cc) (λ x b q k. search (rules, tests))

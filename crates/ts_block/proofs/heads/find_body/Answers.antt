@@ -5,15 +5,19 @@ use Rattle.ts_block.proofs.heads.find_body.Goals as goal
 
 pub returns-in-Ended : goal.returns-in-Ended
 returns-in-Ended c =
-    reads_ended c.args.framing c.args.bytes.now c.loop-body.body.items c.loop-body.rest.now c.extend_from_slice.new.self.items c.loop-body.reader c.feed-fed.result
+    reads_ended c.args.framing c.args.bytes.now c.loop-body.body.items c.loop-body.rest.now
+    c.extend_from_slice.new.self.items c.loop-body.reader c.feed-fed.result
     c.loop-body.invariant c.feed-fed.ensures.body c.in_ok-extend_from_slice.ensures.items c.in-Ended.is
 
 pub returns-in-Bad : goal.returns-in-Bad
 returns-in-Bad c =
-    reads_bad c.args.framing c.args.bytes.now c.loop-body.body.items c.loop-body.rest.now c.extend_from_slice.new.self.items c.loop-body.reader c.feed-fed.result
+    reads_bad c.args.framing c.args.bytes.now c.loop-body.body.items c.loop-body.rest.now
+    c.extend_from_slice.new.self.items c.loop-body.reader c.feed-fed.result
     c.loop-body.invariant c.feed-fed.ensures.body c.in_ok-extend_from_slice.ensures.items c.in-Bad.is
 
 pub returns-else-fed-rest : goal.returns-else-fed-rest
 returns-else-fed-rest c =
-    reads_to_end c.args.framing c.args.bytes.now c.loop-body.body.items c.loop-body.rest.now c.extend_from_slice.new.self.items c.loop-body.reader c.feed-fed.result
-    c.loop-body.invariant c.feed-fed.ensures.body c.in_ok-extend_from_slice.ensures.items c.in-Unfinished.is (omega (arith, c.if-fed-rest.false))
+    reads_to_end c.args.framing c.args.bytes.now c.loop-body.body.items c.loop-body.rest.now
+    c.extend_from_slice.new.self.items c.loop-body.reader c.feed-fed.result
+    c.loop-body.invariant c.feed-fed.ensures.body c.in_ok-extend_from_slice.ensures.items c.in-Unfinished.is
+    (omega (arith, c.if-fed-rest.false))

@@ -1,0 +1,347 @@
+-- What a step owes beside its facts, by the call that it made: a look for a head, a write, a text that was
+-- queued, or none.
+use Rattle.std.proofs.Common.{◌≡◌, List, ℕ, Bool, false, ap, refl, sym, subst}
+use Rattle.ts_hooks.specs.declared.txn_end.TxnEnd.TheVariants as E
+use Rattle.ts_link.specs.declared.link.Link as link
+use Rattle.ts_upstream.specs.declared.upstream.Upstream as upstream
+use Rattle.ts_upstream.specs.declared.upstream.Uploaded.{Uploaded}
+use Rattle.ts_vconn.specs.MoveAnswers.{push_again, push_failed}
+use Rattle.ts_vconn.specs.declared.moves.Pulled.{Pulled}
+use Rattle.ts_vconn.specs.declared.moves.Pulled.TheVariants as L
+use Rattle.ts_vconn.specs.declared.moves.Pushed.{Pushed}
+use Rattle.ts_vconn.specs.declared.moves.Pushed.TheVariants as V
+use Rattle.ts_wire.specs.declared.heads.RequestHead.{RequestHead}
+use Rattle.ts_wire.specs.declared.heads.ResponseHead.{ResponseHead}
+use Rattle.ts_block.specs.declared.own_answer.OwnStatus.TheVariants as O
+use Rattle.ts_phases.specs.Holding.{StepKeeps}
+use Rattle.ts_phases.specs.Moving.{LowersUpload, MovesUpload, SeeksRequest, SeeksResponse, QueuesOwn}
+use Rattle.ts_phases.specs.Moving.{QueuesRequest, WritesClient}
+use Rattle.ts_phases.specs.Moving.{LowersUpload, MovesUpload, WritesOrigin}
+use Rattle.ts_phases.specs.Owed.{Follows, StepOwes}
+use Rattle.ts_phases.specs.Steps.{UploadLeads, AnswersOriginFault, ClosesForClientFault, LeavesClientIn}
+use Rattle.ts_phases.specs.Steps.{LeavesOriginIn}
+use Rattle.ts_phases.specs.Steps.{MindsLinks, MindsLinksIn, WaitsRightly}
+use Rattle.ts_phases.specs.View.{View, refuses_if, upload_of, view_of}
+use Rattle.ts_phases.specs.declared.head_reader.Found.{Found}
+use Rattle.ts_phases.specs.declared.head_reader.Found.TheVariants as F
+use Rattle.ts_phases.specs.declared.parts.Core.{Core}
+use Rattle.ts_phases.specs.declared.phase.Next.TheVariants as N
+use Rattle.ts_phases.specs.declared.phase.OwnAnswer.{OwnAnswer}
+use Rattle.ts_phases.specs.declared.phase.Phase.{Phase}
+use Rattle.ts_phases.specs.declared.phase.Phase.TheVariants as P
+use Rattle.ts_phases.specs.declared.phase.Request.{Request}
+use Rattle.ts_phases.specs.declared.phase.Step.{Step}
+use Rattle.ts_phases.proofs.Leaving.{asked_leaves, heard_leaves, queued_leaves, still_leaves, wrote_leaves}
+use Rattle.ts_phases.proofs.Minding.{client_left, found_again, found_failed, full_client, full_origin}
+use Rattle.ts_phases.proofs.Minding.{heard_request, heard_response, late_client, late_origin, lost_client}
+use Rattle.ts_phases.proofs.Minding.{lost_origin, origin_left, queued_own, queued_request}
+use Rattle.ts_phases.proofs.Minding.{wrote_client, wrote_origin}
+use Rattle.ts_phases.proofs.Sparing.{asked_spares, held_spares, queued_spares, sent_spares, still_spares}
+use Rattle.ts_phases.proofs.Sparing.{wrote_spares}
+use Rattle.ts_phases.proofs.Waiting.{asked_waits, client_waits, heard_waits, origin_waits}
+
+-- where nothing moved, nothing is sent to the origin and nothing is read of the client
+origin_stays : (v : View) (p : Phase) → LeavesOriginIn p v v
+origin_stays v (P.SendRequestHdr q) = tt
+origin_stays v (P.SendRequest q) = tt
+origin_stays v (P.Upload q) = tt
+origin_stays v _ = still_leaves v v refl
+
+client_stays : (v : View) (p : Phase) → LeavesClientIn p v v
+client_stays v P.ReadRequest = tt
+client_stays v (P.Upload q) = tt
+client_stays v _ = still_spares v v refl
+
+-- a transaction keeps what it is
+all_kept : {C O : Type 0} (client : link.Ghosts C) (origin : link.Ghosts O) (both : upstream.Ghosts O C)
+    (t : Core C O) → StepKeeps client origin both t t
+all_kept client origin both t = record {
+  number = refl;
+  setup = refl;
+  plugins_at = refl;
+  client = record { source = refl; name = refl; plan = refl };
+  origin = record { source = refl; name = refl; plan = refl };
+  client_base = refl;
+  origin_base = refl;
+  dialed = refl;
+  pair = λ paired. paired;
+  refusal = record { still = λ list h. h; before = λ list h. h };
+}
+
+-- both sides before a step and after it
+abbrev before : {C O : Type 0} {client : link.Ghosts C} {origin : link.Ghosts O} {both : upstream.Ghosts O C}
+    {t u : Core C O} → StepKeeps client origin both t u → View
+before {C} {O} {client} {origin} {both} {t} {u} keeps = view_of client origin t
+
+abbrev after : {C O : Type 0} {client : link.Ghosts C} {origin : link.Ghosts O} {both : upstream.Ghosts O C}
+    {t u : Core C O} → StepKeeps client origin both t u → View
+after {C} {O} {client} {origin} {both} {t} {u} keeps = view_of client origin u
+
+module _ {C O : Type 0} {client : link.Ghosts C} {origin : link.Ghosts O} {both : upstream.Ghosts O C}
+    {t u : Core C O} {s : Step} (keeps : StepKeeps client origin both t u) where
+  -- nothing moved
+  pub unmoved : (p : Phase) → after keeps ≡ before keeps → Follows p s.phase
+      → MindsLinksIn client origin both t u p s
+      → WaitsRightly s.next (before keeps) (after keeps) → StepOwes client origin both t u p s
+  unmoved p same follows minds waits = record {
+    follows = follows;
+    minds = minds;
+    waits = waits;
+    leaves = λ told also. record {
+      origin = subst (λ (x : View). LeavesOriginIn p (before keeps) x) (sym same)
+          (origin_stays (before keeps) p);
+      client = subst (λ (x : View). LeavesClientIn p (before keeps) x) (sym same)
+          (client_stays (before keeps) p);
+    };
+    keeps = keeps;
+  }
+
+  -- a request's head was looked for: the link was ready, was not, or failed
+  asked_with : (found : Found RequestHead) → SeeksRequest client.tells (before keeps) (after keeps) found
+      → MindsLinks (before keeps) (after keeps) s
+      → Follows P.ReadRequest s.phase → WaitsRightly s.next (before keeps) (after keeps)
+      → StepOwes client origin both t u P.ReadRequest s
+  asked_with found hears minds follows waits = record {
+    follows = follows;
+    minds = minds;
+    waits = waits;
+    leaves = λ told also. record {
+      origin = asked_leaves (before keeps) (after keeps) client.tells found
+          hears;
+      client = tt;
+    };
+    keeps = keeps;
+  }
+
+  pub asked : (found : Found RequestHead) → SeeksRequest client.tells (before keeps) (after keeps) found
+      → found_failed found ≡ false
+      → found_again found ≡ false → Follows P.ReadRequest s.phase
+      → WaitsRightly s.next (before keeps) (after keeps)
+      → StepOwes client origin both t u P.ReadRequest s
+  asked found hears fine ready = asked_with found hears (heard_request client.tells (before keeps)
+      (after keeps) s found fine ready
+      hears)
+
+  pub asked_late : SeeksRequest client.tells (before keeps) (after keeps) (F.Read L.Again) → s.next ≡ N.Wait
+      → Follows P.ReadRequest s.phase
+      → StepOwes client origin both t u P.ReadRequest s
+  asked_late hears later follows = asked_with (F.Read L.Again) hears
+      (late_client client.tells (before keeps) (after keeps) s hears later) follows
+      (subst (λ next. WaitsRightly next (before keeps) (after keeps)) (sym later)
+      (asked_waits client.tells (before keeps) (after keeps) hears))
+
+  pub asked_lost : SeeksRequest client.tells (before keeps) (after keeps) (F.Read L.Failed)
+      → ClosesForClientFault s.phase
+      → Follows P.ReadRequest s.phase → WaitsRightly s.next (before keeps) (after keeps)
+      → StepOwes client origin both t u P.ReadRequest s
+  asked_lost hears closes = asked_with (F.Read L.Failed) hears
+      (lost_client client.tells (before keeps) (after keeps) s hears closes)
+
+  -- a response's head was looked for
+  module _ (q : Request) where
+    heard_with : (found : Found ResponseHead) → SeeksResponse origin.tells (before keeps) (after keeps) found
+        → MindsLinks (before keeps) (after keeps) s
+        → Follows (P.ReadResponse q) s.phase → WaitsRightly s.next (before keeps) (after keeps)
+        → StepOwes client origin both t u (P.ReadResponse q) s
+    heard_with found hears minds follows waits = record {
+      follows = follows;
+      minds = minds;
+      waits = waits;
+      leaves = λ told also. record {
+        origin = heard_leaves (before keeps) (after keeps) origin.tells found also hears;
+        client = held_spares (before keeps) (after keeps) origin.tells found hears;
+      };
+      keeps = keeps;
+    }
+
+    pub heard : (found : Found ResponseHead) → SeeksResponse origin.tells (before keeps) (after keeps) found
+        → found_failed found ≡ false
+        → found_again found ≡ false → Follows (P.ReadResponse q) s.phase
+        → WaitsRightly s.next (before keeps) (after keeps)
+        → StepOwes client origin both t u (P.ReadResponse q) s
+    heard found hears fine ready = heard_with found hears (heard_response origin.tells (before keeps)
+        (after keeps) s found fine ready
+        hears)
+
+    pub heard_late : SeeksResponse origin.tells (before keeps) (after keeps) (F.Read L.Again)
+        → s.next ≡ N.Wait
+        → Follows (P.ReadResponse q) s.phase → StepOwes client origin both t u (P.ReadResponse q) s
+    heard_late hears later follows = heard_with (F.Read L.Again) hears
+        (late_origin origin.tells (before keeps) (after keeps) s hears later) follows
+        (subst (λ next. WaitsRightly next (before keeps) (after keeps)) (sym later)
+        (heard_waits origin.tells (before keeps) (after keeps) hears))
+
+    pub heard_lost : SeeksResponse origin.tells (before keeps) (after keeps) (F.Read L.Failed)
+        → AnswersOriginFault s.phase
+        → Follows (P.ReadResponse q) s.phase → WaitsRightly s.next (before keeps) (after keeps)
+        → StepOwes client origin both t u (P.ReadResponse q) s
+    heard_lost hears answers = heard_with (F.Read L.Failed) hears
+        (lost_origin origin.tells (before keeps) (after keeps) s hears answers)
+
+  -- the request's head was written to the origin
+  module _ (q : Request) where
+    sent_with : (p : Pushed) → WritesOrigin origin.tells (before keeps) (after keeps) p
+        → MindsLinks (before keeps) (after keeps) s
+        → Follows (P.SendRequest q) s.phase → WaitsRightly s.next (before keeps) (after keeps)
+        → StepOwes client origin both t u (P.SendRequest q) s
+    sent_with p writes minds follows waits = record {
+      follows = follows;
+      minds = minds;
+      waits = waits;
+      leaves = λ told also. record {
+        origin = tt;
+        client = sent_spares (before keeps) (after keeps)
+            origin.tells p writes;
+      };
+      keeps = keeps;
+    }
+
+    pub sent : (p : Pushed) → WritesOrigin origin.tells (before keeps) (after keeps) p → push_failed p ≡ false
+        → push_again p ≡ false
+        → Follows (P.SendRequest q) s.phase → WaitsRightly s.next (before keeps) (after keeps)
+        → StepOwes client origin both t u (P.SendRequest q) s
+    sent p writes fine ready = sent_with p writes (wrote_origin origin.tells (before keeps) (after keeps) s p
+        fine ready writes)
+
+    pub sent_late : WritesOrigin origin.tells (before keeps) (after keeps) V.Again → s.next ≡ N.Wait
+        → Follows (P.SendRequest q) s.phase
+        → StepOwes client origin both t u (P.SendRequest q) s
+    sent_late writes later follows = sent_with V.Again writes
+        (full_origin origin.tells (before keeps) (after keeps) s writes later)
+        follows
+        (subst (λ next. WaitsRightly next (before keeps) (after keeps)) (sym later)
+        (origin_waits origin.tells (before keeps) (after keeps) writes))
+
+    pub sent_lost : WritesOrigin origin.tells (before keeps) (after keeps) V.Failed
+        → AnswersOriginFault s.phase
+        → Follows (P.SendRequest q) s.phase → WaitsRightly s.next (before keeps) (after keeps)
+        → StepOwes client origin both t u (P.SendRequest q) s
+    sent_lost writes answers = sent_with V.Failed writes (origin_left origin.tells (before keeps)
+        (after keeps) s writes answers)
+
+  -- an answer of the proxy's own was written to the client
+  module _ (a : OwnAnswer) where
+    told_with : (p : Pushed) → WritesClient client.tells (before keeps) (after keeps) p
+        → MindsLinks (before keeps) (after keeps) s
+        → Follows (P.Sending a) s.phase → WaitsRightly s.next (before keeps) (after keeps)
+        → StepOwes client origin both t u (P.Sending a) s
+    told_with p writes minds follows waits = record {
+      follows = follows;
+      minds = minds;
+      waits = waits;
+      leaves = λ told also. record {
+        origin = wrote_leaves (before keeps) (after keeps) client.tells p writes;
+        client = wrote_spares (before keeps) (after keeps) client.tells p told writes;
+      };
+      keeps = keeps;
+    }
+
+    pub answered : (p : Pushed) → WritesClient client.tells (before keeps) (after keeps) p
+        → push_failed p ≡ false
+        → push_again p ≡ false
+        → Follows (P.Sending a) s.phase → WaitsRightly s.next (before keeps) (after keeps)
+        → StepOwes client origin both t u (P.Sending a) s
+    answered p writes fine ready = told_with p writes (wrote_client client.tells (before keeps) (after keeps)
+        s p fine ready writes)
+
+    pub answered_late : WritesClient client.tells (before keeps) (after keeps) V.Again → s.next ≡ N.Wait
+        → Follows (P.Sending a) s.phase
+        → StepOwes client origin both t u (P.Sending a) s
+    answered_late writes later follows = told_with V.Again writes
+        (full_client client.tells (before keeps) (after keeps) s writes later) follows
+        (subst (λ next. WaitsRightly next (before keeps) (after keeps)) (sym later)
+        (client_waits client.tells (before keeps) (after keeps) writes))
+
+    pub answered_lost : WritesClient client.tells (before keeps) (after keeps) V.Failed
+        → ClosesForClientFault s.phase
+        → Follows (P.Sending a) s.phase → WaitsRightly s.next (before keeps) (after keeps)
+        → StepOwes client origin both t u (P.Sending a) s
+    answered_lost writes closes = told_with V.Failed writes (client_left client.tells (before keeps)
+        (after keeps) s writes closes)
+
+  -- a text was queued
+  pub request_queued : (q : Request) (text : List ℕ) → QueuesRequest text (before keeps) (after keeps)
+      → Follows (P.SendRequestHdr q) s.phase
+      → WaitsRightly s.next (before keeps) (after keeps) → StepOwes client origin both t u
+      (P.SendRequestHdr q) s
+  request_queued q text queues follows waits = record {
+    follows = follows;
+    minds = queued_request (before keeps) (after keeps) s text queues;
+    waits = waits;
+    leaves = λ told also. record {
+      origin = tt;
+      client = asked_spares (before keeps) (after keeps) text queues;
+    };
+    keeps = keeps;
+  }
+
+  pub own_queued : (a : OwnAnswer) (head body : List ℕ) → QueuesOwn head body (before keeps) (after keeps)
+      → Follows (P.SendResponseHdr a) s.phase → WaitsRightly s.next (before keeps) (after keeps)
+      → StepOwes client origin both t u (P.SendResponseHdr a) s
+  own_queued a head body queues follows waits = record {
+    follows = follows;
+    minds = queued_own (before keeps) (after keeps) s head body queues;
+    waits = waits;
+    leaves = λ told also. record {
+      origin = queued_leaves (before keeps) (after keeps) head body queues;
+      client = queued_spares (before keeps) (after keeps) head body queues;
+    };
+    keeps = keeps;
+  }
+
+-- an upload was moved
+pub uploads : {C O : Type 0} {client : link.Ghosts C} {origin : link.Ghosts O} {both : upstream.Ghosts O C}
+    {t u : Core C O} {s : Step} → StepKeeps client origin both t u → (q : Request) (answer : Uploaded)
+    → MovesUpload client.tells origin.tells (refuses_if both.refuses t.origin) answer
+    (view_of client origin t) (view_of client origin u)
+    → LowersUpload answer (upload_of both t) (upload_of both u) (view_of client origin t)
+    (view_of client origin u)
+    → UploadLeads answer q s → Follows (P.Upload q) s.phase
+    → WaitsRightly s.next (view_of client origin t) (view_of client origin u)
+    → StepOwes client origin both t u (P.Upload q) s
+uploads keeps q answer moves lowers leads follows waits = record {
+  follows = follows;
+  minds = record { answer = answer; moves = moves; lowers = lowers; leads = leads };
+  waits = waits;
+  leaves = λ told also. record { origin = tt; client = tt };
+  keeps = keeps;
+}
+
+-- a step that calls nothing
+pub stands : {C O : Type 0} (client : link.Ghosts C) (origin : link.Ghosts O) (both : upstream.Ghosts O C)
+    (t : Core C O) {s : Step} (p : Phase) → Follows p s.phase → MindsLinksIn client origin both t t p s
+    → WaitsRightly s.next (view_of client origin t) (view_of client origin t)
+    → StepOwes client origin both t t p s
+stands client origin both t p follows minds waits = unmoved (all_kept client origin both t) p refl follows
+    minds waits
+
+-- the same of a phase that is known by an equation
+pub stands_at : {C O : Type 0} (client : link.Ghosts C) (origin : link.Ghosts O) (both : upstream.Ghosts O C)
+    (t : Core C O) {s : Step} {p : Phase} (q : Phase) → p ≡ q → Follows q s.phase
+    → MindsLinksIn client origin both t t q s
+    → WaitsRightly s.next (view_of client origin t) (view_of client origin t)
+    → StepOwes client origin both t t p s
+stands_at client origin both t {s} {p} q is follows minds waits =
+    subst (λ (x : Phase). StepOwes client origin both t t x s) (sym is)
+    (stands client origin both t q follows minds waits)
+
+-- the answer that was read, by an equation
+pub request_read : {t : Bool} {v w : View} {p q : Pulled} → p ≡ q → SeeksRequest t v w (F.Read p)
+    → SeeksRequest t v w (F.Read q)
+request_read {t} {v} {w} is seeks = subst (λ (x : Pulled). SeeksRequest t v w (F.Read x)) is seeks
+
+pub response_read : {t : Bool} {v w : View} {p q : Pulled} → p ≡ q → SeeksResponse t v w (F.Read p)
+    → SeeksResponse t v w (F.Read q)
+response_read {t} {v} {w} is seeks = subst (λ (x : Pulled). SeeksResponse t v w (F.Read x)) is seeks
+
+-- the 502 answer after the origin's fault
+pub bad_gateway : {a : OwnAnswer} {to_head : Bool}
+    → a ≡ record { status = O.BadGateway; to_head = to_head; end = E.OriginFault }
+    → (a.status ≡ O.BadGateway) × (a.end ≡ E.OriginFault)
+bad_gateway is = (ap (λ (x : OwnAnswer). x.status) is, ap (λ (x : OwnAnswer). x.end) is)
+
+-- and the 400 answer after a refusal
+pub refusal : {a : OwnAnswer} {to_head : Bool}
+    → a ≡ record { status = O.BadRequest; to_head = to_head; end = E.Whole }
+    → (a.status ≡ O.BadRequest) × (a.end ≡ E.Whole)
+refusal is = (ap (λ (x : OwnAnswer). x.status) is, ap (λ (x : OwnAnswer). x.end) is)
