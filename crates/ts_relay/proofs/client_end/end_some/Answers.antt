@@ -1,11 +1,8 @@
 -- The end of a body was framed, or there was no memory for it, or the chain has not given all.
 use Rattle.std.proofs.Common.{◌≡◌, true, [], refl, sym, ap, subst, ◌∙◌}
 use Rattle.ts_transform.specs.Flow.{ChainState, IsFinished, flow}
-use Rattle.std.specs.Arc.{arc_value}
 use Rattle.std.proofs.lemmas.Bool.{false≢true}
-use Rattle.ts_phases.specs.View.{OriginRefuses, view_of}
 use Rattle.ts_hooks.specs.declared.txn_end.TxnEnd.TheVariants as E
-use Rattle.ts_relay.specs.declared.last_writes.BodyStep.TheVariants as S
 use Rattle.ts_relay.proofs.BodyLinks.{writer_queued, writer_rests}
 use Rattle.ts_relay.proofs.LoweringRelay.{idles, lowers_whole, queues_lacks}
 use Rattle.ts_relay.proofs.Relaying.{ends_whole, frames_lacks}
@@ -14,43 +11,34 @@ use Rattle.ts_relay.proofs.client_end.end_some.Goals as goal
 
 pub returns-in_default-clause-leads : goal.returns-in_default-clause-leads
 returns-in_default-clause-leads g c = λ told also.
-    frames_lacks (arc_value c.args.core.now.setup) (OriginRefuses g.C.Link g.O.Upstream c.args.core.now)
-    g.P.Transform.rest
-    (view_of g.C.Link g.O.Link c.args.core.now) (view_of g.C.Link g.O.Link c.end_body.new.self)
-    c.args.relay.now.driven.chain c.args.relay.now.body
+    frames_lacks _ _ g.P.Transform.rest _ _ c.args.relay.now.driven.chain c.args.relay.now.body
     c.in_default.ensures.err (c.requires.fact told also)
 
 pub returns-clause-leads : goal.returns-clause-leads
 returns-clause-leads g c = λ told also.
-    ends_whole (arc_value c.args.core.now.setup) (OriginRefuses g.C.Link g.O.Upstream c.args.core.now)
-    g.P.Transform.rest
-    (view_of g.C.Link g.O.Link c.args.core.now) (view_of g.C.Link g.O.Link c.end_body.new.self)
-    c.args.relay.now.driven.chain c.args.relay.now.body
+    ends_whole _ _ g.P.Transform.rest _ _ c.args.relay.now.driven.chain c.args.relay.now.body
     c.in-Ok.ensures.ok (sym (ap (λ (k : ChainState _). k.given) c.chain.ensures)
-    ∙ c.has_given_all.ensures.given c.if-not-has_given_all.false)
-    (ap (λ (k : ChainState _). flow g.P.Transform.rest k []) (sym c.chain.ensures)
-    ∙ c.has_given_all.ensures.all c.if-not-has_given_all.false) (c.requires.fact told also)
+    ∙ c.has_given_all.ensures.given c.if-not-has_given_all.false) (ap (λ (k : ChainState _). flow
+    g.P.Transform.rest k []) (sym c.chain.ensures) ∙ c.has_given_all.ensures.all
+    c.if-not-has_given_all.false) (c.requires.fact told also)
 
 pub returns-then-not-has_given_all-clause-lowers : goal.returns-then-not-has_given_all-clause-lowers
 returns-then-not-has_given_all-clause-lowers g c = λ now.
     idles g.C.Link.tells g.O.Link.tells ((c.args.relay.now.driven.chain.given ≡ true) × IsFinished
-    c.args.relay.now.driven.chain) (arc_value c.args.core.now.setup) g.P.Transform.rest
-    (view_of g.C.Link g.O.Link c.args.core.now) c.args.relay.now now
-    (λ all. absurd (false≢true (sym c.if-not-has_given_all.true ∙ c.has_given_all.ensures.only
-    (ap (λ (k : ChainState _). k.given) c.chain.ensures ∙ all.0)
-    (subst (λ (k : ChainState _). IsFinished k) (sym c.chain.ensures) all.1))))
+    c.args.relay.now.driven.chain) _ g.P.Transform.rest _ c.args.relay.now now (λ all. absurd
+    (false≢true (sym c.if-not-has_given_all.true ∙ c.has_given_all.ensures.only
+    (ap (λ (k : ChainState _). k.given) c.chain.ensures ∙ all.0) (subst (λ (k : ChainState _).
+    IsFinished k) (sym c.chain.ensures) all.1))))
 
 pub returns-in_default-clause-lowers : goal.returns-in_default-clause-lowers
 returns-in_default-clause-lowers g c = λ now. queues_lacks g.C.Link.tells g.O.Link.tells
-    ((c.args.relay.now.driven.chain.given ≡ true) × IsFinished c.args.relay.now.driven.chain)
-    (arc_value c.args.core.now.setup) g.P.Transform.rest (view_of g.C.Link g.O.Link c.args.core.now)
-    (view_of g.C.Link g.O.Link c.end_body.new.self) c.args.relay.now now c.in_default.ensures.err
+    ((c.args.relay.now.driven.chain.given ≡ true) × IsFinished c.args.relay.now.driven.chain) _
+    g.P.Transform.rest _ _ c.args.relay.now now c.in_default.ensures.err
 
 pub returns-clause-lowers : goal.returns-clause-lowers
 returns-clause-lowers g c = λ now. lowers_whole g.C.Link.tells g.O.Link.tells
-    ((c.args.relay.now.driven.chain.given ≡ true) × IsFinished c.args.relay.now.driven.chain)
-    (arc_value c.args.core.now.setup) g.P.Transform.rest (view_of g.C.Link g.O.Link c.args.core.now)
-    (view_of g.C.Link g.O.Link c.end_body.new.self) c.args.relay.now now E.Whole c.in-Ok.ensures.ok
+    ((c.args.relay.now.driven.chain.given ≡ true) × IsFinished c.args.relay.now.driven.chain) _
+    g.P.Transform.rest _ _ c.args.relay.now now E.Whole c.in-Ok.ensures.ok
 
 pub returns-then-not-has_given_all-clause-steps : goal.returns-then-not-has_given_all-clause-steps
 returns-then-not-has_given_all-clause-steps g c = λ now turn.
@@ -59,12 +47,12 @@ returns-then-not-has_given_all-clause-steps g c = λ now turn.
 
 pub returns-in_default-clause-steps : goal.returns-in_default-clause-steps
 returns-in_default-clause-steps g c = λ now turn.
-    writer_still g.C.Link g.O.Link g.O.Upstream _ _ _ _ now turn c.end_body.ensures.keeps
-    (writer_queued _ _ _ _ _ _ _ [] [] (record { client = refl; origin = refl; late = refl }) c.requires.empty
+    writer_still g.C.Link g.O.Link g.O.Upstream _ _ _ _ now turn c.end_body.ensures.keeps (writer_queued _ _ _
+    _ _ _ _ [] [] (record { client = refl; origin = refl; late = refl }) c.requires.empty
     refl c.in_default.ensures.err)
 
 pub returns-clause-steps : goal.returns-clause-steps
 returns-clause-steps g c = λ now turn.
-    writer_still g.C.Link g.O.Link g.O.Upstream _ _ _ _ now turn c.end_body.ensures.keeps
-    (writer_queued _ _ _ _ _ _ _ _ [] (record { client = refl; origin = refl; late = refl }) c.requires.empty
+    writer_still g.C.Link g.O.Link g.O.Upstream _ _ _ _ now turn c.end_body.ensures.keeps (writer_queued _ _ _
+    _ _ _ _ _ [] (record { client = refl; origin = refl; late = refl }) c.requires.empty
     refl c.in-Ok.ensures.ok)

@@ -1,23 +1,15 @@
 -- A body begins: where its first steps lead, and that they lower what is left to do.
-use Rattle.std.specs.Arc.{arc_value}
-use Rattle.ts_phases.specs.View.{OriginRefuses, view_of}
 use Rattle.ts_relay.proofs.Entered.{enters_lead}
 use Rattle.ts_relay.proofs.LoweringEntry.{begins_lower}
 use Rattle.ts_relay.proofs.entry.enter_body.Goals as goal
 
 pub returns-clause-leads : goal.returns-clause-leads
 returns-clause-leads g c = λ told also.
-    enters_lead (arc_value c.args.core.now.setup) (OriginRefuses g.C.Link g.O.Upstream c.args.core.now)
-    g.P.Transform.rest
-    (view_of g.C.Link g.O.Link c.args.core.now) c.args.relay.now.driven.chain
-    c.begin_relay.new.relay.driven.chain c.args.relay.now.body c.begin_relay.new.relay.body
-    c.begin_relay.result
-    c.begin_relay.ensures.body c.begin_relay.ensures.gets (c.requires.fact told also)
+    enters_lead _ _ g.P.Transform.rest _ c.args.relay.now.driven.chain c.begin_relay.new.relay.driven.chain
+    c.args.relay.now.body c.begin_relay.new.relay.body c.begin_relay.result c.begin_relay.ensures.body
+    c.begin_relay.ensures.gets (c.requires.fact told also)
 
 pub returns-clause-lowers : goal.returns-clause-lowers
 returns-clause-lowers g c =
-    begins_lower (arc_value c.args.core.now.setup) g.P.Transform.rest
-    (view_of g.C.Link g.O.Link c.args.core.now) c.begin_relay.result _ c.args.relay.now
-    c.begin_relay.new.relay c.args.cx.now
-    c.begin_relay.new.cx
-    c.begin_relay.ensures.gets c.begin_relay.ensures.begins
+    begins_lower _ g.P.Transform.rest _ c.begin_relay.result _ c.args.relay.now c.begin_relay.new.relay
+    c.args.cx.now c.begin_relay.new.cx c.begin_relay.ensures.gets c.begin_relay.ensures.begins

@@ -1,7 +1,5 @@
 -- An event of the reader: where it leads, which links it called, and that it pays for its events.
 use Rattle.std.proofs.Common.{refl, sym, ap, ◌∙◌}
-use Rattle.std.specs.Arc.{arc_value}
-use Rattle.ts_phases.specs.View.{OriginRefuses, view_of}
 use Rattle.ts_relay.proofs.BodyEvents.{handles_quiet, handles_read, settled_as}
 use Rattle.ts_relay.proofs.BodyLinks.{links_quiet, links_read}
 use Rattle.ts_relay.proofs.LoweringPays.{quiet_pays, read_pays}
@@ -10,38 +8,32 @@ use Rattle.ts_relay.proofs.events.read_at.Goals as goal
 
 pub returns-clause-leads : goal.returns-clause-leads
 returns-clause-leads g c = λ told also.
-    settled_as (arc_value c.args.core.now.setup) (OriginRefuses g.C.Link g.O.Upstream c.args.core.now)
-    g.P.Transform.rest
-    (view_of g.C.Link g.O.Link c.read_body-step.new.core) c.read_body-step.new.relay c.settle_after.new.relay
-    c.read_body-step.result c.settle_after.result
-    c.settle_after.ensures.settles.settled c.settle_after.ensures.relay (c.read_body-step.ensures.leads told
-    also)
+    settled_as _ _ g.P.Transform.rest _ c.read_body-step.new.relay c.settle_after.new.relay
+    c.read_body-step.result c.settle_after.result c.settle_after.ensures.settles.settled
+    c.settle_after.ensures.relay (c.read_body-step.ensures.leads told also)
 
 pub returns-then-not-works-clause-pays : goal.returns-then-not-works-clause-pays
-returns-then-not-works-clause-pays g c = quiet_pays g.C.Link.tells g.O.Link.tells
-    (arc_value c.args.core.now.setup) g.P.Transform.rest (view_of g.C.Link g.O.Link c.args.core.now)
+returns-then-not-works-clause-pays g c = quiet_pays g.C.Link.tells g.O.Link.tells _ g.P.Transform.rest _
     c.args.main.now c.args.relay.now c.args.cx.now
 
 pub returns-clause-pays : goal.returns-clause-pays
 returns-clause-pays g c =
-    read_pays g.C.Link.tells g.O.Link.tells (arc_value c.args.core.now.setup) g.P.Transform.rest
-    c.read_body-step.result c.settle_after.result (view_of g.C.Link g.O.Link c.args.core.now)
-    (view_of g.C.Link g.O.Link c.read_body-step.new.core) c.args.main.now c.args.main.now
-    c.settle_after.new.main
-    c.args.relay.now (record c.args.relay.now { reader = c.unrouse.new.slot }) c.read_body-step.new.relay
+    read_pays g.C.Link.tells g.O.Link.tells _ g.P.Transform.rest c.read_body-step.result c.settle_after.result
+    _ _ c.args.main.now c.args.main.now c.settle_after.new.main c.args.relay.now
+    (record c.args.relay.now { reader = c.unrouse.new.slot }) c.read_body-step.new.relay
     c.settle_after.new.relay c.args.cx.now c.read_body-step.new.cx c.settle_after.new.cx
     (ap (λ x. record c.args.relay.now { reader = x }) c.unrouse.ensures)
-    refl c.read_body-step.ensures.steps.chain c.read_body-step.ensures.lowers
-    c.settle_after.ensures.settles c.settle_after.ensures.relay
+    refl c.read_body-step.ensures.steps.chain c.read_body-step.ensures.lowers c.settle_after.ensures.settles
+    c.settle_after.ensures.relay
 
 pub returns-then-not-works-clause-handles : goal.returns-then-not-works-clause-handles
 returns-then-not-works-clause-handles g c = record {
   keeps = keeps_same g.C.Link g.O.Link g.O.Upstream _;
   body =
-      handles_quiet 2 c.args.event (view_of g.C.Link g.O.Link c.args.core.now) c.args.main.now
+      handles_quiet 2 c.args.event _ c.args.main.now
       c.args.relay.now c.args.cx.now c.requires.turn (sym c.works.ensures ∙ c.if-not-works.true);
   links =
-      links_quiet g.C.Link.tells g.O.Link.tells (view_of g.C.Link g.O.Link c.args.core.now) c.args.main.now
+      links_quiet g.C.Link.tells g.O.Link.tells _ c.args.main.now
       c.args.relay.now c.args.cx.now;
 }
 
@@ -50,7 +42,7 @@ returns-clause-handles g c = record {
   keeps = c.read_body-step.ensures.steps.keeps;
   body =
       handles_read c.args.event c.read_body-step.result c.settle_after.result
-      (view_of g.C.Link g.O.Link c.args.core.now) (view_of g.C.Link g.O.Link c.read_body-step.new.core)
+      _ _
       c.args.main.now
       c.settle_after.new.main
       c.args.relay.now c.read_body-step.new.relay c.settle_after.new.relay c.args.cx.now
@@ -59,8 +51,8 @@ returns-clause-handles g c = record {
       (ap (λ x. x.driven) c.settle_after.ensures.relay) c.settle_after.ensures.settles
       c.read_body-step.ensures.steps.links.client c.read_body-step.ensures.steps.links.sent;
   links =
-      links_read g.C.Link.tells g.O.Link.tells (view_of g.C.Link g.O.Link c.args.core.now)
-      (view_of g.C.Link g.O.Link c.read_body-step.new.core) c.read_body-step.result c.settle_after.result
+      links_read g.C.Link.tells g.O.Link.tells _
+      _ c.read_body-step.result c.settle_after.result
       c.args.main.now c.args.relay.now c.read_body-step.new.relay c.settle_after.new.relay c.args.cx.now
       c.read_body-step.new.cx c.settle_after.new.cx c.read_body-step.ensures.steps.links
       c.settle_after.ensures.settles.settled
