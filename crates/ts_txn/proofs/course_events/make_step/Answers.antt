@@ -19,7 +19,7 @@ returns-clause-owes g c = record {
       let new = c.step-step.new.self in
       sound_led g.C.Link g.O.Link g.O.Upstream g.P.Transform core new (K.Phased c.args.phase)
       (K.Phased c.step-step.result.phase) c.after_step.result c.after_step.new.main c.after_step.new.cx
-      c.requires.stands c.step-step.ensures.keeps c.step-step.ensures.fact tt (λ told also. tt)
+      c.requires.stands c.step-step.ensures.owes.keeps c.step-step.ensures.fact tt (λ told also. tt)
       (behind_led c.step-step.result.next (K.Phased c.step-step.result.phase) c.after_step.result
       c.after_step.ensures.course)
       (c.after_step.ensures.covered c.step-step.ensures.leads c.requires.alone
@@ -30,12 +30,12 @@ returns-clause-owes g c = record {
       acts_then 0 (set_after next) most_set (omega (arith, few)) (acts_none 0 c.args.cx.now c.requires.turn)
       c.after_step.ensures.within;
   handles = record {
-    keeps = c.step-step.ensures.keeps;
+    keeps = c.step-step.ensures.owes.keeps;
     handles = record {
       next = c.step-step.result.next;
       takes = takes_step g.C.Link g.O.Link g.O.Upstream c.args.core.now c.step-step.new.self c.args.phase
-          c.after_step.result c.step-step.result c.step-step.ensures.leads c.step-step.ensures.minds
-          c.step-step.ensures.waits c.step-step.ensures.leaves c.after_step.ensures.course;
+          c.after_step.result c.step-step.result c.step-step.ensures.leads c.step-step.ensures.owes.minds
+          c.step-step.ensures.owes.waits c.step-step.ensures.owes.leaves c.after_step.ensures.course;
       due = due_step g.C.Link g.O.Link g.O.Upstream c.args.main.now c.args.cx.now c.after_step.new.cx
           c.step-step.result.next
           c.step-step.result.phase c.after_step.result
