@@ -150,10 +150,10 @@ module _ {Q : Type 0} (v : View) (u : Option StageContinuation) (b : Context)
   }
 
 -- one that was led on goes on alone
-pub goes_led : {Q : Type 0} (lead : Lead) → GoesAlone {Q = Q} (course_led lead)
-goes_led L.TxnStart = tt
-goes_led (L.Finishing end) = tt
-goes_led (L.TxnClose end) = tt
+pub goes_led : (Q : Type 0) (lead : Lead) → GoesAlone {Q = Q} (course_led lead)
+goes_led Q L.TxnStart = tt
+goes_led Q (L.Finishing end) = tt
+goes_led Q (L.TxnClose end) = tt
 
 -- where its next event was set, or no number was left for one
 pub led_alone : {Q : Type 0} (course : Course Q) (t u : Option StageContinuation) (a b : Context)

@@ -94,6 +94,26 @@ pub stays_started : {Q : Type 0} (led new : Course Q) → is_fresh_on led ≡ fa
 stays_started led new started (inl same) = ap is_fresh_on same ∙ started
 stays_started led new started (inr lacks) = ap is_fresh_on lacks
 
+-- where nothing is done a core stays the same, and a transaction that closes goes on to close
+module _ {C O : Type 0} (client : link.Ghosts C) (origin : link.Ghosts O) (both : upstream.Ghosts O C) where
+  same_core : (s : Core C O) → StepKeeps client origin both s s
+  same_core s = record {
+    number = refl;
+    setup = refl;
+    plugins_at = refl;
+    client = record { source = refl; name = refl; plan = refl };
+    origin = record { source = refl; name = refl; plan = refl };
+    client_base = refl;
+    origin_base = refl;
+    dialed = refl;
+    pair = λ h. h;
+    refusal = record { still = λ c h. h; before = λ c h. h };
+  }
+
+closes_same : (Q : Type 0) (p : Phase) → ClosesAs {Q = Q} p (K.Phased p)
+closes_same Q (P.TxnClose end) = inl refl
+closes_same Q _ = tt
+
 module _ {C O Q : Type 0} (client : link.Ghosts C) (origin : link.Ghosts O) (both : upstream.Ghosts O C) where
   -- a step of a phase was made, and led to the phase that it answered, or to the end for want of memory
   pub takes_step : (s t : Core C O) (p : Phase) (new : Course Q) (made : Step) → StepLeads made
@@ -219,24 +239,6 @@ module _ {C O Q : Type 0} (client : link.Ghosts C) (origin : link.Ghosts O) (bot
   due_before main u is next (K.Finishing end) a b due = due
 
   -- nobody works at it, and nothing is done
-  same_core : (s : Core C O) → StepKeeps client origin both s s
-  same_core s = record {
-    number = refl;
-    setup = refl;
-    plugins_at = refl;
-    client = record { source = refl; name = refl; plan = refl };
-    origin = record { source = refl; name = refl; plan = refl };
-    client_base = refl;
-    origin_base = refl;
-    dialed = refl;
-    pair = λ h. h;
-    refusal = record { still = λ c h. h; before = λ c h. h };
-  }
-
-  closes_same : (p : Phase) → ClosesAs {Q = Q} p (K.Phased p)
-  closes_same (P.TxnClose end) = inl refl
-  closes_same _ = tt
-
   idle_on : (s : Core C O) (a : Context) (role : ℕ) (main : Option StageContinuation) (course : Course Q)
       → PassesNoBody course → HandlesOn client origin both s s a a role main course course
   idle_on s a role main (K.Phased p) none = record {
@@ -248,7 +250,7 @@ module _ {C O Q : Type 0} (client : link.Ghosts C) (origin : link.Ghosts O) (bot
         origin = leaves_in _ _ p (record { taken = refl; waits = refl });
         client = spares_in _ _ p (record { given = refl; held = refl });
       };
-      closes = closes_same p;
+      closes = closes_same Q p;
       started = λ was. was;
     };
     due = due_rests a 0;
@@ -261,7 +263,7 @@ module _ {C O Q : Type 0} (client : link.Ghosts C) (origin : link.Ghosts O) (bot
       → was ≡ course → PassesNoBody course → HandlesEvent client origin both s s a a role main was course
   idle s a role main was course same none =
       subst (λ x. HandlesEvent client origin both s s a a role main x course) (sym same)
-      (record { keeps = same_core s; handles = idle_on s a role main course none })
+      (record { keeps = same_core client origin both s; handles = idle_on s a role main course none })
 
   -- one of the last writes, said of the first continuation before its event was handled
   pub handles_finishing : (s t : Core C O) (a b : Context) (role : ℕ) (main u : Option StageContinuation)

@@ -15,7 +15,7 @@ returns-then-rouse_next-clause-covered g c =
     (led_alone (course_led c.args.lead) c.args.main.now c.rouse_next.new.main c.args.cx.now
     c.rouse_next.new.cx
     c.if-rouse_next.ensures.rouses c.rouse_next.ensures.seated c.rouse_next.ensures.within
-    (goes_led c.args.lead))
+    (goes_led _ c.args.lead))
 
 -- There was no memory for the event.
 pub returns-clause-covered : goal.returns-clause-covered
