@@ -1,8 +1,8 @@
 -- How many hexadecimal digits the length of a piece has.
 use Rattle.std.proofs.Common.{◌≡◌, ◌≢◌, false, ℕ, suc, ◌/◌, ◌%◌, ◌<◌, ◌≤◌, cond, List, [], ◌∷◌, length, refl}
-use Rattle.std.proofs.Common.{ap, ◌∙◌, ⊎_elim, arith}
+use Rattle.std.proofs.Common.{ap, ◌∙◌, arith}
 use Rattle.std.specs.Fmt.{digits, digits_onto, digit_glyph}
-use Rattle.std.proofs.lemmas.Bool.{cases_lt, eq-eqb, ne_eqb}
+use Rattle.std.proofs.lemmas.Bool.{eq-eqb, ne_eqb}
 use Rattle.ts_wire.specs.Frames.{hex}
 use Rattle.ts_wire.specs.Limits.{piece_limit}
 
@@ -52,18 +52,4 @@ four_digits n large small =
     ∙ last_digit 60 (n / 16 / 16 / 16) (digit_glyph false (n / 16 / 16 % 16) ∷ digit_glyph false (n / 16 % 16)
     ∷ digit_glyph false (n % 16) ∷ []) (omega arith)
 
--- a piece has four at most
-pub few_digits : (n : ℕ) → n ≤ piece_limit → length (hex n) ≤ 4
-few_digits n fits =
-    ⊎_elim
-    (λ (one : n < 16). let e = one_digit n one in omega (arith, e))
-    (λ (more : 16 ≤ n).
-    ⊎_elim
-    (λ (two : n < 256). let e = two_digits n more two in omega (arith, e))
-    (λ (more' : 256 ≤ n).
-    ⊎_elim
-    (λ (three : n < 4096). let e = three_digits n more' three in omega (arith, e))
-    (λ (four : 4096 ≤ n). let e = four_digits n four fits in omega (arith, e))
-    (cases_lt n 4096))
-    (cases_lt n 256))
-    (cases_lt n 16)
+pub ruleset hex_lengths = (one_digit, two_digits, three_digits, four_digits)

@@ -13,7 +13,7 @@ use ts_wire::Mode;
 const LINE_END: usize = 2;
 
 // How many hexadecimal digits the length of a piece has.
-#[tactic(auto, using(crate::proofs::HexLengths::one_digit, crate::proofs::HexLengths::two_digits, crate::proofs::HexLengths::three_digits, crate::proofs::HexLengths::four_digits))]
+#[tactic(auto, using(crate::proofs::HexLengths::hex_lengths))]
 fn count_digits(size: usize) -> usize
     requires { size ≤ piece_limit }
     ensures { result ≡ length (hex size) }

@@ -3,8 +3,8 @@ use Rattle.std.proofs.Common.{◌≡◌, ◌+◌, ◌≤◌, List, ℕ, [], get_
 use Rattle.std.proofs.Common.{arith}
 use Rattle.ts_wire.specs.Frames.{hex}
 use Rattle.ts_wire.specs.declared.frames.Mode.TheVariants.{Chunked}
+use Rattle.ts_wire.proofs.HexLemmas.{length-hex}
 use Rattle.ts_replay.specs.Unframing.{IsFramed}
-use Rattle.ts_replay.proofs.HexLengths.{few_digits}
 use Rattle.ts_replay.proofs.Unframing.{HasChunk, body_more, end_within, line_within, next_chunk, others_are}
 use Rattle.ts_replay.proofs.Unframing.{piece_is, piece_within, small_size}
 use Rattle.ts_replay.proofs.framed.unchunked.Goals as goal
@@ -25,8 +25,8 @@ count_digits-requires c = small_size (chunk (goal.at.count_digits-requires c).In
 pub overflow_add-count_digits : goal.overflow_add-count_digits
 overflow_add-count_digits c =
     let n = get_or c.args.cuts.now c.loop-cut.cut-index 0 in
-    let few : length (hex n) ≤ 4 = few_digits n (small_size
-    (chunk (goal.at.overflow_add-count_digits c).In-loop-cut c.requires.0 c.requires.1)) in
+    let few : length (hex n) ≤ 4 = length-hex n (omega (arith, small_size
+    (chunk (goal.at.overflow_add-count_digits c).In-loop-cut c.requires.0 c.requires.1))) in
     omega (arith, few, c.count_digits.ensures)
 
 pub split_at-requires : goal.split_at-requires
