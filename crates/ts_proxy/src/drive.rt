@@ -14,9 +14,6 @@ use ts_journal::Journal;
 use ts_link::{NoMemory, Sink, Wrote};
 use ts_transform::{ChainWorld, Transform};
 
-// The seat of whoever drives a group that nobody else owns.
-const SEAT: u64 = 0;
-
 // Writes what waits for the client.
 fn drain<P: Transform + Drop, K: Sink>(world: &mut ChainWorld<P>, out: &mut K) -> SendEnd
     ensures told { K.tells ≡ true →
@@ -78,10 +75,9 @@ fn drive_turn<P: Transform + Drop>(
     ensures ready { OnOk result (IsReadyForClient group.new) }
     ensures falls { OnOk result (HasLessLeft P.rest group.old group.new) }
 {
-    let Some(turn) = group.journal().turns().checked_add(1) else {
+    let Ok(()) = group.begin_alone(u64::MAX, moment) else {
         return Err(NoMemory);
     };
-    group.begin_turn(turn, SEAT, moment)?;
     let handled = handle_next(group, number, moment);
     group.give_turn();
     handled
@@ -97,10 +93,9 @@ fn start<P: Transform + Drop>(group: &mut Group<ChainWorld<P>>) -> Result<(), No
     ensures flow { to_come P.rest group.new.world ≡ to_come P.rest group.old.world }
     ensures ready { OnOk result (IsReadyForClient group.new) }
 {
-    let Some(turn) = group.journal().turns().checked_add(1) else {
+    let Ok(()) = group.begin_alone(u64::MAX, 0) else {
         return Err(NoMemory);
     };
-    group.begin_turn(turn, SEAT, 0)?;
     group.start();
     let woken = ChainWorld::wake(group);
     group.give_turn();

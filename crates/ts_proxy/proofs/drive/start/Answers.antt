@@ -1,4 +1,4 @@
-use Rattle.std.proofs.Common.{◌≡◌, ◌+◌, inr, ap, arith, rules, ◌∙◌}
+use Rattle.std.proofs.Common.{◌≡◌, ◌+◌, inr, ap, arith, refl, ◌∙◌}
 use Rattle.ts_group.proofs.Grows.{grows_trans}
 use Rattle.ts_proxy.specs.Journals.{opening_turn}
 use Rattle.ts_proxy.proofs.Serial.{moment_extends, within_grows, moment_grows, serial_turn}
@@ -6,18 +6,17 @@ use Rattle.ts_proxy.proofs.drive.start.Goals as goal
 
 pub returns-in-Ok-clause-serial : goal.returns-in-Ok-clause-serial
 returns-in-Ok-clause-serial g c =
-    let before = c.begin_turn.new.self.cx in
+    let before = c.begin_alone.new.self.cx in
     let after = c.wake-woken.new.group.cx in
     let grows = grows_trans c.start.ensures.grows c.wake-woken.ensures.keeps.grows in
-    let next : c.in-Some.turn ≡ c.args.group.now.cx.log.state.turns + 1 = search rules in
     let given : after.log.state.turns ≡ opening_turn =
     c.wake-woken.ensures.keeps.turns ∙ c.start.ensures.turn.turns ∙ ap (λ s. s.turns)
-    c.in_ok-begin_turn.ensures.begins.state ∙ omega (arith, next, c.requires.unused.none) in
+    c.in-Ok.ensures.begins.state ∙ omega (arith, c.requires.unused.none) in
     record {
-      on = serial_turn c.args.group.now.cx.log before.log after.log c.give_turn.new.self.cx.log c.in-Some.turn
-          after.log.state.turns next
-          c.in_ok-begin_turn.ensures.begins.by (within_grows before after grows) (inr given)
+      on = serial_turn c.args.group.now.cx.log before.log after.log c.give_turn.new.self.cx.log (c.args.group.now.cx.log.state.turns + 1)
+          after.log.state.turns refl
+          c.in-Ok.ensures.begins.by (within_grows before after grows) (inr given)
           c.give_turn.ensures.gives.by;
       now = moment_extends c.give_turn.ensures.gives.by ∙ moment_grows before after grows ∙ moment_extends
-          c.in_ok-begin_turn.ensures.begins.by ∙ c.requires.unused.fresh;
+          c.in-Ok.ensures.begins.by ∙ c.requires.unused.fresh;
     }
