@@ -77,7 +77,7 @@ HeirCounted todo w = w.whole ≡ true → w.done ≡ todo
 
 pub steps_little : (w : Steps Countdown) (s : State) → StepsSound (λ p. p.left) w s
     → IsSome (Some (2 * w.part.left + length s.pending)) ×
-        (2 * w.part.left + length s.pending ≤ MOST_WORK + s.next)
+    (2 * w.part.left + length s.pending ≤ MOST_WORK + s.next)
 steps_little w s sound = let few = sound.few in let most = sound.most in (refl, omega arith)
 
 pub steps_end : (todo t : ℕ) (w : Steps Countdown) (s : State) → t ≡ todo → StepsFits (λ p. p.left) t w
@@ -93,8 +93,11 @@ pub burst_ends : (todo t : ℕ) (w : Burst) (s : State) → t ≡ todo → Burst
 burst_ends todo t w s is fits sound none = λ whole.
     let zero = sound.ends whole none in
     let count = sound.count whole in
-    let done : w.done ≡ todo = omega arith in (done, subst (λ n. w.handled ≡ CALLS * n + 1) done
-        (omega arith))
+    let done : w.done ≡ todo = omega arith in (
+      done,
+      subst (λ n. w.handled ≡ CALLS * n + 1) done
+          (omega arith),
+    )
 
 pub heir_little : (t : ℕ) (w : Heir) (s : State) → HeirFits t w → HeirSound w s
     → IsSome (heir_left w s) × (unwrap_or (heir_left w s) 0 ≤ MOST_WORK + s.next)
@@ -103,7 +106,7 @@ heir_little t w s fits sound =
     let most = sound.most in
     let bound : 2 * w.heirs + length s.pending ≤ MOST_WORK + s.next = omega arith in
     subst (λ b. IsSome (told b w s) × (unwrap_or (told b w s) 0 ≤ MOST_WORK + s.next)) (sym fits.0)
-        (refl, bound)
+    (refl, bound)
 
 pub heir_ends : (todo t : ℕ) (w : Heir) (s : State) → t ≡ todo → HeirFits t w → HeirSound w s
     → length s.pending ≡ 0 → HeirCounted todo w

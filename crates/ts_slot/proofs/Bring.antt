@@ -196,7 +196,7 @@ module _ {X G T : Type 0} (fits : G → X → Type 0) (stamp : X → ℕ) (trace
       (λ j idle. b.others j (let a = total_at (λ (u : SeatView G T). traced j u.held) s.views id v at in omega
       arith))
       (λ j. let a = total_set (λ (u : SeatView G T). traced j u.held) s.views id v w at in let h = held j in
-          omega
+      omega
       arith)
       (λ j. let a = total_set (λ (u : SeatView G T). entries j u.turns) s.views id v w at in omega arith)
       (let a = total_set (λ (u : SeatView G T). u.share) s.views id v w at in omega arith)

@@ -158,7 +158,7 @@ module _ {X G T : Type 0} (fits : G → X → Type 0) (stamp : X → ℕ) (trace
         nobody_else : (j : ℕ) (u : SeatView G T) → j ≢ id → get_elem? s.views j ≡ some u → u ≡ nobody
         nobody_else j u ne there = (K.each_view j u there).blank
             (let two = total_two (λ (y : SeatView G T). y.share) s.views id j v u (λ e. ne (sym e)) at there
-                in let
+            in let
             all = K.shares in omega arith)
 
         held : total (λ u. traced k u.held) s.views ≡ 0

@@ -63,8 +63,13 @@ module _ {X G T : Type 0} (fits : G → X → Type 0) (stamp : X → ℕ) (trace
           omega arith,
           t ∙ c,
           x,
-          record { tag = at.tag; tag_is = at.tag_is; home_is = same b ∙ at.home_is; fit = at.fit; old = at.old
-              },
+          record {
+            tag = at.tag;
+            tag_is = at.tag_is;
+            home_is = same b ∙ at.home_is;
+            fit = at.fit;
+            old = at.old;
+          },
           subst (λ y. follows (trace x) y) (sym (past (last_turn - 1))) after,
         ),
       )
@@ -173,7 +178,7 @@ module _ {X G T : Type 0} (fits : G → X → Type 0) (stamp : X → ℕ) (trace
         each_view = λ j u e. ⊎_elim
             (λ (x : (j ≡ id) × (w ≡ u)). subst (ViewOk tags (set s.words k n) history) x.1 ok)
             (λ (x : (j ≢ id) × (get_elem? s.views j ≡ some u)). view_stays s.words k n K.history history u
-                wide'
+            wide'
             le past (alone j u x.0 x.1) (K.each_view j u x.1))
             (at_set s.views id j w u e);
         each_turn = λ j l m up reached. dite (ℕ_discrete j k)
@@ -183,7 +188,7 @@ module _ {X G T : Type 0} (fits : G → X → Type 0) (stamp : X → ℕ) (trace
             arith)))
             (λ ne.
             let r : 2 * m ≤ slice_index s.words j = let e = get_or-set_other s.words k j n 0 ne in omega arith
-                in
+            in
             subst (λ y. follows y (history j l)) (sym (apart_past j m ne))
             (subst (λ y. follows (K.history j m) y) (sym (apart_past j l ne)) (K.each_turn j l m up r)));
         shares = let a = total_set (λ (u : SeatView G T). u.share) s.views id v w at in let b = own.0 in let c

@@ -79,27 +79,27 @@ module _ {X G T : Type 0} (k t : ℕ) (c : T) (v : SeatView G T) where
 
 -- what holds of a seat holds again
 module _ {X G T : Type 0} (n : Mine X G T) (w : SeatView G T) (cs : List (ℕ × Option X)) (is : n ≡ (w, cs))
-    where
-  pub names_are : n.0.names ≡ w.names
-  names_are = ap (λ (m : Mine X G T). m.0.names) is
+  where
+    pub names_are : n.0.names ≡ w.names
+    names_are = ap (λ (m : Mine X G T). m.0.names) is
 
-  pub free_from_is : n.0.free_from ≡ w.free_from
-  free_from_is = ap (λ (m : Mine X G T). m.0.free_from) is
+    pub free_from_is : n.0.free_from ≡ w.free_from
+    free_from_is = ap (λ (m : Mine X G T). m.0.free_from) is
 
-  pub free_to_is : n.0.free_to ≡ w.free_to
-  free_to_is = ap (λ (m : Mine X G T). m.0.free_to) is
+    pub free_to_is : n.0.free_to ≡ w.free_to
+    free_to_is = ap (λ (m : Mine X G T). m.0.free_to) is
 
-  pub share_is : n.0.share ≡ w.share
-  share_is = ap (λ (m : Mine X G T). m.0.share) is
+    pub share_is : n.0.share ≡ w.share
+    share_is = ap (λ (m : Mine X G T). m.0.share) is
 
-  pub tags_are : n.0.tags ≡ w.tags
-  tags_are = ap (λ (m : Mine X G T). m.0.tags) is
+    pub tags_are : n.0.tags ≡ w.tags
+    tags_are = ap (λ (m : Mine X G T). m.0.tags) is
 
-  pub held_is : n.0.held ≡ w.held
-  held_is = ap (λ (m : Mine X G T). m.0.held) is
+    pub held_is : n.0.held ≡ w.held
+    held_is = ap (λ (m : Mine X G T). m.0.held) is
 
-  pub view_is : n.0 ≡ w
-  view_is = ap (λ (m : Mine X G T). m.0) is
+    pub view_is : n.0 ≡ w
+    view_is = ap (λ (m : Mine X G T). m.0) is
 
-  pub carries_are : cs ≡ emptied w.held → n.1 ≡ emptied n.0.held
-  carries_are e = ap (λ (m : Mine X G T). m.1) is ∙ e ∙ ap (λ (m : Mine X G T). emptied m.0.held) (sym is)
+    pub carries_are : cs ≡ emptied w.held → n.1 ≡ emptied n.0.held
+    carries_are e = ap (λ (m : Mine X G T). m.1) is ∙ e ∙ ap (λ (m : Mine X G T). emptied m.0.held) (sym is)

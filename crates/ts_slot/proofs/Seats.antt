@@ -50,7 +50,7 @@ module _ {X G T : Type 0} (fits : G → X → Type 0) (stamp : X → ℕ) (trace
       (λ j. let a = total_set (λ (u : SeatView G T). traced j u.held) s.views id v (left_half v) at in let b =
       total_append (λ (u : SeatView G T). traced j u.held) views (right_half v ∷ []) in omega arith)
       (λ j. let a = total_set (λ (u : SeatView G T). entries j u.turns) s.views id v (left_half v) at in let b
-          =
+      =
       total_append (λ (u : SeatView G T). entries j u.turns) views (right_half v ∷ []) in omega arith)
       (let a = total_set (λ (u : SeatView G T). u.share) s.views id v (left_half v) at in let b = total_append
       (λ (u : SeatView G T). u.share) views (right_half v ∷ []) in omega arith)

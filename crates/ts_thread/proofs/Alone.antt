@@ -20,12 +20,12 @@ module _ (Lack : Type 0) where
   turns_append zero n s es fs none b =
       let count : n ≡ 0 + n = omega arith in
       subst (λ (k : ℕ). AreOwnTurns Lack k s (es ++ fs)) count
-          (subst (λ (xs : List Entry). AreOwnTurns Lack n s (xs ++ fs)) (sym none)
-          (subst (λ (xs : List Entry). AreOwnTurns Lack n (replay s xs) fs) none b))
+      (subst (λ (xs : List Entry). AreOwnTurns Lack n s (xs ++ fs)) (sym none)
+      (subst (λ (xs : List Entry). AreOwnTurns Lack n (replay s xs) fs) none b))
   turns_append (suc m) n s es fs (turn, others, is, are, rest) b =
       let count : suc (m + n) ≡ suc m + n = omega arith in
       let state : replay s es ≡ replay (replay s turn) others = ap (replay s) are ∙ replay-append s turn
-          others in
+      others in
       let all : AreOwnTurns Lack (suc (m + n)) s (es ++ fs) = (
         turn,
         others ++ fs,
@@ -37,8 +37,14 @@ module _ (Lack : Type 0) where
       subst (λ (k : ℕ). AreOwnTurns Lack k s (es ++ fs)) count all
 
   pub takes_none : (a b : Log) (n : ℕ) → IsSameLog a b → TakesTurns Lack a b n
-  takes_none a b n same = record { turns = 0; few = omega arith; added = []; by = extends_none a b same; are =
-      refl }
+  takes_none a b n same = record {
+    turns = 0;
+    few = omega arith;
+    added = [];
+    by = extends_none a b same;
+    are =
+        refl;
+  }
 
   pub takes_on : (a b c : Log) (m n : ℕ) → TakesTurns Lack a b m → TakesTurns Lack b c n
       → TakesTurns Lack a c (m + n)
@@ -55,10 +61,10 @@ module _ (Lack : Type 0) where
   pub one_turn : (a b c d : Context) (turn moment : ℕ) (did : List Entry) → turn ≡ a.log.state.turns + 1
       → BeginsTurn a b turn 0 moment → Extends b.log c.log did → c.log.state.turns ≡ b.log.state.turns
       → ((Lack × (did ≡ [])) ⊎ HandlesDue a.log.state did ⊎ HandlesQuestion a.log.state did) → GivesTurn c d
-          → TakesTurns Lack a.log d.log 1
+      → TakesTurns Lack a.log d.log 1
   one_turn a b c d turn moment did is begins by turns first gives =
       let all : Extends a.log d.log ((Took turn 0 ∷ []) ++ (did ++ (Gave c.log.state.turns ∷ []))) =
-          extends_trans begins.by (extends_trans by gives.by) in
+      extends_trans begins.by (extends_trans by gives.by) in
       let turn_b : b.log.state.turns ≡ turn = ap (λ (s : State). s.turns) begins.state in
       let gave : c.log.state.turns ≡ a.log.state.turns + 1 = turns ∙ turn_b ∙ is in
       let whole : List Entry = Took turn 0 ∷ (did ++ (Gave c.log.state.turns ∷ [])) in
@@ -106,9 +112,13 @@ module _ (Lack : Type 0) where
 pub turns_over : {L M : Type 0} → (L → M) → (n : ℕ) (s : State) (es : List Entry) → AreOwnTurns L n s es
     → AreOwnTurns M n s es
 turns_over f zero s es none = none
-turns_over {L} {M} f (suc n) s es (turn, others, is, are, rest) =
-    (turn, others, record { did = is.did; are = is.are; first = first_over is.did s is.first }, are,
-    turns_over f n (replay s turn) others rest)
+turns_over {L} {M} f (suc n) s es (turn, others, is, are, rest) = (
+  turn,
+  others,
+  record { did = is.did; are = is.are; first = first_over is.did s is.first },
+  are,
+  turns_over f n (replay s turn) others rest,
+)
   where
     first_over : (did : List Entry) (t : State) → (L × (did ≡ [])) ⊎ HandlesDue t did ⊎ HandlesQuestion t did
         → (M × (did ≡ [])) ⊎ HandlesDue t did ⊎ HandlesQuestion t did
@@ -116,18 +126,26 @@ turns_over {L} {M} f (suc n) s es (turn, others, is, are, rest) =
     first_over did t (inr some) = inr some
 
 pub takes_over : {L M : Type 0} → (L → M) → (a b : Log) (n : ℕ) → TakesTurns L a b n → TakesTurns M a b n
-takes_over f a b n t = record { turns = t.turns; few = t.few; added = t.added; by = t.by; are = turns_over f
-    t.turns a.state t.added t.are }
+takes_over f a b n t = record {
+  turns = t.turns;
+  few = t.few;
+  added = t.added;
+  by = t.by;
+  are = turns_over f
+      t.turns a.state t.added t.are;
+}
 
 -- the entries of a handling begin with the event that is named
 pub runs_begin : {W : Type 0} (Called : W → W → List ℕ → Type 0) (old new : W) (s : State) (moment number : ℕ)
     (queue : List ℕ) (k : ℕ) (es : List Entry) (left : List ℕ)
     → RunsFrom Called old new s moment number queue k es left
-        → (others : List Entry) × (es ≡ Handled number moment ∷ others)
+    → (others : List Entry) × (es ≡ Handled number moment ∷ others)
 runs_begin Called old new s moment number queue zero es left h = absurd h
 runs_begin Called old new s moment number queue (suc zero) es left (asked, run, called, ends) =
     (renewal run.event s.next moment ++ run.own, run.entries_are)
 runs_begin Called old new s moment number queue (suc (suc k)) es left
-    (asked, run, others, is, are, mid, called, next, behind, found, rest) =
-    ((renewal is.event s.next moment ++ is.own) ++ others, are ∙ ap (λ (xs : List Entry). xs ++ others)
-        is.entries_are)
+    (asked, run, others, is, are, mid, called, next, behind, found, rest) = (
+      (renewal is.event s.next moment ++ is.own) ++ others,
+      are ∙ ap (λ (xs : List Entry). xs ++ others)
+          is.entries_are,
+    )

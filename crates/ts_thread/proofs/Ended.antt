@@ -45,18 +45,18 @@ module _ {W Q R T U : Type 0} (Fits : T → W → Type 0) (Sound : W → State �
     turns_enough limit turns ts gs ends fit few =
         let little : All (λ g. HasHadTurns turns g → left_in_all Left g ≤ ends.most) gs =
         zip_across (λ t g. GroupFits Fits Sound oa isf t g)
-            (λ t. (g : Group W Q R T U) → GroupFits Fits Sound oa isf t g → HasHadTurns turns g → left_in_all
-            Left g ≤ ends.most) (λ g. HasHadTurns turns g → left_in_all Left g ≤ ends.most) ts gs
+        (λ t. (g : Group W Q R T U) → GroupFits Fits Sound oa isf t g → HasHadTurns turns g → left_in_all
+        Left g ≤ ends.most) (λ g. HasHadTurns turns g → left_in_all Left g ≤ ends.most) ts gs
         (λ t g each fits. each g fits) ends.each fit in
         let all : All (λ g. left_in_all Left g ≤ ends.most) gs = λ k d low. little k d low (few k d low) in
         let sum : sum_by (left_in_all Left) gs ≤ length gs * ends.most = sum_by-le (left_in_all Left)
-            ends.most gs
-            all in
+        ends.most gs
+        all in
         let count : length gs ≡ length ts = fit_count (λ t g. GroupFits Fits Sound oa isf t g) ts gs fit in
         let same : length gs * ends.most ≡ length ts * ends.most = ap (λ (n : ℕ). n * ends.most) count in
         let enough : turns + length ts * ends.most + 1 < limit = ends.enough in
         All-weaker (HasHadTurns turns) (HasTurns limit (sum_by (left_in_all Left) gs)) (λ g h. omega arith) gs
-            few
+        few
 
   -- a group that follows another, follows it still when it went on
   later_follows : (x g h : Group W Q R T U) → IsLaterGroup g h → KeepsTags Fits g.world h.world
@@ -91,22 +91,27 @@ module _ {W Q R T U : Type 0} (Fits : T → W → Type 0) (Sound : W → State �
   all_follow r Left limit turns [] (g ∷ gs) hs all goes = absurd all
   all_follow r Left limit turns (x ∷ xs) [] hs all goes = absurd all
   all_follow r Left limit turns (x ∷ xs) (g ∷ gs) [] all goes = absurd goes
-  all_follow r Left limit turns (x ∷ xs) (g ∷ gs) (h ∷ hs) all goes =
-      (later_follows x g h goes.0.later goes.0.tags all.0, all_follow r Left limit turns xs gs hs all.1
-      goes.1)
+  all_follow r Left limit turns (x ∷ xs) (g ∷ gs) (h ∷ hs) all goes = (
+    later_follows x g h goes.0.later goes.0.tags all.0,
+    all_follow r Left limit turns xs gs hs all.1
+        goes.1,
+  )
 
   -- the group from which one went on
   back_at : (r : Result (Unit {0}) Unfinished) (Left : W → State → Option ℕ) (limit turns : ℕ)
       (gs hs : List (Group W Q R T U)) (k : ℕ) (h : Group W Q R T U)
       → AllGoOn Fits Sound oa isf Left limit r gs hs turns → get_elem? hs k ≡ some h
       → (g : Group W Q R T U) × (get_elem? gs k ≡ some g) × HasTakenTurns Fits Sound oa isf Left limit r g h
-          turns
+      turns
   back_at r Left limit turns [] [] k h a e = absurd (cc)
   back_at r Left limit turns [] (y ∷ ys) k h a e = absurd a
   back_at r Left limit turns (x ∷ xs) [] k h a e = absurd a
-  back_at r Left limit turns (x ∷ xs) (y ∷ ys) zero h a e = let is : y ≡ h = cc in
-      (x, refl, subst (λ (z : Group W Q R T U). HasTakenTurns Fits Sound oa isf Left limit r x z turns) is
-      a.0)
+  back_at r Left limit turns (x ∷ xs) (y ∷ ys) zero h a e = let is : y ≡ h = cc in (
+    x,
+    refl,
+    subst (λ (z : Group W Q R T U). HasTakenTurns Fits Sound oa isf Left limit r x z turns) is
+        a.0,
+  )
   back_at r Left limit turns (x ∷ xs) (y ∷ ys) (suc k) h a e = back_at r Left limit turns xs ys k h a.1 e
 
   -- groups that had so many turns at most had no more of them alone than one thread gives
@@ -120,14 +125,14 @@ module _ {W Q R T U : Type 0} (Fits : T → W → Type 0) (Sound : W → State �
       let had : g.cx.log.state.turns ≤ m = All-head (HasHadTurns m) g gs few in
       let within : h.cx.log.state.turns ≤ max g.cx.log.state.turns limit = goes.0.within in
       All-cons (HasHadTurns (max m limit)) h hs (omega arith)
-          (few_on Left limit n m gs hs goes.1 (All-tail (HasHadTurns m) g gs few))
+      (few_on Left limit n m gs hs goes.1 (All-tail (HasHadTurns m) g gs few))
 
   -- groups that threads ran and that went on to their end
   pub have_ended : (Left : W → State → Option ℕ) (Begun : W → W → Type 0) (tags : List T)
       (starts threads budget turns : ℕ) (given old new : List (Group W Q R T U))
       → HaveRun Fits Sound oa isf Begun tags given starts threads budget old
       → AllGoOn Fits Sound oa isf Left MOST_ALONE (Ok tt) old new turns → All IsIdle new
-          → HaveEnded Fits Sound oa isf Begun tags given starts threads budget new
+      → HaveEnded Fits Sound oa isf Begun tags given starts threads budget new
   have_ended Left Begun tags starts threads budget turns given old new run goes idle = record {
     follow = all_follow (Ok tt) Left MOST_ALONE turns given old new run.follow goes;
     fits = fits_on Fits Sound oa isf Left MOST_ALONE _ tags old new turns run.fits goes;

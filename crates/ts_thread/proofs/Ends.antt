@@ -34,7 +34,7 @@ use Rattle.ts_thread.proofs.Tokens.{one_if, All-added}
 pub desk_added : {X G T : Type 0} {d : Ghosts X G T} (slots : Slots X G T) (queue : EventQueue)
     (a b : Desk X G T d) (token : Token) (due : ℕ) → token.group < length (tags_of slots)
     → IsSeatOf slots b.seat → b.pass ≡ a.pass → b.wheel ≡ added due token a.wheel → IsDeskOf slots queue a
-        → IsDeskOf slots queue b
+    → IsDeskOf slots queue b
 desk_added slots queue a b token due names seat pass wheel was = record {
   seat = seat;
   pass = subst (λ p. IsPassOf queue p) (sym pass) was.pass;
@@ -61,9 +61,9 @@ module _ {W Q R T U : Type 0} where
     stamp = inr (gives.number ∙ has.number);
     marks = λ mark there.
         let was : Contains (marks_of found.cx.log.entries ++ (turn, seat) ∷ []) mark = subst
-            (λ ms. Contains ms mark) (gives.marks ∙ has.marks) there in
+        (λ ms. Contains ms mark) (gives.marks ∙ has.marks) there in
         ⊎_elim (λ (old : Contains (marks_of found.cx.log.entries) mark). inl old)
-            (λ (one : Contains ((turn, seat) ∷ []) mark). inr (one_mark (turn, seat) mark one))
+        (λ (one : Contains ((turn, seat) ∷ []) mark). inr (one_mark (turn, seat) mark one))
         (Contains-append_cases (marks_of found.cx.log.entries) ((turn, seat) ∷ []) mark was);
     later = later_trans found.cx.log.state a.cx.log.state b.cx.log.state has.later gives.later;
     base = gives.base ∙ has.base;
@@ -98,15 +98,15 @@ module _ {W Q R T U : Type 0} where
         → IsSame (record a'.cx { news_from = b.cx.news_from }) b.cx → b.world ≡ a'.world → b' ≡ b
         → GivesBack b' c
         → new.wheel ≡ mid.wheel → new.pass ≡ mid.pass → KnowsTurn k turn c (view new.seat).known
-            → HasTold k' moment a' b old mid → EndsTurn k turn moment a old new
+        → HasTold k' moment a' b old mid → EndsTurn k turn moment a old new
     ends_turn k k' turn moment a a' b b' c old mid new ke e same world f gives' wheel pass knows told =
         let gives : GivesBack b c = subst (λ x. GivesBack x c) f gives' in
         let pending : c.cx.log.state.pending ≡ b.cx.log.state.pending = gives.same.pending in
         let from = gives.news_from in
         let state : b.cx.log.state ≡ a.cx.log.state = same.log.state ∙ ap
-            (λ (x : Group W Q R T U). x.cx.log.state) e in
+        (λ (x : Group W Q R T U). x.cx.log.state) e in
         let told' : HasTold k moment a b old mid = subst
-            (λ (x : ℕ × Group W Q R T U). HasTold x.0 moment x.1 b old mid) (λ i. (ke i, e i)) told in
+        (λ (x : ℕ × Group W Q R T U). HasTold x.0 moment x.1 b old mid) (λ i. (ke i, e i)) told in
         record {
           left = c;
           as_now = record {
@@ -122,9 +122,9 @@ module _ {W Q R T U : Type 0} where
             each = λ n p there low. placed p (told'.each n p (sym (ap (pending_at n) pending) ∙ there) low);
             once = λ t.
                 let news : is_news k a c t ≡ is_news k a b t =
-                    (λ i. is_between k a.cx.news_from (from i) (pending i) t) in
+                (λ i. is_between k a.cx.news_from (from i) (pending i) t) in
                 let places : places_of t new ≡ places_of t mid =
-                    (λ i. in_wheel t (wheel i) + in_tickets t (pass_view (pass i)).put) in
+                (λ i. in_wheel t (wheel i) + in_tickets t (pass_view (pass i)).put) in
                 places ∙ told'.once t ∙ ap (λ (b : Bool). places_of t old + one_if b) (sym news);
             keeps = record {
               wheel = λ x there. subst (IsIn x) (sym wheel) (told'.keeps.wheel x there);
@@ -140,6 +140,9 @@ module _ {W Q R T U : Type 0} where
         placed : (p : Pending) → HasPlace moment k p mid → HasPlace moment k p new
         placed p (inl there) = inl (subst (IsIn (p.due, record { group = k; number = p.number })) (sym wheel)
             there)
-        placed p (inr put) = inr (put.0, subst
-            (λ (q : QueuePass). HasTicket (record { group = k; number = p.number }) (pass_view q).put)
-            (sym pass) put.1)
+        placed p (inr put) = inr (
+          put.0,
+          subst
+              (λ (q : QueuePass). HasTicket (record { group = k; number = p.number }) (pass_view q).put)
+              (sym pass) put.1,
+        )

@@ -47,8 +47,8 @@ own_handles s (Destroyed key ∷ es) own = own_handles (after s (Destroyed key))
 renewal_marks : (p : Pending) (next moment : ℕ) → marks_of (renewal p next moment) ≡ []
 renewal_marks p next moment =
     split (nat_lt 0 p.period && nat_lt next GREATEST)
-        (λ t. marks_of (cond t (Set next p.key Timeout (moment_after moment p.period) p.series p.period ∷ [])
-        []) ≡ [])
+    (λ t. marks_of (cond t (Set next p.key Timeout (moment_after moment p.period) p.series p.period ∷ [])
+    []) ≡ [])
     (λ e. refl) (λ e. refl)
 
 -- no mark is added by entries that have none
@@ -64,7 +64,7 @@ run_marks : (s : State) (moment number : ℕ) (asked : List ℕ) (run : List Ent
 run_marks s moment number asked run r =
     let ren = renewal r.event s.next moment in
     ap marks_of r.entries_are ∙ no_marks ren r.own (own_marks r.own r.all_own) ∙ renewal_marks r.event s.next
-        moment
+    moment
 
 pub runs_marks : {W : Type 0} (Called : W → W → List ℕ → Type 0) (u v : W) (s : State) (moment number : ℕ)
     (queue : List ℕ) (k : ℕ) (es : List Entry) (left : List ℕ)
@@ -75,7 +75,7 @@ runs_marks Called u v s moment number queue (suc zero) es left (asked, r, called
 runs_marks Called u v s moment number queue (suc (suc k)) es left
     (asked, run, rest, r, e, mid, called, next, behind, n, more) =
     ap marks_of e ∙ no_marks run rest (runs_marks Called mid v (replay s run) moment next behind (suc k) rest
-        left more) ∙ run_marks s moment number asked run r
+    left more) ∙ run_marks s moment number asked run r
 
 -- the first entry says that the event of the number was handled
 pub record HandlesFirst (s : State) (moment number : ℕ) (es : List Entry) : Type 0 where
@@ -98,8 +98,13 @@ runs_first Called u v s moment number queue (suc zero) es left (asked, r, called
 runs_first Called u v s moment number queue (suc (suc k)) es left
     (asked, run, rest, r, e, mid, called, next, behind, n, more) =
     let first = run_first s moment number asked run r in
-    record { rest = first.rest ++ rest; is = e ∙ ap (λ fs. fs ++ rest) first.is; event = first.event; there =
-        first.there }
+    record {
+      rest = first.rest ++ rest;
+      is = e ∙ ap (λ fs. fs ++ rest) first.is;
+      event = first.event;
+      there =
+          first.there;
+    }
 
 -- after a first entry that handles an event, the event is not pending any more; it was due at the moment
 pub record IsHandled (s t : State) (moment number : ℕ) : Type 0 where
@@ -115,12 +120,12 @@ is_handled s t moment number es valid lawful is first =
     let may = lawful'.0 in
     let mid = after s (Handled number moment) in
     let later : IsLater mid (replay mid first.rest) = never_back_lem mid first.rest
-        (valid_after s (Handled number moment) valid may) lawful'.1 in
+    (valid_after s (Handled number moment) valid may) lawful'.1 in
     let known = is_known s number first.event valid first.there in
     let below = known.below in
     let numbered = known.number in
     let gone : pending_at number (without number s.pending) ≡ None = pending_gone number 0 s.pending s.next
-        valid.rises in
+    valid.rises in
     let end : replay mid first.rest ≡ t = ap (replay s) (sym first.is) ∙ sym is in
     record {
       event = may.1;

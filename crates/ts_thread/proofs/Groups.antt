@@ -134,9 +134,9 @@ module _ {W Q R T U : Type 0} where
     stamp = inr (gives.number ∙ has.number);
     marks = λ mark there.
         let was : Contains (marks_of found.cx.log.entries ++ (turn, seat) ∷ []) mark = subst
-            (λ ms. Contains ms mark) (gives.marks ∙ has.marks) there in
+        (λ ms. Contains ms mark) (gives.marks ∙ has.marks) there in
         ⊎_elim (λ (old : Contains (marks_of found.cx.log.entries) mark). inl old)
-            (λ (one : Contains ((turn, seat) ∷ []) mark). inr (one_mark (turn, seat) mark one))
+        (λ (one : Contains ((turn, seat) ∷ []) mark). inr (one_mark (turn, seat) mark one))
         (Contains-append_cases (marks_of found.cx.log.entries) ((turn, seat) ∷ []) mark was);
     later = later_trans found.cx.log.state a.cx.log.state b.cx.log.state has.later gives.later;
     base = gives.base ∙ has.base;

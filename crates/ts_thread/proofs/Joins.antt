@@ -38,12 +38,14 @@ module _ {G T : Type 0} where
     held = ap (λ (y : SeatView G T). y.held) is ∙ left.held;
     turns = let a = right.turns in let b = left.turns in
         let c : length x.turns ≡ length w.turns + length u.turns = ap (λ (y : SeatView G T). length y.turns)
-            is ∙
-            length-append w.turns u.turns in omega arith;
+        is ∙
+        length-append w.turns u.turns in omega arith;
     misses = let a = left.misses in let c : length x.misses ≡ length u.misses = ap
         (λ (y : SeatView G T). length y.misses) is in omega arith;
-    known = record { stays = λ e h. subst (IsIn e) (sym (ap (λ (y : SeatView G T). y.known) is))
-        (in_append e w.known u.known (left.known.stays e h)) };
+    known = record {
+      stays = λ e h. subst (IsIn e) (sym (ap (λ (y : SeatView G T). y.known) is))
+          (in_append e w.known u.known (left.known.stays e h));
+    };
   }
 
   -- what the seat knew of which another was split off, the two know together
@@ -55,13 +57,19 @@ module _ {G T : Type 0} where
 
   -- what the seat that was split off knows, the two know together
   pub joined_more : (u w x : SeatView G T) → x ≡ joined u w → More w.known x.known
-  joined_more u w x is = record { stays = λ e h. subst (IsIn e) (sym (ap (λ (y : SeatView G T). y.known) is))
-      (in_front e w.known u.known h) }
+  joined_more u w x is = record {
+    stays = λ e h. subst (IsIn e) (sym (ap (λ (y : SeatView G T). y.known) is))
+        (in_front e w.known u.known h);
+  }
 
 -- what the pass that was split off put, the two have put together
 pub joined_put : (t : Token) (u w x : Known) → x ≡ with_joined u w → HasTicket t w.put → HasTicket t x.put
-joined_put t u w x is put = (put.0, subst (IsIn put.0) (sym (ap (λ (y : Known). y.put) is))
-    (in_front put.0 w.put u.put put.1), put.2)
+joined_put t u w x is put = (
+  put.0,
+  subst (IsIn put.0) (sym (ap (λ (y : Known). y.put) is))
+      (in_front put.0 w.put u.put put.1),
+  put.2,
+)
 
 -- the same for the shares of a pass
 pub joined_share : (v w u x : Known) → 1 ≤ v.share → w.share ≡ (split_part v).share

@@ -20,7 +20,7 @@ module _ {W Q R T U : Type 0} (Fits : T → W → Type 0) (is_first : T → Bool
   started_first =
       let own = was.first in
       let same : is_first own.0 ≡ true = subst (λ (u : T). is_first u ≡ true)
-          (place_once tags k t own.0 there own.1) first in
+      (place_once tags k t own.0 there own.1) first in
       subst (λ b. OnTrue b (was.started.cx.log.base.turns ≡ 0)) same own.2
 
   -- its world was started from one that fits each tag that the given one fitted

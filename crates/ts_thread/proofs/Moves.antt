@@ -51,7 +51,7 @@ not_asked true s number p none there = let h : pending_at number [] ≡ Some p =
 pub next_pending : (s : State) (moment number : ℕ) → IsDueFirst s moment number → s.pending ≡ [] → ⊥
 next_pending s moment number due none =
     let there : pending_at number s.pending ≡ Some due.0 = subst
-        (λ (n : ℕ). pending_at n s.pending ≡ Some due.0) due.3 due.1.0 in
+    (λ (n : ℕ). pending_at n s.pending ≡ Some due.0) due.3 due.1.0 in
     let h : pending_at number [] ≡ Some due.0 = sym (ap (pending_at number) none) ∙ there in absurd (cc)
 
 -- one event more may be set in one turn more
@@ -103,13 +103,19 @@ gave_later s t turn is = subst (IsLater s) (sym is) (record {
 })
 
 pub later_same : {W Q R T U : Type 0} (g h : Group W Q R T U) → IsSame g.cx h.cx → IsLaterGroup g h
-later_same g h same = record { base = same.log.base; later = subst (IsLater g.cx.log.state)
-    (sym same.log.state) (later_refl g.cx.log.state) }
+later_same g h same = record {
+  base = same.log.base;
+  later = subst (IsLater g.cx.log.state)
+      (sym same.log.state) (later_refl g.cx.log.state);
+}
 
 later_on : {W Q R T U : Type 0} (g h k : Group W Q R T U) → IsLaterGroup g h → IsLaterGroup h k
     → IsLaterGroup g k
-later_on g h k a b = record { base = b.base ∙ a.base; later = later_trans g.cx.log.state h.cx.log.state
-    k.cx.log.state a.later b.later }
+later_on g h k a b = record {
+  base = b.base ∙ a.base;
+  later = later_trans g.cx.log.state h.cx.log.state
+      k.cx.log.state a.later b.later;
+}
 
 -- a turn is taken, the state goes on in it, and it is given back
 over_turn : {W Q R T U : Type 0} (g0 g1 g2 g3 : Group W Q R T U) (turn moment : ℕ)
@@ -120,7 +126,7 @@ over_turn g0 g1 g2 g3 turn moment more begins base on gives = record {
   later = later_trans g0.cx.log.state g1.cx.log.state g3.cx.log.state
       (took_later g0.cx.log.state g1.cx.log.state turn 0 more begins.state)
       (later_trans g1.cx.log.state g2.cx.log.state g3.cx.log.state on
-          (gave_later g2.cx.log.state g3.cx.log.state g2.cx.log.state.turns gives.state));
+      (gave_later g2.cx.log.state g3.cx.log.state g2.cx.log.state.turns gives.state));
 }
 
 module _ {W Q R T U : Type 0} (Fits : T → W → Type 0) (Sound : W → State → List Named → Type 0)
@@ -158,31 +164,31 @@ module _ {W Q R T U : Type 0} (Fits : T → W → Type 0) (Sound : W → State �
   pub stepped : {r : Result (Unit {0}) Unfinished} (g0 g1 g2 g3 : Group W Q R T U) (turn moment number : ℕ)
       → ComesNext g0 number moment → g0.cx.log.state.turns < limit → turn ≡ g0.cx.log.state.turns + 1
       → BeginsTurn g0.cx g1.cx turn 0 moment → g1.world ≡ g0.world
-          → Left g1.world g1.cx.log.state ≡ Left g0.world g0.cx.log.state
+      → Left g1.world g1.cx.log.state ≡ Left g0.world g0.cx.log.state
       → WorksOn Fits Sound Left r g1 g2
       → GivesTurn g2.cx g3.cx → g3.world ≡ g2.world
-          → Left g3.world g3.cx.log.state ≡ Left g2.world g2.cx.log.state → Holds Sound g3
+      → Left g3.world g3.cx.log.state ≡ Left g2.world g2.cx.log.state → Holds Sound g3
       → HasTakenTurns Fits Sound oa isf Left limit r g0 g3 1
   stepped {r = r} g0 g1 g2 g3 turn moment number due young is begins same left works gives still left_too
       sound =
       let there : pending_at number g0.cx.log.state.pending ≡ Some due.0 = subst
-          (λ (n : ℕ). pending_at n g0.cx.log.state.pending ≡ Some due.0) due.3 due.1.0 in
+      (λ (n : ℕ). pending_at n g0.cx.log.state.pending ≡ Some due.0) due.3 due.1.0 in
       let next1 : g1.cx.log.state.next ≡ g0.cx.log.state.next = ap (λ (s : State). s.next) begins.state in
       let turns1 : g1.cx.log.state.turns ≡ turn = ap (λ (s : State). s.turns) begins.state in
       let next3 : g3.cx.log.state.next ≡ g2.cx.log.state.next = ap (λ (s : State). s.next) gives.state in
       let turns3 : g3.cx.log.state.turns ≡ g2.cx.log.state.turns = ap (λ (s : State). s.turns) gives.state in
       let turns2 : g2.cx.log.state.turns ≡ g1.cx.log.state.turns = works.turn.turns in
       let tags : KeepsTags Fits g0.world g3.world = λ t f. subst (λ (w : W). Fits t w) (sym still)
-          (works.tags t (subst (λ (w : W). Fits t w) (sym same) f)) in
+      (works.tags t (subst (λ (w : W). Fits t w) (sym same) f)) in
       record {
         fits = λ t f.
             let few : g2.cx.log.state.next ≤ g1.cx.log.state.next + MOST_IN_TURN = works.few t
-                (subst (λ (w : W). Fits t w) (sym same) f.0) in
+            (subst (λ (w : W). Fits t w) (sym same) f.0) in
             let rest = f.2 in
             let other : oa t ≡ false = not_asked (oa t) g0.cx.log.state number due.0 rest.2 there in
             let was : g0.cx.log.state.next ≤ MOST_IN_TURN * g0.cx.log.state.turns + 1 = subst
-                (λ (b : Bool). g0.cx.log.state.next ≤ cond b (g0.cx.log.state.turns + 1)
-                (MOST_IN_TURN * g0.cx.log.state.turns + 1)) other rest.1 in
+            (λ (b : Bool). g0.cx.log.state.next ≤ cond b (g0.cx.log.state.turns + 1)
+            (MOST_IN_TURN * g0.cx.log.state.turns + 1)) other rest.1 in
             let now : g3.cx.log.state.next ≤ MOST_IN_TURN * g3.cx.log.state.turns + 1 = omega arith in (
               tags t f.0,
               sound,
@@ -218,11 +224,16 @@ module _ {W Q R T U : Type 0} (Fits : T → W → Type 0) (Sound : W → State �
         fits = λ t f.
             let fit : Fits t h.world = subst (λ (w : W). Fits t w) (sym world) f.0 in
             let sound : Sound h.world h.cx.log.state h.cx.roles = subst
-                (λ (x : W × State × List Named). Sound x.0 x.1 x.2)
-                (λ i. (sym world i, sym state i, sym cx.roles i)) f.1 in
+            (λ (x : W × State × List Named). Sound x.0 x.1 x.2)
+            (λ i. (sym world i, sym state i, sym cx.roles i)) f.1 in
             let rest : IsAtRest (oa t) h.cx.log.state = subst (λ (s : State). IsAtRest (oa t) s) (sym state)
-                f.2 in (fit, sound, rest, subst (λ (s : State). OnTrue (isf t) (s.turns ≡ 0))
-                (sym cx.log.base) f.3);
+            f.2 in (
+              fit,
+              sound,
+              rest,
+              subst (λ (s : State). OnTrue (isf t) (s.turns ≡ 0))
+                  (sym cx.log.base) f.3,
+            );
         tags = λ t f. subst (λ (w : W). Fits t w) (sym world) f;
         took = let e = ap (λ (s : State). s.turns) state in omega arith;
         within = let e = ap (λ (s : State). s.turns) state in within_same limit g.cx.log.state.turns
@@ -239,8 +250,11 @@ module _ {W Q R T U : Type 0} (Fits : T → W → Type 0) (Sound : W → State �
   same_works g h held sound same lack =
       let state : h.cx.log.state ≡ g.cx.log.state = same.cx.log.state in
       record {
-        turn = record { held = ap (λ (s : State). s.held) state ∙ held; turns = ap (λ (s : State). s.turns)
-            state };
+        turn = record {
+          held = ap (λ (s : State). s.held) state ∙ held;
+          turns = ap (λ (s : State). s.turns)
+              state;
+        };
         did = [];
         by = extends_none g.cx.log h.cx.log same.cx.log;
         first = inl (lack, refl);
@@ -258,8 +272,8 @@ module _ {W Q R T U : Type 0} (Fits : T → W → Type 0) (Sound : W → State �
       (g h : Group W Q R T U) (number moment events : ℕ) → ComesNext g number moment → IsValid g.cx.log.state
       → Handles Called g h number moment events
       → KeepsTags Fits g.world h.world → Holds Sound h
-          → SetsAtMost Fits g.world (MOST_EVENTS * (MOST_SET + 1)) g.cx h.cx → LeavesLess Left g events h
-          → WorksOn Fits Sound Left r g h
+      → SetsAtMost Fits g.world (MOST_EVENTS * (MOST_SET + 1)) g.cx h.cx → LeavesLess Left g events h
+      → WorksOn Fits Sound Left r g h
   handled_works Called g h number moment events due valid handles tags sound few falls = record {
     did = handles.es;
     by = handles.by;
@@ -280,24 +294,29 @@ module _ {W Q R T U : Type 0} (Fits : T → W → Type 0) (Sound : W → State �
       (g h k : Group W Q R T U) (number moment events : ℕ) → ComesNext g number moment
       → IsValid g.cx.log.state → IsValid h.cx.log.state → Handles Called g h number moment events
       → KeepsTags Fits g.world h.world → SetsAtMost Fits g.world (MOST_EVENTS * (MOST_SET + 1)) g.cx h.cx
-          → LeavesLess Left g events h
+      → LeavesLess Left g events h
       → Grows h.cx k.cx → StaysInTurn h.cx.log.state k.cx.log.state → Holds Sound k
-          → KeepsTags Fits h.world k.world → SetsAtMost Fits h.world MOST_SET h.cx k.cx
-          → ((IsErrOf r unfinished.Worn → ⊥) → LeavesLess Left h 0 k)
+      → KeepsTags Fits h.world k.world → SetsAtMost Fits h.world MOST_SET h.cx k.cx
+      → ((IsErrOf r unfinished.Worn → ⊥) → LeavesLess Left h 0 k)
       → WorksOn Fits Sound Left r g k × ((IsErrOf r unfinished.Worn → ⊥) → LeavesLess Left g 1 k)
   told_works {r = r} Called g h k number moment events due valid valid' handles tags few falls grows turn
       sound tags' few' falls' =
       let some : 1 ≤ events = handles.some in
       let begin = runs_begin Called g.world h.world g.cx.log.state moment number [] events handles.es
-          h.cx.calls handles.runs in
+      h.cx.calls handles.runs in
       let less : (IsErrOf r unfinished.Worn → ⊥) → LeavesLess Left g (events + 0) k =
       λ well. falls_trans (Left g.world g.cx.log.state) (Left h.world h.cx.log.state)
-          (Left k.world k.cx.log.state) events 0 falls (falls' well) in (
+      (Left k.world k.cx.log.state) events 0 falls (falls' well) in (
         record {
           did = handles.es ++ grows.log.own;
           by = extends_trans handles.by grows.log.by;
-          first = inr (record { number = number; due = moment; first = due; others = begin.0 ++ grows.log.own;
-              are = ap (λ (xs : List Entry). xs ++ grows.log.own) begin.1 });
+          first = inr (record {
+            number = number;
+            due = moment;
+            first = due;
+            others = begin.0 ++ grows.log.own;
+            are = ap (λ (xs : List Entry). xs ++ grows.log.own) begin.1;
+          });
           turn = record { held = turn.held; turns = turn.turns ∙ handles.turn.turns };
           later = later_trans g.cx.log.state h.cx.log.state k.cx.log.state
               (extends_later g.cx.log h.cx.log handles.es valid handles.by)
@@ -317,13 +336,13 @@ module _ {W Q R T U : Type 0} (Fits : T → W → Type 0) (Sound : W → State �
       (tag : T) → GroupFits Fits Sound oa isf tag g0 → g0.cx.log.state.turns < limit
       → turn ≡ g0.cx.log.state.turns + 1
       → BeginsTurn g0.cx g1.cx turn 0 moment → g1.world ≡ g0.world
-          → Left g1.world g1.cx.log.state ≡ Left g0.world g0.cx.log.state
+      → Left g1.world g1.cx.log.state ≡ Left g0.world g0.cx.log.state
       → SetsQuestion Fits g1.world g1.cx g2.cx → KeepsTags Fits g1.world g2.world → (did : List Entry)
-          → Extends g1.cx.log g2.cx.log did → ((IsErrOf r unfinished.NoMemory × (did ≡ [])) ⊎ HandlesQuestion
-          g1.cx.log.state did) → IsLater g1.cx.log.state g2.cx.log.state → g2.cx.log.state.turns ≡
-          g1.cx.log.state.turns → LeavesLess Left g1 0 g2
+      → Extends g1.cx.log g2.cx.log did → ((IsErrOf r unfinished.NoMemory × (did ≡ [])) ⊎ HandlesQuestion
+      g1.cx.log.state did) → IsLater g1.cx.log.state g2.cx.log.state → g2.cx.log.state.turns ≡
+      g1.cx.log.state.turns → LeavesLess Left g1 0 g2
       → GivesTurn g2.cx g3.cx → g3.world ≡ g2.world
-          → Left g3.world g3.cx.log.state ≡ Left g2.world g2.cx.log.state → Holds Sound g3
+      → Left g3.world g3.cx.log.state ≡ Left g2.world g2.cx.log.state → Holds Sound g3
       → HasTakenTurns Fits Sound oa isf Left limit r g0 g3 1
   asked_goes {r = r} g0 g1 g2 g3 turn moment tag fit young is begins same left sets keeps did by asks later
       turns2 less gives still left_too sound =
@@ -334,10 +353,10 @@ module _ {W Q R T U : Type 0} (Fits : T → W → Type 0) (Sound : W → State �
       let set = sets tag (subst (λ (w : W). Fits tag w) (sym same) fit.0) in
       let few : g2.cx.log.state.next ≤ g1.cx.log.state.next + 1 = set.0 in
       let nothing : g0.cx.log.state.pending ≡ []
-          → g3.cx.log.state.pending ≡ [] = λ none. ap (λ (s : State). s.pending) gives.state ∙ set.1
-          (ap (λ (s : State). s.pending) begins.state ∙ none) in
+      → g3.cx.log.state.pending ≡ [] = λ none. ap (λ (s : State). s.pending) gives.state ∙ set.1
+      (ap (λ (s : State). s.pending) begins.state ∙ none) in
       let tags : KeepsTags Fits g0.world g3.world = λ t f. subst (λ (w : W). Fits t w) (sym still)
-          (keeps t (subst (λ (w : W). Fits t w) (sym same) f)) in
+      (keeps t (subst (λ (w : W). Fits t w) (sym same) f)) in
       record {
         fits = λ t f. (
           tags t f.0,
@@ -373,14 +392,14 @@ module _ {W Q R T U : Type 0} (Fits : T → W → Type 0) (Sound : W → State �
   pub can_ask : (g0 g1 : Group W Q R T U) (turn moment : ℕ) (tag : T) → GroupFits Fits Sound oa isf tag g0
       → oa tag ≡ true → g0.cx.log.state.turns < limit → limit ≤ MOST_TURNS
       → OnTrue (oa tag) (IsLive g0.cx.log.state.live own_key) → BeginsTurn g0.cx g1.cx turn 0 moment
-          → CanBeAsked g1.cx.log.state
+      → CanBeAsked g1.cx.log.state
   can_ask g0 g1 turn moment tag fit asked young low rests begins =
       let next1 : g1.cx.log.state.next ≡ g0.cx.log.state.next = ap (λ (s : State). s.next) begins.state in
       let was : g0.cx.log.state.next ≤ g0.cx.log.state.turns + 1 = subst
-          (λ (b : Bool). g0.cx.log.state.next ≤ cond b (g0.cx.log.state.turns + 1)
-          (MOST_IN_TURN * g0.cx.log.state.turns + 1)) asked fit.2.1 in
+      (λ (b : Bool). g0.cx.log.state.next ≤ cond b (g0.cx.log.state.turns + 1)
+      (MOST_IN_TURN * g0.cx.log.state.turns + 1)) asked fit.2.1 in
       let live : IsLive g0.cx.log.state.live own_key = subst
-          (λ (b : Bool). OnTrue b (IsLive g0.cx.log.state.live own_key)) asked rests in
+      (λ (b : Bool). OnTrue b (IsLive g0.cx.log.state.live own_key)) asked rests in
       record {
         turn = ap (λ (s : State). s.held) begins.state;
         live = subst (λ (keys : List ContKey). IsLive keys own_key)

@@ -40,7 +40,7 @@ module _ {W Q R T U : Type 0} {d : Ghosts (Group W Q R T U) T (Group W Q R T U)}
   pub one_more_ran : (n : ℕ) → 1 < n → (seat back one one' rest rest' : Seat (Group W Q R T U) T
       (Group W Q R T U) d)
       → (pass back_pass p p' q q' : QueuePass) → IsSplit seat one rest pass p q
-          → IsRejoined back one' rest' back_pass p' q'
+      → IsRejoined back one' rest' back_pass p' q'
       → AllRanToEnd Fits Asking Answers Called Heard Left tags budget (n - 1) rest q rest' q'
       → RanToEnd Fits Asking Answers Called Heard Left tags budget one p one' p'
       → AllRanToEnd Fits Asking Answers Called Heard Left tags budget n seat pass back back_pass
@@ -73,7 +73,7 @@ module _ {W Q R T U : Type 0} {d : Ghosts (Group W Q R T U) T (Group W Q R T U)}
       → (old.seat ≡ seat) × (old.pass ≡ pass) × (old.wheel ≡ []) → (new.seat ≡ back) × (new.pass ≡ back_pass)
       → IfOk result (HasRunTo Fits Asking Answers Called Heard Left own budget old new)
       → OnTrue (is_ok result) (RanToEnd Fits Asking Answers Called Heard Left tags budget seat pass back
-          back_pass)
+      back_pass)
   ran_alone own same result old new seat back pass back_pass begins ends =
       on_ok result (λ end ran. record {
         old = old;

@@ -49,8 +49,11 @@ module _ {W Q R T U : Type 0} (Fits : T → W → Type 0) (Sound : W → State �
   all_well r [] [] n a = tt
   all_well r [] (h ∷ hs) n a = absurd a
   all_well r (g ∷ gs) [] n a = absurd a
-  all_well r (g ∷ gs) (h ∷ hs) n a = (goes_well Fits Sound oa isf Left limit g h n a.0, all_well r gs hs n
-      a.1)
+  all_well r (g ∷ gs) (h ∷ hs) n a = (
+    goes_well Fits Sound oa isf Left limit g h n a.0,
+    all_well r gs hs n
+        a.1,
+  )
 
   pub all_trans : (r : Result (Unit {0}) Unfinished) (gs hs ks : List (Group W Q R T U)) (m n : ℕ)
       → AllGoOn Fits Sound oa isf Left limit r gs hs m → AllGoOn Fits Sound oa isf Left limit r hs ks n
@@ -76,7 +79,7 @@ module _ {W Q R T U : Type 0} (Fits : T → W → Type 0) (Sound : W → State �
       (g h : Group W Q R T U) (n : ℕ) → AllGoOn Fits Sound oa isf Left limit r before before' n
       → HasTakenTurns Fits Sound oa isf Left limit r g h n
       → AllGoOn Fits Sound oa isf Left limit r after after' n
-          → AllGoOn Fits Sound oa isf Left limit r (before ++ g ∷ after) (before' ++ h ∷ after') n
+      → AllGoOn Fits Sound oa isf Left limit r (before ++ g ∷ after) (before' ++ h ∷ after') n
   all_row [] [] after after' g h n a b c = (b, c)
   all_row [] (x ∷ xs) after after' g h n a b c = absurd a
   all_row (x ∷ xs) [] after after' g h n a b c = absurd a
@@ -135,9 +138,9 @@ module _ {W Q R T U : Type 0} (Fits : T → W → Type 0) (Sound : W → State �
   row_at : (first last : List T) (tag : T) (before after : List (Group W Q R T U)) (here : Group W Q R T U)
       (k : ℕ) (u : T)
       → GroupsFit Fits Sound oa isf first before → GroupsFit Fits Sound oa isf last after
-          → (k ≡ length before → ⊥) → slice_get (first ++ tag ∷ last) k ≡ Some u
+      → (k ≡ length before → ⊥) → slice_get (first ++ tag ∷ last) k ≡ Some u
       → (g : Group W Q R T U) × (slice_get (before ++ here ∷ after) k ≡ Some g) × GroupFits Fits Sound oa isf
-          u g
+      u g
   row_at [] last tag [] after here zero u f l other e = absurd (other refl)
   row_at [] last tag [] after here (suc k) u f l other e = zip_at last after k u l e
   row_at [] last tag (b ∷ bs) after here k u f l other e = absurd f
@@ -177,18 +180,18 @@ module _ {W Q R T U : Type 0} (Fits : T → W → Type 0) (Sound : W → State �
   pub askable : (MayAsk : W → ℕ → Type 0) (Right : W → ℕ → Q → R → Type 0) (Answers : W → Q → R → Type 0)
       (tags : List T) (before after : List (Group W Q R T U)) (old world : W) (here : Group W Q R T U) (k : ℕ)
       → CanAsk Fits oa MayAsk Right Answers tags → FitAround Fits Sound oa isf tags before old after
-          → KeepsTags Fits old world → MayAsk world k
-          → IsAskable MayAsk Right Answers before after world here k
+      → KeepsTags Fits old world → MayAsk world k
+      → IsAskable MayAsk Right Answers before after world here k
   askable MayAsk Right Answers tags before after old world here k can h keeps may =
       let j : ℕ = length h.first in
       let mine : slice_get tags j ≡ Some h.tag = ap (λ (ts : List T). slice_get ts j) h.are ∙ get_middle
-          h.first h.tag h.last j refl in
+      h.first h.tag h.last j refl in
       let fit : Fits h.tag world = keeps h.tag h.fits in
       let found = can.others j k h.tag world mine fit may in
       let len : j ≡ length before = length_fit h.first before h.fit_before in
       let other : k ≡ length before → ⊥ = λ e. found.0 (len ∙ sym e) in
       let at = row_at h.first h.last h.tag before after here k found.1 h.fit_before h.fit_after other
-          (sym (ap (λ (ts : List T). slice_get ts k) h.are) ∙ found.2) in
+      (sym (ap (λ (ts : List T). slice_get ts k) h.are) ∙ found.2) in
       record {
         other = other;
         tag = found.1;
@@ -250,7 +253,7 @@ module _ {W Q R T U : Type 0} (Fits : T → W → Type 0) (Sound : W → State �
       let young : g.cx.log.state.turns + m + 1 < limit = All-head (HasTurns limit m) g gs all in
       let took : h.cx.log.state.turns ≤ g.cx.log.state.turns + n = a.0.took in
       All-cons (λ k. k.cx.log.state.turns < limit) h hs (omega arith)
-          (young_on r gs hs n m a.1 le (All-tail (HasTurns limit m) g gs all))
+      (young_on r gs hs n m a.1 le (All-tail (HasTurns limit m) g gs all))
 
   -- where each group has turns enough for all that is left to do, none is worn
   pub finish_spares : (gs hs : List (Group W Q R T U)) (result : Result (Unit {0}) Unfinished)
@@ -260,7 +263,7 @@ module _ {W Q R T U : Type 0} (Fits : T → W → Type 0) (Sound : W → State �
       let worn = ends.worn is in
       let young = young_on result gs hs ends.turns (sum_by (left_in_all Left) gs) ends.goes ends.within all in
       let low : worn.1.cx.log.state.turns < limit = subst
-          (λ (h : Group W Q R T U). h.cx.log.state.turns < limit) worn.3 (young worn.0 worn.1 worn.2) in
+      (λ (h : Group W Q R T U). h.cx.log.state.turns < limit) worn.3 (young worn.0 worn.1 worn.2) in
       let high : limit ≤ worn.1.cx.log.state.turns = worn.4.0 in
       omega arith
 
@@ -294,8 +297,8 @@ module _ {W Q R T U : Type 0} (Fits : T → W → Type 0) (Sound : W → State �
   pub driving_goes_on : (b0 b1 b2 : List (Group W Q R T U)) (g0 g1 g2 : Group W Q R T U)
       (a0 a1 a2 : List (Group W Q R T U)) → IsDriving b0 b1 g0 g1 a0 a1
       → AllGoOn Fits Sound oa isf Left limit (Ok tt) b1 b2 1
-          → HasTakenTurns Fits Sound oa isf Left limit (Ok tt) g1 g2 1
-          → AllGoOn Fits Sound oa isf Left limit (Ok tt) a1 a2 1 → LeavesLess Left g1 1 g2
+      → HasTakenTurns Fits Sound oa isf Left limit (Ok tt) g1 g2 1
+      → AllGoOn Fits Sound oa isf Left limit (Ok tt) a1 a2 1 → LeavesLess Left g1 1 g2
       → IsDriving b0 b2 g0 g2 a0 a2 × (left_in_all Left g2 < left_in_all Left g1)
   driving_goes_on b0 b1 b2 g0 g1 g2 a0 a1 a2 h b g a falls =
       let left = left_falls (Left g1.world g1.cx.log.state) (Left g2.world g2.cx.log.state) 1 h.tells falls in
@@ -315,9 +318,9 @@ module _ {W Q R T U : Type 0} (Fits : T → W → Type 0) (Sound : W → State �
   pub driving_stops : (b0 b1 b2 : List (Group W Q R T U)) (g0 g1 g2 : Group W Q R T U)
       (a0 a1 a2 : List (Group W Q R T U)) (e : Unfinished) → IsDriving b0 b1 g0 g1 a0 a1
       → AllGoOn Fits Sound oa isf Left limit (Err e) b1 b2 1
-          → HasTakenTurns Fits Sound oa isf Left limit (Err e) g1 g2 1
-          → AllGoOn Fits Sound oa isf Left limit (Err e) a1 a2 1
-          → WornAmong Fits Sound oa isf limit (Err e) (row b2 g2 a2)
+      → HasTakenTurns Fits Sound oa isf Left limit (Err e) g1 g2 1
+      → AllGoOn Fits Sound oa isf Left limit (Err e) a1 a2 1
+      → WornAmong Fits Sound oa isf limit (Err e) (row b2 g2 a2)
       → Drives Fits Sound oa isf Left limit b0 b2 g0 g2 a0 a2 (Err e)
   driving_stops b0 b1 b2 g0 g1 g2 a0 a1 a2 e h b g a worn = record {
     turns = h.turns + 1;
@@ -358,14 +361,14 @@ module _ {W Q R T U : Type 0} (Fits : T → W → Type 0) (Sound : W → State �
   -- no more is left to do, and worlds go on to tell it
   left_on : (gs hs : List (Group W Q R T U)) (n : ℕ) → AllGoOn Fits Sound oa isf Left limit (Ok tt) gs hs n
       → All (Finite Left) gs → (sum_by (left_in_all Left) hs ≤ sum_by (left_in_all Left) gs) × All
-          (Finite Left)
+      (Finite Left)
       hs
   left_on [] [] n a tells = (omega arith, All-nil (Finite Left))
   left_on [] (h ∷ hs) n a tells = absurd a
   left_on (g ∷ gs) [] n a tells = absurd a
   left_on (g ∷ gs) (h ∷ hs) n a tells =
       let one = left_falls (Left g.world g.cx.log.state) (Left h.world h.cx.log.state) 0
-          (All-head (Finite Left) g gs tells) (a.0.falls (λ is. never_worn is)) in
+      (All-head (Finite Left) g gs tells) (a.0.falls (λ is. never_worn is)) in
       let less : left_in_all Left h + 0 ≤ left_in_all Left g = one.1 in
       let rest = left_on gs hs n a.1 (All-tail (Finite Left) g gs tells) in
       let rest_less : sum_by (left_in_all Left) hs ≤ sum_by (left_in_all Left) gs = rest.0 in (
@@ -402,7 +405,7 @@ module _ {W Q R T U : Type 0} (Fits : T → W → Type 0) (Sound : W → State �
   pub finishing_goes_on : (old front front' rest rest' : List (Group W Q R T U)) (g h : Group W Q R T U)
       (place : ℕ) → length front ≡ place → IsFinishing old (front ++ g ∷ rest) place
       → Drives Fits Sound oa isf Left limit front front' g h rest rest' (Ok tt)
-          → IsFinishing old (front' ++ h ∷ rest') (place + 1)
+      → IsFinishing old (front' ++ h ∷ rest') (place + 1)
   finishing_goes_on old front front' rest rest' g h place len was drives =
       let tells_front = all_front (Finite Left) front (g ∷ rest) was.tells in
       let tells_rest = All-tail (Finite Left) g rest (all_rest (Finite Left) front (g ∷ rest) was.tells) in
@@ -410,60 +413,70 @@ module _ {W Q R T U : Type 0} (Fits : T → W → Type 0) (Sound : W → State �
       let first = left_on front front' drives.turns drives.first tells_front in
       let last = left_on rest rest' drives.turns drives.last tells_rest in
       let own = left_falls (Left g.world g.cx.log.state) (Left h.world h.cx.log.state) 0 tells_g
-          (drives.own.falls (λ is. never_worn is)) in
+      (drives.own.falls (λ is. never_worn is)) in
       let first_less : sum_by (left_in_all Left) front' ≤ sum_by (left_in_all Left) front = first.0 in
       let last_less : sum_by (left_in_all Left) rest' ≤ sum_by (left_in_all Left) rest = last.0 in
       let own_less : left_in_all Left h + drives.turns ≤ left_in_all Left g = drives.less in
       let before = was.less in
       let idle_front : All IsIdle front = subst (λ (gs : List (Group W Q R T U)). All IsIdle gs)
-          (take_front front (g ∷ rest) place len) was.idle in
+      (take_front front (g ∷ rest) place len) was.idle in
       let len' : length front' ≡ place = length_on _ front front' drives.turns drives.first ∙ len in
       record {
         turns = was.turns + drives.turns;
         goes = all_trans Fits Sound oa isf Left limit _ old (front ++ g ∷ rest) (front' ++ h ∷ rest')
             was.turns drives.turns was.goes
             (all_row Fits Sound oa isf Left limit front front' rest rest' g h drives.turns drives.first
-                drives.own drives.last);
-        less = omega (arith, sum_by-append (left_in_all Left) front (g ∷ rest), sum_by-append
-            (left_in_all Left)
-            front' (h ∷ rest'), sum_by-cons (left_in_all Left) g rest, sum_by-cons (left_in_all Left) h
-                rest');
+            drives.own drives.last);
+        less = omega (
+          arith,
+          sum_by-append (left_in_all Left) front (g ∷ rest),
+          sum_by-append
+              (left_in_all Left)
+              front' (h ∷ rest'),
+          sum_by-cons (left_in_all Left) g rest,
+          sum_by-cons (left_in_all Left) h
+              rest',
+        );
         tells = All-append (Finite Left) front' (h ∷ rest') first.1
             (All-cons (Finite Left) h rest' own.0 last.1);
         idle = subst (λ (gs : List (Group W Q R T U)). All IsIdle gs)
             (sym (take_one_more front' h rest' place len'))
             (All-append IsIdle front' (h ∷ []) (idle_on _ front front' drives.turns drives.first idle_front)
-                (All-cons IsIdle h [] drives.idle (All-nil IsIdle)));
+            (All-cons IsIdle h [] drives.idle (All-nil IsIdle)));
       }
 
   left-le-sum : (front : List (Group W Q R T U)) (g : Group W Q R T U) (rest : List (Group W Q R T U))
       → left_in_all Left g ≤ sum_by (left_in_all Left) (front ++ g ∷ rest)
-  left-le-sum front g rest = omega (arith, sum_by-append (left_in_all Left) front (g ∷ rest), sum_by-cons
-      (left_in_all Left) g rest)
+  left-le-sum front g rest = omega (
+    arith,
+    sum_by-append (left_in_all Left) front (g ∷ rest),
+    sum_by-cons
+        (left_in_all Left) g rest,
+  )
 
   pub finishing_next : (old new next : List (Group W Q R T U)) (place : ℕ) → IsFinishing old new place
       → DrivesAt Fits Sound oa isf Left limit place new next (Ok tt) → IsFinishing old next (place + 1)
   finishing_next old new next place was at = subst
       (λ (gs : List (Group W Q R T U)). IsFinishing old gs (place + 1)) (sym at.new_is)
       (finishing_goes_on old at.before at.before' at.after at.after' at.group at.group' place at.at_place
-          (subst (λ (gs : List (Group W Q R T U)). IsFinishing old gs place) at.old_is was) at.drives)
+      (subst (λ (gs : List (Group W Q R T U)). IsFinishing old gs place) at.old_is was) at.drives)
 
   pub finishing_stops : (old new next : List (Group W Q R T U)) (place : ℕ) (e : Unfinished)
       → IsFinishing old new place → DrivesAt Fits Sound oa isf Left limit place new next (Err e)
       → Finishes Fits Sound oa isf Left limit old next (Err e)
   finishing_stops old new next place e was at =
       let row_goes = all_row Fits Sound oa isf Left limit at.before at.before' at.after at.after' at.group
-          at.group' at.drives.turns at.drives.first at.drives.own at.drives.last in
+      at.group' at.drives.turns at.drives.first at.drives.own at.drives.last in
       let left : left_in_all Left at.group ≤ sum_by (left_in_all Left) new = subst
-          (λ (gs : List (Group W Q R T U)). left_in_all Left at.group ≤ sum_by (left_in_all Left) gs)
-          (sym at.old_is) (left-le-sum at.before at.group at.after) in
+      (λ (gs : List (Group W Q R T U)). left_in_all Left at.group ≤ sum_by (left_in_all Left) gs)
+      (sym at.old_is) (left-le-sum at.before at.group at.after) in
       record {
         turns = was.turns + at.drives.turns;
         within = let less = was.less in let few = at.drives.within in omega arith;
         goes = all_trans Fits Sound oa isf Left limit _ old new next was.turns at.drives.turns
             (all_well Fits Sound oa isf Left limit (Err e) old new was.turns was.goes)
             (subst (λ (x : List (Group W Q R T U) × List (Group W Q R T U)). AllGoOn Fits Sound oa isf Left
-                limit (Err e) x.0 x.1 at.drives.turns) (λ i. (sym at.old_is i, sym at.new_is i)) row_goes);
+            limit (Err e) x.0 x.1 at.drives.turns) (λ i. (sym at.old_is i, sym at.new_is i)) row_goes);
         less = tt;
         idle = tt;
         worn = subst (λ (gs : List (Group W Q R T U)). WornAmong Fits Sound oa isf limit (Err e) gs)

@@ -107,8 +107,8 @@ module _ {X G T : Type 0} {d : Ghosts X G T} where
   pub left_seat : (turn : Turn X G T d) (v w : SeatView G T) (r : Left)
       → IsTop v turn.group turn.number (d.trace turn.found.value)
       → (r ≡ Freed → LeavesFree turn v w) → (r ≡ Worn → LeavesWorn turn v w)
-          → GivesUp turn.group v.held w.held → Leaves v w × KnowsTurn turn.group turn.number
-          (d.trace turn.value) w.known
+      → GivesUp turn.group v.held w.held → Leaves v w × KnowsTurn turn.group turn.number
+      (d.trace turn.value) w.known
   left_seat turn v w Freed top freed worn up =
       let is = (freed refl).is in (
         record {

@@ -59,7 +59,7 @@ pub entered_left : {X G T : Type 0} {d : Ghosts X G T} (tags : List G) (k : ℕ)
     (turn : Turn X G T d) → IsEntered tags k old new turn → Leaves new u → KeepsSeat old u 1
 entered_left {d = d} tags k old new u turn entered leaves =
     keeps_trans old entered.before u 0 1 1 (omega arith) entered.misses
-        (won_left entered.before new u k turn.number (d.trace turn.value) entered.wins leaves)
+    (won_left entered.before new u k turn.number (d.trace turn.value) entered.wins leaves)
 
 module _ {W Q R T U : Type 0} (Fits : T → W → Type 0) (Sound : W → State → List Named → Type 0)
     (only_asked is_first : T → Bool) (Begun : W → W → Type 0) (tags : List T) where
@@ -68,28 +68,28 @@ module _ {W Q R T U : Type 0} (Fits : T → W → Type 0) (Sound : W → State �
       → FitsHere Fits Sound only_asked is_first tags k v → get_elem? tags k ≡ some t → only_asked t ≡ false
       → k' ≡ k → g0 ≡ v
       → HasTurn Fits g0 g1 turn seat → BeginsSame g0 g1 → g1' ≡ g1 → StartsInTurn Fits Sound Begun g1' g2
-          → v.cx.log.state.turns < turn → WillFit Fits Sound only_asked is_first tags k' g2
+      → v.cx.log.state.turns < turn → WillFit Fits Sound only_asked is_first tags k' g2
   start_fits k k' turn seat v g0 g1 g1' g2 t fit at not group is has same is1 starts later =
       let own = fit.0 in
       let tag : own ≡ t = place_once tags k own t fit.1 at in
       let free : only_asked own ≡ false = ap only_asked tag ∙ not in
       let world : g1'.world ≡ v.world = ap (λ (x : Group W Q R T U). x.world) is1 ∙ same.world ∙ ap
-          (λ (x : Group W Q R T U). x.world) is in
+      (λ (x : Group W Q R T U). x.world) is in
       let fits1 : Fits own g1'.world = subst (λ w. Fits own w) (sym world) fit.2.0 in
       let rest = fit.2.2 in
       let was : v.cx.log.state.next ≤ MOST_IN_TURN * v.cx.log.state.turns + 1 = subst
-          (λ (b : Bool). v.cx.log.state.next ≤ cond b (v.cx.log.state.turns + 1)
-          (MOST_IN_TURN * v.cx.log.state.turns + 1)) free rest.1 in
+      (λ (b : Bool). v.cx.log.state.next ≤ cond b (v.cx.log.state.turns + 1)
+      (MOST_IN_TURN * v.cx.log.state.turns + 1)) free rest.1 in
       let next : g1'.cx.log.state.next ≡ v.cx.log.state.next = ap
-          (λ (x : Group W Q R T U). x.cx.log.state.next) is1 ∙ same.next ∙ ap
-          (λ (x : Group W Q R T U). x.cx.log.state.next) is in
+      (λ (x : Group W Q R T U). x.cx.log.state.next) is1 ∙ same.next ∙ ap
+      (λ (x : Group W Q R T U). x.cx.log.state.next) is in
       let more : g2.cx.log.state.next ≤ g1'.cx.log.state.next + 100 = starts.few own fits1 in
       let number : g2.cx.log.state.turns ≡ turn = starts.goes.turn.turns ∙ ap
-          (λ (x : Group W Q R T U). x.cx.log.state.turns) is1 ∙ has.number in
+      (λ (x : Group W Q R T U). x.cx.log.state.turns) is1 ∙ has.number in
       let few : g2.cx.log.state.next ≤ MOST_IN_TURN * g2.cx.log.state.turns + 1 = omega arith in
       let base : g2.cx.log.base ≡ v.cx.log.base = starts.goes.base ∙ ap
-          (λ (x : Group W Q R T U). x.cx.log.base) is1 ∙ has.base ∙ ap
-          (λ (x : Group W Q R T U). x.cx.log.base) is in (
+      (λ (x : Group W Q R T U). x.cx.log.base) is1 ∙ has.base ∙ ap
+      (λ (x : Group W Q R T U). x.cx.log.base) is in (
         own,
         ap (get_elem? tags) group ∙ fit.1,
         starts.goes.tags own fits1,
@@ -107,29 +107,33 @@ module _ {W Q R T U : Type 0} (Fits : T → W → Type 0) (Sound : W → State �
       (found v g0 g1 g1' g2 left : Group W Q R T U) (old before entered new : SeatView T (Group W Q R T U))
       → FitsHere Fits Sound only_asked is_first tags k v → found ≡ v → g0 ≡ v
       → HasTurn Fits g0 g1 turn seat → BeginsSame g0 g1 → g1' ≡ g1 → StartsInTurn Fits Sound Begun g1' g2
-          → v.cx.log.state.turns < turn → entered ≡ won k turn v before → Leaves entered new
+      → v.cx.log.state.turns < turn → entered ≡ won k turn v before → Leaves entered new
       → left.world ≡ g2.world → left.cx.log.base ≡ g2.cx.log.base → IsLater g2.cx.log.state left.cx.log.state
-          → NoNews left.cx.news_from left.cx.log.state
+      → NoNews left.cx.news_from left.cx.log.state
       → ((n : ℕ) (p : Pending) → pending_at n left.cx.log.state.pending ≡ Some p → g2.cx.news_from ≤ n →
-          HasToken k p)
+      HasToken k p)
       → KnowsTurn k turn left new.known
       → Starts Fits (IsFirst is_first tags) Begun Sound HasToken k turn found g2 left new.known
   starts_one HasToken k turn seat found v g0 g1 g1' g2 left old before entered new fit is_found is has same
       is1 starts young wins leaves stays base later told tokens knows =
       let world : g1'.world ≡ found.world = ap (λ (x : Group W Q R T U). x.world) is1 ∙ same.world ∙ ap
-          (λ (x : Group W Q R T U). x.world) is ∙ ap (λ (x : Group W Q R T U). x.world) (sym is_found) in
+      (λ (x : Group W Q R T U). x.world) is ∙ ap (λ (x : Group W Q R T U). x.world) (sym is_found) in
       let base0 : g2.cx.log.base ≡ v.cx.log.base = starts.goes.base ∙ ap
-          (λ (x : Group W Q R T U). x.cx.log.base) is1 ∙ has.base ∙ ap
-          (λ (x : Group W Q R T U). x.cx.log.base) is in
+      (λ (x : Group W Q R T U). x.cx.log.base) is1 ∙ has.base ∙ ap
+      (λ (x : Group W Q R T U). x.cx.log.base) is in
       let taken : HasTurn Fits found g1' turn seat = subst
-          (λ (x : Group W Q R T U). HasTurn Fits x g1' turn seat) (is ∙ sym is_found)
-          (subst (λ (x : Group W Q R T U). HasTurn Fits g0 x turn seat) (sym is1) has) in
+      (λ (x : Group W Q R T U). HasTurn Fits x g1' turn seat) (is ∙ sym is_found)
+      (subst (λ (x : Group W Q R T U). HasTurn Fits g0 x turn seat) (sym is1) has) in
       let gone : HasTurn Fits found g2 turn seat = has_gone Fits found g1' g2 turn seat taken starts.goes in
       let there : IsIn (k, turn - 1, v) entered.known = subst (IsIn (k, turn - 1, v))
-          (sym (ap (λ (x : SeatView T (Group W Q R T U)). x.known) wins)) (inl refl) in
+      (sym (ap (λ (x : SeatView T (Group W Q R T U)). x.known) wins)) (inl refl) in
       record {
-        first = (fit.0, fit.1, subst (λ (s : State). OnTrue (is_first fit.0) (s.turns ≡ 0)) (sym base0)
-            fit.2.3);
+        first = (
+          fit.0,
+          fit.1,
+          subst (λ (s : State). OnTrue (is_first fit.0) (s.turns ≡ 0)) (sym base0)
+              fit.2.3,
+        );
         stood = subst (λ (x : Group W Q R T U). IsIn (k, turn - 1, x) new.known) (sym is_found)
             (leaves.known.stays (k, turn - 1, v) there);
         turned = let number = gone.number in let was = ap (λ (x : Group W Q R T U). x.cx.log.state.turns)
@@ -194,8 +198,11 @@ module _ {W T : Type 0} (Q R U : Type 0) (Fits : T → W → Type 0) (First : �
 -- what holds of each entry of a list holds of one that stands in it
 each_in : {A : Type 0} (P : A → Type 0) (xs : List A) (x : A) → Each P xs → IsIn x xs → P x
 each_in P [] x all there = absurd there
-each_in P (y ∷ ys) x all there = elim there [ inl here ↦ subst P here all.0 | inr more ↦ each_in P ys x all.1
-    more ]
+each_in P (y ∷ ys) x all there = elim there [
+  | inl here ↦ subst P here all.0
+  | inr more ↦ each_in P ys x all.1
+      more
+]
 
 pub few_entries : (k : ℕ) (es : List (ℕ × ℕ)) → entries k es ≤ length es
 few_entries k [] = omega arith
@@ -209,17 +216,17 @@ pub after_known : {T : Type 0} (follows : T → T → Type 0) (known : List (ℕ
     → IsAfter follows k n now known → IsIn (k, b, x) known → follows now x
 after_known {T} follows known k n b x now after there =
     (each_in (λ (e : ℕ × ℕ × T). e.0 ≡ k → (e.1 < n) × follows now e.2 × (e.1 + 1 ≡ n → now ≡ e.2)) known
-        (k, b, x) after there refl).1
+    (k, b, x) after there refl).1
 
 -- of what is known of one group, that after the later turn follows the other
 coherent_after : {T : Type 0} (follows : T → T → Type 0) (es : List (ℕ × ℕ × T)) (k a b : ℕ) (x y : T)
     → Coherent follows es → IsIn (k, a, x) es → IsIn (k, b, y) es → a ≤ b → follows y x
 coherent_after {T} follows es k a b x y all one other le =
     let row = each_in (λ (d : ℕ × ℕ × T). Each
-        (λ (e : ℕ × ℕ × T). d.0 ≡ e.0 → d.1 ≤ e.1 → follows e.2 d.2 × (d.1 ≡ e.1 → d.2 ≡ e.2)) es) es
-        (k, a, x) all one in
+    (λ (e : ℕ × ℕ × T). d.0 ≡ e.0 → d.1 ≤ e.1 → follows e.2 d.2 × (d.1 ≡ e.1 → d.2 ≡ e.2)) es) es
+    (k, a, x) all one in
     (each_in (λ (e : ℕ × ℕ × T). k ≡ e.0 → a ≤ e.1 → follows e.2 x × (a ≡ e.1 → x ≡ e.2)) es (k, b, y) row
-        other refl le).0
+    other refl le).0
 
 -- before any turn each group is known as it was given
 pub given_known : {X : Type 0} (xs : List X) (i k j : ℕ) (x : X) → j ≡ i + k → get_elem? xs k ≡ some x
@@ -234,18 +241,18 @@ pub was_started : {W Q R T U : Type 0} (Fits : T → W → Type 0) (First : ℕ 
     (Begun : W → W → Type 0) (Sound : W → State → List Named → Type 0) (Has : ℕ → Pending → Type 0)
     (old known : List (ℕ × ℕ × Group W Q R T U)) (turns : List (ℕ × ℕ)) (k : ℕ) (given now : Group W Q R T U)
     → entries k turns + 1 < last_turn → Started Q R U Fits First Begun Sound Has old k
-        → Coherent (StandsAfter Fits) old → IsIn (k, 0, given) old → More old known
-        → IsAfter (StandsAfter Fits) k (entries k turns + 1) now known
-        → WasStarted Fits First Begun Sound k given now
+    → Coherent (StandsAfter Fits) old → IsIn (k, 0, given) old → More old known
+    → IsAfter (StandsAfter Fits) k (entries k turns + 1) now known
+    → WasStarted Fits First Begun Sound k given now
 was_started {W} {Q} {R} {T} {U} Fits First Begun Sound Has old known turns k given now low s coherent first
     more after =
     let found = each_in (λ (e : ℕ × ℕ × Group W Q R T U). e.0 ≡ k → (e.1 < entries k turns + 1) × StandsAfter
-        Fits now e.2 × (e.1 + 1 ≡ entries k turns + 1 → now ≡ e.2)) known (k, s.turn - 1, s.found) after
-        (more.stays (k, s.turn - 1, s.found) s.starts.stood) refl in
+    Fits now e.2 × (e.1 + 1 ≡ entries k turns + 1 → now ≡ e.2)) known (k, s.turn - 1, s.found) after
+    (more.stays (k, s.turn - 1, s.found) s.starts.stood) refl in
     let below = found.0 in
     let young : s.turn < last_turn = omega arith in
     let left = after_known (StandsAfter Fits) known k (entries k turns + 1) s.turn s.left now after
-        (more.stays (k, s.turn, s.left) (s.starts.knows young)) in
+    (more.stays (k, s.turn, s.left) (s.starts.knows young)) in
     record {
       found = s.found;
       stood = coherent_after (StandsAfter Fits) old k 0 (s.turn - 1) given s.found coherent first

@@ -46,30 +46,30 @@ pending_or n ps = either (pending_at n ps) refl
 -- alone
 between_at : (k from to n g m : ℕ) (b : Bool) → from ≤ to → to ≤ n → m ≡ n → b ≡ true
     → one_if ((g == k) && (nat_le from m && (nat_lt m (n + 1) && b))) ≡ one_if
-        ((g == k) && (nat_le from m && (nat_lt m to && b))) + one_if ((k == g) && (n == m))
+    ((g == k) && (nat_le from m && (nat_lt m to && b))) + one_if ((k == g) && (n == m))
 between_at k from to n g m b low high e is = grind (arith, nat_tests)
 
 between_other : (k from to n g m : ℕ) (b : Bool) → from ≤ to → to ≤ n → (m ≡ n → ⊥)
     → (m < to) ⊎ (n < m) ⊎ (b ≡ false)
     → one_if ((g == k) && (nat_le from m && (nat_lt m (n + 1) && b))) ≡ one_if
-        ((g == k) && (nat_le from m && (nat_lt m to && b))) + one_if ((k == g) && (n == m))
+    ((g == k) && (nat_le from m && (nat_lt m to && b))) + one_if ((k == g) && (n == m))
 between_other k from to n g m b low high e (inl below) = grind (arith, nat_tests)
 between_other k from to n g m b low high e (inr (inl above)) = grind (arith, nat_tests)
 between_other k from to n g m b low high e (inr (inr none)) = grind (arith, nat_tests)
 
 between_next : (k from to : ℕ) (s : State) (p : Pending) (t : Token) → from ≤ to → IsNews to s p
     → one_if (is_between k from (p.number + 1) s.pending t) ≡ one_if (is_between k from to s.pending t) +
-        one_if (is_same_token t (record { group = k; number = p.number }))
+    one_if (is_same_token t (record { group = k; number = p.number }))
 between_next k from to s p t low (there, high, least) =
     ⊎_elim
     (λ (e : t.number ≡ p.number). between_at k from to p.number t.group t.number
-        (is_some (pending_at t.number s.pending)) low high e
+    (is_some (pending_at t.number s.pending)) low high e
     (some_is (pending_at t.number s.pending) p (ap (λ n. pending_at n s.pending) e ∙ there)))
     (λ (n : t.number ≡ p.number → ⊥). between_other k from to p.number t.group t.number
-        (is_some (pending_at t.number s.pending)) low high n
+    (is_some (pending_at t.number s.pending)) low high n
     (⊎_elim (λ (below : t.number < to). inl below) (λ (above : to ≤ t.number). inr (⊎_elim (λ none. inr none)
     (λ (there' : (q : Pending) × (pending_at t.number s.pending ≡ Some q)). let le = least t.number there'.0
-        there'.1 above in inl (omega arith))
+    there'.1 above in inl (omega arith))
     (pending_or t.number s.pending))) (cases_lt t.number to)))
     (cases_eq t.number p.number)
 
@@ -77,8 +77,16 @@ ticket_stays : (t : Token) (u : Ticket) (us : List Ticket) → HasTicket t us �
 ticket_stays t u us (v, there, is) = (v, inr there, is)
 
 same_refl : (a : Context) → IsSame a a
-same_refl a = record { log = record { base = refl; entries = refl; state = refl }; roles = refl; moment =
-    refl; running = refl; role = refl; news_from = refl; calls = refl }
+same_refl a = record {
+  log = record { base = refl; entries = refl; state = refl };
+  roles = refl;
+  moment =
+      refl;
+  running = refl;
+  role = refl;
+  news_from = refl;
+  calls = refl;
+}
 
 none_between : (k from : ℕ) (ps : List Pending) (t : Token) → one_if (is_between k from from ps t) ≡ 0
 none_between k from ps t = grind (arith, nat_tests)
@@ -86,8 +94,12 @@ none_between k from ps t = grind (arith, nat_tests)
 same_next : (a b c : Context) → IsSame (record a { news_from = b.news_from }) b
     → IsSame (record b { news_from = c.news_from }) c → IsSame (record a { news_from = c.news_from }) c
 same_next a b c p q = record {
-  log = record { base = q.log.base ∙ p.log.base; entries = q.log.entries ∙ p.log.entries; state = q.log.state
-      ∙ p.log.state };
+  log = record {
+    base = q.log.base ∙ p.log.base;
+    entries = q.log.entries ∙ p.log.entries;
+    state = q.log.state
+        ∙ p.log.state;
+  };
   roles = q.roles ∙ p.roles;
   moment = q.moment ∙ p.moment;
   running = q.running ∙ p.running;
@@ -115,8 +127,11 @@ module _ {X G T : Type 0} {d : Ghosts X G T} where
   }
 
   pub keeps_trans : (a b c : Desk X G T d) → KeepsPlaces a b → KeepsPlaces b c → KeepsPlaces a c
-  keeps_trans a b c h k = record { wheel = λ e x. k.wheel e (h.wheel e x); put = λ t x. k.put t (h.put t x);
-      taken = k.taken ∙ h.taken }
+  keeps_trans a b c h k = record {
+    wheel = λ e x. k.wheel e (h.wheel e x);
+    put = λ t x. k.put t (h.put t x);
+    taken = k.taken ∙ h.taken;
+  }
 
   -- a token was added to the wheel
   pub keeps_added : (a b : Desk X G T d) (token : Token) (due : ℕ) → b.wheel ≡ added due token a.wheel
@@ -138,9 +153,15 @@ module _ {X G T : Type 0} {d : Ghosts X G T} where
   has_place : (a b : Desk X G T d) (moment k : ℕ) (p : Pending)
       → Places (record { group = k; number = p.number }) p.due moment a b → HasPlace moment k p b
   has_place a b moment k p (inl puts) =
-      inr (puts.is_due, subst (λ (v : PassView). HasTicket (record { group = k; number = p.number }) v.put)
-          (sym puts.pass) (next_ticket (pass_view a.pass) (record { group = k; number = p.number }), inl refl,
-          refl))
+      inr (
+        puts.is_due,
+        subst (λ (v : PassView). HasTicket (record { group = k; number = p.number }) v.put)
+            (sym puts.pass) (
+              next_ticket (pass_view a.pass) (record { group = k; number = p.number }),
+              inl refl,
+              refl,
+            ),
+      )
   has_place a b moment k p (inr adds) = inl (subst (IsIn (p.due, record { group = k; number = p.number }))
       (sym adds.wheel) (is_added p.due (record { group = k; number = p.number }) a.wheel))
 
@@ -156,13 +177,13 @@ module _ {X G T : Type 0} {d : Ghosts X G T} where
   count_place a b token due moment t (inl puts) =
       let w : in_wheel t b.wheel ≡ in_wheel t a.wheel = ap (in_wheel t) puts.wheel in
       let p : in_tickets t (pass_view b.pass).put ≡ in_tickets t
-          (next_ticket (pass_view a.pass) token ∷ (pass_view a.pass).put) = ap
-          (λ (v : PassView). in_tickets t v.put) puts.pass in
+      (next_ticket (pass_view a.pass) token ∷ (pass_view a.pass).put) = ap
+      (λ (v : PassView). in_tickets t v.put) puts.pass in
       let c = tickets-cons t (next_ticket (pass_view a.pass) token) (pass_view a.pass).put in omega arith
   count_place a b token due moment t (inr adds) =
       let w : in_wheel t b.wheel ≡ in_wheel t (added due token a.wheel) = ap (in_wheel t) adds.wheel in
       let p : in_tickets t (pass_view b.pass).put ≡ in_tickets t (pass_view a.pass).put = ap
-          (λ (v : PassView). in_tickets t v.put) adds.pass in
+      (λ (v : PassView). in_tickets t v.put) adds.pass in
       let c = wheel-added t due token a.wheel in omega arith
 
   share_place : (a b : Desk X G T d) (token : Token) (due moment : ℕ) → Places token due moment a b
@@ -237,15 +258,15 @@ module _ {X G T : Type 0} {d : Ghosts X G T} where
     pub telling_goes_on : (first a b : Group W Q R T' U) (old desk next : Desk X G T d) (number due : ℕ)
         → IsTelling k moment first a old desk → IsFirstNews a.cx number due
         → b.cx.news_from ≡ number + 1 → IsSame (record a.cx { news_from = b.cx.news_from }) b.cx
-            → b.world ≡ a.world → next.seat ≡ desk.seat → empties_of next.pass ≡ empties_of desk.pass
+        → b.world ≡ a.world → next.seat ≡ desk.seat → empties_of next.pass ≡ empties_of desk.pass
         → Places (record { group = k; number = number }) due moment desk next
-            → IsTelling k moment first b old next
+        → IsTelling k moment first b old next
     telling_goes_on first a b old desk next number due was (p, news, number_is, due_is) from same world seat
         empties places =
         let state : b.cx.log.state ≡ a.cx.log.state = same.log.state in
         let places' : Places (record { group = k; number = p.number }) p.due moment desk next =
         subst (λ (x : ℕ × ℕ). Places (record { group = k; number = x.0 }) x.1 moment desk next)
-            (λ i. (sym number_is i, sym due_is i)) places in
+        (λ i. (sym number_is i, sym due_is i)) places in
         let keeps = keeps_place desk next (record { group = k; number = p.number }) p.due moment places' in
         let up = was.from in
         let high = news.1 in
@@ -257,25 +278,25 @@ module _ {X G T : Type 0} {d : Ghosts X G T} where
           from = omega arith;
           each = λ n q there low below.
               let there' : pending_at n a.cx.log.state.pending ≡ Some q = ap
-                  (λ (s : State). pending_at n s.pending) (sym state) ∙ there in
+              (λ (s : State). pending_at n s.pending) (sym state) ∙ there in
               ⊎_elim
               (λ (old' : n < a.cx.news_from). place_stays desk next moment k q keeps
-                  (was.each n q there' low old'))
+              (was.each n q there' low old'))
               (λ (new' : a.cx.news_from ≤ n).
               let le = news.2 n q there' new' in
               let is : n ≡ p.number = omega arith in
               let same' : p ≡ q = same_some p q
-                  (sym news.0 ∙ ap (λ m. pending_at m a.cx.log.state.pending) (sym is) ∙ there') in
+              (sym news.0 ∙ ap (λ m. pending_at m a.cx.log.state.pending) (sym is) ∙ there') in
               subst (λ (x : Pending). HasPlace moment k x next) same'
-                  (has_place desk next moment k p places'))
+              (has_place desk next moment k p places'))
               (cases_lt n a.cx.news_from);
           once = λ t.
               let one = was.once t in
               let more = count_place desk next (record { group = k; number = p.number }) p.due moment t
-                  places' in
+              places' in
               let next' = between_next k first.cx.news_from a.cx.news_from a.cx.log.state p t up news in
               let is : one_if (is_between k first.cx.news_from b.cx.news_from b.cx.log.state.pending t) ≡
-                  one_if (is_between k first.cx.news_from (p.number + 1) a.cx.log.state.pending t) =
+              one_if (is_between k first.cx.news_from (p.number + 1) a.cx.log.state.pending t) =
               (λ i. one_if (is_between k first.cx.news_from (from' i) (state i).pending t)) in omega arith;
           keeps = keeps_trans old desk next was.keeps keeps;
           seat = seat ∙ was.seat;
@@ -308,4 +329,4 @@ module _ {X G T : Type 0} {d : Ghosts X G T} where
         → (a.cx.news_from ≤ number) × (number < a.cx.log.state.next)
     telling_less first a old desk number due was (p, news, number_is, due_is) =
         let known = is_known a.cx.log.state p.number p was.valid news.0 in let below = known.below in let high
-            = news.1 in (omega arith, omega arith)
+        = news.1 in (omega arith, omega arith)

@@ -27,8 +27,12 @@ first_named groups now (e ∷ es) t all h = by_test (leb e.0 now) h
     by_test false same = absurd (cc)
 
 pub lets_go_none : (groups : ℕ) (v : PassView) → LetsGo groups v v
-lets_go_none groups v = record { gone = []; foreign = All-nil (λ (t : Ticket). groups ≤ t.token.group); is =
-    refl }
+lets_go_none groups v = record {
+  gone = [];
+  foreign = All-nil (λ (t : Ticket). groups ≤ t.token.group);
+  is =
+      refl;
+}
 
 pub lets_go_one : (groups : ℕ) (u v w : PassView) (t : Ticket) → LetsGo groups u v → TakesTicket v t w
     → groups ≤ t.token.group → LetsGo groups u w
@@ -87,7 +91,7 @@ pub wheel-added : (t : Token) (due : ℕ) (u : Token) (es : List (ℕ × Token))
 wheel-added t due u [] = let a = wheel-cons t (due, u) [] in omega arith
 wheel-added t due u (x ∷ xs) =
     elim (ltb due x.0) as (λ b. in_wheel t (cond b ((due, u) ∷ x ∷ xs) (x ∷ added due u xs)) ≡ in_wheel t
-        (x ∷ xs) + one_if (is_same_token t u)) [
+    (x ∷ xs) + one_if (is_same_token t u)) [
       | true ↦ let a = wheel-cons t (due, u) (x ∷ xs) in omega arith
       | false ↦ let a = wheel-cons t x (added due u xs) in let b = wheel-cons t x xs in let c = wheel-added t
           due u xs in omega arith

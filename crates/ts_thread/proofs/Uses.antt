@@ -46,21 +46,37 @@ pub shown_over : (a a' b b' : State) (number moment : ℕ) (answer : Did) → a'
     → IsShown a b number moment answer → IsShown a' b' number moment answer
 shown_over a a' b b' number moment (did.Ran events) p h q k s =
     record {
-      was_due = record { event = s.was_due.event; there = ap (pending_at number) p ∙ s.was_due.there; due =
-          s.was_due.due; gone = ap (pending_at number) q ∙ s.was_due.gone };
+      was_due = record {
+        event = s.was_due.event;
+        there = ap (pending_at number) p ∙ s.was_due.there;
+        due =
+            s.was_due.due;
+        gone = ap (pending_at number) q ∙ s.was_due.gone;
+      };
       some = s.some;
       most = s.most;
       rise = k ∙ s.rise ∙ ap (λ n. n + events) (sym h);
     }
 shown_over a a' b b' number moment (did.PutBack group seen) p h q k s = absurd s
 shown_over a a' b b' number moment (did.AskMissed group seen) p h q k s =
-    record { event = s.event; there = ap (pending_at number) p ∙ s.there; due = s.due; gone = ap
-        (pending_at number) q ∙ s.gone }
+    record {
+      event = s.event;
+      there = ap (pending_at number) p ∙ s.there;
+      due = s.due;
+      gone = ap
+          (pending_at number) q ∙ s.gone;
+    }
 shown_over a a' b b' number moment did.Stale p h q k s = record
     { was_gone = ap (pending_at number) p ∙ s.was_gone; gone = ap (pending_at number) q ∙ s.gone }
 shown_over a a' b b' number moment (did.NotDue due) p h q k s =
-    record { event = s.event; there = ap (pending_at number) p ∙ s.there; stays = ap (pending_at number) q ∙
-        s.stays; is_due = s.is_due; late = s.late }
+    record {
+      event = s.event;
+      there = ap (pending_at number) p ∙ s.there;
+      stays = ap (pending_at number) q ∙
+          s.stays;
+      is_due = s.is_due;
+      late = s.late;
+    }
 shown_over a a' b b' number moment did.Idle p h q k s = absurd s
 
 -- an empty answer of the queue is counted, or the count is at its end
@@ -101,8 +117,11 @@ module _ {X G T : Type 0} {d : Ghosts X G T} where
 
   pub keeps_desk : (a b c : Desk X G T d) (m n k : ℕ) → m + n ≤ k → KeepsDesk a b m → KeepsDesk b c n
       → KeepsDesk a c k
-  keeps_desk a b c m n k le p q = record { seat = keeps_trans (view a.seat) (view b.seat) (view c.seat) m n k
-      le p.seat q.seat; share = q.share ∙ p.share }
+  keeps_desk a b c m n k le p q = record {
+    seat = keeps_trans (view a.seat) (view b.seat) (view c.seat) m n k
+        le p.seat q.seat;
+    share = q.share ∙ p.share;
+  }
 
   pub keeps_tokens : (a b c : Desk X G T d) (m n k : ℕ) → m + n ≤ k → KeepsTokens a b m → KeepsTokens b c n
       → KeepsTokens a c k
@@ -113,8 +132,11 @@ module _ {X G T : Type 0} {d : Ghosts X G T} where
 
   pub same_desk : (a b : Desk X G T d) (m : ℕ) → b.seat ≡ a.seat
       → (pass_view b.pass).share ≡ (pass_view a.pass).share → KeepsDesk a b m
-  same_desk a b m seat share = record { seat = keeps_refl (view a.seat) (view b.seat) m
-      (ap (λ s. view s) seat); share = share }
+  same_desk a b m seat share = record {
+    seat = keeps_refl (view a.seat) (view b.seat) m
+        (ap (λ s. view s) seat);
+    share = share;
+  }
 
   -- a desk from whose wheel a token was taken, or from whose queue
   pub desk_taken : (slots : Slots X G T) (queue : EventQueue) (a b : Desk X G T d) (moment : ℕ)
@@ -147,23 +169,23 @@ module _ {W Q R T U : Type 0} {d : Ghosts (Group W Q R T U) T (Group W Q R T U)}
       (old worked new : Desk (Group W Q R T U) T (Group W Q R T U) d) (answer : Did) → k ≡ token.group
       → v1 ≡ found → BeginsSame v1 begun
       → HasTurn Fits v1 begun turn old.seat.number → v2 ≡ begun → now.cx.news_from ≡ v2.cx.news_from
-          → Works token old worked answer
+      → Works token old worked answer
       → RunsHandlers Fits Asking Answers Called Heard Left tags token.number moment v2 now (view old.seat)
-          (view worked.seat) (Ok answer) → IsShown v2.cx.log.state now.cx.log.state token.number moment answer
+      (view worked.seat) (Ok answer) → IsShown v2.cx.log.state now.cx.log.state token.number moment answer
       → LeavesDesk worked new → EndsTurn k turn moment now worked new
-          → Serves Fits Asking Answers Called Heard Left tags token moment turn found old new answer
+      → Serves Fits Asking Answers Called Heard Left tags token moment turn found old new answer
   serve_ends token k turn moment found v1 begun v2 now old worked new answer group is same has is2 now_from
       works ran shown leaves ends =
       let s1 : found.cx.log.state ≡ v1.cx.log.state = ap (λ (x : Group W Q R T U). x.cx.log.state) (sym is) in
       let s2 : begun.cx.log.state ≡ v2.cx.log.state = ap (λ (x : Group W Q R T U). x.cx.log.state) (sym is2)
-          in
+      in
       let pending : found.cx.log.state.pending ≡ v2.cx.log.state.pending = ap (λ (s : State). s.pending) s1 ∙
-          sym same.pending ∙ ap (λ (s : State). s.pending) s2 in
+      sym same.pending ∙ ap (λ (s : State). s.pending) s2 in
       let handled : found.cx.log.state.handled_count ≡ v2.cx.log.state.handled_count = ap
-          (λ (s : State). s.handled_count) s1 ∙ sym same.handled ∙ ap (λ (s : State). s.handled_count) s2 in
+      (λ (s : State). s.handled_count) s1 ∙ sym same.handled ∙ ap (λ (s : State). s.handled_count) s2 in
       let from : now.cx.news_from ≡ found.cx.news_from = now_from ∙ ap
-          (λ (x : Group W Q R T U). x.cx.news_from) is2 ∙ has.news_from ∙ ap
-          (λ (x : Group W Q R T U). x.cx.news_from) is in
+      (λ (x : Group W Q R T U). x.cx.news_from) is2 ∙ has.news_from ∙ ap
+      (λ (x : Group W Q R T U). x.cx.news_from) is in
       let told = ends.told in
       let told' : HasTold k moment found ends.left worked new = record {
         none = told.none;
@@ -194,23 +216,23 @@ module _ {W Q R T U : Type 0} {d : Ghosts (Group W Q R T U) T (Group W Q R T U)}
   pub uses_of : (token : Token) (moment turn : ℕ) (found value : Group W Q R T U)
       (old entered new : Desk (Group W Q R T U) T (Group W Q R T U) d) → found ≡ value
       → IsAfter (StandsAfter Fits) token.group turn value (view old.seat).known
-          → view entered.seat ≡ won token.group turn value (view old.seat) → entered.wheel ≡ old.wheel
-          → entered.pass ≡ old.pass
+      → view entered.seat ≡ won token.group turn value (view old.seat) → entered.wheel ≡ old.wheel
+      → entered.pass ≡ old.pass
       → (answer : Did) → Serves Fits Asking Answers Called Heard Left tags token moment turn found entered new
-          answer → Uses Fits Asking Answers Called Heard Left tags token moment old new answer
+      answer → Uses Fits Asking Answers Called Heard Left tags token moment old new answer
   uses_of token moment turn found value old entered new is after wins wheel pass answer serves = by_answer
       answer (record {
-    turn = turn;
-    found = found;
-    after = subst (λ (x : Group W Q R T U). IsAfter (StandsAfter Fits) token.group turn x
-        (view old.seat).known) (sym is) after;
-    entered = entered;
-    wins = subst (λ (x : Group W Q R T U). view entered.seat ≡ won token.group turn x (view old.seat))
-        (sym is) wins;
-    wheel = wheel;
-    pass = pass;
-    serves = serves;
-  })
+        turn = turn;
+        found = found;
+        after = subst (λ (x : Group W Q R T U). IsAfter (StandsAfter Fits) token.group turn x
+            (view old.seat).known) (sym is) after;
+        entered = entered;
+        wins = subst (λ (x : Group W Q R T U). view entered.seat ≡ won token.group turn x (view old.seat))
+            (sym is) wins;
+        wheel = wheel;
+        pass = pass;
+        serves = serves;
+      })
     where
       by_answer : (a : Did) → Enters Fits Asking Answers Called Heard Left tags token moment old new a
           → Uses Fits Asking Answers Called Heard Left tags token moment old new a
@@ -241,7 +263,7 @@ module _ {W Q R T U : Type 0} {d : Ghosts (Group W Q R T U) T (Group W Q R T U)}
   works_counts : (token : Token) (old new : Desk (Group W Q R T U) T (Group W Q R T U) d) (answer : Did)
       → Works token old new answer
       → length (view old.seat).turns + length (view old.seat).misses ≤ length (view new.seat).turns + length
-          (view new.seat).misses
+      (view new.seat).misses
   works_counts token old new (did.Ran events) w = elim w.counted [
     | inl same ↦ let t = ap (λ es. length es) same.turns in let m = ap (λ es. length es) same.misses in omega
         arith
@@ -265,20 +287,20 @@ module _ {W Q R T U : Type 0} {d : Ghosts (Group W Q R T U) T (Group W Q R T U)}
   one_counts moment old new taken token answer gets enters =
       let serves = enters.serves in
       let seat : view taken.seat ≡ view old.seat = ap
-          (λ (s : Seat (Group W Q R T U) T (Group W Q R T U) d). view s) gets.seat in
+      (λ (s : Seat (Group W Q R T U) T (Group W Q R T U) d). view s) gets.seat in
       let entered : view enters.entered.seat ≡ won token.group enters.turn enters.found (view old.seat) =
-          enters.wins ∙ ap (won token.group enters.turn enters.found) seat in
+      enters.wins ∙ ap (won token.group enters.turn enters.found) seat in
       let turns : length (view enters.entered.seat).turns ≡ suc (length (view old.seat).turns) = ap
-          (λ (v : SeatView T (Group W Q R T U)). length v.turns) entered in
+      (λ (v : SeatView T (Group W Q R T U)). length v.turns) entered in
       let misses : length (view enters.entered.seat).misses ≡ length (view old.seat).misses = ap
-          (λ (v : SeatView T (Group W Q R T U)). length v.misses) entered in
+      (λ (v : SeatView T (Group W Q R T U)). length v.misses) entered in
       let works = works_counts token enters.entered serves.worked answer serves.works in
       let turns' : length (view new.seat).turns ≡ length (view serves.worked.seat).turns = ap
-          (λ es. length es) serves.leaves.turns in
+      (λ es. length es) serves.leaves.turns in
       let misses' : length (view new.seat).misses ≡ length (view serves.worked.seat).misses = ap
-          (λ es. length es) serves.leaves.misses in
+      (λ es. length es) serves.leaves.misses in
       let same : empties_of new.pass ≡ empties_of old.pass = serves.told.empties ∙ ap (λ p. empties_of p)
-          serves.works.pass ∙ ap (λ p. empties_of p) enters.pass ∙ gets.empties in
+      serves.works.pass ∙ ap (λ p. empties_of p) enters.pass ∙ gets.empties in
       (omega arith, inl (omega arith))
 
   -- a turn is counted
@@ -288,25 +310,25 @@ module _ {W Q R T U : Type 0} {d : Ghosts (Group W Q R T U) T (Group W Q R T U)}
   did_counts moment old new did.Idle h =
       let rose = h.finds.none.rose in
       let seat : length (view new.seat).turns + length (view new.seat).misses ≡ length (view old.seat).turns +
-          length (view old.seat).misses = ap (λ (s : Seat (Group W Q R T U) T (Group W Q R T U) d). length
-          (view s).turns + length (view s).misses) h.seat in
+      length (view old.seat).misses = ap (λ (s : Seat (Group W Q R T U) T (Group W Q R T U) d). length
+      (view s).turns + length (view s).misses) h.seat in
       idle_counts (length (view old.seat).turns + length (view old.seat).misses)
-          (length (view new.seat).turns + length (view new.seat).misses) (empties_of old.pass)
-          (empties_of new.pass) seat rose
+      (length (view new.seat).turns + length (view new.seat).misses) (empties_of old.pass)
+      (empties_of new.pass) seat rose
   did_counts moment old new (did.Ran events) h = one_counts moment old new h.taken h.token (did.Ran events)
       h.gets h.uses
   did_counts moment old new (did.PutBack group seen) h =
       let put = h.uses in
       let seat : view h.taken.seat ≡ view old.seat = ap
-          (λ (s : Seat (Group W Q R T U) T (Group W Q R T U) d). view s) h.gets.seat in
+      (λ (s : Seat (Group W Q R T U) T (Group W Q R T U) d). view s) h.gets.seat in
       let same : empties_of new.pass ≡ empties_of old.pass = ap (λ p. empties_of p) put.pass ∙ h.gets.empties
-          in
+      in
       let turns : length (view new.seat).turns ≡ length (view old.seat).turns = ap
-          (λ (v : SeatView T (Group W Q R T U)). length v.turns) (put.misses.is ∙ ap (missed group seen) seat)
-              in
+      (λ (v : SeatView T (Group W Q R T U)). length v.turns) (put.misses.is ∙ ap (missed group seen) seat)
+      in
       let misses : length (view new.seat).misses ≡ suc (length (view old.seat).misses) = ap
-          (λ (v : SeatView T (Group W Q R T U)). length v.misses)
-              (put.misses.is ∙ ap (missed group seen) seat) in
+      (λ (v : SeatView T (Group W Q R T U)). length v.misses)
+      (put.misses.is ∙ ap (missed group seen) seat) in
       (omega arith, inl (omega arith))
   did_counts moment old new (did.AskMissed group seen) h = one_counts moment old new h.taken h.token
       (did.AskMissed group seen) h.gets h.uses
@@ -329,5 +351,5 @@ module _ {W Q R T U : Type 0} {d : Ghosts (Group W Q R T U) T (Group W Q R T U)}
       → Turns Fits Asking Answers Called Heard Left tags (made + 1) old new moment
   turns_more made old mid new at moment answer turns is next =
       let e : suc made ≡ made + 1 = omega arith in subst
-          (λ n. Turns Fits Asking Answers Called Heard Left tags n old new moment) e
-          (mid, at, turns, answer, is, next)
+      (λ n. Turns Fits Asking Answers Called Heard Left tags n old new moment) e
+      (mid, at, turns, answer, is, next)

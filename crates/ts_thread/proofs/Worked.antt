@@ -60,8 +60,13 @@ pub handled_later : (a b c : State) (number moment events : ℕ) → IsValid a �
     → c.handled_count ≡ b.handled_count → HandledDue a b number moment events
     → HandledDue a c number moment events
 handled_later a b c number moment events valid ab bc same h =
-    record { was_due = due_later a b c number moment valid ab bc h.was_due; some = h.some; most = h.most; rise
-        = same ∙ h.rise }
+    record {
+      was_due = due_later a b c number moment valid ab bc h.was_due;
+      some = h.some;
+      most = h.most;
+      rise
+          = same ∙ h.rise;
+    }
 
 -- something is pending
 not_none : (ps : List Pending) (number : ℕ) (p : Pending) → pending_at number ps ≡ Some p → ps ≡ [] → ⊥
@@ -87,10 +92,15 @@ module _ {W Q R T U : Type 0} where
     pub handles_due : HandledDue old.cx.log.state new.cx.log.state number moment events
     handles_due =
         let x = is_handled old.cx.log.state new.cx.log.state moment number h.es valid h.by.lawful h.by.state
-            (runs_first Called old.world new.world old.cx.log.state moment number [] events h.es new.cx.calls
-            h.runs) in
-        record { was_due = record { event = x.event; there = x.there; due = x.due; gone = x.gone }; some =
-            h.some; most = h.most; rise = h.rise }
+        (runs_first Called old.world new.world old.cx.log.state moment number [] events h.es new.cx.calls
+        h.runs) in
+        record {
+          was_due = record { event = x.event; there = x.there; due = x.due; gone = x.gone };
+          some =
+              h.some;
+          most = h.most;
+          rise = h.rise;
+        }
 
     pub handles_few : SetsAtMost Fits old.world (MOST_EVENTS * (MOST_SET + 1)) old.cx new.cx
         → SetsFewInTurn Fits old new
@@ -131,8 +141,11 @@ module _ {W Q R T U : Type 0} where
   pub same_goes : (Fits : T → W → Type 0) (old new : Group W Q R T U) → old.cx.log.state.held ≡ true
       → IsSameGroup old new → GoesInTurn Fits old new
   same_goes Fits old new held same = record {
-    turn = record { held = ap (λ (s : State). s.held) same.cx.log.state ∙ held; turns = ap
-        (λ (s : State). s.turns) same.cx.log.state };
+    turn = record {
+      held = ap (λ (s : State). s.held) same.cx.log.state ∙ held;
+      turns = ap
+          (λ (s : State). s.turns) same.cx.log.state;
+    };
     marks = ap marks_of same.cx.log.entries;
     later = subst (IsLater old.cx.log.state) (sym same.cx.log.state) (later_refl old.cx.log.state);
     base = same.cx.log.base;
@@ -158,11 +171,11 @@ module _ {W Q R T U : Type 0} where
       (tags : List T) (a b c : Group W Q R T U) (number moment events : ℕ) (v u : SeatView G S)
       (r : Result Did NoMemory) → IsValid a.cx.log.state → IsValid b.cx.log.state
       → Handles Called a b number moment events → KeepsTags Fits a.world b.world
-          → SetsAtMost Fits a.world (MOST_EVENTS * (MOST_SET + 1)) a.cx b.cx
+      → SetsAtMost Fits a.world (MOST_EVENTS * (MOST_SET + 1)) a.cx b.cx
       → Grows b.cx c.cx → StaysInTurn b.cx.log.state c.cx.log.state → Holds Sound c
-          → KeepsTags Fits b.world c.world → SetsAtMost Fits b.world MOST_SET b.cx c.cx
+      → KeepsTags Fits b.world c.world → SetsAtMost Fits b.world MOST_SET b.cx c.cx
       → RunsHandlers Fits Asking Answers Called Heard Left tags number moment a c v u r
-          → IsWorked Sound Fits Asking Answers Called Heard Left tags number moment a c v u r
+      → IsWorked Sound Fits Asking Answers Called Heard Left tags number moment a c v u r
   told_worked Sound Fits Asking Answers Called Heard Left tags a b c number moment events v u r va vb h keeps
       few grows turn sound tags2 few2 ran =
       let due = handles_due Called Fits a b number moment events va h in
@@ -184,13 +197,13 @@ module _ {W Q R T U : Type 0} where
   pub told_due : (Called : W → W → List ℕ → Type 0) (Fits : T → W → Type 0) (a b c : Group W Q R T U)
       (number moment events : ℕ) → IsValid a.cx.log.state → IsValid b.cx.log.state
       → Handles Called a b number moment events → Grows b.cx c.cx
-          → HandledDue a.cx.log.state c.cx.log.state number moment events
+      → HandledDue a.cx.log.state c.cx.log.state number moment events
   told_due Called Fits a b c number moment events va vb h grows =
       handled_later a.cx.log.state b.cx.log.state c.cx.log.state number moment events va
-          (extends_later a.cx.log b.cx.log h.es va h.by)
-          (extends_later b.cx.log c.cx.log grows.log.own vb grows.log.by)
+      (extends_later a.cx.log b.cx.log h.es va h.by)
+      (extends_later b.cx.log c.cx.log grows.log.own vb grows.log.by)
       (ap (λ (s : State). s.handled_count) grows.log.by.state ∙ own_handles b.cx.log.state grows.log.own
-          grows.log.all_own)
+      grows.log.all_own)
       (handles_due Called Fits a b number moment events va h)
 
 pub asked_shown : {Q R : Type 0} (a c : State) (number moment events to : ℕ) (answer : Asked Q R)
@@ -206,14 +219,14 @@ module _ {X G T : Type 0} {d : Ghosts X G T} where
   pub asked_works : {Q R : Type 0} (token : Token) (a b : Desk X G T d) (events to : ℕ) (answer : Asked Q R)
       (r : Result Did NoMemory) → (to ≡ token.group → ⊥) → AnswersAsked events to answer r
       → CameBy to (view a.seat) (view b.seat) answer → b.wheel ≡ a.wheel → b.pass ≡ a.pass
-          → IfOk r (Works token a b)
+      → IfOk r (Works token a b)
   asked_works token a b events to (asked.Reply x) r other is came wheel pass =
       let w : Works token a b (did.Ran events) = record
-          { counted = inr (to, other, came); wheel = wheel; pass = pass } in
+      { counted = inr (to, other, came); wheel = wheel; pass = pass } in
       subst (λ (y : Result Did NoMemory). IfOk y (Works token a b)) (sym is) w
   asked_works token a b events to (asked.Missed seen q) r other is came wheel pass =
       let w : Works token a b (did.AskMissed to seen) = record
-          { counted = (other, came); wheel = wheel; pass = pass } in
+      { counted = (other, came); wheel = wheel; pass = pass } in
       subst (λ (y : Result Did NoMemory). IfOk y (Works token a b)) (sym is) w
   asked_works token a b events to (asked.NoMemory q) r other is came wheel pass = err_any r (Works token a b)
       is
@@ -232,7 +245,7 @@ pub may_be_asked : {W Q R T : Type 0} (Fits : T → W → Type 0) (only_asked : 
     (MayAsk : W → ℕ → Type 0) (Right : W → ℕ → Q → R → Type 0) (Answers : W → Q → R → Type 0) (tags : List T)
     (own to : ℕ) (t : T) (world : W)
     → CanAsk Fits only_asked MayAsk Right Answers tags → get_elem? tags own ≡ some t → Fits t world
-        → MayAsk world to → MayBeAsked Fits only_asked Right Answers tags own to world
+    → MayAsk world to → MayBeAsked Fits only_asked Right Answers tags own to world
 may_be_asked Fits only_asked MayAsk Right Answers tags own to t world can at fit may =
     let other = can.others own to t world (place_got tags own t at) fit may in
     record {
@@ -256,12 +269,12 @@ module _ {W Q R T U : Type 0} (Fits : T → W → Type 0) (Sound : W → State �
   pub can_be_asked : (old new : Group W Q R T U) (turn seat : ℕ) (t : T) → HasTurn Fits old new turn seat
       → BeginsSame old new → GroupFits Fits Sound only_asked is_first t old → only_asked t ≡ true
       → old.cx.log.state.turns < turn → turn ≤ last_turn
-          → OnTrue (only_asked t) (IsLive new.cx.log.state.live own_key) → CanBeAsked new.cx.log.state
+      → OnTrue (only_asked t) (IsLive new.cx.log.state.live own_key) → CanBeAsked new.cx.log.state
   can_be_asked old new turn seat t has same fit asked young low rests =
       let next = same.next in
       let was : old.cx.log.state.next ≤ old.cx.log.state.turns + 1 = subst
-          (λ (b : Bool). old.cx.log.state.next ≤ cond b (old.cx.log.state.turns + 1)
-          (MOST_IN_TURN * old.cx.log.state.turns + 1)) asked fit.2.1 in
+      (λ (b : Bool). old.cx.log.state.next ≤ cond b (old.cx.log.state.turns + 1)
+      (MOST_IN_TURN * old.cx.log.state.turns + 1)) asked fit.2.1 in
       record {
         turn = has.held;
         live = subst (λ (b : Bool). OnTrue b (IsLive new.cx.log.state.live own_key)) asked rests;
@@ -272,8 +285,8 @@ module _ {W Q R T U : Type 0} (Fits : T → W → Type 0) (Sound : W → State �
   pub asked_goes : (Answers : W → Q → R → Type 0) (r : Result R (NoMemory × Q)) (old new : Group W Q R T U)
       (question : Q) (moment : ℕ) → IsValid old.cx.log.state → old.cx.log.state.held ≡ true
       → IfOk r (HasReplied Answers old new question moment)
-          → IfErr r (λ e. (e.1 ≡ question) × IsSameGroup old new) → KeepsTags Fits old.world new.world
-          → GoesInTurn Fits old new
+      → IfErr r (λ e. (e.1 ≡ question) × IsSameGroup old new) → KeepsTags Fits old.world new.world
+      → GoesInTurn Fits old new
   asked_goes Answers (Ok reply) old new question moment valid held ok err tags = question_goes Fits old new
       moment valid ok.taken tags
   asked_goes Answers (Err e) old new question moment valid held ok err tags = same_goes Fits old new held
@@ -284,7 +297,7 @@ pub given_marks : {W Q R T U : Type 0} (Fits : T → W → Type 0) (found new ol
     (turn turn' seat seat' : ℕ) → IsGivenBack Fits found new turn seat → found ≡ old → turn ≡ turn'
     → seat ≡ seat'
     → (mark : ℕ × ℕ) → Contains (marks_of new.cx.log.entries) mark
-        → Contains (marks_of old.cx.log.entries) mark ⊎ (mark ≡ (turn', seat'))
+    → Contains (marks_of old.cx.log.entries) mark ⊎ (mark ≡ (turn', seat'))
 given_marks {W} {Q} {R} {T} {U} Fits found new old turn turn' seat seat' given e f h mark there =
     subst (λ (x : Group W Q R T U × ℕ × ℕ). Contains (marks_of x.0.cx.log.entries) mark ⊎ (mark ≡ (x.1, x.2)))
-        (λ i. (e i, f i, h i)) (given.marks mark there)
+    (λ i. (e i, f i, h i)) (given.marks mark there)

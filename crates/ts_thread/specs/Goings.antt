@@ -29,7 +29,7 @@ pub record IsLaterGroup {W Q R T U : Type 0} (old new : Group W Q R T U) : Type 
 -- answer.
 pub record HasTakenTurns {W Q R T U : Type 0} (Fits : T → W → Type 0)
     (Sound : W → State → List Named → Type 0) (only_asked is_first : T → Bool) (Left : W → State → Option ℕ)
-        (limit : ℕ)
+    (limit : ℕ)
     (result : Result (Unit {0}) Unfinished) (old new : Group W Q R T U) (turns : ℕ) : Type 0 where
   -- it fits each tag that it fitted
   pub fits : (t : T) → GroupFits Fits Sound only_asked is_first t old

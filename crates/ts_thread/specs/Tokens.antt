@@ -49,7 +49,7 @@ module _ {X G T : Type 0} {d : Ghosts X G T} where
     pub first :
         ((first_due moment old.wheel ≡ Some token) × (pass_view new.pass ≡ pass_view old.pass))
         ⊎ ((first_due moment old.wheel ≡ None) × TakesNext groups (pass_view old.pass) (pass_view new.pass)
-            token)
+        token)
 
   -- Nothing in the wheel was due, and nothing was in the queue.
   pub record FindsNothing (groups moment : ℕ) (old new : Desk X G T d) : Type 0 where

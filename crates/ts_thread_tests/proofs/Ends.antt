@@ -26,7 +26,7 @@ pub peers_can_ask : CanAsk PeerFits (λ b. b) PeerMayAsk PeerRight PeerAnswers (
 peers_can_ask = record {
   others = λ j k t w at fit may.
       let there : slice_get (row_tags ASKED) k ≡ Some true = ap (slice_get (row_tags ASKED)) may.1 ∙
-          last_asked ASKED in (
+      last_asked ASKED in (
         λ same. let clash : true ≡ false = (let e : Some true ≡ Some t = sym there ∙ ap
             (slice_get (row_tags ASKED)) (sym same) ∙ at in let is : true ≡ t = cc in is ∙ fit ∙ may.0) in
             absurd (cc),
@@ -68,8 +68,11 @@ pub row_of : (n : ℕ) (xs : List (Group Peer ℕ ℕ Bool (Unit {0}))) (x : Gro
 row_of zero [] x len all last = (last, tt)
 row_of zero (y ∷ xs) x len all last = absurd (omega arith)
 row_of (suc n) [] x len all last = absurd (omega arith)
-row_of (suc n) (y ∷ xs) x len all last = (All-head (λ g. IsPeer false g) y xs all, row_of n xs x (omega arith)
-    (All-tail (λ g. IsPeer false g) y xs all) last)
+row_of (suc n) (y ∷ xs) x len all last = (
+  All-head (λ g. IsPeer false g) y xs all,
+  row_of n xs x (omega arith)
+      (All-tail (λ g. IsPeer false g) y xs all) last,
+)
 
 -- peers that are made one after the other
 pub record IsFilling (n : ℕ) (started : Bool) (gs : List (Group Peer ℕ ℕ Bool (Unit {0}))) : Type 0 where
@@ -97,11 +100,11 @@ pub filling_next : (n : ℕ) (started : Bool) (gs hs : List (Group Peer ℕ ℕ 
     → (started ≡ false → g.cx.log.state.turns ≤ 0) → IsFilling (n + 1) started hs
 filling_next n started gs hs g was is fits few new = subst (λ ks. IsFilling (n + 1) started ks) (sym is)
     (record {
-  count = let e = was.count in omega (arith, length-append gs (g ∷ []));
-  fits = all_more (λ h. IsPeer false h) gs g was.fits fits;
-  few = all_more (λ h. h.cx.log.state.turns ≤ 1) gs g was.few few;
-  new = λ e. all_more (λ h. h.cx.log.state.turns ≤ 0) gs g (was.new e) (new e);
-})
+      count = let e = was.count in omega (arith, length-append gs (g ∷ []));
+      fits = all_more (λ h. IsPeer false h) gs g was.fits fits;
+      few = all_more (λ h. h.cx.log.state.turns ≤ 1) gs g was.few few;
+      new = λ e. all_more (λ h. h.cx.log.state.turns ≤ 0) gs g (was.new e) (new e);
+    })
 
 pub row_done : (started : Bool) (gs hs : List (Group Peer ℕ ℕ Bool (Unit {0})))
     (g : Group Peer ℕ ℕ Bool (Unit {0})) → IsFilling ASKED started gs → hs ≡ gs ++ g ∷ [] → IsPeer true g
@@ -109,14 +112,22 @@ pub row_done : (started : Bool) (gs hs : List (Group Peer ℕ ℕ Bool (Unit {0}
     → AreRow 1 hs × (started ≡ false → AreRow 0 hs)
 row_done started gs hs g was is fits new =
     let len : length hs ≡ ASKED + 1 = (let e = was.count in let n : length hs ≡ length (gs ++ g ∷ []) = ap
-        (λ ks. length ks) is in omega (arith, length-append gs (g ∷ []))) in
+    (λ ks. length ks) is in omega (arith, length-append gs (g ∷ []))) in
     let row : GroupsFit PeerFits PeerSound (λ b. b) (λ b. true) (row_tags ASKED) hs = subst
-        (λ ks. GroupsFit PeerFits PeerSound (λ b. b) (λ b. true) (row_tags ASKED) ks) (sym is)
-        (row_of ASKED gs g was.count was.fits fits) in (
-      record { fits = row; few = subst (λ ks. All (λ h. h.cx.log.state.turns ≤ 1) ks) (sym is)
-          (all_more (λ h. h.cx.log.state.turns ≤ 1) gs g was.few (omega arith)); count = len },
-      λ e. record { fits = row; few = subst (λ ks. All (λ h. h.cx.log.state.turns ≤ 0) ks) (sym is)
-          (all_more (λ h. h.cx.log.state.turns ≤ 0) gs g (was.new e) new); count = len },
+    (λ ks. GroupsFit PeerFits PeerSound (λ b. b) (λ b. true) (row_tags ASKED) ks) (sym is)
+    (row_of ASKED gs g was.count was.fits fits) in (
+      record {
+        fits = row;
+        few = subst (λ ks. All (λ h. h.cx.log.state.turns ≤ 1) ks) (sym is)
+            (all_more (λ h. h.cx.log.state.turns ≤ 1) gs g was.few (omega arith));
+        count = len;
+      },
+      λ e. record {
+        fits = row;
+        few = subst (λ ks. All (λ h. h.cx.log.state.turns ≤ 0) ks) (sym is)
+            (all_more (λ h. h.cx.log.state.turns ≤ 0) gs g (was.new e) new);
+        count = len;
+      },
     )
 
 -- the tags of so many peers that are not only asked

@@ -75,21 +75,21 @@ module _ {W Q R T U : Type 0} (Fits : T → W → Type 0) (Sound : W → State �
         → AreToys Fits Sound oa isf Tagged 0 ts gs
     toys_begin ts gs untagged none = subst (λ us. AreToys Fits Sound oa isf Tagged 0 us gs) (sym untagged)
         (subst (λ hs. AreToys Fits Sound oa isf Tagged 0 [] hs) (sym none) (record {
-      fits = tt;
-      tagged = All-nil Tagged;
-      new = All-nil (HasHadTurns 0);
-      count_is = refl;
-    }))
+          fits = tt;
+          tagged = All-nil Tagged;
+          new = All-nil (HasHadTurns 0);
+          count_is = refl;
+        }))
 
     pub toys_next : (n : ℕ) (ts us : List T) (gs hs : List (Group W Q R T U)) (t : T) (g : Group W Q R T U)
         → AreToys Fits Sound oa isf Tagged n ts gs → us ≡ ts ++ t ∷ [] → hs ≡ gs ++ g ∷ []
         → Tagged t → oa t ≡ false → Fits t g.world → Holds Sound g → IsFresh 0 g.cx
-            → AreToys Fits Sound oa isf Tagged (n + 1) us hs
+        → AreToys Fits Sound oa isf Tagged (n + 1) us hs
     toys_next n ts us gs hs t g was more moreover tagged works fits sound fresh =
         let few : g.cx.log.state.turns ≤ 0 = (let e : g.cx.log.state.turns ≡ 0 = ap (λ (s : State). s.turns)
-            fresh.state in omega arith) in
+        fresh.state in omega arith) in
         subst (λ vs. AreToys Fits Sound oa isf Tagged (n + 1) vs hs) (sym more)
-            (subst (λ ks. AreToys Fits Sound oa isf Tagged (n + 1) (ts ++ t ∷ []) ks) (sym moreover) (record {
+        (subst (λ ks. AreToys Fits Sound oa isf Tagged (n + 1) (ts ++ t ∷ []) ks) (sym moreover) (record {
           fits = zip_append (λ u h. GroupFits Fits Sound oa isf u h) ts gs t g was.fits
               (fresh_fits t g works fits sound fresh);
           tagged = all_more Tagged ts t was.tagged tagged;
@@ -122,16 +122,18 @@ module _ {W Q R T U : Type 0} (Fits : T → W → Type 0) (Sound : W → State �
     -- groups whose worlds have counted their work when nothing is pending
     pub all_ended : (Counted : W → Type 0) (ts : List T) (gs : List (Group W Q R T U))
         → ((t : T) (w : W) (s : State) (roles : List Named) → Tagged t → Fits t w → Sound w s roles → length
-            s.pending ≡ 0 → Counted w)
+        s.pending ≡ 0 → Counted w)
         → All Tagged ts → GroupsFit Fits Sound oa isf ts gs → All IsIdle gs → All (HasEnded Counted) gs
     all_ended Counted [] [] ends tagged fits idle = All-nil (HasEnded Counted)
     all_ended Counted [] (g ∷ gs) ends tagged fits idle = absurd fits
     all_ended Counted (t ∷ ts) [] ends tagged fits idle = absurd fits
     all_ended Counted (t ∷ ts) (g ∷ gs) ends tagged fits idle =
         let none : g.cx.log.state.pending ≡ [] = All-head IsIdle g gs idle in
-        All-cons (HasEnded Counted) g gs
-        (none, ends t g.world g.cx.log.state g.cx.roles (All-head Tagged t ts tagged) fits.0.0 fits.0.1
-            (ap (λ ps. length ps) none))
+        All-cons (HasEnded Counted) g gs (
+          none,
+          ends t g.world g.cx.log.state g.cx.roles (All-head Tagged t ts tagged) fits.0.0 fits.0.1
+              (ap (λ ps. length ps) none),
+        )
         (all_ended Counted ts gs ends (All-tail Tagged t ts tagged) fits.1 (All-tail IsIdle g gs idle))
 
   module _ (Left : W → State → Option ℕ) (little : (t : T) (w : W) (s : State) (roles : List Named) → Fits t w
@@ -177,7 +179,7 @@ pub toys_can_ask : {W Q R T : Type 0} (Fits : T → W → Type 0) (oa : T → Bo
     (Right : W → ℕ → Q → R → Type 0) (Answers : W → Q → R → Type 0) (ts : List T)
     → ((w : W) (k : ℕ) → MayAsk w k → ⊥)
     → ((w v : W) (k : ℕ) (q : Q) (r : R) → Answers v q r → Right w k q r)
-        → CanAsk Fits oa MayAsk Right Answers ts
+    → CanAsk Fits oa MayAsk Right Answers ts
 toys_can_ask Fits oa MayAsk Right Answers ts alone fair = record {
   others = λ j k t w at fit may. absurd (alone w k may);
   replies = λ j k t u w v q r at fit there fits answers. fair w v k q r answers;

@@ -13,9 +13,9 @@ use crate::continuation::{is_spent, rouse};
 use crate::course::Course;
 use ts_group::Cx;
 use ts_hooks::TxnEnd;
+use ts_link::RETRY_AFTER;
 use ts_phases::{Next, Phase, Step};
 use ts_relay::{BodyStep, Relay, close_relay, destroy_end};
-use ts_link::RETRY_AFTER;
 use ts_transform::{StageContinuation, Transform};
 
 /// How long it is until a step that is made at once, in milliseconds.

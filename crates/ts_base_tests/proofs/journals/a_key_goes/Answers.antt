@@ -7,12 +7,21 @@ use Rattle.ts_base_tests.proofs.journals.a_key_goes.Goals as goal
 
 pub push-requires-3-clause-allowed : goal.push-requires-3-clause-allowed
 push-requires-3-clause-allowed g c =
-    let p : Pending = record { number = 1; key = record { index = 0; generation = 1 }; event = Hook; due = 5;
-        series = 1; period = 0 } in
+    let p : Pending = record {
+      number = 1;
+      key = record { index = 0; generation = 1 };
+      event = Hook;
+      due = 5;
+      series = 1;
+      period = 0;
+    } in
     let none : c.push.new.self.state.pending ≡ [] =
     ap (λ (s : State). s.pending) c.push.ensures.state ∙ ap (λ (s : State). s.pending)
-        c.reserve.ensures.same.state ∙ ap (λ (s : State). s.pending) c.in_ok-journal.ensures.base.1 in
+    c.reserve.ensures.same.state ∙ ap (λ (s : State). s.pending) c.in_ok-journal.ensures.base.1 in
     let one : c.push-2.new.self.state.pending ≡ p ∷ [] = ap (λ (s : State). s.pending) c.push-2.ensures.state
-        ∙ ap (λ ps. ps ++ p ∷ []) none in
-    (ap (λ (s : State). s.held) c.push-2.ensures.state ∙ ap (λ (s : State). s.held) c.push.ensures.state, p,
-        ap (pending_at 1) one, omega arith)
+    ∙ ap (λ ps. ps ++ p ∷ []) none in (
+      ap (λ (s : State). s.held) c.push-2.ensures.state ∙ ap (λ (s : State). s.held) c.push.ensures.state,
+      p,
+      ap (pending_at 1) one,
+      omega arith,
+    )

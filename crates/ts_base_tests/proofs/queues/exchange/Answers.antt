@@ -6,4 +6,4 @@ use Rattle.ts_base_tests.proofs.queues.exchange.Goals as goal
 pub returns-in-None-take-clause-all : goal.returns-in-None-take-clause-all
 returns-in-None-take-clause-all g c =
     let found = c.in-None-take.ensures in found.empty.whole
-        (ap (λ (v : PassView). v.share) found.same ∙ c.rest.invariant.1)
+    (ap (λ (v : PassView). v.share) found.same ∙ c.rest.invariant.1)

@@ -11,8 +11,11 @@ returns-in_err-begin_turn-clause-stands g c =
     let same = c.in_err-begin_turn.ensures.err in
     record {
       follows = record {
-        journal = inr (ap (λ s. s.turns) same.log.base, subst (IsLater old.cx.log.state) (sym same.log.state)
-            (later_refl old.cx.log.state));
+        journal = inr (
+          ap (λ s. s.turns) same.log.base,
+          subst (IsLater old.cx.log.state) (sym same.log.state)
+              (later_refl old.cx.log.state),
+        );
         tags = λ made tag. subst (g.W.Slotted.fits tag) (sym c.begin_turn.ensures.world);
       };
       news = λ made. let from = same.news_from in omega arith;
@@ -28,9 +31,9 @@ returns-clause-stands g c =
         journal = follows_trans (new.cx.log.base.turns, new.cx.log.state)
             (mid.cx.log.base.turns, mid.cx.log.state) (old.cx.log.base.turns, old.cx.log.state)
             (extends_follows mid.cx.log new.cx.log (Gave mid.cx.log.state.turns ∷ []) c.known-2.ensures.valid
-                c.give_turn.ensures.gives.by)
+            c.give_turn.ensures.gives.by)
             (extends_follows old.cx.log mid.cx.log (Took c.args.turn c.args.seat ∷ []) c.known.ensures.valid
-                c.in_ok-begin_turn.ensures.begins.by);
+            c.in_ok-begin_turn.ensures.begins.by);
         tags = λ made tag. subst (g.W.Slotted.fits tag)
             (sym (c.give_turn.ensures.world ∙ c.begin_turn.ensures.world));
       };

@@ -17,12 +17,12 @@ leave-requires-clause-marks g c mark there =
     let found : marks_of old.cx.log.entries ≡ marks_of c.in_ok-turn.turn.found.value.cx.log.entries =
     ap (λ v. marks_of v.cx.log.entries) (c.value-group.ensures.value ∙ sym c.in_ok-turn.ensures.turn.1) in
     let own : ◌≡◌ {A = ℕ × ℕ} (turn, seat) (c.in_ok-turn.turn.number, c.try_enter.new.seat.number) = λ i.
-        (c.number-number.ensures i, c.number-owner.ensures i) in
+    (c.number-number.ensures i, c.number-owner.ensures i) in
     ⊎_elim
     (λ (r : Records old new turn seat). ⊎_elim
     (λ (was : Contains (marks_of old.cx.log.entries) mark). inl (subst (λ ms. Contains ms mark) found was))
     (λ (one : Contains (marks_of (Took turn seat ∷ Gave turn ∷ [])) mark). inr
-        (one_mark (turn, seat) mark one ∙ own))
+    (one_mark (turn, seat) mark one ∙ own))
     (marks_more old.cx.log new.cx.log (Took turn seat ∷ Gave turn ∷ []) mark r.by there))
     (λ (same : IsSame old.cx new.cx × (new.world ≡ old.world)).
     inl (subst (λ ms. Contains ms mark) (ap (λ es. marks_of es) same.0.log.entries ∙ found) there))

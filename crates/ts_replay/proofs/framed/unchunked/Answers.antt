@@ -25,8 +25,11 @@ count_digits-requires c = small_size (chunk (goal.at.count_digits-requires c).In
 pub overflow_add-count_digits : goal.overflow_add-count_digits
 overflow_add-count_digits c =
     let n = get_or c.args.cuts.now c.loop-cut.cut-index 0 in
-    let few : length (hex n) ≤ 4 = length-hex n (omega (arith, small_size
-    (chunk (goal.at.overflow_add-count_digits c).In-loop-cut c.requires.0 c.requires.1))) in
+    let few : length (hex n) ≤ 4 = length-hex n (omega (
+      arith,
+      small_size
+          (chunk (goal.at.overflow_add-count_digits c).In-loop-cut c.requires.0 c.requires.1),
+    )) in
     omega (arith, few, c.count_digits.ensures)
 
 pub split_at-requires : goal.split_at-requires

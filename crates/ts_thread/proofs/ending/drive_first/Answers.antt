@@ -7,7 +7,7 @@ pub drive-requires-clause-tells : goal.drive-requires-clause-tells
 drive-requires-clause-tells g c =
     all_middle (Finite g.W.World.left) c.args.before.now c.in-Some.group.now c.in-Some.after.now
     (subst (λ gs. All (Finite g.W.World.left) (c.args.before.now ++ gs)) c.in-Some.ensures.cases.0
-        c.requires.tells)
+    c.requires.tells)
 
 pub returns : goal.returns
 returns g c = record {

@@ -25,11 +25,11 @@ groups-preserved g c = finishing_next g.W.Slotted.fits g.W.World.sound g.W.World
 pub returns-in_err-drive_at : goal.returns-in_err-drive_at
 returns-in_err-drive_at g c =
     by_error (Finishes g.W.Slotted.fits g.W.World.sound g.W.World.only_asked g.W.World.is_first g.W.World.left
-        c.args.limit c.args.groups.now c.drive_at.new.groups) c.from_residual.result _
-        c.from_residual.ensures.1
+    c.args.limit c.args.groups.now c.drive_at.new.groups) c.from_residual.result _
+    c.from_residual.ensures.1
     (finishing_stops g.W.Slotted.fits g.W.World.sound g.W.World.only_asked g.W.World.is_first g.W.World.left
-        c.args.limit c.args.groups.now c.groups.groups c.drive_at.new.groups c.groups.place _
-        c.groups.invariant c.in_err-drive_at.ensures)
+    c.args.limit c.args.groups.now c.groups.groups c.drive_at.new.groups c.groups.place _
+    c.groups.invariant c.in_err-drive_at.ensures)
 
 pub returns : goal.returns
 returns g c =
@@ -37,4 +37,4 @@ returns g c =
     let long = c.groups.auto.groups in
     let le : length c.groups.groups ≤ c.groups.place = omega arith in
     finishing_ends g.W.Slotted.fits g.W.World.sound g.W.World.only_asked g.W.World.is_first g.W.World.left
-        c.args.limit c.args.groups.now c.groups.groups c.groups.place le c.groups.invariant
+    c.args.limit c.args.groups.now c.groups.groups c.groups.place le c.groups.invariant

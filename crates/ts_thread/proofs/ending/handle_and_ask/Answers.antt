@@ -12,8 +12,8 @@ ask_among-asked-requires-clause-there g c =
     let keeps = rw c.in-Ok-Asks.field-0-is at asks.keeps in
     let group = c.handle.new.self in
     let may = askable g.W.Slotted.fits g.W.World.sound g.W.World.only_asked g.W.World.is_first g.W.World.left
-        c.args.limit g.W.World.may_ask g.W.World.right g.W.World.answers fits.0 c.args.before.now
-        c.args.after.now c.args.group.now.world group.world group
+    c.args.limit g.W.World.may_ask g.W.World.right g.W.World.answers fits.0 c.args.before.now
+    c.args.after.now c.args.group.now.world group.world group
     c.in-Ok-Asks.other fits.1 fits.2 asks.promises.tags keeps.1 in
     (may.tag, may.group, group, may.other, may.there, may.fits, may.asked)
 
@@ -24,8 +24,8 @@ answered-requires-clause-asking g c =
     let keeps = rw c.in-Ok-Asks.field-0-is at asks.keeps in
     let group = c.handle.new.self in
     let may = askable g.W.Slotted.fits g.W.World.sound g.W.World.only_asked g.W.World.is_first g.W.World.left
-        c.args.limit g.W.World.may_ask g.W.World.right g.W.World.answers fits.0 c.args.before.now
-        c.args.after.now c.args.group.now.world group.world group
+    c.args.limit g.W.World.may_ask g.W.World.right g.W.World.answers fits.0 c.args.before.now
+    c.args.after.now c.args.group.now.world group.world group
     c.in-Ok-Asks.other fits.1 fits.2 asks.promises.tags keeps.1 in
     record {
       group = c.in-Ok-Asks.other;
@@ -48,14 +48,14 @@ returns-in-Ok-Handled-clause-after g c = all_refl g.W.Slotted.fits g.W.World.sou
 pub returns-in-Ok-Asks-clause-before : goal.returns-in-Ok-Asks-clause-before
 returns-in-Ok-Asks-clause-before g c =
     subst (λ r. AllGoOn g.W.Slotted.fits g.W.World.sound g.W.World.only_asked g.W.World.is_first
-        g.W.World.left c.args.limit r c.args.before.now c.ask_among-asked.new.before 1)
-        (sym c.came_of-answer.ensures) c.ask_among-asked.ensures.before
+    g.W.World.left c.args.limit r c.args.before.now c.ask_among-asked.new.before 1)
+    (sym c.came_of-answer.ensures) c.ask_among-asked.ensures.before
 
 pub returns-in-Ok-Asks-clause-after : goal.returns-in-Ok-Asks-clause-after
 returns-in-Ok-Asks-clause-after g c =
     subst (λ r. AllGoOn g.W.Slotted.fits g.W.World.sound g.W.World.only_asked g.W.World.is_first
-        g.W.World.left c.args.limit r c.args.after.now c.ask_among-asked.new.after 1)
-        (sym c.came_of-answer.ensures) c.ask_among-asked.ensures.after
+    g.W.World.left c.args.limit r c.args.after.now c.ask_among-asked.new.after 1)
+    (sym c.came_of-answer.ensures) c.ask_among-asked.ensures.after
 
 pub returns-in-Ok-Asks-clause-worn : goal.returns-in-Ok-Asks-clause-worn
 returns-in-Ok-Asks-clause-worn g c = λ is. c.ask_among-asked.ensures.worn (sym c.came_of-answer.ensures ∙ is)
@@ -75,8 +75,8 @@ returns-in-Ok-Handled-clause-works g c =
     let keeps = rw c.in-Ok-Handled.field-0-is at handle.keeps in
     let falls = rw c.in-Ok-Handled.field-0-is at handle.falls in
     handled_works g.W.Slotted.fits g.W.World.sound g.W.World.only_asked g.W.World.is_first g.W.World.left
-        c.args.limit g.W.World.called c.args.group.now c.handle.new.self c.args.number c.args.moment _
-        c.requires.turn.2 c.known.ensures.valid gives.0
+    c.args.limit g.W.World.called c.args.group.now c.handle.new.self c.args.number c.args.moment _
+    c.requires.turn.2 c.known.ensures.valid gives.0
     handle.promises.tags
     keeps
     handle.few
@@ -89,12 +89,12 @@ returns-in-Ok-Asks-clause-works g c =
     let falls = rw c.in-Ok-Asks.field-0-is at handle.falls in
     let told = c.answered.ensures in
     (told_works g.W.Slotted.fits g.W.World.sound g.W.World.only_asked g.W.World.is_first g.W.World.left
-        c.args.limit {r = c.came_of-answer.result} g.W.World.called c.args.group.now c.handle.new.self
-        c.answered.new.self c.args.number c.args.moment _ c.requires.turn.2 c.known.ensures.valid
+    c.args.limit {r = c.came_of-answer.result} g.W.World.called c.args.group.now c.handle.new.self
+    c.answered.new.self c.args.number c.args.moment _ c.requires.turn.2 c.known.ensures.valid
     c.known-in-Ok-Asks.ensures.valid gives handle.promises.tags handle.few falls told.grows told.turn
-        told.sound told.promises.tags told.few
+    told.sound told.promises.tags told.few
     (λ well. told_falls c.ask_among-asked.result _ _ told.hears.falls
-        (λ is. well (c.came_of-answer.ensures ∙ is)))).0
+    (λ is. well (c.came_of-answer.ensures ∙ is)))).0
 
 pub returns-in-Ok-Asks-clause-falls : goal.returns-in-Ok-Asks-clause-falls
 returns-in-Ok-Asks-clause-falls g c =
@@ -104,15 +104,15 @@ returns-in-Ok-Asks-clause-falls g c =
     let told = c.answered.ensures in
     well_then c.came_of-answer.result (LeavesLess g.W.World.left c.args.group.now 1 c.answered.new.self)
     (told_works g.W.Slotted.fits g.W.World.sound g.W.World.only_asked g.W.World.is_first g.W.World.left
-        c.args.limit {r = c.came_of-answer.result} g.W.World.called c.args.group.now c.handle.new.self
-        c.answered.new.self c.args.number c.args.moment _ c.requires.turn.2 c.known.ensures.valid
+    c.args.limit {r = c.came_of-answer.result} g.W.World.called c.args.group.now c.handle.new.self
+    c.answered.new.self c.args.number c.args.moment _ c.requires.turn.2 c.known.ensures.valid
     c.known-in-Ok-Asks.ensures.valid gives handle.promises.tags handle.few falls told.grows told.turn
-        told.sound told.promises.tags told.few
+    told.sound told.promises.tags told.few
     (λ well. told_falls c.ask_among-asked.result _ _ told.hears.falls
-        (λ is. well (c.came_of-answer.ensures ∙ is)))).1
+    (λ is. well (c.came_of-answer.ensures ∙ is)))).1
 
 pub returns-in-Err-clause-works : goal.returns-in-Err-clause-works
 returns-in-Err-clause-works g c =
     same_works g.W.Slotted.fits g.W.World.sound g.W.World.only_asked g.W.World.is_first g.W.World.left
-        c.args.limit c.args.group.now c.handle.new.self c.requires.turn.0 c.requires.turn.1
-        c.in-Err.ensures.err.same refl
+    c.args.limit c.args.group.now c.handle.new.self c.requires.turn.0 c.requires.turn.1
+    c.in-Err.ensures.err.same refl

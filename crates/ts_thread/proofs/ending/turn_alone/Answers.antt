@@ -11,7 +11,7 @@ pub begin_alone-requires : goal.begin_alone-requires
 begin_alone-requires g c =
     let fits = c.requires.fits in
     let fit = fit_middle g.W.Slotted.fits g.W.World.sound g.W.World.only_asked g.W.World.is_first
-        g.W.World.left c.args.limit fits.0 c.args.before.now c.args.group.now c.args.after.now fits.2 in
+    g.W.World.left c.args.limit fits.0 c.args.before.now c.args.group.now c.args.after.now fits.2 in
     record { idle = fit.1.2.0 }
 
 -- no memory for the turn: nothing was done to any group
@@ -30,7 +30,7 @@ returns-in-Err-Worn-clause-worn g c = λ is.
     let within = rw c.in-Err-Worn.field-0-is at none.within in
     let stays = sym none.err.log.state in
     any_middle (IsWorn g.W.Slotted.fits g.W.World.sound g.W.World.only_asked g.W.World.is_first c.args.limit)
-        c.args.before.now c.begin_alone.new.self c.args.after.now (
+    c.args.before.now c.begin_alone.new.self c.args.after.now (
       subst (λ (s : State). c.args.limit ≤ s.turns) stays within.0,
       inl (subst (λ (s : State). s.pending ≢ []) stays
           (next_pending c.args.group.now.cx.log.state c.args.moment c.args.number c.requires.due)),
@@ -48,7 +48,7 @@ pub handle_and_ask-answer-requires-clause-turn : goal.handle_and_ask-answer-requ
 handle_and_ask-answer-requires-clause-turn g c =
     let fits = c.requires.fits in
     let fit = fit_middle g.W.Slotted.fits g.W.World.sound g.W.World.only_asked g.W.World.is_first
-        g.W.World.left c.args.limit fits.0 c.args.before.now c.args.group.now c.args.after.now fits.2 in
+    g.W.World.left c.args.limit fits.0 c.args.before.now c.args.group.now c.args.after.now fits.2 in
     let begun = c.in-Ok.ensures in (
       ap (λ (s : State). s.held) begun.begins.state,
       begun.sound fit.1.1,
@@ -71,9 +71,9 @@ returns-clause-own g c =
     let given = c.give_turn.ensures in
     let works = c.handle_and_ask-answer.ensures.works in
     stepped g.W.Slotted.fits g.W.World.sound g.W.World.only_asked g.W.World.is_first g.W.World.left
-        c.args.limit c.args.group.now c.begin_alone.new.self c.handle_and_ask-answer.new.group
-        c.give_turn.new.self (c.args.group.now.cx.log.state.turns + 1) c.args.moment c.args.number
-        c.requires.due begun.within
+    c.args.limit c.args.group.now c.begin_alone.new.self c.handle_and_ask-answer.new.group
+    c.give_turn.new.self (c.args.group.now.cx.log.state.turns + 1) c.args.moment c.args.number
+    c.requires.due begun.within
     refl begun.begins begun.world begun.left works given.gives given.world given.left
     (given.sound works.sound)
 

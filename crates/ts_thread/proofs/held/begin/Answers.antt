@@ -7,5 +7,5 @@ returns-clause-begun g c =
     let begun = c.begin_turn.ensures in
     ok_to c.begin_turn.result
     (λ begins. has_begun g.W.Slotted.fits c.args.group.now c.begin_turn.new.self c.args.turn c.args.seat
-        c.args.moment c.known.ensures.valid begins begun.kept begun.world)
+    c.args.moment c.known.ensures.valid begins begun.kept begun.world)
     begun.begins

@@ -6,7 +6,7 @@ use Rattle.ts_thread.proofs.news.tell_news.Goals as goal
 pub news-smaller : goal.news-smaller
 news-smaller g c =
     let less = telling_less c.args.k c.args.moment c.args.group.now c.news.group c.args.desk.now c.news.desk
-        c.in-Some.number c.in-Some.due c.news.invariant.1 c.in-Some.ensures.news in
+    c.in-Some.number c.in-Some.due c.news.invariant.1 c.in-Some.ensures.news in
     let from = c.in-Some.ensures.once in
     let next = ap (λ (s : State). s.next) c.in-Some.ensures.same.log.state in
     let low = less.0 in

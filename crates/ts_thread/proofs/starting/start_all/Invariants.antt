@@ -9,5 +9,5 @@ abbrev pub invariant-starts : goal.invariant-starts
 invariant-starts g l =
     IsDeskOf l.slots l.queue l.desk × KeepsTokens l.initial.desk l.desk l.k
     × AllStarted g.row.W-Question.Denot g.row.W-Reply.Denot g.row.W-Trace.Denot g.W.Slotted.fits
-        (IsFirst g.W.World.is_first (tags_of l.slots)) g.W.World.begun g.W.World.sound
+    (IsFirst g.W.World.is_first (tags_of l.slots)) g.W.World.begun g.W.World.sound
     (HasPlaceAt GREATEST l.desk) (view l.desk.seat).known l.k

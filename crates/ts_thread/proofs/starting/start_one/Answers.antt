@@ -13,13 +13,13 @@ use Rattle.ts_thread.proofs.starting.start_one.Goals as goal
 pub enter_at-turn-requires-clause-group : goal.enter_at-turn-requires-clause-group
 enter_at-turn-requires-clause-group g c =
     let tag = c.requires.tags c.args.k (omega arith) in place_below (tags_of c.args.slots.now) c.args.k tag.0
-        tag.1
+    tag.1
 
 pub leave-requires-clause-marks : goal.leave-requires-clause-marks
 leave-requires-clause-marks g c mark there =
     given_marks g.W.Slotted.fits c.value.result.now c.begin.new.group c.enter_at-turn.result.found.value
-        c.number-number.result c.enter_at-turn.result.number c.number-owner.result
-        c.enter_at-turn.new.seat.number c.in-Err.ensures.err.0
+    c.number-number.result c.enter_at-turn.result.number c.number-owner.result
+    c.enter_at-turn.new.seat.number c.in-Err.ensures.err.0
     (c.value.ensures.value ∙ sym c.enter_at-turn.ensures.entered.found)
     c.number-number.ensures
     c.number-owner.ensures
@@ -43,10 +43,10 @@ end_turn-requires-clause-fits g c =
     let entered = c.enter_at-turn.ensures.entered in
     let begun = c.in_default.ensures in
     let later : c.enter_at-turn.result.value.cx.log.state.turns < c.number-number.result = let h =
-        entered.later in let e = c.number-number.ensures in omega arith in
+    entered.later in let e = c.number-number.ensures in omega arith in
     start_fits g.W.Slotted.fits g.W.World.sound g.W.World.only_asked g.W.World.is_first g.W.World.begun
-        (tags_of c.args.slots.now) c.args.k c.enter_at-turn.result.group c.number-number.result
-        c.number-owner.result
+    (tags_of c.args.slots.now) c.args.k c.enter_at-turn.result.group c.number-number.result
+    c.number-owner.result
     c.enter_at-turn.result.value
     c.value.result.now
     c.begin.new.group
@@ -107,7 +107,7 @@ returns-clause-started g c =
           entered.found
           c.value.ensures.value
           (subst (λ n. HasTurn g.W.Slotted.fits c.value.result.now c.begin.new.group n c.number-owner.result)
-              c.number-number.ensures begun.begun)
+          c.number-number.ensures begun.begun)
           begun.same
           c.value-2.ensures.value
           c.start.ensures.starts
@@ -119,8 +119,8 @@ returns-clause-started g c =
           ends.as_now.later
           ends.told.none
           (λ n p there news. subst (λ k. HasPlaceAt GREATEST c.end_turn.new.desk k p) entered.group
-              (ends.told.each n p there news))
+          (ends.told.each n p there news))
           (subst (λ k. KnowsTurn k c.enter_at-turn.result.number ends.left
-              (view c.end_turn.new.desk.seat).known) entered.group ends.knows);
+          (view c.end_turn.new.desk.seat).known) entered.group ends.knows);
     })
     c.end_turn.ensures.ends

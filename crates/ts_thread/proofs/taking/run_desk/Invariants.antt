@@ -8,7 +8,7 @@ abbrev pub invariant-turns : goal.invariant-turns
 invariant-turns g l =
     IsDeskOf l.slots l.queue l.desk × KeepsDesk l.initial.desk l.desk (2 * l.made) × (l.made ≤ l.budget)
     × Turns g.W.Slotted.fits g.W.World.asking g.W.World.answers g.W.World.called g.W.World.heard
-        g.W.World.left (tags_of l.slots) l.made l.initial.desk l.desk l.moment
+    g.W.World.left (tags_of l.slots) l.made l.initial.desk l.desk l.moment
     × CountsMore l.made l.initial.desk l.desk
 
 abbrev pub decreases-turns : goal.decreases-turns

@@ -14,20 +14,24 @@ enter-requires-clause-desk g c = desk_taken c.args.slots.now c.args.queue.now c.
 pub returns-clause-err : goal.returns-clause-err
 returns-clause-err g c =
     let gets = subst (λ n. Gets n c.args.moment c.args.desk.now c.next_token.new.desk c.in-Some.token)
-        c.groups-groups.ensures c.in-Some.ensures.token in
-    on_err_any c.enter.result (record { token = c.in-Some.token; taken = c.next_token.new.desk; gets = gets;
-        keeps = c.enter.ensures.keeps.places })
+    c.groups-groups.ensures c.in-Some.ensures.token in
+    on_err_any c.enter.result (record {
+      token = c.in-Some.token;
+      taken = c.next_token.new.desk;
+      gets = gets;
+      keeps = c.enter.ensures.keeps.places;
+    })
 
 pub returns-clause-did : goal.returns-clause-did
 returns-clause-did g c =
     let gets = subst (λ n. Gets n c.args.moment c.args.desk.now c.next_token.new.desk c.in-Some.token)
-        c.groups-groups.ensures c.in-Some.ensures.token in
+    c.groups-groups.ensures c.in-Some.ensures.token in
     ok_all c.enter.result (Uses g.W.Slotted.fits g.W.World.asking g.W.World.answers g.W.World.called
-        g.W.World.heard g.W.World.left (tags_of c.args.slots.now) c.in-Some.token c.args.moment
-        c.next_token.new.desk c.enter.new.desk)
-        (IsDid g.W.Slotted.fits g.W.World.asking g.W.World.answers g.W.World.called g.W.World.heard
-        g.W.World.left (tags_of c.args.slots.now) c.args.moment c.args.desk.now c.enter.new.desk)
+    g.W.World.heard g.W.World.left (tags_of c.args.slots.now) c.in-Some.token c.args.moment
+    c.next_token.new.desk c.enter.new.desk)
+    (IsDid g.W.Slotted.fits g.W.World.asking g.W.World.answers g.W.World.called g.W.World.heard
+    g.W.World.left (tags_of c.args.slots.now) c.args.moment c.args.desk.now c.enter.new.desk)
     (takes_one g.W.Slotted.fits g.W.World.asking g.W.World.answers g.W.World.called g.W.World.heard
-        g.W.World.left (tags_of c.args.slots.now) c.args.moment c.in-Some.token c.args.desk.now
-        c.next_token.new.desk c.enter.new.desk gets)
+    g.W.World.left (tags_of c.args.slots.now) c.args.moment c.in-Some.token c.args.desk.now
+    c.next_token.new.desk c.enter.new.desk gets)
     c.enter.ensures.uses

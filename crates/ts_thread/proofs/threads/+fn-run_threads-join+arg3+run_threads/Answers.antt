@@ -22,11 +22,11 @@ returns-clause-back g t c =
           ((c.args.threads - 1) * (2 * c.args.budget)) (2 * c.args.budget)
           (c.args.threads * (2 * c.args.budget)) (omega arith)
           (le_of (2 * c.args.budget + (c.args.threads - 1) * (2 * c.args.budget))
-              (c.args.threads * (2 * c.args.budget))
-              (one_and_rest c.args.threads (2 * c.args.budget) (omega arith)))
+          (c.args.threads * (2 * c.args.budget))
+          (one_and_rest c.args.threads (2 * c.args.budget) (omega arith)))
           (subst (λ v. KeepsSeat v one (2 * c.args.budget)) c.split-other_seat.ensures.right first.keeps)
           (subst (λ v. KeepsSeat v rest ((c.args.threads - 1) * (2 * c.args.budget)))
-              c.split-other_seat.ensures.left second.keeps)
+          c.split-other_seat.ensures.left second.keeps)
           c.join.ensures.both;
       share = joined_share (pass_view c.args.pass) (pass_view c.join-one.result.0.1)
           (pass_view c.join-one.result.1.1) (pass_view c.join-2.new.into) (omega arith)
@@ -40,7 +40,7 @@ returns-clause-ran g t c =
     let some = c.requires.ready.some in
     both_true c.join-one.result.1.2 c.join-one.result.0.2
     (one_more_ran g.W.Slotted.fits g.W.World.asking g.W.World.answers g.W.World.called g.W.World.heard
-        g.W.World.left
+    g.W.World.left
     (tags_of c.args.slots.now) c.args.budget c.args.threads (omega arith)
     c.args.seat c.join.new.into _ c.join-one.result.0.0 _ c.join-one.result.1.0
     c.args.pass c.join-2.new.into _ c.join-one.result.0.1 _ c.join-one.result.1.1

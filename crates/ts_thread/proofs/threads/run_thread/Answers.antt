@@ -11,11 +11,11 @@ returns-clause-ran g c =
     let tags = tags_of c.args.slots.now in
     subst
     (λ b. OnTrue b (RanToEnd g.W.Slotted.fits g.W.World.asking g.W.World.answers g.W.World.called
-        g.W.World.heard g.W.World.left tags c.args.budget
+    g.W.World.heard g.W.World.left tags c.args.budget
     c.args.seat c.args.pass back.0 back.1))
     (sym c.is_ok.ensures.value)
     (ran_alone g.W.Slotted.fits g.W.World.asking g.W.World.answers g.W.World.called g.W.World.heard
-        g.W.World.left tags c.args.budget
+    g.W.World.left tags c.args.budget
     (tags_of c.in-Ok.thread.slots.now) (ap (λ s. tags_of s.now) c.in-Ok.ensures.tables.0)
     c.run-ended.result c.in-Ok.thread.desk c.run-ended.new.self.desk c.args.seat back.0 c.args.pass back.1
     c.in-Ok.ensures.desk

@@ -15,24 +15,28 @@ pub leave-requires-clause-marks : goal.leave-requires-clause-marks
 leave-requires-clause-marks g c mark there =
     let told = c.tell_news-told.ensures in
     let given = told_given g.W.Slotted.fits c.args.turn.found.value c.args.turn.value c.value.result.now
-        c.tell_news-told.new.group c.value-2.result.now c.give.new.group c.args.turn.number
-        c.args.desk.now.seat.number c.requires.has c.value.ensures.value told.same c.value-2.ensures.value
-        c.give.ensures.gives in
+    c.tell_news-told.new.group c.value-2.result.now c.give.new.group c.args.turn.number
+    c.args.desk.now.seat.number c.requires.has c.value.ensures.value told.same c.value-2.ensures.value
+    c.give.ensures.gives in
     given_marks g.W.Slotted.fits c.args.turn.found.value c.give.new.group c.args.turn.found.value
-        c.args.turn.number c.args.turn.number c.args.desk.now.seat.number
-        c.tell_news-told.new.desk.seat.number given refl refl (ap (λ s. s.number) (sym told.seat.0)) mark
-        there
+    c.args.turn.number c.args.turn.number c.args.desk.now.seat.number
+    c.tell_news-told.new.desk.seat.number given refl refl (ap (λ s. s.number) (sym told.seat.0)) mark
+    there
 
 pub returns-clause-ends : goal.returns-clause-ends
 returns-clause-ends g c =
     let told = c.tell_news-told.ensures in
     ok_to c.tell_news-told.result
     (ends_turn c.args.turn.group c.group-k.result c.args.turn.number c.args.moment c.args.turn.value
-        c.value.result.now c.tell_news-told.new.group c.value-2.result.now c.give.new.group
+    c.value.result.now c.tell_news-told.new.group c.value-2.result.now c.give.new.group
     c.args.desk.now
     c.tell_news-told.new.desk
-    (record { seat = c.leave.new.seat; pass = c.tell_news-told.new.desk.pass; wheel =
-        c.tell_news-told.new.desk.wheel })
+    (record {
+      seat = c.leave.new.seat;
+      pass = c.tell_news-told.new.desk.pass;
+      wheel =
+          c.tell_news-told.new.desk.wheel;
+    })
     c.group-k.ensures
     c.value.ensures.value
     told.same.cx

@@ -13,9 +13,9 @@ use Rattle.ts_thread.proofs.turning.enter.Goals as goal
 pub returns-in_ok-add-in-Err-clause-desk : goal.returns-in_ok-add-in-Err-clause-desk
 returns-in_ok-add-in-Err-clause-desk g c =
     desk_added c.args.slots.now c.args.queue.now c.args.desk.now
-        (record { seat = c.try_enter.new.seat; pass = c.args.desk.now.pass; wheel = c.add.new.self })
-        c.args.token c.saturating_add.result c.requires.group c.in-Err.ensures.seat refl
-        c.in_ok-add-in-Err.ensures.ok c.requires.desk
+    (record { seat = c.try_enter.new.seat; pass = c.args.desk.now.pass; wheel = c.add.new.self })
+    c.args.token c.saturating_add.result c.requires.group c.in-Err.ensures.seat refl
+    c.in_ok-add-in-Err.ensures.ok c.requires.desk
 
 pub returns-in_ok-add-in-Err-clause-keeps : goal.returns-in_ok-add-in-Err-clause-keeps
 returns-in_ok-add-in-Err-clause-keeps g c =
@@ -39,27 +39,30 @@ returns-in-Ok-clause-keeps g c = record {
         c.handle_entered.ensures.closes.seat;
     share = c.handle_entered.ensures.closes.share;
   };
-  places = record { wheel = c.handle_entered.ensures.closes.places.wheel; put =
-      c.handle_entered.ensures.closes.places.put;
-      taken = c.handle_entered.ensures.closes.places.taken };
+  places = record {
+    wheel = c.handle_entered.ensures.closes.places.wheel;
+    put =
+        c.handle_entered.ensures.closes.places.put;
+    taken = c.handle_entered.ensures.closes.places.taken;
+  };
 }
 
 pub returns-in-Ok-clause-uses : goal.returns-in-Ok-clause-uses
 returns-in-Ok-clause-uses g c =
     let entered : Desk (Group g.row.W.Denot g.row.W-Question.Denot g.row.W-Reply.Denot g.row.W-Tag.Denot
-        g.row.W-Trace.Denot) g.row.W-Tag.Denot
-        (Group g.row.W.Denot g.row.W-Question.Denot g.row.W-Reply.Denot g.row.W-Tag.Denot g.row.W-Trace.Denot)
-        _ = record { seat = c.try_enter.new.seat; pass = c.args.desk.now.pass; wheel = c.args.desk.now.wheel }
-        in
+    g.row.W-Trace.Denot) g.row.W-Tag.Denot
+    (Group g.row.W.Denot g.row.W-Question.Denot g.row.W-Reply.Denot g.row.W-Tag.Denot g.row.W-Trace.Denot)
+    _ = record { seat = c.try_enter.new.seat; pass = c.args.desk.now.pass; wheel = c.args.desk.now.wheel }
+    in
     ok_all c.handle_entered.result (Serves g.W.Slotted.fits g.W.World.asking g.W.World.answers
-        g.W.World.called
-        g.W.World.heard g.W.World.left (tags_of c.args.slots.now) c.args.token c.args.moment
-        c.in-Ok.turn.number c.in-Ok.turn.found.value entered c.handle_entered.new.desk)
-        (Uses g.W.Slotted.fits g.W.World.asking g.W.World.answers g.W.World.called g.W.World.heard
-        g.W.World.left (tags_of c.args.slots.now) c.args.token c.args.moment c.args.desk.now
-            c.handle_entered.new.desk)
+    g.W.World.called
+    g.W.World.heard g.W.World.left (tags_of c.args.slots.now) c.args.token c.args.moment
+    c.in-Ok.turn.number c.in-Ok.turn.found.value entered c.handle_entered.new.desk)
+    (Uses g.W.Slotted.fits g.W.World.asking g.W.World.answers g.W.World.called g.W.World.heard
+    g.W.World.left (tags_of c.args.slots.now) c.args.token c.args.moment c.args.desk.now
+    c.handle_entered.new.desk)
     (uses_of g.W.Slotted.fits g.W.World.asking g.W.World.answers g.W.World.called g.W.World.heard
-        g.W.World.left (tags_of c.args.slots.now) c.args.token c.args.moment c.in-Ok.turn.number
-        c.in-Ok.turn.found.value c.in-Ok.turn.value c.args.desk.now entered c.handle_entered.new.desk
-        c.in-Ok.ensures.turn.1 c.in-Ok.ensures.later c.in-Ok.ensures.won refl refl)
+    g.W.World.left (tags_of c.args.slots.now) c.args.token c.args.moment c.in-Ok.turn.number
+    c.in-Ok.turn.found.value c.in-Ok.turn.value c.args.desk.now entered c.handle_entered.new.desk
+    c.in-Ok.ensures.turn.1 c.in-Ok.ensures.later c.in-Ok.ensures.won refl refl)
     c.handle_entered.ensures.serves

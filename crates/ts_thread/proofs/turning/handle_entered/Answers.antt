@@ -8,8 +8,8 @@ use Rattle.ts_thread.proofs.turning.handle_entered.Goals as goal
 pub leave-requires-clause-marks : goal.leave-requires-clause-marks
 leave-requires-clause-marks g c mark there =
     given_marks g.W.Slotted.fits c.value.result.now c.begin.new.group c.args.turn.found.value
-        c.number-number.result c.args.turn.number c.number-owner.result c.args.desk.now.seat.number
-        c.in-Err.ensures.err.0
+    c.number-number.result c.args.turn.number c.number-owner.result c.args.desk.now.seat.number
+    c.in-Err.ensures.err.0
     (c.value.ensures.value ∙ sym c.requires.found.same)
     c.number-number.ensures
     c.number-owner.ensures
@@ -36,14 +36,14 @@ returns-clause-serves g c =
     let worked = c.in_ok-did.ensures in
     let begun = c.in_default.ensures in
     serve_ends g.W.Slotted.fits g.W.World.asking g.W.World.answers g.W.World.called g.W.World.heard
-        g.W.World.left (tags_of c.args.slots.now) c.args.token c.args.turn.group c.args.turn.number
-        c.args.moment c.args.turn.found.value c.value.result.now c.begin.new.group c.value-2.result.now
-        c.work-did.new.group c.args.desk.now c.work-did.new.desk c.end_turn-told.new.desk c.in_ok-did.did
+    g.W.World.left (tags_of c.args.slots.now) c.args.token c.args.turn.group c.args.turn.number
+    c.args.moment c.args.turn.found.value c.value.result.now c.begin.new.group c.value-2.result.now
+    c.work-did.new.group c.args.desk.now c.work-did.new.desk c.end_turn-told.new.desk c.in_ok-did.did
     c.requires.found.group
     (c.value.ensures.value ∙ sym c.requires.found.same)
     begun.same
     (subst (λ (x : ℕ × ℕ). HasTurn g.W.Slotted.fits c.value.result.now c.begin.new.group x.0 x.1)
-        (λ i. (c.number-number.ensures i, c.number-owner.ensures i)) begun.begun)
+    (λ i. (c.number-number.ensures i, c.number-owner.ensures i)) begun.begun)
     c.value-2.ensures.value
     worked.worked.goes.news_from
     worked.works

@@ -17,5 +17,5 @@ pub returns-clause-lacks : goal.returns-clause-lacks
 returns-clause-lacks c = λ high.
     only_memory c.finish_within.result (c.finish_within.ensures.spares
     (turns_enough PeerFits PeerSound (λ b. b) (λ b. true) peer_left c.args.limit 1 (row_tags ASKED)
-        c.args.groups.now.items (peers_end c.args.limit 1 (omega arith) high) c.requires.row.fits
-        c.requires.row.few))
+    c.args.groups.now.items (peers_end c.args.limit 1 (omega arith) high) c.requires.row.fits
+    c.requires.row.few))

@@ -10,22 +10,22 @@ pub workers-preserved : goal.workers-preserved
 workers-preserved c =
     let made = c.in_ok-group.ensures in
     filling_next c.workers.place c.args.started c.workers.groups.items c.push.new.self.items
-        c.in_ok-group.group c.workers.invariant c.in_ok-push.ensures.items made.fits made.few made.new
+    c.in_ok-group.group c.workers.invariant c.in_ok-push.ensures.items made.fits made.few made.new
 
 pub returns-clause-row : goal.returns-clause-row
 returns-clause-row c =
     let is : c.workers.place ≡ ASKED = (let low = c.workers-test.false in let most = c.workers.auto.place-end
-        in omega arith) in
+    in omega arith) in
     let made = c.in_ok-make_asked.ensures in
     (row_done c.args.started c.workers.groups.items c.push-2.new.self.items _
-        (subst (λ n. IsFilling n c.args.started c.workers.groups.items) is c.workers.invariant)
-        c.in_ok-push-2.ensures.items made.fits made.new).0
+    (subst (λ n. IsFilling n c.args.started c.workers.groups.items) is c.workers.invariant)
+    c.in_ok-push-2.ensures.items made.fits made.new).0
 
 pub returns-clause-new : goal.returns-clause-new
 returns-clause-new c =
     let is : c.workers.place ≡ ASKED = (let low = c.workers-test.false in let most = c.workers.auto.place-end
-        in omega arith) in
+    in omega arith) in
     let made = c.in_ok-make_asked.ensures in
     (row_done c.args.started c.workers.groups.items c.push-2.new.self.items _
-        (subst (λ n. IsFilling n c.args.started c.workers.groups.items) is c.workers.invariant)
-        c.in_ok-push-2.ensures.items made.fits made.new).1
+    (subst (λ n. IsFilling n c.args.started c.workers.groups.items) is c.workers.invariant)
+    c.in_ok-push-2.ensures.items made.fits made.new).1

@@ -10,6 +10,6 @@ workers-preserved c = tags_next c.workers._place c.workers.tags.items c.push.new
 pub returns : goal.returns
 returns c =
     let is : c.workers._place ≡ ASKED = (let low = c.workers-test.false in let most =
-        c.workers.auto._place-end in omega arith) in
+    c.workers.auto._place-end in omega arith) in
     tags_done c.workers._place ASKED c.workers.tags.items c.push-2.new.self.items is c.workers.invariant
-        c.in_ok-push-2.ensures.items
+    c.in_ok-push-2.ensures.items

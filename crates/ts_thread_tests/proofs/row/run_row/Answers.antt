@@ -17,15 +17,20 @@ run_whole-requires-clause-run g c κs within =
     let row = c.in_ok-groups.ensures.new refl in
     let n = row.count in
     let times : c.args.threads * (2 * BUDGET) ≤ MOST_THREADS * (2 * BUDGET) = mul-le c.args.threads
-        (2 * BUDGET) MOST_THREADS (2 * BUDGET) c.requires.threads.1 (omega arith) in
+    (2 * BUDGET) MOST_THREADS (2 * BUDGET) c.requires.threads.1 (omega arith) in
     subst (λ ts. CanBeRun PeerFits PeerSound (λ b. b) (λ b. true) PeerMayAsk PeerRight PeerAnswers ts
-        c.in_ok-groups.groups.items ASKED c.args.threads BUDGET) (sym c.in_ok-tags.ensures) (record {
+    c.in_ok-groups.groups.items ASKED c.args.threads BUDGET) (sym c.in_ok-tags.ensures) (record {
       some = omega arith;
       few = omega arith;
       fits = row.fits;
       new = row.few;
-      plan = record { tagged = row_starts ASKED (omega arith); some = c.requires.threads.0; most =
-          c.requires.threads.1; turns = omega arith };
+      plan = record {
+        tagged = row_starts ASKED (omega arith);
+        some = c.requires.threads.0;
+        most =
+            c.requires.threads.1;
+        turns = omega arith;
+      };
       asks = peers_can_ask;
     })
 
@@ -37,15 +42,15 @@ returns-clause-ended g c =
     IfOk-weaker c.run_whole.result _ (λ gs. All (HasEnded PeerCounted) gs.items)
     (λ gs ended.
     all_ended PeerFits PeerSound (λ b. b) (λ b. true) (λ b. Unit {0}) PeerCounted _ gs.items
-        (λ t w s roles any fits sound none asks whole. sound.ends asks whole none)
-        (all_any c.in_ok-tags.tags.items) ended.fits ended.idle)
+    (λ t w s roles any fits sound none asks whole. sound.ends asks whole none)
+    (all_any c.in_ok-tags.tags.items) ended.fits ended.idle)
     c.run_whole.ensures.ended
 
 pub returns-clause-lacks : goal.returns-clause-lacks
 returns-clause-lacks g c =
     let times : c.args.threads * (2 * BUDGET) ≤ MOST_THREADS * (2 * BUDGET) = mul-le c.args.threads
-        (2 * BUDGET) MOST_THREADS (2 * BUDGET) c.requires.threads.1 (omega arith) in
+    (2 * BUDGET) MOST_THREADS (2 * BUDGET) c.requires.threads.1 (omega arith) in
     only_memory c.run_whole.result (c.run_whole.ensures.spares
     (subst (λ ts. EndSoon ℕ ℕ (Unit {0}) PeerFits PeerSound (λ b. b) (λ b. true) peer_left MOST_ALONE
-        (turns_of ASKED c.args.threads BUDGET) ts) (sym c.in_ok-tags.ensures)
-        (peers_end MOST_ALONE (turns_of ASKED c.args.threads BUDGET) (omega arith) (omega arith))))
+    (turns_of ASKED c.args.threads BUDGET) ts) (sym c.in_ok-tags.ensures)
+    (peers_end MOST_ALONE (turns_of ASKED c.args.threads BUDGET) (omega arith) (omega arith))))

@@ -7,16 +7,16 @@ use Rattle.ts_thread_tests.proofs.toys.make_toys.Goals as goal
 pub toys-init : goal.toys-init
 toys-init g c =
     toys_begin g.W.Slotted.fits g.W.World.sound g.W.World.only_asked g.W.World.is_first
-        (g.W.Toy.tagged c.args.todo) c.new-tags.result.items c.new-groups.result.items
-        c.new-tags.ensures.items c.new-groups.ensures.items
+    (g.W.Toy.tagged c.args.todo) c.new-tags.result.items c.new-groups.result.items
+    c.new-tags.ensures.items c.new-groups.ensures.items
 
 pub toys-preserved : goal.toys-preserved
 toys-preserved g c =
     let made = c.in_ok-group.ensures in
     let tagged = c.tag-tag.ensures in
     toys_next g.W.Slotted.fits g.W.World.sound g.W.World.only_asked g.W.World.is_first
-        (g.W.Toy.tagged c.args.todo) c.toys._toy c.toys.tags.items c.push-in-toys.new.self.items
-        c.toys.groups.items c.push.new.self.items c.tag-tag.result c.in_ok-group.group
+    (g.W.Toy.tagged c.args.todo) c.toys._toy c.toys.tags.items c.push-in-toys.new.self.items
+    c.toys.groups.items c.push.new.self.items c.tag-tag.result c.in_ok-group.group
     c.toys.invariant
     c.in_ok-push-2.ensures.items
     c.in_ok-push.ensures.items
@@ -29,6 +29,6 @@ toys-preserved g c =
 pub returns : goal.returns
 returns g c =
     let is : c.toys._toy ≡ TOYS = (let low = c.toys-test.false in let most = c.toys.auto._toy-end in omega
-        arith) in
+    arith) in
     subst (λ n. AreToys g.W.Slotted.fits g.W.World.sound g.W.World.only_asked g.W.World.is_first
-        (g.W.Toy.tagged c.args.todo) n c.toys.tags.items c.toys.groups.items) is c.toys.invariant
+    (g.W.Toy.tagged c.args.todo) n c.toys.tags.items c.toys.groups.items) is c.toys.invariant
