@@ -1,6 +1,6 @@
 -- What was read of a file within a limit, beside all that the file has.
 use Rattle.std.specs.Prelude.{◌≡◌, ℕ, ◌<◌, List, length, take, Option, None, Some, IfSome, Ok, vec_items}
-use Rattle.std.proofs.Common.{◌∙◌, arith, take_all, length-take, min, ap}
+use Rattle.std.proofs.Common.{◌∙◌, arith, take_all, length-take, min}
 use Rattle.std.specs.Option.{option_map}
 use Rattle.std.specs.declared.vec.Vec.{Vec}
 use Rattle.tsx.specs.Whole.{IsAllOf}
