@@ -11,7 +11,7 @@ use ts_link::Link;
 use ts_upstream::Upstream;
 
 impl<C: Link, O: Upstream<C>> Core<C, O> {
-    /// The next step of a phase. At the one where a body begins, `enter_on` takes its place, since that makes
+    /// The next step of a phase. At the one where a body begins, `begin_relay` of the transaction takes its place, since that makes
     /// continuations; here, where there are none to make it of, it could but end for want of memory.
     pub fn step(&mut self, phase: Phase) -> Step
         requires stands { PhaseHolds C.Link O.Link O.Upstream.own self.old phase

@@ -3,7 +3,6 @@ use Rattle.std.proofs.Common.{◌≡◌, ◌≢◌, Result, Ok, Err, IfOk, take,
 use Rattle.std.proofs.Common.{false, Option, Some, None, length, refl, sym, ap, subst, ◌∙◌, arith}
 use Rattle.std.specs.Prelude.{⊤, unwrap_or}
 use Rattle.std.proofs.lemmas.List.{append-nil, take_at, drop_at}
-use Rattle.ts_config.specs.Bodies.{whole_of}
 use Rattle.ts_config.specs.declared.setup.Setup.{Setup}
 use Rattle.ts_hooks.specs.declared.txn_end.TxnEnd.{TxnEnd}
 use Rattle.ts_hooks.specs.declared.txn_end.TxnEnd.TheVariants as E
@@ -12,7 +11,6 @@ use Rattle.ts_link.specs.Link.{Look, all_of}
 use Rattle.ts_link.specs.MemLink.{LinkState, look_of}
 use Rattle.ts_record.specs.Report.{IsReported}
 use Rattle.ts_record.specs.declared.report.Block.{Block as Shown}
-use Rattle.ts_stock.specs.Stock.{still_writes}
 use Rattle.ts_block.specs.Block.{IsBlock}
 use Rattle.ts_phases.specs.Ends.{HasBlock, HasText, ShortEnd}
 use Rattle.ts_txn.specs.Making.{end_of, link_if}
@@ -26,7 +24,7 @@ use Rattle.ts_phases.specs.declared.parts.Sent.{Sent}
 use Rattle.ts_txn.proofs.Resting.{rests_with_block}
 use Rattle.ts_wire.specs.Frames.{cut_body, frames}
 use Rattle.ts_replay.specs.Exchanged.{GotBy, HasGot, HasTaken, IsLeftBetween, IsRunBetween, LeavesBlock}
-use Rattle.ts_replay.specs.Recorded.{Recorded}
+use Rattle.ts_replay.specs.Recorded.{Recorded, recorded_link, recorded_origin, stock_transform}
 use Rattle.ts_replay.specs.Reports.{IsShownOf, in_report}
 use Rattle.ts_replay.specs.Unframing.{IsFramed}
 use Rattle.ts_replay.proofs.Blocks.{block_shaped}
@@ -203,7 +201,7 @@ module _ (setup : Setup) (c o : List ℕ) (parts : TxnParts LinkState LinkState)
         origin = never_failed t.core.origin link is of_link;
       } in
       let rested =
-      rests_with_block true true look_of look_of (λ (x y : LinkState). ⊤) refuses_none still_writes whole_of t
+      rests_with_block recorded_link recorded_link recorded_origin stock_transform t
       run.next run.roles run.sound
       run.started run.left never (λ lacks. memory (h.end_is ∙ lacks)) refl refl in (
         rested.0,

@@ -1,9 +1,9 @@
 -- A row of groups can be run by threads, and each of its transactions has run then.
-use Rattle.std.proofs.Common.{◌≡◌, ◌≤◌, length, ◌∙◌, arith}
+use Rattle.std.proofs.Common.{◌≡◌, ◌≤◌, length, refl, ◌∙◌, arith}
 use Rattle.ts_record.specs.declared.recording.TheConstants.{MOST_TXNS}
 use Rattle.ts_replay.specs.declared.running.TheConstants.{BUDGET}
-use Rattle.ts_stock.specs.Stock.{still_writes}
 use Rattle.ts_txn.proofs.Telling.{mem_tells}
+use Rattle.ts_replay.specs.Recorded.{recorded_link, recorded_origin, stock_transform}
 use Rattle.ts_replay.proofs.Ended.{row_ran}
 use Rattle.ts_replay.proofs.Plans.{numbers_left, some_of, turns_few}
 use Rattle.ts_replay.proofs.Rows.{row_asks, row_starts}
@@ -33,8 +33,10 @@ run_whole-requires-clause-run g c κs within =
     }
 
 pub run_whole-requires-clause-tells : goal.run_whole-requires-clause-tells
-run_whole-requires-clause-tells g c κs within = λ k d low h fits. mem_tells still_writes h.world.core
-    h.world.course h.cx.log.state.pending
+run_whole-requires-clause-tells g c κs within = λ k d low h fits.
+    mem_tells recorded_link recorded_link recorded_origin stock_transform
+    (record { told = refl; also = refl; client_look = refl; origin_look = refl; uploads = refl })
+    h.world.core h.world.course h.cx.log.state.pending
 
 pub returns-in-Ok : goal.returns-in-Ok
 returns-in-Ok g c = λ setup txns row.
