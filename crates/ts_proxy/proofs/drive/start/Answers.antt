@@ -4,8 +4,8 @@ use Rattle.ts_proxy.specs.Journals.{opening_turn}
 use Rattle.ts_proxy.proofs.Serial.{moment_extends, within_grows, moment_grows, serial_turn}
 use Rattle.ts_proxy.proofs.drive.start.Goals as goal
 
-pub returns-in-Ok-clause-serial : goal.returns-in-Ok-clause-serial
-returns-in-Ok-clause-serial g c =
+pub returns-in-Ok-woken-clause-serial : goal.returns-in-Ok-woken-clause-serial
+returns-in-Ok-woken-clause-serial g c =
     let before = c.begin_alone.new.self.cx in
     let after = c.wake-woken.new.group.cx in
     let grows = grows_trans c.start.ensures.grows c.wake-woken.ensures.keeps.grows in
