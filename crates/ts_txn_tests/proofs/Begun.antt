@@ -14,7 +14,7 @@ use Rattle.ts_journal.specs.State.{State}
 use Rattle.ts_link.specs.declared.link.Link as link
 use Rattle.ts_upstream.specs.declared.upstream.Upstream as upstream
 use Rattle.ts_transform.specs.declared.transform.Transform as transform
-use Rattle.ts_thread.specs.declared.ending.TheConstants.{ONLY_SEAT}
+use Rattle.ts_group.specs.declared.alone.TheConstants.{ONLY_SEAT}
 use Rattle.ts_txn.specs.World.{HasTxnBegun, IsTxnOf}
 use Rattle.ts_txn.specs.declared.txn.Txn.{Txn}
 use Rattle.ts_txn.specs.declared.txn.TxnTag.{TxnTag}
