@@ -253,21 +253,29 @@ fn counts_of(left: &Left) -> Option<(u64, u64)> {
     Some((journal.turns(), journal.counts().handled))
 }
 
+// How a body of so many bytes comes out of so many lines that pass it on, and the counts of its journal.
+fn passed_on<R: Threads + Wait + Sync>(
+    rt: &R,
+    alloc: Global,
+    lines: usize,
+    bytes: usize,
+    take: usize,
+) -> Result<(Comparison, Option<(u64, u64)>), NoMemory> {
+    let body = vec![in alloc; b'x'; bytes]?;
+    let left = left_of_nulls(rt, alloc, lines, body.as_slice(), take)?;
+    let comparison = compare(&left, &done(body.as_slice(), 1));
+    Ok((comparison, counts_of(&left)))
+}
+
 // Of two stages and 40,000 bytes the driver begins, then each stage moves two pieces and ends, and in the
 // last turn the first stage is told too that its output was written.
 #[test]
 fn long_bodies(rt: HostRuntime) -> Result<(), Fail> {
     let alloc = rt.alloc();
-    let body = vec![in alloc; b'x'; 1_048_576]?;
     for (lines, bytes, take) in [(1, 65_537, 1), (16, 1_048_576, 65_536), (2, 40_000, 65_536)] {
-        let (body, _) = body.as_slice().split_at(bytes);
-        let left = left_of_nulls(&rt, alloc, lines, body, take)?;
-        assert_eq!(rt;
-            compare(&left, &done(body, 1)),
-            Comparison::AsStated,
-            "{lines} lines"
-        );
-        assert!(rt; lines != 2 || counts_of(&left) == Some((7, 7)));
+        let (comparison, counts) = passed_on(&rt, alloc, lines, bytes, take)?;
+        assert_eq!(rt; comparison, Comparison::AsStated, "{lines} lines");
+        assert!(rt; lines != 2 || counts == Some((7, 7)));
     }
     let refused = left_of_nulls(&rt, alloc, 17, b"x", 1)?;
     let wanted = stopped(3, b"tsx: configuration line 17: too-many\n");
