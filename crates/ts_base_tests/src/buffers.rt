@@ -1,5 +1,5 @@
-//! Two readers of one buffer, its blocks and its room; readers that come and go; and bytes that wait for one
-//! reader.
+//! Two readers of one buffer, its blocks and its room; blocks that two buffers share; readers that come and
+//! go; and bytes that wait for one reader.
 ghost use Rattle.std.specs.Prelude.{IsTrue};
 ghost use Rattle.ts_iobuf.specs.Buffer.{is_reader};
 
@@ -70,6 +70,65 @@ fn two_readers_stand_at_places_of_their_own(rt: HostRuntime) {
     let mut front = Vec::new(rt.alloc());
     buffer.copy_out(twin, 4, &mut front).expect(&rt, MEMORY);
     assert!(rt; front.as_slice() == b"cdef".as_slice());
+}
+
+// Bytes of which no two that are less than 251 places apart are the same.
+fn many_bytes(rt: &(impl AllocGlobal + Abort), count: u32) -> Vec<u8> {
+    let mut bytes = Vec::new(rt.alloc());
+    for k in 0..count {
+        bytes.push((k % 251) as u8).expect(rt, MEMORY);
+    }
+    bytes
+}
+
+// A buffer that shares the bytes of another, which got them in pieces of 30,000, was read to its end, and is
+// gone.
+fn shared(rt: &(impl AllocGlobal + Abort), bytes: &[u8]) -> IoBuffer {
+    let mut first = IoBuffer::new(rt.alloc()).expect(rt, MEMORY);
+    let r = first.reader().expect(rt, MEMORY);
+    for piece in bytes.chunks(30_000) {
+        first.write(piece).expect(rt, MEMORY);
+    }
+    assert!(rt; first.is_reader(r));
+    assert!(rt; first.avail(r) == bytes.len());
+    let mut second = IoBuffer::new(rt.alloc()).expect(rt, MEMORY);
+    let count = second
+        .copy_from(&first, r, bytes.len(), 0)
+        .expect(rt, MEMORY);
+    assert!(rt; count == bytes.len());
+    first.consume(r, count);
+    assert!(rt; first.avail(r) == 0);
+    second
+}
+
+#[test]
+fn shared_blocks_outlive_the_buffer_that_got_them(rt: HostRuntime) {
+    let bytes = many_bytes(&rt, 100_000);
+    let mut second = shared(&rt, bytes.as_slice());
+    let s = second.reader().expect(&rt, MEMORY);
+    assert!(rt; second.is_reader(s));
+    assert!(rt; readable(&rt, &second, s).as_slice() == bytes.as_slice());
+}
+
+#[test]
+fn the_byte_after_a_full_block_stands_in_a_block_of_its_own(rt: HostRuntime) {
+    let mut buffer = IoBuffer::new(rt.alloc()).expect(&rt, MEMORY);
+    let r = buffer.reader().expect(&rt, MEMORY);
+    let room = buffer.space();
+    assert!(rt; room.len() == 4_096);
+    room[4_095] = b'y';
+    buffer.produce(4_096);
+    let room = buffer.space();
+    assert!(rt; !room.is_empty());
+    room[0] = b'z';
+    buffer.produce(1);
+    assert!(rt; buffer.is_reader(r));
+    let Some(first) = buffer.block(r, 0) else {
+        panic!(rt; "a full block")
+    };
+    assert!(rt; first.len() == 4_096 && first.last() == Some(&b'y'));
+    assert!(rt; buffer.block(r, 1) == Some(b"z".as_slice()));
+    assert!(rt; buffer.block(r, 2).is_none());
 }
 
 #[test]

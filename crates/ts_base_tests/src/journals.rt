@@ -59,3 +59,32 @@ fn a_key_goes(rt: HostRuntime) {
     assert!(rt; journal.is_held());
     assert!(rt; journal.turns() == 7 && journal.next() == 2);
 }
+
+// A journal that is folded in a turn stores no entry, has what it had, and goes on from there.
+#[test]
+fn a_journal_is_folded(rt: HostRuntime) {
+    let mut journal = Journal::make(rt.alloc(), 0).expect(&rt, MEMORY);
+    journal.reserve(4).expect(&rt, MEMORY);
+    journal.push(Entry::Took { turn: 1, seat: 3 });
+    journal.push(Entry::Made { key: KEY });
+    journal.push(Entry::Set {
+        number: 1,
+        key: KEY,
+        event: Event::Timeout,
+        due: 10,
+        series: 1,
+        period: 10,
+    });
+    journal.fold();
+    assert!(rt; journal.entries().is_empty());
+    assert!(rt; journal.event(1).is_some());
+    assert!(rt; journal.live() == [KEY].as_slice());
+    assert!(rt; journal.newest_generation(0) == Some(1));
+    assert!(rt; journal.turns() == 1 && journal.next() == 2);
+    journal.push(Entry::Gave { turn: 1 });
+    assert!(rt; journal.entries() == [Entry::Gave { turn: 1 }].as_slice());
+    assert!(rt; !journal.is_held());
+    let counts = journal.counts();
+    assert!(rt; counts.set == 1 && counts.pending == 1);
+    assert!(rt; counts.handled == 0 && counts.cancelled == 0 && counts.dropped == 0);
+}

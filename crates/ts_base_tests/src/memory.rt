@@ -8,8 +8,8 @@ use ts_link::{MemLink, Octets};
 /// What a test that wants memory says.
 pub const MEMORY: &str = "ample memory";
 
-/// What a link in memory is made of: its bytes, the lengths of their pieces, the most that it takes a write, and
-/// the numbers of the calls that fail and that wait.
+/// What a link in memory is made of: its bytes, the lengths of their pieces, the most that it takes a write,
+/// and the numbers of the calls that fail and that wait.
 #[derive(Clone, Copy)]
 pub struct Plan<'a> {
     pub bytes: &'a [u8],

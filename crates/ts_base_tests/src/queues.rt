@@ -93,11 +93,13 @@ fn exchange<R: Threads + Wait + Sync>(
         rt,
         move || -> QueuePass
             requires { IsPassOf queue.now putter × ((pass_view putter).serial ≡ 0) }
-            ensures { IsPassOf queue.entry.now result × ((pass_view result).share ≡ (pass_view putter).share) }
+            ensures { IsPassOf queue.entry.now result
+                × ((pass_view result).share ≡ (pass_view putter).share) }
         { put_all(rt, queue, putter) },
         move || -> (QueuePass, u64)
             requires { IsPassOf queue.now taker }
-            ensures { IsPassOf queue.entry.now result.0 × ((pass_view result.0).share ≡ (pass_view taker).share) }
+            ensures { IsPassOf queue.entry.now result.0
+                × ((pass_view result.0).share ≡ (pass_view taker).share) }
         { take_some(rt, queue, taker) },
     );
     queue.join(&mut pass, taker);

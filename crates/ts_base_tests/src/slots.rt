@@ -141,11 +141,11 @@ fn a_turn_of_two_groups_is_left_in_any_order(rt: HostRuntime) {
 }
 
 // What the turns of two seats found, and the number at the end.
-type Found = ([Option<(u64, u64)>; 3], Option<u64>);
+type HandedOver = ([Option<(u64, u64)>; 3], Option<u64>);
 
 // What two seats find of one group: the second has two turns and leaves 7, and then the first has one. With
 // the number at the end, after the second was joined.
-fn hands_over(rt: &(impl AllocGlobal + Abort)) -> Found {
+fn hands_over(rt: &(impl AllocGlobal + Abort)) -> HandedOver {
     let (slots, mut first) = one_group(rt, 0);
     let mut second = slots.split(&mut first);
     let one = raise(&slots, &mut second, 1, 0);
@@ -156,7 +156,7 @@ fn hands_over(rt: &(impl AllocGlobal + Abort)) -> Found {
 }
 
 // The same with the seats in threads of their own, which are joined before the first seat enters.
-fn hands_over_from_a_thread(rt: &(impl AllocGlobal + Abort + Threads + Sync)) -> Found {
+fn hands_over_from_a_thread(rt: &(impl AllocGlobal + Abort + Threads + Sync)) -> HandedOver {
     let (slots, mut first) = one_group(rt, 0);
     let mut second = slots.split(&mut first);
     let shared = &slots;

@@ -1,9 +1,7 @@
--- A list of which a part was lent and written.
+-- Lists of which a part was lent and written.
 use Rattle.std.proofs.Common.{◌≡◌, ℕ, zero, suc, ◌+◌, ◌-◌, ◌≤◌, List, [], ◌∷◌, ◌++◌, length, take, drop, arith, refl, sym, ap, ◌∙◌, append_assoc, length-append, length-drop}
-use Rattle.ts_iobuf.specs.declared.readers.Slot.{Slot}
-use Rattle.ts_iobuf.specs.Buffer.{Buffer, one_block}
-use Rattle.ts_iobuf.specs.Lending.{written_over}
-use Rattle.ts_iobuf.specs.View.{buffer_of}
+use Rattle.ts_iobuf.specs.Buffer.{one_block}
+use Rattle.ts_iobuf.specs.Stored.{Contents, written_over}
 use Rattle.std.proofs.lemmas.List.{take-take, take_at, drop_at, drop-take, take-append-le, length-take-le}
 
 -- the list with w written over the part from f on, as a `Vec` of this length holds it
@@ -22,6 +20,7 @@ over-front f w items within =
     ∙ take_at (take f items) ((w ++ drop (length w) (drop f items)) ++ behind) f
     (length-take-le f items within)
 
+-- the first n bytes of a list that w was written over
 same_front : (n : ℕ) (w rest : List ℕ)
     → take n (w ++ drop (length w) (take n rest)) ≡ take n (w ++ drop (length w) rest)
 same_front zero w rest = refl
@@ -29,51 +28,43 @@ same_front (suc n) [] rest = take-take (suc n) (suc n) rest (omega arith)
 same_front (suc n) (x ∷ w) [] = refl
 same_front (suc n) (x ∷ w) (y ∷ rest) = ap (λ l. x ∷ l) (same_front n w rest)
 
--- what stands in the first n bytes of the part
-pub over-room : (f n : ℕ) (w items : List ℕ) → f + n ≤ length items
-    → take n (drop f (over f w items)) ≡ take n (w ++ drop (length w) (take n (drop f items)))
-over-room f n w items within =
+-- what stands from the part on is the old rest with w written over its front
+pub over-behind : (f : ℕ) (w items : List ℕ) → f ≤ length items
+    → drop f (over f w items) ≡ written_over (drop f items) w
+over-behind f w items within =
     let part : List ℕ = w ++ drop (length w) (drop f items) in
     let behind : List ℕ = drop (length (take f items ++ part)) items in
     let all : f + (length items - f) ≡ length items = omega arith in
-    let long : n ≤ length part = omega (
+    let long : length items - f ≤ length part = omega (
       arith,
       length-append w (drop (length w) (drop f items)),
-      length-drop
-          (length w) (drop f items),
+      length-drop (length w) (drop f items),
       length-drop f items,
     ) in
-    let below : f ≤ length items = omega arith in
-    ap (λ m. take n (drop f (take m ((take f items ++ part) ++ behind)))) (sym all)
-    ∙ ap (take n) (drop-take f (length items - f) ((take f items ++ part) ++ behind))
-    ∙ take-take n (length items - f) (drop f ((take f items ++ part) ++ behind)) (omega arith)
-    ∙ ap (λ l. take n (drop f l)) (append_assoc (take f items) part behind)
-    ∙ ap (take n) (drop_at (take f items) (part ++ behind) f (length-take-le f items below))
-    ∙ take-append-le n part behind long
-    ∙ sym (same_front n w (drop f items))
+    ap (λ m. drop f (take m ((take f items ++ part) ++ behind))) (sym all)
+    ∙ drop-take f (length items - f) ((take f items ++ part) ++ behind)
+    ∙ ap (λ l. take (length items - f) (drop f l)) (append_assoc (take f items) part behind)
+    ∙ ap (take (length items - f)) (drop_at (take f items) (part ++ behind) f (length-take-le f items within))
+    ∙ take-append-le (length items - f) part behind long
+    ∙ ap (λ n. take n part) (sym (length-drop f items))
 
--- a buffer by the front of its store and its room
-abbrev made : ℕ → List Slot → ℕ → List ℕ → List ℕ → Buffer
-made start readers mark front room = record {
-  bytes = drop start front;
-  readers = readers;
-  room = room;
-  blocks = one_block (drop start front);
-  mark = mark;
-}
+-- a store by its full blocks, the filled front of its block in filling, and the free bytes
+abbrev pub made : List (List ℕ) → ℕ → List ℕ → List ℕ → Contents
+made blocks start front behind = record { blocks = blocks ++ one_block (drop start front); behind = behind }
 
--- a buffer whose room was written has the room as it was left, and all else as it was
-pub buffer_of-over : (start filled room : ℕ) (readers : List Slot) (mark : ℕ) (store w : List ℕ)
-    → filled + room ≤ length store
-    → buffer_of start filled room readers mark (over filled w store)
-    ≡ record (buffer_of start filled room readers mark store)
-    { room = written_over (take room (drop filled store)) w }
-buffer_of-over start filled room readers mark store w within =
-    let whole : List ℕ = take room (drop filled store) in
-    let long : length whole ≡ room = length-take-le room (drop filled store)
-    (omega (arith, length-drop filled store)) in
-    let below : filled ≤ length store = omega arith in
-    ap (λ front. made start readers mark front (take room (drop filled (over filled w store))))
-    (over-front filled w store below)
-    ∙ ap (made start readers mark (take filled store))
-    (over-room filled room w store within ∙ ap (λ n. take n (w ++ drop (length w) whole)) (sym long))
+-- a store whose free bytes were written has them as they were left, and its blocks as they were
+pub contents-over : (blocks : List (List ℕ)) (start filled : ℕ) (items w : List ℕ) → filled ≤ length items
+    → made blocks start (take filled (over filled w items)) (drop filled (over filled w items))
+    ≡ made blocks start (take filled items) (written_over (drop filled items) w)
+contents-over blocks start filled items w within =
+    let behind : List ℕ = drop filled (over filled w items) in
+    ap (λ front. made blocks start front behind) (over-front filled w items within)
+    ∙ ap (made blocks start (take filled items)) (over-behind filled w items within)
+
+-- a front of free bytes that were written is the front as it was left
+pub over-room : (n : ℕ) (w free : List ℕ) → n ≤ length free
+    → take n (written_over free w) ≡ written_over (take n free) w
+over-room n w free within =
+    take-take n (length free) (w ++ drop (length w) free) within
+    ∙ sym (same_front n w free)
+    ∙ ap (λ m. take m (w ++ drop (length w) (take n free))) (sym (length-take-le n free within))

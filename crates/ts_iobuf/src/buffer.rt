@@ -1,11 +1,11 @@
 //! The buffer and its calls, but `space`.
-ghost use Rattle.std.specs.Prelude.{◌≡◌, ◌≢◌, ℕ, ◌+◌, ◌-◌, ◌^◌, ◌<◌, ◌≤◌, ◌++◌, ◌∷◌, [], List, length, take, drop, map, flat_map, slice_get, IsTrue, All, IfOk, OnOk, OnErr, MatchOption, Some, false, ◌↔◌};
+ghost use Rattle.std.specs.Prelude.{◌≡◌, ◌≢◌, ◌+◌, ◌-◌, ◌<◌, ◌≤◌, ◌++◌, [], length, take, drop, flat_map, slice_get, IsTrue, All, IfOk, OnOk, OnErr, MatchOption, Some, ◌↔◌};
 ghost use Rattle.std.specs.Option.{option_copied};
 
 mod space;
 
 use crate::readers::{ReaderId, Slot, close, move_on, open, place_of};
-use crate::store::{block_at, bytes_between, compact, front_from, put, put_parts, rewind};
+use crate::store::Store;
 use std::alloc::Global;
 use std::marker::Model;
 use ts_link::{NoMemory, Octets};
@@ -14,15 +14,11 @@ use ts_link::{NoMemory, Octets};
 /// reader stands before is dropped. (The Developer's Guide, "IO Buffers".)
 #[derive(Drop)]
 pub struct IoBuffer {
-    // The bytes are those from `start` to `filled`, and the `room` bytes behind them are those that were lent
-    // last.
-    store: Vec<u8>,
-    start: usize,
-    filled: usize,
+    // The bytes, of whose free ones behind them the first `room` were lent last.
+    store: Store,
     room: usize,
     slots: Vec<Slot>,
     mark: usize,
-    alloc: Global,
 }
 
 impl Model for IoBuffer {
@@ -47,13 +43,10 @@ impl IoBuffer {
         ensures { IfOk result (λ b. b ≡ unread []) }
     {
         Ok(IoBuffer {
-            store: Vec::new(alloc),
-            start: 0,
-            filled: 0,
+            store: Store::new(alloc),
             room: 0,
             slots: Vec::new(alloc),
             mark: 0,
-            alloc,
         })
     }
 
@@ -61,16 +54,12 @@ impl IoBuffer {
     pub fn of_octets(alloc: Global, bytes: Octets) -> Result<IoBuffer, NoMemory>
         ensures { IfOk result (λ b. b ≡ unread bytes) }
     {
-        let store = bytes.into_vec();
-        let filled = store.len();
+        let store = Store::of_octets(alloc, bytes)?;
         Ok(IoBuffer {
             store,
-            start: 0,
-            filled,
             room: 0,
             slots: Vec::new(alloc),
             mark: 0,
-            alloc,
         })
     }
 
@@ -121,7 +110,7 @@ impl IoBuffer {
         ensures { result ≡ length (readable self.now reader) }
     {
         match place_of(self.slots.as_slice(), reader) {
-            Some(place) => self.filled - self.start - place,
+            Some(place) => self.store.len() - place,
             None => unreachable!(),
         }
     }
@@ -139,45 +128,10 @@ impl IoBuffer {
             (λ b. (0 < length b.now) × (length b.now ≤ length (readable self.now reader))
             × (b.now ≡ take (length b.now) (readable self.now reader))) }
     {
-        let bytes = bytes_between(self.store.as_slice(), self.start, self.filled);
         match place_of(self.slots.as_slice(), reader) {
-            Some(place) => block_at(bytes.split_at(place).1, k),
+            Some(place) => self.store.block(place, k),
             None => unreachable!(),
         }
-    }
-
-    // Drops what was consumed from the store, where enough of it was.
-    pub(crate) fn tidy(&mut self)
-        ensures { self.new ≡ self.old }
-    {
-        compact(
-            &mut self.store,
-            &mut self.start,
-            &mut self.filled,
-            self.room,
-        );
-    }
-
-    fn add(&mut self, bytes: &[u8]) -> Result<(), NoMemory>
-        ensures grows { OnOk result (GrowsBy self.old self.new bytes.now) }
-        ensures room { OnOk result (self.new.room ≡ []) }
-        ensures err { OnErr result (self.new ≡ self.old) }
-    {
-        put(&mut self.store, self.filled, bytes)?;
-        self.filled = self.store.len();
-        self.room = 0;
-        Ok(())
-    }
-
-    fn add_parts(&mut self, parts: &[&[u8]]) -> Result<(), NoMemory>
-        ensures grows { OnOk result (GrowsBy self.old self.new (flat_map (λ p. p.now) parts.now)) }
-        ensures room { OnOk result (self.new.room ≡ []) }
-        ensures err { OnErr result (self.new ≡ self.old) }
-    {
-        put_parts(&mut self.store, self.filled, parts)?;
-        self.filled = self.store.len();
-        self.room = 0;
-        Ok(())
     }
 
     /// Adds these bytes behind the others.
@@ -186,8 +140,9 @@ impl IoBuffer {
         ensures room { OnOk result (self.new.room ≡ []) }
         ensures err { OnErr result (self.new ≡ self.old) }
     {
-        self.tidy();
-        self.add(bytes)
+        self.store.write_parts(&[bytes])?;
+        self.room = 0;
+        Ok(())
     }
 
     /// Adds these parts, one behind the other, behind the bytes: all of them, or none for want of memory.
@@ -196,8 +151,9 @@ impl IoBuffer {
         ensures room { OnOk result (self.new.room ≡ []) }
         ensures err { OnErr result (self.new ≡ self.old) }
     {
-        self.tidy();
-        self.add_parts(parts)
+        self.store.write_parts(parts)?;
+        self.room = 0;
+        Ok(())
     }
 
     /// Adds the first `n` bytes of the room that was lent last, as they were left there.
@@ -206,21 +162,8 @@ impl IoBuffer {
         ensures grows { GrowsBy self.old self.new (take n self.old.room) }
         ensures room { self.new.room ≡ [] }
     {
-        self.filled += n;
+        self.store.produce(n);
         self.room = 0;
-    }
-
-    // What the reader can read from `offset` on, or the first `most` bytes of that where there are more.
-    fn part(&self, reader: ReaderId, offset: usize, most: usize) -> &[u8]
-        requires { IsTrue (is_reader self.now reader) }
-        ensures { result.now ≡ part_of self.now reader offset most }
-    {
-        let bytes = bytes_between(self.store.as_slice(), self.start, self.filled);
-        let Some(place) = place_of(self.slots.as_slice(), reader) else {
-            unreachable!()
-        };
-        let (_, readable) = bytes.split_at(place);
-        front_from(readable, offset, most)
     }
 
     /// Copies what the reader can read, or its first `most` bytes where there are more, behind the bytes of
@@ -230,12 +173,15 @@ impl IoBuffer {
         ensures ok { OnOk result (out.new.items ≡ out.old.items ++ take most (readable self.now reader)) }
         ensures err { OnErr result (out.new.items ≡ out.old.items) }
     {
-        out.extend_from_slice(self.part(reader, 0, most))?;
-        Ok(())
+        match place_of(self.slots.as_slice(), reader) {
+            Some(place) => self.store.copy_out(place, most, out),
+            None => unreachable!(),
+        }
     }
 
     /// Adds what the reader of another buffer can read from `offset` on, or the first `most` bytes of that
-    /// where there are more. Answers how many bytes these are. (The Developer's Guide: `TSIOBufferCopy`.)
+    /// where there are more: full blocks are shared, not copied. Answers how many bytes these are. (The
+    /// Developer's Guide: `TSIOBufferCopy`.)
     pub fn copy_from(
         &mut self,
         from: &IoBuffer,
@@ -249,14 +195,17 @@ impl IoBuffer {
         ensures room { OnOk result (self.new.room ≡ []) }
         ensures err { OnErr result (self.new ≡ self.old) }
     {
-        let part = from.part(reader, offset, most);
-        self.write(part)?;
-        Ok(part.len())
+        let Some(place) = place_of(from.slots.as_slice(), reader) else {
+            unreachable!()
+        };
+        let at = place + offset.min(from.store.len() - place);
+        let count = self.store.copy_from(&from.store, at, most)?;
+        self.room = 0;
+        Ok(count)
     }
 
-    /// Moves the reader over the next `n` bytes, and then drops the bytes that no reader stands before. The
-    /// memory of a large buffer is given back once all of it was dropped. (The Developer's Guide:
-    /// `TSIOBufferReaderConsume`.)
+    /// Moves the reader over the next `n` bytes, and then drops the bytes that no reader stands before: each
+    /// block goes with its last byte. (The Developer's Guide: `TSIOBufferReaderConsume`.)
     pub fn consume(&mut self, reader: ReaderId, n: usize)
         requires live { IsTrue (is_reader self.old reader) }
         requires within { n ≤ length (readable self.old reader) }
@@ -265,15 +214,11 @@ impl IoBuffer {
         ensures moved { readable self.new reader ≡ drop n (readable self.old reader) }
         ensures others { (q : _) → q ≢ reader → readable self.new q ≡ readable self.old q }
     {
-        let passed = move_on(&mut self.slots, reader, n, self.filled - self.start);
-        self.start += passed;
-        rewind(
-            &mut self.store,
-            self.alloc,
-            &mut self.start,
-            &mut self.filled,
-            self.room,
-        );
+        let passed = move_on(&mut self.slots, reader, n, self.store.len());
+        self.store.consume(passed);
+        if self.room == 0 {
+            self.store.restart();
+        }
     }
 
     /// How many bytes a reader is to have before it is `ready`.

@@ -2,7 +2,9 @@
 //! own, and bytes that wait for a single reader.
 #![tactic(auto)]
 
+mod blocks;
 mod buffer;
+mod filling;
 mod readers;
 mod store;
 mod waiting;

@@ -1,206 +1,317 @@
-//! One vector as the store of a buffer's bytes.
-ghost use Rattle.std.specs.Prelude.{◌≡◌, List, ℕ, ◌+◌, ◌-◌, ◌≤◌, ◌++◌, length, take, drop, flat_map, slice_get, OnOk, OnErr, IfSome};
-ghost use Rattle.std.specs.Vec.{vec_len, vec_capacity};
+//! The bytes of a buffer: full blocks, shared or not, and one block in filling behind them.
+ghost use Rattle.std.specs.Prelude.{◌≡◌, [], ◌+◌, ◌-◌, ◌<◌, ◌≤◌, ◌++◌, length, take, drop, flat_map, slice_get, OnOk, OnErr, IfOk};
 ghost use Rattle.std.specs.Option.{option_copied};
-ghost use Rattle.ts_iobuf.specs.Buffer.{one_block};
-ghost use Rattle.ts_iobuf.specs.Stored.{lent, stored};
+ghost use Rattle.std.specs.Vec.{vec_len};
 
+mod behind;
+
+use crate::blocks::{block_at, copy_out, pass, push, share};
+use crate::filling::{
+    MOST_ROOM, block_of, bytes_between, front_from, joined_len, next_room, put_parts, seal, widen,
+};
+use bytes::Bytes;
 use std::alloc::Global;
-use ts_link::NoMemory;
+use std::collections::VecDeque;
+use std::marker::Model;
+use ts_link::{NoMemory, Octets};
 
-// How many bytes of room are lent at first.
-const LEAST_ROOM: usize = 4_096;
+// How many bytes a store's full blocks have in all at most. Shared blocks may have more than there is memory.
+const MOST_FULL: usize = usize::MAX / 2;
 
-// How many are lent at once at most.
-const MOST_ROOM: usize = 32_768;
-
-// How many bytes of memory a store keeps that holds none: as many as a boundary of a chain and its room ever
-// need.
-const MOST_KEPT: usize = 131_072;
-
-/// The bytes from `start` to `filled`.
-pub fn bytes_between(store: &[u8], start: usize, filled: usize) -> &[u8]
-    requires order { start ≤ filled }
-    requires within { filled ≤ length store.now }
-    ensures { result.now ≡ stored start filled store.now }
-{
-    let (front, _) = store.split_at(filled);
-    let (_, bytes) = front.split_at(start);
-    bytes
+/// Bytes in blocks. Contracts see the blocks that hold bytes, and the free bytes behind them.
+#[derive(Drop)]
+pub struct Store {
+    // The full blocks, and how many bytes they have in all.
+    blocks: VecDeque<Bytes>,
+    full: usize,
+    // The block in filling: its bytes from `start` to `filled` are the store's, and those behind are free.
+    filling: Vec<u8>,
+    start: usize,
+    filled: usize,
+    // The room of the block that was begun last, which the next one doubles.
+    last_room: usize,
+    alloc: Global,
 }
 
-/// The bytes from `offset` on, or the first `most` of them where there are more.
-pub fn front_from(bytes: &[u8], offset: usize, most: usize) -> &[u8]
-    ensures { result.now ≡ take most (drop offset bytes.now) }
-{
-    let (_, rest) = bytes.split_at(offset.min(bytes.len()));
-    let (front, _) = rest.split_at(most.min(rest.len()));
-    front
+impl Model for Store {
+    ghost use Rattle.ts_iobuf.specs.Stored.{Contents};
+
+    ghost Value = { Contents };
+
+    ghost use Rattle.ts_iobuf.specs.StoreView.{contents, StoreFits};
+
+    ghost view = { contents };
+
+    ghost invariant = { StoreFits };
 }
 
-// Sees to it that `count` bytes fit behind the first `filled`.
-fn reserve_behind(store: &mut Vec<u8>, filled: usize, count: usize) -> Result<(), NoMemory>
-    requires { filled ≤ vec_len store.old }
-    ensures items { store.new.items ≡ store.old.items }
-    ensures ok { OnOk result (filled + count ≤ vec_capacity store.new) }
+// The sum of these numbers, if it is at most `MOST_FULL`.
+fn full_after(full: usize, held: usize, more: usize) -> Result<usize, NoMemory>
+    ensures { IfOk result (λ n. (n ≡ full + held + more) × (n ≤ MOST_FULL)) }
 {
-    let spare = store.len() - filled;
-    if count > spare {
-        store.reserve(count - spare)?;
-    }
-    Ok(())
-}
-
-/// Puts bytes in the place of all that comes after the first `filled`.
-pub fn put(store: &mut Vec<u8>, filled: usize, bytes: &[u8]) -> Result<(), NoMemory>
-    requires { filled ≤ vec_len store.old }
-    ensures ok { OnOk result (store.new.items ≡ take filled store.old.items ++ bytes.now) }
-    ensures err { OnErr result (store.new.items ≡ store.old.items) }
-{
-    reserve_behind(store, filled, bytes.len())?;
-    store.truncate(filled);
-    match store.extend_from_slice(bytes) {
-        Ok(()) => Ok(()),
-        Err(_) => unreachable!(),
+    let Some(sum) = full.checked_add(held) else {
+        return Err(NoMemory);
+    };
+    let Some(sum) = sum.checked_add(more) else {
+        return Err(NoMemory);
+    };
+    if sum <= MOST_FULL {
+        Ok(sum)
+    } else {
+        Err(NoMemory)
     }
 }
 
-// How many bytes these parts have in all, if that is a `usize`.
-fn joined_len(parts: &[&[u8]]) -> Option<usize>
-    ensures { IfSome result (λ n. n ≡ length (flat_map (λ p. p.now) parts.now)) }
-{
-    let mut total = 0usize;
-    for part in parts {
-        total = total.checked_add(part.len())?;
-    }
-    Some(total)
-}
+impl Store {
+    ghost use Rattle.ts_iobuf.specs.Buffer.{blocks_after, one_block};
+    ghost use Rattle.ts_iobuf.specs.Stored.{AreFull, joined};
 
-// Adds the parts, for which there is room.
-fn append_parts(store: &mut Vec<u8>, parts: &[&[u8]])
-    requires { vec_len store.old + length (flat_map (λ p. p.now) parts.now) ≤ vec_capacity store.old }
-    ensures { store.new.items ≡ store.old.items ++ flat_map (λ p. p.now) parts.now }
-{
-    for part in parts {
-        match store.extend_from_slice(part) {
-            Ok(()) => {}
+    /// No bytes.
+    pub fn new(alloc: Global) -> Store
+        ensures { result ≡ record { blocks = []; behind = [] } }
+    {
+        Store {
+            blocks: VecDeque::new(alloc),
+            full: 0,
+            filling: Vec::new(alloc),
+            start: 0,
+            filled: 0,
+            last_room: 0,
+            alloc,
+        }
+    }
+
+    /// These bytes, which are taken over without a copy.
+    pub fn of_octets(alloc: Global, bytes: Octets) -> Result<Store, NoMemory>
+        ensures { IfOk result (λ s. s ≡ record { blocks = one_block bytes; behind = [] }) }
+    {
+        let block = Bytes::from_vec(bytes.into_vec())?;
+        let full = block.len();
+        let mut blocks = VecDeque::new(alloc);
+        push(&mut blocks, block)?;
+        Ok(Store {
+            blocks,
+            full,
+            filling: Vec::new(alloc),
+            start: 0,
+            filled: 0,
+            last_room: 0,
+            alloc,
+        })
+    }
+
+    /// How many bytes these are.
+    pub fn len(&self) -> usize
+        ensures { result ≡ length (joined self.now.blocks) }
+    {
+        self.full + (self.filled - self.start)
+    }
+
+    /// The k-th block after the first `at` bytes.
+    pub fn block(&self, at: usize, k: usize) -> Option<&[u8]>
+        ensures block { option_copied result ≡ slice_get (blocks_after at self.now.blocks) k }
+        ensures joined { joined (blocks_after at self.now.blocks) ≡ drop at (joined self.now.blocks) }
+        ensures full { AreFull (blocks_after at self.now.blocks) }
+    {
+        let front = bytes_between(self.filling.as_slice(), self.start, self.filled);
+        block_at(&self.blocks, front, at, k)
+    }
+
+    // Seals the block in filling, and puts this one in its place, of which the first bytes are filled.
+    fn begin(&mut self, block: Vec<u8>, filled: usize) -> Result<(), NoMemory>
+        requires { filled ≤ vec_len block }
+        ensures blocks { OnOk result
+            (self.new.blocks ≡ self.old.blocks ++ one_block (take filled block.items)) }
+        ensures behind { OnOk result (self.new.behind ≡ drop filled block.items) }
+        ensures err { OnErr result (self.new ≡ self.old) }
+    {
+        let full = full_after(self.full, self.filled - self.start, 0)?;
+        seal(
+            &mut self.blocks,
+            &mut self.filling,
+            self.alloc,
+            &mut self.start,
+            &mut self.filled,
+            0,
+        )?;
+        self.full = full;
+        self.start = 0;
+        self.filled = filled;
+        self.last_room = block.capacity();
+        self.filling = block;
+        Ok(())
+    }
+
+    // Seals the block in filling, and adds this one behind it, as a full block.
+    fn push(&mut self, block: Vec<u8>) -> Result<(), NoMemory>
+        requires { 0 < length block.items }
+        ensures ok { OnOk result (joined self.new.blocks ≡ joined self.old.blocks ++ block.items) }
+        ensures err { OnErr result (self.new ≡ self.old) }
+    {
+        let full = full_after(self.full, self.filled - self.start, block.len())?;
+        let block = Bytes::from_vec(block)?;
+        seal(
+            &mut self.blocks,
+            &mut self.filling,
+            self.alloc,
+            &mut self.start,
+            &mut self.filled,
+            1,
+        )?;
+        self.full = full;
+        self.blocks.push_back_reserved(block);
+        Ok(())
+    }
+
+    /// Adds these parts, one behind the other: to the block in filling, where its free bytes hold them all;
+    /// else, as they are shorter than a block or not, to a new block in filling or as one full block.
+    pub fn write_parts(&mut self, parts: &[&[u8]]) -> Result<(), NoMemory>
+        ensures ok { OnOk result (joined self.new.blocks
+            ≡ joined self.old.blocks ++ flat_map (λ p. p.now) parts.now) }
+        ensures err { OnErr result (self.new ≡ self.old) }
+    {
+        let Some(count) = joined_len(parts) else {
+            return Err(NoMemory);
+        };
+        if count <= self.filling.capacity() - self.filled {
+            put_parts(&mut self.filling, self.filled, parts);
+            self.filled = self.filling.len();
+            return Ok(());
+        }
+        let room = next_room(self.last_room);
+        let block = block_of(self.alloc, room.max(count), parts)?;
+        if count < room {
+            return self.begin(block, count);
+        }
+        self.push(block)
+    }
+
+    // Adds the `count` bytes from `at` on to these blocks: full blocks are shared, and what is taken of the
+    // block in filling is copied.
+    fn share_into(
+        &self,
+        blocks: &mut VecDeque<Bytes>,
+        at: usize,
+        count: usize,
+    ) -> Result<(), NoMemory>
+        ensures ok { OnOk result (joined blocks.new.items
+            ≡ joined blocks.old.items ++ take count (drop at (joined self.now.blocks))) }
+        ensures err { OnErr result (blocks.new.items ≡ blocks.old.items) }
+        ensures full { AreFull blocks.old.items → AreFull blocks.new.items }
+    {
+        let front = bytes_between(self.filling.as_slice(), self.start, self.filled);
+        share(blocks, self.alloc, &self.blocks, front, at, count)
+    }
+
+    // Adds the `count` bytes of another store from `at` on. Where the block in filling holds nothing, it
+    // stays, with its free bytes.
+    fn share_from(&mut self, from: &Store, at: usize, count: usize) -> Result<(), NoMemory>
+        requires { length (take count (drop at (joined from.now.blocks))) ≡ count }
+        ensures ok { OnOk result (joined self.new.blocks
+            ≡ joined self.old.blocks ++ take count (drop at (joined from.now.blocks))) }
+        ensures err { OnErr result (self.new ≡ self.old) }
+    {
+        let full = full_after(self.full, self.filled - self.start, count)?;
+        if self.start == self.filled {
+            from.share_into(&mut self.blocks, at, count)?;
+            self.full = full;
+            return Ok(());
+        }
+        let mut parts = VecDeque::new(self.alloc);
+        from.share_into(&mut parts, at, count)?;
+        seal(
+            &mut self.blocks,
+            &mut self.filling,
+            self.alloc,
+            &mut self.start,
+            &mut self.filled,
+            parts.len(),
+        )?;
+        self.full = full;
+        match self.blocks.append(&mut parts) {
+            Ok(()) => Ok(()),
             Err(_) => unreachable!(),
         }
     }
-}
 
-/// Puts these parts, joined, in the place of all that comes after the first `filled`.
-pub fn put_parts(store: &mut Vec<u8>, filled: usize, parts: &[&[u8]]) -> Result<(), NoMemory>
-    requires { filled ≤ vec_len store.old }
-    ensures ok { OnOk result (store.new.items ≡
-        take filled store.old.items ++ flat_map (λ p. p.now) parts.now) }
-    ensures err { OnErr result (store.new.items ≡ store.old.items) }
-{
-    let Some(count) = joined_len(parts) else {
-        return Err(NoMemory);
-    };
-    reserve_behind(store, filled, count)?;
-    store.truncate(filled);
-    append_parts(store, parts);
-    Ok(())
-}
-
-// Moves the bytes from `start` up to `end` to the front, and leaves what stands behind `end`.
-fn move_to_front(store: &mut Vec<u8>, start: usize, end: usize)
-    requires order { start ≤ end }
-    requires within { end ≤ vec_len store.old }
-    ensures bytes { take (end - start) store.new.items ≡ take (end - start) (drop start store.old.items) }
-    ensures len { vec_len store.new ≡ vec_len store.old }
-{
-    store.copy_within(start..end, 0);
-}
-
-/// Moves the bytes to the store's front where no room is lent and at least as many as are moved were dropped
-/// before them, so that the moves cost a constant for each byte that is dropped. What stands behind them
-/// stays initialized.
-pub fn compact(store: &mut Vec<u8>, start: &mut usize, filled: &mut usize, room: usize)
-    requires order { start.old ≤ filled.old }
-    requires within { filled.old + room ≤ vec_len store.old }
-    ensures bytes { stored start.new filled.new store.new.items
-        ≡ stored start.old filled.old store.old.items }
-    ensures room { lent room filled.new store.new.items ≡ lent room filled.old store.old.items }
-    ensures order { start.new ≤ filled.new }
-    ensures within { filled.new + room ≤ vec_len store.new }
-    ensures count { filled.new - start.new ≡ filled.old - start.old }
-    ensures half { room ≡ 0 → start.new + start.new ≤ filled.new }
-{
-    let dropped = *start;
-    if room > 0 || dropped == 0 || *filled - dropped > dropped {
-        return;
+    /// Adds the bytes of another store from `at` on, or the first `most` of that where there are more.
+    /// Answers how many these are. What begins in the other's block in filling is copied as a write is.
+    pub fn copy_from(&mut self, from: &Store, at: usize, most: usize) -> Result<usize, NoMemory>
+        ensures count { IfOk result (λ n. n ≡ length (take most (drop at (joined from.now.blocks)))) }
+        ensures ok { OnOk result (joined self.new.blocks
+            ≡ joined self.old.blocks ++ take most (drop at (joined from.now.blocks))) }
+        ensures err { OnErr result (self.new ≡ self.old) }
+    {
+        if at < from.full {
+            let count = from.len().saturating_sub(at).min(most);
+            self.share_from(from, at, count)?;
+            return Ok(count);
+        }
+        let front = bytes_between(from.filling.as_slice(), from.start, from.filled);
+        let part = front_from(front, at - from.full, most);
+        self.write_parts(&[part])?;
+        Ok(part.len())
     }
-    move_to_front(store, dropped, *filled);
-    *start = 0;
-    *filled -= dropped;
-}
 
-/// Begins at the store's front again where it holds nothing and no room is lent. The memory of a large store
-/// is given back then.
-pub fn rewind(
-    store: &mut Vec<u8>,
-    alloc: Global,
-    start: &mut usize,
-    filled: &mut usize,
-    room: usize,
-)
-    requires order { start.old ≤ filled.old }
-    requires within { filled.old + room ≤ vec_len store.old }
-    ensures bytes { stored start.new filled.new store.new.items
-        ≡ stored start.old filled.old store.old.items }
-    ensures room { lent room filled.new store.new.items ≡ lent room filled.old store.old.items }
-    ensures order { start.new ≤ filled.new }
-    ensures within { filled.new + room ≤ vec_len store.new }
-    ensures count { filled.new - start.new ≡ filled.old - start.old }
-{
-    if room > 0 || *start < *filled {
-        return;
+    /// Adds the first `n` of the free bytes, as they are.
+    pub fn produce(&mut self, n: usize)
+        requires { n ≤ length self.old.behind }
+        ensures { joined self.new.blocks ≡ joined self.old.blocks ++ take n self.old.behind }
+    {
+        self.filled += n;
     }
-    *start = 0;
-    *filled = 0;
-    if store.capacity() > MOST_KEPT {
-        *store = Vec::new(alloc);
-    }
-}
 
-// How many bytes of room are lent next by a store of so many: they double from call to call, so that what is
-// short takes little memory, and what is long few reads.
-fn next_room(len: usize) -> usize
-    ensures { (LEAST_ROOM ≤ result) × (result ≤ MOST_ROOM) }
-{
-    len.saturating_mul(2).max(LEAST_ROOM).min(MOST_ROOM)
-}
-
-/// Tops the room behind the first `filled` bytes up to that of `next_room`, or where memory lacks, leaves what
-/// there is.
-pub fn make_room(store: &mut Vec<u8>, filled: usize) -> Result<(), NoMemory>
-    requires { filled ≤ vec_len store.old }
-    ensures ok { OnOk result (filled + 1 ≤ vec_len store.new) }
-    ensures front { take filled store.new.items ≡ take filled store.old.items }
-    ensures err { OnErr result (store.new.items ≡ store.old.items) }
-    ensures none { OnErr result (vec_len store.new ≡ filled) }
-{
-    let most = filled.saturating_add(next_room(store.len()));
-    if store.len() >= most {
-        return Ok(());
+    /// Drops the first `n` bytes.
+    pub fn consume(&mut self, n: usize)
+        requires { n ≤ length (joined self.old.blocks) }
+        ensures bytes { joined self.new.blocks ≡ drop n (joined self.old.blocks) }
+        ensures behind { self.new.behind ≡ self.old.behind }
+    {
+        let left = pass(&mut self.blocks, n);
+        self.full -= n - left;
+        self.start += left;
     }
-    match store.resize(most, 0) {
-        Ok(()) => Ok(()),
-        Err(_) if store.len() > filled => Ok(()),
-        Err(_) => Err(NoMemory),
-    }
-}
 
-/// The k-th block of these bytes, which stand in one block.
-pub fn block_at(bytes: &[u8], k: usize) -> Option<&[u8]>
-    ensures { option_copied result ≡ slice_get (one_block bytes.now) k }
-{
-    if k == 0 && !bytes.is_empty() {
-        Some(bytes)
-    } else {
-        None
+    /// Where the block in filling holds nothing, all of it is free again. One that was too short for what was
+    /// put into it is given up, so that the next is longer.
+    pub fn restart(&mut self)
+        ensures { self.new.blocks ≡ self.old.blocks }
+    {
+        if self.start < self.filled {
+            return;
+        }
+        if self.filled == self.filling.capacity() && self.filled < MOST_ROOM {
+            self.filling = Vec::new(self.alloc);
+        }
+        self.start = 0;
+        self.filled = 0;
+    }
+
+    /// Sees to it that some bytes are free, in a new block where the one in filling has none left. Answers
+    /// how many are.
+    pub fn make_room(&mut self) -> Result<usize, NoMemory>
+        ensures blocks { self.new.blocks ≡ self.old.blocks }
+        ensures ok { IfOk result (λ n. (1 ≤ n) × (n ≡ length self.new.behind)) }
+        ensures err { OnErr result ((self.new ≡ self.old) × (self.old.behind ≡ [])) }
+    {
+        if self.filled < self.filling.len() || widen(&mut self.filling) {
+            return Ok(self.filling.len() - self.filled);
+        }
+        let room = next_room(self.last_room);
+        let block = vec![in self.alloc; 0; room]?;
+        self.begin(block, 0)?;
+        Ok(room)
+    }
+
+    /// Copies the bytes from `at` on, or the first `most` of them where there are more, behind those of
+    /// `out`.
+    pub fn copy_out(&self, at: usize, most: usize, out: &mut Vec<u8>) -> Result<(), NoMemory>
+        ensures ok { OnOk result (out.new.items
+            ≡ out.old.items ++ take most (drop at (joined self.now.blocks))) }
+        ensures err { OnErr result (out.new.items ≡ out.old.items) }
+    {
+        let count = self.len().saturating_sub(at).min(most);
+        let front = bytes_between(self.filling.as_slice(), self.start, self.filled);
+        copy_out(&self.blocks, front, at, count, out)
     }
 }

@@ -12,7 +12,7 @@ use ts_wire::{
 
 /// What the rows of a table ask.
 #[derive(Clone, Copy)]
-pub(crate) enum Asked {
+pub(crate) enum Inquiry {
     /// How the check takes the request: the target, a blank and the host; a status; or why there is no head.
     Check,
     /// The head that the origin gets of the request, or nothing.
@@ -28,14 +28,14 @@ pub(crate) enum Asked {
 }
 
 /// What is answered to the input of a row.
-pub(crate) fn answer(alloc: Global, asked: Asked, input: &[u8]) -> Result<Octets, NoMemory> {
+pub(crate) fn answer(alloc: Global, asked: Inquiry, input: &[u8]) -> Result<Octets, NoMemory> {
     match asked {
-        Asked::Check => checked(alloc, input),
-        Asked::Sent => sent(alloc, input),
-        Asked::SentAgain => checked_again(alloc, input),
-        Asked::Ends(to_head) => ends(alloc, input, to_head),
-        Asked::Relayed(framing) => relayed(alloc, input, framing),
-        Asked::Body(framing) => body(alloc, input, framing),
+        Inquiry::Check => checked(alloc, input),
+        Inquiry::Sent => sent(alloc, input),
+        Inquiry::SentAgain => checked_again(alloc, input),
+        Inquiry::Ends(to_head) => ends(alloc, input, to_head),
+        Inquiry::Relayed(framing) => relayed(alloc, input, framing),
+        Inquiry::Body(framing) => body(alloc, input, framing),
     }
 }
 

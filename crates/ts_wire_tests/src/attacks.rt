@@ -1,7 +1,7 @@
 //! Messages made to be taken in two ways by two readers (request smuggling), and the one way in which they
 //! are taken here.
 
-use crate::answers::Asked;
+use crate::answers::Inquiry;
 use crate::rows::check_rows;
 use std::test::Fail;
 use ts_wire::Framing;
@@ -94,8 +94,8 @@ GET / HTTP/1.1\nHost: a\nX: 1\n\n => GET / HTTP/1.1\r\nhost: a\r\nx: 1\r\nvia: 1
 
 #[test]
 fn takes_requests_in_one_way(rt: HostRuntime) -> Result<(), Fail> {
-    check_rows(&rt, rt.alloc(), Asked::Check, REQUESTS)?;
-    check_rows(&rt, rt.alloc(), Asked::Sent, SENT)
+    check_rows(&rt, rt.alloc(), Inquiry::Check, REQUESTS)?;
+    check_rows(&rt, rt.alloc(), Inquiry::Sent, SENT)
 }
 
 const RESPONSES: &str = r"
@@ -188,6 +188,6 @@ ffffffffffffffff\r\nabc => bad
 
 #[test]
 fn takes_responses_in_one_way(rt: HostRuntime) -> Result<(), Fail> {
-    check_rows(&rt, rt.alloc(), Asked::Ends(false), RESPONSES)?;
-    check_rows(&rt, rt.alloc(), Asked::Body(Framing::Chunked), CHUNKED)
+    check_rows(&rt, rt.alloc(), Inquiry::Ends(false), RESPONSES)?;
+    check_rows(&rt, rt.alloc(), Inquiry::Body(Framing::Chunked), CHUNKED)
 }

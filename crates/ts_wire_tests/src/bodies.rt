@@ -1,6 +1,6 @@
 //! Bodies that are read, each in pieces of 1, of 2 and of all of its bytes.
 
-use crate::answers::Asked;
+use crate::answers::Inquiry;
 use crate::rows::{check_bytes, check_rows, filled, with_lines};
 use std::test::Fail;
 use ts_wire::Framing;
@@ -44,11 +44,11 @@ x\r\n => bad
 #[test]
 fn reads_bodies(rt: HostRuntime) -> Result<(), Fail> {
     let alloc = rt.alloc();
-    check_rows(&rt, alloc, Asked::Body(Framing::Nothing), NOTHING)?;
-    check_rows(&rt, alloc, Asked::Body(Framing::Sized(0)), NOTHING)?;
-    check_rows(&rt, alloc, Asked::Body(Framing::Sized(3)), SIZED)?;
-    check_rows(&rt, alloc, Asked::Body(Framing::UntilClose), UNTIL_CLOSE)?;
-    check_rows(&rt, alloc, Asked::Body(Framing::Chunked), CHUNKED)
+    check_rows(&rt, alloc, Inquiry::Body(Framing::Nothing), NOTHING)?;
+    check_rows(&rt, alloc, Inquiry::Body(Framing::Sized(0)), NOTHING)?;
+    check_rows(&rt, alloc, Inquiry::Body(Framing::Sized(3)), SIZED)?;
+    check_rows(&rt, alloc, Inquiry::Body(Framing::UntilClose), UNTIL_CLOSE)?;
+    check_rows(&rt, alloc, Inquiry::Body(Framing::Chunked), CHUNKED)
 }
 
 const LINE_LENGTHS: [(usize, &[u8]); 2] = [(4096, b"ended"), (4097, b"bad")];
@@ -66,7 +66,7 @@ const TRAILER_FIELDS: [(usize, &[u8], &[u8]); 5] = [
 #[test]
 fn keeps_limits_of_chunks(rt: HostRuntime) -> Result<(), Fail> {
     let alloc = rt.alloc();
-    let asked = Asked::Body(Framing::Chunked);
+    let asked = Inquiry::Body(Framing::Chunked);
     for (len, want) in LINE_LENGTHS {
         let text = filled(alloc, b"0;", b"\r\n\r\n", len + 2)?;
         check_bytes(&rt, alloc, asked, text.as_slice(), want)?;

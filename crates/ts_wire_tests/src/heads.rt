@@ -1,6 +1,6 @@
 //! Heads that are read, checked and sent on.
 
-use crate::answers::Asked;
+use crate::answers::Inquiry;
 use crate::rows::{check_bytes, check_rows, filled, with_lines};
 use http_header::{HeaderName, HeaderValue};
 use std::alloc::Global;
@@ -52,8 +52,8 @@ GET / HTTP/1.0\r\nA: 1\r\n\r\n => GET / HTTP/1.1\r\nhost: \r\na: 1\r\nvia: 1.0 t
 
 #[test]
 fn checks_and_sends_requests(rt: HostRuntime) -> Result<(), Fail> {
-    check_rows(&rt, rt.alloc(), Asked::Check, CHECKED)?;
-    check_rows(&rt, rt.alloc(), Asked::Sent, SENT)
+    check_rows(&rt, rt.alloc(), Inquiry::Check, CHECKED)?;
+    check_rows(&rt, rt.alloc(), Inquiry::Sent, SENT)
 }
 
 const ENDS: &str = r"
@@ -101,39 +101,39 @@ HTTP/1.0 007 \xe4\r\nConnection: X-a, y\r\nx-A: 1\r\nY: 2\r\nTE: 3\r\nZ: 4\r\n\r
 #[test]
 fn reads_and_relays_responses(rt: HostRuntime) -> Result<(), Fail> {
     let alloc = rt.alloc();
-    check_rows(&rt, alloc, Asked::Ends(false), ENDS)?;
-    check_rows(&rt, alloc, Asked::Ends(true), ENDS_TO_HEAD)?;
-    let nothing = Asked::Relayed(ClientFraming::Nothing);
+    check_rows(&rt, alloc, Inquiry::Ends(false), ENDS)?;
+    check_rows(&rt, alloc, Inquiry::Ends(true), ENDS_TO_HEAD)?;
+    let nothing = Inquiry::Relayed(ClientFraming::Nothing);
     check_rows(&rt, alloc, nothing, RELAYED_WITH_NOTHING)?;
-    let sized = Asked::Relayed(ClientFraming::Sized(3));
+    let sized = Inquiry::Relayed(ClientFraming::Sized(3));
     check_rows(&rt, alloc, sized, RELAYED_WITH_3)?;
-    let chunked = Asked::Relayed(ClientFraming::Chunked);
+    let chunked = Inquiry::Relayed(ClientFraming::Chunked);
     check_rows(&rt, alloc, chunked, RELAYED_IN_CHUNKS)?;
-    let close = Asked::Relayed(ClientFraming::Close);
+    let close = Inquiry::Relayed(ClientFraming::Close);
     check_rows(&rt, alloc, close, RELAYED_UNTIL_CLOSE)
 }
 
 /// What is asked of a head with so many field lines or bytes and this end, and what is answered.
-type Lines = (Asked, usize, &'static [u8], &'static [u8]);
+type Lines = (Inquiry, usize, &'static [u8], &'static [u8]);
 
 // What is sent has a Host, a Via and a Connection field more than this request.
 const LINES: [Lines; 6] = [
-    (Asked::Check, 64, b"\r\n", b"/ "),
-    (Asked::Check, 64, b"", b"more"),
-    (Asked::Check, 65, b"\r\n", b"too long"),
-    (Asked::Check, 65, b"", b"too long"),
-    (Asked::SentAgain, 61, b"\r\n", b"/ "),
-    (Asked::SentAgain, 62, b"\r\n", b"too long"),
+    (Inquiry::Check, 64, b"\r\n", b"/ "),
+    (Inquiry::Check, 64, b"", b"more"),
+    (Inquiry::Check, 65, b"\r\n", b"too long"),
+    (Inquiry::Check, 65, b"", b"too long"),
+    (Inquiry::SentAgain, 61, b"\r\n", b"/ "),
+    (Inquiry::SentAgain, 62, b"\r\n", b"too long"),
 ];
 
 // And 42 bytes more, a blank behind the name with them.
 const LENGTHS: [Lines; 6] = [
-    (Asked::Check, 16384, b"\r\n\r\n", b"/ "),
-    (Asked::Check, 16385, b"\r\n\r\n", b"too long"),
-    (Asked::Check, 16383, b"", b"more"),
-    (Asked::Check, 16384, b"", b"too long"),
-    (Asked::SentAgain, 16342, b"\r\n\r\n", b"/ "),
-    (Asked::SentAgain, 16343, b"\r\n\r\n", b"too long"),
+    (Inquiry::Check, 16384, b"\r\n\r\n", b"/ "),
+    (Inquiry::Check, 16385, b"\r\n\r\n", b"too long"),
+    (Inquiry::Check, 16383, b"", b"more"),
+    (Inquiry::Check, 16384, b"", b"too long"),
+    (Inquiry::SentAgain, 16342, b"\r\n\r\n", b"/ "),
+    (Inquiry::SentAgain, 16343, b"\r\n\r\n", b"too long"),
 ];
 
 #[test]
@@ -201,7 +201,8 @@ fn check_answer(rt: &impl Abort, alloc: Global, fields: &Fields) -> Result<(), F
     let framing = ClientFraming::Sized(14);
     let own = client_head(alloc, 403, b"Forbidden", fields, None, framing)?;
     let want: &[u8] =
-        b"HTTP/1.1 403 Forbidden\r\ncontent-type: text/plain\r\ncontent-length: 14\r\nconnection: close\r\n\r\n";
+        b"HTTP/1.1 403 Forbidden\r\ncontent-type: text/plain\r\ncontent-length: 14\r\n\
+connection: close\r\n\r\n";
     assert_eq!(rt; own.bytes(), want);
     Ok(())
 }

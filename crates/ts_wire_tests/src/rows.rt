@@ -2,7 +2,7 @@
 //! stand for bytes.
 ghost use Rattle.std.specs.Prelude.{◌<◌};
 
-use crate::answers::{Asked, answer};
+use crate::answers::{Inquiry, answer};
 use std::alloc::Global;
 use std::process::Abort;
 use std::test::Fail;
@@ -12,7 +12,7 @@ use ts_link::NoMemory;
 pub(crate) fn check_rows(
     rt: &impl Abort,
     alloc: Global,
-    asked: Asked,
+    asked: Inquiry,
     table: &str,
 ) -> Result<(), Fail> {
     for line in table.lines() {
@@ -30,7 +30,7 @@ pub(crate) fn check_rows(
 fn check_row(
     rt: &impl Abort,
     alloc: Global,
-    asked: Asked,
+    asked: Inquiry,
     input: &str,
     want: &str,
 ) -> Result<(), Fail> {
@@ -55,7 +55,7 @@ fn check_text(
 pub(crate) fn check_bytes(
     rt: &impl Abort,
     alloc: Global,
-    asked: Asked,
+    asked: Inquiry,
     bytes: &[u8],
     want: &[u8],
 ) -> Result<(), Fail> {

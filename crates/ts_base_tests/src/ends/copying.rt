@@ -64,7 +64,8 @@ fn turn<I: Link + Drop, K: Link + Drop>(both: &mut Copying<I, K>) -> Option<End>
 /// Copies the first link to the second until its end, in at most so many turns.
 pub fn copy<I: Link + Drop, K: Link + Drop>(both: &mut Copying<I, K>, turns: u64) -> End
     ensures whole { result ≡ End.Whole → I.tells ≡ true → K.tells ≡ true →
-        ((K.look both.new.output).taken ≡ (I.look both.new.input).given) × ((I.look both.new.input).left ≡ []) }
+        ((K.look both.new.output).taken ≡ (I.look both.new.input).given)
+        × ((I.look both.new.input).left ≡ []) }
 {
     for _ in 0..turns {
         if let Some(end) = turn(both) {

@@ -19,7 +19,7 @@ push-requires-3-clause-allowed g c =
     let none : c.push.new.self.state.pending ≡ [] =
     ap (λ (s : State). s.pending) c.push.ensures.state ∙ ap (λ (s : State). s.pending)
     c.reserve.ensures.same.state ∙ ap (λ (s : State). s.pending)
-    (IfOk-at_ok _ c.expect-journal.ensures c.with_key.ensures.base).1 in
+    (IfOk-at_ok _ c.expect-journal.ensures c.with_key.ensures.state) in
     let one : c.push-2.new.self.state.pending ≡ p ∷ [] = ap (λ (s : State). s.pending) c.push-2.ensures.state
     ∙ ap (λ ps. ps ++ p ∷ []) none in (
       ap (λ (s : State). s.held) c.push-2.ensures.state ∙ ap (λ (s : State). s.held) c.push.ensures.state,

@@ -1,7 +1,7 @@
 -- The bytes that were counted, with those of the parts that are left, are all.
 use Rattle.std.proofs.Common.{◌≡◌, ◌+◌, length, drop}
 use Rattle.std.specs.List.{flat_map}
-use Rattle.ts_iobuf.proofs.store.joined_len.Given as goal
+use Rattle.ts_iobuf.proofs.filling.joined_len.Given as goal
 
 abbrev pub invariant-loop-part : goal.invariant-loop-part
 invariant-loop-part l =
