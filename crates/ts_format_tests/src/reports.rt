@@ -8,16 +8,16 @@ use std::process::Abort;
 use std::test::Fail;
 use ts_hooks::TxnEnd;
 use ts_link::{NoMemory, Octets};
-use ts_record::{Block, REPORT_BEGIN, REPORT_END, add_block, report_block};
+use ts_record::{REPORT_BEGIN, REPORT_END, ReportBlock, add_block, report_block};
 
 /// What an exchange came to that ended so.
-fn exchange(alloc: Global, end: TxnEnd) -> Result<Block, NoMemory>
+fn exchange(alloc: Global, end: TxnEnd) -> Result<ReportBlock, NoMemory>
     ensures { IfOk result (λ block. block.end ≡ end) }
 {
     let request = b"GET / HTTP/1.1\r\nhost: a\r\nvia: 1.1 tsx\r\nconnection: close\r\n\r\n";
     let head =
         b"HTTP/1.1 200 OK\r\nvia: 1.1 tsx\r\ntransfer-encoding: chunked\r\nconnection: close\r\n\r\n";
-    Ok(Block {
+    Ok(ReportBlock {
         request: Octets::copy_of(alloc, request)?,
         end,
         head: Octets::copy_of(alloc, head)?,
@@ -63,10 +63,10 @@ fn check_length(
 }
 
 /// What a transaction came to that sent nothing to either side.
-fn silent(alloc: Global) -> Block
+fn silent(alloc: Global) -> ReportBlock
     ensures { result.end ≡ TxnEnd.Whole }
 {
-    Block {
+    ReportBlock {
         request: Octets::of_vec(Vec::new(alloc)),
         end: TxnEnd::Whole,
         head: Octets::of_vec(Vec::new(alloc)),

@@ -1,14 +1,15 @@
 //! Rows of lines over short and long bodies, and what each line has written in time.
-ghost use Rattle.std.specs.Prelude.{◌≡◌, false, IfOk};
+ghost use Rattle.std.specs.Prelude.{◌≡◌, ◌≤◌, false, IfOk};
+ghost use Rattle.ts_transform.specs.declared.transform.TheConstants.{MOST_FED};
 
 use std::alloc::Global;
 use std::process::Abort;
 use std::test::Fail;
 use ts_config::{Setup, TransformLine, read_config};
-use ts_iobuf::{IoBuffer, ReaderId};
+use ts_iobuf::Waiting;
 use ts_link::{NoMemory, Octets};
 use ts_stock::Stock;
-use ts_transform::{Chain, Transform};
+use ts_transform::{Chain, MOST_FED, Transform};
 
 /// The lines of a configuration, where each of their files holds the text.
 fn filled(alloc: Global, config: &[u8], text: &[u8]) -> Result<Setup, Fail> {
@@ -204,22 +205,25 @@ fn without_each(alloc: Global, every: u32, len: u32, byte: u8) -> Result<Vec<u8>
     Ok(body)
 }
 
-/// Lines, what each has written once it was fed `a` and `b`, and once it was ended, and its pause in
-/// milliseconds.
+/// The body that each line is fed in time.
+const BODY: &[u8] = b"abc";
+
+/// Lines whose files hold `>`, what each has written once it was fed the body, and once it was ended, and its
+/// pause in milliseconds.
 const IN_TIME: [(&[u8], &[u8], &[u8], u64); 7] = [
-    (b"null_transform.so", b"ab", b"ab", 0),
-    (b"append_transform.so g", b"ab", b"ab", 0),
-    (b"bnull_transform.so", b"", b"ab", 0),
-    (b"prepend.so <", b"<ab", b"<ab", 0),
-    (b"map.so b c", b"ac", b"ac", 0),
-    (b"drop.so a", b"b", b"b", 0),
-    (b"delay.so 7", b"ab", b"ab", 7),
+    (b"null_transform.so", b"abc", b"abc", 0),
+    (b"append_transform.so g", b"abc", b"abc>", 0),
+    (b"bnull_transform.so", b"", b"abc", 0),
+    (b"prepend.so <", b"<abc", b"<abc", 0),
+    (b"map.so b c", b"acc", b"acc", 0),
+    (b"drop.so a", b"bc", b"bc", 0),
+    (b"delay.so 7", b"abc", b"abc", 7),
 ];
 
 #[test]
 fn writes_in_time(rt: HostRuntime) -> Result<(), Fail> {
     for (config, fed, ended, pause) in IN_TIME {
-        let setup = read_config(rt.alloc(), config)?;
+        let setup = filled(rt.alloc(), config, b">")?;
         match setup.transforms.first() {
             Some(line) => check_in_time(&rt, rt.alloc(), line, fed, ended, pause)?,
             None => return Err(Fail::from("no line")),
@@ -238,21 +242,118 @@ fn check_in_time(
 ) -> Result<(), Fail> {
     let mut stock = Stock::fresh(alloc, line)?;
     assert_eq!(rt; stock.pause(), pause);
-    let mut out = IoBuffer::new(alloc)?;
-    let reader = out.reader()?;
-    assert_eq!(rt; stock.feed(b"a", &mut out)?, 1);
-    assert_eq!(rt; stock.feed(b"b", &mut out)?, 1);
-    assert_eq!(rt; written(&out, reader), fed);
-    stock.end(&mut out)?;
-    assert_eq!(rt; written(&out, reader), ended);
+    let mut out = Waiting::new(alloc)?;
+    for byte in BODY {
+        assert_eq!(rt; stock.feed(&[*byte], &mut out.buffer)?, 1);
+    }
+    check_end(rt, &mut stock, &mut out, fed, ended)
+}
+
+/// Holds what a transform has written by now, and what once it is ended, against the wanted bytes.
+fn check_end(
+    rt: &impl Abort,
+    stock: &mut Stock,
+    out: &mut Waiting,
+    fed: &[u8],
+    ended: &[u8],
+) -> Result<(), Fail> {
+    assert!(rt; holds(out, fed));
+    stock.end(&mut out.buffer)?;
+    assert!(rt; holds(out, ended));
     Ok(())
 }
 
-/// The first block that waits for the reader.
-fn written(out: &IoBuffer, reader: ReaderId) -> &[u8] {
-    if out.is_reader(reader) {
-        out.block(reader, 0).unwrap_or(b"")
-    } else {
-        b""
+/// Whether these bytes wait, however many blocks they stand in.
+fn holds(out: &Waiting, bytes: &[u8]) -> bool {
+    let mut rest = bytes;
+    for k in 0..out.len() {
+        match out.buffer.block(out.reader, k) {
+            Some(block) => match rest.strip_prefix(block) {
+                Some(behind) => rest = behind,
+                None => return false,
+            },
+            None => break,
+        }
     }
+    rest.is_empty()
+}
+
+#[test]
+fn writes_the_same_from_a_buffer(rt: HostRuntime) -> Result<(), Fail> {
+    for (config, fed, ended, _) in IN_TIME {
+        let setup = filled(rt.alloc(), config, b">")?;
+        match setup.transforms.first() {
+            Some(line) => check_all_from(&rt, rt.alloc(), line, fed, ended)?,
+            None => return Err(Fail::from("no line")),
+        }
+    }
+    Ok(())
+}
+
+/// Feeds a line from a buffer with a byte at once, with two, and with as many as may be.
+fn check_all_from(
+    rt: &impl Abort,
+    alloc: Global,
+    line: &TransformLine,
+    fed: &[u8],
+    ended: &[u8],
+) -> Result<(), Fail> {
+    check_from(rt, alloc, line, 1, fed, ended)?;
+    check_from(rt, alloc, line, 2, fed, ended)?;
+    check_from(rt, alloc, line, MOST_FED, fed, ended)
+}
+
+/// Feeds a line from a buffer with so many bytes at once, with the body cut at each place.
+fn check_from(
+    rt: &impl Abort,
+    alloc: Global,
+    line: &TransformLine,
+    most: usize,
+    fed: &[u8],
+    ended: &[u8],
+) -> Result<(), Fail>
+    requires { (1 ≤ most) × (most ≤ MOST_FED) }
+{
+    for cut in 0..BODY.len() + 1 {
+        let mut stock = Stock::fresh(alloc, line)?;
+        let mut out = Waiting::new(alloc)?;
+        let mut input = cut_body(alloc, cut)?;
+        feed_all(&mut stock, &mut input, most, &mut out)?;
+        assert!(rt; input.is_empty());
+        check_end(rt, &mut stock, &mut out, fed, ended)?;
+    }
+    Ok(())
+}
+
+/// The body in two pieces, each copied from another buffer, so that blocks are shared where they can be.
+fn cut_body(alloc: Global, cut: usize) -> Result<Waiting, NoMemory> {
+    let mut source = Waiting::new(alloc)?;
+    source.write(BODY)?;
+    let mut input = Waiting::new(alloc)?;
+    input
+        .buffer
+        .copy_from(&source.buffer, source.reader, cut, 0)?;
+    input
+        .buffer
+        .copy_from(&source.buffer, source.reader, BODY.len(), cut)?;
+    Ok(input)
+}
+
+/// Feeds a transform with all that waits, so many bytes at once.
+fn feed_all(
+    stock: &mut Stock,
+    input: &mut Waiting,
+    most: usize,
+    out: &mut Waiting,
+) -> Result<(), NoMemory>
+    requires { (1 ≤ most) × (most ≤ MOST_FED) }
+{
+    for _ in 0..input.len() {
+        if input.is_empty() {
+            break;
+        }
+        let taken = stock.feed_from(&input.buffer, input.reader, most, &mut out.buffer)?;
+        input.take(taken);
+    }
+    Ok(())
 }

@@ -45,6 +45,11 @@ CountTaken (s.Mapping from to) n most = n ≤ most
 CountTaken (s.Dropping byte) n most = n ≤ most
 CountTaken _ n most = n ≡ most
 
+-- the same of bytes in a buffer, of which a prepend takes those of the first block alone
+abbrev pub CountFrom : State → ℕ → ℕ → Type 0
+CountFrom (s.Prepending text) n most = n ≤ most
+CountFrom state n most = CountTaken state n most
+
 -- how long its stage waits between two of its events, in milliseconds
 abbrev pub pause_of : State → ℕ
 pause_of (s.Delaying ms) = ms

@@ -1,14 +1,18 @@
 //! Bytes that a transform holds back until the end of its input.
-ghost use Rattle.std.specs.Prelude.{◌≡◌, ◌++◌, [], List, ℕ, OnOk, OnErr};
+ghost use Rattle.std.specs.Prelude.{◌≡◌, ◌++◌, [], List, ℕ, length, take, min, IsTrue, IfOk, OnOk, OnErr};
+ghost use Rattle.ts_iobuf.specs.Buffer.{GrowsBy, is_reader, readable};
 
+use crate::sharing::share;
 use std::alloc::Global;
 use std::marker::Model;
+use ts_iobuf::{IoBuffer, ReaderId, Waiting};
 use ts_link::NoMemory;
 
-/// Bytes that are held back until the end.
+/// Bytes that are held back until the end. Those that come from a buffer are held in the blocks in which they
+/// stand there.
 #[derive(Drop)]
 pub struct Held {
-    bytes: Vec<u8>,
+    waiting: Waiting,
 }
 
 impl Model for Held {
@@ -16,17 +20,16 @@ impl Model for Held {
 
     ghost Value = { List ℕ };
 
-    ghost view = { λ h. h.bytes.items };
+    ghost view = { λ h. h.waiting };
 }
 
 impl Held {
     /// No bytes.
-    pub fn new(alloc: Global) -> Held
-        ensures { result ≡ [] }
+    pub fn new(alloc: Global) -> Result<Held, NoMemory>
+        ensures { IfOk result (λ h. h ≡ []) }
     {
-        Held {
-            bytes: Vec::new(alloc),
-        }
+        let waiting = Waiting::new(alloc)?;
+        Ok(Held { waiting })
     }
 
     /// Adds bytes behind those that are held.
@@ -34,14 +37,32 @@ impl Held {
         ensures ok { OnOk result (self.new ≡ self.old ++ bytes.now) }
         ensures err { OnErr result (self.new ≡ self.old) }
     {
-        self.bytes.extend_from_slice(bytes)?;
-        Ok(())
+        self.waiting.write(bytes)
     }
 
-    /// The bytes that are held.
-    pub fn bytes(&self) -> &[u8]
-        ensures { result.now ≡ self.now }
+    /// Adds what a reader can read, or the first `most` bytes of that where there are more, and answers how
+    /// many bytes these are.
+    pub fn add_from(
+        &mut self,
+        input: &IoBuffer,
+        reader: ReaderId,
+        most: usize,
+    ) -> Result<usize, NoMemory>
+        requires { IsTrue (is_reader input.now reader) }
+        ensures count { IfOk result (λ n. n ≡ min most (length (readable input.now reader))) }
+        ensures ok { IfOk result (λ n. self.new ≡ self.old ++ take n (readable input.now reader)) }
+        ensures err { OnErr result (self.new ≡ self.old) }
     {
-        self.bytes.as_slice()
+        share(input, reader, most, &mut self.waiting.buffer)
+    }
+
+    /// Writes the bytes that are held, and holds them still.
+    pub fn write_into(&self, out: &mut IoBuffer) -> Result<(), NoMemory>
+        ensures grows { OnOk result (GrowsBy out.old out.new self.now) }
+        ensures err { OnErr result (out.new ≡ out.old) }
+    {
+        let most = self.waiting.len();
+        share(&self.waiting.buffer, self.waiting.reader, most, out)?;
+        Ok(())
     }
 }

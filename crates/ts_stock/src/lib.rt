@@ -6,6 +6,7 @@ mod dropping;
 mod held;
 mod mapping;
 mod places;
+mod sharing;
 mod stock;
 
 pub use stock::Stock;

@@ -1,19 +1,21 @@
 //! The stock transforms: one state for each line of a configuration, fed with a body in pieces.
-ghost use Rattle.std.specs.Prelude.{◌≡◌, ℕ, ◌<◌, ◌≤◌, ◌++◌, List, [], length, take, IfOk, OnOk, OnErr};
+ghost use Rattle.std.specs.Prelude.{◌≡◌, ℕ, ◌<◌, ◌≤◌, ◌++◌, List, [], length, take, min, IsTrue, IfOk, OnOk, OnErr};
 ghost use Rattle.ts_config.specs.Bodies.{whole_of};
-ghost use Rattle.ts_iobuf.specs.Buffer.{GrowsBy};
+ghost use Rattle.ts_iobuf.specs.Buffer.{GrowsBy, is_reader, readable};
 ghost use Rattle.ts_transform.specs.Law.{Feeds};
-ghost use Rattle.ts_stock.specs.Stock.{still_writes, start_of, fed, written_at_feed, pause_of, pause_of_line, CountTaken};
+ghost use Rattle.ts_transform.specs.declared.transform.TheConstants.{MOST_FED};
+ghost use Rattle.ts_stock.specs.Stock.{still_writes, start_of, fed, written_at_feed, pause_of, pause_of_line, CountTaken, CountFrom};
 
 use crate::dropping::write_without;
 use crate::held::Held;
 use crate::mapping::write_mapped;
+use crate::sharing::share;
 use std::alloc::Global;
 use std::marker::Model;
 use ts_config::TransformLine;
-use ts_iobuf::IoBuffer;
+use ts_iobuf::{IoBuffer, ReaderId};
 use ts_link::{NoMemory, Octets};
-use ts_transform::Transform;
+use ts_transform::{Transform, front_of};
 
 /// The states of the transforms.
 #[derive(Drop)]
@@ -78,7 +80,7 @@ impl Transform for Stock {
                 text: Octets::copy_of(alloc, text.bytes())?,
             },
             TransformLine::Bnull => State::Holding {
-                held: Held::new(alloc),
+                held: Held::new(alloc)?,
             },
             TransformLine::Prepend { text } => State::Prepending {
                 text: Octets::copy_of(alloc, text.bytes())?,
@@ -133,6 +135,38 @@ impl Transform for Stock {
         }
     }
 
+    fn feed_from(
+        &mut self,
+        input: &IoBuffer,
+        reader: ReaderId,
+        most: usize,
+        out: &mut IoBuffer,
+    ) -> Result<usize, NoMemory>
+        requires reader { IsTrue (is_reader input.now reader) }
+        requires some { 0 < length (readable input.now reader) }
+        requires most { (1 ≤ most) × (most ≤ MOST_FED) }
+        ensures count { IfOk result (λ n. (1 ≤ n)
+            × CountFrom self.old n (min most (length (readable input.now reader)))) }
+        ensures law { IfOk result (λ n. Feeds (still_writes self.old) (still_writes self.new)
+            (take n (readable input.now reader)) out.old out.new) }
+        ensures err { OnErr result ((self.new ≡ self.old) × (out.new ≡ out.old)) }
+
+        // As `feed` of as many bytes.
+        ensures writes { IfOk result (λ n.
+            GrowsBy out.old out.new (written_at_feed self.old (take n (readable input.now reader)))) }
+        ensures state { IfOk result (λ n. self.new ≡ fed self.old (take n (readable input.now reader))) }
+    {
+        match &mut self.state {
+            State::Passing => share(input, reader, most, out),
+            State::Delaying { .. } => share(input, reader, most, out),
+            State::Appending { .. } => share(input, reader, most, out),
+            State::Holding { held } => held.add_from(input, reader, most),
+            State::Prepending { .. } => self.feed(front_of(input, reader, most), out),
+            State::Mapping { .. } => self.feed(front_of(input, reader, most), out),
+            State::Dropping { .. } => self.feed(front_of(input, reader, most), out),
+        }
+    }
+
     fn end(&mut self, out: &mut IoBuffer) -> Result<(), NoMemory>
         ensures law { OnOk result (GrowsBy out.old out.new (still_writes self.old [])) }
         ensures err { OnErr result ((self.new ≡ self.old) × (out.new ≡ out.old)) }
@@ -143,7 +177,7 @@ impl Transform for Stock {
         match &self.state {
             State::Appending { text } => out.write(text.bytes()),
             State::Prepending { text } => out.write(text.bytes()),
-            State::Holding { held } => out.write(held.bytes()),
+            State::Holding { held } => held.write_into(out),
             State::Passing => Ok(()),
             State::Delaying { .. } => Ok(()),
             State::Mapping { .. } => Ok(()),

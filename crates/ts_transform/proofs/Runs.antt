@@ -10,6 +10,7 @@ use Rattle.ts_group.specs.declared.group.Group.{Group}
 use Rattle.ts_group.specs.declared.action.SetFault.{SetFault}
 use Rattle.ts_group.specs.Acts.{BeginsTurn, GivesTurn}
 use Rattle.ts_group.specs.Context.{Context, IsSame}
+use Rattle.ts_group.specs.Slot.{stored_of}
 use Rattle.ts_group.specs.declared.world.Handling.{Handling}
 use Rattle.ts_group.specs.declared.world.Handling.TheVariants as H
 use Rattle.ts_group.specs.Answers.{HandleGives, MatchHandling}
@@ -173,11 +174,11 @@ handled_nothing a m h b turn seat moment begins same gives later =
     record {
       earlier = a.log.entries;
       seat = seat;
-      entries = gives.by.entries ∙ ap (λ es. es ++ Gave h.log.state.turns ∷ [])
-          (same.log.entries ∙ begins.by.entries) ∙ append_assoc a.log.entries (Took turn seat ∷ [])
-          (Gave h.log.state.turns ∷ [])
-          ∙ ap (λ n. a.log.entries ++ Took turn seat ∷ Gave n ∷ []) kept ∙ ap
-          (λ n. a.log.entries ++ Took n seat ∷ Gave n ∷ []) (sym given);
+      entries = gives.entries ∙ ap stored_of
+          (ap (λ es. es ++ Gave h.log.state.turns ∷ []) (same.log.entries ∙ begins.by.entries)
+          ∙ append_assoc a.log.entries (Took turn seat ∷ []) (Gave h.log.state.turns ∷ [])
+          ∙ ap (λ n. a.log.entries ++ Took turn seat ∷ Gave n ∷ []) kept
+          ∙ ap (λ n. a.log.entries ++ Took n seat ∷ Gave n ∷ []) (sym given));
       made = omega (arith, later, given);
     }
 

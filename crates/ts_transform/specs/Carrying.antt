@@ -10,6 +10,7 @@ use Rattle.ts_group.specs.declared.action.Named.{Named}
 use Rattle.ts_group.specs.declared.action.SetFault.{SetFault}
 use Rattle.ts_group.specs.declared.group.Group.{Group}
 use Rattle.ts_group.specs.Context.{Context}
+use Rattle.ts_group.specs.Slot.{stored_of}
 use Rattle.ts_link.specs.Counts.{Rose}
 use Rattle.ts_link.specs.Link.{Look}
 use Rattle.ts_transform.specs.Stage.{MOST_WAITING}
@@ -297,7 +298,8 @@ WritesWhole rest in_tells out_tells input output v w =
 pub record HandledNothing (old new : Context) : Type 0 where
   pub earlier : List Entry
   pub seat : ℕ
-  pub entries : new.log.entries ≡ earlier ++ Took new.log.state.turns seat ∷ Gave new.log.state.turns ∷ []
+  pub entries : new.log.entries
+      ≡ stored_of (earlier ++ Took new.log.state.turns seat ∷ Gave new.log.state.turns ∷ [])
   pub made : old.log.state.turns < new.log.state.turns
 
 -- Why it is driven no further: no number of a turn is left; or memory lacked for a turn, though a number was

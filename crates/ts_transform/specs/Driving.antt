@@ -261,6 +261,26 @@ pub record SetsFew (most : ℕ) (old new : Context) : Type 0 where
   pub next : new.log.state.next ≤ old.log.state.next + most
   pub pending : length new.log.state.pending ≤ length old.log.state.pending + most
 
+-- how many events are set at most: for the stages round one that worked
+abbrev pub most_round : ℕ
+most_round = 3
+
+-- by a stage at its event, which tells the one before it where it ends
+abbrev pub most_by_stage : ℕ
+most_by_stage = 4
+
+-- for the two ends of a chain between links
+abbrev pub most_for_ends : ℕ
+most_for_ends = 2
+
+-- at an event of such a chain, by a stage or an end and then for both ends
+abbrev pub most_by_event : ℕ
+most_by_event = 6
+
+-- by its start, for its first stage and both ends
+abbrev pub most_by_start : ℕ
+most_by_start = 3
+
 -- an event of the role was handled, and each other event stays as it was
 pub record IsHandled (before now : List Pending) (roles : List Named) (role : ℕ)
     (event : Event) : Type 0 where

@@ -1,6 +1,7 @@
 -- One stage of a chain: a transform, until it has ended, and the bytes that wait after it.
 use Rattle.std.specs.Prelude.{◌≡◌, ℕ, ◌<◌, ◌≤◌, ◌++◌, List, [], ◌∷◌, Bool, true, false, nat_le, length, drop, take, Option, Some, None, is_none, ⊤}
 use Rattle.ts_transform.specs.Law.{Adds}
+use Rattle.ts_transform.specs.declared.transform.TheConstants.{MOST_FED}
 use Rattle.ts_transform.specs.declared.pump.Stage.{Stage}
 use Rattle.ts_transform.specs.declared.pump.Pumped.{Pumped}
 use Rattle.ts_transform.specs.declared.pump.Pumped.TheVariants.{Moved, Ended, Blocked, Idle}
@@ -32,10 +33,6 @@ MOST_WAITING = 65536
 -- a stage must work, by whether it has work: there is room after it too
 abbrev pub HasDuty : Bool → List ℕ → Type 0
 HasDuty works after = (works ≡ true) × (length after < MOST_WAITING)
-
--- a stage takes at most so many bytes at once
-abbrev pub MOST_FED : ℕ
-MOST_FED = 32768
 
 -- a stage that has work is blocked, ends, or moves some bytes, in this order
 abbrev pub AnswersWork : Bool → List ℕ → List ℕ → Pumped → Type 0

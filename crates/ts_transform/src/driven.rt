@@ -2,7 +2,7 @@
 ghost use Rattle.std.specs.Prelude.{◌≡◌, ℕ, ◌+◌, ◌<◌, [], length, true, false, None, MatchOption};
 ghost use Rattle.ts_group.specs.Context.{IsSame};
 ghost use Rattle.ts_transform.specs.Flow.{OnlyFirstWorks};
-ghost use Rattle.ts_transform.specs.Driving.{ActsWithin, BeginsBeside, SetsOnly};
+ghost use Rattle.ts_transform.specs.Driving.{ActsWithin, BeginsBeside, SetsOnly, most_by_stage};
 ghost use Rattle.ts_transform.specs.Cover.{IsRousing};
 ghost use Rattle.ts_transform.specs.Acting.{IsStage, StillGives};
 ghost use Rattle.ts_transform.specs.Driven.{Acts, HandlesDriven, HasBegun, IsDrivenWhile, IsOfNoStage, KeepsRest, Loses};
@@ -134,7 +134,7 @@ impl<P: Transform + Drop> DrivenChain<P> {
         ensures gives { StillGives P.rest self.old.chain self.new.chain
             self.old.table.items self.new.table.items cx.old cx.new }
         ensures driven { HandlesDriven first role event self.old self.new cx.old cx.new }
-        ensures within { ActsWithin 4 cx.old cx.new }
+        ensures within { ActsWithin most_by_stage cx.old cx.new }
         ensures rest { KeepsRest first self.old self.new cx.old cx.new }
         ensures loses { Loses result self.old self.new cx.old cx.new }
     {

@@ -7,7 +7,7 @@ ghost use Rattle.ts_journal.specs.declared.entry.Event.TheVariants.{Error, Write
 ghost use Rattle.ts_journal.specs.declared.entry.Pending.{Pending};
 ghost use Rattle.ts_transform.specs.declared.continuation.Rouser.TheVariants as Rouser;
 ghost use Rattle.ts_transform.specs.Flow.{MustWork, ended_at, pause_at};
-ghost use Rattle.ts_transform.specs.Driving.{ActsWithin, AddsEvents, AreLive, AreOfStages, IsCalledUnless, IsCause, IsClosed, IsHandled, IsRoused, IsTellingBefore, IsToldBefore, KeepsOthers, KeepsStages, Lessens, SetsFew, SetsOnly, OnlyTellsBefore, changed, error_passed, errors_to_pass, gone, may_pass_error_at, unroused_at, works_at};
+ghost use Rattle.ts_transform.specs.Driving.{ActsWithin, AddsEvents, AreLive, AreOfStages, IsCalledUnless, IsCause, IsClosed, IsHandled, IsRoused, IsTellingBefore, IsToldBefore, KeepsOthers, KeepsStages, Lessens, SetsFew, SetsOnly, OnlyTellsBefore, changed, error_passed, errors_to_pass, gone, may_pass_error_at, unroused_at, works_at, most_by_stage, most_round};
 ghost use Rattle.ts_transform.specs.Cover.{AreAllLive, CallsBefore, IsDriven, IsDrivenBut, IsDrivenFor, IsRoundRoused, OnlyRouses, OnlySets};
 ghost use Rattle.ts_transform.specs.Seats.{KeepsSeated};
 ghost use Rattle.ts_transform.specs.Acting.{ActsAt, Covers, CoversHandled, IsStage, LivesOn, Pays, PaysErrors, TellsBefore, WorksAt};
@@ -81,7 +81,7 @@ fn rouse_round<P: Transform + Drop>(
 ) -> Result<(), SetFault>
     requires turn { cx.old.log.state.held ≡ true }
     requires at { at < length table.old }
-    ensures adds { AddsEvents 3 (AreAllLive chain.now table.new cx.new) result cx.old cx.new }
+    ensures adds { AddsEvents most_round (AreAllLive chain.now table.new cx.new) result cx.old cx.new }
     ensures stages { KeepsStages cx.old cx.new table.old table.new }
     ensures only { OnlyRouses P.pause chain.now table.old cx.old cx.new }
     ensures round { OnOk result (IsRoundRoused chain.now table.new at) }
@@ -104,7 +104,7 @@ fn work<P: Transform + Drop>(
 ) -> Result<(), SetFault>
     requires turn { cx.old.log.state.held ≡ true }
     requires stage { IsStage chain.old table.old at }
-    ensures adds { AddsEvents 4 (AreAllLive chain.new table.new cx.new) result cx.old cx.new }
+    ensures adds { AddsEvents most_by_stage (AreAllLive chain.new table.new cx.new) result cx.old cx.new }
     ensures stages { KeepsStages cx.old cx.new table.old table.new }
     ensures works { WorksAt P.rest at result chain.old chain.new cx.old cx.new }
     ensures only { (event : Event) → OnlySets P.pause chain.old chain.new table.old at event cx.old cx.new }
@@ -201,7 +201,7 @@ fn act<P: Transform + Drop>(
 ) -> Result<(), SetFault>
     requires turn { cx.old.log.state.held ≡ true }
     requires stage { IsStage chain.old table.old at }
-    ensures within { ActsWithin 4 cx.old cx.new }
+    ensures within { ActsWithin most_by_stage cx.old cx.new }
     ensures acts { ActsAt P.rest P.pause at event chain.old chain.new table.old table.old table.new
         true (is_ok result) cx.old cx.new }
     ensures pays { Pays P.rest chain.old chain.new table.old table.new cx.old cx.new }
@@ -233,7 +233,7 @@ pub fn handle_at<P: Transform + Drop>(
 ) -> Result<(), SetFault>
     requires turn { cx.old.log.state.held ≡ true }
     requires stage { IsStage chain.old table.old at }
-    ensures within { ActsWithin 4 cx.old cx.new }
+    ensures within { ActsWithin most_by_stage cx.old cx.new }
     ensures acts { ActsAt P.rest P.pause at event chain.old chain.new table.old
         (unroused_at event table.old at) table.new true (is_ok result) cx.old cx.new }
     ensures pays { Pays P.rest chain.old chain.new table.old table.new cx.old cx.new }

@@ -27,5 +27,5 @@ pub use link_ends::{make_end, rouse_end, unrouse};
 pub use link_world::LinkWorld;
 pub use loss::Loss;
 pub use pump::Pumped;
-pub use transform::Transform;
+pub use transform::{MOST_FED, Transform, front_of};
 pub use world::ChainWorld;

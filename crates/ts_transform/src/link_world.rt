@@ -9,7 +9,7 @@ ghost use Rattle.ts_group.specs.Context.{IsSame};
 ghost use Rattle.ts_group.specs.Entries.{Grows};
 ghost use Rattle.ts_transform.specs.declared.link_world.TheConstants.{READER, WRITER};
 ghost use Rattle.ts_transform.specs.Flow.{IsFinished, MustRead, MustWrite, aborted, compose, flow, fresh_stage};
-ghost use Rattle.ts_transform.specs.Driving.{ActsWithin, IsNamedIf, IsRousedIf, SetsOnly};
+ghost use Rattle.ts_transform.specs.Driving.{ActsWithin, IsNamedIf, IsRousedIf, SetsOnly, most_by_stage, most_for_ends, most_by_event, most_by_start};
 ghost use Rattle.ts_transform.specs.Driven.{SameCourse};
 ghost use Rattle.ts_transform.specs.Along.{ActsAlong, HandlesAlong, HandlesEnd, ReadsOnce, RousesAnEnd, SetsForDuty, WorksAlong, WritesOnce};
 ghost use Rattle.ts_transform.specs.Carrying.{AreEndsRoused, HandlesCarried, HandlesJoined, HandlesWaits, HasBegunAlong, HasLinkBegun, HasNoDuty, HasStepped, InputWaits, IsCarried, IsOfNobody, IsSameBut, KeepsCourse, KeepsReader, KeepsWriter, LacksMemory, Moves, OutputWaits, RetriesRead, RetriesWrite, RousesEnd, StaysJoined, StepsAlong, TriesAgain};
@@ -286,7 +286,7 @@ impl<I: Link + Drop, K: Link + Drop, P: Transform + Drop> LinkWorld<I, K, P> {
         ensures moves { Moves P.rest I.tells K.tells I.look K.look self.old self.new }
         ensures joined { HandlesJoined role event self.old self.new cx.old cx.new }
         ensures course { WorksAlong P.rest P.pause I.look K.look role event self.old self.new cx.old cx.new }
-        ensures within { ActsWithin 4 cx.old cx.new }
+        ensures within { ActsWithin most_by_stage cx.old cx.new }
         ensures reads { IsNamedIf cx.old.roles READER self.old.reader → InputWaits I.look self.old self.new
             → RetriesRead self.old self.new cx.old cx.new }
         ensures writes { IsNamedIf cx.old.roles WRITER self.old.writer → OutputWaits K.look self.old self.new
@@ -310,7 +310,7 @@ impl<I: Link + Drop, K: Link + Drop, P: Transform + Drop> LinkWorld<I, K, P> {
         ensures ends { self.new.driven.running ≡ true
             → AreEndsRoused self.new.driven.chain self.new.writer self.new.reader }
         ensures course { KeepsCourse self.old self.new cx.old cx.new }
-        ensures within { ActsWithin 2 cx.old cx.new }
+        ensures within { ActsWithin most_for_ends cx.old cx.new }
         ensures only { IsNamedIf cx.old.roles WRITER self.old.writer
             → IsNamedIf cx.old.roles READER self.old.reader
             → SetsOnly (RousesAnEnd self.old.driven.chain cx.old.moment cx.old.roles) cx.old cx.new }
@@ -349,7 +349,7 @@ impl<I: Link + Drop, K: Link + Drop, P: Transform + Drop> LinkWorld<I, K, P> {
         ensures carried { HandlesCarried role event self.old self.new cx.old cx.new }
         ensures again { HandlesWaits role event I.look K.look self.old self.new cx.old cx.new }
         ensures acts { HandlesAlong P.rest P.pause I.look K.look role event self.old self.new cx.old cx.new }
-        ensures within { ActsWithin 6 cx.old cx.new }
+        ensures within { ActsWithin most_by_event cx.old cx.new }
         ensures rests { HasNoDuty role self.old → (self.new ≡ self.old) × IsSame cx.old cx.new }
         ensures stops { self.old.driven.running ≡ true → LacksMemory self.new → self.new.aborted ≡ true }
     {
@@ -370,7 +370,7 @@ impl<I: Link + Drop, K: Link + Drop, P: Transform + Drop> LinkWorld<I, K, P> {
         ensures begun { HasLinkBegun self.old self.new }
         ensures carried { IsCarried self.old cx.old.log.state.pending cx.old.log.state.next cx.old.roles
             → IsCarried self.new cx.new.log.state.pending cx.new.log.state.next cx.new.roles }
-        ensures within { ActsWithin 3 cx.old cx.new }
+        ensures within { ActsWithin most_by_start cx.old cx.new }
         ensures cause { HasBegunAlong self.new cx.new }
     {
         match make_end(WRITER, cx) {
@@ -448,7 +448,7 @@ impl<I: Link + Drop, K: Link + Drop, P: Transform + Drop> World for LinkWorld<I,
         requires turn { cx.old.log.state.held ≡ true }
         requires sound { IsCarried self.old cx.old.log.state.pending cx.old.log.state.next cx.old.roles }
         ensures sound { IsCarried self.new cx.new.log.state.pending cx.new.log.state.next cx.new.roles }
-        ensures within { ActsWithin 3 cx.old cx.new }
+        ensures within { ActsWithin most_by_start cx.old cx.new }
         ensures begun { HasLinkBegun self.old self.new }
         ensures cause { self.old.writer ≡ None → HasBegunAlong self.new cx.new }
         ensures again { (self.old.writer ≡ None → ⊥)
@@ -467,7 +467,7 @@ impl<I: Link + Drop, K: Link + Drop, P: Transform + Drop> World for LinkWorld<I,
         ensures steps { HasStepped P.rest I.tells K.tells I.look K.look self.old self.new }
         ensures again { TriesAgain I.look K.look self.old self.new cx.old cx.new }
         ensures acts { ActsAlong P.rest P.pause I.look K.look role event self.old self.new cx.old cx.new }
-        ensures within { ActsWithin 6 cx.old cx.new }
+        ensures within { ActsWithin most_by_event cx.old cx.new }
         ensures rests { (self.old.driven.running ≡ false) ⊎ IsOfNobody role self.old
             → (self.new ≡ self.old) × IsSame cx.old cx.new }
     {

@@ -5,7 +5,7 @@ ghost use Rattle.ts_transform.specs.Law.{Adds};
 ghost use Rattle.ts_transform.specs.Stage.{has_ended, has_work, Answers, AnswersIf, HasDuty, Runs, Steps, IfRests, done_by};
 ghost use Rattle.ts_transform.specs.Flow.{flow_from, passing, AnswersAt, MustPump, StepsAt};
 
-use crate::transform::Transform;
+use crate::transform::{MOST_FED, Transform};
 use ts_iobuf::Waiting;
 use ts_link::NoMemory;
 
@@ -38,22 +38,19 @@ impl<P> Stage<P> {
 /// A stage takes no input where as many bytes wait after it.
 pub const MOST_WAITING: usize = 65_536;
 
-// The most bytes that a stage is fed at once.
-const MOST_FED: usize = 32_768;
-
-// Feeds a transform, which writes behind the bytes that wait.
+// Feeds a transform with what waits before it; it writes behind the bytes that wait after it.
 fn feed_into<P: Transform>(
     part: &mut P,
-    input: &[u8],
+    from: &Waiting,
     after: &mut Waiting,
 ) -> Result<usize, NoMemory>
-    requires { 0 < length input.now }
-    ensures count { IfOk result (λ n. (1 ≤ n) × (n ≤ length input.now)) }
+    requires { 0 < length from.now }
+    ensures count { IfOk result (λ n. (1 ≤ n) × (n ≤ MOST_FED) × (n ≤ length from.now)) }
     ensures adds { IfOk result
-        (λ n. Adds (P.rest part.old) (P.rest part.new) (take n input.now) after.old after.new) }
+        (λ n. Adds (P.rest part.old) (P.rest part.new) (take n from.now) after.old after.new) }
     ensures err { OnErr result ((part.new ≡ part.old) × (after.new ≡ after.old)) }
 {
-    part.feed(input, &mut after.buffer)
+    part.feed_from(&from.buffer, from.reader, MOST_FED, &mut after.buffer)
 }
 
 // Ends a transform, which writes behind the bytes that wait.
@@ -77,21 +74,18 @@ fn pump_part<P: Transform>(
     ensures err { OnErr result ((from.new ≡ from.old) × (part.new ≡ part.old) × (after.new ≡ after.old)) }
 {
     let waiting = after.len();
-    let Some(block) = from.block() else {
-        if !up_ended {
-            return Ok(Pumped::Idle);
-        }
-        if waiting >= MOST_WAITING {
-            return Ok(Pumped::Blocked { waiting });
-        }
-        end_into(part, after)?;
-        return Ok(Pumped::Ended);
-    };
+    let is_empty = from.is_empty();
+    if is_empty && !up_ended {
+        return Ok(Pumped::Idle);
+    }
     if waiting >= MOST_WAITING {
         return Ok(Pumped::Blocked { waiting });
     }
-    let (input, _) = block.split_at(block.len().min(MOST_FED));
-    let taken = feed_into(part, input, after)?;
+    if is_empty {
+        end_into(part, after)?;
+        return Ok(Pumped::Ended);
+    }
+    let taken = feed_into(part, from, after)?;
     from.take(taken);
     Ok(Pumped::Moved(taken))
 }

@@ -1,11 +1,30 @@
 //! A transform of a body: what it is given in pieces, and what it writes.
-ghost use Rattle.std.specs.Prelude.{◌≡◌, ℕ, ◌<◌, ◌≤◌, List, [], length, take, IfOk, OnOk, OnErr};
-ghost use Rattle.ts_iobuf.specs.Buffer.{GrowsBy};
+ghost use Rattle.std.specs.Prelude.{◌≡◌, ℕ, ◌<◌, ◌≤◌, List, [], length, take, IsTrue, IfOk, OnOk, OnErr};
+ghost use Rattle.ts_iobuf.specs.Buffer.{GrowsBy, is_reader, readable};
 ghost use Rattle.ts_transform.specs.Law.{Feeds};
 
 use std::alloc::Global;
-use ts_iobuf::IoBuffer;
+use ts_iobuf::{IoBuffer, ReaderId};
 use ts_link::NoMemory;
+
+/// A transform is fed at most so many bytes of a buffer at once.
+pub const MOST_FED: usize = 32_768;
+
+/// The front of the first block that a reader can read, of at most so many bytes.
+pub fn front_of(input: &IoBuffer, reader: ReaderId, most: usize) -> &[u8]
+    requires reader { IsTrue (is_reader input.now reader) }
+    requires some { 0 < length (readable input.now reader) }
+    requires most { 1 ≤ most }
+    ensures count { (1 ≤ length result.now) × (length result.now ≤ most)
+        × (length result.now ≤ length (readable input.now reader)) }
+    ensures front { result.now ≡ take (length result.now) (readable input.now reader) }
+{
+    let Some(block) = input.block(reader, 0) else {
+        unreachable!()
+    };
+    let (front, _) = block.split_at(block.len().min(most));
+    front
+}
 
 /// Makes one stream of bytes of another. What it still writes is a function of what it still gets, and
 /// each call keeps that function; so whatever the pieces are, what it writes in all is what its line makes
@@ -38,6 +57,27 @@ pub trait Transform: Sized {
         ensures law { IfOk result
             (λ n. Feeds (rest self.old) (rest self.new) (take n input.now) out.old out.new) }
         ensures err { OnErr result ((self.new ≡ self.old) × (out.new ≡ out.old)) };
+
+    /// Takes some of what a reader of the input can read, at least one byte and at most `most`, and answers
+    /// how many. The reader stays where it is. A transform that passes bytes on shares their blocks here, in
+    /// place of a copy; without a body of its own the front of the first block is fed.
+    fn feed_from(
+        &mut self,
+        input: &IoBuffer,
+        reader: ReaderId,
+        most: usize,
+        out: &mut IoBuffer,
+    ) -> Result<usize, NoMemory>
+        requires reader { IsTrue (is_reader input.now reader) }
+        requires some { 0 < length (readable input.now reader) }
+        requires most { (1 ≤ most) × (most ≤ MOST_FED) }
+        ensures count { IfOk result (λ n. (1 ≤ n) × (n ≤ most) × (n ≤ length (readable input.now reader))) }
+        ensures law { IfOk result (λ n. Feeds (rest self.old) (rest self.new)
+            (take n (readable input.now reader)) out.old out.new) }
+        ensures err { OnErr result ((self.new ≡ self.old) × (out.new ≡ out.old)) }
+    {
+        self.feed(front_of(input, reader, most), out)
+    }
 
     /// Writes what is left to write, once no more bytes come.
     fn end(&mut self, out: &mut IoBuffer) -> Result<(), NoMemory>

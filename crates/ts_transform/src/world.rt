@@ -9,7 +9,7 @@ ghost use Rattle.ts_group.specs.Context.{AllPlain, IsSame};
 ghost use Rattle.ts_group.specs.Entries.{Grows};
 ghost use Rattle.ts_transform.specs.Flow.{IsFinished, PumpsOnce, TakesAway, aborted, client_wait, compose, flow, fresh_stage, left_to_do, pause_at};
 ghost use Rattle.ts_transform.specs.declared.continuation.StageContinuation.{StageContinuation};
-ghost use Rattle.ts_transform.specs.Driving.{ActsWithin, IsRoused, SetsFew, SetsOnly, all_unroused, errors_to_pass, last_of};
+ghost use Rattle.ts_transform.specs.Driving.{ActsWithin, IsRoused, SetsFew, SetsOnly, all_unroused, errors_to_pass, last_of, most_by_stage};
 ghost use Rattle.ts_transform.specs.Cover.{IsAwake, IsRousing};
 ghost use Rattle.ts_transform.specs.Acting.{IsStage, step_weight};
 ghost use Rattle.ts_transform.specs.Driven.{Acts, HasAllLive, HasBegun, HasBegunFrom, IsMarkedFor, IsOfNoStage, MarkLoses, MayLose, MayWake, SameCourse};
@@ -234,7 +234,7 @@ impl<P: Transform + Drop> World for ChainWorld<P> {
         requires turn { cx.old.log.state.held ≡ true }
         requires called { IsCalled (λ s roles. IsSound self.old s.pending roles) cx.old role event }
         ensures sound { (result ≡ Want.Nothing) × IsSound self.new cx.new.log.state.pending cx.new.roles }
-        ensures within { ActsWithin 4 cx.old cx.new }
+        ensures within { ActsWithin most_by_stage cx.old cx.new }
         ensures goes_on { GoesOnWith P.rest self.old self.new cx.old cx.new }
         ensures loses { MayLose (HasAllLive self.old.driven cx.old)
             self.old.driven self.new.driven cx.new }

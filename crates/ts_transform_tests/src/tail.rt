@@ -3,7 +3,7 @@
 ghost use Rattle.std.specs.Prelude.{◌++◌};
 
 use std::alloc::Global;
-use ts_iobuf::IoBuffer;
+use ts_iobuf::{IoBuffer, ReaderId};
 use ts_link::{NoMemory, Octets};
 use ts_transform::Transform;
 
@@ -32,6 +32,16 @@ impl Transform for Tail {
     fn feed(&mut self, input: &[u8], out: &mut IoBuffer) -> Result<usize, NoMemory> {
         out.write(input)?;
         Ok(input.len())
+    }
+
+    fn feed_from(
+        &mut self,
+        input: &IoBuffer,
+        reader: ReaderId,
+        most: usize,
+        out: &mut IoBuffer,
+    ) -> Result<usize, NoMemory> {
+        out.copy_from(input, reader, most, 0)
     }
 
     fn end(&mut self, out: &mut IoBuffer) -> Result<(), NoMemory> {
