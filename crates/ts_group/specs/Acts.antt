@@ -7,7 +7,7 @@ use Rattle.ts_journal.specs.declared.entry.Pending.{Pending}
 use Rattle.ts_journal.specs.declared.entry.Entry.TheVariants.{Took, Gave, Made, Set, Handled, Cancelled, Destroyed}
 use Rattle.ts_journal.specs.State.{State, IsLive, generation_at, pending_at, numbers_of, first_in_series, others_of}
 use Rattle.ts_journal.specs.Machine.{after}
-use Rattle.ts_journal.specs.Log.{Log, Extends, IsSameLog}
+use Rattle.ts_journal.specs.Log.{Log, Extends, GoesOn, IsSameLog}
 use Rattle.ts_group.specs.declared.action.Action.{Action}
 use Rattle.ts_group.specs.declared.action.Named.{Named}
 use Rattle.ts_group.specs.declared.action.MakeFault.{MakeFault}
@@ -21,6 +21,7 @@ use Rattle.ts_group.specs.declared.action.Cancel.{Cancel}
 use Rattle.ts_group.specs.declared.action.Cancel.TheVariants as cancel
 use Rattle.ts_group.specs.Context.{Context, CanUse, AllPlain, own_key, without_role}
 use Rattle.ts_group.specs.Entries.{drops, renewal, asking_entries}
+use Rattle.ts_group.specs.Slot.{stored_of}
 use Rattle.ts_group.specs.Changes.{StaysInTurn, IsMore, SameEvents, HasMade, KeepsKeys, HasLost, HasClosed, IsLess, HasHandled, first_event}
 
 -- an event is set
@@ -112,9 +113,10 @@ pub record BeginsTurn (old new : Context) (turn seat moment : ℕ) : Type 0 wher
   pub at_moment : new.moment ≡ moment
   pub calls : new.calls ≡ []
 
--- the turn is given back
+-- the turn is given back, and the journal folded where it stores many entries then
 pub record GivesTurn (old new : Context) : Type 0 where
-  pub by : Extends old.log new.log (Gave old.log.state.turns ∷ [])
+  pub by : GoesOn old.log new.log (Gave old.log.state.turns ∷ [])
+  pub entries : new.log.entries ≡ stored_of (old.log.entries ++ Gave old.log.state.turns ∷ [])
   pub state : new.log.state ≡ after old.log.state (Gave old.log.state.turns)
   pub moment : new.moment ≡ old.moment
   pub calls : new.calls ≡ old.calls

@@ -5,7 +5,7 @@ use Rattle.ts_journal.specs.declared.entry.ContKey.{ContKey}
 use Rattle.ts_journal.specs.declared.entry.Pending.{Pending}
 use Rattle.ts_journal.specs.State.{State, IsLive, fresh_with, generation_at, pending_at}
 use Rattle.ts_journal.specs.Machine.{IsValid}
-use Rattle.ts_journal.specs.Log.{Log, IsSameLog}
+use Rattle.ts_journal.specs.Log.{Log, IsSameLog, new_base}
 use Rattle.ts_group.specs.declared.action.Named.{Named}
 
 -- The journal; the role of each key that is live; the moment; the key of the handler that runs, and the role
@@ -41,7 +41,7 @@ own_key = record { index = MOST_KEYS - 1; generation = 1 }
 
 -- where a group begins that has made so many turns elsewhere: its own continuation is live, with the role 0
 pub record IsFresh (turns : ℕ) (now : Context) : Type 0 where
-  pub base : now.log.base ≡ fresh_with turns own_key
+  pub base : now.log.base ≡ new_base (fresh_with turns own_key)
   pub entries : now.log.entries ≡ []
   pub state : now.log.state ≡ fresh_with turns own_key
   pub roles : now.roles ≡ record { key = own_key; role = 0 } ∷ []

@@ -54,7 +54,8 @@ impl<W: World + Drop> Group<W> {
         self.cx.begin_turn(turn, seat, moment)
     }
 
-    /// Gives the turn back. It takes no memory.
+    /// Gives the turn back, and folds a journal that stores `MOST_STORED` entries or more then. It takes no
+    /// memory.
     pub fn give_turn(&mut self)
         requires turn { self.old.cx.log.state.held ≡ true }
         ensures gives { GivesTurn self.old.cx self.new.cx }

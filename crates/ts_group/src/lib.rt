@@ -23,4 +23,5 @@ pub use cx::Cx;
 pub use group::{Group, MOST_EVENTS};
 pub use keys::OWN_KEY;
 pub use slot::MOST_IN_TURN;
+pub use turns::MOST_STORED;
 pub use world::{Asked, Handling, MOST_SET, Want, World};

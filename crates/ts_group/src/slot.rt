@@ -2,7 +2,7 @@
 
 ghost use Rattle.std.specs.Prelude.{◌≡◌};
 ghost use Rattle.std.specs.Bool.{OnTrue};
-ghost use Rattle.ts_group.specs.Slot.{IsAtRest, marks_of};
+ghost use Rattle.ts_group.specs.Slot.{IsAtRest, marks_in};
 ghost use Rattle.ts_group.specs.Standing.{StandsAfter, stands_itself, stands_on};
 
 use crate::group::Group;
@@ -21,11 +21,11 @@ impl<W: World> Slotted for Group<W> {
     ghost fits = { λ tag g.
         W.fits tag g.world × W.sound g.world g.cx.log.state g.cx.roles
         × IsAtRest (W.only_asked tag) g.cx.log.state
-        × OnTrue (W.is_first tag) (g.cx.log.base.turns ≡ 0) };
+        × OnTrue (W.is_first tag) (g.cx.log.base.made ≡ 0) };
 
     ghost stamp = { λ g. g.cx.log.state.turns };
 
-    ghost marks = { λ g. marks_of g.cx.log.entries };
+    ghost marks = { λ g. marks_in g.cx.log };
 
     ghost trace = { λ g. g };
 

@@ -1,15 +1,19 @@
 //! Turns in a journal: how one begins and how it is given back.
 
-ghost use Rattle.std.specs.Prelude.{◌≡◌, ◌<◌, ◌≤◌, true, false, [], ◌∷◌, OnOk, OnErr};
+ghost use Rattle.std.specs.Prelude.{◌≡◌, ◌<◌, ◌≤◌, true, false, [], ◌∷◌, ◌++◌, OnOk, OnErr};
 ghost use Rattle.ts_journal.specs.declared.entry.Entry.TheVariants as Entry;
 ghost use Rattle.ts_journal.specs.Machine.{after};
-ghost use Rattle.ts_journal.specs.Log.{Extends, IsSameLog};
+ghost use Rattle.ts_journal.specs.Log.{Extends, GoesOn, IsSameLog, KeepsRoom};
 ghost use Rattle.ts_group.specs.Context.{HasNeeded};
 ghost use Rattle.ts_group.specs.Changes.{CallsStay};
+ghost use Rattle.ts_group.specs.Slot.{stored_of};
 
 use crate::reserve::spare;
 use ts_journal::{Entry, Journal};
 use ts_link::NoMemory;
+
+/// A journal that stores so many entries or more when a turn is given back is folded.
+pub const MOST_STORED: usize = 4096;
 
 /// Enters that a seat took the mutex.
 #[tactic(auto, using(crate::proofs::Room::needed_took, crate::proofs::Facts::stay_same))]
@@ -30,12 +34,27 @@ pub fn begin_turn(journal: &mut Journal, turn: u64, seat: u64) -> Result<(), NoM
     Ok(())
 }
 
-/// Enters that the mutex was given back.
-#[tactic(auto, using(crate::proofs::Room::needed_gave, crate::proofs::Facts::stay_same))]
+// Folds a journal that stores many entries.
+#[tactic(auto, using(ts_journal::proofs::Folding::goes_on_folds, ts_journal::proofs::Folding::goes_on_same))]
+fn fold_full(journal: &mut Journal)
+    ensures on { GoesOn journal.old journal.new [] }
+    ensures entries { journal.new.entries ≡ stored_of journal.old.entries }
+    ensures state { journal.new.state ≡ journal.old.state }
+    ensures room { KeepsRoom journal.old journal.new }
+{
+    if journal.entries().len() >= MOST_STORED {
+        journal.fold();
+    }
+}
+
+/// Enters that the mutex was given back. It takes no memory.
+#[tactic(auto, using(crate::proofs::Slots::give_steps))]
 pub fn give_turn(journal: &mut Journal)
     requires turn { journal.old.state.held ≡ true }
     requires room { HasNeeded journal.old }
-    ensures given { Extends journal.old journal.new (Entry.Gave journal.old.state.turns ∷ []) }
+    ensures given { GoesOn journal.old journal.new (Entry.Gave journal.old.state.turns ∷ []) }
+    ensures entries { journal.new.entries
+        ≡ stored_of (journal.old.entries ++ Entry.Gave journal.old.state.turns ∷ []) }
     ensures state { journal.new.state ≡ after journal.old.state (Entry.Gave journal.old.state.turns) }
     ensures room { HasNeeded journal.new }
     ensures live { journal.new.state.live ≡ journal.old.state.live }
@@ -43,4 +62,5 @@ pub fn give_turn(journal: &mut Journal)
 {
     let turn = journal.turns();
     journal.push(Entry::Gave { turn });
+    fold_full(journal);
 }

@@ -9,15 +9,15 @@ use Rattle.ts_group_tests.specs.declared.burst.TheConstants.{CALLS}
 use Rattle.ts_group_tests.specs.declared.heir.Heir.{Heir}
 use Rattle.ts_group_tests.specs.declared.peer.TheConstants.{MOST_TODO}
 use Rattle.ts_group_tests.specs.declared.steps.Countdown.{Countdown}
-use Rattle.ts_group_tests.specs.declared.steps.Steps.{Steps}
+use Rattle.ts_group_tests.specs.declared.steps.Stepper.{Stepper}
 use Rattle.ts_group_tests.specs.declared.toy.TheConstants.{MOST_WORK}
 
 -- the steps that were done and those that are left are so many
-abbrev pub StepsFits : {P : Type 0} → (P → ℕ) → ℕ → Steps P → Type 0
-StepsFits steps t w = w.done + steps w.part ≡ t
+abbrev pub StepperFits : {P : Type 0} → (P → ℕ) → ℕ → Stepper P → Type 0
+StepperFits steps t w = w.done + steps w.part ≡ t
 
 -- no event is periodic, and a world that is whole has an event while steps are left
-pub record StepsSound {P : Type 0} (steps : P → ℕ) (w : Steps P) (s : State) : Type 0 where
+pub record StepperSound {P : Type 0} (steps : P → ℕ) (w : Stepper P) (s : State) : Type 0 where
   pub plain : AllPlain s.pending
   pub few : length s.pending ≤ s.next
   pub most : w.done + steps w.part ≤ MOST_TODO
@@ -54,16 +54,16 @@ pub record HeirSound (w : Heir) (s : State) : Type 0 where
   pub ends : w.whole ≡ true → length s.pending ≡ 0 → w.heirs ≡ 0
 
 -- what is left until the last heir is gone, where it is told
-abbrev pub told : Bool → Heir → State → Option ℕ
-told plain w s = if plain then Some (2 * w.heirs + length s.pending) else None
+abbrev pub heir_left_if : Bool → Heir → State → Option ℕ
+heir_left_if plain w s = if plain then Some (2 * w.heirs + length s.pending) else None
 
 -- a world of plain events tells it
 abbrev pub heir_left : Heir → State → Option ℕ
-heir_left w s = told w.plain w s
+heir_left w s = heir_left_if w.plain w s
 
 -- a countdown that is whole has done its steps
-abbrev pub StepsCounted : ℕ → Steps Countdown → Type 0
-StepsCounted todo w = w.whole ≡ true → (w.done ≡ todo) × (w.part.left ≡ 0)
+abbrev pub StepperCounted : ℕ → Stepper Countdown → Type 0
+StepperCounted todo w = w.whole ≡ true → (w.done ≡ todo) × (w.part.left ≡ 0)
 
 -- a burst that is whole has called its target so often, and each call was handled, as the first event was
 abbrev pub BurstCounted : ℕ → Burst → Type 0
@@ -75,14 +75,14 @@ HeirCounted todo w = w.whole ≡ true → w.done ≡ todo
 
 -- The laws of these words, which the trait of toy worlds asks for.
 
-pub steps_little : (w : Steps Countdown) (s : State) → StepsSound (λ p. p.left) w s
+pub stepper_little : (w : Stepper Countdown) (s : State) → StepperSound (λ p. p.left) w s
     → IsSome (Some (2 * w.part.left + length s.pending)) ×
     (2 * w.part.left + length s.pending ≤ MOST_WORK + s.next)
-steps_little w s sound = let few = sound.few in let most = sound.most in (refl, omega arith)
+stepper_little w s sound = let few = sound.few in let most = sound.most in (refl, omega arith)
 
-pub steps_end : (todo t : ℕ) (w : Steps Countdown) (s : State) → t ≡ todo → StepsFits (λ p. p.left) t w
-    → StepsSound (λ p. p.left) w s → length s.pending ≡ 0 → StepsCounted todo w
-steps_end todo t w s is fits sound none = λ whole. let zero = sound.ends whole none in (omega arith, zero)
+pub stepper_end : (todo t : ℕ) (w : Stepper Countdown) (s : State) → t ≡ todo → StepperFits (λ p. p.left) t w
+    → StepperSound (λ p. p.left) w s → length s.pending ≡ 0 → StepperCounted todo w
+stepper_end todo t w s is fits sound none = λ whole. let zero = sound.ends whole none in (omega arith, zero)
 
 pub burst_little : (w : Burst) (s : State) → BurstSound w s
     → IsSome (burst_left w s) × (unwrap_or (burst_left w s) 0 ≤ MOST_WORK + s.next)
@@ -105,7 +105,8 @@ heir_little t w s fits sound =
     let few = sound.few fits.0 in
     let most = sound.most in
     let bound : 2 * w.heirs + length s.pending ≤ MOST_WORK + s.next = omega arith in
-    subst (λ b. IsSome (told b w s) × (unwrap_or (told b w s) 0 ≤ MOST_WORK + s.next)) (sym fits.0)
+    subst (λ b. IsSome (heir_left_if b w s) × (unwrap_or (heir_left_if b w s) 0 ≤ MOST_WORK + s.next))
+    (sym fits.0)
     (refl, bound)
 
 pub heir_ends : (todo t : ℕ) (w : Heir) (s : State) → t ≡ todo → HeirFits t w → HeirSound w s

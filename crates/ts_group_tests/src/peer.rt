@@ -19,7 +19,7 @@ use ts_link::NoMemory;
 pub const ASKED: u32 = 8;
 
 /// How many steps a peer has to do at most.
-pub const MOST_TODO: u32 = 1000;
+pub const MOST_TODO: u32 = 1500;
 
 /// A world that has so many steps to do, each at an event of its own. For a step it asks another peer, where
 /// it is one that asks. A peer that is only asked adds one to a number.

@@ -2,7 +2,7 @@
 
 ghost use Rattle.std.specs.Prelude.{⊤, ◌≡◌, ℕ, ◌+◌, ◌*◌, true, false, refl, Some, [], length, MatchBool};
 ghost use Rattle.ts_group.specs.Entries.{Grows};
-ghost use Rattle.ts_group_tests.specs.Toys.{StepsFits, StepsSound};
+ghost use Rattle.ts_group_tests.specs.Toys.{StepperFits, StepperSound};
 
 use ts_group::{Asked, Cx, Want, World};
 use ts_journal::{Event, Slotted};
@@ -40,7 +40,7 @@ impl Part for Countdown {
 /// A world that does one step of its part at each event, and sets the next event while there was one to do.
 /// Its tag tells how many steps it has in all.
 #[derive(Drop)]
-pub struct Steps<P: Part> {
+pub struct Stepper<P: Part> {
     pub part: P,
     /// How many steps were done.
     pub done: u32,
@@ -48,12 +48,12 @@ pub struct Steps<P: Part> {
     pub whole: bool,
 }
 
-impl<P: Part> Slotted for Steps<P> {
+impl<P: Part> Slotted for Stepper<P> {
     type Tag = u32;
 
     type Trace = ();
 
-    ghost fits = { StepsFits P.steps };
+    ghost fits = { StepperFits P.steps };
 
     ghost stamp = { λ w. 0 };
 
@@ -69,14 +69,14 @@ impl<P: Part> Slotted for Steps<P> {
 }
 
 #[tactic(auto, using(ts_group::proofs::Grows::grows))]
-impl<P: Part> World for Steps<P> {
+impl<P: Part> World for Stepper<P> {
     type Question = ();
 
     type Reply = ();
 
-    ghost sound = { λ w s roles. StepsSound P.steps w s };
+    ghost sound = { λ w s roles. StepperSound P.steps w s };
 
-    ghost asking = { λ w s roles role group question. StepsSound P.steps w s };
+    ghost asking = { λ w s roles role group question. StepperSound P.steps w s };
 
     ghost right = { λ w group question reply. ⊤ };
 
@@ -117,7 +117,7 @@ impl<P: Part> World for Steps<P> {
 
     fn told(&mut self, _role: u32, _asked: Asked<(), ()>, _cx: &mut Cx)
         requires turn { _cx.old.log.state.held ≡ true }
-        requires sound { StepsSound P.steps self.old _cx.old.log.state }
+        requires sound { StepperSound P.steps self.old _cx.old.log.state }
         ensures grows { Grows _cx.old _cx.new }
         ensures same { (_cx.new.log.state ≡ _cx.old.log.state) × (self.new ≡ self.old) }
     {}

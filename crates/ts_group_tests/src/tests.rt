@@ -1,14 +1,17 @@
 //! Small worlds that are run: what their groups record, and how they end.
 
+ghost use Rattle.std.specs.Prelude.{◌≡◌, false, OnOk};
+ghost use Rattle.ts_group.specs.Answers.{Holds};
+
 use crate::burst::Burst;
 use crate::drive::{Driven, ask_for, drive};
 use crate::heir::Heir;
 use crate::peer::{ASKED, new_peer};
 use crate::recorded::visit;
-use crate::steps::{Countdown, Steps};
+use crate::steps::{Countdown, Stepper};
 use crate::toy::Toy;
 use std::test::Fail;
-use ts_group::{Action, Cancel, Destroy, Group, Handling};
+use ts_group::{Action, Cancel, Destroy, Group, Handling, World};
 use ts_journal::{ContKey, Counts, Entry, Event};
 use ts_slot::{Left, Slots};
 
@@ -17,7 +20,7 @@ const FIRST: ContKey = ContKey {
     generation: 1,
 };
 
-// An event that is cancelled is not pending, and the action of one that was handled is done.
+// An event that is cancelled is not pending, and is not handled.
 #[test]
 fn a_cancelled_event_is_not_handled(rt: HostRuntime) -> Result<(), Fail> {
     let mut group = Heir::group(rt.alloc(), 1)?;
@@ -39,8 +42,17 @@ fn a_cancelled_event_is_not_handled(rt: HostRuntime) -> Result<(), Fail> {
             pending: 0
         }
     );
+    Ok(())
+}
+
+// The action of an event that was handled is done, and to cancel it changes nothing.
+#[test]
+fn an_action_is_done_once_its_event_was_handled(rt: HostRuntime) -> Result<(), Fail> {
+    let mut group = Heir::group(rt.alloc(), 1)?;
+    group.begin_turn(1, 0, 5)?;
+    let key = group.cx().make(0)?;
     let plain = group.cx().schedule(key, 0)?;
-    let handling = group.handle(2, 5)?;
+    let handling = group.handle(1, 5)?;
     assert!(rt; matches!(handling, Handling::Handled { events: 1 }));
     let entries = group.journal().entries().len();
     assert_eq!(rt; group.cx().cancel(plain), Cancel::Done);
@@ -48,6 +60,52 @@ fn a_cancelled_event_is_not_handled(rt: HostRuntime) -> Result<(), Fail> {
     assert_eq!(rt; group.cx().destroy(key), Destroy::Dead);
     Ok(())
 }
+
+// The key of the continuation that is made when the first one was destroyed.
+const SECOND: ContKey = ContKey {
+    index: 0,
+    generation: 2,
+};
+
+// The journal of a periodic event whose handler destroys its own continuation and makes another.
+const OF_AN_HEIR: &[Entry] = &[
+    Entry::Took { turn: 1, seat: 0 },
+    Entry::Made { key: FIRST },
+    Entry::Set {
+        number: 1,
+        key: FIRST,
+        event: Event::Timeout,
+        due: 10,
+        series: 1,
+        period: 10,
+    },
+    Entry::Gave { turn: 1 },
+    Entry::Took { turn: 2, seat: 0 },
+    Entry::Handled {
+        number: 1,
+        moment: 10,
+    },
+    Entry::Set {
+        number: 2,
+        key: FIRST,
+        event: Event::Timeout,
+        due: 20,
+        series: 1,
+        period: 10,
+    },
+    Entry::Dropped { number: 2 },
+    Entry::Destroyed { key: FIRST },
+    Entry::Made { key: SECOND },
+    Entry::Set {
+        number: 3,
+        key: SECOND,
+        event: Event::Timeout,
+        due: 11,
+        series: 3,
+        period: 0,
+    },
+    Entry::Gave { turn: 2 },
+];
 
 // The handler of a periodic event destroys its own continuation and makes another.
 #[test]
@@ -72,51 +130,9 @@ fn a_periodic_event_goes_with_its_key(rt: HostRuntime) -> Result<(), Fail> {
     assert!(rt; group.cx().is_done(action));
     assert_eq!(rt; group.cx().cancel(action), Cancel::Done);
     group.give_turn();
-    let second = ContKey {
-        index: 0,
-        generation: 2,
-    };
     let (world, journal) = group.into_parts();
-    assert_eq!(rt; world.key, Some(second));
-    let entries = [
-        Entry::Took { turn: 1, seat: 0 },
-        Entry::Made { key: FIRST },
-        Entry::Set {
-            number: 1,
-            key: FIRST,
-            event: Event::Timeout,
-            due: 10,
-            series: 1,
-            period: 10,
-        },
-        Entry::Gave { turn: 1 },
-        Entry::Took { turn: 2, seat: 0 },
-        Entry::Handled {
-            number: 1,
-            moment: 10,
-        },
-        Entry::Set {
-            number: 2,
-            key: FIRST,
-            event: Event::Timeout,
-            due: 20,
-            series: 1,
-            period: 10,
-        },
-        Entry::Dropped { number: 2 },
-        Entry::Destroyed { key: FIRST },
-        Entry::Made { key: second },
-        Entry::Set {
-            number: 3,
-            key: second,
-            event: Event::Timeout,
-            due: 11,
-            series: 3,
-            period: 0,
-        },
-        Entry::Gave { turn: 2 },
-    ];
-    assert_eq!(rt; journal.entries(), entries.as_slice());
+    assert_eq!(rt; world.key, Some(SECOND));
+    assert_eq!(rt; journal.entries(), OF_AN_HEIR);
     Ok(())
 }
 
@@ -151,7 +167,7 @@ fn a_turn_handles_64_events(rt: HostRuntime) -> Result<(), Fail> {
 // A world that does three steps is driven to its end.
 #[test]
 fn a_world_is_driven_to_its_end(rt: HostRuntime) -> Result<(), Fail> {
-    let mut group = Steps::<Countdown>::group(rt.alloc(), 3)?;
+    let mut group = Stepper::<Countdown>::group(rt.alloc(), 3)?;
     group.begin_turn(1, 0, 0)?;
     group.start();
     group.give_turn();
@@ -169,6 +185,57 @@ fn a_world_is_driven_to_its_end(rt: HostRuntime) -> Result<(), Fail> {
             pending: 0
         }
     );
+    Ok(())
+}
+
+// Takes so many turns more, each for the event that is due first.
+fn take_turns<W: World + Drop>(group: &mut Group<W>, count: u32) -> Result<(), Fail>
+where
+    W::Question: Drop,
+    requires idle { group.old.cx.log.state.held ≡ false }
+    requires sound { Holds W.sound group.old }
+    ensures idle { OnOk result (group.new.cx.log.state.held ≡ false) }
+    ensures sound { OnOk result (Holds W.sound group.new) }
+{
+    'turns: for _ in 0..count {
+        let Some((due, number)) = group.next_due() else {
+            return Err("an event is pending")?;
+        };
+        let Ok(()) = group.begin_alone(u64::MAX, due) else {
+            return Err("there is a turn")?;
+        };
+        let Handling::Handled { .. } = group.handle(number, due)? else {
+            return Err("it is handled")?;
+        };
+        group.give_turn();
+    }
+    Ok(())
+}
+
+// A journal is folded by the turn after which it would store 4,096 entries. Each turn makes four of them.
+#[test]
+fn a_long_journal_is_folded(rt: HostRuntime) -> Result<(), Fail> {
+    let mut group = Stepper::<Countdown>::group(rt.alloc(), 1_500)?;
+    group.begin_turn(1, 0, 0)?;
+    group.start();
+    group.give_turn();
+    take_turns(&mut group, 1_022)?;
+    assert_eq!(rt; group.journal().entries().len(), 4_092);
+    take_turns(&mut group, 1)?;
+    assert_eq!(rt; group.journal().turns(), 1_024);
+    assert!(rt; group.journal().entries().is_empty());
+    assert_eq!(rt;
+        group.journal().counts(),
+        Counts {
+            set: 1_024,
+            handled: 1_023,
+            cancelled: 0,
+            dropped: 0,
+            pending: 1
+        }
+    );
+    take_turns(&mut group, 1)?;
+    assert_eq!(rt; group.journal().entries().len(), 4);
     Ok(())
 }
 
@@ -202,7 +269,7 @@ fn a_group_asks_another(rt: HostRuntime) -> Result<(), Fail> {
 #[test]
 fn turns_at_a_slot_are_recorded(rt: HostRuntime) -> Result<(), Fail> {
     let mut groups = Vec::new(rt.alloc());
-    groups.push(Steps::<Countdown>::group(rt.alloc(), 3)?)?;
+    groups.push(Stepper::<Countdown>::group(rt.alloc(), 3)?)?;
     let mut tags = Vec::new(rt.alloc());
     tags.push(3)?;
     let Ok((slots, mut seat)) = Slots::make(rt.alloc(), groups, tags) else {

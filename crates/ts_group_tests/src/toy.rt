@@ -7,11 +7,11 @@ ghost use Rattle.ts_group.specs.Answers.{Holds};
 ghost use Rattle.ts_group.specs.Context.{IsFresh};
 ghost use Rattle.ts_group_tests.specs.declared.peer.TheConstants.{MOST_TODO};
 ghost use Rattle.ts_group_tests.specs.declared.toy.TheConstants.{MOST_WORK};
-ghost use Rattle.ts_group_tests.specs.Toys.{StepsCounted, BurstCounted, HeirCounted, steps_little, steps_end, burst_little, burst_ends, heir_little, heir_ends};
+ghost use Rattle.ts_group_tests.specs.Toys.{StepperCounted, BurstCounted, HeirCounted, stepper_little, stepper_end, burst_little, burst_ends, heir_little, heir_ends};
 
 use crate::burst::Burst;
 use crate::heir::Heir;
-use crate::steps::{Countdown, Steps};
+use crate::steps::{Countdown, Stepper};
 use std::alloc::Global;
 use ts_group::{Group, World};
 use ts_link::NoMemory;
@@ -73,10 +73,10 @@ pub trait Toy: World {
         counted todo w };
 }
 
-impl Toy for Steps<Countdown> {
+impl Toy for Stepper<Countdown> {
     ghost tagged = { λ todo t. t ≡ todo };
 
-    ghost counted = { StepsCounted };
+    ghost counted = { StepperCounted };
 
     ghost whole = { λ w. w.whole };
 
@@ -86,11 +86,11 @@ impl Toy for Steps<Countdown> {
         todo
     }
 
-    fn group(alloc: Global, todo: u32) -> Result<Group<Steps<Countdown>>, NoMemory> {
+    fn group(alloc: Global, todo: u32) -> Result<Group<Stepper<Countdown>>, NoMemory> {
         let part = Countdown {
             left: u64::from(todo),
         };
-        let world = Steps {
+        let world = Stepper {
             part,
             done: 0,
             whole: false,
@@ -112,9 +112,9 @@ impl Toy for Steps<Countdown> {
 
     ghost fair = { λ w v k q r answers. tt };
 
-    ghost little = { λ t w s roles fits sound. steps_little w s sound };
+    ghost little = { λ t w s roles fits sound. stepper_little w s sound };
 
-    ghost ends = { λ todo t w s roles is fits sound none. steps_end todo t w s is fits sound none };
+    ghost ends = { λ todo t w s roles is fits sound none. stepper_end todo t w s is fits sound none };
 }
 
 impl Toy for Burst {

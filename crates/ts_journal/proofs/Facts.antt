@@ -8,7 +8,7 @@ use Rattle.ts_journal.specs.declared.entry.Entry.{Entry}
 use Rattle.ts_journal.specs.declared.entry.Entry.TheVariants.{Took, Gave, Made, Set, Handled, Cancelled, Dropped, Destroyed}
 use Rattle.ts_journal.specs.State.{State, pending_at, without, generation_at, without_index, IsLive}
 use Rattle.ts_journal.specs.Machine.{Allowed, after, IsLawful, replay, IsValid, Rises, AreNewest}
-use Rattle.ts_journal.specs.Laws.{numbers_set, RiseFrom, NumbersRise, times_set, times_closed, times_pending, Closes, ClosedOnce, NotDestroyed, NotMade, Stands, HandledLive, IsInner, Began, Ends, StandInTurns, CountsBalance, NeverAgain}
+use Rattle.ts_journal.specs.Laws.{numbers_set, RiseFrom, NumbersRise, times_set, times_closed, times_pending, Closes, ClosedOnce, NotDestroyed, NotMade, Stands, HandledLive, IsInner, Began, Ends, StandInTurns, CountsBalance, NeverAgain, ClosedForGood}
 use Rattle.ts_journal.proofs.Cases.{split, by_eq}
 use Rattle.ts_journal.proofs.Keys.{generation_push, generation_other, generation_with, generation_without, generation_gone, newest_of_live, some_inj, key_by}
 use Rattle.ts_journal.proofs.Events.{is_known, rises_bound}
@@ -132,6 +132,21 @@ at_most_one base es n v h =
       | inl below ↦ let z = q.below below in omega arith
       | inr above ↦ let z = p.above above in omega arith
     ]
+
+-- a number that is not pending is so no time
+pending_none : (n : ℕ) (ps : List Pending) → pending_at n ps ≡ None → times_pending n ps ≡ 0
+pending_none n [] h = refl
+pending_none n (q ∷ ps) h =
+    split (eqb q.number n) (λ t. cond t (Some q) (pending_at n ps) ≡ None → cond t 1 0 + times_pending n ps ≡
+    0)
+    (λ e x. absurd (cc)) (λ e x. let r = pending_none n ps x in omega arith) h
+
+pub closed_for_good_lem : ClosedForGood
+closed_for_good_lem base es n v h below none =
+    let sum = adds_up base es n h in
+    let pending = pending_none n base.pending none in
+    let set = (set_once base es n h).below below in
+    omega arith
 
 -- an entry that closes a number finds it pending
 closes_pending : (s : State) (e : Entry) (n : ℕ) → Allowed s e → Closes n e → 1 ≤ times_pending n s.pending

@@ -8,12 +8,13 @@ use Rattle.ts_journal.specs.declared.entry.Entry.{Entry}
 use Rattle.ts_journal.specs.declared.entry.Entry.TheVariants.{Took, Gave, Made, Set, Handled, Cancelled, Dropped, Destroyed}
 use Rattle.ts_journal.specs.State.{State, pending_at, without, generation_at, with_key, IsLive}
 use Rattle.ts_journal.specs.Machine.{Allowed, after, replay, IsValid}
-use Rattle.ts_journal.specs.Log.{Log, Extends}
+use Rattle.ts_journal.specs.Log.{Log, Extends, GoesOn}
 use Rattle.ts_journal.specs.Later.{given_at, IsLater, NeverBack, Follows}
 use Rattle.ts_journal.proofs.Cases.{split, by_eq}
 use Rattle.ts_journal.proofs.Keys.{generation_with}
 use Rattle.ts_journal.proofs.Validity.{valid_after}
 use Rattle.ts_journal.proofs.Facts.{made_before, live_before}
+use Rattle.ts_journal.proofs.Folding.{goes_on_extends}
 
 pub later_refl : (s : State) → IsLater s s
 later_refl s = record {
@@ -165,12 +166,20 @@ follows_trans t u v a b = elim a [
   ]
 ]
 
--- a journal that goes on follows
+-- a journal that goes on follows, and one that is folded then
+pub goes_on_later : (old new : Log) (added : List Entry) → IsValid old.state → GoesOn old new added
+    → IsLater old.state new.state
+goes_on_later old new added v h = subst (IsLater old.state) (sym h.state)
+    (never_back_lem old.state added v h.lawful)
+
+pub goes_on_follows : (old new : Log) (added : List Entry) → IsValid old.state → GoesOn old new added
+    → Follows (new.base.made, new.state) (old.base.made, old.state)
+goes_on_follows old new added v h = inr (h.made, goes_on_later old new added v h)
+
 pub extends_later : (old new : Log) (added : List Entry) → IsValid old.state → Extends old new added
     → IsLater old.state new.state
-extends_later old new added v e = subst (IsLater old.state) (sym e.state)
-    (never_back_lem old.state added v e.lawful)
+extends_later old new added v e = goes_on_later old new added v (goes_on_extends old new added e)
 
 pub extends_follows : (old new : Log) (added : List Entry) → IsValid old.state → Extends old new added
-    → Follows (new.base.turns, new.state) (old.base.turns, old.state)
-extends_follows old new added v e = inr (ap (λ s. s.turns) e.base, extends_later old new added v e)
+    → Follows (new.base.made, new.state) (old.base.made, old.state)
+extends_follows old new added v e = goes_on_follows old new added v (goes_on_extends old new added e)

@@ -10,3 +10,4 @@ pub mod Validity
 pub mod Facts
 pub mod Later
 pub mod Extends
+pub mod Folding

@@ -1,5 +1,5 @@
 -- A loop that looks for an event or a key: what it passed is none of the front.
-use Rattle.std.proofs.Common.{◌≡◌, ℕ, ◌+◌, ◌<◌, suc, List, ◌∷◌, ◌++◌, Some, length, get_or, take, drop, eqb, sym, ap, ◌∙◌, arith}
+use Rattle.std.proofs.Common.{◌≡◌, ℕ, ◌+◌, ◌<◌, suc, List, ◌∷◌, ◌++◌, Option, Some, length, get_or, take, drop, eqb, refl, sym, ap, ◌∙◌, arith}
 use Rattle.std.proofs.lemmas.List.{drop_more}
 use Rattle.std.proofs.lemmas.Bool.{cond-true, cond-false, eq-eqb, ne_eqb}
 use Rattle.std.specs.List.{remove, slice_get}
@@ -9,6 +9,10 @@ use Rattle.std.proofs.lemmas.List.{set_split}
 use Rattle.ts_lists.proofs.Places.{take_more_before}
 use Rattle.ts_journal.specs.declared.entry.ContKey.{ContKey}
 use Rattle.ts_journal.specs.declared.entry.Pending.{Pending}
+use Rattle.ts_journal.specs.declared.entry.Mark.{Mark}
+use Rattle.ts_journal.specs.declared.entry.Entry.{Entry}
+use Rattle.ts_journal.specs.declared.entry.Entry.TheVariants.{Took, Gave, Made, Set, Handled, Cancelled, Dropped, Destroyed}
+use Rattle.ts_journal.specs.Log.{mark_after}
 use Rattle.ts_journal.specs.State.{pending_at, without, generation_at, without_index, with_key}
 
 pub pending_past : (n : ℕ) (ps : List Pending) (i : ℕ) (d : Pending) → i < length ps
@@ -99,6 +103,29 @@ put_here key ks i d h e =
     let j : suc i ≡ i + 1 = omega arith in
     set_split ks i key h ∙ ap (λ m. take i ks ++ (key ∷ drop m ks)) j ∙ sym (ap (λ zs. take i ks ++ zs) here)
 
+-- the turn that was taken last, past one entry more
+pub mark_took : (last : Option Mark) (es : List Entry) (i : ℕ) (d : Entry) (turn seat : ℕ) → i < length es
+    → get_or es i d ≡ Took turn seat
+    → mark_after (Some (record { turn = turn; seat = seat })) (drop (i + 1) es) ≡ mark_after last (drop i es)
+mark_took last es i d turn seat h e =
+    sym (ap (mark_after last) (drop_more es i d h ∙ ap (λ x. x ∷ drop (i + 1) es) e))
+
+pub mark_other : (last : Option Mark) (es : List Entry) (i : ℕ) (d : Entry) → i < length es
+    → ((turn seat : ℕ) → get_or es i d ≡ Took turn seat → ⊥)
+    → mark_after last (drop (i + 1) es) ≡ mark_after last (drop i es)
+mark_other last es i d h ne = sym (ap (mark_after last) (drop_more es i d h) ∙ passes (get_or es i d) ne)
+  where
+    passes : (e : Entry) → ((turn seat : ℕ) → e ≡ Took turn seat → ⊥)
+        → mark_after last (e ∷ drop (i + 1) es) ≡ mark_after last (drop (i + 1) es)
+    passes (Took turn seat) none = absurd (none turn seat refl)
+    passes (Gave turn) none = refl
+    passes (Made key) none = refl
+    passes (Set number key event due series period) none = refl
+    passes (Handled number moment) none = refl
+    passes (Cancelled number) none = refl
+    passes (Dropped number) none = refl
+    passes (Destroyed key) none = refl
+
 -- the loop that looks for the event of a number, and the one that looks for the key of an index
 pub ruleset find_pending_steps = (pending_past, item_here, without_past, without_here)
 
@@ -107,3 +134,5 @@ pub ruleset find_index_steps = (index_past, index_here, put_past, put_here)
 pub ruleset event_at_steps = (pending_past, pending_here)
 
 pub ruleset generation_of_steps = (generation_past, generation_here)
+
+pub ruleset last_mark_steps = (mark_took, mark_other)

@@ -23,7 +23,7 @@ pub record IsLater (old new : State) : Type 0 where
   pub dead : (key : ContKey) → key.generation ≤ given_at key.index old → (IsLive old.live key → ⊥)
       → IsLive new.live key → ⊥
 
--- Seventh: no journal goes back.
+-- Eighth: no journal goes back.
 abbrev pub NeverBack : Type 0
 NeverBack = (base : State) (es : List Entry) → IsValid base → IsLawful base es → IsLater base (replay base es)
 

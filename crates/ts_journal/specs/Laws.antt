@@ -1,5 +1,5 @@
 -- What holds of every lawful journal, counted from its base and said of the list of its entries.
-use Rattle.std.specs.Prelude.{⊤, ◌≡◌, ℕ, ◌+◌, ◌≤◌, ◌==◌, ◌⊎◌, true, false, List, [], ◌∷◌, ◌++◌, Some, if◌then◌else◌}
+use Rattle.std.specs.Prelude.{⊤, ◌≡◌, ℕ, ◌+◌, ◌<◌, ◌≤◌, ◌==◌, ◌⊎◌, true, false, List, [], ◌∷◌, ◌++◌, Some, None, if◌then◌else◌}
 use Rattle.std.specs.Option.{MatchOption}
 use Rattle.ts_journal.specs.declared.entry.ContKey.{ContKey}
 use Rattle.ts_journal.specs.declared.entry.Pending.{Pending}
@@ -138,3 +138,9 @@ abbrev pub NeverAgain : Type 0
 NeverAgain = (base : State) (before rest : List Entry) (key : ContKey) →
     IsValid base → IsLawful base (before ++ Destroyed key ∷ rest) →
     (IsLive (replay base (before ++ Destroyed key ∷ rest)).live key → ⊥) × NotMade key rest
+
+-- Seventh: a number below the base's next that is not pending there is never closed again; so it can never be
+-- handled, however little of what came before the base is kept.
+abbrev pub ClosedForGood : Type 0
+ClosedForGood = (base : State) (es : List Entry) (n : ℕ) → IsValid base → IsLawful base es →
+    n < base.next → pending_at n base.pending ≡ None → times_closed n es ≡ 0

@@ -1,5 +1,5 @@
 -- The state that tables keep, what can be added to them without memory, and where an event or a key stands.
-use Rattle.std.specs.Prelude.{◌≡◌, ℕ, ◌-◌, ◌<◌, List, length, min, remove, slice_get, slice_set}
+use Rattle.std.specs.Prelude.{◌≡◌, ℕ, ◌-◌, ◌<◌, ◌≤◌, List, length, min, remove, slice_get, slice_set}
 use Rattle.std.specs.Vec.{vec_capacity}
 use Rattle.ts_journal.specs.declared.tables.Tables.{Tables}
 use Rattle.ts_journal.specs.declared.entry.ContKey.{ContKey}
@@ -7,6 +7,7 @@ use Rattle.ts_journal.specs.declared.entry.Pending.{Pending}
 use Rattle.ts_journal.specs.declared.entry.Entry.{Entry}
 use Rattle.ts_journal.specs.declared.entry.Entry.TheVariants.{Set}
 use Rattle.ts_journal.specs.State.{State, pending_at, without, without_index, with_key}
+use Rattle.ts_journal.specs.Log.{set_places, key_places}
 
 abbrev pub state_in : Tables → State
 state_in t = record {
@@ -31,6 +32,32 @@ set_room_of t = vec_capacity t.pending - length t.pending.items
 abbrev pub key_room_of : Tables → ℕ
 key_room_of t =
     min (vec_capacity t.live - length t.live.items) (vec_capacity t.newest - length t.newest.items)
+
+-- the lists of these tables fit into the memory that a base has for its own
+pub record CanHold (base tables : Tables) : Type 0 where
+  pub pending : length tables.pending.items ≤ vec_capacity base.pending
+  pub live : length tables.live.items ≤ vec_capacity base.live
+  pub newest : length tables.newest.items ≤ vec_capacity base.newest
+
+-- so many pending events can be added to these tables, which a base can hold then too
+abbrev pub set_room_over : Tables → Tables → ℕ
+set_room_over base t = min (set_room_of t) (vec_capacity base.pending - length t.pending.items)
+
+-- so many keys can be added to these tables, which a base can hold then too
+abbrev pub key_room_over : Tables → Tables → ℕ
+key_room_over base t = min (key_room_of t)
+    (min (vec_capacity base.live - length t.live.items) (vec_capacity base.newest - length t.newest.items))
+
+-- tables over a base have the places that an entry takes
+pub record HasPlaces (base tables : Tables) (entry : Entry) : Type 0 where
+  pub sets : set_places entry ≤ set_room_over base tables
+  pub keys : key_places entry ≤ key_room_over base tables
+
+-- the lists of these tables have as much memory as they had, or more
+pub record KeepsMemory (old new : Tables) : Type 0 where
+  pub pending : vec_capacity old.pending ≤ vec_capacity new.pending
+  pub live : vec_capacity old.live ≤ vec_capacity new.live
+  pub newest : vec_capacity old.newest ≤ vec_capacity new.newest
 
 -- the pending event of a number stands at this place
 pub record IsPlaceOf (number : ℕ) (ps : List Pending) (i : ℕ) : Type 0 where

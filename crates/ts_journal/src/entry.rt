@@ -113,6 +113,13 @@ pub struct Latest {
     pub period: u64,
 }
 
+/// A turn that was taken, with the number of the seat that took it.
+#[derive(Clone, Copy)]
+pub struct Mark {
+    pub turn: u64,
+    pub seat: u64,
+}
+
 /// How many events were set, and what became of them.
 #[derive(Clone, Copy, Debug, PartialEq, Eq)]
 pub struct Counts {

@@ -3,19 +3,35 @@
 ghost use Rattle.std.specs.Prelude.{◌≡◌, ◌+◌, ◌<◌, ◌≤◌, [], ◌∷◌, IfSome, IfOk, OnOk, IsTrue, ◌↔◌};
 ghost use Rattle.ts_journal.specs.State.{fresh, fresh_with, pending_at, generation_at, IsLive};
 ghost use Rattle.ts_journal.specs.Machine.{Allowed, after, IsLawful, IsValid, IsKnown, replay};
-ghost use Rattle.ts_journal.specs.Log.{Extends, IsSameLog, HasRoom, HasRoomFor, KeepsRoom, set_places, key_places};
+ghost use Rattle.ts_journal.specs.Log.{Extends, Folds, IsSameLog, HasRoom, HasRoomFor, KeepsRoom, new_base, mark_after, set_places, key_places};
 ghost use Rattle.ts_journal.specs.Tally.{counts_of};
 
-use crate::entry::{ContKey, Counts, Entry, MOST_KEYS, NoMemory, Pending};
-use crate::tables::{Tables, event_at, generation_of};
+use crate::entry::{ContKey, Counts, Entry, MOST_KEYS, Mark, NoMemory, Pending};
+use crate::tables::{Tables, apply_over, event_at, fold_into, generation_of, reserve_over};
 use std::alloc::Global;
 use std::marker::Model;
 
-/// The journal of a mutex group: where it began, what happened since, and where that leads. It takes memory
-/// only in `make`, `with_key` and `reserve`.
+// The turn that was taken last, by these entries or before them.
+#[tactic(auto, using(crate::proofs::Scans::last_mark_steps))]
+fn last_mark(before: Option<Mark>, entries: &[Entry]) -> Option<Mark>
+    ensures { result ≡ mark_after before entries.now }
+{
+    let mut last = before;
+    for entry in entries {
+        if let Entry::Took { turn, seat } = *entry {
+            last = Some(Mark { turn, seat });
+        }
+    }
+    last
+}
+
+/// The journal of a mutex group: where its entries begin, what happened since, and where that leads. It takes
+/// memory only in `make`, `with_key` and `reserve`.
 #[derive(Drop)]
 pub struct Journal {
     base: Tables,
+    made: u64,
+    mark: Option<Mark>,
     entries: Vec<Entry>,
     tables: Tables,
 }
@@ -28,29 +44,32 @@ impl Model for Journal {
     ghost Value = { Log };
 
     ghost use Rattle.ts_journal.specs.Machine.{IsReached};
-    ghost use Rattle.ts_journal.specs.Tables.{state_in, set_room_of, key_room_of};
+    ghost use Rattle.ts_journal.specs.Tables.{CanHold, state_in, set_room_over, key_room_over};
 
     ghost view = { λ j. record {
-      base = state_in j.base;
+      base = record { state = state_in j.base; made = j.made; mark = j.mark };
       entries = j.entries.items;
       state = state_in j.tables;
       room = vec_capacity j.entries - length j.entries.items;
-      set_room = set_room_of j.tables;
-      key_room = key_room_of j.tables;
+      set_room = set_room_over j.base j.tables;
+      key_room = key_room_over j.base j.tables;
     } };
 
-    ghost invariant = { λ j. IsReached (state_in j.base) j.entries.items (state_in j.tables) };
+    ghost invariant = { λ j. IsReached (state_in j.base) j.entries.items (state_in j.tables)
+        × CanHold j.base j.tables };
 }
 
 impl Journal {
     /// The journal of a group that has made so many turns elsewhere, and nothing else.
     #[tactic(auto, using(crate::proofs::Validity::reached_fresh))]
     pub fn make(alloc: Global, turns: u64) -> Result<Journal, NoMemory>
-        ensures base { IfOk result (λ j. (j.base ≡ fresh turns) × (j.state ≡ fresh turns)) }
+        ensures base { IfOk result (λ j. (j.base ≡ new_base (fresh turns)) × (j.state ≡ fresh turns)) }
         ensures entries { IfOk result (λ j. j.entries ≡ []) }
     {
         Ok(Journal {
             base: Tables::make(alloc, turns),
+            made: turns,
+            mark: None,
             entries: Vec::new(alloc),
             tables: Tables::make(alloc, turns),
         })
@@ -60,25 +79,28 @@ impl Journal {
     #[tactic(auto, using(crate::proofs::Validity::reached_fresh_with))]
     pub fn with_key(alloc: Global, turns: u64, key: ContKey) -> Result<Journal, NoMemory>
         requires { key.index < MOST_KEYS }
-        ensures base { IfOk result (λ j. (j.base ≡ fresh_with turns key) × (j.state ≡ fresh_with turns key)) }
+        ensures base { IfOk result (λ j. j.base ≡ new_base (fresh_with turns key)) }
+        ensures state { IfOk result (λ j. j.state ≡ fresh_with turns key) }
         ensures entries { IfOk result (λ j. j.entries ≡ []) }
     {
         Ok(Journal {
             base: Tables::with_key(alloc, turns, key)?,
+            made: turns,
+            mark: None,
             entries: Vec::new(alloc),
             tables: Tables::with_key(alloc, turns, key)?,
         })
     }
 
-    /// Makes room for so many entries, whatever they are. At want of memory the room may have grown, and
-    /// nothing else changed.
+    /// Makes room for so many entries, whatever they are, in the journal and in its base. At want of memory
+    /// the room may have grown, and nothing else changed.
     pub fn reserve(&mut self, entries: usize) -> Result<(), NoMemory>
         ensures same { IsSameLog self.old self.new }
         ensures ok { OnOk result (HasRoomFor self.new entries) }
         ensures kept { KeepsRoom self.old self.new }
     {
         self.entries.reserve(entries)?;
-        self.tables.reserve(entries)
+        reserve_over(&mut self.base, &mut self.tables, entries)
     }
 
     /// Adds an entry that the state allows, in room that was reserved.
@@ -92,14 +114,26 @@ impl Journal {
         ensures key_room { self.old.key_room ≤ self.new.key_room + key_places entry }
     {
         self.entries.push_reserved(entry);
-        self.tables.apply(entry);
+        apply_over(&self.base, &mut self.tables, entry);
     }
 
-    /// The entries, in order. Each was allowed where it stands.
+    /// Moves all entries into the base, which keeps what is pending, the series of the event handled last,
+    /// what is live, the counts, and the turn that was taken last. It takes no memory, since `reserve` makes
+    /// the room for it.
+    pub fn fold(&mut self)
+        ensures folds { Folds self.old self.new }
+        ensures room { KeepsRoom self.old self.new }
+    {
+        self.mark = last_mark(self.mark, &self.entries);
+        fold_into(&mut self.base, &self.tables);
+        self.entries.clear();
+    }
+
+    /// The entries since the base, in order. Each was allowed where it stands.
     pub fn entries(&self) -> &[Entry]
         ensures entries { result.now ≡ self.now.entries }
-        ensures lawful { IsLawful self.now.base result.now }
-        ensures state { self.now.state ≡ replay self.now.base result.now }
+        ensures lawful { IsLawful self.now.base.state result.now }
+        ensures state { self.now.state ≡ replay self.now.base.state result.now }
     {
         &self.entries
     }
@@ -188,7 +222,7 @@ impl Journal {
 
     /// What holds of the state of every journal.
     pub fn known(&self)
-        ensures valid_base { IsValid self.now.base }
+        ensures valid_base { IsValid self.now.base.state }
         ensures valid { IsValid self.now.state }
     {
         let _ = &self.tables;

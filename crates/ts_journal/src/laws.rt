@@ -1,7 +1,7 @@
 //! What holds of every lawful journal: each function is a law, which its contract says, and there is nothing
 //! to do.
 
-ghost use Rattle.ts_journal.specs.Laws.{StepIsAllowed, RunIsLawful, NumbersRise, ClosedOnce, HandledLive, StandInTurns, CountsBalance, NeverAgain};
+ghost use Rattle.ts_journal.specs.Laws.{StepIsAllowed, RunIsLawful, NumbersRise, ClosedOnce, HandledLive, StandInTurns, CountsBalance, NeverAgain, ClosedForGood};
 ghost use Rattle.ts_journal.specs.Later.{NeverBack, IsOrder};
 
 /// The machine's function gives the new state exactly where the entry is allowed, and nothing elsewhere.
@@ -42,6 +42,11 @@ pub fn counts_balance()
 /// A key that was destroyed is never live again.
 pub fn never_again()
     ensures { NeverAgain }
+{}
+
+/// What was set before the base and is not pending there is never handled, cancelled or dropped again.
+pub fn closed_for_good()
+    ensures { ClosedForGood }
 {}
 
 /// A journal never goes back: a number that was closed stays so, a key that was given away and is not live

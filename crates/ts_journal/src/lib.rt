@@ -9,10 +9,12 @@ mod laws;
 mod slotted;
 mod tables;
 
-pub use entry::{ContKey, Counts, Entry, Event, GREATEST, Latest, MOST_KEYS, NoMemory, Pending};
+pub use entry::{
+    ContKey, Counts, Entry, Event, GREATEST, Latest, MOST_KEYS, Mark, NoMemory, Pending,
+};
 pub use journal::Journal;
 pub use laws::{
-    closed_once, counts_balance, handled_live, later_is_order, never_again, never_back,
-    numbers_rise, run_is_lawful, stand_in_turns, step_is_allowed,
+    closed_for_good, closed_once, counts_balance, handled_live, later_is_order, never_again,
+    never_back, numbers_rise, run_is_lawful, stand_in_turns, step_is_allowed,
 };
 pub use slotted::Slotted;

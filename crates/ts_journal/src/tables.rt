@@ -4,7 +4,8 @@ ghost use Rattle.std.specs.Prelude.{◌≡◌, ℕ, ◌+◌, ◌<◌, ◌≤◌,
 ghost use Rattle.ts_journal.specs.State.{State, fresh, fresh_with, pending_at, without, generation_at, without_index, with_key, latest_of};
 ghost use Rattle.ts_journal.specs.Machine.{Allowed, after, IsValid};
 ghost use Rattle.ts_journal.specs.Log.{set_places, key_places};
-ghost use Rattle.ts_journal.specs.Tables.{state_in, set_room_of, key_room_of, IsPlaceOf, IsPlaceAt, entry_of};
+ghost use Rattle.ts_journal.specs.Tables.{CanHold, HasPlaces, KeepsMemory, state_in, set_room_of, key_room_of, set_room_over, key_room_over, IsPlaceOf, IsPlaceAt, entry_of};
+ghost use Rattle.std.specs.Vec.{vec_capacity};
 ghost use Rattle.ts_journal.specs.declared.entry.ContKey.{ContKey as Key};
 ghost use Rattle.ts_journal.specs.declared.entry.Entry.TheVariants as Entry;
 
@@ -95,6 +96,83 @@ fn latest_of(event: Pending) -> Latest
     }
 }
 
+// Makes room in a list until it has the memory that another has.
+fn reserve_like<T: Copy>(list: &mut Vec<T>, other: &Vec<T>) -> Result<(), NoMemory>
+    ensures items { list.new.items ≡ list.old.items }
+    ensures ok { OnOk result (vec_capacity other.now ≤ vec_capacity list.new) }
+    ensures kept { vec_capacity list.old ≤ vec_capacity list.new }
+{
+    let lacking = other.capacity().saturating_sub(list.len());
+    list.reserve(lacking)?;
+    Ok(())
+}
+
+// Makes a list the same as another, for which it has the memory.
+fn refill<T: Copy>(list: &mut Vec<T>, from: &[T])
+    requires { length from.now ≤ vec_capacity list.old }
+    ensures items { list.new.items ≡ from.now }
+    ensures kept { vec_capacity list.old ≤ vec_capacity list.new }
+{
+    list.clear();
+    match list.extend_from_slice(from) {
+        Ok(()) => {}
+        Err(_) => unreachable!(),
+    }
+}
+
+/// Makes room in tables for so many events and keys, and in a base that can hold them then.
+pub fn reserve_over(base: &mut Tables, tables: &mut Tables, places: usize) -> Result<(), NoMemory>
+    requires hold { CanHold base.old tables.old }
+    ensures base { state_in base.new ≡ state_in base.old }
+    ensures tables { state_in tables.new ≡ state_in tables.old }
+    ensures ok { OnOk result ((places ≤ set_room_over base.new tables.new)
+        × (places ≤ key_room_over base.new tables.new)) }
+    ensures set_room { set_room_over base.old tables.old ≤ set_room_over base.new tables.new }
+    ensures key_room { key_room_over base.old tables.old ≤ key_room_over base.new tables.new }
+    ensures hold { CanHold base.new tables.new }
+{
+    tables.reserve(places)?;
+    reserve_like(&mut base.pending, &tables.pending)?;
+    reserve_like(&mut base.live, &tables.live)?;
+    reserve_like(&mut base.newest, &tables.newest)
+}
+
+/// Does what an entry says, in tables that a base can hold then too.
+#[tactic(auto, using(crate::proofs::Folding::apply_steps))]
+pub fn apply_over(base: &Tables, tables: &mut Tables, entry: Entry)
+    requires valid { IsValid (state_in tables.old) }
+    requires allowed { Allowed (state_in tables.old) entry }
+    requires places { HasPlaces base.now tables.old entry }
+    requires hold { CanHold base.now tables.old }
+    ensures state { state_in tables.new ≡ after (state_in tables.old) entry }
+    ensures set_room { set_room_over base.now tables.old
+        ≤ set_room_over base.now tables.new + set_places entry }
+    ensures key_room { key_room_over base.now tables.old
+        ≤ key_room_over base.now tables.new + key_places entry }
+    ensures hold { CanHold base.now tables.new }
+{
+    tables.apply(entry);
+}
+
+/// Makes a base the same as tables that it can hold.
+pub fn fold_into(base: &mut Tables, tables: &Tables)
+    requires hold { CanHold base.old tables.now }
+    ensures state { state_in base.new ≡ state_in tables.now }
+    ensures memory { KeepsMemory base.old base.new }
+{
+    refill(&mut base.pending, &tables.pending);
+    refill(&mut base.live, &tables.live);
+    refill(&mut base.newest, &tables.newest);
+    base.turns = tables.turns;
+    base.held = tables.held;
+    base.next = tables.next;
+    base.latest = tables.latest;
+    base.set_count = tables.set_count;
+    base.handled_count = tables.handled_count;
+    base.cancelled_count = tables.cancelled_count;
+    base.dropped_count = tables.dropped_count;
+}
+
 impl Tables {
     /// The tables of a group that has made so many turns elsewhere, and nothing else.
     pub fn make(alloc: Global, turns: u64) -> Tables
@@ -138,8 +216,8 @@ impl Tables {
         })
     }
 
-    /// Makes room for so many events and keys.
-    pub fn reserve(&mut self, places: usize) -> Result<(), NoMemory>
+    // Makes room for so many events and keys.
+    fn reserve(&mut self, places: usize) -> Result<(), NoMemory>
         ensures same { state_in self.new ≡ state_in self.old }
         ensures ok { OnOk result ((places ≤ set_room_of self.new) × (places ≤ key_room_of self.new)) }
         ensures set_room { set_room_of self.old ≤ set_room_of self.new }
@@ -151,8 +229,8 @@ impl Tables {
         Ok(())
     }
 
-    /// Does what an entry says.
-    pub fn apply(&mut self, entry: Entry)
+    // Does what an entry says.
+    fn apply(&mut self, entry: Entry)
         requires valid { IsValid (state_in self.old) }
         requires allowed { Allowed (state_in self.old) entry }
         requires sets { set_places entry ≤ set_room_of self.old }

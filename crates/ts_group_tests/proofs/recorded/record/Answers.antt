@@ -2,7 +2,7 @@
 use Rattle.std.proofs.Common.{[], ◌∷◌, inr, ap, sym, ◌∙◌, subst, arith}
 use Rattle.ts_journal.specs.declared.entry.Entry.TheVariants.{Took, Gave}
 use Rattle.ts_journal.specs.Later.{IsLater}
-use Rattle.ts_journal.proofs.Later.{later_refl, follows_trans, extends_follows}
+use Rattle.ts_journal.proofs.Later.{later_refl, follows_trans, extends_follows, goes_on_follows}
 use Rattle.ts_group_tests.proofs.recorded.record.Goals as goal
 
 pub returns-in_err-begin_turn-clause-stands : goal.returns-in_err-begin_turn-clause-stands
@@ -12,7 +12,7 @@ returns-in_err-begin_turn-clause-stands g c =
     record {
       follows = record {
         journal = inr (
-          ap (λ s. s.turns) same.log.base,
+          ap (λ b. b.made) same.log.base,
           subst (IsLater old.cx.log.state) (sym same.log.state)
               (later_refl old.cx.log.state),
         );
@@ -28,9 +28,9 @@ returns-clause-stands g c =
     let new = c.give_turn.new.self in
     record {
       follows = record {
-        journal = follows_trans (new.cx.log.base.turns, new.cx.log.state)
-            (mid.cx.log.base.turns, mid.cx.log.state) (old.cx.log.base.turns, old.cx.log.state)
-            (extends_follows mid.cx.log new.cx.log (Gave mid.cx.log.state.turns ∷ []) c.known-2.ensures.valid
+        journal = follows_trans (new.cx.log.base.made, new.cx.log.state)
+            (mid.cx.log.base.made, mid.cx.log.state) (old.cx.log.base.made, old.cx.log.state)
+            (goes_on_follows mid.cx.log new.cx.log (Gave mid.cx.log.state.turns ∷ []) c.known-2.ensures.valid
             c.give_turn.ensures.gives.by)
             (extends_follows old.cx.log mid.cx.log (Took c.args.turn c.args.seat ∷ []) c.known.ensures.valid
             c.in_ok-begin_turn.ensures.begins.by);

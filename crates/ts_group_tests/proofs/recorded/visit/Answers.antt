@@ -3,10 +3,10 @@ use Rattle.std.proofs.Common.{◌≡◌, ℕ, inl, inr, [], ◌∷◌, sym, ap, 
 use Rattle.std.specs.List.{Contains}
 use Rattle.ts_journal.specs.declared.entry.Entry.TheVariants.{Took, Gave}
 use Rattle.ts_group.specs.Context.{IsSame}
-use Rattle.ts_group.specs.Slot.{marks_of}
+use Rattle.ts_group.specs.Slot.{marks_of, marks_in}
 use Rattle.ts_group_tests.specs.Recorded.{Records}
 use Rattle.ts_group_tests.proofs.recorded.visit.Goals as goal
-use Rattle.ts_group.proofs.Slots.{marks_more, one_mark, either_way}
+use Rattle.ts_group.proofs.Slots.{marks_go, marks_same, one_mark, either_way}
 
 pub leave-requires-clause-marks : goal.leave-requires-clause-marks
 leave-requires-clause-marks g c mark there =
@@ -14,16 +14,16 @@ leave-requires-clause-marks g c mark there =
     let new = c.record-recorded.new.group in
     let turn = c.number-number.result in
     let seat = c.number-owner.result in
-    let found : marks_of old.cx.log.entries ≡ marks_of c.in_ok-turn.turn.found.value.cx.log.entries =
-    ap (λ v. marks_of v.cx.log.entries) (c.value-group.ensures.value ∙ sym c.in_ok-turn.ensures.turn.1) in
+    let found : marks_in old.cx.log ≡ marks_in c.in_ok-turn.turn.found.value.cx.log =
+    ap (λ v. marks_in v.cx.log) (c.value-group.ensures.value ∙ sym c.in_ok-turn.ensures.turn.1) in
     let own : ◌≡◌ {A = ℕ × ℕ} (turn, seat) (c.in_ok-turn.turn.number, c.try_enter.new.seat.number) = λ i.
     (c.number-number.ensures i, c.number-owner.ensures i) in
     ⊎_elim
     (λ (r : Records old new turn seat). ⊎_elim
-    (λ (was : Contains (marks_of old.cx.log.entries) mark). inl (subst (λ ms. Contains ms mark) found was))
+    (λ (was : Contains (marks_in old.cx.log) mark). inl (subst (λ ms. Contains ms mark) found was))
     (λ (one : Contains (marks_of (Took turn seat ∷ Gave turn ∷ [])) mark). inr
     (one_mark (turn, seat) mark one ∙ own))
-    (marks_more old.cx.log new.cx.log (Took turn seat ∷ Gave turn ∷ []) mark r.by there))
+    (marks_go old.cx.log new.cx.log (Took turn seat ∷ Gave turn ∷ []) mark r.by there))
     (λ (same : IsSame old.cx new.cx × (new.world ≡ old.world)).
-    inl (subst (λ ms. Contains ms mark) (ap (λ es. marks_of es) same.0.log.entries ∙ found) there))
+    inl (subst (λ ms. Contains ms mark) (marks_same old.cx.log new.cx.log same.0.log ∙ found) there))
     (either_way c.record-recorded.result _ _ c.record-recorded.ensures.ok c.record-recorded.ensures.err)

@@ -11,7 +11,9 @@ invariant_of-self c =
     let same : c.args.self.now.state ≡ state_in c.self.inside.tables = ap (λ v. v.state) (sym c.self.view_is)
     in
     let allowed : Allowed (state_in c.self.inside.tables) c.args.entry = subst
-    (λ (s : State). Allowed s c.args.entry) same c.requires.allowed in
-    reached_push (state_in c.self.inside.base) c.self.inside.entries.items c.push_reserved.new.self.items
-    c.args.entry (state_in c.self.inside.tables) (state_in c.apply.new.self) c.self.invariant allowed
-    c.push_reserved.ensures.items c.apply.ensures.state
+    (λ (s : State). Allowed s c.args.entry) same c.requires.allowed in (
+      reached_push (state_in c.self.inside.base) c.self.inside.entries.items c.push_reserved.new.self.items
+          c.args.entry (state_in c.self.inside.tables) (state_in c.apply_over.new.tables) c.self.invariant.0
+          allowed c.push_reserved.ensures.items c.apply_over.ensures.state,
+      c.apply_over.ensures.hold,
+    )
