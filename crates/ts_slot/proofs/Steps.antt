@@ -18,7 +18,7 @@ use Rattle.ts_slot.specs.Lists.{total, Each, rest, same, traced, entries, withou
 use Rattle.ts_slot.specs.Limits.{last_turn}
 use Rattle.ts_slot.specs.Views.{owns, won, missed, freed, worn_out, Coherent}
 use Rattle.ts_slot.specs.Rule.{free, taken, worn, AtHome, ViewOk}
-use Rattle.ts_slot.specs.Steps.{Mine, Entered, Returned, WornOut, Looked}
+use Rattle.ts_slot.specs.Steps.{Mine, Entered, Returned, WornOut, Learned}
 use Rattle.ts_slot.specs.Words.{FitsTag}
 use Rattle.ts_lists.proofs.Cases.{by_eq}
 use Rattle.ts_slot.proofs.Lists.{same_one, total_set, total_at, total_two, each_map, each_without, traced_without, traced_others}
@@ -464,7 +464,7 @@ module _ {X G T : Type 0} (fits : G → X → Type 0) (stamp : X → ℕ) (trace
       )) known) known
 
   pub looks : (slots id k : ℕ) (me : Mine X G T)
-      → Allows R slots id me k (λ n. n) (Looked follows (step slots k 0 0 none) me)
+      → Allows R slots id me k (λ n. n) (Learned follows (step slots k 0 0 none) me)
   looks slots id k me s K deep at small =
       let words : s.words ≡ set s.words k (slice_index s.words k) = sym (set-get_or s.words k 0) in
       let views : s.views ≡ set s.views id me.0 = sym (set_again s.views id me.0 at) in (

@@ -10,10 +10,10 @@ use Rattle.ts_slot.specs.Limits.{whole_share, last_turn, worn_word}
 use Rattle.ts_slot.specs.Views.{owns, nobody}
 
 -- a group is free after n turns, or held for its turn n + 1, or worn
-pub data Phase : Type 0 where
-  free : ℕ → Phase
-  taken : ℕ → Phase
-  worn : Phase
+pub data Occupancy : Type 0 where
+  free : ℕ → Occupancy
+  taken : ℕ → Occupancy
+  worn : Occupancy
 
 -- What a seat knows is so. The word of a group that it holds is odd, and says the turn; what it missed was
 -- odd and is no more than the word; a turn that it saw finished is, and its trace is that of the history. One
@@ -39,16 +39,16 @@ module _ {X G T : Type 0}
   -- A group, by its word, by how many views hold it and how many turns of it they count, by its slot, and by
   -- the trace that stood after each of its turns
   module _ (k word held turns : ℕ) (home : maybe.Option (maybe.Option (Option X))) (history : ℕ → T) where
-    abbrev pub InPhase : Phase → Type 0
-    InPhase (free n) =
+    abbrev pub HasOccupancy : Occupancy → Type 0
+    HasOccupancy (free n) =
         (word ≡ 2 * n) × (held ≡ 0) × (turns ≡ n) × (x : X) × AtHome k n home x × (trace x ≡ history n)
-    InPhase (taken n) = (word ≡ 2 * n + 1) × (held ≡ 1) × (turns ≡ n + 1)
-    InPhase worn =
+    HasOccupancy (taken n) = (word ≡ 2 * n + 1) × (held ≡ 1) × (turns ≡ n + 1)
+    HasOccupancy worn =
         (word ≡ worn_word) × (held ≡ 0) × (turns ≡ last_turn) × (x : X) × AtHome k last_turn home x
         × follows (trace x) (history (last_turn - 1))
 
     abbrev pub GroupOk : Type 0
-    GroupOk = (p : Phase) × InPhase p
+    GroupOk = (o : Occupancy) × HasOccupancy o
 
   -- The rule. There is a history: the trace that stood after each turn of each group. Each group is free,
   -- held or worn; what each seat knows is so; the trace after a later turn follows that after an earlier

@@ -46,8 +46,8 @@ module _ {X G T : Type 0} where
   WornOut st m n m' = m' ≡ (worn_out st.word m.0, below m.1)
 
   -- nothing changes, and what is known is coherent
-  abbrev pub Looked : (T → T → Type 0) → Step (Option X) → Mine X G T → ℕ → Mine X G T → Type 0
-  Looked follows st m n m' = (m' ≡ m) × Coherent follows m.0.known
+  abbrev pub Learned : (T → T → Type 0) → Step (Option X) → Mine X G T → ℕ → Mine X G T → Type 0
+  Learned follows st m n m' = (m' ≡ m) × Coherent follows m.0.known
 
   -- a group that the seat holds comes before its others
   abbrev pub Fetched : Step (Option X) → Mine X G T → ℕ → Mine X G T → Type 0

@@ -1,7 +1,7 @@
 //! The rule of the slots' table, and the kinds of step that keep it.
 
 ghost use Rattle.ts_slot.specs.Rule.{Kept};
-ghost use Rattle.ts_slot.specs.Steps.{Entered, Returned, WornOut, Fetched, Looked};
+ghost use Rattle.ts_slot.specs.Steps.{Entered, Returned, WornOut, Fetched, Learned};
 ghost use Rattle.ts_slot.specs.Views.{opener, nobody, firsts, left_half, right_half, joined};
 
 use crate::view::SeatView;
@@ -61,12 +61,12 @@ impl<V: Slotted> Play<Option<V>, SeatView<V::Tag, V::Trace>> for Fetch<V> {
 }
 
 /// A seat learns that what it knows is coherent: a load, which changes nothing.
-pub struct Look<V> {
+pub struct Learn<V> {
     of: PhantomData<V>,
 }
 
-impl<V: Slotted> Play<Option<V>, SeatView<V::Tag, V::Trace>> for Look<V> {
-    ghost then = { Looked V.follows };
+impl<V: Slotted> Play<Option<V>, SeatView<V::Tag, V::Trace>> for Learn<V> {
+    ghost then = { Learned V.follows };
 }
 
 /// A seat is split.

@@ -5,7 +5,7 @@ ghost use Rattle.std.specs.Mem.Slots.{IsFull, slots_items, slots_len};
 ghost use Rattle.ts_slot.specs.Limits.{most_groups};
 ghost use Rattle.ts_slot.specs.Lists.{HasValue};
 
-use crate::rule::{Cut, Enter, Fetch, Free, Glue, Key, Law, Look, Wear};
+use crate::rule::{Cut, Enter, Fetch, Free, Glue, Key, Law, Learn, Wear};
 use crate::seat::{Left, Missed, Seat, Turn};
 use crate::view::SeatView;
 use atomic_table::{Closed, Table};
@@ -222,6 +222,6 @@ impl<V: Slotted> Slots<V> {
     {
         let shared = &self.table.shared;
         shared.join_seat::<Glue>(&mut into.place, from.place);
-        shared.load::<Look<V>>(&mut into.place, 0);
+        shared.load::<Learn<V>>(&mut into.place, 0);
     }
 }

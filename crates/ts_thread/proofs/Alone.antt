@@ -4,8 +4,8 @@ use Rattle.ts_journal.specs.declared.entry.Entry.{Entry}
 use Rattle.ts_journal.specs.declared.entry.Entry.TheVariants.{Took, Gave, Handled}
 use Rattle.ts_journal.specs.State.{State}
 use Rattle.ts_journal.specs.Machine.{replay}
-use Rattle.ts_journal.specs.Log.{Log, Extends, IsSameLog}
-use Rattle.ts_journal.proofs.Extends.{extends_none, extends_trans}
+use Rattle.ts_journal.specs.Log.{Log, Extends, GoesOn, IsSameLog}
+use Rattle.ts_journal.proofs.Folding.{goes_on_extends, goes_on_same, goes_on_trans}
 use Rattle.ts_journal.proofs.Lawful.{replay-append}
 use Rattle.ts_group.specs.Context.{Context}
 use Rattle.ts_group.specs.Entries.{asking_entries, renewal}
@@ -41,7 +41,7 @@ module _ (Lack : Type 0) where
     turns = 0;
     few = omega arith;
     added = [];
-    by = extends_none a b same;
+    by = goes_on_same a b same;
     are =
         refl;
   }
@@ -52,7 +52,7 @@ module _ (Lack : Type 0) where
     turns = p.turns + q.turns;
     few = let x = p.few in let y = q.few in omega arith;
     added = p.added ++ q.added;
-    by = extends_trans p.by q.by;
+    by = goes_on_trans p.by q.by;
     are = turns_append p.turns q.turns a.state p.added q.added p.are
         (subst (λ (s : State). AreOwnTurns Lack q.turns s q.added) p.by.state q.are);
   }
@@ -63,8 +63,9 @@ module _ (Lack : Type 0) where
       → ((Lack × (did ≡ [])) ⊎ HandlesDue a.log.state did ⊎ HandlesQuestion a.log.state did) → GivesTurn c d
       → TakesTurns Lack a.log d.log 1
   one_turn a b c d turn moment did is begins by turns first gives =
-      let all : Extends a.log d.log ((Took turn 0 ∷ []) ++ (did ++ (Gave c.log.state.turns ∷ []))) =
-      extends_trans begins.by (extends_trans by gives.by) in
+      let all : GoesOn a.log d.log ((Took turn 0 ∷ []) ++ (did ++ (Gave c.log.state.turns ∷ []))) =
+      goes_on_trans (goes_on_extends a.log b.log (Took turn 0 ∷ []) begins.by)
+      (goes_on_trans (goes_on_extends b.log c.log did by) gives.by) in
       let turn_b : b.log.state.turns ≡ turn = ap (λ (s : State). s.turns) begins.state in
       let gave : c.log.state.turns ≡ a.log.state.turns + 1 = turns ∙ turn_b ∙ is in
       let whole : List Entry = Took turn 0 ∷ (did ++ (Gave c.log.state.turns ∷ [])) in

@@ -62,7 +62,7 @@ module _ {W Q R T U : Type 0} (Fits : T → W → Type 0) (Sound : W → State �
   later_follows : (x g h : Group W Q R T U) → IsLaterGroup g h → KeepsTags Fits g.world h.world
       → FollowsGroup Fits g x → FollowsGroup Fits h x
   later_follows x g h later tags = follows_on Fits h g x (record {
-    journal = inr (ap (λ (s : State). s.turns) later.base, later.later);
+    journal = inr (later.made, later.later);
     tags = λ same. tags;
   })
 

@@ -1,7 +1,5 @@
 -- What a turn leaves of a desk.
-use Rattle.std.proofs.Common.{◌≡◌, ℕ, ◌+◌, ◌<◌, ◌≤◌, inl, inr, Bool, true, [], ◌∷◌, ◌++◌, length, sym, ap, ◌∙◌, subst, ⊎_elim, arith}
-use Rattle.std.specs.List.{Contains}
-use Rattle.std.proofs.lemmas.List.Elements.{Contains-append_cases}
+use Rattle.std.proofs.Common.{◌≡◌, ℕ, ◌+◌, ◌<◌, ◌≤◌, inl, inr, Bool, true, [], ◌∷◌, ◌++◌, length, sym, ap, ◌∙◌, subst, arith}
 use Rattle.ts_journal.specs.declared.slotted.Slotted.{Ghosts}
 use Rattle.ts_journal.specs.declared.entry.Pending.{Pending}
 use Rattle.ts_journal.specs.State.{State, pending_at}
@@ -10,8 +8,8 @@ use Rattle.ts_journal.proofs.Later.{later_trans}
 use Rattle.ts_group.specs.declared.group.Group.{Group}
 use Rattle.ts_group.specs.Context.{IsSame}
 use Rattle.ts_group.specs.Answers.{KeepsTags}
-use Rattle.ts_group.specs.Slot.{marks_of}
-use Rattle.ts_group.proofs.Slots.{one_mark}
+use Rattle.ts_group.specs.Slot.{marks_in}
+use Rattle.ts_group.proofs.Slots.{marks_same}
 use Rattle.ts_queue.specs.declared.queue.EventQueue.{EventQueue}
 use Rattle.ts_queue.specs.declared.ticket.Token.{Token}
 use Rattle.ts_queue.specs.declared.queue.QueuePass.{QueuePass}
@@ -27,7 +25,7 @@ use Rattle.ts_thread.specs.News.{OnlyNews, HasTold, HasPlace, HasTicket, is_betw
 use Rattle.ts_thread.specs.Seats.{KnowsTurn}
 use Rattle.ts_thread.specs.Tokens.{AllName}
 use Rattle.ts_thread.specs.Turning.{EndsTurn}
-use Rattle.ts_thread.proofs.Groups.{keeps_same}
+use Rattle.ts_thread.proofs.Groups.{keeps_same, marks_given}
 use Rattle.ts_thread.proofs.Tokens.{one_if, All-added}
 
 -- a desk stays one of its tables when a token of one of the groups is added to its wheel
@@ -47,9 +45,9 @@ pub record IsGivable {W Q R T U : Type 0} (Fits : T → W → Type 0) (found now
     (turn seat : ℕ) : Type 0 where
   pub held : now.cx.log.state.held ≡ true
   pub number : now.cx.log.state.turns ≡ turn
-  pub marks : marks_of now.cx.log.entries ≡ marks_of found.cx.log.entries ++ (turn, seat) ∷ []
+  pub marks : marks_in now.cx.log ≡ marks_in found.cx.log ++ (turn, seat) ∷ []
   pub later : IsLater found.cx.log.state now.cx.log.state
-  pub base : now.cx.log.base ≡ found.cx.log.base
+  pub made : now.cx.log.base.made ≡ found.cx.log.base.made
   pub rose : found.cx.news_from ≤ now.cx.news_from
   pub tags : KeepsTags Fits found.world now.world
 
@@ -59,14 +57,9 @@ module _ {W Q R T U : Type 0} where
   given_held Fits found a b turn seat has gives = record {
     free = gives.free;
     stamp = inr (gives.number ∙ has.number);
-    marks = λ mark there.
-        let was : Contains (marks_of found.cx.log.entries ++ (turn, seat) ∷ []) mark = subst
-        (λ ms. Contains ms mark) (gives.marks ∙ has.marks) there in
-        ⊎_elim (λ (old : Contains (marks_of found.cx.log.entries) mark). inl old)
-        (λ (one : Contains ((turn, seat) ∷ []) mark). inr (one_mark (turn, seat) mark one))
-        (Contains-append_cases (marks_of found.cx.log.entries) ((turn, seat) ∷ []) mark was);
+    marks = marks_given found a b turn seat has.marks gives;
     later = later_trans found.cx.log.state a.cx.log.state b.cx.log.state has.later gives.later;
-    base = gives.base ∙ has.base;
+    made = gives.made ∙ has.made;
     rose = let a = has.rose in let b = gives.news_from in omega arith;
     tags = λ tag fit. keeps_same Fits a.world b.world gives.same.world tag (has.tags tag fit);
   }
@@ -77,9 +70,9 @@ module _ {W Q R T U : Type 0} where
   told_has Fits found a b turn seat has only = let same = only.cx in record {
     held = ap (λ (s : State). s.held) same.log.state ∙ has.held;
     number = ap (λ (s : State). s.turns) same.log.state ∙ has.number;
-    marks = ap marks_of same.log.entries ∙ has.marks;
+    marks = marks_same a.cx.log b.cx.log same.log ∙ has.marks;
     later = subst (λ (s : State). IsLater found.cx.log.state s) (sym same.log.state) has.later;
-    base = same.log.base ∙ has.base;
+    made = ap (λ b. b.made) same.log.base ∙ has.made;
     rose = let e = has.news_from in let rose = only.rose in omega arith;
     tags = λ tag fit. keeps_same Fits a.world b.world only.world tag (has.tags tag fit);
   }
@@ -114,7 +107,8 @@ module _ {W Q R T U : Type 0} where
             pending = pending ∙ ap (λ (s : State). s.pending) state;
             handled = gives.same.handled ∙ ap (λ (s : State). s.handled_count) state;
             later = subst (λ (s : State). IsLater s c.cx.log.state) state gives.later;
-            base = gives.base ∙ same.log.base ∙ ap (λ (x : Group W Q R T U). x.cx.log.base) e;
+            made = gives.made ∙ ap (λ b. b.made) same.log.base
+                ∙ ap (λ (x : Group W Q R T U). x.cx.log.base.made) e;
           };
           told = record {
             none = λ n p there. let low = told'.none n p (sym (ap (pending_at n) pending) ∙ there) in omega

@@ -1,5 +1,5 @@
 -- Which entries a handler's turn adds: none records a turn, and the first says what was handled.
-use Rattle.std.proofs.Common.{◌≡◌, ℕ, zero, suc, ◌≤◌, cond, List, [], ◌∷◌, ◌++◌, Some, None, refl, sym, ap, subst, ◌∙◌, arith}
+use Rattle.std.proofs.Common.{◌≡◌, ℕ, zero, suc, ◌≤◌, cond, List, [], ◌∷◌, ◌++◌, Some, None, refl, sym, ap, subst, ◌∙◌, append_assoc, arith}
 use Rattle.std.specs.Prelude.{nat_lt, ◌&&◌}
 use Rattle.ts_journal.specs.declared.entry.TheConstants.{GREATEST}
 use Rattle.ts_journal.specs.declared.entry.Pending.{Pending}
@@ -8,6 +8,7 @@ use Rattle.ts_journal.specs.declared.entry.Entry.{Entry}
 use Rattle.ts_journal.specs.declared.entry.Entry.TheVariants.{Took, Gave, Made, Set, Handled, Cancelled, Dropped, Destroyed}
 use Rattle.ts_journal.specs.State.{State, pending_at, without}
 use Rattle.ts_journal.specs.Machine.{after, replay, IsValid, IsLawful}
+use Rattle.ts_journal.specs.Log.{Log, Extends}
 use Rattle.ts_journal.specs.Later.{IsLater}
 use Rattle.ts_journal.proofs.Cases.{split}
 use Rattle.ts_journal.proofs.Events.{is_known}
@@ -17,7 +18,7 @@ use Rattle.ts_journal.proofs.Validity.{valid_after}
 use Rattle.ts_group.specs.Context.{moment_after}
 use Rattle.ts_group.specs.Entries.{AllOwn, renewal}
 use Rattle.ts_group.specs.Calls.{IsRun, RunsFrom}
-use Rattle.ts_group.specs.Slot.{marks_of}
+use Rattle.ts_group.specs.Slot.{marks_of, mark_of, marks_in}
 use Rattle.ts_group.proofs.Slots.{marks_append}
 
 pub own_marks : (es : List Entry) → AllOwn es → marks_of es ≡ []
@@ -58,6 +59,22 @@ no_marks es fs none = marks_append es fs ∙ ap (λ ms. marks_of es ++ ms) none 
     nil : (ms : List (ℕ × ℕ)) → ms ++ [] ≡ ms
     nil [] = refl
     nil (m ∷ ms) = ap (λ ns. m ∷ ns) (nil ms)
+
+-- a journal that goes on by such entries records the same turns
+pub marks_stay : (a b : Log) (es : List Entry) → Extends a b es → marks_of es ≡ []
+    → marks_in b ≡ marks_in a
+marks_stay a b es by none =
+    ap (λ m. mark_of m ++ marks_of b.entries) (ap (λ x. x.mark) by.base)
+    ∙ ap (λ ms. mark_of a.base.mark ++ ms) (ap marks_of by.entries ∙ no_marks a.entries es none)
+
+-- and by a turn that is taken, one more
+pub marks_took : (a b : Log) (turn seat : ℕ) → Extends a b (Took turn seat ∷ [])
+    → marks_in b ≡ marks_in a ++ (turn, seat) ∷ []
+marks_took a b turn seat by =
+    ap (λ m. mark_of m ++ marks_of b.entries) (ap (λ x. x.mark) by.base)
+    ∙ ap (λ ms. mark_of a.base.mark ++ ms)
+    (ap marks_of by.entries ∙ marks_append a.entries (Took turn seat ∷ []))
+    ∙ sym (append_assoc (mark_of a.base.mark) (marks_of a.entries) ((turn, seat) ∷ []))
 
 run_marks : (s : State) (moment number : ℕ) (asked : List ℕ) (run : List Entry)
     → IsRun s moment number asked run → marks_of run ≡ []

@@ -16,12 +16,12 @@ module _ {W Q R T U : Type 0} (Fits : T → W → Type 0) (is_first : T → Bool
     (Sound : W → State → List Named → Type 0) (tags : List T) (k : ℕ) (given now : Group W Q R T U) (t : T)
     (there : get_elem? tags k ≡ some t) (first : is_first t ≡ true)
     (was : WasStarted Fits (IsFirst is_first tags) Begun Sound k given now) where
-  started_first : was.started.cx.log.base.turns ≡ 0
+  started_first : was.started.cx.log.base.made ≡ 0
   started_first =
       let own = was.first in
       let same : is_first own.0 ≡ true = subst (λ (u : T). is_first u ≡ true)
       (place_once tags k t own.0 there own.1) first in
-      subst (λ b. OnTrue b (was.started.cx.log.base.turns ≡ 0)) same own.2
+      subst (λ b. OnTrue b (was.started.cx.log.base.made ≡ 0)) same own.2
 
   -- its world was started from one that fits each tag that the given one fitted
   pub found_fits : KeepsTags Fits given.world was.found.world
@@ -39,5 +39,5 @@ module _ {W Q R T U : Type 0} (Fits : T → W → Type 0) (is_first : T → Bool
       was.goes.tags (omega arith) tag (found_fits tag fit)
 
   -- and at the end it fits each tag that it fitted when it was started
-  pub end_fits : now.cx.log.base.turns ≡ 0 → KeepsTags Fits was.started.world now.world
+  pub end_fits : now.cx.log.base.made ≡ 0 → KeepsTags Fits was.started.world now.world
   end_fits none tag = let zero = started_first in was.follows.tags (omega arith) tag

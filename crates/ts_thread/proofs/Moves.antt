@@ -104,7 +104,7 @@ gave_later s t turn is = subst (IsLater s) (sym is) (record {
 
 pub later_same : {W Q R T U : Type 0} (g h : Group W Q R T U) → IsSame g.cx h.cx → IsLaterGroup g h
 later_same g h same = record {
-  base = same.log.base;
+  made = ap (λ b. b.made) same.log.base;
   later = subst (IsLater g.cx.log.state)
       (sym same.log.state) (later_refl g.cx.log.state);
 }
@@ -112,7 +112,7 @@ later_same g h same = record {
 later_on : {W Q R T U : Type 0} (g h k : Group W Q R T U) → IsLaterGroup g h → IsLaterGroup h k
     → IsLaterGroup g k
 later_on g h k a b = record {
-  base = b.base ∙ a.base;
+  made = b.made ∙ a.made;
   later = later_trans g.cx.log.state h.cx.log.state
       k.cx.log.state a.later b.later;
 }
@@ -122,7 +122,7 @@ over_turn : {W Q R T U : Type 0} (g0 g1 g2 g3 : Group W Q R T U) (turn moment : 
     → g0.cx.log.state.turns < turn → BeginsTurn g0.cx g1.cx turn 0 moment → g2.cx.log.base ≡ g1.cx.log.base
     → IsLater g1.cx.log.state g2.cx.log.state → GivesTurn g2.cx g3.cx → IsLaterGroup g0 g3
 over_turn g0 g1 g2 g3 turn moment more begins base on gives = record {
-  base = gives.by.base ∙ base ∙ begins.by.base;
+  made = gives.by.made ∙ ap (λ b. b.made) (base ∙ begins.by.base);
   later = later_trans g0.cx.log.state g1.cx.log.state g3.cx.log.state
       (took_later g0.cx.log.state g1.cx.log.state turn 0 more begins.state)
       (later_trans g1.cx.log.state g2.cx.log.state g3.cx.log.state on
@@ -141,7 +141,7 @@ module _ {W Q R T U : Type 0} (Fits : T → W → Type 0) (Sound : W → State �
     falls = λ well. falls_refl (Left g.world g.cx.log.state);
     nothing = λ e. e;
     takes = takes_none (IsErrOf r unfinished.NoMemory) g.cx.log g.cx.log n (same_refl g.cx.log);
-    later = record { base = refl; later = later_refl g.cx.log.state };
+    later = record { made = refl; later = later_refl g.cx.log.state };
   }
 
   pub goes_trans : {r : Result (Unit {0}) Unfinished} (g h k : Group W Q R T U) (m n : ℕ)
@@ -198,8 +198,8 @@ module _ {W Q R T U : Type 0} (Fits : T → W → Type 0) (Sound : W → State �
                     (MOST_IN_TURN * g3.cx.log.state.turns + 1)) (sym other) now,
                 subst (λ (b : Bool). OnTrue b (g3.cx.log.state.pending ≡ [])) (sym other) tt,
               ),
-              subst (λ (s : State). OnTrue (isf t) (s.turns ≡ 0))
-                  (sym (gives.by.base ∙ works.by.base ∙ begins.by.base)) f.3,
+              subst (λ (made : ℕ). OnTrue (isf t) (made ≡ 0))
+                  (sym (gives.by.made ∙ ap (λ b. b.made) (works.by.base ∙ begins.by.base))) f.3,
             );
         tags = tags;
         took = omega arith;
@@ -231,8 +231,8 @@ module _ {W Q R T U : Type 0} (Fits : T → W → Type 0) (Sound : W → State �
               fit,
               sound,
               rest,
-              subst (λ (s : State). OnTrue (isf t) (s.turns ≡ 0))
-                  (sym cx.log.base) f.3,
+              subst (λ (made : ℕ). OnTrue (isf t) (made ≡ 0))
+                  (sym (ap (λ b. b.made) cx.log.base)) f.3,
             );
         tags = λ t f. subst (λ (w : W). Fits t w) (sym world) f;
         took = let e = ap (λ (s : State). s.turns) state in omega arith;
@@ -367,8 +367,8 @@ module _ {W Q R T U : Type 0} (Fits : T → W → Type 0) (Sound : W → State �
                 g3.cx.log.state.turns f.2.1 (omega arith) (omega arith),
             none_on (oa t) g0.cx.log.state g3.cx.log.state f.2.2 nothing,
           ),
-          subst (λ (s : State). OnTrue (isf t) (s.turns ≡ 0)) (sym (gives.by.base ∙ by.base ∙ begins.by.base))
-              f.3,
+          subst (λ (made : ℕ). OnTrue (isf t) (made ≡ 0))
+              (sym (gives.by.made ∙ ap (λ b. b.made) (by.base ∙ begins.by.base))) f.3,
         );
         tags = tags;
         took = omega arith;

@@ -1,9 +1,9 @@
 -- Rows of groups.
-use Rattle.std.proofs.Common.{◌≡◌, ℕ, zero, suc, ◌+◌, List, [], ◌∷◌, ◌++◌, ◌-◌, ◌<◌, ◌≤◌, length, Bool, true, Option, Some, None, Result, Ok, Err, IsSome, unwrap_or, OnOk, All, take, length-append, append_assoc, refl, ap, sym, ◌∙◌, subst, arith}
-use Rattle.std.specs.List.{slice_get, sum_by, Any}
+use Rattle.std.proofs.Common.{◌≡◌, ℕ, zero, suc, ◌+◌, List, [], ◌∷◌, ◌++◌, ◌<◌, ◌≤◌, length, Bool, true, Option, Some, None, Result, Ok, Err, IsSome, unwrap_or, OnOk, All, take, refl, ap, sym, ◌∙◌, subst, arith}
+use Rattle.std.specs.List.{slice_get, sum_by}
 use Rattle.std.specs.Result.{IsErrAnd, IsErrOf}
 use Rattle.std.proofs.lemmas.List.Sums.{sum_by-cons, sum_by-append}
-use Rattle.std.proofs.lemmas.List.Elements.{All-nil, All-cons, All-head, All-tail, All-append, Contains-append_left, Contains-append_right}
+use Rattle.std.proofs.lemmas.List.Elements.{All-nil, All-cons, All-head, All-tail, All-append}
 use Rattle.ts_lists.proofs.Fronts.{take_one_more}
 use Rattle.ts_lists.proofs.Elements.{all_front, all_middle, all_rest}
 use Rattle.ts_lists.proofs.Gets.{get_middle}

@@ -1,9 +1,8 @@
 -- Groups that are started, from their first turns to the end.
 use Rattle.std.proofs.Common.{◌≡◌, ℕ, zero, suc, ◌+◌, ◌-◌, ◌*◌, ◌<◌, ◌≤◌, inl, inr, Bool, true, false, cond, eqb, List, [], ◌∷◌, Some, None, length, All, refl, sym, ap, ◌∙◌, subst, ⊎_elim, arith}
 use Rattle.std.specs.Bool.{OnTrue}
-use Rattle.std.specs.List.{AllZip}
 use Rattle.std.proofs.lemmas.Bool.{cases_lt}
-use Rattle.std.proofs.lemmas.List.Elements.{All-nil, All-cons, All-head, All-tail}
+use Rattle.std.proofs.lemmas.List.Elements.{All-head, All-tail}
 use Rattle.ts_lists.proofs.Places.{place_once}
 use mathlib.Core.Option.{some}
 use lib.ListN.{get_elem?}
@@ -87,9 +86,9 @@ module _ {W Q R T U : Type 0} (Fits : T → W → Type 0) (Sound : W → State �
       let number : g2.cx.log.state.turns ≡ turn = starts.goes.turn.turns ∙ ap
       (λ (x : Group W Q R T U). x.cx.log.state.turns) is1 ∙ has.number in
       let few : g2.cx.log.state.next ≤ MOST_IN_TURN * g2.cx.log.state.turns + 1 = omega arith in
-      let base : g2.cx.log.base ≡ v.cx.log.base = starts.goes.base ∙ ap
-      (λ (x : Group W Q R T U). x.cx.log.base) is1 ∙ has.base ∙ ap
-      (λ (x : Group W Q R T U). x.cx.log.base) is in (
+      let made : g2.cx.log.base.made ≡ v.cx.log.base.made = starts.goes.made ∙ ap
+      (λ (x : Group W Q R T U). x.cx.log.base.made) is1 ∙ has.made ∙ ap
+      (λ (x : Group W Q R T U). x.cx.log.base.made) is in (
         own,
         ap (get_elem? tags) group ∙ fit.1,
         starts.goes.tags own fits1,
@@ -99,7 +98,7 @@ module _ {W Q R T U : Type 0} (Fits : T → W → Type 0) (Sound : W → State �
               (MOST_IN_TURN * g2.cx.log.state.turns + 1)) (sym free) few,
           subst (λ (b : Bool). OnTrue b (g2.cx.log.state.pending ≡ [])) (sym free) tt,
         ),
-        subst (λ (s : State). OnTrue (is_first own) (s.turns ≡ 0)) (sym base) fit.2.3,
+        subst (λ (n : ℕ). OnTrue (is_first own) (n ≡ 0)) (sym made) fit.2.3,
       )
 
   -- a group was entered, started and left
@@ -108,19 +107,20 @@ module _ {W Q R T U : Type 0} (Fits : T → W → Type 0) (Sound : W → State �
       → FitsHere Fits Sound only_asked is_first tags k v → found ≡ v → g0 ≡ v
       → HasTurn Fits g0 g1 turn seat → BeginsSame g0 g1 → g1' ≡ g1 → StartsInTurn Fits Sound Begun g1' g2
       → v.cx.log.state.turns < turn → entered ≡ won k turn v before → Leaves entered new
-      → left.world ≡ g2.world → left.cx.log.base ≡ g2.cx.log.base → IsLater g2.cx.log.state left.cx.log.state
+      → left.world ≡ g2.world → left.cx.log.base.made ≡ g2.cx.log.base.made
+      → IsLater g2.cx.log.state left.cx.log.state
       → NoNews left.cx.news_from left.cx.log.state
       → ((n : ℕ) (p : Pending) → pending_at n left.cx.log.state.pending ≡ Some p → g2.cx.news_from ≤ n →
       HasToken k p)
       → KnowsTurn k turn left new.known
       → Starts Fits (IsFirst is_first tags) Begun Sound HasToken k turn found g2 left new.known
   starts_one HasToken k turn seat found v g0 g1 g1' g2 left old before entered new fit is_found is has same
-      is1 starts young wins leaves stays base later told tokens knows =
+      is1 starts young wins leaves stays made later told tokens knows =
       let world : g1'.world ≡ found.world = ap (λ (x : Group W Q R T U). x.world) is1 ∙ same.world ∙ ap
       (λ (x : Group W Q R T U). x.world) is ∙ ap (λ (x : Group W Q R T U). x.world) (sym is_found) in
-      let base0 : g2.cx.log.base ≡ v.cx.log.base = starts.goes.base ∙ ap
-      (λ (x : Group W Q R T U). x.cx.log.base) is1 ∙ has.base ∙ ap
-      (λ (x : Group W Q R T U). x.cx.log.base) is in
+      let made0 : g2.cx.log.base.made ≡ v.cx.log.base.made = starts.goes.made ∙ ap
+      (λ (x : Group W Q R T U). x.cx.log.base.made) is1 ∙ has.made ∙ ap
+      (λ (x : Group W Q R T U). x.cx.log.base.made) is in
       let taken : HasTurn Fits found g1' turn seat = subst
       (λ (x : Group W Q R T U). HasTurn Fits x g1' turn seat) (is ∙ sym is_found)
       (subst (λ (x : Group W Q R T U). HasTurn Fits g0 x turn seat) (sym is1) has) in
@@ -131,7 +131,7 @@ module _ {W Q R T U : Type 0} (Fits : T → W → Type 0) (Sound : W → State �
         first = (
           fit.0,
           fit.1,
-          subst (λ (s : State). OnTrue (is_first fit.0) (s.turns ≡ 0)) (sym base0)
+          subst (λ (n : ℕ). OnTrue (is_first fit.0) (n ≡ 0)) (sym made0)
               fit.2.3,
         );
         stood = subst (λ (x : Group W Q R T U). IsIn (k, turn - 1, x) new.known) (sym is_found)
@@ -142,7 +142,7 @@ module _ {W Q R T U : Type 0} (Fits : T → W → Type 0) (Sound : W → State �
         begun = subst (λ w. Begun w g2.world) world starts.begun;
         sound = starts.sound;
         world = stays;
-        base = base;
+        made = made;
         later = later;
         told = told;
         tokens = λ n p there news. tokens n p there (let same = gone.news_from in omega arith);
@@ -170,7 +170,7 @@ module _ {W T : Type 0} (Q R U : Type 0) (Fits : T → W → Type 0) (First : �
       begun = s.starts.begun;
       sound = s.starts.sound;
       world = s.starts.world;
-      base = s.starts.base;
+      made = s.starts.made;
       later = s.starts.later;
       told = s.starts.told;
       tokens = λ n p there news. stays p (s.starts.tokens n p there news);
@@ -264,7 +264,7 @@ was_started {W} {Q} {R} {T} {U} Fits First Begun Sound Has old known turns k giv
       begun = s.starts.begun;
       sound = s.starts.sound;
       follows = follows_on Fits now s.left s.started left.follows (record {
-        journal = inr (ap (λ (x : State). x.turns) s.starts.base, s.starts.later);
+        journal = inr (s.starts.made, s.starts.later);
         tags = λ same. keeps_same Fits s.started.world s.left.world s.starts.world;
       });
     }

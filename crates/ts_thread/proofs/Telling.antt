@@ -24,6 +24,7 @@ use Rattle.ts_slot.specs.Lists.{IsIn}
 use Rattle.ts_slot.specs.Words.{tags_of, IsSeatOf}
 use Rattle.ts_wheel.specs.Due.{added}
 use Rattle.ts_thread.specs.declared.desk.Desk.{Desk}
+use Rattle.ts_thread.specs.declared.desk.Telling.{Telling}
 use Rattle.ts_thread.specs.Desks.{IsDeskOf, SharesSame}
 use Rattle.ts_thread.specs.News.{in_wheel, in_tickets, HasTicket, is_between, places_of, HasPlace, KeepsPlaces, HasTold}
 use Rattle.ts_thread.specs.Tokens.{AllName, Places, SamePlaces}
@@ -112,7 +113,7 @@ module _ {X G T : Type 0} {d : Ghosts X G T} where
   keeps_refl : (desk : Desk X G T d) → KeepsPlaces desk desk
   keeps_refl desk = record { wheel = λ e h. h; put = λ t h. h; taken = refl }
 
-  keeps_place : (a b : Desk X G T d) (token : Token) (due moment : ℕ) → Places token due moment a b
+  keeps_place : {telling : Telling} (a b : Desk X G T d) (token : Token) (due moment : ℕ) → Places telling token due moment a b
       → KeepsPlaces a b
   keeps_place a b token due moment (inl puts) = record {
     wheel = λ e h. subst (IsIn e) (sym puts.wheel) h;
@@ -150,8 +151,8 @@ module _ {X G T : Type 0} {d : Ghosts X G T} where
     taken = ap (λ (v : PassView). v.taken) same.pass ∙ keeps.taken;
   }
 
-  has_place : (a b : Desk X G T d) (moment k : ℕ) (p : Pending)
-      → Places (record { group = k; number = p.number }) p.due moment a b → HasPlace moment k p b
+  has_place : {telling : Telling} (a b : Desk X G T d) (moment k : ℕ) (p : Pending)
+      → Places telling (record { group = k; number = p.number }) p.due moment a b → HasPlace moment k p b
   has_place a b moment k p (inl puts) =
       inr (
         puts.is_due,
@@ -172,8 +173,8 @@ module _ {X G T : Type 0} {d : Ghosts X G T} where
   place_stays a b moment k p keeps (inr put) = inr
       (put.0, keeps.put (record { group = k; number = p.number }) put.1)
 
-  count_place : (a b : Desk X G T d) (token : Token) (due moment : ℕ) (t : Token)
-      → Places token due moment a b → places_of t b ≡ places_of t a + one_if (is_same_token t token)
+  count_place : {telling : Telling} (a b : Desk X G T d) (token : Token) (due moment : ℕ) (t : Token)
+      → Places telling token due moment a b → places_of t b ≡ places_of t a + one_if (is_same_token t token)
   count_place a b token due moment t (inl puts) =
       let w : in_wheel t b.wheel ≡ in_wheel t a.wheel = ap (in_wheel t) puts.wheel in
       let p : in_tickets t (pass_view b.pass).put ≡ in_tickets t
@@ -186,15 +187,15 @@ module _ {X G T : Type 0} {d : Ghosts X G T} where
       (λ (v : PassView). in_tickets t v.put) adds.pass in
       let c = wheel-added t due token a.wheel in omega arith
 
-  share_place : (a b : Desk X G T d) (token : Token) (due moment : ℕ) → Places token due moment a b
+  share_place : {telling : Telling} (a b : Desk X G T d) (token : Token) (due moment : ℕ) → Places telling token due moment a b
       → SharesSame a b
   share_place a b token due moment (inl puts) = ap (λ (v : PassView). v.share) puts.pass
   share_place a b token due moment (inr adds) = ap (λ (v : PassView). v.share) adds.pass
 
   -- a desk stays one of its tables when a token of one of the groups gets a place
-  pub desk_place : (slots : Slots X G T) (queue : EventQueue) (a b : Desk X G T d) (token : Token)
+  pub desk_place : {telling : Telling} (slots : Slots X G T) (queue : EventQueue) (a b : Desk X G T d) (token : Token)
       (due moment : ℕ) → IsDeskOf slots queue a → token.group < length (tags_of slots)
-      → IsPassOf queue b.pass → b.seat ≡ a.seat → Places token due moment a b → IsDeskOf slots queue b
+      → IsPassOf queue b.pass → b.seat ≡ a.seat → Places telling token due moment a b → IsDeskOf slots queue b
   desk_place slots queue a b token due moment was names pass seat (inl puts) = record {
     seat = subst (IsSeatOf slots) (sym seat) was.seat;
     pass = pass;
@@ -255,17 +256,18 @@ module _ {X G T : Type 0} {d : Ghosts X G T} where
     telling_same first a b old desk was same world =
         (same_next first.cx a.cx b.cx was.same same, world ∙ was.world)
 
-    pub telling_goes_on : (first a b : Group W Q R T' U) (old desk next : Desk X G T d) (number due : ℕ)
+    pub telling_goes_on : {telling : Telling} (first a b : Group W Q R T' U) (old desk next : Desk X G T d)
+        (number due : ℕ)
         → IsTelling k moment first a old desk → IsFirstNews a.cx number due
         → b.cx.news_from ≡ number + 1 → IsSame (record a.cx { news_from = b.cx.news_from }) b.cx
         → b.world ≡ a.world → next.seat ≡ desk.seat → empties_of next.pass ≡ empties_of desk.pass
-        → Places (record { group = k; number = number }) due moment desk next
+        → Places telling (record { group = k; number = number }) due moment desk next
         → IsTelling k moment first b old next
-    telling_goes_on first a b old desk next number due was (p, news, number_is, due_is) from same world seat
-        empties places =
+    telling_goes_on {telling = telling} first a b old desk next number due was (p, news, number_is, due_is)
+        from same world seat empties places =
         let state : b.cx.log.state ≡ a.cx.log.state = same.log.state in
-        let places' : Places (record { group = k; number = p.number }) p.due moment desk next =
-        subst (λ (x : ℕ × ℕ). Places (record { group = k; number = x.0 }) x.1 moment desk next)
+        let places' : Places telling (record { group = k; number = p.number }) p.due moment desk next =
+        subst (λ (x : ℕ × ℕ). Places telling (record { group = k; number = x.0 }) x.1 moment desk next)
         (λ i. (sym number_is i, sym due_is i)) places in
         let keeps = keeps_place desk next (record { group = k; number = p.number }) p.due moment places' in
         let up = was.from in

@@ -1,6 +1,6 @@
 -- What a handler's work makes of its group, and what comes of it.
-use Rattle.std.proofs.Common.{◌≡◌, ℕ, zero, suc, ◌+◌, ◌*◌, ◌<◌, ◌≤◌, ◌⊎◌, inr, Bool, true, cond, List, [], ◌∷◌, Option, Some, length, sym, ap, ◌∙◌, subst, arith}
-use Rattle.std.specs.Prelude.{Result, Ok, Err, IfOk, IfErr, IsErr, slice_get}
+use Rattle.std.proofs.Common.{◌≡◌, ℕ, ◌+◌, ◌*◌, ◌<◌, ◌≤◌, ◌⊎◌, inr, Bool, true, cond, List, [], Option, Some, sym, ap, ◌∙◌, subst, arith}
+use Rattle.std.specs.Prelude.{Result, Ok, Err, IfOk, IfErr, IsErr}
 use Rattle.std.specs.List.{Contains}
 use Rattle.std.specs.Bool.{OnTrue}
 use Rattle.ts_lists.proofs.Places.{got_place, place_got}
@@ -26,7 +26,7 @@ use Rattle.ts_group.specs.Entries.{Grows, CanBeAsked}
 use Rattle.ts_group.specs.Calls.{Handles, TakesQuestion}
 use Rattle.ts_group.specs.Changes.{StaysInTurn}
 use Rattle.ts_group.specs.Answers.{Holds, KeepsTags, SetsAtMost, IsAnswer, IsSameGroup, HasReplied}
-use Rattle.ts_group.specs.Slot.{marks_of}
+use Rattle.ts_group.specs.Slot.{marks_in}
 use Rattle.ts_queue.specs.declared.ticket.Token.{Token}
 use Rattle.ts_slot.specs.Limits.{last_turn}
 use Rattle.ts_slot.specs.declared.view.SeatView.{SeatView}
@@ -40,7 +40,8 @@ use Rattle.ts_thread.specs.Held.{HasTurn, IsGivenBack, GoesInTurn, BeginsSame, S
 use Rattle.ts_thread.specs.Shown.{IsShown, HandledDue, WasDue}
 use Rattle.ts_thread.specs.Tags.{GroupFits, CanAsk}
 use Rattle.ts_thread.specs.Turning.{Works}
-use Rattle.ts_thread.proofs.Entries.{own_marks, own_handles, runs_marks, runs_first, is_handled, no_marks}
+use Rattle.ts_thread.proofs.Entries.{own_marks, own_handles, runs_marks, runs_first, is_handled, marks_stay}
+use Rattle.ts_group.proofs.Slots.{marks_same}
 
 pub err_any : {A E : Type 0} (r : Result A E) (P : A → Type 0) → IsErr r → IfOk r P
 err_any (Ok a) P e = absurd (cc)
@@ -80,11 +81,11 @@ module _ {W Q R T U : Type 0} where
     pub handles_goes : KeepsTags Fits old.world new.world → GoesInTurn Fits old new
     handles_goes tags = record {
       turn = h.turn;
-      marks = ap marks_of h.by.entries ∙ no_marks old.cx.log.entries h.es
+      marks = marks_stay old.cx.log new.cx.log h.es h.by
           (runs_marks Called old.world new.world old.cx.log.state moment number [] events h.es new.cx.calls
           h.runs);
       later = extends_later old.cx.log new.cx.log h.es valid h.by;
-      base = h.by.base;
+      made = ap (λ b. b.made) h.by.base;
       news_from = h.news_from;
       tags = tags;
     }
@@ -118,10 +119,10 @@ module _ {W Q R T U : Type 0} where
       → KeepsTags Fits old.world new.world → GoesInTurn Fits old new
   grows_goes Fits old new valid grows turn tags = record {
     turn = turn;
-    marks = ap marks_of grows.log.by.entries ∙ no_marks old.cx.log.entries grows.log.own
+    marks = marks_stay old.cx.log new.cx.log grows.log.own grows.log.by
         (own_marks grows.log.own grows.log.all_own);
     later = extends_later old.cx.log new.cx.log grows.log.own valid grows.log.by;
-    base = grows.log.by.base;
+    made = ap (λ b. b.made) grows.log.by.base;
     news_from = grows.news_from;
     tags = tags;
   }
@@ -131,9 +132,9 @@ module _ {W Q R T U : Type 0} where
       → GoesInTurn Fits old new
   question_goes Fits old new moment valid q tags = record {
     turn = q.turn;
-    marks = ap marks_of q.by.entries ∙ no_marks old.cx.log.entries _ (own_marks q.own q.all_own);
+    marks = marks_stay old.cx.log new.cx.log _ q.by (own_marks q.own q.all_own);
     later = extends_later old.cx.log new.cx.log _ valid q.by;
-    base = q.by.base;
+    made = ap (λ b. b.made) q.by.base;
     news_from = q.news_from;
     tags = tags;
   }
@@ -146,9 +147,9 @@ module _ {W Q R T U : Type 0} where
       turns = ap
           (λ (s : State). s.turns) same.cx.log.state;
     };
-    marks = ap marks_of same.cx.log.entries;
+    marks = marks_same old.cx.log new.cx.log same.cx.log;
     later = subst (IsLater old.cx.log.state) (sym same.cx.log.state) (later_refl old.cx.log.state);
-    base = same.cx.log.base;
+    made = ap (λ b. b.made) same.cx.log.base;
     news_from = same.cx.news_from;
     tags = λ t f. subst (Fits t) (sym same.world) f;
   }
@@ -159,7 +160,7 @@ module _ {W Q R T U : Type 0} where
     turn = record { held = q.turn.held; turns = q.turn.turns ∙ p.turn.turns };
     marks = q.marks ∙ p.marks;
     later = later_trans a.cx.log.state b.cx.log.state c.cx.log.state p.later q.later;
-    base = q.base ∙ p.base;
+    made = q.made ∙ p.made;
     news_from = q.news_from ∙ p.news_from;
     tags = λ t f. q.tags t (p.tags t f);
   }
@@ -296,8 +297,8 @@ module _ {W Q R T U : Type 0} (Fits : T → W → Type 0) (Sound : W → State �
 pub given_marks : {W Q R T U : Type 0} (Fits : T → W → Type 0) (found new old : Group W Q R T U)
     (turn turn' seat seat' : ℕ) → IsGivenBack Fits found new turn seat → found ≡ old → turn ≡ turn'
     → seat ≡ seat'
-    → (mark : ℕ × ℕ) → Contains (marks_of new.cx.log.entries) mark
-    → Contains (marks_of old.cx.log.entries) mark ⊎ (mark ≡ (turn', seat'))
+    → (mark : ℕ × ℕ) → Contains (marks_in new.cx.log) mark
+    → Contains (marks_in old.cx.log) mark ⊎ (mark ≡ (turn', seat'))
 given_marks {W} {Q} {R} {T} {U} Fits found new old turn turn' seat seat' given e f h mark there =
-    subst (λ (x : Group W Q R T U × ℕ × ℕ). Contains (marks_of x.0.cx.log.entries) mark ⊎ (mark ≡ (x.1, x.2)))
+    subst (λ (x : Group W Q R T U × ℕ × ℕ). Contains (marks_in x.0.cx.log) mark ⊎ (mark ≡ (x.1, x.2)))
     (λ i. (e i, f i, h i)) (given.marks mark there)

@@ -4,7 +4,7 @@ use Rattle.ts_journal.specs.declared.entry.Entry.{Entry}
 use Rattle.ts_journal.specs.declared.entry.Entry.TheVariants.{Took, Gave, Handled}
 use Rattle.ts_journal.specs.State.{State}
 use Rattle.ts_journal.specs.Machine.{replay}
-use Rattle.ts_journal.specs.Log.{Log, Extends}
+use Rattle.ts_journal.specs.Log.{Log, GoesOn}
 use Rattle.ts_group.specs.Due.{IsDueFirst}
 use Rattle.ts_group.specs.Entries.{asking_entries}
 use Rattle.ts_group.specs.declared.alone.TheConstants.{ONLY_SEAT}
@@ -36,10 +36,10 @@ AreOwnTurns Lack zero s es = es ≡ []
 AreOwnTurns Lack (suc n) s es = (turn : List Entry) × (others : List Entry)
     × IsOwnTurn Lack s turn × (es ≡ turn ++ others) × AreOwnTurns Lack n (replay s turn) others
 
--- a journal goes on by at most so many turns
+-- a journal goes on by at most so many turns, after each of which it may be folded
 pub record TakesTurns (Lack : Type 0) (old new : Log) (most : ℕ) : Type 0 where
   pub turns : ℕ
   pub few : turns ≤ most
   pub added : List Entry
-  pub by : Extends old new added
+  pub by : GoesOn old new added
   pub are : AreOwnTurns Lack turns old.state added

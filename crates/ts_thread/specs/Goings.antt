@@ -20,9 +20,9 @@ use Rattle.ts_thread.specs.Alone.{HandlesDue, TakesTurns}
 use Rattle.ts_thread.specs.Asks.{TakesQuestions}
 use Rattle.ts_thread.specs.Tags.{GroupFits}
 
--- the same group, whose state does not go back
+-- the same group, made with as many turns, whose state does not go back
 pub record IsLaterGroup {W Q R T U : Type 0} (old new : Group W Q R T U) : Type 0 where
-  pub base : new.cx.log.base ≡ old.cx.log.base
+  pub made : new.cx.log.base.made ≡ old.cx.log.base.made
   pub later : IsLater old.cx.log.state new.cx.log.state
 
 -- What at most so many turns, of which none is held any more, leave of a group, where a drive gave this
@@ -106,10 +106,9 @@ ComesNext g number moment = IsDueFirst g.cx.log.state moment number
 abbrev pub row : {X : Type 0} → List X → X → List X → List X
 row before x after = before ++ x ∷ after
 
--- What a drive of one group leaves of it and of those before and after it: so many turns at most were taken
--- of
--- each, no more than the group had left to do and one, and where it came to its end, the group has that much
--- less to do.
+-- What a drive of one group leaves of it and of those before and after it: so many turns at most were
+-- taken of each, no more than the group had left to do and one, and where it came to its end, the group
+-- has that much less to do.
 pub record Drives {W Q R T U : Type 0} (Fits : T → W → Type 0) (Sound : W → State → List Named → Type 0)
     (only_asked is_first : T → Bool) (Left : W → State → Option ℕ) (limit : ℕ)
     (before before' : List (Group W Q R T U)) (old new : Group W Q R T U)
@@ -139,9 +138,9 @@ pub record DrivesAt {W Q R T U : Type 0} (Fits : T → W → Type 0) (Sound : W 
   pub drives : Drives Fits Sound only_asked is_first Left limit before before' group group' after after'
       result
 
--- What a drive of all groups leaves of them: so many turns at most were taken of each, no more than was left
--- to
--- do in all and one. Where it came to its end, that much less is left to do in all, and no event is pending.
+-- What a drive of all groups leaves of them: so many turns at most were taken of each, no more than was
+-- left to do in all and one. Where it came to its end, that much less is left to do in all, and no event
+-- is pending.
 pub record Finishes {W Q R T U : Type 0} (Fits : T → W → Type 0) (Sound : W → State → List Named → Type 0)
     (only_asked is_first : T → Bool) (Left : W → State → Option ℕ) (limit : ℕ)
     (old new : List (Group W Q R T U)) (result : Result (Unit {0}) Unfinished) : Type 0 where

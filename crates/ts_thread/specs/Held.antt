@@ -14,7 +14,7 @@ use Rattle.ts_group.specs.declared.world.TheConstants.{MOST_SET}
 use Rattle.ts_group.specs.declared.world.Asked.{Asked}
 use Rattle.ts_group.specs.Answers.{Holds, KeepsTags, SetsAtMost}
 use Rattle.ts_group.specs.Changes.{StaysInTurn, SameEvents}
-use Rattle.ts_group.specs.Slot.{marks_of}
+use Rattle.ts_group.specs.Slot.{marks_in}
 use Rattle.ts_slot.specs.declared.view.SeatView.{SeatView}
 use Rattle.ts_thread.specs.declared.did.Did.{Did}
 use Rattle.ts_thread.specs.Heard.{RunsHandlers}
@@ -31,9 +31,9 @@ module _ {W Q R T U : Type 0} where
   pub record HasTurn (Fits : T → W → Type 0) (found now : Group W Q R T U) (turn seat : ℕ) : Type 0 where
     pub held : now.cx.log.state.held ≡ true
     pub number : now.cx.log.state.turns ≡ turn
-    pub marks : marks_of now.cx.log.entries ≡ marks_of found.cx.log.entries ++ (turn, seat) ∷ []
+    pub marks : marks_in now.cx.log ≡ marks_in found.cx.log ++ (turn, seat) ∷ []
     pub later : IsLater found.cx.log.state now.cx.log.state
-    pub base : now.cx.log.base ≡ found.cx.log.base
+    pub made : now.cx.log.base.made ≡ found.cx.log.base.made
     pub news_from : now.cx.news_from ≡ found.cx.news_from
     pub tags : KeepsTags Fits found.world now.world
 
@@ -42,19 +42,19 @@ module _ {W Q R T U : Type 0} where
   pub record IsGivenBack (Fits : T → W → Type 0) (found left : Group W Q R T U) (turn seat : ℕ) : Type 0 where
     pub free : left.cx.log.state.held ≡ false
     pub stamp : (left.cx.log.state.turns ≡ found.cx.log.state.turns) ⊎ (left.cx.log.state.turns ≡ turn)
-    pub marks : (mark : ℕ × ℕ) → Contains (marks_of left.cx.log.entries) mark
-        → Contains (marks_of found.cx.log.entries) mark ⊎ (mark ≡ (turn, seat))
+    pub marks : (mark : ℕ × ℕ) → Contains (marks_in left.cx.log) mark
+        → Contains (marks_in found.cx.log) mark ⊎ (mark ≡ (turn, seat))
     pub later : IsLater found.cx.log.state left.cx.log.state
-    pub base : left.cx.log.base ≡ found.cx.log.base
+    pub made : left.cx.log.base.made ≡ found.cx.log.base.made
     pub rose : found.cx.news_from ≤ left.cx.news_from
     pub tags : KeepsTags Fits found.world left.world
 
   -- a group goes on in the turn that it has
   pub record GoesInTurn (Fits : T → W → Type 0) (old new : Group W Q R T U) : Type 0 where
     pub turn : StaysInTurn old.cx.log.state new.cx.log.state
-    pub marks : marks_of new.cx.log.entries ≡ marks_of old.cx.log.entries
+    pub marks : marks_in new.cx.log ≡ marks_in old.cx.log
     pub later : IsLater old.cx.log.state new.cx.log.state
-    pub base : new.cx.log.base ≡ old.cx.log.base
+    pub made : new.cx.log.base.made ≡ old.cx.log.base.made
     pub news_from : new.cx.news_from ≡ old.cx.news_from
     pub tags : KeepsTags Fits old.world new.world
 
@@ -75,9 +75,9 @@ module _ {W Q R T U : Type 0} where
   pub record GivesBack (old new : Group W Q R T U) : Type 0 where
     pub free : new.cx.log.state.held ≡ false
     pub number : new.cx.log.state.turns ≡ old.cx.log.state.turns
-    pub marks : marks_of new.cx.log.entries ≡ marks_of old.cx.log.entries
+    pub marks : (mark : ℕ × ℕ) → Contains (marks_in new.cx.log) mark → Contains (marks_in old.cx.log) mark
     pub later : IsLater old.cx.log.state new.cx.log.state
-    pub base : new.cx.log.base ≡ old.cx.log.base
+    pub made : new.cx.log.base.made ≡ old.cx.log.base.made
     pub news_from : new.cx.news_from ≡ old.cx.news_from
     pub same : BeginsSame old new
 
@@ -87,7 +87,7 @@ module _ {W Q R T U : Type 0} where
     pub pending : left.cx.log.state.pending ≡ now.cx.log.state.pending
     pub handled : left.cx.log.state.handled_count ≡ now.cx.log.state.handled_count
     pub later : IsLater now.cx.log.state left.cx.log.state
-    pub base : left.cx.log.base ≡ now.cx.log.base
+    pub made : left.cx.log.base.made ≡ now.cx.log.base.made
 
   -- The world set its first events in the turn, which are few where it fits a tag.
   pub record StartsInTurn (Fits : T → W → Type 0) (Sound : W → State → List Named → Type 0)
@@ -129,4 +129,4 @@ module _ {W Q R T U : Type 0} where
   WillFit Fits Sound only_asked is_first tags k g =
       (t : T) × (get_elem? tags k ≡ some t) × Fits t g.world × Holds Sound g
       × HasFew (only_asked t) g.cx.log.state
-      × OnTrue (is_first t) (g.cx.log.base.turns ≡ 0)
+      × OnTrue (is_first t) (g.cx.log.base.made ≡ 0)

@@ -39,8 +39,7 @@ module _ {W Q R T U : Type 0} {d : Ghosts (Group W Q R T U) T (Group W Q R T U)}
     (Answers : W → Q → R → Type 0) (Called : W → W → List ℕ → Type 0) (Heard : W → W → Asked Q R → Type 0)
     (Left : W → State → Option ℕ) (tags : List T) (budget : ℕ) where
   -- One thread took its turns, from this seat and this pass with an empty wheel to those, until its budget
-  -- was
-  -- used up or it had nothing to do.
+  -- was used up or it had nothing to do.
   pub record RanToEnd (seat : Seat (Group W Q R T U) T (Group W Q R T U) d) (pass : QueuePass)
       (back : Seat (Group W Q R T U) T (Group W Q R T U) d) (back_pass : QueuePass) : Type 0 where
     pub old : Desk (Group W Q R T U) T (Group W Q R T U) d
@@ -66,8 +65,7 @@ module _ {W Q R T U : Type 0} {d : Ghosts (Group W Q R T U) T (Group W Q R T U)}
   TellsRuns threads seat pass back = OnTrue back.2 (AllRanToEnd threads seat pass back.0 back.1)
 
 -- Groups that threads ran, each of them to its end: from a seat that had started the first so many, and a
--- pass
--- that had put the tokens of their first events, to a seat after whose knowledge each group stands.
+-- pass that had put the tokens of their first events, to a seat after whose knowledge each group stands.
 pub record WereRun {W Q R T U : Type 0} (d : Ghosts (Group W Q R T U) T (Group W Q R T U))
     (Fits : T → W → Type 0) (Asking : W → State → List Named → ℕ → ℕ → Q → Type 0)
     (Answers : W → Q → R → Type 0) (Called : W → W → List ℕ → Type 0) (Heard : W → W → Asked Q R → Type 0)

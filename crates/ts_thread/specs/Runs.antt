@@ -40,8 +40,7 @@ module _ {W Q R T U : Type 0} {d : Ghosts (Group W Q R T U) T (Group W Q R T U)}
       × IsNextMoment answer new.wheel at moment
 
   -- Where the budget was used up, so many turns were made, none of them idle over an empty wheel, and the
-  -- desk
-  -- counts as many more; else the last turn of fewer or as many was idle over one.
+  -- desk counts as many more; else the last turn of fewer or as many was idle over one.
   abbrev pub HasRunTo : ℕ → Desk (Group W Q R T U) T (Group W Q R T U) d
       → Desk (Group W Q R T U) T (Group W Q R T U) d → RunEnd → Type 0
   HasRunTo budget old new end.Budget =

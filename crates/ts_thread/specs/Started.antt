@@ -37,14 +37,14 @@ module _ {W Q R T U : Type 0} where
       (Sound : W → State → List Named → Type 0) (HasToken : ℕ → Pending → Type 0)
       (k turn : ℕ) (found started left : Group W Q R T U)
       (known : List (ℕ × ℕ × Group W Q R T U)) : Type 0 where
-    pub first : First k started.cx.log.base.turns
+    pub first : First k started.cx.log.base.made
     pub stood : IsIn (k, turn - 1, found) known
     pub turned : found.cx.log.state.turns < started.cx.log.state.turns
     pub goes : FollowsGroup Fits started found
     pub begun : Begun found.world started.world
     pub sound : Holds Sound started
     pub world : left.world ≡ started.world
-    pub base : left.cx.log.base ≡ started.cx.log.base
+    pub made : left.cx.log.base.made ≡ started.cx.log.base.made
     pub later : IsLater started.cx.log.state left.cx.log.state
     pub told : NoNews left.cx.news_from left.cx.log.state
     pub tokens : (n : ℕ) (p : Pending) → pending_at n left.cx.log.state.pending ≡ Some p
@@ -61,7 +61,7 @@ module _ {W Q R T U : Type 0} where
     pub started : Group W Q R T U
     pub turned : found.cx.log.state.turns < started.cx.log.state.turns
     pub goes : FollowsGroup Fits started found
-    pub first : First k started.cx.log.base.turns
+    pub first : First k started.cx.log.base.made
     pub begun : Begun found.world started.world
     pub sound : Holds Sound started
     pub follows : FollowsGroup Fits now started

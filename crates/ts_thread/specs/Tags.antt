@@ -15,7 +15,7 @@ abbrev pub GroupFits : {W Q R T U : Type 0} → (T → W → Type 0) → (W → 
     → (T → Bool) → (T → Bool) → T → Group W Q R T U → Type 0
 GroupFits Fits Sound only_asked is_first t g =
     Fits t g.world × Holds Sound g × IsAtRest (only_asked t) g.cx.log.state
-    × OnTrue (is_first t) (g.cx.log.base.turns ≡ 0)
+    × OnTrue (is_first t) (g.cx.log.base.made ≡ 0)
 
 -- groups fit tags, each the tag at its place
 abbrev pub GroupsFit : {W Q R T U : Type 0} → (T → W → Type 0) → (W → State → List Named → Type 0)
@@ -35,9 +35,8 @@ pub record FitAround {W Q R T U : Type 0} (Fits : T → W → Type 0) (Sound : W
   pub fits : Fits tag world
   pub fit_after : GroupsFit Fits Sound only_asked is_first last after
 
--- Of groups with these tags, each that a world may ask is another one of them and is only asked; and what it
--- gives is
--- right for the world that asks.
+-- Of groups with these tags, each that a world may ask is another one of them and is only asked; and what
+-- it gives is right for the world that asks.
 pub record CanAsk {W Q R T : Type 0} (Fits : T → W → Type 0) (only_asked : T → Bool) (MayAsk : W → ℕ → Type 0)
     (Right : W → ℕ → Q → R → Type 0) (Answers : W → Q → R → Type 0) (tags : List T) : Type 0 where
   pub others : (j k : ℕ) (t : T) (w : W) → slice_get tags j ≡ Some t → Fits t w → MayAsk w k

@@ -1,5 +1,5 @@
 -- Where tokens come from and where they go: a thread's wheel and its pass of the queue.
-use Rattle.std.specs.Prelude.{◌≡◌, ℕ, ◌<◌, ◌≤◌, ◌⊎◌, ◌++◌, List, Some, None, All}
+use Rattle.std.specs.Prelude.{◌≡◌, ℕ, ◌<◌, ◌≤◌, ◌⊎◌, ◌++◌, ◌==◌, ◌%◌, Bool, true, false, List, Some, None, All}
 use Rattle.ts_journal.specs.declared.slotted.Slotted.{Ghosts}
 use Rattle.ts_journal.specs.declared.entry.TheConstants.{GREATEST}
 use Rattle.ts_link.specs.Counts.{Rose}
@@ -10,7 +10,17 @@ use Rattle.ts_queue.specs.declared.view.PassView.{PassView}
 use Rattle.ts_queue.specs.Views.{putting_next}
 use Rattle.ts_queue.specs.Passes.{pass_view, empties_of, TakesTicket, FindsEmpty}
 use Rattle.ts_wheel.specs.Due.{added, first_due, after_due}
+use Rattle.ts_thread.specs.declared.desk.TheConstants.{SHARED_EVERY}
 use Rattle.ts_thread.specs.declared.desk.Desk.{Desk}
+use Rattle.ts_thread.specs.declared.desk.Telling.{Telling}
+use Rattle.ts_thread.specs.declared.desk.Telling.TheVariants as telling
+
+-- Whether a token that is due goes through the queue: all that a group's start tells, so that the threads share
+-- the groups; and of later turns one of so many event numbers of a group, so that what waits in the queue is
+-- always taken.
+abbrev pub is_shared : Telling → ℕ → Bool
+is_shared telling.Start number = true
+is_shared telling.Turn number = number % SHARED_EVERY == 1
 
 -- each token names one of so many groups
 abbrev pub AllName : ℕ → List (ℕ × Token) → Type 0
@@ -61,17 +71,22 @@ module _ {X G T : Type 0} {d : Ghosts X G T} where
     pub wheel : new.wheel ≡ old.wheel
     pub pass : pass_view new.pass ≡ pass_view old.pass
 
-  -- a token that is due was put
-  pub record Puts (token : Token) (due moment : ℕ) (old new : Desk X G T d) : Type 0 where
+  -- a token that is due and shared was put
+  pub record Puts (telling : Telling) (token : Token) (due moment : ℕ) (old new : Desk X G T d) : Type 0 where
     pub is_due : due ≤ moment
+    pub shared : is_shared telling token.number ≡ true
     pub wheel : new.wheel ≡ old.wheel
     pub pass : pass_view new.pass ≡ putting_next token (pass_view old.pass)
 
-  -- a token that is due later, or for which the pass has no serial left, was added to the wheel
-  pub record AddsToWheel (token : Token) (due moment : ℕ) (old new : Desk X G T d) : Type 0 where
-    pub late : (moment < due) ⊎ ((pass_view old.pass).serial ≡ GREATEST)
+  -- a token that is due later or is not shared, or for which the pass has no serial left, was added to the
+  -- wheel
+  pub record AddsToWheel (telling : Telling) (token : Token) (due moment : ℕ) (old new : Desk X G T d)
+      : Type 0 where
+    pub keeps : (moment < due) ⊎ ((is_shared telling token.number ≡ false)
+        ⊎ ((pass_view old.pass).serial ≡ GREATEST))
     pub wheel : new.wheel ≡ added due token old.wheel
     pub pass : pass_view new.pass ≡ pass_view old.pass
 
-  abbrev pub Places : Token → ℕ → ℕ → Desk X G T d → Desk X G T d → Type 0
-  Places token due moment old new = Puts token due moment old new ⊎ AddsToWheel token due moment old new
+  abbrev pub Places : Telling → Token → ℕ → ℕ → Desk X G T d → Desk X G T d → Type 0
+  Places telling token due moment old new =
+      Puts telling token due moment old new ⊎ AddsToWheel telling token due moment old new

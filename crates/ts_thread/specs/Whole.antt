@@ -42,9 +42,8 @@ abbrev pub EachTells : {W T : Type 0} → Type 0 → Type 0 → Type 0 → (T �
 EachTells {W} {T} Q R U Fits Sound only_asked is_first Left tags =
     All (λ t. (g : Group W Q R T U) → GroupFits Fits Sound only_asked is_first t g → Finite Left g) tags
 
--- Groups with these tags end soon: of each that fits its tag and has had at most so many turns, no more than
--- this
--- is left to do, and there are turns enough for that of all of them below a limit.
+-- Groups with these tags end soon: of each that fits its tag and has had at most so many turns, no more
+-- than this is left to do, and there are turns enough for that of all of them below a limit.
 pub record EndSoon {W T : Type 0} (Q R U : Type 0) (Fits : T → W → Type 0)
     (Sound : W → State → List Named → Type 0) (only_asked is_first : T → Bool) (Left : W → State → Option ℕ)
     (limit turns : ℕ) (tags : List T) : Type 0 where

@@ -3,7 +3,7 @@
 ghost use Rattle.std.specs.Prelude.{◌≡◌, length, IfSome, IfNone, OnOk, OnErr};
 ghost use Rattle.ts_queue.specs.Passes.{IsPassOf, pass_view, empties_of};
 ghost use Rattle.ts_wheel.specs.Due.{after_due};
-ghost use Rattle.ts_thread.specs.Tokens.{AllName, TakesNext, FindsNone, Gets, FindsNothing, Places, SamePlaces};
+ghost use Rattle.ts_thread.specs.Tokens.{AllName, TakesNext, FindsNone, Gets, FindsNothing, Places, SamePlaces, is_shared};
 
 use std::sync::Wait;
 use ts_link::NoMemory;
@@ -64,12 +64,33 @@ pub fn next_token<V: Slotted, R: Wait>(
     next_ticket(rt, queue, &mut desk.pass, groups)
 }
 
-/// Puts a token into the queue where it is due, and else adds it to the wheel; there too where the pass has
-/// no serial left.
+/// Which turn's news is told: that of a group's start, or that of a later turn.
+#[derive(Clone, Copy)]
+pub enum Telling {
+    Start,
+    Turn,
+}
+
+// Of so many event numbers of a group, the event of one goes through the queue where it is due.
+const SHARED_EVERY: u64 = 16;
+
+// Whether a token that is due is shared with the other threads.
+fn is_shared(telling: Telling, number: u64) -> bool
+    ensures { result ≡ is_shared telling number }
+{
+    match telling {
+        Telling::Start => true,
+        Telling::Turn => number % SHARED_EVERY == 1,
+    }
+}
+
+/// Adds a token to the wheel, so that this thread goes on with its group. But a token that is due and shared
+/// is put into the queue, where any thread takes it, unless the pass has no serial left.
 pub fn place<V: Slotted, R: Wait>(
     rt: &R,
     queue: &EventQueue,
     desk: &mut Desk<V>,
+    telling: Telling,
     token: Token,
     due: u64,
     moment: u64,
@@ -78,10 +99,10 @@ pub fn place<V: Slotted, R: Wait>(
     ensures pass { IsPassOf queue.now desk.new.pass }
     ensures empties { empties_of desk.new.pass ≡ empties_of desk.old.pass }
     ensures seat { desk.new.seat ≡ desk.old.seat }
-    ensures ok { OnOk result (Places token due moment desk.old desk.new) }
+    ensures ok { OnOk result (Places telling token due moment desk.old desk.new) }
     ensures err { OnErr result (SamePlaces desk.old desk.new) }
 {
-    if due <= moment && desk.pass.serial() < u64::MAX {
+    if due <= moment && is_shared(telling, token.number) && desk.pass.serial() < u64::MAX {
         queue.put(rt, &mut desk.pass, token)
     } else {
         desk.wheel.add(due, token)

@@ -39,7 +39,6 @@ pub fn start<W: World + Drop>(group: &mut Group<W>)
 }
 
 /// Gives the turn of a group back.
-#[tactic(auto, using(crate::proofs::Groups::gives_back))]
 pub fn give<W: World + Drop>(group: &mut Group<W>)
     requires turn { group.old.cx.log.state.held ≡ true }
     requires sound { Holds W.sound group.old }

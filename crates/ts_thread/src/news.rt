@@ -5,19 +5,20 @@ ghost use Rattle.ts_slot.specs.Words.{tags_of};
 ghost use Rattle.ts_thread.specs.Desks.{IsDeskOf, SharesSame};
 ghost use Rattle.ts_thread.specs.News.{HasTold, KeepsPlaces, OnlyNews};
 
-use crate::desk::{Desk, place};
+use crate::desk::{Desk, Telling, place};
 use std::sync::Wait;
 use ts_group::{Group, World};
 use ts_link::NoMemory;
 use ts_queue::{EventQueue, Token};
 use ts_slot::Slots;
 
-/// Makes a token of each piece of news of the group k.
+/// Makes a token of each piece of news of the group k, which is told by this turn of it.
 pub fn tell_news<W: World + Drop, R: Wait>(
     rt: &R,
     slots: &Slots<Group<W>>,
     queue: &EventQueue,
     desk: &mut Desk<Group<W>>,
+    telling: Telling,
     k: u32,
     group: &mut Group<W>,
     moment: u64,
@@ -32,7 +33,8 @@ pub fn tell_news<W: World + Drop, R: Wait>(
 {
     group.known();
     'news: while let Some((number, due)) = group.next_news() {
-        place(rt, queue, desk, Token { group: k, number }, due, moment)?;
+        let token = Token { group: k, number };
+        place(rt, queue, desk, telling, token, due, moment)?;
     }
     Ok(())
 }

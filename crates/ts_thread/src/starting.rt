@@ -8,7 +8,7 @@ ghost use Rattle.ts_thread.specs.Entering.{IsEntered};
 ghost use Rattle.ts_thread.specs.News.{HasPlaceAt};
 ghost use Rattle.ts_thread.specs.Started.{CanStart, IsFirst, Started, AllStarted};
 
-use crate::desk::Desk;
+use crate::desk::{Desk, Telling};
 use crate::held::{begin, start};
 use crate::leaving::leave;
 use crate::turning::end_turn;
@@ -57,7 +57,7 @@ fn start_one<W: World + Drop, R: Wait>(
         return Err(NoMemory);
     }
     start(turn.value());
-    end_turn(rt, slots, queue, desk, turn, u64::MAX)
+    end_turn(rt, slots, queue, desk, Telling::Start, turn, u64::MAX)
 }
 
 /// Starts the first so many groups, each in a turn of its own.

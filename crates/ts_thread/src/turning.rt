@@ -12,7 +12,7 @@ ghost use Rattle.ts_thread.specs.Tags.{CanAsk};
 ghost use Rattle.ts_thread.specs.Turning.{Works, EndsTurn, Serves, Uses, IsOfToken};
 
 use crate::asking::ask_other;
-use crate::desk::Desk;
+use crate::desk::{Desk, Telling};
 use crate::did::Did;
 use crate::held::{begin, give};
 use crate::leaving::leave;
@@ -39,7 +39,7 @@ fn did_of<Q, R>(events: u32, k: u32, asked: &Asked<Q, R>) -> Result<Did, NoMemor
 
 // Handles a token's event in a group of which a turn was taken, asks the group that the last handler wants to
 // ask, and tells the handler what came of it.
-fn work<W: World + Drop>(
+fn handle_token<W: World + Drop>(
     slots: &Slots<Group<W>>,
     desk: &mut Desk<Group<W>>,
     group: &mut Group<W>,
@@ -87,6 +87,7 @@ pub fn end_turn<W: World + Drop, R: Wait>(
     slots: &Slots<Group<W>>,
     queue: &EventQueue,
     desk: &mut Desk<Group<W>>,
+    telling: Telling,
     mut turn: Turn<Group<W>>,
     moment: u64,
 ) -> Result<(), NoMemory>
@@ -100,7 +101,7 @@ pub fn end_turn<W: World + Drop, R: Wait>(
         (EndsTurn turn.group turn.number moment turn.value desk.old desk.new) }
 {
     let k = turn.group();
-    let told = tell_news(rt, slots, queue, desk, k, turn.value(), moment);
+    let told = tell_news(rt, slots, queue, desk, telling, k, turn.value(), moment);
     give(turn.value());
     leave(slots, &mut desk.seat, turn);
     told
@@ -136,8 +137,8 @@ fn handle_entered<W: World + Drop, G: Gate, R: Wait>(
         return Err(NoMemory);
     }
     gate.enter(thread, token.group, token.number);
-    let did = work(slots, desk, turn.value(), token, moment);
-    let told = end_turn(rt, slots, queue, desk, turn, moment);
+    let did = handle_token(slots, desk, turn.value(), token, moment);
+    let told = end_turn(rt, slots, queue, desk, Telling::Turn, turn, moment);
     let did = did?;
     told?;
     Ok(did)

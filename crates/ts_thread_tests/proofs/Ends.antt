@@ -16,6 +16,8 @@ use Rattle.ts_thread.specs.Whole.{EachTells, EndSoon}
 use Rattle.ts_group_tests.specs.declared.peer.Peer.{Peer}
 use Rattle.ts_group_tests.specs.declared.peer.TheConstants.{ASKED, MOST_TODO}
 use Rattle.ts_group_tests.specs.Peers.{PeerFits, PeerSound, PeerMayAsk, PeerRight, PeerAnswers, peer_left}
+use Rattle.ts_journal.specs.declared.entry.Entry.{Entry}
+use Rattle.ts_journal.specs.Log.{Log, Extends, GoesOn}
 use Rattle.ts_thread_tests.specs.Peers.{IsPeer, AreRow, row_tags}
 
 last_asked : (n : ℕ) → slice_get (row_tags n) n ≡ Some true
@@ -160,3 +162,8 @@ tag_at (suc n) (suc k) low = tag_at n k (omega arith)
 
 pub row_starts : (starts : ℕ) → starts ≤ ASKED → CanStart (λ b. b) (row_tags ASKED) starts
 row_starts starts few k low = (false, tag_at ASKED k (omega arith), refl)
+
+-- a journal that was made with no turns was so still once a turn was taken, used and given back
+pub still_first : (a b c d : Log) (took used gave : List Entry) → a.base.made ≡ 0 → Extends a b took
+    → Extends b c used → GoesOn c d gave → d.base.made ≡ 0
+still_first a b c d took used gave none x y z = z.made ∙ ap (λ b. b.made) (y.base ∙ x.base) ∙ none

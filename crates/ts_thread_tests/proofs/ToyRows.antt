@@ -67,7 +67,7 @@ module _ {W Q R T U : Type 0} (Fits : T → W → Type 0) (Sound : W → State �
     sound,
     at_rest (oa t) g.cx.log.state works (subst (λ s. (s.held ≡ false) × (s.next ≤ MOST_IN_TURN * s.turns + 1))
         (sym fresh.state) (refl, omega arith)),
-    is_first_of (isf t) g.cx.log.base.turns (ap (λ (s : State). s.turns) fresh.base),
+    is_first_of (isf t) g.cx.log.base.made (ap (λ b. b.made) fresh.base),
   )
 
   module _ (Tagged : T → Type 0) where

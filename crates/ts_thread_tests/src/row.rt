@@ -34,6 +34,7 @@ pub struct Tally {
 }
 
 // Starts a peer in its first turn.
+#[tactic(auto, using(crate::proofs::Ends::still_first))]
 fn start_worker(mut group: Group<Peer>) -> Result<Group<Peer>, NoMemory>
     requires fits { IsPeer false group }
     requires new { group.cx.log.state.turns ≡ 0 }

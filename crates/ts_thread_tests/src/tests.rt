@@ -9,7 +9,7 @@ use std::alloc::Global;
 use std::test::Fail;
 use ts_group_tests::burst::Burst;
 use ts_group_tests::heir::Heir;
-use ts_group_tests::steps::{Countdown, Steps};
+use ts_group_tests::steps::{Countdown, Stepper};
 use ts_link::{MeetGate, NoMemory, OpenGate};
 use ts_queue::Token;
 use ts_thread::{Did, MOST_ALONE, RunEnd, Unfinished};
@@ -118,19 +118,19 @@ const ENDED: ToyTally = ToyTally {
 #[test]
 fn threads_run_countdowns_to_their_end(rt: HostRuntime) -> Result<(), Fail> {
     assert_eq!(rt;
-        run_tally::<Steps<Countdown>, HostRuntime>(&rt, rt.alloc(), 3, 1)?,
+        run_tally::<Stepper<Countdown>, HostRuntime>(&rt, rt.alloc(), 3, 1)?,
         ENDED
     );
     assert_eq!(rt;
-        run_tally::<Steps<Countdown>, HostRuntime>(&rt, rt.alloc(), 3, 2)?,
+        run_tally::<Stepper<Countdown>, HostRuntime>(&rt, rt.alloc(), 3, 2)?,
         ENDED
     );
     assert_eq!(rt;
-        run_tally::<Steps<Countdown>, HostRuntime>(&rt, rt.alloc(), 3, 8)?,
+        run_tally::<Stepper<Countdown>, HostRuntime>(&rt, rt.alloc(), 3, 8)?,
         ENDED
     );
     assert_eq!(rt;
-        run_tally::<Steps<Countdown>, HostRuntime>(&rt, rt.alloc(), 3, 64)?,
+        run_tally::<Stepper<Countdown>, HostRuntime>(&rt, rt.alloc(), 3, 64)?,
         ENDED
     );
     Ok(())

@@ -18,13 +18,13 @@ use ts_thread::{Unfinished, run_whole};
 pub const TOYS: u32 = 8;
 
 /// A row of groups that have had no turn, with their tags.
-pub struct Row<W: Toy> {
+pub struct ToyRow<W: Toy> {
     pub groups: Vec<Group<W>>,
     pub tags: Vec<W::Tag>,
 }
 
 /// A row of groups of one toy world, with so much to do each.
-pub fn make_toys<W: Toy + Drop>(alloc: Global, todo: u32) -> Result<Row<W>, NoMemory>
+pub fn make_toys<W: Toy + Drop>(alloc: Global, todo: u32) -> Result<ToyRow<W>, NoMemory>
 where
     W::Tag: Drop,
     requires { todo ≤ MOST_TODO }
@@ -39,7 +39,7 @@ where
         groups.push(group)?;
         tags.push(tag)?;
     }
-    Ok(Row { groups, tags })
+    Ok(ToyRow { groups, tags })
 }
 
 /// Runs a row of toy worlds by so many threads, and drives it to its end: then no event is pending in any
@@ -59,7 +59,7 @@ where
     ensures ended { IfOk result (λ gs. All (HasEnded (W.counted todo)) gs.items) }
     ensures lacks { IsOkUnless result Unfinished.NoMemory }
 {
-    let Row { groups, tags } = make_toys(alloc, todo)?;
+    let ToyRow { groups, tags } = make_toys(alloc, todo)?;
     run_whole(rt, alloc, groups, tags, TOYS, threads, BUDGET, gate)
 }
 

@@ -115,7 +115,7 @@ returns-clause-started g c =
           entered.wins
           c.end_turn.ensures.leaves.seat
           ends.as_now.world
-          ends.as_now.base
+          ends.as_now.made
           ends.as_now.later
           ends.told.none
           (λ n p there news. subst (λ k. HasPlaceAt GREATEST c.end_turn.new.desk k p) entered.group

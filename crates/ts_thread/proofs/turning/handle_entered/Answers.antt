@@ -17,19 +17,19 @@ leave-requires-clause-marks g c mark there =
     there
 
 pub end_turn-told-requires-clause-desk : goal.end_turn-told-requires-clause-desk
-end_turn-told-requires-clause-desk g c = c.work-did.ensures.desk c.args.queue.now c.requires.desk
+end_turn-told-requires-clause-desk g c = c.handle_token-did.ensures.desk c.args.queue.now c.requires.desk
 
 pub returns-in_err-did-clause-closes : goal.returns-in_err-did-clause-closes
-returns-in_err-did-clause-closes g c = closes_desk c.args.desk.now c.work-did.new.desk
-    c.end_turn-told.new.desk c.work-did.ensures.keeps c.end_turn-told.ensures.leaves
+returns-in_err-did-clause-closes g c = closes_desk c.args.desk.now c.handle_token-did.new.desk
+    c.end_turn-told.new.desk c.handle_token-did.ensures.keeps c.end_turn-told.ensures.leaves
 
 pub returns-in_err-told-clause-closes : goal.returns-in_err-told-clause-closes
-returns-in_err-told-clause-closes g c = closes_desk c.args.desk.now c.work-did.new.desk
-    c.end_turn-told.new.desk c.work-did.ensures.keeps c.end_turn-told.ensures.leaves
+returns-in_err-told-clause-closes g c = closes_desk c.args.desk.now c.handle_token-did.new.desk
+    c.end_turn-told.new.desk c.handle_token-did.ensures.keeps c.end_turn-told.ensures.leaves
 
 pub returns-clause-closes : goal.returns-clause-closes
-returns-clause-closes g c = closes_desk c.args.desk.now c.work-did.new.desk c.end_turn-told.new.desk
-    c.work-did.ensures.keeps c.end_turn-told.ensures.leaves
+returns-clause-closes g c = closes_desk c.args.desk.now c.handle_token-did.new.desk c.end_turn-told.new.desk
+    c.handle_token-did.ensures.keeps c.end_turn-told.ensures.leaves
 
 pub returns-clause-serves : goal.returns-clause-serves
 returns-clause-serves g c =
@@ -38,7 +38,8 @@ returns-clause-serves g c =
     serve_ends g.W.Slotted.fits g.W.World.asking g.W.World.answers g.W.World.called g.W.World.heard
     g.W.World.left (tags_of c.args.slots.now) c.args.token c.args.turn.group c.args.turn.number
     c.args.moment c.args.turn.found.value c.value.result.now c.begin.new.group c.value-2.result.now
-    c.work-did.new.group c.args.desk.now c.work-did.new.desk c.end_turn-told.new.desk c.in_ok-did.did
+    c.handle_token-did.new.group c.args.desk.now c.handle_token-did.new.desk
+    c.end_turn-told.new.desk c.in_ok-did.did
     c.requires.found.group
     (c.value.ensures.value ∙ sym c.requires.found.same)
     begun.same

@@ -6,7 +6,7 @@ use Rattle.ts_thread.proofs.Ends.{desk_added}
 use Rattle.ts_thread.proofs.Telling.{keeps_added}
 use Rattle.ts_thread.proofs.Uses.{same_desk}
 use Rattle.ts_thread.proofs.Worked.{may_be_asked, answer_over, handles_goes, handles_due, handles_few, told_worked, told_due, asked_works, asked_shown}
-use Rattle.ts_thread.proofs.turning.work.Goals as goal
+use Rattle.ts_thread.proofs.turning.handle_token.Goals as goal
 
 pub ask_other-asked-requires-clause-asked : goal.ask_other-asked-requires-clause-asked
 ask_other-asked-requires-clause-asked g c =
