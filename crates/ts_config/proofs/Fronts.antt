@@ -4,9 +4,9 @@ use Rattle.std.specs.Prelude.{◌==◌}
 use Rattle.std.specs.List.{prefix_len, position_or_len, AllByRecursion}
 use Rattle.std.proofs.lemmas.List.{take-append-drop}
 use Rattle.std.proofs.lemmas.Bool.Decides.{nat_tests}
-use Rattle.ts_config.specs.declared.words.Next.{Next}
-use Rattle.ts_config.specs.declared.words.Next.TheVariants.{Nothing, Word, Unclosed}
-use Rattle.ts_config.specs.Words.{is_blank, is_end, EndsWord, EndsLine, IsQuotable, IsPlain, Spells, HasNoWord, BeginsWith, IsWords}
+use Rattle.ts_config.specs.declared.words.NextWord.{NextWord}
+use Rattle.ts_config.specs.declared.words.NextWord.TheVariants.{Nothing, Word, Unclosed}
+use Rattle.ts_config.specs.Words.{is_blank, is_end, EndsWord, EndsLine, IsQuotable, IsPlain, Spells, HasNoWord, BeginsWithWord, IsWords}
 use Rattle.ts_config.specs.Scanning.{IsQuoted, IsNextWord}
 use Rattle.ts_config.specs.Value.{is_plain_byte, is_quotable_byte}
 use Rattle.ts_config.proofs.Cuts.{Stops, Passes, cut_rest, front_passes, rest_stops, take_yes}
@@ -89,7 +89,7 @@ module _ (line text : List ℕ) (is_text : text ≡ drop (prefix_len is_blank li
   end-found ends = (take (prefix_len is_blank line) line, text, front_passes is_blank line, ends, parts)
 
   pub spelled-found : (spelling w rest : List ℕ) → Spells spelling w → EndsWord rest → text ≡ spelling ++ rest
-      → BeginsWith line w rest
+      → BeginsWithWord line w rest
   spelled-found spelling w rest spells ends is = (
     take (prefix_len is_blank line) line,
     spelling,
@@ -102,7 +102,7 @@ module _ (line text : List ℕ) (is_text : text ≡ drop (prefix_len is_blank li
 
   pub plain-found : (first : ℕ) (behind w rest : List ℕ) → text ≡ first ∷ behind → first ≢ 34 → first ≢ 35
       → w ≡ take (position_or_len is_end text) text → rest ≡ drop (position_or_len is_end text) text
-      → BeginsWith line w rest
+      → BeginsWithWord line w rest
   plain-found first behind w rest cut quote comment is_w is_rest =
       let n : ℕ = prefix_len is_plain_byte text in
       let blank : is_blank first ≡ false =
@@ -150,7 +150,7 @@ module _ (line text : List ℕ) (is_text : text ≡ drop (prefix_len is_blank li
           let inner : behind ≡ w ++ 34 ∷ rest = cc in
           unfit w rest quoted.0 begins.4 inner
 
-  pub quoted-found : (behind : List ℕ) (next : Next) → text ≡ 34 ∷ behind → IsQuoted behind next
+  pub quoted-found : (behind : List ℕ) (next : NextWord) → text ≡ 34 ∷ behind → IsQuoted behind next
       → IsNextWord line next
   quoted-found behind Nothing cut is = absurd is
   quoted-found behind (Word w rest) cut is =

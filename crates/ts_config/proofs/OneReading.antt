@@ -13,7 +13,8 @@ use Rattle.ts_config.specs.Reading.{is_text, Means, MeansByWords, transform_in, 
 use Rattle.ts_config.proofs.Scan.{one_words}
 use Rattle.ts_config.proofs.LinesSoFar.{transforms_in-append}
 
-by_words_once : (line : List ℕ) (a b : Result LineMeaning ConfigKind) → MeansByWords line a → MeansByWords line b
+by_words_once : (line : List ℕ) (a b : Result LineMeaning ConfigKind) → MeansByWords line a
+    → MeansByWords line b
     → a ≡ b
 by_words_once line a b (inl (vs, are, is)) (inl (ws, too, also)) =
     is ∙ ap line_entry (one_words vs ws line are too) ∙ sym also
@@ -33,7 +34,8 @@ means_once line a b first second = by_text (is_text line) first second
 one_entry : (line : List ℕ) (e f : LineMeaning) → Means line (Ok e) → Means line (Ok f) → e ≡ f
 one_entry line e f first second = let same : Ok e ≡ Ok f = means_once line (Ok e) (Ok f) first second in cc
 
-not_both : (line : List ℕ) (e : LineMeaning) (kind : ConfigKind) → Means line (Ok e) → Means line (Err kind) → ⊥
+not_both : (line : List ℕ) (e : LineMeaning) (kind : ConfigKind)
+    → Means line (Ok e) → Means line (Err kind) → ⊥
 not_both line e kind fine faulty =
     let same : Ok e ≡ Err kind = means_once line (Ok e) (Err kind) fine faulty in cc
 
@@ -66,7 +68,8 @@ cut_entries (l ∷ ls) line after (e ∷ es) each =
     (e ∷ fs, f, gs, ap (λ xs. e ∷ xs) is, (each.0, fine), means)
 
 -- no lines are read and have a fault
-pub read_or_fault : (lines : List (List ℕ)) (es : List LineMeaning) (n : ℕ) (kind : ConfigKind) → AreRead lines es
+pub read_or_fault : (lines : List (List ℕ)) (es : List LineMeaning) (n : ℕ) (kind : ConfigKind)
+    → AreRead lines es
     → IsFault lines n kind → ⊥
 read_or_fault lines es n kind read fault =
     let (fs, e, gs, is, fine, means) =
@@ -75,7 +78,8 @@ read_or_fault lines es n kind read fault =
     let same : fs ≡ fault.es = each_once fault.before fs fault.es fine fault.fine.each in
     by_cause fs e gs is same means fault.breaks
   where
-    by_cause : (fs : List LineMeaning) (e : LineMeaning) (gs : List LineMeaning) → es ≡ fs ++ e ∷ gs → fs ≡ fault.es
+    by_cause : (fs : List LineMeaning) (e : LineMeaning) (gs : List LineMeaning)
+        → es ≡ fs ++ e ∷ gs → fs ≡ fault.es
         → Means fault.line (Ok e) → Breaks (transforms_in fault.es) fault.line kind → ⊥
     by_cause fs e gs is same means (inl faulty) = not_both fault.line e kind means faulty
     by_cause fs e gs is same means (inr (f, also, many, too_many)) =

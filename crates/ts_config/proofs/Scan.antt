@@ -2,7 +2,7 @@
 use Rattle.std.proofs.Common.{◌≡◌, ℕ, List, [], ◌∷◌, ◌++◌, take, drop, not, Bool, true, false, cond, ◌||◌, inl, inr, refl, ap, sym, ◌∙◌, subst, append_assoc}
 use Rattle.std.specs.Prelude.{◌==◌}
 use Rattle.std.specs.List.{prefix_len, AllByRecursion}
-use Rattle.ts_config.specs.Words.{is_blank, is_end, EndsWord, EndsLine, IsQuotable, IsPlain, Spells, IsBlanks, HasNoWord, BeginsWith, IsWords}
+use Rattle.ts_config.specs.Words.{is_blank, is_end, EndsWord, EndsLine, IsQuotable, IsPlain, Spells, IsBlanks, HasNoWord, BeginsWithWord, IsWords}
 use Rattle.ts_config.specs.Value.{Front, nothing, word, unclosed, is_plain_byte, is_quotable_byte, quote_closed, quoted, front_of_text, front_of}
 use Rattle.ts_config.proofs.Cuts.{Stops, Passes, cut_front, cut_rest}
 
@@ -60,7 +60,7 @@ pub behind_blanks : (line blanks more : List ℕ) → IsBlanks blanks → Stops 
 behind_blanks line blanks more are stops is =
     ap (λ xs. drop (prefix_len is_blank xs) xs) is ∙ cut_rest is_blank blanks more are stops
 
-pub behind_blanks-word : (line w rest : List ℕ) → (begins : BeginsWith line w rest)
+pub behind_blanks-word : (line w rest : List ℕ) → (begins : BeginsWithWord line w rest)
     → drop (prefix_len is_blank line) line ≡ begins.1 ++ rest
 behind_blanks-word line w rest (blanks, text, are, spells, ends, is) =
     behind_blanks line blanks (text ++ rest) are (Spells-stops text w rest spells) is
@@ -102,7 +102,7 @@ front-spelled text w rest (inr between) ends =
     ap (λ t. front_of_text (t ++ rest)) between.1 ∙ ap front_of_text (behind_quote w rest)
     ∙ front-quoted w rest between.0 ends
 
-pub front-word : (line w rest : List ℕ) → BeginsWith line w rest → front_of line ≡ word w rest
+pub front-word : (line w rest : List ℕ) → BeginsWithWord line w rest → front_of line ≡ word w rest
 front-word line w rest (blanks, text, are, spells, ends, is) =
     ap front_of_text (behind_blanks line blanks (text ++ rest) are (Spells-stops text w rest spells) is)
     ∙ front-spelled text w rest spells ends
@@ -116,13 +116,13 @@ front-nothing line (blanks, rest, are, ends, is) =
     ap front_of_text (behind_blanks line blanks rest are (EndsLine-stops rest ends) is) ∙ front-end rest ends
 
 -- so a line begins with one word at most
-pub one_word : (line w rest v behind : List ℕ) → BeginsWith line w rest → BeginsWith line v behind
+pub one_word : (line w rest v behind : List ℕ) → BeginsWithWord line w rest → BeginsWithWord line v behind
     → (w ≡ v) × (rest ≡ behind)
 one_word line w rest v behind first second =
     let same : word w rest ≡ word v behind =
     sym (front-word line w rest first) ∙ front-word line v behind second in (cc, cc)
 
-pub word_or_none : (line w rest : List ℕ) → HasNoWord line → BeginsWith line w rest → ⊥
+pub word_or_none : (line w rest : List ℕ) → HasNoWord line → BeginsWithWord line w rest → ⊥
 word_or_none line w rest none begins =
     let same : nothing ≡ word w rest = sym (front-nothing line none) ∙ front-word line w rest begins in cc
 

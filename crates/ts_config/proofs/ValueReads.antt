@@ -12,7 +12,7 @@ use Rattle.ts_config.specs.declared.setup.ConfigRefusal.{ConfigRefusal}
 use Rattle.ts_config.specs.declared.setup.ConfigRefusal.TheVariants as c
 use Rattle.ts_config.specs.declared.setup.LineMeaning.{LineMeaning}
 use Rattle.ts_config.specs.Lines.{config_lines}
-use Rattle.ts_config.specs.Words.{is_blank, is_end, EndsWord, HasNoWord, BeginsWith, IsWords}
+use Rattle.ts_config.specs.Words.{is_blank, is_end, EndsWord, HasNoWord, BeginsWithWord, IsWords}
 use Rattle.ts_config.specs.Reading.{is_text, Means, MeansByWords, transform_in, transforms_in, AreRead, Breaks, IsFault, IsConfiguration, RefusesRightly}
 use Rattle.ts_config.specs.Scanning.{AreWords}
 use Rattle.ts_config.specs.Value.{Front, nothing, word, unclosed, is_plain_byte, is_quotable_byte, quoted, front_of_text, front_of, words_behind, words_below, words_in, meaning_of_words, meaning_of, Reading, Good, Bad, next_lines, read_lines, config_of, IsReading, IsConfigRefusal}
@@ -25,7 +25,7 @@ use Rattle.ts_config.proofs.WordsSoFar.{rest_shorter}
 -- the front is one of the line's
 abbrev IsFront : List ℕ → Front → Type 0
 IsFront line nothing = HasNoWord line
-IsFront line (word w rest) = BeginsWith line w rest
+IsFront line (word w rest) = BeginsWithWord line w rest
 IsFront line unclosed = (words : List (List ℕ)) → ¬ IsWords line words
 
 unequal : (a b : ℕ) → (a == b) ≡ false → a ≢ b
@@ -36,7 +36,7 @@ module _ (line bs : List ℕ) (text : 34 ∷ bs ≡ drop (prefix_len is_blank li
   between = take (prefix_len is_quotable_byte bs) bs
 
   closed_begins : (q : ℕ) (rest : List ℕ) → q ∷ rest ≡ drop (prefix_len is_quotable_byte bs) bs
-      → EndsWord rest → BeginsWith line (take (prefix_len is_quotable_byte bs) bs) rest
+      → EndsWord rest → BeginsWithWord line (take (prefix_len is_quotable_byte bs) bs) rest
   closed_begins q rest cut ends =
       let w : List ℕ = take (prefix_len is_quotable_byte bs) bs in
       let found = closed_word bs (q ∷ rest) cut w refl q rest refl in
@@ -81,7 +81,8 @@ words_right (suc n) line short =
     by_front (λ rest below. words_right n rest below) (front_of line)
     (front_right line (drop (prefix_len is_blank line) line) refl)
   where
-    more : (w rest : List ℕ) → BeginsWith line w rest → (found : Option (List (List ℕ))) → AreWords rest found
+    more : (w rest : List ℕ) → BeginsWithWord line w rest → (found : Option (List (List ℕ)))
+        → AreWords rest found
         → AreWords line (option_map (λ ws. w ∷ ws) found)
     more w rest begins (Some ws) are = (rest, begins, are)
     more w rest begins None unfit = none
@@ -118,11 +119,13 @@ abbrev AreSo : List (List ℕ) → Reading → Type 0
 AreSo lines (Good ts) = (es : List LineMeaning) × AreRead lines es × (ts ≡ transforms_in es)
 AreSo lines (Bad n kind) = IsFault lines n kind
 
-one_more : (es : List LineMeaning) (e : LineMeaning) → transforms_in (es ++ e ∷ []) ≡ transforms_in es ++ transform_in e
+one_more : (es : List LineMeaning) (e : LineMeaning)
+    → transforms_in (es ++ e ∷ []) ≡ transforms_in es ++ transform_in e
 one_more es e = transforms_in-append es (e ∷ []) ∙ ap (λ ts. transforms_in es ++ ts)
     (append-nil (transform_in e))
 
-lines_right : (lines before : List (List ℕ)) (es : List LineMeaning) (n : ℕ) → AreRead before es → n ≡ length before
+lines_right : (lines before : List (List ℕ)) (es : List LineMeaning) (n : ℕ) → AreRead before es
+    → n ≡ length before
     → AreSo (before ++ lines) (read_lines lines n (transforms_in es))
 lines_right [] before es n read is = (es, subst (λ ls. AreRead ls es) (sym (append-nil before)) read, refl)
 lines_right (line ∷ lines) before es n read is =
@@ -160,7 +163,8 @@ lines_right (line ∷ lines) before es n read is =
         (subst (λ ts. AreSo ((before ++ line ∷ []) ++ lines) (read_lines lines (n + 1) ts))
         (one_more es e) rest)
 
-    by_meaning : ((first : List (List ℕ)) (fs : List LineMeaning) (m : ℕ) → AreRead first fs → m ≡ length first
+    by_meaning : ((first : List (List ℕ)) (fs : List LineMeaning) (m : ℕ) → AreRead first fs
+        → m ≡ length first
         → AreSo (first ++ lines) (read_lines lines m (transforms_in fs)))
         → (meaning : Result LineMeaning ConfigKind) → Means line meaning
         → AreSo (before ++ line ∷ lines) (next_lines meaning (n + 1) (transforms_in es)

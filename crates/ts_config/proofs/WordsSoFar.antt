@@ -1,6 +1,6 @@
 -- A line whose first words were read.
 use Rattle.std.proofs.Common.{◌≡◌, ℕ, ◌<◌, List, [], ◌∷◌, ◌++◌, length, inl, inr, refl, ap, sym, ◌∙◌, subst, arith, append_assoc, append-nil, length-append}
-use Rattle.ts_config.specs.Words.{Spells, IsPlain, HasNoWord, BeginsWith, IsWords}
+use Rattle.ts_config.specs.Words.{Spells, IsPlain, HasNoWord, BeginsWithWord, IsWords}
 use Rattle.ts_config.proofs.Scan.{one_word, word_or_none}
 
 -- the line's words are these, and then the words of the rest
@@ -14,7 +14,7 @@ read_none line = record { build = λ words are. are; only = λ words are. (words
 
 -- one word more
 pub read_word : (line rest behind w : List ℕ) (so_far : List (List ℕ)) → ReadSoFar line rest so_far
-    → BeginsWith rest w behind → ReadSoFar line behind (so_far ++ w ∷ [])
+    → BeginsWithWord rest w behind → ReadSoFar line behind (so_far ++ w ∷ [])
 read_word line rest behind w so_far read begins = record {
   build = λ words are. subst (IsWords line) (sym (append_assoc so_far (w ∷ []) words))
       (read.build (w ∷ words) (behind, begins, are));
@@ -43,7 +43,7 @@ read_unfit line rest so_far read unfit words are = let (others, rest_are, is) = 
     unfit others rest_are
 
 -- a word takes at least one byte
-pub rest_shorter : (line w rest : List ℕ) → BeginsWith line w rest → length rest < length line
+pub rest_shorter : (line w rest : List ℕ) → BeginsWithWord line w rest → length rest < length line
 rest_shorter line w rest (blanks, text, are, spells, ends, is) =
     let some : 0 < length text = not_empty text w spells in
     omega (arith, some, ap length is, length-append blanks (text ++ rest), length-append text rest)

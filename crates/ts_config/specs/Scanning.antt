@@ -7,23 +7,23 @@ use Rattle.ts_config.specs.declared.setup.LineMeaning.{LineMeaning}
 use Rattle.ts_config.specs.declared.setup.TransformLine.{TransformLine}
 use Rattle.ts_config.specs.declared.read.LineRefusal.{LineRefusal}
 use Rattle.ts_config.specs.declared.read.LineRefusal.TheVariants as r
-use Rattle.ts_config.specs.declared.words.Next.{Next}
-use Rattle.ts_config.specs.declared.words.Next.TheVariants.{Nothing, Word, Unclosed}
+use Rattle.ts_config.specs.declared.words.NextWord.{NextWord}
+use Rattle.ts_config.specs.declared.words.NextWord.TheVariants.{Nothing, Word, Unclosed}
 use Rattle.ts_config.specs.Bytes.{quote_mark}
 use Rattle.ts_config.specs.Reading.{Means, Breaks}
-use Rattle.ts_config.specs.Words.{IsWords, BeginsWith, HasNoWord, IsQuotable, EndsWord}
+use Rattle.ts_config.specs.Words.{IsWords, BeginsWithWord, HasNoWord, IsQuotable, EndsWord}
 
 -- a text behind a quote is this word, the second quote and the rest, or it is no such text
-abbrev pub IsQuoted : List ℕ → Next → Type 0
+abbrev pub IsQuoted : List ℕ → NextWord → Type 0
 IsQuoted text Nothing = ⊥
 IsQuoted text (Word word rest) =
     IsQuotable word.now × EndsWord rest.now × (text ≡ word.now ++ quote_mark ∷ rest.now)
 IsQuoted text Unclosed = (w rest : List ℕ) → IsQuotable w → EndsWord rest → text ≡ w ++ quote_mark ∷ rest → ⊥
 
 -- what a line begins with: no word, this word and the rest, or a quote that fits no word
-abbrev pub IsNextWord : List ℕ → Next → Type 0
+abbrev pub IsNextWord : List ℕ → NextWord → Type 0
 IsNextWord line Nothing = HasNoWord line
-IsNextWord line (Word word rest) = BeginsWith line word.now rest.now
+IsNextWord line (Word word rest) = BeginsWithWord line word.now rest.now
 IsNextWord line Unclosed = (words : List (List ℕ)) → ¬ IsWords line words
 
 -- the words of a line, or none where a quote does not fit

@@ -86,7 +86,8 @@ pub data Reading : Type 0 where
   Bad : ℕ → ConfigKind → Reading
 
 -- the reading that goes on behind a line with this meaning, which is the n-th, counted from 1
-abbrev pub next_lines : Result LineMeaning ConfigKind → ℕ → List TransformLine → (List TransformLine → Reading)
+abbrev pub next_lines : Result LineMeaning ConfigKind → ℕ → List TransformLine
+    → (List TransformLine → Reading)
     → Reading
 next_lines (Err kind) n so_far next = Bad n kind
 next_lines (Ok e) n so_far next =

@@ -43,12 +43,12 @@ abbrev pub HasNoWord : List ℕ → Type 0
 HasNoWord line = (blanks rest : List ℕ) × IsBlanks blanks × EndsLine rest × (line ≡ blanks ++ rest)
 
 -- the line begins with this word, and the rest follows
-abbrev pub BeginsWith : List ℕ → List ℕ → List ℕ → Type 0
-BeginsWith line w rest =
+abbrev pub BeginsWithWord : List ℕ → List ℕ → List ℕ → Type 0
+BeginsWithWord line w rest =
     (blanks text : List ℕ) × IsBlanks blanks × Spells text w × EndsWord rest
     × (line ≡ blanks ++ (text ++ rest))
 
 -- the line is these words, between blanks, and maybe a comment
 abbrev pub IsWords : List ℕ → List (List ℕ) → Type 0
 IsWords line [] = HasNoWord line
-IsWords line (w ∷ ws) = (rest : List ℕ) × BeginsWith line w rest × IsWords rest ws
+IsWords line (w ∷ ws) = (rest : List ℕ) × BeginsWithWord line w rest × IsWords rest ws

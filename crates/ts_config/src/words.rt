@@ -62,7 +62,7 @@ fn count_quoted(text: &[u8]) -> usize
 }
 
 // What a line begins with.
-enum Next<'a> {
+enum NextWord<'a> {
     // No word, and maybe a comment.
     Nothing,
     Word { word: &'a [u8], rest: &'a [u8] },
@@ -82,32 +82,32 @@ fn ends_word(rest: &[u8]) -> bool
 }
 
 // The word between quotes of which this is what stands behind the first.
-fn quoted_word(text: &[u8]) -> Next
+fn quoted_word(text: &[u8]) -> NextWord
     ensures { IsQuoted text.now result }
 {
     let (word, behind) = text.split_at(count_quoted(text));
     let Some((_, rest)) = behind.split_first() else {
-        return Next::Unclosed;
+        return NextWord::Unclosed;
     };
     if !ends_word(rest) {
-        return Next::Unclosed;
+        return NextWord::Unclosed;
     }
-    Next::Word { word, rest }
+    NextWord::Word { word, rest }
 }
 
-fn next_word(line: &[u8]) -> Next
+fn next_word(line: &[u8]) -> NextWord
     ensures { IsNextWord line.now result }
 {
     let (_, text) = line.split_at(count_blanks(line));
     let Some((first, behind)) = text.split_first() else {
-        return Next::Nothing;
+        return NextWord::Nothing;
     };
     match *first {
-        b'#' => Next::Nothing,
+        b'#' => NextWord::Nothing,
         b'"' => quoted_word(behind),
         _ => {
             let (word, rest) = text.split_at(count_plain(text));
-            Next::Word { word, rest }
+            NextWord::Word { word, rest }
         }
     }
 }
@@ -120,9 +120,9 @@ pub fn words_of(alloc: Global, line: &[u8]) -> Result<Option<Vec<&[u8]>>, NoMemo
     let mut rest = line;
     loop {
         match next_word(rest) {
-            Next::Nothing => return Ok(Some(words)),
-            Next::Unclosed => return Ok(None),
-            Next::Word { word, rest: behind } => {
+            NextWord::Nothing => return Ok(Some(words)),
+            NextWord::Unclosed => return Ok(None),
+            NextWord::Word { word, rest: behind } => {
                 words.push(word)?;
                 rest = behind;
             }

@@ -4,7 +4,7 @@ use Rattle.std.specs.Fmt.{decimal}
 use Rattle.ts_hooks.specs.declared.txn_end.TxnEnd.{TxnEnd}
 use Rattle.ts_hooks.specs.declared.txn_end.TxnEnd.TheVariants as e
 use Rattle.ts_link.specs.Texts.{line_feed}
-use Rattle.ts_record.specs.declared.report.Block.{Block}
+use Rattle.ts_record.specs.declared.report.ReportBlock.{ReportBlock}
 
 -- the word of an end in a report; the other ends have none, since the links of a recording do not fail
 abbrev pub end_word : TxnEnd → List ℕ
@@ -39,7 +39,7 @@ abbrev pub head_lines : TxnEnd → List ℕ → List ℕ
 head_lines end head = codes "end " ++ end_word end ++ line_feed ∷ [] ++ sized_text (codes "head ") head
 
 -- the lines on the transaction of this number
-abbrev pub block_text : ℕ → Block → List ℕ
+abbrev pub block_text : ℕ → ReportBlock → List ℕ
 block_text number block =
     codes "txn " ++ decimal number ++ line_feed ∷ []
     ++ sized_text (codes "request ") block.request
@@ -55,10 +55,10 @@ abbrev pub report_end : List ℕ
 report_end = codes "done\n"
 
 -- the lines on transactions, of which the first has this number
-abbrev pub blocks_text : ℕ → List Block → List ℕ
+abbrev pub blocks_text : ℕ → List ReportBlock → List ℕ
 blocks_text number [] = []
 blocks_text number (b ∷ bs) = block_text number b ++ blocks_text (number + 1) bs
 
 -- the report on transactions that came to these blocks, in their order
-abbrev pub report_text : List Block → List ℕ
+abbrev pub report_text : List ReportBlock → List ℕ
 report_text blocks = report_begin ++ blocks_text 1 blocks ++ report_end

@@ -15,4 +15,4 @@ pub use link::RecordedLink;
 pub use print::print_recording;
 pub use read::read_recording;
 pub use recording::{MOST_PIECE, MOST_TXNS, RecordedTxn, Recording, RecordingRefusal};
-pub use report::{Block, REPORT_BEGIN, REPORT_END, add_block, report_block};
+pub use report::{REPORT_BEGIN, REPORT_END, ReportBlock, add_block, report_block};

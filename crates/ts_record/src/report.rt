@@ -14,9 +14,9 @@ pub const REPORT_BEGIN: &[u8] = b"tsx-report 1\n";
 /// The last line of a report.
 pub const REPORT_END: &[u8] = b"done\n";
 
-/// What a transaction came to.
+/// What the report shows of a transaction's block (that of `ts_block`): all but the mode of its body.
 #[derive(Drop)]
-pub struct Block {
+pub struct ReportBlock {
     /// The head that was sent to the origin, empty where none was.
     pub request: Octets,
     /// How it ended.
@@ -79,7 +79,7 @@ fn print_head(out: &mut Vec<u8>, end: TxnEnd, head: &[u8]) -> Result<(), NoMemor
 
 /// Adds the lines on the transaction of this number, counted from 1, to a report. Only a whole answer has
 /// lines for its body.
-pub fn add_block(out: &mut Vec<u8>, number: u64, block: &Block) -> Result<(), NoMemory>
+pub fn add_block(out: &mut Vec<u8>, number: u64, block: &ReportBlock) -> Result<(), NoMemory>
     requires { IsReported block.now.end }
     ensures text { OnOk result (out.new.items ≡ out.old.items ++ block_text number block.now) }
 
@@ -95,7 +95,7 @@ pub fn add_block(out: &mut Vec<u8>, number: u64, block: &Block) -> Result<(), No
 }
 
 /// The lines of a report on the transaction of this number, counted from 1.
-pub fn report_block(alloc: Global, number: u64, block: &Block) -> Result<Octets, NoMemory>
+pub fn report_block(alloc: Global, number: u64, block: &ReportBlock) -> Result<Octets, NoMemory>
     requires { IsReported block.now.end }
     ensures { IfOk result (λ o. o ≡ block_text number block.now) }
 {

@@ -67,7 +67,10 @@ impl<C: Link> Upstream<C> for MemLink {
 
     ghost upload_left = { λ c o. Some 0 };
 
-    fn upload(&mut self, _client: &mut C) -> Uploaded {
+    fn upload(&mut self, _client: &mut C) -> Uploaded
+        ensures done { result ≡ Uploaded.Done }
+        ensures nothing { (self.new ≡ self.old) × (_client.new ≡ _client.old) }
+    {
         Uploaded::Done
     }
 

@@ -26,5 +26,6 @@ returns-in-None-clause-refused c =
     c.read_length-length.result.0
     (numbered c.args.bytes.now c.read_length-length.result.1.now c.in-Some.rest.now
     c.read_length-length.result.0 c.read_length-length.ensures (omega arith) c.in-Some.ensures.some)
-    (front_and_rest c.in-Some.rest.now c.split_at.result.0.now c.split_at.result.1.now c.read_length-length.result.0
+    (front_and_rest c.in-Some.rest.now c.split_at.result.0.now c.split_at.result.1.now
+    c.read_length-length.result.0
     c.split_at.ensures.front c.split_at.ensures.back) c.split_at.ensures.front_len c.in-None.ensures.none
