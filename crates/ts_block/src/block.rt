@@ -28,7 +28,8 @@ use ts_wire::{
 
 /// What a transaction makes of all bytes of both its links: the head that the origin gets, how it ends, and
 /// the head that the client gets, with the mode of its body and the body without its frames. Texts are empty
-/// where there are none, and so is the body of a transaction that does not end whole.
+/// where there are none, and so is the body of a transaction that does not end whole. A report shows it as
+/// a `ReportBlock` of `ts_record`.
 #[derive(Drop)]
 pub struct Block {
     pub request: Octets,

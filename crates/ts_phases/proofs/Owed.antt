@@ -1,6 +1,6 @@
 -- What a step owes beside its facts, by the call that it made: a look for a head, a write, a text that was
 -- queued, or none.
-use Rattle.std.proofs.Common.{◌≡◌, List, ℕ, Bool, false, ap, refl, sym, subst}
+use Rattle.std.proofs.Common.{◌≡◌, List, ℕ, Bool, false, ap, inl, inr, refl, sym, subst}
 use Rattle.ts_hooks.specs.declared.txn_end.TxnEnd.TheVariants as E
 use Rattle.ts_link.specs.declared.link.Link as link
 use Rattle.ts_upstream.specs.declared.upstream.Upstream as upstream
@@ -12,12 +12,13 @@ use Rattle.ts_vconn.specs.declared.moves.Pushed.{Pushed}
 use Rattle.ts_vconn.specs.declared.moves.Pushed.TheVariants as V
 use Rattle.ts_wire.specs.declared.heads.RequestHead.{RequestHead}
 use Rattle.ts_wire.specs.declared.heads.ResponseHead.{ResponseHead}
+use Rattle.ts_block.specs.declared.own_answer.OwnStatus.{OwnStatus}
 use Rattle.ts_block.specs.declared.own_answer.OwnStatus.TheVariants as O
 use Rattle.ts_phases.specs.Holding.{StepKeeps}
 use Rattle.ts_phases.specs.Moving.{LowersUpload, MovesUpload, SeeksRequest, SeeksResponse, QueuesOwn}
 use Rattle.ts_phases.specs.Moving.{QueuesRequest, WritesClient}
 use Rattle.ts_phases.specs.Moving.{LowersUpload, MovesUpload, WritesOrigin}
-use Rattle.ts_phases.specs.Owed.{Follows, StepOwes}
+use Rattle.ts_phases.specs.Owed.{IsBadGateway, MayFollow, StepOwes}
 use Rattle.ts_phases.specs.Steps.{UploadLeads, AnswersOriginFault, ClosesForClientFault, LeavesClientIn}
 use Rattle.ts_phases.specs.Steps.{LeavesOriginIn}
 use Rattle.ts_phases.specs.Steps.{MindsLinks, MindsLinksIn, WaitsRightly}
@@ -80,7 +81,7 @@ after {C} {O} {client} {origin} {both} {t} {u} keeps = view_of client origin u
 module _ {C O : Type 0} {client : link.Ghosts C} {origin : link.Ghosts O} {both : upstream.Ghosts O C}
     {t u : Core C O} {s : Step} (keeps : StepKeeps client origin both t u) where
   -- nothing moved
-  pub unmoved : (p : Phase) → after keeps ≡ before keeps → Follows p s.phase
+  pub unmoved : (p : Phase) → after keeps ≡ before keeps → MayFollow p s.phase
       → MindsLinksIn client origin both t u p s
       → WaitsRightly s.next (before keeps) (after keeps) → StepOwes client origin both t u p s
   unmoved p same follows minds waits = record {
@@ -99,7 +100,7 @@ module _ {C O : Type 0} {client : link.Ghosts C} {origin : link.Ghosts O} {both 
   -- a request's head was looked for: the link was ready, was not, or failed
   asked_with : (found : Found RequestHead) → SeeksRequest client.tells (before keeps) (after keeps) found
       → MindsLinks (before keeps) (after keeps) s
-      → Follows P.ReadRequest s.phase → WaitsRightly s.next (before keeps) (after keeps)
+      → MayFollow P.ReadRequest s.phase → WaitsRightly s.next (before keeps) (after keeps)
       → StepOwes client origin both t u P.ReadRequest s
   asked_with found hears minds follows waits = record {
     follows = follows;
@@ -115,7 +116,7 @@ module _ {C O : Type 0} {client : link.Ghosts C} {origin : link.Ghosts O} {both 
 
   pub asked : (found : Found RequestHead) → SeeksRequest client.tells (before keeps) (after keeps) found
       → found_failed found ≡ false
-      → found_again found ≡ false → Follows P.ReadRequest s.phase
+      → found_again found ≡ false → MayFollow P.ReadRequest s.phase
       → WaitsRightly s.next (before keeps) (after keeps)
       → StepOwes client origin both t u P.ReadRequest s
   asked found hears fine ready = asked_with found hears (heard_request client.tells (before keeps)
@@ -123,7 +124,7 @@ module _ {C O : Type 0} {client : link.Ghosts C} {origin : link.Ghosts O} {both 
       hears)
 
   pub asked_late : SeeksRequest client.tells (before keeps) (after keeps) (F.Read L.Again) → s.next ≡ N.Wait
-      → Follows P.ReadRequest s.phase
+      → MayFollow P.ReadRequest s.phase
       → StepOwes client origin both t u P.ReadRequest s
   asked_late hears later follows = asked_with (F.Read L.Again) hears
       (late_client client.tells (before keeps) (after keeps) s hears later) follows
@@ -132,7 +133,7 @@ module _ {C O : Type 0} {client : link.Ghosts C} {origin : link.Ghosts O} {both 
 
   pub asked_lost : SeeksRequest client.tells (before keeps) (after keeps) (F.Read L.Failed)
       → ClosesForClientFault s.phase
-      → Follows P.ReadRequest s.phase → WaitsRightly s.next (before keeps) (after keeps)
+      → MayFollow P.ReadRequest s.phase → WaitsRightly s.next (before keeps) (after keeps)
       → StepOwes client origin both t u P.ReadRequest s
   asked_lost hears closes = asked_with (F.Read L.Failed) hears
       (lost_client client.tells (before keeps) (after keeps) s hears closes)
@@ -141,7 +142,7 @@ module _ {C O : Type 0} {client : link.Ghosts C} {origin : link.Ghosts O} {both 
   module _ (q : Request) where
     heard_with : (found : Found ResponseHead) → SeeksResponse origin.tells (before keeps) (after keeps) found
         → MindsLinks (before keeps) (after keeps) s
-        → Follows (P.ReadResponse q) s.phase → WaitsRightly s.next (before keeps) (after keeps)
+        → MayFollow (P.ReadResponse q) s.phase → WaitsRightly s.next (before keeps) (after keeps)
         → StepOwes client origin both t u (P.ReadResponse q) s
     heard_with found hears minds follows waits = record {
       follows = follows;
@@ -156,7 +157,7 @@ module _ {C O : Type 0} {client : link.Ghosts C} {origin : link.Ghosts O} {both 
 
     pub heard : (found : Found ResponseHead) → SeeksResponse origin.tells (before keeps) (after keeps) found
         → found_failed found ≡ false
-        → found_again found ≡ false → Follows (P.ReadResponse q) s.phase
+        → found_again found ≡ false → MayFollow (P.ReadResponse q) s.phase
         → WaitsRightly s.next (before keeps) (after keeps)
         → StepOwes client origin both t u (P.ReadResponse q) s
     heard found hears fine ready = heard_with found hears (heard_response origin.tells (before keeps)
@@ -165,7 +166,7 @@ module _ {C O : Type 0} {client : link.Ghosts C} {origin : link.Ghosts O} {both 
 
     pub heard_late : SeeksResponse origin.tells (before keeps) (after keeps) (F.Read L.Again)
         → s.next ≡ N.Wait
-        → Follows (P.ReadResponse q) s.phase → StepOwes client origin both t u (P.ReadResponse q) s
+        → MayFollow (P.ReadResponse q) s.phase → StepOwes client origin both t u (P.ReadResponse q) s
     heard_late hears later follows = heard_with (F.Read L.Again) hears
         (late_origin origin.tells (before keeps) (after keeps) s hears later) follows
         (subst (λ next. WaitsRightly next (before keeps) (after keeps)) (sym later)
@@ -173,7 +174,7 @@ module _ {C O : Type 0} {client : link.Ghosts C} {origin : link.Ghosts O} {both 
 
     pub heard_lost : SeeksResponse origin.tells (before keeps) (after keeps) (F.Read L.Failed)
         → AnswersOriginFault s.phase
-        → Follows (P.ReadResponse q) s.phase → WaitsRightly s.next (before keeps) (after keeps)
+        → MayFollow (P.ReadResponse q) s.phase → WaitsRightly s.next (before keeps) (after keeps)
         → StepOwes client origin both t u (P.ReadResponse q) s
     heard_lost hears answers = heard_with (F.Read L.Failed) hears
         (lost_origin origin.tells (before keeps) (after keeps) s hears answers)
@@ -182,7 +183,7 @@ module _ {C O : Type 0} {client : link.Ghosts C} {origin : link.Ghosts O} {both 
   module _ (q : Request) where
     sent_with : (p : Pushed) → WritesOrigin origin.tells (before keeps) (after keeps) p
         → MindsLinks (before keeps) (after keeps) s
-        → Follows (P.SendRequest q) s.phase → WaitsRightly s.next (before keeps) (after keeps)
+        → MayFollow (P.SendRequest q) s.phase → WaitsRightly s.next (before keeps) (after keeps)
         → StepOwes client origin both t u (P.SendRequest q) s
     sent_with p writes minds follows waits = record {
       follows = follows;
@@ -198,13 +199,13 @@ module _ {C O : Type 0} {client : link.Ghosts C} {origin : link.Ghosts O} {both 
 
     pub sent : (p : Pushed) → WritesOrigin origin.tells (before keeps) (after keeps) p → push_failed p ≡ false
         → push_again p ≡ false
-        → Follows (P.SendRequest q) s.phase → WaitsRightly s.next (before keeps) (after keeps)
+        → MayFollow (P.SendRequest q) s.phase → WaitsRightly s.next (before keeps) (after keeps)
         → StepOwes client origin both t u (P.SendRequest q) s
     sent p writes fine ready = sent_with p writes (wrote_origin origin.tells (before keeps) (after keeps) s p
         fine ready writes)
 
     pub sent_late : WritesOrigin origin.tells (before keeps) (after keeps) V.Again → s.next ≡ N.Wait
-        → Follows (P.SendRequest q) s.phase
+        → MayFollow (P.SendRequest q) s.phase
         → StepOwes client origin both t u (P.SendRequest q) s
     sent_late writes later follows = sent_with V.Again writes
         (full_origin origin.tells (before keeps) (after keeps) s writes later)
@@ -214,7 +215,7 @@ module _ {C O : Type 0} {client : link.Ghosts C} {origin : link.Ghosts O} {both 
 
     pub sent_lost : WritesOrigin origin.tells (before keeps) (after keeps) V.Failed
         → AnswersOriginFault s.phase
-        → Follows (P.SendRequest q) s.phase → WaitsRightly s.next (before keeps) (after keeps)
+        → MayFollow (P.SendRequest q) s.phase → WaitsRightly s.next (before keeps) (after keeps)
         → StepOwes client origin both t u (P.SendRequest q) s
     sent_lost writes answers = sent_with V.Failed writes (origin_left origin.tells (before keeps)
         (after keeps) s writes answers)
@@ -223,7 +224,7 @@ module _ {C O : Type 0} {client : link.Ghosts C} {origin : link.Ghosts O} {both 
   module _ (a : OwnAnswer) where
     told_with : (p : Pushed) → WritesClient client.tells (before keeps) (after keeps) p
         → MindsLinks (before keeps) (after keeps) s
-        → Follows (P.Sending a) s.phase → WaitsRightly s.next (before keeps) (after keeps)
+        → MayFollow (P.Sending a) s.phase → WaitsRightly s.next (before keeps) (after keeps)
         → StepOwes client origin both t u (P.Sending a) s
     told_with p writes minds follows waits = record {
       follows = follows;
@@ -239,13 +240,13 @@ module _ {C O : Type 0} {client : link.Ghosts C} {origin : link.Ghosts O} {both 
     pub answered : (p : Pushed) → WritesClient client.tells (before keeps) (after keeps) p
         → push_failed p ≡ false
         → push_again p ≡ false
-        → Follows (P.Sending a) s.phase → WaitsRightly s.next (before keeps) (after keeps)
+        → MayFollow (P.Sending a) s.phase → WaitsRightly s.next (before keeps) (after keeps)
         → StepOwes client origin both t u (P.Sending a) s
     answered p writes fine ready = told_with p writes (wrote_client client.tells (before keeps) (after keeps)
         s p fine ready writes)
 
     pub answered_late : WritesClient client.tells (before keeps) (after keeps) V.Again → s.next ≡ N.Wait
-        → Follows (P.Sending a) s.phase
+        → MayFollow (P.Sending a) s.phase
         → StepOwes client origin both t u (P.Sending a) s
     answered_late writes later follows = told_with V.Again writes
         (full_client client.tells (before keeps) (after keeps) s writes later) follows
@@ -254,14 +255,14 @@ module _ {C O : Type 0} {client : link.Ghosts C} {origin : link.Ghosts O} {both 
 
     pub answered_lost : WritesClient client.tells (before keeps) (after keeps) V.Failed
         → ClosesForClientFault s.phase
-        → Follows (P.Sending a) s.phase → WaitsRightly s.next (before keeps) (after keeps)
+        → MayFollow (P.Sending a) s.phase → WaitsRightly s.next (before keeps) (after keeps)
         → StepOwes client origin both t u (P.Sending a) s
     answered_lost writes closes = told_with V.Failed writes (client_left client.tells (before keeps)
         (after keeps) s writes closes)
 
   -- a text was queued
   pub request_queued : (q : Request) (text : List ℕ) → QueuesRequest text (before keeps) (after keeps)
-      → Follows (P.SendRequestHdr q) s.phase
+      → MayFollow (P.SendRequestHdr q) s.phase
       → WaitsRightly s.next (before keeps) (after keeps) → StepOwes client origin both t u
       (P.SendRequestHdr q) s
   request_queued q text queues follows waits = record {
@@ -276,7 +277,7 @@ module _ {C O : Type 0} {client : link.Ghosts C} {origin : link.Ghosts O} {both 
   }
 
   pub own_queued : (a : OwnAnswer) (head body : List ℕ) → QueuesOwn head body (before keeps) (after keeps)
-      → Follows (P.SendResponseHdr a) s.phase → WaitsRightly s.next (before keeps) (after keeps)
+      → MayFollow (P.SendResponseHdr a) s.phase → WaitsRightly s.next (before keeps) (after keeps)
       → StepOwes client origin both t u (P.SendResponseHdr a) s
   own_queued a head body queues follows waits = record {
     follows = follows;
@@ -296,7 +297,7 @@ pub uploads : {C O : Type 0} {client : link.Ghosts C} {origin : link.Ghosts O} {
     (view_of client origin t) (view_of client origin u)
     → LowersUpload answer (upload_of both t) (upload_of both u) (view_of client origin t)
     (view_of client origin u)
-    → UploadLeads answer q s → Follows (P.Upload q) s.phase
+    → UploadLeads answer q s → MayFollow (P.Upload q) s.phase
     → WaitsRightly s.next (view_of client origin t) (view_of client origin u)
     → StepOwes client origin both t u (P.Upload q) s
 uploads keeps q answer moves lowers leads follows waits = record {
@@ -309,7 +310,7 @@ uploads keeps q answer moves lowers leads follows waits = record {
 
 -- a step that calls nothing
 pub stands : {C O : Type 0} (client : link.Ghosts C) (origin : link.Ghosts O) (both : upstream.Ghosts O C)
-    (t : Core C O) {s : Step} (p : Phase) → Follows p s.phase → MindsLinksIn client origin both t t p s
+    (t : Core C O) {s : Step} (p : Phase) → MayFollow p s.phase → MindsLinksIn client origin both t t p s
     → WaitsRightly s.next (view_of client origin t) (view_of client origin t)
     → StepOwes client origin both t t p s
 stands client origin both t p follows minds waits = unmoved (all_kept client origin both t) p refl follows
@@ -317,7 +318,7 @@ stands client origin both t p follows minds waits = unmoved (all_kept client ori
 
 -- the same of a phase that is known by an equation
 pub stands_at : {C O : Type 0} (client : link.Ghosts C) (origin : link.Ghosts O) (both : upstream.Ghosts O C)
-    (t : Core C O) {s : Step} {p : Phase} (q : Phase) → p ≡ q → Follows q s.phase
+    (t : Core C O) {s : Step} {p : Phase} (q : Phase) → p ≡ q → MayFollow q s.phase
     → MindsLinksIn client origin both t t q s
     → WaitsRightly s.next (view_of client origin t) (view_of client origin t)
     → StepOwes client origin both t t p s
@@ -339,6 +340,20 @@ pub bad_gateway : {a : OwnAnswer} {to_head : Bool}
     → a ≡ record { status = O.BadGateway; to_head = to_head; end = E.OriginFault }
     → (a.status ≡ O.BadGateway) × (a.end ≡ E.OriginFault)
 bad_gateway is = (ap (λ (x : OwnAnswer). x.status) is, ap (λ (x : OwnAnswer). x.end) is)
+
+-- that where the origin gave no response that can be passed on
+pub no_response : {a : OwnAnswer} {to_head : Bool}
+    → a ≡ record { status = O.BadGateway; to_head = to_head; end = E.Whole } → IsBadGateway a
+no_response is = (ap (λ (x : OwnAnswer). x.status) is, inl (ap (λ (x : OwnAnswer). x.end) is))
+
+-- and that where the origin's link failed
+pub lost_response : (a : OwnAnswer) → (a.status ≡ O.BadGateway) × (a.end ≡ E.OriginFault) → IsBadGateway a
+lost_response a lost = (lost.0, inr lost.1)
+
+-- the answer of a status, and the whole end after it
+pub ends_whole : {a : OwnAnswer} {status : OwnStatus} {to_head : Bool}
+    → a ≡ record { status = status; to_head = to_head; end = E.Whole } → a.end ≡ E.Whole
+ends_whole is = ap (λ (x : OwnAnswer). x.end) is
 
 -- and the 400 answer after a refusal
 pub refusal : {a : OwnAnswer} {to_head : Bool}

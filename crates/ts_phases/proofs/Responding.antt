@@ -19,7 +19,7 @@ use Rattle.ts_block.specs.Block.{IsGood, LacksAnswer, bad_status, faulty, lackin
 use Rattle.ts_block.specs.Block.{request_text}
 use Rattle.ts_phases.specs.View.{LinkSide, View}
 use Rattle.ts_phases.specs.Moving.{SeeksResponse, SideReads}
-use Rattle.ts_phases.specs.Facts.{Awaits, ClientWaits, OwnReady, Relays, Served, decided, fault}
+use Rattle.ts_phases.specs.Facts.{AwaitsFinal, ClientWaits, OwnReady, Relays, Served, decided, fault}
 use Rattle.ts_phases.specs.Facts as facts
 use Rattle.ts_phases.specs.Ends.{AnyEnd}
 use Rattle.ts_phases.specs.Ends as ends
@@ -91,7 +91,7 @@ module _ (setup : Setup) (refuses : Type 0) where
     no_waits = waits ∙ h.no_waits;
   }
 
-  pub awaits_any : (v : View) (q : Request) → Awaits setup refuses v q → AnyEnd setup refuses v
+  pub awaits_any : (v : View) (q : Request) → AwaitsFinal setup refuses v q → AnyEnd setup refuses v
   awaits_any v q h = record {
     took = facts.request q h.served.goes h.served.carries;
     text =
@@ -115,9 +115,10 @@ module _ (setup : Setup) (refuses : Type 0) where
     has : HasResponse from head v.origin.inbox
     held : length v.origin.inbox ≤ head_limit
 
-  module _ (t : Bool) (v w : View) (q : Request) (told : t ≡ true) (h : Awaits setup refuses v q) where
+  module _ (t : Bool) (v w : View) (q : Request) (told : t ≡ true)
+      (h : AwaitsFinal setup refuses v q) where
     awaits_at : (s : LinkSide) (p : Pulled) → SideReads t v.origin s p → length s.inbox ≤ head_limit
-        → Awaits setup refuses (record v { origin = s }) q
+        → AwaitsFinal setup refuses (record v { origin = s }) q
     awaits_at s p reads few =
         let gives = reads.pulls.pulls.told told in
         record {
@@ -132,13 +133,13 @@ module _ (setup : Setup) (refuses : Type 0) where
         }
 
     -- the origin's head is read on
-    pub awaits_on : (p : Pulled) → SeeksResponse t v w (F.Read p) → Awaits setup refuses w q
-    awaits_on p hears = subst (λ (x : View). Awaits setup refuses x q) (sym hears.others)
+    pub awaits_on : (p : Pulled) → SeeksResponse t v w (F.Read p) → AwaitsFinal setup refuses w q
+    awaits_on p hears = subst (λ (x : View). AwaitsFinal setup refuses x q) (sym hears.others)
         (awaits_at w.origin p hears.finds.1 hears.finds.2)
 
     -- memory lacked
-    pub awaits_still : SeeksResponse t v w F.NoMemory → Awaits setup refuses w q
-    awaits_still hears = subst (λ (x : View). Awaits setup refuses x q)
+    pub awaits_still : SeeksResponse t v w F.NoMemory → AwaitsFinal setup refuses w q
+    awaits_still hears = subst (λ (x : View). AwaitsFinal setup refuses x q)
         (sym (hears.others ∙ ap (λ (s : LinkSide). record v { origin = s }) hears.finds)) h
 
     -- ---- a head
@@ -164,7 +165,7 @@ module _ (setup : Setup) (refuses : Type 0) where
 
     -- an interim one
     pub interim : (head : ResponseHead) (is : Bool) → SeeksResponse t v w (F.Head head)
-        → is ≡ is_interim head.status → is ≡ true → Awaits setup refuses w q
+        → is ≡ is_interim head.status → is ≡ true → AwaitsFinal setup refuses w q
     interim head is hears says so =
         let r = responds head hears in
         record {
@@ -237,7 +238,7 @@ module _ (setup : Setup) (refuses : Type 0) where
         → a ≡ record { status = O.BadGateway; to_head = asks_head q.head; end = E.Whole }
         → OwnReady setup refuses w a
     no_head a hears same =
-        let now = subst (λ (x : View). Awaits setup refuses x q)
+        let now = subst (λ (x : View). AwaitsFinal setup refuses x q)
         (sym (hears.others ∙ ap (λ (s : LinkSide). record v { origin = s }) hears.finds.1)) h in
         let lacks = subst (λ (s : LinkSide). (more : List ℕ) → LacksResponse (s.inbox ++ more))
         (sym hears.finds.1) hears.finds.0 in

@@ -22,7 +22,7 @@ use Rattle.ts_block.specs.Rules.{ruled}
 use Rattle.ts_block.specs.Block.{own_block, request_text}
 use Rattle.ts_phases.specs.View.{HasFailed, LinkSide, View}
 use Rattle.ts_phases.specs.Moving.{MovesUpload}
-use Rattle.ts_phases.specs.Facts.{Awaits, CarriesRequest, Goes, OwnReady, TookExactly, Uploading, decided}
+use Rattle.ts_phases.specs.Facts.{AwaitsFinal, CarriesRequest, Goes, OwnReady, TookExactly, Uploading, decided}
 use Rattle.ts_phases.specs.Facts as facts
 use Rattle.ts_phases.specs.Ends.{AnyEnd, EndFact}
 use Rattle.ts_block.specs.declared.own_answer.OwnStatus.TheVariants as O
@@ -107,7 +107,8 @@ module _ (setup : Setup) (ct ot : Bool) (refuses : List ℕ → Type 0) (v w : V
       (m.moves.bytes client origin) m.moves.keeps)
 
   -- all of it was
-  pub uploaded : MovesUpload ct ot refuses U.Done v w → Awaits setup (refuses v.client.look.source) w q
+  pub uploaded : MovesUpload ct ot refuses U.Done v w
+      → AwaitsFinal setup (refuses v.client.look.source) w q
   uploaded m =
       let now = uploads_on U.Done m in
       record {

@@ -1,6 +1,5 @@
--- Where the step of a phase leads: a transaction goes on, or has ended, and behind a step at most one event
--- is
--- set (Developer's Guide, "Continuations" and "Actions and Events").
+-- Where the step of a phase leads: a transaction goes on, or has ended, and behind a step at most one
+-- event is set (Developer's Guide, "Continuations" and "Actions and Events").
 use Rattle.std.specs.Prelude.{◌≡◌, ℕ, Bool, true, false, ⊤}
 use Rattle.ts_phases.specs.declared.phase.Phase.{Phase}
 use Rattle.ts_phases.specs.declared.phase.Phase.TheVariants as P

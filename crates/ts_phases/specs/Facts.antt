@@ -141,7 +141,7 @@ module _ (setup : Setup) where
       pub no_waits : origin.outbox ≡ []
 
     -- no final head was found behind some interim ones, and no more waits than a head may be long
-    pub record Awaits (v : View) (q : Request) : Type 0 where
+    pub record AwaitsFinal (v : View) (q : Request) : Type 0 where
       pub waits : ClientWaits v.client v.sent
       pub served : Served (all_of v.client.look) q v.dialed v.origin
       pub passed : PassesInterims v.origin.look.given v.origin.inbox

@@ -7,7 +7,7 @@ use Rattle.ts_link.specs.declared.link.Link as link
 use Rattle.ts_upstream.specs.declared.upstream.Upstream as upstream
 use Rattle.ts_upstream.specs.Uploads.{SameRefusal}
 use Rattle.ts_phases.specs.View.{IsPaired, OriginRefuses, View, is_dialed, refuses_if, side_if, view_of}
-use Rattle.ts_phases.specs.Facts.{IsAllowed, Asking, Awaits, PassesCheck, OwnReady, OwnSends, Relays}
+use Rattle.ts_phases.specs.Facts.{IsAllowed, Asking, AwaitsFinal, PassesCheck, OwnReady, OwnSends, Relays}
 use Rattle.ts_phases.specs.Facts.{SendingRequest, Uploading}
 use Rattle.ts_phases.specs.Ends.{EndFact}
 use Rattle.ts_phases.specs.declared.parts.Core.{Core}
@@ -25,7 +25,7 @@ module _ (setup : Setup) (refuses : Type 0) where
   PhaseFact v (P.SendRequestHdr q) = IsAllowed setup v q
   PhaseFact v (P.SendRequest q) = SendingRequest setup v q
   PhaseFact v (P.Upload q) = Uploading setup v q
-  PhaseFact v (P.ReadResponse q) = Awaits setup refuses v q
+  PhaseFact v (P.ReadResponse q) = AwaitsFinal setup refuses v q
   PhaseFact v (P.ReadResponseHdr q h) = Relays setup refuses v q h
   PhaseFact v (P.ResponseTransform q h) = Relays setup refuses v q h
   PhaseFact v (P.SendResponseHdr a) = OwnReady setup refuses v a

@@ -66,10 +66,9 @@ QueuesOn look text old new =
     (is_dialed new ≡ is_dialed old) × GoesIf (λ k l. l ≡ k) old new
     × (side_if look new ≡ record (side_if look old) { outbox = (side_if look old).outbox ++ text })
 
--- What came of looking for a head at the front of what a link gave, which bytes have or lack as is said here:
--- a head is taken away from there; none can come; or none is there yet, and one read was made, to no more
--- than
--- the most that a head is long.
+-- What came of looking for a head at the front of what a link gave, which bytes have or lack as is said
+-- here: a head is taken away from there; none can come; or none is there yet, and one read was made, to no
+-- more than the most that a head is long.
 abbrev pub Seeks : {H : Type 0} → (List ℕ → H → List ℕ → Type 0) → (List ℕ → Type 0)
     → Bool → LinkSide → LinkSide → Found H → Type 0
 Seeks has lacks tells old new (F.Head head) =

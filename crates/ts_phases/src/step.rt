@@ -11,17 +11,16 @@ use ts_link::Link;
 use ts_upstream::Upstream;
 
 impl<C: Link, O: Upstream<C>> Core<C, O> {
-    /// The next step of a phase. At the one where a body begins, `begin_relay` of the transaction takes its place, since that makes
-    /// continuations; here, where there are none to make it of, it could but end for want of memory.
+    /// The next step of a phase. At the one where a body begins, `begin_relay` of the transaction takes its
+    /// place, since that makes continuations; here, where there are none to make it of, it could but end for
+    /// want of memory.
     pub fn step(&mut self, phase: Phase) -> Step
         requires stands { PhaseHolds C.Link O.Link O.Upstream.own self.old phase
             × IsPaired O.Upstream.own self.old }
         ensures leads { StepLeads result }
         ensures fact { HoldsAfter C.Link O.Link O.Upstream.own self.old self.new result }
-        ensures owes { StepOwes C.Link O.Link O.Upstream.own self.old self.new
-            phase result }
-        ensures falls { StepFallsFrom C.Link O.Link O.Upstream.own self.old self.new
-            phase result }
+        ensures owes { StepOwes C.Link O.Link O.Upstream.own self.old self.new phase result }
+        ensures falls { StepFallsFrom C.Link O.Link O.Upstream.own self.old self.new phase result }
     {
         match phase {
             Phase::Fresh => Step {

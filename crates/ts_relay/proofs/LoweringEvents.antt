@@ -1,6 +1,5 @@
--- What is left to do pays for the events that are set, so that each event that is handled lowers the number
--- of a
--- transaction.
+-- What is left to do pays for the events that are set, so that each event that is handled lowers the
+-- number of a transaction.
 use Rattle.std.proofs.Common.{◌≡◌, ℕ, ◌+◌, ◌*◌, ◌<◌, ◌≤◌, List, [], ◌∷◌, length, arith, ap}
 use Rattle.std.proofs.Math.Nat.{le_trans}
 use Rattle.std.specs.Prelude.{Option, Some, None}

@@ -395,9 +395,10 @@ must_weaker ct ot must also setup rest step v w r s a b leads lowers = record {
   falls = λ told other of. by_idle (lowers.falls told other of);
 }
   where
-    by_idle : Fewer (relay_left setup rest v r) (left_after setup rest step w s) ⊎ HasNothingDue also step v w r s
-        a b → Fewer (relay_left setup rest v r) (left_after setup rest step w s) ⊎ HasNothingDue must step v w r s
-        a b
+    by_idle : Fewer (relay_left setup rest v r) (left_after setup rest step w s)
+        ⊎ HasNothingDue also step v w r s a b
+        → Fewer (relay_left setup rest v r) (left_after setup rest step w s)
+        ⊎ HasNothingDue must step v w r s a b
     by_idle (inl fell) = inl fell
     by_idle (inr idle) = inr (record {
       free = λ m. idle.free (leads m);

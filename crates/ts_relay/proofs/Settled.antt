@@ -11,7 +11,7 @@ use Rattle.ts_wire.specs.declared.heads.ResponseHead.{ResponseHead}
 use Rattle.ts_wire.specs.Place.{Place}
 use Rattle.ts_block.specs.Block.{DenySays, DialSays, IsBlock, VerdictSays, asked, no_head, silent}
 use Rattle.ts_phases.specs.View.{LinkSide, View}
-use Rattle.ts_phases.specs.Facts.{Awaits, OwnCause, OwnReady, OwnSends, Relays, Served, decided, fault}
+use Rattle.ts_phases.specs.Facts.{AwaitsFinal, OwnCause, OwnReady, OwnSends, Relays, Served, decided, fault}
 use Rattle.ts_phases.specs.Ends.{AnyEnd, EndFact, EndsBy, FaultText, HasBlock, Relayed, SomeText}
 use Rattle.ts_phases.specs.Ends as ends
 use Rattle.ts_relay.specs.Finishing.{IsFinishing, QueuesBlock, QueuesFor}
@@ -119,7 +119,7 @@ module _ (setup : Setup) (R S : Type 0) (to : R → S) (from : S → R) where
   cause c dialed o a (fault q goes status to_head end failed lacks) = fault q goes status to_head end failed
       lacks
 
-  awaits : (v : View) (q : Request) → Awaits setup R v q → Awaits setup S v q
+  awaits : (v : View) (q : Request) → AwaitsFinal setup R v q → AwaitsFinal setup S v q
   awaits v q h = record {
     waits = h.waits;
     served = served setup R S from _ q v.dialed v.origin h.served;

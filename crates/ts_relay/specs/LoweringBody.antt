@@ -118,7 +118,8 @@ pub record LowersBody {P : Type 0} (ctells otells : Bool) (must : Type 0) (setup
   pub reader : s.reader ≡ r.reader
   pub lines : WhileGoes step (StaysOfLines setup rest r s)
   pub falls : IfTold ctells otells (IsOfLines setup rest r.driven.chain →
-      Fewer (relay_left setup rest v r) (left_after setup rest step w s) ⊎ HasNothingDue must step v w r s a b)
+      Fewer (relay_left setup rest v r) (left_after setup rest step w s)
+      ⊎ HasNothingDue must step v w r s a b)
 
 -- what is left where one of the last writes leads
 abbrev pub rest_after : BodyStep → View → Option ℕ

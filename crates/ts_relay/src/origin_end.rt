@@ -16,25 +16,6 @@ use ts_transform::Transform;
 use ts_upstream::Upstream;
 use ts_vconn::Pulled;
 
-// Feeds the reader of bodies with what waits of the origin's bytes.
-fn feed_relay<C: Link, O: Upstream<C>, P: Transform + Drop>(
-    core: &mut Core<C, O>,
-    relay: &mut Relay<P>,
-    cx: &mut Cx,
-) -> BodyStep
-    requires turn { cx.old.log.state.held ≡ true }
-    requires fact { RelayHolds C.Link O.Link O.Upstream.own P.Transform core.old relay.old }
-    requires goes_on { MustRead relay.old.driven.chain }
-    ensures leads { RelayLeads C.Link O.Link O.Upstream.own P.Transform core.old core.new
-        relay.new result }
-    ensures steps { ReaderSteps C.Link O.Link O.Upstream.own core.old core.new result
-        relay.old relay.new cx.old cx.new }
-    ensures lowers { EndLowers C.Link O.Link P.Transform core.old core.new
-        (MustRead relay.old.driven.chain) result relay.old relay.new cx.old cx.new }
-{
-    feed_body(core, relay, cx)
-}
-
 // Reads once from the origin, of whose bytes none waits.
 fn pull_relay<C: Link, O: Upstream<C>, P: Transform + Drop>(
     core: &mut Core<C, O>,
@@ -90,7 +71,7 @@ pub fn read_body<C: Link, O: Upstream<C>, P: Transform + Drop>(
         return BodyStep::Goes;
     }
     if holds_body(core) {
-        return feed_relay(core, relay, cx);
+        return feed_body(core, relay, cx);
     }
     pull_relay(core, relay, cx)
 }

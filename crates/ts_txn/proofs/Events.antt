@@ -21,6 +21,7 @@ use Rattle.ts_txn.specs.Driven.{BeginsIn, ClosesAs, DueTo, HandlesEvent, Handles
 use Rattle.ts_relay.specs.Entering.{CallsNeither}
 use Rattle.ts_phases.specs.Steps.{LeavesClient, LeavesClientIn, LeavesOrigin, LeavesOriginIn, LeavesSides, MindsLinksIn, WaitsRightly}
 use Rattle.ts_phases.specs.Holding.{IfTold, StepKeeps}
+use Rattle.ts_phases.specs.Owed.{MayFollow}
 use Rattle.ts_phases.specs.View.{LinkSide, View, view_of}
 use Rattle.ts_transform.proofs.Joined.{named_unroused}
 use Rattle.ts_txn.specs.declared.course.Course.{Course}
@@ -117,13 +118,13 @@ closes_same Q _ = tt
 module _ {C O Q : Type 0} (client : link.Ghosts C) (origin : link.Ghosts O) (both : upstream.Ghosts O C) where
   -- a step of a phase was made, and led to the phase that it answered, or to the end for want of memory
   pub takes_step : (s t : Core C O) (p : Phase) (new : Course Q) (made : Step) → StepLeads made
-      → MindsLinksIn client origin both s t p made
+      → MayFollow p made.phase → MindsLinksIn client origin both s t p made
       → WaitsRightly made.next (view_of client origin s) (view_of client origin t)
       → IfTold client.tells origin.tells (LeavesSides p (view_of client origin s)
       (view_of client origin t))
       → LedBehind made.next (K.Phased made.phase) new
       → TakesStep client origin both s t p made.next new
-  takes_step s t p new made leads minds waits leaves led = record {
+  takes_step s t p new made leads follows minds waits leaves led = record {
     minds = by_lead (behind_led made.next (K.Phased made.phase) new led);
     waits = waits;
     leaves = leaves;
@@ -136,7 +137,7 @@ module _ {C O Q : Type 0} (client : link.Ghosts C) (origin : link.Ghosts O) (bot
           → (new ≡ K.Phased (P.Ended E.NoMemory)) ⊎ ((t ≡ s) × (new ≡ K.Phased p)) ⊎ MindsCourse client origin
           both s t p made.next new
       by_lead (inl same) = inr (inr (subst (MindsCourse client origin both s t p
-          made.next) (sym same) minds))
+          made.next) (sym same) (follows, minds)))
       by_lead (inr lacks) = inl lacks
 
       by_phase : (p : Phase) → MindsLinksIn client origin both s t p made → ClosesAs p new

@@ -23,7 +23,7 @@ use Rattle.ts_txn.specs.CourseCover.{CoversAlone, HasEventsOn, IsAlone, IsCovere
 use Rattle.ts_phases.specs.Cover.{set_after}
 use Rattle.ts_relay.specs.Duties.{UnlessLacking, WhileGoes}
 use Rattle.ts_phases.specs.Holding.{IfTold, StepKeeps}
-use Rattle.ts_txn.specs.Making.{end_of}
+use Rattle.ts_txn.specs.Making.{end_of_course}
 use Rattle.ts_phases.specs.View.{OriginRefuses, View, view_of}
 use Rattle.ts_txn.specs.World.{HoldsLittleOn, HoldsOn, IsSoundNow, IsSoundOn, IsSoundTxn}
 use Rattle.ts_txn.specs.declared.course.Course.{Course}
@@ -43,7 +43,7 @@ use Rattle.ts_txn.proofs.Coverage.{fresh_on}
 use Rattle.ts_txn.proofs.LoweringCourse.{lines_stay}
 
 -- one that was started and has not ended goes on
-goes_on : {Q : Type 0} (course : Course Q) → is_fresh_on course ≡ false → end_of course ≡ None
+goes_on : {Q : Type 0} (course : Course Q) → is_fresh_on course ≡ false → end_of_course course ≡ None
     → ProceedsOn course
 goes_on (K.Phased p) started lasts = proceeds_phase p started lasts
 goes_on _ started lasts = tt
@@ -107,7 +107,7 @@ module _ {C O Q : Type 0} (client : link.Ghosts C) (origin : link.Ghosts O) (bot
     (stage : transform.Ghosts Q TransformLine) where
   -- with nothing pending it has ended, or the numbers are used up
   pub at_rest : (t : Txn C O Q) (next : ℕ) (roles : List Named) → is_fresh_on t.course ≡ false
-      → end_of t.course ≡ None
+      → end_of_course t.course ≡ None
       → IsSoundTxn client origin both stage t [] next roles → GREATEST ≤ next
   at_rest t next roles started lasts h = at_rest_on (view_of client origin t.core) t.main t.course next roles
       (goes_on t.course started lasts) h.covered

@@ -13,7 +13,7 @@ use Rattle.ts_upstream.specs.declared.upstream.Upstream as upstream
 use Rattle.ts_transform.specs.declared.transform.Transform as transform
 use Rattle.ts_txn.specs.Course.{CourseHolds}
 use Rattle.ts_phases.specs.Ends.{EndFact}
-use Rattle.ts_txn.specs.Making.{end_of, end_of_phase}
+use Rattle.ts_txn.specs.Making.{end_of_course, end_of_phase}
 use Rattle.ts_txn.specs.Resting.{HasEndedSo, NeverFailed, RestsWithBlock, SendsBlock}
 use Rattle.ts_txn.specs.Resting as rest
 use Rattle.ts_phases.specs.View.{OriginRefuses, View, view_of}
@@ -31,7 +31,7 @@ ended_phase (P.Ended last) end is = let both : Some last ≡ Some end = is in le
     P.Ended one
 ended_phase _ end is = absurd (cc)
 
-ended_course : {Q : Type 0} (course : Course Q) (end : TxnEnd) → end_of course ≡ Some end
+ended_course : {Q : Type 0} (course : Course Q) (end : TxnEnd) → end_of_course course ≡ Some end
     → course ≡ K.Phased (P.Ended end)
 ended_course {Q} (K.Phased p) end is = ap {B = Course Q} (λ x. K.Phased x) (ended_phase p end is)
 ended_course (K.Relaying r) end is = absurd (cc)
@@ -50,7 +50,7 @@ sends_block setup refuses v E.NoMemory never has fact = absurd (has refl)
 module _ {C O Q : Type 0} (client : link.Ghosts C) (origin : link.Ghosts O) (both : upstream.Ghosts O C)
     (stage : transform.Ghosts Q TransformLine) (t : Txn C O Q) where
   pub ended_so : (pending : List Pending) (next : ℕ) (roles : List Named) (end : TxnEnd)
-      → end_of t.course ≡ Some end → IsSoundTxn client origin both stage t pending next
+      → end_of_course t.course ≡ Some end → IsSoundTxn client origin both stage t pending next
       roles
       → HasEndedSo client origin both t end
   ended_so pending next roles end is sound = subst (CourseHolds client origin both stage t.core)
@@ -59,12 +59,13 @@ module _ {C O Q : Type 0} (client : link.Ghosts C) (origin : link.Ghosts O) (bot
   pub rests_with_block : (next : ℕ) (roles : List Named)
       → IsSoundTxn client origin both stage t [] next roles
       → RestsWithBlock client origin both t next
-  rests_with_block next roles sound started few never memory told also = by_end (end_of t.course) refl
+  rests_with_block next roles sound started few never memory told also = by_end (end_of_course t.course) refl
     where
       v : View
       v = view_of client origin t.core
 
-      by_end : (o : Option TxnEnd) → end_of t.course ≡ o → (end : TxnEnd) × (end_of t.course ≡ Some end)
+      by_end : (o : Option TxnEnd) → end_of_course t.course ≡ o
+          → (end : TxnEnd) × (end_of_course t.course ≡ Some end)
           × SendsBlock (arc_value t.core.setup) (OriginRefuses client both t.core) v end
       by_end None none = absurd (let spent : GREATEST ≤ next = at_rest client origin both stage t next roles
           started none sound in omega (arith, spent, few))

@@ -139,9 +139,9 @@ LedAfter S.Waits led new = new ≡ led
 LedAfter step led new = StaysOnOrLacks led new
 
 -- how long after a step of the last writes the next one is made, in milliseconds
-abbrev pub pause_of : BodyStep → ℕ
-pause_of S.Waits = RETRY_AFTER
-pause_of step = 0
+abbrev pub pause_after : BodyStep → ℕ
+pause_after S.Waits = RETRY_AFTER
+pause_after step = 0
 
 -- No continuation is there but the first: each pending event is plain, and of it; and it has its role, and an
 -- event where it is roused, or the event numbers are used up.

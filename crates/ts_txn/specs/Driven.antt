@@ -12,10 +12,11 @@ use Rattle.ts_transform.specs.declared.continuation.StageContinuation.{StageCont
 use Rattle.ts_relay.specs.BodyLinks.{BeginsInTime, HandlesLinks, MindsBody, SendsRest}
 use Rattle.ts_txn.specs.Course.{course_after, finish_after}
 use Rattle.ts_phases.specs.Cover.{is_fresh}
-use Rattle.ts_txn.specs.CourseCover.{is_fresh_on, LedAfter, StaysOnOrLacks, pause_of}
+use Rattle.ts_txn.specs.CourseCover.{is_fresh_on, LedAfter, StaysOnOrLacks, pause_after}
 use Rattle.ts_relay.specs.Duties.{set_leaving, DoesOwnWork}
 use Rattle.ts_relay.specs.Entering.{CallsNeither}
 use Rattle.ts_phases.specs.Holding.{IfTold, StepKeeps}
+use Rattle.ts_phases.specs.Owed.{MayFollow}
 use Rattle.ts_phases.specs.Steps.{LeavesSides, MindsLinksIn, WaitsRightly}
 use Rattle.ts_phases.specs.View.{View, view_of}
 use Rattle.ts_txn.specs.declared.course.Course.{Course}
@@ -63,10 +64,11 @@ DueTo main next (K.Finishing end) a b = ⊥
 
 module _ {C O Q : Type 0} (client : link.Ghosts C) (origin : link.Ghosts O) (both : upstream.Ghosts O C)
     (s t : Core C O) where
-  -- where the step of a phase leads: the faults and the waits of the links are minded
+  -- where the step of a phase leads: to one that may follow, and the faults and the waits of the links are
+  -- minded
   abbrev pub MindsCourse : Phase → Next → Course Q → Type 0
   MindsCourse old next (K.Phased new) =
-      MindsLinksIn client origin both s t old (record { phase = new; next = next })
+      MayFollow old new × MindsLinksIn client origin both s t old (record { phase = new; next = next })
   MindsCourse old next (K.Relaying r) = BeginsIn old (view_of client origin s) (view_of client origin t)
   MindsCourse old next (K.Finishing end) = ⊥
 
@@ -137,7 +139,7 @@ module _ {C O Q : Type 0} (client : link.Ghosts C) (origin : link.Ghosts O) (bot
     pub record HandlesWrite (end : TxnEnd) (new : Course Q) : Type 0 where
       pub step : BodyStep
       pub takes : WritesOr end step new
-      pub due : SetsOnly (IsDueAfter (pause_of step) a.moment) a b
+      pub due : SetsOnly (IsDueAfter (pause_after step) a.moment) a b
 
     -- so an event of a role leads it on
     abbrev pub HandlesOn : ℕ → Option StageContinuation → Course Q → Course Q → Type 0

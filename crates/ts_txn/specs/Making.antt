@@ -50,10 +50,10 @@ abbrev pub end_of_phase : Phase → Option TxnEnd
 end_of_phase (P.Ended end) = Some end
 end_of_phase _ = None
 
-abbrev pub end_of : {Q : Type 0} → Course Q → Option TxnEnd
-end_of (K.Phased p) = end_of_phase p
-end_of (K.Relaying r) = None
-end_of (K.Finishing end) = None
+abbrev pub end_of_course : {Q : Type 0} → Course Q → Option TxnEnd
+end_of_course (K.Phased p) = end_of_phase p
+end_of_course (K.Relaying r) = None
+end_of_course (K.Finishing end) = None
 
 -- the origin's link, if there is one, and its faults when the transaction was made
 abbrev pub link_if : {L : Type 0} → Option (Peer L) → Option L

@@ -11,7 +11,7 @@ use Rattle.ts_upstream.specs.declared.upstream.Upstream as upstream
 use Rattle.ts_txn.specs.CourseCover.{is_fresh_on}
 use Rattle.ts_phases.specs.Ends.{EndFact, ShortEnd, WholeEnd}
 use Rattle.ts_phases.specs.Holding.{IfTold}
-use Rattle.ts_txn.specs.Making.{end_of}
+use Rattle.ts_txn.specs.Making.{end_of_course}
 use Rattle.ts_phases.specs.View.{HasFailed, OriginRefuses, View, view_of}
 use Rattle.ts_txn.specs.declared.txn.Txn.{Txn}
 
@@ -39,7 +39,7 @@ module _ {C O Q : Type 0} (client : link.Ghosts C) (origin : link.Ghosts O) (bot
   abbrev pub RestsWithBlock : Txn C O Q → ℕ → Type 0
   RestsWithBlock t next =
       is_fresh_on t.course ≡ false → next < GREATEST → NeverFailed (view_of client origin t.core)
-      → (end_of t.course ≡ Some E.NoMemory → ⊥)
-      → IfTold client.tells origin.tells ((end : TxnEnd) × (end_of t.course ≡ Some end)
+      → (end_of_course t.course ≡ Some E.NoMemory → ⊥)
+      → IfTold client.tells origin.tells ((end : TxnEnd) × (end_of_course t.course ≡ Some end)
       × SendsBlock (arc_value t.core.setup) (OriginRefuses client both t.core)
       (view_of client origin t.core) end)

@@ -1,8 +1,7 @@
-//! The first continuation of a transaction: how its events are set.
-ghost use Rattle.std.specs.Prelude.{◌≡◌, ◌≢◌, ◌<◌, true, false, None, OnOk, Err};
-ghost use Rattle.ts_journal.specs.declared.entry.TheConstants.{GREATEST};
-ghost use Rattle.ts_transform.specs.Driving.{AddsEvents, HasLiveIf, IsDueAfter, IsRousedIf, KeepsStage, SetsOnly};
-ghost use Rattle.ts_txn.specs.CourseCover.{is_fresh_on, IsOfMain, CoversAlone, SetsOneOrNone, StaysOnOrLacks};
+//! The first continuation of a transaction: how it is made, and why an event of it could not be set.
+ghost use Rattle.std.specs.Prelude.{◌≡◌, ◌≢◌, true, false, None};
+ghost use Rattle.ts_transform.specs.Driving.{IsDueAfter, SetsOnly};
+ghost use Rattle.ts_txn.specs.CourseCover.{is_fresh_on, CoversAlone, SetsOneOrNone, StaysOnOrLacks};
 
 use crate::course::Course;
 use crate::course_leads::{AT_ONCE, Lead, go_to};
@@ -10,29 +9,6 @@ use ts_group::{Cx, SetFault};
 use ts_phases::Phase;
 use ts_relay::MAIN;
 use ts_transform::{StageContinuation, make_end};
-
-/// Sees that an event of the continuation is pending, so many milliseconds later where it has none yet. The
-/// answer is `Dead` where there is none, `Spent` once the event numbers are used up, or `NoMemory`.
-pub fn rouse(main: &mut Option<StageContinuation>, after: u64, cx: &mut Cx) -> Result<(), SetFault>
-    requires turn { cx.old.log.state.held ≡ true }
-    ensures adds { AddsEvents 1 (HasLiveIf cx.new.log.state.live main.new) result cx.old cx.new }
-    ensures stage { KeepsStage cx.old cx.new main.old main.new }
-    ensures only { SetsOnly (IsOfMain main.old) cx.old cx.new }
-    ensures due { SetsOnly (IsDueAfter after cx.old.moment) cx.old cx.new }
-    ensures roused { OnOk result (IsRousedIf main.new) }
-    ensures unspent { result ≡ Err SetFault.NoMemory → cx.old.log.state.next < GREATEST }
-    ensures dead { result ≡ Err SetFault.Dead → HasLiveIf cx.old.log.state.live main.old → ⊥ }
-{
-    let Some(continuation) = main else {
-        return Err(SetFault::Dead);
-    };
-    if continuation.roused {
-        return Ok(());
-    }
-    cx.schedule(continuation.key, after)?;
-    continuation.roused = true;
-    Ok(())
-}
 
 /// Whether the numbers of events are used up.
 pub fn is_spent(fault: &SetFault) -> bool

@@ -5,18 +5,18 @@ ghost use Rattle.ts_transform.specs.Driving.{ActsWithin, HasLiveIf, IsDueAfter, 
 ghost use Rattle.ts_transform.specs.Seats.{KeepsSeated};
 ghost use Rattle.ts_txn.specs.Course.{course_after, course_led, finish_after};
 ghost use Rattle.ts_phases.specs.Cover.{Proceeds, StepLeads, set_after};
-ghost use Rattle.ts_txn.specs.CourseCover.{CoversAlone, CoversLed, HasRousedNext, LedAfter, LedBehind, SetsOneOrNone, StaysOnOrLacks, StaysWhereNamed, StaysWhereSpent, pause_of};
+ghost use Rattle.ts_txn.specs.CourseCover.{CoversAlone, CoversLed, HasRousedNext, LedAfter, LedBehind, SetsOneOrNone, StaysOnOrLacks, StaysWhereNamed, StaysWhereSpent, pause_after};
 ghost use Rattle.ts_relay.specs.Duties.{set_leaving};
 ghost use Rattle.ts_txn.specs.Driven.{delay_of};
 
-use crate::continuation::{is_spent, rouse};
+use crate::continuation::is_spent;
 use crate::course::Course;
 use ts_group::Cx;
 use ts_hooks::TxnEnd;
 use ts_link::RETRY_AFTER;
 use ts_phases::{Next, Phase, Step};
 use ts_relay::{BodyStep, Relay, close_relay, destroy_end};
-use ts_transform::{StageContinuation, Transform};
+use ts_transform::{StageContinuation, Transform, rouse_end};
 
 /// How long it is until a step that is made at once, in milliseconds.
 pub const AT_ONCE: u64 = 0;
@@ -34,7 +34,7 @@ fn rouse_next(after: u64, main: &mut Option<StageContinuation>, cx: &mut Cx) -> 
         → result ≡ true }
 {
     cx.known();
-    let Err(fault) = rouse(main, after, cx) else {
+    let Err(fault) = rouse_end(main, true, after, cx) else {
         return true;
     };
     if is_spent(&fault) {
@@ -149,7 +149,7 @@ pub fn after_write<P: Drop>(
     requires turn { cx.old.log.state.held ≡ true }
     ensures course { StaysOnOrLacks (finish_after end step) result }
     ensures within { SetsOneOrNone cx.old cx.new }
-    ensures due { SetsOnly (IsDueAfter (pause_of step) cx.old.moment) cx.old cx.new }
+    ensures due { SetsOnly (IsDueAfter (pause_after step) cx.old.moment) cx.old cx.new }
     ensures spent { StaysWhereSpent (finish_after end step) result main.old cx.old }
     ensures covered { CoversAlone main.old main.new result cx.old cx.new }
 {

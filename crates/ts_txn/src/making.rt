@@ -8,7 +8,7 @@ ghost use Rattle.ts_journal.specs.declared.entry.Pending.{Pending};
 ghost use Rattle.ts_journal.specs.declared.entry.TheConstants.{GREATEST};
 ghost use Rattle.ts_txn.specs.CourseCover.{is_fresh_on};
 ghost use Rattle.ts_relay.specs.Entering.{ActsAsLines};
-ghost use Rattle.ts_txn.specs.Making.{ArePaired, HasFewLines, IsMadeOf, IsMadeOfIf, IsNewLink, IsNewLinkIf, base_if, end_of, end_of_phase, link_if};
+ghost use Rattle.ts_txn.specs.Making.{ArePaired, HasFewLines, IsMadeOf, IsMadeOfIf, IsNewLink, IsNewLinkIf, base_if, end_of_course, end_of_phase, link_if};
 ghost use Rattle.ts_txn.specs.Resting.{HasEndedSo, RestsWithBlock};
 ghost use Rattle.ts_txn.specs.World.{IsSoundTxn};
 
@@ -134,7 +134,7 @@ impl<C: Link + Drop, O: Upstream<C> + Drop, P: Transform<Line = TransformLine> +
     /// How it ended; nothing while it has not. Once nothing of its group is pending, a transaction that was
     /// started has ended, or the event numbers are used up.
     pub fn end(&self) -> Option<TxnEnd>
-        ensures end { result ≡ end_of self.now.course }
+        ensures end { result ≡ end_of_course self.now.course }
         ensures rests { result ≡ None → is_fresh_on self.now.course ≡ false → (next : ℕ) (roles : List Named)
             → IsSoundTxn C.Link O.Link O.Upstream.own P.Transform
             self.now [] next roles
@@ -149,7 +149,7 @@ impl<C: Link + Drop, O: Upstream<C> + Drop, P: Transform<Line = TransformLine> +
             self.now [] next roles
             → RestsWithBlock C.Link O.Link O.Upstream.own self.now next }
     {
-        end_of(&self.course)
+        end_of_course(&self.course)
     }
 
     /// The number that it was made with.
@@ -176,7 +176,7 @@ impl<C: Link + Drop, O: Upstream<C> + Drop, P: Transform<Line = TransformLine> +
             × (result.cuts.items ≡ self.core.sent.cuts.items) }
         ensures faults { (result.client_faults ≡ self.core.client.base)
             × (result.origin_faults ≡ base_if self.core.origin) }
-        ensures end { (result.number ≡ self.core.number) × (result.end ≡ end_of self.course) }
+        ensures end { (result.number ≡ self.core.number) × (result.end ≡ end_of_course self.course) }
     {
         let number = self.core.number;
         let end = self.end();
@@ -217,8 +217,8 @@ impl<C: Link + Drop, O: Upstream<C> + Drop, P: Transform<Line = TransformLine> +
 }
 
 // How a transaction has ended, if it has: only in its last phase.
-fn end_of<P>(course: &Course<P>) -> Option<TxnEnd>
-    ensures { result ≡ end_of course.now }
+fn end_of_course<P>(course: &Course<P>) -> Option<TxnEnd>
+    ensures { result ≡ end_of_course course.now }
 {
     match course {
         Course::Phased(phase) => end_of_phase(phase),

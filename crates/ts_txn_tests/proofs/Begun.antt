@@ -37,9 +37,8 @@ module _ {W Q R T U : Type 0} (Fits : T → W → Type 0) (fresh begun started g
   pub one_turn : given.cx.log.state.turns ≡ first_turn
   one_turn = ap (λ (s : State). s.turns) gives.state ∙ turn.turns ∙ ap (λ (s : State). s.turns) begins.state
 
-  pub no_turns_before : given.cx.log.base.turns ≡ 0
-  no_turns_before = ap (λ (s : State). s.turns)
-      (gives.by.base ∙ grows.log.by.base ∙ begins.by.base ∙ new.base)
+  pub no_turns_before : given.cx.log.base.made ≡ 0
+  no_turns_before = gives.by.made ∙ ap (λ b. b.made) (grows.log.by.base ∙ begins.by.base ∙ new.base)
 
   -- no turn is held, and few events were set
   pub at_rest : (t : T) → Fits t begun.world → SetsAtMost Fits begun.world MOST_SET begun.cx started.cx
@@ -79,7 +78,7 @@ module _ {C O Q A R U : Type 0} (client : link.Ghosts C) (origin : link.Ghosts O
           sound,
           at_rest (IsTxnOf client.look origin.look) fresh begun started given new begins grows turn gives
               (record tag { started = false }) fits few,
-          on_true tag.first (given.cx.log.base.turns ≡ 0)
+          on_true tag.first (given.cx.log.base.made ≡ 0)
               (no_turns_before (IsTxnOf client.look origin.look) fresh begun started given new begins grows
               turn gives),
         );

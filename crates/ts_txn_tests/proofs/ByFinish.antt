@@ -18,12 +18,12 @@ use Rattle.ts_thread.specs.declared.did.Unfinished.{Unfinished}
 use Rattle.ts_thread.specs.Goings.{AllGoOn, Finishes, HasTakenTurns, IsIdle}
 use Rattle.ts_thread.specs.Tags.{CanAsk, GroupsFit}
 use Rattle.ts_txn.specs.LoweringCourse.{transaction_left}
-use Rattle.ts_txn.specs.Making.{end_of}
+use Rattle.ts_txn.specs.Making.{end_of_course}
 use Rattle.ts_txn.specs.World.{IsTxnOf}
 use Rattle.ts_txn.specs.declared.txn.Txn.{Txn}
 use Rattle.ts_txn.specs.declared.txn.TxnTag.{TxnTag}
 use Rattle.ts_txn.proofs.Handling.{at_rest}
-use Rattle.ts_txn_tests.specs.Begun.{AlwaysTells, FitsTag, HasBegunAs, HasEndedOr, IsSoundIn}
+use Rattle.ts_txn_tests.specs.Begun.{AlwaysTells, FitsTxnTag, HasBegunAs, HasEndedOr, IsSoundIn}
 
 -- what has not come to an end goes on
 ends_or : {X : Type 0} (end : Option X) (spent : Type 0) → (end ≡ None → spent) → IsSome end ⊎ spent
@@ -53,7 +53,7 @@ module _ {C O Q : Type 0} (client : link.Ghosts C) (origin : link.Ghosts O) (bot
   Sound = IsSoundIn client origin both stage
 
   abbrev GroupFitsTag : TxnTag C O → TxnGroup → Type 0
-  GroupFitsTag = FitsTag client origin both stage
+  GroupFitsTag = FitsTxnTag client origin both stage
 
   abbrev Begins : TxnTag C O → TxnGroup → Type 0
   Begins = HasBegunAs client origin both stage
@@ -88,7 +88,7 @@ module _ {C O Q : Type 0} (client : link.Ghosts C) (origin : link.Ghosts O) (bot
       → IsIdle h → HasEndedOr h
   has_ended tag g h result n begun goes idle =
       let fits : GroupFitsTag tag h = goes.fits tag begun.fits in
-      ends_or (end_of h.world.course) (GREATEST ≤ h.cx.log.state.next)
+      ends_or (end_of_course h.world.course) (GREATEST ≤ h.cx.log.state.next)
       (λ on. at_rest client origin both stage h.world h.cx.log.state.next h.cx.roles
       (fits.0.started begun.started) on
       (subst (λ ps. Sound h.world (record h.cx.log.state { pending = ps }) h.cx.roles) idle fits.1))

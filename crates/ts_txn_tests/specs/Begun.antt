@@ -10,7 +10,7 @@ use Rattle.ts_link.specs.declared.link.Link as link
 use Rattle.ts_upstream.specs.declared.upstream.Upstream as upstream
 use Rattle.ts_transform.specs.declared.transform.Transform as transform
 use Rattle.ts_thread.specs.Tags.{GroupFits}
-use Rattle.ts_txn.specs.Making.{end_of}
+use Rattle.ts_txn.specs.Making.{end_of_course}
 use Rattle.ts_txn.specs.World.{IsSoundTxn, IsTxnOf}
 use Rattle.ts_txn.specs.LoweringCourse.{transaction_left}
 use Rattle.ts_phases.specs.declared.parts.Core.{Core}
@@ -24,7 +24,7 @@ first_turn = 1
 
 -- its transaction has ended, or its event numbers are used up
 abbrev pub HasEndedOr : {C O Q A R T U : Type 0} → Group (Txn C O Q) A R T U → Type 0
-HasEndedOr g = IsSome (end_of g.world.course) ⊎ (GREATEST ≤ g.cx.log.state.next)
+HasEndedOr g = IsSome (end_of_course g.world.course) ⊎ (GREATEST ≤ g.cx.log.state.next)
 
 module _ {C O Q : Type 0} (client : link.Ghosts C) (origin : link.Ghosts O) (both : upstream.Ghosts O C)
     (stage : transform.Ghosts Q TransformLine) where
@@ -33,13 +33,13 @@ module _ {C O Q : Type 0} (client : link.Ghosts C) (origin : link.Ghosts O) (bot
   IsSoundIn t s roles = IsSoundTxn client origin both stage t s.pending s.next roles
 
   -- a group fits a tag, as it must in a slot
-  abbrev pub FitsTag : {A R U : Type 0} → TxnTag C O → Group (Txn C O Q) A R (TxnTag C O) U → Type 0
-  FitsTag = GroupFits (IsTxnOf client.look origin.look) IsSoundIn (λ tag. false) (λ tag. tag.first)
+  abbrev pub FitsTxnTag : {A R U : Type 0} → TxnTag C O → Group (Txn C O Q) A R (TxnTag C O) U → Type 0
+  FitsTxnTag = GroupFits (IsTxnOf client.look origin.look) IsSoundIn (λ tag. false) (λ tag. tag.first)
 
   -- it fits its tag, which says that it was started, and has had one turn
   pub record HasBegunAs {A R U : Type 0} (tag : TxnTag C O)
       (g : Group (Txn C O Q) A R (TxnTag C O) U) : Type 0 where
-    pub fits : FitsTag tag g
+    pub fits : FitsTxnTag tag g
     pub started : tag.started ≡ true
     pub turns : g.cx.log.state.turns ≡ first_turn
 

@@ -4,7 +4,7 @@ use crate::exchange::{NUMBER, Told, run};
 use crate::lines::{FILE, STOCK};
 use crate::plan::giving;
 use crate::refusal::Refusal;
-use crate::row::{Row, Verdict, check, check_block, get};
+use crate::row::{Finding, Row, check, check_block, get};
 use crate::stated::{
     ABC, BAD_GATEWAY, BAD_REQUEST, GET, GET_SENT, HEAD, HEAD_SENT, NOT_IMPLEMENTED,
 };
@@ -70,7 +70,7 @@ fn no_line_acts_on_an_answer_of_the_proxys_own(rt: HostRuntime) -> Result<(), Fa
             };
             assert_eq!(rt;
                 check(rt.alloc(), &row)?,
-                Verdict::AsStated,
+                Finding::AsStated,
                 "row {place}, line {line}"
             );
         }
@@ -93,7 +93,7 @@ fn an_origin_that_gives_no_answer_to_pass_on(rt: HostRuntime) -> Result<(), Fail
         for row in bad_gateways(Some(origin), GET_SENT, HEAD_SENT) {
             assert_eq!(rt;
                 check(rt.alloc(), &row)?,
-                Verdict::AsStated,
+                Finding::AsStated,
                 "origin {place}"
             );
         }
@@ -105,7 +105,7 @@ fn an_origin_that_gives_no_answer_to_pass_on(rt: HostRuntime) -> Result<(), Fail
     ];
     for origin in faulty {
         let [row, _] = bad_gateways(Some(origin), GET_SENT, HEAD_SENT);
-        assert_eq!(rt; check(rt.alloc(), &row)?, Verdict::AsStated);
+        assert_eq!(rt; check(rt.alloc(), &row)?, Finding::AsStated);
     }
     Ok(())
 }
@@ -117,7 +117,7 @@ fn an_upload_that_is_refused_is_answered_by_400(rt: HostRuntime) -> Result<(), F
         origin: Some(ABC),
         ..own(GET, GET_SENT, BAD_REQUEST, b"400 Bad Request\n")
     };
-    assert_eq!(rt; check_block(rt.alloc(), true, &row)?, Verdict::AsStated);
+    assert_eq!(rt; check_block(rt.alloc(), true, &row)?, Finding::AsStated);
     Ok(())
 }
 

@@ -3,7 +3,7 @@
 use crate::lines::{STOCK, html};
 use crate::plan::{dripping, dripping_after, giving};
 use crate::refusal::Refusal;
-use crate::row::{Row, Verdict, check, check_at_once, check_between, chunked, get};
+use crate::row::{Finding, Row, check, check_at_once, check_between, chunked, get};
 use crate::stated::{ABC, ABC_FRONT, BAD_GATEWAY, CHUNKED, GET, IN_CHUNKS, SIZED, response};
 use std::alloc::Global;
 use std::test::Fail;
@@ -12,7 +12,8 @@ use ts_wire::Mode;
 
 // A response of HTML in chunks with an extension and a trailer.
 const CHUNKS: &[u8] =
-    b"HTTP/1.1 200 OK\r\nContent-Type: text/html\r\nTransfer-Encoding: chunked\r\n\r\n3;x=1\r\nban\r\n3\r\nana\r\n0\r\nT: 1\r\n\r\n";
+    b"HTTP/1.1 200 OK\r\nContent-Type: text/html\r\nTransfer-Encoding: chunked\r\n\r\n3;x=1\r\nban\r\n\
+3\r\nana\r\n0\r\nT: 1\r\n\r\n";
 
 // How many bytes of it are its head.
 const CHUNKS_FRONT: u32 = 72;
@@ -27,7 +28,7 @@ fn a_body_that_is_cut_is_a_front(rt: HostRuntime) -> Result<(), Fail> {
             end: TxnEnd::OriginCut,
             ..get(front, SIZED, Mode::Plain, b"ab")
         };
-        assert_eq!(rt; check(alloc, &row)?, Verdict::AsStated, "at {at}");
+        assert_eq!(rt; check(alloc, &row)?, Finding::AsStated, "at {at}");
         let lined = Row {
             end: TxnEnd::OriginCut,
             lines: b"prepend.so <\n",
@@ -35,7 +36,7 @@ fn a_body_that_is_cut_is_a_front(rt: HostRuntime) -> Result<(), Fail> {
         };
         assert_eq!(rt;
             check(alloc, &lined)?,
-            Verdict::AsStated,
+            Finding::AsStated,
             "with a line, at {at}"
         );
     }
@@ -56,9 +57,9 @@ fn a_front_of_a_body_of_a_stated_length_is_passed_on(rt: HostRuntime) -> Result<
             b"hel",
         )
     };
-    assert_eq!(rt; check_at_once(rt.alloc(), &row)?, Verdict::AsStated);
+    assert_eq!(rt; check_at_once(rt.alloc(), &row)?, Finding::AsStated);
     let verdict = check_between(rt.alloc(), &row, &giving(GET), Some(dripping(gives)))?;
-    assert_eq!(rt; verdict, Verdict::AsStated);
+    assert_eq!(rt; verdict, Finding::AsStated);
     Ok(())
 }
 
@@ -70,13 +71,13 @@ fn check_cut(
     body: &[u8],
     front: &[u8],
     end: TxnEnd,
-) -> Result<Verdict, Refusal> {
+) -> Result<Finding, Refusal> {
     let row = Row {
         end,
         ..html(lines, body)
     };
     let at_once = check_between(alloc, &row, &giving(GET), Some(giving(front)))?;
-    if at_once != Verdict::AsStated {
+    if at_once != Finding::AsStated {
         return Ok(at_once);
     }
     let origin = dripping_after(front, CHUNKS_FRONT);
@@ -90,10 +91,10 @@ fn chunks_that_are_cut_are_a_front(rt: HostRuntime) -> Result<(), Fail> {
         for at in CHUNKS_FRONT as usize..CHUNKS.len() {
             let (front, _) = CHUNKS.split_at(at);
             let cut = check_cut(alloc, lines, body, front, TxnEnd::OriginCut)?;
-            assert_eq!(rt; cut, Verdict::AsStated, "line {place}, at {at}");
+            assert_eq!(rt; cut, Finding::AsStated, "line {place}, at {at}");
         }
         let whole = check_cut(alloc, lines, body, CHUNKS, TxnEnd::Whole)?;
-        assert_eq!(rt; whole, Verdict::AsStated, "line {place}");
+        assert_eq!(rt; whole, Finding::AsStated, "line {place}");
     }
     Ok(())
 }
@@ -106,7 +107,7 @@ fn a_head_that_is_cut_is_answered_for(rt: HostRuntime) -> Result<(), Fail> {
             lines: b"prepend.so <\n",
             ..get(front, BAD_GATEWAY, Mode::Plain, b"502 Bad Gateway\n")
         };
-        assert_eq!(rt; check(rt.alloc(), &row)?, Verdict::AsStated, "at {at}");
+        assert_eq!(rt; check(rt.alloc(), &row)?, Finding::AsStated, "at {at}");
     }
     Ok(())
 }
@@ -120,7 +121,7 @@ fn bad_row<'a>(lines: &'a [u8], origin: &'a [u8], body: &'a [u8]) -> Row<'a> {
 }
 
 // Whether a client gets this body of a response in chunks that go wrong.
-fn check_bad(alloc: Global, chunks: &[u8], lines: &[u8], body: &[u8]) -> Result<Verdict, Refusal> {
+fn check_bad(alloc: Global, chunks: &[u8], lines: &[u8], body: &[u8]) -> Result<Finding, Refusal> {
     let origin = response(alloc, IN_CHUNKS, chunks)?;
     check(alloc, &bad_row(lines, origin.as_slice(), body))
 }
@@ -141,13 +142,13 @@ fn bad_chunks_end_a_body_at_a_front(rt: HostRuntime) -> Result<(), Fail> {
     ];
     for (place, (chunks, body)) in rows.iter().enumerate() {
         let verdict = check_bad(rt.alloc(), chunks, b"", body)?;
-        assert_eq!(rt; verdict, Verdict::AsStated, "row {place}");
+        assert_eq!(rt; verdict, Finding::AsStated, "row {place}");
         // A body that is held back is not sent at all.
         let held = check_bad(rt.alloc(), chunks, b"bnull_transform.so\n", b"")?;
-        assert_eq!(rt; held, Verdict::AsStated, "held back, row {place}");
+        assert_eq!(rt; held, Finding::AsStated, "held back, row {place}");
     }
     let lined = check_bad(rt.alloc(), b"3\r\nabcX", b"prepend.so <", b"<abc")?;
-    assert_eq!(rt; lined, Verdict::AsStated);
+    assert_eq!(rt; lined, Finding::AsStated);
     Ok(())
 }
 
@@ -158,13 +159,13 @@ fn a_chunk_line_and_a_trailer_have_their_limits(rt: HostRuntime) -> Result<(), F
     let mut endless = Vec::from_slice(alloc, b"3;")?;
     endless.extend_from_slice(vec![in alloc; b'a'; 4_094]?.as_slice())?;
     let verdict = check_bad(alloc, endless.as_slice(), b"", b"")?;
-    assert_eq!(rt; verdict, Verdict::AsStated);
+    assert_eq!(rt; verdict, Finding::AsStated);
     // A trailer section of 65 fields.
     let mut fields = Vec::from_slice(alloc, b"3\r\nabc\r\n0\r\n")?;
     for _ in 0..65 {
         fields.extend_from_slice(b"T: 1\r\n")?;
     }
     let verdict = check_bad(alloc, fields.as_slice(), b"", b"abc")?;
-    assert_eq!(rt; verdict, Verdict::AsStated);
+    assert_eq!(rt; verdict, Finding::AsStated);
     Ok(())
 }

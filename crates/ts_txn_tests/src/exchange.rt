@@ -47,7 +47,7 @@ pub struct Told {
 
 /// What is left of a transaction that was driven to its end, and what it told before that.
 #[derive(Drop)]
-pub struct Ended {
+pub struct EndedTxn {
     pub told: Told,
     pub parts: TxnParts<MemLink, MemLink>,
     pub journal: Journal,
@@ -163,7 +163,7 @@ pub fn exchange(
     setup: Setup,
     client: MemLink,
     origin: Option<MemLink>,
-) -> Result<Ended, Refusal>
+) -> Result<EndedTxn, Refusal>
     requires few { HasFewLines setup 0 }
     requires client { IsNewLink (look_of client) }
     requires origin { IsNewLinkIf look_of origin }
@@ -173,7 +173,7 @@ pub fn exchange(
     let told = told_by(group.world());
     let group = drive(alloc, group, tag)?;
     let (txn, journal) = group.into_parts();
-    Ok(Ended {
+    Ok(EndedTxn {
         told,
         parts: txn.into_parts(),
         journal,
@@ -187,7 +187,7 @@ pub fn run(
     file: &[u8],
     client: &Plan<'_>,
     origin: Option<Plan<'_>>,
-) -> Result<Ended, Refusal> {
+) -> Result<EndedTxn, Refusal> {
     let client = link_of(alloc, client)?;
     let origin = origin_of(alloc, origin)?;
     let setup = setup_of(alloc, lines, file)?;

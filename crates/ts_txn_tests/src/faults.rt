@@ -2,11 +2,11 @@
 //! stated.
 
 use crate::answers::own;
-use crate::exchange::{Ended, exchange, setup_of};
+use crate::exchange::{EndedTxn, exchange, setup_of};
 use crate::lines::{HTML, HTML_FRONT, STOCK, html};
 use crate::plan::{Plan, dripping, dripping_after, giving, leaving, origin_of};
 use crate::refusal::Refusal;
-use crate::row::{Row, Verdict, check_between, check_front, get, judge, judge_front, run_row};
+use crate::row::{Finding, Row, check_between, check_front, get, judge, judge_front, run_row};
 use crate::stated::{ABC, ABC_FRONT, BAD_GATEWAY, GET, GET_SENT, HEAD, HEAD_SENT, SIZED};
 use std::alloc::Global;
 use std::test::Fail;
@@ -43,16 +43,16 @@ fn judge_fault(
     row: &Row<'_>,
     written: u64,
     parts: &TxnParts<MemLink, MemLink>,
-) -> Result<Verdict, Refusal> {
+) -> Result<Finding, Refusal> {
     if parts.client.written().len() as u64 != written {
-        return Ok(Verdict::OtherText);
+        return Ok(Finding::OtherText);
     }
     judge_front(alloc, row, TxnEnd::ClientFault, parts)
 }
 
 // Whether a client whose write of this number fails got a front of all before it, where each write takes one
 // byte.
-fn check_failing(alloc: Global, row: &Row<'_>, write: u64) -> Result<Verdict, Refusal> {
+fn check_failing(alloc: Global, row: &Row<'_>, write: u64) -> Result<Finding, Refusal> {
     let client = Plan {
         fail_write: write,
         take: 1,
@@ -65,7 +65,7 @@ fn check_failing(alloc: Global, row: &Row<'_>, write: u64) -> Result<Verdict, Re
 
 // What comes of a row whose client leaves when it has taken so many bytes, and whose origin gives its body
 // byte by byte.
-fn run_leaving(alloc: Global, row: &Row<'_>, at: usize) -> Result<Ended, Refusal> {
+fn run_leaving(alloc: Global, row: &Row<'_>, at: usize) -> Result<EndedTxn, Refusal> {
     let client = leaving(alloc, row.request, at)?;
     let plan = row.origin.map(html_dripping);
     let origin = origin_of(alloc, plan)?;
@@ -74,13 +74,13 @@ fn run_leaving(alloc: Global, row: &Row<'_>, at: usize) -> Result<Ended, Refusal
 }
 
 // Whether such a client got a front of what is stated of so many bytes.
-fn check_leaving(alloc: Global, row: &Row<'_>, at: usize) -> Result<Verdict, Refusal> {
+fn check_leaving(alloc: Global, row: &Row<'_>, at: usize) -> Result<Finding, Refusal> {
     let ended = run_leaving(alloc, row, at)?;
     judge_fault(alloc, row, at as u64, &ended.parts)
 }
 
 // What a client gets of a row, whose origin gives its body byte by byte, and how much that is.
-fn check_length(alloc: Global, row: &Row<'_>) -> Result<(Verdict, usize), Refusal> {
+fn check_length(alloc: Global, row: &Row<'_>) -> Result<(Finding, usize), Refusal> {
     let origin = row.origin.map(html_dripping);
     let ended = run_row(alloc, row, &giving(GET), origin)?;
     let verdict = judge(alloc, row, &ended.parts)?;
@@ -93,7 +93,7 @@ fn a_client_that_leaves_in_its_head_got_a_front(rt: HostRuntime) -> Result<(), F
     let row = html(b"prepend.so <\n", b"<banana");
     for at in 0..row.head.len() {
         let verdict = check_leaving(alloc, &row, at)?;
-        assert_eq!(rt; verdict, Verdict::AsStated, "at {at}");
+        assert_eq!(rt; verdict, Finding::AsStated, "at {at}");
     }
     Ok(())
 }
@@ -111,7 +111,7 @@ fn a_client_that_leaves_in_an_answer_of_the_proxys_own_got_a_front(
         };
         for at in 0..row.head.len() + row.body.len() {
             let verdict = check_leaving(rt.alloc(), &row, at)?;
-            assert_eq!(rt; verdict, Verdict::AsStated, "at {at}");
+            assert_eq!(rt; verdict, Finding::AsStated, "at {at}");
         }
     }
     Ok(())
@@ -123,10 +123,10 @@ fn a_client_that_leaves_in_its_body_got_a_front(rt: HostRuntime) -> Result<(), F
     for (place, (lines, body)) in STOCK.iter().enumerate() {
         let row = html(lines, body);
         let (whole, length) = check_length(alloc, &row)?;
-        assert_eq!(rt; whole, Verdict::AsStated, "line {place}");
+        assert_eq!(rt; whole, Finding::AsStated, "line {place}");
         for at in row.head.len()..length {
             let verdict = check_leaving(alloc, &row, at)?;
-            assert_eq!(rt; verdict, Verdict::AsStated, "line {place}, at {at}");
+            assert_eq!(rt; verdict, Finding::AsStated, "line {place}, at {at}");
         }
     }
     Ok(())
@@ -140,7 +140,7 @@ fn a_client_that_fails_at_each_write_got_a_front(rt: HostRuntime) -> Result<(), 
     let least = row.head.len() as u64 + 17;
     for write in 1..=least {
         let verdict = check_failing(alloc, &row, write)?;
-        assert_eq!(rt; verdict, Verdict::AsStated, "write {write}");
+        assert_eq!(rt; verdict, Finding::AsStated, "write {write}");
     }
     Ok(())
 }
@@ -153,7 +153,7 @@ fn check_origin(
     gives: &[u8],
     front: u32,
     read: u64,
-) -> Result<Verdict, Refusal> {
+) -> Result<Finding, Refusal> {
     let failed = Row {
         end: TxnEnd::OriginFault,
         ..*row
@@ -163,7 +163,7 @@ fn check_origin(
         ..dripping_after(gives, front)
     };
     let at_once = check_between(alloc, &failed, &giving(GET), Some(origin))?;
-    if at_once != Verdict::AsStated {
+    if at_once != Finding::AsStated {
         return Ok(at_once);
     }
     check_between(alloc, &failed, &dripping_after(GET, 0), Some(origin))
@@ -177,14 +177,14 @@ fn an_origin_that_fails_in_its_body_gave_a_front(rt: HostRuntime) -> Result<(), 
         // The first read brings the head, and each of the other six a byte.
         for read in 2..=7 {
             let verdict = check_origin(alloc, &row, HTML, HTML_FRONT, read)?;
-            assert_eq!(rt; verdict, Verdict::AsStated, "line {place}, read {read}");
+            assert_eq!(rt; verdict, Finding::AsStated, "line {place}, read {read}");
         }
         // Of a body up to the close one more read brings its end.
         for read in 2..=8 {
             let verdict = check_origin(alloc, &row, ENDLESS_HTML, ENDLESS_FRONT, read)?;
             assert_eq!(rt;
                 verdict,
-                Verdict::AsStated,
+                Finding::AsStated,
                 "line {place}, endless, read {read}"
             );
         }
@@ -202,7 +202,7 @@ fn an_origin_that_fails_in_its_head_is_answered_for(rt: HostRuntime) -> Result<(
             ..dripping(HTML)
         };
         let verdict = check_between(alloc, &row, &giving(GET), Some(origin))?;
-        assert_eq!(rt; verdict, Verdict::AsStated, "read {read}");
+        assert_eq!(rt; verdict, Finding::AsStated, "read {read}");
     }
     let head = Row {
         end: TxnEnd::OriginFault,
@@ -214,7 +214,7 @@ fn an_origin_that_fails_in_its_head_is_answered_for(rt: HostRuntime) -> Result<(
             ..dripping(b"HTTP/1.1 200 OK\r\n")
         };
         let verdict = check_between(alloc, &head, &giving(HEAD), Some(origin))?;
-        assert_eq!(rt; verdict, Verdict::AsStated, "HEAD, read {read}");
+        assert_eq!(rt; verdict, Finding::AsStated, "HEAD, read {read}");
     }
     Ok(())
 }
@@ -233,7 +233,7 @@ fn an_origin_that_fails_at_each_write_is_answered_for(rt: HostRuntime) -> Result
             ..dripping(ABC)
         };
         let verdict = check_between(alloc, &row, &giving(GET), Some(origin))?;
-        assert_eq!(rt; verdict, Verdict::AsStated, "write {write}");
+        assert_eq!(rt; verdict, Finding::AsStated, "write {write}");
     }
     Ok(())
 }
@@ -252,7 +252,7 @@ fn a_client_that_fails_at_each_read_gets_nothing(rt: HostRuntime) -> Result<(), 
             ..dripping(GET)
         };
         let verdict = check_between(alloc, &row, &client, Some(giving(ABC)))?;
-        assert_eq!(rt; verdict, Verdict::AsStated, "read {read}");
+        assert_eq!(rt; verdict, Finding::AsStated, "read {read}");
     }
     Ok(())
 }
@@ -276,7 +276,7 @@ fn a_client_that_fails_last_decides_the_end(rt: HostRuntime) -> Result<(), Fail>
                 ..giving(GET)
             };
             let verdict = check_front(alloc, &row, TxnEnd::ClientFault, &client, Some(origin))?;
-            assert_eq!(rt; verdict, Verdict::AsStated, "write {write}");
+            assert_eq!(rt; verdict, Finding::AsStated, "write {write}");
         }
     }
     Ok(())

@@ -4,7 +4,7 @@
 use crate::exchange::run;
 use crate::plan::giving;
 use crate::refusal::Refusal;
-use crate::row::{Row, Verdict, check, get, head};
+use crate::row::{Finding, Row, check, get, head};
 use crate::stated::{
     ABC, BAD_GATEWAY, CHUNKED, ENDLESS, ENDLESS_OLD, FROM_OLD, GET, IN_CHUNKS, PLAIN, SIZED,
     response,
@@ -47,7 +47,7 @@ fn a_body_of_a_stated_length_keeps_it(rt: HostRuntime) -> Result<(), Fail> {
         ),
     ];
     for (place, row) in rows.iter().enumerate() {
-        assert_eq!(rt; check(rt.alloc(), row)?, Verdict::AsStated, "row {place}");
+        assert_eq!(rt; check(rt.alloc(), row)?, Finding::AsStated, "row {place}");
     }
     Ok(())
 }
@@ -69,7 +69,7 @@ fn a_body_in_chunks_loses_its_extensions_and_trailers(rt: HostRuntime) -> Result
     for (place, (chunks, body)) in bodies.iter().enumerate() {
         let origin = response(rt.alloc(), IN_CHUNKS, chunks)?;
         let row = get(origin.as_slice(), CHUNKED, Mode::Chunked, body);
-        assert_eq!(rt; check(rt.alloc(), &row)?, Verdict::AsStated, "row {place}");
+        assert_eq!(rt; check(rt.alloc(), &row)?, Finding::AsStated, "row {place}");
     }
     Ok(())
 }
@@ -87,7 +87,7 @@ fn a_body_up_to_the_close_goes_in_chunks(rt: HostRuntime) -> Result<(), Fail> {
         get(ENDLESS_OLD, FROM_OLD, Mode::Chunked, b"abc"),
     ];
     for (place, row) in rows.iter().enumerate() {
-        assert_eq!(rt; check(rt.alloc(), row)?, Verdict::AsStated, "row {place}");
+        assert_eq!(rt; check(rt.alloc(), row)?, Finding::AsStated, "row {place}");
     }
     Ok(())
 }
@@ -101,7 +101,8 @@ fn is_sent(alloc: Global, origin: &[u8], text: &[u8]) -> Result<bool, Refusal> {
 #[test]
 fn a_piece_that_is_read_is_one_chunk(rt: HostRuntime) -> Result<(), Fail> {
     let text =
-        b"HTTP/1.1 200 OK\r\nvia: 1.1 tsx\r\ntransfer-encoding: chunked\r\nconnection: close\r\n\r\n5\r\nhello\r\n0\r\n\r\n";
+        b"HTTP/1.1 200 OK\r\nvia: 1.1 tsx\r\ntransfer-encoding: chunked\r\nconnection: close\r\n\r\n\
+5\r\nhello\r\n0\r\n\r\n";
     assert!(rt; is_sent(rt.alloc(), b"HTTP/1.1 200 OK\r\n\r\nhello", text)?);
     Ok(())
 }
@@ -116,14 +117,14 @@ fn a_client_of_the_older_version_gets_its_body_up_to_the_close(
         sent: b"GET / HTTP/1.1\r\nhost: a\r\nvia: 1.0 tsx\r\nconnection: close\r\n\r\n",
         ..get(chunked, PLAIN, Mode::Plain, b"abc")
     };
-    assert_eq!(rt; check(rt.alloc(), &row)?, Verdict::AsStated);
+    assert_eq!(rt; check(rt.alloc(), &row)?, Finding::AsStated);
     // Without a host, and with a body of a stated length.
     let hostless = Row {
         request: b"GET / HTTP/1.0\r\n\r\n",
         sent: b"GET / HTTP/1.1\r\nhost: \r\nvia: 1.0 tsx\r\nconnection: close\r\n\r\n",
         ..get(ABC, SIZED, Mode::Plain, b"abc")
     };
-    assert_eq!(rt; check(rt.alloc(), &hostless)?, Verdict::AsStated);
+    assert_eq!(rt; check(rt.alloc(), &hostless)?, Finding::AsStated);
     // A line acts, so that the length is not known.
     let acted = Row {
         request: b"GET / HTTP/1.0\r\nHost: a\r\n\r\n",
@@ -131,7 +132,7 @@ fn a_client_of_the_older_version_gets_its_body_up_to_the_close(
         lines: b"prepend.so <\n",
         ..get(ABC, PLAIN, Mode::Plain, b"<abc")
     };
-    assert_eq!(rt; check(rt.alloc(), &acted)?, Verdict::AsStated);
+    assert_eq!(rt; check(rt.alloc(), &acted)?, Finding::AsStated);
     Ok(())
 }
 
@@ -169,7 +170,7 @@ fn a_response_without_a_body_has_none(rt: HostRuntime) -> Result<(), Fail> {
         },
     ];
     for (place, row) in rows.iter().enumerate() {
-        assert_eq!(rt; check(rt.alloc(), row)?, Verdict::AsStated, "row {place}");
+        assert_eq!(rt; check(rt.alloc(), row)?, Finding::AsStated, "row {place}");
     }
     Ok(())
 }
@@ -192,7 +193,7 @@ fn a_response_to_head_has_no_body(rt: HostRuntime) -> Result<(), Fail> {
         ),
     ];
     for (place, row) in rows.iter().enumerate() {
-        assert_eq!(rt; check(rt.alloc(), row)?, Verdict::AsStated, "row {place}");
+        assert_eq!(rt; check(rt.alloc(), row)?, Finding::AsStated, "row {place}");
     }
     Ok(())
 }

@@ -3,7 +3,7 @@
 use crate::lines::SIXTEEN;
 use crate::plan::{Plan, giving};
 use crate::refusal::Refusal;
-use crate::row::{Verdict, check_between, chunked};
+use crate::row::{Finding, check_between, chunked};
 use crate::stated::{ENDLESS, GET, response};
 use std::alloc::Global;
 use std::test::Fail;
@@ -34,7 +34,7 @@ fn check_letters(
     body: &[u8],
     client: &Plan<'_>,
     origin: Plan<'_>,
-) -> Result<Verdict, Refusal> {
+) -> Result<Finding, Refusal> {
     let row = chunked(lines, b"", body);
     check_between(alloc, &row, client, Some(origin))
 }
@@ -47,7 +47,7 @@ fn check_long(
     length: usize,
     piece: u32,
     take: usize,
-) -> Result<Verdict, Refusal> {
+) -> Result<Finding, Refusal> {
     let body = letters(alloc, length)?;
     let text = response(alloc, ENDLESS, body.as_slice())?;
     let client = Plan {
@@ -67,14 +67,14 @@ fn check_long(
 #[test]
 fn a_body_of_1_kib_byte_by_byte(rt: HostRuntime) -> Result<(), Fail> {
     let verdict = check_long(rt.alloc(), SIXTEEN, KIB, 1, usize::MAX)?;
-    assert_eq!(rt; verdict, Verdict::AsStated);
+    assert_eq!(rt; verdict, Finding::AsStated);
     Ok(())
 }
 
 #[test]
 fn a_body_of_1_mib_in_pieces(rt: HostRuntime) -> Result<(), Fail> {
     let verdict = check_long(rt.alloc(), SIXTEEN, MIB, KIB as u32, usize::MAX)?;
-    assert_eq!(rt; verdict, Verdict::AsStated);
+    assert_eq!(rt; verdict, Finding::AsStated);
     Ok(())
 }
 
@@ -83,8 +83,8 @@ fn a_body_of_1_mib_in_pieces(rt: HostRuntime) -> Result<(), Fail> {
 fn a_body_for_a_slow_client(rt: HostRuntime) -> Result<(), Fail> {
     let held = b"bnull_transform.so\n";
     let verdict = check_long(rt.alloc(), SIXTEEN, 4 * PAST_A_BOUNDARY, u32::MAX, KIB)?;
-    assert_eq!(rt; verdict, Verdict::AsStated);
+    assert_eq!(rt; verdict, Finding::AsStated);
     let verdict = check_long(rt.alloc(), held, 4 * PAST_A_BOUNDARY, u32::MAX, KIB)?;
-    assert_eq!(rt; verdict, Verdict::AsStated);
+    assert_eq!(rt; verdict, Finding::AsStated);
     Ok(())
 }

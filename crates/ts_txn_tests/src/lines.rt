@@ -1,6 +1,6 @@
 //! What the lines of a configuration make of a body, and the responses that they leave alone.
 
-use crate::row::{Row, Verdict, check, get};
+use crate::row::{Finding, Row, check, get};
 use crate::stated::{ABC, CHUNKED};
 use std::test::Fail;
 use ts_hooks::TxnEnd;
@@ -15,14 +15,18 @@ pub const HTML_FRONT: u32 = 63;
 
 /// The client's head of it where a line acts.
 pub const HTML_HEAD: &[u8] =
-    b"HTTP/1.1 200 OK\r\ncontent-type: text/html\r\nvia: 1.1 tsx\r\ntransfer-encoding: chunked\r\nconnection: close\r\n\r\n";
+    b"HTTP/1.1 200 OK\r\ncontent-type: text/html\r\nvia: 1.1 tsx\r\ntransfer-encoding: chunked\r\n\
+connection: close\r\n\r\n";
 
 /// The text of the files that the lines here name.
 pub const FILE: &[u8] = b"<hr>";
 
 /// As many lines as there may be.
 pub const SIXTEEN: &[u8] =
-    b"null_transform.so\nnull_transform.so\nnull_transform.so\nnull_transform.so\nnull_transform.so\nnull_transform.so\nnull_transform.so\nnull_transform.so\nnull_transform.so\nnull_transform.so\nnull_transform.so\nnull_transform.so\nnull_transform.so\nnull_transform.so\nnull_transform.so\nnull_transform.so\n";
+    b"null_transform.so\nnull_transform.so\nnull_transform.so\nnull_transform.so\nnull_transform.so\n\
+null_transform.so\nnull_transform.so\nnull_transform.so\nnull_transform.so\nnull_transform.so\n\
+null_transform.so\nnull_transform.so\nnull_transform.so\nnull_transform.so\nnull_transform.so\n\
+null_transform.so\n";
 
 /// Each stock line and five in a row, and what they make of the six bytes.
 pub const STOCK: [(&[u8], &[u8]); 8] = [
@@ -52,7 +56,7 @@ pub fn html<'a>(lines: &'a [u8], body: &'a [u8]) -> Row<'a> {
 fn each_stock_line_makes_its_body(rt: HostRuntime) -> Result<(), Fail> {
     for (place, (lines, body)) in STOCK.iter().enumerate() {
         let row = html(lines, body);
-        assert_eq!(rt; check(rt.alloc(), &row)?, Verdict::AsStated, "line {place}");
+        assert_eq!(rt; check(rt.alloc(), &row)?, Finding::AsStated, "line {place}");
     }
     Ok(())
 }
@@ -60,7 +64,7 @@ fn each_stock_line_makes_its_body(rt: HostRuntime) -> Result<(), Fail> {
 #[test]
 fn sixteen_lines_pass_a_body_on(rt: HostRuntime) -> Result<(), Fail> {
     let row = html(SIXTEEN, b"banana");
-    assert_eq!(rt; check(rt.alloc(), &row)?, Verdict::AsStated);
+    assert_eq!(rt; check(rt.alloc(), &row)?, Finding::AsStated);
     Ok(())
 }
 
@@ -72,7 +76,7 @@ fn a_body_that_is_dropped_has_no_pieces(rt: HostRuntime) -> Result<(), Fail> {
         lines: b"drop.so a\n",
         ..get(origin, CHUNKED, Mode::Chunked, b"")
     };
-    assert_eq!(rt; check(rt.alloc(), &row)?, Verdict::AsStated);
+    assert_eq!(rt; check(rt.alloc(), &row)?, Finding::AsStated);
     Ok(())
 }
 
@@ -88,7 +92,7 @@ fn a_text_is_put_before_a_body(rt: HostRuntime) -> Result<(), Fail> {
             lines: b"prepend.so <\n",
             ..get(origin, CHUNKED, Mode::Chunked, b"<abc")
         };
-        assert_eq!(rt; check(rt.alloc(), &row)?, Verdict::AsStated, "row {place}");
+        assert_eq!(rt; check(rt.alloc(), &row)?, Finding::AsStated, "row {place}");
     }
     Ok(())
 }
@@ -124,7 +128,7 @@ fn lines_act_in_their_order(rt: HostRuntime) -> Result<(), Fail> {
                 body,
             )
         };
-        assert_eq!(rt; check(rt.alloc(), &row)?, Verdict::AsStated, "row {place}");
+        assert_eq!(rt; check(rt.alloc(), &row)?, Finding::AsStated, "row {place}");
     }
     Ok(())
 }
@@ -133,12 +137,18 @@ fn lines_act_in_their_order(rt: HostRuntime) -> Result<(), Fail> {
 const BROWSER: Row<'static> = Row {
     lines: b"append_transform.so f\n",
     file: FILE,
-    request: b"GET /index.html HTTP/1.1\r\nHost: www.example.com\r\nUser-Agent: curl/8.5.0\r\nAccept: */*\r\n\r\n",
+    request: b"GET /index.html HTTP/1.1\r\nHost: www.example.com\r\nUser-Agent: curl/8.5.0\r\n\
+Accept: */*\r\n\r\n",
     origin: Some(
-        b"HTTP/1.1 200 OK\r\nDate: Mon, 01 Jan 2024 00:00:00 GMT\r\nContent-Type: text/html; charset=utf-8\r\nContent-Length: 13\r\nConnection: keep-alive\r\n\r\n<p>hello</p>\n",
+        b"HTTP/1.1 200 OK\r\nDate: Mon, 01 Jan 2024 00:00:00 GMT\r\n\
+Content-Type: text/html; charset=utf-8\r\nContent-Length: 13\r\nConnection: keep-alive\r\n\r\n\
+<p>hello</p>\n",
     ),
-    sent: b"GET /index.html HTTP/1.1\r\nhost: www.example.com\r\nuser-agent: curl/8.5.0\r\naccept: */*\r\nvia: 1.1 tsx\r\nconnection: close\r\n\r\n",
-    head: b"HTTP/1.1 200 OK\r\ndate: Mon, 01 Jan 2024 00:00:00 GMT\r\ncontent-type: text/html; charset=utf-8\r\nvia: 1.1 tsx\r\ntransfer-encoding: chunked\r\nconnection: close\r\n\r\n",
+    sent: b"GET /index.html HTTP/1.1\r\nhost: www.example.com\r\nuser-agent: curl/8.5.0\r\n\
+accept: */*\r\nvia: 1.1 tsx\r\nconnection: close\r\n\r\n",
+    head: b"HTTP/1.1 200 OK\r\ndate: Mon, 01 Jan 2024 00:00:00 GMT\r\n\
+content-type: text/html; charset=utf-8\r\nvia: 1.1 tsx\r\ntransfer-encoding: chunked\r\n\
+connection: close\r\n\r\n",
     mode: Mode::Chunked,
     body: b"<p>hello</p>\n<hr>",
     least: 0,
@@ -151,33 +161,36 @@ fn a_text_is_appended_to_html_alone(rt: HostRuntime) -> Result<(), Fail> {
         (BROWSER.sent.len(), BROWSER.head.len(), BROWSER.body.len()),
         (121, 157, 17)
     );
-    assert_eq!(rt; check(rt.alloc(), &BROWSER)?, Verdict::AsStated);
+    assert_eq!(rt; check(rt.alloc(), &BROWSER)?, Finding::AsStated);
     let plain = Row {
         origin: Some(
             b"HTTP/1.1 200 OK\r\nContent-Type: text/plain\r\nContent-Length: 13\r\n\r\n<p>hello</p>\n",
         ),
-        head: b"HTTP/1.1 200 OK\r\ncontent-type: text/plain\r\nvia: 1.1 tsx\r\ncontent-length: 13\r\nconnection: close\r\n\r\n",
+        head: b"HTTP/1.1 200 OK\r\ncontent-type: text/plain\r\nvia: 1.1 tsx\r\ncontent-length: 13\r\n\
+connection: close\r\n\r\n",
         mode: Mode::Plain,
         body: b"<p>hello</p>\n",
         ..BROWSER
     };
-    assert_eq!(rt; check(rt.alloc(), &plain)?, Verdict::AsStated);
+    assert_eq!(rt; check(rt.alloc(), &plain)?, Finding::AsStated);
     Ok(())
 }
 
 #[test]
 fn a_compressed_body_is_passed_on_unread(rt: HostRuntime) -> Result<(), Fail> {
     let origin =
-        b"HTTP/1.1 200 OK\r\nContent-Type: text/html\r\nContent-Encoding: gzip\r\nContent-Length: 6\r\n\r\nbanana";
+        b"HTTP/1.1 200 OK\r\nContent-Type: text/html\r\nContent-Encoding: gzip\r\nContent-Length: 6\r\n\
+\r\nbanana";
     let head =
-        b"HTTP/1.1 200 OK\r\ncontent-type: text/html\r\ncontent-encoding: gzip\r\nvia: 1.1 tsx\r\ncontent-length: 6\r\nconnection: close\r\n\r\n";
+        b"HTTP/1.1 200 OK\r\ncontent-type: text/html\r\ncontent-encoding: gzip\r\nvia: 1.1 tsx\r\n\
+content-length: 6\r\nconnection: close\r\n\r\n";
     for (place, (lines, _)) in STOCK.iter().enumerate() {
         let row = Row {
             lines,
             file: FILE,
             ..get(origin, head, Mode::Plain, b"banana")
         };
-        assert_eq!(rt; check(rt.alloc(), &row)?, Verdict::AsStated, "line {place}");
+        assert_eq!(rt; check(rt.alloc(), &row)?, Finding::AsStated, "line {place}");
     }
     Ok(())
 }
@@ -188,12 +201,13 @@ fn a_body_that_is_said_not_to_be_coded_is_changed(rt: HostRuntime) -> Result<(),
         lines: b"prepend.so <\n",
         ..get(
             b"HTTP/1.1 200 OK\r\nContent-Encoding: identity\r\nContent-Length: 3\r\n\r\nabc",
-            b"HTTP/1.1 200 OK\r\ncontent-encoding: identity\r\nvia: 1.1 tsx\r\ntransfer-encoding: chunked\r\nconnection: close\r\n\r\n",
+            b"HTTP/1.1 200 OK\r\ncontent-encoding: identity\r\nvia: 1.1 tsx\r\n\
+transfer-encoding: chunked\r\nconnection: close\r\n\r\n",
             Mode::Chunked,
             b"<abc",
         )
     };
-    assert_eq!(rt; check(rt.alloc(), &row)?, Verdict::AsStated);
+    assert_eq!(rt; check(rt.alloc(), &row)?, Finding::AsStated);
     Ok(())
 }
 
@@ -202,14 +216,15 @@ fn no_line_acts_on_another_status(rt: HostRuntime) -> Result<(), Fail> {
     let origin =
         b"HTTP/1.1 404 Not Found\r\nContent-Type: text/html\r\nContent-Length: 6\r\n\r\nbanana";
     let head =
-        b"HTTP/1.1 404 Not Found\r\ncontent-type: text/html\r\nvia: 1.1 tsx\r\ncontent-length: 6\r\nconnection: close\r\n\r\n";
+        b"HTTP/1.1 404 Not Found\r\ncontent-type: text/html\r\nvia: 1.1 tsx\r\ncontent-length: 6\r\n\
+connection: close\r\n\r\n";
     for (place, (lines, _)) in STOCK.iter().enumerate() {
         let row = Row {
             lines,
             file: FILE,
             ..get(origin, head, Mode::Plain, b"banana")
         };
-        assert_eq!(rt; check(rt.alloc(), &row)?, Verdict::AsStated, "line {place}");
+        assert_eq!(rt; check(rt.alloc(), &row)?, Finding::AsStated, "line {place}");
     }
     Ok(())
 }
@@ -233,7 +248,7 @@ fn an_empty_body_gets_the_texts_alone(rt: HostRuntime) -> Result<(), Fail> {
                 body,
             )
         };
-        assert_eq!(rt; check(rt.alloc(), &row)?, Verdict::AsStated, "row {place}");
+        assert_eq!(rt; check(rt.alloc(), &row)?, Finding::AsStated, "row {place}");
     }
     Ok(())
 }

@@ -5,7 +5,7 @@ use crate::answers::own;
 use crate::lines::html;
 use crate::plan::{dripping_after, giving};
 use crate::refusal::Refusal;
-use crate::row::{Row, Verdict, get, judge, judge_front, run_row};
+use crate::row::{Finding, Row, get, judge, judge_front, run_row};
 use crate::stated::{ABC, BAD_GATEWAY, GET, GET_SENT, SIZED};
 use std::alloc::Global;
 use std::test::Fail;
@@ -16,7 +16,8 @@ use ts_wire::Mode;
 
 // The response of HTML in chunks, and how much of it is its head.
 const CHUNKS: &[u8] =
-    b"HTTP/1.1 200 OK\r\nContent-Type: text/html\r\nTransfer-Encoding: chunked\r\n\r\n3\r\nban\r\n3\r\nana\r\n0\r\n\r\n";
+    b"HTTP/1.1 200 OK\r\nContent-Type: text/html\r\nTransfer-Encoding: chunked\r\n\r\n3\r\nban\r\n3\r\n\
+ana\r\n0\r\n\r\n";
 
 const FRONT: u32 = 72;
 
@@ -25,28 +26,28 @@ fn judge_spare(
     alloc: Global,
     row: &Row<'_>,
     parts: &TxnParts<MemLink, MemLink>,
-) -> Result<Verdict, Refusal> {
+) -> Result<Finding, Refusal> {
     if parts.end != Some(TxnEnd::NoMemory) {
         return judge(alloc, row, parts);
     }
     let front = judge_front(alloc, row, TxnEnd::NoMemory, parts)?;
     Ok(match front {
-        Verdict::AsStated => Verdict::Lacks,
+        Finding::AsStated => Finding::Lacks,
         other => other,
     })
 }
 
 // The same of an exchange whose origin gives this.
-fn check_spare(alloc: Global, row: &Row<'_>, gives: &[u8]) -> Result<Verdict, Refusal> {
+fn check_spare(alloc: Global, row: &Row<'_>, gives: &[u8]) -> Result<Finding, Refusal> {
     let origin = dripping_after(gives, FRONT);
     let ended = run_row(alloc, row, &giving(GET), Some(origin))?;
     judge_spare(alloc, row, &ended.parts)
 }
 
 // What comes of an exchange, and of the same again where memory lacked.
-fn check_again(alloc: Global, row: &Row<'_>, gives: &[u8]) -> Result<Verdict, Refusal> {
+fn check_again(alloc: Global, row: &Row<'_>, gives: &[u8]) -> Result<Finding, Refusal> {
     match check_spare(alloc, row, gives) {
-        Ok(Verdict::Lacks) => check_spare(alloc, row, gives),
+        Ok(Finding::Lacks) => check_spare(alloc, row, gives),
         Err(Refusal::NoMemory) => check_spare(alloc, row, gives),
         other => other,
     }
@@ -66,7 +67,7 @@ fn an_exchange_is_whole_or_a_front(rt: HostRuntime) -> Result<(), Fail> {
     ];
     for (place, (row, gives)) in rows.iter().enumerate() {
         let verdict = check_again(rt.alloc(), row, gives);
-        assert_eq!(rt; verdict, Ok(Verdict::AsStated), "row {place}");
+        assert_eq!(rt; verdict, Ok(Finding::AsStated), "row {place}");
     }
     Ok(())
 }

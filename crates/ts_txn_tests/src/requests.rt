@@ -1,6 +1,6 @@
 //! Requests that the proxy answers by itself, and what the origin gets of the others.
 
-use crate::row::{Row, Verdict, check, check_at_once, get};
+use crate::row::{Finding, Row, check, check_at_once, get};
 use crate::stated::{
     ABC, BAD_GATEWAY, BAD_REQUEST, ENDLESS_OLD, FROM_OLD, NOT_IMPLEMENTED, PLAIN_OLD,
 };
@@ -37,10 +37,10 @@ fn a_request_that_fails_the_check_is_answered_by_400(rt: HostRuntime) -> Result<
     ];
     for (place, request) in requests.iter().enumerate() {
         let verdict = check(rt.alloc(), &bad(request))?;
-        assert_eq!(rt; verdict, Verdict::AsStated, "request {place}");
+        assert_eq!(rt; verdict, Finding::AsStated, "request {place}");
     }
     let head = refused(b"HEAD / HTTP/1.1\r\n\r\n", BAD_REQUEST, b"");
-    assert_eq!(rt; check(rt.alloc(), &head)?, Verdict::AsStated);
+    assert_eq!(rt; check(rt.alloc(), &head)?, Finding::AsStated);
     Ok(())
 }
 
@@ -56,7 +56,7 @@ fn a_request_that_is_not_served_is_answered_by_501(rt: HostRuntime) -> Result<()
         let row = refused(request, NOT_IMPLEMENTED, b"501 Not Implemented\n");
         assert_eq!(rt;
             check(rt.alloc(), &row)?,
-            Verdict::AsStated,
+            Finding::AsStated,
             "request {place}"
         );
     }
@@ -75,10 +75,10 @@ fn a_client_that_gives_no_head_gets_an_answer_unless_it_gives_nothing(
     ];
     for (place, request) in requests.iter().enumerate() {
         let verdict = check(rt.alloc(), &bad(request))?;
-        assert_eq!(rt; verdict, Verdict::AsStated, "request {place}");
+        assert_eq!(rt; verdict, Finding::AsStated, "request {place}");
     }
     let silent = refused(b"", b"", b"");
-    assert_eq!(rt; check(rt.alloc(), &silent)?, Verdict::AsStated);
+    assert_eq!(rt; check(rt.alloc(), &silent)?, Finding::AsStated);
     Ok(())
 }
 
@@ -95,7 +95,7 @@ fn endless(alloc: Global, length: usize) -> Result<Vec<u8>, Fail> {
 fn a_head_that_is_too_long_is_refused(rt: HostRuntime) -> Result<(), Fail> {
     let head = endless(rt.alloc(), 16_385)?;
     let verdict = check_at_once(rt.alloc(), &bad(head.as_slice()))?;
-    assert_eq!(rt; verdict, Verdict::AsStated);
+    assert_eq!(rt; verdict, Finding::AsStated);
     Ok(())
 }
 
@@ -110,7 +110,7 @@ fn head_of(alloc: Global, fields: u32) -> Result<Vec<u8>, Fail> {
 }
 
 // Whether a request of so many fields gets this answer.
-fn check_fields(alloc: Global, fields: u32, answer: &[u8], body: &[u8]) -> Result<Verdict, Fail> {
+fn check_fields(alloc: Global, fields: u32, answer: &[u8], body: &[u8]) -> Result<Finding, Fail> {
     let head = head_of(alloc, fields)?;
     let row = Row {
         origin: None,
@@ -128,7 +128,7 @@ fn a_head_has_at_most_64_fields(rt: HostRuntime) -> Result<(), Fail> {
     ];
     for (fields, answer, body) in rows {
         let verdict = check_fields(rt.alloc(), fields, answer, body)?;
-        assert_eq!(rt; verdict, Verdict::AsStated, "{fields} fields");
+        assert_eq!(rt; verdict, Finding::AsStated, "{fields} fields");
     }
     Ok(())
 }
@@ -146,7 +146,8 @@ fn the_version_and_the_target_of_a_request(rt: HostRuntime) -> Result<(), Fail> 
         // The authority of the target stands in the place of the host that is named.
         Row {
             request: b"GET HTTP://b:80?x HTTP/1.1\r\nHost: a\r\nAccept: */*\r\n\r\n",
-            sent: b"GET /?x HTTP/1.1\r\nhost: b:80\r\naccept: */*\r\nvia: 1.1 tsx\r\nconnection: close\r\n\r\n",
+            sent: b"GET /?x HTTP/1.1\r\nhost: b:80\r\naccept: */*\r\nvia: 1.1 tsx\r\n\
+connection: close\r\n\r\n",
             ..get(ENDLESS_OLD, FROM_OLD, Mode::Chunked, b"abc")
         },
         Row {
@@ -156,7 +157,7 @@ fn the_version_and_the_target_of_a_request(rt: HostRuntime) -> Result<(), Fail> 
         },
     ];
     for (place, row) in rows.iter().enumerate() {
-        assert_eq!(rt; check(rt.alloc(), row)?, Verdict::AsStated, "row {place}");
+        assert_eq!(rt; check(rt.alloc(), row)?, Finding::AsStated, "row {place}");
     }
     Ok(())
 }

@@ -1,6 +1,6 @@
 //! Rows: a request, what the origin gives, and what is stated of both ends.
 
-use crate::exchange::{Ended, NUMBER, run, setup_of};
+use crate::exchange::{EndedTxn, NUMBER, run, setup_of};
 use crate::plan::{Plan, dripping, giving};
 use crate::refusal::Refusal;
 use crate::stated::{CHUNKED, GET, GET_SENT, HEAD, HEAD_SENT, text_of};
@@ -33,7 +33,7 @@ pub struct Row<'a> {
 
 /// What came of a row: as it is stated, or the first that is other.
 #[derive(Clone, Copy, Debug, PartialEq, Eq)]
-pub enum Verdict {
+pub enum Finding {
     AsStated,
     OtherEnd,
     OtherRequest,
@@ -105,31 +105,31 @@ pub fn judge(
     alloc: Global,
     row: &Row<'_>,
     parts: &TxnParts<MemLink, MemLink>,
-) -> Result<Verdict, Refusal> {
+) -> Result<Finding, Refusal> {
     if parts.end != Some(row.end) {
-        return Ok(Verdict::OtherEnd);
+        return Ok(Finding::OtherEnd);
     }
     if parts.number != NUMBER {
-        return Ok(Verdict::OtherNumber);
+        return Ok(Finding::OtherNumber);
     }
     if request_of(&parts.origin) != row.sent {
-        return Ok(Verdict::OtherRequest);
+        return Ok(Finding::OtherRequest);
     }
     if parts.head != row.head.len() as u64 || parts.mode != row.mode {
-        return Ok(Verdict::OtherHead);
+        return Ok(Finding::OtherHead);
     }
     let whole = row.end == TxnEnd::Whole;
     let Some(text) = stated_text(alloc, row, parts.cuts.as_slice(), whole)? else {
-        return Ok(Verdict::OtherPieces);
+        return Ok(Finding::OtherPieces);
     };
     if parts.client.written() != text.as_slice() {
-        return Ok(Verdict::OtherText);
+        return Ok(Finding::OtherText);
     }
     Ok(judge_length(row, parts.cuts.as_slice()))
 }
 
 // Whether the pieces of a body are all that the client gets at least: of one that ends whole all of it.
-fn judge_length(row: &Row<'_>, cuts: &[u32]) -> Verdict {
+fn judge_length(row: &Row<'_>, cuts: &[u32]) -> Finding {
     let mut sum: u64 = 0;
     for cut in cuts {
         sum = sum.saturating_add(u64::from(*cut));
@@ -139,13 +139,13 @@ fn judge_length(row: &Row<'_>, cuts: &[u32]) -> Verdict {
         _ => row.least,
     };
     if sum < least as u64 {
-        return Verdict::OtherPieces;
+        return Finding::OtherPieces;
     }
-    Verdict::AsStated
+    Finding::AsStated
 }
 
 // Whether a block is as the row states. That of an exchange that does not end whole has no body.
-fn judge_block(row: &Row<'_>, block: &Block) -> Verdict {
+fn judge_block(row: &Row<'_>, block: &Block) -> Finding {
     let body: &[u8] = match row.end {
         TxnEnd::Whole => row.body,
         _ => b"",
@@ -153,9 +153,9 @@ fn judge_block(row: &Row<'_>, block: &Block) -> Verdict {
     let ends = block.end == row.end && block.request.bytes() == row.sent;
     let answers = block.head.bytes() == row.head && block.mode == row.mode;
     if ends && answers && block.body.bytes() == body {
-        return Verdict::AsStated;
+        return Finding::AsStated;
     }
-    Verdict::OtherBlock
+    Finding::OtherBlock
 }
 
 /// Whether the block of all bytes that the links of a row give is as it states, with this setup, where the
@@ -165,14 +165,14 @@ pub fn check_block_of(
     setup: &Setup,
     refuses: bool,
     row: &Row<'_>,
-) -> Result<Verdict, Refusal> {
+) -> Result<Finding, Refusal> {
     let (dialed, gives) = (row.origin.is_some(), row.origin.unwrap_or(b""));
     let block = block_of(alloc, setup, row.request, dialed, refuses, gives)?;
     Ok(judge_block(row, &block))
 }
 
 /// The same with the setup of its lines.
-pub fn check_block(alloc: Global, refuses: bool, row: &Row<'_>) -> Result<Verdict, Refusal> {
+pub fn check_block(alloc: Global, refuses: bool, row: &Row<'_>) -> Result<Finding, Refusal> {
     let setup = setup_of(alloc, row.lines, row.file)?;
     check_block_of(alloc, &setup, refuses, row)
 }
@@ -183,17 +183,17 @@ pub fn judge_front(
     row: &Row<'_>,
     end: TxnEnd,
     parts: &TxnParts<MemLink, MemLink>,
-) -> Result<Verdict, Refusal> {
+) -> Result<Finding, Refusal> {
     if parts.end != Some(end) {
-        return Ok(Verdict::OtherEnd);
+        return Ok(Finding::OtherEnd);
     }
     let Some(text) = stated_text(alloc, row, parts.cuts.as_slice(), true)? else {
-        return Ok(Verdict::OtherPieces);
+        return Ok(Finding::OtherPieces);
     };
     if !text.as_slice().starts_with(parts.client.written()) {
-        return Ok(Verdict::OtherText);
+        return Ok(Finding::OtherText);
     }
-    Ok(Verdict::AsStated)
+    Ok(Finding::AsStated)
 }
 
 /// What comes of a row between the links of these plans.
@@ -202,7 +202,7 @@ pub fn run_row(
     row: &Row<'_>,
     client: &Plan<'_>,
     origin: Option<Plan<'_>>,
-) -> Result<Ended, Refusal> {
+) -> Result<EndedTxn, Refusal> {
     run(alloc, row.lines, row.file, client, origin)
 }
 
@@ -212,7 +212,7 @@ pub fn check_between(
     row: &Row<'_>,
     client: &Plan<'_>,
     origin: Option<Plan<'_>>,
-) -> Result<Verdict, Refusal> {
+) -> Result<Finding, Refusal> {
     let ended = run_row(alloc, row, client, origin)?;
     judge(alloc, row, &ended.parts)
 }
@@ -224,15 +224,15 @@ pub fn check_front(
     end: TxnEnd,
     client: &Plan<'_>,
     origin: Option<Plan<'_>>,
-) -> Result<Verdict, Refusal> {
+) -> Result<Finding, Refusal> {
     let ended = run_row(alloc, row, client, origin)?;
     judge_front(alloc, row, end, &ended.parts)
 }
 
 /// Whether a row comes out as stated where the links give and take all at once, and its block is so.
-pub fn check_at_once(alloc: Global, row: &Row<'_>) -> Result<Verdict, Refusal> {
+pub fn check_at_once(alloc: Global, row: &Row<'_>) -> Result<Finding, Refusal> {
     let block = check_block(alloc, false, row)?;
-    if block != Verdict::AsStated {
+    if block != Finding::AsStated {
         return Ok(block);
     }
     check_between(alloc, row, &giving(row.request), row.origin.map(giving))
@@ -240,9 +240,9 @@ pub fn check_at_once(alloc: Global, row: &Row<'_>) -> Result<Verdict, Refusal> {
 
 /// Whether a row comes out as stated, both where the links give and take all at once and where each call of
 /// them moves one byte, and its block is so.
-pub fn check(alloc: Global, row: &Row<'_>) -> Result<Verdict, Refusal> {
+pub fn check(alloc: Global, row: &Row<'_>) -> Result<Finding, Refusal> {
     let at_once = check_at_once(alloc, row)?;
-    if at_once != Verdict::AsStated {
+    if at_once != Finding::AsStated {
         return Ok(at_once);
     }
     check_between(alloc, row, &dripping(row.request), row.origin.map(dripping))

@@ -7,7 +7,7 @@ use crate::exchange::{exchange, setup_of, with_plugins};
 use crate::lines::FILE;
 use crate::plan::{giving, link_of, origin_of};
 use crate::refusal::Refusal;
-use crate::row::{Row, Verdict, check_block_of, get, judge};
+use crate::row::{Finding, Row, check_block_of, get, judge};
 use crate::stated::{ABC, FORBIDDEN, SIZED};
 use http_header::{HeaderName, HeaderValue};
 use std::alloc::Global;
@@ -34,7 +34,7 @@ fn ruled(
 }
 
 // Whether a row comes out as stated with this setup, where the links give and take all at once.
-fn check_set(alloc: Global, setup: Setup, row: &Row<'_>) -> Result<Verdict, Refusal>
+fn check_set(alloc: Global, setup: Setup, row: &Row<'_>) -> Result<Finding, Refusal>
     requires { HasFewLines setup 0 }
 {
     let client = link_of(alloc, &giving(row.request))?;
@@ -49,17 +49,17 @@ fn check_both(
     first: PluginLine,
     second: Option<PluginLine>,
     row: &Row<'_>,
-) -> Result<Verdict, Refusal> {
+) -> Result<Finding, Refusal> {
     let setup = ruled(alloc, row, first, second)?;
     let block = check_block_of(alloc, &setup, false, row)?;
-    if block != Verdict::AsStated {
+    if block != Finding::AsStated {
         return Ok(block);
     }
     check_set(alloc, setup, row)
 }
 
 // The same with one plugin line.
-fn check_ruled(alloc: Global, plugin: PluginLine, row: &Row<'_>) -> Result<Verdict, Refusal> {
+fn check_ruled(alloc: Global, plugin: PluginLine, row: &Row<'_>) -> Result<Finding, Refusal> {
     check_both(alloc, plugin, None, row)
 }
 
@@ -96,7 +96,7 @@ fn a_rule_of_the_request_side_changes_the_request(rt: HostRuntime) -> Result<(),
         sets_type(Side::Request, HeaderValue::from_static("x")),
         &row,
     )?;
-    assert_eq!(rt; verdict, Verdict::AsStated);
+    assert_eq!(rt; verdict, Finding::AsStated);
     Ok(())
 }
 
@@ -105,13 +105,15 @@ fn a_rule_of_the_response_side_changes_each_head(rt: HostRuntime) -> Result<(), 
     let rows = [
         get(
             ABC,
-            b"HTTP/1.1 200 OK\r\ncontent-type: x\r\nvia: 1.1 tsx\r\ncontent-length: 3\r\nconnection: close\r\n\r\n",
+            b"HTTP/1.1 200 OK\r\ncontent-type: x\r\nvia: 1.1 tsx\r\ncontent-length: 3\r\n\
+connection: close\r\n\r\n",
             Mode::Plain,
             b"abc",
         ),
         get(
             b"HTTP/1.1 200 OK\r\nContent-Type: y\r\nServer: z\r\n\r\nabc",
-            b"HTTP/1.1 200 OK\r\nserver: z\r\ncontent-type: x\r\nvia: 1.1 tsx\r\ntransfer-encoding: chunked\r\nconnection: close\r\n\r\n",
+            b"HTTP/1.1 200 OK\r\nserver: z\r\ncontent-type: x\r\nvia: 1.1 tsx\r\n\
+transfer-encoding: chunked\r\nconnection: close\r\n\r\n",
             Mode::Chunked,
             b"abc",
         ),
@@ -128,7 +130,7 @@ fn a_rule_of_the_response_side_changes_each_head(rt: HostRuntime) -> Result<(), 
             sets_type(Side::Response, HeaderValue::from_static("x")),
             row,
         )?;
-        assert_eq!(rt; verdict, Verdict::AsStated, "row {place}");
+        assert_eq!(rt; verdict, Finding::AsStated, "row {place}");
     }
     Ok(())
 }
@@ -139,7 +141,8 @@ fn header_rules_change_one_side(rt: HostRuntime) -> Result<(), Fail> {
     let rows = [
         get(
             ABC,
-            b"HTTP/1.1 200 OK\r\ncontent-type: x\r\nvia: 1.1 tsx\r\ncontent-length: 3\r\nconnection: close\r\n\r\n",
+            b"HTTP/1.1 200 OK\r\ncontent-type: x\r\nvia: 1.1 tsx\r\ncontent-length: 3\r\n\
+connection: close\r\n\r\n",
             Mode::Plain,
             b"abc",
         ),
@@ -157,7 +160,7 @@ fn header_rules_change_one_side(rt: HostRuntime) -> Result<(), Fail> {
         };
         let set = sets_type(Side::Response, HeaderValue::from_static("x"));
         let verdict = check_both(rt.alloc(), adds_field(), Some(set), &row)?;
-        assert_eq!(rt; verdict, Verdict::AsStated, "row {place}");
+        assert_eq!(rt; verdict, Finding::AsStated, "row {place}");
     }
     Ok(())
 }
@@ -176,7 +179,7 @@ fn a_rule_removes_a_field(rt: HostRuntime) -> Result<(), Fail> {
         Mode::Plain,
         b"abc",
     );
-    assert_eq!(rt; check_ruled(rt.alloc(), remove, &row)?, Verdict::AsStated);
+    assert_eq!(rt; check_ruled(rt.alloc(), remove, &row)?, Finding::AsStated);
     Ok(())
 }
 
@@ -188,7 +191,8 @@ fn a_rule_does_not_change_which_lines_act(rt: HostRuntime) -> Result<(), Fail> {
         file: FILE,
         ..get(
             b"HTTP/1.1 200 OK\r\nContent-Type: text/plain\r\nContent-Length: 3\r\n\r\nabc",
-            b"HTTP/1.1 200 OK\r\ncontent-type: text/html\r\nvia: 1.1 tsx\r\ncontent-length: 3\r\nconnection: close\r\n\r\n",
+            b"HTTP/1.1 200 OK\r\ncontent-type: text/html\r\nvia: 1.1 tsx\r\ncontent-length: 3\r\n\
+connection: close\r\n\r\n",
             Mode::Plain,
             b"abc",
         )
@@ -198,13 +202,14 @@ fn a_rule_does_not_change_which_lines_act(rt: HostRuntime) -> Result<(), Fail> {
         sets_type(Side::Response, HeaderValue::from_static("text/html")),
         &plain,
     )?;
-    assert_eq!(rt; verdict, Verdict::AsStated);
+    assert_eq!(rt; verdict, Finding::AsStated);
     let html = Row {
         lines: b"append_transform.so f\n",
         file: FILE,
         ..get(
             b"HTTP/1.1 200 OK\r\nContent-Type: text/html\r\nContent-Length: 3\r\n\r\nabc",
-            b"HTTP/1.1 200 OK\r\ncontent-type: text/plain\r\nvia: 1.1 tsx\r\ntransfer-encoding: chunked\r\nconnection: close\r\n\r\n",
+            b"HTTP/1.1 200 OK\r\ncontent-type: text/plain\r\nvia: 1.1 tsx\r\n\
+transfer-encoding: chunked\r\nconnection: close\r\n\r\n",
             Mode::Chunked,
             b"abc<hr>",
         )
@@ -214,7 +219,7 @@ fn a_rule_does_not_change_which_lines_act(rt: HostRuntime) -> Result<(), Fail> {
         sets_type(Side::Response, HeaderValue::from_static("text/plain")),
         &html,
     )?;
-    assert_eq!(rt; verdict, Verdict::AsStated);
+    assert_eq!(rt; verdict, Finding::AsStated);
     Ok(())
 }
 
@@ -228,7 +233,7 @@ fn denies(alloc: Global, site: &[u8]) -> Result<PluginLine, Refusal> {
 }
 
 // Whether a row comes out as stated where this site is denied.
-fn check_denied(alloc: Global, site: &[u8], row: &Row<'_>) -> Result<Verdict, Refusal> {
+fn check_denied(alloc: Global, site: &[u8], row: &Row<'_>) -> Result<Finding, Refusal> {
     let deny = denies(alloc, site)?;
     check_ruled(alloc, deny, row)
 }
@@ -250,7 +255,7 @@ fn a_denied_host_gets_nothing_of_an_origin(rt: HostRuntime) -> Result<(), Fail> 
     ];
     for (place, (site, row)) in rows.iter().enumerate() {
         let verdict = check_denied(rt.alloc(), site, row)?;
-        assert_eq!(rt; verdict, Verdict::AsStated, "row {place}");
+        assert_eq!(rt; verdict, Finding::AsStated, "row {place}");
     }
     Ok(())
 }

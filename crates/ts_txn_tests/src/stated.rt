@@ -54,7 +54,8 @@ pub const PLAIN: &[u8] = b"HTTP/1.1 200 OK\r\nvia: 1.1 tsx\r\nconnection: close\
 
 /// The head of the answer to a request that cannot be read.
 pub const BAD_REQUEST: &[u8] =
-    b"HTTP/1.1 400 Bad Request\r\ncontent-type: text/plain\r\ncontent-length: 16\r\nconnection: close\r\n\r\n";
+    b"HTTP/1.1 400 Bad Request\r\ncontent-type: text/plain\r\ncontent-length: 16\r\n\
+connection: close\r\n\r\n";
 
 /// The head of the answer to a request for a host that is denied.
 pub const FORBIDDEN: &[u8] =
@@ -62,11 +63,13 @@ pub const FORBIDDEN: &[u8] =
 
 /// The head of the answer to a request with a body.
 pub const NOT_IMPLEMENTED: &[u8] =
-    b"HTTP/1.1 501 Not Implemented\r\ncontent-type: text/plain\r\ncontent-length: 20\r\nconnection: close\r\n\r\n";
+    b"HTTP/1.1 501 Not Implemented\r\ncontent-type: text/plain\r\ncontent-length: 20\r\n\
+connection: close\r\n\r\n";
 
 /// The head of the answer where the origin gives none to pass on.
 pub const BAD_GATEWAY: &[u8] =
-    b"HTTP/1.1 502 Bad Gateway\r\ncontent-type: text/plain\r\ncontent-length: 16\r\nconnection: close\r\n\r\n";
+    b"HTTP/1.1 502 Bad Gateway\r\ncontent-type: text/plain\r\ncontent-length: 16\r\n\
+connection: close\r\n\r\n";
 
 /// A response of this head and this body.
 pub fn response(alloc: Global, head: &[u8], body: &[u8]) -> Result<Vec<u8>, Refusal> {

@@ -1,12 +1,12 @@
 //! Links that make their caller wait: the same texts, and a pause of 10 milliseconds for each such answer.
 
 use crate::answers::own;
-use crate::exchange::Ended;
+use crate::exchange::EndedTxn;
 use crate::journals::{last_made, last_moment, least_gap};
 use crate::lines::{HTML, HTML_FRONT, STOCK, html};
 use crate::plan::{Plan, dripping, dripping_after, giving};
 use crate::refusal::Refusal;
-use crate::row::{Row, Verdict, get, judge, run_row};
+use crate::row::{Finding, Row, get, judge, run_row};
 use crate::stated::{ABC, BAD_GATEWAY, GET, GET_SENT, HEAD, SIZED};
 use std::alloc::Global;
 use std::test::Fail;
@@ -20,7 +20,7 @@ const PAUSE: u64 = 10;
 const WAITS: u64 = 2;
 
 // How often the links of a transaction made their caller wait.
-fn waits_of(ended: &Ended) -> (u64, u64) {
+fn waits_of(ended: &EndedTxn) -> (u64, u64) {
     let origin = match &ended.parts.origin {
         Some(link) => link.waits(),
         None => 0,
@@ -32,11 +32,11 @@ fn waits_of(ended: &Ended) -> (u64, u64) {
 fn judge_waiting(
     alloc: Global,
     row: &Row<'_>,
-    ended: &Ended,
+    ended: &EndedTxn,
     waits: (u64, u64),
-) -> Result<Verdict, Refusal> {
+) -> Result<Finding, Refusal> {
     if waits_of(ended) != waits {
-        return Ok(Verdict::OtherWaits);
+        return Ok(Finding::OtherWaits);
     }
     judge(alloc, row, &ended.parts)
 }
@@ -45,11 +45,11 @@ fn judge_waiting(
 fn judge_pauses(
     alloc: Global,
     row: &Row<'_>,
-    ended: &Ended,
+    ended: &EndedTxn,
     waits: (u64, u64),
-) -> Result<Verdict, Refusal> {
+) -> Result<Finding, Refusal> {
     if last_moment(ended.journal.entries()) != PAUSE * WAITS {
-        return Ok(Verdict::OtherMoment);
+        return Ok(Finding::OtherMoment);
     }
     judge_waiting(alloc, row, ended, waits)
 }
@@ -61,7 +61,7 @@ fn check_waiting(
     client: &Plan<'_>,
     origin: Plan<'_>,
     waits: (u64, u64),
-) -> Result<Verdict, Refusal> {
+) -> Result<Finding, Refusal> {
     let ended = run_row(alloc, row, client, Some(origin))?;
     judge_waiting(alloc, row, &ended, waits)
 }
@@ -73,7 +73,7 @@ fn check_pauses(
     client: &Plan<'_>,
     origin: Option<Plan<'_>>,
     waits: (u64, u64),
-) -> Result<Verdict, Refusal> {
+) -> Result<Finding, Refusal> {
     let ended = run_row(alloc, row, client, origin)?;
     judge_pauses(alloc, row, &ended, waits)
 }
@@ -87,7 +87,7 @@ fn a_client_that_waits_at_each_read(rt: HostRuntime) -> Result<(), Fail> {
             ..dripping(GET)
         };
         let verdict = check_pauses(rt.alloc(), &row, &client, Some(dripping(ABC)), (WAITS, 0))?;
-        assert_eq!(rt; verdict, Verdict::AsStated, "read {read}");
+        assert_eq!(rt; verdict, Finding::AsStated, "read {read}");
     }
     Ok(())
 }
@@ -101,7 +101,7 @@ fn an_origin_that_waits_at_each_write(rt: HostRuntime) -> Result<(), Fail> {
             ..dripping(ABC)
         };
         let verdict = check_pauses(rt.alloc(), &row, &dripping(GET), Some(origin), (0, WAITS))?;
-        assert_eq!(rt; verdict, Verdict::AsStated, "write {write}");
+        assert_eq!(rt; verdict, Finding::AsStated, "write {write}");
     }
     Ok(())
 }
@@ -124,7 +124,7 @@ fn a_client_that_waits_at_each_write(rt: HostRuntime) -> Result<(), Fail> {
                 ..dripping_after(GET, 0)
             };
             let verdict = check_waiting(alloc, &row, &client, origin, (WAITS, 0))?;
-            assert_eq!(rt; verdict, Verdict::AsStated, "line {place}, write {write}");
+            assert_eq!(rt; verdict, Finding::AsStated, "line {place}, write {write}");
         }
     }
     Ok(())
@@ -142,7 +142,7 @@ fn an_origin_that_waits_at_each_read(rt: HostRuntime) -> Result<(), Fail> {
                 ..dripping_after(HTML, HTML_FRONT)
             };
             let verdict = check_waiting(alloc, &row, &client, origin, (0, WAITS))?;
-            assert_eq!(rt; verdict, Verdict::AsStated, "line {place}, read {read}");
+            assert_eq!(rt; verdict, Finding::AsStated, "line {place}, read {read}");
         }
     }
     Ok(())
@@ -163,7 +163,7 @@ fn both_links_wait_at_each_call(rt: HostRuntime) -> Result<(), Fail> {
                 ..dripping_after(HTML, HTML_FRONT)
             };
             let verdict = check_waiting(alloc, &row, &client, origin, (WAITS, WAITS))?;
-            assert_eq!(rt; verdict, Verdict::AsStated, "line {place}, {write}, {read}");
+            assert_eq!(rt; verdict, Finding::AsStated, "line {place}, {write}, {read}");
         }
     }
     Ok(())
@@ -181,13 +181,13 @@ fn a_link_that_waits_is_left_alone_for_ten_milliseconds(rt: HostRuntime) -> Resu
             ..client
         };
         let verdict = check_pauses(alloc, &row, &late, Some(origin), (WAITS, 0))?;
-        assert_eq!(rt; verdict, Verdict::AsStated, "write {call}");
+        assert_eq!(rt; verdict, Finding::AsStated, "write {call}");
         let late = Plan {
             again_reads: (call, call + 1),
             ..origin
         };
         let verdict = check_pauses(alloc, &row, &client, Some(late), (0, WAITS))?;
-        assert_eq!(rt; verdict, Verdict::AsStated, "read {call}");
+        assert_eq!(rt; verdict, Finding::AsStated, "read {call}");
     }
     Ok(())
 }
@@ -207,7 +207,7 @@ fn a_client_that_waits_at_its_first_writes(rt: HostRuntime) -> Result<(), Fail> 
                 ..plan
             };
             let verdict = check_pauses(rt.alloc(), &row, &client, None, (WAITS, 0))?;
-            assert_eq!(rt; verdict, Verdict::AsStated);
+            assert_eq!(rt; verdict, Finding::AsStated);
         }
     }
     Ok(())
@@ -231,12 +231,12 @@ fn check_stage(
     row: &Row<'_>,
     client: &Plan<'_>,
     origin: Plan<'_>,
-) -> Result<Verdict, Refusal> {
+) -> Result<Finding, Refusal> {
     let ended = run_row(alloc, row, client, Some(origin))?;
     if pauses(ended.journal.entries()) {
         return judge(alloc, row, &ended.parts);
     }
-    Ok(Verdict::OtherMoment)
+    Ok(Finding::OtherMoment)
 }
 
 #[test]
@@ -244,6 +244,6 @@ fn a_stage_pauses_between_its_events(rt: HostRuntime) -> Result<(), Fail> {
     let row = html(b"delay.so 5\n", b"banana");
     let origin = dripping_after(HTML, HTML_FRONT);
     let verdict = check_stage(rt.alloc(), &row, &dripping_after(GET, 0), origin)?;
-    assert_eq!(rt; verdict, Verdict::AsStated);
+    assert_eq!(rt; verdict, Finding::AsStated);
     Ok(())
 }

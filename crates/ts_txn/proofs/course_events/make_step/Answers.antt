@@ -34,8 +34,9 @@ returns-clause-owes g c = record {
     handles = record {
       next = c.step-step.result.next;
       takes = takes_step g.C.Link g.O.Link g.O.Upstream c.args.core.now c.step-step.new.self c.args.phase
-          c.after_step.result c.step-step.result c.step-step.ensures.leads c.step-step.ensures.owes.minds
-          c.step-step.ensures.owes.waits c.step-step.ensures.owes.leaves c.after_step.ensures.course;
+          c.after_step.result c.step-step.result c.step-step.ensures.leads c.step-step.ensures.owes.follows
+          c.step-step.ensures.owes.minds c.step-step.ensures.owes.waits c.step-step.ensures.owes.leaves
+          c.after_step.ensures.course;
       due = due_step g.C.Link g.O.Link g.O.Upstream c.args.main.now c.args.cx.now c.after_step.new.cx
           c.step-step.result.next
           c.step-step.result.phase c.after_step.result

@@ -10,7 +10,9 @@ use Rattle.ts_relay.specs.Duties.{set_leaving, RunsOr, relay_seats}
 use Rattle.ts_txn.specs.declared.course.Course.TheVariants as K
 use Rattle.ts_relay.specs.declared.last_writes.BodyStep.TheVariants as S
 use Rattle.ts_phases.specs.declared.phase.Phase.TheVariants as P
+use Rattle.ts_txn.specs.declared.course_leads.TheConstants.{AT_ONCE}
 use Rattle.ts_txn.proofs.CourseSeats.{left_covers, left_spent, lost_covers, runs_closing, runs_finishing}
+use Rattle.ts_txn.proofs.Seating.{due_cleared, due_less, due_rests}
 use Rattle.ts_txn.proofs.course_leads.leave_body.Goals as goal
 
 -- The body is passed on.
@@ -26,6 +28,10 @@ returns-in-Finishes-clause-within g c =
     subst (λ s. ActsWithin (set_leaving s) c.args.cx.now c.go_to.new.cx) (sym c.in-Finishes.is)
     (acts_then 0 1 1 (omega arith) (cleared_acts (relay_seats c.args.relay) c.args.cx.now c.close_relay.new.cx
     c.close_relay.ensures.clears) c.go_to.ensures.within)
+
+pub returns-in-Finishes-clause-due : goal.returns-in-Finishes-clause-due
+returns-in-Finishes-clause-due g c = due_cleared c.args.cx.now c.close_relay.new.cx c.go_to.new.cx AT_ONCE
+    c.close_relay.ensures.clears.lessens c.go_to.ensures.due
 
 pub returns-in-Finishes-clause-covered : goal.returns-in-Finishes-clause-covered
 returns-in-Finishes-clause-covered g c =
@@ -48,6 +54,11 @@ returns-in-Closes-clause-within g c =
     (acts_then 0 1 1 (omega arith) (cleared_acts (relay_seats c.args.relay) c.args.cx.now
     c.close_relay-in-Closes.new.cx c.close_relay-in-Closes.ensures.clears)
     c.go_to-in-Closes.ensures.within)
+
+pub returns-in-Closes-clause-due : goal.returns-in-Closes-clause-due
+returns-in-Closes-clause-due g c = due_cleared c.args.cx.now c.close_relay-in-Closes.new.cx
+    c.go_to-in-Closes.new.cx AT_ONCE c.close_relay-in-Closes.ensures.clears.lessens
+    c.go_to-in-Closes.ensures.due
 
 pub returns-in-Closes-clause-covered : goal.returns-in-Closes-clause-covered
 returns-in-Closes-clause-covered g c =
@@ -72,6 +83,13 @@ returns-in-Lacks-clause-within g c =
     c.close_relay-in-Lacks.ensures.clears)
     (acts_lessens (set_leaving c.args.step) c.close_relay-in-Lacks.new.cx c.destroy_end.new.cx
     c.destroy_end.ensures.clears.lessens)
+
+pub returns-in-Lacks-clause-due : goal.returns-in-Lacks-clause-due
+returns-in-Lacks-clause-due g c =
+    let closed = c.close_relay-in-Lacks.new.cx in
+    due_less c.args.cx.now closed c.destroy_end.new.cx AT_ONCE
+    (due_cleared c.args.cx.now closed closed AT_ONCE c.close_relay-in-Lacks.ensures.clears.lessens
+    (due_rests closed AT_ONCE)) c.destroy_end.ensures.clears.less
 
 pub returns-in-Lacks-clause-covered : goal.returns-in-Lacks-clause-covered
 returns-in-Lacks-clause-covered g c =

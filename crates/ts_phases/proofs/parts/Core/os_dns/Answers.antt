@@ -11,7 +11,7 @@ use Rattle.ts_phases.proofs.Asks.{lacks_memory}
 use Rattle.ts_phases.proofs.Going.{allowed, checked_any, denied, not_dialed}
 use Rattle.ts_phases.proofs.LoweringStands.{allowed_lowers, denied_lowers, still_end}
 use Rattle.ts_phases.proofs.Minding.{stood}
-use Rattle.ts_phases.proofs.Owed.{stands}
+use Rattle.ts_phases.proofs.Owed.{ends_whole, stands}
 use Rattle.ts_phases.proofs.parts.Core.os_dns.Goals as goal
 
 -- ---- what it owes
@@ -23,12 +23,14 @@ returns-in_default-clause-owes g c =
 
 pub returns-then-denied-clause-owes : goal.returns-then-denied-clause-owes
 returns-then-denied-clause-owes g c =
-    stands g.C.Link g.O.Link g.O.Upstream c.args.self.now (P.OsDns c.args.request) tt
+    stands g.C.Link g.O.Link g.O.Upstream c.args.self.now (P.OsDns c.args.request)
+    (ends_whole c.answer_to-answer.ensures)
     (stood _ _ _ refl) tt
 
 pub returns-then-is_none-clause-owes : goal.returns-then-is_none-clause-owes
 returns-then-is_none-clause-owes g c =
-    stands g.C.Link g.O.Link g.O.Upstream c.args.self.now (P.OsDns c.args.request) tt
+    stands g.C.Link g.O.Link g.O.Upstream c.args.self.now (P.OsDns c.args.request)
+    (ends_whole c.answer_to-answer-then-is_none.ensures)
     (stood _ _ _ refl) tt
 
 pub returns-clause-owes : goal.returns-clause-owes

@@ -1,12 +1,13 @@
 -- Each answer of the search for the request's head: where it leads, what it owes, and that less is left to
 -- do.
-use Rattle.std.proofs.Common.{◌∙◌, false, ap, refl, rules, subst, sym}
+use Rattle.std.proofs.Common.{◌∙◌, false, ap, inl, inr, refl, rules, subst, sym}
 use Rattle.ts_vconn.specs.declared.moves.Pulled.TheVariants as L
 use Rattle.ts_wire.specs.Check.{check}
 use Rattle.ts_wire.specs.declared.heads.RequestHead.{RequestHead}
 use Rattle.ts_phases.specs.Checking.{IsCheckedAs}
 use Rattle.ts_phases.specs.Moving.{SeeksRequest}
 use Rattle.ts_phases.specs.View.{view_of}
+use Rattle.ts_phases.specs.declared.client_request.Checked.TheVariants as C
 use Rattle.ts_phases.specs.declared.head_reader.Found.TheVariants as F
 use Rattle.std.specs.Arc.{arc_value}
 use Rattle.ts_hooks.specs.declared.txn_end.TxnEnd.TheVariants as E
@@ -17,7 +18,7 @@ use Rattle.ts_phases.proofs.Asks.{lacks_memory}
 use Rattle.ts_phases.proofs.Asks.{never, passed, refused, stands}
 use Rattle.ts_phases.proofs.LoweringAnswers.{asks_close, asks_end, asks_own, asks_passes, asks_some}
 use Rattle.ts_phases.proofs.LoweringAnswers.{asks_wait}
-use Rattle.ts_phases.proofs.Owed.{asked, asked_late, asked_lost, request_read}
+use Rattle.ts_phases.proofs.Owed.{asked, asked_late, asked_lost, ends_whole, request_read}
 use Rattle.ts_phases.proofs.parts.Core.read_request.Goals as goal
 
 -- the answer where no head can come
@@ -32,7 +33,10 @@ returns-in-Ok-Pass-clause-owes g c =
 
 pub returns-in-Ok-Refused-clause-owes : goal.returns-in-Ok-Refused-clause-owes
 returns-in-Ok-Refused-clause-owes g c =
-    asked c.in-Head.ensures.keeps (F.Head c.in-Head.head) c.in-Head.ensures.seeks refl refl tt tt
+    let is : IsCheckedAs c.in-Head.head (C.Refused c.in-Ok-Refused.answer) =
+    subst (λ r. IsCheckedAs c.in-Head.head r) c.in-Ok-Refused.field-0-is c.in-Ok-Refused.ensures in
+    asked c.in-Head.ensures.keeps (F.Head c.in-Head.head) c.in-Head.ensures.seeks refl refl
+    (ends_whole is.2) tt
 
 pub returns-in-Err-clause-owes : goal.returns-in-Err-clause-owes
 returns-in-Err-clause-owes g c =
@@ -40,7 +44,7 @@ returns-in-Err-clause-owes g c =
 
 pub returns-in-Never-clause-owes : goal.returns-in-Never-clause-owes
 returns-in-Never-clause-owes g c =
-    asked c.in-Never.ensures.keeps F.Never c.in-Never.ensures.seeks refl refl tt tt
+    asked c.in-Never.ensures.keeps F.Never c.in-Never.ensures.seeks refl refl refl tt
 
 pub returns-in-Read-Some-clause-owes : goal.returns-in-Read-Some-clause-owes
 returns-in-Read-Some-clause-owes g c =
@@ -50,12 +54,12 @@ returns-in-Read-Some-clause-owes g c =
 pub returns-then-is_empty-clause-owes : goal.returns-then-is_empty-clause-owes
 returns-then-is_empty-clause-owes g c =
     asked c.in-Read-End.ensures.keeps (F.Read L.End)
-    (request_read c.in-Read-End.field-0-is c.in-Read-End.ensures.seeks) refl refl tt tt
+    (request_read c.in-Read-End.field-0-is c.in-Read-End.ensures.seeks) refl refl (inl refl) tt
 
 pub returns-else-is_empty-clause-owes : goal.returns-else-is_empty-clause-owes
 returns-else-is_empty-clause-owes g c =
     asked c.in-Read-End.ensures.keeps (F.Read L.End)
-    (request_read c.in-Read-End.field-0-is c.in-Read-End.ensures.seeks) refl refl tt tt
+    (request_read c.in-Read-End.field-0-is c.in-Read-End.ensures.seeks) refl refl refl tt
 
 pub returns-in-Read-Again-clause-owes : goal.returns-in-Read-Again-clause-owes
 returns-in-Read-Again-clause-owes g c =
@@ -65,7 +69,7 @@ returns-in-Read-Again-clause-owes g c =
 pub returns-in-Read-Failed-clause-owes : goal.returns-in-Read-Failed-clause-owes
 returns-in-Read-Failed-clause-owes g c =
     asked_lost c.in-Read-Failed.ensures.keeps
-    (request_read c.in-Read-Failed.field-0-is c.in-Read-Failed.ensures.seeks) refl tt tt
+    (request_read c.in-Read-Failed.field-0-is c.in-Read-Failed.ensures.seeks) refl (inr refl) tt
 
 pub returns-in-NoMemory-clause-owes : goal.returns-in-NoMemory-clause-owes
 returns-in-NoMemory-clause-owes g c =

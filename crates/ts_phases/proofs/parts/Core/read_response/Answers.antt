@@ -8,7 +8,8 @@ use Rattle.ts_hooks.specs.declared.txn_end.TxnEnd.TheVariants as E
 use Rattle.ts_phases.proofs.Asks.{lacks_memory}
 use Rattle.ts_phases.proofs.LoweringAnswers.{hears_dropped, hears_end, hears_final, hears_own, hears_some}
 use Rattle.ts_phases.proofs.LoweringAnswers.{hears_wait}
-use Rattle.ts_phases.proofs.Owed.{bad_gateway, heard, heard_late, heard_lost, response_read}
+use Rattle.ts_phases.proofs.Owed.{bad_gateway, heard, heard_late, heard_lost, lost_response, no_response}
+use Rattle.ts_phases.proofs.Owed.{response_read}
 use Rattle.ts_phases.proofs.Responding.{awaits_any, awaits_on, awaits_still, ended_early, failed_early}
 use Rattle.ts_phases.proofs.Responding.{interim, no_head, refused_head, relays}
 use Rattle.ts_phases.proofs.parts.Core.read_response.Goals as goal
@@ -28,17 +29,18 @@ returns-then-is_good-clause-owes g c =
 pub returns-else-is_good-clause-owes : goal.returns-else-is_good-clause-owes
 returns-else-is_good-clause-owes g c =
     heard c.in-Head.ensures.keeps c.args.request (F.Head c.in-Head.head)
-    c.in-Head.ensures.seeks refl refl tt tt
+    c.in-Head.ensures.seeks refl refl (no_response c.answer_to-bad.ensures) tt
 
 pub returns-in-Never-clause-owes : goal.returns-in-Never-clause-owes
 returns-in-Never-clause-owes g c =
     heard c.in-Never.ensures.keeps c.args.request F.Never
-    c.in-Never.ensures.seeks refl refl tt tt
+    c.in-Never.ensures.seeks refl refl (no_response c.answer_to-bad.ensures) tt
 
 pub returns-in-Read-End-clause-owes : goal.returns-in-Read-End-clause-owes
 returns-in-Read-End-clause-owes g c =
     heard c.in-Read-End.ensures.keeps c.args.request (F.Read L.End)
-    (response_read c.in-Read-End.field-0-is c.in-Read-End.ensures.seeks) refl refl tt tt
+    (response_read c.in-Read-End.field-0-is c.in-Read-End.ensures.seeks) refl refl
+    (no_response c.answer_to-bad.ensures) tt
 
 pub returns-in-Read-Some-clause-owes : goal.returns-in-Read-Some-clause-owes
 returns-in-Read-Some-clause-owes g c =
@@ -59,7 +61,8 @@ pub returns-in-Read-Failed-clause-owes : goal.returns-in-Read-Failed-clause-owes
 returns-in-Read-Failed-clause-owes g c =
     heard_lost c.in-Read-Failed.ensures.keeps c.args.request
     (response_read c.in-Read-Failed.field-0-is c.in-Read-Failed.ensures.seeks)
-    (bad_gateway c.answer_to-fault.ensures) tt tt
+    (bad_gateway c.answer_to-fault.ensures)
+    (lost_response c.answer_to-fault.result (bad_gateway c.answer_to-fault.ensures)) tt
 
 -- ---- where it leads
 

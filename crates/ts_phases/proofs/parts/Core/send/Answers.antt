@@ -1,6 +1,6 @@
 -- Each answer of a write of the proxy's own answer: where it leads, what it owes, and that less is left to
 -- do.
-use Rattle.std.proofs.Common.{refl}
+use Rattle.std.proofs.Common.{inl, inr, refl}
 use Rattle.ts_vconn.specs.declared.moves.Pushed.TheVariants as V
 use Rattle.std.specs.Arc.{arc_value}
 use Rattle.ts_hooks.specs.declared.txn_end.TxnEnd.TheVariants as E
@@ -17,7 +17,8 @@ returns-in-Some-clause-owes g c =
 
 pub returns-in-Nothing-clause-owes : goal.returns-in-Nothing-clause-owes
 returns-in-Nothing-clause-owes g c =
-    answered c.in-Nothing.ensures.keeps c.args.answer V.Nothing c.in-Nothing.ensures.writes refl refl tt tt
+    answered c.in-Nothing.ensures.keeps c.args.answer V.Nothing c.in-Nothing.ensures.writes refl refl
+    (inl refl) tt
 
 pub returns-in-Again-clause-owes : goal.returns-in-Again-clause-owes
 returns-in-Again-clause-owes g c =
@@ -25,7 +26,7 @@ returns-in-Again-clause-owes g c =
 
 pub returns-in-Failed-clause-owes : goal.returns-in-Failed-clause-owes
 returns-in-Failed-clause-owes g c =
-    answered_lost c.in-Failed.ensures.keeps c.args.answer c.in-Failed.ensures.writes refl tt tt
+    answered_lost c.in-Failed.ensures.keeps c.args.answer c.in-Failed.ensures.writes refl (inr refl) tt
 
 pub returns-in-NoMemory-clause-owes : goal.returns-in-NoMemory-clause-owes
 returns-in-NoMemory-clause-owes g c =

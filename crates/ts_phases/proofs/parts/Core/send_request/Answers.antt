@@ -26,7 +26,7 @@ returns-in-Again-clause-owes g c =
 pub returns-in-Failed-clause-owes : goal.returns-in-Failed-clause-owes
 returns-in-Failed-clause-owes g c =
     sent_lost c.in-Failed.ensures.keeps c.args.request c.in-Failed.ensures.writes
-    (bad_gateway c.answer_to-answer.ensures) tt tt
+    (bad_gateway c.answer_to-answer.ensures) (bad_gateway c.answer_to-answer.ensures) tt
 
 pub returns-in-NoMemory-clause-owes : goal.returns-in-NoMemory-clause-owes
 returns-in-NoMemory-clause-owes g c =

@@ -7,12 +7,12 @@ use Rattle.ts_txn.proofs.txn.Txn.end.Goals as goal
 pub returns-clause-rests : goal.returns-clause-rests
 returns-clause-rests g c = λ none started next roles sound.
     at_rest g.C.Link g.O.Link g.O.Upstream g.P.Transform c.args.self.now next roles started
-    (sym c.end_of.ensures ∙ none) sound
+    (sym c.end_of_course.ensures ∙ none) sound
 
 pub returns-clause-law : goal.returns-clause-law
 returns-clause-law g c = λ end is pending next roles sound.
     ended_so g.C.Link g.O.Link g.O.Upstream g.P.Transform c.args.self.now pending next roles end
-    (sym c.end_of.ensures ∙ is) sound
+    (sym c.end_of_course.ensures ∙ is) sound
 
 pub returns-clause-block : goal.returns-clause-block
 returns-clause-block g c = λ next roles sound.
