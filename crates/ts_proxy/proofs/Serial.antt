@@ -1,29 +1,31 @@
 -- The turns of a serial driver, put together.
 use Rattle.std.proofs.Common.{◌≡◌, ◌⊎◌, ℕ, zero, suc, ◌+◌, ◌-◌, ◌<◌, ◌≤◌, true, false, cond, List, [], ◌∷◌}
-use Rattle.std.proofs.Common.{◌++◌, Option, Some, None, Result, Ok, Err, OnOk, inl, inr, refl, sym, ap, subst}
+use Rattle.std.proofs.Common.{◌++◌, length, Option, Some, None, Result, Ok, Err, OnOk, inl, inr, refl, sym, ap, subst}
 use Rattle.std.proofs.Common.{◌∙◌, append_assoc, arith}
 use Rattle.std.specs.Prelude.{⊤, nat_lt, ◌&&◌}
 use Rattle.ts_journal.specs.declared.entry.Event.TheVariants.{Timeout}
 use Rattle.ts_journal.specs.declared.entry.Pending.{Pending}
 use Rattle.ts_journal.specs.declared.entry.Entry.{Entry}
 use Rattle.ts_journal.specs.declared.entry.Entry.TheVariants.{Took, Gave, Set, Handled}
-use Rattle.ts_journal.specs.State.{State, pending_at}
-use Rattle.ts_journal.specs.Machine.{after, IsLawful, replay}
-use Rattle.ts_journal.specs.Log.{Log, Extends}
+use Rattle.ts_journal.specs.State.{State, fresh_with, pending_at}
+use Rattle.ts_journal.specs.Machine.{after, Balances, IsLawful, replay}
+use Rattle.ts_journal.specs.Log.{Log, Extends, GoesOn, mark_after, new_base}
 use Rattle.ts_journal.specs.Laws.{NoTurns}
 use Rattle.std.proofs.lemmas.Option.{same_Some}
 use Rattle.ts_lists.proofs.Cases.{split}
 use Rattle.ts_journal.proofs.Lawful.{lawful_front, lawful_back, replay-append}
-use Rattle.ts_journal.proofs.Extends.{extends_trans}
+use Rattle.ts_journal.proofs.Facts.{counts_balance_lem}
+use Rattle.ts_journal.proofs.Extends.{same_refl, extends_trans}
+use Rattle.ts_journal.proofs.Folding.{goes_on_extends, goes_on_same, goes_on_trans}
 use Rattle.ts_journal.specs.declared.entry.TheConstants.{GREATEST}
 use Rattle.ts_group.specs.declared.group.TheConstants.{MOST_EVENTS}
 use Rattle.ts_group.specs.declared.group.Group.{Group}
-use Rattle.ts_group.specs.Context.{Context, moment_after}
+use Rattle.ts_group.specs.Context.{Context, moment_after, own_key}
 use Rattle.ts_group.specs.Entries.{AllOwn, AreCalls, Grows, renewal}
 use Rattle.ts_group.specs.Calls.{Handles, IsRun, RunsFrom, if_pending, next_in}
-use Rattle.ts_proxy.specs.Journals.{first_moment, opening_turn, only_seat, IsNextDue, last_moment, moment_of}
+use Rattle.ts_proxy.specs.Journals.{first_moment, opening_turn, only_seat, IsNextDue, last_moment}
 use Rattle.ts_proxy.specs.Journals.{HandlesFrom, HandlesFirst, IsSerial, GoesOnWithin, HandlesSome}
-use Rattle.ts_proxy.specs.Journals.{HandlesWithin, GoesOnSerially, GoesOnTo}
+use Rattle.ts_proxy.specs.Journals.{HandlesNext, TakesNext, GoesOnSerially, GoesOnTo, EndsSerially, IsOfDriver, new_log}
 
 no_turns_append : (es fs : List Entry) → NoTurns es → NoTurns fs → NoTurns (es ++ fs)
 no_turns_append [] fs h k = k
@@ -70,19 +72,6 @@ last_from low now most (Gave turn ∷ es) within h = absurd within
 last_from low now most (Handled number moment ∷ es) within (a, same, some, h) =
     subst (λ m. last_moment m es ≡ now) (sym same) (last_from (number + 1) now (most - 1) es within h)
 last_from low now most (e ∷ es) within h = last_from low now most es within h
-
--- the moment of a journal that went on
-pub moment_extends : {a b : Log} {es : List Entry} → Extends a b es
-    → moment_of b ≡ last_moment (moment_of a) es
-moment_extends {a} {b} {es} by = ap (last_moment first_moment) by.entries ∙ last_append first_moment a.entries
-    es
-
--- what is next stays so while a turn begins
-pub next_took : (a b : Log) (turn seat number moment : ℕ) → Extends a b (Took turn seat ∷ [])
-    → IsNextDue (moment_of a) a.state number moment → IsNextDue (moment_of b) b.state number moment
-next_took a b turn seat number moment took next =
-    subst (λ s. IsNextDue (moment_of b) s number moment) (sym took.state)
-    (subst (λ m. IsNextDue m a.state number moment) (sym (moment_extends took)) next)
 
 -- Entries that neither begin nor end a turn, and handle nothing.
 record IsQuiet (es : List Entry) : Type 0 where
@@ -338,20 +327,14 @@ gave_serial m s (Handled number moment ∷ es) turn h = gave_serial moment (afte
 gave_serial m s (e ∷ es) turn h = gave_serial m (after s e) es turn h
 
 -- a handler's own calls go on within its turn
-pub within_grows : (a b : Context) → Grows a b → GoesOnWithin a.log b.log
-within_grows a b g =
+pub within_grows : (m : ℕ) (a b : Context) → Grows a b → GoesOnWithin m a.log b.log
+within_grows m a b g =
     let q = own_quiet g.log.own g.log.all_own in
-    record {
-      added = g.log.own;
-      by = g.log.by;
-      within = q.quiet.within;
-      first = q.first (moment_of a.log)
-          a.log.state;
-    }
+    record { added = g.log.own; by = g.log.by; within = q.quiet.within; first = q.first m a.log.state }
 
 -- and leave the moment as it is
-pub moment_grows : (a b : Context) → Grows a b → moment_of b.log ≡ moment_of a.log
-moment_grows a b g = moment_extends g.log.by ∙ (own_quiet g.log.own g.log.all_own).still (moment_of a.log)
+still_grows : (m : ℕ) (a b : Context) (g : Grows a b) → last_moment m g.log.own ≡ m
+still_grows m a b g = (own_quiet g.log.own g.log.all_own).still m
 
 -- the events that are handled with that of a number, and the calls after them
 then_grows : {W Q R T U : Type 0} (Called : W → W → List ℕ → Type 0) (a b : Group W Q R T U) (c : Context)
@@ -376,64 +359,125 @@ then_grows Called a b c number moment events h g =
 -- they go on within a turn if the number is next, and the moment moves on to theirs
 pub within_handled : {W Q R T U : Type 0} (Called : W → W → List ℕ → Type 0) (a b : Group W Q R T U)
     (c : Context) (number moment events : ℕ)
-    → Handles Called a b number moment events → IsNextDue (moment_of a.cx.log) a.cx.log.state number moment
-    → Grows b.cx c → HandlesWithin moment a.cx.log c.log
-within_handled Called a b c number moment events h next g =
-    let m = moment_of a.cx.log in
+    → Handles Called a b number moment events → Grows b.cx c → HandlesNext number moment a.cx.log c.log
+within_handled Called a b c number moment events h g before next =
     let all = then_grows Called a b c number moment events h g in
     record {
       on = record {
         added = h.es ++ g.log.own;
         by = extends_trans h.by g.log.by;
         within = subst NoTurns (sym all.is) all.within;
-        first = subst (HandlesFirst m a.cx.log.state) (sym all.is) (next, all.from);
+        first = subst (HandlesFirst before a.cx.log.state) (sym all.is) (next, all.from);
       };
       some = subst HandlesSome (sym all.is) tt;
-      now =
-          moment_extends (extends_trans h.by g.log.by) ∙ ap (last_moment m) all.is
+      now = ap (last_moment before) all.is
           ∙ last_from a.cx.log.state.next moment (MOST_EVENTS - 1) all.rest all.within all.from;
     }
 
--- turns after turns
-pub serial_trans : (a b c : Log) → GoesOnSerially a b → b.state.held ≡ false → GoesOnSerially b c
-    → GoesOnSerially a c
-serial_trans a b c p idle q = record {
-  turns = p.turns ++ q.turns;
-  by = extends_trans p.by q.by;
-  serial =
-      let from : IsSerial (last_moment (moment_of a) p.turns) b.state q.turns =
-      subst (λ m. IsSerial m b.state q.turns) (moment_extends p.by) q.serial in
-      serial_append (moment_of a) a.state p.turns q.turns p.serial
-      (idle_apart b.state q.turns idle q.by.lawful)
-      (subst (λ s. IsSerial (last_moment (moment_of a) p.turns) s q.turns) p.by.state from);
+-- no turns yet
+pub to_none : (m : ℕ) (a : Log) → GoesOnTo m m a a
+to_none m a = record {
+  on = record { turns = []; by = goes_on_same a a (same_refl a); serial = tt };
+  now = refl;
 }
 
--- one turn
-pub serial_turn : (a b c d : Log) (turn given : ℕ) → turn ≡ a.state.turns + 1
-    → Extends a b (Took turn only_seat ∷ []) → (g : GoesOnWithin b c)
-    → HandlesSome g.added ⊎ (given ≡ opening_turn) → Extends c d (Gave given ∷ []) → GoesOnSerially a d
-serial_turn a b c d turn given next took g some gave =
-    let m = moment_of a in
+-- turns after turns
+pub serial_trans : (l m : ℕ) (a b c : Log) → GoesOnTo l m a b → b.state.held ≡ false → GoesOnSerially m b c
+    → GoesOnSerially l a c
+serial_trans l m a b c p idle q = record {
+  turns = p.on.turns ++ q.turns;
+  by = goes_on_trans p.on.by q.by;
+  serial =
+      let from : IsSerial (last_moment l p.on.turns) b.state q.turns =
+      subst (λ k. IsSerial k b.state q.turns) (sym p.now) q.serial in
+      serial_append l a.state p.on.turns q.turns p.on.serial
+      (idle_apart b.state q.turns idle q.by.lawful)
+      (subst (λ s. IsSerial (last_moment l p.on.turns) s q.turns) p.on.by.state from);
+}
+
+pub to_trans : (l m n : ℕ) (a b c : Log) → GoesOnTo l m a b → b.state.held ≡ false → GoesOnTo m n b c
+    → GoesOnTo l n a c
+unfolding serial_trans
+to_trans l m n a b c p idle q = record {
+  on = serial_trans l m a b c p idle q.on;
+  now = last_append l p.on.turns q.on.turns ∙ ap (λ k. last_moment k q.on.turns) p.now ∙ q.now;
+}
+
+-- one turn, by which the driver comes from one moment to another
+pub serial_turn : (m n : ℕ) (a b c d : Log) (turn given : ℕ) → turn ≡ a.state.turns + 1
+    → Extends a b (Took turn only_seat ∷ []) → (g : GoesOnWithin m b c)
+    → HandlesSome g.added ⊎ (given ≡ opening_turn) → last_moment m g.added ≡ n → GoesOn c d (Gave given ∷ [])
+    → GoesOnTo m n a d
+serial_turn m n a b c d turn given next took g some now gave =
     let s = after a.state (Took turn only_seat) in
-    let first : HandlesFirst m b.state g.added = subst (λ n. HandlesFirst n b.state g.added)
-    (moment_extends took) g.first in
     record {
-      turns = Took turn only_seat ∷ g.added ++ Gave given ∷ [];
-      by = extends_trans took (extends_trans g.by gave);
-      serial = (
-        next,
-        refl,
-        first_gave m s g.added given g.within (subst (λ t. HandlesFirst m t g.added) took.state first) some,
-        gave_serial m s g.added given g.within,
-      );
+      on = record {
+        turns = Took turn only_seat ∷ g.added ++ Gave given ∷ [];
+        by = goes_on_trans (goes_on_extends a b (Took turn only_seat ∷ []) took)
+            (goes_on_trans (goes_on_extends b c g.added g.by) gave);
+        serial = (
+          next,
+          refl,
+          first_gave m s g.added given g.within (subst (λ t. HandlesFirst m t g.added) took.state g.first)
+              some,
+          gave_serial m s g.added given g.within,
+        );
+      };
+      now = last_append m g.added (Gave given ∷ []) ∙ now;
     }
 
+-- the first turn, in which a handler's own calls alone are made
+pub serial_opens : (m : ℕ) (a : Log) (b c : Context) (d : Log) (turn given : ℕ) → turn ≡ a.state.turns + 1
+    → Extends a b.log (Took turn only_seat ∷ []) → Grows b c → given ≡ opening_turn
+    → GoesOn c.log d (Gave given ∷ []) → GoesOnTo m m a d
+unfolding within_grows
+serial_opens m a b c d turn given next took g first gave =
+    serial_turn m m a b.log c.log d turn given next took (within_grows m b c g) (inr first)
+    (still_grows m b c g) gave
+
 -- one turn that handled its event, unless memory lacked
-pub serial_if_ok : {T E : Type 0} (r : Result T E) (a b c d : Log) (turn given moment : ℕ)
-    → turn ≡ a.state.turns + 1 → Extends a b (Took turn only_seat ∷ []) → OnOk r (HandlesWithin moment b c)
-    → Extends c d (Gave given ∷ []) → OnOk r (GoesOnTo moment a d)
-serial_if_ok (Ok x) a b c d turn given moment next took h gave = record {
-  on = serial_turn a b c d turn given next took h.on (inl h.some) gave;
-  now = moment_extends gave ∙ h.now;
-}
-serial_if_ok (Err e) a b c d turn given moment next took h gave = tt
+pub serial_if_ok : {T E : Type 0} (r : Result T E) (a b c d : Log) (turn given number moment : ℕ)
+    → turn ≡ a.state.turns + 1 → Extends a b (Took turn only_seat ∷ [])
+    → OnOk r (HandlesNext number moment b c) → GoesOn c d (Gave given ∷ [])
+    → OnOk r (TakesNext number moment a d)
+serial_if_ok (Ok x) a b c d turn given number moment next took handles gave = λ before due.
+    let h = handles before (subst (λ s. IsNextDue before s number moment) (sym took.state) due) in
+    serial_turn before moment a b c d turn given next took h.on (inl h.some) h.now gave
+serial_if_ok (Err e) a b c d turn given number moment next took handles gave = tt
+
+-- a journal that the serial driver drove to its end, from a new one on
+pub of_driver : (a b : Log) → a.base ≡ new_base (fresh_with 0 own_key) → a.entries ≡ []
+    → a.state ≡ fresh_with 0 own_key → EndsSerially a b → IsOfDriver b
+of_driver a b base none state ends =
+    let turns = ends.on.turns in
+    let by = ends.on.by in
+    let on : GoesOn (new_log new) b turns = record {
+      folded = by.folded;
+      entries = ap (λ es. es ++ turns) (sym none) ∙ by.entries;
+      base_state = by.base_state ∙ ap (λ x. replay x.state by.folded) base;
+      made = by.made ∙ ap (λ x. x.made) base;
+      mark = by.mark ∙ ap (λ x. mark_after x.mark by.folded) base;
+      lawful = subst (λ s. IsLawful s turns) state by.lawful;
+      state = by.state ∙ ap (λ s. replay s turns) state;
+    } in
+    record {
+      turns = turns;
+      on = on;
+      serial = subst (λ s. IsSerial first_moment s turns) state ends.on.serial;
+      final = record {
+        lawful = subst (λ s. IsLawful s b.entries) (sym on.base_state)
+            (lawful_back new on.folded b.entries (subst (IsLawful new) on.entries on.lawful));
+        state = on.state ∙ ap (replay new) on.entries ∙ replay-append new on.folded b.entries
+            ∙ ap (λ s. replay s b.entries) (sym on.base_state);
+        given = ends.given;
+        none = ends.none;
+        closed =
+            let sum : Balances b.state = subst Balances (sym on.state)
+            (counts_balance_lem new turns refl on.lawful) in
+            let none_left : length b.state.pending ≡ 0 = ap length ends.none in
+            omega (arith, sum, none_left);
+      };
+    }
+  where
+    new : State
+    new = fresh_with 0 own_key

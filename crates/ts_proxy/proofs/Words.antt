@@ -4,7 +4,7 @@ use Rattle.std.proofs.Common.{arith, refl, sym, ap, subst, ◌∙◌, codes, if�
 use Rattle.std.specs.Option.{option_map}
 use Rattle.std.specs.Str.{bytes_eq}
 use Rattle.std.specs.declared.string.String.{String}
-use Rattle.ts_proxy.specs.Words.{Transform, Replay, asked, begins_transform, task_at, task_of, threads_asked}
+use Rattle.ts_proxy.specs.Words.{Transform, Replay, task_of, begins_transform, task_at, task_of_bytes, threads_asked}
 
 -- a list of three
 pub map-three : {X Y : Type 0} (f : X → Y) (xs : List X) (a b c : X) (u v w : Y) → 3 ≤ length xs
@@ -43,20 +43,20 @@ map-five f (x ∷ xs) a b c d e u v w p q long short ia ib ic id ie fa fb fc fd 
 -- `transform` with two words more
 pub asks-transform : (ws : List (List ℕ)) (word config body : List ℕ) → ws ≡ word ∷ config ∷ body ∷ []
     → begins_transform ws ≡ true
-    → task_of ws ≡ Some (task_at Transform config body)
+    → task_of_bytes ws ≡ Some (task_at Transform config body)
 asks-transform ws word config body is first =
     let named : bytes_eq word (codes "transform") ≡ true = subst (λ l. begins_transform l ≡ true) is first in
-    ap task_of is ∙ ap (λ b. option_map (λ command. task_at command config body)
+    ap task_of_bytes is ∙ ap (λ b. option_map (λ command. task_at command config body)
     (if b then Some Transform else if bytes_eq word (codes "replay") then Some Replay else None)) named
 
 -- `replay` with two words more
 pub asks-replay : (ws : List (List ℕ)) (word config recording : List ℕ) → ws ≡ word ∷ config ∷ recording ∷ []
     → begins_transform ws ≡ false
-    → bytes_eq word (codes "replay") ≡ true → task_of ws ≡ Some (task_at Replay config recording)
+    → bytes_eq word (codes "replay") ≡ true → task_of_bytes ws ≡ Some (task_at Replay config recording)
 asks-replay ws word config recording is first named =
     let other : bytes_eq word (codes "transform") ≡ false = subst (λ l. begins_transform l ≡ false) is first
     in
-    ap task_of is
+    ap task_of_bytes is
     ∙ ap (λ b. option_map (λ command. task_at command config recording)
     (if b then Some Transform else if bytes_eq word (codes "replay") then Some Replay else None)) other
     ∙ ap (λ b. option_map (λ command. task_at command config recording) (if b then Some Replay else None))
@@ -65,32 +65,32 @@ asks-replay ws word config recording is first named =
 -- `replay` with four words more, of which the second names a number of threads
 pub asks-threads : (ws : List (List ℕ)) (word option number config recording : List ℕ) (threads : ℕ)
     → ws ≡ word ∷ option ∷ number ∷ config ∷ recording ∷ [] → threads_asked word option number ≡ Some threads
-    → task_of ws ≡ Some (task_at Replay config recording)
+    → task_of_bytes ws ≡ Some (task_at Replay config recording)
 asks-threads ws word option number config recording threads is named =
-    ap task_of is ∙ ap (option_map (λ threads. task_at Replay config recording)) named
+    ap task_of_bytes is ∙ ap (option_map (λ threads. task_at Replay config recording)) named
 
 -- or names none
 pub asks-no-threads : (ws : List (List ℕ)) (word option number config recording : List ℕ)
     → ws ≡ word ∷ option ∷ number ∷ config ∷ recording ∷ [] → threads_asked word option number ≡ None
-    → task_of ws ≡ None
+    → task_of_bytes ws ≡ None
 asks-no-threads ws word option number config recording is named =
-    ap task_of is ∙ ap (option_map (λ threads. task_at Replay config recording)) named
+    ap task_of_bytes is ∙ ap (option_map (λ threads. task_at Replay config recording)) named
 
 -- `transform` and `replay` alone take two words more
 pub asks-other : (ws : List (List ℕ)) (word config input : List ℕ) → ws ≡ word ∷ config ∷ input ∷ []
     → begins_transform ws ≡ false
-    → bytes_eq word (codes "replay") ≡ false → task_of ws ≡ None
+    → bytes_eq word (codes "replay") ≡ false → task_of_bytes ws ≡ None
 asks-other ws word config input is first named =
     let other : bytes_eq word (codes "transform") ≡ false = subst (λ l. begins_transform l ≡ false) is first
     in
-    ap task_of is
+    ap task_of_bytes is
     ∙ ap (λ b. option_map (λ command. task_at command config input)
     (if b then Some Transform else if bytes_eq word (codes "replay") then Some Replay else None)) other
     ∙ ap (λ b. option_map (λ command. task_at command config input) (if b then Some Replay else None)) named
 
 -- all commands take two words more, or four
 pub none_other : {A : Type 0} (words : List (String A)) → (length words ≡ 3 → ⊥) → (length words ≡ 5 → ⊥)
-    → asked words ≡ None
+    → task_of words ≡ None
 none_other [] three five = refl
 none_other (a ∷ []) three five = refl
 none_other (a ∷ b ∷ []) three five = refl

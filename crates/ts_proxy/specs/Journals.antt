@@ -4,7 +4,7 @@ use Rattle.ts_journal.specs.declared.entry.Entry.{Entry}
 use Rattle.ts_journal.specs.declared.entry.Entry.TheVariants.{Took, Gave, Handled}
 use Rattle.ts_journal.specs.declared.entry.Pending.{Pending}
 use Rattle.ts_journal.specs.State.{State, fresh_with}
-use Rattle.ts_journal.specs.Log.{Log, Extends}
+use Rattle.ts_journal.specs.Log.{Log, Extends, GoesOn, new_base}
 use Rattle.ts_journal.specs.Laws.{NoTurns}
 use Rattle.ts_journal.specs.Machine.{after}
 use Rattle.ts_group.specs.declared.group.TheConstants.{MOST_EVENTS}
@@ -29,10 +29,6 @@ abbrev pub last_moment : ℕ → List Entry → ℕ
 last_moment m [] = m
 last_moment m (Handled number moment ∷ es) = last_moment moment es
 last_moment m (_ ∷ es) = last_moment m es
-
--- the moment of a journal's driver
-abbrev pub moment_of : Log → ℕ
-moment_of j = last_moment first_moment j.entries
 
 -- The event of this number is pending, and no pending event is due before it. The moment is the later one of
 -- the moment before and that at which the event is due.
@@ -72,12 +68,12 @@ IsSerial m s (Took turn seat ∷ es) =
 IsSerial m s (Handled number moment ∷ es) = IsSerial moment (after s (Handled number moment)) es
 IsSerial m s (e ∷ es) = IsSerial m (after s e) es
 
--- a journal goes on from the beginning of a turn, within that turn
-pub record GoesOnWithin (old new : Log) : Type 0 where
+-- a journal goes on from the beginning of a turn, within that turn, before which its driver was at a moment
+pub record GoesOnWithin (before : ℕ) (old new : Log) : Type 0 where
   pub added : List Entry
   pub by : Extends old new added
   pub within : NoTurns added
-  pub first : HandlesFirst (moment_of old) old.state added
+  pub first : HandlesFirst before old.state added
 
 -- one of these entries handles an event
 abbrev pub HandlesSome : List Entry → Type 0
@@ -85,37 +81,60 @@ HandlesSome [] = ⊥
 HandlesSome (Handled number moment ∷ es) = ⊤
 HandlesSome (_ ∷ es) = HandlesSome es
 
--- within a turn, a journal goes on with an event that is handled, and its driver is then at this moment
-pub record HandlesWithin (moment : ℕ) (old new : Log) : Type 0 where
-  pub on : GoesOnWithin old new
+-- within a turn, a journal goes on with an event that is handled, and its driver comes from one moment to
+-- another
+pub record HandlesWithin (before moment : ℕ) (old new : Log) : Type 0 where
+  pub on : GoesOnWithin before old new
   pub some : HandlesSome on.added
-  pub now : moment_of new ≡ moment
+  pub now : last_moment before on.added ≡ moment
 
--- a journal goes on by turns of the serial driver
-pub record GoesOnSerially (old new : Log) : Type 0 where
+-- the same, whenever the event of this number is what the driver handles next
+abbrev pub HandlesNext : ℕ → ℕ → Log → Log → Type 0
+HandlesNext number moment old new =
+    (before : ℕ) → IsNextDue before old.state number moment → HandlesWithin before moment old new
+
+-- a journal goes on by turns of the serial driver, which is at a moment before them
+pub record GoesOnSerially (before : ℕ) (old new : Log) : Type 0 where
   pub turns : List Entry
-  pub by : Extends old new turns
-  pub serial : IsSerial (moment_of old) old.state turns
+  pub by : GoesOn old new turns
+  pub serial : IsSerial before old.state turns
 
--- a journal goes on by turns of the serial driver, which is then at this moment
-pub record GoesOnTo (moment : ℕ) (old new : Log) : Type 0 where
-  pub on : GoesOnSerially old new
-  pub now : moment_of new ≡ moment
+-- a journal goes on by turns of the serial driver, which comes from one moment to another
+pub record GoesOnTo (before moment : ℕ) (old new : Log) : Type 0 where
+  pub on : GoesOnSerially before old new
+  pub now : last_moment before on.turns ≡ moment
+
+-- the same, whenever the event of this number is what the driver handles next
+abbrev pub TakesNext : ℕ → ℕ → Log → Log → Type 0
+TakesNext number moment old new =
+    (before : ℕ) → IsNextDue before old.state number moment → GoesOnTo before moment old new
 
 -- a journal of which no turn was taken yet
 pub record IsUnused (log : Log) : Type 0 where
   pub idle : log.state.held ≡ false
   pub none : log.state.turns ≡ 0
-  pub fresh : moment_of log ≡ first_moment
 
--- a journal goes on by turns of the serial driver, until nothing is pending
+-- a journal goes on by turns of the serial driver from its first moment on, until nothing is pending
 pub record EndsSerially (old new : Log) : Type 0 where
-  pub on : GoesOnSerially old new
+  pub on : GoesOnSerially first_moment old new
   pub given : new.state.held ≡ false
   pub none : new.state.pending ≡ []
 
--- the journal of a new group that the serial driver alone drove, to its end
+-- a journal that was just made in this state
+abbrev pub new_log : State → Log
+new_log s = record {
+  base = new_base s;
+  entries = [];
+  state = s;
+  room = 0;
+  set_room = 0;
+  key_room = 0;
+}
+
+-- The journal of a new group that the serial driver alone drove, to its end, by these turns. It stores the
+-- last of them, from its base on.
 pub record IsOfDriver (j : Log) : Type 0 where
-  pub base : j.base ≡ fresh_with 0 own_key
-  pub serial : IsSerial first_moment j.base j.entries
+  pub turns : List Entry
+  pub on : GoesOn (new_log (fresh_with 0 own_key)) j turns
+  pub serial : IsSerial first_moment (fresh_with 0 own_key) turns
   pub final : IsFinal j

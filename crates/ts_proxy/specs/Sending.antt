@@ -15,7 +15,7 @@ use Rattle.ts_transform.specs.Cover.{IsAwake}
 use Rattle.ts_transform.specs.World.{IsSound, IsSoundGroup}
 use Rattle.ts_proxy.specs.declared.writing.SendEnd.{SendEnd}
 use Rattle.ts_proxy.specs.declared.writing.SendEnd.TheVariants.{Done, Failed, NoMemory}
-use Rattle.ts_proxy.specs.Journals.{IsNextDue, IsOfDriver, moment_of}
+use Rattle.ts_proxy.specs.Journals.{IsOfDriver}
 use Rattle.ts_proxy.specs.Took.{TookAll, TookFront}
 
 -- the sink failed
@@ -97,11 +97,6 @@ pub record IsDue (s : State) (number moment : ℕ) : Type 0 where
   pub event : Pending
   pub there : pending_at number s.pending ≡ Some event
   pub due : event.due ≤ moment
-
--- the event of a number is what the driver of a journal handles next, and this is the moment for it
-pub record IsDueNext (log : Log) (number moment : ℕ) : Type 0 where
-  pub due : IsDue log.state number moment
-  pub next : IsNextDue (moment_of log) log.state number moment
 
 -- where all was done the journal of its driver was added, and else none
 abbrev pub AddsJournal : SendEnd → List Log → List Log → Type 0

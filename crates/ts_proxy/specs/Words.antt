@@ -38,12 +38,12 @@ threads_asked word option number =
 
 -- The task of words, if they are of a command: `transform CONFIG BODY`, `replay CONFIG RECORDING` or
 -- `replay --threads N CONFIG RECORDING`.
-abbrev pub task_of : List (List ℕ) → Option Task
-task_of (word ∷ config ∷ input ∷ []) =
+abbrev pub task_of_bytes : List (List ℕ) → Option Task
+task_of_bytes (word ∷ config ∷ input ∷ []) =
     option_map (λ command. task_at command config input) (command_named word)
-task_of (word ∷ option ∷ number ∷ config ∷ input ∷ []) =
+task_of_bytes (word ∷ option ∷ number ∷ config ∷ input ∷ []) =
     option_map (λ threads. task_at Replay config input) (threads_asked word option number)
-task_of _ = None
+task_of_bytes _ = None
 
 -- the first word is `transform`
 abbrev pub begins_transform : List (List ℕ) → Bool
@@ -55,8 +55,8 @@ abbrev pub word_bytes : {A : Type 0} → List (String A) → List (List ℕ)
 word_bytes words = map string_bytes words
 
 -- the task of the words after the program's name
-abbrev pub asked : {A : Type 0} → List (String A) → Option Task
-asked words = task_of (word_bytes words)
+abbrev pub task_of : {A : Type 0} → List (String A) → Option Task
+task_of words = task_of_bytes (word_bytes words)
 
 -- the name of the configuration of a task, or none
 abbrev pub config_name : Option Task → List ℕ

@@ -1,7 +1,7 @@
 //! What the words after the program's name ask for: the command, its files by name, and the number of
 //! threads.
 ghost use Rattle.std.specs.Prelude.{◌≡◌, ◌≤◌, ◌<◌, None, Some, true, false, IfSome, MatchOption};
-ghost use Rattle.ts_proxy.specs.Words.{Replay, Transform, asked, begins_transform, task_at, threads_asked, threads_of, word_bytes};
+ghost use Rattle.ts_proxy.specs.Words.{Replay, Transform, begins_transform, task_at, task_of, threads_asked, threads_of, word_bytes};
 ghost use Rattle.ts_thread.specs.declared.TheConstants.{MOST_THREADS};
 
 use ts_thread::MOST_THREADS;
@@ -34,7 +34,7 @@ pub fn begins_transform(words: &[String]) -> bool
 /// How `transform` is asked for, if words that begin with it are of that command.
 pub fn transform_task(words: &[String]) -> Option<TransformTask<'_>>
     requires { begins_transform (word_bytes words.now) ≡ true }
-    ensures { MatchOption result (asked words.now ≡ None) (λ task. asked words.now ≡
+    ensures { MatchOption result (task_of words.now ≡ None) (λ task. task_of words.now ≡
         Some (task_at Transform task.config.now task.body.now)) }
 {
     match words {
@@ -78,7 +78,7 @@ fn threads_asked(word: &str, option: &str, number: &str) -> Option<u32>
 #[tactic(auto, using(crate::proofs::Words::none_other))]
 pub fn replay_task(words: &[String]) -> Option<ReplayTask<'_>>
     requires { begins_transform (word_bytes words.now) ≡ false }
-    ensures task { MatchOption result (asked words.now ≡ None) (λ task. asked words.now ≡
+    ensures task { MatchOption result (task_of words.now ≡ None) (λ task. task_of words.now ≡
         Some (task_at Replay task.config.now task.recording.now)) }
     ensures threads { IfSome result (λ task. (0 < task.threads) × (task.threads ≤ MOST_THREADS)) }
 {

@@ -3,8 +3,8 @@
 ghost use Rattle.std.specs.Prelude.{◌≡◌, ◌+◌, ◌≤◌, [], length, true, false, OnOk};
 ghost use Rattle.ts_link.specs.Counts.{Counted};
 ghost use Rattle.ts_transform.specs.World.{IsSoundGroup};
-ghost use Rattle.ts_proxy.specs.Journals.{moment_of, first_moment, HandlesWithin, GoesOnTo, IsUnused, EndsSerially};
-ghost use Rattle.ts_proxy.specs.Sending.{WroteAll, Passes, OnDone, AddsJournal, StaysSound, IsDueNext, is_failed};
+ghost use Rattle.ts_proxy.specs.Journals.{first_moment, HandlesNext, TakesNext, GoesOnTo, IsUnused, EndsSerially};
+ghost use Rattle.ts_proxy.specs.Sending.{WroteAll, Passes, OnDone, AddsJournal, StaysSound, IsDue, is_failed};
 ghost use Rattle.ts_proxy.specs.Sending.{left_of, to_come, for_client, HasLessLeft, IsSoundAlone, IsReadyForClient, IsBetweenTurns};
 
 use crate::writing::SendEnd;
@@ -34,8 +34,7 @@ fn drain<P: Transform + Drop, K: Sink>(world: &mut ChainWorld<P>, out: &mut K) -
     SendEnd::Done
 }
 
-// Handles the event that is due next, under its number, and sees that the last stage goes on once bytes were
-// taken.
+// Handles the event of a number, which is due, and sees that the last stage goes on once bytes were taken.
 fn handle_next<P: Transform + Drop>(
     group: &mut Group<ChainWorld<P>>,
     number: u64,
@@ -43,9 +42,9 @@ fn handle_next<P: Transform + Drop>(
 ) -> Result<(), NoMemory>
     requires turn { group.old.cx.log.state.held ≡ true }
     requires sound { IsSoundGroup group.old }
-    requires next { IsDueNext group.old.cx.log number moment }
+    requires due { IsDue group.old.cx.log.state number moment }
     ensures turn { group.new.cx.log.state.held ≡ true }
-    ensures within { OnOk result (HandlesWithin moment group.old.cx.log group.new.cx.log) }
+    ensures within { OnOk result (HandlesNext number moment group.old.cx.log group.new.cx.log) }
     ensures flow { to_come P.rest group.new.world ≡ to_come P.rest group.old.world }
     ensures ready { OnOk result (IsReadyForClient group.new) }
     ensures falls { OnOk result (HasLessLeft P.rest group.old group.new) }
@@ -60,7 +59,7 @@ fn handle_next<P: Transform + Drop>(
     }
 }
 
-// Handles the event that is due next, under its number, in a turn of its own.
+// Handles the event of a number, which is due, in a turn of its own.
 fn drive_turn<P: Transform + Drop>(
     group: &mut Group<ChainWorld<P>>,
     number: u64,
@@ -68,9 +67,9 @@ fn drive_turn<P: Transform + Drop>(
 ) -> Result<(), NoMemory>
     requires idle { group.old.cx.log.state.held ≡ false }
     requires sound { IsSoundGroup group.old }
-    requires next { IsDueNext group.old.cx.log number moment }
+    requires due { IsDue group.old.cx.log.state number moment }
     ensures idle { group.new.cx.log.state.held ≡ false }
-    ensures serial { OnOk result (GoesOnTo moment group.old.cx.log group.new.cx.log) }
+    ensures serial { OnOk result (TakesNext number moment group.old.cx.log group.new.cx.log) }
     ensures flow { to_come P.rest group.new.world ≡ to_come P.rest group.old.world }
     ensures ready { OnOk result (IsReadyForClient group.new) }
     ensures falls { OnOk result (HasLessLeft P.rest group.old group.new) }
@@ -88,7 +87,7 @@ fn start<P: Transform + Drop>(group: &mut Group<ChainWorld<P>>) -> Result<(), No
     requires unused { IsUnused group.old.cx.log }
     requires sound { IsSoundGroup group.old }
     ensures idle { group.new.cx.log.state.held ≡ false }
-    ensures serial { OnOk result (GoesOnTo first_moment group.old.cx.log group.new.cx.log) }
+    ensures serial { OnOk result (GoesOnTo first_moment first_moment group.old.cx.log group.new.cx.log) }
     ensures begins { OnOk result (group.new.cx.moment ≡ first_moment) }
     ensures flow { to_come P.rest group.new.world ≡ to_come P.rest group.old.world }
     ensures ready { OnOk result (IsReadyForClient group.new) }
@@ -107,13 +106,11 @@ fn start<P: Transform + Drop>(group: &mut Group<ChainWorld<P>>) -> Result<(), No
 
 // Handles events until none is pending, each in a turn of its own and the one that is due first before the
 // others, and writes between the turns. The moment moves on to the next due one where nothing is due.
-#[tactic(auto, using(crate::proofs::Serial::serial_trans))]
 fn run_events<P: Transform + Drop, K: Sink>(
     group: &mut Group<ChainWorld<P>>,
     out: &mut K,
 ) -> SendEnd
     requires between { IsBetweenTurns group.old }
-    requires fresh { moment_of group.old.cx.log ≡ first_moment }
     ensures told { K.tells ≡ true →
         Passes (K.seen out.old) (K.seen out.new)
         (to_come P.rest group.old.world) (to_come P.rest group.new.world) }

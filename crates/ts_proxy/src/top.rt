@@ -5,7 +5,7 @@ ghost use Rattle.ts_proxy.specs.Ends.{status_of, out_of_memory, Completes, HasCa
 ghost use Rattle.ts_proxy.specs.Lines.{IsAnswerOf, SaysLine, line_of, LineTold};
 ghost use Rattle.ts_proxy.specs.Outcome.{outcome_of};
 ghost use Rattle.ts_proxy.specs.Took.{TookNothing};
-ghost use Rattle.ts_proxy.specs.Words.{asked, begins_transform, word_bytes};
+ghost use Rattle.ts_proxy.specs.Words.{task_of, begins_transform, word_bytes};
 ghost use Rattle.ts_proxy.specs.declared.answer.Answer.{Answer};
 ghost use Rattle.ts_proxy.specs.declared.answer.Answer.TheVariants.{OutOfMemory};
 
@@ -89,32 +89,27 @@ pub fn run<S: Shelf, K: Sink, E: Sink, G: Gate + Sync, R: Threads + Wait + Sync>
     // The status of usage comes exactly where the words are of no command. Each outcome has its own status,
     // which comes there alone and always, unless a read failed, memory lacked or, where there is a text, a
     // write failed.
-    ensures status { IsStatusOf S.tells (S.seen shelf.old) (asked words.now) result.status }
-
+    ensures status { IsStatusOf S.tells (S.seen shelf.old) (task_of words.now) result.status }
     // A failure is one of the shelf or the sink that was handed in.
     ensures cause { HasCause result.status
         (S.seen shelf.old) (S.seen shelf.new) (K.seen out.old) (K.seen out.new) }
-
     // Where there is a text and neither failed, the job is done, unless memory lacked.
-    ensures completes { S.tells ≡ true → HasOutput (outcome_of (S.seen shelf.old) (asked words.now)) →
+    ensures completes { S.tells ≡ true → HasOutput (outcome_of (S.seen shelf.old) (task_of words.now)) →
         Completes result.status (S.seen shelf.old) (S.seen shelf.new) (K.seen out.old) (K.seen out.new) }
-
     // What out took: with status 0 the whole text, else a front of it, and nothing where there is none.
     ensures takes { S.tells ≡ true → K.tells ≡ true →
-        TakesAt (outcome_of (S.seen shelf.old) (asked words.now)) result.status
+        TakesAt (outcome_of (S.seen shelf.old) (task_of words.now)) result.status
         (K.seen out.old) (K.seen out.new) }
     ensures quiet { K.tells ≡ true → IsQuiet result.status → TookNothing (K.seen out.old) (K.seen out.new) }
-
     // With status 0 the journal of the group of `transform`, which is that of a serial driver, or those of
     // the groups of the recorded transactions, in their order. Each is lawful and not held, with nothing
     // pending.
-    ensures journals { JournalsAt S.tells (S.seen shelf.old) (asked words.now)
+    ensures journals { JournalsAt S.tells (S.seen shelf.old) (task_of words.now)
         result.status result.journals.items }
-
     // What err took: the line of an answer that has this status, and that comes at the outcome. After a
     // failed read it names a file that the work came to.
-    ensures line { (answer : Answer) × IsAnswerOf S.tells (S.seen shelf.old) (asked words.now) answer
-        × SaysLine E.tells (E.seen err.old) (E.seen err.new) (asked words.now) result.status answer }
+    ensures line { (answer : Answer) × IsAnswerOf S.tells (S.seen shelf.old) (task_of words.now) answer
+        × SaysLine E.tells (E.seen err.old) (E.seen err.new) (task_of words.now) result.status answer }
 {
     if begins_transform(words) {
         return run_transform(alloc, words, shelf, out, err);
@@ -137,19 +132,19 @@ pub fn run_transform<S: Shelf, K: Sink, E: Sink>(
 ) -> Ended
     requires first { begins_transform (word_bytes words.now) ≡ true }
     // What is said of `run` holds of it, in the same words.
-    ensures status { IsStatusOf S.tells (S.seen shelf.old) (asked words.now) result.status }
+    ensures status { IsStatusOf S.tells (S.seen shelf.old) (task_of words.now) result.status }
     ensures cause { HasCause result.status
         (S.seen shelf.old) (S.seen shelf.new) (K.seen out.old) (K.seen out.new) }
-    ensures completes { S.tells ≡ true → HasOutput (outcome_of (S.seen shelf.old) (asked words.now)) →
+    ensures completes { S.tells ≡ true → HasOutput (outcome_of (S.seen shelf.old) (task_of words.now)) →
         Completes result.status (S.seen shelf.old) (S.seen shelf.new) (K.seen out.old) (K.seen out.new) }
     ensures takes { S.tells ≡ true → K.tells ≡ true →
-        TakesAt (outcome_of (S.seen shelf.old) (asked words.now)) result.status
+        TakesAt (outcome_of (S.seen shelf.old) (task_of words.now)) result.status
         (K.seen out.old) (K.seen out.new) }
     ensures quiet { K.tells ≡ true → IsQuiet result.status → TookNothing (K.seen out.old) (K.seen out.new) }
-    ensures journals { JournalsAt S.tells (S.seen shelf.old) (asked words.now)
+    ensures journals { JournalsAt S.tells (S.seen shelf.old) (task_of words.now)
         result.status result.journals.items }
-    ensures line { (answer : Answer) × IsAnswerOf S.tells (S.seen shelf.old) (asked words.now) answer
-        × SaysLine E.tells (E.seen err.old) (E.seen err.new) (asked words.now) result.status answer }
+    ensures line { (answer : Answer) × IsAnswerOf S.tells (S.seen shelf.old) (task_of words.now) answer
+        × SaysLine E.tells (E.seen err.old) (E.seen err.new) (task_of words.now) result.status answer }
 {
     let Some(task) = transform_task(words) else {
         return end(err, Performed::without(alloc, Answer::Usage), "", "");

@@ -34,7 +34,7 @@ pub const ON_64: &[&str] = &["replay", "--threads", "64", "c", "r"];
 
 /// What a command left: its status, what out and err took, and the journals.
 #[derive(Drop)]
-pub struct Left {
+pub struct Remains {
     pub status: u8,
     pub out: MemSink,
     pub err: MemSink,
@@ -68,7 +68,7 @@ pub fn left_by<R: Threads + Wait + Sync, G: Gate + Sync>(
     shelf: MemShelf,
     out: MemSink,
     gate: &G,
-) -> Result<Left, NoMemory> {
+) -> Result<Remains, NoMemory> {
     let err = MemSink::make(alloc, 7, Vec::new(alloc));
     left_in(rt, alloc, words, shelf, out, err, gate)
 }
@@ -82,7 +82,7 @@ pub fn left_in<R: Threads + Wait + Sync, G: Gate + Sync>(
     mut out: MemSink,
     mut err: MemSink,
     gate: &G,
-) -> Result<Left, NoMemory> {
+) -> Result<Remains, NoMemory> {
     let mut said = Vec::new(alloc);
     for word in words {
         said.push(String::from_str(alloc, word)?)?;
@@ -96,7 +96,7 @@ pub fn left_in<R: Threads + Wait + Sync, G: Gate + Sync>(
         &mut err,
         gate,
     );
-    Ok(Left {
+    Ok(Remains {
         status: ended.status,
         out,
         err,
@@ -111,7 +111,7 @@ pub fn replayed<R: Threads + Wait + Sync>(
     words: &[&str],
     config: &[u8],
     recording: &[u8],
-) -> Result<Left, NoMemory> {
+) -> Result<Remains, NoMemory> {
     let shelf = shelf_of(alloc, config, recording)?;
     left_by(rt, alloc, words, shelf, wide_sink(alloc), &OpenGate::make())
 }

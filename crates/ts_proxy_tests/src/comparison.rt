@@ -1,6 +1,6 @@
 //! What a command is to leave, and whether it does.
 
-use crate::command::Left;
+use crate::command::Remains;
 
 /// What a command is to leave: its status, what out and err took, and how many journals.
 #[derive(Clone, Copy)]
@@ -42,7 +42,7 @@ pub enum Comparison {
 }
 
 /// Whether a command left what it is to leave, with each journal at rest.
-pub fn compare(left: &Left, wanted: &Wanted<'_>) -> Comparison {
+pub fn compare(left: &Remains, wanted: &Wanted<'_>) -> Comparison {
     if left.status != wanted.status {
         return Comparison::OtherStatus;
     }

@@ -6,7 +6,7 @@ use ts_link::NoMemory;
 
 /// How a transaction ends: with a whole answer, whose body this is, or with a front of one.
 #[derive(Clone, Copy)]
-pub enum Came<'a> {
+pub enum StatedEnd<'a> {
     Whole(&'a [u8]),
     Cut,
     Bad,
@@ -18,7 +18,7 @@ pub enum Came<'a> {
 pub struct Stated<'a> {
     pub request: &'a [u8],
     pub head: &'a [u8],
-    pub came: Came<'a>,
+    pub came: StatedEnd<'a>,
 }
 
 // Adds what is stated of the transaction of this number.
@@ -26,13 +26,13 @@ fn add_stated(text: &mut Vec<u8>, number: usize, stated: &Stated<'_>) -> Result<
     add_number(text, b"txn ", number)?;
     add_part(text, b"request ", stated.request)?;
     let end: &[u8] = match stated.came {
-        Came::Whole(_) => b"end whole\n",
-        Came::Cut => b"end cut\n",
-        Came::Bad => b"end bad\n",
+        StatedEnd::Whole(_) => b"end whole\n",
+        StatedEnd::Cut => b"end cut\n",
+        StatedEnd::Bad => b"end bad\n",
     };
     text.extend_from_slice(end)?;
     add_part(text, b"head ", stated.head)?;
-    if let Came::Whole(body) = stated.came {
+    if let StatedEnd::Whole(body) = stated.came {
         add_part(text, b"body ", body)?;
     }
     Ok(())

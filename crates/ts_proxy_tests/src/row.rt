@@ -3,7 +3,7 @@
 use crate::command::{ON_2, ON_8, REPLAY, replayed};
 use crate::comparison::{Comparison, compare, done};
 use crate::recording::{Exchange, at_once, in_pieces, recording_of};
-use crate::report::{Came, Stated, report_of};
+use crate::report::{Stated, StatedEnd, report_of};
 use crate::stated::{GET, HEAD, HEAD_SENT, in_chunks, passed};
 use std::alloc::Global;
 use std::sync::Wait;
@@ -19,7 +19,7 @@ pub struct Row<'a> {
 }
 
 /// A row of the request GET, which is passed on.
-pub fn get<'a>(config: &'a [u8], origin: &'a [u8], head: &'a [u8], came: Came<'a>) -> Row<'a> {
+pub fn get<'a>(config: &'a [u8], origin: &'a [u8], head: &'a [u8], came: StatedEnd<'a>) -> Row<'a> {
     Row {
         config,
         exchange: at_once(GET, origin),
@@ -44,7 +44,7 @@ pub fn head<'a>(config: &'a [u8], origin: &'a [u8], head: &'a [u8]) -> Row<'a> {
         stated: Stated {
             request: HEAD_SENT,
             head,
-            came: Came::Whole(b""),
+            came: StatedEnd::Whole(b""),
         },
     }
 }

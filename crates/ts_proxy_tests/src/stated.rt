@@ -1,7 +1,7 @@
 //! Texts that rows share (lines, requests, responses, the heads that clients get, the proxy's own answers),
 //! and what is stated with them of transactions.
 
-use crate::report::{Came, Stated};
+use crate::report::{Stated, StatedEnd};
 
 /// A line that puts a byte before a body.
 pub const LESS: &[u8] = b"prepend.so <";
@@ -48,26 +48,29 @@ pub const PLAIN: &[u8] = b"HTTP/1.1 200 OK\r\nvia: 1.1 tsx\r\nconnection: close\
 
 /// An answer of the proxy's own.
 #[derive(Clone, Copy)]
-pub struct OwnAnswer<'a> {
+pub struct StatedAnswer<'a> {
     pub head: &'a [u8],
     pub body: &'a [u8],
 }
 
 /// The answer to a request that cannot be read.
-pub const BAD_REQUEST: OwnAnswer<'static> = OwnAnswer {
-    head: b"HTTP/1.1 400 Bad Request\r\ncontent-type: text/plain\r\ncontent-length: 16\r\nconnection: close\r\n\r\n",
+pub const BAD_REQUEST: StatedAnswer<'static> = StatedAnswer {
+    head: b"HTTP/1.1 400 Bad Request\r\ncontent-type: text/plain\r\ncontent-length: 16\r\n\
+connection: close\r\n\r\n",
     body: b"400 Bad Request\n",
 };
 
 /// The answer to a request that is not served.
-pub const NOT_IMPLEMENTED: OwnAnswer<'static> = OwnAnswer {
-    head: b"HTTP/1.1 501 Not Implemented\r\ncontent-type: text/plain\r\ncontent-length: 20\r\nconnection: close\r\n\r\n",
+pub const NOT_IMPLEMENTED: StatedAnswer<'static> = StatedAnswer {
+    head: b"HTTP/1.1 501 Not Implemented\r\ncontent-type: text/plain\r\ncontent-length: 20\r\n\
+connection: close\r\n\r\n",
     body: b"501 Not Implemented\n",
 };
 
 /// The answer where the origin gives none to pass on.
-pub const BAD_GATEWAY: OwnAnswer<'static> = OwnAnswer {
-    head: b"HTTP/1.1 502 Bad Gateway\r\ncontent-type: text/plain\r\ncontent-length: 16\r\nconnection: close\r\n\r\n",
+pub const BAD_GATEWAY: StatedAnswer<'static> = StatedAnswer {
+    head: b"HTTP/1.1 502 Bad Gateway\r\ncontent-type: text/plain\r\ncontent-length: 16\r\n\
+connection: close\r\n\r\n",
     body: b"502 Bad Gateway\n",
 };
 
@@ -77,25 +80,28 @@ pub const USUAL: &[u8] =
 
 /// What the origin gets of it.
 pub const USUAL_SENT: &[u8] =
-    b"GET /index.html HTTP/1.1\r\nhost: www.example.com\r\nuser-agent: curl/8.5.0\r\naccept: */*\r\nvia: 1.1 tsx\r\nconnection: close\r\n\r\n";
+    b"GET /index.html HTTP/1.1\r\nhost: www.example.com\r\nuser-agent: curl/8.5.0\r\naccept: */*\r\n\
+via: 1.1 tsx\r\nconnection: close\r\n\r\n";
 
 /// A usual response to it.
-pub const PAGE: &[u8] =
-    b"HTTP/1.1 200 OK\r\nDate: Mon, 01 Jan 2024 00:00:00 GMT\r\nContent-Type: text/html; charset=utf-8\r\nContent-Length: 13\r\nConnection: keep-alive\r\n\r\n<p>hello</p>\n";
+pub const PAGE: &[u8] = b"HTTP/1.1 200 OK\r\nDate: Mon, 01 Jan 2024 00:00:00 GMT\r\n\
+Content-Type: text/html; charset=utf-8\r\nContent-Length: 13\r\nConnection: keep-alive\r\n\r\n\
+<p>hello</p>\n";
 
 /// The client's head of that, where a line acts on it.
-pub const PAGE_HEAD: &[u8] =
-    b"HTTP/1.1 200 OK\r\ndate: Mon, 01 Jan 2024 00:00:00 GMT\r\ncontent-type: text/html; charset=utf-8\r\nvia: 1.1 tsx\r\ntransfer-encoding: chunked\r\nconnection: close\r\n\r\n";
+pub const PAGE_HEAD: &[u8] = b"HTTP/1.1 200 OK\r\ndate: Mon, 01 Jan 2024 00:00:00 GMT\r\n\
+content-type: text/html; charset=utf-8\r\nvia: 1.1 tsx\r\ntransfer-encoding: chunked\r\n\
+connection: close\r\n\r\n";
 
 /// What is stated where the client gives nothing.
 pub const NOTHING: Stated<'static> = Stated {
     request: b"",
     head: b"",
-    came: Came::Whole(b""),
+    came: StatedEnd::Whole(b""),
 };
 
 /// What is stated of the request GET, which is passed on.
-pub fn passed<'a>(head: &'a [u8], came: Came<'a>) -> Stated<'a> {
+pub fn passed<'a>(head: &'a [u8], came: StatedEnd<'a>) -> Stated<'a> {
     Stated {
         request: GET_SENT,
         head,
@@ -105,7 +111,7 @@ pub fn passed<'a>(head: &'a [u8], came: Came<'a>) -> Stated<'a> {
 
 /// What is stated of the request GET where its body comes whole, in chunks.
 pub fn in_chunks(body: &[u8]) -> Stated<'_> {
-    passed(CHUNKED, Came::Whole(body))
+    passed(CHUNKED, StatedEnd::Whole(body))
 }
 
 /// What is stated of the usual request where a line makes this body of the usual response.
@@ -113,15 +119,15 @@ pub fn paged(body: &[u8]) -> Stated<'_> {
     Stated {
         request: USUAL_SENT,
         head: PAGE_HEAD,
-        came: Came::Whole(body),
+        came: StatedEnd::Whole(body),
     }
 }
 
 /// What is stated of a request that the proxy answers itself, without asking the origin.
-pub fn unasked<'a>(answer: &OwnAnswer<'a>) -> Stated<'a> {
+pub fn unasked<'a>(answer: &StatedAnswer<'a>) -> Stated<'a> {
     Stated {
         request: b"",
         head: answer.head,
-        came: Came::Whole(answer.body),
+        came: StatedEnd::Whole(answer.body),
     }
 }

@@ -50,13 +50,13 @@ record Goes (tag : RecordedTag) (g : RecordedGroup) : Type 0 where
 -- so does what follows a group that was started
 goes_on : (tags : List RecordedTag) (k : ℕ) (tag : RecordedTag) (given now : RecordedGroup)
     → get_elem? tags k ≡ some tag → is_first tag ≡ true → IsOfTag tag given.world
-    → now.cx.log.base.turns ≡ 0
+    → now.cx.log.base.made ≡ 0
     → WasStarted IsOfTag (IsFirst is_first tags) HasTxnBegun IsSoundRecorded k given now → Goes tag now
 goes_on tags k tag given now there first fits none was =
     let begun = was.started in
     let found : IsOfTag tag was.found.world = found_fits IsOfTag is_first HasTxnBegun IsSoundRecorded tags k
     given now tag there first was tag fits in
-    let more = later_turns now.cx.log.base.turns begun.cx.log.base.turns begun.cx.log.state now.cx.log.state
+    let more = later_turns now.cx.log.base.made begun.cx.log.base.made begun.cx.log.state now.cx.log.state
     none was.follows.journal in
     let own = was.turned in
     record {

@@ -4,7 +4,7 @@ use Rattle.std.specs.List.{AllZip, concat}
 use Rattle.ts_config.specs.declared.setup.Setup.{Setup}
 use Rattle.ts_record.specs.Grammar.{TxnPieces}
 use Rattle.ts_record.specs.Report.{blocks_text, report_begin, report_end}
-use Rattle.ts_record.specs.declared.report.Block.{Block}
+use Rattle.ts_record.specs.declared.report.ReportBlock.{ReportBlock}
 use Rattle.ts_record.proofs.Same.{one_recording}
 use Rattle.ts_block.proofs.OneBlock.{one_block}
 use Rattle.ts_replay.specs.Reports.{HasOneReport, IsReport, IsTxnShown, in_report}
@@ -13,7 +13,7 @@ use Rattle.ts_replay.proofs.SameLines.{block_same}
 module _ (s t : Setup) (lines : s.transforms.items ≡ t.transforms.items)
     (plugins : s.plugins.items ≡ t.plugins.items) where
   -- a transaction is shown by one block
-  shown_one : (txn : TxnPieces) (a b : Block) → IsTxnShown s txn a → IsTxnShown t txn b → a ≡ b
+  shown_one : (txn : TxnPieces) (a b : ReportBlock) → IsTxnShown s txn a → IsTxnShown t txn b → a ≡ b
   shown_one txn a b h k =
       h.shows
       ∙ ap in_report (one_block t true (false ≡ true) (concat txn.1) (concat txn.0) h.block k.block
@@ -22,7 +22,7 @@ module _ (s t : Setup) (lines : s.transforms.items ≡ t.transforms.items)
       ∙ sym k.shows
 
   -- and transactions by one list of blocks
-  blocks_one : (txns : List TxnPieces) (xs ys : List Block) → AllZip (IsTxnShown s) txns xs
+  blocks_one : (txns : List TxnPieces) (xs ys : List ReportBlock) → AllZip (IsTxnShown s) txns xs
       → AllZip (IsTxnShown t) txns ys → xs ≡ ys
   blocks_one [] [] [] h k = refl
   blocks_one [] (a ∷ xs) ys h k = absurd h

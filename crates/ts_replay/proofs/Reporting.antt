@@ -7,10 +7,10 @@ use Rattle.std.proofs.lemmas.List.{append-nil, map-append}
 use Rattle.ts_config.specs.declared.setup.Setup.{Setup}
 use Rattle.ts_journal.specs.declared.entry.Entry.{Entry}
 use Rattle.ts_journal.specs.Log.{Log}
-use Rattle.ts_journal.specs.Machine.{IsLawful, replay}
+use Rattle.ts_journal.specs.Machine.{Balances, IsLawful, replay}
 use Rattle.ts_record.specs.Grammar.{TxnPieces}
 use Rattle.ts_record.specs.Report.{IsReported, block_text, blocks_text, report_begin, report_end}
-use Rattle.ts_record.specs.declared.report.Block.{Block}
+use Rattle.ts_record.specs.declared.report.ReportBlock.{ReportBlock}
 use Rattle.ts_replay.specs.Exchanged.{IsRunBetween}
 use Rattle.ts_replay.specs.Recorded.{Recorded, RecordedGroup}
 use Rattle.ts_replay.specs.Numbered.{EachOf}
@@ -20,10 +20,10 @@ use Rattle.ts_replay.specs.declared.report.Replayed.{Replayed}
 use Rattle.ts_replay.proofs.Ended.{run_between}
 use Rattle.ts_replay.proofs.Numbered.{FirstOf, each_more, first_of, none_left}
 use Rattle.std.proofs.lemmas.Slice.Zip.{all_zipped_more}
-use Rattle.ts_txn.specs.Making.{end_of}
+use Rattle.ts_txn.specs.Making.{end_of_course}
 
 -- the lines on one transaction more
-blocks_more : (k n : ℕ) (bs : List Block) (b : Block) → n ≡ k + length bs
+blocks_more : (k n : ℕ) (bs : List ReportBlock) (b : ReportBlock) → n ≡ k + length bs
     → blocks_text k (bs ++ b ∷ []) ≡ blocks_text k bs ++ block_text n b
 blocks_more k n [] b is = let first : n ≡ k = omega (arith, is) in append-nil (block_text k b) ∙ ap
     (λ m. block_text m b) (sym first)
@@ -38,7 +38,7 @@ pub record ReportsBut (setup : Setup) (txns : List TxnPieces) (groups rest : Lis
   pub done : List TxnPieces
   pub left : List TxnPieces
   pub gone : List RecordedGroup
-  pub blocks : List Block
+  pub blocks : List ReportBlock
   pub txns_are : txns ≡ done ++ left
   pub groups_are : groups ≡ gone ++ rest
   pub number_is : number ≡ length done
@@ -51,31 +51,42 @@ pub record ReportsBut (setup : Setup) (txns : List TxnPieces) (groups rest : Lis
 
 -- ---- one transaction more
 
--- the state of a journal is what its entries come to, which are lawful
+-- the state of a journal is what its entries come to, which are lawful, and its counts add up
 pub record IsKept (log : Log) : Type 0 where
-  pub lawful : IsLawful log.base log.entries
-  pub state : log.state ≡ replay log.base log.entries
+  pub lawful : IsLawful log.base.state log.entries
+  pub state : log.state ≡ replay log.base.state log.entries
+  pub counts : Balances log.state
 
 -- what is read of a journal is known of its group
-pub is_kept : (log read : Log) (es : List Entry) → read ≡ log → es ≡ read.entries → IsLawful read.base es
-    → read.state ≡ replay read.base es → IsKept log
-is_kept log read es same are lawful state = subst IsKept same
-    (record { lawful = subst (IsLawful read.base) are lawful; state = state ∙ ap (replay read.base) are })
+pub is_kept : (log read : Log) (es : List Entry) → read ≡ log → es ≡ read.entries
+    → IsLawful read.base.state es → read.state ≡ replay read.base.state es → Balances read.state → IsKept log
+is_kept log read es same are lawful state counts = subst IsKept same
+    (record {
+      lawful = subst (IsLawful read.base.state) are lawful;
+      state = state ∙ ap (replay read.base.state) are;
+      counts = counts;
+    })
 
 -- the block tells how a transaction ended, and is the one of whatever two sides it ran between
-pub record TellsOf (setup : Setup) (t : Recorded) (b : Block) : Type 0 where
+pub record TellsOf (setup : Setup) (t : Recorded) (b : ReportBlock) : Type 0 where
   pub shown : (c o : List ℕ) → IsRunBetween setup c o t → IsShownOf setup c o b
-  pub ended : end_of t.course ≡ Some b.end
+  pub ended : end_of_course t.course ≡ Some b.end
   pub reported : IsReported b.end
 
 -- what is known of a group whose transaction has a block
-replay_of : (setup : Setup) (number : ℕ) (txn : TxnPieces) (g : RecordedGroup) (b : Block)
+replay_of : (setup : Setup) (number : ℕ) (txn : TxnPieces) (g : RecordedGroup) (b : ReportBlock)
     → HasRunAs setup number txn g → TellsOf setup g.world b → IsKept g.cx.log
     → IsReplayOf setup number txn g
 replay_of setup number txn g b ran tells kept = record {
   ran = ran;
   ended = subst (λ e. IsSomeAnd e IsReported) (sym tells.ended) tells.reported;
-  final = record { lawful = kept.lawful; state = kept.state; given = ran.given; none = ran.idle };
+  final = record {
+    lawful = kept.lawful;
+    state = kept.state;
+    given = ran.given;
+    none = ran.idle;
+    closed = let all = kept.counts in let none = ap length ran.idle in omega (arith, all, none);
+  };
 }
 
 module _ (setup : Setup) (txns : List TxnPieces) (groups left rest : List RecordedGroup) (number : ℕ)
@@ -87,7 +98,7 @@ module _ (setup : Setup) (txns : List TxnPieces) (groups left rest : List Record
       (subst (λ gs. EachOf (HasRunAs setup) (number + 1) before.left gs) is before.to_come)
 
   -- so it is reported on
-  pub reports_more : (next : ℕ) (text' : List ℕ) (journals' : List Log) (b : Block) → next ≡ number + 1
+  pub reports_more : (next : ℕ) (text' : List ℕ) (journals' : List Log) (b : ReportBlock) → next ≡ number + 1
       → TellsOf setup g.world b → IsKept g.cx.log
       → text' ≡ text ++ block_text next b → journals' ≡ journals ++ g.cx.log ∷ []
       → ReportsBut setup txns groups rest next text' journals'

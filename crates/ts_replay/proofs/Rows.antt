@@ -51,7 +51,7 @@ fits_fresh tag g fits sound fresh = (
   fits,
   sound,
   at_first g.cx.log.state (ap (λ (s : State). s.held) fresh.state) (ap (λ (s : State). s.next) fresh.state),
-  OnTrue_from tag.first (g.cx.log.base.turns ≡ 0) (λ first. ap (λ (s : State). s.turns) fresh.base),
+  OnTrue_from tag.first (g.cx.log.base.made ≡ 0) (λ first. ap (λ b. b.made) fresh.base),
 )
 
 -- of a transaction that was just made of two recorded sides

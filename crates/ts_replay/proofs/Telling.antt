@@ -10,10 +10,10 @@ use Rattle.ts_link.specs.Counts.{Rose}
 use Rattle.ts_link.specs.Link.{Look, all_of}
 use Rattle.ts_link.specs.MemLink.{LinkState, look_of}
 use Rattle.ts_record.specs.Report.{IsReported}
-use Rattle.ts_record.specs.declared.report.Block.{Block as Shown}
+use Rattle.ts_record.specs.declared.report.ReportBlock.{ReportBlock}
 use Rattle.ts_block.specs.Block.{IsBlock}
 use Rattle.ts_phases.specs.Ends.{HasBlock, HasText, ShortEnd}
-use Rattle.ts_txn.specs.Making.{end_of, link_if}
+use Rattle.ts_txn.specs.Making.{end_of_course, link_if}
 use Rattle.ts_txn.specs.Resting.{NeverFailed, SendsBlock}
 use Rattle.ts_txn.specs.Resting as rest
 use Rattle.ts_phases.specs.View.{HasFailed, LinkSide, View, is_dialed, refuses_if, side, side_if}
@@ -24,7 +24,9 @@ use Rattle.ts_phases.specs.declared.parts.Sent.{Sent}
 use Rattle.ts_txn.proofs.Resting.{rests_with_block}
 use Rattle.ts_wire.specs.Frames.{cut_body, frames}
 use Rattle.ts_replay.specs.Exchanged.{GotBy, HasGot, HasTaken, IsLeftBetween, IsRunBetween, LeavesBlock}
-use Rattle.ts_replay.specs.Recorded.{Recorded, recorded_link, recorded_origin, stock_transform}
+use Rattle.ts_replay.specs.Recorded.{Recorded, recorded_origin}
+use Rattle.ts_stock.specs.StockTransform.{stock_transform}
+use Rattle.ts_upstream.specs.InMemory.{memory_link}
 use Rattle.ts_replay.specs.Reports.{IsShownOf, in_report}
 use Rattle.ts_replay.specs.Unframing.{IsFramed}
 use Rattle.ts_replay.proofs.Blocks.{block_shaped}
@@ -42,9 +44,8 @@ viewed client x sent = record {
   sent = sent;
 }
 
--- The parts and the origin's link are left of a transaction whose client's side and queued texts were these,
--- and whose
--- links gave or may still give these bytes.
+-- The parts and the origin's link are left of a transaction whose client's side and queued texts were
+-- these, and whose links gave or may still give these bytes.
 record AreLeftOf (client : LinkSide) (sent : Sent) (c o : List ℕ) (parts : TxnParts LinkState LinkState)
     (link : LinkState) : Type 0 where
   look : client.look ≡ look_of parts.client
@@ -201,7 +202,7 @@ module _ (setup : Setup) (c o : List ℕ) (parts : TxnParts LinkState LinkState)
         origin = never_failed t.core.origin link is of_link;
       } in
       let rested =
-      rests_with_block recorded_link recorded_link recorded_origin stock_transform t
+      rests_with_block memory_link memory_link recorded_origin stock_transform t
       run.next run.roles run.sound
       run.started run.left never (λ lacks. memory (h.end_is ∙ lacks)) refl refl in (
         rested.0,
@@ -233,7 +234,7 @@ pub left_between : (setup : Setup) (c o : List ℕ) (t : Recorded) (parts : TxnP
     → IsRunBetween setup c o t
     → (parts.client ≡ t.core.client.link) × (parts.origin ≡ link_if t.core.origin)
     → (parts.head ≡ t.core.sent.head) × (parts.mode ≡ t.core.sent.mode) ×
-    (parts.cuts.items ≡ t.core.sent.cuts.items) → parts.end ≡ end_of t.course → IsLeftBetween setup c o
+    (parts.cuts.items ≡ t.core.sent.cuts.items) → parts.end ≡ end_of_course t.course → IsLeftBetween setup c o
     parts
 left_between setup c o t parts run links sent ends = record
     { txn = t; run = run; links = links; sent = sent; end_is = ends }
@@ -290,19 +291,20 @@ content_is parts link _ b behind content is h whole short = short (λ e. cc) ∙
 -- a block that is this one part by part is shown
 pub block_same : (request : List ℕ) (end : TxnEnd) (head content : List ℕ) (b : Block) → request ≡ b.request
     → end ≡ b.end → head ≡ b.head → content ≡ b.body
-    → ◌≡◌ {A = Shown} (record { request = request; end = end; head = head; content = content }) (in_report b)
+    → ◌≡◌ {A = ReportBlock} (record { request = request; end = end; head = head; content = content })
+    (in_report b)
 block_same request end head content b p q r s = λ i. record
     { request = p i; end = q i; head = r i; content = s i }
 
 -- the block that was cut out of the parts is the one that is shown
 module _ {X : Type 0} (setup : Setup) (c o : List ℕ) (b : Block) where
-  pub shows_if : (r : Result Shown X) → IsBlockOf setup c o b → IfOk r (λ s. s ≡ in_report b)
+  pub shows_if : (r : Result ReportBlock X) → IsBlockOf setup c o b → IfOk r (λ s. s ≡ in_report b)
       → IfOk r (IsShownOf setup c o)
   shows_if (Ok s) says is = record { block = b; is_block = says; shows = is }
   shows_if (Err e) says is = tt
 
 -- and so is its end
-pub ends_if : {X : Type 0} (b : Block) (P : TxnEnd → Type 0) (r : Result Shown X) → P b.end
+pub ends_if : {X : Type 0} (b : Block) (P : TxnEnd → Type 0) (r : Result ReportBlock X) → P b.end
     → IfOk r (λ s. s ≡ in_report b) → IfOk r (λ s. P s.end)
-ends_if b P (Ok s) holds is = subst P (sym (ap (λ (x : Shown). x.end) is)) holds
+ends_if b P (Ok s) holds is = subst P (sym (ap (λ (x : ReportBlock). x.end) is)) holds
 ends_if b P (Err e) holds is = tt

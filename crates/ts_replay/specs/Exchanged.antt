@@ -10,7 +10,7 @@ use Rattle.ts_journal.specs.declared.entry.TheConstants.{GREATEST}
 use Rattle.ts_link.specs.MemLink.{LinkState, look_of}
 use Rattle.ts_replay.specs.Recorded.{IsSoundWith, Recorded}
 use Rattle.ts_txn.specs.CourseCover.{is_fresh_on}
-use Rattle.ts_txn.specs.Making.{end_of, link_if}
+use Rattle.ts_txn.specs.Making.{end_of_course, link_if}
 use Rattle.ts_phases.specs.View.{is_dialed, side_if}
 use Rattle.ts_block.specs.declared.block.Block.{Block}
 use Rattle.ts_txn.specs.declared.making.TxnParts.{TxnParts}
@@ -38,7 +38,7 @@ pub record IsLeftBetween (setup : Setup) (c o : List ℕ) (parts : TxnParts Link
   pub links : (parts.client ≡ txn.core.client.link) × (parts.origin ≡ link_if txn.core.origin)
   pub sent : (parts.head ≡ txn.core.sent.head) × (parts.mode ≡ txn.core.sent.mode)
       × (parts.cuts.items ≡ txn.core.sent.cuts.items)
-  pub end_is : parts.end ≡ end_of txn.course
+  pub end_is : parts.end ≡ end_of_course txn.course
 
 -- the end of the last field of a head, and its empty line (RFC 9112, section 2.1)
 abbrev pub blank_end : List ℕ

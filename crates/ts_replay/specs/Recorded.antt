@@ -1,24 +1,21 @@
 -- A transaction between two recorded sides: its group, the tag of its slot, and what is to hold of it.
 use Rattle.std.specs.Prelude.{◌≡◌, ℕ, ◌+◌, ◌≤◌, List, [], ◌∷◌, length, Bool, true, false, Some, ⊤}
-use Rattle.ts_config.specs.Bodies.{whole_of}
 use Rattle.ts_config.specs.Bytes.{most_transforms}
 use Rattle.ts_config.specs.declared.setup.Setup.{Setup}
-use Rattle.ts_config.specs.declared.setup.TransformLine.{TransformLine}
 use Rattle.ts_group.specs.declared.action.Named.{Named}
 use Rattle.ts_group.specs.declared.group.Group.{Group}
 use Rattle.ts_journal.specs.State.{State}
 use Rattle.ts_journal.specs.declared.entry.Pending.{Pending}
 use Rattle.ts_link.specs.MemLink.{LinkState, look_of}
-use Rattle.ts_link.specs.declared.link.Link as link
 use Rattle.ts_record.specs.Grammar.{TxnPieces}
 use Rattle.ts_record.specs.Links.{recorded_side}
-use Rattle.ts_stock.specs.Stock.{pause_of, pause_of_line, still_writes}
+use Rattle.ts_stock.specs.StockTransform.{stock_transform}
 use Rattle.ts_stock.specs.declared.stock.State.{State as StockState}
 use Rattle.ts_thread.specs.Tags.{GroupFits, GroupsFit}
-use Rattle.ts_transform.specs.declared.transform.Transform as transform
 use Rattle.ts_txn.specs.World.{IsSoundTxn, IsTxnOf}
 use Rattle.ts_txn.specs.declared.txn.Txn.{Txn}
 use Rattle.ts_txn.specs.declared.txn.TxnTag.{TxnTag}
+use Rattle.ts_upstream.specs.InMemory.{memory_link}
 use Rattle.ts_upstream.specs.declared.upstream.Upstream as upstream
 
 -- its body goes through stock transforms
@@ -53,25 +50,12 @@ pub record IsTagOf (setup : Setup) (number : ℕ) (txn : TxnPieces) (started : B
 abbrev pub IsNewTagOf : Setup → ℕ → TxnPieces → RecordedTag → Type 0
 IsNewTagOf setup number txn tag = IsTagOf setup number txn false tag
 
--- a recorded side as a link
-abbrev pub recorded_link : link.Ghosts LinkState
-recorded_link = record { tells = true; look = look_of; goes = λ a b. ⊤ }
-
--- and as the link to an origin, which refuses no upload and has none left
+-- a recorded side as the link to an origin, which refuses no upload and has none left
 abbrev pub recorded_origin : upstream.Ghosts LinkState LinkState
 recorded_origin = record {
   paired = λ c o. ⊤;
   refuses = λ o list. false ≡ true;
   upload_left = λ c o. Some 0;
-}
-
--- a stock transform
-abbrev pub stock_transform : transform.Ghosts StockState TransformLine
-stock_transform = record {
-  rest = still_writes;
-  whole = whole_of;
-  pause = pause_of;
-  line_pause = pause_of_line;
 }
 
 -- the transaction is the one that the tag names
@@ -81,7 +65,7 @@ IsOfTag = IsTxnOf look_of look_of
 -- what is to hold of it holds, where these events are pending and this event number is next
 abbrev pub IsSoundWith : Recorded → List Pending → ℕ → List Named → Type 0
 IsSoundWith t pending next roles =
-    IsSoundTxn recorded_link recorded_link recorded_origin stock_transform t pending next roles
+    IsSoundTxn memory_link memory_link recorded_origin stock_transform t pending next roles
 
 -- and in a journal's state
 abbrev pub IsSoundRecorded : Recorded → State → List Named → Type 0

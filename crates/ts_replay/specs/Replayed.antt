@@ -11,14 +11,16 @@ use Rattle.ts_replay.specs.Numbered.{EachOf}
 use Rattle.ts_replay.specs.Recorded.{IsOfTag, HasLinesOnly, IsSoundRecorded, IsTagOf, RecordedGroup, RecordedTag}
 use Rattle.ts_replay.specs.Reports.{IsReport, IsSetupOf}
 use Rattle.ts_replay.specs.declared.report.Replayed.{Replayed}
-use Rattle.ts_txn.specs.Making.{end_of}
+use Rattle.ts_txn.specs.Making.{end_of_course}
 
--- a journal that is lawful and not held, with nothing pending
+-- A journal that is lawful from its base on and not held, with nothing pending: of the events that were set
+-- in it, before its base too, each was handled, cancelled or dropped.
 pub record IsFinal (j : Log) : Type 0 where
-  pub lawful : IsLawful j.base j.entries
-  pub state : j.state ≡ replay j.base j.entries
+  pub lawful : IsLawful j.base.state j.entries
+  pub state : j.state ≡ replay j.base.state j.entries
   pub given : j.state.held ≡ false
   pub none : j.state.pending ≡ []
+  pub closed : j.state.set_count ≡ j.state.handled_count + j.state.cancelled_count + j.state.dropped_count
 
 -- The transaction of this number has run in its group, until nothing of it was pending: it is the one that
 -- its tag names, which was started, and event numbers are left. The group began with no turn, and has had
@@ -29,7 +31,7 @@ pub record HasRunAs (setup : Setup) (number : ℕ) (txn : TxnPieces) (group : Re
   pub tag_is : IsTagOf setup number txn true tag
   pub fits : IsOfTag tag group.world
   pub sound : IsSoundRecorded group.world group.cx.log.state group.cx.roles
-  pub began : group.cx.log.base.turns ≡ 0
+  pub began : group.cx.log.base.made ≡ 0
   pub turned : 0 < group.cx.log.state.turns
   pub idle : group.cx.log.state.pending ≡ []
   pub given : group.cx.log.state.held ≡ false
@@ -38,7 +40,7 @@ pub record HasRunAs (setup : Setup) (number : ℕ) (txn : TxnPieces) (group : Re
 -- And it has ended, so that the report tells how, and the journal of its group is final.
 pub record IsReplayOf (setup : Setup) (number : ℕ) (txn : TxnPieces) (group : RecordedGroup) : Type 0 where
   pub ran : HasRunAs setup number txn group
-  pub ended : IsSomeAnd (end_of group.world.course) IsReported
+  pub ended : IsSomeAnd (end_of_course group.world.course) IsReported
   pub final : IsFinal group.cx.log
 
 -- what happened in a group

@@ -5,28 +5,28 @@ use Rattle.ts_config.specs.declared.setup.Setup.{Setup}
 use Rattle.ts_config.specs.declared.setup.TransformLine.{TransformLine}
 use Rattle.ts_record.specs.Grammar.{TxnPieces, IsRecording}
 use Rattle.ts_record.specs.Report.{report_text}
-use Rattle.ts_record.specs.declared.report.Block.{Block}
+use Rattle.ts_record.specs.declared.report.ReportBlock.{ReportBlock}
 use Rattle.ts_block.specs.Block.{IsBlock}
-use Rattle.ts_block.specs.declared.block.Block.{Block as TxnBlock}
+use Rattle.ts_block.specs.declared.block.Block.{Block}
 
 -- a block as a report shows it
-abbrev pub in_report : TxnBlock → Block
+abbrev pub in_report : Block → ReportBlock
 in_report b = record { request = b.request; end = b.end; head = b.head; content = b.body }
 
 -- What a report says of a transaction between two sides: the block of all that they give, each followed by
 -- its end.
-pub record IsShownOf (setup : Setup) (client origin : List ℕ) (b : Block) : Type 0 where
-  pub block : TxnBlock
+pub record IsShownOf (setup : Setup) (client origin : List ℕ) (b : ReportBlock) : Type 0 where
+  pub block : Block
   pub is_block : IsBlock setup true (false ≡ true) origin client block
   pub shows : b ≡ in_report block
 
 -- and of a recorded transaction
-abbrev pub IsTxnShown : Setup → TxnPieces → Block → Type 0
+abbrev pub IsTxnShown : Setup → TxnPieces → ReportBlock → Type 0
 IsTxnShown setup txn b = IsShownOf setup (concat txn.0) (concat txn.1) b
 
 -- THE REPORT on transactions under a setup
 pub record IsReport (setup : Setup) (txns : List TxnPieces) (text : List ℕ) : Type 0 where
-  pub blocks : List Block
+  pub blocks : List ReportBlock
   pub each : AllZip (IsTxnShown setup) txns blocks
   pub text_is : text ≡ report_text blocks
 

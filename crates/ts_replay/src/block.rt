@@ -6,8 +6,8 @@ ghost use Rattle.ts_record.specs.Report.{IsReported};
 ghost use Rattle.ts_replay.specs.Exchanged.{EndsBlank, HasTaken, IsLeftBetween, IsRunBetween, LeavesBlock};
 ghost use Rattle.ts_replay.specs.Reports.{IsShownOf, in_report};
 ghost use Rattle.ts_replay.specs.Unframing.{IsFramed};
-ghost use Rattle.ts_txn.specs.Making.{end_of};
-ghost use Rattle.ts_block.specs.declared.block.Block.{Block as TxnBlock};
+ghost use Rattle.ts_txn.specs.Making.{end_of_course};
+ghost use Rattle.ts_block.specs.declared.block.Block.{Block};
 ghost use Rattle.ts_wire.specs.Frames.{cut_body};
 
 use crate::framed::unframed;
@@ -15,7 +15,7 @@ use memchr::memmem;
 use std::alloc::Global;
 use ts_hooks::TxnEnd;
 use ts_link::{NoMemory, Octets};
-use ts_record::{Block, RecordedLink};
+use ts_record::{RecordedLink, ReportBlock};
 use ts_stock::Stock;
 use ts_txn::{Txn, TxnParts};
 
@@ -43,7 +43,7 @@ fn first_head(bytes: &[u8]) -> &[u8]
 // The head that the origin was sent. A recorded side moves no upload, but no clause of a transaction says so:
 // the request is cut at its empty line.
 fn request_of(alloc: Global, origin: &RecordedLink) -> Result<Octets, NoMemory>
-    ensures { (b : TxnBlock) → HasTaken origin.now b → IfOk result (λ request. request ≡ b.request) }
+    ensures { (b : Block) → HasTaken origin.now b → IfOk result (λ request. request ≡ b.request) }
 {
     Octets::copy_of(alloc, first_head(origin.written()))
 }
@@ -74,15 +74,15 @@ fn block_of(
     parts: &RecordedParts,
     origin: &RecordedLink,
     end: TxnEnd,
-) -> Result<Block, NoMemory>
-    requires block { (b : TxnBlock) × LeavesBlock parts.now origin.now end b }
-    ensures { (b : TxnBlock) → LeavesBlock parts.now origin.now end b → IfOk result (λ s. s ≡ in_report b) }
+) -> Result<ReportBlock, NoMemory>
+    requires block { (b : Block) × LeavesBlock parts.now origin.now end b }
+    ensures { (b : Block) → LeavesBlock parts.now origin.now end b → IfOk result (λ s. s ≡ in_report b) }
 {
     let request = request_of(alloc, origin)?;
     let (head, framed) = parts.client.written().split_at(parts.head as usize);
     let head = Octets::copy_of(alloc, head)?;
     let content = content_of(alloc, parts, end, framed)?;
-    Ok(Block {
+    Ok(ReportBlock {
         request,
         end,
         head,
@@ -91,7 +91,7 @@ fn block_of(
 }
 
 // What a transaction came to that left these parts.
-fn block_left(alloc: Global, parts: &RecordedParts) -> Result<Block, NoMemory>
+fn block_left(alloc: Global, parts: &RecordedParts) -> Result<ReportBlock, NoMemory>
     requires left { (setup : SetupOf) × (c : List ℕ) × (o : List ℕ) × IsLeftBetween setup c o parts.now }
     ensures shown { (setup : SetupOf) (c o : List ℕ) → IsLeftBetween setup c o parts.now
         → IfOk result (IsShownOf setup c o) }
@@ -112,11 +112,11 @@ fn block_left(alloc: Global, parts: &RecordedParts) -> Result<Block, NoMemory>
 
 /// What a transaction came to that was started, and of whose group nothing is pending. Where memory lacked
 /// for the transaction, it is lacking here.
-pub fn block_after(alloc: Global, txn: Recorded) -> Result<Block, NoMemory>
+pub fn block_after(alloc: Global, txn: Recorded) -> Result<ReportBlock, NoMemory>
     requires run { (setup : SetupOf) × (c : List ℕ) × (o : List ℕ) × IsRunBetween setup c o txn }
     ensures shown { (setup : SetupOf) (c o : List ℕ) → IsRunBetween setup c o txn
         → IfOk result (IsShownOf setup c o) }
-    ensures ended { IfOk result (λ b. end_of txn.course ≡ Some b.end) }
+    ensures ended { IfOk result (λ b. end_of_course txn.course ≡ Some b.end) }
     ensures reported { IfOk result (λ b. IsReported b.end) }
 {
     let parts = txn.into_parts();

@@ -36,6 +36,7 @@ pub fn report_on(alloc: Global, groups: Vec<Group<Recorded>>) -> Result<Replayed
         number += 1;
         let (txn, journal) = group.into_parts();
         journal.entries();
+        journal.known();
         let block = block_after(alloc, txn)?;
         add_block(&mut report, number, &block)?;
         journals.push(journal)?;

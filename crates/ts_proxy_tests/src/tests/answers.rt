@@ -2,15 +2,15 @@
 
 use super::check_all;
 use crate::recording::at_once;
-use crate::report::Came;
+use crate::report::StatedEnd;
 use crate::row::{Row, dripping, get, head};
 use crate::stated::{
-    ABC, BAD_GATEWAY, BAD_REQUEST, HOSTLESS, NOT_IMPLEMENTED, NOTHING, OwnAnswer, SIZED, unasked,
+    ABC, BAD_GATEWAY, BAD_REQUEST, HOSTLESS, NOT_IMPLEMENTED, NOTHING, SIZED, StatedAnswer, unasked,
 };
 use std::test::Fail;
 
 // A request that the proxy answers itself, without asking the origin.
-fn refused<'a>(client: &'a [u8], answer: &OwnAnswer<'a>) -> Row<'a> {
+fn refused<'a>(client: &'a [u8], answer: &StatedAnswer<'a>) -> Row<'a> {
     Row {
         config: b"",
         exchange: at_once(client, ABC),
@@ -20,7 +20,12 @@ fn refused<'a>(client: &'a [u8], answer: &OwnAnswer<'a>) -> Row<'a> {
 
 // A request whose origin gives no response that can be passed on.
 fn unanswered(origin: &[u8]) -> Row<'_> {
-    get(b"", origin, BAD_GATEWAY.head, Came::Whole(BAD_GATEWAY.body))
+    get(
+        b"",
+        origin,
+        BAD_GATEWAY.head,
+        StatedEnd::Whole(BAD_GATEWAY.body),
+    )
 }
 
 #[test]
@@ -88,7 +93,7 @@ fn fronts_of_a_response(rt: HostRuntime) -> Result<(), Fail> {
         let row = if length < 38 {
             unanswered(front)
         } else {
-            get(b"", front, SIZED, Came::Cut)
+            get(b"", front, SIZED, StatedEnd::Cut)
         };
         check_all(&rt, &[row])?;
     }

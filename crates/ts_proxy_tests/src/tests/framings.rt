@@ -2,7 +2,7 @@
 
 use super::check_all;
 use crate::recording::at_once;
-use crate::report::{Came, Stated};
+use crate::report::{Stated, StatedEnd};
 use crate::row::{Row, chunked, dripping, get, head};
 use crate::stated::{ABC, APPEND, BAD_CHUNKS, CHUNKED, CUT, LESS, PLAIN, SIZED};
 use std::test::Fail;
@@ -18,7 +18,7 @@ fn older<'a>(config: &'a [u8], got: &'a [u8], body: &'a [u8]) -> Row<'a> {
         stated: Stated {
             request: b"GET / HTTP/1.1\r\nhost: a\r\nvia: 1.0 tsx\r\nconnection: close\r\n\r\n",
             head: got,
-            came: Came::Whole(body),
+            came: StatedEnd::Whole(body),
         },
     }
 }
@@ -26,7 +26,7 @@ fn older<'a>(config: &'a [u8], got: &'a [u8], body: &'a [u8]) -> Row<'a> {
 #[test]
 fn bodies_are_framed(rt: HostRuntime) -> Result<(), Fail> {
     let rows = [
-        get(b"", ABC, SIZED, Came::Whole(b"abc")),
+        get(b"", ABC, SIZED, StatedEnd::Whole(b"abc")),
         chunked(b"", b"HTTP/1.1 200 OK\r\n\r\nabc", b"abc"),
         older(b"", SIZED, b"abc"),
         older(LESS, PLAIN, b"<abc"),
@@ -42,13 +42,13 @@ fn responses_without_a_body(rt: HostRuntime) -> Result<(), Fail> {
             b"",
             b"HTTP/1.1 204 No Content\r\nContent-Length: 5\r\n\r\n",
             b"HTTP/1.1 204 No Content\r\nvia: 1.1 tsx\r\nconnection: close\r\n\r\n",
-            Came::Whole(b""),
+            StatedEnd::Whole(b""),
         ),
         get(
             LESS,
             b"HTTP/1.1 304 Not Modified\r\nContent-Length: 5\r\n\r\n",
             b"HTTP/1.1 304 Not Modified\r\nvia: 1.1 tsx\r\ncontent-length: 5\r\nconnection: close\r\n\r\n",
-            Came::Whole(b""),
+            StatedEnd::Whole(b""),
         ),
         head(b"", ABC_HEAD, SIZED),
         head(LESS, ABC_HEAD, PLAIN),
@@ -65,19 +65,21 @@ fn responses_on_which_no_line_acts(rt: HostRuntime) -> Result<(), Fail> {
             LESS,
             b"HTTP/1.1 404 Not Found\r\nContent-Length: 3\r\n\r\nabc",
             b"HTTP/1.1 404 Not Found\r\nvia: 1.1 tsx\r\ncontent-length: 3\r\nconnection: close\r\n\r\n",
-            Came::Whole(b"abc"),
+            StatedEnd::Whole(b"abc"),
         ),
         get(
             LESS,
             b"HTTP/1.1 200 OK\r\nContent-Encoding: gzip\r\nContent-Length: 3\r\n\r\nabc",
-            b"HTTP/1.1 200 OK\r\ncontent-encoding: gzip\r\nvia: 1.1 tsx\r\ncontent-length: 3\r\nconnection: close\r\n\r\n",
-            Came::Whole(b"abc"),
+            b"HTTP/1.1 200 OK\r\ncontent-encoding: gzip\r\nvia: 1.1 tsx\r\ncontent-length: 3\r\n\
+connection: close\r\n\r\n",
+            StatedEnd::Whole(b"abc"),
         ),
         get(
             APPEND,
             b"HTTP/1.1 200 OK\r\nContent-Type: text/plain\r\nContent-Length: 3\r\n\r\nabc",
-            b"HTTP/1.1 200 OK\r\ncontent-type: text/plain\r\nvia: 1.1 tsx\r\ncontent-length: 3\r\nconnection: close\r\n\r\n",
-            Came::Whole(b"abc"),
+            b"HTTP/1.1 200 OK\r\ncontent-type: text/plain\r\nvia: 1.1 tsx\r\ncontent-length: 3\r\n\
+connection: close\r\n\r\n",
+            StatedEnd::Whole(b"abc"),
         ),
     ];
     check_all(&rt, &rows)
@@ -89,21 +91,23 @@ fn fields_that_are_not_passed_on(rt: HostRuntime) -> Result<(), Fail> {
     let rows = [
         get(
             b"",
-            b"HTTP/1.1 100 Continue\r\n\r\nHTTP/1.1 103 Early Hints\r\nLink: x\r\n\r\nHTTP/1.1 200 OK\r\nContent-Length: 3\r\n\r\nabc",
+            b"HTTP/1.1 100 Continue\r\n\r\nHTTP/1.1 103 Early Hints\r\nLink: x\r\n\r\n\
+HTTP/1.1 200 OK\r\nContent-Length: 3\r\n\r\nabc",
             SIZED,
-            Came::Whole(b"abc"),
+            StatedEnd::Whole(b"abc"),
         ),
         get(
             b"",
-            b"HTTP/1.1 200 OK\r\nConnection: x-a\r\nX-A: 1\r\nKeep-Alive: 5\r\nContent-Length: 3\r\nX-B: 2\r\n\r\nabc",
+            b"HTTP/1.1 200 OK\r\nConnection: x-a\r\nX-A: 1\r\nKeep-Alive: 5\r\nContent-Length: 3\r\n\
+X-B: 2\r\n\r\nabc",
             b"HTTP/1.1 200 OK\r\nx-b: 2\r\nvia: 1.1 tsx\r\ncontent-length: 3\r\nconnection: close\r\n\r\n",
-            Came::Whole(b"abc"),
+            StatedEnd::Whole(b"abc"),
         ),
         get(
             b"",
             b"HTTP/1.0 200 Fine\r\nContent-Length: 3\r\n\r\nabc",
             b"HTTP/1.1 200 Fine\r\nvia: 1.0 tsx\r\ncontent-length: 3\r\nconnection: close\r\n\r\n",
-            Came::Whole(b"abc"),
+            StatedEnd::Whole(b"abc"),
         ),
     ];
     check_all(&rt, &rows)?;
@@ -115,26 +119,26 @@ fn fields_that_are_not_passed_on(rt: HostRuntime) -> Result<(), Fail> {
 #[test]
 fn bodies_that_are_not_whole(rt: HostRuntime) -> Result<(), Fail> {
     let rows = [
-        get(LESS, CUT, CHUNKED, Came::Cut),
-        get(b"", CUT, SIZED, Came::Cut),
+        get(LESS, CUT, CHUNKED, StatedEnd::Cut),
+        get(b"", CUT, SIZED, StatedEnd::Cut),
         get(
             b"",
             b"HTTP/1.1 200 OK\r\nTransfer-Encoding: chunked\r\n\r\n3\r\nabc",
             CHUNKED,
-            Came::Cut,
+            StatedEnd::Cut,
         ),
         get(
             b"",
             b"HTTP/1.1 200 OK\r\nTransfer-Encoding: chunked\r\n\r\n3\r\nabcd",
             CHUNKED,
-            Came::Bad,
+            StatedEnd::Bad,
         ),
-        get(b"", BAD_CHUNKS, CHUNKED, Came::Bad),
+        get(b"", BAD_CHUNKS, CHUNKED, StatedEnd::Bad),
         get(
             b"",
             b"HTTP/1.1 200 OK\r\nContent-Length: 3\r\n\r\nabcd",
             SIZED,
-            Came::Whole(b"abc"),
+            StatedEnd::Whole(b"abc"),
         ),
     ];
     check_all(&rt, &rows)?;

@@ -1,6 +1,6 @@
 //! Recordings as large as they may be: in transactions, in bytes, and in the pieces of one body.
 
-use crate::command::{Left, ON_1, ON_4, ON_64, left_by, shelf_of, wide_sink};
+use crate::command::{ON_1, ON_4, ON_64, Remains, left_by, shelf_of, wide_sink};
 use crate::comparison::{Comparison, compare, done, stopped};
 use crate::recording::{MOST_PIECE, at_once, in_pieces, recording_of};
 use crate::report::report_of;
@@ -97,7 +97,7 @@ fn filled<R: Abort + Threads + Wait + Sync>(
     alloc: Global,
     body: &[u8],
     last: &[u8],
-) -> Result<Left, Fail> {
+) -> Result<Remains, Fail> {
     let (response, last_response) = (response_of(alloc, body)?, response_of(alloc, last)?);
     let mut exchanges = vec![in alloc; at_once(GET, response.as_slice()); EQUAL]?;
     exchanges.push(at_once(GET, last_response.as_slice()))?;

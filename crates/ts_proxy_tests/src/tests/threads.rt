@@ -6,7 +6,7 @@ use crate::command::{
 };
 use crate::comparison::{Comparison, compare, done};
 use crate::recording::{Exchange, at_once, in_pieces, recording_of};
-use crate::report::{Came, Stated, report_of};
+use crate::report::{Stated, StatedEnd, report_of};
 use crate::row::check_with;
 use crate::seats::first_seat;
 use crate::stated::{
@@ -39,11 +39,11 @@ fn of_mixed() -> [Stated<'static>; 8] {
         in_chunks(b"<abc"),
         NOTHING,
         paged(b"<<p>hello</p>\n"),
-        passed(BAD_GATEWAY.head, Came::Whole(BAD_GATEWAY.body)),
+        passed(BAD_GATEWAY.head, StatedEnd::Whole(BAD_GATEWAY.body)),
         in_chunks(b"<abc"),
         unasked(&BAD_REQUEST),
-        passed(CHUNKED, Came::Cut),
-        passed(CHUNKED, Came::Bad),
+        passed(CHUNKED, StatedEnd::Cut),
+        passed(CHUNKED, StatedEnd::Bad),
     ]
 }
 

@@ -1,6 +1,6 @@
 //! `transform`: what becomes of a body, which lines are refused, and how each trouble ends.
 
-use crate::command::{Left, TRANSFORM, USAGE, failing_sink, left_by, left_in, wide_sink};
+use crate::command::{Remains, TRANSFORM, USAGE, failing_sink, left_by, left_in, wide_sink};
 use crate::comparison::{Comparison, Wanted, compare, done, stopped};
 use std::alloc::Global;
 use std::process::Abort;
@@ -156,7 +156,7 @@ fn left_in_trouble<R: Threads + Wait + Sync>(
     rt: &R,
     alloc: Global,
     trouble: &Trouble<'_>,
-) -> Result<Left, NoMemory> {
+) -> Result<Remains, NoMemory> {
     let mut shelf = shelf_with(alloc, b"append_transform.so tail.txt", "tail.txt", b"XY")?;
     shelf.add("b", b"abc")?;
     shelf.fail_at(trouble.unread)?;
@@ -237,7 +237,7 @@ fn left_of_nulls<R: Threads + Wait + Sync>(
     lines: usize,
     body: &[u8],
     take: usize,
-) -> Result<Left, NoMemory> {
+) -> Result<Remains, NoMemory> {
     let mut config: Vec<u8> = Vec::new(alloc);
     for _ in 0..lines {
         config.extend_from_slice(b"null_transform.so\n")?;
@@ -248,7 +248,7 @@ fn left_of_nulls<R: Threads + Wait + Sync>(
 }
 
 // The turns and the handled events of the first of its journals.
-fn counts_of(left: &Left) -> Option<(u64, u64)> {
+fn counts_of(left: &Remains) -> Option<(u64, u64)> {
     let journal = left.journals.first()?;
     Some((journal.turns(), journal.counts().handled))
 }

@@ -3,7 +3,9 @@ use Rattle.std.proofs.Common.{◌≡◌, ◌≤◌, length, refl, ◌∙◌, ari
 use Rattle.ts_record.specs.declared.recording.TheConstants.{MOST_TXNS}
 use Rattle.ts_replay.specs.declared.running.TheConstants.{BUDGET}
 use Rattle.ts_txn.proofs.Telling.{mem_tells}
-use Rattle.ts_replay.specs.Recorded.{recorded_link, recorded_origin, stock_transform}
+use Rattle.ts_replay.specs.Recorded.{recorded_origin}
+use Rattle.ts_stock.specs.StockTransform.{stock_transform}
+use Rattle.ts_upstream.specs.InMemory.{memory_link}
 use Rattle.ts_replay.proofs.Ended.{row_ran}
 use Rattle.ts_replay.proofs.Plans.{numbers_left, some_of, turns_few}
 use Rattle.ts_replay.proofs.Rows.{row_asks, row_starts}
@@ -34,7 +36,7 @@ run_whole-requires-clause-run g c κs within =
 
 pub run_whole-requires-clause-tells : goal.run_whole-requires-clause-tells
 run_whole-requires-clause-tells g c κs within = λ k d low h fits.
-    mem_tells recorded_link recorded_link recorded_origin stock_transform
+    mem_tells memory_link memory_link recorded_origin stock_transform
     (record { told = refl; also = refl; client_look = refl; origin_look = refl; uploads = refl })
     h.world.core h.world.course h.cx.log.state.pending
 
