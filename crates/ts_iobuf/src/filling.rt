@@ -12,8 +12,12 @@ use std::collections::VecDeque;
 use std::mem;
 use ts_link::NoMemory;
 
-// The room of the first block of a store.
-const LEAST_ROOM: usize = 4_096;
+/// The room of the first block that is lent to be filled in place: what a link gives at a read is long.
+pub const LEAST_LENT: usize = 4_096;
+
+/// The room of the first block that a write begins: small bodies and heads are short, and each line of a
+/// chain has a buffer of its own.
+pub const LEAST_WRITTEN: usize = 256;
 
 /// The room of a block in filling at most.
 pub const MOST_ROOM: usize = 32_768;
@@ -91,12 +95,13 @@ pub fn block_of(alloc: Global, room: usize, parts: &[&[u8]]) -> Result<Vec<u8>, 
     Ok(block)
 }
 
-/// The room of the block that comes after one of this room: it doubles from block to block, so that what is
-/// short takes little memory, and what is long few reads.
-pub fn next_room(room: usize) -> usize
-    ensures { (LEAST_ROOM ≤ result) × (result ≤ MOST_ROOM) }
+/// The room of the block that comes after one of this room, of at least so many bytes: it doubles from block
+/// to block, so that what is short takes little memory, and what is long few reads.
+pub fn next_room(room: usize, least: usize) -> usize
+    requires { least ≤ MOST_ROOM }
+    ensures { (least ≤ result) × (result ≤ MOST_ROOM) }
 {
-    room.saturating_mul(2).max(LEAST_ROOM).min(MOST_ROOM)
+    room.saturating_mul(2).max(least).min(MOST_ROOM)
 }
 
 /// Lengthens a block with free bytes to its whole room. Answers whether there were any.

@@ -7,7 +7,7 @@ mod behind;
 
 use crate::blocks::{block_at, copy_out, pass, push, share};
 use crate::filling::{
-    MOST_ROOM, block_of, bytes_between, front_from, joined_len, next_room, put_parts, seal, widen,
+    LEAST_LENT, LEAST_WRITTEN, MOST_ROOM, block_of, bytes_between, front_from, joined_len, next_room, put_parts, seal, widen,
 };
 use bytes::Bytes;
 use std::alloc::Global;
@@ -178,7 +178,7 @@ impl Store {
             self.filled = self.filling.len();
             return Ok(());
         }
-        let room = next_room(self.last_room);
+        let room = next_room(self.last_room, LEAST_WRITTEN);
         let block = block_of(self.alloc, room.max(count), parts)?;
         if count < room {
             return self.begin(block, count);
@@ -297,7 +297,7 @@ impl Store {
         if self.filled < self.filling.len() || widen(&mut self.filling) {
             return Ok(self.filling.len() - self.filled);
         }
-        let room = next_room(self.last_room);
+        let room = next_room(self.last_room, LEAST_LENT);
         let block = vec![in self.alloc; 0; room]?;
         self.begin(block, 0)?;
         Ok(room)

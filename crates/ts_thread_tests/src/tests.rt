@@ -212,7 +212,8 @@ fn a_token_is_used_once(rt: HostRuntime) -> Result<(), Fail> {
 }
 
 // Peer 1 does a step and sets its second event, which is due a millisecond later. Of its two tokens one is
-// taken too early.
+// taken too early. Peer 0's second event is due at once, so the thread goes on with it before the tokens of the
+// queue, of which two name events that were handled then.
 #[test]
 fn an_event_waits_until_it_is_due(rt: HostRuntime) -> Result<(), Fail> {
     let tokens = [token(0, 2), token(0, 1), token(1, 2)];
@@ -225,8 +226,8 @@ fn an_event_waits_until_it_is_due(rt: HostRuntime) -> Result<(), Fail> {
             RAN,
             RAN,
             Did::Stale,
-            Did::NotDue { due: 1 },
             Did::Stale,
+            Did::NotDue { due: 1 },
             RAN,
             Did::Stale,
             Did::Idle,

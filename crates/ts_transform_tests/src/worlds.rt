@@ -7,6 +7,7 @@ use std::alloc::Global;
 use std::test::Fail;
 use ts_group::{Group, Handling};
 use ts_journal::{ContKey, Event};
+use ts_link::NoMemory;
 use ts_transform::ChainWorld;
 
 // More turns than any of the runs takes.
@@ -117,20 +118,34 @@ fn abort(group: &mut Tails)
     group.world_mut().abort();
 }
 
-// Whether a run that ended still ran, with nothing lost, all given or not, and this text waiting for the
-// client or none.
-fn has_run(group: &Tails, is_finished: bool, text: Option<&[u8]>) -> bool {
+// Whether a run that ended still ran, with nothing lost, and all given or not.
+fn has_run(group: &Tails, is_finished: bool) -> bool {
     let world = group.world();
-    let chain = world.chain();
-    world.is_running()
-        && world.lost().is_none()
-        && chain.is_finished() == is_finished
-        && chain.out_block() == text
+    world.is_running() && world.lost().is_none() && world.chain().is_finished() == is_finished
 }
 
-// Whether a chain of two tails runs to its end, whose first stage or second is called twice with an event
-// after the first turn.
-fn runs_with(group: &mut Tails, role: usize, event: Event) -> Result<bool, Fail>
+// All that waits for the client, which takes it.
+fn drained(alloc: Global, group: &mut Tails) -> Result<Vec<u8>, NoMemory> {
+    let mut out = Vec::new(alloc);
+    for _ in 0..TURNS {
+        let Some(block) = group.world().chain().out_block() else {
+            break;
+        };
+        let count = block.len();
+        out.extend_from_slice(block)?;
+        group.world_mut().take(count);
+    }
+    Ok(out)
+}
+
+// What a chain of two tails gives that runs to its end, whose first stage or second is called twice with an
+// event after the first turn; `None` where it did not run to its end.
+fn given_with(
+    alloc: Global,
+    group: &mut Tails,
+    role: usize,
+    event: Event,
+) -> Result<Option<Vec<u8>>, Fail>
     requires idle { group.old.cx.log.state.held ≡ false }
     requires sound { IsSoundGroup group.old }
 {
@@ -142,7 +157,11 @@ fn runs_with(group: &mut Tails, role: usize, event: Event) -> Result<bool, Fail>
     tell(group, key, event)?;
     tell(group, key, event)?;
     run(group, TURNS)?;
-    Ok(has_run(group, false, Some(b"abc11".as_slice())))
+    if !has_run(group, false) {
+        return Ok(None);
+    }
+    let given = drained(alloc, group)?;
+    Ok(Some(given))
 }
 
 // Whether a chain gives nothing that is aborted after the first turn, and runs to its end.
@@ -154,7 +173,7 @@ fn runs_aborted(group: &mut Tails) -> Result<bool, Fail>
     run(group, 1)?;
     abort(group);
     run(group, TURNS)?;
-    Ok(has_run(group, true, None))
+    Ok(has_run(group, true) && group.world().chain().out_block().is_none())
 }
 
 #[test]
@@ -174,7 +193,8 @@ fn no_event_of_any_kind_ends_the_run(rt: HostRuntime) -> Result<(), Fail> {
     for event in events {
         for role in 1..3 {
             let mut group = make_two(rt.alloc())?;
-            assert!(rt; runs_with(&mut group, role, event)?);
+            let given = given_with(rt.alloc(), &mut group, role, event)?;
+            assert!(rt; given.as_ref().map(|g| g.as_slice()) == Some(b"abc11".as_slice()));
         }
     }
     Ok(())

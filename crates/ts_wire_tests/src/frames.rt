@@ -20,16 +20,16 @@ fn framed(alloc: Global, piece: &[u8]) -> Result<Octets, NoMemory>
     frame_piece(Mode::Plain, b"-", &mut out)?;
     frame_end(Mode::Plain, &mut out)?;
     frame_end(Mode::Chunked, &mut out)?;
-    Octets::copy_of(alloc, first_block(&out, reader))
+    waiting(alloc, &out, reader)
 }
 
-/// The first block that waits for the reader.
-fn first_block(out: &IoBuffer, reader: ReaderId) -> &[u8] {
+/// All that waits for the reader.
+fn waiting(alloc: Global, out: &IoBuffer, reader: ReaderId) -> Result<Octets, NoMemory> {
+    let mut bytes = Vec::new(alloc);
     if out.is_reader(reader) {
-        out.block(reader, 0).unwrap_or(b"")
-    } else {
-        b""
+        out.copy_out(reader, usize::MAX, &mut bytes)?;
     }
+    Ok(Octets::of_vec(bytes))
 }
 
 /// How many bytes a piece has, and the line that is to stand before it.
