@@ -7,7 +7,8 @@ mod behind;
 
 use crate::blocks::{block_at, copy_out, pass, push, share};
 use crate::filling::{
-    LEAST_LENT, LEAST_WRITTEN, MOST_ROOM, block_of, bytes_between, front_from, joined_len, next_room, put_parts, seal, widen,
+    LEAST_LENT, LEAST_WRITTEN, MOST_ROOM, block_of, bytes_between, front_from, joined_len,
+    next_room, put_parts, seal, widen,
 };
 use bytes::Bytes;
 use std::alloc::Global;

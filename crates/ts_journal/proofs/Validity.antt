@@ -69,15 +69,7 @@ valid_after s (Made key) v (held, low, free, next, fits) = record {
   fits = v.fits;
 }
 valid_after s (Set number key event due series period) v a =
-    let p : Pending = record {
-      number = number;
-      key = key;
-      event = event;
-      due = due;
-      series = series;
-      period =
-          period;
-    } in
+    let p : Pending = record { number = number; key = key; event = event; due = due; series = series; period = period } in
     record {
       rises = rises_push 0 s.pending s.next p a.1 v.rises;
       alive = alive_push s.live s.pending p v.alive a.3;

@@ -43,14 +43,9 @@ after s (Gave turn) = record s { held = false }
 after s (Made key) = record s { live = s.live ++ key ∷ []; newest = with_key key s.newest }
 after s (Set number key event due series period) = record s {
   next = s.next + 1;
-  pending = s.pending ++ record {
-    number = number;
-    key = key;
-    event = event;
-    due = due;
-    series = series;
-    period = period;
-  } ∷ [];
+  pending =
+      s.pending
+      ++ record { number = number; key = key; event = event; due = due; series = series; period = period } ∷ [];
   set_count = s.set_count + 1;
 }
 after s (Handled number moment) = record s {

@@ -126,7 +126,8 @@ impl MemLink {
         self.waits
     }
 
-    /// What holds of every link in memory: what it gave and what it may still give are all that it was made with.
+    /// What holds of every link in memory: what it gave and what it may still give are all that it was made
+    /// with.
     pub fn known(&self)
         ensures { all_of (look_of self.now) ≡ (look_of self.now).source }
     {

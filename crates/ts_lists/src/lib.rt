@@ -1,2 +1,3 @@
-//! Lemmas on lists, options and results that several crates cite: fronts, places, elements, lists side by side.
+//! Lemmas on lists, options and results that several crates cite: fronts, places, elements, lists side by
+//! side.
 #![tactic(auto)]

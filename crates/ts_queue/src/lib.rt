@@ -1,5 +1,5 @@
-//! The event queue that the event threads share: each thread has a pass, puts tokens and takes tickets, without
-//! a lock. Traffic Server's Developer's Guide calls the events that wait for a thread its event queue.
+//! The event queue that the event threads share: each thread has a pass, puts tokens and takes tickets,
+//! without a lock. Traffic Server's Developer's Guide calls the events that wait for a thread its event queue.
 #![tactic(auto)]
 
 mod queue;

@@ -17,7 +17,8 @@ pub struct EventQueue {
     line: RuledSegQueue<Ticket, PassView, EachTicketOnce>,
 }
 
-/// What one thread has of a queue. A pass that is dropped takes its share with it: join it to another instead.
+/// What one thread has of a queue. A pass that is dropped takes its share with it: join it to another
+/// instead.
 #[derive(Drop)]
 pub struct QueuePass {
     seat: SegPass<Ticket, PassView>,
@@ -86,7 +87,8 @@ impl EventQueue {
         requires free { (pass_view pass.old).free_from < (pass_view pass.old).free_to }
         ensures pass { IsPassOf self.now pass.new × (empties_of pass.new ≡ empties_of pass.old) }
         ensures kept { OnOk result (pass_view pass.new ≡ kept_part (pass_view pass.old)) }
-        ensures split { IfOk result (λ new. IsPassOf self.now new × (pass_view new ≡ split_part (pass_view pass.old))) }
+        ensures split { IfOk result (λ new. IsPassOf self.now new
+            × (pass_view new ≡ split_part (pass_view pass.old))) }
         ensures empties { IfOk result (λ new. empties_of new ≡ 0) }
         ensures err { OnErr result (pass_view pass.new ≡ pass_view pass.old) }
     {
@@ -118,8 +120,8 @@ impl EventQueue {
         self.line.absorb::<JoinStep>(&mut into.seat, seat);
     }
 
-    /// Puts a token at the back, in a ticket with this pass's number and its next serial. Want of memory comes after
-    /// nearly 2^62 puts too.
+    /// Puts a token at the back, in a ticket with this pass's number and its next serial. Want of memory comes
+    /// after nearly 2^62 puts too.
     pub fn put<R: Wait>(&self, rt: &R, pass: &mut QueuePass, token: Token) -> Result<(), NoMemory>
         requires pass { IsPassOf self.now pass.old }
         requires serial { (pass_view pass.old).serial < u64.MAX }
@@ -142,8 +144,8 @@ impl EventQueue {
         }
     }
 
-    /// Takes the ticket at the front. `None` comes only where the queue was empty at one moment of the call. The call
-    /// takes no memory.
+    /// Takes the ticket at the front. `None` comes only where the queue was empty at one moment of the call. The
+    /// call takes no memory.
     pub fn take<R: Wait>(&self, rt: &R, pass: &mut QueuePass) -> Option<Ticket>
         requires { IsPassOf self.now pass.old }
         ensures pass { IsPassOf self.now pass.new }

@@ -13,7 +13,8 @@ pub struct PassView {
     pub serial: u64,
     /// Its number and those of the passes that were joined to it.
     pub names: LinkedList<u64>,
-    /// The numbers from `free_from` up to `free_to` are free. A pass that is split off gets the first of them.
+    /// The numbers from `free_from` up to `free_to` are free. A pass that is split off gets the first of
+    /// them.
     pub free_from: u64,
     pub free_to: u64,
     /// What it put, the last first, and what the passes put that were joined to it.

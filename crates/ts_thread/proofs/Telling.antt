@@ -113,8 +113,8 @@ module _ {X G T : Type 0} {d : Ghosts X G T} where
   keeps_refl : (desk : Desk X G T d) → KeepsPlaces desk desk
   keeps_refl desk = record { wheel = λ e h. h; put = λ t h. h; taken = refl }
 
-  keeps_place : {telling : Telling} (a b : Desk X G T d) (token : Token) (due moment : ℕ) → Places telling token due moment a b
-      → KeepsPlaces a b
+  keeps_place : {telling : Telling} (a b : Desk X G T d) (token : Token) (due moment : ℕ)
+      → Places telling token due moment a b → KeepsPlaces a b
   keeps_place a b token due moment (inl puts) = record {
     wheel = λ e h. subst (IsIn e) (sym puts.wheel) h;
     put = λ t h. subst (λ (v : PassView). HasTicket t v.put) (sym puts.pass)
@@ -187,14 +187,14 @@ module _ {X G T : Type 0} {d : Ghosts X G T} where
       (λ (v : PassView). in_tickets t v.put) adds.pass in
       let c = wheel-added t due token a.wheel in omega arith
 
-  share_place : {telling : Telling} (a b : Desk X G T d) (token : Token) (due moment : ℕ) → Places telling token due moment a b
-      → SharesSame a b
+  share_place : {telling : Telling} (a b : Desk X G T d) (token : Token) (due moment : ℕ)
+      → Places telling token due moment a b → SharesSame a b
   share_place a b token due moment (inl puts) = ap (λ (v : PassView). v.share) puts.pass
   share_place a b token due moment (inr adds) = ap (λ (v : PassView). v.share) adds.pass
 
   -- a desk stays one of its tables when a token of one of the groups gets a place
-  pub desk_place : {telling : Telling} (slots : Slots X G T) (queue : EventQueue) (a b : Desk X G T d) (token : Token)
-      (due moment : ℕ) → IsDeskOf slots queue a → token.group < length (tags_of slots)
+  pub desk_place : {telling : Telling} (slots : Slots X G T) (queue : EventQueue) (a b : Desk X G T d)
+      (token : Token) (due moment : ℕ) → IsDeskOf slots queue a → token.group < length (tags_of slots)
       → IsPassOf queue b.pass → b.seat ≡ a.seat → Places telling token due moment a b → IsDeskOf slots queue b
   desk_place slots queue a b token due moment was names pass seat (inl puts) = record {
     seat = subst (IsSeatOf slots) (sym seat) was.seat;

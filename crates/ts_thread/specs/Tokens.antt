@@ -15,9 +15,9 @@ use Rattle.ts_thread.specs.declared.desk.Desk.{Desk}
 use Rattle.ts_thread.specs.declared.desk.Telling.{Telling}
 use Rattle.ts_thread.specs.declared.desk.Telling.TheVariants as telling
 
--- Whether a token that is due goes through the queue: all that a group's start tells, so that the threads share
--- the groups; and of later turns one of so many event numbers of a group, so that what waits in the queue is
--- always taken.
+-- Whether a token that is due goes through the queue: all that a group's start tells, so that the threads
+-- share the groups; and of later turns one of so many event numbers of a group, so that what waits in the
+-- queue is always taken.
 abbrev pub is_shared : Telling → ℕ → Bool
 is_shared telling.Start number = true
 is_shared telling.Turn number = number % SHARED_EVERY == 1

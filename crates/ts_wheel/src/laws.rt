@@ -9,8 +9,8 @@ pub fn adds_in_order<T>(_of: PhantomData<T>)
     ensures { AddsInOrder T }
 {}
 
-/// Whatever was added in whatever order: a wheel gives the due token with the least pair of due moment and order
-/// of adding, and what it leaves is all the rest, in order.
+/// Whatever was added in whatever order: a wheel gives the due token with the least pair of due moment and
+/// order of adding, and what it leaves is all the rest, in order.
 pub fn takes_the_due<T>(_of: PhantomData<T>)
     ensures { TakesTheDue T }
 {}

@@ -1,6 +1,6 @@
 //! Timers. A wheel has tokens with due moments in milliseconds, and gives the first of those that are due.
-//! Traffic Server's Developer's Guide schedules an event for a continuation in so many milliseconds, and an event thread
-//! keeps such events in a wheel.
+//! Traffic Server's Developer's Guide schedules an event for a continuation in so many milliseconds, and an
+//! event thread keeps such events in a wheel.
 #![tactic(auto)]
 
 mod lap;

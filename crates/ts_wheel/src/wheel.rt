@@ -11,8 +11,8 @@ use std::alloc::Global;
 use std::marker::Model;
 use ts_link::NoMemory;
 
-/// Tokens with due moments in milliseconds, of which `take_due` takes the first that is due. A clause sees the list
-/// of its tokens with their due moments, in the order in which they come due.
+/// Tokens with due moments in milliseconds, of which `take_due` takes the first that is due. A clause sees the
+/// list of its tokens with their due moments, in the order in which they come due.
 #[derive(Drop)]
 pub struct Wheel<T> {
     past: Rows<T>,
@@ -42,7 +42,8 @@ fn add_to<T: Copy>(
     ensures parted { IsParted past.new lap.new later.new }
     ensures ok { OnOk result
         (all_tokens past.new lap.new later.new ≡ added due token (all_tokens past.old lap.old later.old)) }
-    ensures err { OnErr result (all_tokens past.new lap.new later.new ≡ all_tokens past.old lap.old later.old) }
+    ensures err { OnErr result
+        (all_tokens past.new lap.new later.new ≡ all_tokens past.old lap.old later.old) }
 {
     let start = lap.start();
     if due < start {
@@ -54,8 +55,8 @@ fn add_to<T: Copy>(
     }
 }
 
-// Moves a lap without tokens on to the first token after it, if that is due, and fills it with the rows that are
-// due within it.
+// Moves a lap without tokens on to the first token after it, if that is due, and fills it with the rows that
+// are due within it.
 fn turn<T: Copy>(lap: &mut LapRows<T>, later: &mut Rows<T>, now: u64)
     requires parted { IsParted [] lap.old later.old }
     requires empty { lap.old.tokens ≡ [] }
@@ -98,7 +99,8 @@ fn take_from<T: Copy>(
     requires { IsParted past.old lap.old later.old }
     ensures parted { IsParted past.new lap.new later.new }
     ensures token { result ≡ first_due now (all_tokens past.old lap.old later.old) }
-    ensures rest { all_tokens past.new lap.new later.new ≡ after_due now (all_tokens past.old lap.old later.old) }
+    ensures rest { all_tokens past.new lap.new later.new
+        ≡ after_due now (all_tokens past.old lap.old later.old) }
 {
     if past.is_empty() {
         return take_in_lap(lap, later, now);

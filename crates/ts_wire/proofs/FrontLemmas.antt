@@ -110,7 +110,8 @@ module _ {H : Type 0} {Good : H → Type 0} {print : H → List ℕ} {lines : H 
       record { lacks = overflows bytes front is over; why = inr (subst (Exceeds field_limit) is exceeds) }
 
   -- what is lacking whatever follows is lacking now
-  pub lacks_now : (bytes : List ℕ) → ((more : List ℕ) → LacksHead (BeginsWith Good print lines) (bytes ++ more))
+  pub lacks_now : (bytes : List ℕ)
+      → ((more : List ℕ) → LacksHead (BeginsWith Good print lines) (bytes ++ more))
       → LacksHead (BeginsWith Good print lines) bytes
   lacks_now bytes lacks = subst (LacksHead (BeginsWith Good print lines)) (append-nil bytes) (lacks [])
 
