@@ -7,9 +7,9 @@ use Rattle.ts_journal.specs.declared.entry.Pending.{Pending}
 use Rattle.ts_journal.specs.declared.entry.Entry.{Entry}
 use Rattle.ts_journal.specs.declared.entry.Entry.TheVariants.{Took, Gave, Made, Set, Handled, Cancelled, Dropped, Destroyed}
 use Rattle.ts_journal.specs.State.{State, fresh, fresh_with, pending_at}
-use Rattle.ts_journal.specs.Machine.{Allowed, MayBelong, after, IsLawful, replay, IsValid, IsReached, Balances}
+use Rattle.ts_journal.specs.Machine.{Allowed, MayBelong, after, IsLawful, replay, IsValid, HasLived, IsReached, Balances}
 use Rattle.ts_journal.proofs.Keys.{newest_more, newest_less}
-use Rattle.ts_journal.proofs.Lawful.{replay-append, lawful_push}
+use Rattle.ts_journal.proofs.Lawful.{replay-append, lawful_append, lawful_push}
 use Rattle.ts_journal.proofs.Events.{rises_push, rises_without, length_without, alive_less, alive_push, alive_more, alive_destroyed, begun_push, begun_without}
 
 -- what closes an event keeps the sum of the counts
@@ -178,3 +178,28 @@ reached_push base es fs e s t r a f g =
       valid_base = r.valid_base;
       valid = subst (λ x. IsValid x) (sym g) (valid_after s e r.valid a);
     }
+
+-- ---- a whole life
+
+pub lived_fresh : (s : State) (turns : ℕ) → s ≡ fresh turns → HasLived turns s
+lived_fresh s turns e = record { beginning = s; is_beginning = inl e; life = []; lawful = tt; state = refl }
+
+pub lived_fresh_with : (s : State) (turns : ℕ) (key : ContKey) → s ≡ fresh_with turns key → HasLived turns s
+lived_fresh_with s turns key e = record {
+  beginning = s;
+  is_beginning = inr (key, e);
+  life = [];
+  lawful = tt;
+  state = refl;
+}
+
+-- what lawful entries lead to has lived too
+pub lived_on : (made : ℕ) (base s : State) (es : List Entry) → HasLived made base → IsReached base es s
+    → HasLived made s
+lived_on made base s es h r = record {
+  beginning = h.beginning;
+  is_beginning = h.is_beginning;
+  life = h.life ++ es;
+  lawful = lawful_append h.beginning h.life es h.lawful (subst (λ x. IsLawful x es) h.state r.lawful);
+  state = r.state ∙ ap (λ x. replay x es) h.state ∙ sym (replay-append h.beginning h.life es);
+}

@@ -6,7 +6,7 @@ use Rattle.ts_journal.specs.declared.entry.Pending.{Pending}
 use Rattle.ts_journal.specs.declared.entry.Latest.{Latest}
 use Rattle.ts_journal.specs.declared.entry.Entry.{Entry}
 use Rattle.ts_journal.specs.declared.entry.Entry.TheVariants.{Took, Gave, Made, Set, Handled, Cancelled, Dropped, Destroyed}
-use Rattle.ts_journal.specs.State.{State, pending_at, without, generation_at, without_index, with_key, IsLive, numbers_of, latest_of, latest_at}
+use Rattle.ts_journal.specs.State.{State, fresh, fresh_with, pending_at, without, generation_at, without_index, with_key, IsLive, numbers_of, latest_of, latest_at}
 
 -- an event of this series is pending
 abbrev pub HasSeries : Latest → List Pending → Type 0
@@ -181,3 +181,16 @@ pub record IsReached (base : State) (entries : List Entry) (s : State) : Type 0 
   pub state : s ≡ replay base entries
   pub valid_base : IsValid base
   pub valid : IsValid s
+
+-- where a journal begins that is made with so many turns: with no key, or with one that is live
+abbrev pub IsBeginning : ℕ → State → Type 0
+IsBeginning turns s = (s ≡ fresh turns) ⊎ ((key : ContKey) × (s ≡ fresh_with turns key))
+
+-- A state is what a whole life led to: entries, each allowed where it stood, from where a journal begins that
+-- is made with so many turns. So its counts are those of the whole life, however much of it is kept.
+pub record HasLived (made : ℕ) (s : State) : Type 0 where
+  pub beginning : State
+  pub is_beginning : IsBeginning made beginning
+  pub life : List Entry
+  pub lawful : IsLawful beginning life
+  pub state : s ≡ replay beginning life

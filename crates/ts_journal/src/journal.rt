@@ -1,8 +1,8 @@
 //! The journal of a mutex group: its entries, and the state that they lead to.
 
-ghost use Rattle.std.specs.Prelude.{◌≡◌, ◌+◌, ◌<◌, ◌≤◌, [], ◌∷◌, IfSome, IfOk, OnOk, IsTrue, ◌↔◌};
+ghost use Rattle.std.specs.Prelude.{◌≡◌, ◌+◌, ◌<◌, ◌≤◌, [], ◌∷◌, length, IfSome, IfOk, OnOk, IsTrue, ◌↔◌};
 ghost use Rattle.ts_journal.specs.State.{fresh, fresh_with, pending_at, generation_at, IsLive};
-ghost use Rattle.ts_journal.specs.Machine.{Allowed, after, IsLawful, IsValid, IsKnown, replay};
+ghost use Rattle.ts_journal.specs.Machine.{Allowed, after, HasLived, IsLawful, IsValid, IsKnown, replay};
 ghost use Rattle.ts_journal.specs.Log.{Extends, Folds, IsSameLog, HasRoom, HasRoomFor, KeepsRoom, new_base, mark_after, set_places, key_places};
 ghost use Rattle.ts_journal.specs.Tally.{counts_of};
 
@@ -43,7 +43,7 @@ impl Model for Journal {
 
     ghost Value = { Log };
 
-    ghost use Rattle.ts_journal.specs.Machine.{IsReached};
+    ghost use Rattle.ts_journal.specs.Machine.{HasLived, IsReached};
     ghost use Rattle.ts_journal.specs.Tables.{CanHold, state_in, set_room_over, key_room_over};
 
     ghost view = { λ j. record {
@@ -56,12 +56,12 @@ impl Model for Journal {
     } };
 
     ghost invariant = { λ j. IsReached (state_in j.base) j.entries.items (state_in j.tables)
-        × CanHold j.base j.tables };
+        × CanHold j.base j.tables × HasLived j.made (state_in j.base) };
 }
 
 impl Journal {
     /// The journal of a group that has made so many turns elsewhere, and nothing else.
-    #[tactic(auto, using(crate::proofs::Validity::reached_fresh))]
+    #[tactic(auto, using(crate::proofs::Validity::reached_fresh, crate::proofs::Validity::lived_fresh))]
     pub fn make(alloc: Global, turns: u64) -> Result<Journal, NoMemory>
         ensures base { IfOk result (λ j. (j.base ≡ new_base (fresh turns)) × (j.state ≡ fresh turns)) }
         ensures entries { IfOk result (λ j. j.entries ≡ []) }
@@ -76,7 +76,7 @@ impl Journal {
     }
 
     /// The journal of such a group that has one key, which is live.
-    #[tactic(auto, using(crate::proofs::Validity::reached_fresh_with))]
+    #[tactic(auto, using(crate::proofs::Validity::reached_fresh_with, crate::proofs::Validity::lived_fresh_with))]
     pub fn with_key(alloc: Global, turns: u64, key: ContKey) -> Result<Journal, NoMemory>
         requires { key.index < MOST_KEYS }
         ensures base { IfOk result (λ j. j.base ≡ new_base (fresh_with turns key)) }
@@ -119,10 +119,12 @@ impl Journal {
 
     /// Moves all entries into the base, which keeps what is pending, the series of the event handled last,
     /// what is live, the counts, and the turn that was taken last. It takes no memory, since `reserve` makes
-    /// the room for it.
+    /// the room for it; and it gives the room of the entries back.
+    #[tactic(auto, using(crate::proofs::Validity::lived_on))]
     pub fn fold(&mut self)
         ensures folds { Folds self.old self.new }
         ensures room { KeepsRoom self.old self.new }
+        ensures given { self.new.room ≡ self.old.room + length self.old.entries }
     {
         self.mark = last_mark(self.mark, &self.entries);
         fold_into(&mut self.base, &self.tables);
@@ -221,9 +223,11 @@ impl Journal {
     }
 
     /// What holds of the state of every journal.
+    #[tactic(auto, using(crate::proofs::Validity::lived_on))]
     pub fn known(&self)
         ensures valid_base { IsValid self.now.base.state }
         ensures valid { IsValid self.now.state }
+        ensures lived { HasLived self.now.base.made self.now.state }
     {
         let _ = &self.tables;
     }

@@ -16,4 +16,5 @@ invariant_of-self c =
           c.args.entry (state_in c.self.inside.tables) (state_in c.apply_over.new.tables) c.self.invariant.0
           allowed c.push_reserved.ensures.items c.apply_over.ensures.state,
       c.apply_over.ensures.hold,
+      c.self.invariant.2,
     )
