@@ -7,7 +7,6 @@ use Rattle.ts_journal.specs.declared.entry.Mark.{Mark}
 use Rattle.ts_journal.specs.State.{State}
 use Rattle.ts_journal.specs.Log.{Log}
 use Rattle.ts_group.specs.declared.slot.TheConstants.{MOST_IN_TURN}
-use Rattle.ts_group.specs.declared.turns.TheConstants.{MOST_STORED}
 
 -- the turns that the entries record, each with its seat
 abbrev pub marks_of : List Entry → List (ℕ × ℕ)
@@ -24,9 +23,13 @@ mark_of (Some m) = (m.turn, m.seat) ∷ []
 abbrev pub marks_in : Log → List (ℕ × ℕ)
 marks_in log = mark_of log.base.mark ++ marks_of log.entries
 
+-- a journal that stores so many entries or more when a turn is given back is folded
+abbrev pub most_stored : ℕ
+most_stored = 4096
+
 -- what a journal stores of these entries once a turn was given back: none of them where they are many
 abbrev pub stored_of : List Entry → List Entry
-stored_of es = if nat_lt (length es) MOST_STORED then es else []
+stored_of es = if nat_lt (length es) most_stored then es else []
 
 -- No turn is held, and few events were set for each turn: one where the world is only asked, which has
 -- nothing pending then, and elsewhere as many as a turn sets at most.

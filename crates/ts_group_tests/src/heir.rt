@@ -7,8 +7,8 @@ ghost use Rattle.ts_group_tests.specs.Toys.{HeirFits, HeirSound, heir_left};
 use ts_group::{Asked, Cx, Want, World};
 use ts_journal::{ContKey, Event, Slotted};
 
-/// A world whose handler destroys its own continuation, and makes another with an event of its own as long as
-/// heirs are left. Its tag tells how many heirs there are in all.
+/// A world whose handler destroys its own continuation, and makes another as long as heirs are left: with an
+/// event of its own where it has plain events alone. Its tag tells how many heirs there are in all.
 #[derive(Drop)]
 pub struct Heir {
     /// Whether it has plain events alone. Only then does it tell what is left.
@@ -94,8 +94,10 @@ impl World for Heir {
         self.key = Some(key);
         self.heirs -= 1;
         self.done += 1;
-        if let Err(_) = cx.schedule(key, 1) {
-            self.whole = false;
+        if self.plain {
+            if let Err(_) = cx.schedule(key, 1) {
+                self.whole = false;
+            }
         }
         Want::Nothing
     }

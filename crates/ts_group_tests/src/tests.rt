@@ -96,14 +96,6 @@ const OF_AN_HEIR: &[Entry] = &[
     Entry::Dropped { number: 2 },
     Entry::Destroyed { key: FIRST },
     Entry::Made { key: SECOND },
-    Entry::Set {
-        number: 3,
-        key: SECOND,
-        event: Event::Timeout,
-        due: 11,
-        series: 3,
-        period: 0,
-    },
     Entry::Gave { turn: 2 },
 ];
 

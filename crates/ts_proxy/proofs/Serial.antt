@@ -8,7 +8,7 @@ use Rattle.ts_journal.specs.declared.entry.Pending.{Pending}
 use Rattle.ts_journal.specs.declared.entry.Entry.{Entry}
 use Rattle.ts_journal.specs.declared.entry.Entry.TheVariants.{Took, Gave, Set, Handled}
 use Rattle.ts_journal.specs.State.{State, fresh_with, pending_at}
-use Rattle.ts_journal.specs.Machine.{after, Balances, IsLawful, replay}
+use Rattle.ts_journal.specs.Machine.{after, Balances, HasLived, IsLawful, replay}
 use Rattle.ts_journal.specs.Log.{Log, Extends, GoesOn, mark_after, new_base}
 use Rattle.ts_journal.specs.Laws.{NoTurns}
 use Rattle.std.proofs.lemmas.Option.{same_Some}
@@ -469,6 +469,13 @@ of_driver a b base none state ends =
             (lawful_back new on.folded b.entries (subst (IsLawful new) on.entries on.lawful));
         state = on.state ∙ ap (replay new) on.entries ∙ replay-append new on.folded b.entries
             ∙ ap (λ s. replay s b.entries) (sym on.base_state);
+        lived = subst (λ m. HasLived m b.state) (sym on.made) (record {
+          beginning = new;
+          is_beginning = inr (own_key, refl);
+          life = turns;
+          lawful = on.lawful;
+          state = on.state;
+        });
         given = ends.given;
         none = ends.none;
         closed =

@@ -7,7 +7,7 @@ use Rattle.std.proofs.lemmas.List.{append-nil, map-append}
 use Rattle.ts_config.specs.declared.setup.Setup.{Setup}
 use Rattle.ts_journal.specs.declared.entry.Entry.{Entry}
 use Rattle.ts_journal.specs.Log.{Log}
-use Rattle.ts_journal.specs.Machine.{Balances, IsLawful, replay}
+use Rattle.ts_journal.specs.Machine.{Balances, HasLived, IsLawful, replay}
 use Rattle.ts_record.specs.Grammar.{TxnPieces}
 use Rattle.ts_record.specs.Report.{IsReported, block_text, blocks_text, report_begin, report_end}
 use Rattle.ts_record.specs.declared.report.ReportBlock.{ReportBlock}
@@ -55,15 +55,18 @@ pub record ReportsBut (setup : Setup) (txns : List TxnPieces) (groups rest : Lis
 pub record IsKept (log : Log) : Type 0 where
   pub lawful : IsLawful log.base.state log.entries
   pub state : log.state ≡ replay log.base.state log.entries
+  pub lived : HasLived log.base.made log.state
   pub counts : Balances log.state
 
 -- what is read of a journal is known of its group
 pub is_kept : (log read : Log) (es : List Entry) → read ≡ log → es ≡ read.entries
-    → IsLawful read.base.state es → read.state ≡ replay read.base.state es → Balances read.state → IsKept log
-is_kept log read es same are lawful state counts = subst IsKept same
+    → IsLawful read.base.state es → read.state ≡ replay read.base.state es
+    → HasLived read.base.made read.state → Balances read.state → IsKept log
+is_kept log read es same are lawful state lived counts = subst IsKept same
     (record {
       lawful = subst (IsLawful read.base.state) are lawful;
       state = state ∙ ap (replay read.base.state) are;
+      lived = lived;
       counts = counts;
     })
 
@@ -83,6 +86,7 @@ replay_of setup number txn g b ran tells kept = record {
   final = record {
     lawful = kept.lawful;
     state = kept.state;
+    lived = kept.lived;
     given = ran.given;
     none = ran.idle;
     closed = let all = kept.counts in let none = ap length ran.idle in omega (arith, all, none);

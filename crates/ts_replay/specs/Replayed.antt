@@ -3,7 +3,7 @@ use Rattle.std.specs.Prelude.{◌≡◌, ℕ, ◌+◌, ◌<◌, List, [], ◌∷
 use Rattle.ts_config.specs.declared.setup.Setup.{Setup}
 use Rattle.ts_config.specs.declared.setup.TransformLine.{TransformLine}
 use Rattle.ts_journal.specs.Log.{Log}
-use Rattle.ts_journal.specs.Machine.{IsLawful, replay}
+use Rattle.ts_journal.specs.Machine.{HasLived, IsLawful, replay}
 use Rattle.ts_journal.specs.declared.entry.TheConstants.{GREATEST}
 use Rattle.ts_record.specs.Grammar.{TxnPieces}
 use Rattle.ts_record.specs.Report.{IsReported}
@@ -13,11 +13,13 @@ use Rattle.ts_replay.specs.Reports.{IsReport, IsSetupOf}
 use Rattle.ts_replay.specs.declared.report.Replayed.{Replayed}
 use Rattle.ts_txn.specs.Making.{end_of_course}
 
--- A journal that is lawful from its base on and not held, with nothing pending: of the events that were set
--- in it, before its base too, each was handled, cancelled or dropped.
+-- A journal that is lawful from its base on and not held, with nothing pending. Its state, and so its counts,
+-- are those of its whole life: of the events that were set in it, before its base too, each was handled,
+-- cancelled or dropped.
 pub record IsFinal (j : Log) : Type 0 where
   pub lawful : IsLawful j.base.state j.entries
   pub state : j.state ≡ replay j.base.state j.entries
+  pub lived : HasLived j.base.made j.state
   pub given : j.state.held ≡ false
   pub none : j.state.pending ≡ []
   pub closed : j.state.set_count ≡ j.state.handled_count + j.state.cancelled_count + j.state.dropped_count

@@ -10,14 +10,16 @@ use Rattle.ts_group.specs.declared.group.Group.{Group}
 use Rattle.ts_group.specs.declared.action.SetFault.{SetFault}
 use Rattle.ts_group.specs.Acts.{BeginsTurn, GivesTurn}
 use Rattle.ts_group.specs.Context.{Context, IsSame}
-use Rattle.ts_group.specs.Slot.{stored_of}
+use Rattle.ts_journal.specs.Log.{Extends, GoesOn, Log}
+use Rattle.ts_journal.proofs.Extends.{extends_none, extends_trans, same_refl}
+use Rattle.ts_journal.proofs.Folding.{goes_on_extends, goes_on_same, goes_on_trans}
 use Rattle.ts_group.specs.declared.world.Handling.{Handling}
 use Rattle.ts_group.specs.declared.world.Handling.TheVariants as H
 use Rattle.ts_group.specs.Answers.{HandleGives, MatchHandling}
-use Rattle.ts_group.specs.Calls.{RunsFrom}
+use Rattle.ts_group.specs.Calls.{Handles, RunsFrom}
 use Rattle.ts_link.specs.Link.{Look}
 use Rattle.ts_transform.specs.declared.link_world.LinkWorld.{LinkWorld}
-use Rattle.ts_transform.specs.Carrying.{CarriesTo, HandledNothing, HasStepped, IsDriveCause, LacksMemory}
+use Rattle.ts_transform.specs.Carrying.{CarriesTo, GoesOnBySome, HandledNothing, HasStepped, IsDriveCause, LacksMemory, TakesTurn}
 use Rattle.ts_transform.specs.Loss.{loss_of}
 use Rattle.ts_transform.specs.declared.link_drive.DriveFault.{DriveFault}
 use Rattle.ts_transform.specs.declared.link_drive.DriveFault.TheVariants as D
@@ -165,6 +167,13 @@ due_now s t due number moment later q (p, first, is_due, is_number) same now aft
     let at : q.due ≡ due = ap (λ x. x.due) one ∙ is_due in
     omega (arith, now, after, at, is_later)
 
+-- a turn was begun, these were entered in it, and it was given back
+turn_goes_on : (a m h b : Context) (turn seat moment : ℕ) (es : List Entry) → BeginsTurn a m turn seat moment
+    → Extends m.log h.log es → GivesTurn h b
+    → GoesOn a.log b.log ((Took turn seat ∷ es) ++ Gave h.log.state.turns ∷ [])
+turn_goes_on a m h b turn seat moment es begins by gives =
+    goes_on_trans (goes_on_extends a.log h.log (Took turn seat ∷ es) (extends_trans begins.by by)) gives.by
+
 -- a turn was begun and given back, and nothing was entered between
 pub handled_nothing : (a m h b : Context) (turn seat moment : ℕ) → BeginsTurn a m turn seat moment
     → IsSame m h → GivesTurn h b → a.log.state.turns < turn → HandledNothing a b
@@ -172,32 +181,60 @@ handled_nothing a m h b turn seat moment begins same gives later =
     let kept : h.log.state.turns ≡ turn = ap (λ s. s.turns) same.log.state ∙ ap (λ s. s.turns) begins.state in
     let given : b.log.state.turns ≡ turn = ap (λ s. s.turns) gives.state ∙ kept in
     record {
-      earlier = a.log.entries;
+      earlier = [];
       seat = seat;
-      entries = gives.entries ∙ ap stored_of
-          (ap (λ es. es ++ Gave h.log.state.turns ∷ []) (same.log.entries ∙ begins.by.entries)
-          ∙ append_assoc a.log.entries (Took turn seat ∷ []) (Gave h.log.state.turns ∷ [])
-          ∙ ap (λ n. a.log.entries ++ Took turn seat ∷ Gave n ∷ []) kept
-          ∙ ap (λ n. a.log.entries ++ Took n seat ∷ Gave n ∷ []) (sym given));
+      by = subst (λ n. GoesOn a.log b.log (Took n seat ∷ Gave b.log.state.turns ∷ [])) (sym given)
+          (subst (λ n. GoesOn a.log b.log (Took turn seat ∷ Gave n ∷ [])) (kept ∙ sym given)
+          (turn_goes_on a m h b turn seat moment [] begins (extends_none m.log h.log same.log) gives));
       made = omega (arith, later, given);
     }
 
+-- a turn was made in which an event was handled
+pub takes_turn : {W Q R T U : Type 0} {Called : W → W → List ℕ → Type 0} (a : Context)
+    (m h : Group W Q R T U) (b : Context) (seat number moment events : ℕ)
+    → BeginsTurn a m.cx (a.log.state.turns + 1) seat moment
+    → Handles Called m h number moment events → GivesTurn h.cx b → TakesTurn a b
+takes_turn a m h b seat number moment events begins handles gives =
+    let turns : m.cx.log.state.turns ≡ a.log.state.turns + 1 = ap (λ s. s.turns) begins.state in
+    let before : m.cx.log.state.handled_count ≡ a.log.state.handled_count = ap (λ s. s.handled_count)
+    begins.state in
+    let kept : b.log.state.handled_count ≡ h.cx.log.state.handled_count = ap (λ s. s.handled_count)
+    gives.state in
+    record {
+      made = ap (λ s. s.turns) gives.state ∙ handles.turn.turns ∙ turns;
+      handled = omega (arith, before, kept, handles.rise, handles.some);
+      goes_on = record {
+        added = (Took (a.log.state.turns + 1) seat ∷ handles.es) ++ Gave h.cx.log.state.turns ∷ [];
+        by = turn_goes_on a m.cx h.cx b (a.log.state.turns + 1) seat moment handles.es begins handles.by
+            gives;
+      };
+    }
+
+-- a journal goes on by none, and by what it went on before and goes on now
+pub stays_on : (a : Log) → GoesOnBySome a a
+stays_on a = record { added = []; by = goes_on_same a a (same_refl a) }
+
+pub goes_on_later : (a m b : Log) → GoesOnBySome a m → GoesOnBySome m b → GoesOnBySome a b
+goes_on_later a m b p q = record { added = p.added ++ q.added; by = goes_on_trans p.by q.by }
+
 -- a later turn could not be made
 drive_cause_later : (fault : DriveFault) (a m b : Context) → a.log.state.turns ≤ m.log.state.turns
-    → IsDriveCause fault m b → IsDriveCause fault a b
-drive_cause_later D.Spent a m b later cause = cause
-drive_cause_later D.NoMemory a m b later cause = cause
-drive_cause_later D.NoMemoryInTurn a m b later cause = record {
-  earlier = cause.earlier;
-  seat = cause.seat;
-  entries = cause.entries;
-  made = omega
-      (arith, later, cause.made);
-}
+    → GoesOnBySome a.log m.log → IsDriveCause fault m b → IsDriveCause fault a b
+drive_cause_later D.Spent a m b later goes cause = cause
+drive_cause_later D.NoMemory a m b later goes cause = cause
+drive_cause_later D.NoMemoryInTurn a m b later goes cause =
+    let last : List Entry = Took b.log.state.turns cause.seat ∷ Gave b.log.state.turns ∷ [] in
+    record {
+      earlier = goes.added ++ cause.earlier;
+      seat = cause.seat;
+      by = subst (GoesOn a.log b.log) (sym (append_assoc goes.added cause.earlier last))
+          (goes_on_trans goes.by cause.by);
+      made = omega (arith, later, cause.made);
+    }
 
 pub drive_cause_then : {T : Type 0} (r : Result T DriveFault) (fault : DriveFault) (a m b : Context)
-    → IsErrAnd r (λ e. e ≡ fault) → a.log.state.turns ≤ m.log.state.turns → IsDriveCause fault m b
-    → IfErr r (λ f. IsDriveCause f a b)
-drive_cause_then (Ok x) fault a m b is later cause = tt
-drive_cause_then (Err e) fault a m b is later cause = subst (λ f. IsDriveCause f a b) (sym is)
-    (drive_cause_later fault a m b later cause)
+    → IsErrAnd r (λ e. e ≡ fault) → a.log.state.turns ≤ m.log.state.turns → GoesOnBySome a.log m.log
+    → IsDriveCause fault m b → IfErr r (λ f. IsDriveCause f a b)
+drive_cause_then (Ok x) fault a m b is later goes cause = tt
+drive_cause_then (Err e) fault a m b is later goes cause = subst (λ f. IsDriveCause f a b) (sym is)
+    (drive_cause_later fault a m b later goes cause)

@@ -10,7 +10,7 @@ use Rattle.ts_group.specs.declared.action.Named.{Named}
 use Rattle.ts_group.specs.declared.action.SetFault.{SetFault}
 use Rattle.ts_group.specs.declared.group.Group.{Group}
 use Rattle.ts_group.specs.Context.{Context}
-use Rattle.ts_group.specs.Slot.{stored_of}
+use Rattle.ts_journal.specs.Log.{GoesOn, Log}
 use Rattle.ts_link.specs.Counts.{Rose}
 use Rattle.ts_link.specs.Link.{Look}
 use Rattle.ts_transform.specs.Stage.{MOST_WAITING}
@@ -294,13 +294,25 @@ WritesWhole rest in_tells out_tells input output v w =
     → in_tells ≡ true → out_tells ≡ true
     → HasWritten rest (input v.input) (input w.input) (output v.output) (output w.output) v.driven.chain
 
--- the turn that was made last was given back with nothing handled in it
+-- a journal goes on by some entries
+pub record GoesOnBySome (old new : Log) : Type 0 where
+  pub added : List Entry
+  pub by : GoesOn old new added
+
+-- The turn that was made last was given back with nothing handled in it: all that was entered are entries of
+-- earlier turns, and its beginning and its end.
 pub record HandledNothing (old new : Context) : Type 0 where
   pub earlier : List Entry
   pub seat : ℕ
-  pub entries : new.log.entries
-      ≡ stored_of (earlier ++ Took new.log.state.turns seat ∷ Gave new.log.state.turns ∷ [])
+  pub by : GoesOn old.log new.log
+      (earlier ++ Took new.log.state.turns seat ∷ Gave new.log.state.turns ∷ [])
   pub made : old.log.state.turns < new.log.state.turns
+
+-- a turn was made, in which an event was handled
+pub record TakesTurn (old new : Context) : Type 0 where
+  pub made : new.log.state.turns ≡ old.log.state.turns + 1
+  pub handled : old.log.state.handled_count < new.log.state.handled_count
+  pub goes_on : GoesOnBySome old.log new.log
 
 -- Why it is driven no further: no number of a turn is left; or memory lacked for a turn, though a number was
 -- left; or it lacked in the last turn, in which then nothing was handled.

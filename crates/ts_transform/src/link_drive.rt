@@ -1,7 +1,7 @@
 //! A chain between two links, driven to its end by one who owns its group.
 ghost use Rattle.std.specs.Prelude.{◌≡◌, ◌≤◌, ◌<◌, ◌+◌, [], true, false, Ok, IfErr, OnOk};
 ghost use Rattle.ts_group.specs.Due.{IsDueFirst};
-ghost use Rattle.ts_transform.specs.Carrying.{CarriesTo, IsCarriedGroup, IsDriveCause, MakesTurns, WritesWhole};
+ghost use Rattle.ts_transform.specs.Carrying.{CarriesTo, IsCarriedGroup, IsDriveCause, MakesTurns, TakesTurn, WritesWhole};
 
 use crate::link_world::LinkWorld;
 use crate::transform::Transform;
@@ -32,8 +32,7 @@ fn take_turn<I: Link + Drop, K: Link + Drop, P: Transform + Drop>(
     ensures idle { group.new.cx.log.state.held ≡ false }
     ensures carried { IsCarriedGroup group.new }
     ensures carries { CarriesTo P.rest I.tells K.tells I.look K.look group.old.world group.new.world }
-    ensures turn { OnOk result ((group.new.cx.log.state.turns ≡ group.old.cx.log.state.turns + 1)
-        × (group.old.cx.log.state.handled_count < group.new.cx.log.state.handled_count)) }
+    ensures turn { OnOk result (TakesTurn group.old.cx group.new.cx) }
     ensures fault { IfErr result (λ fault. IsDriveCause fault group.old.cx group.new.cx) }
 {
     match group.begin_alone(u64::MAX, moment) {

@@ -40,7 +40,7 @@ groups-preserved c = λ setup txns each.
     }))
     (is_kept c.in-Some.group.cx.log c.into_parts-txn.result.1 c.entries.result.now log
     c.entries.ensures.entries c.entries.ensures.lawful c.entries.ensures.state
-    c.known.ensures.valid.counts)
+    c.known.ensures.lived c.known.ensures.valid.counts)
     c.in_ok-add_block.ensures.text
     (c.in_ok-push.ensures.items ∙ ap (λ j. c.groups.journals.items ++ j ∷ []) log)
 

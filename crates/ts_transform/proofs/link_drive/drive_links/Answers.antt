@@ -2,7 +2,7 @@ use Rattle.std.proofs.Common.{◌≡◌, [], refl, rules, arith, subst}
 use Rattle.ts_transform.specs.Carrying.{IsCarried}
 use Rattle.ts_transform.proofs.Carrying.{has_written}
 use Rattle.ts_transform.proofs.Joined.{all_carried}
-use Rattle.ts_transform.proofs.Runs.{drive_cause_then, not_aborted, to_refl, to_trans}
+use Rattle.ts_transform.proofs.Runs.{drive_cause_then, goes_on_later, not_aborted, stays_on, to_refl, to_trans}
 use Rattle.ts_transform.proofs.link_drive.drive_links.Goals as goal
 
 pub turns-init : goal.turns-init
@@ -15,6 +15,7 @@ turns-init g c =
           world refl;
       made = omega arith;
       handled = omega arith;
+      goes_on = stays_on c.args.group.now.cx.log;
     }
 
 pub turns-preserved : goal.turns-preserved
@@ -24,8 +25,10 @@ turns-preserved g c = record {
   carries = to_trans g.P.Transform.rest g.I.Link.tells g.K.Link.tells g.I.Link.look g.K.Link.look
       c.args.group.now.world c.turns.group.world c.take_turn.new.group.world c.turns.invariant.carries
       c.take_turn.ensures.carries;
-  made = omega (arith, c.turns.invariant.made, c.in_ok-take_turn.ensures.turn.0);
-  handled = omega (arith, c.turns.invariant.handled, c.in_ok-take_turn.ensures.turn.1);
+  made = omega (arith, c.turns.invariant.made, c.in_ok-take_turn.ensures.turn.made);
+  handled = omega (arith, c.turns.invariant.handled, c.in_ok-take_turn.ensures.turn.handled);
+  goes_on = goes_on_later c.args.group.now.cx.log c.turns.group.cx.log c.take_turn.new.group.cx.log
+      c.turns.invariant.goes_on c.in_ok-take_turn.ensures.turn.goes_on;
 }
 
 -- A turn could not be made.
@@ -79,4 +82,5 @@ returns-in-None-clause-done g c = λ done.
 pub returns-in_err-take_turn-clause-fault : goal.returns-in_err-take_turn-clause-fault
 returns-in_err-take_turn-clause-fault g c =
     drive_cause_then c.from_residual.result _ c.args.group.now.cx c.turns.group.cx c.take_turn.new.group.cx
-    c.from_residual.ensures.1 (omega (arith, c.turns.invariant.made)) c.in_err-take_turn.ensures.fault
+    c.from_residual.ensures.1 (omega (arith, c.turns.invariant.made)) c.turns.invariant.goes_on
+    c.in_err-take_turn.ensures.fault

@@ -1,5 +1,5 @@
 use Rattle.std.specs.Prelude.{◌≡◌, ◌≤◌, ◌+◌, false}
-use Rattle.ts_transform.specs.Carrying.{CarriesTo, IsCarriedGroup}
+use Rattle.ts_transform.specs.Carrying.{CarriesTo, GoesOnBySome, IsCarriedGroup}
 use Rattle.ts_transform.proofs.link_drive.drive_links.Given as goal
 
 -- between two turns each duty has its event, and all that was moved was carried
@@ -11,4 +11,5 @@ invariant-turns g l = record {
       l.initial.group.world l.group.world;
   made : l.group.cx.log.state.turns ≡ l.initial.group.cx.log.state.turns + l.made;
   handled : l.initial.group.cx.log.state.handled_count + l.made ≤ l.group.cx.log.state.handled_count;
+  goes_on : GoesOnBySome l.initial.group.cx.log l.group.cx.log;
 }

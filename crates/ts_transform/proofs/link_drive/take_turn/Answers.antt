@@ -1,7 +1,7 @@
 -- A turn of its own handles an event, or nothing, and what it moves is what its handlers move.
 use Rattle.std.proofs.Common.{◌+◌, arith, sym, subst, ◌∙◌}
 use Rattle.ts_transform.specs.Carrying.{CarriesTo}
-use Rattle.ts_transform.proofs.Runs.{handle_carries, handled_nothing, to_refl}
+use Rattle.ts_transform.proofs.Runs.{handle_carries, handled_nothing, takes_turn, to_refl}
 use Rattle.ts_transform.proofs.link_drive.take_turn.Goals as goal
 
 -- No turn was made.
@@ -30,6 +30,12 @@ returns-in-Ok-Handled-clause-carries g c =
     (handle_carries rest g.I.Link.tells g.K.Link.tells g.I.Link.look g.K.Link.look c.begin_alone.new.self
     handled
     c.args.number c.args.moment c.in-Ok-Handled.field-0 c.in-Ok-Handled.ensures-1.gives))
+
+pub returns-in-Ok-Handled-clause-turn : goal.returns-in-Ok-Handled-clause-turn
+returns-in-Ok-Handled-clause-turn g c =
+    takes_turn c.args.group.now.cx c.begin_alone.new.self c.handle-handled.new.self c.give_turn.new.self.cx _
+    c.args.number c.args.moment c.in-Ok-Handled.field-0 c.in-Ok.ensures.begins
+    c.in-Ok-Handled.ensures-1.gives.0 c.give_turn.ensures.gives
 
 -- Memory lacked for the next event of its series.
 pub returns-in-Err-clause-carries : goal.returns-in-Err-clause-carries
