@@ -98,6 +98,8 @@ impl World for Heir {
             if let Err(_) = cx.schedule(key, 1) {
                 self.whole = false;
             }
+        } else if self.heirs > 0 {
+            self.whole = false;
         }
         Want::Nothing
     }
