@@ -1,5 +1,5 @@
 -- What the handlers of one turn carry between two links.
-use Rattle.std.proofs.Common.{append_assoc, Result, Ok, Err, IfErr, IsErrAnd, ◌≡◌, ◌≤◌, ◌<◌, ◌⊎◌, Some, None, inl, inr, ℕ, zero, suc, List, [], ◌∷◌, ◌++◌, Bool, true, false, arith, refl, sym, ap, subst, ◌∙◌}
+use Rattle.std.proofs.Common.{◌+◌, append_assoc, Result, Ok, Err, IfErr, IsErrAnd, ◌≡◌, ◌≤◌, ◌<◌, ◌⊎◌, Some, None, inl, inr, ℕ, zero, suc, List, [], ◌∷◌, ◌++◌, Bool, true, false, arith, refl, sym, ap, subst, ◌∙◌}
 use Rattle.ts_link.specs.Counts.{Rose}
 use Rattle.ts_journal.specs.declared.entry.Entry.{Entry}
 use Rattle.ts_journal.specs.declared.entry.Entry.TheVariants.{Gave, Took}
@@ -189,12 +189,11 @@ handled_nothing a m h b turn seat moment begins same gives later =
       made = omega (arith, later, given);
     }
 
--- a turn was made in which an event was handled
-pub takes_turn : {W Q R T U : Type 0} {Called : W → W → List ℕ → Type 0} (a : Context)
-    (m h : Group W Q R T U) (b : Context) (seat number moment events : ℕ)
-    → BeginsTurn a m.cx (a.log.state.turns + 1) seat moment
+-- a turn was made in which events were handled
+turn_of : {W Q R T U : Type 0} (Called : W → W → List ℕ → Type 0) (a : Context) (m h : Group W Q R T U)
+    (b : Context) (seat number moment events : ℕ) → BeginsTurn a m.cx (a.log.state.turns + 1) seat moment
     → Handles Called m h number moment events → GivesTurn h.cx b → TakesTurn a b
-takes_turn a m h b seat number moment events begins handles gives =
+turn_of Called a m h b seat number moment events begins handles gives =
     let turns : m.cx.log.state.turns ≡ a.log.state.turns + 1 = ap (λ s. s.turns) begins.state in
     let before : m.cx.log.state.handled_count ≡ a.log.state.handled_count = ap (λ s. s.handled_count)
     begins.state in
@@ -209,6 +208,22 @@ takes_turn a m h b seat number moment events begins handles gives =
             gives;
       };
     }
+
+-- the event that is due first is handled, whatever is answered
+pub takes_turn : {W Q R T U : Type 0} (Called : W → W → List ℕ → Type 0) (a : Context)
+    (m h : Group W Q R T U) (b : Context) (seat due number moment : ℕ) (handling : Handling Q)
+    → IsDueFirst a.log.state due number × (due ≤ moment)
+    → BeginsTurn a m.cx (a.log.state.turns + 1) seat moment
+    → HandleGives Called m h number moment handling → GivesTurn h.cx b → TakesTurn a b
+takes_turn Called a m h b seat due number moment (H.Handled events) is begins handles gives =
+    turn_of Called a m h b seat number moment events begins handles.0 gives
+takes_turn Called a m h b seat due number moment (H.Asks events group question) is begins handles gives =
+    turn_of Called a m h b seat number moment events begins handles gives
+takes_turn Called a m h b seat due number moment H.NotPending is begins handles gives =
+    absurd (due_there a.log.state m.cx.log.state due number is.0 (ap (λ s. s.pending) begins.state) handles.0)
+takes_turn Called a m h b seat due number moment (H.NotDue later) is begins handles gives =
+    absurd (due_now a.log.state m.cx.log.state due number moment later handles.1 is.0
+    (ap (λ s. s.pending) begins.state) is.1 handles.0 handles.2 handles.3)
 
 -- a journal goes on by none, and by what it went on before and goes on now
 pub stays_on : (a : Log) → GoesOnBySome a a

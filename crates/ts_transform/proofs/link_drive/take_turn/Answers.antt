@@ -33,9 +33,9 @@ returns-in-Ok-Handled-clause-carries g c =
 
 pub returns-in-Ok-Handled-clause-turn : goal.returns-in-Ok-Handled-clause-turn
 returns-in-Ok-Handled-clause-turn g c =
-    takes_turn c.args.group.now.cx c.begin_alone.new.self c.handle-handled.new.self c.give_turn.new.self.cx _
-    c.args.number c.args.moment c.in-Ok-Handled.field-0 c.in-Ok.ensures.begins
-    c.in-Ok-Handled.ensures-1.gives.0 c.give_turn.ensures.gives
+    takes_turn _ c.args.group.now.cx c.begin_alone.new.self c.handle-handled.new.self
+    c.give_turn.new.self.cx _ c.args.due c.args.number c.args.moment c.in-Ok-Handled.field-0 c.requires.due
+    c.in-Ok.ensures.begins c.in-Ok-Handled.ensures-1.gives c.give_turn.ensures.gives
 
 -- Memory lacked for the next event of its series.
 pub returns-in-Err-clause-carries : goal.returns-in-Err-clause-carries
