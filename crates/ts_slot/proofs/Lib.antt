@@ -2,6 +2,7 @@ pub mod Lists
 pub mod Kept
 pub mod Steps
 pub mod Bring
+pub mod Boxes
 pub mod Seats
 pub mod Ends
 pub mod Turns

@@ -57,20 +57,21 @@ module _ {X G T : Type 0} {d : Ghosts X G T} where
   -- a turn may leave its value: it fits the tag, its stamp is as found or this turn's number, and its trace
   -- follows that found
   pub record MayLeave (tags : List G) (turn : Turn X G T d) : Type 0 where
-    pub fit : FitsTag d.fits tags turn.group turn.value
-    pub stamped : (d.stamp turn.value ≡ d.stamp turn.found.value) ⊎ (d.stamp turn.value ≡ turn.number)
-    pub later : d.follows (d.trace turn.value) (d.trace turn.found.value)
+    pub fit : FitsTag d.fits tags turn.group turn.boxed.value
+    pub stamped : (d.stamp turn.boxed.value ≡ d.stamp turn.found.value)
+        ⊎ (d.stamp turn.boxed.value ≡ turn.number)
+    pub later : d.follows (d.trace turn.boxed.value) (d.trace turn.found.value)
 
   -- a turn that the value records and did not record when it was found is this turn, of this seat
   abbrev pub MarksOwn : Turn X G T d → ℕ → Type 0
-  MarksOwn turn seat = (mark : ℕ × ℕ) → Contains (d.marks turn.value) mark
+  MarksOwn turn seat = (mark : ℕ × ℕ) → Contains (d.marks turn.boxed.value) mark
       → Contains (d.marks turn.found.value) mark ⊎ (mark ≡ (turn.number, seat))
 
   -- the group is free after this turn, and the seat knows it so
   pub record LeavesFree (turn : Turn X G T d) (old new : SeatView G T) : Type 0 where
     pub number : turn.number < last_turn
-    pub is : new ≡ freed turn.group turn.number (d.trace turn.value) old
-    pub knows : latest turn.group new.known ≡ Some (turn.number, d.trace turn.value)
+    pub is : new ≡ freed turn.group turn.number (d.trace turn.boxed.value) old
+    pub knows : latest turn.group new.known ≡ Some (turn.number, d.trace turn.boxed.value)
 
   -- the turn was the last one that a group can have, and nobody enters it again
   pub record LeavesWorn (turn : Turn X G T d) (old new : SeatView G T) : Type 0 where

@@ -13,8 +13,8 @@ impl<V: Slotted> Turn<V> {
     pub fn value(&mut self) -> &mut V
         ensures* writes_back { sem 𝓛 (Lends
             (the_row V.row V.Tag.row V.Trace.row V.Slotted) V.row self.entry result (with_value self.old)) }
-        ensures value { result.now ≡ self.old.value }
+        ensures value { result.now ≡ self.old.boxed.value }
     {
-        &mut self.value
+        &mut *self.boxed
     }
 }

@@ -1,5 +1,6 @@
 //! The rule of the slots' table, and the kinds of step that keep it.
 
+ghost use Rattle.ts_slot.specs.Boxed.{in_box, fits_in_box};
 ghost use Rattle.ts_slot.specs.Rule.{Kept};
 ghost use Rattle.ts_slot.specs.Steps.{Entered, Returned, WornOut, Fetched, Learned};
 ghost use Rattle.ts_slot.specs.Views.{opener, nobody, firsts, left_half, right_half, joined};
@@ -10,18 +11,19 @@ use std::marker::PhantomData;
 use std::snapshot::Snapshot;
 use ts_journal::Slotted;
 
-/// The tags, and the values at the start.
-pub type Key<V> = (Snapshot<Vec<<V as Slotted>::Tag>>, Snapshot<Vec<V>>);
+/// The tags, and the boxes at the start.
+pub type Key<V> = (Snapshot<Vec<<V as Slotted>::Tag>>, Snapshot<Vec<Box<V>>>);
 
 /// A free slot's value is at home and fits; a held one has one holder; what each seat knows is so.
 pub struct Law<V> {
     of: PhantomData<V>,
 }
 
-impl<V: Slotted> TableRule<Option<V>, SeatView<V::Tag, V::Trace>, Key<V>> for Law<V> {
-    ghost holds = { λ key. Kept V.fits V.stamp V.trace V.follows key.0.value.items };
+impl<V: Slotted> TableRule<Option<Box<V>>, SeatView<V::Tag, V::Trace>, Key<V>> for Law<V> {
+    ghost holds = { λ key. Kept (fits_in_box V.fits) (in_box V.stamp) (in_box V.trace) V.follows
+        key.0.value.items };
 
-    ghost first = { λ key. opener key.0.value.items (firsts V.trace 0 key.1.value.items) };
+    ghost first = { λ key. opener key.0.value.items (firsts (in_box V.trace) 0 key.1.value.items) };
 }
 
 /// A seat tries to enter: a `fetch_or` of 1.
@@ -29,8 +31,8 @@ pub struct Enter<V> {
     of: PhantomData<V>,
 }
 
-impl<V: Slotted> Play<Option<V>, SeatView<V::Tag, V::Trace>> for Enter<V> {
-    ghost then = { Entered V.fits V.stamp V.trace V.follows };
+impl<V: Slotted> Play<Option<Box<V>>, SeatView<V::Tag, V::Trace>> for Enter<V> {
+    ghost then = { Entered (fits_in_box V.fits) (in_box V.stamp) (in_box V.trace) V.follows };
 }
 
 /// The holder leaves, and the group is free: a `fetch_add` of 1.
@@ -38,8 +40,8 @@ pub struct Free<V> {
     of: PhantomData<V>,
 }
 
-impl<V: Slotted> Play<Option<V>, SeatView<V::Tag, V::Trace>> for Free<V> {
-    ghost then = { Returned V.trace };
+impl<V: Slotted> Play<Option<Box<V>>, SeatView<V::Tag, V::Trace>> for Free<V> {
+    ghost then = { Returned (in_box V.trace) };
 }
 
 /// The holder leaves after the last turn: a `fetch_add` of 0.
@@ -47,7 +49,7 @@ pub struct Wear<V> {
     of: PhantomData<V>,
 }
 
-impl<V: Slotted> Play<Option<V>, SeatView<V::Tag, V::Trace>> for Wear<V> {
+impl<V: Slotted> Play<Option<Box<V>>, SeatView<V::Tag, V::Trace>> for Wear<V> {
     ghost then = { WornOut };
 }
 
@@ -56,7 +58,7 @@ pub struct Fetch<V> {
     of: PhantomData<V>,
 }
 
-impl<V: Slotted> Play<Option<V>, SeatView<V::Tag, V::Trace>> for Fetch<V> {
+impl<V: Slotted> Play<Option<Box<V>>, SeatView<V::Tag, V::Trace>> for Fetch<V> {
     ghost then = { Fetched };
 }
 
@@ -65,7 +67,7 @@ pub struct Learn<V> {
     of: PhantomData<V>,
 }
 
-impl<V: Slotted> Play<Option<V>, SeatView<V::Tag, V::Trace>> for Learn<V> {
+impl<V: Slotted> Play<Option<Box<V>>, SeatView<V::Tag, V::Trace>> for Learn<V> {
     ghost then = { Learned V.follows };
 }
 

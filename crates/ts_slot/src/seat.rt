@@ -27,7 +27,7 @@ pub enum Left {
 /// A caller's token on the slots: what it knows of them, and the groups that it holds.
 #[derive(Drop)]
 pub struct Seat<V: Slotted> {
-    pub(crate) place: atomic_table::Seat<Option<V>, SeatView<V::Tag, V::Trace>>,
+    pub(crate) place: atomic_table::Seat<Option<Box<V>>, SeatView<V::Tag, V::Trace>>,
     pub(crate) number: u64,
     // the least free number
     pub(crate) next: u64,
@@ -41,7 +41,8 @@ pub struct Seat<V: Slotted> {
 pub struct Turn<V: Slotted> {
     pub(crate) group: u32,
     pub(crate) number: u64,
-    pub(crate) value: V,
+    // the value, which stands where it stood in the slot
+    pub(crate) boxed: Box<V>,
     // the value as it was found
     pub(crate) found: Snapshot<V>,
     ghost young: { V.stamp found.value < number },

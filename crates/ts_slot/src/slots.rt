@@ -1,6 +1,6 @@
 //! The slots: how groups are entered and left, and how seats are split and joined.
 
-ghost use Rattle.std.specs.Prelude.{◌≡◌, ℕ, ◌<◌, ◌≤◌, [], length, map, Some, IfOk, vec_capacity};
+ghost use Rattle.std.specs.Prelude.{◌≡◌, ℕ, ◌<◌, ◌≤◌, [], length, map, Some, IfOk, vec_capacity, box_value};
 ghost use Rattle.std.specs.Mem.Slots.{IsFull, slots_items, slots_len};
 ghost use Rattle.ts_slot.specs.Limits.{most_groups};
 ghost use Rattle.ts_slot.specs.Lists.{HasValue};
@@ -20,11 +20,33 @@ const LAST_TURN: u64 = 1 << 63;
 /// while it is held.
 #[derive(Drop)]
 pub struct Slots<V: Slotted> {
-    table: Table<Option<V>, SeatView<V::Tag, V::Trace>, Key<V>, Law<V>, Global>,
+    table: Table<Option<Box<V>>, SeatView<V::Tag, V::Trace>, Key<V>, Law<V>, Global>,
     groups: u32,
     ghost sized: { (table.shared.table_id.words ≡ groups) × (table.shared.table_id.slots ≡ groups) },
     ghost named: { groups ≡ length table.shared.key.0.value.items },
     ghost few: { (0 < groups) × (groups ≤ most_groups) },
+}
+
+// Each value in a box of its own, so that it need not be moved to enter its group and to leave it.
+fn put_into_boxes<V: Drop>(alloc: Global, values: Vec<V>) -> Result<Vec<Box<V>>, AllocError>
+    ensures { IfOk result (λ boxes. map box_value boxes.items ≡ values.items) }
+{
+    let mut boxes = Vec::with_capacity(alloc, values.len())?;
+    for value in values {
+        boxes.push(Box::new(alloc, value)?)?;
+    }
+    Ok(boxes)
+}
+
+// The values of boxes.
+fn take_from_boxes<V: Drop>(boxes: Vec<Box<V>>, mut values: Vec<V>) -> Result<Vec<V>, AllocError>
+    requires none { values.items ≡ [] }
+    ensures { IfOk result (λ xs. xs.items ≡ map box_value boxes.items) }
+{
+    for boxed in boxes {
+        values.push(Box::into_inner(boxed))?;
+    }
+    Ok(values)
 }
 
 // Each value in a place of its own.
@@ -83,10 +105,11 @@ where
         ensures seat { IfOk result (λ r. IsSeatOf r.0 r.1) }
         ensures view { IfOk result (λ r. view r.1 ≡ opener tags.items (firsts V.trace 0 values.items)) }
     {
-        let key = (Snapshot::of(&tags), Snapshot::of(&values));
         let groups = values.len();
+        let boxes = put_into_boxes(alloc, values)?;
+        let key = (Snapshot::of(&tags), Snapshot::of(&boxes));
         let words = vec![in alloc; 0u64; groups]?;
-        let places = placed(alloc, values)?;
+        let places = placed(alloc, boxes)?;
         let Ok((table, place)) = Table::new(alloc, words.as_slice(), places, &key) else {
             return Err(NoMemory);
         };
@@ -110,10 +133,13 @@ where
         ensures count { IfOk result (λ xs. length xs.items ≡ length (tags_of self)) }
         ensures values { IfOk result (λ xs. AreLast self seat xs.items) }
     {
-        let values = Vec::with_capacity(alloc, self.groups as usize)?;
+        let groups = self.groups as usize;
+        let values = Vec::with_capacity(alloc, groups)?;
+        let boxes = Vec::with_capacity(alloc, groups)?;
         let Slots { table, groups: _ } = self;
         let closed = table.close_with(seat.place);
-        Ok(unload(closed, values))
+        let boxes = unload(closed, boxes);
+        Ok(take_from_boxes(boxes, values)?)
     }
 }
 
@@ -137,12 +163,13 @@ impl<V: Slotted> Slots<V> {
         requires group { k < length (tags_of self.now) }
         ensures seat { IsSeatOf self.now seat.new }
         ensures turn { IfOk result (λ t.
-            (t.group ≡ k) × (t.found.value ≡ t.value) × HoldsNot (view seat.old) k) }
-        ensures won { IfOk result (λ t. view seat.new ≡ won k t.number (V.trace t.value) (view seat.old)) }
+            (t.group ≡ k) × (t.found.value ≡ t.boxed.value) × HoldsNot (view seat.old) k) }
+        ensures won { IfOk result (λ t.
+            view seat.new ≡ won k t.number (V.trace t.boxed.value) (view seat.old)) }
         ensures value { IfOk result (λ t.
-            FitsTag V.fits (tags_of self.now) k t.value × (V.stamp t.value < t.number)) }
+            FitsTag V.fits (tags_of self.now) k t.boxed.value × (V.stamp t.boxed.value < t.number)) }
         ensures later { IfOk result (λ t.
-            IsAfter V.follows k t.number (V.trace t.value) (view seat.old).known) }
+            IsAfter V.follows k t.number (V.trace t.boxed.value) (view seat.old).known) }
         ensures missed { IfErr result (λ m. Misses k m.seen (view seat.old) (view seat.new)) }
     {
         let group = k as usize;
@@ -152,12 +179,12 @@ impl<V: Slotted> Slots<V> {
             return Err(Missed { seen });
         }
         let taken = self.table.shared.exchange(place, group, None);
-        let Some(value) = taken else { unreachable!() };
+        let Some(boxed) = taken else { unreachable!() };
         Ok(Turn {
             group: k,
             number: seen / 2 + 1,
-            found: Snapshot::of(&value),
-            value,
+            found: Snapshot::of(&*boxed),
+            boxed,
         })
     }
 
@@ -175,13 +202,13 @@ impl<V: Slotted> Slots<V> {
         let Turn {
             group,
             number,
-            value,
+            boxed,
             found: _,
         } = turn;
         let group = group as usize;
         let place = &mut seat.place;
         self.table.shared.load::<Fetch<V>>(place, group);
-        let gone = self.table.shared.exchange(place, group, Some(value));
+        let gone = self.table.shared.exchange(place, group, Some(boxed));
         let None = gone else { unreachable!() };
         if number == LAST_TURN {
             self.table.shared.fetch_add::<Wear<V>>(place, group, 0);

@@ -108,7 +108,7 @@ module _ {X G T : Type 0} {d : Ghosts X G T} where
       → IsTop v turn.group turn.number (d.trace turn.found.value)
       → (r ≡ Freed → LeavesFree turn v w) → (r ≡ Worn → LeavesWorn turn v w)
       → GivesUp turn.group v.held w.held → Leaves v w × KnowsTurn turn.group turn.number
-      (d.trace turn.value) w.known
+      (d.trace turn.boxed.value) w.known
   left_seat turn v w Freed top freed worn up =
       let is = (freed refl).is in (
         record {
@@ -117,10 +117,10 @@ module _ {X G T : Type 0} {d : Ghosts X G T} where
           held = up.top turn.number (d.trace turn.found.value) top;
           turns = ap (λ (u : SeatView G T). u.turns) is;
           misses = ap (λ (u : SeatView G T). u.misses) is;
-          known = more_one (turn.group, turn.number, d.trace turn.value) v.known w.known
+          known = more_one (turn.group, turn.number, d.trace turn.boxed.value) v.known w.known
               (ap (λ (u : SeatView G T). u.known) is);
         },
-        λ low. subst (IsIn (turn.group, turn.number, d.trace turn.value))
+        λ low. subst (IsIn (turn.group, turn.number, d.trace turn.boxed.value))
             (sym (ap (λ (u : SeatView G T). u.known) is)) (inl refl),
       )
   left_seat turn v w Worn top freed worn up =

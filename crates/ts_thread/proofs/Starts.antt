@@ -58,7 +58,7 @@ pub entered_left : {X G T : Type 0} {d : Ghosts X G T} (tags : List G) (k : ℕ)
     (turn : Turn X G T d) → IsEntered tags k old new turn → Leaves new u → KeepsSeat old u 1
 entered_left {d = d} tags k old new u turn entered leaves =
     keeps_trans old entered.before u 0 1 1 (omega arith) entered.misses
-    (won_left entered.before new u k turn.number (d.trace turn.value) entered.wins leaves)
+    (won_left entered.before new u k turn.number (d.trace turn.boxed.value) entered.wins leaves)
 
 module _ {W Q R T U : Type 0} (Fits : T → W → Type 0) (Sound : W → State → List Named → Type 0)
     (only_asked is_first : T → Bool) (Begun : W → W → Type 0) (tags : List T) where

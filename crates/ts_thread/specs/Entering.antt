@@ -12,9 +12,9 @@ use Rattle.ts_thread.specs.Seats.{KeepsSeat}
 pub record IsEntered {X G T : Type 0} {d : Ghosts X G T} (tags : List G) (k : ℕ) (old new : SeatView G T)
     (turn : Turn X G T d) : Type 0 where
   pub group : turn.group ≡ k
-  pub found : turn.found.value ≡ turn.value
+  pub found : turn.found.value ≡ turn.boxed.value
   pub before : SeatView G T
   pub misses : KeepsSeat old before 0
-  pub wins : new ≡ won k turn.number (d.trace turn.value) before
-  pub fits : FitsTag d.fits tags k turn.value
-  pub later : d.stamp turn.value < turn.number
+  pub wins : new ≡ won k turn.number (d.trace turn.boxed.value) before
+  pub fits : FitsTag d.fits tags k turn.boxed.value
+  pub later : d.stamp turn.boxed.value < turn.number

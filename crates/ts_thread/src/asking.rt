@@ -50,9 +50,10 @@ fn ask_won<W: World + Drop>(
 ) -> Result<W::Reply, (NoMemory, W::Question)>
     requires seat { IsSeatOf slots.now seat.old }
     requires top { IsTop (view seat.old) turn.group turn.number turn.found.value }
-    requires found { (turn.found.value ≡ turn.value) × (turn.value.cx.log.state.turns < turn.number) }
+    requires found { (turn.found.value ≡ turn.boxed.value)
+        × (turn.boxed.value.cx.log.state.turns < turn.number) }
     requires asked { IsAskedAt W.fits W.sound W.only_asked W.is_first
-        (tags_of slots.now) turn.group turn.value }
+        (tags_of slots.now) turn.group turn.boxed.value }
     ensures seat { IsSeatOf slots.now seat.new }
     ensures leaves { Leaves (view seat.old) (view seat.new) }
     ensures reply { IfOk result (GivesReply W.fits W.answers (tags_of slots.now) turn.group question) }

@@ -15,7 +15,7 @@ pub fn leave<V: Slotted>(slots: &Slots<V>, seat: &mut Seat<V>, turn: Turn<V>)
     requires marks { MarksOwn turn seat.old.number }
     ensures seat { IsSeatOf slots.now seat.new }
     ensures leaves { Leaves (view seat.old) (view seat.new) }
-    ensures knows { KnowsTurn turn.group turn.number (V.trace turn.value) (view seat.new).known }
+    ensures knows { KnowsTurn turn.group turn.number (V.trace turn.boxed.value) (view seat.new).known }
 {
     slots.leave(seat, turn);
 }

@@ -93,12 +93,13 @@ pub fn end_turn<W: World + Drop, R: Wait>(
 ) -> Result<(), NoMemory>
     requires desk { IsDeskOf slots.now queue.now desk.old }
     requires top { IsTop (view desk.old.seat) turn.group turn.number turn.found.value }
-    requires has { HasTurn W.fits turn.found.value turn.value turn.number desk.old.seat.number }
-    requires fits { WillFit W.fits W.sound W.only_asked W.is_first (tags_of slots.now) turn.group turn.value }
+    requires has { HasTurn W.fits turn.found.value turn.boxed.value turn.number desk.old.seat.number }
+    requires fits { WillFit W.fits W.sound W.only_asked W.is_first
+        (tags_of slots.now) turn.group turn.boxed.value }
     ensures desk { IsDeskOf slots.now queue.now desk.new }
     ensures leaves { LeavesDesk desk.old desk.new }
     ensures ends { OnOk result
-        (EndsTurn turn.group turn.number moment turn.value desk.old desk.new) }
+        (EndsTurn turn.group turn.number moment turn.boxed.value desk.old desk.new) }
 {
     let k = turn.group();
     let told = tell_news(rt, slots, queue, desk, telling, k, turn.value(), moment);
@@ -121,9 +122,9 @@ fn handle_entered<W: World + Drop, G: Gate, R: Wait>(
 ) -> Result<Did, NoMemory>
     requires desk { IsDeskOf slots.now queue.now desk.old }
     requires top { IsTop (view desk.old.seat) turn.group turn.number turn.found.value }
-    requires found { IsOfToken token turn.group turn.number turn.found.value turn.value }
+    requires found { IsOfToken token turn.group turn.number turn.found.value turn.boxed.value }
     requires fits { FitsHere W.fits W.sound W.only_asked W.is_first
-        (tags_of slots.now) turn.group turn.value }
+        (tags_of slots.now) turn.group turn.boxed.value }
     requires asks { CanAsk W.fits W.only_asked W.may_ask W.right W.answers (tags_of slots.now) }
     ensures desk { IsDeskOf slots.now queue.now desk.new }
     ensures closes { ClosesDesk desk.old desk.new 1 }

@@ -10,9 +10,9 @@ try_enter-requires-clause-group g c = place_below (tags_of c.args.slots.now) c.a
 pub returns-in-Ok-ask_won-clause-keeps : goal.returns-in-Ok-ask_won-clause-keeps
 returns-in-Ok-ask_won-clause-keeps g c =
     won_left (view c.args.seat.now) (view c.try_enter.new.seat) (view c.ask_won.new.seat) c.args.k
-    c.in-Ok.turn.number c.in-Ok.turn.value c.in-Ok.ensures.won c.ask_won.ensures.leaves
+    c.in-Ok.turn.number c.in-Ok.turn.boxed.value c.in-Ok.ensures.won c.ask_won.ensures.leaves
 
 pub returns-in-Err-ask_won-clause-keeps : goal.returns-in-Err-ask_won-clause-keeps
 returns-in-Err-ask_won-clause-keeps g c =
     won_left (view c.args.seat.now) (view c.try_enter.new.seat) (view c.ask_won.new.seat) c.args.k
-    c.in-Ok.turn.number c.in-Ok.turn.value c.in-Ok.ensures.won c.ask_won.ensures.leaves
+    c.in-Ok.turn.number c.in-Ok.turn.boxed.value c.in-Ok.ensures.won c.ask_won.ensures.leaves

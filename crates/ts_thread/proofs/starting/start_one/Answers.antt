@@ -42,12 +42,12 @@ end_turn-requires-clause-fits g c =
     let tag = c.requires.tags c.args.k (omega arith) in
     let entered = c.enter_at-turn.ensures.entered in
     let begun = c.in_default.ensures in
-    let later : c.enter_at-turn.result.value.cx.log.state.turns < c.number-number.result = let h =
+    let later : c.enter_at-turn.result.boxed.value.cx.log.state.turns < c.number-number.result = let h =
     entered.later in let e = c.number-number.ensures in omega arith in
     start_fits g.W.Slotted.fits g.W.World.sound g.W.World.only_asked g.W.World.is_first g.W.World.begun
     (tags_of c.args.slots.now) c.args.k c.enter_at-turn.result.group c.number-number.result
     c.number-owner.result
-    c.enter_at-turn.result.value
+    c.enter_at-turn.result.boxed.value
     c.value.result.now
     c.begin.new.group
     c.value-2.result.now
@@ -93,7 +93,7 @@ returns-clause-started g c =
           g.W.World.begun (tags_of c.args.slots.now) (HasPlaceAt GREATEST c.end_turn.new.desk) c.args.k
           c.enter_at-turn.result.number c.number-owner.result
           c.enter_at-turn.result.found.value
-          c.enter_at-turn.result.value
+          c.enter_at-turn.result.boxed.value
           c.value.result.now
           c.begin.new.group
           c.value-2.result.now

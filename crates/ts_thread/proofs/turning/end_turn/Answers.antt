@@ -14,7 +14,7 @@ tell_news-told-requires-clause-group g c =
 pub leave-requires-clause-marks : goal.leave-requires-clause-marks
 leave-requires-clause-marks g c mark there =
     let told = c.tell_news-told.ensures in
-    let given = told_given g.W.Slotted.fits c.args.turn.found.value c.args.turn.value c.value.result.now
+    let given = told_given g.W.Slotted.fits c.args.turn.found.value c.args.turn.boxed.value c.value.result.now
     c.tell_news-told.new.group c.value-2.result.now c.give.new.group c.args.turn.number
     c.args.desk.now.seat.number c.requires.has c.value.ensures.value told.same c.value-2.ensures.value
     c.give.ensures.gives in
@@ -27,7 +27,7 @@ pub returns-clause-ends : goal.returns-clause-ends
 returns-clause-ends g c =
     let told = c.tell_news-told.ensures in
     ok_to c.tell_news-told.result
-    (ends_turn c.args.turn.group c.group-k.result c.args.turn.number c.args.moment c.args.turn.value
+    (ends_turn c.args.turn.group c.group-k.result c.args.turn.number c.args.moment c.args.turn.boxed.value
     c.value.result.now c.tell_news-told.new.group c.value-2.result.now c.give.new.group
     c.args.desk.now
     c.tell_news-told.new.desk

@@ -35,7 +35,7 @@ returns-in-Ok-clause-keeps g c = record {
   desk = record {
     seat = won_closed (view c.args.desk.now.seat) (view c.try_enter.new.seat)
         (view c.handle_entered.new.desk.seat)
-        c.args.token.group c.in-Ok.turn.number 1 2 c.in-Ok.turn.value (omega arith) c.in-Ok.ensures.won
+        c.args.token.group c.in-Ok.turn.number 1 2 c.in-Ok.turn.boxed.value (omega arith) c.in-Ok.ensures.won
         c.handle_entered.ensures.closes.seat;
     share = c.handle_entered.ensures.closes.share;
   };
@@ -63,6 +63,6 @@ returns-in-Ok-clause-uses g c =
     c.handle_entered.new.desk)
     (uses_of g.W.Slotted.fits g.W.World.asking g.W.World.answers g.W.World.called g.W.World.heard
     g.W.World.left (tags_of c.args.slots.now) c.args.token c.args.moment c.in-Ok.turn.number
-    c.in-Ok.turn.found.value c.in-Ok.turn.value c.args.desk.now entered c.handle_entered.new.desk
+    c.in-Ok.turn.found.value c.in-Ok.turn.boxed.value c.args.desk.now entered c.handle_entered.new.desk
     c.in-Ok.ensures.turn.1 c.in-Ok.ensures.later c.in-Ok.ensures.won refl refl)
     c.handle_entered.ensures.serves

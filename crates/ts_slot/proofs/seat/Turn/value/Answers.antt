@@ -4,4 +4,7 @@ use Rattle.ts_slot.proofs.Turns.{turn_same}
 use Rattle.ts_slot.proofs.seat.Turn.value.Goals as goal
 
 pub returns : goal.returns
-returns g c = ((refl, λ w. turn_same _ _ refl refl refl refl), record { writes_back = tt; value = refl })
+returns g c = (
+  (refl, λ w. turn_same _ _ refl refl refl refl),
+  record { writes_back = tt; value = c.deref_mut.ensures.value },
+)
