@@ -10,7 +10,7 @@ ghost use Rattle.ts_group.specs.Acts.{Makes, Destroys, Drops, IsFreeKey};
 
 use crate::action::{Destroy, MakeFault, Named};
 use crate::reserve::spare;
-use ts_journal::{ContKey, Entry, GREATEST, Journal, MOST_KEYS, Pending};
+use ts_journal::{ContKey, Entry, GREATEST, Journal, MOST_KEYS, Pending, reserve_moved};
 
 /// The key of the continuation that a group is made with. It has the index that is given away last.
 pub const OWN_KEY: ContKey = ContKey {
@@ -58,7 +58,7 @@ pub fn make_key(
     if let Err(_) = spare(journal, 2) {
         return Err(MakeFault::NoMemory);
     }
-    if let Err(_) = roles.reserve(1) {
+    if let Err(_) = reserve_moved(roles, 1) {
         return Err(MakeFault::NoMemory);
     }
     journal.push(Entry::Made { key });

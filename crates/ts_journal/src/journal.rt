@@ -7,6 +7,7 @@ ghost use Rattle.ts_journal.specs.Log.{Extends, Folds, IsSameLog, HasRoom, HasRo
 ghost use Rattle.ts_journal.specs.Tally.{counts_of};
 
 use crate::entry::{ContKey, Counts, Entry, MOST_KEYS, Mark, NoMemory, Pending};
+use crate::room::reserve_moved;
 use crate::tables::{Tables, apply_over, event_at, fold_into, generation_of, reserve_over};
 use std::alloc::Global;
 use std::marker::Model;
@@ -99,7 +100,7 @@ impl Journal {
         ensures ok { OnOk result (HasRoomFor self.new entries) }
         ensures kept { KeepsRoom self.old self.new }
     {
-        self.entries.reserve(entries)?;
+        reserve_moved(&mut self.entries, entries)?;
         reserve_over(&mut self.base, &mut self.tables, entries)
     }
 

@@ -6,6 +6,7 @@
 mod entry;
 mod journal;
 mod laws;
+mod room;
 mod slotted;
 mod tables;
 
@@ -17,4 +18,5 @@ pub use laws::{
     closed_for_good, closed_once, counts_balance, handled_live, later_is_order, never_again,
     never_back, numbers_rise, run_is_lawful, stand_in_turns, step_is_allowed,
 };
+pub use room::reserve_moved;
 pub use slotted::Slotted;

@@ -10,6 +10,7 @@ ghost use Rattle.ts_journal.specs.declared.entry.ContKey.{ContKey as Key};
 ghost use Rattle.ts_journal.specs.declared.entry.Entry.TheVariants as Entry;
 
 use crate::entry::{ContKey, Entry, GREATEST, Latest, NoMemory, Pending};
+use crate::room::reserve_moved;
 use std::alloc::Global;
 
 /// The parts of a state.
@@ -103,8 +104,7 @@ fn reserve_like<T: Copy>(list: &mut Vec<T>, other: &Vec<T>) -> Result<(), NoMemo
     ensures kept { vec_capacity list.old ≤ vec_capacity list.new }
 {
     let lacking = other.capacity().saturating_sub(list.len());
-    list.reserve(lacking)?;
-    Ok(())
+    reserve_moved(list, lacking)
 }
 
 // Makes a list the same as another, for which it has the memory.
@@ -223,10 +223,9 @@ impl Tables {
         ensures set_room { set_room_of self.old ≤ set_room_of self.new }
         ensures key_room { key_room_of self.old ≤ key_room_of self.new }
     {
-        self.pending.reserve(places)?;
-        self.live.reserve(places)?;
-        self.newest.reserve(places)?;
-        Ok(())
+        reserve_moved(&mut self.pending, places)?;
+        reserve_moved(&mut self.live, places)?;
+        reserve_moved(&mut self.newest, places)
     }
 
     // Does what an entry says.

@@ -31,7 +31,7 @@ returns-clause-makes c =
     free.free c.requires.kept.keys
     (extends_after c.spare.ensures.same c.push.ensures.log)
     (ap (λ (x : State). x.live) e ∙ ap (λ (x : State). x.live ++ r.key ∷ []) g)
-    (c.push_reserved.ensures.items ∙ ap (λ rs. rs ++ r ∷ []) c.reserve.ensures.items)
+    (c.push_reserved.ensures.items ∙ ap (λ rs. rs ++ r ∷ []) c.reserve_moved.ensures.items)
     (record {
       pending = ap (λ (x : State). x.pending) e ∙ ap (λ (x : State). x.pending) g;
       next = ap
@@ -64,7 +64,7 @@ returns-clause-kept c =
     let left = c.push.ensures.room in
     record {
       room = omega arith;
-      keys = ap keys_of (c.push_reserved.ensures.items ∙ ap (λ rs. rs ++ r ∷ []) c.reserve.ensures.items) ∙
+      keys = ap keys_of (c.push_reserved.ensures.items ∙ ap (λ rs. rs ++ r ∷ []) c.reserve_moved.ensures.items) ∙
           keys_push c.args.roles.now.items r
           ∙ ap (λ ks. ks ++ c.in-Some.key ∷ [])
           (c.requires.kept.keys ∙ ap (λ (x : State). x.live) (sym c.spare.ensures.same.state)) ∙ ap

@@ -1,0 +1,26 @@
+//! Room in lists that grow in a turn, whatever thread took the memory that they have.
+
+ghost use Rattle.std.specs.Prelude.{◌≡◌, ◌+◌, ◌≤◌, OnOk};
+ghost use Rattle.std.specs.Vec.{vec_len, vec_capacity};
+
+use crate::entry::NoMemory;
+
+/// Makes room for so many more items. Where that takes memory, the items are copied into a block of the
+/// thread that calls: to lengthen a block in place waits for all threads that use the memory it came from.
+pub fn reserve_moved<T: Copy>(list: &mut Vec<T>, more: usize) -> Result<(), NoMemory>
+    ensures items { list.new.items ≡ list.old.items }
+    ensures ok { OnOk result (vec_len list.new + more ≤ vec_capacity list.new) }
+    ensures kept { vec_capacity list.old ≤ vec_capacity list.new }
+{
+    if more <= list.capacity() - list.len() {
+        return Ok(());
+    }
+    let Some(needed) = list.len().checked_add(more) else {
+        return Err(NoMemory);
+    };
+    let room = needed.max(list.capacity().saturating_mul(2));
+    let mut moved = Vec::with_capacity(*list.allocator(), room)?;
+    moved.extend_from_slice(list)?;
+    *list = moved;
+    Ok(())
+}
