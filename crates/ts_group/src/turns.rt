@@ -1,10 +1,10 @@
 //! Turns in a journal: how one begins and how it is given back.
 
-ghost use Rattle.std.specs.Prelude.{◌≡◌, ◌<◌, ◌≤◌, true, false, [], ◌∷◌, ◌++◌, OnOk, OnErr};
+ghost use Rattle.std.specs.Prelude.{◌≡◌, ◌<◌, ◌≤◌, true, false, [], ◌∷◌, ◌++◌, IsTrue, OnOk, OnErr};
 ghost use Rattle.ts_journal.specs.declared.entry.Entry.TheVariants as Entry;
 ghost use Rattle.ts_journal.specs.Machine.{after};
 ghost use Rattle.ts_journal.specs.Log.{Extends, GoesOn, IsSameLog, KeepsRoom};
-ghost use Rattle.ts_group.specs.Context.{HasNeeded};
+ghost use Rattle.ts_group.specs.Context.{HasNeeded, needed};
 ghost use Rattle.ts_group.specs.Changes.{CallsStay};
 ghost use Rattle.ts_group.specs.Slot.{stored_of};
 
@@ -47,9 +47,9 @@ fn fold_full(journal: &mut Journal)
     }
 }
 
-/// Enters that the mutex was given back. It takes no memory.
+// Enters that the mutex was given back.
 #[tactic(auto, using(crate::proofs::Slots::give_steps))]
-pub fn give_turn(journal: &mut Journal)
+fn enter_gave(journal: &mut Journal)
     requires turn { journal.old.state.held ≡ true }
     requires room { HasNeeded journal.old }
     ensures given { GoesOn journal.old journal.new (Entry.Gave journal.old.state.turns ∷ []) }
@@ -63,4 +63,43 @@ pub fn give_turn(journal: &mut Journal)
     let turn = journal.turns();
     journal.push(Entry::Gave { turn });
     fold_full(journal);
+}
+
+// The entries that a group needs at most which has ended: one destroys its own key, one gives a turn back.
+const MOST_NEEDED_AT_END: usize = 2;
+
+// Whether a group has ended: it made continuations, of which none is left, and nothing is pending.
+fn has_ended(journal: &Journal) -> bool
+    ensures { IsTrue result → needed journal.now.state ≤ MOST_NEEDED_AT_END }
+{
+    journal.pending().is_empty()
+        && journal.live().len() <= 1
+        && journal.newest_generation(0).is_some()
+}
+
+// Gives back the memory of a group that has ended, but that of its entries.
+fn trim_ended(journal: &mut Journal)
+    ensures same { IsSameLog journal.old journal.new }
+    ensures room { HasNeeded journal.old → HasNeeded journal.new }
+{
+    if has_ended(journal) {
+        journal.trim(MOST_NEEDED_AT_END);
+    }
+}
+
+/// Enters that the mutex was given back. It takes no memory.
+#[tactic(auto, using(crate::proofs::Slots::give_steps, ts_journal::proofs::Folding::goes_on_same))]
+pub fn give_turn(journal: &mut Journal)
+    requires turn { journal.old.state.held ≡ true }
+    requires room { HasNeeded journal.old }
+    ensures given { GoesOn journal.old journal.new (Entry.Gave journal.old.state.turns ∷ []) }
+    ensures entries { journal.new.entries
+        ≡ stored_of (journal.old.entries ++ Entry.Gave journal.old.state.turns ∷ []) }
+    ensures state { journal.new.state ≡ after journal.old.state (Entry.Gave journal.old.state.turns) }
+    ensures room { HasNeeded journal.new }
+    ensures live { journal.new.state.live ≡ journal.old.state.live }
+    ensures stay { CallsStay journal.old.state journal.new.state }
+{
+    enter_gave(journal);
+    trim_ended(journal);
 }

@@ -1,6 +1,6 @@
 //! The journal of a mutex group: its entries, and the state that they lead to.
 
-ghost use Rattle.std.specs.Prelude.{◌≡◌, ◌+◌, ◌<◌, ◌≤◌, [], ◌∷◌, length, IfSome, IfOk, OnOk, IsTrue, ◌↔◌};
+ghost use Rattle.std.specs.Prelude.{◌≡◌, ◌+◌, ◌<◌, ◌≤◌, [], ◌∷◌, length, min, IfSome, IfOk, OnOk, IsTrue, ◌↔◌};
 ghost use Rattle.ts_journal.specs.State.{fresh, fresh_with, pending_at, generation_at, IsLive};
 ghost use Rattle.ts_journal.specs.Machine.{Allowed, after, HasLived, IsLawful, IsValid, IsKnown, replay};
 ghost use Rattle.ts_journal.specs.Log.{Extends, Folds, IsSameLog, HasRoom, HasRoomFor, KeepsRoom, new_base, mark_after, set_places, key_places};
@@ -8,7 +8,9 @@ ghost use Rattle.ts_journal.specs.Tally.{counts_of};
 
 use crate::entry::{ContKey, Counts, Entry, MOST_KEYS, Mark, NoMemory, Pending};
 use crate::room::reserve_moved;
-use crate::tables::{Tables, apply_over, event_at, fold_into, generation_of, reserve_over};
+use crate::tables::{
+    Tables, apply_over, event_at, fold_into, generation_of, reserve_over, trim_over,
+};
 use std::alloc::Global;
 use std::marker::Model;
 
@@ -130,6 +132,17 @@ impl Journal {
         self.mark = last_mark(self.mark, &self.entries);
         fold_into(&mut self.base, &self.tables);
         self.entries.clear();
+    }
+
+    /// Gives back memory of the journal and its base, and keeps room for so many entries of those for which
+    /// there was room.
+    pub fn trim(&mut self, entries: usize)
+        ensures same { IsSameLog self.old self.new }
+        ensures room { min entries self.old.room ≤ self.new.room }
+    {
+        let wanted = self.entries.len().saturating_add(entries);
+        self.entries.shrink_to(wanted);
+        trim_over(&mut self.base, &mut self.tables);
     }
 
     /// The entries since the base, in order. Each was allowed where it stands.

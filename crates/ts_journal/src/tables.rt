@@ -137,6 +137,21 @@ pub fn reserve_over(base: &mut Tables, tables: &mut Tables, places: usize) -> Re
     reserve_like(&mut base.newest, &tables.newest)
 }
 
+/// Gives back the memory of tables, and of a base that can hold them, which none of their items takes.
+pub fn trim_over(base: &mut Tables, tables: &mut Tables)
+    requires hold { CanHold base.old tables.old }
+    ensures base { state_in base.new ≡ state_in base.old }
+    ensures tables { state_in tables.new ≡ state_in tables.old }
+    ensures hold { CanHold base.new tables.new }
+{
+    base.pending.shrink_to(tables.pending.len());
+    base.live.shrink_to(tables.live.len());
+    base.newest.shrink_to(tables.newest.len());
+    tables.pending.shrink_to_fit();
+    tables.live.shrink_to_fit();
+    tables.newest.shrink_to_fit();
+}
+
 /// Does what an entry says, in tables that a base can hold then too.
 #[tactic(auto, using(crate::proofs::Folding::apply_steps))]
 pub fn apply_over(base: &Tables, tables: &mut Tables, entry: Entry)
