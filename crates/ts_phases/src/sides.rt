@@ -9,7 +9,7 @@ ghost use Rattle.ts_phases.specs.Lowering.{RaisesUpload};
 
 use crate::head_reader::{Found, seek_request, seek_response_if};
 use crate::parts::{Core, Sent};
-use crate::peers::{move_upload, push_origin, queue_if};
+use crate::peers::{give_back_origin, move_upload, push_origin, queue_if};
 use std::alloc::Global;
 use ts_block::joined;
 use ts_link::{Link, NoMemory};
@@ -114,5 +114,13 @@ impl<C: Link, O: Upstream<C>> Core<C, O> {
             cuts,
         };
         Ok(())
+    }
+
+    /// Gives back the memory of what was read and written on both sides, but of the bytes that wait there.
+    pub(crate) fn give_back(&mut self)
+        ensures { self.new ≡ self.old }
+    {
+        self.client.give_back(self.alloc);
+        give_back_origin(self.alloc, &mut self.origin);
     }
 }

@@ -1,4 +1,5 @@
 //! One step of a transaction, by its phase.
+ghost use Rattle.std.specs.Prelude.{◌≡◌};
 ghost use Rattle.ts_phases.specs.View.{IsPaired};
 ghost use Rattle.ts_phases.specs.Cover.{StepLeads};
 ghost use Rattle.ts_phases.specs.Lowering.{StepFallsFrom};
@@ -7,6 +8,7 @@ ghost use Rattle.ts_phases.specs.Holding.{PhaseHolds, HoldsAfter};
 
 use crate::parts::Core;
 use crate::phase::{Next, Phase, Step};
+use ts_hooks::TxnEnd;
 use ts_link::Link;
 use ts_upstream::Upstream;
 
@@ -48,14 +50,23 @@ impl<C: Link, O: Upstream<C>> Core<C, O> {
             Phase::ResponseTransform { .. } => Step::LACKS,
             Phase::SendResponseHdr { answer } => self.send_response_hdr(answer),
             Phase::Sending { answer } => self.send(answer),
-            Phase::TxnClose { end } => Step {
-                phase: Phase::Ended { end },
-                next: Next::Done,
-            },
+            Phase::TxnClose { end } => self.close(end),
             Phase::Ended { end } => Step {
                 phase: Phase::Ended { end },
                 next: Next::Done,
             },
+        }
+    }
+
+    // Ends a transaction, which keeps its links, and the bytes that wait on its sides.
+    fn close(&mut self, end: TxnEnd) -> Step
+        ensures same { self.new ≡ self.old }
+        ensures ended { result ≡ record { phase = Phase.Ended end; next = Next.Done } }
+    {
+        self.give_back();
+        Step {
+            phase: Phase::Ended { end },
+            next: Next::Done,
         }
     }
 }

@@ -1,7 +1,10 @@
 -- The step of each phase at which nothing is called, and that where a body was to begin, which lacks memory.
-use Rattle.std.proofs.Common.{refl, subst}
+use Rattle.std.proofs.Common.{refl, subst, sym}
 use Rattle.ts_phases.specs.Holding.{PhaseFact}
+use Rattle.ts_phases.specs.Owed.{StepOwes}
+use Rattle.ts_phases.specs.Lowering.{StepFallsFrom}
 use Rattle.ts_phases.specs.declared.phase.Phase.{Phase}
+use Rattle.ts_phases.specs.declared.phase.Step.{Step}
 use Rattle.ts_phases.specs.declared.phase.Phase.TheVariants as P
 use Rattle.std.specs.Arc.{arc_value}
 use Rattle.ts_hooks.specs.declared.txn_end.TxnEnd.TheVariants as E
@@ -46,8 +49,12 @@ returns-in-ResponseTransform-clause-owes g c =
 
 pub returns-in-TxnClose-clause-owes : goal.returns-in-TxnClose-clause-owes
 returns-in-TxnClose-clause-owes g c =
-    stands_at g.C.Link g.O.Link g.O.Upstream c.args.self.now (P.TxnClose c.in-TxnClose.end)
-    c.in-TxnClose.is refl (stood _ _ _ refl, refl) tt
+    subst (λ s. StepOwes g.C.Link g.O.Link g.O.Upstream c.args.self.now s c.args.phase c.close.result)
+    (sym c.close.ensures.same)
+    (subst (λ r. StepOwes g.C.Link g.O.Link g.O.Upstream c.args.self.now c.args.self.now c.args.phase r)
+    (sym c.close.ensures.ended)
+    (stands_at g.C.Link g.O.Link g.O.Upstream c.args.self.now (P.TxnClose c.in-TxnClose.end)
+    c.in-TxnClose.is refl (stood _ _ _ refl, refl) tt))
 
 pub returns-clause-owes : goal.returns-clause-owes
 returns-clause-owes g c =
@@ -70,7 +77,11 @@ returns-in-TxnClose-clause-fact g c = λ told also.
     let setup = arc_value c.args.self.now.setup in
     let v = view_of g.C.Link g.O.Link c.args.self.now in
     let refuses = OriginRefuses g.C.Link g.O.Upstream c.args.self.now in
-    subst (λ (p : Phase). PhaseFact setup refuses v p) c.in-TxnClose.is (c.requires.stands.0 told also)
+    let fact : PhaseFact setup refuses v (P.Ended c.in-TxnClose.end) = subst
+    (λ (p : Phase). PhaseFact setup refuses v p) c.in-TxnClose.is (c.requires.stands.0 told also) in
+    subst (λ s. PhaseFact setup refuses (view_of g.C.Link g.O.Link s) c.close.result.phase)
+    (sym c.close.ensures.same)
+    (subst (λ (r : Step). PhaseFact setup refuses v r.phase) (sym c.close.ensures.ended) fact)
 
 pub returns-clause-fact : goal.returns-clause-fact
 returns-clause-fact g c = λ told also.
@@ -125,8 +136,13 @@ returns-in-ResponseTransform-clause-falls g c =
 
 pub returns-in-TxnClose-clause-falls : goal.returns-in-TxnClose-clause-falls
 returns-in-TxnClose-clause-falls g c =
-    still_end _ _ (arc_value c.args.self.now.setup) (view_of g.C.Link g.O.Link c.args.self.now)
-    (upload_of g.O.Upstream c.args.self.now) c.args.phase c.in-TxnClose.end
+    let setup = arc_value c.args.self.now.setup in
+    let v = view_of g.C.Link g.O.Link c.args.self.now in
+    let u = upload_of g.O.Upstream c.args.self.now in
+    subst (λ s. StepFallsFrom g.C.Link g.O.Link g.O.Upstream c.args.self.now s c.args.phase c.close.result)
+    (sym c.close.ensures.same)
+    (subst (λ r. StepFallsFrom g.C.Link g.O.Link g.O.Upstream c.args.self.now c.args.self.now c.args.phase r)
+    (sym c.close.ensures.ended) (still_end _ _ setup v u c.args.phase c.in-TxnClose.end))
 
 pub returns-clause-falls : goal.returns-clause-falls
 returns-clause-falls g c =
