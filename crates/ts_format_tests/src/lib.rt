@@ -5,6 +5,8 @@
 #[cfg(test)]
 mod configurations;
 #[cfg(test)]
+mod generated;
+#[cfg(test)]
 mod recordings;
 #[cfg(test)]
 mod reports;

@@ -1,4 +1,5 @@
 pub mod Fails
+pub mod Generating
 pub mod Growing
 pub mod Keywords
 pub mod Links

@@ -1,6 +1,7 @@
 -- The report on a recording, block by block.
 use Rattle.std.specs.Prelude.{ℕ, ◌+◌, List, [], ◌∷◌, ◌++◌, codes, length, ⊤}
 use Rattle.std.specs.Fmt.{decimal}
+use Rattle.std.specs.List.{AllByRecursion}
 use Rattle.ts_hooks.specs.declared.txn_end.TxnEnd.{TxnEnd}
 use Rattle.ts_hooks.specs.declared.txn_end.TxnEnd.TheVariants as e
 use Rattle.ts_link.specs.Texts.{line_feed}
@@ -19,6 +20,10 @@ IsReported e.Whole = ⊤
 IsReported e.OriginCut = ⊤
 IsReported e.OriginBad = ⊤
 IsReported other = ⊥
+
+-- the ends of all these blocks are
+abbrev pub AreReported : List ReportBlock → Type 0
+AreReported blocks = AllByRecursion (λ b. IsReported b.end) blocks
 
 -- a line with a name and a length, so many bytes, and a line feed
 abbrev pub sized_text : List ℕ → List ℕ → List ℕ

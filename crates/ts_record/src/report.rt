@@ -1,10 +1,12 @@
 //! The report on a recording: the text of what one transaction came to.
 ghost use Rattle.std.specs.Prelude.{◌≡◌, ◌++◌, IfOk, OnOk};
 ghost use Rattle.ts_record.specs.Printing.{KeepsFront};
-ghost use Rattle.ts_record.specs.Report.{IsReported, end_word, sized_text, request_lines, head_lines, block_text};
+ghost use Rattle.ts_record.specs.Report.{AreReported, IsReported, end_word, sized_text, request_lines, head_lines};
+ghost use Rattle.ts_record.specs.Report.{block_text, report_text};
 
 use itoa::Buffer;
 use std::alloc::Global;
+use std::collections::VecDeque;
 use ts_hooks::TxnEnd;
 use ts_link::{NoMemory, Octets};
 
@@ -102,4 +104,21 @@ pub fn report_block(alloc: Global, number: u64, block: &ReportBlock) -> Result<O
     let mut out = Vec::new(alloc);
     add_block(&mut out, number, block)?;
     Ok(Octets::of_vec(out))
+}
+
+/// The report on transactions that came to these blocks, in their order. A block is let go once its lines
+/// are printed.
+pub fn print_report(alloc: Global, blocks: Vec<ReportBlock>) -> Result<Vec<u8>, NoMemory>
+    requires { AreReported blocks.items }
+    ensures { IfOk result (λ report. report.items ≡ report_text blocks.items) }
+{
+    let mut report = Vec::from_slice(alloc, REPORT_BEGIN)?;
+    let mut rest = VecDeque::from_vec(blocks);
+    let mut number = 0;
+    'lines: while let Some(block) = rest.pop_front() {
+        number += 1;
+        add_block(&mut report, number, &block)?;
+    }
+    report.extend_from_slice(REPORT_END)?;
+    Ok(report)
 }
