@@ -1,5 +1,5 @@
 -- Where tokens come from and where they go: a thread's wheel and its pass of the queue.
-use Rattle.std.specs.Prelude.{◌≡◌, ℕ, ◌<◌, ◌≤◌, ◌⊎◌, ◌++◌, ◌==◌, ◌%◌, Bool, true, false, List, Some, None, All}
+use Rattle.std.specs.Prelude.{◌≡◌, ℕ, ◌<◌, ◌≤◌, ◌⊎◌, ◌++◌, ◌==◌, ◌%◌, ◌&&◌, nat_lt, Bool, true, false, List, Some, None, All}
 use Rattle.ts_journal.specs.declared.slotted.Slotted.{Ghosts}
 use Rattle.ts_journal.specs.declared.entry.TheConstants.{GREATEST}
 use Rattle.ts_link.specs.Counts.{Rose}
@@ -10,17 +10,17 @@ use Rattle.ts_queue.specs.declared.view.PassView.{PassView}
 use Rattle.ts_queue.specs.Views.{putting_next}
 use Rattle.ts_queue.specs.Passes.{pass_view, empties_of, TakesTicket, FindsEmpty}
 use Rattle.ts_wheel.specs.Due.{added, first_due, after_due}
-use Rattle.ts_thread.specs.declared.desk.TheConstants.{SHARED_EVERY}
+use Rattle.ts_thread.specs.declared.desk.TheConstants.{OWN_EVENTS, SHARED_EVERY}
 use Rattle.ts_thread.specs.declared.desk.Desk.{Desk}
 use Rattle.ts_thread.specs.declared.desk.Telling.{Telling}
 use Rattle.ts_thread.specs.declared.desk.Telling.TheVariants as telling
 
 -- Whether a token that is due goes through the queue: all that a group's start tells, so that the threads
--- share the groups; and of later turns one of so many event numbers of a group, so that what waits in the
--- queue is always taken.
+-- share the groups; and of later turns, past a group's first events, one of so many event numbers, so that
+-- what waits in the queue is always taken.
 abbrev pub is_shared : Telling → ℕ → Bool
 is_shared telling.Start number = true
-is_shared telling.Turn number = number % SHARED_EVERY == 1
+is_shared telling.Turn number = nat_lt OWN_EVENTS number && (number % SHARED_EVERY == 1)
 
 -- each token names one of so many groups
 abbrev pub AllName : ℕ → List (ℕ × Token) → Type 0

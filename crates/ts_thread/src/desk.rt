@@ -71,7 +71,11 @@ pub enum Telling {
     Turn,
 }
 
-// Of so many event numbers of a group, the event of one goes through the queue where it is due.
+// So many events of a group stay with the thread that handles it, so what takes no more of them ends there,
+// and not behind all that waits in the queue.
+const OWN_EVENTS: u64 = 128;
+
+// Of so many event numbers of a group after these, the event of one goes through the queue where it is due.
 const SHARED_EVERY: u64 = 16;
 
 // Whether a token that is due is shared with the other threads.
@@ -80,7 +84,7 @@ fn is_shared(telling: Telling, number: u64) -> bool
 {
     match telling {
         Telling::Start => true,
-        Telling::Turn => number % SHARED_EVERY == 1,
+        Telling::Turn => number > OWN_EVENTS && number % SHARED_EVERY == 1,
     }
 }
 
