@@ -1,16 +1,15 @@
 -- Turns of a journal that nobody else has.
 use Rattle.std.proofs.Common.{◌≡◌, ◌⊎◌, inl, inr, ℕ, zero, suc, ◌+◌, List, [], ◌∷◌, ◌++◌, refl, ap, sym, ◌∙◌, subst, arith, append_assoc, append-nil}
 use Rattle.ts_journal.specs.declared.entry.Entry.{Entry}
-use Rattle.ts_journal.specs.declared.entry.Entry.TheVariants.{Took, Gave, Handled}
+use Rattle.ts_journal.specs.declared.entry.Entry.TheVariants.{Took, Gave}
 use Rattle.ts_journal.specs.State.{State}
 use Rattle.ts_journal.specs.Machine.{replay}
 use Rattle.ts_journal.specs.Log.{Log, Extends, GoesOn, IsSameLog}
 use Rattle.ts_journal.proofs.Folding.{goes_on_extends, goes_on_same, goes_on_trans}
 use Rattle.ts_journal.proofs.Lawful.{replay-append}
 use Rattle.ts_group.specs.Context.{Context}
-use Rattle.ts_group.specs.Entries.{asking_entries, renewal}
+use Rattle.ts_group.specs.Entries.{asking_entries}
 use Rattle.ts_group.specs.Acts.{BeginsTurn, GivesTurn}
-use Rattle.ts_group.specs.Calls.{RunsFrom}
 use Rattle.ts_group.specs.Due.{IsDueFirst}
 use Rattle.ts_thread.specs.Alone.{HandlesDue, HandlesQuestion, IsOwnTurn, AreOwnTurns, TakesTurns}
 
@@ -135,18 +134,3 @@ takes_over f a b n t = record {
   are = turns_over f
       t.turns a.state t.added t.are;
 }
-
--- the entries of a handling begin with the event that is named
-pub runs_begin : {W : Type 0} (Called : W → W → List ℕ → Type 0) (old new : W) (s : State) (moment number : ℕ)
-    (queue : List ℕ) (k : ℕ) (es : List Entry) (left : List ℕ)
-    → RunsFrom Called old new s moment number queue k es left
-    → (others : List Entry) × (es ≡ Handled number moment ∷ others)
-runs_begin Called old new s moment number queue zero es left h = absurd h
-runs_begin Called old new s moment number queue (suc zero) es left (asked, run, called, ends) =
-    (renewal run.event s.next moment ++ run.own, run.entries_are)
-runs_begin Called old new s moment number queue (suc (suc k)) es left
-    (asked, run, others, is, are, mid, called, next, behind, found, rest) = (
-      (renewal is.event s.next moment ++ is.own) ++ others,
-      are ∙ ap (λ (xs : List Entry). xs ++ others)
-          is.entries_are,
-    )

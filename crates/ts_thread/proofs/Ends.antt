@@ -23,7 +23,7 @@ use Rattle.ts_thread.specs.Desks.{IsDeskOf}
 use Rattle.ts_thread.specs.Held.{HasTurn, IsGivenBack, GivesBack}
 use Rattle.ts_thread.specs.News.{OnlyNews, HasTold, HasPlace, HasTicket, is_between, is_news, in_wheel, in_tickets, places_of}
 use Rattle.ts_thread.specs.Seats.{KnowsTurn}
-use Rattle.ts_thread.specs.Tokens.{AllName}
+use Rattle.ts_thread.specs.Tokens.{AllName, Stays}
 use Rattle.ts_thread.specs.Turning.{EndsTurn}
 use Rattle.ts_thread.proofs.Groups.{keeps_same, marks_given}
 use Rattle.ts_thread.proofs.Tokens.{one_if, All-added}
@@ -86,20 +86,20 @@ module _ {W Q R T U : Type 0} where
       (subst (λ x. GivesBack x c) f gives)
 
   module _ {d : Ghosts (Group W Q R T U) T (Group W Q R T U)} where
-    pub ends_turn : (k k' turn moment : ℕ) (a a' b b' c : Group W Q R T U)
+    pub ends_turn : (shared : Bool) (k k' turn moment : ℕ) (a a' b b' c : Group W Q R T U)
         (old mid new : Desk (Group W Q R T U) T (Group W Q R T U) d) → k' ≡ k → a' ≡ a
         → IsSame (record a'.cx { news_from = b.cx.news_from }) b.cx → b.world ≡ a'.world → b' ≡ b
         → GivesBack b' c
         → new.wheel ≡ mid.wheel → new.pass ≡ mid.pass → KnowsTurn k turn c (view new.seat).known
-        → HasTold k' moment a' b old mid → EndsTurn k turn moment a old new
-    ends_turn k k' turn moment a a' b b' c old mid new ke e same world f gives' wheel pass knows told =
+        → HasTold shared k' moment a' b old mid → EndsTurn shared k turn moment a old new
+    ends_turn shared k k' turn moment a a' b b' c old mid new ke e same world f gives' wheel pass knows told =
         let gives : GivesBack b c = subst (λ x. GivesBack x c) f gives' in
         let pending : c.cx.log.state.pending ≡ b.cx.log.state.pending = gives.same.pending in
         let from = gives.news_from in
         let state : b.cx.log.state ≡ a.cx.log.state = same.log.state ∙ ap
         (λ (x : Group W Q R T U). x.cx.log.state) e in
-        let told' : HasTold k moment a b old mid = subst
-        (λ (x : ℕ × Group W Q R T U). HasTold x.0 moment x.1 b old mid) (λ i. (ke i, e i)) told in
+        let told' : HasTold shared k moment a b old mid = subst
+        (λ (x : ℕ × Group W Q R T U). HasTold shared x.0 moment x.1 b old mid) (λ i. (ke i, e i)) told in
         record {
           left = c;
           as_now = record {
@@ -125,18 +125,30 @@ module _ {W Q R T U : Type 0} where
               put = λ t there. subst (λ (p : QueuePass). HasTicket t (pass_view p).put) (sym pass)
                   (told'.keeps.put t there);
               taken = ap (λ (p : QueuePass). (pass_view p).taken) pass ∙ told'.keeps.taken;
+              spent = λ none. serial ∙ told'.keeps.spent none;
             };
             empties = ap (λ p. empties_of p) pass ∙ told'.empties;
           };
           knows = knows;
         }
       where
-        placed : (p : Pending) → HasPlace moment k p mid → HasPlace moment k p new
-        placed p (inl there) = inl (subst (IsIn (p.due, record { group = k; number = p.number })) (sym wheel)
-            there)
+        serial : (pass_view new.pass).serial ≡ (pass_view mid.pass).serial
+        serial = ap (λ (p : QueuePass). (pass_view p).serial) pass
+
+        stays : (p : Pending) → Stays shared p.due moment mid → Stays shared p.due moment new
+        stays p (inl late) = inl late
+        stays p (inr (inl own)) = inr (inl own)
+        stays p (inr (inr none)) = inr (inr (serial ∙ none))
+
+        placed : (p : Pending) → HasPlace shared moment k p mid → HasPlace shared moment k p new
+        placed p (inl waits) = inl (
+          stays p waits.0,
+          subst (IsIn (p.due, record { group = k; number = p.number })) (sym wheel) waits.1,
+        )
         placed p (inr put) = inr (
           put.0,
+          put.1,
           subst
               (λ (q : QueuePass). HasTicket (record { group = k; number = p.number }) (pass_view q).put)
-              (sym pass) put.1,
+              (sym pass) put.2,
         )

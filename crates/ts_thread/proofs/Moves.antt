@@ -31,7 +31,8 @@ use Rattle.ts_thread.specs.declared.did.Unfinished.{Unfinished}
 use Rattle.ts_thread.specs.declared.did.Unfinished.TheVariants as unfinished
 use Rattle.ts_thread.specs.Tags.{GroupFits}
 use Rattle.ts_thread.specs.Alone.{HandlesQuestion}
-use Rattle.ts_thread.proofs.Alone.{takes_none, takes_on, takes_over, one_turn, first_after, asks_after, runs_begin}
+use Rattle.ts_thread.proofs.Alone.{takes_none, takes_on, takes_over, one_turn, first_after, asks_after}
+use Rattle.ts_thread.proofs.Entries.{runs_first}
 use Rattle.ts_thread.specs.Goings.{IsLaterGroup, HasTakenTurns, WorksOn, ComesNext}
 
 -- what falls by so much falls by less
@@ -277,9 +278,9 @@ module _ {W Q R T U : Type 0} (Fits : T → W → Type 0) (Sound : W → State �
   handled_works Called g h number moment events due valid handles tags sound few falls = record {
     did = handles.es;
     by = handles.by;
-    first = inr (let begin = runs_begin Called g.world h.world g.cx.log.state moment number [] events
+    first = inr (let begin = runs_first Called g.world h.world g.cx.log.state moment number [] events
         handles.es h.cx.calls handles.runs in record
-        { number = number; due = moment; first = due; others = begin.0; are = begin.1 });
+        { number = number; due = moment; first = due; others = begin.rest; are = begin.is });
     turn = handles.turn;
     later = extends_later g.cx.log h.cx.log handles.es valid handles.by;
     tags = tags;
@@ -302,7 +303,7 @@ module _ {W Q R T U : Type 0} (Fits : T → W → Type 0) (Sound : W → State �
   told_works {r = r} Called g h k number moment events due valid valid' handles tags few falls grows turn
       sound tags' few' falls' =
       let some : 1 ≤ events = handles.some in
-      let begin = runs_begin Called g.world h.world g.cx.log.state moment number [] events handles.es
+      let begin = runs_first Called g.world h.world g.cx.log.state moment number [] events handles.es
       h.cx.calls handles.runs in
       let less : (IsErrOf r unfinished.Worn → ⊥) → LeavesLess Left g (events + 0) k =
       λ well. falls_trans (Left g.world g.cx.log.state) (Left h.world h.cx.log.state)
@@ -314,8 +315,8 @@ module _ {W Q R T U : Type 0} (Fits : T → W → Type 0) (Sound : W → State �
             number = number;
             due = moment;
             first = due;
-            others = begin.0 ++ grows.log.own;
-            are = ap (λ (xs : List Entry). xs ++ grows.log.own) begin.1;
+            others = begin.rest ++ grows.log.own;
+            are = ap (λ (xs : List Entry). xs ++ grows.log.own) begin.is;
           });
           turn = record { held = turn.held; turns = turn.turns ∙ handles.turn.turns };
           later = later_trans g.cx.log.state h.cx.log.state k.cx.log.state

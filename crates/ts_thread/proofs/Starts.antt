@@ -25,20 +25,11 @@ use Rattle.ts_wheel.specs.Due.{next_moment}
 use Rattle.ts_thread.specs.declared.desk.Desk.{Desk}
 use Rattle.ts_thread.specs.Entering.{IsEntered}
 use Rattle.ts_thread.specs.Held.{HasTurn, BeginsSame, StartsInTurn, FitsHere, WillFit}
-use Rattle.ts_thread.specs.News.{HasPlaceAt, KeepsPlaces}
+use Rattle.ts_thread.specs.News.{HasPlaceAt}
 use Rattle.ts_thread.specs.Seats.{More, KeepsSeat, Leaves, KnowsTurn}
 use Rattle.ts_thread.specs.Started.{HasPut, IsFirst, Starts, WasStarted, Started, AllStarted}
 use Rattle.ts_thread.proofs.Groups.{keeps_same, turn_follows, has_gone}
 use Rattle.ts_thread.proofs.Seats.{keeps_trans, won_left}
-
--- what has a place at a desk keeps it
-pub place_stays : {X G T : Type 0} {d : Ghosts X G T} (moment : ℕ) (old new : Desk X G T d)
-    → KeepsPlaces old new
-    → (k : ℕ) (p : Pending) → HasPlaceAt moment old k p → HasPlaceAt moment new k p
-place_stays moment old new keeps k p has = elim has [
-  | inl waits ↦ inl (keeps.wheel _ waits)
-  | inr put ↦ inr (put.0, keeps.put _ put.1)
-]
 
 -- a wheel in which no token waits is empty
 pub none_waits : (wheel : List (ℕ × Token)) → next_moment wheel ≡ None → wheel ≡ []
@@ -49,8 +40,8 @@ none_waits (e ∷ es) none = absurd (cc)
 pub place_put : {X G T : Type 0} {d : Ghosts X G T} (moment : ℕ) (desk : Desk X G T d) → desk.wheel ≡ []
     → (k : ℕ) (p : Pending) → HasPlaceAt moment desk k p → HasPut desk.pass k p
 place_put moment desk none k p has = elim has [
-  | inl waits ↦ absurd (subst (IsIn _) none waits)
-  | inr put ↦ put.1
+  | inl waits ↦ absurd (subst (IsIn _) none waits.1)
+  | inr put ↦ put.2
 ]
 
 -- a group was entered, and left

@@ -10,7 +10,7 @@ use Rattle.ts_journal.specs.Machine.{IsValid}
 use Rattle.ts_journal.proofs.Events.{is_known}
 use Rattle.ts_group.specs.declared.group.Group.{Group}
 use Rattle.ts_group.specs.Context.{Context, IsSame}
-use Rattle.ts_group.specs.Due.{NoNews, IsNews, IsFirstNews}
+use Rattle.ts_group.specs.Due.{IsNews, IsFirstNews}
 use Rattle.ts_queue.specs.declared.queue.EventQueue.{EventQueue}
 use Rattle.ts_queue.specs.declared.queue.QueuePass.{QueuePass}
 use Rattle.ts_queue.specs.declared.ticket.Token.{Token}
@@ -24,10 +24,9 @@ use Rattle.ts_slot.specs.Lists.{IsIn}
 use Rattle.ts_slot.specs.Words.{tags_of, IsSeatOf}
 use Rattle.ts_wheel.specs.Due.{added}
 use Rattle.ts_thread.specs.declared.desk.Desk.{Desk}
-use Rattle.ts_thread.specs.declared.desk.Telling.{Telling}
 use Rattle.ts_thread.specs.Desks.{IsDeskOf, SharesSame}
-use Rattle.ts_thread.specs.News.{in_wheel, in_tickets, HasTicket, is_between, places_of, HasPlace, KeepsPlaces, HasTold}
-use Rattle.ts_thread.specs.Tokens.{AllName, Places, SamePlaces}
+use Rattle.ts_thread.specs.News.{in_wheel, in_tickets, HasTicket, is_between, places_of, HasPlace, KeepsPlaces}
+use Rattle.ts_thread.specs.Tokens.{AllName, Places, SamePlaces, Stays}
 use Rattle.ts_thread.proofs.Tokens.{one_if, same_some, All-added, in_added, is_added, wheel-added, tickets-cons}
 
 some_is : {X : Type 0} (o : Option X) (x : X) → o ≡ Some x → is_some o ≡ true
@@ -77,21 +76,6 @@ between_next k from to s p t low (there, high, least) =
 ticket_stays : (t : Token) (u : Ticket) (us : List Ticket) → HasTicket t us → HasTicket t (u ∷ us)
 ticket_stays t u us (v, there, is) = (v, inr there, is)
 
-same_refl : (a : Context) → IsSame a a
-same_refl a = record {
-  log = record { base = refl; entries = refl; state = refl };
-  roles = refl;
-  moment =
-      refl;
-  running = refl;
-  role = refl;
-  news_from = refl;
-  calls = refl;
-}
-
-none_between : (k from : ℕ) (ps : List Pending) (t : Token) → one_if (is_between k from from ps t) ≡ 0
-none_between k from ps t = grind (arith, nat_tests)
-
 same_next : (a b c : Context) → IsSame (record a { news_from = b.news_from }) b
     → IsSame (record b { news_from = c.news_from }) c → IsSame (record a { news_from = c.news_from }) c
 same_next a b c p q = record {
@@ -110,21 +94,20 @@ same_next a b c p q = record {
 }
 
 module _ {X G T : Type 0} {d : Ghosts X G T} where
-  keeps_refl : (desk : Desk X G T d) → KeepsPlaces desk desk
-  keeps_refl desk = record { wheel = λ e h. h; put = λ t h. h; taken = refl }
-
-  keeps_place : {telling : Telling} (a b : Desk X G T d) (token : Token) (due moment : ℕ)
-      → Places telling token due moment a b → KeepsPlaces a b
+  keeps_place : {shared : Bool} (a b : Desk X G T d) (token : Token) (due moment : ℕ)
+      → Places shared token due moment a b → KeepsPlaces a b
   keeps_place a b token due moment (inl puts) = record {
     wheel = λ e h. subst (IsIn e) (sym puts.wheel) h;
     put = λ t h. subst (λ (v : PassView). HasTicket t v.put) (sym puts.pass)
         (ticket_stays t (next_ticket (pass_view a.pass) token) (pass_view a.pass).put h);
     taken = ap (λ (v : PassView). v.taken) puts.pass;
+    spent = λ none. let left = puts.left in absurd (omega arith);
   }
   keeps_place a b token due moment (inr adds) = record {
     wheel = λ e h. subst (IsIn e) (sym adds.wheel) (in_added due token a.wheel e h);
     put = λ t h. subst (λ (v : PassView). HasTicket t v.put) (sym adds.pass) h;
     taken = ap (λ (v : PassView). v.taken) adds.pass;
+    spent = λ none. ap (λ (v : PassView). v.serial) adds.pass ∙ none;
   }
 
   pub keeps_trans : (a b c : Desk X G T d) → KeepsPlaces a b → KeepsPlaces b c → KeepsPlaces a c
@@ -132,6 +115,7 @@ module _ {X G T : Type 0} {d : Ghosts X G T} where
     wheel = λ e x. k.wheel e (h.wheel e x);
     put = λ t x. k.put t (h.put t x);
     taken = k.taken ∙ h.taken;
+    spent = λ none. k.spent (h.spent none);
   }
 
   -- a token was added to the wheel
@@ -141,6 +125,7 @@ module _ {X G T : Type 0} {d : Ghosts X G T} where
     wheel = λ e h. subst (IsIn e) (sym wheel) (in_added due token a.wheel e h);
     put = λ t h. subst (λ (p : QueuePass). HasTicket t (pass_view p).put) (sym pass) h;
     taken = ap (λ (p : QueuePass). (pass_view p).taken) pass;
+    spent = λ none. ap (λ (p : QueuePass). (pass_view p).serial) pass ∙ none;
   }
 
   -- nothing got a place, and none was lost
@@ -149,13 +134,23 @@ module _ {X G T : Type 0} {d : Ghosts X G T} where
     wheel = λ e h. subst (IsIn e) (sym same.wheel) (keeps.wheel e h);
     put = λ t h. subst (λ (v : PassView). HasTicket t v.put) (sym same.pass) (keeps.put t h);
     taken = ap (λ (v : PassView). v.taken) same.pass ∙ keeps.taken;
+    spent = λ none. ap (λ (v : PassView). v.serial) same.pass ∙ keeps.spent none;
   }
 
-  has_place : {telling : Telling} (a b : Desk X G T d) (moment k : ℕ) (p : Pending)
-      → Places telling (record { group = k; number = p.number }) p.due moment a b → HasPlace moment k p b
-  has_place a b moment k p (inl puts) =
+  -- what stays with its thread does so as long as no place is lost
+  stays_on : (shared : Bool) (a b : Desk X G T d) (due moment : ℕ) → KeepsPlaces a b
+      → Stays shared due moment a → Stays shared due moment b
+  stays_on shared a b due moment keeps (inl late) = inl late
+  stays_on shared a b due moment keeps (inr (inl own)) = inr (inl own)
+  stays_on shared a b due moment keeps (inr (inr none)) = inr (inr (keeps.spent none))
+
+  has_place : {shared : Bool} (a b : Desk X G T d) (moment k : ℕ) (p : Pending)
+      → Places shared (record { group = k; number = p.number }) p.due moment a b
+      → HasPlace shared moment k p b
+  has_place {shared = shared} a b moment k p (inl puts) =
       inr (
         puts.is_due,
+        puts.by_shared,
         subst (λ (v : PassView). HasTicket (record { group = k; number = p.number }) v.put)
             (sym puts.pass) (
               next_ticket (pass_view a.pass) (record { group = k; number = p.number }),
@@ -163,18 +158,29 @@ module _ {X G T : Type 0} {d : Ghosts X G T} where
               refl,
             ),
       )
-  has_place a b moment k p (inr adds) = inl (subst (IsIn (p.due, record { group = k; number = p.number }))
-      (sym adds.wheel) (is_added p.due (record { group = k; number = p.number }) a.wheel))
+  has_place {shared = shared} a b moment k p (inr adds) =
+      inl (
+        stays_on shared a b p.due moment
+            (keeps_place a b (record { group = k; number = p.number }) p.due moment (inr adds)) adds.stays,
+        subst (IsIn (p.due, record { group = k; number = p.number }))
+            (sym adds.wheel) (is_added p.due (record { group = k; number = p.number }) a.wheel),
+      )
 
-  place_stays : (a b : Desk X G T d) (moment k : ℕ) (p : Pending) → KeepsPlaces a b → HasPlace moment k p a
-      → HasPlace moment k p b
-  place_stays a b moment k p keeps (inl there) = inl
-      (keeps.wheel (p.due, record { group = k; number = p.number }) there)
-  place_stays a b moment k p keeps (inr put) = inr
-      (put.0, keeps.put (record { group = k; number = p.number }) put.1)
+  -- a place stays one as long as none is lost
+  pub place_stays : (shared : Bool) (a b : Desk X G T d) (moment k : ℕ) (p : Pending) → KeepsPlaces a b
+      → HasPlace shared moment k p a → HasPlace shared moment k p b
+  place_stays shared a b moment k p keeps (inl waits) = inl (
+    stays_on shared a b p.due moment keeps waits.0,
+    keeps.wheel (p.due, record { group = k; number = p.number }) waits.1,
+  )
+  place_stays shared a b moment k p keeps (inr put) = inr (
+    put.0,
+    put.1,
+    keeps.put (record { group = k; number = p.number }) put.2,
+  )
 
-  count_place : {telling : Telling} (a b : Desk X G T d) (token : Token) (due moment : ℕ) (t : Token)
-      → Places telling token due moment a b → places_of t b ≡ places_of t a + one_if (is_same_token t token)
+  count_place : {shared : Bool} (a b : Desk X G T d) (token : Token) (due moment : ℕ) (t : Token)
+      → Places shared token due moment a b → places_of t b ≡ places_of t a + one_if (is_same_token t token)
   count_place a b token due moment t (inl puts) =
       let w : in_wheel t b.wheel ≡ in_wheel t a.wheel = ap (in_wheel t) puts.wheel in
       let p : in_tickets t (pass_view b.pass).put ≡ in_tickets t
@@ -187,15 +193,15 @@ module _ {X G T : Type 0} {d : Ghosts X G T} where
       (λ (v : PassView). in_tickets t v.put) adds.pass in
       let c = wheel-added t due token a.wheel in omega arith
 
-  share_place : {telling : Telling} (a b : Desk X G T d) (token : Token) (due moment : ℕ)
-      → Places telling token due moment a b → SharesSame a b
+  share_place : {shared : Bool} (a b : Desk X G T d) (token : Token) (due moment : ℕ)
+      → Places shared token due moment a b → SharesSame a b
   share_place a b token due moment (inl puts) = ap (λ (v : PassView). v.share) puts.pass
   share_place a b token due moment (inr adds) = ap (λ (v : PassView). v.share) adds.pass
 
   -- a desk stays one of its tables when a token of one of the groups gets a place
-  pub desk_place : {telling : Telling} (slots : Slots X G T) (queue : EventQueue) (a b : Desk X G T d)
+  pub desk_place : {shared : Bool} (slots : Slots X G T) (queue : EventQueue) (a b : Desk X G T d)
       (token : Token) (due moment : ℕ) → IsDeskOf slots queue a → token.group < length (tags_of slots)
-      → IsPassOf queue b.pass → b.seat ≡ a.seat → Places telling token due moment a b → IsDeskOf slots queue b
+      → IsPassOf queue b.pass → b.seat ≡ a.seat → Places shared token due moment a b → IsDeskOf slots queue b
   desk_place slots queue a b token due moment was names pass seat (inl puts) = record {
     seat = subst (IsSeatOf slots) (sym seat) was.seat;
     pass = pass;
@@ -208,23 +214,15 @@ module _ {X G T : Type 0} {d : Ghosts X G T} where
         (All-added (λ (e : ℕ × Token). e.1.group < length (tags_of slots)) due token a.wheel names was.wheel);
   }
 
-  pub desk_same : (slots : Slots X G T) (queue : EventQueue) (a b : Desk X G T d) → IsDeskOf slots queue a
-      → IsPassOf queue b.pass → b.seat ≡ a.seat → SamePlaces a b → IsDeskOf slots queue b
-  desk_same slots queue a b was pass seat same = record {
-    seat = subst (IsSeatOf slots) (sym seat) was.seat;
-    pass = pass;
-    wheel = subst (AllName (length (tags_of slots))) (sym same.wheel) was.wheel;
-  }
-
   -- So much of the news was told: that with numbers up to the one from which on the group has news.
-  pub record IsTelling {W Q R T' U : Type 0} (k moment : ℕ) (first now : Group W Q R T' U)
+  pub record IsTelling {W Q R T' U : Type 0} (shared : Bool) (k moment : ℕ) (first now : Group W Q R T' U)
       (old new : Desk X G T d) : Type 0 where
     pub same : IsSame (record first.cx { news_from = now.cx.news_from }) now.cx
     pub world : now.world ≡ first.world
     pub valid : IsValid now.cx.log.state
     pub from : first.cx.news_from ≤ now.cx.news_from
     pub each : (n : ℕ) (p : Pending) → pending_at n now.cx.log.state.pending ≡ Some p → first.cx.news_from ≤ n
-        → n < now.cx.news_from → HasPlace moment k p new
+        → n < now.cx.news_from → HasPlace shared moment k p new
     pub once : (t : Token) → places_of t new ≡ places_of t old + one_if
         (is_between k first.cx.news_from now.cx.news_from now.cx.log.state.pending t)
     pub keeps : KeepsPlaces old new
@@ -232,42 +230,19 @@ module _ {X G T : Type 0} {d : Ghosts X G T} where
     pub share : SharesSame old new
     pub empties : empties_of new.pass ≡ empties_of old.pass
 
-  module _ {W Q R T' U : Type 0} (k moment : ℕ) where
-    pub telling_begins : (g : Group W Q R T' U) (desk : Desk X G T d) → IsValid g.cx.log.state
-        → IsTelling k moment g g desk desk
-    telling_begins g desk valid = record {
-      same = same_refl g.cx;
-      world = refl;
-      valid = valid;
-      from = omega arith;
-      each = λ n p there low high. absurd (omega arith);
-      once = λ t. let z = none_between k g.cx.news_from g.cx.log.state.pending t in omega arith;
-      keeps = keeps_refl desk;
-      seat = refl;
-      share = refl;
-      empties = refl;
-    }
-
-    -- the group is the same but for its news, after one piece of it was asked for
-    pub telling_same : (first a b : Group W Q R T' U) (old desk : Desk X G T d)
-        → IsTelling k moment first a old desk → IsSame (record a.cx { news_from = b.cx.news_from }) b.cx
-        → b.world ≡ a.world
-        → IsSame (record first.cx { news_from = b.cx.news_from }) b.cx × (b.world ≡ first.world)
-    telling_same first a b old desk was same world =
-        (same_next first.cx a.cx b.cx was.same same, world ∙ was.world)
-
-    pub telling_goes_on : {telling : Telling} (first a b : Group W Q R T' U) (old desk next : Desk X G T d)
+  module _ {W Q R T' U : Type 0} (shared : Bool) (k moment : ℕ) where
+    pub telling_goes_on : (first a b : Group W Q R T' U) (old desk next : Desk X G T d)
         (number due : ℕ)
-        → IsTelling k moment first a old desk → IsFirstNews a.cx number due
+        → IsTelling shared k moment first a old desk → IsFirstNews a.cx number due
         → b.cx.news_from ≡ number + 1 → IsSame (record a.cx { news_from = b.cx.news_from }) b.cx
         → b.world ≡ a.world → next.seat ≡ desk.seat → empties_of next.pass ≡ empties_of desk.pass
-        → Places telling (record { group = k; number = number }) due moment desk next
-        → IsTelling k moment first b old next
-    telling_goes_on {telling = telling} first a b old desk next number due was (p, news, number_is, due_is)
+        → Places shared (record { group = k; number = number }) due moment desk next
+        → IsTelling shared k moment first b old next
+    telling_goes_on first a b old desk next number due was (p, news, number_is, due_is)
         from same world seat empties places =
         let state : b.cx.log.state ≡ a.cx.log.state = same.log.state in
-        let places' : Places telling (record { group = k; number = p.number }) p.due moment desk next =
-        subst (λ (x : ℕ × ℕ). Places telling (record { group = k; number = x.0 }) x.1 moment desk next)
+        let places' : Places shared (record { group = k; number = p.number }) p.due moment desk next =
+        subst (λ (x : ℕ × ℕ). Places shared (record { group = k; number = x.0 }) x.1 moment desk next)
         (λ i. (sym number_is i, sym due_is i)) places in
         let keeps = keeps_place desk next (record { group = k; number = p.number }) p.due moment places' in
         let up = was.from in
@@ -282,14 +257,14 @@ module _ {X G T : Type 0} {d : Ghosts X G T} where
               let there' : pending_at n a.cx.log.state.pending ≡ Some q = ap
               (λ (s : State). pending_at n s.pending) (sym state) ∙ there in
               ⊎_elim
-              (λ (old' : n < a.cx.news_from). place_stays desk next moment k q keeps
+              (λ (old' : n < a.cx.news_from). place_stays shared desk next moment k q keeps
               (was.each n q there' low old'))
               (λ (new' : a.cx.news_from ≤ n).
               let le = news.2 n q there' new' in
               let is : n ≡ p.number = omega arith in
               let same' : p ≡ q = same_some p q
               (sym news.0 ∙ ap (λ m. pending_at m a.cx.log.state.pending) (sym is) ∙ there') in
-              subst (λ (x : Pending). HasPlace moment k x next) same'
+              subst (λ (x : Pending). HasPlace shared moment k x next) same'
               (has_place desk next moment k p places'))
               (cases_lt n a.cx.news_from);
           once = λ t.
@@ -307,27 +282,9 @@ module _ {X G T : Type 0} {d : Ghosts X G T} where
               was.share;
         }
 
-    pub telling_ends : (first a b : Group W Q R T' U) (old desk : Desk X G T d)
-        → IsTelling k moment first a old desk → NoNews a.cx.news_from a.cx.log.state
-        → b.cx.news_from ≡ a.cx.news_from
-        → IsSame (record a.cx { news_from = b.cx.news_from }) b.cx → HasTold k moment first b old desk
-    telling_ends first a b old desk was none still same =
-        let state : b.cx.log.state ≡ a.cx.log.state = same.log.state in
-        record {
-          none = λ n p there. let low = none n p
-              (ap (λ (s : State). pending_at n s.pending) (sym state) ∙ there) in omega arith;
-          each = λ n p there low. let there' : pending_at n a.cx.log.state.pending ≡ Some p = ap
-              (λ (s : State). pending_at n s.pending) (sym state) ∙ there in was.each n p there' low
-              (none n p there');
-          once = λ t. was.once t ∙ ap (λ (x : ℕ × State). places_of t old + one_if
-              (is_between k first.cx.news_from x.0 x.1.pending t)) (λ i. (sym still i, sym state i));
-          keeps = was.keeps;
-          empties = was.empties;
-        }
-
     -- there is less to tell after each piece
     pub telling_less : (first a : Group W Q R T' U) (old desk : Desk X G T d) (number due : ℕ)
-        → IsTelling k moment first a old desk → IsFirstNews a.cx number due
+        → IsTelling shared k moment first a old desk → IsFirstNews a.cx number due
         → (a.cx.news_from ≤ number) × (number < a.cx.log.state.next)
     telling_less first a old desk number due was (p, news, number_is, due_is) =
         let known = is_known a.cx.log.state p.number p was.valid news.0 in let below = known.below in let high

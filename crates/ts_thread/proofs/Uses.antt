@@ -30,7 +30,7 @@ use Rattle.ts_thread.specs.News.{HasTold, is_between, places_of}
 use Rattle.ts_thread.specs.Runs.{IsNextMoment, Turns}
 use Rattle.ts_thread.specs.Seats.{KnowsTurn}
 use Rattle.ts_thread.specs.Shown.{IsShown}
-use Rattle.ts_thread.specs.Tokens.{AllName, Gets, FindsNothing}
+use Rattle.ts_thread.specs.Tokens.{AllName, Gets, FindsNothing, is_shared}
 use Rattle.ts_thread.specs.Turning.{Works, EndsTurn, Serves, Enters, Uses, IsDid}
 use Rattle.ts_thread.proofs.Seats.{closes, keeps_trans, keeps_refl}
 use Rattle.ts_thread.proofs.Telling.{keeps_trans as places_trans}
@@ -165,17 +165,19 @@ module _ {W Q R T U : Type 0} {d : Ghosts (Group W Q R T U) T (Group W Q R T U)}
     (Asking : W → State → List Named → ℕ → ℕ → Q → Type 0) (Answers : W → Q → R → Type 0)
     (Called : W → W → List ℕ → Type 0) (Heard : W → W → Asked Q R → Type 0) (Left : W → State → Option ℕ)
     (tags : List T) where
-  pub serve_ends : (token : Token) (k turn moment : ℕ) (found v1 begun v2 now : Group W Q R T U)
-      (old worked new : Desk (Group W Q R T U) T (Group W Q R T U) d) (answer : Did) → k ≡ token.group
+  pub serve_ends : (token : Token) (shared : Bool) (k turn moment : ℕ)
+      (found v1 begun v2 now : Group W Q R T U)
+      (old worked new : Desk (Group W Q R T U) T (Group W Q R T U) d) (answer : Did)
+      → shared ≡ is_shared turn → k ≡ token.group
       → v1 ≡ found → BeginsSame v1 begun
       → HasTurn Fits v1 begun turn old.seat.number → v2 ≡ begun → now.cx.news_from ≡ v2.cx.news_from
       → Works token old worked answer
       → RunsHandlers Fits Asking Answers Called Heard Left tags token.number moment v2 now (view old.seat)
       (view worked.seat) (Ok answer) → IsShown v2.cx.log.state now.cx.log.state token.number moment answer
-      → LeavesDesk worked new → EndsTurn k turn moment now worked new
+      → LeavesDesk worked new → EndsTurn shared k turn moment now worked new
       → Serves Fits Asking Answers Called Heard Left tags token moment turn found old new answer
-  serve_ends token k turn moment found v1 begun v2 now old worked new answer group is same has is2 now_from
-      works ran shown leaves ends =
+  serve_ends token shared k turn moment found v1 begun v2 now old worked new answer share group is same has
+      is2 now_from works ran shown leaves ends =
       let s1 : found.cx.log.state ≡ v1.cx.log.state = ap (λ (x : Group W Q R T U). x.cx.log.state) (sym is) in
       let s2 : begun.cx.log.state ≡ v2.cx.log.state = ap (λ (x : Group W Q R T U). x.cx.log.state) (sym is2)
       in
@@ -187,7 +189,7 @@ module _ {W Q R T U : Type 0} {d : Ghosts (Group W Q R T U) T (Group W Q R T U)}
       (λ (x : Group W Q R T U). x.cx.news_from) is2 ∙ has.news_from ∙ ap
       (λ (x : Group W Q R T U). x.cx.news_from) is in
       let told = ends.told in
-      let told' : HasTold k moment found ends.left worked new = record {
+      let told' : HasTold shared k moment found ends.left worked new = record {
         none = told.none;
         each = λ n p there low. told.each n p there (omega arith);
         once = λ t. told.once t ∙ ap (λ f. places_of t worked + one_if
@@ -208,7 +210,8 @@ module _ {W Q R T U : Type 0} {d : Ghosts (Group W Q R T U) T (Group W Q R T U)}
         as_now = ends.as_now;
         shows = shown_over v2.cx.log.state found.cx.log.state now.cx.log.state ends.left.cx.log.state
             token.number moment answer pending handled ends.as_now.pending ends.as_now.handled shown;
-        told = subst (λ x. HasTold x moment found ends.left worked new) group told';
+        told = subst (λ (x : Bool × ℕ). HasTold x.0 x.1 moment found ends.left worked new)
+            (λ i. (share i, group i)) told';
         knows = subst (λ x. KnowsTurn x turn ends.left (view new.seat).known) group ends.knows;
         leaves = leaves.seat;
       }

@@ -10,17 +10,21 @@ use Rattle.ts_queue.specs.declared.view.PassView.{PassView}
 use Rattle.ts_queue.specs.Views.{putting_next}
 use Rattle.ts_queue.specs.Passes.{pass_view, empties_of, TakesTicket, FindsEmpty}
 use Rattle.ts_wheel.specs.Due.{added, first_due, after_due}
-use Rattle.ts_thread.specs.declared.desk.TheConstants.{OWN_EVENTS, SHARED_EVERY}
 use Rattle.ts_thread.specs.declared.desk.Desk.{Desk}
-use Rattle.ts_thread.specs.declared.desk.Telling.{Telling}
-use Rattle.ts_thread.specs.declared.desk.Telling.TheVariants as telling
 
--- Whether a token that is due goes through the queue: all that a group's start tells, so that the threads
--- share the groups; and of later turns, past a group's first events, one of so many event numbers, so that
--- what waits in the queue is always taken.
-abbrev pub is_shared : Telling → ℕ → Bool
-is_shared telling.Start number = true
-is_shared telling.Turn number = nat_lt OWN_EVENTS number && (number % SHARED_EVERY == 1)
+-- so many turns of a group, its first ones, hand nothing over to other threads
+abbrev pub own_turns : ℕ
+own_turns = 128
+
+-- of so many turns after them one does
+abbrev pub shared_every : ℕ
+shared_every = 16
+
+-- Whether a turn with this number hands what is due of its news over to any thread: past a group's own turns
+-- one of so many does, so that a thread whose turns tell no more than one due event each comes to what waits
+-- in the queue. (What a group's start tells is handed over too, so that the threads share the groups.)
+abbrev pub is_shared : ℕ → Bool
+is_shared turn = nat_lt own_turns turn && (turn % shared_every == 0)
 
 -- each token names one of so many groups
 abbrev pub AllName : ℕ → List (ℕ × Token) → Type 0
@@ -71,22 +75,27 @@ module _ {X G T : Type 0} {d : Ghosts X G T} where
     pub wheel : new.wheel ≡ old.wheel
     pub pass : pass_view new.pass ≡ pass_view old.pass
 
-  -- a token that is due and shared was put
-  pub record Puts (telling : Telling) (token : Token) (due moment : ℕ) (old new : Desk X G T d) : Type 0 where
+  -- What a turn tells stays with its thread: it is due later, or the turn is not shared, or the pass has no
+  -- serial left.
+  abbrev pub Stays : Bool → ℕ → ℕ → Desk X G T d → Type 0
+  Stays shared due moment desk =
+      (moment < due) ⊎ (shared ≡ false) ⊎ ((pass_view desk.pass).serial ≡ GREATEST)
+
+  -- a token that is due was put by a turn that is shared, for which a serial was left
+  pub record Puts (shared : Bool) (token : Token) (due moment : ℕ) (old new : Desk X G T d) : Type 0 where
     pub is_due : due ≤ moment
-    pub shared : is_shared telling token.number ≡ true
+    pub by_shared : shared ≡ true
+    pub left : (pass_view old.pass).serial < GREATEST
     pub wheel : new.wheel ≡ old.wheel
     pub pass : pass_view new.pass ≡ putting_next token (pass_view old.pass)
 
-  -- a token that is due later or is not shared, or for which the pass has no serial left, was added to the
-  -- wheel
-  pub record AddsToWheel (telling : Telling) (token : Token) (due moment : ℕ) (old new : Desk X G T d)
+  -- a token that stays with its thread was added to the wheel
+  pub record AddsToWheel (shared : Bool) (token : Token) (due moment : ℕ) (old new : Desk X G T d)
       : Type 0 where
-    pub keeps : (moment < due) ⊎ ((is_shared telling token.number ≡ false)
-        ⊎ ((pass_view old.pass).serial ≡ GREATEST))
+    pub stays : Stays shared due moment old
     pub wheel : new.wheel ≡ added due token old.wheel
     pub pass : pass_view new.pass ≡ pass_view old.pass
 
-  abbrev pub Places : Telling → Token → ℕ → ℕ → Desk X G T d → Desk X G T d → Type 0
-  Places telling token due moment old new =
-      Puts telling token due moment old new ⊎ AddsToWheel telling token due moment old new
+  abbrev pub Places : Bool → Token → ℕ → ℕ → Desk X G T d → Desk X G T d → Type 0
+  Places shared token due moment old new =
+      Puts shared token due moment old new ⊎ AddsToWheel shared token due moment old new

@@ -1,5 +1,5 @@
 -- What a turn does with a thread's desk, answer by answer.
-use Rattle.std.specs.Prelude.{◌≡◌, ℕ, ◌<◌, List, Option, Ok, length}
+use Rattle.std.specs.Prelude.{◌≡◌, ℕ, ◌<◌, Bool, List, Option, Ok, length}
 use Rattle.ts_journal.specs.declared.slotted.Slotted.{Ghosts}
 use Rattle.ts_journal.specs.State.{State}
 use Rattle.ts_group.specs.declared.action.Named.{Named}
@@ -20,7 +20,7 @@ use Rattle.ts_thread.specs.Held.{HasTurn, BeginsSame, LeftAs}
 use Rattle.ts_thread.specs.News.{HasTold, KeepsPlaces}
 use Rattle.ts_thread.specs.Seats.{KnowsTurn, Leaves}
 use Rattle.ts_thread.specs.Shown.{IsShown, IsCounted, waiting}
-use Rattle.ts_thread.specs.Tokens.{Gets, FindsNothing}
+use Rattle.ts_thread.specs.Tokens.{Gets, FindsNothing, is_shared}
 
 -- the turn is of the token's group, and a later one than the group has recorded
 pub record IsOfToken {W Q R T U : Type 0} (token : Token) (k turn : ℕ)
@@ -58,12 +58,13 @@ module _ {X G T : Type 0} {d : Ghosts X G T} where
     pub seat : new.seat ≡ old.seat
 
 module _ {W Q R T U : Type 0} {d : Ghosts (Group W Q R T U) T (Group W Q R T U)} where
-  -- The news of a group was told, its turn was given back, and it was left as this.
-  pub record EndsTurn (k turn moment : ℕ) (now : Group W Q R T U)
+  -- The news of a group was told by a turn that is shared or not, the turn was given back, and the group was
+  -- left as this.
+  pub record EndsTurn (shared : Bool) (k turn moment : ℕ) (now : Group W Q R T U)
       (old new : Desk (Group W Q R T U) T (Group W Q R T U) d) : Type 0 where
     pub left : Group W Q R T U
     pub as_now : LeftAs now left
-    pub told : HasTold k moment now left old new
+    pub told : HasTold shared k moment now left old new
     pub knows : KnowsTurn k turn left (view new.seat).known
 
 module _ {W Q R T U : Type 0} {d : Ghosts (Group W Q R T U) T (Group W Q R T U)}
@@ -71,7 +72,7 @@ module _ {W Q R T U : Type 0} {d : Ghosts (Group W Q R T U) T (Group W Q R T U)}
     (Answers : W → Q → R → Type 0) (Called : W → W → List ℕ → Type 0) (Heard : W → W → Asked Q R → Type 0)
     (Left : W → State → Option ℕ) (tags : List T) where
   -- A turn of the token's group, from when its seat had won it: the turn begins, the handlers run, and then
-  -- the news is told, as the group is left.
+  -- the news is told as a turn with this number tells it, and the group is left.
   pub record Serves (token : Token) (moment turn : ℕ) (found : Group W Q R T U)
       (old new : Desk (Group W Q R T U) T (Group W Q R T U) d) (answer : Did) : Type 0 where
     pub begun : Group W Q R T U
@@ -85,7 +86,7 @@ module _ {W Q R T U : Type 0} {d : Ghosts (Group W Q R T U) T (Group W Q R T U)}
     pub left : Group W Q R T U
     pub as_now : LeftAs now left
     pub shows : IsShown found.cx.log.state left.cx.log.state token.number moment answer
-    pub told : HasTold token.group moment found left worked new
+    pub told : HasTold (is_shared turn) token.group moment found left worked new
     pub knows : KnowsTurn token.group turn left (view new.seat).known
     pub leaves : Leaves (view worked.seat) (view new.seat)
 

@@ -64,37 +64,28 @@ pub fn next_token<V: Slotted, R: Wait>(
     next_ticket(rt, queue, &mut desk.pass, groups)
 }
 
-/// Which turn's news is told: that of a group's start, or that of a later turn.
-#[derive(Clone, Copy)]
-pub enum Telling {
-    Start,
-    Turn,
-}
+// So many turns of a group, its first ones, hand nothing over to other threads: what takes no more of them
+// ends with its thread, and not behind all that waits in the queue.
+const OWN_TURNS: u64 = 128;
 
-// So many events of a group stay with the thread that handles it, so what takes no more of them ends there,
-// and not behind all that waits in the queue.
-const OWN_EVENTS: u64 = 128;
-
-// Of so many event numbers of a group after these, the event of one goes through the queue where it is due.
+// Of so many turns after them one does.
 const SHARED_EVERY: u64 = 16;
 
-// Whether a token that is due is shared with the other threads.
-fn is_shared(telling: Telling, number: u64) -> bool
-    ensures { result ≡ is_shared telling number }
+/// Whether a turn of a group with this number hands what is due of its news over to any thread. (The turn of
+/// its start does so too.)
+pub fn is_shared(turn: u64) -> bool
+    ensures { result ≡ is_shared turn }
 {
-    match telling {
-        Telling::Start => true,
-        Telling::Turn => number > OWN_EVENTS && number % SHARED_EVERY == 1,
-    }
+    turn > OWN_TURNS && turn % SHARED_EVERY == 0
 }
 
-/// Adds a token to the wheel, so that this thread goes on with its group. But a token that is due and shared
-/// is put into the queue, where any thread takes it, unless the pass has no serial left.
+/// Adds a token to the wheel, so that this thread goes on with its group. But a token that is due is put into
+/// the queue by a turn that is shared, and any thread takes it there, unless the pass has no serial left.
 pub fn place<V: Slotted, R: Wait>(
     rt: &R,
     queue: &EventQueue,
     desk: &mut Desk<V>,
-    telling: Telling,
+    shared: bool,
     token: Token,
     due: u64,
     moment: u64,
@@ -103,10 +94,10 @@ pub fn place<V: Slotted, R: Wait>(
     ensures pass { IsPassOf queue.now desk.new.pass }
     ensures empties { empties_of desk.new.pass ≡ empties_of desk.old.pass }
     ensures seat { desk.new.seat ≡ desk.old.seat }
-    ensures ok { OnOk result (Places telling token due moment desk.old desk.new) }
+    ensures ok { OnOk result (Places shared token due moment desk.old desk.new) }
     ensures err { OnErr result (SamePlaces desk.old desk.new) }
 {
-    if due <= moment && is_shared(telling, token.number) && desk.pass.serial() < u64::MAX {
+    if due <= moment && shared && desk.pass.serial() < u64::MAX {
         queue.put(rt, &mut desk.pass, token)
     } else {
         desk.wheel.add(due, token)

@@ -5,20 +5,20 @@ ghost use Rattle.ts_slot.specs.Words.{tags_of};
 ghost use Rattle.ts_thread.specs.Desks.{IsDeskOf, SharesSame};
 ghost use Rattle.ts_thread.specs.News.{HasTold, KeepsPlaces, OnlyNews};
 
-use crate::desk::{Desk, Telling, place};
+use crate::desk::{Desk, place};
 use std::sync::Wait;
 use ts_group::{Group, World};
 use ts_link::NoMemory;
 use ts_queue::{EventQueue, Token};
 use ts_slot::Slots;
 
-/// Makes a token of each piece of news of the group k, which is told by this turn of it.
+/// Makes a token of each piece of news of the group k, which a turn of it tells that is shared or not.
 pub fn tell_news<W: World + Drop, R: Wait>(
     rt: &R,
     slots: &Slots<Group<W>>,
     queue: &EventQueue,
     desk: &mut Desk<Group<W>>,
-    telling: Telling,
+    shared: bool,
     k: u32,
     group: &mut Group<W>,
     moment: u64,
@@ -29,12 +29,12 @@ pub fn tell_news<W: World + Drop, R: Wait>(
     ensures seat { (desk.new.seat ≡ desk.old.seat) × SharesSame desk.old desk.new }
     ensures same { OnlyNews group.old group.new }
     ensures places { KeepsPlaces desk.old desk.new }
-    ensures told { OnOk result (HasTold k moment group.old group.new desk.old desk.new) }
+    ensures told { OnOk result (HasTold shared k moment group.old group.new desk.old desk.new) }
 {
     group.known();
     'news: while let Some((number, due)) = group.next_news() {
         let token = Token { group: k, number };
-        place(rt, queue, desk, telling, token, due, moment)?;
+        place(rt, queue, desk, shared, token, due, moment)?;
     }
     Ok(())
 }

@@ -8,7 +8,7 @@ ghost use Rattle.ts_thread.specs.Entering.{IsEntered};
 ghost use Rattle.ts_thread.specs.News.{HasPlaceAt};
 ghost use Rattle.ts_thread.specs.Started.{CanStart, IsFirst, Started, AllStarted};
 
-use crate::desk::{Desk, Telling};
+use crate::desk::Desk;
 use crate::held::{begin, start};
 use crate::leaving::leave;
 use crate::turning::end_turn;
@@ -33,7 +33,8 @@ fn enter_at<V: Slotted, R: Wait>(rt: &R, slots: &Slots<V>, seat: &mut Seat<V>, k
     unreachable!()
 }
 
-// Starts the group k in a turn of its own. All of its first events get their tokens.
+// Starts the group k in a turn of its own. The tokens of all its first events go into the queue, unless the
+// pass has no serial left.
 fn start_one<W: World + Drop, R: Wait>(
     rt: &R,
     slots: &Slots<Group<W>>,
@@ -57,7 +58,7 @@ fn start_one<W: World + Drop, R: Wait>(
         return Err(NoMemory);
     }
     start(turn.value());
-    end_turn(rt, slots, queue, desk, Telling::Start, turn, u64::MAX)
+    end_turn(rt, slots, queue, desk, true, turn, u64::MAX)
 }
 
 /// Starts the first so many groups, each in a turn of its own.

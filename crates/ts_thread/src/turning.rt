@@ -12,7 +12,7 @@ ghost use Rattle.ts_thread.specs.Tags.{CanAsk};
 ghost use Rattle.ts_thread.specs.Turning.{Works, EndsTurn, Serves, Uses, IsOfToken};
 
 use crate::asking::ask_other;
-use crate::desk::{Desk, Telling};
+use crate::desk::{Desk, is_shared};
 use crate::did::Did;
 use crate::held::{begin, give};
 use crate::leaving::leave;
@@ -80,14 +80,14 @@ fn handle_token<W: World + Drop>(
     }
 }
 
-/// Tells the news of the group that the seat won last, gives its turn back and leaves it, at want of memory
-/// too.
+/// Tells the news of the group that the seat won last, in a turn that is shared or not, gives the turn back
+/// and leaves the group, at want of memory too.
 pub fn end_turn<W: World + Drop, R: Wait>(
     rt: &R,
     slots: &Slots<Group<W>>,
     queue: &EventQueue,
     desk: &mut Desk<Group<W>>,
-    telling: Telling,
+    shared: bool,
     mut turn: Turn<Group<W>>,
     moment: u64,
 ) -> Result<(), NoMemory>
@@ -99,10 +99,10 @@ pub fn end_turn<W: World + Drop, R: Wait>(
     ensures desk { IsDeskOf slots.now queue.now desk.new }
     ensures leaves { LeavesDesk desk.old desk.new }
     ensures ends { OnOk result
-        (EndsTurn turn.group turn.number moment turn.boxed.value desk.old desk.new) }
+        (EndsTurn shared turn.group turn.number moment turn.boxed.value desk.old desk.new) }
 {
     let k = turn.group();
-    let told = tell_news(rt, slots, queue, desk, telling, k, turn.value(), moment);
+    let told = tell_news(rt, slots, queue, desk, shared, k, turn.value(), moment);
     give(turn.value());
     leave(slots, &mut desk.seat, turn);
     told
@@ -139,7 +139,8 @@ fn handle_entered<W: World + Drop, G: Gate, R: Wait>(
     }
     gate.enter(thread, token.group, token.number);
     let did = handle_token(slots, desk, turn.value(), token, moment);
-    let told = end_turn(rt, slots, queue, desk, Telling::Turn, turn, moment);
+    let shared = is_shared(number);
+    let told = end_turn(rt, slots, queue, desk, shared, turn, moment);
     let did = did?;
     told?;
     Ok(did)

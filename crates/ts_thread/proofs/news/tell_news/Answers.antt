@@ -5,8 +5,8 @@ use Rattle.ts_thread.proofs.news.tell_news.Goals as goal
 
 pub news-smaller : goal.news-smaller
 news-smaller g c =
-    let less = telling_less c.args.k c.args.moment c.args.group.now c.news.group c.args.desk.now c.news.desk
-    c.in-Some.number c.in-Some.due c.news.invariant.1 c.in-Some.ensures.news in
+    let less = telling_less c.args.shared c.args.k c.args.moment c.args.group.now c.news.group c.args.desk.now
+    c.news.desk c.in-Some.number c.in-Some.due c.news.invariant.1 c.in-Some.ensures.news in
     let from = c.in-Some.ensures.once in
     let next = ap (λ (s : State). s.next) c.in-Some.ensures.same.log.state in
     let low = less.0 in
@@ -23,7 +23,7 @@ news-preserved g c =
       desk_place c.args.slots.now c.args.queue.now c.news.desk c.place.new.desk
           (record { group = c.args.k; number = c.in-Some.number }) c.in-Some.due c.args.moment
           c.news.invariant.0 c.requires.group put.pass put.seat put.ok,
-      telling_goes_on c.args.k c.args.moment c.args.group.now c.news.group c.next_news.new.self
+      telling_goes_on c.args.shared c.args.k c.args.moment c.args.group.now c.news.group c.next_news.new.self
           c.args.desk.now c.news.desk c.place.new.desk c.in-Some.number c.in-Some.due c.news.invariant.1
           news.news news.once news.same news.world put.seat put.empties put.ok,
     )

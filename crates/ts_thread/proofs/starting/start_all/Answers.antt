@@ -1,9 +1,10 @@
-use Rattle.std.proofs.Common.{◌+◌, arith}
+use Rattle.std.proofs.Common.{◌+◌, true, arith}
 use Rattle.ts_journal.specs.declared.entry.TheConstants.{GREATEST}
 use Rattle.ts_slot.specs.Words.{tags_of, view}
 use Rattle.ts_thread.specs.News.{HasPlaceAt}
 use Rattle.ts_thread.specs.Started.{IsFirst}
-use Rattle.ts_thread.proofs.Starts.{one_more, place_stays}
+use Rattle.ts_thread.proofs.Starts.{one_more}
+use Rattle.ts_thread.proofs.Telling.{place_stays}
 use Rattle.ts_thread.proofs.Uses.{keeps_tokens}
 use Rattle.ts_thread.proofs.starting.start_all.Goals as goal
 
@@ -25,6 +26,7 @@ starts-preserved g c =
           (HasPlaceAt GREATEST c.starts.desk) (HasPlaceAt GREATEST c.start_one.new.desk)
           (view c.starts.desk.seat).known (view c.start_one.new.desk.seat).known c.starts.k
           one.keeps.desk.seat.known
-          (place_stays GREATEST c.starts.desk c.start_one.new.desk one.keeps.places)
+          (λ k p has. place_stays true c.starts.desk c.start_one.new.desk GREATEST k p
+          one.keeps.places has)
           c.starts.invariant.2 c.in_ok-start_one.ensures.started,
     )

@@ -34,7 +34,12 @@ returns-in-Err-clause-keeps g c = record {
         c.enter_at-turn.ensures.entered c.leave.ensures.leaves;
     share = refl;
   };
-  places = record { wheel = λ e there. there; put = λ t there. there; taken = refl };
+  places = record {
+    wheel = λ e there. there;
+    put = λ t there. there;
+    taken = refl;
+    spent = λ none. none;
+  };
 }
 
 pub end_turn-requires-clause-fits : goal.end_turn-requires-clause-fits
@@ -76,6 +81,7 @@ returns-clause-keeps g c = record {
     wheel = c.end_turn.ensures.leaves.places.wheel;
     put = c.end_turn.ensures.leaves.places.put;
     taken = c.end_turn.ensures.leaves.places.taken;
+    spent = c.end_turn.ensures.leaves.places.spent;
   };
 }
 

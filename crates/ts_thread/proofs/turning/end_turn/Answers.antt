@@ -27,8 +27,8 @@ pub returns-clause-ends : goal.returns-clause-ends
 returns-clause-ends g c =
     let told = c.tell_news-told.ensures in
     ok_to c.tell_news-told.result
-    (ends_turn c.args.turn.group c.group-k.result c.args.turn.number c.args.moment c.args.turn.boxed.value
-    c.value.result.now c.tell_news-told.new.group c.value-2.result.now c.give.new.group
+    (ends_turn c.args.shared c.args.turn.group c.group-k.result c.args.turn.number c.args.moment
+    c.args.turn.boxed.value c.value.result.now c.tell_news-told.new.group c.value-2.result.now c.give.new.group
     c.args.desk.now
     c.tell_news-told.new.desk
     (record {

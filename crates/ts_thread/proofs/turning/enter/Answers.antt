@@ -44,6 +44,7 @@ returns-in-Ok-clause-keeps g c = record {
     put =
         c.handle_entered.ensures.closes.places.put;
     taken = c.handle_entered.ensures.closes.places.taken;
+    spent = c.handle_entered.ensures.closes.places.spent;
   };
 }
 

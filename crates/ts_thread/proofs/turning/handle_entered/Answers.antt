@@ -1,6 +1,7 @@
-use Rattle.std.proofs.Common.{ℕ, sym, subst, ◌∙◌}
+use Rattle.std.proofs.Common.{ℕ, sym, subst, ap, ◌∙◌}
 use Rattle.ts_slot.specs.Words.{tags_of}
 use Rattle.ts_thread.specs.Held.{HasTurn}
+use Rattle.ts_thread.specs.Tokens.{is_shared}
 use Rattle.ts_thread.proofs.Uses.{closes_desk, serve_ends}
 use Rattle.ts_thread.proofs.Worked.{given_marks}
 use Rattle.ts_thread.proofs.turning.handle_entered.Goals as goal
@@ -36,10 +37,11 @@ returns-clause-serves g c =
     let worked = c.in_ok-did.ensures in
     let begun = c.in_default.ensures in
     serve_ends g.W.Slotted.fits g.W.World.asking g.W.World.answers g.W.World.called g.W.World.heard
-    g.W.World.left (tags_of c.args.slots.now) c.args.token c.args.turn.group c.args.turn.number
-    c.args.moment c.args.turn.found.value c.value.result.now c.begin.new.group c.value-2.result.now
-    c.handle_token-did.new.group c.args.desk.now c.handle_token-did.new.desk
+    g.W.World.left (tags_of c.args.slots.now) c.args.token c.is_shared-shared.result c.args.turn.group
+    c.args.turn.number c.args.moment c.args.turn.found.value c.value.result.now c.begin.new.group
+    c.value-2.result.now c.handle_token-did.new.group c.args.desk.now c.handle_token-did.new.desk
     c.end_turn-told.new.desk c.in_ok-did.did
+    (c.is_shared-shared.ensures ∙ ap (λ (n : ℕ). is_shared n) c.number-number.ensures)
     c.requires.found.group
     (c.value.ensures.value ∙ sym c.requires.found.same)
     begun.same
