@@ -1,8 +1,13 @@
 //! Groups of one type of world that ask each other: driven to their end, on one thread and after many.
 #![tactic(auto)]
 
-pub mod row;
+#[cfg(test)]
+mod crowd;
+#[cfg(test)]
+mod row;
 #[cfg(test)]
 mod tests;
-pub mod toys;
-pub mod turns;
+#[cfg(test)]
+mod toys;
+#[cfg(test)]
+mod turns;

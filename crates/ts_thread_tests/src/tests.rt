@@ -2,9 +2,10 @@
 
 ghost use Rattle.std.specs.Prelude.{◌≤◌};
 
+use crate::crowd::{CrowdTally, crowd_of, run_crowd};
 use crate::row::{Tally, drive_row, first_seat, make_row, run_row, tally_of};
 use crate::toys::{ToyTally, run_tally};
-use crate::turns::{play, play_held, play_runs};
+use crate::turns::{play, play_held, play_runs, play_shared};
 use std::alloc::Global;
 use std::test::Fail;
 use ts_group_tests::burst::Burst;
@@ -180,6 +181,22 @@ fn threads_run_heirs_to_their_end(rt: HostRuntime) -> Result<(), Fail> {
     Ok(())
 }
 
+// 4,000 worlds on 4 threads, each with 66 events, all due at once: the first and the 65 direct calls of its
+// handler, of which its turn handles 63. What is left is due news, and stays with the thread that took the
+// group's first token. So no other thread tries to enter the group. Were it missed, the token would be due 10
+// milliseconds later, and its event be handled then.
+#[test]
+fn no_group_of_a_crowd_is_missed(rt: HostRuntime) -> Result<(), Fail> {
+    let groups = run_crowd::<Burst, HostRuntime>(&rt, rt.alloc(), 4000, 1, 4)?;
+    let wanted = CrowdTally {
+        groups: 4000,
+        handled: 264_000,
+        late: 0,
+    };
+    assert_eq!(rt; crowd_of(groups.as_slice()), wanted);
+    Ok(())
+}
+
 fn token(group: u32, number: u64) -> Token {
     Token { group, number }
 }
@@ -234,6 +251,16 @@ fn an_event_waits_until_it_is_due(rt: HostRuntime) -> Result<(), Fail> {
         ]
         .as_slice()
     );
+    Ok(())
+}
+
+// In its turn n peer 0 handles its event n - 1 and sets the event n, which is due at once. The thread goes on
+// with it, but a turn past 128 whose number is a multiple of 16 puts its token into the queue, where another
+// pass sees it. The thread makes the turns 2 to 161, of which two do.
+#[test]
+fn each_sixteenth_turn_past_128_puts_its_news_into_the_queue(rt: HostRuntime) -> Result<(), Fail> {
+    let numbers = play_shared(&rt, rt.alloc(), 200, 160)?;
+    assert_eq!(rt; numbers.as_slice(), [144u64, 160].as_slice());
     Ok(())
 }
 

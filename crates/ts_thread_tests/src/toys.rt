@@ -23,17 +23,17 @@ pub struct ToyRow<W: Toy> {
     pub tags: Vec<W::Tag>,
 }
 
-/// A row of groups of one toy world, with so much to do each.
-pub fn make_toys<W: Toy + Drop>(alloc: Global, todo: u32) -> Result<ToyRow<W>, NoMemory>
+/// So many groups of one toy world, with so much to do each.
+pub fn make_toys<W: Toy + Drop>(alloc: Global, count: u32, todo: u32) -> Result<ToyRow<W>, NoMemory>
 where
     W::Tag: Drop,
     requires { todo ≤ MOST_TODO }
-    ensures { IfOk result (λ row. AreToys W.fits W.sound W.only_asked W.is_first (W.tagged todo) TOYS
+    ensures { IfOk result (λ row. AreToys W.fits W.sound W.only_asked W.is_first (W.tagged todo) count
         row.tags.items row.groups.items) }
 {
     let mut groups = Vec::new(alloc);
     let mut tags = Vec::new(alloc);
-    'toys: for _toy in 0..TOYS {
+    'toys: for _toy in 0..count {
         let group = W::group(alloc, todo)?;
         let tag = W::tag(todo);
         groups.push(group)?;
@@ -59,7 +59,7 @@ where
     ensures ended { IfOk result (λ gs. All (HasEnded (W.counted todo)) gs.items) }
     ensures lacks { IsOkUnless result Unfinished.NoMemory }
 {
-    let ToyRow { groups, tags } = make_toys(alloc, todo)?;
+    let ToyRow { groups, tags } = make_toys(alloc, TOYS, todo)?;
     run_whole(rt, alloc, groups, tags, TOYS, threads, BUDGET, gate)
 }
 

@@ -124,6 +124,72 @@ pub fn play<R: Wait>(
     take_turns(rt, alloc, &mut thread, moments)
 }
 
+// The number of the event whose token stands first in the queue. The token is put back.
+fn first_in<R: Wait>(
+    rt: &R,
+    queue: &EventQueue,
+    pass: &mut QueuePass,
+) -> Result<Option<u64>, NoMemory>
+    requires { IsPassOf queue.now pass.old }
+    ensures { IsPassOf queue.now pass.new }
+{
+    let Some(ticket) = queue.take(rt, pass) else {
+        return Ok(None);
+    };
+    if pass.serial() == u64::MAX {
+        return Err(NoMemory);
+    }
+    queue.put(rt, pass, ticket.token)?;
+    Ok(Some(ticket.token.number))
+}
+
+// The numbers of the events whose tokens another pass finds in the queue, after each of so many turns at the
+// moment 0.
+fn find_shared<R: Wait>(
+    rt: &R,
+    alloc: Global,
+    thread: &mut EventThread<Peer, OpenGate>,
+    queue: &EventQueue,
+    other: &mut QueuePass,
+    turns: u32,
+) -> Result<Vec<u64>, NoMemory>
+    requires tags { tags_of thread.old.slots.now ≡ row_tags ASKED }
+    requires pass { IsPassOf queue.now other.old }
+{
+    let mut found = Vec::new(alloc);
+    'turns: for _turn in 0..turns {
+        take_turn(rt, thread, 0)?;
+        if let Some(number) = first_in(rt, queue, other)? {
+            found.push(number)?;
+        }
+    }
+    Ok(found)
+}
+
+/// The numbers of the events whose tokens a thread puts into the queue in so many turns at the moment 0. The
+/// first group is started, and its first token is taken in the first turn.
+pub fn play_shared<R: Wait>(
+    rt: &R,
+    alloc: Global,
+    todo: u32,
+    turns: u32,
+) -> Result<Vec<u64>, NoMemory>
+    requires { todo ≤ MOST_TODO }
+{
+    let Opened {
+        slots,
+        seat,
+        queue,
+        mut pass,
+    } = open_row(rt, alloc, todo, 1)?;
+    let mut other = queue.split(&mut pass)?;
+    let gate = OpenGate::make();
+    let Ok(mut thread) = EventThread::make(alloc, 0, &slots, seat, &queue, pass, &gate) else {
+        return Err(NoMemory);
+    };
+    find_shared(rt, alloc, &mut thread, &queue, &mut other, turns)
+}
+
 /// What a thread answers in a turn at the moment 0, while another seat holds the group k, and then in turns
 /// at these moments. The first group is started.
 #[tactic(auto, using(ts_group::specs::Standing::stands_itself))]

@@ -1,5 +1,4 @@
 use Rattle.std.proofs.Common.{◌≡◌, subst, arith}
-use Rattle.ts_thread_tests.specs.declared.toys.TheConstants.{TOYS}
 use Rattle.ts_thread_tests.specs.ToyRows.{AreToys}
 use Rattle.ts_thread_tests.proofs.ToyRows.{toys_begin, toys_next}
 use Rattle.ts_thread_tests.proofs.toys.make_toys.Goals as goal
@@ -28,7 +27,7 @@ toys-preserved g c =
 
 pub returns : goal.returns
 returns g c =
-    let is : c.toys._toy ≡ TOYS = (let low = c.toys-test.false in let most = c.toys.auto._toy-end in omega
-    arith) in
+    let is : c.toys._toy ≡ c.args.count = (let low = c.toys-test.false in let most = c.toys.auto._toy-end in
+    omega arith) in
     subst (λ n. AreToys g.W.Slotted.fits g.W.World.sound g.W.World.only_asked g.W.World.is_first
     (g.W.Toy.tagged c.args.todo) n c.toys.tags.items c.toys.groups.items) is c.toys.invariant
