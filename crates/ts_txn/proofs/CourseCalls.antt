@@ -2,7 +2,6 @@
 -- where nothing is
 -- pending, unless the event numbers are used up.
 use Rattle.std.proofs.Common.{◌≡◌, ◌≢◌, ◌≤◌, ◌⊎◌, inl, inr, ℕ, List, [], ◌∷◌, true, false, Option, Some, None, eqb, arith, refl, sym, ap, subst, ◌∙◌}
-use Rattle.std.specs.Prelude.{⊤}
 use Rattle.std.proofs.lemmas.Bool.Decides.{eqb_tells}
 use Rattle.std.proofs.lemmas.Bool.{true≢false}
 use Rattle.ts_journal.specs.declared.entry.TheConstants.{GREATEST}
@@ -18,7 +17,7 @@ use Rattle.ts_transform.specs.declared.continuation.StageContinuation.{StageCont
 use Rattle.ts_transform.specs.Driving.{IsOfStageIf, IsRousedIf, unroused, works_at}
 use Rattle.ts_transform.specs.Seats.{AllSeated, HasKey}
 use Rattle.ts_transform.proofs.Handled.{handled_by, quiet_if, stays_if, unroused_if}
-use Rattle.ts_txn.specs.CourseCover.{HasNextEvent, BodyHasEvents, HasEventsOn, HasStepDone, IsAlone, IsCoveredNow, IsCoveredOn, ProceedsOn, StandsBehind, course_seats}
+use Rattle.ts_txn.specs.CourseCover.{HasNextEvent, BodyHasEvents, HasEventsOn, HasStepDone, IsAlone, IsCoveredNow, IsCoveredOn, PassesNoBody, ProceedsOn, StandsBehind, course_seats}
 use Rattle.ts_phases.specs.Cover.{Proceeds, is_fresh}
 use Rattle.ts_relay.specs.Duties.{BeginsBody, HandlesBody, body_seats}
 use Rattle.ts_txn.specs.Making.{end_of_phase}
@@ -32,11 +31,6 @@ use Rattle.ts_phases.specs.declared.phase.Phase.TheVariants as P
 use Rattle.ts_relay.specs.declared.relay.Relay.{Relay}
 use Rattle.ts_relay.proofs.Chaining.{grows_next}
 use Rattle.ts_relay.proofs.Duty.{no_lost_wake, none_pending}
-
--- no body is passed on
-abbrev pub PassesNoBody : {Q : Type 0} → Course Q → Type 0
-PassesNoBody (K.Relaying r) = ⊥
-PassesNoBody _ = ⊤
 
 -- ---- its first continuation is made
 

@@ -1,5 +1,5 @@
 -- What one event leads to: a step of its phase, a part of a body, one of the last writes, or nothing.
-use Rattle.std.proofs.Common.{◌≡◌, ◌⊎◌, inl, inr, ℕ, List, [], ◌∷◌, Bool, true, false, Option, None, refl, sym, ap, subst, ◌∙◌}
+use Rattle.std.proofs.Common.{◌≡◌, ◌⊎◌, inl, inr, ℕ, [], ◌∷◌, true, false, Option, None, refl, sym, ap, subst, ◌∙◌}
 use Rattle.ts_hooks.specs.declared.txn_end.TxnEnd.{TxnEnd}
 use Rattle.ts_hooks.specs.declared.txn_end.TxnEnd.TheVariants as E
 use Rattle.ts_group.specs.Context.{Context}
@@ -15,7 +15,7 @@ use Rattle.std.specs.Prelude.{⊤}
 use Rattle.ts_relay.specs.BodyLinks.{BeginsInTime}
 use Rattle.ts_txn.specs.Course.{course_after, finish_after}
 use Rattle.ts_phases.specs.Cover.{Proceeds, StepLeads, StepsTo, is_ended, is_fresh}
-use Rattle.ts_txn.specs.CourseCover.{is_fresh_on, IsCoveredNow, LedAfter, LedBehind, StaysOnOrLacks}
+use Rattle.ts_txn.specs.CourseCover.{is_fresh_on, IsCoveredNow, LedAfter, LedBehind, PassesNoBody, StaysOnOrLacks}
 use Rattle.ts_relay.specs.Duties.{set_leaving}
 use Rattle.ts_txn.specs.Driven.{BeginsIn, ClosesAs, DueTo, HandlesEvent, HandlesOn, MindsCourse, TakesEvent, TakesOn, TakesStep, WritesOr, delay_of}
 use Rattle.ts_relay.specs.Entering.{CallsNeither}
@@ -37,7 +37,6 @@ use Rattle.ts_phases.specs.declared.phase.Phase.{Phase}
 use Rattle.ts_phases.specs.declared.phase.Phase.TheVariants as P
 use Rattle.ts_phases.specs.declared.phase.Step.{Step}
 use Rattle.ts_relay.specs.declared.relay.Relay.{Relay}
-use Rattle.ts_txn.proofs.CourseCalls.{PassesNoBody}
 use Rattle.ts_txn.proofs.Coursing.{behind_led}
 use Rattle.ts_txn.proofs.Seating.{due_rests}
 
@@ -260,36 +259,28 @@ module _ {C O Q : Type 0} (client : link.Ghosts C) (origin : link.Ghosts O) (bot
   idle_on s a role main (K.Finishing end) none =
       record { step = S.Goes; takes = inl (refl, refl, refl); due = due_rests a 0 }
 
-  pub idle : (s : Core C O) (a : Context) (role : ℕ) (main : Option StageContinuation) (was course : Course Q)
-      → was ≡ course → PassesNoBody course → HandlesEvent client origin both s s a a role main was course
-  idle s a role main was course same none =
-      subst (λ x. HandlesEvent client origin both s s a a role main x course) (sym same)
-      (record { keeps = same_core client origin both s; handles = idle_on s a role main course none })
+  pub idle : (s : Core C O) (a : Context) (role : ℕ) (main : Option StageContinuation) (course : Course Q)
+      → PassesNoBody course → HandlesEvent client origin both s s a a role main course course
+  idle s a role main course none = record
+      { keeps = same_core client origin both s; handles = idle_on s a role main course none }
 
-  -- one of the last writes, said of the first continuation before its event was handled
-  pub handles_finishing : (s t : Core C O) (a b : Context) (role : ℕ) (main u : Option StageContinuation)
-      (course : Course Q) (end : TxnEnd) → course ≡ K.Finishing end → (new : Course Q)
-      → HandlesEvent client origin both s t a b MAIN u (K.Finishing end) new
+  -- where no body is passed on, said of the first continuation before its event was handled
+  pub handles_alone : (s t : Core C O) (a b : Context) (role : ℕ) (main u : Option StageContinuation)
+      → u ≡ unroused main → (course : Course Q) → PassesNoBody course → (new : Course Q)
+      → HandlesEvent client origin both s t a b MAIN u course new
       → HandlesEvent client origin both s t a b role main course new
-  handles_finishing s t a b role main u course end is new h =
-      subst (λ x. HandlesEvent client origin both s t a b role main x new) (sym is)
-      (record { keeps = h.keeps; handles = h.handles })
-
-  pub handles_phased : (s t : Core C O) (a b : Context) (role : ℕ) (main u : Option StageContinuation)
-      → u ≡ unroused main → (course : Course Q) (p : Phase) → course ≡ K.Phased p → (new : Course Q)
-      → HandlesEvent client origin both s t a b MAIN u (K.Phased p) new
-      → HandlesEvent client origin both s t a b role main course new
-  handles_phased s t a b role main u quiet course p is new h =
-      subst (λ x. HandlesEvent client origin both s t a b role main x new) (sym is)
-      (record {
-        keeps = h.keeps;
-        handles = record {
-          next = h.handles.next;
-          takes = h.handles.takes;
-          due = due_before main u quiet
-              h.handles.next new a b h.handles.due;
-        };
-      })
+  handles_alone s t a b role main u quiet (K.Phased p) none new h = record {
+    keeps = h.keeps;
+    handles = record {
+      next = h.handles.next;
+      takes = h.handles.takes;
+      due = due_before main u quiet
+          h.handles.next new a b h.handles.due;
+    };
+  }
+  handles_alone s t a b role main u quiet (K.Relaying r) none new h = absurd none
+  handles_alone s t a b role main u quiet (K.Finishing end) none new h =
+      record { keeps = h.keeps; handles = h.handles }
 
   -- where an event leads, without the moments of those that are set
   takes_on : (s t : Core C O) (a b : Context) (role : ℕ) (main : Option StageContinuation)

@@ -1,7 +1,7 @@
 -- A transaction keeps the tags that it fits, since each step leaves it and its links what they are, and one
 -- that was started
 -- stays so.
-use Rattle.std.proofs.Common.{◌≡◌, ℕ, List, Bool, true, false, Option, Some, None, refl, sym, ap, subst, ◌∙◌}
+use Rattle.std.proofs.Common.{◌≡◌, true, false, Option, Some, None, refl, sym, ap, subst, ◌∙◌}
 use Rattle.std.specs.Arc.{arc_value}
 use Rattle.std.specs.Prelude.{IsSomeAnd}
 use Rattle.ts_link.specs.Link.{IsSure, IsSurePlan, Look}

@@ -1,5 +1,5 @@
 -- A transaction is sound again when it was started, and when an event was handled.
-use Rattle.std.proofs.Common.{◌≡◌, ◌+◌, ◌<◌, ◌≤◌, length, ap, ◌⊎◌, inl, inr, ℕ, List, [], Bool, true, false, Option, None, arith, sym, subst}
+use Rattle.std.proofs.Common.{◌≡◌, ◌+◌, ◌<◌, ◌≤◌, length, ap, ◌⊎◌, inl, inr, ℕ, List, [], true, false, Option, None, arith, sym, subst}
 use Rattle.std.specs.Arc.{arc_value}
 use Rattle.ts_hooks.specs.declared.txn_end.TxnEnd.{TxnEnd}
 use Rattle.ts_transform.specs.Flow.{ChainState}
@@ -19,7 +19,7 @@ use Rattle.ts_transform.specs.declared.continuation.StageContinuation.{StageCont
 use Rattle.ts_relay.specs.BodyLinks.{HoldsLittle}
 use Rattle.ts_txn.specs.Course.{CourseFact, CourseHolds, course_after, finish_after}
 use Rattle.ts_txn.specs.LoweringCourse.{IsOfLinesOn}
-use Rattle.ts_txn.specs.CourseCover.{CoversAlone, HasEventsOn, IsAlone, IsCoveredNow, IsCoveredOn, ProceedsOn, StaysOnOrLacks, is_fresh_on}
+use Rattle.ts_txn.specs.CourseCover.{CoversAlone, HasEventsOn, IsAlone, IsCoveredNow, PassesNoBody, ProceedsOn, StaysOnOrLacks, is_fresh_on}
 use Rattle.ts_phases.specs.Cover.{set_after}
 use Rattle.ts_relay.specs.Duties.{UnlessLacking, WhileGoes}
 use Rattle.ts_phases.specs.Holding.{IfTold, StepKeeps}
@@ -37,7 +37,7 @@ use Rattle.ts_phases.specs.declared.phase.Next.TheVariants as N
 use Rattle.ts_phases.specs.declared.phase.Phase.TheVariants as P
 use Rattle.ts_relay.specs.declared.relay.Relay.{Relay}
 use Rattle.ts_txn.specs.declared.txn.Txn.{Txn}
-use Rattle.ts_txn.proofs.CourseCalls.{PassesNoBody, alone_called, at_rest_on, later_covered, on_other, on_quiet, proceeds_phase}
+use Rattle.ts_txn.proofs.CourseCalls.{alone_called, at_rest_on, later_covered, on_other, on_quiet, proceeds_phase}
 use Rattle.ts_txn.proofs.Coursing.{course_settled, stays_on}
 use Rattle.ts_txn.proofs.Coverage.{fresh_on}
 use Rattle.ts_txn.proofs.LoweringCourse.{lines_stay}
@@ -152,40 +152,32 @@ module _ {C O Q : Type 0} (client : link.Ghosts C) (origin : link.Ghosts O) (bot
             asked.before.next now.log.state.next now.roles (omega (arith, asked.next)) asked.sound.covered;
       })
 
-  module _ (core : Core C O) (main : Option StageContinuation) (was course : Course Q) (same : was ≡ course)
-      (none : PassesNoBody course) (now : Context) (role : ℕ) (event : Event)
-      (c : IsCalled (λ s roles. IsSoundOn client origin both stage core main was
+  module _ (core : Core C O) (main : Option StageContinuation) (course : Course Q) (none : PassesNoBody course)
+      (now : Context) (role : ℕ) (event : Event)
+      (c : IsCalled (λ s roles. IsSoundOn client origin both stage core main course
       s.pending s.next roles) now role event) where
-    stood : HoldsOn client origin both stage core course
-    stood = subst (λ x. HoldsOn client origin both stage core x) same c.sound.stands
-
-    was_covered : IsCoveredOn (view_of client origin core) main course c.before.pending c.before.next
-        now.roles
-    was_covered = subst (λ x. IsCoveredOn (view_of client origin core) main x c.before.pending c.before.next
-        now.roles) same c.sound.covered
-
     -- an event of another continuation, where no body is passed on
     pub sound_other : (role ≡ MAIN → ⊥) → IsSoundNow client origin both stage core main
         course now
     sound_other other = record {
-      stands = stood;
+      stands = c.sound.stands;
       covered = on_other _ (view_of client origin core) main now
-          role event c course none other was_covered;
+          role event c course none other c.sound.covered;
     }
 
     -- one at which it does not work
     pub sound_quiet : works_at event ≡ false
         → IsSoundNow client origin both stage core main course now
     sound_quiet rests = record {
-      stands = stood;
+      stands = c.sound.stands;
       covered = on_quiet _ (view_of client origin core) main now
-          role event c course none rests was_covered;
+          role event c course none rests c.sound.covered;
     }
 
     -- one at which the first continuation makes the next step
     pub alone_then : (t : Option StageContinuation) → t ≡ unroused main → IsAlone t now
     alone_then t is = subst (λ s. IsAlone s now) (sym is)
-        (alone_called _ (view_of client origin core) main now role event c course none was_covered)
+        (alone_called _ (view_of client origin core) main now role event c course none c.sound.covered)
 
   -- it was led on
   pub sound_here : (s t : Core C O) (old new : Course Q) (u : Option StageContinuation) (b : Context)

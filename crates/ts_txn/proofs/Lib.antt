@@ -1,3 +1,4 @@
+pub mod BodyEvents
 pub mod CourseCalls
 pub mod CourseSeats
 pub mod Coursing
@@ -5,8 +6,10 @@ pub mod Coverage
 pub mod Events
 pub mod Fitting
 pub mod Handling
+pub mod Leading
 pub mod LoweringCourse
 pub mod Made
+pub mod NextSteps
 pub mod Resting
 pub mod Seating
 pub mod Telling

@@ -18,7 +18,7 @@ use Rattle.ts_group.specs.Context.{Context}
 use Rattle.ts_group.specs.declared.action.Named.{Named}
 use Rattle.ts_group.specs.declared.world.Asked.{Asked}
 use Rattle.ts_group.specs.declared.world.Asked.TheVariants.{Missed}
-use Rattle.ts_link.specs.Link.{Fewer, Look, NoMore}
+use Rattle.ts_link.specs.Link.{Fewer, NoMore}
 use Rattle.ts_config.specs.declared.setup.TransformLine.{TransformLine}
 use Rattle.ts_link.specs.declared.link.Link as link
 use Rattle.ts_upstream.specs.declared.upstream.Upstream as upstream

@@ -1,6 +1,6 @@
 -- What holds of a transaction by how far it is, where its links tell: in a phase up to the client's head or
 -- at its close, while a body is passed on, and while the last of it is written.
-use Rattle.std.specs.Prelude.{ℕ, List, Bool}
+use Rattle.std.specs.Prelude.{ℕ, List}
 use Rattle.std.specs.Arc.{arc_value}
 use Rattle.ts_config.specs.declared.setup.Setup.{Setup}
 use Rattle.ts_hooks.specs.declared.txn_end.TxnEnd.{TxnEnd}

@@ -94,6 +94,16 @@ pub record IsCoveredOn {Q : Type 0} (v : View) (main : Option StageContinuation)
 abbrev pub IsCoveredNow : {Q : Type 0} → View → Option StageContinuation → Course Q → Context → Type 0
 IsCoveredNow v main course now = IsCoveredOn v main course now.log.state.pending now.log.state.next now.roles
 
+-- a body is passed on
+abbrev pub PassesBody : {Q : Type 0} → Course Q → Type 0
+PassesBody (K.Relaying r) = ⊤
+PassesBody _ = ⊥
+
+-- no body is
+abbrev pub PassesNoBody : {Q : Type 0} → Course Q → Type 0
+PassesNoBody (K.Relaying r) = ⊥
+PassesNoBody _ = ⊤
+
 -- it was started, and has not ended
 abbrev pub ProceedsOn : {Q : Type 0} → Course Q → Type 0
 ProceedsOn (K.Phased p) = Proceeds p

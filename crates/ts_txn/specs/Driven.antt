@@ -1,6 +1,6 @@
 -- What an event of a transaction leads to, by how far it is: in a phase it makes a step, while a body is
 -- passed on a part of that, and then one of the last writes.
-use Rattle.std.specs.Prelude.{◌≡◌, ◌⊎◌, ℕ, Bool, false, List, Option, ⊤}
+use Rattle.std.specs.Prelude.{◌≡◌, ◌⊎◌, ℕ, Bool, true, false, Option, ⊤}
 use Rattle.ts_group.specs.Context.{Context}
 use Rattle.ts_group.specs.Entries.{Grows}
 use Rattle.ts_hooks.specs.declared.txn_end.TxnEnd.{TxnEnd}
@@ -12,7 +12,7 @@ use Rattle.ts_transform.specs.declared.continuation.StageContinuation.{StageCont
 use Rattle.ts_relay.specs.BodyLinks.{BeginsInTime, HandlesLinks, MindsBody, SendsRest}
 use Rattle.ts_txn.specs.Course.{course_after, finish_after}
 use Rattle.ts_phases.specs.Cover.{is_fresh}
-use Rattle.ts_txn.specs.CourseCover.{is_fresh_on, LedAfter, StaysOnOrLacks, pause_after}
+use Rattle.ts_txn.specs.CourseCover.{is_fresh_on, CoversLed, LedAfter, StaysOnOrLacks, StaysWhereNamed, pause_after}
 use Rattle.ts_relay.specs.Duties.{set_leaving, DoesOwnWork}
 use Rattle.ts_relay.specs.Entering.{CallsNeither}
 use Rattle.ts_phases.specs.Holding.{IfTold, StepKeeps}
@@ -37,6 +37,28 @@ abbrev pub delay_of : Next → ℕ
 delay_of N.Go = 0
 delay_of N.Wait = RETRY_AFTER
 delay_of N.Done = 0
+
+-- the body is passed on behind this step of it
+abbrev pub is_passed_on : BodyStep → Bool
+is_passed_on S.Goes = true
+is_passed_on S.Waits = true
+is_passed_on step = false
+
+-- What is left behind a step of a body: where it led, and the event of the next step, if one was set, is due
+-- at once; and each duty of the transaction has its event.
+pub record LeavesRelay {Q : Type 0} (step : BodyStep) (r : Relay Q) (new : Course Q)
+    (t u : Option StageContinuation) (a b : Context) : Type 0 where
+  pub led : LedAfter step (course_after r step) new
+  pub within : ActsWithin (set_leaving step) a b
+  pub due : SetsOnly (IsDueAfter AT_ONCE a.moment) a b
+  pub spent : StaysWhereNamed (course_after r step) r new t a
+  pub covered : CoversLed step r t u new a b
+
+-- the same, said of the course on which the body was
+abbrev pub LeadsRelay : {Q : Type 0} → BodyStep → Course Q → Course Q → Option StageContinuation
+    → Option StageContinuation → Context → Context → Type 0
+LeadsRelay step (K.Relaying r) new t u a b = LeavesRelay step r new t u a b
+LeadsRelay step _ new t u a b = ⊥
 
 -- a body begins to be passed on in one phase alone, and no call is made on a link then
 abbrev pub BeginsIn : Phase → View → View → Type 0

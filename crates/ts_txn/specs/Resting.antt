@@ -1,6 +1,6 @@
 -- What stands of a transaction that has ended, and of one whose group has nothing pending (Developer's Guide,
 -- "HTTP Hooks and Transactions"; RFC 9112, section 8, on incomplete messages).
-use Rattle.std.specs.Prelude.{◌≡◌, ℕ, ◌<◌, List, Bool, false, Some}
+use Rattle.std.specs.Prelude.{◌≡◌, ℕ, ◌<◌, false, Some}
 use Rattle.std.specs.Arc.{arc_value}
 use Rattle.ts_config.specs.declared.setup.Setup.{Setup}
 use Rattle.ts_hooks.specs.declared.txn_end.TxnEnd.{TxnEnd}

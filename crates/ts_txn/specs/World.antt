@@ -1,5 +1,5 @@
 -- What holds of a transaction in its group between calls, and of which transaction a tag speaks.
-use Rattle.std.specs.Prelude.{◌≡◌, ℕ, List, Bool, true, false, Option, Some, None, ⊤}
+use Rattle.std.specs.Prelude.{◌≡◌, ℕ, List, true, false, Option, Some, None, ⊤}
 use Rattle.std.specs.Arc.{arc_value}
 use Rattle.ts_config.specs.declared.setup.TransformLine.{TransformLine}
 use Rattle.ts_journal.specs.declared.entry.Pending.{Pending}

@@ -1,20 +1,18 @@
 //! How far a transaction is, and where an event leads it from there.
 ghost use Rattle.std.specs.Prelude.{◌≡◌, true};
-ghost use Rattle.ts_group.specs.Calls.{IsCalled};
 ghost use Rattle.ts_txn.specs.CourseCover.{IsAlone};
 ghost use Rattle.ts_txn.specs.EventsOwed.{EventOwes};
 ghost use Rattle.ts_txn.specs.LoweringCourse.{PaysEvents};
 ghost use Rattle.ts_relay.specs.declared.relay.TheConstants.{MAIN};
-ghost use Rattle.ts_txn.specs.World.{HoldsOn, IsSoundOn};
+ghost use Rattle.ts_txn.specs.World.{HoldsOn};
 
 use crate::course_leads::{after_write, leave_body};
 use ts_config::TransformLine;
 use ts_group::Cx;
 use ts_hooks::TxnEnd;
-use ts_journal::Event;
 use ts_link::Link;
 use ts_phases::{Core, Phase, Request};
-use ts_relay::{Relay, begin_body, destroy_end, handle_body, queue_relay, send_rest};
+use ts_relay::{Relay, begin_body, destroy_end, queue_relay, send_rest};
 use ts_transform::{StageContinuation, Transform};
 use ts_upstream::Upstream;
 use ts_wire::ResponseHead;
@@ -28,30 +26,6 @@ pub enum Course<P> {
     Relaying(Relay<P>),
     /// All that the client gets was queued, and once it is written the transaction ends so.
     Finishing { end: TxnEnd },
-}
-
-/// Handles an event of a role while a body is passed on, and answers where the transaction is then.
-pub fn relay_event<C: Link, O: Upstream<C>, P: Transform<Line = TransformLine> + Drop>(
-    core: &mut Core<C, O>,
-    main: &mut Option<StageContinuation>,
-    relay: Relay<P>,
-    role: u32,
-    event: Event,
-    cx: &mut Cx,
-) -> Course<P>
-    requires turn { cx.old.log.state.held ≡ true }
-    requires called { IsCalled
-        (λ s roles. IsSoundOn C.Link O.Link O.Upstream.own P.Transform
-        core.old main.old (Course.Relaying relay) s.pending s.next roles)
-        cx.old role event }
-    ensures owes { EventOwes C.Link O.Link O.Upstream.own P.Transform core.old core.new cx.old cx.new
-        role main.old main.new (Course.Relaying relay) result }
-    ensures pays { PaysEvents C.Link O.Link O.Upstream.own P.Transform
-        core.old core.new (Course.Relaying relay) result cx.old cx.new }
-{
-    let mut relay = relay;
-    let step = handle_body(core, main, &mut relay, role, event, cx);
-    leave_body(relay, step, main, cx)
 }
 
 /// Writes once of what was queued last, and answers where the transaction is then.

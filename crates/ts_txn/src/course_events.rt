@@ -1,20 +1,20 @@
 //! Where an event leads a transaction, wherever it is on its course.
 ghost use Rattle.std.specs.Prelude.{◌≡◌, true};
 ghost use Rattle.ts_group.specs.Calls.{IsCalled};
-ghost use Rattle.ts_txn.specs.CourseCover.{IsAlone};
+ghost use Rattle.ts_txn.specs.CourseCover.{IsAlone, PassesNoBody};
 ghost use Rattle.ts_txn.specs.EventsOwed.{EventOwes};
 ghost use Rattle.ts_txn.specs.LoweringCourse.{PaysEvents};
 ghost use Rattle.ts_txn.specs.World.{HoldsOn, IsSoundOn};
 
-use crate::course::{Course, enter_relay, relay_event, write_rest};
-use crate::course_leads::after_step;
+use crate::course::{Course, enter_relay, write_rest};
+use crate::course_leads::{after_step, lead_body};
 use std::mem::{forget, replace};
 use ts_config::TransformLine;
 use ts_group::Cx;
 use ts_journal::Event;
 use ts_link::Link;
 use ts_phases::{Core, Phase};
-use ts_relay::MAIN;
+use ts_relay::{MAIN, handle_body};
 use ts_transform::{StageContinuation, Transform, unrouse, works};
 use ts_upstream::Upstream;
 
@@ -60,53 +60,68 @@ fn advance_phase<C: Link, O: Upstream<C>, P: Transform<Line = TransformLine> + D
     }
 }
 
-/// Handles an event of a role, and answers where the transaction is then: while a body is passed on each
-/// role does its part, and else the first continuation makes the next step.
-#[tactic(auto, using(ts_group::proofs::Keeps::falls_refl))]
-pub fn handle_event<C: Link, O: Upstream<C>, P: Transform<Line = TransformLine> + Drop>(
+// Makes the next step of the first continuation where no body is passed on, and answers where the transaction
+// is then. What the step needs is taken out, and what is left there owns nothing.
+fn make_next<C: Link, O: Upstream<C>, P: Transform<Line = TransformLine> + Drop>(
     core: &mut Core<C, O>,
     main: &mut Option<StageContinuation>,
-    course: Course<P>,
-    role: u32,
-    event: Event,
+    course: &mut Course<P>,
     cx: &mut Cx,
 ) -> Course<P>
     requires turn { cx.old.log.state.held ≡ true }
-    requires called { IsCalled
-        (λ s roles. IsSoundOn C.Link O.Link O.Upstream.own P.Transform
-        core.old main.old course s.pending s.next roles)
-        cx.old role event }
+    requires none { PassesNoBody course.old }
+    requires stands { HoldsOn C.Link O.Link O.Upstream.own P.Transform
+        core.old course.old }
+    requires alone { IsAlone main.old cx.old }
     ensures owes { EventOwes C.Link O.Link O.Upstream.own P.Transform core.old core.new cx.old cx.new
-        role main.old main.new course result }
+        MAIN main.old main.new course.old result }
     ensures pays { PaysEvents C.Link O.Link O.Upstream.own P.Transform
-        core.old core.new course result cx.old cx.new }
+        core.old core.new course.old result cx.old cx.new }
 {
     match course {
-        Course::Relaying(relay) => relay_event(core, main, relay, role, event, cx),
         Course::Phased(phase) => {
-            if role != MAIN {
-                return Course::Phased(phase);
-            }
-            if !works(event) {
-                return Course::Phased(phase);
-            }
-            unrouse(main);
-            advance_phase(core, main, phase, cx)
+            let was = replace(phase, Phase::Fresh);
+            advance_phase(core, main, was, cx)
         }
-        Course::Finishing { end } => {
-            if role != MAIN {
-                return Course::Finishing { end };
-            }
-            if !works(event) {
-                return Course::Finishing { end };
-            }
-            unrouse(main);
-            write_rest(core, main, end, cx)
-        }
+        Course::Finishing { end } => write_rest(core, main, *end, cx),
+        Course::Relaying(_) => unreachable!(),
     }
 }
 
-/// Handles an event of a role, in place.
+// Handles an event of a role where no body is passed on, in place: at one of its own the first continuation
+// makes the next step.
+fn advance_alone<C: Link, O: Upstream<C>, P: Transform<Line = TransformLine> + Drop>(
+    core: &mut Core<C, O>,
+    main: &mut Option<StageContinuation>,
+    course: &mut Course<P>,
+    role: u32,
+    event: Event,
+    cx: &mut Cx,
+)
+    requires turn { cx.old.log.state.held ≡ true }
+    requires none { PassesNoBody course.old }
+    requires called { IsCalled
+        (λ s roles. IsSoundOn C.Link O.Link O.Upstream.own P.Transform
+        core.old main.old course.old s.pending s.next roles)
+        cx.old role event }
+    ensures owes { EventOwes C.Link O.Link O.Upstream.own P.Transform core.old core.new cx.old cx.new
+        role main.old main.new course.old course.new }
+    ensures pays { PaysEvents C.Link O.Link O.Upstream.own P.Transform
+        core.old core.new course.old course.new cx.old cx.new }
+{
+    if role != MAIN {
+        return;
+    }
+    if !works(event) {
+        return;
+    }
+    unrouse(main);
+    let is = make_next(core, main, course, cx);
+    forget(replace(course, is));
+}
+
+/// Handles an event of a role, in place: while a body is passed on each role does its part, and else the
+/// first continuation makes the next step.
 pub fn advance<C: Link, O: Upstream<C>, P: Transform<Line = TransformLine> + Drop>(
     core: &mut Core<C, O>,
     main: &mut Option<StageContinuation>,
@@ -125,8 +140,10 @@ pub fn advance<C: Link, O: Upstream<C>, P: Transform<Line = TransformLine> + Dro
     ensures pays { PaysEvents C.Link O.Link O.Upstream.own P.Transform
         core.old core.new course.old course.new cx.old cx.new }
 {
-    let was = replace(course, Course::Phased(Phase::Fresh));
-    let is = handle_event(core, main, was, role, event, cx);
-    // What stood there in the meantime owns nothing.
-    forget(replace(course, is));
+    let Course::Relaying(relay) = course else {
+        advance_alone(core, main, course, role, event, cx);
+        return;
+    };
+    let step = handle_body(core, main, relay, role, event, cx);
+    lead_body(step, course, main, cx);
 }

@@ -5,12 +5,13 @@ ghost use Rattle.ts_transform.specs.Driving.{ActsWithin, HasLiveIf, IsDueAfter, 
 ghost use Rattle.ts_transform.specs.Seats.{KeepsSeated};
 ghost use Rattle.ts_txn.specs.Course.{course_after, course_led, finish_after};
 ghost use Rattle.ts_phases.specs.Cover.{Proceeds, StepLeads, set_after};
-ghost use Rattle.ts_txn.specs.CourseCover.{CoversAlone, CoversLed, HasRousedNext, LedAfter, LedBehind, SetsOneOrNone, StaysOnOrLacks, StaysWhereNamed, StaysWhereSpent, pause_after};
+ghost use Rattle.ts_txn.specs.CourseCover.{CoversAlone, CoversLed, HasRousedNext, LedAfter, LedBehind, PassesBody, SetsOneOrNone, StaysOnOrLacks, StaysWhereNamed, StaysWhereSpent, pause_after};
 ghost use Rattle.ts_relay.specs.Duties.{set_leaving};
-ghost use Rattle.ts_txn.specs.Driven.{delay_of};
+ghost use Rattle.ts_txn.specs.Driven.{LeadsRelay, delay_of, is_passed_on};
 
 use crate::continuation::is_spent;
 use crate::course::Course;
+use std::mem::{forget, replace};
 use ts_group::Cx;
 use ts_hooks::TxnEnd;
 use ts_link::RETRY_AFTER;
@@ -137,6 +138,51 @@ pub fn leave_body<P: Transform + Drop>(
             Course::Phased(Phase::LACKS)
         }
     }
+}
+
+// Whether the body is passed on behind a step of it.
+fn is_passed_on(step: BodyStep) -> bool
+    ensures { result ≡ is_passed_on step }
+{
+    match step {
+        BodyStep::Goes => true,
+        BodyStep::Waits => true,
+        BodyStep::Finishes(_) => false,
+        BodyStep::Closes(_) => false,
+        BodyStep::Lacks => false,
+    }
+}
+
+// The body that is passed on.
+fn relay_of<P>(course: Course<P>) -> Relay<P>
+    requires { PassesBody course }
+    ensures { course ≡ Course.Relaying result }
+{
+    let Course::Relaying(relay) = course else {
+        unreachable!()
+    };
+    relay
+}
+
+/// Leads a transaction on behind a step of its body, in place: only a body that is left is taken out.
+pub fn lead_body<P: Transform + Drop>(
+    step: BodyStep,
+    course: &mut Course<P>,
+    main: &mut Option<StageContinuation>,
+    cx: &mut Cx,
+)
+    requires turn { cx.old.log.state.held ≡ true }
+    requires relays { PassesBody course.old }
+    ensures { LeadsRelay step course.old course.new main.old main.new cx.old cx.new }
+{
+    if is_passed_on(step) {
+        return;
+    }
+    let was = replace(course, Course::Phased(Phase::Fresh));
+    let relay = relay_of(was);
+    let is = leave_body(relay, step, main, cx);
+    // What stood there in the meantime owns nothing.
+    forget(replace(course, is));
 }
 
 /// Where a transaction is after a step of its last writes.
