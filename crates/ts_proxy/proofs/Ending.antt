@@ -1,34 +1,87 @@
 -- From what a task came to, to what a run says of it: the lemmas that the clauses of `run` want.
-use Rattle.std.specs.Prelude.{◌≢◌}
-use Rattle.std.proofs.Common.{◌≡◌, ◌⊎◌, ℕ, List, [], ◌∷◌, Option, Some, None, inl, inr, refl, arith}
+use Rattle.std.specs.Prelude.{◌≢◌, ⊤, nat_le, length}
+use Rattle.std.proofs.Common.{◌≡◌, ◌⊎◌, ℕ, Bool, true, false, List, [], ◌∷◌, Option, Some, None, inl, inr}
+use Rattle.std.proofs.Common.{refl, subst, sym, arith, if◌then◌else◌}
 use Rattle.std.proofs.lemmas.List.{append-nil}
+use Rattle.ts_config.specs.Value.{Reading, Good, Bad, config_of}
 use Rattle.ts_config.specs.declared.setup.TransformLine.{TransformLine}
+use Rattle.ts_config.specs.declared.setup.TransformLine.TheVariants as t
+use Rattle.ts_journal.specs.Log.{Log}
 use Rattle.ts_link.specs.Seen.{ShelfSeen, SinkSeen}
 use Rattle.ts_proxy.specs.declared.answer.Answer.{Answer}
-use Rattle.ts_proxy.specs.Answers.{IsTextOf, TookAt}
-use Rattle.ts_proxy.specs.Ends.{TakesAt, status_of}
-use Rattle.ts_proxy.specs.Outcome.{Outcome, Usage, filled, line_filled, most_input, opened, outcome_of}
-use Rattle.ts_proxy.specs.Outcome.{worked}
+use Rattle.ts_proxy.specs.declared.answer.Answer.TheVariants as a
+use Rattle.ts_proxy.specs.declared.command.GenerateTask.{GenerateTask}
+use Rattle.ts_proxy.specs.Answers.{ComesAt, IsCausedBy, IsTextOf, OnCannotRead, TookAt, file_name}
+use Rattle.ts_proxy.specs.Ends.{EndsAt, IsStatus, IsStatusOf, TakesAt, bad_line, status_of, too_long, usage}
+use Rattle.ts_proxy.specs.Outcome.{Outcome, Usage, BadLine, Missing, Long, Text, Report, Summary, filled}
+use Rattle.ts_proxy.specs.Outcome.{line_filled, most_append, most_config, most_input, opened, outcome_of}
+use Rattle.ts_proxy.specs.Outcome.{performed, understood, worked}
+use Rattle.ts_proxy.specs.Performed.{IsPerformed, NamesFiles}
 use Rattle.ts_proxy.specs.Took.{TookSome, TookWhole}
-use Rattle.ts_proxy.specs.Words.{Task}
+use Rattle.ts_proxy.specs.Words.{Command, Transform, Replay, Task, Over, Make, config_in, input_in}
 
-line_filled-command : (files : List ℕ → Option (List ℕ)) (l : TransformLine) (next : TransformLine → Outcome)
-    → ((x : TransformLine) → next x ≢ Usage) → line_filled files l next ≢ Usage
-line_filled-command files l next h = grind arith
+-- an outcome of a command over files
+abbrev IsOfFiles : Outcome → Type 0
+IsOfFiles Usage = ⊥
+IsOfFiles (Summary numbers) = ⊥
+IsOfFiles _ = ⊤
 
-filled-command : (files : List ℕ → Option (List ℕ)) (ls : List TransformLine)
-    (next : List TransformLine → Outcome)
-    → ((xs : List TransformLine) → next xs ≢ Usage) → filled files ls next ≢ Usage
-filled-command files [] next h = h []
-filled-command files (l ∷ ls) next h = line_filled-command files l _
-    (λ first. filled-command files ls _ (λ rest. h (first ∷ rest)))
+if-of : (b : Bool) (x y : Outcome) → IsOfFiles x → IsOfFiles y → IsOfFiles (if b then x else y)
+if-of true x y h k = h
+if-of false x y h k = k
+
+opened-of : (o : Option (List ℕ)) (most : ℕ) (name : List ℕ) (next : List ℕ → Outcome)
+    → ((bytes : List ℕ) → IsOfFiles (next bytes)) → IsOfFiles (opened o most name next)
+opened-of None most name next h = tt
+opened-of (Some bytes) most name next h = if-of (nat_le (length bytes) most) (next bytes) (Long name) (h bytes)
+    tt
+
+line-of : (files : List ℕ → Option (List ℕ)) (l : TransformLine) (next : TransformLine → Outcome)
+    → ((x : TransformLine) → IsOfFiles (next x)) → IsOfFiles (line_filled files l next)
+line-of files (t.Append name text) next h =
+    opened-of (files name) most_append name (λ bytes. next (t.Append name bytes))
+    (λ bytes. h (t.Append name bytes))
+line-of files t.Null next h = h t.Null
+line-of files t.Bnull next h = h t.Bnull
+line-of files (t.Prepend text) next h = h (t.Prepend text)
+line-of files (t.Map from to) next h = h (t.Map from to)
+line-of files (t.Drop byte) next h = h (t.Drop byte)
+line-of files (t.Delay ms) next h = h (t.Delay ms)
+
+filled-of : (files : List ℕ → Option (List ℕ)) (ls : List TransformLine) (next : List TransformLine → Outcome)
+    → ((xs : List TransformLine) → IsOfFiles (next xs)) → IsOfFiles (filled files ls next)
+filled-of files [] next h = h []
+filled-of files (l ∷ ls) next h =
+    line-of files l (λ first. filled files ls (λ rest. next (first ∷ rest)))
+    (λ first. filled-of files ls (λ rest. next (first ∷ rest)) (λ rest. h (first ∷ rest)))
+
+understood-of : (files : List ℕ → Option (List ℕ)) (r : Reading) (next : List TransformLine → Outcome)
+    → ((xs : List TransformLine) → IsOfFiles (next xs)) → IsOfFiles (understood r (λ ls. filled files ls next))
+understood-of files (Good ls) next h = filled-of files ls next h
+understood-of files (Bad n k) next h = tt
+
+worked-of : (command : Command) (lines : List TransformLine) (bytes : List ℕ)
+    → IsOfFiles (worked command lines bytes)
+worked-of Transform lines bytes = tt
+worked-of Replay lines bytes = tt
+
+performed-of : (command : Command) (files : List ℕ → Option (List ℕ)) (config input : List ℕ)
+    → IsOfFiles (performed command files config input)
+performed-of command files config input =
+    let next : List TransformLine → Outcome =
+    λ lines. opened (files input) most_input input (worked command lines) in
+    opened-of (files config) most_config config
+    (λ bytes. understood (config_of bytes) (λ ls. filled files ls next))
+    (λ bytes. understood-of files (config_of bytes) next
+    (λ lines. opened-of (files input) most_input input (worked command lines) (worked-of command lines)))
+
+not-usage-of : (o : Outcome) → IsOfFiles o → o ≢ Usage
+not-usage-of o of is = subst IsOfFiles is of
 
 task-command : (shelf : ShelfSeen) (task : Task) → outcome_of shelf (Some task) ≢ Usage
-task-command shelf task =
-    let last : (lines : List TransformLine) → opened (shelf.file task.input) most_input task.input
-    (worked task.command lines) ≢ Usage
-    = λ lines. grind arith in
-    grind (arith, λ (ls : List TransformLine). filled-command shelf.file ls _ last)
+task-command shelf (Over command config input) =
+    not-usage-of (performed command shelf.file config input) (performed-of command shelf.file config input)
+task-command shelf (Make numbers) = λ is. cc
 
 -- words that ask for a task are of a command
 pub asked_command : (shelf : ShelfSeen) (asked : Option Task)
@@ -53,3 +106,109 @@ some-whole IsIt old new h = inr (
 pub takes_took : (o : Outcome) (answer : Answer) (old new : SinkSeen) → TookAt answer old new o
     → TakesAt o (status_of answer) old new
 takes_took o answer old new h = grind (arith, some-whole (IsTextOf o) old new)
+
+-- ---- the status
+
+-- the status of an answer at an outcome of a command over files
+ends-of-files : (config input : List ℕ) (answer : Answer) (o : Outcome) → IsOfFiles o
+    → ComesAt config input answer o → EndsAt o (status_of answer)
+ends-of-files config input a.Done Usage of h = absurd of
+ends-of-files config input a.Done (BadLine n k) of h = absurd h
+ends-of-files config input a.Done (Missing name) of h = absurd h
+ends-of-files config input a.Done (Long name) of h = absurd h
+ends-of-files config input a.Done (Text text) of h = inl refl
+ends-of-files config input a.Done (Report lines bytes) of h = inl (inl refl, h)
+ends-of-files config input a.Done (Summary numbers) of h = absurd of
+ends-of-files config input a.Usage o of h = absurd (subst IsOfFiles h of)
+ends-of-files config input (a.BadLine f) o of h = subst (λ x. EndsAt x bad_line) (sym h) (inl refl)
+ends-of-files config input (a.BadRecording offset) Usage of h = absurd of
+ends-of-files config input (a.BadRecording offset) (BadLine n k) of h = absurd h
+ends-of-files config input (a.BadRecording offset) (Missing name) of h = absurd h
+ends-of-files config input (a.BadRecording offset) (Long name) of h = absurd h
+ends-of-files config input (a.BadRecording offset) (Text text) of h = absurd h
+ends-of-files config input (a.BadRecording offset) (Report lines bytes) of h = inr
+    (inl (refl, λ r. h.refused r.0 r.1))
+ends-of-files config input (a.BadRecording offset) (Summary numbers) of h = absurd of
+ends-of-files config input (a.CannotRead f) Usage of h = absurd of
+ends-of-files config input (a.CannotRead f) (BadLine n k) of h = inr (inl refl)
+ends-of-files config input (a.CannotRead f) (Missing name) of h = inl refl
+ends-of-files config input (a.CannotRead f) (Long name) of h = inr (inl refl)
+ends-of-files config input (a.CannotRead f) (Text text) of h = inr (inl refl)
+ends-of-files config input (a.CannotRead f) (Report lines bytes) of h = inr (inr (inl refl))
+ends-of-files config input (a.CannotRead f) (Summary numbers) of h = absurd of
+ends-of-files config input a.CannotWrite Usage of h = absurd of
+ends-of-files config input a.CannotWrite (BadLine n k) of h = absurd h
+ends-of-files config input a.CannotWrite (Missing name) of h = absurd h
+ends-of-files config input a.CannotWrite (Long name) of h = absurd h
+ends-of-files config input a.CannotWrite (Text text) of h = inr (inr (inl refl))
+ends-of-files config input a.CannotWrite (Report lines bytes) of h = inl (inr refl, h)
+ends-of-files config input a.CannotWrite (Summary numbers) of h = absurd of
+ends-of-files config input a.OutOfMemory Usage of h = absurd of
+ends-of-files config input a.OutOfMemory (BadLine n k) of h = inr (inr refl)
+ends-of-files config input a.OutOfMemory (Missing name) of h = inr refl
+ends-of-files config input a.OutOfMemory (Long name) of h = inr (inr refl)
+ends-of-files config input a.OutOfMemory (Text text) of h = inr (inr (inr refl))
+ends-of-files config input a.OutOfMemory (Report lines bytes) of h = inr (inr (inr refl))
+ends-of-files config input a.OutOfMemory (Summary numbers) of h = absurd of
+ends-of-files config input (a.TooLong f) o of h = subst (λ x. EndsAt x too_long) (sym h) (inl refl)
+
+-- and at a summary, where no file is named
+ends-of-made : (numbers : GenerateTask) (answer : Answer) → ComesAt [] [] answer (Summary numbers)
+    → OnCannotRead answer (λ f. ⊥) → EndsAt (Summary numbers) (status_of answer)
+ends-of-made numbers a.Done h none = inl refl
+ends-of-made numbers a.Usage h none = absurd (let wrong : Summary numbers ≡ Usage = h in cc)
+ends-of-made numbers (a.BadLine f) h none = absurd
+    (let wrong : Summary numbers ≡ BadLine f.line f.kind = h in cc)
+ends-of-made numbers (a.BadRecording offset) h none = absurd h
+ends-of-made numbers (a.CannotRead f) h none = absurd none
+ends-of-made numbers a.CannotWrite h none = inr (inl refl)
+ends-of-made numbers a.OutOfMemory h none = inr (inr refl)
+ends-of-made numbers (a.TooLong f) h none = absurd
+    (let wrong : Summary numbers ≡ Long (file_name [] [] f) = h in cc)
+
+-- by the task
+ends-at : (shelf : ShelfSeen) (task : Task) (answer : Answer)
+    → ComesAt (config_in task) (input_in task) answer (outcome_of shelf (Some task))
+    → OnCannotRead answer (λ f. NamesFiles task) → EndsAt (outcome_of shelf (Some task)) (status_of answer)
+ends-at shelf (Over command config input) answer h named =
+    ends-of-files config input answer (performed command shelf.file config input)
+    (performed-of command shelf.file config input) h
+ends-at shelf (Make numbers) answer h named = ends-of-made numbers answer h named
+
+-- each answer has a status, and that of a task is not that of usage
+is-status : (answer : Answer) → IsStatus (status_of answer)
+is-status a.Done = inl refl
+is-status a.Usage = inr (inr (inr (inl refl)))
+is-status (a.BadLine f) = inr (inr (inr (inr (inl refl))))
+is-status (a.BadRecording offset) = inr (inr (inr (inr (inr (inl refl)))))
+is-status (a.CannotRead f) = inr (inr (inr (inr (inr (inr (inl refl))))))
+is-status a.CannotWrite = inr (inl refl)
+is-status a.OutOfMemory = inr (inr (inl refl))
+is-status (a.TooLong f) = inr (inr (inr (inr (inr (inr (inr refl))))))
+
+not-usage : (answer : Answer) (shelf shelf' : ShelfSeen) (out out' : SinkSeen)
+    → IsCausedBy answer shelf shelf' out out' → status_of answer ≢ usage
+not-usage a.Done shelf shelf' out out' h = λ is. absurd (omega (arith, is))
+not-usage a.Usage shelf shelf' out out' h = absurd h
+not-usage (a.BadLine f) shelf shelf' out out' h = λ is. absurd (omega (arith, is))
+not-usage (a.BadRecording offset) shelf shelf' out out' h = λ is. absurd (omega (arith, is))
+not-usage (a.CannotRead f) shelf shelf' out out' h = λ is. absurd (omega (arith, is))
+not-usage a.CannotWrite shelf shelf' out out' h = λ is. absurd (omega (arith, is))
+not-usage a.OutOfMemory shelf shelf' out out' h = λ is. absurd (omega (arith, is))
+not-usage (a.TooLong f) shelf shelf' out out' h = λ is. absurd (omega (arith, is))
+
+-- the status of what a task came to
+pub status_is : (tells out_tells : Bool) (shelf shelf' : ShelfSeen) (out out' : SinkSeen)
+    (asked : Option Task) (task : Task) (answer : Answer) (js : List Log) (n : ℕ) → asked ≡ Some task
+    → n ≡ status_of answer → IsPerformed task tells out_tells shelf shelf' out out' answer js
+    → IsStatusOf tells shelf asked n
+status_is tells out_tells shelf shelf' out out' asked task answer js n is same p =
+    subst (λ t. IsStatusOf tells shelf t n) (sym is)
+    (subst (IsStatusOf tells shelf (Some task)) (sym same) (record {
+      known = is-status answer;
+      of_none = (
+        λ u. absurd (not-usage answer shelf shelf' out out' p.cause u),
+        λ none. absurd (let wrong : Some task ≡ None = none in cc),
+      );
+      at = λ told. ends-at shelf task answer (p.comes told) p.of_files;
+    }))

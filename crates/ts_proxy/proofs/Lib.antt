@@ -1,10 +1,12 @@
 pub mod Composing
 pub mod Ending
 pub mod Filling
+pub mod Fixed
+pub mod Numbers
 pub mod Opening
 pub mod Parts
 pub mod Performing
 pub mod Serial
 pub mod Staying
-pub mod Threads
+pub mod Summing
 pub mod Words

@@ -1,30 +1,32 @@
 -- From the parts of a task's work to what the task came to.
-use Rattle.std.proofs.Common.{◌≡◌, ℕ, ◌+◌, Bool, true, List, [], ◌∷◌, All, map, Some, inl, inr, refl, sym}
+use Rattle.std.proofs.Common.{◌≡◌, ℕ, ◌+◌, Bool, true, List, [], ◌∷◌, All, map, inl, inr, refl, sym}
 use Rattle.std.proofs.Common.{subst}
-use Rattle.std.proofs.lemmas.List.{append-nil}
+use Rattle.std.specs.Prelude.{⊤}
 use Rattle.std.proofs.lemmas.List.Elements.{All-nil, All-cons}
 use Rattle.ts_config.specs.declared.setup.Setup.{Setup}
 use Rattle.ts_config.specs.declared.setup.TransformLine.{TransformLine}
-use Rattle.ts_config.specs.Bodies.{compose_lines}
 use Rattle.ts_journal.specs.Log.{Log}
 use Rattle.ts_link.specs.Counts.{Rose}
 use Rattle.ts_link.specs.Seen.{ShelfSeen, SinkSeen}
 use Rattle.ts_proxy.specs.declared.answer.Answer.{Answer}
 use Rattle.ts_proxy.specs.declared.answer.Answer.TheVariants as a
 use Rattle.ts_proxy.specs.declared.answer.NamedFile.{NamedFile}
-use Rattle.ts_proxy.specs.Answers.{ComesAt, IsCausedBy, IsOfReading, IsOfRunning, IsOfWork, IsReadBy}
-use Rattle.ts_proxy.specs.Answers.{OnCannotRead, OnQuiet, TookAt}
-use Rattle.ts_proxy.specs.Outcome.{Outcome, outcome_of, performed, worked}
-use Rattle.ts_proxy.specs.Performed.{AreJournalsOf, IsPerformed, IsReplayOn, IsCarriedOut, LeavesJournals}
-use Rattle.ts_proxy.specs.Performed.{LeavesJournalsAt}
+use Rattle.ts_proxy.specs.declared.command.GenerateTask.{GenerateTask}
+use Rattle.ts_proxy.specs.Answers.{ComesAt, HasOutput, IsCausedBy, IsOfReading, IsOfRunning, IsOfWork, IsReadBy}
+use Rattle.ts_proxy.specs.Answers.{IsTextOf, OnCannotRead, OnQuiet, TookAt}
+use Rattle.ts_proxy.specs.Outcome.{Outcome, Report, Summary, performed, worked}
+use Rattle.ts_proxy.specs.Performed.{AreJournalsAt, AreJournalsOf, AreOfThreads, IsCarriedOut, IsPerformed}
+use Rattle.ts_proxy.specs.Performed.{IsReplayOn, IsRunTo, LeavesJournals, LeavesJournalsAt}
+use Rattle.ts_proxy.specs.Summary.{fixed_lines, summary_of, summary_text, txns_of}
 use Rattle.ts_proxy.specs.Took.{TookAll, TookFront, TookNothing}
-use Rattle.ts_proxy.specs.Words.{Command, Transform, Replay, Task}
+use Rattle.ts_proxy.specs.Words.{Command, Over, Make}
 use Rattle.ts_record.specs.Grammar.{TxnPieces}
+use Rattle.ts_record.specs.Report.{report_text}
 use Rattle.ts_replay.specs.Numbered.{EachOf}
-use Rattle.ts_replay.specs.Replayed.{IsFinal, IsReplayOf, journal_of}
+use Rattle.ts_replay.specs.Replayed.{IsFinal, IsReplayOf, IsReplayed, journal_of}
 use Rattle.ts_replay.specs.Recorded.{RecordedGroup}
-use Rattle.ts_replay.specs.Reports.{IsReportOn}
-use Rattle.ts_replay.specs.declared.report.Replayed.{Replayed}
+use Rattle.ts_replay.specs.Reports.{AreBlocksOn}
+use Rattle.ts_replay.specs.declared.outcomes.Replayed.{Replayed}
 
 -- an answer of the part that comes after reading tells of no file
 work-names : (answer : Answer) (out out' : SinkSeen) (P : NamedFile → Type 0) → IsOfWork answer out out'
@@ -50,24 +52,28 @@ work-caused a.CannotWrite shelf shelf' out out' h = h
 work-caused a.OutOfMemory shelf shelf' out out' h = tt
 work-caused (a.TooLong f) shelf shelf' out out' h = absurd h
 
--- the files of a task were read, and the part that comes after reading was done
-pub performed-worked : (task : Task) (tells out_tells : Bool) (shelf shelf' : ShelfSeen) (out out' : SinkSeen)
-    (answer : Answer) (js : List Log)
-    (lines : List TransformLine) (input : List ℕ)
-    → (tells ≡ true → (command : Command) → performed command shelf.file task.config task.input ≡ worked
-    command lines input)
-    → IsCarriedOut task.command lines input out_tells out out' answer js
-    → IsPerformed task tells out_tells shelf shelf' out out' answer js
-performed-worked task tells out_tells shelf shelf' out out' answer js lines input told work = record {
-  comes = λ tell. subst (ComesAt task.config task.input answer) (sym (told tell task.command))
-      (work.comes task.config task.input);
-  named = λ tell. work-names answer out out' (IsReadBy shelf task.config) work.cause;
-  took = λ tell out_tell. subst (TookAt answer out out') (sym (told tell task.command)) (work.took out_tell);
-  quiet = work.quiet;
-  cause = work-caused answer shelf shelf' out out' work.cause;
-  journals = work.journals;
-  each = λ tell. subst (λ o. LeavesJournalsAt answer o js) (sym (told tell task.command)) work.each;
-}
+-- ---- a command over files
+
+-- the files of a command were read, and the part that comes after reading was done
+pub performed-worked : (command : Command) (config input : List ℕ) (tells out_tells : Bool)
+    (shelf shelf' : ShelfSeen) (out out' : SinkSeen) (answer : Answer) (js : List Log)
+    (lines : List TransformLine) (bytes : List ℕ)
+    → (tells ≡ true → (any : Command) → performed any shelf.file config input ≡ worked any lines bytes)
+    → IsCarriedOut (AreJournalsOf (Over command config input)) (worked command lines bytes) out_tells out out'
+    answer js
+    → IsPerformed (Over command config input) tells out_tells shelf shelf' out out' answer js
+performed-worked command config input tells out_tells shelf shelf' out out' answer js lines bytes told work =
+    record {
+      comes = λ tell. subst (ComesAt config input answer) (sym (told tell command)) (work.comes config input);
+      named = λ tell. work-names answer out out' (IsReadBy shelf config) work.cause;
+      of_files = work-names answer out out' (λ f. ⊤) work.cause;
+      took = λ tell out_tell. subst (TookAt answer out out') (sym (told tell command)) (work.took out_tell);
+      quiet = work.quiet;
+      cause = work-caused answer shelf shelf' out out' work.cause;
+      unread = tt;
+      journals = work.journals;
+      each = λ tell. subst (λ o. LeavesJournalsAt answer o js) (sym (told tell command)) work.each;
+    }
 
 reading-caused : (answer : Answer) (shelf shelf' : ShelfSeen) (out : SinkSeen)
     → IsOfReading answer shelf shelf' → IsCausedBy answer shelf shelf' out out
@@ -102,16 +108,16 @@ quiet-by a.CannotWrite P h = tt
 quiet-by a.OutOfMemory P h = tt
 quiet-by (a.TooLong f) P h = h
 
-reading-leaves : (command : Command) (answer : Answer) (shelf shelf' : ShelfSeen)
-    → IsOfReading answer shelf shelf' → LeavesJournals command answer []
-reading-leaves command a.Done shelf shelf' h = absurd h
-reading-leaves command a.Usage shelf shelf' h = refl
-reading-leaves command (a.BadLine f) shelf shelf' h = refl
-reading-leaves command (a.BadRecording offset) shelf shelf' h = refl
-reading-leaves command (a.CannotRead f) shelf shelf' h = refl
-reading-leaves command a.CannotWrite shelf shelf' h = refl
-reading-leaves command a.OutOfMemory shelf shelf' h = refl
-reading-leaves command (a.TooLong f) shelf shelf' h = refl
+reading-leaves : (AreOurs : List Log → Type 0) (answer : Answer) (shelf shelf' : ShelfSeen)
+    → IsOfReading answer shelf shelf' → LeavesJournals AreOurs answer []
+reading-leaves AreOurs a.Done shelf shelf' h = absurd h
+reading-leaves AreOurs a.Usage shelf shelf' h = refl
+reading-leaves AreOurs (a.BadLine f) shelf shelf' h = refl
+reading-leaves AreOurs (a.BadRecording offset) shelf shelf' h = refl
+reading-leaves AreOurs (a.CannotRead f) shelf shelf' h = refl
+reading-leaves AreOurs a.CannotWrite shelf shelf' h = refl
+reading-leaves AreOurs a.OutOfMemory shelf shelf' h = refl
+reading-leaves AreOurs (a.TooLong f) shelf shelf' h = refl
 
 reading-leaves-at : (answer : Answer) (shelf shelf' : ShelfSeen) (o : Outcome)
     → IsOfReading answer shelf shelf' → LeavesJournalsAt answer o []
@@ -124,34 +130,122 @@ reading-leaves-at a.CannotWrite shelf shelf' o h = tt
 reading-leaves-at a.OutOfMemory shelf shelf' o h = tt
 reading-leaves-at (a.TooLong f) shelf shelf' o h = tt
 
--- the files of a task were not read
-pub performed-unread : (task : Task) (tells out_tells : Bool) (shelf shelf' : ShelfSeen) (out : SinkSeen)
-    (answer : Answer) (js : List Log)
-    → (tells ≡ true → (command : Command) → ComesAt task.config task.input answer
-    (performed command shelf.file task.config task.input))
-    → (tells ≡ true → OnCannotRead answer (IsReadBy shelf task.config)) → IsOfReading answer shelf shelf'
+-- whatever file an answer names
+names-any : (answer : Answer) → OnCannotRead answer (λ f. ⊤)
+names-any a.Done = tt
+names-any a.Usage = tt
+names-any (a.BadLine f) = tt
+names-any (a.BadRecording offset) = tt
+names-any (a.CannotRead f) = tt
+names-any a.CannotWrite = tt
+names-any a.OutOfMemory = tt
+names-any (a.TooLong f) = tt
+
+-- the files of a command were not read
+pub performed-unread : (command : Command) (config input : List ℕ) (tells out_tells : Bool)
+    (shelf shelf' : ShelfSeen) (out : SinkSeen) (answer : Answer) (js : List Log)
+    → (tells ≡ true → (any : Command) → ComesAt config input answer (performed any shelf.file config input))
+    → (tells ≡ true → OnCannotRead answer (IsReadBy shelf config)) → IsOfReading answer shelf shelf'
     → js ≡ []
-    → IsPerformed task tells out_tells shelf shelf' out out answer js
-performed-unread task tells out_tells shelf shelf' out answer js told named cause none = record {
-  comes = λ tell. told tell task.command;
-  named = named;
-  took = λ tell out_tell. reading-took answer shelf shelf' out (outcome_of shelf (Some task)) cause;
-  quiet = λ out_tell. quiet-by answer (TookNothing out out) refl;
-  cause = reading-caused answer shelf shelf' out cause;
-  journals = subst (LeavesJournals task.command answer) (sym none)
-      (reading-leaves task.command answer shelf shelf' cause);
-  each = λ tell. subst (LeavesJournalsAt answer (outcome_of shelf (Some task))) (sym none)
-      (reading-leaves-at answer shelf shelf' (outcome_of shelf (Some task)) cause);
+    → IsPerformed (Over command config input) tells out_tells shelf shelf' out out answer js
+performed-unread command config input tells out_tells shelf shelf' out answer js told named cause none =
+    let o : Outcome = performed command shelf.file config input in
+    record {
+      comes = λ tell. told tell command;
+      named = named;
+      of_files = names-any answer;
+      took = λ tell out_tell. reading-took answer shelf shelf' out o cause;
+      quiet = λ out_tell. quiet-by answer (TookNothing out out) refl;
+      cause = reading-caused answer shelf shelf' out cause;
+      unread = tt;
+      journals = subst (LeavesJournals (AreJournalsOf (Over command config input)) answer) (sym none)
+          (reading-leaves (AreJournalsOf (Over command config input)) answer shelf shelf' cause);
+      each = λ tell. subst (LeavesJournalsAt answer o) (sym none) (reading-leaves-at answer shelf shelf' o
+          cause);
+    }
+
+-- ---- a command over numbers
+
+-- the recording of the numbers was run
+pub performed-made : (numbers : GenerateTask) (tells out_tells : Bool) (shelf : ShelfSeen) (out out' : SinkSeen)
+    (answer : Answer) (js : List Log)
+    → IsCarriedOut AreOfThreads (Summary numbers) out_tells out out' answer js
+    → IsPerformed (Make numbers) tells out_tells shelf shelf out out' answer js
+performed-made numbers tells out_tells shelf out out' answer js work = record {
+  comes = λ tell. work.comes [] [];
+  named = λ tell. work-names answer out out' (IsReadBy shelf []) work.cause;
+  of_files = work-names answer out out' (λ f. ⊥) work.cause;
+  took = λ tell out_tell. work.took out_tell;
+  quiet = work.quiet;
+  cause = work-caused answer shelf shelf out out' work.cause;
+  unread = refl;
+  journals = work.journals;
+  each = λ tell. work.each;
+}
+
+-- ---- the part that comes after reading
+
+-- all of the text was written
+pub work-written : (AreOurs : List Log → Type 0) (o : Outcome) (text : List ℕ) (out_tells : Bool)
+    (out out' : SinkSeen) (js : List Log) → HasOutput o → IsTextOf o text → AreOurs js → AreJournalsAt o js
+    → (out_tells ≡ true → TookAll out out' text) → IsCarriedOut AreOurs o out_tells out out' a.Done js
+work-written AreOurs o text out_tells out out' js output is ours each told = record {
+  comes = λ config name. output;
+  took = λ tell. (text, is, told tell);
+  quiet = λ tell. tt;
+  cause = tt;
+  journals = ours;
+  each = each;
+}
+
+-- or a write of it failed
+pub work-unwritten : (AreOurs : List Log → Type 0) (o : Outcome) (text : List ℕ) (out_tells : Bool)
+    (out out' : SinkSeen) (js : List Log) → HasOutput o → IsTextOf o text
+    → (out_tells ≡ true → TookFront out out' text) → Rose out.faults out'.faults → js ≡ []
+    → IsCarriedOut AreOurs o out_tells out out' a.CannotWrite js
+work-unwritten AreOurs o text out_tells out out' js output is told rose none = record {
+  comes = λ config name. output;
+  took = λ tell. inr (text, is, told tell);
+  quiet = λ tell. tt;
+  cause = rose;
+  journals = none;
+  each = tt;
+}
+
+-- or memory lacked while it was written
+pub work-stopped : (AreOurs : List Log → Type 0) (o : Outcome) (text : List ℕ) (out_tells : Bool)
+    (out out' : SinkSeen) (js : List Log) → IsTextOf o text → (out_tells ≡ true → TookFront out out' text)
+    → js ≡ [] → IsCarriedOut AreOurs o out_tells out out' a.OutOfMemory js
+work-stopped AreOurs o text out_tells out out' js is told none = record {
+  comes = λ config name. tt;
+  took = λ tell. inr (text, is, told tell);
+  quiet = λ tell. tt;
+  cause = tt;
+  journals = none;
+  each = tt;
+}
+
+-- or before
+pub work-lacking : (AreOurs : List Log → Type 0) (o : Outcome) (out_tells : Bool) (out : SinkSeen)
+    (js : List Log) → js ≡ [] → IsCarriedOut AreOurs o out_tells out out a.OutOfMemory js
+work-lacking AreOurs o out_tells out js none = record {
+  comes = λ config name. tt;
+  took = λ tell. inl refl;
+  quiet = λ tell. tt;
+  cause = tt;
+  journals = none;
+  each = tt;
 }
 
 -- the transactions of a recording were not run
-pub worked-unrun : (lines : List TransformLine) (bytes : List ℕ) (out_tells : Bool) (out : SinkSeen)
+pub work-unrun : (lines : List TransformLine) (bytes : List ℕ) (out_tells : Bool) (out : SinkSeen)
     (answer : Answer) (js : List Log)
-    → IsOfRunning bytes answer → js ≡ [] → IsCarriedOut Replay lines bytes out_tells out out answer js
-worked-unrun lines bytes out_tells out a.Done js h none = absurd h
-worked-unrun lines bytes out_tells out a.Usage js h none = absurd h
-worked-unrun lines bytes out_tells out (a.BadLine f) js h none = absurd h
-worked-unrun lines bytes out_tells out (a.BadRecording offset) js h none =
+    → IsOfRunning bytes answer → js ≡ []
+    → IsCarriedOut AreOfThreads (Report lines bytes) out_tells out out answer js
+work-unrun lines bytes out_tells out a.Done js h none = absurd h
+work-unrun lines bytes out_tells out a.Usage js h none = absurd h
+work-unrun lines bytes out_tells out (a.BadLine f) js h none = absurd h
+work-unrun lines bytes out_tells out (a.BadRecording offset) js h none =
     record {
       comes = λ config name. h;
       took = λ told. refl;
@@ -160,30 +254,18 @@ worked-unrun lines bytes out_tells out (a.BadRecording offset) js h none =
       journals = none;
       each = tt;
     }
-worked-unrun lines bytes out_tells out (a.CannotRead f) js h none = absurd h
-worked-unrun lines bytes out_tells out a.CannotWrite js h none = absurd h
-worked-unrun lines bytes out_tells out a.OutOfMemory js h none =
-    record {
-      comes = λ config name. tt;
-      took = λ told. inl refl;
-      quiet = λ told. tt;
-      cause = tt;
-      journals =
-          none;
-      each = tt;
-    }
-worked-unrun lines bytes out_tells out (a.TooLong f) js h none = absurd h
+work-unrun lines bytes out_tells out (a.CannotRead f) js h none = absurd h
+work-unrun lines bytes out_tells out a.CannotWrite js h none = absurd h
+work-unrun lines bytes out_tells out a.OutOfMemory js h none =
+    work-lacking AreOfThreads (Report lines bytes) out_tells out js none
+work-unrun lines bytes out_tells out (a.TooLong f) js h none = absurd h
 
--- a replay of a recording has the report on it
-report-on : (lines : List TransformLine) (bytes : List ℕ) (r : Replayed) → IsReplayOn lines bytes r
-    → IsReportOn lines bytes r.report.items
-report-on lines bytes r on = record {
-  setup = on.replayed.setup;
-  lines_are = on.replayed.lines_are;
-  txns = on.txns;
-  recording = on.recording;
-  report = on.replayed.comes.report;
-}
+-- ---- what transactions were run to
+
+-- the blocks of those that were run
+blocks-on : (lines : List TransformLine) (txns : List TxnPieces) (r : Replayed) → IsReplayed lines txns r
+    → AreBlocksOn lines txns r.blocks.items
+blocks-on lines txns r on = record { setup = on.setup; lines_are = on.lines_are; each = on.comes.blocks }
 
 -- each journal of a replay is final
 finals : (setup : Setup) (number : ℕ) (txns : List TxnPieces) (groups : List RecordedGroup)
@@ -195,92 +277,40 @@ finals setup number (t ∷ ts) [] each = absurd each
 finals setup number (t ∷ ts) (g ∷ gs) each = All-cons IsFinal (journal_of g) (map journal_of gs) each.0.final
     (finals setup (number + 1) ts gs each.1)
 
--- the report of a replay was written
-pub worked-written : (lines : List TransformLine) (bytes : List ℕ) (r : Replayed) (out_tells : Bool)
-    (out out' : SinkSeen) → IsReplayOn lines bytes r
-    → (out_tells ≡ true → TookAll out out' r.report.items)
-    → IsCarriedOut Replay lines bytes out_tells out out' a.Done r.journals.items
-worked-written lines bytes r out_tells out out' on told = record {
-  comes = λ config name. (on.txns, on.recording);
-  took = λ tell. (r.report.items, report-on lines bytes r on, told tell);
-  quiet = λ tell. tt;
-  cause = tt;
-  journals = subst (All IsFinal) (sym on.replayed.comes.journals)
-      (finals on.replayed.setup 1 on.txns on.replayed.groups on.replayed.comes.each);
+-- so the journals are those of event threads
+of-threads : (lines : List TransformLine) (txns : List TxnPieces) (r : Replayed) → IsReplayed lines txns r
+    → AreOfThreads r.journals.items
+of-threads lines txns r on = subst (All IsFinal) (sym on.comes.journals)
+    (finals on.setup 1 txns on.groups on.comes.each)
+
+-- those of a recording were run to the report on it
+pub run-to-report : (lines : List TransformLine) (bytes : List ℕ) (r : Replayed) (text : List ℕ)
+    → IsReplayOn lines bytes r → text ≡ report_text r.blocks.items
+    → IsRunTo (Report lines bytes) text r.journals.items
+run-to-report lines bytes r text on is = record {
+  output = (on.txns, on.recording);
+  text_is = record {
+    txns = on.txns;
+    recording = on.recording;
+    blocks = r.blocks.items;
+    are = blocks-on lines on.txns r on.replayed;
+    text_is = is;
+  };
+  ours = of-threads lines on.txns r on.replayed;
   each = (r, on, refl);
 }
 
--- or a write of it failed
-pub worked-unwritten : (lines : List TransformLine) (bytes : List ℕ) (r : Replayed) (out_tells : Bool)
-    (out out' : SinkSeen) (js : List Log) → IsReplayOn lines bytes r
-    → (out_tells ≡ true → TookFront out out' r.report.items) → Rose out.faults out'.faults → js ≡ []
-    → IsCarriedOut Replay lines bytes out_tells out out' a.CannotWrite js
-worked-unwritten lines bytes r out_tells out out' js on told rose none = record {
-  comes = λ config name. (on.txns, on.recording);
-  took = λ tell. inr (r.report.items, report-on lines bytes r on, told tell);
-  quiet = λ tell. tt;
-  cause = rose;
-  journals = none;
-  each = tt;
-}
-
--- or memory lacked
-pub worked-lacking : (lines : List TransformLine) (bytes : List ℕ) (r : Replayed) (out_tells : Bool)
-    (out out' : SinkSeen) (js : List Log) → IsReplayOn lines bytes r
-    → (out_tells ≡ true → TookFront out out' r.report.items) → js ≡ []
-    → IsCarriedOut Replay lines bytes out_tells out out' a.OutOfMemory js
-worked-lacking lines bytes r out_tells out out' js on told none = record {
-  comes = λ config name. tt;
-  took = λ tell. inr (r.report.items, report-on lines bytes r on, told tell);
-  quiet = λ tell. tt;
-  cause = tt;
-  journals = none;
-  each = tt;
-}
-
--- nothing is a front of any text
-pub front-none : (out : SinkSeen) (text : List ℕ) → TookFront out out text
-front-none out text = record { took = []; left = text; grew = sym (append-nil out.taken); front = refl }
-
--- a body was driven through the lines
-pub worked-driven : (lines : List TransformLine) (body : List ℕ) (out_tells : Bool) (out out' : SinkSeen)
-    (js : List Log)
-    → (out_tells ≡ true → TookAll out out' (compose_lines lines body)) → AreJournalsOf Transform js
-    → IsCarriedOut Transform lines body out_tells out out' a.Done js
-worked-driven lines body out_tells out out' js told left = record {
-  comes = λ config name. tt;
-  took = λ tell. (compose_lines lines body, refl, told tell);
-  quiet = λ tell. tt;
-  cause = tt;
-  journals = left;
-  each = tt;
-}
-
--- or a write failed
-pub worked-undriven : (lines : List TransformLine) (body : List ℕ) (out_tells : Bool) (out out' : SinkSeen)
-    (js : List Log)
-    → (out_tells ≡ true → TookFront out out' (compose_lines lines body)) → Rose out.faults out'.faults
-    → js ≡ []
-    → IsCarriedOut Transform lines body out_tells out out' a.CannotWrite js
-worked-undriven lines body out_tells out out' js told rose none = record {
-  comes = λ config name. tt;
-  took = λ tell. inr (compose_lines lines body, refl, told tell);
-  quiet = λ tell. tt;
-  cause = rose;
-  journals = none;
-  each = tt;
-}
-
--- or memory lacked
-pub worked-stopped : (lines : List TransformLine) (body : List ℕ) (out_tells : Bool) (out out' : SinkSeen)
-    (js : List Log)
-    → (out_tells ≡ true → TookFront out out' (compose_lines lines body)) → js ≡ []
-    → IsCarriedOut Transform lines body out_tells out out' a.OutOfMemory js
-worked-stopped lines body out_tells out out' js told none = record {
-  comes = λ config name. tt;
-  took = λ tell. inr (compose_lines lines body, refl, told tell);
-  quiet = λ tell. tt;
-  cause = tt;
-  journals = none;
-  each = tt;
+-- and those that numbers stand for to their summary
+pub run-to-summary : (numbers : GenerateTask) (r : Replayed) (text : List ℕ)
+    → IsReplayed fixed_lines (txns_of numbers) r → text ≡ summary_text (summary_of r.blocks.items)
+    → IsRunTo (Summary numbers) text r.journals.items
+run-to-summary numbers r text on is = record {
+  output = tt;
+  text_is = record {
+    blocks = r.blocks.items;
+    are = blocks-on fixed_lines (txns_of numbers) r on;
+    text_is = is;
+  };
+  ours = of-threads fixed_lines (txns_of numbers) r on;
+  each = (r, on, refl);
 }

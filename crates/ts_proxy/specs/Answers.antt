@@ -12,7 +12,9 @@ use Rattle.ts_proxy.specs.declared.answer.NamedFile.TheVariants as file
 use Rattle.ts_config.specs.declared.setup.TransformLine.{TransformLine}
 use Rattle.ts_config.specs.declared.setup.TransformLine.TheVariants as t
 use Rattle.ts_config.specs.Value.{Good, config_of}
-use Rattle.ts_proxy.specs.Outcome.{Outcome, Usage, BadLine, Long, Text, Report, most_config, filled, set_up}
+use Rattle.ts_proxy.specs.Outcome.{Outcome, Usage, BadLine, Long, Text, Report, Summary}
+use Rattle.ts_proxy.specs.Outcome.{most_config, filled, set_up}
+use Rattle.ts_proxy.specs.Summary.{IsSummaryOf}
 use Rattle.ts_proxy.specs.Took.{TookAll, TookFront, TookNothing, TookSome, TookWhole}
 use Rattle.ts_record.specs.Offsets.{IsRefusedAt}
 
@@ -32,12 +34,14 @@ answer_of fault.NoMemory f = a.OutOfMemory
 abbrev pub HasOutput : Outcome → Type 0
 HasOutput (Text t) = ⊤
 HasOutput (Report lines bytes) = HasRecording bytes
+HasOutput (Summary numbers) = ⊤
 HasOutput _ = ⊥
 
 -- its text
 abbrev pub IsTextOf : Outcome → List ℕ → Type 0
 IsTextOf (Text t) text = text ≡ t
 IsTextOf (Report lines bytes) text = IsReportOn lines bytes text
+IsTextOf (Summary numbers) text = IsSummaryOf numbers text
 IsTextOf _ text = ⊥
 
 -- the bytes of a recording are refused at this offset

@@ -6,10 +6,10 @@ use Rattle.ts_journal.specs.Log.{Log}
 use Rattle.ts_proxy.specs.Answers.{IsTextOf}
 use Rattle.ts_proxy.specs.declared.answer.Answer.{Answer}
 use Rattle.ts_proxy.specs.declared.answer.Answer.TheVariants as a
-use Rattle.ts_proxy.specs.Outcome.{Outcome, Usage, BadLine, Missing, Long, Text, Report, outcome_of}
+use Rattle.ts_proxy.specs.Outcome.{Outcome, Usage, BadLine, Missing, Long, Text, Report, Summary, outcome_of}
 use Rattle.ts_proxy.specs.Performed.{AreJournalsAt, AreJournalsOf}
 use Rattle.ts_proxy.specs.Took.{TookSome, TookWhole}
-use Rattle.ts_proxy.specs.Words.{Task}
+use Rattle.ts_proxy.specs.Words.{Task, is_told}
 use Rattle.ts_replay.specs.Reports.{HasRecording}
 
 -- the statuses
@@ -68,14 +68,15 @@ EndsAt (Text t) n = (n ≡ done) ⊎ (n ≡ cannot_read) ⊎ (n ≡ cannot_write
 EndsAt (Report lines bytes) n =
     (((n ≡ done) ⊎ (n ≡ cannot_write)) × HasRecording bytes)
     ⊎ ((n ≡ bad_recording) × (HasRecording bytes → ⊥)) ⊎ (n ≡ cannot_read) ⊎ (n ≡ out_of_memory)
+EndsAt (Summary numbers) n = (n ≡ done) ⊎ (n ≡ cannot_write) ⊎ (n ≡ out_of_memory)
 
 -- A status that a task may end with over a shelf that tells its files or not. That of usage comes exactly
--- where the words are of no command; each outcome has its own, which comes there alone and always, unless a
--- read failed, memory lacked or, where there is a text, a write failed.
+-- where the words are of no command; each outcome that is told has its own, which comes there alone and
+-- always, unless a read failed, memory lacked or, where there is a text, a write failed.
 pub record IsStatusOf (tells : Bool) (shelf : ShelfSeen) (task : Option Task) (n : ℕ) : Type 0 where
   pub known : IsStatus n
   pub of_none : (n ≡ usage) ↔ (task ≡ None)
-  pub at : tells ≡ true → EndsAt (outcome_of shelf task) n
+  pub at : is_told tells task ≡ true → EndsAt (outcome_of shelf task) n
 
 -- A failure is one of the shelf or of the sink that was handed in: a status of a failure comes only where its
 -- count rose.
@@ -95,10 +96,10 @@ pub record TakesAt (o : Outcome) (n : ℕ) (old new : SinkSeen) : Type 0 where
   pub some : TookSome (IsTextOf o) old new
   pub whole : n ≡ done → TookWhole (IsTextOf o) old new
 
--- The journals of a task at a status: those of its job where it was done, and else none. Over a shelf that
--- tells its files, they are those of its outcome.
+-- The journals of a task at a status: those of its job where it was done, and else none. Where its outcome is
+-- told, they are those of the outcome.
 pub record JournalsAt (tells : Bool) (shelf : ShelfSeen) (task : Option Task) (n : ℕ) (js : List Log)
     : Type 0 where
-  pub job : n ≡ done → IsSomeAnd task (λ t. AreJournalsOf t.command js)
-  pub each : tells ≡ true → n ≡ done → AreJournalsAt (outcome_of shelf task) js
+  pub job : n ≡ done → IsSomeAnd task (λ t. AreJournalsOf t js)
+  pub each : is_told tells task ≡ true → n ≡ done → AreJournalsAt (outcome_of shelf task) js
   pub none : n ≢ done → js ≡ []

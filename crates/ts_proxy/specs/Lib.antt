@@ -5,5 +5,6 @@ pub mod Lines
 pub mod Outcome
 pub mod Performed
 pub mod Sending
+pub mod Summary
 pub mod Took
 pub mod Words

@@ -11,7 +11,7 @@ use Rattle.ts_proxy.specs.Answers.{file_name, ComesAt, IsReadBy, OnCannotRead}
 use Rattle.ts_proxy.specs.Ends.{status_of}
 use Rattle.ts_proxy.specs.Outcome.{outcome_of}
 use Rattle.ts_proxy.specs.Took.{TookAll, TookFront}
-use Rattle.ts_proxy.specs.Words.{Task, config_name, input_name}
+use Rattle.ts_proxy.specs.Words.{Task, config_name, input_name, is_told}
 
 -- the word for the rule that a line breaks
 abbrev pub kind_text : ConfigKind → List ℕ
@@ -51,8 +51,9 @@ pub record LineTold (old new : SinkSeen) (line : List ℕ) : Type 0 where
 -- An answer to a task, over a shelf that tells its files or not: it comes at the outcome, and after a failed
 -- read it names a file that the work comes to.
 pub record IsAnswerOf (tells : Bool) (shelf : ShelfSeen) (task : Option Task) (answer : Answer) : Type 0 where
-  pub comes : tells ≡ true → ComesAt (config_name task) (input_name task) answer (outcome_of shelf task)
-  pub named : tells ≡ true → OnCannotRead answer (IsReadBy shelf (config_name task))
+  pub comes : is_told tells task ≡ true
+      → ComesAt (config_name task) (input_name task) answer (outcome_of shelf task)
+  pub named : is_told tells task ≡ true → OnCannotRead answer (IsReadBy shelf (config_name task))
 
 -- an answer has this status, and its line was told to a sink that tells what it took or not
 pub record SaysLine (tells : Bool) (old new : SinkSeen) (task : Option Task) (n : ℕ) (answer : Answer)

@@ -7,7 +7,8 @@ use Rattle.ts_config.specs.declared.setup.TransformLine.TheVariants as t
 use Rattle.ts_config.specs.declared.setup.ConfigKind.{ConfigKind}
 use Rattle.ts_config.specs.Value.{Reading, Good, Bad, config_of}
 use Rattle.ts_config.specs.Bodies.{compose_lines}
-use Rattle.ts_proxy.specs.Words.{Command, Transform, Replay, Task}
+use Rattle.ts_proxy.specs.Words.{Command, Transform, Replay, Task, Over, Make}
+use Rattle.ts_proxy.specs.declared.command.GenerateTask.{GenerateTask}
 
 -- the most bytes of a configuration, 1 MiB
 abbrev pub most_config : ℕ
@@ -23,7 +24,7 @@ most_input = 67108864
 
 -- the words are of no command; the configuration's line of this number breaks this rule; the file of this
 -- name is not there, or longer than its limit; this text is written; the report is written on the recording
--- in these bytes, under these lines, if they are one
+-- in these bytes, under these lines, if they are one; the summary is written that these numbers stand for
 pub data Outcome : Type 0 where
   Usage : Outcome
   BadLine : ℕ → ConfigKind → Outcome
@@ -31,6 +32,7 @@ pub data Outcome : Type 0 where
   Long : List ℕ → Outcome
   Text : List ℕ → Outcome
   Report : List TransformLine → List ℕ → Outcome
+  Summary : GenerateTask → Outcome
 
 -- goes on with the bytes of a file, if it is there and has at most `most` of them
 abbrev pub opened : Option (List ℕ) → ℕ → List ℕ → (List ℕ → Outcome) → Outcome
@@ -65,7 +67,7 @@ abbrev pub worked : Command → List TransformLine → List ℕ → Outcome
 worked Transform lines input = Text (compose_lines lines input)
 worked Replay lines input = Report lines input
 
--- the outcome of a command: the configuration is set up, then the input is read
+-- the outcome of a command over files: the configuration is set up, then the input is read
 abbrev pub performed : Command → (List ℕ → Option (List ℕ)) → List ℕ → List ℕ → Outcome
 performed command files config input =
     set_up files config (λ lines. opened (files input) most_input input (worked command lines))
@@ -73,4 +75,5 @@ performed command files config input =
 -- the outcome of a task over the files of a shelf; without one the words are of no command
 abbrev pub outcome_of : ShelfSeen → Option Task → Outcome
 outcome_of shelf None = Usage
-outcome_of shelf (Some task) = performed task.command shelf.file task.config task.input
+outcome_of shelf (Some (Over command config input)) = performed command shelf.file config input
+outcome_of shelf (Some (Make numbers)) = Summary numbers

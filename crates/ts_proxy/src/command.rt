@@ -1,10 +1,23 @@
-//! What the words after the program's name ask for: the command, its files by name, and the number of
-//! threads.
+//! What the words after the program's name ask for: the command, its files by name or its numbers, and the
+//! number of threads.
 ghost use Rattle.std.specs.Prelude.{◌≡◌, ◌≤◌, ◌<◌, None, Some, true, false, IfSome, MatchOption};
-ghost use Rattle.ts_proxy.specs.Words.{Replay, Transform, begins_transform, task_at, task_of, threads_asked, threads_of, word_bytes};
+ghost use Rattle.ts_proxy.specs.Words.{IsInLimits, Over, Transform, begins_transform, config_in, input_in};
+ghost use Rattle.ts_proxy.specs.Words.{generate_asked, generate_of, task_of, threaded_task, threads_asked, threads_of, word_bytes};
+ghost use Rattle.ts_record.specs.declared.recording.TheConstants.{MOST_TXNS};
 ghost use Rattle.ts_thread.specs.declared.TheConstants.{MOST_THREADS};
 
+use crate::number::number_of;
+use ts_record::MOST_TXNS;
 use ts_thread::MOST_THREADS;
+
+// The most bytes that a body of `generate` may have.
+const MOST_SIZE: u64 = 1_048_576;
+
+// How many bytes are counted for each transaction of `generate` beside its body.
+const TXN_ROOM: u64 = 1_024;
+
+// The most bytes that are counted for all of them.
+const MOST_MADE: u64 = 67_108_864;
 
 /// How `transform` is asked for, with its files by name.
 #[derive(Clone, Copy)]
@@ -21,6 +34,22 @@ pub struct ReplayTask<'a> {
     pub recording: &'a str,
 }
 
+/// How `generate` is asked for: the seed of its recording, how many transactions that has, and how many bytes
+/// a body has at most.
+#[derive(Clone, Copy)]
+pub struct GenerateTask {
+    pub seed: u64,
+    pub count: u32,
+    pub size: u32,
+}
+
+/// How a command is asked for that runs event threads.
+#[derive(Clone, Copy)]
+pub enum ThreadedTask<'a> {
+    Replay(ReplayTask<'a>),
+    Generate(GenerateTask),
+}
+
 /// Whether the first word is `transform`.
 pub fn begins_transform(words: &[String]) -> bool
     ensures { result ≡ begins_transform (word_bytes words.now) }
@@ -35,7 +64,7 @@ pub fn begins_transform(words: &[String]) -> bool
 pub fn transform_task(words: &[String]) -> Option<TransformTask<'_>>
     requires { begins_transform (word_bytes words.now) ≡ true }
     ensures { MatchOption result (task_of words.now ≡ None) (λ task. task_of words.now ≡
-        Some (task_at Transform task.config.now task.body.now)) }
+        Some (Over Transform task.config.now task.body.now)) }
 {
     match words {
         [_, config, body] => Some(TransformTask {
@@ -51,14 +80,11 @@ fn threads_of(word: &str) -> Option<u32>
     ensures number { result ≡ threads_of word.now }
     ensures range { IfSome result (λ n. (0 < n) × (n ≤ MOST_THREADS)) }
 {
-    let first = word.as_bytes().first()?;
-    if !first.is_ascii_digit() || *first == b'0' {
+    let threads = number_of(word, u64::from(MOST_THREADS))?;
+    if threads == 0 {
         return None;
     }
-    match word.parse::<u32>() {
-        Ok(threads) if threads <= MOST_THREADS => Some(threads),
-        _ => None,
-    }
+    Some(threads as u32)
 }
 
 // The number of threads of words that begin with these three, if they are of `replay`.
@@ -73,31 +99,90 @@ fn threads_asked(word: &str, option: &str, number: &str) -> Option<u32>
     }
 }
 
-/// How `replay` is asked for, if words that don't begin with `transform` are of that command. It is asked for
-/// on one thread where they name no number.
+// The numbers that three words stand for, if they are within their limits.
+fn generate_of(seed: &str, count: &str, size: &str) -> Option<GenerateTask>
+    ensures numbers { result ≡ generate_of seed.now count.now size.now }
+    ensures most { IfSome result (λ n. n.count ≤ MOST_TXNS) }
+{
+    let seed = number_of(seed, u64::MAX)?;
+    let count = number_of(count, MOST_TXNS as u64)?;
+    let size = number_of(size, MOST_SIZE)?;
+    if count == 0 {
+        return None;
+    }
+    if count * (size + TXN_ROOM) > MOST_MADE {
+        return None;
+    }
+    Some(GenerateTask {
+        seed,
+        count: count as u32,
+        size: size as u32,
+    })
+}
+
+// The numbers of four words, if they are of `generate`.
+fn generate_asked(word: &str, seed: &str, count: &str, size: &str) -> Option<GenerateTask>
+    ensures numbers { result ≡ generate_asked word.now seed.now count.now size.now }
+    ensures most { IfSome result (λ n. n.count ≤ MOST_TXNS) }
+{
+    if word == "generate" {
+        generate_of(seed, count, size)
+    } else {
+        None
+    }
+}
+
+/// What words that don't begin with `transform` ask for, if they are of a command. `replay` is asked for on
+/// one thread where they name no number.
 #[tactic(auto, using(crate::proofs::Words::none_other))]
-pub fn replay_task(words: &[String]) -> Option<ReplayTask<'_>>
+pub fn threaded_task(words: &[String]) -> Option<ThreadedTask<'_>>
     requires { begins_transform (word_bytes words.now) ≡ false }
     ensures task { MatchOption result (task_of words.now ≡ None) (λ task. task_of words.now ≡
-        Some (task_at Replay task.config.now task.recording.now)) }
-    ensures threads { IfSome result (λ task. (0 < task.threads) × (task.threads ≤ MOST_THREADS)) }
+        Some (threaded_task task)) }
+    ensures most { IfSome result IsInLimits }
 {
     match words {
         [word, config, recording] => {
             if word.as_str() != "replay" {
                 return None;
             }
-            Some(ReplayTask {
+            Some(ThreadedTask::Replay(ReplayTask {
                 threads: 1,
                 config: config.as_str(),
                 recording: recording.as_str(),
-            })
+            }))
         }
-        [word, option, number, config, recording] => Some(ReplayTask {
+        [word, seed, count, size] => Some(ThreadedTask::Generate(generate_asked(
+            word.as_str(),
+            seed.as_str(),
+            count.as_str(),
+            size.as_str(),
+        )?)),
+        [word, option, number, config, recording] => Some(ThreadedTask::Replay(ReplayTask {
             threads: threads_asked(word.as_str(), option.as_str(), number.as_str())?,
             config: config.as_str(),
             recording: recording.as_str(),
-        }),
+        })),
         _ => None,
+    }
+}
+
+/// The name of the configuration that a task has, or none.
+pub fn config_name<'a>(task: &ThreadedTask<'a>) -> &'a str
+    ensures { result.now ≡ config_in (threaded_task task.now) }
+{
+    match task {
+        ThreadedTask::Replay(replay) => replay.config,
+        ThreadedTask::Generate(_) => "",
+    }
+}
+
+/// The name of the recording that a task has, or none.
+pub fn input_name<'a>(task: &ThreadedTask<'a>) -> &'a str
+    ensures { result.now ≡ input_in (threaded_task task.now) }
+{
+    match task {
+        ThreadedTask::Replay(replay) => replay.recording,
+        ThreadedTask::Generate(_) => "",
     }
 }

@@ -5,11 +5,17 @@
 mod answer;
 mod command;
 mod drive;
+mod generate;
+mod laws;
+mod number;
 mod reading;
 mod replay;
+mod summary;
 mod telling;
+mod threaded;
 mod top;
 mod transform;
 mod writing;
 
+pub use laws::{fixed_reading, one_summary};
 pub use top::{Ended, end_without_words, run, run_transform};

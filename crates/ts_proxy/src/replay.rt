@@ -4,22 +4,24 @@ ghost use Rattle.std.specs.Prelude.{◌<◌, ◌≤◌, ℕ, List, length, IfErr
 ghost use Rattle.ts_config.specs.Bytes.{most_transforms};
 ghost use Rattle.ts_config.specs.declared.setup.TransformLine.{TransformLine};
 ghost use Rattle.ts_proxy.specs.Answers.{IsOfRunning};
-ghost use Rattle.ts_proxy.specs.Performed.{IsPerformed, IsReplayOn, IsCarriedOut};
-ghost use Rattle.ts_proxy.specs.Words.{Replay, task_at};
+ghost use Rattle.ts_proxy.specs.Outcome.{Report};
+ghost use Rattle.ts_proxy.specs.Performed.{AreOfThreads, IsCarriedOut, IsPerformed, IsReplayOn};
+ghost use Rattle.ts_proxy.specs.Words.{Over, Replay};
 ghost use Rattle.ts_record.specs.Grammar.{IsRecording};
+ghost use Rattle.ts_record.specs.Report.{AreReported};
 ghost use Rattle.ts_thread.specs.declared.TheConstants.{MOST_THREADS};
 
 use crate::answer::{Answer, Performed};
 use crate::command::ReplayTask;
 use crate::reading::{Files, read_files};
-use crate::writing::{SendEnd, write_all};
+use crate::threaded::{run_txns, send_text};
 use std::alloc::Global;
 use std::sync::Wait;
 use std::thread::Threads;
 use ts_config::TransformLine;
 use ts_link::{Gate, Octets, Shelf, Sink};
-use ts_record::{RecordedTxn, RecordingRefusal, read_recording};
-use ts_replay::{ReplayFault, Replayed};
+use ts_record::{RecordedTxn, RecordingRefusal, print_report, read_recording};
+use ts_replay::Replayed;
 
 // The transactions of the recording in these bytes.
 fn read_txns(alloc: Global, bytes: Octets) -> Result<Vec<RecordedTxn>, Answer>
@@ -33,9 +35,8 @@ fn read_txns(alloc: Global, bytes: Octets) -> Result<Vec<RecordedTxn>, Answer>
     }
 }
 
-// Runs the transactions of the recording in these bytes under the lines. Where a group had all the turns that
-// it gets, it answers as where memory lacks.
-fn run_txns<G: Gate + Sync, R: Threads + Wait + Sync>(
+// Runs the transactions of the recording in these bytes under the lines.
+fn run_recording<G: Gate + Sync, R: Threads + Wait + Sync>(
     rt: &R,
     alloc: Global,
     lines: Vec<TransformLine>,
@@ -52,27 +53,24 @@ fn run_txns<G: Gate + Sync, R: Threads + Wait + Sync>(
         Ok(txns) => txns,
         Err(answer) => return Err(answer),
     };
-    match ts_replay::replay(rt, alloc, lines, txns, threads, gate) {
+    match run_txns(rt, alloc, lines, txns, threads, gate) {
         Ok(replayed) => Ok(replayed),
-        Err(ReplayFault::NoMemory) => Err(Answer::OutOfMemory),
-        Err(ReplayFault::Worn) => Err(Answer::OutOfMemory),
+        Err(_) => Err(Answer::OutOfMemory),
     }
 }
 
-// Writes the report of a replay.
+// Writes the report on transactions that were run.
 fn send_report<K: Sink>(alloc: Global, replayed: Replayed, out: &mut K) -> Performed
+    requires reported { AreReported replayed.blocks.items }
     ensures { (lines : List TransformLine) (bytes : List ℕ) → IsReplayOn lines bytes replayed →
-        IsCarriedOut Replay lines bytes K.tells (K.seen out.old) (K.seen out.new)
+        IsCarriedOut AreOfThreads (Report lines bytes) K.tells (K.seen out.old) (K.seen out.new)
         result.answer result.journals.items }
 {
-    match write_all(out, replayed.report.as_slice()) {
-        SendEnd::Done => Performed {
-            answer: Answer::Done,
-            journals: replayed.journals,
-        },
-        SendEnd::Failed => Performed::without(alloc, Answer::CannotWrite),
-        SendEnd::NoMemory => Performed::without(alloc, Answer::OutOfMemory),
-    }
+    let Replayed { blocks, journals } = replayed;
+    let Ok(report) = print_report(alloc, blocks) else {
+        return Performed::without(alloc, Answer::OutOfMemory);
+    };
+    send_text(alloc, report.as_slice(), journals, out)
 }
 
 /// Runs a recording under the lines of a configuration, both of which the shelf has under these names, on so
@@ -86,7 +84,7 @@ pub fn perform_replay<S: Shelf, K: Sink, G: Gate + Sync, R: Threads + Wait + Syn
     gate: &G,
 ) -> Performed
     requires threads { (0 < task.now.threads) × (task.now.threads ≤ MOST_THREADS) }
-    ensures { IsPerformed (task_at Replay task.now.config.now task.now.recording.now)
+    ensures { IsPerformed (Over Replay task.now.config.now task.now.recording.now)
         S.tells K.tells (S.seen shelf.old) (S.seen shelf.new) (K.seen out.old) (K.seen out.new)
         result.answer result.journals.items }
 {
@@ -94,7 +92,7 @@ pub fn perform_replay<S: Shelf, K: Sink, G: Gate + Sync, R: Threads + Wait + Syn
         Ok(files) => files,
         Err(answer) => return Performed::without(alloc, answer),
     };
-    match run_txns(rt, alloc, lines, input, task.threads, gate) {
+    match run_recording(rt, alloc, lines, input, task.threads, gate) {
         Ok(replayed) => send_report(alloc, replayed, out),
         Err(answer) => Performed::without(alloc, answer),
     }

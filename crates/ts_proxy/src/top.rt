@@ -4,13 +4,17 @@ ghost use Rattle.ts_proxy.specs.Answers.{HasOutput};
 ghost use Rattle.ts_proxy.specs.Ends.{status_of, out_of_memory, Completes, HasCause, IsStatusOf, JournalsAt, IsQuiet, TakesAt};
 ghost use Rattle.ts_proxy.specs.Lines.{IsAnswerOf, SaysLine, line_of, LineTold};
 ghost use Rattle.ts_proxy.specs.Outcome.{outcome_of};
+ghost use Rattle.ts_proxy.specs.Performed.{IsPerformed, LeavesShelf};
 ghost use Rattle.ts_proxy.specs.Took.{TookNothing};
-ghost use Rattle.ts_proxy.specs.Words.{task_of, begins_transform, word_bytes};
+ghost use Rattle.ts_proxy.specs.Words.{IsInLimits, begins_transform, is_told, task_of, threaded_task, word_bytes};
 ghost use Rattle.ts_proxy.specs.declared.answer.Answer.{Answer};
 ghost use Rattle.ts_proxy.specs.declared.answer.Answer.TheVariants.{OutOfMemory};
 
 use crate::answer::{Answer, Performed};
-use crate::command::{begins_transform, replay_task, transform_task};
+use crate::command::{
+    ThreadedTask, begins_transform, config_name, input_name, threaded_task, transform_task,
+};
+use crate::generate::perform_generate;
 use crate::replay::perform_replay;
 use crate::telling::say;
 use crate::transform::perform_transform;
@@ -22,9 +26,9 @@ use ts_link::{Gate, Shelf, Sink};
 
 /// How the program ended: 0 the job was done; 2 the words are of no command; 3 a line of the configuration is
 /// not in the grammar; 4 the input is no recording; 5 a file could not be read; 6 the output could not be
-/// written; 7 memory was lacking, or the group of a recorded transaction had all the turns that it gets,
-/// which takes years; 9 a file is longer than its limit. With status 0 there are the journals of the groups
-/// that did the job, with another none.
+/// written; 7 memory was lacking, or the group of a transaction had all the turns that it gets, which takes
+/// years; 9 a file is longer than its limit. With status 0 there are the journals of the groups that did the
+/// job, with another none.
 #[derive(Drop)]
 pub struct Ended {
     pub status: u8,
@@ -69,13 +73,33 @@ pub fn end_without_words<E: Sink>(alloc: Global, err: &mut E) -> Ended
     end(err, Performed::without(alloc, Answer::OutOfMemory), "", "")
 }
 
+// Runs what is asked for that runs event threads, which pass the gate.
+fn perform<S: Shelf, K: Sink, G: Gate + Sync, R: Threads + Wait + Sync>(
+    rt: &R,
+    alloc: Global,
+    task: &ThreadedTask<'_>,
+    shelf: &mut S,
+    out: &mut K,
+    gate: &G,
+) -> Performed
+    requires most { IsInLimits task.now }
+    ensures { IsPerformed (threaded_task task.now)
+        S.tells K.tells (S.seen shelf.old) (S.seen shelf.new) (K.seen out.old) (K.seen out.new)
+        result.answer result.journals.items }
+{
+    match task {
+        ThreadedTask::Replay(replay) => perform_replay(rt, alloc, replay, shelf, out, gate),
+        ThreadedTask::Generate(numbers) => perform_generate(rt, alloc, *numbers, out, gate),
+    }
+}
+
 /// Runs the command that the words name, which are those after the program's name: it reads from the shelf,
 /// writes to `out`, and says on `err` in one line why it did not end with status 0. Where it runs event
 /// threads, they pass the gate.
 ///
 /// What it comes to is a function of what the words ask for and the files, the outcome, in which the number
-/// of threads does not stand. Each clause on content holds where the shelf tells its files and the sink tells
-/// what it took.
+/// of threads does not stand; that of `generate` is a function of its three numbers. Each clause on content
+/// holds where the shelf tells its files, if the command names any, and the sink tells what it took.
 #[tactic(auto, using(crate::proofs::Ending::asked_command, crate::proofs::Ending::takes_took))]
 pub fn run<S: Shelf, K: Sink, E: Sink, G: Gate + Sync, R: Threads + Wait + Sync>(
     rt: &R,
@@ -94,16 +118,19 @@ pub fn run<S: Shelf, K: Sink, E: Sink, G: Gate + Sync, R: Threads + Wait + Sync>
     ensures cause { HasCause result.status
         (S.seen shelf.old) (S.seen shelf.new) (K.seen out.old) (K.seen out.new) }
     // Where there is a text and neither failed, the job is done, unless memory lacked.
-    ensures completes { S.tells ≡ true → HasOutput (outcome_of (S.seen shelf.old) (task_of words.now)) →
+    ensures completes { is_told S.tells (task_of words.now) ≡ true →
+        HasOutput (outcome_of (S.seen shelf.old) (task_of words.now)) →
         Completes result.status (S.seen shelf.old) (S.seen shelf.new) (K.seen out.old) (K.seen out.new) }
     // What out took: with status 0 the whole text, else a front of it, and nothing where there is none.
-    ensures takes { S.tells ≡ true → K.tells ≡ true →
+    ensures takes { is_told S.tells (task_of words.now) ≡ true → K.tells ≡ true →
         TakesAt (outcome_of (S.seen shelf.old) (task_of words.now)) result.status
         (K.seen out.old) (K.seen out.new) }
     ensures quiet { K.tells ≡ true → IsQuiet result.status → TookNothing (K.seen out.old) (K.seen out.new) }
+    // The shelf stays as it is where no file is named.
+    ensures unread { LeavesShelf (task_of words.now) (S.seen shelf.old) (S.seen shelf.new) }
     // With status 0 the journal of the group of `transform`, which is that of a serial driver, or those of
-    // the groups of the recorded transactions, in their order. Each is lawful and not held, with nothing
-    // pending.
+    // the groups of the recorded or generated transactions, in their order. Each is lawful and not held, with
+    // nothing pending.
     ensures journals { JournalsAt S.tells (S.seen shelf.old) (task_of words.now)
         result.status result.journals.items }
     // What err took: the line of an answer that has this status, and that comes at the outcome. After a
@@ -114,11 +141,11 @@ pub fn run<S: Shelf, K: Sink, E: Sink, G: Gate + Sync, R: Threads + Wait + Sync>
     if begins_transform(words) {
         return run_transform(alloc, words, shelf, out, err);
     }
-    let Some(task) = replay_task(words) else {
+    let Some(task) = threaded_task(words) else {
         return end(err, Performed::without(alloc, Answer::Usage), "", "");
     };
-    let performed = perform_replay(rt, alloc, &task, shelf, out, gate);
-    end(err, performed, task.config, task.recording)
+    let performed = perform(rt, alloc, &task, shelf, out, gate);
+    end(err, performed, config_name(&task), input_name(&task))
 }
 
 /// Runs words that begin with `transform`, as `run` does. It starts no thread and waits for nothing.
@@ -135,12 +162,14 @@ pub fn run_transform<S: Shelf, K: Sink, E: Sink>(
     ensures status { IsStatusOf S.tells (S.seen shelf.old) (task_of words.now) result.status }
     ensures cause { HasCause result.status
         (S.seen shelf.old) (S.seen shelf.new) (K.seen out.old) (K.seen out.new) }
-    ensures completes { S.tells ≡ true → HasOutput (outcome_of (S.seen shelf.old) (task_of words.now)) →
+    ensures completes { is_told S.tells (task_of words.now) ≡ true →
+        HasOutput (outcome_of (S.seen shelf.old) (task_of words.now)) →
         Completes result.status (S.seen shelf.old) (S.seen shelf.new) (K.seen out.old) (K.seen out.new) }
-    ensures takes { S.tells ≡ true → K.tells ≡ true →
+    ensures takes { is_told S.tells (task_of words.now) ≡ true → K.tells ≡ true →
         TakesAt (outcome_of (S.seen shelf.old) (task_of words.now)) result.status
         (K.seen out.old) (K.seen out.new) }
     ensures quiet { K.tells ≡ true → IsQuiet result.status → TookNothing (K.seen out.old) (K.seen out.new) }
+    ensures unread { LeavesShelf (task_of words.now) (S.seen shelf.old) (S.seen shelf.new) }
     ensures journals { JournalsAt S.tells (S.seen shelf.old) (task_of words.now)
         result.status result.journals.items }
     ensures line { (answer : Answer) × IsAnswerOf S.tells (S.seen shelf.old) (task_of words.now) answer

@@ -4,8 +4,9 @@ ghost use Rattle.ts_transform.specs.Flow.{compose};
 ghost use Rattle.ts_config.specs.Bodies.{compose_lines};
 ghost use Rattle.ts_stock.specs.Stock.{still_writes};
 ghost use Rattle.ts_proxy.specs.Sending.{IsSoundAlone, to_come};
-ghost use Rattle.ts_proxy.specs.Performed.{IsPerformed, IsCarriedOut};
-ghost use Rattle.ts_proxy.specs.Words.{Transform, task_at};
+ghost use Rattle.ts_proxy.specs.Outcome.{Text};
+ghost use Rattle.ts_proxy.specs.Performed.{IsCarriedOut, IsOfBody, IsPerformed};
+ghost use Rattle.ts_proxy.specs.Words.{Over, Transform};
 
 use crate::answer::{Answer, Performed};
 use crate::command::TransformTask;
@@ -50,8 +51,8 @@ fn send_body<K: Sink>(
     body: Octets,
     out: &mut K,
 ) -> Performed
-    ensures { IsCarriedOut Transform lines.now body K.tells (K.seen out.old) (K.seen out.new)
-        result.answer result.journals.items }
+    ensures { IsCarriedOut IsOfBody (Text (compose_lines lines.now body)) K.tells
+        (K.seen out.old) (K.seen out.new) result.answer result.journals.items }
 {
     let Ok(world) = world_of(alloc, lines, body) else {
         return Performed::without(alloc, Answer::OutOfMemory);
@@ -80,7 +81,7 @@ pub fn perform_transform<S: Shelf, K: Sink>(
     shelf: &mut S,
     out: &mut K,
 ) -> Performed
-    ensures { IsPerformed (task_at Transform task.now.config.now task.now.body.now)
+    ensures { IsPerformed (Over Transform task.now.config.now task.now.body.now)
         S.tells K.tells (S.seen shelf.old) (S.seen shelf.new) (K.seen out.old) (K.seen out.new)
         result.answer result.journals.items }
 {

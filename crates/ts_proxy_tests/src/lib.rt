@@ -2,13 +2,21 @@
 //! threads, and what is written and said of them.
 #![tactic(auto)]
 
-pub mod command;
-pub mod comparison;
-pub mod parts;
-pub mod recording;
-pub mod report;
-pub mod row;
-pub mod seats;
-pub mod stated;
+#[cfg(test)]
+mod command;
+#[cfg(test)]
+mod comparison;
+#[cfg(test)]
+mod parts;
+#[cfg(test)]
+mod recording;
+#[cfg(test)]
+mod report;
+#[cfg(test)]
+mod row;
+#[cfg(test)]
+mod seats;
+#[cfg(test)]
+mod stated;
 #[cfg(test)]
 mod tests;

@@ -11,6 +11,7 @@ use std::thread::Threads;
 mod answers;
 mod bodies;
 mod framings;
+mod generating;
 mod orders;
 mod refusals;
 mod sizes;

@@ -1,10 +1,10 @@
 -- What is known of each transaction of a row once the threads and the last turns are done.
-use Rattle.std.proofs.Common.{◌≡◌, ℕ, zero, suc, ◌+◌, ◌*◌, ◌<◌, ◌≤◌, List, [], ◌∷◌, length, true, false}
+use Rattle.std.proofs.Common.{◌≡◌, ℕ, suc, ◌+◌, ◌*◌, ◌<◌, ◌≤◌, List, [], ◌∷◌, length, true, false}
 use Rattle.std.proofs.Common.{Option, Some, None, All, refl, ap, subst, ◌∙◌, inl, inr, arith}
 use mathlib.Core.Option.{some}
 use lib.ListN.{get_elem?}
 use Rattle.std.specs.Prelude.{max}
-use Rattle.std.specs.List.{AllZip, concat}
+use Rattle.std.specs.List.{concat}
 use Rattle.std.proofs.lemmas.Bool.{OnTrue_at}
 use Rattle.ts_lists.proofs.Pairs.{zip_at_place}
 use Rattle.ts_lists.proofs.Places.{place_below}

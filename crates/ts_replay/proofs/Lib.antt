@@ -1,11 +1,11 @@
 pub mod Blank
 pub mod Blocks
+pub mod Coming
 pub mod Ended
 pub mod HexLengths
 pub mod Numbered
 pub mod OneReport
 pub mod Plans
-pub mod Reporting
 pub mod Rows
 pub mod SameLines
 pub mod Telling

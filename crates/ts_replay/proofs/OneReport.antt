@@ -1,13 +1,13 @@
--- Lines and the bytes of a recording have at most one report.
-use Rattle.std.proofs.Common.{◌≡◌, ℕ, List, [], ◌∷◌, ◌++◌, true, false, sym, ap, subst, refl, ◌∙◌}
-use Rattle.std.specs.List.{AllZip, concat}
+-- Transactions under lines have at most one list of blocks, and so a recording has at most one report.
+use Rattle.std.proofs.Common.{◌≡◌, List, [], ◌∷◌, true, false, sym, ap, subst, refl, ◌∙◌}
+use Rattle.std.specs.List.{concat}
 use Rattle.ts_config.specs.declared.setup.Setup.{Setup}
 use Rattle.ts_record.specs.Grammar.{TxnPieces}
-use Rattle.ts_record.specs.Report.{blocks_text, report_begin, report_end}
+use Rattle.ts_record.specs.Report.{report_text}
 use Rattle.ts_record.specs.declared.report.ReportBlock.{ReportBlock}
 use Rattle.ts_record.proofs.Same.{one_recording}
 use Rattle.ts_block.proofs.OneBlock.{one_block}
-use Rattle.ts_replay.specs.Reports.{HasOneReport, IsReport, IsTxnShown, in_report}
+use Rattle.ts_replay.specs.Reports.{AreBlocksOn, AreShown, HasOneReport, HaveOneList, IsTxnShown, in_report}
 use Rattle.ts_replay.proofs.SameLines.{block_same}
 
 module _ (s t : Setup) (lines : s.transforms.items ≡ t.transforms.items)
@@ -22,25 +22,26 @@ module _ (s t : Setup) (lines : s.transforms.items ≡ t.transforms.items)
       ∙ sym k.shows
 
   -- and transactions by one list of blocks
-  blocks_one : (txns : List TxnPieces) (xs ys : List ReportBlock) → AllZip (IsTxnShown s) txns xs
-      → AllZip (IsTxnShown t) txns ys → xs ≡ ys
-  blocks_one [] [] [] h k = refl
-  blocks_one [] (a ∷ xs) ys h k = absurd h
-  blocks_one [] [] (b ∷ ys) h k = absurd k
-  blocks_one (txn ∷ txns) [] ys h k = absurd h
-  blocks_one (txn ∷ txns) (a ∷ xs) [] h k = absurd k
-  blocks_one (txn ∷ txns) (a ∷ xs) (b ∷ ys) h k = ap (λ l. a ∷ l) (blocks_one txns xs ys h.1 k.1) ∙ ap
+  list_one : (txns : List TxnPieces) (xs ys : List ReportBlock) → AreShown s txns xs → AreShown t txns ys
+      → xs ≡ ys
+  list_one [] [] [] h k = refl
+  list_one [] (a ∷ xs) ys h k = absurd h
+  list_one [] [] (b ∷ ys) h k = absurd k
+  list_one (txn ∷ txns) [] ys h k = absurd h
+  list_one (txn ∷ txns) (a ∷ xs) [] h k = absurd k
+  list_one (txn ∷ txns) (a ∷ xs) (b ∷ ys) h k = ap (λ l. a ∷ l) (list_one txns xs ys h.1 k.1) ∙ ap
       (λ x. x ∷ ys) (shown_one txn a b h.0 k.0)
 
-  -- so their report is one
-  report_one : (txns : List TxnPieces) (a b : List ℕ) → IsReport s txns a → IsReport t txns b → a ≡ b
-  report_one txns a b h k =
-      h.text_is ∙ ap (λ bs. report_begin ++ blocks_text 1 bs ++ report_end)
-      (blocks_one txns h.blocks k.blocks h.each k.each) ∙ sym k.text_is
+pub one_list : HaveOneList
+one_list lines txns a b h k =
+    list_one h.setup k.setup (h.lines_are.transforms ∙ sym k.lines_are.transforms)
+    (h.lines_are.no_plugins ∙ sym k.lines_are.no_plugins) txns a b h.each k.each
 
+-- so their report is one
 pub one_report : HasOneReport
 one_report lines bytes a b h k =
-    report_one h.setup k.setup (h.lines_are.transforms ∙ sym k.lines_are.transforms)
-    (h.lines_are.no_plugins ∙ sym k.lines_are.no_plugins) k.txns a b
-    (subst (λ txns. IsReport h.setup txns a) (one_recording bytes k.txns h.txns k.recording h.recording)
-    h.report) k.report
+    h.text_is
+    ∙ ap report_text (one_list lines k.txns h.blocks k.blocks
+    (subst (λ txns. AreBlocksOn lines txns h.blocks) (one_recording bytes k.txns h.txns k.recording h.recording)
+    h.are) k.are)
+    ∙ sym k.text_is

@@ -1,4 +1,4 @@
--- The report on a recording: what each of its transactions comes to, in their order.
+-- The blocks that the transactions of a recording come to, and the report that is made of them.
 use Rattle.std.specs.Prelude.{◌≡◌, ℕ, List, [], true, false}
 use Rattle.std.specs.List.{AllZip, concat}
 use Rattle.ts_config.specs.declared.setup.Setup.{Setup}
@@ -13,8 +13,8 @@ use Rattle.ts_block.specs.declared.block.Block.{Block}
 abbrev pub in_report : Block → ReportBlock
 in_report b = record { request = b.request; end = b.end; head = b.head; content = b.body }
 
--- What a report says of a transaction between two sides: the block of all that they give, each followed by
--- its end.
+-- What is shown of a transaction between two sides: the block of all that they give, each followed by its
+-- end.
 pub record IsShownOf (setup : Setup) (client origin : List ℕ) (b : ReportBlock) : Type 0 where
   pub block : Block
   pub is_block : IsBlock setup true (false ≡ true) origin client block
@@ -24,24 +24,35 @@ pub record IsShownOf (setup : Setup) (client origin : List ℕ) (b : ReportBlock
 abbrev pub IsTxnShown : Setup → TxnPieces → ReportBlock → Type 0
 IsTxnShown setup txn b = IsShownOf setup (concat txn.0) (concat txn.1) b
 
--- THE REPORT on transactions under a setup
-pub record IsReport (setup : Setup) (txns : List TxnPieces) (text : List ℕ) : Type 0 where
-  pub blocks : List ReportBlock
-  pub each : AllZip (IsTxnShown setup) txns blocks
-  pub text_is : text ≡ report_text blocks
+-- what is shown of transactions under a setup, in their order
+abbrev pub AreShown : Setup → List TxnPieces → List ReportBlock → Type 0
+AreShown setup txns blocks = AllZip (IsTxnShown setup) txns blocks
 
 -- a setup of these lines, with no hook plugin
 pub record IsSetupOf (lines : List TransformLine) (setup : Setup) : Type 0 where
   pub transforms : setup.transforms.items ≡ lines
   pub no_plugins : setup.plugins.items ≡ []
 
--- the text is the report on the recording in these bytes under these lines
-pub record IsReportOn (lines : List TransformLine) (bytes text : List ℕ) : Type 0 where
+-- THE BLOCKS of transactions under these lines
+pub record AreBlocksOn (lines : List TransformLine) (txns : List TxnPieces) (blocks : List ReportBlock)
+    : Type 0 where
   pub setup : Setup
   pub lines_are : IsSetupOf lines setup
+  pub each : AreShown setup txns blocks
+
+-- the text is the report on the recording in these bytes under these lines
+pub record IsReportOn (lines : List TransformLine) (bytes text : List ℕ) : Type 0 where
   pub txns : List TxnPieces
   pub recording : IsRecording bytes txns
-  pub report : IsReport setup txns text
+  pub blocks : List ReportBlock
+  pub are : AreBlocksOn lines txns blocks
+  pub text_is : text ≡ report_text blocks
+
+-- transactions under lines have at most one list of blocks
+abbrev pub HaveOneList : Type 0
+HaveOneList =
+    (lines : List TransformLine) (txns : List TxnPieces) (a b : List ReportBlock) → AreBlocksOn lines txns a
+    → AreBlocksOn lines txns b → a ≡ b
 
 -- lines and the bytes of a recording have at most one report
 abbrev pub HasOneReport : Type 0

@@ -1,14 +1,14 @@
-//! Recorded transactions are run in mutex groups by event threads, and the report on them is made.
+//! Recorded transactions are run in mutex groups by event threads, and what they came to is taken out.
 
 ghost use Rattle.std.specs.Prelude.{◌<◌, ◌≤◌, IfOk, length};
 ghost use Rattle.std.specs.Arc.{arc_value};
 ghost use Rattle.ts_config.specs.Bytes.{most_transforms};
 ghost use Rattle.ts_replay.specs.Replayed.{IsReplayed};
-ghost use Rattle.ts_replay.specs.Reports.{HasOneReport, IsSetupOf};
+ghost use Rattle.ts_replay.specs.Reports.{HasOneReport, HaveOneList, IsSetupOf};
 
 use crate::fault::ReplayFault;
 use crate::groups::make_row;
-use crate::report::{Replayed, report_on};
+use crate::outcomes::{Replayed, outcomes_of};
 use crate::running::run_row;
 use std::alloc::Global;
 use std::sync::{Arc, Wait};
@@ -48,11 +48,13 @@ pub fn replay<G: Gate + Sync, R: Threads + Wait + Sync>(
     let setup = setup_of(alloc, lines)?;
     let row = make_row(alloc, &setup, txns)?;
     let groups = run_row(rt, alloc, row, threads, gate)?;
-    let replayed = report_on(alloc, groups)?;
+    let replayed = outcomes_of(alloc, groups)?;
     Ok(replayed)
 }
 
-/// The law that lines and the bytes of a recording have at most one report. The function does nothing.
+/// The law that transactions under lines have at most one list of blocks, so that whatever text is made of
+/// it is one, and lines and the bytes of a recording have at most one report. The function does nothing.
 pub fn one_report()
-    ensures { HasOneReport }
+    ensures blocks { HaveOneList }
+    ensures report { HasOneReport }
 {}

@@ -3,6 +3,7 @@ ghost use Rattle.std.specs.Prelude.{◌≡◌, true};
 ghost use Rattle.ts_proxy.specs.Ends.{HasCause, TakesAt};
 ghost use Rattle.ts_proxy.specs.Lines.{IsAnswerOf, SaysLine};
 ghost use Rattle.ts_proxy.specs.Outcome.{outcome_of};
+ghost use Rattle.ts_proxy.specs.Words.{is_told};
 ghost use Rattle.ts_proxy.specs.declared.answer.Answer.{Answer};
 ghost use Rattle.tsx.specs.CommandLine.{EndsAs, task_asked};
 
@@ -38,7 +39,7 @@ pub fn run_words<S: Shelf, K: Sink, E: Sink, G: Gate + Sync, R: Threads + Wait +
     ensures status { EndsAs S.tells (S.seen shelf.old) words result }
     ensures cause { HasCause result
         (S.seen shelf.old) (S.seen shelf.new) (K.seen out.old) (K.seen out.new) }
-    ensures takes { S.tells ≡ true → K.tells ≡ true →
+    ensures takes { is_told S.tells (task_asked words) ≡ true → K.tells ≡ true →
         TakesAt (outcome_of (S.seen shelf.old) (task_asked words)) result (K.seen out.old) (K.seen out.new) }
     ensures line { (answer : Answer) × IsAnswerOf S.tells (S.seen shelf.old) (task_asked words) answer
         × SaysLine E.tells (E.seen err.old) (E.seen err.new) (task_asked words) result answer }

@@ -73,7 +73,7 @@ fn numbers_that_are_none(rt: HostRuntime) -> Result<(), Fail> {
 
 #[test]
 fn words_of_no_command(rt: HostRuntime) -> Result<(), Fail> {
-    let rows: [&[&str]; 10] = [
+    let rows: [&[&str]; 9] = [
         &[],
         &["replay"],
         &["replay", "c"],
@@ -83,7 +83,6 @@ fn words_of_no_command(rt: HostRuntime) -> Result<(), Fail> {
         &["replay", "c", "r", "--threads", "2"],
         &["replay", "--thread", "2", "c", "r"],
         &["Replay", "c", "r"],
-        &["generate", "0", "1", "0"],
     ];
     for words in rows {
         come_to(&rt, words, &stopped(2, USAGE))?;

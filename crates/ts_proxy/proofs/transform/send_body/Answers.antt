@@ -1,35 +1,41 @@
-use Rattle.std.proofs.Common.{◌++◌, ◌∷◌, [], ap, subst, ◌∙◌}
+use Rattle.std.proofs.Common.{◌++◌, ◌∷◌, [], ap, refl, subst, ◌∙◌}
+use Rattle.ts_config.specs.Bodies.{compose_lines}
+use Rattle.ts_proxy.specs.Outcome.{Text}
+use Rattle.ts_proxy.specs.Performed.{IsOfBody}
 use Rattle.ts_proxy.specs.Took.{TookAll, TookFront}
-use Rattle.ts_proxy.proofs.Performing.{front-none, worked-driven, worked-stopped, worked-undriven}
+use Rattle.ts_proxy.proofs.Performing.{work-lacking, work-stopped, work-unwritten, work-written}
 use Rattle.ts_proxy.proofs.transform.send_body.Goals as goal
 
 pub returns-in_default : goal.returns-in_default
 returns-in_default g c =
     rw c.without.ensures.answer
-    (worked-stopped c.args.lines.now c.args.body g.K.Sink.tells _ _ _ (λ tells. front-none _ _)
+    (work-lacking IsOfBody (Text (compose_lines c.args.lines.now c.args.body)) g.K.Sink.tells _ _
     c.without.ensures.none)
 
 pub returns-in-Done : goal.returns-in-Done
 returns-in-Done g c =
-    worked-driven c.args.lines.now c.args.body g.K.Sink.tells _ _ _
-    (λ tells. subst (TookAll (g.K.Sink.seen c.args.out.now) (g.K.Sink.seen c.drive.new.out))
-    c.in-Ok.ensures.flow (c.in-Done.ensures.told tells)) (
+    let text = compose_lines c.args.lines.now c.args.body in
+    work-written IsOfBody (Text text) text g.K.Sink.tells _ _ _ tt refl (
       c.in-Done.ensures.journals.0,
       c.in-Done.ensures.journals.1 ∙ ap
           (λ l. l ++ c.in-Done.ensures.journals.0 ∷ []) c.new-journals.ensures.items,
       c.in-Done.ensures.journals.2,
-    )
+    ) tt
+    (λ tells. subst (TookAll (g.K.Sink.seen c.args.out.now) (g.K.Sink.seen c.drive.new.out))
+    c.in-Ok.ensures.flow (c.in-Done.ensures.told tells))
 
 pub returns-in-Failed : goal.returns-in-Failed
 returns-in-Failed g c =
-    worked-undriven c.args.lines.now c.args.body g.K.Sink.tells _ _ _
+    let text = compose_lines c.args.lines.now c.args.body in
+    work-unwritten IsOfBody (Text text) text g.K.Sink.tells _ _ _ tt refl
     (λ tells. subst (TookFront (g.K.Sink.seen c.args.out.now) (g.K.Sink.seen c.drive.new.out))
     c.in-Ok.ensures.flow (c.in-Failed.ensures.told tells))
     c.in-Failed.ensures.faults (c.in-Failed.ensures.journals ∙ c.new-journals.ensures.items)
 
 pub returns-in-NoMemory : goal.returns-in-NoMemory
 returns-in-NoMemory g c =
-    worked-stopped c.args.lines.now c.args.body g.K.Sink.tells _ _ _
+    let text = compose_lines c.args.lines.now c.args.body in
+    work-stopped IsOfBody (Text text) text g.K.Sink.tells _ _ _ refl
     (λ tells. subst (TookFront (g.K.Sink.seen c.args.out.now) (g.K.Sink.seen c.drive.new.out))
     c.in-Ok.ensures.flow (c.in-NoMemory.ensures.told tells))
     (c.in-NoMemory.ensures.journals ∙ c.new-journals.ensures.items)

@@ -1,6 +1,6 @@
--- Two reports on one recording under the same lines are the same text.
-use Rattle.ts_replay.proofs.OneReport.{one_report}
+-- Two lists of blocks of the same transactions are the same, and so are two reports on one recording.
+use Rattle.ts_replay.proofs.OneReport.{one_list, one_report}
 use Rattle.ts_replay.proofs.replaying.one_report.Goals as goal
 
 pub returns : goal.returns
-returns c = one_report
+returns c = record { blocks = one_list; report = one_report }

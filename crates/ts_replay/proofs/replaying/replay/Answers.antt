@@ -2,12 +2,11 @@
 use Rattle.std.specs.Arc.{arc_value}
 use Rattle.ts_replay.proofs.replaying.replay.Goals as goal
 
-pub report_on-requires : goal.report_on-requires
-report_on-requires g c = record {
+pub outcomes_of-requires : goal.outcomes_of-requires
+outcomes_of-requires g c = record {
   ran = (
     arc_value c.in_ok-setup.setup,
     c.args.txns.items,
-    c.requires.txns,
     c.in_ok-groups.ensures
         (arc_value c.in_ok-setup.setup) c.args.txns.items c.in_ok-row.ensures,
   );
