@@ -7,12 +7,15 @@ ghost use Rattle.ts_journal.specs.Log.{Extends, Folds, IsSameLog, HasRoom, HasRo
 ghost use Rattle.ts_journal.specs.Tally.{counts_of};
 
 use crate::entry::{ContKey, Counts, Entry, MOST_KEYS, Mark, NoMemory, Pending};
-use crate::room::reserve_moved;
+use crate::room::reserve_least;
 use crate::tables::{
     Tables, apply_over, event_at, fold_into, generation_of, reserve_over, trim_over,
 };
 use std::alloc::Global;
 use std::marker::Model;
+
+// How many entries a journal has room for once it has any, so that a short transaction's grows once at most.
+const LEAST_ENTRIES: usize = 32;
 
 // The turn that was taken last, by these entries or before them.
 #[tactic(auto, using(crate::proofs::Scans::last_mark_steps))]
@@ -102,7 +105,7 @@ impl Journal {
         ensures ok { OnOk result (HasRoomFor self.new entries) }
         ensures kept { KeepsRoom self.old self.new }
     {
-        reserve_moved(&mut self.entries, entries)?;
+        reserve_least(&mut self.entries, entries, LEAST_ENTRIES)?;
         reserve_over(&mut self.base, &mut self.tables, entries)
     }
 

@@ -24,3 +24,15 @@ pub fn reserve_moved<T: Copy>(list: &mut Vec<T>, more: usize) -> Result<(), NoMe
     *list = moved;
     Ok(())
 }
+
+/// The same, but that a list which has no memory yet gets room for so many items at least.
+pub fn reserve_least<T: Copy>(list: &mut Vec<T>, more: usize, least: usize) -> Result<(), NoMemory>
+    ensures items { list.new.items ≡ list.old.items }
+    ensures ok { OnOk result (vec_len list.new + more ≤ vec_capacity list.new) }
+    ensures kept { vec_capacity list.old ≤ vec_capacity list.new }
+{
+    if list.capacity() == 0 {
+        return reserve_moved(list, more.max(least));
+    }
+    reserve_moved(list, more)
+}
